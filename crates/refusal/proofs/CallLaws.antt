@@ -21,15 +21,13 @@ pub or-under : {A B : Type 0} (f : A → B) (refuse : ℕ → A) (rs : List Refu
 unfolding orRefuse
 or-under f refuse [] done = refl
 or-under f refuse (r ∷ rs) done =
-    cond-under f (r .applies) (refuse (r .number)) (orRefuse refuse rs done)
-    ∙ ap (λ (y : _). cond (r .applies) (f (refuse (r .number))) y) (or-under f refuse rs done)
+    cond-under f (r .applies) _ (orRefuse refuse rs done) ∙ ap (cond (r .applies) _) (or-under f refuse rs done)
 
 -- ---- a property of all of it
 
-known-by : {A : Type 0} (P : A → Type 0) (refuse : ℕ → A) (rs : List Refusal) (done : A) (r : Refusal) (b : Bool) → r .applies ≡ b → P (refuse (r .number))
-    → (b ≡ false → P (orRefuse refuse rs done)) → P (cond b (refuse (r .number)) (orRefuse refuse rs done))
-known-by P refuse rs done r true is p later = p
-known-by P refuse rs done r false is p later = later refl
+known-by : {A : Type 0} (P : A → Type 0) (x y : A) (b : Bool) → P x → (b ≡ false → P y) → P (cond b x y)
+known-by P x y true p later = p
+known-by P x y false p later = later refl
 
 -- what holds of every refusal and, where each test fails, of what follows the table
 pub or-known : {A : Type 0} (P : A → Type 0) (refuse : ℕ → A) (rs : List Refusal) (done : A)
@@ -37,7 +35,7 @@ pub or-known : {A : Type 0} (P : A → Type 0) (refuse : ℕ → A) (rs : List R
 unfolding orRefuse
 or-known P refuse [] done p q = q tt
 or-known P refuse (r ∷ rs) done p q =
-    known-by P refuse rs done r (r .applies) refl (p (r .number)) (λ e. or-known P refuse rs done p (λ f. q (e, f)))
+    known-by P _ (orRefuse refuse rs done) (r .applies) (p _) (λ e. or-known P refuse rs done p (λ f. q (e, f)))
 
 -- ---- a call: what it hands back has a number, 0 where it is done
 

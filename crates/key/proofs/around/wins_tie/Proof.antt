@@ -1,5 +1,5 @@
 -- `key::wins_tie` meets its contract: the smaller key is taken. Assumes nothing.
-use mathlib.Core.Path.{sym}
+use mathlib.Core.Path.{sym, _∙_}
 use borrow.Author.Needs.{needs}
 use Rattle.key.specs.Number.{number}
 use Rattle.key.specs.Around.{tie}
@@ -21,15 +21,21 @@ enum-told-3 c = search needs
 
 returns : tie.Need-returns
 unfolding tie
-returns c = let args = c .before .before .before .args in sym (test-less (number (args .k)) (number (args .j)) (cc) .0)
+returns c =
+    let args = c .before .before .before .args in
+    sym (test-less (number (args .k)) (number (args .j)) (sym (c .before .before .compare .ensures) ∙ c .enum-told .given .1) .0)
 
 returns-2 : tie.Need-returns-2
 unfolding tie
-returns-2 c = let args = c .before .before .before .args in sym (test-same (number (args .k)) (number (args .j)) (cc) .0)
+returns-2 c =
+    let args = c .before .before .before .args in
+    sym (test-same (number (args .k)) (number (args .j)) (sym (c .before .before .compare .ensures) ∙ c .enum-told2 .given .1) .0)
 
 returns-3 : tie.Need-returns-3
 unfolding tie
-returns-3 c = let args = c .before .before .before .args in sym (test-more (number (args .k)) (number (args .j)) (cc) .0)
+returns-3 c =
+    let args = c .before .before .before .args in
+    sym (test-more (number (args .k)) (number (args .j)) (sym (c .before .before .compare .ensures) ∙ c .enum-told3 .given .1) .0)
 
 pub wins-tie-spec : {M : Type 1} → statement M
 wins-tie-spec =

@@ -1,5 +1,5 @@
 -- `key::is_same` meets its contract: of the three answers one says that they are. Assumes nothing.
-use mathlib.Core.Path.{sym}
+use mathlib.Core.Path.{sym, _∙_}
 use borrow.Author.Needs.{needs}
 use Rattle.key.specs.Number.{number}
 use Rattle.key.proofs.OrderLaws.{test-less, test-same, test-more}
@@ -19,13 +19,19 @@ enum-told-3 : tie.Need-enum-told-3
 enum-told-3 c = search needs
 
 returns : tie.Need-returns
-returns c = let args = c .before .before .before .args in sym (test-less (number (args .x)) (number (args .y)) (cc) .1)
+returns c =
+    let args = c .before .before .before .args in
+    sym (test-less (number (args .x)) (number (args .y)) (sym (c .before .before .compare .ensures) ∙ c .enum-told .given .1) .1)
 
 returns-2 : tie.Need-returns-2
-returns-2 c = let args = c .before .before .before .args in sym (test-same (number (args .x)) (number (args .y)) (cc) .1)
+returns-2 c =
+    let args = c .before .before .before .args in
+    sym (test-same (number (args .x)) (number (args .y)) (sym (c .before .before .compare .ensures) ∙ c .enum-told2 .given .1) .1)
 
 returns-3 : tie.Need-returns-3
-returns-3 c = let args = c .before .before .before .args in sym (test-more (number (args .x)) (number (args .y)) (cc) .1)
+returns-3 c =
+    let args = c .before .before .before .args in
+    sym (test-more (number (args .x)) (number (args .y)) (sym (c .before .before .compare .ensures) ∙ c .enum-told3 .given .1) .1)
 
 pub is-same-spec : {M : Type 1} → statement M
 is-same-spec =

@@ -1,0 +1,29 @@
+# Two commands: `make run` shows what the gauge's functions make of fixed vectors, `make test` is all that the gate runs.
+.PHONY: run test check fmt definitions vectors tools clean
+
+run: tools
+	@tests/run-vectors
+
+test:
+	@tests/gate
+
+# While working: prove what changed, and run the programs. Not the gate.
+check:
+	@rt check
+
+fmt:
+	@rt fmt
+
+# How many lines of definitions there are to believe.
+definitions:
+	@tools/definitions
+
+# The vectors and their answers anew, from tests/vectors.py.
+vectors:
+	@tests/vectors.py --write
+
+tools:
+	@tools/install
+
+clean:
+	@rm -rf target

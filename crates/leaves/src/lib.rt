@@ -1,0 +1,56 @@
+// Leaf functions as C can call them, so that tests run them and look at the code that the compiler makes of them. No part of the gauge.
+ghost use mathlib.Core.Path.{_≡_};
+ghost use Rattle.octet.specs.Part.{same, allZero};
+ghost use Rattle.leaves.specs.Leaves.{wordOr0, closerOr2};
+
+// The number of the eight bytes at a place, most significant first; 0 where they do not lie within.
+#[no_mangle]
+pub extern "C" fn leaves_u64(s: &[u8], at: usize) -> u64
+    ensures { λ r. ⌜ r ≡ wordOr0 at (now (s .entry)) ⌝ }
+{
+    if s.len() < 8 {
+        return 0;
+    }
+    if s.len() - 8 < at {
+        return 0;
+    }
+    octet::read_u64(s, at)
+}
+
+// Have the two slices the same bytes?
+#[no_mangle]
+pub extern "C" fn leaves_equal(a: &[u8], b: &[u8]) -> bool
+    ensures { λ r. ⌜ r ≡ same (now (a .entry)) (now (b .entry)) ⌝ }
+{
+    octet::equal(a, b)
+}
+
+// Is each byte zero?
+#[no_mangle]
+pub extern "C" fn leaves_zero(s: &[u8]) -> bool
+    ensures { λ r. ⌜ r ≡ allZero (now (s .entry)) ⌝ }
+{
+    octet::is_zero(s)
+}
+
+// Is the key k taken before the key j as the closest to the target? 1 or 0; 2 where one of them has not 32 bytes.
+#[no_mangle]
+pub extern "C" fn leaves_closer(target: &[u8], k: &[u8], j: &[u8]) -> u8
+    ensures { λ r. ⌜ r ≡ closerOr2 (now (target .entry)) (now (k .entry)) (now (j .entry)) ⌝ }
+{
+    if target.len() != 32 {
+        return 2;
+    }
+    if k.len() != 32 {
+        return 2;
+    }
+    if j.len() != 32 {
+        return 2;
+    }
+    let t = key::key_at(target, 0);
+    let x = key::key_at(k, 0);
+    let y = key::key_at(j, 0);
+    let d = key::how_far(t, x);
+    let e = key::how_far(t, y);
+    if key::is_closer(t, x, d, y, e) { 1 } else { 0 }
+}

@@ -1,0 +1,97 @@
+// A line of vectors: a name, and operands in hexadecimal. All of it is total: what is not there is empty, or 0.
+
+// The part of a slice, empty where it does not lie within.
+pub fn part(s: &[u8], start: usize, end: usize) -> &[u8] {
+    if s.len() < end {
+        return &s[0..0];
+    }
+    if end < start {
+        return &s[0..0];
+    }
+    &s[start..end]
+}
+
+// Where the next byte b stands from a place on, or the end.
+pub fn end_of(s: &[u8], at: usize, b: u8) -> usize {
+    let mut i = at;
+    while i < s.len() {
+        if s[i] == b {
+            return i;
+        }
+        i += 1;
+    }
+    s.len()
+}
+
+// A line that is neither empty nor a heading.
+pub fn is_vector(text: &[u8]) -> bool {
+    if text.len() == 0 {
+        return false;
+    }
+    text[0] != b'#'
+}
+
+// The words of a line are apart by a space; word 0 is the name.
+fn word(text: &[u8], i: usize) -> &[u8] {
+    let mut left = i;
+    let mut at = 0;
+    while 0 < left {
+        let space = end_of(text, at, b' ');
+        if text.len() <= space {
+            return &text[0..0];
+        }
+        at = space + 1;
+        left -= 1;
+    }
+    part(text, at, end_of(text, at, b' '))
+}
+
+pub fn is_named(text: &[u8], name: &[u8]) -> bool {
+    octet::equal(word(text, 0), name)
+}
+
+// The value of a hexadecimal digit; 16 for any other byte.
+fn digit(b: u8) -> u8 {
+    match b {
+        b'0'..=b'9' => b - b'0',
+        b'A'..=b'F' => b - b'A' + 10,
+        _ => 16,
+    }
+}
+
+fn wide(x: u8) -> u64 {
+    x as u64
+}
+
+// An operand as a number, in its last 16 digits.
+pub fn number(text: &[u8], i: usize) -> u64 {
+    let digits = word(text, i);
+    let mut n = 0u64;
+    let mut k = 0;
+    while k < digits.len() {
+        n = n % 1152921504606846976 * 16 + wide(digit(digits[k])) % 16;
+        k += 1;
+    }
+    n
+}
+
+// An operand as bytes, put in `room` from a place on. Answers where they end.
+pub fn bytes(text: &[u8], i: usize, room: &mut [u8], to: usize) -> usize {
+    let digits = word(text, i);
+    let mut at = to;
+    let mut k = 1;
+    while k < digits.len() {
+        if room.len() <= at {
+            return at;
+        }
+        room[at] = digit(digits[k - 1]) % 16 * 16 + digit(digits[k]) % 16;
+        at += 1;
+        k += 2;
+    }
+    at
+}
+
+// An operand as a place or a count.
+pub fn place(text: &[u8], i: usize) -> usize {
+    number(text, i) as usize
+}

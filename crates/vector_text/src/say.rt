@@ -1,0 +1,56 @@
+// What is written to standard output.
+use key::Key;
+use key::Order;
+
+pub fn text(s: &[u8]) {
+    io::write_all(1, s);
+}
+
+pub fn number(n: u64) {
+    io::print_decimal(1, n);
+}
+
+// Bytes in hexadecimal; `-` where there is none.
+pub fn bytes(s: &[u8]) {
+    if s.len() == 0 {
+        text(b"-");
+    }
+    let mut i = 0;
+    while i < s.len() {
+        io::print_hex(1, wide(s[i]), 2);
+        i += 1;
+    }
+}
+
+pub fn yes(b: bool) {
+    if b {
+        text(b"yes");
+    } else {
+        text(b"no");
+    }
+}
+
+// A key, or a difference of two, in all its 64 digits.
+pub fn key(k: Key) {
+    io::print_hex(1, k.a, 16);
+    io::print_hex(1, k.b, 16);
+    io::print_hex(1, k.c, 16);
+    io::print_hex(1, k.d, 16);
+}
+
+pub fn order(o: Order) {
+    match o {
+        Order::Less => text(b"less"),
+        Order::Same => text(b"same"),
+        Order::More => text(b"more"),
+    }
+}
+
+// The place that a vector names does not lie within its bytes.
+pub fn outside() {
+    text(b"outside");
+}
+
+fn wide(x: u8) -> u64 {
+    x as u64
+}

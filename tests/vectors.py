@@ -1,0 +1,172 @@
+#!/usr/bin/env python3
+"""The vectors that the program `vectors` runs, and what it must write of them.
+
+    vectors.py --write    writes crates/vectors/stdin and crates/vectors/stdout
+    vectors.py --check    compares the two files with what is said here; a test of the gate
+
+The answers are made here, by whole numbers and slices of Python and from the documents. Nothing is taken from a run of the gauge.
+"""
+import os
+import sys
+
+HERE = os.path.join(os.path.dirname(os.path.abspath(__file__)), "..", "crates", "vectors")
+TOP = 2 ** 256 - 1
+HEADER = bytes.fromhex("001000 0C51")  # document 01: the first five bytes of every message
+
+
+def hexed(operand):
+    """An operand as it stands in a line: a number with an even count of digits, or bytes; `-` for none."""
+    if isinstance(operand, int):
+        return "%0*X" % (2 * max(1, (operand.bit_length() + 7) // 8), operand)
+    return operand.hex().upper() or "-"
+
+
+def key(n):
+    return n.to_bytes(32, "big")
+
+
+def read(name, at, s):
+    size, order = {"u16": (2, "big"), "u32": (4, "big"), "u64": (8, "big"), "u16-le": (2, "little"), "u32-le": (4, "little"), "u64-le": (8, "little")}[name]
+    return str(int.from_bytes(s[at:at + size], order)) if at + size <= len(s) else "outside"
+
+
+def yes(b):
+    return "yes" if b else "no"
+
+
+def order(x, y):
+    word = "less" if x < y else "more" if y < x else "same"
+    return word + " " + word  # in hand, and where they lie
+
+
+def written(s):
+    return s.hex() or "-"
+
+
+def spliced(at, new, s):
+    return s[:at] + new + s[at + len(new):]
+
+
+def vectors():
+    """Headings as strings, vectors as (operands, answer)."""
+    def reads(name, at, s):
+        return (name, at, s), read(name, at, s)
+
+    def puts(name, at, n, s):
+        size = 2 if "16" in name else 4
+        return (name, at, n, s), written(spliced(at, n.to_bytes(size, "little" if "le" in name else "big"), s))
+
+    yield "# numbers at a place, most significant byte first: the ends of each width"
+    for size, name in ((2, "u16"), (4, "u32"), (8, "u64")):
+        for value in (0, 1, 255, 256, 2 ** (8 * size - 1), 2 ** (8 * size) - 1):
+            yield reads(name, 0, value.to_bytes(size, "big"))
+        yield reads(name, 3, b"\xAA" * 3 + bytes(range(1, size + 1)) + b"\xBB")
+        yield reads(name, 1, bytes(size))
+    yield "# document 003: the message ID of its AUTHORITY, and the header's fixed bytes"
+    yield reads("u32", 0, bytes.fromhex("D8859CF5"))
+    yield reads("u16", 0, HEADER)
+    yield reads("u16", 2, HEADER)
+    yield "# least significant byte first"
+    for size, name in ((2, "u16-le"), (4, "u32-le"), (8, "u64-le")):
+        for value in (0, 1, 255, 256, 2 ** (8 * size - 1), 2 ** (8 * size) - 1):
+            yield reads(name, 0, value.to_bytes(size, "little"))
+        yield reads(name, 3, b"\xAA" * 3 + bytes(range(1, size + 1)) + b"\xBB")
+        yield reads(name, 1, bytes(size))
+    yield "# numbers written at a place: the bytes beside them stay"
+    for name, top in (("put16", 65535), ("put16-le", 65535), ("put32", 4294967295), ("put32-le", 4294967295)):
+        for n in (0, 1, 258, top):
+            yield puts(name, 1, n, b"\xEE" * 6)
+    yield puts("put32", 0, 0x00100C51, b"\xEE" * 4)
+
+    yield "# are two slices equal? the header's fixed bytes, each changed, one left out, one more"
+    yield ("equal", HEADER, HEADER), "yes"
+    for i in range(5):
+        changed = bytearray(HEADER)
+        changed[i] ^= 1
+        yield ("equal", HEADER, bytes(changed)), "no"
+    yield ("equal", HEADER, HEADER[:4]), "no"
+    yield ("equal", HEADER, HEADER + b"\0"), "no"
+    yield ("equal", b"", b""), "yes"
+    yield ("equal", bytes(99) + b"\x80", bytes(99) + b"\x80"), "yes"
+    yield ("equal", bytes(99) + b"\x80", bytes(99) + b"\x81"), "no"
+    yield "# is a slice all zero?"
+    yield ("zero", b""), "yes"
+    for n in (1, 15, 16, 17, 100):
+        yield ("zero", bytes(n)), "yes"
+        yield ("zero", bytes(n - 1) + b"\1"), "no"
+        yield ("zero", b"\x80" + bytes(n - 1)), "no"
+    for at in (0, 3, 47):
+        s = bytearray(56)
+        s[at] = 255
+        for first, count in ((0, 6), (0, 7), (1, 6), (8, 6), (4, 0), (56, 0)):
+            yield ("zero-words", first, count, bytes(s)), yes(not any(s[first:first + 8 * count]))
+    yield ("zero-words", 1, 7, bytes(56)), "outside"
+
+    yield "# runs of bytes: copied, cleared, moved with and without overlap, inserted, removed"
+    s = bytes(range(1, 13))
+    for at, src in ((0, b""), (0, b"\xAA\xBB"), (10, b"\xAA\xBB"), (12, b""), (0, bytes(12))):
+        yield ("copy", at, 0, s, src), written(spliced(at, src, s))
+    for at, n in ((0, 0), (0, 12), (3, 4), (12, 0)):
+        yield ("clear", at, n, s), written(spliced(at, bytes(n), s))
+    for start, to, n in ((0, 0, 12), (4, 0, 8), (1, 0, 11), (6, 2, 3), (0, 4, 8), (0, 1, 11), (2, 6, 3), (5, 5, 0)):
+        yield ("move", start, to, s, n), written(spliced(to, s[start:start + n], s))
+    for at, end, src in ((0, 0, b"\xAA"), (0, 10, b"\xAA\xBB"), (4, 8, b"\xAA\xBB\xCC"), (10, 10, b"\xAA\xBB"), (3, 12, b"")):
+        yield ("insert", at, end, s, src), written(spliced(at, src + s[at:end], s))
+    for at, n, end in ((0, 2, 12), (4, 3, 12), (4, 3, 9), (10, 2, 12), (0, 0, 12), (0, 12, 12)):
+        yield ("remove", at, n, s, end), written(spliced(at, s[at + n:end] + bytes(n), s))
+
+    yield "# keys: order and difference, near 2^32, at each word's end and at both ends of 256 bits"
+    edges = [0, 1, 2 ** 32 - 1, 2 ** 32, 2 ** 64 - 1, 2 ** 64, 2 ** 128 - 1, 2 ** 128, 2 ** 192, 2 ** 255 - 1, 2 ** 255, TOP - 1, TOP]
+    for x, y in list(zip(edges, edges[1:])) + [(n, n) for n in edges] + [(0, TOP), (2 ** 32, TOP), (1, 2 ** 64), (2 ** 64, 2 ** 128 + 1)]:
+        for a, b in ((x, y), (y, x)) if x != y else ((x, y),):
+            yield ("order", key(a), key(b)), order(a, b)
+            yield ("differ", key(a), key(b)), key(abs(a - b)).hex()
+            yield ("same", key(a), key(b)), yes(a == b)
+    yield "# document 01, case 8: keys 4294967295 and 4294967296 differ by 1"
+    yield ("differ", key(4294967295), key(4294967296)), key(1).hex()
+    yield "# the old gauge's slip: four bytes kept of a difference would give 0, and 4294967295"
+    yield ("differ", key(0), key(2 ** 32)), key(2 ** 32).hex()
+    yield ("differ", key(7), key(6)), key(1).hex()
+    yield ("differ", key(6), key(7)), key(1).hex()
+    yield "# above is the larger number; our own key is not above itself"
+    for own, k in ((100, 99), (100, 100), (100, 101), (0, TOP), (TOP, 0), (2 ** 64, 1), (1, 2 ** 64)):
+        yield ("above", key(own), key(k)), yes(k > own)
+    yield "# document 01, cases 6, 7, 9: the least difference, at equal difference the smaller key"
+    for target, k, j, answer in ((100, 99, 101, "yes"), (100, 101, 99, "no"), (100, 99, 50, "yes"), (0, 1, 9, "yes"), (0, 4294967296, 9, "no"),
+                                 (0, 1, 4294967296, "yes"), (TOP, 5, 0, "yes"), (TOP, 0, 5, "no"), (50, 50, 50, "no")):
+        yield ("closer", key(target), key(k), key(j)), answer
+
+
+def text():
+    lines, answers = [], []
+    for v in vectors():
+        if isinstance(v, str):
+            lines.append(v)
+            answers.append(v)
+        else:
+            operands, answer = v
+            line = " ".join([operands[0]] + [hexed(o) for o in operands[1:]])
+            lines.append(line)
+            answers.append(line + " = " + answer)
+    return "\n".join(lines) + "\n", "\n".join(answers) + "\n"
+
+
+def main():
+    if sys.argv[1:] not in (["--write"], ["--check"]):
+        sys.exit(__doc__)
+    good = True
+    for name, wanted in zip(("stdin", "stdout"), text()):
+        path = os.path.join(HERE, name)
+        if sys.argv[1] == "--write":
+            with open(path, "w") as f:
+                f.write(wanted)
+        elif open(path).read() != wanted:
+            print("crates/vectors/%s is not what tests/vectors.py makes of the documents: run it with --write and read the difference" % name)
+            good = False
+    if sys.argv[1] == "--check":
+        print("vectors: %d lines as the documents have them" % text()[0].count("\n") if good else "vectors: stale")
+    sys.exit(0 if good else 1)
+
+
+if __name__ == "__main__":
+    main()

@@ -1,5 +1,28 @@
 // A line of vectors: a name, and operands in hexadecimal. All of it is total: what is not there is empty, or 0.
 
+// How many bytes of a line were read, and whether the input ended with it.
+pub struct Line {
+    pub len: usize,
+    pub last: bool,
+}
+
+// Reads standard input up to the end of a line, which is not kept. A line longer than `room` is cut there.
+pub fn read(room: &mut [u8]) -> Line {
+    let mut len = 0;
+    while len < room.len() {
+        let mut one = [0u8; 1];
+        if io::read_full(0, &mut one) == 0 {
+            return Line { len, last: true };
+        }
+        if one[0] == b'\n' {
+            return Line { len, last: false };
+        }
+        room[len] = one[0];
+        len += 1;
+    }
+    Line { len, last: false }
+}
+
 // The part of a slice, empty where it does not lie within.
 pub fn part(s: &[u8], start: usize, end: usize) -> &[u8] {
     if s.len() < end {

@@ -5,22 +5,23 @@
 use vector_text::line;
 use vector_text::say;
 
-// Room for the bytes of a vector's operands: those that may be written, and those that are only read.
+// Room for a line, and for the bytes of its operands: those that may be written, and those that are only read.
+const TEXT: usize = 131072;
+
 const ROOM: usize = 65536;
 
-// The lines of the text, one after the other.
-fn each_line(text: &[u8], room: &mut [u8], side: &mut [u8]) {
-    let mut at = 0;
-    while at < text.len() {
-        let end = line::end_of(text, at, b'\n');
-        one_line(line::part(text, at, end), room, side);
-        if end < at {
+// The lines of the input, one after the other. A proved loop has to end, and nothing says that the input does: so the
+// lines are counted, from a number that no input uses up.
+fn each_line(text: &mut [u8], room: &mut [u8], side: &mut [u8]) {
+    let mut left = u64::MAX;
+    while 0 < left {
+        let read = line::read(text);
+        let len = read.len;
+        if read.last {
             return;
         }
-        if text.len() <= end {
-            return;
-        }
-        at = end + 1;
+        one_line(line::part(text, 0, len), room, side);
+        left -= 1;
     }
 }
 
@@ -44,9 +45,8 @@ fn answer(text: &[u8], room: &mut [u8], side: &mut [u8]) {
 }
 
 fn main() {
-    let mut text = [0u8; 262144];
+    let mut text = [0u8; TEXT];
     let mut room = [0u8; ROOM];
     let mut side = [0u8; ROOM];
-    let got = io::read_full(0, &mut text);
-    each_line(line::part(&text, 0, got), &mut room, &mut side);
+    each_line(&mut text, &mut room, &mut side);
 }

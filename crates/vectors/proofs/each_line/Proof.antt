@@ -1,28 +1,21 @@
--- `vectors::each_line` ends: what is left of the text falls. The rooms keep their lengths. Assumes nothing.
+-- `vectors::each_line` ends: the lines left to read fall. The rooms keep their lengths. Assumes nothing.
 use borrow.Author.Needs.{needs}
 use lib.ListN.{length}
 use mathlib.Core.Path.{_≡_}
-use Prim.Native.Nat.{_-_}
 use Rattle.vectors.proofs.each_line.Statement.{statement}
 use Rattle.vectors.proofs.each_line.Tie as tie
 
 abbrev Inv-loop : tie.InvT-loop
-Inv-loop text room₀ side₀ at₀ room side at = (length room ≡ length room₀) × (length side ≡ length side₀)
+Inv-loop text₀ room₀ side₀ left₀ text room side left = (length text ≡ length text₀) × (length room ≡ length room₀) × (length side ≡ length side₀)
 
 abbrev μ-loop : tie.MeasureT-loop
-μ-loop text room₀ side₀ at₀ room side at = length text - at
+μ-loop text₀ room₀ side₀ left₀ text room side left = left
 
 loop-holds : tie.Need-loop-holds Inv-loop μ-loop
 loop-holds c = search needs
 
-end-of-requires : tie.Need-end-of-requires Inv-loop μ-loop
-end-of-requires c κs = search needs
-
-part-requires : tie.Need-part-requires Inv-loop μ-loop
-part-requires c κs = search needs
-
-one-line-requires : tie.Need-one-line-requires Inv-loop μ-loop
-one-line-requires c κs = search needs
+read-requires : tie.Need-read-requires Inv-loop μ-loop
+read-requires c κs = search needs
 
 same-length : tie.Need-same-length Inv-loop μ-loop
 same-length c = search needs
@@ -30,20 +23,20 @@ same-length c = search needs
 same-length-2 : tie.Need-same-length-2 Inv-loop μ-loop
 same-length-2 c = search needs
 
-returns : tie.Need-returns Inv-loop μ-loop
-returns c = search needs
-
 same-length-3 : tie.Need-same-length-3 Inv-loop μ-loop
 same-length-3 c = search needs
 
-same-length-4 : tie.Need-same-length-4 Inv-loop μ-loop
-same-length-4 c = search needs
+returns : tie.Need-returns Inv-loop μ-loop
+returns c = search needs
 
-returns-2 : tie.Need-returns-2 Inv-loop μ-loop
-returns-2 c = search needs
+part-requires : tie.Need-part-requires Inv-loop μ-loop
+part-requires c κs = search needs
 
-add-at : tie.Need-add-at Inv-loop μ-loop
-add-at c = search needs
+one-line-requires : tie.Need-one-line-requires Inv-loop μ-loop
+one-line-requires c κs = search needs
+
+sub-left : tie.Need-sub-left Inv-loop μ-loop
+sub-left c = search needs
 
 loop-less : tie.Need-loop-less Inv-loop μ-loop
 loop-less c = search needs
@@ -51,14 +44,17 @@ loop-less c = search needs
 loop-again : tie.Need-loop-again Inv-loop μ-loop
 loop-again c = search needs
 
+same-length-4 : tie.Need-same-length-4 Inv-loop μ-loop
+same-length-4 c = search needs
+
 same-length-5 : tie.Need-same-length-5 Inv-loop μ-loop
 same-length-5 c = search needs
 
 same-length-6 : tie.Need-same-length-6 Inv-loop μ-loop
 same-length-6 c = search needs
 
-returns-3 : tie.Need-returns-3 Inv-loop μ-loop
-returns-3 c = search needs
+returns-2 : tie.Need-returns-2 Inv-loop μ-loop
+returns-2 c = search needs
 
 pub each-line-spec : {M : Type 1} → statement M
 each-line-spec =
@@ -67,18 +63,17 @@ each-line-spec =
     Inv-loop
     μ-loop
     loop-holds
-    end-of-requires
-    part-requires
-    one-line-requires
+    read-requires
     same-length
     same-length-2
-    returns
     same-length-3
-    same-length-4
-    returns-2
-    add-at
+    returns
+    part-requires
+    one-line-requires
+    sub-left
     loop-less
     loop-again
+    same-length-4
     same-length-5
     same-length-6
-    returns-3)
+    returns-2)

@@ -9,6 +9,7 @@ pub use around::is_closer;
 pub use ordered::compare;
 pub use ordered::is_same;
 pub use ordered::order_at;
+pub use ordered::same_at;
 pub use subtract::difference;
 ghost use mathlib.Core.Path.{_≡_};
 ghost use Prim.Native.Nat.{_+_, _≤_};

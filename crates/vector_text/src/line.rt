@@ -1,5 +1,7 @@
 // A line of vectors: a name, and operands in hexadecimal. All of it is total: what is not there is empty, or 0.
 
+ghost use Prim.Native.Nat.{_≤_};
+
 // How many bytes of a line were read, and whether the input ended with it.
 pub struct Line {
     pub len: usize,
@@ -98,18 +100,73 @@ pub fn number(text: &[u8], i: usize) -> u64 {
     n
 }
 
-// An operand as bytes, put in `room` from a place on. Answers where they end.
+// How many zero bytes the run whose four digits stand behind a place has.
+fn zeros_at(digits: &[u8], k: usize) -> usize {
+    let mut n = 0usize;
+    let mut i = 1;
+    while i < 5 {
+        if digits.len() <= k {
+            return n;
+        }
+        if digits.len() - k <= i {
+            return n;
+        }
+        n = n % 4096 * 16 + (digit(digits[k + i]) % 16) as usize;
+        i += 1;
+    }
+    n
+}
+
+// So many zero bytes, as far as there is room. Answers where they end.
+fn put_zeros(room: &mut [u8], at: usize, n: usize) -> usize {
+    if room.len() < n {
+        return at;
+    }
+    if room.len() - n < at {
+        return at;
+    }
+    octet::clear(room, at, n);
+    at + n
+}
+
+// The byte of two digits, or the run of zeros that `Z` begins. Answers where it ends.
+fn put_one(digits: &[u8], k: usize, room: &mut [u8], at: usize) -> usize {
+    if digits.len() <= k {
+        return at;
+    }
+    if digits.len() - k < 2 {
+        return at;
+    }
+    if digits[k] == b'Z' {
+        return put_zeros(room, at, zeros_at(digits, k));
+    }
+    if room.len() <= at {
+        return at;
+    }
+    room[at] = digit(digits[k]) % 16 * 16 + digit(digits[k + 1]) % 16;
+    at + 1
+}
+
+// How many digits a byte or a run of zeros takes.
+fn step_over(b: u8) -> usize
+    ensures { λ r. ⌜ 1 ≤ r ⌝ }
+{
+    if b == b'Z' { 5 } else { 2 }
+}
+
+// An operand as bytes, put in `room` from a place on: two digits to a byte, and `Z` with four digits for so many zero
+// bytes. Answers where they end.
 pub fn bytes(text: &[u8], i: usize, room: &mut [u8], to: usize) -> usize {
     let digits = word(text, i);
     let mut at = to;
-    let mut k = 1;
+    let mut k = 0;
     while k < digits.len() {
-        if room.len() <= at {
+        let step = step_over(digits[k]);
+        at = put_one(digits, k, room, at);
+        if digits.len() - k < step {
             return at;
         }
-        room[at] = digit(digits[k - 1]) % 16 * 16 + digit(digits[k]) % 16;
-        at += 1;
-        k += 2;
+        k += step;
     }
     at
 }

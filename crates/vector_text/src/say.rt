@@ -54,3 +54,8 @@ pub fn outside() {
 fn wide(x: u8) -> u64 {
     x as u64
 }
+
+// A number in so many hexadecimal digits.
+pub fn digits(n: u64, width: usize) {
+    io::print_hex(1, n, width);
+}

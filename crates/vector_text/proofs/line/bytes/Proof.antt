@@ -1,13 +1,13 @@
--- `vector_text::line::bytes` ends, and writes within its room. Assumes nothing.
-use mathlib.Core.Path.{_≡_}
+-- `vector_text::line::bytes` ends: what is left of the digits falls. The room keeps its length. Assumes nothing.
 use borrow.Author.Needs.{needs}
 use lib.ListN.{length}
-use Prim.Native.Nat.{_≤_, _-_}
+use mathlib.Core.Path.{_≡_}
+use Prim.Native.Nat.{_-_}
 use Rattle.vector_text.proofs.line.bytes.Statement.{statement}
 use Rattle.vector_text.proofs.line.bytes.Tie as tie
 
 abbrev Inv-loop : tie.InvT-loop
-Inv-loop text i room₀ to digits at₀ k₀ room at k = (1 ≤ k) × (length room ≡ length room₀)
+Inv-loop text i room₀ to digits at₀ k₀ room at k = length room ≡ length room₀
 
 abbrev μ-loop : tie.MeasureT-loop
 μ-loop text i room₀ to digits at₀ k₀ room at k = length digits - k
@@ -18,38 +18,23 @@ word-requires c κs = search needs
 loop-holds : tie.Need-loop-holds Inv-loop μ-loop
 loop-holds c = search needs
 
+shared-slice-read-step-over : tie.Need-shared-slice-read-step-over Inv-loop μ-loop
+shared-slice-read-step-over c = search needs
+
+step-over-requires : tie.Need-step-over-requires Inv-loop μ-loop
+step-over-requires c κs = search needs
+
+put-one-requires : tie.Need-put-one-requires Inv-loop μ-loop
+put-one-requires c κs = search needs
+
+sub-if1 : tie.Need-sub-if1 Inv-loop μ-loop
+sub-if1 c = search needs
+
 same-length : tie.Need-same-length Inv-loop μ-loop
 same-length c = search needs
 
 returns : tie.Need-returns Inv-loop μ-loop
 returns c = search needs
-
-sub-digit : tie.Need-sub-digit Inv-loop μ-loop
-sub-digit c = search needs
-
-shared-slice-read-digit : tie.Need-shared-slice-read-digit Inv-loop μ-loop
-shared-slice-read-digit c = search needs
-
-digit-requires : tie.Need-digit-requires Inv-loop μ-loop
-digit-requires c κs = search needs
-
-mul-room : tie.Need-mul-room Inv-loop μ-loop
-mul-room c = search needs
-
-shared-slice-read-digit-2 : tie.Need-shared-slice-read-digit-2 Inv-loop μ-loop
-shared-slice-read-digit-2 c = search needs
-
-digit-requires-2 : tie.Need-digit-requires-2 Inv-loop μ-loop
-digit-requires-2 c κs = search needs
-
-add-room : tie.Need-add-room Inv-loop μ-loop
-add-room c = search needs
-
-slice-write-room : tie.Need-slice-write-room Inv-loop μ-loop
-slice-write-room c = search needs
-
-add-at : tie.Need-add-at Inv-loop μ-loop
-add-at c = search needs
 
 add-k : tie.Need-add-k Inv-loop μ-loop
 add-k c = search needs
@@ -74,17 +59,12 @@ bytes-spec =
     μ-loop
     word-requires
     loop-holds
+    shared-slice-read-step-over
+    step-over-requires
+    put-one-requires
+    sub-if1
     same-length
     returns
-    sub-digit
-    shared-slice-read-digit
-    digit-requires
-    mul-room
-    shared-slice-read-digit-2
-    digit-requires-2
-    add-room
-    slice-write-room
-    add-at
     add-k
     loop-less
     loop-again

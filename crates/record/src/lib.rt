@@ -1,1 +1,34 @@
-// The record of a gauge: 100 bytes, and the route entry that carries it on the wire.
+// The record of document 01, 100 bytes: key 32, port 2, address count 1, one zero byte, four addresses of 16, the unused
+// ones zero; and the route entry that names it on the wire. A place is one that its caller has tested to lie within.
+mod entry;
+mod piece;
+
+pub use entry::put_entry;
+pub use entry::put_record;
+pub use entry::same_as_entry;
+pub use piece::copy_piece;
+pub use piece::same_piece;
+ghost use mathlib.Core.Path.{_≡_};
+ghost use Prim.Native.Nat.{_+_, _≤_};
+ghost use lib.ListN.{length};
+ghost use Rattle.octet.specs.Part.{part};
+ghost use Rattle.record.specs.Record.{recordForm};
+
+// Are the 100 bytes at a place a record in form?
+pub fn is_formed(s: &[u8], at: usize) -> bool
+    requires { ⌜ at + 100 ≤ length (now s) ⌝ }
+    ensures { λ r. ⌜ r ≡ recordForm (part at 100 (now (s .entry))) ⌝ }
+{
+    let count = s[at + 34] as usize;
+    if count < 1 {
+        return false;
+    }
+    if 4 < count {
+        return false;
+    }
+    if s[at + 35] != 0 {
+        return false;
+    }
+    let unused = at + 36 + 16 * count;
+    octet::zero_words(s, unused, 8 - 2 * count)
+}

@@ -1,0 +1,129 @@
+-- `record::entry::put_record` meets its contract: the five pieces, put one after the other, are the record (put-pieces, record-in). Assumes nothing.
+use Prim.Native.Nat.{ℕ, _+_, _-_, _*_}
+use native.Mathlib.Omega.{arith}
+use mathlib.Core.List.{List, [], _∷_}
+use mathlib.Core.Path.{refl, sym, ap, _∙_}
+use denote.Ref.{now}
+use lib.ListN.{getD, replicate, length-replicate}
+use Rattle.octet.specs.Part.{part, splice}
+use Rattle.octet.proofs.PartLaws.{length-part}
+use Rattle.record.proofs.PlaceLaws.{entry-at, record-in, put-pieces}
+use borrow.Author.Needs.{needs}
+use Rattle.record.proofs.entry.put_record.Statement.{statement}
+use Rattle.record.proofs.entry.put_record.Tie as tie
+
+add-count : tie.Need-add-count
+add-count c = search needs
+
+shared-slice-read-count : tie.Need-shared-slice-read-count
+shared-slice-read-count c =
+    let w = entry-at (c .before .before .before .args .start) (c .before .before .before .args .len) (now (c .before .before .before .args .d)) (c .before .before .before .pre .1 .0) (c .before .before .before .pre .1 .1) in
+    omega (arith, w .most, w .long)
+
+cast-size : tie.Need-cast-size
+cast-size c =
+    let w = entry-at (c .before .before .before .args .start) (c .before .before .before .args .len) (now (c .before .before .before .args .d)) (c .before .before .before .pre .1 .0) (c .before .before .before .pre .1 .1) in
+    omega (arith, w .most, w .long)
+
+mul-size : tie.Need-mul-size
+mul-size c =
+    let w = entry-at (c .before .before .before .args .start) (c .before .before .before .args .len) (now (c .before .before .before .args .d)) (c .before .before .before .pre .1 .0) (c .before .before .before .pre .1 .1) in
+    omega (arith, w .most, w .long)
+
+copy-piece-requires : tie.Need-copy-piece-requires
+copy-piece-requires c κs =
+    let w = entry-at (c .before .before .before .before .args .start) (c .before .before .before .before .args .len) (now (c .before .before .before .before .args .d)) (c .before .before .before .before .pre .1 .0) (c .before .before .before .before .pre .1 .1) in
+    (omega (arith, w .most), omega (arith, w .most, w .long))
+
+add-copy-piece : tie.Need-add-copy-piece
+add-copy-piece c = search needs
+
+add-copy-piece-2 : tie.Need-add-copy-piece-2
+add-copy-piece-2 c = search needs
+
+copy-piece-requires-2 : tie.Need-copy-piece-requires-2
+copy-piece-requires-2 c κs =
+    let w = entry-at (c .before .before .before .before .before .before .before .before .args .start) (c .before .before .before .before .before .before .before .before .args .len) (now (c .before .before .before .before .before .before .before .before .args .d)) (c .before .before .before .before .before .before .before .before .pre .1 .0) (c .before .before .before .before .before .before .before .before .pre .1 .1) in
+    (omega (arith, w .most), omega (arith, w .most, w .long))
+
+add-copy-to : tie.Need-add-copy-to
+add-copy-to c = search needs
+
+slice-aggregate-copy-to : tie.Need-slice-aggregate-copy-to
+slice-aggregate-copy-to c = search needs
+
+copy-to-requires : tie.Need-copy-to-requires
+copy-to-requires c κs = search needs
+
+add-copy-piece-3 : tie.Need-add-copy-piece-3
+add-copy-piece-3 c = search needs
+
+add-copy-piece-4 : tie.Need-add-copy-piece-4
+add-copy-piece-4 c = search needs
+
+copy-piece-requires-3 : tie.Need-copy-piece-requires-3
+copy-piece-requires-3 c κs =
+    let w = entry-at (c .before .before .before .before .before .before .before .before .before .before .before .before .before .before .before .before .before .args .start) (c .before .before .before .before .before .before .before .before .before .before .before .before .before .before .before .before .before .args .len) (now (c .before .before .before .before .before .before .before .before .before .before .before .before .before .before .before .before .before .args .d)) (c .before .before .before .before .before .before .before .before .before .before .before .before .before .before .before .before .before .pre .1 .0) (c .before .before .before .before .before .before .before .before .before .before .before .before .before .before .before .before .before .pre .1 .1) in
+    (omega (arith, w .most), omega (arith, w .most, w .long))
+
+add-unused : tie.Need-add-unused
+add-unused c = search needs
+
+add-unused-2 : tie.Need-add-unused-2
+add-unused-2 c =
+    let w = entry-at (c .before .before .before .before .before .before .before .before .before .before .before .before .before .before .before .before .before .before .before .before .args .start) (c .before .before .before .before .before .before .before .before .before .before .before .before .before .before .before .before .before .before .before .before .args .len) (now (c .before .before .before .before .before .before .before .before .before .before .before .before .before .before .before .before .before .before .before .before .args .d)) (c .before .before .before .before .before .before .before .before .before .before .before .before .before .before .before .before .before .before .before .before .pre .1 .0) (c .before .before .before .before .before .before .before .before .before .before .before .before .before .before .before .before .before .before .before .before .pre .1 .1) in
+    omega (arith, w .most, w .long)
+
+sub-clear : tie.Need-sub-clear
+sub-clear c =
+    let w = entry-at (c .before .before .before .before .before .before .before .before .before .before .before .before .before .before .before .before .before .before .before .before .before .args .start) (c .before .before .before .before .before .before .before .before .before .before .before .before .before .before .before .before .before .before .before .before .before .args .len) (now (c .before .before .before .before .before .before .before .before .before .before .before .before .before .before .before .before .before .before .before .before .before .args .d)) (c .before .before .before .before .before .before .before .before .before .before .before .before .before .before .before .before .before .before .before .before .before .pre .1 .0) (c .before .before .before .before .before .before .before .before .before .before .before .before .before .before .before .before .before .before .before .before .before .pre .1 .1) in
+    omega (arith, w .most, w .long)
+
+clear-requires : tie.Need-clear-requires
+clear-requires c κs =
+    let w = entry-at (c .before .before .before .before .before .before .before .before .before .before .before .before .before .before .before .before .before .before .before .before .before .args .start) (c .before .before .before .before .before .before .before .before .before .before .before .before .before .before .before .before .before .before .before .before .before .args .len) (now (c .before .before .before .before .before .before .before .before .before .before .before .before .before .before .before .before .before .before .before .before .before .args .d)) (c .before .before .before .before .before .before .before .before .before .before .before .before .before .before .before .before .before .before .before .before .before .pre .1 .0) (c .before .before .before .before .before .before .before .before .before .before .before .before .before .before .before .before .before .before .before .before .before .pre .1 .1) in
+    omega (arith, w .most, w .long)
+
+same-length : tie.Need-same-length
+same-length c = search needs
+
+returns : tie.Need-returns
+returns c =
+    let s = now (c .before .before .before .before .before .before .before .before .before .before .before .before .before .before .before .before .before .before .before .before .before .before .before .before .args .dst) in
+    let d = now (c .before .before .before .before .before .before .before .before .before .before .before .before .before .before .before .before .before .before .before .before .before .before .before .before .args .d) in
+    let at = c .before .before .before .before .before .before .before .before .before .before .before .before .before .before .before .before .before .before .before .before .before .before .before .before .args .at in
+    let start = c .before .before .before .before .before .before .before .before .before .before .before .before .before .before .before .before .before .before .before .before .before .before .before .before .args .start in
+    let w = entry-at (c .before .before .before .before .before .before .before .before .before .before .before .before .before .before .before .before .before .before .before .before .before .before .before .before .args .start) (c .before .before .before .before .before .before .before .before .before .before .before .before .before .before .before .before .before .before .before .before .before .before .before .before .args .len) (now (c .before .before .before .before .before .before .before .before .before .before .before .before .before .before .before .before .before .before .before .before .before .before .before .before .args .d)) (c .before .before .before .before .before .before .before .before .before .before .before .before .before .before .before .before .before .before .before .before .before .before .before .before .pre .1 .0) (c .before .before .before .before .before .before .before .before .before .before .before .before .before .before .before .before .before .before .before .before .before .before .before .before .pre .1 .1) in
+    let n = getD d (start + 37) 0 in
+    let m = w .most in
+    let l = w .long in
+    let z = length-replicate {A = ℕ} (64 - 16 * n) 0 in
+    rw (c .before .before .clear .ensures, c .before .before .before .before .before .before .copy-piece3 .ensures, c .before .before .before .before .before .before .before .before .before .before .copy-to .ensures, c .before .before .before .before .before .before .before .before .before .before .before .before .before .before .before .copy-piece2 .ensures, c .before .before .before .before .before .before .before .before .before .before .before .before .before .before .before .before .before .before .before .copy-piece .ensures)
+    (put-pieces at (16 * n) (64 - 16 * n) (part start 32 d) (part (start + 34) 2 d) (n ∷ 0 ∷ []) (part (start + 38) (16 * n) d) (replicate (64 - 16 * n) 0) s
+    (length-part start 32 d (omega arith)) (length-part (start + 34) 2 d (omega arith)) refl (length-part (start + 38) (16 * n) d (omega arith)) z (omega arith)
+    ∙ ap (λ (r : List ℕ). splice at r s) (sym (record-in start (c .before .before .before .before .before .before .before .before .before .before .before .before .before .before .before .before .before .before .before .before .before .before .before .before .args .len) d (c .before .before .before .before .before .before .before .before .before .before .before .before .before .before .before .before .before .before .before .before .before .before .before .before .pre .1 .0) (c .before .before .before .before .before .before .before .before .before .before .before .before .before .before .before .before .before .before .before .before .before .before .before .before .pre .1 .1))))
+
+pub put-record-spec : {M : Type 1} → statement M
+put-record-spec =
+    tie.close
+    (tie.spec
+    add-count
+    shared-slice-read-count
+    cast-size
+    mul-size
+    copy-piece-requires
+    add-copy-piece
+    add-copy-piece-2
+    copy-piece-requires-2
+    add-copy-to
+    slice-aggregate-copy-to
+    copy-to-requires
+    add-copy-piece-3
+    add-copy-piece-4
+    copy-piece-requires-3
+    add-unused
+    add-unused-2
+    sub-clear
+    clear-requires
+    same-length
+    returns)

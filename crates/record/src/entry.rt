@@ -1,0 +1,73 @@
+// A record beside the route entry that names it: compared and made, piece by piece.
+use crate::piece::copy_piece;
+use crate::piece::same_piece;
+ghost use mathlib.Core.Path.{_≡_};
+ghost use mathlib.Core.Bool.{true};
+ghost use Prim.Native.Nat.{_+_, _*_, _≤_};
+ghost use lib.ListN.{length, getD};
+ghost use Rattle.octet.specs.Part.{part, same, splice};
+ghost use Rattle.record.specs.Entry.{entryForm, recordOf, entryOf};
+ghost use Rattle.record.specs.Record.{recordForm};
+
+// Are the 100 bytes at a place the very record that a route entry names?
+pub fn same_as_entry(s: &[u8], at: usize, d: &[u8], start: usize, len: usize) -> bool
+    requires { ⌜ at + 100 ≤ length (now s) ⌝ }
+    requires { ⌜ start + len ≤ length (now d) ⌝ }
+    requires { ⌜ entryForm (part start len (now d)) ≡ true ⌝ }
+    ensures { λ r. ⌜ r ≡ same (part at 100 (now (s .entry))) (recordOf (part start len (now (d .entry)))) ⌝ }
+{
+    let count = d[start + 37];
+    let size = 16 * (count as usize);
+    if !same_piece(s, at, d, start, 32) {
+        return false;
+    }
+    if !same_piece(s, at + 32, d, start + 34, 2) {
+        return false;
+    }
+    if s[at + 34] != count {
+        return false;
+    }
+    if s[at + 35] != 0 {
+        return false;
+    }
+    if !same_piece(s, at + 36, d, start + 38, size) {
+        return false;
+    }
+    let unused = at + 36 + size;
+    octet::zero_words(s, unused, 8 - 2 * (count as usize))
+}
+
+// Writes the record that a route entry names.
+pub fn put_record(dst: &mut [u8], at: usize, d: &[u8], start: usize, len: usize)
+    requires { ⌜ at + 100 ≤ length (now dst) ⌝ }
+    requires { ⌜ start + len ≤ length (now d) ⌝ }
+    requires { ⌜ entryForm (part start len (now d)) ≡ true ⌝ }
+    ensures { λ _. ⌜ now (dst .exit) ≡ splice at (recordOf (part start len (now (d .entry)))) (now (dst .entry)) ⌝ }
+{
+    let count = d[start + 37];
+    let size = 16 * (count as usize);
+    copy_piece(dst, at, d, start, 32);
+    copy_piece(dst, at + 32, d, start + 34, 2);
+    let two = [count, 0];
+    octet::copy_to(dst, at + 34, &two);
+    copy_piece(dst, at + 36, d, start + 38, size);
+    let unused = at + 36 + size;
+    octet::clear(dst, unused, 64 - size);
+}
+
+// Writes the route entry of the given versions that carries the record at a place.
+pub fn put_entry(dst: &mut [u8], at: usize, major: u8, minor: u8, s: &[u8], start: usize)
+    requires { ⌜ start + 100 ≤ length (now s) ⌝ }
+    requires { ⌜ recordForm (part start 100 (now s)) ≡ true ⌝ }
+    requires { ⌜ at + 38 + 16 * getD (now s) (start + 34) 0 ≤ length (now dst) ⌝ }
+    ensures { λ _. ⌜ now (dst .exit) ≡ splice at (entryOf major minor (part start 100 (now (s .entry)))) (now (dst .entry)) ⌝ }
+{
+    let count = s[start + 34];
+    copy_piece(dst, at, s, start, 32);
+    let versions = [major, minor];
+    octet::copy_to(dst, at + 32, &versions);
+    copy_piece(dst, at + 34, s, start + 32, 2);
+    let rest = [0, count];
+    octet::copy_to(dst, at + 36, &rest);
+    copy_piece(dst, at + 38, s, start + 36, 16 * (count as usize));
+}

@@ -1,0 +1,251 @@
+-- The theorems of the statements. Assumes nothing.
+use Prim.Native.Nat.{ℕ, _+_, _<_, _≤_}
+use native.Mathlib.Omega.{arith}
+use mathlib.Core.List.{List, [], _∷_, _++_}
+use mathlib.Core.Logic.{_↔_}
+use mathlib.Core.Bool.{Bool, true, false, cond, _&&_}
+use mathlib.Core.Option.{Option, some, none}
+use mathlib.Core.Path.{_≡_, refl, sym, ap, ap₂, subst, _∙_}
+use lib.Dec.{eqb, leb}
+use lib.ListN.{length, getD, take, drop}
+use lib.Seq.{take-at}
+use borrow.Author.Tests.{eqb-true}
+use Rattle.octet.specs.Number.{Bytes, digitsBE}
+use Rattle.refusal.specs.Table.{orRefuse, appliesIn, firstOf}
+use Rattle.refusal.proofs.CallLaws.{number-is, call-exactly}
+use Rattle.wire_fields.specs.Shapes.{Kind}
+use Rattle.wire_fields.specs.Kinds.{kindsOf}
+use Rattle.wire_fields.specs.Kinds.{solicitKinds, advertiseKinds, requestKinds, floodKinds, inquireKinds, authorityKinds, ackKinds, lookupKinds, sized}
+use Rattle.wire_fields.specs.Message.{opening, Message, Reads, WellFormed, layoutOf, bytesOf, partsOf}
+use Rattle.wire_fields.specs.Reading.{messageAt, valuesOf, placesAt, fieldsAs}
+use Rattle.octet.specs.Part.{same}
+use Rattle.wire_fields.proofs.RefusalLaws.{byType, inSteps, found-steps}
+use Rattle.wire_fields.specs.Refusals.{Found, refused, found, foundOf, inPart, placesOf, fieldsIn, typeOf, refusals, foundIn}
+use Rattle.wire_fields.specs.declared.Part.{Part}
+use Rattle.wire_fields.proofs.WholeLaws.{Way, way, found-reads, reads-found, reads-once, written-reads, read-written}
+use Rattle.wire_read.specs.Answers.{answer, shown, solicitShown, advertiseShown, requestShown, floodShown, inquireShown, authorityShown, ackShown, lookupShown}
+use Rattle.wire_read.specs.Meaning.{numberOf, messageOf}
+use Rattle.wire_read.specs.declared.Answer.{Answer}
+use Rattle.wire_write.specs.Writing.{Made, fit, writeAs, writeIn, Wrote}
+use Rattle.wire_write.specs.Sent.{ackMade}
+use Rattle.wire_write.specs.declared.Written.{Written}
+use Rattle.wire.specs.Statements.{changed, AtMostOne, ReadGives, ReadAccepts, ReadRefuses, WrittenReads, WrittenRead, OutputReads, ReadWritten, ReadOne, WriteOne, AckCases, ChangedReads}
+use Rattle.wire.proofs.StandLaws.{Stand, stands}
+use Rattle.wire.proofs.MeaningLaws.{solicit-means, advertise-means, request-means, flood-means, inquire-means, authority-means, ack-means, lookup-means}
+use Rattle.wire.proofs.BytesLaws.{bytes-message}
+
+-- 1
+pub at-most-one : AtMostOne
+at-most-one ks js d m n p q = reads-once ks js d m n p q
+
+-- ---- the answer, by what is found
+
+-- the kinds of a type and what is shown of it, by the same tests
+by-type : (major : ℕ) (d : List ℕ) → Bytes d → major ≡ getD d 5 0 → (t : ℕ) (ks : List Kind) (ps : List Part) → Stand ks d 12 ps
+    → sized t (length d) ps (valuesOf ks d ps) ≡ true
+    → (a₁ : Bool) → eqb t 1 ≡ a₁ → (a₂ : Bool) → eqb t 2 ≡ a₂ → (a₃ : Bool) → eqb t 3 ≡ a₃ → (a₄ : Bool) → eqb t 4 ≡ a₄
+    → (a₇ : Bool) → eqb t 7 ≡ a₇ → (a₈ : Bool) → eqb t 8 ≡ a₈ → (a₉ : Bool) → eqb t 9 ≡ a₉ → (b₁ : Bool) → eqb t 11 ≡ b₁
+    → cond a₁ (some solicitKinds) (cond a₂ (some advertiseKinds) (cond a₃ (some requestKinds) (cond a₄ (some floodKinds) (cond a₇ (some inquireKinds)
+    (cond a₈ (some authorityKinds) (cond a₉ (some ackKinds) (cond b₁ (some lookupKinds) none))))))) ≡ some ks
+    → messageOf major d (cond a₁ (solicitShown d ps) (cond a₂ (advertiseShown d ps) (cond a₃ (requestShown d ps) (cond a₄ (floodShown d ps)
+    (cond a₇ (inquireShown d ps) (cond a₈ (authorityShown d ps) (cond a₉ (ackShown d ps) (lookupShown d ps)))))))) ≡ some (messageAt ks d t ps)
+by-type major d b m t ks ps w z true q a₂ q₂ a₃ q₃ a₄ q₄ a₇ q₇ a₈ q₈ a₉ q₉ b₁ r e =
+    let n : t ≡ 1 = eqb-true t 1 q in
+    let k : solicitKinds ≡ ks = cc in
+    subst (λ (x : List Kind). messageOf major d (solicitShown d ps) ≡ some (messageAt x d t ps)) k
+    (rw n (solicit-means major d b m ps (subst (λ (x : List Kind). Stand x d 12 ps) (sym k) w)))
+by-type major d b m t ks ps w z false q true q₂ a₃ q₃ a₄ q₄ a₇ q₇ a₈ q₈ a₉ q₉ b₁ r e =
+    let n : t ≡ 2 = eqb-true t 2 q₂ in
+    let k : advertiseKinds ≡ ks = cc in
+    subst (λ (x : List Kind). messageOf major d (advertiseShown d ps) ≡ some (messageAt x d t ps)) k
+    (rw n (advertise-means major d b m ps (subst (λ (x : List Kind). Stand x d 12 ps) (sym k) w)))
+by-type major d b m t ks ps w z false q false q₂ true q₃ a₄ q₄ a₇ q₇ a₈ q₈ a₉ q₉ b₁ r e =
+    let n : t ≡ 3 = eqb-true t 3 q₃ in
+    let k : requestKinds ≡ ks = cc in
+    subst (λ (x : List Kind). messageOf major d (requestShown d ps) ≡ some (messageAt x d t ps)) k
+    (rw n (request-means major d b m ps (subst (λ (x : List Kind). Stand x d 12 ps) (sym k) w)
+    (subst (λ (x : List Kind). sized 3 (length d) ps (valuesOf x d ps) ≡ true) (sym k) (rw n at z))))
+by-type major d b m t ks ps w z false q false q₂ false q₃ true q₄ a₇ q₇ a₈ q₈ a₉ q₉ b₁ r e =
+    let n : t ≡ 4 = eqb-true t 4 q₄ in
+    let k : floodKinds ≡ ks = cc in
+    subst (λ (x : List Kind). messageOf major d (floodShown d ps) ≡ some (messageAt x d t ps)) k
+    (rw n (flood-means major d b m ps (subst (λ (x : List Kind). Stand x d 12 ps) (sym k) w)))
+by-type major d b m t ks ps w z false q false q₂ false q₃ false q₄ true q₇ a₈ q₈ a₉ q₉ b₁ r e =
+    let n : t ≡ 7 = eqb-true t 7 q₇ in
+    let k : inquireKinds ≡ ks = cc in
+    subst (λ (x : List Kind). messageOf major d (inquireShown d ps) ≡ some (messageAt x d t ps)) k
+    (rw n (inquire-means major d b m ps (subst (λ (x : List Kind). Stand x d 12 ps) (sym k) w)))
+by-type major d b m t ks ps w z false q false q₂ false q₃ false q₄ false q₇ true q₈ a₉ q₉ b₁ r e =
+    let n : t ≡ 8 = eqb-true t 8 q₈ in
+    let k : authorityKinds ≡ ks = cc in
+    subst (λ (x : List Kind). messageOf major d (authorityShown d ps) ≡ some (messageAt x d t ps)) k
+    (rw n (authority-means major d b m ps (subst (λ (x : List Kind). Stand x d 12 ps) (sym k) w)
+    (subst (λ (x : List Kind). sized 8 (length d) ps (valuesOf x d ps) ≡ true) (sym k) (rw n at z))))
+by-type major d b m t ks ps w z false q false q₂ false q₃ false q₄ false q₇ false q₈ true q₉ b₁ r e =
+    let n : t ≡ 9 = eqb-true t 9 q₉ in
+    let k : ackKinds ≡ ks = cc in
+    subst (λ (x : List Kind). messageOf major d (ackShown d ps) ≡ some (messageAt x d t ps)) k
+    (rw n (ack-means major d b m ps (subst (λ (x : List Kind). Stand x d 12 ps) (sym k) w)))
+by-type major d b m t ks ps w z false q false q₂ false q₃ false q₄ false q₇ false q₈ false q₉ true r e =
+    let n : t ≡ 11 = eqb-true t 11 r in
+    let k : lookupKinds ≡ ks = cc in
+    subst (λ (x : List Kind). messageOf major d (lookupShown d ps) ≡ some (messageAt x d t ps)) k
+    (rw n (lookup-means major d b m ps (subst (λ (x : List Kind). Stand x d 12 ps) (sym k) w)))
+by-type major d b m t ks ps w z false q false q₂ false q₃ false q₄ false q₇ false q₈ false q₉ false r e =
+    absurd (let o : _≡_ {A = ℕ} 0 1 = cc in omega arith)
+
+-- what is found, `read` says
+shown-means : (major : ℕ) (d : List ℕ) → Bytes d → (t : ℕ) (ps : List Part) → foundIn d major ≡ found t ps
+    → (ks : List Kind) → kindsOf t ≡ some ks → messageOf major d (shown d (found t ps)) ≡ some (messageAt ks d t ps)
+unfolding shown kindsOf
+shown-means major d b t ps e ks k =
+    let (js, w) = way d major t ps e in
+    let j : js ≡ ks = (let o : some js ≡ some ks = sym (w .kinds) ∙ k in cc) in
+    by-type major d b (sym (w .version)) t ks ps (stands ks d 12 ps (subst (λ (x : List Kind). placesAt x d 12 ≡ some ps) j (w .places)))
+    (subst (λ (x : List Kind). sized t (length d) ps (valuesOf x d ps) ≡ true) j (w .sizes))
+    _ refl _ refl _ refl _ refl _ refl _ refl _ refl _ refl k
+
+by-found : (d : List ℕ) → Bytes d → (major : ℕ) (m : Message) (x : Found) → foundIn d major ≡ x → messageOf major d (shown d x) ≡ some m
+    → (ks : List Kind) × Reads ks d m × (m .major ≡ major)
+unfolding shown messageOf
+by-found d b major m (refused n) e q = absurd (let z : _≡_ {A = ℕ} 0 1 = cc in omega arith)
+by-found d b major m (found t ps) e q =
+    let (ks, r, v) = found-reads d b major t ps e in
+    let o : some (messageAt ks d t ps) ≡ some m = sym (shown-means major d b t ps e ks (r .well .known)) ∙ q in
+    let s : messageAt ks d t ps ≡ m = cc in
+    (ks, subst (Reads ks d) s r, sym (ap (λ (y : Message). y .major) s) ∙ v)
+
+reads-give : (d : List ℕ) → Bytes d → (major : ℕ) (m : Message) (ks : List Kind) → Reads ks d m → m .major ≡ major
+    → messageOf major d (answer d major) ≡ some m
+reads-give d b major m ks r v =
+    let f = reads-found ks d m r in
+    let ps = partsOf 12 ks (m .fields) in
+    let e : foundIn d major ≡ found (m .type) ps = ap (foundIn d) (sym v) ∙ f .0 in
+    ap (λ (x : Found). messageOf major d (shown d x)) e ∙ shown-means major d b (m .type) ps e ks (r .well .known) ∙ ap some (f .1)
+
+-- 2
+pub read-gives : ReadGives
+read-gives d b major m = (λ e. by-found d b major m (foundIn d major) refl e, λ w. reads-give d b major m (w .0) (w .1) (w .2))
+
+zero-cond : (a : Bool) (x y : Answer) → numberOf x ≡ 0 → numberOf y ≡ 0 → numberOf (cond a x y) ≡ 0
+zero-cond true x y p q = p
+zero-cond false x y p q = q
+
+accepted : (d : List ℕ) (t : ℕ) (ps : List Part) → numberOf (shown d (found t ps)) ≡ 0
+unfolding shown
+accepted d t ps =
+    zero-cond (eqb t 1) _ _ refl (zero-cond (eqb t 2) _ _ refl (zero-cond (eqb t 3) _ _ refl (zero-cond (eqb t 4) _ _ refl (zero-cond (eqb t 7) _ _ refl
+    (zero-cond (eqb t 8) _ _ refl (zero-cond (eqb t 9) _ _ refl refl))))))
+
+numbered : (d : List ℕ) (n : ℕ) → numberOf (shown d (refused n)) ≡ n
+unfolding shown
+numbered d n = refl
+
+pub read-refuses : ReadRefuses
+unfolding foundIn
+read-refuses d major n p =
+    call-exactly (λ (x : Found). numberOf (shown d x)) refused (numbered d) (found (typeOf d) (placesOf (fieldsIn d)))
+    (accepted d (typeOf d) (placesOf (fieldsIn d))) (refusals d major) 2 (omega arith) n p
+
+-- 0 is given only with a message
+refuses : (d : List ℕ) (n : ℕ) → 0 < n → numberOf (shown d (refused n)) ≡ 0 → (t : ℕ) × (ps : List Part) × (refused n ≡ found t ps)
+refuses d n p e = absurd (omega (arith, numbered d n))
+
+either : (d : List ℕ) (b : Bool) (x y : Found)
+    → (numberOf (shown d x) ≡ 0 → (t : ℕ) × (ps : List Part) × (x ≡ found t ps))
+    → (numberOf (shown d y) ≡ 0 → (t : ℕ) × (ps : List Part) × (y ≡ found t ps))
+    → numberOf (shown d (cond b x y)) ≡ 0 → (t : ℕ) × (ps : List Part) × (cond b x y ≡ found t ps)
+either d true x y p q e = p e
+either d false x y p q e = q e
+
+of-type : (d : List ℕ) (t : ℕ) (o : Option (List Kind)) → numberOf (shown d (byType t d o)) ≡ 0 → (u : ℕ) × (ps : List Part) × (byType t d o ≡ found u ps)
+of-type d t none e = refuses d 5 (omega arith) e
+of-type d t (some ks) e =
+    either d (inPart t d) (refused 7) (foundOf t (fieldsAs t ks d)) (refuses d 7 (omega arith)) (of-fields t (fieldsAs t ks d)) e
+  where
+    of-fields : (t : ℕ) (o : Option (List Part)) → numberOf (shown d (foundOf t o)) ≡ 0 → (u : ℕ) × (ps : List Part) × (foundOf t o ≡ found u ps)
+    of-fields t none e = refuses d 6 (omega arith) e
+    of-fields t (some ps) e = (t, ps, refl)
+
+accepts : (d : List ℕ) (major : ℕ) → numberOf (shown d (inSteps d major)) ≡ 0 → (t : ℕ) × (ps : List Part) × (inSteps d major ≡ found t ps)
+unfolding inSteps
+accepts d major e =
+    either d (leb 12 (length d) && leb (length d) 1232) _ (refused 2)
+    (either d (same (take 5 d) opening) _ (refused 3)
+    (either d (eqb (getD d 5 0) major) _ (refused 4) (of-type d (getD d 7 0) (kindsOf (getD d 7 0))) (refuses d 4 (omega arith)))
+    (refuses d 3 (omega arith)))
+    (refuses d 2 (omega arith)) e
+
+pub read-accepts : ReadAccepts
+read-accepts d b major = (forth, back)
+  where
+    forth : numberOf (answer d major) ≡ 0 → (m : Message) × (messageOf major d (answer d major) ≡ some m)
+    forth e =
+        let s = found-steps d major in
+        let (t, ps, q) = accepts d major (ap (λ (x : Found). numberOf (shown d x)) (sym s) ∙ e) in
+        let f : foundIn d major ≡ found t ps = s ∙ q in
+        let (ks, r, v) = found-reads d b major t ps f in
+        (messageAt ks d t ps, ap (λ (x : Found). messageOf major d (shown d x)) f ∙ shown-means major d b t ps f ks (r .well .known))
+
+    back : (m : Message) × (messageOf major d (answer d major) ≡ some m) → numberOf (answer d major) ≡ 0
+    back w =
+        let (ks, r, v) = by-found d b major (w .0) (foundIn d major) refl (w .1) in
+        let f = reads-found ks d (w .0) r in
+        ap (λ (x : Found). numberOf (shown d x)) (ap (foundIn d) (sym v) ∙ f .0) ∙ accepted d _ _
+
+-- 3
+pub written-back : WrittenReads
+written-back ks m w = written-reads ks m w
+
+pub written-read : WrittenRead
+written-read ks m w = reads-give (bytesOf (layoutOf ks m)) (bytes-message ks m w) (m .major) m ks (written-reads ks m w) refl
+
+zero-as : (m : Made) (old : List ℕ) → m .ok ≡ true → fit (m .bytes) old ≡ true
+    → (writeAs m old ≡ record { number = 0; length = length (m .bytes) }) × (writeIn m old ≡ m .bytes ++ drop (length (m .bytes)) old)
+unfolding writeAs writeIn
+zero-as m old k f = (rw (k, f), rw (k, f))
+
+fifteen-as : (m : Made) (old : List ℕ) → m .ok ≡ true → fit (m .bytes) old ≡ false → writeAs m old ≡ record { number = 15; length = 0 }
+unfolding writeAs
+fifteen-as m old k f = rw (k, f)
+
+six-as : (m : Made) (old : List ℕ) → m .ok ≡ false → writeAs m old ≡ record { number = 6; length = 0 }
+unfolding writeAs
+six-as m old k = rw k
+
+-- where a writer gives 0, its bytes are the first of the output
+output-bytes : (m : Made) (old : List ℕ) (r : Written) (out : List ℕ) → Wrote m old r out → r .number ≡ 0 → take (r .length) out ≡ m .bytes
+output-bytes m old r out w z = by (m .ok) refl (fit (m .bytes) old) refl
+  where
+    by : (a : Bool) → m .ok ≡ a → (b : Bool) → fit (m .bytes) old ≡ b → take (r .length) out ≡ m .bytes
+    by true k true f =
+        let a = zero-as m old k f in
+        let n : r .length ≡ length (m .bytes) = ap (λ (x : Written). x .length) (w .answer ∙ a .0) in
+        rw (n, w .output, a .1) (take-at (m .bytes) (drop (length (m .bytes)) old) (length (m .bytes)) refl)
+    by true k false f = absurd (let n : r .number ≡ 15 = ap (λ (x : Written). x .number) (w .answer ∙ fifteen-as m old k f) in omega arith)
+    by false k b f = absurd (let n : r .number ≡ 6 = ap (λ (x : Written). x .number) (w .answer ∙ six-as m old k) in omega arith)
+
+pub output-reads : OutputReads
+output-reads ks m ok old r out w v z =
+    let e = output-bytes (record { ok = ok; bytes = bytesOf (layoutOf ks m) }) old r out v z in
+    rw e (written-read ks m w)
+
+-- 4
+pub read-again : ReadWritten
+read-again ks d m r = read-written ks d m r
+
+-- 5
+pub read-one : ReadOne
+read-one d major r s p q = p ∙ sym q
+
+pub write-one : WriteOne
+write-one m old r s out other p q = (p .answer ∙ sym (q .answer), p .output ∙ sym (q .output))
+
+-- 6
+pub ack-cases : AckCases
+unfolding ackMade digitsBE
+ack-cases = (refl, (refl, tt))
+
+-- 7
+pub changed-reads : ChangedReads
+changed-reads ks m fs w v = written-reads ks (changed m fs) v

@@ -1,0 +1,96 @@
+-- To believe. What holds of reading and writing, for every datagram and for every message of the eight types (issue "The eight messages", its theorems 1 to 7).
+-- A theorem of each name stands in proofs/Theorems. Assumes nothing.
+use Prim.Native.Nat.{ℕ, _<_, _≤_}
+use mathlib.Core.List.{List, [], _∷_, _++_}
+use mathlib.Core.Logic.{_↔_}
+use mathlib.Core.Bool.{Bool, true, false}
+use mathlib.Core.Option.{Option, some}
+use mathlib.Core.Path.{_≡_}
+use lib.ListN.{length, set, take}
+use Rattle.octet.specs.Number.{Bytes}
+use Rattle.refusal.specs.Table.{appliesIn}
+use Rattle.wire_fields.specs.Shapes.{Kind}
+use Rattle.wire_fields.specs.Message.{Contents, Formed, Message, WellFormed, Reads, layoutOf, bytesOf, cleared}
+use Rattle.wire_fields.specs.Refusals.{refusals}
+use Rattle.wire_read.specs.declared.Answer.{Answer}
+use Rattle.wire_read.specs.Answers.{answer}
+use Rattle.wire_read.specs.Meaning.{numberOf, messageOf}
+use Rattle.wire_write.specs.Writing.{Made, Wrote}
+use Rattle.wire_write.specs.Sent.{ackMade}
+use Rattle.wire_write.specs.declared.Written.{Written}
+
+-- 1. At most one message is read from a datagram.
+abbrev pub AtMostOne : Type 0
+AtMostOne = (ks js : List Kind) (d : List ℕ) (m n : Message) → Reads ks d m → Reads js d n → m ≡ n
+
+-- 2. `read` gives the message that the datagram reads as, in the given major version, exactly when there is one; and it gives 0 just then.
+abbrev pub ReadGives : Type 0
+ReadGives =
+    (d : List ℕ) → Bytes d → (major : ℕ) (m : Message)
+    → (messageOf major d (answer d major) ≡ some m) ↔ ((ks : List Kind) × Reads ks d m × (m .major ≡ major))
+
+abbrev pub ReadAccepts : Type 0
+ReadAccepts =
+    (d : List ℕ) → Bytes d → (major : ℕ) → (numberOf (answer d major) ≡ 0) ↔ ((m : Message) × (messageOf major d (answer d major) ≡ some m))
+
+-- and a number is given exactly when it applies in document 01's table and no lower one does
+abbrev pub ReadRefuses : Type 0
+ReadRefuses =
+    (d : List ℕ) (major n : ℕ) → 0 < n
+    → (numberOf (answer d major) ≡ n) ↔ ((appliesIn n (refusals d major) ≡ true) × ((m : ℕ) → m < n → appliesIn m (refusals d major) ≡ false))
+
+-- 3. The bytes of a well-formed message of any type read back as it, and `read` gives it.
+abbrev pub WrittenReads : Type 0
+WrittenReads = (ks : List Kind) (m : Message) → WellFormed ks m → Reads ks (bytesOf (layoutOf ks m)) m
+
+abbrev pub WrittenRead : Type 0
+WrittenRead =
+    (ks : List Kind) (m : Message) → WellFormed ks m
+    → messageOf (m .major) (bytesOf (layoutOf ks m)) (answer (bytesOf (layoutOf ks m)) (m .major)) ≡ some m
+
+-- and so does what a writer leaves in the output where it gives 0: its first bytes, as many as it says, are the message's
+abbrev pub OutputReads : Type 0
+OutputReads =
+    (ks : List Kind) (m : Message) (ok : Bool) (old : List ℕ) (r : Written) (out : List ℕ) → WellFormed ks m
+    → Wrote (record { ok = ok; bytes = bytesOf (layoutOf ks m) }) old r out → r .number ≡ 0
+    → messageOf (m .major) (take (r .length) out) (answer (take (r .length) out) (m .major)) ≡ some m
+
+-- 4. What was read, written again, is the datagram with its ignored bits zero.
+abbrev pub ReadWritten : Type 0
+ReadWritten = (ks : List Kind) (d : List ℕ) (m : Message) → Reads ks d m → bytesOf (layoutOf ks m) ≡ cleared (layoutOf ks m) d
+
+-- 5. Any two answers that the contract of `read` allows are equal; of a writer, answers and outputs.
+abbrev pub ReadOne : Type 0
+ReadOne = (d : List ℕ) (major : ℕ) (r s : Answer) → r ≡ answer d major → s ≡ answer d major → r ≡ s
+
+abbrev pub WriteOne : Type 0
+WriteOne =
+    (m : Made) (old : List ℕ) (r s : Written) (out other : List ℕ) → Wrote m old r out → Wrote m old s other → (r ≡ s) × (out ≡ other)
+
+-- 6. Cases 10 and 11 of document 01, as rows: N, and the bytes of the ACK with versions 6 and 101, own ID 7, to ID D8859CF5.
+abbrev pub ackCases : List (Bool × List ℕ)
+ackCases =
+    (false, 0x00 ∷ 0x10 ∷ 0x00 ∷ 0x0C ∷ 0x51 ∷ 0x06 ∷ 0x65 ∷ 0x09 ∷ 0x00 ∷ 0x00 ∷ 0x00 ∷ 0x07 ∷ 0x00 ∷ 0x18 ∷ 0x00 ∷ 0x08 ∷ 0xD8 ∷ 0x85 ∷ 0x9C ∷ 0xF5 ∷ [])
+    ∷ (
+      true,
+      0x00 ∷ 0x10 ∷ 0x00 ∷ 0x0C ∷ 0x51 ∷ 0x06 ∷ 0x65 ∷ 0x09 ∷ 0x00 ∷ 0x00 ∷ 0x00 ∷ 0x07 ∷ 0x00 ∷ 0x18 ∷ 0x00 ∷ 0x08 ∷ 0xD8 ∷ 0x85 ∷ 0x9C ∷ 0xF5
+          ∷ 0x00 ∷ 0x40 ∷ 0x00 ∷ 0x06 ∷ 0x00 ∷ 0x01 ∷ [],
+    )
+    ∷ []
+
+abbrev pub AllAcks : List (Bool × List ℕ) → Type 0
+AllAcks [] = Unit {0}
+AllAcks (c ∷ cs) = (ackMade 6 101 7 0xD8859CF5 (c .0) .bytes ≡ c .1) × AllAcks cs
+
+abbrev pub AckCases : Type 0
+AckCases = AllAcks ackCases
+
+-- 7. A message with its fields changed, one optional field or that and the split controls that follow from it: if the changed fields are formed and what holds
+-- between them holds, its bytes read back as it.
+abbrev pub changed : Message → List Contents → Message
+changed m fs = record { major = m .major; minor = m .minor; type = m .type; id = m .id; fields = fs }
+
+abbrev pub ChangedReads : Type 0
+ChangedReads =
+    (ks : List Kind) (m : Message) (fs : List Contents) → WellFormed ks m → WellFormed ks (changed m fs)
+    → Reads ks (bytesOf (layoutOf ks (changed m fs))) (changed m fs)

@@ -1,0 +1,1 @@
+// The wire as an auditor reads it: statements in specs/, theorems of the same names in proofs/. No code.

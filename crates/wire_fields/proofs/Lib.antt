@@ -1,0 +1,11 @@
+pub mod ShapeLaws
+pub mod SpanLaws
+pub mod StepLaws
+pub mod SegmentLaws
+pub mod HeadLaws
+pub mod FieldLaws
+pub mod TableLaws
+pub mod KindLaws
+pub mod RefusalLaws
+pub mod WholeLaws
+pub mod BufferLaws

@@ -1,0 +1,58 @@
+// The fields of a datagram: number, length, contents, padding. A reading position is a value; each field read hands
+// back the place of the next.
+
+mod contents;
+mod position;
+
+pub use contents::has_shape;
+pub use position::byte;
+pub use position::padding;
+
+// A reading position: a place in the datagram.
+pub struct Cursor {
+    pub at: usize,
+}
+
+// A field's number and length read at a position, its contents not looked at.
+pub enum Span {
+    // Where the contents start, how many bytes they are, and the position past them and their padding.
+    Whole(usize, usize, Cursor),
+    // Another number stands there, or nothing.
+    Other,
+    // The length is wrong or runs past the end.
+    Cut,
+}
+
+// Where an optional field's contents start and how many bytes they are, if it is there.
+pub enum Part {
+    Here(usize, usize),
+    Absent,
+}
+
+// What a field's contents must look like.
+pub enum Shape {
+    // Just so many bytes.
+    Sized(usize),
+    // Any bytes.
+    Any,
+    // A route entry.
+    Entry,
+    // LOOKUP's controls.
+    Lookup,
+    // AUTHORITY's split controls.
+    Split,
+    // An array of elements: their number, their size, how many at least and at most.
+    Array(u16, u16, u16, u16),
+}
+
+// The answer of a field that must be there: where its contents start, their length, the next position.
+pub enum Need {
+    Field(usize, usize, Cursor),
+    Missing,
+}
+
+// The answer of a field that may be absent.
+pub enum Maybe {
+    Taken(Part, Cursor),
+    Malformed,
+}

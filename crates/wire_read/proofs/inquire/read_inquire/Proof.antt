@@ -1,0 +1,195 @@
+-- `wire_read::inquire::read_inquire` meets its contract: each field that is found, and the first that is not, is the definition's own step. Assumes nothing.
+use borrow.Author.Tests.{eq-eqb, ne-eqb}
+use mathlib.Core.Path.{sym, _∙_}
+use Rattle.wire_fields.specs.Kinds.{joined, sized}
+use Rattle.wire_fields.specs.Reading.{placesAt, fieldsAs}
+use Rattle.wire_read.specs.Answers.{shown}
+use borrow.Author.Needs.{needs}
+use Rattle.wire_read.proofs.inquire.read_inquire.Statement.{statement}
+use Rattle.wire_read.proofs.inquire.read_inquire.Tie as tie
+
+need-requires : tie.Need-need-requires
+need-requires c κs = search needs
+
+enum-known-flags : tie.Need-enum-known-flags
+enum-known-flags c = search needs
+
+enum-told : tie.Need-enum-told
+enum-told c = search needs
+
+returns : tie.Need-returns
+unfolding shown fieldsAs joined sized placesAt
+returns c =
+    rw (sym (c .before .before .need .ensures) ∙ c .enum-told .given .1)
+
+need-requires-2 : tie.Need-need-requires-2
+need-requires-2 c κs = search needs
+
+enum-known-validate : tie.Need-enum-known-validate
+enum-known-validate c = search needs
+
+enum-told-2 : tie.Need-enum-told-2
+enum-told-2 c = search needs
+
+returns-2 : tie.Need-returns-2
+unfolding shown fieldsAs joined sized placesAt
+returns-2 c =
+    rw (
+      sym (c .before .before .before .before .before .before .need .ensures) ∙ c .before .before .before .before .flags .given .1,
+      sym (c .before .before .need2 .ensures) ∙ c .enum-told2 .given .1,
+    )
+
+maybe-requires : tie.Need-maybe-requires
+maybe-requires c κs = search needs
+
+enum-known-nonce : tie.Need-enum-known-nonce
+enum-known-nonce c = search needs
+
+enum-told-3 : tie.Need-enum-told-3
+enum-told-3 c = search needs
+
+returns-3 : tie.Need-returns-3
+unfolding shown fieldsAs joined sized placesAt
+returns-3 c =
+    rw (
+      sym (c .before .before .before .before .before .before .before .before .before .before .need .ensures) ∙ c .before .before .before .before .before .before .before .before .flags .given .1,
+      sym (c .before .before .before .before .before .before .need2 .ensures) ∙ c .before .before .before .before .validate .given .1,
+      sym (c .before .before .maybe .ensures) ∙ c .enum-told3 .given .1,
+    )
+
+maybe-requires-2 : tie.Need-maybe-requires-2
+maybe-requires-2 c κs = search needs
+
+enum-known-credential : tie.Need-enum-known-credential
+enum-known-credential c = search needs
+
+enum-told-4 : tie.Need-enum-told-4
+enum-told-4 c = search needs
+
+returns-4 : tie.Need-returns-4
+unfolding shown fieldsAs joined sized placesAt
+returns-4 c =
+    rw (
+      sym (c .before .before .before .before .before .before .before .before .before .before .before .before .before .before .need .ensures) ∙ c .before .before .before .before .before .before .before .before .before .before .before .before .flags .given .1,
+      sym (c .before .before .before .before .before .before .before .before .before .before .need2 .ensures) ∙ c .before .before .before .before .before .before .before .before .validate .given .1,
+      sym (c .before .before .before .before .before .before .maybe .ensures) ∙ c .before .before .before .before .nonce .given .1,
+      sym (c .before .before .maybe2 .ensures) ∙ c .enum-told4 .given .1,
+    )
+
+maybe-requires-3 : tie.Need-maybe-requires-3
+maybe-requires-3 c κs = search needs
+
+enum-known-signature : tie.Need-enum-known-signature
+enum-known-signature c = search needs
+
+enum-told-5 : tie.Need-enum-told-5
+enum-told-5 c = search needs
+
+returns-5 : tie.Need-returns-5
+unfolding shown fieldsAs joined sized placesAt
+returns-5 c =
+    rw (
+      sym (c .before .before .before .before .before .before .before .before .before .before .before .before .before .before .before .before .before .before .need .ensures) ∙ c .before .before .before .before .before .before .before .before .before .before .before .before .before .before .before .before .flags .given .1,
+      sym (c .before .before .before .before .before .before .before .before .before .before .before .before .before .before .need2 .ensures) ∙ c .before .before .before .before .before .before .before .before .before .before .before .before .validate .given .1,
+      sym (c .before .before .before .before .before .before .before .before .before .before .maybe .ensures) ∙ c .before .before .before .before .before .before .before .before .nonce .given .1,
+      sym (c .before .before .before .before .before .before .maybe2 .ensures) ∙ c .before .before .before .before .credential .given .1,
+      sym (c .before .before .maybe3 .ensures) ∙ c .enum-told5 .given .1,
+    )
+
+maybe-requires-4 : tie.Need-maybe-requires-4
+maybe-requires-4 c κs = search needs
+
+enum-known-key : tie.Need-enum-known-key
+enum-known-key c = search needs
+
+enum-told-6 : tie.Need-enum-told-6
+enum-told-6 c = search needs
+
+returns-6 : tie.Need-returns-6
+unfolding shown fieldsAs joined sized placesAt
+returns-6 c =
+    rw (
+      sym (c .before .before .before .before .before .before .before .before .before .before .before .before .before .before .before .before .before .before .before .before .before .before .need .ensures) ∙ c .before .before .before .before .before .before .before .before .before .before .before .before .before .before .before .before .before .before .before .before .flags .given .1,
+      sym (c .before .before .before .before .before .before .before .before .before .before .before .before .before .before .before .before .before .before .need2 .ensures) ∙ c .before .before .before .before .before .before .before .before .before .before .before .before .before .before .before .before .validate .given .1,
+      sym (c .before .before .before .before .before .before .before .before .before .before .before .before .before .before .maybe .ensures) ∙ c .before .before .before .before .before .before .before .before .before .before .before .before .nonce .given .1,
+      sym (c .before .before .before .before .before .before .before .before .before .before .maybe2 .ensures) ∙ c .before .before .before .before .before .before .before .before .credential .given .1,
+      sym (c .before .before .before .before .before .before .maybe3 .ensures) ∙ c .before .before .before .before .signature .given .1,
+      sym (c .before .before .maybe4 .ensures) ∙ c .enum-told6 .given .1,
+    )
+
+returns-7 : tie.Need-returns-7
+unfolding shown fieldsAs joined sized placesAt
+returns-7 c =
+    rw (
+      sym (c .before .before .before .before .before .before .before .before .before .before .before .before .before .before .before .before .before .before .before .before .before .before .before .before .before .need .ensures) ∙ c .before .before .before .before .before .before .before .before .before .before .before .before .before .before .before .before .before .before .before .before .before .before .before .flags .given .1,
+      sym (c .before .before .before .before .before .before .before .before .before .before .before .before .before .before .before .before .before .before .before .before .before .need2 .ensures) ∙ c .before .before .before .before .before .before .before .before .before .before .before .before .before .before .before .before .before .before .before .validate .given .1,
+      sym (c .before .before .before .before .before .before .before .before .before .before .before .before .before .before .before .before .before .maybe .ensures) ∙ c .before .before .before .before .before .before .before .before .before .before .before .before .before .before .before .nonce .given .1,
+      sym (c .before .before .before .before .before .before .before .before .before .before .before .before .before .maybe2 .ensures) ∙ c .before .before .before .before .before .before .before .before .before .before .before .credential .given .1,
+      sym (c .before .before .before .before .before .before .before .before .before .maybe3 .ensures) ∙ c .before .before .before .before .before .before .before .signature .given .1,
+      sym (c .before .before .before .before .before .maybe4 .ensures) ∙ c .before .before .before .key .given .1,
+      ne-eqb _ _ (c .if1 .taken),
+    )
+
+head-requires : tie.Need-head-requires
+head-requires c κs = c .before .before .before .before .before .before .before .before .before .before .before .before .before .before .before .before .before .before .before .before .before .before .before .before .before .before .before .pre
+
+flag-requires : tie.Need-flag-requires
+flag-requires c κs = search needs
+
+flag-requires-2 : tie.Need-flag-requires-2
+flag-requires-2 c κs = search needs
+
+flag-requires-3 : tie.Need-flag-requires-3
+flag-requires-3 c κs = search needs
+
+returns-8 : tie.Need-returns-8
+unfolding shown fieldsAs joined sized placesAt
+returns-8 c =
+    rw (
+      sym (c .before .before .before .before .before .before .before .before .before .before .before .before .before .before .before .before .before .before .before .before .before .before .before .before .before .before .before .before .before .need .ensures) ∙ c .before .before .before .before .before .before .before .before .before .before .before .before .before .before .before .before .before .before .before .before .before .before .before .before .before .before .before .flags .given .1,
+      sym (c .before .before .before .before .before .before .before .before .before .before .before .before .before .before .before .before .before .before .before .before .before .before .before .before .before .need2 .ensures) ∙ c .before .before .before .before .before .before .before .before .before .before .before .before .before .before .before .before .before .before .before .before .before .before .before .validate .given .1,
+      sym (c .before .before .before .before .before .before .before .before .before .before .before .before .before .before .before .before .before .before .before .before .before .maybe .ensures) ∙ c .before .before .before .before .before .before .before .before .before .before .before .before .before .before .before .before .before .before .before .nonce .given .1,
+      sym (c .before .before .before .before .before .before .before .before .before .before .before .before .before .before .before .before .before .maybe2 .ensures) ∙ c .before .before .before .before .before .before .before .before .before .before .before .before .before .before .before .credential .given .1,
+      sym (c .before .before .before .before .before .before .before .before .before .before .before .before .before .maybe3 .ensures) ∙ c .before .before .before .before .before .before .before .before .before .before .before .signature .given .1,
+      sym (c .before .before .before .before .before .before .before .before .before .maybe4 .ensures) ∙ c .before .before .before .before .before .before .before .key .given .1,
+      eq-eqb _ _ (c .before .before .before .before .if1 .left),
+      c .before .before .before .head .ensures,
+      c .before .before .flag .ensures,
+      c .before .flag2 .ensures,
+      c .flag3 .ensures,
+    )
+
+pub read-inquire-spec : {M : Type 1} → statement M
+read-inquire-spec =
+    tie.close
+    (tie.spec
+    need-requires
+    enum-known-flags
+    enum-told
+    returns
+    need-requires-2
+    enum-known-validate
+    enum-told-2
+    returns-2
+    maybe-requires
+    enum-known-nonce
+    enum-told-3
+    returns-3
+    maybe-requires-2
+    enum-known-credential
+    enum-told-4
+    returns-4
+    maybe-requires-3
+    enum-known-signature
+    enum-told-5
+    returns-5
+    maybe-requires-4
+    enum-known-key
+    enum-told-6
+    returns-6
+    returns-7
+    head-requires
+    flag-requires
+    flag-requires-2
+    flag-requires-3
+    returns-8)

@@ -1,0 +1,257 @@
+-- `wire_read::lookup::read_lookup` meets its contract: each field that is found, and the first that is not, is the definition's own step. Assumes nothing.
+use borrow.Author.Tests.{eq-eqb, ne-eqb}
+use mathlib.Core.Path.{sym, _∙_}
+use Rattle.wire_fields.specs.Kinds.{joined, sized}
+use Rattle.wire_fields.specs.Reading.{placesAt, fieldsAs}
+use Rattle.wire_read.specs.Answers.{shown}
+use borrow.Author.Needs.{needs}
+use Rattle.wire_read.proofs.lookup.read_lookup.Statement.{statement}
+use Rattle.wire_read.proofs.lookup.read_lookup.Tie as tie
+
+need-requires : tie.Need-need-requires
+need-requires c κs = search needs
+
+enum-known-controls : tie.Need-enum-known-controls
+enum-known-controls c = search needs
+
+enum-told : tie.Need-enum-told
+enum-told c = search needs
+
+returns : tie.Need-returns
+unfolding shown fieldsAs joined sized placesAt
+returns c =
+    rw (sym (c .before .before .need .ensures) ∙ c .enum-told .given .1)
+
+need-requires-2 : tie.Need-need-requires-2
+need-requires-2 c κs = search needs
+
+enum-known-target : tie.Need-enum-known-target
+enum-known-target c = search needs
+
+enum-told-2 : tie.Need-enum-told-2
+enum-told-2 c = search needs
+
+returns-2 : tie.Need-returns-2
+unfolding shown fieldsAs joined sized placesAt
+returns-2 c =
+    rw (
+      sym (c .before .before .before .before .before .before .need .ensures) ∙ c .before .before .before .before .controls .given .1,
+      sym (c .before .before .need2 .ensures) ∙ c .enum-told2 .given .1,
+    )
+
+need-requires-3 : tie.Need-need-requires-3
+need-requires-3 c κs = search needs
+
+enum-known-validate : tie.Need-enum-known-validate
+enum-known-validate c = search needs
+
+enum-told-3 : tie.Need-enum-told-3
+enum-told-3 c = search needs
+
+returns-3 : tie.Need-returns-3
+unfolding shown fieldsAs joined sized placesAt
+returns-3 c =
+    rw (
+      sym (c .before .before .before .before .before .before .before .before .before .before .need .ensures) ∙ c .before .before .before .before .before .before .before .before .controls .given .1,
+      sym (c .before .before .before .before .before .before .need2 .ensures) ∙ c .before .before .before .before .target .given .1,
+      sym (c .before .before .need3 .ensures) ∙ c .enum-told3 .given .1,
+    )
+
+maybe-requires : tie.Need-maybe-requires
+maybe-requires c κs = search needs
+
+enum-known-entry : tie.Need-enum-known-entry
+enum-known-entry c = search needs
+
+enum-told-4 : tie.Need-enum-told-4
+enum-told-4 c = search needs
+
+returns-4 : tie.Need-returns-4
+unfolding shown fieldsAs joined sized placesAt
+returns-4 c =
+    rw (
+      sym (c .before .before .before .before .before .before .before .before .before .before .before .before .before .before .need .ensures) ∙ c .before .before .before .before .before .before .before .before .before .before .before .before .controls .given .1,
+      sym (c .before .before .before .before .before .before .before .before .before .before .need2 .ensures) ∙ c .before .before .before .before .before .before .before .before .target .given .1,
+      sym (c .before .before .before .before .before .before .need3 .ensures) ∙ c .before .before .before .before .validate .given .1,
+      sym (c .before .before .maybe .ensures) ∙ c .enum-told4 .given .1,
+    )
+
+need-requires-4 : tie.Need-need-requires-4
+need-requires-4 c κs = search needs
+
+enum-known-path : tie.Need-enum-known-path
+enum-known-path c = search needs
+
+enum-told-5 : tie.Need-enum-told-5
+enum-told-5 c = search needs
+
+returns-5 : tie.Need-returns-5
+unfolding shown fieldsAs joined sized placesAt
+returns-5 c =
+    rw (
+      sym (c .before .before .before .before .before .before .before .before .before .before .before .before .before .before .before .before .before .before .need .ensures) ∙ c .before .before .before .before .before .before .before .before .before .before .before .before .before .before .before .before .controls .given .1,
+      sym (c .before .before .before .before .before .before .before .before .before .before .before .before .before .before .need2 .ensures) ∙ c .before .before .before .before .before .before .before .before .before .before .before .before .target .given .1,
+      sym (c .before .before .before .before .before .before .before .before .before .before .need3 .ensures) ∙ c .before .before .before .before .before .before .before .before .validate .given .1,
+      sym (c .before .before .before .before .before .before .maybe .ensures) ∙ c .before .before .before .before .entry .given .1,
+      sym (c .before .before .need4 .ensures) ∙ c .enum-told5 .given .1,
+    )
+
+maybe-requires-2 : tie.Need-maybe-requires-2
+maybe-requires-2 c κs = search needs
+
+enum-known-credential : tie.Need-enum-known-credential
+enum-known-credential c = search needs
+
+enum-told-6 : tie.Need-enum-told-6
+enum-told-6 c = search needs
+
+returns-6 : tie.Need-returns-6
+unfolding shown fieldsAs joined sized placesAt
+returns-6 c =
+    rw (
+      sym (c .before .before .before .before .before .before .before .before .before .before .before .before .before .before .before .before .before .before .before .before .before .before .need .ensures) ∙ c .before .before .before .before .before .before .before .before .before .before .before .before .before .before .before .before .before .before .before .before .controls .given .1,
+      sym (c .before .before .before .before .before .before .before .before .before .before .before .before .before .before .before .before .before .before .need2 .ensures) ∙ c .before .before .before .before .before .before .before .before .before .before .before .before .before .before .before .before .target .given .1,
+      sym (c .before .before .before .before .before .before .before .before .before .before .before .before .before .before .need3 .ensures) ∙ c .before .before .before .before .before .before .before .before .before .before .before .before .validate .given .1,
+      sym (c .before .before .before .before .before .before .before .before .before .before .maybe .ensures) ∙ c .before .before .before .before .before .before .before .before .entry .given .1,
+      sym (c .before .before .before .before .before .before .need4 .ensures) ∙ c .before .before .before .before .path .given .1,
+      sym (c .before .before .maybe2 .ensures) ∙ c .enum-told6 .given .1,
+    )
+
+maybe-requires-3 : tie.Need-maybe-requires-3
+maybe-requires-3 c κs = search needs
+
+enum-known-signature : tie.Need-enum-known-signature
+enum-known-signature c = search needs
+
+enum-told-7 : tie.Need-enum-told-7
+enum-told-7 c = search needs
+
+returns-7 : tie.Need-returns-7
+unfolding shown fieldsAs joined sized placesAt
+returns-7 c =
+    rw (
+      sym (c .before .before .before .before .before .before .before .before .before .before .before .before .before .before .before .before .before .before .before .before .before .before .before .before .before .before .need .ensures) ∙ c .before .before .before .before .before .before .before .before .before .before .before .before .before .before .before .before .before .before .before .before .before .before .before .before .controls .given .1,
+      sym (c .before .before .before .before .before .before .before .before .before .before .before .before .before .before .before .before .before .before .before .before .before .before .need2 .ensures) ∙ c .before .before .before .before .before .before .before .before .before .before .before .before .before .before .before .before .before .before .before .before .target .given .1,
+      sym (c .before .before .before .before .before .before .before .before .before .before .before .before .before .before .before .before .before .before .need3 .ensures) ∙ c .before .before .before .before .before .before .before .before .before .before .before .before .before .before .before .before .validate .given .1,
+      sym (c .before .before .before .before .before .before .before .before .before .before .before .before .before .before .maybe .ensures) ∙ c .before .before .before .before .before .before .before .before .before .before .before .before .entry .given .1,
+      sym (c .before .before .before .before .before .before .before .before .before .before .need4 .ensures) ∙ c .before .before .before .before .before .before .before .before .path .given .1,
+      sym (c .before .before .before .before .before .before .maybe2 .ensures) ∙ c .before .before .before .before .credential .given .1,
+      sym (c .before .before .maybe3 .ensures) ∙ c .enum-told7 .given .1,
+    )
+
+maybe-requires-4 : tie.Need-maybe-requires-4
+maybe-requires-4 c κs = search needs
+
+enum-known-key : tie.Need-enum-known-key
+enum-known-key c = search needs
+
+enum-told-8 : tie.Need-enum-told-8
+enum-told-8 c = search needs
+
+returns-8 : tie.Need-returns-8
+unfolding shown fieldsAs joined sized placesAt
+returns-8 c =
+    rw (
+      sym (c .before .before .before .before .before .before .before .before .before .before .before .before .before .before .before .before .before .before .before .before .before .before .before .before .before .before .before .before .before .before .need .ensures) ∙ c .before .before .before .before .before .before .before .before .before .before .before .before .before .before .before .before .before .before .before .before .before .before .before .before .before .before .before .before .controls .given .1,
+      sym (c .before .before .before .before .before .before .before .before .before .before .before .before .before .before .before .before .before .before .before .before .before .before .before .before .before .before .need2 .ensures) ∙ c .before .before .before .before .before .before .before .before .before .before .before .before .before .before .before .before .before .before .before .before .before .before .before .before .target .given .1,
+      sym (c .before .before .before .before .before .before .before .before .before .before .before .before .before .before .before .before .before .before .before .before .before .before .need3 .ensures) ∙ c .before .before .before .before .before .before .before .before .before .before .before .before .before .before .before .before .before .before .before .before .validate .given .1,
+      sym (c .before .before .before .before .before .before .before .before .before .before .before .before .before .before .before .before .before .before .maybe .ensures) ∙ c .before .before .before .before .before .before .before .before .before .before .before .before .before .before .before .before .entry .given .1,
+      sym (c .before .before .before .before .before .before .before .before .before .before .before .before .before .before .need4 .ensures) ∙ c .before .before .before .before .before .before .before .before .before .before .before .before .path .given .1,
+      sym (c .before .before .before .before .before .before .before .before .before .before .maybe2 .ensures) ∙ c .before .before .before .before .before .before .before .before .credential .given .1,
+      sym (c .before .before .before .before .before .before .maybe3 .ensures) ∙ c .before .before .before .before .signature .given .1,
+      sym (c .before .before .maybe4 .ensures) ∙ c .enum-told8 .given .1,
+    )
+
+returns-9 : tie.Need-returns-9
+unfolding shown fieldsAs joined sized placesAt
+returns-9 c =
+    rw (
+      sym (c .before .before .before .before .before .before .before .before .before .before .before .before .before .before .before .before .before .before .before .before .before .before .before .before .before .before .before .before .before .before .before .before .before .need .ensures) ∙ c .before .before .before .before .before .before .before .before .before .before .before .before .before .before .before .before .before .before .before .before .before .before .before .before .before .before .before .before .before .before .before .controls .given .1,
+      sym (c .before .before .before .before .before .before .before .before .before .before .before .before .before .before .before .before .before .before .before .before .before .before .before .before .before .before .before .before .before .need2 .ensures) ∙ c .before .before .before .before .before .before .before .before .before .before .before .before .before .before .before .before .before .before .before .before .before .before .before .before .before .before .before .target .given .1,
+      sym (c .before .before .before .before .before .before .before .before .before .before .before .before .before .before .before .before .before .before .before .before .before .before .before .before .before .need3 .ensures) ∙ c .before .before .before .before .before .before .before .before .before .before .before .before .before .before .before .before .before .before .before .before .before .before .before .validate .given .1,
+      sym (c .before .before .before .before .before .before .before .before .before .before .before .before .before .before .before .before .before .before .before .before .before .maybe .ensures) ∙ c .before .before .before .before .before .before .before .before .before .before .before .before .before .before .before .before .before .before .before .entry .given .1,
+      sym (c .before .before .before .before .before .before .before .before .before .before .before .before .before .before .before .before .before .need4 .ensures) ∙ c .before .before .before .before .before .before .before .before .before .before .before .before .before .before .before .path .given .1,
+      sym (c .before .before .before .before .before .before .before .before .before .before .before .before .before .maybe2 .ensures) ∙ c .before .before .before .before .before .before .before .before .before .before .before .credential .given .1,
+      sym (c .before .before .before .before .before .before .before .before .before .maybe3 .ensures) ∙ c .before .before .before .before .before .before .before .signature .given .1,
+      sym (c .before .before .before .before .before .maybe4 .ensures) ∙ c .before .before .before .key .given .1,
+      ne-eqb _ _ (c .if1 .taken),
+    )
+
+head-requires : tie.Need-head-requires
+head-requires c κs = c .before .before .before .before .before .before .before .before .before .before .before .before .before .before .before .before .before .before .before .before .before .before .before .before .before .before .before .before .before .before .before .before .before .before .before .pre
+
+flag-requires : tie.Need-flag-requires
+flag-requires c κs = search needs
+
+precision-requires : tie.Need-precision-requires
+precision-requires c κs = search needs
+
+byte-from-requires : tie.Need-byte-from-requires
+byte-from-requires c κs = search needs
+
+byte-from-requires-2 : tie.Need-byte-from-requires-2
+byte-from-requires-2 c κs = search needs
+
+returns-10 : tie.Need-returns-10
+unfolding shown fieldsAs joined sized placesAt
+returns-10 c =
+    rw (
+      sym (c .before .before .before .before .before .before .before .before .before .before .before .before .before .before .before .before .before .before .before .before .before .before .before .before .before .before .before .before .before .before .before .before .before .before .before .before .before .before .need .ensures) ∙ c .before .before .before .before .before .before .before .before .before .before .before .before .before .before .before .before .before .before .before .before .before .before .before .before .before .before .before .before .before .before .before .before .before .before .before .before .controls .given .1,
+      sym (c .before .before .before .before .before .before .before .before .before .before .before .before .before .before .before .before .before .before .before .before .before .before .before .before .before .before .before .before .before .before .before .before .before .before .need2 .ensures) ∙ c .before .before .before .before .before .before .before .before .before .before .before .before .before .before .before .before .before .before .before .before .before .before .before .before .before .before .before .before .before .before .before .before .target .given .1,
+      sym (c .before .before .before .before .before .before .before .before .before .before .before .before .before .before .before .before .before .before .before .before .before .before .before .before .before .before .before .before .before .before .need3 .ensures) ∙ c .before .before .before .before .before .before .before .before .before .before .before .before .before .before .before .before .before .before .before .before .before .before .before .before .before .before .before .before .validate .given .1,
+      sym (c .before .before .before .before .before .before .before .before .before .before .before .before .before .before .before .before .before .before .before .before .before .before .before .before .before .before .maybe .ensures) ∙ c .before .before .before .before .before .before .before .before .before .before .before .before .before .before .before .before .before .before .before .before .before .before .before .before .entry .given .1,
+      sym (c .before .before .before .before .before .before .before .before .before .before .before .before .before .before .before .before .before .before .before .before .before .before .need4 .ensures) ∙ c .before .before .before .before .before .before .before .before .before .before .before .before .before .before .before .before .before .before .before .before .path .given .1,
+      sym (c .before .before .before .before .before .before .before .before .before .before .before .before .before .before .before .before .before .before .maybe2 .ensures) ∙ c .before .before .before .before .before .before .before .before .before .before .before .before .before .before .before .before .credential .given .1,
+      sym (c .before .before .before .before .before .before .before .before .before .before .before .before .before .before .maybe3 .ensures) ∙ c .before .before .before .before .before .before .before .before .before .before .before .before .signature .given .1,
+      sym (c .before .before .before .before .before .before .before .before .before .before .maybe4 .ensures) ∙ c .before .before .before .before .before .before .before .before .key .given .1,
+      eq-eqb _ _ (c .before .before .before .before .before .if1 .left),
+      c .before .before .before .before .head .ensures,
+      c .before .before .before .flag .ensures,
+      c .before .before .precision .ensures,
+      c .before .byte-from .ensures,
+      c .byte-from2 .ensures,
+    )
+
+pub read-lookup-spec : {M : Type 1} → statement M
+read-lookup-spec =
+    tie.close
+    (tie.spec
+    need-requires
+    enum-known-controls
+    enum-told
+    returns
+    need-requires-2
+    enum-known-target
+    enum-told-2
+    returns-2
+    need-requires-3
+    enum-known-validate
+    enum-told-3
+    returns-3
+    maybe-requires
+    enum-known-entry
+    enum-told-4
+    returns-4
+    need-requires-4
+    enum-known-path
+    enum-told-5
+    returns-5
+    maybe-requires-2
+    enum-known-credential
+    enum-told-6
+    returns-6
+    maybe-requires-3
+    enum-known-signature
+    enum-told-7
+    returns-7
+    maybe-requires-4
+    enum-known-key
+    enum-told-8
+    returns-8
+    returns-9
+    head-requires
+    flag-requires
+    precision-requires
+    byte-from-requires
+    byte-from-requires-2
+    returns-10)

@@ -1,0 +1,174 @@
+-- `wire_read::read` meets its contract: the code's steps are the table's (found-steps), and each type's reader gives what its fields give. Assumes nothing.
+use borrow.Author.Tests.{le-leb, lt-leb, eq-eqb, ne-eqb, not-true, not-false}
+use native.Mathlib.Omega.{arith}
+use mathlib.Core.Path.{sym, _∙_}
+use lib.ListN.{length, getD, length-take}
+use denote.Ref.{now}
+use Rattle.wire_fields.specs.Kinds.{kindsOf}
+use Rattle.wire_fields.specs.Refusals.{inPart}
+use Rattle.wire_fields.proofs.RefusalLaws.{inSteps, found-steps}
+use Rattle.wire_read.specs.Answers.{shown}
+use borrow.Author.Needs.{needs}
+use Rattle.wire_read.proofs.read.Statement.{statement}
+use Rattle.wire_read.proofs.read.Tie as tie
+
+returns : tie.Need-returns
+unfolding shown inSteps
+returns c =
+    let d = now (c .before .before .args .d) in
+    let major = c .before .before .args .major in
+    rw (found-steps d major, lt-leb 12 (length d) (omega arith))
+
+returns-2 : tie.Need-returns-2
+unfolding shown inSteps
+returns-2 c =
+    let d = now (c .before .before .before .args .d) in
+    let major = c .before .before .before .args .major in
+    rw (found-steps d major, le-leb 12 (length d) (omega arith), lt-leb (length d) 1232 (omega arith))
+
+slice-aggregate-equal : tie.Need-slice-aggregate-equal
+slice-aggregate-equal c = simp length-take (omega arith)
+
+slice-aggregate-equal-2 : tie.Need-slice-aggregate-equal-2
+slice-aggregate-equal-2 c = search needs
+
+equal-requires : tie.Need-equal-requires
+equal-requires c κs = search needs
+
+returns-3 : tie.Need-returns-3
+unfolding shown inSteps
+returns-3 c =
+    let d = now (c .before .before .before .before .before .before .before .args .d) in
+    let major = c .before .before .before .before .before .before .before .args .major in
+    rw (found-steps d major, le-leb 12 (length d) (omega arith), le-leb (length d) 1232 (omega arith), sym (c .before .equal .ensures) ∙ not-true _ (c .if3 .taken))
+
+shared-slice-read-if4 : tie.Need-shared-slice-read-if4
+shared-slice-read-if4 c = search needs
+
+returns-4 : tie.Need-returns-4
+unfolding shown inSteps
+returns-4 c =
+    let d = now (c .before .before .before .before .before .before .before .before .before .args .d) in
+    let major = c .before .before .before .before .before .before .before .before .before .args .major in
+    rw (found-steps d major, le-leb 12 (length d) (omega arith), le-leb (length d) 1232 (omega arith), sym (c .before .before .before .equal .ensures) ∙ not-false _ (c .before .before .if3 .left), ne-eqb (getD d 5 0) major (c .if4 .taken))
+
+shared-slice-read-kind : tie.Need-shared-slice-read-kind
+shared-slice-read-kind c = search needs
+
+read-solicit-requires : tie.Need-read-solicit-requires
+read-solicit-requires c κs = omega arith
+
+read-advertise-requires : tie.Need-read-advertise-requires
+read-advertise-requires c κs = omega arith
+
+read-request-requires : tie.Need-read-request-requires
+read-request-requires c κs = omega arith
+
+read-flood-requires : tie.Need-read-flood-requires
+read-flood-requires c κs = omega arith
+
+read-inquire-requires : tie.Need-read-inquire-requires
+read-inquire-requires c κs = omega arith
+
+read-authority-requires : tie.Need-read-authority-requires
+read-authority-requires c κs = omega arith
+
+read-ack-requires : tie.Need-read-ack-requires
+read-ack-requires c κs = omega arith
+
+read-lookup-requires : tie.Need-read-lookup-requires
+read-lookup-requires c κs = omega arith
+
+returns-5 : tie.Need-returns-5
+unfolding inSteps kindsOf inPart
+returns-5 c =
+    let d = now (c .before .before .before .before .before .before .before .before .before .before .before .before .args .d) in
+    let major = c .before .before .before .before .before .before .before .before .before .before .before .before .args .major in
+    rw (found-steps d major, le-leb 12 (length d) (omega arith), le-leb (length d) 1232 (omega arith), sym (c .before .before .before .before .before .before .equal .ensures) ∙ not-false _ (c .before .before .before .before .before .if3 .left), eq-eqb (getD d 5 0) major (c .before .before .before .if4 .left), c .before .match .keys1) (c .read-solicit .ensures)
+
+returns-6 : tie.Need-returns-6
+unfolding inSteps kindsOf inPart
+returns-6 c =
+    let d = now (c .before .before .before .before .before .before .before .before .before .before .before .before .args .d) in
+    let major = c .before .before .before .before .before .before .before .before .before .before .before .before .args .major in
+    rw (found-steps d major, le-leb 12 (length d) (omega arith), le-leb (length d) 1232 (omega arith), sym (c .before .before .before .before .before .before .equal .ensures) ∙ not-false _ (c .before .before .before .before .before .if3 .left), eq-eqb (getD d 5 0) major (c .before .before .before .if4 .left), c .before .match .keys2) (c .read-advertise .ensures)
+
+returns-7 : tie.Need-returns-7
+unfolding inSteps kindsOf inPart
+returns-7 c =
+    let d = now (c .before .before .before .before .before .before .before .before .before .before .before .before .args .d) in
+    let major = c .before .before .before .before .before .before .before .before .before .before .before .before .args .major in
+    rw (found-steps d major, le-leb 12 (length d) (omega arith), le-leb (length d) 1232 (omega arith), sym (c .before .before .before .before .before .before .equal .ensures) ∙ not-false _ (c .before .before .before .before .before .if3 .left), eq-eqb (getD d 5 0) major (c .before .before .before .if4 .left), c .before .match .keys3) (c .read-request .ensures)
+
+returns-8 : tie.Need-returns-8
+unfolding inSteps kindsOf inPart
+returns-8 c =
+    let d = now (c .before .before .before .before .before .before .before .before .before .before .before .before .args .d) in
+    let major = c .before .before .before .before .before .before .before .before .before .before .before .before .args .major in
+    rw (found-steps d major, le-leb 12 (length d) (omega arith), le-leb (length d) 1232 (omega arith), sym (c .before .before .before .before .before .before .equal .ensures) ∙ not-false _ (c .before .before .before .before .before .if3 .left), eq-eqb (getD d 5 0) major (c .before .before .before .if4 .left), c .before .match .keys4) (c .read-flood .ensures)
+
+returns-9 : tie.Need-returns-9
+unfolding inSteps kindsOf inPart
+returns-9 c =
+    let d = now (c .before .before .before .before .before .before .before .before .before .before .before .before .args .d) in
+    let major = c .before .before .before .before .before .before .before .before .before .before .before .before .args .major in
+    rw (found-steps d major, le-leb 12 (length d) (omega arith), le-leb (length d) 1232 (omega arith), sym (c .before .before .before .before .before .before .equal .ensures) ∙ not-false _ (c .before .before .before .before .before .if3 .left), eq-eqb (getD d 5 0) major (c .before .before .before .if4 .left), c .before .match .keys5) (c .read-inquire .ensures)
+
+returns-10 : tie.Need-returns-10
+unfolding inSteps kindsOf
+returns-10 c =
+    let d = now (c .before .before .before .before .before .before .before .before .before .before .before .before .args .d) in
+    let major = c .before .before .before .before .before .before .before .before .before .before .before .before .args .major in
+    rw (found-steps d major, le-leb 12 (length d) (omega arith), le-leb (length d) 1232 (omega arith), sym (c .before .before .before .before .before .before .equal .ensures) ∙ not-false _ (c .before .before .before .before .before .if3 .left), eq-eqb (getD d 5 0) major (c .before .before .before .if4 .left), c .before .match .keys6) (c .read-authority .ensures)
+
+returns-11 : tie.Need-returns-11
+unfolding inSteps kindsOf inPart
+returns-11 c =
+    let d = now (c .before .before .before .before .before .before .before .before .before .before .before .before .args .d) in
+    let major = c .before .before .before .before .before .before .before .before .before .before .before .before .args .major in
+    rw (found-steps d major, le-leb 12 (length d) (omega arith), le-leb (length d) 1232 (omega arith), sym (c .before .before .before .before .before .before .equal .ensures) ∙ not-false _ (c .before .before .before .before .before .if3 .left), eq-eqb (getD d 5 0) major (c .before .before .before .if4 .left), c .before .match .keys7) (c .read-ack .ensures)
+
+returns-12 : tie.Need-returns-12
+unfolding inSteps kindsOf inPart
+returns-12 c =
+    let d = now (c .before .before .before .before .before .before .before .before .before .before .before .before .args .d) in
+    let major = c .before .before .before .before .before .before .before .before .before .before .before .before .args .major in
+    rw (found-steps d major, le-leb 12 (length d) (omega arith), le-leb (length d) 1232 (omega arith), sym (c .before .before .before .before .before .before .equal .ensures) ∙ not-false _ (c .before .before .before .before .before .if3 .left), eq-eqb (getD d 5 0) major (c .before .before .before .if4 .left), c .before .match .keys8) (c .read-lookup .ensures)
+
+returns-13 : tie.Need-returns-13
+unfolding shown inSteps kindsOf
+returns-13 c =
+    let d = now (c .before .before .before .before .before .before .before .before .before .before .before .args .d) in
+    let major = c .before .before .before .before .before .before .before .before .before .before .before .args .major in
+    rw (found-steps d major, le-leb 12 (length d) (omega arith), le-leb (length d) 1232 (omega arith), sym (c .before .before .before .before .before .equal .ensures) ∙ not-false _ (c .before .before .before .before .if3 .left), eq-eqb (getD d 5 0) major (c .before .before .if4 .left), ne-eqb (getD d 7 0) 1 (c .match .rest .0 .0 .0 .0 .0 .0 .0 .1), ne-eqb (getD d 7 0) 2 (c .match .rest .0 .0 .0 .0 .0 .0 .1), ne-eqb (getD d 7 0) 3 (c .match .rest .0 .0 .0 .0 .0 .1), ne-eqb (getD d 7 0) 4 (c .match .rest .0 .0 .0 .0 .1), ne-eqb (getD d 7 0) 7 (c .match .rest .0 .0 .0 .1), ne-eqb (getD d 7 0) 8 (c .match .rest .0 .0 .1), ne-eqb (getD d 7 0) 9 (c .match .rest .0 .1), ne-eqb (getD d 7 0) 11 (c .match .rest .1))
+
+pub read-spec : {M : Type 1} → statement M
+read-spec =
+    tie.close
+    (tie.spec
+    returns
+    returns-2
+    slice-aggregate-equal
+    slice-aggregate-equal-2
+    equal-requires
+    returns-3
+    shared-slice-read-if4
+    returns-4
+    shared-slice-read-kind
+    read-solicit-requires
+    read-advertise-requires
+    read-request-requires
+    read-flood-requires
+    read-inquire-requires
+    read-authority-requires
+    read-ack-requires
+    read-lookup-requires
+    returns-5
+    returns-6
+    returns-7
+    returns-8
+    returns-9
+    returns-10
+    returns-11
+    returns-12
+    returns-13)

@@ -1,0 +1,244 @@
+-- `wire_read::request::read_request` meets its contract: each field that is found, and the first that is not, is the definition's own step. Assumes nothing.
+use borrow.Author.Tests.{eq-eqb, ne-eqb, not-true, not-false}
+use denote.Ref.{now}
+use mathlib.Core.Path.{sym, _∙_}
+use Rattle.wire_fields.specs.Kinds.{joined, sized}
+use Rattle.wire_fields.specs.Reading.{placesAt, fieldsAs}
+use Rattle.wire_fields.specs.declared.Shape.the-variants.{Sized}
+use Rattle.wire_fields.proofs.RefusalLaws.{split-value, maybe-four, sized-four}
+use Rattle.wire_read.specs.Answers.{shown}
+use borrow.Author.Needs.{needs}
+use Rattle.wire_read.proofs.request.read_request.Statement.{statement}
+use Rattle.wire_read.proofs.request.read_request.Tie as tie
+
+maybe-requires : tie.Need-maybe-requires
+maybe-requires c κs = search needs
+
+enum-known-flags : tie.Need-enum-known-flags
+enum-known-flags c = search needs
+
+enum-told : tie.Need-enum-told
+enum-told c = search needs
+
+returns : tie.Need-returns
+unfolding shown fieldsAs joined sized placesAt
+returns c =
+    rw (sym (c .before .before .maybe .ensures) ∙ c .enum-told .given .1)
+
+maybe-requires-2 : tie.Need-maybe-requires-2
+maybe-requires-2 c κs = search needs
+
+enum-known-split : tie.Need-enum-known-split
+enum-known-split c = search needs
+
+enum-told-2 : tie.Need-enum-told-2
+enum-told-2 c = search needs
+
+returns-2 : tie.Need-returns-2
+unfolding shown fieldsAs joined sized placesAt
+returns-2 c =
+    rw (
+      sym (c .before .before .before .before .before .before .maybe .ensures) ∙ c .before .before .before .before .flags .given .1,
+      sym (c .before .before .maybe2 .ensures) ∙ c .enum-told2 .given .1,
+    )
+
+need-requires : tie.Need-need-requires
+need-requires c κs = search needs
+
+enum-known-nonce : tie.Need-enum-known-nonce
+enum-known-nonce c = search needs
+
+enum-told-3 : tie.Need-enum-told-3
+enum-told-3 c = search needs
+
+returns-3 : tie.Need-returns-3
+unfolding shown fieldsAs joined sized placesAt
+returns-3 c =
+    rw (
+      sym (c .before .before .before .before .before .before .before .before .before .before .maybe .ensures) ∙ c .before .before .before .before .before .before .before .before .flags .given .1,
+      sym (c .before .before .before .before .before .before .maybe2 .ensures) ∙ c .before .before .before .before .split .given .1,
+      sym (c .before .before .need .ensures) ∙ c .enum-told3 .given .1,
+    )
+
+need-requires-2 : tie.Need-need-requires-2
+need-requires-2 c κs = search needs
+
+enum-known-keys : tie.Need-enum-known-keys
+enum-known-keys c = search needs
+
+enum-told-4 : tie.Need-enum-told-4
+enum-told-4 c = search needs
+
+returns-4 : tie.Need-returns-4
+unfolding shown fieldsAs joined sized placesAt
+returns-4 c =
+    rw (
+      sym (c .before .before .before .before .before .before .before .before .before .before .before .before .before .before .maybe .ensures) ∙ c .before .before .before .before .before .before .before .before .before .before .before .before .flags .given .1,
+      sym (c .before .before .before .before .before .before .before .before .before .before .maybe2 .ensures) ∙ c .before .before .before .before .before .before .before .before .split .given .1,
+      sym (c .before .before .before .before .before .before .need .ensures) ∙ c .before .before .before .before .nonce .given .1,
+      sym (c .before .before .need2 .ensures) ∙ c .enum-told4 .given .1,
+    )
+
+maybe-requires-3 : tie.Need-maybe-requires-3
+maybe-requires-3 c κs = search needs
+
+enum-known-credential : tie.Need-enum-known-credential
+enum-known-credential c = search needs
+
+enum-told-5 : tie.Need-enum-told-5
+enum-told-5 c = search needs
+
+returns-5 : tie.Need-returns-5
+unfolding shown fieldsAs joined sized placesAt
+returns-5 c =
+    rw (
+      sym (c .before .before .before .before .before .before .before .before .before .before .before .before .before .before .before .before .before .before .maybe .ensures) ∙ c .before .before .before .before .before .before .before .before .before .before .before .before .before .before .before .before .flags .given .1,
+      sym (c .before .before .before .before .before .before .before .before .before .before .before .before .before .before .maybe2 .ensures) ∙ c .before .before .before .before .before .before .before .before .before .before .before .before .split .given .1,
+      sym (c .before .before .before .before .before .before .before .before .before .before .need .ensures) ∙ c .before .before .before .before .before .before .before .before .nonce .given .1,
+      sym (c .before .before .before .before .before .before .need2 .ensures) ∙ c .before .before .before .before .keys .given .1,
+      sym (c .before .before .maybe3 .ensures) ∙ c .enum-told5 .given .1,
+    )
+
+maybe-requires-4 : tie.Need-maybe-requires-4
+maybe-requires-4 c κs = search needs
+
+enum-known-signature : tie.Need-enum-known-signature
+enum-known-signature c = search needs
+
+enum-told-6 : tie.Need-enum-told-6
+enum-told-6 c = search needs
+
+returns-6 : tie.Need-returns-6
+unfolding shown fieldsAs joined sized placesAt
+returns-6 c =
+    rw (
+      sym (c .before .before .before .before .before .before .before .before .before .before .before .before .before .before .before .before .before .before .before .before .before .before .maybe .ensures) ∙ c .before .before .before .before .before .before .before .before .before .before .before .before .before .before .before .before .before .before .before .before .flags .given .1,
+      sym (c .before .before .before .before .before .before .before .before .before .before .before .before .before .before .before .before .before .before .maybe2 .ensures) ∙ c .before .before .before .before .before .before .before .before .before .before .before .before .before .before .before .before .split .given .1,
+      sym (c .before .before .before .before .before .before .before .before .before .before .before .before .before .before .need .ensures) ∙ c .before .before .before .before .before .before .before .before .before .before .before .before .nonce .given .1,
+      sym (c .before .before .before .before .before .before .before .before .before .before .need2 .ensures) ∙ c .before .before .before .before .before .before .before .before .keys .given .1,
+      sym (c .before .before .before .before .before .before .maybe3 .ensures) ∙ c .before .before .before .before .credential .given .1,
+      sym (c .before .before .maybe4 .ensures) ∙ c .enum-told6 .given .1,
+    )
+
+maybe-requires-5 : tie.Need-maybe-requires-5
+maybe-requires-5 c κs = search needs
+
+enum-known-key : tie.Need-enum-known-key
+enum-known-key c = search needs
+
+enum-told-7 : tie.Need-enum-told-7
+enum-told-7 c = search needs
+
+returns-7 : tie.Need-returns-7
+unfolding shown fieldsAs joined sized placesAt
+returns-7 c =
+    rw (
+      sym (c .before .before .before .before .before .before .before .before .before .before .before .before .before .before .before .before .before .before .before .before .before .before .before .before .before .before .maybe .ensures) ∙ c .before .before .before .before .before .before .before .before .before .before .before .before .before .before .before .before .before .before .before .before .before .before .before .before .flags .given .1,
+      sym (c .before .before .before .before .before .before .before .before .before .before .before .before .before .before .before .before .before .before .before .before .before .before .maybe2 .ensures) ∙ c .before .before .before .before .before .before .before .before .before .before .before .before .before .before .before .before .before .before .before .before .split .given .1,
+      sym (c .before .before .before .before .before .before .before .before .before .before .before .before .before .before .before .before .before .before .need .ensures) ∙ c .before .before .before .before .before .before .before .before .before .before .before .before .before .before .before .before .nonce .given .1,
+      sym (c .before .before .before .before .before .before .before .before .before .before .before .before .before .before .need2 .ensures) ∙ c .before .before .before .before .before .before .before .before .before .before .before .before .keys .given .1,
+      sym (c .before .before .before .before .before .before .before .before .before .before .maybe3 .ensures) ∙ c .before .before .before .before .before .before .before .before .credential .given .1,
+      sym (c .before .before .before .before .before .before .maybe4 .ensures) ∙ c .before .before .before .before .signature .given .1,
+      sym (c .before .before .maybe5 .ensures) ∙ c .enum-told7 .given .1,
+    )
+
+returns-8 : tie.Need-returns-8
+unfolding shown fieldsAs joined sized placesAt
+returns-8 c =
+    rw (
+      sym (c .before .before .before .before .before .before .before .before .before .before .before .before .before .before .before .before .before .before .before .before .before .before .before .before .before .before .before .before .before .maybe .ensures) ∙ c .before .before .before .before .before .before .before .before .before .before .before .before .before .before .before .before .before .before .before .before .before .before .before .before .before .before .before .flags .given .1,
+      sym (c .before .before .before .before .before .before .before .before .before .before .before .before .before .before .before .before .before .before .before .before .before .before .before .before .before .maybe2 .ensures) ∙ c .before .before .before .before .before .before .before .before .before .before .before .before .before .before .before .before .before .before .before .before .before .before .before .split .given .1,
+      sym (c .before .before .before .before .before .before .before .before .before .before .before .before .before .before .before .before .before .before .before .before .before .need .ensures) ∙ c .before .before .before .before .before .before .before .before .before .before .before .before .before .before .before .before .before .before .before .nonce .given .1,
+      sym (c .before .before .before .before .before .before .before .before .before .before .before .before .before .before .before .before .before .need2 .ensures) ∙ c .before .before .before .before .before .before .before .before .before .before .before .before .before .before .before .keys .given .1,
+      sym (c .before .before .before .before .before .before .before .before .before .before .before .before .before .maybe3 .ensures) ∙ c .before .before .before .before .before .before .before .before .before .before .before .credential .given .1,
+      sym (c .before .before .before .before .before .before .before .before .before .maybe4 .ensures) ∙ c .before .before .before .before .before .before .before .signature .given .1,
+      sym (c .before .before .before .before .before .maybe5 .ensures) ∙ c .before .before .before .key .given .1,
+      ne-eqb _ _ (c .if1 .taken),
+    )
+
+is-whole-requires : tie.Need-is-whole-requires
+is-whole-requires c κs = maybe-four (now (c .before .before .before .before .before .before .before .before .before .before .before .before .before .before .before .before .before .before .before .before .before .before .before .before .before .before .before .before .before .before .before .args .d)) _ _ _ (Sized 4) sized-four _ _ (sym (c .before .before .before .before .before .before .before .before .before .before .before .before .before .before .before .before .before .before .before .before .before .before .before .before .before .maybe2 .ensures) ∙ c .before .before .before .before .before .before .before .before .before .before .before .before .before .before .before .before .before .before .before .before .before .before .before .split .given .1)
+
+returns-9 : tie.Need-returns-9
+unfolding shown fieldsAs joined sized placesAt
+returns-9 c =
+    rw (
+      sym (c .before .before .before .before .before .before .before .before .before .before .before .before .before .before .before .before .before .before .before .before .before .before .before .before .before .before .before .before .before .before .before .maybe .ensures) ∙ c .before .before .before .before .before .before .before .before .before .before .before .before .before .before .before .before .before .before .before .before .before .before .before .before .before .before .before .before .before .flags .given .1,
+      sym (c .before .before .before .before .before .before .before .before .before .before .before .before .before .before .before .before .before .before .before .before .before .before .before .before .before .before .before .maybe2 .ensures) ∙ c .before .before .before .before .before .before .before .before .before .before .before .before .before .before .before .before .before .before .before .before .before .before .before .before .before .split .given .1,
+      sym (c .before .before .before .before .before .before .before .before .before .before .before .before .before .before .before .before .before .before .before .before .before .before .before .need .ensures) ∙ c .before .before .before .before .before .before .before .before .before .before .before .before .before .before .before .before .before .before .before .before .before .nonce .given .1,
+      sym (c .before .before .before .before .before .before .before .before .before .before .before .before .before .before .before .before .before .before .before .need2 .ensures) ∙ c .before .before .before .before .before .before .before .before .before .before .before .before .before .before .before .before .before .keys .given .1,
+      sym (c .before .before .before .before .before .before .before .before .before .before .before .before .before .before .before .maybe3 .ensures) ∙ c .before .before .before .before .before .before .before .before .before .before .before .before .before .credential .given .1,
+      sym (c .before .before .before .before .before .before .before .before .before .before .before .maybe4 .ensures) ∙ c .before .before .before .before .before .before .before .before .before .signature .given .1,
+      sym (c .before .before .before .before .before .before .before .maybe5 .ensures) ∙ c .before .before .before .before .before .key .given .1,
+      eq-eqb _ _ (c .before .before .if1 .left),
+      split-value,
+      sym (c .before .is-whole .ensures) ∙ not-true _ (c .if2 .taken),
+    )
+
+is-here-requires : tie.Need-is-here-requires
+is-here-requires c κs = search needs
+
+is-here-requires-2 : tie.Need-is-here-requires-2
+is-here-requires-2 c κs = search needs
+
+head-requires : tie.Need-head-requires
+head-requires c κs = c .before .before .before .before .before .before .before .before .before .before .before .before .before .before .before .before .before .before .before .before .before .before .before .before .before .before .before .before .before .before .before .before .before .before .before .pre
+
+returns-10 : tie.Need-returns-10
+unfolding shown fieldsAs joined sized placesAt
+returns-10 c =
+    rw (
+      sym (c .before .before .before .before .before .before .before .before .before .before .before .before .before .before .before .before .before .before .before .before .before .before .before .before .before .before .before .before .before .before .before .before .before .before .maybe .ensures) ∙ c .before .before .before .before .before .before .before .before .before .before .before .before .before .before .before .before .before .before .before .before .before .before .before .before .before .before .before .before .before .before .before .before .flags .given .1,
+      sym (c .before .before .before .before .before .before .before .before .before .before .before .before .before .before .before .before .before .before .before .before .before .before .before .before .before .before .before .before .before .before .maybe2 .ensures) ∙ c .before .before .before .before .before .before .before .before .before .before .before .before .before .before .before .before .before .before .before .before .before .before .before .before .before .before .before .before .split .given .1,
+      sym (c .before .before .before .before .before .before .before .before .before .before .before .before .before .before .before .before .before .before .before .before .before .before .before .before .before .before .need .ensures) ∙ c .before .before .before .before .before .before .before .before .before .before .before .before .before .before .before .before .before .before .before .before .before .before .before .before .nonce .given .1,
+      sym (c .before .before .before .before .before .before .before .before .before .before .before .before .before .before .before .before .before .before .before .before .before .before .need2 .ensures) ∙ c .before .before .before .before .before .before .before .before .before .before .before .before .before .before .before .before .before .before .before .before .keys .given .1,
+      sym (c .before .before .before .before .before .before .before .before .before .before .before .before .before .before .before .before .before .before .maybe3 .ensures) ∙ c .before .before .before .before .before .before .before .before .before .before .before .before .before .before .before .before .credential .given .1,
+      sym (c .before .before .before .before .before .before .before .before .before .before .before .before .before .before .maybe4 .ensures) ∙ c .before .before .before .before .before .before .before .before .before .before .before .before .signature .given .1,
+      sym (c .before .before .before .before .before .before .before .before .before .before .maybe5 .ensures) ∙ c .before .before .before .before .before .before .before .before .key .given .1,
+      eq-eqb _ _ (c .before .before .before .before .before .if1 .left),
+      split-value,
+      sym (c .before .before .before .before .is-whole .ensures) ∙ not-false _ (c .before .before .before .if2 .left),
+      c .before .before .is-here .ensures,
+      c .before .is-here2 .ensures,
+      c .head .ensures,
+    )
+
+pub read-request-spec : {M : Type 1} → statement M
+read-request-spec =
+    tie.close
+    (tie.spec
+    maybe-requires
+    enum-known-flags
+    enum-told
+    returns
+    maybe-requires-2
+    enum-known-split
+    enum-told-2
+    returns-2
+    need-requires
+    enum-known-nonce
+    enum-told-3
+    returns-3
+    need-requires-2
+    enum-known-keys
+    enum-told-4
+    returns-4
+    maybe-requires-3
+    enum-known-credential
+    enum-told-5
+    returns-5
+    maybe-requires-4
+    enum-known-signature
+    enum-told-6
+    returns-6
+    maybe-requires-5
+    enum-known-key
+    enum-told-7
+    returns-7
+    returns-8
+    is-whole-requires
+    returns-9
+    is-here-requires
+    is-here-requires-2
+    head-requires
+    returns-10)

@@ -1,0 +1,78 @@
+-- `wire_read::solicit::read_solicit` meets its contract: each field that is found, and the first that is not, is the definition's own step. Assumes nothing.
+use borrow.Author.Tests.{eq-eqb, ne-eqb}
+use mathlib.Core.Path.{sym, _∙_}
+use Rattle.wire_fields.specs.Kinds.{joined, sized}
+use Rattle.wire_fields.specs.Reading.{placesAt, fieldsAs}
+use Rattle.wire_read.specs.Answers.{shown}
+use borrow.Author.Needs.{needs}
+use Rattle.wire_read.proofs.solicit.read_solicit.Statement.{statement}
+use Rattle.wire_read.proofs.solicit.read_solicit.Tie as tie
+
+maybe-requires : tie.Need-maybe-requires
+maybe-requires c κs = search needs
+
+enum-known-entry : tie.Need-enum-known-entry
+enum-known-entry c = search needs
+
+enum-told : tie.Need-enum-told
+enum-told c = search needs
+
+returns : tie.Need-returns
+unfolding shown fieldsAs joined sized placesAt
+returns c =
+    rw (sym (c .before .before .maybe .ensures) ∙ c .enum-told .given .1)
+
+need-requires : tie.Need-need-requires
+need-requires c κs = search needs
+
+enum-known-nonce : tie.Need-enum-known-nonce
+enum-known-nonce c = search needs
+
+enum-told-2 : tie.Need-enum-told-2
+enum-told-2 c = search needs
+
+returns-2 : tie.Need-returns-2
+unfolding shown fieldsAs joined sized placesAt
+returns-2 c =
+    rw (
+      sym (c .before .before .before .before .before .before .maybe .ensures) ∙ c .before .before .before .before .entry .given .1,
+      sym (c .before .before .need .ensures) ∙ c .enum-told2 .given .1,
+    )
+
+returns-3 : tie.Need-returns-3
+unfolding shown fieldsAs joined sized placesAt
+returns-3 c =
+    rw (
+      sym (c .before .before .before .before .before .before .before .before .before .maybe .ensures) ∙ c .before .before .before .before .before .before .before .entry .given .1,
+      sym (c .before .before .before .before .before .need .ensures) ∙ c .before .before .before .nonce .given .1,
+      ne-eqb _ _ (c .if1 .taken),
+    )
+
+head-requires : tie.Need-head-requires
+head-requires c κs = search needs
+
+returns-4 : tie.Need-returns-4
+unfolding shown fieldsAs joined sized placesAt
+returns-4 c =
+    rw (
+      sym (c .before .before .before .before .before .before .before .before .before .before .maybe .ensures) ∙ c .before .before .before .before .before .before .before .before .entry .given .1,
+      sym (c .before .before .before .before .before .before .need .ensures) ∙ c .before .before .before .before .nonce .given .1,
+      eq-eqb _ _ (c .before .if1 .left),
+      c .head .ensures,
+    )
+
+pub read-solicit-spec : {M : Type 1} → statement M
+read-solicit-spec =
+    tie.close
+    (tie.spec
+    maybe-requires
+    enum-known-entry
+    enum-told
+    returns
+    need-requires
+    enum-known-nonce
+    enum-told-2
+    returns-2
+    returns-3
+    head-requires
+    returns-4)

@@ -1,0 +1,113 @@
+-- Helps the code. What the code answers, from what a datagram holds (Refusals): the message as numbers and as places in the datagram. That it is the
+-- message that the datagram reads as is a theorem of `wire`. Assumes nothing.
+use Prim.Native.Nat.{ℕ, _+_, _*_, _/_, _%_}
+use mathlib.Core.List.{List}
+use mathlib.Core.Bool.{Bool, true, false, cond}
+use mathlib.Core.Option.{Option, some, none}
+use lib.ListN.{getD, drop}
+use lib.Dec.{eqb}
+use Rattle.wire_fields.specs.Field.{numberAt}
+use Rattle.wire_fields.specs.Kinds.{bufferKinds}
+use Rattle.wire_fields.specs.Reading.{placesAt}
+use Rattle.wire_fields.specs.Refusals.{Found, refused, found, foundIn}
+use Rattle.wire_fields.specs.declared.Part.{Part}
+use Rattle.wire_fields.specs.declared.Part.the-variants.{Here, Absent}
+use Rattle.wire_read.specs.declared.Head.{Head}
+use Rattle.wire_read.specs.declared.Answer.{Answer}
+use Rattle.wire_read.specs.declared.Answer.the-variants.{Refused, Solicit, Advertise, Request, Flood, Inquire, Authority, Ack, Lookup}
+use Rattle.wire_read.specs.declared.Inside.{Inside}
+use Rattle.wire_read.specs.declared.Buffer.{Buffer}
+use Rattle.wire_read.specs.declared.Buffer.the-variants.{Holds, Malformed}
+
+-- the place of a field, and whether it is there
+abbrev pub startOf : Part → ℕ
+startOf (Here s l) = s
+startOf Absent = 0
+
+abbrev pub isHere : Part → Bool
+isHere (Here s l) = true
+isHere Absent = false
+
+-- the bit of a weight in the byte at an offset from a place
+unfoldable pub flagAt : List ℕ → ℕ → ℕ → ℕ → Bool
+flagAt d start offset weight = eqb (getD d (start + offset) 0 / weight % 2) 1
+
+-- the same in a field, clear where it is absent
+unfoldable pub flagIn : List ℕ → Part → ℕ → ℕ → Bool
+flagIn d (Here s l) offset weight = flagAt d s offset weight
+flagIn d Absent offset weight = false
+
+unfoldable pub headOf : List ℕ → Head
+headOf d = record { minor = getD d 6 0; id = numberAt 8 4 d }
+
+abbrev pub solicitShown : List ℕ → List Part → Answer
+solicitShown d ps = Solicit (headOf d) (getD ps 0 Absent) (startOf (getD ps 1 Absent))
+
+abbrev pub advertiseShown : List ℕ → List Part → Answer
+advertiseShown d ps = Advertise (headOf d) (numberAt (startOf (getD ps 0 Absent)) 4 d) (getD ps 1 Absent) (startOf (getD ps 2 Absent))
+
+abbrev pub requestShown : List ℕ → List Part → Answer
+requestShown d ps =
+    Request (headOf d) (isHere (getD ps 0 Absent)) (isHere (getD ps 1 Absent)) (startOf (getD ps 2 Absent)) (getD ps 3 Absent)
+    (getD ps 4 Absent) (getD ps 5 Absent) (getD ps 6 Absent)
+
+abbrev pub floodShown : List ℕ → List Part → Answer
+floodShown d ps =
+    Flood (headOf d) (flagAt d (startOf (getD ps 0 Absent)) 1 1) (startOf (getD ps 1 Absent)) (getD ps 2 Absent)
+    (getD ps 3 Absent) (getD ps 4 Absent) (getD ps 5 Absent)
+
+abbrev pub inquireShown : List ℕ → List Part → Answer
+inquireShown d ps =
+    Inquire (headOf d) (flagAt d (startOf (getD ps 0 Absent)) 1 16) (flagAt d (startOf (getD ps 0 Absent)) 1 8)
+    (flagAt d (startOf (getD ps 0 Absent)) 1 4) (startOf (getD ps 1 Absent)) (getD ps 2 Absent)
+    (getD ps 3 Absent) (getD ps 4 Absent) (getD ps 5 Absent)
+
+-- the fields of a buffer; the buffer from a place to the end of any list
+abbrev pub insideShown : List ℕ → List Part → Inside
+insideShown d ps =
+    record {
+      l = flagAt d (startOf (getD ps 0 Absent)) 0 2;
+      b = flagAt d (startOf (getD ps 0 Absent)) 1 8;
+      n = flagAt d (startOf (getD ps 0 Absent)) 1 1;
+      chain = getD ps 1 Absent;
+      token = getD ps 2 Absent;
+      classifier = getD ps 3 Absent;
+      payload = getD ps 4 Absent;
+      entry = getD ps 5 Absent;
+      cpa = getD ps 6 Absent;
+    }
+
+abbrev pub bufferShown : List ℕ → Option (List Part) → Buffer
+bufferShown d none = Malformed
+bufferShown d (some ps) = Holds (insideShown d ps)
+
+unfoldable pub bufferAt : List ℕ → ℕ → Buffer
+bufferAt d i = bufferShown d (placesAt bufferKinds d i)
+
+abbrev pub authorityShown : List ℕ → List Part → Answer
+authorityShown d ps = Authority (headOf d) (numberAt (startOf (getD ps 0 Absent)) 4 d) (insideShown d (drop 2 ps))
+
+abbrev pub ackShown : List ℕ → List Part → Answer
+ackShown d ps =
+    Ack (headOf d) (numberAt (startOf (getD ps 0 Absent)) 4 d) (isHere (getD ps 1 Absent)) (flagIn d (getD ps 1 Absent) 1 1)
+
+-- the precision counts only where the criteria are 8
+unfoldable pub precisionAt : List ℕ → ℕ → ℕ
+precisionAt d start = cond (eqb (getD d (start + 4) 0) 8) (getD d (start + 2) 0 * 256 + getD d (start + 3) 0) 0
+
+abbrev pub lookupShown : List ℕ → List Part → Answer
+lookupShown d ps =
+    Lookup (headOf d) (flagAt d (startOf (getD ps 0 Absent)) 1 2) (precisionAt d (startOf (getD ps 0 Absent)))
+    (getD d (startOf (getD ps 0 Absent) + 4) 0) (getD d (startOf (getD ps 0 Absent) + 5) 0)
+    (startOf (getD ps 1 Absent)) (startOf (getD ps 2 Absent)) (getD ps 3 Absent) (getD ps 4 Absent)
+    (getD ps 5 Absent) (getD ps 6 Absent) (getD ps 7 Absent)
+
+-- the answer
+unfoldable pub shown : List ℕ → Found → Answer
+shown d (refused n) = Refused n
+shown d (found t ps) = cond (eqb t 1) (solicitShown d ps) (cond (eqb t 2) (advertiseShown d ps) (cond (eqb t 3) (requestShown d ps)
+    (cond (eqb t 4) (floodShown d ps) (cond (eqb t 7) (inquireShown d ps) (cond (eqb t 8) (authorityShown d ps)
+    (cond (eqb t 9) (ackShown d ps) (lookupShown d ps)))))))
+
+abbrev pub answer : List ℕ → ℕ → Answer
+answer d major = shown d (foundIn d major)

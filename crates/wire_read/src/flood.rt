@@ -1,0 +1,57 @@
+// FLOOD: controls; validate key; key token; CPA revoked; route entry; endpoints reached.
+use crate::Answer;
+use crate::values::flag;
+use crate::values::head;
+use crate::values::just_one;
+use wire_fields::Cursor;
+use wire_fields::Maybe;
+use wire_fields::Need;
+use wire_fields::Shape;
+ghost use mathlib.Core.Path.{_≡_};
+ghost use Prim.Native.Nat.{_≤_};
+ghost use lib.ListN.{length};
+ghost use Rattle.wire_fields.specs.Kinds.{floodKinds};
+ghost use Rattle.wire_fields.specs.Reading.{fieldsAs};
+ghost use Rattle.wire_fields.specs.Refusals.{foundOf};
+ghost use Rattle.wire_read.specs.Answers.{shown};
+
+pub(crate) fn read_flood(d: &[u8]) -> Answer
+    requires { ⌜ 12 ≤ length (now d) ⌝ }
+    ensures { λ r. ⌜ r ≡ shown (now (d .entry)) (foundOf 4 (fieldsAs 4 floodKinds (now (d .entry)))) ⌝ }
+{
+    let c = Cursor { at: 12 };
+    let Need::Field(controls, _, c) = c.need(d, 0x43, true, Shape::Sized(3)) else {
+        return Answer::Refused(6);
+    };
+    let Need::Field(validate, _, c) = c.need(d, 0x39, false, Shape::Sized(32)) else {
+        return Answer::Refused(6);
+    };
+    let Maybe::Taken(token, c) = c.maybe(d, 0x9F, true, Shape::Any) else {
+        return Answer::Refused(6);
+    };
+    let Maybe::Taken(revoke, c) = c.maybe(d, 0x9C, true, Shape::Any) else {
+        return Answer::Refused(6);
+    };
+    let Maybe::Taken(entry, c) = c.maybe(d, 0x9A, true, Shape::Entry) else {
+        return Answer::Refused(6);
+    };
+    let reached_shape = Shape::Array(0x9D, 18, 1, 22);
+    let Maybe::Taken(reached, c) = c.maybe(d, 0x9E, false, reached_shape) else {
+        return Answer::Refused(6);
+    };
+    if c.at != d.len() {
+        return Answer::Refused(6);
+    }
+    if !just_one(revoke, entry) {
+        return Answer::Refused(6);
+    }
+    Answer::Flood {
+        head: head(d),
+        d: flag(d, controls, 1, 1),
+        validate,
+        token,
+        revoke,
+        entry,
+        reached,
+    }
+}

@@ -1,0 +1,54 @@
+// INQUIRE: flags; validate key; nonce; credential, signature, key identifier.
+use crate::Answer;
+use crate::values::flag;
+use crate::values::head;
+use wire_fields::Cursor;
+use wire_fields::Maybe;
+use wire_fields::Need;
+use wire_fields::Shape;
+ghost use mathlib.Core.Path.{_≡_};
+ghost use Prim.Native.Nat.{_≤_};
+ghost use lib.ListN.{length};
+ghost use Rattle.wire_fields.specs.Kinds.{inquireKinds};
+ghost use Rattle.wire_fields.specs.Reading.{fieldsAs};
+ghost use Rattle.wire_fields.specs.Refusals.{foundOf};
+ghost use Rattle.wire_read.specs.Answers.{shown};
+
+pub(crate) fn read_inquire(d: &[u8]) -> Answer
+    requires { ⌜ 12 ≤ length (now d) ⌝ }
+    ensures { λ r. ⌜ r ≡ shown (now (d .entry)) (foundOf 7 (fieldsAs 7 inquireKinds (now (d .entry)))) ⌝ }
+{
+    let c = Cursor { at: 12 };
+    let Need::Field(flags, _, c) = c.need(d, 0x40, true, Shape::Sized(2)) else {
+        return Answer::Refused(6);
+    };
+    let Need::Field(validate, _, c) = c.need(d, 0x39, false, Shape::Sized(32)) else {
+        return Answer::Refused(6);
+    };
+    let Maybe::Taken(nonce, c) = c.maybe(d, 0x93, false, Shape::Sized(16)) else {
+        return Answer::Refused(6);
+    };
+    let Maybe::Taken(credential, c) = c.maybe(d, 0x80, false, Shape::Any) else {
+        return Answer::Refused(6);
+    };
+    let Maybe::Taken(signature, c) = c.maybe(d, 0xA5, false, Shape::Any) else {
+        return Answer::Refused(6);
+    };
+    let Maybe::Taken(key, c) = c.maybe(d, 0xA6, false, Shape::Any) else {
+        return Answer::Refused(6);
+    };
+    if c.at != d.len() {
+        return Answer::Refused(6);
+    }
+    Answer::Inquire {
+        head: head(d),
+        a: flag(d, flags, 1, 16),
+        x: flag(d, flags, 1, 8),
+        c: flag(d, flags, 1, 4),
+        validate,
+        nonce,
+        credential,
+        signature,
+        key,
+    }
+}

@@ -1,0 +1,141 @@
+// Reading a datagram: the message that it holds as numbers and as places in it, or document 01's number for why it is
+// refused. Nothing is copied, and every byte is looked at once.
+mod ack;
+mod advertise;
+mod authority;
+mod flood;
+mod inquire;
+mod lookup;
+mod request;
+mod solicit;
+mod values;
+
+pub use authority::read_buffer;
+ghost use mathlib.Core.Path.{_≡_};
+ghost use Rattle.wire_read.specs.Answers.{answer};
+
+// What a header has besides its fixed bytes, the major version and the type.
+pub struct Head {
+    pub minor: u8,
+    pub id: u32,
+}
+
+// What the buffer of an AUTHORITY holds: flags, and where its fields are.
+pub struct Inside {
+    pub l: bool,
+    pub b: bool,
+    pub n: bool,
+    pub chain: wire_fields::Part,
+    pub token: wire_fields::Part,
+    pub classifier: wire_fields::Part,
+    pub payload: wire_fields::Part,
+    pub entry: wire_fields::Part,
+    pub cpa: wire_fields::Part,
+}
+
+pub enum Buffer {
+    Holds(Inside),
+    Malformed,
+}
+
+// A refusal's number, or a message. A field of fixed length is the place where its contents start, one of any length
+// or one that may be absent a `Part`; flags and numbers are themselves.
+pub enum Answer {
+    Refused(u8),
+    Solicit {
+        head: Head,
+        entry: wire_fields::Part,
+        nonce: usize,
+    },
+    Advertise {
+        head: Head,
+        acked: u32,
+        keys: wire_fields::Part,
+        nonce: usize,
+    },
+    Request {
+        head: Head,
+        flags: bool,
+        split: bool,
+        nonce: usize,
+        keys: wire_fields::Part,
+        credential: wire_fields::Part,
+        signature: wire_fields::Part,
+        key: wire_fields::Part,
+    },
+    Flood {
+        head: Head,
+        d: bool,
+        validate: usize,
+        token: wire_fields::Part,
+        revoke: wire_fields::Part,
+        entry: wire_fields::Part,
+        reached: wire_fields::Part,
+    },
+    Inquire {
+        head: Head,
+        a: bool,
+        x: bool,
+        c: bool,
+        validate: usize,
+        nonce: wire_fields::Part,
+        credential: wire_fields::Part,
+        signature: wire_fields::Part,
+        key: wire_fields::Part,
+    },
+    Authority {
+        head: Head,
+        acked: u32,
+        fields: Inside,
+    },
+    Ack {
+        head: Head,
+        acked: u32,
+        flags: bool,
+        n: bool,
+    },
+    Lookup {
+        head: Head,
+        a: bool,
+        precision: u16,
+        criteria: u8,
+        reason: u8,
+        target: usize,
+        validate: usize,
+        entry: wire_fields::Part,
+        path: wire_fields::Part,
+        credential: wire_fields::Part,
+        signature: wire_fields::Part,
+        key: wire_fields::Part,
+    },
+}
+
+// The message in a datagram, or the number of its refusal.
+pub fn read(d: &[u8], major: u8) -> Answer
+    ensures { λ r. ⌜ r ≡ answer (now (d .entry)) major ⌝ }
+{
+    if d.len() < 12 {
+        return Answer::Refused(2);
+    }
+    if 1232 < d.len() {
+        return Answer::Refused(2);
+    }
+    if !octet::equal(&d[..5], b"\x00\x10\x00\x0C\x51") {
+        return Answer::Refused(3);
+    }
+    if d[5] != major {
+        return Answer::Refused(4);
+    }
+    let kind = d[7];
+    match kind {
+        1 => solicit::read_solicit(d),
+        2 => advertise::read_advertise(d),
+        3 => request::read_request(d),
+        4 => flood::read_flood(d),
+        7 => inquire::read_inquire(d),
+        8 => authority::read_authority(d),
+        9 => ack::read_ack(d),
+        11 => lookup::read_lookup(d),
+        _ => Answer::Refused(5),
+    }
+}

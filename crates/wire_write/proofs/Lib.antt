@@ -1,0 +1,4 @@
+pub mod PutLaws
+pub mod WriteLaws
+pub mod PieceLaws
+pub mod SentLaws

@@ -1,0 +1,156 @@
+-- Laws of a whole message written: its header, then its fields one after another, is its bytes at the start of the output; what writing gives. Assumes nothing.
+use Prim.Native.Nat.{ℕ, _+_, _≤_, _<_, min}
+use native.Mathlib.Decide.{decLe}
+use native.Mathlib.Omega.{arith}
+use native.Mathlib.Nat.{zero-add}
+use mathlib.Core.List.{List, [], _∷_, _++_, append-assoc}
+use mathlib.Core.Bool.{Bool, true, false}
+use mathlib.Core.Path.{_≡_, refl, sym, ap, _∙_}
+use lib.Dec.{leb}
+use lib.ListN.{length, drop, length-append, replicate, length-replicate}
+use borrow.Author.Tests.{le-leb, lt-leb}
+use Rattle.octet.specs.Number.{digitsBE}
+use Rattle.octet.specs.Part.{splice}
+use Rattle.octet.proofs.PartLaws.{splice-nil}
+use Rattle.wire_fields.specs.Field.{gap}
+use Rattle.wire_fields.specs.Shapes.{Kind}
+use Rattle.wire_fields.specs.Message.{Contents, ends, layoutFrom, bytesOf, headerOf, layoutOf}
+use Rattle.wire_fields.proofs.ShapeLaws.{and-false}
+use Rattle.wire_fields.proofs.WholeLaws.{length-header}
+use Rattle.wire_write.specs.Writing.{Made, fit, writeAs, writeIn, Wrote}
+use Rattle.wire_write.specs.Pieces.{fieldBytes, held, partBytes, pastOf, Given, contentsOf, messageOf}
+use Rattle.wire_write.proofs.PutLaws.{put-put, put-length, head-length}
+
+pub past-is : (i : ℕ) (k : Kind) (t : Bool) (v : List ℕ) → ends i k (held t v) ≡ pastOf i t (k .padded) (length v)
+unfolding pastOf
+past-is i k true v = refl
+past-is i k false v = refl
+
+part-is : (i : ℕ) (k : Kind) (t : Bool) (v : List ℕ) (ks : List Kind) (fs : List Contents)
+    → bytesOf (layoutFrom i (k ∷ ks) (held t v ∷ fs))
+    ≡ partBytes i t (k .number) (k .padded) v ++ bytesOf (layoutFrom (pastOf i t (k .padded) (length v)) ks fs)
+unfolding partBytes pastOf fieldBytes
+part-is i k true v ks fs = simp append-assoc
+part-is i k false v ks fs = refl
+
+pub part-length : (i : ℕ) (t : Bool) (n : ℕ) (p : Bool) (v : List ℕ) → i + length (partBytes i t n p v) ≡ pastOf i t p (length v)
+unfolding partBytes pastOf fieldBytes
+part-length i true n p v =
+    let g = gap p (i + (length v + 4)) in
+    let e = length-replicate {A = ℕ} g 0 in
+    let e₁ = length-append (digitsBE 256 2 n ++ digitsBE 256 2 (length v + 4) ++ v) (replicate g 0) in
+    let e₂ = length-append (digitsBE 256 2 n ++ digitsBE 256 2 (length v + 4)) v in
+    let e₃ = head-length n (length v + 4) in
+    omega arith
+part-length i false n p v = omega arith
+
+-- where the fields end
+abbrev pub finish : ℕ → List Kind → List Contents → ℕ
+finish i ks fs = i + length (bytesOf (layoutFrom i ks fs))
+
+-- the same by the fields handed in, and the output after all of them
+abbrev pub endAll : ℕ → List Kind → List Given → ℕ
+endAll i [] gs = i
+endAll i (k ∷ ks) [] = i
+endAll i (k ∷ ks) (g ∷ gs) = endAll (pastOf i (g .there) (k .padded) (length (g .bytes))) ks gs
+
+abbrev pub putAll : List ℕ → ℕ → List Kind → List Given → List ℕ
+putAll o i [] gs = o
+putAll o i (k ∷ ks) [] = o
+putAll o i (k ∷ ks) (g ∷ gs) =
+    putAll (splice i (partBytes i (g .there) (k .number) (k .padded) (g .bytes)) o)
+    (pastOf i (g .there) (k .padded) (length (g .bytes))) ks gs
+
+pub finish-all : (ks : List Kind) (i : ℕ) (gs : List Given) → finish i ks (contentsOf gs) ≡ endAll i ks gs
+finish-all [] i gs = omega arith
+finish-all (k ∷ ks) i [] = omega arith
+finish-all (k ∷ ks) i (g ∷ gs) =
+    let j = pastOf i (g .there) (k .padded) (length (g .bytes)) in
+    let r = bytesOf (layoutFrom j ks (contentsOf gs)) in
+    let e₁ = ap length (part-is i k (g .there) (g .bytes) ks (contentsOf gs)) in
+    let e₂ = length-append (partBytes i (g .there) (k .number) (k .padded) (g .bytes)) r in
+    let e₃ = part-length i (g .there) (k .number) (k .padded) (g .bytes) in
+    let e₄ = finish-all ks j gs in
+    omega arith
+
+pub end-least : (ks : List Kind) (i : ℕ) (gs : List Given) → i ≤ endAll i ks gs
+end-least ks i gs = let e = finish-all ks i gs in omega arith
+
+pub put-all : (ks : List Kind) (o : List ℕ) (i : ℕ) (gs : List Given) → endAll i ks gs ≤ length o
+    → putAll o i ks gs ≡ splice i (bytesOf (layoutFrom i ks (contentsOf gs))) o
+put-all [] o i gs h = sym (splice-nil i o)
+put-all (k ∷ ks) o i [] h = sym (splice-nil i o)
+put-all (k ∷ ks) o i (g ∷ gs) h =
+    let j = pastOf i (g .there) (k .padded) (length (g .bytes)) in
+    let b = partBytes i (g .there) (k .number) (k .padded) (g .bytes) in
+    let r = bytesOf (layoutFrom j ks (contentsOf gs)) in
+    let e = part-length i (g .there) (k .number) (k .padded) (g .bytes) in
+    let f = finish-all ks j gs in
+    let l = put-length o i b (omega arith) in
+    put-all ks (splice i b o) j gs (omega arith) ∙ put-put o i b (omega arith) j r (sym e) (omega arith)
+    ∙ ap (λ (b : List ℕ). splice i b o) (sym (part-is i k (g .there) (g .bytes) ks (contentsOf gs)))
+
+from-start : (o b : List ℕ) → splice 0 b o ≡ b ++ drop (length b) o
+unfolding splice
+from-start o b = rw zero-add
+
+-- the end of the fields so far, counted only up to 1233
+pub past-more : (i : ℕ) (t p : Bool) (l : ℕ) → i ≤ pastOf i t p l
+unfolding pastOf
+past-more i true p l = omega arith
+past-more i false p l = omega arith
+
+pub cap-on : (r x s l : ℕ) (t p : Bool) → s ≡ min 1233 (pastOf r t p l) → r ≡ min 1233 x → s ≡ min 1233 (pastOf x t p l)
+cap-on r x s l t p e q = go (decLe x 1233)
+  where
+    go : Dec (x ≤ 1233) → s ≡ min 1233 (pastOf x t p l)
+    go (yes h) = let z : r ≡ x = omega arith in e ∙ ap (λ (y : ℕ). min 1233 (pastOf y t p l)) z
+    go (no h) = let a = past-more x t p l in let b = past-more r t p l in omega arith
+
+-- ---- what writing gives
+
+module _ (m : Made) (old : List ℕ) where
+  pub wrote-6 : m .ok ≡ false → Wrote m old (record { number = 6; length = 0 }) old
+  unfolding writeAs writeIn
+  wrote-6 k = record { answer = rw k; output = rw k }
+
+  pub wrote-15 : m .ok ≡ true → fit (m .bytes) old ≡ false → Wrote m old (record { number = 15; length = 0 }) old
+  unfolding writeAs writeIn
+  wrote-15 k f = record { answer = rw (k, f); output = rw (k, f) }
+
+  pub wrote-0 : (n : ℕ) (out : List ℕ) → m .ok ≡ true → fit (m .bytes) old ≡ true → n ≡ length (m .bytes) → out ≡ m .bytes ++ drop (length (m .bytes)) old
+      → Wrote m old (record { number = 0; length = n }) out
+  unfolding writeAs writeIn
+  wrote-0 n out k f e o = record { answer = rw (k, f, e); output = rw (k, f) o }
+
+-- a message of fields handed in whose fields end at n, counted only up to 1233
+module _ (ks : List Kind) (major minor type id : ℕ) (gs : List Given) (old : List ℕ) (n : ℕ) (e : n ≡ min 1233 (endAll 12 ks gs)) where
+  pub whole-size : length (bytesOf (layoutOf ks (messageOf major minor type id gs))) ≡ endAll 12 ks gs
+  whole-size =
+      let m = messageOf major minor type id gs in
+      length-append (headerOf m) (bytesOf (layoutFrom 12 ks (contentsOf gs))) ∙ omega (arith, length-header m, finish-all ks 12 gs)
+
+  pub no-room : length old < n → fit (bytesOf (layoutOf ks (messageOf major minor type id gs))) old ≡ false
+  unfolding fit
+  no-room h = rw (whole-size, lt-leb (endAll 12 ks gs) (length old) (omega arith))
+
+  pub too-long : 1232 < n → fit (bytesOf (layoutOf ks (messageOf major minor type id gs))) old ≡ false
+  unfolding fit
+  too-long h = rw (whole-size, lt-leb (endAll 12 ks gs) 1232 (omega arith)) (and-false (leb (endAll 12 ks gs) (length old)))
+
+  module _ (h : n ≤ length old) (h₂ : n ≤ 1232) where
+    pub has-room : fit (bytesOf (layoutOf ks (messageOf major minor type id gs))) old ≡ true
+    unfolding fit
+    has-room = rw (whole-size, le-leb (endAll 12 ks gs) (length old) (omega arith), le-leb (endAll 12 ks gs) 1232 (omega arith))
+
+    pub exact-end : n ≡ length (bytesOf (layoutOf ks (messageOf major minor type id gs)))
+    exact-end = omega (arith, whole-size)
+
+    pub whole-put : splice 12 (bytesOf (layoutFrom 12 ks (contentsOf gs))) (splice 0 (headerOf (messageOf major minor type id gs)) old)
+        ≡ bytesOf (layoutOf ks (messageOf major minor type id gs)) ++ drop (length (bytesOf (layoutOf ks (messageOf major minor type id gs)))) old
+    whole-put =
+        let header = headerOf (messageOf major minor type id gs) in
+        let r = bytesOf (layoutFrom 12 ks (contentsOf gs)) in
+        let lh = length-header (messageOf major minor type id gs) in
+        let f = finish-all ks 12 gs in
+        put-put old 0 header (omega arith) 12 r (omega arith) (omega arith) ∙ from-start old (header ++ r)

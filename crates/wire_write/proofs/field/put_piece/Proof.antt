@@ -1,0 +1,90 @@
+-- `wire_write::field::put_piece` meets its contract, by the slice that the piece is in. Assumes nothing.
+use borrow.Author.Tests.{not-true, not-false}
+use mathlib.Core.Path.{refl, sym}
+use denote.Ref.{now}
+use Rattle.octet.proofs.PartLaws.{splice-nil}
+use Rattle.wire_write.specs.Pieces.{partBytes, pastOf}
+use borrow.Author.Needs.{needs}
+use Rattle.wire_write.proofs.field.put_piece.Statement.{statement}
+use Rattle.wire_write.proofs.field.put_piece.Tie as tie
+
+returns : tie.Need-returns
+unfolding partBytes pastOf
+returns c =
+    let a = c .before .before .before .before .before .before .args in
+    rw (not-true (a .p .there) (c .if1 .taken)) (refl, sym (splice-nil (a .at) (now (a .out))))
+
+enum-told : tie.Need-enum-told
+enum-told c = search needs
+
+put-from-requires : tie.Need-put-from-requires
+unfolding pastOf
+put-from-requires c κs =
+    let a = c .before .before .before .before .before .before .before .before .before .args in
+    let t = not-false (a .p .there) (c .before .before .before .if1 .left) in
+    let e = c .before .enum-told .given .1 in
+    (rw e at (c .before .before .before .before .before .before .before .before .before .pre .0 t), (rw (t, e) at (c .before .before .before .before .before .before .before .before .before .pre .1 .0), rw e at (c .before .before .before .before .before .before .before .before .before .pre .1 .1 t)))
+
+enum-told-2 : tie.Need-enum-told-2
+enum-told-2 c = search needs
+
+put-from-requires-2 : tie.Need-put-from-requires-2
+unfolding pastOf
+put-from-requires-2 c κs =
+    let a = c .before .before .before .before .before .before .before .before .before .args in
+    let t = not-false (a .p .there) (c .before .before .before .if1 .left) in
+    let e = c .before .enum-told2 .given .1 in
+    (rw e at (c .before .before .before .before .before .before .before .before .before .pre .0 t), (rw (t, e) at (c .before .before .before .before .before .before .before .before .before .pre .1 .0), rw e at (c .before .before .before .before .before .before .before .before .before .pre .1 .1 t)))
+
+enum-told-3 : tie.Need-enum-told-3
+enum-told-3 c = search needs
+
+put-from-requires-3 : tie.Need-put-from-requires-3
+unfolding pastOf
+put-from-requires-3 c κs =
+    let a = c .before .before .before .before .before .before .before .before .before .args in
+    let t = not-false (a .p .there) (c .before .before .before .if1 .left) in
+    let e = c .before .enum-told3 .given .1 in
+    (rw e at (c .before .before .before .before .before .before .before .before .before .pre .0 t), (rw (t, e) at (c .before .before .before .before .before .before .before .before .before .pre .1 .0), rw e at (c .before .before .before .before .before .before .before .before .before .pre .1 .1 t)))
+
+same-length : tie.Need-same-length
+same-length c = search needs
+
+returns-2 : tie.Need-returns-2
+unfolding partBytes pastOf
+returns-2 c =
+    rw (not-false (c .before .before .before .before .before .before .before .before .before .before .before .before .args .p .there) (c .before .before .before .before .before .before .if1 .left), c .before .before .before .before .enum-told .given .1) (c .before .before .put-from .ensures)
+
+same-length-2 : tie.Need-same-length-2
+same-length-2 c = search needs
+
+returns-3 : tie.Need-returns-3
+unfolding partBytes pastOf
+returns-3 c =
+    rw (not-false (c .before .before .before .before .before .before .before .before .before .before .before .before .args .p .there) (c .before .before .before .before .before .before .if1 .left), c .before .before .before .before .enum-told2 .given .1) (c .before .before .put-from2 .ensures)
+
+same-length-3 : tie.Need-same-length-3
+same-length-3 c = search needs
+
+returns-4 : tie.Need-returns-4
+unfolding partBytes pastOf
+returns-4 c =
+    rw (not-false (c .before .before .before .before .before .before .before .before .before .before .before .before .args .p .there) (c .before .before .before .before .before .before .if1 .left), c .before .before .before .before .enum-told3 .given .1) (c .before .before .put-from3 .ensures)
+
+pub put-piece-spec : {M : Type 1} → statement M
+put-piece-spec =
+    tie.close
+    (tie.spec
+    returns
+    enum-told
+    put-from-requires
+    enum-told-2
+    put-from-requires-2
+    enum-told-3
+    put-from-requires-3
+    same-length
+    returns-2
+    same-length-2
+    returns-3
+    same-length-3
+    returns-4)

@@ -1,0 +1,4 @@
+pub mod Writing
+pub mod Pieces
+pub mod Sent
+pub mod Rows

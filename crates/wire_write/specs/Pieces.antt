@@ -1,0 +1,129 @@
+-- Helps the code. A message as rows of its table and pieces of lent slices, in which the one writer has it: shown to be the bytes of the message that they make
+-- (Message) by the laws of this crate. Row, Piece and Source are the code's. Assumes nothing.
+use Prim.Native.Nat.{ℕ, _+_, _*_, _≤_}
+use mathlib.Core.List.{List, [], _∷_, _++_}
+use mathlib.Core.Bool.{Bool, true, false, cond, _&&_}
+use mathlib.Core.Option.{some, none}
+use mathlib.Core.Path.{_≡_}
+use lib.Dec.{leb}
+use lib.ListN.{length, replicate, getD}
+use Rattle.octet.specs.Number.{digitsBE}
+use Rattle.octet.specs.Part.{part}
+use Rattle.record.specs.Record.{recordForm}
+use Rattle.record.specs.Entry.{entryOf}
+use Rattle.wire_fields.specs.Field.{gap}
+use Rattle.wire_fields.specs.Shapes.{Kind, hasShape}
+use Rattle.wire_fields.specs.Message.{Contents, Message, bytesOf, layoutOf}
+use Rattle.wire_write.specs.Writing.{Made}
+use Rattle.wire_write.specs.declared.Row.{Row}
+use Rattle.wire_write.specs.declared.Piece.{Piece}
+use Rattle.wire_write.specs.declared.Source.{Source}
+use Rattle.wire_write.specs.declared.Source.the-variants.{Own, First, Second}
+
+-- the bytes of a field that starts at place i, and where it ends
+unfoldable pub fieldBytes : ℕ → ℕ → Bool → List ℕ → List ℕ
+fieldBytes i number padded v =
+    digitsBE 256 2 number ++ digitsBE 256 2 (length v + 4) ++ v ++ replicate (gap padded (i + (length v + 4))) 0
+
+abbrev pub endOf : ℕ → Bool → ℕ → ℕ
+endOf i padded len = i + (len + 4) + gap padded (i + (len + 4))
+
+-- the same of a field that may be absent
+unfoldable pub partBytes : ℕ → Bool → ℕ → Bool → List ℕ → List ℕ
+partBytes i there number padded v = cond there (fieldBytes i number padded v) []
+
+unfoldable pub pastOf : ℕ → Bool → Bool → ℕ → ℕ
+pastOf i there padded len = cond there (endOf i padded len) i
+
+-- a field handed in: whether it is there, and its contents
+pub record Given : Type 0 where
+  pub there : Bool
+  pub bytes : List ℕ
+
+abbrev pub held : Bool → List ℕ → Contents
+held there v = cond there (some v) none
+
+abbrev pub contentsOf : List Given → List Contents
+contentsOf [] = []
+contentsOf (g ∷ gs) = held (g .there) (g .bytes) ∷ contentsOf gs
+
+-- a message of fields handed in
+abbrev pub messageOf : ℕ → ℕ → ℕ → ℕ → List Given → Message
+messageOf major minor type id gs =
+    record { major = major; minor = minor; type = type; id = id; fields = contentsOf gs }
+
+-- what pieces are taken from: the writer's own bytes and two lent slices
+pub record Lent : Type 0 where
+  pub own : List ℕ
+  pub first : List ℕ
+  pub second : List ℕ
+
+abbrev pub lentOf : List ℕ → List ℕ → List ℕ → Lent
+lentOf own first second = record { own = own; first = first; second = second }
+
+abbrev pub sourceOf : Lent → Source → List ℕ
+sourceOf l Own = l .own
+sourceOf l First = l .first
+sourceOf l Second = l .second
+
+-- the contents of a piece of the slice s, a record as a route entry of the given versions; and whether it is right for a row: it stands within s and has the shape, or is a record in form
+abbrev pub contentsFrom : ℕ → ℕ → List ℕ → Piece → List ℕ
+contentsFrom major minor s p = cond (p .entry) (entryOf major minor (part (p .start) 100 s)) (part (p .start) (p .len) s)
+
+abbrev pub okFrom : List ℕ → Row → Piece → Bool
+okFrom s r p =
+    cond (p .entry) (leb (p .start + 100) (length s) && recordForm (part (p .start) 100 s))
+    (leb (p .start + p .len) (length s) && hasShape (r .shape) (part (p .start) (p .len) s))
+
+abbrev pub pieceBytes : ℕ → ℕ → Lent → Piece → List ℕ
+pieceBytes major minor l p = contentsFrom major minor (sourceOf l (p .source)) p
+
+abbrev pub pieceOk : Lent → Row → Piece → Bool
+pieceOk l r p = cond (p .there) (okFrom (sourceOf l (p .source)) r p) (r .optional)
+
+abbrev pub rowsOk : Lent → List Row → List Piece → Bool
+rowsOk l [] ps = true
+rowsOk l (r ∷ rs) [] = true
+rowsOk l (r ∷ rs) (p ∷ ps) = pieceOk l r p && rowsOk l rs ps
+
+abbrev pub givensOf : ℕ → ℕ → Lent → List Piece → List Given
+givensOf major minor l [] = []
+givensOf major minor l (p ∷ ps) = record { there = p .there; bytes = pieceBytes major minor l p } ∷ givensOf major minor l ps
+
+-- a piece that is there stands within its source
+abbrev pub InFrom : List ℕ → Piece → Type 0
+InFrom s p =
+    (p .entry ≡ true → (p .start + 100 ≤ length s) × (recordForm (part (p .start) 100 s) ≡ true)) × (p .entry ≡ false → p .start + p .len ≤ length s)
+
+abbrev pub PieceIn : Lent → Piece → Type 0
+PieceIn l p = p .there ≡ true → InFrom (sourceOf l (p .source)) p
+
+abbrev pub AllIn : Lent → List Piece → Type 0
+AllIn l [] = Unit {0}
+AllIn l (p ∷ ps) = PieceIn l p × AllIn l ps
+
+-- how long the contents of a piece are
+abbrev pub lenFrom : List ℕ → Piece → ℕ
+lenFrom s p = cond (p .entry) (38 + 16 * getD s (p .start + 34) 0) (p .len)
+
+-- the kind that a row says; writing asks nothing of the ignored bits
+abbrev pub kindOfRow : Row → Kind
+kindOfRow r = record { number = r .number; optional = r .optional; padded = r .padded; shape = r .shape; kept = λ v. v }
+
+abbrev pub kindsOfRows : List Row → List Kind
+kindsOfRows [] = []
+kindsOfRows (r ∷ rs) = kindOfRow r ∷ kindsOfRows rs
+
+-- where the fields end
+abbrev pub endRows : ℕ → List Row → List Given → ℕ
+endRows i [] gs = i
+endRows i (r ∷ rs) [] = i
+endRows i (r ∷ rs) (g ∷ gs) = endRows (pastOf i (g .there) (r .padded) (length (g .bytes))) rs gs
+
+-- what is written of a message of a type: 6, or its bytes
+unfoldable pub madeBy : ℕ → ℕ → ℕ → ℕ → Lent → List Row → List Piece → Made
+madeBy major minor type id l rows ps =
+    record {
+      ok = rowsOk l rows ps;
+      bytes = bytesOf (layoutOf (kindsOfRows rows) (messageOf major minor type id (givensOf major minor l ps)));
+    }

@@ -1,0 +1,95 @@
+-- To believe. The messages that a call sends, field by field: "What 000 leaves to the sender is fixed so in each datagram a call sends: a flag, reason or optional
+-- field that no rule here names is clear or absent, but a flag by which an INQUIRE asks for a CPA, if 000 has one, is set; versions, a route entry's too, are the
+-- given ones". What writing each of them makes: 6 only for a key, a nonce or a record that is none. Assumes nothing.
+use Prim.Native.Nat.{ℕ, _+_, _*_}
+use mathlib.Core.List.{List, [], _∷_, _++_}
+use mathlib.Core.Bool.{Bool, true, cond, _&&_}
+use mathlib.Core.Option.{some, none}
+use lib.Dec.{eqb, leb}
+use lib.ListN.{length}
+use Rattle.octet.specs.Number.{digitsBE}
+use Rattle.octet.specs.Part.{part}
+use Rattle.record.specs.Record.{countOf, recordForm}
+use Rattle.record.specs.Entry.{entryOf}
+use Rattle.wire_fields.specs.Shapes.{Kind}
+use Rattle.wire_fields.specs.Kinds.{floodKinds, inquireKinds, authorityKinds, ackKinds}
+use Rattle.wire_fields.specs.Message.{Message, bytesOf, layoutOf}
+use Rattle.wire_write.specs.Writing.{Made}
+
+-- "A call that sends an ACK writes the second field only where N is set"
+abbrev pub ackSent : ℕ → ℕ → ℕ → ℕ → Bool → Message
+ackSent major minor id acked n =
+    record { major = major; minor = minor; type = 9; id = id; fields = some (digitsBE 256 4 acked) ∷ cond n (some (0 ∷ 1 ∷ [])) none ∷ [] }
+
+-- "D clear, validate key the neighbour's, one record, empty list of those already reached"
+abbrev pub floodSent : ℕ → ℕ → ℕ → List ℕ → List ℕ → Message
+floodSent major minor id key r =
+    record {
+      major = major;
+      minor = minor;
+      type = 4;
+      id = id;
+      fields = some (0 ∷ 0 ∷ 0 ∷ []) ∷ some key ∷ none ∷ none ∷ some (entryOf major minor r) ∷ none ∷ [];
+    }
+
+-- A is the flag by which an INQUIRE asks for a CPA
+abbrev pub inquireSent : ℕ → ℕ → ℕ → List ℕ → List ℕ → Message
+inquireSent major minor id key nonce =
+    record {
+      major = major;
+      minor = minor;
+      type = 7;
+      id = id;
+      fields = some (0 ∷ 0x10 ∷ []) ∷ some key ∷ some nonce ∷ none ∷ none ∷ none ∷ [];
+    }
+
+-- an AUTHORITY's split controls: the buffer is whole
+abbrev pub wholeSplit : ℕ → List ℕ
+wholeSplit size = digitsBE 256 2 size ++ (0 ∷ 0 ∷ [])
+
+-- "One AUTHORITY with the own CPA"
+abbrev pub cpaSent : ℕ → ℕ → ℕ → ℕ → List ℕ → Message
+cpaSent major minor id acked cpa =
+    record {
+      major = major;
+      minor = minor;
+      type = 8;
+      id = id;
+      fields = some (digitsBE 256 4 acked) ∷ some (wholeSplit (12 + length cpa)) ∷ some (0 ∷ 0 ∷ []) ∷ none ∷ none ∷ none ∷ none ∷ none ∷ some cpa ∷ [];
+    }
+
+-- "One AUTHORITY with the record closest to the target"
+abbrev pub closestSent : ℕ → ℕ → ℕ → ℕ → List ℕ → Message
+closestSent major minor id acked r =
+    record {
+      major = major;
+      minor = minor;
+      type = 8;
+      id = id;
+      fields = some (digitsBE 256 4 acked) ∷ some (wholeSplit (52 + 16 * countOf r)) ∷ some (0 ∷ 0 ∷ []) ∷ none ∷ none ∷ none ∷ none
+          ∷ some (entryOf major minor r) ∷ none ∷ [];
+    }
+
+-- ---- what writing them makes
+
+-- a record in form stands at a place of a slice
+abbrev pub formedAt : ℕ → List ℕ → Bool
+formedAt at s = leb (at + 100) (length s) && recordForm (part at 100 s)
+
+abbrev pub madeAs : Bool → List Kind → Message → Made
+madeAs ok ks m = record { ok = ok; bytes = bytesOf (layoutOf ks m) }
+
+unfoldable pub ackMade : ℕ → ℕ → ℕ → ℕ → Bool → Made
+ackMade major minor id acked n = madeAs true ackKinds (ackSent major minor id acked n)
+
+unfoldable pub floodMade : ℕ → ℕ → ℕ → List ℕ → List ℕ → ℕ → Made
+floodMade major minor id key s at = madeAs (eqb (length key) 32 && formedAt at s) floodKinds (floodSent major minor id key (part at 100 s))
+
+unfoldable pub inquireMade : ℕ → ℕ → ℕ → List ℕ → List ℕ → Made
+inquireMade major minor id key nonce = madeAs (eqb (length key) 32 && eqb (length nonce) 16) inquireKinds (inquireSent major minor id key nonce)
+
+unfoldable pub cpaMade : ℕ → ℕ → ℕ → ℕ → List ℕ → Made
+cpaMade major minor id acked cpa = madeAs true authorityKinds (cpaSent major minor id acked cpa)
+
+unfoldable pub closestMade : ℕ → ℕ → ℕ → ℕ → List ℕ → ℕ → Made
+closestMade major minor id acked s at = madeAs (formedAt at s) authorityKinds (closestSent major minor id acked (part at 100 s))

@@ -1,0 +1,183 @@
+// The rows of the messages' tables, and pieces, as the one writer takes them.
+use crate::Piece;
+use crate::Row;
+use crate::Source;
+use wire_fields::Shape;
+ghost use mathlib.Core.Path.{_≡_};
+ghost use Rattle.wire_write.specs.Rows.{needRow, mayRow, ownPiece, firstPiece, secondPiece, entryPiece, noPiece, ownBytes};
+ghost use Rattle.wire_write.specs.Rows.{ackRows, floodRows, inquireRows, authorityRows};
+
+pub(crate) fn need_row(number: u16, padded: bool, shape: Shape) -> Row
+    ensures { λ r. ⌜ r ≡ needRow number padded shape ⌝ }
+{
+    Row {
+        number,
+        optional: false,
+        padded,
+        shape,
+    }
+}
+
+pub(crate) fn may_row(number: u16, padded: bool, shape: Shape) -> Row
+    ensures { λ r. ⌜ r ≡ mayRow number padded shape ⌝ }
+{
+    Row {
+        number,
+        optional: true,
+        padded,
+        shape,
+    }
+}
+
+pub(crate) fn own_piece(start: usize, len: usize) -> Piece
+    ensures { λ r. ⌜ r ≡ ownPiece start len ⌝ }
+{
+    Piece {
+        there: true,
+        entry: false,
+        source: Source::Own,
+        start,
+        len,
+    }
+}
+
+pub(crate) fn first_piece(start: usize, len: usize) -> Piece
+    ensures { λ r. ⌜ r ≡ firstPiece start len ⌝ }
+{
+    Piece {
+        there: true,
+        entry: false,
+        source: Source::First,
+        start,
+        len,
+    }
+}
+
+pub(crate) fn second_piece(start: usize, len: usize) -> Piece
+    ensures { λ r. ⌜ r ≡ secondPiece start len ⌝ }
+{
+    Piece {
+        there: true,
+        entry: false,
+        source: Source::Second,
+        start,
+        len,
+    }
+}
+
+pub(crate) fn entry_piece(start: usize) -> Piece
+    ensures { λ r. ⌜ r ≡ entryPiece start ⌝ }
+{
+    Piece {
+        there: true,
+        entry: true,
+        source: Source::First,
+        start,
+        len: 100,
+    }
+}
+
+pub(crate) fn no_piece() -> Piece
+    ensures { λ r. ⌜ r ≡ noPiece ⌝ }
+{
+    Piece {
+        there: false,
+        entry: false,
+        source: Source::Own,
+        start: 0,
+        len: 0,
+    }
+}
+
+// The writer's own bytes: acked ID at 0, split controls at 4, flags at 8 with a byte after them.
+pub(crate) fn own_bytes(acked: u32, size: usize, high: u8, low: u8) -> [u8; 11]
+    ensures { λ r. ⌜ r ≡ ownBytes acked size high low ⌝ }
+{
+    let a = (acked / 16777216 % 256) as u8;
+    let b = (acked / 65536 % 256) as u8;
+    let c = (acked / 256 % 256) as u8;
+    let d = (acked % 256) as u8;
+    let e = (size / 256 % 256) as u8;
+    let f = (size % 256) as u8;
+    [a, b, c, d, e, f, 0, 0, high, low, 0]
+}
+
+pub(crate) fn ack_rows() -> [Row; 9]
+    ensures { λ r. ⌜ r ≡ ackRows ⌝ }
+{
+    let acked = need_row(0x18, false, Shape::Sized(4));
+    let flags = may_row(0x40, false, Shape::Sized(2));
+    let none = may_row(0, false, Shape::Any);
+    [acked, flags, none, none, none, none, none, none, none]
+}
+
+pub(crate) fn flood_rows() -> [Row; 9]
+    ensures { λ r. ⌜ r ≡ floodRows ⌝ }
+{
+    let controls = need_row(0x43, true, Shape::Sized(3));
+    let validate = need_row(0x39, false, Shape::Sized(32));
+    let token = may_row(0x9F, true, Shape::Any);
+    let revoke = may_row(0x9C, true, Shape::Any);
+    let entry = may_row(0x9A, true, Shape::Entry);
+    let reached = may_row(0x9E, false, Shape::Array(0x9D, 18, 1, 22));
+    let none = may_row(0, false, Shape::Any);
+    [
+        controls,
+        validate,
+        token,
+        revoke,
+        entry,
+        reached,
+        none,
+        none,
+        none,
+    ]
+}
+
+pub(crate) fn inquire_rows() -> [Row; 9]
+    ensures { λ r. ⌜ r ≡ inquireRows ⌝ }
+{
+    let flags = need_row(0x40, true, Shape::Sized(2));
+    let validate = need_row(0x39, false, Shape::Sized(32));
+    let nonce = may_row(0x93, false, Shape::Sized(16));
+    let credential = may_row(0x80, false, Shape::Any);
+    let signature = may_row(0xA5, false, Shape::Any);
+    let key = may_row(0xA6, false, Shape::Any);
+    let none = may_row(0, false, Shape::Any);
+    [
+        flags,
+        validate,
+        nonce,
+        credential,
+        signature,
+        key,
+        none,
+        none,
+        none,
+    ]
+}
+
+pub(crate) fn authority_rows() -> [Row; 9]
+    ensures { λ r. ⌜ r ≡ authorityRows ⌝ }
+{
+    let acked = need_row(0x18, false, Shape::Sized(4));
+    let split = need_row(0x98, false, Shape::Sized(4));
+    let flags = need_row(0x40, true, Shape::Sized(2));
+    let chain = may_row(0x80, true, Shape::Any);
+    let token = may_row(0x9F, true, Shape::Any);
+    let classifier = may_row(0x85, true, Shape::Array(0x84, 2, 0, 0x7FFF));
+    let payload = may_row(0x5A, true, Shape::Any);
+    let entry = may_row(0x9A, true, Shape::Entry);
+    let cpa = may_row(0x9B, false, Shape::Any);
+    [
+        acked,
+        split,
+        flags,
+        chain,
+        token,
+        classifier,
+        payload,
+        entry,
+        cpa,
+    ]
+}

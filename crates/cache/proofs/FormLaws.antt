@@ -1,0 +1,222 @@
+-- Laws of the cache's form: what the test counts, that it holds exactly where some records have the form, and that there is one list of them.
+-- In this order: a row; the count; records in form are counted; the form; the test. Elsewhere: the test by its parts, as code meets it, in ShapeLaws.
+-- Assumes nothing.
+use mathlib.Core.Path.{_≡_, refl, sym, ap, ap₂, _∙_, subst}
+use mathlib.Core.Logic.{_↔_}
+use mathlib.Core.List.{List, [], _∷_, _++_}
+use mathlib.Core.Bool.{Bool, true, false, not, cond, _&&_}
+use Prim.Native.Nat.{ℕ, zero, suc, _+_, _-_, _*_, _%_, _≤_}
+use native.Mathlib.Omega.{arith}
+use lib.Dec.{leb, eqb}
+use lib.ListN.{length, take, drop, getD, replicate, length-append, length-replicate}
+use lib.Seq.{take-take}
+use borrow.Author.Tests.{eq-eqb, ne-eqb, le-leb, lt-leb, leb-true, eqb-true, eqb-false, not-true}
+use Rattle.octet.specs.Number.{valueBE}
+use Rattle.octet.specs.Part.{part, allZero}
+use Rattle.octet.proofs.TestLaws.{both-true, zeros-all}
+use Rattle.key.specs.Number.{keyAt}
+use Rattle.record.specs.Record.{keyOf, countOf, recordForm}
+use Rattle.table.specs.Rows.{rows, joined, bytesOf, Sized, Laid}
+use Rattle.table.proofs.RowLaws.{rows-length, rows-take, rows-append, rows-of-joined, joined-length, bytes-clear, laid-bytes}
+use Rattle.kept.specs.Keys.{Every, Rising, plain}
+use Rattle.kept.specs.Plain.{NotOwn}
+use Rattle.cache.specs.Form.{keysOf, placesIn, Places, Form, follows, leading, heldIn, heldOf, cacheForm}
+
+-- ---- a row
+
+pub key-of-row : (at : ℕ) (s : List ℕ) → keyOf (part at 100 s) ≡ keyAt at s
+key-of-row at s = ap (valueBE 256) (take-take 32 100 (drop at s) (omega arith))
+
+pub formed-length : (r : List ℕ) → recordForm r ≡ true → length r ≡ 100
+unfolding recordForm
+formed-length r e =
+    let a = both-true (eqb (length r) 100 && leb 1 (countOf r) && leb (countOf r) 4 && eqb (getD r 35 0) 0) _ e in
+    let b = both-true (eqb (length r) 100 && leb 1 (countOf r) && leb (countOf r) 4) _ (a .0) in
+    let c = both-true (eqb (length r) 100 && leb 1 (countOf r)) _ (b .0) in
+    eqb-true (length r) 100 (both-true (eqb (length r) 100) _ (c .0) .0)
+
+pub formed-sized : (recs : List (List ℕ)) → Every (λ (r : List ℕ). recordForm r ≡ true) recs → Sized 100 recs
+formed-sized [] h = tt
+formed-sized (r ∷ recs) h = (formed-length r (h .0), formed-sized recs (h .1))
+
+-- what `follows` tells
+pub record Follows (own low : ℕ) (r : List ℕ) : Type 0 where
+  pub formed : recordForm r ≡ true
+  pub least : low ≤ keyOf r
+  pub other : NotOwn own (keyOf r)
+
+pub follows-tells : (own low : ℕ) (r : List ℕ) → follows own low r ≡ true → Follows own low r
+unfolding follows
+follows-tells own low r e =
+    let p = both-true (recordForm r && leb low (keyOf r)) (not (eqb (keyOf r) own)) e in
+    let q = both-true (recordForm r) (leb low (keyOf r)) (p .0) in
+    record { formed = q .0; least = leb-true low (keyOf r) (q .1); other = eqb-false (keyOf r) own (not-true (eqb (keyOf r) own) (p .1)) }
+
+pub follows-told : (own low : ℕ) (r : List ℕ) → Follows own low r → follows own low r ≡ true
+unfolding follows
+follows-told own low r h = rw (h .formed, le-leb low (keyOf r) (h .least), ne-eqb (keyOf r) own (h .other)) refl
+
+-- ---- what is counted has the form of records held
+
+-- the same as `Held`, where the first key is at least low
+pub record From (own low : ℕ) (recs : List (List ℕ)) : Type 0 where
+  pub formed : Every (λ (r : List ℕ). recordForm r ≡ true) recs
+  pub rising : Rising plain low (keysOf recs)
+  pub others : Every (NotOwn own) (keysOf recs)
+
+counted : (own low : ℕ) (rs : List (List ℕ)) → From own low (take (leading own low rs) rs)
+unfolding leading
+counted own low [] = record { formed = tt; rising = tt; others = tt }
+counted own low (r ∷ rs) = go (follows own low r) refl (counted own (suc (keyOf r)) rs)
+  where
+    go : (b : Bool) → follows own low r ≡ b → From own (suc (keyOf r)) (take (leading own (suc (keyOf r)) rs) rs)
+        → From own low (take (cond b (suc (leading own (suc (keyOf r)) rs)) 0) (r ∷ rs))
+    go true e t =
+        let f = follows-tells own low r e in
+        record { formed = (f .formed, t .formed); rising = (f .least, t .rising); others = (f .other, t .others) }
+    go false e t = record { formed = tt; rising = tt; others = tt }
+
+leading-most : (own low : ℕ) (rs : List (List ℕ)) → leading own low rs ≤ length rs
+unfolding leading
+leading-most own low [] = omega arith
+leading-most own low (r ∷ rs) = go (follows own low r) (leading-most own (suc (keyOf r)) rs)
+  where
+    go : (b : Bool) {n m : ℕ} → n ≤ m → cond b (suc n) 0 ≤ suc m
+    go true h = omega arith
+    go false h = omega arith
+
+pub held-most : (own : ℕ) (s : List ℕ) → heldIn own s ≤ placesIn (length s)
+unfolding heldIn
+held-most own s = omega (arith, leading-most own 0 (rows 100 (placesIn (length s)) s), rows-length 100 (placesIn (length s)) s)
+
+-- ---- records in form are counted
+
+-- no record stands at the front
+abbrev Stops : List (List ℕ) → Type 0
+Stops [] = Unit {0}
+Stops (z ∷ zs) = recordForm z ≡ false
+
+counts : (own low : ℕ) (recs zs : List (List ℕ)) → From own low recs → Stops zs → leading own low (recs ++ zs) ≡ length recs
+unfolding leading follows
+counts own low [] [] h st = refl
+counts own low [] (z ∷ zs) h st = rw st refl
+counts own low (r ∷ recs) zs h st =
+    ap (λ (b : Bool). cond b (suc (leading own (suc (keyOf r)) (recs ++ zs))) 0)
+    (follows-told own low r (record { formed = h .formed .0; least = h .rising .0; other = h .others .0 }))
+    ∙ ap suc (counts own (suc (keyOf r)) recs zs (record { formed = h .formed .1; rising = h .rising .1; others = h .others .1 }) st)
+
+getD-zeros : (k m i : ℕ) → getD {A = ℕ} (take k (replicate m 0)) i 0 ≡ 0
+getD-zeros zero m i = refl
+getD-zeros (suc k) zero i = refl
+getD-zeros (suc k) (suc m) zero = refl
+getD-zeros (suc k) (suc m) (suc i) = getD-zeros k m i
+
+-- a row of zeros is no record
+zeros-bad : (m : ℕ) → recordForm (take 100 (replicate m 0)) ≡ false
+unfolding recordForm
+zeros-bad m =
+    let r : List ℕ = take 100 (replicate m 0) in
+    go (eqb (length r) 100) _ _ _ _ (lt-leb 1 (countOf r) (omega (arith, getD-zeros 100 m 34)))
+  where
+    go : (a b c d e : Bool) → b ≡ false → a && b && c && d && e ≡ false
+    go true b c d e h = rw h refl
+    go false b c d e h = refl
+
+zeros-stop : (k m : ℕ) → Stops (rows 100 k (replicate m 0))
+unfolding rows
+zeros-stop zero m = tt
+zeros-stop (suc k) m = zeros-bad m
+
+-- ---- the form
+
+-- memory laid out in rows that may stand one after the other is in form
+pub form-of : (own : ℕ) (s : List ℕ) (used : ℕ) → Places (length s) → used ≡ heldIn own s → Laid 100 used s → Form own s (rows 100 used s)
+unfolding heldIn
+form-of own s used pl e laid =
+    let n : ℕ = placesIn (length s) in
+    let c : From own 0 (rows 100 used s) =
+    subst (λ (l : List (List ℕ)). From own 0 l)
+    (ap (λ (k : ℕ). take k (rows 100 n s)) (sym e) ∙ rows-take 100 used n s (omega (arith, laid .room))) (counted own 0 (rows 100 n s)) in
+    record {
+      places = pl;
+      bytes = laid-bytes 100 used s laid;
+      held = record { formed = c .formed; rising = c .rising; others = c .others };
+    }
+
+module _ (own : ℕ) (s : List ℕ) (recs : List (List ℕ)) (f : Form own s recs) where
+  sized : Sized 100 recs
+  sized = formed-sized recs (f .held .formed)
+
+  -- the records fit, they are the first rows, and zeros follow them
+  pub form-room : 100 * length recs ≤ length s
+  unfolding bytesOf
+  form-room =
+      let e : length s ≡ length (joined recs) + length (replicate {A = ℕ} (length s - length (joined recs)) 0) =
+      ap length (f .bytes) ∙ length-append (joined recs) _ in
+      omega (arith, e, joined-length 100 recs sized, length-replicate {A = ℕ} (length s - length (joined recs)) 0)
+
+  pub form-rows : recs ≡ rows 100 (length recs) s
+  unfolding bytesOf
+  form-rows = sym (ap (rows 100 (length recs)) (f .bytes) ∙ rows-of-joined 100 recs _ sized)
+
+  pub form-clear : allZero (drop (100 * length recs) s) ≡ true
+  form-clear =
+      ap (λ (l : List ℕ). allZero (drop (100 * length recs) l)) (f .bytes)
+      ∙ ap (λ (k : ℕ). allZero (drop k (bytesOf (length s) recs))) (sym (joined-length 100 recs sized))
+      ∙ ap allZero (bytes-clear (length s) recs) ∙ zeros-all (length s - length (joined recs))
+
+  -- the test counts them
+  pub form-counts : heldIn own s ≡ length recs
+  unfolding heldIn bytesOf
+  form-counts =
+      let m : ℕ = length s - length (joined recs) in
+      let k : ℕ = placesIn (length s) - length recs in
+      let e : placesIn (length s) ≡ length recs + k = omega (arith, form-room) in
+      ap (leading own 0) (ap₂ (rows 100) e (f .bytes) ∙ rows-append 100 recs k (replicate m 0) sized)
+      ∙ counts own 0 recs (rows 100 k (replicate m 0))
+      (record { formed = f .held .formed; rising = f .held .rising; others = f .held .others }) (zeros-stop k m)
+
+  pub form-held : heldOf own s ≡ recs
+  unfolding heldOf
+  form-held = ap (λ (n : ℕ). rows 100 n s) form-counts ∙ sym form-rows
+
+  -- and holds
+  pub form-true : cacheForm own s ≡ true
+  unfolding cacheForm
+  form-true =
+      rw (eq-eqb (length s % 100) 0 (f .places .whole), le-leb 1000 (length s) (f .places .least), le-leb (length s) 25600 (f .places .most), form-counts)
+      form-clear
+
+-- there is one list of records that a cache in form holds
+pub form-unique : (own : ℕ) (s : List ℕ) (a b : List (List ℕ)) → Form own s a → Form own s b → a ≡ b
+form-unique own s a b f g = sym (form-held own s a f) ∙ form-held own s b g
+
+-- where the first rows are the records, so many are counted, and memory is laid out in them
+pub form-used : (own used : ℕ) (s : List ℕ) → Form own s (rows 100 used s) → heldIn own s ≡ used
+form-used own used s f = form-counts own s (rows 100 used s) f ∙ rows-length 100 used s
+
+pub form-laid : (own used : ℕ) (s : List ℕ) → Form own s (rows 100 used s) → Laid 100 used s
+form-laid own used s f =
+    let n = rows-length 100 used s in record {
+      room = omega (arith, form-room own s (rows 100 used s) f, n);
+      clear = ap (λ (k : ℕ). allZero (drop (100 * k) s)) (sym n) ∙ form-clear own s (rows 100 used s) f;
+    }
+
+-- ---- the test
+
+pub true-form : (own : ℕ) (s : List ℕ) → cacheForm own s ≡ true → Form own s (heldOf own s)
+unfolding cacheForm heldOf
+true-form own s e =
+    let a = both-true (eqb (length s % 100) 0 && leb 1000 (length s) && leb (length s) 25600) _ e in
+    let b = both-true (eqb (length s % 100) 0 && leb 1000 (length s)) _ (a .0) in
+    let c = both-true (eqb (length s % 100) 0) _ (b .0) in
+    let pl : Places (length s) = record {
+      whole = eqb-true (length s % 100) 0 (c .0);
+      least = leb-true 1000 (length s) (c .1);
+      most = leb-true (length s) 25600 (b .1);
+    } in
+    form-of own s (heldIn own s) pl refl (record { room = omega (arith, held-most own s, pl .whole); clear = a .1 })
+
+-- it holds exactly where the cache holds some records; `form-held` says which
+pub cache-form : (own : ℕ) (s : List ℕ) → (cacheForm own s ≡ true) ↔ Form own s (heldOf own s)
+cache-form own s = (true-form own s, form-true own s (heldOf own s))

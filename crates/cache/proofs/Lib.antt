@@ -1,0 +1,12 @@
+pub mod FormLaws
+pub mod ShapeLaws
+pub mod SeekLaws
+pub mod FindLaws
+pub mod LearnLaws
+pub mod KeepLaws
+pub mod ListLaws
+pub mod ClosestLaws
+pub mod BestLaws
+pub mod LentLaws
+pub mod CallLaws
+pub mod CaseLaws

@@ -1,0 +1,113 @@
+-- Laws of the test of the form as code makes it: place by place, then by the size and by what follows the records.
+-- In this order: what a place's key has to be at least; the loop over the places; the answer. Assumes nothing.
+use mathlib.Core.Path.{_≡_, refl, ap, _∙_}
+use mathlib.Core.List.{List}
+use mathlib.Core.Bool.{Bool, true, false, cond}
+use Prim.Native.Nat.{ℕ, suc, _+_, _-_, _*_, _%_, _≤_, _<_}
+use native.Mathlib.Numerals.{add-one}
+use native.Mathlib.Omega.{arith}
+use lib.Dec.{leb}
+use lib.ListN.{length, drop}
+use borrow.Author.Tests.{eq-eqb, ne-eqb, le-leb, lt-leb}
+use mathlib.Core.Path.{sym}
+use Rattle.octet.specs.Part.{part, allZero}
+use Rattle.key.specs.Number.{keyAt}
+use Rattle.record.specs.Record.{keyOf}
+use Rattle.table.specs.Rows.{rows}
+use Rattle.table.proofs.RowLaws.{rows-next, rows-end}
+use Rattle.cache.specs.declared.shape.Formed.the-variants.{Bad, Good}
+use Rattle.cache.specs.Form.{Form, follows, leading, heldIn, heldOf, cacheForm, placesIn}
+use Rattle.cache.specs.Place.{formOf, lowAt}
+use Rattle.cache.proofs.FormLaws.{key-of-row, true-form}
+
+-- ---- what the key of a place has to be at least
+
+pub low-first : (s : List ℕ) (i k : ℕ) → i ≡ 0 → leb (lowAt s i) k ≡ true
+unfolding lowAt
+low-first s i k e = ap (λ (j : ℕ). leb (lowAt s j) k) e ∙ le-leb 0 k (omega arith)
+
+low-next : (s : List ℕ) (i : ℕ) → (i ≡ 0 → ⊥) → lowAt s i ≡ suc (keyAt (100 * (i - 1)) s)
+unfolding lowAt
+low-next s i d =
+    let p : i ≡ suc (i - 1) = omega arith in
+    ap (λ (j : ℕ). lowAt s j) p
+
+pub low-less : (s : List ℕ) (i k : ℕ) → (i ≡ 0 → ⊥) → keyAt (100 * (i - 1)) s < k → leb (lowAt s i) k ≡ true
+low-less s i k d h = ap (λ (m : ℕ). leb m k) (low-next s i d) ∙ le-leb _ k h
+
+pub low-more : (s : List ℕ) (i k : ℕ) → (i ≡ 0 → ⊥) → k ≤ keyAt (100 * (i - 1)) s → leb (lowAt s i) k ≡ false
+low-more s i k d h = ap (λ (m : ℕ). leb m k) (low-next s i d) ∙ lt-leb _ k (omega arith)
+
+-- ---- the loop that counts the places in order
+
+module _ (own n : ℕ) (s : List ℕ) (i : ℕ) where
+  step : (b : Bool) → i < n → follows own (lowAt s i) (part (100 * i) 100 s) ≡ b
+      → leading own (lowAt s i) (drop i (rows 100 n s)) ≡ cond b (suc (leading own (lowAt s (i + 1)) (drop (i + 1) (rows 100 n s)))) 0
+  unfolding leading lowAt
+  step b h f =
+      let row : List ℕ = part (100 * i) 100 s in
+      let rest : List (List ℕ) = drop (i + 1) (rows 100 n s) in
+      let low : suc (keyOf row) ≡ lowAt s (i + 1) = ap suc (key-of-row (100 * i) s) ∙ ap (lowAt s) (sym (add-one i)) in
+      ap (leading own (lowAt s i)) (rows-next 100 n s i h)
+      ∙ ap (λ (t : Bool). cond t (suc (leading own (suc (keyOf row)) rest)) 0) f
+      ∙ ap (λ (l : ℕ). cond b (suc (leading own l rest)) 0) low
+
+  pub count-more : i < n → follows own (lowAt s i) (part (100 * i) 100 s) ≡ true
+      → i + leading own (lowAt s i) (drop i (rows 100 n s)) ≡ i + 1 + leading own (lowAt s (i + 1)) (drop (i + 1) (rows 100 n s))
+  count-more h f = omega (arith, step true h f)
+
+  pub count-stop : i < n → follows own (lowAt s i) (part (100 * i) 100 s) ≡ false → i + leading own (lowAt s i) (drop i (rows 100 n s)) ≡ i
+  count-stop h f = omega (arith, step false h f)
+
+  pub count-end : n ≤ i → i + leading own (lowAt s i) (drop i (rows 100 n s)) ≡ i
+  unfolding leading
+  count-end h =
+      let a : leading own (lowAt s i) (drop i (rows 100 n s)) ≡ 0 = ap (leading own (lowAt s i)) (rows-end 100 n s i h) in
+      omega arith
+
+-- ---- the answer
+
+module _ (own : ℕ) (s : List ℕ) where
+  pub not-whole : (length s % 100 ≡ 0 → ⊥) → formOf own s ≡ Bad
+  unfolding formOf cacheForm
+  not-whole d = rw (ne-eqb (length s % 100) 0 d) refl
+
+  module _ (whole : length s % 100 ≡ 0) where
+    pub too-small : length s < 1000 → formOf own s ≡ Bad
+    unfolding formOf cacheForm
+    too-small h = rw (eq-eqb (length s % 100) 0 whole, lt-leb 1000 (length s) h) refl
+
+    module _ (least : 1000 ≤ length s) where
+      pub too-large : 25600 < length s → formOf own s ≡ Bad
+      unfolding formOf cacheForm
+      too-large h = rw (eq-eqb (length s % 100) 0 whole, le-leb 1000 (length s) least, lt-leb (length s) 25600 h) refl
+
+      pub by-rest : (used : ℕ) (b : Bool) → length s ≤ 25600 → used ≡ leading own 0 (rows 100 (placesIn (length s)) s) → b ≡ allZero (drop (100 * used) s)
+          → formOf own s ≡ cond b (Good used) Bad
+      unfolding formOf cacheForm heldIn
+      by-rest used b most is z =
+          rw (eq-eqb (length s % 100) 0 whole, le-leb 1000 (length s) least, le-leb (length s) 25600 most, z, is) refl
+
+  tells : (b : Bool) (n m : ℕ) → cond b (Good n) Bad ≡ Good m → (b ≡ true) × (n ≡ m)
+  tells true n m e = (refl, cc)
+  tells false n m e = let z : _≡_ {A = ℕ} 0 1 = cc in absurd (omega arith)
+
+  tells-bad : (b : Bool) (n : ℕ) → cond b (Good n) Bad ≡ Bad → b ≡ false
+  tells-bad true n e = let z : _≡_ {A = ℕ} 0 1 = cc in absurd (omega arith)
+  tells-bad false n e = refl
+
+  -- what it tells
+  pub good-is : {used : ℕ} → formOf own s ≡ Good used → (cacheForm own s ≡ true) × (heldIn own s ≡ used)
+  unfolding formOf
+  good-is {used} e = tells (cacheForm own s) (heldIn own s) used e
+
+  pub bad-is : formOf own s ≡ Bad → cacheForm own s ≡ false
+  unfolding formOf
+  bad-is e = tells-bad (cacheForm own s) (heldIn own s) e
+
+  pub good-held : {used : ℕ} → formOf own s ≡ Good used → heldOf own s ≡ rows 100 used s
+  unfolding heldOf
+  good-held e = ap (λ (n : ℕ). rows 100 n s) (good-is e .1)
+
+  pub good-form : {used : ℕ} → formOf own s ≡ Good used → Form own s (rows 100 used s)
+  good-form e = rw (good-held e) at (true-form own s (good-is e .0))

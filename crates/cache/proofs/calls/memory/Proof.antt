@@ -1,0 +1,25 @@
+-- `cache::calls::memory` meets its contract: the own record first, then the cache. Assumes nothing.
+use mathlib.Core.Path.{refl, sym, _∙_}
+use borrow.Author.Tests.{not-true, not-false}
+use Rattle.cache.proofs.FormLaws.{formed-length}
+use native.Mathlib.Omega.{arith}
+use borrow.Author.Needs.{needs}
+use Rattle.cache.proofs.calls.memory.Statement.{statement}
+use Rattle.cache.proofs.calls.memory.Tie as tie
+
+is-record-requires : tie.Need-is-record-requires
+is-record-requires c κs = search needs
+
+returns : tie.Need-returns
+returns c = sym (rw (sym (c .before .is-record .ensures) ∙ not-true _ (c .if1 .taken)) refl)
+
+form-requires : tie.Need-form-requires
+form-requires c κs =
+    let c4 = c .before .before .before .before in
+    omega (arith, formed-length (c4 .args .own .now) (sym (c .before .is-record .ensures) ∙ not-false _ (c .if1 .left)))
+
+returns-2 : tie.Need-returns-2
+returns-2 c = c .form .ensures ∙ sym (rw (sym (c .before .before .is-record .ensures) ∙ not-false _ (c .before .if1 .left)) refl)
+
+pub memory-spec : {M : Type 1} → statement M
+memory-spec = tie.close (tie.spec is-record-requires returns form-requires returns-2)

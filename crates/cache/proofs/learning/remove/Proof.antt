@@ -1,0 +1,74 @@
+-- `cache::learning::remove` meets its contract: the place found goes, or nothing where the key is not held. Assumes nothing.
+use mathlib.Core.Path.{ap, _∙_}
+use lib.ListN.{length}
+use Rattle.key.specs.Number.{keyAt}
+use Rattle.record.specs.Record.{keyOf}
+use Rattle.table.specs.Rows.{bytesOf, Laid}
+use Rattle.table.proofs.RowLaws.{laid-bytes}
+use Rattle.cache.proofs.FormLaws.{form-laid}
+use Rattle.cache.proofs.FindLaws.{found-place, found-removes}
+use borrow.Author.Needs.{needs}
+use Rattle.cache.proofs.learning.remove.Statement.{statement}
+use Rattle.cache.proofs.learning.remove.Tie as tie
+
+laid : (s : tie.Start) → Laid 100 (s .args .used) (s .args .cache .now)
+laid s = form-laid (keyOf (s .args .own .now)) (s .args .used) (s .args .cache .now) (s .pre .1)
+
+find-requires : tie.Need-find-requires
+find-requires c κs =
+    let c4 = c .before .before .before .before in
+    let s = c4 in (laid s .room, (s .pre .0 .1, s .pre .1 .held .rising))
+
+enum-known-found : tie.Need-enum-known-found
+enum-known-found c = search needs
+
+remove-row-requires : tie.Need-remove-row-requires
+remove-row-requires c κs =
+    let c4 = c .before .before .before .before in
+    let c9 = c4 .before .before .before .before .before in
+    let s = c9 in
+    let a = s .args in
+    (found-place (keyAt 0 (a .key .now)) (a .used) (a .cache .now) (c4 .find .ensures) (c .before .before .found .given .1), laid s)
+
+enum-told : tie.Need-enum-told
+enum-told c = search needs
+
+same-length : tie.Need-same-length
+same-length c = search needs
+
+returns : tie.Need-returns
+returns c =
+    let c5 = c .before .before .before .before .before in
+    let c7 = c5 .before .before in
+    let c12 = c7 .before .before .before .before .before in
+    let s = c12 in
+    let a = s .args in
+    c .before .before .remove-row .ensures
+    ∙ ap (bytesOf (length (a .cache .now)))
+    (found-removes (keyAt 0 (a .key .now)) (a .used) (a .cache .now) (c7 .find .ensures) (c5 .found .given .1) (s .pre .1 .held .rising))
+
+same-length-2 : tie.Need-same-length-2
+same-length-2 c = search needs
+
+returns-2 : tie.Need-returns-2
+returns-2 c =
+    let c7 = c .before .before .before .before .before .before .before in
+    let s = c7 in
+    let a = s .args in
+    laid-bytes 100 (a .used) (a .cache .now) (laid s)
+    ∙ ap (bytesOf (length (a .cache .now)))
+    (found-removes (keyAt 0 (a .key .now)) (a .used) (a .cache .now) (c .before .before .find .ensures) (c .enum-told .given .1)
+    (s .pre .1 .held .rising))
+
+pub remove-spec : {M : Type 1} → statement M
+remove-spec =
+    tie.close
+    (tie.spec
+    find-requires
+    enum-known-found
+    remove-row-requires
+    enum-told
+    same-length
+    returns
+    same-length-2
+    returns-2)

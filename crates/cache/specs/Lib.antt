@@ -1,0 +1,6 @@
+pub mod Form
+pub mod Place
+pub mod Bytes
+pub mod Closest
+pub mod Calls
+pub mod Cases

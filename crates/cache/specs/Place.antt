@@ -1,0 +1,53 @@
+-- Helps the code. Where a key stands among rising keys, or would; and the answers of the searches, by enum. Assumes nothing.
+use Prim.Native.Nat.{ℕ, zero, suc, _+_, _*_, _<_}
+use mathlib.Core.Bool.{Bool, true, false, cond}
+use mathlib.Core.List.{List, [], _∷_}
+use lib.Dec.{ltb, eqb}
+use lib.ListN.{length}
+use Rattle.octet.specs.Part.{part}
+use Rattle.key.specs.Number.{keyAt}
+use Rattle.kept.specs.Plain.{countBelow}
+use Rattle.cache.specs.Form.{heldIn, cacheForm}
+use Rattle.cache.specs.declared.shape.Formed.{Formed}
+use Rattle.cache.specs.declared.shape.Formed.the-variants.{Bad, Good}
+use Rattle.cache.specs.declared.nearest.Where.{Where}
+use Rattle.cache.specs.declared.nearest.Where.the-variants.{Own, Held}
+use Rattle.cache.specs.declared.place.Found.{Found}
+use Rattle.cache.specs.declared.place.Found.the-variants.{At, Before}
+
+-- the test of the form, with how many records are held
+unfoldable pub formOf : ℕ → List ℕ → Formed
+formOf own cache = cond (cacheForm own cache) (Good (heldIn own cache)) Bad
+
+-- what the key of place i has to be at least: above the one before it
+unfoldable pub lowAt : List ℕ → ℕ → ℕ
+lowAt cache zero = 0
+lowAt cache (suc i) = suc (keyAt (100 * i) cache)
+
+-- one place further
+abbrev pub further : Found → Found
+further (At i) = At (suc i)
+further (Before i) = Before (suc i)
+
+-- at the place of k, or before that of the first key above it
+unfoldable pub findKey : ℕ → List ℕ → Found
+findKey k [] = Before 0
+findKey k (j ∷ ks) = cond (ltb j k) (further (findKey k ks)) (cond (eqb j k) (At 0) (Before 0))
+
+-- does it stand there?
+abbrev pub isAt : Found → Bool
+isAt (At i) = true
+isAt (Before i) = false
+
+-- are more of the keys below our own than above it?
+unfoldable pub moreBelow : ℕ → List ℕ → Bool
+moreBelow own keys = ltb (length keys) (countBelow own keys + countBelow own keys)
+
+-- a place among our own record and the first n of the cache, and the record there
+abbrev pub Within : ℕ → Where → Type 0
+Within n Own = Unit {0}
+Within n (Held i) = i < n
+
+abbrev pub recordAt : List ℕ → List ℕ → Where → List ℕ
+recordAt own cache Own = own
+recordAt own cache (Held i) = part (100 * i) 100 cache

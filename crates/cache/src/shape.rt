@@ -1,0 +1,105 @@
+// The form of the cache: used records first, keys strictly increasing, none the own key; the rest all zero.
+ghost use mathlib.Core.Path.{_≡_};
+ghost use Prim.Native.Nat.{_+_, _*_, _/_, _≤_};
+ghost use lib.Dec.{leb};
+ghost use lib.ListN.{length};
+ghost use Rattle.octet.specs.Part.{part};
+ghost use Rattle.key.specs.Number.{keyAt};
+ghost use Rattle.record.specs.Record.{keyOf, recordForm};
+ghost use Rattle.table.specs.Rows.{rows};
+ghost use Rattle.cache.specs.Form.{follows, leading};
+ghost use Rattle.cache.specs.Place.{formOf, lowAt};
+use key::Order;
+
+// Whether the cache is in form, and then how many records it holds.
+pub enum Formed {
+    Bad,
+    Good(usize),
+}
+
+// Is the slice a record in form?
+pub fn is_record(r: &[u8]) -> bool
+    ensures { λ b. ⌜ b ≡ recordForm (now (r .entry)) ⌝ }
+{
+    if r.len() != 100 {
+        return false;
+    }
+    record::is_formed(r, 0)
+}
+
+// Is the key at place i above the one before it?
+fn above_before(cache: &[u8], i: usize) -> bool
+    requires { ⌜ 100 * i + 100 ≤ length (now cache) ⌝ }
+    ensures { λ r. ⌜ r ≡ leb (lowAt (now (cache .entry)) i) (keyAt (100 * i) (now (cache .entry))) ⌝ }
+{
+    if i == 0 {
+        return true;
+    }
+    let before = i - 1;
+    match key::order_at(cache, 100 * before, cache, 100 * i) {
+        Order::Less => true,
+        Order::Same => false,
+        Order::More => false,
+    }
+}
+
+// Has place i a record that may stand after those before it?
+fn place_follows(own: &[u8], cache: &[u8], i: usize) -> bool
+    requires { ⌜ 32 ≤ length (now own) ⌝ }
+    requires { ⌜ 100 * i + 100 ≤ length (now cache) ⌝ }
+    ensures { λ r. ⌜ r ≡ follows (keyOf (now (own .entry))) (lowAt (now (cache .entry)) i)
+        (part (100 * i) 100 (now (cache .entry))) ⌝ }
+{
+    let at = 100 * i;
+    if !record::is_formed(cache, at) {
+        return false;
+    }
+    if !above_before(cache, i) {
+        return false;
+    }
+    match key::order_at(cache, at, own, 0) {
+        Order::Less => true,
+        Order::Same => false,
+        Order::More => true,
+    }
+}
+
+// How many places, from the first, have records in order.
+fn count_held(own: &[u8], cache: &[u8]) -> usize
+    requires { ⌜ 32 ≤ length (now own) ⌝ }
+    ensures { λ r. ⌜ r
+        ≡ leading (keyOf (now (own .entry))) 0 (rows 100 (length (now (cache .entry)) / 100) (now (cache .entry))) ⌝ }
+{
+    let n = cache.len() / 100;
+    let mut i = 0;
+    while i < n {
+        if !place_follows(own, cache, i) {
+            return i;
+        }
+        i += 1;
+    }
+    n
+}
+
+// The test of the form, under the own key, which stands at the own record's start.
+pub fn form(own: &[u8], cache: &[u8]) -> Formed
+    requires { ⌜ 32 ≤ length (now own) ⌝ }
+    ensures { λ r. ⌜ r ≡ formOf (keyOf (now (own .entry))) (now (cache .entry)) ⌝ }
+{
+    let size = cache.len();
+    if size % 100 != 0 {
+        return Formed::Bad;
+    }
+    if size < 1000 {
+        return Formed::Bad;
+    }
+    if 25600 < size {
+        return Formed::Bad;
+    }
+    let used = count_held(own, cache);
+    let end = 100 * used;
+    if octet::is_zero(&cache[end..]) {
+        return Formed::Good(used);
+    }
+    Formed::Bad
+}

@@ -1,0 +1,13 @@
+pub mod PutLaws
+pub mod ListLaws
+pub mod WithoutLaws
+pub mod RankedLaws
+pub mod HistoryLaws
+pub mod FarthestLaws
+pub mod Demand3Laws
+pub mod RecordLaws
+pub mod SplitLaws
+pub mod PlainLaws
+pub mod PlaceLaws
+pub mod CallLaws
+pub mod CaseLaws

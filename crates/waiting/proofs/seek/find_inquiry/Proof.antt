@@ -1,0 +1,87 @@
+-- `waiting::seek::find_inquiry` meets its contract: the answer is always the answer for what is left. Assumes nothing.
+use mathlib.Core.Path.{_≡_, refl, sym, _∙_}
+use Prim.Native.Nat.{_*_, _-_, _≤_}
+use native.Mathlib.Omega.{arith}
+use lib.ListN.{drop}
+use Rattle.key.specs.Number.{keyAt}
+use Rattle.table.specs.Rows.{rows}
+use Rattle.waiting.specs.Form.{isInquiry}
+use Rattle.waiting.specs.Seek.{seek}
+use Rattle.waiting.proofs.WalkLaws.{inquiry-is, seek-here, seek-on, seek-end}
+use Rattle.waiting.proofs.seek.find_inquiry.Statement.{statement}
+use Rattle.waiting.proofs.seek.find_inquiry.Tie as tie
+
+abbrev Inv-loop : tie.InvT-loop
+Inv-loop table start used key place at₀ at =
+    (at ≤ used)
+    × (seek (isInquiry (keyAt place key)) start (drop start (rows 140 used table))
+    ≡ seek (isInquiry (keyAt place key)) at (drop at (rows 140 used table)))
+
+abbrev μ-loop : tie.MeasureT-loop
+μ-loop table start used key place at₀ at = used - at
+
+loop-holds : tie.Need-loop-holds Inv-loop μ-loop
+loop-holds c = (omega arith, refl)
+
+mul-from : tie.Need-mul-from Inv-loop μ-loop
+mul-from c = omega arith
+
+add-same-key : tie.Need-add-same-key Inv-loop μ-loop
+add-same-key c = omega arith
+
+same-key-requires : tie.Need-same-key-requires Inv-loop μ-loop
+same-key-requires c κs = (omega arith, omega arith)
+
+add-if1 : tie.Need-add-if1 Inv-loop μ-loop
+add-if1 c = omega arith
+
+shared-slice-read-if1 : tie.Need-shared-slice-read-if1 Inv-loop μ-loop
+shared-slice-read-if1 c = omega arith
+
+returns : tie.Need-returns Inv-loop μ-loop
+returns c =
+    let a = c .before .before .before .before .before .before .before .args in
+    let l = c .before .before .before .before .loop in
+    let k = keyAt (a .place) (a .key .now) in
+    sym (l .inv .1 ∙ seek-here (a .used) (a .table .now) (l .at) (isInquiry k) (omega arith)
+    (inquiry-is k (140 * l .at) (a .table .now) (c .before .before .same-key .ensures) ∙ c .if1 .taken))
+
+add-at : tie.Need-add-at Inv-loop μ-loop
+add-at c = omega arith
+
+loop-less : tie.Need-loop-less Inv-loop μ-loop
+loop-less c = omega arith
+
+loop-again : tie.Need-loop-again Inv-loop μ-loop
+loop-again c =
+    let a = c .before .before .before .before .before .before .before .args in
+    let l = c .before .before .before .before .loop in
+    let k = keyAt (a .place) (a .key .now) in (
+      omega arith,
+      l .inv .1 ∙ seek-on (a .used) (a .table .now) (l .at) (isInquiry k) (omega arith)
+          (inquiry-is k (140 * l .at) (a .table .now) (c .before .before .same-key .ensures) ∙ c .if1 .left),
+    )
+
+returns-2 : tie.Need-returns-2 Inv-loop μ-loop
+returns-2 c =
+    let a = c .before .before .before .before .args in
+    let l = c .before .loop in
+    sym (l .inv .1 ∙ seek-end (a .used) (a .table .now) (l .at) (isInquiry (keyAt (a .place) (a .key .now))) (omega arith))
+
+pub find-inquiry-spec : {M : Type 1} → statement M
+find-inquiry-spec =
+    tie.close
+    (tie.spec
+    Inv-loop
+    μ-loop
+    loop-holds
+    mul-from
+    add-same-key
+    same-key-requires
+    add-if1
+    shared-slice-read-if1
+    returns
+    add-at
+    loop-less
+    loop-again
+    returns-2)

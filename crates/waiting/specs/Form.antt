@@ -1,0 +1,69 @@
+-- To believe. When the waiting table is in form: "Used places first, IDs strictly increasing; free places all zero. An inquiry's record is well formed
+-- and has the place's key; no two inquiries have the same key, and none has the own key. A flood's record is all zero." Assumes nothing.
+use Prim.Native.Nat.{ℕ, suc, _*_, _≤_}
+use mathlib.Core.Path.{_≡_}
+use mathlib.Core.Bool.{Bool, true, false, not, _&&_, _||_, cond}
+use mathlib.Core.List.{List, [], _∷_}
+use lib.Dec.{eqb, leb}
+use lib.ListN.{length, drop, getD}
+use Rattle.octet.specs.Part.{allZero}
+use Rattle.record.specs.Record.{keyOf, recordForm}
+use Rattle.table.specs.Rows.{rows, bytesOf, Sized}
+use Rattle.waiting.specs.Place.{idOf, kindOf, triesOf, placeKey, placeRecord}
+
+-- ---- a used place, for a gauge with the own key
+
+abbrev pub floodForm : List ℕ → Bool
+floodForm p = eqb (kindOf p) 1 && allZero (placeRecord p)
+
+abbrev pub inquiryForm : ℕ → List ℕ → Bool
+inquiryForm own p =
+    eqb (kindOf p) 2 && recordForm (placeRecord p) && eqb (keyOf (placeRecord p)) (placeKey p) && not (eqb (placeKey p) own)
+
+unfoldable pub placeForm : ℕ → List ℕ → Bool
+placeForm own p =
+    leb (triesOf p) 2 && eqb (getD p 6 0) 0 && eqb (getD p 7 0) 0 && (floodForm p || inquiryForm own p)
+
+-- ---- the used places
+
+-- is the place an inquiry for the key?
+abbrev pub isInquiry : ℕ → List ℕ → Bool
+isInquiry k p = eqb (kindOf p) 2 && eqb (placeKey p) k
+
+-- does one of them pass a test?
+unfoldable pub anyOf : (List ℕ → Bool) → List (List ℕ) → Bool
+anyOf test [] = false
+anyOf test (p ∷ ps) = test p || anyOf test ps
+
+-- is the place an inquiry, and one of those after it one for the same key?
+abbrev pub again : List ℕ → List (List ℕ) → Bool
+again p ps = eqb (kindOf p) 2 && anyOf (isInquiry (placeKey p)) ps
+
+-- is each in form, with an ID above those before it, the first's at least low, and no inquiry's key that of a later one?
+unfoldable pub placesForm : ℕ → ℕ → List (List ℕ) → Bool
+placesForm own low [] = true
+placesForm own low (p ∷ ps) = placeForm own p && leb low (idOf p) && not (again p ps) && placesForm own (suc (idOf p)) ps
+
+-- ---- the table
+
+-- how many places stand before the first free one
+unfoldable pub usedIn : List (List ℕ) → ℕ
+usedIn [] = 0
+usedIn (p ∷ ps) = cond (eqb (kindOf p) 0) 0 (suc (usedIn ps))
+
+unfoldable pub usedOf : List ℕ → ℕ
+usedOf t = usedIn (rows 140 16 t)
+
+-- the used places
+abbrev pub placesOf : List ℕ → List (List ℕ)
+placesOf t = rows 140 (usedOf t) t
+
+unfoldable pub waitingForm : ℕ → List ℕ → Bool
+waitingForm own t = eqb (length t) 2240 && allZero (drop (140 * usedOf t) t) && placesForm own 0 (placesOf t)
+
+-- the same as a property of a list of places: the table is this list, and then zeros
+pub record Form (own : ℕ) (t : List ℕ) (ps : List (List ℕ)) : Type 0 where
+  pub bytes : t ≡ bytesOf 2240 ps
+  pub sized : Sized 140 ps
+  pub few : length ps ≤ 16
+  pub places : placesForm own 0 ps ≡ true

@@ -1,0 +1,9 @@
+pub mod Place
+pub mod Form
+pub mod Formed
+pub mod Seek
+pub mod Open
+pub mod Slot
+pub mod Tick
+pub mod Call
+pub mod Cases

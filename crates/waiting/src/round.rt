@@ -1,0 +1,52 @@
+// The tick's round over the used places.
+ghost use mathlib.Core.Path.{_≡_};
+ghost use mathlib.Core.Bool.{cond};
+ghost use Prim.Native.Nat.{_+_, _*_, _≤_, _<_};
+ghost use lib.ListN.{length};
+ghost use Rattle.octet.specs.Number.{digitsLE};
+ghost use Rattle.octet.specs.Part.{part, splice};
+ghost use Rattle.table.specs.Rows.{rows, bytesOf};
+ghost use Rattle.waiting.specs.Place.{idOf};
+ghost use Rattle.waiting.specs.Tick.{spent, oneLess, ticked, listed, idBytes};
+
+// One place's part. With a try left it moves down to place number `kept`, with one try less, and its ID is listed.
+fn tick_place(table: &mut [u8], at: usize, kept: usize, output: &mut [u8]) -> usize
+    requires { ⌜ (kept ≤ at) × (at < 16) × (length (now table) ≡ 2240) × (64 ≤ length (now output)) ⌝ }
+    ensures { λ r. ⌜ (r ≡ cond (spent (part (140 * at) 140 (now (table .entry)))) kept (kept + 1))
+        × (now (table .exit) ≡ cond (spent (part (140 * at) 140 (now (table .entry)))) (now (table .entry))
+        (splice (140 * kept) (oneLess (part (140 * at) 140 (now (table .entry)))) (now (table .entry))))
+        × (now (output .exit) ≡ cond (spent (part (140 * at) 140 (now (table .entry)))) (now (output .entry))
+        (splice (4 * kept) (digitsLE 256 4 (idOf (part (140 * at) 140 (now (table .entry)))))
+        (now (output .entry)))) ⌝ }
+{
+    let from = 140 * at;
+    let to = 140 * kept;
+    let tries = table[from + 5];
+    if tries == 0 {
+        return kept;
+    }
+    let id = octet::read_u32_le(table, from);
+    octet::write_u32_le(output, 4 * kept, id);
+    octet::move_down(table, from, to, 140);
+    table[to + 5] = tries - 1;
+    kept + 1
+}
+
+// The used places after a tick, and the list of IDs in the first bytes of the output; how many are listed.
+pub fn tick_places(table: &mut [u8], used: usize, output: &mut [u8]) -> usize
+    requires { ⌜ (used ≤ 16) × (length (now table) ≡ 2240) × (64 ≤ length (now output)) ⌝ }
+    ensures { λ r. ⌜ (r ≡ length (listed (rows 140 used (now (table .entry)))))
+        × (now (table .exit) ≡ bytesOf 2240 (ticked (rows 140 used (now (table .entry)))))
+        × (now (output .exit)
+        ≡ splice 0 (idBytes (listed (rows 140 used (now (table .entry))))) (now (output .entry))) ⌝ }
+{
+    let mut at = 0;
+    let mut kept = 0;
+    while at < used {
+        kept = tick_place(table, at, kept, output);
+        at += 1;
+    }
+    let free = 140 * kept;
+    octet::clear(table, free, 2240 - free);
+    kept
+}

@@ -7,7 +7,11 @@
 The answers are made here, by whole numbers and slices of Python and from the documents. Nothing is taken from a run of the gauge.
 """
 import os
+import re
 import sys
+
+import vector_memory
+import vector_messages
 
 HERE = os.path.join(os.path.dirname(os.path.abspath(__file__)), "..", "crates", "vectors")
 TOP = 2 ** 256 - 1
@@ -15,10 +19,14 @@ HEADER = bytes.fromhex("001000 0C51")  # document 01: the first five bytes of ev
 
 
 def hexed(operand):
-    """An operand as it stands in a line: a number with an even count of digits, or bytes; `-` for none."""
+    """An operand as it stands in a line: a number with an even count of digits, or bytes; `-` for none; `Z` and four digits for that many zero bytes."""
     if isinstance(operand, int):
         return "%0*X" % (2 * max(1, (operand.bit_length() + 7) // 8), operand)
-    return operand.hex().upper() or "-"
+    text, at = "", 0
+    for run in re.finditer(rb"\0{12,65535}", operand):
+        text += operand[at:run.start()].hex().upper() + "Z%04X" % len(run.group())
+        at = run.end()
+    return text + operand[at:].hex().upper() or "-"
 
 
 def key(n):
@@ -48,7 +56,16 @@ def spliced(at, new, s):
 
 
 def vectors():
-    """Headings as strings, vectors as (operands, answer)."""
+    """Headings as strings, vectors as (operands, answer): the layers from the lowest up."""
+    yield "# a vector is a name and operands in hexadecimal; Z and four digits stand for that many zero bytes, - for none"
+    yield from ground()
+    for layer in (vector_messages, vector_memory):
+        # what is written again is compared where messages are written
+        yield from (v for v in layer.vectors() if isinstance(v, str) or v[0][0] != "again")
+
+
+def ground():
+    """Bytes, runs of bytes, keys."""
     def reads(name, at, s):
         return (name, at, s), read(name, at, s)
 

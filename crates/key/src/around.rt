@@ -6,7 +6,7 @@ ghost use Rattle.key.specs.Number.{number, keyAt};
 ghost use Rattle.key.specs.Around.{isAbove, apart, tie, closer};
 use crate::Key;
 use crate::Order;
-use crate::ordered::compare;
+use crate::ordered::is_less;
 use crate::ordered::order_at;
 use crate::subtract::difference;
 
@@ -36,20 +36,18 @@ pub fn is_closer(target: Key, k: Key, d: Key, j: Key, e: Key) -> bool
     requires { ⌜ number e ≡ apart (number target) (number j) ⌝ }
     ensures { λ r. ⌜ r ≡ closer (number target) (number k) (number j) ⌝ }
 {
-    match compare(d, e) {
-        Order::Less => true,
-        Order::Same => wins_tie(target, k, j),
-        Order::More => false,
+    if is_less(d, e) {
+        return true;
     }
+    if is_less(e, d) {
+        return false;
+    }
+    wins_tie(target, k, j)
 }
 
 // Of two keys equally far from the target, is k the one that is taken?
 fn wins_tie(target: Key, k: Key, j: Key) -> bool
     ensures { λ r. ⌜ r ≡ tie (number target) (number k) (number j) ⌝ }
 {
-    match compare(k, j) {
-        Order::Less => true,
-        Order::Same => false,
-        Order::More => false,
-    }
+    is_less(k, j)
 }

@@ -1,7 +1,7 @@
 // The order of keys: of two in hand, and of two where they lie.
 ghost use mathlib.Core.Path.{_≡_};
 ghost use Prim.Native.Nat.{_+_, _≤_};
-ghost use lib.Dec.{eqb};
+ghost use lib.Dec.{ltb, eqb};
 ghost use lib.ListN.{length};
 ghost use Rattle.key.specs.Number.{number, keyAt, orderOf};
 use crate::Key;
@@ -33,6 +33,17 @@ pub fn compare(x: Key, y: Key) -> Order
         return order_of_words(x.c, y.c);
     }
     order_of_words(x.d, y.d)
+}
+
+// Is one key, or one difference, less than another?
+pub(crate) fn is_less(x: Key, y: Key) -> bool
+    ensures { λ r. ⌜ r ≡ ltb (number x) (number y) ⌝ }
+{
+    match compare(x, y) {
+        Order::Less => true,
+        Order::Same => false,
+        Order::More => false,
+    }
 }
 
 // Are two keys the same?

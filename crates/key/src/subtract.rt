@@ -3,8 +3,7 @@ ghost use mathlib.Core.Path.{_≡_};
 ghost use Prim.Native.Nat.{_+_, _-_, _*_, _^_, _≤_};
 ghost use Rattle.key.specs.Number.{number, distance};
 use crate::Key;
-use crate::Order;
-use crate::ordered::compare;
+use crate::ordered::is_less;
 
 // A word of a difference, and what was borrowed for it, 0 or 1.
 struct Step {
@@ -45,13 +44,15 @@ fn less(x: Key, y: Key) -> Key
     }
 }
 
-// The larger of two keys less the smaller.
+// The larger of two keys less the smaller: one subtraction, so that the compiler puts it where it is used.
 pub fn difference(x: Key, y: Key) -> Key
     ensures { λ r. ⌜ number r ≡ distance (number x) (number y) ⌝ }
 {
-    match compare(x, y) {
-        Order::Less => less(y, x),
-        Order::Same => less(x, y),
-        Order::More => less(x, y),
+    let mut high = x;
+    let mut low = y;
+    if is_less(x, y) {
+        high = y;
+        low = x;
     }
+    less(high, low)
 }

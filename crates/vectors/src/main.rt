@@ -41,6 +41,12 @@ fn answer(text: &[u8], room: &mut [u8], side: &mut [u8]) {
     if vector_ground::answer(text, room, side) {
         return;
     }
+    if vector_messages::answer(text, room) {
+        return;
+    }
+    if vector_memory::answer(text, room, side) {
+        return;
+    }
     say::text(b"no such vector");
 }
 

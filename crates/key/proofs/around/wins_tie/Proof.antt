@@ -1,43 +1,15 @@
 -- `key::wins_tie` meets its contract: the smaller key is taken. Assumes nothing.
-use mathlib.Core.Path.{sym, _∙_}
-use borrow.Author.Needs.{needs}
-use Rattle.key.specs.Number.{number}
 use Rattle.key.specs.Around.{tie}
-use Rattle.key.proofs.OrderLaws.{test-less, test-same, test-more}
+use borrow.Author.Needs.{needs}
 use Rattle.key.proofs.around.wins_tie.Statement.{statement}
 use Rattle.key.proofs.around.wins_tie.Tie as tie
 
-compare-requires : tie.Need-compare-requires
-compare-requires c κs = search needs
-
-enum-told : tie.Need-enum-told
-enum-told c = search needs
-
-enum-told-2 : tie.Need-enum-told-2
-enum-told-2 c = search needs
-
-enum-told-3 : tie.Need-enum-told-3
-enum-told-3 c = search needs
+is-less-requires : tie.Need-is-less-requires
+is-less-requires c κs = search needs
 
 returns : tie.Need-returns
 unfolding tie
-returns c =
-    let args = c .before .before .before .args in
-    sym (test-less (number (args .k)) (number (args .j)) (sym (c .before .before .compare .ensures) ∙ c .enum-told .given .1) .0)
-
-returns-2 : tie.Need-returns-2
-unfolding tie
-returns-2 c =
-    let args = c .before .before .before .args in
-    sym (test-same (number (args .k)) (number (args .j)) (sym (c .before .before .compare .ensures) ∙ c .enum-told2 .given .1) .0)
-
-returns-3 : tie.Need-returns-3
-unfolding tie
-returns-3 c =
-    let args = c .before .before .before .args in
-    sym (test-more (number (args .k)) (number (args .j)) (sym (c .before .before .compare .ensures) ∙ c .enum-told3 .given .1) .0)
+returns c = c .is-less .ensures
 
 pub wins-tie-spec : {M : Type 1} → statement M
-wins-tie-spec =
-    tie.close
-    (tie.spec compare-requires enum-told enum-told-2 enum-told-3 returns returns-2 returns-3)
+wins-tie-spec = tie.close (tie.spec is-less-requires returns)

@@ -1,0 +1,112 @@
+// Vectors of the cache.
+use cache::Formed;
+use crate::shown::own;
+use crate::shown::say_keys;
+use vector_text::line;
+use vector_text::say;
+
+// How many records the cache holds, where it is in form.
+fn say_form(own: &[u8], cache: &[u8]) {
+    if own.len() < 32 {
+        return say::text(b"bad");
+    }
+    let formed = cache::form(own, cache);
+    if let Formed::Good(used) = formed {
+        return say::number(used as u64);
+    }
+    say::text(b"bad");
+}
+
+// The number, and with 0 the keys held.
+fn say_held(number: u32, own: &[u8], cache: &[u8]) {
+    say::number(number as u64);
+    if number != 0 {
+        return;
+    }
+    if own.len() < 32 {
+        return;
+    }
+    let formed = cache::form(own, cache);
+    if let Formed::Good(used) = formed {
+        say::text(b" ");
+        say_keys(cache, used, 100);
+    }
+}
+
+fn learn(own: &[u8], cache: &mut [u8], new: &[u8]) {
+    let number = cache::learn_record(own, cache, new);
+    say_held(number, own, cache);
+}
+
+fn remove(own: &[u8], cache: &mut [u8], key: &[u8]) {
+    let number = cache::remove_key(own, cache, key);
+    say_held(number, own, cache);
+}
+
+// The number, and with 0 the two counts and the keys.
+fn neighbours(own: &[u8], cache: &[u8]) {
+    let mut out = [0u8; 320];
+    let listed = cache::neighbour_list(own, cache, &mut out);
+    say::number(listed.number as u64);
+    if listed.number != 0 {
+        return;
+    }
+    say::text(b" ");
+    say::number(listed.below as u64);
+    say::text(b" ");
+    say::number(listed.above as u64);
+    say::text(b" ");
+    say_keys(&out, listed.below % 16 + listed.above % 16, 32);
+}
+
+fn closest<'a>(own: &'a [u8], cache: &'a [u8], target: &[u8]) {
+    say::bytes(cache::closest_record(own, cache, target));
+}
+
+// Vectors that change the cache.
+fn answer_change(text: &[u8], own: &[u8], cache: &mut [u8], third: &[u8]) -> bool {
+    if line::is_named(text, b"learn") {
+        learn(own, cache, third);
+        return true;
+    }
+    if line::is_named(text, b"remove-key") {
+        remove(own, cache, third);
+        return true;
+    }
+    false
+}
+
+// Vectors that read it.
+fn answer_read<'a>(text: &[u8], own: &'a [u8], cache: &'a [u8], third: &[u8]) -> bool {
+    if line::is_named(text, b"cache-form") {
+        say_form(own, cache);
+        return true;
+    }
+    if line::is_named(text, b"neighbours") {
+        neighbours(own, cache);
+        return true;
+    }
+    if line::is_named(text, b"closest") {
+        closest(own, cache, third);
+        return true;
+    }
+    false
+}
+
+// The cache is the second operand.
+fn answer_on(text: &[u8], own: &[u8], third: &[u8], side: &mut [u8]) -> bool {
+    let end = line::bytes(text, 2, side, 0);
+    if side.len() < end {
+        return false;
+    }
+    if answer_read(text, own, line::part(side, 0, end), third) {
+        return true;
+    }
+    answer_change(text, own, &mut side[0..end], third)
+}
+
+pub(crate) fn answer(text: &[u8], room: &mut [u8], side: &mut [u8]) -> bool {
+    let first = own(text, room);
+    let third = line::bytes(text, 3, room, first);
+    answer_on(text, line::part(room, 0, first), line::part(room, first, third), side)
+}

@@ -1,0 +1,942 @@
+#!/usr/bin/env python3
+"""A model of the gauge: the messages, the lent memory, the calls. It is made from the documents alone and takes nothing from the gauge.
+
+    model.py    checks the worked cases of document 01, the lengths of what the calls write, and round trips
+
+Each function renders a sentence, which stands above it: 01 is the specification, 000 is MC-DRT, D numbers are those of
+docs/DECISIONS.md; C1 to C4, R1 to R4 and W1 to W8 are those of docs/MEMORY.md. Speed is no aim here, to be read is.
+"""
+
+FIXED = bytes.fromhex("0010000C51")  # 01: "A message begins with 12 bytes: 00 10 00 0C, identifier 51 (hex)"
+
+# 000 section 2.2.1: the message types.
+TYPES = {0x01: "solicit", 0x02: "advertise", 0x03: "request", 0x04: "flood", 0x07: "inquire", 0x08: "authority", 0x09: "ack", 0x0B: "lookup"}
+CODES = {name: code for code, name in TYPES.items()}
+
+
+class Malformed(Exception):
+    """Number 6."""
+
+
+class InPart(Exception):
+    """Number 7 of reading: an AUTHORITY that is not its whole buffer."""
+
+
+# 01: "Numbers on the wire are big-endian."
+def value(s):
+    return int.from_bytes(s, "big")
+
+
+def two(n):
+    return n.to_bytes(2, "big")
+
+
+def four(n):
+    return n.to_bytes(4, "big")
+
+
+# --- Reading: pieces -------------------------------------------------------------------------------------------------------
+# d is the datagram and `at` a place in it; each function hands back what it read and the place of the next.
+
+# 01, number 6: "running past the end".
+def part(d, at, count):
+    if at + count > len(d):
+        raise Malformed
+    return d[at:at + count]
+
+
+# D35: a field is there when "two bytes are left at its place, and they are its number".
+def found(d, at, number):
+    return d[at:at + 2] == two(number)
+
+
+# 01: "number (2 bytes), length (2 bytes, counting these four), contents".
+def field(d, at, number):
+    if not found(d, at, number):
+        raise Malformed
+    length = value(part(d, at + 2, 2))
+    if length < 4:
+        raise Malformed
+    return part(d, at + 4, length - 4), at + length
+
+
+# 01: "A length .. that 000 doesn't allow makes a field malformed": a field whose contents have one size.
+def fixed(d, at, number, size):
+    contents, at = field(d, at, number)
+    if len(contents) != size:
+        raise Malformed
+    return contents, at
+
+
+# 01: "Padding and reserved bits are .. ignored on reading". D39: "Padding that runs past the end is 6."
+def ignored(d, at, count):
+    part(d, at, count)
+    return at + count
+
+
+# 01: "Padding of 0 to 3 bytes, up to a multiple of 4 from the start".
+def padding(d, at):
+    return ignored(d, at, -at % 4)
+
+
+# 01: "An optional field is present or absent by the number found at its place". D35: "there is no second try".
+def optional(d, at, number):
+    if not found(d, at, number):
+        return None, at
+    return field(d, at, number)
+
+
+def optional_padded(d, at, number):
+    if not found(d, at, number):
+        return None, at
+    contents, at = field(d, at, number)
+    return contents, padding(d, at)
+
+
+# 01: "Route entry: number 009A; 1 to 4 addresses, one port." 000 section 2.2.3.3. D41: the length must be 42 + 16c.
+def route_entry(d, at):
+    s, at = field(d, at, 0x009A)
+    if len(s) < 38:
+        raise Malformed
+    count = s[37]
+    if count < 1 or count > 4 or len(s) != 38 + 16 * count:
+        raise Malformed
+    entry = {"key": s[:32], "major": s[32], "minor": s[33], "port": value(s[34:36]), "flags": s[36],
+             "addresses": [s[38 + 16 * i:54 + 16 * i] for i in range(count)]}
+    return entry, padding(d, at)
+
+
+def optional_route(d, at):
+    if not found(d, at, 0x009A):
+        return None, at
+    return route_entry(d, at)
+
+
+# 000 sections 2.2.2.2, 2.2.3.5, 2.2.3.6: number of entries, length of the array 8 + entries, type and length of an entry, the entries;
+# the field's length is 12 + entries. D47: lengths and count "must agree as numbers, not only modulo 65,536".
+def array(d, at, number, least, most, element, size):
+    s, at = field(d, at, number)
+    if len(s) < 8:
+        raise Malformed
+    count = value(s[0:2])
+    if count < least or count > most:
+        raise Malformed
+    if len(s) != 8 + size * count or value(s[2:4]) != 8 + size * count:
+        raise Malformed
+    if value(s[4:6]) != element or value(s[6:8]) != size:
+        raise Malformed
+    return [s[8 + size * i:8 + size * (i + 1)] for i in range(count)], at
+
+
+# 000 section 2.2.2.2: "in the range 0x0000 to 0x7FFF", entries of type 0030 and 32 bytes.
+def key_list(d, at):
+    return array(d, at, 0x0060, 0, 0x7FFF, 0x0030, 32)
+
+
+# 000 section 2.2.3.5: "in the range 1 to 22", entries of type 009D and 18 bytes, each a port and an address.
+def endpoints(d, at):
+    return array(d, at, 0x009E, 1, 22, 0x009D, 18)
+
+
+# 000 section 2.2.2.6.1: "a FIELD_ARRAY of WCHAR elements", padded. D47: at most 7FFF.
+def optional_classifier(d, at):
+    if not found(d, at, 0x0085):
+        return None, at
+    units, at = array(d, at, 0x0085, 0, 0x7FFF, 0x0084, 2)
+    return units, padding(d, at)
+
+
+# 000 sections 2.2.2.3, 2.2.2.5, 2.2.2.8: credential, signature, key identifier, each optional, none padded.
+def credentials(d, at, m):
+    m["credential"], at = optional(d, at, 0x0080)
+    m["signature"], at = optional(d, at, 0x00A5)
+    m["key_identifier"], at = optional(d, at, 0x00A6)
+    return at
+
+
+# --- Reading: messages -----------------------------------------------------------------------------------------------------
+# Each takes the datagram and hands back the fields and the place behind the last.
+
+# 000 section 2.2.2.1.
+def read_solicit(d, at):
+    m = {}
+    m["route"], at = optional_route(d, at)
+    m["hashed_nonce"], at = fixed(d, at, 0x0092, 20)
+    return m, at
+
+
+# 000 section 2.2.2.2.
+def read_advertise(d, at):
+    m = {}
+    acked, at = fixed(d, at, 0x0018, 4)
+    m["acked"] = value(acked)
+    m["keys"], at = key_list(d, at)
+    m["hashed_nonce"], at = fixed(d, at, 0x0092, 20)
+    return m, at
+
+
+# 000 section 2.2.2.3. D42: the split controls, "where present, must have as size the number of bytes from the nonce field to the end, and
+# offset 0, else 6. The message then has only the field's presence."
+def read_request(d, at):
+    m = {}
+    m["flags"] = found(d, at, 0x0040)
+    if m["flags"]:
+        _, at = fixed(d, at, 0x0040, 2)
+        at = ignored(d, at, 2)
+    m["split"] = found(d, at, 0x0098)
+    if m["split"]:
+        s, at = fixed(d, at, 0x0098, 4)
+        if value(s[0:2]) != len(d) - at or value(s[2:4]) != 0:
+            raise Malformed
+    m["nonce"], at = fixed(d, at, 0x0093, 16)
+    m["keys"], at = key_list(d, at)
+    at = credentials(d, at, m)
+    return m, at
+
+
+# 000 section 2.2.2.4. 01: "FLOOD carries either a route entry or a revoke CPA, never both and never neither." D45: the list of those already
+# reached is optional and has 1 to 22 endpoints.
+def read_flood(d, at):
+    m = {}
+    s, at = fixed(d, at, 0x0043, 3)
+    m["d"] = s[1] & 0x01 != 0
+    at = ignored(d, at, 1)
+    m["validate"], at = fixed(d, at, 0x0039, 32)
+    m["keytoken"], at = optional_padded(d, at, 0x009F)
+    m["revoke"], at = optional_padded(d, at, 0x009C)
+    m["route"], at = optional_route(d, at)
+    if (m["revoke"] is None) == (m["route"] is None):
+        raise Malformed
+    m["reached"] = None
+    if found(d, at, 0x009E):
+        m["reached"], at = endpoints(d, at)
+    return m, at
+
+
+# 000 section 2.2.2.5: 11 reserved bits, A, X, C, 2 reserved bits.
+def read_inquire(d, at):
+    m = {}
+    s, at = fixed(d, at, 0x0040, 2)
+    m["a"] = s[1] & 0x10 != 0
+    m["x"] = s[1] & 0x08 != 0
+    m["c"] = s[1] & 0x04 != 0
+    at = ignored(d, at, 2)
+    m["validate"], at = fixed(d, at, 0x0039, 32)
+    m["nonce"] = None
+    if found(d, at, 0x0093):
+        m["nonce"], at = fixed(d, at, 0x0093, 16)
+    at = credentials(d, at, m)
+    return m, at
+
+
+# 000 section 2.2.2.6. D43: "size at most 91E4, offset a multiple of 1,188, else 6. It is whole when offset is 0 and size is the number of
+# bytes after the split controls; else 7, and of 6 only the causes before the buffer's bytes apply."
+def read_authority(d, at):
+    m = {}
+    acked, at = fixed(d, at, 0x0018, 4)
+    m["acked"] = value(acked)
+    s, at = fixed(d, at, 0x0098, 4)
+    size, offset = value(s[0:2]), value(s[2:4])
+    if size > 0x91E4 or offset % 1188 != 0:
+        raise Malformed
+    if offset != 0 or size != len(d) - at:
+        raise InPart
+    return read_buffer(d, at, m)
+
+
+# 000 section 2.2.2.6.1: 6 reserved bits, L, 5 reserved bits, B, 2 reserved bits, N. It starts at byte 28, a multiple of 4 (D44).
+def read_buffer(d, at, m):
+    s, at = fixed(d, at, 0x0040, 2)
+    m["l"] = s[0] & 0x02 != 0
+    m["b"] = s[1] & 0x08 != 0
+    m["n"] = s[1] & 0x01 != 0
+    at = ignored(d, at, 2)
+    m["chain"], at = optional_padded(d, at, 0x0080)
+    m["keytoken"], at = optional_padded(d, at, 0x009F)
+    m["classifier"], at = optional_classifier(d, at)
+    m["payload"], at = optional_padded(d, at, 0x005A)
+    m["route"], at = optional_route(d, at)
+    m["cpa"], at = optional(d, at, 0x009B)
+    return m, at
+
+
+# 01: "ACK: number 0018, length 0008, the acked ID; then optionally 0040, length 0006, two bytes of which the last bit is N. No padding."
+# `n` is None where the second field is absent.
+def read_ack(d, at):
+    m = {}
+    acked, at = fixed(d, at, 0x0018, 4)
+    m["acked"] = value(acked)
+    m["n"] = None
+    if found(d, at, 0x0040):
+        s, at = fixed(d, at, 0x0040, 2)
+        m["n"] = s[1] & 0x01 != 0
+    return m, at
+
+
+# 01: "LOOKUP: controls 0045, length 000C (flags 2, precision 2, criteria 1, reason 1, reserved 2); target key and validate key, each length
+# 0024; optional route entry with padding; the path of endpoints." 000 section 2.2.2.8: 14 reserved bits, A, 1 reserved bit. D46: codes,
+# and precision is part of the message where criteria is 8; it is None otherwise.
+def read_lookup(d, at):
+    m = {}
+    s, at = fixed(d, at, 0x0045, 8)
+    m["a"] = s[1] & 0x02 != 0
+    m["criteria"], m["reason"] = s[4], s[5]
+    if m["criteria"] not in (0, 1, 2, 4, 8) or m["reason"] not in (0, 1, 2, 3):
+        raise Malformed
+    m["precision"] = value(s[2:4]) if m["criteria"] == 8 else None
+    m["target"], at = fixed(d, at, 0x0038, 32)
+    m["validate"], at = fixed(d, at, 0x0039, 32)
+    m["route"], at = optional_route(d, at)
+    m["path"], at = endpoints(d, at)
+    at = credentials(d, at, m)
+    return m, at
+
+
+READERS = {"solicit": read_solicit, "advertise": read_advertise, "request": read_request, "flood": read_flood, "inquire": read_inquire,
+           "authority": read_authority, "ack": read_ack, "lookup": read_lookup}
+
+
+# 01, "What comes back", numbers 2 to 7 in their order; "Reading a message without acting on it gives 0 to 6, and 7 only for an AUTHORITY in
+# part". Hands back the number, and the message with 0.
+def read(datagram, major):
+    if len(datagram) < 12 or len(datagram) > 1232:
+        return 2, None
+    if datagram[:5] != FIXED:
+        return 3, None
+    if datagram[5] != major:
+        return 4, None
+    if datagram[7] not in TYPES:
+        return 5, None
+    kind = TYPES[datagram[7]]
+    try:
+        fields, end = READERS[kind](datagram, 12)
+        if end != len(datagram):  # 01: "Nothing may follow the last field."
+            raise Malformed
+    except Malformed:
+        return 6, None
+    except InPart:
+        return 7, None
+    return 0, {"type": kind, "major": datagram[5], "minor": datagram[6], "id": value(datagram[8:12]), **fields}
+
+
+# --- Writing ---------------------------------------------------------------------------------------------------------------
+# s is what is written so far, from the start of the datagram (an AUTHORITY's buffer: from its own start, a multiple of 4).
+
+# 01: "number (2 bytes), length (2 bytes, counting these four), contents".
+def put(number, contents):
+    return two(number) + two(4 + len(contents)) + contents
+
+
+# 01: padding "up to a multiple of 4 from the start"; "written zero".
+def pad(s):
+    return s + bytes(-len(s) % 4)
+
+
+def put_optional(s, number, contents):
+    return s if contents is None else s + put(number, contents)
+
+
+def put_padded(s, number, contents):
+    return s if contents is None else pad(s + put(number, contents))
+
+
+# 01: "A route entry's own versions and flags are part of the message read".
+def put_route(s, e):
+    if e is None:
+        return s
+    contents = e["key"] + bytes([e["major"], e["minor"]]) + two(e["port"]) + bytes([e["flags"], len(e["addresses"])]) + b"".join(e["addresses"])
+    return pad(s + put(0x009A, contents))
+
+
+def put_array(number, element, size, elements):
+    contents = two(len(elements)) + two(8 + size * len(elements)) + two(element) + two(size) + b"".join(elements)
+    return put(number, contents)
+
+
+def put_credentials(s, m):
+    s = put_optional(s, 0x0080, m["credential"])
+    s = put_optional(s, 0x00A5, m["signature"])
+    return put_optional(s, 0x00A6, m["key_identifier"])
+
+
+def write_solicit(s, m):
+    return put_route(s, m["route"]) + put(0x0092, m["hashed_nonce"])
+
+
+def write_advertise(s, m):
+    return s + put(0x0018, four(m["acked"])) + put_array(0x0060, 0x0030, 32, m["keys"]) + put(0x0092, m["hashed_nonce"])
+
+
+# 000 section 2.2.2.3: size is "of the remainder of the message, starting from FieldID3 (inclusive)", FieldID3 being the nonce's.
+def write_request(s, m):
+    rest = put_credentials(put(0x0093, m["nonce"]) + put_array(0x0060, 0x0030, 32, m["keys"]), m)
+    if m["flags"]:
+        s += put(0x0040, bytes(2)) + bytes(2)
+    if m["split"]:
+        s += put(0x0098, two(len(rest)) + two(0))
+    return s + rest
+
+
+def write_flood(s, m):
+    s += put(0x0043, two(0x0001 if m["d"] else 0) + bytes(1)) + bytes(1)
+    s += put(0x0039, m["validate"])
+    s = put_padded(s, 0x009F, m["keytoken"])
+    s = put_padded(s, 0x009C, m["revoke"])
+    s = put_route(s, m["route"])
+    if m["reached"] is not None:
+        s += put_array(0x009E, 0x009D, 18, m["reached"])
+    return s
+
+
+def write_inquire(s, m):
+    s += put(0x0040, two((0x0010 if m["a"] else 0) + (0x0008 if m["x"] else 0) + (0x0004 if m["c"] else 0))) + bytes(2)
+    s += put(0x0039, m["validate"])
+    s = put_optional(s, 0x0093, m["nonce"])
+    return put_credentials(s, m)
+
+
+def write_authority(s, m):
+    buffer = write_buffer(m)
+    return s + put(0x0018, four(m["acked"])) + put(0x0098, two(len(buffer)) + two(0)) + buffer
+
+
+def write_buffer(m):
+    s = put(0x0040, two((0x0200 if m["l"] else 0) + (0x0008 if m["b"] else 0) + (0x0001 if m["n"] else 0))) + bytes(2)
+    s = put_padded(s, 0x0080, m["chain"])
+    s = put_padded(s, 0x009F, m["keytoken"])
+    if m["classifier"] is not None:
+        s = pad(s + put_array(0x0085, 0x0084, 2, m["classifier"]))
+    s = put_padded(s, 0x005A, m["payload"])
+    s = put_route(s, m["route"])
+    return put_optional(s, 0x009B, m["cpa"])
+
+
+def write_ack(s, m):
+    s += put(0x0018, four(m["acked"]))
+    if m["n"] is not None:
+        s += put(0x0040, two(0x0001 if m["n"] else 0))
+    return s
+
+
+def write_lookup(s, m):
+    precision = m["precision"] if m["criteria"] == 8 else 0
+    s += put(0x0045, two(0x0002 if m["a"] else 0) + two(precision) + bytes([m["criteria"], m["reason"]]) + bytes(2))
+    s += put(0x0038, m["target"]) + put(0x0039, m["validate"])
+    s = put_route(s, m["route"])
+    s += put_array(0x009E, 0x009D, 18, m["path"])
+    return put_credentials(s, m)
+
+
+WRITERS = {"solicit": write_solicit, "advertise": write_advertise, "request": write_request, "flood": write_flood, "inquire": write_inquire,
+           "authority": write_authority, "ack": write_ack, "lookup": write_lookup}
+
+
+# 01: "A message begins with 12 bytes: 00 10 00 0C, identifier 51 (hex), major version, minor version, type, four bytes of message ID."
+def write(m):
+    s = FIXED + bytes([m["major"], m["minor"], CODES[m["type"]]]) + four(m["id"])
+    return WRITERS[m["type"]](s, m)
+
+
+# 01: "a flag, reason or optional field that no rule here names is clear or absent".
+CLEAR = {"solicit": {"route": None},
+         "advertise": {},
+         "request": {"flags": False, "split": False, "credential": None, "signature": None, "key_identifier": None},
+         "flood": {"d": False, "keytoken": None, "revoke": None, "route": None, "reached": None},
+         "inquire": {"a": False, "x": False, "c": False, "nonce": None, "credential": None, "signature": None, "key_identifier": None},
+         "authority": {"l": False, "b": False, "n": False, "chain": None, "keytoken": None, "classifier": None, "payload": None, "route": None,
+                       "cpa": None},
+         "ack": {"n": None},
+         "lookup": {"a": False, "precision": None, "criteria": 0, "reason": 0, "route": None, "credential": None, "signature": None,
+                    "key_identifier": None}}
+
+
+def message(kind, major, minor, identity, **named):
+    return {"type": kind, "major": major, "minor": minor, "id": identity, **CLEAR[kind], **named}
+
+
+# --- Lent memory: records --------------------------------------------------------------------------------------------------
+
+# 01: "A record is 100 bytes: key 32, port 2 (big-endian), address count 1 (1 to 4), one zero byte, four addresses of 16 bytes, the unused ones
+# zero." R1 to R4.
+def record_form(r):
+    return len(r) == 100 and 1 <= r[34] <= 4 and r[35] == 0 and not any(r[36 + 16 * r[34]:])
+
+
+# 01: "Keys are 256-bit unsigned numbers, most significant byte first."
+def key_of(r):
+    return value(r[:32])
+
+
+# 01: "A route entry's own versions and flags are part of the message read, but not of the record."
+def record_of(entry):
+    used = b"".join(entry["addresses"])
+    return entry["key"] + two(entry["port"]) + bytes([len(entry["addresses"]), 0]) + used + bytes(64 - len(used))
+
+
+# 01: "versions, a route entry's too, are the given ones"; a flag that no rule names is clear.
+def entry_of(r, major, minor):
+    return {"key": r[:32], "major": major, "minor": minor, "port": value(r[32:34]), "flags": 0,
+            "addresses": [r[36 + 16 * i:52 + 16 * i] for i in range(r[34])]}
+
+
+# --- Lent memory: the cache ------------------------------------------------------------------------------------------------
+
+# 01: "The cache: C records, C from 10 to 256, length exactly 100 x C. Used records first, keys strictly increasing, none equal to the own key;
+# the rest all zero." C1 to C4. The records held, or None where the cache is out of form.
+def held(own, cache):
+    if len(cache) % 100 != 0 or len(cache) < 1000 or len(cache) > 25600:
+        return None
+    rows = [cache[at:at + 100] for at in range(0, len(cache), 100)]
+    used = [row for row in rows if any(row)]
+    if rows[:len(used)] != used:
+        return None
+    if not all(record_form(row) for row in used):
+        return None
+    keys = [key_of(row) for row in used]
+    if any(after <= before for before, after in zip(keys, keys[1:])):
+        return None
+    if key_of(own) in keys:
+        return None
+    return used
+
+
+def cache_of(records, length):
+    s = b"".join(records)
+    return s + bytes(length - len(s))
+
+
+# 01: "A held key has its record replaced. A new key joins. If there are now C + 1, take the side of the own key (below, above) with more keys,
+# above if equal, and drop the key farthest out on it, even the newcomer."
+def learned(own, records, record, c):
+    others = [r for r in records if key_of(r) != key_of(record)]
+    joined = sorted(others + [record], key=key_of)
+    if len(joined) <= c:
+        return joined
+    below = [r for r in joined if key_of(r) < key_of(own)]
+    above = [r for r in joined if key_of(r) > key_of(own)]
+    return joined[1:] if len(below) > len(above) else joined[:-1]
+
+
+# 01: "It is removed if held".
+def removed(records, key):
+    return [r for r in records if key_of(r) != key]
+
+
+# 01: "Up to five keys below, then up to five above, nearest first". "below and above are plain number order".
+def nearest(own, records):
+    keys = [key_of(r) for r in records]
+    below = sorted([k for k in keys if k < key_of(own)], reverse=True)
+    above = sorted([k for k in keys if k > key_of(own)])
+    return below[:5], above[:5]
+
+
+# 01: "the record closest to the target, the own record included: the least difference, larger key minus smaller; at equal difference the
+# smaller key."
+def closest(own, records, target):
+    return min([own] + records, key=lambda r: (abs(key_of(r) - target), key_of(r)))
+
+
+# --- Lent memory: the waiting table ----------------------------------------------------------------------------------------
+
+# 01: "16 places of 140 bytes: message ID 4 (little-endian), kind 1 (1 flood, 2 inquiry, 0 free), tries left 1 (0 to 2), two zero bytes, key
+# 32, record 100."
+def place_of(s):
+    return {"id": int.from_bytes(s[:4], "little"), "kind": s[4], "tries": s[5], "key": s[8:40], "record": s[40:140]}
+
+
+def place(identity, kind, tries, key, record=bytes(100)):
+    return {"id": identity, "kind": kind, "tries": tries, "key": key, "record": record}
+
+
+def place_bytes(p):
+    return p["id"].to_bytes(4, "little") + bytes([p["kind"], p["tries"], 0, 0]) + p["key"] + p["record"]
+
+
+# 01: "An inquiry's record is well formed and has the place's key .. A flood's record is all zero." W3, W5, W6.
+def place_form(s):
+    p = place_of(s)
+    if p["tries"] > 2 or s[6] != 0 or s[7] != 0:
+        return False
+    if p["kind"] == 1:
+        return not any(p["record"])
+    return p["kind"] == 2 and record_form(p["record"]) and key_of(p["record"]) == value(p["key"])
+
+
+# 01: "Used places first, IDs strictly increasing; free places all zero. .. no two inquiries have the same key, and none has the own key." W1,
+# W2, W4, W7, W8. The places used, or None where the table is out of form.
+def waits(own, waiting):
+    if len(waiting) != 2240:
+        return None
+    rows = [waiting[at:at + 140] for at in range(0, 2240, 140)]
+    used = [row for row in rows if any(row)]
+    if rows[:len(used)] != used:
+        return None
+    if not all(place_form(row) for row in used):
+        return None
+    places = [place_of(row) for row in used]
+    ids = [p["id"] for p in places]
+    if any(after <= before for before, after in zip(ids, ids[1:])):
+        return None
+    asked = [value(p["key"]) for p in places if p["kind"] == 2]
+    if len(set(asked)) != len(asked) or key_of(own) in asked:
+        return None
+    return places
+
+
+def waiting_of(places):
+    s = b"".join(place_bytes(p) for p in places)
+    return s + bytes(2240 - len(s))
+
+
+# W4: places stand in the order of their IDs.
+def opened(places, new):
+    return sorted(places + [new], key=lambda p: p["id"])
+
+
+def freed(places, identity):
+    return [p for p in places if p["id"] != identity]
+
+
+def waiting_id(places, kind, identity):
+    return [p for p in places if p["kind"] == kind and p["id"] == identity]
+
+
+def waiting_inquiry(places, key):
+    return [p for p in places if p["kind"] == 2 and value(p["key"]) == key]
+
+
+# 01: "Each place with tries left loses one and its ID is listed, increasing; one with none is freed." The IDs listed, and the places after.
+def ticked(places):
+    left = [{**p, "tries": p["tries"] - 1} for p in places if p["tries"] > 0]
+    return [p["id"] for p in left], left
+
+
+# --- The calls -------------------------------------------------------------------------------------------------------------
+# Each hands back number, first, second, and cache, waiting table and output after it (None for what it is not lent).
+
+# 01: "the INQUIRE's is one more, and 4294967295 is followed by 0".
+def next_id(identity):
+    return (identity + 1) % 2 ** 32
+
+
+# 01, numbers 13 and 14: "a place must be opened and its ID is waiting already", "and all 16 are used". D28: of either kind. 0 for none.
+def no_place(places, identity):
+    if identity in [p["id"] for p in places]:
+        return 13
+    if len(places) == 16:
+        return 14
+    return 0
+
+
+# 01: "If D is clear, an ACK is written, N set when the validate key is not ours." "A call that sends an ACK writes the second field only where
+# N is set."
+def acks(own, m, major, minor, identity):
+    if m["d"]:
+        return []
+    n = True if value(m["validate"]) != key_of(own) else None
+    return [write(message("ack", major, minor, identity, acked=m["id"], n=n))]
+
+
+# What a message does, number 15 apart: the number, the datagrams to send, the records and the places after it.
+
+# 01, "FLOOD with a route entry"; number 11.
+def on_route(own, records, places, m, major, minor, identity, nonce):
+    record = record_of(m["route"])
+    key = key_of(record)
+    if key == key_of(own):
+        return 11, [], records, places
+    sent = acks(own, m, major, minor, identity)
+    if record in records or waiting_inquiry(places, key):
+        return 0, sent, records, places
+    asked = next_id(identity)
+    number = no_place(places, asked)
+    if number != 0:
+        return number, [], records, places
+    inquire = write(message("inquire", major, minor, asked, a=True, validate=record[:32], nonce=nonce))
+    return 0, sent + [inquire], records, opened(places, place(asked, 2, 2, record[:32], record))
+
+
+# 01, "FLOOD with a revocation": "Verdict 1 names the key. It is removed if held, a waiting inquiry for it is freed, and the ACK is as above."
+# Numbers 9 and 11, in this order (D30).
+def on_revoke(own, records, places, m, major, minor, identity, verdict, key):
+    if verdict != 1:
+        return 9, [], records, places
+    if value(key) == key_of(own):
+        return 11, [], records, places
+    for p in waiting_inquiry(places, value(key)):
+        places = freed(places, p["id"])
+    return 0, acks(own, m, major, minor, identity), removed(records, value(key)), places
+
+
+# 01, "AUTHORITY": "The inquiry's record is learned and its place freed. Nothing is sent." Numbers 8, 9, 10.
+def on_authority(own, records, places, m, verdict, key, c):
+    found_places = waiting_id(places, 2, m["acked"])
+    if not found_places:
+        return 8, [], records, places
+    if m["cpa"] is None or verdict != 1:
+        return 9, [], records, places
+    if value(key) != value(found_places[0]["key"]):
+        return 10, [], records, places
+    return 0, [], learned(own, records, found_places[0]["record"], c), freed(places, m["acked"])
+
+
+# 01, "ACK": "The flood's place is freed. With N set its key is removed if held." Number 8.
+def on_ack(records, places, m):
+    found_places = waiting_id(places, 1, m["acked"])
+    if not found_places:
+        return 8, [], records, places
+    if m["n"]:
+        records = removed(records, value(found_places[0]["key"]))
+    return 0, [], records, freed(places, m["acked"])
+
+
+# 01, "INQUIRE": "One AUTHORITY with the own CPA." Number 12.
+def on_inquire(own, cpa, records, places, m, major, minor, identity):
+    if value(m["validate"]) != key_of(own):
+        return 12, [], records, places
+    return 0, [write(message("authority", major, minor, identity, acked=m["id"], cpa=cpa))], records, places
+
+
+# 01, "LOOKUP": "One AUTHORITY with the record closest to the target, the own record included".
+def on_lookup(own, records, places, m, major, minor, identity):
+    shown = entry_of(closest(own, records, value(m["target"])), major, minor)
+    return 0, [write(message("authority", major, minor, identity, acked=m["id"], route=shown))], records, places
+
+
+# 01, number 15: "output needs more bytes than lent, or a datagram over 1,232". D29: the sum of both lengths.
+def too_long(sent, output):
+    return sum(len(d) for d in sent) > len(output) or any(len(d) > 1232 for d in sent)
+
+
+# 01: "On acceptance the output changes only in its first bytes, as many as returned." D24: one datagram after the other.
+def over(written, output):
+    return written + output[len(written):]
+
+
+# 01: "The lowest number that applies is given. With any refusal the counts returned are 0, .. and every writable byte stays as lent."
+def receive(own, cpa, cache, waiting, major, minor, identity, nonce, verdict, key, datagram, output):
+    def refused(number):
+        return number, 0, 0, cache, waiting, output
+
+    records, places = held(own, cache), waits(own, waiting)
+    if not record_form(own) or len(cpa) < 1 or len(cpa) > 1024 or records is None or places is None or len(nonce) != 16 or len(key) != 32:
+        return refused(1)
+    number, m = read(datagram, major)
+    if number != 0:
+        return refused(number)
+    if m["type"] in ("solicit", "advertise", "request"):
+        return refused(7)
+    if m["type"] == "flood" and m["route"] is not None:
+        number, sent, records, places = on_route(own, records, places, m, major, minor, identity, nonce)
+    elif m["type"] == "flood":
+        number, sent, records, places = on_revoke(own, records, places, m, major, minor, identity, verdict, key)
+    elif m["type"] == "authority":
+        number, sent, records, places = on_authority(own, records, places, m, verdict, key, len(cache) // 100)
+    elif m["type"] == "ack":
+        number, sent, records, places = on_ack(records, places, m)
+    elif m["type"] == "inquire":
+        number, sent, records, places = on_inquire(own, cpa, records, places, m, major, minor, identity)
+    else:
+        number, sent, records, places = on_lookup(own, records, places, m, major, minor, identity)
+    if number != 0:
+        return refused(number)
+    if too_long(sent, output):
+        return refused(15)
+    first, second = ([len(d) for d in sent] + [0, 0])[:2]
+    return 0, first, second, cache_of(records, len(cache)), waiting_of(places), over(b"".join(sent), output)
+
+
+# 01, "Sending a FLOOD": "D clear, validate key the neighbour's, one record, empty list of those already reached; a place with the neighbour's
+# key opens with two tries left." Number 12: "a FLOOD to send whose neighbour is not held, or whose record is neither ours nor held".
+def send(own, cache, waiting, major, minor, identity, neighbour, key, output):
+    def refused(number):
+        return number, 0, 0, cache, waiting, output
+
+    records, places = held(own, cache), waits(own, waiting)
+    if not record_form(own) or records is None or places is None or len(neighbour) != 32 or len(key) != 32:
+        return refused(1)
+    if value(neighbour) not in [key_of(r) for r in records]:
+        return refused(12)
+    named = [r for r in [own] + records if key_of(r) == value(key)]
+    if not named:
+        return refused(12)
+    number = no_place(places, identity)
+    if number != 0:
+        return refused(number)
+    flood = write(message("flood", major, minor, identity, validate=neighbour, route=entry_of(named[0], major, minor)))
+    if too_long([flood], output):
+        return refused(15)
+    return 0, len(flood), 0, cache, waiting_of(opened(places, place(identity, 1, 2, neighbour))), over(flood, output)
+
+
+# 01, "Tick": "The list needs room for 16 numbers of 32 bits, else 15; how many are listed is returned." D25: little-endian.
+def tick(own, waiting, output):
+    places = waits(own, waiting)
+    if not record_form(own) or places is None:
+        return 1, 0, 0, None, waiting, output
+    if len(output) < 64:
+        return 15, 0, 0, None, waiting, output
+    ids, left = ticked(places)
+    return 0, len(ids), 0, None, waiting_of(left), over(b"".join(i.to_bytes(4, "little") for i in ids), output)
+
+
+# 01, "Neighbour list": "Up to five keys below, then up to five above, nearest first, 32 bytes each; both counts returned. .. Output shorter
+# than 320 bytes: 15."
+def neighbours(own, cache, output):
+    records = held(own, cache)
+    if not record_form(own) or records is None:
+        return 1, 0, 0, cache, None, output
+    if len(output) < 320:
+        return 15, 0, 0, cache, None, output
+    below, above = nearest(own, records)
+    return 0, len(below), len(above), cache, None, over(b"".join(k.to_bytes(32, "big") for k in below + above), output)
+
+
+# --- Checks ----------------------------------------------------------------------------------------------------------------
+
+def check_cases():
+    """Document 01, "Cases worked by hand"."""
+    def k(n):
+        return n.to_bytes(32, "big")
+
+    def rec(n, port=5000, count=1):
+        return k(n) + two(port) + bytes([count, 0]) + bytes(range(1, 16 * count + 1)) + bytes(64 - 16 * count)
+
+    def recs(keys):
+        return [rec(n) for n in keys]
+
+    def keys(records):
+        return [key_of(r) for r in records]
+
+    for r in recs([0, 100, 2 ** 256 - 1]):
+        assert record_form(r) and record_of(entry_of(r, 6, 101)) == r
+    # 1 and 2
+    assert nearest(rec(100), recs([60, 70, 80, 90, 95, 99, 101, 110])) == ([99, 95, 90, 80, 70], [101, 110])
+    assert nearest(rec(100), []) == ([], [])
+    empty = bytes(1000)
+    assert neighbours(rec(100), empty, bytes(320)) == (0, 0, 0, empty, None, bytes(320))
+    # 3, 4, 5
+    assert keys(learned(rec(100), recs(range(90, 100)), rec(101), 10)) == list(range(91, 100)) + [101]
+    assert keys(learned(rec(100), recs(range(90, 100)), rec(89), 10)) == list(range(90, 100))
+    six = list(range(94, 100)) + list(range(101, 106))
+    assert keys(learned(rec(100), recs(six), rec(106), 11)) == six
+    # 6, 7, 9
+    assert closest(rec(50), recs([99, 101]), 100) == rec(99)
+    assert closest(rec(9), recs([1, 4294967296]), 0) == rec(1)
+    assert closest(rec(5), recs([0]), 2 ** 256 - 1) == rec(5)
+    # 8
+    assert abs(value(k(4294967295)) - value(k(4294967296))) == 1
+    # 10 and 11
+    plain = bytes.fromhex("0010000C510665090000000700180008D8859CF5")
+    assert write(message("ack", 6, 101, 7, acked=0xD8859CF5)) == plain
+    assert write(message("ack", 6, 101, 7, acked=0xD8859CF5, n=True)) == plain + bytes.fromhex("004000060001")
+    assert len(plain) == 20
+    assert read(plain, 6)[1] == message("ack", 6, 101, 7, acked=0xD8859CF5)
+    # 12
+    places = [place(3, 1, 2, k(7))]
+    ids, places = ticked(places)
+    assert ids == [3] and len(places) == 1
+    ids, places = ticked(places)
+    assert ids == [3] and len(places) == 1
+    assert ticked(places) == ([], [])
+    # 13
+    assert read(plain[:11], 6)[0] == 2 and read(plain + bytes(1213), 6)[0] == 2 and read(plain[:12], 6)[0] == 6
+    assert len(plain + bytes(1213)) == 1233
+    # 14
+    own, cpa, nonce, zero = rec(100), b"C", bytes(16), bytes(32)
+    full = waiting_of([place(i, 1, 2, k(7)) for i in range(1, 17)])
+    flood = write(message("flood", 6, 101, 500, validate=k(100), route=entry_of(rec(70), 6, 101)))
+    ack = write(message("ack", 6, 101, 9, acked=5))
+    out = b"\xEE" * 200
+    assert receive(own, cpa, empty, full, 6, 101, 600, nonce, 0, zero, flood, out) == (14, 0, 0, empty, full, out)
+    number, first, second, cache, table, after = receive(own, cpa, empty, full, 6, 101, 600, nonce, 0, zero, ack, out)
+    assert (number, first, second, cache, after) == (0, 0, 0, empty, out) and len(waits(own, table)) == 15
+    number, first, second, cache, table, after = receive(own, cpa, empty, table, 6, 101, 600, nonce, 0, zero, flood, out)
+    assert (number, first, second, cache) == (0, 20, 76, empty) and len(waits(own, table)) == 16
+
+
+def check_lengths():
+    """docs/DECISIONS.md, "What the calls write"."""
+    key, zero = b"K" * 32, bytes(32)
+    for n in (None, True):
+        assert len(write(message("ack", 6, 101, 1, acked=2, n=n))) == (26 if n else 20)
+    assert len(write(message("inquire", 6, 101, 1, a=True, validate=key, nonce=b"N" * 16))) == 76
+    for count in (1, 2, 3, 4):
+        r = key + two(5000) + bytes([count, 0]) + b"A" * (16 * count) + bytes(64 - 16 * count)
+        entry = entry_of(r, 6, 101)
+        assert record_form(r) and record_of(entry) == r
+        assert len(write(message("flood", 6, 101, 1, validate=zero, route=entry))) == 100 + 16 * count
+        shown = write(message("authority", 6, 101, 1, acked=2, route=entry))
+        assert len(shown) == 80 + 16 * count and value(shown[24:26]) == 52 + 16 * count
+    for n in (1, 2, 3, 4, 1024):
+        shown = write(message("authority", 6, 101, 1, acked=2, cpa=b"C" * n))
+        assert len(shown) == 40 + n and value(shown[24:26]) == 12 + n
+
+
+def check_round_trips(count):
+    """What is written is read back as the same message; read and written again it is the same datagram; and no other major is read."""
+    import random
+    chance = random.Random(51)
+
+    def some(size):
+        return chance.randbytes(size)
+
+    def maybe(make):
+        return make() if chance.random() < 0.6 else None
+
+    def opaque():
+        return some(chance.choice([0, 1, 2, 3, 4, 5, chance.randrange(60)]))
+
+    def entry():
+        return {"key": some(32), "major": chance.randrange(256), "minor": chance.randrange(256), "port": chance.randrange(65536),
+                "flags": chance.randrange(256), "addresses": [some(16) for _ in range(chance.randint(1, 4))]}
+
+    def flag():
+        return chance.random() < 0.5
+
+    def points():
+        return [some(18) for _ in range(chance.choice([1, 2, 22, chance.randint(1, 22)]))]
+
+    def key_set():
+        return [some(32) for _ in range(chance.randrange(9))]
+
+    def credential():
+        return {"credential": maybe(opaque), "signature": maybe(opaque), "key_identifier": maybe(opaque)}
+
+    def fields(kind):
+        if kind == "solicit":
+            return {"route": maybe(entry), "hashed_nonce": some(20)}
+        if kind == "advertise":
+            return {"acked": value(some(4)), "keys": key_set(), "hashed_nonce": some(20)}
+        if kind == "request":
+            return {"flags": flag(), "split": flag(), "nonce": some(16), "keys": key_set(), **credential()}
+        if kind == "flood":
+            one = {"revoke": opaque(), "route": None} if flag() else {"revoke": None, "route": entry()}
+            return {"d": flag(), "validate": some(32), "keytoken": maybe(opaque), "reached": maybe(points), **one}
+        if kind == "inquire":
+            return {"a": flag(), "x": flag(), "c": flag(), "validate": some(32), "nonce": maybe(lambda: some(16)), **credential()}
+        if kind == "authority":
+            return {"acked": value(some(4)), "l": flag(), "b": flag(), "n": flag(), "chain": maybe(opaque), "keytoken": maybe(opaque),
+                    "classifier": maybe(lambda: [some(2) for _ in range(chance.randrange(9))]), "payload": maybe(opaque),
+                    "route": maybe(entry), "cpa": maybe(opaque)}
+        if kind == "ack":
+            return {"acked": value(some(4)), "n": maybe(flag)}
+        criteria = chance.choice([0, 1, 2, 4, 8])
+        return {"a": flag(), "precision": chance.randrange(65536) if criteria == 8 else None, "criteria": criteria, "reason": chance.randrange(4),
+                "target": some(32), "validate": some(32), "route": maybe(entry), "path": points(), **credential()}
+
+    for i in range(count):
+        kind = list(CODES)[i % 8]
+        m = message(kind, chance.randrange(256), chance.randrange(256), value(some(4)), **fields(kind))
+        d = write(m)
+        assert read(d, m["major"]) == (0, m), m
+        assert read(d, (m["major"] + 1) % 256) == (4, None)
+        assert write(read(d, m["major"])[1]) == d
+        assert read(d + b"\0", m["major"])[0] == (7 if kind == "authority" else 6)
+
+
+if __name__ == "__main__":
+    check_cases()
+    check_lengths()
+    check_round_trips(8000)
+    print("model: cases 1 to 14, lengths and 8000 round trips as the documents have them")

@@ -1,5 +1,5 @@
 # Two commands: `make run` shows what the gauge's functions make of fixed vectors, `make test` is all that the gate runs.
-.PHONY: run test check fmt definitions vectors tools clean
+.PHONY: run test check fmt definitions vectors outside tools clean
 
 run: tools
 	@tests/run-vectors
@@ -21,6 +21,11 @@ definitions:
 # The vectors and their answers anew, from tests/vectors.py.
 vectors:
 	@tests/vectors.py --write
+
+# The good datagrams of the vectors, shown to Wireshark's dissector. No test of the gate.
+outside:
+	@tools/install tshark
+	@tests/outside.py
 
 tools:
 	@tools/install

@@ -59,9 +59,8 @@ def vectors():
     """Headings as strings, vectors as (operands, answer): the layers from the lowest up."""
     yield "# a vector is a name and operands in hexadecimal; Z and four digits stand for that many zero bytes, - for none"
     yield from ground()
-    for layer in (vector_messages, vector_memory):
-        # what is written again is compared where messages are written
-        yield from (v for v in layer.vectors() if isinstance(v, str) or v[0][0] != "again")
+    yield from vector_messages.vectors()
+    yield from vector_memory.vectors()
 
 
 def ground():

@@ -121,6 +121,18 @@ fn say_prefixes(d: &[u8], major: u8) {
     say_run(count, last);
 }
 
+// The message written again: the datagram with its ignored bits zero. The number where it is refused.
+fn say_again(d: &[u8], major: u8) {
+    let message = wire_read::read(d, major);
+    let number = number_of(message);
+    if number != 0 {
+        return say::number(number as u64);
+    }
+    let mut out = [0u8; 1232];
+    let wrote = wire_copy::write(&mut out, major, message, d);
+    say::bytes(line::part(&out, 0, wrote.length));
+}
+
 // The group of vectors that has the line's name answers; false where none has.
 pub fn answer(text: &[u8], room: &mut [u8]) -> bool {
     let major = (line::number(text, 1) % 256) as u8;
@@ -128,6 +140,10 @@ pub fn answer(text: &[u8], room: &mut [u8]) -> bool {
     let d = line::part(room, 0, end);
     if line::is_named(text, b"read") {
         say_answer(wire_read::read(d, major));
+        return true;
+    }
+    if line::is_named(text, b"again") {
+        say_again(d, major);
         return true;
     }
     if line::is_named(text, b"prefixes") {

@@ -3,8 +3,7 @@ use Prim.Native.Nat.{ℕ, zero, suc, _+_, _<_}
 use native.Mathlib.Omega.{arith}
 use mathlib.Core.List.{List, [], _∷_, _++_}
 use mathlib.Core.Option.{some, none}
-use mathlib.Core.Path.{_≡_}
-use lib.ListN.{length, getD, replicate}
+use lib.ListN.{length, replicate}
 use Rattle.octet.specs.Number.{Bytes, digitsBE}
 use Rattle.octet.proofs.BigLaws.{digitsBE-lt}
 use Rattle.wire_fields.specs.Field.{gap}

@@ -1,13 +1,13 @@
 -- The theorems of Sending: each message that a call sends is well formed. Assumes nothing.
-use Prim.Native.Nat.{ℕ, zero, suc, _+_, _-_, _*_, _^_, _<_, _≤_}
+use Prim.Native.Nat.{ℕ, _+_, _-_, _*_, _<_, _≤_}
 use native.Mathlib.Omega.{arith}
 use mathlib.Core.List.{List, [], _∷_, _++_}
-use mathlib.Core.Bool.{Bool, true, false, _&&_}
-use mathlib.Core.Option.{some, none}
+use mathlib.Core.Bool.{true, false}
+use mathlib.Core.Option.{some}
 use mathlib.Core.Path.{_≡_, refl, sym, ap, _∙_}
 use lib.Dec.{leb, eqb}
 use lib.ListN.{length, getD, length-append, length-replicate}
-use lib.Seq.{take-at, drop-at}
+use lib.Seq.{take-at}
 use borrow.Author.Tests.{le-leb, leb-true, eqb-true, eq-eqb}
 use Rattle.octet.specs.Number.{Bytes, digitsBE, valueBE}
 use Rattle.octet.specs.Part.{part}
@@ -15,19 +15,19 @@ use Rattle.octet.proofs.PartLaws.{part-digits, part-at}
 use Rattle.octet.proofs.TestLaws.{both-true}
 use Rattle.octet.proofs.BigLaws.{length-digitsBE, valueBE-digitsBE}
 use Rattle.record.specs.Record.{countOf, recordForm}
-use Rattle.record.specs.Entry.{entryForm, entryOf}
+use Rattle.record.specs.Entry.{entryOf}
 use Rattle.record.proofs.EntryLaws.{entry-form}
 use Rattle.record.proofs.PlaceLaws.{record-at, entry-length, entry-in}
 use Rattle.wire_fields.specs.Field.{numberAt, gap}
-use Rattle.wire_fields.specs.Shapes.{Kind, hasShape, splitForm}
+use Rattle.wire_fields.specs.Shapes.{hasShape, splitForm}
 use Rattle.wire_fields.specs.declared.Part.the-variants.{Here}
-use Rattle.wire_fields.specs.Kinds.{must, may, ackedKind, splitKind, noneOfTwo, lastOfTwo, lastOfTwoAndOne, flagsAXC, flagsLBN, kindsOf, joined, sized, derived}
-use Rattle.wire_fields.specs.Kinds.{ackKinds, floodKinds, inquireKinds, authorityKinds}
-use Rattle.wire_fields.specs.Message.{Held, Formed, WellFormed, layoutOf, bytesOf}
-use Rattle.wire_fields.specs.declared.Shape.the-variants.{Sized, Any, Entry, Split}
+use Rattle.wire_fields.specs.Kinds.{must, may, ackedKind, splitKind, flagsLBN, kindsOf, joined, sized, derived}
+use Rattle.wire_fields.specs.Kinds.{floodKinds, authorityKinds}
+use Rattle.wire_fields.specs.Message.{Held, layoutOf, bytesOf}
+use Rattle.wire_fields.specs.declared.Shape.the-variants.{Sized, Entry}
 use Rattle.wire_write.specs.Writing.{fit}
-use Rattle.wire_write.specs.Sent.{wholeSplit, ackSent, floodSent, inquireSent, cpaSent, closestSent, floodMade, inquireMade, cpaMade, closestMade, formedAt}
-use Rattle.wire.specs.Sending.{Numbers, AckFormed, FloodFormed, InquireFormed, CpaFormed, ClosestFormed}
+use Rattle.wire_write.specs.Sent.{wholeSplit, floodSent, cpaSent, closestSent, floodMade, inquireMade, cpaMade, closestMade, formedAt}
+use Rattle.wire.specs.Sending.{AckFormed, FloodFormed, InquireFormed, CpaFormed, ClosestFormed}
 use Rattle.wire.proofs.BytesLaws.{bytes-nil, bytes-cons, bytes-append, bytes-digits}
 
 -- ---- fields that are the writer's own

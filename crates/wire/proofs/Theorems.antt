@@ -1,28 +1,26 @@
 -- The theorems of the statements. Assumes nothing.
-use Prim.Native.Nat.{ℕ, _+_, _<_, _≤_}
+use Prim.Native.Nat.{ℕ, _+_, _<_}
 use native.Mathlib.Omega.{arith}
-use mathlib.Core.List.{List, [], _∷_, _++_}
-use mathlib.Core.Logic.{_↔_}
+use mathlib.Core.List.{List, _++_}
 use mathlib.Core.Bool.{Bool, true, false, cond, _&&_}
 use mathlib.Core.Option.{Option, some, none}
-use mathlib.Core.Path.{_≡_, refl, sym, ap, ap₂, subst, _∙_}
+use mathlib.Core.Path.{_≡_, refl, sym, ap, subst, _∙_}
 use lib.Dec.{eqb, leb}
 use lib.ListN.{length, getD, take, drop}
 use lib.Seq.{take-at}
 use borrow.Author.Tests.{eqb-true}
 use Rattle.octet.specs.Number.{Bytes, digitsBE}
-use Rattle.refusal.specs.Table.{orRefuse, appliesIn, firstOf}
-use Rattle.refusal.proofs.CallLaws.{number-is, call-exactly}
+use Rattle.refusal.proofs.CallLaws.{call-exactly}
 use Rattle.wire_fields.specs.Shapes.{Kind}
 use Rattle.wire_fields.specs.Kinds.{kindsOf}
 use Rattle.wire_fields.specs.Kinds.{solicitKinds, advertiseKinds, requestKinds, floodKinds, inquireKinds, authorityKinds, ackKinds, lookupKinds, sized}
-use Rattle.wire_fields.specs.Message.{opening, Message, Reads, WellFormed, layoutOf, bytesOf, partsOf}
+use Rattle.wire_fields.specs.Message.{opening, Message, Reads, layoutOf, bytesOf, partsOf}
 use Rattle.wire_fields.specs.Reading.{messageAt, valuesOf, placesAt, fieldsAs}
 use Rattle.octet.specs.Part.{same}
 use Rattle.wire_fields.proofs.RefusalLaws.{byType, inSteps, found-steps}
 use Rattle.wire_fields.specs.Refusals.{Found, refused, found, foundOf, inPart, placesOf, fieldsIn, typeOf, refusals, foundIn}
 use Rattle.wire_fields.specs.declared.Part.{Part}
-use Rattle.wire_fields.proofs.WholeLaws.{Way, way, found-reads, reads-found, reads-once, written-reads, read-written}
+use Rattle.wire_fields.proofs.WholeLaws.{way, found-reads, reads-found, reads-once, written-reads, read-written}
 use Rattle.wire_read.specs.Answers.{answer, shown, solicitShown, advertiseShown, requestShown, floodShown, inquireShown, authorityShown, ackShown, lookupShown}
 use Rattle.wire_read.specs.Meaning.{numberOf, messageOf}
 use Rattle.wire_read.specs.declared.Answer.{Answer}

@@ -3,13 +3,12 @@ use Prim.Native.Nat.{ℕ, _^_, _<_}
 use mathlib.Core.List.{List}
 use mathlib.Core.Bool.{Bool, true}
 use mathlib.Core.Path.{_≡_}
-use lib.ListN.{length}
 use Rattle.octet.specs.Number.{Bytes}
 use Rattle.octet.specs.Part.{part}
 use Rattle.wire_fields.specs.Kinds.{ackKinds, floodKinds, inquireKinds, authorityKinds}
 use Rattle.wire_fields.specs.Message.{WellFormed}
-use Rattle.wire_write.specs.Writing.{Made, fit}
-use Rattle.wire_write.specs.Sent.{ackSent, floodSent, inquireSent, cpaSent, closestSent, ackMade, floodMade, inquireMade, cpaMade, closestMade}
+use Rattle.wire_write.specs.Writing.{fit}
+use Rattle.wire_write.specs.Sent.{ackSent, floodSent, inquireSent, cpaSent, closestSent, floodMade, inquireMade, cpaMade, closestMade}
 
 -- what is handed in with a call: two versions that are bytes and an ID of 32 bits
 abbrev pub Numbers : ℕ → ℕ → ℕ → Type 0

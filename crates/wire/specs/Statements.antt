@@ -1,16 +1,16 @@
 -- To believe. What holds of reading and writing, for every datagram and for every message of the eight types (issue "The eight messages", its theorems 1 to 7).
 -- A theorem of each name stands in proofs/Theorems. Assumes nothing.
-use Prim.Native.Nat.{ℕ, _<_, _≤_}
-use mathlib.Core.List.{List, [], _∷_, _++_}
+use Prim.Native.Nat.{ℕ, _<_}
+use mathlib.Core.List.{List, [], _∷_}
 use mathlib.Core.Logic.{_↔_}
 use mathlib.Core.Bool.{Bool, true, false}
-use mathlib.Core.Option.{Option, some}
+use mathlib.Core.Option.{some}
 use mathlib.Core.Path.{_≡_}
-use lib.ListN.{length, set, take}
+use lib.ListN.{length, take}
 use Rattle.octet.specs.Number.{Bytes}
 use Rattle.refusal.specs.Table.{appliesIn}
 use Rattle.wire_fields.specs.Shapes.{Kind}
-use Rattle.wire_fields.specs.Message.{Contents, Formed, Message, WellFormed, Reads, layoutOf, bytesOf, cleared}
+use Rattle.wire_fields.specs.Message.{Contents, Message, WellFormed, Reads, layoutOf, bytesOf, cleared}
 use Rattle.wire_fields.specs.Refusals.{refusals}
 use Rattle.wire_read.specs.declared.Answer.{Answer}
 use Rattle.wire_read.specs.Answers.{answer}

@@ -4,9 +4,9 @@ use Prim.Native.Nat.{ℕ}
 use mathlib.Core.List.{List, [], _∷_, _++_}
 use mathlib.Core.Bool.{Bool, true, false}
 use Rattle.octet.specs.Number.{digitsBE}
-use Rattle.wire_fields.specs.Kinds.{endpoints, codes}
+use Rattle.wire_fields.specs.Kinds.{endpoints, keyList, codes}
 use Rattle.wire_fields.specs.declared.Shape.{Shape}
-use Rattle.wire_fields.specs.declared.Shape.the-variants.{Sized, Any, Entry}
+use Rattle.wire_fields.specs.declared.Shape.the-variants.{Sized, Any, Entry, Lookup}
 use Rattle.wire_write.specs.declared.Row.{Row}
 use Rattle.wire_write.specs.declared.Piece.{Piece}
 use Rattle.wire_write.specs.declared.Source.the-variants.{Own, First, Second}
@@ -17,6 +17,26 @@ needRow n padded shape = record { number = n; optional = false; padded = padded;
 
 abbrev pub mayRow : ℕ → Bool → Shape → Row
 mayRow n padded shape = record { number = n; optional = true; padded = padded; shape = shape }
+
+abbrev pub solicitRows : List Row
+solicitRows =
+    mayRow 0x9A true Entry ∷ needRow 0x92 false (Sized 20) ∷ mayRow 0 false Any ∷ mayRow 0 false Any ∷ mayRow 0 false Any
+    ∷ mayRow 0 false Any ∷ mayRow 0 false Any ∷ mayRow 0 false Any ∷ mayRow 0 false Any ∷ []
+
+abbrev pub advertiseRows : List Row
+advertiseRows =
+    needRow 0x18 false (Sized 4) ∷ needRow 0x60 false keyList ∷ needRow 0x92 false (Sized 20) ∷ mayRow 0 false Any ∷ mayRow 0 false Any
+    ∷ mayRow 0 false Any ∷ mayRow 0 false Any ∷ mayRow 0 false Any ∷ mayRow 0 false Any ∷ []
+
+abbrev pub requestRows : List Row
+requestRows =
+    mayRow 0x40 true (Sized 2) ∷ mayRow 0x98 false (Sized 4) ∷ needRow 0x93 false (Sized 16) ∷ needRow 0x60 false keyList ∷ mayRow 0x80 false Any
+    ∷ mayRow 0xA5 false Any ∷ mayRow 0xA6 false Any ∷ mayRow 0 false Any ∷ mayRow 0 false Any ∷ []
+
+abbrev pub lookupRows : List Row
+lookupRows =
+    needRow 0x45 false Lookup ∷ needRow 0x38 false (Sized 32) ∷ needRow 0x39 false (Sized 32) ∷ mayRow 0x9A true Entry ∷ needRow 0x9E false endpoints
+    ∷ mayRow 0x80 false Any ∷ mayRow 0xA5 false Any ∷ mayRow 0xA6 false Any ∷ mayRow 0 false Any ∷ []
 
 abbrev pub floodRows : List Row
 floodRows =
@@ -57,6 +77,10 @@ noPiece = record { there = false; entry = false; source = Own; start = 0; len = 
 -- the writer's own bytes: acked ID at 0, split controls at 4, flags at 8 with a byte after them
 abbrev pub ownBytes : ℕ → ℕ → ℕ → ℕ → List ℕ
 ownBytes acked size high low = digitsBE 256 4 acked ++ digitsBE 256 2 size ++ (0 ∷ 0 ∷ high ∷ low ∷ 0 ∷ [])
+
+-- LOOKUP's controls
+abbrev pub lookupBytes : ℕ → ℕ → ℕ → ℕ → List ℕ
+lookupBytes low precision criteria reason = 0 ∷ low ∷ (digitsBE 256 2 precision ++ (criteria ∷ reason ∷ 0 ∷ 0 ∷ []))
 
 -- ACK; FLOOD of a record; INQUIRE; AUTHORITY with a CPA, and with a record
 abbrev pub ackPieces : Bool → List Piece

@@ -6,11 +6,25 @@ mod rows;
 mod sent;
 mod whole;
 
+pub use rows::ack_rows;
+pub use rows::advertise_rows;
+pub use rows::authority_rows;
+pub use rows::first_piece;
+pub use rows::flood_rows;
+pub use rows::inquire_rows;
+pub use rows::lookup_bytes;
+pub use rows::lookup_rows;
+pub use rows::no_piece;
+pub use rows::own_bytes;
+pub use rows::own_piece;
+pub use rows::request_rows;
+pub use rows::solicit_rows;
 pub use sent::write_ack;
 pub use sent::write_closest;
 pub use sent::write_cpa;
 pub use sent::write_flood;
 pub use sent::write_inquire;
+pub use whole::write_rows;
 
 // What the code knows of a kind of field.
 pub struct Row {

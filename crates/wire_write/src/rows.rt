@@ -5,6 +5,7 @@ use crate::Source;
 use wire_fields::Shape;
 ghost use mathlib.Core.Path.{_≡_};
 ghost use Rattle.wire_write.specs.Rows.{needRow, mayRow, ownPiece, firstPiece, secondPiece, entryPiece, noPiece, ownBytes};
+ghost use Rattle.wire_write.specs.Rows.{solicitRows, advertiseRows, requestRows, lookupRows, lookupBytes};
 ghost use Rattle.wire_write.specs.Rows.{ackRows, floodRows, inquireRows, authorityRows};
 
 pub(crate) fn need_row(number: u16, padded: bool, shape: Shape) -> Row
@@ -29,7 +30,7 @@ pub(crate) fn may_row(number: u16, padded: bool, shape: Shape) -> Row
     }
 }
 
-pub(crate) fn own_piece(start: usize, len: usize) -> Piece
+pub fn own_piece(start: usize, len: usize) -> Piece
     ensures { λ r. ⌜ r ≡ ownPiece start len ⌝ }
 {
     Piece {
@@ -41,7 +42,7 @@ pub(crate) fn own_piece(start: usize, len: usize) -> Piece
     }
 }
 
-pub(crate) fn first_piece(start: usize, len: usize) -> Piece
+pub fn first_piece(start: usize, len: usize) -> Piece
     ensures { λ r. ⌜ r ≡ firstPiece start len ⌝ }
 {
     Piece {
@@ -77,7 +78,7 @@ pub(crate) fn entry_piece(start: usize) -> Piece
     }
 }
 
-pub(crate) fn no_piece() -> Piece
+pub fn no_piece() -> Piece
     ensures { λ r. ⌜ r ≡ noPiece ⌝ }
 {
     Piece {
@@ -90,7 +91,7 @@ pub(crate) fn no_piece() -> Piece
 }
 
 // The writer's own bytes: acked ID at 0, split controls at 4, flags at 8 with a byte after them.
-pub(crate) fn own_bytes(acked: u32, size: usize, high: u8, low: u8) -> [u8; 11]
+pub fn own_bytes(acked: u32, size: usize, high: u8, low: u8) -> [u8; 11]
     ensures { λ r. ⌜ r ≡ ownBytes acked size high low ⌝ }
 {
     let a = (acked / 16777216 % 256) as u8;
@@ -102,7 +103,84 @@ pub(crate) fn own_bytes(acked: u32, size: usize, high: u8, low: u8) -> [u8; 11]
     [a, b, c, d, e, f, 0, 0, high, low, 0]
 }
 
-pub(crate) fn ack_rows() -> [Row; 9]
+pub fn solicit_rows() -> [Row; 9]
+    ensures { λ r. ⌜ r ≡ solicitRows ⌝ }
+{
+    let entry = may_row(0x9A, true, Shape::Entry);
+    let nonce = need_row(0x92, false, Shape::Sized(20));
+    let none = may_row(0, false, Shape::Any);
+    [entry, nonce, none, none, none, none, none, none, none]
+}
+
+pub fn advertise_rows() -> [Row; 9]
+    ensures { λ r. ⌜ r ≡ advertiseRows ⌝ }
+{
+    let acked = need_row(0x18, false, Shape::Sized(4));
+    let keys = need_row(0x60, false, Shape::Array(0x30, 32, 0, 0x7FFF));
+    let nonce = need_row(0x92, false, Shape::Sized(20));
+    let none = may_row(0, false, Shape::Any);
+    [acked, keys, nonce, none, none, none, none, none, none]
+}
+
+pub fn request_rows() -> [Row; 9]
+    ensures { λ r. ⌜ r ≡ requestRows ⌝ }
+{
+    let flags = may_row(0x40, true, Shape::Sized(2));
+    let split = may_row(0x98, false, Shape::Sized(4));
+    let nonce = need_row(0x93, false, Shape::Sized(16));
+    let keys = need_row(0x60, false, Shape::Array(0x30, 32, 0, 0x7FFF));
+    let credential = may_row(0x80, false, Shape::Any);
+    let signature = may_row(0xA5, false, Shape::Any);
+    let key = may_row(0xA6, false, Shape::Any);
+    let none = may_row(0, false, Shape::Any);
+    [
+        flags,
+        split,
+        nonce,
+        keys,
+        credential,
+        signature,
+        key,
+        none,
+        none,
+    ]
+}
+
+pub fn lookup_rows() -> [Row; 9]
+    ensures { λ r. ⌜ r ≡ lookupRows ⌝ }
+{
+    let controls = need_row(0x45, false, Shape::Lookup);
+    let target = need_row(0x38, false, Shape::Sized(32));
+    let validate = need_row(0x39, false, Shape::Sized(32));
+    let entry = may_row(0x9A, true, Shape::Entry);
+    let path = need_row(0x9E, false, Shape::Array(0x9D, 18, 1, 22));
+    let credential = may_row(0x80, false, Shape::Any);
+    let signature = may_row(0xA5, false, Shape::Any);
+    let key = may_row(0xA6, false, Shape::Any);
+    let none = may_row(0, false, Shape::Any);
+    [
+        controls,
+        target,
+        validate,
+        entry,
+        path,
+        credential,
+        signature,
+        key,
+        none,
+    ]
+}
+
+// LOOKUP's controls.
+pub fn lookup_bytes(low: u8, precision: u16, criteria: u8, reason: u8) -> [u8; 8]
+    ensures { λ r. ⌜ r ≡ lookupBytes low precision criteria reason ⌝ }
+{
+    let high = (precision / 256 % 256) as u8;
+    let last = (precision % 256) as u8;
+    [0, low, high, last, criteria, reason, 0, 0]
+}
+
+pub fn ack_rows() -> [Row; 9]
     ensures { λ r. ⌜ r ≡ ackRows ⌝ }
 {
     let acked = need_row(0x18, false, Shape::Sized(4));
@@ -111,7 +189,7 @@ pub(crate) fn ack_rows() -> [Row; 9]
     [acked, flags, none, none, none, none, none, none, none]
 }
 
-pub(crate) fn flood_rows() -> [Row; 9]
+pub fn flood_rows() -> [Row; 9]
     ensures { λ r. ⌜ r ≡ floodRows ⌝ }
 {
     let controls = need_row(0x43, true, Shape::Sized(3));
@@ -134,7 +212,7 @@ pub(crate) fn flood_rows() -> [Row; 9]
     ]
 }
 
-pub(crate) fn inquire_rows() -> [Row; 9]
+pub fn inquire_rows() -> [Row; 9]
     ensures { λ r. ⌜ r ≡ inquireRows ⌝ }
 {
     let flags = need_row(0x40, true, Shape::Sized(2));
@@ -157,7 +235,7 @@ pub(crate) fn inquire_rows() -> [Row; 9]
     ]
 }
 
-pub(crate) fn authority_rows() -> [Row; 9]
+pub fn authority_rows() -> [Row; 9]
     ensures { λ r. ⌜ r ≡ authorityRows ⌝ }
 {
     let acked = need_row(0x18, false, Shape::Sized(4));

@@ -129,7 +129,7 @@ fn put_pieces(
 }
 
 // A message of any type, at the start of the output.
-pub(crate) fn write_rows(
+pub fn write_rows(
     out: &mut [u8],
     major: u8,
     minor: u8,

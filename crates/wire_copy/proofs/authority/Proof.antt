@@ -1,0 +1,120 @@
+-- `wire_copy::authority` meets its contract: its rows and pieces are the definition's. Assumes nothing.
+use Rattle.octet.specs.Number.{digitsBE}
+use mathlib.Core.Path.{refl}
+use Rattle.wire_copy.specs.Resent.{resent}
+use borrow.Author.Needs.{needs}
+use Rattle.wire_copy.proofs.authority.Statement.{statement}
+use Rattle.wire_copy.proofs.authority.Tie as tie
+
+authority-rows-requires : tie.Need-authority-rows-requires
+authority-rows-requires c κs = search needs
+
+behind-requires : tie.Need-behind-requires
+behind-requires c κs = search needs
+
+bit-of-requires : tie.Need-bit-of-requires
+bit-of-requires c κs = search needs
+
+bit-of-requires-2 : tie.Need-bit-of-requires-2
+bit-of-requires-2 c κs = search needs
+
+bit-of-requires-3 : tie.Need-bit-of-requires-3
+bit-of-requires-3 c κs = search needs
+
+mul-high : tie.Need-mul-high
+mul-high c = search needs
+
+mul-low : tie.Need-mul-low
+mul-low c = search needs
+
+add-low : tie.Need-add-low
+add-low c = search needs
+
+own-bytes-requires : tie.Need-own-bytes-requires
+own-bytes-requires c κs = search needs
+
+own-piece-requires : tie.Need-own-piece-requires
+own-piece-requires c κs = search needs
+
+own-piece-requires-2 : tie.Need-own-piece-requires-2
+own-piece-requires-2 c κs = search needs
+
+own-piece-requires-3 : tie.Need-own-piece-requires-3
+own-piece-requires-3 c κs = search needs
+
+piece-of-requires : tie.Need-piece-of-requires
+piece-of-requires c κs = search needs
+
+piece-of-requires-2 : tie.Need-piece-of-requires-2
+piece-of-requires-2 c κs = search needs
+
+piece-of-requires-3 : tie.Need-piece-of-requires-3
+piece-of-requires-3 c κs = search needs
+
+piece-of-requires-4 : tie.Need-piece-of-requires-4
+piece-of-requires-4 c κs = search needs
+
+piece-of-requires-5 : tie.Need-piece-of-requires-5
+piece-of-requires-5 c κs = search needs
+
+piece-of-requires-6 : tie.Need-piece-of-requires-6
+piece-of-requires-6 c κs = search needs
+
+slice-aggregate-write-rows : tie.Need-slice-aggregate-write-rows
+unfolding digitsBE
+slice-aggregate-write-rows c = rw (c .before .before .before .before .before .before .before .before .before .before .before .own-bytes .ensures)
+
+write-rows-requires : tie.Need-write-rows-requires
+write-rows-requires c κs =
+    (rw (c .before .before .before .before .before .before .before .before .before .before .before .before .before .before .before .before .authority-rows .ensures), refl)
+
+same-length : tie.Need-same-length
+same-length c = search needs
+
+returns : tie.Need-returns
+unfolding resent
+returns c =
+    rw (
+      c .before .before .before .before .before .piece-of6 .ensures,
+      c .before .before .before .before .before .before .piece-of5 .ensures,
+      c .before .before .before .before .before .before .before .piece-of4 .ensures,
+      c .before .before .before .before .before .before .before .before .piece-of3 .ensures,
+      c .before .before .before .before .before .before .before .before .before .piece-of2 .ensures,
+      c .before .before .before .before .before .before .before .before .before .before .piece-of .ensures,
+      c .before .before .before .before .before .before .before .before .before .before .before .own-piece3 .ensures,
+      c .before .before .before .before .before .before .before .before .before .before .before .before .own-piece2 .ensures,
+      c .before .before .before .before .before .before .before .before .before .before .before .before .before .own-piece .ensures,
+      c .before .before .before .before .before .before .before .before .before .before .before .before .before .before .own-bytes .ensures,
+      c .before .before .before .before .before .before .before .before .before .before .before .before .before .before .before .bit-of3 .ensures .0,
+      c .before .before .before .before .before .before .before .before .before .before .before .before .before .before .before .before .bit-of2 .ensures .0,
+      c .before .before .before .before .before .before .before .before .before .before .before .before .before .before .before .before .before .bit-of .ensures .0,
+      c .before .before .before .before .before .before .before .before .before .before .before .before .before .before .before .before .before .before .behind .ensures,
+      c .before .before .before .before .before .before .before .before .before .before .before .before .before .before .before .before .before .before .before .authority-rows .ensures,
+    ) at (c .before .before .write-rows .ensures)
+
+pub authority-spec : {M : Type 1} → statement M
+authority-spec =
+    tie.close
+    (tie.spec
+    authority-rows-requires
+    behind-requires
+    bit-of-requires
+    bit-of-requires-2
+    bit-of-requires-3
+    mul-high
+    mul-low
+    add-low
+    own-bytes-requires
+    own-piece-requires
+    own-piece-requires-2
+    own-piece-requires-3
+    piece-of-requires
+    piece-of-requires-2
+    piece-of-requires-3
+    piece-of-requires-4
+    piece-of-requires-5
+    piece-of-requires-6
+    slice-aggregate-write-rows
+    write-rows-requires
+    same-length
+    returns)

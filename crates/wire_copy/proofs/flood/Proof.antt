@@ -1,0 +1,105 @@
+-- `wire_copy::flood` meets its contract: its rows and pieces are the definition's. Assumes nothing.
+use Rattle.octet.specs.Number.{digitsBE}
+use mathlib.Core.Path.{refl, sym, _∙_}
+use Rattle.wire_copy.specs.Resent.{resent}
+use Rattle.wire_write.proofs.WriteLaws.{wrote-6}
+use mathlib.Core.Bool.{Bool·not-not, true, false, not}
+use mathlib.Core.Path.{_≡_, ap}
+use Rattle.wire_fields.specs.Kinds.{oneOf}
+use Rattle.wire_read.specs.Answers.{isHere}
+use borrow.Author.Needs.{needs}
+use Rattle.wire_copy.proofs.flood.Statement.{statement}
+use Rattle.wire_copy.proofs.flood.Tie as tie
+
+flood-rows-requires : tie.Need-flood-rows-requires
+flood-rows-requires c κs = search needs
+
+piece-of-requires : tie.Need-piece-of-requires
+piece-of-requires c κs = search needs
+
+piece-of-requires-2 : tie.Need-piece-of-requires-2
+piece-of-requires-2 c κs = search needs
+
+both-or-neither-requires : tie.Need-both-or-neither-requires
+both-or-neither-requires c κs = search needs
+
+returns : tie.Need-returns
+unfolding resent
+returns c =
+    let b = Bool·not-not (oneOf (isHere (c .before .before .before .before .before .before .before .args .revoke)) (isHere (c .before .before .before .before .before .before .before .args .entry))) in
+    let e : oneOf (isHere (c .before .before .before .before .before .before .before .args .revoke)) (isHere (c .before .before .before .before .before .before .before .args .entry)) ≡ false =
+    sym b ∙ ap not (sym (rw (c .before .before .before .piece-of .ensures, c .before .before .piece-of2 .ensures) at (c .before .both-or-neither .ensures)) ∙ c .if1 .taken) in
+    rw e (wrote-6 _ _ refl)
+
+bit-of-requires : tie.Need-bit-of-requires
+bit-of-requires c κs = search needs
+
+own-bytes-requires : tie.Need-own-bytes-requires
+own-bytes-requires c κs = search needs
+
+own-piece-requires : tie.Need-own-piece-requires
+own-piece-requires c κs = search needs
+
+first-piece-requires : tie.Need-first-piece-requires
+first-piece-requires c κs = search needs
+
+piece-of-requires-3 : tie.Need-piece-of-requires-3
+piece-of-requires-3 c κs = search needs
+
+piece-of-requires-4 : tie.Need-piece-of-requires-4
+piece-of-requires-4 c κs = search needs
+
+no-piece-requires : tie.Need-no-piece-requires
+no-piece-requires c κs = search needs
+
+slice-aggregate-write-rows : tie.Need-slice-aggregate-write-rows
+unfolding digitsBE
+slice-aggregate-write-rows c = rw (c .before .before .before .before .before .before .before .own-bytes .ensures)
+
+write-rows-requires : tie.Need-write-rows-requires
+write-rows-requires c κs =
+    (rw (c .before .before .before .before .before .before .before .before .before .before .before .before .before .flood-rows .ensures), refl)
+
+same-length : tie.Need-same-length
+same-length c = search needs
+
+returns-2 : tie.Need-returns-2
+unfolding resent
+returns-2 c =
+    let b = Bool·not-not (oneOf (isHere (c .before .before .before .before .before .before .before .before .before .before .before .before .before .before .before .before .before .before .before .args .revoke)) (isHere (c .before .before .before .before .before .before .before .before .before .before .before .before .before .before .before .before .before .before .before .args .entry))) in
+    let e : oneOf (isHere (c .before .before .before .before .before .before .before .before .before .before .before .before .before .before .before .before .before .before .before .args .revoke)) (isHere (c .before .before .before .before .before .before .before .before .before .before .before .before .before .before .before .before .before .before .before .args .entry)) ≡ true =
+    sym b ∙ ap not (sym (rw (c .before .before .before .before .before .before .before .before .before .before .before .before .before .before .before .piece-of .ensures, c .before .before .before .before .before .before .before .before .before .before .before .before .before .before .piece-of2 .ensures) at (c .before .before .before .before .before .before .before .before .before .before .before .before .before .both-or-neither .ensures)) ∙ c .before .before .before .before .before .before .before .before .before .before .before .before .if1 .left) in
+    rw e
+    (rw (
+      c .before .before .before .before .before .no-piece .ensures,
+      c .before .before .before .before .before .before .piece-of4 .ensures,
+      c .before .before .before .before .before .before .before .piece-of3 .ensures,
+      c .before .before .before .before .before .before .before .before .first-piece .ensures,
+      c .before .before .before .before .before .before .before .before .before .own-piece .ensures,
+      c .before .before .before .before .before .before .before .before .before .before .own-bytes .ensures,
+      c .before .before .before .before .before .before .before .before .before .before .before .bit-of .ensures .0,
+      c .before .before .before .before .before .before .before .before .before .before .before .before .before .before .piece-of2 .ensures,
+      c .before .before .before .before .before .before .before .before .before .before .before .before .before .before .before .piece-of .ensures,
+      c .before .before .before .before .before .before .before .before .before .before .before .before .before .before .before .before .flood-rows .ensures,
+    ) at (c .before .before .write-rows .ensures))
+
+pub flood-spec : {M : Type 1} → statement M
+flood-spec =
+    tie.close
+    (tie.spec
+    flood-rows-requires
+    piece-of-requires
+    piece-of-requires-2
+    both-or-neither-requires
+    returns
+    bit-of-requires
+    own-bytes-requires
+    own-piece-requires
+    first-piece-requires
+    piece-of-requires-3
+    piece-of-requires-4
+    no-piece-requires
+    slice-aggregate-write-rows
+    write-rows-requires
+    same-length
+    returns-2)

@@ -1,0 +1,102 @@
+-- `wire_copy::lookup` meets its contract: its rows and pieces are the definition's. Assumes nothing.
+use Rattle.octet.specs.Number.{digitsBE}
+use mathlib.Core.Path.{refl}
+use Rattle.wire_copy.specs.Resent.{resent}
+use borrow.Author.Needs.{needs}
+use Rattle.wire_copy.proofs.lookup.Statement.{statement}
+use Rattle.wire_copy.proofs.lookup.Tie as tie
+
+lookup-rows-requires : tie.Need-lookup-rows-requires
+lookup-rows-requires c κs = search needs
+
+bit-of-requires : tie.Need-bit-of-requires
+bit-of-requires c κs = search needs
+
+mul-low : tie.Need-mul-low
+mul-low c = search needs
+
+kept-precision-requires : tie.Need-kept-precision-requires
+kept-precision-requires c κs = search needs
+
+lookup-bytes-requires : tie.Need-lookup-bytes-requires
+lookup-bytes-requires c κs = search needs
+
+own-piece-requires : tie.Need-own-piece-requires
+own-piece-requires c κs = search needs
+
+first-piece-requires : tie.Need-first-piece-requires
+first-piece-requires c κs = search needs
+
+first-piece-requires-2 : tie.Need-first-piece-requires-2
+first-piece-requires-2 c κs = search needs
+
+piece-of-requires : tie.Need-piece-of-requires
+piece-of-requires c κs = search needs
+
+piece-of-requires-2 : tie.Need-piece-of-requires-2
+piece-of-requires-2 c κs = search needs
+
+piece-of-requires-3 : tie.Need-piece-of-requires-3
+piece-of-requires-3 c κs = search needs
+
+piece-of-requires-4 : tie.Need-piece-of-requires-4
+piece-of-requires-4 c κs = search needs
+
+piece-of-requires-5 : tie.Need-piece-of-requires-5
+piece-of-requires-5 c κs = search needs
+
+no-piece-requires : tie.Need-no-piece-requires
+no-piece-requires c κs = search needs
+
+slice-aggregate-write-rows : tie.Need-slice-aggregate-write-rows
+unfolding digitsBE
+slice-aggregate-write-rows c = rw (c .before .before .before .before .before .before .before .before .before .before .before .lookup-bytes .ensures)
+
+write-rows-requires : tie.Need-write-rows-requires
+write-rows-requires c κs =
+    (rw (c .before .before .before .before .before .before .before .before .before .before .before .before .before .before .lookup-rows .ensures), refl)
+
+same-length : tie.Need-same-length
+same-length c = search needs
+
+returns : tie.Need-returns
+unfolding resent
+returns c =
+    rw (
+      c .before .before .before .before .before .no-piece .ensures,
+      c .before .before .before .before .before .before .piece-of5 .ensures,
+      c .before .before .before .before .before .before .before .piece-of4 .ensures,
+      c .before .before .before .before .before .before .before .before .piece-of3 .ensures,
+      c .before .before .before .before .before .before .before .before .before .piece-of2 .ensures,
+      c .before .before .before .before .before .before .before .before .before .before .piece-of .ensures,
+      c .before .before .before .before .before .before .before .before .before .before .before .first-piece2 .ensures,
+      c .before .before .before .before .before .before .before .before .before .before .before .before .first-piece .ensures,
+      c .before .before .before .before .before .before .before .before .before .before .before .before .before .own-piece .ensures,
+      c .before .before .before .before .before .before .before .before .before .before .before .before .before .before .lookup-bytes .ensures,
+      c .before .before .before .before .before .before .before .before .before .before .before .before .before .before .before .kept-precision .ensures,
+      c .before .before .before .before .before .before .before .before .before .before .before .before .before .before .before .before .bit-of .ensures .0,
+      c .before .before .before .before .before .before .before .before .before .before .before .before .before .before .before .before .before .lookup-rows .ensures,
+    ) at (c .before .before .write-rows .ensures)
+
+pub lookup-spec : {M : Type 1} → statement M
+lookup-spec =
+    tie.close
+    (tie.spec
+    lookup-rows-requires
+    bit-of-requires
+    mul-low
+    kept-precision-requires
+    lookup-bytes-requires
+    own-piece-requires
+    first-piece-requires
+    first-piece-requires-2
+    piece-of-requires
+    piece-of-requires-2
+    piece-of-requires-3
+    piece-of-requires-4
+    piece-of-requires-5
+    no-piece-requires
+    slice-aggregate-write-rows
+    write-rows-requires
+    same-length
+    returns)

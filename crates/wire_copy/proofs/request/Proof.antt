@@ -1,0 +1,93 @@
+-- `wire_copy::request` meets its contract: its rows and pieces are the definition's. Assumes nothing.
+use Rattle.octet.specs.Number.{digitsBE}
+use mathlib.Core.Path.{refl}
+use Rattle.wire_copy.specs.Resent.{resent}
+use borrow.Author.Needs.{needs}
+use Rattle.wire_copy.proofs.request.Statement.{statement}
+use Rattle.wire_copy.proofs.request.Tie as tie
+
+request-rows-requires : tie.Need-request-rows-requires
+request-rows-requires c κs = search needs
+
+split-end-requires : tie.Need-split-end-requires
+split-end-requires c κs = search needs
+
+behind-requires : tie.Need-behind-requires
+behind-requires c κs = search needs
+
+own-bytes-requires : tie.Need-own-bytes-requires
+own-bytes-requires c κs = search needs
+
+own-if-requires : tie.Need-own-if-requires
+own-if-requires c κs = search needs
+
+own-if-requires-2 : tie.Need-own-if-requires-2
+own-if-requires-2 c κs = search needs
+
+first-piece-requires : tie.Need-first-piece-requires
+first-piece-requires c κs = search needs
+
+piece-of-requires : tie.Need-piece-of-requires
+piece-of-requires c κs = search needs
+
+piece-of-requires-2 : tie.Need-piece-of-requires-2
+piece-of-requires-2 c κs = search needs
+
+piece-of-requires-3 : tie.Need-piece-of-requires-3
+piece-of-requires-3 c κs = search needs
+
+piece-of-requires-4 : tie.Need-piece-of-requires-4
+piece-of-requires-4 c κs = search needs
+
+no-piece-requires : tie.Need-no-piece-requires
+no-piece-requires c κs = search needs
+
+slice-aggregate-write-rows : tie.Need-slice-aggregate-write-rows
+unfolding digitsBE
+slice-aggregate-write-rows c = rw (c .before .before .before .before .before .before .before .before .before .before .own-bytes .ensures)
+
+write-rows-requires : tie.Need-write-rows-requires
+write-rows-requires c κs =
+    (rw (c .before .before .before .before .before .before .before .before .before .before .before .before .before .request-rows .ensures), refl)
+
+same-length : tie.Need-same-length
+same-length c = search needs
+
+returns : tie.Need-returns
+unfolding resent
+returns c =
+    rw (
+      c .before .before .before .before .before .no-piece .ensures,
+      c .before .before .before .before .before .before .piece-of4 .ensures,
+      c .before .before .before .before .before .before .before .piece-of3 .ensures,
+      c .before .before .before .before .before .before .before .before .piece-of2 .ensures,
+      c .before .before .before .before .before .before .before .before .before .piece-of .ensures,
+      c .before .before .before .before .before .before .before .before .before .before .first-piece .ensures,
+      c .before .before .before .before .before .before .before .before .before .before .before .own-if2 .ensures,
+      c .before .before .before .before .before .before .before .before .before .before .before .before .own-if .ensures,
+      c .before .before .before .before .before .before .before .before .before .before .before .before .before .own-bytes .ensures,
+      c .before .before .before .before .before .before .before .before .before .before .before .before .before .before .behind .ensures,
+      c .before .before .before .before .before .before .before .before .before .before .before .before .before .before .before .split-end .ensures,
+      c .before .before .before .before .before .before .before .before .before .before .before .before .before .before .before .before .request-rows .ensures,
+    ) at (c .before .before .write-rows .ensures)
+
+pub request-spec : {M : Type 1} → statement M
+request-spec =
+    tie.close
+    (tie.spec
+    request-rows-requires
+    split-end-requires
+    behind-requires
+    own-bytes-requires
+    own-if-requires
+    own-if-requires-2
+    first-piece-requires
+    piece-of-requires
+    piece-of-requires-2
+    piece-of-requires-3
+    piece-of-requires-4
+    no-piece-requires
+    slice-aggregate-write-rows
+    write-rows-requires
+    same-length
+    returns)

@@ -1,7 +1,7 @@
 // Vectors of the cache.
-use cache::Formed;
 use crate::shown::own;
 use crate::shown::say_keys;
+use cache::Formed;
 use vector_text::line;
 use vector_text::say;
 
@@ -108,5 +108,10 @@ fn answer_on(text: &[u8], own: &[u8], third: &[u8], side: &mut [u8]) -> bool {
 pub(crate) fn answer(text: &[u8], room: &mut [u8], side: &mut [u8]) -> bool {
     let first = own(text, room);
     let third = line::bytes(text, 3, room, first);
-    answer_on(text, line::part(room, 0, first), line::part(room, first, third), side)
+    answer_on(
+        text,
+        line::part(room, 0, first),
+        line::part(room, first, third),
+        side,
+    )
 }

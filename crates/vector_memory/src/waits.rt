@@ -74,7 +74,11 @@ pub(crate) fn answer(text: &[u8], room: &mut [u8], side: &mut [u8]) -> bool {
         return true;
     }
     if line::is_named(text, b"tick") {
-        ticks(line::part(room, 0, first), &mut side[0..end], line::number(text, 3));
+        ticks(
+            line::part(room, 0, first),
+            &mut side[0..end],
+            line::number(text, 3),
+        );
         return true;
     }
     false

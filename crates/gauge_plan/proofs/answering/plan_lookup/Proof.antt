@@ -1,0 +1,101 @@
+-- `gauge_plan::answering::plan_lookup` meets its contract: the record shown has 100 bytes, and its count is one of them. Assumes nothing.
+use mathlib.Core.Path.{_≡_, refl, sym, ap, _∙_}
+use mathlib.Core.List.{[], _∷_}
+use Prim.Native.Nat.{ℕ, _+_, _*_}
+use native.Mathlib.Omega.{arith}
+use lib.Dec.{ltb}
+use lib.ListN.{length}
+use borrow.Author.Needs.{needs}
+use borrow.Author.Tests.{lt-ltb, le-ltb}
+use Rattle.octet.specs.Number.{valueBE}
+use Rattle.key.specs.Number.{keyAt}
+use Rattle.record.specs.Record.{countOf}
+use Rattle.refusal.specs.Table.{when, orRefuse}
+use Rattle.table.specs.Rows.{rows}
+use Rattle.table.proofs.PieceLaws.{part-lent, part-start}
+use Rattle.cache.specs.Closest.{candidates, closestOf}
+use Rattle.cache.proofs.ClosestLaws.{closest-length}
+use Rattle.gauge_plan.specs.Answering.{lookupPlan}
+use Rattle.gauge_plan.specs.declared.Plan.the-variants.{Refuse, Show}
+use Rattle.gauge_plan.proofs.AnsweringLaws.{lookup-by}
+use Rattle.gauge_plan.proofs.answering.plan_lookup.Statement.{statement}
+use Rattle.gauge_plan.proofs.answering.plan_lookup.Tie as tie
+
+abbrev start : tie.After-closest → tie.Start
+start c = c .before .before .before .before .before
+
+-- the record shown, and how long it is
+shown : (c : tie.After-closest)
+    → c .closest .result .now
+    ≡ closestOf (keyAt (start c .args .target) (start c .args .d .now))
+    (candidates (start c .args .own .now) (rows 100 (start c .args .held) (start c .args .cache .now)))
+shown c =
+    let a = start c .args in
+    c .closest .ensures
+    ∙ ap (λ (k : ℕ). closestOf k (candidates (a .own .now) (rows 100 (a .held) (a .cache .now))))
+    (ap (keyAt 0) (part-lent (a .target) 32 (a .d .now)) ∙ ap (valueBE 256) (part-start (a .target) 32 32 (a .d .now) (omega arith)))
+
+long : (c : tie.After-closest) → length (c .closest .result .now) ≡ 100
+long c =
+    let s = start c in
+    let a = s .args in
+    ap length (shown c) ∙ closest-length (keyAt (a .target) (a .d .now)) (a .held) (a .own .now) (a .cache .now) (s .pre .0) (s .pre .1)
+
+by-room : (c : tie.After-closest)
+    → (let a = start c .args in lookupPlan (a .own .now) (rows 100 (a .held) (a .cache .now)) (a .held) (a .room) (a .d .now) (a .acked) (a .target))
+    ≡ orRefuse Refuse (when 15 (ltb (start c .args .room) (80 + 16 * countOf (c .closest .result .now))) ∷ [])
+    (Show (start c .args .held) (start c .args .acked) (start c .args .target))
+by-room c =
+    let a = start c .args in
+    lookup-by (a .own .now) (rows 100 (a .held) (a .cache .now)) (a .held) (a .room) (a .d .now) (a .acked) (a .target) (ap countOf (sym (shown c)))
+
+add-closest : tie.Need-add-closest
+add-closest c = search needs
+
+sub-closest : tie.Need-sub-closest
+sub-closest c = search needs
+
+part-closest-start : tie.Need-part-closest-start
+part-closest-start c = search needs
+
+part-closest-end : tie.Need-part-closest-end
+part-closest-end c = search needs
+
+closest-requires : tie.Need-closest-requires
+closest-requires c κs = search needs
+
+shared-slice-read-count : tie.Need-shared-slice-read-count
+shared-slice-read-count c = omega (arith, long (c .before))
+
+cast-count : tie.Need-cast-count
+cast-count c = omega (arith, c .shared-slice-known4 .given 34)
+
+mul-if1 : tie.Need-mul-if1
+mul-if1 c = omega (arith, c .shared-slice-known4 .given 34)
+
+add-if1 : tie.Need-add-if1
+add-if1 c = omega (arith, c .shared-slice-known4 .given 34)
+
+returns : tie.Need-returns
+unfolding orRefuse
+returns c = sym (by-room (c .before .before) ∙ rw (lt-ltb _ _ (c .if1 .taken)) refl)
+
+returns-2 : tie.Need-returns-2
+unfolding orRefuse
+returns-2 c = sym (by-room (c .before .before) ∙ rw (le-ltb _ _ (c .if1 .left)) refl)
+
+pub plan-lookup-spec : {M : Type 1} → statement M
+plan-lookup-spec =
+    tie.close
+    (tie.spec
+    add-closest
+    sub-closest
+    part-closest-start
+    part-closest-end
+    closest-requires
+    shared-slice-read-count
+    cast-count
+    mul-if1
+    add-if1
+    returns
+    returns-2)

@@ -1,0 +1,55 @@
+-- To believe. AUTHORITY, ACK, INQUIRE and LOOKUP received: what is refused, and what is planned. "8: ACK whose acked ID is no waiting flood, AUTHORITY
+-- whose acked ID is no waiting inquiry"; "9: AUTHORITY without CPA, or verdict not 1 where a CPA is needed"; "10: AUTHORITY's verdict is good for another
+-- key than the one inquired"; "12: INQUIRE for a key other than ours"; "15: output needs more bytes than lent". Assumes nothing.
+use Prim.Native.Nat.{ℕ, _+_, _*_}
+use mathlib.Core.Bool.{Bool, true, false, not, _||_}
+use mathlib.Core.List.{List, [], _∷_}
+use lib.Dec.{eqb, ltb}
+use lib.ListN.{getD}
+use Rattle.key.specs.Number.{keyAt}
+use Rattle.record.specs.Record.{countOf}
+use Rattle.refusal.specs.Table.{when, orRefuse}
+use Rattle.cache.specs.Closest.{candidates, closestOf}
+use Rattle.waiting.specs.Place.{placeKey}
+use Rattle.waiting.specs.Seek.{seek, isAt}
+use Rattle.waiting.specs.declared.seek.Found.{Found}
+use Rattle.waiting.specs.declared.seek.Found.the-variants.{At, Nothing}
+use Rattle.gauge_plan.specs.Flood.{notOurs}
+use Rattle.gauge_plan.specs.declared.Plan.{Plan}
+use Rattle.gauge_plan.specs.declared.Plan.the-variants.{Refuse, Learn, Free, Certify, Show}
+
+abbrev pub isNothing : Found → Bool
+isNothing (At i) = false
+isNothing Nothing = true
+
+-- the number of the place found
+abbrev pub placeOf : Found → ℕ
+placeOf (At i) = i
+placeOf Nothing = 0
+
+-- an AUTHORITY answers the inquiry that waits with the acked ID
+unfoldable pub authorityPlan : List (List ℕ) → ℕ → ℕ → ℕ → ℕ → ℕ → Bool → Plan
+authorityPlan ps held used verdict k acked cpa =
+    let found = seek (isAt acked 2) 0 ps in
+    orRefuse Refuse
+    (when 8 (isNothing found)
+    ∷ when 9 (not cpa || not (eqb verdict 1))
+    ∷ when 10 (not (eqb k (placeKey (getD ps (placeOf found) []))))
+    ∷ [])
+    (Learn held used (placeOf found))
+
+-- an ACK answers the flood that waits with the acked ID
+unfoldable pub ackPlan : List (List ℕ) → ℕ → ℕ → ℕ → Bool → Plan
+ackPlan ps held used acked n =
+    let found = seek (isAt acked 1) 0 ps in
+    orRefuse Refuse (when 8 (isNothing found) ∷ []) (Free held used (placeOf found) n)
+
+-- an INQUIRE for our key is answered with the own CPA, of so many bytes
+unfoldable pub inquirePlan : ℕ → ℕ → ℕ → List ℕ → ℕ → ℕ → Plan
+inquirePlan own size room d acked validate =
+    orRefuse Refuse (when 12 (notOurs own validate d) ∷ when 15 (ltb room (40 + size)) ∷ []) (Certify acked)
+
+-- a LOOKUP is answered with the record closest to its target
+unfoldable pub lookupPlan : List ℕ → List (List ℕ) → ℕ → ℕ → List ℕ → ℕ → ℕ → Plan
+lookupPlan own recs held room d acked target =
+    orRefuse Refuse (when 15 (ltb room (80 + 16 * countOf (closestOf (keyAt target d) (candidates own recs)))) ∷ []) (Show held acked target)

@@ -1,0 +1,4 @@
+pub mod Rooms
+pub mod Memory
+pub mod Flood
+pub mod Answering

@@ -57,11 +57,7 @@ fn place_follows(own: &[u8], cache: &[u8], i: usize) -> bool
     if !above_before(cache, i) {
         return false;
     }
-    match key::order_at(cache, at, own, 0) {
-        Order::Less => true,
-        Order::Same => false,
-        Order::More => true,
-    }
+    !key::same_at(cache, at, own, 0)
 }
 
 // How many places, from the first, have records in order.

@@ -6,8 +6,12 @@ use Prim.Native.Nat.{ℕ, _+_, _-_, _*_, _^_, _≤_, _<_}
 use native.Mathlib.Omega.{arith}
 use lib.ListN.{length}
 use Rattle.octet.specs.Number.{Digits, valueBE}
-use Rattle.octet.specs.Part.{part}
-use Rattle.octet.proofs.BigLaws.{valueBE-lt, valueBE-part}
+use Rattle.octet.specs.Part.{part, same}
+use Rattle.octet.proofs.BigLaws.{valueBE-lt, valueBE-part, valueBE-inj}
+use Rattle.octet.proofs.TestLaws.{same-eq, same-refl}
+use borrow.Author.Tests.{eq-eqb, ne-eqb}
+use lib.Dec.{eqb}
+use mathlib.Core.Bool.{Bool, true, false}
 use Rattle.octet.proofs.PartLaws.{part-digits, length-part}
 use Rattle.key.specs.declared.Order.{Order}
 use Rattle.key.specs.declared.Order.the-variants.{Less, More}
@@ -50,3 +54,13 @@ module _ (a b : ℕ) (s t : List ℕ) (d : Digits 256 s) (e : Digits 256 t) (h :
       ∙ order-part 256 8 n (a + 8 * k) (b + 8 * k) s t (omega arith) d e (omega arith) (omega arith)
       ∙ ap₂ (λ (x y : ℕ). then (orderOf (valueBE 256 (part (a + 8 * k) 8 s)) (valueBE 256 (part (b + 8 * k) 8 t)))
       (orderOf (valueBE 256 (part x n s)) (valueBE 256 (part y n t)))) p q
+
+-- lists of digits of one width are the same exactly where their numbers are
+pub same-value : (b : ℕ) (xs ys : List ℕ) → Digits b xs → Digits b ys → length xs ≡ length ys → same xs ys ≡ eqb (valueBE b xs) (valueBE b ys)
+same-value b xs ys d e n = by-case (same xs ys) refl
+  where
+    by-case : (t : Bool) → same xs ys ≡ t → t ≡ eqb (valueBE b xs) (valueBE b ys)
+    by-case true s = sym (eq-eqb (valueBE b xs) (valueBE b ys) (ap (valueBE b) (same-eq xs ys s)))
+    by-case false s =
+        sym (ne-eqb (valueBE b xs) (valueBE b ys)
+        (λ v. let t : same xs ys ≡ true = ap (same xs) (sym (valueBE-inj b xs ys d e n v)) ∙ same-refl xs in let z : _≡_ {A = ℕ} 0 1 = cc in absurd (omega arith)))

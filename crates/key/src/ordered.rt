@@ -78,15 +78,11 @@ pub fn order_at(s: &[u8], a: usize, t: &[u8], b: usize) -> Order
     Order::Same
 }
 
-// Are the keys at two places the same?
+// Are the keys at two places the same? By their bytes, many at once.
 pub fn same_at(s: &[u8], a: usize, t: &[u8], b: usize) -> bool
     requires { ⌜ a + 32 ≤ length (now s) ⌝ }
     requires { ⌜ b + 32 ≤ length (now t) ⌝ }
     ensures { λ r. ⌜ r ≡ eqb (keyAt a (now (s .entry))) (keyAt b (now (t .entry))) ⌝ }
 {
-    match order_at(s, a, t, b) {
-        Order::Less => false,
-        Order::Same => true,
-        Order::More => false,
-    }
+    octet::equal(&s[a..a + 32], &t[b..b + 32])
 }

@@ -1,7 +1,8 @@
-// Leaf functions as C can call them, so that tests run them and look at the code that the compiler makes of them. No part of the gauge.
+// Inner functions as C can call them, so that tests run them, look at the code that the compiler makes of them and count
+// its instructions. No part of the gauge.
 ghost use mathlib.Core.Path.{_≡_};
 ghost use Rattle.octet.specs.Part.{same, allZero};
-ghost use Rattle.leaves.specs.Leaves.{wordOr0, closerOr2};
+ghost use Rattle.leaves.specs.Leaves.{wordOr0, closerOr2, heldOr257, closestWord};
 
 // The number of the eight bytes at a place, most significant first; 0 where they do not lie within.
 #[no_mangle]
@@ -53,4 +54,45 @@ pub extern "C" fn leaves_closer(target: &[u8], k: &[u8], j: &[u8]) -> u8
     let d = key::how_far(t, x);
     let e = key::how_far(t, y);
     if key::is_closer(t, x, d, y, e) { 1 } else { 0 }
+}
+
+// How many records a cache holds; 257 where it is not in form, or the own slice is too short for a key.
+#[no_mangle]
+pub extern "C" fn leaves_form(own: &[u8], cache: &[u8]) -> usize
+    ensures { λ r. ⌜ r ≡ heldOr257 (now (own .entry)) (now (cache .entry)) ⌝ }
+{
+    if own.len() < 32 {
+        return 257;
+    }
+    let formed = cache::form(own, cache);
+    if let cache::Formed::Good(used) = formed {
+        return used;
+    }
+    257
+}
+
+// The last eight bytes of the key of the record closest to a target, among our own and so many of the cache; 0 where a
+// slice is too short.
+#[no_mangle]
+pub extern "C" fn leaves_closest<'a>(
+    own: &'a [u8],
+    cache: &'a [u8],
+    used: usize,
+    target: &[u8],
+) -> u64
+    ensures { λ r. ⌜ r ≡ closestWord (now (own .entry)) (now (cache .entry)) used (now (target .entry)) ⌝ }
+{
+    if own.len() != 100 {
+        return 0;
+    }
+    if target.len() != 32 {
+        return 0;
+    }
+    if 256 < used {
+        return 0;
+    }
+    if cache.len() < 100 * used {
+        return 0;
+    }
+    octet::read_u64(cache::closest(own, cache, used, target), 24)
 }

@@ -4,3 +4,6 @@ pub mod MeaningLaws
 pub mod BytesLaws
 pub mod Theorems
 pub mod SendingLaws
+pub mod AgainLaws
+pub mod RightLaws
+pub mod ChangedLaws

@@ -29,10 +29,10 @@ use Rattle.wire.proofs.StandLaws.{Fact, after, Stand, needed, maybed, e
 use Rattle.wire.proofs.ValueLaws.{none-kept, last-kept, controls-kept, axc-kept, lbn-kept, split-bytes, lookup-kept}
 
 -- LOOKUP's controls
-abbrev lookupKind : Kind
+abbrev pub lookupKind : Kind
 lookupKind = record { number = 0x45; optional = false; padded = false; shape = Lookup; kept = keepLookup }
 
-lookup-length : (d : List ℕ) (s l : ℕ) → hasShape Lookup (part s l d) ≡ true → s + l ≤ length d → l ≡ 8
+pub lookup-length : (d : List ℕ) (s l : ℕ) → hasShape Lookup (part s l d) ≡ true → s + l ≤ length d → l ≡ 8
 unfolding hasShape lookupForm
 lookup-length d s l e h = sym (length-part s l d h) ∙ eqb-true (length (part s l d)) 8 (both-true _ _ (both-true _ _ e .0) .0)
 

@@ -161,7 +161,7 @@ split-offset : (size : ℕ) → numberAt 2 2 (wholeSplit size) ≡ 0
 unfolding digitsBE valueBE
 split-offset size = refl
 
-split-held : (size : ℕ) → size ≤ 1232 → Held splitKind (wholeSplit size)
+pub split-held : (size : ℕ) → size ≤ 1232 → Held splitKind (wholeSplit size)
 unfolding hasShape splitForm
 split-held size h =
     let l : length (wholeSplit size) ≡ 4 = length-append (digitsBE 256 2 size) (0 ∷ 0 ∷ []) ∙ omega (arith, length-digitsBE 256 2 size) in
@@ -172,7 +172,7 @@ split-held size h =
       short = omega arith;
     }
 
-follows : (total s l size : ℕ) → size ≤ 1232 → total - (s + l) ≡ size → derived total (Here s l) (some (wholeSplit size)) ≡ true
+pub follows : (total s l size : ℕ) → size ≤ 1232 → total - (s + l) ≡ size → derived total (Here s l) (some (wholeSplit size)) ≡ true
 follows total s l size h e =
     rw (eq-eqb (numberAt 0 2 (wholeSplit size)) (total - (s + l)) (split-size size h ∙ sym e), eq-eqb (numberAt 2 2 (wholeSplit size)) 0 (split-offset size))
 

@@ -1,35 +1,41 @@
 -- The theorems of the statements. Assumes nothing.
-use Prim.Native.Nat.{ℕ, _+_, _<_}
+use Prim.Native.Nat.{ℕ, _+_, _≤_, _<_}
 use native.Mathlib.Omega.{arith}
 use mathlib.Core.List.{List, _++_}
 use mathlib.Core.Bool.{Bool, true, false, cond, _&&_}
 use mathlib.Core.Option.{Option, some, none}
-use mathlib.Core.Path.{_≡_, refl, sym, ap, subst, _∙_}
+use mathlib.Core.Path.{_≡_, refl, sym, ap, ap₂, subst, _∙_}
 use lib.Dec.{eqb, leb}
 use lib.ListN.{length, getD, take, drop}
 use lib.Seq.{take-at}
-use borrow.Author.Tests.{eqb-true}
+use borrow.Author.Tests.{eqb-true, le-leb}
 use Rattle.octet.specs.Number.{Bytes, digitsBE}
 use Rattle.refusal.proofs.CallLaws.{call-exactly}
 use Rattle.wire_fields.specs.Shapes.{Kind}
 use Rattle.wire_fields.specs.Kinds.{kindsOf}
-use Rattle.wire_fields.specs.Kinds.{solicitKinds, advertiseKinds, requestKinds, floodKinds, inquireKinds, authorityKinds, ackKinds, lookupKinds, sized}
+use Rattle.wire_fields.specs.Kinds.{solicitKinds, advertiseKinds, requestKinds, floodKinds, inquireKinds, authorityKinds, ackKinds, lookupKinds, joined, sized}
 use Rattle.wire_fields.specs.Message.{opening, Message, Reads, layoutOf, bytesOf, partsOf}
 use Rattle.wire_fields.specs.Reading.{messageAt, valuesOf, placesAt, fieldsAs}
 use Rattle.octet.specs.Part.{same}
 use Rattle.wire_fields.proofs.RefusalLaws.{byType, inSteps, found-steps}
 use Rattle.wire_fields.specs.Refusals.{Found, refused, found, foundOf, inPart, placesOf, fieldsIn, typeOf, refusals, foundIn}
 use Rattle.wire_fields.specs.declared.Part.{Part}
-use Rattle.wire_fields.proofs.WholeLaws.{way, found-reads, reads-found, reads-once, written-reads, read-written}
+use Rattle.wire_fields.proofs.WholeLaws.{way, lengths, found-reads, reads-found, reads-once, written-reads, read-written}
 use Rattle.wire_read.specs.Answers.{answer, shown, solicitShown, advertiseShown, requestShown, floodShown, inquireShown, authorityShown, ackShown, lookupShown}
 use Rattle.wire_read.specs.Meaning.{numberOf, messageOf}
 use Rattle.wire_read.specs.declared.Answer.{Answer}
 use Rattle.wire_write.specs.Writing.{Made, fit, writeAs, writeIn, Wrote}
 use Rattle.wire_write.specs.Sent.{ackMade}
 use Rattle.wire_write.specs.declared.Written.{Written}
-use Rattle.wire.specs.Statements.{changed, AtMostOne, ReadGives, ReadAccepts, ReadRefuses, WrittenReads, WrittenRead, OutputReads, ReadWritten, ReadOne, WriteOne, AckCases, ChangedReads}
+use Rattle.wire.specs.Statements.{changed, AtMostOne, ReadGives, ReadAccepts, ReadRefuses, WrittenReads, WrittenRead, OutputReads, ReadWritten, ReadWrittenAgain, OutputAgain, ReadOne, WriteOne, AckCases, ChangedReads}
 use Rattle.wire.proofs.StandLaws.{Stand, stands}
 use Rattle.wire.proofs.MeaningLaws.{solicit-means, advertise-means, request-means, flood-means, inquire-means, authority-means, ack-means, lookup-means}
+use Rattle.wire_copy.specs.Resent.{resent}
+use Rattle.wire_fields.proofs.SegmentLaws.{cleared-length}
+use Rattle.wire_fields.proofs.KindLaws.{lawful}
+use Rattle.wire.proofs.AgainLaws.{again-bytes, flood-one}
+use Rattle.wire.proofs.RightLaws.{stand-rights, buffer-rights, solicit-right, advertise-right, request-right, flood-right, inquire-right, authority-right, ack-right, lookup-right}
+use Rattle.wire.proofs.ChangedLaws.{changed-well}
 use Rattle.wire.proofs.BytesLaws.{bytes-message}
 
 -- 1
@@ -38,70 +44,88 @@ at-most-one ks js d m n p q = reads-once ks js d m n p q
 
 -- ---- the answer, by what is found
 
--- the kinds of a type and what is shown of it, by the same tests
-by-type : (major : ℕ) (d : List ℕ) → Bytes d → major ≡ getD d 5 0 → (t : ℕ) (ks : List Kind) (ps : List Part) → Stand ks d 12 ps
-    → sized t (length d) ps (valuesOf ks d ps) ≡ true
-    → (a₁ : Bool) → eqb t 1 ≡ a₁ → (a₂ : Bool) → eqb t 2 ≡ a₂ → (a₃ : Bool) → eqb t 3 ≡ a₃ → (a₄ : Bool) → eqb t 4 ≡ a₄
-    → (a₇ : Bool) → eqb t 7 ≡ a₇ → (a₈ : Bool) → eqb t 8 ≡ a₈ → (a₉ : Bool) → eqb t 9 ≡ a₉ → (b₁ : Bool) → eqb t 11 ≡ b₁
-    → cond a₁ (some solicitKinds) (cond a₂ (some advertiseKinds) (cond a₃ (some requestKinds) (cond a₄ (some floodKinds) (cond a₇ (some inquireKinds)
-    (cond a₈ (some authorityKinds) (cond a₉ (some ackKinds) (cond b₁ (some lookupKinds) none))))))) ≡ some ks
-    → messageOf major d (cond a₁ (solicitShown d ps) (cond a₂ (advertiseShown d ps) (cond a₃ (requestShown d ps) (cond a₄ (floodShown d ps)
-    (cond a₇ (inquireShown d ps) (cond a₈ (authorityShown d ps) (cond a₉ (ackShown d ps) (lookupShown d ps)))))))) ≡ some (messageAt ks d t ps)
-by-type major d b m t ks ps w z true q a₂ q₂ a₃ q₃ a₄ q₄ a₇ q₇ a₈ q₈ a₉ q₉ b₁ r e =
-    let n : t ≡ 1 = eqb-true t 1 q in
-    let k : solicitKinds ≡ ks = cc in
-    subst (λ (x : List Kind). messageOf major d (solicitShown d ps) ≡ some (messageAt x d t ps)) k
-    (rw n (solicit-means major d b m ps (subst (λ (x : List Kind). Stand x d 12 ps) (sym k) w)))
-by-type major d b m t ks ps w z false q true q₂ a₃ q₃ a₄ q₄ a₇ q₇ a₈ q₈ a₉ q₉ b₁ r e =
-    let n : t ≡ 2 = eqb-true t 2 q₂ in
-    let k : advertiseKinds ≡ ks = cc in
-    subst (λ (x : List Kind). messageOf major d (advertiseShown d ps) ≡ some (messageAt x d t ps)) k
-    (rw n (advertise-means major d b m ps (subst (λ (x : List Kind). Stand x d 12 ps) (sym k) w)))
-by-type major d b m t ks ps w z false q false q₂ true q₃ a₄ q₄ a₇ q₇ a₈ q₈ a₉ q₉ b₁ r e =
-    let n : t ≡ 3 = eqb-true t 3 q₃ in
-    let k : requestKinds ≡ ks = cc in
-    subst (λ (x : List Kind). messageOf major d (requestShown d ps) ≡ some (messageAt x d t ps)) k
-    (rw n (request-means major d b m ps (subst (λ (x : List Kind). Stand x d 12 ps) (sym k) w)
-    (subst (λ (x : List Kind). sized 3 (length d) ps (valuesOf x d ps) ≡ true) (sym k) (rw n at z))))
-by-type major d b m t ks ps w z false q false q₂ false q₃ true q₄ a₇ q₇ a₈ q₈ a₉ q₉ b₁ r e =
-    let n : t ≡ 4 = eqb-true t 4 q₄ in
-    let k : floodKinds ≡ ks = cc in
-    subst (λ (x : List Kind). messageOf major d (floodShown d ps) ≡ some (messageAt x d t ps)) k
-    (rw n (flood-means major d b m ps (subst (λ (x : List Kind). Stand x d 12 ps) (sym k) w)))
-by-type major d b m t ks ps w z false q false q₂ false q₃ false q₄ true q₇ a₈ q₈ a₉ q₉ b₁ r e =
-    let n : t ≡ 7 = eqb-true t 7 q₇ in
-    let k : inquireKinds ≡ ks = cc in
-    subst (λ (x : List Kind). messageOf major d (inquireShown d ps) ≡ some (messageAt x d t ps)) k
-    (rw n (inquire-means major d b m ps (subst (λ (x : List Kind). Stand x d 12 ps) (sym k) w)))
-by-type major d b m t ks ps w z false q false q₂ false q₃ false q₄ false q₇ true q₈ a₉ q₉ b₁ r e =
-    let n : t ≡ 8 = eqb-true t 8 q₈ in
-    let k : authorityKinds ≡ ks = cc in
-    subst (λ (x : List Kind). messageOf major d (authorityShown d ps) ≡ some (messageAt x d t ps)) k
-    (rw n (authority-means major d b m ps (subst (λ (x : List Kind). Stand x d 12 ps) (sym k) w)
-    (subst (λ (x : List Kind). sized 8 (length d) ps (valuesOf x d ps) ≡ true) (sym k) (rw n at z))))
-by-type major d b m t ks ps w z false q false q₂ false q₃ false q₄ false q₇ false q₈ true q₉ b₁ r e =
-    let n : t ≡ 9 = eqb-true t 9 q₉ in
-    let k : ackKinds ≡ ks = cc in
-    subst (λ (x : List Kind). messageOf major d (ackShown d ps) ≡ some (messageAt x d t ps)) k
-    (rw n (ack-means major d b m ps (subst (λ (x : List Kind). Stand x d 12 ps) (sym k) w)))
-by-type major d b m t ks ps w z false q false q₂ false q₃ false q₄ false q₇ false q₈ false q₉ true r e =
-    let n : t ≡ 11 = eqb-true t 11 r in
-    let k : lookupKinds ≡ ks = cc in
-    subst (λ (x : List Kind). messageOf major d (lookupShown d ps) ≡ some (messageAt x d t ps)) k
-    (rw n (lookup-means major d b m ps (subst (λ (x : List Kind). Stand x d 12 ps) (sym k) w)))
-by-type major d b m t ks ps w z false q false q₂ false q₃ false q₄ false q₇ false q₈ false q₉ false r e =
-    absurd (let o : _≡_ {A = ℕ} 0 1 = cc in omega arith)
+-- what holds of the answer of each type, of its kinds, holds of the answer shown
+abbrev Holds : (ℕ → List Kind → Answer → Type 0) → List ℕ → List Part → Type 0
+Holds P d ps =
+    P 1 solicitKinds (solicitShown d ps) × P 2 advertiseKinds (advertiseShown d ps) × P 3 requestKinds (requestShown d ps) × P 4 floodKinds (floodShown d ps)
+    × P 7 inquireKinds (inquireShown d ps) × P 8 authorityKinds (authorityShown d ps) × P 9 ackKinds (ackShown d ps) × P 11 lookupKinds (lookupShown d ps)
+
+module _ (P : ℕ → List Kind → Answer → Type 0) (d : List ℕ) (ps : List Part) (h : Holds P d ps) (t : ℕ) (ks : List Kind) where
+  of-kind : (n : ℕ) (js : List Kind) (a : Answer) → P n js a → eqb t n ≡ true → some js ≡ some ks → P t ks a
+  of-kind n js a p q e =
+      let k : js ≡ ks = cc in
+      subst (λ (x : List Kind). P t x a) k (subst (λ (u : ℕ). P u js a) (sym (eqb-true t n q)) p)
+
+  by-kind : (a₁ : Bool) → eqb t 1 ≡ a₁ → (a₂ : Bool) → eqb t 2 ≡ a₂ → (a₃ : Bool) → eqb t 3 ≡ a₃ → (a₄ : Bool) → eqb t 4 ≡ a₄
+      → (a₇ : Bool) → eqb t 7 ≡ a₇ → (a₈ : Bool) → eqb t 8 ≡ a₈ → (a₉ : Bool) → eqb t 9 ≡ a₉ → (b₁ : Bool) → eqb t 11 ≡ b₁
+      → cond a₁ (some solicitKinds) (cond a₂ (some advertiseKinds) (cond a₃ (some requestKinds) (cond a₄ (some floodKinds) (cond a₇ (some inquireKinds)
+      (cond a₈ (some authorityKinds) (cond a₉ (some ackKinds) (cond b₁ (some lookupKinds) none))))))) ≡ some ks
+      → P t ks (cond a₁ (solicitShown d ps) (cond a₂ (advertiseShown d ps) (cond a₃ (requestShown d ps) (cond a₄ (floodShown d ps)
+      (cond a₇ (inquireShown d ps) (cond a₈ (authorityShown d ps) (cond a₉ (ackShown d ps) (lookupShown d ps))))))))
+  by-kind true q₁ a₂ q₂ a₃ q₃ a₄ q₄ a₇ q₇ a₈ q₈ a₉ q₉ b₁ r₁ e = of-kind 1 solicitKinds (solicitShown d ps) (h .0) q₁ e
+  by-kind false q₁ true q₂ a₃ q₃ a₄ q₄ a₇ q₇ a₈ q₈ a₉ q₉ b₁ r₁ e = of-kind 2 advertiseKinds (advertiseShown d ps) (h .1) q₂ e
+  by-kind false q₁ false q₂ true q₃ a₄ q₄ a₇ q₇ a₈ q₈ a₉ q₉ b₁ r₁ e = of-kind 3 requestKinds (requestShown d ps) (h .2) q₃ e
+  by-kind false q₁ false q₂ false q₃ true q₄ a₇ q₇ a₈ q₈ a₉ q₉ b₁ r₁ e = of-kind 4 floodKinds (floodShown d ps) (h .3) q₄ e
+  by-kind false q₁ false q₂ false q₃ false q₄ true q₇ a₈ q₈ a₉ q₉ b₁ r₁ e = of-kind 7 inquireKinds (inquireShown d ps) (h .4) q₇ e
+  by-kind false q₁ false q₂ false q₃ false q₄ false q₇ true q₈ a₉ q₉ b₁ r₁ e = of-kind 8 authorityKinds (authorityShown d ps) (h .5) q₈ e
+  by-kind false q₁ false q₂ false q₃ false q₄ false q₇ false q₈ true q₉ b₁ r₁ e = of-kind 9 ackKinds (ackShown d ps) (h .6) q₉ e
+  by-kind false q₁ false q₂ false q₃ false q₄ false q₇ false q₈ false q₉ true r₁ e = of-kind 11 lookupKinds (lookupShown d ps) (h .7) r₁ e
+  by-kind false q₁ false q₂ false q₃ false q₄ false q₇ false q₈ false q₉ false r₁ e = absurd (let o : _≡_ {A = ℕ} 0 1 = cc in omega arith)
+
+  by-shown : kindsOf t ≡ some ks → P t ks (shown d (found t ps))
+  unfolding shown kindsOf
+  by-shown e = by-kind _ refl _ refl _ refl _ refl _ refl _ refl _ refl _ refl e
+
+-- the places found stand, and split controls follow from the rest
+found-stand : (major : ℕ) (d : List ℕ) (t : ℕ) (ps : List Part) → foundIn d major ≡ found t ps → (ks : List Kind) → kindsOf t ≡ some ks
+    → Stand ks d 12 ps × (sized t (length d) ps (valuesOf ks d ps) ≡ true) × (major ≡ getD d 5 0)
+found-stand major d t ps e ks k =
+    let (js, w) = way d major t ps e in
+    let j : js ≡ ks = (let o : some js ≡ some ks = sym (w .kinds) ∙ k in cc) in (
+      stands ks d 12 ps (subst (λ (x : List Kind). placesAt x d 12 ≡ some ps) j (w .places)),
+      subst (λ (x : List Kind). sized t (length d) ps (valuesOf x d ps) ≡ true) j (w .sizes),
+      sym (w .version),
+    )
 
 -- what is found, `read` says
+abbrev Means : ℕ → List ℕ → List Part → ℕ → List Kind → Answer → Type 0
+Means major d ps t ks a =
+    Bytes d → major ≡ getD d 5 0 → Stand ks d 12 ps → sized t (length d) ps (valuesOf ks d ps) ≡ true → messageOf major d a ≡ some (messageAt ks d t ps)
+
+means : (major : ℕ) (d : List ℕ) (ps : List Part) → Holds (Means major d ps) d ps
+means major d ps = (
+  λ b m w z. solicit-means major d b m ps w,
+  λ b m w z. advertise-means major d b m ps w,
+  λ b m w z. request-means major d b m ps w z,
+  λ b m w z. flood-means major d b m ps w,
+  λ b m w z. inquire-means major d b m ps w,
+  λ b m w z. authority-means major d b m ps w z,
+  λ b m w z. ack-means major d b m ps w,
+  λ b m w z. lookup-means major d b m ps w,
+)
+
 shown-means : (major : ℕ) (d : List ℕ) → Bytes d → (t : ℕ) (ps : List Part) → foundIn d major ≡ found t ps
     → (ks : List Kind) → kindsOf t ≡ some ks → messageOf major d (shown d (found t ps)) ≡ some (messageAt ks d t ps)
-unfolding shown kindsOf
 shown-means major d b t ps e ks k =
-    let (js, w) = way d major t ps e in
-    let j : js ≡ ks = (let o : some js ≡ some ks = sym (w .kinds) ∙ k in cc) in
-    by-type major d b (sym (w .version)) t ks ps (stands ks d 12 ps (subst (λ (x : List Kind). placesAt x d 12 ≡ some ps) j (w .places)))
-    (subst (λ (x : List Kind). sized t (length d) ps (valuesOf x d ps) ≡ true) j (w .sizes))
-    _ refl _ refl _ refl _ refl _ refl _ refl _ refl _ refl k
+    let (w, z, m) = found-stand major d t ps e ks k in
+    by-shown (Means major d ps) d ps (means major d ps) t ks k b m w z
+
+-- and it is right to be written again
+abbrev Right : ℕ → List ℕ → List Part → ℕ → List Kind → Answer → Type 0
+Right major d ps t ks a =
+    Stand ks d 12 ps → (m : Message) → messageOf major d a ≡ some m → joined (m .type) (m .fields) ≡ true → resent major d a .ok ≡ true
+
+right : (major : ℕ) (d : List ℕ) (ps : List Part) → Holds (Right major d ps) d ps
+right major d ps = (
+  λ w m e j. solicit-right major d ps (stand-rights solicitKinds d 12 ps w),
+  λ w m e j. advertise-right major d ps (stand-rights advertiseKinds d 12 ps w),
+  λ w m e j. request-right major d ps (stand-rights requestKinds d 12 ps w),
+  λ w m e j. flood-right major d ps (flood-one major d _ _ _ _ _ _ _ m e j) (stand-rights floodKinds d 12 ps w),
+  λ w m e j. inquire-right major d ps (stand-rights inquireKinds d 12 ps w),
+  λ w m e j. authority-right major d ps (buffer-rights d 12 ps w),
+  λ w m e j. ack-right major d ps (stand-rights ackKinds d 12 ps w),
+  λ w m e j. lookup-right major d ps (stand-rights lookupKinds d 12 ps w),
+)
 
 by-found : (d : List ℕ) → Bytes d → (major : ℕ) (m : Message) (x : Found) → foundIn d major ≡ x → messageOf major d (shown d x) ≡ some m
     → (ks : List Kind) × Reads ks d m × (m .major ≡ major)
@@ -232,6 +256,51 @@ output-reads ks m ok old r out w v z =
 pub read-again : ReadWritten
 read-again ks d m r = read-written ks d m r
 
+reads-length : (ks : List Kind) (d : List ℕ) (m : Message) → Reads ks d m → length (bytesOf (layoutOf ks m)) ≡ length d
+reads-length ks d m r =
+    sym (ap length (r .same))
+    ∙ cleared-length (layoutOf ks m) (λ x. refl, lengths ks (lawful (m .type) ks (r .well .known)) 12 (m .fields)) d
+
+-- what is written again of what `read` gave
+made-again : (d : List ℕ) → Bytes d → (major : ℕ) (m : Message) (ks : List Kind) → Reads ks d m → m .major ≡ major
+    → resent major d (answer d major) ≡ record { ok = true; bytes = bytesOf (layoutOf ks m) }
+made-again d b major m ks r v =
+    let g = reads-give d b major m ks r v in
+    let f = reads-found ks d m r in
+    let ps = partsOf 12 ks (m .fields) in
+    let e : foundIn d major ≡ found (m .type) ps = ap (foundIn d) (sym v) ∙ f .0 in
+    let w = found-stand major d (m .type) ps e ks (r .well .known) in
+    let q : messageOf major d (shown d (found (m .type) ps)) ≡ some m = ap (λ (x : Found). messageOf major d (shown d x)) (sym e) ∙ g in
+    let o : resent major d (answer d major) .ok ≡ true =
+    ap (λ (x : Found). resent major d (shown d x) .ok) e
+    ∙ by-shown (Right major d ps) d ps (right major d ps) (m .type) ks (r .well .known) (w .0) m q (r .well .joins) in
+    let y = again-bytes major d (answer d major) m g ks (r .well .known) (r .well .formed) (r .well .joins) in
+    ap₂ (λ (x : Bool) (z : List ℕ). record { ok = x; bytes = z }) o y
+
+pub read-written-again : ReadWrittenAgain
+read-written-again d b major m e =
+    let (ks, r, v) = by-found d b major m (foundIn d major) refl e in
+    (ks, r, made-again d b major m ks r v ∙ ap (λ (z : List ℕ). record { ok = true; bytes = z }) (sym (r .same)))
+
+room : (b old : List ℕ) → length b ≤ length old → length b ≤ 1232 → fit b old ≡ true
+unfolding fit
+room b old h l = ap₂ _&&_ (le-leb (length b) (length old) h) (le-leb (length b) 1232 l)
+
+pub output-again : OutputAgain
+output-again d b major m e old r out h w =
+    let (ks, x, v) = by-found d b major m (foundIn d major) refl e in
+    let y = bytesOf (layoutOf ks m) in
+    let n : length y ≡ length d = reads-length ks d m x in
+    let o : Wrote (record { ok = true; bytes = y }) old r out = subst (λ (z : Made). Wrote z old r out) (made-again d b major m ks x v) w in
+    let f = x .well .fits in
+    let a = zero-as (record { ok = true; bytes = y }) old refl (room y old (omega arith) f) in
+    let q : r ≡ record { number = 0; length = length d } = o .answer ∙ a .0 ∙ ap (λ (z : ℕ). record { number = 0; length = z }) n in
+    let g = output-reads ks m true old r out (x .well) o (ap (λ (z : Written). z .number) q) in (
+      q,
+      subst (λ (k : ℕ). messageOf major (take k out) (answer (take k out) major) ≡ some m) (ap (λ (z : Written). z .length) q)
+          (subst (λ (k : ℕ). messageOf k (take (r .length) out) (answer (take (r .length) out) k) ≡ some m) v g),
+    )
+
 -- 5
 pub read-one : ReadOne
 read-one d major r s p q = p ∙ sym q
@@ -246,4 +315,4 @@ ack-cases = (refl, (refl, tt))
 
 -- 7
 pub changed-reads : ChangedReads
-changed-reads ks m fs w v = written-reads ks (changed m fs) v
+changed-reads ks m n c w a j h = written-reads ks (changed ks m n c) (changed-well ks m n c w a j h)

@@ -1,23 +1,26 @@
--- To believe. What holds of reading and writing, for every datagram and for every message of the eight types (issue "The eight messages", its theorems 1 to 7).
+-- To believe. What holds of reading and writing, for every datagram and for every message of the eight types: 1 to 7.
 -- A theorem of each name stands in proofs/Theorems. Assumes nothing.
-use Prim.Native.Nat.{ℕ, _<_}
+use Prim.Native.Nat.{ℕ, zero, suc, _≤_, _<_}
 use mathlib.Core.List.{List, [], _∷_}
 use mathlib.Core.Logic.{_↔_}
-use mathlib.Core.Bool.{Bool, true, false}
-use mathlib.Core.Option.{some}
+use mathlib.Core.Bool.{Bool, true, false, cond, _||_}
+use mathlib.Core.Option.{some, none}
 use mathlib.Core.Path.{_≡_}
+use lib.Dec.{eqb}
 use lib.ListN.{length, take}
 use Rattle.octet.specs.Number.{Bytes}
 use Rattle.refusal.specs.Table.{appliesIn}
 use Rattle.wire_fields.specs.Shapes.{Kind}
-use Rattle.wire_fields.specs.Message.{Contents, Message, WellFormed, Reads, layoutOf, bytesOf, cleared}
+use Rattle.wire_fields.specs.Kinds.{joined}
+use Rattle.wire_fields.specs.Message.{Contents, Message, Held, WellFormed, Reads, ends, layoutFrom, layoutOf, bytesOf, cleared}
 use Rattle.wire_fields.specs.Refusals.{refusals}
 use Rattle.wire_read.specs.declared.Answer.{Answer}
 use Rattle.wire_read.specs.Answers.{answer}
 use Rattle.wire_read.specs.Meaning.{numberOf, messageOf}
 use Rattle.wire_write.specs.Writing.{Made, Wrote}
-use Rattle.wire_write.specs.Sent.{ackMade}
+use Rattle.wire_write.specs.Sent.{ackMade, wholeSplit}
 use Rattle.wire_write.specs.declared.Written.{Written}
+use Rattle.wire_copy.specs.Resent.{resent}
 
 -- 1. At most one message is read from a datagram.
 abbrev pub AtMostOne : Type 0
@@ -59,6 +62,19 @@ OutputReads =
 abbrev pub ReadWritten : Type 0
 ReadWritten = (ks : List Kind) (d : List ℕ) (m : Message) → Reads ks d m → bytesOf (layoutOf ks m) ≡ cleared (layoutOf ks m) d
 
+-- And through the contracts of `read` and `write`: a message that `read` gave is right for `write`, and its bytes are the datagram's with the ignored bits zero.
+abbrev pub ReadWrittenAgain : Type 0
+ReadWrittenAgain =
+    (d : List ℕ) → Bytes d → (major : ℕ) (m : Message) → messageOf major d (answer d major) ≡ some m
+    → (ks : List Kind) × Reads ks d m × (resent major d (answer d major) ≡ record { ok = true; bytes = cleared (layoutOf ks m) d })
+
+-- So where the output has room for as many bytes as the datagram had, `write` gives 0 and that many, and `read` gives the same message of them.
+abbrev pub OutputAgain : Type 0
+OutputAgain =
+    (d : List ℕ) → Bytes d → (major : ℕ) (m : Message) → messageOf major d (answer d major) ≡ some m
+    → (old : List ℕ) (r : Written) (out : List ℕ) → length d ≤ length old → Wrote (resent major d (answer d major)) old r out
+    → (r ≡ record { number = 0; length = length d }) × (messageOf major (take (length d) out) (answer (take (length d) out) major) ≡ some m)
+
 -- 5. Any two answers that the contract of `read` allows are equal; of a writer, answers and outputs.
 abbrev pub ReadOne : Type 0
 ReadOne = (d : List ℕ) (major : ℕ) (r s : Answer) → r ≡ answer d major → s ≡ answer d major → r ≡ s
@@ -85,12 +101,45 @@ AllAcks (c ∷ cs) = (ackMade 6 101 7 0xD8859CF5 (c .0) .bytes ≡ c .1) × AllA
 abbrev pub AckCases : Type 0
 AckCases = AllAcks ackCases
 
--- 7. A message with its fields changed, one optional field or that and the split controls that follow from it: if the changed fields are formed and what holds
--- between them holds, its bytes read back as it.
-abbrev pub changed : Message → List Contents → Message
-changed m fs = record { major = m .major; minor = m .minor; type = m .type; id = m .id; fields = fs }
+-- 7. A message with the field of an index changed: put in, left out, or with other contents of its kind. Split controls, where they are, follow from the rest.
+abbrev pub Allowed : Kind → Contents → Type 0
+Allowed k none = k .optional ≡ true
+Allowed k (some v) = Held k v
 
+abbrev pub AllowedAt : List Kind → ℕ → Contents → Type 0
+AllowedAt [] n c = ⊥
+AllowedAt (k ∷ ks) zero c = Allowed k c
+AllowedAt (k ∷ ks) (suc n) c = AllowedAt ks n c
+
+abbrev pub changedAt : ℕ → Contents → List Contents → List Contents
+changedAt n c [] = []
+changedAt zero c (f ∷ fs) = c ∷ fs
+changedAt (suc n) c (f ∷ fs) = f ∷ changedAt n c fs
+
+-- split controls, the second field: so many bytes follow
+abbrev pub follow : ℕ → Contents → Contents
+follow size none = none
+follow size (some v) = some (wholeSplit size)
+
+abbrev pub splitAgain : List Kind → List Contents → List Contents
+splitAgain (k ∷ j ∷ ks) (f ∷ s ∷ fs) = f ∷ follow (length (bytesOf (layoutFrom (ends (ends 12 k f) j s) ks fs))) s ∷ fs
+splitAgain (k ∷ j ∷ ks) (f ∷ []) = f ∷ []
+splitAgain (k ∷ j ∷ ks) [] = []
+splitAgain (k ∷ []) fs = fs
+splitAgain [] fs = fs
+
+abbrev pub changed : List Kind → Message → ℕ → Contents → Message
+changed ks m n c =
+    record {
+      major = m .major;
+      minor = m .minor;
+      type = m .type;
+      id = m .id;
+      fields = cond (eqb (m .type) 3 || eqb (m .type) 8) (splitAgain ks (changedAt n c (m .fields))) (changedAt n c (m .fields));
+    }
+
+-- if what holds between a FLOOD's fields holds and it fits a datagram, it is well formed, and its bytes read back as it
 abbrev pub ChangedReads : Type 0
 ChangedReads =
-    (ks : List Kind) (m : Message) (fs : List Contents) → WellFormed ks m → WellFormed ks (changed m fs)
-    → Reads ks (bytesOf (layoutOf ks (changed m fs))) (changed m fs)
+    (ks : List Kind) (m : Message) (n : ℕ) (c : Contents) → WellFormed ks m → AllowedAt ks n c → joined (m .type) (changedAt n c (m .fields)) ≡ true
+    → length (bytesOf (layoutOf ks (changed ks m n c))) ≤ 1232 → Reads ks (bytesOf (layoutOf ks (changed ks m n c))) (changed ks m n c)

@@ -1,13 +1,12 @@
 -- `cache::shape::place_follows` meets its contract: each test decides a part of `follows`. Assumes nothing.
 use mathlib.Core.Path.{_≡_, refl, sym, ap, _∙_}
-use mathlib.Core.Bool.{true, false}
+use mathlib.Core.Bool.{true, false, not}
 use mathlib.Core.List.{List}
 use Prim.Native.Nat.{ℕ, _*_}
 use lib.Dec.{leb}
 use borrow.Author.Tests.{not-true, not-false}
 use Rattle.octet.specs.Part.{part}
 use Rattle.key.specs.Number.{keyAt}
-use Rattle.key.proofs.OrderLaws.{test-less, test-same, test-more}
 use Rattle.record.specs.Record.{keyOf, recordForm}
 use Rattle.cache.specs.Form.{follows}
 use Rattle.cache.specs.Place.{lowAt}
@@ -27,11 +26,11 @@ row-key : (s : tie.Start) → keyOf (row s) ≡ keyAt (100 * s .args .i) (s .arg
 row-key s = key-of-row (100 * s .args .i) (s .args .cache .now)
 
 -- where the comparison with the own key is made
-abbrev start : tie.After-order-at → tie.Start
+abbrev start : tie.After-same-at → tie.Start
 start m = m .before .before .before .before .before .before .before
 
 -- the other tests have passed
-passed : (m : tie.After-order-at) → (recordForm (row (start m)) ≡ true) × (leb (low (start m)) (keyOf (row (start m))) ≡ true)
+passed : (m : tie.After-same-at) → (recordForm (row (start m)) ≡ true) × (leb (low (start m)) (keyOf (row (start m))) ≡ true)
 passed m = (
   sym (m .before .before .before .before .is-formed .ensures) ∙ not-false _ (m .before .before .before .if1 .left),
   ap (leb (low (start m))) (row-key (start m)) ∙ sym (m .before .before .above-before .ensures) ∙ not-false _ (m .before .if2 .left),
@@ -65,47 +64,15 @@ returns-2 c =
     (c .if2 .taken) in
     sym (rw (f, l) refl)
 
-order-at-requires : tie.Need-order-at-requires
-order-at-requires c κs = search needs
-
-enum-told : tie.Need-enum-told
-enum-told c = search needs
-
-enum-told-2 : tie.Need-enum-told-2
-enum-told-2 c = search needs
-
-enum-told-3 : tie.Need-enum-told-3
-enum-told-3 c = search needs
+same-at-requires : tie.Need-same-at-requires
+same-at-requires c κs = search needs
 
 returns-3 : tie.Need-returns-3
 unfolding follows
 returns-3 c =
-    let m = c .before .before in
-    let s = start m in
-    let p = passed m in
-    let t = test-less (keyAt (100 * s .args .i) (s .args .cache .now)) (keyAt 0 (s .args .own .now)) (sym (m .order-at .ensures)
-    ∙ c .enum-told .given .1) in
-    sym (rw (p .0, p .1, row-key s, t .1) refl)
-
-returns-4 : tie.Need-returns-4
-unfolding follows
-returns-4 c =
-    let m = c .before .before in
-    let s = start m in
-    let p = passed m in
-    let t = test-same (keyAt (100 * s .args .i) (s .args .cache .now)) (keyAt 0 (s .args .own .now)) (sym (m .order-at .ensures)
-    ∙ c .enum-told2 .given .1) in
-    sym (rw (p .0, p .1, row-key s, t .1) refl)
-
-returns-5 : tie.Need-returns-5
-unfolding follows
-returns-5 c =
-    let m = c .before .before in
-    let s = start m in
-    let p = passed m in
-    let t = test-more (keyAt (100 * s .args .i) (s .args .cache .now)) (keyAt 0 (s .args .own .now)) (sym (m .order-at .ensures)
-    ∙ c .enum-told3 .given .1) in
-    sym (rw (p .0, p .1, row-key s, t .1) refl)
+    let s = start c in
+    let p = passed c in
+    ap not (c .same-at .ensures) ∙ sym (rw (p .0, p .1, row-key s) refl)
 
 pub place-follows-spec : {M : Type 1} → statement M
 place-follows-spec =
@@ -116,10 +83,5 @@ place-follows-spec =
     returns
     above-before-requires
     returns-2
-    order-at-requires
-    enum-told
-    enum-told-2
-    enum-told-3
-    returns-3
-    returns-4
-    returns-5)
+    same-at-requires
+    returns-3)

@@ -1,39 +1,71 @@
--- `key::same_at` meets its contract: of the three answers one says that they are. Assumes nothing.
-use mathlib.Core.Path.{sym, _∙_}
+-- `key::same_at` meets its contract: lists of bytes of one length are the same where their numbers are. Assumes nothing.
+use mathlib.Core.Path.{_≡_, sym, ap₂, _∙_}
+use Prim.Native.Nat.{ℕ, _+_, _-_}
+use native.Mathlib.Omega.{arith}
+use Rattle.octet.specs.Number.{Digits}
+use Rattle.octet.specs.Part.{part, same}
+use Rattle.octet.proofs.PartLaws.{part-digits, length-part}
+use Rattle.key.proofs.PlaceLaws.{same-value}
 use borrow.Author.Needs.{needs}
-use Rattle.key.specs.Number.{keyAt}
-use Rattle.key.proofs.OrderLaws.{test-less, test-same, test-more}
 use Rattle.key.proofs.ordered.same_at.Statement.{statement}
 use Rattle.key.proofs.ordered.same_at.Tie as tie
 
-order-at-requires : tie.Need-order-at-requires
-order-at-requires c κs = search needs
+add-equal : tie.Need-add-equal
+add-equal c = search needs
 
-enum-told : tie.Need-enum-told
-enum-told c = search needs
+sub-equal : tie.Need-sub-equal
+sub-equal c = search needs
 
-enum-told-2 : tie.Need-enum-told-2
-enum-told-2 c = search needs
+part-equal-start : tie.Need-part-equal-start
+part-equal-start c = search needs
 
-enum-told-3 : tie.Need-enum-told-3
-enum-told-3 c = search needs
+part-equal-end : tie.Need-part-equal-end
+part-equal-end c = search needs
+
+add-equal-2 : tie.Need-add-equal-2
+add-equal-2 c = search needs
+
+sub-equal-2 : tie.Need-sub-equal-2
+sub-equal-2 c = search needs
+
+part-equal-start-2 : tie.Need-part-equal-start-2
+part-equal-start-2 c = search needs
+
+part-equal-end-2 : tie.Need-part-equal-end-2
+part-equal-end-2 c = search needs
+
+equal-requires : tie.Need-equal-requires
+equal-requires c κs = search needs
 
 returns : tie.Need-returns
 returns c =
-    let args = c .before .before .before .before .before .args in
-    sym (test-less (keyAt (args .a) (args .s .now)) (keyAt (args .b) (args .t .now)) (sym (c .before .before .order-at .ensures) ∙ c .enum-told .given .1) .1)
-
-returns-2 : tie.Need-returns-2
-returns-2 c =
-    let args = c .before .before .before .before .before .args in
-    sym (test-same (keyAt (args .a) (args .s .now)) (keyAt (args .b) (args .t .now)) (sym (c .before .before .order-at .ensures) ∙ c .enum-told2 .given .1) .1)
-
-returns-3 : tie.Need-returns-3
-returns-3 c =
-    let args = c .before .before .before .before .before .args in
-    sym (test-more (keyAt (args .a) (args .s .now)) (keyAt (args .b) (args .t .now)) (sym (c .before .before .order-at .ensures) ∙ c .enum-told3 .given .1) .1)
+    let known2 = c .before .before .before in
+    let known = known2 .before in
+    let args = known .before .args in
+    let s = args .s .now in
+    let t = args .t .now in
+    let a = args .a in
+    let b = args .b in
+    let wide : a + 32 - a ≡ 32 = omega arith in
+    let wide2 : b + 32 - b ≡ 32 = omega arith in
+    let ds : Digits 256 s = λ i. omega (arith, known .shared-slice-known .given i) in
+    let dt : Digits 256 t = λ i. omega (arith, known2 .shared-slice-known2 .given i) in
+    c .equal .ensures
+    ∙ ap₂ (λ (m n : ℕ). same (part a m s) (part b n t)) wide wide2
+    ∙ same-value 256 (part a 32 s) (part b 32 t) (part-digits 256 a 32 s (omega arith) ds) (part-digits 256 b 32 t (omega arith) dt)
+    (length-part a 32 s (omega arith) ∙ sym (length-part b 32 t (omega arith)))
 
 pub same-at-spec : {M : Type 1} → statement M
 same-at-spec =
     tie.close
-    (tie.spec order-at-requires enum-told enum-told-2 enum-told-3 returns returns-2 returns-3)
+    (tie.spec
+    add-equal
+    sub-equal
+    part-equal-start
+    part-equal-end
+    add-equal-2
+    sub-equal-2
+    part-equal-start-2
+    part-equal-end-2
+    equal-requires
+    returns)

@@ -1,0 +1,40 @@
+-- Laws of the counts that a tick and the neighbour list answer: they are small. Assumes nothing.
+use Prim.Native.Nat.{ℕ, _≤_}
+use native.Mathlib.Omega.{arith}
+use mathlib.Core.List.{List}
+use lib.ListN.{length-take}
+use Rattle.key.specs.Around.{below, above, sideOf, nearness}
+use Rattle.record.specs.Record.{keyOf}
+use Rattle.refusal.proofs.CallLaws.{or-known}
+use Rattle.table.proofs.RowLaws.{rows-length}
+use Rattle.kept.specs.Neighbours.{nearestFirst}
+use Rattle.cache.specs.Form.{keysOf}
+use Rattle.cache.specs.Bytes.{countsOf, afterList}
+use Rattle.cache.specs.Calls.{Written, written, heldBy, listWrong, listCall}
+use Rattle.waiting.specs.Form.{usedOf, placesOf}
+use Rattle.waiting.specs.Call.{Ticked, handed, tickRefusals, tickDone, tickCall}
+use Rattle.waiting.proofs.TickLaws.{listed-few}
+use Rattle.waiting.proofs.FormLaws.{used-few}
+
+-- at most 16 IDs are listed
+pub tick-few : (own t o : List ℕ) → tickCall own t o .count ≤ 16
+unfolding tickCall tickDone
+tick-few own t o =
+    or-known (λ (r : Ticked). r .count ≤ 16) (λ (n : ℕ). handed n 0 t o) (tickRefusals own t o) (tickDone t o)
+    (λ n. omega arith)
+    (λ f. omega (arith, listed-few (placesOf t), rows-length 140 (usedOf t) t, used-few t))
+
+-- at most five keys of each side
+pub list-few : (own cache out : List ℕ) → (listCall own cache out .answer .below ≤ 5) × (listCall own cache out .answer .above ≤ 5)
+unfolding listCall
+list-few own cache out =
+    let k = keyOf own in
+    let recs = heldBy own cache in
+    let counts = countsOf k recs in
+    or-known (λ (w : Written). (w .answer .below ≤ 5) × (w .answer .above ≤ 5)) (λ (n : ℕ). written (record { number = n; below = 0; above = 0 }) out)
+    (listWrong own cache out) (written (record { number = 0; below = counts .below; above = counts .above }) (afterList k recs out))
+    (λ n. (omega arith, omega arith))
+    (λ f. (
+      omega (arith, length-take 5 (nearestFirst (sideOf k) (nearness k) below (keysOf recs))),
+      omega (arith, length-take 5 (nearestFirst (sideOf k) (nearness k) above (keysOf recs))),
+    ))

@@ -1,0 +1,257 @@
+-- `gauge_receive` meets its contract: what the plan says is what the call does. Assumes nothing.
+use mathlib.Core.Path.{_≡_, sym, _∙_}
+use Rattle.gauge_plan.specs.declared.Plan.{Plan}
+use Rattle.gauge.specs.Lent.{Receive, receive}
+use Rattle.gauge.specs.Receive.{receivePlan, carried}
+use Rattle.gauge.proofs.ReceiveLaws.{flood-needs, revoke-needs, learn-needs, free-needs, cpa-needs, show-needs, call-by}
+use borrow.Author.Needs.{needs}
+use Rattle.gauge.proofs.gauge_receive.Statement.{statement}
+use Rattle.gauge.proofs.gauge_receive.Tie as tie
+
+-- all that was lent
+abbrev lent-at : tie.After-plan-receive → Receive
+lent-at m =
+    let a = m .before .before .before .before .before .before .before .before .before .before .before .before .args in
+    receive (a .own .now) (a .cpa .now) (a .cache .now) (a .waiting .now) (a .major) (a .minor) (a .id) (a .nonce .now) (a .verdict) (a .key .now)
+    (a .datagram .now) (a .output .now)
+
+-- the plan that was made
+planned : (m : tie.After-plan-receive) {p : Plan} → m .plan-receive .result ≡ p → receivePlan (lent-at m) ≡ p
+planned m e = sym (m .plan-receive .ensures (lent-at m .minor)) ∙ e
+
+plan-receive-requires : tie.Need-plan-receive-requires
+plan-receive-requires c κs = search needs
+
+enum-known-plan : tie.Need-enum-known-plan
+enum-known-plan c = search needs
+
+answer-of-requires : tie.Need-answer-of-requires
+answer-of-requires c κs = search needs
+
+enum-known-plan-2 : tie.Need-enum-known-plan-2
+enum-known-plan-2 c = search needs
+
+commit-flood-requires : tie.Need-commit-flood-requires
+commit-flood-requires c κs =
+    let k = c .before .before .before in
+    let m = k .before .before in
+    flood-needs (lent-at m) (planned m (k .plan2 .given .1))
+
+enum-known-plan-3 : tie.Need-enum-known-plan-3
+enum-known-plan-3 c = search needs
+
+commit-revoke-requires : tie.Need-commit-revoke-requires
+commit-revoke-requires c κs =
+    let k = c .before .before .before .before in
+    let m = k .before .before in
+    revoke-needs (lent-at m) (planned m (k .plan3 .given .1))
+
+enum-known-plan-4 : tie.Need-enum-known-plan-4
+enum-known-plan-4 c = search needs
+
+commit-learn-requires : tie.Need-commit-learn-requires
+commit-learn-requires c κs =
+    let k = c .before .before .before in
+    let m = k .before .before in
+    learn-needs (lent-at m) (planned m (k .plan4 .given .1))
+
+answer-of-requires-2 : tie.Need-answer-of-requires-2
+answer-of-requires-2 c κs = search needs
+
+enum-known-plan-5 : tie.Need-enum-known-plan-5
+enum-known-plan-5 c = search needs
+
+commit-free-requires : tie.Need-commit-free-requires
+commit-free-requires c κs =
+    let k = c .before .before .before in
+    let m = k .before .before in
+    free-needs (lent-at m) (planned m (k .plan5 .given .1))
+
+answer-of-requires-3 : tie.Need-answer-of-requires-3
+answer-of-requires-3 c κs = search needs
+
+enum-known-plan-6 : tie.Need-enum-known-plan-6
+enum-known-plan-6 c = search needs
+
+commit-cpa-requires : tie.Need-commit-cpa-requires
+commit-cpa-requires c κs =
+    let k = c .before .before in
+    let m = k .before .before in
+    cpa-needs (lent-at m) (planned m (k .plan6 .given .1))
+
+enum-known-plan-7 : tie.Need-enum-known-plan-7
+enum-known-plan-7 c = search needs
+
+commit-show-requires : tie.Need-commit-show-requires
+commit-show-requires c κs =
+    let k = c .before .before .before in
+    let m = k .before .before in
+    show-needs (lent-at m) (planned m (k .plan7 .given .1))
+
+same-length : tie.Need-same-length
+same-length c = search needs
+
+same-length-2 : tie.Need-same-length-2
+same-length-2 c = search needs
+
+same-length-3 : tie.Need-same-length-3
+same-length-3 c = search needs
+
+returns : tie.Need-returns
+unfolding carried
+returns c =
+    let k = c .before .before in
+    let m = k .before .before in
+    rw (c .answer-of .ensures) (sym (call-by (lent-at m) (planned m (k .plan .given .1))))
+
+same-length-4 : tie.Need-same-length-4
+same-length-4 c = search needs
+
+same-length-5 : tie.Need-same-length-5
+same-length-5 c = search needs
+
+same-length-6 : tie.Need-same-length-6
+same-length-6 c = search needs
+
+returns-2 : tie.Need-returns-2
+unfolding carried
+returns-2 c =
+    let w = c .before .before .before .before .commit-flood .ensures in
+    let k = c .before .before .before .before .before .before .before .before in
+    let m = k .before .before in
+    rw (w .0, w .1 .0, w .1 .1) (sym (call-by (lent-at m) (planned m (k .plan2 .given .1))))
+
+same-length-7 : tie.Need-same-length-7
+same-length-7 c = search needs
+
+same-length-8 : tie.Need-same-length-8
+same-length-8 c = search needs
+
+same-length-9 : tie.Need-same-length-9
+same-length-9 c = search needs
+
+returns-3 : tie.Need-returns-3
+unfolding carried
+returns-3 c =
+    let w = c .before .before .before .before .before .before .commit-revoke .ensures in
+    let k = c .before .before .before .before .before .before .before .before .before .before .before in
+    let m = k .before .before in
+    rw (w .0, w .1 .0, w .1 .1 .0, w .1 .1 .1) (sym (call-by (lent-at m) (planned m (k .plan3 .given .1))))
+
+same-length-10 : tie.Need-same-length-10
+same-length-10 c = search needs
+
+same-length-11 : tie.Need-same-length-11
+same-length-11 c = search needs
+
+same-length-12 : tie.Need-same-length-12
+same-length-12 c = search needs
+
+returns-4 : tie.Need-returns-4
+unfolding carried
+returns-4 c =
+    let d = c .before .before .before .before .before in
+    let k = c .before .before .before .before .before .before .before .before .before in
+    let m = k .before .before in
+    rw (c .answer-of2 .ensures, d .commit-learn .ensures .0, d .commit-learn .ensures .1) (sym (call-by (lent-at m) (planned m (k .plan4 .given .1))))
+
+same-length-13 : tie.Need-same-length-13
+same-length-13 c = search needs
+
+same-length-14 : tie.Need-same-length-14
+same-length-14 c = search needs
+
+same-length-15 : tie.Need-same-length-15
+same-length-15 c = search needs
+
+returns-5 : tie.Need-returns-5
+unfolding carried
+returns-5 c =
+    let d = c .before .before .before .before .before in
+    let k = c .before .before .before .before .before .before .before .before .before in
+    let m = k .before .before in
+    rw (c .answer-of3 .ensures, d .commit-free .ensures .0, d .commit-free .ensures .1) (sym (call-by (lent-at m) (planned m (k .plan5 .given .1))))
+
+same-length-16 : tie.Need-same-length-16
+same-length-16 c = search needs
+
+same-length-17 : tie.Need-same-length-17
+same-length-17 c = search needs
+
+same-length-18 : tie.Need-same-length-18
+same-length-18 c = search needs
+
+returns-6 : tie.Need-returns-6
+unfolding carried
+returns-6 c =
+    let d = c .before .before in
+    let k = c .before .before .before .before .before in
+    let m = k .before .before in
+    rw (d .commit-cpa .ensures .0, d .commit-cpa .ensures .1) (sym (call-by (lent-at m) (planned m (k .plan6 .given .1))))
+
+same-length-19 : tie.Need-same-length-19
+same-length-19 c = search needs
+
+same-length-20 : tie.Need-same-length-20
+same-length-20 c = search needs
+
+same-length-21 : tie.Need-same-length-21
+same-length-21 c = search needs
+
+returns-7 : tie.Need-returns-7
+unfolding carried
+returns-7 c =
+    let d = c .before .before in
+    let k = c .before .before .before .before .before .before in
+    let m = k .before .before in
+    rw (d .commit-show .ensures .0, d .commit-show .ensures .1) (sym (call-by (lent-at m) (planned m (k .plan7 .given .1))))
+
+pub gauge-receive-spec : {M : Type 1} → statement M
+gauge-receive-spec =
+    tie.close
+    (tie.spec
+    plan-receive-requires
+    enum-known-plan
+    answer-of-requires
+    enum-known-plan-2
+    commit-flood-requires
+    enum-known-plan-3
+    commit-revoke-requires
+    enum-known-plan-4
+    commit-learn-requires
+    answer-of-requires-2
+    enum-known-plan-5
+    commit-free-requires
+    answer-of-requires-3
+    enum-known-plan-6
+    commit-cpa-requires
+    enum-known-plan-7
+    commit-show-requires
+    same-length
+    same-length-2
+    same-length-3
+    returns
+    same-length-4
+    same-length-5
+    same-length-6
+    returns-2
+    same-length-7
+    same-length-8
+    same-length-9
+    returns-3
+    same-length-10
+    same-length-11
+    same-length-12
+    returns-4
+    same-length-13
+    same-length-14
+    same-length-15
+    returns-5
+    same-length-16
+    same-length-17
+    same-length-18
+    returns-6
+    same-length-19
+    same-length-20
+    same-length-21
+    returns-7)

@@ -1,0 +1,189 @@
+// What is planned for a datagram received. Lent everything for reading.
+ghost use mathlib.Core.Path.{_≡_};
+ghost use mathlib.Core.List.{List};
+ghost use Prim.Native.Nat.{ℕ, _*_, _≤_};
+ghost use lib.ListN.{length};
+ghost use Rattle.wire_read.specs.Answers.{isHere, answer};
+ghost use Rattle.gauge.specs.Lent.{receive};
+ghost use Rattle.gauge.specs.Receive.{planFor, receivePlan};
+use gauge_plan::Memory;
+use gauge_plan::Plan;
+use wire_fields::Part;
+use wire_read::Answer;
+
+// Is the field there?
+fn is_here(p: Part) -> bool
+    ensures { λ r. ⌜ r ≡ isHere p ⌝ }
+{
+    match p {
+        Part::Here(_, _) => true,
+        Part::Absent => false,
+    }
+}
+
+// The plan for the message that the datagram holds, where memory is in form. Neither minor version nor nonce counts.
+fn plan_message<'a>(
+    own: &'a [u8],
+    cpa: &[u8],
+    cache: &'a [u8],
+    held: usize,
+    waiting: &[u8],
+    used: usize,
+    major: u8,
+    id: u32,
+    verdict: u32,
+    key: &[u8],
+    datagram: &[u8],
+    output: &[u8],
+) -> Plan
+    requires { ⌜ (length (now own) ≡ 100) × (length (now cpa) ≤ 1024) × (100 * held ≤ length (now cache))
+        × (140 * used ≤ length (now waiting)) × (length (now key) ≡ 32) ⌝ }
+    ensures { λ r. ⌜ ((minor : ℕ) (nonce : List ℕ) → r ≡ planFor (receive (now (own .entry)) (now (cpa .entry))
+        (now (cache .entry)) (now (waiting .entry)) major minor id nonce verdict (now (key .entry))
+        (now (datagram .entry)) (now (output .entry))) held used (answer (now (datagram .entry)) major)) ⌝ }
+{
+    let room = output.len();
+    let message = wire_read::read(datagram, major);
+    match message {
+        Answer::Refused(number) => Plan::Refuse(number as u32),
+        Answer::Solicit {
+            head: _,
+            entry: _,
+            nonce: _,
+        } => Plan::Refuse(7),
+        Answer::Advertise {
+            head: _,
+            acked: _,
+            keys: _,
+            nonce: _,
+        } => Plan::Refuse(7),
+        Answer::Request {
+            head: _,
+            flags: _,
+            split: _,
+            nonce: _,
+            keys: _,
+            credential: _,
+            signature: _,
+            key: _,
+        } => Plan::Refuse(7),
+        Answer::Flood {
+            head,
+            d,
+            validate,
+            token: _,
+            revoke: _,
+            entry,
+            reached: _,
+        } => match entry {
+            Part::Here(start, len) => gauge_plan::plan_flood(
+                own,
+                cache,
+                held,
+                waiting,
+                used,
+                id,
+                room,
+                datagram,
+                d,
+                head.id,
+                validate,
+                start,
+                len,
+            ),
+            Part::Absent => gauge_plan::plan_revoke(
+                own,
+                held,
+                used,
+                verdict,
+                key,
+                room,
+                datagram,
+                d,
+                head.id,
+                validate,
+            ),
+        },
+        Answer::Inquire {
+            head,
+            a: _,
+            x: _,
+            c: _,
+            validate,
+            nonce: _,
+            credential: _,
+            signature: _,
+            key: _,
+        } => gauge_plan::plan_inquire(own, cpa.len(), room, datagram, head.id, validate),
+        Answer::Authority {
+            head: _,
+            acked,
+            fields,
+        } => {
+            let part = fields.cpa;
+            let has_cpa = is_here(part);
+            gauge_plan::plan_authority(waiting, held, used, verdict, key, acked, has_cpa)
+        }
+        Answer::Ack {
+            head: _,
+            acked,
+            flags: _,
+            n,
+        } => gauge_plan::plan_ack(waiting, held, used, acked, n),
+        Answer::Lookup {
+            head,
+            a: _,
+            precision: _,
+            criteria: _,
+            reason: _,
+            target,
+            validate: _,
+            entry: _,
+            path: _,
+            credential: _,
+            signature: _,
+            key: _,
+        } => gauge_plan::plan_lookup(own, cache, held, room, datagram, head.id, target),
+    }
+}
+
+// The plan for the datagram: memory is tested, and the plan of its message made. The minor version does not count.
+pub fn plan_receive<'a>(
+    own: &'a [u8],
+    cpa: &[u8],
+    cache: &'a [u8],
+    waiting: &[u8],
+    major: u8,
+    id: u32,
+    nonce: &[u8],
+    verdict: u32,
+    key: &[u8],
+    datagram: &[u8],
+    output: &[u8],
+) -> Plan
+    ensures { λ r. ⌜ ((minor : ℕ) → r ≡ receivePlan (receive (now (own .entry)) (now (cpa .entry)) (now (cache .entry))
+        (now (waiting .entry)) major minor id (now (nonce .entry)) verdict (now (key .entry)) (now (datagram .entry))
+        (now (output .entry)))) ⌝ }
+{
+    let memory = gauge_plan::survey(own, cache, waiting);
+    let Memory::Fit { held, used } = memory else {
+        return Plan::Refuse(1);
+    };
+    if !gauge_plan::hands_fit(cpa, nonce, key) {
+        return Plan::Refuse(1);
+    }
+    plan_message(
+        own,
+        cpa,
+        cache,
+        held,
+        waiting,
+        used,
+        major,
+        id,
+        verdict,
+        key,
+        datagram,
+        output,
+    )
+}

@@ -1,0 +1,202 @@
+-- Laws of a message written again: for any table, rows that agree with the kinds and fields that are the message's make the message's bytes; and so for an answer
+-- of each of the eight types, whatever made it. Assumes nothing.
+use Prim.Native.Nat.{ℕ, _+_, _-_, _*_}
+use native.Mathlib.Omega.{arith}
+use mathlib.Core.List.{List, [], _∷_, _++_}
+use mathlib.Core.Bool.{Bool, true, false, cond}
+use mathlib.Core.Option.{Option, some, none}
+use mathlib.Core.Path.{_≡_, refl, sym, ap, ap₂, subst, _∙_}
+use lib.Dec.{eqb}
+use lib.ListN.{length, getD}
+use Rattle.octet.specs.Number.{digitsBE}
+use Rattle.octet.specs.Part.{part}
+use Rattle.wire_fields.specs.Shapes.{Kind}
+use Rattle.wire_fields.specs.Kinds.{kindsOf, joined, present, oneOf, keepLookup}
+use Rattle.wire_fields.specs.Kinds.{solicitKinds, advertiseKinds, requestKinds, floodKinds, inquireKinds, authorityKinds, ackKinds, lookupKinds}
+use Rattle.wire_fields.specs.Message.{Contents, Message, Formed, ends, layoutFrom, layoutOf, bytesOf, headerOf}
+use Rattle.wire_fields.specs.Reading.{contentsIn}
+use Rattle.wire_fields.specs.declared.Part.{Part}
+use Rattle.wire_fields.specs.declared.Part.the-variants.{Here, Absent}
+use Rattle.wire_read.specs.Answers.{isHere, startOf}
+use Rattle.wire_read.specs.Meaning.{messageOf, held, bit}
+use Rattle.wire_read.specs.declared.Head.{Head}
+use Rattle.wire_read.specs.declared.Answer.{Answer}
+use Rattle.wire_read.specs.declared.Answer.the-variants.{Refused, Solicit, Advertise, Request, Flood, Inquire, Authority, Ack, Lookup}
+use Rattle.wire_write.specs.Writing.{Made}
+use Rattle.wire_write.specs.Pieces.{Lent, lentOf, kindsOfRows, contentsOf, givensOf, madeBy}
+use Rattle.wire_write.specs.Rows.{solicitRows, advertiseRows, requestRows, floodRows, inquireRows, authorityRows, ackRows, lookupRows}
+use Rattle.wire_write.specs.Rows.{ownPiece, firstPiece, noPiece, ownBytes}
+use Rattle.wire_write.specs.declared.Row.{Row}
+use Rattle.wire_write.specs.declared.Piece.{Piece}
+use Rattle.wire_copy.specs.Resent.{resent, lenOf, pieceOf}
+
+-- rows that are those of a list of kinds, then any; fields that are those of a message, then none
+abbrev RowsFor : List Kind → List Row → Type 0
+RowsFor [] rs = Unit {0}
+RowsFor (k ∷ ks) [] = ⊥
+RowsFor (k ∷ ks) (r ∷ rs) = (r .number ≡ k .number) × (r .padded ≡ k .padded) × RowsFor ks rs
+
+abbrev Same : List Contents → List Contents → Type 0
+Same [] [] = Unit {0}
+Same [] (c ∷ cs) = (c ≡ none) × Same [] cs
+Same (f ∷ fs) [] = ⊥
+Same (f ∷ fs) (c ∷ cs) = (c ≡ f) × Same fs cs
+
+nothing : (rs : List Row) (i : ℕ) (cs : List Contents) → Same [] cs → bytesOf (layoutFrom i (kindsOfRows rs) cs) ≡ []
+nothing [] i cs h = refl
+nothing (r ∷ rs) i [] h = refl
+nothing (r ∷ rs) i (c ∷ cs) h = rw (h .0) (nothing rs i cs (h .1))
+
+pub rows-bytes : (ks : List Kind) (rs : List Row) (i : ℕ) (fs cs : List Contents) → RowsFor ks rs → Formed ks fs → Same fs cs
+    → bytesOf (layoutFrom i (kindsOfRows rs) cs) ≡ bytesOf (layoutFrom i ks fs)
+rows-bytes [] rs i [] cs w f h = nothing rs i cs h
+rows-bytes [] rs i (x ∷ fs) cs w f h = absurd f
+rows-bytes (k ∷ ks) [] i fs cs w f h = absurd w
+rows-bytes (k ∷ ks) (r ∷ rs) i [] cs w f h = absurd f
+rows-bytes (k ∷ ks) (r ∷ rs) i (x ∷ fs) [] w f h = absurd h
+rows-bytes (k ∷ ks) (r ∷ rs) i (none ∷ fs) (c ∷ cs) w f h = rw (h .0) (rows-bytes ks rs i fs cs (w .2) (f .1) (h .1))
+rows-bytes (k ∷ ks) (r ∷ rs) i (some v ∷ fs) (c ∷ cs) w f h =
+    rw (h .0, w .0, w .1, rows-bytes ks rs (ends i k (some v)) fs cs (w .2) (f .1) (h .1))
+
+-- a piece of the datagram is the contents at its place
+piece-is : (d : List ℕ) (p : Part) → held (isHere p) (part (startOf p) (lenOf p) d) ≡ contentsIn d p
+piece-is d (Here s l) = refl
+piece-is d Absent = refl
+
+-- a message of the rows of a table
+table-bytes : (ks : List Kind) (rs : List Row) (m : Message) (l : Lent) (ps : List Piece) → RowsFor ks rs → Formed ks (m .fields)
+    → Same (m .fields) (contentsOf (givensOf (m .major) (m .minor) l ps))
+    → madeBy (m .major) (m .minor) (m .type) (m .id) l rs ps .bytes ≡ bytesOf (layoutOf ks m)
+unfolding madeBy
+table-bytes ks rs m l ps w f h =
+    ap (λ (b : List ℕ). headerOf m ++ b) (rows-bytes ks rs 12 (m .fields) (contentsOf (givensOf (m .major) (m .minor) l ps)) w f h)
+
+solicit-rows : RowsFor solicitKinds solicitRows
+solicit-rows = (refl, refl, (refl, refl, tt))
+
+advertise-rows : RowsFor advertiseKinds advertiseRows
+advertise-rows = (refl, refl, (refl, refl, (refl, refl, tt)))
+
+request-rows : RowsFor requestKinds requestRows
+request-rows = (refl, refl, (refl, refl, (refl, refl, (refl, refl, (refl, refl, (refl, refl, (refl, refl, tt)))))))
+
+flood-rows : RowsFor floodKinds floodRows
+flood-rows = (refl, refl, (refl, refl, (refl, refl, (refl, refl, (refl, refl, (refl, refl, tt))))))
+
+inquire-rows : RowsFor inquireKinds inquireRows
+inquire-rows = (refl, refl, (refl, refl, (refl, refl, (refl, refl, (refl, refl, (refl, refl, tt))))))
+
+authority-rows : RowsFor authorityKinds authorityRows
+authority-rows =
+    (refl, refl, (refl, refl, (refl, refl, (refl, refl, (refl, refl, (refl, refl, (refl, refl, (refl, refl, (refl, refl, tt)))))))))
+
+ack-rows : RowsFor ackKinds ackRows
+ack-rows = (refl, refl, (refl, refl, tt))
+
+lookup-rows : RowsFor lookupKinds lookupRows
+lookup-rows = (refl, refl, (refl, refl, (refl, refl, (refl, refl, (refl, refl, (refl, refl, (refl, refl, (refl, refl, tt))))))))
+
+-- FLOOD carries one of two fields by its places as by its contents; LOOKUP's precision is zero where it does not count
+here-is : (d : List ℕ) (p : Part) → present (contentsIn d p) ≡ isHere p
+here-is d (Here s l) = refl
+here-is d Absent = refl
+
+precise : (t : Bool) (p : ℕ) → cond t (getD (digitsBE 256 2 p) 0 0) 0 ≡ getD (digitsBE 256 2 p) 0 0
+    → cond t (getD (digitsBE 256 2 p) 1 0) 0 ≡ getD (digitsBE 256 2 p) 1 0 → digitsBE 256 2 (cond t p 0) ≡ digitsBE 256 2 p
+unfolding digitsBE
+precise true p a b = refl
+precise false p a b = ap₂ (λ (x y : ℕ). x ∷ y ∷ []) a b
+
+-- the bytes that are made of an answer are those of a message
+abbrev Again : ℕ → List ℕ → Answer → Message → Type 0
+Again major d a m =
+    (ks : List Kind) → kindsOf (m .type) ≡ some ks → Formed ks (m .fields) → joined (m .type) (m .fields) ≡ true
+    → resent major d a .bytes ≡ bytesOf (layoutOf ks m)
+
+-- the message of an answer
+abbrev told : Option Message → Message
+told none = record { major = 0; minor = 0; type = 0; id = 0; fields = [] }
+told (some m) = m
+
+module _ (js : List Kind) (rs : List Row) (major : ℕ) (d : List ℕ) (a : Answer) (m : Message) (e : messageOf major d a ≡ some m) (w : RowsFor js rs) where
+  by-table : kindsOf (told (messageOf major d a) .type) ≡ some js → (l : Lent) (ps : List Piece)
+      → (joined (told (messageOf major d a) .type) (told (messageOf major d a) .fields) ≡ true → resent major d a
+      ≡ madeBy (told (messageOf major d a) .major) (told (messageOf major d a) .minor) (told (messageOf major d a) .type) (told (messageOf major d a) .id) l rs ps)
+      → (Formed js (told (messageOf major d a) .fields) → Same (told (messageOf major d a) .fields)
+      (contentsOf (givensOf (told (messageOf major d a) .major) (told (messageOf major d a) .minor) l ps)))
+      → Again major d a m
+  by-table k l ps made given =
+      let r = told (messageOf major d a) in
+      subst (Again major d a) (ap told e) (λ ks n f j.
+      let o : js ≡ ks = (let z : some js ≡ some ks = sym k ∙ n in cc) in
+      let g = subst (λ (x : List Kind). Formed x (r .fields)) (sym o) f in
+      subst (λ (x : List Kind). resent major d a .bytes ≡ bytesOf (layoutOf x r)) o
+      (ap (λ (x : Made). x .bytes) (made j) ∙ table-bytes js rs r l ps w g (given g)))
+
+pub again-bytes : (major : ℕ) (d : List ℕ) (a : Answer) (m : Message) → messageOf major d a ≡ some m → Again major d a m
+unfolding messageOf resent kindsOf digitsBE joined
+again-bytes major d (Refused n) m e = absurd (let z : _≡_ {A = ℕ} 0 1 = cc in omega arith)
+again-bytes major d (Solicit h entry nonce) m e =
+    by-table solicitKinds solicitRows major d (Solicit h entry nonce) m e solicit-rows refl _ _ (λ j. refl)
+    (λ f. (piece-is d entry, (refl, (refl, (refl, (refl, (refl, (refl, (refl, (refl, tt))))))))))
+again-bytes major d (Advertise h acked keys nonce) m e =
+    by-table advertiseKinds advertiseRows major d (Advertise h acked keys nonce) m e advertise-rows refl _ _ (λ j. refl)
+    (λ f. (refl, (piece-is d keys, (refl, (refl, (refl, (refl, (refl, (refl, (refl, tt))))))))))
+again-bytes major d (Request h flags split nonce keys credential signature key) m e =
+    by-table requestKinds requestRows major d (Request h flags split nonce keys credential signature key) m e request-rows refl _ _ (λ j. refl)
+    (λ f. (refl, (refl, (refl, (piece-is d keys, (piece-is d credential, (piece-is d signature, (piece-is d key, (refl, (refl, tt))))))))))
+again-bytes major d (Flood h silent validate token revoke entry reached) m e =
+    by-table floodKinds floodRows major d (Flood h silent validate token revoke entry reached) m e flood-rows refl
+    (lentOf (ownBytes 0 0 0 (bit silent)) d d)
+    (ownPiece 8 3 ∷ firstPiece validate 32 ∷ pieceOf token ∷ pieceOf revoke ∷ pieceOf entry ∷ pieceOf reached ∷ noPiece ∷ noPiece ∷ noPiece ∷ [])
+    (λ j. let q : oneOf (isHere revoke) (isHere entry) ≡ true = rw (here-is d revoke, here-is d entry) at j in rw q)
+    (λ f. (refl, (refl, (piece-is d token, (piece-is d revoke, (piece-is d entry, (piece-is d reached, (refl, (refl, (refl, tt))))))))))
+again-bytes major d (Inquire h a x c validate nonce credential signature key) m e =
+    by-table inquireKinds inquireRows major d (Inquire h a x c validate nonce credential signature key) m e inquire-rows refl _ _ (λ j. refl)
+    (λ f. (refl, (refl, (piece-is d nonce, (piece-is d credential, (piece-is d signature, (piece-is d key, (refl, (refl, (refl, tt))))))))))
+again-bytes major d (Authority h acked i) m e =
+    by-table authorityKinds authorityRows major d (Authority h acked i) m e authority-rows refl _ _ (λ j. refl)
+    (λ f. (
+      refl,
+      (
+        refl,
+        (
+          refl,
+          (
+            piece-is d (i .chain),
+            (
+              piece-is d (i .token),
+              (
+                piece-is d (i .classifier),
+                (
+                  piece-is d (i .payload),
+                  (piece-is d (i .entry), (piece-is d (i .cpa), tt)),
+                ),
+              ),
+            ),
+          ),
+        ),
+      ),
+    ))
+again-bytes major d (Ack h acked flags n) m e =
+    by-table ackKinds ackRows major d (Ack h acked flags n) m e ack-rows refl _ _ (λ j. refl)
+    (λ f. (refl, (refl, (refl, (refl, (refl, (refl, (refl, (refl, (refl, tt))))))))))
+again-bytes major d (Lookup h a precision criteria reason target validate entry path credential signature key) m e =
+    by-table lookupKinds lookupRows major d (Lookup h a precision criteria reason target validate entry path credential signature key) m e lookup-rows refl _ _
+    (λ j. refl)
+    (λ f. (
+      ap (λ (b : List ℕ). some (0 ∷ (2 * bit a) ∷ (b ++ (criteria ∷ reason ∷ 0 ∷ 0 ∷ []))))
+          (precise (eqb criteria 8) precision (ap (λ (v : List ℕ). getD v 2 0) (f .0 .clear)) (ap (λ (v : List ℕ). getD v 3 0) (f .0 .clear))),
+      (refl, (refl, (piece-is d entry, (piece-is d path, (piece-is d credential, (piece-is d signature, (piece-is d key, (refl, tt)))))))),
+    ))
+
+-- FLOOD carries one of the two
+pub flood-one : (major : ℕ) (d : List ℕ) (h : Head) (silent : Bool) (validate : ℕ) (token revoke entry reached : Part) (m : Message)
+    → messageOf major d (Flood h silent validate token revoke entry reached) ≡ some m → joined (m .type) (m .fields) ≡ true
+    → oneOf (isHere revoke) (isHere entry) ≡ true
+unfolding messageOf joined
+flood-one major d h silent validate token revoke entry reached m e j =
+    let q : joined (told (messageOf major d (Flood h silent validate token revoke entry reached)) .type)
+    (told (messageOf major d (Flood h silent validate token revoke entry reached)) .fields) ≡ true =
+    subst (λ (x : Message). joined (x .type) (x .fields) ≡ true) (sym (ap told e)) j in
+    rw (here-is d revoke, here-is d entry) at q

@@ -1,5 +1,5 @@
 # Two commands: `make run` shows what the gauge's functions make of fixed vectors, `make test` is all that the gate runs.
-.PHONY: run test check fmt definitions vectors outside tools clean
+.PHONY: run test check fmt definitions vectors outside counted tools clean
 
 run: tools
 	@tests/run-vectors
@@ -26,6 +26,10 @@ vectors:
 outside:
 	@tools/install tshark
 	@tests/outside.py
+
+# Executed instructions of form and closest against plain C. No test of the gate: form is not yet where it should be (docs/landings/03-memory.md).
+counted:
+	@tests/counted
 
 tools:
 	@tools/install

@@ -1,4 +1,5 @@
--- Laws of a message written again: for any table, rows that agree with the kinds and fields that are the message's make the message's bytes; and so for an answer
+-- Laws of a message written again: for any table, rows that agree with the kinds and fields that are the message's make the message's bytes; and so for
+-- an answer
 -- of each of the eight types, whatever made it. Assumes nothing.
 use Prim.Native.Nat.{ℕ, _+_, _-_, _*_}
 use native.Mathlib.Omega.{arith}
@@ -7,11 +8,11 @@ use mathlib.Core.Bool.{Bool, true, false, cond}
 use mathlib.Core.Option.{Option, some, none}
 use mathlib.Core.Path.{_≡_, refl, sym, ap, ap₂, subst, _∙_}
 use lib.Dec.{eqb}
-use lib.ListN.{length, getD}
+use lib.ListN.{getD}
 use Rattle.octet.specs.Number.{digitsBE}
 use Rattle.octet.specs.Part.{part}
 use Rattle.wire_fields.specs.Shapes.{Kind}
-use Rattle.wire_fields.specs.Kinds.{kindsOf, joined, present, oneOf, keepLookup}
+use Rattle.wire_fields.specs.Kinds.{kindsOf, joined, present, oneOf}
 use Rattle.wire_fields.specs.Kinds.{solicitKinds, advertiseKinds, requestKinds, floodKinds, inquireKinds, authorityKinds, ackKinds, lookupKinds}
 use Rattle.wire_fields.specs.Message.{Contents, Message, Formed, ends, layoutFrom, layoutOf, bytesOf, headerOf}
 use Rattle.wire_fields.specs.Reading.{contentsIn}
@@ -121,7 +122,8 @@ told (some m) = m
 module _ (js : List Kind) (rs : List Row) (major : ℕ) (d : List ℕ) (a : Answer) (m : Message) (e : messageOf major d a ≡ some m) (w : RowsFor js rs) where
   by-table : kindsOf (told (messageOf major d a) .type) ≡ some js → (l : Lent) (ps : List Piece)
       → (joined (told (messageOf major d a) .type) (told (messageOf major d a) .fields) ≡ true → resent major d a
-      ≡ madeBy (told (messageOf major d a) .major) (told (messageOf major d a) .minor) (told (messageOf major d a) .type) (told (messageOf major d a) .id) l rs ps)
+      ≡ madeBy (told (messageOf major d a) .major) (told (messageOf major d a) .minor) (told (messageOf major d a) .type)
+      (told (messageOf major d a) .id) l rs ps)
       → (Formed js (told (messageOf major d a) .fields) → Same (told (messageOf major d a) .fields)
       (contentsOf (givensOf (told (messageOf major d a) .major) (told (messageOf major d a) .minor) l ps)))
       → Again major d a m
@@ -182,7 +184,8 @@ again-bytes major d (Ack h acked flags n) m e =
     by-table ackKinds ackRows major d (Ack h acked flags n) m e ack-rows refl _ _ (λ j. refl)
     (λ f. (refl, (refl, (refl, (refl, (refl, (refl, (refl, (refl, (refl, tt))))))))))
 again-bytes major d (Lookup h a precision criteria reason target validate entry path credential signature key) m e =
-    by-table lookupKinds lookupRows major d (Lookup h a precision criteria reason target validate entry path credential signature key) m e lookup-rows refl _ _
+    by-table lookupKinds lookupRows major d
+    (Lookup h a precision criteria reason target validate entry path credential signature key) m e lookup-rows refl _ _
     (λ j. refl)
     (λ f. (
       ap (λ (b : List ℕ). some (0 ∷ (2 * bit a) ∷ (b ++ (criteria ∷ reason ∷ 0 ∷ 0 ∷ []))))

@@ -18,9 +18,9 @@ use Rattle.wire_fields.specs.declared.Part.the-variants.{Here, Absent}
 use Rattle.wire_fields.specs.declared.Shape.the-variants.{Sized}
 use Rattle.wire_fields.proofs.RefusalLaws.{split-four}
 use Rattle.wire_fields.proofs.WholeLaws.{length-header}
-use Rattle.wire_write.specs.Sent.{wholeSplit}
+use Rattle.wire_read.specs.Meaning.{splitBytes}
 use Rattle.wire_write.proofs.PutLaws.{head-length}
-use Rattle.wire.specs.Statements.{Allowed, AllowedAt, changedAt, follow, splitAgain, changed}
+use Rattle.wire.specs.Statements.{AllowedAt, changedAt, splitAgain, changed}
 use Rattle.wire.proofs.SendingLaws.{split-held, follows}
 
 pub formed-at : (ks : List Kind) (n : ℕ) (c : Contents) (fs : List Contents) → Formed ks fs → AllowedAt ks n c → Formed ks (changedAt n c fs)
@@ -56,7 +56,8 @@ second-absent : (k j : Kind) (js : List Kind) (f : Contents) (fs : List Contents
 second-absent k j js none fs = refl
 second-absent k j js (some w) fs = refl
 
-second-formed : (k j : Kind) (js : List Kind) (f g h : Contents) (fs : List Contents) → Formed (k ∷ j ∷ js) (f ∷ g ∷ fs) → (Formed (j ∷ js) (g ∷ fs) → Formed (j ∷ js) (h ∷ fs))
+second-formed : (k j : Kind) (js : List Kind) (f g h : Contents) (fs : List Contents) → Formed (k ∷ j ∷ js) (f ∷ g ∷ fs)
+    → (Formed (j ∷ js) (g ∷ fs) → Formed (j ∷ js) (h ∷ fs))
     → Formed (k ∷ j ∷ js) (f ∷ h ∷ fs)
 second-formed k j js none g h fs w m = (w .0, m (w .1))
 second-formed k j js (some v) g h fs w m = (w .0, m (w .1))
@@ -65,11 +66,11 @@ second-held : (k j : Kind) (js : List Kind) (f : Contents) (v : List ℕ) (fs : 
 second-held k j js none v fs w = w .1 .0
 second-held k j js (some x) v fs w = w .1 .0
 
-split-length : (size : ℕ) → length (wholeSplit size) ≡ 4
+split-length : (size : ℕ) → length (splitBytes size) ≡ 4
 split-length size = length-append (digitsBE 256 2 size) (0 ∷ 0 ∷ []) ∙ omega (arith, length-digitsBE 256 2 size)
 
 -- split controls made anew
-module _ (k j : Kind) (js : List Kind) (p : j .padded ≡ false) (held : (size : ℕ) → size ≤ 1232 → Held j (wholeSplit size))
+module _ (k j : Kind) (js : List Kind) (p : j .padded ≡ false) (held : (size : ℕ) → size ≤ 1232 → Held j (splitBytes size))
     (four : (v : List ℕ) → Held j v → length v ≡ 4) where
   abbrev Anew : List Contents → Type 0
   Anew gs =
@@ -77,11 +78,11 @@ module _ (k j : Kind) (js : List Kind) (p : j .padded ≡ false) (held : (size :
       × (derived (12 + length (bytesOf (layoutFrom 12 (k ∷ j ∷ js) gs))) (getD (partsOf 12 (k ∷ j ∷ js) gs) 1 Absent) (getD gs 1 none) ≡ true)
 
   anew : (f : Contents) (v : List ℕ) (fs : List Contents) (size : ℕ) → size ≡ length (bytesOf (layoutFrom (ends (ends 12 k f) j (some v)) js fs))
-      → Formed (k ∷ j ∷ js) (f ∷ some v ∷ fs) → 12 + length (bytesOf (layoutFrom 12 (k ∷ j ∷ js) (f ∷ some (wholeSplit size) ∷ fs))) ≤ 1232
-      → Anew (f ∷ some (wholeSplit size) ∷ fs)
+      → Formed (k ∷ j ∷ js) (f ∷ some v ∷ fs) → 12 + length (bytesOf (layoutFrom 12 (k ∷ j ∷ js) (f ∷ some (splitBytes size) ∷ fs))) ≤ 1232
+      → Anew (f ∷ some (splitBytes size) ∷ fs)
   anew f v fs size z w h =
       let i = ends 12 k f in
-      let x = wholeSplit size in
+      let x = splitBytes size in
       let lx = split-length size in
       let lv = four v (second-held k j js f v fs w) in
       let e₁ = ends-rest 12 k f (j ∷ js) (some x ∷ fs) in
@@ -105,11 +106,11 @@ module _ (k j : Kind) (js : List Kind) (p : j .padded ≡ false) (held : (size :
 
 -- ---- the fields of any type
 
-request-held : (size : ℕ) → size ≤ 1232 → Held (may 0x98 false (Sized 4) []) (wholeSplit size)
+request-held : (size : ℕ) → size ≤ 1232 → Held (may 0x98 false (Sized 4) []) (splitBytes size)
 unfolding hasShape
 request-held size h =
     let a = split-held size h in
-    record { shaped = eq-eqb (length (wholeSplit size)) 4 (split-length size); clear = refl; whole = a .whole; short = a .short }
+    record { shaped = eq-eqb (length (splitBytes size)) 4 (split-length size); clear = refl; whole = a .whole; short = a .short }
 
 request-four : (v : List ℕ) → Held (may 0x98 false (Sized 4) []) v → length v ≡ 4
 unfolding hasShape
@@ -127,7 +128,8 @@ Wholly fs t ks = Formed ks fs → 12 + length (bytesOf (layoutFrom 12 ks (again 
 
 request-whole : (fs : List Contents) → Wholly fs 3 requestKinds
 unfolding joined sized
-request-whole fs f h = let a = all-anew (may 0x40 true (Sized 2) noneOfTwo) (may 0x98 false (Sized 4) []) (drop 2 requestKinds) refl request-held request-four fs f h in (a .0, refl, a .1)
+request-whole fs f h = let a = all-anew (may 0x40 true (Sized 2) noneOfTwo) (may 0x98 false (Sized 4) [])
+    (drop 2 requestKinds) refl request-held request-four fs f h in (a .0, refl, a .1)
 
 authority-whole : (fs : List Contents) → Wholly fs 8 authorityKinds
 unfolding joined sized
@@ -150,7 +152,8 @@ whole fs t ks k y = by (eqb t 3) refl (eqb t 8) refl
         subst (Wholly fs t) j (subst (λ (u : ℕ). Wholly fs u authorityKinds) (sym n) (authority-whole fs))
     by false q false r = λ f h. rw (q, r) (f, y, refl)
 
-pub changed-well : (ks : List Kind) (m : Message) (n : ℕ) (c : Contents) → WellFormed ks m → AllowedAt ks n c → joined (m .type) (changedAt n c (m .fields)) ≡ true
+pub changed-well : (ks : List Kind) (m : Message) (n : ℕ) (c : Contents) → WellFormed ks m → AllowedAt ks n c → joined (m .type) (changedAt n c (m .fields))
+    ≡ true
     → length (bytesOf (layoutOf ks (changed ks m n c))) ≤ 1232 → WellFormed ks (changed ks m n c)
 changed-well ks m n c w a j h =
     let x = changed ks m n c in

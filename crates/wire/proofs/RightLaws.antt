@@ -1,26 +1,27 @@
--- Laws of what is written again being right: a place that was found is a piece of its row's shape, and so the pieces of an answer of each type are right for its
+-- Laws of what is written again being right: a place that was found is a piece of its row's shape, and so the pieces of an answer of each type are right
+-- for its
 -- rows. Assumes nothing.
-use Prim.Native.Nat.{ℕ, suc, _+_, _*_, _≤_}
+use Prim.Native.Nat.{ℕ, suc, _+_, _≤_}
 use native.Mathlib.Omega.{arith}
 use mathlib.Core.List.{List, [], _∷_}
 use mathlib.Core.Bool.{Bool, true, false, cond, _&&_}
-use mathlib.Core.Option.{some}
 use mathlib.Core.Path.{_≡_, refl, sym, ap, ap₂, subst, _∙_}
-use lib.Dec.{eqb, leb}
+use lib.Dec.{leb}
 use lib.ListN.{length, getD, drop}
 use borrow.Author.Tests.{le-leb}
 use Rattle.octet.specs.Number.{digitsBE}
 use Rattle.octet.specs.Part.{part}
 use Rattle.wire_fields.specs.Field.{numberAt}
 use Rattle.wire_fields.specs.Shapes.{Kind, hasShape, lookupForm, isCriteria}
-use Rattle.wire_fields.specs.Kinds.{oneOf, must, may, ackedKind, keyList, endpoints, codes}
+use Rattle.wire_fields.specs.Kinds.{oneOf, keyList, endpoints, codes}
 use Rattle.wire_fields.specs.Kinds.{solicitKinds, advertiseKinds, requestKinds, floodKinds, inquireKinds, bufferKinds, authorityKinds, ackKinds, lookupKinds}
 use Rattle.wire_fields.specs.declared.Part.{Part}
 use Rattle.wire_fields.specs.declared.Part.the-variants.{Here, Absent}
 use Rattle.wire_fields.specs.declared.Shape.{Shape}
 use Rattle.wire_fields.specs.declared.Shape.the-variants.{Sized, Any, Entry, Lookup}
 use Rattle.wire_fields.proofs.ShapeLaws.{lookup-in}
-use Rattle.wire_read.specs.Answers.{flagAt, headOf, isHere, startOf, solicitShown, advertiseShown, requestShown, floodShown, inquireShown, authorityShown, ackShown, lookupShown}
+use Rattle.wire_read.specs.Answers.{flagAt, headOf, isHere, startOf, solicitShown, advertiseShown, requestShown, floodShown, inquireShown, authorityShown}
+use Rattle.wire_read.specs.Answers.{ackShown, lookupShown}
 use Rattle.wire_write.specs.Writing.{Made}
 use Rattle.wire_write.specs.Pieces.{Lent, lentOf, pieceOk, rowsOk, madeBy}
 use Rattle.wire_write.specs.Rows.{needRow, ownPiece, firstPiece, noPiece, ownBytes, floodRows}
@@ -29,7 +30,7 @@ use Rattle.wire_write.specs.declared.Row.{Row}
 use Rattle.wire_write.specs.declared.Piece.{Piece}
 use Rattle.wire_copy.specs.Resent.{resent, pieceOf}
 use Rattle.wire.proofs.StandLaws.{Fact, after, Stand, sized-length}
-use Rattle.wire.proofs.MeaningLaws.{lookupKind, lookup-length}
+use Rattle.wire.proofs.MeaningLaws.{lookup-length}
 
 -- a place that is right for a kind; the places of a list, from the one of an index on, for a list of kinds
 abbrev pub Right : Bool → Shape → List ℕ → Part → Type 0
@@ -69,7 +70,8 @@ all-ok l [] ps h = refl
 all-ok l (r ∷ rs) [] h = refl
 all-ok l (r ∷ rs) (p ∷ ps) h = ap₂ _&&_ (h .0) (all-ok l rs ps (h .1))
 
-made-ok : (x : Made) (major minor type id : ℕ) (l : Lent) (rs : List Row) (ps : List Piece) → x ≡ madeBy major minor type id l rs ps → AllOk l rs ps → x .ok ≡ true
+made-ok : (x : Made) (major minor type id : ℕ) (l : Lent) (rs : List Row) (ps : List Piece) → x ≡ madeBy major minor type id l rs ps → AllOk l rs ps → x .ok
+    ≡ true
 unfolding madeBy
 made-ok x major minor type id l rs ps e h = ap (λ (y : Made). y .ok) e ∙ all-ok l rs ps h
 
@@ -100,28 +102,111 @@ right-lookup d (Here s l) f = sym (lookup-in d s l (f .1) (lookup-length d s l (
 module _ (major : ℕ) (d : List ℕ) (ps : List Part) where
   pub solicit-right : Rights solicitKinds d ps 0 → resent major d (solicitShown d ps) .ok ≡ true
   unfolding resent hasShape digitsBE
-  solicit-right w = made-ok (resent major d (solicitShown d ps)) _ _ _ _ _ _ _ refl
-      (right-piece d true Entry (getD ps 0 Absent) (w .0), (right-first d 20 (getD ps 1 Absent) (w .1 .0), (refl, (refl, (refl, (refl, (refl, (refl, (refl, tt)))))))))
+  solicit-right w = made-ok (resent major d (solicitShown d ps)) _ _ _ _ _ _ _ refl (
+    right-piece d true Entry (getD ps 0 Absent) (w .0),
+    (
+      right-first d 20 (getD ps 1 Absent) (w .1 .0),
+      (refl, (refl, (refl, (refl, (refl, (refl, (refl, tt))))))),
+    ),
+  )
 
   pub advertise-right : Rights advertiseKinds d ps 0 → resent major d (advertiseShown d ps) .ok ≡ true
   unfolding resent hasShape digitsBE
-  advertise-right w = made-ok (resent major d (advertiseShown d ps)) _ _ _ _ _ _ _ refl
-      (refl, (right-piece d false keyList (getD ps 1 Absent) (w .1 .0), (right-first d 20 (getD ps 2 Absent) (w .1 .1 .0), (refl, (refl, (refl, (refl, (refl, (refl, tt)))))))))
+  advertise-right w = made-ok (resent major d (advertiseShown d ps)) _ _ _ _ _ _ _ refl (
+    refl,
+    (
+      right-piece d false keyList (getD ps 1 Absent) (w .1 .0),
+      (
+        right-first d 20 (getD ps 2 Absent) (w .1 .1 .0),
+        (
+          refl,
+          (
+            refl,
+            (
+              refl,
+              (
+                refl,
+                (
+                  refl,
+                  (refl, tt),
+                ),
+              ),
+            ),
+          ),
+        ),
+      ),
+    ),
+  )
 
   pub request-right : Rights requestKinds d ps 0 → resent major d (requestShown d ps) .ok ≡ true
   unfolding resent hasShape digitsBE
-  request-right w = made-ok (resent major d (requestShown d ps)) _ _ _ _ _ _ _ refl
-      (right-own (isHere (getD ps 0 Absent)), (right-own (isHere (getD ps 1 Absent)), (right-first d 16 (getD ps 2 Absent) (w .1 .1 .0), (right-piece d false keyList (getD ps 3 Absent) (w .1 .1 .1 .0), (right-piece d true Any (getD ps 4 Absent) (w .1 .1 .1 .1 .0), (right-piece d true Any (getD ps 5 Absent) (w .1 .1 .1 .1 .1 .0), (right-piece d true Any (getD ps 6 Absent) (w .1 .1 .1 .1 .1 .1 .0), (refl, (refl, tt)))))))))
+  request-right w = made-ok (resent major d (requestShown d ps)) _ _ _ _ _ _ _ refl (
+    right-own (isHere (getD ps 0 Absent)),
+    (
+      right-own (isHere (getD ps 1 Absent)),
+      (
+        right-first d 16 (getD ps 2 Absent) (w .1 .1 .0),
+        (
+          right-piece d false keyList (getD ps 3 Absent) (w .1 .1 .1 .0),
+          (
+            right-piece d true Any (getD ps 4 Absent) (w .1 .1 .1 .1 .0),
+            (
+              right-piece d true Any (getD ps 5 Absent) (w .1 .1 .1 .1 .1 .0),
+              (right-piece d true Any (getD ps 6 Absent) (w .1 .1 .1 .1 .1 .1 .0), (refl, (refl, tt))),
+            ),
+          ),
+        ),
+      ),
+    ),
+  )
 
   pub inquire-right : Rights inquireKinds d ps 0 → resent major d (inquireShown d ps) .ok ≡ true
   unfolding resent hasShape digitsBE
-  inquire-right w = made-ok (resent major d (inquireShown d ps)) _ _ _ _ _ _ _ refl
-      (refl, (right-first d 32 (getD ps 1 Absent) (w .1 .0), (right-piece d true (Sized 16) (getD ps 2 Absent) (w .1 .1 .0), (right-piece d true Any (getD ps 3 Absent) (w .1 .1 .1 .0), (right-piece d true Any (getD ps 4 Absent) (w .1 .1 .1 .1 .0), (right-piece d true Any (getD ps 5 Absent) (w .1 .1 .1 .1 .1 .0), (refl, (refl, (refl, tt)))))))))
+  inquire-right w = made-ok (resent major d (inquireShown d ps)) _ _ _ _ _ _ _ refl (
+    refl,
+    (
+      right-first d 32 (getD ps 1 Absent) (w .1 .0),
+      (
+        right-piece d true (Sized 16) (getD ps 2 Absent) (w .1 .1 .0),
+        (
+          right-piece d true Any
+              (getD ps 3 Absent) (w .1 .1 .1 .0),
+          (
+            right-piece d true Any (getD ps 4 Absent) (w .1 .1 .1 .1 .0),
+            (right-piece d true Any (getD ps 5 Absent) (w .1 .1 .1 .1 .1 .0), (refl, (refl, (refl, tt)))),
+          ),
+        ),
+      ),
+    ),
+  )
 
   pub authority-right : Rights bufferKinds d (drop 2 ps) 0 → resent major d (authorityShown d ps) .ok ≡ true
   unfolding resent hasShape digitsBE
-  authority-right w = made-ok (resent major d (authorityShown d ps)) _ _ _ _ _ _ _ refl
-      (refl, (refl, (refl, (right-piece d true Any (getD (drop 2 ps) 1 Absent) (w .1 .0), (right-piece d true Any (getD (drop 2 ps) 2 Absent) (w .1 .1 .0), (right-piece d true codes (getD (drop 2 ps) 3 Absent) (w .1 .1 .1 .0), (right-piece d true Any (getD (drop 2 ps) 4 Absent) (w .1 .1 .1 .1 .0), (right-piece d true Entry (getD (drop 2 ps) 5 Absent) (w .1 .1 .1 .1 .1 .0), (right-piece d true Any (getD (drop 2 ps) 6 Absent) (w .1 .1 .1 .1 .1 .1 .0), tt)))))))))
+  authority-right w = made-ok (resent major d (authorityShown d ps)) _ _ _ _ _ _ _ refl (
+    refl,
+    (
+      refl,
+      (
+        refl,
+        (
+          right-piece d true Any (getD (drop 2 ps) 1 Absent) (w .1 .0),
+          (
+            right-piece d true Any (getD (drop 2 ps) 2 Absent) (w .1 .1 .0),
+            (
+              right-piece d true codes (getD (drop 2 ps) 3 Absent) (w .1 .1 .1 .0),
+              (
+                right-piece d true Any (getD (drop 2 ps) 4 Absent) (w .1 .1 .1 .1 .0),
+                (
+                  right-piece d true Entry (getD (drop 2 ps) 5 Absent) (w .1 .1 .1 .1 .1 .0),
+                  (right-piece d true Any (getD (drop 2 ps) 6 Absent) (w .1 .1 .1 .1 .1 .1 .0), tt),
+                ),
+              ),
+            ),
+          ),
+        ),
+      ),
+    ),
+  )
 
   pub ack-right : Rights ackKinds d ps 0 → resent major d (ackShown d ps) .ok ≡ true
   unfolding resent hasShape digitsBE
@@ -130,12 +215,53 @@ module _ (major : ℕ) (d : List ℕ) (ps : List Part) where
 
   pub lookup-right : Rights lookupKinds d ps 0 → resent major d (lookupShown d ps) .ok ≡ true
   unfolding resent hasShape digitsBE lookupForm
-  lookup-right w = made-ok (resent major d (lookupShown d ps)) _ _ _ _ _ _ _ refl
-      (right-lookup d (getD ps 0 Absent) (w .0), (right-first d 32 (getD ps 1 Absent) (w .1 .0), (right-first d 32 (getD ps 2 Absent) (w .1 .1 .0), (right-piece d true Entry (getD ps 3 Absent) (w .1 .1 .1 .0), (right-piece d false endpoints (getD ps 4 Absent) (w .1 .1 .1 .1 .0), (right-piece d true Any (getD ps 5 Absent) (w .1 .1 .1 .1 .1 .0), (right-piece d true Any (getD ps 6 Absent) (w .1 .1 .1 .1 .1 .1 .0), (right-piece d true Any (getD ps 7 Absent) (w .1 .1 .1 .1 .1 .1 .1 .0), (refl, tt)))))))))
+  lookup-right w = made-ok (resent major d (lookupShown d ps)) _ _ _ _ _ _ _ refl (
+    right-lookup d (getD ps 0 Absent) (w .0),
+    (
+      right-first d 32 (getD ps 1 Absent) (w .1 .0),
+      (
+        right-first d 32 (getD ps 2 Absent) (w .1 .1 .0),
+        (
+          right-piece d true Entry (getD ps 3 Absent) (w .1 .1 .1 .0),
+          (
+            right-piece d false endpoints (getD ps 4 Absent) (w .1 .1 .1 .1 .0),
+            (
+              right-piece d true Any (getD ps 5 Absent) (w .1 .1 .1 .1 .1 .0),
+              (
+                right-piece d true Any (getD ps 6 Absent) (w .1 .1 .1 .1 .1 .1 .0),
+                (
+                  right-piece d true Any (getD ps 7 Absent) (w .1 .1 .1 .1 .1 .1 .1 .0),
+                  (refl, tt),
+                ),
+              ),
+            ),
+          ),
+        ),
+      ),
+    ),
+  )
 
-  pub flood-right : oneOf (isHere (getD ps 3 Absent)) (isHere (getD ps 4 Absent)) ≡ true → Rights floodKinds d ps 0 → resent major d (floodShown d ps) .ok ≡ true
+  pub flood-right : oneOf (isHere (getD ps 3 Absent)) (isHere (getD ps 4 Absent)) ≡ true → Rights floodKinds d ps 0 → resent major d (floodShown d ps) .ok
+      ≡ true
   unfolding resent hasShape digitsBE headOf
-  flood-right j w = made-ok (resent major d (floodShown d ps)) major (getD d 6 0) 4 (numberAt 8 4 d) (lentOf (ownBytes 0 0 0 (bit (flagAt d (startOf (getD ps 0 Absent)) 1 1))) d d) floodRows
-      (ownPiece 8 3 ∷ firstPiece (startOf (getD ps 1 Absent)) 32 ∷ pieceOf (getD ps 2 Absent) ∷ pieceOf (getD ps 3 Absent) ∷ pieceOf (getD ps 4 Absent) ∷ pieceOf (getD ps 5 Absent) ∷ noPiece ∷ noPiece ∷ noPiece ∷ [])
-      (rw j)
-      (refl, (right-first d 32 (getD ps 1 Absent) (w .1 .0), (right-piece d true Any (getD ps 2 Absent) (w .1 .1 .0), (right-piece d true Any (getD ps 3 Absent) (w .1 .1 .1 .0), (right-piece d true Entry (getD ps 4 Absent) (w .1 .1 .1 .1 .0), (right-piece d true endpoints (getD ps 5 Absent) (w .1 .1 .1 .1 .1 .0), (refl, (refl, (refl, tt)))))))))
+  flood-right j w = made-ok (resent major d (floodShown d ps)) major (getD d 6 0) 4 (numberAt 8 4 d)
+      (lentOf (ownBytes 0 0 0 (bit (flagAt d (startOf (getD ps 0 Absent)) 1 1))) d d) floodRows
+      (ownPiece 8 3 ∷ firstPiece (startOf (getD ps 1 Absent)) 32 ∷ pieceOf (getD ps 2 Absent) ∷ pieceOf (getD ps 3 Absent) ∷ pieceOf (getD ps 4 Absent)
+      ∷ pieceOf (getD ps 5 Absent) ∷ noPiece ∷ noPiece ∷ noPiece ∷ [])
+      (rw j) (
+        refl,
+        (
+          right-first d 32 (getD ps 1 Absent) (w .1 .0),
+          (
+            right-piece d true Any (getD ps 2 Absent) (w .1 .1 .0),
+            (
+              right-piece d true Any
+                  (getD ps 3 Absent) (w .1 .1 .1 .0),
+              (
+                right-piece d true Entry (getD ps 4 Absent) (w .1 .1 .1 .1 .0),
+                (right-piece d true endpoints (getD ps 5 Absent) (w .1 .1 .1 .1 .1 .0), (refl, (refl, (refl, tt)))),
+              ),
+            ),
+          ),
+        ),
+      )

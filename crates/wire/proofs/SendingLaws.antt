@@ -25,8 +25,9 @@ use Rattle.wire_fields.specs.Kinds.{must, may, ackedKind, splitKind, flagsLBN, 
 use Rattle.wire_fields.specs.Kinds.{floodKinds, authorityKinds}
 use Rattle.wire_fields.specs.Message.{Held, layoutOf, bytesOf}
 use Rattle.wire_fields.specs.declared.Shape.the-variants.{Sized, Entry}
+use Rattle.wire_read.specs.Meaning.{splitBytes}
 use Rattle.wire_write.specs.Writing.{fit}
-use Rattle.wire_write.specs.Sent.{wholeSplit, floodSent, cpaSent, closestSent, floodMade, inquireMade, cpaMade, closestMade, formedAt}
+use Rattle.wire_write.specs.Sent.{floodSent, cpaSent, closestSent, floodMade, inquireMade, cpaMade, closestMade, formedAt}
 use Rattle.wire.specs.Sending.{AckFormed, FloodFormed, InquireFormed, CpaFormed, ClosestFormed}
 use Rattle.wire.proofs.BytesLaws.{bytes-nil, bytes-cons, bytes-append, bytes-digits}
 
@@ -54,7 +55,8 @@ entry-bytes major minor at n s p q b =
     let c : List ℕ = 0 ∷ getD s (at + 34) 0 ∷ [] in
     bytes-append (k ++ v ++ o ++ c) (part (at + 36) n s)
     (bytes-append (k ++ v ++ o) c
-    (bytes-append (k ++ v) o (bytes-append k v (part-digits 256 at 32 s (omega arith) b) (small-bytes major minor p q)) (part-digits 256 (at + 32) 2 s (omega arith) b))
+    (bytes-append (k ++ v) o (bytes-append k v (part-digits 256 at 32 s (omega arith) b) (small-bytes major minor p q))
+    (part-digits 256 (at + 32) 2 s (omega arith) b))
     (small-bytes 0 (getD s (at + 34) 0) (omega arith) (b (at + 34))))
     (part-digits 256 (at + 36) n s (omega arith) b)
 
@@ -144,7 +146,13 @@ flood-formed major minor id key s at old h bk bs e f =
       type-byte = omega arith;
       id-small = h .2;
       formed = (
-        record { shaped = refl; clear = refl; whole = bytes-cons 0 (0 ∷ 0 ∷ []) (omega arith) (small-bytes 0 0 (omega arith) (omega arith)); short = omega arith },
+        record {
+          shaped = refl;
+          clear = refl;
+          whole = bytes-cons 0 (0 ∷ 0 ∷ []) (omega arith)
+              (small-bytes 0 0 (omega arith) (omega arith));
+          short = omega arith;
+        },
         (key-held 0x39 key lk bk, (refl, (refl, (n .0, (refl, tt))))),
       );
       joins = refl;
@@ -153,28 +161,28 @@ flood-formed major minor id key s at old h bk bs e f =
     }
 
 -- split controls of a whole buffer
-split-size : (size : ℕ) → size ≤ 1232 → numberAt 0 2 (wholeSplit size) ≡ size
+split-size : (size : ℕ) → size ≤ 1232 → numberAt 0 2 (splitBytes size) ≡ size
 split-size size h =
     ap (valueBE 256) (take-at (digitsBE 256 2 size) (0 ∷ 0 ∷ []) 2 (length-digitsBE 256 2 size)) ∙ valueBE-digitsBE 256 2 size (omega arith) (omega arith)
 
-split-offset : (size : ℕ) → numberAt 2 2 (wholeSplit size) ≡ 0
+split-offset : (size : ℕ) → numberAt 2 2 (splitBytes size) ≡ 0
 unfolding digitsBE valueBE
 split-offset size = refl
 
-pub split-held : (size : ℕ) → size ≤ 1232 → Held splitKind (wholeSplit size)
+pub split-held : (size : ℕ) → size ≤ 1232 → Held splitKind (splitBytes size)
 unfolding hasShape splitForm
 split-held size h =
-    let l : length (wholeSplit size) ≡ 4 = length-append (digitsBE 256 2 size) (0 ∷ 0 ∷ []) ∙ omega (arith, length-digitsBE 256 2 size) in
+    let l : length (splitBytes size) ≡ 4 = length-append (digitsBE 256 2 size) (0 ∷ 0 ∷ []) ∙ omega (arith, length-digitsBE 256 2 size) in
     record {
-      shaped = rw (eq-eqb (length (wholeSplit size)) 4 l, split-size size h, le-leb size 0x91E4 (omega arith), split-offset size);
+      shaped = rw (eq-eqb (length (splitBytes size)) 4 l, split-size size h, le-leb size 0x91E4 (omega arith), split-offset size);
       clear = refl;
       whole = bytes-append (digitsBE 256 2 size) (0 ∷ 0 ∷ []) (bytes-digits 2 size) (small-bytes 0 0 (omega arith) (omega arith));
       short = omega arith;
     }
 
-pub follows : (total s l size : ℕ) → size ≤ 1232 → total - (s + l) ≡ size → derived total (Here s l) (some (wholeSplit size)) ≡ true
+pub follows : (total s l size : ℕ) → size ≤ 1232 → total - (s + l) ≡ size → derived total (Here s l) (some (splitBytes size)) ≡ true
 follows total s l size h e =
-    rw (eq-eqb (numberAt 0 2 (wholeSplit size)) (total - (s + l)) (split-size size h ∙ sym e), eq-eqb (numberAt 2 2 (wholeSplit size)) 0 (split-offset size))
+    rw (eq-eqb (numberAt 0 2 (splitBytes size)) (total - (s + l)) (split-size size h ∙ sym e), eq-eqb (numberAt 2 2 (splitBytes size)) 0 (split-offset size))
 
 flags-held : Held (must 0x40 true (Sized 2) flagsLBN) (0 ∷ 0 ∷ [])
 unfolding hasShape
@@ -241,7 +249,13 @@ closest-formed major minor id acked s at h b e =
       minor-byte = h .1;
       type-byte = omega arith;
       id-small = h .2;
-      formed = (acked-held acked, (split-held (52 + 16 * countOf (part at 100 s)) (omega arith), (flags-held, (refl, (refl, (refl, (refl, (k .0, (refl, tt)))))))));
+      formed = (
+        acked-held acked,
+        (
+          split-held (52 + 16 * countOf (part at 100 s)) (omega arith),
+          (flags-held, (refl, (refl, (refl, (refl, (k .0, (refl, tt))))))),
+        ),
+      );
       joins = refl;
       sizes = follows (length (bytesOf (layoutOf authorityKinds (closestSent major minor id acked (part at 100 s))))) 24 4 (52 + 16 * countOf (part at 100 s))
           (omega arith) (omega arith);

@@ -1,7 +1,7 @@
 -- The theorems of the statements. Assumes nothing.
 use Prim.Native.Nat.{ℕ, _+_, _≤_, _<_}
 use native.Mathlib.Omega.{arith}
-use mathlib.Core.List.{List, _++_}
+use mathlib.Core.List.{List, [], _++_}
 use mathlib.Core.Bool.{Bool, true, false, cond, _&&_}
 use mathlib.Core.Option.{Option, some, none}
 use mathlib.Core.Path.{_≡_, refl, sym, ap, ap₂, subst, _∙_}
@@ -11,30 +11,38 @@ use lib.Seq.{take-at}
 use borrow.Author.Tests.{eqb-true, le-leb}
 use Rattle.octet.specs.Number.{Bytes, digitsBE}
 use Rattle.refusal.proofs.CallLaws.{call-exactly}
-use Rattle.wire_fields.specs.Shapes.{Kind}
-use Rattle.wire_fields.specs.Kinds.{kindsOf}
-use Rattle.wire_fields.specs.Kinds.{solicitKinds, advertiseKinds, requestKinds, floodKinds, inquireKinds, authorityKinds, ackKinds, lookupKinds, joined, sized}
-use Rattle.wire_fields.specs.Message.{opening, Message, Reads, layoutOf, bytesOf, partsOf}
+use Rattle.wire_fields.specs.Shapes.{Kind, hasShape}
+use Rattle.wire_fields.specs.declared.Shape.the-variants.{Any}
+use Rattle.wire_fields.specs.Kinds.{kindsOf, may}
+use Rattle.wire_fields.specs.Kinds.{solicitKinds, advertiseKinds, requestKinds, floodKinds, inquireKinds, authorityKinds, ackKinds, lookupKinds, joined}
+use Rattle.wire_fields.specs.Kinds.{sized}
+use Rattle.wire_fields.specs.Message.{Contents, Held, opening, Message, Reads, layoutOf, bytesOf, partsOf}
 use Rattle.wire_fields.specs.Reading.{messageAt, valuesOf, placesAt, fieldsAs}
 use Rattle.octet.specs.Part.{same}
 use Rattle.wire_fields.proofs.RefusalLaws.{byType, inSteps, found-steps}
 use Rattle.wire_fields.specs.Refusals.{Found, refused, found, foundOf, inPart, placesOf, fieldsIn, typeOf, refusals, foundIn}
 use Rattle.wire_fields.specs.declared.Part.{Part}
 use Rattle.wire_fields.proofs.WholeLaws.{way, lengths, found-reads, reads-found, reads-once, written-reads, read-written}
-use Rattle.wire_read.specs.Answers.{answer, shown, solicitShown, advertiseShown, requestShown, floodShown, inquireShown, authorityShown, ackShown, lookupShown}
+use Rattle.wire_read.specs.Answers.{answer, shown, solicitShown, advertiseShown, requestShown, floodShown, inquireShown, authorityShown, ackShown}
+use Rattle.wire_read.specs.Answers.{lookupShown}
 use Rattle.wire_read.specs.Meaning.{numberOf, messageOf}
 use Rattle.wire_read.specs.declared.Answer.{Answer}
 use Rattle.wire_write.specs.Writing.{Made, fit, writeAs, writeIn, Wrote}
 use Rattle.wire_write.specs.Sent.{ackMade}
 use Rattle.wire_write.specs.declared.Written.{Written}
-use Rattle.wire.specs.Statements.{changed, AtMostOne, ReadGives, ReadAccepts, ReadRefuses, WrittenReads, WrittenRead, OutputReads, ReadWritten, ReadWrittenAgain, OutputAgain, ReadOne, WriteOne, AckCases, ChangedReads}
+use Rattle.wire.specs.Statements.{PayloadReads, changedAt, changed, AtMostOne, ReadGives, ReadAccepts, ReadRefuses, WrittenReads, WrittenRead}
+use Rattle.wire.specs.Statements.{OutputReads, WriteReads}
+use Rattle.wire.specs.Statements.{ReadWritten}
+use Rattle.wire.specs.Statements.{ReadWrittenAgain, OutputAgain, ReadOne, WriteOne, AckCases, ChangedReads}
 use Rattle.wire.proofs.StandLaws.{Stand, stands}
-use Rattle.wire.proofs.MeaningLaws.{solicit-means, advertise-means, request-means, flood-means, inquire-means, authority-means, ack-means, lookup-means}
+use Rattle.wire.proofs.MeaningLaws.{solicit-means, advertise-means, request-means, flood-means, inquire-means, authority-means, ack-means}
+use Rattle.wire.proofs.MeaningLaws.{lookup-means}
 use Rattle.wire_copy.specs.Resent.{resent}
 use Rattle.wire_fields.proofs.SegmentLaws.{cleared-length}
 use Rattle.wire_fields.proofs.KindLaws.{lawful}
 use Rattle.wire.proofs.AgainLaws.{again-bytes, flood-one}
-use Rattle.wire.proofs.RightLaws.{stand-rights, buffer-rights, solicit-right, advertise-right, request-right, flood-right, inquire-right, authority-right, ack-right, lookup-right}
+use Rattle.wire.proofs.RightLaws.{stand-rights, buffer-rights, solicit-right, advertise-right, request-right, flood-right, inquire-right}
+use Rattle.wire.proofs.RightLaws.{authority-right, ack-right, lookup-right}
 use Rattle.wire.proofs.ChangedLaws.{changed-well}
 use Rattle.wire.proofs.BytesLaws.{bytes-message}
 
@@ -252,6 +260,11 @@ output-reads ks m ok old r out w v z =
     let e = output-bytes (record { ok = ok; bytes = bytesOf (layoutOf ks m) }) old r out v z in
     rw e (written-read ks m w)
 
+pub write-reads : WriteReads
+write-reads major d a ks m e w old r out o z =
+    let b = output-bytes (resent major d a) old r out o z in
+    rw (b ∙ again-bytes major d a m e ks (w .known) (w .formed) (w .joins)) (written-read ks m w)
+
 -- 4
 pub read-again : ReadWritten
 read-again ks d m r = read-written ks d m r
@@ -316,3 +329,22 @@ ack-cases = (refl, (refl, tt))
 -- 7
 pub changed-reads : ChangedReads
 changed-reads ks m n c w a j h = written-reads ks (changed ks m n c) (changed-well ks m n c w a j h)
+
+authority-joins : (t : ℕ) (fs : List Contents) → kindsOf t ≡ some authorityKinds → joined t fs ≡ true
+unfolding joined kindsOf
+authority-joins t fs k = by (eqb t 4) refl
+  where
+    by : (b : Bool) → eqb t 4 ≡ b → joined t fs ≡ true
+    by true q =
+        let o : some floodKinds ≡ some authorityKinds = ap kindsOf (sym (eqb-true t 4 q)) ∙ k in
+        let j : floodKinds ≡ authorityKinds = cc in
+        absurd (let z : _≡_ {A = ℕ} 6 9 = ap length j in omega arith)
+    by false q = rw q
+
+payload-held : (v : List ℕ) → Bytes v → length v ≤ 1232 → Held (may 0x5A true Any []) v
+unfolding hasShape
+payload-held v b h = record { shaped = refl; clear = refl; whole = b; short = omega arith }
+
+pub payload-reads : PayloadReads
+payload-reads m v w b l h =
+    changed-reads authorityKinds m 6 (some v) w (payload-held v b l) (authority-joins (m .type) (changedAt 6 (some v) (m .fields)) (w .known)) h

@@ -11,14 +11,14 @@ use lib.ListN.{length, take}
 use Rattle.octet.specs.Number.{Bytes}
 use Rattle.refusal.specs.Table.{appliesIn}
 use Rattle.wire_fields.specs.Shapes.{Kind}
-use Rattle.wire_fields.specs.Kinds.{joined}
+use Rattle.wire_fields.specs.Kinds.{joined, authorityKinds}
 use Rattle.wire_fields.specs.Message.{Contents, Message, Held, WellFormed, Reads, ends, layoutFrom, layoutOf, bytesOf, cleared}
 use Rattle.wire_fields.specs.Refusals.{refusals}
 use Rattle.wire_read.specs.declared.Answer.{Answer}
 use Rattle.wire_read.specs.Answers.{answer}
-use Rattle.wire_read.specs.Meaning.{numberOf, messageOf}
+use Rattle.wire_read.specs.Meaning.{numberOf, messageOf, splitBytes}
 use Rattle.wire_write.specs.Writing.{Made, Wrote}
-use Rattle.wire_write.specs.Sent.{ackMade, wholeSplit}
+use Rattle.wire_write.specs.Sent.{ackMade}
 use Rattle.wire_write.specs.declared.Written.{Written}
 use Rattle.wire_copy.specs.Resent.{resent}
 
@@ -58,17 +58,24 @@ OutputReads =
     → Wrote (record { ok = ok; bytes = bytesOf (layoutOf ks m) }) old r out → r .number ≡ 0
     → messageOf (m .major) (take (r .length) out) (answer (take (r .length) out) (m .major)) ≡ some m
 
+-- and what `write` leaves of any answer that means a well-formed message, wherever its fields stand
+abbrev pub WriteReads : Type 0
+WriteReads =
+    (major : ℕ) (d : List ℕ) (a : Answer) (ks : List Kind) (m : Message) → messageOf major d a ≡ some m → WellFormed ks m
+    → (old : List ℕ) (r : Written) (out : List ℕ) → Wrote (resent major d a) old r out → r .number ≡ 0
+    → messageOf (m .major) (take (r .length) out) (answer (take (r .length) out) (m .major)) ≡ some m
+
 -- 4. What was read, written again, is the datagram with its ignored bits zero.
 abbrev pub ReadWritten : Type 0
 ReadWritten = (ks : List Kind) (d : List ℕ) (m : Message) → Reads ks d m → bytesOf (layoutOf ks m) ≡ cleared (layoutOf ks m) d
 
--- And through the contracts of `read` and `write`: a message that `read` gave is right for `write`, and its bytes are the datagram's with the ignored bits zero.
+-- and through the contracts: what `read` gave is right for `write`, which makes of it the datagram with its ignored bits zero
 abbrev pub ReadWrittenAgain : Type 0
 ReadWrittenAgain =
     (d : List ℕ) → Bytes d → (major : ℕ) (m : Message) → messageOf major d (answer d major) ≡ some m
     → (ks : List Kind) × Reads ks d m × (resent major d (answer d major) ≡ record { ok = true; bytes = cleared (layoutOf ks m) d })
 
--- So where the output has room for as many bytes as the datagram had, `write` gives 0 and that many, and `read` gives the same message of them.
+-- so where the output has room for as many bytes as the datagram has, `write` gives 0 and that many, and `read` gives the same message of them
 abbrev pub OutputAgain : Type 0
 OutputAgain =
     (d : List ℕ) → Bytes d → (major : ℕ) (m : Message) → messageOf major d (answer d major) ≡ some m
@@ -101,7 +108,8 @@ AllAcks (c ∷ cs) = (ackMade 6 101 7 0xD8859CF5 (c .0) .bytes ≡ c .1) × AllA
 abbrev pub AckCases : Type 0
 AckCases = AllAcks ackCases
 
--- 7. A message with the field of an index changed: put in, left out, or with other contents of its kind. Split controls, where they are, follow from the rest.
+-- 7. A message with the field of an index changed: put in, left out, or with other contents of its kind. Split controls, where they are, follow from the
+-- rest.
 abbrev pub Allowed : Kind → Contents → Type 0
 Allowed k none = k .optional ≡ true
 Allowed k (some v) = Held k v
@@ -119,7 +127,7 @@ changedAt (suc n) c (f ∷ fs) = f ∷ changedAt n c fs
 -- split controls, the second field: so many bytes follow
 abbrev pub follow : ℕ → Contents → Contents
 follow size none = none
-follow size (some v) = some (wholeSplit size)
+follow size (some v) = some (splitBytes size)
 
 abbrev pub splitAgain : List Kind → List Contents → List Contents
 splitAgain (k ∷ j ∷ ks) (f ∷ s ∷ fs) = f ∷ follow (length (bytesOf (layoutFrom (ends (ends 12 k f) j s) ks fs))) s ∷ fs
@@ -143,3 +151,10 @@ abbrev pub ChangedReads : Type 0
 ChangedReads =
     (ks : List Kind) (m : Message) (n : ℕ) (c : Contents) → WellFormed ks m → AllowedAt ks n c → joined (m .type) (changedAt n c (m .fields)) ≡ true
     → length (bytesOf (layoutOf ks (changed ks m n c))) ≤ 1232 → Reads ks (bytesOf (layoutOf ks (changed ks m n c))) (changed ks m n c)
+
+-- an AUTHORITY's payload, for one: any bytes that fit
+abbrev pub PayloadReads : Type 0
+PayloadReads =
+    (m : Message) (v : List ℕ) → WellFormed authorityKinds m → Bytes v → length v ≤ 1232
+    → length (bytesOf (layoutOf authorityKinds (changed authorityKinds m 6 (some v)))) ≤ 1232
+    → Reads authorityKinds (bytesOf (layoutOf authorityKinds (changed authorityKinds m 6 (some v)))) (changed authorityKinds m 6 (some v))

@@ -55,7 +55,7 @@ table-law n o p z t h l =
       bytes = keep-bytes t h;
     }
 
--- the last bit of the second byte: of three bytes in a FLOOD, of numberAt an 2 in ACK
+-- the last bit of the second byte: of three bytes in a FLOOD, of two in an ACK
 last : Table lastOfTwo
 last = omega arith
 

@@ -6,7 +6,7 @@ use mathlib.Core.Path.{_≡_, refl, sym, ap, _∙_}
 use lib.ListN.{length, take, drop, length-append, length-take, length-drop}
 use Rattle.wire_fields.specs.Message.{Segment, bytesOf, cleared}
 
--- numberAt lists 2 joined whose first parts are equally long
+-- two lists joined whose first parts are equally long
 pub apart : (a x b y : List ℕ) → length a ≡ length x → a ++ b ≡ x ++ y → (a ≡ x) × (b ≡ y)
 apart [] [] b y h e = (refl, e)
 apart [] (c ∷ x) b y h e = absurd (omega arith)

@@ -17,8 +17,9 @@ use Rattle.wire_fields.specs.Shapes.{Kind}
 use Rattle.wire_fields.specs.Message.{Contents, ends, layoutFrom, bytesOf, headerOf, layoutOf}
 use Rattle.wire_fields.proofs.ShapeLaws.{and-false}
 use Rattle.wire_fields.proofs.WholeLaws.{length-header}
+use Rattle.wire_read.specs.Meaning.{held}
 use Rattle.wire_write.specs.Writing.{Made, fit, writeAs, writeIn, Wrote}
-use Rattle.wire_write.specs.Pieces.{fieldBytes, held, partBytes, pastOf, Given, contentsOf, messageOf}
+use Rattle.wire_write.specs.Pieces.{fieldBytes, partBytes, pastOf, Given, contentsOf, messageOf}
 use Rattle.wire_write.proofs.PutLaws.{put-put, put-length, head-length}
 
 pub past-is : (i : ℕ) (k : Kind) (t : Bool) (v : List ℕ) → ends i k (held t v) ≡ pastOf i t (k .padded) (length v)

@@ -3,7 +3,6 @@
 use Prim.Native.Nat.{ℕ, _+_, _*_, _≤_}
 use mathlib.Core.List.{List, [], _∷_, _++_}
 use mathlib.Core.Bool.{Bool, true, false, cond, _&&_}
-use mathlib.Core.Option.{some, none}
 use mathlib.Core.Path.{_≡_}
 use lib.Dec.{leb}
 use lib.ListN.{length, replicate, getD}
@@ -14,6 +13,7 @@ use Rattle.record.specs.Entry.{entryOf}
 use Rattle.wire_fields.specs.Field.{gap}
 use Rattle.wire_fields.specs.Shapes.{Kind, hasShape}
 use Rattle.wire_fields.specs.Message.{Contents, Message, bytesOf, layoutOf}
+use Rattle.wire_read.specs.Meaning.{held}
 use Rattle.wire_write.specs.Writing.{Made}
 use Rattle.wire_write.specs.declared.Row.{Row}
 use Rattle.wire_write.specs.declared.Piece.{Piece}
@@ -39,9 +39,6 @@ pastOf i there padded len = cond there (endOf i padded len) i
 pub record Given : Type 0 where
   pub there : Bool
   pub bytes : List ℕ
-
-abbrev pub held : Bool → List ℕ → Contents
-held there v = cond there (some v) none
 
 abbrev pub contentsOf : List Given → List Contents
 contentsOf [] = []

@@ -2,7 +2,7 @@
 -- field that no rule here names is clear or absent, but a flag by which an INQUIRE asks for a CPA, if 000 has one, is set; versions, a route entry's too, are the
 -- given ones". What writing each of them makes: 6 only for a key, a nonce or a record that is none. Assumes nothing.
 use Prim.Native.Nat.{ℕ, _+_, _*_}
-use mathlib.Core.List.{List, [], _∷_, _++_}
+use mathlib.Core.List.{List, [], _∷_}
 use mathlib.Core.Bool.{Bool, true, cond, _&&_}
 use mathlib.Core.Option.{some, none}
 use lib.Dec.{eqb, leb}
@@ -14,6 +14,7 @@ use Rattle.record.specs.Entry.{entryOf}
 use Rattle.wire_fields.specs.Shapes.{Kind}
 use Rattle.wire_fields.specs.Kinds.{floodKinds, inquireKinds, authorityKinds, ackKinds}
 use Rattle.wire_fields.specs.Message.{Message, bytesOf, layoutOf}
+use Rattle.wire_read.specs.Meaning.{splitBytes}
 use Rattle.wire_write.specs.Writing.{Made}
 
 -- "A call that sends an ACK writes the second field only where N is set"
@@ -43,10 +44,6 @@ inquireSent major minor id key nonce =
       fields = some (0 ∷ 0x10 ∷ []) ∷ some key ∷ some nonce ∷ none ∷ none ∷ none ∷ [];
     }
 
--- an AUTHORITY's split controls: the buffer is whole
-abbrev pub wholeSplit : ℕ → List ℕ
-wholeSplit size = digitsBE 256 2 size ++ (0 ∷ 0 ∷ [])
-
 -- "One AUTHORITY with the own CPA"
 abbrev pub cpaSent : ℕ → ℕ → ℕ → ℕ → List ℕ → Message
 cpaSent major minor id acked cpa =
@@ -55,7 +52,7 @@ cpaSent major minor id acked cpa =
       minor = minor;
       type = 8;
       id = id;
-      fields = some (digitsBE 256 4 acked) ∷ some (wholeSplit (12 + length cpa)) ∷ some (0 ∷ 0 ∷ []) ∷ none ∷ none ∷ none ∷ none ∷ none ∷ some cpa ∷ [];
+      fields = some (digitsBE 256 4 acked) ∷ some (splitBytes (12 + length cpa)) ∷ some (0 ∷ 0 ∷ []) ∷ none ∷ none ∷ none ∷ none ∷ none ∷ some cpa ∷ [];
     }
 
 -- "One AUTHORITY with the record closest to the target"
@@ -66,7 +63,7 @@ closestSent major minor id acked r =
       minor = minor;
       type = 8;
       id = id;
-      fields = some (digitsBE 256 4 acked) ∷ some (wholeSplit (52 + 16 * countOf r)) ∷ some (0 ∷ 0 ∷ []) ∷ none ∷ none ∷ none ∷ none
+      fields = some (digitsBE 256 4 acked) ∷ some (splitBytes (52 + 16 * countOf r)) ∷ some (0 ∷ 0 ∷ []) ∷ none ∷ none ∷ none ∷ none
           ∷ some (entryOf major minor r) ∷ none ∷ [];
     }
 

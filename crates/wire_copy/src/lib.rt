@@ -23,7 +23,7 @@ use wire_write::solicit_rows;
 use wire_write::write_rows;
 ghost use mathlib.Core.Path.{_≡_};
 ghost use mathlib.Core.Bool.{cond, not};
-ghost use Prim.Native.Nat.{_-_, _<_};
+ghost use Prim.Native.Nat.{_+_, _*_, _-_, _<_};
 ghost use lib.Dec.{eqb};
 ghost use lib.ListN.{length};
 ghost use Rattle.wire_fields.specs.Kinds.{oneOf};
@@ -71,6 +71,15 @@ fn bit_of(b: bool) -> u8
     ensures { λ r. ⌜ r < 2 ⌝ }
 {
     if b { 1 } else { 0 }
+}
+
+// The second byte of a buffer's flags: B, and N.
+fn busy_and_none(b: bool, n: bool) -> u8
+    ensures { λ r. ⌜ r ≡ 8 * bit b + bit n ⌝ }
+{
+    let busy = bit_of(b);
+    let none = bit_of(n);
+    8 * busy + none
 }
 
 // How many bytes stand behind a place.
@@ -277,10 +286,8 @@ fn authority(out: &mut [u8], major: u8, head: Head, acked: u32, fields: Inside, 
     let rows = authority_rows();
     let size = behind(d, 28);
     let l = bit_of(fields.l);
-    let b = bit_of(fields.b);
-    let n = bit_of(fields.n);
     let high = 2 * l;
-    let low = 8 * b + n;
+    let low = busy_and_none(fields.b, fields.n);
     let own = own_bytes(acked, size, high, low);
     let id_piece = own_piece(0, 4);
     let split = own_piece(4, 4);

@@ -1,6 +1,6 @@
 -- Laws of the table of reading's refusals: the steps in which the code goes through it; an AUTHORITY in part, and that a whole one is not; the four
 -- bytes of split controls. Assumes nothing.
-use Prim.Native.Nat.{ℕ}
+use Prim.Native.Nat.{ℕ, _≤_}
 use native.Mathlib.Omega.{arith}
 use mathlib.Core.List.{List, [], _∷_}
 use mathlib.Core.Bool.{Bool, true, false, cond, not, _&&_}
@@ -8,7 +8,7 @@ use mathlib.Core.Option.{Option, some, none}
 use mathlib.Core.Path.{_≡_, refl, sym, ap, subst, _∙_}
 use lib.Dec.{leb, eqb}
 use lib.ListN.{length, getD, take}
-use borrow.Author.Tests.{eqb-true}
+use borrow.Author.Tests.{eqb-true, eq-eqb, le-leb}
 use Rattle.octet.specs.Part.{part, same}
 use Rattle.octet.proofs.TestLaws.{both-true}
 use Rattle.refusal.specs.Table.{orRefuse}
@@ -72,6 +72,13 @@ found-steps d major =
     not-first (leb 12 (length d) && leb (length d) 1232) _ _ _
     (not-first (same (take 5 d) opening) _ _ _
     (not-first (eqb (getD d 5 0) major) _ _ _ (by-type d (getD d 7 0) (kindsOf (getD d 7 0)))))
+
+-- a datagram's header is right: what is found is by its type
+pub found-by-type : (d : List ℕ) (major : ℕ) → 12 ≤ length d → length d ≤ 1232 → same (take 5 d) opening ≡ true → getD d 5 0 ≡ major
+    → foundIn d major ≡ byType (getD d 7 0) d (kindsOf (getD d 7 0))
+unfolding inSteps
+found-by-type d major a b o e =
+    rw (found-steps d major, le-leb 12 (length d) a, le-leb (length d) 1232 b, o, eq-eqb (getD d 5 0) major e)
 
 -- ---- an AUTHORITY in part
 

@@ -2,9 +2,12 @@
 // back the place of the next.
 
 mod contents;
+mod opening;
 mod position;
 
 pub use contents::has_shape;
+pub use opening::is_opened;
+pub use opening::put_opening;
 pub use position::byte;
 pub use position::padding;
 

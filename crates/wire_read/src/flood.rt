@@ -13,7 +13,14 @@ ghost use lib.ListN.{length};
 ghost use Rattle.wire_fields.specs.Kinds.{floodKinds};
 ghost use Rattle.wire_fields.specs.Reading.{fieldsAs};
 ghost use Rattle.wire_fields.specs.Refusals.{foundOf};
-ghost use Rattle.wire_read.specs.Answers.{shown};
+ghost use Rattle.wire_read.specs.Answers.{flagAt, shown};
+
+// D, the last bit of the controls' first two bytes.
+fn silent(d: &[u8], controls: usize) -> bool
+    ensures { λ r. ⌜ r ≡ flagAt (now (d .entry)) controls 1 1 ⌝ }
+{
+    flag(d, controls, 1, 1)
+}
 
 pub(crate) fn read_flood(d: &[u8]) -> Answer
     requires { ⌜ 12 ≤ length (now d) ⌝ }
@@ -47,7 +54,7 @@ pub(crate) fn read_flood(d: &[u8]) -> Answer
     }
     Answer::Flood {
         head: head(d),
-        d: flag(d, controls, 1, 1),
+        d: silent(d, controls),
         validate,
         token,
         revoke,

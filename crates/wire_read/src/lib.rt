@@ -11,6 +11,7 @@ mod solicit;
 mod values;
 
 pub use authority::read_buffer;
+use wire_fields::is_opened;
 ghost use mathlib.Core.Path.{_≡_};
 ghost use Rattle.wire_read.specs.Answers.{answer};
 
@@ -120,7 +121,7 @@ pub fn read(d: &[u8], major: u8) -> Answer
     if 1232 < d.len() {
         return Answer::Refused(2);
     }
-    if !octet::equal(&d[..5], b"\x00\x10\x00\x0C\x51") {
+    if !is_opened(d) {
         return Answer::Refused(3);
     }
     if d[5] != major {

@@ -4,14 +4,15 @@ use native.Mathlib.Decide.{decLe}
 use native.Mathlib.Omega.{arith}
 use native.Mathlib.Nat.{zero-add}
 use mathlib.Core.List.{List, [], _∷_, _++_, append-assoc}
-use mathlib.Core.Bool.{Bool, true, false}
+use mathlib.Core.Bool.{Bool, true, false, cond, _&&_}
 use mathlib.Core.Path.{_≡_, refl, sym, ap, _∙_}
 use lib.Dec.{leb}
 use lib.ListN.{length, drop, length-append, replicate, length-replicate}
-use borrow.Author.Tests.{le-leb, lt-leb}
+use borrow.Author.Tests.{lt-leb, leb-true}
 use Rattle.octet.specs.Number.{digitsBE}
 use Rattle.octet.specs.Part.{splice}
 use Rattle.octet.proofs.PartLaws.{splice-nil}
+use Rattle.octet.proofs.TestLaws.{both-true}
 use Rattle.wire_fields.specs.Field.{gap}
 use Rattle.wire_fields.specs.Shapes.{Kind}
 use Rattle.wire_fields.specs.Message.{Contents, ends, layoutFrom, bytesOf, headerOf, layoutOf}
@@ -119,39 +120,54 @@ module _ (m : Made) (old : List ℕ) where
   unfolding writeAs writeIn
   wrote-15 k f = record { answer = rw (k, f); output = rw (k, f) }
 
-  pub wrote-0 : (n : ℕ) (out : List ℕ) → m .ok ≡ true → fit (m .bytes) old ≡ true → n ≡ length (m .bytes) → out ≡ m .bytes ++ drop (length (m .bytes)) old
-      → Wrote m old (record { number = 0; length = n }) out
+  -- what was written for a message whose fields are right, by whether there was room
+  pub wrote-by : (room : Bool) (n : ℕ) (out : List ℕ) → m .ok ≡ true → room ≡ fit (m .bytes) old → (room ≡ true → n ≡ length (m .bytes))
+      → out ≡ cond room (splice 0 (m .bytes) old) old
+      → Wrote m old (cond room (record { number = 0; length = n }) (record { number = 15; length = 0 })) out
   unfolding writeAs writeIn
-  wrote-0 n out k f e o = record { answer = rw (k, f, e); output = rw (k, f) o }
+  wrote-by true n out k f e o = record { answer = rw (k, sym f, e refl); output = rw (k, sym f) (o ∙ from-start old (m .bytes)) }
+  wrote-by false n out k f e o = record { answer = rw (k, sym f); output = rw (k, sym f) o }
 
--- a message of fields handed in whose fields end at n, counted only up to 1233
-module _ (ks : List Kind) (major minor type id : ℕ) (gs : List Given) (old : List ℕ) (n : ℕ) (e : n ≡ min 1233 (endAll 12 ks gs)) where
-  pub whole-size : length (bytesOf (layoutOf ks (messageOf major minor type id gs))) ≡ endAll 12 ks gs
+-- a message of fields handed in
+module _ (ks : List Kind) (major minor type id : ℕ) (gs : List Given) (old : List ℕ) where
+  whole-size : length (bytesOf (layoutOf ks (messageOf major minor type id gs))) ≡ endAll 12 ks gs
   whole-size =
       let m = messageOf major minor type id gs in
       length-append (headerOf m) (bytesOf (layoutFrom 12 ks (contentsOf gs))) ∙ omega (arith, length-header m, finish-all ks 12 gs)
 
-  pub no-room : length old < n → fit (bytesOf (layoutOf ks (messageOf major minor type id gs))) old ≡ false
+  -- room for as many bytes as were counted, up to 1233, is room for the message
+  pub room-is : (n : ℕ) → n ≡ min 1233 (endAll 12 ks gs) → (leb n (length old) && leb n 1232) ≡ fit (bytesOf (layoutOf ks (messageOf major minor type id gs))) old
   unfolding fit
-  no-room h = rw (whole-size, lt-leb (endAll 12 ks gs) (length old) (omega arith))
+  room-is n e = go (decLe (endAll 12 ks gs) 1232)
+    where
+      go : Dec (endAll 12 ks gs ≤ 1232) → (leb n (length old) && leb n 1232)
+          ≡ (leb (length (bytesOf (layoutOf ks (messageOf major minor type id gs)))) (length old)
+          && leb (length (bytesOf (layoutOf ks (messageOf major minor type id gs)))) 1232)
+      go (yes h) = ap (λ (x : ℕ). leb x (length old) && leb x 1232) (omega (arith, whole-size))
+      go (no h) =
+          rw (whole-size, lt-leb (endAll 12 ks gs) 1232 (omega arith), lt-leb n 1232 (omega arith))
+          (and-false (leb n (length old)) ∙ sym (and-false (leb (endAll 12 ks gs) (length old))))
 
-  pub too-long : 1232 < n → fit (bytesOf (layoutOf ks (messageOf major minor type id gs))) old ≡ false
-  unfolding fit
-  too-long h = rw (whole-size, lt-leb (endAll 12 ks gs) 1232 (omega arith)) (and-false (leb (endAll 12 ks gs) (length old)))
-
-  module _ (h : n ≤ length old) (h₂ : n ≤ 1232) where
-    pub has-room : fit (bytesOf (layoutOf ks (messageOf major minor type id gs))) old ≡ true
+  module _ (f : fit (bytesOf (layoutOf ks (messageOf major minor type id gs))) old ≡ true) where
+    -- the fields end within the output and within a datagram
+    pub ends-within : (endAll 12 ks gs ≤ length old) × (endAll 12 ks gs ≤ 1232)
     unfolding fit
-    has-room = rw (whole-size, le-leb (endAll 12 ks gs) (length old) (omega arith), le-leb (endAll 12 ks gs) 1232 (omega arith))
+    ends-within =
+        let n = length (bytesOf (layoutOf ks (messageOf major minor type id gs))) in
+        let b = both-true (leb n (length old)) (leb n 1232) f in
+        let x = leb-true n (length old) (b .0) in
+        let y = leb-true n 1232 (b .1) in
+        (omega (arith, whole-size), omega (arith, whole-size))
 
-    pub exact-end : n ≡ length (bytesOf (layoutOf ks (messageOf major minor type id gs)))
-    exact-end = omega (arith, whole-size)
+    pub exact-end : (n : ℕ) → n ≡ min 1233 (endAll 12 ks gs) → n ≡ length (bytesOf (layoutOf ks (messageOf major minor type id gs)))
+    exact-end n e = omega (arith, whole-size, ends-within .1)
 
     pub whole-put : splice 12 (bytesOf (layoutFrom 12 ks (contentsOf gs))) (splice 0 (headerOf (messageOf major minor type id gs)) old)
-        ≡ bytesOf (layoutOf ks (messageOf major minor type id gs)) ++ drop (length (bytesOf (layoutOf ks (messageOf major minor type id gs)))) old
+        ≡ splice 0 (bytesOf (layoutOf ks (messageOf major minor type id gs))) old
     whole-put =
         let header = headerOf (messageOf major minor type id gs) in
         let r = bytesOf (layoutFrom 12 ks (contentsOf gs)) in
         let lh = length-header (messageOf major minor type id gs) in
-        let f = finish-all ks 12 gs in
-        put-put old 0 header (omega arith) 12 r (omega arith) (omega arith) ∙ from-start old (header ++ r)
+        let e = finish-all ks 12 gs in
+        let w = ends-within .0 in
+        put-put old 0 header (omega arith) 12 r (omega arith) (omega arith)

@@ -7,15 +7,17 @@ use crate::check::pieces_ok;
 use crate::field::len_from;
 use crate::field::put_piece;
 use wire_fields::padding;
+use wire_fields::put_opening;
 ghost use mathlib.Core.Path.{_≡_};
-ghost use mathlib.Core.Bool.{true};
+ghost use mathlib.Core.Bool.{true, cond, _&&_};
 ghost use mathlib.Core.List.{_∷_, _++_};
 ghost use Prim.Native.Nat.{_+_, _<_, _≤_, min};
+ghost use lib.Dec.{leb};
 ghost use lib.ListN.{length};
 ghost use Rattle.octet.specs.Number.{digitsBE};
 ghost use Rattle.octet.specs.Part.{splice};
 ghost use Rattle.wire_fields.specs.Message.{opening, layoutFrom, bytesOf};
-ghost use Rattle.wire_write.specs.Writing.{Wrote};
+ghost use Rattle.wire_write.specs.Writing.{Wrote, fit};
 ghost use Rattle.wire_write.specs.Pieces.{lentOf, pastOf, PieceIn, AllIn, pieceBytes, givensOf, contentsOf, kindsOfRows, endRows, madeBy};
 
 // The place past a field of so many bytes; 1233 for any that is past 1232.
@@ -94,7 +96,7 @@ fn put_header(out: &mut [u8], major: u8, minor: u8, kind: u8, id: u32)
     requires { ⌜ 12 ≤ length (now out) ⌝ }
     ensures { λ _. ⌜ now (out .exit) ≡ splice 0 (opening ++ (major ∷ minor ∷ kind ∷ digitsBE 256 4 id)) (now (out .entry)) ⌝ }
 {
-    octet::copy_to(out, 0, b"\x00\x10\x00\x0C\x51");
+    put_opening(out);
     let three = [major, minor, kind];
     octet::copy_to(out, 5, &three);
     octet::write_u32(out, 8, id);
@@ -128,6 +130,60 @@ fn put_pieces(
     }
 }
 
+// Does a message of so many bytes fit the output and a datagram?
+fn has_room(out: &[u8], size: usize) -> bool
+    ensures { λ r. ⌜ r ≡ leb size (length (now (out .entry))) && leb size 1232 ⌝ }
+{
+    if out.len() < size {
+        return false;
+    }
+    size <= 1232
+}
+
+// Header and fields at the start of an output that has room; one that has none is left alone.
+fn put_where(
+    out: &mut [u8],
+    room: bool,
+    major: u8,
+    minor: u8,
+    kind: u8,
+    id: u32,
+    rows: [Row; 9],
+    ps: [Piece; 9],
+    own: &[u8],
+    first: &[u8],
+    second: &[u8],
+)
+    requires { ⌜ (length rows ≡ 9) × (length ps ≡ 9) ⌝ }
+    requires { ⌜ AllIn (lentOf (now own) (now first) (now second)) ps ⌝ }
+    requires { ⌜ (room ≡ true → fit (madeBy major minor kind id (lentOf (now own) (now first) (now second)) rows ps .bytes)
+        (now out) ≡ true) ⌝ }
+    ensures { λ _. ⌜ now (out .exit) ≡ cond room (splice 0 (madeBy major minor kind id (lentOf (now (own .entry))
+        (now (first .entry)) (now (second .entry))) rows ps .bytes) (now (out .entry))) (now (out .entry)) ⌝ }
+{
+    if !room {
+        return;
+    }
+    put_header(out, major, minor, kind, id);
+    put_pieces(out, rows, ps, major, minor, own, first, second);
+}
+
+// What is answered for a message whose fields are right.
+fn written(room: bool, size: usize) -> Written
+    ensures { λ r. ⌜ r ≡ cond room (record { number = 0; length = size }) (record { number = 15; length = 0 }) ⌝ }
+{
+    if room {
+        return Written {
+            number: 0,
+            length: size,
+        };
+    }
+    Written {
+        number: 15,
+        length: 0,
+    }
+}
+
 // A message of any type, at the start of the output.
 pub fn write_rows(
     out: &mut [u8],
@@ -152,22 +208,19 @@ pub fn write_rows(
         };
     }
     let size = pieces_end(rows, ps, major, minor, own, first, second);
-    if out.len() < size {
-        return Written {
-            number: 15,
-            length: 0,
-        };
-    }
-    if 1232 < size {
-        return Written {
-            number: 15,
-            length: 0,
-        };
-    }
-    put_header(out, major, minor, kind, id);
-    put_pieces(out, rows, ps, major, minor, own, first, second);
-    Written {
-        number: 0,
-        length: size,
-    }
+    let room = has_room(out, size);
+    put_where(
+        out,
+        room,
+        major,
+        minor,
+        kind,
+        id,
+        rows,
+        ps,
+        own,
+        first,
+        second,
+    );
+    written(room, size)
 }

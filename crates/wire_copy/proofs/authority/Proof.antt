@@ -15,20 +15,11 @@ behind-requires c κs = search needs
 bit-of-requires : tie.Need-bit-of-requires
 bit-of-requires c κs = search needs
 
-bit-of-requires-2 : tie.Need-bit-of-requires-2
-bit-of-requires-2 c κs = search needs
-
-bit-of-requires-3 : tie.Need-bit-of-requires-3
-bit-of-requires-3 c κs = search needs
-
 mul-high : tie.Need-mul-high
 mul-high c = search needs
 
-mul-low : tie.Need-mul-low
-mul-low c = search needs
-
-add-low : tie.Need-add-low
-add-low c = search needs
+busy-and-none-requires : tie.Need-busy-and-none-requires
+busy-and-none-requires c κs = search needs
 
 own-bytes-requires : tie.Need-own-bytes-requires
 own-bytes-requires c κs = search needs
@@ -66,7 +57,7 @@ slice-aggregate-write-rows c = rw (c .before .before .before .before .before .be
 
 write-rows-requires : tie.Need-write-rows-requires
 write-rows-requires c κs =
-    (rw (c .before .before .before .before .before .before .before .before .before .before .before .before .before .before .before .before .authority-rows .ensures), refl)
+    (rw (c .before .before .before .before .before .before .before .before .before .before .before .before .before .before .before .authority-rows .ensures), refl)
 
 same-length : tie.Need-same-length
 same-length c = search needs
@@ -85,11 +76,10 @@ returns c =
       c .before .before .before .before .before .before .before .before .before .before .before .before .own-piece2 .ensures,
       c .before .before .before .before .before .before .before .before .before .before .before .before .before .own-piece .ensures,
       c .before .before .before .before .before .before .before .before .before .before .before .before .before .before .own-bytes .ensures,
-      c .before .before .before .before .before .before .before .before .before .before .before .before .before .before .before .bit-of3 .ensures .0,
-      c .before .before .before .before .before .before .before .before .before .before .before .before .before .before .before .before .bit-of2 .ensures .0,
-      c .before .before .before .before .before .before .before .before .before .before .before .before .before .before .before .before .before .bit-of .ensures .0,
-      c .before .before .before .before .before .before .before .before .before .before .before .before .before .before .before .before .before .before .behind .ensures,
-      c .before .before .before .before .before .before .before .before .before .before .before .before .before .before .before .before .before .before .before .authority-rows .ensures,
+      c .before .before .before .before .before .before .before .before .before .before .before .before .before .before .before .busy-and-none .ensures,
+      c .before .before .before .before .before .before .before .before .before .before .before .before .before .before .before .before .bit-of .ensures .0,
+      c .before .before .before .before .before .before .before .before .before .before .before .before .before .before .before .before .before .behind .ensures,
+      c .before .before .before .before .before .before .before .before .before .before .before .before .before .before .before .before .before .before .authority-rows .ensures,
     ) at (c .before .before .write-rows .ensures)
 
 pub authority-spec : {M : Type 1} → statement M
@@ -99,11 +89,8 @@ authority-spec =
     authority-rows-requires
     behind-requires
     bit-of-requires
-    bit-of-requires-2
-    bit-of-requires-3
     mul-high
-    mul-low
-    add-low
+    busy-and-none-requires
     own-bytes-requires
     own-piece-requires
     own-piece-requires-2

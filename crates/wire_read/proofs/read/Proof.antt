@@ -1,12 +1,12 @@
 -- `wire_read::read` meets its contract: the code's steps are the table's (found-steps), and each type's reader gives what its fields give. Assumes nothing.
-use borrow.Author.Tests.{le-leb, lt-leb, eq-eqb, ne-eqb, not-true, not-false}
+use borrow.Author.Tests.{le-leb, lt-leb, ne-eqb, not-true, not-false}
 use native.Mathlib.Omega.{arith}
 use mathlib.Core.Path.{sym, _∙_}
-use lib.ListN.{length, getD, length-take}
+use lib.ListN.{length, getD}
 use denote.Ref.{now}
 use Rattle.wire_fields.specs.Kinds.{kindsOf}
 use Rattle.wire_fields.specs.Refusals.{inPart}
-use Rattle.wire_fields.proofs.RefusalLaws.{inSteps, found-steps}
+use Rattle.wire_fields.proofs.RefusalLaws.{inSteps, found-steps, found-by-type}
 use Rattle.wire_read.specs.Answers.{shown}
 use borrow.Author.Needs.{needs}
 use Rattle.wire_read.proofs.read.Statement.{statement}
@@ -15,32 +15,26 @@ use Rattle.wire_read.proofs.read.Tie as tie
 returns : tie.Need-returns
 unfolding shown inSteps
 returns c =
-    let d = now (c .before .before .args .d) in
-    let major = c .before .before .args .major in
-    rw (found-steps d major, lt-leb 12 (length d) (omega arith))
+    let a = c .before .before .args in
+    rw (found-steps (now (a .d)) (a .major), lt-leb 12 (length (now (a .d))) (omega arith))
 
 returns-2 : tie.Need-returns-2
 unfolding shown inSteps
 returns-2 c =
-    let d = now (c .before .before .before .args .d) in
-    let major = c .before .before .before .args .major in
-    rw (found-steps d major, le-leb 12 (length d) (omega arith), lt-leb (length d) 1232 (omega arith))
+    let a = c .before .before .before .args in
+    let d = now (a .d) in
+    rw (found-steps d (a .major), le-leb 12 (length d) (omega arith), lt-leb (length d) 1232 (omega arith))
 
-slice-aggregate-equal : tie.Need-slice-aggregate-equal
-slice-aggregate-equal c = simp length-take (omega arith)
-
-slice-aggregate-equal-2 : tie.Need-slice-aggregate-equal-2
-slice-aggregate-equal-2 c = search needs
-
-equal-requires : tie.Need-equal-requires
-equal-requires c κs = search needs
+is-opened-requires : tie.Need-is-opened-requires
+is-opened-requires c κs = omega arith
 
 returns-3 : tie.Need-returns-3
 unfolding shown inSteps
 returns-3 c =
-    let d = now (c .before .before .before .before .before .before .before .args .d) in
-    let major = c .before .before .before .before .before .before .before .args .major in
-    rw (found-steps d major, le-leb 12 (length d) (omega arith), le-leb (length d) 1232 (omega arith), sym (c .before .equal .ensures) ∙ not-true _ (c .if3 .taken))
+    let a = c .before .before .before .before .before .args in
+    let d = now (a .d) in
+    let o = sym (c .before .is-opened .ensures) ∙ not-true _ (c .if3 .taken) in
+    rw (found-steps d (a .major), le-leb 12 (length d) (omega arith), le-leb (length d) 1232 (omega arith), o)
 
 shared-slice-read-if4 : tie.Need-shared-slice-read-if4
 shared-slice-read-if4 c = search needs
@@ -48,9 +42,11 @@ shared-slice-read-if4 c = search needs
 returns-4 : tie.Need-returns-4
 unfolding shown inSteps
 returns-4 c =
-    let d = now (c .before .before .before .before .before .before .before .before .before .args .d) in
-    let major = c .before .before .before .before .before .before .before .before .before .args .major in
-    rw (found-steps d major, le-leb 12 (length d) (omega arith), le-leb (length d) 1232 (omega arith), sym (c .before .before .before .equal .ensures) ∙ not-false _ (c .before .before .if3 .left), ne-eqb (getD d 5 0) major (c .if4 .taken))
+    let a = c .before .before .before .before .before .before .before .args in
+    let d = now (a .d) in
+    let o = sym (c .before .before .before .is-opened .ensures) ∙ not-false _ (c .before .before .if3 .left) in
+    let m = ne-eqb (getD d 5 0) (a .major) (c .if4 .taken) in
+    rw (found-steps d (a .major), le-leb 12 (length d) (omega arith), le-leb (length d) 1232 (omega arith), o, m)
 
 shared-slice-read-kind : tie.Need-shared-slice-read-kind
 shared-slice-read-kind c = search needs
@@ -80,67 +76,87 @@ read-lookup-requires : tie.Need-read-lookup-requires
 read-lookup-requires c κs = omega arith
 
 returns-5 : tie.Need-returns-5
-unfolding inSteps kindsOf inPart
+unfolding kindsOf inPart
 returns-5 c =
-    let d = now (c .before .before .before .before .before .before .before .before .before .before .before .before .args .d) in
-    let major = c .before .before .before .before .before .before .before .before .before .before .before .before .args .major in
-    rw (found-steps d major, le-leb 12 (length d) (omega arith), le-leb (length d) 1232 (omega arith), sym (c .before .before .before .before .before .before .equal .ensures) ∙ not-false _ (c .before .before .before .before .before .if3 .left), eq-eqb (getD d 5 0) major (c .before .before .before .if4 .left), c .before .match .keys1) (c .read-solicit .ensures)
+    let a = c .before .before .before .before .before .before .before .before .before .before .args in
+    let o = sym (c .before .before .before .before .before .before .is-opened .ensures) ∙ not-false _ (c .before .before .before .before .before .if3 .left) in
+    let f = found-by-type (now (a .d)) (a .major) (omega arith) (omega arith) o (c .before .before .before .if4 .left) in
+    rw (f, c .before .match .keys1) (c .read-solicit .ensures)
 
 returns-6 : tie.Need-returns-6
-unfolding inSteps kindsOf inPart
+unfolding kindsOf inPart
 returns-6 c =
-    let d = now (c .before .before .before .before .before .before .before .before .before .before .before .before .args .d) in
-    let major = c .before .before .before .before .before .before .before .before .before .before .before .before .args .major in
-    rw (found-steps d major, le-leb 12 (length d) (omega arith), le-leb (length d) 1232 (omega arith), sym (c .before .before .before .before .before .before .equal .ensures) ∙ not-false _ (c .before .before .before .before .before .if3 .left), eq-eqb (getD d 5 0) major (c .before .before .before .if4 .left), c .before .match .keys2) (c .read-advertise .ensures)
+    let a = c .before .before .before .before .before .before .before .before .before .before .args in
+    let o = sym (c .before .before .before .before .before .before .is-opened .ensures) ∙ not-false _ (c .before .before .before .before .before .if3 .left) in
+    let f = found-by-type (now (a .d)) (a .major) (omega arith) (omega arith) o (c .before .before .before .if4 .left) in
+    rw (f, c .before .match .keys2) (c .read-advertise .ensures)
 
 returns-7 : tie.Need-returns-7
-unfolding inSteps kindsOf inPart
+unfolding kindsOf inPart
 returns-7 c =
-    let d = now (c .before .before .before .before .before .before .before .before .before .before .before .before .args .d) in
-    let major = c .before .before .before .before .before .before .before .before .before .before .before .before .args .major in
-    rw (found-steps d major, le-leb 12 (length d) (omega arith), le-leb (length d) 1232 (omega arith), sym (c .before .before .before .before .before .before .equal .ensures) ∙ not-false _ (c .before .before .before .before .before .if3 .left), eq-eqb (getD d 5 0) major (c .before .before .before .if4 .left), c .before .match .keys3) (c .read-request .ensures)
+    let a = c .before .before .before .before .before .before .before .before .before .before .args in
+    let o = sym (c .before .before .before .before .before .before .is-opened .ensures) ∙ not-false _ (c .before .before .before .before .before .if3 .left) in
+    let f = found-by-type (now (a .d)) (a .major) (omega arith) (omega arith) o (c .before .before .before .if4 .left) in
+    rw (f, c .before .match .keys3) (c .read-request .ensures)
 
 returns-8 : tie.Need-returns-8
-unfolding inSteps kindsOf inPart
+unfolding kindsOf inPart
 returns-8 c =
-    let d = now (c .before .before .before .before .before .before .before .before .before .before .before .before .args .d) in
-    let major = c .before .before .before .before .before .before .before .before .before .before .before .before .args .major in
-    rw (found-steps d major, le-leb 12 (length d) (omega arith), le-leb (length d) 1232 (omega arith), sym (c .before .before .before .before .before .before .equal .ensures) ∙ not-false _ (c .before .before .before .before .before .if3 .left), eq-eqb (getD d 5 0) major (c .before .before .before .if4 .left), c .before .match .keys4) (c .read-flood .ensures)
+    let a = c .before .before .before .before .before .before .before .before .before .before .args in
+    let o = sym (c .before .before .before .before .before .before .is-opened .ensures) ∙ not-false _ (c .before .before .before .before .before .if3 .left) in
+    let f = found-by-type (now (a .d)) (a .major) (omega arith) (omega arith) o (c .before .before .before .if4 .left) in
+    rw (f, c .before .match .keys4) (c .read-flood .ensures)
 
 returns-9 : tie.Need-returns-9
-unfolding inSteps kindsOf inPart
+unfolding kindsOf inPart
 returns-9 c =
-    let d = now (c .before .before .before .before .before .before .before .before .before .before .before .before .args .d) in
-    let major = c .before .before .before .before .before .before .before .before .before .before .before .before .args .major in
-    rw (found-steps d major, le-leb 12 (length d) (omega arith), le-leb (length d) 1232 (omega arith), sym (c .before .before .before .before .before .before .equal .ensures) ∙ not-false _ (c .before .before .before .before .before .if3 .left), eq-eqb (getD d 5 0) major (c .before .before .before .if4 .left), c .before .match .keys5) (c .read-inquire .ensures)
+    let a = c .before .before .before .before .before .before .before .before .before .before .args in
+    let o = sym (c .before .before .before .before .before .before .is-opened .ensures) ∙ not-false _ (c .before .before .before .before .before .if3 .left) in
+    let f = found-by-type (now (a .d)) (a .major) (omega arith) (omega arith) o (c .before .before .before .if4 .left) in
+    rw (f, c .before .match .keys5) (c .read-inquire .ensures)
 
 returns-10 : tie.Need-returns-10
-unfolding inSteps kindsOf
+unfolding kindsOf
 returns-10 c =
-    let d = now (c .before .before .before .before .before .before .before .before .before .before .before .before .args .d) in
-    let major = c .before .before .before .before .before .before .before .before .before .before .before .before .args .major in
-    rw (found-steps d major, le-leb 12 (length d) (omega arith), le-leb (length d) 1232 (omega arith), sym (c .before .before .before .before .before .before .equal .ensures) ∙ not-false _ (c .before .before .before .before .before .if3 .left), eq-eqb (getD d 5 0) major (c .before .before .before .if4 .left), c .before .match .keys6) (c .read-authority .ensures)
+    let a = c .before .before .before .before .before .before .before .before .before .before .args in
+    let o = sym (c .before .before .before .before .before .before .is-opened .ensures) ∙ not-false _ (c .before .before .before .before .before .if3 .left) in
+    let f = found-by-type (now (a .d)) (a .major) (omega arith) (omega arith) o (c .before .before .before .if4 .left) in
+    rw (f, c .before .match .keys6) (c .read-authority .ensures)
 
 returns-11 : tie.Need-returns-11
-unfolding inSteps kindsOf inPart
+unfolding kindsOf inPart
 returns-11 c =
-    let d = now (c .before .before .before .before .before .before .before .before .before .before .before .before .args .d) in
-    let major = c .before .before .before .before .before .before .before .before .before .before .before .before .args .major in
-    rw (found-steps d major, le-leb 12 (length d) (omega arith), le-leb (length d) 1232 (omega arith), sym (c .before .before .before .before .before .before .equal .ensures) ∙ not-false _ (c .before .before .before .before .before .if3 .left), eq-eqb (getD d 5 0) major (c .before .before .before .if4 .left), c .before .match .keys7) (c .read-ack .ensures)
+    let a = c .before .before .before .before .before .before .before .before .before .before .args in
+    let o = sym (c .before .before .before .before .before .before .is-opened .ensures) ∙ not-false _ (c .before .before .before .before .before .if3 .left) in
+    let f = found-by-type (now (a .d)) (a .major) (omega arith) (omega arith) o (c .before .before .before .if4 .left) in
+    rw (f, c .before .match .keys7) (c .read-ack .ensures)
 
 returns-12 : tie.Need-returns-12
-unfolding inSteps kindsOf inPart
+unfolding kindsOf inPart
 returns-12 c =
-    let d = now (c .before .before .before .before .before .before .before .before .before .before .before .before .args .d) in
-    let major = c .before .before .before .before .before .before .before .before .before .before .before .before .args .major in
-    rw (found-steps d major, le-leb 12 (length d) (omega arith), le-leb (length d) 1232 (omega arith), sym (c .before .before .before .before .before .before .equal .ensures) ∙ not-false _ (c .before .before .before .before .before .if3 .left), eq-eqb (getD d 5 0) major (c .before .before .before .if4 .left), c .before .match .keys8) (c .read-lookup .ensures)
+    let a = c .before .before .before .before .before .before .before .before .before .before .args in
+    let o = sym (c .before .before .before .before .before .before .is-opened .ensures) ∙ not-false _ (c .before .before .before .before .before .if3 .left) in
+    let f = found-by-type (now (a .d)) (a .major) (omega arith) (omega arith) o (c .before .before .before .if4 .left) in
+    rw (f, c .before .match .keys8) (c .read-lookup .ensures)
 
 returns-13 : tie.Need-returns-13
-unfolding shown inSteps kindsOf
+unfolding shown kindsOf
 returns-13 c =
-    let d = now (c .before .before .before .before .before .before .before .before .before .before .before .args .d) in
-    let major = c .before .before .before .before .before .before .before .before .before .before .before .args .major in
-    rw (found-steps d major, le-leb 12 (length d) (omega arith), le-leb (length d) 1232 (omega arith), sym (c .before .before .before .before .before .equal .ensures) ∙ not-false _ (c .before .before .before .before .if3 .left), eq-eqb (getD d 5 0) major (c .before .before .if4 .left), ne-eqb (getD d 7 0) 1 (c .match .rest .0 .0 .0 .0 .0 .0 .0 .1), ne-eqb (getD d 7 0) 2 (c .match .rest .0 .0 .0 .0 .0 .0 .1), ne-eqb (getD d 7 0) 3 (c .match .rest .0 .0 .0 .0 .0 .1), ne-eqb (getD d 7 0) 4 (c .match .rest .0 .0 .0 .0 .1), ne-eqb (getD d 7 0) 7 (c .match .rest .0 .0 .0 .1), ne-eqb (getD d 7 0) 8 (c .match .rest .0 .0 .1), ne-eqb (getD d 7 0) 9 (c .match .rest .0 .1), ne-eqb (getD d 7 0) 11 (c .match .rest .1))
+    let a = c .before .before .before .before .before .before .before .before .before .args in
+    let d = now (a .d) in
+    let o = sym (c .before .before .before .before .before .is-opened .ensures) ∙ not-false _ (c .before .before .before .before .if3 .left) in
+    let r = c .match .rest in
+    rw (
+      found-by-type d (a .major) (omega arith) (omega arith) o (c .before .before .if4 .left),
+      ne-eqb (getD d 7 0) 1 (r .0 .0 .0 .0 .0 .0 .0 .1),
+      ne-eqb (getD d 7 0) 2 (r .0 .0 .0 .0 .0 .0 .1),
+      ne-eqb (getD d 7 0) 3 (r .0 .0 .0 .0 .0 .1),
+      ne-eqb (getD d 7 0) 4 (r .0 .0 .0 .0 .1),
+      ne-eqb (getD d 7 0) 7 (r .0 .0 .0 .1),
+      ne-eqb (getD d 7 0) 8 (r .0 .0 .1),
+      ne-eqb (getD d 7 0) 9 (r .0 .1),
+      ne-eqb (getD d 7 0) 11 (r .1),
+    )
 
 pub read-spec : {M : Type 1} → statement M
 read-spec =
@@ -148,9 +164,7 @@ read-spec =
     (tie.spec
     returns
     returns-2
-    slice-aggregate-equal
-    slice-aggregate-equal-2
-    equal-requires
+    is-opened-requires
     returns-3
     shared-slice-read-if4
     returns-4

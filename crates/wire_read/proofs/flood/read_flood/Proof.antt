@@ -153,8 +153,8 @@ returns-8 c =
 head-requires : tie.Need-head-requires
 head-requires c κs = c .before .before .before .before .before .before .before .before .before .before .before .before .before .before .before .before .before .before .before .before .before .before .before .before .before .before .before .before .before .pre
 
-flag-requires : tie.Need-flag-requires
-flag-requires c κs = search needs
+silent-requires : tie.Need-silent-requires
+silent-requires c κs = search needs
 
 returns-9 : tie.Need-returns-9
 unfolding shown fieldsAs joined sized placesAt
@@ -171,7 +171,7 @@ returns-9 c =
       present-value,
       sym (c .before .before .before .just-one .ensures) ∙ not-false _ (c .before .before .if2 .left),
       c .before .head .ensures,
-      c .flag .ensures,
+      c .silent .ensures,
     )
 
 pub read-flood-spec : {M : Type 1} → statement M
@@ -206,5 +206,5 @@ read-flood-spec =
     just-one-requires
     returns-8
     head-requires
-    flag-requires
+    silent-requires
     returns-9)

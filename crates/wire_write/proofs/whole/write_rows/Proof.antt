@@ -1,12 +1,11 @@
--- `wire_write::whole::write_rows` meets its contract: the tests in their order, then the header and the fields (whole-put). Assumes nothing.
+-- `wire_write::whole::write_rows` meets its contract: the tests in their order, then what was written by whether there was room (wrote-by). Assumes nothing.
 use Prim.Native.Nat.{min}
-use native.Mathlib.Omega.{arith}
 use borrow.Author.Tests.{not-true, not-false}
 use mathlib.Core.Path.{_≡_, sym, ap, _∙_}
 use denote.Ref.{now}
 use Rattle.wire_write.specs.Pieces.{lentOf, givensOf, kindsOfRows, madeBy}
 use Rattle.wire_write.proofs.PieceLaws.{rows-in, end-rows}
-use Rattle.wire_write.proofs.WriteLaws.{endAll, end-least, wrote-6, wrote-15, wrote-0, no-room, too-long, has-room, exact-end, whole-put}
+use Rattle.wire_write.proofs.WriteLaws.{wrote-6, wrote-by, room-is, exact-end}
 use borrow.Author.Needs.{needs}
 use Rattle.wire_write.proofs.whole.write_rows.Statement.{statement}
 use Rattle.wire_write.proofs.whole.write_rows.Tie as tie
@@ -21,80 +20,49 @@ returns c =
 
 pieces-end-requires : tie.Need-pieces-end-requires
 pieces-end-requires c κs =
-    let a = c .before .before .before .before .before .before .args in
-    let l = lentOf (now (a .own)) (now (a .first)) (now (a .second)) in
+    let s = c .before .before .before .before .before .before in
+    let a = s .args in
     let k = sym (c .before .pieces-ok .ensures) ∙ not-false _ (c .if1 .left) in
-    (c .before .before .before .before .before .before .pre, rows-in l (a .rows) (a .ps) (c .before .before .before .before .before .before .pre .0 ∙ sym (c .before .before .before .before .before .before .pre .1)) k)
+    (s .pre, rows-in (lentOf (now (a .own)) (now (a .first)) (now (a .second))) (a .rows) (a .ps) (s .pre .0 ∙ sym (s .pre .1)) k)
 
-returns-2 : tie.Need-returns-2
+has-room-requires : tie.Need-has-room-requires
+has-room-requires c κs = search needs
+
+put-where-requires : tie.Need-put-where-requires
 unfolding madeBy
-returns-2 c =
-    let a = c .before .before .before .before .before .before .before .before .args in
+put-where-requires c κs =
+    let q = c .before .before .before in
+    let s = q .before .before .before .before .before .before .before in
+    let a = s .args in
     let l = lentOf (now (a .own)) (now (a .first)) (now (a .second)) in
-    let K = kindsOfRows (a .rows) in
     let gs = givensOf (a .major) (a .minor) l (a .ps) in
-    let k = sym (c .before .before .before .pieces-ok .ensures) ∙ not-false _ (c .before .before .if1 .left) in
-    let y = end-rows (a .rows) 12 gs in
-    let n : c .before .pieces-end .result ≡ min 1233 (endAll 12 K gs) = c .before .pieces-end .ensures ∙ ap (min 1233) y in
-    wrote-15 _ _ k (no-room K (a .major) (a .minor) (a .kind) (a .id) gs (now (a .out)) (c .before .pieces-end .result) n (c .if2 .taken))
+    let k = sym (q .before .before .pieces-ok .ensures) ∙ not-false _ (q .before .if1 .left) in
+    let n = q .pieces-end .ensures ∙ ap (min 1233) (end-rows (a .rows) 12 gs) in
+    let room = room-is (kindsOfRows (a .rows)) (a .major) (a .minor) (a .kind) (a .id) gs (now (a .out)) (q .pieces-end .result) n in
+    (s .pre, (rows-in l (a .rows) (a .ps) (s .pre .0 ∙ sym (s .pre .1)) k, λ h. sym room ∙ sym (c .before .has-room .ensures) ∙ h))
 
-returns-3 : tie.Need-returns-3
-unfolding madeBy
-returns-3 c =
-    let a = c .before .before .before .before .before .before .before .before .before .args in
-    let l = lentOf (now (a .own)) (now (a .first)) (now (a .second)) in
-    let K = kindsOfRows (a .rows) in
-    let gs = givensOf (a .major) (a .minor) l (a .ps) in
-    let k = sym (c .before .before .before .before .pieces-ok .ensures) ∙ not-false _ (c .before .before .before .if1 .left) in
-    let y = end-rows (a .rows) 12 gs in
-    let n : c .before .before .pieces-end .result ≡ min 1233 (endAll 12 K gs) = c .before .before .pieces-end .ensures ∙ ap (min 1233) y in
-    wrote-15 _ _ k (too-long K (a .major) (a .minor) (a .kind) (a .id) gs (now (a .out)) (c .before .before .pieces-end .result) n (c .if3 .taken))
-
-put-header-requires : tie.Need-put-header-requires
-put-header-requires c κs =
-    let a = c .before .before .before .before .before .before .before .before .before .before .args in
-    let l = lentOf (now (a .own)) (now (a .first)) (now (a .second)) in
-    let K = kindsOfRows (a .rows) in
-    let gs = givensOf (a .major) (a .minor) l (a .ps) in
-    let k = sym (c .before .before .before .before .before .pieces-ok .ensures) ∙ not-false _ (c .before .before .before .before .if1 .left) in
-    let y = end-rows (a .rows) 12 gs in
-    let n : c .before .before .before .pieces-end .result ≡ min 1233 (endAll 12 K gs) = c .before .before .before .pieces-end .ensures ∙ ap (min 1233) y in
-    let z = end-least K 12 gs in
-    omega arith
-
-put-pieces-requires : tie.Need-put-pieces-requires
-put-pieces-requires c κs =
-    let a = c .before .before .before .before .before .before .before .before .before .before .before .before .before .before .args in
-    let l = lentOf (now (a .own)) (now (a .first)) (now (a .second)) in
-    let K = kindsOfRows (a .rows) in
-    let gs = givensOf (a .major) (a .minor) l (a .ps) in
-    let k = sym (c .before .before .before .before .before .before .before .before .before .pieces-ok .ensures) ∙ not-false _ (c .before .before .before .before .before .before .before .before .if1 .left) in
-    let y = end-rows (a .rows) 12 gs in
-    let n : c .before .before .before .before .before .before .before .pieces-end .result ≡ min 1233 (endAll 12 K gs) = c .before .before .before .before .before .before .before .pieces-end .ensures ∙ ap (min 1233) y in
-    let h = c .before .before .before .before .before .before .if2 .left in
-    let h₂ = c .before .before .before .before .before .if3 .left in
-    (c .before .before .before .before .before .before .before .before .before .before .before .before .before .before .pre, (rows-in l (a .rows) (a .ps) (c .before .before .before .before .before .before .before .before .before .before .before .before .before .before .pre .0 ∙ sym (c .before .before .before .before .before .before .before .before .before .before .before .before .before .before .pre .1)) k, (omega (arith, c .before .before .before .put-header .kept .0), omega arith)))
+written-requires : tie.Need-written-requires
+written-requires c κs = search needs
 
 same-length : tie.Need-same-length
 same-length c = search needs
 
-returns-4 : tie.Need-returns-4
+returns-2 : tie.Need-returns-2
 unfolding madeBy
-returns-4 c =
-    let a = c .before .before .before .before .before .before .before .before .before .before .before .before .before .before .before .before .before .args in
-    let l = lentOf (now (a .own)) (now (a .first)) (now (a .second)) in
+returns-2 c =
+    let q = c .before .before .before .before .before .before .before in
+    let s = q .before .before .before .before .before .before .before in
+    let a = s .args in
+    let gs = givensOf (a .major) (a .minor) (lentOf (now (a .own)) (now (a .first)) (now (a .second))) (a .ps) in
     let K = kindsOfRows (a .rows) in
-    let gs = givensOf (a .major) (a .minor) l (a .ps) in
-    let k = sym (c .before .before .before .before .before .before .before .before .before .before .before .before .pieces-ok .ensures) ∙ not-false _ (c .before .before .before .before .before .before .before .before .before .before .before .if1 .left) in
-    let y = end-rows (a .rows) 12 gs in
-    let n : c .before .before .before .before .before .before .before .before .before .before .pieces-end .result ≡ min 1233 (endAll 12 K gs) = c .before .before .before .before .before .before .before .before .before .before .pieces-end .ensures ∙ ap (min 1233) y in
-    let h = c .before .before .before .before .before .before .before .before .before .if2 .left in
-    let h₂ = c .before .before .before .before .before .before .before .before .if3 .left in
-    let o = now (a .out) in
-    let r = c .before .before .before .before .before .before .before .before .before .before .pieces-end .result in
-    wrote-0 _ o r _ k (has-room K (a .major) (a .minor) (a .kind) (a .id) gs o r n h h₂)
-    (exact-end K (a .major) (a .minor) (a .kind) (a .id) gs o r n h h₂)
-    (rw (c .before .before .put-pieces .ensures, c .before .before .before .before .before .before .put-header .ensures) (whole-put K (a .major) (a .minor) (a .kind) (a .id) gs o r n h h₂))
+    let n = q .pieces-end .ensures ∙ ap (min 1233) (end-rows (a .rows) 12 gs) in
+    let room = c .before .before .before .before .before .has-room .ensures ∙ room-is K (a .major) (a .minor) (a .kind) (a .id) gs (now (a .out)) (q .pieces-end .result) n in
+    rw (c .written .ensures)
+    (wrote-by _ (now (a .out)) _ (q .pieces-end .result) _
+    (sym (q .before .before .pieces-ok .ensures) ∙ not-false _ (q .before .if1 .left))
+    room
+    (λ h. exact-end K (a .major) (a .minor) (a .kind) (a .id) gs (now (a .out)) (sym room ∙ h) (q .pieces-end .result) n)
+    (c .before .before .before .put-where .ensures))
 
 pub write-rows-spec : {M : Type 1} → statement M
 write-rows-spec =
@@ -103,9 +71,8 @@ write-rows-spec =
     pieces-ok-requires
     returns
     pieces-end-requires
-    returns-2
-    returns-3
-    put-header-requires
-    put-pieces-requires
+    has-room-requires
+    put-where-requires
+    written-requires
     same-length
-    returns-4)
+    returns-2)

@@ -132,7 +132,7 @@ lookup-order low h own recs room d target = (omega arith, h, tt)
 
 -- ---- what is known of a plan
 
-some-found : (f : Found) → isNothing f ≡ false → f ≡ At (placeOf f)
+pub some-found : (f : Found) → isNothing f ≡ false → f ≡ At (placeOf f)
 some-found (At i) e = refl
 some-found Nothing e = let z : _≡_ {A = ℕ} 0 1 = cc in absurd (omega arith)
 

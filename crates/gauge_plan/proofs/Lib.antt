@@ -2,3 +2,4 @@
 pub mod MemoryLaws
 pub mod FloodLaws
 pub mod AnsweringLaws
+pub mod SendLaws

@@ -2,3 +2,4 @@ pub mod Rooms
 pub mod Memory
 pub mod Flood
 pub mod Answering
+pub mod Send

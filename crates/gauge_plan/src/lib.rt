@@ -1,8 +1,9 @@
-// What is planned for a datagram received: lent everything for reading, each function decides every refusal of its
-// message.
+// What is planned for a datagram received, and for a FLOOD to send: lent everything for reading, each function decides
+// every refusal of its message.
 mod answering;
 mod flood;
 mod memory;
+mod send;
 
 pub use answering::plan_ack;
 pub use answering::plan_authority;
@@ -13,6 +14,8 @@ pub use flood::plan_revoke;
 pub use memory::Memory;
 pub use memory::hands_fit;
 pub use memory::survey;
+pub use send::SendPlan;
+pub use send::plan_send;
 
 // What is to be done with a datagram received: numbers and places, never a part of a slice.
 pub enum Plan {

@@ -11,20 +11,21 @@ use lib.Seq.{take-all, drop-drop}
 use borrow.Author.Tests.{le-leb}
 use borrow.Rule.Slice.PartMut.{putMid}
 use Rattle.octet.specs.Part.{part, splice}
-use Rattle.octet.proofs.PartLaws.{length-part, splice-nil, splice-next}
+use Rattle.octet.proofs.PartLaws.{length-part, part-at, splice-nil, splice-next}
 use Rattle.record.specs.Record.{countOf, recordForm}
 use Rattle.record.specs.Entry.{entryForm, recordOf}
 use Rattle.record.proofs.EntryLaws.{form-length, record-form}
 use Rattle.record.proofs.PlaceLaws.{record-at}
 use Rattle.table.specs.Rows.{joined}
 use Rattle.table.proofs.RowLaws.{joined-append}
-use Rattle.table.proofs.PieceLaws.{splice-whole}
+use Rattle.table.proofs.PieceLaws.{part-start, splice-whole}
 use Rattle.wire_write.specs.declared.Written.{Written}
 use Rattle.wire_write.specs.Writing.{Made, fit, writeAs, writeIn, Wrote}
-use Rattle.wire_write.specs.Sent.{ackMade, inquireMade, cpaMade, closestMade}
+use Rattle.wire_write.specs.Sent.{ackMade, floodMade, inquireMade, cpaMade, closestMade}
 use Rattle.gauge_plan.specs.Rooms.{idAfter, ackRoom, inquireRoom}
+use Rattle.gauge_plan.specs.Send.{recordSent, floodRoom}
 use Rattle.gauge_commit.specs.Sending.{answer, lengths, sending, acks, asks}
-use Rattle.gauge_commit.proofs.LengthLaws.{ack-length, inquire-length, cpa-length, closest-length}
+use Rattle.gauge_commit.proofs.LengthLaws.{ack-length, inquire-length, cpa-length, closest-length, flood-length}
 
 -- ---- one datagram
 
@@ -208,3 +209,50 @@ module _ (major minor id acked : ℕ) (s : List ℕ) {old : List ℕ} {r : Writt
 
   pub closest-sent : out ≡ sending (closestMade major minor id acked s 0 .bytes ∷ []) old
   closest-sent = wrote-start w shown (omega (arith, shown-size)) (omega (arith, shown-size, shown-few))
+
+-- ---- the FLOOD with the record at a place
+
+-- its bytes are those of the record alone
+pub flood-bytes : (major minor id : ℕ) (key s : List ℕ) (at : ℕ)
+    → floodMade major minor id key s at .bytes ≡ floodMade major minor id key (part at 100 s) 0 .bytes
+unfolding floodMade
+flood-bytes major minor id key s at = rw (part-start at 100 100 s (omega arith)) refl
+
+module _ (major minor id : ℕ) (key s : List ℕ) (at : ℕ) {old : List ℕ} {r : Written} {out : List ℕ} (keyed : length key ≡ 32)
+    (within : at + 100 ≤ length s) (formed : recordForm (part at 100 s) ≡ true) (room : floodRoom (part at 100 s) ≤ length old)
+    (w : Wrote (floodMade major minor id key s at) old r out) where
+  flood-made : floodMade major minor id key s at .ok ≡ true
+  unfolding floodMade
+  flood-made = rw (keyed, le-leb (at + 100) (length s) within, formed)
+
+  flood-size : length (floodMade major minor id key s at .bytes) ≡ floodRoom (part at 100 s)
+  flood-size = flood-length major minor id s at within formed key keyed
+
+  flood-few-addresses : countOf (part at 100 s) ≤ 4
+  flood-few-addresses = let e = part-at at 100 34 s (omega arith) in let h = record-at at s within formed .1 in omega arith
+
+  pub flood-told : r .length ≡ length (floodMade major minor id key (part at 100 s) 0 .bytes)
+  flood-told =
+      wrote-length w flood-made (omega (arith, flood-size)) (omega (arith, flood-size, flood-few-addresses))
+      ∙ ap length (flood-bytes major minor id key s at)
+
+  pub flood-few : r .length < 65536
+  flood-few =
+      omega (arith, flood-told, ap length (flood-bytes major minor id key s at), flood-size, flood-few-addresses)
+
+  pub flood-sent : out ≡ sending (floodMade major minor id key (part at 100 s) 0 .bytes ∷ []) old
+  flood-sent =
+      wrote-start w flood-made (omega (arith, flood-size)) (omega (arith, flood-size, flood-few-addresses))
+      ∙ ap (λ (b : List ℕ). sending (b ∷ []) old) (flood-bytes major minor id key s at)
+
+-- the record sent stands where it is written from
+module _ (own cache : List ℕ) (ours : Bool) (at : ℕ) (formed : recordForm (recordSent own cache ours at) ≡ true) where
+  module _ (is : ours ≡ true) where
+    pub ours-long : length own ≡ 100
+    ours-long = form-length own (rw is at formed)
+
+    pub ours-sent : part 0 100 own ≡ recordSent own cache ours at
+    ours-sent = take-all 100 own (omega (arith, ours-long)) ∙ rw is refl
+
+  pub held-sent : ours ≡ false → part (100 * at) 100 cache ≡ recordSent own cache ours at
+  held-sent is = rw is refl

@@ -1,6 +1,6 @@
-// What was planned for a datagram received is done. Nothing here can refuse.
+// What was planned for a datagram received, or for a FLOOD to send, is done. Nothing here can refuse.
 ghost use mathlib.Core.Path.{_≡_};
-ghost use mathlib.Core.Bool.{true, cond};
+ghost use mathlib.Core.Bool.{true, false, cond};
 ghost use mathlib.Core.List.{[], _∷_, _++_};
 ghost use Prim.Native.Nat.{_+_, _*_, _≤_, _<_};
 ghost use lib.ListN.{length, getD};
@@ -16,9 +16,10 @@ ghost use Rattle.cache.specs.Closest.{candidates, closestOf};
 ghost use Rattle.waiting.specs.Place.{placeKey, placeRecord};
 ghost use Rattle.waiting.specs.Form.{isInquiry};
 ghost use Rattle.waiting.specs.Seek.{seek};
-ghost use Rattle.waiting.specs.Open.{opened, freed, inquiryPlace};
-ghost use Rattle.wire_write.specs.Sent.{inquireMade, cpaMade, closestMade};
+ghost use Rattle.waiting.specs.Open.{opened, freed, inquiryPlace, floodPlace};
+ghost use Rattle.wire_write.specs.Sent.{inquireMade, cpaMade, closestMade, floodMade};
 ghost use Rattle.gauge_plan.specs.Rooms.{idAfter, ackRoom, inquireRoom};
+ghost use Rattle.gauge_plan.specs.Send.{recordSent, floodRoom};
 ghost use Rattle.gauge_commit.specs.Sending.{answer, lengths, sending, acks, asks, freedAt};
 
 // What the first four calls answer: document 01's number, and two lengths or counts.
@@ -300,4 +301,68 @@ pub fn commit_show<'a>(
     let shown = cache::closest(own, cache, held, &d[target..target + 32]);
     let wrote = wire_write::write_closest(output, major, minor, id, acked, shown, 0);
     answer_of(0, wrote.length, 0)
+}
+
+// A place that waits for a neighbour's ACK opens.
+fn open_flood(waiting: &mut [u8], used: usize, id: u32, key: &[u8])
+    requires { ⌜ (used < 16) × (length (now waiting) ≡ 2240) × Laid 140 used (now waiting) × (length (now key) ≡ 32) ⌝ }
+    ensures { λ _. ⌜ now (waiting .exit)
+        ≡ bytesOf 2240 (opened (floodPlace id (now (key .entry))) (rows 140 used (now (waiting .entry)))) ⌝ }
+{
+    let no_record = [0u8; 100];
+    waiting::open(waiting, used, id, 1, 2, key, &no_record);
+}
+
+// The FLOOD to the neighbour of a key, of the record at a place, at the output's start.
+fn send_flood(
+    output: &mut [u8],
+    major: u8,
+    minor: u8,
+    id: u32,
+    key: &[u8],
+    s: &[u8],
+    at: usize,
+) -> Answer
+    requires { ⌜ (length (now key) ≡ 32) × (at + 100 ≤ length (now s)) × (recordForm (part at 100 (now s)) ≡ true)
+        × (floodRoom (part at 100 (now s)) ≤ length (now output)) ⌝ }
+    ensures { λ r. ⌜ r
+        ≡ lengths (floodMade major minor id (now (key .entry)) (part at 100 (now (s .entry))) 0 .bytes ∷ []) ⌝ }
+    ensures { λ _. ⌜ now (output .exit)
+        ≡ sending (floodMade major minor id (now (key .entry)) (part at 100 (now (s .entry))) 0 .bytes ∷ [])
+        (now (output .entry)) ⌝ }
+{
+    let wrote = wire_write::write_flood(output, major, minor, id, key, s, at);
+    answer_of(0, wrote.length, 0)
+}
+
+// A FLOOD to send: our own record, or the one held at a place, to a neighbour; a place waits for its ACK.
+pub fn commit_send(
+    own: &[u8],
+    cache: &[u8],
+    waiting: &mut [u8],
+    used: usize,
+    major: u8,
+    minor: u8,
+    id: u32,
+    neighbour: &[u8],
+    ours: bool,
+    at: usize,
+    output: &mut [u8],
+) -> Answer
+    requires { ⌜ (used < 16) × (length (now waiting) ≡ 2240) × Laid 140 used (now waiting)
+        × (length (now neighbour) ≡ 32) × (ours ≡ false → 100 * at + 100 ≤ length (now cache))
+        × (recordForm (recordSent (now own) (now cache) ours at) ≡ true)
+        × (floodRoom (recordSent (now own) (now cache) ours at) ≤ length (now output)) ⌝ }
+    ensures { λ r. ⌜ r ≡ lengths (floodMade major minor id (now (neighbour .entry))
+        (recordSent (now (own .entry)) (now (cache .entry)) ours at) 0 .bytes ∷ []) ⌝ }
+    ensures { λ _. ⌜ now (waiting .exit)
+        ≡ bytesOf 2240 (opened (floodPlace id (now (neighbour .entry))) (rows 140 used (now (waiting .entry)))) ⌝ }
+    ensures { λ _. ⌜ now (output .exit) ≡ sending (floodMade major minor id (now (neighbour .entry))
+        (recordSent (now (own .entry)) (now (cache .entry)) ours at) 0 .bytes ∷ []) (now (output .entry)) ⌝ }
+{
+    open_flood(waiting, used, id, neighbour);
+    if ours {
+        return send_flood(output, major, minor, id, neighbour, own, 0);
+    }
+    send_flood(output, major, minor, id, neighbour, cache, 100 * at)
 }

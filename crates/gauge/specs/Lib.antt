@@ -1,3 +1,4 @@
 pub mod Lent
 pub mod Receive
 pub mod Counts
+pub mod Send

@@ -2,10 +2,12 @@
 mod plan;
 
 ghost use mathlib.Core.Path.{_≡_};
-ghost use Rattle.gauge.specs.Lent.{receive, handed};
+ghost use Rattle.gauge.specs.Lent.{receive, send, handed};
 ghost use Rattle.gauge.specs.Receive.{receiveCall};
+ghost use Rattle.gauge.specs.Send.{sendCall};
 ghost use Rattle.gauge.specs.Counts.{ticked, listed, gaugeTick, gaugeList};
 use gauge_plan::Plan;
+use gauge_plan::SendPlan;
 
 // A datagram received: everything is planned before a byte is written.
 #[no_mangle]
@@ -114,6 +116,43 @@ pub extern "C" fn gauge_receive(
                 output,
             )
         }
+    }
+}
+
+// A FLOOD sent to a held neighbour, of our own record or of one held: everything is planned before a byte is written.
+#[no_mangle]
+pub extern "C" fn gauge_send(
+    own: &[u8],
+    cache: &[u8],
+    waiting: &mut [u8],
+    major: u8,
+    minor: u8,
+    id: u32,
+    neighbour: &[u8],
+    key: &[u8],
+    output: &mut [u8],
+) -> gauge_commit::Answer
+    ensures { λ r. ⌜ handed r (now (cache .entry)) (now (waiting .exit)) (now (output .exit))
+        ≡ sendCall (send (now (own .entry)) (now (cache .entry)) (now (waiting .entry)) major minor id
+        (now (neighbour .entry)) (now (key .entry)) (now (output .entry))) ⌝ }
+{
+    let room = output.len();
+    let plan = gauge_plan::plan_send(own, cache, waiting, id, neighbour, key, room);
+    match plan {
+        SendPlan::Refuse(number) => gauge_commit::answer_of(number, 0, 0),
+        SendPlan::Flood { used, ours, at } => gauge_commit::commit_send(
+            own,
+            cache,
+            waiting,
+            used,
+            major,
+            minor,
+            id,
+            neighbour,
+            ours,
+            at,
+            output,
+        ),
     }
 }
 

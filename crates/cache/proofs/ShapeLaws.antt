@@ -6,7 +6,7 @@ use mathlib.Core.Bool.{Bool, true, false, cond}
 use Prim.Native.Nat.{ℕ, suc, _+_, _-_, _*_, _%_, _≤_, _<_}
 use native.Mathlib.Numerals.{add-one}
 use native.Mathlib.Omega.{arith}
-use lib.Dec.{leb}
+use lib.Dec.{leb, ltb}
 use lib.ListN.{length, drop}
 use borrow.Author.Tests.{eq-eqb, ne-eqb, le-leb, lt-leb}
 use mathlib.Core.Path.{sym}
@@ -26,17 +26,11 @@ pub low-first : (s : List ℕ) (i k : ℕ) → i ≡ 0 → leb (lowAt s i) k ≡
 unfolding lowAt
 low-first s i k e = ap (λ (j : ℕ). leb (lowAt s j) k) e ∙ le-leb 0 k (omega arith)
 
-low-next : (s : List ℕ) (i : ℕ) → (i ≡ 0 → ⊥) → lowAt s i ≡ suc (keyAt (100 * (i - 1)) s)
+pub low-next : (s : List ℕ) (i k : ℕ) → (i ≡ 0 → ⊥) → leb (lowAt s i) k ≡ ltb (keyAt (100 * (i - 1)) s) k
 unfolding lowAt
-low-next s i d =
+low-next s i k d =
     let p : i ≡ suc (i - 1) = omega arith in
-    ap (λ (j : ℕ). lowAt s j) p
-
-pub low-less : (s : List ℕ) (i k : ℕ) → (i ≡ 0 → ⊥) → keyAt (100 * (i - 1)) s < k → leb (lowAt s i) k ≡ true
-low-less s i k d h = ap (λ (m : ℕ). leb m k) (low-next s i d) ∙ le-leb _ k h
-
-pub low-more : (s : List ℕ) (i k : ℕ) → (i ≡ 0 → ⊥) → k ≤ keyAt (100 * (i - 1)) s → leb (lowAt s i) k ≡ false
-low-more s i k d h = ap (λ (m : ℕ). leb m k) (low-next s i d) ∙ lt-leb _ k (omega arith)
+    ap (λ (j : ℕ). leb (lowAt s j) k) p
 
 -- ---- the loop that counts the places in order
 

@@ -9,7 +9,6 @@ ghost use Rattle.record.specs.Record.{keyOf, recordForm};
 ghost use Rattle.table.specs.Rows.{rows};
 ghost use Rattle.cache.specs.Form.{follows, leading};
 ghost use Rattle.cache.specs.Place.{formOf, lowAt};
-use key::Order;
 
 // Whether the cache is in form, and then how many records it holds.
 pub enum Formed {
@@ -36,11 +35,7 @@ fn above_before(cache: &[u8], i: usize) -> bool
         return true;
     }
     let before = i - 1;
-    match key::order_at(cache, 100 * before, cache, 100 * i) {
-        Order::Less => true,
-        Order::Same => false,
-        Order::More => false,
-    }
+    key::less_at(cache, 100 * before, cache, 100 * i)
 }
 
 // Has place i a record that may stand after those before it?

@@ -80,6 +80,15 @@ test-same m n e = let h = same-is m n e in (le-ltb m n (omega arith), eq-eqb m n
 pub test-more : (m n : ℕ) → orderOf m n ≡ More → (ltb m n ≡ false) × (eqb m n ≡ false)
 test-more m n e = let h = more-is m n e in (le-ltb m n (omega arith), ne-eqb m n (λ q. omega arith))
 
+-- numbers that stand alike are less alike
+pub less-alike : (m n j k : ℕ) → orderOf m n ≡ orderOf j k → ltb m n ≡ ltb j k
+less-alike m n j k e = by-case (stand j k)
+  where
+    by-case : Stand j k → ltb m n ≡ ltb j k
+    by-case (below h) = test-less m n (e ∙ order-less h) .0 ∙ sym (lt-ltb j k h)
+    by-case (equal h) = test-same m n (e ∙ order-same h) .0 ∙ sym (le-ltb j k (omega arith))
+    by-case (above h) = test-more m n (e ∙ order-more h) .0 ∙ sym (le-ltb j k (omega arith))
+
 -- a number added to both
 order-add : (k m n : ℕ) → orderOf (k + m) (k + n) ≡ orderOf m n
 order-add k m n = by-case (stand m n)

@@ -8,10 +8,8 @@ use lib.ListN.{length}
 use Rattle.octet.specs.Number.{Digits, valueBE}
 use Rattle.octet.specs.Part.{part, same}
 use Rattle.octet.proofs.BigLaws.{valueBE-lt, valueBE-part, valueBE-inj}
-use Rattle.octet.proofs.TestLaws.{same-eq, same-refl}
-use borrow.Author.Tests.{eq-eqb, ne-eqb}
+use Rattle.octet.proofs.TestLaws.{same-by}
 use lib.Dec.{eqb}
-use mathlib.Core.Bool.{Bool, true, false}
 use Rattle.octet.proofs.PartLaws.{part-digits, length-part}
 use Rattle.key.specs.declared.Order.{Order}
 use Rattle.key.specs.declared.Order.the-variants.{Less, More}
@@ -57,10 +55,4 @@ module _ (a b : ℕ) (s t : List ℕ) (d : Digits 256 s) (e : Digits 256 t) (h :
 
 -- lists of digits of one width are the same exactly where their numbers are
 pub same-value : (b : ℕ) (xs ys : List ℕ) → Digits b xs → Digits b ys → length xs ≡ length ys → same xs ys ≡ eqb (valueBE b xs) (valueBE b ys)
-same-value b xs ys d e n = by-case (same xs ys) refl
-  where
-    by-case : (t : Bool) → same xs ys ≡ t → t ≡ eqb (valueBE b xs) (valueBE b ys)
-    by-case true s = sym (eq-eqb (valueBE b xs) (valueBE b ys) (ap (valueBE b) (same-eq xs ys s)))
-    by-case false s =
-        sym (ne-eqb (valueBE b xs) (valueBE b ys)
-        (λ v. let t : same xs ys ≡ true = ap (same xs) (sym (valueBE-inj b xs ys d e n v)) ∙ same-refl xs in let z : _≡_ {A = ℕ} 0 1 = cc in absurd (omega arith)))
+same-value b xs ys d e n = same-by (valueBE b) xs ys (valueBE-inj b xs ys d e n)

@@ -8,6 +8,7 @@ pub use around::is_above;
 pub use around::is_closer;
 pub use ordered::compare;
 pub use ordered::is_same;
+pub use ordered::less_at;
 pub use ordered::order_at;
 pub use ordered::same_at;
 pub use subtract::difference;

@@ -78,11 +78,30 @@ pub fn order_at(s: &[u8], a: usize, t: &[u8], b: usize) -> Order
     Order::Same
 }
 
-// Are the keys at two places the same? By their bytes, many at once.
+// Is the key at a place of one slice less than that at a place of another? The first word that differs says it. The
+// form test asks it of each record, and the compiler puts it there for as long as nothing else calls it.
+pub fn less_at(s: &[u8], a: usize, t: &[u8], b: usize) -> bool
+    requires { ⌜ a + 32 ≤ length (now s) ⌝ }
+    requires { ⌜ b + 32 ≤ length (now t) ⌝ }
+    ensures { λ r. ⌜ r ≡ ltb (keyAt a (now (s .entry))) (keyAt b (now (t .entry))) ⌝ }
+{
+    let mut word = 0;
+    while word < 4 {
+        let x = octet::read_u64(s, a + 8 * word);
+        let y = octet::read_u64(t, b + 8 * word);
+        if x != y {
+            return x < y;
+        }
+        word += 1;
+    }
+    false
+}
+
+// Are the keys at two places the same? By words as the machine reads them, without a swap.
 pub fn same_at(s: &[u8], a: usize, t: &[u8], b: usize) -> bool
     requires { ⌜ a + 32 ≤ length (now s) ⌝ }
     requires { ⌜ b + 32 ≤ length (now t) ⌝ }
     ensures { λ r. ⌜ r ≡ eqb (keyAt a (now (s .entry))) (keyAt b (now (t .entry))) ⌝ }
 {
-    octet::equal(&s[a..a + 32], &t[b..b + 32])
+    octet::equal_words(s, a, t, b, 4)
 }

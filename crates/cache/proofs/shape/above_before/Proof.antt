@@ -1,10 +1,8 @@
--- `cache::shape::above_before` meets its contract: the order of the two keys says whether the place's key is above. Assumes nothing.
+-- `cache::shape::above_before` meets its contract: the key before it is less exactly where the place's key is above. Assumes nothing.
 use mathlib.Core.Path.{sym, _∙_}
-use Prim.Native.Nat.{_-_, _*_}
+use Prim.Native.Nat.{_*_}
 use Rattle.key.specs.Number.{keyAt}
-use Rattle.key.proofs.OrderLaws.{less-is, same-is, more-is}
-use Rattle.cache.proofs.ShapeLaws.{low-first, low-less, low-more}
-use native.Mathlib.Omega.{arith}
+use Rattle.cache.proofs.ShapeLaws.{low-first, low-next}
 use borrow.Author.Needs.{needs}
 use Rattle.cache.proofs.shape.above_before.Statement.{statement}
 use Rattle.cache.proofs.shape.above_before.Tie as tie
@@ -17,50 +15,19 @@ returns c =
 sub-before : tie.Need-sub-before
 sub-before c = search needs
 
-mul-order-at : tie.Need-mul-order-at
-mul-order-at c = search needs
+mul-less-at : tie.Need-mul-less-at
+mul-less-at c = search needs
 
-mul-order-at-2 : tie.Need-mul-order-at-2
-mul-order-at-2 c = search needs
+mul-less-at-2 : tie.Need-mul-less-at-2
+mul-less-at-2 c = search needs
 
-order-at-requires : tie.Need-order-at-requires
-order-at-requires c κs = search needs
-
-enum-told : tie.Need-enum-told
-enum-told c = search needs
-
-enum-told-2 : tie.Need-enum-told-2
-enum-told-2 c = search needs
-
-enum-told-3 : tie.Need-enum-told-3
-enum-told-3 c = search needs
+less-at-requires : tie.Need-less-at-requires
+less-at-requires c κs = search needs
 
 returns-2 : tie.Need-returns-2
 returns-2 c =
-    let c3 = c .before .before .before in
-    let c5 = c3 .before .before in
-    let a = c5 .args in
-    let s = a .cache .now in
-    let t = less-is (keyAt (100 * (a .i - 1)) s) (keyAt (100 * a .i) s) (sym (c .before .before .order-at .ensures) ∙ c .enum-told .given .1) in
-    sym (low-less s (a .i) (keyAt (100 * a .i) s) (c3 .if1 .left) t)
-
-returns-3 : tie.Need-returns-3
-returns-3 c =
-    let c3 = c .before .before .before in
-    let c5 = c3 .before .before in
-    let a = c5 .args in
-    let s = a .cache .now in
-    let t = same-is (keyAt (100 * (a .i - 1)) s) (keyAt (100 * a .i) s) (sym (c .before .before .order-at .ensures) ∙ c .enum-told2 .given .1) in
-    sym (low-more s (a .i) (keyAt (100 * a .i) s) (c3 .if1 .left) (omega arith))
-
-returns-4 : tie.Need-returns-4
-returns-4 c =
-    let c3 = c .before .before .before in
-    let c5 = c3 .before .before in
-    let a = c5 .args in
-    let s = a .cache .now in
-    let t = more-is (keyAt (100 * (a .i - 1)) s) (keyAt (100 * a .i) s) (sym (c .before .before .order-at .ensures) ∙ c .enum-told3 .given .1) in
-    sym (low-more s (a .i) (keyAt (100 * a .i) s) (c3 .if1 .left) (omega arith))
+    let a = c .before .before .before .args in
+    c .less-at .ensures ∙ sym (low-next (a .cache .now) (a .i) (keyAt (100 * a .i) (a .cache .now)) (c .before .if1 .left))
 
 pub above-before-spec : {M : Type 1} → statement M
 above-before-spec =
@@ -68,12 +35,7 @@ above-before-spec =
     (tie.spec
     returns
     sub-before
-    mul-order-at
-    mul-order-at-2
-    order-at-requires
-    enum-told
-    enum-told-2
-    enum-told-3
-    returns-2
-    returns-3
-    returns-4)
+    mul-less-at
+    mul-less-at-2
+    less-at-requires
+    returns-2)

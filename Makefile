@@ -27,7 +27,7 @@ outside:
 	@tools/install tshark
 	@tests/outside.py
 
-# Executed instructions of form and closest against plain C. No test of the gate: form is not yet where it should be (docs/landings/03-memory.md).
+# Executed instructions of form and closest against plain C (docs/landings/03-memory.md). A test of the gate.
 counted:
 	@tests/counted
 

@@ -16,6 +16,7 @@ use Rattle.octet.specs.Part.{part, allZero}
 use Rattle.octet.proofs.TestLaws.{both-true, zeros-all}
 use Rattle.key.specs.Number.{keyAt}
 use Rattle.record.specs.Record.{keyOf, countOf, recordForm}
+use Rattle.record.proofs.EntryLaws.{form-length}
 use Rattle.table.specs.Rows.{rows, joined, bytesOf, Sized, Laid}
 use Rattle.table.proofs.RowLaws.{rows-length, rows-take, rows-append, rows-of-joined, joined-length, bytes-clear, laid-bytes}
 use Rattle.kept.specs.Keys.{Every, Rising, plain}
@@ -27,17 +28,9 @@ use Rattle.cache.specs.Form.{keysOf, placesIn, Places, Form, follows, le
 pub key-of-row : (at : ℕ) (s : List ℕ) → keyOf (part at 100 s) ≡ keyAt at s
 key-of-row at s = ap (valueBE 256) (take-take 32 100 (drop at s) (omega arith))
 
-pub formed-length : (r : List ℕ) → recordForm r ≡ true → length r ≡ 100
-unfolding recordForm
-formed-length r e =
-    let a = both-true (eqb (length r) 100 && leb 1 (countOf r) && leb (countOf r) 4 && eqb (getD r 35 0) 0) _ e in
-    let b = both-true (eqb (length r) 100 && leb 1 (countOf r) && leb (countOf r) 4) _ (a .0) in
-    let c = both-true (eqb (length r) 100 && leb 1 (countOf r)) _ (b .0) in
-    eqb-true (length r) 100 (both-true (eqb (length r) 100) _ (c .0) .0)
-
 pub formed-sized : (recs : List (List ℕ)) → Every (λ (r : List ℕ). recordForm r ≡ true) recs → Sized 100 recs
 formed-sized [] h = tt
-formed-sized (r ∷ recs) h = (formed-length r (h .0), formed-sized recs (h .1))
+formed-sized (r ∷ recs) h = (form-length r (h .0), formed-sized recs (h .1))
 
 -- what `follows` tells
 pub record Follows (own low : ℕ) (r : List ℕ) : Type 0 where

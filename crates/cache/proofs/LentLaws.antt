@@ -14,7 +14,7 @@ use Rattle.cache.specs.declared.shape.Formed.the-variants.{Bad, Good}
 use Rattle.cache.specs.Form.{Form, cacheForm}
 use Rattle.cache.specs.Place.{formOf}
 use Rattle.cache.specs.Calls.{memoryWrong, heldBy}
-use Rattle.cache.proofs.FormLaws.{formed-length}
+use Rattle.record.proofs.EntryLaws.{form-length}
 use Rattle.cache.proofs.ShapeLaws.{good-is, good-held, good-form, bad-is}
 
 -- a row that applies, and one that does not
@@ -57,7 +57,7 @@ module _ (own cache : List ℕ) {m : Formed} (is : m ≡ cond (recordForm own) (
     both = tells own cache used (recordForm own) refl (sym is ∙ good)
 
     pub memory-own : length own ≡ 100
-    memory-own = formed-length own (both .formed)
+    memory-own = form-length own (both .formed)
 
     pub memory-form : Form (keyOf own) cache (rows 100 used cache)
     memory-form = good-form (keyOf own) cache (both .form)

@@ -1,9 +1,6 @@
 // Calls on memory that nobody has tested: refused with the number of document 01, nothing changed, or done.
 ghost use mathlib.Core.Path.{_≡_};
 ghost use mathlib.Core.Bool.{cond};
-ghost use Prim.Native.Nat.{_≤_};
-ghost use lib.Dec.{eqb};
-ghost use lib.ListN.{length};
 ghost use Rattle.record.specs.Record.{keyOf, recordForm};
 ghost use Rattle.cache.specs.Place.{formOf};
 ghost use Rattle.cache.specs.Calls.{changed, learnCall, removeCall, written, listCall, closestCall};
@@ -14,8 +11,6 @@ use crate::listing::neighbours;
 use crate::nearest::closest;
 use crate::shape::Formed;
 use crate::shape::form;
-use crate::shape::is_record;
-use key::Order;
 
 // The number that a neighbour list is answered with, and how many keys of each side are listed.
 pub struct Listed {
@@ -29,22 +24,10 @@ fn memory(own: &[u8], cache: &[u8]) -> Formed
     ensures { λ r. ⌜ r
         ≡ cond (recordForm (now (own .entry))) (formOf (keyOf (now (own .entry))) (now (cache .entry))) Bad ⌝ }
 {
-    if !is_record(own) {
+    if !record::is_record(own) {
         return Formed::Bad;
     }
     form(own, cache)
-}
-
-// Have the two slices one key at their start?
-fn same_key(a: &[u8], b: &[u8]) -> bool
-    requires { ⌜ (32 ≤ length (now a)) × (32 ≤ length (now b)) ⌝ }
-    ensures { λ r. ⌜ r ≡ eqb (keyOf (now (a .entry))) (keyOf (now (b .entry))) ⌝ }
-{
-    match key::order_at(a, 0, b, 0) {
-        Order::Less => false,
-        Order::Same => true,
-        Order::More => false,
-    }
 }
 
 // A record is learned. Gives 0 or 1.
@@ -56,10 +39,10 @@ pub fn learn_record(own: &[u8], cache: &mut [u8], record: &[u8]) -> u32
     let Formed::Good(used) = found else {
         return 1;
     };
-    if !is_record(record) {
+    if !record::is_record(record) {
         return 1;
     }
-    if same_key(record, own) {
+    if key::same_at(record, 0, own, 0) {
         return 1;
     }
     learn(own, cache, used, record);

@@ -21,4 +21,3 @@ pub use place::Found;
 pub use place::find;
 pub use shape::Formed;
 pub use shape::form;
-pub use shape::is_record;

@@ -5,7 +5,7 @@ ghost use lib.Dec.{leb};
 ghost use lib.ListN.{length};
 ghost use Rattle.octet.specs.Part.{part};
 ghost use Rattle.key.specs.Number.{keyAt};
-ghost use Rattle.record.specs.Record.{keyOf, recordForm};
+ghost use Rattle.record.specs.Record.{keyOf};
 ghost use Rattle.table.specs.Rows.{rows};
 ghost use Rattle.cache.specs.Form.{follows, leading};
 ghost use Rattle.cache.specs.Place.{formOf, lowAt};
@@ -14,16 +14,6 @@ ghost use Rattle.cache.specs.Place.{formOf, lowAt};
 pub enum Formed {
     Bad,
     Good(usize),
-}
-
-// Is the slice a record in form?
-pub fn is_record(r: &[u8]) -> bool
-    ensures { λ b. ⌜ b ≡ recordForm (now (r .entry)) ⌝ }
-{
-    if r.len() != 100 {
-        return false;
-    }
-    record::is_formed(r, 0)
 }
 
 // Is the key at place i above the one before it?

@@ -14,6 +14,16 @@ ghost use lib.ListN.{length};
 ghost use Rattle.octet.specs.Part.{part};
 ghost use Rattle.record.specs.Record.{recordForm};
 
+// Is the slice a record in form?
+pub fn is_record(r: &[u8]) -> bool
+    ensures { λ b. ⌜ b ≡ recordForm (now (r .entry)) ⌝ }
+{
+    if r.len() != 100 {
+        return false;
+    }
+    is_formed(r, 0)
+}
+
 // Are the 100 bytes at a place a record in form?
 pub fn is_formed(s: &[u8], at: usize) -> bool
     requires { ⌜ at + 100 ≤ length (now s) ⌝ }

@@ -7,8 +7,8 @@ use Prim.Native.Nat.{ℕ, _+_, _-_, _≤_}
 use native.Mathlib.Omega.{arith}
 use lib.Dec.{eqb, leb}
 use lib.ListN.{length, take, getD, length-set}
-use lib.Seq.{take-all, take-set-le, drop-set-lt, getD-set-same, getD-set-other}
-use borrow.Author.Tests.{ne-eqb, eqb-true, eqb-false, leb-true, le-leb, not-true}
+use lib.Seq.{take-set-le, drop-set-lt, getD-set-same, getD-set-other}
+use borrow.Author.Tests.{eqb-true, eqb-false, leb-true, le-leb, not-true}
 use Rattle.octet.specs.Number.{valueBE, valueLE}
 use Rattle.octet.specs.Part.{part, allZero}
 use Rattle.octet.proofs.PartLaws.{part-at}
@@ -20,15 +20,6 @@ use Rattle.table.proofs.PieceLaws.{part-start}
 use Rattle.waiting.specs.Place.{idOf, kindOf, triesOf, placeKey, placeRecord}
 use Rattle.waiting.specs.Form.{placeForm, isInquiry}
 use Rattle.waiting.specs.Tick.{oneLess}
-
--- ---- a record in form, by the tests of `is_record`
-
-pub record-long : (r : List ℕ) → (length r ≡ 100 → ⊥) → recordForm r ≡ false
-unfolding recordForm
-record-long r h = rw (ne-eqb (length r) 100 h) refl
-
-pub record-whole : (r : List ℕ) → length r ≡ 100 → recordForm (part 0 100 r) ≡ recordForm r
-record-whole r h = ap recordForm (take-all 100 r (omega arith))
 
 -- ---- where the place lies
 

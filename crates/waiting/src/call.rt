@@ -1,5 +1,4 @@
 // The tick on memory that nobody has tested.
-use crate::place::is_record;
 use crate::round::tick_places;
 use crate::tested::Formed;
 use crate::tested::form;
@@ -18,7 +17,7 @@ pub fn tick(own: &[u8], table: &mut [u8], output: &mut [u8]) -> Answer
     ensures { λ r. ⌜ handed (r .number) (r .count) (now (table .exit)) (now (output .exit))
         ≡ tickCall (now (own .entry)) (now (table .entry)) (now (output .entry)) ⌝ }
 {
-    if !is_record(own) {
+    if !record::is_record(own) {
         return Answer {
             number: 1,
             count: 0,

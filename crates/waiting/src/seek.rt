@@ -1,5 +1,4 @@
 // Walks over the used places.
-use crate::place::same_key;
 ghost use mathlib.Core.Path.{_≡_};
 ghost use Prim.Native.Nat.{_+_, _*_, _≤_};
 ghost use lib.ListN.{length, drop};
@@ -57,7 +56,7 @@ pub fn find_inquiry(table: &[u8], start: usize, used: usize, key: &[u8], place: 
     let mut at = start;
     while at < used {
         let from = 140 * at;
-        let same = same_key(table, from + 8, key, place);
+        let same = key::same_at(table, from + 8, key, place);
         if (table[from + 4] == 2) & same {
             return Found::At(at);
         }

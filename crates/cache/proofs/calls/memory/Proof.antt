@@ -1,7 +1,7 @@
 -- `cache::calls::memory` meets its contract: the own record first, then the cache. Assumes nothing.
 use mathlib.Core.Path.{refl, sym, _∙_}
 use borrow.Author.Tests.{not-true, not-false}
-use Rattle.cache.proofs.FormLaws.{formed-length}
+use Rattle.record.proofs.EntryLaws.{form-length}
 use native.Mathlib.Omega.{arith}
 use borrow.Author.Needs.{needs}
 use Rattle.cache.proofs.calls.memory.Statement.{statement}
@@ -16,7 +16,7 @@ returns c = sym (rw (sym (c .before .is-record .ensures) ∙ not-true _ (c .if1 
 form-requires : tie.Need-form-requires
 form-requires c κs =
     let c4 = c .before .before .before .before in
-    omega (arith, formed-length (c4 .args .own .now) (sym (c .before .is-record .ensures) ∙ not-false _ (c .if1 .left)))
+    omega (arith, form-length (c4 .args .own .now) (sym (c .before .is-record .ensures) ∙ not-false _ (c .if1 .left)))
 
 returns-2 : tie.Need-returns-2
 returns-2 c = c .form .ensures ∙ sym (rw (sym (c .before .before .is-record .ensures) ∙ not-false _ (c .before .if1 .left)) refl)

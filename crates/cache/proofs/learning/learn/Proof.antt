@@ -5,7 +5,8 @@ use Rattle.record.specs.Record.{keyOf}
 use Rattle.table.specs.Rows.{rows, bytesOf, Laid}
 use Rattle.table.proofs.RowLaws.{rows-length}
 use Rattle.kept.specs.Records.{putBy}
-use Rattle.cache.proofs.FormLaws.{formed-length, form-laid}
+use Rattle.record.proofs.EntryLaws.{form-length}
+use Rattle.cache.proofs.FormLaws.{form-laid}
 use Rattle.cache.proofs.FindLaws.{found-place, found-puts}
 use Rattle.cache.proofs.LearnLaws.{held-room}
 use native.Mathlib.Omega.{arith}
@@ -17,7 +18,7 @@ laid : (s : tie.Start) → Laid 100 (s .args .used) (s .args .cache .now)
 laid s = form-laid (keyOf (s .args .own .now)) (s .args .used) (s .args .cache .now) (s .pre .1 .0)
 
 long : (s : tie.Start) → length (s .args .«record» .now) ≡ 100
-long s = formed-length (s .args .«record» .now) (s .pre .0 .1)
+long s = form-length (s .args .«record» .now) (s .pre .0 .1)
 
 find-requires : tie.Need-find-requires
 find-requires c κs =

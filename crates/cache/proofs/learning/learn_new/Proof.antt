@@ -6,7 +6,8 @@ use lib.ListN.{length}
 use Rattle.record.specs.Record.{keyOf}
 use Rattle.table.specs.Rows.{bytesOf, Laid}
 use Rattle.table.proofs.RowLaws.{laid-bytes}
-use Rattle.cache.proofs.FormLaws.{formed-length, form-laid}
+use Rattle.record.proofs.EntryLaws.{form-length}
+use Rattle.cache.proofs.FormLaws.{form-laid}
 use Rattle.cache.proofs.LearnLaws.{place-most, new-room, new-first, new-last, stays-first, stays-last}
 use native.Mathlib.Omega.{arith}
 use borrow.Author.Needs.{needs}
@@ -17,7 +18,7 @@ laid : (s : tie.Start) → Laid 100 (s .args .used) (s .args .cache .now)
 laid s = form-laid (keyOf (s .args .own .now)) (s .args .used) (s .args .cache .now) (s .pre .1 .0)
 
 long : (s : tie.Start) → length (s .args .«record» .now) ≡ 100
-long s = formed-length (s .args .«record» .now) (s .pre .0 .1)
+long s = form-length (s .args .«record» .now) (s .pre .0 .1)
 
 mul-if1 : tie.Need-mul-if1
 mul-if1 c =

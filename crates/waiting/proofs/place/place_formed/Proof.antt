@@ -35,17 +35,17 @@ shared-slice-read-formed c = search needs
 is-formed-requires : tie.Need-is-formed-requires
 is-formed-requires c κs = search needs
 
-same-key-requires : tie.Need-same-key-requires
-same-key-requires c κs = search needs
+same-at-requires : tie.Need-same-at-requires
+same-at-requires c κs = search needs
 
-same-key-requires-2 : tie.Need-same-key-requires-2
-same-key-requires-2 c κs = search needs
+same-at-requires-2 : tie.Need-same-at-requires-2
+same-at-requires-2 c κs = search needs
 
 returns : tie.Need-returns
 returns c =
     let a = c .before .before .before .before .before .before .before .before .before .before .before .before .args in
     let zero = c .before .before .before .before .is-zero .ensures in
-    formed-is (keyOf (a .own .now)) (a .place .now) zero (c .before .before .is-formed .ensures) (c .before .same-key .ensures) (c .same-key2 .ensures)
+    formed-is (keyOf (a .own .now)) (a .place .now) zero (c .before .before .is-formed .ensures) (c .before .same-at .ensures) (c .same-at2 .ensures)
 
 pub place-formed-spec : {M : Type 1} → statement M
 place-formed-spec =
@@ -61,6 +61,6 @@ place-formed-spec =
     is-zero-requires
     shared-slice-read-formed
     is-formed-requires
-    same-key-requires
-    same-key-requires-2
+    same-at-requires
+    same-at-requires-2
     returns)

@@ -26,11 +26,11 @@ loop-holds c = (omega arith, refl)
 mul-from : tie.Need-mul-from Inv-loop μ-loop
 mul-from c = omega arith
 
-add-same-key : tie.Need-add-same-key Inv-loop μ-loop
-add-same-key c = omega arith
+add-same-at : tie.Need-add-same-at Inv-loop μ-loop
+add-same-at c = omega arith
 
-same-key-requires : tie.Need-same-key-requires Inv-loop μ-loop
-same-key-requires c κs = (omega arith, omega arith)
+same-at-requires : tie.Need-same-at-requires Inv-loop μ-loop
+same-at-requires c κs = (omega arith, omega arith)
 
 add-if1 : tie.Need-add-if1 Inv-loop μ-loop
 add-if1 c = omega arith
@@ -44,7 +44,7 @@ returns c =
     let l = c .before .before .before .before .loop in
     let k = keyAt (a .place) (a .key .now) in
     sym (l .inv .1 ∙ seek-here (a .used) (a .table .now) (l .at) (isInquiry k) (omega arith)
-    (inquiry-is k (140 * l .at) (a .table .now) (c .before .before .same-key .ensures) ∙ c .if1 .taken))
+    (inquiry-is k (140 * l .at) (a .table .now) (c .before .before .same-at .ensures) ∙ c .if1 .taken))
 
 add-at : tie.Need-add-at Inv-loop μ-loop
 add-at c = omega arith
@@ -59,7 +59,7 @@ loop-again c =
     let k = keyAt (a .place) (a .key .now) in (
       omega arith,
       l .inv .1 ∙ seek-on (a .used) (a .table .now) (l .at) (isInquiry k) (omega arith)
-          (inquiry-is k (140 * l .at) (a .table .now) (c .before .before .same-key .ensures) ∙ c .if1 .left),
+          (inquiry-is k (140 * l .at) (a .table .now) (c .before .before .same-at .ensures) ∙ c .if1 .left),
     )
 
 returns-2 : tie.Need-returns-2 Inv-loop μ-loop
@@ -76,8 +76,8 @@ find-inquiry-spec =
     μ-loop
     loop-holds
     mul-from
-    add-same-key
-    same-key-requires
+    add-same-at
+    same-at-requires
     add-if1
     shared-slice-read-if1
     returns

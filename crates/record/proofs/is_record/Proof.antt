@@ -1,13 +1,13 @@
--- `cache::shape::is_record` meets its contract: of 100 bytes the part from the start is the whole. Assumes nothing.
+-- `record::is_record` meets its contract: of 100 bytes the part from the start is the whole. Assumes nothing.
 use mathlib.Core.Path.{refl, sym, ap, _∙_}
 use lib.ListN.{length}
 use lib.Seq.{take-all}
 use borrow.Author.Tests.{ne-eqb}
 use Rattle.record.specs.Record.{recordForm}
 use native.Mathlib.Omega.{arith}
 use borrow.Author.Needs.{needs}
-use Rattle.cache.proofs.shape.is_record.Statement.{statement}
-use Rattle.cache.proofs.shape.is_record.Tie as tie
+use Rattle.record.proofs.is_record.Statement.{statement}
+use Rattle.record.proofs.is_record.Tie as tie
 
 returns : tie.Need-returns
 unfolding recordForm

@@ -13,7 +13,7 @@ use Rattle.octet.specs.Part.{splice}
 use Rattle.octet.proofs.PartLaws.{drop-splice}
 use Rattle.refusal.specs.Table.{Refusal, appliesIn, orRefuse, InOrder, byNumber}
 use Rattle.refusal.proofs.TableLaws.{AllFail, all-fail}
-use Rattle.refusal.proofs.CallLaws.{number-is, refusal-keeps, call-exactly}
+use Rattle.refusal.proofs.CallLaws.{all-pass, number-is, refusal-keeps, call-exactly}
 use Rattle.key.specs.Number.{keyAt}
 use Rattle.key.specs.Around.{Side, below, above, sideOf, nearness, closer}
 use Rattle.record.specs.Record.{keyOf}
@@ -34,7 +34,6 @@ use Rattle.cache.proofs.FormLaws.{form-held, form-true, true-form}
 use Rattle.cache.proofs.KeepLaws.{learnt-keys, learnt-form, removed-keys, removed-form}
 use Rattle.cache.proofs.ListLaws.{keys-length}
 use Rattle.cache.proofs.ClosestLaws.{closest-among, closest-least, closest-only}
-use Rattle.cache.proofs.LentLaws.{all-pass}
 
 -- ---- one result
 

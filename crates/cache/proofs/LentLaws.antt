@@ -1,40 +1,21 @@
 -- The tests that every call makes, and what they say of its table of refusals. Assumes nothing.
 use mathlib.Core.Path.{_≡_, refl, sym, _∙_}
 use mathlib.Core.Bool.{Bool, true, false, not, cond}
-use mathlib.Core.List.{List, [], _∷_}
+use mathlib.Core.List.{List}
 use Prim.Native.Nat.{ℕ}
 use native.Mathlib.Omega.{arith}
 use lib.ListN.{length}
-use Rattle.refusal.specs.Table.{Refusal, when, orRefuse}
-use Rattle.refusal.proofs.TableLaws.{AllFail}
+use Rattle.refusal.specs.Table.{Refusal, orRefuse}
+use Rattle.refusal.proofs.CallLaws.{row-applies, row-passes}
 use Rattle.record.specs.Record.{keyOf, recordForm}
+use Rattle.record.proofs.EntryLaws.{form-length}
 use Rattle.table.specs.Rows.{rows}
 use Rattle.cache.specs.declared.shape.Formed.{Formed}
 use Rattle.cache.specs.declared.shape.Formed.the-variants.{Bad, Good}
 use Rattle.cache.specs.Form.{Form, cacheForm}
 use Rattle.cache.specs.Place.{formOf}
 use Rattle.cache.specs.Calls.{memoryWrong, heldBy}
-use Rattle.record.proofs.EntryLaws.{form-length}
 use Rattle.cache.proofs.ShapeLaws.{good-is, good-held, good-form, bad-is}
-
--- a row that applies, and one that does not
-pub row-applies : {A : Type 0} (refuse : ℕ → A) (n : ℕ) (b : Bool) (rs : List Refusal) (done : A) → b ≡ true → orRefuse refuse (when n b ∷ rs) done ≡ refuse n
-unfolding orRefuse
-row-applies refuse n b rs done e = rw e refl
-
-pub row-passes : {A : Type 0} (refuse : ℕ → A) (n : ℕ) (b : Bool) (rs : List Refusal) (done : A) → b ≡ false
-    → orRefuse refuse (when n b ∷ rs) done ≡ orRefuse refuse rs done
-unfolding orRefuse
-row-passes refuse n b rs done e = rw e refl
-
-pub no-row : {A : Type 0} (refuse : ℕ → A) (done : A) → orRefuse refuse [] done ≡ done
-unfolding orRefuse
-no-row refuse done = refl
-
-pub all-pass : {A : Type 0} (refuse : ℕ → A) (rs : List Refusal) (done : A) → AllFail rs → orRefuse refuse rs done ≡ done
-unfolding orRefuse
-all-pass refuse [] done a = refl
-all-pass refuse (r ∷ rs) done a = rw (a .0) (all-pass refuse rs done (a .1))
 
 pub not-is : {b : Bool} → b ≡ true → not b ≡ false
 not-is {b} e = rw e refl

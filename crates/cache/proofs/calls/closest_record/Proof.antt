@@ -11,7 +11,8 @@ use Rattle.record.specs.Record.{keyOf}
 use Rattle.cache.specs.Closest.{candidates, closestOf}
 use Rattle.cache.specs.Calls.{closestCall, heldBy}
 use Rattle.cache.proofs.FormLaws.{form-laid}
-use Rattle.cache.proofs.LentLaws.{row-applies, row-passes, no-row, not-is, not-isn't}
+use Rattle.refusal.proofs.CallLaws.{row-applies, row-passes, no-row}
+use Rattle.cache.proofs.LentLaws.{not-is, not-isn't}
 use Rattle.cache.proofs.LentLaws.{memory-own, memory-form, memory-held, memory-passes, memory-refuses}
 use native.Mathlib.Omega.{arith}
 use borrow.Author.Needs.{needs}

@@ -8,11 +8,12 @@ use lib.Dec.{eqb}
 use lib.ListN.{length}
 use borrow.Author.Tests.{not-true, not-false, eqb-false}
 use Rattle.record.specs.Record.{keyOf, recordForm}
+use Rattle.record.proofs.EntryLaws.{form-length}
 use Rattle.table.specs.Rows.{bytesOf}
 use Rattle.cache.specs.Bytes.{afterLearn}
 use Rattle.cache.specs.Calls.{Changed, changed, learnCall, heldBy}
-use Rattle.record.proofs.EntryLaws.{form-length}
-use Rattle.cache.proofs.LentLaws.{row-applies, row-passes, no-row, not-is, not-isn't}
+use Rattle.refusal.proofs.CallLaws.{row-applies, row-passes, no-row}
+use Rattle.cache.proofs.LentLaws.{not-is, not-isn't}
 use Rattle.cache.proofs.LentLaws.{memory-own, memory-form, memory-held, memory-passes, memory-refuses}
 use native.Mathlib.Omega.{arith}
 use borrow.Author.Needs.{needs}

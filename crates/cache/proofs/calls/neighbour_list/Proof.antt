@@ -9,7 +9,7 @@ use borrow.Author.Tests.{lt-ltb, le-ltb}
 use Rattle.record.specs.Record.{keyOf}
 use Rattle.cache.specs.Bytes.{afterList, countsOf}
 use Rattle.cache.specs.Calls.{Written, written, listCall, heldBy}
-use Rattle.cache.proofs.LentLaws.{row-applies, row-passes, no-row}
+use Rattle.refusal.proofs.CallLaws.{row-applies, row-passes, no-row}
 use Rattle.cache.proofs.LentLaws.{memory-own, memory-form, memory-held, memory-passes, memory-refuses}
 use Rattle.cache.specs.declared.listing.Counts.{Counts}
 use native.Mathlib.Omega.{arith}

@@ -12,7 +12,7 @@ use Rattle.record.specs.Record.{keyOf}
 use Rattle.record.specs.Entry.{recordOf}
 use Rattle.refusal.specs.Table.{when, orRefuse}
 use Rattle.table.specs.Rows.{rows}
-use Rattle.cache.proofs.LentLaws.{row-applies, row-passes, no-row}
+use Rattle.refusal.proofs.CallLaws.{row-applies, row-passes, no-row}
 use Rattle.waiting.specs.Form.{anyOf}
 use Rattle.waiting.specs.Seek.{hasId}
 use Rattle.gauge_plan.specs.Flood.{floodPlan}

@@ -1,0 +1,181 @@
+-- The output changes in its first bytes alone.
+-- In this order: bytes at its start; datagrams sent; a datagram received, by its plan; the tick and the neighbour list. Assumes nothing.
+use mathlib.Core.Path.{_≡_, refl, sym, ap, subst, _∙_}
+use mathlib.Core.Bool.{Bool, true, false, cond}
+use mathlib.Core.List.{List, [], _∷_, _++_, append-nil}
+use Prim.Native.Nat.{ℕ, _+_, _*_, _≤_}
+use native.Mathlib.Nat.{zero-add}
+use native.Mathlib.Omega.{arith}
+use lib.ListN.{length, getD, drop, length-append, length-take}
+use lib.Seq.{take-all}
+use borrow.Author.Tests.{ltb-false}
+use Rattle.octet.specs.Part.{part, splice}
+use Rattle.octet.proofs.PartLaws.{length-part, length-splice, drop-splice}
+use Rattle.key.specs.Around.{below, above, sideOf, nearness}
+use Rattle.key.specs.Number.{keyAt}
+use Rattle.record.specs.Record.{keyOf, countOf, recordForm}
+use Rattle.record.specs.Entry.{recordOf}
+use Rattle.record.proofs.EntryLaws.{form-length}
+use Rattle.refusal.proofs.CallLaws.{or-known}
+use Rattle.table.specs.Rows.{rows, joined}
+use Rattle.table.proofs.RowLaws.{joined-append, rows-length}
+use Rattle.kept.specs.Neighbours.{nearestFirst}
+use Rattle.kept.specs.Plain.{neighbours, neighbourList}
+use Rattle.cache.specs.Form.{keysOf}
+use Rattle.cache.specs.Bytes.{countsOf, keyBytes, afterList}
+use Rattle.cache.specs.Calls.{Written, written, heldBy, listWrong, listCall}
+use Rattle.cache.specs.Closest.{candidates, closestOf}
+use Rattle.cache.proofs.ListLaws.{keys-length}
+use Rattle.waiting.specs.Form.{usedOf, placesOf}
+use Rattle.waiting.specs.Tick.{listed, idBytes}
+use Rattle.waiting.specs.Call as W
+use Rattle.waiting.proofs.TickLaws.{ids-length, listed-few}
+use Rattle.waiting.proofs.FormLaws.{used-few}
+use Rattle.wire_write.specs.Sent.{cpaMade, closestMade}
+use Rattle.gauge_plan.specs.Rooms.{idAfter, inquireRoom}
+use Rattle.gauge_plan.specs.declared.Plan.{Plan}
+use Rattle.gauge_plan.specs.declared.Plan.the-variants.{Refuse, Flood, Revoke, Learn, Free, Certify, Show}
+use Rattle.gauge_commit.specs.Sending.{lengths, sending, acks, asks}
+use Rattle.gauge_commit.proofs.LengthLaws.{inquire-length, cpa-length, closest-length}
+use Rattle.gauge_commit.proofs.SentLaws.{joined-one, asked, acks-room, record-long}
+use Rattle.gauge_commit.proofs.PlaceLaws.{closest-formed}
+use Rattle.gauge.specs.Lent.{Receive}
+use Rattle.gauge.specs.Receive.{receivePlan, carried, receiveCall}
+use Rattle.gauge.specs.Counts.{gaugeTick, gaugeList}
+use Rattle.gauge.proofs.ReceiveLaws.{Known, known}
+use Rattle.gauge_laws.specs.Calls.{Call, receives, ticks, lists}
+use Rattle.gauge_laws.specs.Statements.{OnlyFirst, FirstBytes}
+
+-- ---- bytes at its start
+
+pub none-first : (out : List ℕ) → OnlyFirst 0 out out
+none-first out = (omega arith, refl, refl)
+
+pub start-first : (n : ℕ) (b out : List ℕ) → length b ≡ n → n ≤ length out → OnlyFirst n out (splice 0 b out)
+start-first n b out e h =
+    let is : 0 + length b ≡ n = zero-add (length b) ∙ e in (
+      h,
+      length-splice 0 b out (omega (arith, is)),
+      ap (λ (k : ℕ). drop k (splice 0 b out)) (sym is) ∙ drop-splice 0 b out (omega (arith, is)) ∙ ap (λ (k : ℕ). drop k out) is,
+    )
+
+-- ---- datagrams sent
+
+-- two at most, as their lengths say
+pub sent-length : (ds : List (List ℕ)) → length ds ≤ 2 → length (joined ds) ≡ lengths ds .first + lengths ds .second
+unfolding joined
+sent-length [] h = refl
+sent-length (d ∷ []) h = omega (arith, ap length (append-nil d))
+sent-length (d ∷ e ∷ []) h = ap (λ (l : List ℕ). length (d ++ l)) (append-nil e) ∙ length-append d e
+sent-length (d ∷ e ∷ f ∷ ds) h = absurd (omega arith)
+
+pub sent-first : (ds : List (List ℕ)) (out : List ℕ) → length ds ≤ 2 → length (joined ds) ≤ length out
+    → OnlyFirst (lengths ds .first + lengths ds .second) out (sending ds out)
+sent-first ds out few room =
+    let e = sent-length ds few in
+    start-first (lengths ds .first + lengths ds .second) (joined ds) out e (omega arith)
+
+-- ---- a datagram received, by its plan
+
+-- the ACK and the INQUIRE are two at most, and as long as the plan has room for
+module _ (major minor id acked : ℕ) (n : Bool) where
+  pub acks-few : (silent : Bool) → length (acks major minor id silent acked n) ≤ 1
+  acks-few true = omega arith
+  acks-few false = omega arith
+
+  module _ (nonce r : List ℕ) (long : length r ≡ 100) (fresh : length nonce ≡ 16) where
+    asks-few : (opens : Bool) → length (asks major minor id opens nonce r) ≤ 1
+    asks-few true = omega arith
+    asks-few false = omega arith
+
+    asks-room : (opens : Bool) → length (joined (asks major minor id opens nonce r)) ≡ inquireRoom opens
+    unfolding joined
+    asks-room true =
+        ap length (joined-one (asked major minor id nonce r))
+        ∙ inquire-length major minor (idAfter id) (part 0 32 r) nonce (length-part 0 32 r (omega arith)) fresh
+    asks-room false = refl
+
+    pub both-few : (silent opens : Bool) → length (acks major minor id silent acked n ++ asks major minor id opens nonce r) ≤ 2
+    both-few silent opens =
+        omega (arith, length-append (acks major minor id silent acked n) (asks major minor id opens nonce r), acks-few silent, asks-few opens)
+
+    pub both-room : (silent opens : Bool) {room : ℕ} → length (joined (acks major minor id silent acked n)) + inquireRoom opens ≤ room
+        → length (joined (acks major minor id silent acked n ++ asks major minor id opens nonce r)) ≤ room
+    both-room silent opens h =
+        let xs = acks major minor id silent acked n in
+        let ys = asks major minor id opens nonce r in
+        omega (arith, ap length (joined-append xs ys), length-append (joined xs) (joined ys), asks-room opens)
+
+one-room : (d : List ℕ) {n room : ℕ} → length d ≡ n → n ≤ room → length (joined (d ∷ [])) ≤ room
+one-room d e h = omega (arith, ap length (joined-one d))
+
+-- of a record in form, the AUTHORITY that shows it
+shown-room : (major minor id acked : ℕ) (r : List ℕ) {room : ℕ} → recordForm r ≡ true → 80 + 16 * countOf r ≤ room
+    → length (joined (closestMade major minor id acked r 0 .bytes ∷ [])) ≤ room
+shown-room major minor id acked r formed h =
+    let long = form-length r formed in
+    let whole : part 0 100 r ≡ r = take-all 100 r (omega arith) in
+    one-room (closestMade major minor id acked r 0 .bytes)
+    (closest-length major minor id r 0 (omega arith) (ap recordForm whole ∙ formed) acked ∙ ap (λ (l : List ℕ). 80 + 16 * countOf l) whole) h
+
+plan-first : (l : Receive) (p : Plan) → Known l p → OnlyFirst (carried l p .given .first + carried l p .given .second) (l .output) (carried l p .output)
+unfolding carried
+plan-first l (Refuse n) k = none-first (l .output)
+plan-first l (Flood u s n a opens start len) k =
+    let r = recordOf (part start len (l .datagram)) in
+    let ds = acks (l .major) (l .minor) (l .id) s a n ++ asks (l .major) (l .minor) (l .id) opens (l .nonce) r in
+    let long = record-long (part start len (l .datagram)) (k .entry) in
+    sent-first ds (l .output) (both-few (l .major) (l .minor) (l .id) a n (l .nonce) r long (k .hands .nonced) s opens)
+    (both-room (l .major) (l .minor) (l .id) a n (l .nonce) r long (k .hands .nonced) s opens
+    (omega (arith, acks-room (l .major) (l .minor) (l .id) a n s, k .plans .fits-in)))
+plan-first l (Revoke h u s n a) k =
+    sent-first (acks (l .major) (l .minor) (l .id) s a n) (l .output) (omega (arith, acks-few (l .major) (l .minor) (l .id) a n s))
+    (omega (arith, acks-room (l .major) (l .minor) (l .id) a n s, k .plans .fits-in))
+plan-first l (Learn h u at) k = none-first (l .output)
+plan-first l (Free h u at n) k = none-first (l .output)
+plan-first l (Certify a) k =
+    let d = cpaMade (l .major) (l .minor) (l .id) a (l .cpa) .bytes in
+    sent-first (d ∷ []) (l .output) (omega arith) (one-room d (cpa-length (l .major) (l .minor) (l .id) a (l .cpa)) (k .plans .fits-in))
+plan-first l (Show h a target) k =
+    let r = closestOf (keyAt target (l .datagram)) (candidates (l .own) (rows 100 h (l .cache))) in
+    sent-first (closestMade (l .major) (l .minor) (l .id) a r 0 .bytes ∷ []) (l .output) (omega arith)
+    (shown-room (l .major) (l .minor) (l .id) a r
+    (closest-formed (keyAt target (l .datagram)) (keyOf (l .own)) (l .own) (l .cache) (rows 100 h (l .cache)) (k .ready .owned) (k .ready .form))
+    (k .plans .fits-in))
+
+-- ---- the tick and the neighbour list
+
+tick-first : (own waiting output : List ℕ) → OnlyFirst (4 * W.tickCall own waiting output .count) output (W.tickCall own waiting output .output)
+unfolding W.tickCall W.tickDone W.tickRefusals
+tick-first own waiting output =
+    or-known (λ (t : W.Ticked). OnlyFirst (4 * t .count) output (t .output)) (λ (n : ℕ). W.handed n 0 waiting output) (W.tickRefusals own waiting output)
+    (W.tickDone waiting output)
+    (λ n. none-first output)
+    (λ f.
+    let ids = listed (placesOf waiting) in
+    let room = ltb-false (length output) 64 (f .1 .0) in
+    start-first (4 * length ids) (idBytes ids) output (ids-length ids)
+    (omega (arith, listed-few (placesOf waiting), rows-length 140 (usedOf waiting) waiting, used-few waiting)))
+
+list-first : (own cache output : List ℕ)
+    → OnlyFirst (32 * (listCall own cache output .answer .below + listCall own cache output .answer .above)) output (listCall own cache output .output)
+unfolding listCall
+list-first own cache output =
+    let k = keyOf own in
+    let keys = keysOf (heldBy own cache) in
+    let counts = countsOf k (heldBy own cache) in
+    or-known (λ (w : Written). OnlyFirst (32 * (w .answer .below + w .answer .above)) output (w .output))
+    (λ (n : ℕ). written (record { number = n; below = 0; above = 0 }) output) (listWrong own cache output)
+    (written (record { number = 0; below = counts .below; above = counts .above }) (afterList k (heldBy own cache) output))
+    (λ n. none-first output)
+    (λ f.
+    let room = ltb-false (length output) 320 (f .1 .1 .0) in
+    start-first (32 * (counts .below + counts .above)) (keyBytes (neighbourList k keys)) output
+    (keys-length (neighbourList k keys) ∙ ap (λ (n : ℕ). 32 * n) (length-append (neighbours k below keys) (neighbours k above keys)))
+    (omega (arith, length-take 5 (nearestFirst (sideOf k) (nearness k) below keys), length-take 5 (nearestFirst (sideOf k) (nearness k) above keys))))
+
+pub first-bytes : FirstBytes
+unfolding receiveCall gaugeTick gaugeList
+first-bytes (receives l) = plan-first l (receivePlan l) (known l)
+first-bytes (ticks own waiting output) = tick-first own waiting output
+first-bytes (lists own cache output) = list-first own cache output

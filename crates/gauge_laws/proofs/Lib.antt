@@ -1,0 +1,4 @@
+-- The laws of specs/, for the crates above.
+pub mod RefusedLaws
+pub mod FirstLaws
+pub mod Coincide

@@ -32,7 +32,7 @@ use Rattle.wire_read.specs.declared.Answer.the-variants as M
 use Rattle.gauge_plan.specs.Memory.{memoryOf, handsFit}
 use Rattle.gauge_plan.specs.Rooms.{ackRoom, inquireRoom}
 use Rattle.gauge_plan.specs.Flood.{notOurs, mustAsk, floodRefusals, revokeRefusals, floodPlan, revokePlan}
-use Rattle.gauge_plan.specs.Answering.{placeOf, authorityPlan, ackPlan, inquirePlan, lookupPlan}
+use Rattle.gauge_plan.specs.Answering.{placeOf, authorityPlan, ackPlan, inquirePlan, lookupPlan, authorityRefusals, ackRefusals, inquireRefusals, lookupRefusals}
 use Rattle.gauge_plan.specs.declared.Plan.{Plan}
 use Rattle.gauge_plan.specs.declared.Plan.the-variants.{Refuse, Flood, Revoke, Learn, Free, Certify, Show}
 use Rattle.gauge_plan.specs.declared.memory.Memory.{Memory}
@@ -185,7 +185,7 @@ module _ (l : Receive) (h u : ℕ) (ready : memory.Ready (l .own) (l .cache) (l 
       let ps = rows 140 u (l .waiting) in
       let k = keyAt 0 (l .key) in
       let K : Plan → Type 0 = answering.KnownAuthority ps h u (l .verdict) k acked cpa in
-      or-known (λ (p : Plan). K p → Known l p) Refuse (answering.authorityRefusals ps (l .verdict) k acked cpa) (Learn h u (placeOf (seek (isAt acked 2) 0 ps)))
+      or-known (λ (p : Plan). K p → Known l p) Refuse (authorityRefusals ps (l .verdict) k acked cpa) (Learn h u (placeOf (seek (isAt acked 2) 0 ps)))
       (λ m k. tt)
       (λ f k. record { acked = acked; cpa = cpa; ready = ready; hands = hands; plans = k })
       (answering.known-authority ps h u (l .verdict) k acked cpa)
@@ -195,7 +195,7 @@ module _ (l : Receive) (h u : ℕ) (ready : memory.Ready (l .own) (l .cache) (l 
   ack-known acked n =
       let ps = rows 140 u (l .waiting) in
       let K : Plan → Type 0 = answering.KnownAck ps h u acked n in
-      or-known (λ (p : Plan). K p → Known l p) Refuse (answering.ackRefusals ps acked) (Free h u (placeOf (seek (isAt acked 1) 0 ps)) n)
+      or-known (λ (p : Plan). K p → Known l p) Refuse (ackRefusals ps acked) (Free h u (placeOf (seek (isAt acked 1) 0 ps)) n)
       (λ m k. tt)
       (λ f k. record { acked = acked; ready = ready; hands = hands; plans = k })
       (answering.known-ack ps h u acked n)
@@ -205,7 +205,7 @@ module _ (l : Receive) (h u : ℕ) (ready : memory.Ready (l .own) (l .cache) (l 
   inquire-known a validate =
       let own = keyOf (l .own) in
       let K : Plan → Type 0 = answering.KnownInquire own (length (l .cpa)) (length (l .output)) (l .datagram) a validate in
-      or-known (λ (p : Plan). K p → Known l p) Refuse (answering.inquireRefusals own (length (l .cpa)) (length (l .output)) (l .datagram) validate) (Certify a)
+      or-known (λ (p : Plan). K p → Known l p) Refuse (inquireRefusals own (length (l .cpa)) (length (l .output)) (l .datagram) validate) (Certify a)
       (λ m k. tt)
       (λ f k. record { held = h; used = u; validate = validate; ready = ready; hands = hands; plans = k })
       (answering.known-inquire own (length (l .cpa)) (length (l .output)) (l .datagram) a validate)
@@ -216,7 +216,7 @@ module _ (l : Receive) (h u : ℕ) (ready : memory.Ready (l .own) (l .cache) (l 
   lookup-known a target within =
       let recs = rows 100 h (l .cache) in
       let K : Plan → Type 0 = answering.KnownLookup (l .own) recs h (length (l .output)) (l .datagram) a target in
-      or-known (λ (p : Plan). K p → Known l p) Refuse (answering.lookupRefusals (l .own) recs (length (l .output)) (l .datagram) target) (Show h a target)
+      or-known (λ (p : Plan). K p → Known l p) Refuse (lookupRefusals (l .own) recs (length (l .output)) (l .datagram) target) (Show h a target)
       (λ m k. tt)
       (λ f k. record { used = u; ready = ready; hands = hands; within = within; plans = k })
       (answering.known-lookup (l .own) recs h (length (l .output)) (l .datagram) a target)

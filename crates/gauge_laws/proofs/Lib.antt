@@ -2,3 +2,4 @@
 pub mod RefusedLaws
 pub mod FirstLaws
 pub mod Coincide
+pub mod TableLaws

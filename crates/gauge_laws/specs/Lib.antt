@@ -1,3 +1,4 @@
 pub mod Calls
 pub mod Statements
 pub mod Contracts
+pub mod Table

@@ -23,7 +23,7 @@ use Rattle.waiting.specs.declared.seek.Found.the-variants.{At, Nothing}
 use Rattle.waiting.proofs.PlaceLaws.{key-at}
 use Rattle.waiting.proofs.SeekLaws.{found-within, found-passes}
 use Rattle.gauge_plan.specs.Flood.{notOurs}
-use Rattle.gauge_plan.specs.Answering.{isNothing, placeOf, authorityPlan, ackPlan, inquirePlan, lookupPlan}
+use Rattle.gauge_plan.specs.Answering.{isNothing, placeOf, authorityPlan, ackPlan, inquirePlan, lookupPlan, authorityRefusals, ackRefusals, inquireRefusals, lookupRefusals}
 use Rattle.gauge_plan.specs.declared.Plan.{Plan}
 use Rattle.gauge_plan.specs.declared.Plan.the-variants.{Refuse, Flood, Revoke, Learn, Free, Certify, Show}
 
@@ -78,22 +78,6 @@ module _ (own : List ℕ) (recs : List (List ℕ)) (held room : ℕ) (d : List �
   lookup-by e = rw e refl
 
 -- ---- the tables, in document 01's order, and the plans by them
-
-abbrev pub authorityRefusals : List (List ℕ) → ℕ → ℕ → ℕ → Bool → List Refusal
-authorityRefusals ps verdict k acked cpa =
-    when 8 (isNothing (seek (isAt acked 2) 0 ps))
-    ∷ when 9 (not cpa || not (eqb verdict 1))
-    ∷ when 10 (not (eqb k (placeKey (getD ps (placeOf (seek (isAt acked 2) 0 ps)) []))))
-    ∷ []
-
-abbrev pub ackRefusals : List (List ℕ) → ℕ → List Refusal
-ackRefusals ps acked = when 8 (isNothing (seek (isAt acked 1) 0 ps)) ∷ []
-
-abbrev pub inquireRefusals : ℕ → ℕ → ℕ → List ℕ → ℕ → List Refusal
-inquireRefusals own size room d validate = when 12 (notOurs own validate d) ∷ when 15 (ltb room (40 + size)) ∷ []
-
-abbrev pub lookupRefusals : List ℕ → List (List ℕ) → ℕ → List ℕ → ℕ → List Refusal
-lookupRefusals own recs room d target = when 15 (ltb room (80 + 16 * countOf (closestOf (keyAt target d) (candidates own recs)))) ∷ []
 
 pub authority-is : (ps : List (List ℕ)) (held used verdict k acked : ℕ) (cpa : Bool)
     → authorityPlan ps held used verdict k acked cpa

@@ -17,7 +17,7 @@ use Rattle.key.proofs.OrderLaws.{Stand, stand}
 use Rattle.key.proofs.OrderLaws.Stand.{below, equal, above}
 use Rattle.record.specs.Record.{keyOf, countOf, recordForm}
 use Rattle.refusal.specs.Table.{orRefuse, InOrder, byNumber}
-use Rattle.refusal.proofs.CallLaws.{or-known}
+use Rattle.refusal.proofs.CallLaws.{or-known, row-applies, row-passes}
 use Rattle.table.specs.Rows.{rows}
 use Rattle.table.proofs.RowLaws.{rows-length, row-at}
 use Rattle.kept.specs.Keys.{Every, Rising, plain}
@@ -25,7 +25,7 @@ use Rattle.cache.specs.Form.{Form, keysOf, heldIn, heldOf}
 use Rattle.cache.specs.Place.{further, findKey}
 use Rattle.cache.specs.declared.place.Found as C
 use Rattle.cache.specs.declared.place.Found.the-variants.{At, Before}
-use Rattle.cache.proofs.LentLaws.{row-applies, row-passes, not-is, not-isn't}
+use Rattle.cache.proofs.LentLaws.{not-is, not-isn't}
 use Rattle.waiting.specs.Form.{anyOf, usedOf}
 use Rattle.waiting.specs.Seek.{hasId, seek}
 use Rattle.waiting.specs.declared.seek.Found.{Found}

@@ -8,7 +8,7 @@ use lib.Dec.{eqb, ltb}
 use lib.ListN.{getD}
 use Rattle.key.specs.Number.{keyAt}
 use Rattle.record.specs.Record.{countOf}
-use Rattle.refusal.specs.Table.{when, orRefuse}
+use Rattle.refusal.specs.Table.{Refusal, when, orRefuse}
 use Rattle.cache.specs.Closest.{candidates, closestOf}
 use Rattle.waiting.specs.Place.{placeKey}
 use Rattle.waiting.specs.Seek.{seek, isAt}
@@ -28,28 +28,34 @@ placeOf (At i) = i
 placeOf Nothing = 0
 
 -- an AUTHORITY answers the inquiry that waits with the acked ID
+abbrev pub authorityRefusals : List (List ℕ) → ℕ → ℕ → ℕ → Bool → List Refusal
+authorityRefusals ps verdict k acked cpa =
+    when 8 (isNothing (seek (isAt acked 2) 0 ps))
+    ∷ when 9 (not cpa || not (eqb verdict 1))
+    ∷ when 10 (not (eqb k (placeKey (getD ps (placeOf (seek (isAt acked 2) 0 ps)) []))))
+    ∷ []
+
 unfoldable pub authorityPlan : List (List ℕ) → ℕ → ℕ → ℕ → ℕ → ℕ → Bool → Plan
 authorityPlan ps held used verdict k acked cpa =
-    let found = seek (isAt acked 2) 0 ps in
-    orRefuse Refuse
-    (when 8 (isNothing found)
-    ∷ when 9 (not cpa || not (eqb verdict 1))
-    ∷ when 10 (not (eqb k (placeKey (getD ps (placeOf found) []))))
-    ∷ [])
-    (Learn held used (placeOf found))
+    orRefuse Refuse (authorityRefusals ps verdict k acked cpa) (Learn held used (placeOf (seek (isAt acked 2) 0 ps)))
 
 -- an ACK answers the flood that waits with the acked ID
+abbrev pub ackRefusals : List (List ℕ) → ℕ → List Refusal
+ackRefusals ps acked = when 8 (isNothing (seek (isAt acked 1) 0 ps)) ∷ []
+
 unfoldable pub ackPlan : List (List ℕ) → ℕ → ℕ → ℕ → Bool → Plan
-ackPlan ps held used acked n =
-    let found = seek (isAt acked 1) 0 ps in
-    orRefuse Refuse (when 8 (isNothing found) ∷ []) (Free held used (placeOf found) n)
+ackPlan ps held used acked n = orRefuse Refuse (ackRefusals ps acked) (Free held used (placeOf (seek (isAt acked 1) 0 ps)) n)
 
 -- an INQUIRE for our key is answered with the own CPA, of so many bytes
+abbrev pub inquireRefusals : ℕ → ℕ → ℕ → List ℕ → ℕ → List Refusal
+inquireRefusals own size room d validate = when 12 (notOurs own validate d) ∷ when 15 (ltb room (40 + size)) ∷ []
+
 unfoldable pub inquirePlan : ℕ → ℕ → ℕ → List ℕ → ℕ → ℕ → Plan
-inquirePlan own size room d acked validate =
-    orRefuse Refuse (when 12 (notOurs own validate d) ∷ when 15 (ltb room (40 + size)) ∷ []) (Certify acked)
+inquirePlan own size room d acked validate = orRefuse Refuse (inquireRefusals own size room d validate) (Certify acked)
 
 -- a LOOKUP is answered with the record closest to its target
+abbrev pub lookupRefusals : List ℕ → List (List ℕ) → ℕ → List ℕ → ℕ → List Refusal
+lookupRefusals own recs room d target = when 15 (ltb room (80 + 16 * countOf (closestOf (keyAt target d) (candidates own recs)))) ∷ []
+
 unfoldable pub lookupPlan : List ℕ → List (List ℕ) → ℕ → ℕ → List ℕ → ℕ → ℕ → Plan
-lookupPlan own recs held room d acked target =
-    orRefuse Refuse (when 15 (ltb room (80 + 16 * countOf (closestOf (keyAt target d) (candidates own recs)))) ∷ []) (Show held acked target)
+lookupPlan own recs held room d acked target = orRefuse Refuse (lookupRefusals own recs room d target) (Show held acked target)

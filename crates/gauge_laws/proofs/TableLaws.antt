@@ -1,0 +1,239 @@
+-- The number of a datagram received is the first of its table that applies: given exactly when it applies and none lower does. Assumes nothing.
+use mathlib.Core.Path.{_≡_, refl, sym, ap, subst, _∙_}
+use mathlib.Core.Bool.{Bool, true, false, not, cond}
+use mathlib.Core.List.{List, [], _∷_, _++_}
+use Prim.Native.Nat.{ℕ, _≤_, _<_}
+use native.Mathlib.Decide.{decLe}
+use native.Mathlib.Omega.{arith}
+use lib.Dec.{eqb}
+use mathlib.Core.Logic.{_↔_}
+use lib.ListN.{length}
+use Rattle.octet.specs.Part.{part}
+use Rattle.key.specs.Number.{keyAt}
+use Rattle.record.specs.Record.{keyOf}
+use Rattle.record.specs.Entry.{recordOf}
+use Rattle.refusal.specs.Table.{Refusal, when, firstOf, appliesIn, orRefuse, InOrder, byNumber}
+use Rattle.refusal.proofs.TableLaws.{AllFail, all-fail, number-exactly}
+use Rattle.refusal.proofs.CallLaws.{number-is, refusal-is, all-pass}
+use Rattle.cache.specs.Form.{heldIn, heldOf}
+use Rattle.waiting.specs.Form.{usedOf, placesOf}
+use Rattle.wire_fields.specs.Refusals as fields
+use Rattle.wire_fields.specs.declared.Part.{Part}
+use Rattle.wire_fields.specs.declared.Part.the-variants.{Here, Absent}
+use Rattle.wire_read.specs.Answers as R
+use Rattle.wire_read.specs.declared.Head.{Head}
+use Rattle.wire_read.specs.declared.Answer as T
+use Rattle.wire_read.specs.declared.Answer.the-variants as M
+use Rattle.gauge_plan.specs.Memory.{tablesFit, memoryOf, handsFit}
+use Rattle.gauge_plan.specs.Flood.{floodPlan, revokePlan}
+use Rattle.gauge_plan.specs.Answering.{authorityPlan, ackPlan, inquirePlan, lookupPlan}
+use Rattle.gauge_plan.specs.declared.Plan.{Plan}
+use Rattle.gauge_plan.specs.declared.Plan.the-variants.{Refuse, Flood, Revoke, Learn, Free, Certify, Show}
+use Rattle.gauge_plan.specs.declared.memory.Memory.{Memory}
+use Rattle.gauge_plan.specs.declared.memory.Memory.the-variants.{Unfit, Fit}
+use Rattle.gauge.specs.Lent.{Receive}
+use Rattle.gauge.specs.Receive.{byEntry, planFor, planIn, receivePlan, carried, receiveCall}
+use Rattle.gauge_laws.specs.Table.{floodRows, messageRows, receiveTable}
+
+-- ---- the number of a plan
+
+abbrev numberOf : Plan → ℕ
+numberOf (Refuse n) = n
+numberOf (Flood u s n a o at size) = 0
+numberOf (Revoke h u s n a) = 0
+numberOf (Learn h u at) = 0
+numberOf (Free h u at m) = 0
+numberOf (Certify a) = 0
+numberOf (Show h a at) = 0
+
+carried-number : (l : Receive) (p : Plan) → carried l p .given .number ≡ numberOf p
+unfolding carried
+carried-number l (Refuse n) = refl
+carried-number l (Flood u s n a o at size) = refl
+carried-number l (Revoke h u s n a) = refl
+carried-number l (Learn h u at) = refl
+carried-number l (Free h u at m) = refl
+carried-number l (Certify a) = refl
+carried-number l (Show h a at) = refl
+
+by-table : (rs : List Refusal) (done : Plan) → numberOf done ≡ 0 → numberOf (orRefuse Refuse rs done) ≡ firstOf rs
+by-table rs done e = number-is numberOf Refuse (λ n. refl) done e rs
+
+-- ---- two tables, one behind the other
+
+first-behind : (rs ss : List Refusal) → AllFail rs → firstOf (rs ++ ss) ≡ firstOf ss
+unfolding firstOf
+first-behind [] ss a = refl
+first-behind (r ∷ rs) ss a = rw (a .0) (first-behind rs ss (a .1))
+
+before-by : (b : Bool) (n : ℕ) (rs ss : List Refusal) → (0 < firstOf rs → firstOf (rs ++ ss) ≡ firstOf rs) → 0 < cond b n (firstOf rs)
+    → cond b n (firstOf (rs ++ ss)) ≡ cond b n (firstOf rs)
+before-by true n rs ss f p = refl
+before-by false n rs ss f p = f p
+
+first-before : (rs ss : List Refusal) → 0 < firstOf rs → firstOf (rs ++ ss) ≡ firstOf rs
+unfolding firstOf
+first-before [] ss p = absurd (omega arith)
+first-before (r ∷ rs) ss p = before-by (r .applies) (r .number) rs ss (first-before rs ss) p
+
+-- ---- by the message
+
+abbrev IsMessage : T.Answer → Type 0
+IsMessage (M.Refused n) = ⊥
+IsMessage (M.Solicit head entry nonce) = Unit {0}
+IsMessage (M.Advertise head acked keys nonce) = Unit {0}
+IsMessage (M.Request head flags split nonce keys credential signature key) = Unit {0}
+IsMessage (M.Flood head d validate token revoke entry reached) = Unit {0}
+IsMessage (M.Inquire head a x c validate nonce credential signature key) = Unit {0}
+IsMessage (M.Authority head acked fields) = Unit {0}
+IsMessage (M.Ack head acked flags n) = Unit {0}
+IsMessage (M.Lookup head a precision criteria reason target validate entry path credential signature key) = Unit {0}
+
+either : {A : Type 0} (P : A → Type 0) (b : Bool) (x y : A) → P x → P y → P (cond b x y)
+either P true x y p q = p
+either P false x y p q = q
+
+shown-message : (d : List ℕ) (t : ℕ) (ps : List Part) → IsMessage (R.shown d (fields.found t ps))
+unfolding R.shown
+shown-message d t ps =
+    let P : T.Answer → Type 0 = IsMessage in
+    either P (eqb t 1) _ _ tt (either P (eqb t 2) _ _ tt (either P (eqb t 3) _ _ tt (either P (eqb t 4) _ _ tt (either P (eqb t 7) _ _ tt
+    (either P (eqb t 8) _ _ tt (either P (eqb t 9) _ _ tt tt))))))
+
+abbrev used : Receive → ℕ
+used l = usedOf (l .waiting)
+
+abbrev held : Receive → ℕ
+held l = heldIn (keyOf (l .own)) (l .cache)
+
+entry-number : (l : Receive) (head : Head) (s : Bool) (validate : ℕ) (entry : Part)
+    → numberOf (byEntry l (held l) (used l) head s validate entry) ≡ firstOf (floodRows l s validate entry)
+unfolding floodPlan revokePlan heldOf
+entry-number l head s validate (Here start len) = by-table _ _ refl
+entry-number l head s validate Absent = by-table _ _ refl
+
+message-number : (l : Receive) (a : T.Answer) → IsMessage a → numberOf (planFor l (held l) (used l) a) ≡ firstOf (messageRows l a)
+unfolding planFor inquirePlan authorityPlan ackPlan lookupPlan heldOf firstOf
+message-number l (M.Refused n) w = absurd w
+message-number l (M.Solicit head entry nonce) w = refl
+message-number l (M.Advertise head acked keys nonce) w = refl
+message-number l (M.Request head flags split nonce keys credential signature key) w = refl
+message-number l (M.Flood head s validate token revoke entry reached) w = entry-number l head s validate entry
+message-number l (M.Inquire head a x c validate nonce credential signature key) w = by-table _ _ refl
+message-number l (M.Authority head acked fields) w = by-table _ _ refl
+message-number l (M.Ack head acked flags n) w = by-table _ _ refl
+message-number l (M.Lookup head a precision criteria reason target validate entry path credential signature key) w = by-table _ _ refl
+
+-- ---- reading, then the message
+
+abbrev foundNumber : fields.Found → ℕ
+foundNumber (fields.refused n) = n
+foundNumber (fields.found t ps) = 0
+
+-- what is found gives the number of the rows of reading and of the message
+abbrev Numbered : Receive → fields.Found → Type 0
+Numbered l x =
+    numberOf (planFor l (held l) (used l) (R.shown (l .datagram) x))
+    ≡ firstOf (fields.refusals (l .datagram) (l .major) ++ messageRows l (R.shown (l .datagram) x))
+
+module _ (l : Receive) where
+  reading-order : InOrder byNumber 1 (fields.refusals (l .datagram) (l .major))
+  reading-order = (
+    omega arith,
+    omega arith,
+    (
+      omega arith,
+      omega arith,
+      (omega arith, omega arith, (omega arith, omega arith, (omega arith, omega arith, (omega arith, omega arith, tt)))),
+    ),
+  )
+
+  refused-number : 0 < firstOf (fields.refusals (l .datagram) (l .major)) → Numbered l (fields.refused (firstOf (fields.refusals (l .datagram) (l .major))))
+  unfolding planFor R.shown
+  refused-number p = sym (first-before (fields.refusals (l .datagram) (l .major)) _ p)
+
+  found-number : (t : ℕ) (ps : List Part) → AllFail (fields.refusals (l .datagram) (l .major)) → Numbered l (fields.found t ps)
+  found-number t ps a =
+      message-number l (R.shown (l .datagram) (fields.found t ps)) (shown-message (l .datagram) t ps)
+      ∙ sym (first-behind (fields.refusals (l .datagram) (l .major)) _ a)
+
+  read-by : (rs : List Refusal) (done : fields.Found) → foundNumber done ≡ 0 → InOrder byNumber 1 rs
+      → (0 < firstOf rs → Numbered l (fields.refused (firstOf rs))) → (AllFail rs → Numbered l done) → Numbered l (orRefuse fields.refused rs done)
+  read-by rs done z o p q = go (decLe 1 (firstOf rs))
+    where
+      go : Dec (1 ≤ firstOf rs) → Numbered l (orRefuse fields.refused rs done)
+      go (yes h) = subst (Numbered l) (sym (refusal-is foundNumber fields.refused (λ n. refl) done z rs h)) (p h)
+      go (no h) = let a = all-fail byNumber rs 1 o (omega arith) in subst (Numbered l) (sym (all-pass fields.refused rs done a)) (q a)
+
+  read-number : Numbered l (fields.foundIn (l .datagram) (l .major))
+  unfolding fields.foundIn
+  read-number = read-by (fields.refusals (l .datagram) (l .major)) _ refl reading-order refused-number (found-number _ _)
+
+  -- ---- memory and what is handed in, then the datagram
+
+  hands-number : (b : Bool) → numberOf (orRefuse Refuse (when 1 (not b) ∷ []) (planFor l (held l) (used l) (R.answer (l .datagram) (l .major))))
+      ≡ firstOf (when 1 (not b) ∷ (fields.refusals (l .datagram) (l .major) ++ messageRows l (R.answer (l .datagram) (l .major))))
+  unfolding orRefuse firstOf
+  hands-number true = read-number
+  hands-number false = refl
+
+  memory-number : (b : Bool) → numberOf (planIn l (cond b (Fit (held l) (used l)) Unfit))
+      ≡ firstOf (when 1 (not b) ∷ when 1 (not (handsFit (l .cpa) (l .nonce) (l .key)))
+      ∷ (fields.refusals (l .datagram) (l .major) ++ messageRows l (R.answer (l .datagram) (l .major))))
+  unfolding firstOf
+  memory-number true = hands-number (handsFit (l .cpa) (l .nonce) (l .key))
+  memory-number false = refl
+
+  pub receive-number : receiveCall l .given .number ≡ firstOf (receiveTable l)
+  unfolding receiveCall receivePlan memoryOf
+  receive-number = carried-number l (receivePlan l) ∙ memory-number (tablesFit (l .own) (l .cache) (l .waiting))
+
+  -- ---- the order of the rows
+
+  flood-rows : (s : Bool) (validate : ℕ) (entry : Part) → InOrder byNumber 7 (floodRows l s validate entry)
+  flood-rows s validate (Here start len) = (omega arith, omega arith, (omega arith, omega arith, (omega arith, omega arith, (omega arith, omega arith, tt))))
+  flood-rows s validate Absent = (omega arith, omega arith, (omega arith, omega arith, (omega arith, omega arith, tt)))
+
+  message-order : (a : T.Answer) → InOrder byNumber 7 (messageRows l a)
+  message-order (M.Refused n) = tt
+  message-order (M.Solicit head entry nonce) = (omega arith, omega arith, tt)
+  message-order (M.Advertise head acked keys nonce) = (omega arith, omega arith, tt)
+  message-order (M.Request head flags split nonce keys credential signature key) = (omega arith, omega arith, tt)
+  message-order (M.Flood head s validate token revoke entry reached) = flood-rows s validate entry
+  message-order (M.Inquire head a x c validate nonce credential signature key) = (omega arith, omega arith, (omega arith, omega arith, tt))
+  message-order (M.Authority head acked fields) = (omega arith, omega arith, (omega arith, omega arith, (omega arith, omega arith, tt)))
+  message-order (M.Ack head acked flags n) = (omega arith, omega arith, tt)
+  message-order (M.Lookup head a precision criteria reason target validate entry path credential signature key) = (omega arith, omega arith, tt)
+
+  pub receive-order : InOrder byNumber 1 (receiveTable l)
+  receive-order = (
+    omega arith,
+    omega arith,
+    (
+      omega arith,
+      omega arith,
+      (
+        omega arith,
+        omega arith,
+        (
+          omega arith,
+          omega arith,
+          (
+            omega arith,
+            omega arith,
+            (
+              omega arith,
+              omega arith,
+              (omega arith, omega arith, (omega arith, omega arith, message-order (R.answer (l .datagram) (l .major)))),
+            ),
+          ),
+        ),
+      ),
+    ),
+  )
+
+  pub receive-exactly : (n : ℕ) → 0 < n
+      → (receiveCall l .given .number ≡ n) ↔ ((appliesIn n (receiveTable l) ≡ true) × ((m : ℕ) → m < n → appliesIn m (receiveTable l) ≡ false))
+  receive-exactly n p = subst
+      (λ (x : ℕ). (x ≡ n) ↔ ((appliesIn n (receiveTable l) ≡ true) × ((m : ℕ) → m < n → appliesIn m (receiveTable l) ≡ false)))
+      (sym receive-number) (number-exactly (receiveTable l) 1 n receive-order p)

@@ -1,12 +1,12 @@
 -- The output changes in its first bytes alone.
 -- In this order: bytes at its start; datagrams sent; a datagram received, by its plan; the tick and the neighbour list. Assumes nothing.
-use mathlib.Core.Path.{_≡_, refl, sym, ap, subst, _∙_}
-use mathlib.Core.Bool.{Bool, true, false, cond}
+use mathlib.Core.Path.{_≡_, refl, sym, ap, _∙_}
+use mathlib.Core.Bool.{Bool, true, false}
 use mathlib.Core.List.{List, [], _∷_, _++_, append-nil}
 use Prim.Native.Nat.{ℕ, _+_, _*_, _≤_}
 use native.Mathlib.Nat.{zero-add}
 use native.Mathlib.Omega.{arith}
-use lib.ListN.{length, getD, drop, length-append, length-take}
+use lib.ListN.{length, drop, length-append, length-take}
 use lib.Seq.{take-all}
 use borrow.Author.Tests.{ltb-false}
 use Rattle.octet.specs.Part.{part, splice}
@@ -43,7 +43,7 @@ use Rattle.gauge.specs.Lent.{Receive}
 use Rattle.gauge.specs.Receive.{receivePlan, carried, receiveCall}
 use Rattle.gauge.specs.Counts.{gaugeTick, gaugeList}
 use Rattle.gauge.proofs.ReceiveLaws.{Known, known}
-use Rattle.gauge_laws.specs.Calls.{Call, receives, ticks, lists}
+use Rattle.gauge_laws.specs.Calls.{receives, ticks, lists}
 use Rattle.gauge_laws.specs.Statements.{OnlyFirst, FirstBytes}
 
 -- ---- bytes at its start

@@ -1,5 +1,11 @@
 -- The laws of specs/, for the crates above.
+pub mod NumberLaws
 pub mod RefusedLaws
 pub mod FirstLaws
+pub mod MovedLaws
+pub mod FormLaws
+pub mod ReadLaws
+pub mod SentLaws
+pub mod GoneLaws
 pub mod Coincide
 pub mod TableLaws

@@ -15,7 +15,7 @@ use Rattle.gauge_commit.specs.Sending.{answer}
 use Rattle.gauge.specs.Lent.{Receive, Handed, refusedWith}
 use Rattle.gauge.specs.Counts.{TickHanded, ticked, tickAnswered, gaugeTick, ListHanded, listed, listAnswered, gaugeList}
 use Rattle.gauge.specs.Receive.{receivePlan, carried, receiveCall}
-use Rattle.gauge_laws.specs.Calls.{Call, receives, ticks, lists}
+use Rattle.gauge_laws.specs.Calls.{receives, ticks, lists}
 use Rattle.gauge_laws.specs.Statements.{RefusedKeeps}
 
 -- a datagram received, by its plan: only a refusal has a number

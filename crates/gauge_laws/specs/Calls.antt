@@ -1,5 +1,5 @@
 -- To believe. One call of the radio program, whichever it is: what it answers, and what it was lent for writing, as lent and as left. Assumes nothing.
-use Prim.Native.Nat.{ℕ, _+_, _*_}
+use Prim.Native.Nat.{ℕ, _+_, _*_, _^_, _<_}
 use mathlib.Core.Bool.{Bool}
 use mathlib.Core.List.{List, [], _∷_}
 use Rattle.record.specs.Record.{keyOf}
@@ -15,6 +15,12 @@ pub data Call : Type 0 where
   receives : Receive → Call
   ticks : List ℕ → List ℕ → List ℕ → Call
   lists : List ℕ → List ℕ → List ℕ → Call
+
+-- the message ID handed in has 32 bits, as the call's type says
+abbrev pub IdFits : Call → Type 0
+IdFits (receives l) = l .id < 2 ^ 32
+IdFits (ticks own waiting output) = Unit {0}
+IdFits (lists own cache output) = Unit {0}
 
 -- memory lent for writing: the test of its form, its bytes as lent and as left
 pub record Memory : Type 0 where

@@ -479,6 +479,20 @@ def entry_of(r, major, minor):
             "addresses": [r[36 + 16 * i:52 + 16 * i] for i in range(r[34])]}
 
 
+# --- Lent memory -----------------------------------------------------------------------------------------------------------
+
+# 01, of the cache and of the waiting table alike: used ones first, the rest all zero, each used one in form. The used ones, or None.
+def used_rows(memory, width, in_form):
+    rows = [memory[at:at + width] for at in range(0, len(memory), width)]
+    used = [row for row in rows if any(row)]
+    return used if rows[:len(used)] == used and all(in_form(row) for row in used) else None
+
+
+# 01, of keys and of IDs: "strictly increasing".
+def rising(numbers):
+    return all(before < after for before, after in zip(numbers, numbers[1:]))
+
+
 # --- Lent memory: the cache ------------------------------------------------------------------------------------------------
 
 # 01: "The cache: C records, C from 10 to 256, length exactly 100 x C. Used records first, keys strictly increasing, none equal to the own key;
@@ -486,18 +500,11 @@ def entry_of(r, major, minor):
 def held(own, cache):
     if len(cache) % 100 != 0 or len(cache) < 1000 or len(cache) > 25600:
         return None
-    rows = [cache[at:at + 100] for at in range(0, len(cache), 100)]
-    used = [row for row in rows if any(row)]
-    if rows[:len(used)] != used:
-        return None
-    if not all(record_form(row) for row in used):
+    used = used_rows(cache, 100, record_form)
+    if used is None:
         return None
     keys = [key_of(row) for row in used]
-    if any(after <= before for before, after in zip(keys, keys[1:])):
-        return None
-    if key_of(own) in keys:
-        return None
-    return used
+    return used if rising(keys) and key_of(own) not in keys else None
 
 
 def cache_of(records, length):
@@ -567,20 +574,13 @@ def place_form(s):
 def waits(own, waiting):
     if len(waiting) != 2240:
         return None
-    rows = [waiting[at:at + 140] for at in range(0, 2240, 140)]
-    used = [row for row in rows if any(row)]
-    if rows[:len(used)] != used:
-        return None
-    if not all(place_form(row) for row in used):
+    used = used_rows(waiting, 140, place_form)
+    if used is None:
         return None
     places = [place_of(row) for row in used]
-    ids = [p["id"] for p in places]
-    if any(after <= before for before, after in zip(ids, ids[1:])):
-        return None
     asked = [value(p["key"]) for p in places if p["kind"] == 2]
-    if len(set(asked)) != len(asked) or key_of(own) in asked:
-        return None
-    return places
+    once = len(set(asked)) == len(asked)
+    return places if rising([p["id"] for p in places]) and once and key_of(own) not in asked else None
 
 
 def waiting_of(places):

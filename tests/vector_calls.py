@@ -722,14 +722,20 @@ def case14(g):
 
 def memory(g):
     good = flood(record(60))
+
+    def calls(received, sent, ticked, listed):
+        """A call of each kind on what is lent, with its number; None for a tick that is not made."""
+        yield g.receive(good, received)
+        yield g.send(key(70), key(100), sent)
+        if ticked is not None:
+            yield g.tick(ticked)
+        yield g.list(listed)
+
     yield "# 1: the own record"
     for own in (b"", OWN[:99], OWN + b"\0", bytes(100), put(OWN, 34, b"\0"), put(OWN, 34, b"\5"), put(OWN, 35, b"\1"), put(OWN, 68, b"\1"),
                 put(OWN, 99, b"\1")):
         yield g.start(own)
-        yield g.receive(good, 1)
-        yield g.send(key(70), key(100), 1)
-        yield g.tick(1)
-        yield g.list(1)
+        yield from calls(1, 1, 1, 1)
     yield "# 1: the own CPA, lent to a receive alone"
     for cpa, want in ((b"", 1), (bytes(1025), 1), (bytes(1), 0), (bytes(1024), 0)):
         yield g.start(cpa=cpa)
@@ -742,18 +748,13 @@ def memory(g):
     yield "# 1: the cache, not lent to a tick; C 9 and 257, 10 and 256"
     for c, want in ((0, 1), (9, 1), (10, 0), (11, 0), (256, 0), (257, 1)):
         yield g.start(c=c)
-        yield g.receive(good, want)
-        yield g.send(key(70), key(100), 12 if want == 0 else 1)
-        yield g.tick(0)
-        yield g.list(want)
+        yield from calls(want, 12 if want == 0 else 1, 0, want)
     yield g.start()
     filled = cache([70, 80])
     for bad in (filled[:-1], filled + b"\0", cache([80, 70]), cache([70, 70]), cache([70, 100]), put(filled, 134, b"\0"), put(filled, 35, b"\1"),
                 put(filled, 999, b"\1"), cache([70, bytes(100), 80])):
         yield g.set_cache(bad)
-        yield g.receive(good, 1)
-        yield g.send(key(70), key(100), 1)
-        yield g.list(1)
+        yield from calls(1, 1, None, 1)
     yield g.tick(0)
     yield "# 1: the waiting table, not lent to the neighbour list"
     yield g.start()

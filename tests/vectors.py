@@ -68,26 +68,25 @@ def ground():
     def reads(name, at, s):
         return (name, at, s), read(name, at, s)
 
+    def all_widths(order, end=""):
+        for size, name in ((2, "u16"), (4, "u32"), (8, "u64")):
+            for value in (0, 1, 255, 256, 2 ** (8 * size - 1), 2 ** (8 * size) - 1):
+                yield reads(name + end, 0, value.to_bytes(size, order))
+            yield reads(name + end, 3, b"\xAA" * 3 + bytes(range(1, size + 1)) + b"\xBB")
+            yield reads(name + end, 1, bytes(size))
+
     def puts(name, at, n, s):
         size = 2 if "16" in name else 4
         return (name, at, n, s), written(spliced(at, n.to_bytes(size, "little" if "le" in name else "big"), s))
 
     yield "# numbers at a place, most significant byte first: the ends of each width"
-    for size, name in ((2, "u16"), (4, "u32"), (8, "u64")):
-        for value in (0, 1, 255, 256, 2 ** (8 * size - 1), 2 ** (8 * size) - 1):
-            yield reads(name, 0, value.to_bytes(size, "big"))
-        yield reads(name, 3, b"\xAA" * 3 + bytes(range(1, size + 1)) + b"\xBB")
-        yield reads(name, 1, bytes(size))
+    yield from all_widths("big")
     yield "# document 003: the message ID of its AUTHORITY, and the header's fixed bytes"
     yield reads("u32", 0, bytes.fromhex("D8859CF5"))
     yield reads("u16", 0, HEADER)
     yield reads("u16", 2, HEADER)
     yield "# least significant byte first"
-    for size, name in ((2, "u16-le"), (4, "u32-le"), (8, "u64-le")):
-        for value in (0, 1, 255, 256, 2 ** (8 * size - 1), 2 ** (8 * size) - 1):
-            yield reads(name, 0, value.to_bytes(size, "little"))
-        yield reads(name, 3, b"\xAA" * 3 + bytes(range(1, size + 1)) + b"\xBB")
-        yield reads(name, 1, bytes(size))
+    yield from all_widths("little", "-le")
     yield "# numbers written at a place: the bytes beside them stay"
     for name, top in (("put16", 65535), ("put16-le", 65535), ("put32", 4294967295), ("put32-le", 4294967295)):
         for n in (0, 1, 258, top):

@@ -10,9 +10,8 @@ use Rattle.octet.proofs.TestLaws.{both-true}
 use Rattle.record.specs.Record.{keyOf, recordForm}
 use Rattle.refusal.specs.Table.{byNumber}
 use Rattle.refusal.proofs.TableLaws.{all-fail, both}
-use Rattle.refusal.proofs.CallLaws.{number-is}
+use Rattle.refusal.proofs.CallLaws.{number-is, all-pass}
 use Rattle.table.specs.Rows.{bytesOf}
-use Rattle.cache.proofs.LentLaws.{all-pass}
 use Rattle.waiting.specs.Place.{idOf}
 use Rattle.waiting.specs.Form.{Form, anyOf, waitingForm, placesOf}
 use Rattle.waiting.specs.Seek.{hasId}

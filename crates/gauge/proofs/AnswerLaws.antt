@@ -2,25 +2,21 @@
 use Prim.Native.Nat.{ℕ, _+_, _≤_}
 use native.Mathlib.Omega.{arith}
 use mathlib.Core.Path.{_≡_, refl, sym, ap, subst, _∙_}
-use mathlib.Core.Bool.{Bool, true, false, cond}
+use mathlib.Core.Bool.{true, false}
 use mathlib.Core.List.{List, [], _∷_}
-use mathlib.Core.Option.{some, none}
-use lib.Dec.{eqb}
 use lib.ListN.{length, drop}
-use borrow.Author.Tests.{eqb-true}
 use Rattle.octet.specs.Part.{part}
 use Rattle.record.specs.Entry.{entryForm}
 use Rattle.wire_fields.specs.Shapes.{Kind, hasShape}
-use Rattle.wire_fields.specs.Kinds.{must, may, lastOfTwoAndOne, flagsAXC, keepLookup, kindsOf, floodKinds, inquireKinds, lookupKinds}
-use Rattle.wire_fields.specs.Refusals.{Found, refused, found, foundIn}
+use Rattle.wire_fields.specs.Kinds.{must, may, lastOfTwoAndOne, flagsAXC, keepLookup, floodKinds, inquireKinds, lookupKinds}
 use Rattle.wire_fields.specs.declared.Part.{Part}
 use Rattle.wire_fields.specs.declared.Part.the-variants.{Here, Absent}
 use Rattle.wire_fields.specs.declared.Shape.the-variants.{Sized, Any, Entry, Lookup}
-use Rattle.wire_fields.proofs.WholeLaws.{way}
-use Rattle.wire_read.specs.Answers.{answer, shown, floodShown, inquireShown, lookupShown}
+use Rattle.wire_read.specs.Answers.{answer, floodShown, inquireShown, lookupShown}
 use Rattle.wire_read.specs.declared.Answer as T
 use Rattle.wire_read.specs.declared.Answer.the-variants as M
-use Rattle.wire.proofs.StandLaws.{Fact, Stand, stands, needed, maybed, sized-length}
+use Rattle.wire.proofs.StandLaws.{Fact, Stand, needed, maybed, sized-length}
+use Rattle.wire.proofs.ShownLaws.{of-each}
 
 -- ---- what is known of an answer
 
@@ -82,49 +78,17 @@ lookup-known d ps w =
 
 -- ---- of each answer
 
-which : (P : T.Answer → Type 0) (b : Bool) (x y : T.Answer) → (b ≡ true → P x) → (b ≡ false → P y) → P (cond b x y)
-which P true x y p q = p refl
-which P false x y p q = q refl
-
--- the kinds of a type, where the type is known
-one-kinds : (t n : ℕ) (ks js : List Kind) → kindsOf t ≡ some ks → eqb t n ≡ true → kindsOf n ≡ some js → ks ≡ js
-one-kinds t n ks js k e j = let o : some ks ≡ some js = sym k ∙ ap kindsOf (eqb-true t n e) ∙ j in cc
-
-flood-kinds : kindsOf 4 ≡ some floodKinds
-unfolding kindsOf
-flood-kinds = refl
-
-inquire-kinds : kindsOf 7 ≡ some inquireKinds
-unfolding kindsOf
-inquire-kinds = refl
-
-last-kinds : (b : Bool) (ks : List Kind) → cond b (some lookupKinds) none ≡ some ks → ks ≡ lookupKinds
-last-kinds true ks e = cc
-last-kinds false ks e = absurd (let z : _≡_ {A = ℕ} 0 1 = cc in omega arith)
-
--- a type that is none of the seven before is a LOOKUP's
-lookup-kinds : (t : ℕ) (ks : List Kind) → kindsOf t ≡ some ks → eqb t 1 ≡ false → eqb t 2 ≡ false → eqb t 3 ≡ false → eqb t 4 ≡ false
-    → eqb t 7 ≡ false → eqb t 8 ≡ false → eqb t 9 ≡ false → ks ≡ lookupKinds
-unfolding kindsOf
-lookup-kinds t ks k e₁ e₂ e₃ e₄ e₇ e₈ e₉ = last-kinds (eqb t 11) ks (rw (e₁, e₂, e₃, e₄, e₇, e₈, e₉) at k)
-
-by-type : (d : List ℕ) (t : ℕ) (ks : List Kind) (ps : List Part) → kindsOf t ≡ some ks → Stand ks d 12 ps → KnownAnswer d (shown d (found t ps))
-unfolding shown
-by-type d t ks ps k w =
-    let P : T.Answer → Type 0 = KnownAnswer d in
-    let S : List Kind → Type 0 = λ (js : List Kind). Stand js d 12 ps in
-    which P (eqb t 1) _ _ (λ e. tt) (λ e₁. which P (eqb t 2) _ _ (λ e. tt) (λ e₂. which P (eqb t 3) _ _ (λ e. tt)
-    (λ e₃. which P (eqb t 4) _ _ (λ e. flood-known d ps (subst S (one-kinds t 4 ks floodKinds k e flood-kinds) w))
-    (λ e₄. which P (eqb t 7) _ _ (λ e. inquire-known d ps (subst S (one-kinds t 7 ks inquireKinds k e inquire-kinds) w))
-    (λ e₇. which P (eqb t 8) _ _ (λ e. tt) (λ e₈. which P (eqb t 9) _ _ (λ e. tt)
-    (λ e₉. lookup-known d ps (subst S (lookup-kinds t ks k e₁ e₂ e₃ e₄ e₇ e₈ e₉) w))))))))
-
-by-found : (d : List ℕ) (major : ℕ) (x : Found) → foundIn d major ≡ x → KnownAnswer d (shown d x)
-unfolding shown
-by-found d major (refused n) e = tt
-by-found d major (found t ps) e =
-    let (ks, w) = way d major t ps e in
-    by-type d t ks ps (w .kinds) (stands ks d 12 ps (w .places))
-
 pub known-answer : (d : List ℕ) (major : ℕ) → KnownAnswer d (answer d major)
-known-answer d major = by-found d major (foundIn d major) refl
+known-answer d major =
+    of-each (KnownAnswer d) d (λ n. tt)
+    (λ h. record {
+      solicit = λ ps w. tt;
+      advertise = λ ps w. tt;
+      request = λ ps w. tt;
+      flood = flood-known d;
+      inquire = inquire-known d;
+      authority = λ ps w. tt;
+      ack = λ ps w. tt;
+      lookup = lookup-known d;
+    })
+    major

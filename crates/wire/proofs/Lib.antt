@@ -1,4 +1,5 @@
 pub mod StandLaws
+pub mod ShownLaws
 pub mod ValueLaws
 pub mod MeaningLaws
 pub mod BytesLaws

@@ -2,6 +2,8 @@
 mod plan;
 
 ghost use mathlib.Core.Path.{_≡_};
+ghost use Rattle.wire_read.specs.Answers.{answer};
+ghost use Rattle.look.specs.Seen.{lookOf};
 ghost use Rattle.gauge.specs.Lent.{receive, send, handed};
 ghost use Rattle.gauge.specs.Receive.{receiveCall};
 ghost use Rattle.gauge.specs.Send.{sendCall};
@@ -182,4 +184,13 @@ pub extern "C" fn gauge_neighbours(
 {
     let done = cache::neighbour_list(own, cache, output);
     gauge_commit::answer_of(done.number, done.below, done.above)
+}
+
+// A datagram read without acting on it: the numbers of its message, and where the fields stand that must be judged or
+// signed.
+#[no_mangle]
+pub extern "C" fn gauge_look(major: u8, datagram: &[u8]) -> look::Look
+    ensures { λ r. ⌜ r ≡ lookOf (answer (now (datagram .entry)) major) ⌝ }
+{
+    look::look_at(major, datagram)
 }

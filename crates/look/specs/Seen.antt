@@ -1,0 +1,45 @@
+-- To believe. What the radio program is told of a message: "Reading a message without acting on it gives 0 to 6, and 7 only for an AUTHORITY in part". With 0:
+-- the type, the message ID and the acked ID, and where in the datagram those fields stand that the program must judge or sign. Assumes nothing.
+use Prim.Native.Nat.{ℕ}
+use Rattle.wire_fields.specs.declared.Part.{Part}
+use Rattle.wire_fields.specs.declared.Part.the-variants.{Here, Absent}
+use Rattle.wire_read.specs.Answers.{startOf}
+use Rattle.wire_read.specs.declared.Answer.{Answer}
+use Rattle.wire_read.specs.declared.Answer.the-variants.{Refused, Solicit, Advertise, Request, Flood, Inquire, Authority, Ack, Lookup}
+use Rattle.look.specs.declared.Look.{Look}
+
+-- how many bytes a field's contents are, 0 where it is not there; `startOf` is their place
+abbrev pub sizeOf : Part → ℕ
+sizeOf (Here s l) = l
+sizeOf Absent = 0
+
+-- number; type, message ID, acked ID; place and length of the CPA or revoke CPA, of the nonce, of the route entry, of the target key
+abbrev pub seenAs : ℕ → ℕ → ℕ → ℕ → Part → Part → Part → Part → Look
+seenAs number kind id acked cpa nonce entry target =
+    record {
+      number = number;
+      kind = kind;
+      id = id;
+      acked = acked;
+      cpa = startOf cpa;
+      «cpa_length» = sizeOf cpa;
+      nonce = startOf nonce;
+      «nonce_length» = sizeOf nonce;
+      entry = startOf entry;
+      «entry_length» = sizeOf entry;
+      target = startOf target;
+      «target_length» = sizeOf target;
+    }
+
+-- a hashed nonce has 20 bytes, a REQUEST's nonce 16, a key 32
+unfoldable pub lookOf : Answer → Look
+lookOf (Refused n) = seenAs n 0 0 0 Absent Absent Absent Absent
+lookOf (Solicit head entry nonce) = seenAs 0 1 (head .id) 0 Absent (Here nonce 20) entry Absent
+lookOf (Advertise head acked keys nonce) = seenAs 0 2 (head .id) acked Absent (Here nonce 20) Absent Absent
+lookOf (Request head flags split nonce keys credential signature key) = seenAs 0 3 (head .id) 0 Absent (Here nonce 16) Absent Absent
+lookOf (Flood head d validate token revoke entry reached) = seenAs 0 4 (head .id) 0 revoke Absent entry Absent
+lookOf (Inquire head a x c validate nonce credential signature key) = seenAs 0 7 (head .id) 0 Absent nonce Absent Absent
+lookOf (Authority head acked fields) = seenAs 0 8 (head .id) acked (fields .cpa) Absent (fields .entry) Absent
+lookOf (Ack head acked flags n) = seenAs 0 9 (head .id) acked Absent Absent Absent Absent
+lookOf (Lookup head a precision criteria reason target validate entry path credential signature key) =
+    seenAs 0 11 (head .id) 0 Absent Absent entry (Here target 32)

@@ -39,7 +39,7 @@ module _ {State Call : Type 0} (step : State → Call → State) (events : State
       → keysOf (run step state calls) ≡ kept drops C (eventsOf step events state calls)
   keys-kept state calls h e = keys-after state calls h ∙ ap (λ (keys : List ℕ). after drops C keys (eventsOf step events state calls)) e
 
-learns-or : (k : ℕ) (es ds : List Event) → Learns k (es ++ ds) → Learns k es ⊎ Learns k ds
+pub learns-or : (k : ℕ) (es ds : List Event) → Learns k (es ++ ds) → Learns k es ⊎ Learns k ds
 learns-or k [] ds m = inr m
 learns-or k (learned j ∷ es) ds (inl e) = inl (inl e)
 learns-or k (learned j ∷ es) ds (inr m) = ⊎-elim (λ n. inl (inr n)) (λ n. inr n) (learns-or k es ds m)

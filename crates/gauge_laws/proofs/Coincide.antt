@@ -2,13 +2,16 @@
 use mathlib.Core.Path.{sym, _∙_}
 use Rattle.gauge.specs.Lent.{Handed}
 use Rattle.gauge.specs.Counts.{TickHanded, ListHanded}
-use Rattle.gauge_laws.specs.Contracts.{OneResult, ReceiveOne, TickOne, ListOne}
+use Rattle.gauge_laws.specs.Contracts.{OneResult, ReceiveOne, SendOne, TickOne, ListOne}
 
 pub one-result : OneResult
 one-result R d r s p q = p ∙ sym q
 
 pub receive-one : ReceiveOne
 receive-one κs a r r′ s s′ p q = one-result Handed _ _ _ p q
+
+pub send-one : SendOne
+send-one κs a r r′ s s′ p q = one-result Handed _ _ _ p q
 
 pub tick-one : TickOne
 tick-one κs a r r′ s s′ p q = one-result TickHanded _ _ _ p q

@@ -1,5 +1,5 @@
 -- The output changes in its first bytes alone.
--- In this order: bytes at its start; datagrams sent; a datagram received, by its plan; the tick and the neighbour list. Assumes nothing.
+-- In this order: bytes at its start; datagrams sent; a datagram received, by its plan; a FLOOD sent; the tick and the neighbour list. Assumes nothing.
 use mathlib.Core.Path.{_≡_, refl, sym, ap, _∙_}
 use mathlib.Core.Bool.{Bool, true, false}
 use mathlib.Core.List.{List, [], _∷_, _++_, append-nil}
@@ -31,19 +31,24 @@ use Rattle.waiting.specs.Tick.{listed, idBytes}
 use Rattle.waiting.specs.Call as W
 use Rattle.waiting.proofs.TickLaws.{ids-length, listed-few}
 use Rattle.waiting.proofs.FormLaws.{used-few}
-use Rattle.wire_write.specs.Sent.{cpaMade, closestMade}
+use Rattle.wire_write.specs.Sent.{floodMade, cpaMade, closestMade}
 use Rattle.gauge_plan.specs.Rooms.{idAfter, inquireRoom}
 use Rattle.gauge_plan.specs.declared.Plan.{Plan}
 use Rattle.gauge_plan.specs.declared.Plan.the-variants.{Refuse, Flood, Revoke, Learn, Free, Certify, Show}
+use Rattle.gauge_plan.specs.Send.{recordSent, floodRoom}
+use Rattle.gauge_plan.specs.declared.send.SendPlan.{SendPlan}
+use Rattle.gauge_plan.specs.declared.send.SendPlan.the-variants as S
 use Rattle.gauge_commit.specs.Sending.{lengths, sending, acks, asks}
-use Rattle.gauge_commit.proofs.LengthLaws.{inquire-length, cpa-length, closest-length}
+use Rattle.gauge_commit.proofs.LengthLaws.{inquire-length, cpa-length, closest-length, flood-length}
 use Rattle.gauge_commit.proofs.SentLaws.{joined-one, asked, acks-room, record-long}
 use Rattle.gauge_commit.proofs.PlaceLaws.{closest-formed}
-use Rattle.gauge.specs.Lent.{Receive}
+use Rattle.gauge.specs.Lent.{Receive, Send}
 use Rattle.gauge.specs.Receive.{receivePlan, carried, receiveCall}
+use Rattle.gauge.specs.Send.{sendPlan, sendCarried, sendCall}
 use Rattle.gauge.specs.Counts.{gaugeTick, gaugeList}
 use Rattle.gauge.proofs.ReceiveLaws.{Known, known}
-use Rattle.gauge_laws.specs.Calls.{receives, ticks, lists}
+use Rattle.gauge.proofs.SendLaws.{KnownSend, send-known}
+use Rattle.gauge_laws.specs.Calls.{receives, sends, ticks, lists}
 use Rattle.gauge_laws.specs.Statements.{OnlyFirst, FirstBytes}
 
 -- ---- bytes at its start
@@ -109,14 +114,27 @@ module _ (major minor id acked : ℕ) (n : Bool) where
 one-room : (d : List ℕ) {n room : ℕ} → length d ≡ n → n ≤ room → length (joined (d ∷ [])) ≤ room
 one-room d e h = omega (arith, ap length (joined-one d))
 
--- of a record in form, the AUTHORITY that shows it
-shown-room : (major minor id acked : ℕ) (r : List ℕ) {room : ℕ} → recordForm r ≡ true → 80 + 16 * countOf r ≤ room
-    → length (joined (closestMade major minor id acked r 0 .bytes ∷ [])) ≤ room
-shown-room major minor id acked r formed h =
-    let long = form-length r formed in
-    let whole : part 0 100 r ≡ r = take-all 100 r (omega arith) in
-    one-room (closestMade major minor id acked r 0 .bytes)
-    (closest-length major minor id r 0 (omega arith) (ap recordForm whole ∙ formed) acked ∙ ap (λ (l : List ℕ). 80 + 16 * countOf l) whole) h
+-- a record in form is its first 100 bytes
+pub whole-record : (r : List ℕ) → recordForm r ≡ true → part 0 100 r ≡ r
+whole-record r formed = let long = form-length r formed in take-all 100 r (omega arith)
+
+-- of a record in form, the AUTHORITY that shows it, and the FLOOD that sends it
+module _ (major minor id : ℕ) (r : List ℕ) (formed : recordForm r ≡ true) where
+  long : 0 + 100 ≤ length r
+  long = omega (arith, form-length r formed)
+
+  formed-part : recordForm (part 0 100 r) ≡ true
+  formed-part = ap recordForm (whole-record r formed) ∙ formed
+
+  shown-room : (acked : ℕ) {room : ℕ} → 80 + 16 * countOf r ≤ room → length (joined (closestMade major minor id acked r 0 .bytes ∷ [])) ≤ room
+  shown-room acked h =
+      one-room (closestMade major minor id acked r 0 .bytes)
+      (closest-length major minor id r 0 long formed-part acked ∙ ap (λ (l : List ℕ). 80 + 16 * countOf l) (whole-record r formed)) h
+
+  flood-room : (key : List ℕ) {room : ℕ} → length key ≡ 32 → floodRoom r ≤ room → length (joined (floodMade major minor id key r 0 .bytes ∷ [])) ≤ room
+  flood-room key keyed h =
+      one-room (floodMade major minor id key r 0 .bytes)
+      (flood-length major minor id r 0 long formed-part key keyed ∙ ap floodRoom (whole-record r formed)) h
 
 plan-first : (l : Receive) (p : Plan) → Known l p → OnlyFirst (carried l p .given .first + carried l p .given .second) (l .output) (carried l p .output)
 unfolding carried
@@ -139,9 +157,20 @@ plan-first l (Certify a) k =
 plan-first l (Show h a target) k =
     let r = closestOf (keyAt target (l .datagram)) (candidates (l .own) (rows 100 h (l .cache))) in
     sent-first (closestMade (l .major) (l .minor) (l .id) a r 0 .bytes ∷ []) (l .output) (omega arith)
-    (shown-room (l .major) (l .minor) (l .id) a r
+    (shown-room (l .major) (l .minor) (l .id) r
     (closest-formed (keyAt target (l .datagram)) (keyOf (l .own)) (l .own) (l .cache) (rows 100 h (l .cache)) (k .ready .owned) (k .ready .form))
-    (k .plans .fits-in))
+    a (k .plans .fits-in))
+
+-- ---- a FLOOD sent
+
+send-first : (l : Send) (p : SendPlan) → KnownSend l p
+    → OnlyFirst (sendCarried l p .given .first + sendCarried l p .given .second) (l .output) (sendCarried l p .output)
+unfolding sendCarried
+send-first l (S.Refuse n) k = none-first (l .output)
+send-first l (S.Flood u ours at) k =
+    let r = recordSent (l .own) (l .cache) ours at in
+    sent-first (floodMade (l .major) (l .minor) (l .id) (l .neighbour) r 0 .bytes ∷ []) (l .output) (omega arith)
+    (flood-room (l .major) (l .minor) (l .id) r (k .formed) (l .neighbour) (k .addressed) (k .fits-in))
 
 -- ---- the tick and the neighbour list
 
@@ -175,7 +204,8 @@ list-first own cache output =
     (omega (arith, length-take 5 (nearestFirst (sideOf k) (nearness k) below keys), length-take 5 (nearestFirst (sideOf k) (nearness k) above keys))))
 
 pub first-bytes : FirstBytes
-unfolding receiveCall gaugeTick gaugeList
+unfolding receiveCall sendCall gaugeTick gaugeList
 first-bytes (receives l) = plan-first l (receivePlan l) (known l)
+first-bytes (sends l) = send-first l (sendPlan l) (send-known l)
 first-bytes (ticks own waiting output) = tick-first own waiting output
 first-bytes (lists own cache output) = list-first own cache output

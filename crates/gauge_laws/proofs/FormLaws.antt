@@ -3,7 +3,6 @@ use mathlib.Core.Path.{_≡_, refl, sym, ap, _∙_}
 use mathlib.Core.Bool.{true, false}
 use mathlib.Core.List.{List, []}
 use Prim.Native.Nat.{ℕ}
-use native.Mathlib.Omega.{arith}
 use lib.ListN.{length, getD}
 use Rattle.key.specs.Number.{keyAt}
 use Rattle.record.specs.Record.{keyOf, recordForm}
@@ -17,15 +16,17 @@ use Rattle.waiting.proofs.FormLaws.{form-test}
 use Rattle.waiting.proofs.CallLaws.{tick-leaves}
 use Rattle.gauge_plan.specs.declared.Plan.{Plan}
 use Rattle.gauge_plan.specs.declared.Plan.the-variants.{Refuse, Flood, Revoke, Learn, Free, Certify, Show}
+use Rattle.gauge_plan.specs.declared.send.SendPlan.{SendPlan}
+use Rattle.gauge_plan.specs.declared.send.SendPlan.the-variants as S
 use Rattle.gauge_commit.proofs.PlaceLaws.{record-place, record-key}
-use Rattle.gauge.specs.Lent.{Receive}
+use Rattle.gauge.specs.Lent.{Receive, Send}
 use Rattle.gauge.specs.Receive.{receivePlan, carried, receiveCall}
+use Rattle.gauge.specs.Send.{sendPlan, sendCarried, sendCall}
 use Rattle.gauge.specs.Counts.{gaugeTick}
 use Rattle.gauge.proofs.ReceiveLaws.{Known, known, learn-needs}
-use Rattle.gauge_laws.specs.Calls.{receives, ticks, lists}
+use Rattle.gauge_laws.specs.Calls.{receives, sends, ticks, lists}
 use Rattle.gauge_laws.specs.Statements.{FormKept}
-use Rattle.gauge_laws.proofs.NumberLaws.{refusal-numbers}
-use Rattle.gauge_laws.proofs.MovedLaws.{receive-left}
+use Rattle.gauge_laws.proofs.MovedLaws.{receive-ready, receive-left, send-left}
 
 -- ---- the cache
 
@@ -37,26 +38,36 @@ module _ (own : ℕ) (s : List ℕ) (recs : List (List ℕ)) (f : Form own s rec
   learnt-true r formed other = form-true own _ (afterLearn own (length s) recs r) (learnt-form own s recs r f formed other)
 
 module _ (l : Receive) where
-  plan-cache : (p : Plan) → receivePlan l ≡ p → Known l p → carried l p .given .number ≡ 0 → cacheForm (keyOf (l .own)) (carried l p .cache) ≡ true
+  plan-cache : cacheForm (keyOf (l .own)) (l .cache) ≡ true → (p : Plan) → receivePlan l ≡ p → Known l p → cacheForm (keyOf (l .own)) (carried l p .cache) ≡ true
   unfolding carried
-  plan-cache (Refuse n) e k z = absurd (omega (arith, refusal-numbers l n e .0))
-  plan-cache (Flood u s n a opens start len) e k z = k .ready .cached
-  plan-cache (Revoke h u s n a) e k z = removed-true (keyOf (l .own)) (l .cache) (rows 100 h (l .cache)) (k .ready .form) (keyAt 0 (l .key))
-  plan-cache (Learn h u at) e k z =
+  plan-cache f (Refuse n) e k = f
+  plan-cache f (Flood u s n a opens start len) e k = f
+  plan-cache f (Revoke h u s n a) e k = removed-true (keyOf (l .own)) (l .cache) (rows 100 h (l .cache)) (k .ready .form) (keyAt 0 (l .key))
+  plan-cache f (Learn h u at) e k =
       let t = l .waiting in
       let needs = learn-needs l e in
       let is = record-place u t at (needs .5) in
       learnt-true (keyOf (l .own)) (l .cache) (rows 100 h (l .cache)) (k .ready .form) (placeRecord (getD (rows 140 u t) at []))
       (sym (ap recordForm is) ∙ needs .6) (λ o. needs .7 (sym (record-key u t at) ∙ ap keyOf is ∙ o))
-  plan-cache (Free h u at true) e k z =
+  plan-cache f (Free h u at true) e k =
       removed-true (keyOf (l .own)) (l .cache) (rows 100 h (l .cache)) (k .ready .form) (placeKey (getD (rows 140 u (l .waiting)) at []))
-  plan-cache (Free h u at false) e k z = k .ready .cached
-  plan-cache (Certify a) e k z = k .ready .cached
-  plan-cache (Show h a target) e k z = k .ready .cached
+  plan-cache f (Free h u at false) e k = f
+  plan-cache f (Certify a) e k = f
+  plan-cache f (Show h a target) e k = f
 
   receive-cache : receiveCall l .given .number ≡ 0 → cacheForm (keyOf (l .own)) (receiveCall l .cache) ≡ true
   unfolding receiveCall
-  receive-cache z = plan-cache (receivePlan l) refl (known l) z
+  receive-cache z = plan-cache (receive-ready l z .cached) (receivePlan l) refl (known l)
+
+-- a FLOOD sent reads it only
+send-cache-by : (l : Send) (p : SendPlan) → sendCarried l p .cache ≡ l .cache
+unfolding sendCarried
+send-cache-by l (S.Refuse n) = refl
+send-cache-by l (S.Flood u ours at) = refl
+
+pub send-cache : (l : Send) → sendCall l .cache ≡ l .cache
+unfolding sendCall
+send-cache l = send-cache-by l (sendPlan l)
 
 -- ---- every call
 
@@ -65,5 +76,8 @@ unfolding gaugeTick
 form-kept (receives l) i z =
     let left = receive-left l z in
     (receive-cache l z, (form-test (keyOf (l .own)) (receiveCall l .waiting) (left .places) (left .form), tt))
+form-kept (sends l) i z =
+    let left = send-left l z i in
+    (form-test (keyOf (l .own)) (sendCall l .waiting) (left .places) (left .form), tt)
 form-kept (ticks own waiting output) i z = (tick-leaves own waiting output z, tt)
 form-kept (lists own cache output) i z = tt

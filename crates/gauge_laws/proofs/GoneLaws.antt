@@ -1,16 +1,15 @@
 -- A place is gone by the third accepted tick.
--- In this order: a tick that is accepted; any other call; the tries left of the places with an ID; calls one after the other. Assumes nothing.
+-- In this order: a tick that is accepted; the tries left of the places with an ID; calls one after the other. Assumes nothing.
 use mathlib.Core.Path.{_≡_, refl, sym, ap, subst, _∙_}
 use mathlib.Core.Bool.{Bool, true, false, cond}
 use mathlib.Core.List.{List, [], _∷_}
-use Prim.Native.Nat.{ℕ, zero, suc, _+_, _≤_, _<_}
+use Prim.Native.Nat.{ℕ, zero, suc, _+_, _≤_}
 use native.Mathlib.Omega.{arith}
-use borrow.Author.Tests.{eqb-true, eqb-false, not-false}
+use borrow.Author.Tests.{eqb-true, not-false}
 use Rattle.octet.proofs.TestLaws.{both-true}
 use Rattle.record.specs.Record.{keyOf, recordForm}
-use Rattle.refusal.specs.Table.{byNumber}
-use Rattle.refusal.proofs.TableLaws.{all-fail, both}
-use Rattle.refusal.proofs.CallLaws.{number-is, all-pass}
+use Rattle.refusal.proofs.TableLaws.{both}
+use Rattle.refusal.proofs.CallLaws.{all-pass}
 use Rattle.table.specs.Rows.{bytesOf}
 use Rattle.waiting.specs.Place.{idOf}
 use Rattle.waiting.specs.Form.{Form, anyOf, waitingForm, placesOf}
@@ -20,14 +19,12 @@ use Rattle.waiting.specs.Call as W
 use Rattle.waiting.proofs.FormLaws.{form-of, form-unique, placed}
 use Rattle.waiting.proofs.KeptLaws.{tick-kept}
 use Rattle.waiting.proofs.RoundLaws.{All, Tried, id-steady, tried-form, tried-ticked, tried-gone, all-freed, all-opened}
-use Rattle.gauge.specs.Lent.{Receive, Handed}
-use Rattle.gauge.specs.Receive.{receiveCall}
-use Rattle.gauge.specs.Counts.{TickHanded, gaugeTick}
-use Rattle.gauge_laws.specs.Calls.{Call, receives, ticks, lists, IdFits}
+use Rattle.gauge.specs.Counts.{gaugeTick}
+use Rattle.gauge_laws.specs.Calls.{Call, receives, sends, ticks, lists}
 use Rattle.gauge_laws.specs.History.{IsLent, tableAfter, OnTable, isTick, tickCount, waitsIn, waitsAfterEach}
 use Rattle.gauge_laws.specs.Statements.{GoneByThird}
-use Rattle.gauge_laws.proofs.RefusedLaws.{receive-refused, tick-refused}
-use Rattle.gauge_laws.proofs.MovedLaws.{Moved, stays, frees, opens, Left, receive-left}
+use Rattle.gauge_laws.proofs.TableLaws.{none-applies}
+use Rattle.gauge_laws.proofs.MovedLaws.{Moved, stays, frees, opens, Opens, call-moved}
 
 -- ---- a tick that is accepted
 
@@ -37,52 +34,25 @@ pub record Round (t t′ : List ℕ) : Type 0 where
   pub form : Form own t (placesOf t)
   pub places : placesOf t′ ≡ ticked (placesOf t)
 
-tick-done : (own t o : List ℕ) → W.tickCall own t o .number ≡ 0
-    → (waitingForm (keyOf own) t ≡ true) × (W.tickCall own t o .table ≡ bytesOf 2240 (ticked (placesOf t)))
-unfolding W.tickCall W.tickDone W.tickRefusals
+tick-done : (own t o : List ℕ) → gaugeTick own t o .given .number ≡ 0
+    → (waitingForm (keyOf own) t ≡ true) × (gaugeTick own t o .waiting ≡ bytesOf 2240 (ticked (placesOf t)))
+unfolding gaugeTick W.tickCall W.tickDone W.tickRefusals
 tick-done own t o z =
-    let refused : ℕ → W.Ticked = λ k. W.handed k 0 t o in
-    let none = all-fail byNumber (W.tickRefusals own t o) 1 (omega arith, omega arith, (omega arith, omega arith, tt))
-    (sym (number-is (λ (r : W.Ticked). r .number) refused (λ k. refl) (W.tickDone t o) refl (W.tickRefusals own t o)) ∙ z) in (
+    let none = none-applies (ticks own t o) z in (
       both-true (recordForm own) (waitingForm (keyOf own) t) (not-false _ (none .0)) .1,
-      ap (λ (r : W.Ticked). r .table) (all-pass refused (W.tickRefusals own t o) (W.tickDone t o) none),
+      ap (λ (r : W.Ticked). r .table) (all-pass (λ (k : ℕ). W.handed k 0 t o) (W.tickRefusals own t o) (W.tickDone t o) none),
     )
 
 pub tick-round : (own t o : List ℕ) → gaugeTick own t o .given .number ≡ 0 → Round t (gaugeTick own t o .waiting)
-unfolding gaugeTick
 tick-round own t o z =
     let done = tick-done own t o z in
     let f = form-of (keyOf own) t (done .0) in
     let g = tick-kept (keyOf own) t (placesOf t) f in
     record { own = keyOf own; form = f; places = ap placesOf (done .1) ∙ sym (form-unique (keyOf own) _ (ticked (placesOf t)) g) }
 
--- ---- any other call
-
-left-moved : (own : ℕ) (t t′ : List ℕ) → Left own t t′ → Moved (placesOf t) (placesOf t′)
-left-moved own t t′ left = subst (Moved (placesOf t)) (form-unique own t′ (left .places) (left .form)) (left .moved)
-
--- an accepted or a refused one
-receive-moved : (l : Receive) → Moved (placesOf (l .waiting)) (placesOf (receiveCall l .waiting))
-receive-moved l = go (receiveCall l .given .number) refl
-  where
-    go : (n : ℕ) → receiveCall l .given .number ≡ n → Moved (placesOf (l .waiting)) (placesOf (receiveCall l .waiting))
-    go zero e = left-moved (keyOf (l .own)) (l .waiting) (receiveCall l .waiting) (receive-left l e)
-    go (suc n) e = stays (ap (λ (h : Handed). placesOf (h .waiting)) (receive-refused l (omega arith)))
-
-some-number : (n : ℕ) → (n ≡ 0 → ⊥) → 0 < n
-some-number zero h = absurd (h refl)
-some-number (suc n) h = omega arith
-
-pub call-moved : (t : List ℕ) (c : Call) → IsLent t c → IdFits c → isTick c ≡ false → Moved (placesOf t) (placesOf (tableAfter t c))
-call-moved t (receives l) e i n = subst (λ (s : List ℕ). Moved (placesOf s) (placesOf (receiveCall l .waiting))) e (receive-moved l)
-call-moved t (ticks own waiting output) e i n =
-    stays (ap (λ (h : TickHanded). placesOf (h .waiting))
-    (tick-refused own waiting output (some-number (gaugeTick own waiting output .given .number) (eqb-false (gaugeTick own waiting output .given .number) 0 n)))
-    ∙ ap placesOf e)
-call-moved t (lists own cache output) e i n = stays refl
-
 pub call-round : (t : List ℕ) (c : Call) → IsLent t c → isTick c ≡ true → Round t (tableAfter t c)
 call-round t (receives l) e n = both n refl
+call-round t (sends l) e n = both n refl
 call-round t (ticks own waiting output) e n =
     subst (λ (s : List ℕ). Round s (gaugeTick own waiting output .waiting)) e
     (tick-round own waiting output (eqb-true (gaugeTick own waiting output .given .number) 0 n))
@@ -95,10 +65,11 @@ abbrev TriesIn : ℕ → ℕ → List ℕ → Type 0
 TriesIn id k t = All (Tried (hasId id) k) (placesOf t)
 
 -- no more after another call, where the ID waits: one opened has another
-moved-tries : (id k : ℕ) (ps qs : List (List ℕ)) → anyOf (hasId id) ps ≡ true → Moved ps qs → All (Tried (hasId id) k) ps → All (Tried (hasId id) k) qs
-moved-tries id k ps qs waits (stays e) a = rw e a
-moved-tries id k ps qs waits (frees i e) a = rw e (all-freed (Tried (hasId id) k) i ps a)
-moved-tries id k ps qs waits (opens p new e) a =
+moved-tries : (id k : ℕ) (New : List ℕ → Type 0) (ps qs : List (List ℕ)) → anyOf (hasId id) ps ≡ true → Moved New ps qs
+    → All (Tried (hasId id) k) ps → All (Tried (hasId id) k) qs
+moved-tries id k New ps qs waits (stays e) a = rw e a
+moved-tries id k New ps qs waits (frees i e) a = rw e (all-freed (Tried (hasId id) k) i ps a)
+moved-tries id k New ps qs waits (opens p is-new new e) a =
     rw e (all-opened (Tried (hasId id) k) p ps
     (λ is. both waits (ap (λ (n : ℕ). anyOf (hasId n) ps) (sym (eqb-true (idOf p) id is)) ∙ new)) a)
 
@@ -132,7 +103,7 @@ more-ticks id k t (c ∷ cs) on here a w = go k (isTick c) refl a (λ j. more-ti
     go (suc j) true is tries later =
         omega (arith, later j (round-tries id j t (tableAfter t c) (call-round t c (on .0) is) tries) (still .1))
     go j false is tries later =
-        omega (arith, later j (moved-tries id j (placesOf t) (placesOf (tableAfter t c)) here (call-moved t c (on .0) (on .1) is) tries) (still .1))
+        omega (arith, later j (moved-tries id j (Opens c) (placesOf t) (placesOf (tableAfter t c)) here (call-moved t c (on .0) (on .1) is) tries) (still .1))
 
 -- and one that waits on, whatever its tries, two
 all-ticks : (id : ℕ) (t : List ℕ) (cs : List Call) → OnTable t cs → waitsAfterEach id t cs ≡ true → tickCount cs ≤ 2

@@ -1,5 +1,5 @@
 -- The laws of specs/, for the crates above.
-pub mod NumberLaws
+pub mod TableLaws
 pub mod RefusedLaws
 pub mod FirstLaws
 pub mod MovedLaws
@@ -8,4 +8,3 @@ pub mod ReadLaws
 pub mod SentLaws
 pub mod GoneLaws
 pub mod Coincide
-pub mod TableLaws

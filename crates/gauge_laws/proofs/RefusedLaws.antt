@@ -11,11 +11,14 @@ use Rattle.cache.specs.Calls.{Written, written, heldBy, listWrong, listCall}
 use Rattle.waiting.specs.Call as W
 use Rattle.gauge_plan.specs.declared.Plan.{Plan}
 use Rattle.gauge_plan.specs.declared.Plan.the-variants.{Refuse, Flood, Revoke, Learn, Free, Certify, Show}
+use Rattle.gauge_plan.specs.declared.send.SendPlan.{SendPlan}
+use Rattle.gauge_plan.specs.declared.send.SendPlan.the-variants as S
 use Rattle.gauge_commit.specs.Sending.{answer}
-use Rattle.gauge.specs.Lent.{Receive, Handed, refusedWith}
+use Rattle.gauge.specs.Lent.{Receive, Send, Handed, refusedWith}
 use Rattle.gauge.specs.Counts.{TickHanded, ticked, tickAnswered, gaugeTick, ListHanded, listed, listAnswered, gaugeList}
 use Rattle.gauge.specs.Receive.{receivePlan, carried, receiveCall}
-use Rattle.gauge_laws.specs.Calls.{receives, ticks, lists}
+use Rattle.gauge.specs.Send.{sendPlan, sendCarried, sendCall}
+use Rattle.gauge_laws.specs.Calls.{receives, sends, ticks, lists}
 use Rattle.gauge_laws.specs.Statements.{RefusedKeeps}
 
 -- a datagram received, by its plan: only a refusal has a number
@@ -34,6 +37,18 @@ pub receive-refused : (l : Receive) → 0 < receiveCall l .given .number
     → receiveCall l ≡ refusedWith (receiveCall l .given .number) (l .cache) (l .waiting) (l .output)
 unfolding receiveCall
 receive-refused l h = receive-by l (receivePlan l) h
+
+-- a FLOOD to send, by its plan
+send-by : (l : Send) (p : SendPlan) → 0 < sendCarried l p .given .number
+    → sendCarried l p ≡ refusedWith (sendCarried l p .given .number) (l .cache) (l .waiting) (l .output)
+unfolding sendCarried
+send-by l (S.Refuse n) h = refl
+send-by l (S.Flood u ours at) h = absurd (omega arith)
+
+pub send-refused : (l : Send) → 0 < sendCall l .given .number
+    → sendCall l ≡ refusedWith (sendCall l .given .number) (l .cache) (l .waiting) (l .output)
+unfolding sendCall
+send-refused l h = send-by l (sendPlan l) h
 
 -- a call that is a table of refusals in front of what is done: a refused one is the refusal of its number
 by-table : {H : Type 0} (number : H → ℕ) (refused : ℕ → H) → ((n : ℕ) → number (refused n) ≡ n) → (rs : List Refusal) (done : H) → number done ≡ 0
@@ -62,6 +77,9 @@ pub refused-keeps : RefusedKeeps
 refused-keeps (receives l) h =
     let e = receive-refused l h in
     (ap (λ (r : Handed). r .given) e, (ap (λ (r : Handed). r .cache) e, (ap (λ (r : Handed). r .waiting) e, tt)), ap (λ (r : Handed). r .output) e)
+refused-keeps (sends l) h =
+    let e = send-refused l h in
+    (ap (λ (r : Handed). r .given) e, (ap (λ (r : Handed). r .waiting) e, tt), ap (λ (r : Handed). r .output) e)
 refused-keeps (ticks own waiting output) h =
     let e = tick-refused own waiting output h in
     (ap (λ (r : TickHanded). r .given) e, (ap (λ (r : TickHanded). r .waiting) e, tt), ap (λ (r : TickHanded). r .output) e)

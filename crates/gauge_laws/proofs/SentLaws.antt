@@ -1,5 +1,5 @@
--- Each message that a datagram received is answered with is read back.
--- In this order: bytes of records; each message; by the plan. Assumes nothing.
+-- Each message that a datagram received is answered with, and the FLOOD that is sent, is read back.
+-- In this order: bytes of records; each message; a datagram received, by the plan; a FLOOD sent. Assumes nothing.
 use mathlib.Core.Path.{_≡_, refl, ap, subst, _∙_}
 use mathlib.Core.Logic.{inl, inr}
 use mathlib.Core.Bool.{Bool, true, false, cond}
@@ -9,38 +9,44 @@ use Prim.Native.Nat.{ℕ, zero, suc, _+_, _-_, _*_, _≤_, _<_}
 use native.Mathlib.Nat.{mod-lt}
 use native.Mathlib.Omega.{arith}
 use lib.ListN.{length, drop, replicate}
-use lib.Seq.{take-all, getD-drop}
+use lib.Seq.{getD-drop}
 use borrow.Author.Tests.{eq-eqb, le-leb}
 use Rattle.octet.specs.Number.{Bytes}
 use Rattle.octet.specs.Part.{part}
 use Rattle.octet.proofs.PartLaws.{length-part, part-digits}
 use Rattle.key.specs.Number.{keyAt}
-use Rattle.record.specs.Record.{keyOf, recordForm}
+use Rattle.record.specs.Record.{keyOf, countOf, recordForm}
 use Rattle.record.specs.Entry.{entryCount, recordOf}
 use Rattle.record.proofs.EntryLaws.{form-length, record-form}
+use Rattle.record.proofs.PlaceLaws.{record-at}
 use Rattle.table.specs.Rows.{rows}
 use Rattle.kept.specs.Keys.{Every, _∈_}
 use Rattle.cache.specs.Closest.{candidates, closestOf}
 use Rattle.cache.proofs.ClosestLaws.{closest-among}
-use Rattle.wire_fields.specs.Kinds.{ackKinds, inquireKinds, authorityKinds}
+use Rattle.wire_fields.specs.Kinds.{ackKinds, floodKinds, inquireKinds, authorityKinds}
 use Rattle.wire_fields.specs.Message.{Message}
 use Rattle.wire_write.specs.Writing.{fit}
-use Rattle.wire_write.specs.Sent.{ackSent, inquireSent, cpaSent, closestSent, ackMade, inquireMade, cpaMade, closestMade}
+use Rattle.wire_write.specs.Sent.{ackSent, floodSent, inquireSent, cpaSent, closestSent, ackMade, floodMade, inquireMade, cpaMade, closestMade}
 use Rattle.wire.specs.Sending.{Numbers}
 use Rattle.wire.proofs.BytesLaws.{bytes-nil, bytes-cons, bytes-append, bytes-zeros}
 use Rattle.wire.proofs.SendingLaws as formed
 use Rattle.gauge_plan.specs.Rooms.{idAfter}
 use Rattle.gauge_plan.specs.declared.Plan.{Plan}
 use Rattle.gauge_plan.specs.declared.Plan.the-variants.{Refuse, Flood, Revoke, Learn, Free, Certify, Show}
+use Rattle.gauge_plan.specs.Send.{recordSent}
+use Rattle.gauge_plan.specs.declared.send.SendPlan.{SendPlan}
+use Rattle.gauge_plan.specs.declared.send.SendPlan.the-variants as S
 use Rattle.gauge_commit.specs.Sending.{acks, asks}
-use Rattle.gauge_commit.proofs.LengthLaws.{ack-length, inquire-length, cpa-length, closest-length}
+use Rattle.gauge_commit.proofs.LengthLaws.{ack-length, inquire-length, cpa-length, closest-length, flood-length}
 use Rattle.gauge_commit.proofs.PlaceLaws.{closest-formed}
-use Rattle.gauge.specs.Lent.{Receive}
+use Rattle.gauge.specs.Lent.{Receive, Send}
 use Rattle.gauge.specs.Receive.{receivePlan, carried, receiveCall}
+use Rattle.gauge.specs.Send.{sendPlan, sendCarried, sendCall}
 use Rattle.gauge.proofs.ReceiveLaws.{Known, known}
-use Rattle.gauge_laws.specs.Sent.{Typed, sent, datagrams, readAs}
-use Rattle.gauge_laws.specs.Statements.{ReadsBack}
-use Rattle.gauge_laws.proofs.FirstLaws.{acks-few, both-few}
+use Rattle.gauge.proofs.SendLaws.{KnownSend, send-known}
+use Rattle.gauge_laws.specs.Sent.{Typed, SendTyped, sent, flooded, datagrams, readAs}
+use Rattle.gauge_laws.specs.Statements.{ReadsBack, SendReadsBack}
+use Rattle.gauge_laws.proofs.FirstLaws.{whole-record, acks-few, both-few}
 use Rattle.gauge_laws.proofs.ReadLaws.{message-read, Meant, AllMeant, meant-append, stand-read}
 
 -- ---- bytes of records
@@ -116,7 +122,7 @@ module _ (major minor id : ℕ) (h : Numbers major minor id) where
   unfolding closestMade
   closest-meant acked r ok b =
       let long = form-length r ok in
-      let whole : part 0 100 r ≡ r = take-all 100 r (omega arith) in
+      let whole = whole-record r ok in
       let ok′ : recordForm (part 0 100 r) ≡ true = ap recordForm whole ∙ ok in
       subst (λ (x : List ℕ). Meant major (closestMade major minor id acked r 0 .bytes) (closestSent major minor id acked x)) whole
       (record {
@@ -125,7 +131,26 @@ module _ (major minor id : ℕ) (h : Numbers major minor id) where
             (formed.closest-formed major minor id acked r 0 h b (rw (le-leb 100 (length r) (omega arith), ok′) refl));
       })
 
--- ---- by the plan
+  flood-meant : (key r : List ℕ) → length key ≡ 32 → Bytes key → recordForm r ≡ true → Bytes r
+      → Meant major (floodMade major minor id key r 0 .bytes) (floodSent major minor id key r)
+  unfolding floodMade fit
+  flood-meant key r lk bk ok b =
+      let long = form-length r ok in
+      let whole = whole-record r ok in
+      let ok′ : recordForm (part 0 100 r) ≡ true = ap recordForm whole ∙ ok in
+      let d = floodMade major minor id key r 0 .bytes in
+      let size = flood-length major minor id r 0 (omega arith) ok′ key lk in
+      let few = record-at 0 r (omega arith) ok′ .1 in
+      let count : countOf (part 0 100 r) ≡ countOf r = ap countOf whole in
+      subst (λ (x : List ℕ). Meant major (floodMade major minor id key r 0 .bytes) (floodSent major minor id key x)) whole
+      (record {
+        some-bytes = omega arith;
+        reads = message-read floodKinds (floodSent major minor id key (part 0 100 r))
+            (formed.flood-formed major minor id key r 0 d h bk b (rw (eq-eqb (length key) 32 lk, le-leb 100 (length r) (omega arith), ok′) refl)
+            (rw (le-leb (length d) (length d) (omega arith), le-leb (length d) 1232 (omega arith)) refl));
+      })
+
+-- ---- a datagram received, by the plan
 
 module _ (l : Receive) (w : Typed l) where
   acks-meant : (silent : Bool) (acked : ℕ) (n : Bool)
@@ -180,3 +205,27 @@ module _ (l : Receive) (w : Typed l) where
 pub reads-back : ReadsBack
 unfolding receiveCall
 reads-back l w = plan-read l w (receivePlan l) (known l)
+
+-- ---- a FLOOD sent
+
+-- the record sent is of bytes
+sent-bytes : (own cache : List ℕ) (ours : Bool) (at : ℕ) → Bytes own → Bytes cache → Bytes (recordSent own cache ours at)
+sent-bytes own cache true at o c = o
+sent-bytes own cache false at o c = part-digits 256 (100 * at) 100 cache (omega arith) c
+
+send-read : (l : Send) → SendTyped l → (p : SendPlan) → KnownSend l p
+    → map (readAs (l .major)) (datagrams (sendCarried l p .given) (sendCarried l p .output)) ≡ map (λ (m : Message). (0, some m)) (flooded l p)
+unfolding sendCarried flooded
+send-read l w (S.Refuse n) k = refl
+send-read l w (S.Flood u ours at) k =
+    let r = recordSent (l .own) (l .cache) ours at in
+    stand-read (l .major) (floodMade (l .major) (l .minor) (l .id) (l .neighbour) r 0 .bytes ∷ [])
+    (floodSent (l .major) (l .minor) (l .id) (l .neighbour) r ∷ []) (l .output) (
+      flood-meant (l .major) (l .minor) (l .id) (w .numbers) (l .neighbour) r (k .addressed) (w .neighbour) (k .formed)
+          (sent-bytes (l .own) (l .cache) ours at (w .own) (w .cache)),
+      tt,
+    ) (omega arith)
+
+pub send-reads-back : SendReadsBack
+unfolding sendCall
+send-reads-back l w = send-read l w (sendPlan l) (send-known l)

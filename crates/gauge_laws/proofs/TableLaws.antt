@@ -1,22 +1,26 @@
--- The number of a datagram received is the first of its table that applies: given exactly when it applies and none lower does. Assumes nothing.
-use mathlib.Core.Path.{_≡_, refl, sym, ap, subst, _∙_}
-use mathlib.Core.Bool.{Bool, true, false, not, cond}
+-- A call's number is the first of its table that applies: given exactly when it applies and none lower does.
+-- In this order: the order of a table's rows; the number of a plan; two tables, one behind the other; a datagram received, by the message; any call.
+-- Assumes nothing.
+use mathlib.Core.Path.{_≡_, refl, sym, subst, _∙_}
+use mathlib.Core.Bool.{Bool, true, false, not, cond, _&&_}
 use mathlib.Core.List.{List, [], _∷_, _++_}
 use Prim.Native.Nat.{ℕ, _≤_, _<_}
 use native.Mathlib.Decide.{decLe}
 use native.Mathlib.Omega.{arith}
-use lib.Dec.{eqb}
+use lib.Dec.{eqb, leb}
 use mathlib.Core.Logic.{_↔_}
-use lib.ListN.{length}
-use Rattle.octet.specs.Part.{part}
-use Rattle.key.specs.Number.{keyAt}
+use borrow.Author.Tests.{leb-true}
+use Rattle.octet.proofs.TestLaws.{both-true}
 use Rattle.record.specs.Record.{keyOf}
-use Rattle.record.specs.Entry.{recordOf}
 use Rattle.refusal.specs.Table.{Refusal, when, firstOf, appliesIn, orRefuse, InOrder, byNumber}
-use Rattle.refusal.proofs.TableLaws.{AllFail, all-fail, number-exactly}
+use Rattle.refusal.proofs.TableLaws.{AllFail, all-fail, number-exactly, none-exactly}
 use Rattle.refusal.proofs.CallLaws.{number-is, refusal-is, all-pass}
+use Rattle.kept.specs.Keys.{Every}
 use Rattle.cache.specs.Form.{heldIn, heldOf}
-use Rattle.waiting.specs.Form.{usedOf, placesOf}
+use Rattle.cache.specs.Bytes.{countsOf, afterList}
+use Rattle.cache.specs.Calls.{Written, written, heldBy, listWrong, listCall}
+use Rattle.waiting.specs.Form.{usedOf}
+use Rattle.waiting.specs.Call as W
 use Rattle.wire_fields.specs.Refusals as fields
 use Rattle.wire_fields.specs.declared.Part.{Part}
 use Rattle.wire_fields.specs.declared.Part.the-variants.{Here, Absent}
@@ -29,11 +33,43 @@ use Rattle.gauge_plan.specs.Flood.{floodPlan, revokePlan}
 use Rattle.gauge_plan.specs.Answering.{authorityPlan, ackPlan, inquirePlan, lookupPlan}
 use Rattle.gauge_plan.specs.declared.Plan.{Plan}
 use Rattle.gauge_plan.specs.declared.Plan.the-variants.{Refuse, Flood, Revoke, Learn, Free, Certify, Show}
-use Rattle.gauge_plan.specs.declared.memory.Memory.{Memory}
 use Rattle.gauge_plan.specs.declared.memory.Memory.the-variants.{Unfit, Fit}
-use Rattle.gauge.specs.Lent.{Receive}
+use Rattle.gauge_plan.specs.Send.{sendingPlan}
+use Rattle.gauge_plan.specs.declared.send.SendPlan.{SendPlan}
+use Rattle.gauge_plan.specs.declared.send.SendPlan.the-variants as S
+use Rattle.gauge.specs.Lent.{Receive, Send}
 use Rattle.gauge.specs.Receive.{byEntry, planFor, planIn, receivePlan, carried, receiveCall}
-use Rattle.gauge_laws.specs.Table.{floodRows, messageRows, receiveTable}
+use Rattle.gauge.specs.Send.{sendPlan, sendCarried, sendCall}
+use Rattle.gauge.specs.Counts.{gaugeTick, gaugeList}
+use Rattle.gauge_laws.specs.Calls.{Call, receives, sends, ticks, lists, made}
+use Rattle.gauge_laws.specs.Table.{floodRows, messageRows, receiveTable, tableOf}
+use Rattle.gauge_laws.specs.Statements.{Exactly, Accepted, RefusalNumbers}
+
+-- ---- the order of a table's rows: computed, as their numbers are written out
+
+-- from low to 15, rising
+abbrev rises : ℕ → List Refusal → Bool
+rises low [] = true
+rises low (r ∷ rs) = leb low (r .number) && leb (r .number) 15 && rises (r .number) rs
+
+module _ (low : ℕ) where
+  rises-first : (r : Refusal) (rs : List Refusal) → rises low (r ∷ rs) ≡ true → (low ≤ r .number) × (r .number ≤ 15) × (rises (r .number) rs ≡ true)
+  rises-first r rs e =
+      let w = both-true (leb low (r .number) && leb (r .number) 15) (rises (r .number) rs) e in
+      let v = both-true (leb low (r .number)) (leb (r .number) 15) (w .0) in
+      (leb-true low (r .number) (v .0), leb-true (r .number) 15 (v .1), w .1)
+
+rises-order : (low : ℕ) (rs : List Refusal) → 0 < low → rises low rs ≡ true → InOrder byNumber low rs
+rises-order low [] h e = tt
+rises-order low (r ∷ rs) h e =
+    let w = rises-first low r rs e in
+    (omega (arith, w .0), w .0, rises-order (r .number) rs (omega (arith, w .0)) (w .2))
+
+rises-listed : (low : ℕ) (rs : List Refusal) → 0 < low → rises low rs ≡ true → Every (λ (r : Refusal). (0 < r .number) × (r .number ≤ 15)) rs
+rises-listed low [] h e = tt
+rises-listed low (r ∷ rs) h e =
+    let w = rises-first low r rs e in
+    ((omega (arith, w .0), w .1), rises-listed (r .number) rs (omega (arith, w .0)) (w .2))
 
 -- ---- the number of a plan
 
@@ -45,6 +81,10 @@ numberOf (Learn h u at) = 0
 numberOf (Free h u at m) = 0
 numberOf (Certify a) = 0
 numberOf (Show h a at) = 0
+
+abbrev sendNumber : SendPlan → ℕ
+sendNumber (S.Refuse n) = n
+sendNumber (S.Flood u ours at) = 0
 
 carried-number : (l : Receive) (p : Plan) → carried l p .given .number ≡ numberOf p
 unfolding carried
@@ -58,6 +98,16 @@ carried-number l (Show h a at) = refl
 
 by-table : (rs : List Refusal) (done : Plan) → numberOf done ≡ 0 → numberOf (orRefuse Refuse rs done) ≡ firstOf rs
 by-table rs done e = number-is numberOf Refuse (λ n. refl) done e rs
+
+-- a FLOOD to send
+sent-number : (l : Send) (p : SendPlan) → sendCarried l p .given .number ≡ sendNumber p
+unfolding sendCarried
+sent-number l (S.Refuse n) = refl
+sent-number l (S.Flood u ours at) = refl
+
+send-number : (l : Send) → sendCall l .given .number ≡ firstOf (tableOf (sends l))
+unfolding sendCall sendingPlan
+send-number l = sent-number l (sendPlan l) ∙ number-is sendNumber S.Refuse (λ n. refl) _ refl (tableOf (sends l))
 
 -- ---- two tables, one behind the other
 
@@ -137,17 +187,6 @@ Numbered l x =
     ≡ firstOf (fields.refusals (l .datagram) (l .major) ++ messageRows l (R.shown (l .datagram) x))
 
 module _ (l : Receive) where
-  reading-order : InOrder byNumber 1 (fields.refusals (l .datagram) (l .major))
-  reading-order = (
-    omega arith,
-    omega arith,
-    (
-      omega arith,
-      omega arith,
-      (omega arith, omega arith, (omega arith, omega arith, (omega arith, omega arith, (omega arith, omega arith, tt)))),
-    ),
-  )
-
   refused-number : 0 < firstOf (fields.refusals (l .datagram) (l .major)) → Numbered l (fields.refused (firstOf (fields.refusals (l .datagram) (l .major))))
   unfolding planFor R.shown
   refused-number p = sym (first-before (fields.refusals (l .datagram) (l .major)) _ p)
@@ -167,7 +206,9 @@ module _ (l : Receive) where
 
   read-number : Numbered l (fields.foundIn (l .datagram) (l .major))
   unfolding fields.foundIn
-  read-number = read-by (fields.refusals (l .datagram) (l .major)) _ refl reading-order refused-number (found-number _ _)
+  read-number =
+      let rs = fields.refusals (l .datagram) (l .major) in
+      read-by rs _ refl (rises-order 1 rs (omega arith) refl) refused-number (found-number _ _)
 
   -- ---- memory and what is handed in, then the datagram
 
@@ -188,52 +229,60 @@ module _ (l : Receive) where
   unfolding receiveCall receivePlan memoryOf
   receive-number = carried-number l (receivePlan l) ∙ memory-number (tablesFit (l .own) (l .cache) (l .waiting))
 
-  -- ---- the order of the rows
+  -- ---- the order of its rows
 
-  flood-rows : (s : Bool) (validate : ℕ) (entry : Part) → InOrder byNumber 7 (floodRows l s validate entry)
-  flood-rows s validate (Here start len) = (omega arith, omega arith, (omega arith, omega arith, (omega arith, omega arith, (omega arith, omega arith, tt))))
-  flood-rows s validate Absent = (omega arith, omega arith, (omega arith, omega arith, (omega arith, omega arith, tt)))
+  entry-rises : (s : Bool) (validate : ℕ) (entry : Part) → rises 7 (floodRows l s validate entry) ≡ true
+  entry-rises s validate (Here start len) = refl
+  entry-rises s validate Absent = refl
 
-  message-order : (a : T.Answer) → InOrder byNumber 7 (messageRows l a)
-  message-order (M.Refused n) = tt
-  message-order (M.Solicit head entry nonce) = (omega arith, omega arith, tt)
-  message-order (M.Advertise head acked keys nonce) = (omega arith, omega arith, tt)
-  message-order (M.Request head flags split nonce keys credential signature key) = (omega arith, omega arith, tt)
-  message-order (M.Flood head s validate token revoke entry reached) = flood-rows s validate entry
-  message-order (M.Inquire head a x c validate nonce credential signature key) = (omega arith, omega arith, (omega arith, omega arith, tt))
-  message-order (M.Authority head acked fields) = (omega arith, omega arith, (omega arith, omega arith, (omega arith, omega arith, tt)))
-  message-order (M.Ack head acked flags n) = (omega arith, omega arith, tt)
-  message-order (M.Lookup head a precision criteria reason target validate entry path credential signature key) = (omega arith, omega arith, tt)
+  message-rises : (a : T.Answer) → rises 7 (messageRows l a) ≡ true
+  message-rises (M.Refused n) = refl
+  message-rises (M.Solicit head entry nonce) = refl
+  message-rises (M.Advertise head acked keys nonce) = refl
+  message-rises (M.Request head flags split nonce keys credential signature key) = refl
+  message-rises (M.Flood head s validate token revoke entry reached) = entry-rises s validate entry
+  message-rises (M.Inquire head a x c validate nonce credential signature key) = refl
+  message-rises (M.Authority head acked fields) = refl
+  message-rises (M.Ack head acked flags n) = refl
+  message-rises (M.Lookup head a precision criteria reason target validate entry path credential signature key) = refl
 
-  pub receive-order : InOrder byNumber 1 (receiveTable l)
-  receive-order = (
-    omega arith,
-    omega arith,
-    (
-      omega arith,
-      omega arith,
-      (
-        omega arith,
-        omega arith,
-        (
-          omega arith,
-          omega arith,
-          (
-            omega arith,
-            omega arith,
-            (
-              omega arith,
-              omega arith,
-              (omega arith, omega arith, (omega arith, omega arith, message-order (R.answer (l .datagram) (l .major)))),
-            ),
-          ),
-        ),
-      ),
-    ),
-  )
+-- ---- any call
 
-  pub receive-exactly : (n : ℕ) → 0 < n
-      → (receiveCall l .given .number ≡ n) ↔ ((appliesIn n (receiveTable l) ≡ true) × ((m : ℕ) → m < n → appliesIn m (receiveTable l) ≡ false))
-  receive-exactly n p = subst
-      (λ (x : ℕ). (x ≡ n) ↔ ((appliesIn n (receiveTable l) ≡ true) × ((m : ℕ) → m < n → appliesIn m (receiveTable l) ≡ false)))
-      (sym receive-number) (number-exactly (receiveTable l) 1 n receive-order p)
+pub call-number : (c : Call) → made c .given .number ≡ firstOf (tableOf c)
+unfolding gaugeTick W.tickCall W.tickDone gaugeList listCall
+call-number (receives l) = receive-number l
+call-number (sends l) = send-number l
+call-number (ticks own waiting output) =
+    number-is (λ (t : W.Ticked). t .number) (λ (n : ℕ). W.handed n 0 waiting output) (λ n. refl) (W.tickDone waiting output) refl
+    (W.tickRefusals own waiting output)
+call-number (lists own cache output) =
+    let counts = countsOf (keyOf own) (heldBy own cache) in
+    number-is (λ (w : Written). w .answer .number) (λ (n : ℕ). written (record { number = n; below = 0; above = 0 }) output) (λ n. refl)
+    (written (record { number = 0; below = counts .below; above = counts .above }) (afterList (keyOf own) (heldBy own cache) output)) refl
+    (listWrong own cache output)
+
+call-rises : (c : Call) → rises 1 (tableOf c) ≡ true
+unfolding W.tickRefusals
+call-rises (receives l) = message-rises l (R.answer (l .datagram) (l .major))
+call-rises (sends l) = refl
+call-rises (ticks own waiting output) = refl
+call-rises (lists own cache output) = refl
+
+pub call-order : (c : Call) → InOrder byNumber 1 (tableOf c)
+call-order c = rises-order 1 (tableOf c) (omega arith) (call-rises c)
+
+-- where a call is accepted, each test of its table fails
+pub none-applies : (c : Call) → made c .given .number ≡ 0 → AllFail (tableOf c)
+none-applies c z = all-fail byNumber (tableOf c) 1 (call-order c) (sym (call-number c) ∙ z)
+
+pub refusal-numbers : RefusalNumbers
+refusal-numbers c = rises-listed 1 (tableOf c) (omega arith) (call-rises c)
+
+pub exactly : Exactly
+exactly c n p = subst
+    (λ (x : ℕ). (x ≡ n) ↔ ((appliesIn n (tableOf c) ≡ true) × ((m : ℕ) → m < n → appliesIn m (tableOf c) ≡ false)))
+    (sym (call-number c)) (number-exactly (tableOf c) 1 n (call-order c) p)
+
+pub accepted : Accepted
+accepted c = subst (λ (x : ℕ). (x ≡ 0) ↔ ((m : ℕ) → appliesIn m (tableOf c) ≡ false)) (sym (call-number c))
+    (none-exactly byNumber (tableOf c) 1 (call-order c))

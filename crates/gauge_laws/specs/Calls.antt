@@ -6,19 +6,23 @@ use Rattle.record.specs.Record.{keyOf}
 use Rattle.cache.specs.Form.{cacheForm}
 use Rattle.waiting.specs.Form.{waitingForm}
 use Rattle.gauge_commit.specs.declared.Answer.{Answer}
-use Rattle.gauge.specs.Lent.{Receive}
+use Rattle.gauge.specs.Lent.{Receive, Send}
 use Rattle.gauge.specs.Receive.{receiveCall}
+use Rattle.gauge.specs.Send.{sendCall}
 use Rattle.gauge.specs.Counts.{gaugeTick, gaugeList}
 
--- a call, by what it is lent and handed in: own record, waiting table and output of a tick; own record, cache and output of a neighbour list
+-- a call, by what it is lent and handed in: a datagram received; a FLOOD to send; own record, waiting table and output of a tick; own record, cache and
+-- output of a neighbour list
 pub data Call : Type 0 where
   receives : Receive → Call
+  sends : Send → Call
   ticks : List ℕ → List ℕ → List ℕ → Call
   lists : List ℕ → List ℕ → List ℕ → Call
 
 -- the message ID handed in has 32 bits, as the call's type says
 abbrev pub IdFits : Call → Type 0
 IdFits (receives l) = l .id < 2 ^ 32
+IdFits (sends l) = l .id < 2 ^ 32
 IdFits (ticks own waiting output) = Unit {0}
 IdFits (lists own cache output) = Unit {0}
 
@@ -42,13 +46,22 @@ pub record Made : Type 0 where
   pub left : List ℕ
   pub returned : ℕ
 
--- datagrams are counted in bytes, listed IDs are of 4 bytes, listed keys of 32
+-- datagrams are counted in bytes, listed IDs are of 4 bytes, listed keys of 32; a FLOOD to send reads the cache only
 abbrev pub made : Call → Made
 made (receives l) =
     let h = receiveCall l in
     record {
       given = h .given;
       memory = cacheLent (l .own) (l .cache) (h .cache) ∷ waitingLent (l .own) (l .waiting) (h .waiting) ∷ [];
+      lent = l .output;
+      left = h .output;
+      returned = h .given .first + h .given .second;
+    }
+made (sends l) =
+    let h = sendCall l in
+    record {
+      given = h .given;
+      memory = waitingLent (l .own) (l .waiting) (h .waiting) ∷ [];
       lent = l .output;
       left = h .output;
       returned = h .given .first + h .given .second;

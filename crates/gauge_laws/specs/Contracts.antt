@@ -7,6 +7,8 @@ use denote.Triple.Clauses.{AtExit}
 use denote.Ref.{now}
 use Rattle.gauge.proofs.gauge_receive as receiving
 use Rattle.gauge.proofs.gauge_receive.Reads as received
+use Rattle.gauge.proofs.gauge_send as sending
+use Rattle.gauge.proofs.gauge_send.Reads as sent
 use Rattle.gauge.proofs.gauge_tick as ticking
 use Rattle.gauge.proofs.gauge_tick.Reads as ticked
 use Rattle.gauge.proofs.gauge_neighbours as listing
@@ -26,6 +28,15 @@ abbrev pub ReceiveOne : Type 0
 ReceiveOne =
     (κs : Lfts 8) (a : ArgsD receiving.signature κs) (r r′ : ResD receiving.signature κs) (s s′ : AtExit receiving.ended κs)
     → received.Post κs a r s → received.Post κs a r′ s′ → receiveLeft κs r s ≡ receiveLeft κs r′ s′
+
+-- send has the cache for reading
+abbrev sendLeft : (κs : Lfts 6) → ArgsD sending.signature κs → ResD sending.signature κs → AtExit sending.ended κs → Handed
+sendLeft κs a r s = handed r (now (a .1 .0)) (now (s .1 .1 .0)) (now (s .1 .1 .1 .1 .1 .1 .1 .1 .0))
+
+abbrev pub SendOne : Type 0
+SendOne =
+    (κs : Lfts 6) (a : ArgsD sending.signature κs) (r r′ : ResD sending.signature κs) (s s′ : AtExit sending.ended κs)
+    → sent.Post κs a r s → sent.Post κs a r′ s′ → sendLeft κs a r s ≡ sendLeft κs a r′ s′
 
 abbrev pub TickOne : Type 0
 TickOne =

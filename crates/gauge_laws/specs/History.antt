@@ -7,18 +7,21 @@ use lib.Dec.{eqb}
 use Rattle.waiting.specs.Form.{anyOf, placesOf}
 use Rattle.waiting.specs.Seek.{hasId}
 use Rattle.gauge.specs.Receive.{receiveCall}
+use Rattle.gauge.specs.Send.{sendCall}
 use Rattle.gauge.specs.Counts.{gaugeTick}
-use Rattle.gauge_laws.specs.Calls.{Call, receives, ticks, lists, IdFits}
+use Rattle.gauge_laws.specs.Calls.{Call, receives, sends, ticks, lists, IdFits}
 
 -- the call is lent the table; a neighbour list is lent none
 abbrev pub IsLent : List ℕ → Call → Type 0
 IsLent t (receives l) = l .waiting ≡ t
+IsLent t (sends l) = l .waiting ≡ t
 IsLent t (ticks own waiting output) = waiting ≡ t
 IsLent t (lists own cache output) = Unit {0}
 
 -- the table after it
 abbrev pub tableAfter : List ℕ → Call → List ℕ
 tableAfter t (receives l) = receiveCall l .waiting
+tableAfter t (sends l) = sendCall l .waiting
 tableAfter t (ticks own waiting output) = gaugeTick own waiting output .waiting
 tableAfter t (lists own cache output) = t
 
@@ -30,6 +33,7 @@ OnTable t (c ∷ cs) = IsLent t c × IdFits c × OnTable (tableAfter t c) cs
 -- the call is a tick, and accepted
 abbrev pub isTick : Call → Bool
 isTick (receives l) = false
+isTick (sends l) = false
 isTick (ticks own waiting output) = eqb (gaugeTick own waiting output .given .number) 0
 isTick (lists own cache output) = false
 

@@ -1,5 +1,5 @@
--- To believe. The table of refusals of a datagram received, 1 to 15 in document 01's order: memory, what is handed in, reading, and the rows of the message
--- that was read. Assumes nothing.
+-- To believe. The table of refusals of each call, 1 to 15 in document 01's order. Of a datagram received: memory, what is handed in, reading, and the rows of
+-- the message that was read. Assumes nothing.
 use Prim.Native.Nat.{ℕ}
 use mathlib.Core.Bool.{Bool, true, not}
 use mathlib.Core.List.{List, [], _∷_, _++_}
@@ -10,7 +10,9 @@ use Rattle.record.specs.Record.{keyOf}
 use Rattle.record.specs.Entry.{recordOf}
 use Rattle.refusal.specs.Table.{Refusal, when}
 use Rattle.cache.specs.Form.{heldOf}
+use Rattle.cache.specs.Calls.{listWrong}
 use Rattle.waiting.specs.Form.{usedOf, placesOf}
+use Rattle.waiting.specs.Call.{tickRefusals}
 use Rattle.wire_fields.specs.Refusals.{refusals}
 use Rattle.wire_fields.specs.declared.Part.{Part}
 use Rattle.wire_fields.specs.declared.Part.the-variants.{Here, Absent}
@@ -20,7 +22,9 @@ use Rattle.wire_read.specs.declared.Answer.the-variants as M
 use Rattle.gauge_plan.specs.Memory.{tablesFit, handsFit}
 use Rattle.gauge_plan.specs.Flood.{notOurs, mustAsk, floodRefusals, revokeRefusals}
 use Rattle.gauge_plan.specs.Answering.{authorityRefusals, ackRefusals, inquireRefusals, lookupRefusals}
+use Rattle.gauge_plan.specs.Send.{sendRefusals}
 use Rattle.gauge.specs.Lent.{Receive}
+use Rattle.gauge_laws.specs.Calls.{Call, receives, sends, ticks, lists}
 
 -- a FLOOD with a route entry, or with a revocation
 abbrev pub floodRows : Receive → Bool → ℕ → Part → List Refusal
@@ -51,3 +55,9 @@ receiveTable l =
     when 1 (not (tablesFit (l .own) (l .cache) (l .waiting)))
     ∷ when 1 (not (handsFit (l .cpa) (l .nonce) (l .key)))
     ∷ (refusals (l .datagram) (l .major) ++ messageRows l (R.answer (l .datagram) (l .major)))
+
+abbrev pub tableOf : Call → List Refusal
+tableOf (receives l) = receiveTable l
+tableOf (sends l) = sendRefusals (l .own) (l .cache) (l .waiting) (l .id) (l .neighbour) (l .key) (length (l .output))
+tableOf (ticks own waiting output) = tickRefusals own waiting output
+tableOf (lists own cache output) = listWrong own cache output

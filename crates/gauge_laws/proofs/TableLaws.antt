@@ -128,7 +128,7 @@ first-before (r ∷ rs) ss p = before-by (r .applies) (r .number) rs ss (first-b
 
 -- ---- by the message
 
-abbrev IsMessage : T.Answer → Type 0
+abbrev pub IsMessage : T.Answer → Type 0
 IsMessage (M.Refused n) = ⊥
 IsMessage (M.Solicit head entry nonce) = Unit {0}
 IsMessage (M.Advertise head acked keys nonce) = Unit {0}
@@ -143,7 +143,7 @@ either : {A : Type 0} (P : A → Type 0) (b : Bool) (x y : A) → P x → P y �
 either P true x y p q = p
 either P false x y p q = q
 
-shown-message : (d : List ℕ) (t : ℕ) (ps : List Part) → IsMessage (R.shown d (fields.found t ps))
+pub shown-message : (d : List ℕ) (t : ℕ) (ps : List Part) → IsMessage (R.shown d (fields.found t ps))
 unfolding R.shown
 shown-message d t ps =
     let P : T.Answer → Type 0 = IsMessage in

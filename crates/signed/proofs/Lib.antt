@@ -1,0 +1,6 @@
+-- The laws of specs/, for the crates above.
+pub mod EventLaws
+pub mod KeyLaws
+pub mod SendLaws
+pub mod StepLaws
+pub mod Theorems

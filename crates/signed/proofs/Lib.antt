@@ -4,3 +4,4 @@ pub mod KeyLaws
 pub mod SendLaws
 pub mod StepLaws
 pub mod Theorems
+pub mod WrongLaws

@@ -1,3 +1,4 @@
 pub mod Words
 pub mod Events
 pub mod Statements
+pub mod Wrong

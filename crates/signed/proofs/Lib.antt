@@ -5,3 +5,4 @@ pub mod SendLaws
 pub mod StepLaws
 pub mod Theorems
 pub mod WrongLaws
+pub mod CaseLaws

@@ -2,3 +2,4 @@ pub mod Words
 pub mod Events
 pub mod Statements
 pub mod Wrong
+pub mod Cases

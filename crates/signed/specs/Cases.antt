@@ -1,0 +1,118 @@
+-- Worked cases. Document 01's cases 1 to 12, those marked P: rows of one list under one statement, of what our calls give on lent bytes. Assumes nothing.
+use Prim.Native.Nat.{ℕ, _-_, _*_, _^_}
+use mathlib.Core.Path.{_≡_}
+use mathlib.Core.Bool.{Bool, true, false}
+use mathlib.Core.List.{List, [], _∷_, _++_, map}
+use mathlib.Core.Option.{some, none}
+use lib.ListN.{length, replicate}
+use Rattle.octet.specs.Number.{digitsBE}
+use Rattle.key.specs.Around as around
+use Rattle.kept.specs.Keys.{Every}
+use Rattle.table.specs.Rows.{bytesOf}
+use Rattle.cache.specs.Bytes.{keyBytes}
+use Rattle.waiting.specs.Place.{newPlace}
+use Rattle.waiting.specs.Open.{inquiryPlace}
+use Rattle.waiting.specs.Tick.{idBytes}
+use Rattle.wire_fields.specs.Kinds.{lookupKinds}
+use Rattle.wire_fields.specs.Message as message
+use Rattle.wire_write.specs.Sent.{ackMade, cpaMade, closestMade}
+use Rattle.gauge_commit.specs.Sending.{answer}
+use Rattle.signed.specs.Words.{Memory, memory, Call, receives, ticks, lists, given, ours}
+
+-- ---- on which bytes
+
+abbrev pub key : ℕ → List ℕ
+key k = digitsBE 256 32 k
+
+-- a record with the key k, port 0 and one address, all zero
+abbrev pub recordWith : ℕ → List ℕ
+recordWith k = key k ++ (0 ∷ 0 ∷ 1 ∷ 0 ∷ []) ++ replicate 64 0
+
+-- a cache of C places that holds records with these keys, and a waiting table with these places
+abbrev pub holding : ℕ → List ℕ → List (List ℕ) → Memory
+holding C keys ps = memory (bytesOf (100 * C) (map recordWith keys)) (bytesOf 2240 ps)
+
+-- a datagram received by the gauge with the own key, with ID 7 and verdict 1 for the key k
+abbrev pub hears : ℕ → ℕ → List ℕ → Call
+hears own k datagram = receives (recordWith own) (0 ∷ []) 6 101 7 (replicate 16 0) 1 (key k) datagram (replicate 96 0)
+
+-- the inquiry for the key k, with ID 8, and an AUTHORITY that answers it
+abbrev pub inquiryFor : ℕ → List ℕ
+inquiryFor k = inquiryPlace 8 (recordWith k)
+
+abbrev pub authority : List ℕ
+authority = cpaMade 6 101 5 8 (0 ∷ []) .bytes
+
+-- a LOOKUP of the target, with one endpoint
+abbrev pub endpoint : List ℕ
+endpoint = (0x00 ∷ 0x01 ∷ 0x00 ∷ 0x1A ∷ 0x00 ∷ 0x9D ∷ 0x00 ∷ 0x12 ∷ []) ++ replicate 18 0
+
+abbrev pub lookupOf : ℕ → List ℕ
+lookupOf target =
+    message.bytesOf (message.layoutOf lookupKinds (record {
+      major = 6;
+      minor = 101;
+      type = 11;
+      id = 5;
+      fields = some (replicate 8 0) ∷ some (key target) ∷ some (key 0) ∷ none ∷ some endpoint ∷ none ∷ none ∷ none ∷ [];
+    }))
+
+-- one tick after the other lists these IDs, and then no place waits
+abbrev pub Ticking : Memory → List (List ℕ) → Type 0
+Ticking m [] = m ≡ holding 10 [] []
+Ticking m (ids ∷ more) =
+    let h = ours m (ticks (recordWith 100) (replicate 64 0)) in
+    (h .answer ≡ answer 0 (length ids) 0) × (h .output ≡ idBytes ids ++ replicate (64 - 4 * length ids) 0) × Ticking (h .memory) more
+
+-- ---- the rows
+
+pub data Case : Type 0 where
+  -- own key, held keys; the neighbour list and its two counts
+  listed : ℕ → List ℕ → List ℕ → ℕ → ℕ → Case
+  -- C, own key, held keys, key learned; keys held then
+  learnt : ℕ → ℕ → List ℕ → ℕ → List ℕ → Case
+  -- own key, held keys, target; the key of the closest record
+  shown : ℕ → List ℕ → ℕ → ℕ → Case
+  -- two keys; by how much they differ
+  differ : ℕ → ℕ → ℕ → Case
+  -- versions, own ID, acked ID, N; the ACK
+  acks : ℕ → ℕ → ℕ → ℕ → Bool → List ℕ → Case
+  -- the ID of a place and its tries; what each tick lists, the last of them frees it
+  waits : ℕ → ℕ → List (List ℕ) → Case
+
+-- a key is learned by the AUTHORITY that answers its inquiry; the closest record is what a LOOKUP is answered with
+abbrev pub Right : Case → Type 0
+Right (listed own held list low high) =
+    ours (holding 10 held []) (lists (recordWith own) (replicate 320 0))
+    ≡ given (answer 0 low high) (holding 10 held []) (keyBytes list ++ replicate (320 - 32 * length list) 0)
+Right (learnt C own held k then) =
+    ours (holding C held (inquiryFor k ∷ [])) (hears own k authority) ≡ given (answer 0 0 0) (holding C then []) (replicate 96 0)
+Right (shown own held target k) =
+    ours (holding 10 held []) (hears own 0 (lookupOf target))
+    ≡ given (answer 0 96 0) (holding 10 held []) (closestMade 6 101 7 5 (recordWith k) 0 .bytes)
+Right (differ j k d) = around.apart j k ≡ d
+Right (acks major minor id acked n bytes) = ackMade major minor id acked n .bytes ≡ bytes
+Right (waits id tries ids) = Ticking (holding 10 [] (newPlace id 1 tries (key 7) (replicate 100 0) ∷ [])) ids
+
+-- 1 to 12, in order
+abbrev pub cases : List Case
+cases =
+    listed 100 (60 ∷ 70 ∷ 80 ∷ 90 ∷ 95 ∷ 99 ∷ 101 ∷ 110 ∷ []) (99 ∷ 95 ∷ 90 ∷ 80 ∷ 70 ∷ 101 ∷ 110 ∷ []) 5 2
+    ∷ listed 100 [] [] 0 0
+    ∷ learnt 10 100 (90 ∷ 91 ∷ 92 ∷ 93 ∷ 94 ∷ 95 ∷ 96 ∷ 97 ∷ 98 ∷ 99 ∷ []) 101 (91 ∷ 92 ∷ 93 ∷ 94 ∷ 95 ∷ 96 ∷ 97 ∷ 98 ∷ 99 ∷ 101 ∷ [])
+    ∷ learnt 10 100 (90 ∷ 91 ∷ 92 ∷ 93 ∷ 94 ∷ 95 ∷ 96 ∷ 97 ∷ 98 ∷ 99 ∷ []) 89 (90 ∷ 91 ∷ 92 ∷ 93 ∷ 94 ∷ 95 ∷ 96 ∷ 97 ∷ 98 ∷ 99 ∷ [])
+    ∷ learnt 11 100 (94 ∷ 95 ∷ 96 ∷ 97 ∷ 98 ∷ 99 ∷ 101 ∷ 102 ∷ 103 ∷ 104 ∷ 105 ∷ []) 106 (94 ∷ 95 ∷ 96 ∷ 97 ∷ 98 ∷ 99 ∷ 101 ∷ 102 ∷ 103 ∷ 104 ∷ 105 ∷ [])
+    ∷ shown 50 (99 ∷ 101 ∷ []) 100 99
+    ∷ shown 9 (1 ∷ 4294967296 ∷ []) 0 1
+    ∷ differ 4294967295 4294967296 1
+    ∷ shown 5 (0 ∷ []) (2 ^ 256 - 1) 5
+    ∷ acks 6 101 7 0xD8859CF5 false
+    (0x00 ∷ 0x10 ∷ 0x00 ∷ 0x0C ∷ 0x51 ∷ 0x06 ∷ 0x65 ∷ 0x09 ∷ 0x00 ∷ 0x00 ∷ 0x00 ∷ 0x07 ∷ 0x00 ∷ 0x18 ∷ 0x00 ∷ 0x08 ∷ 0xD8 ∷ 0x85 ∷ 0x9C ∷ 0xF5 ∷ [])
+    ∷ acks 6 101 7 0xD8859CF5 true
+    (0x00 ∷ 0x10 ∷ 0x00 ∷ 0x0C ∷ 0x51 ∷ 0x06 ∷ 0x65 ∷ 0x09 ∷ 0x00 ∷ 0x00 ∷ 0x00 ∷ 0x07 ∷ 0x00 ∷ 0x18 ∷ 0x00 ∷ 0x08 ∷ 0xD8 ∷ 0x85 ∷ 0x9C ∷ 0xF5
+    ∷ 0x00 ∷ 0x40 ∷ 0x00 ∷ 0x06 ∷ 0x00 ∷ 0x01 ∷ [])
+    ∷ waits 3 2 ((3 ∷ []) ∷ (3 ∷ []) ∷ [] ∷ [])
+    ∷ []
+
+abbrev pub AllRight : Type 0
+AllRight = Every Right cases

@@ -9,4 +9,3 @@ pub mod ClosestLaws
 pub mod BestLaws
 pub mod LentLaws
 pub mod CallLaws
-pub mod CaseLaws

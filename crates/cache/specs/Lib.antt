@@ -3,4 +3,3 @@ pub mod Place
 pub mod Bytes
 pub mod Closest
 pub mod Calls
-pub mod Cases

@@ -10,4 +10,3 @@ pub mod SplitLaws
 pub mod PlainLaws
 pub mod PlaceLaws
 pub mod CallLaws
-pub mod CaseLaws

@@ -6,4 +6,3 @@ pub mod Plain
 pub mod Records
 pub mod Calls
 pub mod Demand3
-pub mod Cases

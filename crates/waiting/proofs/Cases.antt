@@ -1,4 +1,4 @@
--- Document 01's case 12, and the rows of the form test, computed. Assumes nothing.
+-- The rows of the form test, computed. Assumes nothing.
 use mathlib.Core.Path.{refl}
 use Rattle.octet.specs.Number.{valueBE, valueLE, digitsLE}
 use Rattle.octet.specs.Part.{allZero}
@@ -6,12 +6,7 @@ use Rattle.record.specs.Record.{recordForm}
 use Rattle.table.specs.Rows.{rows, joined, bytesOf}
 use Rattle.waiting.specs.Place.{newPlace}
 use Rattle.waiting.specs.Form.{placeForm, anyOf, placesForm, usedIn, usedOf, waitingForm}
-use Rattle.waiting.specs.Tick.{ticked, listed}
-use Rattle.waiting.specs.Cases.{Case12, FormCases}
-
-pub case-12 : Case12
-unfolding newPlace ticked listed valueLE digitsLE
-case-12 = (refl, refl, refl, refl)
+use Rattle.waiting.specs.Cases.{FormCases}
 
 pub form-cases : FormCases
 unfolding newPlace valueBE valueLE digitsLE allZero recordForm rows joined bytesOf placeForm anyOf placesForm usedIn usedOf waitingForm

@@ -1,5 +1,4 @@
--- Worked cases. Document 01's case 12, "a place with two tries: listed, listed, freed", and tables in form and out of form, each out of it for one reason.
--- Assumes nothing.
+-- Worked cases. Tables in form and out of form, each out of it for one reason. Assumes nothing.
 use mathlib.Core.Path.{_≡_}
 use mathlib.Core.Bool.{Bool, true, false}
 use mathlib.Core.List.{List, [], _∷_, _++_}
@@ -9,7 +8,6 @@ use Rattle.table.specs.Rows.{bytesOf}
 use Rattle.waiting.specs.Place.{newPlace}
 use Rattle.waiting.specs.Form.{waitingForm}
 use Rattle.waiting.specs.Open.{inquiryPlace, floodPlace}
-use Rattle.waiting.specs.Tick.{ticked, listed}
 
 -- a key below 256, and a record of it with one address
 abbrev pub keyBytes : ℕ → List ℕ
@@ -23,14 +21,6 @@ flood id k = floodPlace id (keyBytes k)
 
 abbrev pub inquiry : ℕ → ℕ → List ℕ
 inquiry id k = inquiryPlace id (recordBytes k)
-
--- case 12: the flood with ID 16909060 to the neighbour of key 7, as it is opened
-abbrev pub Case12 : Type 0
-Case12 =
-    (listed (flood 16909060 7 ∷ []) ≡ 16909060 ∷ [])
-    × (listed (ticked (flood 16909060 7 ∷ [])) ≡ 16909060 ∷ [])
-    × (listed (ticked (ticked (flood 16909060 7 ∷ []))) ≡ [])
-    × (ticked (ticked (ticked (flood 16909060 7 ∷ []))) ≡ [])
 
 -- a row: the first places of the table of a gauge with key 9, and whether the table is in form
 pub record FormRow : Type 0 where

@@ -9,7 +9,7 @@ use lib.Dec.{eqb, leb}
 use lib.ListN.{length, getD, take, drop}
 use lib.Seq.{take-at}
 use borrow.Author.Tests.{eqb-true, le-leb}
-use Rattle.octet.specs.Number.{Bytes, digitsBE}
+use Rattle.octet.specs.Number.{Bytes}
 use Rattle.refusal.proofs.CallLaws.{call-exactly}
 use Rattle.wire_fields.specs.Shapes.{Kind, hasShape}
 use Rattle.wire_fields.specs.declared.Shape.the-variants.{Any}
@@ -28,12 +28,11 @@ use Rattle.wire_read.specs.Answers.{lookupShown}
 use Rattle.wire_read.specs.Meaning.{numberOf, messageOf}
 use Rattle.wire_read.specs.declared.Answer.{Answer}
 use Rattle.wire_write.specs.Writing.{Made, fit, writeAs, writeIn, Wrote}
-use Rattle.wire_write.specs.Sent.{ackMade}
 use Rattle.wire_write.specs.declared.Written.{Written}
 use Rattle.wire.specs.Statements.{PayloadReads, changedAt, changed, AtMostOne, ReadGives, ReadAccepts, ReadRefuses, WrittenReads, WrittenRead}
 use Rattle.wire.specs.Statements.{OutputReads, WriteReads}
 use Rattle.wire.specs.Statements.{ReadWritten}
-use Rattle.wire.specs.Statements.{ReadWrittenAgain, OutputAgain, ReadOne, WriteOne, AckCases, ChangedReads}
+use Rattle.wire.specs.Statements.{ReadWrittenAgain, OutputAgain, ReadOne, WriteOne, ChangedReads}
 use Rattle.wire.proofs.StandLaws.{Stand, stands}
 use Rattle.wire.proofs.MeaningLaws.{solicit-means, advertise-means, request-means, flood-means, inquire-means, authority-means, ack-means}
 use Rattle.wire.proofs.MeaningLaws.{lookup-means}
@@ -322,11 +321,6 @@ pub write-one : WriteOne
 write-one m old r s out other p q = (p .answer ∙ sym (q .answer), p .output ∙ sym (q .output))
 
 -- 6
-pub ack-cases : AckCases
-unfolding ackMade digitsBE
-ack-cases = (refl, (refl, tt))
-
--- 7
 pub changed-reads : ChangedReads
 changed-reads ks m n c w a j h = written-reads ks (changed ks m n c) (changed-well ks m n c w a j h)
 

@@ -1,4 +1,4 @@
--- To believe. What holds of reading and writing, for every datagram and for every message of the eight types: 1 to 7.
+-- To believe. What holds of reading and writing, for every datagram and for every message of the eight types: 1 to 6.
 -- A theorem of each name stands in proofs/Theorems. Assumes nothing.
 use Prim.Native.Nat.{ℕ, zero, suc, _≤_, _<_}
 use mathlib.Core.List.{List, [], _∷_}
@@ -18,7 +18,6 @@ use Rattle.wire_read.specs.declared.Answer.{Answer}
 use Rattle.wire_read.specs.Answers.{answer}
 use Rattle.wire_read.specs.Meaning.{numberOf, messageOf, splitBytes}
 use Rattle.wire_write.specs.Writing.{Made, Wrote}
-use Rattle.wire_write.specs.Sent.{ackMade}
 use Rattle.wire_write.specs.declared.Written.{Written}
 use Rattle.wire_copy.specs.Resent.{resent}
 
@@ -90,25 +89,7 @@ abbrev pub WriteOne : Type 0
 WriteOne =
     (m : Made) (old : List ℕ) (r s : Written) (out other : List ℕ) → Wrote m old r out → Wrote m old s other → (r ≡ s) × (out ≡ other)
 
--- 6. Cases 10 and 11 of document 01, as rows: N, and the bytes of the ACK with versions 6 and 101, own ID 7, to ID D8859CF5.
-abbrev pub ackCases : List (Bool × List ℕ)
-ackCases =
-    (false, 0x00 ∷ 0x10 ∷ 0x00 ∷ 0x0C ∷ 0x51 ∷ 0x06 ∷ 0x65 ∷ 0x09 ∷ 0x00 ∷ 0x00 ∷ 0x00 ∷ 0x07 ∷ 0x00 ∷ 0x18 ∷ 0x00 ∷ 0x08 ∷ 0xD8 ∷ 0x85 ∷ 0x9C ∷ 0xF5 ∷ [])
-    ∷ (
-      true,
-      0x00 ∷ 0x10 ∷ 0x00 ∷ 0x0C ∷ 0x51 ∷ 0x06 ∷ 0x65 ∷ 0x09 ∷ 0x00 ∷ 0x00 ∷ 0x00 ∷ 0x07 ∷ 0x00 ∷ 0x18 ∷ 0x00 ∷ 0x08 ∷ 0xD8 ∷ 0x85 ∷ 0x9C ∷ 0xF5
-          ∷ 0x00 ∷ 0x40 ∷ 0x00 ∷ 0x06 ∷ 0x00 ∷ 0x01 ∷ [],
-    )
-    ∷ []
-
-abbrev pub AllAcks : List (Bool × List ℕ) → Type 0
-AllAcks [] = Unit {0}
-AllAcks (c ∷ cs) = (ackMade 6 101 7 0xD8859CF5 (c .0) .bytes ≡ c .1) × AllAcks cs
-
-abbrev pub AckCases : Type 0
-AckCases = AllAcks ackCases
-
--- 7. A message with the field of an index changed: put in, left out, or with other contents of its kind. Split controls, where they are, follow from the
+-- 6. A message with the field of an index changed: put in, left out, or with other contents of its kind. Split controls, where they are, follow from the
 -- rest.
 abbrev pub Allowed : Kind → Contents → Type 0
 Allowed k none = k .optional ≡ true

@@ -1,5 +1,5 @@
 -- Laws of the plans for an AUTHORITY, an ACK, an INQUIRE and a LOOKUP.
--- In this order: the place found; each plan by the tests that the code makes; the tables, in document 01's order; what is known of a plan. Assumes nothing.
+-- In this order: the place found; each plan by the tests that the code makes; what is known of a plan. Assumes nothing.
 use mathlib.Core.Path.{_≡_, refl, ap, _∙_}
 use mathlib.Core.Bool.{Bool, true, false, not, _||_}
 use mathlib.Core.List.{List, [], _∷_}
@@ -11,7 +11,7 @@ use borrow.Author.Tests.{eq-eqb, ne-eqb, eqb-true, ltb-false, not-false}
 use Rattle.octet.proofs.TestLaws.{both-true}
 use Rattle.key.specs.Number.{keyAt}
 use Rattle.record.specs.Record.{countOf}
-use Rattle.refusal.specs.Table.{Refusal, when, orRefuse, InOrder, byNumber}
+use Rattle.refusal.specs.Table.{when, orRefuse}
 use Rattle.refusal.proofs.CallLaws.{or-known}
 use Rattle.table.specs.Rows.{rows}
 use Rattle.table.proofs.RowLaws.{rows-length, row-at}
@@ -22,7 +22,6 @@ use Rattle.waiting.specs.declared.seek.Found.{Found}
 use Rattle.waiting.specs.declared.seek.Found.the-variants.{At, Nothing}
 use Rattle.waiting.proofs.PlaceLaws.{key-at}
 use Rattle.waiting.proofs.SeekLaws.{found-within, found-passes}
-use Rattle.gauge_plan.specs.Flood.{notOurs}
 use Rattle.gauge_plan.specs.Answering.{isNothing, placeOf, authorityPlan, ackPlan, inquirePlan, lookupPlan, authorityRefusals, ackRefusals, inquireRefusals, lookupRefusals}
 use Rattle.gauge_plan.specs.declared.Plan.{Plan}
 use Rattle.gauge_plan.specs.declared.Plan.the-variants.{Refuse, Flood, Revoke, Learn, Free, Certify, Show}
@@ -76,43 +75,6 @@ module _ (own : List ℕ) (recs : List (List ℕ)) (held room : ℕ) (d : List �
       → lookupPlan own recs held room d acked target ≡ orRefuse Refuse (when 15 (ltb room (80 + 16 * c)) ∷ []) (Show held acked target)
   unfolding lookupPlan
   lookup-by e = rw e refl
-
--- ---- the tables, in document 01's order, and the plans by them
-
-pub authority-is : (ps : List (List ℕ)) (held used verdict k acked : ℕ) (cpa : Bool)
-    → authorityPlan ps held used verdict k acked cpa
-    ≡ orRefuse Refuse (authorityRefusals ps verdict k acked cpa) (Learn held used (placeOf (seek (isAt acked 2) 0 ps)))
-unfolding authorityPlan
-authority-is ps held used verdict k acked cpa = refl
-
-pub ack-is : (ps : List (List ℕ)) (held used acked : ℕ) (n : Bool)
-    → ackPlan ps held used acked n ≡ orRefuse Refuse (ackRefusals ps acked) (Free held used (placeOf (seek (isAt acked 1) 0 ps)) n)
-unfolding ackPlan
-ack-is ps held used acked n = refl
-
-pub inquire-is : (own size room : ℕ) (d : List ℕ) (acked validate : ℕ)
-    → inquirePlan own size room d acked validate ≡ orRefuse Refuse (inquireRefusals own size room d validate) (Certify acked)
-unfolding inquirePlan
-inquire-is own size room d acked validate = refl
-
-pub lookup-is : (own : List ℕ) (recs : List (List ℕ)) (held room : ℕ) (d : List ℕ) (acked target : ℕ)
-    → lookupPlan own recs held room d acked target ≡ orRefuse Refuse (lookupRefusals own recs room d target) (Show held acked target)
-unfolding lookupPlan
-lookup-is own recs held room d acked target = refl
-
-pub authority-order : (low : ℕ) → low ≤ 8 → (ps : List (List ℕ)) (verdict k acked : ℕ) (cpa : Bool)
-    → InOrder byNumber low (authorityRefusals ps verdict k acked cpa)
-authority-order low h ps verdict k acked cpa = (omega arith, h, (omega arith, omega arith, (omega arith, omega arith, tt)))
-
-pub ack-order : (low : ℕ) → low ≤ 8 → (ps : List (List ℕ)) (acked : ℕ) → InOrder byNumber low (ackRefusals ps acked)
-ack-order low h ps acked = (omega arith, h, tt)
-
-pub inquire-order : (low : ℕ) → low ≤ 12 → (own size room : ℕ) (d : List ℕ) (validate : ℕ) → InOrder byNumber low (inquireRefusals own size room d validate)
-inquire-order low h own size room d validate = (omega arith, h, (omega arith, omega arith, tt))
-
-pub lookup-order : (low : ℕ) → low ≤ 15 → (own : List ℕ) (recs : List (List ℕ)) (room : ℕ) (d : List ℕ) (target : ℕ)
-    → InOrder byNumber low (lookupRefusals own recs room d target)
-lookup-order low h own recs room d target = (omega arith, h, tt)
 
 -- ---- what is known of a plan
 

@@ -1,6 +1,6 @@
 -- Laws of the plans for a FLOOD.
 -- In this order: how many bytes; the key of the record that an entry names; the walk over the records held; whether the record must be inquired about;
--- each plan by the tests that the code makes; the tables, in document 01's order; what is known of a plan. Assumes nothing.
+-- each plan by the tests that the code makes; what is known of a plan. Assumes nothing.
 use mathlib.Core.Path.{_≡_, refl, sym, ap, _∙_}
 use mathlib.Core.Bool.{Bool, true, false, not, _&&_}
 use mathlib.Core.List.{List, [], _∷_}
@@ -16,7 +16,7 @@ use Rattle.record.specs.Record.{keyOf}
 use Rattle.record.specs.Entry.{entryForm, recordOf}
 use Rattle.record.proofs.EntryLaws.{record-key}
 use Rattle.record.proofs.PlaceLaws.{entry-at}
-use Rattle.refusal.specs.Table.{when, orRefuse, InOrder, byNumber}
+use Rattle.refusal.specs.Table.{when, orRefuse}
 use Rattle.refusal.proofs.CallLaws.{or-known}
 use Rattle.table.specs.Rows.{rows}
 use Rattle.table.proofs.RowLaws.{rows-next, rows-end}
@@ -112,30 +112,6 @@ module _ (own held used verdict k room : ℕ) (d : List ℕ) (silent : Bool) (ac
         → revokePlan own held used verdict k room d silent acked validate ≡ orRefuse Refuse (when 15 (ltb room a) ∷ []) (Revoke held used silent n acked)
     unfolding revokePlan orRefuse
     revoke-by e en ea = rw (eq-eqb verdict 1 good, e, ea, en) refl
-
--- ---- the tables, in document 01's order, and the plans by them
-
-pub flood-is : (own : ℕ) (recs ps : List (List ℕ)) (used id room : ℕ) (d : List ℕ) (silent : Bool) (acked validate start len : ℕ)
-    → floodPlan own recs ps used id room d silent acked validate start len
-    ≡ orRefuse Refuse
-    (floodRefusals own ps used id room silent (notOurs own validate d) (mustAsk recs ps (recordOf (part start len d))) (recordOf (part start len d)))
-    (Flood used silent (notOurs own validate d) acked (mustAsk recs ps (recordOf (part start len d))) start len)
-unfolding floodPlan
-flood-is own recs ps used id room d silent acked validate start len = refl
-
-pub revoke-is : (own held used verdict k room : ℕ) (d : List ℕ) (silent : Bool) (acked validate : ℕ)
-    → revokePlan own held used verdict k room d silent acked validate
-    ≡ orRefuse Refuse (revokeRefusals own verdict k room silent (notOurs own validate d)) (Revoke held used silent (notOurs own validate d) acked)
-unfolding revokePlan
-revoke-is own held used verdict k room d silent acked validate = refl
-
-pub flood-order : (low : ℕ) → low ≤ 11 → (own : ℕ) (ps : List (List ℕ)) (used id room : ℕ) (silent n opens : Bool) (r : List ℕ)
-    → InOrder byNumber low (floodRefusals own ps used id room silent n opens r)
-flood-order low h own ps used id room silent n opens r =
-    (omega arith, h, (omega arith, omega arith, (omega arith, omega arith, (omega arith, omega arith, tt))))
-
-pub revoke-order : (low : ℕ) → low ≤ 9 → (own verdict k room : ℕ) (silent n : Bool) → InOrder byNumber low (revokeRefusals own verdict k room silent n)
-revoke-order low h own verdict k room silent n = (omega arith, h, (omega arith, omega arith, (omega arith, omega arith, tt)))
 
 -- ---- what is known of a plan
 

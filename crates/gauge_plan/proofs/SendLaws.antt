@@ -1,6 +1,5 @@
 -- Laws of the plan for a FLOOD to send.
--- In this order: where a record is held; the record sent; the plan by the tests that the code makes; the table, in document 01's order; what is known of a
--- plan. Assumes nothing.
+-- In this order: where a record is held; the record sent; the plan by the tests that the code makes; what is known of a plan. Assumes nothing.
 use mathlib.Core.Path.{_≡_, refl, sym, ap, ap₂, subst, _∙_}
 use mathlib.Core.Bool.{Bool, true, false, not, _&&_}
 use mathlib.Core.List.{List, [], _∷_}
@@ -16,7 +15,7 @@ use Rattle.key.specs.Number.{keyAt}
 use Rattle.key.proofs.OrderLaws.{Stand, stand}
 use Rattle.key.proofs.OrderLaws.Stand.{below, equal, above}
 use Rattle.record.specs.Record.{keyOf, countOf, recordForm}
-use Rattle.refusal.specs.Table.{orRefuse, InOrder, byNumber}
+use Rattle.refusal.specs.Table.{orRefuse}
 use Rattle.refusal.proofs.CallLaws.{or-known, row-applies, row-passes}
 use Rattle.table.specs.Rows.{rows}
 use Rattle.table.proofs.RowLaws.{rows-length, row-at}
@@ -171,36 +170,6 @@ module _ (own cache waiting : List ℕ) (id : ℕ) (neighbour key : List ℕ) (r
           eqb-true (length neighbour) 32 (w .0),
           eqb-true (length key) 32 (w .1),
         )
-
-  -- ---- the table, in document 01's order, and the plan by it
-
-  pub send-is : sendingPlan own cache waiting id neighbour key room
-      ≡ orRefuse Refuse (sendRefusals own cache waiting id neighbour key room) (sendDone own (heldOf (keyOf own) cache) (usedOf waiting) (keyAt 0 key))
-  unfolding sendingPlan
-  send-is = refl
-
-  pub send-order : InOrder byNumber 1 (sendRefusals own cache waiting id neighbour key room)
-  send-order = (
-    omega arith,
-    omega arith,
-    (
-      omega arith,
-      omega arith,
-      (
-        omega arith,
-        omega arith,
-        (
-          omega arith,
-          omega arith,
-          (
-            omega arith,
-            omega arith,
-            (omega arith, omega arith, (omega arith, omega arith, tt)),
-          ),
-        ),
-      ),
-    ),
-  )
 
 -- ---- what is known of a plan
 

@@ -902,11 +902,25 @@ def refusals(g):
     yield g.waits([])
 
 
+SCENES = (story, floods, identities, revocations, authorities, acked, answered, room, sending, ticking, listing, case14, memory, refusals)
+
+
 def vectors():
     """Headings as strings, vectors as (operands, answer)."""
     g = Gauge()
-    for scene in (story, floods, identities, revocations, authorities, acked, answered, room, sending, ticking, listing, case14, memory, refusals):
+    for scene in SCENES:
         yield from scene(g)
+
+
+def runnable():
+    """The same, for the calls that are exported: an accepted `send` is the waiting table that it leaves, a refused one is left out."""
+    g = Gauge()
+    for scene in SCENES:
+        for v in scene(g):
+            if isinstance(v, str) or v[0][0] != "send":
+                yield v
+            elif v[1].startswith("0 "):
+                yield g.set_waiting(g.waiting)
 
 
 def check():

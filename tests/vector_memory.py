@@ -7,7 +7,7 @@
     remove-key OWN CACHE KEY     the same
     neighbours OWN CACHE         the number, and with 0 the counts below and above and the keys listed
     closest OWN CACHE TARGET     the record, - where refused
-    tick OWN TABLE ROUNDS        for each round number:IDs, then how many places are used at the end
+    ticks OWN TABLE ROUNDS       for each round number:IDs, then how many places are used at the end
 
     vector_memory.py             checks the answers that document 01 and docs/MEMORY.md state
 
@@ -114,7 +114,7 @@ def tick(own, s, rounds, want=None):
         number, count, _, _, after, output = model.tick(own, after, bytes(64))
         ids = [int.from_bytes(output[4 * i:4 * i + 4], "little") for i in range(count)]
         answers.append("%d:%s" % (number, ",".join(map(str, ids)) or "-"))
-    return line("tick", (own, s, rounds), " ".join(answers) + " %d" % len(model.waits(own, after)), want)
+    return line("ticks", (own, s, rounds), " ".join(answers) + " %d" % len(model.waits(own, after)), want)
 
 
 def cache_forms():
@@ -432,5 +432,5 @@ def check():
 if __name__ == "__main__":
     check()
     lines = [v for v in vectors() if not isinstance(v, str)]
-    names = ("cache-form", "waiting-form", "learn", "remove-key", "neighbours", "closest", "tick")
+    names = ("cache-form", "waiting-form", "learn", "remove-key", "neighbours", "closest", "ticks")
     print("vector_memory: %d vectors, %s" % (len(lines), ", ".join("%d %s" % (sum(v[0][0] == name for v in lines), name) for name in names)))

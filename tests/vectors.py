@@ -10,6 +10,7 @@ import os
 import re
 import sys
 
+import vector_calls
 import vector_memory
 import vector_messages
 
@@ -61,6 +62,7 @@ def vectors():
     yield from ground()
     yield from vector_messages.vectors()
     yield from vector_memory.vectors()
+    yield from vector_calls.runnable()
 
 
 def ground():

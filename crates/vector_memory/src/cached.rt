@@ -1,6 +1,4 @@
 // Vectors of the cache.
-use crate::shown::own;
-use crate::shown::say_keys;
 use cache::Formed;
 use vector_text::line;
 use vector_text::say;
@@ -29,7 +27,7 @@ fn say_held(number: u32, own: &[u8], cache: &[u8]) {
     let formed = cache::form(own, cache);
     if let Formed::Good(used) = formed {
         say::text(b" ");
-        say_keys(cache, used, 100);
+        say::keys(cache, used, 100);
     }
 }
 
@@ -56,7 +54,7 @@ fn neighbours(own: &[u8], cache: &[u8]) {
     say::text(b" ");
     say::number(listed.above as u64);
     say::text(b" ");
-    say_keys(&out, listed.below % 16 + listed.above % 16, 32);
+    say::keys(&out, listed.below % 16 + listed.above % 16, 32);
 }
 
 fn closest<'a>(own: &'a [u8], cache: &'a [u8], target: &[u8]) {
@@ -106,7 +104,7 @@ fn answer_on(text: &[u8], own: &[u8], third: &[u8], side: &mut [u8]) -> bool {
 }
 
 pub(crate) fn answer(text: &[u8], room: &mut [u8], side: &mut [u8]) -> bool {
-    let first = own(text, room);
+    let first = line::bytes(text, 1, room, 0);
     let third = line::bytes(text, 3, room, first);
     answer_on(
         text,

@@ -1,7 +1,6 @@
 // Vectors of lent memory: forms, learning, removing, the neighbour list, the closest record, the tick. Used by the program
 // `vectors` alone.
 mod cached;
-mod shown;
 mod waits;
 
 // The group of vectors that has the line's name answers; false where none has.

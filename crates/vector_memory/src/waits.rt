@@ -1,5 +1,4 @@
 // Vectors of the waiting table.
-use crate::shown::own;
 use vector_text::line;
 use vector_text::say;
 use waiting::Formed;
@@ -64,7 +63,7 @@ fn ticks(own: &[u8], table: &mut [u8], rounds: u64) {
 }
 
 pub(crate) fn answer(text: &[u8], room: &mut [u8], side: &mut [u8]) -> bool {
-    let first = own(text, room);
+    let first = line::bytes(text, 1, room, 0);
     let end = line::bytes(text, 2, side, 0);
     if side.len() < end {
         return false;
@@ -73,7 +72,7 @@ pub(crate) fn answer(text: &[u8], room: &mut [u8], side: &mut [u8]) -> bool {
         say_form(line::part(room, 0, first), line::part(side, 0, end));
         return true;
     }
-    if line::is_named(text, b"tick") {
+    if line::is_named(text, b"ticks") {
         ticks(
             line::part(room, 0, first),
             &mut side[0..end],

@@ -59,3 +59,50 @@ fn wide(x: u8) -> u64 {
 pub fn digits(n: u64, width: usize) {
     io::print_hex(1, n, width);
 }
+
+// A key in hexadecimal without leading zeros.
+fn short_key(k: Key) {
+    if k.a != 0 {
+        digits(k.a, 1);
+        digits(k.b, 16);
+        digits(k.c, 16);
+        return digits(k.d, 16);
+    }
+    if k.b != 0 {
+        digits(k.b, 1);
+        digits(k.c, 16);
+        return digits(k.d, 16);
+    }
+    if k.c != 0 {
+        digits(k.c, 1);
+        return digits(k.d, 16);
+    }
+    digits(k.d, 1);
+}
+
+// The key at a place, where 32 bytes stand there.
+fn key_at(s: &[u8], at: usize) {
+    if s.len() < 32 {
+        return;
+    }
+    if s.len() - 32 < at {
+        return;
+    }
+    short_key(key::key_at(s, at));
+}
+
+// So many keys, each so many bytes after the one before it, apart by commas; `-` for none.
+pub fn keys(s: &[u8], count: usize, step: usize) {
+    if count == 0 {
+        return text(b"-");
+    }
+    key_at(s, 0);
+    let mut i = 1;
+    let mut at = step % 4096;
+    while i < count {
+        text(b",");
+        key_at(s, at);
+        at = at % 1000000 + step % 4096;
+        i += 1;
+    }
+}

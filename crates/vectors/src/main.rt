@@ -10,9 +10,25 @@ const TEXT: usize = 131072;
 
 const ROOM: usize = 65536;
 
+// Room for the memory that the calls are lent, which the lines act on one after the other: own record and CPA, cache, waiting
+// table.
+const LENT: usize = 8192;
+
+const CACHE: usize = 25700;
+
+const WAITING: usize = 2400;
+
 // The lines of the input, one after the other. A proved loop has to end, and nothing says that the input does: so the
 // lines are counted, from a number that no input uses up.
-fn each_line(text: &mut [u8], room: &mut [u8], side: &mut [u8]) {
+fn each_line(
+    text: &mut [u8],
+    room: &mut [u8],
+    side: &mut [u8],
+    lent: &mut [u8],
+    cache: &mut [u8],
+    waiting: &mut [u8],
+    sizes: &mut [usize; 6],
+) {
     let mut left = u64::MAX;
     while 0 < left {
         let read = line::read(text);
@@ -20,24 +36,48 @@ fn each_line(text: &mut [u8], room: &mut [u8], side: &mut [u8]) {
         if read.last {
             return;
         }
-        one_line(line::part(text, 0, len), room, side);
+        one_line(
+            line::part(text, 0, len),
+            room,
+            side,
+            lent,
+            cache,
+            waiting,
+            sizes,
+        );
         left -= 1;
     }
 }
 
 // A heading is repeated; a vector is repeated and answered.
-fn one_line(text: &[u8], room: &mut [u8], side: &mut [u8]) {
+fn one_line(
+    text: &[u8],
+    room: &mut [u8],
+    side: &mut [u8],
+    lent: &mut [u8],
+    cache: &mut [u8],
+    waiting: &mut [u8],
+    sizes: &mut [usize; 6],
+) {
     say::text(text);
     if line::is_vector(text) {
         say::text(b" = ");
-        answer(text, room, side);
+        answer(text, room, side, lent, cache, waiting, sizes);
         return say::text(b"\n");
     }
     say::text(b"\n");
 }
 
 // A layer that has a vector of the name answers.
-fn answer(text: &[u8], room: &mut [u8], side: &mut [u8]) {
+fn answer(
+    text: &[u8],
+    room: &mut [u8],
+    side: &mut [u8],
+    lent: &mut [u8],
+    cache: &mut [u8],
+    waiting: &mut [u8],
+    sizes: &mut [usize; 6],
+) {
     if vector_ground::answer(text, room, side) {
         return;
     }
@@ -47,6 +87,9 @@ fn answer(text: &[u8], room: &mut [u8], side: &mut [u8]) {
     if vector_memory::answer(text, room, side) {
         return;
     }
+    if vector_calls::answer(text, lent, cache, waiting, sizes) {
+        return;
+    }
     say::text(b"no such vector");
 }
 
@@ -54,5 +97,17 @@ fn main() {
     let mut text = [0u8; TEXT];
     let mut room = [0u8; ROOM];
     let mut side = [0u8; ROOM];
-    each_line(&mut text, &mut room, &mut side);
+    let mut lent = [0u8; LENT];
+    let mut cache = [0u8; CACHE];
+    let mut waiting = [0u8; WAITING];
+    let mut sizes = [0usize; 6];
+    each_line(
+        &mut text,
+        &mut room,
+        &mut side,
+        &mut lent,
+        &mut cache,
+        &mut waiting,
+        &mut sizes,
+    );
 }

@@ -1,8 +1,8 @@
--- `vector_memory::say_keys` ends: the keys left to show fall. Assumes nothing.
+-- `vector_text::say::keys` ends: the keys left to show fall. Assumes nothing.
 use borrow.Author.Needs.{needs}
 use Prim.Native.Nat.{_-_}
-use Rattle.vector_memory.proofs.shown.say_keys.Statement.{statement}
-use Rattle.vector_memory.proofs.shown.say_keys.Tie as tie
+use Rattle.vector_text.proofs.say.keys.Statement.{statement}
+use Rattle.vector_text.proofs.say.keys.Tie as tie
 
 abbrev Inv-loop : tie.InvT-loop
 Inv-loop s count step i₀ at₀ t7 i at = Unit {0}
@@ -19,8 +19,8 @@ text-requires c κs = search needs
 returns : tie.Need-returns Inv-loop μ-loop
 returns c = search needs
 
-say-key-at-requires : tie.Need-say-key-at-requires Inv-loop μ-loop
-say-key-at-requires c κs = search needs
+key-at-requires : tie.Need-key-at-requires Inv-loop μ-loop
+key-at-requires c κs = search needs
 
 loop-holds : tie.Need-loop-holds Inv-loop μ-loop
 loop-holds c = search needs
@@ -31,8 +31,8 @@ slice-aggregate-text-2 c = search needs
 text-requires-2 : tie.Need-text-requires-2 Inv-loop μ-loop
 text-requires-2 c κs = search needs
 
-say-key-at-requires-2 : tie.Need-say-key-at-requires-2 Inv-loop μ-loop
-say-key-at-requires-2 c κs = search needs
+key-at-requires-2 : tie.Need-key-at-requires-2 Inv-loop μ-loop
+key-at-requires-2 c κs = search needs
 
 add-at : tie.Need-add-at Inv-loop μ-loop
 add-at c = search needs
@@ -49,8 +49,8 @@ loop-again c = search needs
 returns-2 : tie.Need-returns-2 Inv-loop μ-loop
 returns-2 c = search needs
 
-pub say-keys-spec : {M : Type 1} → statement M
-say-keys-spec =
+pub keys-spec : {M : Type 1} → statement M
+keys-spec =
     tie.close
     (tie.spec
     Inv-loop
@@ -58,11 +58,11 @@ say-keys-spec =
     slice-aggregate-text
     text-requires
     returns
-    say-key-at-requires
+    key-at-requires
     loop-holds
     slice-aggregate-text-2
     text-requires-2
-    say-key-at-requires-2
+    key-at-requires-2
     add-at
     add-i
     loop-less

@@ -1,0 +1,142 @@
+// Lines that are calls: made through the functions that the radio program calls, with an output filled with EE, and compared
+// with what was there before.
+use crate::operands::Call;
+use crate::operands::Given;
+use gauge_commit::Answer;
+use vector_text::line;
+use vector_text::say;
+
+// The largest of each that a line has.
+const CACHE: usize = 25700;
+
+const WAITING: usize = 2400;
+
+const OUTPUT: usize = 4096;
+
+fn receive(
+    given: Given,
+    lent: &[u8],
+    cache: &mut [u8],
+    waiting: &mut [u8],
+    output: &mut [u8],
+) -> Answer {
+    gauge::gauge_receive(
+        line::part(lent, 0, given.own),
+        line::part(lent, given.own, given.cpa),
+        cache,
+        waiting,
+        given.major,
+        given.minor,
+        given.id,
+        line::part(lent, given.cpa, given.nonce),
+        given.verdict,
+        line::part(lent, given.nonce, given.key),
+        line::part(lent, given.key, given.datagram),
+        output,
+    )
+}
+
+fn call(
+    given: Given,
+    lent: &[u8],
+    cache: &mut [u8],
+    waiting: &mut [u8],
+    output: &mut [u8],
+) -> Answer {
+    let call = given.call;
+    match call {
+        Call::Tick => gauge::gauge_tick(line::part(lent, 0, given.own), waiting, output),
+        Call::List => gauge::gauge_neighbours(line::part(lent, 0, given.own), cache, output),
+        Call::Receive => receive(given, lent, cache, waiting, output),
+    }
+}
+
+fn wide(n: u32) -> usize {
+    n as usize
+}
+
+// How many bytes of the output a call that gave this has written: datagrams, IDs of 4, keys of 32.
+fn written(call: Call, answer: Answer) -> usize {
+    let first = wide(answer.first) % 65536;
+    let second = wide(answer.second) % 65536;
+    match call {
+        Call::Tick => 4 * first,
+        Call::List => 32 * (first + second),
+        Call::Receive => first + second,
+    }
+}
+
+fn say_same(was: &[u8], is: &[u8]) {
+    if octet::equal(was, is) {
+        return say::text(b" same");
+    }
+    say::text(b" changed");
+}
+
+// Number and counts, and the bytes that were written.
+fn say_answer(answer: Answer, output: &[u8], end: usize) {
+    say::number(answer.number as u64);
+    say::text(b" ");
+    say::number(answer.first as u64);
+    say::text(b" ");
+    say::number(answer.second as u64);
+    say::text(b" ");
+    say::bytes(line::part(output, 0, end));
+}
+
+// The rest of the output is as it was, or not.
+fn say_rest(output: &[u8], end: usize) {
+    let fresh = [0xEEu8; OUTPUT];
+    let len = output.len();
+    if octet::equal(line::part(output, end, len), line::part(&fresh, end, len)) {
+        return say::text(b" clean");
+    }
+    say::text(b" dirty");
+}
+
+// What the call answers and has written, and what has changed.
+fn say_call(
+    given: Given,
+    lent: &[u8],
+    cache: &mut [u8],
+    waiting: &mut [u8],
+    held: &[u8],
+    waits: &[u8],
+    output: &mut [u8],
+) {
+    let answer = call(given, lent, cache, waiting, output);
+    let kind = given.call;
+    let end = written(kind, answer);
+    say_answer(answer, output, end);
+    say_same(line::part(held, 0, cache.len()), cache);
+    say_same(line::part(waits, 0, waiting.len()), waiting);
+    say_rest(output, end);
+}
+
+// The call, with copies kept of what it may write.
+pub(crate) fn run(given: Given, lent: &[u8], cache: &mut [u8], waiting: &mut [u8]) {
+    let room = given.room;
+    if OUTPUT < room {
+        return say::outside();
+    }
+    if CACHE < cache.len() {
+        return say::outside();
+    }
+    if WAITING < waiting.len() {
+        return say::outside();
+    }
+    let mut held = [0u8; CACHE];
+    let mut waits = [0u8; WAITING];
+    let mut output = [0xEEu8; OUTPUT];
+    octet::copy_to(&mut held, 0, cache);
+    octet::copy_to(&mut waits, 0, waiting);
+    say_call(
+        given,
+        lent,
+        cache,
+        waiting,
+        &held,
+        &waits,
+        &mut output[0..room],
+    );
+}

@@ -1,0 +1,54 @@
+// Lines that lay out the memory that the calls are lent.
+use vector_text::line;
+use vector_text::say;
+
+// `gauge OWN C CPA MAJOR MINOR`: an empty cache of C records and an empty waiting table.
+fn begin(
+    text: &[u8],
+    lent: &mut [u8],
+    cache: &mut [u8],
+    waiting: &mut [u8],
+    sizes: &mut [usize; 6],
+) {
+    let held = 100 * (line::place(text, 2) % 1024);
+    if cache.len() < held {
+        return say::outside();
+    }
+    if waiting.len() < 2240 {
+        return say::outside();
+    }
+    octet::clear(cache, 0, held);
+    octet::clear(waiting, 0, 2240);
+    let own = line::bytes(text, 1, lent, 0);
+    sizes[0] = own;
+    sizes[1] = line::bytes(text, 3, lent, own);
+    sizes[2] = held;
+    sizes[3] = 2240;
+    sizes[4] = line::place(text, 4);
+    sizes[5] = line::place(text, 5);
+    say::text(b"ok");
+}
+
+pub(crate) fn answer(
+    text: &[u8],
+    lent: &mut [u8],
+    cache: &mut [u8],
+    waiting: &mut [u8],
+    sizes: &mut [usize; 6],
+) -> bool {
+    if line::is_named(text, b"gauge") {
+        begin(text, lent, cache, waiting, sizes);
+        return true;
+    }
+    if line::is_named(text, b"set-cache") {
+        sizes[2] = line::bytes(text, 1, cache, 0);
+        say::text(b"ok");
+        return true;
+    }
+    if line::is_named(text, b"set-waiting") {
+        sizes[3] = line::bytes(text, 1, waiting, 0);
+        say::text(b"ok");
+        return true;
+    }
+    false
+}

@@ -792,6 +792,38 @@ def neighbours(own, cache, output):
     return 0, len(below), len(above), cache, None, over(b"".join(k.to_bytes(32, "big") for k in below + above), output)
 
 
+# --- Looking ---------------------------------------------------------------------------------------------------------------
+
+# 01: padding stands "exactly where 000 names it"; D39 has the places. Place and length of each field's contents, by its number, in a datagram
+# that reads.
+def places(d, kind):
+    at, found_at = 12, {}
+    while at < len(d):
+        number, length = value(d[at:at + 2]), value(d[at + 2:at + 4])
+        found_at[number] = (at + 4, length - 4)
+        at += length
+        if number == 0x0043:
+            at += 1
+        elif number == 0x0040 and kind != "ack":
+            at += 2
+        elif number in (0x009A, 0x009C, 0x009F, 0x0085, 0x005A) or (number == 0x0080 and kind == "authority"):
+            at += -at % 4
+    return found_at
+
+
+# 01: "Reading a message without acting on it gives 0 to 6, and 7 only for an AUTHORITY in part". D23: number, type, message ID, acked ID, then
+# place and length of the contents of CPA or revoke CPA, nonce (hashed in SOLICIT and ADVERTISE), route entry, target key; 0 and 0 for one not
+# there. "With any refusal the counts returned are 0".
+def look(major, d):
+    number, m = read(d, major)
+    if number != 0:
+        return (number,) + (0,) * 11
+    at = places(d, m["type"])
+    cpa = at.get(0x009B, at.get(0x009C, (0, 0)))
+    nonce = at.get(0x0093, at.get(0x0092, (0, 0)))
+    return (0, CODES[m["type"]], m["id"], m.get("acked", 0)) + cpa + nonce + at.get(0x009A, (0, 0)) + at.get(0x0038, (0, 0))
+
+
 # --- Checks ----------------------------------------------------------------------------------------------------------------
 
 def check_cases():

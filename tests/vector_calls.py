@@ -9,6 +9,7 @@
     list ROOM
     held                                             the keys held
     waits                                            the places used, as ID:kind:tries:key
+    look MAJOR DATAGRAM                              the twelve numbers of gauge_look (D23)
 
     vector_calls.py                                  checks the numbers, lengths and bytes that the documents give
 
@@ -19,8 +20,31 @@ hexadecimal without leading zeros.
 
 A `want` is what the documents give: the number, or number, first and second, or the whole list; it is compared with the model's answer.
 `sends` are the datagrams, laid out by hand.
+
+Where to find what (each is a function below, and a heading of crates/vectors/stdin):
+
+    case 14 of document 01; case 13 by a receive              case14; limits
+    the datagrams that go out, byte by byte                   bytewise (in hexadecimal), and every `sends`
+    every number of every call; two at once                   refusals, pairs; TABLES says which there are, and the check that none is left out
+    nothing has changed after a refusal                       every refused line: `- same same clean`
+    a place freed, then refused for room; a late AUTHORITY    the end of refusals; revocations
+    every type looked at, with and without each field         looking
+
+    The vectors of D67, against gauges that would pass without them:
+    verdict 0, 2, 257 with a FLOOD that has a route entry     floods, "the verdict is ignored"
+    an ACK for an inquiry's ID, an AUTHORITY for a flood's    acked, authorities, at their start
+    an ACK with its flags and N clear; N for a key not held   acked
+    the very same record, other versions; another port        floods, "the very same record", "the same key with another port"
+    a LOOKUP whose route entry names us                       answered, "its route entry is not learned"
+    id + 1 is a waiting flood's ID; ID 4294967295 with D      identities
+    a flood with the own key in the waiting table             memory, "in form"
+    a second FLOOD for a waiting key                          floods, "an inquiry for the key is waiting"
+    lengths that are right only modulo 65,536                 malformed (and vector_messages.counts)
+    the last good and first bad of every count and length     limits, memory, room, answered (and vector_messages.counts)
+    00A1 and 00A2 at each of their places                     malformed (and vector_messages.encrypted)
 """
 import model
+import vector_messages as laid
 from vector_memory import TOP, cache, flood as flood_place, inquiry, key, put, record, table
 
 MAJOR, MINOR = 6, 101
@@ -28,8 +52,86 @@ OWN, CPA, NONCE, ZERO = record(100, 2, 5100), bytes([1, 2, 3, 4, 5]), bytes(rang
 ROOM = 2464  # docs/MEMORY.md: always enough
 
 
+# Which numbers of document 01's table apply, each judged by itself as far as what is lent can be read. The lowest must be the one given.
+
+def datagram_applies(d, major):
+    """2 to 7, which look at the datagram alone; the kind of message; and the message, also where bytes are left over behind it."""
+    numbers = {n for n, applies in ((2, not 12 <= len(d) <= 1232), (3, d[:5] != model.FIXED), (4, len(d) > 5 and d[5] != major),
+                                    (5, len(d) > 7 and d[7] not in model.TYPES)) if applies}
+    kind = model.TYPES.get(d[7]) if len(d) > 7 else None
+    e = (model.FIXED + bytes([major]) + d[6:])[:1232]
+    if kind is None:
+        at = 12  # of an unknown type 6 can still say that a field runs past the end
+        while at < len(e):
+            at += max(4, model.value(e[at + 2:at + 4]))
+        return numbers | ({6} if at > len(e) else set()), kind, None
+    m = next((m for number, m in (model.read(e[:n], major) for n in range(len(e), 11, -1)) if number == 0), None)
+    if model.read(e, major)[0] == 6:
+        numbers.add(6)
+    in_part = kind == "authority" and len(e) >= 28 and (model.value(e[24:26]) != len(e) - 28 or e[26:28] != bytes(2))
+    if kind in ("solicit", "advertise", "request") or in_part:
+        numbers.add(7)
+    if kind == "flood" and m is not None and m["revoke"] is not None:
+        kind = "revocation"
+    return numbers, kind, m
+
+
+def opening_applies(places, identity):
+    return ({13} if identity in [p["id"] for p in places] else set()) | ({14} if len(places) == 16 else set())
+
+
+def receive_applies(g, identity, nonce, verdict, named, d, room):
+    numbers, kind, m = datagram_applies(d, g.major)
+    records, places = model.held(g.own, g.cache), model.waits(g.own, g.waiting)
+    if not model.record_form(g.own) or not 1 <= len(g.cpa) <= 1024 or records is None or places is None or len(nonce) != 16 or len(named) != 32:
+        return numbers | {1}, kind
+    own, key_named, need = model.key_of(g.own), model.value(named), 0
+    if kind in ("ack", "authority") and d[12:16] == bytes.fromhex("00180008"):
+        waiting = [p for p in places if p["id"] == model.value(d[16:20]) and p["kind"] == (1 if kind == "ack" else 2)]
+        numbers |= {8} if not waiting else set()
+        if kind == "authority":
+            numbers |= {9} if verdict != 1 or (m is not None and m["cpa"] is None) else set()
+            numbers |= {10} if verdict == 1 and waiting and model.value(waiting[0]["key"]) != key_named else set()
+    if kind == "revocation":
+        numbers |= ({9} if verdict != 1 else set()) | ({11} if key_named == own else set())
+    if kind == "flood" and m is not None:
+        r = model.record_of(m["route"])
+        numbers |= {11} if model.key_of(r) == own else set()
+        if r not in records and not any(p["kind"] == 2 and model.value(p["key"]) == model.key_of(r) for p in places):
+            numbers |= opening_applies(places, (identity + 1) % 2 ** 32)
+            need += 76
+    if kind in ("flood", "revocation") and m is not None and not m["d"]:
+        need += 20 if model.value(m["validate"]) == own else 26
+    if kind == "inquire" and m is not None:
+        numbers |= {12} if model.value(m["validate"]) != own else set()
+        need = 40 + len(g.cpa)
+    if kind == "lookup" and m is not None:
+        need = 80 + 16 * model.closest(g.own, records, model.value(m["target"]))[34]
+    return numbers | ({15} if need > room else set()), kind
+
+
+def send_applies(g, identity, neighbour, named, room):
+    records, places = model.held(g.own, g.cache), model.waits(g.own, g.waiting)
+    if not model.record_form(g.own) or records is None or places is None:
+        return {1}
+    shown = [r for r in [g.own] + records if r[:32] == named]
+    bad = len(neighbour) != 32 or len(named) != 32
+    numbers = ({1} if bad else set()) | ({12} if neighbour not in [r[:32] for r in records] or not shown else set())
+    need = 100 + 16 * (shown[0][34] if shown else 1)
+    return numbers | opening_applies(places, identity) | ({15} if need > room else set())
+
+
+# The numbers that each can give, in document 01's order. Each is given at least once, and with each neighbour at once.
+TABLES = {"datagram": (1, 2, 3, 4, 5, 6), "solicit": (6, 7), "advertise": (6, 7), "request": (6, 7), "flood": (6, 11, 13, 14, 15),
+          "revocation": (6, 9, 11, 15), "inquire": (6, 12, 15), "authority": (6, 7, 8, 9, 10), "ack": (6, 8), "lookup": (6, 15),
+          "send": (1, 12, 13, 14, 15), "tick": (1, 15), "list": (1, 15), "look": (2, 3, 4, 5, 6), "look at authority": (6, 7)}
+
+
 class Gauge:
-    """The memory that the lines act on. Each method hands back one vector."""
+    """The memory that the lines act on. Each method hands back one vector. `seen`: which numbers applied to what, and which was given."""
+
+    def __init__(self):
+        self.seen = []
 
     def start(self, own=OWN, c=10, cpa=CPA, major=MAJOR, minor=MINOR):
         self.own, self.cpa, self.major, self.minor = own, cpa, major, minor
@@ -44,8 +146,10 @@ class Gauge:
         self.waiting = s
         return ("set-waiting", s), "ok"
 
-    def answer(self, operands, result, room, size, want, sends=None):
+    def answer(self, operands, kinds, applies, result, room, size, want, sends=None):
         number, first, second, cache_after, waiting_after, output = result
+        assert number == min(applies, default=0), (operands[0], result[:3], applies)  # 01: "The lowest number that applies is given."
+        self.seen += [(kind, applies, number) for kind in kinds]
         cache_after = self.cache if cache_after is None else cache_after
         waiting_after = self.waiting if waiting_after is None else waiting_after
         used = size(first, second)
@@ -60,17 +164,37 @@ class Gauge:
     def receive(self, datagram, want, identity=7, nonce=NONCE, verdict=0, named=ZERO, room=ROOM, sends=None):
         result = model.receive(self.own, self.cpa, self.cache, self.waiting, self.major, self.minor, identity, nonce, verdict, named, datagram,
                                b"\xEE" * room)
-        return self.answer(("receive", identity, nonce, verdict, named, datagram, model.two(room)), result, room, lambda a, b: a + b, want, sends)
+        applies, kind = receive_applies(self, identity, nonce, verdict, named, datagram, room)
+        return self.answer(("receive", identity, nonce, verdict, named, datagram, model.two(room)), ("datagram", kind), applies, result, room,
+                           lambda a, b: a + b, want, sends)
 
     def send(self, neighbour, named, want, identity=7, room=ROOM, sends=None):
         result = model.send(self.own, self.cache, self.waiting, self.major, self.minor, identity, neighbour, named, b"\xEE" * room)
-        return self.answer(("send", identity, neighbour, named, model.two(room)), result, room, lambda a, b: a + b, want, sends)
+        return self.answer(("send", identity, neighbour, named, model.two(room)), ("send",), send_applies(self, identity, neighbour, named, room),
+                           result, room, lambda a, b: a + b, want, sends)
 
     def tick(self, want, room=64, sends=None):
-        return self.answer(("tick", model.two(room)), model.tick(self.own, self.waiting, b"\xEE" * room), room, lambda a, b: 4 * a, want, sends)
+        bad = not model.record_form(self.own) or model.waits(self.own, self.waiting) is None
+        applies = ({1} if bad else set()) | ({15} if room < 64 else set())
+        return self.answer(("tick", model.two(room)), ("tick",), applies, model.tick(self.own, self.waiting, b"\xEE" * room), room,
+                           lambda a, b: 4 * a, want, sends)
 
     def list(self, want, room=320, sends=None):
-        return self.answer(("list", model.two(room)), model.neighbours(self.own, self.cache, b"\xEE" * room), room, lambda a, b: 32 * (a + b), want, sends)
+        bad = not model.record_form(self.own) or model.held(self.own, self.cache) is None
+        applies = ({1} if bad else set()) | ({15} if room < 320 else set())
+        return self.answer(("list", model.two(room)), ("list",), applies, model.neighbours(self.own, self.cache, b"\xEE" * room), room,
+                           lambda a, b: 32 * (a + b), want, sends)
+
+    def look(self, datagram, want, major=MAJOR):
+        """`want` is the number, or all twelve."""
+        result = model.look(major, datagram)
+        assert want in (result[0], result), (result, want)
+        applies, kind, _ = datagram_applies(datagram, major)
+        if kind in ("solicit", "advertise", "request"):
+            applies -= {7}  # 01: reading gives "7 only for an AUTHORITY in part"
+        assert result[0] == min(applies, default=0), (result, applies)
+        self.seen += [("look", applies, result[0])] + ([("look at authority", applies, result[0])] if kind == "authority" else [])
+        return ("look", major, datagram), " ".join(map(str, result))
 
     def held(self, want):
         keys = [model.key_of(r) for r in model.held(self.own, self.cache)]
@@ -902,12 +1026,175 @@ def refusals(g):
     yield g.waits([])
 
 
-SCENES = (story, floods, identities, revocations, authorities, acked, answered, room, sending, ticking, listing, case14, memory, refusals)
+def bytewise(g):
+    yield "# what goes out, byte by byte: ACK with N clear and INQUIRE; ACK with N set; AUTHORITY for an INQUIRE and for a LOOKUP; FLOOD"
+    ours = "009A004A" + "00" * 31 + "64" + "0665" + "13EC" + "00" + "02" + "2122232425262728292A2B2C2D2E2F303132333435363738393A3B3C3D3E3F40" + "0000"
+    ask = "0010000C51066507" + "00000008" + "0040000600100000" + "00390024" + "00" * 31 + "46" + "00930014" + "A0A1A2A3A4A5A6A7A8A9AAABACADAEAF"
+    yield g.start()
+    yield g.receive(flood(record(70)), (0, 20, 76), sends=[bytes.fromhex("0010000C51066509" + "00000007" + "0018000800000500"), bytes.fromhex(ask)])
+    yield g.receive(flood(record(70), validate=70), (0, 26, 0),
+                    sends=[bytes.fromhex("0010000C51066509" + "00000007" + "0018000800000500" + "004000060001")])
+    before = "0010000C51066508" + "00000007"
+    yield g.receive(inquire(100), (0, 45, 0), sends=[bytes.fromhex(before + "0018000800000900" + "0098000800110000" + "0040000600000000"
+                                                                   + "009B0009" + "0102030405")])
+    yield g.receive(lookup(100), (0, 112, 0), sends=[bytes.fromhex(before + "0018000800000A00" + "0098000800540000" + "0040000600000000" + ours)])
+    yield g.receive(authority(8), (0, 0, 0), verdict=1, named=key(70))
+    yield g.send(key(70), key(100), (0, 132, 0), sends=[bytes.fromhex("0010000C51066504" + "00000007" + "0043000700000000"
+                                                                      + "00390024" + "00" * 31 + "46" + ours)])
 
 
-def vectors():
+def limits(g):
+    yield "# datagrams of 11, 12, 1,232 and 1,233 bytes: case 13, and the longest that is acted on"
+    yield g.start()
+    yield g.receive(inquire(100)[:11], 2)
+    yield g.receive(inquire(100)[:12], 6)
+    for length, want in ((1232, 0), (1233, 2)):
+        yield g.receive(inquire(100, key_identifier=bytes(length - 80)), want)
+        yield g.receive(revocation(revoke=bytes(length // 4 * 4 - 60)) + bytes(length % 4), want, verdict=1, named=key(70))
+        yield g.receive(lookup(100, key_identifier=bytes(length - 130)), want)
+    yield "# addresses: 1 and 4, 0 and 5; in a FLOOD, in a LOOKUP, in an AUTHORITY"
+    asked = table([inquiry(2, 70)])
+    for count in (1, 4):
+        yield g.start()
+        yield g.set_waiting(asked)
+        yield g.receive(flood(record(60, count)), (0, 20, 76))
+        yield g.receive(lookup(100, route=entry(record(60, count))), (0, 112, 0))
+        yield g.receive(authority(2, route=entry(record(60, count))), (0, 0, 0), verdict=1, named=key(70))
+    yield g.start()
+    yield g.set_waiting(asked)
+    for count, like in ((0, 1), (5, 4)):
+        one = bytes([count])
+        yield g.receive(put(flood(record(60, like)), 97, one), 6)
+        yield g.receive(put(lookup(100, route=entry(record(60, like))), 137, one), 6)
+        yield g.receive(put(authority(2, route=entry(record(60, like))), 77, one), 6, verdict=1, named=key(70))
+    yield "# endpoints: 1 and 22, 0 and 23; in a FLOOD, in a revocation, as the path of a LOOKUP"
+    for n, want in ((1, 0), (22, 0), (23, 6)):
+        points = [bytes(range(18))] * n
+        yield g.start()
+        yield g.receive(flood(record(60), reached=points), want)
+        yield g.receive(revocation(reached=points), want, verdict=1, named=key(60))
+        yield g.receive(message("lookup", 0xA00, target=key(7), validate=key(7), path=points), want)
+    none = bytes.fromhex("009E000C00000008009D0012")
+    yield g.receive(flood(record(60)) + none, 6)
+    yield g.receive(revocation() + none, 6, verdict=1, named=key(60))
+    yield g.receive(message("lookup", 0xA00, target=key(7), validate=key(7), path=[]), 6)
+    yield "# places: with 15 used one more is opened, with 16 none"
+    for used, want in ((15, 0), (16, 14)):
+        yield g.start()
+        yield g.set_cache(cache([70]))
+        yield g.set_waiting(table([flood_place(i, 7) for i in range(used)]))
+        yield g.receive(flood(record(60)), want, 50)
+        yield g.set_waiting(table([flood_place(i, 7) for i in range(used)]))
+        yield g.send(key(70), key(100), want, 50)
+
+
+def malformed(g):
+    yield "# 6 by a receive: 00A1 and 00A2 at each of their places, whatever is held and waiting"
+    yield g.start()
+    yield g.set_cache(cache([60, 70]))
+    yield g.set_waiting(table([flood_place(1, 70), inquiry(2, 90)]))
+    for kind in ("solicit", "flood", "authority", "lookup"):
+        d = laid.LAYERS[kind](route=1)
+        at = [at for number, at in d.fields if number == 0x009A][0]
+        yield g.receive(put(d.s, at, b"\x00\xA1"), 6, verdict=1, named=key(90))
+    for d, at in ((laid.flood(revoke=b"CPA5").s, 56), (laid.flood(token=laid.TOKEN, revoke=b"CPA5").s, 68), (laid.authority(cpa=b"CPA5").s, 36),
+                  (laid.authority(route=1, cpa=b"CPA5").s, 96)):
+        yield g.receive(put(d, at, b"\x00\xA2"), 6, verdict=1, named=key(90))
+    yield "# lists whose lengths are right only modulo 65,536: key lists of 2,048 and 2,049, endpoints of 32,769, a classifier of 32,768"
+    for d, at, n in ((laid.advertise(0).s, 24, 2048), (laid.advertise(1).s, 24, 2049), (laid.request(n=0).s, 36, 2048), (laid.request(n=1).s, 36, 2049),
+                     (laid.flood(route=1, reached=1).s, 120, 0x8001), (laid.lookup(path=1).s, 100, 0x8001), (laid.authority(units=[]).s, 40, 0x8000)):
+        yield g.receive(put(d, at, model.two(n)), 6, verdict=1, named=key(90))
+    yield g.held([60, 70])
+    yield g.waits([(1, FLOOD, 2, 70), (2, INQUIRY, 2, 90)])
+
+
+def pairs(g):
+    yield "# two neighbours of the table at once: the lower one, and nothing has changed. Of an unknown type, a field past the end"
+    yield g.start()
+    yield g.set_cache(cache([60, 70]))
+    yield g.set_waiting(table([flood_place(1, 70), inquiry(2, 90)]))
+    yield g.receive(put(ack(1), 7, b"\x00")[:-1], 5)
+    yield "# bytes left over behind: a FLOOD of the own key; a revocation that is not good; an ACK, an INQUIRE, a LOOKUP that would be refused too"
+    yield g.receive(flood(OWN) + b"\0", 6)
+    yield g.receive(revocation() + b"\0", 6, verdict=0, named=key(70))
+    yield g.receive(ack(9) + b"\0", 6)
+    yield g.receive(inquire(70) + b"\0", 6)
+    yield g.receive(lookup(60) + b"\0", 6, room=0)
+    yield "# REQUEST, ADVERTISE and SOLICIT cut short"
+    for datagram in (SOLICIT, ADVERTISE, REQUEST):
+        yield g.receive(datagram[:-1], 6)
+    yield "# the record to send not held and the ID waiting; its key too short and the neighbour not held"
+    yield g.send(key(70), key(61), 12, 1)
+    yield g.send(key(61), key(61)[:31], 1, 3)
+    yield g.held([60, 70])
+    yield g.waits([(1, FLOOD, 2, 70), (2, INQUIRY, 2, 90)])
+
+
+def looked(kind, **fields):
+    """A datagram laid out by hand, and the twelve numbers by the places at which its fields were laid."""
+    d = laid.LAYERS[kind](**fields)
+    acked = {"advertise": 0x01020304, "authority": 0xCCDDE43D, "ack": 0xD8859CF5}.get(kind, 0)
+    at = {number: (place + 4, model.value(d.s[place + 2:place + 4]) - 4) for number, place in d.fields}
+    none = (0, 0)
+    return d.s, ((0, laid.CODES[kind], laid.ID, acked) + at.get(0x009B, at.get(0x009C, none)) + at.get(0x0093, at.get(0x0092, none))
+                 + at.get(0x009A, none) + at.get(0x0038, none))
+
+
+def looking(g):
+    yield "# look: each type with every optional field, and with none; the numbers are type, ID, acked ID, then place and length of CPA, nonce, route entry, target"
+    places = {"solicit": ((0, 0), (92, 20), (16, 70), (0, 0)), "advertise": ((0, 0), (100, 20), (0, 0), (0, 0)),
+              "request": ((0, 0), (32, 16), (0, 0), (0, 0)), "inquire": ((0, 0), (60, 16), (0, 0), (0, 0)),
+              "authority": ((152, 3), (0, 0), (92, 54), (0, 0)), "ack": ((0, 0), (0, 0), (0, 0), (0, 0)),
+              "lookup": ((0, 0), (0, 0), (100, 70), (28, 32))}  # of those with every field, counted by hand
+    for kind, fields in laid.FULL + laid.BARE:
+        d, want = looked(kind, **fields)
+        if (kind, fields) in laid.FULL and kind != "flood":
+            assert want[4:] == sum(places[kind], ()), (kind, want)
+        yield g.look(d, want)
+    yield "# each field that is told, alone and beside each other; empty contents have a place and length 0; contents that look like fields"
+    for kind, choices in (("solicit", {"route": 4}), ("request", {"flags": True, "split": True, "credential": b"", "signature": b"s"}),
+                          ("inquire", {"nonce": laid.NONCE, "credential": b"", "signature": b"", "identifier": b"i"}),
+                          ("authority", {"chain": b"chain", "token": laid.TOKEN, "units": [], "payload": laid.PAYLOAD, "route": 3, "cpa": b""}),
+                          ("lookup", {"route": 1, "path": 22, "credential": b"c"})):
+        for fields in laid.choices(**choices):
+            yield g.look(*looked(kind, **fields))
+    for fields in ({"revoke": b""}, {"revoke": b"1"}, {"revoke": laid.REVOKE, "token": b""}, {"revoke": bytes(1000)}, {"route": 4, "token": b"t", "reached": 22},
+                   {"route": 1, "flags": 1}):
+        yield g.look(*looked("flood", **fields))
+    for fields in ({"flags": 0}, {"flags": 1}, {}):
+        yield g.look(*looked("ack", **fields))
+    yield "# ignored bits and padding that is not zero; any minor version; IDs at both ends"
+    for kind, fields in laid.FULL:
+        yield g.look(*looked(kind, dirt=True, **fields))
+    for minor, identity in ((0, 0), (255, 2 ** 32 - 1)):
+        yield g.look(laid.ack(minor=minor, identity=identity).s, (0, 9, identity, 0xD8859CF5) + (0,) * 8)
+    yield g.look(put(laid.ack().s, 16, bytes(4)), (0, 9, laid.ID, 0) + (0,) * 8)
+    yield "# what the calls send, looked at by the one who gets it"
+    yield g.look(ack_out(7, 5, True), (0, 9, 7, 5) + (0,) * 8)
+    yield g.look(inquire_out(8, 70), (0, 7, 8, 0, 0, 0, 60, 16, 0, 0, 0, 0))
+    yield g.look(cpa_out(7, 8, CPA), (0, 8, 7, 8, 40, 5, 0, 0, 0, 0, 0, 0))
+    yield g.look(shown_out(7, 8, OWN), (0, 8, 7, 8, 0, 0, 0, 0, 40, 70, 0, 0))
+    yield g.look(flood_out(7, 70, OWN), (0, 4, 7, 0, 0, 0, 0, 0, 60, 70, 0, 0))
+    yield "# refusals 2 to 7, the rest 0; two neighbours at once"
+    plain, whole = laid.ack(1).s, laid.authority(cpa=b"CPA").s
+    for d, want in ((b"", 2), (plain[:11], 2), (plain + bytes(1207), 2), (bytes(12), 3), (put(plain, 4, b"\x50"), 3), (put(plain, 0, b"\x01"), 3),
+                    (put(plain, 7, b"\x05"), 5), (put(plain, 7, b"\x0C"), 5), (plain[:12], 6), (plain + b"\0", 6), (put(plain, 13, b"\x19"), 6),
+                    (put(laid.flood(route=1).s, 56, b"\x00\xA1"), 6), (whole[:-1], 7), (whole + b"\0", 7), (put(whole, 26, b"\x04\xA4"), 7),
+                    (put(whole[:-1], 28, b"\xFF"), 7), (bytes(11), 2), (bytes(1233), 2), (put(plain, 4, b"\x52\x07"), 3),
+                    (put(plain, 5, b"\x07\x65\x00"), 4), (put(plain, 7, b"\x00")[:-1], 5), (put(whole[:-1], 13, b"\x19"), 6)):
+        yield g.look(d, (want,) + (0,) * 11)
+    for major in (0, 5, 7, 255):
+        yield g.look(plain, (4,) + (0,) * 11, major)
+    yield g.look(put(plain, 5, b"\xFF"), 0, 255)
+
+
+SCENES = (story, floods, identities, revocations, authorities, acked, answered, room, sending, ticking, listing, case14, memory, limits, malformed,
+          refusals, pairs, bytewise, looking)
+
+
+def vectors(g=None):
     """Headings as strings, vectors as (operands, answer)."""
-    g = Gauge()
+    g = g or Gauge()
     for scene in SCENES:
         yield from scene(g)
 
@@ -917,9 +1204,9 @@ def runnable():
     g = Gauge()
     for scene in SCENES:
         for v in scene(g):
-            if isinstance(v, str) or v[0][0] != "send":
+            if isinstance(v, str) or v[0][0] not in ("send", "look"):
                 yield v
-            elif v[1].startswith("0 "):
+            elif v[0][0] == "send" and v[1].startswith("0 "):
                 yield g.set_waiting(g.waiting)
 
 
@@ -928,10 +1215,22 @@ def check():
     assert ack_out(7, 0xD8859CF5, True) == bytes.fromhex("0010000C510665090000000700180008D8859CF5004000060001")  # case 11
     assert len(inquire_out(1, 2)) == 76 and len(cpa_out(1, 2, b"C" * 1024)) == 1064
     assert len(shown_out(1, 2, record(7, 4))) == 144 and len(flood_out(1, 2, record(7, 4))) == 164
-    lines = [v for v in vectors() if not isinstance(v, str)]  # each `want` is compared on the way
-    # Every number of every call is there.
-    given = {name: {int(answer.split()[0]) for operands, answer in lines if operands[0] == name} for name in ("receive", "send", "tick", "list")}
-    assert given == {"receive": set(range(16)), "send": {0, 1, 12, 13, 14, 15}, "tick": {0, 1, 15}, "list": {0, 1, 15}}, given
+    g = Gauge()
+    lines = [v for v in vectors(g) if not isinstance(v, str)]  # each `want` is compared on the way
+    # Every number of every call is there, and no other.
+    given = {name: {int(answer.split()[0]) for operands, answer in lines if operands[0] == name} for name in ("receive", "send", "tick", "list", "look")}
+    assert given == {"receive": set(range(16)), "send": {0, 1, 12, 13, 14, 15}, "tick": {0, 1, 15}, "list": {0, 1, 15},
+                     "look": {0, 2, 3, 4, 5, 6, 7}}, given
+    # So are, for each kind of message, every number that it can be refused with, and every two neighbours at once.
+    for kind, numbers in TABLES.items():
+        for n in numbers:
+            assert any(k == kind and number == n for k, _, number in g.seen), "no %s is refused with %d" % (kind, n)
+        for a, b in zip(numbers, numbers[1:]):
+            assert any(k == kind and number == a and b in applies for k, applies, number in g.seen), "no %s to which %d and %d apply" % (kind, a, b)
+    # With a refusal nothing is told and nothing has changed.
+    for operands, answer in lines:
+        if operands[0] in ("receive", "send", "tick", "list") and not answer.startswith("0 "):
+            assert answer.split()[1:] == ["0", "0", "-", "same", "same", "clean"], (operands, answer)
     # What a call writes is read as a message, and written again it is the same.
     for operands, answer in lines:
         if operands[0] in ("receive", "send") and answer.startswith("0 "):
@@ -944,7 +1243,7 @@ def check():
 
 if __name__ == "__main__":
     lines = check()
-    names = ("gauge", "set-cache", "set-waiting", "receive", "send", "tick", "list", "held", "waits")
+    names = ("gauge", "set-cache", "set-waiting", "receive", "send", "tick", "list", "held", "waits", "look")
     print("vector_calls: %d vectors, %s" % (len(lines), ", ".join("%d %s" % (sum(v[0][0] == name for v in lines), name) for name in names)))
     numbers = [int(answer.split()[0]) for operands, answer in lines if operands[0] == "receive"]
     print("answers of receive: " + ", ".join("%d %d times" % (n, numbers.count(n)) for n in range(16)))

@@ -171,6 +171,8 @@ def text():
 def main():
     if sys.argv[1:] not in (["--write"], ["--check"]):
         sys.exit(__doc__)
+    for layer in (vector_messages, vector_memory, vector_calls):
+        layer.check()  # by hand against the model, and nothing left out
     good = True
     for name, wanted in zip(("stdin", "stdout"), text()):
         path = os.path.join(HERE, name)

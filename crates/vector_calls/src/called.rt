@@ -36,6 +36,20 @@ fn receive(
     )
 }
 
+fn send(given: Given, lent: &[u8], cache: &[u8], waiting: &mut [u8], output: &mut [u8]) -> Answer {
+    gauge::gauge_send(
+        line::part(lent, 0, given.own),
+        cache,
+        waiting,
+        given.major,
+        given.minor,
+        given.id,
+        line::part(lent, given.cpa, given.nonce),
+        line::part(lent, given.nonce, given.key),
+        output,
+    )
+}
+
 fn call(
     given: Given,
     lent: &[u8],
@@ -48,6 +62,7 @@ fn call(
         Call::Tick => gauge::gauge_tick(line::part(lent, 0, given.own), waiting, output),
         Call::List => gauge::gauge_neighbours(line::part(lent, 0, given.own), cache, output),
         Call::Receive => receive(given, lent, cache, waiting, output),
+        Call::Send => send(given, lent, cache, waiting, output),
     }
 }
 
@@ -63,6 +78,7 @@ fn written(call: Call, answer: Answer) -> usize {
         Call::Tick => 4 * first,
         Call::List => 32 * (first + second),
         Call::Receive => first + second,
+        Call::Send => first + second,
     }
 }
 

@@ -4,11 +4,13 @@ use vector_text::line;
 
 pub(crate) enum Call {
     Receive,
+    Send,
     Tick,
     List,
 }
 
-// The numbers of a call; where each part ends that it is lent for reading; how long its output is.
+// The numbers of a call; where each part ends that it is lent for reading; how long its output is. In a send the neighbour's
+// key stands in the nonce's place.
 pub(crate) struct Given {
     pub call: Call,
     pub own: usize,
@@ -27,6 +29,9 @@ pub(crate) fn is_call(text: &[u8]) -> bool {
     if line::is_named(text, b"receive") {
         return true;
     }
+    if line::is_named(text, b"send") {
+        return true;
+    }
     if line::is_named(text, b"tick") {
         return true;
     }
@@ -36,6 +41,9 @@ pub(crate) fn is_call(text: &[u8]) -> bool {
 fn call_of(text: &[u8]) -> Call {
     if line::is_named(text, b"receive") {
         return Call::Receive;
+    }
+    if line::is_named(text, b"send") {
+        return Call::Send;
     }
     if line::is_named(text, b"tick") {
         return Call::Tick;
@@ -48,18 +56,26 @@ fn room_of(text: &[u8]) -> usize {
     if line::is_named(text, b"receive") {
         return line::place(text, 6);
     }
+    if line::is_named(text, b"send") {
+        return line::place(text, 4);
+    }
     line::place(text, 1)
+}
+
+// Which operand the key is.
+fn key_of(text: &[u8]) -> usize {
+    if line::is_named(text, b"send") { 3 } else { 4 }
 }
 
 fn word(text: &[u8], i: usize) -> u32 {
     (line::number(text, i) % 4294967296) as u32
 }
 
-// `receive ID NONCE VERDICT KEY DATAGRAM ROOM`, `tick ROOM`, `list ROOM`
+// `receive ID NONCE VERDICT KEY DATAGRAM ROOM`, `send ID NEIGHBOUR KEY ROOM`, `tick ROOM`, `list ROOM`
 pub(crate) fn read(text: &[u8], lent: &mut [u8], sizes: &[usize; 6]) -> Given {
     let cpa = sizes[1];
     let nonce = line::bytes(text, 2, lent, cpa);
-    let key = line::bytes(text, 4, lent, nonce);
+    let key = line::bytes(text, key_of(text), lent, nonce);
     let datagram = line::bytes(text, 5, lent, key);
     Given {
         call: call_of(text),

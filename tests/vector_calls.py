@@ -1199,11 +1199,6 @@ def vectors(g=None):
         yield from scene(g)
 
 
-def runnable():
-    """The same without `look`, which is not exported yet."""
-    return (v for v in vectors() if isinstance(v, str) or v[0][0] != "look")
-
-
 def check():
     assert ack_out(7, 0xD8859CF5, False) == bytes.fromhex("0010000C510665090000000700180008D8859CF5")  # case 10
     assert ack_out(7, 0xD8859CF5, True) == bytes.fromhex("0010000C510665090000000700180008D8859CF5004000060001")  # case 11

@@ -62,7 +62,7 @@ def vectors():
     yield from ground()
     yield from vector_messages.vectors()
     yield from vector_memory.vectors()
-    yield from vector_calls.runnable()
+    yield from vector_calls.vectors()
 
 
 def ground():

@@ -2,6 +2,7 @@
 // record and CPA, one behind the other, in `lent`; the cache; the waiting table; and six numbers, `sizes`: where own record
 // and CPA end, how long cache and waiting table are, major and minor version. Used by the program `vectors` alone.
 mod called;
+mod looked;
 mod operands;
 mod set;
 mod shown;
@@ -49,6 +50,9 @@ pub fn answer(
     sizes: &mut [usize; 6],
 ) -> bool {
     if set::answer(text, lent, cache, waiting, sizes) {
+        return true;
+    }
+    if looked::answer(text, lent, sizes[1]) {
         return true;
     }
     act(text, lent, cache, waiting, sizes)

@@ -1,5 +1,5 @@
 # Two commands: `make run` shows what the gauge's functions make of fixed vectors, `make test` is all that the gate runs.
-.PHONY: run test check fmt definitions vectors outside counted tools clean
+.PHONY: run test check lib ponds fmt definitions vectors outside counted tools clean
 
 run: tools
 	@tests/run-vectors
@@ -10,6 +10,16 @@ test:
 # While working: prove what changed, and run the programs. Not the gate.
 check:
 	@rt check
+
+# What a C program links: target/libgauge.a and target/gauge.h.
+lib:
+	@tools/lib
+	@echo 'target/libgauge.a and target/gauge.h, for C on x86-64'
+
+# A small radio program in C, built on them and run.
+ponds: tools lib
+	@tools/cc -std=c99 -O1 -Wall -Wextra -Wconversion -Werror -Itarget examples/two_ponds.c target/libgauge.a -o target/two_ponds
+	@tools/run target/two_ponds
 
 fmt:
 	@rt fmt

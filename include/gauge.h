@@ -1,0 +1,215 @@
+/* The gauge, as a radio program in C calls it. Link libgauge.a (`make lib`), for x86-64.
+ *
+ * The gauge has no memory, no socket and no clock of its own. The radio program lends it memory and numbers, and sends what it writes. Five calls:
+ *
+ *   gauge_receive      a datagram has come: what is to be sent, and what changes in the memory
+ *   gauge_send         a FLOOD of a record is to go to a neighbour
+ *   gauge_tick         a second has passed: which datagrams are to be sent again
+ *   gauge_neighbours   the five keys next to our own on either side
+ *   gauge_look         what a datagram is, and where in it the CPA and the nonce stand; nothing is done
+ *
+ * What holds for all of them:
+ *
+ * - What is lent is a pointer and a length in bytes, one after the other. It is lent for that call alone: the gauge keeps no pointer, and hands none
+ *   back. A pointer is not NULL, not even with length 0. Any length may be lent: one that is not right is answered by a number.
+ * - `const` is lent for reading. All else is lent for writing too, and may then not overlap anything else that is lent to the same call. The
+ *   gauge cannot test that.
+ * - Every call returns, whatever the bytes are, and its answer begins with a number (below): 0, or the lowest of those that apply.
+ * - With any number but 0 nothing has changed: each byte is as it was lent, and the rest of the answer is 0.
+ * - With 0 the output has changed in its first bytes only, as many as the call says; and cache and waiting table are in form again.
+ * - The calls on one gauge's memory come one after the other. Gauges that share no memory do not know of each other.
+ *
+ * Numbers are of fixed width; build with -Wconversion, so that none loses bits on the way: a verdict of 257 in eight bits would be 1, and good.
+ * From C's library the archive wants memcpy, memmove and memset.
+ *
+ * The memory, byte by byte: docs/MEMORY.md. What was decided, and why: docs/DECISIONS.md. An example: examples/two_ponds.c. */
+#ifndef GAUGE_H
+#define GAUGE_H
+
+#include <stddef.h>
+#include <stdint.h>
+
+#ifdef __cplusplus
+extern "C" {
+#endif
+
+/* Lengths in bytes. */
+#define GAUGE_KEY_LEN 32          /* a key: a number of 256 bits, most significant byte first */
+#define GAUGE_NONCE_LEN 16
+#define GAUGE_CPA_LEAST 1         /* the own CPA */
+#define GAUGE_CPA_MOST 1024
+#define GAUGE_RECORD_LEN 100      /* a record: own, or in the cache */
+#define GAUGE_PLACE_LEN 140       /* a place of the waiting table */
+#define GAUGE_PLACES 16
+#define GAUGE_WAITING_LEN 2240    /* the waiting table: 16 places */
+#define GAUGE_CACHE_LEAST 10      /* the cache has C records, C from 10 to 256, .. */
+#define GAUGE_CACHE_MOST 256
+#define GAUGE_CACHE_LEN(c) ((size_t)GAUGE_RECORD_LEN * (size_t)(c)) /* .. and this length. C stays as long as the memory is in use. */
+#define GAUGE_DATAGRAM_LEAST 12
+#define GAUGE_DATAGRAM_MOST 1232
+#define GAUGE_OUTPUT_LEN 2464     /* an output that is enough for each of the calls */
+#define GAUGE_SEND_LEN 164        /* enough for gauge_send */
+#define GAUGE_TICK_LEN 64         /* what gauge_tick asks for, always */
+#define GAUGE_LIST_LEN 320        /* what gauge_neighbours asks for, always */
+
+/* A record, by place: key (32), port (2, most significant byte first), how many addresses (1, from 1 to 4), a zero byte, four addresses of 16 bytes
+ * as they stand on the wire. Those not used are zero. */
+#define GAUGE_RECORD_KEY 0
+#define GAUGE_RECORD_PORT 32
+#define GAUGE_RECORD_COUNT 34
+#define GAUGE_RECORD_ADDRESSES 36
+#define GAUGE_ADDRESS_LEN 16
+
+/* A route entry in a datagram, by place from `entry_at` of gauge_look: key (32), major, minor, port (2), flags, how many addresses, the addresses. */
+#define GAUGE_ENTRY_KEY 0
+#define GAUGE_ENTRY_MAJOR 32
+#define GAUGE_ENTRY_MINOR 33
+#define GAUGE_ENTRY_PORT 34
+#define GAUGE_ENTRY_COUNT 37
+#define GAUGE_ENTRY_ADDRESSES 38
+
+/* The numbers. For each what is the matter, whose it is, and what to do. */
+enum gauge_number {
+    GAUGE_OK = 0,          /* accepted */
+    GAUGE_MEMORY = 1,      /* what you have lent is not in form: own record, CPA, cache, waiting table, or a nonce or key of another length. Yours: mend it. */
+    GAUGE_LENGTH = 2,      /* datagram shorter than 12 or longer than 1,232 bytes. The sender's, as up to 7: drop the datagram. */
+    GAUGE_HEADER = 3,      /* its first five bytes are not 00 10 00 0C 51 */
+    GAUGE_MAJOR = 4,       /* its major version is not the given one */
+    GAUGE_TYPE = 5,        /* its type is unknown */
+    GAUGE_FIELD = 6,       /* a field malformed, misplaced, missing or running past the end, an address count outside 1 to 4, or bytes left over */
+    GAUGE_NOT_TAKEN = 7,   /* SOLICIT, ADVERTISE or REQUEST, or an AUTHORITY in part */
+    GAUGE_STRAY = 8,       /* an ACK to no waiting flood, an AUTHORITY to no waiting inquiry: late or stray. Drop it. */
+    GAUGE_UNTRUSTED = 9,   /* an AUTHORITY without a CPA, or a verdict that is not 1 where a CPA is needed. Not trusted: drop it. */
+    GAUGE_OTHER_KEY = 10,  /* the AUTHORITY's CPA is good for another key than the one inquired about. Not trusted: drop it. */
+    GAUGE_OWN_KEY = 11,    /* a route entry or revocation in a FLOOD names our own key. Drop it. */
+    GAUGE_NOT_OURS = 12,   /* an INQUIRE for another key than ours: drop it. Or a FLOOD to send whose neighbour is not held, or whose record is neither
+                              ours nor held. */
+    GAUGE_ID_WAITING = 13, /* a place must be opened, and its ID is waiting already. Call again with another ID. */
+    GAUGE_FULL = 14,       /* a place must be opened, and all 16 are used. Try later: answers and ticks free them. */
+    GAUGE_ROOM = 15        /* the output has too little room. Call again with more: GAUGE_OUTPUT_LEN is always enough. */
+};
+
+/* The types of messages, as gauge_look tells them. */
+enum gauge_kind {
+    GAUGE_SOLICIT = 1,
+    GAUGE_ADVERTISE = 2,
+    GAUGE_REQUEST = 3,
+    GAUGE_FLOOD = 4,
+    GAUGE_INQUIRE = 7,
+    GAUGE_AUTHORITY = 8,
+    GAUGE_ACK = 9,
+    GAUGE_LOOKUP = 11
+};
+
+/* The verdict on a CPA that is good. Any other number is not good. */
+#define GAUGE_GOOD 1
+
+/* What the first four calls answer. `first` and `second`: lengths of datagrams (receive, send), how many IDs (tick), how many keys below and above
+ * (neighbours). */
+struct gauge_answer {
+    uint32_t number, first, second;
+};
+
+/* What gauge_look answers. A place (`_at`) counts from the start of the datagram, and is that of the contents behind a field's number and length;
+ * place and length are both 0 for what is not there. Contents that are there and empty have a place, and length 0. */
+struct gauge_look {
+    uint32_t number;             /* GAUGE_OK, GAUGE_LENGTH to GAUGE_FIELD, or GAUGE_NOT_TAKEN for an AUTHORITY in part. Not 0: the rest is 0. */
+    uint32_t kind;               /* one of enum gauge_kind */
+    uint32_t id;                 /* the message ID */
+    uint32_t acked;              /* the ID that an ADVERTISE, AUTHORITY or ACK answers; 0 in the others */
+    uint32_t cpa_at, cpa_len;    /* AUTHORITY: the CPA. FLOOD: the revoke CPA. */
+    uint32_t nonce_at, nonce_len; /* INQUIRE, REQUEST: the nonce, 16 bytes. SOLICIT, ADVERTISE: the hashed nonce, 20 bytes. */
+    uint32_t entry_at, entry_len; /* SOLICIT, FLOOD, AUTHORITY, LOOKUP: the route entry, 38 bytes and 16 for each address */
+    uint32_t target_at, target_len; /* LOOKUP: the target key, 32 bytes */
+};
+
+/* A datagram has come.
+ *
+ *   own       our own record: 100 bytes. Its port and addresses may change from call to call; its key may not, as long as cache and waiting table
+ *             are in use (for another key begin with both all zero).
+ *   cpa       our own CPA: 1 to 1,024 bytes, which go into the AUTHORITY that answers an INQUIRE. Where that INQUIRE has a nonce (gauge_look), the
+ *             CPA should hold it: only you can see to that.
+ *   cache     for writing: GAUGE_CACHE_LEN(C) bytes. All zero is the empty cache.
+ *   waiting   for writing: 2,240 bytes. All zero is the empty table.
+ *   major     our major version. A datagram with another one gives GAUGE_MAJOR. It stands in what is sent.
+ *   minor     our minor version, which stands in what is sent.
+ *   id        a message ID that you have not used of late. The ACK or AUTHORITY that is sent has it; an INQUIRE has id + 1 (4294967295 is followed
+ *             by 0), also where it goes out alone. So a receive may use up both.
+ *   nonce     16 bytes, random, which go into an INQUIRE. Lend them with every receive.
+ *   verdict   your verdict on the CPA or revoke CPA in the datagram (gauge_look tells where it stands): GAUGE_GOOD if it is good for the key below.
+ *             Ignored where the message has none.
+ *   key       32 bytes: the key that the verdict is given with, zeros where there is none. Lend them with every receive.
+ *   datagram  as it came.
+ *   output    for writing: what is to be sent. On GAUGE_OK the first `first` bytes are a datagram, and the next `second` bytes another one; 0 for one
+ *             that is not there. No other byte of it has changed.
+ *
+ * What is done, and where what is written goes:
+ *
+ *   FLOOD with a route entry   an ACK to the sender, unless the FLOOD asks for none; an INQUIRE to an address of the route entry (gauge_look), and a
+ *                              place that waits for its answer, unless that very record is held or an inquiry for its key waits already.
+ *                              Nothing is learned yet. Where both are written the ACK is the first; an INQUIRE alone is the first.
+ *   FLOOD with a revocation    the key of the verdict is removed from the cache, and a waiting inquiry for it freed; an ACK to the sender, as above.
+ *   INQUIRE for our key        an AUTHORITY with our CPA, to the sender.
+ *   AUTHORITY                  the record that was inquired about is learned, and its place freed. Nothing is sent. A full cache drops the key that
+ *                              lies farthest out on the fuller side, which may be the one just learned.
+ *   ACK                        the flood's place is freed. If it says that the neighbour has not the key that we hold it for, the key is removed.
+ *   LOOKUP                     an AUTHORITY with the record closest to the target, to the sender.
+ *
+ * Keep each FLOOD and INQUIRE that you send, with its ID and where it went: gauge_tick says when to send it again, and when to forget it. A gauge that
+ * falls silent stays in the cache until it is revoked or such an ACK comes.
+ *
+ * Gives GAUGE_OK or any number from GAUGE_MEMORY to GAUGE_ROOM. */
+struct gauge_answer gauge_receive(const uint8_t *own, size_t own_len, const uint8_t *cpa, size_t cpa_len, uint8_t *cache, size_t cache_len,
+                                  uint8_t *waiting, size_t waiting_len, uint8_t major, uint8_t minor, uint32_t id, const uint8_t *nonce,
+                                  size_t nonce_len, uint32_t verdict, const uint8_t *key, size_t key_len, const uint8_t *datagram,
+                                  size_t datagram_len, uint8_t *output, size_t output_len);
+
+/* A FLOOD of a record is to go to a neighbour. A place opens that waits for its ACK.
+ *
+ *   own, major, minor  as above. cache: for reading. waiting: for writing.
+ *   id         the FLOOD's message ID.
+ *   neighbour  32 bytes: the key of the neighbour, which must be held.
+ *   key        32 bytes: the key of the record to send, which must be our own or held.
+ *   output     for writing: on GAUGE_OK the first `first` bytes are the FLOOD, to be sent to an address of the neighbour's record in the cache. 116
+ *              bytes for a record of one address, 16 more for each other. `second` is 0.
+ *
+ * A first FLOOD to a gauge that is not held yet is the radio program's own to write: examples/two_ponds.c has one.
+ *
+ * Gives GAUGE_OK, GAUGE_MEMORY, GAUGE_NOT_OURS, GAUGE_ID_WAITING, GAUGE_FULL or GAUGE_ROOM. */
+struct gauge_answer gauge_send(const uint8_t *own, size_t own_len, const uint8_t *cache, size_t cache_len, uint8_t *waiting, size_t waiting_len,
+                               uint8_t major, uint8_t minor, uint32_t id, const uint8_t *neighbour, size_t neighbour_len, const uint8_t *key,
+                               size_t key_len, uint8_t *output, size_t output_len);
+
+/* A second has passed. Each place that waits has one try less, and is listed; one that had none left is freed.
+ *
+ *   own      as above.
+ *   waiting  for writing.
+ *   output   for writing: GAUGE_TICK_LEN bytes or more. On GAUGE_OK the first 4 * `first` bytes are message IDs, increasing, each of 4 bytes, least
+ *            significant first: send those FLOODs and INQUIREs again, and forget those that you kept and that are not listed. `second` is 0.
+ *
+ * A place is listed at two ticks, and gone with the third.
+ *
+ * Gives GAUGE_OK, GAUGE_MEMORY or GAUGE_ROOM. */
+struct gauge_answer gauge_tick(const uint8_t *own, size_t own_len, uint8_t *waiting, size_t waiting_len, uint8_t *output, size_t output_len);
+
+/* The keys next to our own: up to five below, then up to five above, by number, nearest first.
+ *
+ *   own     as above.
+ *   cache   for reading.
+ *   output  for writing: GAUGE_LIST_LEN bytes or more. On GAUGE_OK the first 32 * `first` bytes are the keys below, and the next 32 * `second` bytes the
+ *           keys above.
+ *
+ * Gives GAUGE_OK, GAUGE_MEMORY or GAUGE_ROOM. */
+struct gauge_answer gauge_neighbours(const uint8_t *own, size_t own_len, const uint8_t *cache, size_t cache_len, uint8_t *output, size_t output_len);
+
+/* What a datagram is. Nothing is done, and nothing is lent but the datagram, for reading.
+ *
+ * Look at an AUTHORITY, and at a FLOOD with a revoke CPA, before gauge_receive: the CPA there is yours to judge. Look at an INQUIRE for the nonce that
+ * your CPA should hold, and at a FLOOD for the addresses to which an INQUIRE goes. */
+struct gauge_look gauge_look(uint8_t major, const uint8_t *datagram, size_t datagram_len);
+
+#ifdef __cplusplus
+}
+#endif
+
+#endif

@@ -1,4 +1,5 @@
--- Worked cases. Document 01's cases 1 to 12, those marked P: rows of one list under one statement, of what our calls give on lent bytes. Assumes nothing.
+-- Worked cases. Document 01's cases 1 to 12, those marked P: rows of one list under one statement. Lists, learning, closest records and ticks are what our calls
+-- give on lent bytes; a difference and an ACK are by the definitions that the calls use. Assumes nothing.
 use Prim.Native.Nat.{ℕ, _-_, _*_, _^_}
 use mathlib.Core.Path.{_≡_}
 use mathlib.Core.Bool.{Bool, true, false}

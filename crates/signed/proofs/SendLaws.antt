@@ -1,5 +1,5 @@
--- What is known of an accepted send: the cache is as lent, the neighbour's key has 32 bytes, the ID did not wait. Assumes nothing.
-use mathlib.Core.Path.{_≡_, refl}
+-- What is known of an accepted send: the own record is in form, the neighbour's key has 32 bytes, the ID did not wait. Assumes nothing.
+use mathlib.Core.Path.{_≡_}
 use mathlib.Core.Bool.{true, false}
 use Prim.Native.Nat.{ℕ}
 use lib.Dec.{eqb}
@@ -11,23 +11,11 @@ use Rattle.waiting.specs.Form.{anyOf, placesOf}
 use Rattle.waiting.specs.Seek.{hasId}
 use Rattle.gauge_plan.specs.Memory.{tablesFit}
 use Rattle.gauge_plan.specs.Send.{keysFit}
-use Rattle.gauge_plan.specs.declared.send.SendPlan.{SendPlan}
-use Rattle.gauge_plan.specs.declared.send.SendPlan.the-variants.{Refuse, Flood}
 use Rattle.gauge_plan.proofs.MemoryLaws.{ready}
 use Rattle.gauge.specs.Lent.{Send}
-use Rattle.gauge.specs.Send.{sendPlan, sendCarried, sendCall}
+use Rattle.gauge.specs.Send.{sendCall}
 use Rattle.gauge_laws.specs.Calls as G
 use Rattle.gauge_laws.proofs.TableLaws.{none-applies}
-
--- any send leaves the cache
-by-plan : (l : Send) (p : SendPlan) → sendCarried l p .cache ≡ l .cache
-unfolding sendCarried
-by-plan l (Refuse n) = refl
-by-plan l (Flood u ours at) = refl
-
-pub send-cache : (l : Send) → sendCall l .cache ≡ l .cache
-unfolding sendCall
-send-cache l = by-plan l (sendPlan l)
 
 -- an accepted one
 pub record Sent (l : Send) : Type 0 where

@@ -34,11 +34,11 @@ use Rattle.gauge.specs.Counts.{TickHanded, gaugeTick}
 use Rattle.gauge_laws.specs.Calls as G
 use Rattle.gauge_laws.proofs.RefusedLaws.{receive-refused, send-refused, tick-refused}
 use Rattle.gauge_laws.proofs.MovedLaws.{Moved, stays, frees, opens, receive-ready, receive-moved, send-moved}
-use Rattle.gauge_laws.proofs.FormLaws.{form-kept}
+use Rattle.gauge_laws.proofs.FormLaws.{form-kept, send-cache}
 use Rattle.gauge_laws.proofs.GoneLaws.{tick-round}
 use Rattle.signed.specs.Words.{Memory, memory, Call, receives, sends, ticks, lists, asGiven, ours, Entry, entry, left, log, OneKey, IdFits, Proper}
 use Rattle.signed.specs.Events.{sentTo, does, eventsFrom}
-use Rattle.signed.proofs.SendLaws.{Sent, sent, send-cache}
+use Rattle.signed.proofs.SendLaws.{Sent, sent}
 use Rattle.signed.proofs.KeyLaws.{Owed, Keeps, receive-keeps, receive-fine}
 
 -- what holds between two calls: memory in form, the keys held, and whom the waiting floods were sent to

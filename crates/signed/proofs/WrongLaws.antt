@@ -15,6 +15,7 @@ use Rattle.signed.specs.Statements.{happened, MeetsDemand3}
 use Rattle.signed.specs.Wrong.{refusesAll, emptyList, learnsNothing, learnsOnce, inventedCounts}
 use Rattle.signed.specs.Wrong.{RefusesAllShut, EmptyListShut, LearnsNothingShut, LearnsOnceShut, InventedCountsShut}
 use Rattle.signed.specs.Cases.{key, recordWith, hears, authority}
+use Rattle.signed.proofs.Theorems.{meets-demand1}
 use Rattle.signed.proofs.CaseLaws.{computed}
 
 -- ---- the histories of a gauge with the key 100
@@ -48,10 +49,13 @@ module _ (g : Gauge) (cs : List Call) (p : Proper 100 cs) (m : MeetsDemand3 g) w
 
 -- ---- the theorems
 
--- one call: a tick that is accepted
+-- one call: a tick that no number of the table applies to
 pub refuses-all-shut : RefusesAllShut
 unfolding computed refusesAll
-refuses-all-shut n p e = let z : _≡_ {A = ℕ} n 0 = e (empty 10) (ticks (recordWith 100) (replicate 64 0)) in omega arith
+refuses-all-shut n p d =
+    let c = ticks (recordWith 100) (replicate 64 0) in
+    let z : _≡_ {A = ℕ} n 0 = d .accepted (empty 10) c .1 (meets-demand1 .accepted (empty 10) c .0 refl) in
+    omega arith
 
 -- the key 99 is learned
 pub empty-list-shut : EmptyListShut

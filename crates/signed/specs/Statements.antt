@@ -1,6 +1,7 @@
 -- To believe. The demands, of any gauge. A theorem of each name, of ours, stands in proofs/Theorems.antt. Assumes nothing.
-use Prim.Native.Nat.{ℕ, _+_, _*_, _≤_}
-use mathlib.Core.Bool.{true}
+use Prim.Native.Nat.{ℕ, _+_, _*_, _≤_, _<_}
+use mathlib.Core.Bool.{true, false}
+use mathlib.Core.Logic.{_↔_}
 use mathlib.Core.List.{List}
 use mathlib.Core.Path.{_≡_}
 use lib.ListN.{length}
@@ -10,10 +11,68 @@ use Rattle.record.specs.Record.{keyOf, recordForm}
 use Rattle.kept.specs.History.{Event}
 use Rattle.kept.specs.Plain.{NotOwn, neighbours, neighbourList, drops, kept}
 use Rattle.kept.specs.Demand3 as K
+use Rattle.refusal.specs.Table.{appliesIn}
+use Rattle.cache.specs.Form.{cacheForm}
 use Rattle.cache.specs.Bytes.{keyBytes}
+use Rattle.waiting.specs.Form.{waitingForm}
+use Rattle.wire.specs.Statements.{AtMostOne, ReadGives, ReadAccepts, ReadRefuses, WrittenReads, WrittenRead, OutputReads, WriteReads}
+use Rattle.wire.specs.Statements.{ReadWritten, ReadWrittenAgain, OutputAgain, ReadOne, WriteOne}
+use Rattle.gauge_commit.specs.declared.Answer.{Answer}
 use Rattle.gauge_commit.specs.Sending.{answer}
-use Rattle.signed.specs.Words.{Call, lists, Given, Gauge, empty, left, log, Proper}
+use Rattle.gauge.specs.Lent.{receive, send}
+use Rattle.gauge_laws.specs.Calls as G
+use Rattle.gauge_laws.specs.Table.{tableOf}
+use Rattle.gauge_laws.specs.Statements.{OnlyFirst, ReadsBack, SendReadsBack}
+use Rattle.signed.specs.Words.{Memory, Call, receives, sends, ticks, lists, Given, given, Gauge, empty, left, log, ownOf, outputOf, IdFits, Proper}
 use Rattle.signed.specs.Events.{events}
+
+-- ---- demand 1
+
+-- all that a call is lent, with the memory
+abbrev pub lent : Memory → Call → G.Call
+lent m (receives own cpa major minor id nonce verdict key datagram output) =
+    G.receives (receive own cpa (m .cache) (m .waiting) major minor id nonce verdict key datagram output)
+lent m (sends own major minor id neighbour key output) = G.sends (send own (m .cache) (m .waiting) major minor id neighbour key output)
+lent m (ticks own output) = G.ticks own (m .waiting) output
+lent m (lists own output) = G.lists own (m .cache) output
+
+-- how many bytes of the output the two counts stand for: lengths of datagrams, IDs of 4 bytes, keys of 32
+abbrev pub returned : Call → Answer → ℕ
+returned (receives own cpa major minor id nonce verdict key datagram output) a = a .first + a .second
+returned (sends own major minor id neighbour key output) a = a .first + a .second
+returned (ticks own output) a = 4 * a .first
+returned (lists own output) a = 32 * (a .first + a .second)
+
+abbrev pub InForm : ℕ → Memory → Type 0
+InForm k m = (cacheForm k (m .cache) ≡ true) × (waitingForm k (m .waiting) ≡ true)
+
+-- "Each call tests what it is lent. A refusal gives its number from document 01 in that document's order, and cache, waiting table and output keep their bytes."
+-- That no input makes the gauge read outside its memory, wrap a sum unmeant or run on is that the calls are functions of all inputs: the exported ones have
+-- contracts with no `requires`, and each returns what `ours` gives.
+pub record MeetsDemand1 (g : Gauge) : Type 0 where
+  -- a number is given exactly when it applies in the call's table, in whichever row, and no lower one does; 0 when none does
+  pub exactly : (m : Memory) (c : Call) (n : ℕ) → 0 < n
+      → (g m c .answer .number ≡ n) ↔ ((appliesIn n (tableOf (lent m c)) ≡ true) × ((i : ℕ) → i < n → appliesIn i (tableOf (lent m c)) ≡ false))
+  pub accepted : (m : Memory) (c : Call) → (g m c .answer .number ≡ 0) ↔ ((i : ℕ) → appliesIn i (tableOf (lent m c)) ≡ false)
+  -- with a refusal the counts are 0 and every byte is as lent
+  pub keeps : (m : Memory) (c : Call) → 0 < g m c .answer .number → g m c ≡ given (answer (g m c .answer .number) 0 0) m (outputOf c)
+  -- the output changes only in its first bytes, as many as returned
+  pub first : (m : Memory) (c : Call) → OnlyFirst (returned c (g m c .answer)) (outputOf c) (g m c .output)
+  -- a call leaves memory in form
+  pub form : (m : Memory) (c : Call) → IdFits c → InForm (keyOf (ownOf c)) m → InForm (keyOf (ownOf c)) (g m c .memory)
+
+-- ---- demand 2
+
+-- "Messages are read and written as the public DRT document lays them out. What we write reads back as the same message; what we read, written again, gives the
+-- same bytes with the ignored bits zero. Every message is accepted, refused and acted on exactly as document 01 says." The last is the equation of each call
+-- with its definition; that what a call sends reads as the message meant are the last two.
+pub record Demand2 : Type 0 where
+  pub one-message : AtMostOne
+  pub read-when : ReadGives × ReadAccepts × ReadRefuses
+  pub written-reads : WrittenReads × WrittenRead × OutputReads × WriteReads
+  pub read-written : ReadWritten × ReadWrittenAgain × OutputAgain
+  pub one-answer : ReadOne × WriteOne
+  pub sent-reads : ReadsBack × SendReadsBack
 
 -- ---- demand 3
 

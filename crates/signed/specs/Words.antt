@@ -90,6 +90,13 @@ ownOf (sends own major minor id neighbour key output) = own
 ownOf (ticks own output) = own
 ownOf (lists own output) = own
 
+-- the output as lent
+abbrev pub outputOf : Call → List ℕ
+outputOf (receives own cpa major minor id nonce verdict key datagram output) = output
+outputOf (sends own major minor id neighbour key output) = output
+outputOf (ticks own output) = output
+outputOf (lists own output) = output
+
 -- one own key: a record in form that is handed in as ours has it, its port and addresses may change
 abbrev pub OneKey : ℕ → Call → Type 0
 OneKey k c = recordForm (ownOf c) ≡ true → keyOf (ownOf c) ≡ k

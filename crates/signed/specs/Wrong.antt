@@ -6,15 +6,8 @@ use mathlib.Core.List.{List}
 use mathlib.Core.Path.{_≡_}
 use Rattle.octet.specs.Part.{allZero}
 use Rattle.gauge_commit.specs.Sending.{answer}
-use Rattle.signed.specs.Words.{Memory, memory, Call, receives, sends, ticks, lists, given, Gauge, ours}
-use Rattle.signed.specs.Statements.{MeetsDemand3}
-
--- the output as lent
-abbrev pub outputOf : Call → List ℕ
-outputOf (receives own cpa major minor id nonce verdict key datagram output) = output
-outputOf (sends own major minor id neighbour key output) = output
-outputOf (ticks own output) = output
-outputOf (lists own output) = output
+use Rattle.signed.specs.Words.{Memory, memory, Call, receives, sends, ticks, lists, given, Gauge, ours, outputOf}
+use Rattle.signed.specs.Statements.{MeetsDemand1, MeetsDemand3}
 
 abbrev pub isList : Call → Bool
 isList (receives own cpa major minor id nonce verdict key datagram output) = false
@@ -50,12 +43,9 @@ inventedCounts first second m c =
 
 -- ---- each is shut out
 
--- demands 1 and 2: "given exactly when"
-abbrev pub GivenExactly : Gauge → Type 0
-GivenExactly g = (m : Memory) (c : Call) → g m c .answer .number ≡ ours m c .answer .number
-
+-- demand 1: "given exactly when"
 abbrev pub RefusesAllShut : Type 0
-RefusesAllShut = (n : ℕ) → 0 < n → ¬ GivenExactly (refusesAll n)
+RefusesAllShut = (n : ℕ) → 0 < n → ¬ MeetsDemand1 (refusesAll n)
 
 -- demand 3
 abbrev pub EmptyListShut : Type 0

@@ -1,8 +1,9 @@
 -- Any two results that a contract allows coincide. Assumes nothing.
 use mathlib.Core.Path.{sym, _∙_}
+use Rattle.look.specs.declared.Look.{Look}
 use Rattle.gauge.specs.Lent.{Handed}
 use Rattle.gauge.specs.Counts.{TickHanded, ListHanded}
-use Rattle.gauge_laws.specs.Contracts.{OneResult, ReceiveOne, SendOne, TickOne, ListOne}
+use Rattle.gauge_laws.specs.Contracts.{OneResult, ReceiveOne, SendOne, TickOne, ListOne, LookOne}
 
 pub one-result : OneResult
 one-result R d r s p q = p ∙ sym q
@@ -18,3 +19,6 @@ tick-one κs a r r′ s s′ p q = one-result TickHanded _ _ _ p q
 
 pub list-one : ListOne
 list-one κs a r r′ s s′ p q = one-result ListHanded _ _ _ p q
+
+pub look-one : LookOne
+look-one κs a r r′ s s′ p q = one-result Look _ _ _ p q

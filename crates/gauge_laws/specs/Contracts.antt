@@ -13,6 +13,8 @@ use Rattle.gauge.proofs.gauge_tick as ticking
 use Rattle.gauge.proofs.gauge_tick.Reads as ticked
 use Rattle.gauge.proofs.gauge_neighbours as listing
 use Rattle.gauge.proofs.gauge_neighbours.Reads as listed
+use Rattle.gauge.proofs.gauge_look as looking
+use Rattle.gauge.proofs.gauge_look.Reads as looked
 use Rattle.gauge.specs.Lent.{Handed, handed}
 use Rattle.gauge.specs.Counts as Counts
 
@@ -48,3 +50,9 @@ abbrev pub ListOne : Type 0
 ListOne =
     (κs : Lfts 3) (a : ArgsD listing.signature κs) (r r′ : ResD listing.signature κs) (s s′ : AtExit listing.ended κs)
     → listed.Post κs a r s → listed.Post κs a r′ s′ → Counts.listed r (now (s .1 .1 .0)) ≡ Counts.listed r′ (now (s′ .1 .1 .0))
+
+-- the look writes nothing
+abbrev pub LookOne : Type 0
+LookOne =
+    (κs : Lfts 1) (a : ArgsD looking.signature κs) (r r′ : ResD looking.signature κs) (s s′ : AtExit looking.ended κs)
+    → looked.Post κs a r s → looked.Post κs a r′ s′ → r ≡ r′

@@ -68,7 +68,31 @@ fn one_line(
     say::text(b"\n");
 }
 
-// A layer that has a vector of the name answers.
+// A layer that has a vector of the name answers. These stand each by itself ..
+fn answer_alone(text: &[u8], room: &mut [u8], side: &mut [u8]) -> bool {
+    if vector_ground::answer(text, room, side) {
+        return true;
+    }
+    if vector_messages::answer(text, room) {
+        return true;
+    }
+    vector_memory::answer(text, room, side)
+}
+
+// .. and these act on what the lines before them left.
+fn answer_call(
+    text: &[u8],
+    lent: &mut [u8],
+    cache: &mut [u8],
+    waiting: &mut [u8],
+    sizes: &mut [usize; 6],
+) -> bool {
+    if vector_lent::answer(text, lent, cache, waiting, sizes) {
+        return true;
+    }
+    vector_calls::answer(text, lent, cache, waiting, sizes)
+}
+
 fn answer(
     text: &[u8],
     room: &mut [u8],
@@ -78,16 +102,10 @@ fn answer(
     waiting: &mut [u8],
     sizes: &mut [usize; 6],
 ) {
-    if vector_ground::answer(text, room, side) {
+    if answer_alone(text, room, side) {
         return;
     }
-    if vector_messages::answer(text, room) {
-        return;
-    }
-    if vector_memory::answer(text, room, side) {
-        return;
-    }
-    if vector_calls::answer(text, lent, cache, waiting, sizes) {
+    if answer_call(text, lent, cache, waiting, sizes) {
         return;
     }
     say::text(b"no such vector");

@@ -63,13 +63,20 @@ fn waits(own: &[u8], waiting: &[u8]) {
     say::text(b"bad");
 }
 
-pub(crate) fn answer(text: &[u8], own: &[u8], cache: &[u8], waiting: &[u8]) -> bool {
+pub(crate) fn answer(
+    text: &[u8],
+    lent: &[u8],
+    cache: &[u8],
+    waiting: &[u8],
+    sizes: &[usize; 6],
+) -> bool {
+    let own = line::part(lent, 0, sizes[0]);
     if line::is_named(text, b"held") {
-        held(own, cache);
+        held(own, line::part(cache, 0, sizes[2]));
         return true;
     }
     if line::is_named(text, b"waits") {
-        waits(own, waiting);
+        waits(own, line::part(waiting, 0, sizes[3]));
         return true;
     }
     false

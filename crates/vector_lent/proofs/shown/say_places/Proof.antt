@@ -1,8 +1,8 @@
--- `vector_calls::shown::say_places` ends: at most 16 places are shown. Assumes nothing.
+-- `vector_lent::shown::say_places` ends: at most 16 places are shown. Assumes nothing.
 use borrow.Author.Needs.{needs}
 use Prim.Native.Nat.{_≤_, _-_}
-use Rattle.vector_calls.proofs.shown.say_places.Statement.{statement}
-use Rattle.vector_calls.proofs.shown.say_places.Tie as tie
+use Rattle.vector_lent.proofs.shown.say_places.Statement.{statement}
+use Rattle.vector_lent.proofs.shown.say_places.Tie as tie
 
 abbrev Inv-loop : tie.InvT-loop
 Inv-loop s count i₀ t5 i = i ≤ 16

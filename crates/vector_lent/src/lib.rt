@@ -1,0 +1,24 @@
+// Lines beside the calls: the memory that they are lent is laid out and shown, and datagrams are looked at. The memory stays
+// from line to line: own record and CPA, one behind the other, in `lent`; the cache; the waiting table; and six numbers,
+// `sizes`: where own record and CPA end, how long cache and waiting table are, major and minor version. Used by the program
+// `vectors` alone.
+mod looked;
+mod set;
+mod shown;
+
+// The group of vectors that has the line's name answers; false where none has.
+pub fn answer(
+    text: &[u8],
+    lent: &mut [u8],
+    cache: &mut [u8],
+    waiting: &mut [u8],
+    sizes: &mut [usize; 6],
+) -> bool {
+    if set::answer(text, lent, cache, waiting, sizes) {
+        return true;
+    }
+    if shown::answer(text, lent, cache, waiting, sizes) {
+        return true;
+    }
+    looked::answer(text, lent, sizes[1])
+}

@@ -142,7 +142,7 @@ receive-owned : (l : Receive) → receiveCall l .given .number ≡ 0 → recordF
 receive-owned l z = receive-ready l z .owned
 
 -- what holds of the places before a call, and of one that it opens, holds of those after it
-moved-all : (P New : List ℕ → Type 0) (ps qs : List (List ℕ)) → ((p : List ℕ) → New p → P p) → Moved New ps qs → All P ps → All P qs
+pub moved-all : (P New : List ℕ → Type 0) (ps qs : List (List ℕ)) → ((p : List ℕ) → New p → P p) → Moved New ps qs → All P ps → All P qs
 moved-all P New ps qs f (stays e) a = rw e a
 moved-all P New ps qs f (frees i e) a = rw e (all-freed P i ps a)
 moved-all P New ps qs f (opens p h new e) a = rw e (all-opened P p ps (f p h) a)

@@ -125,15 +125,15 @@ zeros size = let e : size - 0 ≡ size = omega arith in ap (λ (n : ℕ). replic
 
 -- a cache of zeros holds nothing, and a table of zeros has no place
 module _ (k C : ℕ) (least : 10 ≤ C) (most : C ≤ 256) where
-  empty-cache : Form k (replicate (100 * C) 0) []
+  pub empty-cache : Form k (replicate (100 * C) 0) []
   empty-cache = subst (λ (s : List ℕ). Form k s []) (zeros (100 * C))
       (form-anew k (100 * C) [] (record { whole = omega arith; least = omega arith; most = omega arith }) (record { formed = tt; rising = tt; others = tt })
       (omega arith))
 
-  empty-table : W.Form k (replicate 2240 0) []
+  pub empty-table : W.Form k (replicate 2240 0) []
   empty-table = subst (λ (s : List ℕ). W.Form k s []) (zeros 2240) (made-of k [] tt (omega arith) tt)
 
-  start : Inv k C [] [] (empty C)
+  pub start : Inv k C [] [] (empty C)
   start = record {
     cached = form-true k (replicate (100 * C) 0) [] empty-cache;
     tabled = WF.form-test k (replicate 2240 0) [] empty-table;

@@ -1,5 +1,6 @@
 pub mod Words
 pub mod Events
 pub mod Statements
+pub mod Answered
 pub mod Wrong
 pub mod Cases

@@ -1,0 +1,345 @@
+-- The record held for a kept key is that of the inquiry last answered for it.
+-- In this order: what stands in the tables after an edit; an accepted datagram, by its plan; any call; any sequence of calls. Assumes nothing.
+use mathlib.Core.Path.{_≡_, refl, sym, ap, subst, _∙_}
+use mathlib.Core.Bool.{Bool, true, false}
+use mathlib.Core.List.{List, [], _∷_}
+use mathlib.Core.Logic.{_⊎_, inl, inr}
+use mathlib.Core.Option.{some}
+use Prim.Native.Nat.{ℕ, zero, suc, _*_, _^_, _<_}
+use native.Mathlib.Nat.{mod-lt}
+use native.Mathlib.Omega.{arith}
+use lib.ListN.{length, getD, replicate}
+use lib.Seq.{length-take-le}
+use borrow.Author.Tests.{eq-eqb, ne-eqb}
+use Rattle.octet.specs.Number.{digitsLE}
+use Rattle.octet.specs.Part.{part}
+use Rattle.key.specs.Number.{keyAt}
+use Rattle.record.specs.Record.{keyOf, recordForm}
+use Rattle.record.specs.Entry.{recordOf}
+use Rattle.record.proofs.EntryLaws.{form-length, record-form}
+use Rattle.table.specs.Rows.{rows, bytesOf}
+use Rattle.table.proofs.RowLaws.{rows-length}
+use Rattle.kept.specs.Keys.{_∈_, Every}
+use Rattle.kept.specs.Plain.{NotOwn, drops}
+use Rattle.kept.proofs.RecordLaws.{mem-learn-by, mem-without-by}
+use Rattle.cache.specs.Form.{Form, heldOf, placesIn}
+use Rattle.cache.specs.Bytes.{afterLearn, afterRemove}
+use Rattle.cache.proofs.FormLaws.{form-held}
+use Rattle.cache.proofs.KeepLaws.{learnt-form, removed-form}
+use Rattle.waiting.specs.Place.{idOf, kindOf, placeKey, placeRecord, newPlace}
+use Rattle.waiting.specs.Form as W
+use Rattle.waiting.specs.Form.{isInquiry, placesOf}
+use Rattle.waiting.specs.Seek.{seek, hasId}
+use Rattle.waiting.specs.Open.{opened, freed, inquiryPlace, floodPlace}
+use Rattle.waiting.specs.Tick.{oneLess}
+use Rattle.waiting.specs.declared.seek.Found.{Found}
+use Rattle.waiting.specs.declared.seek.Found.the-variants.{At, Nothing}
+use Rattle.waiting.proofs.PlaceLaws.{less-id, less-kind, less-record}
+use Rattle.waiting.proofs.NewLaws.{new-id, new-record}
+use Rattle.waiting.proofs.FormLaws.{form-unique}
+use Rattle.waiting.proofs.KeptLaws.{free-kept, open-inquiry}
+use Rattle.waiting.proofs.RoundLaws.{All, all-none, all-at, all-map, all-both, all-freed, all-opened, all-ticked}
+use Rattle.wire_read.specs.Answers as R
+use Rattle.gauge_plan.specs.Rooms.{idAfter}
+use Rattle.gauge_plan.specs.declared.Plan.{Plan}
+use Rattle.gauge_plan.specs.declared.Plan.the-variants.{Refuse, Flood, Revoke, Learn, Free, Certify, Show}
+use Rattle.gauge_plan.proofs.MemoryLaws.{Ready}
+use Rattle.gauge_plan.proofs.FloodLaws.{ask-tells}
+use Rattle.gauge_commit.specs.Sending.{freedAt}
+use Rattle.gauge_commit.specs.declared.Answer.{Answer}
+use Rattle.gauge_commit.proofs.PlaceLaws.{record-place, record-key}
+use Rattle.gauge.specs.Lent.{Receive, receive, send, Handed}
+use Rattle.gauge.specs.Receive.{receivePlan, carried, receiveCall}
+use Rattle.gauge.specs.Send.{sendCall}
+use Rattle.gauge.specs.Counts.{TickHanded, gaugeTick}
+use Rattle.gauge.proofs.ReceiveLaws.{Known, Flooded, known, learn-needs}
+use Rattle.gauge_laws.proofs.RefusedLaws.{receive-refused, tick-refused}
+use Rattle.gauge_laws.proofs.MovedLaws.{ready-form, ready-places, receive-ready, send-moved}
+use Rattle.gauge_laws.proofs.GoneLaws.{tick-round}
+use Rattle.signed.specs.Words.{Memory, memory, Call, receives, sends, ticks, lists, asGiven, ours, empty, left, OneKey, IdFits, Proper}
+use Rattle.signed.specs.Answered.{Told, told, toldFrom, inquires, inquired, thatOf, answeredBy, answered, firstOf, HoldsLastAnswered}
+use Rattle.signed.proofs.SendLaws.{send-cache}
+use Rattle.signed.proofs.StepLaws.{moved-all, ran}
+use Rattle.signed.proofs.Theorems.{empty-cache, empty-table, start}
+use Rattle.signed.proofs.InquiryLaws.{Quiet, Floods, Heard, heard, callOf, asked-still, asked-none, asked-other, asked-here, answered-still, answered-one, inquires-is}
+
+-- ---- what stands in the tables after an edit
+
+-- what is known of every one that stands in a list
+module _ {A : Type 0} (P : A → Type 0) where
+  every-in : (q : A) (l : List A) → Every P l → q ∈ l → P q
+  every-in q [] a m = absurd m
+  every-in q (x ∷ l) a (inl e) = subst P (sym e) (a .0)
+  every-in q (x ∷ l) a (inr m) = every-in q l (a .1) m
+
+  every-by : (l : List A) → ((q : A) → q ∈ l → P q) → Every P l
+  every-by [] f = tt
+  every-by (x ∷ l) f = (f x (inl refl), every-by l (λ q m. f q (inr m)))
+
+-- a record is the first of its key among those of the inquiries answered; a waiting inquiry's record is the one told
+abbrev Last : List (List ℕ) → List ℕ → Type 0
+Last rs r = firstOf (keyOf r) rs ≡ some r
+
+abbrev Asked : List Told → List ℕ → Type 0
+Asked es p = kindOf p ≡ 2 → inquired (idOf p) es ≡ some (placeRecord p)
+
+-- a record learned is the first of its key; those of other keys stay the first of theirs
+last-here : (r : List ℕ) (rs : List (List ℕ)) → Last (r ∷ rs) r
+unfolding firstOf
+last-here r rs = rw (eq-eqb (keyOf r) (keyOf r) refl) refl
+
+last-there : (q r : List ℕ) (rs : List (List ℕ)) → ¬ (keyOf q ≡ keyOf r) → Last rs q → Last (r ∷ rs) q
+unfolding firstOf
+last-there q r rs other e = rw (ne-eqb (keyOf q) (keyOf r) other) e
+
+module _ (own : ℕ) (cache : List ℕ) (recs : List (List ℕ)) (f : Form own cache recs) (rs : List (List ℕ)) (a : Every (Last rs) recs) where
+  last-removed : (k : ℕ) → Every (Last rs) (heldOf own (bytesOf (length cache) (afterRemove k recs)))
+  last-removed k =
+      subst (Every (Last rs)) (sym (form-held own (bytesOf (length cache) (afterRemove k recs)) (afterRemove k recs) (removed-form own k cache recs f)))
+      (every-by (Last rs) (afterRemove k recs) (λ q m. every-in (Last rs) q recs a (mem-without-by keyOf k q recs m .0)))
+
+  last-learnt : (r : List ℕ) → recordForm r ≡ true → NotOwn own (keyOf r)
+      → Every (Last (r ∷ rs)) (heldOf own (bytesOf (length cache) (afterLearn own (length cache) recs r)))
+  last-learnt r formed other =
+      let after = afterLearn own (length cache) recs r in
+      subst (Every (Last (r ∷ rs))) (sym (form-held own (bytesOf (length cache) after) after (learnt-form own cache recs r f formed other)))
+      (every-by (Last (r ∷ rs)) after (λ q m. by q (mem-learn-by keyOf (drops own) (placesIn (length cache)) r q recs (f .held .rising) m)))
+    where
+      by : (q : List ℕ) → (q ≡ r) ⊎ ((q ∈ recs) × (¬ (keyOf q ≡ keyOf r))) → Last (r ∷ rs) q
+      by q (inl e) = subst (Last (r ∷ rs)) (sym e) (last-here r rs)
+      by q (inr m) = last-there q r rs (m .1) (every-in (Last rs) q recs a (m .0))
+
+-- what holds of the places holds of those without one
+module _ (own : ℕ) (t : List ℕ) (ps : List (List ℕ)) (f : W.Form own t ps) (P : List ℕ → Type 0) (a : All P ps) where
+  all-found : (found : Found) → All P (placesOf (bytesOf 2240 (freedAt found ps)))
+  all-found (At i) = subst (All P) (form-unique own (bytesOf 2240 (freed i ps)) (freed i ps) (free-kept own t ps f i)) (all-freed P i ps a)
+  all-found Nothing = subst (λ (s : List ℕ). All P (placesOf s)) (f .bytes) (subst (All P) (form-unique own t ps f) a)
+
+-- ---- an accepted datagram
+
+-- what holds between two calls
+pub record Holds (k : ℕ) (es : List Told) (m : Memory) : Type 0 where
+  pub asked : All (Asked es) (placesOf (m .waiting))
+  pub last : Every (Last (answered es)) (heldOf k (m .cache))
+
+asked-later : (es es′ : List Told) → ((id : ℕ) → inquired id es′ ≡ inquired id es) → (ps : List (List ℕ)) → All (Asked es) ps → All (Asked es′) ps
+asked-later es es′ same ps a = all-map (Asked es) (Asked es′) (λ p h kind. same (idOf p) ∙ h kind) ps a
+
+-- a FLOOD with a route entry
+module _ (l : Receive) (es : List Told) (u : ℕ) (s n : Bool) (a start len : ℕ) where
+  abbrev Entry : List ℕ
+  Entry = recordOf (part start len (l .datagram))
+
+  abbrev Given : Bool → Answer
+  Given opens = carried l (Flood u s n a opens start len) .given
+
+  module _ (opens : Bool) (k : Flooded l u s n a opens start len) where
+    entry-long : length Entry ≡ 100
+    entry-long = form-length Entry (record-form (part start len (l .datagram)) (k .entry))
+
+    asks-told : inquires (Given opens) ≡ opens
+    unfolding carried
+    asks-told = inquires-is (l .major) (l .minor) (l .id) a (l .nonce) Entry (k .hands .nonced) entry-long s n opens
+
+  -- the place that opens is that of the INQUIRE, and no other has its ID
+  opened-asked : (k : Flooded l u s n a true start len) → Floods l (R.answer (l .datagram) (l .major)) start len → All (Asked es) (placesOf (l .waiting))
+      → All (Asked (told (callOf l) (Given true) ∷ es)) (placesOf (bytesOf 2240 (opened (inquiryPlace (idAfter (l .id)) Entry) (rows 140 u (l .waiting)))))
+  opened-asked k f asked =
+      let t = l .waiting in
+      let own = keyOf (l .own) in
+      let ps = rows 140 u t in
+      let i = idAfter (l .id) in
+      let p = inquiryPlace i Entry in
+      let later = told (callOf l) (Given true) ∷ es in
+      let is = ready-places (l .own) (l .cache) t (k .ready) in
+      let form : W.Form own t ps = subst (W.Form own t) is (ready-form (l .own) (l .cache) t (k .ready)) in
+      let few = k .ready .few in
+      let free = k .plans .free refl in
+      let new = k .plans .new refl in
+      let long = entry-long true k in
+      let short = length-take-le 32 Entry (omega arith) in
+      let small : i < 2 ^ 32 = mod-lt _ (omega arith) in
+      let formed = record-form (part start len (l .datagram)) (k .entry) in
+      let after = open-inquiry own t ps form i Entry (omega (arith, rows-length 140 u t)) small long formed (ne-eqb (keyOf Entry) own (k .plans .other)) new
+      (ask-tells _ _ Entry (sym (k .plans .opens-is)) .1) in
+      let here : Asked later p =
+      λ kind. ap (λ (j : ℕ). inquired j later) (new-id i 2 2 (part 0 32 Entry) Entry short long small)
+      ∙ asked-here l (Given true) es start len f (asks-told true k)
+      ∙ ap (λ (r : List ℕ). some r) (sym (new-record i 2 2 (part 0 32 Entry) Entry short long)) in
+      let others : All (Asked later) ps =
+      all-both (λ (q : List ℕ). hasId i q ≡ false) (Asked es) (Asked later) (λ q other h kind. asked-other l (Given true) es (idOf q) other ∙ h kind)
+      ps (all-none (hasId i) ps new) (subst (All (Asked es)) is asked) in
+      subst (All (Asked later)) (form-unique own (bytesOf 2240 (opened p ps)) (opened p ps) after) (all-opened (Asked later) p ps here others)
+
+  flood-asked : (opens : Bool) → Flooded l u s n a opens start len → Floods l (R.answer (l .datagram) (l .major)) start len
+      → All (Asked es) (placesOf (l .waiting))
+      → All (Asked (told (callOf l) (Given opens) ∷ es)) (placesOf (carried l (Flood u s n a opens start len) .waiting))
+  unfolding carried
+  flood-asked true k f asked = opened-asked k f asked
+  flood-asked false k f asked =
+      asked-later es (told (callOf l) (Given false) ∷ es) (asked-none l (Given false) es (asks-told false k)) (placesOf (l .waiting)) asked
+
+module _ (l : Receive) (es : List Told) (b : Holds (keyOf (l .own)) es (memory (l .cache) (l .waiting))) where
+  abbrev OwnKey : ℕ
+  OwnKey = keyOf (l .own)
+
+  -- where nothing is answered, and nothing asked
+  last-still : (g : Answer) → ((fs : List Told) → answeredBy fs (R.answer (l .datagram) (l .major)) ≡ []) → (cache : List ℕ)
+      → Every (Last (answered es)) (heldOf OwnKey cache) → Every (Last (answered (told (callOf l) g ∷ es))) (heldOf OwnKey cache)
+  last-still g q cache a = subst (λ (rs : List (List ℕ)). Every (Last rs) (heldOf OwnKey cache)) (sym (answered-still l g es q)) a
+
+  quiet-holds : (g : Answer) (m : Memory) → Quiet l (R.answer (l .datagram) (l .major)) → All (Asked es) (placesOf (m .waiting))
+      → Every (Last (answered es)) (heldOf OwnKey (m .cache)) → Holds OwnKey (told (callOf l) g ∷ es) m
+  quiet-holds g m q asked last = record {
+    asked = asked-later es (told (callOf l) g ∷ es) (asked-still l g es (q .asked)) (placesOf (m .waiting)) asked;
+    last = last-still g (q .answers) (m .cache) last;
+  }
+
+  -- with the records and places as the plan counts them
+  module _ {h u : ℕ} (ready : Ready (l .own) (l .cache) (l .waiting) h u) where
+    last-rows : Every (Last (answered es)) (rows 100 h (l .cache))
+    last-rows = subst (Every (Last (answered es))) (form-held OwnKey (l .cache) (rows 100 h (l .cache)) (ready .form)) (b .last)
+
+    asked-rows : All (Asked es) (rows 140 u (l .waiting))
+    asked-rows = subst (All (Asked es)) (ready-places (l .own) (l .cache) (l .waiting) ready) (b .asked)
+
+    asked-found : (found : Found) → All (Asked es) (placesOf (bytesOf 2240 (freedAt found (rows 140 u (l .waiting)))))
+    asked-found =
+        let ps = rows 140 u (l .waiting) in
+        all-found OwnKey (l .waiting) ps
+        (subst (W.Form OwnKey (l .waiting)) (ready-places (l .own) (l .cache) (l .waiting) ready) (ready-form (l .own) (l .cache) (l .waiting) ready))
+        (Asked es) asked-rows
+
+    last-without : (k : ℕ) → Every (Last (answered es)) (heldOf OwnKey (bytesOf (length (l .cache)) (afterRemove k (rows 100 h (l .cache)))))
+    last-without = last-removed OwnKey (l .cache) (rows 100 h (l .cache)) (ready .form) (answered es) last-rows
+
+  plan-holds : (p : Plan) → receivePlan l ≡ p → Known l p → Heard l (R.answer (l .datagram) (l .major)) p
+      → Holds OwnKey (told (callOf l) (carried l p .given) ∷ es) (memory (carried l p .cache) (carried l p .waiting))
+  unfolding carried
+  plan-holds (Refuse n) e k q = absurd q
+  plan-holds (Flood u s n a opens start len) e k q = record {
+    asked = flood-asked l es u s n a start len opens k q (b .asked);
+    last = last-still (Given l es u s n a start len opens) (q .answers) (l .cache) (b .last);
+  }
+  plan-holds (Revoke h u s n a) e k q =
+      quiet-holds _ _ q (asked-found (k .ready) (seek (isInquiry (keyAt 0 (l .key))) 0 (rows 140 u (l .waiting)))) (last-without (k .ready) (keyAt 0 (l .key)))
+  plan-holds (Learn h u at) e k q =
+      let p = getD (rows 140 u (l .waiting)) at [] in
+      let r = placeRecord p in
+      let g = carried l (Learn h u at) .given in
+      let w = q .waiting in
+      let needs = learn-needs l e in
+      let is = record-place u (l .waiting) at (needs .5) in
+      let was : inquired (q .acked) es ≡ some r =
+      ap (λ (i : ℕ). inquired i es) (sym (w .id-is)) ∙ all-at (Asked es) at (rows 140 u (l .waiting)) (asked-rows (k .ready)) (w .within) (w .kind-is) in
+      let now = answered-one l g es r (q .answers es ∙ ap thatOf was) refl in
+      record {
+        asked = asked-later es (told (callOf l) g ∷ es) (asked-still l g es (q .asked)) (placesOf (carried l (Learn h u at) .waiting))
+            (asked-found (k .ready) (At at));
+        last = subst (λ (rs : List (List ℕ)). Every (Last rs) (heldOf OwnKey (carried l (Learn h u at) .cache))) (sym now)
+            (last-learnt OwnKey (l .cache) (rows 100 h (l .cache)) (k .ready .form) (answered es) (last-rows (k .ready)) r
+            (sym (ap recordForm is) ∙ needs .6) (λ o. needs .7 (sym (record-key u (l .waiting) at) ∙ ap keyOf is ∙ o)));
+      }
+  plan-holds (Free h u at true) e k q = quiet-holds _ _ q (asked-found (k .ready) (At at)) (last-without (k .ready) (placeKey (getD (rows 140 u (l .waiting)) at [])))
+  plan-holds (Free h u at false) e k q = quiet-holds _ _ q (asked-found (k .ready) (At at)) (b .last)
+  plan-holds (Certify a) e k q = quiet-holds _ _ q (b .asked) (b .last)
+  plan-holds (Show h a target) e k q = quiet-holds _ _ q (b .asked) (b .last)
+
+  receive-holds : receiveCall l .given .number ≡ 0 → Holds OwnKey (told (callOf l) (receiveCall l .given) ∷ es) (memory (receiveCall l .cache) (receiveCall l .waiting))
+  unfolding receiveCall
+  receive-holds z = plan-holds (receivePlan l) refl (known l) (heard l z)
+
+-- ---- any call
+
+-- a flood's place is none of an inquiry
+flood-kind : (id : ℕ) (key : List ℕ) → kindOf (floodPlace id key) ≡ 1
+unfolding newPlace digitsLE
+flood-kind id key = refl
+
+refused-asked : (l : Receive) (g : Answer) (es : List Told) → 0 < g .number → (id : ℕ) → inquired id (told (callOf l) g ∷ es) ≡ inquired id es
+refused-asked l g es p = asked-none l g es (rw (ne-eqb (g .number) 0 (omega arith)) refl)
+
+refused-answered : (l : Receive) (g : Answer) (es : List Told) → 0 < g .number → answered (told (callOf l) g ∷ es) ≡ answered es
+unfolding answered
+refused-answered l g es p = rw (ne-eqb (g .number) 0 (omega arith)) refl
+
+asked-ticked : (es : List Told) (p : List ℕ) → length p ≡ 140 → Asked es p → Asked es (oneLess p)
+asked-ticked es p long h kind =
+    ap (λ (i : ℕ). inquired i es) (less-id p) ∙ h (sym (less-kind p) ∙ kind) ∙ ap (λ (r : List ℕ). some r) (sym (less-record p))
+
+-- a datagram received
+module _ (k : ℕ) (es : List Told) (l : Receive) (b : Holds k es (memory (l .cache) (l .waiting))) (one : recordForm (l .own) ≡ true → keyOf (l .own) ≡ k) where
+  receive-step : Holds k (told (callOf l) (receiveCall l .given) ∷ es) (asGiven (receiveCall l) .memory)
+  receive-step = go (receiveCall l .given .number) refl
+    where
+      go : (n : ℕ) → receiveCall l .given .number ≡ n → Holds k (told (callOf l) (receiveCall l .given) ∷ es) (asGiven (receiveCall l) .memory)
+      go zero z =
+          let is = one (receive-ready l z .owned) in
+          subst (λ (j : ℕ). Holds j (told (callOf l) (receiveCall l .given) ∷ es) (asGiven (receiveCall l) .memory)) is
+          (receive-holds l es (subst (λ (j : ℕ). Holds j es (memory (l .cache) (l .waiting))) (sym is) b) z)
+      go (suc n) z =
+          let g = receiveCall l .given in
+          let p : 0 < g .number = omega (arith, z) in
+          subst (Holds k (told (callOf l) g ∷ es)) (sym (ap (λ (h : Handed). asGiven h .memory) (receive-refused l p))) (record {
+            asked = asked-later es (told (callOf l) g ∷ es) (refused-asked l g es p) (placesOf (l .waiting)) (b .asked);
+            last = subst (λ (rs : List (List ℕ)). Every (Last rs) (heldOf k (l .cache))) (sym (refused-answered l g es p)) (b .last);
+          })
+
+-- the others tell nothing of inquiries
+module _ (k : ℕ) (es : List Told) (m : Memory) (b : Holds k es m) where
+  send-step : (own : List ℕ) (major minor id : ℕ) (neighbour key output : List ℕ) (g : Answer) → id < 2 ^ 32
+      → Holds k (told (sends own major minor id neighbour key output) g ∷ es)
+      (asGiven (sendCall (send own (m .cache) (m .waiting) major minor id neighbour key output)) .memory)
+  unfolding inquired answered
+  send-step own major minor id neighbour key output g small =
+      let l = send own (m .cache) (m .waiting) major minor id neighbour key output in
+      record {
+        asked = moved-all (Asked es) (λ (p : List ℕ). p ≡ floodPlace id neighbour) (placesOf (m .waiting)) (placesOf (sendCall l .waiting))
+            (λ p is two. let w = sym (ap kindOf is ∙ flood-kind id neighbour) ∙ two in absurd (omega arith)) (send-moved l small) (b .asked);
+        last = subst (λ (cache : List ℕ). Every (Last (answered es)) (heldOf k cache)) (sym (send-cache l)) (b .last);
+      }
+
+  tick-step : (own output : List ℕ) (g : Answer) → Holds k (told (ticks own output) g ∷ es) (memory (m .cache) (gaugeTick own (m .waiting) output .waiting))
+  unfolding inquired answered
+  tick-step own output g = record { asked = go (gaugeTick own (m .waiting) output .given .number) refl; last = b .last }
+    where
+      go : (n : ℕ) → gaugeTick own (m .waiting) output .given .number ≡ n → All (Asked es) (placesOf (gaugeTick own (m .waiting) output .waiting))
+      go zero z =
+          let r = tick-round own (m .waiting) output z in
+          rw (r .places) (all-ticked (Asked es) (Asked es) (asked-ticked es) (placesOf (m .waiting)) (r .form .sized) (b .asked))
+      go (suc n) z =
+          let same = ap (λ (h : TickHanded). h .waiting) (tick-refused own (m .waiting) output (omega (arith, z))) in
+          subst (λ (t : List ℕ). All (Asked es) (placesOf t)) (sym same) (b .asked)
+
+  list-step : (own output : List ℕ) (g : Answer) → Holds k (told (lists own output) g ∷ es) m
+  unfolding inquired answered
+  list-step own output g = record { asked = b .asked; last = b .last }
+
+call-step : (k : ℕ) (es : List Told) (m : Memory) → Holds k es m → (c : Call) → OneKey k c → IdFits c
+    → Holds k (told c (ours m c .answer) ∷ es) (ours m c .memory)
+unfolding ours
+call-step k es m b (receives own cpa major minor id nonce verdict key datagram output) one small =
+    receive-step k es (receive own cpa (m .cache) (m .waiting) major minor id nonce verdict key datagram output) b one
+call-step k es m b (sends own major minor id neighbour key output) one small = send-step k es m b own major minor id neighbour key output _ small
+call-step k es m b (ticks own output) one small = tick-step k es m b own output _
+call-step k es m b (lists own output) one small = list-step k es m b own output _
+
+-- ---- any sequence of calls
+
+all-hold : (k : ℕ) (es : List Told) (m : Memory) → Holds k es m → (calls : List Call) → Proper k calls
+    → Holds k (toldFrom ours m es calls) (left ours m calls)
+unfolding toldFrom left
+all-hold k es m b [] proper = b
+all-hold k es m b (c ∷ calls) proper =
+    all-hold k (told c (ours m c .answer) ∷ es) (ours m c .memory) (call-step k es m b c (proper .0 .0) (proper .0 .1)) calls (proper .1)
+
+pub holds-last-answered : HoldsLastAnswered ours
+holds-last-answered k C least most calls proper =
+    let none-held : Every (Last (answered [])) (heldOf k (replicate (100 * C) 0)) =
+    subst (Every (Last (answered []))) (sym (form-held k (replicate (100 * C) 0) [] (empty-cache k C least most))) tt in
+    let none-waits : All (Asked []) (placesOf (replicate 2240 0)) =
+    subst (All (Asked [])) (form-unique k (replicate 2240 0) [] (empty-table k C least most)) tt in
+    record {
+      keys = ran k C [] [] (empty C) (start k C least most) calls proper .inv .keeps .held;
+      last = all-hold k [] (empty C) (record { asked = none-waits; last = none-held }) calls proper .last;
+    }

@@ -1,0 +1,132 @@
+-- To believe. "The inquiry's record is learned"; "A held key has its record replaced": the record held for a kept key is that of the inquiry last answered for it,
+-- told by the calls with their answers and never by memory. Demand 3 speaks of keys alone; a key kept with another's addresses is shut out here. A theorem of
+-- each name stands in proofs/AnsweredLaws.antt and MixedLaws.antt. Assumes nothing.
+use Prim.Native.Nat.{ℕ, _≤_}
+use mathlib.Core.Path.{_≡_}
+use mathlib.Core.Bool.{Bool, cond, _&&_, _||_}
+use mathlib.Core.List.{List, [], _∷_, _++_, map}
+use mathlib.Core.Option.{Option, some, none}
+use lib.Dec.{eqb}
+use lib.ListN.{length}
+use Rattle.octet.specs.Part.{part}
+use Rattle.record.specs.Record.{keyOf}
+use Rattle.record.specs.Entry.{recordOf}
+use Rattle.table.specs.Rows.{bytesOf}
+use Rattle.kept.specs.Keys.{Every}
+use Rattle.kept.specs.Plain.{kept}
+use Rattle.cache.specs.Form.{keysOf, heldOf}
+use Rattle.wire_fields.specs.declared.Part.{Part}
+use Rattle.wire_fields.specs.declared.Part.the-variants.{Here, Absent}
+use Rattle.wire_read.specs.Answers as R
+use Rattle.wire_read.specs.declared.Answer as T
+use Rattle.wire_read.specs.declared.Answer.the-variants as M
+use Rattle.gauge_plan.specs.Rooms.{idAfter}
+use Rattle.gauge_commit.specs.declared.Answer.{Answer}
+use Rattle.signed.specs.Words.{Memory, memory, Call, receives, sends, ticks, lists, given, Gauge, ours, empty, left, ownOf, Proper}
+use Rattle.signed.specs.Statements.{happened}
+
+-- a call with its answer: the number, and the lengths of what is to be sent
+pub record Told : Type 0 where
+  pub call : Call
+  pub answer : Answer
+
+abbrev pub told : Call → Answer → Told
+told c a = record { call = c; answer = a }
+
+-- calls one after the other, the latest first; `earlier` are those before them
+unfoldable pub toldFrom : Gauge → Memory → List Told → List Call → List Told
+toldFrom g m earlier [] = earlier
+toldFrom g m earlier (c ∷ cs) = toldFrom g (g m c .memory) (told c (g m c .answer) ∷ earlier) cs
+
+-- ---- the record that an inquiry is about
+
+-- is there an INQUIRE to send? It has 76 bytes, the ACK before it 20 or 26
+abbrev pub inquires : Answer → Bool
+inquires a = eqb (a .number) 0 && (eqb (a .first) 76 || eqb (a .second) 76)
+
+-- the record of a FLOOD's route entry; else what is known from before
+abbrev pub entryOr : List ℕ → Part → Option (List ℕ) → Option (List ℕ)
+entryOr d (Here start len) earlier = some (recordOf (part start len d))
+entryOr d Absent earlier = earlier
+
+abbrev pub floodedOr : List ℕ → T.Answer → Option (List ℕ) → Option (List ℕ)
+floodedOr d (M.Refused n) earlier = earlier
+floodedOr d (M.Solicit head entry nonce) earlier = earlier
+floodedOr d (M.Advertise head acked keys nonce) earlier = earlier
+floodedOr d (M.Request head flags split nonce keys credential signature key) earlier = earlier
+floodedOr d (M.Flood head s validate token revoke entry reached) earlier = entryOr d entry earlier
+floodedOr d (M.Inquire head a x c validate nonce credential signature key) earlier = earlier
+floodedOr d (M.Authority head acked fields) earlier = earlier
+floodedOr d (M.Ack head acked flags n) earlier = earlier
+floodedOr d (M.Lookup head a precision criteria reason target validate entry path credential signature key) earlier = earlier
+
+-- a FLOOD answered with an INQUIRE of the ID
+abbrev pub inquiredBy : ℕ → Call → Answer → Option (List ℕ) → Option (List ℕ)
+inquiredBy id (receives own cpa major minor i nonce verdict key datagram output) a earlier =
+    cond (inquires a && eqb (idAfter i) id) (floodedOr datagram (R.answer datagram major) earlier) earlier
+inquiredBy id (sends own major minor i neighbour key output) a earlier = earlier
+inquiredBy id (ticks own output) a earlier = earlier
+inquiredBy id (lists own output) a earlier = earlier
+
+-- the record that the latest INQUIRE with the ID is about
+unfoldable pub inquired : ℕ → List Told → Option (List ℕ)
+inquired id [] = none
+inquired id (e ∷ es) = inquiredBy id (e .call) (e .answer) (inquired id es)
+
+-- ---- the records of the inquiries that were answered
+
+abbrev pub thatOf : Option (List ℕ) → List (List ℕ)
+thatOf none = []
+thatOf (some r) = r ∷ []
+
+-- an AUTHORITY answers the inquiry with the acked ID
+abbrev pub answeredBy : List Told → T.Answer → List (List ℕ)
+answeredBy earlier (M.Refused n) = []
+answeredBy earlier (M.Solicit head entry nonce) = []
+answeredBy earlier (M.Advertise head acked keys nonce) = []
+answeredBy earlier (M.Request head flags split nonce keys credential signature key) = []
+answeredBy earlier (M.Flood head s validate token revoke entry reached) = []
+answeredBy earlier (M.Inquire head a x c validate nonce credential signature key) = []
+answeredBy earlier (M.Authority head acked fields) = thatOf (inquired acked earlier)
+answeredBy earlier (M.Ack head acked flags n) = []
+answeredBy earlier (M.Lookup head a precision criteria reason target validate entry path credential signature key) = []
+
+abbrev pub answers : List Told → Call → Answer → List (List ℕ)
+answers earlier (receives own cpa major minor id nonce verdict key datagram output) a =
+    cond (eqb (a .number) 0) (answeredBy earlier (R.answer datagram major)) []
+answers earlier (sends own major minor id neighbour key output) a = []
+answers earlier (ticks own output) a = []
+answers earlier (lists own output) a = []
+
+-- the one last answered first
+unfoldable pub answered : List Told → List (List ℕ)
+answered [] = []
+answered (e ∷ es) = answers es (e .call) (e .answer) ++ answered es
+
+-- the first that has the key
+unfoldable pub firstOf : ℕ → List (List ℕ) → Option (List ℕ)
+firstOf k [] = none
+firstOf k (r ∷ rs) = cond (eqb k (keyOf r)) (some r) (firstOf k rs)
+
+-- ---- the statement
+
+-- `keys`: the records held after the calls have the kept keys. `last`: each is that of the inquiry last answered for its key.
+pub record LastAnswered (g : Gauge) (k C : ℕ) (calls : List Call) : Type 0 where
+  pub keys : keysOf (heldOf k (left g (empty C) calls .cache)) ≡ kept k C (happened g C calls)
+  pub last : Every (λ (r : List ℕ). firstOf (keyOf r) (answered (toldFrom g (empty C) [] calls)) ≡ some r) (heldOf k (left g (empty C) calls .cache))
+
+abbrev pub HoldsLastAnswered : Gauge → Type 0
+HoldsLastAnswered g = (k C : ℕ) → 10 ≤ C → C ≤ 256 → (calls : List Call) → Proper k calls → LastAnswered g k C calls
+
+-- ---- a gauge that it shuts out
+
+-- as ours, but each key is kept with the port and the addresses of the first record held
+unfoldable pub mixes : Gauge
+mixes m c =
+    let h = ours m c in
+    let s = h .memory .cache in
+    let mixed = map (λ (r : List ℕ). part 0 32 r ++ part 32 68 s) (heldOf (keyOf (ownOf c)) s) in
+    given (h .answer) (memory (bytesOf (length s) mixed) (h .memory .waiting)) (h .output)
+
+abbrev pub MixesShut : Type 0
+MixesShut = ¬ HoldsLastAnswered mixes

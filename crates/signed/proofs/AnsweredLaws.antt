@@ -56,9 +56,9 @@ use Rattle.gauge.proofs.ReceiveLaws.{Known, Flooded, known, learn-needs}
 use Rattle.gauge_laws.proofs.RefusedLaws.{receive-refused, tick-refused}
 use Rattle.gauge_laws.proofs.MovedLaws.{ready-form, ready-places, receive-ready, send-moved}
 use Rattle.gauge_laws.proofs.GoneLaws.{tick-round}
+use Rattle.gauge_laws.proofs.FormLaws.{send-cache}
 use Rattle.signed.specs.Words.{Memory, memory, Call, receives, sends, ticks, lists, asGiven, ours, empty, left, OneKey, IdFits, Proper}
 use Rattle.signed.specs.Answered.{Told, told, toldFrom, inquires, inquired, thatOf, answeredBy, answered, firstOf, HoldsLastAnswered}
-use Rattle.signed.proofs.SendLaws.{send-cache}
 use Rattle.signed.proofs.StepLaws.{moved-all, ran}
 use Rattle.signed.proofs.Theorems.{empty-cache, empty-table, start}
 use Rattle.signed.proofs.InquiryLaws.{Quiet, Floods, Heard, heard, callOf, asked-still, asked-none, asked-other, asked-here, answered-still, answered-one, inquires-is}

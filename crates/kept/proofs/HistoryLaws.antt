@@ -17,7 +17,8 @@ use Rattle.kept.specs.Rules.{Order, DropRule}
 use Rattle.kept.proofs.ListLaws.{Test, pass, fail, test, every-at, mem-take, mem-put, put-keeps}
 use Rattle.kept.proofs.ListLaws.{put-there, every-of, every-put, length-put, rising-put, rising-take}
 use Rattle.kept.proofs.ListLaws.{beyond-take, rising-ext, only-list}
-use Rattle.kept.proofs.WithoutLaws.{without-absent, every-without, rising-without, length-without, shorter-without}
+use Rattle.kept.proofs.WithoutLaws.{every-without, rising-without, length-without, shorter-without}
+use Rattle.kept.proofs.RemovalLaws.{none-keeps}
 use Rattle.kept.proofs.ListLaws.{rising-at}
 use Rattle.kept.proofs.PutLaws.{put-same, put-more}
 use Rattle.kept.proofs.RankedLaws.{mem-ranked, ranked-rises, ranked-mem, length-ranked, first-put, first-without}
@@ -141,7 +142,7 @@ module _ (ok : ℕ → Type 0) (side : ℕ → Side) (near : ℕ → ℕ) (order
         (λ j m. o j (inr m)) calm s
     after-same (removed k ∷ es) keys all h a e o calm s =
         after-same es (without k keys) all (record { rises = rising-without plain 0 k keys (h .rises); oks = every-without ok k keys (h .oks) }) a
-        (rw (without-absent k keys (calm .0)) e) o (rw (without-absent k keys (calm .0)) (calm .1)) s
+        (rw (none-keeps drops C k keys es calm) e) o (rw (none-keeps drops C k keys es calm) (calm .1)) s
 
 -- one call of `learn`, case by case ----------------------------------------------------------------------------------------------
 

@@ -2,6 +2,7 @@ pub mod PutLaws
 pub mod ListLaws
 pub mod WithoutLaws
 pub mod RankedLaws
+pub mod RemovalLaws
 pub mod HistoryLaws
 pub mod FarthestLaws
 pub mod Demand3Laws

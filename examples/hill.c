@@ -1,0 +1,490 @@
+/* The hill: 61 gauges in one process, and a radio between them that loses one datagram in ten and brings the others in no order.
+ *
+ *     make hill
+ *
+ * Each gauge knows where one other is, and no more. Its radio program (all of them are this one) floods the gauge's own record to that other for some
+ * seconds; and from the start, each second, it floods its own record or one that it holds to gauges that it holds. When every neighbour list is the true
+ * one, three things happen: a gauge falls silent, another is revoked, and the address of a third, which has fallen silent too, is given to a new gauge.
+ *
+ * The gauge reads all datagrams, by gauge_look too: nothing here reads one. Two kinds are written here, for which the gauge has no call: the first
+ * FLOOD and the revocation. The calls of one gauge are written to target/hill.trace, and their answers to target/hill.answers (gauge_trace.h).
+ *
+ * What a CPA is made of is no matter of the gauge. Here it is one zero byte, and a revoke CPA is the key; both are believed. Real ones are signed, and
+ * hold the nonce of the INQUIRE. Random numbers here come in the same order at each run, so that each run is the same. */
+#include "gauge.h"
+#include "gauge_trace.h"
+#include <stdarg.h>
+#include <stdbool.h>
+#include <stdio.h>
+#include <stdlib.h>
+#include <string.h>
+
+#define MAJOR 6
+#define MINOR 101
+#define PONDS 61
+#define NEW 62      /* the gauge that gets another's address */
+#define RECORDED 34 /* the gauge whose calls are recorded */
+#define FIRST 10    /* seconds in which a gauge floods its record to the one that it knows */
+#define FLOODS 2    /* to gauges held, each second */
+#define SENT 32     /* datagrams kept until they are answered: 16 at most wait, and some are not yet forgotten */
+#define AIR 4096    /* datagrams under way */
+#define LATE 20     /* so many are still under way when a second is over */
+#define SIDE 5      /* neighbours on either side */
+#define HOUR 3600
+
+/* A datagram with the addresses that it goes from and to. An address is FE80:: and a number, and that number stands for it here. */
+struct datagram {
+    unsigned from, to;
+    size_t len;
+    uint8_t bytes[GAUGE_DATAGRAM_MOST];
+};
+
+/* What a gauge is lent, and what its radio program keeps beside it. */
+struct pond {
+    bool on;                 /* it works */
+    bool listed;             /* it belongs into its neighbours' lists, working or not: it was neither revoked nor replaced */
+    unsigned address, known; /* its own address, and the one that it knows from the start */
+    uint8_t own[GAUGE_RECORD_LEN];
+    uint8_t cache[GAUGE_CACHE_LEN(GAUGE_TRACE_HELD)];
+    uint8_t waiting[GAUGE_WAITING_LEN];
+    unsigned age;            /* seconds that it works */
+    uint32_t id;             /* the next one */
+    struct { uint32_t id; struct datagram what; } sent[SENT]; /* `len` 0: free */
+    uint8_t revoked[GAUGE_KEY_LEN]; /* the last key that it was told is revoked */
+    struct gauge_trace *trace;
+};
+
+static struct pond ponds[NEW + 1]; /* by number, from 1 */
+static unsigned at[NEW + 1];       /* which pond has an address */
+static struct datagram air[AIR];
+static size_t under_way;
+static unsigned long seconds, datagrams, lost;
+static unsigned long told; /* how often an ACK with N has taken a key out */
+static const uint8_t cpa[GAUGE_TRACE_CPA_LEN] = {0};
+
+static void stop(const char *format, ...)
+{
+    va_list list;
+    va_start(list, format);
+    vprintf(format, list);
+    va_end(list);
+    exit(1);
+}
+
+static unsigned number_of(const struct pond *p)
+{
+    return (unsigned)(p - ponds);
+}
+
+/* Below n, by a generator of 64 bits (xorshift). */
+static uint32_t dice(uint32_t n)
+{
+    static uint64_t state = 61;
+    state ^= state << 13;
+    state ^= state >> 7;
+    state ^= state << 17;
+    return (uint32_t)(state >> 32) % n;
+}
+
+static void random_bytes(uint8_t *bytes, size_t len)
+{
+    for (size_t i = 0; i < len; i++)
+        bytes[i] = (uint8_t)dice(256);
+}
+
+/* The radio. */
+
+static void send(const struct pond *from, unsigned to, const uint8_t *bytes, size_t len)
+{
+    datagrams++;
+    if (under_way == AIR)
+        stop("the air is full\n");
+    struct datagram *d = &air[under_way++];
+    d->from = from->address;
+    d->to = to;
+    d->len = len;
+    memcpy(d->bytes, bytes, len);
+}
+
+/* The last byte of an address tells it here. */
+static unsigned address_at(const uint8_t *addresses)
+{
+    return addresses[GAUGE_ADDRESS_LEN - 1];
+}
+
+/* What is sent and must be answered is kept with its ID, for the ticks. */
+static void send_and_keep(struct pond *p, unsigned to, const uint8_t *bytes, size_t len)
+{
+    for (size_t i = 0; i < SENT; i++) {
+        struct datagram *d = &p->sent[i].what;
+        if (d->len == 0) {
+            p->sent[i].id = gauge_look(MAJOR, bytes, len).id;
+            d->to = to;
+            d->len = len;
+            memcpy(d->bytes, bytes, len);
+            send(p, to, bytes, len);
+            return;
+        }
+    }
+    stop("pond %u keeps too much\n", number_of(p));
+}
+
+static void forget(struct pond *p, uint32_t id)
+{
+    for (size_t i = 0; i < SENT; i++)
+        if (p->sent[i].id == id)
+            p->sent[i].what.len = 0;
+}
+
+/* What the gauge has no call for. A FLOOD with D set, so that no ACK comes, and no key to validate: its first 56 bytes. */
+static size_t begin_flood(struct pond *p, uint8_t *out)
+{
+    static const uint8_t head[] = {0x00, 0x10, 0x00, 0x0C, 0x51, MAJOR, MINOR, GAUGE_FLOOD, 0, 0, 0, 0, /* header; the ID is put in below */
+                                   0x00, 0x43, 0x00, 0x07, 0x00, 0x01, 0x00, 0x00,                      /* controls: D */
+                                   0x00, 0x39, 0x00, 0x24};                                             /* validate key: zeros */
+    memset(out, 0, GAUGE_SEND_LEN);
+    memcpy(out, head, sizeof head);
+    for (int i = 0; i < 4; i++)
+        out[8 + i] = (uint8_t)(p->id >> (24 - 8 * i));
+    p->id++;
+    return sizeof head + GAUGE_KEY_LEN;
+}
+
+/* The own record, to a gauge that is not held: gauge_send would refuse that. */
+static void send_first_flood(struct pond *p, unsigned to)
+{
+    uint8_t out[GAUGE_SEND_LEN];
+    size_t len = begin_flood(p, out);
+    out[len + 1] = 0x9A; /* route entry */
+    out[len + 3] = 4 + GAUGE_ENTRY_ADDRESSES + GAUGE_ADDRESS_LEN;
+    len += 4;
+    memcpy(out + len + GAUGE_ENTRY_KEY, p->own + GAUGE_RECORD_KEY, GAUGE_KEY_LEN);
+    out[len + GAUGE_ENTRY_MAJOR] = MAJOR;
+    out[len + GAUGE_ENTRY_MINOR] = MINOR;
+    memcpy(out + len + GAUGE_ENTRY_PORT, p->own + GAUGE_RECORD_PORT, 2);
+    out[len + GAUGE_ENTRY_COUNT] = 1;
+    memcpy(out + len + GAUGE_ENTRY_ADDRESSES, p->own + GAUGE_RECORD_ADDRESSES, GAUGE_ADDRESS_LEN);
+    send(p, to, out, len + GAUGE_ENTRY_ADDRESSES + GAUGE_ADDRESS_LEN + 2); /* padding up to a multiple of 4 */
+}
+
+static void send_revocation(struct pond *p, unsigned to, const uint8_t *key)
+{
+    uint8_t out[GAUGE_SEND_LEN];
+    size_t len = begin_flood(p, out);
+    out[len + 1] = 0x9C; /* revoke CPA */
+    out[len + 3] = 4 + GAUGE_KEY_LEN;
+    memcpy(out + len + 4, key, GAUGE_KEY_LEN);
+    send(p, to, out, len + 4 + GAUGE_KEY_LEN);
+}
+
+/* The records held: how many, and the i-th. */
+
+static const uint8_t *record(const struct pond *p, size_t i)
+{
+    return p->cache + GAUGE_RECORD_LEN * i;
+}
+
+static uint32_t held(const struct pond *p)
+{
+    uint32_t n = 0;
+    while (n < GAUGE_TRACE_HELD && record(p, n)[GAUGE_RECORD_COUNT] != 0)
+        n++;
+    return n;
+}
+
+/* The neighbour list. */
+static struct gauge_answer neighbours(const struct pond *p, uint8_t *keys)
+{
+    struct gauge_answer a = gauge_neighbours(p->own, sizeof p->own, p->cache, sizeof p->cache, keys, GAUGE_LIST_LEN);
+    if (a.number != GAUGE_OK)
+        stop("pond %u: gauge_neighbours gave %u\n", number_of(p), a.number);
+    return a;
+}
+
+/* A revocation goes to all gauges that are held, once. */
+static void pass_on(struct pond *p, const uint8_t *key)
+{
+    if (memcmp(p->revoked, key, GAUGE_KEY_LEN) == 0)
+        return;
+    memcpy(p->revoked, key, GAUGE_KEY_LEN);
+    for (uint32_t i = 0; i < held(p); i++)
+        send_revocation(p, address_at(record(p, i) + GAUGE_RECORD_ADDRESSES), key);
+}
+
+/* A datagram arrives. */
+
+/* The verdict on its CPA, and the key that it is good for: of an AUTHORITY that of the sender, of a revocation the one in it. */
+static uint32_t judge(const struct datagram *d, const struct gauge_look *seen, uint8_t *key)
+{
+    memset(key, 0, GAUGE_KEY_LEN);
+    if (seen->kind == GAUGE_AUTHORITY && seen->cpa_len == sizeof cpa && d->bytes[seen->cpa_at] == cpa[0])
+        memcpy(key, ponds[at[d->from]].own + GAUGE_RECORD_KEY, GAUGE_KEY_LEN);
+    else if (seen->kind == GAUGE_FLOOD && seen->cpa_len == GAUGE_KEY_LEN)
+        memcpy(key, d->bytes + seen->cpa_at, GAUGE_KEY_LEN);
+    else
+        return 0;
+    return GAUGE_GOOD;
+}
+
+/* ACK and AUTHORITY go to the sender; an INQUIRE goes to the gauge that the FLOOD told of, and is kept. */
+static void send_answer(struct pond *p, const struct datagram *d, const struct gauge_look *seen, const uint8_t *bytes, size_t len)
+{
+    if (len == 0)
+        return;
+    if (gauge_look(MAJOR, bytes, len).kind == GAUGE_INQUIRE)
+        send_and_keep(p, address_at(d->bytes + seen->entry_at + GAUGE_ENTRY_ADDRESSES), bytes, len);
+    else
+        send(p, d->from, bytes, len);
+}
+
+/* The gauge has accepted a datagram: what was answered by it is forgotten, and a revocation passed on. */
+static void accepted(struct pond *p, const struct gauge_look *seen, const uint8_t *key, uint32_t held_before)
+{
+    if (seen->kind == GAUGE_ACK || seen->kind == GAUGE_AUTHORITY)
+        forget(p, seen->acked);
+    if (seen->kind == GAUGE_ACK && held(p) < held_before)
+        told++;
+    if (seen->kind == GAUGE_FLOOD && seen->entry_len == 0)
+        pass_on(p, key);
+}
+
+static void arrives(struct pond *p, const struct datagram *d)
+{
+    uint8_t output[GAUGE_OUTPUT_LEN], nonce[GAUGE_NONCE_LEN], key[GAUGE_KEY_LEN];
+    struct gauge_look seen = gauge_look(MAJOR, d->bytes, d->len);
+    uint32_t verdict = judge(d, &seen, key), held_before = held(p);
+    random_bytes(nonce, sizeof nonce);
+    struct gauge_answer a = gauge_receive(p->own, sizeof p->own, cpa, sizeof cpa, p->cache, sizeof p->cache, p->waiting, sizeof p->waiting, MAJOR, MINOR,
+                                          p->id, nonce, sizeof nonce, verdict, key, sizeof key, d->bytes, d->len, output, sizeof output);
+    if (p->trace != NULL)
+        gauge_trace_receive(p->trace, a.number, p->id, nonce, verdict, key, d->bytes, d->len);
+    p->id += 2; /* a receive may use up two */
+    switch (a.number) {
+    case GAUGE_OK:
+        accepted(p, &seen, key, held_before);
+        send_answer(p, d, &seen, output, a.first);
+        send_answer(p, d, &seen, output + a.first, a.second);
+        break;
+    case GAUGE_STRAY:    /* an answer for the second time, or too late */
+    case GAUGE_OWN_KEY:  /* we are told of ourselves */
+    case GAUGE_NOT_OURS: /* somebody inquires about the gauge that had our address */
+    case GAUGE_FULL:     /* too much waits: the sender will try again */
+        break;
+    default: stop("pond %u: gauge_receive gave %u\n", number_of(p), a.number);
+    }
+}
+
+/* What is under way arrives in no order, and some of it not at all. The answers to it go the same way. */
+static void radio(void)
+{
+    while (under_way > LATE) {
+        size_t i = dice((uint32_t)under_way);
+        struct datagram d = air[i];
+        air[i] = air[--under_way];
+        struct pond *p = &ponds[at[d.to]];
+        if (dice(10) == 0)
+            lost++;
+        else if (p->on)
+            arrives(p, &d);
+    }
+}
+
+/* What a radio program does each second. */
+
+/* What the tick lists is sent again; what is kept and not listed is forgotten. */
+static void tick(struct pond *p)
+{
+    uint8_t ids[GAUGE_TICK_LEN];
+    struct gauge_answer a = gauge_tick(p->own, sizeof p->own, p->waiting, sizeof p->waiting, ids, sizeof ids);
+    if (p->trace != NULL)
+        gauge_trace_tick(p->trace, a.number);
+    if (a.number != GAUGE_OK)
+        stop("pond %u: gauge_tick gave %u\n", number_of(p), a.number);
+    for (size_t i = 0; i < SENT; i++) {
+        bool listed = false;
+        for (const uint8_t *id = ids; id < ids + 4 * a.first; id += 4)
+            listed |= (id[0] | (uint32_t)id[1] << 8 | (uint32_t)id[2] << 16 | (uint32_t)id[3] << 24) == p->sent[i].id;
+        struct datagram *d = &p->sent[i].what;
+        if (!listed)
+            d->len = 0;
+        if (d->len > 0)
+            send(p, d->to, d->bytes, d->len);
+    }
+}
+
+/* A record goes to a gauge that we hold: one whose key is near to that gauge's, or our own. */
+static void flood(struct pond *p)
+{
+    uint8_t output[GAUGE_OUTPUT_LEN];
+    uint32_t n = held(p), to = dice(n), near = to + dice(2 * SIDE + 1) - SIDE;
+    const uint8_t *neighbour = record(p, to), *what = near == to || near >= n ? p->own : record(p, near);
+    struct gauge_answer a = gauge_send(p->own, sizeof p->own, p->cache, sizeof p->cache, p->waiting, sizeof p->waiting, MAJOR, MINOR, p->id,
+                                       neighbour + GAUGE_RECORD_KEY, GAUGE_KEY_LEN, what + GAUGE_RECORD_KEY, GAUGE_KEY_LEN, output, sizeof output);
+    if (p->trace != NULL)
+        gauge_trace_send(p->trace, a.number, p->id, neighbour + GAUGE_RECORD_KEY, what + GAUGE_RECORD_KEY);
+    p->id++;
+    if (a.number == GAUGE_OK)
+        send_and_keep(p, address_at(neighbour + GAUGE_RECORD_ADDRESSES), output, a.first);
+    else if (a.number != GAUGE_FULL) /* too much waits: later */
+        stop("pond %u: gauge_send gave %u\n", number_of(p), a.number);
+}
+
+static void second(void)
+{
+    seconds++;
+    for (struct pond *p = ponds + 1; p <= ponds + NEW; p++) {
+        if (!p->on)
+            continue;
+        tick(p);
+        if (p->age++ < FIRST)
+            send_first_flood(p, p->known);
+        for (int i = 0; held(p) > 0 && i < FLOODS; i++)
+            flood(p);
+    }
+    radio();
+}
+
+/* What a keeper looks at. */
+
+/* Whether the list of a gauge is the true one: the five next ponds on either side, nearest first. Keys are in the order of the ponds' numbers here. */
+static bool is_right(const struct pond *p)
+{
+    uint8_t keys[GAUGE_LIST_LEN], truth[GAUGE_LIST_LEN];
+    uint32_t below = 0, above = 0;
+    for (const struct pond *q = p - 1; q > ponds && below < SIDE; q--)
+        if (q->listed)
+            memcpy(truth + GAUGE_KEY_LEN * below++, q->own + GAUGE_RECORD_KEY, GAUGE_KEY_LEN);
+    for (const struct pond *q = p + 1; q <= ponds + NEW && above < SIDE; q++)
+        if (q->listed)
+            memcpy(truth + GAUGE_KEY_LEN * (below + above++), q->own + GAUGE_RECORD_KEY, GAUGE_KEY_LEN);
+    struct gauge_answer a = neighbours(p, keys);
+    return a.first == below && a.second == above && memcmp(keys, truth, GAUGE_KEY_LEN * (below + above)) == 0;
+}
+
+/* How many gauges work, and how many of them have the true list. */
+static unsigned working(void)
+{
+    unsigned n = 0;
+    for (const struct pond *p = ponds + 1; p <= ponds + NEW; p++)
+        n += p->on;
+    return n;
+}
+
+static unsigned right(void)
+{
+    unsigned n = 0;
+    for (const struct pond *p = ponds + 1; p <= ponds + NEW; p++)
+        n += p->on && is_right(p);
+    return n;
+}
+
+static void until_right(void)
+{
+    unsigned long seconds_before = seconds, datagrams_before = datagrams, lost_before = lost;
+    while (right() < working()) {
+        if (seconds - seconds_before == HOUR)
+            stop("an hour later only %u lists of %u are right\n", right(), working());
+        second();
+    }
+    printf("  all %u lists are right: it took %lu s and %lu datagrams, of which %lu were lost\n", working(), seconds - seconds_before,
+           datagrams - datagrams_before, lost - lost_before);
+}
+
+/* A minute in which no list changes. */
+static void minute(void)
+{
+    for (int i = 0; i < 60; i++)
+        second();
+    if (right() < working())
+        stop("only %u lists of %u are right\n", right(), working());
+}
+
+static void tell(unsigned number, const char *what)
+{
+    unsigned n = 0;
+    printf("  pond %u: %s", number, what);
+    for (const struct pond *p = ponds + 1; p <= ponds + NEW; p++) {
+        uint8_t keys[GAUGE_LIST_LEN];
+        uint32_t listed = 0;
+        if (p->on) {
+            struct gauge_answer a = neighbours(p, keys);
+            listed = a.first + a.second;
+        }
+        for (uint32_t i = 0; i < listed; i++)
+            if (memcmp(keys + GAUGE_KEY_LEN * i, ponds[number].own + GAUGE_RECORD_KEY, GAUGE_KEY_LEN) == 0)
+                printf("%s %u", n++ == 0 ? " listed by ponds" : "", number_of(p));
+    }
+    printf("%s\n", n == 0 ? " listed by none" : "");
+}
+
+/* A gauge with nothing in its memory. Its key begins with its number, and the rest is random; it has one address, and port 5000. */
+static void begin(unsigned number, unsigned address, unsigned known)
+{
+    struct pond *p = &ponds[number];
+    p->on = p->listed = true;
+    p->address = address;
+    p->known = known;
+    p->id = 1000000 * number;
+    p->own[GAUGE_RECORD_KEY] = (uint8_t)number;
+    random_bytes(p->own + GAUGE_RECORD_KEY + 1, GAUGE_KEY_LEN - 1);
+    p->own[GAUGE_RECORD_PORT] = 5000 >> 8;
+    p->own[GAUGE_RECORD_PORT + 1] = 5000 & 255;
+    p->own[GAUGE_RECORD_COUNT] = 1;
+    p->own[GAUGE_RECORD_ADDRESSES] = 0xFE;
+    p->own[GAUGE_RECORD_ADDRESSES + 1] = 0x80;
+    p->own[GAUGE_RECORD_ADDRESSES + GAUGE_ADDRESS_LEN - 1] = (uint8_t)address;
+    at[address] = number;
+}
+
+static void hill(void)
+{
+    printf("%d gauges, each of which knows where one other is. The radio loses one datagram in ten, and brings the others in no order.\n", PONDS);
+    until_right();
+
+    printf("Pond 7's gauge falls silent. A minute later:\n");
+    ponds[7].on = false;
+    minute();
+    tell(7, "silent, still");
+
+    printf("Pond 20's gauge is revoked, and taken away.\n");
+    pass_on(&ponds[20], ponds[20].own + GAUGE_RECORD_KEY);
+    ponds[20].on = ponds[20].listed = false;
+    until_right();
+    tell(20, "revoked,");
+
+    printf("Pond 33's gauge falls silent. A minute later:\n");
+    ponds[33].on = false;
+    minute();
+    tell(33, "silent, still");
+
+    printf("Its address is given to pond %d's gauge, which is new. Whoever floods to pond 33 now gets an ACK with N: no such key here.\n", NEW);
+    ponds[33].listed = false;
+    begin(NEW, 33, 32);
+    until_right();
+    printf("  %lu gauges took a key out on an ACK with N\n", told);
+    tell(33, "replaced,");
+    tell(NEW, "new,");
+    tell(7, "silent, still");
+}
+
+static FILE *opened(const char *path)
+{
+    FILE *f = fopen(path, "wb");
+    if (f == NULL)
+        stop("%s can't be written\n", path);
+    return f;
+}
+
+int main(void)
+{
+    for (unsigned n = 1; n <= PONDS; n++)
+        begin(n, n, n == 1 ? 2 : 1 + dice(n - 1));
+    FILE *calls = opened("target/hill.trace"), *answers = opened("target/hill.answers");
+    struct gauge_trace trace = gauge_trace_begin(calls, answers, MAJOR, MINOR, ponds[RECORDED].own);
+    ponds[RECORDED].trace = &trace;
+    hill();
+    if (trace.failed || fclose(calls) != 0 || fclose(answers) != 0)
+        stop("the trace could not be written\n");
+    printf("target/hill.trace has the %lu calls that pond %d's gauge took.\n", trace.count, RECORDED);
+    return 0;
+}

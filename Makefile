@@ -1,8 +1,10 @@
-# Two commands: `make run` shows what the gauge's functions make of fixed vectors, `make test` is all that the gate runs.
-.PHONY: run test check lib ponds fmt definitions vectors outside counted tools clean
+# Two commands: `make run` shows what the gauge's functions make of fixed vectors and what happens on the hill, `make test` is all that the gate runs.
+.PHONY: run test check lib install ponds hill fmt definitions vectors outside counted tools clean
 
 run: tools
 	@tests/run-vectors
+	@echo
+	@$(MAKE) --no-print-directory hill
 
 test:
 	@tests/gate
@@ -11,15 +13,27 @@ test:
 check:
 	@rt check
 
-# What a C program links: target/libgauge.a and target/gauge.h.
+# What a C program links and includes: target/libgauge.a, target/gauge.h and, to record calls, target/gauge_trace.h.
 lib:
 	@tools/lib
 	@echo 'target/libgauge.a and target/gauge.h, for C on x86-64'
 
-# A small radio program in C, built on them and run.
+# The same where pkg-config finds it: make install PREFIX=.. (DESTDIR for whoever makes a package).
+PREFIX = /usr/local
+install:
+	@tools/lib
+	@tools/install-lib $(PREFIX) $(DESTDIR)
+
+# Radio programs in C, built on the archive and run: two gauges that find each other, and all 61.
+C = tools/cc -std=c99 -O1 -Wall -Wextra -Wconversion -Werror -Itarget
 ponds: tools lib
-	@tools/cc -std=c99 -O1 -Wall -Wextra -Wconversion -Werror -Itarget examples/two_ponds.c target/libgauge.a -o target/two_ponds
+	@$(C) examples/two_ponds.c target/libgauge.a -o target/two_ponds
 	@tools/run target/two_ponds
+
+hill: tools
+	@tools/lib
+	@$(C) examples/hill.c target/libgauge.a -o target/hill
+	@tools/run target/hill
 
 fmt:
 	@rt fmt

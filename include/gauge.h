@@ -22,7 +22,25 @@
  * Numbers are of fixed width; build with -Wconversion, so that none loses bits on the way: a verdict of 257 in eight bits would be 1, and good.
  * From C's library the archive wants memcpy, memmove and memset.
  *
- * The memory, byte by byte: docs/MEMORY.md. What was decided, and why: docs/DECISIONS.md. An example: examples/two_ponds.c. */
+ * The shortest program: the gauge with key 12 takes one datagram, and what it answers is written. (A real one keeps its memory, looks first, and sends.)
+ *
+ *     #include "gauge.h"
+ *     #include <stdio.h>
+ *     static uint8_t own[GAUGE_RECORD_LEN], cpa[1], cache[GAUGE_CACHE_LEN(64)], waiting[GAUGE_WAITING_LEN], nonce[GAUGE_NONCE_LEN],
+ *         key[GAUGE_KEY_LEN], datagram[GAUGE_DATAGRAM_MOST], output[GAUGE_OUTPUT_LEN];
+ *     int main(void)
+ *     {
+ *         own[GAUGE_RECORD_KEY + GAUGE_KEY_LEN - 1] = 12;
+ *         own[GAUGE_RECORD_COUNT] = 1;
+ *         size_t len = fread(datagram, 1, sizeof datagram, stdin);
+ *         struct gauge_answer a = gauge_receive(own, sizeof own, cpa, sizeof cpa, cache, sizeof cache, waiting, sizeof waiting, 6, 101, 7, nonce,
+ *                                               sizeof nonce, 0, key, sizeof key, datagram, len, output, sizeof output);
+ *         fwrite(output, 1, (size_t)a.first + a.second, stdout);
+ *         return (int)a.number;
+ *     }
+ *
+ * The memory, byte by byte: docs/MEMORY.md. What was decided, and why: docs/DECISIONS.md. Examples: examples/two_ponds.c, and
+ * examples/hill.c with all that a radio program does. To record a gauge's calls: gauge_trace.h. */
 #ifndef GAUGE_H
 #define GAUGE_H
 

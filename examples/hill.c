@@ -6,8 +6,9 @@
  * seconds; and from the start, each second, it floods its own record or one that it holds to gauges that it holds. When every neighbour list is the true
  * one, three things happen: a gauge falls silent, another is revoked, and the address of a third, which has fallen silent too, is given to a new gauge.
  *
- * The gauge reads all datagrams, by gauge_look too: nothing here reads one. Two kinds are written here, for which the gauge has no call: the first
- * FLOOD and the revocation. The calls of one gauge are written to target/hill.trace, and their answers to target/hill.answers (gauge_trace.h).
+ * The gauge reads all datagrams, by gauge_look too: nothing here reads one. Three messages are written here, for which the gauge has no call: the first
+ * FLOOD, the revocation and the LOOKUP. The calls of one gauge are written to target/hill.trace, and their answers to target/hill.answers
+ * (gauge_trace.h).
  *
  * What a CPA is made of is no matter of the gauge. Here it is one zero byte, and a revoke CPA is the key; both are believed. Real ones are signed, and
  * hold the nonce of the INQUIRE. Random numbers here come in the same order at each run, so that each run is the same. */
@@ -49,18 +50,23 @@ struct pond {
     uint8_t waiting[GAUGE_WAITING_LEN];
     unsigned age;            /* seconds that it works */
     uint32_t id;             /* the next one */
-    struct { uint32_t id; struct datagram what; } sent[SENT]; /* `len` 0: free */
+    struct {
+        uint32_t id;
+        struct datagram what;
+    } sent[SENT];                   /* those with `len` 0 are free */
     uint8_t revoked[GAUGE_KEY_LEN]; /* the last key that it was told is revoked */
-    struct gauge_trace *trace;
+    struct gauge_trace *trace;      /* NULL where it is not recorded */
 };
 
 static struct pond ponds[NEW + 1]; /* by number, from 1 */
-static unsigned at[NEW + 1];       /* which pond has an address */
+static unsigned at[NEW + 1];       /* which pond has an address; address 0 is the office's */
 static struct datagram air[AIR];
 static size_t under_way;
 static unsigned long seconds, datagrams, lost;
-static unsigned long told; /* how often an ACK with N has taken a key out */
+static unsigned told;      /* how often an ACK with N has taken a key out */
+static unsigned closest;   /* the pond that the last answer to the office named, 0 for none */
 static const uint8_t cpa[GAUGE_TRACE_CPA_LEN] = {0};
+#define OFFICE (&ponds[0]) /* it asks, and has no gauge */
 
 static void stop(const char *format, ...)
 {
@@ -136,45 +142,70 @@ static void forget(struct pond *p, uint32_t id)
             p->sent[i].what.len = 0;
 }
 
-/* What the gauge has no call for. A FLOOD with D set, so that no ACK comes, and no key to validate: its first 56 bytes. */
-static size_t begin_flood(struct pond *p, uint8_t *out)
+/* What the gauge has no call for: the three messages that are written here. */
+
+static void add(struct datagram *d, const void *bytes, size_t len)
 {
-    static const uint8_t head[] = {0x00, 0x10, 0x00, 0x0C, 0x51, MAJOR, MINOR, GAUGE_FLOOD, 0, 0, 0, 0, /* header; the ID is put in below */
-                                   0x00, 0x43, 0x00, 0x07, 0x00, 0x01, 0x00, 0x00,                      /* controls: D */
-                                   0x00, 0x39, 0x00, 0x24};                                             /* validate key: zeros */
-    memset(out, 0, GAUGE_SEND_LEN);
-    memcpy(out, head, sizeof head);
-    for (int i = 0; i < 4; i++)
-        out[8 + i] = (uint8_t)(p->id >> (24 - 8 * i));
-    p->id++;
-    return sizeof head + GAUGE_KEY_LEN;
+    memcpy(d->bytes + d->len, bytes, len);
+    d->len += len;
 }
 
-/* The own record, to a gauge that is not held: gauge_send would refuse that. */
+static struct datagram message(struct pond *p, uint8_t type)
+{
+    uint8_t header[] = {0x00, 0x10, 0x00, 0x0C, 0x51, MAJOR, MINOR, type, 0, 0, 0, 0};
+    struct datagram d = {0};
+    for (int i = 0; i < 4; i++)
+        header[8 + i] = (uint8_t)(p->id >> (24 - 8 * i));
+    p->id++;
+    add(&d, header, sizeof header);
+    return d;
+}
+
+/* Controls with D, so that no ACK comes, and no key to validate. */
+static struct datagram flood_message(struct pond *p)
+{
+    static const uint8_t no_key[GAUGE_KEY_LEN];
+    struct datagram d = message(p, GAUGE_FLOOD);
+    add(&d, "\x00\x43\x00\x07\x00\x01\x00\x00" "\x00\x39\x00\x24", 12);
+    add(&d, no_key, sizeof no_key);
+    return d;
+}
+
+/* The own record to a gauge that is not held, for which gauge_send would give GAUGE_NOT_OURS. */
 static void send_first_flood(struct pond *p, unsigned to)
 {
-    uint8_t out[GAUGE_SEND_LEN];
-    size_t len = begin_flood(p, out);
-    out[len + 1] = 0x9A; /* route entry */
-    out[len + 3] = 4 + GAUGE_ENTRY_ADDRESSES + GAUGE_ADDRESS_LEN;
-    len += 4;
-    memcpy(out + len + GAUGE_ENTRY_KEY, p->own + GAUGE_RECORD_KEY, GAUGE_KEY_LEN);
-    out[len + GAUGE_ENTRY_MAJOR] = MAJOR;
-    out[len + GAUGE_ENTRY_MINOR] = MINOR;
-    memcpy(out + len + GAUGE_ENTRY_PORT, p->own + GAUGE_RECORD_PORT, 2);
-    out[len + GAUGE_ENTRY_COUNT] = 1;
-    memcpy(out + len + GAUGE_ENTRY_ADDRESSES, p->own + GAUGE_RECORD_ADDRESSES, GAUGE_ADDRESS_LEN);
-    send(p, to, out, len + GAUGE_ENTRY_ADDRESSES + GAUGE_ADDRESS_LEN + 2); /* padding up to a multiple of 4 */
+    static const uint8_t versions[] = {MAJOR, MINOR};
+    struct datagram d = flood_message(p);
+    add(&d, "\x00\x9A\x00\x3A", 4); /* route entry */
+    add(&d, p->own + GAUGE_RECORD_KEY, GAUGE_KEY_LEN);
+    add(&d, versions, sizeof versions);
+    add(&d, p->own + GAUGE_RECORD_PORT, 2);
+    add(&d, "\x00\x01", 2); /* flags, one address */
+    add(&d, p->own + GAUGE_RECORD_ADDRESSES, GAUGE_ADDRESS_LEN);
+    add(&d, "\x00\x00", 2); /* padding up to a multiple of 4 */
+    send(p, to, d.bytes, d.len);
 }
 
 static void send_revocation(struct pond *p, unsigned to, const uint8_t *key)
 {
-    uint8_t out[GAUGE_SEND_LEN];
-    size_t len = begin_flood(p, out);
-    out[len + 1] = 0x9C; /* revoke CPA */
-    out[len + 3] = 4 + GAUGE_KEY_LEN;
-    memcpy(out + len + 4, key, GAUGE_KEY_LEN);
-    send(p, to, out, len + 4 + GAUGE_KEY_LEN);
+    struct datagram d = flood_message(p);
+    add(&d, "\x00\x9C\x00\x24", 4); /* revoke CPA */
+    add(&d, key, GAUGE_KEY_LEN);
+    send(p, to, d.bytes, d.len);
+}
+
+static void send_lookup(struct pond *p, unsigned to, const uint8_t *target)
+{
+    static const uint8_t no_key[GAUGE_KEY_LEN];
+    struct datagram d = message(p, GAUGE_LOOKUP);
+    add(&d, "\x00\x45\x00\x0C\x00\x00\x00\x00\x00\x00\x00\x00" "\x00\x38\x00\x24", 16); /* controls, target key */
+    add(&d, target, GAUGE_KEY_LEN);
+    add(&d, "\x00\x39\x00\x24", 4); /* validate key */
+    add(&d, no_key, sizeof no_key);
+    add(&d, "\x00\x9E\x00\x1E\x00\x01\x00\x1A\x00\x9D\x00\x12", 12); /* the path: one endpoint, the own */
+    add(&d, p->own + GAUGE_RECORD_PORT, 2);
+    add(&d, p->own + GAUGE_RECORD_ADDRESSES, GAUGE_ADDRESS_LEN);
+    send(p, to, d.bytes, d.len);
 }
 
 /* The records held: how many, and the i-th. */
@@ -266,12 +297,20 @@ static void arrives(struct pond *p, const struct datagram *d)
         send_answer(p, d, &seen, output + a.first, a.second);
         break;
     case GAUGE_STRAY:    /* an answer for the second time, or too late */
-    case GAUGE_OWN_KEY:  /* we are told of ourselves */
     case GAUGE_NOT_OURS: /* somebody inquires about the gauge that had our address */
     case GAUGE_FULL:     /* too much waits: the sender will try again */
         break;
     default: stop("pond %u: gauge_receive gave %u\n", number_of(p), a.number);
     }
+}
+
+/* The office has no gauge. What it gets is the answer to its LOOKUP, whose route entry is the closest record; keys begin with the pond's number. */
+static void arrives_at_office(const struct datagram *d)
+{
+    struct gauge_look seen = gauge_look(MAJOR, d->bytes, d->len);
+    if (seen.number != GAUGE_OK || seen.kind != GAUGE_AUTHORITY || seen.entry_len == 0)
+        stop("the office gets something else than it asked for\n");
+    closest = d->bytes[seen.entry_at + GAUGE_ENTRY_KEY];
 }
 
 /* What is under way arrives in no order, and some of it not at all. The answers to it go the same way. */
@@ -284,6 +323,8 @@ static void radio(void)
         struct pond *p = &ponds[at[d.to]];
         if (dice(10) == 0)
             lost++;
+        else if (p == OFFICE)
+            arrives_at_office(&d);
         else if (p->on)
             arrives(p, &d);
     }
@@ -312,12 +353,12 @@ static void tick(struct pond *p)
     }
 }
 
-/* A record goes to a gauge that we hold: one whose key is near to that gauge's, or our own. */
+/* A record goes to a gauge that we hold: one that we hold with a key near to that gauge's, or else our own. */
 static void flood(struct pond *p)
 {
     uint8_t output[GAUGE_OUTPUT_LEN];
     uint32_t n = held(p), to = dice(n), near = to + dice(2 * SIDE + 1) - SIDE;
-    const uint8_t *neighbour = record(p, to), *what = near == to || near >= n ? p->own : record(p, near);
+    const uint8_t *neighbour = record(p, to), *what = near == to || near >= n ? p->own : record(p, near); /* near below 0 is over n too */
     struct gauge_answer a = gauge_send(p->own, sizeof p->own, p->cache, sizeof p->cache, p->waiting, sizeof p->waiting, MAJOR, MINOR, p->id,
                                        neighbour + GAUGE_RECORD_KEY, GAUGE_KEY_LEN, what + GAUGE_RECORD_KEY, GAUGE_KEY_LEN, output, sizeof output);
     if (p->trace != NULL)
@@ -417,6 +458,16 @@ static void tell(unsigned number, const char *what)
     printf("%s\n", n == 0 ? " listed by none" : "");
 }
 
+/* The office asks a pond, until an answer comes, which key is closest to a number with zeros behind it. Where the pond of that number is gone, that is
+ * the key of the pond before it. */
+static void ask(unsigned whom, unsigned number)
+{
+    const uint8_t target[GAUGE_KEY_LEN] = {(uint8_t)number};
+    for (closest = 0; closest == 0; second())
+        send_lookup(OFFICE, ponds[whom].address, target);
+    printf("  pond %u says: pond %u\n", whom, closest);
+}
+
 /* A gauge with nothing in its memory. Its key begins with its number, and the rest is random; it has one address, and port 5000. */
 static void begin(unsigned number, unsigned address, unsigned known)
 {
@@ -461,10 +512,13 @@ static void hill(void)
     ponds[33].listed = false;
     begin(NEW, 33, 32);
     until_right();
-    printf("  %lu gauges took a key out on an ACK with N\n", told);
+    printf("  %u gauges were told so, and took it out\n", told);
     tell(33, "replaced,");
     tell(NEW, "new,");
     tell(7, "silent, still");
+
+    printf("The office asks for the gauge next to where pond 33's was.\n");
+    ask(34, 33);
 }
 
 static FILE *opened(const char *path)

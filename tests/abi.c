@@ -1,5 +1,5 @@
-/* How the calls cross to C: sizes and places in the answers; each argument in its place; slices of length 0; every type of message looked at. What is
- * wanted is worked out by hand from the layout of the messages (documents 000 and 01) and from include/gauge.h. */
+/* How the calls cross to C: sizes and places in the answers, and the constants; each argument in its place; slices of length 0; every type of message
+ * looked at. What is wanted is worked out by hand from the layout of the messages (documents 000 and 01) and from include/gauge.h. */
 #define _DEFAULT_SOURCE
 #include "gauge.h"
 #include <stdio.h>
@@ -39,9 +39,24 @@ static void answers(void)
     CHECK(offsetof(struct gauge_look, entry_len) == 36);
     CHECK(offsetof(struct gauge_look, target_at) == 40);
     CHECK(offsetof(struct gauge_look, target_len) == 44);
-    CHECK(GAUGE_CACHE_LEN(GAUGE_CACHE_MOST) == 25600);
-    CHECK(GAUGE_WAITING_LEN == GAUGE_PLACES * GAUGE_PLACE_LEN);
-    CHECK(GAUGE_OUTPUT_LEN == 2 * GAUGE_DATAGRAM_MOST);
+}
+
+/* The constants, as document 01 has them. */
+static void constants(void)
+{
+    CHECK(GAUGE_KEY_LEN == 32 && GAUGE_NONCE_LEN == 16 && GAUGE_ADDRESS_LEN == 16);
+    CHECK(GAUGE_RECORD_LEN == 100 && GAUGE_RECORD_KEY == 0 && GAUGE_RECORD_PORT == 32 && GAUGE_RECORD_COUNT == 34 && GAUGE_RECORD_ADDRESSES == 36);
+    CHECK(GAUGE_ENTRY_KEY == 0 && GAUGE_ENTRY_MAJOR == 32 && GAUGE_ENTRY_MINOR == 33 && GAUGE_ENTRY_PORT == 34);
+    CHECK(GAUGE_ENTRY_COUNT == 37 && GAUGE_ENTRY_ADDRESSES == 38);
+    CHECK(GAUGE_CPA_LEAST == 1 && GAUGE_CPA_MOST == 1024 && GAUGE_DATAGRAM_LEAST == 12 && GAUGE_DATAGRAM_MOST == 1232);
+    CHECK(GAUGE_CACHE_LEAST == 10 && GAUGE_CACHE_MOST == 256 && GAUGE_CACHE_LEN(256) == 25600);
+    CHECK(GAUGE_PLACES == 16 && GAUGE_PLACE_LEN == 140 && GAUGE_WAITING_LEN == 16 * 140);
+    CHECK(GAUGE_OUTPUT_LEN == 2 * 1232 && GAUGE_SEND_LEN == 100 + 4 * 16 && GAUGE_TICK_LEN == 16 * 4 && GAUGE_LIST_LEN == 10 * 32);
+    CHECK(GAUGE_SOLICIT == 1 && GAUGE_ADVERTISE == 2 && GAUGE_REQUEST == 3 && GAUGE_FLOOD == 4);
+    CHECK(GAUGE_INQUIRE == 7 && GAUGE_AUTHORITY == 8 && GAUGE_ACK == 9 && GAUGE_LOOKUP == 11);
+    CHECK(GAUGE_OK == 0 && GAUGE_MEMORY == 1 && GAUGE_LENGTH == 2 && GAUGE_HEADER == 3 && GAUGE_MAJOR == 4 && GAUGE_TYPE == 5 && GAUGE_FIELD == 6);
+    CHECK(GAUGE_NOT_TAKEN == 7 && GAUGE_STRAY == 8 && GAUGE_UNTRUSTED == 9 && GAUGE_OTHER_KEY == 10 && GAUGE_OWN_KEY == 11 && GAUGE_NOT_OURS == 12);
+    CHECK(GAUGE_ID_WAITING == 13 && GAUGE_FULL == 14 && GAUGE_ROOM == 15 && GAUGE_GOOD == 1);
 }
 
 /* Datagrams, as hexadecimal digits with spaces between them. */
@@ -255,6 +270,7 @@ int main(void)
     if (nothing == MAP_FAILED)
         return 1;
     answers();
+    constants();
     looks();
     arguments();
     zero_lengths(nothing);

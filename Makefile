@@ -1,5 +1,5 @@
 # Two commands: `make run` shows what the gauge's functions make of fixed vectors and what happens on the hill, `make test` is all that the gate runs.
-.PHONY: run test check lib install ponds hill fmt definitions vectors outside counted tools clean
+.PHONY: run test check lib install ponds hill fmt definitions vectors outside counted compare planted soak tools clean
 
 run: tools
 	@tests/run-vectors
@@ -54,6 +54,17 @@ outside:
 # Executed instructions of form and closest against plain C (docs/landings/03-memory.md). A test of the gate.
 counted:
 	@tests/counted
+
+# Random nights through the archive and through the model in tests/model.c; then bugs planted in the model, which must be found. Tests of the gate.
+compare: tools
+	@tests/compare
+
+planted: tools
+	@tests/planted
+
+# Ten million calls, of other nights than the gate's. No test of the gate: it takes most of an hour where the archive runs by an emulator.
+soak: tools
+	@tests/compare 10000000 2
 
 tools:
 	@tools/install

@@ -55,8 +55,12 @@ static uint8_t any(void)
 
 static void fill(uint8_t *p, size_t n)
 {
-    for (size_t i = 0; i < n; i++)
-        p[i] = any();
+    uint64_t z = 0;
+    for (size_t i = 0; i < n; i++, z >>= 8) {
+        if (i % 8 == 0)
+            z = chance();
+        p[i] = (uint8_t)z;
+    }
 }
 
 /* What is handed to a call. A part without a place means: the present memory. */
@@ -262,11 +266,13 @@ static const char *run(const struct call *c, struct memory *m, struct result *an
         struct part p = part_of(c, i, m);
         bool writable = i == CACHE || i == WAITING || i == OUTPUT;
         const uint8_t *other = writable ? lent[1][i].at : p.at;
-        for (size_t k = 0; k < p.len; k++)
-            if (lent[0][i].at[k] != other[k]) {
-                snprintf(what, sizeof what, "%s byte %zu is %02x by the archive, %02x by the model", lents[i], k, lent[0][i].at[k], other[k]);
-                return what;
-            }
+        if (p.len > 0 && memcmp(lent[0][i].at, other, p.len) != 0) {
+            size_t k = 0;
+            while (lent[0][i].at[k] == other[k])
+                k++;
+            snprintf(what, sizeof what, "%s byte %zu is %02x by the archive, %02x by the model", lents[i], k, lent[0][i].at[k], other[k]);
+            return what;
+        }
         if (!margin_whole(0, i, c) || !margin_whole(1, i, c)) {
             snprintf(what, sizeof what, "written outside of %s", lents[i]);
             return what;
@@ -484,8 +490,10 @@ static void some_rest(uint8_t *record)
     record[32] = percent(20) ? 0 : any();
     record[33] = any();
     record[34] = (uint8_t)(1 + under(4));
+    fill(record + 36, 16 * (size_t)record[34]);
     for (size_t i = 0; i < 16 * (size_t)record[34]; i++)
-        record[36 + i] = percent(30) ? 0 : any();
+        if (record[36 + i] < 80)
+            record[36 + i] = 0;
 }
 
 static uint32_t some_id(void)
@@ -556,8 +564,10 @@ static void set2(size_t at, size_t value)
 
 static void add_any(size_t n)
 {
-    for (size_t i = 0; i < n; i++)
-        add1(any());
+    if (draft.n + n > sizeof draft.b)
+        return;
+    fill(draft.b + draft.n, n);
+    draft.n += n;
 }
 
 static void add_field(unsigned number, size_t contents)
@@ -883,7 +893,7 @@ static size_t spoil(const uint8_t *bytes, size_t len, size_t width, size_t used,
     size_t rows = len / width, row = under(used + 2 < rows ? used + 2 : rows);
     uint8_t other[140], *p = spoiled + width * row;
     static const uint8_t cache_fields[] = {0, 31, 32, 33, 34, 35, 36, 51, 52, 67, 68, 83, 84, 99};
-    static const uint8_t waiting_fields[] = {0, 3, 4, 5, 6, 7, 8, 39, 40, 71, 72, 74, 75, 76, 91, 92, 107, 108, 123, 124, 139};
+    static const uint8_t waiting_fields[] = {0, 3, 4, 4, 5, 5, 5, 6, 7, 8, 39, 40, 71, 72, 74, 75, 76, 91, 92, 107, 108, 123, 124, 139};
     memset(spoiled, 0, sizeof spoiled);
     memcpy(spoiled, bytes, len);
     switch (under(14)) {
@@ -1025,7 +1035,10 @@ static size_t some_room(struct call *c)
         struct part p = part_of(c, i, &now);
         lend(1, i, c, p.at, p.len);
     }
+    running = c;
+    running_on = &now;
     struct result r = by_model(c, 1);
+    running = NULL;
     size_t need = r.numbers[1] + r.numbers[2];
     return need == 0 || way == 17 ? need : need - 1 - (way == 18 ? 0 : under(2) * under(need));
 }

@@ -604,6 +604,8 @@ static void add_opaque(unsigned number)
     if (percent(4) && draft.n < 1200)
         n = 1232 - draft.n - 4 + under(6) - 3;
     add_field(number, n);
+    if (n == 0 && percent(4)) /* a length that does not count number and length */
+        draft.b[draft.n - 1] = (uint8_t)under(4);
     add_any(n);
 }
 
@@ -632,8 +634,10 @@ static void add_some_entry(void)
 
 static void add_array(unsigned number, unsigned element, unsigned size, size_t count)
 {
+    /* now and then a count whose length is the same in two bytes */
+    size_t wrap = percent(2) ? (size == 32 ? 0x800 * (1u + under(15)) : 0x8000) : 0;
     add_field(number, 8 + size * count);
-    add2(count);
+    add2(count + wrap);
     add2(8 + size * count);
     add2(element);
     add2(size);
@@ -892,6 +896,7 @@ static size_t spoil(const uint8_t *bytes, size_t len, size_t width, size_t used,
 {
     size_t rows = len / width, row = under(used + 2 < rows ? used + 2 : rows);
     uint8_t other[140], *p = spoiled + width * row;
+    static const uint16_t lengths[] = {0, 900, 999, 1000, 1001, 1100, 25600, 25601, 25700};
     static const uint8_t cache_fields[] = {0, 31, 32, 33, 34, 35, 36, 51, 52, 67, 68, 83, 84, 99};
     static const uint8_t waiting_fields[] = {0, 3, 4, 4, 5, 5, 5, 6, 7, 8, 39, 40, 71, 72, 74, 75, 76, 91, 92, 107, 108, 123, 124, 139};
     memset(spoiled, 0, sizeof spoiled);
@@ -923,7 +928,7 @@ static size_t spoil(const uint8_t *bytes, size_t len, size_t width, size_t used,
     case 10: /* key and record of another row, its ID and kind kept */
         memmove(p + key_at, spoiled + width * under(used + 1 < rows ? used + 1 : rows) + key_at, width - key_at);
         return len;
-    case 11: return len - width * under(rows);
+    case 11: return width == 100 ? lengths[under(sizeof lengths / sizeof *lengths)] : len - width * under(rows);
     case 12: return under(2) ? len - 1 - under(len) : len + 1 + under(width);
     default: return len + width * under((sizeof spoiled - len) / width);
     }
@@ -1086,7 +1091,7 @@ static void make_call(struct call *c)
 static void begin_cache(size_t most)
 {
     size_t wanted = percent(50) ? most : under(most + 1);
-    for (size_t n = 0; n < wanted; n++) {
+    for (size_t tries = 0; tries < 4 * most && held() < wanted; tries++) {
         uint8_t record[100];
         some_key(record);
         if (percent(30))
@@ -1156,7 +1161,7 @@ static void begin_night(void)
     next_id = percent(40) ? UINT32_MAX - under(20) : (uint32_t)chance();
     if (percent(50))
         begin_cache(most);
-    if (percent(40))
+    if (percent(60))
         begin_waiting();
     start = now;
     night_len = 0;

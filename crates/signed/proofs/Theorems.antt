@@ -41,7 +41,7 @@ use Rattle.gauge_laws.proofs.FirstLaws.{first-bytes}
 use Rattle.gauge_laws.proofs.FormLaws.{form-kept, send-cache}
 use Rattle.gauge_laws.proofs.SentLaws.{reads-back, send-reads-back}
 use Rattle.signed.specs.Words.{Memory, memory, Call, receives, sends, ticks, lists, Given, given, asGiven, ours, empty, left, ownOf, outputOf, IdFits}
-use Rattle.signed.specs.Statements.{lent, returned, InForm, MeetsDemand1, Demand2, happened, Lists, MeetsDemand3}
+use Rattle.signed.specs.Statements.{lent, returned, InForm, MeetsDemand1, MeetsDemand2, happened, Lists, MeetsDemand3}
 use Rattle.signed.proofs.KeyLaws.{Owed}
 use Rattle.signed.proofs.StepLaws.{Inv, ran}
 
@@ -106,7 +106,7 @@ meets-demand1 = record { exactly = ours-exactly; accepted = ours-accepted; keeps
 
 -- ---- demand 2
 
-pub meets-demand2 : Demand2
+pub meets-demand2 : MeetsDemand2 ours
 meets-demand2 = record {
   one-message = at-most-one;
   read-when = (read-gives, read-accepts, read-refuses);
@@ -114,6 +114,7 @@ meets-demand2 = record {
   read-written = (read-again, read-written-again, output-again);
   one-answer = (read-one, write-one);
   sent-reads = (reads-back, send-reads-back);
+  acts = λ m c. refl;
 }
 
 -- ---- the start

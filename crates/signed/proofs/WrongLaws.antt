@@ -9,7 +9,7 @@ use Rattle.kept.specs.Plain.{neighbours, kept}
 use Rattle.wire_write.specs.Sent.{floodMade}
 use Rattle.gauge_commit.specs.declared.Answer.{Answer}
 use Rattle.gauge_commit.specs.Sending.{answer}
-use Rattle.signed.specs.Words.{Call, lists, ticks, Gauge, empty, left, log, Proper}
+use Rattle.signed.specs.Words.{Call, lists, ticks, Given, Gauge, empty, left, log, Proper}
 use Rattle.signed.specs.Events.{eventsFrom}
 use Rattle.signed.specs.Statements.{happened, MeetsDemand3}
 use Rattle.signed.specs.Wrong.{refusesAll, emptyList, learnsNothing, learnsOnce, inventedCounts}
@@ -52,10 +52,11 @@ module _ (g : Gauge) (cs : List Call) (p : Proper 100 cs) (m : MeetsDemand3 g) w
 -- one call: a tick that no number of the table applies to
 pub refuses-all-shut : RefusesAllShut
 unfolding computed refusesAll
-refuses-all-shut n p d =
-    let c = ticks (recordWith 100) (replicate 64 0) in
-    let z : _≡_ {A = ℕ} n 0 = d .accepted (empty 10) c .1 (meets-demand1 .accepted (empty 10) c .0 refl) in
-    omega arith
+refuses-all-shut n p =
+    let c = ticks (recordWith 100) (replicate 64 0) in (
+      λ d. let z : _≡_ {A = ℕ} n 0 = d .accepted (empty 10) c .1 (meets-demand1 .accepted (empty 10) c .0 refl) in omega arith,
+      λ d. let z : _≡_ {A = ℕ} n 0 = ap (λ (h : Given). h .answer .number) (d .acts (empty 10) c) in omega arith,
+    )
 
 -- the key 99 is learned
 pub empty-list-shut : EmptyListShut

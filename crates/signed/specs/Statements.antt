@@ -23,7 +23,7 @@ use Rattle.gauge.specs.Lent.{receive, send}
 use Rattle.gauge_laws.specs.Calls as G
 use Rattle.gauge_laws.specs.Table.{tableOf}
 use Rattle.gauge_laws.specs.Statements.{OnlyFirst, ReadsBack, SendReadsBack}
-use Rattle.signed.specs.Words.{Memory, Call, receives, sends, ticks, lists, Given, given, Gauge, empty, left, log, ownOf, outputOf, IdFits, Proper}
+use Rattle.signed.specs.Words.{Memory, Call, receives, sends, ticks, lists, Given, given, Gauge, ours, empty, left, log, ownOf, outputOf, IdFits, Proper}
 use Rattle.signed.specs.Events.{events}
 
 -- ---- demand 1
@@ -64,15 +64,17 @@ pub record MeetsDemand1 (g : Gauge) : Type 0 where
 -- ---- demand 2
 
 -- "Messages are read and written as the public DRT document lays them out. What we write reads back as the same message; what we read, written again, gives the
--- same bytes with the ignored bits zero. Every message is accepted, refused and acted on exactly as document 01 says." The last is the equation of each call
--- with its definition; that what a call sends reads as the message meant are the last two.
-pub record Demand2 : Type 0 where
+-- same bytes with the ignored bits zero. Every message is accepted, refused and acted on exactly as document 01 says."
+-- `acts` is the last sentence: number, counts and every byte are those of the calls' definitions, which docs/STATEMENTS.md holds against document 01 sentence
+-- by sentence; of ours it is how it was made, and the contracts of the exported calls say that they are it.
+pub record MeetsDemand2 (g : Gauge) : Type 0 where
   pub one-message : AtMostOne
   pub read-when : ReadGives × ReadAccepts × ReadRefuses
   pub written-reads : WrittenReads × WrittenRead × OutputReads × WriteReads
   pub read-written : ReadWritten × ReadWrittenAgain × OutputAgain
   pub one-answer : ReadOne × WriteOne
   pub sent-reads : ReadsBack × SendReadsBack
+  pub acts : (m : Memory) (c : Call) → g m c ≡ ours m c
 
 -- ---- demand 3
 

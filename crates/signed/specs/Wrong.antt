@@ -7,7 +7,7 @@ use mathlib.Core.Path.{_≡_}
 use Rattle.octet.specs.Part.{allZero}
 use Rattle.gauge_commit.specs.Sending.{answer}
 use Rattle.signed.specs.Words.{Memory, memory, Call, receives, sends, ticks, lists, given, Gauge, ours, outputOf}
-use Rattle.signed.specs.Statements.{MeetsDemand1, MeetsDemand3}
+use Rattle.signed.specs.Statements.{MeetsDemand1, MeetsDemand2, MeetsDemand3}
 
 abbrev pub isList : Call → Bool
 isList (receives own cpa major minor id nonce verdict key datagram output) = false
@@ -43,9 +43,9 @@ inventedCounts first second m c =
 
 -- ---- each is shut out
 
--- demand 1: "given exactly when"
+-- demand 1, by "given exactly when", and demand 2, by "accepted, refused and acted on"
 abbrev pub RefusesAllShut : Type 0
-RefusesAllShut = (n : ℕ) → 0 < n → ¬ MeetsDemand1 (refusesAll n)
+RefusesAllShut = (n : ℕ) → 0 < n → (¬ MeetsDemand1 (refusesAll n)) × (¬ MeetsDemand2 (refusesAll n))
 
 -- demand 3
 abbrev pub EmptyListShut : Type 0

@@ -1,0 +1,89 @@
+-- Which number a bad record is given. In this order: the rows, by their tests; what is known of a good one; the number of a bad one. Assumes nothing.
+use mathlib.Core.Path.{_≡_, refl, sym, ap, _∙_}
+use mathlib.Core.Bool.{Bool, true, false, not, cond}
+use mathlib.Core.List.{List, [], _∷_}
+use Prim.Native.Nat.{ℕ, _+_, _-_, _≤_, _<_}
+use native.Mathlib.Omega.{arith}
+use lib.Dec.{eqb, ltb}
+use lib.ListN.{length, length-drop}
+use borrow.Author.Tests.{eq-eqb, ne-eqb, lt-ltb, le-ltb, eqb-true, ltb-false, leb-true, not-false}
+use Rattle.refusal.specs.Table.{Refusal, firstOf, InOrder, byNumber}
+use Rattle.refusal.proofs.TableLaws.{applies-from, given-applies}
+use Rattle.night.specs.Trace.{lengthOf, kindOf, bodyOf, isKind, bodyFits}
+use Rattle.night.specs.Fault.{misplaced, faults}
+
+module _ (at : ℕ) (r : List ℕ) where
+  by-length : (a b : Bool) (n : ℕ) → (a ≡ true → b ≡ true) → 16 ≡ cond (not a) 16 (cond b 16 n)
+  by-length true b n h = rw (h refl) refl
+  by-length false b n h = refl
+
+  -- too short to have a kind
+  pub fault-short : length r < 4 → 16 ≡ firstOf (faults at r)
+  unfolding faults firstOf
+  fault-short h =
+      by-length (eqb (length r) (2 + lengthOf r)) (ltb (lengthOf r) 2) _
+      (λ e. lt-ltb (lengthOf r) 2 (omega (arith, eqb-true (length r) (2 + lengthOf r) e)))
+
+  -- cut short, or longer than its length says
+  pub fault-cut : (length r ≡ 2 + lengthOf r → ⊥) → 16 ≡ firstOf (faults at r)
+  unfolding faults firstOf
+  fault-cut n = simp (ne-eqb _ _ n) refl
+
+  -- the first two rows pass
+  module _ (whole : length r ≡ 2 + lengthOf r) (kinded : 4 ≤ length r) where
+    told : ltb (lengthOf r) 2 ≡ false
+    told = le-ltb (lengthOf r) 2 (omega (arith, whole))
+
+    body : length (bodyOf r) ≡ length r - 4
+    body = length-drop 4 r
+
+    pub fault-body : bodyFits (kindOf r) (length r - 4) ≡ false → 16 ≡ firstOf (faults at r)
+    unfolding faults firstOf
+    fault-body b = simp (eq-eqb _ _ whole, told, body, b) refl
+
+    pub fault-kind : bodyFits (kindOf r) (length r - 4) ≡ true → isKind (kindOf r) ≡ false → 17 ≡ firstOf (faults at r)
+    unfolding faults firstOf
+    fault-kind b k = simp (eq-eqb _ _ whole, told, body, b, k) refl
+
+    pub fault-placed : bodyFits (kindOf r) (length r - 4) ≡ true → isKind (kindOf r) ≡ true → firstOf (misplaced at (kindOf r)) ≡ firstOf (faults at r)
+    unfolding faults firstOf
+    fault-placed b k = simp (eq-eqb _ _ whole, told, body, b, k) refl
+
+-- ---- a good record
+
+module _ (at : ℕ) (r : List ℕ) where
+  good-by : (a b c : Bool) (n : ℕ) → cond a 16 (cond b 16 (cond c 16 n)) ≡ 0 → (a ≡ false) × (b ≡ false) × (c ≡ false)
+  good-by true b c n e = absurd (omega (arith, e))
+  good-by false true c n e = absurd (omega (arith, e))
+  good-by false false true n e = absurd (omega (arith, e))
+  good-by false false false n e = (refl, refl, refl)
+
+  -- it has a kind, and the body of its kind
+  pub good-record : firstOf (faults at r) ≡ 0 → (4 ≤ length r) × (bodyFits (kindOf r) (length (bodyOf r)) ≡ true)
+  unfolding faults firstOf
+  good-record e =
+      let w = good-by (not (eqb (length r) (2 + lengthOf r))) (ltb (lengthOf r) 2) (not (bodyFits (kindOf r) (length (bodyOf r)))) _ e in
+      let whole = eqb-true (length r) (2 + lengthOf r) (not-false _ (w .0)) in
+      (omega (arith, whole, ltb-false (lengthOf r) 2 (w .1)), not-false _ (w .2))
+
+  pub in-order : InOrder byNumber 16 (faults at r)
+  unfolding faults
+  in-order = (omega arith, omega arith, (omega arith, omega arith, (omega arith, omega arith, (omega arith, omega arith, (omega arith, omega arith, (omega arith, omega arith, tt))))))
+
+  -- a bad one is given 16 or more
+  pub bad-number : 0 < firstOf (faults at r) → 15 < firstOf (faults at r)
+  bad-number p = applies-from byNumber (faults at r) 16 (firstOf (faults at r)) in-order (given-applies (faults at r) p)
+
+-- ---- the length of a body, by its kind
+
+pub fits-1 : (kind n : ℕ) → kind ≡ 1 → bodyFits kind n ≡ true → 53 ≤ n
+unfolding bodyFits
+fits-1 kind n q e = leb-true 53 n (rw q at e)
+
+pub fits-2 : (kind n : ℕ) → kind ≡ 2 → bodyFits kind n ≡ true → n ≡ 68
+unfolding bodyFits
+fits-2 kind n q e = eqb-true n 68 (rw q at e)
+
+pub fits-4 : (kind n : ℕ) → kind ≡ 4 → bodyFits kind n ≡ true → n ≡ 102
+unfolding bodyFits
+fits-4 kind n q e = eqb-true n 102 (rw q at e)

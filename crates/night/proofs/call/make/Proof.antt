@@ -1,0 +1,69 @@
+-- `night::call::make` meets its contract. Assumes nothing.
+use mathlib.Core.Path.{ap, _∙_}
+use borrow.Author.Needs.{needs}
+use Rattle.night.specs.Step.{called}
+use Rattle.night.proofs.FaultLaws.{fits-1, fits-2}
+use Rattle.night.proofs.CallLaws.{call-1, call-2, call-3}
+use Rattle.night.proofs.call.make.Statement.{statement}
+use Rattle.night.proofs.call.make.Tie as tie
+
+receive-requires : tie.Need-receive-requires
+receive-requires c κs = (c .before .before .before .before .before .before .before .pre .0, fits-1 _ _ (c .before .before .if1 .taken) (c .before .before .before .before .before .before .before .pre .1))
+
+same-length : tie.Need-same-length
+same-length c = search needs
+
+same-length-2 : tie.Need-same-length-2
+same-length-2 c = search needs
+
+returns : tie.Need-returns
+returns c =
+    let m = c .before .before .before .before in
+    let i = m .before .before .before in
+    let a = i .before .before .before .before .before .args in
+    m .receive .ensures ∙ ap (called _) (call-1 (a .opening .now) (a .kind) (a .body .now) (i .if1 .taken))
+
+send-requires : tie.Need-send-requires
+send-requires c κs = (c .before .before .before .before .before .before .before .before .pre .0, fits-2 _ _ (c .before .before .if2 .taken) (c .before .before .before .before .before .before .before .before .pre .1))
+
+same-length-3 : tie.Need-same-length-3
+same-length-3 c = search needs
+
+same-length-4 : tie.Need-same-length-4
+same-length-4 c = search needs
+
+returns-2 : tie.Need-returns-2
+returns-2 c =
+    let m = c .before .before in
+    let i = m .before .before .before in
+    let a = i .before .before .before .before .before .before .args in
+    m .send .ensures ∙ ap (called _) (call-2 (a .opening .now) (a .kind) (a .body .now) (i .before .if1 .left) (i .if2 .taken))
+
+tick-requires : tie.Need-tick-requires
+tick-requires c κs = search needs
+
+same-length-5 : tie.Need-same-length-5
+same-length-5 c = search needs
+
+returns-3 : tie.Need-returns-3
+returns-3 c =
+    let m = c .before .before in
+    let i = m .before .before in
+    let a = i .before .before .before .before .before .before .args in
+    m .tick .ensures _ ∙ ap (called _) (call-3 (a .opening .now) (a .kind) (a .body .now) (i .before .if1 .left) (i .if2 .left))
+
+pub make-spec : {M : Type 1} → statement M
+make-spec =
+    tie.close
+    (tie.spec
+    receive-requires
+    same-length
+    same-length-2
+    returns
+    send-requires
+    same-length-3
+    same-length-4
+    returns-2
+    tick-requires
+    same-length-5
+    returns-3)

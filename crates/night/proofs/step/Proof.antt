@@ -1,0 +1,121 @@
+-- `night::step` meets its contract. Assumes nothing.
+use mathlib.Core.Path.{_≡_, sym, _∙_}
+use Prim.Native.Nat.{_≤_}
+use native.Mathlib.Omega.{arith}
+use lib.ListN.{length}
+use borrow.Author.Needs.{needs}
+use Rattle.refusal.specs.Table.{firstOf}
+use Rattle.signed.specs.Words.{memory}
+use Rattle.night.specs.Fault.{faults}
+use Rattle.night.specs.Step.{night}
+use Rattle.night.proofs.FaultLaws.{good-record}
+use Rattle.night.proofs.StepLaws.{step-unfit, refuses, body-fits, opening-length, opens, makes}
+use Rattle.night.proofs.step.Statement.{statement}
+use Rattle.night.proofs.step.Tie as tie
+
+-- behind the second test: the opening has its length, the record is good
+fit : (c : tie.Else2) → length (c .before .before .before .before .before .before .before .args .opening .now) ≡ 102
+fit c = c .before .before .if1 .left
+
+clean : (c : tie.Else2) → (let a = c .before .before .before .before .before .before .before .args in firstOf (faults (a .at) (a .piece .now)) ≡ 0)
+clean c = sym (c .before .fault-of .ensures) ∙ c .if2 .left
+
+kinded : (c : tie.Else2) → 4 ≤ length (c .before .before .before .before .before .before .before .args .piece .now)
+kinded c = good-record _ _ (clean c) .0
+
+returns : tie.Need-returns
+returns c = step-unfit _ _ _ (c .if1 .taken)
+
+fault-of-requires : tie.Need-fault-of-requires
+fault-of-requires c κs = search needs
+
+returns-2 : tie.Need-returns-2
+returns-2 c =
+    let a = c .before .before .before .before .before .before .before .args in
+    refuses (a .at) (night (a .opening .now) (memory (a .cache .now) (a .waiting .now))) (a .piece .now) (c .before .before .if1 .left) _
+    (c .before .fault-of .ensures) (c .if2 .taken)
+
+read-u16-le-requires : tie.Need-read-u16-le-requires
+read-u16-le-requires c κs = kinded c
+
+sub-copy-to : tie.Need-sub-copy-to
+sub-copy-to c = kinded (c .before .before .before)
+
+part-copy-to-start : tie.Need-part-copy-to-start
+part-copy-to-start c = kinded (c .before .before .before)
+
+part-copy-to-end : tie.Need-part-copy-to-end
+part-copy-to-end c = search needs
+
+copy-to-requires : tie.Need-copy-to-requires
+copy-to-requires c κs =
+    let i = c .before .before .before .before in
+    let a = i .before .before .before .before .before .before .before .args in
+    let n = night (a .opening .now) (memory (a .cache .now) (a .waiting .now)) in
+    let l = opening-length (a .at) n (a .piece .now) (fit i) (clean i) _ (c .before .before .before .read-u16-le .ensures) (c .before .before .if3 .taken) in
+    omega (arith, l, fit i)
+
+same-length : tie.Need-same-length
+same-length c = search needs
+
+returns-3 : tie.Need-returns-3
+returns-3 c =
+    let i = c .before .before .before .before .before .before .before in
+    let a = i .before .before .before .before .before .before .before .args in
+    let n = night (a .opening .now) (memory (a .cache .now) (a .waiting .now)) in
+    opens (a .at) n (a .piece .now) (fit i) (clean i) _ (c .before .before .before .before .before .before .read-u16-le .ensures) (c .before .before .before .before .before .if3 .taken) _ (c .before .before .copy-to .ensures)
+
+sub-make : tie.Need-sub-make
+sub-make c = kinded (c .before .before .before .before .before)
+
+part-make-start : tie.Need-part-make-start
+part-make-start c = kinded (c .before .before .before .before .before)
+
+part-make-end : tie.Need-part-make-end
+part-make-end c = search needs
+
+make-requires : tie.Need-make-requires
+make-requires c κs =
+    let i = c .before .before .before .before .before .before in
+    let a = i .before .before .before .before .before .before .before .args in
+    let n = night (a .opening .now) (memory (a .cache .now) (a .waiting .now)) in
+    (fit i, body-fits (a .at) n (a .piece .now) (fit i) (clean i) _ (c .before .before .before .before .before .read-u16-le .ensures))
+
+same-length-2 : tie.Need-same-length-2
+same-length-2 c = search needs
+
+same-length-3 : tie.Need-same-length-3
+same-length-3 c = search needs
+
+same-length-4 : tie.Need-same-length-4
+same-length-4 c = search needs
+
+returns-4 : tie.Need-returns-4
+returns-4 c =
+    let i = c .before .before .before .before .before .before .before .before .before .before .before in
+    let a = i .before .before .before .before .before .before .before .args in
+    let n = night (a .opening .now) (memory (a .cache .now) (a .waiting .now)) in
+    makes (a .at) n (a .piece .now) (fit i) (clean i) _ (c .before .before .before .before .before .before .before .before .before .before .read-u16-le .ensures) (c .before .before .before .before .before .before .before .before .before .if3 .left) _ (c .before .before .before .before .make .ensures)
+
+pub step-spec : {M : Type 1} → statement M
+step-spec =
+    tie.close
+    (tie.spec
+    returns
+    fault-of-requires
+    returns-2
+    read-u16-le-requires
+    sub-copy-to
+    part-copy-to-start
+    part-copy-to-end
+    copy-to-requires
+    same-length
+    returns-3
+    sub-make
+    part-make-start
+    part-make-end
+    make-requires
+    same-length-2
+    same-length-3
+    same-length-4
+    returns-4)

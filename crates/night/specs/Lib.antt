@@ -1,0 +1,5 @@
+pub mod Trace
+pub mod Fault
+pub mod Step
+pub mod Replay
+pub mod Statements

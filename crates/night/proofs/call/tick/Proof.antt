@@ -1,6 +1,5 @@
 -- `night::call::tick` meets its contract. Assumes nothing.
 use borrow.Author.Needs.{needs}
-use Rattle.night.specs.Step.{called}
 use Rattle.night.proofs.CallLaws.{tick-called}
 use Rattle.night.proofs.call.tick.Statement.{statement}
 use Rattle.night.proofs.call.tick.Tie as tie

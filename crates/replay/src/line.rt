@@ -1,0 +1,63 @@
+// The lines that the replay writes.
+ghost use mathlib.Core.Path.{_≡_};
+ghost use Prim.Native.Nat.{_+_, _≤_, _<_};
+ghost use lib.ListN.{length, take};
+ghost use Rattle.octet.specs.Part.{splice};
+ghost use Rattle.night.specs.Replay.{line, lineOf, atEnd};
+ghost use Rattle.replay.specs.Text.{decimal, textOf, textsOf};
+
+// The longest line: a number of 20 digits, a space, one of 10, the line's end.
+pub(crate) const LINE: usize = 42;
+
+// Puts a number's digits at a place, and answers where they end.
+fn put_number(out: &mut [u8], at: usize, n: u64) -> usize
+    requires { ⌜ at + 20 ≤ length (now out) ⌝ }
+    ensures { λ r. ⌜ r ≡ at + length (decimal n) ⌝ }
+    ensures { λ r. ⌜ r ≤ at + 20 ⌝ }
+    ensures { λ r. ⌜ now (out .exit) ≡ splice at (decimal n) (now (out .entry)) ⌝ }
+{
+    let mut digits = [0u8; 20];
+    let k = io::decimal(n, &mut digits);
+    octet::copy_to(out, at, &digits[..k]);
+    at + k
+}
+
+// Puts the line of record number `at` at the start of `out`, and answers how many bytes it has.
+fn put_line(out: &mut [u8], at: u64, answer: u32) -> usize
+    requires { ⌜ 42 ≤ length (now out) ⌝ }
+    ensures { λ r. ⌜ r ≤ length (now (out .entry)) ⌝ }
+    ensures { λ r. ⌜ take r (now (out .exit)) ≡ textOf (line at answer) ⌝ }
+{
+    let space = put_number(out, 0, at);
+    out[space] = b' ';
+    let end = put_number(out, space + 1, answer as u64);
+    out[end] = b'\n';
+    end + 1
+}
+
+// The line of record number `at`, if it has one: the first has one only where it is bad.
+pub(crate) fn put(out: &mut [u8], at: u64, answer: u32) -> usize
+    requires { ⌜ 42 ≤ length (now out) ⌝ }
+    ensures { λ r. ⌜ r ≤ length (now (out .entry)) ⌝ }
+    ensures { λ r. ⌜ take r (now (out .exit)) ≡ textsOf (lineOf at answer) ⌝ }
+{
+    if at == 0 {
+        if answer == 0 {
+            return 0;
+        }
+        return put_line(out, at, answer);
+    }
+    put_line(out, at, answer)
+}
+
+// What stands behind the last record: nothing, but for a trace of no record, whose kind 4 is missing.
+pub(crate) fn put_end(out: &mut [u8], at: u64) -> usize
+    requires { ⌜ 42 ≤ length (now out) ⌝ }
+    ensures { λ r. ⌜ r ≤ length (now (out .entry)) ⌝ }
+    ensures { λ r. ⌜ take r (now (out .exit)) ≡ textsOf (atEnd at) ⌝ }
+{
+    if at == 0 {
+        return put_line(out, 0, 17);
+    }
+    0
+}

@@ -621,7 +621,7 @@ void draft_learning(uint8_t *key)
             return;
         }
     }
-    if (percent(40))
+    if (percent(25))
         memcpy(record, pool[under(32)], 32);
     else
         fill(record, 32);

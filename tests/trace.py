@@ -4,7 +4,10 @@
     trace.py FILE           what the replay of a trace must write: for each call its place from 1, a space and its number
     trace.py --list FILE    the neighbour list that the night ends with, each key by its first byte (the hill's keys begin with the pond's number)
     trace.py --check        the cases that the document gives, and both sides of each length
+    trace.py --write DIR    those cases as files: N.trace, and N.wanted with the lines that the document wants
+    trace.py --same FILE..  each FILE is a trace, and beside it stands FILE with the ending .wanted: the model must write the same
 """
+import os
 import sys
 
 import model
@@ -70,48 +73,78 @@ def replay(trace):
     return (lines if night is not None else ["0 17"]), night
 
 
-def check():
+# Name, trace, and the lines that the document wants.
+def cases():
     def record(kind, body):
         return (len(body) + 2).to_bytes(2, "little") + kind.to_bytes(2, "little") + body
 
     own = bytes(31) + bytes([100]) + model.two(5000) + bytes([1, 0]) + bytes(64)
     first, tick = record(4, bytes([6, 101]) + own), bytes.fromhex("02000300")
-    cases = [("the document's", first + tick, ["1 0"]),
-             ("an empty trace", b"", ["0 17"]),
-             ("no call", first, []),
-             ("kind 4 missing", tick, ["0 17"]),
-             ("kind 4 repeated", first + tick + first, ["1 0", "2 17"]),
-             ("kind 4 of another length, first", record(4, bytes(101)), ["0 16"]),
-             ("kind 4 of another length, later", first + record(4, bytes(103)), ["1 16"]),
-             ("an unknown kind", first + record(5, b"") + tick, ["1 17"]),
-             ("an unknown kind first", record(0, bytes(7)), ["0 17"]),
-             ("a first record of kind 1 with a wrong length", record(1, bytes(52)), ["0 16"]),
-             ("a first record of kind 1 with a right length", record(1, bytes(53)), ["0 17"]),
-             ("kind 1 without a datagram", first + record(1, bytes(53)) + tick, ["1 2", "2 0"]),
-             ("kind 1 one byte short", first + record(1, bytes(52)) + tick, ["1 16"]),
-             ("a datagram of 1,233 bytes", first + record(1, bytes(53 + 1233)), ["1 2"]),
-             ("kind 2 to a gauge not held", first + record(2, bytes(68)), ["1 12"]),
-             ("kind 2 of another length", first + record(2, bytes(67)), ["1 16"]),
-             ("a tick with a body", first + tick + record(3, b"\0"), ["1 0", "2 16"]),
-             ("one byte left", first + tick + b"\2", ["1 0", "2 16"]),
-             ("length 1", first + b"\1\0\3", ["1 16"]),
-             ("cut short in its body", first[:-1], ["0 16"]),
-             ("own record out of form", record(4, bytes([6, 101]) + bytes(100)) + tick + tick, ["1 1", "2 1"])]
-    for name, trace, want in cases:
+    return [("the document's", first + tick, ["1 0"]),
+            ("an empty trace", b"", ["0 17"]),
+            ("no call", first, []),
+            ("kind 4 missing", tick, ["0 17"]),
+            ("kind 4 repeated", first + tick + first, ["1 0", "2 17"]),
+            ("kind 4 of another length, first", record(4, bytes(101)), ["0 16"]),
+            ("kind 4 of another length, later", first + record(4, bytes(103)), ["1 16"]),
+            ("an unknown kind", first + record(5, b"") + tick, ["1 17"]),
+            ("an unknown kind first", record(0, bytes(7)), ["0 17"]),
+            ("a first record of kind 1 with a wrong length", record(1, bytes(52)), ["0 16"]),
+            ("a first record of kind 1 with a right length", record(1, bytes(53)), ["0 17"]),
+            ("kind 1 without a datagram", first + record(1, bytes(53)) + tick, ["1 2", "2 0"]),
+            ("kind 1 one byte short", first + record(1, bytes(52)) + tick, ["1 16"]),
+            ("a datagram of 1,233 bytes", first + record(1, bytes(53 + 1233)), ["1 2"]),
+            ("kind 2 to a gauge not held", first + record(2, bytes(68)), ["1 12"]),
+            ("kind 2 of another length", first + record(2, bytes(67)), ["1 16"]),
+            ("a tick with a body", first + tick + record(3, b"\0"), ["1 0", "2 16"]),
+            ("one byte left", first + tick + b"\2", ["1 0", "2 16"]),
+            ("length 1", first + b"\1\0\3", ["1 16"]),
+            ("cut short in its body", first[:-1], ["0 16"]),
+            ("own record out of form", record(4, bytes([6, 101]) + bytes(100)) + tick + tick, ["1 1", "2 1"])]
+
+
+def check():
+    for name, trace, want in cases():
         assert replay(trace)[0] == want, (name, replay(trace)[0], want)
-    print("trace: %d cases of request 1" % len(cases))
+    print("trace: %d cases of request 1" % len(cases()))
+
+
+def text(lines):
+    return "".join(line + "\n" for line in lines)
+
+
+def write(folder):
+    for i, (_, trace, want) in enumerate(cases(), 1):
+        with open(os.path.join(folder, "%d.trace" % i), "wb") as f:
+            f.write(trace)
+        with open(os.path.join(folder, "%d.wanted" % i), "w") as f:
+            f.write(text(want))
+
+
+def same(paths):
+    for path in paths:
+        got, want = text(replay(open(path, "rb").read())[0]), open(os.path.splitext(path)[0] + ".wanted").read()
+        if got != want:
+            sys.exit("trace: %s has other lines by this model" % path)
+    print("trace: %d traces have the same lines by this model" % len(paths))
 
 
 def main():
     if sys.argv[1:] == ["--check"]:
         check()
         return
+    if sys.argv[1] == "--write":
+        write(sys.argv[2])
+        return
+    if sys.argv[1] == "--same":
+        same(sys.argv[2:])
+        return
     lines, night = replay(open(sys.argv[-1], "rb").read())
     if sys.argv[1] == "--list":
         below, above = model.nearest(night.own, model.held(night.own, night.cache))
         print(" ".join(str(k >> 248) for k in below + above))
     else:
-        sys.stdout.write("".join(line + "\n" for line in lines))
+        sys.stdout.write(text(lines))
 
 
 if __name__ == "__main__":

@@ -1,6 +1,7 @@
 /* Random nights as traces (document 02, request 1), each with the lines that its replay must write.
  *
  *   nights COUNT SEED [FOLDER]     FOLDER gets N.trace and N.wanted for each night, N from 1
+ *   nights FILE                    the lines that the model's replay gives for a trace
  *
  * A night is one gauge that begins with nothing in memory. Each call is made by the model as its record is written, so that the datagrams after it lean
  * on what it left. Every fifth night is bad: its last record, or what should be its first, is one of the ways below, each in its turn. The lines are
@@ -120,10 +121,26 @@ static bool is_held(const uint8_t *key)
     return false;
 }
 
+/* The key that was dropped last in this night. Only a call about it can tell a cache of one record more. */
+static uint8_t dropped[32];
+static bool any_dropped;
+
+static void find_dropped(const uint8_t *before, const uint8_t *newcomer)
+{
+    memcpy(dropped, newcomer, 32);
+    for (size_t i = 0; i < FULL; i++)
+        if (!is_held(before + 100 * i))
+            memcpy(dropped, before + 100 * i, 32);
+    any_dropped = true;
+    done[DROPPED]++;
+}
+
 static void receive(uint32_t id, uint8_t verdict, const uint8_t *key, const uint8_t *nonce, struct bytes datagram)
 {
     static const uint8_t cpa[1] = {0};
+    uint8_t before[100 * FULL];
     bool full = held() == FULL, new = !is_held(key);
+    memcpy(before, now.cache, sizeof before);
     put_head(1, 53 + datagram.len);
     put_number(id, 4);
     put(&verdict, 1);
@@ -136,7 +153,8 @@ static void receive(uint32_t id, uint8_t verdict, const uint8_t *key, const uint
     want((uint32_t)lines + 1, answer);
     count_call(RECEIVE, message, answer, id);
     count_size(datagram.len, answer);
-    done[DROPPED] += message == AUTHORITY && answer == 0 && full && new;
+    if (message == AUTHORITY && answer == 0 && full && new)
+        find_dropped(before, key);
 }
 
 static void send(uint32_t id, const uint8_t *neighbour, const uint8_t *key)
@@ -186,6 +204,8 @@ static void some_call(void)
         tick();
     } else if (way < ticks + 14) {
         draft_send(other, key);
+        if (any_dropped && percent(30))
+            memcpy(percent(50) ? other : key, dropped, 32);
         send(id, other, key);
     } else {
         struct bytes datagram = some_datagram(key);
@@ -354,6 +374,7 @@ static void make_night(unsigned long i)
     now.cache_len = 100 * FULL;
     now.waiting_len = 2240;
     trace_len = lines = 0;
+    any_dropped = false;
     begin_gauge();
     if (percent(5))
         spoil_own();
@@ -469,10 +490,34 @@ static int show_all(void)
     return faults;
 }
 
+static void print_line(void *to, uint32_t number, uint32_t answer)
+{
+    fprintf(to, "%u %u\n", number, answer);
+}
+
+static int replay_file(const char *path)
+{
+    FILE *f = fopen(path, "rb");
+    if (f == NULL) {
+        fprintf(stderr, "nights: can't read %s\n", path);
+        return 2;
+    }
+    trace_len = fread(trace, 1, TRACE, f);
+    if (ferror(f) || fgetc(f) != EOF) {
+        fprintf(stderr, "nights: %s is too long, or could not be read\n", path);
+        return 2;
+    }
+    fclose(f);
+    model_replay(part(trace, trace_len), print_line, stdout);
+    return 0;
+}
+
 int main(int argc, char **argv)
 {
+    if (argc == 2)
+        return replay_file(argv[1]);
     if (argc < 3) {
-        fprintf(stderr, "nights COUNT SEED [FOLDER]\n");
+        fprintf(stderr, "nights COUNT SEED [FOLDER], or nights FILE\n");
         return 2;
     }
     unsigned long count = strtoul(argv[1], NULL, 10), all = 0;

@@ -122,6 +122,8 @@ def write(folder):
 
 
 def same(paths):
+    if not paths:
+        sys.exit("trace: no trace given")
     for path in paths:
         got, want = text(replay(open(path, "rb").read())[0]), open(os.path.splitext(path)[0] + ".wanted").read()
         if got != want:

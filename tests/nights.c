@@ -72,10 +72,12 @@ static void want(uint32_t number, uint32_t answer)
 enum { RECEIVE, SEND, TICK, KINDS };
 static unsigned long reached[KINDS][MESSAGES][16];
 
-enum { EMPTY_NIGHT, LONG_NIGHT, SHAPELESS, FULL_CACHE, DROPPED, SIXTEEN, ID_LAST, ID_ORDER, SIZE_0, SIZE_1232, SIZE_1233, SIZE_65480, FOLLOWED, AT_ONCE, DONE };
-static const char *const done_names[] = {"nights without a call", "nights of 400 calls", "own record out of form", "64 held", "one dropped of 65", "sixteen waiting",
-    "ID 4294967295", "ID that its bytes' order tells", "datagram of 0", "datagram of 1,232, accepted", "datagram of 1,233", "datagram of 65,480", "records behind a bad one",
-    "bad just behind kind 4"};
+enum { EMPTY_NIGHT, LONG_NIGHT, SHAPELESS, FULL_CACHE, DROPPED, SIXTEEN, ID_LAST, ID_ORDER, SIZE_0, SIZE_1232, SIZE_1233, SIZE_65480, FOLLOWED, AT_ONCE,
+       DONE };
+static const char *const done_names[] = {"nights without a call", "nights of 400 calls or more", "nights with an own record out of form", "calls with 64 held",
+    "one dropped of 65", "calls with sixteen waiting", "ID 4294967295", "ID accepted that is another backwards", "datagram of 0 bytes",
+    "datagram of 1,232 bytes accepted", "datagram of 1,233 bytes", "datagram of 65,480 bytes", "nights with records behind a bad one",
+    "nights bad just behind kind 4"};
 static unsigned long done[DONE];
 
 static void count_call(int kind, int message, uint32_t answer, uint32_t id)
@@ -147,8 +149,8 @@ static void receive(uint32_t id, uint8_t verdict, const uint8_t *key, const uint
     put(key, 32);
     put(nonce, 16);
     put(datagram.at, datagram.len);
-    uint32_t answer = model_receive(part(own, 100), part(cpa, 1), room(now.cache, now.cache_len), room(now.waiting, now.waiting_len), own_major, own_minor, id,
-                                    part(nonce, 16), verdict, part(key, 32), datagram, room(output, sizeof output)).number;
+    uint32_t answer = model_receive(part(own, 100), part(cpa, 1), room(now.cache, now.cache_len), room(now.waiting, now.waiting_len), own_major, own_minor,
+                                    id, part(nonce, 16), verdict, part(key, 32), datagram, room(output, sizeof output)).number;
     int message = message_of(own_major, datagram);
     want((uint32_t)lines + 1, answer);
     count_call(RECEIVE, message, answer, id);
@@ -163,8 +165,8 @@ static void send(uint32_t id, const uint8_t *neighbour, const uint8_t *key)
     put_number(id, 4);
     put(neighbour, 32);
     put(key, 32);
-    uint32_t answer = model_send(part(own, 100), part(now.cache, now.cache_len), room(now.waiting, now.waiting_len), own_major, own_minor, id, part(neighbour, 32),
-                                 part(key, 32), room(output, sizeof output)).number;
+    uint32_t answer = model_send(part(own, 100), part(now.cache, now.cache_len), room(now.waiting, now.waiting_len), own_major, own_minor, id,
+                                 part(neighbour, 32), part(key, 32), room(output, sizeof output)).number;
     want((uint32_t)lines + 1, answer);
     count_call(SEND, NONE, answer, id);
 }

@@ -1,5 +1,5 @@
 # Two commands: `make run` shows what the gauge's functions make of fixed vectors and what happens on the hill, `make test` is all that the gate runs.
-.PHONY: run test check lib install ponds hill fmt definitions vectors outside counted compare planted soak tools clean
+.PHONY: run test check lib install ponds hill fmt definitions vectors outside counted compare planted nights soak tools clean
 
 run: tools
 	@tests/run-vectors
@@ -61,6 +61,10 @@ compare: tools
 
 planted: tools
 	@tests/planted
+
+# The program replay against the models: the document's cases, random nights and the hill's. A test of the gate.
+nights: tools
+	@tests/replay
 
 # Ten million calls, of other nights than the gate's. No test of the gate: it takes most of an hour where the archive runs by an emulator.
 soak: tools

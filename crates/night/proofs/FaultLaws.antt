@@ -1,14 +1,15 @@
 -- Which number a bad record is given. In this order: the rows, by their tests; what is known of a good one; the number of a bad one. Assumes nothing.
 use mathlib.Core.Path.{_≡_, refl, sym, ap, _∙_}
-use mathlib.Core.Bool.{Bool, true, false, not, cond}
+use mathlib.Core.Bool.{Bool, true, false, not, cond, _&&_}
 use mathlib.Core.List.{List, [], _∷_}
 use Prim.Native.Nat.{ℕ, _+_, _-_, _≤_, _<_}
 use native.Mathlib.Omega.{arith}
 use lib.Dec.{eqb, ltb}
 use lib.ListN.{length, length-drop}
-use borrow.Author.Tests.{eq-eqb, ne-eqb, lt-ltb, le-ltb, eqb-true, ltb-false, leb-true, not-false}
+use borrow.Author.Tests.{eq-eqb, ne-eqb, lt-ltb, le-ltb, eqb-true, eqb-false, ltb-false, leb-true, not-false}
 use Rattle.refusal.specs.Table.{Refusal, firstOf, InOrder, byNumber}
-use Rattle.refusal.proofs.TableLaws.{applies-from, given-applies}
+use Rattle.octet.proofs.TestLaws.{and-true}
+use Rattle.refusal.proofs.TableLaws.{applies-from, given-applies, both}
 use Rattle.night.specs.Trace.{lengthOf, kindOf, bodyOf, isKind, bodyFits}
 use Rattle.night.specs.Fault.{misplaced, faults}
 
@@ -87,3 +88,35 @@ fits-2 kind n q e = eqb-true n 68 (rw q at e)
 pub fits-4 : (kind n : ℕ) → kind ≡ 4 → bodyFits kind n ≡ true → n ≡ 102
 unfolding bodyFits
 fits-4 kind n q e = eqb-true n 102 (rw q at e)
+
+-- ---- the place of a good record: the first is of kind 4, and no later one is
+
+module _ (at : ℕ) (r : List ℕ) where
+  placed-by : (a b c d e f : Bool) → _≡_ {A = ℕ} (cond a 16 (cond b 16 (cond c 16 (cond d 17 (cond e 17 (cond f 17 0)))))) 0 → (e ≡ false) × (f ≡ false)
+  placed-by true b c d e f q = absurd (omega (arith, q))
+  placed-by false true c d e f q = absurd (omega (arith, q))
+  placed-by false false true d e f q = absurd (omega (arith, q))
+  placed-by false false false true e f q = absurd (omega (arith, q))
+  placed-by false false false false true f q = absurd (omega (arith, q))
+  placed-by false false false false false true q = absurd (omega (arith, q))
+  placed-by false false false false false false q = (refl, refl)
+
+  tests : firstOf (faults at r) ≡ 0 → (eqb at 0 && not (eqb (kindOf r) 4) ≡ false) × (ltb 0 at && eqb (kindOf r) 4 ≡ false)
+  unfolding faults firstOf
+  tests q =
+      placed-by (not (eqb (length r) (2 + lengthOf r))) (ltb (lengthOf r) 2) (not (bodyFits (kindOf r) (length (bodyOf r)))) (not (isKind (kindOf r)))
+      (eqb at 0 && not (eqb (kindOf r) 4)) (ltb 0 at && eqb (kindOf r) 4) q
+
+  first-by : (a b : Bool) → a && not b ≡ false → a ≡ true → b ≡ true
+  first-by a true q e = refl
+  first-by a false q e = absurd (both e (sym (and-true a) ∙ q))
+
+  pub first-opens : firstOf (faults at r) ≡ 0 → at ≡ 0 → kindOf r ≡ 4
+  first-opens q z = eqb-true (kindOf r) 4 (first-by (eqb at 0) (eqb (kindOf r) 4) (tests q .0) (eq-eqb at 0 z))
+
+  later-by : (a b : Bool) → a && b ≡ false → a ≡ true → b ≡ false
+  later-by a true q e = absurd (both e (sym (and-true a) ∙ q))
+  later-by a false q e = refl
+
+  pub later-calls : firstOf (faults at r) ≡ 0 → 0 < at → kindOf r ≡ 4 → ⊥
+  later-calls q p = eqb-false (kindOf r) 4 (later-by (ltb 0 at) (eqb (kindOf r) 4) (tests q .1) (lt-ltb 0 at p))

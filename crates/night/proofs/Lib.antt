@@ -2,3 +2,6 @@ pub mod CallLaws
 pub mod FaultLaws
 pub mod StepLaws
 pub mod ReplayLaws
+pub mod MadeLaws
+pub mod TraceLaws
+pub mod Theorems

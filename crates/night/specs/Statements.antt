@@ -3,7 +3,7 @@ use Prim.Native.Nat.{ℕ, _+_, _<_}
 use mathlib.Core.Bool.{cond, true, false}
 use mathlib.Core.List.{List, [], _∷_, _++_}
 use mathlib.Core.Path.{_≡_}
-use lib.ListN.{length}
+use lib.ListN.{length, replicate}
 use Rattle.refusal.specs.Table.{firstOf}
 use Rattle.kept.specs.Keys.{Every}
 use Rattle.table.specs.Rows.{joined}
@@ -11,7 +11,7 @@ use Rattle.signed.specs.Words.{Call, Entry, ours, empty, left, log}
 use Rattle.night.specs.Trace.{kindOf, bodyOf, recordsOf, Piece, written, allWritten, traceOf, pieceOf}
 use Rattle.night.specs.Fault.{faults, isGood}
 use Rattle.night.specs.Step.{night, start, callOf}
-use Rattle.night.specs.Replay.{Line, line, replayed, replayFrom, atEnd}
+use Rattle.night.specs.Replay.{Line, line, replayed, replayFrom, replay, atEnd}
 
 -- ---- the calls of a trace: those of its records behind the first, up to the first that is bad
 
@@ -43,7 +43,7 @@ OneByOne =
     (rs : List (List ℕ)) → replayFrom 0 start rs
     ≡ replayed (numbered 1 (log ours (empty 64) (callsOf rs)) ++ stopOf 0 rs) (night (openingOf rs) (left ours (empty 64) (callsOf rs)))
 
--- "the replay stops there with the state so far": what stands behind a bad record is not looked at, and the night is as without it
+-- "the replay stops there with the state so far": the bad record has the last line, the night is as without it, and what stands behind is not looked at
 abbrev pub AllGood : ℕ → List (List ℕ) → Type 0
 AllGood at [] = Unit {0}
 AllGood at (r ∷ rs) = (isGood at r ≡ true) × AllGood (at + 1) rs
@@ -51,8 +51,9 @@ AllGood at (r ∷ rs) = (isGood at r ≡ true) × AllGood (at + 1) rs
 abbrev pub Stops : Type 0
 Stops =
     (good more : List (List ℕ)) (bad : List ℕ) → AllGood 0 good → isGood (length good) bad ≡ false
-    → (replayFrom 0 start (good ++ bad ∷ more) ≡ replayFrom 0 start (good ++ bad ∷ []))
-    × (replayFrom 0 start (good ++ bad ∷ more) .night ≡ replayFrom 0 start good .night)
+    → replayFrom 0 start (good ++ (bad ∷ more))
+    ≡ replayed (numbered 1 (log ours (empty 64) (callsOf good)) ++ (line (length good) (firstOf (faults (length good) bad)) ∷ []))
+    (replayFrom 0 start good .night)
 
 -- "reading a written trace gives it back": kinds have 2 bytes, and so have lengths
 abbrev pub Writable : Piece → Type 0
@@ -65,3 +66,13 @@ ReadsBack =
 -- no byte of a trace is lost: its records joined are the trace
 abbrev pub Whole : Type 0
 Whole = (bytes : List ℕ) → joined (recordsOf bytes) ≡ bytes
+
+-- "Kind 4, then the tick 02 00 03 00, gives one line, "1 0"": key 100, port 5000, one address; and "an empty trace gives "0 17""
+abbrev pub ownRecord : List ℕ
+ownRecord = replicate 31 0 ++ (100 ∷ 19 ∷ 136 ∷ 1 ∷ 0 ∷ []) ++ replicate 64 0
+
+abbrev pub Example : Type 0
+Example =
+    (replay (traceOf (record { kind = 4; body = 6 ∷ 101 ∷ ownRecord } ∷ record { kind = 3; body = [] } ∷ [])) .lines ≡ line 1 0 ∷ [])
+    × (written (record { kind = 3; body = [] }) ≡ 2 ∷ 0 ∷ 3 ∷ 0 ∷ [])
+    × (replay [] .lines ≡ line 0 17 ∷ [])

@@ -17,10 +17,10 @@ pub(crate) fn body_fits(kind: u16, len: usize) -> bool
     if kind == 3 {
         return len == 0;
     }
-    if kind == 4 {
-        return len == 102;
+    if kind != 4 {
+        return true;
     }
-    true
+    len == 102
 }
 
 pub(crate) fn is_kind(kind: u16) -> bool
@@ -60,10 +60,10 @@ fn misplaced(at: u64, kind: u16) -> u32
     ensures { λ r. ⌜ r ≡ firstOf (misplacedRows at kind) ⌝ }
 {
     if at == 0 {
-        if kind == 4 {
-            return 0;
+        if kind != 4 {
+            return 17;
         }
-        return 17;
+        return 0;
     }
     if kind == 4 {
         return 17;

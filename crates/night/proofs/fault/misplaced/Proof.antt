@@ -8,11 +8,11 @@ use Rattle.night.proofs.fault.misplaced.Tie as tie
 
 returns : tie.Need-returns
 unfolding firstOf
-returns c = simp (c .before .if1 .taken, eq-eqb _ _ (c .if2 .taken)) refl
+returns c = simp (c .before .if1 .taken, ne-eqb _ _ (c .if2 .taken)) refl
 
 returns-2 : tie.Need-returns-2
 unfolding firstOf
-returns-2 c = simp (c .before .if1 .taken, ne-eqb _ _ (c .if2 .left)) refl
+returns-2 c = simp (c .before .if1 .taken, eq-eqb _ _ (c .if2 .left)) refl
 
 returns-3 : tie.Need-returns-3
 unfolding firstOf

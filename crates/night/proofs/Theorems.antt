@@ -1,0 +1,27 @@
+-- What is proved of the replay. Assumes nothing.
+use mathlib.Core.Path.{refl}
+use Rattle.refusal.specs.Table.{firstOf}
+use Rattle.signed.proofs.CaseLaws.{computed}
+use Rattle.night.specs.Trace.{bodyFits, cutInto, written, allWritten}
+use Rattle.night.specs.Fault.{faults}
+use Rattle.night.specs.Step.{called, stepOf}
+use Rattle.night.specs.Replay.{replayFrom}
+use Rattle.night.specs.Statements.{OneByOne, Stops, ReadsBack, Whole, Example}
+use Rattle.night.proofs.MadeLaws as made
+use Rattle.night.proofs.TraceLaws as trace
+
+pub one-by-one : OneByOne
+one-by-one = made.one-by-one
+
+pub stops : Stops
+stops = made.stops
+
+pub reads-back : ReadsBack
+reads-back = trace.reads-back
+
+pub whole : Whole
+whole = trace.whole
+
+pub example : Example
+unfolding computed firstOf bodyFits cutInto written allWritten faults called stepOf replayFrom
+example = (refl, refl, refl)

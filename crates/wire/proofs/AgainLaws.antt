@@ -32,12 +32,12 @@ use Rattle.wire_write.specs.declared.Piece.{Piece}
 use Rattle.wire_copy.specs.Resent.{resent, lenOf, pieceOf}
 
 -- rows that are those of a list of kinds, then any; fields that are those of a message, then none
-abbrev RowsFor : List Kind → List Row → Type 0
+abbrev pub RowsFor : List Kind → List Row → Type 0
 RowsFor [] rs = Unit {0}
 RowsFor (k ∷ ks) [] = ⊥
 RowsFor (k ∷ ks) (r ∷ rs) = (r .number ≡ k .number) × (r .padded ≡ k .padded) × RowsFor ks rs
 
-abbrev Same : List Contents → List Contents → Type 0
+abbrev pub Same : List Contents → List Contents → Type 0
 Same [] [] = Unit {0}
 Same [] (c ∷ cs) = (c ≡ none) × Same [] cs
 Same (f ∷ fs) [] = ⊥
@@ -60,12 +60,12 @@ rows-bytes (k ∷ ks) (r ∷ rs) i (some v ∷ fs) (c ∷ cs) w f h =
     rw (h .0, w .0, w .1, rows-bytes ks rs (ends i k (some v)) fs cs (w .2) (f .1) (h .1))
 
 -- a piece of the datagram is the contents at its place
-piece-is : (d : List ℕ) (p : Part) → held (isHere p) (part (startOf p) (lenOf p) d) ≡ contentsIn d p
+pub piece-is : (d : List ℕ) (p : Part) → held (isHere p) (part (startOf p) (lenOf p) d) ≡ contentsIn d p
 piece-is d (Here s l) = refl
 piece-is d Absent = refl
 
 -- a message of the rows of a table
-table-bytes : (ks : List Kind) (rs : List Row) (m : Message) (l : Lent) (ps : List Piece) → RowsFor ks rs → Formed ks (m .fields)
+pub table-bytes : (ks : List Kind) (rs : List Row) (m : Message) (l : Lent) (ps : List Piece) → RowsFor ks rs → Formed ks (m .fields)
     → Same (m .fields) (contentsOf (givensOf (m .major) (m .minor) l ps))
     → madeBy (m .major) (m .minor) (m .type) (m .id) l rs ps .bytes ≡ bytesOf (layoutOf ks m)
 unfolding madeBy
@@ -87,7 +87,7 @@ flood-rows = (refl, refl, (refl, refl, (refl, refl, (refl, refl, (refl, refl, (r
 inquire-rows : RowsFor inquireKinds inquireRows
 inquire-rows = (refl, refl, (refl, refl, (refl, refl, (refl, refl, (refl, refl, (refl, refl, tt))))))
 
-authority-rows : RowsFor authorityKinds authorityRows
+pub authority-rows : RowsFor authorityKinds authorityRows
 authority-rows =
     (refl, refl, (refl, refl, (refl, refl, (refl, refl, (refl, refl, (refl, refl, (refl, refl, (refl, refl, (refl, refl, tt)))))))))
 

@@ -34,7 +34,7 @@ formed-at (k ∷ ks) (suc n) c (none ∷ fs) f a = (f .0, formed-at ks n c fs (f
 formed-at (k ∷ ks) (suc n) c (some w ∷ fs) f a = (f .0, formed-at ks n c fs (f .1) a)
 
 -- the bytes of the fields from a place on end where the first field ends and the rest after it
-ends-rest : (i : ℕ) (k : Kind) (f : Contents) (ks : List Kind) (fs : List Contents)
+pub ends-rest : (i : ℕ) (k : Kind) (f : Contents) (ks : List Kind) (fs : List Contents)
     → i + length (bytesOf (layoutFrom i (k ∷ ks) (f ∷ fs))) ≡ ends i k f + length (bytesOf (layoutFrom (ends i k f) ks fs))
 ends-rest i k none ks fs = refl
 ends-rest i k (some v) ks fs =
@@ -66,7 +66,7 @@ second-held : (k j : Kind) (js : List Kind) (f : Contents) (v : List ℕ) (fs : 
 second-held k j js none v fs w = w .1 .0
 second-held k j js (some x) v fs w = w .1 .0
 
-split-length : (size : ℕ) → length (splitBytes size) ≡ 4
+pub split-length : (size : ℕ) → length (splitBytes size) ≡ 4
 split-length size = length-append (digitsBE 256 2 size) (0 ∷ 0 ∷ []) ∙ omega (arith, length-digitsBE 256 2 size)
 
 -- split controls made anew

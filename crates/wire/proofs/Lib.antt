@@ -8,3 +8,4 @@ pub mod SendingLaws
 pub mod AgainLaws
 pub mod RightLaws
 pub mod ChangedLaws
+pub mod PayloadLaws

@@ -324,7 +324,7 @@ write-one m old r s out other p q = (p .answer ∙ sym (q .answer), p .output �
 pub changed-reads : ChangedReads
 changed-reads ks m n c w a j h = written-reads ks (changed ks m n c) (changed-well ks m n c w a j h)
 
-authority-joins : (t : ℕ) (fs : List Contents) → kindsOf t ≡ some authorityKinds → joined t fs ≡ true
+pub authority-joins : (t : ℕ) (fs : List Contents) → kindsOf t ≡ some authorityKinds → joined t fs ≡ true
 unfolding joined kindsOf
 authority-joins t fs k = by (eqb t 4) refl
   where
@@ -335,7 +335,7 @@ authority-joins t fs k = by (eqb t 4) refl
         absurd (let z : _≡_ {A = ℕ} 6 9 = ap length j in omega arith)
     by false q = rw q
 
-payload-held : (v : List ℕ) → Bytes v → length v ≤ 1232 → Held (may 0x5A true Any []) v
+pub payload-held : (v : List ℕ) → Bytes v → length v ≤ 1232 → Held (may 0x5A true Any []) v
 unfolding hasShape
 payload-held v b h = record { shaped = refl; clear = refl; whole = b; short = omega arith }
 

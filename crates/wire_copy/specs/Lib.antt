@@ -1,1 +1,2 @@
 pub mod Resent
+pub mod Payload

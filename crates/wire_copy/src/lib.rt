@@ -1,5 +1,8 @@
 // A message of any of the eight types that was read from a datagram, written again from where it was read, by the one
 // writer of `wire_write`.
+mod payload;
+
+pub use payload::write_payload;
 use wire_fields::Part;
 use wire_read::Answer;
 use wire_read::Head;
@@ -33,7 +36,7 @@ ghost use Rattle.wire_write.specs.Writing.{Wrote};
 ghost use Rattle.wire_copy.specs.Resent.{pieceOf, ownIf, resent};
 
 // A place as a piece of the datagram.
-fn piece_of(p: Part) -> Piece
+pub(crate) fn piece_of(p: Part) -> Piece
     ensures { λ r. ⌜ r ≡ pieceOf p ⌝ }
 {
     if let Part::Here(start, len) = p {
@@ -66,7 +69,7 @@ fn own_if(there: bool, start: usize, len: usize) -> Piece
     }
 }
 
-fn bit_of(b: bool) -> u8
+pub(crate) fn bit_of(b: bool) -> u8
     ensures { λ r. ⌜ r ≡ bit b ⌝ }
     ensures { λ r. ⌜ r < 2 ⌝ }
 {
@@ -74,7 +77,7 @@ fn bit_of(b: bool) -> u8
 }
 
 // The second byte of a buffer's flags: B, and N.
-fn busy_and_none(b: bool, n: bool) -> u8
+pub(crate) fn busy_and_none(b: bool, n: bool) -> u8
     ensures { λ r. ⌜ r ≡ 8 * bit b + bit n ⌝ }
 {
     let busy = bit_of(b);

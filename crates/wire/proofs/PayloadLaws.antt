@@ -1,0 +1,79 @@
+-- Laws of an AUTHORITY written again with another payload: what is made is the message with that field changed. In this order: it is right; what follows the
+-- split controls; the whole. Assumes nothing.
+use Prim.Native.Nat.{ℕ, _+_, _-_, _*_, _≤_, _<_}
+use native.Mathlib.Omega.{arith}
+use mathlib.Core.List.{List, [], _∷_, _++_}
+use mathlib.Core.Bool.{Bool, true, false, cond, _&&_}
+use mathlib.Core.Option.{Option, some, none}
+use mathlib.Core.Path.{_≡_, refl, sym, ap, ap₂, subst, _∙_}
+use lib.Dec.{leb}
+use lib.ListN.{length, take, drop}
+use lib.Seq.{take-length}
+use borrow.Author.Tests.{le-leb}
+use Rattle.octet.specs.Number.{digitsBE, Bytes}
+use Rattle.octet.specs.Part.{part}
+use Rattle.octet.proofs.TestLaws.{and-true}
+use Rattle.wire_fields.specs.Shapes.{hasShape}
+use Rattle.wire_fields.specs.declared.Part.{Part}
+use Rattle.wire_fields.specs.declared.Shape.the-variants.{Any, Entry}
+use Rattle.wire_fields.specs.Kinds.{codes, bufferKinds, authorityKinds, kindsOf}
+use Rattle.wire_fields.specs.Message.{Contents, Message, Formed, WellFormed, layoutFrom, layoutOf, bytesOf}
+use Rattle.wire_fields.specs.Reading.{contentsIn}
+use Rattle.wire_read.specs.Meaning.{messageOf, held, bit, splitBytes}
+use Rattle.wire_read.specs.declared.Head.{Head}
+use Rattle.wire_read.specs.declared.Inside.{Inside}
+use Rattle.wire_read.specs.declared.Answer.the-variants.{Authority}
+use Rattle.wire_write.specs.Writing.{Made}
+use Rattle.wire_write.specs.Pieces.{Lent, pieceOk, lentOf, kindsOfRows, contentsOf, givensOf, madeBy}
+use Rattle.wire_write.specs.Rows.{mayRow, authorityRows, ownBytes}
+use Rattle.wire_write.specs.declared.Row.{Row}
+use Rattle.wire_copy.specs.Resent.{pieceOf, resent}
+use Rattle.wire_copy.specs.Payload.{carryingPieces, carrying, withPayload}
+use Rattle.wire_copy.proofs.PayloadLaws.{same-ok}
+use Rattle.wire.specs.Statements.{changedAt, changed}
+use Rattle.wire.proofs.AgainLaws.{RowsFor, Same, rows-bytes, table-bytes, authority-rows, piece-is}
+
+-- ---- it is right
+
+right-by : (a b c p q e x : Bool) → a && (b && (c && (p && (e && x)))) ≡ true → q ≡ true → a && (b && (c && (q && (e && x)))) ≡ true
+right-by true true true true q e x h k = rw k h
+right-by true true true false q e x h k = absurd (let z : _≡_ {A = Bool} false true = h in let y : _≡_ {A = ℕ} 0 1 = cc in omega arith)
+right-by true true false p q e x h k = h
+right-by true false c p q e x h k = h
+right-by false b c p q e x h k = h
+
+module _ (major : ℕ) (d : List ℕ) (h : Head) (acked : ℕ) (f : Inside) (v : List ℕ) where
+  -- a piece of the datagram is right for its row, whatever else is lent
+  abbrev stands : Row → Part → Bool
+  stands r p = pieceOk (lentOf [] d []) r (pieceOf p)
+
+  pub carrying-right : (size : ℕ) → resent major d (Authority h acked f) .ok ≡ true → carrying major d h acked f v size .ok ≡ true
+  unfolding resent carrying madeBy digitsBE hasShape
+  carrying-right size e =
+      right-by (stands (mayRow 0x80 true Any) (f .chain)) (stands (mayRow 0x9F true Any) (f .token)) (stands (mayRow 0x85 true codes) (f .classifier))
+      (stands (mayRow 0x5A true Any) (f .payload)) (leb (0 + length v) (length v) && true) (stands (mayRow 0x9A true Entry) (f .entry))
+      (stands (mayRow 0x9B false Any) (f .cpa) && true) e (and-true (leb (0 + length v) (length v)) ∙ le-leb (0 + length v) (length v) (omega arith))
+
+  -- ---- what follows the split controls
+
+  -- the fields behind them, with the payload
+  abbrev behind : List Contents
+  behind =
+      some ((2 * bit (f .l)) ∷ (8 * bit (f .b) + bit (f .n)) ∷ []) ∷ contentsIn d (f .chain) ∷ contentsIn d (f .token) ∷ contentsIn d (f .classifier)
+      ∷ some v ∷ contentsIn d (f .entry) ∷ contentsIn d (f .cpa) ∷ []
+
+  abbrev lentWith : ℕ → Lent
+  lentWith size = lentOf (ownBytes acked size (2 * bit (f .l)) (8 * bit (f .b) + bit (f .n))) d v
+
+  given-behind : (size : ℕ) → Same behind (drop 2 (contentsOf (givensOf major (h .minor) (lentWith size) (carryingPieces f v))))
+  unfolding digitsBE
+  given-behind size =
+      (refl, (piece-is d (f .chain), (piece-is d (f .token), (piece-is d (f .classifier), (ap some (take-length v),
+      (piece-is d (f .entry), (piece-is d (f .cpa), tt)))))))
+
+  followed : Formed bufferKinds behind → length (carrying major d h acked f v 0 .bytes) ≡ 28 + length (bytesOf (layoutFrom 28 bufferKinds behind))
+  unfolding carrying madeBy digitsBE
+  followed g =
+      let e = rows-bytes bufferKinds (drop 2 authorityRows) 28 behind (drop 2 (contentsOf (givensOf major (h .minor) (lentWith 0) (carryingPieces f v))))
+        (authority-rows .2 .2) g (given-behind 0) in
+      omega (arith, ap length e)

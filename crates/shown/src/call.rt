@@ -1,0 +1,87 @@
+// What a record of the trace was: a datagram received, a FLOOD to send, or a tick. The record has its two length
+// bytes and its kind in front, and is of the length of its kind.
+use crate::message;
+use crate::names;
+use crate::text;
+use crate::words;
+
+// The columns that what it was has in a line.
+const COLUMNS: usize = 68;
+
+// A FLOOD that was refused was not sent.
+fn put_verb(line: &mut [u8], at: usize, answer: u32) -> usize {
+    if answer == 0 {
+        return text::put(line, at, b"sent FLOOD ");
+    }
+    text::put(line, at, b"not sent: FLOOD ")
+}
+
+// A record of a FLOOD to send: message ID, neighbour's key, record's key.
+fn put_sent(line: &mut [u8], at: usize, names: &[u8], answer: u32, call: &[u8]) -> usize {
+    if call.len() != 72 {
+        return at;
+    }
+    let a = put_verb(line, at, answer);
+    let b = text::number(line, a, octet::read_u32_le(call, 4) as u64);
+    let c = text::put(line, b, b" to ");
+    let d = names::put_whose(line, c, names, &call[8..40]);
+    let e = text::put(line, d, b" about ");
+    names::put_whose(line, e, names, &call[40..72])
+}
+
+fn put_call(
+    line: &mut [u8],
+    at: usize,
+    names: &[u8],
+    major: u8,
+    answer: u32,
+    call: &[u8],
+) -> usize {
+    if night::is_end(answer) {
+        return text::put(line, at, b"a record that cannot be used");
+    }
+    match message::byte(call, 2) {
+        1 => message::put_received(line, at, names, major, call),
+        2 => put_sent(line, at, names, answer, call),
+        3 => text::put(line, at, b"tick"),
+        _ => at,
+    }
+}
+
+pub(crate) fn say_heading() {
+    text::tell(
+        b"Record  What it was                                                           Answer\n",
+    );
+}
+
+// The rest of a line, where what the record was stands from a place on: its answer. What is too long for its columns
+// moves the answer on.
+fn say_answer(line: &mut [u8], start: usize, end: usize, answer: u32) {
+    let taken = text::characters(text::part(line, start, end));
+    let a = text::blanks(line, end, taken, COLUMNS);
+    let b = text::put(line, a, b"  ");
+    let c = words::put_answer(line, b, answer as u64);
+    text::say(line, c);
+}
+
+// The line of a record: its number, what it was, its answer.
+pub(crate) fn say_call(
+    line: &mut [u8],
+    names: &[u8],
+    at: u64,
+    major: u8,
+    answer: u32,
+    call: &[u8],
+) {
+    let a = text::column(line, 0, at, 6);
+    let start = text::put(line, a, b"  ");
+    let end = put_call(line, start, names, major, answer, call);
+    say_answer(line, start, end, answer);
+}
+
+// The line of a trace without any record, in which the opening one is missing.
+pub(crate) fn say_none(line: &mut [u8]) {
+    let start = text::put(line, 0, b"     0  ");
+    let end = text::put(line, start, b"no record: the trace is empty");
+    say_answer(line, start, end, 17);
+}

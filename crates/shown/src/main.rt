@@ -1,0 +1,160 @@
+// What the keeper of the accounts reads of a recorded night: each record of the trace with its answer, what the gauge
+// kept at the end, and how often each answer was given.
+//
+// The trace, in the form of document 02's request 1, is standard input. Pond names are text at file descriptor 3
+// (names.rt), which need not be open. Each call is made by `night::step`, and nothing else here changes the gauge's
+// memory.
+mod call;
+mod message;
+mod names;
+mod state;
+mod text;
+mod totals;
+mod whose;
+mod words;
+
+// Room for a line that is written, and for the pond names; of a longer text the rest is not read.
+const LINE: usize = 512;
+
+const NAMES: usize = 65536;
+
+// The record that opens the night: whose it is. Answers whether to go on.
+fn open(line: &mut [u8], names: &[u8], opening: &[u8], answer: u32) -> bool {
+    if night::is_end(answer) {
+        call::say_heading();
+        call::say_call(line, names, 0, 0, answer, b"");
+        return false;
+    }
+    whose::say_whose(line, names, opening);
+    words::say_glossary();
+    call::say_heading();
+    true
+}
+
+// A record behind it: a call. Answers whether to go on.
+fn go_on(
+    line: &mut [u8],
+    names: &[u8],
+    at: u64,
+    opening: &[u8],
+    answer: u32,
+    record: &[u8],
+    counts: &mut [u64; 18],
+) -> bool {
+    call::say_call(line, names, at, whose::major(opening), answer, record);
+    totals::count(counts, answer);
+    !night::is_end(answer)
+}
+
+// The trace has ended. Where it had no record at all, the opening one is missing.
+fn end(line: &mut [u8], at: u64) -> bool {
+    if at == 0 {
+        call::say_heading();
+        call::say_none(line);
+    }
+    false
+}
+
+// The next record, if there is one. Answers whether to go on.
+fn one(
+    line: &mut [u8],
+    names: &[u8],
+    at: u64,
+    room: &mut [u8],
+    opening: &mut [u8],
+    cache: &mut [u8],
+    waiting: &mut [u8],
+    counts: &mut [u64; 18],
+) -> bool {
+    let len = night::next_record(room);
+    if len == 0 {
+        return end(line, at);
+    }
+    let answer = night::step(at, opening, cache, waiting, text::part(room, 0, len));
+    if at == 0 {
+        return open(line, names, opening, answer);
+    }
+    go_on(
+        line,
+        names,
+        at,
+        opening,
+        answer,
+        text::part(room, 0, len),
+        counts,
+    )
+}
+
+// The records, one after the other, up to the end or the first bad one. Answers how many were good. A proved loop has
+// to end, and nothing says that the input does; no input has so many records as this one can count.
+fn each(
+    line: &mut [u8],
+    names: &[u8],
+    room: &mut [u8],
+    opening: &mut [u8],
+    cache: &mut [u8],
+    waiting: &mut [u8],
+    counts: &mut [u64; 18],
+) -> u64 {
+    let mut at = 0u64;
+    while at < u64::MAX {
+        if !one(line, names, at, room, opening, cache, waiting, counts) {
+            return at;
+        }
+        at += 1;
+    }
+    at
+}
+
+// Behind the records: why there are no more, what the gauge kept, how often each answer was given.
+fn say_end(
+    line: &mut [u8],
+    names: &[u8],
+    good: u64,
+    opening: &[u8],
+    cache: &[u8],
+    waiting: &[u8],
+    counts: &[u64; 18],
+) {
+    if totals::is_stopped(counts) {
+        text::tell(
+            b"The replay stopped at this record. What follows it in the trace was not looked at.\n",
+        );
+    }
+    if good == 0 {
+        return text::tell(
+            b"The trace does not open with a gauge's own record, as a night must: there is no more to show.\n",
+        );
+    }
+    state::say_state(line, names, opening, cache, waiting);
+    totals::say_totals(line, counts);
+}
+
+fn main() {
+    let mut line = [0u8; LINE];
+    let mut names = [0u8; NAMES];
+    let mut room = [0u8; night::RECORD];
+    let mut opening = [0u8; night::OPENING];
+    let mut cache = [0u8; night::CACHE];
+    let mut waiting = [0u8; night::WAITING];
+    let mut counts = [0u64; 18];
+    let len = io::read_full(3, &mut names);
+    let good = each(
+        &mut line,
+        text::part(&names, 0, len),
+        &mut room,
+        &mut opening,
+        &mut cache,
+        &mut waiting,
+        &mut counts,
+    );
+    say_end(
+        &mut line,
+        text::part(&names, 0, len),
+        good,
+        &opening,
+        &cache,
+        &waiting,
+        &counts,
+    );
+}

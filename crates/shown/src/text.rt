@@ -1,0 +1,77 @@
+// A line of text, put together in a slice and written at once. Each function that puts something answers where it
+// ends; what finds no room is left out.
+
+// The part of a slice, empty where it does not lie within.
+pub(crate) fn part(s: &[u8], start: usize, end: usize) -> &[u8] {
+    if s.len() < end {
+        return &s[0..0];
+    }
+    if end < start {
+        return &s[0..0];
+    }
+    &s[start..end]
+}
+
+pub(crate) fn put(line: &mut [u8], at: usize, s: &[u8]) -> usize {
+    if line.len() < s.len() {
+        return at;
+    }
+    if line.len() - s.len() < at {
+        return at;
+    }
+    octet::copy_to(line, at, s);
+    at + s.len()
+}
+
+// Blanks behind what has taken so many columns, up to a width of 80 columns at most.
+pub(crate) fn blanks(line: &mut [u8], at: usize, taken: usize, width: usize) -> usize {
+    if width < taken {
+        return at;
+    }
+    let all = [b' '; 80];
+    put(line, at, part(&all, 0, width - taken))
+}
+
+pub(crate) fn number(line: &mut [u8], at: usize, n: u64) -> usize {
+    column(line, at, n, 0)
+}
+
+// A number at the right end of a column.
+pub(crate) fn column(line: &mut [u8], at: usize, n: u64, width: usize) -> usize {
+    let mut digits = [0u8; 20];
+    let count = io::decimal(n, &mut digits);
+    let start = blanks(line, at, count, width);
+    put(line, start, &digits[..count])
+}
+
+// Eight hexadecimal digits.
+pub(crate) fn digits(line: &mut [u8], at: usize, n: u64) -> usize {
+    let mut digits = [0u8; 16];
+    let count = io::hex(n, 8, &mut digits);
+    put(line, at, &digits[..count])
+}
+
+// How many characters: of a character's bytes in UTF-8 only the first counts.
+pub(crate) fn characters(s: &[u8]) -> usize {
+    let mut count = 0;
+    let mut i = 0;
+    while i < s.len() {
+        let first = s[i] / 64 != 2;
+        i += 1;
+        if first {
+            count += 1;
+        }
+    }
+    count
+}
+
+// Writes the line, which ends there.
+pub(crate) fn say(line: &mut [u8], at: usize) {
+    let end = put(line, at, b"\n");
+    io::write_all(1, part(line, 0, end));
+}
+
+// Writes text that has its own line ends.
+pub(crate) fn tell(s: &[u8]) {
+    io::write_all(1, s);
+}

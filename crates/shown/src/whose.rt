@@ -1,0 +1,56 @@
+// Whose night it was: the record that opens the trace, two versions and the gauge's own record.
+use crate::names;
+use crate::text;
+
+fn wide(x: u8) -> u64 {
+    x as u64
+}
+
+// The own record, behind the two versions.
+pub(crate) fn own_of(opening: &[u8]) -> &[u8] {
+    text::part(opening, 2, 102)
+}
+
+// The major version of the messages that the gauge reads.
+pub(crate) fn major(opening: &[u8]) -> u8 {
+    if opening.len() == 0 {
+        return 0;
+    }
+    opening[0]
+}
+
+fn say_own_key(line: &mut [u8], names: &[u8], own: &[u8]) {
+    let a = text::put(line, 0, b"Night of  ");
+    let b = names::put_whose(line, a, names, text::part(own, 0, 32));
+    text::say(line, b);
+    let c = text::put(line, 0, b"Own key   ");
+    let d = names::put_key(line, c, text::part(own, 0, 32));
+    text::say(line, d);
+}
+
+fn say_versions(line: &mut [u8], opening: &[u8]) {
+    if opening.len() < 2 {
+        return;
+    }
+    let a = text::put(line, 0, b"Versions  major ");
+    let b = text::number(line, a, wide(opening[0]));
+    let c = text::put(line, b, b", minor ");
+    let d = text::number(line, c, wide(opening[1]));
+    text::say(line, d);
+}
+
+// Whose night: the opening record has been taken.
+pub(crate) fn say_whose(line: &mut [u8], names: &[u8], opening: &[u8]) {
+    let own = own_of(opening);
+    say_own_key(line, names, own);
+    say_versions(line, opening);
+    if record::is_record(own) {
+        return text::tell(b"\n");
+    }
+    text::tell(
+        b"\nThis gauge's own record, with which the trace opens, is not as a record must be. So every call is refused\n",
+    );
+    text::tell(
+        b"with number 1, and the gauge has kept nothing: the trace was recorded wrongly, or is damaged.\n\n",
+    );
+}

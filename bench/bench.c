@@ -1,0 +1,257 @@
+/* The calls of the archive and of plain C (bench/plain.c) on the same memory, in one process.
+ *
+ *   bench          by the clock: rounds in which each takes its turn, and the median of the ratios
+ *   bench once     each call once, between two calls of `mark`, and a line that names it: for bench/instructions
+ *
+ * First each scene is made by all of them: a number, count or byte that differs, or an answer that document 01 does not give, ends the run with status 1.
+ * Memory is put back before each call, and outside of what is measured. What a call of an empty function costs is taken off. */
+#define _POSIX_C_SOURCE 199309L
+#include "plain.h"
+#include "scene.h"
+#include <stdbool.h>
+#include <stdio.h>
+#include <stdlib.h>
+#include <string.h>
+#include <time.h>
+
+#define ROUNDS 1501
+#define MAJOR 6
+#define MINOR 101
+
+PLAIN_CALLS(gcc);
+PLAIN_CALLS(gcc_halves);
+PLAIN_CALLS(clang);
+PLAIN_CALLS(clang_halves);
+
+/* Those who make the calls: the archive is the first, the empty functions are the last. */
+
+struct side {
+    const char *name;
+    bool halves;
+    struct gauge_answer (*receive)(const uint8_t *, size_t, const uint8_t *, size_t, uint8_t *, size_t, uint8_t *, size_t, uint8_t, uint8_t, uint32_t,
+                                   const uint8_t *, size_t, uint32_t, const uint8_t *, size_t, const uint8_t *, size_t, uint8_t *, size_t);
+    struct gauge_answer (*send)(const uint8_t *, size_t, const uint8_t *, size_t, uint8_t *, size_t, uint8_t, uint8_t, uint32_t, const uint8_t *, size_t,
+                                const uint8_t *, size_t, uint8_t *, size_t);
+    struct gauge_answer (*tick)(const uint8_t *, size_t, uint8_t *, size_t, uint8_t *, size_t);
+    struct gauge_answer (*neighbours)(const uint8_t *, size_t, const uint8_t *, size_t, uint8_t *, size_t);
+    struct gauge_look (*look)(uint8_t, const uint8_t *, size_t);
+};
+
+PLAIN_CALLS(empty);
+#define SIDE(name, halves) {#name, halves, name##_receive, name##_send, name##_tick, name##_neighbours, name##_look}
+static const struct side sides[] = {
+    SIDE(gauge, false),
+    SIDE(gcc, false),
+    SIDE(gcc_halves, true),
+#ifdef CLANG
+    SIDE(clang, false),
+    SIDE(clang_halves, true),
+#endif
+    SIDE(empty, false),
+};
+#define SIDES (sizeof sides / sizeof *sides)
+#define EMPTY (SIDES - 1)
+
+/* What a call leaves: its answer, and the memory that it may write. Lent from one place to all sides. */
+struct left {
+    uint32_t answer[12];
+    uint8_t cache[GAUGE_CACHE_LEN(GAUGE_CACHE_MOST)], waiting[GAUGE_WAITING_LEN], output[GAUGE_OUTPUT_LEN];
+};
+
+static struct scene scene;
+static struct left lent;
+static uint64_t began, ended;
+
+__attribute__((noinline)) void mark(void)
+{
+    __asm__ volatile("");
+}
+
+static inline uint64_t ticks(void)
+{
+    __builtin_ia32_lfence();
+    uint64_t n = __builtin_ia32_rdtsc();
+    __builtin_ia32_lfence();
+    return n;
+}
+
+static inline void begin(void)
+{
+    mark();
+    began = ticks();
+}
+
+static inline void end(void)
+{
+    ended = ticks();
+    mark();
+}
+
+static void put_back(void)
+{
+    memcpy(lent.cache, scene.cache, scene.cache_len);
+    memcpy(lent.waiting, scene.waiting, sizeof lent.waiting);
+    memset(lent.output, 0xA5, sizeof lent.output);
+}
+
+static struct gauge_answer answered(const struct side *by)
+{
+    const struct scene *s = &scene;
+    struct gauge_answer a = {0, 0, 0};
+    switch (s->call) {
+    case RECEIVE:
+        begin();
+        a = by->receive(s->own, sizeof s->own, s->cpa, sizeof s->cpa, lent.cache, s->cache_len, lent.waiting, sizeof lent.waiting, MAJOR, MINOR, s->id,
+                        s->nonce, sizeof s->nonce, GAUGE_GOOD, s->key, sizeof s->key, s->datagram, s->datagram_len, lent.output, s->room);
+        end();
+        break;
+    case SEND:
+        begin();
+        a = by->send(s->own, sizeof s->own, lent.cache, s->cache_len, lent.waiting, sizeof lent.waiting, MAJOR, MINOR, s->id, s->neighbour,
+                     sizeof s->neighbour, s->key, sizeof s->key, lent.output, s->room);
+        end();
+        break;
+    case TICK:
+        begin();
+        a = by->tick(s->own, sizeof s->own, lent.waiting, sizeof lent.waiting, lent.output, s->room);
+        end();
+        break;
+    default:
+        begin();
+        a = by->neighbours(s->own, sizeof s->own, lent.cache, s->cache_len, lent.output, s->room);
+        end();
+        break;
+    }
+    return a;
+}
+
+/* Makes the call, and puts its answer into what is left. */
+static void make(const struct side *by)
+{
+    put_back();
+    memset(lent.answer, 0, sizeof lent.answer);
+    if (scene.call == LOOK) {
+        begin();
+        struct gauge_look l = by->look(MAJOR, scene.datagram, scene.datagram_len);
+        end();
+        memcpy(lent.answer, &l, sizeof l);
+    } else {
+        struct gauge_answer a = answered(by);
+        memcpy(lent.answer, &a, sizeof a);
+    }
+}
+
+static bool same_left(const struct left *a, const struct left *b)
+{
+    return memcmp(a->answer, b->answer, sizeof a->answer) == 0 && memcmp(a->cache, b->cache, scene.cache_len) == 0
+           && memcmp(a->waiting, b->waiting, sizeof a->waiting) == 0 && memcmp(a->output, b->output, sizeof a->output) == 0;
+}
+
+/* All sides leave the same, and document 01's answer. */
+static void agree(size_t c)
+{
+    static struct left first;
+    for (size_t i = 0; i < EMPTY; i++) {
+        make(&sides[i]);
+        if (i == 0)
+            memcpy(&first, &lent, sizeof lent);
+        if (!same_left(&first, &lent)) {
+            printf("bench: %s, C %zu: %s differs from the archive\n", scene.name, c, sides[i].name);
+            exit(1);
+        }
+    }
+    size_t told = scene.call == LOOK ? 2 : 3;
+    if (memcmp(first.answer, &scene.wanted, told * sizeof(uint32_t)) != 0) {
+        printf("bench: %s, C %zu: answers %u, %u, %u, and not %u, %u, %u\n", scene.name, c, first.answer[0], first.answer[1], first.answer[2],
+               scene.wanted.number, scene.wanted.first, scene.wanted.second);
+        exit(1);
+    }
+}
+
+static void once(size_t c)
+{
+    for (size_t i = 0; i < SIDES; i++) {
+        make(&sides[i]);
+        printf("%zu;%s;%s\n", c, scene.name, sides[i].name);
+    }
+}
+
+/* By the clock. */
+
+static int by_size(const void *a, const void *b)
+{
+    double x = *(const double *)a, y = *(const double *)b;
+    return (x > y) - (x < y);
+}
+
+static double median(double *v, size_t n)
+{
+    qsort(v, n, sizeof *v, by_size);
+    return v[n / 2];
+}
+
+/* Ticks of the processor's clock in a nanosecond, found by waiting for a while. */
+static double ticks_per_ns(void)
+{
+    struct timespec from, to;
+    uint64_t start = ticks();
+    clock_gettime(CLOCK_MONOTONIC, &from);
+    do
+        clock_gettime(CLOCK_MONOTONIC, &to);
+    while ((to.tv_sec - from.tv_sec) * 1000000000 + to.tv_nsec - from.tv_nsec < 50000000);
+    return (double)(ticks() - start) / (double)((to.tv_sec - from.tv_sec) * 1000000000 + to.tv_nsec - from.tv_nsec);
+}
+
+struct measured {
+    double ns, same, halves; /* of the archive; its ratio to the best plain C, and to the best that halves */
+};
+
+static struct measured measure(double per_ns)
+{
+    static double took[SIDES][ROUNDS], ratio[ROUNDS];
+    struct measured m = {0, 0, 0};
+    for (size_t round = 0; round < ROUNDS; round++)
+        for (size_t turn = 0; turn < SIDES; turn++) {
+            size_t i = round % 2 == 0 ? turn : SIDES - 1 - turn;
+            make(&sides[i]);
+            took[i][round] = (double)(ended - began);
+        }
+    double call = median(took[EMPTY], ROUNDS);
+    for (size_t i = 1; i < EMPTY; i++) {
+        for (size_t round = 0; round < ROUNDS; round++) {
+            double other = took[i][round] - call;
+            ratio[round] = (took[0][round] - call) / (other < 1 ? 1 : other);
+        }
+        double *best = sides[i].halves ? &m.halves : &m.same, r = median(ratio, ROUNDS);
+        if (r > *best)
+            *best = r;
+    }
+    m.ns = (median(took[0], ROUNDS) - call) / per_ns;
+    return m;
+}
+
+int main(int argc, char **argv)
+{
+    static const size_t sizes[] = {10, 64, 256};
+    bool by_clock = !(argc > 1 && strcmp(argv[1], "once") == 0);
+    double per_ns = by_clock ? ticks_per_ns() : 1;
+    if (by_clock)
+        printf("%-36s%21s%21s%21s\n%-36s%21s%21s%21s\n", "by the clock", "C 10         ", "C 64         ", "C 256        ", "", "ns  same halving",
+               "ns  same halving", "ns  same halving");
+    for (size_t i = 0; i < scenes; i++) {
+        for (size_t k = 0; k < 3; k++) {
+            set_scene(&scene, i, sizes[k]);
+            agree(sizes[k]);
+            if (!by_clock) {
+                once(sizes[k]);
+                continue;
+            }
+            struct measured m = measure(per_ns);
+            if (k == 0)
+                printf("%-36s", scene.name);
+            printf("%8.0f%6.2f%7.2f%s", m.ns, m.same, m.halves, k == 2 ? "\n" : "");
+            fflush(stdout);
+        }
+    }
+    return 0;
+}

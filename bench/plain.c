@@ -1,0 +1,890 @@
+/* The five calls in plain C, written for speed: what the archive is measured against. It makes every test of document 01 and gives the same numbers and
+ * bytes; nothing is written before the last refusal is decided. Numbers are loaded whole and swapped, keys compared by words up to the first that
+ * differ, runs of bytes moved by the C library. For x86-64: words are read least significant byte first.
+ *
+ *   PLAIN    begins the names of the calls
+ *   HALVE    keys are searched by halving, and the closest record is one of those next to the target. Without it every record is looked at in turn,
+ *            as the archive does. */
+#include "plain.h"
+#include <stdbool.h>
+#include <string.h>
+
+#ifndef PLAIN
+#define PLAIN plain
+#endif
+#define JOINED(a, b) a##_##b
+#define JOIN(a, b) JOINED(a, b)
+#define CALL(name) JOIN(PLAIN, name)
+#define NOT_IN_FORM SIZE_MAX
+
+/* Numbers as they are loaded. */
+
+static inline uint16_t two(const uint8_t *p)
+{
+    uint16_t n;
+    memcpy(&n, p, 2);
+    return __builtin_bswap16(n);
+}
+
+static inline uint32_t four(const uint8_t *p)
+{
+    uint32_t n;
+    memcpy(&n, p, 4);
+    return __builtin_bswap32(n);
+}
+
+static inline uint32_t id_at(const uint8_t *p)
+{
+    uint32_t n;
+    memcpy(&n, p, 4);
+    return n;
+}
+
+static inline uint64_t word(const uint8_t *p)
+{
+    uint64_t n;
+    memcpy(&n, p, 8);
+    return n;
+}
+
+static inline uint64_t big(const uint8_t *p)
+{
+    return __builtin_bswap64(word(p));
+}
+
+/* Are the last three words of two keys the same? Most keys differ in the first. */
+static inline bool same_rest(const uint8_t *a, const uint8_t *b)
+{
+    return ((word(a + 8) ^ word(b + 8)) | (word(a + 16) ^ word(b + 16)) | (word(a + 24) ^ word(b + 24))) == 0;
+}
+
+static inline bool same_key(const uint8_t *a, const uint8_t *b)
+{
+    return word(a) == word(b) && same_rest(a, b);
+}
+
+/* The order of two keys whose first words are x and y. */
+static inline bool less(uint64_t x, const uint8_t *a, uint64_t y, const uint8_t *b)
+{
+    for (int i = 8; x == y && i < 32; i += 8) {
+        x = big(a + i);
+        y = big(b + i);
+    }
+    return x < y;
+}
+
+static bool all_zero(const uint8_t *p, size_t n)
+{
+    uint64_t any = 0;
+    for (; n >= 32; p += 32, n -= 32)
+        any |= word(p) | word(p + 8) | word(p + 16) | word(p + 24);
+    for (; n >= 8; p += 8, n -= 8)
+        any |= word(p);
+    for (; n > 0; p++, n--)
+        any |= *p;
+    return any == 0;
+}
+
+/* Form. */
+
+static inline bool record_formed(const uint8_t *r)
+{
+    uint64_t rest = r[35];
+    switch (r[34]) {
+    case 1: rest |= word(r + 52) | word(r + 60); /* fall through */
+    case 2: rest |= word(r + 68) | word(r + 76); /* fall through */
+    case 3: rest |= word(r + 84) | word(r + 92); /* fall through */
+    case 4: return rest == 0;
+    default: return false;
+    }
+}
+
+static bool own_formed(const uint8_t *own, size_t len)
+{
+    return len == 100 && record_formed(own);
+}
+
+/* How many records are held. The first word of the key before is carried along. */
+static size_t cache_form(const uint8_t *own, const uint8_t *cache, size_t len)
+{
+    if (len < 1000 || len > 25600 || len % 100 != 0)
+        return NOT_IN_FORM;
+    const uint8_t *r = cache, *end = cache + len;
+    uint64_t before = 0, ours = big(own);
+    for (; r < end && record_formed(r); r += 100) {
+        uint64_t top = big(r);
+        if (top <= before && r != cache && !less(before, r - 100, top, r))
+            return NOT_IN_FORM;
+        if (top == ours && same_rest(r, own))
+            return NOT_IN_FORM;
+        before = top;
+    }
+    return all_zero(r, (size_t)(end - r)) ? (size_t)(r - cache) / 100 : NOT_IN_FORM;
+}
+
+static bool inquiry_formed(const uint8_t *own, const uint8_t *waiting, const uint8_t *p)
+{
+    if (!record_formed(p + 40) || !same_key(p + 8, p + 40) || same_key(p + 8, own))
+        return false;
+    for (const uint8_t *q = waiting; q < p; q += 140)
+        if (word(q + 8) == word(p + 8) && q[4] == 2 && same_rest(q + 8, p + 8))
+            return false;
+    return true;
+}
+
+/* How many places are used. The first eight bytes of a place are one word: ID, kind, tries and two that are zero. */
+static size_t waiting_form(const uint8_t *own, const uint8_t *waiting, size_t len)
+{
+    if (len != 2240)
+        return NOT_IN_FORM;
+    const uint8_t *p = waiting, *end = waiting + 2240;
+    uint64_t least = 0;
+    for (; p < end && p[4] != 0; p += 140) {
+        uint64_t head = word(p), id = head & 0xFFFFFFFF;
+        if (head >> 40 > 2 || id < least)
+            return NOT_IN_FORM;
+        if (p[4] == 2 ? !inquiry_formed(own, waiting, p) : p[4] != 1 || !all_zero(p + 40, 100))
+            return NOT_IN_FORM;
+        least = id + 1;
+    }
+    return all_zero(p, (size_t)(end - p)) ? (size_t)(p - waiting) / 140 : NOT_IN_FORM;
+}
+
+/* Reading. A field of known length is told by its first four bytes at once. */
+
+struct message {
+    struct gauge_look seen;
+    uint32_t validate_at;
+    bool d, n;
+};
+
+struct place {
+    const uint8_t *d;
+    uint32_t len, at;
+};
+
+static inline bool here(const struct place *p, unsigned number)
+{
+    return p->len - p->at >= 2 && two(p->d + p->at) == number;
+}
+
+static inline bool skip(struct place *p, uint32_t n)
+{
+    if (p->len - p->at < n)
+        return false;
+    p->at += n;
+    return true;
+}
+
+static inline bool padding(struct place *p)
+{
+    return skip(p, -p->at & 3);
+}
+
+/* A field with so many bytes of contents; `head` is its number and its length. */
+static inline bool fixed(struct place *p, uint32_t head, uint32_t *at)
+{
+    uint32_t len = head & 0xFFFF;
+    if (p->len - p->at < len || four(p->d + p->at) != head)
+        return false;
+    *at = p->at + 4;
+    p->at += len;
+    return true;
+}
+
+static inline bool field(struct place *p, unsigned number, uint32_t *at, uint32_t *contents)
+{
+    if (p->len - p->at < 4 || two(p->d + p->at) != number)
+        return false;
+    uint32_t len = two(p->d + p->at + 2);
+    if (len < 4 || len > p->len - p->at)
+        return false;
+    *at = p->at + 4;
+    *contents = len - 4;
+    p->at += len;
+    return true;
+}
+
+static inline bool optional(struct place *p, unsigned number)
+{
+    uint32_t at, len;
+    return !here(p, number) || field(p, number, &at, &len);
+}
+
+static inline bool optional_padded(struct place *p, unsigned number)
+{
+    uint32_t at, len;
+    return !here(p, number) || (field(p, number, &at, &len) && padding(p));
+}
+
+static bool signatures(struct place *p)
+{
+    return optional(p, 0x0080) && optional(p, 0x00A5) && optional(p, 0x00A6);
+}
+
+static bool optional_entry(struct place *p, struct gauge_look *m)
+{
+    if (!here(p, 0x009A))
+        return true;
+    if (!field(p, 0x009A, &m->entry_at, &m->entry_len) || m->entry_len < 38)
+        return false;
+    uint32_t count = p->d[m->entry_at + 37];
+    return count >= 1 && count <= 4 && m->entry_len == 38 + 16 * count && padding(p);
+}
+
+static bool array(struct place *p, unsigned number, uint32_t element, uint32_t size, uint32_t least, uint32_t most)
+{
+    uint32_t at, len;
+    if (!field(p, number, &at, &len) || len < 8)
+        return false;
+    uint32_t count = two(p->d + at);
+    return count >= least && count <= most && len == 8 + count * size && two(p->d + at + 2) == len && four(p->d + at + 4) == (element << 16 | size);
+}
+
+static bool keys(struct place *p)
+{
+    return array(p, 0x0060, 0x0030, 0x20, 0, 0x7FFF);
+}
+
+static bool endpoints(struct place *p)
+{
+    return array(p, 0x009E, 0x009D, 0x12, 1, 22);
+}
+
+static inline bool acked(struct place *p, struct gauge_look *m)
+{
+    uint32_t at;
+    if (!fixed(p, 0x00180008, &at))
+        return false;
+    m->acked = four(p->d + at);
+    return true;
+}
+
+static inline bool nonce(struct place *p, struct gauge_look *m, uint32_t head)
+{
+    m->nonce_len = (head & 0xFFFF) - 4;
+    return fixed(p, head, &m->nonce_at);
+}
+
+static bool solicit(struct place *p, struct gauge_look *m)
+{
+    return optional_entry(p, m) && nonce(p, m, 0x00920018);
+}
+
+static bool advertise(struct place *p, struct gauge_look *m)
+{
+    return acked(p, m) && keys(p) && nonce(p, m, 0x00920018);
+}
+
+static bool request(struct place *p, struct gauge_look *m)
+{
+    uint32_t at;
+    if (here(p, 0x0040) && !(fixed(p, 0x00400006, &at) && skip(p, 2)))
+        return false;
+    if (here(p, 0x0098) && !(fixed(p, 0x00980008, &at) && two(p->d + at) == p->len - p->at && two(p->d + at + 2) == 0))
+        return false;
+    return nonce(p, m, 0x00930014) && keys(p) && signatures(p);
+}
+
+static bool flood(struct place *p, struct message *m)
+{
+    uint32_t at;
+    if (!fixed(p, 0x00430007, &at) || !skip(p, 1) || !fixed(p, 0x00390024, &m->validate_at) || !optional_padded(p, 0x009F))
+        return false;
+    m->d = p->d[at + 1] & 1;
+    if (here(p, 0x009C) && !(field(p, 0x009C, &m->seen.cpa_at, &m->seen.cpa_len) && padding(p)))
+        return false;
+    if (!optional_entry(p, &m->seen) || (m->seen.cpa_at != 0) == (m->seen.entry_at != 0))
+        return false;
+    return !here(p, 0x009E) || endpoints(p);
+}
+
+static bool inquire(struct place *p, struct message *m)
+{
+    uint32_t at;
+    if (!fixed(p, 0x00400006, &at) || !skip(p, 2) || !fixed(p, 0x00390024, &m->validate_at))
+        return false;
+    if (here(p, 0x0093) && !nonce(p, &m->seen, 0x00930014))
+        return false;
+    return signatures(p);
+}
+
+/* An AUTHORITY gives 7 where it is not its whole buffer, and 6 where a field is bad. */
+static uint32_t authority(struct place *p, struct gauge_look *m)
+{
+    uint32_t at;
+    if (!acked(p, m) || !fixed(p, 0x00980008, &at))
+        return 6;
+    uint32_t size = two(p->d + at), offset = two(p->d + at + 2);
+    if (size > 0x91E4 || offset % 1188 != 0)
+        return 6;
+    if (offset != 0 || size != p->len - p->at)
+        return 7;
+    if (!fixed(p, 0x00400006, &at) || !skip(p, 2) || !optional_padded(p, 0x0080) || !optional_padded(p, 0x009F))
+        return 6;
+    if (here(p, 0x0085) && !(array(p, 0x0085, 0x0084, 2, 0, 0x7FFF) && padding(p)))
+        return 6;
+    if (!optional_padded(p, 0x005A) || !optional_entry(p, m))
+        return 6;
+    return here(p, 0x009B) && !field(p, 0x009B, &m->cpa_at, &m->cpa_len) ? 6 : 0;
+}
+
+static bool ack(struct place *p, struct message *m)
+{
+    uint32_t at;
+    if (!acked(p, &m->seen))
+        return false;
+    if (!here(p, 0x0040))
+        return true;
+    if (!fixed(p, 0x00400006, &at))
+        return false;
+    m->n = p->d[at + 1] & 1;
+    return true;
+}
+
+static bool lookup(struct place *p, struct message *m)
+{
+    uint32_t at;
+    if (!fixed(p, 0x0045000C, &at))
+        return false;
+    unsigned criteria = p->d[at + 4], reason = p->d[at + 5];
+    if (criteria > 8 || (criteria & (criteria - 1)) != 0 || reason > 3)
+        return false;
+    m->seen.target_len = 32;
+    return fixed(p, 0x00380024, &m->seen.target_at) && fixed(p, 0x00390024, &m->validate_at) && optional_entry(p, &m->seen) && endpoints(p)
+           && signatures(p);
+}
+
+static uint32_t fields(struct place *p, struct message *m)
+{
+    switch (m->seen.kind) {
+    case GAUGE_SOLICIT: return solicit(p, &m->seen) ? 0 : 6;
+    case GAUGE_ADVERTISE: return advertise(p, &m->seen) ? 0 : 6;
+    case GAUGE_REQUEST: return request(p, &m->seen) ? 0 : 6;
+    case GAUGE_FLOOD: return flood(p, m) ? 0 : 6;
+    case GAUGE_INQUIRE: return inquire(p, m) ? 0 : 6;
+    case GAUGE_AUTHORITY: return authority(p, &m->seen);
+    case GAUGE_ACK: return ack(p, m) ? 0 : 6;
+    case GAUGE_LOOKUP: return lookup(p, m) ? 0 : 6;
+    default: return 5;
+    }
+}
+
+/* The number. What else stands in the message is of use only with 0. */
+static uint32_t read_message(uint8_t major, const uint8_t *d, size_t len, struct message *m)
+{
+    if (len < 12 || len > 1232)
+        return 2;
+    if (four(d) != 0x0010000C || d[4] != 0x51)
+        return 3;
+    if (d[5] != major)
+        return 4;
+    memset(m, 0, sizeof *m);
+    m->seen.kind = d[7];
+    m->seen.id = four(d + 8);
+    struct place p = {d, (uint32_t)len, 12};
+    uint32_t number = fields(&p, m);
+    return number == 0 && p.at != p.len ? 6 : number;
+}
+
+/* Searching. */
+
+#ifdef HALVE
+/* How many keys are below this one. */
+static size_t below(const uint8_t *cache, size_t held, const uint8_t *key)
+{
+    uint64_t top = big(key);
+    size_t low = 0;
+    while (low < held) {
+        size_t middle = (low + held) / 2;
+        const uint8_t *r = cache + 100 * middle;
+        if (less(big(r), r, top, key))
+            low = middle + 1;
+        else
+            held = middle;
+    }
+    return low;
+}
+#else
+static size_t below(const uint8_t *cache, size_t held, const uint8_t *key)
+{
+    uint64_t top = big(key);
+    const uint8_t *r = cache, *end = cache + 100 * held;
+    while (r < end && less(big(r), r, top, key))
+        r += 100;
+    return (size_t)(r - cache) / 100;
+}
+#endif
+
+/* Whether the key is held, and then where; otherwise where it would stand. */
+static bool find(const uint8_t *cache, size_t held, const uint8_t *key, size_t *at)
+{
+    *at = below(cache, held, key);
+    return *at < held && same_key(cache + 100 * *at, key);
+}
+
+struct key {
+    uint64_t a, b, c, d;
+};
+
+static inline struct key key_at(const uint8_t *p)
+{
+    struct key k = {big(p), big(p + 8), big(p + 16), big(p + 24)};
+    return k;
+}
+
+static inline bool key_less(const struct key *x, const struct key *y)
+{
+    if (x->a != y->a)
+        return x->a < y->a;
+    if (x->b != y->b)
+        return x->b < y->b;
+    if (x->c != y->c)
+        return x->c < y->c;
+    return x->d < y->d;
+}
+
+/* x - y, modulo 2^256. */
+static inline struct key minus(const struct key *x, const struct key *y)
+{
+    struct key r;
+    uint64_t borrow = x->d < y->d, part;
+    r.d = x->d - y->d;
+    part = x->c - y->c;
+    r.c = part - borrow;
+    borrow = (x->c < y->c) | (part < borrow);
+    part = x->b - y->b;
+    r.b = part - borrow;
+    borrow = (x->b < y->b) | (part < borrow);
+    r.a = x->a - y->a - borrow;
+    return r;
+}
+
+static inline struct key apart(const struct key *x, const struct key *y)
+{
+    return key_less(x, y) ? minus(y, x) : minus(x, y);
+}
+
+struct nearest {
+    const uint8_t *record;
+    struct key key, far;
+};
+
+static inline void try_record(struct nearest *best, const struct key *target, const uint8_t *r)
+{
+    struct key k = key_at(r), far = apart(target, &k);
+    if (key_less(&far, &best->far) || (!key_less(&best->far, &far) && key_less(&k, &best->key))) {
+        best->record = r;
+        best->key = k;
+        best->far = far;
+    }
+}
+
+static const uint8_t *closest(const uint8_t *own, const uint8_t *cache, size_t held, const uint8_t *target)
+{
+    struct key goal = key_at(target);
+    struct nearest best = {own, key_at(own), {0, 0, 0, 0}};
+    best.far = apart(&goal, &best.key);
+#ifdef HALVE
+    size_t at = below(cache, held, target);
+    if (at > 0)
+        try_record(&best, &goal, cache + 100 * (at - 1));
+    if (at < held)
+        try_record(&best, &goal, cache + 100 * at);
+#else
+    for (size_t i = 0; i < held; i++)
+        try_record(&best, &goal, cache + 100 * i);
+#endif
+    return best.record;
+}
+
+/* The place before which an ID would stand; whether it waits. */
+static bool find_id(const uint8_t *waiting, size_t used, uint32_t id, size_t *at)
+{
+    const uint8_t *p = waiting, *end = waiting + 140 * used;
+    while (p < end && id_at(p) < id)
+        p += 140;
+    *at = (size_t)(p - waiting) / 140;
+    return p < end && id_at(p) == id;
+}
+
+/* The inquiry for a key; `used` where there is none. */
+static size_t find_inquiry(const uint8_t *waiting, size_t used, const uint8_t *key)
+{
+    size_t i = 0;
+    while (i < used && !(waiting[140 * i + 4] == 2 && same_key(waiting + 140 * i + 8, key)))
+        i++;
+    return i;
+}
+
+/* Changing memory. */
+
+static void take_out(uint8_t *rows, size_t width, size_t used, size_t at)
+{
+    uint8_t *p = rows + width * at;
+    memmove(p, p + width, width * (used - at - 1));
+    memset(rows + width * (used - 1), 0, width);
+}
+
+static void remove_key(uint8_t *cache, size_t held, const uint8_t *key)
+{
+    size_t at;
+    if (find(cache, held, key, &at))
+        take_out(cache, 100, held, at);
+}
+
+static void learn(const uint8_t *own, uint8_t *cache, size_t len, size_t held, const uint8_t *record)
+{
+    size_t at;
+    uint8_t *to;
+    if (find(cache, held, record, &at)) {
+        memcpy(cache + 100 * at, record, 100);
+        return;
+    }
+    to = cache + 100 * at;
+    if (100 * held < len) {
+        memmove(to + 100, to, 100 * (held - at));
+        memcpy(to, record, 100);
+        return;
+    }
+    size_t under = below(cache, held, own) + less(big(record), record, big(own), own);
+    if (2 * under > held + 1) {
+        if (at == 0)
+            return;
+        memmove(cache, cache + 100, 100 * (at - 1));
+        memcpy(to - 100, record, 100);
+        return;
+    }
+    if (at == held)
+        return;
+    memmove(to + 100, to, 100 * (held - at - 1));
+    memcpy(to, record, 100);
+}
+
+static uint8_t *open_place(uint8_t *waiting, size_t used, size_t at, uint32_t id, uint8_t kind, const uint8_t *key)
+{
+    uint8_t *p = waiting + 140 * at;
+    memmove(p + 140, p, 140 * (used - at));
+    memcpy(p, &id, 4);
+    p[4] = kind;
+    p[5] = 2;
+    p[6] = p[7] = 0;
+    memcpy(p + 8, key, 32);
+    return p;
+}
+
+/* Writing. */
+
+static inline uint8_t *put2(uint8_t *o, uint32_t n)
+{
+    uint16_t swapped = __builtin_bswap16((uint16_t)n);
+    memcpy(o, &swapped, 2);
+    return o + 2;
+}
+
+static inline uint8_t *put4(uint8_t *o, uint32_t n)
+{
+    n = __builtin_bswap32(n);
+    memcpy(o, &n, 4);
+    return o + 4;
+}
+
+static inline uint8_t *put(uint8_t *o, const uint8_t *from, size_t n)
+{
+    memcpy(o, from, n);
+    return o + n;
+}
+
+struct header {
+    uint8_t major, minor;
+    uint32_t id;
+};
+
+static inline uint8_t *put_header(uint8_t *o, struct header h, uint32_t type)
+{
+    o = put4(o, 0x0010000C);
+    o = put4(o, 0x51000000 | (uint32_t)h.major << 16 | (uint32_t)h.minor << 8 | type);
+    return put4(o, h.id);
+}
+
+static inline uint8_t *put_acked(uint8_t *o, uint32_t id)
+{
+    return put4(put4(o, 0x00180008), id);
+}
+
+static void put_ack(uint8_t *o, struct header h, uint32_t to, bool n)
+{
+    o = put_acked(put_header(o, h, GAUGE_ACK), to);
+    if (n)
+        put2(put4(o, 0x00400006), 1);
+}
+
+static void put_inquire(uint8_t *o, struct header h, const uint8_t *key, const uint8_t *nonce_bytes)
+{
+    o = put_header(o, h, GAUGE_INQUIRE);
+    o = put4(put4(o, 0x00400006), 0x00100000);
+    o = put(put4(o, 0x00390024), key, 32);
+    put(put4(o, 0x00930014), nonce_bytes, 16);
+}
+
+static uint8_t *put_authority(uint8_t *o, struct header h, uint32_t to, uint32_t size)
+{
+    o = put_acked(put_header(o, h, GAUGE_AUTHORITY), to);
+    o = put4(put4(o, 0x00980008), size << 16);
+    return put4(put4(o, 0x00400006), 0);
+}
+
+static void put_entry(uint8_t *o, struct header h, const uint8_t *record)
+{
+    uint32_t count = record[34];
+    o = put4(o, 0x009A0000 | (42 + 16 * count));
+    o = put(o, record, 32);
+    *o++ = h.major;
+    *o++ = h.minor;
+    o = put(o, record + 32, 2);
+    o = put2(o, count);
+    for (uint32_t i = 0; i < count; i++)
+        o = put(o, record + 36 + 16 * i, 16);
+    put2(o, 0);
+}
+
+/* The calls. */
+
+static inline struct gauge_answer answer(uint32_t number, size_t first, size_t second)
+{
+    struct gauge_answer a = {number, (uint32_t)first, (uint32_t)second};
+    return a;
+}
+
+/* What a receive hands on, once its memory is in form and its message read. */
+struct receive {
+    const uint8_t *own, *cpa, *nonce, *key, *d;
+    uint8_t *cache, *waiting, *output;
+    size_t cpa_len, cache_len, room, held, used;
+    struct header h;
+    uint32_t verdict;
+};
+
+static size_t ack_room(const struct receive *r, const struct message *m, bool *n)
+{
+    *n = !same_key(r->d + m->validate_at, r->own);
+    return m->d ? 0 : *n ? 26 : 20;
+}
+
+/* Is the very record of an entry held? */
+static bool entry_held(const struct receive *r, const uint8_t *entry)
+{
+    size_t at;
+    if (!find(r->cache, r->held, entry, &at))
+        return false;
+    const uint8_t *held = r->cache + 100 * at;
+    return held[34] == entry[37] && memcmp(held + 32, entry + 34, 2) == 0 && memcmp(held + 36, entry + 38, (size_t)16 * entry[37]) == 0;
+}
+
+static void put_record(uint8_t *record, const uint8_t *entry)
+{
+    size_t addresses = (size_t)16 * entry[37];
+    memcpy(record, entry, 32);
+    memcpy(record + 32, entry + 34, 2);
+    record[34] = entry[37];
+    record[35] = 0;
+    memcpy(record + 36, entry + 38, addresses);
+    memset(record + 36 + addresses, 0, 64 - addresses);
+}
+
+static struct gauge_answer take_entry(const struct receive *r, const struct message *m)
+{
+    const uint8_t *entry = r->d + m->seen.entry_at;
+    if (same_key(entry, r->own))
+        return answer(11, 0, 0);
+    bool n, opens = !entry_held(r, entry) && find_inquiry(r->waiting, r->used, entry) == r->used;
+    size_t at = 0, first = ack_room(r, m, &n), second = opens ? 76 : 0;
+    struct header next = {r->h.major, r->h.minor, r->h.id + 1};
+    if (opens && find_id(r->waiting, r->used, next.id, &at))
+        return answer(13, 0, 0);
+    if (opens && r->used == 16)
+        return answer(14, 0, 0);
+    if (first + second > r->room)
+        return answer(15, 0, 0);
+    if (first != 0)
+        put_ack(r->output, r->h, m->seen.id, n);
+    if (opens) {
+        put_inquire(r->output + first, next, entry, r->nonce);
+        put_record(open_place(r->waiting, r->used, at, next.id, 2, entry) + 40, entry);
+    }
+    return first != 0 ? answer(0, first, second) : answer(0, second, 0);
+}
+
+static struct gauge_answer take_revocation(const struct receive *r, const struct message *m)
+{
+    if (r->verdict != 1)
+        return answer(9, 0, 0);
+    if (same_key(r->key, r->own))
+        return answer(11, 0, 0);
+    bool n;
+    size_t first = ack_room(r, m, &n), at = find_inquiry(r->waiting, r->used, r->key);
+    if (first > r->room)
+        return answer(15, 0, 0);
+    remove_key(r->cache, r->held, r->key);
+    if (at < r->used)
+        take_out(r->waiting, 140, r->used, at);
+    if (first != 0)
+        put_ack(r->output, r->h, m->seen.id, n);
+    return answer(0, first, 0);
+}
+
+static struct gauge_answer take_authority(const struct receive *r, const struct message *m)
+{
+    size_t at;
+    if (!find_id(r->waiting, r->used, m->seen.acked, &at) || r->waiting[140 * at + 4] != 2)
+        return answer(8, 0, 0);
+    if (m->seen.cpa_at == 0 || r->verdict != 1)
+        return answer(9, 0, 0);
+    if (!same_key(r->waiting + 140 * at + 8, r->key))
+        return answer(10, 0, 0);
+    learn(r->own, r->cache, r->cache_len, r->held, r->waiting + 140 * at + 40);
+    take_out(r->waiting, 140, r->used, at);
+    return answer(0, 0, 0);
+}
+
+static struct gauge_answer take_ack(const struct receive *r, const struct message *m)
+{
+    size_t at;
+    if (!find_id(r->waiting, r->used, m->seen.acked, &at) || r->waiting[140 * at + 4] != 1)
+        return answer(8, 0, 0);
+    if (m->n)
+        remove_key(r->cache, r->held, r->waiting + 140 * at + 8);
+    take_out(r->waiting, 140, r->used, at);
+    return answer(0, 0, 0);
+}
+
+static struct gauge_answer answer_inquire(const struct receive *r, const struct message *m)
+{
+    if (!same_key(r->d + m->validate_at, r->own))
+        return answer(12, 0, 0);
+    if (40 + r->cpa_len > r->room)
+        return answer(15, 0, 0);
+    uint8_t *o = put_authority(r->output, r->h, m->seen.id, (uint32_t)(12 + r->cpa_len));
+    put(put4(o, (uint32_t)(0x009B0004 + r->cpa_len)), r->cpa, r->cpa_len);
+    return answer(0, 40 + r->cpa_len, 0);
+}
+
+static struct gauge_answer answer_lookup(const struct receive *r, const struct message *m)
+{
+    const uint8_t *record = closest(r->own, r->cache, r->held, r->d + m->seen.target_at);
+    uint32_t entry = 52 + 16u * record[34];
+    if (28 + entry > r->room)
+        return answer(15, 0, 0);
+    put_entry(put_authority(r->output, r->h, m->seen.id, entry), r->h, record);
+    return answer(0, 28 + entry, 0);
+}
+
+struct gauge_answer CALL(receive)(const uint8_t *own, size_t own_len, const uint8_t *cpa, size_t cpa_len, uint8_t *cache, size_t cache_len,
+                                  uint8_t *waiting, size_t waiting_len, uint8_t major, uint8_t minor, uint32_t id, const uint8_t *nonce_bytes,
+                                  size_t nonce_len, uint32_t verdict, const uint8_t *key, size_t key_len, const uint8_t *datagram,
+                                  size_t datagram_len, uint8_t *output, size_t output_len)
+{
+    if (!own_formed(own, own_len) || cpa_len < 1 || cpa_len > 1024 || nonce_len != 16 || key_len != 32)
+        return answer(1, 0, 0);
+    size_t held = cache_form(own, cache, cache_len), used = waiting_form(own, waiting, waiting_len);
+    if (held == NOT_IN_FORM || used == NOT_IN_FORM)
+        return answer(1, 0, 0);
+    struct message m;
+    uint32_t number = read_message(major, datagram, datagram_len, &m);
+    if (number != 0)
+        return answer(number, 0, 0);
+    struct receive r = {own,   cpa,        nonce_bytes, key,  datagram, cache, waiting, output, cpa_len, cache_len, output_len, held, used,
+                        {major, minor, id}, verdict};
+    switch (m.seen.kind) {
+    case GAUGE_FLOOD: return m.seen.entry_at != 0 ? take_entry(&r, &m) : take_revocation(&r, &m);
+    case GAUGE_INQUIRE: return answer_inquire(&r, &m);
+    case GAUGE_AUTHORITY: return take_authority(&r, &m);
+    case GAUGE_ACK: return take_ack(&r, &m);
+    case GAUGE_LOOKUP: return answer_lookup(&r, &m);
+    default: return answer(7, 0, 0);
+    }
+}
+
+struct gauge_answer CALL(send)(const uint8_t *own, size_t own_len, const uint8_t *cache, size_t cache_len, uint8_t *waiting, size_t waiting_len,
+                               uint8_t major, uint8_t minor, uint32_t id, const uint8_t *neighbour, size_t neighbour_len, const uint8_t *key,
+                               size_t key_len, uint8_t *output, size_t output_len)
+{
+    if (!own_formed(own, own_len) || neighbour_len != 32 || key_len != 32)
+        return answer(1, 0, 0);
+    size_t held = cache_form(own, cache, cache_len), used = waiting_form(own, waiting, waiting_len), at;
+    if (held == NOT_IN_FORM || used == NOT_IN_FORM)
+        return answer(1, 0, 0);
+    if (!find(cache, held, neighbour, &at))
+        return answer(12, 0, 0);
+    const uint8_t *record = own;
+    if (!same_key(key, own)) {
+        if (!find(cache, held, key, &at))
+            return answer(12, 0, 0);
+        record = cache + 100 * at;
+    }
+    if (find_id(waiting, used, id, &at))
+        return answer(13, 0, 0);
+    if (used == 16)
+        return answer(14, 0, 0);
+    size_t length = 100 + (size_t)16 * record[34];
+    if (length > output_len)
+        return answer(15, 0, 0);
+    struct header h = {major, minor, id};
+    uint8_t *o = put_header(output, h, GAUGE_FLOOD);
+    o = put4(put4(o, 0x00430007), 0);
+    o = put(put4(o, 0x00390024), neighbour, 32);
+    put_entry(o, h, record);
+    memset(open_place(waiting, used, at, id, 1, neighbour) + 40, 0, 100);
+    return answer(0, length, 0);
+}
+
+struct gauge_answer CALL(tick)(const uint8_t *own, size_t own_len, uint8_t *waiting, size_t waiting_len, uint8_t *output, size_t output_len)
+{
+    if (!own_formed(own, own_len))
+        return answer(1, 0, 0);
+    size_t used = waiting_form(own, waiting, waiting_len), left = 0;
+    if (used == NOT_IN_FORM)
+        return answer(1, 0, 0);
+    if (output_len < 64)
+        return answer(15, 0, 0);
+    uint8_t *to = waiting, *end = waiting + 140 * used;
+    for (uint8_t *p = waiting; p < end; p += 140) {
+        if (p[5] == 0)
+            continue;
+        if (to != p)
+            memcpy(to, p, 140);
+        to[5]--;
+        memcpy(output + 4 * left++, to, 4);
+        to += 140;
+    }
+    memset(to, 0, (size_t)(end - to));
+    return answer(0, left, 0);
+}
+
+struct gauge_answer CALL(neighbours)(const uint8_t *own, size_t own_len, const uint8_t *cache, size_t cache_len, uint8_t *output, size_t output_len)
+{
+    if (!own_formed(own, own_len))
+        return answer(1, 0, 0);
+    size_t held = cache_form(own, cache, cache_len);
+    if (held == NOT_IN_FORM)
+        return answer(1, 0, 0);
+    if (output_len < 320)
+        return answer(15, 0, 0);
+    size_t under = below(cache, held, own), first = under < 5 ? under : 5, second = held - under < 5 ? held - under : 5;
+    for (size_t i = 1; i <= first; i++)
+        output = put(output, cache + 100 * (under - i), 32);
+    for (size_t i = 0; i < second; i++)
+        output = put(output, cache + 100 * (under + i), 32);
+    return answer(0, first, second);
+}
+
+struct gauge_look CALL(look)(uint8_t major, const uint8_t *datagram, size_t datagram_len)
+{
+    struct message m;
+    uint32_t number = read_message(major, datagram, datagram_len, &m);
+    if (number != 0) {
+        struct gauge_look refused = {number, 0, 0, 0, 0, 0, 0, 0, 0, 0, 0, 0};
+        return refused;
+    }
+    return m.seen;
+}

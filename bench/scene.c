@@ -1,0 +1,368 @@
+/* The scenes of bench/scene.h. Keys, addresses and the rest are at random from a fixed seed. The own key lies in the middle of the keys held, and half of the
+ * places wait: floods and inquiries in turn. */
+#include "scene.h"
+#include <stdbool.h>
+#include <string.h>
+
+#define MAJOR 6
+#define MINOR 101
+#define FIRST_ID 1000u /* of the waiting places, which have every tenth */
+
+static uint64_t state;
+
+static uint64_t chance(void)
+{
+    uint64_t z = state += 0x9E3779B97F4A7C15u;
+    z = (z ^ z >> 30) * 0xBF58476D1CE4E5B9u;
+    z = (z ^ z >> 27) * 0x94D049BB133111EBu;
+    return z ^ z >> 31;
+}
+
+static void fill(uint8_t *p, size_t n)
+{
+    uint64_t z = 0;
+    for (size_t i = 0; i < n; i++, z >>= 8) {
+        if (i % 8 == 0)
+            z = chance();
+        p[i] = (uint8_t)z;
+    }
+}
+
+/* Memory. */
+
+/* Port and addresses behind a key, count of them. */
+static void fill_rest(uint8_t *record, size_t count)
+{
+    memset(record + GAUGE_RECORD_PORT, 0, GAUGE_RECORD_LEN - GAUGE_RECORD_PORT);
+    fill(record + GAUGE_RECORD_PORT, 2);
+    record[GAUGE_RECORD_COUNT] = (uint8_t)count;
+    fill(record + GAUGE_RECORD_ADDRESSES, GAUGE_ADDRESS_LEN * count);
+}
+
+static uint64_t first_word(const uint8_t *key)
+{
+    uint64_t n = 0;
+    for (int i = 0; i < 8; i++)
+        n = n << 8 | key[i];
+    return n;
+}
+
+/* A key at random that begins with this word. */
+static void fill_key(uint8_t *key, uint64_t first)
+{
+    fill(key, GAUGE_KEY_LEN);
+    for (int i = 0; i < 8; i++)
+        key[i] = (uint8_t)(first >> (56 - 8 * i));
+}
+
+/* A key between record i and the one before it. */
+static void key_between(const struct scene *s, size_t i, uint8_t *key)
+{
+    uint64_t low = first_word(s->cache + 100 * i - 100), high = first_word(s->cache + 100 * i);
+    fill_key(key, low + (high - low) / 2);
+}
+
+/* C keys, of which each lies anywhere in its C-th part of all; or keys that differ in their last byte alone. */
+static void set_cache(struct scene *s, size_t c, bool alike)
+{
+    uint64_t width = UINT64_MAX / c;
+    s->cache_len = GAUGE_CACHE_LEN(c);
+    s->held = c;
+    for (size_t i = 0; i < c; i++) {
+        uint8_t *r = s->cache + 100 * i;
+        fill_key(r, width * i + chance() % width);
+        if (alike) {
+            memset(r, 7, GAUGE_KEY_LEN);
+            r[GAUGE_KEY_LEN - 1] = (uint8_t)i;
+        }
+        fill_rest(r, 1 + i % 4);
+    }
+    if (alike)
+        memset(s->own, 7, GAUGE_KEY_LEN - 2);
+    else
+        key_between(s, c / 2, s->own);
+    fill_rest(s->own, 2);
+}
+
+/* Floods to records held, and inquiries about keys that are not. */
+static void set_waiting(struct scene *s)
+{
+    for (size_t i = 0; i < SCENE_PLACES; i++) {
+        uint8_t *p = s->waiting + GAUGE_PLACE_LEN * i;
+        uint32_t id = FIRST_ID + 10 * (uint32_t)i;
+        memcpy(p, &id, 4);
+        p[4] = (uint8_t)(1 + i % 2);
+        p[5] = (uint8_t)(i % 3);
+        if (p[4] == 1) {
+            memcpy(p + 8, s->cache + 100 * i, GAUGE_KEY_LEN);
+        } else {
+            fill(p + 8, GAUGE_KEY_LEN);
+            memcpy(p + 40, p + 8, GAUGE_KEY_LEN);
+            fill_rest(p + 40, 1 + i % 4);
+        }
+    }
+}
+
+/* The place of an inquiry waits for a key between record i and the one before it. */
+static void ask_between(struct scene *s, size_t place, size_t i)
+{
+    uint8_t *p = s->waiting + GAUGE_PLACE_LEN * place;
+    key_between(s, i, p + 8);
+    memcpy(p + 40, p + 8, GAUGE_KEY_LEN);
+    memcpy(s->key, p + 8, GAUGE_KEY_LEN);
+}
+
+/* Datagrams, written as documents 000 and 01 have them. */
+
+static void add(struct scene *s, const void *bytes, size_t n)
+{
+    memcpy(s->datagram + s->datagram_len, bytes, n);
+    s->datagram_len += n;
+}
+
+static void add4(struct scene *s, uint32_t n)
+{
+    uint8_t b[4] = {(uint8_t)(n >> 24), (uint8_t)(n >> 16), (uint8_t)(n >> 8), (uint8_t)n};
+    add(s, b, 4);
+}
+
+static void pad(struct scene *s)
+{
+    while (s->datagram_len % 4 != 0)
+        add(s, "", 1);
+}
+
+static void add_header(struct scene *s, enum gauge_kind kind)
+{
+    add4(s, 0x0010000C);
+    add4(s, 0x51000000 | MAJOR << 16 | MINOR << 8 | (uint32_t)kind);
+    add4(s, 0xD8859CF5);
+}
+
+static void add_opaque(struct scene *s, uint32_t number, size_t n)
+{
+    uint8_t bytes[SCENE_CPA];
+    fill(bytes, n);
+    add4(s, number << 16 | (uint32_t)(4 + n));
+    add(s, bytes, n);
+}
+
+static void add_entry(struct scene *s, const uint8_t *record)
+{
+    size_t count = record[GAUGE_RECORD_COUNT];
+    uint8_t counts[2] = {0, (uint8_t)count}, versions[2] = {MAJOR, MINOR};
+    add4(s, 0x009A0000 | (uint32_t)(42 + 16 * count));
+    add(s, record, GAUGE_KEY_LEN);
+    add(s, versions, 2);
+    add(s, record + GAUGE_RECORD_PORT, 2);
+    add(s, counts, 2);
+    add(s, record + GAUGE_RECORD_ADDRESSES, 16 * count);
+    pad(s);
+}
+
+static void begin_flood(struct scene *s)
+{
+    add_header(s, GAUGE_FLOOD);
+    add4(s, 0x00430007);
+    add4(s, 0);
+    add4(s, 0x00390024);
+    add(s, s->own, GAUGE_KEY_LEN);
+}
+
+static void flood_of(struct scene *s, const uint8_t *record)
+{
+    begin_flood(s);
+    add_entry(s, record);
+}
+
+static void flood_new(struct scene *s)
+{
+    uint8_t record[GAUGE_RECORD_LEN];
+    key_between(s, s->held / 4, record);
+    fill_rest(record, 2);
+    flood_of(s, record);
+}
+
+static void flood_held(struct scene *s)
+{
+    flood_of(s, s->cache + 100 * (s->held / 2));
+}
+
+static void revocation(struct scene *s)
+{
+    begin_flood(s);
+    add_opaque(s, 0x009C, 120);
+    memcpy(s->key, s->cache + 100 * (s->held / 3), GAUGE_KEY_LEN);
+}
+
+static void inquire(struct scene *s)
+{
+    add_header(s, GAUGE_INQUIRE);
+    add4(s, 0x00400006);
+    add4(s, 0x00100000);
+    add4(s, 0x00390024);
+    add(s, s->own, GAUGE_KEY_LEN);
+    add_opaque(s, 0x0093, GAUGE_NONCE_LEN);
+}
+
+static void authority(struct scene *s)
+{
+    add_header(s, GAUGE_AUTHORITY);
+    add4(s, 0x00180008);
+    add4(s, FIRST_ID + 50);
+    add4(s, 0x00980008);
+    add4(s, (12 + SCENE_CPA) << 16);
+    add4(s, 0x00400006);
+    add4(s, 0);
+    add_opaque(s, 0x009B, SCENE_CPA);
+    ask_between(s, 5, s->held / 4);
+}
+
+static void authority_room(struct scene *s)
+{
+    authority(s);
+    s->held--;
+    memset(s->cache + 100 * s->held, 0, GAUGE_RECORD_LEN);
+}
+
+static void ack(struct scene *s)
+{
+    add_header(s, GAUGE_ACK);
+    add4(s, 0x00180008);
+    add4(s, FIRST_ID + 40);
+}
+
+static void ack_n(struct scene *s)
+{
+    ack(s);
+    add4(s, 0x00400006);
+    add(s, "\0\1", 2);
+}
+
+static void lookup_for(struct scene *s, const uint8_t *target)
+{
+    uint8_t endpoints[2 * 18];
+    add_header(s, GAUGE_LOOKUP);
+    add4(s, 0x0045000C);
+    add4(s, 0);
+    add4(s, 0);
+    add4(s, 0x00380024);
+    add(s, target, GAUGE_KEY_LEN);
+    add4(s, 0x00390024);
+    add(s, s->own, GAUGE_KEY_LEN);
+    fill(endpoints, sizeof endpoints);
+    add4(s, 0x009E0000 | (12 + sizeof endpoints));
+    add4(s, 2 << 16 | (8 + sizeof endpoints));
+    add4(s, 0x009D0012);
+    add(s, endpoints, sizeof endpoints);
+}
+
+/* The target lies one above a key held, whose record has so many addresses. */
+static void lookup(struct scene *s)
+{
+    uint8_t target[GAUGE_KEY_LEN];
+    const uint8_t *record = s->cache + 100 * (s->held / 3);
+    memcpy(target, record, GAUGE_KEY_LEN);
+    for (int i = GAUGE_KEY_LEN - 1; ++target[i] == 0; i--)
+        continue;
+    lookup_for(s, target);
+    s->wanted.first = 80 + 16u * record[GAUGE_RECORD_COUNT];
+}
+
+/* The same where keys share 31 bytes: the target is held. */
+static void lookup_alike(struct scene *s)
+{
+    const uint8_t *record = s->cache + 100 * (s->held / 3);
+    lookup_for(s, record);
+    s->wanted.first = 80 + 16u * record[GAUGE_RECORD_COUNT];
+}
+
+static void send_flood(struct scene *s)
+{
+    const uint8_t *record = s->cache + 100 * (s->held / 2);
+    memcpy(s->neighbour, s->cache + 100 * (s->held / 3), GAUGE_KEY_LEN);
+    memcpy(s->key, record, GAUGE_KEY_LEN);
+    s->wanted.first = 100 + 16u * record[GAUGE_RECORD_COUNT];
+}
+
+/* A place without tries is gone, the others are listed. */
+static void tick(struct scene *s)
+{
+    for (size_t i = 0; i < SCENE_PLACES; i++)
+        s->wanted.first += s->waiting[GAUGE_PLACE_LEN * i + 5] != 0;
+}
+
+static void nothing_more(struct scene *s)
+{
+    (void)s;
+}
+
+static void own_unfit(struct scene *s)
+{
+    lookup(s);
+    s->own[GAUGE_RECORD_COUNT] = 5;
+    s->wanted.first = 0;
+}
+
+static void bad_header(struct scene *s)
+{
+    lookup(s);
+    s->datagram[4] = 0x52;
+    s->wanted.first = 0;
+}
+
+static void no_room(struct scene *s)
+{
+    flood_new(s);
+    s->room = 95;
+}
+
+struct kind {
+    const char *name;
+    enum call call;
+    bool alike;
+    void (*set)(struct scene *);
+    struct gauge_answer wanted; /* `first` of some depends on a record */
+};
+
+static const struct kind kinds[] = {
+    {"FLOOD, new record: ACK and INQUIRE", RECEIVE, false, flood_new, {0, 20, 76}},
+    {"FLOOD, record held: ACK", RECEIVE, false, flood_held, {0, 20, 0}},
+    {"FLOOD, key revoked: ACK", RECEIVE, false, revocation, {0, 20, 0}},
+    {"INQUIRE: AUTHORITY with CPA", RECEIVE, false, inquire, {0, 40 + SCENE_CPA, 0}},
+    {"AUTHORITY: record joins", RECEIVE, false, authority_room, {0, 0, 0}},
+    {"AUTHORITY: joins, another dropped", RECEIVE, false, authority, {0, 0, 0}},
+    {"ACK: place freed", RECEIVE, false, ack, {0, 0, 0}},
+    {"ACK with N: key removed", RECEIVE, false, ack_n, {0, 0, 0}},
+    {"LOOKUP: AUTHORITY with closest", RECEIVE, false, lookup, {0, 0, 0}},
+    {"the same, keys share 31 bytes", RECEIVE, true, lookup_alike, {0, 0, 0}},
+    {"send a FLOOD", SEND, false, send_flood, {0, 0, 0}},
+    {"tick", TICK, false, tick, {0, 0, 0}},
+    {"neighbours", NEIGHBOURS, false, nothing_more, {0, 5, 5}},
+    {"look at a LOOKUP", LOOK, false, lookup, {0, GAUGE_LOOKUP, 0}},
+    {"look at a FLOOD", LOOK, false, flood_new, {0, GAUGE_FLOOD, 0}},
+    {"refused 1: own record", RECEIVE, false, own_unfit, {1, 0, 0}},
+    {"refused 3: header", RECEIVE, false, bad_header, {3, 0, 0}},
+    {"refused 15: no room for INQUIRE", RECEIVE, false, no_room, {15, 0, 0}},
+};
+
+const size_t scenes = sizeof kinds / sizeof *kinds;
+
+void set_scene(struct scene *s, size_t i, size_t c)
+{
+    const struct kind *k = &kinds[i];
+    memset(s, 0, sizeof *s);
+    state = 2026 + c;
+    s->name = k->name;
+    s->call = k->call;
+    s->wanted = k->wanted;
+    s->room = GAUGE_OUTPUT_LEN;
+    s->id = 70000;
+    fill(s->cpa, sizeof s->cpa);
+    fill(s->nonce, sizeof s->nonce);
+    set_cache(s, c, k->alike);
+    set_waiting(s);
+    k->set(s);
+    if (s->call == LOOK)
+        s->wanted = k->wanted;
+}

@@ -1,0 +1,27 @@
+/* What is measured: for each kind of call the memory and the datagram that it is made with, and what it must answer by document 01. */
+#ifndef SCENE_H
+#define SCENE_H
+
+#include "gauge.h"
+
+enum call { RECEIVE, SEND, TICK, NEIGHBOURS, LOOK };
+
+#define SCENE_CPA 256
+#define SCENE_PLACES 8
+
+struct scene {
+    const char *name;
+    enum call call;
+    uint8_t own[GAUGE_RECORD_LEN], cpa[SCENE_CPA], nonce[GAUGE_NONCE_LEN], key[GAUGE_KEY_LEN], neighbour[GAUGE_KEY_LEN];
+    uint8_t cache[GAUGE_CACHE_LEN(GAUGE_CACHE_MOST)], waiting[GAUGE_WAITING_LEN], datagram[GAUGE_DATAGRAM_MOST];
+    size_t cache_len, held, datagram_len, room;
+    uint32_t id;
+    struct gauge_answer wanted; /* of a look: the number and the kind */
+};
+
+extern const size_t scenes;
+
+/* Scene number i with a cache of c records, the same in every run. */
+void set_scene(struct scene *s, size_t i, size_t c);
+
+#endif

@@ -3,8 +3,8 @@
  *   bench          by the clock: rounds in which each takes its turn, and the median of the ratios
  *   bench once     each call once, between two calls of `mark`, and a line that names it: for bench/instructions
  *
- * First each scene is made by all of them: a number, count or byte that differs, or an answer that document 01 does not give, ends the run with status 1.
- * Memory is put back before each call, and outside of what is measured. What a call of an empty function costs is taken off. */
+ * First each scene is made by all of them: a number, count or byte that differs, or an answer that document 01 does not give, ends the run with
+ * status 1. Memory is put back before each call, and outside of what is measured. What a call of an empty function costs is taken off. */
 #define _POSIX_C_SOURCE 199309L
 #include "plain.h"
 #include "scene.h"
@@ -15,8 +15,6 @@
 #include <time.h>
 
 #define ROUNDS 1501
-#define MAJOR 6
-#define MINOR 101
 
 PLAIN_CALLS(gcc);
 PLAIN_CALLS(gcc_halves);
@@ -30,8 +28,8 @@ struct side {
     bool halves;
     struct gauge_answer (*receive)(const uint8_t *, size_t, const uint8_t *, size_t, uint8_t *, size_t, uint8_t *, size_t, uint8_t, uint8_t, uint32_t,
                                    const uint8_t *, size_t, uint32_t, const uint8_t *, size_t, const uint8_t *, size_t, uint8_t *, size_t);
-    struct gauge_answer (*send)(const uint8_t *, size_t, const uint8_t *, size_t, uint8_t *, size_t, uint8_t, uint8_t, uint32_t, const uint8_t *, size_t,
-                                const uint8_t *, size_t, uint8_t *, size_t);
+    struct gauge_answer (*send)(const uint8_t *, size_t, const uint8_t *, size_t, uint8_t *, size_t, uint8_t, uint8_t, uint32_t, const uint8_t *,
+                                size_t, const uint8_t *, size_t, uint8_t *, size_t);
     struct gauge_answer (*tick)(const uint8_t *, size_t, uint8_t *, size_t, uint8_t *, size_t);
     struct gauge_answer (*neighbours)(const uint8_t *, size_t, const uint8_t *, size_t, uint8_t *, size_t);
     struct gauge_look (*look)(uint8_t, const uint8_t *, size_t);
@@ -101,14 +99,15 @@ static struct gauge_answer answered(const struct side *by)
     switch (s->call) {
     case RECEIVE:
         begin();
-        a = by->receive(s->own, sizeof s->own, s->cpa, sizeof s->cpa, lent.cache, s->cache_len, lent.waiting, sizeof lent.waiting, MAJOR, MINOR, s->id,
-                        s->nonce, sizeof s->nonce, GAUGE_GOOD, s->key, sizeof s->key, s->datagram, s->datagram_len, lent.output, s->room);
+        a = by->receive(s->own, sizeof s->own, s->cpa, sizeof s->cpa, lent.cache, s->cache_len, lent.waiting, sizeof lent.waiting, SCENE_MAJOR,
+                        SCENE_MINOR, s->id, s->nonce, sizeof s->nonce, GAUGE_GOOD, s->key, sizeof s->key, s->datagram, s->datagram_len,
+                        lent.output, s->room);
         end();
         break;
     case SEND:
         begin();
-        a = by->send(s->own, sizeof s->own, lent.cache, s->cache_len, lent.waiting, sizeof lent.waiting, MAJOR, MINOR, s->id, s->neighbour,
-                     sizeof s->neighbour, s->key, sizeof s->key, lent.output, s->room);
+        a = by->send(s->own, sizeof s->own, lent.cache, s->cache_len, lent.waiting, sizeof lent.waiting, SCENE_MAJOR, SCENE_MINOR, s->id,
+                     s->neighbour, sizeof s->neighbour, s->key, sizeof s->key, lent.output, s->room);
         end();
         break;
     case TICK:
@@ -132,7 +131,7 @@ static void make(const struct side *by)
     memset(lent.answer, 0, sizeof lent.answer);
     if (scene.call == LOOK) {
         begin();
-        struct gauge_look l = by->look(MAJOR, scene.datagram, scene.datagram_len);
+        struct gauge_look l = by->look(SCENE_MAJOR, scene.datagram, scene.datagram_len);
         end();
         memcpy(lent.answer, &l, sizeof l);
     } else {

@@ -9,8 +9,9 @@ struct gauge_answer empty_receive(const uint8_t *own, size_t own_len, const uint
                                   size_t nonce_len, uint32_t verdict, const uint8_t *key, size_t key_len, const uint8_t *datagram,
                                   size_t datagram_len, uint8_t *output, size_t output_len)
 {
-    (void)own, (void)own_len, (void)cpa, (void)cpa_len, (void)cache, (void)cache_len, (void)waiting, (void)waiting_len, (void)major, (void)minor, (void)id;
-    (void)nonce, (void)nonce_len, (void)verdict, (void)key, (void)key_len, (void)datagram, (void)datagram_len, (void)output, (void)output_len;
+    (void)own, (void)own_len, (void)cpa, (void)cpa_len, (void)cache, (void)cache_len, (void)waiting, (void)waiting_len, (void)major, (void)minor;
+    (void)id, (void)nonce, (void)nonce_len, (void)verdict, (void)key, (void)key_len, (void)datagram, (void)datagram_len, (void)output;
+    (void)output_len;
     return none;
 }
 

@@ -1,5 +1,5 @@
-/* The five calls in plain C, written for speed: what the archive is measured against. It makes every test of document 01 and gives the same numbers and
- * bytes; nothing is written before the last refusal is decided. Numbers are loaded whole and swapped, keys compared by words up to the first that
+/* The five calls in plain C, written for speed: what the archive is measured against. It makes every test of document 01 and gives the same numbers
+ * and bytes; nothing is written before the last refusal is decided. Numbers are loaded whole and swapped, keys compared by words up to the first that
  * differ, runs of bytes moved by the C library. For x86-64: words are read least significant byte first.
  *
  *   PLAIN    begins the names of the calls

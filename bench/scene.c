@@ -1,11 +1,9 @@
-/* The scenes of bench/scene.h. Keys, addresses and the rest are at random from a fixed seed. The own key lies in the middle of the keys held, and half of the
- * places wait: floods and inquiries in turn. */
+/* The scenes of bench/scene.h. Keys, addresses and the rest are at random from a fixed seed. The own key lies in the middle of the keys held, and
+ * half of the places wait: floods and inquiries in turn. */
 #include "scene.h"
 #include <stdbool.h>
 #include <string.h>
 
-#define MAJOR 6
-#define MINOR 101
 #define FIRST_ID 1000u /* of the waiting places, which have every tenth */
 
 static uint64_t state;
@@ -135,7 +133,7 @@ static void pad(struct scene *s)
 static void add_header(struct scene *s, enum gauge_kind kind)
 {
     add4(s, 0x0010000C);
-    add4(s, 0x51000000 | MAJOR << 16 | MINOR << 8 | (uint32_t)kind);
+    add4(s, 0x51000000 | SCENE_MAJOR << 16 | SCENE_MINOR << 8 | (uint32_t)kind);
     add4(s, 0xD8859CF5);
 }
 
@@ -150,7 +148,7 @@ static void add_opaque(struct scene *s, uint32_t number, size_t n)
 static void add_entry(struct scene *s, const uint8_t *record)
 {
     size_t count = record[GAUGE_RECORD_COUNT];
-    uint8_t counts[2] = {0, (uint8_t)count}, versions[2] = {MAJOR, MINOR};
+    uint8_t counts[2] = {0, (uint8_t)count}, versions[2] = {SCENE_MAJOR, SCENE_MINOR};
     add4(s, 0x009A0000 | (uint32_t)(42 + 16 * count));
     add(s, record, GAUGE_KEY_LEN);
     add(s, versions, 2);

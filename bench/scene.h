@@ -6,8 +6,10 @@
 
 enum call { RECEIVE, SEND, TICK, NEIGHBOURS, LOOK };
 
-#define SCENE_CPA 256
-#define SCENE_PLACES 8
+#define SCENE_MAJOR 6
+#define SCENE_MINOR 101
+#define SCENE_CPA 256  /* bytes of a CPA, our own or in an AUTHORITY */
+#define SCENE_PLACES 8 /* places that wait */
 
 struct scene {
     const char *name;

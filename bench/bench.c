@@ -8,6 +8,7 @@
 #define _POSIX_C_SOURCE 199309L
 #include "plain.h"
 #include "scene.h"
+#include <math.h>
 #include <stdbool.h>
 #include <stdio.h>
 #include <stdlib.h>
@@ -15,6 +16,7 @@
 #include <time.h>
 
 #define ROUNDS 1501
+#define SHORTEST 10 /* nanoseconds: for less the clock's ticks are too wide, and no ratio is told */
 
 PLAIN_CALLS(gcc);
 PLAIN_CALLS(gcc_halves);
@@ -202,7 +204,7 @@ static double ticks_per_ns(void)
 }
 
 struct measured {
-    double ns, same, halves; /* of the archive; its ratio to the best plain C, and to the best that halves */
+    double ns, same, halves; /* of the archive; its ratio to the best plain C, and to the best that halves; NAN for none */
 };
 
 static struct measured measure(double per_ns)
@@ -224,9 +226,19 @@ static struct measured measure(double per_ns)
         double *best = sides[i].halves ? &m.halves : &m.same, r = median(ratio, ROUNDS);
         if (r > *best)
             *best = r;
+        if (median(took[i], ROUNDS) - call < SHORTEST * per_ns)
+            *best = NAN;
     }
     m.ns = (median(took[0], ROUNDS) - call) / per_ns;
     return m;
+}
+
+static void show(double ratio)
+{
+    if (isnan(ratio))
+        printf("%7s", "-");
+    else
+        printf("%7.2f", ratio);
 }
 
 int main(int argc, char **argv)
@@ -248,7 +260,10 @@ int main(int argc, char **argv)
             struct measured m = measure(per_ns);
             if (k == 0)
                 printf("%-36s", scene.name);
-            printf("%8.0f%6.2f%7.2f%s", m.ns, m.same, m.halves, k == 2 ? "\n" : "");
+            printf("%7.0f", m.ns);
+            show(m.same);
+            show(m.halves);
+            printf("%s", k == 2 ? "\n" : "");
             fflush(stdout);
         }
     }

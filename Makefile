@@ -1,5 +1,5 @@
 # Two commands: `make run` shows what the gauge's functions make of fixed vectors and what happens on the hill, `make test` is all that the gate runs.
-.PHONY: run test check lib install ponds hill fmt definitions vectors outside counted compare planted nights soak tools clean
+.PHONY: run test check lib install ponds hill fmt definitions vectors outside counted compare planted nights soak tools clean bench
 
 run: tools
 	@tests/run-vectors
@@ -69,6 +69,16 @@ nights: tools
 # Ten million calls, of other nights than the gate's. No test of the gate: it takes most of an hour where the archive runs by an emulator.
 soak: tools
 	@tests/compare 10000000 2
+
+# The calls of the archive beside plain C that does the same (docs/PERFORMANCE.md). No test of the gate.
+bench: tools
+	@bench/build
+	@echo 'The archive beside plain C (bench/plain.c), the best of the compilers there are. same: how many times what plain C takes that looks at the same records;'
+	@echo 'halving: .. that searches keys by halving. Above 1 the archive takes more. The clock means nothing where an emulator runs x86-64; instructions do.'
+	@echo
+	@tools/run target/bench/bench
+	@echo
+	@bench/instructions
 
 tools:
 	@tools/install

@@ -7,7 +7,7 @@ use native.Mathlib.Omega.{arith}
 use lib.Dec.{leb, eqb}
 use lib.ListN.{length, take, drop, getD, replicate, length-append, length-replicate}
 use lib.Seq.{take-take, drop-drop, take-nil}
-use borrow.Author.Tests.{lt-leb, leb-true, eqb-true}
+use borrow.Author.Tests.{le-leb, lt-leb, leb-true, eq-eqb, eqb-true}
 use Rattle.octet.specs.Part.{part, same, allZero, splice}
 use Rattle.octet.proofs.PartLaws.{part-add, part-at, part-two, length-part, splice-next}
 use Rattle.octet.proofs.TestLaws.{both-true, and-true}
@@ -69,6 +69,18 @@ form-at at s h m =
       e,
       f,
     )
+
+-- the same where what is left of it starts and ends at known places
+pub form-left : (at p n : ℕ) (s : List ℕ) → at + 100 ≤ length s → 1 ≤ getD s (at + 34) 0 → getD s (at + 34) 0 ≤ 4 → getD s (at + 35) 0 ≡ 0
+    → p ≡ at + 36 + 16 * getD s (at + 34) 0 → n ≡ 8 * (8 - 2 * getD s (at + 34) 0) → allZero (part p n s) ≡ recordForm (part at 100 s)
+form-left at p n s h l m z e w =
+    let c = getD s (at + 34) 0 in
+    let left : allZero (part p n s) ≡ allZero (part (at + 36 + 16 * c) (8 * (8 - 2 * c)) s) = ap₂ (λ (i k : ℕ). allZero (part i k s)) e w in
+    rw (form-at at s h m, le-leb 1 c l, le-leb c 4 m, eq-eqb (getD s (at + 35) 0) 0 z) left
+
+pub zero-none : (p : ℕ) (s : List ℕ) → true ≡ allZero (part p 0 s)
+unfolding allZero
+zero-none p s = refl
 
 -- more than four addresses are too many
 pub form-many : (at : ℕ) (s : List ℕ) → 4 < getD s (at + 34) 0 → false ≡ recordForm (part at 100 s)

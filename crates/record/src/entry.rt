@@ -9,7 +9,7 @@ ghost use Rattle.octet.specs.Part.{part, same, splice};
 ghost use Rattle.record.specs.Entry.{entryForm, recordOf, entryOf};
 ghost use Rattle.record.specs.Record.{recordForm};
 
-// Are the 100 bytes at a place the very record that a route entry names?
+// Are the 100 bytes at a place the very record that a route entry names? Most differ in the first word of their keys.
 pub fn same_as_entry(s: &[u8], at: usize, d: &[u8], start: usize, len: usize) -> bool
     requires { ⌜ at + 100 ≤ length (now s) ⌝ }
     requires { ⌜ start + len ≤ length (now d) ⌝ }
@@ -18,7 +18,7 @@ pub fn same_as_entry(s: &[u8], at: usize, d: &[u8], start: usize, len: usize) ->
 {
     let count = d[start + 37];
     let size = 16 * (count as usize);
-    if !same_piece(s, at, d, start, 32) {
+    if !octet::equal_words(s, at, d, start, 4) {
         return false;
     }
     if !same_piece(s, at + 32, d, start + 34, 2) {

@@ -24,7 +24,8 @@ pub fn is_record(r: &[u8]) -> bool
     is_formed(r, 0)
 }
 
-// Are the 100 bytes at a place a record in form?
+// Are the 100 bytes at a place a record in form? Each count of addresses leaves a known number of words, so that the
+// compiler needs no loop for them.
 pub fn is_formed(s: &[u8], at: usize) -> bool
     requires { ⌜ at + 100 ≤ length (now s) ⌝ }
     ensures { λ r. ⌜ r ≡ recordForm (part at 100 (now (s .entry))) ⌝ }
@@ -39,6 +40,14 @@ pub fn is_formed(s: &[u8], at: usize) -> bool
     if s[at + 35] != 0 {
         return false;
     }
-    let unused = at + 36 + 16 * count;
-    octet::zero_words(s, unused, 8 - 2 * count)
+    if count == 1 {
+        return octet::zero_words(s, at + 52, 6);
+    }
+    if count == 2 {
+        return octet::zero_words(s, at + 68, 4);
+    }
+    if count == 3 {
+        return octet::zero_words(s, at + 84, 2);
+    }
+    true
 }

@@ -1,10 +1,11 @@
 -- `record::is_formed` meets its contract: the tests are those of the 100 bytes at the place (form-at). Assumes nothing.
-use Prim.Native.Nat.{_+_}
+use Prim.Native.Nat.{_+_, _*_}
 use native.Mathlib.Omega.{arith}
-use borrow.Author.Tests.{le-leb, lt-leb, eq-eqb, ne-eqb}
+use borrow.Author.Tests.{le-leb, lt-leb, ne-eqb}
+use mathlib.Core.Path.{_∙_}
 use denote.Ref.{now}
 use lib.ListN.{getD}
-use Rattle.record.proofs.PlaceLaws.{form-at, form-many}
+use Rattle.record.proofs.PlaceLaws.{form-at, form-many, form-left, zero-none}
 use borrow.Author.Needs.{needs}
 use Rattle.record.proofs.is_formed.Statement.{statement}
 use Rattle.record.proofs.is_formed.Tie as tie
@@ -45,34 +46,53 @@ returns-3 c =
       ne-eqb (getD s (at + 35) 0) 0 (c .if3 .taken),
     )
 
-add-unused : tie.Need-add-unused
-add-unused c = search needs
-
-mul-unused : tie.Need-mul-unused
-mul-unused c = search needs
-
-add-unused-2 : tie.Need-add-unused-2
-add-unused-2 c = search needs
-
-mul-zero-words : tie.Need-mul-zero-words
-mul-zero-words c = search needs
-
-sub-zero-words : tie.Need-sub-zero-words
-sub-zero-words c = search needs
+add-zero-words : tie.Need-add-zero-words
+add-zero-words c = search needs
 
 zero-words-requires : tie.Need-zero-words-requires
 zero-words-requires c κs = search needs
 
+-- each count leaves so many words, from a known place on
 returns-4 : tie.Need-returns-4
 returns-4 c =
-    let s = now (c .before .before .before .before .before .before .before .args .s) in
-    let at = c .before .before .before .before .before .before .before .args .at in
-    rw (
-      form-at at s (c .before .before .before .before .before .before .before .pre) (omega arith),
-      le-leb 1 (getD s (at + 34) 0) (omega arith),
-      le-leb (getD s (at + 34) 0) 4 (omega arith),
-      eq-eqb (getD s (at + 35) 0) 0 (c .before .if3 .left),
-    ) (c .zero-words .ensures)
+    let start = c .before .before .before .before .before .before .before .before in
+    let at = start .args .at in
+    c .zero-words .ensures
+    ∙ form-left at (at + 52) (8 * 6) (now (start .args .s)) (start .pre) (omega arith) (omega arith) (c .before .before .if3 .left) (omega arith) (omega arith)
+
+add-zero-words-2 : tie.Need-add-zero-words-2
+add-zero-words-2 c = search needs
+
+zero-words-requires-2 : tie.Need-zero-words-requires-2
+zero-words-requires-2 c κs = search needs
+
+returns-5 : tie.Need-returns-5
+returns-5 c =
+    let start = c .before .before .before .before .before .before .before .before .before in
+    let at = start .args .at in
+    c .zero-words2 .ensures
+    ∙ form-left at (at + 68) (8 * 4) (now (start .args .s)) (start .pre) (omega arith) (omega arith) (c .before .before .before .if3 .left) (omega arith) (omega arith)
+
+add-zero-words-3 : tie.Need-add-zero-words-3
+add-zero-words-3 c = search needs
+
+zero-words-requires-3 : tie.Need-zero-words-requires-3
+zero-words-requires-3 c κs = search needs
+
+returns-6 : tie.Need-returns-6
+returns-6 c =
+    let start = c .before .before .before .before .before .before .before .before .before .before in
+    let at = start .args .at in
+    c .zero-words3 .ensures
+    ∙ form-left at (at + 84) (8 * 2) (now (start .args .s)) (start .pre) (omega arith) (omega arith) (c .before .before .before .before .if3 .left) (omega arith) (omega arith)
+
+returns-7 : tie.Need-returns-7
+returns-7 c =
+    let start = c .before .before .before .before .before .before .before .before .before in
+    let at = start .args .at in
+    let s = now (start .args .s) in
+    zero-none (at + 100) s
+    ∙ form-left at (at + 100) 0 s (start .pre) (omega arith) (omega arith) (c .before .before .before .if3 .left) (omega arith) (omega arith)
 
 pub is-formed-spec : {M : Type 1} → statement M
 is-formed-spec =
@@ -86,10 +106,13 @@ is-formed-spec =
     add-if3
     shared-slice-read-if3
     returns-3
-    add-unused
-    mul-unused
-    add-unused-2
-    mul-zero-words
-    sub-zero-words
+    add-zero-words
     zero-words-requires
-    returns-4)
+    returns-4
+    add-zero-words-2
+    zero-words-requires-2
+    returns-5
+    add-zero-words-3
+    zero-words-requires-3
+    returns-6
+    returns-7)

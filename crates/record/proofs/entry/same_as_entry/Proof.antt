@@ -29,8 +29,8 @@ mul-size c =
     let w = entry-at (c .before .before .before .args .start) (c .before .before .before .args .len) (now (c .before .before .before .args .d)) (c .before .before .before .pre .1 .0) (c .before .before .before .pre .1 .1) in
     omega (arith, w .most, w .long)
 
-same-piece-requires : tie.Need-same-piece-requires
-same-piece-requires c κs =
+equal-words-requires : tie.Need-equal-words-requires
+equal-words-requires c κs =
     let w = entry-at (c .before .before .before .args .start) (c .before .before .before .args .len) (now (c .before .before .before .args .d)) (c .before .before .before .pre .1 .0) (c .before .before .before .pre .1 .1) in
     (omega arith, omega (arith, w .most, w .long))
 
@@ -40,7 +40,7 @@ returns c =
     let d = now (c .before .before .before .before .before .args .d) in
     let at = c .before .before .before .before .before .args .at in
     let start = c .before .before .before .before .before .args .start in
-    rw (same-pieces at start (c .before .before .before .before .before .args .len) s d (c .before .before .before .before .before .pre .0) (c .before .before .before .before .before .pre .1 .0) (c .before .before .before .before .before .pre .1 .1), sym (c .before .same-piece .ensures) ∙ not-true _ (c .if1 .taken))
+    rw (same-pieces at start (c .before .before .before .before .before .args .len) s d (c .before .before .before .before .before .pre .0) (c .before .before .before .before .before .pre .1 .0) (c .before .before .before .before .before .pre .1 .1), sym (c .before .equal-words .ensures) ∙ not-true _ (c .if1 .taken))
 
 add-same-piece : tie.Need-add-same-piece
 add-same-piece c = search needs
@@ -48,8 +48,8 @@ add-same-piece c = search needs
 add-same-piece-2 : tie.Need-add-same-piece-2
 add-same-piece-2 c = search needs
 
-same-piece-requires-2 : tie.Need-same-piece-requires-2
-same-piece-requires-2 c κs =
+same-piece-requires : tie.Need-same-piece-requires
+same-piece-requires c κs =
     let w = entry-at (c .before .before .before .before .before .args .start) (c .before .before .before .before .before .args .len) (now (c .before .before .before .before .before .args .d)) (c .before .before .before .before .before .pre .1 .0) (c .before .before .before .before .before .pre .1 .1) in
     (omega arith, omega (arith, w .most, w .long))
 
@@ -59,7 +59,7 @@ returns-2 c =
     let d = now (c .before .before .before .before .before .before .before .args .d) in
     let at = c .before .before .before .before .before .before .before .args .at in
     let start = c .before .before .before .before .before .before .before .args .start in
-    rw (same-pieces at start (c .before .before .before .before .before .before .before .args .len) s d (c .before .before .before .before .before .before .before .pre .0) (c .before .before .before .before .before .before .before .pre .1 .0) (c .before .before .before .before .before .before .before .pre .1 .1), sym (c .before .before .before .same-piece .ensures) ∙ not-false _ (c .before .before .if1 .left), sym (c .before .same-piece2 .ensures) ∙ not-true _ (c .if2 .taken))
+    rw (same-pieces at start (c .before .before .before .before .before .before .before .args .len) s d (c .before .before .before .before .before .before .before .pre .0) (c .before .before .before .before .before .before .before .pre .1 .0) (c .before .before .before .before .before .before .before .pre .1 .1), sym (c .before .before .before .equal-words .ensures) ∙ not-false _ (c .before .before .if1 .left), sym (c .before .same-piece .ensures) ∙ not-true _ (c .if2 .taken))
 
 add-if3 : tie.Need-add-if3
 add-if3 c = search needs
@@ -73,7 +73,7 @@ returns-3 c =
     let d = now (c .before .before .before .before .before .before .before .before .before .args .d) in
     let at = c .before .before .before .before .before .before .before .before .before .args .at in
     let start = c .before .before .before .before .before .before .before .before .before .args .start in
-    rw (same-pieces at start (c .before .before .before .before .before .before .before .before .before .args .len) s d (c .before .before .before .before .before .before .before .before .before .pre .0) (c .before .before .before .before .before .before .before .before .before .pre .1 .0) (c .before .before .before .before .before .before .before .before .before .pre .1 .1), sym (c .before .before .before .before .before .same-piece .ensures) ∙ not-false _ (c .before .before .before .before .if1 .left), sym (c .before .before .before .same-piece2 .ensures) ∙ not-false _ (c .before .before .if2 .left), ne-eqb (getD s (at + 34) 0) (getD d (start + 37) 0) (c .if3 .taken))
+    rw (same-pieces at start (c .before .before .before .before .before .before .before .before .before .args .len) s d (c .before .before .before .before .before .before .before .before .before .pre .0) (c .before .before .before .before .before .before .before .before .before .pre .1 .0) (c .before .before .before .before .before .before .before .before .before .pre .1 .1), sym (c .before .before .before .before .before .equal-words .ensures) ∙ not-false _ (c .before .before .before .before .if1 .left), sym (c .before .before .before .same-piece .ensures) ∙ not-false _ (c .before .before .if2 .left), ne-eqb (getD s (at + 34) 0) (getD d (start + 37) 0) (c .if3 .taken))
 
 add-if4 : tie.Need-add-if4
 add-if4 c = search needs
@@ -87,7 +87,7 @@ returns-4 c =
     let d = now (c .before .before .before .before .before .before .before .before .before .before .before .args .d) in
     let at = c .before .before .before .before .before .before .before .before .before .before .before .args .at in
     let start = c .before .before .before .before .before .before .before .before .before .before .before .args .start in
-    rw (same-pieces at start (c .before .before .before .before .before .before .before .before .before .before .before .args .len) s d (c .before .before .before .before .before .before .before .before .before .before .before .pre .0) (c .before .before .before .before .before .before .before .before .before .before .before .pre .1 .0) (c .before .before .before .before .before .before .before .before .before .before .before .pre .1 .1), sym (c .before .before .before .before .before .before .before .same-piece .ensures) ∙ not-false _ (c .before .before .before .before .before .before .if1 .left), sym (c .before .before .before .before .before .same-piece2 .ensures) ∙ not-false _ (c .before .before .before .before .if2 .left), eq-eqb (getD s (at + 34) 0) (getD d (start + 37) 0) (c .before .before .if3 .left), ne-eqb (getD s (at + 35) 0) 0 (c .if4 .taken))
+    rw (same-pieces at start (c .before .before .before .before .before .before .before .before .before .before .before .args .len) s d (c .before .before .before .before .before .before .before .before .before .before .before .pre .0) (c .before .before .before .before .before .before .before .before .before .before .before .pre .1 .0) (c .before .before .before .before .before .before .before .before .before .before .before .pre .1 .1), sym (c .before .before .before .before .before .before .before .equal-words .ensures) ∙ not-false _ (c .before .before .before .before .before .before .if1 .left), sym (c .before .before .before .before .before .same-piece .ensures) ∙ not-false _ (c .before .before .before .before .if2 .left), eq-eqb (getD s (at + 34) 0) (getD d (start + 37) 0) (c .before .before .if3 .left), ne-eqb (getD s (at + 35) 0) 0 (c .if4 .taken))
 
 add-same-piece-3 : tie.Need-add-same-piece-3
 add-same-piece-3 c = search needs
@@ -95,8 +95,8 @@ add-same-piece-3 c = search needs
 add-same-piece-4 : tie.Need-add-same-piece-4
 add-same-piece-4 c = search needs
 
-same-piece-requires-3 : tie.Need-same-piece-requires-3
-same-piece-requires-3 c κs =
+same-piece-requires-2 : tie.Need-same-piece-requires-2
+same-piece-requires-2 c κs =
     let w = entry-at (c .before .before .before .before .before .before .before .before .before .before .before .args .start) (c .before .before .before .before .before .before .before .before .before .before .before .args .len) (now (c .before .before .before .before .before .before .before .before .before .before .before .args .d)) (c .before .before .before .before .before .before .before .before .before .before .before .pre .1 .0) (c .before .before .before .before .before .before .before .before .before .before .before .pre .1 .1) in
     (omega arith, omega (arith, w .most, w .long))
 
@@ -106,7 +106,7 @@ returns-5 c =
     let d = now (c .before .before .before .before .before .before .before .before .before .before .before .before .before .args .d) in
     let at = c .before .before .before .before .before .before .before .before .before .before .before .before .before .args .at in
     let start = c .before .before .before .before .before .before .before .before .before .before .before .before .before .args .start in
-    rw (same-pieces at start (c .before .before .before .before .before .before .before .before .before .before .before .before .before .args .len) s d (c .before .before .before .before .before .before .before .before .before .before .before .before .before .pre .0) (c .before .before .before .before .before .before .before .before .before .before .before .before .before .pre .1 .0) (c .before .before .before .before .before .before .before .before .before .before .before .before .before .pre .1 .1), sym (c .before .before .before .before .before .before .before .before .before .same-piece .ensures) ∙ not-false _ (c .before .before .before .before .before .before .before .before .if1 .left), sym (c .before .before .before .before .before .before .before .same-piece2 .ensures) ∙ not-false _ (c .before .before .before .before .before .before .if2 .left), eq-eqb (getD s (at + 34) 0) (getD d (start + 37) 0) (c .before .before .before .before .if3 .left), eq-eqb (getD s (at + 35) 0) 0 (c .before .before .if4 .left), sym (c .before .same-piece3 .ensures) ∙ not-true _ (c .if5 .taken))
+    rw (same-pieces at start (c .before .before .before .before .before .before .before .before .before .before .before .before .before .args .len) s d (c .before .before .before .before .before .before .before .before .before .before .before .before .before .pre .0) (c .before .before .before .before .before .before .before .before .before .before .before .before .before .pre .1 .0) (c .before .before .before .before .before .before .before .before .before .before .before .before .before .pre .1 .1), sym (c .before .before .before .before .before .before .before .before .before .equal-words .ensures) ∙ not-false _ (c .before .before .before .before .before .before .before .before .if1 .left), sym (c .before .before .before .before .before .before .before .same-piece .ensures) ∙ not-false _ (c .before .before .before .before .before .before .if2 .left), eq-eqb (getD s (at + 34) 0) (getD d (start + 37) 0) (c .before .before .before .before .if3 .left), eq-eqb (getD s (at + 35) 0) 0 (c .before .before .if4 .left), sym (c .before .same-piece2 .ensures) ∙ not-true _ (c .if5 .taken))
 
 add-unused : tie.Need-add-unused
 add-unused c = search needs
@@ -144,7 +144,7 @@ returns-6 c =
     let d = now (c .before .before .before .before .before .before .before .before .before .before .before .before .before .before .args .d) in
     let at = c .before .before .before .before .before .before .before .before .before .before .before .before .before .before .args .at in
     let start = c .before .before .before .before .before .before .before .before .before .before .before .before .before .before .args .start in
-    rw (same-pieces at start (c .before .before .before .before .before .before .before .before .before .before .before .before .before .before .args .len) s d (c .before .before .before .before .before .before .before .before .before .before .before .before .before .before .pre .0) (c .before .before .before .before .before .before .before .before .before .before .before .before .before .before .pre .1 .0) (c .before .before .before .before .before .before .before .before .before .before .before .before .before .before .pre .1 .1), sym (c .before .before .before .before .before .before .before .before .before .before .same-piece .ensures) ∙ not-false _ (c .before .before .before .before .before .before .before .before .before .if1 .left), sym (c .before .before .before .before .before .before .before .before .same-piece2 .ensures) ∙ not-false _ (c .before .before .before .before .before .before .before .if2 .left), eq-eqb (getD s (at + 34) 0) (getD d (start + 37) 0) (c .before .before .before .before .before .if3 .left), eq-eqb (getD s (at + 35) 0) 0 (c .before .before .before .if4 .left), sym (c .before .before .same-piece3 .ensures) ∙ not-false _ (c .before .if5 .left))
+    rw (same-pieces at start (c .before .before .before .before .before .before .before .before .before .before .before .before .before .before .args .len) s d (c .before .before .before .before .before .before .before .before .before .before .before .before .before .before .pre .0) (c .before .before .before .before .before .before .before .before .before .before .before .before .before .before .pre .1 .0) (c .before .before .before .before .before .before .before .before .before .before .before .before .before .before .pre .1 .1), sym (c .before .before .before .before .before .before .before .before .before .before .equal-words .ensures) ∙ not-false _ (c .before .before .before .before .before .before .before .before .before .if1 .left), sym (c .before .before .before .before .before .before .before .before .same-piece .ensures) ∙ not-false _ (c .before .before .before .before .before .before .before .if2 .left), eq-eqb (getD s (at + 34) 0) (getD d (start + 37) 0) (c .before .before .before .before .before .if3 .left), eq-eqb (getD s (at + 35) 0) 0 (c .before .before .before .if4 .left), sym (c .before .before .same-piece2 .ensures) ∙ not-false _ (c .before .if5 .left))
     (c .zero-words .ensures ∙ ap (λ (n : ℕ). allZero (part (at + 36 + 16 * getD d (start + 37) 0) n s)) e)
 
 pub same-as-entry-spec : {M : Type 1} → statement M
@@ -155,11 +155,11 @@ same-as-entry-spec =
     shared-slice-read-count
     cast-size
     mul-size
-    same-piece-requires
+    equal-words-requires
     returns
     add-same-piece
     add-same-piece-2
-    same-piece-requires-2
+    same-piece-requires
     returns-2
     add-if3
     shared-slice-read-if3
@@ -169,7 +169,7 @@ same-as-entry-spec =
     returns-4
     add-same-piece-3
     add-same-piece-4
-    same-piece-requires-3
+    same-piece-requires-2
     returns-5
     add-unused
     add-unused-2

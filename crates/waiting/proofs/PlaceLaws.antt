@@ -55,12 +55,29 @@ pub by-fields : (own : ℕ) (p : List ℕ)
 unfolding placeForm
 by-fields own p = refl
 
--- by the tests of `place_formed`
-pub formed-is : (own : ℕ) (p : List ℕ) {z f k o : Bool} → z ≡ allZero (part 40 100 p) → f ≡ recordForm (part 40 100 p)
-    → k ≡ eqb (keyAt 40 p) (keyAt 8 p) → o ≡ eqb (keyAt 8 p) own
-    → (leb (triesOf p) 2 && eqb (getD p 6 0) 0 && eqb (getD p 7 0) 0 && (eqb (kindOf p) 1 && z || eqb (kindOf p) 2 && f && k && not o)) ≡ placeForm own p
+-- the tests of a flood's place, of an inquiry's, and of one that is neither
+pub flood-is : (own : ℕ) (p : List ℕ) (z : Bool) → kindOf p ≡ 1 → z ≡ allZero (part 40 100 p)
+    → (leb (triesOf p) 2 && eqb (getD p 6 0) 0 && eqb (getD p 7 0) 0 && z) ≡ placeForm own p
 unfolding placeForm
-formed-is own p hz hf hk ho = rw (hz, hf, hk, ho, record-key p) refl
+flood-is own p z e hz = rw (e, sym hz) (ap (λ (t : Bool). leb (triesOf p) 2 && eqb (getD p 6 0) 0 && eqb (getD p 7 0) 0 && t) (alone z))
+  where
+    alone : (z : Bool) → z ≡ z || false
+    alone true = refl
+    alone false = refl
+
+pub inquiry-is : (own : ℕ) (p : List ℕ) {f k o : Bool} → kindOf p ≡ 2 → f ≡ recordForm (part 40 100 p) → k ≡ eqb (keyAt 40 p) (keyAt 8 p)
+    → o ≡ eqb (keyAt 8 p) own
+    → (leb (triesOf p) 2 && eqb (getD p 6 0) 0 && eqb (getD p 7 0) 0 && (f && k && not o)) ≡ placeForm own p
+unfolding placeForm
+inquiry-is own p e hf hk ho = rw (e, hf, hk, ho, record-key p) refl
+
+pub neither-is : (own : ℕ) (p : List ℕ) → eqb (kindOf p) 1 ≡ false → eqb (kindOf p) 2 ≡ false → false ≡ placeForm own p
+unfolding placeForm
+neither-is own p e g = rw (e, g) (none (leb (triesOf p) 2 && eqb (getD p 6 0) 0 && eqb (getD p 7 0) 0))
+  where
+    none : (t : Bool) → false ≡ t && false
+    none true = refl
+    none false = refl
 
 first-true : (a b c d : Bool) → a && b && c && d ≡ true → a ≡ true
 first-true true b c d e = refl

@@ -11,9 +11,14 @@ pub(crate) fn place_formed(own: &[u8], place: &[u8]) -> bool
     ensures { λ r. ⌜ r ≡ placeForm (keyOf (now (own .entry))) (now (place .entry)) ⌝ }
 {
     let head = (place[5] <= 2) & (place[6] == 0) & (place[7] == 0);
-    let flood = (place[4] == 1) & octet::is_zero(&place[40..140]);
-    let formed = (place[4] == 2) & record::is_formed(place, 40);
+    if place[4] == 1 {
+        return head & octet::is_zero(&place[40..140]);
+    }
+    if place[4] != 2 {
+        return false;
+    }
+    let formed = record::is_formed(place, 40);
     let keyed = key::same_at(place, 40, place, 8);
     let ours = key::same_at(place, 8, own, 0);
-    head & (flood | formed & keyed & !ours)
+    head & (formed & keyed & !ours)
 }

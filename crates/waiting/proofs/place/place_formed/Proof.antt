@@ -1,6 +1,8 @@
--- `waiting::place::place_formed` meets its contract: its tests are those of the definition, in the same order. Assumes nothing.
+-- `waiting::place::place_formed` meets its contract: its tests are those of the definition for the place's kind. Assumes nothing.
+use borrow.Author.Tests.{ne-eqb}
 use Rattle.record.specs.Record.{keyOf}
-use Rattle.waiting.proofs.PlaceLaws.{formed-is}
+use Rattle.waiting.specs.Place.{kindOf}
+use Rattle.waiting.proofs.PlaceLaws.{flood-is, inquiry-is, neither-is}
 use borrow.Author.Needs.{needs}
 use Rattle.waiting.proofs.place.place_formed.Statement.{statement}
 use Rattle.waiting.proofs.place.place_formed.Tie as tie
@@ -14,8 +16,8 @@ shared-slice-read-head-2 c = search needs
 shared-slice-read-head-3 : tie.Need-shared-slice-read-head-3
 shared-slice-read-head-3 c = search needs
 
-shared-slice-read-flood : tie.Need-shared-slice-read-flood
-shared-slice-read-flood c = search needs
+shared-slice-read-if1 : tie.Need-shared-slice-read-if1
+shared-slice-read-if1 c = search needs
 
 sub-is-zero : tie.Need-sub-is-zero
 sub-is-zero c = search needs
@@ -29,8 +31,19 @@ part-is-zero-end c = search needs
 is-zero-requires : tie.Need-is-zero-requires
 is-zero-requires c κs = search needs
 
-shared-slice-read-formed : tie.Need-shared-slice-read-formed
-shared-slice-read-formed c = search needs
+returns : tie.Need-returns
+returns c =
+    let a = c .before .before .before .before .before .before .before .before .before .args in
+    flood-is (keyOf (a .own .now)) (a .place .now) _ (c .before .before .if1 .taken) (c .is-zero .ensures)
+
+shared-slice-read-if2 : tie.Need-shared-slice-read-if2
+shared-slice-read-if2 c = search needs
+
+returns-2 : tie.Need-returns-2
+returns-2 c =
+    let a = c .before .before .before .before .before .before .before .before .before .args in
+    let kind = kindOf (a .place .now) in
+    neither-is (keyOf (a .own .now)) (a .place .now) (ne-eqb kind 1 (c .before .before .if1 .left)) (ne-eqb kind 2 (c .if2 .taken))
 
 is-formed-requires : tie.Need-is-formed-requires
 is-formed-requires c κs = search needs
@@ -41,11 +54,11 @@ same-at-requires c κs = search needs
 same-at-requires-2 : tie.Need-same-at-requires-2
 same-at-requires-2 c κs = search needs
 
-returns : tie.Need-returns
-returns c =
+returns-3 : tie.Need-returns-3
+returns-3 c =
     let a = c .before .before .before .before .before .before .before .before .before .before .before .before .args in
-    let zero = c .before .before .before .before .is-zero .ensures in
-    formed-is (keyOf (a .own .now)) (a .place .now) zero (c .before .before .is-formed .ensures) (c .before .same-at .ensures) (c .same-at2 .ensures)
+    inquiry-is (keyOf (a .own .now)) (a .place .now) (c .before .before .before .if2 .left) (c .before .before .is-formed .ensures)
+    (c .before .same-at .ensures) (c .same-at2 .ensures)
 
 pub place-formed-spec : {M : Type 1} → statement M
 place-formed-spec =
@@ -54,13 +67,15 @@ place-formed-spec =
     shared-slice-read-head
     shared-slice-read-head-2
     shared-slice-read-head-3
-    shared-slice-read-flood
+    shared-slice-read-if1
     sub-is-zero
     part-is-zero-start
     part-is-zero-end
     is-zero-requires
-    shared-slice-read-formed
+    returns
+    shared-slice-read-if2
+    returns-2
     is-formed-requires
     same-at-requires
     same-at-requires-2
-    returns)
+    returns-3)

@@ -4,10 +4,13 @@ use mathlib.Core.List.{List, _∷_}
 use Prim.Native.Nat.{ℕ, suc, _+_, _*_, _≤_, _<_}
 use native.Mathlib.Nat.{add-zero, zero-add}
 use native.Mathlib.Omega.{arith}
-use lib.ListN.{drop}
+use lib.ListN.{length, drop}
+use Rattle.octet.specs.Number.{Digits, valueBE}
+use Rattle.octet.specs.Part.{part}
 use Rattle.key.specs.declared.Order.the-variants.{Less, Same, More}
 use Rattle.key.specs.Number.{keyAt, orderOf}
 use Rattle.key.proofs.OrderLaws.{test-less, test-same, test-more}
+use Rattle.key.proofs.PlaceLaws.{order-part, then-less}
 use Rattle.table.specs.Rows.{rows}
 use Rattle.table.proofs.RowLaws.{rows-next, rows-end}
 use Rattle.cache.specs.declared.place.Found.{Found}
@@ -15,6 +18,13 @@ use Rattle.cache.specs.declared.place.Found.the-variants.{At, Before}
 use Rattle.cache.specs.Form.{keysOf}
 use Rattle.cache.specs.Place.{further, findKey}
 use Rattle.cache.proofs.FormLaws.{key-of-row}
+
+-- a key whose first word is less is less
+pub first-less : (i j : ℕ) (s t : List ℕ) → Digits 256 s → Digits 256 t → i + 32 ≤ length s → j + 32 ≤ length t
+    → valueBE 256 (part i 8 s) < valueBE 256 (part j 8 t) → orderOf (keyAt i s) (keyAt j t) ≡ Less
+first-less i j s t d e h k l =
+    order-part 256 8 24 i j s t (omega arith) d e (omega arith) (omega arith)
+    ∙ then-less (valueBE 256 (part i 8 s)) (valueBE 256 (part j 8 t)) (orderOf (valueBE 256 (part (i + 8) 24 s)) (valueBE 256 (part (j + 8) 24 t))) l
 
 -- ---- the loop
 

@@ -14,6 +14,20 @@ pub(crate) enum Where {
     Held(usize),
 }
 
+// The key of place i, word by word. The search asks it of each record, and the compiler puts it there for as long as
+// nothing else calls it; `key::key_at`, which has other callers too, it calls.
+fn key_held(cache: &[u8], i: usize) -> Key
+    requires { ⌜ 100 * i + 32 ≤ length (now cache) ⌝ }
+    ensures { λ r. ⌜ number r ≡ keyAt (100 * i) (now (cache .entry)) ⌝ }
+{
+    let at = 100 * i;
+    let a = octet::read_u64(cache, at);
+    let b = octet::read_u64(cache, at + 8);
+    let c = octet::read_u64(cache, at + 16);
+    let d = octet::read_u64(cache, at + 24);
+    Key { a, b, c, d }
+}
+
 // Where the closest record stands.
 fn place_of_closest(own: &[u8], cache: &[u8], used: usize, target: Key) -> Where
     requires { ⌜ 32 ≤ length (now own) ⌝ }
@@ -27,7 +41,7 @@ fn place_of_closest(own: &[u8], cache: &[u8], used: usize, target: Key) -> Where
     let mut far = key::how_far(target, best);
     let mut i = 0;
     while i < used {
-        let k = key::key_at(cache, 100 * i);
+        let k = key_held(cache, i);
         let d = key::how_far(target, k);
         let at = i;
         i += 1;

@@ -17,15 +17,22 @@ pub enum Found {
     Before(usize),
 }
 
-// Where the key, whose 32 bytes begin the slice, stands among the records held, or would.
+// Where the key, whose 32 bytes begin the slice, stands among the records held, or would. The first word passes over
+// most of those before it.
 pub fn find(cache: &[u8], used: usize, key: &[u8]) -> Found
     requires { ⌜ 100 * used ≤ length (now cache) ⌝ }
     requires { ⌜ 32 ≤ length (now key) ⌝ }
     requires { ⌜ Rising plain 0 (keysOf (rows 100 used (now cache))) ⌝ }
     ensures { λ r. ⌜ r ≡ findKey (keyAt 0 (now (key .entry))) (keysOf (rows 100 used (now (cache .entry)))) ⌝ }
 {
+    let first = octet::read_u64(key, 0);
     let mut i = 0;
     while i < used {
+        let word = octet::read_u64(cache, 100 * i);
+        if word < first {
+            i += 1;
+            continue;
+        }
         match key::order_at(cache, 100 * i, key, 0) {
             Order::Less => {}
             Order::Same => return Found::At(i),

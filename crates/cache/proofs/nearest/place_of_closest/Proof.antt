@@ -22,11 +22,8 @@ how-far-requires c κs = tt
 loop-holds : tie.Need-loop-holds Inv-loop μ-loop
 loop-holds c = starts _ _ _ _ _ _ (c .before .key-at .ensures) (c .how-far .ensures)
 
-mul-key-at : tie.Need-mul-key-at Inv-loop μ-loop
-mul-key-at c = omega arith
-
-key-at-requires-2 : tie.Need-key-at-requires-2 Inv-loop μ-loop
-key-at-requires-2 c κs = omega arith
+key-held-requires : tie.Need-key-held-requires Inv-loop μ-loop
+key-held-requires c κs = omega arith
 
 how-far-requires-2 : tie.Need-how-far-requires-2 Inv-loop μ-loop
 how-far-requires-2 c κs = tt
@@ -48,7 +45,7 @@ loop-again c =
     let c4 = c3 .before in
     let c5 = c4 .before in
     let l = c5 in
-    takes _ _ _ _ (l .loop .inv) _ _ (c4 .loop-test .taken) (c3 .key-at2 .ensures) (c .before .before .how-far2 .ensures) (sym (c .if1 .taken)
+    takes _ _ _ _ (l .loop .inv) _ _ (c4 .loop-test .taken) (c3 .key-held .ensures) (c .before .before .how-far2 .ensures) (sym (c .if1 .taken)
     ∙ c .before .is-closer .ensures)
 
 loop-less-2 : tie.Need-loop-less-2 Inv-loop μ-loop
@@ -60,7 +57,7 @@ loop-again-2 c =
     let c4 = c3 .before in
     let c5 = c4 .before in
     let l = c5 in
-    leaves _ _ _ _ (l .loop .inv) _ _ (c4 .loop-test .taken) (c3 .key-at2 .ensures) (c .before .before .how-far2 .ensures) (sym (c .if1 .left)
+    leaves _ _ _ _ (l .loop .inv) _ _ (c4 .loop-test .taken) (c3 .key-held .ensures) (c .before .before .how-far2 .ensures) (sym (c .if1 .left)
     ∙ c .before .is-closer .ensures)
 
 returns : tie.Need-returns Inv-loop μ-loop
@@ -75,8 +72,7 @@ place-of-closest-spec =
     key-at-requires
     how-far-requires
     loop-holds
-    mul-key-at
-    key-at-requires-2
+    key-held-requires
     how-far-requires-2
     add-i
     is-closer-requires

@@ -1,10 +1,13 @@
 // What is planned for an AUTHORITY, an ACK, an INQUIRE, a LOOKUP: every refusal is decided here.
 ghost use mathlib.Core.Path.{_≡_};
-ghost use Prim.Native.Nat.{_+_, _*_, _≤_};
+ghost use mathlib.Core.List.{List};
+ghost use Prim.Native.Nat.{ℕ, _+_, _*_, _≤_};
+ghost use lib.Dec.{ltb};
 ghost use lib.ListN.{length};
 ghost use Rattle.key.specs.Number.{keyAt};
-ghost use Rattle.record.specs.Record.{keyOf};
+ghost use Rattle.record.specs.Record.{keyOf, countOf};
 ghost use Rattle.table.specs.Rows.{rows};
+ghost use Rattle.waiting.specs.Form.{anyOf};
 ghost use Rattle.gauge_plan.specs.Answering.{authorityPlan, ackPlan, inquirePlan, lookupPlan};
 use crate::Plan;
 
@@ -71,7 +74,23 @@ pub fn plan_inquire(
     Plan::Certify(acked)
 }
 
-// The plan for a LOOKUP whose target stands at a place of the datagram.
+// Has a record that is held more than four addresses? None that is in form has.
+fn over_four(cache: &[u8], held: usize) -> bool
+    requires { ⌜ 100 * held ≤ length (now cache) ⌝ }
+    ensures { λ r. ⌜ r ≡ anyOf (λ (q : List ℕ). ltb 4 (countOf q)) (rows 100 held (now (cache .entry))) ⌝ }
+{
+    let mut i = 0;
+    while i < held {
+        if 4 < cache[100 * i + 34] {
+            return true;
+        }
+        i += 1;
+    }
+    false
+}
+
+// The plan for a LOOKUP whose target stands at a place of the datagram. Where the output has room for any record in form
+// the closest need not be known yet: it is looked for once, when it is shown.
 pub fn plan_lookup<'a>(
     own: &'a [u8],
     cache: &'a [u8],
@@ -85,6 +104,14 @@ pub fn plan_lookup<'a>(
     ensures { λ r. ⌜ r ≡ lookupPlan (now (own .entry)) (rows 100 held (now (cache .entry))) held room (now (d .entry))
         acked target ⌝ }
 {
+    let many = over_four(cache, held);
+    if (144 <= room) & (own[34] <= 4) & !many {
+        return Plan::Show {
+            held,
+            acked,
+            target,
+        };
+    }
     let shown = cache::closest(own, cache, held, &d[target..target + 32]);
     let count = shown[34] as usize;
     if room < 80 + 16 * count {

@@ -1,12 +1,14 @@
--- `gauge_plan::answering::plan_lookup` meets its contract: the record shown has 100 bytes, and its count is one of them. Assumes nothing.
+-- `gauge_plan::answering::plan_lookup` meets its contract: the record shown has 100 bytes, and its count is one of them; where every record fits it need not be known. Assumes nothing.
 use mathlib.Core.Path.{_≡_, refl, sym, ap, _∙_}
+use mathlib.Core.Bool.{true, not, _&&_}
 use mathlib.Core.List.{[], _∷_}
 use Prim.Native.Nat.{ℕ, _+_, _*_}
 use native.Mathlib.Omega.{arith}
-use lib.Dec.{ltb}
+use lib.Dec.{ltb, leb}
 use lib.ListN.{length}
 use borrow.Author.Needs.{needs}
-use borrow.Author.Tests.{lt-ltb, le-ltb}
+use borrow.Author.Tests.{lt-ltb, le-ltb, leb-true, not-true}
+use Rattle.octet.proofs.TestLaws.{both-true}
 use Rattle.octet.specs.Number.{valueBE}
 use Rattle.key.specs.Number.{keyAt}
 use Rattle.record.specs.Record.{countOf}
@@ -17,12 +19,12 @@ use Rattle.cache.specs.Closest.{candidates, closestOf}
 use Rattle.cache.proofs.ClosestLaws.{closest-length}
 use Rattle.gauge_plan.specs.Answering.{lookupPlan}
 use Rattle.gauge_plan.specs.declared.Plan.the-variants.{Refuse, Show}
-use Rattle.gauge_plan.proofs.AnsweringLaws.{lookup-by}
+use Rattle.gauge_plan.proofs.AnsweringLaws.{lookup-by, lookup-any}
 use Rattle.gauge_plan.proofs.answering.plan_lookup.Statement.{statement}
 use Rattle.gauge_plan.proofs.answering.plan_lookup.Tie as tie
 
 abbrev start : tie.After-closest → tie.Start
-start c = c .before .before .before .before .before
+start c = c .before .before .before .before .before .before .before .before
 
 -- the record shown, and how long it is
 shown : (c : tie.After-closest)
@@ -49,6 +51,23 @@ by-room c =
     let a = start c .args in
     lookup-by (a .own .now) (rows 100 (a .held) (a .cache .now)) (a .held) (a .room) (a .d .now) (a .acked) (a .target) (ap countOf (sym (shown c)))
 
+over-four-requires : tie.Need-over-four-requires
+over-four-requires c κs = search needs
+
+shared-slice-read-if1 : tie.Need-shared-slice-read-if1
+shared-slice-read-if1 c = search needs
+
+-- with room for four addresses no record in sight is too long
+returns : tie.Need-returns
+returns c =
+    let found = c .before .before in
+    let a = found .before .before .before .before .args in
+    let t : (leb 144 (a .room) && leb (countOf (a .own .now)) 4 && not (found .over-four .result)) ≡ true = c .if1 .taken in
+    let w = both-true _ _ t in
+    let u = both-true _ _ (w .0) in
+    sym (lookup-any (a .own .now) (rows 100 (a .held) (a .cache .now)) (a .held) (a .room) (a .d .now) (a .acked) (a .target)
+    (leb-true 144 (a .room) (u .0)) (leb-true (countOf (a .own .now)) 4 (u .1)) (sym (found .over-four .ensures) ∙ not-true _ (w .1)))
+
 add-closest : tie.Need-add-closest
 add-closest c = search needs
 
@@ -68,26 +87,29 @@ shared-slice-read-count : tie.Need-shared-slice-read-count
 shared-slice-read-count c = omega (arith, long (c .before))
 
 cast-count : tie.Need-cast-count
-cast-count c = omega (arith, c .shared-slice-known4 .given 34)
+cast-count c = omega (arith, c .shared-slice-known5 .given 34)
 
-mul-if1 : tie.Need-mul-if1
-mul-if1 c = omega (arith, c .shared-slice-known4 .given 34)
+mul-if2 : tie.Need-mul-if2
+mul-if2 c = omega (arith, c .shared-slice-known5 .given 34)
 
-add-if1 : tie.Need-add-if1
-add-if1 c = omega (arith, c .shared-slice-known4 .given 34)
-
-returns : tie.Need-returns
-unfolding orRefuse
-returns c = sym (by-room (c .before .before) ∙ rw (lt-ltb _ _ (c .if1 .taken)) refl)
+add-if2 : tie.Need-add-if2
+add-if2 c = omega (arith, c .shared-slice-known5 .given 34)
 
 returns-2 : tie.Need-returns-2
 unfolding orRefuse
-returns-2 c = sym (by-room (c .before .before) ∙ rw (le-ltb _ _ (c .if1 .left)) refl)
+returns-2 c = sym (by-room (c .before .before) ∙ rw (lt-ltb _ _ (c .if2 .taken)) refl)
+
+returns-3 : tie.Need-returns-3
+unfolding orRefuse
+returns-3 c = sym (by-room (c .before .before) ∙ rw (le-ltb _ _ (c .if2 .left)) refl)
 
 pub plan-lookup-spec : {M : Type 1} → statement M
 plan-lookup-spec =
     tie.close
     (tie.spec
+    over-four-requires
+    shared-slice-read-if1
+    returns
     add-closest
     sub-closest
     part-closest-start
@@ -95,7 +117,7 @@ plan-lookup-spec =
     closest-requires
     shared-slice-read-count
     cast-count
-    mul-if1
-    add-if1
-    returns
-    returns-2)
+    mul-if2
+    add-if2
+    returns-2
+    returns-3)

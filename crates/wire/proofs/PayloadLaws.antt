@@ -16,10 +16,10 @@ use Rattle.octet.proofs.TestLaws.{and-true}
 use Rattle.wire_fields.specs.Shapes.{hasShape}
 use Rattle.wire_fields.specs.declared.Part.{Part}
 use Rattle.wire_fields.specs.declared.Shape.the-variants.{Any, Entry}
-use Rattle.wire_fields.specs.Kinds.{codes, bufferKinds, authorityKinds, kindsOf}
-use Rattle.wire_fields.specs.Message.{Contents, Message, Formed, WellFormed, layoutFrom, layoutOf, bytesOf}
+use Rattle.wire_fields.specs.Kinds.{may, codes, bufferKinds, authorityKinds, kindsOf}
+use Rattle.wire_fields.specs.Message.{Contents, Message, Held, Formed, WellFormed, layoutFrom, layoutOf, bytesOf, headerOf}
 use Rattle.wire_fields.specs.Reading.{contentsIn}
-use Rattle.wire_read.specs.Meaning.{messageOf, held, bit, splitBytes}
+use Rattle.wire_read.specs.Meaning.{messageOf, held, bit, splitBytes, insideFields}
 use Rattle.wire_read.specs.declared.Head.{Head}
 use Rattle.wire_read.specs.declared.Inside.{Inside}
 use Rattle.wire_read.specs.declared.Answer.the-variants.{Authority}
@@ -31,6 +31,7 @@ use Rattle.wire_copy.specs.Resent.{pieceOf, resent}
 use Rattle.wire_copy.specs.Payload.{carryingPieces, carrying, withPayload}
 use Rattle.wire_copy.proofs.PayloadLaws.{same-ok}
 use Rattle.wire.specs.Statements.{changedAt, changed}
+use Rattle.wire.proofs.ChangedLaws.{formed-at}
 use Rattle.wire.proofs.AgainLaws.{RowsFor, Same, rows-bytes, table-bytes, authority-rows, piece-is}
 
 -- ---- it is right
@@ -77,3 +78,50 @@ module _ (major : ℕ) (d : List ℕ) (h : Head) (acked : ℕ) (f : Inside) (v :
       let e = rows-bytes bufferKinds (drop 2 authorityRows) 28 behind (drop 2 (contentsOf (givensOf major (h .minor) (lentWith 0) (carryingPieces f v))))
         (authority-rows .2 .2) g (given-behind 0) in
       omega (arith, ap length e)
+
+  -- ---- the whole
+
+  -- the message that was read
+  abbrev pub seen : Message
+  seen =
+      record {
+        major = major;
+        minor = h .minor;
+        type = 8;
+        id = h .id;
+        fields = some (digitsBE 256 4 acked) ∷ some (splitBytes (length d - 28)) ∷ insideFields d f;
+      }
+
+  -- header, acked ID, split controls, and what follows them
+  front : ℕ → List ℕ → List ℕ
+  front size rest =
+      headerOf seen ++ digitsBE 256 2 0x18 ++ digitsBE 256 2 8 ++ digitsBE 256 4 acked ++ digitsBE 256 2 0x98 ++ digitsBE 256 2 8 ++ splitBytes size ++ rest
+
+  abbrev restGiven : ℕ → List ℕ
+  restGiven size =
+      bytesOf (layoutFrom 28 (kindsOfRows (drop 2 authorityRows)) (drop 2 (contentsOf (givensOf major (h .minor) (lentWith size) (carryingPieces f v)))))
+
+  made-front : (size : ℕ) → carrying major d h acked f v size .bytes ≡ front size (restGiven size)
+  unfolding carrying madeBy digitsBE front
+  made-front size = refl
+
+  changed-front : bytesOf (layoutOf authorityKinds (changed authorityKinds seen 6 (some v)))
+      ≡ front (length (bytesOf (layoutFrom 28 bufferKinds behind))) (bytesOf (layoutFrom 28 bufferKinds behind))
+  unfolding digitsBE front
+  changed-front = refl
+
+  payload-bytes : Formed bufferKinds behind → withPayload major d h acked f v .bytes ≡ bytesOf (layoutOf authorityKinds (changed authorityKinds seen 6 (some v)))
+  unfolding withPayload
+  payload-bytes g =
+      let size = length (carrying major d h acked f v 0 .bytes) - 28 in
+      let told : size ≡ length (bytesOf (layoutFrom 28 bufferKinds behind)) = omega (arith, followed g) in
+      let same = rows-bytes bufferKinds (drop 2 authorityRows) 28 behind (drop 2 (contentsOf (givensOf major (h .minor) (lentWith size) (carryingPieces f v))))
+        (authority-rows .2 .2) g (given-behind size) in
+      made-front size ∙ ap₂ (λ (n : ℕ) (rest : List ℕ). front n rest) told same ∙ sym changed-front
+
+  pub payload-made : Formed authorityKinds (seen .fields) → Held (may 0x5A true Any []) v → resent major d (Authority h acked f) .ok ≡ true
+      → withPayload major d h acked f v ≡ record { ok = true; bytes = bytesOf (layoutOf authorityKinds (changed authorityKinds seen 6 (some v))) }
+  unfolding withPayload
+  payload-made g p e =
+      let changed-formed = formed-at authorityKinds 6 (some v) (seen .fields) g p in
+      ap₂ (λ (o : Bool) (b : List ℕ). record { ok = o; bytes = b }) (carrying-right _ e) (payload-bytes (changed-formed .1 .1))

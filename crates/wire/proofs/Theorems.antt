@@ -16,7 +16,7 @@ use Rattle.wire_fields.specs.declared.Shape.the-variants.{Any}
 use Rattle.wire_fields.specs.Kinds.{kindsOf, may}
 use Rattle.wire_fields.specs.Kinds.{solicitKinds, advertiseKinds, requestKinds, floodKinds, inquireKinds, authorityKinds, ackKinds, lookupKinds, joined}
 use Rattle.wire_fields.specs.Kinds.{sized}
-use Rattle.wire_fields.specs.Message.{Contents, Held, opening, Message, Reads, layoutOf, bytesOf, partsOf}
+use Rattle.wire_fields.specs.Message.{Contents, Held, opening, Message, Formed, Reads, layoutOf, bytesOf, partsOf}
 use Rattle.wire_fields.specs.Reading.{messageAt, valuesOf, placesAt, fieldsAs}
 use Rattle.octet.specs.Part.{same}
 use Rattle.wire_fields.proofs.RefusalLaws.{byType, inSteps, found-steps}
@@ -27,12 +27,13 @@ use Rattle.wire_read.specs.Answers.{answer, shown, solicitShown, advertiseShown
 use Rattle.wire_read.specs.Answers.{lookupShown}
 use Rattle.wire_read.specs.Meaning.{numberOf, messageOf}
 use Rattle.wire_read.specs.declared.Answer.{Answer}
+use Rattle.wire_read.specs.declared.Answer.the-variants.{Authority}
 use Rattle.wire_write.specs.Writing.{Made, fit, writeAs, writeIn, Wrote}
 use Rattle.wire_write.specs.declared.Written.{Written}
 use Rattle.wire.specs.Statements.{PayloadReads, changedAt, changed, AtMostOne, ReadGives, ReadAccepts, ReadRefuses, WrittenReads, WrittenRead}
 use Rattle.wire.specs.Statements.{OutputReads, WriteReads}
 use Rattle.wire.specs.Statements.{ReadWritten}
-use Rattle.wire.specs.Statements.{ReadWrittenAgain, OutputAgain, ReadOne, WriteOne, ChangedReads}
+use Rattle.wire.specs.Statements.{ReadWrittenAgain, OutputAgain, ReadOne, WriteOne, ChangedReads, PayloadWritten}
 use Rattle.wire.proofs.StandLaws.{Stand, stands}
 use Rattle.wire.proofs.MeaningLaws.{solicit-means, advertise-means, request-means, flood-means, inquire-means, authority-means, ack-means}
 use Rattle.wire.proofs.MeaningLaws.{lookup-means}
@@ -42,6 +43,7 @@ use Rattle.wire_fields.proofs.KindLaws.{lawful}
 use Rattle.wire.proofs.AgainLaws.{again-bytes, flood-one}
 use Rattle.wire.proofs.RightLaws.{stand-rights, buffer-rights, solicit-right, advertise-right, request-right, flood-right, inquire-right}
 use Rattle.wire.proofs.RightLaws.{authority-right, ack-right, lookup-right}
+use Rattle.wire.proofs.PayloadLaws.{seen, payload-made}
 use Rattle.wire.proofs.ChangedLaws.{changed-well}
 use Rattle.wire.proofs.BytesLaws.{bytes-message}
 
@@ -342,3 +344,19 @@ payload-held v b h = record { shaped = refl; clear = refl; whole = b; short = om
 pub payload-reads : PayloadReads
 payload-reads m v w b l h =
     changed-reads authorityKinds m 6 (some v) w (payload-held v b l) (authority-joins (m .type) (changedAt 6 (some v) (m .fields)) (w .known)) h
+
+-- 7
+pub payload-written : PayloadWritten
+unfolding messageOf kindsOf
+payload-written d b major h acked f m a e v c l =
+    let x = seen major d h acked f v in
+    let told : some m ≡ some x = sym e ∙ ap (messageOf major d) a in
+    let same : m ≡ x = cc in
+    let (ks, r, again) = read-written-again d b major m e in
+    let kind : some ks ≡ some authorityKinds = sym (r .well .known) ∙ ap (λ (y : Message). kindsOf (y .type)) same in
+    let kinds : ks ≡ authorityKinds = cc in
+    let formed : Formed authorityKinds (x .fields) = subst (λ (y : Message). Formed authorityKinds (y .fields)) same
+      (subst (λ (k : List Kind). Formed k (m .fields)) kinds (r .well .formed)) in
+    let right : resent major d (Authority h acked f) .ok ≡ true = ap (λ (y : Answer). resent major d y .ok) (sym a) ∙ ap (λ (y : Made). y .ok) again in
+    payload-made major d h acked f v formed (payload-held v c l) right
+    ∙ ap (λ (y : Message). record { ok = true; bytes = bytesOf (layoutOf authorityKinds (changed authorityKinds y 6 (some v))) }) (sym same)

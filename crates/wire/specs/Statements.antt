@@ -1,4 +1,4 @@
--- To believe. What holds of reading and writing, for every datagram and for every message of the eight types: 1 to 6.
+-- To believe. What holds of reading and writing, for every datagram and for every message of the eight types: 1 to 7.
 -- A theorem of each name stands in proofs/Theorems. Assumes nothing.
 use Prim.Native.Nat.{ℕ, zero, suc, _≤_, _<_}
 use mathlib.Core.List.{List, [], _∷_}
@@ -15,11 +15,15 @@ use Rattle.wire_fields.specs.Kinds.{joined, authorityKinds}
 use Rattle.wire_fields.specs.Message.{Contents, Message, Held, WellFormed, Reads, ends, layoutFrom, layoutOf, bytesOf, cleared}
 use Rattle.wire_fields.specs.Refusals.{refusals}
 use Rattle.wire_read.specs.declared.Answer.{Answer}
+use Rattle.wire_read.specs.declared.Answer.the-variants.{Authority}
+use Rattle.wire_read.specs.declared.Head.{Head}
+use Rattle.wire_read.specs.declared.Inside.{Inside}
 use Rattle.wire_read.specs.Answers.{answer}
 use Rattle.wire_read.specs.Meaning.{numberOf, messageOf, splitBytes}
 use Rattle.wire_write.specs.Writing.{Made, Wrote}
 use Rattle.wire_write.specs.declared.Written.{Written}
 use Rattle.wire_copy.specs.Resent.{resent}
+use Rattle.wire_copy.specs.Payload.{withPayload}
 
 -- 1. At most one message is read from a datagram.
 abbrev pub AtMostOne : Type 0
@@ -139,3 +143,10 @@ PayloadReads =
     (m : Message) (v : List ℕ) → WellFormed authorityKinds m → Bytes v → length v ≤ 1232
     → length (bytesOf (layoutOf authorityKinds (changed authorityKinds m 6 (some v)))) ≤ 1232
     → Reads authorityKinds (bytesOf (layoutOf authorityKinds (changed authorityKinds m 6 (some v)))) (changed authorityKinds m 6 (some v))
+
+-- 7. An AUTHORITY that was read, written again with other bytes as its payload, is the message with that field changed, and right to be written.
+abbrev pub PayloadWritten : Type 0
+PayloadWritten =
+    (d : List ℕ) → Bytes d → (major : ℕ) (h : Head) (acked : ℕ) (f : Inside) (m : Message) → answer d major ≡ Authority h acked f
+    → messageOf major d (answer d major) ≡ some m → (v : List ℕ) → Bytes v → length v ≤ 1232
+    → withPayload major d h acked f v ≡ record { ok = true; bytes = bytesOf (layoutOf authorityKinds (changed authorityKinds m 6 (some v))) }

@@ -1,0 +1,7 @@
+-- The laws of specs/, for those above, and what is proved of readings.
+pub mod DepthLaws
+pub mod PatternLaws
+pub mod SignedLaws
+pub mod NumberLaws
+pub mod UnpackLaws
+pub mod PackLaws

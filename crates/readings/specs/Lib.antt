@@ -1,0 +1,7 @@
+pub mod Depth
+pub mod Balance
+pub mod Reading
+pub mod Unpack
+pub mod Pack
+pub mod Numbers
+pub mod Kinds

@@ -5,3 +5,6 @@ pub mod SignedLaws
 pub mod NumberLaws
 pub mod UnpackLaws
 pub mod PackLaws
+pub mod RoundLaws
+pub mod Theorems
+pub mod ContractLaws

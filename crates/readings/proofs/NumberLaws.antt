@@ -1,14 +1,18 @@
 -- A reading from plain numbers. In this order: a depth; by the kind; there and back. Assumes nothing.
-use mathlib.Core.Path.{_≡_, refl}
+use mathlib.Core.Path.{_≡_, refl, sym, _∙_}
 use mathlib.Core.Bool.{Bool, true, false, not, cond}
 use Prim.Native.Nat.{ℕ, _≤_, _<_}
 use native.Mathlib.Omega.{arith}
-use lib.Ieee.{Float, binary32, ofBits}
+use lib.Ieee.{Float, binary32, ofBits, toBits}
+use lib.Ieee.Bits.{ofBits-toBits}
 use borrow.Author.Tests.{ne-eqb, lt-ltb, le-ltb}
 use Rattle.refusal.specs.Table.{orRefuse}
 use Rattle.readings.specs.Depth.{allowed, metresOf}
-use Rattle.readings.specs.Reading.{depthOf, faultOf}
+use Rattle.readings.specs.Reading.{reading, depthOf, faultOf, kindOf, measureOf, fine, MeasuredFits}
 use Rattle.readings.specs.Numbers.{numberRefusals, readingOf, depthReading}
+use Rattle.readings.specs.Statements.{NumbersBack}
+use Rattle.readings.specs.declared.Measured.{Measured}
+use Rattle.readings.specs.declared.Measured.the-variants.{Depth, Fault}
 use Rattle.readings.specs.declared.Metres.the-variants.{Within, Outside}
 use Rattle.readings.specs.declared.Unpacked.the-variants.{Read, Refused}
 
@@ -45,3 +49,14 @@ module _ (kind measure i o : ℕ) where
   pub number-fault : kind ≡ 2 → measure ≤ 65535 → Read (faultOf measure i o) ≡ readingOf kind measure i o
   unfolding readingOf numberRefusals orRefuse
   number-fault k h = simp (k, le-ltb _ _ h) refl
+
+-- ---- there and back
+
+module _ (i o : ℕ) where
+  again : (m : Measured) → MeasuredFits m → fine m ≡ true → readingOf (kindOf m) (measureOf m) i o ≡ Read (reading m i o)
+  unfolding depthReading orRefuse
+  again (Depth d) t good = sym (number-depth 1 (toBits binary32 d) i o refl) ∙ simp (ofBits-toBits binary32 d t, good) refl
+  again (Fault n) t good = sym (number-fault 2 n i o refl (omega (arith, t)))
+
+pub numbers-back : NumbersBack
+numbers-back r t good = again (r .inflow) (r .outflow) (r .measured) (t .0) good

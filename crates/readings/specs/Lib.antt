@@ -5,3 +5,4 @@ pub mod Unpack
 pub mod Pack
 pub mod Numbers
 pub mod Kinds
+pub mod Statements

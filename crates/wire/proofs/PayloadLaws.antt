@@ -9,12 +9,13 @@ use mathlib.Core.Path.{_≡_, refl, sym, ap, ap₂, subst, _∙_}
 use lib.Dec.{leb}
 use lib.ListN.{length, take, drop}
 use lib.Seq.{take-length}
-use borrow.Author.Tests.{le-leb}
+use borrow.Author.Tests.{le-leb, leb-true}
 use Rattle.octet.specs.Number.{digitsBE, Bytes}
 use Rattle.octet.specs.Part.{part}
 use Rattle.octet.proofs.TestLaws.{and-true}
 use Rattle.wire_fields.specs.Shapes.{hasShape}
 use Rattle.wire_fields.specs.declared.Part.{Part}
+use Rattle.wire_fields.specs.declared.Part.the-variants.{Here}
 use Rattle.wire_fields.specs.declared.Shape.the-variants.{Any, Entry}
 use Rattle.wire_fields.specs.Kinds.{may, codes, bufferKinds, authorityKinds, kindsOf}
 use Rattle.wire_fields.specs.Message.{Contents, Message, Held, Formed, WellFormed, layoutFrom, layoutOf, bytesOf, headerOf}
@@ -54,6 +55,25 @@ module _ (major : ℕ) (d : List ℕ) (h : Head) (acked : ℕ) (f : Inside) (v :
       right-by (stands (mayRow 0x80 true Any) (f .chain)) (stands (mayRow 0x9F true Any) (f .token)) (stands (mayRow 0x85 true codes) (f .classifier))
       (stands (mayRow 0x5A true Any) (f .payload)) (leb (0 + length v) (length v) && true) (stands (mayRow 0x9A true Entry) (f .entry))
       (stands (mayRow 0x9B false Any) (f .cpa) && true) e (and-true (leb (0 + length v) (length v)) ∙ le-leb (0 + length v) (length v) (omega arith))
+
+  -- a payload that was read stands within the datagram
+  within-by : (a b c p x : Bool) → a && (b && (c && (p && x))) ≡ true → p ≡ true
+  within-by true true true true x e = refl
+  within-by true true true false x e = absurd (let z : _≡_ {A = Bool} false true = e in let y : _≡_ {A = ℕ} 0 1 = cc in omega arith)
+  within-by true true false p x e = absurd (let z : _≡_ {A = Bool} false true = e in let y : _≡_ {A = ℕ} 0 1 = cc in omega arith)
+  within-by true false c p x e = absurd (let z : _≡_ {A = Bool} false true = e in let y : _≡_ {A = ℕ} 0 1 = cc in omega arith)
+  within-by false b c p x e = absurd (let z : _≡_ {A = Bool} false true = e in let y : _≡_ {A = ℕ} 0 1 = cc in omega arith)
+
+  stands-within : (s l : ℕ) → stands (mayRow 0x5A true Any) (Here s l) ≡ true → s + l ≤ length d
+  unfolding hasShape
+  stands-within s l e = leb-true (s + l) (length d) (sym (and-true (leb (s + l) (length d))) ∙ e)
+
+  pub payload-within : (s l : ℕ) → resent major d (Authority h acked f) .ok ≡ true → f .payload ≡ Here s l → s + l ≤ length d
+  unfolding resent madeBy digitsBE hasShape
+  payload-within s l e q =
+      stands-within s l (subst (λ (p : Part). stands (mayRow 0x5A true Any) p ≡ true) q
+      (within-by (stands (mayRow 0x80 true Any) (f .chain)) (stands (mayRow 0x9F true Any) (f .token)) (stands (mayRow 0x85 true codes) (f .classifier))
+      (stands (mayRow 0x5A true Any) (f .payload)) (stands (mayRow 0x9A true Entry) (f .entry) && (stands (mayRow 0x9B false Any) (f .cpa) && true)) e))
 
   -- ---- what follows the split controls
 

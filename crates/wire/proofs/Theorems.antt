@@ -28,6 +28,8 @@ use Rattle.wire_read.specs.Answers.{lookupShown}
 use Rattle.wire_read.specs.Meaning.{numberOf, messageOf}
 use Rattle.wire_read.specs.declared.Answer.{Answer}
 use Rattle.wire_read.specs.declared.Answer.the-variants.{Authority}
+use Rattle.wire_read.specs.declared.Head.{Head}
+use Rattle.wire_read.specs.declared.Inside.{Inside}
 use Rattle.wire_write.specs.Writing.{Made, fit, writeAs, writeIn, Wrote}
 use Rattle.wire_write.specs.declared.Written.{Written}
 use Rattle.wire.specs.Statements.{PayloadReads, changedAt, changed, AtMostOne, ReadGives, ReadAccepts, ReadRefuses, WrittenReads, WrittenRead}
@@ -346,6 +348,18 @@ payload-reads m v w b l h =
     changed-reads authorityKinds m 6 (some v) w (payload-held v b l) (authority-joins (m .type) (changedAt 6 (some v) (m .fields)) (w .known)) h
 
 -- 7
+
+-- an AUTHORITY that was read is a message, and right to be written again
+module _ (d : List ℕ) (b : Bytes d) (major : ℕ) (h : Head) (acked : ℕ) (f : Inside) (a : answer d major ≡ Authority h acked f) where
+  pub authority-is : messageOf major d (answer d major) ≡ some (seen major d h acked f [])
+  unfolding messageOf
+  authority-is = ap (messageOf major d) a
+
+  pub authority-again : resent major d (Authority h acked f) .ok ≡ true
+  authority-again =
+      let (ks, r, again) = read-written-again d b major (seen major d h acked f []) authority-is in
+      ap (λ (y : Answer). resent major d y .ok) (sym a) ∙ ap (λ (y : Made). y .ok) again
+
 pub payload-written : PayloadWritten
 unfolding messageOf kindsOf
 payload-written d b major h acked f m a e v c l =
@@ -357,6 +371,5 @@ payload-written d b major h acked f m a e v c l =
     let kinds : ks ≡ authorityKinds = cc in
     let formed : Formed authorityKinds (x .fields) = subst (λ (y : Message). Formed authorityKinds (y .fields)) same
       (subst (λ (k : List Kind). Formed k (m .fields)) kinds (r .well .formed)) in
-    let right : resent major d (Authority h acked f) .ok ≡ true = ap (λ (y : Answer). resent major d y .ok) (sym a) ∙ ap (λ (y : Made). y .ok) again in
-    payload-made major d h acked f v formed (payload-held v c l) right
+    payload-made major d h acked f v formed (payload-held v c l) (authority-again d b major h acked f a)
     ∙ ap (λ (y : Message). record { ok = true; bytes = bytesOf (layoutOf authorityKinds (changed authorityKinds y 6 (some v))) }) (sym same)

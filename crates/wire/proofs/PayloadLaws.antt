@@ -88,15 +88,28 @@ module _ (major : ℕ) (d : List ℕ) (h : Head) (acked : ℕ) (f : Inside) (v :
 
   given-behind : (size : ℕ) → Same behind (drop 2 (contentsOf (givensOf major (h .minor) (lentWith size) (carryingPieces f v))))
   unfolding digitsBE
-  given-behind size =
-      (refl, (piece-is d (f .chain), (piece-is d (f .token), (piece-is d (f .classifier), (ap some (take-length v),
-      (piece-is d (f .entry), (piece-is d (f .cpa), tt)))))))
+  given-behind size = (
+    refl,
+    (
+      piece-is d (f .chain),
+      (
+        piece-is d (f .token),
+        (
+          piece-is d (f .classifier),
+          (
+            ap some (take-length v),
+            (piece-is d (f .entry), (piece-is d (f .cpa), tt)),
+          ),
+        ),
+      ),
+    ),
+  )
 
   followed : Formed bufferKinds behind → length (carrying major d h acked f v 0 .bytes) ≡ 28 + length (bytesOf (layoutFrom 28 bufferKinds behind))
   unfolding carrying madeBy digitsBE
   followed g =
       let e = rows-bytes bufferKinds (drop 2 authorityRows) 28 behind (drop 2 (contentsOf (givensOf major (h .minor) (lentWith 0) (carryingPieces f v))))
-        (authority-rows .2 .2) g (given-behind 0) in
+      (authority-rows .2 .2) g (given-behind 0) in
       omega (arith, ap length e)
 
   -- ---- the whole
@@ -136,7 +149,7 @@ module _ (major : ℕ) (d : List ℕ) (h : Head) (acked : ℕ) (f : Inside) (v :
       let size = length (carrying major d h acked f v 0 .bytes) - 28 in
       let told : size ≡ length (bytesOf (layoutFrom 28 bufferKinds behind)) = omega (arith, followed g) in
       let same = rows-bytes bufferKinds (drop 2 authorityRows) 28 behind (drop 2 (contentsOf (givensOf major (h .minor) (lentWith size) (carryingPieces f v))))
-        (authority-rows .2 .2) g (given-behind size) in
+      (authority-rows .2 .2) g (given-behind size) in
       made-front size ∙ ap₂ (λ (n : ℕ) (rest : List ℕ). front n rest) told same ∙ sym changed-front
 
   pub payload-made : Formed authorityKinds (seen .fields) → Held (may 0x5A true Any []) v → resent major d (Authority h acked f) .ok ≡ true

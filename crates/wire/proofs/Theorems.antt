@@ -370,6 +370,6 @@ payload-written d b major h acked f m a e v c l =
     let kind : some ks ≡ some authorityKinds = sym (r .well .known) ∙ ap (λ (y : Message). kindsOf (y .type)) same in
     let kinds : ks ≡ authorityKinds = cc in
     let formed : Formed authorityKinds (x .fields) = subst (λ (y : Message). Formed authorityKinds (y .fields)) same
-      (subst (λ (k : List Kind). Formed k (m .fields)) kinds (r .well .formed)) in
+    (subst (λ (k : List Kind). Formed k (m .fields)) kinds (r .well .formed)) in
     payload-made major d h acked f v formed (payload-held v c l) (authority-again d b major h acked f a)
     ∙ ap (λ (y : Message). record { ok = true; bytes = bytesOf (layoutOf authorityKinds (changed authorityKinds y 6 (some v))) }) (sym same)

@@ -113,14 +113,14 @@ module _ (first : Made) (old : List ℕ) (r : Written) (out : List ℕ) (w : Wro
           let ok-true = ok ∙ fits-first .0 in
           let here : writeAs second out ≡ writeAs second old = rw fit-over refl in
           let behind : drop (length (second .bytes)) out ≡ drop (length (second .bytes)) old =
-            ap₂ (λ (n : ℕ) (l : List ℕ). drop n l) long out-is
-            ∙ drop-at (first .bytes) (drop (length (first .bytes)) old) (length (first .bytes)) refl
-            ∙ ap (λ (n : ℕ). drop n old) (sym long) in
+          ap₂ (λ (n : ℕ) (l : List ℕ). drop n l) long out-is
+          ∙ drop-at (first .bytes) (drop (length (first .bytes)) old) (length (first .bytes)) refl
+          ∙ ap (λ (n : ℕ). drop n old) (sym long) in
           record {
             answer = x .answer ∙ here;
             output =
-              x .output ∙ written-in second out (ok-true, fit-over ∙ fit-second) ∙ ap (λ (l : List ℕ). second .bytes ++ l) behind
-              ∙ sym (written-in second old (ok-true, fit-second));
+                x .output ∙ written-in second out (ok-true, fit-over ∙ fit-second) ∙ ap (λ (l : List ℕ). second .bytes ++ l) behind
+                ∙ sym (written-in second old (ok-true, fit-second));
           }
 
 -- ---- as the code has it

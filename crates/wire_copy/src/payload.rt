@@ -75,7 +75,16 @@ fn put_carrying(
         cpa,
     ];
     write_rows(
-        out, major, head.minor, 8, head.id, rows, ps, &own, d, payload,
+        out,
+        major,
+        head.minor,
+        8,
+        head.id,
+        rows,
+        ps,
+        &own,
+        d,
+        payload,
     )
 }
 

@@ -1,0 +1,227 @@
+-- Laws of readings carried. In this order: an AUTHORITY that is wanted; the call by what was read; a reading that may be written; its bytes; what is written.
+-- Assumes nothing.
+use mathlib.Core.Path.{_≡_, refl, sym, ap, ap₂, subst, _∙_}
+use mathlib.Core.Bool.{Bool, true, false, not, cond, _&&_}
+use mathlib.Core.List.{List, [], _∷_, _++_}
+use mathlib.Core.Option.{some, none}
+use Prim.Native.Nat.{ℕ, zero, suc, _+_, _≤_, _<_}
+use native.Mathlib.Omega.{arith}
+use lib.Dec.{eqb, leb, ltb}
+use lib.Ieee.{Float, binary32, ofBits}
+use lib.ListN.{length, take, getD}
+use borrow.Author.Tests.{eqb-true, leb-true}
+use Rattle.octet.specs.Number.{Bytes, digitsLE}
+use Rattle.octet.proofs.LittleLaws.{digitsLE-lt}
+use Rattle.octet.proofs.TestLaws.{both-true}
+use Rattle.octet.specs.Part.{part, splice}
+use Rattle.wire_fields.specs.Reading.{contentsIn}
+use Rattle.wire_fields.specs.declared.Part.{Part}
+use Rattle.wire_fields.specs.declared.Part.the-variants.{Here, Absent}
+use Rattle.wire_write.specs.Writing.{Made, fit, writeAs, writeIn, Wrote}
+use Rattle.wire_write.specs.declared.Written as W
+use Rattle.wire_copy.specs.Payload.{withPayload}
+use Rattle.wire.proofs.PayloadLaws.{seen, payload-within}
+use Rattle.wire.proofs.Theorems.{payload-written, authority-is, authority-again}
+use Rattle.wire_read.specs.Answers.{answer}
+use Rattle.wire_read.specs.Meaning.{messageOf}
+use Rattle.wire_read.specs.declared.Answer.{Answer}
+use Rattle.wire_read.specs.declared.Answer.the-variants as M
+use Rattle.wire_read.specs.declared.Head.{Head}
+use Rattle.wire_read.specs.declared.Inside.{Inside}
+use Rattle.refusal.specs.Table.{orRefuse}
+use Rattle.octet.proofs.PartLaws.{take-splice, length-splice}
+use Rattle.readings.specs.Depth.{allowed}
+use Rattle.readings.specs.Reading.{reading, kindOf, measureOf, widthOf, isKind, measuredAs, contents, image, fine}
+use Rattle.readings.specs.Numbers.{numberRefusals, readingOf}
+use Rattle.readings.specs.Unpack.{unpackOf}
+use Rattle.readings.specs.Pack.{packOf}
+use Rattle.readings.specs.Pack as P
+use Rattle.readings.specs.declared.Measured.{Measured}
+use Rattle.readings.specs.declared.Measured.the-variants.{Depth, Fault}
+use Rattle.readings.specs.declared.Packed.{Packed}
+use Rattle.readings.specs.declared.Packed.the-variants.{Written}
+use Rattle.readings.specs.declared.Packed.the-variants.{Refused as Refuse}
+use Rattle.readings.proofs.PackLaws.{pack-written, length-depth, length-fault}
+use Rattle.readings.specs.declared.Reading.{Reading}
+use Rattle.readings.specs.declared.Unpacked.{Unpacked}
+use Rattle.readings.specs.declared.Unpacked.the-variants.{Read, Refused}
+use Rattle.carried.specs.declared.Carry.{Carry}
+use Rattle.carried.specs.declared.whole.Whole.{Whole}
+use Rattle.carried.specs.declared.whole.Whole.the-variants.{Authority, Other}
+use Rattle.carried.specs.Whole.{wholeOf}
+use Rattle.carried.specs.Carry.{carry, Handed, handed, withReading, carryAs, carryBy, carryCall}
+use Rattle.carried.specs.Take.{nothing, takenBy, takenFrom, takenAs, takeBy, takeCall}
+
+-- ---- the AUTHORITY that is wanted
+
+other : {n : ℕ} {h : Head} {acked : ℕ} {f : Inside} {A : Type 0} → Other n ≡ Authority h acked f → A
+other e = absurd (let z : _≡_ {A = ℕ} 0 1 = cc in omega arith)
+
+pub whole-authority : (a : Answer) (h : Head) (acked : ℕ) (f : Inside) → wholeOf a ≡ Authority h acked f → a ≡ M.Authority h acked f
+whole-authority (M.Refused n) h acked f e = other e
+whole-authority (M.Authority head id fields) h acked f e = cc
+whole-authority (M.Solicit head entry nonce) h acked f e = other e
+whole-authority (M.Advertise head id keys nonce) h acked f e = other e
+whole-authority (M.Request head flags split nonce keys credential signature key) h acked f e = other e
+whole-authority (M.Flood head d validate token revoke entry reached) h acked f e = other e
+whole-authority (M.Inquire head a x c validate nonce credential signature key) h acked f e = other e
+whole-authority (M.Ack head id flags n) h acked f e = other e
+whole-authority (M.Lookup head a precision criteria reason target validate entry path credential signature key) h acked f e = other e
+
+-- ---- the calls, by what was read
+
+module _ (major : ℕ) (d : List ℕ) where
+  pub carry-other : (n : ℕ) (u : Unpacked) (old : List ℕ) → wholeOf (answer d major) ≡ Other n → handed (carry n 0 0) old ≡ carryCall major d u old
+  unfolding carryCall
+  carry-other n u old e = sym (ap (λ (w : Whole). carryBy major d w u old) e)
+
+  pub carry-authority : (h : Head) (acked : ℕ) (f : Inside) (u : Unpacked) (old : List ℕ) → wholeOf (answer d major) ≡ Authority h acked f
+      → carryAs (messageOf major d (M.Authority h acked f)) u old ≡ carryCall major d u old
+  unfolding carryCall
+  carry-authority h acked f u old e = sym (ap (λ (w : Whole). carryBy major d w u old) e)
+
+  pub take-other : (n : ℕ) → wholeOf (answer d major) ≡ Other n → nothing n 0 ≡ takeCall major d
+  unfolding takeCall
+  take-other n e = sym (ap (takeBy major d) e)
+
+  pub take-authority : (h : Head) (acked : ℕ) (f : Inside) → wholeOf (answer d major) ≡ Authority h acked f
+      → takenAs (messageOf major d (M.Authority h acked f)) ≡ takeCall major d
+  unfolding takeCall
+  take-authority h acked f e = sym (ap (takeBy major d) e)
+
+-- ---- a reading that may be written
+
+fine-by : (a b c : Bool) (x r : Reading)
+    → cond a (Refused 1) (cond b (Refused 2) (cond c (Refused 3) (Read x))) ≡ Read r → (c ≡ false) × (x ≡ r)
+fine-by true b c x r e = absurd (let z : _≡_ {A = ℕ} 0 1 = cc in omega arith)
+fine-by false true c x r e = absurd (let z : _≡_ {A = ℕ} 0 1 = cc in omega arith)
+fine-by false false true x r e = absurd (let z : _≡_ {A = ℕ} 0 1 = cc in omega arith)
+fine-by false false false x r e = (refl, cc)
+
+measured-fine : (b t : Bool) (d : Float) (n : ℕ) → t ≡ allowed d → b && not t ≡ false → fine (cond b (Depth d) (Fault n)) ≡ true
+measured-fine true true d n e h = sym e
+measured-fine true false d n e h = absurd (let z : _≡_ {A = Bool} true false = h in let y : _≡_ {A = ℕ} 0 1 = cc in omega arith)
+measured-fine false t d n e h = refl
+
+pub reading-fine : (kind measure i o : ℕ) (r : Reading) → readingOf kind measure i o ≡ Read r → fine (r .measured) ≡ true
+unfolding readingOf numberRefusals orRefuse
+reading-fine kind measure i o r e =
+    let d = ofBits binary32 measure in
+    let w = fine-by (eqb kind 2 && ltb 65535 measure) (not (isKind kind)) (eqb kind 1 && not (allowed d)) (reading (measuredAs kind measure) i o) r e in
+    subst (λ (x : Reading). fine (x .measured) ≡ true) (w .1) (measured-fine (eqb kind 1) (allowed d) d measure refl (w .0))
+
+-- ---- its bytes
+
+image-short : (m : Measured) (i o : ℕ) → length (image (reading m i o)) ≤ 16
+image-short (Depth d) i o = omega (arith, length-depth d i o)
+image-short (Fault n) i o = omega (arith, length-fault n i o)
+
+-- with room for 16 bytes it is written
+pub packed-sure : (r : Reading) (out left : List ℕ) (a : Packed) → fine (r .measured) ≡ true → length out ≡ 16 → P.handed a left ≡ packOf r out
+    → (a ≡ Written (length (image r))) × (left ≡ splice 0 (image r) out)
+packed-sure r out left a g l e =
+    let p = e ∙ sym (pack-written r out (omega (arith, l, image-short (r .measured) (r .inflow) (r .outflow))) g) in
+    (ap (λ (h : P.Handed). h .answer) p, ap (λ (h : P.Handed). h .out) p)
+
+-- its first bytes are the reading's
+pub packed-image : (r : Reading) (out left : List ℕ) → length out ≡ 16 → left ≡ splice 0 (image r) out → take (length (image r)) left ≡ image r
+packed-image r out left l e =
+    let z : length (image r) ≡ 0 + length (image r) = omega arith in
+    ap (take (length (image r))) e ∙ ap (λ (n : ℕ). take n (splice 0 (image r) out)) z
+    ∙ take-splice 0 (image r) out (omega (arith, l, image-short (r .measured) (r .inflow) (r .outflow)))
+
+bytes-cons : (x : ℕ) (xs : List ℕ) → x < 256 → Bytes xs → Bytes (x ∷ xs)
+bytes-cons x xs p q zero = p
+bytes-cons x xs p q (suc i) = q i
+
+bytes-append : (xs ys : List ℕ) → Bytes xs → Bytes ys → Bytes (xs ++ ys)
+bytes-append [] ys p q = q
+bytes-append (x ∷ xs) ys p q = bytes-cons x (xs ++ ys) (p 0) (bytes-append xs ys (λ i. p (suc i)) q)
+
+digits : (w n : ℕ) → Bytes (digitsLE 256 w n)
+digits w n = digitsLE-lt 256 w n (omega arith)
+
+pub image-bytes : (r : Reading) → Bytes (image r)
+unfolding image contents
+image-bytes r =
+    let kind = kindOf (r .measured) in
+    let a = digitsLE 256 2 kind in
+    let b = digitsLE 256 (widthOf kind) (measureOf (r .measured)) in
+    let c = digitsLE 256 4 (r .inflow) in
+    let d = digitsLE 256 4 (r .outflow) in
+    bytes-append (digitsLE 256 2 (length (a ++ b ++ c ++ d))) (a ++ b ++ c ++ d) (digits 2 _)
+    (bytes-append (a ++ b ++ c) d (bytes-append (a ++ b) c (bytes-append a b (digits 2 _) (digits (widthOf kind) _)) (digits 4 _)) (digits 4 _))
+
+-- ---- what is written
+
+short-by : (a b : Bool) (n : ℕ) → (b ≡ true → n ≤ 1232)
+    → (let w : W.Written = cond a (cond b (record { number = 0; length = n }) (record { number = 15; length = 0 })) (record { number = 6; length = 0 }) in w .length ≤ 1232)
+short-by true true n h = h refl
+short-by true false n h = omega arith
+short-by false b n h = omega arith
+
+pub written-short : (m : Made) (old : List ℕ) (r : W.Written) → r ≡ writeAs m old → r .length ≤ 1232
+unfolding writeAs fit
+written-short m old r e =
+    subst (λ (w : W.Written). w .length ≤ 1232) (sym e)
+    (short-by (m .ok) (leb (length (m .bytes)) (length old) && leb (length (m .bytes)) 1232) (length (m .bytes))
+    (λ q. leb-true (length (m .bytes)) 1232 (both-true (leb (length (m .bytes)) (length old)) (leb (length (m .bytes)) 1232) q .1)))
+
+-- the AUTHORITY that was read, with the reading
+module _ (major : ℕ) (d : List ℕ) (b : Bytes d) (h : Head) (acked : ℕ) (f : Inside) (a : answer d major ≡ M.Authority h acked f) where
+  pub carried-as : (r : Reading) (old : List ℕ) (w : W.Written) (out v : List ℕ) → v ≡ image r → Wrote (withPayload major d h acked f v) old w out
+      → handed (carry (w .number) (w .length) 0) out ≡ carryAs (messageOf major d (M.Authority h acked f)) (Read r) old
+  unfolding messageOf
+  carried-as r old w out v e x =
+      let m = seen major d h acked f [] in
+      let made : withPayload major d h acked f v ≡ withReading m r =
+      ap (withPayload major d h acked f) e
+      ∙ payload-written d b major h acked f m a (authority-is d b major h acked f a) (image r) (image-bytes r)
+      (omega (arith, image-short (r .measured) (r .inflow) (r .outflow))) in
+      ap₂ (λ (y : W.Written) (l : List ℕ). handed (carry (y .number) (y .length) 0) l) (x .answer ∙ ap (λ (y : Made). writeAs y old) made)
+      (x .output ∙ ap (λ (y : Made). writeIn y old) made)
+
+  -- ---- what is taken
+
+  pub payload-there : (s l : ℕ) → f .payload ≡ Here s l → s + l ≤ length d
+  payload-there s l q = payload-within major d h acked f [] s l (authority-again d b major h acked f a) q
+
+  pub none-taken : f .payload ≡ Absent → nothing 0 0 ≡ takenAs (messageOf major d (M.Authority h acked f))
+  unfolding messageOf
+  none-taken q = sym (ap (λ (p : Part). takenFrom (contentsIn d p)) q)
+
+  pub some-taken : (s l : ℕ) → f .payload ≡ Here s l → takenBy (unpackOf (part s l d)) ≡ takenAs (messageOf major d (M.Authority h acked f))
+  unfolding messageOf
+  some-taken s l q = sym (ap (λ (p : Part). takenFrom (contentsIn d p)) q)
+
+  -- ---- as the code has it
+
+  pub carried-refused : (u : Unpacked) (n : ℕ) (old : List ℕ) (g : Carry) → u ≡ Refused n → g ≡ carry 0 0 n
+      → handed g old ≡ carryAs (messageOf major d (M.Authority h acked f)) u old
+  unfolding messageOf
+  carried-refused u n old g e q =
+      ap (λ (x : Carry). handed x old) q ∙ sym (ap (λ (x : Unpacked). carryAs (messageOf major d (M.Authority h acked f)) x old) e)
+
+  pub carried-read : (u : Unpacked) (r : Reading) (old : List ℕ) (x : Handed) → u ≡ Read r → x ≡ carryAs (messageOf major d (M.Authority h acked f)) (Read r) old
+      → x ≡ carryAs (messageOf major d (M.Authority h acked f)) u old
+  carried-read u r old x e q = q ∙ sym (ap (λ (y : Unpacked). carryAs (messageOf major d (M.Authority h acked f)) y old) e)
+
+-- a reading that may be written is packed into 16 bytes
+module _ (r : Reading) (out left : List ℕ) (a : Packed) (g : fine (r .measured) ≡ true) (l : length out ≡ 16) (e : P.handed a left ≡ packOf r out) where
+  pub not-refused : {A : Type 0} (n : ℕ) → a ≡ Refuse n → A
+  not-refused n q = absurd (let z = sym (packed-sure r out left a g l e .0) ∙ q in let y : _≡_ {A = ℕ} 0 1 = cc in omega arith)
+
+  pub packed-length : (n : ℕ) → a ≡ Written n → n ≡ length (image r)
+  packed-length n q = let z = sym q ∙ packed-sure r out left a g l e .0 in cc
+
+  pub packed-fits : (n : ℕ) → a ≡ Written n → n ≤ 16
+  packed-fits n q = omega (arith, packed-length n q, image-short (r .measured) (r .inflow) (r .outflow))
+
+  pub packed-left : length left ≡ 16
+  packed-left =
+      ap length (packed-sure r out left a g l e .1)
+      ∙ length-splice 0 (image r) out (omega (arith, l, image-short (r .measured) (r .inflow) (r .outflow))) ∙ l
+
+  pub packed-bytes : (n : ℕ) → a ≡ Written n → take n left ≡ image r
+  packed-bytes n q =
+      ap (λ (k : ℕ). take k left) (packed-length n q) ∙ packed-image r out left l (packed-sure r out left a g l e .1)

@@ -1,0 +1,81 @@
+-- `carried::payload::put_packed` meets its contract. Assumes nothing.
+use mathlib.Core.Path.{refl, ap, sym, _∙_}
+use Prim.Native.Nat.{_≤_}
+use native.Mathlib.Omega.{arith}
+use lib.ListN.{length}
+use lib.Seq.{length-take-le}
+use borrow.Author.Needs.{needs}
+use Rattle.carried.specs.Carry.{handed}
+use Rattle.carried.specs.declared.Carry.{Carry}
+use Rattle.carried.proofs.CarryLaws.{not-refused, packed-fits, packed-left, packed-bytes, written-short, carried-as}
+use Rattle.carried.proofs.payload.put_packed.Statement.{statement}
+use Rattle.carried.proofs.payload.put_packed.Tie as tie
+
+slice-aggregate-pack : tie.Need-slice-aggregate-pack
+slice-aggregate-pack c = search needs
+
+pack-requires : tie.Need-pack-requires
+pack-requires c κs = search needs
+
+enum-known-packed : tie.Need-enum-known-packed
+enum-known-packed c = search needs
+
+refused-requires : tie.Need-refused-requires
+refused-requires c κs = search needs
+
+enum-known-packed-2 : tie.Need-enum-known-packed-2
+enum-known-packed-2 c = search needs
+
+array-share-prefix-image : tie.Need-array-share-prefix-image
+array-share-prefix-image c =
+    let q = c .before .before .packed2 .given .1 in
+    let e = c .before .before .before .before .before .pack .ensures in
+    let g = c .before .before .before .before .before .before .before .before .before .pre .1 in
+    let left = c .before .before .before .before .before .pack .last .1 .0 in
+    let short : c .before .before .packed2 .given .0 .0 ≤ length left = omega (arith, packed-fits _ _ _ _ g refl e _ q, packed-left _ _ _ _ g refl e) in
+    short
+
+slice-aggregate-write-payload : tie.Need-slice-aggregate-write-payload
+slice-aggregate-write-payload c =
+    let q = c .before .before .before .packed2 .given .1 in
+    let e = c .before .before .before .before .before .before .pack .ensures in
+    let g = c .before .before .before .before .before .before .before .before .before .before .pre .1 in
+    sym (length-take-le _ _ (omega (arith, packed-fits _ _ _ _ g refl e _ q, packed-left _ _ _ _ g refl e)))
+
+write-payload-requires : tie.Need-write-payload-requires
+write-payload-requires c κs = search needs
+
+told-requires : tie.Need-told-requires
+told-requires c κs = written-short _ _ _ (c .before .before .write-payload .ensures .answer)
+
+returns : tie.Need-returns
+returns c = not-refused _ _ _ _ (c .before .before .before .before .before .before .before .before .before .pre .1) refl (c .before .before .before .before .before .pack .ensures) _ (c .before .before .packed .given .1)
+
+same-length : tie.Need-same-length
+same-length c = search needs
+
+returns-2 : tie.Need-returns-2
+returns-2 c =
+    let q = c .before .before .before .before .before .before .before .packed2 .given .1 in
+    let e = c .before .before .before .before .before .before .before .before .before .before .pack .ensures in
+    let g = c .before .before .before .before .before .before .before .before .before .before .before .before .before .before .pre .1 in
+    let out = c .before .before .before .write-payload .last .0 in
+    ap (λ (x : Carry). handed x out) (c .told .ensures)
+    ∙ carried-as _ _ (λ i. omega (arith, c .before .before .before .before .before .before .before .before .before .before .before .before .before .shared-slice-known .given i)) _ _ _ (c .before .before .before .before .before .before .before .before .before .before .before .before .before .before .pre .0) _ _ _ _ _ (packed-bytes _ _ _ _ g refl e _ q) (c .before .before .before .write-payload .ensures)
+
+pub put-packed-spec : {M : Type 1} → statement M
+put-packed-spec =
+    tie.close
+    (tie.spec
+    slice-aggregate-pack
+    pack-requires
+    enum-known-packed
+    refused-requires
+    enum-known-packed-2
+    array-share-prefix-image
+    slice-aggregate-write-payload
+    write-payload-requires
+    told-requires
+    returns
+    same-length
+    returns-2)

@@ -1,0 +1,46 @@
+-- `carried::payload::put_reading` meets its contract. Assumes nothing.
+use mathlib.Core.Path.{sym, _∙_}
+use native.Mathlib.Omega.{arith}
+use borrow.Author.Needs.{needs}
+use Rattle.carried.proofs.CarryLaws.{reading-fine, carried-refused, carried-read}
+use Rattle.carried.proofs.payload.put_reading.Statement.{statement}
+use Rattle.carried.proofs.payload.put_reading.Tie as tie
+
+reading-of-requires : tie.Need-reading-of-requires
+reading-of-requires c κs = search needs
+
+enum-known-made : tie.Need-enum-known-made
+enum-known-made c = search needs
+
+refused-requires : tie.Need-refused-requires
+refused-requires c κs = search needs
+
+enum-known-made-2 : tie.Need-enum-known-made-2
+enum-known-made-2 c = search needs
+
+put-packed-requires : tie.Need-put-packed-requires
+put-packed-requires c κs = (c .before .before .before .before .before .before .before .pre, reading-fine _ _ _ _ _ (sym (c .before .before .before .before .reading-of .ensures) ∙ c .before .before .made2 .given .1))
+
+returns : tie.Need-returns
+returns c = carried-refused _ _ (λ i. omega (arith, c .before .before .before .before .before .before .shared-slice-known .given i)) _ _ _ (c .before .before .before .before .before .before .before .pre) _ _ _ _ (sym (c .before .before .before .before .reading-of .ensures) ∙ c .before .before .made .given .1) (c .refused .ensures)
+
+same-length : tie.Need-same-length
+same-length c = search needs
+
+returns-2 : tie.Need-returns-2
+returns-2 c =
+    carried-read _ _ (λ i. omega (arith, c .before .before .before .before .before .before .before .before .before .shared-slice-known .given i)) _ _ _ (c .before .before .before .before .before .before .before .before .before .before .pre) _ _ _ _ (sym (c .before .before .before .before .before .before .before .reading-of .ensures) ∙ c .before .before .before .before .before .made2 .given .1)
+    (c .before .before .put-packed .ensures)
+
+pub put-reading-spec : {M : Type 1} → statement M
+put-reading-spec =
+    tie.close
+    (tie.spec
+    reading-of-requires
+    enum-known-made
+    refused-requires
+    enum-known-made-2
+    put-packed-requires
+    returns
+    same-length
+    returns-2)

@@ -1,0 +1,39 @@
+-- `carried::payload::shown` meets its contract. Assumes nothing.
+use mathlib.Core.Path.{ap, sym, _∙_}
+use borrow.Author.Needs.{needs}
+use Rattle.carried.specs.Take.{takenBy}
+use Rattle.carried.proofs.payload.shown.Statement.{statement}
+use Rattle.carried.proofs.payload.shown.Tie as tie
+
+enum-known-reading : tie.Need-enum-known-reading
+enum-known-reading c = search needs
+
+nothing-requires : tie.Need-nothing-requires
+nothing-requires c κs = search needs
+
+enum-known-reading-2 : tie.Need-enum-known-reading-2
+enum-known-reading-2 c = search needs
+
+kind-of-requires : tie.Need-kind-of-requires
+kind-of-requires c κs = search needs
+
+measure-of-requires : tie.Need-measure-of-requires
+measure-of-requires c κs = search needs
+
+returns : tie.Need-returns
+returns c = c .nothing .ensures ∙ sym (ap takenBy (c .before .before .reading .given .1))
+
+returns-2 : tie.Need-returns-2
+returns-2 c = rw (c .measure-of .ensures, c .before .kind-of .ensures) (sym (ap takenBy (c .before .before .before .reading2 .given .1)))
+
+pub shown-spec : {M : Type 1} → statement M
+shown-spec =
+    tie.close
+    (tie.spec
+    enum-known-reading
+    nothing-requires
+    enum-known-reading-2
+    kind-of-requires
+    measure-of-requires
+    returns
+    returns-2)

@@ -1,3 +1,4 @@
+-- `wire_copy::payload::put_carrying` meets its contract. Assumes nothing.
 use Rattle.wire_copy.specs.Payload.{carrying}
 use Rattle.octet.specs.Number.{digitsBE}
 use mathlib.Core.Path.{refl}

@@ -1,3 +1,4 @@
+-- `wire_copy::payload::write_payload` meets its contract. Assumes nothing.
 use Rattle.wire_copy.proofs.PayloadLaws.{payload-refused, payload-long, payload-written}
 use borrow.Author.Needs.{needs}
 use Rattle.wire_copy.proofs.payload.write_payload.Statement.{statement}

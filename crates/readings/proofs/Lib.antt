@@ -1,4 +1,5 @@
 -- The laws of specs/, for those above, and what is proved of readings.
+pub mod EdgeLaws
 pub mod DepthLaws
 pub mod PatternLaws
 pub mod SignedLaws

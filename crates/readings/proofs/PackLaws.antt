@@ -58,6 +58,15 @@ length-fault n i o = refl
 
 -- ---- put down one after the other
 
+-- two numbers of one width
+pub put-two : (w at m n : ℕ) (out one two : List ℕ) → at + w + w ≤ length out → one ≡ splice at (digitsLE 256 w m) out
+    → two ≡ splice (at + w) (digitsLE 256 w n) one → two ≡ splice at (digitsLE 256 w m ++ digitsLE 256 w n) out
+put-two w at m n out one two room p q =
+    q ∙ ap (splice (at + w) (digitsLE 256 w n)) p
+    ∙ splice-next at w (digitsLE 256 w m) (digitsLE 256 w n) out (length-digitsLE 256 w m) (omega (arith, length-digitsLE 256 w n))
+
+-- a reading's three parts
+
 length-head : (size kind : ℕ) → length (head size kind) ≡ 4
 unfolding digitsLE
 length-head size kind = refl
@@ -66,13 +75,17 @@ length-litres : (i o : ℕ) → length (litres i o) ≡ 8
 unfolding digitsLE
 length-litres i o = refl
 
-pub put-three : (size kind w m i o : ℕ) (out : List ℕ) → 12 + w ≤ length out
-    → splice (4 + w) (litres i o) (splice 4 (digitsLE 256 w m) (splice 0 (head size kind) out))
-    ≡ splice 0 (head size kind ++ digitsLE 256 w m ++ litres i o) out
-put-three size kind w m i o out h =
-    let a = head size kind in
-    let b = digitsLE 256 w m in
-    let joined : length (a ++ b) ≡ 4 + w = length-append a b ∙ ap₂ (λ (p q : ℕ). p + q) (length-head size kind) (length-digitsLE 256 w m) in
-    ap (splice (4 + w) (litres i o)) (splice-next 0 4 a b out (length-head size kind) (omega (arith, length-digitsLE 256 w m)))
-    ∙ ap (λ (k : ℕ). splice k (litres i o) (splice 0 (a ++ b) out)) (sym (zero-add (4 + w)))
-    ∙ splice-next 0 (4 + w) (a ++ b) (litres i o) out joined (omega (arith, length-litres i o))
+module _ (size kind w m i o : ℕ) (out : List ℕ) (room : 12 + w ≤ length out) where
+  side-by-side : splice (4 + w) (litres i o) (splice 4 (digitsLE 256 w m) (splice 0 (head size kind) out))
+      ≡ splice 0 (head size kind ++ digitsLE 256 w m ++ litres i o) out
+  side-by-side =
+      let a = head size kind in
+      let b = digitsLE 256 w m in
+      let joined : length (a ++ b) ≡ 4 + w = length-append a b ∙ ap₂ (λ (p q : ℕ). p + q) (length-head size kind) (length-digitsLE 256 w m) in
+      ap (splice (4 + w) (litres i o)) (splice-next 0 4 a b out (length-head size kind) (omega (arith, length-digitsLE 256 w m)))
+      ∙ ap (λ (k : ℕ). splice k (litres i o) (splice 0 (a ++ b) out)) (sym (zero-add (4 + w)))
+      ∙ splice-next 0 (4 + w) (a ++ b) (litres i o) out joined (omega (arith, length-litres i o))
+
+  pub put-three : (one two three : List ℕ) → one ≡ splice 0 (head size kind) out → two ≡ splice 4 (digitsLE 256 w m) one
+      → three ≡ splice (4 + w) (litres i o) two → three ≡ splice 0 (head size kind ++ digitsLE 256 w m ++ litres i o) out
+  put-three one two three p q r = r ∙ ap (splice (4 + w) (litres i o)) (q ∙ ap (splice 4 (digitsLE 256 w m)) p) ∙ side-by-side

@@ -6,13 +6,10 @@ use mathlib.Core.List.{List}
 use lib.IntN.{pos, -ℤ-+ℤ-cancel}
 use lib.ListN.{length}
 use Rattle.octet.specs.Part.{splice}
-use lib.Ieee.{ofBits, toBits, ofInt, le, lt, eq}
-use Rattle.octet.specs.Number.{valueLE}
-use Rattle.refusal.specs.Table.{orRefuse, InOrder, byNumber}
+use Rattle.refusal.specs.Table.{InOrder, byNumber}
 use Rattle.refusal.proofs.CallLaws.{refusal-keeps, call-exactly}
-use Rattle.readings.specs.Depth.{allowed}
 use Rattle.readings.specs.Reading.{image}
-use Rattle.readings.specs.Unpack.{lengthFits, unpackRefusals, readingIn, unpackOf, unpackNumber}
+use Rattle.readings.specs.Unpack.{unpackRefusals, readingIn, unpackOf, unpackNumber}
 use Rattle.readings.specs.Pack.{Handed, handed, packRefusals, packOf, packNumber}
 use Rattle.readings.specs.Statements.{ReadsBack, WritesBack, PackedReads, UnpackedWrites, NumbersBack}
 use Rattle.readings.specs.Statements.{UnpackOne, PackOne, BalanceOne, UnpackExactly, PackExactly, RefusedKeeps}
@@ -20,6 +17,7 @@ use Rattle.readings.specs.Statements.{Depths, NegativeZero, Edges, Balan
 use Rattle.readings.specs.declared.Reading.{Reading}
 use Rattle.readings.specs.declared.Unpacked.the-variants.{Read, Refused}
 use Rattle.readings.specs.declared.Packed.the-variants.{Written, Refused as Kept}
+use Rattle.readings.proofs.EdgeLaws as edge
 use Rattle.readings.proofs.NumberLaws as numbers
 use Rattle.readings.proofs.PatternLaws.{patterns}
 use Rattle.readings.proofs.RoundLaws as round
@@ -91,12 +89,10 @@ pub depths : Depths
 depths = patterns
 
 pub negative-zero : NegativeZero
-unfolding allowed ofBits toBits ofInt le lt eq valueLE orRefuse lengthFits unpackRefusals readingIn unpackOf
-negative-zero = (refl, refl, refl, refl)
+negative-zero = edge.negative-zero
 
 pub edges : Edges
-unfolding allowed ofBits ofInt le lt eq
-edges = (refl, refl, refl, refl, refl, refl, refl, refl)
+edges = edge.edges
 
 -- ---- the balance
 

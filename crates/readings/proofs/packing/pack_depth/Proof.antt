@@ -8,14 +8,13 @@ use lib.ListN.{length}
 use lib.Ieee.{binary32, toBits}
 use denote.Ref.{now}
 use borrow.Author.Tests.{not-true, not-false}
-use Rattle.octet.specs.Number.{digitsLE}
 use Rattle.octet.specs.Part.{splice}
 use Rattle.readings.specs.Depth.{allowed}
 use Rattle.readings.specs.Reading.{depthOf, image}
 use Rattle.readings.specs.Pack.{handed}
 use Rattle.readings.specs.declared.Packed.the-variants.{Written}
 use Rattle.readings.proofs.DepthLaws.{allowed-no-nan}
-use Rattle.readings.proofs.PackLaws.{pack-no-room, pack-outside, pack-written, litres, image-depth, length-depth, put-three}
+use Rattle.readings.proofs.PackLaws.{pack-no-room, pack-outside, pack-written, image-depth, length-depth, put-three}
 use borrow.Author.Needs.{needs}
 use Rattle.readings.proofs.packing.pack_depth.Statement.{statement}
 use Rattle.readings.proofs.packing.pack_depth.Tie as tie
@@ -61,15 +60,12 @@ returns-3 c =
     let a = at-test .before .before .before .before .args in
     let r = depthOf (a .depth) (a .inflow) (a .outflow) in
     let out = now (a .out) in
-    let bits = digitsLE 256 4 (toBits binary32 (a .depth)) in
     let size = length-depth (a .depth) (a .inflow) (a .outflow) in
     let room : length (image r) ≤ length out = omega (arith, size, at-test .before .before .if1 .left) in
     let good : allowed (a .depth) ≡ true = sym (at-test .before .is-allowed .ensures) ∙ not-false _ (at-test .if2 .left) in
     let put =
-    third .put-litres .ensures
-    ∙ ap (λ (l : List ℕ). splice 8 (litres (a .inflow) (a .outflow)) l)
-    (second .write-u32-le .ensures ∙ ap (splice 4 bits) (first .put-head .ensures))
-    ∙ put-three 14 1 4 (toBits binary32 (a .depth)) (a .inflow) (a .outflow) out (omega (arith, size, room))
+    put-three 14 1 4 (toBits binary32 (a .depth)) (a .inflow) (a .outflow) out (omega (arith, size, room)) _ _ _
+    (first .put-head .ensures) (second .write-u32-le .ensures) (third .put-litres .ensures)
     ∙ ap (λ (l : List ℕ). splice 0 l out) (image-depth (a .depth) (a .inflow) (a .outflow)) in
     ap₂ (λ (n : ℕ) (l : List ℕ). handed (Written n) l) (sym size) put ∙ pack-written r out room good
 

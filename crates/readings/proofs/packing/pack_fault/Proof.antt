@@ -5,12 +5,11 @@ use Prim.Native.Nat.{ℕ, _≤_}
 use native.Mathlib.Omega.{arith}
 use lib.ListN.{length}
 use denote.Ref.{now}
-use Rattle.octet.specs.Number.{digitsLE}
 use Rattle.octet.specs.Part.{splice}
 use Rattle.readings.specs.Reading.{faultOf, image}
 use Rattle.readings.specs.Pack.{handed}
 use Rattle.readings.specs.declared.Packed.the-variants.{Written}
-use Rattle.readings.proofs.PackLaws.{pack-no-room, pack-written, litres, image-fault, length-fault, put-three}
+use Rattle.readings.proofs.PackLaws.{pack-no-room, pack-written, image-fault, length-fault, put-three}
 use borrow.Author.Needs.{needs}
 use Rattle.readings.proofs.packing.pack_fault.Statement.{statement}
 use Rattle.readings.proofs.packing.pack_fault.Tie as tie
@@ -44,10 +43,8 @@ returns-2 c =
     let size = length-fault (a .fault) (a .inflow) (a .outflow) in
     let room : length (image r) ≤ length out = omega (arith, size, at-test .if1 .left) in
     let put =
-    third .put-litres .ensures
-    ∙ ap (λ (l : List ℕ). splice 6 (litres (a .inflow) (a .outflow)) l)
-    (second .write-u16-le .ensures ∙ ap (splice 4 (digitsLE 256 2 (a .fault))) (first .put-head .ensures))
-    ∙ put-three 12 2 2 (a .fault) (a .inflow) (a .outflow) out (omega (arith, size, room))
+    put-three 12 2 2 (a .fault) (a .inflow) (a .outflow) out (omega (arith, size, room)) _ _ _
+    (first .put-head .ensures) (second .write-u16-le .ensures) (third .put-litres .ensures)
     ∙ ap (λ (l : List ℕ). splice 0 l out) (image-fault (a .fault) (a .inflow) (a .outflow)) in
     ap₂ (λ (n : ℕ) (l : List ℕ). handed (Written n) l) (sym size) put ∙ pack-written r out room refl
 

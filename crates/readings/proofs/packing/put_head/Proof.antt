@@ -1,11 +1,7 @@
 -- `readings::packing::put_head` meets its contract: two numbers, one after the other. Assumes nothing.
 use native.Mathlib.Omega.{arith}
-use mathlib.Core.Path.{ap, _∙_}
 use denote.Ref.{now}
-use Rattle.octet.specs.Number.{digitsLE}
-use Rattle.octet.specs.Part.{splice}
-use Rattle.octet.proofs.PartLaws.{splice-next}
-use Rattle.octet.proofs.LittleLaws.{length-digitsLE}
+use Rattle.readings.proofs.PackLaws.{put-two}
 use borrow.Author.Needs.{needs}
 use Rattle.readings.proofs.packing.put_head.Statement.{statement}
 use Rattle.readings.proofs.packing.put_head.Tie as tie
@@ -21,12 +17,11 @@ same-length c = search needs
 
 returns : tie.Need-returns
 returns c =
-    let start = c .before .before .before .before .before .before .before .before .before in
+    let second = c .before .before in
+    let first = second .before .before .before .before in
+    let start = first .before .before .before in
     let a = start .args in
-    c .before .before .write-u16-le2 .ensures
-    ∙ ap (splice 2 (digitsLE 256 2 (a .kind))) (c .before .before .before .before .before .before .write-u16-le .ensures)
-    ∙ splice-next 0 2 (digitsLE 256 2 (a .size)) (digitsLE 256 2 (a .kind)) (now (a .out)) (length-digitsLE 256 2 (a .size))
-    (omega (arith, start .pre, length-digitsLE 256 2 (a .kind)))
+    put-two 2 0 (a .size) (a .kind) (now (a .out)) _ _ (omega (arith, start .pre)) (first .write-u16-le .ensures) (second .write-u16-le2 .ensures)
 
 pub put-head-spec : {M : Type 1} → statement M
 put-head-spec =

@@ -1,12 +1,7 @@
 -- `readings::packing::put_litres` meets its contract: two numbers, one after the other. Assumes nothing.
-use Prim.Native.Nat.{_+_}
 use native.Mathlib.Omega.{arith}
-use mathlib.Core.Path.{ap, _∙_}
 use denote.Ref.{now}
-use Rattle.octet.specs.Number.{digitsLE}
-use Rattle.octet.specs.Part.{splice}
-use Rattle.octet.proofs.PartLaws.{splice-next}
-use Rattle.octet.proofs.LittleLaws.{length-digitsLE}
+use Rattle.readings.proofs.PackLaws.{put-two}
 use borrow.Author.Needs.{needs}
 use Rattle.readings.proofs.packing.put_litres.Statement.{statement}
 use Rattle.readings.proofs.packing.put_litres.Tie as tie
@@ -25,12 +20,11 @@ same-length c = search needs
 
 returns : tie.Need-returns
 returns c =
-    let start = c .before .before .before .before .before .before .before .before .before in
+    let second = c .before .before in
+    let first = second .before .before .before .before in
+    let start = first .before .before .before in
     let a = start .args in
-    c .before .before .write-u32-le2 .ensures
-    ∙ ap (splice (a .at + 4) (digitsLE 256 4 (a .outflow))) (c .before .before .before .before .before .before .write-u32-le .ensures)
-    ∙ splice-next (a .at) 4 (digitsLE 256 4 (a .inflow)) (digitsLE 256 4 (a .outflow)) (now (a .out)) (length-digitsLE 256 4 (a .inflow))
-    (omega (arith, start .pre, length-digitsLE 256 4 (a .outflow)))
+    put-two 4 (a .at) (a .inflow) (a .outflow) (now (a .out)) _ _ (omega (arith, start .pre)) (first .write-u32-le .ensures) (second .write-u32-le2 .ensures)
 
 pub put-litres-spec : {M : Type 1} → statement M
 put-litres-spec =

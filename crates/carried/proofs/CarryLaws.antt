@@ -112,7 +112,7 @@ reading-fine kind measure i o r e =
 
 -- ---- its bytes
 
-image-short : (m : Measured) (i o : ℕ) → length (image (reading m i o)) ≤ 16
+pub image-short : (m : Measured) (i o : ℕ) → length (image (reading m i o)) ≤ 16
 image-short (Depth d) i o = omega (arith, length-depth d i o)
 image-short (Fault n) i o = omega (arith, length-fault n i o)
 

@@ -1,1 +1,3 @@
 pub mod CarryLaws
+pub mod BackLaws
+pub mod Theorems

@@ -1,3 +1,4 @@
 pub mod Whole
 pub mod Carry
 pub mod Take
+pub mod Statements

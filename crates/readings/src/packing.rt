@@ -9,12 +9,14 @@ ghost use Prim.Native.Nat.{_+_, _≤_};
 ghost use lib.ListN.{length};
 ghost use Rattle.octet.specs.Number.{digitsLE};
 ghost use Rattle.octet.specs.Part.{splice};
-ghost use Rattle.readings.specs.Reading.{depthOf, faultOf};
+ghost use Rattle.readings.specs.Reading.{depthOf, faultOf, Typed};
 ghost use Rattle.readings.specs.Pack.{handed, packOf, packNumber};
 
-// Writes the reading to the start of `out`; 1 where there is no room, 3 where the depth is outside.
+// Writes the reading to the start of `out`; 1 where there is no room, 3 where the depth is outside. Every reading that a program
+// can hand in is one of those that the theorems speak of.
 pub fn pack(reading: Reading, out: &mut [u8]) -> Packed
     ensures { λ r. ⌜ handed r (now (out .exit)) ≡ packOf reading (now (out .entry)) ⌝ }
+    ensures { λ _. ⌜ Typed reading ⌝ }
 {
     let measured = reading.measured;
     match measured {
@@ -25,6 +27,7 @@ pub fn pack(reading: Reading, out: &mut [u8]) -> Packed
 
 fn pack_depth(depth: f32, inflow: u32, outflow: u32, out: &mut [u8]) -> Packed
     ensures { λ r. ⌜ handed r (now (out .exit)) ≡ packOf (depthOf depth inflow outflow) (now (out .entry)) ⌝ }
+    ensures { λ _. ⌜ Typed (depthOf depth inflow outflow) ⌝ }
 {
     if out.len() < 16 {
         return Packed::Refused(1);
@@ -40,6 +43,7 @@ fn pack_depth(depth: f32, inflow: u32, outflow: u32, out: &mut [u8]) -> Packed
 
 fn pack_fault(fault: u16, inflow: u32, outflow: u32, out: &mut [u8]) -> Packed
     ensures { λ r. ⌜ handed r (now (out .exit)) ≡ packOf (faultOf fault inflow outflow) (now (out .entry)) ⌝ }
+    ensures { λ _. ⌜ Typed (faultOf fault inflow outflow) ⌝ }
 {
     if out.len() < 14 {
         return Packed::Refused(1);

@@ -19,13 +19,19 @@ same-length : tie.Need-same-length
 same-length c = search needs
 
 returns : tie.Need-returns
-returns c = rw (c .before .before .before .before .before .measured .given .1) (c .before .before .pack-depth .ensures)
+returns c =
+    let which = c .before .before .before .before .before .measured .given .1 in
+    let packed = c .before .before .pack-depth .ensures in
+    (rw which (packed .0), rw which (packed .1))
 
 same-length-2 : tie.Need-same-length-2
 same-length-2 c = search needs
 
 returns-2 : tie.Need-returns-2
-returns-2 c = rw (c .before .before .before .before .before .measured2 .given .1) (c .before .before .pack-fault .ensures)
+returns-2 c =
+    let which = c .before .before .before .before .before .measured2 .given .1 in
+    let packed = c .before .before .pack-fault .ensures in
+    (rw which (packed .0), rw which (packed .1))
 
 pub pack-spec : {M : Type 1} → statement M
 pack-spec =

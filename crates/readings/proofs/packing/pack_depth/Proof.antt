@@ -10,7 +10,7 @@ use denote.Ref.{now}
 use borrow.Author.Tests.{not-true, not-false}
 use Rattle.octet.specs.Part.{splice}
 use Rattle.readings.specs.Depth.{allowed}
-use Rattle.readings.specs.Reading.{depthOf, image}
+use Rattle.readings.specs.Reading.{depthOf, image, Typed}
 use Rattle.readings.specs.Pack.{handed}
 use Rattle.readings.specs.declared.Packed.the-variants.{Written}
 use Rattle.readings.proofs.DepthLaws.{allowed-no-nan}
@@ -19,20 +19,31 @@ use borrow.Author.Needs.{needs}
 use Rattle.readings.proofs.packing.pack_depth.Statement.{statement}
 use Rattle.readings.proofs.packing.pack_depth.Tie as tie
 
+-- what is handed in are values of their types
+typed : (c : tie.Start) → Typed (depthOf (c .args .depth) (c .args .inflow) (c .args .outflow))
+typed c = (search needs, search needs, search needs)
+
 returns : tie.Need-returns
 returns c =
-    let a = c .before .before .args in
-    pack-no-room (depthOf (a .depth) (a .inflow) (a .outflow)) (now (a .out)) (omega (arith, c .if1 .taken, length-depth (a .depth) (a .inflow) (a .outflow)))
+    let start = c .before .before in
+    let a = start .args in (
+      pack-no-room (depthOf (a .depth) (a .inflow) (a .outflow)) (now (a .out))
+          (omega (arith, c .if1 .taken, length-depth (a .depth) (a .inflow) (a .outflow))),
+      typed start,
+    )
 
 is-allowed-requires : tie.Need-is-allowed-requires
 is-allowed-requires c κs = search needs
 
 returns-2 : tie.Need-returns-2
 returns-2 c =
-    let a = c .before .before .before .before .args in
-    pack-outside (depthOf (a .depth) (a .inflow) (a .outflow)) (now (a .out))
-    (omega (arith, c .before .before .if1 .left, length-depth (a .depth) (a .inflow) (a .outflow)))
-    (sym (c .before .is-allowed .ensures) ∙ not-true _ (c .if2 .taken))
+    let start = c .before .before .before .before in
+    let a = start .args in (
+      pack-outside (depthOf (a .depth) (a .inflow) (a .outflow)) (now (a .out))
+          (omega (arith, c .before .before .if1 .left, length-depth (a .depth) (a .inflow) (a .outflow)))
+          (sym (c .before .is-allowed .ensures) ∙ not-true _ (c .if2 .taken)),
+      typed start,
+    )
 
 put-head-requires : tie.Need-put-head-requires
 put-head-requires c κs = search needs
@@ -57,7 +68,8 @@ returns-3 c =
     let second = third .before .before .before .before in
     let first = second .before .before .before .before in
     let at-test = first .before .before in
-    let a = at-test .before .before .before .before .args in
+    let start = at-test .before .before .before .before in
+    let a = start .args in
     let r = depthOf (a .depth) (a .inflow) (a .outflow) in
     let out = now (a .out) in
     let size = length-depth (a .depth) (a .inflow) (a .outflow) in
@@ -67,7 +79,7 @@ returns-3 c =
     put-three 14 1 4 (toBits binary32 (a .depth)) (a .inflow) (a .outflow) out (omega (arith, size, room)) _ _ _
     (first .put-head .ensures) (second .write-u32-le .ensures) (third .put-litres .ensures)
     ∙ ap (λ (l : List ℕ). splice 0 l out) (image-depth (a .depth) (a .inflow) (a .outflow)) in
-    ap₂ (λ (n : ℕ) (l : List ℕ). handed (Written n) l) (sym size) put ∙ pack-written r out room good
+    (ap₂ (λ (n : ℕ) (l : List ℕ). handed (Written n) l) (sym size) put ∙ pack-written r out room good, typed start)
 
 pub pack-depth-spec : {M : Type 1} → statement M
 pack-depth-spec =

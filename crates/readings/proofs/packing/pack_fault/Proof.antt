@@ -6,7 +6,7 @@ use native.Mathlib.Omega.{arith}
 use lib.ListN.{length}
 use denote.Ref.{now}
 use Rattle.octet.specs.Part.{splice}
-use Rattle.readings.specs.Reading.{faultOf, image}
+use Rattle.readings.specs.Reading.{faultOf, image, Typed}
 use Rattle.readings.specs.Pack.{handed}
 use Rattle.readings.specs.declared.Packed.the-variants.{Written}
 use Rattle.readings.proofs.PackLaws.{pack-no-room, pack-written, image-fault, length-fault, put-three}
@@ -14,10 +14,18 @@ use borrow.Author.Needs.{needs}
 use Rattle.readings.proofs.packing.pack_fault.Statement.{statement}
 use Rattle.readings.proofs.packing.pack_fault.Tie as tie
 
+-- what is handed in are values of their types
+typed : (c : tie.Start) → Typed (faultOf (c .args .fault) (c .args .inflow) (c .args .outflow))
+typed c = (search needs, search needs, search needs)
+
 returns : tie.Need-returns
 returns c =
-    let a = c .before .before .args in
-    pack-no-room (faultOf (a .fault) (a .inflow) (a .outflow)) (now (a .out)) (omega (arith, c .if1 .taken, length-fault (a .fault) (a .inflow) (a .outflow)))
+    let start = c .before .before in
+    let a = start .args in (
+      pack-no-room (faultOf (a .fault) (a .inflow) (a .outflow)) (now (a .out))
+          (omega (arith, c .if1 .taken, length-fault (a .fault) (a .inflow) (a .outflow))),
+      typed start,
+    )
 
 put-head-requires : tie.Need-put-head-requires
 put-head-requires c κs = search needs
@@ -37,7 +45,8 @@ returns-2 c =
     let second = third .before .before .before .before in
     let first = second .before .before .before .before in
     let at-test = first .before .before in
-    let a = at-test .before .before .args in
+    let start = at-test .before .before in
+    let a = start .args in
     let r = faultOf (a .fault) (a .inflow) (a .outflow) in
     let out = now (a .out) in
     let size = length-fault (a .fault) (a .inflow) (a .outflow) in
@@ -46,7 +55,7 @@ returns-2 c =
     put-three 12 2 2 (a .fault) (a .inflow) (a .outflow) out (omega (arith, size, room)) _ _ _
     (first .put-head .ensures) (second .write-u16-le .ensures) (third .put-litres .ensures)
     ∙ ap (λ (l : List ℕ). splice 0 l out) (image-fault (a .fault) (a .inflow) (a .outflow)) in
-    ap₂ (λ (n : ℕ) (l : List ℕ). handed (Written n) l) (sym size) put ∙ pack-written r out room refl
+    (ap₂ (λ (n : ℕ) (l : List ℕ). handed (Written n) l) (sym size) put ∙ pack-written r out room refl, typed start)
 
 pub pack-fault-spec : {M : Type 1} → statement M
 pack-fault-spec =

@@ -29,7 +29,7 @@ enum-known-packed-2 c = search needs
 array-share-prefix-image : tie.Need-array-share-prefix-image
 array-share-prefix-image c =
     let q = c .before .before .packed2 .given .1 in
-    let e = c .before .before .before .before .before .pack .ensures in
+    let e = c .before .before .before .before .before .pack .ensures .0 in
     let g = c .before .before .before .before .before .before .before .before .before .pre .1 in
     let left = c .before .before .before .before .before .pack .last .1 .0 in
     let short : c .before .before .packed2 .given .0 .0 ≤ length left = omega (arith, packed-fits _ _ _ _ g refl e _ q, packed-left _ _ _ _ g refl e) in
@@ -38,7 +38,7 @@ array-share-prefix-image c =
 slice-aggregate-write-payload : tie.Need-slice-aggregate-write-payload
 slice-aggregate-write-payload c =
     let q = c .before .before .before .packed2 .given .1 in
-    let e = c .before .before .before .before .before .before .pack .ensures in
+    let e = c .before .before .before .before .before .before .pack .ensures .0 in
     let g = c .before .before .before .before .before .before .before .before .before .before .pre .1 in
     sym (length-take-le _ _ (omega (arith, packed-fits _ _ _ _ g refl e _ q, packed-left _ _ _ _ g refl e)))
 
@@ -49,7 +49,7 @@ told-requires : tie.Need-told-requires
 told-requires c κs = written-short _ _ _ (c .before .before .write-payload .ensures .answer)
 
 returns : tie.Need-returns
-returns c = not-refused _ _ _ _ (c .before .before .before .before .before .before .before .before .before .pre .1) refl (c .before .before .before .before .before .pack .ensures) _ (c .before .before .packed .given .1)
+returns c = not-refused _ _ _ _ (c .before .before .before .before .before .before .before .before .before .pre .1) refl (c .before .before .before .before .before .pack .ensures .0) _ (c .before .before .packed .given .1)
 
 same-length : tie.Need-same-length
 same-length c = search needs
@@ -57,7 +57,7 @@ same-length c = search needs
 returns-2 : tie.Need-returns-2
 returns-2 c =
     let q = c .before .before .before .before .before .before .before .packed2 .given .1 in
-    let e = c .before .before .before .before .before .before .before .before .before .before .pack .ensures in
+    let e = c .before .before .before .before .before .before .before .before .before .before .pack .ensures .0 in
     let g = c .before .before .before .before .before .before .before .before .before .before .before .before .before .before .pre .1 in
     let out = c .before .before .before .write-payload .last .0 in
     ap (λ (x : Carry). handed x out) (c .told .ensures)

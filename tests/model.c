@@ -1,7 +1,7 @@
 /* The gauge once more (tests/model.h), to be held against the archive: written from documents 000 and 01 without a look into the crates. It is meant to
  * be read beside the documents and is slow: a call works on a copy of all that is lent, and the copy is put back when nothing refuses. */
 #include "model.h"
-#include <stdbool.h>
+#include "model_read.h"
 #include <string.h>
 
 /* Numbers and keys. A key's order as a number is the order of its bytes. */
@@ -109,18 +109,18 @@ static unsigned in(const struct place *p, struct span s, size_t offset)
     return p->bad ? 0 : two(p->d + s.at + offset);
 }
 
-static void optional(struct place *p, unsigned number)
+static struct span optional(struct place *p, unsigned number)
 {
-    if (here(p, number))
-        field(p, number);
+    struct span none = {0, 0};
+    return here(p, number) ? field(p, number) : none;
 }
 
-static void optional_padded(struct place *p, unsigned number)
+static struct span optional_padded(struct place *p, unsigned number)
 {
-    if (here(p, number)) {
-        field(p, number);
+    struct span s = optional(p, number);
+    if (s.at != 0)
         padding(p);
-    }
+    return s;
 }
 
 /* Credential, signature and key identifier, as they stand at the end of three messages. */
@@ -151,13 +151,14 @@ static struct span optional_entry(struct place *p)
 }
 
 /* FIELD_ARRAY: count, array length, element's number, element's size, elements. */
-static void array(struct place *p, unsigned number, unsigned element, unsigned size, unsigned least, unsigned most)
+static struct span array(struct place *p, unsigned number, unsigned element, unsigned size, unsigned least, unsigned most)
 {
     struct span s = field(p, number);
     must(p, s.len >= 8);
     unsigned count = in(p, s, 0);
     must(p, count >= least && count <= most);
     must(p, s.len == 8 + count * size && in(p, s, 2) == 8 + count * size && in(p, s, 4) == element && in(p, s, 6) == size);
+    return s;
 }
 
 static void keys(struct place *p)
@@ -169,13 +170,6 @@ static void endpoints(struct place *p)
 {
     array(p, 0x009E, 0x009D, 0x12, 1, 22);
 }
-
-/* What a call wants to know of a message. */
-struct message {
-    uint32_t number, type, id, acked;
-    bool d, n;
-    struct span validate, cpa, nonce, entry, target;
-};
 
 static void solicit(struct place *p, struct message *m)
 {
@@ -249,15 +243,15 @@ static void authority(struct place *p, struct message *m)
         m->number = 7;
         return;
     }
-    field_of(p, 0x0040, 2);
+    m->flags = in(p, field_of(p, 0x0040, 2), 0);
     skip(p, 2);
-    optional_padded(p, 0x0080);
-    optional_padded(p, 0x009F);
+    m->chain = optional_padded(p, 0x0080);
+    m->keytoken = optional_padded(p, 0x009F);
     if (here(p, 0x0085)) {
-        array(p, 0x0085, 0x0084, 2, 0, 0x7FFF);
+        m->classifier = array(p, 0x0085, 0x0084, 2, 0, 0x7FFF);
         padding(p);
     }
-    optional_padded(p, 0x005A);
+    m->payload = optional_padded(p, 0x005A);
     m->entry = optional_entry(p);
     if (here(p, 0x009B))
         m->cpa = field(p, 0x009B);
@@ -285,7 +279,7 @@ static void lookup(struct place *p, struct message *m)
     signatures(p);
 }
 
-static struct message read_message(uint8_t major, struct bytes datagram)
+struct message read_message(uint8_t major, struct bytes datagram)
 {
     struct message m, refused;
     memset(&m, 0, sizeof m);

@@ -1,6 +1,6 @@
 /* The gauge, as a radio program in C calls it. Link libgauge.a (`make lib`), for x86-64.
  *
- * The gauge has no memory, no socket and no clock of its own. The radio program lends it memory and numbers, and sends what it writes. Five calls:
+ * The gauge has no memory, no socket and no clock of its own. The radio program lends it memory and numbers, and sends what it writes. Its five calls:
  *
  *   gauge_receive      a datagram has come: what is to be sent, and what changes in the memory
  *   gauge_send         a FLOOD of a record is to go to a neighbour
@@ -8,13 +8,20 @@
  *   gauge_neighbours   the five keys next to our own on either side
  *   gauge_look         what a datagram is, and where in it the CPA and the nonce stand; nothing is done
  *
+ * Above the gauge stand three for a pond's reading, a depth or a fault with litres in and out, which an AUTHORITY may carry. They use no memory:
+ *
+ *   gauge_carry        an AUTHORITY is to carry a reading
+ *   gauge_carried      which reading a datagram carries
+ *   gauge_balance      litres in minus litres out
+ *
  * What holds for all of them:
  *
  * - What is lent is a pointer and a length in bytes, one after the other. It is lent for that call alone: the gauge keeps no pointer, and hands none
  *   back. A pointer is not NULL, not even with length 0. Any length may be lent: one that is not right is answered by a number.
  * - `const` is lent for reading. All else is lent for writing too, and may then not overlap anything else that is lent to the same call. The
  *   gauge cannot test that.
- * - Every call returns, whatever the bytes are, and its answer begins with a number (below): 0, or the lowest of those that apply.
+ * - Every call returns, whatever the bytes are, and its answer begins with a number (below): 0, or the lowest of those that apply. gauge_balance has
+ *   nothing to refuse: its answer is the balance.
  * - With any number but 0 nothing has changed: each byte is as it was lent, and the rest of the answer is 0.
  * - With 0 the output has changed in its first bytes only, as many as the call says; and cache and waiting table are in form again.
  * - The calls on one gauge's memory come one after the other. Gauges that share no memory do not know of each other.
@@ -69,6 +76,7 @@ extern "C" {
 #define GAUGE_SEND_LEN 164        /* enough for gauge_send */
 #define GAUGE_TICK_LEN 64         /* what gauge_tick asks for, always */
 #define GAUGE_LIST_LEN 320        /* what gauge_neighbours asks for, always */
+#define GAUGE_CARRY_LEN 20        /* what a reading adds to an AUTHORITY that has no payload, whatever its kind */
 
 /* A record, by place: key (32), port (2, most significant byte first), how many addresses (1, from 1 to 4), a zero byte, four addresses of 16 bytes
  * as they stand on the wire. Those not used are zero. */
@@ -119,6 +127,18 @@ enum gauge_kind {
     GAUGE_LOOKUP = 11
 };
 
+/* The kinds of a reading. */
+#define GAUGE_READING_DEPTH 1
+#define GAUGE_READING_FAULT 2
+
+/* The numbers of a reading, in `reading` of the two answers below. They have nothing to do with those above, and are never mixed with them. */
+enum gauge_reading_number {
+    GAUGE_READING_OK = 0,
+    GAUGE_READING_LENGTH = 1, /* a payload that is shorter or longer than a reading of its kind is, or than it says; a fault number over 65535 */
+    GAUGE_READING_KIND = 2,   /* its kind is unknown */
+    GAUGE_READING_OUTSIDE = 3 /* its depth is not from 0 to 20 metres, or not a number */
+};
+
 /* The verdict on a CPA that is good. Any other number is not good. */
 #define GAUGE_GOOD 1
 
@@ -139,6 +159,22 @@ struct gauge_look {
     uint32_t nonce_at, nonce_len; /* INQUIRE, REQUEST: the nonce, 16 bytes. SOLICIT, ADVERTISE: the hashed nonce, 20 bytes. */
     uint32_t entry_at, entry_len; /* SOLICIT, FLOOD, AUTHORITY, LOOKUP: the route entry, 38 bytes and 16 for each address */
     uint32_t target_at, target_len; /* LOOKUP: the target key, 32 bytes */
+};
+
+/* What gauge_carry answers. */
+struct gauge_carry {
+    uint32_t number;  /* GAUGE_OK, GAUGE_LENGTH to GAUGE_NOT_TAKEN, or GAUGE_ROOM. Not 0: the rest is 0. */
+    uint32_t length;  /* how many bytes were written; 0 where `reading` is not 0 */
+    uint32_t reading; /* one of enum gauge_reading_number */
+};
+
+/* What gauge_carried answers. */
+struct gauge_reading {
+    uint32_t number;  /* GAUGE_OK, or GAUGE_LENGTH to GAUGE_NOT_TAKEN. Not 0: the rest is 0. */
+    uint32_t reading; /* one of enum gauge_reading_number. Not 0: the rest is 0. */
+    uint32_t kind;    /* GAUGE_READING_DEPTH or GAUGE_READING_FAULT; 0 where the AUTHORITY carries none */
+    uint32_t measure; /* the 32 bits of the depth, a binary32 (float) in metres; or the fault number */
+    uint32_t litres_in, litres_out;
 };
 
 /* A datagram has come.
@@ -225,6 +261,38 @@ struct gauge_answer gauge_neighbours(const uint8_t *own, size_t own_len, const u
  * Look at an AUTHORITY, and at a FLOOD with a revoke CPA, before gauge_receive: the CPA there is yours to judge. Look at an INQUIRE for the nonce that
  * your CPA should hold, and at a FLOOD for the addresses to which an INQUIRE goes. */
 struct gauge_look gauge_look(uint8_t major, const uint8_t *datagram, size_t datagram_len);
+
+/* An AUTHORITY is to carry a reading of the pond: call this between gauge_receive, which writes the AUTHORITY, and the radio, and send what it writes.
+ *
+ *   major       our major version.
+ *   authority   the AUTHORITY, whole: as the gauge wrote it, or any other.
+ *   kind        GAUGE_READING_DEPTH or GAUGE_READING_FAULT.
+ *   measure     a depth in metres by its 32 bits (memcpy from a float), from 0 to 20, both ends and negative zero allowed; or a fault number, up to
+ *               65535.
+ *   litres_in, litres_out  any.
+ *   output      for writing: GAUGE_DATAGRAM_MOST bytes are always enough. Where both numbers are 0, its first `length` bytes are the same AUTHORITY with
+ *               the reading as its payload: GAUGE_CARRY_LEN bytes more where it had none. One that it had is replaced. All else in it is the same, and
+ *               bits that are ignored on reading are zero. No other byte of the output has changed.
+ *
+ * What gauge_receive writes gets never too long by it. Where another AUTHORITY would have more than 1,232 bytes no room is enough: send it as it is.
+ *
+ * Gives, in this order: in `number` GAUGE_LENGTH to GAUGE_NOT_TAKEN for a datagram that gauge_look would refuse, and GAUGE_TYPE too for a message that is
+ * no AUTHORITY; in `reading` GAUGE_READING_LENGTH for a fault number over 65535, GAUGE_READING_KIND or GAUGE_READING_OUTSIDE; in `number` GAUGE_ROOM, where
+ * the output is too short or the AUTHORITY would be too long. One of the two at most is not 0, and then nothing is written. */
+struct gauge_carry gauge_carry(uint8_t major, const uint8_t *authority, size_t authority_len, uint32_t kind, uint32_t measure, uint32_t litres_in,
+                               uint32_t litres_out, uint8_t *output, size_t output_len);
+
+/* Which reading a datagram carries. Nothing is done, and nothing is lent but the datagram, for reading.
+ *
+ * A reading is to be believed as far as the AUTHORITY is: call this when gauge_receive has accepted it. A payload that is no reading, as others may send
+ * what they like, is told by `reading`, and is no reason to refuse the AUTHORITY.
+ *
+ * Gives in `number` GAUGE_LENGTH to GAUGE_NOT_TAKEN for a datagram that gauge_look would refuse, and GAUGE_TYPE too for a message that is no AUTHORITY;
+ * then in `reading` the lowest that applies to its payload. One of the two at most is not 0. */
+struct gauge_reading gauge_carried(uint8_t major, const uint8_t *datagram, size_t datagram_len);
+
+/* Litres in minus litres out: 3 in and 4 out is -1. */
+int64_t gauge_balance(uint32_t litres_in, uint32_t litres_out);
 
 #ifdef __cplusplus
 }

@@ -466,7 +466,8 @@ static void draft_inquire(void)
     add_signatures();
 }
 
-static void draft_authority(uint32_t to)
+/* All before the buffer's optional fields; gives the place of the split controls. */
+static size_t begin_authority(uint32_t to)
 {
     add_header(8);
     add_acked(to);
@@ -475,6 +476,25 @@ static void draft_authority(uint32_t to)
     add4(0);
     add_field(0x40, 2);
     add_ignored(4);
+    return split;
+}
+
+/* Size and offset, now and then of a part or out of bounds. */
+static void end_authority(size_t split)
+{
+    set2(split + 4, draft.n - split - 8);
+    switch (under(60)) {
+    case 0: set2(split + 4, draft.n - split - 8 + under(3) - 1); break;
+    case 1: set2(split + 4, 0x91E3 + under(3)); break;
+    case 2: set2(split + 6, 1188 * (1 + under(3))); break;
+    case 3: set2(split + 6, 1187 + under(3)); break;
+    default: break;
+    }
+}
+
+static void draft_authority(uint32_t to)
+{
+    size_t split = begin_authority(to);
     if (percent(15)) {
         add_opaque(0x80);
         add_padding();
@@ -495,14 +515,39 @@ static void draft_authority(uint32_t to)
         add_some_entry();
     if (percent(93))
         add_opaque(0x9B);
-    set2(split + 4, draft.n - split - 8);
-    switch (under(60)) {
-    case 0: set2(split + 4, draft.n - split - 8 + under(3) - 1); break;
-    case 1: set2(split + 4, 0x91E3 + under(3)); break;
-    case 2: set2(split + 6, 1188 * (1 + under(3))); break;
-    case 3: set2(split + 6, 1187 + under(3)); break;
-    default: break;
+    end_authority(split);
+}
+
+void draft_authority_with(const uint8_t *payload, size_t len, size_t whole)
+{
+    size_t split = begin_authority(some_id());
+    if (percent(30)) {
+        add_opaque(0x80);
+        add_padding();
     }
+    if (percent(30)) {
+        add_opaque(0x9F);
+        add_padding();
+    }
+    if (percent(30)) {
+        add_array(0x85, 0x84, 2, under(9));
+        add_padding();
+    }
+    if (payload != NULL) {
+        add_field(0x5A, len);
+        add(payload, len);
+        add_padding();
+    }
+    if (percent(40))
+        add_some_entry();
+    if (whole >= draft.n + 4) {
+        size_t rest = whole - draft.n - 4;
+        add_field(0x9B, rest);
+        add_any(rest);
+    } else if (percent(60)) {
+        add_opaque(0x9B);
+    }
+    end_authority(split);
 }
 
 static void draft_ack(void)
@@ -540,7 +585,7 @@ static void draft_lookup(void)
 }
 
 /* One damage: a byte, a bit, a cut, growth, or a field's number or length. */
-static void damage_draft(void)
+void damage_draft(void)
 {
     static const uint8_t numbers[] = {0x18, 0x38, 0x39, 0x40, 0x5A, 0x60, 0x80, 0x85, 0x92, 0x93, 0x98, 0x9A, 0x9B, 0x9C, 0x9E, 0x9F, 0xA0, 0xA1, 0xA2, 0xA3, 0xA4, 0xA5, 0xA6};
     static const uint8_t edges[] = {1, 11, 12, 13};

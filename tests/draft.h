@@ -1,5 +1,5 @@
 /* Messages of a random night, drafted by chance so that they lean on what the gauge has in memory: IDs that wait, keys held, the own key. Used by
- * tests/compare.c and tests/nights.c. The same seed gives the same nights on every machine. */
+ * tests/compare.c, tests/nights.c and tests/readings.c. The same seed gives the same nights on every machine. */
 #ifndef DRAFT_H
 #define DRAFT_H
 
@@ -46,5 +46,10 @@ void draft_message(uint8_t *key);  /* and the key that the host names with its v
 void draft_learning(uint8_t *key); /* an AUTHORITY for an inquiry that waits; where none does, a FLOOD of some gauge's record */
 void draft_inquire_of(size_t n);   /* an INQUIRE for our key, n bytes long, good but for that; n from 60 to 2048 */
 void draft_send(uint8_t *neighbour, uint8_t *key);
+
+/* An AUTHORITY with this payload, or none where it is NULL, and its other fields by chance. It is `whole` bytes long where its CPA can make it so, and
+ * of any length where `whole` is 0. */
+void draft_authority_with(const uint8_t *payload, size_t len, size_t whole);
+void damage_draft(void); /* in one place */
 
 #endif

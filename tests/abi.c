@@ -39,9 +39,20 @@ static void answers(void)
     CHECK(offsetof(struct gauge_look, entry_len) == 36);
     CHECK(offsetof(struct gauge_look, target_at) == 40);
     CHECK(offsetof(struct gauge_look, target_len) == 44);
+    CHECK(sizeof(struct gauge_carry) == 12);
+    CHECK(offsetof(struct gauge_carry, number) == 0);
+    CHECK(offsetof(struct gauge_carry, length) == 4);
+    CHECK(offsetof(struct gauge_carry, reading) == 8);
+    CHECK(sizeof(struct gauge_reading) == 24);
+    CHECK(offsetof(struct gauge_reading, number) == 0);
+    CHECK(offsetof(struct gauge_reading, reading) == 4);
+    CHECK(offsetof(struct gauge_reading, kind) == 8);
+    CHECK(offsetof(struct gauge_reading, measure) == 12);
+    CHECK(offsetof(struct gauge_reading, litres_in) == 16);
+    CHECK(offsetof(struct gauge_reading, litres_out) == 20);
 }
 
-/* The constants, as document 01 has them. */
+/* The constants, as documents 01 and 02 have them. */
 static void constants(void)
 {
     CHECK(GAUGE_KEY_LEN == 32 && GAUGE_NONCE_LEN == 16 && GAUGE_ADDRESS_LEN == 16);
@@ -57,6 +68,8 @@ static void constants(void)
     CHECK(GAUGE_OK == 0 && GAUGE_MEMORY == 1 && GAUGE_LENGTH == 2 && GAUGE_HEADER == 3 && GAUGE_MAJOR == 4 && GAUGE_TYPE == 5 && GAUGE_FIELD == 6);
     CHECK(GAUGE_NOT_TAKEN == 7 && GAUGE_STRAY == 8 && GAUGE_UNTRUSTED == 9 && GAUGE_OTHER_KEY == 10 && GAUGE_OWN_KEY == 11 && GAUGE_NOT_OURS == 12);
     CHECK(GAUGE_ID_WAITING == 13 && GAUGE_FULL == 14 && GAUGE_ROOM == 15 && GAUGE_GOOD == 1);
+    CHECK(GAUGE_READING_DEPTH == 1 && GAUGE_READING_FAULT == 2 && GAUGE_CARRY_LEN == 4 + 16 && GAUGE_CARRY_LEN == 4 + 14 + 2);
+    CHECK(GAUGE_READING_OK == 0 && GAUGE_READING_LENGTH == 1 && GAUGE_READING_KIND == 2 && GAUGE_READING_OUTSIDE == 3);
 }
 
 /* Datagrams, as hexadecimal digits with spaces between them. */
@@ -189,6 +202,60 @@ static void arguments(void)
     CHECK(a.number == GAUGE_OK && a.first == 1 && a.second == 0 && wrote(KEY("11")));
 }
 
+/* Readings carried. An AUTHORITY of 42 bytes with our CPA becomes one of 62: the payload's field, length 4 + 16 or 4 + 14, stands before the CPA's, and a
+ * fault's has two bytes of padding. In the payload the least significant byte is first. */
+
+#define CARRYING(size, payload) HEADER("08", "00000007") ACKED("D8859CF5") "0098 0008 " size " 0000 0040 0006 0000 0000 " payload "009B 0006 E1E2"
+#define LITRES "04030201 08070605 "
+#define DEPTH "005A 0014 0E00 0100 0000C03F " LITRES /* 1.5 m */
+#define FAULT "005A 0012 0C00 0200 B2A1 " LITRES "0000 "
+
+static struct gauge_carry carry(uint8_t major, uint32_t kind, uint32_t measure)
+{
+    memset(output, 0xEE, sizeof output);
+    return gauge_carry(major, datagram, datagram_len, kind, measure, 0x01020304, 0x05060708, output, sizeof output);
+}
+
+static int carry_is(struct gauge_carry a, uint32_t number, uint32_t length, uint32_t reading)
+{
+    return a.number == number && a.length == length && a.reading == reading;
+}
+
+static int reading_is(const char *text, struct gauge_reading wanted)
+{
+    datagram_len = bytes(text, datagram);
+    struct gauge_reading a = gauge_carried(6, datagram, datagram_len);
+    return memcmp(&a, &wanted, sizeof a) == 0;
+}
+
+static void readings(uint8_t *nothing)
+{
+    float metres = 1.5f;
+    uint32_t depth;
+    memcpy(&depth, &metres, sizeof depth);
+    datagram_len = bytes(CARRYING("000E", ""), datagram);
+    CHECK(datagram_len == 42);
+    CHECK(carry_is(carry(6, GAUGE_READING_DEPTH, depth), 0, 62, 0) && wrote(CARRYING("0022", DEPTH)));
+    CHECK(carry_is(carry(6, GAUGE_READING_FAULT, 0xA1B2), 0, 62, 0) && wrote(CARRYING("0022", FAULT)));
+    CHECK(carry_is(carry(7, GAUGE_READING_FAULT, 0xA1B2), GAUGE_MAJOR, 0, 0) && wrote(""));
+    CHECK(carry_is(carry(6, GAUGE_READING_FAULT, 65536), 0, 0, GAUGE_READING_LENGTH) && wrote(""));
+    CHECK(carry_is(carry(6, 257, depth), 0, 0, GAUGE_READING_KIND) && wrote(""));
+    CHECK(carry_is(carry(6, GAUGE_READING_DEPTH, 0x41A00001), 0, 0, GAUGE_READING_OUTSIDE) && wrote("")); /* next above 20 */
+    CHECK(carry_is(gauge_carry(6, datagram, datagram_len, GAUGE_READING_DEPTH, depth, 0, 0, output, 61), GAUGE_ROOM, 0, 0) && wrote(""));
+    CHECK(carry_is(gauge_carry(6, datagram, datagram_len, GAUGE_READING_DEPTH, depth, 0, 0, nothing, 0), GAUGE_ROOM, 0, 0));
+    CHECK(carry_is(gauge_carry(6, nothing, 0, GAUGE_READING_DEPTH, depth, 0, 0, output, sizeof output), GAUGE_LENGTH, 0, 0) && wrote(""));
+
+    CHECK(reading_is(CARRYING("0022", DEPTH), (struct gauge_reading){0, 0, GAUGE_READING_DEPTH, depth, 0x01020304, 0x05060708}));
+    CHECK(reading_is(CARRYING("0022", FAULT), (struct gauge_reading){0, 0, GAUGE_READING_FAULT, 0xA1B2, 0x01020304, 0x05060708}));
+    CHECK(reading_is(CARRYING("000E", ""), (struct gauge_reading){0, 0, 0, 0, 0, 0}));
+    CHECK(reading_is(CARRYING("0012", "005A 0004 "), (struct gauge_reading){0, GAUGE_READING_LENGTH, 0, 0, 0, 0})); /* a payload that is empty */
+    CHECK(reading_is(HEADER("09", "00000109") ACKED("D8859CF5"), (struct gauge_reading){GAUGE_TYPE, 0, 0, 0, 0, 0}));
+    CHECK(gauge_carried(6, nothing, 0).number == GAUGE_LENGTH);
+
+    CHECK(gauge_balance(3, 4) == -1 && gauge_balance(4, 3) == 1 && gauge_balance(7, 7) == 0);
+    CHECK(gauge_balance(0, UINT32_MAX) == -INT64_C(4294967295) && gauge_balance(UINT32_MAX, 0) == INT64_C(4294967295));
+}
+
 /* Each slice in turn has length 0, and points to where no byte may be touched. */
 
 enum { OWN, CPA, CACHE, WAITING, NONCE_LENT, NEIGHBOUR, KEY_LENT, DATAGRAM, OUTPUT, SLICES };
@@ -274,6 +341,7 @@ int main(void)
     looks();
     arguments();
     zero_lengths(nothing);
+    readings(nothing);
     printf("abi: %u facts, %u failed\n", tests, failed);
     return failed != 0;
 }

@@ -6,6 +6,10 @@
  * seconds; and from the start, each second, it floods its own record or one that it holds to gauges that it holds. When every neighbour list is the true
  * one, three things happen: a gauge falls silent, another is revoked, and the address of a third, which has fallen silent too, is given to a new gauge.
  *
+ * Each AUTHORITY carries a reading of the pond that sends it: gauge_carry puts it in, and gauge_carried tells it where the AUTHORITY is accepted. Readings
+ * are made up here. Pond n is n / 4 metres deep, or has fault 700 + n where n ends with 5; 40 n litres came in, and 35 n went out, or 80 n where n leaves
+ * 5 when divided by 8. The run ends with what the last reading of each pond says.
+ *
  * The gauge reads all datagrams, by gauge_look too: nothing here reads one. Three messages are written here, for which the gauge has no call: the first
  * FLOOD, the revocation and the LOOKUP. The calls of one gauge are written to target/hill.trace, and their answers to target/hill.answers
  * (gauge_trace.h).
@@ -65,6 +69,8 @@ static size_t under_way;
 static unsigned long seconds, datagrams, lost;
 static unsigned told;      /* how often an ACK with N has taken a key out */
 static unsigned closest;   /* the pond that the last answer to the office named, 0 for none */
+static struct gauge_reading last[NEW + 1]; /* the last reading that came from a pond; its kind is 0 where none came */
+static unsigned long readings;             /* how many came */
 static const uint8_t cpa[GAUGE_TRACE_CPA_LEN] = {0};
 #define OFFICE (&ponds[0]) /* it asks, and has no gauge */
 
@@ -242,6 +248,44 @@ static void pass_on(struct pond *p, const uint8_t *key)
         send_revocation(p, address_at(record(p, i) + GAUGE_RECORD_ADDRESSES), key);
 }
 
+/* Readings. */
+
+static struct gauge_reading reading_of(unsigned number)
+{
+    struct gauge_reading r = {GAUGE_OK, GAUGE_READING_OK, GAUGE_READING_DEPTH, 0, 40 * number, 35 * number};
+    float metres = (float)number / 4;
+    memcpy(&r.measure, &metres, sizeof metres);
+    if (number % 10 == 5) {
+        r.kind = GAUGE_READING_FAULT;
+        r.measure = 700 + number;
+    }
+    if (number % 8 == 5)
+        r.litres_out = 80 * number;
+    return r;
+}
+
+/* An AUTHORITY of the gauge goes out with the pond's reading. */
+static void send_authority(const struct pond *p, unsigned to, const uint8_t *bytes, size_t len)
+{
+    uint8_t output[GAUGE_DATAGRAM_MOST];
+    struct gauge_reading r = reading_of(number_of(p));
+    struct gauge_carry c = gauge_carry(MAJOR, bytes, len, r.kind, r.measure, r.litres_in, r.litres_out, output, sizeof output);
+    if (c.number != GAUGE_OK || c.reading != GAUGE_READING_OK)
+        stop("pond %u: gauge_carry gave %u and %u\n", number_of(p), c.number, c.reading);
+    send(p, to, output, c.length);
+}
+
+/* An AUTHORITY that is believed has come: its reading must be the one that was sent. */
+static void take_reading(const struct datagram *d)
+{
+    unsigned number = at[d->from];
+    struct gauge_reading came = gauge_carried(MAJOR, d->bytes, d->len), sent = reading_of(number);
+    if (memcmp(&came, &sent, sizeof came) != 0)
+        stop("pond %u's reading came as another one\n", number);
+    last[number] = came;
+    readings++;
+}
+
 /* A datagram arrives. */
 
 /* The verdict on its CPA, and the key that it is good for: of an AUTHORITY that of the sender, of a revocation the one in it. */
@@ -260,19 +304,22 @@ static uint32_t judge(const struct datagram *d, const struct gauge_look *seen, u
 /* ACK and AUTHORITY go to the sender; an INQUIRE goes to the gauge that the FLOOD told of, and is kept. */
 static void send_answer(struct pond *p, const struct datagram *d, const struct gauge_look *seen, const uint8_t *bytes, size_t len)
 {
-    if (len == 0)
-        return;
-    if (gauge_look(MAJOR, bytes, len).kind == GAUGE_INQUIRE)
+    uint32_t kind = len == 0 ? 0 : gauge_look(MAJOR, bytes, len).kind;
+    if (kind == GAUGE_INQUIRE)
         send_and_keep(p, address_at(d->bytes + seen->entry_at + GAUGE_ENTRY_ADDRESSES), bytes, len);
-    else
+    else if (kind == GAUGE_AUTHORITY)
+        send_authority(p, d->from, bytes, len);
+    else if (kind == GAUGE_ACK)
         send(p, d->from, bytes, len);
 }
 
-/* The gauge has accepted a datagram: what was answered by it is forgotten, and a revocation passed on. */
-static void accepted(struct pond *p, const struct gauge_look *seen, const uint8_t *key, uint32_t held_before)
+/* The gauge has accepted a datagram: what was answered by it is forgotten, its reading taken, and a revocation passed on. */
+static void accepted(struct pond *p, const struct datagram *d, const struct gauge_look *seen, const uint8_t *key, uint32_t held_before)
 {
     if (seen->kind == GAUGE_ACK || seen->kind == GAUGE_AUTHORITY)
         forget(p, seen->acked);
+    if (seen->kind == GAUGE_AUTHORITY)
+        take_reading(d);
     if (seen->kind == GAUGE_ACK && held(p) < held_before)
         told++;
     if (seen->kind == GAUGE_FLOOD && seen->entry_len == 0)
@@ -292,7 +339,7 @@ static void arrives(struct pond *p, const struct datagram *d)
     p->id += 2; /* a receive may use up two */
     switch (a.number) {
     case GAUGE_OK:
-        accepted(p, &seen, key, held_before);
+        accepted(p, d, &seen, key, held_before);
         send_answer(p, d, &seen, output, a.first);
         send_answer(p, d, &seen, output + a.first, a.second);
         break;
@@ -311,6 +358,7 @@ static void arrives_at_office(const struct datagram *d)
     if (seen.number != GAUGE_OK || seen.kind != GAUGE_AUTHORITY || seen.entry_len == 0)
         stop("the office gets something else than it asked for\n");
     closest = d->bytes[seen.entry_at + GAUGE_ENTRY_KEY];
+    take_reading(d);
 }
 
 /* What is under way arrives in no order, and some of it not at all. The answers to it go the same way. */
@@ -468,6 +516,55 @@ static void ask(unsigned whom, unsigned number)
     printf("  pond %u says: pond %u\n", whom, closest);
 }
 
+/* What the readings say of the ponds that are on the hill: how deep, which have a fault, which lose water. */
+
+static float depth_in(const struct gauge_reading *r)
+{
+    float metres;
+    memcpy(&metres, &r->measure, sizeof metres);
+    return metres;
+}
+
+static void tell_depths(void)
+{
+    unsigned deepest = 0;
+    float most = 0;
+    printf("  no depth, but a fault:");
+    for (unsigned n = 1; n <= NEW; n++) {
+        const struct gauge_reading *r = &last[n];
+        if (ponds[n].listed && r->kind == GAUGE_READING_FAULT)
+            printf(" pond %u (%u)", n, r->measure);
+        if (ponds[n].listed && r->kind == GAUGE_READING_DEPTH && depth_in(r) > most) {
+            deepest = n;
+            most = depth_in(r);
+        }
+    }
+    printf("\n  deepest: pond %u, %.2f m\n", deepest, (double)most);
+}
+
+static void tell_balance(void)
+{
+    int64_t sum = 0;
+    printf("  litres in minus litres out, where it is a deficit:");
+    for (unsigned n = 1; n <= NEW; n++) {
+        int64_t balance = ponds[n].listed ? gauge_balance(last[n].litres_in, last[n].litres_out) : 0;
+        sum += balance;
+        if (balance < 0)
+            printf(" pond %u (%lld)", n, (long long)balance);
+    }
+    printf("\n  litres in minus litres out, all ponds together: %lld\n", (long long)sum);
+}
+
+static void tell_readings(void)
+{
+    unsigned of = 0;
+    for (unsigned n = 1; n <= NEW; n++)
+        of += ponds[n].listed && last[n].kind != 0;
+    printf("%lu readings came with the AUTHORITYs, each as it was sent. The last ones of the %u ponds:\n", readings, of);
+    tell_depths();
+    tell_balance();
+}
+
 /* A gauge with nothing in its memory. Its key begins with its number, and the rest is random; it has one address, and port 5000. */
 static void begin(unsigned number, unsigned address, unsigned known)
 {
@@ -519,6 +616,7 @@ static void hill(void)
 
     printf("The office asks for the gauge next to where pond 33's was.\n");
     ask(34, 33);
+    tell_readings();
 }
 
 static FILE *opened(const char *path)

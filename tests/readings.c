@@ -323,8 +323,10 @@ static void draft_datagram(void)
 {
     uint8_t key[32];
     uint32_t way = under(100);
-    if (way < 12) {
+    if (way < 20) {
         draft_message(key);
+        if (percent(5))
+            draft.b[under(5)] ^= (uint8_t)(1 << under(8));
         return;
     }
     size_t n = some_payload();
@@ -362,7 +364,7 @@ static void make_call(struct call *c)
     c->filled = any();
     c->front = percent(30);
     c->reading = some_reading();
-    c->major = percent(2) ? any() : own_major;
+    c->major = percent(4) ? any() : own_major;
     if (written_len > 0 && percent(10)) {
         c->major = written[5];
         c->len = written_len;

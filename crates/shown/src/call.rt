@@ -1,9 +1,8 @@
 // What a record of the trace was: a datagram received, a FLOOD to send, or a tick. The record has its two length
 // bytes and its kind in front, and is of the length of its kind.
-use crate::message;
-use crate::names;
-use crate::text;
-use crate::words;
+use shown_words::message;
+use shown_words::names;
+use shown_words::words;
 
 // The columns that what it was has in a line.
 const COLUMNS: usize = 68;

@@ -2,16 +2,14 @@
 // kept at the end, and how often each answer was given.
 //
 // The trace, in the form of document 02's request 1, is standard input. Pond names are text at file descriptor 3
-// (names.rt), which need not be open. Each call is made by `night::step`, and nothing else here changes the gauge's
-// memory.
+// (names.rt of `shown_words`), which need not be open. Each call is made by `night::step`, and nothing else here changes
+// the gauge's memory.
 mod call;
-mod message;
-mod names;
 mod state;
-mod text;
 mod totals;
 mod whose;
-mod words;
+
+use shown_words::words;
 
 // Room for a line that is written, and for the pond names; of a longer text the rest is not read.
 const LINE: usize = 512;

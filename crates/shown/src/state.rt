@@ -1,7 +1,6 @@
 // What the gauge kept at the end of the night: the keys held, the neighbours, what waits.
-use crate::names;
-use crate::text;
 use crate::whose;
+use shown_words::names;
 
 fn wide(x: u8) -> u64 {
     x as u64

@@ -1,6 +1,5 @@
 // How many records had each answer.
-use crate::text;
-use crate::words;
+use shown_words::words;
 
 // The answers are 0 to 17.
 pub(crate) fn count(counts: &mut [u64; 18], answer: u32) {

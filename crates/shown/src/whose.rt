@@ -1,6 +1,5 @@
 // Whose night it was: the record that opens the trace, two versions and the gauge's own record.
-use crate::names;
-use crate::text;
+use shown_words::names;
 
 fn wide(x: u8) -> u64 {
     x as u64

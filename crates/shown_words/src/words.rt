@@ -1,8 +1,7 @@
 // Words for what the gauge has numbers for.
-use crate::text;
 
 // The types of messages, by document 000, section 2.2.1.
-pub(crate) fn put_type(line: &mut [u8], at: usize, kind: u32) -> usize {
+pub fn put_type(line: &mut [u8], at: usize, kind: u32) -> usize {
     match kind {
         1 => text::put(line, at, b"SOLICIT"),
         2 => text::put(line, at, b"ADVERTISE"),
@@ -85,13 +84,13 @@ fn put_meaning(line: &mut [u8], at: usize, number: u64) -> usize {
 }
 
 // A number in two columns, and its meaning.
-pub(crate) fn put_answer(line: &mut [u8], at: usize, number: u64) -> usize {
+pub fn put_answer(line: &mut [u8], at: usize, number: u64) -> usize {
     let a = text::column(line, at, number, 2);
     let b = text::put(line, a, b" ");
     put_meaning(line, b, number)
 }
 
-pub(crate) fn say_glossary() {
+pub fn say_glossary() {
     text::tell(b"The messages of the gauges; the number behind one is its ID:\n");
     text::tell(b"  FLOOD      tells where a gauge is, or that its key is revoked\n");
     text::tell(b"  ACK        says that a FLOOD has come\n");

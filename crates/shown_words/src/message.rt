@@ -1,6 +1,5 @@
 // What a datagram received was: a message, as far as it can be read, and how many bytes.
 use crate::names;
-use crate::text;
 use crate::words;
 use look::Look;
 
@@ -9,7 +8,7 @@ fn wide(n: u32) -> usize {
 }
 
 // 0 where there is none.
-pub(crate) fn byte(s: &[u8], at: usize) -> u8 {
+pub fn byte(s: &[u8], at: usize) -> u8 {
     if s.len() <= at {
         return 0;
     }
@@ -89,13 +88,7 @@ fn put_message(
 }
 
 // A record of a datagram received: message ID, verdict, key, nonce, datagram.
-pub(crate) fn put_received(
-    line: &mut [u8],
-    at: usize,
-    names: &[u8],
-    major: u8,
-    call: &[u8],
-) -> usize {
+pub fn put_received(line: &mut [u8], at: usize, names: &[u8], major: u8, call: &[u8]) -> usize {
     let datagram = text::part(call, 57, call.len());
     let l = gauge::gauge_look(major, datagram);
     let a = text::put(line, at, b"received ");

@@ -1,8 +1,8 @@
 // A line of text, put together in a slice and written at once. Each function that puts something answers where it
-// ends; what finds no room is left out.
+// ends; what finds no room is left out. Used by the programs `shown` and `ponds`.
 
 // The part of a slice, empty where it does not lie within.
-pub(crate) fn part(s: &[u8], start: usize, end: usize) -> &[u8] {
+pub fn part(s: &[u8], start: usize, end: usize) -> &[u8] {
     if s.len() < end {
         return &s[0..0];
     }
@@ -12,7 +12,7 @@ pub(crate) fn part(s: &[u8], start: usize, end: usize) -> &[u8] {
     &s[start..end]
 }
 
-pub(crate) fn put(line: &mut [u8], at: usize, s: &[u8]) -> usize {
+pub fn put(line: &mut [u8], at: usize, s: &[u8]) -> usize {
     if line.len() < s.len() {
         return at;
     }
@@ -24,7 +24,7 @@ pub(crate) fn put(line: &mut [u8], at: usize, s: &[u8]) -> usize {
 }
 
 // Blanks behind what has taken so many columns, up to a width of 80 columns at most.
-pub(crate) fn blanks(line: &mut [u8], at: usize, taken: usize, width: usize) -> usize {
+pub fn blanks(line: &mut [u8], at: usize, taken: usize, width: usize) -> usize {
     if width < taken {
         return at;
     }
@@ -32,27 +32,37 @@ pub(crate) fn blanks(line: &mut [u8], at: usize, taken: usize, width: usize) -> 
     put(line, at, part(&all, 0, width - taken))
 }
 
-pub(crate) fn number(line: &mut [u8], at: usize, n: u64) -> usize {
+// Text at the left end of a column, or at its right end.
+pub fn left(line: &mut [u8], at: usize, s: &[u8], width: usize) -> usize {
+    let end = put(line, at, s);
+    blanks(line, end, s.len(), width)
+}
+
+pub fn right(line: &mut [u8], at: usize, s: &[u8], width: usize) -> usize {
+    let start = blanks(line, at, s.len(), width);
+    put(line, start, s)
+}
+
+pub fn number(line: &mut [u8], at: usize, n: u64) -> usize {
     column(line, at, n, 0)
 }
 
 // A number at the right end of a column.
-pub(crate) fn column(line: &mut [u8], at: usize, n: u64, width: usize) -> usize {
+pub fn column(line: &mut [u8], at: usize, n: u64, width: usize) -> usize {
     let mut digits = [0u8; 20];
     let count = io::decimal(n, &mut digits);
-    let start = blanks(line, at, count, width);
-    put(line, start, &digits[..count])
+    right(line, at, &digits[..count], width)
 }
 
 // Eight hexadecimal digits.
-pub(crate) fn digits(line: &mut [u8], at: usize, n: u64) -> usize {
+pub fn digits(line: &mut [u8], at: usize, n: u64) -> usize {
     let mut digits = [0u8; 16];
     let count = io::hex(n, 8, &mut digits);
     put(line, at, &digits[..count])
 }
 
 // How many characters: of a character's bytes in UTF-8 only the first counts.
-pub(crate) fn characters(s: &[u8]) -> usize {
+pub fn characters(s: &[u8]) -> usize {
     let mut count = 0;
     let mut i = 0;
     while i < s.len() {
@@ -66,12 +76,12 @@ pub(crate) fn characters(s: &[u8]) -> usize {
 }
 
 // Writes the line, which ends there.
-pub(crate) fn say(line: &mut [u8], at: usize) {
+pub fn say(line: &mut [u8], at: usize) {
     let end = put(line, at, b"\n");
     io::write_all(1, part(line, 0, end));
 }
 
 // Writes text that has its own line ends.
-pub(crate) fn tell(s: &[u8]) {
+pub fn tell(s: &[u8]) {
     io::write_all(1, s);
 }

@@ -1,6 +1,5 @@
 // Pond names: text with a line for each, a key in 64 hexadecimal digits, a space, and the name. Any other line is
 // passed over. Where a key stands in two lines, the first names it.
-use crate::text;
 
 // Of a name so many bytes are shown, fewer where the last would be a part of a character only.
 const SHOWN: usize = 40;
@@ -93,7 +92,7 @@ fn name_of<'a>(names: &'a [u8], key: &[u8]) -> &'a [u8] {
 
 // A key is shown by its first eight digits, two dots and its last eight, here and wherever it has no name: a keeper
 // tells the ponds' keys apart by them.
-pub(crate) fn put_key(line: &mut [u8], at: usize, key: &[u8]) -> usize {
+pub fn put_key(line: &mut [u8], at: usize, key: &[u8]) -> usize {
     if key.len() != 32 {
         return at;
     }
@@ -103,7 +102,7 @@ pub(crate) fn put_key(line: &mut [u8], at: usize, key: &[u8]) -> usize {
 }
 
 // Whose key it is: the pond's name, or the key where it has none.
-pub(crate) fn put_whose(line: &mut [u8], at: usize, names: &[u8], key: &[u8]) -> usize {
+pub fn put_whose(line: &mut [u8], at: usize, names: &[u8], key: &[u8]) -> usize {
     let name = name_of(names, key);
     if name.len() == 0 {
         return put_key(line, at, key);

@@ -1,9 +1,9 @@
--- `shown::names::end_of` ends: what is left of the text falls. Assumes nothing.
+-- `shown_words::names::end_of` ends: what is left of the text falls. Assumes nothing.
 use borrow.Author.Needs.{needs}
 use lib.ListN.{length}
 use Prim.Native.Nat.{_≤_, _-_}
-use Rattle.shown.proofs.names.end_of.Statement.{statement}
-use Rattle.shown.proofs.names.end_of.Tie as tie
+use Rattle.shown_words.proofs.names.end_of.Statement.{statement}
+use Rattle.shown_words.proofs.names.end_of.Tie as tie
 
 abbrev Inv-loop : tie.InvT-loop
 Inv-loop names start whole₀ at₀ whole at = start ≤ at

@@ -1,9 +1,9 @@
--- `shown::names::line_of` ends: what is left of the text falls. Assumes nothing.
+-- `shown_words::names::line_of` ends: what is left of the text falls. Assumes nothing.
 use borrow.Author.Needs.{needs}
 use lib.ListN.{length}
 use Prim.Native.Nat.{_-_}
-use Rattle.shown.proofs.names.line_of.Statement.{statement}
-use Rattle.shown.proofs.names.line_of.Tie as tie
+use Rattle.shown_words.proofs.names.line_of.Statement.{statement}
+use Rattle.shown_words.proofs.names.line_of.Tie as tie
 
 abbrev Inv-loop : tie.InvT-loop
 Inv-loop names key begins₀ at₀ begins at = Unit {0}

@@ -1,9 +1,9 @@
--- `shown::text::characters` ends: what is left of the slice falls; no more is counted than there are bytes. Assumes nothing.
+-- `text::characters` ends: what is left of the slice falls; no more is counted than there are bytes. Assumes nothing.
 use borrow.Author.Needs.{needs}
 use lib.ListN.{length}
 use Prim.Native.Nat.{_≤_, _-_}
-use Rattle.shown.proofs.text.characters.Statement.{statement}
-use Rattle.shown.proofs.text.characters.Tie as tie
+use Rattle.text.proofs.characters.Statement.{statement}
+use Rattle.text.proofs.characters.Tie as tie
 
 abbrev Inv-loop : tie.InvT-loop
 Inv-loop s count₀ i₀ count i = count ≤ i

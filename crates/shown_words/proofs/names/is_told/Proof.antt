@@ -1,8 +1,8 @@
--- `shown::names::is_told` ends after 32 bytes of a key, and stays within the line. Assumes nothing.
+-- `shown_words::names::is_told` ends after 32 bytes of a key, and stays within the line. Assumes nothing.
 use borrow.Author.Needs.{needs}
 use Prim.Native.Nat.{_≤_, _-_}
-use Rattle.shown.proofs.names.is_told.Statement.{statement}
-use Rattle.shown.proofs.names.is_told.Tie as tie
+use Rattle.shown_words.proofs.names.is_told.Statement.{statement}
+use Rattle.shown_words.proofs.names.is_told.Tie as tie
 
 abbrev Inv-loop : tie.InvT-loop
 Inv-loop names at key i₀ i = i ≤ 32

@@ -1,0 +1,78 @@
+// The line of a reading.
+use crate::balance;
+use crate::depth;
+use readings::Measured;
+use readings::Reading;
+use readings::Unpacked;
+
+pub(crate) fn say_heading() {
+    text::tell(b"Reading  Depth, m      Litres in  Litres out      Balance\n");
+}
+
+// A depth in metres, or a fault with its number, in a column.
+fn put_measured(line: &mut [u8], at: usize, measured: Measured) -> usize {
+    let mut cell = [0u8; 11];
+    let end = put_cell(&mut cell, measured);
+    text::left(line, at, text::part(&cell, 0, end), 11)
+}
+
+fn put_cell(cell: &mut [u8], measured: Measured) -> usize {
+    match measured {
+        Measured::Depth(depth) => depth::put(cell, 0, readings::bits_of(depth)),
+        Measured::Fault(fault) => {
+            let a = text::put(cell, 0, b"fault ");
+            text::number(cell, a, fault as u64)
+        }
+    }
+}
+
+fn put_reading(line: &mut [u8], at: usize, reading: Reading) -> usize {
+    let measured = reading.measured;
+    let a = put_measured(line, at, measured);
+    let b = text::column(line, a, reading.inflow as u64, 12);
+    let c = text::column(line, b, reading.outflow as u64, 12);
+    balance::put(line, c, reading.inflow, reading.outflow, 13)
+}
+
+// What the numbers of document 02, request 7, mean for a reading that is not taken.
+fn put_meaning(line: &mut [u8], at: usize, number: u32) -> usize {
+    match number {
+        1 => text::put(line, at, b"of wrong length, or cut short"),
+        2 => text::put(line, at, b"of an unknown kind"),
+        _ => text::put(line, at, b"its depth is not from 0 to 20 metres"),
+    }
+}
+
+// A number, and what it means.
+pub(crate) fn put_refusal(line: &mut [u8], at: usize, number: u32) -> usize {
+    let a = text::number(line, at, number as u64);
+    let b = text::put(line, a, b" ");
+    put_meaning(line, b, number)
+}
+
+// Its number among the readings, in a column.
+fn put_place(line: &mut [u8], at: u64) -> usize {
+    let a = text::column(line, 0, at, 7);
+    text::put(line, a, b"  ")
+}
+
+fn say_reading(line: &mut [u8], at: u64, reading: Reading) {
+    let a = put_place(line, at);
+    let b = put_reading(line, a, reading);
+    text::say(line, b);
+}
+
+fn say_refused(line: &mut [u8], at: u64, number: u32) {
+    let a = put_place(line, at);
+    let b = text::put(line, a, b"refused: ");
+    let c = put_refusal(line, b, number);
+    text::say(line, c);
+}
+
+// What was found at a place, counted from 1.
+pub(crate) fn say_found(line: &mut [u8], at: u64, found: Unpacked) {
+    match found {
+        Unpacked::Read(reading) => say_reading(line, at, reading),
+        Unpacked::Refused(number) => say_refused(line, at, number),
+    }
+}

@@ -1,10 +1,13 @@
-# Two commands: `make run` shows what the gauge's functions make of fixed vectors and what happens on the hill, `make test` is all that the gate runs.
+# Two commands: `make run` shows what the gauge's functions make of fixed vectors, what happens on the hill, and the night recorded there; `make test` is
+# all that the gate runs.
 .PHONY: run test check lib install ponds hill fmt definitions vectors outside counted compare planted nights soak tools clean bench
 
 run: tools
 	@tests/run-vectors
 	@echo
 	@$(MAKE) --no-print-directory hill
+	@echo
+	@tools/run-night
 
 test:
 	@tests/gate

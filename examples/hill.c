@@ -12,7 +12,7 @@
  *
  * The gauge reads all datagrams, by gauge_look too: nothing here reads one. Three messages are written here, for which the gauge has no call: the first
  * FLOOD, the revocation and the LOOKUP. The calls of one gauge are written to target/hill.trace, and their answers to target/hill.answers
- * (gauge_trace.h).
+ * (gauge_trace.h); the ponds' names, for ./shown, to target/hill.names.
  *
  * What a CPA is made of is no matter of the gauge. Here it is one zero byte, and a revoke CPA is the key; both are believed. Real ones are signed, and
  * hold the nonce of the INQUIRE. Random numbers here come in the same order at each run, so that each run is the same. */
@@ -627,6 +627,19 @@ static FILE *opened(const char *path)
     return f;
 }
 
+/* The names by which ./shown tells the ponds: a line each, key and name. */
+static void write_names(void)
+{
+    FILE *f = opened("target/hill.names");
+    for (unsigned n = 1; n <= NEW; n++) {
+        for (size_t i = 0; i < GAUGE_KEY_LEN; i++)
+            fprintf(f, "%02x", ponds[n].own[i]);
+        fprintf(f, " pond %u\n", n);
+    }
+    if (ferror(f) != 0 || fclose(f) != 0)
+        stop("the names could not be written\n");
+}
+
 int main(void)
 {
     for (unsigned n = 1; n <= PONDS; n++)
@@ -637,6 +650,7 @@ int main(void)
     hill();
     if (trace.failed || fclose(calls) != 0 || fclose(answers) != 0)
         stop("the trace could not be written\n");
+    write_names();
     printf("target/hill.trace has the %lu calls that pond %d's gauge took.\n", trace.count, RECORDED);
     return 0;
 }

@@ -5,10 +5,10 @@
 // (names.rt of `shown_words`), which need not be open. Each call is made by `night::step`, and nothing else here changes
 // the gauge's memory.
 mod call;
-mod state;
 mod totals;
-mod whose;
 
+use shown_state::state;
+use shown_state::whose;
 use shown_words::words;
 
 // Room for a line that is written, and for the pond names; of a longer text the rest is not read.

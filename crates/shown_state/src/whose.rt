@@ -6,12 +6,12 @@ fn wide(x: u8) -> u64 {
 }
 
 // The own record, behind the two versions.
-pub(crate) fn own_of(opening: &[u8]) -> &[u8] {
+pub fn own_of(opening: &[u8]) -> &[u8] {
     text::part(opening, 2, 102)
 }
 
 // The major version of the messages that the gauge reads.
-pub(crate) fn major(opening: &[u8]) -> u8 {
+pub fn major(opening: &[u8]) -> u8 {
     if opening.len() == 0 {
         return 0;
     }
@@ -39,7 +39,7 @@ fn say_versions(line: &mut [u8], opening: &[u8]) {
 }
 
 // Whose night: the opening record has been taken.
-pub(crate) fn say_whose(line: &mut [u8], names: &[u8], opening: &[u8]) {
+pub fn say_whose(line: &mut [u8], names: &[u8], opening: &[u8]) {
     let own = own_of(opening);
     say_own_key(line, names, own);
     say_versions(line, opening);

@@ -143,13 +143,7 @@ fn waits(own: &[u8], waiting: &[u8]) -> usize {
     0
 }
 
-pub(crate) fn say_state(
-    line: &mut [u8],
-    names: &[u8],
-    opening: &[u8],
-    cache: &[u8],
-    waiting: &[u8],
-) {
+pub fn say_state(line: &mut [u8], names: &[u8], opening: &[u8], cache: &[u8], waiting: &[u8]) {
     let own = whose::own_of(opening);
     text::tell(b"\nAt the end of the night\n");
     say_all_held(line, names, cache, held(own, cache));

@@ -1,10 +1,10 @@
--- `shown::state::say_keys` ends: at most five keys are shown. The line keeps its length. Assumes nothing.
+-- `shown_state::state::say_keys` ends: at most five keys are shown. The line keeps its length. Assumes nothing.
 use borrow.Author.Needs.{needs}
 use lib.ListN.{length}
 use mathlib.Core.Path.{_≡_}
 use Prim.Native.Nat.{_≤_, _-_}
-use Rattle.shown.proofs.state.say_keys.Statement.{statement}
-use Rattle.shown.proofs.state.say_keys.Tie as tie
+use Rattle.shown_state.proofs.state.say_keys.Statement.{statement}
+use Rattle.shown_state.proofs.state.say_keys.Tie as tie
 
 abbrev Inv-loop : tie.InvT-loop
 Inv-loop line₀ names list from count i₀ t10 line i = (i ≤ 5) × (length line ≡ length line₀)

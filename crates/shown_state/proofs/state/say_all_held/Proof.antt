@@ -1,10 +1,10 @@
--- `shown::state::say_all_held` ends: at most 64 records are shown. The line keeps its length. Assumes nothing.
+-- `shown_state::state::say_all_held` ends: at most 64 records are shown. The line keeps its length. Assumes nothing.
 use borrow.Author.Needs.{needs}
 use lib.ListN.{length}
 use mathlib.Core.Path.{_≡_}
 use Prim.Native.Nat.{_≤_, _-_}
-use Rattle.shown.proofs.state.say_all_held.Statement.{statement}
-use Rattle.shown.proofs.state.say_all_held.Tie as tie
+use Rattle.shown_state.proofs.state.say_all_held.Statement.{statement}
+use Rattle.shown_state.proofs.state.say_all_held.Tie as tie
 
 abbrev Inv-loop : tie.InvT-loop
 Inv-loop line₀ names cache used i₀ line i = (i ≤ 64) × (length line ≡ length line₀)

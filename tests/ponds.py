@@ -139,9 +139,9 @@ def every_exponent():
 def wrong():
     """Each refusal, and what just escapes it; a taken reading behind each shows that the program goes on."""
     whole = depth(bits_of(1.5))[4:]
-    for bad in (b"\0\0", b"\1\0\1", packed(0, b""), packed(0, whole), packed(3, whole), packed(256, whole), packed(257, whole), packed(65535, b"x" * 65533),
-                packed(1, b""), packed(1, whole[:-1]), packed(1, whole + b"\0"), packed(2, whole), packed(1, fault(7)[4:]), packed(2, fault(7)[4:-1]),
-                packed(2, fault(7)[4:] + b"\0"), packed(1, b"\0" * 65533), packed(2, b"\0" * 65533)):
+    for bad in (b"\0\0", b"\1\0\1", packed(0, b""), packed(0, whole), packed(3, whole), packed(256, whole), packed(257, whole),
+                packed(65535, b"x" * 65533), packed(1, b""), packed(1, whole[:-1]), packed(1, whole + b"\0"), packed(2, whole),
+                packed(1, fault(7)[4:]), packed(2, fault(7)[4:-1]), packed(2, fault(7)[4:] + b"\0"), packed(1, b"\0" * 65533), packed(2, b"\0" * 65533)):
         yield bad + depth(bits_of(1.5))
 
 

@@ -1,5 +1,5 @@
-// Pond readings as a keeper reads them. Packed readings, in the form of document 02's request 7, are standard input, one
-// behind the other; each has a line, and the sums stand behind the last.
+// Pond readings as a keeper reads them. Packed readings, in the form of document 02's request 7, are standard input,
+// one behind the other; each has a line, and the sums stand behind the last.
 //
 // What a reading is, which are refused and what a balance is, is said by crate `readings`.
 mod balance;

@@ -2,12 +2,12 @@
 // kept at the end, and how often each answer was given.
 //
 // The trace, in the form of document 02's request 1, is standard input. Pond names are text at file descriptor 3
-// (names.rt of `shown_words`), which need not be open. Each call is made by `night::step`, and nothing else here changes
-// the gauge's memory.
+// (names.rt of `shown_words`), which need not be open. Each call is made by `night::step`, and nothing else here
+// changes the gauge's memory.
 mod call;
-mod totals;
 
 use shown_state::state;
+use shown_state::totals;
 use shown_state::whose;
 use shown_words::words;
 

@@ -1,3 +1,5 @@
-// What the program `shown` says around the records of a night: whose it was, and what the gauge kept. Used by it alone.
+// What the program `shown` says around the records of a night: whose it was, what the gauge kept, how often each answer was
+// given. Used by it alone.
 pub mod state;
+pub mod totals;
 pub mod whose;

@@ -1,8 +1,8 @@
--- `shown::totals::sum` ends: the numbers left to add fall. Assumes nothing.
+-- `shown_state::totals::sum` ends: the numbers left to add fall. Assumes nothing.
 use borrow.Author.Needs.{needs}
 use Prim.Native.Nat.{_-_}
-use Rattle.shown.proofs.totals.sum.Statement.{statement}
-use Rattle.shown.proofs.totals.sum.Tie as tie
+use Rattle.shown_state.proofs.totals.sum.Statement.{statement}
+use Rattle.shown_state.proofs.totals.sum.Tie as tie
 
 abbrev Inv-loop : tie.InvT-loop
 Inv-loop counts from all₀ i₀ all i = Unit {0}

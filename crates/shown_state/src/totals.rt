@@ -2,7 +2,7 @@
 use shown_words::words;
 
 // The answers are 0 to 17.
-pub(crate) fn count(counts: &mut [u64; 18], answer: u32) {
+pub fn count(counts: &mut [u64; 18], answer: u32) {
     let i = answer as usize;
     if 17 < i {
         return;
@@ -13,7 +13,7 @@ pub(crate) fn count(counts: &mut [u64; 18], answer: u32) {
 }
 
 // Has a bad record ended the replay?
-pub(crate) fn is_stopped(counts: &[u64; 18]) -> bool {
+pub fn is_stopped(counts: &[u64; 18]) -> bool {
     if counts[16] != 0 {
         return true;
     }
@@ -55,7 +55,7 @@ fn say_refusals(line: &mut [u8], counts: &[u64; 18]) {
     }
 }
 
-pub(crate) fn say_totals(line: &mut [u8], counts: &[u64; 18]) {
+pub fn say_totals(line: &mut [u8], counts: &[u64; 18]) {
     text::tell(b"\n");
     say_sum(line, b"Records   ", sum(counts, 0));
     say_sum(line, b"Accepted  ", counts[0]);

@@ -1,10 +1,10 @@
--- `shown::totals::say_refusals` ends: the numbers left to tell fall. The line keeps its length. Assumes nothing.
+-- `shown_state::totals::say_refusals` ends: the numbers left to tell fall. The line keeps its length. Assumes nothing.
 use borrow.Author.Needs.{needs}
 use lib.ListN.{length}
 use mathlib.Core.Path.{_≡_}
 use Prim.Native.Nat.{_-_}
-use Rattle.shown.proofs.totals.say_refusals.Statement.{statement}
-use Rattle.shown.proofs.totals.say_refusals.Tie as tie
+use Rattle.shown_state.proofs.totals.say_refusals.Statement.{statement}
+use Rattle.shown_state.proofs.totals.say_refusals.Tie as tie
 
 abbrev Inv-loop : tie.InvT-loop
 Inv-loop line₀ counts i₀ line i = length line ≡ length line₀

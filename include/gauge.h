@@ -274,7 +274,7 @@ struct gauge_look gauge_look(uint8_t major, const uint8_t *datagram, size_t data
  *               the reading as its payload: GAUGE_CARRY_LEN bytes more where it had none. One that it had is replaced. All else in it is the same, and
  *               bits that are ignored on reading are zero. No other byte of the output has changed.
  *
- * What gauge_receive writes gets never too long by it. Where another AUTHORITY would have more than 1,232 bytes no room is enough: send it as it is.
+ * What gauge_receive writes never gets too long by it. Where another AUTHORITY would have more than 1,232 bytes no room is enough: send it as it is.
  *
  * Gives, in this order: in `number` GAUGE_LENGTH to GAUGE_NOT_TAKEN for a datagram that gauge_look would refuse, and GAUGE_TYPE too for a message that is
  * no AUTHORITY; in `reading` GAUGE_READING_LENGTH for a fault number over 65535, GAUGE_READING_KIND or GAUGE_READING_OUTSIDE; in `number` GAUGE_ROOM, where

@@ -4,7 +4,5 @@ pub mod RefusedLaws
 pub mod FirstLaws
 pub mod MovedLaws
 pub mod FormLaws
-pub mod ReadLaws
-pub mod SentLaws
 pub mod GoneLaws
 pub mod Coincide

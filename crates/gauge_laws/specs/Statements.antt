@@ -1,21 +1,15 @@
--- To believe. What holds of every call, 1 to 4 and 6; 5, that two results coincide, is in Contracts. A theorem of each name stands in proofs/. Assumes nothing.
+-- To believe. What holds of every call, 1 to 4; that two results coincide is in Contracts. A theorem of each name stands in proofs/. Assumes nothing.
 use Prim.Native.Nat.{ℕ, _≤_, _<_}
 use mathlib.Core.Path.{_≡_}
 use mathlib.Core.Logic.{_↔_}
-use mathlib.Core.List.{List, map}
-use mathlib.Core.Option.{some}
+use mathlib.Core.List.{List}
 use mathlib.Core.Bool.{true, false}
 use lib.ListN.{length, drop}
 use Rattle.kept.specs.Keys.{Every}
 use Rattle.refusal.specs.Table.{Refusal, appliesIn}
-use Rattle.wire_fields.specs.Message.{Message}
 use Rattle.gauge_commit.specs.Sending.{answer}
-use Rattle.gauge.specs.Lent.{Receive, Send}
-use Rattle.gauge.specs.Receive.{receivePlan, receiveCall}
-use Rattle.gauge.specs.Send.{sendPlan, sendCall}
 use Rattle.gauge_laws.specs.Calls.{Call, IdFits, Memory, made}
 use Rattle.gauge_laws.specs.History.{OnTable, tickCount, waitsAfterEach}
-use Rattle.gauge_laws.specs.Sent.{Typed, SendTyped, sent, flooded, datagrams, readAs}
 use Rattle.gauge_laws.specs.Table.{tableOf}
 
 -- 1. "With any refusal the counts returned are 0 .. and every writable byte stays as lent."
@@ -48,18 +42,7 @@ FirstBytes = (c : Call) → OnlyFirst (made c .returned) (made c .lent) (made c 
 abbrev pub FormKept : Type 0
 FormKept = (c : Call) → IdFits c → made c .given .number ≡ 0 → Every (λ (m : Memory). m .form (m .left) ≡ true) (made c .memory)
 
--- 4. What is sent reads back: each datagram in the output, read in the major version given, gives 0 and the message that was meant.
-abbrev pub ReadsBack : Type 0
-ReadsBack =
-    (l : Receive) → Typed l
-    → map (readAs (l .major)) (datagrams (receiveCall l .given) (receiveCall l .output)) ≡ map (λ (m : Message). (0, some m)) (sent l (receivePlan l))
-
-abbrev pub SendReadsBack : Type 0
-SendReadsBack =
-    (l : Send) → SendTyped l
-    → map (readAs (l .major)) (datagrams (sendCall l .given) (sendCall l .output)) ≡ map (λ (m : Message). (0, some m)) (flooded l (sendPlan l))
-
--- 6. "A place is gone after three accepted ticks at the latest", whatever calls are made between them: of calls one after the other on one waiting table, three
+-- 4. "A place is gone after three accepted ticks at the latest", whatever calls are made between them: of calls one after the other on one waiting table, three
 -- of them accepted ticks, there is one after which no place with the ID waits.
 abbrev pub GoneByThird : Type 0
 GoneByThird = (id : ℕ) (t : List ℕ) (cs : List Call) → OnTable t cs → 3 ≤ tickCount cs → waitsAfterEach id t cs ≡ false

@@ -11,7 +11,8 @@ use Rattle.gauge.specs.Lent.{Handed, receive, send, handed}
 use Rattle.gauge.specs.Receive.{receiveCall}
 use Rattle.gauge.specs.Send.{sendCall}
 use Rattle.gauge.specs.Counts as G
-use Rattle.signed.specs.Words.{memory, ours}
+use Rattle.sentences.specs.Words.{memory}
+use Rattle.sentences.specs.Ours.{ours}
 use Rattle.night.specs.Step.{majorOf, minorOf, ownOf, output, received, sent, ticked, callOf, night, Stepped, stepped, called}
 
 module _ (o cache waiting : List ℕ) (a : Answer) where

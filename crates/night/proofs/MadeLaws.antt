@@ -12,8 +12,9 @@ use Rattle.refusal.specs.Table.{Refusal, firstOf}
 use Rattle.kept.specs.Keys.{Every}
 use Rattle.gauge_laws.specs.Table.{tableOf}
 use Rattle.gauge_laws.proofs.TableLaws.{call-number, refusal-numbers}
-use Rattle.signed.specs.Words.{Memory, memory, Call, receives, sends, ticks, lists, ours, empty, left, log}
-use Rattle.signed.specs.Statements.{lent}
+use Rattle.sentences.specs.Words.{Memory, memory, Call, receives, sends, ticks, lists, empty, left, log}
+use Rattle.sentences.specs.Ours.{ours}
+use Rattle.sentences.proofs.OursLaws.{lent}
 use Rattle.night.specs.Trace.{kindOf, bodyOf, bodyFits}
 use Rattle.night.specs.Fault.{faults, isGood, ends}
 use Rattle.night.specs.Step.{Night, night, start, Stepped, stepped, called, callOf, stepOf}

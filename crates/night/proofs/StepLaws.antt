@@ -12,7 +12,7 @@ use Rattle.octet.specs.Part.{splice}
 use Rattle.refusal.specs.Table.{Refusal, when, firstOf, orRefuse}
 use Rattle.refusal.proofs.TableLaws.{AllFail, all-fail}
 use Rattle.refusal.proofs.CallLaws.{all-pass, row-applies, row-passes}
-use Rattle.signed.specs.Words.{Memory}
+use Rattle.sentences.specs.Words.{Memory}
 use Rattle.night.specs.Trace.{kindOf, bodyOf, bodyFits}
 use Rattle.night.specs.Fault.{faults}
 use Rattle.night.specs.Step.{Night, night, Stepped, stepped, called, callOf, taken, stepOf}

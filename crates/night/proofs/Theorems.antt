@@ -1,7 +1,7 @@
 -- What is proved of the replay. Assumes nothing.
 use mathlib.Core.Path.{refl}
 use Rattle.refusal.specs.Table.{firstOf}
-use Rattle.signed.proofs.CaseLaws.{computed}
+use Rattle.sentences.proofs.ComputedLaws.{computed}
 use Rattle.night.specs.Trace.{bodyFits, cutInto, written, allWritten}
 use Rattle.night.specs.Fault.{faults}
 use Rattle.night.specs.Step.{called, stepOf}

@@ -7,7 +7,8 @@ use lib.ListN.{length, replicate}
 use Rattle.refusal.specs.Table.{firstOf}
 use Rattle.kept.specs.Keys.{Every}
 use Rattle.table.specs.Rows.{joined}
-use Rattle.signed.specs.Words.{Call, Entry, ours, empty, left, log}
+use Rattle.sentences.specs.Words.{Call, Entry, empty, left, log}
+use Rattle.sentences.specs.Ours.{ours}
 use Rattle.night.specs.Trace.{kindOf, bodyOf, recordsOf, Piece, written, allWritten, traceOf, pieceOf}
 use Rattle.night.specs.Fault.{faults, isGood}
 use Rattle.night.specs.Step.{night, start, callOf}

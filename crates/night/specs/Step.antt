@@ -8,7 +8,8 @@ use lib.ListN.{length, drop, getD, replicate}
 use Rattle.octet.specs.Number.{valueLE}
 use Rattle.octet.specs.Part.{part}
 use Rattle.refusal.specs.Table.{when, orRefuse}
-use Rattle.signed.specs.Words.{Memory, Call, receives, sends, ticks, Given, ours, empty}
+use Rattle.sentences.specs.Words.{Memory, Call, receives, sends, ticks, Given, empty}
+use Rattle.sentences.specs.Ours.{ours}
 use Rattle.night.specs.Trace.{kindOf, bodyOf}
 use Rattle.night.specs.Fault.{faults}
 

@@ -4,7 +4,7 @@ ghost use mathlib.Core.Bool.{true};
 ghost use mathlib.Core.List.{List};
 ghost use Prim.Native.Nat.{ℕ, _≤_};
 ghost use lib.ListN.{length};
-ghost use Rattle.signed.specs.Words.{memory};
+ghost use Rattle.sentences.specs.Words.{memory};
 ghost use Rattle.night.specs.Trace.{bodyFits, isKind};
 ghost use Rattle.night.specs.Step.{night, stepped, received, sent, ticked, called, callOf};
 

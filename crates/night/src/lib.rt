@@ -4,7 +4,7 @@ mod fault;
 mod input;
 
 ghost use mathlib.Core.Path.{_≡_};
-ghost use Rattle.signed.specs.Words.{memory};
+ghost use Rattle.sentences.specs.Words.{memory};
 ghost use Rattle.night.specs.Step.{night, stepped, stepOf};
 pub use fault::fault_of;
 pub use fault::is_end;

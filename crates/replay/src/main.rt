@@ -5,7 +5,7 @@ mod line;
 ghost use mathlib.Core.Path.{_≡_};
 ghost use Prim.Native.Nat.{_≤_};
 ghost use lib.ListN.{length, take};
-ghost use Rattle.signed.specs.Words.{memory};
+ghost use Rattle.sentences.specs.Words.{memory};
 ghost use Rattle.night.specs.Step.{night};
 ghost use Rattle.replay.specs.Run.{Turned, GoesOn, Ran};
 

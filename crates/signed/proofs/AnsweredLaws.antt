@@ -57,10 +57,12 @@ use Rattle.gauge_laws.proofs.RefusedLaws.{receive-refused, tick-refused}
 use Rattle.gauge_laws.proofs.MovedLaws.{ready-form, ready-places, receive-ready, send-moved}
 use Rattle.gauge_laws.proofs.GoneLaws.{tick-round}
 use Rattle.gauge_laws.proofs.FormLaws.{send-cache}
-use Rattle.signed.specs.Words.{Memory, memory, Call, receives, sends, ticks, lists, asGiven, ours, empty, left, OneKey, IdFits, Proper}
+use Rattle.sentences.specs.Words.{Memory, memory, Call, receives, sends, ticks, lists, empty, left, OneKey, Typed, Proper}
+use Rattle.sentences.specs.Ours.{asGiven, ours}
 use Rattle.signed.specs.Answered.{Told, told, toldFrom, inquires, inquired, thatOf, answeredBy, answered, firstOf, HoldsLastAnswered}
+use Rattle.signed.proofs.ToldLaws.{happened, log-happened}
 use Rattle.signed.proofs.StepLaws.{moved-all, ran}
-use Rattle.signed.proofs.Theorems.{empty-cache, empty-table, start}
+use Rattle.signed.proofs.Theorems.{empty-cache, empty-table, start, typed-calls}
 use Rattle.signed.proofs.InquiryLaws.{Quiet, Floods, Heard, heard, callOf, asked-still, asked-none, asked-other, asked-here, answered-still, answered-one, inquires-is}
 
 -- ---- what stands in the tables after an edit
@@ -315,7 +317,7 @@ module _ (k : ℕ) (es : List Told) (m : Memory) (b : Holds k es m) where
   unfolding inquired answered
   list-step own output g = record { asked = b .asked; last = b .last }
 
-call-step : (k : ℕ) (es : List Told) (m : Memory) → Holds k es m → (c : Call) → OneKey k c → IdFits c
+call-step : (k : ℕ) (es : List Told) (m : Memory) → Holds k es m → (c : Call) → OneKey k c → Typed c
     → Holds k (told c (ours m c .answer) ∷ es) (ours m c .memory)
 unfolding ours
 call-step k es m b (receives own cpa major minor id nonce verdict key datagram output) one small =
@@ -340,6 +342,8 @@ holds-last-answered k C least most calls proper =
     let none-waits : All (Asked []) (placesOf (replicate 2240 0)) =
     subst (All (Asked [])) (form-unique k (replicate 2240 0) [] (empty-table k C least most)) tt in
     record {
+      history = happened ours C calls;
+      happened = log-happened [] (empty C) calls (typed-calls k calls proper);
       keys = ran k C [] [] (empty C) (start k C least most) calls proper .inv .keeps .held;
       last = all-hold k [] (empty C) (record { asked = none-waits; last = none-held }) calls proper .last;
     }

@@ -1,51 +1,7 @@
 -- Document 01's cases 1 to 12 hold: antt computes each row. Assumes nothing.
 use mathlib.Core.Path.{refl}
-use Rattle.octet.specs.Number.{valueBE, valueLE, digitsBE, digitsLE}
-use Rattle.octet.specs.Part.{splice, same, allZero}
-use Rattle.key.specs.Number.{distance}
-use Rattle.key.specs.Around.{isAbove, nearness, apart, tie, closer}
-use Rattle.refusal.specs.Table.{orRefuse}
-use Rattle.record.specs.Record.{recordForm}
-use Rattle.record.specs.Entry.{entryForm, recordOf, entryOf}
-use Rattle.kept.specs.Keys.{put, without, among, inOrder, lastOr}
-use Rattle.kept.specs.Neighbours.{farthestOut}
-use Rattle.kept.specs.History.{trimmed, learn, happen, after}
-use Rattle.kept.specs.Records.{putBy, withoutBy, learnBy}
-use Rattle.table.specs.Rows.{rows, joined, bytesOf}
-use Rattle.cache.specs.Form.{follows, leading, heldIn, heldOf, cacheForm}
-use Rattle.cache.specs.Bytes.{keyBytes}
-use Rattle.cache.specs.Closest.{closestFrom, closestOf}
-use Rattle.cache.specs.Calls.{listCall}
-use Rattle.waiting.specs.Place.{newPlace}
-use Rattle.waiting.specs.Form.{placeForm, anyOf, placesForm, usedIn, usedOf, waitingForm}
-use Rattle.waiting.specs.Seek.{seek}
-use Rattle.waiting.specs.Open.{opened, freed}
-use Rattle.waiting.specs.Tick.{ticked, listed, idBytes}
-use Rattle.waiting.specs.Call.{tickRefusals, tickDone, tickCall}
-use Rattle.wire_fields.specs.Shapes.{arrayForm, lookupForm, splitForm, hasShape}
-use Rattle.wire_fields.specs.Kinds as kinds
-use Rattle.wire_fields.specs.Reading.{spanAt, needAt, maybeAt, placesAt, fieldsAs, wholeIn}
-use Rattle.wire_fields.specs.Refusals.{inPart, foundIn}
-use Rattle.wire_read.specs.Answers.{flagAt, headOf, precisionAt, shown}
-use Rattle.wire_write.specs.Sent.{ackMade, floodMade, inquireMade, cpaMade, closestMade}
-use Rattle.gauge_plan.specs.Memory.{tablesFit, memoryOf, handsFit}
-use Rattle.gauge_plan.specs.Flood.{mustAsk, floodPlan}
-use Rattle.gauge_plan.specs.Answering.{authorityPlan, lookupPlan}
-use Rattle.gauge.specs.Receive.{planFor, receivePlan, carried, receiveCall}
-use Rattle.gauge.specs.Counts.{gaugeTick, gaugeList}
-use Rattle.signed.specs.Words.{ours}
+use Rattle.sentences.proofs.ComputedLaws.{computed}
 use Rattle.signed.specs.Cases.{AllRight}
-
--- to compute a call: what unfolds this name unfolds all that a call is made of
-unfoldable pub computed : Unit {0}
-unfolding valueBE valueLE digitsBE digitsLE splice same allZero distance isAbove nearness apart tie closer orRefuse recordForm entryForm recordOf entryOf
-    put without among inOrder lastOr farthestOut trimmed learn happen after putBy withoutBy learnBy rows joined bytesOf
-    follows leading heldIn heldOf cacheForm keyBytes closestFrom closestOf listCall
-    newPlace placeForm anyOf placesForm usedIn usedOf waitingForm seek opened freed ticked listed idBytes tickRefusals tickDone tickCall
-    arrayForm lookupForm splitForm hasShape kinds.kindsOf kinds.joined kinds.sized spanAt needAt maybeAt placesAt fieldsAs wholeIn inPart foundIn
-    flagAt headOf precisionAt shown ackMade floodMade inquireMade cpaMade closestMade
-    tablesFit memoryOf handsFit mustAsk floodPlan authorityPlan lookupPlan planFor receivePlan carried receiveCall gaugeTick gaugeList ours
-computed = tt
 
 pub all-right : AllRight
 unfolding computed

@@ -32,24 +32,25 @@ use Rattle.gauge.specs.Receive.{byEntry, planFor, receivePlan, receiveCall}
 use Rattle.gauge_laws.specs.Calls as G
 use Rattle.gauge_laws.specs.Table.{floodRows, messageRows, receiveTable}
 use Rattle.gauge_laws.proofs.TableLaws.{IsMessage, shown-message, none-applies}
-use Rattle.signed.specs.Words.{Entry}
+use Rattle.sentences.specs.Words.{Entry}
+use Rattle.sentences.proofs.HeardLaws.{heardBy}
 use Rattle.signed.specs.Events.{sentTo, removedIf, toldBy}
 
 -- an ACK: the flood that waits with the acked ID, and with N the key that it went to
 pub record Acked (l : Receive) (a : T.Answer) (u at : ℕ) (n : Bool) : Type 0 where
   pub acked : ℕ
   pub waiting : Waits acked 1 at (rows 140 u (l .waiting))
-  pub told : (es : List Entry) → toldBy es (keyAt 0 (l .key)) a ≡ cond n (removedIf (sentTo acked es)) []
+  pub told : (es : List Entry) → toldBy es (keyAt 0 (l .key)) (heardBy (l .datagram) a) ≡ cond n (removedIf (sentTo acked es)) []
 
 -- what a message tells, where a plan is made for it
 abbrev pub Told : Receive → T.Answer → Plan → Type 0
 Told l a (Refuse n) = ⊥
-Told l a (Flood u s n b o at size) = (es : List Entry) → toldBy es (keyAt 0 (l .key)) a ≡ []
-Told l a (Revoke h u s n b) = (es : List Entry) → toldBy es (keyAt 0 (l .key)) a ≡ removed (keyAt 0 (l .key)) ∷ []
-Told l a (Learn h u at) = (es : List Entry) → toldBy es (keyAt 0 (l .key)) a ≡ learned (keyAt 0 (l .key)) ∷ []
+Told l a (Flood u s n b o at size) = (es : List Entry) → toldBy es (keyAt 0 (l .key)) (heardBy (l .datagram) a) ≡ []
+Told l a (Revoke h u s n b) = (es : List Entry) → toldBy es (keyAt 0 (l .key)) (heardBy (l .datagram) a) ≡ removed (keyAt 0 (l .key)) ∷ []
+Told l a (Learn h u at) = (es : List Entry) → toldBy es (keyAt 0 (l .key)) (heardBy (l .datagram) a) ≡ learned (keyAt 0 (l .key)) ∷ []
 Told l a (Free h u at n) = Acked l a u at n
-Told l a (Certify b) = (es : List Entry) → toldBy es (keyAt 0 (l .key)) a ≡ []
-Told l a (Show h b at) = (es : List Entry) → toldBy es (keyAt 0 (l .key)) a ≡ []
+Told l a (Certify b) = (es : List Entry) → toldBy es (keyAt 0 (l .key)) (heardBy (l .datagram) a) ≡ []
+Told l a (Show h b at) = (es : List Entry) → toldBy es (keyAt 0 (l .key)) (heardBy (l .datagram) a) ≡ []
 
 -- where no row of a table applies, what stands behind it
 behind : (l : Receive) (a : T.Answer) (rs : List Refusal) (done : Plan) → AllFail rs → Told l a done → Told l a (orRefuse Refuse rs done)

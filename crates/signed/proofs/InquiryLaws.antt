@@ -43,7 +43,7 @@ use Rattle.gauge.specs.Receive.{byEntry, planFor, receivePlan, receiveCall}
 use Rattle.gauge.proofs.ReceiveLaws.{plan-message}
 use Rattle.gauge_laws.specs.Calls as G
 use Rattle.gauge_laws.proofs.TableLaws.{none-applies}
-use Rattle.signed.specs.Words.{Call, receives}
+use Rattle.sentences.specs.Words.{Call, receives}
 use Rattle.signed.specs.Answered.{Told, told, inquires, floodedOr, inquired, thatOf, answeredBy, answered}
 use Rattle.signed.proofs.EventLaws as event
 

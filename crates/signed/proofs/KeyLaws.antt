@@ -33,7 +33,8 @@ use Rattle.gauge_commit.proofs.PlaceLaws.{record-place, record-key}
 use Rattle.gauge.specs.Lent.{Receive}
 use Rattle.gauge.specs.Receive.{receivePlan, carried, receiveCall}
 use Rattle.gauge.proofs.ReceiveLaws.{Known, known, learn-needs}
-use Rattle.signed.specs.Words.{Entry}
+use Rattle.sentences.specs.Words.{Entry}
+use Rattle.sentences.proofs.HeardLaws.{heardBy}
 use Rattle.signed.specs.Events.{sentTo, removedIf, toldBy}
 use Rattle.signed.proofs.EventLaws.{Told, told, Acked}
 
@@ -101,7 +102,7 @@ module _ (l : Receive) (C : ℕ) (es : List Entry) (keys : List ℕ) (kept : Kee
       needs .7 (sym (record-key u t at) ∙ ap keyOf (record-place u t at (needs .5)) ∙ learnt-key e k ∙ o)
 
   plan-keeps : (p : Plan) → receivePlan l ≡ p → Known l p → Told l (R.answer (l .datagram) (l .major)) p → All (Owed es) (placesOf (l .waiting))
-      → Keeps (keyOf (l .own)) C (after (drops (keyOf (l .own))) C keys (toldBy es (keyAt 0 (l .key)) (R.answer (l .datagram) (l .major)))) (carried l p .cache)
+      → Keeps (keyOf (l .own)) C (after (drops (keyOf (l .own))) C keys (toldBy es (keyAt 0 (l .key)) (heardBy (l .datagram) (R.answer (l .datagram) (l .major))))) (carried l p .cache)
   unfolding carried
   plan-keeps (Refuse n) e k t o = absurd t
   plan-keeps (Flood u s n a opens start len) e k t o = still _ (t es)
@@ -139,7 +140,7 @@ module _ (l : Receive) (C : ℕ) (es : List Entry) (keys : List ℕ) (kept : Kee
       only (inr f) o = f
 
   plan-fine : (p : Plan) → receivePlan l ≡ p → Known l p → Told l (R.answer (l .datagram) (l .major)) p
-      → (j : ℕ) → Learns j (toldBy es (keyAt 0 (l .key)) (R.answer (l .datagram) (l .major))) → NotOwn (keyOf (l .own)) j
+      → (j : ℕ) → Learns j (toldBy es (keyAt 0 (l .key)) (heardBy (l .datagram) (R.answer (l .datagram) (l .major)))) → NotOwn (keyOf (l .own)) j
   unfolding carried
   plan-fine (Refuse n) e k t = absurd t
   plan-fine (Flood u s n a opens start len) e k t = nothing-learned _ (t es)
@@ -152,10 +153,10 @@ module _ (l : Receive) (C : ℕ) (es : List Entry) (keys : List ℕ) (kept : Kee
 
   module _ (z : receiveCall l .given .number ≡ 0) where
     pub receive-keeps : All (Owed es) (placesOf (l .waiting))
-        → Keeps (keyOf (l .own)) C (after (drops (keyOf (l .own))) C keys (toldBy es (keyAt 0 (l .key)) (R.answer (l .datagram) (l .major)))) (receiveCall l .cache)
+        → Keeps (keyOf (l .own)) C (after (drops (keyOf (l .own))) C keys (toldBy es (keyAt 0 (l .key)) (heardBy (l .datagram) (R.answer (l .datagram) (l .major))))) (receiveCall l .cache)
     unfolding receiveCall
     receive-keeps o = plan-keeps (receivePlan l) refl (known l) (told l z) o
 
-    pub receive-fine : (j : ℕ) → Learns j (toldBy es (keyAt 0 (l .key)) (R.answer (l .datagram) (l .major))) → NotOwn (keyOf (l .own)) j
+    pub receive-fine : (j : ℕ) → Learns j (toldBy es (keyAt 0 (l .key)) (heardBy (l .datagram) (R.answer (l .datagram) (l .major)))) → NotOwn (keyOf (l .own)) j
     unfolding receiveCall
     receive-fine = plan-fine (receivePlan l) refl (known l) (told l z)

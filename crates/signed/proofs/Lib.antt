@@ -1,4 +1,5 @@
 -- The laws of specs/, for the crates above.
+pub mod ToldLaws
 pub mod EventLaws
 pub mod KeyLaws
 pub mod SendLaws
@@ -6,6 +7,4 @@ pub mod StepLaws
 pub mod Theorems
 pub mod InquiryLaws
 pub mod AnsweredLaws
-pub mod WrongLaws
 pub mod CaseLaws
-pub mod MixedLaws

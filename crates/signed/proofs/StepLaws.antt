@@ -36,8 +36,10 @@ use Rattle.gauge_laws.proofs.RefusedLaws.{receive-refused, send-refused, tick-r
 use Rattle.gauge_laws.proofs.MovedLaws.{Moved, stays, frees, opens, receive-ready, receive-moved, send-moved}
 use Rattle.gauge_laws.proofs.FormLaws.{form-kept, send-cache}
 use Rattle.gauge_laws.proofs.GoneLaws.{tick-round}
-use Rattle.signed.specs.Words.{Memory, memory, Call, receives, sends, ticks, lists, asGiven, ours, Entry, entry, left, log, OneKey, IdFits, Proper}
-use Rattle.signed.specs.Events.{sentTo, does, eventsFrom}
+use Rattle.sentences.specs.Words.{Memory, memory, Call, receives, sends, ticks, lists, Entry, entry, left, log, OneKey, Typed, Proper}
+use Rattle.sentences.specs.Ours.{asGiven, ours}
+use Rattle.signed.specs.Events.{sentTo}
+use Rattle.signed.proofs.ToldLaws.{does, eventsFrom}
 use Rattle.signed.proofs.SendLaws.{Sent, sent}
 use Rattle.signed.proofs.KeyLaws.{Owed, Keeps, receive-keeps, receive-fine}
 
@@ -258,11 +260,11 @@ module _ (C : ℕ) (es : List Entry) (keys : List ℕ) (own cpa : List ℕ) (maj
 
 -- ---- any call, and any sequence of calls
 
-call-step : (k C : ℕ) (es : List Entry) (keys : List ℕ) (m : Memory) → Inv k C es keys m → (c : Call) → OneKey k c → IdFits c
+call-step : (k C : ℕ) (es : List Entry) (keys : List ℕ) (m : Memory) → Inv k C es keys m → (c : Call) → OneKey k c → Typed c
     → Stepped k C es keys c (ours m c .answer .number) (ours m c .memory)
 unfolding ours
 call-step k C es keys m inv (receives own cpa major minor id nonce verdict key datagram output) one small =
-    receive-step C es keys own cpa major minor id nonce verdict key datagram output small k m inv one
+    receive-step C es keys own cpa major minor id nonce verdict key datagram output (small .1) k m inv one
 call-step k C es keys m inv (sends own major minor id neighbour key output) one small =
     send-step C es keys own major minor id neighbour key output small k m inv one
 call-step k C es keys m inv (ticks own output) one small = tick-step k C es keys m inv own output one

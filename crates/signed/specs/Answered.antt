@@ -1,6 +1,6 @@
 -- To believe. "The inquiry's record is learned"; "A held key has its record replaced": the record held for a kept key is that of the inquiry last answered for it,
 -- told by the calls with their answers and never by memory. Demand 3 speaks of keys alone; a key kept with another's addresses is shut out here. A theorem of
--- each name stands in proofs/AnsweredLaws.antt and MixedLaws.antt. Assumes nothing.
+-- the name stands in proofs/AnsweredLaws.antt. Assumes nothing.
 use Prim.Native.Nat.{ℕ, _≤_}
 use mathlib.Core.Path.{_≡_}
 use mathlib.Core.Bool.{Bool, cond, _&&_, _||_}
@@ -13,6 +13,7 @@ use Rattle.record.specs.Record.{keyOf}
 use Rattle.record.specs.Entry.{recordOf}
 use Rattle.table.specs.Rows.{bytesOf}
 use Rattle.kept.specs.Keys.{Every}
+use Rattle.kept.specs.History.{Event}
 use Rattle.kept.specs.Plain.{kept}
 use Rattle.cache.specs.Form.{keysOf, heldOf}
 use Rattle.wire_fields.specs.declared.Part.{Part}
@@ -22,8 +23,8 @@ use Rattle.wire_read.specs.declared.Answer as T
 use Rattle.wire_read.specs.declared.Answer.the-variants as M
 use Rattle.gauge_plan.specs.Rooms.{idAfter}
 use Rattle.gauge_commit.specs.declared.Answer.{Answer}
-use Rattle.signed.specs.Words.{Memory, memory, Call, receives, sends, ticks, lists, given, Gauge, ours, empty, left, ownOf, Proper}
-use Rattle.signed.specs.Statements.{happened}
+use Rattle.sentences.specs.Words.{Memory, Call, receives, sends, ticks, lists, Gauge, empty, left, log, Proper}
+use Rattle.signed.specs.Events.{Happened}
 
 -- a call with its answer: the number, and the lengths of what is to be sent
 pub record Told : Type 0 where
@@ -112,21 +113,10 @@ firstOf k (r ∷ rs) = cond (eqb k (keyOf r)) (some r) (firstOf k rs)
 
 -- `keys`: the records held after the calls have the kept keys. `last`: each is that of the inquiry last answered for its key.
 pub record LastAnswered (g : Gauge) (k C : ℕ) (calls : List Call) : Type 0 where
-  pub keys : keysOf (heldOf k (left g (empty C) calls .cache)) ≡ kept k C (happened g C calls)
+  pub history : List Event
+  pub happened : Happened [] (log g (empty C) calls) history
+  pub keys : keysOf (heldOf k (left g (empty C) calls .cache)) ≡ kept k C history
   pub last : Every (λ (r : List ℕ). firstOf (keyOf r) (answered (toldFrom g (empty C) [] calls)) ≡ some r) (heldOf k (left g (empty C) calls .cache))
 
 abbrev pub HoldsLastAnswered : Gauge → Type 0
 HoldsLastAnswered g = (k C : ℕ) → 10 ≤ C → C ≤ 256 → (calls : List Call) → Proper k calls → LastAnswered g k C calls
-
--- ---- a gauge that it shuts out
-
--- as ours, but each key is kept with the port and the addresses of the first record held
-unfoldable pub mixes : Gauge
-mixes m c =
-    let h = ours m c in
-    let s = h .memory .cache in
-    let mixed = map (λ (r : List ℕ). part 0 32 r ++ part 32 68 s) (heldOf (keyOf (ownOf c)) s) in
-    given (h .answer) (memory (bytesOf (length s) mixed) (h .memory .waiting)) (h .output)
-
-abbrev pub MixesShut : Type 0
-MixesShut = ¬ HoldsLastAnswered mixes

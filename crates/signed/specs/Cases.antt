@@ -18,7 +18,8 @@ use Rattle.wire_fields.specs.Kinds.{lookupKinds}
 use Rattle.wire_fields.specs.Message as message
 use Rattle.wire_write.specs.Sent.{ackMade, cpaMade, closestMade}
 use Rattle.gauge_commit.specs.Sending.{answer}
-use Rattle.signed.specs.Words.{Memory, memory, Call, receives, ticks, lists, given, ours}
+use Rattle.sentences.specs.Words.{Memory, memory, Call, receives, ticks, lists, given}
+use Rattle.sentences.specs.Ours.{ours}
 
 -- ---- on which bytes
 

@@ -1,17 +1,15 @@
 -- To believe. What the accepted calls do to the keys, told by the log alone: "The kept keys follow from the accepted calls alone." Assumes nothing.
 use Prim.Native.Nat.{ℕ}
-use mathlib.Core.Bool.{cond, _&&_}
+use mathlib.Core.Bool.{Bool, cond, _&&_}
 use mathlib.Core.List.{List, [], _∷_, _++_}
+use mathlib.Core.Logic.{_⊎_}
 use mathlib.Core.Option.{Option, some, none}
+use mathlib.Core.Path.{_≡_}
 use lib.Dec.{eqb}
 use Rattle.key.specs.Number.{keyAt}
 use Rattle.kept.specs.History.{Event, learned, removed}
-use Rattle.wire_fields.specs.declared.Part.{Part}
-use Rattle.wire_fields.specs.declared.Part.the-variants.{Here, Absent}
-use Rattle.wire_read.specs.Answers as R
-use Rattle.wire_read.specs.declared.Answer as T
-use Rattle.wire_read.specs.declared.Answer.the-variants as M
-use Rattle.signed.specs.Words.{Call, receives, sends, ticks, lists, Entry}
+use Rattle.sentences.specs.Words.{Call, receives, sends, ticks, lists, Entry}
+use Rattle.sentences.specs.Heard.{Heard, entry, revoke, inquire, authority, ack, lookup, other, Hears}
 
 -- whom a call sent a FLOOD with the ID to, if it did: the neighbour's key, not the record's; else what is known from before
 abbrev pub sentBy : ℕ → Call → ℕ → Option ℕ → Option ℕ
@@ -29,34 +27,28 @@ abbrev pub removedIf : Option ℕ → List Event
 removedIf none = []
 removedIf (some k) = removed k ∷ []
 
--- a FLOOD without a route entry revokes
-abbrev pub byEntry : Part → ℕ → List Event
-byEntry (Here start len) k = []
-byEntry Absent k = removed k ∷ []
-
--- what a message does when it is accepted; k is the verdict's key
-abbrev pub toldBy : List Entry → ℕ → T.Answer → List Event
-toldBy earlier k (M.Refused n) = []
-toldBy earlier k (M.Solicit head entry nonce) = []
-toldBy earlier k (M.Advertise head acked keys nonce) = []
-toldBy earlier k (M.Request head flags split nonce keys credential signature key) = []
-toldBy earlier k (M.Flood head d validate token revoke entry reached) = byEntry entry k
-toldBy earlier k (M.Inquire head a x c validate nonce credential signature key) = []
-toldBy earlier k (M.Authority head acked fields) = learned k ∷ []
-toldBy earlier k (M.Ack head acked flags n) = cond n (removedIf (sentTo acked earlier)) []
-toldBy earlier k (M.Lookup head a precision criteria reason target validate entry path credential signature key) = []
+-- what a message does when it is accepted; k is the verdict's key. An AUTHORITY learns it, a revocation removes it, and an ACK with N the key that the FLOOD
+-- went to
+abbrev pub toldBy : List Entry → ℕ → Heard → List Event
+toldBy earlier k (entry id silent validate r) = []
+toldBy earlier k (revoke id silent validate) = removed k ∷ []
+toldBy earlier k (inquire id validate) = []
+toldBy earlier k (authority acked cpa) = learned k ∷ []
+toldBy earlier k (ack acked n) = cond n (removedIf (sentTo acked earlier)) []
+toldBy earlier k (lookup id target) = []
+toldBy earlier k other = []
 
 -- what a call does when it is accepted
-abbrev pub does : List Entry → Call → List Event
-does earlier (receives own cpa major minor id nonce verdict key datagram output) = toldBy earlier (keyAt 0 key) (R.answer datagram major)
-does earlier (sends own major minor id neighbour key output) = []
-does earlier (ticks own output) = []
-does earlier (lists own output) = []
+abbrev pub Tells : List Entry → Call → List Event → Type 0
+Tells earlier (receives own cpa major minor id nonce verdict key datagram output) now =
+    (x : Heard) × Hears datagram major x × (now ≡ toldBy earlier (keyAt 0 key) x)
+Tells earlier (sends own major minor id neighbour key output) now = now ≡ []
+Tells earlier (ticks own output) now = now ≡ []
+Tells earlier (lists own output) now = now ≡ []
 
--- the events of a log; `earlier` are the calls before it, the latest first. A call that was given another number than 0 has none
-unfoldable pub eventsFrom : List Entry → List Entry → List Event
-eventsFrom earlier [] = []
-eventsFrom earlier (e ∷ es) = cond (eqb (e .number) 0) (does earlier (e .call)) [] ++ eventsFrom (e ∷ earlier) es
-
-abbrev pub events : List Entry → List Event
-events es = eventsFrom [] es
+-- these are the events of a log; `earlier` are the calls before it, the latest first. A call that was given another number than 0 has none
+abbrev pub Happened : List Entry → List Entry → List Event → Type 0
+Happened earlier [] history = history ≡ []
+Happened earlier (e ∷ es) history =
+    (now later : List Event) × (((e .number ≡ 0) × Tells earlier (e .call) now) ⊎ ((¬ (e .number ≡ 0)) × (now ≡ [])))
+    × Happened (e ∷ earlier) es later × (history ≡ now ++ later)

@@ -5,7 +5,7 @@ use native.Mathlib.Omega.{arith}
 use lib.ListN.{length}
 use borrow.Author.Needs.{needs}
 use Rattle.refusal.specs.Table.{firstOf}
-use Rattle.signed.specs.Words.{memory}
+use Rattle.sentences.specs.Words.{memory}
 use Rattle.night.specs.Fault.{faults}
 use Rattle.night.specs.Step.{night}
 use Rattle.night.proofs.FaultLaws.{good-record}

@@ -3,7 +3,7 @@ use mathlib.Core.Path.{sym}
 use lib.ListN.{take}
 use lib.Seq.{length-take-le}
 use borrow.Author.Needs.{needs}
-use Rattle.signed.specs.Words.{memory}
+use Rattle.sentences.specs.Words.{memory}
 use Rattle.night.specs.Step.{night}
 use Rattle.replay.proofs.RunLaws.{without-text}
 use Rattle.replay.proofs.one.Statement.{statement}

@@ -4,7 +4,7 @@ use mathlib.Core.Path.{_≡_, refl, _∙_}
 use Prim.Native.Nat.{_-_, _^_}
 use native.Mathlib.Omega.{arith}
 use lib.ListN.{length}
-use Rattle.signed.specs.Words.{memory}
+use Rattle.sentences.specs.Words.{memory}
 use Rattle.night.specs.Step.{night}
 use Rattle.replay.specs.Run.{GoesOn}
 use Rattle.replay.proofs.RunLaws.{SoFar, none, one-more, at-last, by-count}

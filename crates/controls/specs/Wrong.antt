@@ -1,0 +1,167 @@
+-- Controls. Gauges that are wrong in one thing, and the statement that document 01's sentences shut each of them out. No part of what is believed: a reader sees
+-- here what the sentences are good for. A theorem of each name stands in proofs/WrongLaws.antt. Assumes nothing.
+use Prim.Native.Nat.{ℕ, _+_, _-_, _<_}
+use mathlib.Core.Bool.{Bool, true, false, not, cond, _&&_}
+use mathlib.Core.List.{List, [], _∷_, _++_}
+use lib.Dec.{eqb, leb, ltb}
+use lib.ListN.{length, getD, replicate, set, take, drop}
+use Rattle.octet.specs.Part.{part, same, allZero}
+use Rattle.kept.specs.Keys.{Every}
+use Rattle.waiting.specs.Form.{usedOf}
+use Rattle.gauge_commit.specs.Sending.{answer}
+use Rattle.sentences.specs.Words.{Memory, memory, Call, receives, sends, ticks, lists, Given, given, Gauge, outputOf}
+use Rattle.sentences.specs.Ours.{ours}
+use Rattle.sentences.specs.Meets.{MeetsSentences}
+
+-- ---- which call it is
+
+-- the datagram received, none where another call is made
+abbrev pub datagramOf : Call → List ℕ
+datagramOf (receives own cpa major minor id nonce verdict key datagram output) = datagram
+datagramOf (sends own major minor id neighbour key output) = []
+datagramOf (ticks own output) = []
+datagramOf (lists own output) = []
+
+-- a datagram received of the type: 4 FLOOD, 8 AUTHORITY, 11 LOOKUP
+abbrev pub hearsType : ℕ → Call → Bool
+hearsType t c = eqb (getD (datagramOf c) 7 0) t
+
+abbrev pub isTick : Call → Bool
+isTick (receives own cpa major minor id nonce verdict key datagram output) = false
+isTick (sends own major minor id neighbour key output) = false
+isTick (ticks own output) = true
+isTick (lists own output) = false
+
+-- the same datagram, as another gauge would hear it: with another own record
+abbrev pub heardBy : List ℕ → Call → Call
+heardBy r (receives own cpa major minor id nonce verdict key datagram output) = receives r cpa major minor id nonce verdict key datagram output
+heardBy r (sends own major minor id neighbour key output) = sends own major minor id neighbour key output
+heardBy r (ticks own output) = ticks own output
+heardBy r (lists own output) = lists own output
+
+-- a cache without its first record
+abbrev pub behindFirst : List ℕ → List ℕ
+behindFirst cache = drop 100 cache ++ replicate 100 0
+
+-- is the last place of the cache used? Its count of addresses stands 66 bytes before the end
+abbrev pub isFull : List ℕ → Bool
+isFull cache = ltb 0 (getD cache (length cache - 66) 0)
+
+-- ---- what is sent
+
+-- where only an ACK would be sent, nothing is
+unfoldable pub neverAcks : Gauge
+neverAcks m c =
+    let h = ours m c in
+    cond (hearsType 4 c && eqb (h .answer .second) 0 && leb (h .answer .first) 26) (given (answer (h .answer .number) 0 0) (h .memory) (outputOf c)) h
+
+-- an ACK with N loses its last field
+unfoldable pub neverN : Gauge
+neverN m c =
+    let h = ours m c in
+    cond (hearsType 4 c && eqb (h .answer .first) 26)
+    (given (answer (h .answer .number) 20 (h .answer .second)) (h .memory) (take 20 (h .output) ++ drop 26 (h .output) ++ replicate 6 0)) h
+
+-- N is set when the validate key is not the record's, where it should be ours: in a FLOOD without a key token they stand at 24 and 60
+unfoldable pub nByTheRecord : Gauge
+nByTheRecord m c =
+    let h = ours m c in
+    cond (hearsType 4 c && eqb (h .answer .first) 20 && eqb (h .answer .second) 0 && not (same (part 24 32 (datagramOf c)) (part 60 32 (datagramOf c))))
+    (given (answer 0 26 0) (h .memory) (take 20 (h .output) ++ (0 ∷ 0x40 ∷ 0 ∷ 6 ∷ 0 ∷ 1 ∷ []) ++ drop 26 (h .output))) h
+
+-- the second datagram stands a byte further
+unfoldable pub movesSecond : Gauge
+movesSecond m c =
+    let h = ours m c in
+    cond (ltb 0 (h .answer .second))
+    (given (h .answer) (h .memory) (take (h .answer .first) (h .output) ++ (0 ∷ drop (h .answer .first) (take (length (h .output) - 1) (h .output))))) h
+
+-- a LOOKUP is always shown our own record, or always one held
+unfoldable pub showsOwn : Gauge
+showsOwn m c =
+    let h = ours (memory (replicate (length (m .cache)) 0) (m .waiting)) c in
+    cond (hearsType 11 c) (given (h .answer) m (h .output)) (ours m c)
+
+unfoldable pub showsHeld : Gauge
+showsHeld m c =
+    let h = ours (memory (behindFirst (m .cache)) (m .waiting)) (heardBy (part 0 100 (m .cache)) c) in
+    cond (hearsType 11 c && not (allZero (m .cache))) (given (h .answer) m (h .output)) (ours m c)
+
+-- document 01's first slip, four bytes of a difference: a record that agrees with the target in its key's last four bytes is shown; here the second held.
+-- A LOOKUP's target stands at 28
+unfoldable pub fourBytes : Gauge
+fourBytes m c =
+    let r = part 100 100 (m .cache) in
+    let h = ours (memory (replicate (length (m .cache)) 0) (m .waiting)) (heardBy r c) in
+    cond (hearsType 11 c && same (part 28 4 r) (part 56 4 (datagramOf c))) (given (h .answer) m (h .output)) (ours m c)
+
+-- ---- what is held
+
+-- document 01's second slip: a record is learned from its FLOOD. The place that opens has it from byte 40 on
+unfoldable pub learnsEarly : Gauge
+learnsEarly m c =
+    let h = ours m c in
+    cond (hearsType 4 c && allZero (m .cache) && ltb 0 (usedOf (h .memory .waiting)))
+    (given (h .answer) (memory (part 40 100 (h .memory .waiting) ++ drop 100 (m .cache)) (h .memory .waiting)) (h .output)) h
+
+-- document 01's fourth slip: where the cache is full, the newcomer is dropped always; or the record that has stood longest at its start, never the newcomer
+unfoldable pub dropsNewcomer : Gauge
+dropsNewcomer m c =
+    let h = ours m c in
+    cond (hearsType 8 c && isFull (m .cache)) (given (h .answer) (memory (m .cache) (h .memory .waiting)) (h .output)) h
+
+unfoldable pub dropsOldest : Gauge
+dropsOldest m c = cond (hearsType 8 c && isFull (m .cache)) (ours (memory (behindFirst (m .cache)) (m .waiting)) c) (ours m c)
+
+-- ---- what waits
+
+-- document 01's third slip: a FLOOD frees no place, so that a late AUTHORITY brings back the key revoked meanwhile
+unfoldable pub revokesLate : Gauge
+revokesLate m c =
+    let h = ours m c in
+    cond (hearsType 4 c && ltb (usedOf (h .memory .waiting)) (usedOf (m .waiting)))
+    (given (h .answer) (memory (h .memory .cache) (m .waiting)) (h .output)) h
+
+-- document 01's fifth slip: the place is freed, and the call then refused for room
+unfoldable pub freesThenRefuses : Gauge
+freesThenRefuses m c =
+    let h = ours m c in
+    cond (hearsType 4 c && eqb (h .answer .number) 15) (given (h .answer) (memory (m .cache) (replicate 2240 0)) (h .output)) h
+
+-- an AUTHORITY's place stays
+unfoldable pub keepsPlace : Gauge
+keepsPlace m c = let h = ours m c in cond (hearsType 8 c) (given (h .answer) (memory (h .memory .cache) (m .waiting)) (h .output)) h
+
+-- a place opens though the very same record is held
+unfoldable pub asksAgain : Gauge
+asksAgain m c =
+    let h = ours (memory (replicate (length (m .cache)) 0) (m .waiting)) c in
+    cond (hearsType 4 c) (given (h .answer) (memory (m .cache) (h .memory .waiting)) (h .output)) (ours m c)
+
+-- a FLOOD gives the first place that waits its two tries back
+unfoldable pub resetsTries : Gauge
+resetsTries m c = let h = ours m c in cond (hearsType 4 c) (given (h .answer) (memory (h .memory .cache) (set (h .memory .waiting) 5 2)) (h .output)) h
+
+-- a tick takes no try, and one that frees all places
+unfoldable pub keepsTries : Gauge
+keepsTries m c = let h = ours m c in cond (isTick c) (given (h .answer) m (h .output)) h
+
+unfoldable pub freesAll : Gauge
+freesAll m c = let h = ours m c in cond (isTick c) (given (h .answer) (memory (m .cache) (replicate 2240 0)) (h .output)) h
+
+-- ---- which number
+
+-- 15 is given one byte too early
+unfoldable pub wantsMore : Gauge
+wantsMore m c = cond (isTick c && eqb (length (outputOf c)) 64) (given (answer 15 0 0) m (outputOf c)) (ours m c)
+
+-- ---- each is shut out
+
+abbrev pub Shut : Gauge → Type 0
+Shut g = ¬ MeetsSentences g
+
+abbrev pub AllShut : Type 0
+AllShut =
+    Every Shut
+    (neverAcks ∷ neverN ∷ nByTheRecord ∷ movesSecond ∷ showsOwn ∷ showsHeld ∷ fourBytes ∷ learnsEarly ∷ dropsNewcomer ∷ dropsOldest ∷ revokesLate
+    ∷ freesThenRefuses ∷ keepsPlace ∷ asksAgain ∷ resetsTries ∷ keepsTries ∷ freesAll ∷ wantsMore ∷ [])

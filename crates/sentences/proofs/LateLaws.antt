@@ -1,0 +1,131 @@
+-- A key that was revoked stays out until it is asked for: from the sentences alone, of any gauge. Assumes nothing.
+use Prim.Native.Nat.{ℕ, zero, suc}
+use mathlib.Core.Bool.{Bool, true, false}
+use mathlib.Core.List.{List, [], _∷_}
+use mathlib.Core.Logic.{_⊎_, inl, inr}
+use mathlib.Core.Path.{_≡_, refl, sym, ap, subst, _∙_}
+use native.Mathlib.Omega.{arith}
+use lib.ListN.{length, replicate, length-replicate}
+use lib.Seq.{length-take-le}
+use Rattle.octet.specs.Number.{Bytes, valueBE}
+use Rattle.octet.specs.Part.{part}
+use Rattle.key.specs.Number.{keyAt}
+use Rattle.record.specs.Record.{keyOf, recordForm}
+use Rattle.record.specs.Entry.{recordOf}
+use Rattle.record.proofs.EntryLaws.{form-length, record-form}
+use Rattle.kept.proofs.WithoutLaws.{eq-or}
+use Rattle.waiting.specs.Place.{idOf, kindOf, placeKey}
+use Rattle.waiting.specs.Open.{inquiryPlace, floodPlace}
+use Rattle.waiting.specs.Tick.{oneLess}
+use Rattle.waiting.proofs.NewLaws.{new-key, new-kind}
+use Rattle.waiting.proofs.PlaceLaws.{less-kind, less-key}
+use Rattle.wire_fields.specs.declared.Part.the-variants.{Here, Absent}
+use Rattle.wire_read.specs.Answers as R
+use Rattle.wire_read.specs.declared.Answer as T
+use Rattle.wire_read.specs.declared.Answer.the-variants as M
+use Rattle.gauge.specs.Lent.{Receive, receive, Send, send}
+use Rattle.sentences.specs.Words.{Memory, Call, receives, sends, ticks, lists, Given, Gauge, left, Typed}
+use Rattle.sentences.specs.Heard.{Heard, entry, revoke, inquire, authority, ack, lookup, other, Hears}
+use Rattle.sentences.specs.Sentences as S
+use Rattle.sentences.specs.Numbers as Num
+use Rattle.sentences.specs.Meets.{MeetsSentences}
+use Rattle.sentences.specs.Late as L
+use Rattle.sentences.proofs.OneLaws.{hears-one}
+use Rattle.sentences.proofs.HeardLaws.{entry-heard}
+use Rattle.sentences.proofs.OtherLaws.{is-lent}
+
+-- no inquiry for the key waits
+abbrev Quiet : ℕ → Memory → Type 0
+Quiet u m = ¬ ((p : List ℕ) × S.Waits m p × S.Inquiry u p)
+
+-- ---- the record of a FLOOD is in form
+
+entry-key : (d : List ℕ) → Bytes d → (major i : ℕ) (s : Bool) (v : ℕ) (r : List ℕ) → Hears d major (entry i s v r) → (id : ℕ) → placeKey (inquiryPlace id r) ≡ keyOf r
+entry-key d b major i s v r h id =
+    let e = entry-heard d b major i s v r h in
+    let long = form-length r (ap recordForm (e .is) ∙ record-form (part (e .start) (e .len) d) (e .formed)) in
+    ap (valueBE 256) (new-key id 2 2 (part 0 32 r) r (length-take-le 32 r (omega arith)) long)
+
+flood-kind : (id : ℕ) (key : List ℕ) → length key ≡ 32 → kindOf (floodPlace id key) ≡ 1
+flood-kind id key e = new-kind id 1 2 key (replicate 100 0) e (length-replicate {A = ℕ} 100 0)
+
+-- ---- one call
+
+module _ (u : ℕ) (m : Memory) (quiet : Quiet u m) where
+  leaves-quiet : (l : Receive) → Bytes (l .datagram) → (x : Heard) (left : Memory) → Hears (l .datagram) (l .major) x
+      → ((i : ℕ) (s : Bool) (v : ℕ) (r : List ℕ) → Hears (l .datagram) (l .major) (entry i s v r) → keyOf r ≡ u → ¬ S.MustAsk (keyOf (l .own)) m r)
+      → S.Leaves m l x left → Quiet u left
+  leaves-quiet l b (entry i s v r) left h none w q =
+      elim (w .table .members (q .0) .0 (q .1)) [
+        | inl y ↦ quiet (q .0, y, q .2)
+        | inr y ↦ none i s v r h (sym (ap placeKey (y .1) ∙ entry-key (l .datagram) b (l .major) i s v r h _) ∙ q .2 .1) (y .0)
+      ]
+  leaves-quiet l b (revoke i s v) left h none w q = quiet (q .0, w .table .members (q .0) .0 (q .1) .0, q .2)
+  leaves-quiet l b (inquire i v) left h none w q = quiet (q .0, subst (λ (y : Memory). S.Waits y (q .0)) w (q .1), q .2)
+  leaves-quiet l b (authority acked c) left h none w q = quiet (q .0, w .table .members (q .0) .0 (q .1) .0, q .2)
+  leaves-quiet l b (ack acked n) left h none w q = quiet (q .0, w .table .members (q .0) .0 (q .1) .0, q .2)
+  leaves-quiet l b (lookup i t) left h none w q = quiet (q .0, subst (λ (y : Memory). S.Waits y (q .0)) w (q .1), q .2)
+  leaves-quiet l b other left h none w q = absurd w
+
+  does-quiet : (c : Call) (h : Given) → Typed c → ¬ L.AsksFor u m c → ((i : ℕ) → ¬ Num.Applies m c i) → S.Does m c h → Quiet u (h .memory)
+  does-quiet (receives own cpa major minor id nonce verdict key datagram output) h ty none low s q =
+      leaves-quiet (receive own cpa (m .cache) (m .waiting) major minor id nonce verdict key datagram output) (ty .0) (s .x) (h .memory) (s .hears)
+      (λ i t v r y e must. none (i, t, v, r, y, e, must)) (s .leaves) q
+  does-quiet (sends own major minor id neighbour key output) h ty none low s q =
+      let g = is-lent (send own (m .cache) (m .waiting) major minor id neighbour key output) (low 1) in
+      elim (s .table .members (q .0) .0 (q .1)) [
+        | inl y ↦ quiet (q .0, y, q .2)
+        | inr y ↦ absurd (let z : _≡_ {A = ℕ} 1 2 = sym (ap kindOf y ∙ flood-kind id neighbour (g .neighbour)) ∙ q .2 .0 in omega arith)
+      ]
+  does-quiet (ticks own output) h ty none low s q =
+      let w = s .table .members (q .0) .0 (q .1) in
+      quiet (w .0, w .1, (sym (ap kindOf (w .3) ∙ less-kind (w .0)) ∙ q .2 .0, sym (ap placeKey (w .3) ∙ less-key (w .0)) ∙ q .2 .1))
+  does-quiet (lists own output) h ty none low s q = quiet (q .0, subst (λ (y : Memory). S.Waits y (q .0)) (s .same) (q .1), q .2)
+
+-- ---- calls one after the other
+
+module _ (g : Gauge) (p : MeetsSentences g) (u : ℕ) where
+  step-quiet : (m : Memory) (c : Call) → Typed c → (g m c .answer .number ≡ 0 → ¬ L.AsksFor u m c) → Quiet u m → Quiet u (g m c .memory)
+  step-quiet m c ty none quiet = go (g m c .answer .number) refl
+    where
+      go : (n : ℕ) → g m c .answer .number ≡ n → Quiet u (g m c .memory)
+      go zero e = does-quiet u m quiet c (g m c) ty (none e) (p .table .accepted m c ty .0 e) (p .does m c ty e)
+      go (suc n) e = subst (λ (h : Given). Quiet u (h .memory)) (sym (p .table .keeps m c (omega arith))) quiet
+
+  left-quiet : (m : Memory) (cs : List Call) → L.NoneAsks g u m cs → Quiet u m → Quiet u (left g m cs)
+  unfolding left
+  left-quiet m [] none quiet = quiet
+  left-quiet m (c ∷ cs) none quiet = left-quiet (g m c .memory) cs (none .2) (step-quiet m c (none .0) (none .1) quiet)
+
+  -- a revocation leaves it quiet
+  revoked-quiet : (m : Memory) (c : Call) → Typed c → L.Revokes u c → g m c .answer .number ≡ 0 → Quiet u (g m c .memory)
+  revoked-quiet m (receives own cpa major minor id nonce verdict key datagram output) ty w z q =
+      let c = receives own cpa major minor id nonce verdict key datagram output in
+      let l = receive own cpa (m .cache) (m .waiting) major minor id nonce verdict key datagram output in
+      let s = p .does m c ty z in
+      let e = hears-one datagram major (s .x) (revoke (w .0) (w .1) (w .2)) (s .hears) (w .3) in
+      let v : S.FloodRevokes (keyOf own) m (keyAt 0 key) (g m c .memory) = subst (λ (x : Heard). S.Leaves m l x (g m c .memory)) e (s .leaves) in
+      v .table .members (q .0) .0 (q .1) .1 (q .2 .0, q .2 .1 ∙ sym (w .4))
+  revoked-quiet m (sends own major minor id neighbour key output) ty w z q = absurd w
+  revoked-quiet m (ticks own output) ty w z q = absurd w
+  revoked-quiet m (lists own output) ty w z q = absurd w
+
+  -- then no AUTHORITY for it is accepted
+  late-refused : (m : Memory) (c : Call) → Typed c → L.Answers u c → Quiet u m → ¬ (g m c .answer .number ≡ 0)
+  late-refused m (receives own cpa major minor id nonce verdict key datagram output) ty w quiet z =
+      let c = receives own cpa major minor id nonce verdict key datagram output in
+      let l = receive own cpa (m .cache) (m .waiting) major minor id nonce verdict key datagram output in
+      let s = p .does m c ty z in
+      let e = hears-one datagram major (s .x) (authority (w .0) (w .1)) (s .hears) (w .2) in
+      let v : S.Authority (keyOf own) m (w .0) (g m c .memory) = subst (λ (x : Heard). S.Leaves m l x (g m c .memory)) e (s .leaves) in
+      elim (eq-or (placeKey (v .p)) (keyAt 0 key)) [
+        | inl is ↦ quiet (v .p, v .answers .0, (v .answers .2, is ∙ w .3))
+        | inr not ↦ p .table .accepted m c ty .0 z 10 (Num.other-key refl (w .0) (w .1) (w .2) (v .p) (v .answers) not)
+      ]
+  late-refused m (sends own major minor id neighbour key output) ty w quiet z = absurd w
+  late-refused m (ticks own output) ty w quiet z = absurd w
+  late-refused m (lists own output) ty w quiet z = absurd w
+
+pub revoked-stays-out : L.RevokedStaysOut
+revoked-stays-out g p u m c ty w z cs none late ty′ answers =
+    late-refused g p u (left g (g m c .memory) cs) late ty′ answers (left-quiet g p u (g m c .memory) cs none (revoked-quiet g p u m c ty w z))

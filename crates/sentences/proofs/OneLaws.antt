@@ -1,0 +1,281 @@
+-- The sentences leave one gauge: what each says of a call's result fixes every number and every byte. Assumes nothing.
+use mathlib.Core.Path.{_≡_, refl, sym, ap, ap₂, subst, _∙_}
+use mathlib.Core.Logic.{_⊎_, _↔_, inl, inr}
+use mathlib.Core.Bool.{Bool, true, false, cond}
+use mathlib.Core.List.{List, [], _∷_, _++_}
+use Prim.Native.Nat.{ℕ, zero, suc, _≤_, _<_}
+use native.Mathlib.Omega.{arith}
+use lib.ListN.{length}
+use Rattle.octet.specs.Part.{splice}
+use Rattle.key.specs.Around.{Side, below, above, isAbove, sideOf, nearness, closer}
+use Rattle.key.specs.Number.{keyAt}
+use Rattle.record.specs.Record.{keyOf, recordForm}
+use Rattle.kept.specs.Keys.{_∈_, Rising, plain}
+use Rattle.kept.proofs.PutLaws.{Tri, less, same, more, tri}
+use Rattle.kept.proofs.ListLaws.{Test, pass, fail, test, rising-ext}
+use Rattle.key.proofs.AroundLaws.{side-near}
+use Rattle.cache.proofs.CallLaws.{list-only}
+use Rattle.cache.specs.Form.{keysOf, placesIn, heldOf, cacheForm}
+use Rattle.cache.specs.Closest.{candidates, closestOf}
+use Rattle.cache.proofs.FormLaws.{true-form}
+use Rattle.cache.proofs.ClosestLaws.{closest-only}
+use Rattle.waiting.specs.Place.{idOf, kindOf, triesOf, placeKey, placeRecord}
+use Rattle.waiting.specs.Form.{placesOf, waitingForm}
+use Rattle.waiting.specs.Tick.{oneLess}
+use Rattle.wire.proofs.Theorems.{at-most-one}
+use Rattle.gauge_commit.specs.declared.Answer.{Answer}
+use Rattle.gauge_commit.specs.Sending.{answer, lengths, sending}
+use Rattle.wire_fields.specs.Kinds.{authorityKinds}
+use Rattle.wire_write.specs.Sent.{closestSent}
+use Rattle.gauge.specs.Lent.{Receive, receive, Send, send}
+use Rattle.sentences.specs.Words.{Memory, memory, Call, receives, sends, ticks, lists, Given, given, Gauge, outputOf, Typed}
+use Rattle.sentences.specs.Heard.{Heard, entry, revoke, inquire, authority, ack, lookup, other, heard, Hears}
+use Rattle.sentences.specs.Sentences as S
+use Rattle.sentences.specs.Numbers as Num
+use Rattle.sentences.specs.Meets as Meets
+use Rattle.sentences.proofs.MembersLaws.{rise-one, rise-ext, cache-same, table-same, places-rise, held-rises}
+
+given-same : (h h′ : Given) → h .answer ≡ h′ .answer → h .memory .cache ≡ h′ .memory .cache → h .memory .waiting ≡ h′ .memory .waiting
+    → h .output ≡ h′ .output → h ≡ h′
+given-same h h′ a c w o =
+    ap (λ (x : Answer). given x (h .memory) (h .output)) a
+    ∙ ap₂ (λ (x y : List ℕ). given (h′ .answer) (memory x y) (h .output)) c w
+    ∙ ap (λ (x : List ℕ). given (h′ .answer) (h′ .memory) x) o
+
+-- ---- the tick
+
+module _ (k : ℕ) (m : Memory) (output : List ℕ) (h h′ : Given) (s : S.Ticks k m output h) (t : S.Ticks k m output h′) where
+  ids-same : s .ids ≡ t .ids
+  ids-same = rising-ext plain 0 0 (s .ids) (t .ids) (s .rising) (t .rising) (λ i m. t .listed i .1 (s .listed i .0 m)) (λ i m. s .listed i .1 (t .listed i .0 m))
+
+  pub ticks-one : h ≡ h′
+  ticks-one = given-same h h′ (rw (s .counts, t .counts, ids-same) refl) (s .cache ∙ sym (t .cache))
+      (table-same k (h .memory .waiting) (h′ .memory .waiting) _ _ (s .table) (t .table) (λ p w. w) (λ p w. w))
+      (rw (s .bytes, t .bytes, ids-same) refl)
+
+-- ---- the neighbour list
+
+module _ (own : List ℕ) (m : Memory) (output : List ℕ) (f : cacheForm (keyOf own) (m .cache) ≡ true) (h h′ : Given)
+    (s : S.Lists (keyOf own) m output h) (t : S.Lists (keyOf own) m output h′) where
+  low-same : s .listed .low ≡ t .listed .low
+  low-same = list-only own (m .cache) f below (s .listed .low) (s .listed .nearest-below) ∙ sym (list-only own (m .cache) f below (t .listed .low) (t .listed .nearest-below))
+
+  high-same : s .listed .high ≡ t .listed .high
+  high-same = list-only own (m .cache) f above (s .listed .high) (s .listed .nearest-above) ∙ sym (list-only own (m .cache) f above (t .listed .high) (t .listed .nearest-above))
+
+  pub lists-one : h ≡ h′
+  lists-one = given-same h h′ (rw (s .listed .counts, t .listed .counts, low-same, high-same) refl)
+      (ap (λ (x : Memory). x .cache) (s .same ∙ sym (t .same))) (ap (λ (x : Memory). x .waiting) (s .same ∙ sym (t .same)))
+      (rw (s .listed .bytes, t .listed .bytes, low-same, high-same) refl)
+
+-- ---- a FLOOD sent
+
+sent-same : (output : List ℕ) (ds ds′ : List (List ℕ)) (h h′ : Given) → S.Sent output ds h → S.Sent output ds′ h′ → ds ≡ ds′
+    → (h .answer ≡ h′ .answer) × (h .output ≡ h′ .output)
+sent-same output ds ds′ h h′ s t e = (s .counts ∙ ap lengths e ∙ sym (t .counts), s .bytes ∙ ap (λ (x : List (List ℕ)). sending x output) e ∙ sym (t .bytes))
+
+module _ (m : Memory) (l : Send) (f : cacheForm (keyOf (l .own)) (m .cache) ≡ true) where
+  pub named-one : (r r′ : List ℕ) → S.Named m l r → S.Named m l r′ → r ≡ r′
+  named-one r r′ (inl a) (inl b) = a .1 ∙ sym (b .1)
+  named-one r r′ (inl a) (inr b) = absurd (b .0 (a .0))
+  named-one r r′ (inr a) (inl b) = absurd (a .0 (b .0))
+  named-one r r′ (inr a) (inr b) =
+      rise-one keyOf 0 r r′ (heldOf (keyOf (l .own)) (m .cache)) (held-rises (keyOf (l .own)) (m .cache) f) (a .1) (b .1) (a .2 ∙ sym (b .2))
+
+  pub sends-one : (h h′ : Given) → S.Sends m l h → S.Sends m l h′ → h ≡ h′
+  sends-one h h′ s t =
+      let e = named-one (s .r) (t .r) (s .named) (t .named) in
+      let d = sent-same (l .output) (S.flooding l (s .r)) (S.flooding l (t .r)) h h′ (s .sent) (t .sent) (ap (S.flooding l) e) in
+      given-same h h′ (d .0) (s .cache ∙ sym (t .cache))
+      (table-same (keyOf (l .own)) (h .memory .waiting) (h′ .memory .waiting) _ _ (s .table) (t .table) (λ p w. w) (λ p w. w)) (d .1)
+
+-- ---- a datagram received: what it says, and what answers it
+
+pub hears-one : (d : List ℕ) (major : ℕ) (x y : Heard) → Hears d major x → Hears d major y → x ≡ y
+hears-one d major x y a b =
+    sym (a .says) ∙ ap heard (at-most-one (a .kinds) (b .kinds) d (a .message) (b .message) (a .reads) (b .reads)) ∙ b .says
+
+bool-same : (a b : Bool) → (a ≡ true → b ≡ true) → (b ≡ true → a ≡ true) → a ≡ b
+bool-same true b p q = sym (p refl)
+bool-same false true p q = q refl
+bool-same false false p q = refl
+
+iff-same : (P : Type 0) (a b : Bool) → ((a ≡ true) ↔ P) → ((b ≡ true) ↔ P) → a ≡ b
+iff-same P a b p q = bool-same a b (λ e. q .1 (p .0 e)) (λ e. p .1 (q .0 e))
+
+module _ (m : Memory) (l : Receive) (f : cacheForm (keyOf (l .own)) (m .cache) ≡ true) where
+  pub closest-one : (t : ℕ) (r r′ : List ℕ) → S.Closest m l t r → S.Closest m l t r′ → r ≡ r′
+  closest-one t r r′ a b =
+      let k = keyOf (l .own) in
+      let held = true-form k (m .cache) f .held in
+      closest-only t (l .own) (heldOf k (m .cache)) held r (a .candidate) (a .none-closer)
+      ∙ sym (closest-only t (l .own) (heldOf k (m .cache)) held r′ (b .candidate) (b .none-closer))
+
+  pub reply-one : (x : Heard) (ds ds′ : List (List ℕ)) → S.Reply m l x ds → S.Reply m l x ds′ → ds ≡ ds′
+  reply-one (entry id silent validate r) ds ds′ a b =
+      a .are ∙ ap₂ (λ (n y : Bool). S.acks l id silent n ++ S.asks l y r) (iff-same _ (a .n) (b .n) (a .set) (b .set))
+      (iff-same _ (a .ask) (b .ask) (a .asked) (b .asked)) ∙ sym (b .are)
+  reply-one (revoke id silent validate) ds ds′ a b =
+      a .are ∙ ap (λ (n : Bool). S.acks l id silent n) (iff-same _ (a .n) (b .n) (a .set) (b .set)) ∙ sym (b .are)
+  reply-one (inquire id validate) ds ds′ a b = a ∙ sym b
+  reply-one (authority acked cpa) ds ds′ a b = a ∙ sym b
+  reply-one (ack acked n) ds ds′ a b = a ∙ sym b
+  reply-one (lookup id target) ds ds′ a b =
+      a .are ∙ ap (λ (r : List ℕ). S.written authorityKinds (closestSent (l .major) (l .minor) (l .id) id r) ∷ [])
+      (closest-one target (a .r) (b .r) (a .closest) (b .closest)) ∙ sym (b .are)
+  reply-one other ds ds′ a b = absurd a
+
+-- ---- learning
+
+-- two keys on one side and equally far out are one
+key-one : (k a b : ℕ) → sideOf k a ≡ sideOf k b → nearness k a ≡ nearness k b → a ≡ b
+key-one k a b s n = side-near k a b (go (isAbove k a) refl (isAbove k b) refl) n
+  where
+    mixed : (u v : Bool) → u ≡ true → v ≡ false → _≡_ {A = Side} (cond u above below) (cond v above below) → ⊥
+    mixed u v p q e = let z : _≡_ {A = Side} above below = rw (p, q) at e in let y : _≡_ {A = ℕ} 0 1 = cc in absurd (omega arith)
+
+    go : (u : Bool) → isAbove k a ≡ u → (v : Bool) → isAbove k b ≡ v → isAbove k a ≡ isAbove k b
+    go true p true q = p ∙ sym q
+    go false p false q = p ∙ sym q
+    go true p false q = absurd (mixed (isAbove k a) (isAbove k b) p q s)
+    go false p true q = absurd (mixed (isAbove k b) (isAbove k a) q p (sym s))
+
+drops-one : (k : ℕ) (all : List (List ℕ)) (d e : List ℕ) → Rising plain 0 (keysOf all) → S.Drops k all d → S.Drops k all e → d ≡ e
+drops-one k all d e r a b =
+    rise-one keyOf 0 d e all r (a .there) (b .there)
+    (key-one k (keyOf d) (keyOf e) (a .sided ∙ sym (b .sided))
+    (let x = a .farthest e (b .there) (b .sided) in let y = b .farthest d (a .there) (a .sided) in omega arith))
+
+module _ (k : ℕ) (m : Memory) (r left left′ : List ℕ) (s : S.Learns k m r left) (t : S.Learns k m r left′) where
+  to : (q : List ℕ) → q ∈ s .more → q ∈ t .more
+  to q i = t .are q .1 (s .are q .0 i)
+
+  from : (q : List ℕ) → q ∈ t .more → q ∈ s .more
+  from q i = s .are q .1 (t .are q .0 i)
+
+  more-same : s .more ≡ t .more
+  more-same = rise-ext keyOf 0 0 (s .more) (t .more) (s .rising) (t .rising) to from
+
+  pub learns-one : left ≡ left′
+  learns-one = go (tri (length (s .more)) (suc (placesIn (length (m .cache)))))
+    where
+      size : length (s .more) ≡ length (t .more)
+      size = ap length more-same
+
+      few : length (s .more) ≤ placesIn (length (m .cache)) → left ≡ left′
+      few h = cache-same k (m .cache) left left′ _ _ (s .fits h) (t .fits (omega (arith, size))) to from
+
+      many : placesIn (length (m .cache)) < length (s .more) → left ≡ left′
+      many h =
+          let a = s .dropped h in
+          let b = t .dropped (omega (arith, size)) in
+          let e : a .0 ≡ b .0 = drops-one k (t .more) (a .0) (b .0) (t .rising)
+          (subst (λ (x : List (List ℕ)). S.Drops k x (a .0)) more-same (a .1)) (b .1) in
+          cache-same k (m .cache) left left′ _ _ (a .2) (b .2) (λ q i. (to q (i .0), λ z. i .1 (z ∙ sym e))) (λ q i. (from q (i .0), λ z. i .1 (z ∙ e)))
+
+      go : Tri (length (s .more)) (suc (placesIn (length (m .cache)))) → left ≡ left′
+      go (less h) = few (omega arith)
+      go (same e) = many (omega arith)
+      go (more h) = many (omega arith)
+
+-- ---- what each message leaves
+
+memory-same : (a b : Memory) → a .cache ≡ b .cache → a .waiting ≡ b .waiting → a ≡ b
+memory-same a b c w = ap₂ memory c w
+
+module _ (m : Memory) (l : Receive) (f : cacheForm (keyOf (l .own)) (m .cache) ≡ true) (g : waitingForm (keyOf (l .own)) (m .waiting) ≡ true) where
+  abbrev k : ℕ
+  k = keyOf (l .own)
+
+  -- one place waits with an ID
+  place-one : (kind id : ℕ) (p q : List ℕ) → S.WaitsAs m kind id p → S.WaitsAs m kind id q → p ≡ q
+  place-one kind id p q a b = rise-one idOf 0 p q (placesOf (m .waiting)) (places-rise k (m .waiting) g) (a .0) (b .0) (a .1 ∙ sym (b .1))
+
+  entry-one : (r : List ℕ) (a b : Memory) → S.FloodEntry k m l r a → S.FloodEntry k m l r b → a ≡ b
+  entry-one r a b s t =
+      memory-same a b (s .cache ∙ sym (t .cache)) (table-same k (a .waiting) (b .waiting) _ _ (s .table) (t .table) (λ p w. w) (λ p w. w))
+
+  revoke-one : (u : ℕ) (a b : Memory) → S.FloodRevokes k m u a → S.FloodRevokes k m u b → a ≡ b
+  revoke-one u a b s t =
+      memory-same a b (cache-same k (m .cache) (a .cache) (b .cache) _ _ (s .cache) (t .cache) (λ p w. w) (λ p w. w))
+      (table-same k (a .waiting) (b .waiting) _ _ (s .table) (t .table) (λ p w. w) (λ p w. w))
+
+  authority-one : (acked : ℕ) (a b : Memory) → S.Authority k m acked a → S.Authority k m acked b → a ≡ b
+  authority-one acked a b s t =
+      let e = place-one 2 acked (s .p) (t .p) (s .answers) (t .answers) in
+      memory-same a b
+      (learns-one k m (placeRecord (t .p)) (a .cache) (b .cache) (subst (λ (p : List ℕ). S.Learns k m (placeRecord p) (a .cache)) e (s .cache)) (t .cache))
+      (table-same k (a .waiting) (b .waiting) _ _ (s .table) (t .table) (λ q w. (w .0, λ z. w .1 (z ∙ sym e))) (λ q w. (w .0, λ z. w .1 (z ∙ e))))
+
+  ack-one : (acked : ℕ) (n : Bool) (a b : Memory) → S.Ack k m acked n a → S.Ack k m acked n b → a ≡ b
+  ack-one acked n a b s t =
+      let e = place-one 1 acked (s .p) (t .p) (s .answers) (t .answers) in
+      let u = ap placeKey e in
+      memory-same a b
+      (cache-same k (m .cache) (a .cache) (b .cache) _ _ (s .cache) (t .cache) (λ r w. (w .0, λ z. w .1 (z .0, z .1 ∙ sym u)))
+      (λ r w. (w .0, λ z. w .1 (z .0, z .1 ∙ u))))
+      (table-same k (a .waiting) (b .waiting) _ _ (s .table) (t .table) (λ q w. (w .0, λ z. w .1 (z ∙ sym e))) (λ q w. (w .0, λ z. w .1 (z ∙ e))))
+
+  leaves-one : (x : Heard) (a b : Memory) → S.Leaves m l x a → S.Leaves m l x b → a ≡ b
+  leaves-one (entry id silent validate r) a b s t = entry-one r a b s t
+  leaves-one (revoke id silent validate) a b s t = revoke-one (keyAt 0 (l .key)) a b s t
+  leaves-one (inquire id validate) a b s t = s ∙ sym t
+  leaves-one (authority acked cpa) a b s t = authority-one acked a b s t
+  leaves-one (ack acked n) a b s t = ack-one acked n a b s t
+  leaves-one (lookup id target) a b s t = s ∙ sym t
+  leaves-one other a b s t = absurd s
+
+  pub receives-one : (h h′ : Given) → S.Receives m l h → S.Receives m l h′ → h ≡ h′
+  receives-one h h′ s t =
+      let e = hears-one (l .datagram) (l .major) (s .x) (t .x) (s .hears) (t .hears) in
+      let d = sent-same (l .output) (s .ds) (t .ds) h h′ (s .sent) (t .sent)
+      (reply-one m l f (t .x) (s .ds) (t .ds) (subst (λ (x : Heard). S.Reply m l x (s .ds)) e (s .reply)) (t .reply)) in
+      let z = leaves-one (t .x) (h .memory) (h′ .memory) (subst (λ (x : Heard). S.Leaves m l x (h .memory)) e (s .leaves)) (t .leaves) in
+      given-same h h′ (d .0) (ap (λ (y : Memory). y .cache) z) (ap (λ (y : Memory). y .waiting) z) (d .1)
+
+-- ---- the number, and the whole
+
+not-both : {b : Bool} → b ≡ true → b ≡ false → ⊥
+not-both p q = let z : _≡_ {A = ℕ} 0 1 = cc in absurd (omega arith)
+
+number-one : (g h : Gauge) → Meets.MeetsSentences g → Meets.MeetsSentences h → (m : Memory) (c : Call) → Typed c
+    → g m c .answer .number ≡ h m c .answer .number
+number-one g h p q m c ty = go (g m c .answer .number) (h m c .answer .number) refl refl
+  where
+    go : (a b : ℕ) → g m c .answer .number ≡ a → h m c .answer .number ≡ b → g m c .answer .number ≡ h m c .answer .number
+    go zero zero d e = d ∙ sym e
+    go zero (suc b) d e = absurd (p .table .accepted m c ty .0 d (suc b) (q .table .number m c ty (suc b) (omega arith) .0 e .0))
+    go (suc a) zero d e = absurd (q .table .accepted m c ty .0 e (suc a) (p .table .number m c ty (suc a) (omega arith) .0 d .0))
+    go (suc a) (suc b) d e = by (tri (suc a) (suc b))
+      where
+        by : Tri (suc a) (suc b) → g m c .answer .number ≡ h m c .answer .number
+        by (less i) = absurd (q .table .number m c ty (suc b) (omega arith) .0 e .1 (suc a) i (p .table .number m c ty (suc a) (omega arith) .0 d .0))
+        by (same i) = d ∙ i ∙ sym e
+        by (more i) = absurd (p .table .number m c ty (suc a) (omega arith) .0 d .1 (suc b) i (q .table .number m c ty (suc b) (omega arith) .0 e .0))
+
+-- nothing applies: memory was lent in form
+holds : (b : Bool) → (b ≡ false → ⊥) → b ≡ true
+holds true h = refl
+holds false h = absurd (h refl)
+
+does-one : (m : Memory) (c : Call) → ((i : ℕ) → ¬ Num.Applies m c i) → (h h′ : Given) → S.Does m c h → S.Does m c h′ → h ≡ h′
+does-one m (receives own cpa major minor id nonce verdict key datagram output) none h h′ s t =
+    let l = receive own cpa (m .cache) (m .waiting) major minor id nonce verdict key datagram output in
+    receives-one m l (holds _ (λ e. none 1 (Num.out-of-form refl (λ w. not-both (w .cache) e))))
+    (holds _ (λ e. none 1 (Num.out-of-form refl (λ w. not-both (w .waiting) e)))) h h′ s t
+does-one m (sends own major minor id neighbour key output) none h h′ s t =
+    let l = send own (m .cache) (m .waiting) major minor id neighbour key output in
+    sends-one m l (holds _ (λ e. none 1 (Num.send-out-of-form refl (λ w. not-both (w .cache) e)))) h h′ s t
+does-one m (ticks own output) none h h′ s t = ticks-one (keyOf own) m output h h′ s t
+does-one m (lists own output) none h h′ s t =
+    lists-one own m output (holds _ (λ e. none 1 (inl (refl, λ w. not-both (w .1) e)))) h h′ s t
+
+pub one-gauge : Meets.OneGauge
+one-gauge g h p q m c ty = go (g m c .answer .number) refl
+  where
+    n : g m c .answer .number ≡ h m c .answer .number
+    n = number-one g h p q m c ty
+
+    go : (a : ℕ) → g m c .answer .number ≡ a → g m c ≡ h m c
+    go zero e = does-one m c (p .table .accepted m c ty .0 e) (g m c) (h m c) (p .does m c ty e) (q .does m c ty (sym n ∙ e))
+    go (suc a) e = p .table .keeps m c (omega arith) ∙ ap (λ (x : ℕ). given (answer x 0 0) m (outputOf c)) n ∙ sym (q .table .keeps m c (omega (arith, n)))

@@ -1,0 +1,46 @@
+-- To believe. Document 01's third slip, "a late AUTHORITY bringing back a key revoked meanwhile", of any gauge that meets the sentences: after a revocation of a key
+-- is accepted, no AUTHORITY for it is, until an INQUIRE for it was sent. A theorem of the name stands in proofs/LateLaws.antt. Assumes nothing.
+use Prim.Native.Nat.{ℕ}
+use mathlib.Core.Bool.{Bool}
+use mathlib.Core.List.{List, [], _∷_}
+use mathlib.Core.Path.{_≡_}
+use Rattle.key.specs.Number.{keyAt}
+use Rattle.record.specs.Record.{keyOf}
+use Rattle.sentences.specs.Words.{Memory, Call, receives, sends, ticks, lists, Gauge, left, Typed}
+use Rattle.sentences.specs.Heard.{entry, revoke, authority, Hears}
+use Rattle.sentences.specs.Sentences.{MustAsk}
+use Rattle.sentences.specs.Meets.{MeetsSentences}
+
+-- a FLOOD that revokes the key u, by the host's verdict; an AUTHORITY whose CPA is good for it
+abbrev pub Revokes : ℕ → Call → Type 0
+Revokes u (receives own cpa major minor id nonce verdict key datagram output) =
+    (i : ℕ) × (silent : Bool) × (validate : ℕ) × Hears datagram major (revoke i silent validate) × (keyAt 0 key ≡ u)
+Revokes u (sends own major minor id neighbour key output) = ⊥
+Revokes u (ticks own output) = ⊥
+Revokes u (lists own output) = ⊥
+
+abbrev pub Answers : ℕ → Call → Type 0
+Answers u (receives own cpa major minor id nonce verdict key datagram output) =
+    (acked : ℕ) × (c : Bool) × Hears datagram major (authority acked c) × (keyAt 0 key ≡ u)
+Answers u (sends own major minor id neighbour key output) = ⊥
+Answers u (ticks own output) = ⊥
+Answers u (lists own output) = ⊥
+
+-- a FLOOD of a record of the key, which must be inquired about
+abbrev pub AsksFor : ℕ → Memory → Call → Type 0
+AsksFor u m (receives own cpa major minor id nonce verdict key datagram output) =
+    (i : ℕ) × (silent : Bool) × (validate : ℕ) × (r : List ℕ) × Hears datagram major (entry i silent validate r) × (keyOf r ≡ u) × MustAsk (keyOf own) m r
+AsksFor u m (sends own major minor id neighbour key output) = ⊥
+AsksFor u m (ticks own output) = ⊥
+AsksFor u m (lists own output) = ⊥
+
+-- of calls one after the other no accepted one asks for the key
+abbrev pub NoneAsks : Gauge → ℕ → Memory → List Call → Type 0
+NoneAsks g u m [] = Unit {0}
+NoneAsks g u m (c ∷ cs) = Typed c × (g m c .answer .number ≡ 0 → ¬ AsksFor u m c) × NoneAsks g u (g m c .memory) cs
+
+abbrev pub RevokedStaysOut : Type 0
+RevokedStaysOut =
+    (g : Gauge) → MeetsSentences g → (u : ℕ) (m : Memory) (c : Call) → Typed c → Revokes u c → g m c .answer .number ≡ 0
+    → (cs : List Call) → NoneAsks g u (g m c .memory) cs
+    → (late : Call) → Typed late → Answers u late → ¬ (g (left g (g m c .memory) cs) late .answer .number ≡ 0)

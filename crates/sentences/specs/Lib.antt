@@ -1,0 +1,9 @@
+pub mod Words
+pub mod Ours
+pub mod Contracts
+pub mod Heard
+pub mod Sentences
+pub mod Numbers
+pub mod Meets
+pub mod Back
+pub mod Late

@@ -1,0 +1,238 @@
+-- To believe. Document 01's sentences, of any gauge: what is sent, what is held and what waits after each call that is accepted. When a call is refused is in
+-- Numbers, what is signed in Meets. Assumes nothing.
+use Prim.Native.Nat.{ℕ, _-_, _≤_, _<_}
+use mathlib.Core.Bool.{Bool, true, false, cond}
+use mathlib.Core.Logic.{_⊎_, _↔_}
+use mathlib.Core.List.{List, [], _∷_, _++_}
+use mathlib.Core.Option.{none}
+use mathlib.Core.Path.{_≡_}
+use lib.Dec.{leb}
+use lib.ListN.{length}
+use Rattle.octet.specs.Part.{part}
+use Rattle.key.specs.Number.{keyAt}
+use Rattle.key.specs.Around.{Side, below, above, sideOf, nearness, closer}
+use Rattle.record.specs.Record.{keyOf}
+use Rattle.kept.specs.Keys.{_∈_, Rising, plain}
+use Rattle.kept.specs.Neighbours.{IsNeighbours, onSide}
+use Rattle.cache.specs.Form.{keysOf, placesIn, heldOf, cacheForm}
+use Rattle.cache.specs.Bytes.{keyBytes}
+use Rattle.waiting.specs.Place.{idOf, kindOf, triesOf, placeKey, placeRecord}
+use Rattle.waiting.specs.Form.{placesOf, waitingForm}
+use Rattle.waiting.specs.Open.{inquiryPlace, floodPlace}
+use Rattle.waiting.specs.Tick.{oneLess, idBytes}
+use Rattle.wire_fields.specs.Shapes.{Kind}
+use Rattle.wire_fields.specs.Kinds.{floodKinds, inquireKinds, authorityKinds, ackKinds}
+use Rattle.wire_fields.specs.Message.{Message, bytesOf, layoutOf}
+use Rattle.wire_write.specs.Sent.{ackSent, floodSent, inquireSent, cpaSent, closestSent}
+use Rattle.gauge_plan.specs.Rooms.{idAfter}
+use Rattle.gauge_commit.specs.Sending.{answer, lengths, sending}
+use Rattle.gauge.specs.Lent.{Receive, receive, Send, send}
+use Rattle.sentences.specs.Words.{Memory, Call, receives, sends, ticks, lists, Given, given}
+use Rattle.sentences.specs.Heard.{Heard, entry, revoke, inquire, authority, ack, lookup, other, Hears}
+
+-- ---- views: what is held and what waits, for the own key k
+
+-- the record r is held; the place p waits
+abbrev pub Holds : ℕ → Memory → List ℕ → Type 0
+Holds k m r = r ∈ heldOf k (m .cache)
+
+abbrev pub Waits : Memory → List ℕ → Type 0
+Waits m p = p ∈ placesOf (m .waiting)
+
+-- a flood (kind 1) or an inquiry (kind 2) waits with the ID; an inquiry for the key
+abbrev pub WaitsAs : Memory → ℕ → ℕ → List ℕ → Type 0
+WaitsAs m kind id p = Waits m p × (idOf p ≡ id) × (kindOf p ≡ kind)
+
+abbrev pub Inquiry : ℕ → List ℕ → Type 0
+Inquiry u p = (kindOf p ≡ 2) × (placeKey p ≡ u)
+
+-- exactly these records are held, in a cache in form of the same size; exactly these places wait, in a table in form. This is every byte: a memory in form is
+-- the only one with its members (cache-same, table-same in proofs/MembersLaws)
+pub record HoldsExactly (k : ℕ) (lent left : List ℕ) (P : List ℕ → Type 0) : Type 0 where
+  pub form : cacheForm k left ≡ true
+  pub size : length left ≡ length lent
+  pub members : (r : List ℕ) → (r ∈ heldOf k left) ↔ P r
+
+pub record WaitsExactly (k : ℕ) (left : List ℕ) (P : List ℕ → Type 0) : Type 0 where
+  pub form : waitingForm k left ≡ true
+  pub members : (p : List ℕ) → (p ∈ placesOf left) ↔ P p
+
+-- the bytes of a message
+abbrev pub written : List Kind → Message → List ℕ
+written ks msg = bytesOf (layoutOf ks msg)
+
+-- "accepted; the lengths of up to two datagrams to send are returned, in the order written, 0 for one not there": they stand one after the other at the output's
+-- start, and the rest of it is as lent
+pub record Sent (output : List ℕ) (ds : List (List ℕ)) (h : Given) : Type 0 where
+  pub counts : h .answer ≡ lengths ds
+  pub bytes : h .output ≡ sending ds output
+
+-- ---- what is sent in answer
+
+-- "If the very same record is held, or an inquiry for its key is waiting, no more. Otherwise ..": neither is so
+abbrev pub MustAsk : ℕ → Memory → List ℕ → Type 0
+MustAsk k m r = (¬ Holds k m r) × (¬ ((p : List ℕ) × Waits m p × Inquiry (keyOf r) p))
+
+-- "N set when the validate key is not ours"
+abbrev pub NSet : Receive → ℕ → Bool → Type 0
+NSet l validate n = (n ≡ true) ↔ (¬ (validate ≡ keyOf (l .own)))
+
+-- "If D is clear, an ACK is written", with the given ID
+abbrev pub acks : Receive → ℕ → Bool → Bool → List (List ℕ)
+acks l id silent n = cond silent [] (written ackKinds (ackSent (l .major) (l .minor) (l .id) id n) ∷ [])
+
+-- "Otherwise an INQUIRE for its key follows": "the INQUIRE's is one more, and 4294967295 is followed by 0, also where no ACK is written"
+abbrev pub asks : Receive → Bool → List ℕ → List (List ℕ)
+asks l ask r = cond ask (written inquireKinds (inquireSent (l .major) (l .minor) (idAfter (l .id)) (part 0 32 r) (l .nonce)) ∷ []) []
+
+-- "the record closest to the target, the own record included: the least difference ..; at equal difference the smaller key"
+abbrev pub Candidate : Memory → Receive → List ℕ → Type 0
+Candidate m l r = (r ≡ l .own) ⊎ Holds (keyOf (l .own)) m r
+
+pub record Closest (m : Memory) (l : Receive) (target : ℕ) (r : List ℕ) : Type 0 where
+  pub candidate : Candidate m l r
+  pub none-closer : (q : List ℕ) → Candidate m l q → closer target (keyOf q) (keyOf r) ≡ false
+
+pub record EntryReply (m : Memory) (l : Receive) (id : ℕ) (silent : Bool) (validate : ℕ) (r : List ℕ) (ds : List (List ℕ)) : Type 0 where
+  pub n : Bool
+  pub ask : Bool
+  pub set : NSet l validate n
+  pub asked : (ask ≡ true) ↔ MustAsk (keyOf (l .own)) m r
+  pub are : ds ≡ acks l id silent n ++ asks l ask r
+
+pub record RevokeReply (l : Receive) (id : ℕ) (silent : Bool) (validate : ℕ) (ds : List (List ℕ)) : Type 0 where
+  pub n : Bool
+  pub set : NSet l validate n
+  pub are : ds ≡ acks l id silent n
+
+pub record LookupReply (m : Memory) (l : Receive) (id target : ℕ) (ds : List (List ℕ)) : Type 0 where
+  pub r : List ℕ
+  pub closest : Closest m l target r
+  pub are : ds ≡ written authorityKinds (closestSent (l .major) (l .minor) (l .id) id r) ∷ []
+
+-- the datagrams that answer what was heard; SOLICIT, ADVERTISE and REQUEST are never accepted (7)
+abbrev pub Reply : Memory → Receive → Heard → List (List ℕ) → Type 0
+Reply m l (entry id silent validate r) ds = EntryReply m l id silent validate r ds
+Reply m l (revoke id silent validate) ds = RevokeReply l id silent validate ds
+Reply m l (inquire id validate) ds = ds ≡ written authorityKinds (cpaSent (l .major) (l .minor) (l .id) id (l .cpa)) ∷ []
+Reply m l (authority acked cpa) ds = ds ≡ []
+Reply m l (ack acked n) ds = ds ≡ []
+Reply m l (lookup id target) ds = LookupReply m l id target ds
+Reply m l other ds = ⊥
+
+-- ---- what is held and what waits afterwards
+
+-- "A held key has its record replaced. A new key joins."
+abbrev pub More : ℕ → Memory → List ℕ → List ℕ → Type 0
+More k m r q = (q ≡ r) ⊎ (Holds k m q × (¬ (keyOf q ≡ keyOf r)))
+
+-- "take the side of the own key (below, above) with more keys, above if equal"
+abbrev pub fuller : ℕ → List ℕ → Side
+fuller k keys = cond (leb (length (onSide (sideOf k) below keys)) (length (onSide (sideOf k) above keys))) above below
+
+-- "and drop the key farthest out on it, even the newcomer"
+pub record Drops (k : ℕ) (more : List (List ℕ)) (d : List ℕ) : Type 0 where
+  pub there : d ∈ more
+  pub sided : sideOf k (keyOf d) ≡ fuller k (keysOf more)
+  pub farthest : (q : List ℕ) → q ∈ more → sideOf k (keyOf q) ≡ fuller k (keysOf more) → nearness k (keyOf q) ≤ nearness k (keyOf d)
+
+-- "If there are now C + 1": `more` are those that are held now, before any is dropped
+pub record Learns (k : ℕ) (m : Memory) (r left : List ℕ) : Type 0 where
+  pub more : List (List ℕ)
+  pub rising : Rising plain 0 (keysOf more)
+  pub are : (q : List ℕ) → (q ∈ more) ↔ More k m r q
+  pub fits : length more ≤ placesIn (length (m .cache)) → HoldsExactly k (m .cache) left (λ (q : List ℕ). q ∈ more)
+  pub dropped : placesIn (length (m .cache)) < length more
+      → (d : List ℕ) × Drops k more d × HoldsExactly k (m .cache) left (λ (q : List ℕ). (q ∈ more) × (¬ (q ≡ d)))
+
+-- "FLOOD with a route entry": nothing is learned; "its place opens with two tries left"
+pub record FloodEntry (k : ℕ) (m : Memory) (l : Receive) (r : List ℕ) (left : Memory) : Type 0 where
+  pub cache : left .cache ≡ m .cache
+  pub table : WaitsExactly k (left .waiting) (λ (p : List ℕ). Waits m p ⊎ (MustAsk k m r × (p ≡ inquiryPlace (idAfter (l .id)) r)))
+
+-- "FLOOD with a revocation. Verdict 1 names the key. It is removed if held, a waiting inquiry for it is freed"
+pub record FloodRevokes (k : ℕ) (m : Memory) (u : ℕ) (left : Memory) : Type 0 where
+  pub cache : HoldsExactly k (m .cache) (left .cache) (λ (r : List ℕ). Holds k m r × (¬ (keyOf r ≡ u)))
+  pub table : WaitsExactly k (left .waiting) (λ (p : List ℕ). Waits m p × (¬ Inquiry u p))
+
+-- "AUTHORITY. The inquiry's record is learned and its place freed."
+pub record Authority (k : ℕ) (m : Memory) (acked : ℕ) (left : Memory) : Type 0 where
+  pub p : List ℕ
+  pub answers : WaitsAs m 2 acked p
+  pub cache : Learns k m (placeRecord p) (left .cache)
+  pub table : WaitsExactly k (left .waiting) (λ (q : List ℕ). Waits m q × (¬ (q ≡ p)))
+
+-- "ACK. The flood's place is freed. With N set its key is removed if held."
+pub record Ack (k : ℕ) (m : Memory) (acked : ℕ) (n : Bool) (left : Memory) : Type 0 where
+  pub p : List ℕ
+  pub answers : WaitsAs m 1 acked p
+  pub cache : HoldsExactly k (m .cache) (left .cache) (λ (r : List ℕ). Holds k m r × (¬ ((n ≡ true) × (keyOf r ≡ placeKey p))))
+  pub table : WaitsExactly k (left .waiting) (λ (q : List ℕ). Waits m q × (¬ (q ≡ p)))
+
+-- INQUIRE and LOOKUP leave memory as it was: "The route entry in a LOOKUP is not learned"
+abbrev pub Leaves : Memory → Receive → Heard → Memory → Type 0
+Leaves m l (entry id silent validate r) left = FloodEntry (keyOf (l .own)) m l r left
+Leaves m l (revoke id silent validate) left = FloodRevokes (keyOf (l .own)) m (keyAt 0 (l .key)) left
+Leaves m l (inquire id validate) left = left ≡ m
+Leaves m l (authority acked cpa) left = Authority (keyOf (l .own)) m acked left
+Leaves m l (ack acked n) left = Ack (keyOf (l .own)) m acked n left
+Leaves m l (lookup id target) left = left ≡ m
+Leaves m l other left = ⊥
+
+-- ---- what each call does, accepted
+
+pub record Receives (m : Memory) (l : Receive) (h : Given) : Type 0 where
+  pub x : Heard
+  pub hears : Hears (l .datagram) (l .major) x
+  pub ds : List (List ℕ)
+  pub reply : Reply m l x ds
+  pub sent : Sent (l .output) ds h
+  pub leaves : Leaves m l x (h .memory)
+
+-- "a FLOOD to send .. whose record is neither ours nor held": the record is ours, or the one held with the key
+abbrev pub Named : Memory → Send → List ℕ → Type 0
+Named m l r = ((keyAt 0 (l .key) ≡ keyOf (l .own)) × (r ≡ l .own))
+    ⊎ ((¬ (keyAt 0 (l .key) ≡ keyOf (l .own))) × Holds (keyOf (l .own)) m r × (keyOf r ≡ keyAt 0 (l .key)))
+
+abbrev pub flooding : Send → List ℕ → List (List ℕ)
+flooding l r = written floodKinds (floodSent (l .major) (l .minor) (l .id) (l .neighbour) r) ∷ []
+
+-- "Sending a FLOOD. D clear, validate key the neighbour's, one record, empty list of those already reached; a place with the neighbour's key opens with two tries
+-- left."
+pub record Sends (m : Memory) (l : Send) (h : Given) : Type 0 where
+  pub r : List ℕ
+  pub named : Named m l r
+  pub sent : Sent (l .output) (flooding l r) h
+  pub cache : h .memory .cache ≡ m .cache
+  pub table : WaitsExactly (keyOf (l .own)) (h .memory .waiting) (λ (p : List ℕ). Waits m p ⊎ (p ≡ floodPlace (l .id) (l .neighbour)))
+
+-- "Tick. Each place with tries left loses one and its ID is listed, increasing; one with none is freed."
+pub record Ticks (k : ℕ) (m : Memory) (output : List ℕ) (h : Given) : Type 0 where
+  pub ids : List ℕ
+  pub rising : Rising plain 0 ids
+  pub listed : (i : ℕ) → (i ∈ ids) ↔ ((p : List ℕ) × Waits m p × (0 < triesOf p) × (idOf p ≡ i))
+  pub counts : h .answer ≡ answer 0 (length ids) 0
+  pub bytes : h .output ≡ sending (idBytes ids ∷ []) output
+  pub cache : h .memory .cache ≡ m .cache
+  pub table : WaitsExactly k (h .memory .waiting) (λ (q : List ℕ). (p : List ℕ) × Waits m p × (0 < triesOf p) × (q ≡ oneLess p))
+
+-- "Neighbour list. Up to five keys below, then up to five above, nearest first, 32 bytes each; both counts returned": what is handed back is that of these keys
+pub record NeighbourList (k : ℕ) (keys output : List ℕ) (h : Given) : Type 0 where
+  pub low : List ℕ
+  pub high : List ℕ
+  pub nearest-below : IsNeighbours (sideOf k) (nearness k) below keys low
+  pub nearest-above : IsNeighbours (sideOf k) (nearness k) above keys high
+  pub counts : h .answer ≡ answer 0 (length low) (length high)
+  pub bytes : h .output ≡ sending (keyBytes (low ++ high) ∷ []) output
+
+-- of the keys held
+pub record Lists (k : ℕ) (m : Memory) (output : List ℕ) (h : Given) : Type 0 where
+  pub listed : NeighbourList k (keysOf (heldOf k (m .cache))) output h
+  pub same : h .memory ≡ m
+
+abbrev pub Does : Memory → Call → Given → Type 0
+Does m (receives own cpa major minor id nonce verdict key datagram output) h =
+    Receives m (receive own cpa (m .cache) (m .waiting) major minor id nonce verdict key datagram output) h
+Does m (sends own major minor id neighbour key output) h = Sends m (send own (m .cache) (m .waiting) major minor id neighbour key output) h
+Does m (ticks own output) h = Ticks (keyOf own) m output h
+Does m (lists own output) h = Lists (keyOf own) m output h

@@ -17,14 +17,21 @@
  * What holds for all of them:
  *
  * - What is lent is a pointer and a length in bytes, one after the other. It is lent for that call alone: the gauge keeps no pointer, and hands none
- *   back. A pointer is not NULL, not even with length 0. Any length may be lent: one that is not right is answered by a number.
+ *   back. A pointer is not NULL, not even with length 0. Any length may be lent that something in C can have (PTRDIFF_MAX, below 2^63): one that is
+ *   not right is answered by a number.
  * - `const` is lent for reading. All else is lent for writing too, and may then not overlap anything else that is lent to the same call. The
  *   gauge cannot test that.
+ * - Nothing else writes what is lent before the call returns, `const` or not: no other thread, no interrupt, no radio that fills its receive buffer
+ *   by itself (DMA). Copy such a buffer, and lend the copy. The gauge cannot test that either.
  * - Every call returns, whatever the bytes are, and its answer begins with a number (below): 0, or the lowest of those that apply. gauge_balance has
  *   nothing to refuse: its answer is the balance.
  * - With any number but 0 nothing has changed: each byte is as it was lent, and the rest of the answer is 0.
  * - With 0 the output has changed in its first bytes only, as many as the call says; and cache and waiting table are in form again.
  * - The calls on one gauge's memory come one after the other. Gauges that share no memory do not know of each other.
+ * - A call takes at most GAUGE_STACK_MOST bytes of the stack that it is called on, whatever the bytes are: what is passed there, the return address and
+ *   all below it, with 256 bytes for a memcpy, memmove or memset of your C library. A loader that looks these up at their first call takes more then:
+ *   link with -z now, or statically. No call allots memory, and none calls anything of yours.
+ * - How floating-point numbers are rounded, and whether they trap, does not matter to any call: a depth is looked at by its bits.
  *
  * Numbers are of fixed width; build with -Wconversion, so that none loses bits on the way: a verdict of 257 in eight bits would be 1, and good.
  * From C's library the archive wants memcpy, memmove and memset.
@@ -77,6 +84,7 @@ extern "C" {
 #define GAUGE_TICK_LEN 64         /* what gauge_tick asks for, always */
 #define GAUGE_LIST_LEN 320        /* what gauge_neighbours asks for, always */
 #define GAUGE_CARRY_LEN 20        /* what a reading adds to an AUTHORITY that has no payload, whatever its kind */
+#define GAUGE_STACK_MOST 4096     /* no call takes more stack than this */
 
 /* A record, by place: key (32), port (2, most significant byte first), how many addresses (1, from 1 to 4), a zero byte, four addresses of 16 bytes
  * as they stand on the wire. Those not used are zero. */

@@ -10,7 +10,7 @@ use Rattle.key.specs.Around.{Side, below, above, sideOf}
 use Rattle.kept.specs.History.{Event}
 use Rattle.kept.specs.Neighbours.{onSide}
 use Rattle.kept.specs.Plain.{kept}
-use Rattle.wire_write.specs.Sent.{floodMade}
+use Rattle.wire_write.specs.Making.{floodMade}
 use Rattle.gauge_commit.specs.declared.Answer.{Answer}
 use Rattle.sentences.specs.Words.{Call, lists, ticks, Given, Gauge, empty, left, log, Proper}
 use Rattle.sentences.specs.Sentences.{NeighbourList}

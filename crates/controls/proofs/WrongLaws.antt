@@ -9,7 +9,7 @@ use Rattle.waiting.specs.Form.{usedOf}
 use Rattle.waiting.specs.Place.{newPlace}
 use Rattle.wire_fields.specs.Kinds.{floodKinds}
 use Rattle.wire_fields.specs.Message as message
-use Rattle.wire_write.specs.Sent.{floodMade}
+use Rattle.wire_write.specs.Making.{floodMade}
 use Rattle.sentences.specs.Words.{Call, receives, ticks, Given}
 use Rattle.sentences.proofs.ComputedLaws.{computed}
 use Rattle.signed.specs.Cases.{key, recordWith, holding, hears, inquiryFor, authority, lookupOf}

@@ -11,7 +11,7 @@ use Rattle.octet.specs.Number.{valueBE}
 use Rattle.octet.specs.Part.{part}
 use Rattle.key.specs.Number.{keyAt}
 use Rattle.record.specs.Record.{keyOf, countOf, recordForm}
-use Rattle.record.specs.Entry.{entryForm}
+use Rattle.record.specs.Entry.{entryForm, recordOf}
 use Rattle.refusal.specs.Table.{when, orRefuse}
 use Rattle.refusal.proofs.CallLaws.{or-known}
 use Rattle.table.specs.Rows.{rows, Laid}
@@ -40,8 +40,8 @@ use Rattle.gauge_plan.specs.declared.memory.Memory.the-variants.{Unfit, Fit}
 use Rattle.gauge_plan.proofs.MemoryLaws as memory
 use Rattle.gauge_plan.proofs.FloodLaws as flood
 use Rattle.gauge_plan.proofs.AnsweringLaws as answering
-use Rattle.record.specs.Entry.{recordOf}
-use Rattle.gauge.specs.Lent.{Receive, Handed}
+use Rattle.gauge.specs.Lent.{Receive}
+use Rattle.gauge.specs.Handed.{Handed}
 use Rattle.gauge.specs.Receive.{byEntry, planFor, planIn, receivePlan, carried, receiveCall}
 use Rattle.gauge.proofs.AnswerLaws.{EntryIn, KnownAnswer, known-answer}
 

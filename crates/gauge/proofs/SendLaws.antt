@@ -6,15 +6,17 @@ use Prim.Native.Nat.{ℕ, _+_, _*_, _≤_, _<_}
 use lib.ListN.{length}
 use Rattle.record.specs.Record.{recordForm}
 use Rattle.table.specs.Rows.{rows, bytesOf, Laid}
-use Rattle.waiting.specs.Open.{opened, floodPlace}
-use Rattle.wire_write.specs.Sent.{floodMade}
+use Rattle.waiting.specs.Open.{opened}
+use Rattle.waiting.specs.Place.{floodPlace}
+use Rattle.wire_write.specs.Making.{floodMade}
 use Rattle.gauge_plan.specs.Send.{recordSent, floodRoom}
 use Rattle.gauge_plan.specs.declared.send.SendPlan.{SendPlan}
 use Rattle.gauge_plan.specs.declared.send.SendPlan.the-variants.{Refuse, Flood}
 use Rattle.gauge_plan.proofs.SendLaws as planned
 use Rattle.gauge_commit.specs.declared.Answer.{Answer}
 use Rattle.gauge_commit.specs.Sending.{answer, lengths, sending}
-use Rattle.gauge.specs.Lent.{Send, handed}
+use Rattle.gauge.specs.Lent.{Send}
+use Rattle.gauge.specs.Handed.{handed}
 use Rattle.gauge.specs.Send.{sendPlan, sendCarried, sendCall}
 
 -- ---- what is known of a plan

@@ -1,5 +1,6 @@
--- To believe. Tick and neighbour list as the radio program calls them: "how many are listed is returned"; "Up to five keys below, then up to five above,
--- nearest first", with the two counts. Each answers document 01's number and two counts; what they do is in waiting and cache. Assumes nothing.
+-- Helps the code. Tick and neighbour list as the radio program calls them: "how many are listed is returned"; "Up to five keys below, then up to five above,
+-- nearest first", with the two counts. Each answers document 01's number and two counts; what they do is in waiting and cache. Tied to document 01 by
+-- `ours-meets` (sentences/Theorems). Assumes nothing.
 use Prim.Native.Nat.{ℕ}
 use mathlib.Core.List.{List}
 use Rattle.cache.specs.Calls.{Written, listCall}

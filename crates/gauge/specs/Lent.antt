@@ -2,8 +2,6 @@
 -- the order written, 0 for one not there"; "With any refusal the counts returned are 0 .. and every writable byte stays as lent". Assumes nothing.
 use Prim.Native.Nat.{ℕ}
 use mathlib.Core.List.{List}
-use Rattle.gauge_commit.specs.declared.Answer.{Answer}
-use Rattle.gauge_commit.specs.Sending.{answer}
 
 -- what a received datagram comes with
 pub record Receive : Type 0 where
@@ -62,17 +60,3 @@ send own cache waiting major minor id neighbour key output =
       key = key;
       output = output;
     }
-
--- what is handed back: the answer, and the memory that was lent for writing
-pub record Handed : Type 0 where
-  pub given : Answer
-  pub cache : List ℕ
-  pub waiting : List ℕ
-  pub output : List ℕ
-
-abbrev pub handed : Answer → List ℕ → List ℕ → List ℕ → Handed
-handed a cache waiting output = record { given = a; cache = cache; waiting = waiting; output = output }
-
--- a refusal: no counts, all as lent
-abbrev pub refusedWith : ℕ → List ℕ → List ℕ → List ℕ → Handed
-refusedWith n cache waiting output = handed (answer n 0 0) cache waiting output

@@ -2,3 +2,4 @@ pub mod Lent
 pub mod Receive
 pub mod Counts
 pub mod Send
+pub mod Handed

@@ -1,5 +1,5 @@
--- To believe. A datagram received: the plan for the message that it holds, and what is then done. Nothing is done before the last refusal is decided.
--- Assumes nothing.
+-- Helps the code. A datagram received: the plan for the message that it holds, and what is then done. Nothing is done before the last refusal is decided. Tied
+-- to document 01 by `ours-meets` (sentences/Theorems). Assumes nothing.
 use Prim.Native.Nat.{ℕ}
 use mathlib.Core.Bool.{Bool, not, cond}
 use mathlib.Core.List.{[], _∷_, _++_}
@@ -12,25 +12,27 @@ use Rattle.refusal.specs.Table.{when, orRefuse}
 use Rattle.table.specs.Rows.{rows, bytesOf}
 use Rattle.cache.specs.Bytes.{afterLearn, afterRemove}
 use Rattle.cache.specs.Closest.{candidates, closestOf}
-use Rattle.waiting.specs.Place.{placeKey, placeRecord}
+use Rattle.waiting.specs.Place.{placeKey, placeRecord, inquiryPlace}
 use Rattle.waiting.specs.Form.{isInquiry}
 use Rattle.waiting.specs.Seek.{seek}
-use Rattle.waiting.specs.Open.{opened, freed, inquiryPlace}
+use Rattle.waiting.specs.Open.{opened, freed}
 use Rattle.wire_fields.specs.declared.Part.{Part}
 use Rattle.wire_fields.specs.declared.Part.the-variants.{Here, Absent}
 use Rattle.wire_read.specs.Answers as R
 use Rattle.wire_read.specs.declared.Head.{Head}
 use Rattle.wire_read.specs.declared.Answer as T
 use Rattle.wire_read.specs.declared.Answer.the-variants as M
-use Rattle.wire_write.specs.Sent.{cpaMade, closestMade}
+use Rattle.wire_write.specs.Making.{cpaMade, closestMade}
 use Rattle.gauge_plan.specs.declared.Plan.{Plan}
 use Rattle.gauge_plan.specs.declared.Plan.the-variants.{Refuse, Flood, Revoke, Learn, Free, Certify, Show}
 use Rattle.gauge_plan.specs.declared.memory.Memory.{Memory}
 use Rattle.gauge_plan.specs.declared.memory.Memory.the-variants.{Unfit, Fit}
-use Rattle.gauge_commit.specs.Sending.{answer, lengths, sending, acks, asks, freedAt}
-use Rattle.gauge.specs.Lent.{Receive, Handed, handed, refusedWith}
+use Rattle.gauge_commit.specs.Sending.{answer, lengths, sending}
+use Rattle.gauge_commit.specs.Replies.{acks, asks, freedAt}
+use Rattle.gauge.specs.Lent.{Receive}
+use Rattle.gauge.specs.Handed.{Handed, handed, refusedWith}
 use Rattle.gauge_plan.specs.Memory.{memoryOf, handsFit}
-use Rattle.gauge_plan.specs.Rooms.{idAfter}
+use Rattle.gauge_plan.specs.Ids.{idAfter}
 use Rattle.gauge_plan.specs.Flood.{floodPlan, revokePlan}
 use Rattle.gauge_plan.specs.Answering.{authorityPlan, ackPlan, inquirePlan, lookupPlan}
 

@@ -12,7 +12,7 @@ use Rattle.octet.proofs.PartLaws.{part-at}
 use Rattle.record.specs.Record.{countOf, recordForm}
 use Rattle.record.specs.Entry.{entryOf}
 use Rattle.record.proofs.PlaceLaws.{record-at, entry-length}
-use Rattle.wire_write.specs.Sent.{ackMade, floodMade, inquireMade, cpaMade, closestMade}
+use Rattle.wire_write.specs.Making.{ackMade, floodMade, inquireMade, cpaMade, closestMade}
 
 module _ (major minor id : ℕ) where
   pub ack-length : (acked : ℕ) (n : Bool) → length (ackMade major minor id acked n .bytes) ≡ cond n 26 20

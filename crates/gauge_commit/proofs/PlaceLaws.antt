@@ -26,7 +26,7 @@ use Rattle.waiting.specs.Open.{freed}
 use Rattle.waiting.specs.Seek.{seek}
 use Rattle.waiting.proofs.PlaceLaws.{key-at, record-at}
 use Rattle.waiting.proofs.SeekLaws.{found-within}
-use Rattle.gauge_commit.specs.Sending.{freedAt}
+use Rattle.gauge_commit.specs.Replies.{freedAt}
 
 -- ---- of a place, as lent
 

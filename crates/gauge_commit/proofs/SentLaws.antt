@@ -21,10 +21,12 @@ use Rattle.table.proofs.RowLaws.{joined-append}
 use Rattle.table.proofs.PieceLaws.{part-start, splice-whole}
 use Rattle.wire_write.specs.declared.Written.{Written}
 use Rattle.wire_write.specs.Writing.{Made, fit, writeAs, writeIn, Wrote}
-use Rattle.wire_write.specs.Sent.{ackMade, floodMade, inquireMade, cpaMade, closestMade}
-use Rattle.gauge_plan.specs.Rooms.{idAfter, ackRoom, inquireRoom}
+use Rattle.wire_write.specs.Making.{ackMade, floodMade, inquireMade, cpaMade, closestMade}
+use Rattle.gauge_plan.specs.Rooms.{ackRoom, inquireRoom}
+use Rattle.gauge_plan.specs.Ids.{idAfter}
 use Rattle.gauge_plan.specs.Send.{recordSent, floodRoom}
-use Rattle.gauge_commit.specs.Sending.{answer, lengths, sending, acks, asks}
+use Rattle.gauge_commit.specs.Sending.{answer, lengths, sending}
+use Rattle.gauge_commit.specs.Replies.{acks, asks}
 use Rattle.gauge_commit.proofs.LengthLaws.{ack-length, inquire-length, cpa-length, closest-length, flood-length}
 
 -- ---- one datagram

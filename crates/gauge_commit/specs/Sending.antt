@@ -1,17 +1,12 @@
 -- To believe. What an accepted call answers and leaves: "the lengths of up to two datagrams to send are returned, in the order written, 0 for one not there";
--- the datagrams stand one after the other at the output's start. The ACK of a FLOOD, and the INQUIRE that follows it. Assumes nothing.
-use Prim.Native.Nat.{ℕ}
-use mathlib.Core.Bool.{Bool, cond}
-use mathlib.Core.List.{List, [], _∷_}
-use lib.ListN.{length, getD}
-use Rattle.octet.specs.Part.{part, splice}
+-- the datagrams stand one after the other at the output's start. Assumes nothing.
+use Prim.Native.Nat.{ℕ, _≤_}
+use mathlib.Core.List.{List, []}
+use lib.ListN.{length, getD, drop}
+use Rattle.octet.specs.Part.{splice}
 use Rattle.table.specs.Rows.{joined}
-use Rattle.waiting.specs.Open.{freed}
-use Rattle.waiting.specs.declared.seek.Found.{Found}
-use Rattle.waiting.specs.declared.seek.Found.the-variants.{At, Nothing}
-use Rattle.wire_write.specs.Sent.{ackMade, inquireMade}
-use Rattle.gauge_plan.specs.Rooms.{idAfter}
 use Rattle.gauge_commit.specs.declared.Answer.{Answer}
+use mathlib.Core.Path.{_≡_}
 
 abbrev pub answer : ℕ → ℕ → ℕ → Answer
 answer n first second = record { number = n; first = first; second = second }
@@ -23,14 +18,6 @@ lengths ds = answer 0 (length (getD ds 0 [])) (length (getD ds 1 []))
 abbrev pub sending : List (List ℕ) → List ℕ → List ℕ
 sending ds output = splice 0 (joined ds) output
 
--- the ACK, where D is clear; the INQUIRE for a record's key, where a place opens
-abbrev pub acks : ℕ → ℕ → ℕ → Bool → ℕ → Bool → List (List ℕ)
-acks major minor id silent acked n = cond silent [] (ackMade major minor id acked n .bytes ∷ [])
-
-abbrev pub asks : ℕ → ℕ → ℕ → Bool → List ℕ → List ℕ → List (List ℕ)
-asks major minor id opens nonce r = cond opens (inquireMade major minor (idAfter id) (part 0 32 r) nonce .bytes ∷ []) []
-
--- the places without the one found
-abbrev pub freedAt : Found → List (List ℕ) → List (List ℕ)
-freedAt (At i) ps = freed i ps
-freedAt Nothing ps = ps
+-- "On acceptance the output changes only in its first bytes, as many as returned." So it is with a refusal, which returns none.
+abbrev pub OnlyFirst : ℕ → List ℕ → List ℕ → Type 0
+OnlyFirst n lent left = (n ≤ length lent) × (length left ≡ length lent) × (drop n left ≡ drop n lent)

@@ -13,14 +13,16 @@ ghost use Rattle.kept.specs.Plain.{NotOwn};
 ghost use Rattle.cache.specs.Form.{Form};
 ghost use Rattle.cache.specs.Bytes.{afterLearn, afterRemove};
 ghost use Rattle.cache.specs.Closest.{candidates, closestOf};
-ghost use Rattle.waiting.specs.Place.{placeKey, placeRecord};
+ghost use Rattle.waiting.specs.Place.{placeKey, placeRecord, inquiryPlace, floodPlace};
 ghost use Rattle.waiting.specs.Form.{isInquiry};
 ghost use Rattle.waiting.specs.Seek.{seek};
-ghost use Rattle.waiting.specs.Open.{opened, freed, inquiryPlace, floodPlace};
-ghost use Rattle.wire_write.specs.Sent.{inquireMade, cpaMade, closestMade, floodMade};
-ghost use Rattle.gauge_plan.specs.Rooms.{idAfter, ackRoom, inquireRoom};
+ghost use Rattle.waiting.specs.Open.{opened, freed};
+ghost use Rattle.wire_write.specs.Making.{inquireMade, cpaMade, closestMade, floodMade};
+ghost use Rattle.gauge_plan.specs.Rooms.{ackRoom, inquireRoom};
+ghost use Rattle.gauge_plan.specs.Ids.{idAfter};
 ghost use Rattle.gauge_plan.specs.Send.{recordSent, floodRoom};
-ghost use Rattle.gauge_commit.specs.Sending.{answer, lengths, sending, acks, asks, freedAt};
+ghost use Rattle.gauge_commit.specs.Sending.{answer, lengths, sending};
+ghost use Rattle.gauge_commit.specs.Replies.{acks, asks, freedAt};
 
 // What the first four calls answer: document 01's number, and two lengths or counts.
 #[repr(C)]

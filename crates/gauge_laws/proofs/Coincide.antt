@@ -1,7 +1,7 @@
 -- Any two results that a contract allows coincide. Assumes nothing.
 use mathlib.Core.Path.{sym, _∙_}
 use Rattle.look.specs.declared.Look.{Look}
-use Rattle.gauge.specs.Lent.{Handed}
+use Rattle.gauge.specs.Handed.{Handed}
 use Rattle.gauge.specs.Counts.{TickHanded, ListHanded}
 use Rattle.gauge_laws.specs.Contracts.{OneResult, ReceiveOne, SendOne, TickOne, ListOne, LookOne}
 

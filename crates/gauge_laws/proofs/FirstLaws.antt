@@ -27,18 +27,21 @@ use Rattle.cache.specs.Calls.{Written, written, heldBy, listWrong, listCall}
 use Rattle.cache.specs.Closest.{candidates, closestOf}
 use Rattle.cache.proofs.ListLaws.{keys-length}
 use Rattle.waiting.specs.Form.{usedOf, placesOf}
-use Rattle.waiting.specs.Tick.{listed, idBytes}
+use Rattle.waiting.specs.Tick.{idBytes}
+use Rattle.waiting.specs.Ticking.{listed}
 use Rattle.waiting.specs.Call as W
 use Rattle.waiting.proofs.TickLaws.{ids-length, listed-few}
 use Rattle.waiting.proofs.FormLaws.{used-few}
-use Rattle.wire_write.specs.Sent.{floodMade, cpaMade, closestMade}
-use Rattle.gauge_plan.specs.Rooms.{idAfter, inquireRoom}
+use Rattle.wire_write.specs.Making.{floodMade, cpaMade, closestMade}
+use Rattle.gauge_plan.specs.Rooms.{inquireRoom}
+use Rattle.gauge_plan.specs.Ids.{idAfter}
 use Rattle.gauge_plan.specs.declared.Plan.{Plan}
 use Rattle.gauge_plan.specs.declared.Plan.the-variants.{Refuse, Flood, Revoke, Learn, Free, Certify, Show}
 use Rattle.gauge_plan.specs.Send.{recordSent, floodRoom}
 use Rattle.gauge_plan.specs.declared.send.SendPlan.{SendPlan}
 use Rattle.gauge_plan.specs.declared.send.SendPlan.the-variants as S
-use Rattle.gauge_commit.specs.Sending.{lengths, sending, acks, asks}
+use Rattle.gauge_commit.specs.Sending.{lengths, sending, OnlyFirst}
+use Rattle.gauge_commit.specs.Replies.{acks, asks}
 use Rattle.gauge_commit.proofs.LengthLaws.{inquire-length, cpa-length, closest-length, flood-length}
 use Rattle.gauge_commit.proofs.SentLaws.{joined-one, asked, acks-room, record-long}
 use Rattle.gauge_commit.proofs.PlaceLaws.{closest-formed}
@@ -49,7 +52,7 @@ use Rattle.gauge.specs.Counts.{gaugeTick, gaugeList}
 use Rattle.gauge.proofs.ReceiveLaws.{Known, known}
 use Rattle.gauge.proofs.SendLaws.{KnownSend, send-known}
 use Rattle.gauge_laws.specs.Calls.{receives, sends, ticks, lists}
-use Rattle.gauge_laws.specs.Statements.{OnlyFirst, FirstBytes}
+use Rattle.gauge_laws.specs.Statements.{FirstBytes}
 
 -- ---- bytes at its start
 

@@ -4,5 +4,5 @@ pub mod RefusedLaws
 pub mod FirstLaws
 pub mod MovedLaws
 pub mod FormLaws
-pub mod GoneLaws
+pub mod TickLaws
 pub mod Coincide

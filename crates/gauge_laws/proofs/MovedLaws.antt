@@ -19,16 +19,16 @@ use Rattle.refusal.proofs.CallLaws.{all-pass}
 use Rattle.table.specs.Rows.{rows, bytesOf}
 use Rattle.table.proofs.RowLaws.{rows-length}
 use Rattle.cache.specs.Form.{heldIn, heldOf}
-use Rattle.waiting.specs.Place.{idOf, kindOf}
+use Rattle.waiting.specs.Place.{idOf, kindOf, inquiryPlace, floodPlace}
 use Rattle.waiting.specs.Form.{Form, anyOf, isInquiry, usedOf, placesOf}
 use Rattle.waiting.specs.Seek.{seek, hasId}
-use Rattle.waiting.specs.Open.{opened, freed, inquiryPlace, floodPlace}
+use Rattle.waiting.specs.Open.{opened, freed}
 use Rattle.waiting.specs.declared.seek.Found.{Found}
 use Rattle.waiting.specs.declared.seek.Found.the-variants.{At, Nothing}
 use Rattle.waiting.proofs.NewLaws.{new-id, new-kind}
 use Rattle.waiting.proofs.FormLaws.{form-of, form-unique}
 use Rattle.waiting.proofs.KeptLaws.{free-kept, open-inquiry, open-flood}
-use Rattle.gauge_plan.specs.Rooms.{idAfter}
+use Rattle.gauge_plan.specs.Ids.{idAfter}
 use Rattle.gauge_plan.specs.Send.{sendDone, sendingPlan}
 use Rattle.gauge_plan.specs.declared.Plan.{Plan}
 use Rattle.gauge_plan.specs.declared.Plan.the-variants.{Refuse, Flood, Revoke, Learn, Free, Certify, Show}
@@ -36,15 +36,15 @@ use Rattle.gauge_plan.specs.declared.send.SendPlan.{SendPlan}
 use Rattle.gauge_plan.specs.declared.send.SendPlan.the-variants as S
 use Rattle.gauge_plan.proofs.MemoryLaws.{Ready, ready}
 use Rattle.gauge_plan.proofs.FloodLaws.{ask-tells}
-use Rattle.gauge_commit.specs.Sending.{freedAt}
-use Rattle.gauge.specs.Lent.{Receive, Send, Handed}
+use Rattle.gauge_commit.specs.Replies.{freedAt}
+use Rattle.gauge.specs.Lent.{Receive, Send}
+use Rattle.gauge.specs.Handed.{Handed}
 use Rattle.gauge.specs.Receive.{receivePlan, carried, receiveCall}
 use Rattle.gauge.specs.Send.{sendPlan, sendCarried, sendCall}
 use Rattle.gauge.specs.Counts.{TickHanded, gaugeTick}
 use Rattle.gauge.proofs.ReceiveLaws.{Known, Flooded, known}
 use Rattle.gauge.proofs.SendLaws.{KnownSend, send-known-by, send-by}
 use Rattle.gauge_laws.specs.Calls.{Call, receives, sends, ticks, lists, IdFits}
-use Rattle.gauge_laws.specs.History.{IsLent, tableAfter, isTick}
 use Rattle.gauge_laws.specs.Table.{tableOf}
 use Rattle.gauge_laws.proofs.TableLaws.{none-applies}
 use Rattle.gauge_laws.proofs.RefusedLaws.{receive-refused, send-refused, tick-refused}
@@ -221,18 +221,3 @@ module _ (l : Send) where
       go : (n : ℕ) → sendCall l .given .number ≡ n → Moved (Opens (sends l)) (placesOf (l .waiting)) (placesOf (sendCall l .waiting))
       go zero e = left-moved (Opens (sends l)) (keyOf (l .own)) (l .waiting) (sendCall l .waiting) (send-left e small)
       go (suc n) e = stays (ap (λ (h : Handed). placesOf (h .waiting)) (send-refused l (omega arith)))
-
--- ---- any call
-
-some-number : (n : ℕ) → (n ≡ 0 → ⊥) → 0 < n
-some-number zero h = absurd (h refl)
-some-number (suc n) h = omega arith
-
-pub call-moved : (t : List ℕ) (c : Call) → IsLent t c → IdFits c → isTick c ≡ false → Moved (Opens c) (placesOf t) (placesOf (tableAfter t c))
-call-moved t (receives l) e i n = subst (λ (s : List ℕ). Moved (Opens (receives l)) (placesOf s) (placesOf (receiveCall l .waiting))) e (receive-moved l)
-call-moved t (sends l) e i n = subst (λ (s : List ℕ). Moved (Opens (sends l)) (placesOf s) (placesOf (sendCall l .waiting))) e (send-moved l i)
-call-moved t (ticks own waiting output) e i n =
-    stays (ap (λ (h : TickHanded). placesOf (h .waiting))
-    (tick-refused own waiting output (some-number (gaugeTick own waiting output .given .number) (eqb-false (gaugeTick own waiting output .given .number) 0 n)))
-    ∙ ap placesOf e)
-call-moved t (lists own cache output) e i n = stays refl

@@ -14,7 +14,8 @@ use Rattle.gauge_plan.specs.declared.Plan.the-variants.{Refuse, Flood, Revoke, 
 use Rattle.gauge_plan.specs.declared.send.SendPlan.{SendPlan}
 use Rattle.gauge_plan.specs.declared.send.SendPlan.the-variants as S
 use Rattle.gauge_commit.specs.Sending.{answer}
-use Rattle.gauge.specs.Lent.{Receive, Send, Handed, refusedWith}
+use Rattle.gauge.specs.Lent.{Receive, Send}
+use Rattle.gauge.specs.Handed.{Handed, refusedWith}
 use Rattle.gauge.specs.Counts.{TickHanded, ticked, tickAnswered, gaugeTick, ListHanded, listed, listAnswered, gaugeList}
 use Rattle.gauge.specs.Receive.{receivePlan, carried, receiveCall}
 use Rattle.gauge.specs.Send.{sendPlan, sendCarried, sendCall}

@@ -1,4 +1,5 @@
--- To believe. One call of the radio program, whichever it is: what it answers, and what it was lent for writing, as lent and as left. Assumes nothing.
+-- Helps the code. One call of the radio program, whichever it is: what it answers, and what it was lent for writing, as lent and as left. Tied to document 01
+-- by `ours-meets` (sentences/Theorems). Assumes nothing.
 use Prim.Native.Nat.{ℕ, _+_, _*_, _^_, _<_}
 use mathlib.Core.Bool.{Bool}
 use mathlib.Core.List.{List, [], _∷_}

@@ -1,5 +1,6 @@
--- To believe. Any two results that a call's contract allows are equal: the answer, and every writable slice at exit. `Post` is what the function's own
--- `ensures` says of its arguments a, its result r and its parameters at exit s. A theorem of each name stands in proofs/. Assumes nothing.
+-- Helps the code. Any two results that a call's contract allows are equal: the answer, and every writable slice at exit. `Post` is what the function's own
+-- `ensures` says of its arguments a, its result r and its parameters at exit s. A theorem of each name stands in proofs/. That the results are those of our
+-- gauge is in sentences/Contracts. Assumes nothing.
 use mathlib.Core.Path.{_≡_}
 use contract.Lifetimes.{Lfts}
 use borrow.Fn.World.{ArgsD, ResD}
@@ -15,7 +16,7 @@ use Rattle.gauge.proofs.gauge_neighbours as listing
 use Rattle.gauge.proofs.gauge_neighbours.Reads as listed
 use Rattle.gauge.proofs.gauge_look as looking
 use Rattle.gauge.proofs.gauge_look.Reads as looked
-use Rattle.gauge.specs.Lent.{Handed, handed}
+use Rattle.gauge.specs.Handed.{Handed, handed}
 use Rattle.gauge.specs.Counts as Counts
 
 -- 5. Of any contract that says of a result, with what is left in memory, that it is what a definition gives.

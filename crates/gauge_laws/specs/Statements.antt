@@ -1,15 +1,14 @@
--- To believe. What holds of every call, 1 to 4; that two results coincide is in Contracts. A theorem of each name stands in proofs/. Assumes nothing.
+-- Helps the code. What holds of every call, 1 to 3; that two results coincide is in Contracts. A theorem of each name stands in proofs/. Tied to document 01
+-- by `ours-meets` (sentences/Theorems). Assumes nothing.
 use Prim.Native.Nat.{ℕ, _≤_, _<_}
 use mathlib.Core.Path.{_≡_}
 use mathlib.Core.Logic.{_↔_}
 use mathlib.Core.List.{List}
 use mathlib.Core.Bool.{true, false}
-use lib.ListN.{length, drop}
 use Rattle.kept.specs.Keys.{Every}
 use Rattle.refusal.specs.Table.{Refusal, appliesIn}
-use Rattle.gauge_commit.specs.Sending.{answer}
+use Rattle.gauge_commit.specs.Sending.{answer, OnlyFirst}
 use Rattle.gauge_laws.specs.Calls.{Call, IdFits, Memory, made}
-use Rattle.gauge_laws.specs.History.{OnTable, tickCount, waitsAfterEach}
 use Rattle.gauge_laws.specs.Table.{tableOf}
 
 -- 1. "With any refusal the counts returned are 0 .. and every writable byte stays as lent."
@@ -31,18 +30,9 @@ Accepted = (c : Call) → (made c .given .number ≡ 0) ↔ ((m : ℕ) → appli
 abbrev pub RefusalNumbers : Type 0
 RefusalNumbers = (c : Call) → Every (λ (r : Refusal). (0 < r .number) × (r .number ≤ 15)) (tableOf c)
 
--- 2. "On acceptance the output changes only in its first bytes, as many as returned." So it is with a refusal, which returns none.
-abbrev pub OnlyFirst : ℕ → List ℕ → List ℕ → Type 0
-OnlyFirst n lent left = (n ≤ length lent) × (length left ≡ length lent) × (drop n left ≡ drop n lent)
-
 abbrev pub FirstBytes : Type 0
 FirstBytes = (c : Call) → OnlyFirst (made c .returned) (made c .lent) (made c .left)
 
 -- 3. "An accepted call leaves the cache, the waiting table and such memory in form."
 abbrev pub FormKept : Type 0
 FormKept = (c : Call) → IdFits c → made c .given .number ≡ 0 → Every (λ (m : Memory). m .form (m .left) ≡ true) (made c .memory)
-
--- 4. "A place is gone after three accepted ticks at the latest", whatever calls are made between them: of calls one after the other on one waiting table, three
--- of them accepted ticks, there is one after which no place with the ID waits.
-abbrev pub GoneByThird : Type 0
-GoneByThird = (id : ℕ) (t : List ℕ) (cs : List Call) → OnTable t cs → 3 ≤ tickCount cs → waitsAfterEach id t cs ≡ false

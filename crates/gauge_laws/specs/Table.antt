@@ -1,5 +1,5 @@
--- To believe. The table of refusals of each call, 1 to 15 in document 01's order. Of a datagram received: memory, what is handed in, reading, and the rows of
--- the message that was read. Assumes nothing.
+-- Helps the code. The table of refusals of each call, 1 to 15 in document 01's order. Of a datagram received: memory, what is handed in, reading, and the rows
+-- of the message that was read. Tied to document 01 by `ours-meets` (sentences/Theorems). Assumes nothing.
 use Prim.Native.Nat.{ℕ}
 use mathlib.Core.Bool.{Bool, true, not}
 use mathlib.Core.List.{List, [], _∷_, _++_}

@@ -25,9 +25,9 @@ use Rattle.waiting.specs.Form.{anyOf, isInquiry}
 use Rattle.waiting.specs.Seek.{hasId, seek}
 use Rattle.waiting.specs.declared.seek.Found.{Found}
 use Rattle.waiting.proofs.WalkLaws.{isFound, any-found}
-use Rattle.gauge_plan.specs.Flood.{notOurs, mustAsk}
-use Rattle.gauge_plan.specs.Rooms.{ackRoom, inquireRoom, idAfter}
-use Rattle.gauge_plan.specs.Flood.{floodRefusals, floodPlan, revokeRefusals, revokePlan}
+use Rattle.gauge_plan.specs.Flood.{notOurs, mustAsk, floodRefusals, floodPlan, revokeRefusals, revokePlan}
+use Rattle.gauge_plan.specs.Rooms.{ackRoom, inquireRoom}
+use Rattle.gauge_plan.specs.Ids.{idAfter}
 use Rattle.gauge_plan.specs.declared.Plan.{Plan}
 use Rattle.gauge_plan.specs.declared.Plan.the-variants.{Refuse, Flood, Revoke, Learn, Free, Certify, Show}
 

@@ -1,6 +1,7 @@
--- To believe. AUTHORITY, ACK, INQUIRE and LOOKUP received: what is refused, and what is planned. "8: ACK whose acked ID is no waiting flood, AUTHORITY
--- whose acked ID is no waiting inquiry"; "9: AUTHORITY without CPA, or verdict not 1 where a CPA is needed"; "10: AUTHORITY's verdict is good for another
--- key than the one inquired"; "12: INQUIRE for a key other than ours"; "15: output needs more bytes than lent". Assumes nothing.
+-- Helps the code. AUTHORITY, ACK, INQUIRE and LOOKUP received: what is refused, and what is planned. "8: ACK whose acked ID is no waiting flood, AUTHORITY
+-- whose acked ID is no waiting inquiry"; "9: AUTHORITY without CPA, or verdict not 1 where a CPA is needed"; "10: AUTHORITY's verdict is good for another key
+-- than the one inquired"; "12: INQUIRE for a key other than ours"; "15: output needs more bytes than lent". Tied to document 01 by `ours-meets`
+-- (sentences/Theorems). Assumes nothing.
 use Prim.Native.Nat.{ℕ, _+_, _*_}
 use mathlib.Core.Bool.{Bool, true, false, not, _||_}
 use mathlib.Core.List.{List, [], _∷_}

@@ -1,6 +1,7 @@
--- To believe. A FLOOD received: "If D is clear, an ACK is written, N set when the validate key is not ours. If the very same record is held, or an
--- inquiry for its key is waiting, no more. Otherwise an INQUIRE for its key follows and its place opens with two tries left"; "Verdict 1 names the key.
--- It is removed if held, a waiting inquiry for it is freed, and the ACK is as above". What is refused, and what is planned. Assumes nothing.
+-- Helps the code. A FLOOD received: "If D is clear, an ACK is written, N set when the validate key is not ours. If the very same record is held, or an inquiry
+-- for its key is waiting, no more. Otherwise an INQUIRE for its key follows and its place opens with two tries left"; "Verdict 1 names the key. It is removed
+-- if held, a waiting inquiry for it is freed, and the ACK is as above". What is refused, and what is planned. Tied to document 01 by `ours-meets`
+-- (sentences/Theorems). Assumes nothing.
 use Prim.Native.Nat.{ℕ, _+_, _^_, _%_}
 use mathlib.Core.Bool.{Bool, not, cond, _&&_}
 use mathlib.Core.List.{List, [], _∷_}
@@ -12,7 +13,8 @@ use Rattle.record.specs.Entry.{recordOf}
 use Rattle.refusal.specs.Table.{Refusal, when, orRefuse}
 use Rattle.waiting.specs.Form.{anyOf, isInquiry}
 use Rattle.waiting.specs.Seek.{hasId}
-use Rattle.gauge_plan.specs.Rooms.{idAfter, ackRoom, inquireRoom}
+use Rattle.gauge_plan.specs.Rooms.{ackRoom, inquireRoom}
+use Rattle.gauge_plan.specs.Ids.{idAfter}
 use Rattle.gauge_plan.specs.declared.Plan.{Plan}
 use Rattle.gauge_plan.specs.declared.Plan.the-variants.{Refuse, Flood, Revoke}
 

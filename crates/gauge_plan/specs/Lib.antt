@@ -3,3 +3,4 @@ pub mod Memory
 pub mod Flood
 pub mod Answering
 pub mod Send
+pub mod Ids

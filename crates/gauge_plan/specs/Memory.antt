@@ -1,4 +1,5 @@
--- To believe. Whether lent memory is as document 01 has it: "1: lent memory is not as above". It is tested whole, whatever the message needs. Assumes nothing.
+-- Helps the code. Whether lent memory is as document 01 has it: "1: lent memory is not as above". It is tested whole, whatever the message needs. Tied to
+-- document 01 by `ours-meets` (sentences/Theorems). Assumes nothing.
 use Prim.Native.Nat.{ℕ}
 use mathlib.Core.Bool.{Bool, _&&_, cond}
 use mathlib.Core.List.{List}

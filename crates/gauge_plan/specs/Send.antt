@@ -1,5 +1,6 @@
--- To believe. A FLOOD to send: "12: .. a FLOOD to send whose neighbour is not held, or whose record is neither ours nor held"; "13: a place must be opened
--- and its ID is waiting already"; "14: .. all 16 are used"; "15: output needs more bytes than lent". What is refused, and what is planned. Assumes nothing.
+-- Helps the code. A FLOOD to send: "12: .. a FLOOD to send whose neighbour is not held, or whose record is neither ours nor held"; "13: a place must be opened
+-- and its ID is waiting already"; "14: .. all 16 are used"; "15: output needs more bytes than lent". What is refused, and what is planned. Tied to document 01
+-- by `ours-meets` (sentences/Theorems). Assumes nothing.
 use Prim.Native.Nat.{ℕ, _+_, _*_}
 use mathlib.Core.Bool.{Bool, not, cond, _&&_}
 use mathlib.Core.List.{List, [], _∷_}

@@ -1,5 +1,6 @@
--- To believe. What the radio program is told of a message: "Reading a message without acting on it gives 0 to 6, and 7 only for an AUTHORITY in part". With 0:
--- the type, the message ID and the acked ID, and where in the datagram those fields stand that the program must judge or sign. Assumes nothing.
+-- Helps the code. What the radio program is told of a message: "Reading a message without acting on it gives 0 to 6, and 7 only for an AUTHORITY in part".
+-- With 0: the type, the message ID and the acked ID, and where in the datagram those fields stand that the program must judge or sign. Tied to the message
+-- read by `look-means` (look/MeansLaws). Assumes nothing.
 use Prim.Native.Nat.{ℕ}
 use Rattle.wire_fields.specs.declared.Part.{Part}
 use Rattle.wire_fields.specs.declared.Part.the-variants.{Here, Absent}

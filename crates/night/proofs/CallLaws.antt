@@ -7,7 +7,8 @@ use borrow.Author.Tests.{eq-eqb, ne-eqb}
 use Rattle.octet.specs.Number.{valueLE}
 use Rattle.octet.specs.Part.{part}
 use Rattle.gauge_commit.specs.declared.Answer.{Answer}
-use Rattle.gauge.specs.Lent.{Handed, receive, send, handed}
+use Rattle.gauge.specs.Lent.{receive, send}
+use Rattle.gauge.specs.Handed.{Handed, handed}
 use Rattle.gauge.specs.Receive.{receiveCall}
 use Rattle.gauge.specs.Send.{sendCall}
 use Rattle.gauge.specs.Counts as G

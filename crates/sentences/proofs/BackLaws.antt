@@ -23,12 +23,13 @@ use Rattle.cache.specs.Form.{cacheForm, heldIn, heldOf}
 use Rattle.cache.proofs.FormLaws.{true-form}
 use Rattle.wire_fields.specs.Kinds.{ackKinds, floodKinds, inquireKinds, authorityKinds}
 use Rattle.wire_write.specs.Writing.{fit}
-use Rattle.wire_write.specs.Sent.{ackSent, floodSent, inquireSent, cpaSent, closestSent, floodMade, inquireMade, cpaMade, closestMade}
+use Rattle.wire_write.specs.Sent.{ackSent, floodSent, inquireSent, cpaSent, closestSent}
+use Rattle.wire_write.specs.Making.{floodMade, inquireMade, cpaMade, closestMade}
 use Rattle.wire.specs.Sending.{Numbers}
 use Rattle.wire.proofs.BytesLaws.{bytes-nil, bytes-cons, bytes-append, bytes-zeros}
 use Rattle.wire.proofs.SendingLaws as formed
 use Rattle.wire.proofs.Theorems.{written-back}
-use Rattle.gauge_plan.specs.Rooms.{idAfter}
+use Rattle.gauge_plan.specs.Ids.{idAfter}
 use Rattle.gauge_commit.proofs.LengthLaws.{cpa-length, flood-length}
 use Rattle.gauge_laws.proofs.FirstLaws.{whole-record}
 use Rattle.gauge.specs.Lent.{Receive, Send}

@@ -19,14 +19,15 @@ use Rattle.waiting.specs.Place.{newPlace}
 use Rattle.waiting.specs.Form.{placeForm, anyOf, placesForm, usedIn, usedOf, waitingForm}
 use Rattle.waiting.specs.Seek.{seek}
 use Rattle.waiting.specs.Open.{opened, freed}
-use Rattle.waiting.specs.Tick.{ticked, listed, idBytes}
+use Rattle.waiting.specs.Tick.{idBytes}
+use Rattle.waiting.specs.Ticking.{ticked, listed}
 use Rattle.waiting.specs.Call.{tickRefusals, tickDone, tickCall}
 use Rattle.wire_fields.specs.Shapes.{arrayForm, lookupForm, splitForm, hasShape}
 use Rattle.wire_fields.specs.Kinds as kinds
 use Rattle.wire_fields.specs.Reading.{spanAt, needAt, maybeAt, placesAt, fieldsAs, wholeIn}
 use Rattle.wire_fields.specs.Refusals.{inPart, foundIn}
 use Rattle.wire_read.specs.Answers.{flagAt, headOf, precisionAt, shown}
-use Rattle.wire_write.specs.Sent.{ackMade, floodMade, inquireMade, cpaMade, closestMade}
+use Rattle.wire_write.specs.Making.{ackMade, floodMade, inquireMade, cpaMade, closestMade}
 use Rattle.gauge_plan.specs.Memory.{tablesFit, memoryOf, handsFit}
 use Rattle.gauge_plan.specs.Flood.{mustAsk, floodPlan, revokePlan}
 use Rattle.gauge_plan.specs.Answering.{authorityPlan, lookupPlan}

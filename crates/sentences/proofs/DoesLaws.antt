@@ -22,24 +22,27 @@ use Rattle.cache.specs.Form.{keysOf, heldIn, heldOf, cacheForm}
 use Rattle.cache.specs.Bytes.{keyBytes, countsOf, afterList}
 use Rattle.cache.specs.Calls.{Written, written, heldBy, listWrong, listCall}
 use Rattle.cache.proofs.CallLaws.{list-right}
-use Rattle.waiting.specs.Place.{idOf, triesOf}
+use Rattle.waiting.specs.Place.{idOf, triesOf, floodPlace}
 use Rattle.waiting.specs.Form.{usedOf, placesOf, waitingForm}
-use Rattle.waiting.specs.Tick.{oneLess, ticked, listed, idBytes}
+use Rattle.waiting.specs.Tick.{oneLess, idBytes}
+use Rattle.waiting.specs.Ticking.{ticked, listed}
 use Rattle.waiting.specs.Call as W
 use Rattle.waiting.specs.Seek.{seek}
-use Rattle.waiting.specs.Open.{opened, floodPlace}
+use Rattle.waiting.specs.Open.{opened}
 use Rattle.waiting.proofs.FormLaws.{Placed, form-placed, form-of}
 use Rattle.waiting.proofs.KeptLaws.{tick-kept}
 use Rattle.waiting.proofs.RoundLaws as round
 use Rattle.waiting.proofs.CallLaws as call
 use Rattle.waiting.proofs.SeekLaws.{found-within}
 use Rattle.wire_fields.specs.Kinds.{floodKinds}
-use Rattle.wire_write.specs.Sent.{floodSent, floodMade}
+use Rattle.wire_write.specs.Sent.{floodSent}
+use Rattle.wire_write.specs.Making.{floodMade}
 use Rattle.gauge_plan.specs.Send.{recordSent, heldAt, sendDone}
 use Rattle.gauge_plan.specs.Answering.{isNothing, placeOf}
 use Rattle.gauge_commit.specs.Sending.{answer, lengths, sending}
 use Rattle.gauge_commit.proofs.SentLaws.{joined-one}
-use Rattle.gauge.specs.Lent.{Send, Handed}
+use Rattle.gauge.specs.Lent.{Send}
+use Rattle.gauge.specs.Handed.{Handed}
 use Rattle.gauge.specs.Send.{sendCall, sendCarried}
 use Rattle.gauge.specs.Counts.{TickHanded, tickAnswered, gaugeTick, ListHanded, listAnswered, gaugeList}
 use Rattle.gauge.proofs.SendLaws.{send-by}

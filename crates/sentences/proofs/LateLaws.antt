@@ -14,8 +14,7 @@ use Rattle.record.specs.Record.{keyOf, recordForm}
 use Rattle.record.specs.Entry.{recordOf}
 use Rattle.record.proofs.EntryLaws.{form-length, record-form}
 use Rattle.kept.proofs.WithoutLaws.{eq-or}
-use Rattle.waiting.specs.Place.{idOf, kindOf, placeKey}
-use Rattle.waiting.specs.Open.{inquiryPlace, floodPlace}
+use Rattle.waiting.specs.Place.{idOf, kindOf, placeKey, inquiryPlace, floodPlace}
 use Rattle.waiting.specs.Tick.{oneLess}
 use Rattle.waiting.proofs.NewLaws.{new-key, new-kind}
 use Rattle.waiting.proofs.PlaceLaws.{less-kind, less-key}

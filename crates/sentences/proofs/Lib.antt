@@ -16,3 +16,5 @@ pub mod Theorems
 pub mod BackLaws
 pub mod LateLaws
 pub mod ComputedLaws
+pub mod ListedLaws
+pub mod GoneLaws

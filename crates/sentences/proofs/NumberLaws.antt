@@ -32,17 +32,19 @@ use Rattle.waiting.specs.Form.{isInquiry, anyOf, usedOf, placesOf, waitingForm}
 use Rattle.waiting.specs.Seek.{seek, isAt, hasId}
 use Rattle.wire_fields.specs.Shapes.{Kind}
 use Rattle.wire_fields.specs.Kinds.{kindsOf, present, authorityKinds}
-use Rattle.wire_fields.specs.Message.{opening}
+use Rattle.wire_fields.specs.Message.{opening, typeOf}
 use Rattle.wire_fields.specs.Refusals as fields
-use Rattle.wire_fields.specs.Refusals.{typeOf, inPart, fieldsIn}
+use Rattle.wire_fields.specs.Refusals.{inPart, fieldsIn}
 use Rattle.wire_fields.specs.declared.Part.{Part}
 use Rattle.wire_fields.specs.declared.Part.the-variants.{Here, Absent}
 use Rattle.wire_read.specs.Answers as R
 use Rattle.wire_read.specs.Meaning.{numberOf}
 use Rattle.wire_read.specs.declared.Answer as T
 use Rattle.wire_read.specs.declared.Answer.the-variants as M
-use Rattle.wire_write.specs.Sent.{ackMade, inquireMade, cpaMade, closestMade, closestSent}
-use Rattle.gauge_plan.specs.Rooms.{idAfter, ackRoom, inquireRoom}
+use Rattle.wire_write.specs.Sent.{closestSent}
+use Rattle.wire_write.specs.Making.{ackMade, inquireMade, cpaMade, closestMade}
+use Rattle.gauge_plan.specs.Rooms.{ackRoom, inquireRoom}
+use Rattle.gauge_plan.specs.Ids.{idAfter}
 use Rattle.gauge_plan.specs.Memory.{tablesFit, handsFit}
 use Rattle.gauge_plan.specs.Flood.{notOurs, mustAsk}
 use Rattle.gauge_plan.specs.Answering.{isNothing, placeOf}

@@ -26,7 +26,8 @@ use Rattle.waiting.specs.Form.{anyOf, usedOf, placesOf, waitingForm}
 use Rattle.waiting.specs.Seek.{seek, hasId}
 use Rattle.waiting.specs.Call as W
 use Rattle.wire_fields.specs.Kinds.{floodKinds}
-use Rattle.wire_write.specs.Sent.{floodSent, floodMade}
+use Rattle.wire_write.specs.Sent.{floodSent}
+use Rattle.wire_write.specs.Making.{floodMade}
 use Rattle.gauge_plan.specs.Memory.{tablesFit}
 use Rattle.gauge_plan.specs.Send.{keysFit, heldAt, floodRoom, sendRefusals}
 use Rattle.gauge_plan.specs.Answering.{isNothing, placeOf}

@@ -9,12 +9,11 @@ use native.Mathlib.Omega.{arith}
 use Rattle.record.specs.Record.{keyOf}
 use Rattle.refusal.specs.Table.{appliesIn}
 use Rattle.cache.specs.Form.{cacheForm}
-use Rattle.gauge_commit.specs.Sending.{answer}
+use Rattle.gauge_commit.specs.Sending.{answer, OnlyFirst}
 use Rattle.gauge.specs.Lent.{receive, send}
 use Rattle.gauge.specs.Counts.{TickHanded, ListHanded}
 use Rattle.gauge_laws.specs.Calls as G
 use Rattle.gauge_laws.specs.Table.{tableOf}
-use Rattle.gauge_laws.specs.Statements.{OnlyFirst}
 use Rattle.gauge_laws.proofs.TableLaws.{exactly, accepted}
 use Rattle.gauge_laws.proofs.RefusedLaws.{receive-refused, send-refused, tick-refused, list-refused}
 use Rattle.gauge_laws.proofs.FirstLaws.{first-bytes}

@@ -14,7 +14,8 @@ use Rattle.octet.proofs.TestLaws.{both-true}
 use Rattle.wire_fields.specs.Field.{numberAt}
 use Rattle.wire_fields.specs.Shapes.{hasShape, splitForm}
 use Rattle.wire_fields.specs.Reading.{spanAt, needOf, needAt, wholeIn}
-use Rattle.wire_fields.specs.Refusals.{typeOf, inPart, partByAcked, partBySplit}
+use Rattle.wire_fields.specs.Refusals.{inPart, partByAcked, partBySplit}
+use Rattle.wire_fields.specs.Message.{typeOf}
 use Rattle.wire_fields.specs.declared.Shape.{Shape}
 use Rattle.wire_fields.specs.declared.Shape.the-variants.{Sized, Split}
 use Rattle.wire_fields.specs.declared.Span.{Span}

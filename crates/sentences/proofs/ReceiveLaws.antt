@@ -29,10 +29,10 @@ use Rattle.cache.specs.Bytes.{afterRemove}
 use Rattle.cache.specs.Closest.{candidates, closestOf}
 use Rattle.cache.proofs.FormLaws.{true-form}
 use Rattle.cache.proofs.ClosestLaws.{closest-among, closest-least}
-use Rattle.waiting.specs.Place.{idOf, kindOf, placeKey, placeRecord}
+use Rattle.waiting.specs.Place.{idOf, kindOf, placeKey, placeRecord, inquiryPlace}
 use Rattle.waiting.specs.Form.{isInquiry, anyOf, usedOf, placesOf, waitingForm, placeForm}
 use Rattle.waiting.specs.Seek.{seek, isAt, hasId}
-use Rattle.waiting.specs.Open.{opened, freed, inquiryPlace}
+use Rattle.waiting.specs.Open.{opened, freed}
 use Rattle.waiting.specs.declared.seek.Found.{Found}
 use Rattle.waiting.specs.declared.seek.Found.the-variants.{At, Nothing}
 use Rattle.waiting.proofs.FormLaws.{form-placed, form-of}
@@ -41,6 +41,7 @@ use Rattle.waiting.proofs.SeekLaws.{found-within, placed-at}
 use Rattle.waiting.proofs.PlaceLaws.{inquiry-record, inquiry-key, inquiry-other}
 use Rattle.waiting.specs.Form as W
 use Rattle.wire_fields.specs.Kinds.{authorityKinds}
+use Rattle.wire_fields.specs.Message.{typeOf}
 use Rattle.wire_fields.specs.Refusals as fields
 use Rattle.wire_fields.specs.declared.Part.{Part}
 use Rattle.wire_fields.specs.declared.Part.the-variants.{Here, Absent}
@@ -49,8 +50,9 @@ use Rattle.wire_read.specs.Meaning.{numberOf}
 use Rattle.wire_read.specs.declared.Head.{Head}
 use Rattle.wire_read.specs.declared.Answer as T
 use Rattle.wire_read.specs.declared.Answer.the-variants as M
-use Rattle.wire_write.specs.Sent.{closestSent, ackMade, inquireMade, cpaMade, closestMade}
-use Rattle.gauge_plan.specs.Rooms.{idAfter}
+use Rattle.wire_write.specs.Sent.{closestSent}
+use Rattle.wire_write.specs.Making.{ackMade, inquireMade, cpaMade, closestMade}
+use Rattle.gauge_plan.specs.Ids.{idAfter}
 use Rattle.gauge_plan.specs.Memory.{tablesFit, memoryOf, handsFit}
 use Rattle.gauge_plan.specs.Flood.{notOurs, mustAsk, floodPlan, revokePlan, floodRefusals, revokeRefusals}
 use Rattle.gauge_plan.specs.Answering.{isNothing, placeOf, authorityPlan, ackPlan, inquirePlan, lookupPlan, authorityRefusals, ackRefusals, inquireRefusals, lookupRefusals}
@@ -58,10 +60,11 @@ use Rattle.gauge_plan.specs.declared.Plan.{Plan}
 use Rattle.gauge_plan.specs.declared.Plan.the-variants.{Refuse, Flood, Revoke, Learn, Free, Certify, Show}
 use Rattle.gauge_plan.specs.declared.memory.Memory.the-variants.{Unfit, Fit}
 use Rattle.gauge_plan.proofs.MemoryLaws.{Ready, Handed, known-hands}
-use Rattle.gauge_commit.specs.Sending.{answer, lengths, sending, freedAt}
+use Rattle.gauge_commit.specs.Sending.{answer, lengths, sending}
+use Rattle.gauge_commit.specs.Replies.{freedAt}
 use Rattle.gauge_commit.proofs.PlaceLaws.{closest-formed}
 use Rattle.gauge.specs.Lent.{Receive}
-use Rattle.gauge.specs.Lent as H
+use Rattle.gauge.specs.Handed as H
 use Rattle.gauge.specs.Receive.{byEntry, planFor, receivePlan, carried, receiveCall}
 use Rattle.gauge.proofs.AnswerLaws.{EntryIn, KnownAnswer, known-answer}
 use Rattle.gauge.proofs.ReceiveLaws.{plan-message, call-by}
@@ -376,7 +379,7 @@ module _ (l : Receive) where
         passed _ _ _ bars (lookup-does (head .id) target)
 
   -- an accepted call read a message
-  accepted-reads : receiveCall l .given .number ≡ 0 → fields.foundIn (l .datagram) (l .major) ≡ fields.found (fields.typeOf (l .datagram)) (fields.placesOf (fields.fieldsIn (l .datagram)))
+  accepted-reads : receiveCall l .given .number ≡ 0 → fields.foundIn (l .datagram) (l .major) ≡ fields.found (typeOf (l .datagram)) (fields.placesOf (fields.fieldsIn (l .datagram)))
   unfolding fields.foundIn
   accepted-reads z = all-pass fields.refused (fields.refusals (l .datagram) (l .major)) _ (fails-front (fields.refusals (l .datagram) (l .major)) (messageRows l (R.answer (l .datagram) (l .major))) (none-applies (G.receives l) z .1 .1))
     where

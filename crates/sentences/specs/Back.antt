@@ -1,12 +1,11 @@
 -- To believe. "What we write reads back as the same message", of each datagram that a call sends. Assumes nothing.
-use Prim.Native.Nat.{ℕ}
+use Prim.Native.Nat.{ℕ, _^_, _<_}
 use mathlib.Core.List.{List}
 use mathlib.Core.Path.{_≡_}
 use Rattle.octet.specs.Number.{Bytes}
 use Rattle.kept.specs.Keys.{Every}
 use Rattle.wire_fields.specs.Shapes.{Kind}
 use Rattle.wire_fields.specs.Message.{Message, Reads}
-use Rattle.wire.specs.Sending.{Numbers}
 use Rattle.gauge.specs.Lent.{Receive, Send}
 use Rattle.sentences.specs.Words.{memory}
 use Rattle.sentences.specs.Heard.{Heard}
@@ -19,7 +18,7 @@ ReadsBack d = (ks : List Kind) × (msg : Message) × (d ≡ written ks msg) × R
 
 -- what the types of a call say of all that goes into a datagram
 pub record Bytewise (l : Receive) : Type 0 where
-  pub numbers : Numbers (l .major) (l .minor) (l .id)
+  pub numbers : (l .major < 256) × (l .minor < 256) × (l .id < 2 ^ 32)
   pub own : Bytes (l .own)
   pub cpa : Bytes (l .cpa)
   pub cache : Bytes (l .cache)
@@ -27,7 +26,7 @@ pub record Bytewise (l : Receive) : Type 0 where
   pub datagram : Bytes (l .datagram)
 
 pub record BytewiseSend (l : Send) : Type 0 where
-  pub numbers : Numbers (l .major) (l .minor) (l .id)
+  pub numbers : (l .major < 256) × (l .minor < 256) × (l .id < 2 ^ 32)
   pub own : Bytes (l .own)
   pub cache : Bytes (l .cache)
   pub neighbour : Bytes (l .neighbour)

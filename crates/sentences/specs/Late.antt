@@ -1,4 +1,4 @@
--- To believe. Document 01's third slip, "a late AUTHORITY bringing back a key revoked meanwhile", of any gauge that meets the sentences: after a revocation of a key
+-- Beside the demands. Document 01's third slip, "a late AUTHORITY bringing back a key revoked meanwhile", of any gauge that meets the sentences: after a revocation of a key
 -- is accepted, no AUTHORITY for it is, until an INQUIRE for it was sent. A theorem of the name stands in proofs/LateLaws.antt. Assumes nothing.
 use Prim.Native.Nat.{ℕ}
 use mathlib.Core.Bool.{Bool}

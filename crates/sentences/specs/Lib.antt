@@ -7,3 +7,4 @@ pub mod Numbers
 pub mod Meets
 pub mod Back
 pub mod Late
+pub mod Listed

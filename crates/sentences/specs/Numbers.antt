@@ -17,10 +17,9 @@ use Rattle.waiting.specs.Place.{idOf, placeKey}
 use Rattle.waiting.specs.Form.{placesOf, waitingForm}
 use Rattle.wire_fields.specs.Shapes.{splitForm}
 use Rattle.wire_fields.specs.Kinds.{kindsOf}
-use Rattle.wire_fields.specs.Message.{opening}
-use Rattle.wire_fields.specs.Refusals.{typeOf}
+use Rattle.wire_fields.specs.Message.{opening, typeOf}
 use Rattle.wire_fields.specs.Field.{numberAt}
-use Rattle.gauge_plan.specs.Rooms.{idAfter}
+use Rattle.gauge_plan.specs.Ids.{idAfter}
 use Rattle.gauge.specs.Lent.{Receive, receive, Send, send}
 use Rattle.sentences.specs.Words.{Memory, Call, receives, sends, ticks, lists}
 use Rattle.sentences.specs.Heard.{Heard, entry, revoke, inquire, authority, ack, other, Hears}

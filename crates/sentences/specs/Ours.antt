@@ -1,6 +1,7 @@
 -- Helps the code. Our gauge: the definitions that the contracts of the exported calls name, as one gauge. Nobody has to read what it does: it meets the sentences
 -- (`ours-meets`), which leave no second gauge (`one-gauge`, proofs/Theorems), and the exported calls are it (specs/Contracts). Assumes nothing.
-use Rattle.gauge.specs.Lent.{Handed, receive, send}
+use Rattle.gauge.specs.Lent.{receive, send}
+use Rattle.gauge.specs.Handed.{Handed}
 use Rattle.gauge.specs.Receive.{receiveCall}
 use Rattle.gauge.specs.Send.{sendCall}
 use Rattle.gauge.specs.Counts.{gaugeTick, gaugeList}

@@ -16,15 +16,14 @@ use Rattle.kept.specs.Keys.{_∈_, Rising, plain}
 use Rattle.kept.specs.Neighbours.{IsNeighbours, onSide}
 use Rattle.cache.specs.Form.{keysOf, placesIn, heldOf, cacheForm}
 use Rattle.cache.specs.Bytes.{keyBytes}
-use Rattle.waiting.specs.Place.{idOf, kindOf, triesOf, placeKey, placeRecord}
+use Rattle.waiting.specs.Place.{idOf, kindOf, triesOf, placeKey, placeRecord, inquiryPlace, floodPlace}
 use Rattle.waiting.specs.Form.{placesOf, waitingForm}
-use Rattle.waiting.specs.Open.{inquiryPlace, floodPlace}
 use Rattle.waiting.specs.Tick.{oneLess, idBytes}
 use Rattle.wire_fields.specs.Shapes.{Kind}
 use Rattle.wire_fields.specs.Kinds.{floodKinds, inquireKinds, authorityKinds, ackKinds}
 use Rattle.wire_fields.specs.Message.{Message, bytesOf, layoutOf}
 use Rattle.wire_write.specs.Sent.{ackSent, floodSent, inquireSent, cpaSent, closestSent}
-use Rattle.gauge_plan.specs.Rooms.{idAfter}
+use Rattle.gauge_plan.specs.Ids.{idAfter}
 use Rattle.gauge_commit.specs.Sending.{answer, lengths, sending}
 use Rattle.gauge.specs.Lent.{Receive, receive, Send, send}
 use Rattle.sentences.specs.Words.{Memory, Call, receives, sends, ticks, lists, Given, given}

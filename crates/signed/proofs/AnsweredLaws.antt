@@ -26,11 +26,11 @@ use Rattle.cache.specs.Form.{Form, heldOf, placesIn}
 use Rattle.cache.specs.Bytes.{afterLearn, afterRemove}
 use Rattle.cache.proofs.FormLaws.{form-held}
 use Rattle.cache.proofs.KeepLaws.{learnt-form, removed-form}
-use Rattle.waiting.specs.Place.{idOf, kindOf, placeKey, placeRecord, newPlace}
+use Rattle.waiting.specs.Place.{idOf, kindOf, placeKey, placeRecord, newPlace, inquiryPlace, floodPlace}
 use Rattle.waiting.specs.Form as W
 use Rattle.waiting.specs.Form.{isInquiry, placesOf}
 use Rattle.waiting.specs.Seek.{seek, hasId}
-use Rattle.waiting.specs.Open.{opened, freed, inquiryPlace, floodPlace}
+use Rattle.waiting.specs.Open.{opened, freed}
 use Rattle.waiting.specs.Tick.{oneLess}
 use Rattle.waiting.specs.declared.seek.Found.{Found}
 use Rattle.waiting.specs.declared.seek.Found.the-variants.{At, Nothing}
@@ -40,22 +40,23 @@ use Rattle.waiting.proofs.FormLaws.{form-unique}
 use Rattle.waiting.proofs.KeptLaws.{free-kept, open-inquiry}
 use Rattle.waiting.proofs.RoundLaws.{All, all-none, all-at, all-map, all-both, all-freed, all-opened, all-ticked}
 use Rattle.wire_read.specs.Answers as R
-use Rattle.gauge_plan.specs.Rooms.{idAfter}
+use Rattle.gauge_plan.specs.Ids.{idAfter}
 use Rattle.gauge_plan.specs.declared.Plan.{Plan}
 use Rattle.gauge_plan.specs.declared.Plan.the-variants.{Refuse, Flood, Revoke, Learn, Free, Certify, Show}
 use Rattle.gauge_plan.proofs.MemoryLaws.{Ready}
 use Rattle.gauge_plan.proofs.FloodLaws.{ask-tells}
-use Rattle.gauge_commit.specs.Sending.{freedAt}
+use Rattle.gauge_commit.specs.Replies.{freedAt}
 use Rattle.gauge_commit.specs.declared.Answer.{Answer}
 use Rattle.gauge_commit.proofs.PlaceLaws.{record-place, record-key}
-use Rattle.gauge.specs.Lent.{Receive, receive, send, Handed}
+use Rattle.gauge.specs.Lent.{Receive, receive, send}
+use Rattle.gauge.specs.Handed.{Handed}
 use Rattle.gauge.specs.Receive.{receivePlan, carried, receiveCall}
 use Rattle.gauge.specs.Send.{sendCall}
 use Rattle.gauge.specs.Counts.{TickHanded, gaugeTick}
 use Rattle.gauge.proofs.ReceiveLaws.{Known, Flooded, known, learn-needs}
 use Rattle.gauge_laws.proofs.RefusedLaws.{receive-refused, tick-refused}
 use Rattle.gauge_laws.proofs.MovedLaws.{ready-form, ready-places, receive-ready, send-moved}
-use Rattle.gauge_laws.proofs.GoneLaws.{tick-round}
+use Rattle.gauge_laws.proofs.TickLaws.{tick-round}
 use Rattle.gauge_laws.proofs.FormLaws.{send-cache}
 use Rattle.sentences.specs.Words.{Memory, memory, Call, receives, sends, ticks, lists, empty, left, OneKey, Typed, Proper}
 use Rattle.sentences.specs.Ours.{asGiven, ours}

@@ -14,6 +14,7 @@ use Rattle.kept.specs.History.{learned, removed}
 use Rattle.cache.specs.Form.{heldIn, heldOf}
 use Rattle.waiting.specs.Form.{usedOf, placesOf}
 use Rattle.waiting.specs.Seek.{seek, isAt}
+use Rattle.wire_fields.specs.Message.{typeOf}
 use Rattle.wire_fields.specs.Refusals as fields
 use Rattle.wire_fields.specs.declared.Part.{Part}
 use Rattle.wire_fields.specs.declared.Part.the-variants.{Here, Absent}
@@ -83,7 +84,7 @@ module _ (l : Receive) where
   is-message : AllFail (fields.refusals (l .datagram) (l .major)) → IsMessage (R.answer (l .datagram) (l .major))
   unfolding fields.foundIn
   is-message f =
-      let done = fields.found (fields.typeOf (l .datagram)) (fields.placesOf (fields.fieldsIn (l .datagram))) in
+      let done = fields.found (typeOf (l .datagram)) (fields.placesOf (fields.fieldsIn (l .datagram))) in
       subst (λ (x : fields.Found). IsMessage (R.shown (l .datagram) x)) (sym (all-pass fields.refused (fields.refusals (l .datagram) (l .major)) done f))
       (shown-message (l .datagram) _ _)
 

@@ -26,8 +26,8 @@ use Rattle.wire_read.specs.Answers as R
 use Rattle.wire_read.specs.declared.Head.{Head}
 use Rattle.wire_read.specs.declared.Answer as T
 use Rattle.wire_read.specs.declared.Answer.the-variants as M
-use Rattle.wire_write.specs.Sent.{inquireMade}
-use Rattle.gauge_plan.specs.Rooms.{idAfter}
+use Rattle.wire_write.specs.Making.{inquireMade}
+use Rattle.gauge_plan.specs.Ids.{idAfter}
 use Rattle.gauge_plan.specs.Memory.{tablesFit, memoryOf, handsFit}
 use Rattle.gauge_plan.specs.Flood.{floodPlan, revokePlan}
 use Rattle.gauge_plan.specs.Answering.{placeOf, authorityRefusals, authorityPlan, ackPlan, inquirePlan, lookupPlan}
@@ -35,7 +35,8 @@ use Rattle.gauge_plan.specs.declared.Plan.{Plan}
 use Rattle.gauge_plan.specs.declared.Plan.the-variants.{Refuse, Flood, Revoke, Learn, Free, Certify, Show}
 use Rattle.gauge_plan.specs.declared.memory.Memory.the-variants.{Fit}
 use Rattle.gauge_plan.proofs.AnsweringLaws.{Waits, waits, some-found}
-use Rattle.gauge_commit.specs.Sending.{lengths, acks, asks}
+use Rattle.gauge_commit.specs.Sending.{lengths}
+use Rattle.gauge_commit.specs.Replies.{acks, asks}
 use Rattle.gauge_commit.specs.declared.Answer.{Answer}
 use Rattle.gauge_commit.proofs.LengthLaws.{ack-length, inquire-length}
 use Rattle.gauge.specs.Lent.{Receive}

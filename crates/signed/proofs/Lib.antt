@@ -8,3 +8,4 @@ pub mod Theorems
 pub mod InquiryLaws
 pub mod AnsweredLaws
 pub mod CaseLaws
+pub mod FromLaws

@@ -17,17 +17,17 @@ use Rattle.kept.specs.History.{Event, after, Learns}
 use Rattle.kept.specs.Plain.{NotOwn, drops}
 use Rattle.kept.proofs.CallLaws.{after-append, learns-or}
 use Rattle.cache.specs.Form.{cacheForm}
-use Rattle.waiting.specs.Place.{idOf, kindOf, placeKey}
+use Rattle.waiting.specs.Place.{idOf, kindOf, placeKey, floodPlace}
 use Rattle.waiting.specs.Form.{waitingForm, placesOf}
 use Rattle.waiting.specs.Tick.{oneLess}
 use Rattle.waiting.specs.Call.{Ticked}
 use Rattle.waiting.proofs.CallLaws.{own-bad}
 use Rattle.waiting.proofs.PlaceLaws.{less-id, less-key, less-kind}
 use Rattle.waiting.specs.Seek.{hasId}
-use Rattle.waiting.specs.Open.{floodPlace}
 use Rattle.waiting.proofs.NewLaws.{new-id, new-key}
 use Rattle.waiting.proofs.RoundLaws.{All, all-none, all-map, all-both, all-freed, all-opened, all-ticked}
-use Rattle.gauge.specs.Lent.{Receive, receive, send, Handed}
+use Rattle.gauge.specs.Lent.{Receive, receive, send}
+use Rattle.gauge.specs.Handed.{Handed}
 use Rattle.gauge.specs.Receive.{receiveCall}
 use Rattle.gauge.specs.Send.{sendCall}
 use Rattle.gauge.specs.Counts.{TickHanded, gaugeTick}
@@ -35,7 +35,7 @@ use Rattle.gauge_laws.specs.Calls as G
 use Rattle.gauge_laws.proofs.RefusedLaws.{receive-refused, send-refused, tick-refused}
 use Rattle.gauge_laws.proofs.MovedLaws.{Moved, stays, frees, opens, receive-ready, receive-moved, send-moved}
 use Rattle.gauge_laws.proofs.FormLaws.{form-kept, send-cache}
-use Rattle.gauge_laws.proofs.GoneLaws.{tick-round}
+use Rattle.gauge_laws.proofs.TickLaws.{tick-round}
 use Rattle.sentences.specs.Words.{Memory, memory, Call, receives, sends, ticks, lists, Entry, entry, left, log, OneKey, Typed, Proper}
 use Rattle.sentences.specs.Ours.{asGiven, ours}
 use Rattle.signed.specs.Events.{sentTo}

@@ -1,4 +1,4 @@
--- To believe. "The inquiry's record is learned"; "A held key has its record replaced": the record held for a kept key is that of the inquiry last answered for it,
+-- Beside the demands. "The inquiry's record is learned"; "A held key has its record replaced": the record held for a kept key is that of the inquiry last answered for it,
 -- told by the calls with their answers and never by memory. Demand 3 speaks of keys alone; a key kept with another's addresses is shut out here. A theorem of
 -- the name stands in proofs/AnsweredLaws.antt. Assumes nothing.
 use Prim.Native.Nat.{ℕ, _≤_}
@@ -21,7 +21,7 @@ use Rattle.wire_fields.specs.declared.Part.the-variants.{Here, Absent}
 use Rattle.wire_read.specs.Answers as R
 use Rattle.wire_read.specs.declared.Answer as T
 use Rattle.wire_read.specs.declared.Answer.the-variants as M
-use Rattle.gauge_plan.specs.Rooms.{idAfter}
+use Rattle.gauge_plan.specs.Ids.{idAfter}
 use Rattle.gauge_commit.specs.declared.Answer.{Answer}
 use Rattle.sentences.specs.Words.{Memory, Call, receives, sends, ticks, lists, Gauge, empty, left, log, Proper}
 use Rattle.signed.specs.Events.{Happened}

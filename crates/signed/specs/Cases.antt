@@ -11,12 +11,11 @@ use Rattle.key.specs.Around as around
 use Rattle.kept.specs.Keys.{Every}
 use Rattle.table.specs.Rows.{bytesOf}
 use Rattle.cache.specs.Bytes.{keyBytes}
-use Rattle.waiting.specs.Place.{newPlace}
-use Rattle.waiting.specs.Open.{inquiryPlace}
+use Rattle.waiting.specs.Place.{newPlace, inquiryPlace}
 use Rattle.waiting.specs.Tick.{idBytes}
 use Rattle.wire_fields.specs.Kinds.{lookupKinds}
 use Rattle.wire_fields.specs.Message as message
-use Rattle.wire_write.specs.Sent.{ackMade, cpaMade, closestMade}
+use Rattle.wire_write.specs.Making.{ackMade, cpaMade, closestMade}
 use Rattle.gauge_commit.specs.Sending.{answer}
 use Rattle.sentences.specs.Words.{Memory, memory, Call, receives, ticks, lists, given}
 use Rattle.sentences.specs.Ours.{ours}

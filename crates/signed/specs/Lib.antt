@@ -2,3 +2,4 @@ pub mod Events
 pub mod Statements
 pub mod Answered
 pub mod Cases
+pub mod From

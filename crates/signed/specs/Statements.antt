@@ -8,7 +8,7 @@ use Rattle.record.specs.Record.{keyOf, recordForm}
 use Rattle.kept.specs.History.{Event, NoRemoval, learnedAll}
 use Rattle.kept.specs.Plain.{drops, kept}
 use Rattle.wire.specs.Statements.{AtMostOne, WrittenReads, ReadWritten}
-use Rattle.gauge_laws.specs.Statements.{OnlyFirst}
+use Rattle.gauge_commit.specs.Sending.{OnlyFirst}
 use Rattle.sentences.specs.Words.{Memory, Call, lists, Gauge, ownOf, outputOf, returned, InForm, Typed, empty, left, log, Proper}
 use Rattle.sentences.specs.Sentences.{NeighbourList}
 use Rattle.sentences.specs.Meets.{MeetsTable, MeetsSentences}

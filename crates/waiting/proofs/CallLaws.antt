@@ -15,7 +15,7 @@ use Rattle.refusal.proofs.CallLaws.{call-exactly, refusal-keeps, number-is, or-
 use Rattle.waiting.specs.Form.{waitingForm, placesOf}
 use Rattle.waiting.specs.Call.{Ticked, handed, tickRefusals, tickDone, tickCall}
 use Rattle.waiting.proofs.FormLaws.{form-of, form-test}
-use Rattle.waiting.specs.Tick.{ticked}
+use Rattle.waiting.specs.Ticking.{ticked}
 use Rattle.waiting.proofs.KeptLaws.{tick-kept}
 
 module _ (own t o : List ℕ) where

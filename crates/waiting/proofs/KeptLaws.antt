@@ -13,11 +13,12 @@ use Rattle.octet.specs.Number.{valueBE}
 use Rattle.octet.specs.Part.{part}
 use Rattle.record.specs.Record.{keyOf, recordForm}
 use Rattle.table.specs.Rows.{bytesOf, Sized}
-use Rattle.waiting.specs.Place.{idOf, kindOf, placeKey}
+use Rattle.waiting.specs.Place.{idOf, kindOf, placeKey, inquiryPlace, floodPlace}
 use Rattle.waiting.specs.Form.{isInquiry, anyOf, placeForm, Form}
 use Rattle.waiting.specs.Seek.{hasId}
-use Rattle.waiting.specs.Open.{opened, freed, inquiryPlace, floodPlace}
-use Rattle.waiting.specs.Tick.{spent, oneLess, ticked}
+use Rattle.waiting.specs.Open.{opened, freed}
+use Rattle.waiting.specs.Tick.{oneLess}
+use Rattle.waiting.specs.Ticking.{spent, ticked}
 use Rattle.waiting.proofs.NewLaws.{new-length, new-id, new-key, new-kind, inquiry-form, flood-form}
 use Rattle.waiting.proofs.PlaceLaws.{less-id, less-key, less-kind, less-length, less-inquiry, less-form}
 use Rattle.waiting.proofs.FormLaws.{Placed, placed, placed-form}

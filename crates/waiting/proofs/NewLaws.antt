@@ -15,9 +15,8 @@ use Rattle.octet.proofs.TestLaws.{zeros-all}
 use Rattle.octet.proofs.LittleLaws.{length-digitsLE, valueLE-digitsLE}
 use Rattle.record.specs.Record.{keyOf, recordForm}
 use Rattle.table.proofs.PieceLaws.{splice-whole}
-use Rattle.waiting.specs.Place.{idOf, kindOf, triesOf, placeKey, placeRecord, newPlace}
+use Rattle.waiting.specs.Place.{idOf, kindOf, triesOf, placeKey, placeRecord, newPlace, inquiryPlace, floodPlace}
 use Rattle.waiting.specs.Form.{placeForm}
-use Rattle.waiting.specs.Open.{inquiryPlace, floodPlace}
 use Rattle.waiting.proofs.PlaceLaws.{fieldsForm, by-fields}
 
 module _ (id kind tries : ℕ) (key held : List ℕ) (short : length key ≡ 32) (long : length held ≡ 100) where

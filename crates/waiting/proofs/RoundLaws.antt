@@ -14,7 +14,8 @@ use Rattle.waiting.specs.Place.{idOf, triesOf}
 use Rattle.waiting.specs.Form.{anyOf, Form}
 use Rattle.waiting.specs.Seek.{hasId}
 use Rattle.waiting.specs.Open.{opened, freed}
-use Rattle.waiting.specs.Tick.{spent, oneLess, ticked, listed}
+use Rattle.waiting.specs.Tick.{oneLess}
+use Rattle.waiting.specs.Ticking.{spent, ticked, listed}
 use Rattle.waiting.proofs.PlaceLaws.{form-tries, less-id, less-tries}
 use Rattle.waiting.proofs.FormLaws.{Placed, placed}
 use Rattle.waiting.proofs.KeptLaws.{or-left, or-right, neither, ticked-sized}

@@ -17,7 +17,8 @@ use Rattle.table.specs.Rows.{rows, joined, bytesOf}
 use Rattle.table.proofs.RowLaws.{rows-length, rows-drop, rows-next, rows-end}
 use Rattle.table.proofs.PieceLaws.{set-splice, drop-behind}
 use Rattle.waiting.specs.Place.{idOf, triesOf}
-use Rattle.waiting.specs.Tick.{spent, oneLess, ticked, listed, idBytes}
+use Rattle.waiting.specs.Tick.{oneLess, idBytes}
+use Rattle.waiting.specs.Ticking.{spent, ticked, listed}
 use Rattle.waiting.proofs.PlaceLaws.{tries-at, less-length}
 
 -- ---- one place's part

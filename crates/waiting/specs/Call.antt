@@ -1,5 +1,5 @@
--- To believe. A tick on memory that nobody has tested: 1 where the own record or the table is out of form, 15 where the list has no room for 16 numbers
--- of 32 bits; refused, it counts nothing and leaves each byte. Assumes nothing.
+-- Helps the code. A tick on memory that nobody has tested: 1 where the own record or the table is out of form, 15 where the list has no room for 16 numbers of
+-- 32 bits; refused, it counts nothing and leaves each byte. Tied to document 01 by `ours-meets` (sentences/Theorems). Assumes nothing.
 use Prim.Native.Nat.{ℕ}
 use mathlib.Core.Bool.{not, _&&_}
 use mathlib.Core.List.{List, [], _∷_}
@@ -10,7 +10,8 @@ use Rattle.record.specs.Record.{keyOf, recordForm}
 use Rattle.refusal.specs.Table.{Refusal, when, orRefuse}
 use Rattle.table.specs.Rows.{bytesOf}
 use Rattle.waiting.specs.Form.{waitingForm, placesOf}
-use Rattle.waiting.specs.Tick.{ticked, listed, idBytes}
+use Rattle.waiting.specs.Tick.{idBytes}
+use Rattle.waiting.specs.Ticking.{ticked, listed}
 
 -- what a tick hands back: a number of document 01, how many IDs are listed, the table and the output as they are left
 pub record Ticked : Type 0 where

@@ -5,9 +5,8 @@ use mathlib.Core.List.{List, [], _∷_, _++_}
 use Prim.Native.Nat.{ℕ}
 use lib.ListN.{replicate}
 use Rattle.table.specs.Rows.{bytesOf}
-use Rattle.waiting.specs.Place.{newPlace}
+use Rattle.waiting.specs.Place.{newPlace, inquiryPlace, floodPlace}
 use Rattle.waiting.specs.Form.{waitingForm}
-use Rattle.waiting.specs.Open.{inquiryPlace, floodPlace}
 
 -- a key below 256, and a record of it with one address
 abbrev pub keyBytes : ℕ → List ℕ

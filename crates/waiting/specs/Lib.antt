@@ -7,3 +7,4 @@ pub mod Slot
 pub mod Tick
 pub mod Call
 pub mod Cases
+pub mod Ticking

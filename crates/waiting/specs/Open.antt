@@ -1,11 +1,9 @@
--- To believe. A place opened where its ID belongs, and a place freed. Assumes nothing.
+-- Helps the code. A place opened where its ID belongs, and a place freed. Tied to document 01 by `ours-meets` (sentences/Theorems). Assumes nothing.
 use Prim.Native.Nat.{ℕ, zero, suc}
 use mathlib.Core.Bool.{cond}
 use mathlib.Core.List.{List, [], _∷_}
 use lib.Dec.{leb}
-use lib.ListN.{replicate}
-use Rattle.octet.specs.Part.{part}
-use Rattle.waiting.specs.Place.{idOf, newPlace}
+use Rattle.waiting.specs.Place.{idOf}
 
 -- the places with one more, before the first whose ID is not lower
 unfoldable pub opened : List ℕ → List (List ℕ) → List (List ℕ)
@@ -17,10 +15,3 @@ unfoldable pub freed : ℕ → List (List ℕ) → List (List ℕ)
 freed at [] = []
 freed zero (p ∷ ps) = ps
 freed (suc at) (p ∷ ps) = p ∷ freed at ps
-
--- "its place opens with two tries left": the place of an inquiry for a record's key, and of a flood to a neighbour
-abbrev pub inquiryPlace : ℕ → List ℕ → List ℕ
-inquiryPlace id r = newPlace id 2 2 (part 0 32 r) r
-
-abbrev pub floodPlace : ℕ → List ℕ → List ℕ
-floodPlace id key = newPlace id 1 2 key (replicate 100 0)

@@ -1,5 +1,5 @@
--- To believe. The place with an ID and a kind ("acked ID is no waiting flood", "no waiting inquiry"), with an ID ("its ID is waiting already"), and the
--- inquiry for a key: the first that passes a test. Assumes nothing.
+-- Helps the code. The place with an ID and a kind ("acked ID is no waiting flood", "no waiting inquiry"), with an ID ("its ID is waiting already"), and the
+-- inquiry for a key: the first that passes a test. Tied to document 01 by `ours-meets` (sentences/Theorems). Assumes nothing.
 use Prim.Native.Nat.{ℕ, _+_}
 use mathlib.Core.Bool.{Bool, _&&_, cond}
 use mathlib.Core.List.{List, [], _∷_}

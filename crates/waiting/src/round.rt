@@ -7,7 +7,8 @@ ghost use Rattle.octet.specs.Number.{digitsLE};
 ghost use Rattle.octet.specs.Part.{part, splice};
 ghost use Rattle.table.specs.Rows.{rows, bytesOf};
 ghost use Rattle.waiting.specs.Place.{idOf};
-ghost use Rattle.waiting.specs.Tick.{spent, oneLess, ticked, listed, idBytes};
+ghost use Rattle.waiting.specs.Tick.{oneLess, idBytes};
+ghost use Rattle.waiting.specs.Ticking.{spent, ticked, listed};
 
 // One place's part. With a try left it moves down to place number `kept`, with one try less, and its ID is listed.
 fn tick_place(table: &mut [u8], at: usize, kept: usize, output: &mut [u8]) -> usize

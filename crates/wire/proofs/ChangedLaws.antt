@@ -18,7 +18,7 @@ use Rattle.wire_fields.specs.declared.Part.the-variants.{Here, Absent}
 use Rattle.wire_fields.specs.declared.Shape.the-variants.{Sized}
 use Rattle.wire_fields.proofs.RefusalLaws.{split-four}
 use Rattle.wire_fields.proofs.WholeLaws.{length-header}
-use Rattle.wire_read.specs.Meaning.{splitBytes}
+use Rattle.wire_fields.specs.Kinds.{splitBytes}
 use Rattle.wire_write.proofs.PutLaws.{head-length}
 use Rattle.wire.specs.Statements.{AllowedAt, changedAt, splitAgain, changed}
 use Rattle.wire.proofs.SendingLaws.{split-held, follows}

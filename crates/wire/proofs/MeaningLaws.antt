@@ -26,7 +26,8 @@ use Rattle.wire_fields.proofs.ShapeLaws.{number-first, number-in}
 use Rattle.wire_fields.proofs.RefusalLaws.{split-four}
 use Rattle.wire_read.specs.Answers.{isHere, flagIn, headOf, solicitShown, advertiseShown, requestShown, floodShown, inquireShown, authorityShown, ackShown}
 use Rattle.wire_read.specs.Answers.{lookupShown}
-use Rattle.wire_read.specs.Meaning.{messageOf, held, bit, splitBytes}
+use Rattle.wire_read.specs.Meaning.{messageOf, held, bit}
+use Rattle.wire_fields.specs.Kinds.{splitBytes}
 use Rattle.wire.proofs.StandLaws.{Fact, after, Stand, needed, maybed, ended, plain-may, sized-length}
 use Rattle.wire.proofs.ValueLaws.{none-kept, last-kept, controls-kept, axc-kept, lbn-kept, split-bytes, lookup-kept}
 

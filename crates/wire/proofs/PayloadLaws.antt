@@ -17,10 +17,10 @@ use Rattle.wire_fields.specs.Shapes.{hasShape}
 use Rattle.wire_fields.specs.declared.Part.{Part}
 use Rattle.wire_fields.specs.declared.Part.the-variants.{Here}
 use Rattle.wire_fields.specs.declared.Shape.the-variants.{Any, Entry}
-use Rattle.wire_fields.specs.Kinds.{may, codes, bufferKinds, authorityKinds, kindsOf}
+use Rattle.wire_fields.specs.Kinds.{may, codes, bufferKinds, authorityKinds, kindsOf, splitBytes}
 use Rattle.wire_fields.specs.Message.{Contents, Message, Held, Formed, WellFormed, layoutFrom, layoutOf, bytesOf, headerOf}
 use Rattle.wire_fields.specs.Reading.{contentsIn}
-use Rattle.wire_read.specs.Meaning.{messageOf, held, bit, splitBytes, insideFields}
+use Rattle.wire_read.specs.Meaning.{messageOf, held, bit, insideFields}
 use Rattle.wire_read.specs.declared.Head.{Head}
 use Rattle.wire_read.specs.declared.Inside.{Inside}
 use Rattle.wire_read.specs.declared.Answer.the-variants.{Authority}

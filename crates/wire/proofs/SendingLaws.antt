@@ -21,13 +21,12 @@ use Rattle.record.proofs.PlaceLaws.{record-at, entry-length, entry-in}
 use Rattle.wire_fields.specs.Field.{numberAt, gap}
 use Rattle.wire_fields.specs.Shapes.{hasShape, splitForm}
 use Rattle.wire_fields.specs.declared.Part.the-variants.{Here}
-use Rattle.wire_fields.specs.Kinds.{must, may, ackedKind, splitKind, flagsLBN, kindsOf, joined, sized, derived}
-use Rattle.wire_fields.specs.Kinds.{floodKinds, authorityKinds}
+use Rattle.wire_fields.specs.Kinds.{must, may, ackedKind, splitKind, flagsLBN, kindsOf, joined, sized, derived, floodKinds, authorityKinds, splitBytes}
 use Rattle.wire_fields.specs.Message.{Held, layoutOf, bytesOf}
 use Rattle.wire_fields.specs.declared.Shape.the-variants.{Sized, Entry}
-use Rattle.wire_read.specs.Meaning.{splitBytes}
 use Rattle.wire_write.specs.Writing.{fit}
-use Rattle.wire_write.specs.Sent.{floodSent, cpaSent, closestSent, floodMade, inquireMade, cpaMade, closestMade, formedAt}
+use Rattle.wire_write.specs.Sent.{floodSent, cpaSent, closestSent}
+use Rattle.wire_write.specs.Making.{floodMade, inquireMade, cpaMade, closestMade, formedAt}
 use Rattle.wire.specs.Sending.{AckFormed, FloodFormed, InquireFormed, CpaFormed, ClosestFormed}
 use Rattle.wire.proofs.BytesLaws.{bytes-nil, bytes-cons, bytes-append, bytes-digits}
 

@@ -16,11 +16,11 @@ use Rattle.wire_fields.specs.declared.Shape.the-variants.{Any}
 use Rattle.wire_fields.specs.Kinds.{kindsOf, may}
 use Rattle.wire_fields.specs.Kinds.{solicitKinds, advertiseKinds, requestKinds, floodKinds, inquireKinds, authorityKinds, ackKinds, lookupKinds, joined}
 use Rattle.wire_fields.specs.Kinds.{sized}
-use Rattle.wire_fields.specs.Message.{Contents, Held, opening, Message, Formed, Reads, layoutOf, bytesOf, partsOf}
+use Rattle.wire_fields.specs.Message.{Contents, Held, opening, Message, Formed, Reads, layoutOf, bytesOf, partsOf, typeOf}
 use Rattle.wire_fields.specs.Reading.{messageAt, valuesOf, placesAt, fieldsAs}
 use Rattle.octet.specs.Part.{same}
 use Rattle.wire_fields.proofs.RefusalLaws.{byType, inSteps, found-steps}
-use Rattle.wire_fields.specs.Refusals.{Found, refused, found, foundOf, inPart, placesOf, fieldsIn, typeOf, refusals, foundIn}
+use Rattle.wire_fields.specs.Refusals.{Found, refused, found, foundOf, inPart, placesOf, fieldsIn, refusals, foundIn}
 use Rattle.wire_fields.specs.declared.Part.{Part}
 use Rattle.wire_fields.proofs.WholeLaws.{way, lengths, found-reads, reads-found, reads-once, written-reads, read-written}
 use Rattle.wire_read.specs.Answers.{answer, shown, solicitShown, advertiseShown, requestShown, floodShown, inquireShown, authorityShown, ackShown}
@@ -32,10 +32,9 @@ use Rattle.wire_read.specs.declared.Head.{Head}
 use Rattle.wire_read.specs.declared.Inside.{Inside}
 use Rattle.wire_write.specs.Writing.{Made, fit, writeAs, writeIn, Wrote}
 use Rattle.wire_write.specs.declared.Written.{Written}
-use Rattle.wire.specs.Statements.{PayloadReads, changedAt, changed, AtMostOne, ReadGives, ReadAccepts, ReadRefuses, WrittenReads, WrittenRead}
-use Rattle.wire.specs.Statements.{OutputReads, WriteReads}
-use Rattle.wire.specs.Statements.{ReadWritten}
-use Rattle.wire.specs.Statements.{ReadWrittenAgain, OutputAgain, ReadOne, WriteOne, ChangedReads, PayloadWritten}
+use Rattle.wire.specs.Statements.{PayloadReads, changedAt, changed, AtMostOne, WrittenReads, ReadWritten, ChangedReads}
+use Rattle.wire.specs.Code.{ReadGives, ReadAccepts, ReadRefuses, WrittenRead, OutputReads, WriteReads}
+use Rattle.wire.specs.Code.{ReadWrittenAgain, OutputAgain, ReadOne, WriteOne, PayloadWritten}
 use Rattle.wire.proofs.StandLaws.{Stand, stands}
 use Rattle.wire.proofs.MeaningLaws.{solicit-means, advertise-means, request-means, flood-means, inquire-means, authority-means, ack-means}
 use Rattle.wire.proofs.MeaningLaws.{lookup-means}

@@ -1,4 +1,5 @@
--- To believe. What a writer of the calls writes is the message that document 01 names, and reads back as it. Assumes nothing.
+-- Helps the code. What a writer of the calls writes is the message that document 01 names, and reads back as it. Cited by `sent-reads` (sentences/BackLaws).
+-- Assumes nothing.
 use Prim.Native.Nat.{ℕ, _^_, _<_}
 use mathlib.Core.List.{List}
 use mathlib.Core.Bool.{Bool, true}
@@ -8,7 +9,8 @@ use Rattle.octet.specs.Part.{part}
 use Rattle.wire_fields.specs.Kinds.{ackKinds, floodKinds, inquireKinds, authorityKinds}
 use Rattle.wire_fields.specs.Message.{WellFormed}
 use Rattle.wire_write.specs.Writing.{fit}
-use Rattle.wire_write.specs.Sent.{ackSent, floodSent, inquireSent, cpaSent, closestSent, floodMade, inquireMade, cpaMade, closestMade}
+use Rattle.wire_write.specs.Sent.{ackSent, floodSent, inquireSent, cpaSent, closestSent}
+use Rattle.wire_write.specs.Making.{floodMade, inquireMade, cpaMade, closestMade}
 
 -- what is handed in with a call: two versions that are bytes and an ID of 32 bits
 abbrev pub Numbers : ℕ → ℕ → ℕ → Type 0

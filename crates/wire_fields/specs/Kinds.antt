@@ -1,7 +1,7 @@
 -- To believe. The fields of each message in their order, as document 000 lists them (section 2.2.2).
 -- "An optional field is present or absent by the number found at its place"; "flag bits that it doesn't name are reserved". Assumes nothing.
 use Prim.Native.Nat.{ℕ, _+_, _-_}
-use mathlib.Core.List.{List, [], _∷_}
+use mathlib.Core.List.{List, [], _∷_, _++_}
 use mathlib.Core.Bool.{Bool, true, false, not, cond, _&&_, _||_}
 use mathlib.Core.Option.{Option, some, none}
 use lib.ListN.{length, getD}
@@ -12,6 +12,7 @@ use Rattle.wire_fields.specs.declared.Shape.{Shape}
 use Rattle.wire_fields.specs.declared.Shape.the-variants.{Sized, Any, Entry, Array, Lookup, Split}
 use Rattle.wire_fields.specs.declared.Part.{Part}
 use Rattle.wire_fields.specs.declared.Part.the-variants.{Here, Absent}
+use Rattle.octet.specs.Number.{digitsBE}
 
 -- a field that must be there, and one that may be absent; the bits kept of each byte stand in a table, none where all are
 abbrev pub must : ℕ → Bool → Shape → List (List ℕ) → Kind
@@ -135,3 +136,7 @@ derived total Absent f = true
 -- what the places and the length say of the fields: REQUEST's and AUTHORITY's split controls follow from the rest
 unfoldable pub sized : ℕ → ℕ → List Part → List (Option (List ℕ)) → Bool
 sized t total ps fs = cond (eqb t 3 || eqb t 8) (derived total (getD ps 1 Absent) (getD fs 1 none)) true
+
+-- split controls of a whole message: so many bytes follow, offset 0
+abbrev pub splitBytes : ℕ → List ℕ
+splitBytes size = digitsBE 256 2 size ++ (0 ∷ 0 ∷ [])

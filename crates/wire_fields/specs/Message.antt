@@ -5,7 +5,7 @@ use mathlib.Core.List.{List, [], _∷_, _++_}
 use mathlib.Core.Bool.{true}
 use mathlib.Core.Option.{Option, some, none}
 use mathlib.Core.Path.{_≡_}
-use lib.ListN.{length, take, drop, replicate}
+use lib.ListN.{length, take, drop, replicate, getD}
 use Rattle.octet.specs.Number.{Bytes, digitsBE}
 use Rattle.wire_fields.specs.Field.{gap}
 use Rattle.wire_fields.specs.Shapes.{Kind, hasShape}
@@ -112,3 +112,6 @@ pub record WellFormed (ks : List Kind) (m : Message) : Type 0 where
 pub record Reads (ks : List Kind) (d : List ℕ) (m : Message) : Type 0 where
   pub well : WellFormed ks m
   pub same : cleared (layoutOf ks m) d ≡ bytesOf (layoutOf ks m)
+
+abbrev pub typeOf : List ℕ → ℕ
+typeOf d = getD d 7 0

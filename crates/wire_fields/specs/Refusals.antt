@@ -1,5 +1,5 @@
--- To believe. What reading a datagram gives, by document 01's table "What comes back": 2 to 7 in their order, or the type of the message and the places of its
--- fields. 6 and 7 go by places (Reading); that a message is found exactly where the datagram reads as one are the laws found-reads and reads-found.
+-- Helps the code. What reading a datagram gives, by document 01's table "What comes back": 2 to 7 in their order, or the type of the message and the places of
+-- its fields. 6 and 7 go by places (Reading); that a message is found exactly where the datagram reads as one are the laws found-reads and reads-found.
 -- Assumes nothing.
 use Prim.Native.Nat.{ℕ}
 use mathlib.Core.List.{List, [], _∷_}
@@ -11,7 +11,7 @@ use Rattle.octet.specs.Part.{part, same}
 use Rattle.refusal.specs.Table.{Refusal, when, orRefuse}
 use Rattle.wire_fields.specs.Shapes.{Kind}
 use Rattle.wire_fields.specs.Kinds.{kindsOf, present}
-use Rattle.wire_fields.specs.Message.{opening}
+use Rattle.wire_fields.specs.Message.{opening, typeOf}
 use Rattle.wire_fields.specs.Reading.{needAt, fieldsAs, wholeIn}
 use Rattle.wire_fields.specs.declared.Part.{Part}
 use Rattle.wire_fields.specs.declared.Part.the-variants.{Here}
@@ -32,9 +32,6 @@ foundOf t (some ps) = found t ps
 abbrev pub placesOf : Option (List Part) → List Part
 placesOf none = []
 placesOf (some ps) = ps
-
-abbrev pub typeOf : List ℕ → ℕ
-typeOf d = getD d 7 0
 
 -- the places of all fields of the datagram's type, where each is right
 abbrev pub fieldsBy : ℕ → List ℕ → Option (List Kind) → Option (List Part)

@@ -1,5 +1,6 @@
--- To believe. What an answer of `read` says: document 01's number, and the message, its fields from the numbers of the answer and from the datagram d that it was
--- read from: "Where an answer is an enum, a definition provides this paper's number and values for each case". Assumes nothing.
+-- Helps the code. What an answer of `read` says: document 01's number, and the message, its fields from the numbers of the answer and from the datagram d that
+-- it was read from: "Where an answer is an enum, a definition provides this paper's number and values for each case". Tied to the layout by `read-gives`
+-- (wire/Theorems). Assumes nothing.
 use Prim.Native.Nat.{ℕ, _+_, _-_, _*_}
 use mathlib.Core.List.{List, [], _∷_, _++_}
 use mathlib.Core.Bool.{Bool, cond}
@@ -13,6 +14,7 @@ use Rattle.wire_read.specs.declared.Head.{Head}
 use Rattle.wire_read.specs.declared.Inside.{Inside}
 use Rattle.wire_read.specs.declared.Answer.{Answer}
 use Rattle.wire_read.specs.declared.Answer.the-variants.{Refused, Solicit, Advertise, Request, Flood, Inquire, Authority, Ack, Lookup}
+use Rattle.wire_fields.specs.Kinds.{splitBytes}
 
 -- the number of an answer: 0 with a message
 abbrev pub numberOf : Answer → ℕ
@@ -29,10 +31,6 @@ numberOf (Lookup h a precision criteria reason target validate entry path creden
 -- a flag as a bit
 abbrev pub bit : Bool → ℕ
 bit b = cond b 1 0
-
--- split controls of a whole message: so many bytes follow, offset 0
-abbrev pub splitBytes : ℕ → List ℕ
-splitBytes size = digitsBE 256 2 size ++ (0 ∷ 0 ∷ [])
 
 abbrev pub held : Bool → List ℕ → Contents
 held there v = cond there (some v) none

@@ -19,7 +19,8 @@ use Rattle.wire_fields.proofs.ShapeLaws.{and-false}
 use Rattle.wire_write.specs.Writing.{fit}
 use Rattle.wire_write.specs.Pieces.{lentOf, madeBy}
 use Rattle.wire_write.specs.Rows.{ackRows, ackPieces, floodRows, floodPieces, inquireRows, inquirePieces, authorityRows, cpaPieces, closestPieces, ownBytes}
-use Rattle.wire_write.specs.Sent.{cpaSent, ackMade, floodMade, inquireMade, cpaMade, closestMade, formedAt}
+use Rattle.wire_write.specs.Sent.{cpaSent}
+use Rattle.wire_write.specs.Making.{ackMade, floodMade, inquireMade, cpaMade, closestMade, formedAt}
 
 -- the whole of a slice stands within it
 within : (s : List ℕ) → leb (0 + length s) (length s) ≡ true

@@ -1,21 +1,16 @@
 -- To believe. The messages that a call sends, field by field: "What 000 leaves to the sender is fixed so in each datagram a call sends: a flag, reason or optional
 -- field that no rule here names is clear or absent, but a flag by which an INQUIRE asks for a CPA, if 000 has one, is set; versions, a route entry's too, are the
--- given ones". What writing each of them makes: 6 only for a key, a nonce or a record that is none. Assumes nothing.
+-- given ones". Assumes nothing.
 use Prim.Native.Nat.{ℕ, _+_, _*_}
 use mathlib.Core.List.{List, [], _∷_}
-use mathlib.Core.Bool.{Bool, true, cond, _&&_}
+use mathlib.Core.Bool.{Bool, cond}
 use mathlib.Core.Option.{some, none}
-use lib.Dec.{eqb, leb}
 use lib.ListN.{length}
 use Rattle.octet.specs.Number.{digitsBE}
-use Rattle.octet.specs.Part.{part}
-use Rattle.record.specs.Record.{countOf, recordForm}
+use Rattle.record.specs.Record.{countOf}
 use Rattle.record.specs.Entry.{entryOf}
-use Rattle.wire_fields.specs.Shapes.{Kind}
-use Rattle.wire_fields.specs.Kinds.{floodKinds, inquireKinds, authorityKinds, ackKinds}
-use Rattle.wire_fields.specs.Message.{Message, bytesOf, layoutOf}
-use Rattle.wire_read.specs.Meaning.{splitBytes}
-use Rattle.wire_write.specs.Writing.{Made}
+use Rattle.wire_fields.specs.Message.{Message}
+use Rattle.wire_fields.specs.Kinds.{splitBytes}
 
 -- "A call that sends an ACK writes the second field only where N is set"
 abbrev pub ackSent : ℕ → ℕ → ℕ → ℕ → Bool → Message
@@ -66,27 +61,3 @@ closestSent major minor id acked r =
       fields = some (digitsBE 256 4 acked) ∷ some (splitBytes (52 + 16 * countOf r)) ∷ some (0 ∷ 0 ∷ []) ∷ none ∷ none ∷ none ∷ none
           ∷ some (entryOf major minor r) ∷ none ∷ [];
     }
-
--- ---- what writing them makes
-
--- a record in form stands at a place of a slice
-abbrev pub formedAt : ℕ → List ℕ → Bool
-formedAt at s = leb (at + 100) (length s) && recordForm (part at 100 s)
-
-abbrev pub madeAs : Bool → List Kind → Message → Made
-madeAs ok ks m = record { ok = ok; bytes = bytesOf (layoutOf ks m) }
-
-unfoldable pub ackMade : ℕ → ℕ → ℕ → ℕ → Bool → Made
-ackMade major minor id acked n = madeAs true ackKinds (ackSent major minor id acked n)
-
-unfoldable pub floodMade : ℕ → ℕ → ℕ → List ℕ → List ℕ → ℕ → Made
-floodMade major minor id key s at = madeAs (eqb (length key) 32 && formedAt at s) floodKinds (floodSent major minor id key (part at 100 s))
-
-unfoldable pub inquireMade : ℕ → ℕ → ℕ → List ℕ → List ℕ → Made
-inquireMade major minor id key nonce = madeAs (eqb (length key) 32 && eqb (length nonce) 16) inquireKinds (inquireSent major minor id key nonce)
-
-unfoldable pub cpaMade : ℕ → ℕ → ℕ → ℕ → List ℕ → Made
-cpaMade major minor id acked cpa = madeAs true authorityKinds (cpaSent major minor id acked cpa)
-
-unfoldable pub closestMade : ℕ → ℕ → ℕ → ℕ → List ℕ → ℕ → Made
-closestMade major minor id acked s at = madeAs (formedAt at s) authorityKinds (closestSent major minor id acked (part at 100 s))

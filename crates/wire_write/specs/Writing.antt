@@ -1,5 +1,6 @@
--- To believe. What writing a message gives and leaves: "writing one gives 0, 6 or 15"; "With any refusal the counts returned are 0 .. and every writable byte
--- stays as lent. On acceptance the output changes only in its first bytes, as many as returned." Assumes nothing.
+-- Helps the code. What writing a message gives and leaves: "writing one gives 0, 6 or 15"; "With any refusal the counts returned are 0 .. and every writable
+-- byte stays as lent. On acceptance the output changes only in its first bytes, as many as returned." Tied to the layout by `output-reads` (wire/Theorems).
+-- Assumes nothing.
 use Prim.Native.Nat.{ℕ}
 use mathlib.Core.List.{List, _++_}
 use mathlib.Core.Bool.{Bool, cond, _&&_}

@@ -18,7 +18,7 @@ ghost use Prim.Native.Nat.{_<_};
 ghost use Rattle.octet.specs.Part.{part};
 ghost use Rattle.record.specs.Record.{countOf};
 ghost use Rattle.wire_write.specs.Writing.{Wrote};
-ghost use Rattle.wire_write.specs.Sent.{ackMade, floodMade, inquireMade, cpaMade, closestMade};
+ghost use Rattle.wire_write.specs.Making.{ackMade, floodMade, inquireMade, cpaMade, closestMade};
 
 // An ACK of the message of an ID, with the flags only where N is set.
 pub fn write_ack(out: &mut [u8], major: u8, minor: u8, id: u32, acked: u32, n: bool) -> Written

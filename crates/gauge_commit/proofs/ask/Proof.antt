@@ -5,9 +5,10 @@ use mathlib.Core.List.{List}
 use Rattle.octet.specs.Part.{part, splice}
 use Rattle.record.specs.Entry.{recordOf}
 use Rattle.table.specs.Rows.{rows, bytesOf}
-use Rattle.waiting.specs.Open.{opened, inquiryPlace}
-use Rattle.wire_write.specs.Sent.{inquireMade}
-use Rattle.gauge_plan.specs.Rooms.{idAfter}
+use Rattle.waiting.specs.Open.{opened}
+use Rattle.waiting.specs.Place.{inquiryPlace}
+use Rattle.wire_write.specs.Making.{inquireMade}
+use Rattle.gauge_plan.specs.Ids.{idAfter}
 use Rattle.gauge_commit.proofs.SentLaws.{named-is}
 use borrow.Author.Needs.{needs}
 use Rattle.gauge_commit.proofs.ask.Statement.{statement}

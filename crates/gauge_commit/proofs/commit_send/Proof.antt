@@ -5,7 +5,7 @@ use mathlib.Core.List.{List, [], _∷_}
 use Prim.Native.Nat.{ℕ, _*_}
 use Rattle.octet.specs.Part.{part}
 use Rattle.record.specs.Record.{recordForm}
-use Rattle.wire_write.specs.Sent.{floodMade}
+use Rattle.wire_write.specs.Making.{floodMade}
 use Rattle.gauge_plan.specs.Send.{recordSent, floodRoom}
 use Rattle.gauge_commit.specs.Sending.{lengths, sending}
 use Rattle.gauge_commit.proofs.SentLaws.{ours-long, ours-sent, held-sent}

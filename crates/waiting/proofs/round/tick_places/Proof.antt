@@ -3,7 +3,7 @@ use mathlib.Core.Path.{refl, _∙_}
 use Prim.Native.Nat.{_*_, _-_}
 use native.Mathlib.Omega.{arith}
 use Rattle.octet.specs.Part.{part}
-use Rattle.waiting.specs.Tick.{spent}
+use Rattle.waiting.specs.Ticking.{spent}
 use Rattle.waiting.proofs.TickLaws.{Left, left-start, turn, end-count, end-list, end-cleared}
 use Rattle.waiting.proofs.round.tick_places.Statement.{statement}
 use Rattle.waiting.proofs.round.tick_places.Tie as tie

@@ -1,7 +1,7 @@
 -- `wire_write::sent::write_cpa` meets its contract: its rows and pieces make its message (cpa-made). Assumes nothing.
 use mathlib.Core.Path.{refl}
 use denote.Ref.{now}
-use Rattle.wire_write.specs.Sent.{cpaMade}
+use Rattle.wire_write.specs.Making.{cpaMade}
 use Rattle.wire_write.proofs.WriteLaws.{wrote-15}
 use Rattle.wire_write.proofs.SentLaws.{cpa-made, cpa-long}
 use borrow.Author.Needs.{needs}

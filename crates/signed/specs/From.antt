@@ -1,0 +1,49 @@
+-- Beside the demands. Demand 3 from any cache in form and an empty waiting table: a host that starts again with the cache that it saved. Of any gauge; that ours
+-- meets it, and every gauge that meets the sentences, stands in proofs/FromLaws.antt. Assumes nothing.
+use Prim.Native.Nat.{ℕ, _*_}
+use mathlib.Core.Bool.{true}
+use mathlib.Core.List.{List, [], _++_, map}
+use mathlib.Core.Path.{_≡_}
+use lib.ListN.{length, replicate}
+use Rattle.kept.specs.History.{Event, learned, NoRemoval, learnedAll}
+use Rattle.kept.specs.Plain.{drops, kept}
+use Rattle.cache.specs.Form.{keysOf, heldOf, cacheForm}
+use Rattle.sentences.specs.Words.{Memory, memory, Call, Gauge, left, log, Proper}
+use Rattle.sentences.specs.Meets.{MeetsSentences}
+use Rattle.signed.specs.Events.{Happened}
+use Rattle.signed.specs.Statements.{ListsThese, MeetsDemand3, Signed}
+
+-- the cache as saved, and an empty waiting table
+abbrev pub restarted : List ℕ → Memory
+restarted cache = memory cache (replicate 2240 0)
+
+-- the keys held at the start count as learned before the first call, one after the other
+abbrev pub heldBefore : ℕ → List ℕ → List Event
+heldBefore k cache = map learned (keysOf (heldOf k cache))
+
+-- that drops none of them: the keys kept at the start are those held
+abbrev pub HeldKept : Type 0
+HeldKept = (k C : ℕ) (cache : List ℕ) → cacheForm k cache ≡ true → length cache ≡ 100 * C → kept k C (heldBefore k cache) ≡ keysOf (heldOf k cache)
+
+-- as Demand3 (Statements), with the keys that were held in front of what happened
+pub record Demand3From (g : Gauge) (k C : ℕ) (cache : List ℕ) (calls : List Call) : Type 0 where
+  pub later : List Event
+  pub happened : Happened [] (log g (restarted cache) calls) later
+  pub listed : ListsThese g (left g (restarted cache) calls) k (kept k C (heldBefore k cache ++ later))
+  pub among-all : NoRemoval (drops k) C [] (heldBefore k cache ++ later)
+      → ListsThese g (left g (restarted cache) calls) k (learnedAll (heldBefore k cache ++ later))
+
+abbrev pub MeetsDemand3From : Gauge → Type 0
+MeetsDemand3From g =
+    (k C : ℕ) (cache : List ℕ) → cacheForm k cache ≡ true → length cache ≡ 100 * C → (calls : List Call) → Proper k calls → Demand3From g k C cache calls
+
+-- with an empty cache it is demand 3
+abbrev pub FromEmpty : Type 0
+FromEmpty = (g : Gauge) → MeetsDemand3From g → MeetsDemand3 g
+
+-- every gauge that meets the sentences has it, and with it all that is signed: demands 1 and 3 follow from document 01's sentences
+abbrev pub Restarts : Type 0
+Restarts = (g : Gauge) → MeetsSentences g → MeetsDemand3From g
+
+abbrev pub Enough : Type 0
+Enough = (g : Gauge) → MeetsSentences g → Signed g

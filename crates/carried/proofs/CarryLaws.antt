@@ -29,11 +29,12 @@ use Rattle.wire_read.specs.declared.Answer.the-variants as M
 use Rattle.wire_read.specs.declared.Head.{Head}
 use Rattle.wire_read.specs.declared.Inside.{Inside}
 use Rattle.refusal.specs.Table.{orRefuse}
+use Rattle.refusal.proofs.CallLaws.{or-known}
 use Rattle.octet.proofs.PartLaws.{take-splice, length-splice}
 use Rattle.readings.specs.Depth.{allowed}
 use Rattle.readings.specs.Reading.{reading, kindOf, measureOf, widthOf, isKind, measuredAs, contents, image, fine}
 use Rattle.readings.specs.Numbers.{numberRefusals, readingOf}
-use Rattle.readings.specs.Unpack.{unpackOf}
+use Rattle.readings.specs.Unpack.{kindIn, measureIn, unpackRefusals, readingIn, unpackOf}
 use Rattle.readings.specs.Pack.{packOf}
 use Rattle.readings.specs.Pack as P
 use Rattle.readings.specs.declared.Measured.{Measured}
@@ -109,6 +110,18 @@ reading-fine kind measure i o r e =
     let d = ofBits binary32 measure in
     let w = fine-by (eqb kind 2 && ltb 65535 measure) (not (isKind kind)) (eqb kind 1 && not (allowed d)) (reading (measuredAs kind measure) i o) r e in
     subst (λ (x : Reading). fine (x .measured) ≡ true) (w .1) (measured-fine (eqb kind 1) (allowed d) d measure refl (w .0))
+
+-- and so may one that was read
+pub unpack-fine : (s : List ℕ) (r : Reading) → unpackOf s ≡ Read r → fine (r .measured) ≡ true
+unfolding unpackOf unpackRefusals readingIn
+unpack-fine s =
+    let d = ofBits binary32 (measureIn s) in
+    or-known (λ (u : Unpacked). (r : Reading) → u ≡ Read r → fine (r .measured) ≡ true) Refused (unpackRefusals s) (Read (readingIn s))
+    (λ n r e. absurd (let z : _≡_ {A = ℕ} 0 1 = cc in omega arith))
+    (λ all r e.
+    let same : readingIn s ≡ r = cc in
+    subst (λ (x : Reading). fine (x .measured) ≡ true) same
+    (measured-fine (eqb (kindIn s) 1) (allowed d) d (measureIn s) refl (all .1 .1 .1 .1 .0)))
 
 -- ---- its bytes
 

@@ -89,7 +89,7 @@ fn put_packed(
         (Read reading) (now (output .entry)) ⌝ }
 {
     let mut image = [0u8; 16];
-    let packed = readings::pack(reading, &mut image);
+    let packed = readings::pack_allowed(reading, &mut image);
     match packed {
         Packed::Refused(number) => refused(number),
         Packed::Written(n) => {
@@ -113,8 +113,9 @@ pub(crate) fn nothing(number: u32, reading: u32) -> Taken
     }
 }
 
-// A reading as C sees it.
+// A reading as C sees it. One that was read is one that may be written.
 fn shown(reading: Unpacked) -> Taken
+    requires { ⌜ ((r : Reading) → reading ≡ Read r → fine (r .measured) ≡ true) ⌝ }
     ensures { λ r. ⌜ r ≡ takenBy reading ⌝ }
 {
     match reading {
@@ -123,7 +124,7 @@ fn shown(reading: Unpacked) -> Taken
             number: 0,
             reading: 0,
             kind: readings::kind_of(found),
-            measure: readings::measure_of(found),
+            measure: readings::measure_allowed(found),
             litres_in: found.inflow,
             litres_out: found.outflow,
         },

@@ -152,3 +152,14 @@ by-sign b h true e =
 pub patterns : (b : ℕ) → b < 4294967296 → allowed (ofBits binary32 b) ≡ (leb b 0x41A0_0000 || eqb b 0x8000_0000)
 unfolding ofBits
 patterns b h = by-sign b h (leb 2147483648 b) refl
+
+-- as the code asks: negative zero first, then all others by their size
+pub bits-zero : (b : ℕ) → b ≡ 0x8000_0000 → true ≡ allowed (ofBits binary32 b)
+bits-zero b e = sym (patterns b (omega arith) ∙ rw (eq-eqb b 0x8000_0000 e) (either (leb b 0x41A0_0000)))
+  where
+    either : (a : Bool) → (a || true) ≡ true
+    either true = refl
+    either false = refl
+
+pub bits-sized : (b : ℕ) → b < 4294967296 → (b ≡ 0x8000_0000 → ⊥) → leb b 0x41A0_0000 ≡ allowed (ofBits binary32 b)
+bits-sized b h n = sym (patterns b h ∙ rw (ne-eqb b 0x8000_0000 n) (or-false (leb b 0x41A0_0000)))

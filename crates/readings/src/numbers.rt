@@ -7,7 +7,8 @@ use crate::Unpacked;
 use crate::depth::bits_of;
 use crate::depth::depth_of_bits;
 ghost use mathlib.Core.Path.{_≡_};
-ghost use Rattle.readings.specs.Reading.{kindOf, measureOf};
+ghost use mathlib.Core.Bool.{true};
+ghost use Rattle.readings.specs.Reading.{kindOf, measureOf, fine};
 ghost use Rattle.readings.specs.Numbers.{depthReading, readingOf};
 
 // A reading of kind 1, or 3 where the depth is outside.
@@ -61,6 +62,18 @@ pub fn measure_of(reading: Reading) -> u32
     let measured = reading.measured;
     match measured {
         Measured::Depth(depth) => bits_of(depth),
+        Measured::Fault(fault) => fault as u32,
+    }
+}
+
+// The same of a reading that may be written, whose depth is a number.
+pub fn measure_allowed(reading: Reading) -> u32
+    requires { ⌜ fine (reading .measured) ≡ true ⌝ }
+    ensures { λ r. ⌜ r ≡ measureOf (reading .measured) ⌝ }
+{
+    let measured = reading.measured;
+    match measured {
+        Measured::Depth(depth) => f32::to_bits(depth),
         Measured::Fault(fault) => fault as u32,
     }
 }

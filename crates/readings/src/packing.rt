@@ -4,12 +4,14 @@ use crate::Packed;
 use crate::Reading;
 use crate::depth::is_allowed;
 ghost use mathlib.Core.Path.{_≡_};
+ghost use mathlib.Core.Bool.{true};
 ghost use mathlib.Core.List.{_++_};
 ghost use Prim.Native.Nat.{_+_, _≤_};
 ghost use lib.ListN.{length};
 ghost use Rattle.octet.specs.Number.{digitsLE};
 ghost use Rattle.octet.specs.Part.{splice};
-ghost use Rattle.readings.specs.Reading.{depthOf, faultOf, Typed};
+ghost use Rattle.readings.specs.Depth.{allowed};
+ghost use Rattle.readings.specs.Reading.{depthOf, faultOf, fine, Typed};
 ghost use Rattle.readings.specs.Pack.{handed, packOf, packNumber};
 
 // Writes the reading to the start of `out`; 1 where there is no room, 3 where the depth is outside. Every reading that a program
@@ -25,6 +27,19 @@ pub fn pack(reading: Reading, out: &mut [u8]) -> Packed
     }
 }
 
+// The same of a reading that may be written, as those are that were read or made of numbers: nothing is left to be asked of its
+// depth but the bits.
+pub fn pack_allowed(reading: Reading, out: &mut [u8]) -> Packed
+    requires { ⌜ fine (reading .measured) ≡ true ⌝ }
+    ensures { λ r. ⌜ handed r (now (out .exit)) ≡ packOf reading (now (out .entry)) ⌝ }
+{
+    let measured = reading.measured;
+    match measured {
+        Measured::Depth(depth) => put_depth(depth, reading.inflow, reading.outflow, out),
+        Measured::Fault(fault) => pack_fault(fault, reading.inflow, reading.outflow, out),
+    }
+}
+
 fn pack_depth(depth: f32, inflow: u32, outflow: u32, out: &mut [u8]) -> Packed
     ensures { λ r. ⌜ handed r (now (out .exit)) ≡ packOf (depthOf depth inflow outflow) (now (out .entry)) ⌝ }
     ensures { λ _. ⌜ Typed (depthOf depth inflow outflow) ⌝ }
@@ -34,6 +49,17 @@ fn pack_depth(depth: f32, inflow: u32, outflow: u32, out: &mut [u8]) -> Packed
     }
     if !is_allowed(depth) {
         return Packed::Refused(3);
+    }
+    put_depth(depth, inflow, outflow, out)
+}
+
+// Of a depth that is allowed; 1 where there is no room.
+fn put_depth(depth: f32, inflow: u32, outflow: u32, out: &mut [u8]) -> Packed
+    requires { ⌜ allowed depth ≡ true ⌝ }
+    ensures { λ r. ⌜ handed r (now (out .exit)) ≡ packOf (depthOf depth inflow outflow) (now (out .entry)) ⌝ }
+{
+    if out.len() < 16 {
+        return Packed::Refused(1);
     }
     put_head(out, 14, 1);
     octet::write_u32_le(out, 4, f32::to_bits(depth));

@@ -11,11 +11,11 @@ use Rattle.carried.proofs.CarryLaws.{not-refused, packed-fits, packed-l
 use Rattle.carried.proofs.payload.put_packed.Statement.{statement}
 use Rattle.carried.proofs.payload.put_packed.Tie as tie
 
-slice-aggregate-pack : tie.Need-slice-aggregate-pack
-slice-aggregate-pack c = search needs
+slice-aggregate-pack-allowed : tie.Need-slice-aggregate-pack-allowed
+slice-aggregate-pack-allowed c = search needs
 
-pack-requires : tie.Need-pack-requires
-pack-requires c κs = search needs
+pack-allowed-requires : tie.Need-pack-allowed-requires
+pack-allowed-requires c κs = c .before .before .before .pre .1
 
 enum-known-packed : tie.Need-enum-known-packed
 enum-known-packed c = search needs
@@ -29,16 +29,16 @@ enum-known-packed-2 c = search needs
 array-share-prefix-image : tie.Need-array-share-prefix-image
 array-share-prefix-image c =
     let q = c .before .before .packed2 .given .1 in
-    let e = c .before .before .before .before .before .pack .ensures .0 in
+    let e = c .before .before .before .before .before .pack-allowed .ensures in
     let g = c .before .before .before .before .before .before .before .before .before .pre .1 in
-    let left = c .before .before .before .before .before .pack .last .1 .0 in
+    let left = c .before .before .before .before .before .pack-allowed .last .1 .0 in
     let short : c .before .before .packed2 .given .0 .0 ≤ length left = omega (arith, packed-fits _ _ _ _ g refl e _ q, packed-left _ _ _ _ g refl e) in
     short
 
 slice-aggregate-write-payload : tie.Need-slice-aggregate-write-payload
 slice-aggregate-write-payload c =
     let q = c .before .before .before .packed2 .given .1 in
-    let e = c .before .before .before .before .before .before .pack .ensures .0 in
+    let e = c .before .before .before .before .before .before .pack-allowed .ensures in
     let g = c .before .before .before .before .before .before .before .before .before .before .pre .1 in
     sym (length-take-le _ _ (omega (arith, packed-fits _ _ _ _ g refl e _ q, packed-left _ _ _ _ g refl e)))
 
@@ -49,7 +49,7 @@ told-requires : tie.Need-told-requires
 told-requires c κs = written-short _ _ _ (c .before .before .write-payload .ensures .answer)
 
 returns : tie.Need-returns
-returns c = not-refused _ _ _ _ (c .before .before .before .before .before .before .before .before .before .pre .1) refl (c .before .before .before .before .before .pack .ensures .0) _ (c .before .before .packed .given .1)
+returns c = not-refused _ _ _ _ (c .before .before .before .before .before .before .before .before .before .pre .1) refl (c .before .before .before .before .before .pack-allowed .ensures) _ (c .before .before .packed .given .1)
 
 same-length : tie.Need-same-length
 same-length c = search needs
@@ -57,7 +57,7 @@ same-length c = search needs
 returns-2 : tie.Need-returns-2
 returns-2 c =
     let q = c .before .before .before .before .before .before .before .packed2 .given .1 in
-    let e = c .before .before .before .before .before .before .before .before .before .before .pack .ensures .0 in
+    let e = c .before .before .before .before .before .before .before .before .before .before .pack-allowed .ensures in
     let g = c .before .before .before .before .before .before .before .before .before .before .before .before .before .before .pre .1 in
     let out = c .before .before .before .write-payload .last .0 in
     ap (λ (x : Carry). handed x out) (c .told .ensures)
@@ -67,8 +67,8 @@ pub put-packed-spec : {M : Type 1} → statement M
 put-packed-spec =
     tie.close
     (tie.spec
-    slice-aggregate-pack
-    pack-requires
+    slice-aggregate-pack-allowed
+    pack-allowed-requires
     enum-known-packed
     refused-requires
     enum-known-packed-2

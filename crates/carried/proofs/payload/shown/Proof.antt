@@ -17,14 +17,14 @@ enum-known-reading-2 c = search needs
 kind-of-requires : tie.Need-kind-of-requires
 kind-of-requires c κs = search needs
 
-measure-of-requires : tie.Need-measure-of-requires
-measure-of-requires c κs = search needs
+measure-allowed-requires : tie.Need-measure-allowed-requires
+measure-allowed-requires c κs = c .before .before .before .before .pre _ (c .before .before .reading2 .given .1)
 
 returns : tie.Need-returns
 returns c = c .nothing .ensures ∙ sym (ap takenBy (c .before .before .reading .given .1))
 
 returns-2 : tie.Need-returns-2
-returns-2 c = rw (c .measure-of .ensures, c .before .kind-of .ensures) (sym (ap takenBy (c .before .before .before .reading2 .given .1)))
+returns-2 c = rw (c .measure-allowed .ensures, c .before .kind-of .ensures) (sym (ap takenBy (c .before .before .before .reading2 .given .1)))
 
 pub shown-spec : {M : Type 1} → statement M
 shown-spec =
@@ -34,6 +34,6 @@ shown-spec =
     nothing-requires
     enum-known-reading-2
     kind-of-requires
-    measure-of-requires
+    measure-allowed-requires
     returns
     returns-2)

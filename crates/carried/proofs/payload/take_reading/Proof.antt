@@ -1,12 +1,12 @@
 -- `carried::payload::take_reading` meets its contract. Assumes nothing.
-use mathlib.Core.Path.{_≡_, ap, _∙_}
+use mathlib.Core.Path.{_≡_, sym, ap, _∙_}
 use Prim.Native.Nat.{ℕ, _+_, _-_}
 use native.Mathlib.Omega.{arith}
 use lib.ListN.{take, drop}
 use borrow.Author.Needs.{needs}
 use Rattle.readings.specs.Unpack.{unpackOf}
 use Rattle.carried.specs.Take.{takenBy}
-use Rattle.carried.proofs.CarryLaws.{payload-there, none-taken, some-taken}
+use Rattle.carried.proofs.CarryLaws.{unpack-fine, payload-there, none-taken, some-taken}
 use Rattle.carried.proofs.payload.take_reading.Statement.{statement}
 use Rattle.carried.proofs.payload.take_reading.Tie as tie
 
@@ -35,7 +35,7 @@ unpack-requires : tie.Need-unpack-requires
 unpack-requires c κs = search needs
 
 shown-requires : tie.Need-shown-requires
-shown-requires c κs = search needs
+shown-requires c κs = λ r e. unpack-fine _ r (sym (c .unpack .ensures) ∙ e)
 
 returns : tie.Need-returns
 returns c = c .nothing .ensures ∙ none-taken _ _ (λ i. omega (arith, c .before .before .before .shared-slice-known .given i)) _ _ _ (c .before .before .before .before .pre) (c .before .enum-told .given .1)

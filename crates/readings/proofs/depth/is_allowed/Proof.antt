@@ -1,33 +1,27 @@
--- `readings::depth::is_allowed` meets its contract: the tests are those of `allowed`. Assumes nothing.
-use mathlib.Core.Path.{_≡_, refl}
-use mathlib.Core.Bool.{Bool, true, false, _&&_}
-use lib.IntN.{pos}
-use lib.Ieee.{binary32, ofBits, ofInt, le}
-use Rattle.refusal.proofs.TableLaws.{both}
-use Rattle.readings.specs.Depth.{allowed}
+-- `readings::depth::is_allowed` meets its contract: what is not a number is not allowed, and all else is what its bits say. Assumes nothing.
+use mathlib.Core.Path.{_∙_}
+use lib.Dec.{T}
+use lib.Ieee.{binary32, fits}
+use Rattle.readings.proofs.DepthLaws.{same-no-nan, differs-refused, by-its-bits}
+use borrow.Author.Needs.{needs}
 use Rattle.readings.proofs.depth.is_allowed.Statement.{statement}
 use Rattle.readings.proofs.depth.is_allowed.Tie as tie
 
--- the second of two tests decides where the first holds, and else the first
-second : (a b : Bool) → a ≡ true → b ≡ a && b
-second true b e = refl
-second false b e = both e refl
-
-first : (a b : Bool) → a ≡ false → false ≡ a && b
-first true b e = both refl e
-first false b e = refl
-
 returns : tie.Need-returns
-unfolding allowed ofBits ofInt
-returns c =
-    let depth = c .before .args .depth in
-    second (le (ofInt binary32 (pos 0)) depth) (le depth (ofInt binary32 (pos 20))) (c .if1 .taken)
+returns c = differs-refused _ (c .if1 .taken)
+
+float-to-bits-bits-allowed : tie.Need-float-to-bits-bits-allowed
+float-to-bits-bits-allowed c = same-no-nan _ (c .if1 .left)
+
+bits-allowed-requires : tie.Need-bits-allowed-requires
+bits-allowed-requires c κs = search needs
 
 returns-2 : tie.Need-returns-2
-unfolding allowed ofBits ofInt
 returns-2 c =
-    let depth = c .before .args .depth in
-    first (le (ofInt binary32 (pos 0)) depth) (le depth (ofInt binary32 (pos 20))) (c .if1 .left)
+    let start = c .before .before in
+    let small : T (fits binary32 (start .args .depth)) = search needs in
+    c .bits-allowed .ensures ∙ by-its-bits (start .args .depth) small
 
 pub is-allowed-spec : {M : Type 1} → statement M
-is-allowed-spec = tie.close (tie.spec returns returns-2)
+is-allowed-spec =
+    tie.close (tie.spec returns float-to-bits-bits-allowed bits-allowed-requires returns-2)

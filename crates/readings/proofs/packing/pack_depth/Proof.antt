@@ -1,20 +1,10 @@
--- `readings::packing::pack_depth` meets its contract: three parts, put down one after the other, are the bytes of the reading. Assumes nothing.
-use mathlib.Core.Path.{_≡_, sym, ap, ap₂, _∙_}
-use mathlib.Core.List.{List}
-use mathlib.Core.Bool.{true}
-use Prim.Native.Nat.{ℕ, _≤_}
+-- `readings::packing::pack_depth` meets its contract: the refusals in their order, then what is allowed is put down. Assumes nothing.
+use mathlib.Core.Path.{sym, _∙_}
 use native.Mathlib.Omega.{arith}
-use lib.ListN.{length}
-use lib.Ieee.{binary32, toBits}
 use denote.Ref.{now}
 use borrow.Author.Tests.{not-true, not-false}
-use Rattle.octet.specs.Part.{splice}
-use Rattle.readings.specs.Depth.{allowed}
-use Rattle.readings.specs.Reading.{depthOf, image, Typed}
-use Rattle.readings.specs.Pack.{handed}
-use Rattle.readings.specs.declared.Packed.the-variants.{Written}
-use Rattle.readings.proofs.DepthLaws.{allowed-no-nan}
-use Rattle.readings.proofs.PackLaws.{pack-no-room, pack-outside, pack-written, image-depth, length-depth, put-three}
+use Rattle.readings.specs.Reading.{depthOf, Typed}
+use Rattle.readings.proofs.PackLaws.{pack-no-room, pack-outside, length-depth}
 use borrow.Author.Needs.{needs}
 use Rattle.readings.proofs.packing.pack_depth.Statement.{statement}
 use Rattle.readings.proofs.packing.pack_depth.Tie as tie
@@ -45,41 +35,16 @@ returns-2 c =
       typed start,
     )
 
-put-head-requires : tie.Need-put-head-requires
-put-head-requires c κs = search needs
-
-float-to-bits-write-u32-le : tie.Need-float-to-bits-write-u32-le
-float-to-bits-write-u32-le c =
-    let at-test = c .before .before .before .before .before in
-    allowed-no-nan _ (sym (at-test .before .is-allowed .ensures) ∙ not-false _ (at-test .if2 .left))
-
-write-u32-le-requires : tie.Need-write-u32-le-requires
-write-u32-le-requires c κs = search needs
-
-put-litres-requires : tie.Need-put-litres-requires
-put-litres-requires c κs = search needs
+put-depth-requires : tie.Need-put-depth-requires
+put-depth-requires c κs = sym (c .before .before .is-allowed .ensures) ∙ not-false _ (c .before .if2 .left)
 
 same-length : tie.Need-same-length
 same-length c = search needs
 
 returns-3 : tie.Need-returns-3
 returns-3 c =
-    let third = c .before .before in
-    let second = third .before .before .before .before in
-    let first = second .before .before .before .before in
-    let at-test = first .before .before in
-    let start = at-test .before .before .before .before in
-    let a = start .args in
-    let r = depthOf (a .depth) (a .inflow) (a .outflow) in
-    let out = now (a .out) in
-    let size = length-depth (a .depth) (a .inflow) (a .outflow) in
-    let room : length (image r) ≤ length out = omega (arith, size, at-test .before .before .if1 .left) in
-    let good : allowed (a .depth) ≡ true = sym (at-test .before .is-allowed .ensures) ∙ not-false _ (at-test .if2 .left) in
-    let put =
-    put-three 14 1 4 (toBits binary32 (a .depth)) (a .inflow) (a .outflow) out (omega (arith, size, room)) _ _ _
-    (first .put-head .ensures) (second .write-u32-le .ensures) (third .put-litres .ensures)
-    ∙ ap (λ (l : List ℕ). splice 0 l out) (image-depth (a .depth) (a .inflow) (a .outflow)) in
-    (ap₂ (λ (n : ℕ) (l : List ℕ). handed (Written n) l) (sym size) put ∙ pack-written r out room good, typed start)
+    let put = c .before .before in
+    (put .put-depth .ensures, typed (put .before .before .before .before .before .before))
 
 pub pack-depth-spec : {M : Type 1} → statement M
 pack-depth-spec =
@@ -88,9 +53,6 @@ pack-depth-spec =
     returns
     is-allowed-requires
     returns-2
-    put-head-requires
-    float-to-bits-write-u32-le
-    write-u32-le-requires
-    put-litres-requires
+    put-depth-requires
     same-length
     returns-3)

@@ -111,7 +111,7 @@ module _ (kind measure : ℕ) (w : measure < 4294967296) where
 -- ---- a message that was written, read again
 
 -- an answer that means an AUTHORITY is one
-abbrev typed : Option Message → ℕ
+abbrev pub typed : Option Message → ℕ
 typed none = 0
 typed (some m) = m .type
 

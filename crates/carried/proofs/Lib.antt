@@ -1,3 +1,4 @@
 pub mod CarryLaws
 pub mod BackLaws
+pub mod ExactLaws
 pub mod Theorems

@@ -1,6 +1,5 @@
 -- `readings::numbers::measure_allowed` meets its contract: an allowed depth is a number, and has bits. Assumes nothing.
-use mathlib.Core.Path.{_≡_, sym, ap, _∙_}
-use mathlib.Core.Bool.{true}
+use mathlib.Core.Path.{sym, ap, _∙_}
 use Rattle.readings.specs.Reading.{fine, measureOf}
 use Rattle.readings.proofs.DepthLaws.{allowed-no-nan}
 use borrow.Author.Needs.{needs}

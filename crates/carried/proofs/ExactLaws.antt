@@ -114,7 +114,8 @@ module _ (kind measure i o : ℕ) where
   reading-applies : (n : ℕ) → readingOf kind measure i o ≡ Refused n → ReadingApplies kind measure n
   unfolding readingOf numberRefusals orRefuse
   reading-applies n e =
-      applies-by (eqb kind 1) (eqb kind 2) (ltb 65535 measure) (allowed (ofBits binary32 measure)) refl refl refl refl (reading (measuredAs kind measure) i o) n e
+      applies-by (eqb kind 1) (eqb kind 2) (ltb 65535 measure) (allowed (ofBits binary32 measure)) refl refl refl refl
+      (reading (measuredAs kind measure) i o) n e
 
   applies-some : (n : ℕ) → ReadingApplies kind measure n → 0 < n
   applies-some n (too-large z k h) = omega (arith, z)
@@ -185,7 +186,8 @@ module _ (major : ℕ) (d : List ℕ) (b : Bytes d) where
     authority-is m e t = authority-by major d (answer d major) m u old e t
 
     -- an AUTHORITY, with a reading or with none
-    put-ends : (m : Message) → IsAuthority major d m → carryCall major d u old ≡ carryIn m u old → (x : Unpacked) → u ≡ x → Ends major d u old (carryCall major d u old)
+    put-ends : (m : Message) → IsAuthority major d m → carryCall major d u old ≡ carryIn m u old → (x : Unpacked) → u ≡ x
+        → Ends major d u old (carryCall major d u old)
     put-ends m a e (Refused n) q = not-reading m a n q (e ∙ ap (λ (y : Unpacked). carryIn m y old) q)
     put-ends m a e (Read r) q = go (fit-is (withReading m r .bytes) old)
       where

@@ -4,9 +4,9 @@ ghost use mathlib.Core.Path.{_≡_};
 ghost use lib.Ieee.{binary32, ofBits, toBits};
 ghost use Rattle.readings.specs.Depth.{allowed, metresOf};
 
-// Are these bits those of an allowed depth? Whole numbers are compared and no floats: a host may have set the processor to take
-// the smallest floats for 0 (flush to zero, denormals are zero), and then the greatest below 0, 0x80000001, would pass. The bits
-// of 20 are 0x41A00000 and those of all from 0 up to it stand below; negative zero has the sign alone.
+// Are these bits those of an allowed depth? Whole numbers are compared and no floats: a host may have set the processor
+// to take the smallest floats for 0 (flush to zero, denormals are zero), and then the greatest below 0, 0x80000001, would
+// pass. The bits of 20 are 0x41A00000, and those of all from 0 up to it stand below; negative zero has the sign alone.
 fn bits_allowed(bits: u32) -> bool
     ensures { λ r. ⌜ r ≡ allowed (ofBits binary32 bits) ⌝ }
 {
@@ -16,8 +16,8 @@ fn bits_allowed(bits: u32) -> bool
     bits <= 0x41A0_0000
 }
 
-// From 0 to 20 metres with both ends. 0 and -0 are one number; what is not a number is in no order, so it is refused. The
-// language promises no bits of it, so it is told apart first, by what no setting of the processor changes.
+// From 0 to 20 metres with both ends. 0 and -0 are one number; what is not a number is in no order, so it is refused.
+// The language promises no bits of it, so it is told apart first, by what no setting of the processor changes.
 pub fn is_allowed(depth: f32) -> bool
     ensures { λ r. ⌜ r ≡ allowed depth ⌝ }
 {

@@ -27,8 +27,8 @@ pub fn pack(reading: Reading, out: &mut [u8]) -> Packed
     }
 }
 
-// The same of a reading that may be written, as those are that were read or made of numbers: nothing is left to be asked of its
-// depth but the bits.
+// The same of a reading that may be written, as those are that were read or made of numbers: nothing is left to be asked
+// of its depth but the bits.
 pub fn pack_allowed(reading: Reading, out: &mut [u8]) -> Packed
     requires { ⌜ fine (reading .measured) ≡ true ⌝ }
     ensures { λ r. ⌜ handed r (now (out .exit)) ≡ packOf reading (now (out .entry)) ⌝ }

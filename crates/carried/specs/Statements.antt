@@ -1,4 +1,4 @@
--- To believe. What is proved of readings carried; the theorems stand in proofs/Theorems.antt. `handed r output ≡ carryCall ..` is the contract of
+-- Beside the demands. What is proved of readings carried; the theorems stand in proofs/Theorems.antt. `handed r output ≡ carryCall ..` is the contract of
 -- `gauge_carry`, `r ≡ takeCall ..` that of `gauge_carried`. Assumes nothing.
 use Prim.Native.Nat.{ℕ, _≤_, _<_}
 use mathlib.Core.Bool.{true, false}

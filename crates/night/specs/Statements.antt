@@ -1,4 +1,4 @@
--- To believe. What is proved of the replay, for any trace whatsoever; the theorems stand in proofs/Theorems.antt. Assumes nothing.
+-- Beside the demands. What is proved of the replay, for any trace whatsoever; the theorems stand in proofs/Theorems.antt. Assumes nothing.
 use Prim.Native.Nat.{ℕ, _+_, _<_}
 use mathlib.Core.Bool.{cond, true, false}
 use mathlib.Core.List.{List, [], _∷_, _++_}

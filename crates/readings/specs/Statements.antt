@@ -1,4 +1,4 @@
--- To believe. What is proved of readings; the theorems stand in proofs/Theorems.antt. `handed r out ≡ packOf ..` is the contract of `pack`, `r ≡ unpackOf ..`
+-- Beside the demands. What is proved of readings; the theorems stand in proofs/Theorems.antt. `handed r out ≡ packOf ..` is the contract of `pack`, `r ≡ unpackOf ..`
 -- that of `unpack`, `r ≡ balanceOf ..` that of `balance`. Assumes nothing.
 use Prim.Native.Nat.{ℕ, _≤_, _<_}
 use mathlib.Core.Bool.{true, false, _||_}

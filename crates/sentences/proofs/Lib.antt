@@ -18,3 +18,4 @@ pub mod LateLaws
 pub mod ComputedLaws
 pub mod ListedLaws
 pub mod GoneLaws
+pub mod SameLaws

@@ -8,3 +8,4 @@ pub mod Meets
 pub mod Back
 pub mod Late
 pub mod Listed
+pub mod Same

@@ -1,0 +1,1 @@
+// What the gauge does with an AUTHORITY that carries a reading. No code.

@@ -8,6 +8,10 @@ pub mod DoesLaws
 pub mod ReceiveLaws
 pub mod FirstLaws
 pub mod PartLaws
+pub mod SaidLaws
+pub mod FloodRowsLaws
+pub mod MessageRowsLaws
+pub mod ReadLaws
 pub mod NumberLaws
 pub mod OtherLaws
 pub mod OursLaws

@@ -42,15 +42,11 @@ use Rattle.sentences.specs.Words.{Memory, memory, ticks, lists}
 use Rattle.sentences.specs.Sentences as S
 use Rattle.sentences.specs.Numbers as Num
 use Rattle.sentences.proofs.OneLaws.{named-one}
-use Rattle.sentences.proofs.MoveLaws.{clash, any-in, in-any, none-in, found-in, seek-some, seek-none}
+use Rattle.sentences.proofs.MoveLaws.{clash, holds-not, any-in, in-any, none-in, found-in, seek-some, seek-none}
 use Rattle.sentences.proofs.ReceiveLaws.{not-iff}
 use Rattle.sentences.proofs.DoesLaws.{sentBy, named-by}
-use Rattle.sentences.proofs.NumberLaws.{no-room-by, few-addresses}
+use Rattle.sentences.proofs.SaidLaws.{no-room-by, few-addresses}
 use Rattle.sentences.proofs.FirstLaws.{Row, Agree}
-
-holds-not : (b : Bool) → (b ≡ true → ⊥) → b ≡ false
-holds-not true h = absurd (h refl)
-holds-not false h = refl
 
 -- ---- the tick and the neighbour list
 

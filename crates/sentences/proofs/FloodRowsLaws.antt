@@ -1,0 +1,151 @@
+-- A FLOOD received is refused when the clauses say so: the rows of its table, with a route entry and with a revocation. Assumes nothing.
+use mathlib.Core.Path.{_≡_, refl, sym, ap, ap₂, _∙_}
+use mathlib.Core.Logic.{inl, inr}
+use mathlib.Core.Bool.{Bool, true, false}
+use mathlib.Core.List.{List, _++_}
+use Prim.Native.Nat.{ℕ, _+_}
+use native.Mathlib.Omega.{arith}
+use lib.Dec.{eqb}
+use lib.ListN.{length, length-append}
+use borrow.Author.Tests.{eq-eqb, eqb-true}
+use Rattle.octet.specs.Part.{part}
+use Rattle.octet.proofs.PartLaws.{length-part}
+use Rattle.octet.proofs.TestLaws.{both-true}
+use Rattle.key.specs.Number.{keyAt}
+use Rattle.record.specs.Record.{keyOf}
+use Rattle.record.specs.Entry.{entryForm, recordOf}
+use Rattle.table.specs.Rows.{joined}
+use Rattle.table.proofs.RowLaws.{rows-length, joined-append}
+use Rattle.cache.specs.Form.{heldOf}
+use Rattle.waiting.specs.Place.{idOf}
+use Rattle.waiting.specs.Form.{anyOf, usedOf, placesOf}
+use Rattle.waiting.specs.Seek.{hasId}
+use Rattle.wire_fields.specs.declared.Part.{Part}
+use Rattle.wire_fields.specs.declared.Part.the-variants.{Here, Absent}
+use Rattle.wire_write.specs.Making.{ackMade, inquireMade}
+use Rattle.gauge_plan.specs.Rooms.{ackRoom, inquireRoom}
+use Rattle.gauge_plan.specs.Ids.{idAfter}
+use Rattle.gauge_plan.specs.Flood.{notOurs, mustAsk}
+use Rattle.gauge_commit.proofs.LengthLaws.{inquire-length}
+use Rattle.gauge_commit.proofs.SentLaws.{joined-one, acks-room, record-long}
+use Rattle.gauge.specs.Lent.{Receive}
+use Rattle.gauge.proofs.AnswerLaws.{EntryIn}
+use Rattle.gauge_laws.specs.Table.{floodRows}
+use Rattle.sentences.specs.Heard.{Heard, entry, revoke}
+use Rattle.sentences.specs.Sentences as S
+use Rattle.sentences.proofs.MoveLaws.{any-in, in-any}
+use Rattle.sentences.proofs.HeardLaws.{saidBy}
+use Rattle.sentences.proofs.ReceiveLaws.{not-iff, must-iff}
+use Rattle.gauge_plan.proofs.FloodLaws.{ack-most, inquire-most}
+use Rattle.sentences.proofs.FirstLaws.{Row}
+use Rattle.sentences.proofs.SaidLaws.{lent, Said, short-to, short-from, Lowest, Both, good}
+
+module _ (l : Receive) (n : ℕ) (low : Lowest l n) where
+  abbrev k : ℕ
+  k = keyOf (l .own)
+
+  abbrev recs : List (List ℕ)
+  recs = heldOf (keyOf (l .own)) (l .cache)
+
+  abbrev ps : List (List ℕ)
+  ps = placesOf (l .waiting)
+
+  -- FLOOD with a route entry
+  module _ (id : ℕ) (s : Bool) (validate start len : ℕ) (formed : entryForm (part start len (l .datagram)) ≡ true) where
+    abbrev r : List ℕ
+    r = recordOf (part start len (l .datagram))
+
+    abbrev x : Heard
+    x = entry id s (keyAt validate (l .datagram)) r
+
+    abbrev b : Bool
+    b = notOurs k validate (l .datagram)
+
+    abbrev o : Bool
+    o = mustAsk recs ps r
+
+    abbrev ds : List (List ℕ)
+    ds = S.acks l id s b ++ S.asks l o r
+
+    entry-reply : S.Reply (lent l) l x ds
+    entry-reply = record { n = b; ask = o; set = not-iff (keyAt validate (l .datagram)) k; asked = must-iff k (lent l) r; are = refl }
+
+    asks-room : length (l .nonce) ≡ 16 → (y : Bool) → length (joined (S.asks l y r)) ≡ inquireRoom y
+    unfolding joined inquireMade
+    asks-room fresh true =
+        let long = record-long (part start len (l .datagram)) formed in
+        ap length (joined-one (inquireMade (l .major) (l .minor) (idAfter (l .id)) (part 0 32 r) (l .nonce) .bytes))
+        ∙ inquire-length (l .major) (l .minor) (idAfter (l .id)) (part 0 32 r) (l .nonce) (length-part 0 32 r (omega arith)) fresh
+    asks-room fresh false = refl
+
+    entry-room : length (l .nonce) ≡ 16 → length (joined ds) ≡ ackRoom s b + inquireRoom o
+    unfolding ackMade
+    entry-room fresh =
+        ap length (joined-append (S.acks l id s b) (S.asks l o r)) ∙ length-append (joined (S.acks l id s b)) (joined (S.asks l o r))
+        ∙ ap₂ _+_ (acks-room (l .major) (l .minor) (l .id) id b s) (asks-room fresh o)
+
+    entry-both : Both l n x (floodRows l s validate (Here start len))
+    entry-both = (to, from)
+      where
+        full-is : length ps ≡ usedOf (l .waiting)
+        full-is = rows-length 140 (usedOf (l .waiting)) (l .waiting)
+
+        to : Said l x n → Row n (floodRows l s validate (Here start len))
+        to (inl (inl w)) = inl (w .0, eq-eqb (keyOf r) k (w .1))
+        to (inl (inr (inl w))) =
+            let there = any-in (hasId (idAfter (l .id))) (w .2) ps (w .3) (eq-eqb (idOf (w .2)) (idAfter (l .id)) (w .4)) in
+            inr (inl (w .0, rw (must-iff k (lent l) r .1 (w .1), there) refl))
+        to (inl (inr (inr w))) =
+            inr (inr (inl (w .0, rw (must-iff k (lent l) r .1 (w .1), eq-eqb (usedOf (l .waiting)) 16 (sym full-is ∙ w .2)) refl)))
+        to (inr w) =
+            let g = good l n low (omega (arith, w .0)) in
+            inr (inr (inr (inl (short-from l x ds n _ (g .cache) entry-reply (entry-room (g .nonce))
+            (omega (arith, ack-most s b, inquire-most o)) w))))
+
+        from : Row n (floodRows l s validate (Here start len)) → Said l x n
+        from (inl w) = inl (inl (w .0, eqb-true (keyOf r) k (w .1)))
+        from (inr (inl w)) =
+            let v = both-true o (anyOf (hasId (idAfter (l .id))) ps) (w .1) in
+            let p = in-any (hasId (idAfter (l .id))) ps (v .1) in
+            inl (inr (inl (w .0, must-iff k (lent l) r .0 (v .0), p .0, p .1, eqb-true (idOf (p .0)) (idAfter (l .id)) (p .2))))
+        from (inr (inr (inl w))) =
+            let v = both-true o (eqb (usedOf (l .waiting)) 16) (w .1) in
+            inl (inr (inr (w .0, must-iff k (lent l) r .0 (v .0), full-is ∙ eqb-true (usedOf (l .waiting)) 16 (v .1))))
+        from (inr (inr (inr (inl w)))) = inr (short-to l x ds n _ entry-reply (entry-room (good l n low (omega (arith, w .0)) .nonce)) w)
+        from (inr (inr (inr (inr w)))) = absurd w
+
+  -- FLOOD with a revocation
+  module _ (id : ℕ) (s : Bool) (validate : ℕ) where
+    abbrev rx : Heard
+    rx = revoke id s (keyAt validate (l .datagram))
+
+    abbrev rb : Bool
+    rb = notOurs k validate (l .datagram)
+
+    revoke-reply : S.Reply (lent l) l rx (S.acks l id s rb)
+    revoke-reply = record { n = rb; set = not-iff (keyAt validate (l .datagram)) k; are = refl }
+
+    revoke-room : length (joined (S.acks l id s rb)) ≡ ackRoom s rb
+    unfolding ackMade
+    revoke-room = acks-room (l .major) (l .minor) (l .id) id rb s
+
+    revoke-both : Both l n rx (floodRows l s validate Absent)
+    revoke-both = (to, from)
+      where
+        to : Said l rx n → Row n (floodRows l s validate Absent)
+        to (inl (inl w)) = inl (w .0, not-iff (l .verdict) 1 .1 (w .1))
+        to (inl (inr w)) = inr (inl (w .0, eq-eqb (keyAt 0 (l .key)) k (w .1)))
+        to (inr w) = inr (inr (inl (short-from l rx (S.acks l id s rb) n _ (good l n low (omega (arith, w .0)) .cache) revoke-reply revoke-room
+            (omega (arith, ack-most s rb)) w)))
+
+        from : Row n (floodRows l s validate Absent) → Said l rx n
+        from (inl w) = inl (inl (w .0, not-iff (l .verdict) 1 .0 (w .1)))
+        from (inr (inl w)) = inl (inr (w .0, eqb-true (keyAt 0 (l .key)) k (w .1)))
+        from (inr (inr (inl w))) = inr (short-to l rx (S.acks l id s rb) n _ revoke-reply revoke-room w)
+        from (inr (inr (inr w))) = absurd w
+
+  -- any FLOOD
+  pub flood-both : (id : ℕ) (s : Bool) (validate : ℕ) (route : Part) → EntryIn (l .datagram) route
+      → Both l n (saidBy (l .datagram) id s validate route) (floodRows l s validate route)
+  flood-both id s validate (Here start len) w = entry-both id s validate start len (w .1)
+  flood-both id s validate Absent w = revoke-both id s validate

@@ -1,0 +1,209 @@
+-- An INQUIRE, AUTHORITY, ACK or LOOKUP received, or a message that is not taken, is refused when the clauses say so: the rows of their tables. Assumes nothing.
+use mathlib.Core.Path.{_≡_, refl, sym, ap, _∙_}
+use mathlib.Core.Logic.{_⊎_, _↔_, inl, inr}
+use mathlib.Core.Bool.{Bool, true, false, not, _||_}
+use mathlib.Core.List.{List, [], _∷_}
+use Prim.Native.Nat.{ℕ, _+_, _*_, _<_}
+use native.Mathlib.Omega.{arith}
+use lib.Dec.{eqb, ltb}
+use lib.ListN.{length, getD}
+use borrow.Author.Tests.{eq-eqb, eqb-true}
+use Rattle.octet.proofs.TestLaws.{both-true}
+use Rattle.key.specs.Number.{keyAt}
+use Rattle.record.specs.Record.{keyOf, countOf, recordForm}
+use Rattle.refusal.specs.Table.{Refusal, when}
+use Rattle.table.specs.Rows.{joined}
+use Rattle.kept.specs.Keys.{_∈_}
+use Rattle.cache.specs.Form.{heldOf}
+use Rattle.cache.specs.Closest.{candidates, closestOf}
+use Rattle.cache.proofs.ClosestLaws.{closest-among, closest-least}
+use Rattle.waiting.specs.Place.{idOf, kindOf, placeKey}
+use Rattle.waiting.specs.Form.{placesOf}
+use Rattle.waiting.specs.Seek.{seek, isAt}
+use Rattle.wire_fields.specs.Kinds.{authorityKinds}
+use Rattle.wire_write.specs.Sent.{closestSent}
+use Rattle.wire_write.specs.Making.{cpaMade, closestMade}
+use Rattle.gauge_plan.specs.Flood.{notOurs}
+use Rattle.gauge_plan.specs.Answering.{isNothing, placeOf}
+use Rattle.gauge_plan.proofs.MemoryLaws.{ready}
+use Rattle.gauge_commit.proofs.LengthLaws.{cpa-length, closest-length}
+use Rattle.gauge_commit.proofs.SentLaws.{joined-one}
+use Rattle.gauge_commit.proofs.PlaceLaws.{closest-formed}
+use Rattle.record.proofs.EntryLaws.{form-length}
+use Rattle.gauge.specs.Lent.{Receive}
+use Rattle.gauge_laws.proofs.FirstLaws.{whole-record}
+use Rattle.sentences.specs.Heard.{inquire, authority, ack, lookup, other}
+use Rattle.sentences.specs.Sentences as S
+use Rattle.sentences.specs.Numbers as Num
+use Rattle.sentences.proofs.MembersLaws.{rise-one, places-rise}
+use Rattle.sentences.proofs.MoveLaws.{clash, none-in, found-in, seek-some, seek-none}
+use Rattle.sentences.proofs.ReceiveLaws.{not-iff}
+use Rattle.sentences.proofs.FirstLaws.{Row}
+use Rattle.sentences.proofs.SaidLaws.{few-addresses, lent, lent-tables, Said, short-to, short-from, none-short, Lowest, Both, good}
+
+module _ (l : Receive) (n : ℕ) (low : Lowest l n) where
+  abbrev k : ℕ
+  k = keyOf (l .own)
+
+  abbrev recs : List (List ℕ)
+  recs = heldOf (keyOf (l .own)) (l .cache)
+
+  abbrev ps : List (List ℕ)
+  ps = placesOf (l .waiting)
+
+  -- INQUIRE
+  pub inquire-both : (id validate : ℕ)
+      → Both l n (inquire id (keyAt validate (l .datagram)))
+      (when 12 (notOurs k validate (l .datagram)) ∷ when 15 (ltb (length (l .output)) (40 + length (l .cpa))) ∷ [])
+  unfolding cpaMade
+  inquire-both id validate = (to, from)
+    where
+      room : length (joined (cpaMade (l .major) (l .minor) (l .id) id (l .cpa) .bytes ∷ [])) ≡ 40 + length (l .cpa)
+      room = ap length (joined-one (cpaMade (l .major) (l .minor) (l .id) id (l .cpa) .bytes)) ∙ cpa-length (l .major) (l .minor) (l .id) id (l .cpa)
+
+      to : Said l (inquire id (keyAt validate (l .datagram))) n
+          → Row n (when 12 (notOurs k validate (l .datagram)) ∷ when 15 (ltb (length (l .output)) (40 + length (l .cpa))) ∷ [])
+      to (inl w) = inl (w .0, not-iff (keyAt validate (l .datagram)) k .1 (w .1))
+      to (inr w) = inr (inl (short-from l (inquire id (keyAt validate (l .datagram))) (cpaMade (l .major) (l .minor) (l .id) id (l .cpa) .bytes ∷ []) n _
+          (good l n low (omega (arith, w .0)) .cache) refl room (let h = good l n low (omega (arith, w .0)) .cpa-most in omega arith) w))
+
+      from : Row n (when 12 (notOurs k validate (l .datagram)) ∷ when 15 (ltb (length (l .output)) (40 + length (l .cpa))) ∷ [])
+          → Said l (inquire id (keyAt validate (l .datagram))) n
+      from (inl w) = inl (w .0, not-iff (keyAt validate (l .datagram)) k .0 (w .1))
+      from (inr (inl w)) =
+          inr (short-to l (inquire id (keyAt validate (l .datagram))) (cpaMade (l .major) (l .minor) (l .id) id (l .cpa) .bytes ∷ []) n _ refl room w)
+      from (inr (inr w)) = absurd w
+
+  -- the place acked
+  waits-at : (kind acked : ℕ) (p : List ℕ) → S.WaitsAs (lent l) kind acked p → isAt acked kind p ≡ true
+  waits-at kind acked p w = rw (eq-eqb (idOf p) acked (w .1), eq-eqb (kindOf p) kind (w .2)) refl
+
+  at-waits : (kind acked : ℕ) (p : List ℕ) → p ∈ ps → isAt acked kind p ≡ true → S.WaitsAs (lent l) kind acked p
+  at-waits kind acked p i e =
+      let v = both-true (eqb (idOf p) acked) (eqb (kindOf p) kind) e in (i, eqb-true (idOf p) acked (v .0), eqb-true (kindOf p) kind (v .1))
+
+  none-iff-not : (kind acked : ℕ) → (isNothing (seek (isAt acked kind) 0 ps) ≡ true) ↔ (¬ ((p : List ℕ) × S.WaitsAs (lent l) kind acked p))
+  none-iff-not kind acked = (to, from)
+    where
+      to : isNothing (seek (isAt acked kind) 0 ps) ≡ true → ¬ ((p : List ℕ) × S.WaitsAs (lent l) kind acked p)
+      to e w = clash (waits-at kind acked (w .0) (w .1)) (none-in (isAt acked kind) ps (seek-none (isAt acked kind) ps e) (w .0) (w .1 .0))
+
+      from : ¬ ((p : List ℕ) × S.WaitsAs (lent l) kind acked p) → isNothing (seek (isAt acked kind) 0 ps) ≡ true
+      from h = go (isNothing (seek (isAt acked kind) 0 ps)) refl
+        where
+          go : (y : Bool) → isNothing (seek (isAt acked kind) 0 ps) ≡ y → isNothing (seek (isAt acked kind) 0 ps) ≡ true
+          go true e = e
+          go false e =
+              let w = found-in (isAt acked kind) (placeOf (seek (isAt acked kind) 0 ps)) ps (seek-some (isAt acked kind) ps e) in
+              absurd (h (getD ps (placeOf (seek (isAt acked kind) 0 ps)) [], at-waits kind acked _ (w .0) (w .1)))
+
+  -- ACK
+  pub ack-both : (acked : ℕ) (y : Bool) → Both l n (ack acked y) (when 8 (isNothing (seek (isAt acked 1) 0 ps)) ∷ [])
+  ack-both acked y = (to, from)
+    where
+      to : Said l (ack acked y) n → Row n (when 8 (isNothing (seek (isAt acked 1) 0 ps)) ∷ [])
+      to (inl w) = inl (w .0, none-iff-not 1 acked .1 (w .1))
+      to (inr w) = absurd (none-short l (w .1) (w .2) (w .3))
+
+      from : Row n (when 8 (isNothing (seek (isAt acked 1) 0 ps)) ∷ []) → Said l (ack acked y) n
+      from (inl w) = inl (w .0, none-iff-not 1 acked .0 (w .1))
+      from (inr w) = absurd w
+
+  -- AUTHORITY
+  module _ (acked : ℕ) (cpa : Bool) where
+    abbrev there : List ℕ
+    there = getD ps (placeOf (seek (isAt acked 2) 0 ps)) []
+
+    abbrev au : List Refusal
+    au = when 8 (isNothing (seek (isAt acked 2) 0 ps)) ∷ when 9 (not cpa || not (eqb (l .verdict) 1))
+        ∷ when 10 (not (eqb (keyAt 0 (l .key)) (placeKey there))) ∷ []
+
+    nine-to : (c : Bool) → (c ≡ false) ⊎ (¬ (l .verdict ≡ 1)) → not c || not (eqb (l .verdict) 1) ≡ true
+    nine-to false w = refl
+    nine-to true (inl e) = clash refl e
+    nine-to true (inr h) = not-iff (l .verdict) 1 .1 h
+
+    nine-from : (c : Bool) → not c || not (eqb (l .verdict) 1) ≡ true → (c ≡ false) ⊎ (¬ (l .verdict ≡ 1))
+    nine-from false e = inl refl
+    nine-from true e = inr (not-iff (l .verdict) 1 .0 e)
+
+    pub authority-both : Num.Says l (authority acked cpa) → Both l n (authority acked cpa) au
+    authority-both says = (to, from)
+      where
+        found-there : isNothing (seek (isAt acked 2) 0 ps) ≡ false → S.WaitsAs (lent l) 2 acked there
+        found-there e =
+            let w = found-in (isAt acked 2) (placeOf (seek (isAt acked 2) 0 ps)) ps (seek-some (isAt acked 2) ps e) in at-waits 2 acked there (w .0) (w .1)
+
+        some-there : 8 < n → S.WaitsAs (lent l) 2 acked there
+        some-there h = go (isNothing (seek (isAt acked 2) 0 ps)) refl
+          where
+            go : (y : Bool) → isNothing (seek (isAt acked 2) 0 ps) ≡ y → S.WaitsAs (lent l) 2 acked there
+            go true e = absurd (low 8 h (Num.no-inquiry refl acked cpa says (none-iff-not 2 acked .0 e)))
+            go false e = found-there e
+
+        to : Said l (authority acked cpa) n → Row n au
+        to (inl (inl w)) = inl (w .0, none-iff-not 2 acked .1 (w .1))
+        to (inl (inr (inl w))) = inr (inl (w .0, nine-to cpa (w .1)))
+        to (inl (inr (inr w))) =
+            let v = some-there (omega (arith, w .0)) in
+            let up = places-rise k (l .waiting) (good l n low (omega (arith, w .0)) .waiting) in
+            let e = rise-one idOf 0 (w .1) there ps up (w .2 .0) (v .0) (w .2 .1 ∙ sym (v .1)) in
+            inr (inr (inl (w .0, not-iff (keyAt 0 (l .key)) (placeKey there) .1 (λ d. w .3 (ap placeKey e ∙ sym d)))))
+        to (inr w) = absurd (none-short l (w .1) (w .2) (w .3))
+
+        from : Row n au → Said l (authority acked cpa) n
+        from (inl w) = inl (inl (w .0, none-iff-not 2 acked .0 (w .1)))
+        from (inr (inl w)) = inl (inr (inl (w .0, nine-from cpa (w .1))))
+        from (inr (inr (inl w))) =
+            inl (inr (inr (w .0, there, some-there (omega (arith, w .0)), λ d. not-iff (keyAt 0 (l .key)) (placeKey there) .0 (w .1) (sym d))))
+        from (inr (inr (inr w))) = absurd w
+
+  -- LOOKUP
+  module _ (id target : ℕ) where
+    abbrev tk : ℕ
+    tk = keyAt target (l .datagram)
+
+    abbrev cr : List ℕ
+    cr = closestOf tk (candidates (l .own) recs)
+
+    abbrev cds : List (List ℕ)
+    cds = S.written authorityKinds (closestSent (l .major) (l .minor) (l .id) id cr) ∷ []
+
+    lookup-reply : S.Reply (lent l) l (lookup id tk) cds
+    lookup-reply = record {
+      r = cr;
+      closest = record { candidate = closest-among tk (l .own) recs; none-closer = λ q i. closest-least tk (l .own) recs q i };
+      are = refl;
+    }
+
+    lookup-formed : Num.ReceiveLent l → recordForm cr ≡ true
+    unfolding heldOf
+    lookup-formed g =
+        let rd = ready (l .own) (l .cache) (l .waiting) (lent-tables l g) in
+        closest-formed tk k (l .own) (l .cache) recs (rd .owned) (rd .form)
+
+    lookup-room : Num.ReceiveLent l → length (joined cds) ≡ 80 + 16 * countOf cr
+    unfolding closestMade heldOf
+    lookup-room g =
+        let fine = lookup-formed g in
+        let whole = whole-record cr fine in
+        ap length (joined-one (S.written authorityKinds (closestSent (l .major) (l .minor) (l .id) id cr)))
+        ∙ ap (λ (y : List ℕ). length (S.written authorityKinds (closestSent (l .major) (l .minor) (l .id) id y))) (sym whole)
+        ∙ closest-length (l .major) (l .minor) (l .id) cr 0 (omega (arith, form-length cr fine)) (ap recordForm whole ∙ fine) id
+        ∙ ap (λ (y : List ℕ). 80 + 16 * countOf y) whole
+
+    pub lookup-both : Both l n (lookup id tk) (when 15 (ltb (length (l .output)) (80 + 16 * countOf cr)) ∷ [])
+    lookup-both = (to, from)
+      where
+        to : Said l (lookup id tk) n → Row n (when 15 (ltb (length (l .output)) (80 + 16 * countOf cr)) ∷ [])
+        to (inl w) = absurd w
+        to (inr w) = let g = good l n low (omega (arith, w .0)) in inl (short-from l (lookup id tk) cds n _ (g .cache) lookup-reply (lookup-room g)
+            (omega (arith, few-addresses cr (lookup-formed g))) w)
+
+        from : Row n (when 15 (ltb (length (l .output)) (80 + 16 * countOf cr)) ∷ []) → Said l (lookup id tk) n
+        from (inl w) = inr (short-to l (lookup id tk) cds n _ lookup-reply (lookup-room (good l n low (omega (arith, w .0)))) w)
+        from (inr w) = absurd w
+
+  -- SOLICIT, ADVERTISE, REQUEST
+  pub seven-both : Both l n other (when 7 true ∷ [])
+  seven-both = (λ w. inl (elim w [ inl v ↦ v | inr v ↦ absurd (v .2) ], refl), λ w. elim w [ inl v ↦ inl (v .0) | inr v ↦ absurd v ])

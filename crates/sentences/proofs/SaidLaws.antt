@@ -1,0 +1,169 @@
+-- What refuses a datagram received: memory lent (1), what was heard (7 to 14) and the room that the answer needs (15), in the clauses' words. Assumes nothing.
+use mathlib.Core.Path.{_≡_, refl, ap, subst}
+use mathlib.Core.Logic.{_⊎_, inl, inr}
+use mathlib.Core.Bool.{Bool, true, false, _&&_}
+use mathlib.Core.List.{List, [], _∷_}
+use Prim.Native.Nat.{ℕ, _+_, _*_, _≤_, _<_}
+use native.Mathlib.Omega.{arith}
+use lib.Dec.{eqb, ltb, leb}
+use lib.ListN.{length, getD, drop, length-append}
+use borrow.Author.Tests.{eq-eqb, lt-ltb, ltb-true, le-leb, leb-true}
+use Rattle.octet.specs.Part.{allZero}
+use Rattle.octet.proofs.TestLaws.{both-true}
+use Rattle.key.specs.Number.{keyAt}
+use Rattle.record.specs.Record.{keyOf, countOf, recordForm}
+use Rattle.refusal.specs.Table.{Refusal}
+use Rattle.table.specs.Rows.{joined}
+use Rattle.kept.specs.Keys.{_∈_}
+use Rattle.kept.proofs.ListLaws.{Test, pass, fail, test}
+use Rattle.cache.specs.Form.{cacheForm}
+use Rattle.waiting.specs.Place.{idOf, placeKey}
+use Rattle.waiting.specs.Form.{placesOf}
+use Rattle.gauge_plan.specs.Ids.{idAfter}
+use Rattle.gauge_plan.specs.Memory.{tablesFit, handsFit}
+use Rattle.gauge_plan.proofs.MemoryLaws.{ready, known-hands}
+use Rattle.gauge.specs.Lent.{Receive}
+use Rattle.sentences.specs.Words.{Memory, memory}
+use Rattle.sentences.specs.Heard.{Heard, entry, revoke, inquire, authority, ack, lookup, other}
+use Rattle.sentences.specs.Sentences as S
+use Rattle.sentences.specs.Numbers as Num
+use Rattle.sentences.proofs.OneLaws.{reply-one}
+use Rattle.sentences.proofs.MoveLaws.{clash}
+use Rattle.sentences.proofs.FirstLaws.{Row}
+
+-- 7 to 14, by what was heard
+abbrev pub Refused : Memory → Receive → Heard → ℕ → Type 0
+Refused m l (entry id silent validate r) n =
+    ((n ≡ 11) × (keyOf r ≡ keyOf (l .own)))
+    ⊎ ((n ≡ 13) × S.MustAsk (keyOf (l .own)) m r × (p : List ℕ) × S.Waits m p × (idOf p ≡ idAfter (l .id)))
+    ⊎ ((n ≡ 14) × S.MustAsk (keyOf (l .own)) m r × (length (placesOf (m .waiting)) ≡ 16))
+Refused m l (revoke id silent validate) n = ((n ≡ 9) × (¬ (l .verdict ≡ 1))) ⊎ ((n ≡ 11) × (keyAt 0 (l .key) ≡ keyOf (l .own)))
+Refused m l (inquire id validate) n = (n ≡ 12) × (¬ (validate ≡ keyOf (l .own)))
+Refused m l (authority acked cpa) n =
+    ((n ≡ 8) × (¬ ((p : List ℕ) × S.WaitsAs m 2 acked p)))
+    ⊎ ((n ≡ 9) × ((cpa ≡ false) ⊎ (¬ (l .verdict ≡ 1))))
+    ⊎ ((n ≡ 10) × (p : List ℕ) × S.WaitsAs m 2 acked p × (¬ (placeKey p ≡ keyAt 0 (l .key))))
+Refused m l (ack acked b) n = (n ≡ 8) × (¬ ((p : List ℕ) × S.WaitsAs m 1 acked p))
+Refused m l (lookup id target) n = ⊥
+Refused m l other n = n ≡ 7
+
+module _ (m : Memory) (l : Receive) (n : ℕ) where
+  pub refused-applies : (x : Heard) → Num.Says l x → Refused m l x n → Num.ReceiveApplies m l n
+  refused-applies (entry id silent validate r) says (inl w) = Num.own-entry (w .0) id silent validate r says (w .1)
+  refused-applies (entry id silent validate r) says (inr (inl w)) = Num.id-waits (w .0) id silent validate r says (w .1) (w .2) (w .3) (w .4)
+  refused-applies (entry id silent validate r) says (inr (inr w)) = Num.all-used (w .0) id silent validate r says (w .1) (w .2)
+  refused-applies (revoke id silent validate) says (inl w) = Num.bad-revocation (w .0) id silent validate says (w .1)
+  refused-applies (revoke id silent validate) says (inr w) = Num.own-revocation (w .0) id silent validate says (w .1)
+  refused-applies (inquire id validate) says w = Num.not-ours (w .0) id validate says (w .1)
+  refused-applies (authority acked cpa) says (inl w) = Num.no-inquiry (w .0) acked cpa says (w .1)
+  refused-applies (authority acked cpa) says (inr (inl (e, inl c))) = Num.no-cpa e acked (subst (λ (b : Bool). Num.Says l (authority acked b)) c says)
+  refused-applies (authority acked cpa) says (inr (inl (e, inr h))) = Num.bad-authority e acked cpa says h
+  refused-applies (authority acked cpa) says (inr (inr w)) = Num.other-key (w .0) acked cpa says (w .1) (w .2) (w .3)
+  refused-applies (ack acked b) says w = Num.no-flood (w .0) acked b says (w .1)
+  refused-applies (lookup id target) says w = absurd w
+  refused-applies other says w = Num.not-taken w says
+
+-- a datagram is no longer than all of them
+joined-in : (d : List ℕ) (ds : List (List ℕ)) → d ∈ ds → length d ≤ length (joined ds)
+unfolding joined
+joined-in d [] i = absurd i
+joined-in d (x ∷ ds) (inl e) = let z = ap length e in omega (arith, length-append x (joined ds))
+joined-in d (x ∷ ds) (inr i) = let z = joined-in d ds i in omega (arith, length-append x (joined ds))
+
+-- room that is wanted, where that is no more than a datagram may have
+pub no-room-by : (output : List ℕ) (ds : List (List ℕ)) → length (joined ds) ≤ 1232 → Num.NoRoom output ds → length output < length (joined ds)
+no-room-by output ds h (inl w) = w
+no-room-by output ds h (inr w) = absurd (omega (arith, joined-in (w .0) ds (w .1), w .2))
+
+-- a record has four addresses at most
+pub few-addresses : (r : List ℕ) → recordForm r ≡ true → countOf r ≤ 4
+unfolding recordForm
+few-addresses r e =
+    let first = eqb (length r) 100 && leb 1 (countOf r) in
+    let a = both-true (first && leb (countOf r) 4 && eqb (getD r 35 0) 0) (allZero (drop (36 + 16 * countOf r) r)) e in
+    let b = both-true (first && leb (countOf r) 4) (eqb (getD r 35 0) 0) (a .0) in
+    leb-true (countOf r) 4 (both-true first (leb (countOf r) 4) (b .0) .1)
+
+module _ (l : Receive) where
+  -- memory as lent, and the clauses of the call
+  abbrev pub lent : Memory
+  lent = memory (l .cache) (l .waiting)
+
+  abbrev pub Clause : ℕ → Type 0
+  Clause n = Num.ReceiveApplies lent l n
+
+  -- ---- 1
+
+  pub fit-lent : tablesFit (l .own) (l .cache) (l .waiting) ≡ true → handsFit (l .cpa) (l .nonce) (l .key) ≡ true → Num.ReceiveLent l
+  fit-lent e h =
+      let r = ready (l .own) (l .cache) (l .waiting) e in
+      let w = known-hands (l .cpa) (l .nonce) (l .key) h in
+      record {
+        own = r .owned;
+        cache = r .cached;
+        waiting = r .tabled;
+        cpa-least = w .least;
+        cpa-most = w .most;
+        nonce = w .nonced;
+        key = w .keyed;
+      }
+
+  pub lent-tables : Num.ReceiveLent l → tablesFit (l .own) (l .cache) (l .waiting) ≡ true
+  unfolding tablesFit
+  lent-tables w = rw (w .own, w .cache, w .waiting) refl
+
+  pub lent-hands : Num.ReceiveLent l → handsFit (l .cpa) (l .nonce) (l .key) ≡ true
+  unfolding handsFit
+  lent-hands w =
+      rw (
+        le-leb 1 (length (l .cpa)) (w .cpa-least),
+        le-leb (length (l .cpa)) 1024 (w .cpa-most),
+        eq-eqb (length (l .nonce)) 16 (w .nonce),
+        eq-eqb (length (l .key)) 32 (w .key),
+      ) refl
+
+  is-lent : ¬ Clause 1 → Num.ReceiveLent l
+  is-lent h = go (test (tablesFit (l .own) (l .cache) (l .waiting))) (test (handsFit (l .cpa) (l .nonce) (l .key)))
+    where
+      go : Test (tablesFit (l .own) (l .cache) (l .waiting)) → Test (handsFit (l .cpa) (l .nonce) (l .key)) → Num.ReceiveLent l
+      go (pass e) (pass d) = fit-lent e d
+      go (fail e) d = absurd (h (Num.out-of-form refl (λ w. clash (lent-tables w) e)))
+      go (pass e) (fail d) = absurd (h (Num.out-of-form refl (λ w. clash (lent-hands w) d)))
+
+  -- ---- 15
+
+  abbrev Short : Heard → ℕ → Type 0
+  Short x n = (n ≡ 15) × (ds : List (List ℕ)) × S.Reply lent l x ds × Num.NoRoom (l .output) ds
+
+  abbrev pub Said : Heard → ℕ → Type 0
+  Said x n = Refused lent l x n ⊎ Short x n
+
+  pub short-to : (x : Heard) (ds : List (List ℕ)) (n need : ℕ) → S.Reply lent l x ds → length (joined ds) ≡ need
+      → (n ≡ 15) × (ltb (length (l .output)) need ≡ true) → Short x n
+  short-to x ds n need r e w = (w .0, ds, r, inl (let h = ltb-true (length (l .output)) need (w .1) in omega arith))
+
+  pub short-from : (x : Heard) (ds : List (List ℕ)) (n need : ℕ) → cacheForm (keyOf (l .own)) (l .cache) ≡ true → S.Reply lent l x ds
+      → length (joined ds) ≡ need → need ≤ 1232 → Short x n → (n ≡ 15) × (ltb (length (l .output)) need ≡ true)
+  short-from x ds n need f r e few w =
+      let h = no-room-by (l .output) ds (omega arith) (subst (Num.NoRoom (l .output)) (reply-one lent l f x (w .1) ds (w .2) r) (w .3)) in
+      (w .0, lt-ltb (length (l .output)) need (omega arith))
+
+  -- nothing is sent: no room is needed
+  pub none-short : (ds : List (List ℕ)) → ds ≡ [] → ¬ Num.NoRoom (l .output) ds
+  unfolding joined
+  none-short ds e h = absurd (go (subst (Num.NoRoom (l .output)) e h))
+    where
+      go : Num.NoRoom (l .output) [] → ⊥
+      go (inl w) = absurd (omega arith)
+      go (inr w) = w .1
+
+  -- ---- the clauses by what was heard and the rows of a message's table, where no lower clause applies
+
+  abbrev pub Lowest : ℕ → Type 0
+  Lowest n = (i : ℕ) → i < n → ¬ Clause i
+
+  abbrev pub Both : ℕ → Heard → List Refusal → Type 0
+  Both n x rs = (Said x n → Row n rs) × (Row n rs → Said x n)
+
+  pub good : (n : ℕ) → Lowest n → 1 < n → Num.ReceiveLent l
+  good n low h = is-lent (low 1 h)

@@ -17,7 +17,7 @@ use Rattle.kept.proofs.WithoutLaws.{eq-or}
 use Rattle.waiting.specs.Place.{idOf, triesOf, newPlace}
 use Rattle.waiting.specs.Form.{placesOf, waitingForm}
 use Rattle.waiting.proofs.PlaceLaws.{form-tries, less-id, less-tries}
-use Rattle.waiting.proofs.FormLaws.{Placed, form-of, form-placed}
+use Rattle.waiting.proofs.FormLaws.{form-of}
 use Rattle.gauge_plan.specs.Ids.{idAfter}
 use Rattle.gauge.specs.Lent.{Receive, receive}
 use Rattle.sentences.specs.Words.{Memory, Call, receives, sends, ticks, lists, Given, Gauge, left, Typed}
@@ -26,7 +26,7 @@ use Rattle.sentences.specs.Sentences as S
 use Rattle.sentences.specs.Numbers as Num
 use Rattle.sentences.specs.Meets.{MeetsSentences}
 use Rattle.sentences.specs.Listed as L
-use Rattle.sentences.proofs.MembersLaws.{rise-one, places-rise}
+use Rattle.sentences.proofs.MembersLaws.{rise-one, places-rise, place-formed}
 use Rattle.sentences.proofs.MoveLaws.{clash}
 use Rattle.sentences.proofs.ListedLaws.{sized-in, true-by}
 
@@ -46,13 +46,8 @@ new-is : (id kind tries : ℕ) (key held : List ℕ) → id < 2 ^ 32 → idOf (n
 unfolding newPlace digitsLE
 new-is id kind tries key held small = valueLE-digitsLE 256 4 id (omega arith) small
 
-tries-few : (k low : ℕ) (ps : List (List ℕ)) → Placed k low ps → (q : List ℕ) → q ∈ ps → triesOf q ≤ 2
-tries-few k low [] h q i = absurd i
-tries-few k low (p ∷ ps) h q (inl e) = let t = form-tries k p (h .0) in let d = ap triesOf e in omega arith
-tries-few k low (p ∷ ps) h q (inr i) = tries-few k (suc (idOf p)) ps (h .3) q i
-
 few-left : (k : ℕ) (t : List ℕ) → waitingForm k t ≡ true → (q : List ℕ) → q ∈ placesOf t → triesOf q ≤ 2
-few-left k t f q i = tries-few k 0 (placesOf t) (form-placed k t f) q i
+few-left k t f q i = form-tries k q (place-formed k t f q i)
 
 -- what waits with the ID of p after an accepted call is p, and a tick takes a try from it
 module _ (m : Memory) (k : ℕ) (form : waitingForm k (m .waiting) ≡ true) where

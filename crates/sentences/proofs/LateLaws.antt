@@ -1,4 +1,4 @@
--- A key that was revoked stays out until it is asked for: from the sentences alone, of any gauge. Assumes nothing.
+-- A key that was revoked stays out until it is asked for, out of the cache too: from the sentences alone, of any gauge. Assumes nothing.
 use Prim.Native.Nat.{ℕ, zero, suc}
 use mathlib.Core.Bool.{Bool, true, false}
 use mathlib.Core.List.{List, [], _∷_}
@@ -14,16 +14,20 @@ use Rattle.record.specs.Record.{keyOf, recordForm}
 use Rattle.record.specs.Entry.{recordOf}
 use Rattle.record.proofs.EntryLaws.{form-length, record-form}
 use Rattle.kept.proofs.WithoutLaws.{eq-or}
-use Rattle.waiting.specs.Place.{idOf, kindOf, placeKey, inquiryPlace, floodPlace}
+use Rattle.kept.specs.Keys.{Every, _∈_}
+use Rattle.kept.proofs.PutLaws.{Tri, less, same, more, tri}
+use Rattle.cache.specs.Form.{placesIn, heldOf}
+use Rattle.waiting.specs.Place.{idOf, kindOf, placeKey, placeRecord, inquiryPlace, floodPlace}
+use Rattle.waiting.specs.Form.{waitingForm}
 use Rattle.waiting.specs.Tick.{oneLess}
 use Rattle.waiting.proofs.NewLaws.{new-key, new-kind}
-use Rattle.waiting.proofs.PlaceLaws.{less-kind, less-key}
+use Rattle.waiting.proofs.PlaceLaws.{less-kind, less-key, inquiry-key}
 use Rattle.wire_fields.specs.declared.Part.the-variants.{Here, Absent}
 use Rattle.wire_read.specs.Answers as R
 use Rattle.wire_read.specs.declared.Answer as T
 use Rattle.wire_read.specs.declared.Answer.the-variants as M
 use Rattle.gauge.specs.Lent.{Receive, receive, Send, send}
-use Rattle.sentences.specs.Words.{Memory, Call, receives, sends, ticks, lists, Given, Gauge, left, Typed}
+use Rattle.sentences.specs.Words.{Memory, Call, receives, sends, ticks, lists, Given, Gauge, ownOf, left, Typed, OneKey}
 use Rattle.sentences.specs.Heard.{Heard, entry, revoke, inquire, authority, ack, lookup, other, Hears}
 use Rattle.sentences.specs.Sentences as S
 use Rattle.sentences.specs.Numbers as Num
@@ -31,15 +35,22 @@ use Rattle.sentences.specs.Meets.{MeetsSentences}
 use Rattle.sentences.specs.Late as L
 use Rattle.sentences.proofs.OneLaws.{hears-one}
 use Rattle.sentences.proofs.HeardLaws.{entry-heard}
+use Rattle.sentences.proofs.MembersLaws.{place-formed}
+use Rattle.sentences.proofs.SaidLaws as Said
 use Rattle.sentences.proofs.OtherLaws.{is-lent}
 
 -- no inquiry for the key waits
 abbrev Quiet : ℕ → Memory → Type 0
 Quiet u m = ¬ ((p : List ℕ) × S.Waits m p × S.Inquiry u p)
 
+-- no record of the key is held, for the own key k
+abbrev Out : ℕ → ℕ → Memory → Type 0
+Out k u m = (r : List ℕ) → S.Holds k m r → ¬ (keyOf r ≡ u)
+
 -- ---- the record of a FLOOD is in form
 
-entry-key : (d : List ℕ) → Bytes d → (major i : ℕ) (s : Bool) (v : ℕ) (r : List ℕ) → Hears d major (entry i s v r) → (id : ℕ) → placeKey (inquiryPlace id r) ≡ keyOf r
+entry-key : (d : List ℕ) → Bytes d → (major i : ℕ) (s : Bool) (v : ℕ) (r : List ℕ) → Hears d major (entry i s v r)
+    → (id : ℕ) → placeKey (inquiryPlace id r) ≡ keyOf r
 entry-key d b major i s v r h id =
     let e = entry-heard d b major i s v r h in
     let long = form-length r (ap recordForm (e .is) ∙ record-form (part (e .start) (e .len) d) (e .formed)) in
@@ -81,6 +92,42 @@ module _ (u : ℕ) (m : Memory) (quiet : Quiet u m) where
       quiet (w .0, w .1, (sym (ap kindOf (w .3) ∙ less-kind (w .0)) ∙ q .2 .0, sym (ap placeKey (w .3) ∙ less-key (w .0)) ∙ q .2 .1))
   does-quiet (lists own output) h ty none low s q = quiet (q .0, subst (λ (y : Memory). S.Waits y (q .0)) (s .same) (q .1), q .2)
 
+  -- what is learned is the record of an inquiry that waited, and none for the key did
+  learns-out : (k : ℕ) (r cache : List ℕ) → ¬ (keyOf r ≡ u) → S.Learns k m r cache → Out k u m → (q : List ℕ) → q ∈ heldOf k cache → ¬ (keyOf q ≡ u)
+  learns-out k r cache not-u s out q i e = go (tri (placesIn (length (m .cache))) (length (s .more)))
+    where
+      there : q ∈ s .more → ⊥
+      there j = elim (s .are q .0 j) [ inl d ↦ not-u (sym (ap keyOf d) ∙ e) | inr w ↦ out q (w .0) e ]
+
+      go : Tri (placesIn (length (m .cache))) (length (s .more)) → ⊥
+      go (less h) = there (s .dropped h .2 .members q .0 i .0)
+      go (same h) = there (s .fits (omega arith) .members q .0 i)
+      go (more h) = there (s .fits (omega arith) .members q .0 i)
+
+  leaves-out : (l : Receive) → waitingForm (keyOf (l .own)) (m .waiting) ≡ true → (x : Heard) (left : Memory) → S.Leaves m l x left
+      → Out (keyOf (l .own)) u m → Out (keyOf (l .own)) u left
+  leaves-out l f (entry i s v r) left w out q y = out q (subst (λ (c : List ℕ). q ∈ heldOf (keyOf (l .own)) c) (w .cache) y)
+  leaves-out l f (revoke i s v) left w out q y = out q (w .cache .members q .0 y .0)
+  leaves-out l f (inquire i v) left w out q y = out q (subst (λ (n : Memory). S.Holds (keyOf (l .own)) n q) w y)
+  leaves-out l f (authority acked c) left w out q y =
+      let formed = place-formed (keyOf (l .own)) (m .waiting) f (w .p) (w .answers .0) in
+      let key = inquiry-key (keyOf (l .own)) (w .p) formed (w .answers .2) in
+      learns-out (keyOf (l .own)) (placeRecord (w .p)) (left .cache) (λ e. quiet (w .p, w .answers .0, (w .answers .2, sym key ∙ e))) (w .cache) out q y
+  leaves-out l f (ack acked n) left w out q y = out q (w .cache .members q .0 y .0)
+  leaves-out l f (lookup i t) left w out q y = out q (subst (λ (n : Memory). S.Holds (keyOf (l .own)) n q) w y)
+  leaves-out l f other left w out q y = absurd w
+
+  does-out : (k : ℕ) (c : Call) (h : Given) → OneKey k c → ((i : ℕ) → ¬ Num.Applies m c i) → S.Does m c h → Out k u m → Out k u (h .memory)
+  does-out k (receives own cpa major minor id nonce verdict key datagram output) h one low s out q y =
+      let l = receive own cpa (m .cache) (m .waiting) major minor id nonce verdict key datagram output in
+      let g = Said.is-lent l (low 1) in
+      let e : keyOf own ≡ k = one (g .own) in
+      subst (λ (j : ℕ). Out j u (h .memory)) e
+      (leaves-out l (g .waiting) (s .x) (h .memory) (s .leaves) (subst (λ (j : ℕ). Out j u m) (sym e) out)) q y
+  does-out k (sends own major minor id neighbour key output) h one low s out q y = out q (subst (λ (c : List ℕ). q ∈ heldOf k c) (s .cache) y)
+  does-out k (ticks own output) h one low s out q y = out q (subst (λ (c : List ℕ). q ∈ heldOf k c) (s .cache) y)
+  does-out k (lists own output) h one low s out q y = out q (subst (λ (n : Memory). S.Holds k n q) (s .same) y)
+
 -- ---- calls one after the other
 
 module _ (g : Gauge) (p : MeetsSentences g) (u : ℕ) where
@@ -96,18 +143,41 @@ module _ (g : Gauge) (p : MeetsSentences g) (u : ℕ) where
   left-quiet m [] none quiet = quiet
   left-quiet m (c ∷ cs) none quiet = left-quiet (g m c .memory) cs (none .2) (step-quiet m c (none .0) (none .1) quiet)
 
-  -- a revocation leaves it quiet
-  revoked-quiet : (m : Memory) (c : Call) → Typed c → L.Revokes u c → g m c .answer .number ≡ 0 → Quiet u (g m c .memory)
-  revoked-quiet m (receives own cpa major minor id nonce verdict key datagram output) ty w z q =
+  step-out : (k : ℕ) (m : Memory) (c : Call) → Typed c → OneKey k c → Quiet u m → Out k u m → Out k u (g m c .memory)
+  step-out k m c ty one quiet out = go (g m c .answer .number) refl
+    where
+      go : (n : ℕ) → g m c .answer .number ≡ n → Out k u (g m c .memory)
+      go zero e = does-out u m quiet k c (g m c) one (p .table .accepted m c ty .0 e) (p .does m c ty e) out
+      go (suc n) e = subst (λ (h : Given). Out k u (h .memory)) (sym (p .table .keeps m c (omega arith))) out
+
+  left-out : (k : ℕ) (m : Memory) (cs : List Call) → Every (OneKey k) cs → L.NoneAsks g u m cs → Quiet u m → Out k u m → Out k u (left g m cs)
+  unfolding left
+  left-out k m [] one none quiet out = out
+  left-out k m (c ∷ cs) one none quiet out =
+      left-out k (g m c .memory) cs (one .1) (none .2) (step-quiet m c (none .0) (none .1) quiet) (step-out k m c (none .0) (one .0) quiet out)
+
+  -- what an accepted revocation leaves, with an own record in form
+  revoked-leaves : (m : Memory) (c : Call) → Typed c → L.Revokes u c → g m c .answer .number ≡ 0
+      → (recordForm (ownOf c) ≡ true) × S.FloodRevokes (keyOf (ownOf c)) m u (g m c .memory)
+  revoked-leaves m (receives own cpa major minor id nonce verdict key datagram output) ty w z =
       let c = receives own cpa major minor id nonce verdict key datagram output in
       let l = receive own cpa (m .cache) (m .waiting) major minor id nonce verdict key datagram output in
       let s = p .does m c ty z in
       let e = hears-one datagram major (s .x) (revoke (w .0) (w .1) (w .2)) (s .hears) (w .3) in
       let v : S.FloodRevokes (keyOf own) m (keyAt 0 key) (g m c .memory) = subst (λ (x : Heard). S.Leaves m l x (g m c .memory)) e (s .leaves) in
-      v .table .members (q .0) .0 (q .1) .1 (q .2 .0, q .2 .1 ∙ sym (w .4))
-  revoked-quiet m (sends own major minor id neighbour key output) ty w z q = absurd w
-  revoked-quiet m (ticks own output) ty w z q = absurd w
-  revoked-quiet m (lists own output) ty w z q = absurd w
+      (Said.is-lent l (p .table .accepted m c ty .0 z 1) .own, subst (λ (j : ℕ). S.FloodRevokes (keyOf own) m j (g m c .memory)) (w .4) v)
+  revoked-leaves m (sends own major minor id neighbour key output) ty w z = absurd w
+  revoked-leaves m (ticks own output) ty w z = absurd w
+  revoked-leaves m (lists own output) ty w z = absurd w
+
+  -- a revocation leaves it quiet
+  revoked-quiet : (m : Memory) (c : Call) → Typed c → L.Revokes u c → g m c .answer .number ≡ 0 → Quiet u (g m c .memory)
+  revoked-quiet m c ty w z q = revoked-leaves m c ty w z .1 .table .members (q .0) .0 (q .1) .1 (q .2)
+
+  -- and no record of it held
+  revoked-out : (k : ℕ) (m : Memory) (c : Call) → Typed c → OneKey k c → L.Revokes u c → g m c .answer .number ≡ 0 → Out k u (g m c .memory)
+  revoked-out k m c ty one w z =
+      subst (λ (j : ℕ). Out j u (g m c .memory)) (one (revoked-leaves m c ty w z .0)) (λ r i. revoked-leaves m c ty w z .1 .cache .members r .0 i .1)
 
   -- then no AUTHORITY for it is accepted
   late-refused : (m : Memory) (c : Call) → Typed c → L.Answers u c → Quiet u m → ¬ (g m c .answer .number ≡ 0)
@@ -126,5 +196,9 @@ module _ (g : Gauge) (p : MeetsSentences g) (u : ℕ) where
   late-refused m (lists own output) ty w quiet z = absurd w
 
 pub revoked-stays-out : L.RevokedStaysOut
-revoked-stays-out g p u m c ty w z cs none late ty′ answers =
-    late-refused g p u (left g (g m c .memory) cs) late ty′ answers (left-quiet g p u (g m c .memory) cs none (revoked-quiet g p u m c ty w z))
+revoked-stays-out g p u m c ty w z cs none =
+    let quiet = revoked-quiet g p u m c ty w z in
+    record {
+      not-held = λ k one. left-out g p u k (g m c .memory) cs (one .1) none quiet (revoked-out g p u k m c ty (one .0) w z);
+      refused = λ late ty′ answers. late-refused g p u (left g (g m c .memory) cs) late ty′ answers (left-quiet g p u (g m c .memory) cs none quiet);
+    }

@@ -14,7 +14,7 @@ use Rattle.cache.specs.Form.{keysOf, heldOf, cacheForm, Form}
 use Rattle.cache.proofs.FormLaws.{true-form}
 use Rattle.waiting.specs.Place.{idOf}
 use Rattle.waiting.specs.Form as W
-use Rattle.waiting.specs.Form.{placesOf, waitingForm}
+use Rattle.waiting.specs.Form.{placesOf, placeForm, waitingForm}
 use Rattle.waiting.proofs.FormLaws.{Placed, form-of, form-placed}
 use Rattle.sentences.specs.Words.{Memory}
 use Rattle.sentences.specs.Sentences.{HoldsExactly, WaitsExactly}
@@ -36,7 +36,8 @@ module _ {A : Type 0} (f : A → ℕ) where
   rise-one b x y (z ∷ xs) r (inr m) (inr n) e = rise-one (suc (f z)) x y xs (r .1) m n e
 
   -- two with the same members are equal
-  pub rise-ext : (a b : ℕ) (l m : List A) → Rising plain a (map f l) → Rising plain b (map f m) → ((k : A) → k ∈ l → k ∈ m) → ((k : A) → k ∈ m → k ∈ l) → l ≡ m
+  pub rise-ext : (a b : ℕ) (l m : List A) → Rising plain a (map f l) → Rising plain b (map f m)
+      → ((k : A) → k ∈ l → k ∈ m) → ((k : A) → k ∈ m → k ∈ l) → l ≡ m
   rise-ext a b [] [] r q to from = refl
   rise-ext a b [] (j ∷ m) r q to from = absurd (from j (inl refl))
   rise-ext a b (i ∷ l) [] r q to from = absurd (to i (inl refl))
@@ -85,6 +86,15 @@ placed-rises own low (p ∷ ps) h = (h .1, placed-rises own (suc (idOf p)) ps (h
 
 pub places-rise : (k : ℕ) (t : List ℕ) → waitingForm k t ≡ true → Rising plain 0 (map idOf (placesOf t))
 places-rise k t f = placed-rises k 0 (placesOf t) (form-placed k t f)
+
+-- each place that waits is in form
+placed-in : (own low : ℕ) (ps : List (List ℕ)) → Placed own low ps → (p : List ℕ) → p ∈ ps → placeForm own p ≡ true
+placed-in own low [] h p m = absurd m
+placed-in own low (q ∷ ps) h p (inl e) = ap (placeForm own) e ∙ h .0
+placed-in own low (q ∷ ps) h p (inr m) = placed-in own (suc (idOf q)) ps (h .3) p m
+
+pub place-formed : (k : ℕ) (t : List ℕ) → waitingForm k t ≡ true → (p : List ℕ) → p ∈ placesOf t → placeForm k p ≡ true
+place-formed k t f p m = placed-in k 0 (placesOf t) (form-placed k t f) p m
 
 pub table-ext : (k : ℕ) (a b : List ℕ) → waitingForm k a ≡ true → waitingForm k b ≡ true
     → ((p : List ℕ) → p ∈ placesOf a → p ∈ placesOf b) → ((p : List ℕ) → p ∈ placesOf b → p ∈ placesOf a) → a ≡ b

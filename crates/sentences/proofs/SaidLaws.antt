@@ -122,7 +122,7 @@ module _ (l : Receive) where
         eq-eqb (length (l .key)) 32 (w .key),
       ) refl
 
-  is-lent : ¬ Clause 1 → Num.ReceiveLent l
+  pub is-lent : ¬ Clause 1 → Num.ReceiveLent l
   is-lent h = go (test (tablesFit (l .own) (l .cache) (l .waiting))) (test (handsFit (l .cpa) (l .nonce) (l .key)))
     where
       go : Test (tablesFit (l .own) (l .cache) (l .waiting)) → Test (handsFit (l .cpa) (l .nonce) (l .key)) → Num.ReceiveLent l

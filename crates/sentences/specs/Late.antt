@@ -1,14 +1,16 @@
--- Beside the demands. Document 01's third slip, "a late AUTHORITY bringing back a key revoked meanwhile", of any gauge that meets the sentences: after a revocation of a key
--- is accepted, no AUTHORITY for it is, until an INQUIRE for it was sent. A theorem of the name stands in proofs/LateLaws.antt. Assumes nothing.
+-- Beside the demands. Document 01's third slip, "a late AUTHORITY bringing back a key revoked meanwhile", of any gauge that meets the sentences: after
+-- an accepted revocation of a key no record of it is held and no AUTHORITY for it is accepted, until an INQUIRE for it was sent. A theorem of the name stands
+-- in proofs/LateLaws.antt. Assumes nothing.
 use Prim.Native.Nat.{ℕ}
 use mathlib.Core.Bool.{Bool}
 use mathlib.Core.List.{List, [], _∷_}
 use mathlib.Core.Path.{_≡_}
 use Rattle.key.specs.Number.{keyAt}
 use Rattle.record.specs.Record.{keyOf}
-use Rattle.sentences.specs.Words.{Memory, Call, receives, sends, ticks, lists, Gauge, left, Typed}
+use Rattle.kept.specs.Keys.{Every}
+use Rattle.sentences.specs.Words.{Memory, Call, receives, sends, ticks, lists, Gauge, left, Typed, OneKey}
 use Rattle.sentences.specs.Heard.{entry, revoke, authority, Hears}
-use Rattle.sentences.specs.Sentences.{MustAsk}
+use Rattle.sentences.specs.Sentences.{Holds, MustAsk}
 use Rattle.sentences.specs.Meets.{MeetsSentences}
 
 -- a FLOOD that revokes the key u, by the host's verdict; an AUTHORITY whose CPA is good for it
@@ -39,8 +41,13 @@ abbrev pub NoneAsks : Gauge → ℕ → Memory → List Call → Type 0
 NoneAsks g u m [] = Unit {0}
 NoneAsks g u m (c ∷ cs) = Typed c × (g m c .answer .number ≡ 0 → ¬ AsksFor u m c) × NoneAsks g u (g m c .memory) cs
 
+-- the memory m that these calls leave, where they have one own key k, holds no record of the key u; and no AUTHORITY for u is accepted on it
+pub record StaysOut (g : Gauge) (u : ℕ) (calls : List Call) (m : Memory) : Type 0 where
+  pub not-held : (k : ℕ) → Every (OneKey k) calls → (r : List ℕ) → Holds k m r → ¬ (keyOf r ≡ u)
+  pub refused : (late : Call) → Typed late → Answers u late → ¬ (g m late .answer .number ≡ 0)
+
+-- c is the revocation, cs any calls after it
 abbrev pub RevokedStaysOut : Type 0
 RevokedStaysOut =
     (g : Gauge) → MeetsSentences g → (u : ℕ) (m : Memory) (c : Call) → Typed c → Revokes u c → g m c .answer .number ≡ 0
-    → (cs : List Call) → NoneAsks g u (g m c .memory) cs
-    → (late : Call) → Typed late → Answers u late → ¬ (g (left g (g m c .memory) cs) late .answer .number ≡ 0)
+    → (cs : List Call) → NoneAsks g u (g m c .memory) cs → StaysOut g u (c ∷ cs) (left g (g m c .memory) cs)

@@ -55,7 +55,7 @@ module _ (p : Piece) (fit : Writable p) (rest : List ℕ) where
 
 -- ---- a trace written
 
-cut-next : (n : ℕ) (bytes : List ℕ) → 0 < length bytes
+pub cut-next : (n : ℕ) (bytes : List ℕ) → 0 < length bytes
     → cutInto (suc n) bytes ≡ take (2 + lengthOf bytes) bytes ∷ cutInto n (drop (2 + lengthOf bytes) bytes)
 unfolding cutInto
 cut-next n [] h = absurd (omega arith)

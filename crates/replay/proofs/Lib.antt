@@ -1,3 +1,4 @@
 pub mod TextLaws
-pub mod RunLaws
+pub mod StreamLaws
+pub mod RoomLaws
 pub mod Theorems

@@ -1,7 +1,11 @@
--- The document's examples as text. Assumes nothing.
+-- What is proved of a trace that arrives in pieces; the document's examples as text. Assumes nothing.
 use mathlib.Core.Path.{refl}
 use Rattle.replay.specs.Text.{decimalUpTo, textOf, textsOf}
-use Rattle.replay.specs.Statements.{Example}
+use Rattle.replay.specs.Statements.{Streams, Example}
+use Rattle.replay.proofs.StreamLaws as pieces
+
+pub streams : Streams
+streams = pieces.streams
 
 pub example : Example
 unfolding decimalUpTo textOf textsOf

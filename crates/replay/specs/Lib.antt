@@ -1,3 +1,4 @@
 pub mod Text
-pub mod Run
+pub mod Stream
+pub mod Room
 pub mod Statements

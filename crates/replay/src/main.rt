@@ -1,69 +1,40 @@
-// Makes a recorded night again: reads a trace from standard input, record by record, and writes for each record behind the
-// first its number, a space and the answer. A bad record is the last: 16 or 17 stands in its line.
+// Makes a recorded night again: reads a trace from standard input, piece by piece as it comes, and writes for each
+// record behind the first its number, a space and the answer. A bad record is the last: 16 or 17 stands in its line.
+//
+// That a piece is what stands in standard input, and that text went out, is not proved, nor can it be. What is between
+// them is: `feed` and `close` of stream.rt, and that fed any pieces the text is that of the pieces joined (Streams).
 mod line;
+mod stream;
 
-ghost use mathlib.Core.Path.{_≡_};
-ghost use Prim.Native.Nat.{_≤_};
-ghost use lib.ListN.{length, take};
-ghost use Rattle.sentences.specs.Words.{memory};
-ghost use Rattle.night.specs.Step.{night};
-ghost use Rattle.replay.specs.Run.{Turned, GoesOn, Ran};
+use crate::stream::close;
+use crate::stream::feed;
 
-// How many bytes of text a record gave, and whether to go on behind it.
-struct Taken {
-    end: usize,
-    more: bool,
+// The most bytes that are read at once, and room for a line for each.
+const PIECE: usize = 4096;
+
+const TEXT: usize = 172032;
+
+// A proved loop has to end, and nothing says that the input does; no input has 2 ^ 64 bytes, which so many reads could
+// give.
+const READS: u64 = 4503599627370495;
+
+// Writes text. Answers whether all of it went out, and says so where it didn't.
+fn write(text: &[u8]) -> bool {
+    if io::write_all(1, text) {
+        return true;
+    }
+    io::write_all(
+        2,
+        b"replay: standard output can't be written, so the lines are not the whole night; make room and run it again\n",
+    );
+    false
 }
 
-// Takes the next record, and puts its line at the start of `text`.
-fn take_next(
-    at: u64,
-    opening: &mut [u8],
-    cache: &mut [u8],
-    waiting: &mut [u8],
-    room: &mut [u8],
-    text: &mut [u8],
-) -> Taken
-    requires { ⌜ 42 ≤ length (now text) ⌝ }
-    ensures { λ r. ⌜ (r .end) ≤ length (now (text .entry)) ⌝ }
-    ensures { λ r. ⌜ Turned at (night (now (opening .entry)) (memory (now (cache .entry)) (now (waiting .entry))))
-        (night (now (opening .exit)) (memory (now (cache .exit)) (now (waiting .exit))))
-        (take (r .end) (now (text .exit))) (r .more) ⌝ }
-{
-    let len = night::next_record(room);
-    if len == 0 {
-        let end = line::put_end(text, at);
-        return Taken { end, more: false };
-    }
-    let answer = night::step(at, opening, cache, waiting, &room[0..len]);
-    let end = line::put(text, at, answer);
-    if night::is_end(answer) {
-        return Taken { end, more: false };
-    }
-    Taken { end, more: true }
-}
-
-// Takes the next record, and writes its line. Answers whether to go on.
-fn one(at: u64, opening: &mut [u8], cache: &mut [u8], waiting: &mut [u8], room: &mut [u8]) -> bool
-    ensures { λ r. ⌜ GoesOn at (night (now (opening .entry)) (memory (now (cache .entry)) (now (waiting .entry))))
-        (night (now (opening .exit)) (memory (now (cache .exit)) (now (waiting .exit)))) r ⌝ }
-{
-    let mut text = [0u8; line::LINE];
-    let taken = take_next(at, opening, cache, waiting, room, &mut text);
-    io::write_all(1, &text[..taken.end]);
-    taken.more
-}
-
-// The records are counted from 0, and the count ends the loop: no trace has 2 ^ 64 of them.
-fn run(opening: &mut [u8], cache: &mut [u8], waiting: &mut [u8], room: &mut [u8]) -> u64
-    ensures { λ _. ⌜ Ran (night (now (opening .entry)) (memory (now (cache .entry)) (now (waiting .entry))))
-        (night (now (opening .exit)) (memory (now (cache .exit)) (now (waiting .exit)))) ⌝ }
-{
-    let mut at: u64 = 0;
-    while at < u64::MAX && one(at, opening, cache, waiting, room) {
-        at += 1;
-    }
-    at
+fn say_unread() {
+    io::write_all(
+        2,
+        b"replay: standard input can't be read, so the lines are not the whole night; look at the file and run it again\n",
+    );
 }
 
 fn main() {
@@ -71,5 +42,45 @@ fn main() {
     let mut cache = [0u8; night::CACHE];
     let mut waiting = [0u8; night::WAITING];
     let mut room = [0u8; night::RECORD];
-    run(&mut opening, &mut cache, &mut waiting, &mut room);
+    let mut piece = [0u8; PIECE];
+    let mut text = [0u8; TEXT];
+    let mut held = stream::opened();
+    let mut reads: u64 = 0;
+    while reads < READS {
+        let got = libc::read(0, &mut piece);
+        if got < 0 {
+            return say_unread();
+        }
+        let n = io::count(got, &piece);
+        if n == 0 {
+            let end = close(
+                held,
+                &mut opening,
+                &mut cache,
+                &mut waiting,
+                &room,
+                &mut text,
+            );
+            write(&text[..end]);
+            return;
+        }
+        let new = &piece[..n];
+        held = feed(
+            held,
+            &mut opening,
+            &mut cache,
+            &mut waiting,
+            &mut room,
+            new,
+            &mut text,
+        );
+        let end = held.end;
+        if !write(&text[..end]) {
+            return;
+        }
+        if held.over {
+            return;
+        }
+        reads += 1;
+    }
 }

@@ -35,10 +35,10 @@ use Rattle.sentences.specs.Heard.{Heard, entry, revoke}
 use Rattle.sentences.specs.Sentences as S
 use Rattle.sentences.proofs.MoveLaws.{any-in, in-any}
 use Rattle.sentences.proofs.HeardLaws.{saidBy}
-use Rattle.sentences.proofs.ReceiveLaws.{not-iff, must-iff}
+use Rattle.sentences.proofs.WordLaws.{lent, not-iff, must-iff}
 use Rattle.gauge_plan.proofs.FloodLaws.{ack-most, inquire-most}
 use Rattle.sentences.proofs.FirstLaws.{Row}
-use Rattle.sentences.proofs.SaidLaws.{lent, Said, short-to, short-from, Lowest, Both, good}
+use Rattle.sentences.proofs.SaidLaws.{Said, short-to, short-from, Lowest, Both, good}
 
 module _ (l : Receive) (n : ℕ) (low : Lowest l n) where
   abbrev k : ℕ

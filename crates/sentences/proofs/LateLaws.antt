@@ -1,8 +1,8 @@
 -- A key that was revoked stays out until it is asked for, out of the cache too: from the sentences alone, of any gauge. Assumes nothing.
 use Prim.Native.Nat.{ℕ, zero, suc}
-use mathlib.Core.Bool.{Bool, true, false}
+use mathlib.Core.Bool.{Bool, true}
 use mathlib.Core.List.{List, [], _∷_}
-use mathlib.Core.Logic.{_⊎_, inl, inr}
+use mathlib.Core.Logic.{inl, inr}
 use mathlib.Core.Path.{_≡_, refl, sym, ap, subst, _∙_}
 use native.Mathlib.Omega.{arith}
 use lib.ListN.{length, replicate, length-replicate}
@@ -11,22 +11,16 @@ use Rattle.octet.specs.Number.{Bytes, valueBE}
 use Rattle.octet.specs.Part.{part}
 use Rattle.key.specs.Number.{keyAt}
 use Rattle.record.specs.Record.{keyOf, recordForm}
-use Rattle.record.specs.Entry.{recordOf}
 use Rattle.record.proofs.EntryLaws.{form-length, record-form}
 use Rattle.kept.proofs.WithoutLaws.{eq-or}
 use Rattle.kept.specs.Keys.{Every, _∈_}
 use Rattle.kept.proofs.PutLaws.{Tri, less, same, more, tri}
 use Rattle.cache.specs.Form.{placesIn, heldOf}
-use Rattle.waiting.specs.Place.{idOf, kindOf, placeKey, placeRecord, inquiryPlace, floodPlace}
+use Rattle.waiting.specs.Place.{kindOf, placeKey, placeRecord, inquiryPlace, floodPlace}
 use Rattle.waiting.specs.Form.{waitingForm}
-use Rattle.waiting.specs.Tick.{oneLess}
 use Rattle.waiting.proofs.NewLaws.{new-key, new-kind}
 use Rattle.waiting.proofs.PlaceLaws.{less-kind, less-key, inquiry-key}
-use Rattle.wire_fields.specs.declared.Part.the-variants.{Here, Absent}
-use Rattle.wire_read.specs.Answers as R
-use Rattle.wire_read.specs.declared.Answer as T
-use Rattle.wire_read.specs.declared.Answer.the-variants as M
-use Rattle.gauge.specs.Lent.{Receive, receive, Send, send}
+use Rattle.gauge.specs.Lent.{Receive, receive, send}
 use Rattle.sentences.specs.Words.{Memory, Call, receives, sends, ticks, lists, Given, Gauge, ownOf, left, Typed, OneKey}
 use Rattle.sentences.specs.Heard.{Heard, entry, revoke, inquire, authority, ack, lookup, other, Hears}
 use Rattle.sentences.specs.Sentences as S

@@ -5,6 +5,10 @@ pub mod MoveLaws
 pub mod LearnLaws
 pub mod HeardLaws
 pub mod DoesLaws
+pub mod WordLaws
+pub mod PlanLaws
+pub mod FloodDoesLaws
+pub mod MessageDoesLaws
 pub mod ReceiveLaws
 pub mod FirstLaws
 pub mod PartLaws

@@ -1,7 +1,7 @@
 -- Members determine bytes: two caches in form of one size that hold the same records are equal, and so are two waiting tables in form with the same places.
 -- Assumes nothing.
 use mathlib.Core.Path.{_≡_, refl, sym, ap, ap₂, _∙_}
-use mathlib.Core.Logic.{_⊎_, _↔_, inl, inr}
+use mathlib.Core.Logic.{inl, inr}
 use mathlib.Core.Bool.{true}
 use mathlib.Core.List.{List, [], _∷_, map}
 use Prim.Native.Nat.{ℕ, suc, _≤_}
@@ -10,13 +10,11 @@ use lib.ListN.{length}
 use Rattle.record.specs.Record.{keyOf}
 use Rattle.table.specs.Rows.{bytesOf}
 use Rattle.kept.specs.Keys.{_∈_, Rising, plain}
-use Rattle.cache.specs.Form.{keysOf, heldOf, cacheForm, Form}
+use Rattle.cache.specs.Form.{keysOf, heldOf, cacheForm}
 use Rattle.cache.proofs.FormLaws.{true-form}
 use Rattle.waiting.specs.Place.{idOf}
-use Rattle.waiting.specs.Form as W
 use Rattle.waiting.specs.Form.{placesOf, placeForm, waitingForm}
 use Rattle.waiting.proofs.FormLaws.{Placed, form-of, form-placed}
-use Rattle.sentences.specs.Words.{Memory}
 use Rattle.sentences.specs.Sentences.{HoldsExactly, WaitsExactly}
 
 -- ---- lists that rise by a measure

@@ -1,23 +1,20 @@
 -- An INQUIRE, AUTHORITY, ACK or LOOKUP received, or a message that is not taken, is refused when the clauses say so: the rows of their tables. Assumes nothing.
 use mathlib.Core.Path.{_≡_, refl, sym, ap, _∙_}
-use mathlib.Core.Logic.{_⊎_, _↔_, inl, inr}
+use mathlib.Core.Logic.{_⊎_, inl, inr}
 use mathlib.Core.Bool.{Bool, true, false, not, _||_}
 use mathlib.Core.List.{List, [], _∷_}
 use Prim.Native.Nat.{ℕ, _+_, _*_, _<_}
 use native.Mathlib.Omega.{arith}
 use lib.Dec.{eqb, ltb}
 use lib.ListN.{length, getD}
-use borrow.Author.Tests.{eq-eqb, eqb-true}
-use Rattle.octet.proofs.TestLaws.{both-true}
 use Rattle.key.specs.Number.{keyAt}
 use Rattle.record.specs.Record.{keyOf, countOf, recordForm}
 use Rattle.refusal.specs.Table.{Refusal, when}
 use Rattle.table.specs.Rows.{joined}
-use Rattle.kept.specs.Keys.{_∈_}
 use Rattle.cache.specs.Form.{heldOf}
 use Rattle.cache.specs.Closest.{candidates, closestOf}
 use Rattle.cache.proofs.ClosestLaws.{closest-among, closest-least}
-use Rattle.waiting.specs.Place.{idOf, kindOf, placeKey}
+use Rattle.waiting.specs.Place.{idOf, placeKey}
 use Rattle.waiting.specs.Form.{placesOf}
 use Rattle.waiting.specs.Seek.{seek, isAt}
 use Rattle.wire_fields.specs.Kinds.{authorityKinds}
@@ -36,10 +33,10 @@ use Rattle.sentences.specs.Heard.{inquire, authority, ack, lookup, other
 use Rattle.sentences.specs.Sentences as S
 use Rattle.sentences.specs.Numbers as Num
 use Rattle.sentences.proofs.MembersLaws.{rise-one, places-rise}
-use Rattle.sentences.proofs.MoveLaws.{clash, none-in, found-in, seek-some, seek-none}
-use Rattle.sentences.proofs.ReceiveLaws.{not-iff}
+use Rattle.sentences.proofs.MoveLaws.{clash}
+use Rattle.sentences.proofs.WordLaws.{lent, not-iff, found-waits, none-iff-not}
 use Rattle.sentences.proofs.FirstLaws.{Row}
-use Rattle.sentences.proofs.SaidLaws.{few-addresses, lent, lent-tables, Said, short-to, short-from, none-short, Lowest, Both, good}
+use Rattle.sentences.proofs.SaidLaws.{few-addresses, lent-tables, Said, short-to, short-from, none-short, Lowest, Both, good}
 
 module _ (l : Receive) (n : ℕ) (low : Lowest l n) where
   abbrev k : ℕ
@@ -74,39 +71,16 @@ module _ (l : Receive) (n : ℕ) (low : Lowest l n) where
           inr (short-to l (inquire id (keyAt validate (l .datagram))) (cpaMade (l .major) (l .minor) (l .id) id (l .cpa) .bytes ∷ []) n _ refl room w)
       from (inr (inr w)) = absurd w
 
-  -- the place acked
-  waits-at : (kind acked : ℕ) (p : List ℕ) → S.WaitsAs (lent l) kind acked p → isAt acked kind p ≡ true
-  waits-at kind acked p w = rw (eq-eqb (idOf p) acked (w .1), eq-eqb (kindOf p) kind (w .2)) refl
-
-  at-waits : (kind acked : ℕ) (p : List ℕ) → p ∈ ps → isAt acked kind p ≡ true → S.WaitsAs (lent l) kind acked p
-  at-waits kind acked p i e =
-      let v = both-true (eqb (idOf p) acked) (eqb (kindOf p) kind) e in (i, eqb-true (idOf p) acked (v .0), eqb-true (kindOf p) kind (v .1))
-
-  none-iff-not : (kind acked : ℕ) → (isNothing (seek (isAt acked kind) 0 ps) ≡ true) ↔ (¬ ((p : List ℕ) × S.WaitsAs (lent l) kind acked p))
-  none-iff-not kind acked = (to, from)
-    where
-      to : isNothing (seek (isAt acked kind) 0 ps) ≡ true → ¬ ((p : List ℕ) × S.WaitsAs (lent l) kind acked p)
-      to e w = clash (waits-at kind acked (w .0) (w .1)) (none-in (isAt acked kind) ps (seek-none (isAt acked kind) ps e) (w .0) (w .1 .0))
-
-      from : ¬ ((p : List ℕ) × S.WaitsAs (lent l) kind acked p) → isNothing (seek (isAt acked kind) 0 ps) ≡ true
-      from h = go (isNothing (seek (isAt acked kind) 0 ps)) refl
-        where
-          go : (y : Bool) → isNothing (seek (isAt acked kind) 0 ps) ≡ y → isNothing (seek (isAt acked kind) 0 ps) ≡ true
-          go true e = e
-          go false e =
-              let w = found-in (isAt acked kind) (placeOf (seek (isAt acked kind) 0 ps)) ps (seek-some (isAt acked kind) ps e) in
-              absurd (h (getD ps (placeOf (seek (isAt acked kind) 0 ps)) [], at-waits kind acked _ (w .0) (w .1)))
-
   -- ACK
   pub ack-both : (acked : ℕ) (y : Bool) → Both l n (ack acked y) (when 8 (isNothing (seek (isAt acked 1) 0 ps)) ∷ [])
   ack-both acked y = (to, from)
     where
       to : Said l (ack acked y) n → Row n (when 8 (isNothing (seek (isAt acked 1) 0 ps)) ∷ [])
-      to (inl w) = inl (w .0, none-iff-not 1 acked .1 (w .1))
+      to (inl w) = inl (w .0, none-iff-not (lent l) 1 acked .1 (w .1))
       to (inr w) = absurd (none-short l (w .1) (w .2) (w .3))
 
       from : Row n (when 8 (isNothing (seek (isAt acked 1) 0 ps)) ∷ []) → Said l (ack acked y) n
-      from (inl w) = inl (w .0, none-iff-not 1 acked .0 (w .1))
+      from (inl w) = inl (w .0, none-iff-not (lent l) 1 acked .0 (w .1))
       from (inr w) = absurd w
 
   -- AUTHORITY
@@ -130,19 +104,15 @@ module _ (l : Receive) (n : ℕ) (low : Lowest l n) where
     pub authority-both : Num.Says l (authority acked cpa) → Both l n (authority acked cpa) au
     authority-both says = (to, from)
       where
-        found-there : isNothing (seek (isAt acked 2) 0 ps) ≡ false → S.WaitsAs (lent l) 2 acked there
-        found-there e =
-            let w = found-in (isAt acked 2) (placeOf (seek (isAt acked 2) 0 ps)) ps (seek-some (isAt acked 2) ps e) in at-waits 2 acked there (w .0) (w .1)
-
         some-there : 8 < n → S.WaitsAs (lent l) 2 acked there
         some-there h = go (isNothing (seek (isAt acked 2) 0 ps)) refl
           where
             go : (y : Bool) → isNothing (seek (isAt acked 2) 0 ps) ≡ y → S.WaitsAs (lent l) 2 acked there
-            go true e = absurd (low 8 h (Num.no-inquiry refl acked cpa says (none-iff-not 2 acked .0 e)))
-            go false e = found-there e
+            go true e = absurd (low 8 h (Num.no-inquiry refl acked cpa says (none-iff-not (lent l) 2 acked .0 e)))
+            go false e = found-waits (lent l) 2 acked e
 
         to : Said l (authority acked cpa) n → Row n au
-        to (inl (inl w)) = inl (w .0, none-iff-not 2 acked .1 (w .1))
+        to (inl (inl w)) = inl (w .0, none-iff-not (lent l) 2 acked .1 (w .1))
         to (inl (inr (inl w))) = inr (inl (w .0, nine-to cpa (w .1)))
         to (inl (inr (inr w))) =
             let v = some-there (omega (arith, w .0)) in
@@ -152,7 +122,7 @@ module _ (l : Receive) (n : ℕ) (low : Lowest l n) where
         to (inr w) = absurd (none-short l (w .1) (w .2) (w .3))
 
         from : Row n au → Said l (authority acked cpa) n
-        from (inl w) = inl (inl (w .0, none-iff-not 2 acked .0 (w .1)))
+        from (inl w) = inl (inl (w .0, none-iff-not (lent l) 2 acked .0 (w .1)))
         from (inr (inl w)) = inl (inr (inl (w .0, nine-from cpa (w .1))))
         from (inr (inr (inl w))) =
             inl (inr (inr (w .0, there, some-there (omega (arith, w .0)), λ d. not-iff (keyAt 0 (l .key)) (placeKey there) .0 (w .1) (sym d))))

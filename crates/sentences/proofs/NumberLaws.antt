@@ -29,10 +29,10 @@ use Rattle.sentences.specs.Heard.{Heard, entry, revoke, inquire, authori
 use Rattle.sentences.specs.Numbers as Num
 use Rattle.sentences.proofs.MoveLaws.{clash, holds-not}
 use Rattle.sentences.proofs.HeardLaws.{heardBy, answer-hears, hears-answer}
-use Rattle.sentences.proofs.ReceiveLaws.{not-iff, message-zero}
+use Rattle.sentences.proofs.WordLaws.{lent, not-iff, message-zero}
 use Rattle.sentences.proofs.PartLaws.{part-to, part-from}
 use Rattle.sentences.proofs.FirstLaws.{Row, row-front, row-behind, row-either, Agree}
-use Rattle.sentences.proofs.SaidLaws.{refused-applies, lent, Clause, fit-lent, lent-tables, lent-hands, Said, Lowest, Both}
+use Rattle.sentences.proofs.SaidLaws.{refused-applies, Clause, fit-lent, lent-tables, lent-hands, Said, Lowest, Both}
 use Rattle.sentences.proofs.FloodRowsLaws.{flood-both}
 use Rattle.sentences.proofs.MessageRowsLaws.{inquire-both, authority-both, ack-both, lookup-both, seven-both}
 use Rattle.sentences.proofs.ReadLaws.{zero-fails, fails-message, rows-message, is-long, read-row, row-read}
@@ -72,7 +72,7 @@ module _ (l : Receive) (bytes : Bytes (l .datagram)) where
     row-says : Row n (messageRows l a) → Clause l n
     row-says w =
         let i = rows-message l n a w in
-        let says = answer-hears d bytes (l .major) (message-zero l a i) in
+        let says = answer-hears d bytes (l .major) (message-zero a i) in
         elim (any-both l n low a i (known-answer d (l .major)) says .1 w) [
           | inl v ↦ refused-applies (lent l) l n (heardBy d a) says v
           | inr v ↦ Num.no-room (v .0) (heardBy d a) says (v .1) (v .2) (v .3)

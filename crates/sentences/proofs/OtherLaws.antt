@@ -1,19 +1,17 @@
 -- The tick, the neighbour list and a FLOOD to send are refused when the clauses say so. Assumes nothing.
-use mathlib.Core.Path.{_≡_, refl, sym, ap, ap₂, subst, _∙_}
-use mathlib.Core.Logic.{_⊎_, _↔_, inl, inr}
-use mathlib.Core.Bool.{Bool, true, false, not, cond, _&&_}
-use mathlib.Core.List.{List, [], _∷_, _++_}
-use Prim.Native.Nat.{ℕ, zero, suc, _+_, _*_, _≤_, _<_}
+use mathlib.Core.Path.{_≡_, refl, sym, ap, subst, _∙_}
+use mathlib.Core.Logic.{inl, inr}
+use mathlib.Core.Bool.{Bool, true, false, not, _&&_}
+use mathlib.Core.List.{List, [], _∷_}
+use Prim.Native.Nat.{ℕ, _<_}
 use native.Mathlib.Omega.{arith}
-use lib.Dec.{eqb, ltb}
+use lib.Dec.{eqb}
 use lib.ListN.{length, getD}
-use borrow.Author.Tests.{eq-eqb, ne-eqb, eqb-true, eqb-false, lt-ltb, ltb-true, not-true}
-use Rattle.octet.specs.Part.{part}
+use borrow.Author.Tests.{eq-eqb, eqb-true, eqb-false, lt-ltb, ltb-true, not-true}
 use Rattle.octet.proofs.TestLaws.{both-true}
 use Rattle.key.specs.Number.{keyAt}
-use Rattle.record.specs.Record.{keyOf, countOf, recordForm}
+use Rattle.record.specs.Record.{keyOf, recordForm}
 use Rattle.record.proofs.EntryLaws.{form-length}
-use Rattle.refusal.specs.Table.{Refusal}
 use Rattle.table.specs.Rows.{joined}
 use Rattle.table.proofs.RowLaws.{rows-length}
 use Rattle.kept.specs.Keys.{_∈_, Every}
@@ -22,14 +20,14 @@ use Rattle.cache.specs.Form.{heldOf, cacheForm}
 use Rattle.cache.specs.Calls.{listWrong}
 use Rattle.cache.proofs.FormLaws.{true-form}
 use Rattle.waiting.specs.Place.{idOf}
-use Rattle.waiting.specs.Form.{anyOf, usedOf, placesOf, waitingForm}
-use Rattle.waiting.specs.Seek.{seek, hasId}
+use Rattle.waiting.specs.Form.{usedOf, placesOf, waitingForm}
+use Rattle.waiting.specs.Seek.{hasId}
 use Rattle.waiting.specs.Call as W
 use Rattle.wire_fields.specs.Kinds.{floodKinds}
 use Rattle.wire_write.specs.Sent.{floodSent}
 use Rattle.wire_write.specs.Making.{floodMade}
 use Rattle.gauge_plan.specs.Memory.{tablesFit}
-use Rattle.gauge_plan.specs.Send.{keysFit, heldAt, floodRoom, sendRefusals}
+use Rattle.gauge_plan.specs.Send.{keysFit, heldAt, floodRoom}
 use Rattle.gauge_plan.specs.Answering.{isNothing, placeOf}
 use Rattle.gauge_plan.proofs.MemoryLaws.{ready}
 use Rattle.gauge_commit.proofs.LengthLaws.{flood-length}
@@ -43,7 +41,7 @@ use Rattle.sentences.specs.Sentences as S
 use Rattle.sentences.specs.Numbers as Num
 use Rattle.sentences.proofs.OneLaws.{named-one}
 use Rattle.sentences.proofs.MoveLaws.{clash, holds-not, any-in, in-any, none-in, found-in, seek-some, seek-none}
-use Rattle.sentences.proofs.ReceiveLaws.{not-iff}
+use Rattle.sentences.proofs.WordLaws.{not-iff}
 use Rattle.sentences.proofs.DoesLaws.{sentBy, named-by}
 use Rattle.sentences.proofs.SaidLaws.{no-room-by, few-addresses}
 use Rattle.sentences.proofs.FirstLaws.{Row, Agree}

@@ -16,7 +16,6 @@ use Rattle.refusal.specs.Table.{Refusal, firstOf, InOrder, byNumber}
 use Rattle.refusal.proofs.TableLaws.{AllFail, all-fail}
 use Rattle.refusal.proofs.CallLaws.{number-is, all-pass}
 use Rattle.kept.proofs.ListLaws.{Test, pass, fail, test}
-use Rattle.waiting.specs.Form.{placesOf}
 use Rattle.wire_fields.specs.Kinds.{kindsOf, present}
 use Rattle.wire_fields.specs.Message.{opening, typeOf}
 use Rattle.wire_fields.specs.Refusals as fields
@@ -32,7 +31,7 @@ use Rattle.sentences.specs.Heard.{Heard}
 use Rattle.sentences.specs.Numbers as Num
 use Rattle.sentences.proofs.MoveLaws.{clash, holds-not}
 use Rattle.sentences.proofs.HeardLaws.{heardBy, answer-hears, hears-answer}
-use Rattle.sentences.proofs.ReceiveLaws.{not-iff, message-zero}
+use Rattle.sentences.proofs.WordLaws.{not-iff, message-zero}
 use Rattle.sentences.proofs.PartLaws.{part-to, part-from}
 use Rattle.sentences.proofs.FirstLaws.{Row}
 use Rattle.sentences.proofs.SaidLaws.{Clause, Lowest}
@@ -72,7 +71,7 @@ module _ (l : Receive) where
   read-number =
       number-is (λ (f : fields.Found). numberOf (R.shown d f)) fields.refused (λ m. refl)
       (fields.found (typeOf d) (fields.placesOf (fieldsIn d)))
-      (message-zero l (R.shown d (fields.found (typeOf d) (fields.placesOf (fieldsIn d)))) (shown-message d (typeOf d) (fields.placesOf (fieldsIn d)))) rs
+      (message-zero (R.shown d (fields.found (typeOf d) (fields.placesOf (fieldsIn d)))) (shown-message d (typeOf d) (fields.placesOf (fieldsIn d)))) rs
 
   fails-first : (ts : List Refusal) → AllFail ts → firstOf ts ≡ 0
   unfolding firstOf

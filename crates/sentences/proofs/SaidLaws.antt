@@ -23,11 +23,12 @@ use Rattle.gauge_plan.specs.Ids.{idAfter}
 use Rattle.gauge_plan.specs.Memory.{tablesFit, handsFit}
 use Rattle.gauge_plan.proofs.MemoryLaws.{ready, known-hands}
 use Rattle.gauge.specs.Lent.{Receive}
-use Rattle.sentences.specs.Words.{Memory, memory}
+use Rattle.sentences.specs.Words.{Memory}
 use Rattle.sentences.specs.Heard.{Heard, entry, revoke, inquire, authority, ack, lookup, other}
 use Rattle.sentences.specs.Sentences as S
 use Rattle.sentences.specs.Numbers as Num
 use Rattle.sentences.proofs.OneLaws.{reply-one}
+use Rattle.sentences.proofs.WordLaws.{lent}
 use Rattle.sentences.proofs.MoveLaws.{clash}
 use Rattle.sentences.proofs.FirstLaws.{Row}
 
@@ -85,12 +86,9 @@ few-addresses r e =
     leb-true (countOf r) 4 (both-true first (leb (countOf r) 4) (b .0) .1)
 
 module _ (l : Receive) where
-  -- memory as lent, and the clauses of the call
-  abbrev pub lent : Memory
-  lent = memory (l .cache) (l .waiting)
-
+  -- the clauses of the call
   abbrev pub Clause : ℕ → Type 0
-  Clause n = Num.ReceiveApplies lent l n
+  Clause n = Num.ReceiveApplies (lent l) l n
 
   -- ---- 1
 
@@ -133,19 +131,19 @@ module _ (l : Receive) where
   -- ---- 15
 
   abbrev Short : Heard → ℕ → Type 0
-  Short x n = (n ≡ 15) × (ds : List (List ℕ)) × S.Reply lent l x ds × Num.NoRoom (l .output) ds
+  Short x n = (n ≡ 15) × (ds : List (List ℕ)) × S.Reply (lent l) l x ds × Num.NoRoom (l .output) ds
 
   abbrev pub Said : Heard → ℕ → Type 0
-  Said x n = Refused lent l x n ⊎ Short x n
+  Said x n = Refused (lent l) l x n ⊎ Short x n
 
-  pub short-to : (x : Heard) (ds : List (List ℕ)) (n need : ℕ) → S.Reply lent l x ds → length (joined ds) ≡ need
+  pub short-to : (x : Heard) (ds : List (List ℕ)) (n need : ℕ) → S.Reply (lent l) l x ds → length (joined ds) ≡ need
       → (n ≡ 15) × (ltb (length (l .output)) need ≡ true) → Short x n
   short-to x ds n need r e w = (w .0, ds, r, inl (let h = ltb-true (length (l .output)) need (w .1) in omega arith))
 
-  pub short-from : (x : Heard) (ds : List (List ℕ)) (n need : ℕ) → cacheForm (keyOf (l .own)) (l .cache) ≡ true → S.Reply lent l x ds
+  pub short-from : (x : Heard) (ds : List (List ℕ)) (n need : ℕ) → cacheForm (keyOf (l .own)) (l .cache) ≡ true → S.Reply (lent l) l x ds
       → length (joined ds) ≡ need → need ≤ 1232 → Short x n → (n ≡ 15) × (ltb (length (l .output)) need ≡ true)
   short-from x ds n need f r e few w =
-      let h = no-room-by (l .output) ds (omega arith) (subst (Num.NoRoom (l .output)) (reply-one lent l f x (w .1) ds (w .2) r) (w .3)) in
+      let h = no-room-by (l .output) ds (omega arith) (subst (Num.NoRoom (l .output)) (reply-one (lent l) l f x (w .1) ds (w .2) r) (w .3)) in
       (w .0, lt-ltb (length (l .output)) need (omega arith))
 
   -- nothing is sent: no room is needed

@@ -1,0 +1,131 @@
+-- Ours does what the sentences say of a FLOOD received, with a route entry and with a revocation. Assumes nothing.
+use mathlib.Core.Path.{_≡_, refl, subst}
+use mathlib.Core.Logic.{_⊎_, inl, inr}
+use mathlib.Core.Bool.{Bool, true, false, cond, _&&_}
+use mathlib.Core.List.{List}
+use Prim.Native.Nat.{ℕ}
+use native.Mathlib.Nat.{mod-lt}
+use native.Mathlib.Omega.{arith}
+use lib.Dec.{eqb}
+use borrow.Author.Tests.{eqb-false}
+use Rattle.octet.specs.Part.{part}
+use Rattle.key.specs.Number.{keyAt}
+use Rattle.record.specs.Record.{keyOf}
+use Rattle.record.specs.Entry.{entryForm, recordOf}
+use Rattle.record.proofs.EntryLaws.{form-length, record-form}
+use Rattle.refusal.proofs.TableLaws.{AllFail}
+use Rattle.table.specs.Rows.{bytesOf}
+use Rattle.table.proofs.RowLaws.{rows-length}
+use Rattle.cache.specs.Form.{heldOf}
+use Rattle.waiting.specs.Place.{inquiryPlace}
+use Rattle.waiting.specs.Form.{isInquiry, anyOf, placesOf}
+use Rattle.waiting.specs.Seek.{seek, hasId}
+use Rattle.waiting.specs.Open.{opened}
+use Rattle.waiting.specs.declared.seek.Found.{Found}
+use Rattle.waiting.specs.declared.seek.Found.the-variants.{At, Nothing}
+use Rattle.waiting.proofs.FormLaws.{form-placed}
+use Rattle.waiting.proofs.KeptLaws.{free-kept, open-inquiry}
+use Rattle.waiting.specs.Form as W
+use Rattle.wire_fields.specs.declared.Part.{Part}
+use Rattle.wire_fields.specs.declared.Part.the-variants.{Here, Absent}
+use Rattle.wire_read.specs.declared.Head.{Head}
+use Rattle.wire_write.specs.Making.{ackMade, inquireMade}
+use Rattle.gauge_plan.specs.Ids.{idAfter}
+use Rattle.gauge_plan.specs.Flood.{notOurs, mustAsk, floodPlan, revokePlan}
+use Rattle.gauge_plan.specs.declared.Plan.the-variants.{Flood, Revoke}
+use Rattle.gauge_commit.specs.Replies.{freedAt}
+use Rattle.gauge.specs.Lent.{Receive}
+use Rattle.gauge.specs.Receive.{byEntry, carried}
+use Rattle.gauge.proofs.AnswerLaws.{EntryIn}
+use Rattle.gauge_laws.specs.Table.{floodRows}
+use Rattle.sentences.specs.Heard.{entry, revoke}
+use Rattle.sentences.specs.Sentences as S
+use Rattle.sentences.proofs.MoveLaws.{clash, opened-in, none-inquires}
+use Rattle.sentences.proofs.LearnLaws.{table-by, removes}
+use Rattle.sentences.proofs.HeardLaws.{saidBy}
+use Rattle.sentences.proofs.WordLaws.{lent, not-iff, must-iff, none-asked}
+use Rattle.sentences.proofs.PlanLaws.{held, used, Fine, Does, table-form, ids-rise, passed}
+
+-- of two tests that do not hold together, where the first does the second does not
+second-fails : (a b : Bool) → a && b ≡ false → a ≡ true → b ≡ false
+second-fails true b e h = e
+second-fails false b e h = clash h refl
+
+module _ (l : Receive) (ok : Fine l) where
+  abbrev k : ℕ
+  k = keyOf (l .own)
+
+  abbrev recs : List (List ℕ)
+  recs = heldOf (keyOf (l .own)) (l .cache)
+
+  abbrev ps : List (List ℕ)
+  ps = placesOf (l .waiting)
+
+  -- FLOOD with a route entry
+  module _ (id : ℕ) (s : Bool) (validate start len : ℕ) (formed : entryForm (part start len (l .datagram)) ≡ true)
+      (bars : AllFail (floodRows l s validate (Here start len))) where
+    abbrev r : List ℕ
+    r = recordOf (part start len (l .datagram))
+
+    abbrev n : Bool
+    n = notOurs k validate (l .datagram)
+
+    entry-table : (b : Bool) → mustAsk recs ps r ≡ b
+        → S.WaitsExactly k (cond b (bytesOf 2240 (opened (inquiryPlace (idAfter (l .id)) r) ps)) (l .waiting))
+        (λ (p : List ℕ). S.Waits (lent l) p ⊎ (S.MustAsk k (lent l) r × (p ≡ inquiryPlace (idAfter (l .id)) r)))
+    entry-table true e =
+        let must = must-iff k (lent l) r .0 e in
+        let good = record-form (part start len (l .datagram)) formed in
+        let full = eqb-false (used l) 16 (second-fails (mustAsk recs ps r) (eqb (used l) 16) (bars .1 .1 .0) e) in
+        let g = open-inquiry k (l .waiting) ps (table-form l ok) (idAfter (l .id)) r (omega (arith, rows-length 140 (used l) (l .waiting), ok .ready .few, full))
+        (mod-lt _ (omega arith)) (form-length r good) good (bars .0)
+        (second-fails (mustAsk recs ps r) (anyOf (hasId (idAfter (l .id))) ps) (bars .1 .0) e)
+        (none-asked k (lent l) r must) in
+        table-by k _ (opened (inquiryPlace (idAfter (l .id)) r) ps) _ g
+        (λ q. (
+          λ i. elim (opened-in (inquiryPlace (idAfter (l .id)) r) q ps .0 i) [ inl w ↦ inl w | inr w ↦ inr (must, w) ],
+          λ i. opened-in (inquiryPlace (idAfter (l .id)) r) q ps .1 (elim i [ inl w ↦ inl w | inr w ↦ inr (w .1) ]),
+        ))
+    entry-table false e = table-by k (l .waiting) ps _ (table-form l ok)
+        (λ q. (λ i. inl i, λ i. elim i [ inl w ↦ w | inr w ↦ clash (must-iff k (lent l) r .1 (w .0)) e ]))
+
+    entry-does : Does l (entry id s (keyAt validate (l .datagram)) r) (Flood (used l) s n id (mustAsk recs ps r) start len)
+    unfolding carried ackMade inquireMade
+    entry-does h = record {
+      x = entry id s (keyAt validate (l .datagram)) r;
+      hears = h;
+      ds = _;
+      reply = record { n = n; ask = mustAsk recs ps r; set = not-iff (keyAt validate (l .datagram)) k; asked = must-iff k (lent l) r; are = refl };
+      sent = record { counts = refl; bytes = refl };
+      leaves = record { cache = refl; table = entry-table (mustAsk recs ps r) refl };
+    }
+
+  -- FLOOD with a revocation
+  revoke-does : (id : ℕ) (s : Bool) (validate : ℕ)
+      → Does l (revoke id s (keyAt validate (l .datagram))) (Revoke (held l) (used l) s (notOurs k validate (l .datagram)) id)
+  unfolding carried ackMade heldOf
+  revoke-does id s validate h =
+      let u = keyAt 0 (l .key) in
+      record {
+        x = revoke id s (keyAt validate (l .datagram));
+        hears = h;
+        ds = _;
+        reply = record { n = notOurs k validate (l .datagram); set = not-iff (keyAt validate (l .datagram)) k; are = refl };
+        sent = record { counts = refl; bytes = refl };
+        leaves = record {
+          cache = removes k (lent l) (ok .ready .cached) u;
+          table = table-by k _ (freedAt (seek (isInquiry u) 0 ps) ps) _ (freed-form (seek (isInquiry u) 0 ps))
+              (λ q. none-inquires k u q ps (form-placed k (l .waiting) (ok .ready .tabled)) (ids-rise l ok));
+        };
+      }
+    where
+      freed-form : (found : Found) → W.Form k (bytesOf 2240 (freedAt found ps)) (freedAt found ps)
+      freed-form (At i) = free-kept k (l .waiting) ps (table-form l ok) i
+      freed-form Nothing = subst (λ (t : List ℕ). W.Form k t ps) (table-form l ok .bytes) (table-form l ok)
+
+  -- any FLOOD
+  pub flood-does : (head : Head) (s : Bool) (validate : ℕ) (route : Part) → EntryIn (l .datagram) route → AllFail (floodRows l s validate route)
+      → Does l (saidBy (l .datagram) (head .id) s validate route) (byEntry l (held l) (used l) head s validate route)
+  unfolding floodPlan revokePlan heldOf
+  flood-does head s validate (Here start len) w bars = passed l _ _ _ bars (entry-does (head .id) s validate start len (w .1) bars)
+  flood-does head s validate Absent w bars = passed l _ _ _ bars (revoke-does (head .id) s validate)

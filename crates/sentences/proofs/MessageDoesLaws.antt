@@ -1,0 +1,146 @@
+-- Ours does what the sentences say of an AUTHORITY, ACK, INQUIRE or LOOKUP received. Assumes nothing.
+use mathlib.Core.Path.{_≡_, refl, sym, ap, _∙_}
+use mathlib.Core.Bool.{Bool, true, false, cond}
+use mathlib.Core.List.{List, [], _∷_}
+use Prim.Native.Nat.{ℕ}
+use lib.ListN.{length, getD}
+use Rattle.octet.proofs.PartLaws.{splice-nil}
+use Rattle.key.specs.Number.{keyAt}
+use Rattle.record.specs.Record.{keyOf}
+use Rattle.table.specs.Rows.{joined, bytesOf}
+use Rattle.cache.specs.Form.{heldOf}
+use Rattle.cache.specs.Bytes.{afterRemove}
+use Rattle.cache.specs.Closest.{candidates, closestOf}
+use Rattle.cache.proofs.ClosestLaws.{closest-among, closest-least}
+use Rattle.waiting.specs.Place.{placeKey, placeRecord}
+use Rattle.waiting.specs.Form.{placesOf}
+use Rattle.waiting.specs.Seek.{seek, isAt}
+use Rattle.waiting.specs.Open.{freed}
+use Rattle.waiting.specs.declared.seek.Found.the-variants.{At}
+use Rattle.waiting.proofs.FormLaws.{form-placed}
+use Rattle.waiting.proofs.KeptLaws.{free-kept}
+use Rattle.waiting.proofs.SeekLaws.{found-within, placed-at}
+use Rattle.waiting.proofs.PlaceLaws.{inquiry-record, inquiry-key, inquiry-other}
+use Rattle.wire_fields.specs.Kinds.{authorityKinds}
+use Rattle.wire_write.specs.Sent.{closestSent}
+use Rattle.wire_write.specs.Making.{cpaMade, closestMade}
+use Rattle.gauge_plan.specs.Answering.{isNothing, placeOf}
+use Rattle.gauge_plan.specs.declared.Plan.the-variants.{Learn, Free, Certify, Show}
+use Rattle.gauge_commit.proofs.PlaceLaws.{closest-formed}
+use Rattle.gauge.specs.Lent.{Receive}
+use Rattle.gauge.specs.Receive.{carried}
+use Rattle.gauge_laws.proofs.FirstLaws.{whole-record}
+use Rattle.sentences.specs.Heard.{inquire, authority, ack, lookup}
+use Rattle.sentences.specs.Sentences as S
+use Rattle.sentences.proofs.MoveLaws.{clash, seek-some, freed-in}
+use Rattle.sentences.proofs.LearnLaws.{table-by, removes, learns}
+use Rattle.sentences.proofs.WordLaws.{lent, found-waits}
+use Rattle.sentences.proofs.PlanLaws.{held, used, Fine, Does, table-form, ids-rise}
+
+module _ (l : Receive) (ok : Fine l) where
+  abbrev k : ℕ
+  k = keyOf (l .own)
+
+  abbrev recs : List (List ℕ)
+  recs = heldOf (keyOf (l .own)) (l .cache)
+
+  abbrev ps : List (List ℕ)
+  ps = placesOf (l .waiting)
+
+  -- the place that an AUTHORITY or an ACK answers
+  module _ (acked kind : ℕ) (bars : isNothing (seek (isAt acked kind) 0 ps) ≡ false) where
+    abbrev at : ℕ
+    at = placeOf (seek (isAt acked kind) 0 ps)
+
+    found : seek (isAt acked kind) 0 ps ≡ At at
+    found = seek-some (isAt acked kind) ps bars
+
+    freed-table : S.WaitsExactly k (bytesOf 2240 (freed at ps)) (λ (q : List ℕ). S.Waits (lent l) q × (¬ (q ≡ getD ps at [])))
+    freed-table = table-by k _ (freed at ps) _ (free-kept k (l .waiting) ps (table-form l ok) at)
+        (λ q. freed-in q at ps (ids-rise l ok) (found-within (isAt acked kind) at ps found))
+
+  -- AUTHORITY
+  pub authority-does : (acked : ℕ) (cpa : Bool) → isNothing (seek (isAt acked 2) 0 ps) ≡ false
+      → Does l (authority acked cpa) (Learn (held l) (used l) (placeOf (seek (isAt acked 2) 0 ps)))
+  unfolding carried heldOf joined
+  authority-does acked cpa bars h =
+      let i = at acked 2 bars in
+      let p = getD ps i [] in
+      let w = found-waits (lent l) 2 acked bars in
+      let good = placed-at k 0 i ps (form-placed k (l .waiting) (ok .ready .tabled)) (found-within (isAt acked 2) i ps (found acked 2 bars)) in
+      record {
+        x = authority acked cpa;
+        hears = h;
+        ds = [];
+        reply = refl;
+        sent = record { counts = refl; bytes = sym (splice-nil 0 (l .output)) };
+        leaves = record {
+          p = p;
+          answers = w;
+          cache = learns k (lent l) (ok .ready .cached) (placeRecord p) (inquiry-record k p good (w .2))
+              (λ e. inquiry-other k p good (w .2) (sym (inquiry-key k p good (w .2)) ∙ e));
+          table = freed-table acked 2 bars;
+        };
+      }
+
+  -- ACK
+  ack-cache : (acked : ℕ) (b : Bool) (p : List ℕ)
+      → S.HoldsExactly k (l .cache) (cond b (bytesOf (length (l .cache)) (afterRemove (placeKey p) recs)) (l .cache))
+      (λ (r : List ℕ). S.Holds k (lent l) r × (¬ ((b ≡ true) × (keyOf r ≡ placeKey p))))
+  ack-cache acked true p =
+      let c = removes k (lent l) (ok .ready .cached) (placeKey p) in
+      record {
+        form = c .form;
+        size = c .size;
+        members = λ r. (λ i. let w = c .members r .0 i in (w .0, λ e. w .1 (e .1)), λ w. c .members r .1 (w .0, λ e. w .1 (refl, e)));
+      }
+  ack-cache acked false p = record { form = ok .ready .cached; size = refl; members = λ r. (λ i. (i, λ e. clash (e .0) refl), λ w. w .0) }
+
+  pub ack-does : (acked : ℕ) (b : Bool) → isNothing (seek (isAt acked 1) 0 ps) ≡ false
+      → Does l (ack acked b) (Free (held l) (used l) (placeOf (seek (isAt acked 1) 0 ps)) b)
+  unfolding carried heldOf joined
+  ack-does acked b bars h = record {
+    x = ack acked b;
+    hears = h;
+    ds = [];
+    reply = refl;
+    sent = record { counts = refl; bytes = sym (splice-nil 0 (l .output)) };
+    leaves = record {
+      p = getD ps (at acked 1 bars) [];
+      answers = found-waits (lent l) 1 acked bars;
+      cache = ack-cache acked b (getD ps (at acked 1 bars) []);
+      table = freed-table acked 1 bars;
+    };
+  }
+
+  -- INQUIRE
+  pub inquire-does : (id validate : ℕ) → Does l (inquire id (keyAt validate (l .datagram))) (Certify id)
+  unfolding carried cpaMade
+  inquire-does id validate h = record {
+    x = inquire id (keyAt validate (l .datagram));
+    hears = h;
+    ds = _;
+    reply = refl;
+    sent = record { counts = refl; bytes = refl };
+    leaves = refl;
+  }
+
+  -- LOOKUP
+  pub lookup-does : (id target : ℕ) → Does l (lookup id (keyAt target (l .datagram))) (Show (held l) id target)
+  unfolding carried closestMade heldOf
+  lookup-does id target h =
+      let t = keyAt target (l .datagram) in
+      let r = closestOf t (candidates (l .own) recs) in
+      let good = closest-formed t k (l .own) (l .cache) recs (ok .ready .owned) (ok .ready .form) in
+      record {
+        x = lookup id t;
+        hears = h;
+        ds = _;
+        reply = record {
+          r = r;
+          closest = record { candidate = closest-among t (l .own) recs; none-closer = λ q i. closest-least t (l .own) recs q i };
+          are = ap (λ (y : List ℕ). S.written authorityKinds (closestSent (l .major) (l .minor) (l .id) id y) ∷ []) (whole-record r good);
+        };
+        sent = record { counts = refl; bytes = refl };
+        leaves = refl;
+      }

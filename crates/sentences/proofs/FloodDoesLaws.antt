@@ -52,9 +52,6 @@ second-fails true b e h = e
 second-fails false b e h = clash h refl
 
 module _ (l : Receive) (ok : Fine l) where
-  abbrev k : ℕ
-  k = keyOf (l .own)
-
   abbrev recs : List (List ℕ)
   recs = heldOf (keyOf (l .own)) (l .cache)
 
@@ -68,26 +65,27 @@ module _ (l : Receive) (ok : Fine l) where
     r = recordOf (part start len (l .datagram))
 
     abbrev n : Bool
-    n = notOurs k validate (l .datagram)
+    n = notOurs (keyOf (l .own)) validate (l .datagram)
 
     entry-table : (b : Bool) → mustAsk recs ps r ≡ b
-        → S.WaitsExactly k (cond b (bytesOf 2240 (opened (inquiryPlace (idAfter (l .id)) r) ps)) (l .waiting))
-        (λ (p : List ℕ). S.Waits (lent l) p ⊎ (S.MustAsk k (lent l) r × (p ≡ inquiryPlace (idAfter (l .id)) r)))
+        → S.WaitsExactly (keyOf (l .own)) (cond b (bytesOf 2240 (opened (inquiryPlace (idAfter (l .id)) r) ps)) (l .waiting))
+        (λ (p : List ℕ). S.Waits (lent l) p ⊎ (S.MustAsk (keyOf (l .own)) (lent l) r × (p ≡ inquiryPlace (idAfter (l .id)) r)))
     entry-table true e =
-        let must = must-iff k (lent l) r .0 e in
+        let must = must-iff (keyOf (l .own)) (lent l) r .0 e in
         let good = record-form (part start len (l .datagram)) formed in
         let full = eqb-false (used l) 16 (second-fails (mustAsk recs ps r) (eqb (used l) 16) (bars .1 .1 .0) e) in
-        let g = open-inquiry k (l .waiting) ps (table-form l ok) (idAfter (l .id)) r (omega (arith, rows-length 140 (used l) (l .waiting), ok .ready .few, full))
+        let g = open-inquiry (keyOf (l .own)) (l .waiting) ps (table-form l ok) (idAfter (l .id)) r
+        (omega (arith, rows-length 140 (used l) (l .waiting), ok .ready .few, full))
         (mod-lt _ (omega arith)) (form-length r good) good (bars .0)
         (second-fails (mustAsk recs ps r) (anyOf (hasId (idAfter (l .id))) ps) (bars .1 .0) e)
-        (none-asked k (lent l) r must) in
-        table-by k _ (opened (inquiryPlace (idAfter (l .id)) r) ps) _ g
+        (none-asked (keyOf (l .own)) (lent l) r must) in
+        table-by (keyOf (l .own)) _ (opened (inquiryPlace (idAfter (l .id)) r) ps) _ g
         (λ q. (
           λ i. elim (opened-in (inquiryPlace (idAfter (l .id)) r) q ps .0 i) [ inl w ↦ inl w | inr w ↦ inr (must, w) ],
           λ i. opened-in (inquiryPlace (idAfter (l .id)) r) q ps .1 (elim i [ inl w ↦ inl w | inr w ↦ inr (w .1) ]),
         ))
-    entry-table false e = table-by k (l .waiting) ps _ (table-form l ok)
-        (λ q. (λ i. inl i, λ i. elim i [ inl w ↦ w | inr w ↦ clash (must-iff k (lent l) r .1 (w .0)) e ]))
+    entry-table false e = table-by (keyOf (l .own)) (l .waiting) ps _ (table-form l ok)
+        (λ q. (λ i. inl i, λ i. elim i [ inl w ↦ w | inr w ↦ clash (must-iff (keyOf (l .own)) (lent l) r .1 (w .0)) e ]))
 
     entry-does : Does l (entry id s (keyAt validate (l .datagram)) r) (Flood (used l) s n id (mustAsk recs ps r) start len)
     unfolding carried ackMade inquireMade
@@ -95,14 +93,20 @@ module _ (l : Receive) (ok : Fine l) where
       x = entry id s (keyAt validate (l .datagram)) r;
       hears = h;
       ds = _;
-      reply = record { n = n; ask = mustAsk recs ps r; set = not-iff (keyAt validate (l .datagram)) k; asked = must-iff k (lent l) r; are = refl };
+      reply = record {
+        n = n;
+        ask = mustAsk recs ps r;
+        set = not-iff (keyAt validate (l .datagram)) (keyOf (l .own));
+        asked = must-iff (keyOf (l .own)) (lent l) r;
+        are = refl;
+      };
       sent = record { counts = refl; bytes = refl };
       leaves = record { cache = refl; table = entry-table (mustAsk recs ps r) refl };
     }
 
   -- FLOOD with a revocation
   revoke-does : (id : ℕ) (s : Bool) (validate : ℕ)
-      → Does l (revoke id s (keyAt validate (l .datagram))) (Revoke (held l) (used l) s (notOurs k validate (l .datagram)) id)
+      → Does l (revoke id s (keyAt validate (l .datagram))) (Revoke (held l) (used l) s (notOurs (keyOf (l .own)) validate (l .datagram)) id)
   unfolding carried ackMade heldOf
   revoke-does id s validate h =
       let u = keyAt 0 (l .key) in
@@ -110,18 +114,18 @@ module _ (l : Receive) (ok : Fine l) where
         x = revoke id s (keyAt validate (l .datagram));
         hears = h;
         ds = _;
-        reply = record { n = notOurs k validate (l .datagram); set = not-iff (keyAt validate (l .datagram)) k; are = refl };
+        reply = record { n = notOurs (keyOf (l .own)) validate (l .datagram); set = not-iff (keyAt validate (l .datagram)) (keyOf (l .own)); are = refl };
         sent = record { counts = refl; bytes = refl };
         leaves = record {
-          cache = removes k (lent l) (ok .ready .cached) u;
-          table = table-by k _ (freedAt (seek (isInquiry u) 0 ps) ps) _ (freed-form (seek (isInquiry u) 0 ps))
-              (λ q. none-inquires k u q ps (form-placed k (l .waiting) (ok .ready .tabled)) (ids-rise l ok));
+          cache = removes (keyOf (l .own)) (lent l) (ok .ready .cached) u;
+          table = table-by (keyOf (l .own)) _ (freedAt (seek (isInquiry u) 0 ps) ps) _ (freed-form (seek (isInquiry u) 0 ps))
+              (λ q. none-inquires (keyOf (l .own)) u q ps (form-placed (keyOf (l .own)) (l .waiting) (ok .ready .tabled)) (ids-rise l ok));
         };
       }
     where
-      freed-form : (found : Found) → W.Form k (bytesOf 2240 (freedAt found ps)) (freedAt found ps)
-      freed-form (At i) = free-kept k (l .waiting) ps (table-form l ok) i
-      freed-form Nothing = subst (λ (t : List ℕ). W.Form k t ps) (table-form l ok .bytes) (table-form l ok)
+      freed-form : (found : Found) → W.Form (keyOf (l .own)) (bytesOf 2240 (freedAt found ps)) (freedAt found ps)
+      freed-form (At i) = free-kept (keyOf (l .own)) (l .waiting) ps (table-form l ok) i
+      freed-form Nothing = subst (λ (t : List ℕ). W.Form (keyOf (l .own)) t ps) (table-form l ok .bytes) (table-form l ok)
 
   -- any FLOOD
   pub flood-does : (head : Head) (s : Bool) (validate : ℕ) (route : Part) → EntryIn (l .datagram) route → AllFail (floodRows l s validate route)

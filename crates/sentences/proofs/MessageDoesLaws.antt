@@ -17,9 +17,8 @@ use Rattle.waiting.specs.Form.{placesOf}
 use Rattle.waiting.specs.Seek.{seek, isAt}
 use Rattle.waiting.specs.Open.{freed}
 use Rattle.waiting.specs.declared.seek.Found.the-variants.{At}
-use Rattle.waiting.proofs.FormLaws.{form-placed}
 use Rattle.waiting.proofs.KeptLaws.{free-kept}
-use Rattle.waiting.proofs.SeekLaws.{found-within, placed-at}
+use Rattle.waiting.proofs.SeekLaws.{found-within}
 use Rattle.waiting.proofs.PlaceLaws.{inquiry-record, inquiry-key, inquiry-other}
 use Rattle.wire_fields.specs.Kinds.{authorityKinds}
 use Rattle.wire_write.specs.Sent.{closestSent}
@@ -32,15 +31,13 @@ use Rattle.gauge.specs.Receive.{carried}
 use Rattle.gauge_laws.proofs.FirstLaws.{whole-record}
 use Rattle.sentences.specs.Heard.{inquire, authority, ack, lookup}
 use Rattle.sentences.specs.Sentences as S
+use Rattle.sentences.proofs.MembersLaws.{place-formed}
 use Rattle.sentences.proofs.MoveLaws.{clash, seek-some, freed-in}
 use Rattle.sentences.proofs.LearnLaws.{table-by, removes, learns}
 use Rattle.sentences.proofs.WordLaws.{lent, found-waits}
 use Rattle.sentences.proofs.PlanLaws.{held, used, Fine, Does, table-form, ids-rise}
 
 module _ (l : Receive) (ok : Fine l) where
-  abbrev k : ℕ
-  k = keyOf (l .own)
-
   abbrev recs : List (List ℕ)
   recs = heldOf (keyOf (l .own)) (l .cache)
 
@@ -55,8 +52,8 @@ module _ (l : Receive) (ok : Fine l) where
     found : seek (isAt acked kind) 0 ps ≡ At at
     found = seek-some (isAt acked kind) ps bars
 
-    freed-table : S.WaitsExactly k (bytesOf 2240 (freed at ps)) (λ (q : List ℕ). S.Waits (lent l) q × (¬ (q ≡ getD ps at [])))
-    freed-table = table-by k _ (freed at ps) _ (free-kept k (l .waiting) ps (table-form l ok) at)
+    freed-table : S.WaitsExactly (keyOf (l .own)) (bytesOf 2240 (freed at ps)) (λ (q : List ℕ). S.Waits (lent l) q × (¬ (q ≡ getD ps at [])))
+    freed-table = table-by (keyOf (l .own)) _ (freed at ps) _ (free-kept (keyOf (l .own)) (l .waiting) ps (table-form l ok) at)
         (λ q. freed-in q at ps (ids-rise l ok) (found-within (isAt acked kind) at ps found))
 
   -- AUTHORITY
@@ -67,7 +64,7 @@ module _ (l : Receive) (ok : Fine l) where
       let i = at acked 2 bars in
       let p = getD ps i [] in
       let w = found-waits (lent l) 2 acked bars in
-      let good = placed-at k 0 i ps (form-placed k (l .waiting) (ok .ready .tabled)) (found-within (isAt acked 2) i ps (found acked 2 bars)) in
+      let good = place-formed (keyOf (l .own)) (l .waiting) (ok .ready .tabled) p (w .0) in
       record {
         x = authority acked cpa;
         hears = h;
@@ -77,18 +74,18 @@ module _ (l : Receive) (ok : Fine l) where
         leaves = record {
           p = p;
           answers = w;
-          cache = learns k (lent l) (ok .ready .cached) (placeRecord p) (inquiry-record k p good (w .2))
-              (λ e. inquiry-other k p good (w .2) (sym (inquiry-key k p good (w .2)) ∙ e));
+          cache = learns (keyOf (l .own)) (lent l) (ok .ready .cached) (placeRecord p) (inquiry-record (keyOf (l .own)) p good (w .2))
+              (λ e. inquiry-other (keyOf (l .own)) p good (w .2) (sym (inquiry-key (keyOf (l .own)) p good (w .2)) ∙ e));
           table = freed-table acked 2 bars;
         };
       }
 
   -- ACK
   ack-cache : (acked : ℕ) (b : Bool) (p : List ℕ)
-      → S.HoldsExactly k (l .cache) (cond b (bytesOf (length (l .cache)) (afterRemove (placeKey p) recs)) (l .cache))
-      (λ (r : List ℕ). S.Holds k (lent l) r × (¬ ((b ≡ true) × (keyOf r ≡ placeKey p))))
+      → S.HoldsExactly (keyOf (l .own)) (l .cache) (cond b (bytesOf (length (l .cache)) (afterRemove (placeKey p) recs)) (l .cache))
+      (λ (r : List ℕ). S.Holds (keyOf (l .own)) (lent l) r × (¬ ((b ≡ true) × (keyOf r ≡ placeKey p))))
   ack-cache acked true p =
-      let c = removes k (lent l) (ok .ready .cached) (placeKey p) in
+      let c = removes (keyOf (l .own)) (lent l) (ok .ready .cached) (placeKey p) in
       record {
         form = c .form;
         size = c .size;
@@ -131,7 +128,7 @@ module _ (l : Receive) (ok : Fine l) where
   lookup-does id target h =
       let t = keyAt target (l .datagram) in
       let r = closestOf t (candidates (l .own) recs) in
-      let good = closest-formed t k (l .own) (l .cache) recs (ok .ready .owned) (ok .ready .form) in
+      let good = closest-formed t (keyOf (l .own)) (l .own) (l .cache) recs (ok .ready .owned) (ok .ready .form) in
       record {
         x = lookup id t;
         hears = h;

@@ -115,7 +115,8 @@ module _ (major minor id : ℕ) (h : Numbers major minor id) where
             (formed.closest-formed major minor id acked r 0 h b (rw (le-leb 100 (length r) (omega arith), ok′) refl)),
       )
 
-  flood-back : (key r : List ℕ) → length key ≡ 32 → Bytes key → recordForm r ≡ true → Bytes r → ReadsBack (S.written floodKinds (floodSent major minor id key r))
+  flood-back : (key r : List ℕ) → length key ≡ 32 → Bytes key → recordForm r ≡ true → Bytes r
+      → ReadsBack (S.written floodKinds (floodSent major minor id key r))
   unfolding floodMade fit
   flood-back key r lk bk ok b =
       let long = form-length r ok in
@@ -166,7 +167,8 @@ module _ (l : Receive) (w : Bytewise l) (ok : Num.ReceiveLent l) where
       let long = form-length r (ap recordForm (e .is) ∙ record-form (part (e .start) (e .len) (l .datagram)) (e .formed)) in
       let b : Bytes r = subst Bytes (sym (e .is))
       (record-bytes (part (e .start) (e .len) (l .datagram)) (part-digits 256 (e .start) (e .len) (l .datagram) (omega arith) (w .datagram))) in
-      subst (Every ReadsBack) (sym (s .are)) (both-back (S.acks l id silent (s .n)) (S.asks l (s .ask) r) (acks-back id silent (s .n)) (asks-back (s .ask) r long b))
+      subst (Every ReadsBack) (sym (s .are))
+      (both-back (S.acks l id silent (s .n)) (S.asks l (s .ask) r) (acks-back id silent (s .n)) (asks-back (s .ask) r long b))
   reply-back (revoke id silent validate) h ds s = subst (Every ReadsBack) (sym (s .are)) (acks-back id silent (s .n))
   reply-back (inquire id validate) h ds s =
       subst (Every ReadsBack) (sym s) (cpa-back (l .major) (l .minor) (l .id) (w .numbers) id (l .cpa) (ok .cpa-most) (w .cpa), tt)

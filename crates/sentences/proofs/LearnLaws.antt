@@ -56,7 +56,8 @@ anew-size k n recs h fits = bytes-length 100 n recs (formed-sized recs (h .forme
 -- ---- removing
 
 module _ (k : ℕ) (m : Memory) (form : cacheForm k (m .cache) ≡ true) (u : ℕ) where
-  pub removes : S.HoldsExactly k (m .cache) (bytesOf (length (m .cache)) (afterRemove u (heldOf k (m .cache)))) (λ (r : List ℕ). S.Holds k m r × (¬ (keyOf r ≡ u)))
+  pub removes : S.HoldsExactly k (m .cache) (bytesOf (length (m .cache)) (afterRemove u (heldOf k (m .cache))))
+      (λ (r : List ℕ). S.Holds k m r × (¬ (keyOf r ≡ u)))
   removes =
       let old = heldOf k (m .cache) in
       let f = true-form k (m .cache) form in
@@ -110,8 +111,12 @@ module _ (k : ℕ) (keys : List ℕ) (rises : Rising plain 0 keys) (others : Eve
   drops-far h = go (test (leb (length (onSide (sideOf k) below keys)) (length (onSide (sideOf k) above keys))))
     where
       go : Test (leb (length (onSide (sideOf k) below keys)) (length (onSide (sideOf k) above keys))) → Farthest k (S.fuller k keys) keys (drops k keys)
-      go (pass e) = rw e (last-far above (omega (arith, sides (sideOf k) keys, leb-true (length (onSide (sideOf k) below keys)) (length (onSide (sideOf k) above keys)) e)))
-      go (fail e) = rw e (last-far below (omega (arith, sides (sideOf k) keys, leb-false (length (onSide (sideOf k) below keys)) (length (onSide (sideOf k) above keys)) e)))
+      go (pass e) =
+          let some = leb-true (length (onSide (sideOf k) below keys)) (length (onSide (sideOf k) above keys)) e in
+          rw e (last-far above (omega (arith, sides (sideOf k) keys, some)))
+      go (fail e) =
+          let some = leb-false (length (onSide (sideOf k) below keys)) (length (onSide (sideOf k) above keys)) e in
+          rw e (last-far below (omega (arith, sides (sideOf k) keys, some)))
 
 -- the record of a key
 key-there : (j : ℕ) (recs : List (List ℕ)) → j ∈ keysOf recs → (d : List ℕ) × (d ∈ recs) × (keyOf d ≡ j)

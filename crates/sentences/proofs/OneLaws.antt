@@ -46,7 +46,8 @@ given-same h h′ a c w o =
 
 module _ (k : ℕ) (m : Memory) (output : List ℕ) (h h′ : Given) (s : S.Ticks k m output h) (t : S.Ticks k m output h′) where
   ids-same : s .ids ≡ t .ids
-  ids-same = rising-ext plain 0 0 (s .ids) (t .ids) (s .rising) (t .rising) (λ i m. t .listed i .1 (s .listed i .0 m)) (λ i m. s .listed i .1 (t .listed i .0 m))
+  ids-same =
+      rising-ext plain 0 0 (s .ids) (t .ids) (s .rising) (t .rising) (λ i m. t .listed i .1 (s .listed i .0 m)) (λ i m. s .listed i .1 (t .listed i .0 m))
 
   pub ticks-one : h ≡ h′
   ticks-one = given-same h h′ (rw (s .counts, t .counts, ids-same) refl) (s .cache ∙ sym (t .cache))
@@ -58,10 +59,14 @@ module _ (k : ℕ) (m : Memory) (output : List ℕ) (h h′ : Given) (s : S.Tick
 module _ (own : List ℕ) (m : Memory) (output : List ℕ) (f : cacheForm (keyOf own) (m .cache) ≡ true) (h h′ : Given)
     (s : S.Lists (keyOf own) m output h) (t : S.Lists (keyOf own) m output h′) where
   low-same : s .listed .low ≡ t .listed .low
-  low-same = list-only own (m .cache) f below (s .listed .low) (s .listed .nearest-below) ∙ sym (list-only own (m .cache) f below (t .listed .low) (t .listed .nearest-below))
+  low-same =
+      list-only own (m .cache) f below (s .listed .low) (s .listed .nearest-below)
+      ∙ sym (list-only own (m .cache) f below (t .listed .low) (t .listed .nearest-below))
 
   high-same : s .listed .high ≡ t .listed .high
-  high-same = list-only own (m .cache) f above (s .listed .high) (s .listed .nearest-above) ∙ sym (list-only own (m .cache) f above (t .listed .high) (t .listed .nearest-above))
+  high-same =
+      list-only own (m .cache) f above (s .listed .high) (s .listed .nearest-above)
+      ∙ sym (list-only own (m .cache) f above (t .listed .high) (t .listed .nearest-above))
 
   pub lists-one : h ≡ h′
   lists-one = given-same h h′ (rw (s .listed .counts, t .listed .counts, low-same, high-same) refl)

@@ -38,7 +38,8 @@ need-found : (d : List ℕ) (i n : ℕ) (shape : Shape) (s l : ℕ) (c : Cursor)
 unfolding needAt
 need-found d i n shape s l c e = go (spanAt d i n false) refl e
   where
-    by : (b : Bool) (s′ l′ : ℕ) (c′ : Cursor) → hasShape shape (part s′ l′ d) ≡ b → spanAt d i n false ≡ Whole s′ l′ c′ → cond b (Field s′ l′ c′) Missing ≡ Field s l c
+    by : (b : Bool) (s′ l′ : ℕ) (c′ : Cursor) → hasShape shape (part s′ l′ d) ≡ b → spanAt d i n false ≡ Whole s′ l′ c′
+        → cond b (Field s′ l′ c′) Missing ≡ Field s l c
         → Found d i n shape s l c
     by true s′ l′ c′ h w q =
         let es : s′ ≡ s = cc in

@@ -1,5 +1,5 @@
--- A trace that arrives in pieces. In this order: records that are not whole, and what they want; a byte more; a run of bytes of one record; pieces joined; what
--- is written in the end is the replay of all. Assumes nothing.
+-- A trace that arrives in pieces. In this order: records that are not whole, and what they want; a byte more; a run of bytes of one record; pieces joined;
+-- what is written in the end is the replay of all. Assumes nothing.
 use mathlib.Core.Path.{_≡_, refl, sym, ap, ap₂, subst, _∙_}
 use mathlib.Core.Bool.{Bool, true, false, cond}
 use mathlib.Core.List.{List, [], _∷_, _++_, append-assoc, append-nil}
@@ -59,7 +59,8 @@ pub still-partly : (r : List ℕ) (b : ℕ) → length r < wanted r → isWhole 
 still-partly r b h e = omega (arith, at-most r b h, eqb-false (length (r ++ (b ∷ []))) (wanted (r ++ (b ∷ []))) e)
 
 -- with two more wanted, one is not enough, and as many are wanted as before
-more-by : (r : List ℕ) (b : ℕ) → length r + 1 < wanted r → Dec (length r < 2) → (length (r ++ (b ∷ [])) < wanted (r ++ (b ∷ []))) × (wanted (r ++ (b ∷ [])) ≡ wanted r)
+more-by : (r : List ℕ) (b : ℕ) → length r + 1 < wanted r → Dec (length r < 2)
+    → (length (r ++ (b ∷ [])) < wanted (r ++ (b ∷ []))) × (wanted (r ++ (b ∷ [])) ≡ wanted r)
 more-by r b h (yes p) =
     let w = wants-two r p in
     let v = wants-two (r ++ (b ∷ [])) (omega (arith, snoc r b)) in
@@ -295,7 +296,8 @@ all-told (suc k) at n r (b ∷ bs) w h =
     (λ m. all-told k (at + 1) m [] bs (omega arith) (omega arith))
   where
     by : (o : Bool) → isWhole (r ++ (b ∷ [])) ≡ o
-        → (length (r ++ (b ∷ [])) < wanted (r ++ (b ∷ [])) → ending (fed (stream at n (r ++ (b ∷ [])) false) bs) ≡ told (replayFrom at n (cutInto (suc k) (r ++ (b ∷ []) ++ bs))))
+        → (length (r ++ (b ∷ [])) < wanted (r ++ (b ∷ []))
+        → ending (fed (stream at n (r ++ (b ∷ [])) false) bs) ≡ told (replayFrom at n (cutInto (suc k) (r ++ (b ∷ []) ++ bs))))
         → ((m : Night) → ending (fed (stream (at + 1) m [] false) bs) ≡ told (replayFrom (at + 1) m (cutInto k bs)))
         → ending (fed (stream at n r false) (b ∷ bs)) ≡ told (replayFrom at n (cutInto (suc k) (r ++ (b ∷ bs))))
     by true e f g =

@@ -82,4 +82,5 @@ closing text n = record { text = text; night = n }
 unfoldable pub closed : Stream → Closed
 closed s =
     let t = took s (s .begun) in
-    cond (s .over) (closing [] (s .night)) (cond (eqb (length (s .begun)) 0) (closing (textsOf (atEnd (s .at))) (s .night)) (closing (t .text) (t .left .night)))
+    cond (s .over) (closing [] (s .night))
+    (cond (eqb (length (s .begun)) 0) (closing (textsOf (atEnd (s .at))) (s .night)) (closing (t .text) (t .left .night)))

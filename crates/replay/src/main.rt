@@ -25,7 +25,7 @@ fn write(text: &[u8]) -> bool {
     }
     io::write_all(
         2,
-        b"replay: standard output can't be written, so the lines are not the whole night; make room and run it again\n",
+        b"replay: standard output can't be written: these lines are not the whole night; make room, run it again\n",
     );
     false
 }
@@ -33,7 +33,7 @@ fn write(text: &[u8]) -> bool {
 fn say_unread() {
     io::write_all(
         2,
-        b"replay: standard input can't be read, so the lines are not the whole night; look at the file and run it again\n",
+        b"replay: standard input can't be read: these lines are not the whole night; give a file, run it again\n",
     );
 }
 

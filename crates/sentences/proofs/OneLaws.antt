@@ -259,7 +259,7 @@ number-one g h p q m c ty = go (g m c .answer .number) (h m c .answer .number) r
         by (more i) = absurd (p .table .number m c ty (suc a) (omega arith) .0 d .1 (suc b) i (q .table .number m c ty (suc b) (omega arith) .0 e .0))
 
 -- nothing applies: memory was lent in form
-holds : (b : Bool) → (b ≡ false → ⊥) → b ≡ true
+pub holds : (b : Bool) → (b ≡ false → ⊥) → b ≡ true
 holds true h = refl
 holds false h = absurd (h refl)
 

@@ -34,10 +34,10 @@ use Rattle.sentences.specs.Sentences as S
 use Rattle.sentences.specs.Numbers as Num
 use Rattle.sentences.specs.Meets.{MeetsSentences}
 use Rattle.sentences.specs.Same.{SameHeard}
-use Rattle.sentences.proofs.OneLaws.{hears-one, receives-one}
+use Rattle.sentences.proofs.OneLaws.{hears-one, receives-one, holds}
 use Rattle.sentences.proofs.MoveLaws.{clash}
 use Rattle.sentences.proofs.HeardLaws.{hears-answer}
-use Rattle.sentences.proofs.ReceiveLaws.{message-zero}
+use Rattle.sentences.proofs.WordLaws.{message-zero}
 use Rattle.sentences.proofs.PartLaws.{part-from}
 
 -- ---- what was heard was read: none of the numbers 2 to 7 applies
@@ -49,7 +49,7 @@ module _ (l : Receive) where
       let d = l .datagram in
       let found = fields.found (typeOf d) (fields.placesOf (fieldsIn d)) in
       number-is (λ (f : fields.Found). numberOf (R.shown d f)) fields.refused (λ m. refl) found
-      (message-zero l (R.shown d found) (shown-message d (typeOf d) (fields.placesOf (fieldsIn d)))) (refusals d (l .major))
+      (message-zero (R.shown d found) (shown-message d (typeOf d) (fields.placesOf (fieldsIn d)))) (refusals d (l .major))
 
   zero-fails : numberOf (R.answer (l .datagram) (l .major)) ≡ 0 → AllFail (refusals (l .datagram) (l .major))
   zero-fails z = all-fail byNumber (refusals (l .datagram) (l .major)) 1 (omega arith) (sym read-number ∙ z)
@@ -176,10 +176,6 @@ module _ (A B : ℕ → Type 0) (to : (n : ℕ) → A n → B n) (from : (n : �
           by (more k) = absurd (p (suc i) (omega arith) .0 d .1 (suc j) k (from (suc j) (r (suc j) (omega arith) .0 e .0)))
 
 -- ---- the whole
-
-holds : (b : Bool) → (b ≡ false → ⊥) → b ≡ true
-holds true h = refl
-holds false h = absurd (h refl)
 
 module _ (g : Gauge) (p : MeetsSentences g) (m : Memory) (own cpa : List ℕ) (major minor id : ℕ) (nonce : List ℕ) (verdict : ℕ) (key output d d′ : List ℕ)
     (small : id < 2 ^ 32) (b : Bytes d) (b′ : Bytes d′) (x : Heard) (a : Hears d major x) (a′ : Hears d′ major x) where

@@ -2,11 +2,11 @@
 -- numbers of a turn. Assumes nothing.
 use mathlib.Core.Path.{_≡_, refl, sym, ap, ap₂, subst, _∙_}
 use mathlib.Core.Bool.{Bool, true, false, cond}
-use mathlib.Core.List.{List, [], _∷_, _++_, append-nil}
-use Prim.Native.Nat.{ℕ, zero, suc, _+_, _-_, _*_, _≤_, _<_}
+use mathlib.Core.List.{List, [], _++_, append-nil}
+use Prim.Native.Nat.{ℕ, _+_, _-_, _*_, _≤_, _<_}
 use native.Mathlib.Decide.{decLt}
 use native.Mathlib.Omega.{arith}
-use lib.Dec.{eqb, ltb}
+use lib.Dec.{eqb}
 use lib.ListN.{length, take, drop, length-append, take-append-drop, drop-of-length-le, replicate, length-replicate}
 use lib.Seq.{length-take-le, take-take, drop-drop}
 use borrow.Author.Tests.{eq-eqb, ne-eqb}
@@ -17,7 +17,7 @@ use Rattle.night.specs.Fault.{ends}
 use Rattle.night.specs.Step.{Night, Stepped, stepped, stepOf}
 use Rattle.night.specs.Replay.{lineOf, atEnd}
 use Rattle.replay.specs.Text.{textsOf}
-use Rattle.replay.specs.Stream.{Stream, stream, Fed, gives, after, wanted, isWhole, took, grown, fed, Closed, closing, closed}
+use Rattle.replay.specs.Stream.{Stream, stream, Fed, gives, after, wanted, isWhole, took, grown, fed, closing, closed}
 use Rattle.replay.specs.Room.{Begun}
 use Rattle.replay.proofs.StreamLaws.{wants-two, wants-told, wants-still, fed-over, fed-none, fed-run, fed-append, after-after}
 

@@ -1,26 +1,25 @@
 -- A trace that arrives in pieces. In this order: records that are not whole, and what they want; a byte more; a run of bytes of one record; pieces joined;
 -- what is written in the end is the replay of all. Assumes nothing.
-use mathlib.Core.Path.{_≡_, refl, sym, ap, ap₂, subst, _∙_}
+use mathlib.Core.Path.{_≡_, refl, sym, ap, ap₂, _∙_}
 use mathlib.Core.Bool.{Bool, true, false, cond}
 use mathlib.Core.List.{List, [], _∷_, _++_, append-assoc, append-nil}
 use Prim.Native.Nat.{ℕ, zero, suc, _+_, _≤_, _<_}
 use native.Mathlib.Decide.{decLt}
 use native.Mathlib.Omega.{arith}
-use lib.Dec.{eqb, ltb}
-use lib.ListN.{length, take, drop, length-append, drop-of-length-le}
-use lib.Seq.{take-append-le, take-at, drop-at, take-all, drop-length}
-use borrow.Author.Tests.{eq-eqb, ne-eqb, lt-ltb, le-ltb, eqb-true, eqb-false}
+use lib.ListN.{length, length-append, drop-of-length-le}
+use lib.Seq.{take-append-le, take-at, drop-at, take-all}
+use borrow.Author.Tests.{ne-eqb, lt-ltb, le-ltb, eqb-true, eqb-false}
 use Rattle.octet.specs.Number.{valueLE}
 use Rattle.table.specs.Rows.{joined}
-use Rattle.night.specs.Trace.{lengthOf, cutInto, recordsOf}
+use Rattle.night.specs.Trace.{lengthOf, cutInto}
 use Rattle.night.specs.Fault.{ends}
-use Rattle.night.specs.Step.{Night, Stepped, start, stepOf}
+use Rattle.night.specs.Step.{Night, start, stepOf}
 use Rattle.night.specs.Replay.{Line, lineOf, atEnd, behind, replayFrom, Replayed, replay}
 use Rattle.night.proofs.TraceLaws.{cut-next}
 use Rattle.night.proofs.ReplayLaws.{at-end, goes-on, ends-there}
 use Rattle.replay.specs.Text.{textOf, textsOf}
 use Rattle.replay.specs.Stream.{Stream, stream, opened, Fed, gives, after, wanted, isWhole, took, grown, fed, fedAll, Closed, closing, closed}
-use Rattle.replay.specs.Statements.{outputOf, Streams}
+use Rattle.replay.specs.Statements.{Streams}
 
 -- ---- what a record wants
 
@@ -35,13 +34,10 @@ module _ (r : List ℕ) where
   pub told-still : (more : List ℕ) → 2 ≤ length r → lengthOf (r ++ more) ≡ lengthOf r
   told-still more h = ap (λ (l : List ℕ). valueLE 256 l) (take-append-le 2 r more h)
 
-  -- behind them, more bytes change nothing
-  pub wants-still : (more : List ℕ) → 2 ≤ length r → wanted (r ++ more) ≡ wanted r
-  wants-still more h =
-      le-case (r ++ more) (omega (arith, length-append r more)) ∙ ap (λ (n : ℕ). 2 + n) (told-still more h) ∙ sym (wants-told h)
-    where
-      le-case : (l : List ℕ) → 2 ≤ length l → wanted l ≡ 2 + lengthOf l
-      le-case l p = rw (le-ltb (length l) 2 p) refl
+-- behind them, more bytes change nothing
+pub wants-still : (r more : List ℕ) → 2 ≤ length r → wanted (r ++ more) ≡ wanted r
+wants-still r more h =
+    wants-told (r ++ more) (omega (arith, length-append r more)) ∙ ap (λ (n : ℕ). 2 + n) (told-still r more h) ∙ sym (wants-told r h)
 
 snoc : (r : List ℕ) (b : ℕ) → length (r ++ (b ∷ [])) ≡ length r + 1
 snoc r b = length-append r (b ∷ [])
@@ -127,9 +123,6 @@ module _ (at : ℕ) (n : Night) where
       ∙ ap (λ (f : Fed). cond (isWhole (r ++ (x ∷ y ∷ ys))) f (gives [] (stream at n (r ++ (x ∷ y ∷ ys)) false))) (took-still r' r (r ++ (x ∷ y ∷ ys)))
 
 -- ---- pieces joined
-
-after-none : (f : Fed) → after [] f ≡ f
-after-none f = refl
 
 pub after-after : (t u : List ℕ) (f : Fed) → after t (after u f) ≡ after (t ++ u) f
 after-after t u f = ap (λ (l : List ℕ). gives l (f .left)) (sym (append-assoc t u (f .text)))

@@ -1,7 +1,7 @@
 -- To believe. A trace that arrives in pieces, cut anywhere: what is kept from one piece to the next, what a piece gives, and what the end of the input gives.
 -- `Streams` (Statements) says that the pieces make no difference. Assumes nothing.
 use Prim.Native.Nat.{ℕ, _+_}
-use mathlib.Core.Bool.{Bool, true, false, cond}
+use mathlib.Core.Bool.{Bool, false, cond}
 use mathlib.Core.List.{List, [], _∷_, _++_}
 use lib.Dec.{eqb, ltb}
 use lib.ListN.{length}

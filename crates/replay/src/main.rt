@@ -38,7 +38,7 @@ fn say_unread() {
 }
 
 fn main() {
-    let mut opening = [0u8; night::OPENING];
+    let mut first = [0u8; night::OPENING];
     let mut cache = [0u8; night::CACHE];
     let mut waiting = [0u8; night::WAITING];
     let mut room = [0u8; night::RECORD];
@@ -53,21 +53,14 @@ fn main() {
         }
         let n = io::count(got, &piece);
         if n == 0 {
-            let end = close(
-                held,
-                &mut opening,
-                &mut cache,
-                &mut waiting,
-                &room,
-                &mut text,
-            );
+            let end = close(held, &mut first, &mut cache, &mut waiting, &room, &mut text);
             write(&text[..end]);
             return;
         }
         let new = &piece[..n];
         held = feed(
             held,
-            &mut opening,
+            &mut first,
             &mut cache,
             &mut waiting,
             &mut room,
@@ -75,10 +68,7 @@ fn main() {
             &mut text,
         );
         let end = held.end;
-        if !write(&text[..end]) {
-            return;
-        }
-        if held.over {
+        if !write(&text[..end]) || held.over {
             return;
         }
         reads += 1;

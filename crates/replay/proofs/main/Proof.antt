@@ -11,9 +11,9 @@ use Rattle.replay.proofs.main.Statement.{statement}
 use Rattle.replay.proofs.main.Tie as tie
 
 abbrev Inv-loop : tie.InvT-loop
-Inv-loop opening₀ cache₀ waiting₀ room₀ piece₀ text₀ held₀ reads₀ opening cache waiting room piece text held reads =
+Inv-loop first₀ cache₀ waiting₀ room₀ piece₀ text₀ held₀ reads₀ first cache waiting room piece text held reads =
     (held .at ≤ 4096 * reads) × Begun (held .begun) room
-    × (102 ≡ length opening)
+    × (102 ≡ length first)
     × (6400 ≡ length cache)
     × (2240 ≡ length waiting)
     × (65537 ≡ length room)
@@ -21,7 +21,7 @@ Inv-loop opening₀ cache₀ waiting₀ room₀ piece₀ text₀ held₀ reads�
     × (172032 ≡ length text)
 
 abbrev μ-loop : tie.MeasureT-loop
-μ-loop opening₀ cache₀ waiting₀ room₀ piece₀ text₀ held₀ reads₀ opening cache waiting room piece text held reads = 4503599627370495 - reads
+μ-loop first₀ cache₀ waiting₀ room₀ piece₀ text₀ held₀ reads₀ first cache waiting room piece text held reads = 4503599627370495 - reads
 
 opened-requires : tie.Need-opened-requires Inv-loop μ-loop
 opened-requires c κs = tt
@@ -151,9 +151,6 @@ loop-again c =
       l .inv .7 ∙ sym (f .kept .1 .1 .1 .1 .1 .1 .0),
     )
 
-returns-5 : tie.Need-returns-5 Inv-loop μ-loop
-returns-5 c = tt
-
 pub main-spec : {M : Type 1} → statement M
 main-spec =
     tie.close
@@ -190,8 +187,7 @@ main-spec =
     slice-aggregate-write-2
     write-requires-2
     returns-3
-    returns-4
     add-reads
     loop-less
     loop-again
-    returns-5)
+    returns-4)

@@ -1,9 +1,9 @@
-/* The five calls in plain C, written for speed: what the archive is measured against. It makes every test of document 01 and gives the same numbers
- * and bytes; nothing is written before the last refusal is decided. Numbers are loaded whole and swapped, keys compared by words up to the first that
+/* The five calls in plain C, written for speed: what the archive is measured against. It makes every test of document 01, with document 02's ring, and
+ * gives the same numbers and bytes; nothing is written before the last refusal is decided. Numbers are loaded whole and swapped, keys compared by words up to the first that
  * differ, runs of bytes moved by the C library. For x86-64: words are read least significant byte first.
  *
  *   PLAIN    begins the names of the calls
- *   HALVE    keys are searched by halving, and the closest record is one of those next to the target. Without it every record is looked at in turn,
+ *   HALVE    keys are searched by halving, and the closest record is one of those next to the target, round the end. Without it every record is looked at in turn,
  *            as the archive does. */
 #include "plain.h"
 #include <stdbool.h>
@@ -460,42 +460,74 @@ static inline struct key minus(const struct key *x, const struct key *y)
     return r;
 }
 
-static inline struct key apart(const struct key *x, const struct key *y)
+/* How far a key is from the target, the shorter way round; whether that goes up. */
+static inline bool apart(const struct key *target, const struct key *k, struct key *far)
 {
-    return key_less(x, y) ? minus(y, x) : minus(x, y);
+    *far = minus(target, k);
+    if (far->a >> 63 == 0)
+        return false;
+    *far = minus(k, target);
+    return true;
 }
 
 struct nearest {
     const uint8_t *record;
-    struct key key, far;
+    struct key far;
+    bool up;
 };
 
 static inline void try_record(struct nearest *best, const struct key *target, const uint8_t *r)
 {
-    struct key k = key_at(r), far = apart(target, &k);
-    if (key_less(&far, &best->far) || (!key_less(&best->far, &far) && key_less(&k, &best->key))) {
+    struct key k = key_at(r), far;
+    bool up = apart(target, &k, &far);
+    if (key_less(&far, &best->far) || (best->up && !up && !key_less(&best->far, &far))) {
         best->record = r;
-        best->key = k;
         best->far = far;
+        best->up = up;
     }
 }
 
 static const uint8_t *closest(const uint8_t *own, const uint8_t *cache, size_t held, const uint8_t *target)
 {
-    struct key goal = key_at(target);
-    struct nearest best = {own, key_at(own), {0, 0, 0, 0}};
-    best.far = apart(&goal, &best.key);
+    struct key goal = key_at(target), ours = key_at(own);
+    struct nearest best = {own, {0, 0, 0, 0}, false};
+    best.up = apart(&goal, &ours, &best.far);
 #ifdef HALVE
     size_t at = below(cache, held, target);
-    if (at > 0)
-        try_record(&best, &goal, cache + 100 * (at - 1));
-    if (at < held)
-        try_record(&best, &goal, cache + 100 * at);
+    if (held > 0) {
+        try_record(&best, &goal, cache + 100 * (at > 0 ? at - 1 : held - 1));
+        try_record(&best, &goal, cache + 100 * (at < held ? at : 0));
+    }
 #else
     for (size_t i = 0; i < held; i++)
         try_record(&best, &goal, cache + 100 * i);
 #endif
     return best.record;
+}
+
+/* Where the keys above our own begin in the cache, and how many there are: up to the key just opposite, which is above too, round the end of the cache. */
+struct sides {
+    size_t from, above;
+};
+
+static struct sides sides_of(const uint8_t *own, const uint8_t *cache, size_t held)
+{
+    uint8_t opposite[32];
+    size_t end;
+    memcpy(opposite, own, 32);
+    opposite[0] ^= 0x80;
+    struct sides s = {below(cache, held, own), 0};
+    end = below(cache, held, opposite);
+    if (end < held && same_key(cache + 100 * end, opposite))
+        end++;
+    s.above = own[0] < 0x80 ? end - s.from : held - s.from + end;
+    return s;
+}
+
+static bool is_above(const uint8_t *own, const uint8_t *key)
+{
+    struct key k = key_at(key), o = key_at(own), up = minus(&k, &o);
+    return up.a >> 63 == 0 || (up.a == (uint64_t)1 << 63 && (up.b | up.c | up.d) == 0);
 }
 
 /* The place before which an ID would stand; whether it waits. */
@@ -547,17 +579,20 @@ static void learn(const uint8_t *own, uint8_t *cache, size_t len, size_t held, c
         memcpy(to, record, 100);
         return;
     }
-    size_t under = below(cache, held, own) + less(big(record), record, big(own), own);
-    if (2 * under > held + 1) {
-        if (at == 0)
-            return;
-        memmove(cache, cache + 100, 100 * (at - 1));
+    struct sides s = sides_of(own, cache, held);
+    s.from += less(big(record), record, big(own), own);
+    s.above += is_above(own, record);
+    size_t gone = s.from + s.above - (2 * s.above >= held + 1); /* of held and newcomer; more below: the first past those above */
+    if (gone > held)
+        gone -= held + 1;
+    if (gone == at)
+        return;
+    if (gone < at) {
+        memmove(cache + 100 * gone, cache + 100 * gone + 100, 100 * (at - gone - 1));
         memcpy(to - 100, record, 100);
         return;
     }
-    if (at == held)
-        return;
-    memmove(to + 100, to, 100 * (held - at - 1));
+    memmove(to + 100, to, 100 * (gone - 1 - at));
     memcpy(to, record, 100);
 }
 
@@ -870,11 +905,16 @@ struct gauge_answer CALL(neighbours)(const uint8_t *own, size_t own_len, const u
         return answer(1, 0, 0);
     if (output_len < 320)
         return answer(15, 0, 0);
-    size_t under = below(cache, held, own), first = under < 5 ? under : 5, second = held - under < 5 ? held - under : 5;
-    for (size_t i = 1; i <= first; i++)
-        output = put(output, cache + 100 * (under - i), 32);
-    for (size_t i = 0; i < second; i++)
-        output = put(output, cache + 100 * (under + i), 32);
+    struct sides s = sides_of(own, cache, held);
+    size_t first = held - s.above < 5 ? held - s.above : 5, second = s.above < 5 ? s.above : 5, i, at;
+    for (i = 0, at = s.from; i < first; i++) {
+        at = at > 0 ? at - 1 : held - 1;
+        output = put(output, cache + 100 * at, 32);
+    }
+    for (i = 0, at = s.from; i < second; i++, at++) {
+        at = at < held ? at : 0;
+        output = put(output, cache + 100 * at, 32);
+    }
     return answer(0, first, second);
 }
 

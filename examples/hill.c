@@ -35,6 +35,7 @@
 #define AIR 4096    /* datagrams under way */
 #define LATE 20     /* so many are still under way when a second is over */
 #define SIDE 5      /* neighbours on either side */
+#define APART 4     /* a pond's key begins with so many times its number: so the ponds stand all round the ring, and pond 1 comes after the last */
 #define HOUR 3600
 
 /* A datagram with the addresses that it goes from and to. An address is FE80:: and a number, and that number stands for it here. */
@@ -351,13 +352,13 @@ static void arrives(struct pond *p, const struct datagram *d)
     }
 }
 
-/* The office has no gauge. What it gets is the answer to its LOOKUP, whose route entry is the closest record; keys begin with the pond's number. */
+/* The office has no gauge. What it gets is the answer to its LOOKUP, whose route entry is the closest record; its key tells the pond. */
 static void arrives_at_office(const struct datagram *d)
 {
     struct gauge_look seen = gauge_look(MAJOR, d->bytes, d->len);
     if (seen.number != GAUGE_OK || seen.kind != GAUGE_AUTHORITY || seen.entry_len == 0)
         stop("the office gets something else than it asked for\n");
-    closest = d->bytes[seen.entry_at + GAUGE_ENTRY_KEY];
+    closest = d->bytes[seen.entry_at + GAUGE_ENTRY_KEY] / APART;
     take_reading(d);
 }
 
@@ -401,12 +402,12 @@ static void tick(struct pond *p)
     }
 }
 
-/* A record goes to a gauge that we hold: one that we hold with a key near to that gauge's, or else our own. */
+/* A record goes to a gauge that we hold: one that we hold with a key near to that gauge's, round the ring, or else our own. */
 static void flood(struct pond *p)
 {
     uint8_t output[GAUGE_OUTPUT_LEN];
-    uint32_t n = held(p), to = dice(n), near = to + dice(2 * SIDE + 1) - SIDE;
-    const uint8_t *neighbour = record(p, to), *what = near == to || near >= n ? p->own : record(p, near); /* near below 0 is over n too */
+    uint32_t n = held(p), to = dice(n), near = (to + dice(2 * SIDE + 1) + SIDE * (n - 1)) % n; /* SIDE less, modulo n */
+    const uint8_t *neighbour = record(p, to), *what = near == to ? p->own : record(p, near);
     struct gauge_answer a = gauge_send(p->own, sizeof p->own, p->cache, sizeof p->cache, p->waiting, sizeof p->waiting, MAJOR, MINOR, p->id,
                                        neighbour + GAUGE_RECORD_KEY, GAUGE_KEY_LEN, what + GAUGE_RECORD_KEY, GAUGE_KEY_LEN, output, sizeof output);
     if (p->trace != NULL)
@@ -435,19 +436,32 @@ static void second(void)
 
 /* What a keeper looks at. */
 
-/* Whether the list of a gauge is the true one: the five next ponds on either side, nearest first. Keys are in the order of the ponds' numbers here. */
+/* The next pond that belongs into lists, down the ring or up: below pond 1 is the last, and above the last pond 1. */
+static const struct pond *next(const struct pond *p, int step)
+{
+    do {
+        p += step;
+        if (p == ponds)
+            p = ponds + NEW;
+        else if (p > ponds + NEW)
+            p = ponds + 1;
+    } while (!p->listed);
+    return p;
+}
+
+/* Whether the list of a gauge is the true one: the five next ponds on either side, nearest first. */
 static bool is_right(const struct pond *p)
 {
     uint8_t keys[GAUGE_LIST_LEN], truth[GAUGE_LIST_LEN];
-    uint32_t below = 0, above = 0;
-    for (const struct pond *q = p - 1; q > ponds && below < SIDE; q--)
-        if (q->listed)
-            memcpy(truth + GAUGE_KEY_LEN * below++, q->own + GAUGE_RECORD_KEY, GAUGE_KEY_LEN);
-    for (const struct pond *q = p + 1; q <= ponds + NEW && above < SIDE; q++)
-        if (q->listed)
-            memcpy(truth + GAUGE_KEY_LEN * (below + above++), q->own + GAUGE_RECORD_KEY, GAUGE_KEY_LEN);
+    const struct pond *down = p, *up = p;
+    for (size_t i = 0; i < SIDE; i++) {
+        down = next(down, -1);
+        up = next(up, 1);
+        memcpy(truth + GAUGE_KEY_LEN * i, down->own + GAUGE_RECORD_KEY, GAUGE_KEY_LEN);
+        memcpy(truth + GAUGE_KEY_LEN * (SIDE + i), up->own + GAUGE_RECORD_KEY, GAUGE_KEY_LEN);
+    }
     struct gauge_answer a = neighbours(p, keys);
-    return a.first == below && a.second == above && memcmp(keys, truth, GAUGE_KEY_LEN * (below + above)) == 0;
+    return a.first == SIDE && a.second == SIDE && memcmp(keys, truth, sizeof truth) == 0;
 }
 
 /* How many gauges work, and how many of them have the true list. */
@@ -506,11 +520,9 @@ static void tell(unsigned number, const char *what)
     printf("%s\n", n == 0 ? " listed by none" : "");
 }
 
-/* The office asks a pond, until an answer comes, which key is closest to a number with zeros behind it. Where the pond of that number is gone, that is
- * the key of the pond before it. */
-static void ask(unsigned whom, unsigned number)
+/* The office asks a pond, until an answer comes, which key is closest to a target. */
+static void ask(unsigned whom, const uint8_t *target)
 {
-    const uint8_t target[GAUGE_KEY_LEN] = {(uint8_t)number};
     for (closest = 0; closest == 0; second())
         send_lookup(OFFICE, ponds[whom].address, target);
     printf("  pond %u says: pond %u\n", whom, closest);
@@ -565,7 +577,7 @@ static void tell_readings(void)
     tell_balance();
 }
 
-/* A gauge with nothing in its memory. Its key begins with its number, and the rest is random; it has one address, and port 5000. */
+/* A gauge with nothing in its memory. The first byte of its key tells its number, the rest is random; it has one address, and port 5000. */
 static void begin(unsigned number, unsigned address, unsigned known)
 {
     struct pond *p = &ponds[number];
@@ -573,7 +585,7 @@ static void begin(unsigned number, unsigned address, unsigned known)
     p->address = address;
     p->known = known;
     p->id = 1000000 * number;
-    p->own[GAUGE_RECORD_KEY] = (uint8_t)number;
+    p->own[GAUGE_RECORD_KEY] = (uint8_t)(APART * number);
     random_bytes(p->own + GAUGE_RECORD_KEY + 1, GAUGE_KEY_LEN - 1);
     p->own[GAUGE_RECORD_PORT] = 5000 >> 8;
     p->own[GAUGE_RECORD_PORT + 1] = 5000 & 255;
@@ -588,6 +600,7 @@ static void hill(void)
 {
     printf("%d gauges, each of which knows where one other is. The radio loses one datagram in ten, and brings the others in no order.\n", PONDS);
     until_right();
+    tell(1, "after the last one round the ring,");
 
     printf("Pond 7's gauge falls silent. A minute later:\n");
     ponds[7].on = false;
@@ -615,7 +628,9 @@ static void hill(void)
     tell(7, "silent, still");
 
     printf("The office asks for the gauge next to where pond 33's was.\n");
-    ask(34, 33);
+    ask(34, (const uint8_t[GAUGE_KEY_LEN]){APART * 33}); /* pond 32's key is less than 4 steps of the first byte away, pond 34's more */
+    printf("The office asks for the gauge next to the key that begins with FF and is zero behind it.\n");
+    ask(60, (const uint8_t[GAUGE_KEY_LEN]){0xFF}); /* pond 1's key is less than 6 steps away, across the end, and the last pond's more */
     tell_readings();
 }
 

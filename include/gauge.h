@@ -31,6 +31,9 @@
  * - A call takes at most GAUGE_STACK_MOST bytes of the stack that it is called on, whatever the bytes are: what is passed there, the return address and
  *   all below it, with 256 bytes for a memcpy, memmove or memset of your C library. A loader that looks these up at their first call takes more then:
  *   link with -z now, or statically. No call allots memory, and none calls anything of yours.
+ * - Keys go round, modulo 2^256. A key is above ours if 1 to 2^255 steps up from ours lead to it, so the one just opposite too, and else below; how near
+ *   it is counts along that side. So the gauge with the smallest key has the one with the largest as its neighbour below. In the cache records stand in
+ *   plain order all the same.
  * - How floating-point numbers are rounded, and whether they trap, does not matter to any call: a depth is looked at by its bits.
  *
  * Numbers are of fixed width; build with -Wconversion, so that none loses bits on the way: a verdict of 257 in eight bits would be 1, and good.
@@ -213,9 +216,10 @@ struct gauge_reading {
  *   FLOOD with a revocation    the key of the verdict is removed from the cache, and a waiting inquiry for it freed; an ACK to the sender, as above.
  *   INQUIRE for our key        an AUTHORITY with our CPA, to the sender.
  *   AUTHORITY                  the record that was inquired about is learned, and its place freed. Nothing is sent. A full cache drops the key that
- *                              lies farthest out on the fuller side, which may be the one just learned.
+ *                              lies farthest out along the fuller side, above if both are equally full; that may be the one just learned.
  *   ACK                        the flood's place is freed. If it says that the neighbour has not the key that we hold it for, the key is removed.
- *   LOOKUP                     an AUTHORITY with the record closest to the target, to the sender.
+ *   LOOKUP                     an AUTHORITY with the record closest to the target, to the sender: of those held and our own, the one with the
+ *                              shortest way round to the target; of two equally close the one reached by going down from the target.
  *
  * Keep each FLOOD and INQUIRE that you send, with its ID and where it went: gauge_tick says when to send it again, and when to forget it. A gauge that
  * falls silent stays in the cache until it is revoked or such an ACK comes.
@@ -254,7 +258,7 @@ struct gauge_answer gauge_send(const uint8_t *own, size_t own_len, const uint8_t
  * Gives GAUGE_OK, GAUGE_MEMORY or GAUGE_ROOM. */
 struct gauge_answer gauge_tick(const uint8_t *own, size_t own_len, uint8_t *waiting, size_t waiting_len, uint8_t *output, size_t output_len);
 
-/* The keys next to our own: up to five below, then up to five above, by number, nearest first.
+/* The keys next to our own round the ring: up to five below, then up to five above, nearest first. No key is listed twice.
  *
  *   own     as above.
  *   cache   for reading.

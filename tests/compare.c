@@ -583,10 +583,11 @@ static uint32_t possible(int kind, int message)
 
 /* What an accepted call did, by what it left and wrote. */
 enum { JOINED, REPLACED, OTHER_DROPPED, SELF_DROPPED, BOTH, ACK_ONLY, INQUIRE_ONLY, QUIET, N_SET, WRAPPED, REVOKED, UNASKED, REVOKED_NOT, N_REMOVED, N_CLEAR, SHOWN_OWN, SHOWN_HELD,
-       EXPIRED, SIXTEEN, FIVES, DONE };
+       EXPIRED, SIXTEEN, FIVES, BETWEEN, LIST_END, LIST_OPPOSITE, SHOWN_END, TIE, TIE_END, DONE };
 static const char *const done_names[] = {"learned: joined", "learned: replaced", "learned: another dropped", "learned: newcomer dropped", "FLOOD: ACK and INQUIRE", "FLOOD: ACK alone",
     "FLOOD: INQUIRE alone", "FLOOD: nothing sent", "ACK sent with N", "INQUIRE with ID 0", "revoked: key removed", "revoked: inquiry freed", "revoked: nothing there", "ACK: N removed the key",
-    "ACK: nothing removed", "LOOKUP: own record shown", "LOOKUP: held record shown", "tick: a place freed", "tick: sixteen listed", "list: five and five"};
+    "ACK: nothing removed", "LOOKUP: own record shown", "LOOKUP: held record shown", "tick: a place freed", "tick: sixteen listed", "list: five and five",
+    "learned: dropped between", "list: across the end", "list: key just opposite", "LOOKUP: across the end", "LOOKUP: tie", "LOOKUP: tie, larger number"};
 static unsigned long done[DONE];
 
 static size_t rows_used(const uint8_t *p, size_t len, size_t width, size_t mark)
@@ -595,6 +596,51 @@ static size_t rows_used(const uint8_t *p, size_t len, size_t width, size_t mark)
     while (width * n < len && p[width * n + mark] != 0)
         n++;
     return n;
+}
+
+/* Does a list go across the end of the ring: a key below that is a larger number than our own, or one above that is smaller? */
+static bool across_end(const uint8_t *own_key, const uint8_t *keys, size_t below, size_t above)
+{
+    for (size_t i = 0; i < below + above; i++)
+        if ((memcmp(keys + 32 * i, own_key, 32) > 0) == (i < below))
+            return true;
+    return false;
+}
+
+static bool has_opposite(const uint8_t *own_key, const uint8_t *keys, size_t n)
+{
+    for (size_t i = 0; i < n; i++)
+        if (keys[32 * i] == (own_key[0] ^ 0x80) && memcmp(keys + 32 * i + 1, own_key + 1, 31) == 0)
+            return true;
+    return false;
+}
+
+/* Is the key that was dropped for a newcomer neither the first nor the last number of all? */
+static bool dropped_between(const struct memory *before, size_t was, const uint8_t *newcomer)
+{
+    const uint8_t *first = before->cache, *last = before->cache + 100 * (was - 1);
+    bool first_stays = memcmp(now.cache, first, 32) == 0 || memcmp(newcomer, first, 32) < 0;
+    bool last_stays = memcmp(now.cache + 100 * (was - 1), last, 32) == 0 || memcmp(newcomer, last, 32) > 0;
+    return first_stays && last_stays;
+}
+
+/* A LOOKUP's answer: is the key shown nearer across the end; and does a key as far from the target on its other side stand in the cache, or is our own? */
+static void count_shown(const uint8_t *own_key, const uint8_t *target, const uint8_t *shown, const struct memory *before, size_t was)
+{
+    uint8_t other[32];
+    int sum = 0;
+    for (int i = 31; i >= 0; i--) {
+        sum += 2 * target[i] - shown[i];
+        other[i] = (uint8_t)(sum & 0xFF);
+        sum = (sum - other[i]) / 256;
+    }
+    bool tie = memcmp(other, own_key, 32) == 0;
+    for (size_t i = 0; i < was; i++)
+        tie = tie || memcmp(other, before->cache + 100 * i, 32) == 0;
+    tie = tie && memcmp(other, shown, 32) != 0;
+    done[SHOWN_END] += (target[0] < shown[0] ? shown[0] - target[0] : target[0] - shown[0]) > 128;
+    done[TIE] += tie;
+    done[TIE_END] += tie && memcmp(shown, other, 32) > 0;
 }
 
 static void count_done(const struct call *c, int message, const uint32_t *answer, const struct memory *before)
@@ -609,8 +655,11 @@ static void count_done(const struct call *c, int message, const uint32_t *answer
         done[EXPIRED] += wait < waited;
         done[SIXTEEN] += answer[1] == 16;
     }
-    if (c->kind == NEIGHBOURS)
+    if (c->kind == NEIGHBOURS) {
         done[FIVES] += answer[1] == 5 && answer[2] == 5;
+        done[LIST_END] += across_end(c->part[OWN].at, out, answer[1], answer[2]);
+        done[LIST_OPPOSITE] += has_opposite(c->part[OWN].at, out, answer[1] + answer[2]);
+    }
     if (c->kind != RECEIVE)
         return;
     bool acked = answer[1] == 20 || answer[1] == 26, asked = answer[1] == 76 || answer[2] == 76;
@@ -619,6 +668,7 @@ static void count_done(const struct call *c, int message, const uint32_t *answer
         for (size_t i = 0; i < was; i++)
             there = there || memcmp(before->cache + 100 * i, c->part[KEY].at, 32) == 0;
         done[is > was ? JOINED : there ? REPLACED : same ? SELF_DROPPED : OTHER_DROPPED]++;
+        done[BETWEEN] += is == was && !there && !same && dropped_between(before, was, c->part[KEY].at);
     }
     if (message == ENTRY)
         done[acked && asked ? BOTH : acked ? ACK_ONLY : asked ? INQUIRE_ONLY : QUIET]++;
@@ -633,8 +683,10 @@ static void count_done(const struct call *c, int message, const uint32_t *answer
     }
     if (message == ACK)
         done[is < was ? N_REMOVED : N_CLEAR]++;
-    if (message == LOOKUP)
+    if (message == LOOKUP) {
         done[memcmp(out + 40, c->part[OWN].at, 32) == 0 ? SHOWN_OWN : SHOWN_HELD]++;
+        count_shown(c->part[OWN].at, c->part[DATAGRAM].at + 28, out + 40, before, was);
+    }
 }
 
 static int show_reached(void)

@@ -71,28 +71,40 @@ static int order(const struct key *x, const struct key *y)
     return 0;
 }
 
-static struct key difference(const struct key *x, const struct key *y)
+static struct key minus(const struct key *x, const struct key *y)
 {
-    const struct key *high = order(x, y) < 0 ? y : x, *low = high == x ? y : x;
     struct key d;
     uint64_t borrow = 0;
     for (int i = 3; i >= 0; i--) {
-        uint64_t part = high->w[i] - low->w[i];
+        uint64_t part = x->w[i] - y->w[i];
         d.w[i] = part - borrow;
-        borrow = (high->w[i] < low->w[i]) | (part < borrow);
+        borrow = (x->w[i] < y->w[i]) | (part < borrow);
     }
     return d;
 }
 
+/* The shorter way round, modulo 2^256 (document 02, Wish 4); whether it goes up from the first to the second. */
+static bool apart(const struct key *x, const struct key *y, struct key *far)
+{
+    *far = minus(x, y);
+    if (far->w[0] >> 63 == 0)
+        return false;
+    *far = minus(y, x);
+    return true;
+}
+
 __attribute__((noinline)) static uint64_t plain_closest(const uint8_t *o, const uint8_t *s, size_t used, const uint8_t *t)
 {
-    struct key goal = key_at(t), best = key_at(o), far = difference(&goal, &best);
+    struct key goal = key_at(t), best = key_at(o), far;
+    bool up = apart(&goal, &best, &far);
     for (size_t i = 0; i < used; i++) {
-        struct key k = key_at(s + 100 * i), d = difference(&goal, &k);
+        struct key k = key_at(s + 100 * i), d;
+        bool goes_up = apart(&goal, &k, &d);
         int which = order(&d, &far);
-        if (which < 0 || (which == 0 && order(&k, &best) < 0)) {
+        if (which < 0 || (which == 0 && up && !goes_up)) {
             best = k;
             far = d;
+            up = goes_up;
         }
     }
     return best.w[3];

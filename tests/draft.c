@@ -92,13 +92,22 @@ static void edge_key(uint8_t *key)
     shift(key, little());
 }
 
+/* A key near to the point just opposite of our own. */
+static void opposite_key(uint8_t *key)
+{
+    memcpy(key, own, 32);
+    key[0] ^= 0x80;
+    shift(key, little());
+}
+
 void some_key(uint8_t *key)
 {
     size_t h = held(), w = waits();
     memcpy(key, own, 32);
-    switch (under(12)) {
+    switch (under(13)) {
     case 0: break;
     case 1: shift(key, little()); break;
+    case 12: opposite_key(key); break;
     case 2: edge_key(key); break;
     case 3: key[under(32)] = any(); break;
     case 4: key[under(32)] ^= (uint8_t)(1 << under(8)); break;
@@ -120,13 +129,20 @@ void some_key(uint8_t *key)
     }
 }
 
-/* Half the sum of two keys that are held or our own: a tie, where the sum is even. */
+/* Half the sum of two keys that are held or our own: a tie, where the sum is even. It lies between them on the line; the other way round the ring, across
+ * its end, the point just opposite does, and is taken where the two are the first key and the last, or are far apart, or now and then. */
 static void middle_key(uint8_t *key)
 {
     size_t h = held();
     size_t at = h > 0 ? under(h) : 0;
     const uint8_t *a = h > 0 ? now.cache + 100 * at : own;
     const uint8_t *b = h > at + 1 && percent(60) ? a + 100 : own;
+    bool ends = h > 1 && percent(30);
+    if (ends) {
+        a = now.cache;
+        b = now.cache + 100 * (h - 1);
+    }
+    bool across = ends || (a[0] < b[0] ? b[0] - a[0] : a[0] - b[0]) > 127 || percent(10);
     unsigned carry = 0, rest = 0;
     for (int i = 31; i >= 0; i--) {
         carry += (unsigned)a[i] + b[i];
@@ -139,6 +155,8 @@ static void middle_key(uint8_t *key)
         key[i] = (uint8_t)(rest >> 1);
         rest &= 1;
     }
+    if (across)
+        key[0] ^= 0x80;
 }
 
 /* All but the key. */
@@ -192,8 +210,10 @@ void begin_gauge(void)
         memcpy(pool[i], own, 32);
         if (percent(60))
             shift(pool[i], (int)under(41) - 20);
-        else if (percent(50))
+        else if (percent(40))
             fill(pool[i], 32);
+        else if (percent(50))
+            opposite_key(pool[i]);
         else
             edge_key(pool[i]);
     }

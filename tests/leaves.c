@@ -48,26 +48,34 @@ static bool plain_zero(const uint8_t *s, size_t len)
     return true;
 }
 
-/* The larger of two keys less the smaller, byte by byte from the end. */
-static void plain_difference(const uint8_t *x, const uint8_t *y, uint8_t *out)
+/* One key less another, modulo 2^256: byte by byte from the last. */
+static void plain_minus(const uint8_t *x, const uint8_t *y, uint8_t *out)
 {
-    const uint8_t *more = memcmp(x, y, 32) < 0 ? y : x;
-    const uint8_t *less = more == x ? y : x;
     int borrow = 0;
     for (int i = 31; i >= 0; i--) {
-        int d = more[i] - less[i] - borrow;
+        int d = x[i] - y[i] - borrow;
         borrow = d < 0;
         out[i] = (uint8_t)(d + 256 * borrow);
     }
 }
 
+/* The shorter way round (document 02, Wish 4); whether it goes down from the target. */
+static bool plain_far(const uint8_t *target, const uint8_t *k, uint8_t *out)
+{
+    uint8_t up[32], down[32];
+    plain_minus(k, target, up);
+    plain_minus(target, k, down);
+    bool goes_down = memcmp(down, up, 32) <= 0;
+    memcpy(out, goes_down ? down : up, 32);
+    return goes_down;
+}
+
 static uint8_t plain_closer(const uint8_t *target, const uint8_t *k, const uint8_t *j)
 {
     uint8_t d[32], e[32];
-    plain_difference(target, k, d);
-    plain_difference(target, j, e);
+    bool k_down = plain_far(target, k, d), j_down = plain_far(target, j, e);
     int order = memcmp(d, e, 32);
-    return order < 0 || (order == 0 && memcmp(k, j, 32) < 0);
+    return order < 0 || (order == 0 && k_down && !j_down);
 }
 
 /* Bytes of which few are not zero, so that what is equal or zero is met as often as what is not. */
@@ -98,10 +106,11 @@ static void try_slices(void)
     }
 }
 
-/* Keys of few digits that are not zero, near each other and near both ends, or with their bytes at random. */
+/* Keys of few digits that are not zero, near each other and near both ends, and just opposite of them, or with their bytes at random. */
 static void key(uint8_t *k)
 {
     memset(k, next() % 4 ? 0 : 255, 32);
+    k[0] ^= (uint8_t)(next() % 4 ? 0 : 0x80);
     for (uint32_t times = next() % 40; times > 0; times -= times > 8 ? 5 : 1)
         k[next() % 32] = (uint8_t)(next() % 4 ? next() % 3 : next());
 }
@@ -115,6 +124,11 @@ static void try_keys(void)
         key(j);
         if (next() % 4 == 0)
             memcpy(j, k, 32);
+        if (next() % 4 == 0) { /* as far from the target on its other side */
+            plain_minus(target, k, j);
+            for (int i = 31, carry = 0; i >= 0; i--, carry >>= 8)
+                j[i] = (uint8_t)(carry += target[i] + j[i]);
+        }
         if (leaves_closer(target, 32, k, 32, j, 32) != plain_closer(target, k, j))
             differ("the closer of two keys", turn);
         size_t len = next() % 64;

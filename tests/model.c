@@ -1,4 +1,4 @@
-/* The gauge once more (tests/model.h), to be held against the archive: written from documents 000 and 01 without a look into the crates. It is meant to
+/* The gauge once more (tests/model.h), to be held against the archive: written from documents 000, 01 and 02 without a look into the crates. It is meant to
  * be read beside the documents and is slow: a call works on a copy of all that is lent, and the copy is put back when nothing refuses. */
 #include "model.h"
 #include "model_read.h"
@@ -34,17 +34,43 @@ static int order(const uint8_t *a, const uint8_t *b)
     return memcmp(a, b, 32);
 }
 
-/* The larger key minus the smaller. */
-static void difference(const uint8_t *a, const uint8_t *b, uint8_t *result)
+/* Keys go round (document 02, Wish 4). One key less another, modulo 2^256: byte by byte from the last, and what the first one borrows is let go. */
+static void minus(const uint8_t *a, const uint8_t *b, uint8_t *result)
 {
-    const uint8_t *larger = order(a, b) < 0 ? b : a;
-    const uint8_t *smaller = larger == a ? b : a;
     int borrow = 0;
     for (int i = 31; i >= 0; i--) {
-        int digit = larger[i] - smaller[i] - borrow;
+        int digit = a[i] - b[i] - borrow;
         borrow = digit < 0;
         result[i] = (uint8_t)(digit + 256 * borrow);
     }
+}
+
+/* "A key is above ours if (key - own) modulo 2^256 is from 1 to 2^255, else below": 2^255 is 80 and zeros. */
+static bool above(const uint8_t *own, const uint8_t *key)
+{
+    uint8_t up[32];
+    minus(key, own, up);
+    return !zero(up, 32) && (up[0] < 0x80 || (up[0] == 0x80 && zero(up + 1, 31)));
+}
+
+/* "Nearness on a side counts along that side." */
+static void nearness(const uint8_t *own, const uint8_t *key, uint8_t *result)
+{
+    if (above(own, key))
+        minus(key, own, result);
+    else
+        minus(own, key, result);
+}
+
+/* "Closeness to a target is the shorter way round"; whether that goes down from the target. */
+static bool closeness(const uint8_t *target, const uint8_t *key, uint8_t *result)
+{
+    uint8_t up[32], down[32];
+    minus(key, target, up);
+    minus(target, key, down);
+    bool goes_down = order(down, up) <= 0;
+    memcpy(result, goes_down ? down : up, 32);
+    return goes_down;
 }
 
 /* Reading (document 000 section 2.2, document 01 "Datagram layout"). A place that goes on from field to field; once bad, always bad. */
@@ -442,6 +468,21 @@ static void remove_key(struct work *w, const uint8_t *key)
         take_out(w, (size_t)(r - w->cache) / 100);
 }
 
+/* Of so many records, the place of the one farthest out on a side of our own key. */
+static size_t farthest(const uint8_t *own, uint8_t (*list)[100], size_t n, bool side)
+{
+    uint8_t far[32], most[32] = {0};
+    size_t place = 0;
+    for (size_t i = 0; i < n; i++) {
+        nearness(own, list[i], far);
+        if (above(own, list[i]) == side && order(far, most) > 0) {
+            place = i;
+            memcpy(most, far, 32);
+        }
+    }
+    return place;
+}
+
 /* One more than there is room for may stand in a list of its own until one is dropped. */
 static void learn(struct work *w, const uint8_t *record)
 {
@@ -458,27 +499,29 @@ static void learn(struct work *w, const uint8_t *record)
     for (size_t i = n - 1; i < w->held; i++)
         memcpy(list[n++], record_at(w, i), 100);
     for (size_t i = 0; i < n; i++)
-        if (order(list[i], w->own) < 0)
+        if (!above(w->own, list[i]))
             below++;
-    size_t from = 0;
     if (n > w->most) {
-        if (below > n - below)
-            from = 1;
+        size_t gone = farthest(w->own, list, n, below <= n - below);
         n--;
+        memmove(list[gone], list[gone + 1], 100 * (n - gone));
     }
-    memcpy(w->cache, list[from], 100 * n);
+    memcpy(w->cache, list, 100 * n);
     w->held = n;
 }
 
 static const uint8_t *closest(struct work *w, const uint8_t *target)
 {
     const uint8_t *best = w->own;
+    uint8_t far[32], least[32];
+    bool best_down = closeness(target, best, least);
     for (size_t i = 0; i < w->held; i++) {
-        uint8_t far[32], least[32];
-        difference(record_at(w, i), target, far);
-        difference(best, target, least);
-        if (order(far, least) < 0 || (order(far, least) == 0 && order(record_at(w, i), best) < 0))
+        bool down = closeness(target, record_at(w, i), far);
+        if (order(far, least) < 0 || (order(far, least) == 0 && down && !best_down)) {
             best = record_at(w, i);
+            best_down = down;
+            memcpy(least, far, 32);
+        }
     }
     return best;
 }
@@ -821,6 +864,28 @@ struct model_answer model_tick(struct bytes own, struct room waiting, struct roo
     return a;
 }
 
+/* Up to five keys of a side, nearest first: each the nearest of those farther out than the one before. Gives how many. */
+static uint32_t list_side(struct work *w, bool side, uint8_t *to)
+{
+    uint8_t last[32] = {0}, far[32], least[32];
+    uint32_t n = 0;
+    for (; n < 5; n++) {
+        const uint8_t *next = NULL;
+        for (size_t i = 0; i < w->held; i++) {
+            nearness(w->own, record_at(w, i), far);
+            if (above(w->own, record_at(w, i)) != side || order(far, last) <= 0 || (next != NULL && order(far, least) >= 0))
+                continue;
+            next = record_at(w, i);
+            memcpy(least, far, 32);
+        }
+        if (next == NULL)
+            break;
+        memcpy(to + 32 * n, next, 32);
+        memcpy(last, least, 32);
+    }
+    return n;
+}
+
 struct model_answer model_neighbours(struct bytes own, struct bytes cache, struct room output)
 {
     if (!own_form(own) || !cache_form(own.at, cache))
@@ -829,13 +894,8 @@ struct model_answer model_neighbours(struct bytes own, struct bytes cache, struc
         return refuse(15);
     struct work w;
     begin(&w, own.at, cache.at, cache.len, NULL);
-    size_t below = 0;
-    while (below < w.held && order(record_at(&w, below), own.at) < 0)
-        below++;
     struct model_answer a = {0, 0, 0};
-    for (size_t i = below; i > 0 && a.first < 5; i--)
-        memcpy(output.at + 32 * a.first++, record_at(&w, i - 1), 32);
-    for (size_t i = below; i < w.held && a.second < 5; i++)
-        memcpy(output.at + 32 * (a.first + a.second++), record_at(&w, i), 32);
+    a.first = list_side(&w, false, output.at);
+    a.second = list_side(&w, true, output.at + 32 * a.first);
     return a;
 }

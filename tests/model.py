@@ -3,8 +3,8 @@
 
     model.py    checks the worked cases of document 01, the lengths of what the calls write, and round trips
 
-Each function renders a sentence, which stands above it: 01 is the specification, 000 is MC-DRT, D numbers are those of
-docs/DECISIONS.md; C1 to C4, R1 to R4 and W1 to W8 are those of docs/MEMORY.md. Speed is no aim here, to be read is.
+Each function renders a sentence, which stands above it: 01 is the specification, 02 has the requests, 000 is MC-DRT, D numbers and those
+like W4.2 are of docs/DECISIONS.md; C1 to C4, R1 to R4 and W1 to W8 are those of docs/MEMORY.md. Speed is no aim here, to be read is.
 """
 
 FIXED = bytes.fromhex("0010000C51")  # 01: "A message begins with 12 bytes: 00 10 00 0C, identifier 51 (hex)"
@@ -512,16 +512,38 @@ def cache_of(records, length):
     return s + bytes(length - len(s))
 
 
+# 02, Wish 4: "Keys go round". The steps up from one key to another, "modulo 2^256".
+def up(start, key):
+    return (key - start) % 2 ** 256
+
+
+# 02: "a key is above ours if (key - own) modulo 2^256 is from 1 to 2^255, else below".
+def is_above(own, key):
+    return 1 <= up(own, key) <= 2 ** 255
+
+
+# 02: "nearness on a side counts along that side": up to a key above, down to one below.
+def nearness(own, key):
+    return up(own, key) if is_above(own, key) else up(key, own)
+
+
+# The records on one side of our own, nearest first.
+def side(own, records, above):
+    there = [r for r in records if is_above(key_of(own), key_of(r)) == above]
+    return sorted(there, key=lambda r: nearness(key_of(own), key_of(r)))
+
+
 # 01: "A held key has its record replaced. A new key joins. If there are now C + 1, take the side of the own key (below, above) with more keys,
-# above if equal, and drop the key farthest out on it, even the newcomer."
+# above if equal, and drop the key farthest out on it, even the newcomer." 02: "Dropping and the neighbour list follow this; the cache keeps plain
+# key order."
 def learned(own, records, record, c):
     others = [r for r in records if key_of(r) != key_of(record)]
     joined = sorted(others + [record], key=key_of)
     if len(joined) <= c:
         return joined
-    below = [r for r in joined if key_of(r) < key_of(own)]
-    above = [r for r in joined if key_of(r) > key_of(own)]
-    return joined[1:] if len(below) > len(above) else joined[:-1]
+    below, above = side(own, joined, False), side(own, joined, True)
+    dropped = below[-1] if len(below) > len(above) else above[-1]
+    return [r for r in joined if r != dropped]
 
 
 # 01: "It is removed if held".
@@ -529,18 +551,25 @@ def removed(records, key):
     return [r for r in records if key_of(r) != key]
 
 
-# 01: "Up to five keys below, then up to five above, nearest first". "below and above are plain number order".
+# 01: "Up to five keys below, then up to five above, nearest first", by 02's sides.
 def nearest(own, records):
-    keys = [key_of(r) for r in records]
-    below = sorted([k for k in keys if k < key_of(own)], reverse=True)
-    above = sorted([k for k in keys if k > key_of(own)])
-    return below[:5], above[:5]
+    below, above = side(own, records, False), side(own, records, True)
+    return [key_of(r) for r in below[:5]], [key_of(r) for r in above[:5]]
 
 
-# 01: "the record closest to the target, the own record included: the least difference, larger key minus smaller; at equal difference the
-# smaller key."
+# 02: "Closeness to a target is the shorter way round".
+def apart(target, key):
+    return min(up(target, key), up(key, target))
+
+
+# 02: "at equal distance take the key reached by going down from the target" (W4.2).
+def is_down(target, key):
+    return up(key, target) == apart(target, key)
+
+
+# 01: "the record closest to the target, the own record included".
 def closest(own, records, target):
-    return min([own] + records, key=lambda r: (abs(key_of(r) - target), key_of(r)))
+    return min([own] + records, key=lambda r: (apart(target, key_of(r)), not is_down(target, key_of(r))))
 
 
 # --- Lent memory: the waiting table ----------------------------------------------------------------------------------------
@@ -852,12 +881,12 @@ def check_cases():
     assert keys(learned(rec(100), recs(range(90, 100)), rec(89), 10)) == list(range(90, 100))
     six = list(range(94, 100)) + list(range(101, 106))
     assert keys(learned(rec(100), recs(six), rec(106), 11)) == six
-    # 6, 7, 9
+    # 6, 7; 9 by 02: "Case 9's answer becomes 0"
     assert closest(rec(50), recs([99, 101]), 100) == rec(99)
     assert closest(rec(9), recs([1, 4294967296]), 0) == rec(1)
-    assert closest(rec(5), recs([0]), 2 ** 256 - 1) == rec(5)
+    assert closest(rec(5), recs([0]), 2 ** 256 - 1) == rec(0)
     # 8
-    assert abs(value(k(4294967295)) - value(k(4294967296))) == 1
+    assert apart(value(k(4294967295)), value(k(4294967296))) == 1
     # 10 and 11
     plain = bytes.fromhex("0010000C510665090000000700180008D8859CF5")
     assert write(message("ack", 6, 101, 7, acked=0xD8859CF5)) == plain
@@ -885,6 +914,35 @@ def check_cases():
     assert (number, first, second, cache, after) == (0, 0, 0, empty, out) and len(waits(own, table)) == 15
     number, first, second, cache, table, after = receive(own, cpa, empty, table, 6, 101, 600, nonce, 0, zero, flood, out)
     assert (number, first, second, cache) == (0, 20, 76, empty) and len(waits(own, table)) == 16
+
+
+def check_ring():
+    """Document 02, Wish 4: both sides of each limit, and what a turn of the whole ring leaves as it is."""
+    def rec(n):
+        return (n % 2 ** 256).to_bytes(32, "big") + two(5000) + bytes([1, 0]) + bytes(64)
+
+    half, top = 2 ** 255, 2 ** 256 - 1
+    for own in (0, 1, half - 1, half, half + 1, top):
+        for steps, above in ((1, True), (half - 1, True), (half, True), (half + 1, False), (top, False)):
+            assert is_above(own, (own + steps) % 2 ** 256) == above
+            assert nearness(own, (own + steps) % 2 ** 256) == (steps if above else 2 ** 256 - steps)
+            assert apart(own, (own + steps) % 2 ** 256) == apart((own + steps) % 2 ** 256, own) == min(steps, 2 ** 256 - steps)
+    # "pond 1 must be able to have the last pond as neighbour below"
+    assert nearest(rec(1), [rec(5), rec(top)]) == ([top], [5])
+    # Wherever our own key lies, the keys around it are listed, dropped and chosen as around 100 (cases 1 to 6), and the cache keeps plain order.
+    for own in (0, 1, 5, half - 1, half, top - 1, top):
+        def turned(keys):
+            return [(own + n - 100) % 2 ** 256 for n in keys]
+
+        def held(keys):
+            return sorted((rec(n) for n in turned(keys)), key=key_of)
+
+        assert nearest(rec(own), held([60, 70, 80, 90, 95, 99, 101, 110])) == (turned([99, 95, 90, 80, 70]), turned([101, 110]))
+        assert learned(rec(own), held(range(90, 100)), held([101])[0], 10) == held(list(range(91, 100)) + [101])
+        assert learned(rec(own), held(range(90, 100)), held([89])[0], 10) == held(range(90, 100))
+        six = list(range(94, 100)) + list(range(101, 106))
+        assert learned(rec(own), held(six), held([106])[0], 11) == held(six)
+        assert key_of(closest(held([50])[0], held([99, 101]), own)) == turned([99])[0]
 
 
 def check_lengths():
@@ -969,6 +1027,7 @@ def check_round_trips(count):
 
 if __name__ == "__main__":
     check_cases()
+    check_ring()
     check_lengths()
     check_round_trips(8000)
-    print("model: cases 1 to 14, lengths and 8000 round trips as the documents have them")
+    print("model: cases 1 to 14, the ring, lengths and 8000 round trips as the documents have them")

@@ -47,6 +47,7 @@ GLOSSARY = """The messages of the gauges; the number behind one is its ID:
   AUTHORITY  is that proof, or tells the gauge that a LOOKUP asked for
   LOOKUP     asks which gauge is closest to a key
   SOLICIT, ADVERTISE and REQUEST are for new gauges; this one does not take them
+Keys go round: up from the largest comes the smallest, and down from the smallest the largest.
 A tick is a second that has passed. A key without a name is shown by its first and last eight digits.
 
 """
@@ -154,7 +155,7 @@ def held_text(names, records):
 
 
 def side_text(names, side, keys):
-    text = "\nNeighbours %s keys, nearest first: %d\n" % (side, len(keys))
+    text = "\nNeighbours %s, nearest first: %d\n" % (side, len(keys))
     return text + "".join("  %s\n" % whose(names, k.to_bytes(32, "big")) for k in keys)
 
 
@@ -170,8 +171,8 @@ def waiting_text(names, places):
 def state_text(names, night):
     records, places = model.held(night.own, night.cache), model.waits(night.own, night.waiting)
     below, above = model.nearest(night.own, records)
-    return ("\nAt the end of the night\n" + held_text(names, records) + side_text(names, "below, the next smaller", below)
-            + side_text(names, "above, the next larger", above) + waiting_text(names, places))
+    return ("\nAt the end of the night\n" + held_text(names, records) + side_text(names, "below, the next keys down", below)
+            + side_text(names, "above, the next keys up", above) + waiting_text(names, places))
 
 
 def totals_text(answers):

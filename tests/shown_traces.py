@@ -142,6 +142,23 @@ def full_trace():
     return opening(gauge_record(1200)) + b"".join(calls)
 
 
+# Keys on both sides of the ring's end: 70 gauges around pond 1, two of them just opposite and next to that, of which 64 are held. Then LOOKUPs there.
+def round_trace():
+    keys = [(1 + steps) % 2 ** 256 for steps in [2 ** 255, 2 ** 255 + 1] + [n * way for n in range(34, 0, -1) for way in (1, -1)]]
+    calls = [record for i, n in enumerate(keys) for record, _ in learn(10 * i, gauge_record(n, i, 1 + i % 4))]
+    calls += [receive(1, lookup(2, target)) for target in (0, 2 ** 256 - 1, 2 ** 255, 2 ** 255 + 1)]
+    data = opening(gauge_record(1)) + b"".join(calls)
+    lines, night = trace.replay(data)
+    assert [line.split()[1] for line in lines] == ["0"] * len(calls)
+    kept = [(1 + steps) % 2 ** 256 for steps in range(-32, 33) if steps]
+    assert [model.key_of(r) for r in model.held(night.own, night.cache)] == sorted(kept)
+    return data
+
+
+def round_names():
+    return b"".join(b"%s %s\n" % (key(n % 2 ** 256).hex().encode(), name) for n, name in ((1, b"First Pond"), (-1, b"Last Pond"), (0, b"Pond Nought"), (2, b"Second")))
+
+
 # --- Random nights ---------------------------------------------------------------------------------------------------------
 
 def random_trace(seed, count):
@@ -193,8 +210,8 @@ def random_datagram(chance, pool):
 
 # --- Names for the traces --------------------------------------------------------------------------------------------------
 
-# examples/hill.c: a generator of 64 bits, 61 at first. A pond's key is its number and 31 random bytes; before it, from the second pond on, one number
-# is drawn for the pond that it knows.
+# examples/hill.c: a generator of 64 bits, 61 at first. A pond's key is 4 times its number and 31 random bytes; before it, from the second pond on, one
+# number is drawn for the pond that it knows.
 def hill_names():
     state = 61
 
@@ -209,7 +226,7 @@ def hill_names():
     for number in range(1, 62):
         if number > 1:
             dice(number - 1)
-        lines.append("%s Pond %d\n" % (bytes([number] + [dice(256) for _ in range(31)]).hex(), number))
+        lines.append("%s Pond %d\n" % (bytes([4 * number] + [dice(256) for _ in range(31)]).hex(), number))
     return "".join(lines).encode()
 
 
@@ -233,6 +250,7 @@ def traces():
     yield "worked_without_names", worked_trace(), None
     yield "names_to_the_brim", worked_trace(), b"#" * 65000 + b"\n" + worked_names() + b"\n" + b"x" * 9000
     yield "full", full_trace(), None
+    yield "round", round_trace(), round_names()
     for name, data in {**bad_traces(), **formless_traces()}.items():
         yield name, data, None
     for seed in range(8):

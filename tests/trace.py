@@ -144,7 +144,7 @@ def main():
     lines, night = replay(open(sys.argv[-1], "rb").read())
     if sys.argv[1] == "--list":
         below, above = model.nearest(night.own, model.held(night.own, night.cache))
-        print(" ".join(str(k >> 248) for k in below + above))
+        print(" ".join(str((k >> 248) // 4) for k in below + above))  # examples/hill.c: a key begins with 4 times the pond's number
     else:
         sys.stdout.write(text(lines))
 

@@ -29,6 +29,7 @@ Where to find what (each is a function below, and a heading of crates/vectors/st
     nothing has changed after a refusal                       every refused line: `- same same clean`
     a place freed, then refused for room; a late AUTHORITY    the end of refusals; revocations
     every type looked at, with and without each field         looking
+    the ring: drops, lists and LOOKUPs across its end         across, listing, answered (and vector_memory, ring_lists to ring_near)
 
     The vectors of D67, against gauges that would pass without them:
     verdict 0, 2, 257 with a FLOOD that has a route entry     floods, "the verdict is ignored"
@@ -404,7 +405,7 @@ def floods(g):
     yield g.receive(authority(10), (0, 0, 0), verdict=1, named=key(TOP))
     yield g.receive(authority(8), (0, 0, 0), verdict=1, named=key(0))
     yield g.held([0, TOP])
-    yield g.list((0, 1, 1), sends=[key(0), key(TOP)])
+    yield g.list((0, 2, 0), sends=[key(0), key(TOP)])
     yield "# 11: the route entry names the own key, whatever else"
     yield g.start()
     for datagram in (flood(OWN), flood(record(100, 4, 9)), flood(OWN, d=True), flood(OWN, validate=7)):
@@ -599,6 +600,29 @@ def authorities(g):
     yield g.list((0, 5, 5), sends=[key(n) for n in (99, 95, 90, 80, 70, 101, 105, 110, 120, 130)])
 
 
+def across(g):
+    yield "# document 02: own 1, held the last ten, 5 comes by FLOOD and AUTHORITY: the first of them is dropped, and the cache is in plain order"
+    last = list(range(2 ** 256 - 10, 2 ** 256))
+    yield g.start(record(1))
+    yield g.set_cache(cache(last))
+    yield g.receive(flood(record(5), validate=1), (0, 20, 76), 8)
+    yield g.receive(authority(9), (0, 0, 0), verdict=1, named=key(5))
+    yield g.held([5] + last[1:])
+    yield g.list((0, 5, 1), sends=[key(n) for n in (TOP, TOP - 1, TOP - 2, TOP - 3, TOP - 4, 5)])
+    yield "# keys around the last one, coming in no order: kept are those nearest along each side"
+    yield g.start(record(TOP))
+    kept = []
+    for steps in (-50, 50, -1, 1, -40, 40, -5, 5, -30, 30, -20, 20, -10, 10, 2 ** 255, 2 ** 255 + 1):
+        n = (TOP + steps) % 2 ** 256
+        yield g.receive(flood(record(n), d=True, validate=TOP), (0, 76, 0), 7)
+        yield g.receive(authority(8), (0, 0, 0), verdict=1, named=key(n))
+        kept.append(steps if steps <= 2 ** 255 else steps - 2 ** 256)
+        if len(kept) == 11:
+            kept.remove(min(kept) if len([k for k in kept if k < 0]) > 5 else max(kept))
+        yield g.held(sorted((TOP + k) % 2 ** 256 for k in kept))
+    yield g.list((0, 5, 5), sends=[key((TOP + n) % 2 ** 256) for n in (-1, -5, -10, -20, -30, 1, 5, 10, 20, 30)])
+
+
 def acked(g):
     yield "# ACK: 8 for an ID that is no waiting flood, also for a waiting inquiry's"
     start = table([inquiry(2, 70), flood_place(3, 70), flood_place(4, 71), flood_place(5, 100), flood_place(0x01020304, 60)])
@@ -662,8 +686,8 @@ def answered(g):
         room = 80 + 16 * r[34]
         yield g.receive(lookup(model.key_of(r)), (0, room, 0), room=room, sends=[shown_out(7, 0xA00, r)])
         yield g.receive(lookup(model.key_of(r)), 15, room=room - 1)
-    yield "# ties go to the smaller key; the own record is a candidate"
-    for target, r in ((25, four[1]), (26, four[2]), (70, four[3]), (71, OWN), (100, OWN), (TOP, OWN), (0, four[0])):
+    yield "# ties go to the key below the target; the own record is a candidate; from the last key on it is not far to the first"
+    for target, r in ((25, four[1]), (26, four[2]), (70, four[3]), (71, OWN), (100, OWN), (TOP, four[0]), (0, four[0])):
         yield g.receive(lookup(target), 0, sends=[shown_out(7, 0xA00, r)])
     yield "# criteria, precision, reason, A, validate key, path and credentials are not acted on"
     for fields in ({"criteria": 8, "precision": 1}, {"criteria": 1, "reason": 3}, {"a": True}, {"validate": 7},
@@ -674,8 +698,9 @@ def answered(g):
         yield g.receive(lookup(26, route=entry(r)), (0, 128, 0), sends=[shown_out(7, 0xA00, four[2])])
     yield g.held([10, 20, 30, 40])
     yield g.waits([])
-    yield "# case 6, 7 and 9 by a LOOKUP"
-    for own, keys, target, want in ((50, [99, 101], 100, 99), (9, [1, 4294967296], 0, 1), (5, [0], TOP, 5)):
+    yield "# case 6 and 7 by a LOOKUP, and 9 as document 02 has it; then the ring's: the last key before 1, and before our own"
+    for own, keys, target, want in ((50, [99, 101], 100, 99), (9, [1, 4294967296], 0, 1), (5, [0], TOP, 0), (7, [1, TOP], 0, TOP), (1, [TOP], 0, TOP),
+                                    (TOP, [1], 0, TOP), (0, [2 ** 255], 2 ** 255 - 1, 2 ** 255), (2 ** 255, [2 ** 255 - 1], 0, 2 ** 255 - 1)):
         yield g.start(record(own))
         yield g.set_cache(cache([record(n) for n in keys]))
         yield g.receive(lookup(target), (0, 96, 0), sends=[shown_out(7, 0xA00, record(want))])
@@ -812,10 +837,17 @@ def listing(g):
     yield g.list((0, 5, 5), sends=[key(n) for n in (99, 98, 97, 96, 95, 101, 102, 103, 104, 105)])
     yield g.start(record(TOP))
     yield g.set_cache(cache([0, 2 ** 32, 2 ** 255]))
-    yield g.list((0, 3, 0), sends=[key(n) for n in (2 ** 255, 2 ** 32, 0)])
+    yield g.list((0, 1, 2), sends=[key(n) for n in (2 ** 255, 0, 2 ** 32)])
     yield g.start(record(0))
     yield g.set_cache(cache([1, 2 ** 32, 2 ** 255]))
     yield g.list((0, 0, 3), sends=[key(n) for n in (1, 2 ** 32, 2 ** 255)])
+    yield "# document 02: pond 1 has the last pond as neighbour below; just opposite is above"
+    yield g.start(record(1))
+    yield g.set_cache(cache([5, TOP]))
+    yield g.list((0, 1, 1), sends=[key(TOP), key(5)])
+    yield g.start(record(0))
+    yield g.set_cache(cache([2 ** 255, 2 ** 255 + 1]))
+    yield g.list((0, 1, 1), sends=[key(2 ** 255 + 1), key(2 ** 255)])
 
 
 def case14(g):
@@ -1188,7 +1220,7 @@ def looking(g):
     yield g.look(put(plain, 5, b"\xFF"), 0, 255)
 
 
-SCENES = (story, floods, identities, revocations, authorities, acked, answered, room, sending, ticking, listing, case14, memory, limits, malformed,
+SCENES = (story, floods, identities, revocations, authorities, across, acked, answered, room, sending, ticking, listing, case14, memory, limits, malformed,
           refusals, pairs, bytewise, looking)
 
 

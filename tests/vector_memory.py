@@ -9,7 +9,7 @@
     closest OWN CACHE TARGET     the record, - where refused
     ticks OWN TABLE ROUNDS       for each round number:IDs, then how many places are used at the end
 
-    vector_memory.py             checks the answers that document 01 and docs/MEMORY.md state
+    vector_memory.py             checks the answers that documents 01 and 02 and docs/MEMORY.md state
 
 Keys in answers are in hexadecimal without leading zeros, IDs are decimal; both apart by commas, - for none. The bytes are laid out here by
 docs/MEMORY.md and not by the model. A `want` is the answer that the documents give, and is compared with the model's.
@@ -17,6 +17,8 @@ docs/MEMORY.md and not by the model. A `want` is the answer that the documents g
 import model
 
 TOP = 2 ** 256 - 1
+HALF = 2 ** 255
+ENDS = (0, 1, HALF, TOP)  # where our own key, or a target, lies on the ring
 
 
 def key(n):
@@ -277,11 +279,11 @@ def learning():
     yield learn(OWN, cache(ten), record(95, 4, 1), "0 5a,5b,5c,5d,5e,5f,60,61,62,63")
     yield learn(OWN, cache(ten), record(90, 4, 1), "0 5a,5b,5c,5d,5e,5f,60,61,62,63")
     yield learn(OWN, cache([60, 70]), record(70, 3, 9), "0 3c,46")
-    yield "# the own key at an end: all keys are on one side"
+    yield "# the own key at an end: all keys are above it, over the end too"
     yield learn(record(0), cache(range(1, 11)), record(11), "0 " + listed(range(1, 11)))
     yield learn(record(0), cache(range(2, 12)), record(1), "0 " + listed(range(1, 11)))
-    yield learn(record(TOP), cache(range(1, 11)), record(11), "0 " + listed(range(2, 12)))
-    yield learn(record(TOP), cache(range(1, 11)), record(0), "0 " + listed(range(1, 11)))
+    yield learn(record(TOP), cache(range(1, 11)), record(11), "0 " + listed(range(1, 11)))
+    yield learn(record(TOP), cache(range(1, 11)), record(0), "0 " + listed(range(0, 10)))
     yield "# refused: cache, record or own record out of form"
     yield learn(OWN, bytes(900), record(7), "1")
     yield learn(OWN, cache([70, 60]), record(7), "1")
@@ -324,9 +326,9 @@ def lists():
     yield neighbours(OWN, cache(range(101, 111)), "0 0 5 65,66,67,68,69")
     yield neighbours(OWN, cache([99]), "0 1 0 63")
     yield neighbours(OWN, cache([101]), "0 0 1 65")
-    yield neighbours(OWN, cache([0, TOP]), "0 1 1 0," + "f" * 64)
-    yield neighbours(record(0), cache([1, TOP]), "0 0 2 1," + "f" * 64)
-    yield neighbours(record(TOP), cache([0, 1]), "0 2 0 1,0")
+    yield neighbours(OWN, cache([0, TOP]), "0 2 0 0," + "f" * 64)
+    yield neighbours(record(0), cache([1, TOP]), "0 1 1 %s,1" % ("f" * 64))
+    yield neighbours(record(TOP), cache([0, 1]), "0 0 2 0,1")
     yield neighbours(record(2 ** 32), cache([1, 2 ** 32 - 1, 2 ** 32 + 1, 2 ** 64]), "0 2 2 ffffffff,1,100000001,10000000000000000")
     yield neighbours(record(2 ** 255), cache([2 ** 255 - 1, 2 ** 255 + 1]), "0 1 1 7%s,8%s1" % ("f" * 63, "0" * 62))
     yield "# refused"
@@ -338,17 +340,17 @@ def lists():
 
 
 def near():
-    yield "# the closest record: cases 6, 7, 9"
+    yield "# the closest record: cases 6 and 7, and 9 as document 02 has it"
     yield closest(record(50), cache([99, 101]), key(100), 99)
     yield closest(record(9), cache([1, 4294967296]), key(0), 1)
-    yield closest(record(5), cache([0]), key(TOP), 5)
+    yield closest(record(5), cache([0]), key(TOP), 0)
     yield "# the own record: alone, nearest, in a tie on either side"
     yield closest(OWN, bytes(1000), key(0), 100)
     yield closest(OWN, bytes(1000), key(TOP), 100)
     yield closest(OWN, cache([99, 101]), key(100), 100)
     yield closest(OWN, cache([98]), key(99), 98)
     yield closest(OWN, cache([102]), key(101), 100)
-    yield "# ties go to the smaller key; one nearer wins, wherever it stands"
+    yield "# ties go to the key below the target; one nearer wins, wherever it stands"
     yield closest(record(0), cache([98, 102]), key(100), 98)
     yield closest(record(0), cache([97, 98, 102, 103]), key(100), 98)
     yield closest(record(0), cache([97, 101, 104]), key(100), 101)
@@ -356,13 +358,13 @@ def near():
         yield closest(OWN, cache([60, 70, 80, 90, 110]), key(target), want)
     for target in (90, 94, 99):
         yield closest(OWN, cache(range(90, 100)), key(target), target)
-    yield "# differences beyond 32, 64, 128 and 192 bits; no ring"
+    yield "# differences beyond 32, 64, 128 and 192 bits; the shorter way round"
     yield closest(record(2 ** 200), cache([2 ** 32 + 3, 2 ** 33]), key(1), 2 ** 32 + 3)
     for bits in (32, 64, 128, 192):
         yield closest(record(2 ** 255), cache([5, 2 ** bits + 1]), key(1), 5)
         yield closest(record(2 ** 255), cache([5, 2 ** bits + 5]), key(2 ** bits), 2 ** bits + 5)
-    yield closest(record(2 ** 255), cache([3, TOP - 1]), key(0), 3)
-    yield closest(record(2 ** 255), cache([0, 2 ** 254]), key(TOP), 2 ** 255)
+    yield closest(record(2 ** 255), cache([3, TOP - 1]), key(0), TOP - 1)
+    yield closest(record(2 ** 255), cache([0, 2 ** 254]), key(TOP), 0)
     yield "# the record shown is whole: one to four addresses, its port"
     for count in (1, 2, 3, 4):
         yield closest(OWN, cache([record(7, count, 1000 + count)]), key(7), 7)
@@ -373,6 +375,106 @@ def near():
     yield closest(OWN, cache([60]), key(7)[:31], "-")
     yield closest(OWN, cache([60]), key(7) + b"\0", "-")
     yield closest(put(OWN, 34, b"\5"), cache([60]), key(7), "-")
+
+
+def slim(n):
+    """A record whose one address is zero: its line is short, and where only keys matter it does."""
+    return key(n) + b"\x13\x88\x01\x00" + bytes(64)
+
+
+def keys_cache(keys, c=10):
+    return cache([slim(n) for n in sorted(keys)], c)
+
+
+def around(own, steps):
+    """The keys so many steps up from our own, or down; in plain order, as a cache has them."""
+    return sorted((own + n) % 2 ** 256 for n in steps)
+
+
+def far_out(own):
+    """Around a key: nearest first, three below and four above; the last above is just opposite, the last below next to it."""
+    below = [own - 1, own - 2 ** 64, own - (HALF - 1)]
+    above = [own + 1, own + 2 ** 32, own + HALF - 1, own + HALF]
+    return [n % 2 ** 256 for n in below], [n % 2 ** 256 for n in above]
+
+
+# 02: "pond 1 must be able to have the last pond as neighbour below." W4.1: "The key just opposite ours .. is above."
+def ring_lists():
+    yield "# the ring: pond 1 and the last pond; the key just opposite is above, the next one below"
+    yield neighbours(slim(1), keys_cache([5, TOP]), "0 1 1 %s,5" % ("f" * 64))
+    yield neighbours(slim(0), keys_cache([HALF, HALF + 1]), "0 1 1 %x,%x" % (HALF + 1, HALF))
+    yield neighbours(slim(0), keys_cache([HALF - 1, HALF, HALF + 1, HALF + 2]), "0 2 2 " + listed([HALF + 2, HALF + 1, HALF - 1, HALF]))
+    for own in ENDS:
+        below, above = far_out(own)
+        yield neighbours(slim(own), keys_cache(below + above), "0 3 4 " + listed(below + above))
+        for steps, counts in ((1, "0 1"), (HALF - 1, "0 1"), (HALF, "0 1"), (HALF + 1, "1 0"), (TOP, "1 0")):
+            k = (own + steps) % 2 ** 256
+            yield neighbours(slim(own), keys_cache([k]), "0 %s %x" % (counts, k))
+    yield "# five and not six on either side, across the end"
+    for own in ENDS:
+        for shift in range(-6, 7, 3):
+            middle = (own + shift) % 2 ** 256
+            keys = around(middle, [n for n in range(-6, 7) if n])
+            order = [(middle + n) % 2 ** 256 for n in (-1, -2, -3, -4, -5, 1, 2, 3, 4, 5)]
+            yield neighbours(slim(middle), keys_cache(keys, 12), "0 5 5 " + listed(order))
+
+
+# W4.4: "the farthest along its side, .. and not the largest or the smallest number". A row is the steps held, the step learned and the one dropped.
+FIVES = [-5, -4, -3, -2, -1, 1, 2, 3, 4, 5]
+DROPS = ((range(-10, 0), 1, -10), (range(-10, 0), -11, -11), (range(1, 11), -1, 10), (range(1, 11), 11, 11), (range(2, 12), 1, 11),
+         (FIVES, 6, 6), (FIVES, -6, -6), (FIVES, HALF, HALF), (FIVES, HALF - 1, HALF - 1), (FIVES, 1 - HALF, 1 - HALF),
+         ([-9] + FIVES[1:], -5, -9), (FIVES[:-1] + [9], 5, 9), (FIVES[1:] + [HALF], 6, HALF), (FIVES[1:] + [HALF], HALF - 1, HALF),
+         ([1 - HALF] + FIVES[:-1], 5, 1 - HALF), ([1 - HALF] + FIVES[1:], 2 - HALF, 1 - HALF),
+         ([-6] + FIVES, 6, 6), (FIVES + [6], -6, 6), ([1 - HALF] + FIVES, HALF, HALF), (FIVES + [HALF], 1 - HALF, HALF), (FIVES + [6], 1 - HALF, 6))
+
+
+def ring_learning():
+    yield "# the ring: own 1, held the last ten, 5 comes: the first of them is dropped"
+    yield learn(slim(1), keys_cache(range(2 ** 256 - 10, 2 ** 256)), slim(5), "0 " + listed([5] + list(range(2 ** 256 - 9, 2 ** 256))))
+    yield "# wherever our own key lies: the farthest along its side goes, and the cache keeps plain order"
+    for own in ENDS:
+        for held, new, gone in DROPS:
+            left = [n for n in list(held) + [new] if n != gone]
+            yield learn(slim(own), keys_cache(around(own, held), len(held)), slim((own + new) % 2 ** 256), "0 " + listed(around(own, left)))
+    yield "# room left: a new key joins in plain order, across the end too"
+    yield learn(slim(0), keys_cache([1, TOP]), slim(TOP - 1), "0 " + listed([1, TOP - 1, TOP]))
+    yield learn(slim(TOP), keys_cache([1, TOP - 1]), slim(0), "0 " + listed([0, 1, TOP - 1]))
+    yield learn(slim(HALF), keys_cache([1, TOP]), slim(0), "0 " + listed([0, 1, TOP]))
+
+
+# 02: "the shorter way round; at equal distance take the key reached by going down from the target". W4.2: "'the smaller key' stands nowhere".
+def ring_near():
+    yield "# the ring: target 0, own 7, held 1 and the last: the last; and one nearer on either side of the end"
+    yield closest(slim(7), keys_cache([1, TOP]), key(0), TOP)
+    yield closest(slim(7), keys_cache([1, TOP - 1]), key(0), 1)
+    yield closest(slim(7), keys_cache([2, TOP]), key(0), TOP)
+    yield closest(slim(7), keys_cache([1, TOP - 2]), key(TOP), TOP - 2)
+    yield closest(slim(7), keys_cache([1, TOP - 3]), key(TOP), 1)
+    yield "# our own key in a tie across the end, below the target and above it"
+    yield closest(slim(TOP), keys_cache([1]), key(0), TOP)
+    yield closest(slim(1), keys_cache([TOP]), key(0), TOP)
+    yield closest(slim(2), keys_cache([TOP - 1]), key(0), TOP - 1)
+    yield closest(slim(0), keys_cache([TOP - 1]), key(TOP), TOP - 1)
+    yield closest(slim(TOP - 1), keys_cache([0]), key(TOP), TOP - 1)
+    yield "# wherever the target lies: ties go down, just opposite comes last, and ties next to the opposite point"
+    for target in ENDS:
+        def at(steps):
+            return (target + steps) % 2 ** 256
+
+        opposite = slim(at(HALF))
+        for steps in (1, 2 ** 32, 2 ** 64, 2 ** 128, HALF - 1):
+            yield closest(opposite, keys_cache([at(steps), at(-steps)]), key(target), at(-steps))
+            yield closest(slim(at(-steps)), keys_cache([at(steps)]), key(target), at(-steps))
+            yield closest(slim(at(steps)), keys_cache([at(-steps)]), key(target), at(-steps))
+        for steps in (1, 2 ** 32, 2 ** 64, 2 ** 128, HALF - 2):
+            yield closest(opposite, keys_cache([at(steps), at(-steps - 1)]), key(target), at(steps))
+        yield closest(opposite, keys_cache([at(HALF - 1)]), key(target), at(HALF - 1))
+        yield closest(opposite, keys_cache([at(HALF + 1)]), key(target), at(HALF + 1))
+        yield closest(slim(at(5)), keys_cache([at(HALF)]), key(target), at(5))
+        yield closest(slim(at(9)), keys_cache(around(target, [-7, -4, -3, 3, 4, 8])), key(target), at(-3))
+        yield closest(slim(at(9)), keys_cache(around(target, [-7, -4, 3, 4, 8])), key(target), at(3))
+        yield closest(slim(at(-4)), keys_cache(around(target, [-7, 4, 8])), key(target), at(-4))
+        yield closest(slim(at(4)), keys_cache(around(target, [-7, -4, 8])), key(target), at(-4))
 
 
 def ticks():
@@ -400,7 +502,7 @@ def ticks():
 
 def vectors():
     """Headings as strings, vectors as (operands, answer)."""
-    for part in (cache_forms, waiting_forms, learning, removing, lists, near, ticks):
+    for part in (cache_forms, waiting_forms, learning, removing, lists, near, ring_lists, ring_learning, ring_near, ticks):
         yield from part()
 
 
@@ -410,22 +512,25 @@ def check():
     assert all(model.record_form(record(n, count)) for n in (0, 7, TOP) for count in (1, 2, 3, 4))
     assert model.waiting_of(model.waits(OWN, table([flood(1, 7), inquiry(2, 8)]))) == table([flood(1, 7), inquiry(2, 8)])
     assert model.cache_of(model.held(OWN, cache([60, 70])), 1000) == cache([60, 70])
-    # Learning is settled by its result: of the old keys and the new one at most C are left, and what is missing is the farthest of the longer side.
+    # Learning is settled by its result: of the old keys and the new one at most C are left, and what is missing is the farthest of the longer side. Sides
+    # by steps from our own, from 1 - 2^255 to 2^255: above where it is positive, and the farther the greater without its sign.
     import random
     chance = random.Random(140)
-    for _ in range(2000):
-        c, own = chance.randint(10, 14), chance.randrange(1, 40)
-        keys = sorted(chance.sample([k for k in range(41) if k != own], chance.randrange(c + 1)))
-        new = chance.choice([k for k in range(41) if k != own])
+    near_own, opposite = list(range(-20, 21)), list(range(HALF - 20, HALF + 21))
+    for _ in range(4000):
+        c, own = chance.randint(10, 14), chance.choice([chance.randrange(1, 40), HALF + chance.randrange(-20, 21), -chance.randrange(1, 20), chance.randrange(2 ** 256)]) % 2 ** 256
+        ring = sorted({(own + n) % 2 ** 256 for n in chance.choice([near_own, opposite, near_own + opposite])} - {own})
+        keys, new = sorted(chance.sample(ring, chance.randrange(c + 1))), chance.choice(ring)
         after = [model.key_of(r) for r in model.learned(record(own), [record(k) for k in keys], record(new), c)]
         all_keys = sorted(set(keys) | {new})
         gone = [k for k in all_keys if k not in after]
         assert after == [k for k in all_keys if k not in gone] and len(gone) == max(0, len(all_keys) - c)
+        steps = {k: (k - own + HALF - 1) % 2 ** 256 - (HALF - 1) for k in all_keys}
         for k in gone:
-            side = [x for x in all_keys if (x > own) == (k > own)]
-            other = [x for x in all_keys if (x > own) != (k > own)]
-            assert len(side) > len(other) or (len(side) == len(other) and k > own)
-            assert all(abs(x - own) <= abs(k - own) for x in side)
+            side = [x for x in all_keys if (steps[x] > 0) == (steps[k] > 0)]
+            other = [x for x in all_keys if (steps[x] > 0) != (steps[k] > 0)]
+            assert len(side) > len(other) or (len(side) == len(other) and steps[k] > 0)
+            assert all(abs(steps[x]) <= abs(steps[k]) for x in side)
     assert list(vectors())  # each `want` is compared on the way
 
 

@@ -132,7 +132,7 @@ def ground():
     for at, n, end in ((0, 2, 12), (4, 3, 12), (4, 3, 9), (10, 2, 12), (0, 0, 12), (0, 12, 12)):
         yield ("remove", at, n, s, end), written(spliced(at, s[at + n:end] + bytes(n), s))
 
-    yield "# keys: order and difference, near 2^32, at each word's end and at both ends of 256 bits"
+    yield "# keys: plain order and difference on the line, near 2^32, at each word's end and at both ends of 256 bits"
     edges = [0, 1, 2 ** 32 - 1, 2 ** 32, 2 ** 64 - 1, 2 ** 64, 2 ** 128 - 1, 2 ** 128, 2 ** 192, 2 ** 255 - 1, 2 ** 255, TOP - 1, TOP]
     for x, y in list(zip(edges, edges[1:])) + [(n, n) for n in edges] + [(0, TOP), (2 ** 32, TOP), (1, 2 ** 64), (2 ** 64, 2 ** 128 + 1)]:
         for a, b in ((x, y), (y, x)) if x != y else ((x, y),):
@@ -145,13 +145,86 @@ def ground():
     yield ("differ", key(0), key(2 ** 32)), key(2 ** 32).hex()
     yield ("differ", key(7), key(6)), key(1).hex()
     yield ("differ", key(6), key(7)), key(1).hex()
-    yield "# above is the larger number; our own key is not above itself"
-    for own, k in ((100, 99), (100, 100), (100, 101), (0, TOP), (TOP, 0), (2 ** 64, 1), (1, 2 ** 64)):
-        yield ("above", key(own), key(k)), yes(k > own)
-    yield "# document 01, cases 6, 7, 9: the least difference, at equal difference the smaller key"
-    for target, k, j, answer in ((100, 99, 101, "yes"), (100, 101, 99, "no"), (100, 99, 50, "yes"), (0, 1, 9, "yes"), (0, 4294967296, 9, "no"),
-                                 (0, 1, 4294967296, "yes"), (TOP, 5, 0, "yes"), (TOP, 0, 5, "no"), (50, 50, 50, "no")):
-        yield ("closer", key(target), key(k), key(j)), answer
+    yield from ring()
+
+
+def ring():
+    """Document 02, Wish 4: keys go round. The answers are Python's numbers modulo 2^256; where the document or a case has one in words, it stands here."""
+    half = 2 ** 255
+
+    def up(a, b):
+        return (b - a) % 2 ** 256
+
+    def minus(a, b, want=None):
+        assert want is None or up(b, a) == want
+        return ("minus", key(a), key(b)), key(up(b, a)).hex()
+
+    def far(a, b, want=None):
+        assert want is None or min(up(a, b), up(b, a)) == want
+        return ("far", key(a), key(b)), key(min(up(a, b), up(b, a))).hex()
+
+    def above(own, k, want):
+        assert (1 <= up(own, k) <= half) == want
+        return ("above", key(own), key(k)), yes(want)
+
+    yield "# one key less another, modulo 2^256: what is borrowed goes through all 32 bytes, and through one word"
+    yield minus(1, 2, TOP)
+    yield minus(2 ** 64 - 1, 2 ** 64, TOP)
+    yield minus(0, 1, TOP)
+    yield minus(0, TOP, 1)
+    yield minus(5, 5, 0)
+    yield minus(TOP, TOP, 0)
+    yield minus(0, half, half)
+    yield minus(half, 0, half)
+    for bits in (8, 64, 120, 128, 136, 192, 248):
+        yield minus(0, 2 ** bits, 2 ** 256 - 2 ** bits)
+        yield minus(2 ** bits, 1, 2 ** bits - 1)
+        yield minus(2 ** bits, 2 ** bits + 1, TOP)
+        yield minus(1, 2 ** bits, 2 ** 256 - 2 ** bits + 1)
+        yield minus(2 ** bits - 1, TOP, 2 ** bits)
+    yield "# how far apart: the shorter way round; case 8 stays: keys 4294967295 and 4294967296 differ by 1"
+    yield far(4294967295, 4294967296, 1)
+    yield far(4294967296, 4294967295, 1)
+    yield far(0, TOP, 1)
+    yield far(TOP, 0, 1)
+    yield far(1, TOP, 2)
+    for start in (0, 1, half, TOP):
+        for steps in (0, 1, half - 1, half, half + 1, TOP):
+            yield far(start, (start + steps) % 2 ** 256, min(steps, 2 ** 256 - steps))
+    yield "# above is from 1 to 2^255 steps up, so the key just opposite too; our own key is not above itself"
+    for own in (0, 1, 100, 2 ** 64, half - 1, half, half + 1, TOP):
+        for steps, want in ((0, False), (1, True), (half - 1, True), (half, True), (half + 1, False), (TOP, False)):
+            yield above(own, (own + steps) % 2 ** 256, want)
+    for own, k, want in ((100, 99, False), (100, 101, True), (0, TOP, False), (TOP, 0, True), (2 ** 64, 1, False), (1, 2 ** 64, True), (100, TOP, False), (TOP, 100, True)):
+        yield above(own, k, want)
+    yield from closeness()
+
+
+def closeness():
+    half = 2 ** 255
+
+    def both_ways(target, nearer, other):
+        yield ("closer", key(target), key(nearer), key(other)), "yes"
+        yield ("closer", key(target), key(other), key(nearer)), "no"
+
+    yield "# document 01, cases 6 and 7; 9 as document 02 has it, 0 before 5; a key is not closer than itself"
+    for target, nearer, other in ((100, 99, 101), (100, 99, 50), (0, 1, 9), (0, 9, 4294967296), (0, 1, 4294967296), (TOP, 0, 5)):
+        yield from both_ways(target, nearer, other)
+    for n in (0, 50, half, TOP):
+        yield ("closer", key(50), key(n), key(n)), "no"
+    yield "# equally far: the one reached by going down from the target, the larger number where that goes over the end"
+    for target, down, upward in ((0, TOP, 1), (TOP, TOP - 1, 0), (1, 0, 2), (1, TOP, 3), (TOP - 1, TOP - 2, TOP), (TOP - 1, TOP - 3, 0), (half, half - 1, half + 1),
+                                 (0, half + 1, half - 1), (1, half + 2, half), (half, 1, TOP), (TOP, half, half - 2), (half - 1, 0, TOP - 1),
+                                 (2 ** 64, 2 ** 64 - 1, 2 ** 64 + 1), (5, 2 ** 256 - 2 ** 128 + 5, 2 ** 128 + 5)):
+        assert (target - down) % 2 ** 256 == (upward - target) % 2 ** 256 < half
+        yield from both_ways(target, down, upward)
+    yield "# the key just opposite is farther than any other; one step less is nearer on either way, over the end too"
+    for target in (0, 1, half, TOP):
+        opposite = (target + half) % 2 ** 256
+        for steps in (0, 1, half - 1, half + 1, TOP):
+            yield from both_ways(target, (target + steps) % 2 ** 256, opposite)
+        yield from both_ways(target, (target - 3) % 2 ** 256, (target + 4) % 2 ** 256)
+        yield from both_ways(target, (target + 3) % 2 ** 256, (target - 4) % 2 ** 256)
 
 
 def text():

@@ -37,7 +37,7 @@ module _ (own cache : List ℕ) (used : ℕ) (target : Key) where
     unfolding closestFrom
     ends h = sym (B .left ∙ ap (closestFrom (number target) (recordAt own cache place)) (rows-end 100 used cache i h))
 
-    module _ (k d : Key) (more : i < used) (key-is : number k ≡ keyAt (100 * i) cache) (away-is : number d ≡ apart (number target) (number k)) where
+    module _ (k : Key) (more : i < used) (key-is : number k ≡ keyAt (100 * i) cache) where
       row : List ℕ
       row = part (100 * i) 100 cache
 
@@ -56,9 +56,10 @@ module _ (own cache : List ℕ) (used : ℕ) (target : Key) where
           B .left ∙ ap (closestFrom (number target) (recordAt own cache place)) (rows-next 100 used cache i more)
           ∙ ap (λ (t : Bool). closestFrom (number target) (cond t row (recordAt own cache place)) (drop (i + 1) (rows 100 used cache))) test
 
-      pub takes : true ≡ closer (number target) (number k) (number best) → Best own cache used target (Held i) k d (i + 1)
+      pub takes : (d : Key) → number d ≡ apart (number target) (number k) → true ≡ closer (number target) (number k) (number best)
+          → Best own cache used target (Held i) k d (i + 1)
       unfolding row
-      takes e = record { most = omega arith; within = more; key = sym row-key; away = away-is; left = turn true e }
+      takes d away-is e = record { most = omega arith; within = more; key = sym row-key; away = away-is; left = turn true e }
 
       pub leaves : false ≡ closer (number target) (number k) (number best) → Best own cache used target place best far (i + 1)
       leaves e = record { most = omega arith; within = B .within; key = B .key; away = B .away; left = turn false e }

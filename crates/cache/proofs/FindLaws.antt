@@ -1,23 +1,22 @@
--- What the place found for a key says of the records: where one joins, which one goes, whether the key is held, how many are below it.
+-- What the place found for a key says of the records: where one joins, which one goes, whether the key is held, how many are smaller.
 -- First of any rising keys, then of the records in a cache. Elsewhere: the search's loop, in SeekLaws. Assumes nothing.
 use mathlib.Core.Path.{_≡_, refl, sym, ap, _∙_, subst}
 use mathlib.Core.Logic.{_⊎_, inl, inr}
 use mathlib.Core.List.{List, [], _∷_}
+use mathlib.Core.Bool.{true, false}
 use Prim.Native.Nat.{ℕ, suc, _≤_, _<_}
 use native.Mathlib.Omega.{arith}
 use lib.ListN.{length, getD, set, length-map}
-use borrow.Author.Tests.{lt-ltb, le-ltb, eq-eqb, ne-eqb}
+use borrow.Author.Tests.{lt-ltb, le-ltb, eq-eqb, ne-eqb, le-leb, lt-leb}
 use Rattle.key.proofs.OrderLaws.{Stand, stand}
 use Rattle.key.proofs.OrderLaws.Stand.{below, equal, above}
-use Rattle.key.proofs.AroundLaws.{larger-above, smaller-not-above}
 use Rattle.record.specs.Record.{keyOf}
 use Rattle.table.specs.Rows.{rows, insertAt, removeAt}
 use Rattle.table.proofs.RowLaws.{rows-length}
-use Rattle.kept.specs.Keys.{_∈_, has, Every, Rising, plain, among}
-use Rattle.kept.specs.Plain.{NotOwn, countBelow}
+use Rattle.kept.specs.Keys.{_∈_, has, Rising, plain, among}
+use Rattle.kept.specs.Turned.{countUnder, countUpto}
 use Rattle.kept.specs.Records.{putBy, withoutBy}
 use Rattle.kept.proofs.ListLaws.{has-out, rising-at}
-use Rattle.kept.proofs.PlaceLaws.{count-cons}
 use Rattle.cache.specs.declared.place.Found.{Found}
 use Rattle.cache.specs.declared.place.Found.the-variants.{At, Before}
 use Rattle.cache.specs.Form.{keysOf}
@@ -40,6 +39,11 @@ Inside (Before i) n = i ≤ n
 abbrev pub placeOf : Found → ℕ
 placeOf (At i) = i
 placeOf (Before i) = i
+
+-- how many places there are up to k's own
+abbrev pub pastOf : Found → ℕ
+pastOf (At i) = suc i
+pastOf (Before i) = i
 
 put-further : (f : Found) (r x : List ℕ) (xs : List (List ℕ)) → putAt (further f) r (x ∷ xs) ≡ x ∷ putAt f r xs
 put-further (At i) r x xs = refl
@@ -159,23 +163,43 @@ found-has k low (j ∷ ks) r = go (stand j k) (found-has k (suc j) ks (r .1))
         rw (le-ltb j k (omega arith), ne-eqb j k (omega arith))
         (later (inr h) ∙ has-out k ks (λ m. absurd (omega (arith, rising-at plain (suc j) k ks (r .1) m))))
 
--- so many keys are below one that is not there
-none-below : (own low : ℕ) (ks : List ℕ) → own < low → Rising plain low ks → countBelow own ks ≡ 0
+-- so many keys are smaller
+none-under : (own low : ℕ) (ks : List ℕ) → own ≤ low → Rising plain low ks → countUnder own ks ≡ 0
 unfolding among
-none-below own low [] h r = refl
-none-below own low (j ∷ ks) h r =
-    count-cons own j ks ∙ rw (larger-above own j (omega (arith, r .0))) (none-below own (suc j) ks (omega (arith, r .0)) (r .1))
+none-under own low [] h r = refl
+none-under own low (j ∷ ks) h r = rw (le-ltb j own (omega (arith, r .0))) (none-under own (suc j) ks (omega (arith, r .0)) (r .1))
 
-pub place-below : (own low : ℕ) (ks : List ℕ) → Rising plain low ks → Every (NotOwn own) ks → placeOf (findKey own ks) ≡ countBelow own ks
+pub place-under : (own low : ℕ) (ks : List ℕ) → Rising plain low ks → placeOf (findKey own ks) ≡ countUnder own ks
 unfolding findKey among
-place-below own low [] r o = refl
-place-below own low (j ∷ ks) r o = go (stand j own) (place-below own (suc j) ks (r .1) (o .1))
+place-under own low [] r = refl
+place-under own low (j ∷ ks) r = go (stand j own) (place-under own (suc j) ks (r .1))
   where
-    go : Stand j own → placeOf (findKey own ks) ≡ countBelow own ks → placeOf (findKey own (j ∷ ks)) ≡ countBelow own (j ∷ ks)
-    go (below h) ih =
-        sym (count-cons own j ks ∙ rw (smaller-not-above own j (omega arith)) (rw (lt-ltb j own h) (ap suc (sym ih) ∙ sym (place-further (findKey own ks)))))
-    go (equal h) ih = absurd (o .0 h)
-    go (above h) ih = rw (le-ltb j own (omega arith), ne-eqb j own (omega arith)) (sym (none-below own j (j ∷ ks) h (omega arith, r .1)))
+    go : Stand j own → placeOf (findKey own ks) ≡ countUnder own ks → placeOf (findKey own (j ∷ ks)) ≡ countUnder own (j ∷ ks)
+    go (below h) ih = rw (lt-ltb j own h) (place-further (findKey own ks) ∙ ap suc ih)
+    go (equal h) ih = rw (le-ltb j own (omega arith), eq-eqb j own h) (sym (none-under own (suc j) ks (omega arith) (r .1)))
+    go (above h) ih = rw (le-ltb j own (omega arith), ne-eqb j own (omega arith)) (sym (none-under own (suc j) ks (omega arith) (r .1)))
+
+-- so many are at most k
+past-further : (f : Found) → pastOf (further f) ≡ suc (pastOf f)
+past-further (At i) = refl
+past-further (Before i) = refl
+
+none-upto : (k low : ℕ) (ks : List ℕ) → k < low → Rising plain low ks → countUpto k ks ≡ 0
+unfolding among
+none-upto k low [] h r = refl
+none-upto k low (j ∷ ks) h r = rw (lt-leb j k (omega (arith, r .0))) (none-upto k (suc j) ks (omega (arith, r .0)) (r .1))
+
+pub place-upto : (k low : ℕ) (ks : List ℕ) → Rising plain low ks → pastOf (findKey k ks) ≡ countUpto k ks
+unfolding findKey among
+place-upto k low [] r = refl
+place-upto k low (j ∷ ks) r = go (stand j k) (place-upto k (suc j) ks (r .1))
+  where
+    go : Stand j k → pastOf (findKey k ks) ≡ countUpto k ks → pastOf (findKey k (j ∷ ks)) ≡ countUpto k (j ∷ ks)
+    go (below h) ih = rw (lt-ltb j k h, le-leb j k (omega arith)) (past-further (findKey k ks) ∙ ap suc ih)
+    go (equal h) ih =
+        rw (le-ltb j k (omega arith), eq-eqb j k h, le-leb j k (omega arith)) (ap suc (sym (none-upto k (suc j) ks (omega arith) (r .1))))
+    go (above h) ih =
+        rw (le-ltb j k (omega arith), ne-eqb j k (omega arith), lt-leb j k h) (sym (none-upto k (suc j) ks (omega arith) (r .1)))
 
 -- ---- of the records in a cache
 
@@ -195,9 +219,11 @@ module _ (k used : ℕ) (s : List ℕ) {f g : Found} (e : f ≡ findKey k (keysO
   pub found-removes : Rising plain 0 (keysOf (rows 100 used s)) → takenOut g (rows 100 used s) ≡ withoutBy keyOf k (rows 100 used s)
   found-removes rises = ap (λ (h : Found). takenOut h (rows 100 used s)) (sym t ∙ e) ∙ sym (remove-found k 0 (rows 100 used s) rises)
 
-  pub found-below : Rising plain 0 (keysOf (rows 100 used s)) → Every (NotOwn k) (keysOf (rows 100 used s))
-      → placeOf g ≡ countBelow k (keysOf (rows 100 used s))
-  found-below rises others = ap placeOf (sym t ∙ e) ∙ place-below k 0 (keysOf (rows 100 used s)) rises others
+  pub found-under : Rising plain 0 (keysOf (rows 100 used s)) → placeOf g ≡ countUnder k (keysOf (rows 100 used s))
+  found-under rises = ap placeOf (sym t ∙ e) ∙ place-under k 0 (keysOf (rows 100 used s)) rises
+
+  pub found-upto : Rising plain 0 (keysOf (rows 100 used s)) → pastOf g ≡ countUpto k (keysOf (rows 100 used s))
+  found-upto rises = ap pastOf (sym t ∙ e) ∙ place-upto k 0 (keysOf (rows 100 used s)) rises
 
 pub found-puts : (r : List ℕ) (used : ℕ) (s : List ℕ) {f g : Found} → f ≡ findKey (keyOf r) (keysOf (rows 100 used s)) → f ≡ g
     → putAt g r (rows 100 used s) ≡ putBy keyOf r (rows 100 used s)

@@ -1,28 +1,38 @@
--- Learning and removing on the list of records, as code meets them: a row inserted, and one at an end taken out.
--- In this order: a place taken out; inserting and taking out, in either order; a row exchanged on the bytes; a key that is not held, learned. Assumes nothing.
+-- Learning and removing on the list of records, as code meets them: a row inserted, and one taken out.
+-- In this order: a place taken out; inserting and taking out, in either order; the place that goes; a row exchanged on the bytes; a key not held is learned.
+-- Assumes nothing.
 use mathlib.Core.Path.{_≡_, refl, sym, ap, ap₂, _∙_, subst}
-use mathlib.Core.Bool.{Bool, true, false, cond}
-use mathlib.Core.List.{List, [], _∷_}
+use mathlib.Core.Bool.{Bool, true, false, not, cond}
+use lib.Dec.{ltb}
+use mathlib.Core.List.{List, [], _∷_, _++_, append-assoc, append-nil}
 use Prim.Native.Nat.{ℕ, zero, suc, _+_, _-_, _*_, _≤_, _<_, zero-le}
 use native.Mathlib.Omega.{arith}
-use lib.ListN.{length, take, drop, getD, length-append, length-take, length-drop, length-map}
+use lib.ListN.{length, take, drop, getD, replicate, length-append, length-take, length-drop, length-map}
+use lib.Seq.{take-all, length-take-le}
 use borrow.Author.Tests.{lt-ltb, le-ltb, ltb-true, ltb-false}
-use Rattle.key.specs.Around.{isAbove}
+use Rattle.key.specs.Around.{ring, isAbove, sideOf, below, above}
+use Rattle.octet.specs.Number.{Bytes}
 use Rattle.record.specs.Record.{keyOf}
-use Rattle.table.specs.Rows.{rows, bytesOf, Sized, Laid, insertAt, removeAt}
-use Rattle.table.proofs.RowLaws.{rows-length, rows-sized, sized-append, sized-take, sized-drop, bytes-length, bytes-rows, bytes-laid}
-use Rattle.kept.specs.Keys.{Every, Rising, plain, put}
+use Rattle.octet.specs.Part.{part, splice}
+use Rattle.octet.proofs.PartLaws.{length-part, splice-next, splice-under}
+use Rattle.table.specs.Rows.{rows, joined, bytesOf, insertAt, removeAt}
+use Rattle.table.proofs.RowLaws.{rows-length, rows-take, rows-drop, rows-joined, joined-append}
+use Rattle.kept.specs.Keys.{Every, Rising, plain, put, among}
+use Rattle.kept.specs.Neighbours.{is}
+use Rattle.kept.specs.Turned.{countUnder, wrapped}
+use Rattle.kept.proofs.HistoryLaws.{on}
 use Rattle.kept.specs.Plain.{NotOwn, drops, countBelow}
 use Rattle.kept.specs.Records.{putBy, withoutBy, learnBy}
 use Rattle.kept.proofs.ListLaws.{rising-put, every-put}
 use Rattle.kept.proofs.RecordLaws.{keys-put}
-use Rattle.kept.proofs.PlainLaws.{drops-last, drops-first}
-use Rattle.kept.proofs.PlaceLaws.{count-cons}
+use Rattle.kept.proofs.TurnLaws.{drops-above, drops-below, count-le, under-le}
+use Rattle.kept.proofs.PlaceLaws.{turned-at, wrapped-lt}
 use Rattle.cache.specs.declared.place.Found.the-variants.{Before}
 use Rattle.cache.specs.Form.{keysOf, placesIn, Form}
-use Rattle.cache.specs.Place.{findKey, moreBelow}
+use Rattle.cache.specs.Place.{findKey, farthestAt, Goes}
 use Rattle.cache.specs.Bytes.{afterLearn}
 use Rattle.cache.proofs.FormLaws.{form-laid}
+use Rattle.cache.proofs.ListLaws.{keys-small}
 use Rattle.cache.proofs.FindLaws.{found-puts, found-place, without-low, without-this, without-skip}
 
 -- ---- a place taken out by its key
@@ -47,86 +57,217 @@ pub insert-length : (i : ℕ) (r : List ℕ) (recs : List (List ℕ)) → length
 insert-length i r recs =
     length-append (take i recs) (r ∷ drop i recs) ∙ simp (length-take, length-drop) (omega arith)
 
-first-out : (i : ℕ) (r : List ℕ) (recs : List (List ℕ)) → ¬ (i ≡ 0) → 0 < length recs → removeAt 0 (insertAt i r recs) ≡ insertAt (i - 1) r (removeAt 0 recs)
-first-out zero r recs d h = absurd (d refl)
-first-out (suc i) r [] d h = absurd (omega arith)
-first-out (suc i) r (x ∷ xs) d h = let e : i ≡ suc i - 1 = omega arith in ap (λ (j : ℕ). insertAt j r xs) e
+-- before it, itself, after it
+pub out-before : (i g : ℕ) (r : List ℕ) (recs : List (List ℕ)) → g < i → i ≤ length recs
+    → removeAt g (insertAt i r recs) ≡ insertAt (i - 1) r (removeAt g recs)
+out-before zero g r recs h l = absurd (omega arith)
+out-before (suc i) g r [] h l = absurd (omega arith)
+out-before (suc i) zero r (x ∷ xs) h l = let e : i ≡ suc i - 1 = omega arith in ap (λ (j : ℕ). insertAt j r xs) e
+out-before (suc zero) (suc g) r (x ∷ xs) h l = absurd (omega arith)
+out-before (suc (suc i)) (suc g) r (x ∷ xs) h l =
+    let e : suc (suc i - 1) ≡ suc (suc i) - 1 = omega arith in
+    ap (λ (t : List (List ℕ)). x ∷ t) (out-before (suc i) g r xs (omega arith) (omega arith))
+    ∙ ap (λ (j : ℕ). insertAt j r (x ∷ removeAt g xs)) e
 
-last-out : (i : ℕ) (r : List ℕ) (recs : List (List ℕ)) → i < length recs
-    → removeAt (length recs) (insertAt i r recs) ≡ insertAt i r (removeAt (length recs - 1) recs)
-last-out i r [] h = absurd (omega arith)
-last-out zero r (x ∷ xs) h =
-    let e : length xs ≡ suc (length xs) - 1 = omega arith in
-    ap (λ (j : ℕ). r ∷ removeAt j (x ∷ xs)) e
-last-out (suc i) r (x ∷ xs) h =
-    let e : suc (length xs - 1) ≡ suc (length xs) - 1 = omega arith in
-    ap (λ (l : List (List ℕ)). x ∷ l) (last-out i r xs (omega arith))
+pub out-again : (i : ℕ) (r : List ℕ) (recs : List (List ℕ)) → i ≤ length recs → removeAt i (insertAt i r recs) ≡ recs
+out-again zero r recs h = refl
+out-again (suc i) r [] h = absurd (omega arith)
+out-again (suc i) r (x ∷ xs) h = ap (λ (t : List (List ℕ)). x ∷ t) (out-again i r xs (omega arith))
+
+pub out-after : (i g : ℕ) (r : List ℕ) (recs : List (List ℕ)) → i < g → g ≤ length recs
+    → removeAt g (insertAt i r recs) ≡ insertAt i r (removeAt (g - 1) recs)
+out-after i zero r recs h l = absurd (omega arith)
+out-after i (suc g) r [] h l = absurd (omega arith)
+out-after zero (suc g) r (x ∷ xs) h l = let e : g ≡ suc g - 1 = omega arith in ap (λ (j : ℕ). r ∷ removeAt j (x ∷ xs)) e
+out-after (suc i) (suc zero) r (x ∷ xs) h l = absurd (omega arith)
+out-after (suc i) (suc (suc g)) r (x ∷ xs) h l =
+    let e : suc (suc g - 1) ≡ suc (suc g) - 1 = omega arith in
+    ap (λ (t : List (List ℕ)). x ∷ t) (out-after i (suc g) r xs (omega arith) (omega arith))
     ∙ ap (λ (j : ℕ). insertAt (suc i) r (removeAt j (x ∷ xs))) e
 
-last-again : (r : List ℕ) (recs : List (List ℕ)) → removeAt (length recs) (insertAt (length recs) r recs) ≡ recs
-last-again r [] = refl
-last-again r (x ∷ xs) = ap (λ (l : List (List ℕ)). x ∷ l) (last-again r xs)
-
--- how many are below our own key, with one more
-count-insert : (own i : ℕ) (r : List ℕ) (recs : List (List ℕ))
-    → countBelow own (keysOf (insertAt i r recs)) ≡ cond (isAbove own (keyOf r)) (countBelow own (keysOf recs)) (suc (countBelow own (keysOf recs)))
-count-insert own zero r recs = count-cons own (keyOf r) (keysOf recs)
-count-insert own (suc i) r [] = count-cons own (keyOf r) []
-count-insert own (suc i) r (x ∷ xs) =
-    count-cons own (keyOf x) (keysOf (insertAt i r xs))
-    ∙ go (isAbove own (keyOf x)) (isAbove own (keyOf r)) (countBelow own (keysOf xs)) (count-insert own i r xs)
-    ∙ ap (λ (n : ℕ). cond (isAbove own (keyOf r)) n (suc n)) (sym (count-cons own (keyOf x) (keysOf xs)))
+-- how many pass a test, with one more
+many-insert : (p : ℕ → Bool) (i : ℕ) (r : List ℕ) (recs : List (List ℕ))
+    → length (among p (keysOf (insertAt i r recs))) ≡ cond (p (keyOf r)) (suc (length (among p (keysOf recs)))) (length (among p (keysOf recs)))
+unfolding among
+many-insert p zero r recs = ends (p (keyOf r))
   where
-    go : (a b : Bool) (n : ℕ) {m : ℕ} → m ≡ cond b n (suc n) → cond a m (suc m) ≡ cond b (cond a n (suc n)) (suc (cond a n (suc n)))
-    go true true n e = e
-    go true false n e = e
-    go false true n e = ap suc e
-    go false false n e = ap suc e
+    ends : (b : Bool) → length (cond b (keyOf r ∷ among p (keysOf recs)) (among p (keysOf recs)))
+        ≡ cond b (suc (length (among p (keysOf recs)))) (length (among p (keysOf recs)))
+    ends true = refl
+    ends false = refl
+many-insert p (suc i) r [] = ends (p (keyOf r))
+  where
+    ends : (b : Bool) → length (cond b (keyOf r ∷ []) []) ≡ cond b 1 0
+    ends true = refl
+    ends false = refl
+many-insert p (suc i) r (x ∷ xs) = go (p (keyOf x)) (p (keyOf r)) (many-insert p i r xs)
+  where
+    go : (a b : Bool) → length (among p (keysOf (insertAt i r xs))) ≡ cond b (suc (length (among p (keysOf xs)))) (length (among p (keysOf xs)))
+        → length (cond a (keyOf x ∷ among p (keysOf (insertAt i r xs))) (among p (keysOf (insertAt i r xs))))
+        ≡ cond b (suc (length (cond a (keyOf x ∷ among p (keysOf xs)) (among p (keysOf xs)))))
+        (length (cond a (keyOf x ∷ among p (keysOf xs)) (among p (keysOf xs))))
+    go true true e = ap suc e
+    go true false e = ap suc e
+    go false true e = e
+    go false false e = e
 
-pub count-above : (own i : ℕ) (r : List ℕ) (recs : List (List ℕ)) → isAbove own (keyOf r) ≡ true
-    → countBelow own (keysOf (insertAt i r recs)) ≡ countBelow own (keysOf recs)
-count-above own i r recs e = count-insert own i r recs ∙ rw e refl
+pub under-insert : (own i : ℕ) (r : List ℕ) (recs : List (List ℕ))
+    → countUnder own (keysOf (insertAt i r recs)) ≡ cond (ltb (keyOf r) own) (suc (countUnder own (keysOf recs))) (countUnder own (keysOf recs))
+under-insert own i r recs = many-insert (λ (k : ℕ). ltb k own) i r recs
 
-pub count-under : (own i : ℕ) (r : List ℕ) (recs : List (List ℕ)) → isAbove own (keyOf r) ≡ false
-    → countBelow own (keysOf (insertAt i r recs)) ≡ suc (countBelow own (keysOf recs))
-count-under own i r recs e = count-insert own i r recs ∙ rw e refl
+pub below-insert : (own i : ℕ) (r : List ℕ) (recs : List (List ℕ))
+    → countBelow own (keysOf (insertAt i r recs)) ≡ cond (not (isAbove own (keyOf r))) (suc (countBelow own (keysOf recs))) (countBelow own (keysOf recs))
+below-insert own i r recs =
+    many-insert (on (sideOf own) below) i r recs
+    ∙ ap (λ (b : Bool). cond b (suc (countBelow own (keysOf recs))) (countBelow own (keysOf recs))) (go (isAbove own (keyOf r)))
+  where
+    go : (b : Bool) → is below (cond b above below) ≡ not b
+    go true = refl
+    go false = refl
 
--- ---- one row taken out on the bytes leaves the others, laid out as before
+-- ---- the place that goes, of any keys in order
 
-module _ (used : ℕ) (s : List ℕ) (laid : Laid 100 used s) (j : ℕ) (h : j < used) where
-  left : List (List ℕ)
-  left = removeAt j (rows 100 used s)
+pub farthest-goes : (own : ℕ) (keys : List ℕ) → own < ring → Rising plain 0 keys → Every (NotOwn own) keys → Every (λ (k : ℕ). k < ring) keys
+    → 0 < length keys → Goes own keys (farthestAt (length keys) (countUnder own keys) (countBelow own keys))
+unfolding farthestAt
+farthest-goes own keys o rises others small some = go (ltb (length keys) (countBelow own keys + countBelow own keys)) refl
+  where
+    go : (b : Bool) → ltb (length keys) (countBelow own keys + countBelow own keys) ≡ b
+        → Goes own keys (wrapped (length keys) (cond b (countUnder own keys + (length keys - countBelow own keys))
+        ((countUnder own keys + (length keys - countBelow own keys)) - 1)))
+    go true e =
+        let h = ltb-true (length keys) (countBelow own keys + countBelow own keys) e in
+        let i : ℕ = length keys - countBelow own keys in
+        let l : i < length keys = omega (arith, count-le own keys) in
+        record {
+          inside = wrapped-lt (length keys) (countUnder own keys + i) (omega (arith, under-le own keys)) some;
+          named = drops-below own o keys rises others small h ∙ turned-at (countUnder own keys) keys i (under-le own keys) l;
+        }
+    go false e =
+        let h = ltb-false (length keys) (countBelow own keys + countBelow own keys) e in
+        let i : ℕ = (length keys - countBelow own keys) - 1 in
+        let l : i < length keys = omega (arith, count-le own keys) in
+        let j : countUnder own keys + i ≡ (countUnder own keys + (length keys - countBelow own keys)) - 1 = omega arith in
+        record {
+          inside = wrapped-lt (length keys) ((countUnder own keys + (length keys - countBelow own keys)) - 1) (omega (arith, under-le own keys)) some;
+          named = drops-above own o keys rises others small some h ∙ turned-at (countUnder own keys) keys i (under-le own keys) l
+              ∙ ap (λ (m : ℕ). getD keys (wrapped (length keys) m) 0) j;
+        }
 
-  left-length : length left ≡ used - 1
-  unfolding left
-  left-length =
-      length-append (take j (rows 100 used s)) (drop (suc j) (rows 100 used s))
-      ∙ simp (length-take, length-drop) (omega (arith, rows-length 100 used s))
+-- ---- one row goes and another comes: the rows between the two places move by one, and no other does
 
-  left-sized : Sized 100 left
-  unfolding left
-  left-sized =
-      let z = rows-sized 100 used s (laid .room) in
-      sized-append 100 (take j (rows 100 used s)) (drop (suc j) (rows 100 used s)) (sized-take 100 j (rows 100 used s) z)
-      (sized-drop 100 (suc j) (rows 100 used s) z)
+-- those between, where the place that it comes to is behind the one that goes, and where it is before it
+rows-up : (g a : ℕ) (r : List ℕ) (rs : List (List ℕ)) → g ≤ a → a < length rs
+    → insertAt a r (removeAt g rs) ≡ take g rs ++ (take (a - g) (drop (suc g) rs) ++ (r ∷ drop (suc a) rs))
+rows-up g a r [] h l = absurd (omega arith)
+rows-up zero a r (x ∷ xs) h l = let e : a ≡ a - 0 = omega arith in ap (λ (n : ℕ). take n xs ++ (r ∷ drop a xs)) e
+rows-up (suc g) zero r (x ∷ xs) h l = absurd (omega arith)
+rows-up (suc g) (suc a) r (x ∷ xs) h l =
+    let e : a - g ≡ suc a - suc g = omega arith in
+    ap (λ (t : List (List ℕ)). x ∷ t) (rows-up g a r xs (omega arith) (omega arith)
+    ∙ ap (λ (n : ℕ). take g xs ++ (take n (drop (suc g) xs) ++ (r ∷ drop (suc a) xs))) e)
 
-  left-fits : 100 * length left ≤ length s
-  left-fits = omega (arith, left-length, laid .room)
+rows-down : (g a : ℕ) (r : List ℕ) (rs : List (List ℕ)) → a ≤ g → g < length rs
+    → insertAt a r (removeAt g rs) ≡ take a rs ++ (r ∷ (take (g - a) (drop a rs) ++ drop (suc g) rs))
+rows-down g zero r rs h l = let e : g ≡ g - 0 = omega arith in ap (λ (n : ℕ). r ∷ (take n rs ++ drop (suc g) rs)) e
+rows-down g (suc a) r [] h l = absurd (omega arith)
+rows-down zero (suc a) r (x ∷ xs) h l = absurd (omega arith)
+rows-down (suc g) (suc a) r (x ∷ xs) h l =
+    let e : g - a ≡ suc g - suc a = omega arith in
+    ap (λ (t : List (List ℕ)). x ∷ t) (rows-down g a r xs (omega arith) (omega arith)
+    ∙ ap (λ (n : ℕ). take a xs ++ (r ∷ (take n (drop a xs) ++ drop (suc g) xs))) e)
 
-  module _ (t : List ℕ) (e : t ≡ bytesOf (length s) (removeAt j (rows 100 used s))) where
-    pub left-same : length t ≡ length s
-    unfolding left
-    left-same = ap length e ∙ bytes-length 100 (length s) left left-sized left-fits
+joined-cons : (r : List ℕ) (rs : List (List ℕ)) → joined (r ∷ rs) ≡ r ++ joined rs
+unfolding joined
+joined-cons r rs = refl
 
-    pub left-rows : rows 100 (used - 1) t ≡ removeAt j (rows 100 used s)
-    unfolding left
-    left-rows = ap₂ (rows 100) (sym left-length) e ∙ bytes-rows 100 (length s) left left-sized left-fits
+two-parts : (at n : ℕ) (xs ys s : List ℕ) → at + (length xs + length ys) ≡ n → splice at (xs ++ ys) s ≡ take at s ++ (xs ++ (ys ++ drop n s))
+unfolding splice
+two-parts at n xs ys s e =
+    let k : at + length (xs ++ ys) ≡ n = omega (arith, length-append xs ys) in
+    let d : List ℕ = drop (at + length (xs ++ ys)) s in
+    append-assoc (take at s) (xs ++ ys) d
+    ∙ ap (λ (t : List ℕ). take at s ++ t) (append-assoc xs ys d ∙ ap (λ (m : ℕ). xs ++ (ys ++ drop m s)) k)
 
-    pub left-laid : Laid 100 (used - 1) t
-    unfolding left
-    left-laid =
-        subst (λ (n : ℕ). Laid 100 n t) left-length
-        (subst (λ (l : List ℕ). Laid 100 (length left) l) (sym e) (bytes-laid 100 (length s) left left-sized left-fits))
+module _ (used : ℕ) (s r : List ℕ) (full : length s ≡ 100 * used) (size : length r ≡ 100) where
+  -- the bytes of a run of rows, and of all from a place on
+  run-bytes : (i n : ℕ) → i + n ≤ used → joined (take n (drop i (rows 100 used s))) ≡ part (100 * i) (100 * n) s
+  run-bytes i n h =
+      ap (λ (l : List (List ℕ)). joined (take n l)) (rows-drop 100 i used s (omega arith))
+      ∙ ap joined (rows-take 100 n (used - i) (drop (100 * i) s) (omega arith)) ∙ rows-joined 100 n (drop (100 * i) s)
+
+  first-bytes : (n : ℕ) → n ≤ used → joined (take n (rows 100 used s)) ≡ take (100 * n) s
+  first-bytes n h = ap joined (rows-take 100 n used s h) ∙ rows-joined 100 n s
+
+  last-bytes : (i : ℕ) → i ≤ used → joined (drop i (rows 100 used s)) ≡ drop (100 * i) s
+  last-bytes i h =
+      ap joined (rows-drop 100 i used s h) ∙ rows-joined 100 (used - i) (drop (100 * i) s)
+      ∙ take-all (100 * (used - i)) (drop (100 * i) s) (omega (arith, length-drop (100 * i) s))
+
+  -- as many rows as there were fill the bytes
+  filled : (l : List (List ℕ)) → length (joined l) ≡ length s → bytesOf (length s) l ≡ joined l
+  unfolding bytesOf
+  filled l e =
+      let z : length s - length (joined l) ≡ 0 = omega arith in
+      ap (λ (n : ℕ). joined l ++ replicate {A = ℕ} n 0) z ∙ append-nil (joined l)
+
+  module _ (g a : ℕ) where
+    pub exchanged-up : g ≤ a → a < used
+        → splice (100 * a) r (splice (100 * g) (part (100 * g + 100) (100 * (a - g)) s) s) ≡ bytesOf (length s) (insertAt a r (removeAt g (rows 100 used s)))
+    exchanged-up h l =
+        let i : 100 * a ≡ 100 * g + 100 * (a - g) = omega arith in
+        let m : 100 * g + 100 ≡ 100 * suc g = omega arith in
+        let p : List ℕ = part (100 * suc g) (100 * (a - g)) s in
+        let d : List ℕ = drop (100 * suc a) s in
+        let n : length p ≡ 100 * (a - g) = length-part (100 * suc g) (100 * (a - g)) s (omega arith) in
+        let b : joined (insertAt a r (removeAt g (rows 100 used s))) ≡ take (100 * g) s ++ (p ++ (r ++ d)) =
+        ap joined (rows-up g a r (rows 100 used s) h (omega (arith, rows-length 100 used s)))
+        ∙ joined-append (take g (rows 100 used s)) (take (a - g) (drop (suc g) (rows 100 used s)) ++ (r ∷ drop (suc a) (rows 100 used s)))
+        ∙ ap₂ _++_ (first-bytes g (omega arith))
+        (joined-append (take (a - g) (drop (suc g) (rows 100 used s))) (r ∷ drop (suc a) (rows 100 used s))
+        ∙ ap₂ _++_ (run-bytes (suc g) (a - g) (omega arith))
+        (joined-cons r (drop (suc a) (rows 100 used s)) ∙ ap (λ (t : List ℕ). r ++ t) (last-bytes (suc a) (omega arith)))) in
+        let z : length (take (100 * g) s ++ (p ++ (r ++ d))) ≡ length s =
+        omega (
+          arith,
+          length-append (take (100 * g) s) (p ++ (r ++ d)),
+          length-append p (r ++ d),
+          length-append r d,
+          length-take-le (100 * g) s (omega arith),
+          n,
+          length-drop (100 * suc a) s,
+        ) in
+        ap₂ (λ (k j : ℕ). splice k r (splice (100 * g) (part j (100 * (a - g)) s) s)) i m
+        ∙ splice-next (100 * g) (100 * (a - g)) p r s n (omega arith)
+        ∙ two-parts (100 * g) (100 * suc a) p r s (omega arith)
+        ∙ sym (filled (insertAt a r (removeAt g (rows 100 used s))) (ap length b ∙ z) ∙ b)
+
+    pub exchanged-down : a ≤ g → g < used
+        → splice (100 * a) r (splice (100 * a + 100) (part (100 * a) (100 * (g - a)) s) s) ≡ bytesOf (length s) (insertAt a r (removeAt g (rows 100 used s)))
+    exchanged-down h l =
+        let p : List ℕ = part (100 * a) (100 * (g - a)) s in
+        let d : List ℕ = drop (100 * suc g) s in
+        let n : length p ≡ 100 * (g - a) = length-part (100 * a) (100 * (g - a)) s (omega arith) in
+        let b : joined (insertAt a r (removeAt g (rows 100 used s))) ≡ take (100 * a) s ++ (r ++ (p ++ d)) =
+        ap joined (rows-down g a r (rows 100 used s) h (omega (arith, rows-length 100 used s)))
+        ∙ joined-append (take a (rows 100 used s)) (r ∷ (take (g - a) (drop a (rows 100 used s)) ++ drop (suc g) (rows 100 used s)))
+        ∙ ap₂ _++_ (first-bytes a (omega arith))
+        (joined-cons r (take (g - a) (drop a (rows 100 used s)) ++ drop (suc g) (rows 100 used s))
+        ∙ ap (λ (t : List ℕ). r ++ t) (joined-append (take (g - a) (drop a (rows 100 used s))) (drop (suc g) (rows 100 used s))
+        ∙ ap₂ _++_ (run-bytes a (g - a) (omega arith)) (last-bytes (suc g) (omega arith)))) in
+        let z : length (take (100 * a) s ++ (r ++ (p ++ d))) ≡ length s =
+        omega (
+          arith,
+          length-append (take (100 * a) s) (r ++ (p ++ d)),
+          length-append r (p ++ d),
+          length-append p d,
+          length-take-le (100 * a) s (omega arith),
+          n,
+          length-drop (100 * suc g) s,
+        ) in
+        splice-under (100 * a) 100 r p s size (omega arith)
+        ∙ two-parts (100 * a) (100 * suc g) r p s (omega arith)
+        ∙ sym (filled (insertAt a r (removeAt g (rows 100 used s))) (ap length b ∙ z) ∙ b)
 
 -- ---- a record whose key is not held is learned
 
@@ -155,7 +296,7 @@ module _ (own used at : ℕ) (s r : List ℕ) (f : Form own s (rows 100 used s))
   unfolding learnBy recs more
   new-room h = sym (rw (put-is, le-ltb (placesIn (length s)) (length more) (omega (arith, more-length, f .places .whole))) refl)
 
-  module _ (full : length s ≤ 100 * used) (other : NotOwn own (keyOf r)) where
+  module _ (other : NotOwn own (keyOf r)) where
     rises : Rising plain 0 (keysOf more)
     unfolding recs
     rises = rw keys-are (rising-put plain 0 (keyOf r) (keysOf recs) zero-le (f .held .rising))
@@ -168,54 +309,45 @@ module _ (own used at : ℕ) (s r : List ℕ) (f : Form own s (rows 100 used s))
     unfolding more recs
     size = length-map (insertAt at r (rows 100 used s)) keyOf ∙ more-length
 
-    over : afterLearn own (length s) (rows 100 used s) r ≡ withoutBy keyOf (drops own (keysOf more)) more
-    unfolding learnBy recs more
-    over = rw (put-is, lt-ltb (placesIn (length s)) (length more) (omega (arith, more-length, f .places .whole))) refl
+    some : 0 < length (keysOf more)
+    some = omega (arith, size)
 
-    -- more are below: the first goes
-    goes-first : moreBelow own (keysOf (insertAt at r (rows 100 used s))) ≡ true
-        → afterLearn own (length s) (rows 100 used s) r ≡ removeAt 0 (insertAt at r (rows 100 used s))
-    unfolding moreBelow more recs
-    goes-first e =
-        over
-        ∙ ap (λ (k : ℕ). withoutBy keyOf k more) (drops-first own (keysOf more) rises others (ltb-true _ _ e))
-        ∙ remove-place 0 more 0 rises (omega (arith, more-length))
+    pub place-goes : own < ring → Bytes s → keyOf r < ring
+        → Goes own (keysOf (insertAt at r (rows 100 used s))) (farthestAt (length (keysOf (insertAt at r (rows 100 used s))))
+        (countUnder own (keysOf (insertAt at r (rows 100 used s)))) (countBelow own (keysOf (insertAt at r (rows 100 used s)))))
+    unfolding more recs
+    place-goes o b k =
+        farthest-goes own (keysOf more) o rises others
+        (subst (Every (λ (j : ℕ). j < ring)) (sym keys-are)
+        (every-put plain (λ (j : ℕ). j < ring) (keyOf r) (keysOf recs) k (keys-small used s b (form-laid own used s f .room)))) some
 
-    -- else the last
-    goes-last : moreBelow own (keysOf (insertAt at r (rows 100 used s))) ≡ false
-        → afterLearn own (length s) (rows 100 used s) r ≡ removeAt used (insertAt at r (rows 100 used s))
-    unfolding moreBelow more recs
-    goes-last e =
-        let n : length (keysOf more) - 1 ≡ used = omega (arith, size) in
-        over
-        ∙ ap (λ (k : ℕ). withoutBy keyOf k more)
-        (drops-last own (keysOf more) rises others (omega (arith, size)) (ltb-false _ _ e) ∙ ap (λ (j : ℕ). getD (keysOf more) j 0) n)
-        ∙ remove-place 0 more used rises (omega (arith, more-length))
+    module _ (full : length s ≤ 100 * used) (g : ℕ) (goes : Goes own (keysOf (insertAt at r (rows 100 used s))) g) where
+      over : afterLearn own (length s) (rows 100 used s) r ≡ withoutBy keyOf (drops own (keysOf more)) more
+      unfolding learnBy recs more
+      over = rw (put-is, lt-ltb (placesIn (length s)) (length more) (omega (arith, more-length, f .places .whole))) refl
 
-    some : 0 < length (rows 100 used s)
-    some = omega (arith, rows-length 100 used s, f .places .least)
+      pub goes-most : g ≤ used
+      unfolding more recs
+      goes-most = omega (arith, goes .inside, size)
 
-    pub new-first : moreBelow own (keysOf (insertAt at r (rows 100 used s))) ≡ true → ¬ (at ≡ 0)
-        → insertAt (at - 1) r (removeAt 0 (rows 100 used s)) ≡ afterLearn own (length s) (rows 100 used s) r
-    new-first e d = sym (goes-first e ∙ first-out at r (rows 100 used s) d some)
+      gone : afterLearn own (length s) (rows 100 used s) r ≡ removeAt g (insertAt at r (rows 100 used s))
+      unfolding more recs
+      gone = over ∙ ap (λ (k : ℕ). withoutBy keyOf k more) (goes .named) ∙ remove-place 0 more g rises (omega (arith, more-length, goes-most))
 
-    pub new-last : moreBelow own (keysOf (insertAt at r (rows 100 used s))) ≡ false → at < used
-        → insertAt at r (removeAt (used - 1) (rows 100 used s)) ≡ afterLearn own (length s) (rows 100 used s) r
-    new-last e h =
-        let n : length (rows 100 used s) ≡ used = rows-length 100 used s in
-        sym (goes-last e ∙ ap (λ (j : ℕ). removeAt j (insertAt at r (rows 100 used s))) (sym n) ∙ last-out at r (rows 100 used s) (omega arith)
-        ∙ ap (λ (j : ℕ). insertAt at r (removeAt (j - 1) (rows 100 used s))) n)
+      held-many : length (rows 100 used s) ≡ used
+      held-many = rows-length 100 used s
 
-    -- the newcomer is at the end that goes: all stays
-    pub stays-first : moreBelow own (keysOf (insertAt at r (rows 100 used s))) ≡ true → at ≡ 0 → rows 100 used s ≡ afterLearn own (length s) (rows 100 used s) r
-    stays-first e d = sym (goes-first e ∙ ap (λ (j : ℕ). removeAt 0 (insertAt j r (rows 100 used s))) d)
+      pub new-before : g < at → insertAt (at - 1) r (removeAt g (rows 100 used s)) ≡ afterLearn own (length s) (rows 100 used s) r
+      new-before h = sym (gone ∙ out-before at g r (rows 100 used s) h (omega (arith, held-many, place-most)))
 
-    pub stays-last : moreBelow own (keysOf (insertAt at r (rows 100 used s))) ≡ false → used ≤ at
-        → rows 100 used s ≡ afterLearn own (length s) (rows 100 used s) r
-    stays-last e h =
-        let n : used ≡ length (rows 100 used s) = sym (rows-length 100 used s) in
-        let m : at ≡ length (rows 100 used s) = omega (arith, place-most) in
-        sym (goes-last e ∙ ap₂ (λ (i j : ℕ). removeAt i (insertAt j r (rows 100 used s))) n m ∙ last-again r (rows 100 used s))
+      pub new-after : at < g → insertAt at r (removeAt (g - 1) (rows 100 used s)) ≡ afterLearn own (length s) (rows 100 used s) r
+      new-after h = sym (gone ∙ out-after at g r (rows 100 used s) h (omega (arith, held-many, goes-most)))
+
+      -- the newcomer goes: all stays
+      pub new-goes : at ≡ g → rows 100 used s ≡ afterLearn own (length s) (rows 100 used s) r
+      new-goes e =
+          sym (gone ∙ ap (λ (j : ℕ). removeAt j (insertAt at r (rows 100 used s))) (sym e)
+          ∙ out-again at r (rows 100 used s) (omega (arith, held-many, place-most)))
 
 -- a held key has its record replaced
 pub held-room : (own used : ℕ) (s r : List ℕ) → Form own s (rows 100 used s) → length (putBy keyOf r (rows 100 used s)) ≤ used

@@ -5,6 +5,7 @@ pub mod FindLaws
 pub mod LearnLaws
 pub mod KeepLaws
 pub mod ListLaws
+pub mod SideLaws
 pub mod ClosestLaws
 pub mod BestLaws
 pub mod LentLaws

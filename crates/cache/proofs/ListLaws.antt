@@ -1,6 +1,6 @@
 -- Laws of the neighbour list's bytes: keys of 32 bytes each, written one after the other, and read from the places of a cache.
 -- In this order: the bytes of keys; a turn of a loop that writes them; the keys of the places; the two lists as they are written. Assumes nothing.
-use mathlib.Core.Path.{_≡_, refl, sym, ap, ap₂, _∙_}
+use mathlib.Core.Path.{_≡_, refl, sym, ap, ap₂, _∙_, subst}
 use mathlib.Core.List.{List, [], _∷_, _++_, reverse, append-assoc, append-nil}
 use Prim.Native.Nat.{ℕ, zero, suc, _+_, _-_, _*_, _≤_, _<_, min}
 use native.Mathlib.Nat.{zero-add}
@@ -13,13 +13,16 @@ use Rattle.octet.specs.Part.{part, splice}
 use Rattle.octet.proofs.BigLaws.{length-digitsBE, digitsBE-valueBE}
 use Rattle.octet.proofs.PartLaws.{length-part, part-digits, splice-next}
 use Rattle.key.specs.Number.{keyAt}
-use Rattle.key.specs.Around.{below, above}
+use Rattle.key.specs.Around.{below, above, ring}
+use Rattle.key.proofs.KeyLaws.{key-lt}
+use Rattle.kept.specs.Keys.{Every}
+use Rattle.kept.specs.Turned.{turned, wrapped, countUnder}
 use Rattle.record.specs.Record.{keyOf}
 use Rattle.table.specs.Rows.{rows}
 use Rattle.table.proofs.RowLaws.{rows-length, row-at}
 use Rattle.kept.specs.Plain.{countBelow, neighbours}
-use Rattle.kept.proofs.PlainLaws.{count-le, list-above, list-below}
-use Rattle.kept.proofs.PlaceLaws.{reverse-getD, below-length, above-length}
+use Rattle.kept.proofs.TurnLaws.{count-le, list-above, list-below, below-length, above-length}
+use Rattle.kept.proofs.PlaceLaws.{reverse-getD, turned-at, turned-length, wrapped-lt}
 use Rattle.cache.specs.declared.listing.Counts.{Counts}
 use Rattle.cache.specs.Form.{keysOf, Form}
 use Rattle.cache.specs.Bytes.{keyBytes, afterList, countsOf}
@@ -85,101 +88,99 @@ module _ (used : ℕ) (s : List ℕ) where
   place-key i h =
       getD-keys (rows 100 used s) i (omega (arith, rows-length 100 used s)) ∙ ap keyOf (row-at 100 used s i h) ∙ key-of-row (100 * i) s
 
-  -- from place `from` on, upwards
-  pub up-length : (from n : ℕ) → from + n ≤ used → length (take n (drop from (keysOf (rows 100 used s)))) ≡ n
+  pub key-of-place : (i : ℕ) → i < used → getD (keysOf (rows 100 used s)) i 0 ≡ keyAt (100 * i) s
   unfolding keys
-  up-length from n h = length-take-le n (drop from keys) (simp length-drop (omega (arith, keys-count)))
+  key-of-place i h = place-key i h
 
-  pub up-key : (from n i : ℕ) → i < n → from + n ≤ used → getD (take n (drop from (keysOf (rows 100 used s)))) i 0 ≡ keyAt (100 * (from + i)) s
+  round-length : (from : ℕ) → length (turned from keys) ≡ used
+  round-length from = turned-length from keys ∙ keys-count
+
+  round-key : (from i : ℕ) → from ≤ used → i < used → getD (turned from keys) i 0 ≡ keyAt (100 * wrapped used (from + i)) s
+  round-key from i h g =
+      turned-at from keys i (omega (arith, keys-count)) (omega (arith, keys-count))
+      ∙ ap (λ (n : ℕ). getD keys (wrapped n (from + i)) 0) keys-count
+      ∙ place-key (wrapped used (from + i)) (wrapped-lt used (from + i) (omega arith) (omega arith))
+
+  -- from place `from` on, upwards and round
+  pub up-length : (from n : ℕ) → n ≤ used → length (take n (turned from (keysOf (rows 100 used s)))) ≡ n
   unfolding keys
-  up-key from n i h l = getD-take n (drop from keys) i 0 h ∙ getD-drop from keys i 0 ∙ place-key (from + i) (omega arith)
+  up-length from n h = length-take-le n (turned from keys) (omega (arith, round-length from))
 
-  -- from before place `from` on, downwards
-  from-length : (from : ℕ) → from ≤ used → length (take from keys) ≡ from
-  from-length from h = length-take-le from keys (omega (arith, keys-count))
-
-  pub down-length : (from n : ℕ) → n ≤ from → from ≤ used → length (take n (reverse (take from (keysOf (rows 100 used s))))) ≡ n
+  pub up-key : (from n i : ℕ) → i < n → n ≤ used → from ≤ used
+      → getD (take n (turned from (keysOf (rows 100 used s)))) i 0 ≡ keyAt (100 * wrapped used (from + i)) s
   unfolding keys
-  down-length from n h l = length-take-le n (reverse (take from keys)) (omega (arith, length-reverse (take from keys), from-length from l))
+  up-key from n i h l m = getD-take n (turned from keys) i 0 h ∙ round-key from i m (omega arith)
 
-  pub down-key : (from n i : ℕ) → i < n → n ≤ from → from ≤ used
-      → getD (take n (reverse (take from (keysOf (rows 100 used s))))) i 0 ≡ keyAt (100 * (from - (i + 1))) s
+  -- from before place `from` on, downwards and round
+  pub down-length : (from n : ℕ) → n ≤ used → length (take n (reverse (turned from (keysOf (rows 100 used s))))) ≡ n
   unfolding keys
-  down-key from n i h m l =
-      let e : length (take from keys) - 1 - i ≡ from - (i + 1) = omega (arith, from-length from l) in
-      getD-take n (reverse (take from keys)) i 0 h
-      ∙ reverse-getD (take from keys) i (omega (arith, from-length from l))
-      ∙ ap (λ (j : ℕ). getD (take from keys) j 0) e
-      ∙ getD-take from keys (from - (i + 1)) 0 (omega arith)
-      ∙ place-key (from - (i + 1)) (omega arith)
+  down-length from n h = length-take-le n (reverse (turned from keys)) (omega (arith, length-reverse (turned from keys), round-length from))
+
+  pub down-key : (from n i : ℕ) → i < n → n ≤ used → from ≤ used
+      → getD (take n (reverse (turned from (keysOf (rows 100 used s))))) i 0 ≡ keyAt (100 * wrapped used (from + (used - (i + 1)))) s
+  unfolding keys
+  down-key from n i h l m =
+      let e : length (turned from keys) - 1 - i ≡ used - (i + 1) = omega (arith, round-length from) in
+      getD-take n (reverse (turned from keys)) i 0 h
+      ∙ reverse-getD (turned from keys) i (omega (arith, round-length from))
+      ∙ ap (λ (j : ℕ). getD (turned from keys) j 0) e
+      ∙ round-key from (used - (i + 1)) m (omega arith)
+
+-- the keys of bytes are keys
+pub keys-small : (used : ℕ) (s : List ℕ) → Bytes s → 100 * used ≤ length s → Every (λ (k : ℕ). k < ring) (keysOf (rows 100 used s))
+unfolding rows
+keys-small zero s b h = tt
+keys-small (suc n) s b h = (
+  subst (λ (k : ℕ). k < ring) (sym (key-of-row 0 s)) (key-lt 0 s b (omega arith)),
+  keys-small n (drop 100 s) (λ i. omega (arith, getD-drop 100 s i 0, b (100 + i))) (simp length-drop (omega arith)),
+)
 
 -- ---- the two lists
 
-take-min : (n : ℕ) (l : List ℕ) → take n l ≡ take (min n (length l)) l
-take-min zero l =
-    let e : 0 ≡ min 0 (length l) = omega arith in
-    ap (λ (k : ℕ). take k l) e
-take-min (suc n) [] =
-    let e : 0 ≡ min (suc n) 0 = omega arith in
-    ap (λ (k : ℕ). take k []) e
-take-min (suc n) (x ∷ l) =
-    let e : suc (min n (length l)) ≡ min (suc n) (suc (length l)) = omega arith in
-    ap (λ (r : List ℕ). x ∷ r) (take-min n l) ∙ ap (λ (k : ℕ). take k (x ∷ l)) e
+module _ (own used : ℕ) (s : List ℕ) (f : Form own s (rows 100 used s)) (o : own < ring) (b : Bytes s) (room : 100 * used ≤ length s) where
+  held : List ℕ
+  held = keysOf (rows 100 used s)
 
-module _ (own used : ℕ) (s : List ℕ) (f : Form own s (rows 100 used s)) (first : ℕ) (ef : first ≡ countBelow own (keysOf (rows 100 used s))) where
-  pub first-most : first ≤ used
-  first-most = omega (arith, count-le own (keysOf (rows 100 used s)), keys-count′)
-    where
-      keys-count′ : length (keysOf (rows 100 used s)) ≡ used
-      keys-count′ = length-map (rows 100 used s) keyOf ∙ rows-length 100 used s
+  held-count : length held ≡ used
+  unfolding held
+  held-count = length-map (rows 100 used s) keyOf ∙ rows-length 100 used s
 
-  module _ (p q : ℕ) (ep : p ≡ min 5 first) (eq : q ≡ min 5 (used - first)) where
-    held : List ℕ
-    held = keysOf (rows 100 used s)
-
-    held-count : length held ≡ used
-    unfolding held
-    held-count = length-map (rows 100 used s) keyOf ∙ rows-length 100 used s
-
-    pub near-below : neighbours own below (keysOf (rows 100 used s)) ≡ take p (reverse (take first (keysOf (rows 100 used s))))
+  module _ (first under p q : ℕ) (ef : first ≡ countUnder own (keysOf (rows 100 used s))) (eu : under ≡ countBelow own (keysOf (rows 100 used s)))
+      (ep : p ≡ min 5 under) (eq : q ≡ min 5 (used - under)) where
+    pub near-below : neighbours own below (keysOf (rows 100 used s)) ≡ take p (reverse (turned first (keysOf (rows 100 used s))))
     unfolding held
     near-below =
-        let l : List ℕ = reverse (take first held) in
-        let n : length l ≡ first = length-reverse (take first held) ∙ length-take-le first held (omega (arith, held-count, first-most)) in
-        list-below own held (f .held .rising) (f .held .others)
-        ∙ ap (λ (k : ℕ). take 5 (reverse (take k held))) (sym ef)
-        ∙ take-min 5 l ∙ ap (λ (k : ℕ). take k l) (ap (min 5) n ∙ sym ep)
+        list-below own o held (f .held .rising) (f .held .others) (keys-small used s b room)
+        ∙ ap₂ (λ (n m : ℕ). take n (reverse (turned m held))) (ap (min 5) (sym eu) ∙ sym ep) (sym ef)
 
-    pub near-above : neighbours own above (keysOf (rows 100 used s)) ≡ take q (drop first (keysOf (rows 100 used s)))
+    pub near-above : neighbours own above (keysOf (rows 100 used s)) ≡ take q (turned first (keysOf (rows 100 used s)))
     unfolding held
     near-above =
-        let l : List ℕ = drop first held in
-        let n : length l ≡ used - first = length-drop first held ∙ ap (λ (k : ℕ). k - first) held-count in
-        list-above own held (f .held .rising) (f .held .others)
-        ∙ ap (λ (k : ℕ). take 5 (drop k held)) (sym ef)
-        ∙ take-min 5 l ∙ ap (λ (k : ℕ). take k l) (ap (min 5) n ∙ sym eq)
+        list-above own o held (f .held .rising) (f .held .others) (keys-small used s b room)
+        ∙ ap₂ (λ (n m : ℕ). take n (turned m held)) (ap₂ (λ (m n : ℕ). min 5 (m - n)) held-count (sym eu) ∙ sym eq) (sym ef)
 
     pub near-counts : _≡_ {A = Counts} (record { below = p; above = q }) (countsOf own (rows 100 used s))
     unfolding held
     near-counts =
-        let b : length (neighbours own below held) ≡ p = below-length own held (f .held .rising) (f .held .others) ∙ ap (min 5) (sym ef) ∙ sym ep in
+        let z = keys-small used s b room in
+        let l : length (neighbours own below held) ≡ p = below-length own o held (f .held .rising) (f .held .others) z ∙ ap (min 5) (sym eu) ∙ sym ep in
         let a : length (neighbours own above held) ≡ q =
-        above-length own held (f .held .rising) (f .held .others) ∙ ap₂ (λ (m n : ℕ). min 5 (m - n)) held-count (sym ef) ∙ sym eq in
-        λ k. record { below = sym b k; above = sym a k }
+        above-length own o held (f .held .rising) (f .held .others) z ∙ ap₂ (λ (m n : ℕ). min 5 (m - n)) held-count (sym eu) ∙ sym eq in
+        λ k. record { below = sym l k; above = sym a k }
 
     -- the keys below and then those above, written one after the other
     pub near-out : (out out₁ out₂ : List ℕ) → 320 ≤ length out
-        → out₁ ≡ splice 0 (keyBytes (take p (reverse (take first (keysOf (rows 100 used s)))))) out
-        → out₂ ≡ splice (32 * p) (keyBytes (take q (drop first (keysOf (rows 100 used s))))) out₁
+        → out₁ ≡ splice 0 (keyBytes (take p (reverse (turned first (keysOf (rows 100 used s)))))) out
+        → out₂ ≡ splice (32 * p) (keyBytes (take q (turned first (keysOf (rows 100 used s))))) out₁
         → out₂ ≡ afterList own (rows 100 used s) out
     unfolding held
-    near-out out out₁ out₂ room e₁ e₂ =
-        let x : List ℕ = take p (reverse (take first held)) in
-        let y : List ℕ = take q (drop first held) in
+    near-out out out₁ out₂ many e₁ e₂ =
+        let x : List ℕ = take p (reverse (turned first held)) in
+        let y : List ℕ = take q (turned first held) in
         let lx : length (keyBytes x) ≡ 32 * p =
-        keys-length x ∙ ap (λ (n : ℕ). 32 * n) (length-take-le p (reverse (take first held))
-        (omega (arith, length-reverse (take first held), length-take-le first held (omega (arith, held-count, first-most))))) in
-        let ly : length (keyBytes y) ≤ 160 = omega (arith, keys-length y, length-take q (drop first held)) in
+        keys-length x ∙ ap (λ (n : ℕ). 32 * n) (length-take-le p (reverse (turned first held))
+        (omega (arith, length-reverse (turned first held), turned-length first held, count-le own held))) in
+        let ly : length (keyBytes y) ≤ 160 = omega (arith, keys-length y, length-take q (turned first held)) in
         let n : 32 * p ≡ 0 + 32 * p = sym (zero-add (32 * p)) in
         e₂ ∙ ap₂ (λ (k : ℕ) (l : List ℕ). splice k (keyBytes y) l) n e₁
         ∙ splice-next 0 (32 * p) (keyBytes x) (keyBytes y) out lx (omega arith)

@@ -1,5 +1,5 @@
--- To believe. "The record closest to the target, the own record included: the least difference, larger key minus smaller; at equal difference the smaller key."
--- Assumes nothing.
+-- To believe. "The record closest to the target, the own record included"; "Closeness to a target is the shorter way round; at equal distance take the key
+-- reached by going down from the target" (02, Wish 4): key's Around has which of two keys is closer. Assumes nothing.
 use Prim.Native.Nat.{ℕ}
 use mathlib.Core.Bool.{cond}
 use mathlib.Core.List.{List, [], _∷_}

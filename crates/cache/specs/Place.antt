@@ -1,12 +1,14 @@
 -- Helps the code. Where a key stands among rising keys, or would; and the answers of the searches, by enum. Assumes nothing.
-use Prim.Native.Nat.{ℕ, zero, suc, _+_, _*_, _<_}
+use Prim.Native.Nat.{ℕ, zero, suc, _+_, _-_, _*_, _<_}
+use mathlib.Core.Path.{_≡_}
 use mathlib.Core.Bool.{Bool, true, false, cond}
 use mathlib.Core.List.{List, [], _∷_}
 use lib.Dec.{ltb, eqb}
-use lib.ListN.{length}
+use lib.ListN.{length, getD}
 use Rattle.octet.specs.Part.{part}
 use Rattle.key.specs.Number.{keyAt}
-use Rattle.kept.specs.Plain.{countBelow}
+use Rattle.kept.specs.Plain.{drops}
+use Rattle.kept.specs.Turned.{wrapped}
 use Rattle.cache.specs.Form.{heldIn, cacheForm}
 use Rattle.cache.specs.declared.shape.Formed.{Formed}
 use Rattle.cache.specs.declared.shape.Formed.the-variants.{Bad, Good}
@@ -39,9 +41,16 @@ abbrev pub isAt : Found → Bool
 isAt (At i) = true
 isAt (Before i) = false
 
--- are more of the keys below our own than above it?
-unfoldable pub moreBelow : ℕ → List ℕ → Bool
-moreBelow own keys = ltb (length keys) (countBelow own keys + countBelow own keys)
+-- of so many keys, of which so many are below our own, and those above it begin at place first and go on round: the place of the first below where more are
+-- below, else of the last above
+unfoldable pub farthestAt : ℕ → ℕ → ℕ → ℕ
+farthestAt total first under =
+    wrapped total (cond (ltb total (under + under)) (first + (total - under)) ((first + (total - under)) - 1))
+
+-- the key at place i is the one that the drop rule names
+pub record Goes (own : ℕ) (keys : List ℕ) (i : ℕ) : Type 0 where
+  pub inside : i < length keys
+  pub named : drops own keys ≡ getD keys i 0
 
 -- a place among our own record and the first n of the cache, and the record there
 abbrev pub Within : ℕ → Where → Type 0

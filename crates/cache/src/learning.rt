@@ -1,49 +1,101 @@
 // Learning a record, and removing a key, in a cache that is in form.
 ghost use mathlib.Core.Path.{_≡_};
-ghost use mathlib.Core.Bool.{true};
-ghost use Prim.Native.Nat.{_+_, _*_, _≤_, _<_};
+ghost use mathlib.Core.Bool.{true, cond};
+ghost use Prim.Native.Nat.{suc, _+_, _*_, _≤_, _<_};
+ghost use lib.Dec.{ltb};
 ghost use lib.ListN.{length};
 ghost use Rattle.key.specs.Number.{keyAt};
 ghost use Rattle.record.specs.Record.{keyOf, recordForm};
-ghost use Rattle.table.specs.Rows.{rows, bytesOf, Laid, insertAt, removeAt};
+ghost use Rattle.table.specs.Rows.{rows, bytesOf, insertAt, removeAt};
 ghost use Rattle.kept.specs.Plain.{NotOwn};
 ghost use Rattle.cache.specs.Form.{keysOf, Form};
-ghost use Rattle.cache.specs.Place.{findKey, moreBelow};
+ghost use Rattle.cache.specs.Place.{findKey, farthestAt, Goes};
 ghost use Rattle.cache.specs.Bytes.{afterLearn, afterRemove};
 ghost use Rattle.cache.specs.declared.place.Found.the-variants.{Before};
 use crate::place::Found;
 use crate::place::count_below;
+use crate::place::count_under;
 use crate::place::find;
+use crate::place::wrap;
+use key::Order;
 
-// Are more keys below our own than above it, the record's key, which is not held, among them?
-fn more_below(own: &[u8], cache: &[u8], used: usize, at: usize, record: &[u8]) -> bool
-    requires { ⌜ (32 ≤ length (now own)) × (32 ≤ length (now «record»)) ⌝ }
-    requires { ⌜ Form (keyOf (now own)) (now cache) (rows 100 used (now cache)) ⌝ }
-    requires { ⌜ findKey (keyOf (now «record»)) (keysOf (rows 100 used (now cache))) ≡ Before at ⌝ }
-    ensures { λ r. ⌜ r ≡ moreBelow (keyOf (now (own .entry)))
-        (keysOf (insertAt at (now («record» .entry)) (rows 100 used (now (cache .entry))))) ⌝ }
+// One more, or as many.
+fn one_more(n: usize, more: bool) -> usize
+    requires { ⌜ n < 1000 ⌝ }
+    ensures { λ r. ⌜ r ≡ cond more (suc n) n ⌝ }
 {
-    let held = count_below(own, cache, used);
-    if key::is_above(own, record, 0) {
-        return used + 1 < held + held;
+    if more {
+        return n + 1;
     }
-    let below = held + 1;
-    used + 1 < below + below
+    n
 }
 
-// The record at one place goes, and another comes to stand at a place of those that are left.
-fn exchange(cache: &mut [u8], used: usize, gone: usize, at: usize, record: &[u8])
-    requires { ⌜ (gone < used) × (at < used) × (length (now «record») ≡ 100) ⌝ }
-    requires { ⌜ Laid 100 used (now cache) ⌝ }
+// Of so many keys, of which so many are below our own, and those above it begin at a place: which place is the farthest
+// out on the side with more?
+fn farthest(total: usize, first: usize, below: usize) -> usize
+    requires { ⌜ (0 < total) × (total < 1000) × (first ≤ total) × (below ≤ total) ⌝ }
+    ensures { λ r. ⌜ r ≡ farthestAt total first below ⌝ }
+{
+    let end = first + (total - below);
+    if total < below + below {
+        return wrap(total, end);
+    }
+    wrap(total, end - 1)
+}
+
+// Is the record's key a smaller number than our own?
+fn is_smaller(own: &[u8], record: &[u8]) -> bool
+    requires { ⌜ (32 ≤ length (now own)) × (32 ≤ length (now «record»)) ⌝ }
+    ensures { λ r. ⌜ r ≡ ltb (keyOf (now («record» .entry))) (keyOf (now (own .entry))) ⌝ }
+{
+    match key::order_at(record, 0, own, 0) {
+        Order::Less => true,
+        Order::Same => false,
+        Order::More => false,
+    }
+}
+
+// Which place goes of those held and the record, whose key is not held and which would stand before a place?
+fn who_goes(own: &[u8], cache: &[u8], used: usize, at: usize, record: &[u8]) -> usize
+    requires { ⌜ (32 ≤ length (now own)) × (32 ≤ length (now «record»)) ⌝ }
+    requires { ⌜ Form (keyOf (now own)) (now cache) (rows 100 used (now cache)) ⌝ }
+    requires { ⌜ NotOwn (keyOf (now own)) (keyOf (now «record»)) ⌝ }
+    requires { ⌜ findKey (keyOf (now «record»)) (keysOf (rows 100 used (now cache))) ≡ Before at ⌝ }
+    ensures { λ r. ⌜ Goes (keyOf (now (own .entry)))
+        (keysOf (insertAt at (now («record» .entry)) (rows 100 used (now (cache .entry))))) r ⌝ }
+{
+    let under = count_under(own, cache, used);
+    let held = count_below(own, cache, used, under);
+    let first = one_more(under, is_smaller(own, record));
+    let below = one_more(held, !key::is_above(own, record, 0));
+    farthest(used + 1, first, below)
+}
+
+// In a full cache the record at one place goes, those after it move down, and another comes to stand at a place behind
+// them: no other record moves.
+fn exchange_up(cache: &mut [u8], used: usize, gone: usize, at: usize, record: &[u8])
+    requires { ⌜ (gone ≤ at) × (at < used) × (length (now «record») ≡ 100) × (length (now cache) ≡ 100 * used) ⌝ }
     ensures { λ _. ⌜ now (cache .exit) ≡ bytesOf (length (now (cache .entry)))
         (insertAt at (now («record» .entry)) (removeAt gone (rows 100 used (now (cache .entry))))) ⌝ }
 {
-    table::remove_row(cache, 100, used, gone);
-    table::insert_row(cache, 100, used - 1, at, record);
+    let to = 100 * gone;
+    octet::move_down(cache, to + 100, to, 100 * (at - gone));
+    octet::copy_to(cache, 100 * at, record);
 }
 
-// A record whose key is not held is learned; it would stand before a place. Where all places are used, the one farthest
-// out on the side with more goes, at one end of the cache, or the newcomer itself.
+// The same where it comes to stand at a place before the one that goes, and those between them move up.
+fn exchange_down(cache: &mut [u8], used: usize, gone: usize, at: usize, record: &[u8])
+    requires { ⌜ (at ≤ gone) × (gone < used) × (length (now «record») ≡ 100) × (length (now cache) ≡ 100 * used) ⌝ }
+    ensures { λ _. ⌜ now (cache .exit) ≡ bytesOf (length (now (cache .entry)))
+        (insertAt at (now («record» .entry)) (removeAt gone (rows 100 used (now (cache .entry))))) ⌝ }
+{
+    let from = 100 * at;
+    octet::move_up(cache, from, from + 100, 100 * (gone - at));
+    octet::copy_to(cache, from, record);
+}
+
+// A record whose key is not held is learned; it would stand before a place. Where all places are used, one goes, or the
+// newcomer itself.
 fn learn_new(own: &[u8], cache: &mut [u8], used: usize, at: usize, record: &[u8])
     requires { ⌜ (32 ≤ length (now own)) × (recordForm (now «record») ≡ true) ⌝ }
     requires { ⌜ Form (keyOf (now own)) (now cache) (rows 100 used (now cache)) ⌝ }
@@ -57,14 +109,13 @@ fn learn_new(own: &[u8], cache: &mut [u8], used: usize, at: usize, record: &[u8]
         table::insert_row(cache, 100, used, at, record);
         return;
     }
-    if more_below(own, cache, used, at, record) {
-        if at != 0 {
-            exchange(cache, used, 0, at - 1, record);
-        }
+    let gone = who_goes(own, cache, used, at, record);
+    if gone < at {
+        exchange_up(cache, used, gone, at - 1, record);
         return;
     }
-    if at < used {
-        exchange(cache, used, used - 1, at, record);
+    if at < gone {
+        exchange_down(cache, used, gone - 1, at, record);
     }
 }
 

@@ -2,13 +2,16 @@
 ghost use mathlib.Core.Path.{_≡_};
 ghost use mathlib.Core.List.{reverse};
 ghost use Prim.Native.Nat.{_+_, _*_, _≤_, min};
-ghost use lib.ListN.{length, take, drop};
+ghost use lib.ListN.{length, take};
 ghost use Rattle.octet.specs.Part.{splice};
 ghost use Rattle.record.specs.Record.{keyOf};
 ghost use Rattle.table.specs.Rows.{rows};
+ghost use Rattle.kept.specs.Turned.{turned};
 ghost use Rattle.cache.specs.Form.{keysOf, Form};
 ghost use Rattle.cache.specs.Bytes.{keyBytes, afterList, countsOf};
 use crate::place::count_below;
+use crate::place::count_under;
+use crate::place::wrap;
 
 // How many keys of each side are listed.
 pub struct Counts {
@@ -22,29 +25,29 @@ fn lesser(a: usize, b: usize) -> usize
     if a < b { a } else { b }
 }
 
-// Writes the keys of the n places before a place to the output's start, the last first.
+// Writes the keys of the n places before a place, counted round, to the output's start, the last first.
 fn keys_down(cache: &[u8], used: usize, from: usize, n: usize, out: &mut [u8])
-    requires { ⌜ (100 * used ≤ length (now cache)) × (from ≤ used) × (n ≤ from) × (32 * n ≤ length (now out)) ⌝ }
+    requires { ⌜ (100 * used ≤ length (now cache)) × (from ≤ used) × (n ≤ used) × (32 * n ≤ length (now out)) ⌝ }
     ensures { λ _. ⌜ now (out .exit) ≡ splice 0
-        (keyBytes (take n (reverse (take from (keysOf (rows 100 used (now (cache .entry)))))))) (now (out .entry)) ⌝ }
+        (keyBytes (take n (reverse (turned from (keysOf (rows 100 used (now (cache .entry)))))))) (now (out .entry)) ⌝ }
 {
     let mut i = 0;
     while i < n {
-        let start = 100 * (from - (i + 1));
+        let start = 100 * wrap(used, from + (used - (i + 1)));
         octet::copy_to(out, 32 * i, &cache[start..start + 32]);
         i += 1;
     }
 }
 
-// Writes the keys of n places, from one up, to the output from an index on.
+// Writes the keys of n places, from one up and counted round, to the output from an index on.
 fn keys_up(cache: &[u8], used: usize, from: usize, n: usize, out: &mut [u8], at: usize)
-    requires { ⌜ (100 * used ≤ length (now cache)) × (from + n ≤ used) × (at + 32 * n ≤ length (now out)) ⌝ }
+    requires { ⌜ (100 * used ≤ length (now cache)) × (from ≤ used) × (n ≤ used) × (at + 32 * n ≤ length (now out)) ⌝ }
     ensures { λ _. ⌜ now (out .exit) ≡ splice at
-        (keyBytes (take n (drop from (keysOf (rows 100 used (now (cache .entry))))))) (now (out .entry)) ⌝ }
+        (keyBytes (take n (turned from (keysOf (rows 100 used (now (cache .entry))))))) (now (out .entry)) ⌝ }
 {
     let mut i = 0;
     while i < n {
-        let start = 100 * (from + i);
+        let start = 100 * wrap(used, from + i);
         octet::copy_to(out, at + 32 * i, &cache[start..start + 32]);
         i += 1;
     }
@@ -58,9 +61,10 @@ pub fn neighbours(own: &[u8], cache: &[u8], used: usize, out: &mut [u8]) -> Coun
     ensures { λ _. ⌜ now (out .exit)
         ≡ afterList (keyOf (now (own .entry))) (rows 100 used (now (cache .entry))) (now (out .entry)) ⌝ }
 {
-    let first = count_below(own, cache, used);
-    let below = lesser(5, first);
-    let above = lesser(5, used - first);
+    let first = count_under(own, cache, used);
+    let under = count_below(own, cache, used, first);
+    let below = lesser(5, under);
+    let above = lesser(5, used - under);
     keys_down(cache, used, first, below, out);
     keys_up(cache, used, first, above, out, 32 * below);
     Counts { below, above }

@@ -1,12 +1,16 @@
 // The record closest to a target key: a part of one of two lent slices, and no copy.
 ghost use mathlib.Core.Path.{_≡_};
-ghost use Prim.Native.Nat.{_+_, _*_, _≤_};
+ghost use mathlib.Core.Bool.{true};
+ghost use Prim.Native.Nat.{_+_, _*_, _≤_, _<_};
+ghost use lib.Dec.{ltb};
 ghost use lib.ListN.{length};
 ghost use Rattle.key.specs.Number.{number, keyAt};
+ghost use Rattle.key.specs.Around.{apart};
 ghost use Rattle.table.specs.Rows.{rows};
 ghost use Rattle.cache.specs.Closest.{candidates, closestOf};
 ghost use Rattle.cache.specs.Place.{recordAt, Within};
 use key::Key;
+use key::Order;
 
 // Where a record stands: it is our own, or that of a place of the cache.
 pub(crate) enum Where {
@@ -28,7 +32,37 @@ fn key_held(cache: &[u8], i: usize) -> Key
     Key { a, b, c, d }
 }
 
-// Where the closest record stands.
+// Is one distance less than another?
+fn is_less(d: Key, e: Key) -> bool
+    ensures { λ r. ⌜ r ≡ ltb (number d) (number e) ⌝ }
+{
+    match key::compare(d, e) {
+        Order::Less => true,
+        Order::Same => false,
+        Order::More => false,
+    }
+}
+
+// Is the key k farther from the target than `far`, for certain, by the first words alone? A borrow from the words behind
+// them changes a difference of first words by one at most.
+fn is_beyond(target: Key, k: Key, far: Key) -> bool
+    ensures { λ r. ⌜ (r ≡ true → number far < apart (number target) (number k)) ⌝ }
+{
+    let up = std::num::wrapping_sub_u64(k.a, target.a);
+    let down = std::num::wrapping_sub_u64(target.a, k.a);
+    if up < 2 {
+        return false;
+    }
+    if down < 2 {
+        return false;
+    }
+    if up - 2 < far.a {
+        return false;
+    }
+    far.a <= down - 2
+}
+
+// Where the closest record stands. Most records are farther than the best so far, and the first word passes over them.
 fn place_of_closest(own: &[u8], cache: &[u8], used: usize, target: Key) -> Where
     requires { ⌜ 32 ≤ length (now own) ⌝ }
     requires { ⌜ 100 * used ≤ length (now cache) ⌝ }
@@ -42,9 +76,15 @@ fn place_of_closest(own: &[u8], cache: &[u8], used: usize, target: Key) -> Where
     let mut i = 0;
     while i < used {
         let k = key_held(cache, i);
-        let d = key::how_far(target, k);
         let at = i;
         i += 1;
+        if is_beyond(target, k, far) {
+            continue;
+        }
+        let d = key::how_far(target, k);
+        if is_less(far, d) {
+            continue;
+        }
         if key::is_closer(target, k, d, best, far) {
             place = Where::Held(at);
             best = k;

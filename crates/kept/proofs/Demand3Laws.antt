@@ -45,7 +45,7 @@ same-keys-same-neighbours ok side near order drops drops′ C C′ rule rule′ 
     ∙ (ap (λ (l : List ℕ). neighbours side near s l) (learned-same es ds (same .to) (same .from))
     ∙ sym (kept-same ok side near order drops′ C′ rule′ ds (λ k m. o k (same .from k m)) calm′ s))
 
--- plain number order --------------------------------------------------------------------------------------------------------------
+-- the order around our own key ----------------------------------------------------------------------------------------------------
 
 pub plain-order : (own : ℕ) → Order (NotOwn own) (sideOf own) (nearness own)
 plain-order own = record { apart = λ a b u v e d. side-near own a b (go a b (test (isAbove own a)) (test (isAbove own b)) e) d }

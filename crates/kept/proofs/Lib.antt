@@ -8,6 +8,6 @@ pub mod FarthestLaws
 pub mod Demand3Laws
 pub mod RecordLaws
 pub mod SplitLaws
-pub mod PlainLaws
+pub mod TurnLaws
 pub mod PlaceLaws
 pub mod CallLaws

@@ -1,21 +1,15 @@
--- The neighbour lists place by place, their lengths, and a count of the keys below, key by key: what code over the keys cites.
--- Assumes nothing.
+-- Lists read backwards and round, place by place: what code over the keys cites. Assumes nothing.
 use mathlib.Core.Path.{_≡_, refl, sym, _∙_, ap}
-use mathlib.Core.Bool.{Bool, true, false, cond}
-use mathlib.Core.List.{List, [], _∷_, reverse, reverse-cons}
-use Prim.Native.Nat.{ℕ, suc, _+_, _-_, _<_, min}
+use mathlib.Core.Bool.{cond}
+use mathlib.Core.List.{List, [], _∷_, _++_, reverse, reverse-cons}
+use Prim.Native.Nat.{ℕ, suc, _+_, _-_, _≤_, _<_}
 use native.Mathlib.Omega.{arith}
-use lib.ListN.{length, take, drop, getD, length-take, length-drop, length-reverse, List·getD-append}
-use lib.Seq.{getD-at, getD-take, getD-drop, length-take-le}
-use Rattle.kept.specs.Keys.{Every, Rising, plain, among}
-use Rattle.key.specs.Around.{below, above, isAbove, sideOf}
-use Rattle.kept.specs.Neighbours.{is}
-use Rattle.kept.specs.Plain.{NotOwn, countBelow, neighbours}
+use lib.Dec.{ltb}
+use lib.ListN.{length, take, drop, getD, length-append, length-take, length-drop, length-reverse, List·getD-append}
+use lib.Seq.{getD-at, getD-take, getD-drop, getD-append-add}
+use borrow.Author.Tests.{lt-ltb, le-ltb}
+use Rattle.kept.specs.Turned.{turned, wrapped}
 use Rattle.kept.proofs.PutLaws.{Tri, less, same, more, tri}
-use Rattle.kept.proofs.HistoryLaws.{on}
-use Rattle.kept.proofs.PlainLaws.{count-le, list-above, list-below}
-
--- the lists place by place -----------------------------------------------------------------------------------------------------
 
 -- read downwards from the end of the first n
 pub reverse-getD : (l : List ℕ) (j : ℕ) → j < length l → getD (reverse l) j 0 ≡ getD l (length l - 1 - j) 0
@@ -32,37 +26,35 @@ reverse-getD (k ∷ l) j h = go (tri j (length l)) (reverse-getD l j)
         rw (reverse-cons, e) (getD-at (reverse l) k [] 0 j (length-reverse l ∙ sym d))
     go (more g) ih = absurd (omega arith)
 
-module _ (own : ℕ) (keys : List ℕ) (rises : Rising plain 0 keys) (others : Every (NotOwn own) keys) where
-  size : length (take (countBelow own keys) keys) ≡ countBelow own keys
-  size = length-take-le (countBelow own keys) keys (count-le own keys)
-
-  pub below-length : length (neighbours own below keys) ≡ min 5 (countBelow own keys)
-  below-length =
-      rw (list-below own keys rises others, length-take)
-      (ap (min 5) (length-reverse (take (countBelow own keys) keys) ∙ size))
-
-  pub above-length : length (neighbours own above keys) ≡ min 5 (length keys - countBelow own keys)
-  above-length = rw (list-above own keys rises others, length-take) (ap (min 5) (length-drop (countBelow own keys) keys))
-
-  pub below-at : (j : ℕ) → j < 5 → j < countBelow own keys → getD (neighbours own below keys) j 0 ≡ getD keys (countBelow own keys - 1 - j) 0
-  below-at j g h =
-      rw (list-below own keys rises others)
-      (getD-take 5 (reverse (take (countBelow own keys) keys)) j 0 g
-      ∙ (reverse-getD (take (countBelow own keys) keys) j (omega (arith, size))
-      ∙ (ap (λ (n : ℕ). getD (take (countBelow own keys) keys) (n - 1 - j) 0) size
-      ∙ getD-take (countBelow own keys) keys (countBelow own keys - 1 - j) 0 (omega arith))))
-
-  pub above-at : (j : ℕ) → j < 5 → getD (neighbours own above keys) j 0 ≡ getD keys (countBelow own keys + j) 0
-  above-at j g =
-      rw (list-above own keys rises others) (getD-take 5 (drop (countBelow own keys) keys) j 0 g ∙ getD-drop (countBelow own keys) keys j 0)
-
--- a count key by key ------------------------------------------------------------------------------------------------------------
-
-pub count-cons : (own k : ℕ) (keys : List ℕ) → countBelow own (k ∷ keys) ≡ cond (isAbove own k) (countBelow own keys) (suc (countBelow own keys))
-unfolding among
-count-cons own k keys = go (isAbove own k)
+-- read round from place n on
+pub turned-at : (n : ℕ) (l : List ℕ) (i : ℕ) → n ≤ length l → i < length l → getD (turned n l) i 0 ≡ getD l (wrapped (length l) (n + i)) 0
+unfolding turned wrapped
+turned-at n l i h g = go (tri i (length (drop n l)))
   where
-    go : (b : Bool) → length (cond (is below (cond b above below)) (k ∷ among (on (sideOf own) below) keys) (among (on (sideOf own) below) keys))
-        ≡ cond b (countBelow own keys) (suc (countBelow own keys))
-    go true = refl
-    go false = refl
+    size : length (drop n l) ≡ length l - n
+    size = length-drop n l
+
+    back : ¬ (i < length (drop n l)) → getD (drop n l ++ take n l) i 0 ≡ getD l (cond (ltb (n + i) (length l)) (n + i) ((n + i) - length l)) 0
+    back d =
+        let e : i ≡ length (drop n l) + ((n + i) - length l) = omega (arith, size) in
+        rw (le-ltb (n + i) (length l) (omega (arith, size)))
+        (ap (λ (k : ℕ). getD (drop n l ++ take n l) k 0) e
+        ∙ (getD-append-add (drop n l) (take n l) ((n + i) - length l) 0 ∙ getD-take n l ((n + i) - length l) 0 (omega (arith, size))))
+
+    go : Tri i (length (drop n l)) → getD (drop n l ++ take n l) i 0 ≡ getD l (cond (ltb (n + i) (length l)) (n + i) ((n + i) - length l)) 0
+    go (less k) = rw (lt-ltb (n + i) (length l) (omega (arith, size))) (List·getD-append (drop n l) (take n l) 0 i k ∙ getD-drop n l i 0)
+    go (same e) = back (omega arith)
+    go (more k) = back (omega arith)
+
+pub turned-length : (n : ℕ) (l : List ℕ) → length (turned n l) ≡ length l
+unfolding turned
+turned-length n l = length-append (drop n l) (take n l) ∙ simp (length-take, length-drop) (omega arith)
+
+pub wrapped-lt : (m i : ℕ) → i < m + m → 0 < m → wrapped m i < m
+unfolding wrapped
+wrapped-lt m i h g = go (tri i m)
+  where
+    go : Tri i m → cond (ltb i m) i (i - m) < m
+    go (less k) = rw (lt-ltb i m k) k
+    go (same e) = rw (le-ltb i m (omega arith)) (omega arith)
+    go (more k) = rw (le-ltb i m (omega arith)) (omega arith)

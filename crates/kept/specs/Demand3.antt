@@ -1,6 +1,6 @@
 -- To believe. Demand 3 on lists of keys, as statements. proofs/Demand3Laws.antt proves them.
 -- Everything that is handed in stands in front: `ok` (which numbers may be kept), `side` and `near` (the order round our own key), `drops`
--- (the drop rule) and C. The last two statements hand in document 01's: plain number order, the farthest out dropped, C at least 10.
+-- (the drop rule) and C. The last two statements hand in ours: the order round the ring (02, Wish 4), the farthest out dropped, C at least 10.
 -- Assumes nothing.
 use mathlib.Core.Path.{_≡_}
 use mathlib.Core.List.{List, []}
@@ -48,7 +48,7 @@ Same-keys-same-neighbours =
     → (es ds : List Event) → ((k : ℕ) → Learns k es → ok k) → SameKeys es ds → NoRemoval drops C [] es → NoRemoval drops′ C′ [] ds
     → (s : Side) → neighbours side near s (kept drops C es) ≡ neighbours side near s (kept drops′ C′ ds)
 
--- document 01's -------------------------------------------------------------------------------------------------------------------
+-- ours ------------------------------------------------------------------------------------------------------------------------------
 
 abbrev pub Plain-demand3 : Type 0
 Plain-demand3 =

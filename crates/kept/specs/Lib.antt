@@ -3,6 +3,7 @@ pub mod Neighbours
 pub mod History
 pub mod Rules
 pub mod Plain
+pub mod Turned
 pub mod Records
 pub mod Calls
 pub mod Demand3

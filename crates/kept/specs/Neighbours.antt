@@ -1,6 +1,6 @@
 -- To believe. "Up to five keys below, then up to five above, nearest first", as a definition and as a property; and what is dropped of too many: "take the
 -- side of the own key (below, above) with more keys, above if equal, and drop the key farthest out on it". Which side a key is on and how near it is there
--- are handed in: document 01's are in Plain.
+-- are handed in: ours are in Plain.
 -- Assumes nothing.
 use mathlib.Core.Path.{_≡_}
 use mathlib.Core.Bool.{Bool, true, false, cond}

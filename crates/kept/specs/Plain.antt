@@ -1,5 +1,5 @@
--- To believe. Document 01's own: the order around our own key that key's Around gives, with the farthest out dropped.
--- Assumes nothing.
+-- To believe. What we go by: the order around our own key that key's Around gives, with the farthest out dropped. "Dropping and the neighbour list follow this"
+-- (02, Wish 4). Assumes nothing.
 use mathlib.Core.Path.{_≡_}
 use mathlib.Core.List.{List, _++_}
 use Prim.Native.Nat.{ℕ}

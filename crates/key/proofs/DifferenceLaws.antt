@@ -1,9 +1,8 @@
 -- Laws of the difference of two numbers, and of its computation digit by digit, at any base and any width. Assumes nothing.
-use mathlib.Core.Path.{_≡_, refl, sym, ap}
-use mathlib.Core.Logic.{⊎-elim}
+use mathlib.Core.Path.{_≡_, refl, sym, ap, _∙_}
 use mathlib.Core.List.{List, [], _∷_}
-use Prim.Native.Nat.{ℕ, suc, _+_, _-_, _*_, _^_, _≤_, _<_}
-use native.Mathlib.Nat.{pow-succ', eq-zero-or-pos, mul-le-mul-right}
+use Prim.Native.Nat.{ℕ, zero, suc, _+_, _-_, _*_, _%_, _^_, _≤_, _<_}
+use native.Mathlib.Nat.{pow-succ', add-mod-right, mod-eq-of-lt}
 use native.Mathlib.Omega.{arith}
 use lib.ListN.{length}
 use Rattle.octet.specs.Number.{Digits, valueBE}
@@ -50,13 +49,22 @@ borrowed-value b (digit {x} {y} {w} {c} {d} {xs} {ys} {ws} e r) =
     rw (lengths b r .0, lengths b r .1, pow-succ' b (length xs))
     (omega (arith, borrowed-value b r, ap (λ (t : ℕ). t * P) e))
 
--- where the number taken away is at most the other, nothing is borrowed in the end, and the digits are the difference's
-pub borrowed-exact : (b : ℕ) {xs ys ws : List ℕ} {c : ℕ} → Borrowed b xs ys ws c → Digits b ws → valueBE b ys ≤ valueBE b xs
-    → valueBE b ws ≡ valueBE b xs - valueBE b ys
-borrowed-exact b {xs} {ys} {ws} {c} r h l =
+-- what is left is the difference round a ring of b ^ n
+pub borrowed-wraps : (b : ℕ) {xs ys ws : List ℕ} {c : ℕ} → Borrowed b xs ys ws c → Digits b xs → Digits b ys → Digits b ws
+    → valueBE b ws ≡ ((valueBE b xs + b ^ length xs) - valueBE b ys) % b ^ length xs
+borrowed-wraps b {xs} {ys} {ws} {c} r dx dy h =
     let v : valueBE b ws + valueBE b ys ≡ valueBE b xs + c * b ^ length xs = borrowed-value b r in
     let w : valueBE b ws < b ^ length xs = rw (sym (lengths b r .0)) (valueBE-lt b ws h) in
-    ⊎-elim
-    (λ (z : c ≡ 0). let k : c * b ^ length xs ≡ 0 = rw z (omega arith) in omega arith)
-    (λ (p : 0 < c). absurd (omega (arith, mul-le-mul-right (b ^ length xs) p)))
-    (eq-zero-or-pos c)
+    let y : valueBE b ys < b ^ length xs = rw (sym (lengths b r .1)) (valueBE-lt b ys dy) in
+    by-case (b ^ length xs) (valueBE b ws) (valueBE b xs) (valueBE b ys) c v w y (valueBE-lt b xs dx)
+  where
+    by-case : (M w x y c : ℕ) → w + y ≡ x + c * M → w < M → y < M → x < M → w ≡ ((x + M) - y) % M
+    by-case M w x y zero e h k l =
+        let f : (x + M) - y ≡ w + M = omega arith in
+        sym (ap (λ (n : ℕ). n % M) f ∙ add-mod-right w M ∙ mod-eq-of-lt h)
+    by-case M w x y (suc zero) e h k l =
+        let f : (x + M) - y ≡ w = omega arith in
+        sym (ap (λ (n : ℕ). n % M) f ∙ mod-eq-of-lt h)
+    by-case M w x y (suc (suc c)) e h k l =
+        let m : suc (suc c) * M ≡ M + M + c * M = omega arith in
+        absurd (omega arith)

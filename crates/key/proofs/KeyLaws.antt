@@ -1,12 +1,16 @@
 -- Laws of keys in hand: four words below 2 ^ 64. Assumes nothing.
 use mathlib.Core.Path.{_≡_, refl, ap, _∙_}
 use mathlib.Core.Logic.{_↔_}
-use Prim.Native.Nat.{zero, suc, _^_, _<_}
+use mathlib.Core.List.{List}
+use Prim.Native.Nat.{ℕ, zero, suc, _+_, _^_, _≤_, _<_}
+use lib.ListN.{length}
 use native.Mathlib.Omega.{arith}
 use Rattle.octet.specs.Number.{Digits}
 use Rattle.octet.proofs.BigLaws.{valueBE-lt, valueBE-inj}
 use Rattle.key.specs.declared.Key.{Key}
-use Rattle.key.specs.Number.{words, number, orderOf, distance}
+use Rattle.key.specs.Number.{keyAt, words, number, orderOf, distance}
+use Rattle.key.specs.Around.{ring}
+use Rattle.key.proofs.PlaceLaws.{part-lt}
 use Rattle.key.proofs.OrderLaws.{orderOfLists, order-lists}
 use Rattle.key.proofs.DifferenceLaws.{distance-self, distance-zero}
 
@@ -28,6 +32,15 @@ fit-digits f (suc (suc (suc (suc i)))) = omega arith
 pub number-lt : (k : Key) → Fit k → number k < 2 ^ 256
 unfolding number
 number-lt k f = valueBE-lt (2 ^ 64) (words k) (fit-digits f)
+
+pub number-ring : (k : Key) → Fit k → number k < ring
+unfolding ring
+number-ring k f = number-lt k f
+
+-- where they lie they are too
+pub key-lt : (at : ℕ) (s : List ℕ) → Digits 256 s → at + 32 ≤ length s → keyAt at s < ring
+unfolding ring
+key-lt at s d h = part-lt 256 at 32 s (omega arith) d h
 
 -- keys stand to each other as their lists of words
 pub by-words : (x y : Key) → Fit x → Fit y → orderOfLists (words x) (words y) ≡ orderOf (number x) (number y)

@@ -3,4 +3,7 @@ pub mod OrderLaws
 pub mod DifferenceLaws
 pub mod KeyLaws
 pub mod PlaceLaws
+pub mod RingLaws
+pub mod HalfLaws
 pub mod AroundLaws
+pub mod BeyondLaws

@@ -17,7 +17,7 @@ use Rattle.key.specs.Number.{orderOf}
 use Rattle.key.proofs.OrderLaws.{then, heads, order-less, order-more}
 
 -- the number of a part of n digits
-part-lt : (b at n : ℕ) (s : List ℕ) → 0 < b → Digits b s → at + n ≤ length s → valueBE b (part at n s) < b ^ n
+pub part-lt : (b at n : ℕ) (s : List ℕ) → 0 < b → Digits b s → at + n ≤ length s → valueBE b (part at n s) < b ^ n
 part-lt b at n s p d h = rw (length-part at n s h) at (valueBE-lt b (part at n s) (part-digits b at n s p d))
 
 pub order-part : (b m n i j : ℕ) (s t : List ℕ) → 0 < b → Digits b s → Digits b t → i + m + n ≤ length s → j + m + n ≤ length t

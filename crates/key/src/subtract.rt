@@ -1,7 +1,8 @@
-// The difference of two keys, exact in 256 bits: what the old gauge kept in four bytes.
+// Differences of keys in 256 bits: round the ring, and on the line, what the old gauge kept in four bytes.
 ghost use mathlib.Core.Path.{_≡_};
 ghost use Prim.Native.Nat.{_+_, _-_, _*_, _^_, _≤_};
 ghost use Rattle.key.specs.Number.{number, distance};
+ghost use Rattle.key.specs.Around.{up};
 use crate::Key;
 use crate::ordered::is_less;
 
@@ -27,10 +28,9 @@ fn sub_word(x: u64, y: u64, borrow: u64) -> Step
     Step { word, borrow: 0 }
 }
 
-// x less y, where y is at most x.
-fn less(x: Key, y: Key) -> Key
-    requires { ⌜ number y ≤ number x ⌝ }
-    ensures { λ r. ⌜ number r ≡ number x - number y ⌝ }
+// x less y, round the ring: what is borrowed at the last word is let go.
+pub fn minus(x: Key, y: Key) -> Key
+    ensures { λ r. ⌜ number r ≡ up (number y) (number x) ⌝ }
 {
     let d = sub_word(x.d, y.d, 0);
     let c = sub_word(x.c, y.c, d.borrow);
@@ -44,15 +44,12 @@ fn less(x: Key, y: Key) -> Key
     }
 }
 
-// The larger of two keys less the smaller: one subtraction, so that the compiler puts it where it is used.
+// The larger of two keys less the smaller.
 pub fn difference(x: Key, y: Key) -> Key
     ensures { λ r. ⌜ number r ≡ distance (number x) (number y) ⌝ }
 {
-    let mut high = x;
-    let mut low = y;
     if is_less(x, y) {
-        high = y;
-        low = x;
+        return minus(y, x);
     }
-    less(high, low)
+    minus(x, y)
 }

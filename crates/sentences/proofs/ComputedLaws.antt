@@ -2,7 +2,7 @@
 use Rattle.octet.specs.Number.{valueBE, valueLE, digitsBE, digitsLE}
 use Rattle.octet.specs.Part.{splice, same, allZero}
 use Rattle.key.specs.Number.{distance}
-use Rattle.key.specs.Around.{isAbove, nearness, apart, tie, closer}
+use Rattle.key.specs.Around.{ring, half, areKeys, up, isAbove, nearness, apart, isDown, tie, closer}
 use Rattle.refusal.specs.Table.{orRefuse}
 use Rattle.record.specs.Record.{recordForm}
 use Rattle.record.specs.Entry.{entryForm, recordOf, entryOf}
@@ -37,7 +37,8 @@ use Rattle.sentences.specs.Ours.{ours}
 
 -- to compute a call: what unfolds this name unfolds all that a call is made of
 unfoldable pub computed : Unit {0}
-unfolding valueBE valueLE digitsBE digitsLE splice same allZero distance isAbove nearness apart tie closer orRefuse recordForm entryForm recordOf entryOf
+unfolding valueBE valueLE digitsBE digitsLE splice same allZero distance ring half areKeys up isAbove nearness apart isDown tie closer
+    orRefuse recordForm entryForm recordOf entryOf
     put without among inOrder lastOr farthestOut trimmed learn happen after putBy withoutBy learnBy rows joined bytesOf
     follows leading heldIn heldOf cacheForm keyBytes closestFrom closestOf listCall
     newPlace placeForm anyOf placesForm usedIn usedOf waitingForm seek opened freed ticked listed idBytes tickRefusals tickDone tickCall

@@ -84,7 +84,7 @@ acks l id silent n = cond silent [] (written ackKinds (ackSent (l .major) (l .mi
 abbrev pub asks : Receive → Bool → List ℕ → List (List ℕ)
 asks l ask r = cond ask (written inquireKinds (inquireSent (l .major) (l .minor) (idAfter (l .id)) (part 0 32 r) (l .nonce)) ∷ []) []
 
--- "the record closest to the target, the own record included: the least difference ..; at equal difference the smaller key"
+-- "the record closest to the target, the own record included"; "the shorter way round; at equal distance .. the key reached by going down" (02, Wish 4)
 abbrev pub Candidate : Memory → Receive → List ℕ → Type 0
 Candidate m l r = (r ≡ l .own) ⊎ Holds (keyOf (l .own)) m r
 

@@ -64,14 +64,14 @@ fn say_neighbours(line: &mut [u8], names: &[u8], own: &[u8], cache: &[u8]) {
     let above = answer.second as usize;
     say_count(
         line,
-        b"\nNeighbours below, the next smaller keys, nearest first: ",
+        b"\nNeighbours below, the next keys down, nearest first: ",
         below as u64,
         b"",
     );
     say_keys(line, names, &list, 0, below);
     say_count(
         line,
-        b"\nNeighbours above, the next larger keys, nearest first: ",
+        b"\nNeighbours above, the next keys up, nearest first: ",
         above as u64,
         b"",
     );

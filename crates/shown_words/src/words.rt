@@ -101,6 +101,9 @@ pub fn say_glossary() {
         b"  SOLICIT, ADVERTISE and REQUEST are for new gauges; this one does not take them\n",
     );
     text::tell(
+        b"Keys go round: up from the largest comes the smallest, and down from the smallest the largest.\n",
+    );
+    text::tell(
         b"A tick is a second that has passed. A key without a name is shown by its first and last eight digits.\n\n",
     );
 }

@@ -1,6 +1,6 @@
--- Worked cases. Document 01's cases 1 to 12, those marked P: rows of one list under one statement. Lists, learning, closest records and ticks are what our calls
--- give on lent bytes; a difference and an ACK are by the definitions that the calls use. Assumes nothing.
-use Prim.Native.Nat.{ℕ, _-_, _*_, _^_}
+-- Worked cases. Document 01's cases 1 to 12, those marked P, and those of 02's Wish 4: rows of one list under one statement. Lists, learning, closest records
+-- and ticks are what our calls give on lent bytes; a difference and an ACK are by the definitions that the calls use. Assumes nothing.
+use Prim.Native.Nat.{ℕ, _+_, _-_, _*_, _^_}
 use mathlib.Core.Path.{_≡_}
 use mathlib.Core.Bool.{Bool, true, false}
 use mathlib.Core.List.{List, [], _∷_, _++_, map}
@@ -95,7 +95,13 @@ Right (differ j k d) = around.apart j k ≡ d
 Right (acks major minor id acked n bytes) = ackMade major minor id acked n .bytes ≡ bytes
 Right (waits id tries ids) = Ticking (holding 10 [] (newPlace id 1 tries (key 7) (replicate 100 0) ∷ [])) ids
 
--- 1 to 12, in order
+-- the nine keys before the ring's first
+abbrev pub lastNine : List ℕ
+lastNine =
+    (2 ^ 256 - 9) ∷ (2 ^ 256 - 8) ∷ (2 ^ 256 - 7) ∷ (2 ^ 256 - 6) ∷ (2 ^ 256 - 5) ∷ (2 ^ 256 - 4) ∷ (2 ^ 256 - 3) ∷ (2 ^ 256 - 2) ∷ (2 ^ 256 - 1) ∷ []
+
+-- 1 to 12, in order, "Case 9's answer becomes 0" (Wish 4); then Wish 4's own: pond 1 has the last pond as neighbour below; the opposite key is above; at equal
+-- distance the key reached by going down; the key next to the opposite point is dropped
 abbrev pub cases : List Case
 cases =
     listed 100 (60 ∷ 70 ∷ 80 ∷ 90 ∷ 95 ∷ 99 ∷ 101 ∷ 110 ∷ []) (99 ∷ 95 ∷ 90 ∷ 80 ∷ 70 ∷ 101 ∷ 110 ∷ []) 5 2
@@ -106,13 +112,17 @@ cases =
     ∷ shown 50 (99 ∷ 101 ∷ []) 100 99
     ∷ shown 9 (1 ∷ 4294967296 ∷ []) 0 1
     ∷ differ 4294967295 4294967296 1
-    ∷ shown 5 (0 ∷ []) (2 ^ 256 - 1) 5
+    ∷ shown 5 (0 ∷ []) (2 ^ 256 - 1) 0
     ∷ acks 6 101 7 0xD8859CF5 false
     (0x00 ∷ 0x10 ∷ 0x00 ∷ 0x0C ∷ 0x51 ∷ 0x06 ∷ 0x65 ∷ 0x09 ∷ 0x00 ∷ 0x00 ∷ 0x00 ∷ 0x07 ∷ 0x00 ∷ 0x18 ∷ 0x00 ∷ 0x08 ∷ 0xD8 ∷ 0x85 ∷ 0x9C ∷ 0xF5 ∷ [])
     ∷ acks 6 101 7 0xD8859CF5 true
     (0x00 ∷ 0x10 ∷ 0x00 ∷ 0x0C ∷ 0x51 ∷ 0x06 ∷ 0x65 ∷ 0x09 ∷ 0x00 ∷ 0x00 ∷ 0x00 ∷ 0x07 ∷ 0x00 ∷ 0x18 ∷ 0x00 ∷ 0x08 ∷ 0xD8 ∷ 0x85 ∷ 0x9C ∷ 0xF5
     ∷ 0x00 ∷ 0x40 ∷ 0x00 ∷ 0x06 ∷ 0x00 ∷ 0x01 ∷ [])
     ∷ waits 3 2 ((3 ∷ []) ∷ (3 ∷ []) ∷ [] ∷ [])
+    ∷ listed 1 (5 ∷ (2 ^ 256 - 1) ∷ []) ((2 ^ 256 - 1) ∷ 5 ∷ []) 1 1
+    ∷ listed 0 ((2 ^ 255) ∷ (2 ^ 255 + 1) ∷ []) ((2 ^ 255 + 1) ∷ (2 ^ 255) ∷ []) 1 1
+    ∷ shown 7 (1 ∷ (2 ^ 256 - 1) ∷ []) 0 (2 ^ 256 - 1)
+    ∷ learnt 10 1 ((2 ^ 256 - 10) ∷ lastNine) 5 (5 ∷ lastNine)
     ∷ []
 
 abbrev pub AllRight : Type 0

@@ -1,4 +1,5 @@
-// Vectors of keys, each an operand of 32 bytes: order, difference, and how they stand around our own and around a target.
+// Vectors of keys, each an operand of 32 bytes: order, difference on the line and round the ring, and how they stand
+// around our own and around a target.
 use key::Key;
 use vector_text::line;
 use vector_text::say;
@@ -70,6 +71,14 @@ pub fn answer(text: &[u8], room: &mut [u8], side: &mut [u8]) -> bool {
     }
     if line::is_named(text, b"differ") {
         say::key(key::difference(operand(text, 1, room), operand(text, 2, side)));
+        return true;
+    }
+    if line::is_named(text, b"minus") {
+        say::key(key::minus(operand(text, 1, room), operand(text, 2, side)));
+        return true;
+    }
+    if line::is_named(text, b"far") {
+        say::key(key::how_far(operand(text, 1, room), operand(text, 2, side)));
         return true;
     }
     if line::is_named(text, b"same") {

@@ -8,6 +8,8 @@ use Rattle.octet.specs.Number.{Bytes}
 use Rattle.octet.specs.Part.{splice}
 use Rattle.octet.proofs.PartLaws.{splice-nil}
 use Rattle.table.specs.Rows.{rows}
+use Rattle.kept.specs.Turned.{turned}
+use Rattle.key.specs.Number.{keyAt}
 use Rattle.cache.specs.Form.{keysOf}
 use Rattle.cache.specs.Bytes.{keyBytes}
 use Rattle.cache.proofs.ListLaws.{key-digits, write-turn, up-length, up-key}
@@ -17,7 +19,7 @@ use Rattle.cache.proofs.listing.keys_up.Tie as tie
 
 abbrev Inv-loop : tie.InvT-loop
 Inv-loop cache used from n out₀ at i₀ out i =
-    (i ≤ n) × (length out ≡ length out₀) × (out ≡ splice at (keyBytes (take i (take n (drop from (keysOf (rows 100 used cache)))))) out₀)
+    (i ≤ n) × (length out ≡ length out₀) × (out ≡ splice at (keyBytes (take i (take n (turned from (keysOf (rows 100 used cache)))))) out₀)
 
 abbrev μ-loop : tie.MeasureT-loop
 μ-loop cache used from n out₀ at i₀ out i = n - i
@@ -26,8 +28,11 @@ loop-holds : tie.Need-loop-holds Inv-loop μ-loop
 unfolding keyBytes
 loop-holds c = (omega arith, refl, sym (splice-nil (c .before .before .args .at) (c .before .before .args .out .now)))
 
-add-start : tie.Need-add-start Inv-loop μ-loop
-add-start c = omega arith
+add-wrap : tie.Need-add-wrap Inv-loop μ-loop
+add-wrap c = omega arith
+
+wrap-requires : tie.Need-wrap-requires Inv-loop μ-loop
+wrap-requires c κs = omega arith
 
 mul-start : tie.Need-mul-start Inv-loop μ-loop
 mul-start c = omega arith
@@ -61,21 +66,23 @@ loop-less c = omega arith
 
 loop-again : tie.Need-loop-again Inv-loop μ-loop
 loop-again c =
-    let c6 = c .before .before .before .before .before .before in
-    let l = c6 in
+    let at-wrap = c .before .before .before .before .before in
+    let l = at-wrap .before .before in
     let a = l .before .before .before .args in
     let i = l .loop .i in
     let s = a .cache .now in
-    let p = 100 * (a .from + i) in
+    let p = 100 * at-wrap .wrap .result in
     let e : p + 32 - p ≡ 32 = omega arith in
+    let inside : p + 32 ≤ length s = omega (arith, at-wrap .wrap .ensures .1) in
     let bytes : Bytes s = λ j. omega (arith, l .before .before .shared-slice-known .given j) in
-    let row = ap (λ (k : ℕ). take k (drop p s)) e ∙ key-digits p s bytes (omega arith) in (
+    let row = ap (λ (k : ℕ). take k (drop p s)) e ∙ key-digits p s bytes inside in (
       omega arith,
       omega (arith, c .before .before .copy-to .kept .0, l .loop .inv .1),
       c .before .before .copy-to .ensures
-          ∙ write-turn (a .at) i _ (take (a .n) (drop (a .from) (keysOf (rows 100 (a .used) (a .cache .now))))) _ (a .out .now) (l .loop .out) (omega
+          ∙ write-turn (a .at) i _ (take (a .n) (turned (a .from) (keysOf (rows 100 (a .used) (a .cache .now))))) _ (a .out .now) (l .loop .out) (omega
           (arith, up-length (a .used) s (a .from) (a .n) (omega arith)))
-          (up-key (a .used) s (a .from) (a .n) i (omega arith) (omega arith)) row (l .loop .inv .2) (omega arith),
+          (up-key (a .used) s (a .from) (a .n) i (omega arith) (omega arith) (omega arith)
+          ∙ ap (λ (k : ℕ). keyAt (100 * k) s) (sym (at-wrap .wrap .ensures .0))) row (l .loop .inv .2) (omega arith),
     )
 
 same-length : tie.Need-same-length Inv-loop μ-loop
@@ -87,7 +94,7 @@ returns c =
     let a = l .before .before .before .args in
     l .loop .inv .2
     ∙ ap (λ (t : List ℕ). splice (a .at) (keyBytes t) (a .out .now))
-    (take-all (l .loop .i) (take (a .n) (drop (a .from) (keysOf (rows 100 (a .used) (a .cache .now))))) (omega (
+    (take-all (l .loop .i) (take (a .n) (turned (a .from) (keysOf (rows 100 (a .used) (a .cache .now))))) (omega (
       arith,
       up-length (a .used)
           (a .cache .now) (a .from) (a .n) (omega arith),
@@ -100,7 +107,8 @@ keys-up-spec =
     Inv-loop
     μ-loop
     loop-holds
-    add-start
+    add-wrap
+    wrap-requires
     mul-start
     mul-copy-to
     add-copy-to

@@ -1,43 +1,43 @@
--- `key::is_above` meets its contract: above is the larger number. Assumes nothing.
-use mathlib.Core.Path.{sym, _∙_}
+-- `key::is_above` meets its contract: by the steps up from our own key. Assumes nothing.
+use mathlib.Core.Path.{_≡_, sym, ap, ap₂, _∙_}
+use mathlib.Core.Bool.{Bool, _&&_}
+use Prim.Native.Nat.{ℕ}
+use native.Mathlib.Omega.{arith}
+use lib.Dec.{leb}
+use Rattle.key.specs.Number.{number, keyAt}
+use Rattle.key.specs.Around.{half, up}
+use Rattle.key.proofs.KeyLaws.{key-lt}
+use Rattle.key.proofs.AroundLaws.{above-steps}
 use borrow.Author.Needs.{needs}
-use Rattle.key.specs.Number.{keyAt}
-use Rattle.key.specs.Around.{isAbove}
-use Rattle.key.proofs.OrderLaws.{test-less, test-same, test-more}
 use Rattle.key.proofs.around.is_above.Statement.{statement}
 use Rattle.key.proofs.around.is_above.Tie as tie
 
-order-at-requires : tie.Need-order-at-requires
-order-at-requires c κs = search needs
+key-at-requires : tie.Need-key-at-requires
+key-at-requires c κs = search needs
 
-enum-told : tie.Need-enum-told
-enum-told c = search needs
+key-at-requires-2 : tie.Need-key-at-requires-2
+key-at-requires-2 c κs = search needs
 
-enum-told-2 : tie.Need-enum-told-2
-enum-told-2 c = search needs
+minus-requires : tie.Need-minus-requires
+minus-requires c κs = search needs
 
-enum-told-3 : tie.Need-enum-told-3
-enum-told-3 c = search needs
+is-up-requires : tie.Need-is-up-requires
+is-up-requires c κs = search needs
 
 returns : tie.Need-returns
-unfolding isAbove
 returns c =
-    let args = c .before .before .before .before .before .args in
-    sym (test-less (keyAt 0 (args .own .now)) (keyAt (args .at) (args .s .now)) (sym (c .before .before .order-at .ensures) ∙ c .enum-told .given .1) .0)
-
-returns-2 : tie.Need-returns-2
-unfolding isAbove
-returns-2 c =
-    let args = c .before .before .before .before .before .args in
-    sym (test-same (keyAt 0 (args .own .now)) (keyAt (args .at) (args .s .now)) (sym (c .before .before .order-at .ensures) ∙ c .enum-told2 .given .1) .0)
-
-returns-3 : tie.Need-returns-3
-unfolding isAbove
-returns-3 c =
-    let args = c .before .before .before .before .before .args in
-    sym (test-more (keyAt 0 (args .own .now)) (keyAt (args .at) (args .s .now)) (sym (c .before .before .order-at .ensures) ∙ c .enum-told3 .given .1) .0)
+    let c3 = c .before .before .before in
+    let known2 = c3 .before in
+    let known = known2 .before in
+    let start = known .before in
+    let a = start .args in
+    let o : ℕ = keyAt 0 (a .own .now) in
+    let k : ℕ = keyAt (a .at) (a .s .now) in
+    let e : number (c .before .minus .result) ≡ up o k = c .before .minus .ensures ∙ ap₂ up (c .before .before .key-at2 .ensures) (c3 .key-at .ensures) in
+    c .is-up .ensures ∙ ap (λ (n : ℕ). leb 1 n && leb n half) e
+    ∙ sym (above-steps o k (key-lt 0 (a .own .now) (λ i. omega (arith, known .shared-slice-known .given i)) (start .pre .0))
+    (key-lt (a .at) (a .s .now) (λ i. omega (arith, known2 .shared-slice-known2 .given i)) (start .pre .1)))
 
 pub is-above-spec : {M : Type 1} → statement M
 is-above-spec =
-    tie.close
-    (tie.spec order-at-requires enum-told enum-told-2 enum-told-3 returns returns-2 returns-3)
+    tie.close (tie.spec key-at-requires key-at-requires-2 minus-requires is-up-requires returns)

@@ -1,34 +1,44 @@
--- `key::difference` meets its contract: the smaller is taken from the larger. Assumes nothing.
+-- `key::difference` meets its contract: the smaller is taken from the larger, and nothing wraps. Assumes nothing.
 use mathlib.Core.Path.{_≡_, sym, _∙_}
-use mathlib.Core.Logic.{⊎-elim}
+use native.Mathlib.Omega.{arith}
 use native.Mathlib.Nat.{le-of-lt}
-use Prim.Native.Nat.{_-_, _≤_}
 use borrow.Author.Tests.{ltb-true, ltb-false}
-use Rattle.key.specs.Number.{number, distance}
+use Rattle.key.specs.Number.{number}
 use Rattle.key.proofs.DifferenceLaws.{distance-above, distance-below}
+use Rattle.key.proofs.KeyLaws.{Fit, number-ring}
+use Rattle.key.proofs.RingLaws.{up-straight}
 use borrow.Author.Needs.{needs}
 use Rattle.key.proofs.subtract.difference.Statement.{statement}
 use Rattle.key.proofs.subtract.difference.Tie as tie
 
--- which is which, whichever way it came
-placed : (c : tie.Joined1) → let a = c .before .before .args in
-    (number (c .if1 .low) ≤ number (c .if1 .high)) × (number (c .if1 .high) - number (c .if1 .low) ≡ distance (number (a .x)) (number (a .y)))
-placed c =
-    let a = c .before .before .args in
-    let e = c .before .is-less .ensures in
-    ⊎-elim
-    (λ w. let h = le-of-lt (ltb-true (number (a .x)) (number (a .y)) (sym e ∙ w .0 .taken)) in rw (w .1, w .2) (h, sym (distance-below _ _ h)))
-    (λ w. let h = ltb-false (number (a .x)) (number (a .y)) (sym e ∙ w .0 .left) in rw (w .1, w .2) (h, sym (distance-above _ _ h)))
-    (c .if1 .came)
+words-fit : (s : tie.Start) → Fit (s .args .x) × Fit (s .args .y)
+words-fit s = (omega arith, omega arith)
 
 is-less-requires : tie.Need-is-less-requires
 is-less-requires c κs = search needs
 
-less-requires : tie.Need-less-requires
-less-requires c κs = placed c .0
+minus-requires : tie.Need-minus-requires
+minus-requires c κs = search needs
 
 returns : tie.Need-returns
-returns c = c .less .ensures ∙ placed (c .before) .1
+returns c =
+    let s = c .before .before .before in
+    let x = number (s .args .x) in
+    let y = number (s .args .y) in
+    let h = le-of-lt (ltb-true x y (sym (c .before .before .is-less .ensures) ∙ c .before .if1 .taken)) in
+    c .minus .ensures ∙ up-straight x y h (number-ring (s .args .y) (words-fit s .1)) ∙ sym (distance-below x y h)
+
+minus-requires-2 : tie.Need-minus-requires-2
+minus-requires-2 c κs = search needs
+
+returns-2 : tie.Need-returns-2
+returns-2 c =
+    let s = c .before .before .before in
+    let x = number (s .args .x) in
+    let y = number (s .args .y) in
+    let h = ltb-false x y (sym (c .before .before .is-less .ensures) ∙ c .before .if1 .left) in
+    c .minus2 .ensures ∙ up-straight y x h (number-ring (s .args .x) (words-fit s .0)) ∙ sym (distance-above x y h)
 
 pub difference-spec : {M : Type 1} → statement M
-difference-spec = tie.close (tie.spec is-less-requires less-requires returns)
+difference-spec =
+    tie.close (tie.spec is-less-requires minus-requires returns minus-requires-2 returns-2)

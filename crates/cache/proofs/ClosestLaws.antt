@@ -9,10 +9,10 @@ use native.Mathlib.Omega.{arith}
 use lib.ListN.{length}
 use Rattle.key.specs.Around.{closer}
 use Rattle.key.proofs.AroundLaws.{closer-self, closer-anti, closer-trans, closer-both}
-use Rattle.record.specs.Record.{keyOf}
+use Rattle.record.specs.Record.{keyOf, recordForm}
 use Rattle.table.specs.Rows.{rows, Sized}
 use Rattle.table.proofs.RowLaws.{rows-sized}
-use Rattle.kept.specs.Keys.{_∈_, Rising, plain}
+use Rattle.kept.specs.Keys.{_∈_, Every, Rising, plain}
 use Rattle.kept.specs.Plain.{NotOwn}
 use Rattle.kept.proofs.ListLaws.{every-at, rising-at}
 use Rattle.cache.specs.Form.{keysOf, Held}
@@ -79,7 +79,7 @@ module _ (t : ℕ) (own : List ℕ) (held : List (List ℕ)) where
       closer-both t (keyOf z) (keyOf (closestOf t (candidates own held))) (closest-least z m) (h (closestOf t (candidates own held)) closest-among)
 
 -- of records under the own key that a cache may hold, no two have one key
-held-key : (x : List ℕ) (recs : List (List ℕ)) → x ∈ recs → keyOf x ∈ keysOf recs
+pub held-key : (x : List ℕ) (recs : List (List ℕ)) → x ∈ recs → keyOf x ∈ keysOf recs
 held-key x [] m = absurd m
 held-key x (r ∷ recs) (inl e) = inl (ap keyOf e)
 held-key x (r ∷ recs) (inr m) = inr (held-key x recs m)
@@ -107,6 +107,17 @@ pub closest-only : (t : ℕ) (own : List ℕ) (held : List (List ℕ)) → Held 
     → ((y : List ℕ) → y ∈ candidates own held → closer t (keyOf y) (keyOf z) ≡ false) → z ≡ closestOf t (candidates own held)
 closest-only t own held f z m h =
     one-candidate own held f z (closestOf t (candidates own held)) m (closest-among t own held) (closest-key t own held z m h)
+
+-- ---- it is in form where all are
+
+in-form : (r : List ℕ) (recs : List (List ℕ)) → Every (λ (q : List ℕ). recordForm q ≡ true) recs → r ∈ recs → recordForm r ≡ true
+in-form r [] a m = absurd m
+in-form r (q ∷ recs) a (inl e) = rw e (a .0)
+in-form r (q ∷ recs) a (inr m) = in-form r recs (a .1) m
+
+pub closest-formed : (t own-key : ℕ) (own : List ℕ) (held : List (List ℕ)) → recordForm own ≡ true → Held own-key held
+    → recordForm (closestOf t (candidates own held)) ≡ true
+closest-formed t k own held e f = in-form (closestOf t (candidates own held)) (candidates own held) (e, f .formed) (closest-among t own held)
 
 -- ---- a record is 100 bytes, so the answer is
 

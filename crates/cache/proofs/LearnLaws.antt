@@ -141,7 +141,7 @@ farthest-goes own keys o rises others small some = go (ltb (length keys) (countB
         let l : i < length keys = omega (arith, count-le own keys) in
         record {
           inside = wrapped-lt (length keys) (countUnder own keys + i) (omega (arith, under-le own keys)) some;
-          named = drops-below own o keys rises others small h ∙ turned-at (countUnder own keys) keys i (under-le own keys) l;
+          named = drops-below own o keys rises small others h ∙ turned-at (countUnder own keys) keys i (under-le own keys) l;
         }
     go false e =
         let h = ltb-false (length keys) (countBelow own keys + countBelow own keys) e in
@@ -150,7 +150,7 @@ farthest-goes own keys o rises others small some = go (ltb (length keys) (countB
         let j : countUnder own keys + i ≡ (countUnder own keys + (length keys - countBelow own keys)) - 1 = omega arith in
         record {
           inside = wrapped-lt (length keys) ((countUnder own keys + (length keys - countBelow own keys)) - 1) (omega (arith, under-le own keys)) some;
-          named = drops-above own o keys rises others small some h ∙ turned-at (countUnder own keys) keys i (under-le own keys) l
+          named = drops-above own o keys rises small others some h ∙ turned-at (countUnder own keys) keys i (under-le own keys) l
               ∙ ap (λ (m : ℕ). getD keys (wrapped (length keys) m) 0) j;
         }
 

@@ -7,6 +7,6 @@ pub mod KeepLaws
 pub mod ListLaws
 pub mod SideLaws
 pub mod ClosestLaws
-pub mod BestLaws
+pub mod BesideLaws
 pub mod LentLaws
 pub mod CallLaws

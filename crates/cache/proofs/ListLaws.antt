@@ -101,6 +101,11 @@ module _ (used : ℕ) (s : List ℕ) where
       ∙ ap (λ (n : ℕ). getD keys (wrapped n (from + i)) 0) keys-count
       ∙ place-key (wrapped used (from + i)) (wrapped-lt used (from + i) (omega arith) (omega arith))
 
+  pub key-round : (from i : ℕ) → from ≤ used → i < used
+      → getD (turned from (keysOf (rows 100 used s))) i 0 ≡ keyAt (100 * wrapped used (from + i)) s
+  unfolding keys
+  key-round from i h g = round-key from i h g
+
   -- from place `from` on, upwards and round
   pub up-length : (from n : ℕ) → n ≤ used → length (take n (turned from (keysOf (rows 100 used s)))) ≡ n
   unfolding keys
@@ -150,22 +155,22 @@ module _ (own used : ℕ) (s : List ℕ) (f : Form own s (rows 100 used s)) (o :
     pub near-below : neighbours own below (keysOf (rows 100 used s)) ≡ take p (reverse (turned first (keysOf (rows 100 used s))))
     unfolding held
     near-below =
-        list-below own o held (f .held .rising) (f .held .others) (keys-small used s b room)
+        list-below own o held (f .held .rising) (keys-small used s b room) (f .held .others)
         ∙ ap₂ (λ (n m : ℕ). take n (reverse (turned m held))) (ap (min 5) (sym eu) ∙ sym ep) (sym ef)
 
     pub near-above : neighbours own above (keysOf (rows 100 used s)) ≡ take q (turned first (keysOf (rows 100 used s)))
     unfolding held
     near-above =
-        list-above own o held (f .held .rising) (f .held .others) (keys-small used s b room)
+        list-above own o held (f .held .rising) (keys-small used s b room) (f .held .others)
         ∙ ap₂ (λ (n m : ℕ). take n (turned m held)) (ap₂ (λ (m n : ℕ). min 5 (m - n)) held-count (sym eu) ∙ sym eq) (sym ef)
 
     pub near-counts : _≡_ {A = Counts} (record { below = p; above = q }) (countsOf own (rows 100 used s))
     unfolding held
     near-counts =
         let z = keys-small used s b room in
-        let l : length (neighbours own below held) ≡ p = below-length own o held (f .held .rising) (f .held .others) z ∙ ap (min 5) (sym eu) ∙ sym ep in
+        let l : length (neighbours own below held) ≡ p = below-length own o held (f .held .rising) z (f .held .others) ∙ ap (min 5) (sym eu) ∙ sym ep in
         let a : length (neighbours own above held) ≡ q =
-        above-length own o held (f .held .rising) (f .held .others) z ∙ ap₂ (λ (m n : ℕ). min 5 (m - n)) held-count (sym eu) ∙ sym eq in
+        above-length own o held (f .held .rising) z (f .held .others) ∙ ap₂ (λ (m n : ℕ). min 5 (m - n)) held-count (sym eu) ∙ sym eq in
         λ k. record { below = sym l k; above = sym a k }
 
     -- the keys below and then those above, written one after the other

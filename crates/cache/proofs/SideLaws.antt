@@ -66,20 +66,20 @@ module _ (own used first : ℕ) (s : List ℕ) (f : Form own s (rows 100 used s)
 
   pub rises-over : Rising plain 0 (keysOf (rows 100 (used - first) rest))
   unfolding keys
-  rises-over = subst (Rising plain 0) (sym over-keys) (over-rises own o keys (f .held .rising) (f .held .others) small)
+  rises-over = subst (Rising plain 0) (sym over-keys) (over-rises own o keys (f .held .rising) small (f .held .others))
 
   pub rises-under : Rising plain 0 (keysOf (rows 100 first s))
   unfolding keys
-  rises-under = subst (Rising plain 0) (sym under-keys) (under-rises own o keys (f .held .rising) (f .held .others) small)
+  rises-under = subst (Rising plain 0) (sym under-keys) (under-rises own o keys (f .held .rising) small (f .held .others))
 
   module _ (k n : ℕ) (a : k ≡ across own) where
     pub low-sum : own < half → n ≡ countUpto k (keysOf (rows 100 (used - first) rest))
         → countBelow own (keysOf (rows 100 used s)) + n ≡ used
     unfolding keys
     low-sum h c =
-        omega (arith, c ∙ ap₂ countUpto a over-keys, below-low own o keys (f .held .rising) (f .held .others) small h, many)
+        omega (arith, c ∙ ap₂ countUpto a over-keys, below-low own o keys (f .held .rising) small (f .held .others) h, many)
 
     pub high-sum : half ≤ own → n ≡ countUpto k (keysOf (rows 100 first s)) → countBelow own (keysOf (rows 100 used s)) + n ≡ first
     unfolding keys
     high-sum h c =
-        omega (arith, c ∙ ap₂ countUpto a under-keys, below-high own o keys (f .held .rising) (f .held .others) small h, e)
+        omega (arith, c ∙ ap₂ countUpto a under-keys, below-high own o keys (f .held .rising) small (f .held .others) h, e)

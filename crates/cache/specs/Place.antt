@@ -7,6 +7,7 @@ use lib.Dec.{ltb, eqb}
 use lib.ListN.{length, getD}
 use Rattle.octet.specs.Part.{part}
 use Rattle.key.specs.Number.{keyAt}
+use Rattle.key.specs.Around.{closer}
 use Rattle.kept.specs.Plain.{drops}
 use Rattle.kept.specs.Turned.{wrapped}
 use Rattle.cache.specs.Form.{heldIn, cacheForm}
@@ -60,3 +61,10 @@ Within n (Held i) = i < n
 abbrev pub recordAt : List ℕ → List ℕ → Where → List ℕ
 recordAt own cache Own = own
 recordAt own cache (Held i) = part (100 * i) 100 cache
+
+-- which of our own record and those of two places is the closest to t
+unfoldable pub nearestOf : ℕ → List ℕ → List ℕ → ℕ → ℕ → Where
+nearestOf t own cache up down =
+    cond (closer t (keyAt (100 * up) cache) (keyAt (100 * down) cache))
+    (cond (closer t (keyAt (100 * up) cache) (keyAt 0 own)) (Held up) Own)
+    (cond (closer t (keyAt (100 * down) cache) (keyAt 0 own)) (Held down) Own)

@@ -65,10 +65,11 @@ module _ (l : Receive) where
     fit-ready = subst (memory.KnownMemory (l .own) (l .cache) (l .waiting)) fit (memory.known-memory (l .own) (l .cache) (l .waiting))
 
     pub message-needs : handsFit (l .cpa) (l .nonce) (l .key) ≡ true
-        → (length (l .own) ≡ 100) × (length (l .cpa) ≤ 1024) × (100 * h ≤ length (l .cache)) × (140 * u ≤ length (l .waiting)) × (length (l .key) ≡ 32)
+        → (recordForm (l .own) ≡ true) × (length (l .cpa) ≤ 1024) × Form (keyOf (l .own)) (l .cache) (rows 100 h (l .cache))
+        × (140 * u ≤ length (l .waiting)) × (length (l .key) ≡ 32)
     message-needs e =
         let w = memory.known-hands (l .cpa) (l .nonce) (l .key) e in
-        (fit-ready .long, w .most, fit-ready .room, fit-ready .laid .room, w .keyed)
+        (fit-ready .owned, w .most, fit-ready .form, fit-ready .laid .room, w .keyed)
 
 -- a FLOOD's plan, by whether it has a route entry
 module _ (l : Receive) (h u : ℕ) {a : T.Answer} {head : Head} {s : Bool} {validate : ℕ} {token revoke entry reached : Part}

@@ -1,8 +1,12 @@
 // What is planned for a datagram received. Lent everything for reading.
 ghost use mathlib.Core.Path.{_≡_};
+ghost use mathlib.Core.Bool.{true};
 ghost use mathlib.Core.List.{List};
 ghost use Prim.Native.Nat.{ℕ, _*_, _≤_};
 ghost use lib.ListN.{length};
+ghost use Rattle.record.specs.Record.{keyOf, recordForm};
+ghost use Rattle.table.specs.Rows.{rows};
+ghost use Rattle.cache.specs.Form.{Form};
 ghost use Rattle.wire_read.specs.Answers.{isHere, answer};
 ghost use Rattle.gauge.specs.Lent.{receive};
 ghost use Rattle.gauge.specs.Receive.{planFor, receivePlan};
@@ -36,7 +40,8 @@ fn plan_message<'a>(
     datagram: &[u8],
     output: &[u8],
 ) -> Plan
-    requires { ⌜ (length (now own) ≡ 100) × (length (now cpa) ≤ 1024) × (100 * held ≤ length (now cache))
+    requires { ⌜ (recordForm (now own) ≡ true) × (length (now cpa) ≤ 1024)
+        × Form (keyOf (now own)) (now cache) (rows 100 held (now cache))
         × (140 * used ≤ length (now waiting)) × (length (now key) ≡ 32) ⌝ }
     ensures { λ r. ⌜ ((minor : ℕ) (nonce : List ℕ) → r ≡ planFor (receive (now (own .entry)) (now (cpa .entry))
         (now (cache .entry)) (now (waiting .entry)) major minor id nonce verdict (now (key .entry))

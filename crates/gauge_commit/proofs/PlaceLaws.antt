@@ -1,4 +1,4 @@
--- The parts of a waiting place, where they lie in the table, as they are lent; the closest record is in form; a place found and freed. Assumes nothing.
+-- The parts of a waiting place, where they lie in the table, as they are lent; a place found and freed. Assumes nothing.
 use mathlib.Core.Path.{_≡_, sym, ap, _∙_}
 use mathlib.Core.Logic.{inl, inr}
 use mathlib.Core.Bool.{true}
@@ -51,17 +51,6 @@ target-lent at d = ap (keyAt 0) (part-lent at 32 d) ∙ ap (valueBE 256) (part-s
 
 pub target-long : (at : ℕ) (d : List ℕ) → at + 32 ≤ length d → length (take ((at + 32) - at) (drop at d)) ≡ 32
 target-long at d h = ap length (part-lent at 32 d) ∙ length-part at 32 d h
-
--- ---- the closest record is in form
-
-in-form : (r : List ℕ) (recs : List (List ℕ)) → Every (λ (q : List ℕ). recordForm q ≡ true) recs → r ∈ recs → recordForm r ≡ true
-in-form r [] a m = absurd m
-in-form r (q ∷ recs) a (inl e) = rw e (a .0)
-in-form r (q ∷ recs) a (inr m) = in-form r recs (a .1) m
-
-pub closest-formed : (t own-key : ℕ) (own cache : List ℕ) (held : List (List ℕ)) → recordForm own ≡ true → Form own-key cache held
-    → recordForm (closestOf t (candidates own held)) ≡ true
-closest-formed t k own cache held e f = in-form (closestOf t (candidates own held)) (candidates own held) (e, f .held .formed) (closest-among t own held)
 
 -- ---- an inquiry found, and none
 

@@ -44,7 +44,7 @@ use Rattle.gauge_commit.specs.Sending.{lengths, sending, OnlyFirst}
 use Rattle.gauge_commit.specs.Replies.{acks, asks}
 use Rattle.gauge_commit.proofs.LengthLaws.{inquire-length, cpa-length, closest-length, flood-length}
 use Rattle.gauge_commit.proofs.SentLaws.{joined-one, asked, acks-room, record-long}
-use Rattle.gauge_commit.proofs.PlaceLaws.{closest-formed}
+use Rattle.cache.proofs.ClosestLaws.{closest-formed}
 use Rattle.gauge.specs.Lent.{Receive, Send}
 use Rattle.gauge.specs.Receive.{receivePlan, carried, receiveCall}
 use Rattle.gauge.specs.Send.{sendPlan, sendCarried, sendCall}
@@ -161,7 +161,7 @@ plan-first l (Show h a target) k =
     let r = closestOf (keyAt target (l .datagram)) (candidates (l .own) (rows 100 h (l .cache))) in
     sent-first (closestMade (l .major) (l .minor) (l .id) a r 0 .bytes ∷ []) (l .output) (omega arith)
     (shown-room (l .major) (l .minor) (l .id) r
-    (closest-formed (keyAt target (l .datagram)) (keyOf (l .own)) (l .own) (l .cache) (rows 100 h (l .cache)) (k .ready .owned) (k .ready .form))
+    (closest-formed (keyAt target (l .datagram)) (keyOf (l .own)) (l .own) (rows 100 h (l .cache)) (k .ready .owned) (k .ready .form .held))
     a (k .plans .fits-in))
 
 -- ---- a FLOOD sent

@@ -1,5 +1,5 @@
 -- Laws of the plans for an AUTHORITY, an ACK, an INQUIRE and a LOOKUP.
--- In this order: the place found; how many addresses the record shown has; each plan by the tests that the code makes; what is known of a plan. Assumes nothing.
+-- In this order: the place found; each plan by the tests that the code makes; what is known of a plan. Assumes nothing.
 use mathlib.Core.Path.{_≡_, refl, ap, _∙_}
 use mathlib.Core.Logic.{inl, inr}
 use mathlib.Core.Bool.{Bool, true, false, not, _||_}
@@ -11,16 +11,16 @@ use lib.ListN.{length, getD}
 use borrow.Author.Tests.{eq-eqb, ne-eqb, eqb-true, ltb-false, le-ltb, not-false}
 use Rattle.octet.proofs.TestLaws.{both-true}
 use Rattle.key.specs.Number.{keyAt}
-use Rattle.record.specs.Record.{countOf}
+use Rattle.record.specs.Record.{countOf, recordForm}
+use Rattle.record.proofs.EntryLaws.{few-addresses}
 use Rattle.refusal.specs.Table.{when, orRefuse}
 use Rattle.refusal.proofs.CallLaws.{or-known}
 use Rattle.table.specs.Rows.{rows}
 use Rattle.table.proofs.RowLaws.{rows-length, row-at}
-use Rattle.kept.specs.Keys.{_∈_}
 use Rattle.cache.specs.Closest.{candidates, closestOf}
-use Rattle.cache.proofs.ClosestLaws.{closest-among}
+use Rattle.cache.specs.Form.{Held}
+use Rattle.cache.proofs.ClosestLaws.{closest-formed}
 use Rattle.waiting.specs.Place.{idOf, kindOf, placeKey}
-use Rattle.waiting.specs.Form.{anyOf}
 use Rattle.waiting.specs.Seek.{seek, isAt}
 use Rattle.waiting.specs.declared.seek.Found.{Found}
 use Rattle.waiting.specs.declared.seek.Found.the-variants.{At, Nothing}
@@ -38,27 +38,6 @@ module _ (test : List ℕ → Bool) (used i : ℕ) (t : List ℕ) (e : seek test
 
   pub place-key : placeKey (getD (rows 140 used t) i []) ≡ keyAt (140 * i + 8) t
   place-key = ap placeKey (row-at 140 used t i place-within) ∙ key-at (140 * i) t
-
--- ---- how many addresses the record shown has
-
-no-one : (a b : Bool) → a || b ≡ false → (a ≡ false) × (b ≡ false)
-no-one true b e = let z : _≡_ {A = ℕ} 0 1 = cc in absurd (omega arith)
-no-one false b e = (refl, e)
-
--- does it have more than four?
-abbrev many : List ℕ → Bool
-many q = ltb 4 (countOf q)
-
-few-in : (recs : List (List ℕ)) (y : List ℕ) → anyOf many recs ≡ false → y ∈ recs → countOf y ≤ 4
-unfolding anyOf
-few-in [] y g m = absurd m
-few-in (r ∷ recs) y g (inl e) = omega (arith, ltb-false 4 (countOf r) (no-one (many r) (anyOf many recs) g .0), ap countOf e)
-few-in (r ∷ recs) y g (inr m) = few-in recs y (no-one (many r) (anyOf many recs) g .1) m
-
-few-among : (own : List ℕ) (recs : List (List ℕ)) (y : List ℕ) → countOf own ≤ 4 → anyOf many recs ≡ false
-    → y ∈ candidates own recs → countOf y ≤ 4
-few-among own recs y h g (inl e) = omega (arith, ap countOf e)
-few-among own recs y h g (inr m) = few-in recs y g m
 
 -- ---- each plan by the tests that the code makes
 
@@ -101,14 +80,13 @@ module _ (own : List ℕ) (recs : List (List ℕ)) (held room : ℕ) (d : List �
   unfolding lookupPlan
   lookup-by e = rw e refl
 
-  -- with room for any record that is not too long
-  pub lookup-any : 144 ≤ room → countOf own ≤ 4 → anyOf many recs ≡ false
-      → lookupPlan own recs held room d acked target ≡ Show held acked target
+  -- with room for any record
+  pub lookup-any : {k : ℕ} → 144 ≤ room → recordForm own ≡ true → Held k recs → lookupPlan own recs held room d acked target ≡ Show held acked target
   unfolding orRefuse
-  lookup-any r h g =
-      let k = keyAt target d in
-      let n : countOf (closestOf k (candidates own recs)) ≤ 4 = few-among own recs (closestOf k (candidates own recs)) h g (closest-among k own recs) in
-      lookup-by refl ∙ rw (le-ltb room (80 + 16 * countOf (closestOf k (candidates own recs))) (omega arith)) refl
+  lookup-any {k} r e f =
+      let t = keyAt target d in
+      let n = few-addresses (closestOf t (candidates own recs)) (closest-formed t k own recs e f) in
+      lookup-by refl ∙ rw (le-ltb room (80 + 16 * countOf (closestOf t (candidates own recs))) (omega arith)) refl
 
 -- ---- what is known of a plan
 

@@ -1,13 +1,12 @@
 // What is planned for an AUTHORITY, an ACK, an INQUIRE, a LOOKUP: every refusal is decided here.
 ghost use mathlib.Core.Path.{_≡_};
-ghost use mathlib.Core.List.{List};
-ghost use Prim.Native.Nat.{ℕ, _+_, _*_, _≤_};
-ghost use lib.Dec.{ltb};
+ghost use mathlib.Core.Bool.{true};
+ghost use Prim.Native.Nat.{_+_, _*_, _≤_};
 ghost use lib.ListN.{length};
 ghost use Rattle.key.specs.Number.{keyAt};
-ghost use Rattle.record.specs.Record.{keyOf, countOf};
+ghost use Rattle.record.specs.Record.{keyOf, recordForm};
 ghost use Rattle.table.specs.Rows.{rows};
-ghost use Rattle.waiting.specs.Form.{anyOf};
+ghost use Rattle.cache.specs.Form.{Form};
 ghost use Rattle.gauge_plan.specs.Answering.{authorityPlan, ackPlan, inquirePlan, lookupPlan};
 use crate::Plan;
 
@@ -74,23 +73,8 @@ pub fn plan_inquire(
     Plan::Certify(acked)
 }
 
-// Has a record that is held more than four addresses? None that is in form has.
-fn over_four(cache: &[u8], held: usize) -> bool
-    requires { ⌜ 100 * held ≤ length (now cache) ⌝ }
-    ensures { λ r. ⌜ r ≡ anyOf (λ (q : List ℕ). ltb 4 (countOf q)) (rows 100 held (now (cache .entry))) ⌝ }
-{
-    let mut i = 0;
-    while i < held {
-        if 4 < cache[100 * i + 34] {
-            return true;
-        }
-        i += 1;
-    }
-    false
-}
-
-// The plan for a LOOKUP whose target stands at a place of the datagram. Where the output has room for any record in form
-// the closest need not be known yet: it is looked for once, when it is shown.
+// The plan for a LOOKUP whose target stands at a place of the datagram. Where the output has room for any record, which
+// has four addresses at most, the closest need not be known yet: it is looked for once, when it is shown.
 pub fn plan_lookup<'a>(
     own: &'a [u8],
     cache: &'a [u8],
@@ -100,12 +84,12 @@ pub fn plan_lookup<'a>(
     acked: u32,
     target: usize,
 ) -> Plan
-    requires { ⌜ (length (now own) ≡ 100) × (100 * held ≤ length (now cache)) × (target + 32 ≤ length (now d)) ⌝ }
+    requires { ⌜ (recordForm (now own) ≡ true) × Form (keyOf (now own)) (now cache) (rows 100 held (now cache))
+        × (target + 32 ≤ length (now d)) ⌝ }
     ensures { λ r. ⌜ r ≡ lookupPlan (now (own .entry)) (rows 100 held (now (cache .entry))) held room (now (d .entry))
         acked target ⌝ }
 {
-    let many = over_four(cache, held);
-    if (144 <= room) & (own[34] <= 4) & !many {
+    if 144 <= room {
         return Plan::Show {
             held,
             acked,

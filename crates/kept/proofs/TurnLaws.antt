@@ -74,6 +74,24 @@ module _ (f g : ℕ → ℕ) where
       (every-of _ (inOrder g l) (λ k i. let n = mem-inOrder g k l i in m j k (inl refl) (inr n) (rising-at f (suc (f j)) k l (r .1) n)))
       ∙ (ap (λ (t : List ℕ). t ++ (j ∷ [])) (falls-by (suc (f j)) l (r .1) (λ i k u v. m i k (inr u) (inr v))) ∙ sym (reverse-cons j l))
 
+-- the first is the least and the last the most
+pub first-least : (f : ℕ → ℕ) (b k : ℕ) (l : List ℕ) → Rising f b l → k ∈ l → f (getD l 0 0) ≤ f k
+first-least f b k [] r m = absurd m
+first-least f b k (j ∷ l) r (inl e) = omega (arith, ap f e)
+first-least f b k (j ∷ l) r (inr m) = omega (arith, rising-at f (suc (f j)) k l (r .1) m)
+
+pub last-most : (f : ℕ → ℕ) (b k : ℕ) (l : List ℕ) → Rising f b l → k ∈ l → f k ≤ f (getD l (length l - 1) 0)
+last-most f b k [] r m = absurd m
+last-most f b k (j ∷ []) r (inl e) = omega (arith, ap f e)
+last-most f b k (j ∷ []) r (inr m) = absurd m
+last-most f b k (j ∷ i ∷ l) r m =
+    let e : suc (suc (length l)) - 1 ≡ suc (suc (length l) - 1) = omega arith in
+    rw e (go m (λ n q. last-most f (suc (f j)) n (i ∷ l) (r .1) q))
+  where
+    go : k ∈ (j ∷ i ∷ l) → ((n : ℕ) → n ∈ (i ∷ l) → f n ≤ f (getD (i ∷ l) (suc (length l) - 1) 0)) → f k ≤ f (getD (i ∷ l) (suc (length l) - 1) 0)
+    go (inl q) ih = omega (arith, ap f q, ih i (inl refl), r .1 .0)
+    go (inr q) ih = ih k q
+
 pub rising-join : (f : ℕ → ℕ) (b : ℕ) (l m : List ℕ) → Rising f b l → Rising f b m → ((j k : ℕ) → j ∈ l → k ∈ m → f j < f k) → Rising f b (l ++ m)
 rising-join f b [] m r q h = q
 rising-join f b (i ∷ l) m r q h =
@@ -139,8 +157,7 @@ take-of (suc m) (suc n) (x ∷ l) =
 
 -- ---- the keys read round the ring
 
-module _ (own : ℕ) (o : own < ring) (keys : List ℕ) (rises : Rising plain 0 keys) (others : Every (NotOwn own) keys)
-    (small : Every (λ (k : ℕ). k < ring) keys) where
+module _ (own : ℕ) (o : own < ring) (keys : List ℕ) (rises : Rising plain 0 keys) (small : Every (λ (k : ℕ). k < ring) keys) where
   low : List ℕ
   low = among (λ (k : ℕ). ltb k own) keys
 
@@ -166,13 +183,11 @@ module _ (own : ℕ) (o : own < ring) (keys : List ℕ) (rises : Rising plain 0 
   unfolding low
   is-low k i = ltb-true k own (mem-among (λ (k : ℕ). ltb k own) k keys i .1)
 
-  is-high : (k : ℕ) → k ∈ high → (own < k) × (k < ring)
+  is-high : (k : ℕ) → k ∈ high → (own ≤ k) × (k < ring)
   unfolding high
   is-high k i =
       let m = mem-among (λ (k : ℕ). not (ltb k own)) k keys i in
-      let n : ¬ (k ≡ own) = every-at (NotOwn own) k keys others (m .0) in
-      let l : own ≤ k = ltb-false k own (not-true (ltb k own) (m .1)) in
-      (omega arith, every-at _ k keys small (m .0))
+      (ltb-false k own (not-true (ltb k own) (m .1)), every-at _ k keys small (m .0))
     where
       not-true : (b : Bool) → not b ≡ true → b ≡ false
       not-true true e = sym e
@@ -187,14 +202,8 @@ module _ (own : ℕ) (o : own < ring) (keys : List ℕ) (rises : Rising plain 0 
   unfolding round
   has-round k i = rw parts at (append-swap k high low i)
 
-  other : (k : ℕ) → k ∈ round → ¬ (k ≡ own)
-  other k i = every-at (NotOwn own) k keys others (has-round k i)
-
   key : (k : ℕ) → k ∈ round → k < ring
   key k i = every-at _ k keys small (has-round k i)
-
-  round-others : Every (NotOwn own) round
-  round-others = every-of _ round other
 
   round-rises : Rising (up own) 0 round
   unfolding round low high
@@ -210,220 +219,246 @@ module _ (own : ℕ) (o : own < ring) (keys : List ℕ) (rises : Rising plain 0 
   pub going-rises : Rising (up own) 0 (goingUp own keys)
   going-rises = subst (Rising (up own) 0) (sym turned-is) round-rises
 
-  -- a key's side by its steps
-  above-is : (k : ℕ) → k ∈ round → isAbove own k ≡ leb (up own k) half
-  above-is k i = above-half own k o (key k i) (other k i)
+  pub going-has : (k : ℕ) → k ∈ keys → k ∈ goingUp own keys
+  going-has k i = rw turned-is (round-has k i)
 
-  on-above : (k : ℕ) → on (sideOf own) above k ≡ isAbove own k
-  on-above k = go (isAbove own k)
-    where
-      go : (b : Bool) → on (λ (j : ℕ). cond b above below) above k ≡ b
-      go true = refl
-      go false = refl
+  -- the first that is reached by going up is at the start, the first by going down at the end
+  pub next-up : (k : ℕ) → k ∈ keys → up own (getD (goingUp own keys) 0 0) ≤ up own k
+  next-up k i = first-least (up own) 0 k (goingUp own keys) going-rises (going-has k i)
 
-  on-below : (k : ℕ) → on (sideOf own) below k ≡ not (on (sideOf own) above k)
-  on-below k = go (isAbove own k)
-    where
-      go : (b : Bool) → on (λ (j : ℕ). cond b above below) below k ≡ not (on (λ (j : ℕ). cond b above below) above k)
-      go true = refl
-      go false = refl
+  pub next-down : (k : ℕ) → k ∈ keys → up own k ≤ up own (getD (goingUp own keys) (length (goingUp own keys) - 1) 0)
+  next-down k i = last-most (up own) 0 k (goingUp own keys) going-rises (going-has k i)
 
-  sides : onSide (sideOf own) above round ++ onSide (sideOf own) below round ≡ round
-  sides =
-      split (up own) (on (sideOf own) above) (on (sideOf own) below) 0 round round-rises on-below
-      (λ j k u v h e.
-      let l : half < up own j = leb-false (up own j) half (sym (above-is j u) ∙ sym (on-above j) ∙ e) in
-      on-above k ∙ above-is k v ∙ lt-leb (up own k) half (omega arith))
+  -- ---- where our own key is not among them: the two sides
 
-  -- the keys of a side, nearest first, from either list
-  ranked-round : (s : Side) → ranked (on (sideOf own) s) (nearness own) keys ≡ ranked (on (sideOf own) s) (nearness own) round
-  ranked-round s =
-      let p = on (sideOf own) s in
-      let d = apart (NotOwn own) (sideOf own) (nearness own) (plain-order own) s in
-      rising-ext (nearness own) 0 0 (ranked p (nearness own) keys) (ranked p (nearness own) round)
-      (ranked-rises (NotOwn own) p (nearness own) d keys) (ranked-rises (NotOwn own) p (nearness own) d round)
-      (λ k i. let m = mem-ranked (NotOwn own) p (nearness own) d k keys i in
-      ranked-mem (NotOwn own) p (nearness own) d k round round-others (round-has k (m .0)) (m .1))
-      (λ k i. let m = mem-ranked (NotOwn own) p (nearness own) d k round i in
-      ranked-mem (NotOwn own) p (nearness own) d k keys others (has-round k (m .0)) (m .1))
+  module _ (others : Every (NotOwn own) keys) where
+    other : (k : ℕ) → k ∈ round → ¬ (k ≡ own)
+    other k i = every-at (NotOwn own) k keys others (has-round k i)
 
-  nearest-above : ranked (on (sideOf own) above) (nearness own) keys ≡ onSide (sideOf own) above round
-  nearest-above =
-      let p = on (sideOf own) above in
-      ranked-round above
-      ∙ inOrder-rising (nearness own) 0 (among p round)
-      (rising-by (up own) (nearness own) 0 0 (among p round) (rising-among p (up own) 0 round round-rises) (λ k i. zero-le)
-      (λ j k u v h.
-      let x = mem-among p j round u in
-      let y = mem-among p k round v in
-      omega (arith, near-up own j o (key j (x .0)) (sym (on-above j) ∙ x .1), near-up own k o (key k (y .0)) (sym (on-above k) ∙ y .1))))
+    round-others : Every (NotOwn own) round
+    round-others = every-of _ round other
 
-  nearest-below : ranked (on (sideOf own) below) (nearness own) keys ≡ reverse (onSide (sideOf own) below round)
-  nearest-below =
-      let p = on (sideOf own) below in
-      ranked-round below
-      ∙ falls-by (up own) (nearness own) 0 (among p round) (rising-among p (up own) 0 round round-rises)
-      (λ j k u v h.
-      let x = mem-among p j round u in
-      let y = mem-among p k round v in
-      let a = up-back own j o (key j (x .0)) (λ e. other j (x .0) (sym e)) in
-      let b = up-back own k o (key k (y .0)) (λ e. other k (y .0) (sym e)) in
-      omega (arith, near-down own j o (key j (x .0)) (not-above j (x .1)), near-down own k o (key k (y .0)) (not-above k (y .1)), a, b))
-    where
-      not-above : (k : ℕ) → on (sideOf own) below k ≡ true → isAbove own k ≡ false
-      not-above k e = sym (on-above k) ∙ flip (on (sideOf own) above k) (sym (on-below k) ∙ e)
-        where
-          flip : (b : Bool) → not b ≡ true → b ≡ false
-          flip true e = sym e
-          flip false e = refl
+    is-over : (k : ℕ) → k ∈ high → (own < k) × (k < ring)
+    unfolding round
+    is-over k i =
+        let h = is-high k i in
+        let n : ¬ (k ≡ own) = other k (append-left k high low i) in
+        (omega arith, h .1)
 
-  -- as many on each side in either list
-  count-round : (p : ℕ → Bool) → length (among p round) ≡ length (among p keys)
-  unfolding round
-  count-round p =
-      let x : length (among p (high ++ low)) ≡ length (among p high) + length (among p low) =
-      ap length (among-append p high low) ∙ length-append (among p high) (among p low) in
-      let y : length (among p keys) ≡ length (among p low) + length (among p high) =
-      ap (λ (l : List ℕ). length (among p l)) (sym parts) ∙ ap length (among-append p low high) ∙ length-append (among p low) (among p high) in
-      omega arith
+    -- a key's side by its steps
+    above-is : (k : ℕ) → k ∈ round → isAbove own k ≡ leb (up own k) half
+    above-is k i = above-half own k o (key k i) (other k i)
 
-  length-round : length round ≡ length keys
-  unfolding round
-  length-round =
-      let x : length (high ++ low) ≡ length high + length low = length-append high low in
-      let y : length keys ≡ length low + length high = ap length (sym parts) ∙ length-append low high in
-      omega arith
+    on-above : (k : ℕ) → on (sideOf own) above k ≡ isAbove own k
+    on-above k = go (isAbove own k)
+      where
+        go : (b : Bool) → on (λ (j : ℕ). cond b above below) above k ≡ b
+        go true = refl
+        go false = refl
 
-  all-of-them : length (onSide (sideOf own) above round) + countBelow own keys ≡ length keys
-  all-of-them =
-      omega (
-        arith,
-        sym (length-append (onSide (sideOf own) above round) (onSide (sideOf own) below round)) ∙ ap length sides,
-        count-round (on (sideOf own) below),
-        length-round,
-      )
+    on-below : (k : ℕ) → on (sideOf own) below k ≡ not (on (sideOf own) above k)
+    on-below k = go (isAbove own k)
+      where
+        go : (b : Bool) → on (λ (j : ℕ). cond b above below) below k ≡ not (on (λ (j : ℕ). cond b above below) above k)
+        go true = refl
+        go false = refl
 
-  many-above : length (onSide (sideOf own) above round) ≡ length keys - countBelow own keys
-  many-above = omega (arith, all-of-them)
+    sides : onSide (sideOf own) above round ++ onSide (sideOf own) below round ≡ round
+    sides =
+        split (up own) (on (sideOf own) above) (on (sideOf own) below) 0 round round-rises on-below
+        (λ j k u v h e.
+        let l : half < up own j = leb-false (up own j) half (sym (above-is j u) ∙ sym (on-above j) ∙ e) in
+        on-above k ∙ above-is k v ∙ lt-leb (up own k) half (omega arith))
 
-  take-above : take (length keys - countBelow own keys) (goingUp own keys) ≡ onSide (sideOf own) above round
-  take-above =
-      ap (take (length keys - countBelow own keys)) (turned-is ∙ sym sides)
-      ∙ take-at (onSide (sideOf own) above round) (onSide (sideOf own) below round) (length keys - countBelow own keys) many-above
+    -- the keys of a side, nearest first, from either list
+    ranked-round : (s : Side) → ranked (on (sideOf own) s) (nearness own) keys ≡ ranked (on (sideOf own) s) (nearness own) round
+    ranked-round s =
+        let p = on (sideOf own) s in
+        let d = apart (NotOwn own) (sideOf own) (nearness own) (plain-order own) s in
+        rising-ext (nearness own) 0 0 (ranked p (nearness own) keys) (ranked p (nearness own) round)
+        (ranked-rises (NotOwn own) p (nearness own) d keys) (ranked-rises (NotOwn own) p (nearness own) d round)
+        (λ k i. let m = mem-ranked (NotOwn own) p (nearness own) d k keys i in
+        ranked-mem (NotOwn own) p (nearness own) d k round round-others (round-has k (m .0)) (m .1))
+        (λ k i. let m = mem-ranked (NotOwn own) p (nearness own) d k round i in
+        ranked-mem (NotOwn own) p (nearness own) d k keys others (has-round k (m .0)) (m .1))
 
-  drop-above : drop (length keys - countBelow own keys) (goingUp own keys) ≡ onSide (sideOf own) below round
-  drop-above =
-      ap (drop (length keys - countBelow own keys)) (turned-is ∙ sym sides)
-      ∙ drop-at (onSide (sideOf own) above round) (onSide (sideOf own) below round) (length keys - countBelow own keys) many-above
+    nearest-above : ranked (on (sideOf own) above) (nearness own) keys ≡ onSide (sideOf own) above round
+    nearest-above =
+        let p = on (sideOf own) above in
+        ranked-round above
+        ∙ inOrder-rising (nearness own) 0 (among p round)
+        (rising-by (up own) (nearness own) 0 0 (among p round) (rising-among p (up own) 0 round round-rises) (λ k i. zero-le)
+        (λ j k u v h.
+        let x = mem-among p j round u in
+        let y = mem-among p k round v in
+        omega (arith, near-up own j o (key j (x .0)) (sym (on-above j) ∙ x .1), near-up own k o (key k (y .0)) (sym (on-above k) ∙ y .1))))
 
-  -- how many are below, by plain order: one search for our own key, and one for the point opposite among those over it or those under it
-  over-are : drop (countUnder own keys) keys ≡ high
-  unfolding low high
-  over-are = ap (drop (countUnder own keys)) (sym parts) ∙ drop-at low high (countUnder own keys) refl
+    nearest-below : ranked (on (sideOf own) below) (nearness own) keys ≡ reverse (onSide (sideOf own) below round)
+    nearest-below =
+        let p = on (sideOf own) below in
+        ranked-round below
+        ∙ falls-by (up own) (nearness own) 0 (among p round) (rising-among p (up own) 0 round round-rises)
+        (λ j k u v h.
+        let x = mem-among p j round u in
+        let y = mem-among p k round v in
+        let a = up-back own j o (key j (x .0)) (λ e. other j (x .0) (sym e)) in
+        let b = up-back own k o (key k (y .0)) (λ e. other k (y .0) (sym e)) in
+        omega (arith, near-down own j o (key j (x .0)) (not-above j (x .1)), near-down own k o (key k (y .0)) (not-above k (y .1)), a, b))
+      where
+        not-above : (k : ℕ) → on (sideOf own) below k ≡ true → isAbove own k ≡ false
+        not-above k e = sym (on-above k) ∙ flip (on (sideOf own) above k) (sym (on-below k) ∙ e)
+          where
+            flip : (b : Bool) → not b ≡ true → b ≡ false
+            flip true e = sym e
+            flip false e = refl
 
-  under-are : take (countUnder own keys) keys ≡ low
-  unfolding low high
-  under-are = ap (take (countUnder own keys)) (sym parts) ∙ take-at low high (countUnder own keys) refl
+    -- as many on each side in either list
+    count-round : (p : ℕ → Bool) → length (among p round) ≡ length (among p keys)
+    unfolding round
+    count-round p =
+        let x : length (among p (high ++ low)) ≡ length (among p high) + length (among p low) =
+        ap length (among-append p high low) ∙ length-append (among p high) (among p low) in
+        let y : length (among p keys) ≡ length (among p low) + length (among p high) =
+        ap (λ (l : List ℕ). length (among p l)) (sym parts) ∙ ap length (among-append p low high) ∙ length-append (among p low) (among p high) in
+        omega arith
 
-  pub over-rises : Rising plain 0 (drop (countUnder own keys) keys)
-  unfolding high
-  over-rises = subst (Rising plain 0) (sym over-are) (rising-among _ plain 0 keys rises)
+    length-round : length round ≡ length keys
+    unfolding round
+    length-round =
+        let x : length (high ++ low) ≡ length high + length low = length-append high low in
+        let y : length keys ≡ length low + length high = ap length (sym parts) ∙ length-append low high in
+        omega arith
 
-  pub under-rises : Rising plain 0 (take (countUnder own keys) keys)
-  unfolding low
-  under-rises = subst (Rising plain 0) (sym under-are) (rising-among _ plain 0 keys rises)
+    all-of-them : length (onSide (sideOf own) above round) + countBelow own keys ≡ length keys
+    all-of-them =
+        omega (
+          arith,
+          sym (length-append (onSide (sideOf own) above round) (onSide (sideOf own) below round)) ∙ ap length sides,
+          count-round (on (sideOf own) below),
+          length-round,
+        )
 
-  below-is : (k : ℕ) → on (sideOf own) below k ≡ not (isAbove own k)
-  below-is k = on-below k ∙ ap not (on-above k)
+    many-above : length (onSide (sideOf own) above round) ≡ length keys - countBelow own keys
+    many-above = omega (arith, all-of-them)
 
-  twice : (b : Bool) → b ≡ not (not b)
-  twice true = refl
-  twice false = refl
+    take-above : take (length keys - countBelow own keys) (goingUp own keys) ≡ onSide (sideOf own) above round
+    take-above =
+        ap (take (length keys - countBelow own keys)) (turned-is ∙ sym sides)
+        ∙ take-at (onSide (sideOf own) above round) (onSide (sideOf own) below round) (length keys - countBelow own keys) many-above
 
-  below-parts : countBelow own keys ≡ length (among (on (sideOf own) below) low) + length (among (on (sideOf own) below) high)
-  below-parts =
-      let p = on (sideOf own) below in
-      ap (λ (l : List ℕ). length (among p l)) (sym parts) ∙ ap length (among-append p low high) ∙ length-append (among p low) (among p high)
+    drop-above : drop (length keys - countBelow own keys) (goingUp own keys) ≡ onSide (sideOf own) below round
+    drop-above =
+        ap (drop (length keys - countBelow own keys)) (turned-is ∙ sym sides)
+        ∙ drop-at (onSide (sideOf own) above round) (onSide (sideOf own) below round) (length keys - countBelow own keys) many-above
 
-  size-parts : length keys ≡ length low + length high
-  size-parts = ap length (sym parts) ∙ length-append low high
+    -- how many are below, by plain order: one search for our own key, and one for the point opposite among those over it or those under it
+    over-are : drop (countUnder own keys) keys ≡ high
+    unfolding low high
+    over-are = ap (drop (countUnder own keys)) (sym parts) ∙ drop-at low high (countUnder own keys) refl
 
-  pub below-low : own < half → countBelow own keys + countUpto (across own) (drop (countUnder own keys) keys) ≡ length keys
-  below-low l =
-      let p = on (sideOf own) below in
-      let q : ℕ → Bool = λ (k : ℕ). leb k (across own) in
-      let all : among p low ≡ low = among-all p low (every-of _ low (λ k i. below-is k ∙ ap not (low-under own k l (is-low k i)))) in
-      let some : length (among p high) + length (among q high) ≡ length high =
-      among-both p q high (λ k i. let h = is-high k i in
-      sym (low-over own k l (h .0) (h .1)) ∙ twice (isAbove own k) ∙ ap not (sym (below-is k))) in
-      let a : length (among p low) ≡ length low = ap length all in
-      let b : countUpto (across own) (drop (countUnder own keys) keys) ≡ length (among q high) = ap (countUpto (across own)) over-are in
-      omega (arith, below-parts, size-parts, a, b, some)
+    under-are : take (countUnder own keys) keys ≡ low
+    unfolding low high
+    under-are = ap (take (countUnder own keys)) (sym parts) ∙ take-at low high (countUnder own keys) refl
 
-  pub below-high : half ≤ own → countBelow own keys + countUpto (across own) (take (countUnder own keys) keys) ≡ countUnder own keys
-  unfolding low
-  below-high l =
-      let p = on (sideOf own) below in
-      let q : ℕ → Bool = λ (k : ℕ). leb k (across own) in
-      let none : among p high ≡ [] =
-      among-none p high (every-of _ high (λ k i. let h = is-high k i in below-is k ∙ ap not (high-over own k l (h .0) (h .1)))) in
-      let some : length (among p low) + length (among q low) ≡ length low =
-      among-both p q low (λ k i. sym (high-under own k l o (is-low k i)) ∙ twice (isAbove own k) ∙ ap not (sym (below-is k))) in
-      let a : length (among p high) ≡ 0 = ap length none in
-      let b : countUpto (across own) (take (countUnder own keys) keys) ≡ length (among q low) = ap (countUpto (across own)) under-are in
-      omega (arith, below-parts, a, b, some)
+    pub over-rises : Rising plain 0 (drop (countUnder own keys) keys)
+    unfolding high
+    over-rises = subst (Rising plain 0) (sym over-are) (rising-among _ plain 0 keys rises)
 
-  -- the neighbour lists, by places
-  pub list-above : neighbours own above keys ≡ take (min 5 (length keys - countBelow own keys)) (goingUp own keys)
-  list-above =
-      let a : ℕ = length keys - countBelow own keys in
-      ap (take 5) (nearest-above ∙ sym take-above) ∙ take-of 5 a (goingUp own keys)
+    pub under-rises : Rising plain 0 (take (countUnder own keys) keys)
+    unfolding low
+    under-rises = subst (Rising plain 0) (sym under-are) (rising-among _ plain 0 keys rises)
 
-  pub list-below : neighbours own below keys ≡ take (min 5 (countBelow own keys)) (reverse (goingUp own keys))
-  list-below =
-      let a : ℕ = length keys - countBelow own keys in
-      let up-list : List ℕ = goingUp own keys in
-      let b : List ℕ = onSide (sideOf own) below round in
-      let n : length (reverse b) ≡ countBelow own keys = length-reverse b ∙ count-round (on (sideOf own) below) in
-      let e : reverse up-list ≡ reverse b ++ reverse (onSide (sideOf own) above round) =
-      ap reverse (turned-is ∙ sym sides) ∙ reverse-append (onSide (sideOf own) above round) b in
-      ap (take 5) nearest-below ∙ take-min 5 (reverse b) ∙ ap (λ (k : ℕ). take (min 5 k) (reverse b)) n
-      ∙ sym (ap (take (min 5 (countBelow own keys))) e
-      ∙ take-append-le (min 5 (countBelow own keys)) (reverse b) (reverse (onSide (sideOf own) above round)) (omega (arith, n)))
+    below-is : (k : ℕ) → on (sideOf own) below k ≡ not (isAbove own k)
+    below-is k = on-below k ∙ ap not (on-above k)
 
-  pub above-length : length (neighbours own above keys) ≡ min 5 (length keys - countBelow own keys)
-  above-length = ap length (ap (take 5) nearest-above) ∙ length-take 5 (onSide (sideOf own) above round) ∙ ap (min 5) many-above
+    twice : (b : Bool) → b ≡ not (not b)
+    twice true = refl
+    twice false = refl
 
-  pub below-length : length (neighbours own below keys) ≡ min 5 (countBelow own keys)
-  below-length =
-      let b : List ℕ = onSide (sideOf own) below round in
-      ap length (ap (take 5) nearest-below) ∙ length-take 5 (reverse b) ∙ ap (min 5) (length-reverse b ∙ count-round (on (sideOf own) below))
+    below-parts : countBelow own keys ≡ length (among (on (sideOf own) below) low) + length (among (on (sideOf own) below) high)
+    below-parts =
+        let p = on (sideOf own) below in
+        ap (λ (l : List ℕ). length (among p l)) (sym parts) ∙ ap length (among-append p low high) ∙ length-append (among p low) (among p high)
 
-  -- what is dropped: the last above where those below are no more, else the first below
-  pub drops-above : 0 < length keys → countBelow own keys + countBelow own keys ≤ length keys
-      → drops own keys ≡ getD (goingUp own keys) ((length keys - countBelow own keys) - 1) 0
-  unfolding farthestOut
-  drops-above h g =
-      let a : ℕ = length keys - countBelow own keys in
-      let l : List ℕ = onSide (sideOf own) above round in
-      rw (le-leb (countBelow own keys) (length (onSide (sideOf own) above keys)) (omega (arith, many-above, count-round (on (sideOf own) above))))
-      (ap (lastOr 0) nearest-above
-      ∙ (last-getD 0 l (omega (arith, many-above))
-      ∙ (ap (λ (n : ℕ). getD l (n - 1) 0) many-above
-      ∙ (ap (λ (t : List ℕ). getD t (a - 1) 0) (sym take-above) ∙ getD-take a (goingUp own keys) (a - 1) 0 (omega arith)))))
+    size-parts : length keys ≡ length low + length high
+    size-parts = ap length (sym parts) ∙ length-append low high
 
-  pub drops-below : length keys < countBelow own keys + countBelow own keys
-      → drops own keys ≡ getD (goingUp own keys) (length keys - countBelow own keys) 0
-  unfolding farthestOut
-  drops-below g =
-      let a : ℕ = length keys - countBelow own keys in
-      let b : List ℕ = onSide (sideOf own) below round in
-      rw (lt-leb (countBelow own keys) (length (onSide (sideOf own) above keys)) (omega (arith, many-above, count-round (on (sideOf own) above))))
-      (ap (lastOr 0) nearest-below
-      ∙ (last-reverse b [] (omega (arith, count-round (on (sideOf own) below)))
-      ∙ (ap (λ (t : List ℕ). getD t 0 0) (append-nil b)
-      ∙ (ap (λ (t : List ℕ). getD t 0 0) (sym drop-above)
-      ∙ (getD-drop a (goingUp own keys) 0 0 ∙ ap (λ (n : ℕ). getD (goingUp own keys) n 0) (add-zero a))))))
+    pub below-low : own < half → countBelow own keys + countUpto (across own) (drop (countUnder own keys) keys) ≡ length keys
+    below-low l =
+        let p = on (sideOf own) below in
+        let q : ℕ → Bool = λ (k : ℕ). leb k (across own) in
+        let all : among p low ≡ low = among-all p low (every-of _ low (λ k i. below-is k ∙ ap not (low-under own k l (is-low k i)))) in
+        let some : length (among p high) + length (among q high) ≡ length high =
+        among-both p q high (λ k i. let h = is-over k i in
+        sym (low-over own k l (h .0) (h .1)) ∙ twice (isAbove own k) ∙ ap not (sym (below-is k))) in
+        let a : length (among p low) ≡ length low = ap length all in
+        let b : countUpto (across own) (drop (countUnder own keys) keys) ≡ length (among q high) = ap (countUpto (across own)) over-are in
+        omega (arith, below-parts, size-parts, a, b, some)
+
+    pub below-high : half ≤ own → countBelow own keys + countUpto (across own) (take (countUnder own keys) keys) ≡ countUnder own keys
+    unfolding low
+    below-high l =
+        let p = on (sideOf own) below in
+        let q : ℕ → Bool = λ (k : ℕ). leb k (across own) in
+        let none : among p high ≡ [] =
+        among-none p high (every-of _ high (λ k i. let h = is-over k i in below-is k ∙ ap not (high-over own k l (h .0) (h .1)))) in
+        let some : length (among p low) + length (among q low) ≡ length low =
+        among-both p q low (λ k i. sym (high-under own k l o (is-low k i)) ∙ twice (isAbove own k) ∙ ap not (sym (below-is k))) in
+        let a : length (among p high) ≡ 0 = ap length none in
+        let b : countUpto (across own) (take (countUnder own keys) keys) ≡ length (among q low) = ap (countUpto (across own)) under-are in
+        omega (arith, below-parts, a, b, some)
+
+    -- the neighbour lists, by places
+    pub list-above : neighbours own above keys ≡ take (min 5 (length keys - countBelow own keys)) (goingUp own keys)
+    list-above =
+        let a : ℕ = length keys - countBelow own keys in
+        ap (take 5) (nearest-above ∙ sym take-above) ∙ take-of 5 a (goingUp own keys)
+
+    pub list-below : neighbours own below keys ≡ take (min 5 (countBelow own keys)) (reverse (goingUp own keys))
+    list-below =
+        let a : ℕ = length keys - countBelow own keys in
+        let up-list : List ℕ = goingUp own keys in
+        let b : List ℕ = onSide (sideOf own) below round in
+        let n : length (reverse b) ≡ countBelow own keys = length-reverse b ∙ count-round (on (sideOf own) below) in
+        let e : reverse up-list ≡ reverse b ++ reverse (onSide (sideOf own) above round) =
+        ap reverse (turned-is ∙ sym sides) ∙ reverse-append (onSide (sideOf own) above round) b in
+        ap (take 5) nearest-below ∙ take-min 5 (reverse b) ∙ ap (λ (k : ℕ). take (min 5 k) (reverse b)) n
+        ∙ sym (ap (take (min 5 (countBelow own keys))) e
+        ∙ take-append-le (min 5 (countBelow own keys)) (reverse b) (reverse (onSide (sideOf own) above round)) (omega (arith, n)))
+
+    pub above-length : length (neighbours own above keys) ≡ min 5 (length keys - countBelow own keys)
+    above-length = ap length (ap (take 5) nearest-above) ∙ length-take 5 (onSide (sideOf own) above round) ∙ ap (min 5) many-above
+
+    pub below-length : length (neighbours own below keys) ≡ min 5 (countBelow own keys)
+    below-length =
+        let b : List ℕ = onSide (sideOf own) below round in
+        ap length (ap (take 5) nearest-below) ∙ length-take 5 (reverse b) ∙ ap (min 5) (length-reverse b ∙ count-round (on (sideOf own) below))
+
+    -- what is dropped: the last above where those below are no more, else the first below
+    pub drops-above : 0 < length keys → countBelow own keys + countBelow own keys ≤ length keys
+        → drops own keys ≡ getD (goingUp own keys) ((length keys - countBelow own keys) - 1) 0
+    unfolding farthestOut
+    drops-above h g =
+        let a : ℕ = length keys - countBelow own keys in
+        let l : List ℕ = onSide (sideOf own) above round in
+        rw (le-leb (countBelow own keys) (length (onSide (sideOf own) above keys)) (omega (arith, many-above, count-round (on (sideOf own) above))))
+        (ap (lastOr 0) nearest-above
+        ∙ (last-getD 0 l (omega (arith, many-above))
+        ∙ (ap (λ (n : ℕ). getD l (n - 1) 0) many-above
+        ∙ (ap (λ (t : List ℕ). getD t (a - 1) 0) (sym take-above) ∙ getD-take a (goingUp own keys) (a - 1) 0 (omega arith)))))
+
+    pub drops-below : length keys < countBelow own keys + countBelow own keys
+        → drops own keys ≡ getD (goingUp own keys) (length keys - countBelow own keys) 0
+    unfolding farthestOut
+    drops-below g =
+        let a : ℕ = length keys - countBelow own keys in
+        let b : List ℕ = onSide (sideOf own) below round in
+        rw (lt-leb (countBelow own keys) (length (onSide (sideOf own) above keys)) (omega (arith, many-above, count-round (on (sideOf own) above))))
+        (ap (lastOr 0) nearest-below
+        ∙ (last-reverse b [] (omega (arith, count-round (on (sideOf own) below)))
+        ∙ (ap (λ (t : List ℕ). getD t 0 0) (append-nil b)
+        ∙ (ap (λ (t : List ℕ). getD t 0 0) (sym drop-above)
+        ∙ (getD-drop a (goingUp own keys) 0 0 ∙ ap (λ (n : ℕ). getD (goingUp own keys) n 0) (add-zero a))))))
 
 -- the two sides are apart: no key is listed on both
 pub one-side : (own k : ℕ) (keys : List ℕ) → k ∈ neighbours own below keys → k ∈ neighbours own above keys → ⊥

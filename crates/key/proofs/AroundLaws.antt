@@ -370,3 +370,42 @@ closer-both t j k e f = by-case (not-closer t j k e) (not-closer t k j f)
     by-case (farther h) (tied g q) = absurd (omega arith)
     by-case (tied h p) (farther g) = absurd (omega arith)
     by-case (tied h p) (tied g q) = tie-both t j k h p q
+
+-- of keys round the ring, the first that is reached by going up from the target and the first by going down: none is closer than both
+module _ (t u d k : ℕ) (o : t < ring) (lu : u < ring) (ld : d < ring) (lk : k < ring) (first : up t u ≤ up t k) (last : up t k ≤ up t d) where
+  not-before : (j : ℕ) → j < ring → apart t j ≤ apart t k → (isDown t k && not (isDown t j)) ≡ false → closer t k j ≡ false
+  unfolding tie
+  not-before j l h e = go (stand (apart t k) (apart t j))
+    where
+      go : Stand (apart t k) (apart t j) → closer t k j ≡ false
+      go (below g) = absurd (omega arith)
+      go (equal g) = closer-same t k j g ∙ e
+      go (above g) = closer-more t k j g
+
+  by-up : isDown t k ≡ false → closer t k u ≡ false
+  by-up e =
+      let far = leb-false (up k t) (up t k) (sym (down-steps t k o lk) ∙ e) in
+      not-before u lu (omega (arith, apart-round t k o lk, apart-round t u o lu)) (rw e refl)
+
+  by-down : isDown t k ≡ true → ¬ (t ≡ k) → closer t k d ≡ false
+  by-down e n =
+      let near = leb-true (up k t) (up t k) (sym (down-steps t k o lk) ∙ e) in
+      let m = up-back t k o lk n in
+      let other : ¬ (t ≡ d) = λ q. omega (arith, ap (up t) (sym q), up-self t o) in
+      let w = up-back t d o ld other in
+      let down : isDown t d ≡ true = down-steps t d o ld ∙ le-leb (up d t) (up t d) (omega arith) in
+      not-before d ld (omega (arith, apart-round t k o lk, apart-round t d o ld)) (rw (e, down) refl)
+
+  pub beside : (closer t k u ≡ false) ⊎ (closer t k d ≡ false)
+  beside = go (isDown t k) refl (stand t k)
+    where
+      at-target : t ≡ k → closer t k u ≡ false
+      at-target q =
+          let z : u ≡ k = sym (up-zero t u o lu (omega (arith, ap (up t) (sym q), up-self t o))) ∙ q in
+          ap (closer t k) z ∙ closer-self t k
+
+      go : (b : Bool) → isDown t k ≡ b → Stand t k → (closer t k u ≡ false) ⊎ (closer t k d ≡ false)
+      go false e s = inl (by-up e)
+      go true e (below h) = inr (by-down e (omega arith))
+      go true e (equal q) = inl (at-target q)
+      go true e (above h) = inr (by-down e (omega arith))

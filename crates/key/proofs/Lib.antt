@@ -6,4 +6,3 @@ pub mod PlaceLaws
 pub mod RingLaws
 pub mod HalfLaws
 pub mod AroundLaws
-pub mod BeyondLaws

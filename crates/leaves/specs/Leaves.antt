@@ -1,5 +1,5 @@
 -- Helps the code. What the leaf functions answer to C, on any input. Assumes nothing.
-use Prim.Native.Nat.{ℕ, _+_, _*_}
+use Prim.Native.Nat.{ℕ, _+_}
 use mathlib.Core.Bool.{Bool, cond, _&&_}
 use mathlib.Core.List.{List}
 use lib.Dec.{eqb, leb}
@@ -9,9 +9,8 @@ use Rattle.octet.specs.Part.{part}
 use Rattle.key.specs.Number.{keyAt}
 use Rattle.key.specs.Around.{closer}
 use Rattle.record.specs.Record.{keyOf}
-use Rattle.table.specs.Rows.{rows}
 use Rattle.cache.specs.Form.{cacheForm, heldIn}
-use Rattle.cache.specs.Closest.{candidates, closestOf}
+use Rattle.cache.specs.Calls.{closestCall}
 
 unfoldable pub wordOr0 : ℕ → List ℕ → ℕ
 wordOr0 at s = cond (leb (at + 8) (length s)) (valueBE 256 (part at 8 s)) 0
@@ -25,8 +24,5 @@ closerOr2 target k j =
 unfoldable pub heldOr257 : List ℕ → List ℕ → ℕ
 heldOr257 own cache = cond (leb 32 (length own) && cacheForm (keyOf own) cache) (heldIn (keyOf own) cache) 257
 
-unfoldable pub closestWord : List ℕ → List ℕ → ℕ → List ℕ → ℕ
-closestWord own cache used target =
-    cond (eqb (length own) 100 && eqb (length target) 32 && leb used 256 && leb (100 * used) (length cache))
-    (valueBE 256 (part 24 8 (closestOf (keyAt 0 target) (candidates own (rows 100 used cache)))))
-    0
+abbrev pub closestWord : List ℕ → List ℕ → List ℕ → ℕ
+closestWord own cache target = wordOr0 24 (closestCall own cache target)

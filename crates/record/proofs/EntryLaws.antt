@@ -1,16 +1,17 @@
 -- Laws of a record and the route entry that carries it: each is in form where the other is, each gives the other back, and they have one key and one port.
 -- In this order: the bytes of each; a view of what is in form; the laws. Assumes nothing.
 use mathlib.Core.Path.{_≡_, refl, sym, ap, ap₂, _∙_}
-use mathlib.Core.Bool.{true}
+use mathlib.Core.Bool.{true, _&&_}
 use mathlib.Core.List.{List, [], _∷_, _++_, append-assoc}
 use Prim.Native.Nat.{ℕ, _+_, _-_, _*_, _≤_, _<_}
 use native.Mathlib.Numerals.{add-one}
 use native.Mathlib.Omega.{arith}
+use lib.Dec.{eqb, leb}
 use lib.ListN.{length, take, drop, getD, replicate, length-append, length-replicate, length-drop, take-append-drop}
 use lib.Seq.{take-add, take-at, drop-at, take-all, drop-drop, drop-cons, getD-append-add}
 use borrow.Author.Tests.{le-leb, eq-eqb, leb-true, eqb-true}
 use Rattle.octet.specs.Number.{valueBE}
-use Rattle.octet.specs.Part.{part, splice}
+use Rattle.octet.specs.Part.{part, splice, allZero}
 use Rattle.octet.proofs.PartLaws.{length-part}
 use Rattle.octet.proofs.TestLaws.{both-true, zeros-all, all-zeros}
 use Rattle.key.specs.Number.{keyAt}
@@ -172,6 +173,15 @@ record-form v e =
 pub form-length : (r : List ℕ) → recordForm r ≡ true → length r ≡ 100
 unfolding recordForm
 form-length r e = eqb-true _ _ (both-true _ _ (both-true _ _ (both-true _ _ (both-true _ _ e .0) .0) .0) .0)
+
+-- a record has four addresses at most
+pub few-addresses : (r : List ℕ) → recordForm r ≡ true → countOf r ≤ 4
+unfolding recordForm
+few-addresses r e =
+    let first = eqb (length r) 100 && leb 1 (countOf r) in
+    let a = both-true (first && leb (countOf r) 4 && eqb (getD r 35 0) 0) (allZero (drop (36 + 16 * countOf r) r)) e in
+    let b = both-true (first && leb (countOf r) 4) (eqb (getD r 35 0) 0) (a .0) in
+    leb-true (countOf r) 4 (both-true first (leb (countOf r) 4) (b .0) .1)
 
 -- the entry of a record in form is in form
 pub entry-form : (major minor : ℕ) (r : List ℕ) → recordForm r ≡ true → entryForm (entryOf major minor r) ≡ true

@@ -25,7 +25,7 @@ use Rattle.wire_write.specs.Sent.{closestSent}
 use Rattle.wire_write.specs.Making.{cpaMade, closestMade}
 use Rattle.gauge_plan.specs.Answering.{isNothing, placeOf}
 use Rattle.gauge_plan.specs.declared.Plan.the-variants.{Learn, Free, Certify, Show}
-use Rattle.gauge_commit.proofs.PlaceLaws.{closest-formed}
+use Rattle.cache.proofs.ClosestLaws.{closest-formed}
 use Rattle.gauge.specs.Lent.{Receive}
 use Rattle.gauge.specs.Receive.{carried}
 use Rattle.gauge_laws.proofs.FirstLaws.{whole-record}
@@ -128,7 +128,7 @@ module _ (l : Receive) (ok : Fine l) where
   lookup-does id target h =
       let t = keyAt target (l .datagram) in
       let r = closestOf t (candidates (l .own) recs) in
-      let good = closest-formed t (keyOf (l .own)) (l .own) (l .cache) recs (ok .ready .owned) (ok .ready .form) in
+      let good = closest-formed t (keyOf (l .own)) (l .own) recs (ok .ready .owned) (ok .ready .form .held) in
       record {
         x = lookup id t;
         hears = h;

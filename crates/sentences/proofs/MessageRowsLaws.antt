@@ -25,8 +25,8 @@ use Rattle.gauge_plan.specs.Answering.{isNothing, placeOf}
 use Rattle.gauge_plan.proofs.MemoryLaws.{ready}
 use Rattle.gauge_commit.proofs.LengthLaws.{cpa-length, closest-length}
 use Rattle.gauge_commit.proofs.SentLaws.{joined-one}
-use Rattle.gauge_commit.proofs.PlaceLaws.{closest-formed}
-use Rattle.record.proofs.EntryLaws.{form-length}
+use Rattle.cache.proofs.ClosestLaws.{closest-formed}
+use Rattle.record.proofs.EntryLaws.{form-length, few-addresses}
 use Rattle.gauge.specs.Lent.{Receive}
 use Rattle.gauge_laws.proofs.FirstLaws.{whole-record}
 use Rattle.sentences.specs.Heard.{inquire, authority, ack, lookup, other}
@@ -36,7 +36,7 @@ use Rattle.sentences.proofs.MembersLaws.{rise-one, places-rise}
 use Rattle.sentences.proofs.MoveLaws.{clash}
 use Rattle.sentences.proofs.WordLaws.{lent, not-iff, found-waits, none-iff-not}
 use Rattle.sentences.proofs.FirstLaws.{Row}
-use Rattle.sentences.proofs.SaidLaws.{few-addresses, lent-tables, Said, short-to, short-from, none-short, Lowest, Both, good}
+use Rattle.sentences.proofs.SaidLaws.{lent-tables, Said, short-to, short-from, none-short, Lowest, Both, good}
 
 module _ (l : Receive) (n : ℕ) (low : Lowest l n) where
   abbrev k : ℕ
@@ -150,7 +150,7 @@ module _ (l : Receive) (n : ℕ) (low : Lowest l n) where
     unfolding heldOf
     lookup-formed g =
         let rd = ready (l .own) (l .cache) (l .waiting) (lent-tables l g) in
-        closest-formed tk k (l .own) (l .cache) recs (rd .owned) (rd .form)
+        closest-formed tk k (l .own) recs (rd .owned) (rd .form .held)
 
     lookup-room : Num.ReceiveLent l → length (joined cds) ≡ 80 + 16 * countOf cr
     unfolding closestMade heldOf

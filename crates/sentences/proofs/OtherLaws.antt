@@ -11,7 +11,7 @@ use borrow.Author.Tests.{eq-eqb, eqb-true, eqb-false, lt-ltb, ltb-true, not-true
 use Rattle.octet.proofs.TestLaws.{both-true}
 use Rattle.key.specs.Number.{keyAt}
 use Rattle.record.specs.Record.{keyOf, recordForm}
-use Rattle.record.proofs.EntryLaws.{form-length}
+use Rattle.record.proofs.EntryLaws.{form-length, few-addresses}
 use Rattle.table.specs.Rows.{joined}
 use Rattle.table.proofs.RowLaws.{rows-length}
 use Rattle.kept.specs.Keys.{_∈_, Every}
@@ -43,7 +43,7 @@ use Rattle.sentences.proofs.OneLaws.{named-one}
 use Rattle.sentences.proofs.MoveLaws.{clash, holds-not, any-in, in-any, none-in, found-in, seek-some, seek-none}
 use Rattle.sentences.proofs.WordLaws.{not-iff}
 use Rattle.sentences.proofs.DoesLaws.{sentBy, named-by}
-use Rattle.sentences.proofs.SaidLaws.{no-room-by, few-addresses}
+use Rattle.sentences.proofs.SaidLaws.{no-room-by}
 use Rattle.sentences.proofs.FirstLaws.{Row, Agree}
 
 -- ---- the tick and the neighbour list

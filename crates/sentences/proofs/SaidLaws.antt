@@ -1,17 +1,15 @@
 -- What refuses a datagram received: memory lent (1), what was heard (7 to 14) and the room that the answer needs (15), in the clauses' words. Assumes nothing.
 use mathlib.Core.Path.{_≡_, refl, ap, subst}
 use mathlib.Core.Logic.{_⊎_, inl, inr}
-use mathlib.Core.Bool.{Bool, true, false, _&&_}
+use mathlib.Core.Bool.{Bool, true, false}
 use mathlib.Core.List.{List, [], _∷_}
 use Prim.Native.Nat.{ℕ, _+_, _*_, _≤_, _<_}
 use native.Mathlib.Omega.{arith}
-use lib.Dec.{eqb, ltb, leb}
-use lib.ListN.{length, getD, drop, length-append}
-use borrow.Author.Tests.{eq-eqb, lt-ltb, ltb-true, le-leb, leb-true}
-use Rattle.octet.specs.Part.{allZero}
-use Rattle.octet.proofs.TestLaws.{both-true}
+use lib.Dec.{ltb}
+use lib.ListN.{length, length-append}
+use borrow.Author.Tests.{eq-eqb, lt-ltb, ltb-true, le-leb}
 use Rattle.key.specs.Number.{keyAt}
-use Rattle.record.specs.Record.{keyOf, countOf, recordForm}
+use Rattle.record.specs.Record.{keyOf, recordForm}
 use Rattle.refusal.specs.Table.{Refusal}
 use Rattle.table.specs.Rows.{joined}
 use Rattle.kept.specs.Keys.{_∈_}
@@ -75,15 +73,6 @@ joined-in d (x ∷ ds) (inr i) = let z = joined-in d ds i in omega (arith, lengt
 pub no-room-by : (output : List ℕ) (ds : List (List ℕ)) → length (joined ds) ≤ 1232 → Num.NoRoom output ds → length output < length (joined ds)
 no-room-by output ds h (inl w) = w
 no-room-by output ds h (inr w) = absurd (omega (arith, joined-in (w .0) ds (w .1), w .2))
-
--- a record has four addresses at most
-pub few-addresses : (r : List ℕ) → recordForm r ≡ true → countOf r ≤ 4
-unfolding recordForm
-few-addresses r e =
-    let first = eqb (length r) 100 && leb 1 (countOf r) in
-    let a = both-true (first && leb (countOf r) 4 && eqb (getD r 35 0) 0) (allZero (drop (36 + 16 * countOf r) r)) e in
-    let b = both-true (first && leb (countOf r) 4) (eqb (getD r 35 0) 0) (a .0) in
-    leb-true (countOf r) 4 (both-true first (leb (countOf r) 4) (b .0) .1)
 
 module _ (l : Receive) where
   -- the clauses of the call

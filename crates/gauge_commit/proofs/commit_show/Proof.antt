@@ -8,10 +8,10 @@ use Rattle.record.specs.Record.{keyOf}
 use Rattle.record.proofs.EntryLaws.{form-length}
 use Rattle.table.specs.Rows.{rows}
 use Rattle.cache.specs.Closest.{candidates, closestOf}
-use Rattle.cache.proofs.FormLaws.{form-laid}
 use Rattle.gauge_commit.specs.Sending.{answer}
 use Rattle.gauge_commit.proofs.SentLaws.{closest-told, closest-few, closest-sent}
-use Rattle.gauge_commit.proofs.PlaceLaws.{target-lent, target-long, closest-formed}
+use Rattle.gauge_commit.proofs.PlaceLaws.{target-lent, target-long}
+use Rattle.cache.proofs.ClosestLaws.{closest-formed}
 use borrow.Author.Needs.{needs}
 use Rattle.gauge_commit.proofs.commit_show.Statement.{statement}
 use Rattle.gauge_commit.proofs.commit_show.Tie as tie
@@ -32,11 +32,8 @@ closest-requires : tie.Need-closest-requires
 closest-requires c κs =
     let s = c .before .before .before .before .before in
     let a = s .args in
-    let p = s .pre in (
-      omega (arith, form-length (a .own .now) (p .0)),
-      omega (arith, target-long (a .target) (a .d .now) (p .2)),
-      form-laid (keyOf (a .own .now)) (a .held) (a .cache .now) (p .1) .room,
-    )
+    let p = s .pre in
+    ((omega (arith, form-length (a .own .now) (p .0)), omega (arith, target-long (a .target) (a .d .now) (p .2))), p .1)
 
 write-closest-requires : tie.Need-write-closest-requires
 write-closest-requires c κs = search needs
@@ -51,7 +48,7 @@ answer-of-requires c κs =
     let r = closestOf (keyAt (a .target) (a .d .now)) recs in
     let is : now (at-closest .closest .result) ≡ r = at-closest .closest .ensures ∙ ap (λ (k : ℕ). closestOf k recs) (target-lent (a .target) (a .d .now)) in
     let held = rows 100 (a .held) (a .cache .now) in
-    let formed = closest-formed (keyAt (a .target) (a .d .now)) (keyOf (a .own .now)) (a .own .now) (a .cache .now) held (p .0) (p .1) in
+    let formed = closest-formed (keyAt (a .target) (a .d .now)) (keyOf (a .own .now)) (a .own .now) held (p .0) (p .1 .held) in
     let w = rw is at (c .before .before .write-closest .ensures) in
     (closest-few (a .major) (a .minor) (a .id) (a .acked) r formed (p .3) w, omega arith)
 
@@ -68,7 +65,7 @@ returns c =
     let r = closestOf (keyAt (a .target) (a .d .now)) recs in
     let is : now (at-closest .closest .result) ≡ r = at-closest .closest .ensures ∙ ap (λ (k : ℕ). closestOf k recs) (target-lent (a .target) (a .d .now)) in
     let held = rows 100 (a .held) (a .cache .now) in
-    let formed = closest-formed (keyAt (a .target) (a .d .now)) (keyOf (a .own .now)) (a .own .now) (a .cache .now) held (p .0) (p .1) in
+    let formed = closest-formed (keyAt (a .target) (a .d .now)) (keyOf (a .own .now)) (a .own .now) held (p .0) (p .1 .held) in
     let w = rw is at (c .before .before .before .write-closest .ensures) in (
       c .answer-of .ensures ∙ ap (λ (l : ℕ). answer 0 l 0) (closest-told (a .major) (a .minor) (a .id) (a .acked) r formed (p .3) w),
       closest-sent (a .major) (a .minor) (a .id) (a .acked) r formed (p .3) w,

@@ -10,7 +10,6 @@ use Rattle.key.specs.Number.{keyAt}
 use Rattle.record.specs.Record.{keyOf}
 use Rattle.cache.specs.Closest.{candidates, closestOf}
 use Rattle.cache.specs.Calls.{closestCall, heldBy}
-use Rattle.cache.proofs.FormLaws.{form-laid}
 use Rattle.refusal.proofs.CallLaws.{row-applies, row-passes, no-row}
 use Rattle.cache.proofs.LentLaws.{not-is, not-isn't}
 use Rattle.cache.proofs.LentLaws.{memory-own, memory-form, memory-held, memory-passes, memory-refuses}
@@ -64,14 +63,12 @@ returns-2 c =
 closest-requires : tie.Need-closest-requires
 closest-requires c κs =
     let c4 = c .before .before .before .before in
-    let c8 = c4 .before .before .before .before in
-    let s = c8 in
-    let laid = form-laid (keyOf (s .args .own .now)) (c .before .before .found .given .0 .0) (s .args .cache .now) (memory-form (s .args .own .now)
-    (s .args .cache .now) (c4 .memory .ensures) (c .before .before .found .given .1)) in (
-      omega (arith, memory-own (s .args .own .now) (s .args .cache .now) (c4 .memory .ensures) (c .before .before .found .given .1)),
-      omega
-          (arith, c .if1 .left),
-      laid .room,
+    let s = c4 .before .before .before .before in
+    let found = c .before .before .found .given in
+    let own = s .args .own .now in
+    let cache = s .args .cache .now in (
+      (omega (arith, memory-own own cache (c4 .memory .ensures) (found .1)), omega (arith, c .if1 .left)),
+      memory-form own cache (c4 .memory .ensures) (found .1),
     )
 
 returns-3 : tie.Need-returns-3

@@ -1,22 +1,26 @@
 -- `cache::nearest::closest` meets its contract: the part returned is the record at the place found. Assumes nothing.
 use mathlib.Core.Path.{_≡_, sym, ap, _∙_, subst}
-use Prim.Native.Nat.{ℕ, _+_, _-_, _*_, _<_}
-use lib.ListN.{take, drop}
-use Rattle.table.specs.Rows.{rows}
-use Rattle.cache.specs.Closest.{candidates, closestOf}
+use Prim.Native.Nat.{ℕ, _+_, _-_, _*_, _≤_, _<_}
+use lib.ListN.{length, take, drop}
+use Rattle.record.specs.Record.{keyOf}
 use Rattle.cache.specs.Place.{recordAt, Within}
+use Rattle.cache.proofs.FormLaws.{form-laid}
 use native.Mathlib.Omega.{arith}
 use borrow.Author.Needs.{needs}
 use Rattle.cache.proofs.nearest.closest.Statement.{statement}
 use Rattle.cache.proofs.nearest.closest.Tie as tie
 
--- the place found is a used one
-inside : (c : tie.After-known-told) → c .before .i .given .0 .0 < c .before .before .before .before .before .before .before .before .args .used
-inside c = subst (Within (c .before .before .before .before .before .before .before .before .args .used)) (c .before .i .given .1)
-    (c .before .before .before .place-of-closest .ensures .1)
+abbrev start : tie.After-place-of-closest → tie.Start
+start c = c .before .before .before .before
 
-key-at-requires : tie.Need-key-at-requires
-key-at-requires c κs = search needs
+room : (s : tie.Start) → 100 * s .args .used ≤ length (s .args .cache .now)
+room s = form-laid (keyOf (s .args .own .now)) (s .args .used) (s .args .cache .now) (s .pre .1) .room
+
+-- the place found is a used one
+inside : (c : tie.After-known-told) → c .before .i .given .0 .0 < start (c .before .before .before) .args .used
+inside c =
+    let found = c .before .before .before in
+    subst (Within (start found .args .used)) (c .before .i .given .1) (found .place-of-closest .ensures .1)
 
 place-of-closest-requires : tie.Need-place-of-closest-requires
 place-of-closest-requires c κs = search needs
@@ -28,47 +32,40 @@ enum-known-i : tie.Need-enum-known-i
 enum-known-i c = search needs
 
 mul-at : tie.Need-mul-at
-mul-at c = omega (arith, inside c)
+mul-at c = omega (arith, inside c, room (start (c .before .before .before)))
 
 add-result : tie.Need-add-result
-add-result c = omega (arith, inside c)
+add-result c = omega (arith, inside c, room (start (c .before .before .before)))
 
 sub-result : tie.Need-sub-result
 sub-result c = search needs
 
 part-result-start : tie.Need-part-result-start
-part-result-start c = omega (arith, inside c)
+part-result-start c = search needs
 
 part-result-end : tie.Need-part-result-end
-part-result-end c = omega (arith, inside c)
+part-result-end c = omega (arith, inside c, room (start (c .before .before .before)))
 
 returns : tie.Need-returns
 returns c =
-    let c3 = c .before .before .before in
-    let c7 = c3 .before .before .before .before in
-    let m = c .before .before in
-    let a = c7 .args in
-    sym (ap (recordAt (a .own .now) (a .cache .now)) (c .enum-told .given .1)) ∙ m .place-of-closest .ensures .0
-    ∙ ap (λ (t : ℕ). closestOf t (candidates (a .own .now) (rows 100 (a .used) (a .cache .now)))) (c3 .key-at .ensures)
+    let found = c .before .before in
+    let a = start found .args in
+    sym (ap (recordAt (a .own .now) (a .cache .now)) (c .enum-told .given .1)) ∙ found .place-of-closest .ensures .0
 
 returns-2 : tie.Need-returns-2
 returns-2 c =
-    let c4 = c .before .before .before .before in
-    let c5 = c4 .before in
-    let c9 = c5 .before .before .before .before in
-    let m = c4 in
-    let a = c9 .args in
-    let i = c .before .before .i .given .0 .0 in
+    let at-place = c .before .before in
+    let found = at-place .before .before in
+    let a = start found .args in
+    let i = at-place .i .given .0 .0 in
     let n : 100 * i + 100 - 100 * i ≡ 100 = omega arith in
     ap (λ (k : ℕ). take k (drop (100 * i) (a .cache .now))) n
-    ∙ sym (ap (recordAt (a .own .now) (a .cache .now)) (c .before .before .i .given .1)) ∙ m .place-of-closest .ensures .0
-    ∙ ap (λ (t : ℕ). closestOf t (candidates (a .own .now) (rows 100 (a .used) (a .cache .now)))) (c5 .key-at .ensures)
+    ∙ sym (ap (recordAt (a .own .now) (a .cache .now)) (at-place .i .given .1)) ∙ found .place-of-closest .ensures .0
 
 pub closest-spec : {M : Type 1} → statement M
 closest-spec =
     tie.close
     (tie.spec
-    key-at-requires
     place-of-closest-requires
     enum-told
     enum-known-i

@@ -1,121 +1,107 @@
--- `cache::nearest::place_of_closest` meets its contract, by the invariant `Best` and its laws. Assumes nothing.
-use mathlib.Core.Path.{sym, _∙_}
-use Prim.Native.Nat.{_-_}
-use borrow.Author.Tests.{ltb-true}
-use Rattle.key.specs.Number.{number}
-use Rattle.key.proofs.AroundLaws.{closer-more}
-use Rattle.cache.proofs.BestLaws.{Best, starts, takes, leaves, ends}
+-- `cache::nearest::place_of_closest` meets its contract: of the records held, one of the two beside the target's place. Assumes nothing.
+use mathlib.Core.Path.{_≡_, sym, ap, _∙_}
+use Prim.Native.Nat.{ℕ, _*_, _≤_, _<_}
 use native.Mathlib.Omega.{arith}
+use lib.ListN.{length, length-map}
 use borrow.Author.Needs.{needs}
+use Rattle.octet.specs.Number.{Bytes}
+use Rattle.key.specs.Number.{keyAt}
+use Rattle.key.specs.Around.{ring}
+use Rattle.key.proofs.KeyLaws.{key-lt}
+use Rattle.record.specs.Record.{keyOf}
+use Rattle.table.specs.Rows.{rows}
+use Rattle.table.proofs.RowLaws.{rows-length}
+use Rattle.kept.proofs.TurnLaws.{under-le}
+use Rattle.cache.specs.declared.nearest.Where.{Where}
+use Rattle.cache.specs.Form.{keysOf}
+use Rattle.cache.specs.Closest.{candidates, closestFrom, closestOf}
+use Rattle.cache.specs.Place.{recordAt, nearestOf, Within}
+use Rattle.cache.proofs.FormLaws.{form-laid}
+use Rattle.cache.proofs.ListLaws.{keys-small}
+use Rattle.cache.proofs.BesideLaws.{nearest-closest, nearest-within}
 use Rattle.cache.proofs.nearest.place_of_closest.Statement.{statement}
 use Rattle.cache.proofs.nearest.place_of_closest.Tie as tie
 
-abbrev Inv-loop : tie.InvT-loop
-Inv-loop own cache used target place₀ best₀ far₀ i₀ place best far i = Best own cache used target place best far i
+abbrev start : tie.After-shared-slice-known3 → tie.Start
+start c = c .before .before .before
 
-abbrev μ-loop : tie.MeasureT-loop
-μ-loop own cache used target place₀ best₀ far₀ i₀ place best far i = used - i
+room : (s : tie.Start) → 100 * s .args .used ≤ length (s .args .cache .now)
+room s = form-laid (keyOf (s .args .own .now)) (s .args .used) (s .args .cache .now) (s .pre .1) .room
 
-key-at-requires : tie.Need-key-at-requires Inv-loop μ-loop
-key-at-requires c κs = omega arith
+at-most : (c : tie.After-count-under) → c .count-under .result ≤ start (c .before .before) .args .used
+at-most c =
+    let a = start (c .before .before) .args in
+    let held = rows 100 (a .used) (a .cache .now) in
+    omega (arith, c .count-under .ensures, under-le (keyAt 0 (a .target .now)) (keysOf held), length-map held keyOf, rows-length 100 (a .used) (a .cache .now))
 
-how-far-requires : tie.Need-how-far-requires Inv-loop μ-loop
-how-far-requires c κs = tt
+returns : tie.Need-returns
+unfolding closestOf closestFrom rows
+returns c =
+    let a = start (c .before) .args in
+    (sym (ap (λ (n : ℕ). closestOf (keyAt 0 (a .target .now)) (candidates (a .own .now) (rows 100 n (a .cache .now)))) (c .if1 .taken)), tt)
 
-loop-holds : tie.Need-loop-holds Inv-loop μ-loop
-loop-holds c = starts _ _ _ _ _ _ (c .before .key-at .ensures) (c .how-far .ensures)
+count-under-requires : tie.Need-count-under-requires
+count-under-requires c κs =
+    let s = start (c .before) in
+    (s .pre .0 .1, (room s, s .pre .1 .held .rising))
 
-key-held-requires : tie.Need-key-held-requires Inv-loop μ-loop
-key-held-requires c κs = omega arith
+wrap-requires : tie.Need-wrap-requires
+wrap-requires c κs = omega (arith, at-most c, c .before .if1 .left)
 
-add-i : tie.Need-add-i Inv-loop μ-loop
-add-i c = omega arith
+sub-wrap : tie.Need-sub-wrap
+sub-wrap c = search needs
 
-is-beyond-requires : tie.Need-is-beyond-requires Inv-loop μ-loop
-is-beyond-requires c κs = search needs
+add-wrap : tie.Need-add-wrap
+add-wrap c = omega (arith, at-most (c .before), room (start (c .before .before .before)))
 
-loop-less : tie.Need-loop-less Inv-loop μ-loop
-loop-less c = omega arith
+wrap-requires-2 : tie.Need-wrap-requires-2
+wrap-requires-2 c κs = omega (arith, at-most (c .before), c .before .before .if1 .left)
 
--- one that is farther is not closer
-loop-again : tie.Need-loop-again Inv-loop μ-loop
-loop-again c =
-    let held = c .before .before in
-    let l = held .before .before in
-    let t = number (l .before .before .before .before .before .args .target) in
-    let h = c .before .is-beyond .ensures (c .if1 .taken) in
-    leaves _ _ _ _ (l .loop .inv) _ (held .before .loop-test .taken) (held .key-held .ensures)
-    (sym (closer-more t (number (held .key-held .result)) (number (l .loop .best)) (omega (arith, h, l .loop .inv .away))))
+key-at-requires : tie.Need-key-at-requires
+key-at-requires c κs = search needs
 
-how-far-requires-2 : tie.Need-how-far-requires-2 Inv-loop μ-loop
-how-far-requires-2 c κs = tt
+nearest-of-requires : tie.Need-nearest-of-requires
+nearest-of-requires c κs =
+    let down = c .before in
+    let up = down .before in
+    let s = start (up .before .before .before) in
+    (s .pre .0 .0, omega (arith, room s, up .wrap .ensures .1), omega (arith, room s, down .wrap2 .ensures .1))
 
-is-less-requires : tie.Need-is-less-requires Inv-loop μ-loop
-is-less-requires c κs = search needs
-
-loop-less-2 : tie.Need-loop-less-2 Inv-loop μ-loop
-loop-less-2 c = omega arith
-
-loop-again-2 : tie.Need-loop-again-2 Inv-loop μ-loop
-loop-again-2 c =
-    let at-far = c .before .before in
-    let held = at-far .before .before .before in
-    let l = held .before .before in
-    let t = number (l .before .before .before .before .before .args .target) in
-    let h = ltb-true (number (l .loop .far)) (number (at-far .how-far2 .result)) (sym (c .before .is-less .ensures) ∙ c .if2 .taken) in
-    leaves _ _ _ _ (l .loop .inv) _ (held .before .loop-test .taken) (held .key-held .ensures)
-    (sym (closer-more t (number (held .key-held .result)) (number (l .loop .best)) (omega (arith, h, l .loop .inv .away, at-far .how-far2 .ensures))))
-
-is-closer-requires : tie.Need-is-closer-requires Inv-loop μ-loop
-is-closer-requires c κs =
-    let away = c .before .before .before .before .before .before .before .loop .inv .away in search needs
-
-loop-less-3 : tie.Need-loop-less-3 Inv-loop μ-loop
-loop-less-3 c = omega arith
-
-loop-again-3 : tie.Need-loop-again-3 Inv-loop μ-loop
-loop-again-3 c =
-    let at-far = c .before .before .before .before in
-    let held = at-far .before .before .before in
-    let l = held .before .before in
-    takes _ _ _ _ (l .loop .inv) _ (held .before .loop-test .taken) (held .key-held .ensures) _ (at-far .how-far2 .ensures) (sym (c .if3 .taken)
-    ∙ c .before .is-closer .ensures)
-
-loop-less-4 : tie.Need-loop-less-4 Inv-loop μ-loop
-loop-less-4 c = omega arith
-
-loop-again-4 : tie.Need-loop-again-4 Inv-loop μ-loop
-loop-again-4 c =
-    let at-far = c .before .before .before .before in
-    let held = at-far .before .before .before in
-    let l = held .before .before in
-    leaves _ _ _ _ (l .loop .inv) _ (held .before .loop-test .taken) (held .key-held .ensures) (sym (c .if3 .left)
-    ∙ c .before .is-closer .ensures)
-
-returns : tie.Need-returns Inv-loop μ-loop
-returns c = (ends _ _ _ _ (c .before .loop .inv) (c .loop-test .left), c .before .loop .inv .within)
+returns-2 : tie.Need-returns-2
+returns-2 c =
+    let k = c .before in
+    let down = k .before in
+    let up = down .before in
+    let n = up .before in
+    let known3 = n .before .before in
+    let s = start known3 in
+    let a = s .args in
+    let t = keyAt 0 (a .target .now) in
+    let bytes : Bytes (a .cache .now) = λ i. omega (arith, known3 .before .shared-slice-known2 .given i) in
+    let target-bytes : Bytes (a .target .now) = λ i. omega (arith, known3 .shared-slice-known3 .given i) in
+    let o : t < ring = key-lt 0 (a .target .now) target-bytes (s .pre .0 .1) in
+    let small = keys-small (a .used) (a .cache .now) bytes (room s) in
+    let some : 0 < a .used = omega (arith, n .before .if1 .left) in
+    let is : c .nearest-of .result ≡ nearestOf t (a .own .now) (a .cache .now) (up .wrap .result) (down .wrap2 .result) =
+    c .nearest-of .ensures
+    ∙ ap (λ (m : ℕ). nearestOf m (a .own .now) (a .cache .now) (up .wrap .result) (down .wrap2 .result)) (k .key-at .ensures) in (
+      ap (recordAt (a .own .now) (a .cache .now)) is
+          ∙ nearest-closest t (a .own .now) (a .cache .now) (a .used) (s .pre .1 .held) o small some (n .count-under .result) (up .wrap .result)
+          (down .wrap2 .result) (n .count-under .ensures) (up .wrap .ensures .0) (down .wrap2 .ensures .0) (up .wrap .ensures .1) (down .wrap2 .ensures .1),
+      rw is (nearest-within t (a .own .now) (a .cache .now) (a .used) (s .pre .1 .held) o small some (n .count-under .result) (up .wrap .result)
+          (down .wrap2 .result) (n .count-under .ensures) (up .wrap .ensures .0) (down .wrap2 .ensures .0) (up .wrap .ensures .1) (down .wrap2 .ensures .1)),
+    )
 
 pub place-of-closest-spec : {M : Type 1} → statement M
 place-of-closest-spec =
     tie.close
     (tie.spec
-    Inv-loop
-    μ-loop
+    returns
+    count-under-requires
+    wrap-requires
+    sub-wrap
+    add-wrap
+    wrap-requires-2
     key-at-requires
-    how-far-requires
-    loop-holds
-    key-held-requires
-    add-i
-    is-beyond-requires
-    loop-less
-    loop-again
-    how-far-requires-2
-    is-less-requires
-    loop-less-2
-    loop-again-2
-    is-closer-requires
-    loop-less-3
-    loop-again-3
-    loop-less-4
-    loop-again-4
-    returns)
+    nearest-of-requires
+    returns-2)

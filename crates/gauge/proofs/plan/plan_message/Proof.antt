@@ -1,8 +1,12 @@
 -- `gauge::plan::plan_message` meets its contract: each arm is the clause of its message, and reading knows the places. Assumes nothing.
 use mathlib.Core.Path.{_≡_, sym, ap, subst, _∙_}
 use mathlib.Core.List.{List}
-use Prim.Native.Nat.{ℕ}
+use Prim.Native.Nat.{ℕ, _*_, _≤_}
 use native.Mathlib.Omega.{arith}
+use lib.ListN.{length}
+use Rattle.record.specs.Record.{keyOf}
+use Rattle.record.proofs.EntryLaws.{form-length}
+use Rattle.cache.proofs.FormLaws.{form-laid}
 use Rattle.wire_read.specs.Answers as R
 use Rattle.wire_read.specs.declared.Answer as T
 use Rattle.gauge.specs.Lent.{Receive, receive}
@@ -22,6 +26,13 @@ lent-at s minor nonce =
     let a = s .args in
     receive (a .own .now) (a .cpa .now) (a .cache .now) (a .waiting .now) (a .major) minor (a .id) nonce (a .verdict) (a .key .now) (a .datagram .now)
     (a .output .now)
+
+-- what memory in form is known by
+long : (s : tie.Start) → length (s .args .own .now) ≡ 100
+long s = form-length (s .args .own .now) (s .pre .0)
+
+room : (s : tie.Start) → 100 * s .args .held ≤ length (s .args .cache .now)
+room s = form-laid (keyOf (s .args .own .now)) (s .args .held) (s .args .cache .now) (s .pre .2) .room
 
 -- what was read
 read-as : (m : tie.After-read) {a : T.Answer} → m .read .result ≡ a → R.answer (start m .args .datagram .now) (start m .args .major) ≡ a
@@ -67,7 +78,7 @@ plan-flood-requires c κs =
     let d = s .args .datagram .now in
     let w = knows m (k .message2 .given .1) in
     let e = subst (EntryIn d) (c .before .entry .given .1) (w .1) in
-    (omega (arith, s .pre .0), s .pre .2, s .pre .3, w .0, e .0, e .1)
+    (omega (arith, long s), room s, s .pre .3, w .0, e .0, e .1)
 
 enum-told-4 : tie.Need-enum-told-4
 enum-told-4 c = search needs
@@ -78,7 +89,7 @@ plan-revoke-requires c κs =
     let m = k .before .before in
     let s = start m in
     let w = knows m (k .message2 .given .1) in
-    (omega (arith, s .pre .0), omega (arith, s .pre .4), w .0)
+    (omega (arith, long s), omega (arith, s .pre .4), w .0)
 
 enum-known-message-3 : tie.Need-enum-known-message-3
 enum-known-message-3 c = search needs
@@ -87,7 +98,7 @@ plan-inquire-requires : tie.Need-plan-inquire-requires
 plan-inquire-requires c κs =
     let m = c .before .before .before in
     let s = start m in
-    (omega (arith, s .pre .0), knows m (c .before .message3 .given .1), s .pre .1)
+    (omega (arith, long s), knows m (c .before .message3 .given .1), s .pre .1)
 
 enum-known-message-4 : tie.Need-enum-known-message-4
 enum-known-message-4 c = search needs

@@ -1,22 +1,22 @@
 -- `gauge_plan::answering::plan_lookup` meets its contract: the record shown has 100 bytes, and its count is one of them; where every record fits it need not be known. Assumes nothing.
 use mathlib.Core.Path.{_≡_, refl, sym, ap, _∙_}
-use mathlib.Core.Bool.{true, not, _&&_}
 use mathlib.Core.List.{[], _∷_}
 use Prim.Native.Nat.{ℕ, _+_, _*_}
 use native.Mathlib.Omega.{arith}
-use lib.Dec.{ltb, leb}
+use lib.Dec.{ltb}
 use lib.ListN.{length}
 use borrow.Author.Needs.{needs}
-use borrow.Author.Tests.{lt-ltb, le-ltb, leb-true, not-true}
-use Rattle.octet.proofs.TestLaws.{both-true}
+use borrow.Author.Tests.{lt-ltb, le-ltb}
 use Rattle.octet.specs.Number.{valueBE}
+use Rattle.octet.proofs.PartLaws.{length-part}
 use Rattle.key.specs.Number.{keyAt}
-use Rattle.record.specs.Record.{countOf}
+use Rattle.record.specs.Record.{keyOf, countOf}
+use Rattle.record.proofs.EntryLaws.{form-length}
 use Rattle.refusal.specs.Table.{when, orRefuse}
 use Rattle.table.specs.Rows.{rows}
 use Rattle.table.proofs.PieceLaws.{part-lent, part-start}
 use Rattle.cache.specs.Closest.{candidates, closestOf}
-use Rattle.cache.proofs.ClosestLaws.{closest-length}
+use Rattle.cache.proofs.ClosestLaws.{closest-formed}
 use Rattle.gauge_plan.specs.Answering.{lookupPlan}
 use Rattle.gauge_plan.specs.declared.Plan.the-variants.{Refuse, Show}
 use Rattle.gauge_plan.proofs.AnsweringLaws.{lookup-by, lookup-any}
@@ -24,7 +24,7 @@ use Rattle.gauge_plan.proofs.answering.plan_lookup.Statement.{statement
 use Rattle.gauge_plan.proofs.answering.plan_lookup.Tie as tie
 
 abbrev start : tie.After-closest → tie.Start
-start c = c .before .before .before .before .before .before .before .before
+start c = c .before .before .before .before .before .before
 
 -- the record shown, and how long it is
 shown : (c : tie.After-closest)
@@ -41,7 +41,10 @@ long : (c : tie.After-closest) → length (c .closest .result .now) ≡ 100
 long c =
     let s = start c in
     let a = s .args in
-    ap length (shown c) ∙ closest-length (keyAt (a .target) (a .d .now)) (a .held) (a .own .now) (a .cache .now) (s .pre .0) (s .pre .1)
+    let held = rows 100 (a .held) (a .cache .now) in
+    let k = keyAt (a .target) (a .d .now) in
+    ap length (shown c)
+    ∙ form-length (closestOf k (candidates (a .own .now) held)) (closest-formed k (keyOf (a .own .now)) (a .own .now) held (s .pre .0) (s .pre .1 .held))
 
 by-room : (c : tie.After-closest)
     → (let a = start c .args in lookupPlan (a .own .now) (rows 100 (a .held) (a .cache .now)) (a .held) (a .room) (a .d .now) (a .acked) (a .target))
@@ -51,22 +54,13 @@ by-room c =
     let a = start c .args in
     lookup-by (a .own .now) (rows 100 (a .held) (a .cache .now)) (a .held) (a .room) (a .d .now) (a .acked) (a .target) (ap countOf (sym (shown c)))
 
-over-four-requires : tie.Need-over-four-requires
-over-four-requires c κs = search needs
-
-shared-slice-read-if1 : tie.Need-shared-slice-read-if1
-shared-slice-read-if1 c = search needs
-
--- with room for four addresses no record in sight is too long
+-- with room for four addresses no record is too long
 returns : tie.Need-returns
 returns c =
-    let found = c .before .before in
-    let a = found .before .before .before .before .args in
-    let t : (leb 144 (a .room) && leb (countOf (a .own .now)) 4 && not (found .over-four .result)) ≡ true = c .if1 .taken in
-    let w = both-true _ _ t in
-    let u = both-true _ _ (w .0) in
-    sym (lookup-any (a .own .now) (rows 100 (a .held) (a .cache .now)) (a .held) (a .room) (a .d .now) (a .acked) (a .target)
-    (leb-true 144 (a .room) (u .0)) (leb-true (countOf (a .own .now)) 4 (u .1)) (sym (found .over-four .ensures) ∙ not-true _ (w .1)))
+    let s = c .before .before .before .before in
+    let a = s .args in
+    sym (lookup-any (a .own .now) (rows 100 (a .held) (a .cache .now)) (a .held) (a .room) (a .d .now) (a .acked) (a .target) (c .if1 .taken) (s .pre .0)
+    (s .pre .1 .held))
 
 add-closest : tie.Need-add-closest
 add-closest c = search needs
@@ -81,19 +75,23 @@ part-closest-end : tie.Need-part-closest-end
 part-closest-end c = search needs
 
 closest-requires : tie.Need-closest-requires
-closest-requires c κs = search needs
+closest-requires c κs =
+    let s = c .before .before .before .before .before in
+    let a = s .args in
+    let n = ap length (part-lent (a .target) 32 (a .d .now)) ∙ length-part (a .target) 32 (a .d .now) (s .pre .2) in
+    ((omega (arith, form-length (a .own .now) (s .pre .0)), omega arith), s .pre .1)
 
 shared-slice-read-count : tie.Need-shared-slice-read-count
 shared-slice-read-count c = omega (arith, long (c .before))
 
 cast-count : tie.Need-cast-count
-cast-count c = omega (arith, c .shared-slice-known5 .given 34)
+cast-count c = omega (arith, c .shared-slice-known4 .given 34)
 
 mul-if2 : tie.Need-mul-if2
-mul-if2 c = omega (arith, c .shared-slice-known5 .given 34)
+mul-if2 c = omega (arith, c .shared-slice-known4 .given 34)
 
 add-if2 : tie.Need-add-if2
-add-if2 c = omega (arith, c .shared-slice-known5 .given 34)
+add-if2 c = omega (arith, c .shared-slice-known4 .given 34)
 
 returns-2 : tie.Need-returns-2
 unfolding orRefuse
@@ -107,8 +105,6 @@ pub plan-lookup-spec : {M : Type 1} → statement M
 plan-lookup-spec =
     tie.close
     (tie.spec
-    over-four-requires
-    shared-slice-read-if1
     returns
     add-closest
     sub-closest

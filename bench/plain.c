@@ -3,8 +3,7 @@
  * differ, runs of bytes moved by the C library. For x86-64: words are read least significant byte first.
  *
  *   PLAIN    begins the names of the calls
- *   HALVE    keys are searched by halving, and the closest record is one of those next to the target, round the end. Without it every record is looked at in turn,
- *            as the archive does. */
+ *   HALVE    keys are searched by halving. Without it one record is looked at after the other up to the key's place, as the archive does. */
 #include "plain.h"
 #include <stdbool.h>
 #include <string.h>
@@ -487,21 +486,17 @@ static inline void try_record(struct nearest *best, const struct key *target, co
     }
 }
 
+/* Keys go round: of those held only the two next to the target can be the closest. */
 static const uint8_t *closest(const uint8_t *own, const uint8_t *cache, size_t held, const uint8_t *target)
 {
     struct key goal = key_at(target), ours = key_at(own);
     struct nearest best = {own, {0, 0, 0, 0}, false};
     best.up = apart(&goal, &ours, &best.far);
-#ifdef HALVE
-    size_t at = below(cache, held, target);
     if (held > 0) {
+        size_t at = below(cache, held, target);
         try_record(&best, &goal, cache + 100 * (at > 0 ? at - 1 : held - 1));
         try_record(&best, &goal, cache + 100 * (at < held ? at : 0));
     }
-#else
-    for (size_t i = 0; i < held; i++)
-        try_record(&best, &goal, cache + 100 * i);
-#endif
     return best.record;
 }
 

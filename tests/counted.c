@@ -6,7 +6,7 @@
 #include <string.h>
 
 size_t leaves_form(const uint8_t *own, size_t own_len, const uint8_t *cache, size_t cache_len);
-uint64_t leaves_closest(const uint8_t *own, size_t own_len, const uint8_t *cache, size_t cache_len, size_t used, const uint8_t *target, size_t target_len);
+uint64_t leaves_closest(const uint8_t *own, size_t own_len, const uint8_t *cache, size_t cache_len, const uint8_t *target, size_t target_len);
 
 #define C 256
 
@@ -93,21 +93,37 @@ static bool apart(const struct key *x, const struct key *y, struct key *far)
     return true;
 }
 
+struct nearest {
+    struct key key, far;
+    bool up;
+};
+
+static void try_key(struct nearest *best, const struct key *goal, struct key k)
+{
+    struct key d;
+    bool goes_up = apart(goal, &k, &d);
+    int which = order(&d, &best->far);
+    if (which < 0 || (which == 0 && best->up && !goes_up)) {
+        best->key = k;
+        best->far = d;
+        best->up = goes_up;
+    }
+}
+
+/* A walk to the target's place, by the first word where that decides; keys go round, so that only the two beside it can be the closest. */
 __attribute__((noinline)) static uint64_t plain_closest(const uint8_t *o, const uint8_t *s, size_t used, const uint8_t *t)
 {
-    struct key goal = key_at(t), best = key_at(o), far;
-    bool up = apart(&goal, &best, &far);
-    for (size_t i = 0; i < used; i++) {
-        struct key k = key_at(s + 100 * i), d;
-        bool goes_up = apart(&goal, &k, &d);
-        int which = order(&d, &far);
-        if (which < 0 || (which == 0 && up && !goes_up)) {
-            best = k;
-            far = d;
-            up = goes_up;
-        }
+    struct key goal = key_at(t);
+    struct nearest best = {key_at(o), {{0, 0, 0, 0}}, false};
+    size_t at = 0;
+    best.up = apart(&goal, &best.key, &best.far);
+    while (at < used && (word(s + 100 * at) < goal.w[0] || (word(s + 100 * at) == goal.w[0] && memcmp(s + 100 * at, t, 32) < 0)))
+        at++;
+    if (used > 0) {
+        try_key(&best, &goal, key_at(s + 100 * (at > 0 ? at - 1 : used - 1)));
+        try_key(&best, &goal, key_at(s + 100 * (at < used ? at : 0)));
     }
-    return best.w[3];
+    return best.key.w[3];
 }
 
 static uint32_t state = 20260207u;
@@ -147,7 +163,7 @@ int main(void)
         mark();
         plain = plain_form(own, cache, sizeof cache);
         mark();
-        near = leaves_closest(own, 100, cache, sizeof cache, C, target, 32);
+        near = leaves_closest(own, 100, cache, sizeof cache, target, 32);
         mark();
         plainly = plain_closest(own, cache, C, target);
         mark();

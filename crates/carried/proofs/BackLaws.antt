@@ -1,5 +1,5 @@
--- A reading that was carried is taken out as it was handed in. In this order: a reading from numbers; what is read of a message that was written; the calls.
--- Assumes nothing.
+-- A reading that was carried is taken out as it was handed in. In this order: a reading from numbers; what is read of a message that was written;
+-- the calls. Assumes nothing.
 use mathlib.Core.Path.{_≡_, refl, sym, ap, ap₂, subst, _∙_}
 use mathlib.Core.Bool.{Bool, true, false, not, cond, _&&_, _||_}
 use mathlib.Core.List.{List, [], _∷_, _++_}
@@ -78,7 +78,8 @@ module _ (kind measure : ℕ) (w : measure < 4294967296) where
   a-fault k h = (sym k, refl, h, refl)
 
   by-kind : (one two t large : Bool) → eqb kind 1 ≡ one → eqb kind 2 ≡ two → allowed (ofBits binary32 measure) ≡ t → ltb 65535 measure ≡ large
-      → two && large ≡ false → one || two ≡ true → one && not t ≡ false → Kept kind measure (cond one (Depth (ofBits binary32 measure)) (Fault measure))
+      → two && large ≡ false → one || two ≡ true → one && not t ≡ false
+      → Kept kind measure (cond one (Depth (ofBits binary32 measure)) (Fault measure))
   by-kind true two true large p q r s a b c = a-depth (eqb-true kind 1 p) r
   by-kind true two false large p q r s a b c = both refl c
   by-kind false true t true p q r s a b c = both refl a
@@ -90,8 +91,12 @@ module _ (kind measure : ℕ) (w : measure < 4294967296) where
   unfolding readingOf numberRefusals orRefuse
   numbers-kept i o r e =
       let d = ofBits binary32 measure in
-      let x = read-by (eqb kind 2 && ltb 65535 measure) (not (isKind kind)) (eqb kind 1 && not (allowed d)) (reading (measuredAs kind measure) i o) r e in
-      (sym (x .3), by-kind (eqb kind 1) (eqb kind 2) (allowed d) (ltb 65535 measure) refl refl refl refl (x .0) (not-false (isKind kind) (x .1)) (x .2))
+      let x =
+      read-by (eqb kind 2 && ltb 65535 measure) (not (isKind kind)) (eqb kind 1 && not (allowed d)) (reading (measuredAs kind measure) i o) r e in (
+        sym (x .3),
+        by-kind (eqb kind 1) (eqb kind 2) (allowed d) (ltb 65535 measure) refl refl refl refl (x .0)
+            (not-false (isKind kind) (x .1)) (x .2),
+      )
 
   number-refused : (i o n : ℕ) → readingOf kind measure i o ≡ Refused n → 0 < n
   unfolding readingOf numberRefusals orRefuse
@@ -150,7 +155,8 @@ module _ (major : ℕ) (d : List ℕ) (b : Bytes d) (h : Head) (acked : ℕ) (f 
       (payload-held (image r) (image-bytes r) (omega (arith, image-short (r .measured) (r .inflow) (r .outflow))))
       (authority-joins 8 (changedAt 6 (some (image r)) (was .fields)) (was-well .known)) l
 
-  pub written-taken : length (bytesOf (layoutOf authorityKinds is)) ≤ 1232 → takeCall major (bytesOf (layoutOf authorityKinds is)) ≡ takenBy (unpackOf (image r))
+  pub written-taken : length (bytesOf (layoutOf authorityKinds is)) ≤ 1232
+      → takeCall major (bytesOf (layoutOf authorityKinds is)) ≡ takenBy (unpackOf (image r))
   unfolding takeCall
   written-taken l =
       let bytes = bytesOf (layoutOf authorityKinds is) in
@@ -159,7 +165,8 @@ module _ (major : ℕ) (d : List ℕ) (b : Bytes d) (h : Head) (acked : ℕ) (f 
 -- ---- the calls
 
 put-by : (fits : Bool) (bytes old : List ℕ)
-    → (let w : W.Written = cond fits (record { number = 0; length = length bytes }) (record { number = 15; length = 0 }) in w .number ≡ 0 → fits ≡ true)
+    → (let w : W.Written = cond fits (record { number = 0; length = length bytes }) (record { number = 15; length = 0 }) in
+    w .number ≡ 0 → fits ≡ true)
 put-by true bytes old z = refl
 put-by false bytes old z = absurd (omega (arith, z))
 
@@ -178,7 +185,8 @@ put-there m old k z =
 some-number : (n : ℕ) → (n ≡ 0 → ⊥) → 0 < n
 some-number n u = omega (arith, u)
 
-other-by : (major : ℕ) (d : List ℕ) (a : Answer) (n : ℕ) → wholeOf a ≡ Other n → (numberOf a ≡ 0 → (m : Message) × (messageOf major d a ≡ some m)) → 0 < n
+other-by : (major : ℕ) (d : List ℕ) (a : Answer) (n : ℕ) → wholeOf a ≡ Other n
+    → (numberOf a ≡ 0 → (m : Message) × (messageOf major d a ≡ some m)) → 0 < n
 unfolding messageOf
 other-by major d (M.Refused k) n e acc =
     some-number n (λ z. let q : k ≡ n = cc in let (m, x) = acc (q ∙ z) in let y : _≡_ {A = ℕ} 0 1 = cc in omega arith)

@@ -1,10 +1,10 @@
--- Laws of readings carried. In this order: an AUTHORITY that is wanted; the call by what was read; a reading that may be written; its bytes; what is written.
--- Assumes nothing.
+-- Laws of readings carried. In this order: an AUTHORITY that is wanted; the call by what was read; a reading that may be written; its bytes; what
+-- is written. Assumes nothing.
 use mathlib.Core.Path.{_≡_, refl, sym, ap, ap₂, subst, _∙_}
 use mathlib.Core.Bool.{Bool, true, false, not, cond, _&&_}
-use mathlib.Core.List.{List, [], _∷_, _++_}
+use mathlib.Core.List.{List, [], _++_}
 use mathlib.Core.Option.{some, none}
-use Prim.Native.Nat.{ℕ, zero, suc, _+_, _≤_, _<_}
+use Prim.Native.Nat.{ℕ, _+_, _≤_}
 use native.Mathlib.Omega.{arith}
 use lib.Dec.{eqb, leb, ltb}
 use lib.Ieee.{Float, binary32, ofBits}
@@ -31,6 +31,7 @@ use Rattle.wire_read.specs.declared.Inside.{Inside}
 use Rattle.refusal.specs.Table.{orRefuse}
 use Rattle.refusal.proofs.CallLaws.{or-known}
 use Rattle.octet.proofs.PartLaws.{take-splice, length-splice}
+use Rattle.octet.proofs.BytesLaws.{bytes-append}
 use Rattle.readings.specs.Depth.{allowed}
 use Rattle.readings.specs.Reading.{reading, kindOf, measureOf, widthOf, isKind, measuredAs, contents, image, fine}
 use Rattle.readings.specs.Numbers.{numberRefusals, readingOf}
@@ -108,7 +109,8 @@ pub reading-fine : (kind measure i o : ℕ) (r : Reading) → readingOf kind mea
 unfolding readingOf numberRefusals orRefuse
 reading-fine kind measure i o r e =
     let d = ofBits binary32 measure in
-    let w = fine-by (eqb kind 2 && ltb 65535 measure) (not (isKind kind)) (eqb kind 1 && not (allowed d)) (reading (measuredAs kind measure) i o) r e in
+    let w =
+    fine-by (eqb kind 2 && ltb 65535 measure) (not (isKind kind)) (eqb kind 1 && not (allowed d)) (reading (measuredAs kind measure) i o) r e in
     subst (λ (x : Reading). fine (x .measured) ≡ true) (w .1) (measured-fine (eqb kind 1) (allowed d) d measure refl (w .0))
 
 -- and so may one that was read
@@ -143,14 +145,6 @@ packed-image r out left l e =
     ap (take (length (image r))) e ∙ ap (λ (n : ℕ). take n (splice 0 (image r) out)) z
     ∙ take-splice 0 (image r) out (omega (arith, l, image-short (r .measured) (r .inflow) (r .outflow)))
 
-bytes-cons : (x : ℕ) (xs : List ℕ) → x < 256 → Bytes xs → Bytes (x ∷ xs)
-bytes-cons x xs p q zero = p
-bytes-cons x xs p q (suc i) = q i
-
-bytes-append : (xs ys : List ℕ) → Bytes xs → Bytes ys → Bytes (xs ++ ys)
-bytes-append [] ys p q = q
-bytes-append (x ∷ xs) ys p q = bytes-cons x (xs ++ ys) (p 0) (bytes-append xs ys (λ i. p (suc i)) q)
-
 digits : (w n : ℕ) → Bytes (digitsLE 256 w n)
 digits w n = digitsLE-lt 256 w n (omega arith)
 
@@ -168,7 +162,8 @@ image-bytes r =
 -- ---- what is written
 
 short-by : (a b : Bool) (n : ℕ) → (b ≡ true → n ≤ 1232)
-    → (let w : W.Written = cond a (cond b (record { number = 0; length = n }) (record { number = 15; length = 0 })) (record { number = 6; length = 0 }) in w .length ≤ 1232)
+    → (let w : W.Written = cond a (cond b (record { number = 0; length = n }) (record { number = 15; length = 0 }))
+    (record { number = 6; length = 0 }) in w .length ≤ 1232)
 short-by true true n h = h refl
 short-by true false n h = omega arith
 short-by false b n h = omega arith
@@ -215,12 +210,14 @@ module _ (major : ℕ) (d : List ℕ) (b : Bytes d) (h : Head) (acked : ℕ) (f 
   carried-refused u n old g e q =
       ap (λ (x : Carry). handed x old) q ∙ sym (ap (λ (x : Unpacked). carryAs (messageOf major d (M.Authority h acked f)) x old) e)
 
-  pub carried-read : (u : Unpacked) (r : Reading) (old : List ℕ) (x : Handed) → u ≡ Read r → x ≡ carryAs (messageOf major d (M.Authority h acked f)) (Read r) old
+  pub carried-read : (u : Unpacked) (r : Reading) (old : List ℕ) (x : Handed) → u ≡ Read r
+      → x ≡ carryAs (messageOf major d (M.Authority h acked f)) (Read r) old
       → x ≡ carryAs (messageOf major d (M.Authority h acked f)) u old
   carried-read u r old x e q = q ∙ sym (ap (λ (y : Unpacked). carryAs (messageOf major d (M.Authority h acked f)) y old) e)
 
 -- a reading that may be written is packed into 16 bytes
-module _ (r : Reading) (out left : List ℕ) (a : Packed) (g : fine (r .measured) ≡ true) (l : length out ≡ 16) (e : P.handed a left ≡ packOf r out) where
+module _ (r : Reading) (out left : List ℕ) (a : Packed) (g : fine (r .measured) ≡ true) (l : length out ≡ 16)
+    (e : P.handed a left ≡ packOf r out) where
   pub not-refused : {A : Type 0} (n : ℕ) → a ≡ Refuse n → A
   not-refused n q = absurd (let z = sym (packed-sure r out left a g l e .0) ∙ q in let y : _≡_ {A = ℕ} 0 1 = cc in omega arith)
 

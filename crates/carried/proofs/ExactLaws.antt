@@ -1,4 +1,5 @@
--- Which number is given when. In this order: what a datagram is; a reading handed in; what is put; a call to carry, by cases; a call to take. Assumes nothing.
+-- Which number is given when. In this order: what a datagram is; a reading handed in; what is put; a call to carry, by cases; a call to take.
+-- Assumes nothing.
 use mathlib.Core.Path.{_≡_, refl, sym, ap, subst, _∙_}
 use mathlib.Core.Bool.{Bool, true, false, not, cond, _&&_, _||_}
 use mathlib.Core.List.{List, _++_}
@@ -34,7 +35,8 @@ use Rattle.carried.specs.declared.whole.Whole.the-variants.{Other}
 use Rattle.carried.specs.Whole.{wholeOf}
 use Rattle.carried.specs.Carry.{carry, Handed, handed, put, withReading, carryIn, carryAs, carryBy, carryCall}
 use Rattle.carried.specs.Take.{nothing, takenBy, takenFrom, takeCall}
-use Rattle.carried.specs.Statements.{ReadsAs, IsAuthority, Unread, Another, NoRoom, TooLong, Carries, ReadingApplies, too-large, unknown-kind, outside}
+use Rattle.carried.specs.Statements.{ReadsAs, IsAuthority, Unread, Another, NoRoom, TooLong}
+use Rattle.carried.specs.Statements.{Carries, ReadingApplies, too-large, unknown-kind, outside}
 use Rattle.carried.specs.Statements.{CarryExactly, CarryKeeps, CarryWrites, CarryFirst, TakeExactly}
 use Rattle.carried.proofs.CarryLaws.{carry-other, take-other}
 use Rattle.carried.proofs.BackLaws.{typed, means-authority}
@@ -99,8 +101,8 @@ authority-by major d (M.Lookup head a precision criteria reason target validate 
 -- ---- a reading handed in
 
 module _ (kind measure i o : ℕ) where
-  applies-by : (one two large good : Bool) → eqb kind 1 ≡ one → eqb kind 2 ≡ two → ltb 65535 measure ≡ large → allowed (ofBits binary32 measure) ≡ good
-      → (x : Reading) (n : ℕ)
+  applies-by : (one two large good : Bool) → eqb kind 1 ≡ one → eqb kind 2 ≡ two → ltb 65535 measure ≡ large
+      → allowed (ofBits binary32 measure) ≡ good → (x : Reading) (n : ℕ)
       → cond (two && large) (Refused 1) (cond (not (one || two)) (Refused 2) (cond (one && not good) (Refused 3) (Read x))) ≡ Refused n
       → ReadingApplies kind measure n
   applies-by one true true good p q r s x n e = let z : n ≡ 1 = cc in too-large z (eqb-true kind 2 q) (ltb-true 65535 measure r)
@@ -168,10 +170,12 @@ data Ends (major : ℕ) (d : List ℕ) (u : Unpacked) (old : List ℕ) (h : Hand
   not-read : (n : ℕ) → 0 < n → Unread major d n → h ≡ handed (carry n 0 0) old → Ends major d u old h
   not-authority : (m : Message) → ReadsAs major d m → ¬ (m .type ≡ 8) → h ≡ handed (carry 5 0 0) old → Ends major d u old h
   not-reading : (m : Message) → IsAuthority major d m → (n : ℕ) → u ≡ Refused n → h ≡ handed (carry 0 0 n) old → Ends major d u old h
-  no-room : (m : Message) → IsAuthority major d m → (r : Reading) → u ≡ Read r → TooLong old m r → h ≡ handed (carry 15 0 0) old → Ends major d u old h
+  no-room : (m : Message) → IsAuthority major d m → (r : Reading) → u ≡ Read r → TooLong old m r → h ≡ handed (carry 15 0 0) old
+      → Ends major d u old h
   done : (m : Message) → IsAuthority major d m → (r : Reading) → u ≡ Read r → length (withReading m r .bytes) ≤ length old
       → length (withReading m r .bytes) ≤ 1232
-      → h ≡ handed (carry 0 (length (withReading m r .bytes)) 0) (withReading m r .bytes ++ drop (length (withReading m r .bytes)) old) → Ends major d u old h
+      → h ≡ handed (carry 0 (length (withReading m r .bytes)) 0) (withReading m r .bytes ++ drop (length (withReading m r .bytes)) old)
+      → Ends major d u old h
 
 module _ (major : ℕ) (d : List ℕ) (b : Bytes d) where
   module _ (u : Unpacked) (old : List ℕ) where
@@ -237,7 +241,8 @@ module _ (major : ℕ) (d : List ℕ) (b : Bytes d) (kind measure i o : ℕ) (ol
       ∙ put-full (withReading m r) old refl (not-fit (withReading m r .bytes) old t))
       ∙ sym z
 
-  reading-from : (n : ℕ) → 0 < n → Ends major d u old h → h .given .reading ≡ n → ((m : Message) × IsAuthority major d m) × ReadingApplies kind measure n
+  reading-from : (n : ℕ) → 0 < n → Ends major d u old h → h .given .reading ≡ n
+      → ((m : Message) × IsAuthority major d m) × ReadingApplies kind measure n
   reading-from n p (not-read k q w e) z = absurd (omega (arith, ap answered e, z))
   reading-from n p (not-authority m w t e) z = absurd (omega (arith, ap answered e, z))
   reading-from n p (not-reading m a k q e) z = ((m, a), reading-applies kind measure i o n (q ∙ ap Refused (sym (ap answered e) ∙ z)))
@@ -258,7 +263,9 @@ module _ (major : ℕ) (d : List ℕ) (b : Bytes d) (kind measure i o : ℕ) (ol
   one-by (done m a r q f g e) = inl (ap numbered e)
 
   abbrev Keeps : Type 0
-  Keeps = (0 < h .given .number → h ≡ handed (carry (h .given .number) 0 0) old) × (0 < h .given .reading → h ≡ handed (carry 0 0 (h .given .reading)) old)
+  Keeps =
+      (0 < h .given .number → h ≡ handed (carry (h .given .number) 0 0) old)
+      × (0 < h .given .reading → h ≡ handed (carry 0 0 (h .given .reading)) old)
 
   -- a refusal is that of its number
   kept-by : (n : ℕ) → h ≡ handed (carry n 0 0) old → Keeps
@@ -278,7 +285,8 @@ module _ (major : ℕ) (d : List ℕ) (b : Bytes d) (kind measure i o : ℕ) (ol
       × (h ≡ handed (carry 0 (length (withReading m r .bytes)) 0) (withReading m r .bytes ++ drop (length (withReading m r .bytes)) old))
   writes-by (not-read k p w e) z y = absurd (omega (arith, ap numbered e, z))
   writes-by (not-authority m w t e) z y = absurd (omega (arith, ap numbered e, z))
-  writes-by (not-reading m a k q e) z y = absurd (omega (arith, ap answered e, y, applies-some kind measure i o k (reading-applies kind measure i o k q)))
+  writes-by (not-reading m a k q e) z y =
+      absurd (omega (arith, ap answered e, y, applies-some kind measure i o k (reading-applies kind measure i o k q)))
   writes-by (no-room m a r q t e) z y = absurd (omega (arith, ap numbered e, z))
   writes-by (done m a r q f g e) z y = (m, r, a, q, g, e)
 
@@ -295,7 +303,12 @@ module _ (major : ℕ) (d : List ℕ) (b : Bytes d) (kind measure i o : ℕ) (ol
   first-by (no-room m a r q t e) = same-by 15 0 e
   first-by (done m a r q f g e) =
       let v = withReading m r .bytes in
-      subst First (sym e) (f, length-append v (drop (length v) old) ∙ omega (arith, length-drop (length v) old), drop-append-seam v (drop (length v) old))
+      subst First (sym e) (
+        f,
+        length-append v (drop (length v) old)
+            ∙ omega (arith, length-drop (length v) old),
+        drop-append-seam v (drop (length v) old),
+      )
 
 pub carry-exactly : CarryExactly
 carry-exactly major d b kind measure i o old = record {

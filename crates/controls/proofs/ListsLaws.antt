@@ -102,7 +102,8 @@ pub learns-once-shut : W.LearnsOnceShut
 unfolding computed left log eventsFrom W.learnsNothing W.learnsOnce fits
 learns-once-shut = (
   λ m. let z : _≡_ {A = ℕ} 0 1 =
-      above-met W.learnsOnce (learning 99 0 (learning 101 0 [])) (proper 99 0 (learning 101 0 []) refl (proper 101 0 [] refl tt)) m in absurd (omega arith),
+      above-met W.learnsOnce (learning 99 0 (learning 101 0 [])) (proper 99 0 (learning 101 0 []) refl (proper 101 0 [] refl tt)) m in
+      absurd (omega arith),
   shut W.learnsOnce (holding 10 (98 ∷ []) (inquiryFor 99 ∷ [])) (hears 100 99 authority) (λ (h : Given). getD (h .memory .cache) 131 0)
       (fits-bytes authority refl, omega arith) (λ e. absurd (let z : _≡_ {A = ℕ} 0 99 = e in omega arith)),
 )
@@ -115,7 +116,8 @@ invented-counts-shut first second = (
       let y : _≡_ {A = ℕ} first 1 = below-met (W.inventedCounts first second) (learning 99 0 []) (proper 99 0 [] refl tt) m in
       absurd (omega arith),
   λ p. let z : _≡_ {A = ℕ} first 0 = ap (λ (h : Given). h .answer .first) (acts (W.inventedCounts first second) p (holding 10 [] []) listing tt) in
-      let y : _≡_ {A = ℕ} first 1 = ap (λ (h : Given). h .answer .first) (acts (W.inventedCounts first second) p (holding 10 (99 ∷ []) []) listing tt) in
+      let y : _≡_ {A = ℕ} first 1 =
+      ap (λ (h : Given). h .answer .first) (acts (W.inventedCounts first second) p (holding 10 (99 ∷ []) []) listing tt) in
       absurd (omega arith),
 )
 
@@ -127,6 +129,7 @@ portOf (some r) = getD r 33 0
 pub mixes-shut : W.MixesShut
 unfolding computed left toldFrom inquired answered firstOf W.mixes fits
 mixes-shut m =
-    let both = m 100 10 (omega arith) (omega arith) (learning 99 1 (learning 101 2 [])) (proper 99 1 (learning 101 2 []) refl (proper 101 2 [] refl tt)) .last in
+    let both =
+    m 100 10 (omega arith) (omega arith) (learning 99 1 (learning 101 2 [])) (proper 99 1 (learning 101 2 []) refl (proper 101 2 [] refl tt)) .last in
     let z : _≡_ {A = ℕ} 2 1 = ap portOf (both .1 .0) in
     absurd (omega arith)

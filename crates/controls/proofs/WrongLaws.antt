@@ -1,4 +1,5 @@
--- The wrong gauges are shut out: each differs from ours in one call, which antt computes byte by byte, and a gauge that meets the sentences does not. Assumes nothing.
+-- The wrong gauges are shut out: each differs from ours in one call, which antt computes byte by byte, and a gauge that meets the sentences does not.
+-- Assumes nothing.
 use Prim.Native.Nat.{ℕ, _+_, _*_, _<_}
 use mathlib.Core.List.{List, [], _∷_, _++_}
 use mathlib.Core.Option.{some, none}
@@ -31,8 +32,8 @@ revocation =
 revokes-late-shut : W.Shut W.revokesLate
 unfolding computed W.revokesLate fits
 revokes-late-shut =
-    shut W.revokesLate (holding 10 [] (inquiryFor 99 ∷ [])) (hears 100 99 revocation) (λ (h : Given). usedOf (h .memory .waiting)) (fits-bytes revocation refl, omega arith)
-    (λ e. absurd (let z : _≡_ {A = ℕ} 1 0 = e in omega arith))
+    shut W.revokesLate (holding 10 [] (inquiryFor 99 ∷ [])) (hears 100 99 revocation) (λ (h : Given). usedOf (h .memory .waiting))
+    (fits-bytes revocation refl, omega arith) (λ e. absurd (let z : _≡_ {A = ℕ} 1 0 = e in omega arith))
 
 never-acks-shut : W.Shut W.neverAcks
 unfolding computed W.neverAcks fits
@@ -49,8 +50,8 @@ never-n-shut =
 keeps-place-shut : W.Shut W.keepsPlace
 unfolding computed W.keepsPlace fits
 keeps-place-shut =
-    shut W.keepsPlace (holding 10 [] (inquiryFor 99 ∷ [])) (hears 100 99 authority) (λ (h : Given). usedOf (h .memory .waiting)) (fits-bytes authority refl, omega arith)
-    (λ e. absurd (let z : _≡_ {A = ℕ} 1 0 = e in omega arith))
+    shut W.keepsPlace (holding 10 [] (inquiryFor 99 ∷ [])) (hears 100 99 authority) (λ (h : Given). usedOf (h .memory .waiting))
+    (fits-bytes authority refl, omega arith) (λ e. absurd (let z : _≡_ {A = ℕ} 1 0 = e in omega arith))
 
 -- the tries stand in the sixth byte of a place
 keeps-tries-shut : W.Shut W.keepsTries
@@ -88,8 +89,8 @@ wants-more-shut =
 shows-own-shut : W.Shut W.showsOwn
 unfolding computed W.showsOwn fits
 shows-own-shut =
-    shut W.showsOwn (holding 10 (99 ∷ []) []) (hears 100 0 (lookupOf 99)) (λ (h : Given). getD (h .output) 71 0) (fits-bytes (lookupOf 99) refl, omega arith)
-    (λ e. absurd (let z : _≡_ {A = ℕ} 100 99 = e in omega arith))
+    shut W.showsOwn (holding 10 (99 ∷ []) []) (hears 100 0 (lookupOf 99)) (λ (h : Given). getD (h .output) 71 0)
+    (fits-bytes (lookupOf 99) refl, omega arith) (λ e. absurd (let z : _≡_ {A = ℕ} 100 99 = e in omega arith))
 
 asks-again-shut : W.Shut W.asksAgain
 unfolding computed W.asksAgain fits
@@ -101,8 +102,8 @@ asks-again-shut =
 resets-tries-shut : W.Shut W.resetsTries
 unfolding computed W.resetsTries fits
 resets-tries-shut =
-    shut W.resetsTries (holding 10 [] (newPlace 3 1 1 (key 7) (replicate 100 0) ∷ [])) asked (λ (h : Given). getD (h .memory .waiting) 5 0) (fits-bytes flood refl, omega arith)
-    (λ e. absurd (let z : _≡_ {A = ℕ} 2 1 = e in omega arith))
+    shut W.resetsTries (holding 10 [] (newPlace 3 1 1 (key 7) (replicate 100 0) ∷ [])) asked (λ (h : Given). getD (h .memory .waiting) 5 0)
+    (fits-bytes flood refl, omega arith) (λ e. absurd (let z : _≡_ {A = ℕ} 2 1 = e in omega arith))
 
 -- document 01's case 3: 90 to 99 are held, and 101 is learned
 drops-newcomer-shut : W.Shut W.dropsNewcomer
@@ -127,15 +128,15 @@ n-by-the-record-shut =
 shows-held-shut : W.Shut W.showsHeld
 unfolding computed W.showsHeld fits
 shows-held-shut =
-    shut W.showsHeld (holding 10 (50 ∷ []) []) (hears 100 0 (lookupOf 100)) (λ (h : Given). getD (h .output) 71 0) (fits-bytes (lookupOf 100) refl, omega arith)
-    (λ e. absurd (let z : _≡_ {A = ℕ} 50 100 = e in omega arith))
+    shut W.showsHeld (holding 10 (50 ∷ []) []) (hears 100 0 (lookupOf 100)) (λ (h : Given). getD (h .output) 71 0)
+    (fits-bytes (lookupOf 100) refl, omega arith) (λ e. absurd (let z : _≡_ {A = ℕ} 50 100 = e in omega arith))
 
 -- document 01's case 7: own 9, held 1 and 4294967296, target 0
 four-bytes-shut : W.Shut W.fourBytes
 unfolding computed W.fourBytes fits
 four-bytes-shut =
-    shut W.fourBytes (holding 10 (1 ∷ 4294967296 ∷ []) []) (hears 9 0 (lookupOf 0)) (λ (h : Given). getD (h .output) 71 0) (fits-bytes (lookupOf 0) refl, omega arith)
-    (λ e. absurd (let z : _≡_ {A = ℕ} 0 1 = e in omega arith))
+    shut W.fourBytes (holding 10 (1 ∷ 4294967296 ∷ []) []) (hears 9 0 (lookupOf 0)) (λ (h : Given). getD (h .output) 71 0)
+    (fits-bytes (lookupOf 0) refl, omega arith) (λ e. absurd (let z : _≡_ {A = ℕ} 0 1 = e in omega arith))
 
 learns-early-shut : W.Shut W.learnsEarly
 unfolding computed W.learnsEarly fits

@@ -32,7 +32,8 @@ use Rattle.wire_read.specs.declared.Answer.the-variants as M
 use Rattle.gauge_plan.specs.Memory.{memoryOf, handsFit}
 use Rattle.gauge_plan.specs.Rooms.{ackRoom, inquireRoom}
 use Rattle.gauge_plan.specs.Flood.{notOurs, mustAsk, floodRefusals, revokeRefusals, floodPlan, revokePlan}
-use Rattle.gauge_plan.specs.Answering.{placeOf, authorityPlan, ackPlan, inquirePlan, lookupPlan, authorityRefusals, ackRefusals, inquireRefusals, lookupRefusals}
+use Rattle.gauge_plan.specs.Answering.{placeOf, authorityPlan, ackPlan, inquirePlan, lookupPlan}
+use Rattle.gauge_plan.specs.Answering.{authorityRefusals, ackRefusals, inquireRefusals, lookupRefusals}
 use Rattle.gauge_plan.specs.declared.Plan.{Plan}
 use Rattle.gauge_plan.specs.declared.Plan.the-variants.{Refuse, Flood, Revoke, Learn, Free, Certify, Show}
 use Rattle.gauge_plan.specs.declared.memory.Memory.{Memory}
@@ -76,8 +77,8 @@ module _ (l : Receive) (h u : ℕ) {a : T.Answer} {head : Head} {s : Bool} {vali
     (is : a ≡ M.Flood head s validate token revoke entry reached) where
   pub flood-plan : {start len : ℕ} → entry ≡ Here start len
       → planFor l h u a
-      ≡ floodPlan (keyOf (l .own)) (rows 100 h (l .cache)) (rows 140 u (l .waiting)) u (l .id) (length (l .output)) (l .datagram) s (head .id) validate
-      start len
+      ≡ floodPlan (keyOf (l .own)) (rows 100 h (l .cache)) (rows 140 u (l .waiting)) u (l .id) (length (l .output)) (l .datagram) s
+      (head .id) validate start len
   unfolding planFor
   flood-plan e = ap (planFor l h u) is ∙ ap (byEntry l h u head s validate) e
 
@@ -96,8 +97,8 @@ pub record Flooded (l : Receive) (u : ℕ) (s n : Bool) (a : ℕ) (opens : Bool)
   pub hands : memory.Handed (l .cpa) (l .nonce) (l .key)
   pub within : start + len ≤ length (l .datagram)
   pub entry : entryForm (part start len (l .datagram)) ≡ true
-  pub plans : flood.Flooding (keyOf (l .own)) (rows 100 held (l .cache)) (rows 140 u (l .waiting)) u (l .id) (length (l .output)) (l .datagram) s a validate
-      start len u s n a opens start len
+  pub plans : flood.Flooding (keyOf (l .own)) (rows 100 held (l .cache)) (rows 140 u (l .waiting)) u (l .id) (length (l .output))
+      (l .datagram) s a validate start len u s n a opens start len
 
 -- a FLOOD with a revocation
 pub record Revoked (l : Receive) (h u : ℕ) (s n : Bool) (a : ℕ) : Type 0 where
@@ -147,10 +148,11 @@ Known l (Free h u at n) = Freed l h u at n
 Known l (Certify a) = Certified l a
 Known l (Show h a target) = Shown l h a target
 
-module _ (l : Receive) (h u : ℕ) (ready : memory.Ready (l .own) (l .cache) (l .waiting) h u) (hands : memory.Handed (l .cpa) (l .nonce) (l .key)) where
+module _ (l : Receive) (h u : ℕ) (ready : memory.Ready (l .own) (l .cache) (l .waiting) h u)
+    (hands : memory.Handed (l .cpa) (l .nonce) (l .key)) where
   flood-known : (s : Bool) (a validate start len : ℕ) → start + len ≤ length (l .datagram) → entryForm (part start len (l .datagram)) ≡ true
-      → Known l (floodPlan (keyOf (l .own)) (rows 100 h (l .cache)) (rows 140 u (l .waiting)) u (l .id) (length (l .output)) (l .datagram) s a validate
-      start len)
+      → Known l (floodPlan (keyOf (l .own)) (rows 100 h (l .cache)) (rows 140 u (l .waiting)) u (l .id) (length (l .output))
+      (l .datagram) s a validate start len)
   unfolding floodPlan
   flood-known s a validate start len within entry =
       let own = keyOf (l .own) in
@@ -304,8 +306,14 @@ module _ (l : Receive) where
       → (length (l .own) ≡ 100) × Form (keyOf (l .own)) (l .cache) (rows 100 h (l .cache)) × (length (l .waiting) ≡ 2240)
       × Laid 140 u (l .waiting) × (u ≤ 16) × (at < u)
   free-needs {h} {u} {at} {n} e =
-      let k : Freed l h u at n = known-by e in
-      (k .ready .long, k .ready .form, k .ready .size, k .ready .laid, k .ready .few, omega (arith, k .plans .waiting .within, rows-length 140 u (l .waiting)))
+      let k : Freed l h u at n = known-by e in (
+        k .ready .long,
+        k .ready .form,
+        k .ready .size,
+        k .ready .laid,
+        k .ready .few,
+        omega (arith, k .plans .waiting .within, rows-length 140 u (l .waiting)),
+      )
 
   pub cpa-needs : {a : ℕ} → receivePlan l ≡ Certify a → (length (l .cpa) ≤ 1024) × (40 + length (l .cpa) ≤ length (l .output))
   cpa-needs {a} e = let k : Certified l a = known-by e in (k .hands .most, k .plans .fits-in)

@@ -1,5 +1,5 @@
--- How long the datagrams are that the calls send: ACK 20 or 26, INQUIRE 76, AUTHORITY 40 and its CPA, or 80 and its addresses, FLOOD 100 and its addresses.
--- Assumes nothing.
+-- How long the datagrams are that the calls send: ACK 20 or 26, INQUIRE 76, AUTHORITY 40 and its CPA, or 80 and its addresses, FLOOD 100 and its
+-- addresses. Assumes nothing.
 use mathlib.Core.Path.{_≡_, refl, sym, ap, _∙_}
 use mathlib.Core.Bool.{Bool, true, false, cond}
 use mathlib.Core.List.{List}

@@ -1,5 +1,5 @@
--- What a writer gives and leaves where the fields are right and the bytes fit: their length, and the output with them at its start or at a place of it; one
--- datagram and two, one after the other. Assumes nothing.
+-- What a writer gives and leaves where the fields are right and the bytes fit: their length, and the output with them at its start or at a place
+-- of it; one datagram and two, one after the other. Assumes nothing.
 use mathlib.Core.Path.{_≡_, refl, sym, ap, ap₂, _∙_}
 use mathlib.Core.Bool.{Bool, true, false}
 use mathlib.Core.List.{List, [], _∷_, _++_, append-nil, append-assoc}
@@ -11,20 +11,21 @@ use lib.Seq.{take-all, drop-drop}
 use borrow.Author.Tests.{le-leb}
 use borrow.Rule.Slice.PartMut.{putMid}
 use Rattle.octet.specs.Part.{part, splice}
-use Rattle.octet.proofs.PartLaws.{length-part, part-at, splice-nil, splice-next}
+use Rattle.octet.proofs.PartLaws.{length-part, part-at, splice-nil, splice-next, splice-whole}
 use Rattle.record.specs.Record.{countOf, recordForm}
 use Rattle.record.specs.Entry.{entryForm, recordOf}
 use Rattle.record.proofs.EntryLaws.{form-length, record-form}
 use Rattle.record.proofs.PlaceLaws.{record-at}
 use Rattle.table.specs.Rows.{joined}
 use Rattle.table.proofs.RowLaws.{joined-append}
-use Rattle.table.proofs.PieceLaws.{part-start, splice-whole}
+use Rattle.table.proofs.PieceLaws.{part-start}
 use Rattle.wire_write.specs.declared.Written.{Written}
 use Rattle.wire_write.specs.Writing.{Made, fit, writeAs, writeIn, Wrote}
 use Rattle.wire_write.specs.Making.{ackMade, floodMade, inquireMade, cpaMade, closestMade}
 use Rattle.gauge_plan.specs.Rooms.{ackRoom, inquireRoom}
 use Rattle.gauge_plan.specs.Ids.{idAfter}
 use Rattle.gauge_plan.specs.Send.{recordSent, floodRoom}
+use Rattle.gauge_plan.proofs.FloodLaws.{ack-most}
 use Rattle.gauge_commit.specs.Sending.{answer, lengths, sending}
 use Rattle.gauge_commit.specs.Replies.{acks, asks}
 use Rattle.gauge_commit.proofs.LengthLaws.{ack-length, inquire-length, cpa-length, closest-length, flood-length}
@@ -65,14 +66,8 @@ put-from at b old new h e =
 
 -- ---- the ACK, and the INQUIRE behind it
 
--- an ACK is short
-few-acks : (silent n : Bool) → ackRoom silent n ≤ 26
-few-acks true n = omega arith
-few-acks false true = omega arith
-few-acks false false = omega arith
-
 pub room-few : (silent n : Bool) {k : ℕ} → k ≡ ackRoom silent n → k < 65536
-room-few silent n e = omega (arith, e, few-acks silent n)
+room-few silent n e = omega (arith, e, ack-most silent n)
 
 -- the INQUIRE for a record's key, at a place of the output
 inquire-made : (major minor id : ℕ) (key nonce : List ℕ) → length key ≡ 32 → length nonce ≡ 16 → inquireMade major minor id key nonce .ok ≡ true
@@ -88,7 +83,8 @@ module _ (major minor id at : ℕ) (r nonce old : List ℕ) where
       let key : length (part 0 32 r) ≡ 32 = length-part 0 32 r (omega arith) in
       let size : length (m .bytes) ≡ 76 = inquire-length major minor id (part 0 32 r) nonce key fresh in
       let rest : length (take (length old - at) (drop at old)) ≡ length old - at = simp (length-take, length-drop) (omega arith) in
-      put-from at (m .bytes) old out (omega arith) (wrote-bytes w (inquire-made major minor id (part 0 32 r) nonce key fresh) (omega arith) (omega arith))
+      put-from at (m .bytes) old out (omega arith)
+      (wrote-bytes w (inquire-made major minor id (part 0 32 r) nonce key fresh) (omega arith) (omega arith))
 
 -- the record that an entry names, put into bytes of its length
 pub named-is : (v z : List ℕ) {new : List ℕ} → entryForm v ≡ true → length z ≡ 100 → new ≡ splice 0 (recordOf v) z → new ≡ recordOf v
@@ -127,10 +123,10 @@ module _ (major minor id acked : ℕ) (n : Bool) where
     ack-size = ack-length major minor id acked n ∙ rw heard
 
     pub heard-told : r .length ≡ ackRoom silent n
-    heard-told = wrote-length w ack-made (omega (arith, ack-size)) (omega (arith, ack-size, few-acks silent n)) ∙ ack-size
+    heard-told = wrote-length w ack-made (omega (arith, ack-size)) (omega (arith, ack-size, ack-most silent n)) ∙ ack-size
 
     pub heard-sent : out ≡ sending (acks major minor id silent acked n) old
-    heard-sent = rw heard (wrote-start w ack-made (omega (arith, ack-size)) (omega (arith, ack-size, few-acks silent n)))
+    heard-sent = rw heard (wrote-start w ack-made (omega (arith, ack-size)) (omega (arith, ack-size, ack-most silent n)))
 
   -- what follows the ACK
   module _ (silent opens : Bool) (nonce r : List ℕ) where

@@ -1,5 +1,6 @@
 -- The output changes in its first bytes alone.
--- In this order: bytes at its start; datagrams sent; a datagram received, by its plan; a FLOOD sent; the tick and the neighbour list. Assumes nothing.
+-- In this order: bytes at its start; datagrams sent; a datagram received, by its plan; a FLOOD sent; the tick and the neighbour list.
+-- Assumes nothing.
 use mathlib.Core.Path.{_≡_, refl, sym, ap, _∙_}
 use mathlib.Core.Bool.{Bool, true, false}
 use mathlib.Core.List.{List, [], _∷_, _++_, append-nil}
@@ -134,12 +135,14 @@ module _ (major minor id : ℕ) (r : List ℕ) (formed : recordForm r ≡ true) 
       one-room (closestMade major minor id acked r 0 .bytes)
       (closest-length major minor id r 0 long formed-part acked ∙ ap (λ (l : List ℕ). 80 + 16 * countOf l) (whole-record r formed)) h
 
-  flood-room : (key : List ℕ) {room : ℕ} → length key ≡ 32 → floodRoom r ≤ room → length (joined (floodMade major minor id key r 0 .bytes ∷ [])) ≤ room
+  flood-room : (key : List ℕ) {room : ℕ} → length key ≡ 32 → floodRoom r ≤ room
+      → length (joined (floodMade major minor id key r 0 .bytes ∷ [])) ≤ room
   flood-room key keyed h =
       one-room (floodMade major minor id key r 0 .bytes)
       (flood-length major minor id r 0 long formed-part key keyed ∙ ap floodRoom (whole-record r formed)) h
 
-plan-first : (l : Receive) (p : Plan) → Known l p → OnlyFirst (carried l p .given .first + carried l p .given .second) (l .output) (carried l p .output)
+plan-first : (l : Receive) (p : Plan) → Known l p
+    → OnlyFirst (carried l p .given .first + carried l p .given .second) (l .output) (carried l p .output)
 unfolding carried
 plan-first l (Refuse n) k = none-first (l .output)
 plan-first l (Flood u s n a opens start len) k =
@@ -180,8 +183,8 @@ send-first l (S.Flood u ours at) k =
 tick-first : (own waiting output : List ℕ) → OnlyFirst (4 * W.tickCall own waiting output .count) output (W.tickCall own waiting output .output)
 unfolding W.tickCall W.tickDone W.tickRefusals
 tick-first own waiting output =
-    or-known (λ (t : W.Ticked). OnlyFirst (4 * t .count) output (t .output)) (λ (n : ℕ). W.handed n 0 waiting output) (W.tickRefusals own waiting output)
-    (W.tickDone waiting output)
+    or-known (λ (t : W.Ticked). OnlyFirst (4 * t .count) output (t .output)) (λ (n : ℕ). W.handed n 0 waiting output)
+    (W.tickRefusals own waiting output) (W.tickDone waiting output)
     (λ n. none-first output)
     (λ f.
     let ids = listed (placesOf waiting) in
@@ -190,7 +193,8 @@ tick-first own waiting output =
     (omega (arith, listed-few (placesOf waiting), rows-length 140 (usedOf waiting) waiting, used-few waiting)))
 
 list-first : (own cache output : List ℕ)
-    → OnlyFirst (32 * (listCall own cache output .answer .below + listCall own cache output .answer .above)) output (listCall own cache output .output)
+    → OnlyFirst (32 * (listCall own cache output .answer .below + listCall own cache output .answer .above)) output
+    (listCall own cache output .output)
 unfolding listCall
 list-first own cache output =
     let k = keyOf own in

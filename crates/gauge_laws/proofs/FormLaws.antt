@@ -34,11 +34,13 @@ module _ (own : ℕ) (s : List ℕ) (recs : List (List ℕ)) (f : Form own s rec
   removed-true : (k : ℕ) → cacheForm own (bytesOf (length s) (afterRemove k recs)) ≡ true
   removed-true k = form-true own _ (afterRemove k recs) (removed-form own k s recs f)
 
-  learnt-true : (r : List ℕ) → recordForm r ≡ true → (keyOf r ≡ own → ⊥) → cacheForm own (bytesOf (length s) (afterLearn own (length s) recs r)) ≡ true
+  learnt-true : (r : List ℕ) → recordForm r ≡ true → (keyOf r ≡ own → ⊥)
+      → cacheForm own (bytesOf (length s) (afterLearn own (length s) recs r)) ≡ true
   learnt-true r formed other = form-true own _ (afterLearn own (length s) recs r) (learnt-form own s recs r f formed other)
 
 module _ (l : Receive) where
-  plan-cache : cacheForm (keyOf (l .own)) (l .cache) ≡ true → (p : Plan) → receivePlan l ≡ p → Known l p → cacheForm (keyOf (l .own)) (carried l p .cache) ≡ true
+  plan-cache : cacheForm (keyOf (l .own)) (l .cache) ≡ true → (p : Plan) → receivePlan l ≡ p → Known l p
+      → cacheForm (keyOf (l .own)) (carried l p .cache) ≡ true
   unfolding carried
   plan-cache f (Refuse n) e k = f
   plan-cache f (Flood u s n a opens start len) e k = f

@@ -1,6 +1,6 @@
--- What a call leaves in the waiting table, a tick apart: the places as they were, one of them freed, or one opened whose ID did not wait; accepted, in form.
--- A datagram received opens an inquiry, a FLOOD sent the place of its ID and of the neighbour that it goes to.
--- In this order: what may move; a datagram received, by its plan; a FLOOD sent; any call. Assumes nothing.
+-- What a call leaves in the waiting table, a tick apart: the places as they were, one of them freed, or one opened whose ID did not wait;
+-- accepted, in form. A datagram received opens an inquiry, a FLOOD sent the place of its ID and of the neighbour that it goes to. In this order:
+-- what may move; a datagram received, by its plan; a FLOOD sent; any call. Assumes nothing.
 use mathlib.Core.Path.{_≡_, refl, sym, ap, subst, _∙_}
 use mathlib.Core.Bool.{Bool, true, false}
 use mathlib.Core.List.{List}
@@ -133,13 +133,15 @@ module _ (l : Receive) where
   Opening = Opens (receives l)
 
   -- an accepted one was lent memory in form
-  pub receive-ready : receiveCall l .given .number ≡ 0 → Ready (l .own) (l .cache) (l .waiting) (heldIn (keyOf (l .own)) (l .cache)) (usedOf (l .waiting))
+  pub receive-ready : receiveCall l .given .number ≡ 0
+      → Ready (l .own) (l .cache) (l .waiting) (heldIn (keyOf (l .own)) (l .cache)) (usedOf (l .waiting))
   receive-ready z = ready (l .own) (l .cache) (l .waiting) (not-false _ (none-applies (receives l) z .0))
 
   same-left : {h u : ℕ} → Ready (l .own) (l .cache) (l .waiting) h u → ReceiveLeft l (l .waiting)
   same-left r = left-same Opening (keyOf (l .own)) (l .waiting) (ready-form (l .own) (l .cache) (l .waiting) r)
 
-  found-left : {h u : ℕ} → Ready (l .own) (l .cache) (l .waiting) h u → (found : Found) → ReceiveLeft l (bytesOf 2240 (freedAt found (rows 140 u (l .waiting))))
+  found-left : {h u : ℕ} → Ready (l .own) (l .cache) (l .waiting) h u → (found : Found)
+      → ReceiveLeft l (bytesOf 2240 (freedAt found (rows 140 u (l .waiting))))
   found-left r found =
       subst (λ (ps : List (List ℕ)). ReceiveLeft l (bytesOf 2240 (freedAt found ps))) (ready-places (l .own) (l .cache) (l .waiting) r)
       (left-found Opening (keyOf (l .own)) (l .waiting) (ready-form (l .own) (l .cache) (l .waiting) r) found)

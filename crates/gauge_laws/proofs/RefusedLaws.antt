@@ -70,8 +70,8 @@ pub list-refused : (own cache output : List ℕ) → 0 < gaugeList own cache out
 unfolding gaugeList listCall
 list-refused own cache output h =
     let counts = countsOf (keyOf own) (heldBy own cache) in
-    ap listAnswered (by-table (λ (w : Written). w .answer .number) (λ (n : ℕ). written (record { number = n; below = 0; above = 0 }) output) (λ n. refl)
-    (listWrong own cache output)
+    ap listAnswered (by-table (λ (w : Written). w .answer .number) (λ (n : ℕ). written (record { number = n; below = 0; above = 0 }) output)
+    (λ n. refl) (listWrong own cache output)
     (written (record { number = 0; below = counts .below; above = counts .above }) (afterList (keyOf own) (heldBy own cache) output)) refl h)
 
 pub refused-keeps : RefusedKeeps

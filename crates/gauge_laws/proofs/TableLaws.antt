@@ -187,7 +187,8 @@ Numbered l x =
     ≡ firstOf (fields.refusals (l .datagram) (l .major) ++ messageRows l (R.shown (l .datagram) x))
 
 module _ (l : Receive) where
-  refused-number : 0 < firstOf (fields.refusals (l .datagram) (l .major)) → Numbered l (fields.refused (firstOf (fields.refusals (l .datagram) (l .major))))
+  refused-number : 0 < firstOf (fields.refusals (l .datagram) (l .major))
+      → Numbered l (fields.refused (firstOf (fields.refusals (l .datagram) (l .major))))
   unfolding planFor R.shown
   refused-number p = sym (first-before (fields.refusals (l .datagram) (l .major)) _ p)
 

@@ -26,7 +26,8 @@ use Rattle.waiting.specs.declared.seek.Found.{Found}
 use Rattle.waiting.specs.declared.seek.Found.the-variants.{At, Nothing}
 use Rattle.waiting.proofs.PlaceLaws.{key-at}
 use Rattle.waiting.proofs.SeekLaws.{found-within, found-passes}
-use Rattle.gauge_plan.specs.Answering.{isNothing, placeOf, authorityPlan, ackPlan, inquirePlan, lookupPlan, authorityRefusals, ackRefusals, inquireRefusals, lookupRefusals}
+use Rattle.gauge_plan.specs.Answering.{isNothing, placeOf, authorityPlan, ackPlan, inquirePlan}
+use Rattle.gauge_plan.specs.Answering.{lookupPlan, authorityRefusals, ackRefusals, inquireRefusals, lookupRefusals}
 use Rattle.gauge_plan.specs.declared.Plan.{Plan}
 use Rattle.gauge_plan.specs.declared.Plan.the-variants.{Refuse, Flood, Revoke, Learn, Free, Certify, Show}
 

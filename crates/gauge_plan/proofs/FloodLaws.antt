@@ -1,6 +1,6 @@
 -- Laws of the plans for a FLOOD.
--- In this order: how many bytes; the key of the record that an entry names; the walk over the records held; whether the record must be inquired about;
--- each plan by the tests that the code makes; what is known of a plan. Assumes nothing.
+-- In this order: how many bytes; the key of the record that an entry names; the walk over the records held; whether the record must be inquired
+-- about; each plan by the tests that the code makes; what is known of a plan. Assumes nothing.
 use mathlib.Core.Path.{_≡_, refl, sym, ap, _∙_}
 use mathlib.Core.Bool.{Bool, true, false, not, _&&_}
 use mathlib.Core.List.{List, [], _∷_}
@@ -84,7 +84,8 @@ module _ (recs ps : List (List ℕ)) (r : List ℕ) where
 -- ---- each plan by the tests that the code makes
 
 module _ (own : ℕ) (recs ps : List (List ℕ)) (used id room : ℕ) (d : List ℕ) (silent : Bool) (acked validate start len : ℕ) where
-  pub flood-own : eqb (keyOf (recordOf (part start len d))) own ≡ true → floodPlan own recs ps used id room d silent acked validate start len ≡ Refuse 11
+  pub flood-own : eqb (keyOf (recordOf (part start len d))) own ≡ true
+      → floodPlan own recs ps used id room d silent acked validate start len ≡ Refuse 11
   unfolding floodPlan orRefuse
   flood-own e = rw e refl
 
@@ -109,7 +110,8 @@ module _ (own held used verdict k room : ℕ) (d : List ℕ) (silent : Bool) (ac
     revoke-own e = rw (eq-eqb verdict 1 good, e) refl
 
     pub revoke-by : eqb k own ≡ false → {n : Bool} {a : ℕ} → n ≡ notOurs own validate d → a ≡ ackRoom silent n
-        → revokePlan own held used verdict k room d silent acked validate ≡ orRefuse Refuse (when 15 (ltb room a) ∷ []) (Revoke held used silent n acked)
+        → revokePlan own held used verdict k room d silent acked validate
+        ≡ orRefuse Refuse (when 15 (ltb room a) ∷ []) (Revoke held used silent n acked)
     unfolding revokePlan orRefuse
     revoke-by e en ea = rw (eq-eqb verdict 1 good, e, ea, en) refl
 

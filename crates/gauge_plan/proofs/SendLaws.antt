@@ -89,8 +89,8 @@ one-fails false b e h = e
 one-fails true b e h = let z : _≡_ {A = ℕ} 0 1 = cc in absurd (omega arith)
 
 -- where it is not ours it is held
-module _ (k held : ℕ) (cache : List ℕ) {ours missing : Bool} (m : missing ≡ isNothing (heldAt k (rows 100 held cache))) (some : not ours && missing ≡ false)
-    (other : ours ≡ false) where
+module _ (k held : ℕ) (cache : List ℕ) {ours missing : Bool} (m : missing ≡ isNothing (heldAt k (rows 100 held cache)))
+    (some : not ours && missing ≡ false) (other : ours ≡ false) where
   pub sent-held : heldAt k (rows 100 held cache) ≡ W.At (placeOf (heldAt k (rows 100 held cache)))
   sent-held = some-found (heldAt k (rows 100 held cache)) (sym m ∙ one-fails ours missing some other)
 
@@ -110,7 +110,8 @@ module _ (own cache : List ℕ) (recs ps : List (List ℕ)) (used id room neighb
   unfolding orRefuse
   send-nobody e = rw e refl
 
-  module _ (to : isNothing (heldAt neighbour recs) ≡ false) {ours missing : Bool} (o : ours ≡ eqb k (keyOf own)) (m : missing ≡ isNothing (heldAt k recs)) where
+  module _ (to : isNothing (heldAt neighbour recs) ≡ false) {ours missing : Bool} (o : ours ≡ eqb k (keyOf own))
+      (m : missing ≡ isNothing (heldAt k recs)) where
     pub send-missing : not ours && missing ≡ true → planned ≡ Refuse 12
     unfolding orRefuse
     send-missing e = rw (to, sym o, sym m, e) refl
@@ -178,7 +179,8 @@ formed-at i [] w h = absurd (omega arith)
 formed-at zero (r ∷ recs) w h = w .0
 formed-at (suc i) (r ∷ recs) w h = formed-at i recs (w .1) (omega arith)
 
--- a FLOOD is planned: the neighbour is held, the record is ours or held and has the key given, the ID does not wait, a place is free, and there is room
+-- a FLOOD is planned: the neighbour is held, the record is ours or held and has the key given, the ID does not wait, a place is free, and there
+-- is room
 pub record Sent (own cache waiting : List ℕ) (id : ℕ) (neighbour key : List ℕ) (room u : ℕ) (ours : Bool) (at : ℕ) : Type 0 where
   pub ready : Ready own cache waiting (heldIn (keyOf own) cache) u
   pub addressed : length neighbour ≡ 32

@@ -54,7 +54,8 @@ Fixed (k ∷ ks) zero n = (k .optional ≡ false) × (k .shape ≡ Sized n)
 Fixed (k ∷ ks) (suc i) n = Fixed ks i n
 
 told-at : (d : List ℕ) (ks : List Kind) (j : ℕ) (fs : List Contents) → Formed ks fs → valuesOf ks d (partsOf j ks fs) ≡ fs → (i : ℕ) → Plain ks i
-    → Tells d (getD fs i none) (getD (partsOf j ks fs) i Absent) (startOf (getD (partsOf j ks fs) i Absent)) (sizeOf (getD (partsOf j ks fs) i Absent))
+    → Tells d (getD fs i none) (getD (partsOf j ks fs) i Absent) (startOf (getD (partsOf j ks fs) i Absent))
+    (sizeOf (getD (partsOf j ks fs) i Absent))
 told-at d [] j [] f e i p = absurd p
 told-at d [] j (x ∷ fs) f e i p = absurd f
 told-at d (k ∷ ks) j [] f e i p = absurd f
@@ -97,7 +98,8 @@ module _ (d : List ℕ) (ks : List Kind) (fs : List Contents) (formed : Formed k
   at-behind : (i : ℕ) → Plain ks (2 + i)
       → Tells d (getD fs (2 + i) none) (getD ps (2 + i) Absent) (startOf (getD (drop 2 ps) i Absent)) (sizeOf (getD (drop 2 ps) i Absent))
   at-behind i p =
-      subst (λ (q : Part). Tells d (getD fs (2 + i) none) (getD ps (2 + i) Absent) (startOf q) (sizeOf q)) (sym (getD-drop 2 ps i Absent)) (at-place (2 + i) p)
+      subst (λ (q : Part). Tells d (getD fs (2 + i) none) (getD ps (2 + i) Absent) (startOf q) (sizeOf q)) (sym (getD-drop 2 ps i Absent))
+      (at-place (2 + i) p)
 
 -- ---- type by type
 

@@ -46,7 +46,8 @@ module _ (at : ℕ) (r : List ℕ) where
     unfolding faults firstOf
     fault-kind b k = simp (eq-eqb _ _ whole, told, body, b, k) refl
 
-    pub fault-placed : bodyFits (kindOf r) (length r - 4) ≡ true → isKind (kindOf r) ≡ true → firstOf (misplaced at (kindOf r)) ≡ firstOf (faults at r)
+    pub fault-placed : bodyFits (kindOf r) (length r - 4) ≡ true → isKind (kindOf r) ≡ true
+        → firstOf (misplaced at (kindOf r)) ≡ firstOf (faults at r)
     unfolding faults firstOf
     fault-placed b k = simp (eq-eqb _ _ whole, told, body, b, k) refl
 
@@ -69,7 +70,15 @@ module _ (at : ℕ) (r : List ℕ) where
 
   pub in-order : InOrder byNumber 16 (faults at r)
   unfolding faults
-  in-order = (omega arith, omega arith, (omega arith, omega arith, (omega arith, omega arith, (omega arith, omega arith, (omega arith, omega arith, (omega arith, omega arith, tt))))))
+  in-order = (
+    omega arith,
+    omega arith,
+    (
+      omega arith,
+      omega arith,
+      (omega arith, omega arith, (omega arith, omega arith, (omega arith, omega arith, (omega arith, omega arith, tt)))),
+    ),
+  )
 
   -- a bad one is given 16 or more
   pub bad-number : 0 < firstOf (faults at r) → 15 < firstOf (faults at r)
@@ -92,7 +101,8 @@ fits-4 kind n q e = eqb-true n 102 (rw q at e)
 -- ---- the place of a good record: the first is of kind 4, and no later one is
 
 module _ (at : ℕ) (r : List ℕ) where
-  placed-by : (a b c d e f : Bool) → _≡_ {A = ℕ} (cond a 16 (cond b 16 (cond c 16 (cond d 17 (cond e 17 (cond f 17 0)))))) 0 → (e ≡ false) × (f ≡ false)
+  placed-by : (a b c d e f : Bool) → _≡_ {A = ℕ} (cond a 16 (cond b 16 (cond c 16 (cond d 17 (cond e 17 (cond f 17 0)))))) 0
+      → (e ≡ false) × (f ≡ false)
   placed-by true b c d e f q = absurd (omega (arith, q))
   placed-by false true c d e f q = absurd (omega (arith, q))
   placed-by false false true d e f q = absurd (omega (arith, q))

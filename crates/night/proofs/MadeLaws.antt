@@ -1,5 +1,5 @@
--- The replay is the calls made one by one. In this order: a call's number is 15 at most; a good record, by its place; the records behind the first; all of them.
--- Assumes nothing.
+-- The replay is the calls made one by one. In this order: a call's number is 15 at most; a good record, by its place; the records behind the
+-- first; all of them. Assumes nothing.
 use mathlib.Core.Path.{_≡_, refl, sym, ap, ap₂, subst, _∙_}
 use mathlib.Core.Bool.{Bool, true, false, not, cond, _&&_}
 use mathlib.Core.List.{List, [], _∷_, _++_}
@@ -44,7 +44,9 @@ number-of m (ticks own output) = call-number (lent m (ticks own output))
 number-of m (lists own output) = call-number (lent m (lists own output))
 
 pub goes : (m : Memory) (c : Call) → ends (ours m c .answer .number) ≡ false
-goes m c = le-ltb 15 (ours m c .answer .number) (subst (λ (n : ℕ). n ≤ 15) (sym (number-of m c)) (first-low (tableOf (lent m c)) (refusal-numbers (lent m c))))
+goes m c =
+    le-ltb 15 (ours m c .answer .number)
+    (subst (λ (n : ℕ). n ≤ 15) (sym (number-of m c)) (first-low (tableOf (lent m c)) (refusal-numbers (lent m c))))
 
 neither : (a b : Bool) → (a ≡ true → b ≡ true → ⊥) → a && b ≡ false
 neither true true u = absurd (u refl refl)
@@ -65,7 +67,8 @@ module _ (at : ℕ) (r : List ℕ) where
 
   -- a record has a line, but for the first where it is good
   has-line : (answer : ℕ) → (at ≡ 0 → answer ≡ 0 → ⊥) → lineOf at answer ≡ line at answer ∷ []
-  has-line answer u = ap (λ (b : Bool). cond b [] (line at answer ∷ [])) (neither (eqb at 0) (eqb answer 0) (λ p q. u (eqb-true at 0 p) (eqb-true answer 0 q)))
+  has-line answer u =
+      ap (λ (b : Bool). cond b [] (line at answer ∷ [])) (neither (eqb at 0) (eqb answer 0) (λ p q. u (eqb-true at 0 p) (eqb-true answer 0 q)))
 
 module _ (at : ℕ) (r : List ℕ) (rs : List (List ℕ)) where
   pub stop-good : isGood at r ≡ true → stopOf at (r ∷ rs) ≡ stopOf (at + 1) rs
@@ -115,7 +118,8 @@ module _ (o : List ℕ) (fit : length o ≡ 102) where
 
   abbrev Made : ℕ → Memory → List (List ℕ) → Type 0
   Made at m rs =
-      replayFrom at (night o m) rs ≡ replayed (numbered at (log ours m (callsBehind at o rs)) ++ stopOf at rs) (night o (left ours m (callsBehind at o rs)))
+      replayFrom at (night o m) rs ≡ replayed (numbered at (log ours m (callsBehind at o rs)) ++ stopOf at rs)
+      (night o (left ours m (callsBehind at o rs)))
 
   made-step : (at : ℕ) (m : Memory) (r : List ℕ) (rs : List (List ℕ)) → 0 < at → (b : Bool) → isGood at r ≡ b
       → ((later : Memory) → Made (at + 1) later rs) → Made at m (r ∷ rs)
@@ -123,10 +127,12 @@ module _ (o : List ℕ) (fit : length o ≡ 102) where
   made-step at m r rs p true e rest =
       let c = callOf o (kindOf r) (bodyOf r) in
       good-behind at m r rs p e ∙ ap (behind (line at (ours m c .answer .number) ∷ [])) (rest (ours m c .memory))
-      ∙ sym (ap₂ (λ (cs : List Call) (ls : List Line). replayed (numbered at (log ours m cs) ++ ls) (night o (left ours m cs))) (calls-good at r rs e) (stop-good at r rs e))
+      ∙ sym (ap₂ (λ (cs : List Call) (ls : List Line). replayed (numbered at (log ours m cs) ++ ls) (night o (left ours m cs))) (calls-good at r rs e)
+      (stop-good at r rs e))
   made-step at m r rs p false e rest =
       bad-behind at m r rs e
-      ∙ sym (ap₂ (λ (cs : List Call) (ls : List Line). replayed (numbered at (log ours m cs) ++ ls) (night o (left ours m cs))) (calls-bad at r rs e) (stop-bad at r rs e))
+      ∙ sym (ap₂ (λ (cs : List Call) (ls : List Line). replayed (numbered at (log ours m cs) ++ ls) (night o (left ours m cs))) (calls-bad at r rs e)
+      (stop-bad at r rs e))
 
   pub made-behind : (at : ℕ) (m : Memory) (rs : List (List ℕ)) → 0 < at → Made at m rs
   unfolding callsBehind numbered log left stopOf
@@ -149,7 +155,8 @@ opening-fits r e =
 
 first-step : (r : List ℕ) (rs : List (List ℕ)) (b : Bool) → isGood 0 r ≡ b
     → replayFrom 0 start (r ∷ rs)
-    ≡ replayed (numbered 1 (log ours (empty 64) (callsOf (r ∷ rs))) ++ stopOf 0 (r ∷ rs)) (night (openingOf (r ∷ rs)) (left ours (empty 64) (callsOf (r ∷ rs))))
+    ≡ replayed (numbered 1 (log ours (empty 64) (callsOf (r ∷ rs))) ++ stopOf 0 (r ∷ rs))
+    (night (openingOf (r ∷ rs)) (left ours (empty 64) (callsOf (r ∷ rs))))
 unfolding numbered log left
 first-step r rs true e =
     opens-first r rs e ∙ made-behind (bodyOf r) (opening-fits r e) 1 (empty 64) rs (omega arith)
@@ -194,7 +201,9 @@ pub stops : Stops
 stops good more bad a e =
     let k = length good in
     one-by-one (good ++ (bad ∷ more))
-    ∙ ap₂ (λ (cs : List Call) (ls : List Line). replayed (numbered 1 (log ours (empty 64) cs) ++ ls) (night (openingOf (good ++ (bad ∷ more))) (left ours (empty 64) cs)))
+    ∙ ap₂ (λ (cs : List Call) (ls : List Line). replayed (numbered 1 (log ours (empty 64) cs) ++ ls)
+    (night (openingOf (good ++ (bad ∷ more))) (left ours (empty 64) cs)))
     (all-calls-cut bad more k e good a refl) (stop-cut bad more k e 0 good a (omega arith))
     ∙ ap (λ (n : Night). replayed (numbered 1 (log ours (empty 64) (callsOf good)) ++ (line k (firstOf (faults k bad)) ∷ [])) n)
-    (ap (λ (o : List ℕ). night o (left ours (empty 64) (callsOf good))) (opening-cut bad more k e good a refl) ∙ sym (ap (λ (x : Replayed). x .night) (one-by-one good)))
+    (ap (λ (o : List ℕ). night o (left ours (empty 64) (callsOf good))) (opening-cut bad more k e good a refl)
+    ∙ sym (ap (λ (x : Replayed). x .night) (one-by-one good)))

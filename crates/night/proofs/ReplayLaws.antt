@@ -20,6 +20,7 @@ module _ (at : ℕ) (n : Night) where
     goes-on e = rw e refl
 
     -- .. and ends with one that is
-    pub ends-there : ends (stepOf at n r .answer) ≡ true → replayFrom at n (r ∷ rs) ≡ replayed (lineOf at (stepOf at n r .answer)) (stepOf at n r .night)
+    pub ends-there : ends (stepOf at n r .answer) ≡ true
+        → replayFrom at n (r ∷ rs) ≡ replayed (lineOf at (stepOf at n r .answer)) (stepOf at n r .night)
     unfolding replayFrom
     ends-there e = rw e refl

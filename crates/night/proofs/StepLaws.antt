@@ -1,14 +1,16 @@
--- What a record does. In this order: a table's first row that applies; a step, by its tests; a record taken, by its kind; the opening copied. Assumes nothing.
+-- What a record does. In this order: a table's first row that applies; a step, by its tests; a record taken, by its kind; the opening copied.
+-- Assumes nothing.
 use mathlib.Core.Path.{_≡_, refl, sym, ap, ap₂, _∙_}
 use mathlib.Core.Bool.{Bool, true, false, not, cond}
-use mathlib.Core.List.{List, [], _∷_, _++_, append-nil}
-use Prim.Native.Nat.{ℕ, _+_, _-_, _≤_, _<_}
+use mathlib.Core.List.{List, [], _∷_}
+use Prim.Native.Nat.{ℕ, _-_, _≤_, _<_}
 use native.Mathlib.Omega.{arith}
 use lib.Dec.{eqb}
-use lib.ListN.{length, take, drop, length-drop, drop-of-length-le}
+use lib.ListN.{length, take, drop, length-drop}
 use lib.Seq.{take-all}
 use borrow.Author.Tests.{eq-eqb, ne-eqb}
 use Rattle.octet.specs.Part.{splice}
+use Rattle.octet.proofs.PartLaws.{splice-whole}
 use Rattle.refusal.specs.Table.{Refusal, when, firstOf, orRefuse}
 use Rattle.refusal.proofs.TableLaws.{AllFail, all-fail}
 use Rattle.refusal.proofs.CallLaws.{all-pass, row-applies, row-passes}
@@ -20,7 +22,8 @@ use Rattle.night.proofs.FaultLaws.{in-order, good-record, fits-4}
 
 -- ---- the first row that applies refuses
 
-refused-by : {A : Type 0} (refuse : ℕ → A) (b : Bool) (n m : ℕ) (rest : A) → (0 < m → rest ≡ refuse m) → 0 < cond b n m → cond b (refuse n) rest ≡ refuse (cond b n m)
+refused-by : {A : Type 0} (refuse : ℕ → A) (b : Bool) (n m : ℕ) (rest : A) → (0 < m → rest ≡ refuse m) → 0 < cond b n m
+    → cond b (refuse n) rest ≡ refuse (cond b n m)
 refused-by refuse true n m rest h p = refl
 refused-by refuse false n m rest h p = h p
 
@@ -57,11 +60,6 @@ module _ (at : ℕ) (n : Night) (r : List ℕ) where
 
 -- ---- as the code has it
 
--- a list of the same length put in the place of another
-pub splice-all : (xs s : List ℕ) → length xs ≡ length s → splice 0 xs s ≡ xs
-unfolding splice
-splice-all xs s e = ap (λ (l : List ℕ). take 0 s ++ xs ++ l) (drop-of-length-le s {i = 0 + length xs} (omega (arith, e))) ∙ append-nil xs
-
 module _ (at : ℕ) (n : Night) (r : List ℕ) (fit : length (n .opening) ≡ 102) where
   pub refuses : (k : ℕ) → k ≡ firstOf (faults at r) → (k ≡ 0 → ⊥) → stepped k n ≡ stepOf at n r
   refuses k e u = ap (λ (j : ℕ). stepped j n) e ∙ sym (step-bad at n r fit (omega (arith, e, u)))
@@ -82,9 +80,11 @@ module _ (at : ℕ) (n : Night) (r : List ℕ) (fit : length (n .opening) ≡ 10
       pub opening-length : kind ≡ 4 → length (take (length r - 4) (drop 4 r)) ≡ 102
       opening-length e = fits-4 kind (length (take (length r - 4) (drop 4 r))) e body-fits
 
-      pub opens : kind ≡ 4 → (o : List ℕ) → o ≡ splice 0 (take (length r - 4) (drop 4 r)) (n .opening) → stepped 0 (night o (n .memory)) ≡ stepOf at n r
+      pub opens : kind ≡ 4 → (o : List ℕ) → o ≡ splice 0 (take (length r - 4) (drop 4 r)) (n .opening)
+          → stepped 0 (night o (n .memory)) ≡ stepOf at n r
       opens e o w =
-          ap (λ (l : List ℕ). stepped 0 (night l (n .memory))) (w ∙ splice-all (take (length r - 4) (drop 4 r)) (n .opening) (opening-length e ∙ sym fit) ∙ body-is)
+          ap (λ (l : List ℕ). stepped 0 (night l (n .memory)))
+          (w ∙ splice-whole (take (length r - 4) (drop 4 r)) (n .opening) (opening-length e ∙ sym fit) ∙ body-is)
           ∙ sym (step-good at n r fit clean ∙ taken-opens at n r (sym known ∙ e))
 
       pub makes : (kind ≡ 4 → ⊥) → (s : Stepped) → s ≡ called n (callOf (n .opening) kind (take (length r - 4) (drop 4 r))) → s ≡ stepOf at n r

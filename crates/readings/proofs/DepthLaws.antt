@@ -1,5 +1,5 @@
--- Depths that are not a number, and the bits of those that are. In this order: none that is not a number is allowed; by the bits; what 32 bits are as a depth.
--- Assumes nothing.
+-- Depths that are not a number, and the bits of those that are. In this order: none that is not a number is allowed; by the bits; what 32 bits
+-- are as a depth. Assumes nothing.
 use mathlib.Core.Path.{_≡_, refl, sym, ap, _∙_, subst}
 use mathlib.Core.Bool.{true, false, not}
 use Prim.Native.Nat.{ℕ}

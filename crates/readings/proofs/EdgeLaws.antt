@@ -1,5 +1,5 @@
--- Depths at the edges of what is allowed, computed. The file stands before all others, so that a definition that refuses negative zero is refused for that.
--- Assumes nothing.
+-- Depths at the edges of what is allowed, computed. The file stands before all others, so that a definition that refuses negative zero is refused
+-- for that. Assumes nothing.
 use mathlib.Core.Path.{refl}
 use lib.Ieee.{ofBits, toBits, ofInt, le, lt, eq}
 use Rattle.octet.specs.Number.{valueLE}

@@ -1,5 +1,5 @@
--- What packing hands back, and the bytes of a reading put together. In this order: by the tests of the code; the bytes, by the kind; three parts side by side
--- are one. Assumes nothing.
+-- What packing hands back, and the bytes of a reading put together. In this order: by the tests of the code; the bytes, by the kind; three parts
+-- side by side are one. Assumes nothing.
 use mathlib.Core.Path.{_≡_, refl, sym, ap, ap₂, _∙_}
 use mathlib.Core.Bool.{true, false}
 use mathlib.Core.List.{List, _++_}
@@ -28,7 +28,8 @@ module _ (r : Reading) (out : List ℕ) where
   unfolding packOf packRefusals orRefuse
   pack-outside h f = simp (le-ltb _ _ h, f) refl
 
-  pub pack-written : length (image r) ≤ length out → fine (r .measured) ≡ true → handed (Written (length (image r))) (splice 0 (image r) out) ≡ packOf r out
+  pub pack-written : length (image r) ≤ length out → fine (r .measured) ≡ true
+      → handed (Written (length (image r))) (splice 0 (image r) out) ≡ packOf r out
   unfolding packOf packRefusals orRefuse
   pack-written h f = simp (le-ltb _ _ h, f) refl
 

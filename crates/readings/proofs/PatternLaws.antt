@@ -1,5 +1,5 @@
--- Which bits are those of an allowed depth: the numbers up to 0x41A00000, which is 20, and 0x80000000, which is -0. In this order: a finite value as a
--- fraction; the fields of a pattern, by its sign; a pattern. Assumes nothing.
+-- Which bits are those of an allowed depth: the numbers up to 0x41A00000, which is 20, and 0x80000000, which is -0. In this order: a finite value
+-- as a fraction; the fields of a pattern, by its sign; a pattern. Assumes nothing.
 use mathlib.Core.Path.{_≡_, refl, sym, _∙_, subst}
 use mathlib.Core.Bool.{Bool, true, false, cond, _&&_, _||_, or-false}
 use Prim.Native.Nat.{ℕ, zero, suc, _+_, _-_, _*_, _/_, _%_, _^_, _≤_, _<_}
@@ -17,10 +17,10 @@ use lib.Ieee.Bits.{is-false}
 use borrow.Author.Tests.{ltb-true, ltb-false, leb-true, leb-false, eqb-true, eqb-false, le-leb, lt-leb, eq-eqb, ne-eqb}
 use Rattle.readings.specs.Depth.{allowed}
 
-both : (a b : Bool) → T a → T b → (a && b) ≡ true
-both true true s t = refl
-both true false s t = absurd t
-both false b s t = absurd s
+both-hold : (a b : Bool) → T a → T b → (a && b) ≡ true
+both-hold true true s t = refl
+both-hold true false s t = absurd t
+both-hold false b s t = absurd s
 
 not-second : (a b : Bool) → b ≡ false → (a && b) ≡ false
 not-second true b e = e
@@ -32,7 +32,7 @@ module _ (c : ℕ) (C : 0 < c) where
   good-value : (x : Float) (a : ℕ) → HasValue x false a c → a ≤ 20 * c → allowed x ≡ true
   unfolding allowed ofInt
   good-value x a v h =
-      both (le (ofInt binary32 (pos 0)) x) (le x (ofInt binary32 (pos 20)))
+      both-hold (le (ofInt binary32 (pos 0)) x) (le x (ofInt binary32 (pos 20)))
       (le-of-values (ofInt binary32 (pos 0)) x 0 1 a c (lit< tt) C (refl, refl) v (omega arith))
       (le-of-values x (ofInt binary32 (pos 20)) a c 20 1 C (lit< tt) v (refl, refl) (omega arith))
 
@@ -113,7 +113,8 @@ positive : (x t : ℕ) → t < 8388608 → allowed (ofFields binary32 false x t)
 unfolding ofFields
 positive zero t H =
     let small : t * 1 ≤ 8388608 = omega arith in
-    good-value (2 ^ 149) (pow-pos 149) _ _ (odd-sign 24 false t 0 149) (le-trans small (lit≤ tt)) ∙ sym (le-leb (0 * 8388608 + t) 1101004800 (omega arith))
+    good-value (2 ^ 149) (pow-pos 149) _ _ (odd-sign 24 false t 0 149) (le-trans small (lit≤ tt))
+    ∙ sym (le-leb (0 * 8388608 + t) 1101004800 (omega arith))
 positive (suc x) t H = positive-field x t H (eqb (suc x) 255) refl
 
 negative-field : (x t : ℕ) (z : Bool) → allowed (cond z (cond (eqb t 0) (inf true) nan) (odd 24 true (8388608 + t) x 149)) ≡ false

@@ -73,11 +73,13 @@ module _ (s : List ℕ) (b : Bytes s) where
   piece at n h =
       let p = part at n s in
       let digits : digitsLE 256 n (valueLE 256 p) ≡ p =
-      subst (λ (k : ℕ). digitsLE 256 k (valueLE 256 p) ≡ p) (length-part at n s h) (digitsLE-valueLE 256 p (part-digits 256 at n s (omega arith) b)) in
+      subst (λ (k : ℕ). digitsLE 256 k (valueLE 256 p) ≡ p) (length-part at n s h)
+      (digitsLE-valueLE 256 p (part-digits 256 at n s (omega arith) b)) in
       ap₂ _++_ digits (sym (drop-drop n at s)) ∙ take-append-drop n (drop at s)
 
   below : (at n : ℕ) → at + n ≤ length s → numberAt at n s < 256 ^ n
-  below at n h = subst (λ (k : ℕ). numberAt at n s < 256 ^ k) (length-part at n s h) (valueLE-lt 256 (part at n s) (part-digits 256 at n s (omega arith) b))
+  below at n h =
+      subst (λ (k : ℕ). numberAt at n s < 256 ^ k) (length-part at n s h) (valueLE-lt 256 (part at n s) (part-digits 256 at n s (omega arith) b))
 
   -- the digits of all five numbers, one after the other
   all-five : (w : ℕ) → length s ≡ 12 + w
@@ -90,7 +92,8 @@ module _ (s : List ℕ) (b : Bytes s) where
       let inflow = digitsLE 256 4 (numberAt (4 + w) 4 s) in
       let outflow = digitsLE 256 4 (numberAt (8 + w) 4 s) in
       let end : drop (8 + w + 4) s ≡ [] = drop-of-length-le s {i = 8 + w + 4} (omega (arith, l)) in
-      let last : outflow ≡ drop (8 + w) s = sym (append-nil outflow) ∙ ap (λ (x : List ℕ). outflow ++ x) (sym end) ∙ piece (8 + w) 4 (omega (arith, l)) in
+      let last : outflow ≡ drop (8 + w) s =
+      sym (append-nil outflow) ∙ ap (λ (x : List ℕ). outflow ++ x) (sym end) ∙ piece (8 + w) 4 (omega (arith, l)) in
       let next : 8 + w ≡ 4 + w + 4 = omega arith in
       ap (λ (x : List ℕ). told ++ (kind ++ (measure ++ (inflow ++ x)))) (last ∙ ap (λ (k : ℕ). drop k s) next)
       ∙ ap (λ (x : List ℕ). told ++ (kind ++ (measure ++ x))) (piece (4 + w) 4 (omega (arith, l)))

@@ -54,7 +54,8 @@ balance-one i o b b′ p q = p ∙ sym q
 
 unpack-order : (s : List ℕ) → InOrder byNumber 1 (unpackRefusals s)
 unfolding unpackRefusals
-unpack-order s = (omega arith, omega arith, (omega arith, omega arith, (omega arith, omega arith, (omega arith, omega arith, (omega arith, omega arith, tt)))))
+unpack-order s =
+    (omega arith, omega arith, (omega arith, omega arith, (omega arith, omega arith, (omega arith, omega arith, (omega arith, omega arith, tt)))))
 
 pub unpack-exactly : UnpackExactly
 unfolding unpackOf

@@ -1,4 +1,5 @@
--- Laws of a record and the route entry that carries it: each is in form where the other is, each gives the other back, and they have one key and one port.
+-- Laws of a record and the route entry that carries it: each is in form where the other is, each gives the other back, and they have one key
+-- and one port.
 -- In this order: the bytes of each; a view of what is in form; the laws. Assumes nothing.
 use mathlib.Core.Path.{_≡_, refl, sym, ap, ap₂, _∙_}
 use mathlib.Core.Bool.{true, _&&_}
@@ -90,7 +91,14 @@ entry-view v e =
     let b : entryCount v ≤ 4 = leb-true _ _ (u .1) in
     let n : length v ≡ 38 + 16 * entryCount v = eqb-true _ _ (w .1) in
     let six : drop 32 v ≡ getD v 32 0 ∷ getD v 33 0 ∷ getD v 34 0 ∷ getD v 35 0 ∷ getD v 36 0 ∷ getD v 37 0 ∷ drop 38 v =
-    rw (next 32 v (omega arith), next 33 v (omega arith), next 34 v (omega arith), next 35 v (omega arith), next 36 v (omega arith), next 37 v (omega arith)) in
+    rw (
+      next 32 v (omega arith),
+      next 33 v (omega arith),
+      next 34 v (omega arith),
+      next 35 v (omega arith),
+      next 36 v (omega arith),
+      next 37 v (omega arith),
+    ) in
     record {
       a = take 32 v;
       major = getD v 32 0;
@@ -152,7 +160,9 @@ formed a p q c x e l m n =
     let len : length (a ++ y) ≡ 100 =
     length-append a y ∙ omega (arith, length-append x z, length-replicate {A = ℕ} (64 - 16 * c) 0) in
     let unused : drop (36 + 16 * c) (a ++ y) ≡ z =
-    sym (drop-drop (16 * c) 36 (a ++ y)) ∙ ap (drop (16 * c)) (sym (drop-drop 4 32 (a ++ y)) ∙ ap (drop 4) (drop-at a y 32 e)) ∙ drop-at x z (16 * c) n in
+    sym (drop-drop (16 * c) 36 (a ++ y))
+    ∙ ap (drop (16 * c)) (sym (drop-drop 4 32 (a ++ y)) ∙ ap (drop 4) (drop-at a y 32 e))
+    ∙ drop-at x z (16 * c) n in
     rw (len, at-behind a y 2 e, at-behind a y 3 e, le-leb 1 c l, le-leb c 4 m, unused, zeros-all (64 - 16 * c))
 
 entry-formed : (a : List ℕ) (major minor p q f c : ℕ) (x : List ℕ) → length a ≡ 32 → 1 ≤ c → c ≤ 4 → length x ≡ 16 * c
@@ -240,4 +250,9 @@ pub record-port : (v : List ℕ) → entryForm v ≡ true → portOf (recordOf v
 record-port v e =
     let w = entry-view v e in
     let a = w .a in
-    rw (w .is, record-bytes a (w .major) (w .minor) (w .p) (w .q) (w .f) (w .c) (w .x) (w .key) (w .long), behind a _ 0 2 (w .key), behind a _ 2 2 (w .key))
+    rw (
+      w .is,
+      record-bytes a (w .major) (w .minor) (w .p) (w .q) (w .f) (w .c) (w .x) (w .key) (w .long),
+      behind a _ 0 2 (w .key),
+      behind a _ 2 2 (w .key),
+    )

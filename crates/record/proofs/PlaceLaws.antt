@@ -10,7 +10,7 @@ use lib.Seq.{take-take, drop-drop, take-nil}
 use borrow.Author.Tests.{le-leb, lt-leb, leb-true, eq-eqb, eqb-true}
 use Rattle.octet.specs.Part.{part, same, allZero, splice}
 use Rattle.octet.proofs.PartLaws.{part-add, part-at, part-two, length-part, splice-next}
-use Rattle.octet.proofs.TestLaws.{both-true, and-true}
+use Rattle.octet.proofs.TestLaws.{both-true, and-true, same-append}
 use Rattle.record.specs.Record.{countOf, recordForm}
 use Rattle.record.specs.Entry.{entryForm, entryCount, recordOf, entryOf}
 
@@ -30,18 +30,6 @@ drop-part at n j s h = drop-take j n (drop at s) h ∙ ap (take (n - j)) (drop-d
 pub part-part : (s l j n : ℕ) (d : List ℕ) → j + n ≤ l → part j n (part s l d) ≡ part (s + j) n d
 part-part s l j n d h =
     ap (take n) (drop-part s l j d (omega arith)) ∙ take-take n (l - j) (drop (s + j) d) (omega arith)
-
--- two joined lists are the same where their pieces are
-pub same-append : (xs us ys vs : List ℕ) → length xs ≡ length us → same (xs ++ ys) (us ++ vs) ≡ same xs us && same ys vs
-unfolding same
-same-append [] [] ys vs e = refl
-same-append [] (u ∷ us) ys vs e = absurd (omega arith)
-same-append (x ∷ xs) [] ys vs e = absurd (omega arith)
-same-append (x ∷ xs) (u ∷ us) ys vs e = ap (λ (t : Bool). eqb x u && t) (same-append xs us ys vs (omega arith)) ∙ assoc (eqb x u) (same xs us) (same ys vs)
-  where
-    assoc : (a b c : Bool) → a && (b && c) ≡ (a && b) && c
-    assoc true b c = refl
-    assoc false b c = refl
 
 -- the same as zeros is zero
 pub same-zeros : (n : ℕ) (xs : List ℕ) → length xs ≡ n → same xs (replicate n 0) ≡ allZero xs
@@ -201,7 +189,8 @@ put-four at n k p w x s lk lp lw lx h =
       splice-next at 36 (k ++ p ++ w) x s (omega arith) (omega arith),
     )
 
-pub put-pieces : (at n m : ℕ) (k p w x z s : List ℕ) → length k ≡ 32 → length p ≡ 2 → length w ≡ 2 → length x ≡ n → length z ≡ m → at + (36 + n + m) ≤ length s
+pub put-pieces : (at n m : ℕ) (k p w x z s : List ℕ) → length k ≡ 32 → length p ≡ 2 → length w ≡ 2 → length x ≡ n → length z ≡ m
+    → at + (36 + n + m) ≤ length s
     → splice (at + 36 + n) z (splice (at + 36) x (splice (at + 34) w (splice (at + 32) p (splice at k s)))) ≡ splice at (k ++ p ++ w ++ x ++ z) s
 put-pieces at n m k p w x z s lk lp lw lx lz h =
     let a = length-append k p in
@@ -211,7 +200,8 @@ put-pieces at n m k p w x z s lk lp lw lx lz h =
     rw (put-four at n k p w x s lk lp lw lx (omega arith), e, splice-next at (36 + n) (k ++ p ++ w ++ x) z s (omega arith) (omega arith))
 
 -- what is known of a record in form at a place, and the entry that carries it in its pieces
-pub record-at : (start : ℕ) (s : List ℕ) → start + 100 ≤ length s → recordForm (part start 100 s) ≡ true → (1 ≤ getD s (start + 34) 0) × (getD s (start + 34) 0 ≤ 4)
+pub record-at : (start : ℕ) (s : List ℕ) → start + 100 ≤ length s → recordForm (part start 100 s) ≡ true
+    → (1 ≤ getD s (start + 34) 0) × (getD s (start + 34) 0 ≤ 4)
 unfolding recordForm
 record-at start s h e =
     let w = both-true _ _ e in
@@ -229,7 +219,8 @@ record-at start s h e =
 
 pub entry-in : (major minor start : ℕ) (s : List ℕ) → getD s (start + 34) 0 ≤ 4
     → entryOf major minor (part start 100 s)
-    ≡ part start 32 s ++ (major ∷ minor ∷ []) ++ part (start + 32) 2 s ++ (0 ∷ getD s (start + 34) 0 ∷ []) ++ part (start + 36) (16 * getD s (start + 34) 0) s
+    ≡ part start 32 s ++ (major ∷ minor ∷ []) ++ part (start + 32) 2 s ++ (0 ∷ getD s (start + 34) 0 ∷ [])
+    ++ part (start + 36) (16 * getD s (start + 34) 0) s
 unfolding entryOf
 entry-in major minor start s h =
     let z : start + 0 ≡ start = omega arith in

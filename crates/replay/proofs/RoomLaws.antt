@@ -1,5 +1,5 @@
--- The code's turns. In this order: what a record in the room wants; bytes put behind those that are there; a piece, run by run; the end of the input; the
--- numbers of a turn. Assumes nothing.
+-- The code's turns. In this order: what a record in the room wants; bytes put behind those that are there; a piece, run by run; the end of the
+-- input; the numbers of a turn. Assumes nothing.
 use mathlib.Core.Path.{_≡_, refl, sym, ap, ap₂, subst, _∙_}
 use mathlib.Core.Bool.{Bool, true, false, cond}
 use mathlib.Core.List.{List, [], _++_, append-nil}
@@ -31,7 +31,8 @@ module _ (room : List ℕ) (begun : ℕ) (inside : begun ≤ length room) where
   room-two h = sym (wants-two (take begun room) (omega (arith, long)))
 
   pub room-told : (begun < 2 → ⊥) → 2 + valueLE 256 (part 0 2 room) ≡ wanted (take begun room)
-  room-told h = sym (wants-told (take begun room) (omega (arith, long)) ∙ ap (λ (l : List ℕ). 2 + valueLE 256 l) (take-take 2 begun room (omega arith)))
+  room-told h =
+      sym (wants-told (take begun room) (omega (arith, long)) ∙ ap (λ (l : List ℕ). 2 + valueLE 256 l) (take-take 2 begun room (omega arith)))
 
 at-most-by : (r xs : List ℕ) → length r + length xs ≤ wanted r → Dec (length r < 2) → Dec (length (r ++ xs) < 2) → length (r ++ xs) ≤ wanted (r ++ xs)
 at-most-by r xs h e (yes q) = omega (arith, wants-two (r ++ xs) q)
@@ -65,7 +66,8 @@ module _
       not-whole : isWhole (take begun room ++ run) ≡ false
       not-whole = ne-eqb (length (take begun room ++ run)) (wanted (take begun room ++ run)) (λ q. less (omega (arith, q, sized, whole-is)))
 
-      pub run-part : gives front (stream at n (take (begun + length run) after-it) false) ≡ after front (fed (stream at n (take begun room) false) run)
+      pub run-part : gives front (stream at n (take (begun + length run) after-it) false)
+          ≡ after front (fed (stream at n (take begun room) false) run)
       run-part =
           let s = stream at n (take begun room) false in
           let r = take begun room ++ run in
@@ -199,7 +201,8 @@ module _ {i k long begun want : ℕ} (r : Run i k long begun want) where
   pub run-asks : (run want' end text text₀ at at₀ : ℕ) → run ≡ k → want ≡ want' → want ≤ 65537 → end ≤ 42 * i → text ≡ text₀ → 42 * long ≤ text₀
       → at ≤ at₀ + i → at₀ + long < 18446744073709551616
       → (0 < run) × ((begun + run ≤ 65537) × ((begun + run ≤ want') × ((end + 42 ≤ text) × (at + 1 < 18446744073709551616))))
-  run-asks run want' end text text₀ at at₀ e w most line same room number count = (omega arith, (omega arith, (omega arith, (omega arith, omega arith))))
+  run-asks run want' end text text₀ at at₀ e w most line same room number count =
+      (omega arith, (omega arith, (omega arith, (omega arith, omega arith))))
 
   -- a line for each byte is enough, and a number too
   pub run-lines : (end end' : ℕ) → end ≤ 42 * i → end' ≤ end + 42 → end' ≤ 42 * (i + k)

@@ -1,5 +1,5 @@
--- A trace that arrives in pieces. In this order: records that are not whole, and what they want; a byte more; a run of bytes of one record; pieces joined;
--- what is written in the end is the replay of all. Assumes nothing.
+-- A trace that arrives in pieces. In this order: records that are not whole, and what they want; a byte more; a run of bytes of one record;
+-- pieces joined; what is written in the end is the replay of all. Assumes nothing.
 use mathlib.Core.Path.{_≡_, refl, sym, ap, ap₂, _∙_}
 use mathlib.Core.Bool.{Bool, true, false, cond}
 use mathlib.Core.List.{List, [], _∷_, _++_, append-assoc, append-nil}
@@ -80,7 +80,8 @@ module _ (at : ℕ) (n : Night) (r : List ℕ) where
   fed-over [] = refl
   fed-over (b ∷ bs) = refl
 
-  pub fed-part : (b : ℕ) (bs : List ℕ) → isWhole (r ++ (b ∷ [])) ≡ false → fed (stream at n r false) (b ∷ bs) ≡ fed (stream at n (r ++ (b ∷ [])) false) bs
+  pub fed-part : (b : ℕ) (bs : List ℕ) → isWhole (r ++ (b ∷ [])) ≡ false
+      → fed (stream at n r false) (b ∷ bs) ≡ fed (stream at n (r ++ (b ∷ [])) false) bs
   unfolding fed
   fed-part b bs e = rw e refl
 
@@ -109,7 +110,8 @@ module _ (at : ℕ) (n : Night) where
   one-by r b false e = fed-part at n r b [] e ∙ fed-none (stream at n (r ++ (b ∷ [])) false)
 
   -- bytes that are wanted all belong to the record
-  pub fed-run : (r xs : List ℕ) → 0 < length xs → length r + length xs ≤ wanted r → fed (stream at n r false) xs ≡ grown (stream at n r false) (r ++ xs)
+  pub fed-run : (r xs : List ℕ) → 0 < length xs → length r + length xs ≤ wanted r
+      → fed (stream at n r false) xs ≡ grown (stream at n r false) (r ++ xs)
   fed-run r [] p h = absurd (omega arith)
   fed-run r (x ∷ []) p h = one-by r x (isWhole (r ++ (x ∷ []))) refl
   fed-run r (x ∷ y ∷ ys) p h =
@@ -120,7 +122,8 @@ module _ (at : ℕ) (n : Night) where
       let unfinished : isWhole r' ≡ false = ne-eqb (length r') (wanted r') (λ e. omega (arith, q .0, e)) in
       fed-part at n r x (y ∷ ys) unfinished ∙ fed-run r' (y ∷ ys) (omega arith) small
       ∙ ap (λ (l : List ℕ). cond (isWhole l) (took (stream at n r' false) l) (gives [] (stream at n l false))) rest
-      ∙ ap (λ (f : Fed). cond (isWhole (r ++ (x ∷ y ∷ ys))) f (gives [] (stream at n (r ++ (x ∷ y ∷ ys)) false))) (took-still r' r (r ++ (x ∷ y ∷ ys)))
+      ∙ ap (λ (f : Fed). cond (isWhole (r ++ (x ∷ y ∷ ys))) f (gives [] (stream at n (r ++ (x ∷ y ∷ ys)) false)))
+      (took-still r' r (r ++ (x ∷ y ∷ ys)))
 
 -- ---- pieces joined
 
@@ -199,7 +202,8 @@ cut-last zero r p h w = absurd (omega arith)
 cut-last (suc k) r p h w =
     let n = 2 + lengthOf r in
     let m : length r ≤ n = not-more r w in
-    cut-next k r p ∙ ap₂ (λ (a b : List ℕ). a ∷ cutInto k b) (take-all n r m) (drop-of-length-le r {i = n} m) ∙ ap (λ (l : List (List ℕ)). r ∷ l) (cut-none k)
+    cut-next k r p ∙ ap₂ (λ (a b : List ℕ). a ∷ cutInto k b) (take-all n r m) (drop-of-length-le r {i = n} m)
+    ∙ ap (λ (l : List (List ℕ)). r ∷ l) (cut-none k)
 
 -- a whole one stands in front of the rest
 cut-front : (k : ℕ) (r rest : List ℕ) → isWhole r ≡ true → cutInto (suc k) (r ++ rest) ≡ r ∷ cutInto k rest

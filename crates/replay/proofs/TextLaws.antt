@@ -113,10 +113,12 @@ module _ (s : List ℕ) (from : ℕ) (room : from + 42 ≤ length s) (l : Line) 
       let la : length sp ≡ length xs + 1 = length-append xs (32 ∷ []) in
       let lb : length bs ≡ length sp + length ys = length-append sp ys in
       let lc : length cs ≡ length bs + 1 = length-append bs (10 ∷ []) in
-      let e1 : set s1 space 32 ≡ splice from sp s = ap₂ (λ (k : ℕ) (t : List ℕ). set t k 32) p q ∙ splice-snoc from xs s (omega arith) 32 (omega arith) in
+      let e1 : set s1 space 32 ≡ splice from sp s =
+      ap₂ (λ (k : ℕ) (t : List ℕ). set t k 32) p q ∙ splice-snoc from xs s (omega arith) 32 (omega arith) in
       let e2 : s2 ≡ splice from bs s =
       q2 ∙ ap₂ (λ (k : ℕ) (t : List ℕ). splice k ys t) (omega (arith, p, la)) e1 ∙ splice-splice from sp s (omega arith) ys (omega arith) in
       let at : end ≡ from + length bs = omega (arith, p, p2, la, lb) in
-      let e3 : set s2 end 10 ≡ splice from cs s = ap₂ (λ (k : ℕ) (t : List ℕ). set t k 10) at e2 ∙ splice-snoc from bs s (omega arith) 10 (omega arith) in
+      let e3 : set s2 end 10 ≡ splice from cs s =
+      ap₂ (λ (k : ℕ) (t : List ℕ). set t k 10) at e2 ∙ splice-snoc from bs s (omega arith) 10 (omega arith) in
       let all : end + 1 ≡ from + length cs = omega (arith, at, lc) in
       (omega (arith, all, lc, lb, la), ap₂ (λ (k : ℕ) (t : List ℕ). take k t) all e3 ∙ take-splice from cs s (omega arith))

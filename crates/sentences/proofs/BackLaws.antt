@@ -1,5 +1,5 @@
--- Each datagram that a call sends reads back as the message meant. In this order: bytes of records; each message; what answers a datagram; a FLOOD sent.
--- Assumes nothing.
+-- Each datagram that a call sends reads back as the message meant. In this order: bytes of records; each message; what answers a datagram; a
+-- FLOOD sent. Assumes nothing.
 use mathlib.Core.Path.{_≡_, refl, sym, ap, subst, _∙_}
 use mathlib.Core.Logic.{inl, inr}
 use mathlib.Core.Bool.{Bool, true, false, cond}
@@ -13,6 +13,7 @@ use borrow.Author.Tests.{eq-eqb, le-leb}
 use Rattle.octet.specs.Number.{Bytes}
 use Rattle.octet.specs.Part.{part}
 use Rattle.octet.proofs.PartLaws.{length-part, part-digits}
+use Rattle.octet.proofs.BytesLaws.{bytes-nil, bytes-cons, bytes-append, bytes-zeros}
 use Rattle.record.specs.Record.{keyOf, countOf, recordForm}
 use Rattle.record.specs.Entry.{entryCount, recordOf}
 use Rattle.record.proofs.EntryLaws.{form-length, record-form}
@@ -26,7 +27,6 @@ use Rattle.wire_write.specs.Writing.{fit}
 use Rattle.wire_write.specs.Sent.{ackSent, floodSent, inquireSent, cpaSent, closestSent}
 use Rattle.wire_write.specs.Making.{floodMade, inquireMade, cpaMade, closestMade}
 use Rattle.wire.specs.Sending.{Numbers}
-use Rattle.wire.proofs.BytesLaws.{bytes-nil, bytes-cons, bytes-append, bytes-zeros}
 use Rattle.wire.proofs.SendingLaws as formed
 use Rattle.wire.proofs.Theorems.{written-back}
 use Rattle.gauge_plan.specs.Ids.{idAfter}
@@ -81,8 +81,13 @@ record-bytes v b =
 
 module _ (major minor id : ℕ) (h : Numbers major minor id) where
   ack-back : (acked : ℕ) (n : Bool) → ReadsBack (S.written ackKinds (ackSent major minor id acked n))
-  ack-back acked n =
-      (ackKinds, ackSent major minor id acked n, refl, written-back ackKinds (ackSent major minor id acked n) (formed.ack-formed major minor id acked n h))
+  ack-back acked n = (
+    ackKinds,
+    ackSent major minor id acked n,
+    refl,
+    written-back ackKinds (ackSent major minor id acked n)
+        (formed.ack-formed major minor id acked n h),
+  )
 
   inquire-back : (key nonce : List ℕ) → length key ≡ 32 → length nonce ≡ 16 → Bytes key → Bytes nonce
       → ReadsBack (S.written inquireKinds (inquireSent major minor id key nonce))
@@ -98,7 +103,8 @@ module _ (major minor id : ℕ) (h : Numbers major minor id) where
       let msg = cpaSent major minor id acked cpa in
       let d = cpaMade major minor id acked cpa .bytes in
       let long = cpa-length major minor id acked cpa in
-      let ok = formed.cpa-formed major minor id acked cpa d h b (rw (le-leb (length d) (length d) (omega arith), le-leb (length d) 1232 (omega arith)) refl) in
+      let ok =
+      formed.cpa-formed major minor id acked cpa d h b (rw (le-leb (length d) (length d) (omega arith), le-leb (length d) 1232 (omega arith)) refl) in
       (authorityKinds, msg, refl, written-back authorityKinds msg ok)
 
   closest-back : (acked : ℕ) (r : List ℕ) → recordForm r ≡ true → Bytes r → ReadsBack (S.written authorityKinds (closestSent major minor id acked r))

@@ -14,6 +14,7 @@ use Rattle.key.specs.Around.{below, above}
 use Rattle.key.specs.Number.{keyAt}
 use Rattle.record.specs.Record.{keyOf, recordForm}
 use Rattle.refusal.proofs.CallLaws.{all-pass}
+use Rattle.refusal.proofs.TableLaws.{both}
 use Rattle.table.specs.Rows.{rows, joined}
 use Rattle.table.proofs.RowLaws.{rows-length, row-at}
 use Rattle.kept.specs.Keys.{_∈_, Rising, plain}
@@ -54,7 +55,7 @@ use Rattle.gauge_laws.proofs.MovedLaws.{send-planned, send-told, send-places}
 use Rattle.sentences.specs.Words.{Memory, memory, Call, receives, sends, ticks, lists, Given, given}
 use Rattle.sentences.specs.Ours.{asGiven, ours}
 use Rattle.sentences.specs.Sentences as S
-use Rattle.sentences.proofs.MoveLaws.{clash, found-in, seek-some, opened-in, ticked-in, listed-in}
+use Rattle.sentences.proofs.MoveLaws.{found-in, seek-some, opened-in, ticked-in, listed-in}
 use Rattle.sentences.proofs.LearnLaws.{table-by}
 
 pub start-one : (b output : List ℕ) → splice 0 b output ≡ sending (b ∷ []) output
@@ -130,7 +131,7 @@ module _ (own : List ℕ) (m : Memory) (output : List ℕ) (z : gaugeList own (m
 -- ---- a FLOOD sent
 
 second-false : (a b : Bool) → not a && b ≡ false → a ≡ false → b ≡ false
-second-false true b e d = clash refl d
+second-false true b e d = both refl d
 second-false false b e d = e
 
 module _ (l : Send) where
@@ -159,7 +160,8 @@ module _ (l : Send) where
         let w = found-in t at recs found in
         let n = found-within t at recs found in
         let here : getD recs at [] ≡ part (100 * at) 100 (l .cache) =
-        row-at 100 (heldIn (keyOf (l .own)) (l .cache)) (l .cache) at (omega (arith, n, rows-length 100 (heldIn (keyOf (l .own)) (l .cache)) (l .cache))) in
+        row-at 100 (heldIn (keyOf (l .own)) (l .cache)) (l .cache) at
+        (omega (arith, n, rows-length 100 (heldIn (keyOf (l .own)) (l .cache)) (l .cache))) in
         (subst (λ (q : List ℕ). q ∈ recs) here (w .0), sym (ap keyOf here) ∙ eqb-true (keyOf (getD recs at [])) named (w .1))
 
     pub named-by : (b : Bool) → eqb named (keyOf (l .own)) ≡ b → S.Named lent l (sentBy b)
@@ -172,7 +174,9 @@ module _ (l : Send) (small : l .id < 2 ^ 32) (z : sendCall l .given .number ≡ 
 
   sent-is : floodMade (l .major) (l .minor) (l .id) (l .neighbour) r 0 .bytes ∷ [] ≡ S.flooding l r
   unfolding floodMade
-  sent-is = ap (λ (x : List ℕ). S.written floodKinds (floodSent (l .major) (l .minor) (l .id) (l .neighbour) x) ∷ []) (whole-record r (send-told l z .formed))
+  sent-is =
+      ap (λ (x : List ℕ). S.written floodKinds (floodSent (l .major) (l .minor) (l .id) (l .neighbour) x) ∷ [])
+      (whole-record r (send-told l z .formed))
 
   send-is : sendCall l ≡ sendCarried l (sendDone (l .own) (recs l) (usedOf (l .waiting)) (named l))
   send-is = send-by l (send-planned l z)

@@ -13,7 +13,7 @@ use Rattle.key.specs.Number.{keyAt}
 use Rattle.record.specs.Record.{keyOf}
 use Rattle.record.specs.Entry.{entryForm, recordOf}
 use Rattle.record.proofs.EntryLaws.{form-length, record-form}
-use Rattle.refusal.proofs.TableLaws.{AllFail}
+use Rattle.refusal.proofs.TableLaws.{AllFail, both}
 use Rattle.table.specs.Rows.{bytesOf}
 use Rattle.table.proofs.RowLaws.{rows-length}
 use Rattle.cache.specs.Form.{heldOf}
@@ -40,7 +40,7 @@ use Rattle.gauge.proofs.AnswerLaws.{EntryIn}
 use Rattle.gauge_laws.specs.Table.{floodRows}
 use Rattle.sentences.specs.Heard.{entry, revoke}
 use Rattle.sentences.specs.Sentences as S
-use Rattle.sentences.proofs.MoveLaws.{clash, opened-in, none-inquires}
+use Rattle.sentences.proofs.MoveLaws.{opened-in, none-inquires}
 use Rattle.sentences.proofs.LearnLaws.{table-by, removes}
 use Rattle.sentences.proofs.HeardLaws.{saidBy}
 use Rattle.sentences.proofs.WordLaws.{lent, not-iff, must-iff, none-asked}
@@ -49,7 +49,7 @@ use Rattle.sentences.proofs.PlanLaws.{held, used, Fine, Does, table-for
 -- of two tests that do not hold together, where the first does the second does not
 second-fails : (a b : Bool) → a && b ≡ false → a ≡ true → b ≡ false
 second-fails true b e h = e
-second-fails false b e h = clash h refl
+second-fails false b e h = both h refl
 
 module _ (l : Receive) (ok : Fine l) where
   abbrev recs : List (List ℕ)
@@ -85,7 +85,7 @@ module _ (l : Receive) (ok : Fine l) where
           λ i. opened-in (inquiryPlace (idAfter (l .id)) r) q ps .1 (elim i [ inl w ↦ inl w | inr w ↦ inr (w .1) ]),
         ))
     entry-table false e = table-by (keyOf (l .own)) (l .waiting) ps _ (table-form l ok)
-        (λ q. (λ i. inl i, λ i. elim i [ inl w ↦ w | inr w ↦ clash (must-iff (keyOf (l .own)) (lent l) r .1 (w .0)) e ]))
+        (λ q. (λ i. inl i, λ i. elim i [ inl w ↦ w | inr w ↦ both (must-iff (keyOf (l .own)) (lent l) r .1 (w .0)) e ]))
 
     entry-does : Does l (entry id s (keyAt validate (l .datagram)) r) (Flood (used l) s n id (mustAsk recs ps r) start len)
     unfolding carried ackMade inquireMade
@@ -114,7 +114,11 @@ module _ (l : Receive) (ok : Fine l) where
         x = revoke id s (keyAt validate (l .datagram));
         hears = h;
         ds = _;
-        reply = record { n = notOurs (keyOf (l .own)) validate (l .datagram); set = not-iff (keyAt validate (l .datagram)) (keyOf (l .own)); are = refl };
+        reply = record {
+          n = notOurs (keyOf (l .own)) validate (l .datagram);
+          set = not-iff (keyAt validate (l .datagram)) (keyOf (l .own));
+          are = refl;
+        };
         sent = record { counts = refl; bytes = refl };
         leaves = record {
           cache = removes (keyOf (l .own)) (lent l) (ok .ready .cached) u;

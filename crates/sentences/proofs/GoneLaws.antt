@@ -11,6 +11,7 @@ use borrow.Author.Tests.{ne-eqb}
 use Rattle.octet.specs.Number.{digitsLE}
 use Rattle.octet.specs.Part.{part}
 use Rattle.octet.proofs.LittleLaws.{valueLE-digitsLE}
+use Rattle.refusal.proofs.TableLaws.{both}
 use Rattle.record.specs.Record.{keyOf}
 use Rattle.kept.specs.Keys.{_∈_, Every}
 use Rattle.kept.proofs.WithoutLaws.{eq-or}
@@ -27,7 +28,6 @@ use Rattle.sentences.specs.Numbers as Num
 use Rattle.sentences.specs.Meets.{MeetsSentences}
 use Rattle.sentences.specs.Listed as L
 use Rattle.sentences.proofs.MembersLaws.{rise-one, places-rise, place-formed}
-use Rattle.sentences.proofs.MoveLaws.{clash}
 use Rattle.sentences.proofs.ListedLaws.{sized-in, true-by}
 
 -- ---- the place with an ID, from call to call
@@ -92,7 +92,7 @@ does-came : (m : Memory) (c : Call) (h : Given) → Typed c → ((i : ℕ) → �
     → ((h .memory ≡ m) × (took c ≡ 0)) ⊎ Came m c (h .memory)
 does-came m (receives own cpa major minor id nonce verdict key datagram output) h ty low s =
     let l = receive own cpa (m .cache) (m .waiting) major minor id nonce verdict key datagram output in
-    let form = true-by _ (λ e. low 1 (Num.out-of-form refl (λ w. clash (w .waiting) e))) in
+    let form = true-by _ (λ e. low 1 (Num.out-of-form refl (λ w. both (w .waiting) e))) in
     inr (
       λ p q wait y e.
           let is = ap triesOf (leaves-came m (keyOf own) form l (low 13) (s .x) (h .memory) (s .hears) (s .leaves) p q wait y e) in
@@ -100,7 +100,7 @@ does-came m (receives own cpa major minor id nonce verdict key datagram output) 
       λ q y. let few = leaves-few m (keyOf own) form l (s .x) (h .memory) (s .leaves) q y in omega arith,
     )
 does-came m (sends own major minor id neighbour key output) h ty low s =
-    let form = true-by _ (λ e. low 1 (Num.send-out-of-form refl (λ w. clash (w .waiting) e))) in
+    let form = true-by _ (λ e. low 1 (Num.send-out-of-form refl (λ w. both (w .waiting) e))) in
     inr (
       λ p q wait y e. elim (s .table .members q .0 y) [
         | inl was ↦ let is = ap triesOf (only m (keyOf own) form p wait q was e) in omega arith
@@ -109,7 +109,7 @@ does-came m (sends own major minor id neighbour key output) h ty low s =
       λ q y. let few = few-left (keyOf own) (h .memory .waiting) (s .table .form) q y in omega arith,
     )
 does-came m (ticks own output) h ty low s =
-    let form = true-by _ (λ e. low 1 (inl (refl, λ w. clash (w .1) e))) in
+    let form = true-by _ (λ e. low 1 (inl (refl, λ w. both (w .1) e))) in
     let sized = form-of (keyOf own) (m .waiting) form .sized in
     inr (
       λ p q wait y e.

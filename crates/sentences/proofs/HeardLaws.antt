@@ -1,4 +1,5 @@
--- What a datagram says is what the code's reading shows: `Hears` holds of one thing at most, and of it exactly where reading gives 0. Assumes nothing.
+-- What a datagram says is what the code's reading shows: `Hears` holds of one thing at most, and of it exactly where reading gives 0.
+-- Assumes nothing.
 use mathlib.Core.Path.{_≡_, refl, sym, ap, ap₂, subst, _∙_}
 use mathlib.Core.Bool.{Bool, true, false, cond}
 use mathlib.Core.List.{List, [], _∷_}

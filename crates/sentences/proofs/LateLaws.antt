@@ -106,7 +106,8 @@ module _ (u : ℕ) (m : Memory) (quiet : Quiet u m) where
   leaves-out l f (authority acked c) left w out q y =
       let formed = place-formed (keyOf (l .own)) (m .waiting) f (w .p) (w .answers .0) in
       let key = inquiry-key (keyOf (l .own)) (w .p) formed (w .answers .2) in
-      learns-out (keyOf (l .own)) (placeRecord (w .p)) (left .cache) (λ e. quiet (w .p, w .answers .0, (w .answers .2, sym key ∙ e))) (w .cache) out q y
+      learns-out (keyOf (l .own)) (placeRecord (w .p)) (left .cache) (λ e. quiet (w .p, w .answers .0, (w .answers .2, sym key ∙ e)))
+      (w .cache) out q y
   leaves-out l f (ack acked n) left w out q y = out q (w .cache .members q .0 y .0)
   leaves-out l f (lookup i t) left w out q y = out q (subst (λ (n : Memory). S.Holds (keyOf (l .own)) n q) w y)
   leaves-out l f other left w out q y = absurd w

@@ -1,4 +1,5 @@
--- What is held and what waits afterwards, from the rows that were made: the views Cache and Table; and learning, with the record dropped. Assumes nothing.
+-- What is held and what waits afterwards, from the rows that were made: the views Cache and Table; and learning, with the record dropped.
+-- Assumes nothing.
 use mathlib.Core.Path.{_≡_, refl, sym, ap, ap₂, subst, _∙_}
 use mathlib.Core.Logic.{_⊎_, _↔_, inl, inr}
 use mathlib.Core.Bool.{Bool, true, false, cond}
@@ -35,7 +36,8 @@ use Rattle.sentences.proofs.MoveLaws.{without-in, put-in}
 
 -- ---- the views, from rows
 
-pub table-by : (k : ℕ) (t : List ℕ) (ps : List (List ℕ)) (P : List ℕ → Type 0) → W.Form k t ps → ((p : List ℕ) → (p ∈ ps) ↔ P p) → S.WaitsExactly k t P
+pub table-by : (k : ℕ) (t : List ℕ) (ps : List (List ℕ)) (P : List ℕ → Type 0) → W.Form k t ps → ((p : List ℕ) → (p ∈ ps) ↔ P p)
+    → S.WaitsExactly k t P
 table-by k t ps P f h = record {
   form = form-test k t ps f;
   members = λ p. subst (λ (l : List (List ℕ)). (p ∈ l) ↔ P p) (form-unique k t ps f) (h p);
@@ -110,7 +112,8 @@ module _ (k : ℕ) (keys : List ℕ) (rises : Rising plain 0 keys) (others : Eve
   unfolding farthestOut
   drops-far h = go (test (leb (length (onSide (sideOf k) below keys)) (length (onSide (sideOf k) above keys))))
     where
-      go : Test (leb (length (onSide (sideOf k) below keys)) (length (onSide (sideOf k) above keys))) → Farthest k (S.fuller k keys) keys (drops k keys)
+      go : Test (leb (length (onSide (sideOf k) below keys)) (length (onSide (sideOf k) above keys)))
+          → Farthest k (S.fuller k keys) keys (drops k keys)
       go (pass e) =
           let some = leb-true (length (onSide (sideOf k) below keys)) (length (onSide (sideOf k) above keys)) e in
           rw e (last-far above (omega (arith, sides (sideOf k) keys, some)))
@@ -184,7 +187,8 @@ module _ (k : ℕ) (m : Memory) (form : cacheForm k (m .cache) ≡ true) (r : Li
           cache-by k (m .cache) left (afterLearn k (length (m .cache)) old r) _ g size
               (λ q. subst (λ (l : List (List ℕ)). (q ∈ l) ↔ ((q ∈ all) × (¬ (q ≡ d .0)))) (sym (less h)) (
                 λ i. let w = without-in keyOf (drops k (keysOf all)) q all .0 i in (w .0, λ e. w .1 (ap keyOf e ∙ d .2)),
-                λ i. without-in keyOf (drops k (keysOf all)) q all .1 (i .0, λ e. i .1 (rise-one keyOf 0 q (d .0) all rises (i .0) (d .1) (e ∙ sym (d .2)))),
+                λ i. without-in keyOf (drops k (keysOf all)) q all .1
+                    (i .0, λ e. i .1 (rise-one keyOf 0 q (d .0) all rises (i .0) (d .1) (e ∙ sym (d .2)))),
               )),
         );
   }

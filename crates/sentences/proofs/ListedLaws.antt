@@ -12,6 +12,7 @@ use Rattle.octet.specs.Part.{part, splice}
 use Rattle.octet.proofs.PartLaws.{part-digits}
 use Rattle.octet.proofs.LittleLaws.{valueLE-digitsLE, digitsLE-lt}
 use Rattle.key.specs.Number.{keyAt}
+use Rattle.refusal.proofs.TableLaws.{both}
 use Rattle.record.specs.Record.{keyOf}
 use Rattle.table.specs.Rows.{rows, joined, Sized}
 use Rattle.kept.specs.Keys.{_∈_}
@@ -29,7 +30,6 @@ use Rattle.sentences.specs.Sentences as S
 use Rattle.sentences.specs.Meets.{MeetsSentences}
 use Rattle.sentences.specs.Listed as L
 use Rattle.sentences.proofs.MembersLaws.{rise-one, places-rise}
-use Rattle.sentences.proofs.MoveLaws.{clash}
 
 -- ---- IDs of 32 bits
 
@@ -67,7 +67,8 @@ module _ (z : List ℕ) where
       let w = find ids (λ j m. small j (inr m)) id i in (
         suc (w .0),
         omega (arith, w .1),
-        ap (λ (a : ℕ). valueLE 256 (part a 4 (idBytes (x ∷ ids) ++ z))) (let e : 4 * suc (w .0) ≡ suc (suc (suc (suc (4 * w .0)))) = omega arith in e) ∙ w .2,
+        ap (λ (a : ℕ). valueLE 256 (part a 4 (idBytes (x ∷ ids) ++ z))) (let e : 4 * suc (w .0) ≡ suc (suc (suc (suc (4 * w .0)))) = omega arith in
+            e) ∙ w .2,
       )
 
   found : (ids : List ℕ) → ((i : ℕ) → i ∈ ids → i < 2 ^ 32) → (n : ℕ) → n < length ids → valueLE 256 (part (4 * n) 4 (idBytes ids ++ z)) ∈ ids
@@ -75,7 +76,8 @@ module _ (z : List ℕ) where
   found [] small n h = absurd (omega arith)
   found (x ∷ ids) small zero h = inl (valueLE-digitsLE 256 4 x (omega arith) (small x (inl refl)))
   found (x ∷ ids) small (suc n) h =
-      inr (subst (λ (a : ℕ). valueLE 256 (part a 4 (idBytes (x ∷ ids) ++ z)) ∈ ids) (let e : suc (suc (suc (suc (4 * n)))) ≡ 4 * suc n = omega arith in e)
+      inr (subst (λ (a : ℕ). valueLE 256 (part a 4 (idBytes (x ∷ ids) ++ z)) ∈ ids)
+      (let e : suc (suc (suc (suc (4 * n)))) ≡ 4 * suc n = omega arith in e)
       (found ids (λ j m. small j (inr m)) n (omega arith)))
 
 -- ---- a place that no call concerns waits on
@@ -159,7 +161,8 @@ pub true-by : (b : Bool) → ¬ (b ≡ false) → b ≡ true
 true-by true h = refl
 true-by false h = absurd (h refl)
 
-module _ (g : Gauge) (meets : MeetsSentences g) (m : Memory) (fit : Fit m) (own output : List ℕ) (ok : g m (ticks own output) .answer .number ≡ 0) where
+module _ (g : Gauge) (meets : MeetsSentences g) (m : Memory) (fit : Fit m) (own output : List ℕ)
+    (ok : g m (ticks own output) .answer .number ≡ 0) where
   abbrev h : Given
   h = g m (ticks own output)
 
@@ -167,7 +170,7 @@ module _ (g : Gauge) (meets : MeetsSentences g) (m : Memory) (fit : Fit m) (own 
   done = meets .does m (ticks own output) tt ok
 
   form : waitingForm (keyOf own) (m .waiting) ≡ true
-  form = true-by _ (λ e. meets .table .accepted m (ticks own output) tt .0 ok 1 (inl (refl, λ w. clash (w .1) e)))
+  form = true-by _ (λ e. meets .table .accepted m (ticks own output) tt .0 ok 1 (inl (refl, λ w. both (w .1) e)))
 
   small : (i : ℕ) → i ∈ done .ids → i < 2 ^ 32
   small i y = let w = done .listed i .0 y in subst (λ (n : ℕ). n < 2 ^ 32) (w .3) (fit (w .0) (w .1))
@@ -243,7 +246,8 @@ module _ (g : Gauge) (meets : MeetsSentences g) where
       let w = left-on p q same m (r .calls) (passes .0) fit wait in
       let now = left g m (r .calls) in (
         subst (λ (i : ℕ). ¬ L.Listed i (L.tickOf g m r)) (same .id) (tick-silent g meets now (w .0) (r .own) (r .output) (passes .1) q (w .1) tries),
-        subst (λ (i : ℕ). L.Gone i (L.tickOf g m r .memory)) (same .id) (tick-frees g meets now (w .0) (r .own) (r .output) (passes .1) q (w .1) tries),
+        subst (λ (i : ℕ). L.Gone i (L.tickOf g m r .memory)) (same .id)
+            (tick-frees g meets now (w .0) (r .own) (r .output) (passes .1) q (w .1) tries),
       )
   listed-for p (suc n) q same tries m fit wait = λ r passes.
       let w = left-on p q same m (r .calls) (passes .0) fit wait in
@@ -254,7 +258,8 @@ module _ (g : Gauge) (meets : MeetsSentences g) where
             (tick-lists g meets now (w .0) (r .own) (r .output) (passes .1) q (w .1) (omega arith)),
         listed-for p n (oneLess q)
             (record { id = less-id q ∙ same .id; kind = less-kind q ∙ same .kind; key = less-key q ∙ same .key }) less (L.tickOf g m r .memory)
-            (step-fit now (ticks (r .own) (r .output)) tt (w .0)) (tick-less g meets now (w .0) (r .own) (r .output) (passes .1) q (w .1) (omega arith)),
+            (step-fit now (ticks (r .own) (r .output)) tt (w .0))
+            (tick-less g meets now (w .0) (r .own) (r .output) (passes .1) q (w .1) (omega arith)),
       )
 
 pub listed-twice : L.ListedTwice

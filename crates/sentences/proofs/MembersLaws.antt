@@ -1,5 +1,5 @@
--- Members determine bytes: two caches in form of one size that hold the same records are equal, and so are two waiting tables in form with the same places.
--- Assumes nothing.
+-- Members determine bytes: two caches in form of one size that hold the same records are equal, and so are two waiting tables in form with the
+-- same places. Assumes nothing.
 use mathlib.Core.Path.{_≡_, refl, sym, ap, ap₂, _∙_}
 use mathlib.Core.Logic.{inl, inr}
 use mathlib.Core.Bool.{true}

@@ -6,6 +6,7 @@ use Prim.Native.Nat.{ℕ}
 use lib.ListN.{length, getD}
 use Rattle.octet.proofs.PartLaws.{splice-nil}
 use Rattle.key.specs.Number.{keyAt}
+use Rattle.refusal.proofs.TableLaws.{both}
 use Rattle.record.specs.Record.{keyOf}
 use Rattle.table.specs.Rows.{joined, bytesOf}
 use Rattle.cache.specs.Form.{heldOf}
@@ -32,7 +33,7 @@ use Rattle.gauge_laws.proofs.FirstLaws.{whole-record}
 use Rattle.sentences.specs.Heard.{inquire, authority, ack, lookup}
 use Rattle.sentences.specs.Sentences as S
 use Rattle.sentences.proofs.MembersLaws.{place-formed}
-use Rattle.sentences.proofs.MoveLaws.{clash, seek-some, freed-in}
+use Rattle.sentences.proofs.MoveLaws.{seek-some, freed-in}
 use Rattle.sentences.proofs.LearnLaws.{table-by, removes, learns}
 use Rattle.sentences.proofs.WordLaws.{lent, found-waits}
 use Rattle.sentences.proofs.PlanLaws.{held, used, Fine, Does, table-form, ids-rise}
@@ -91,7 +92,7 @@ module _ (l : Receive) (ok : Fine l) where
         size = c .size;
         members = λ r. (λ i. let w = c .members r .0 i in (w .0, λ e. w .1 (e .1)), λ w. c .members r .1 (w .0, λ e. w .1 (refl, e)));
       }
-  ack-cache acked false p = record { form = ok .ready .cached; size = refl; members = λ r. (λ i. (i, λ e. clash (e .0) refl), λ w. w .0) }
+  ack-cache acked false p = record { form = ok .ready .cached; size = refl; members = λ r. (λ i. (i, λ e. both (e .0) refl), λ w. w .0) }
 
   pub ack-does : (acked : ℕ) (b : Bool) → isNothing (seek (isAt acked 1) 0 ps) ≡ false
       → Does l (ack acked b) (Free (held l) (used l) (placeOf (seek (isAt acked 1) 0 ps)) b)

@@ -1,4 +1,5 @@
--- An INQUIRE, AUTHORITY, ACK or LOOKUP received, or a message that is not taken, is refused when the clauses say so: the rows of their tables. Assumes nothing.
+-- An INQUIRE, AUTHORITY, ACK or LOOKUP received, or a message that is not taken, is refused when the clauses say so: the rows of their tables.
+-- Assumes nothing.
 use mathlib.Core.Path.{_≡_, refl, sym, ap, _∙_}
 use mathlib.Core.Logic.{_⊎_, inl, inr}
 use mathlib.Core.Bool.{Bool, true, false, not, _||_}
@@ -10,6 +11,7 @@ use lib.ListN.{length, getD}
 use Rattle.key.specs.Number.{keyAt}
 use Rattle.record.specs.Record.{keyOf, countOf, recordForm}
 use Rattle.refusal.specs.Table.{Refusal, when}
+use Rattle.refusal.proofs.TableLaws.{both}
 use Rattle.table.specs.Rows.{joined}
 use Rattle.cache.specs.Form.{heldOf}
 use Rattle.cache.specs.Closest.{candidates, closestOf}
@@ -33,7 +35,6 @@ use Rattle.sentences.specs.Heard.{inquire, authority, ack, lookup, other
 use Rattle.sentences.specs.Sentences as S
 use Rattle.sentences.specs.Numbers as Num
 use Rattle.sentences.proofs.MembersLaws.{rise-one, places-rise}
-use Rattle.sentences.proofs.MoveLaws.{clash}
 use Rattle.sentences.proofs.WordLaws.{lent, not-iff, found-waits, none-iff-not}
 use Rattle.sentences.proofs.FirstLaws.{Row}
 use Rattle.sentences.proofs.SaidLaws.{lent-tables, Said, short-to, short-from, none-short, Lowest, Both, good}
@@ -61,7 +62,8 @@ module _ (l : Receive) (n : ℕ) (low : Lowest l n) where
       to : Said l (inquire id (keyAt validate (l .datagram))) n
           → Row n (when 12 (notOurs k validate (l .datagram)) ∷ when 15 (ltb (length (l .output)) (40 + length (l .cpa))) ∷ [])
       to (inl w) = inl (w .0, not-iff (keyAt validate (l .datagram)) k .1 (w .1))
-      to (inr w) = inr (inl (short-from l (inquire id (keyAt validate (l .datagram))) (cpaMade (l .major) (l .minor) (l .id) id (l .cpa) .bytes ∷ []) n _
+      to (inr w) =
+          inr (inl (short-from l (inquire id (keyAt validate (l .datagram))) (cpaMade (l .major) (l .minor) (l .id) id (l .cpa) .bytes ∷ []) n _
           (good l n low (omega (arith, w .0)) .cache) refl room (let h = good l n low (omega (arith, w .0)) .cpa-most in omega arith) w))
 
       from : Row n (when 12 (notOurs k validate (l .datagram)) ∷ when 15 (ltb (length (l .output)) (40 + length (l .cpa))) ∷ [])
@@ -94,7 +96,7 @@ module _ (l : Receive) (n : ℕ) (low : Lowest l n) where
 
     nine-to : (c : Bool) → (c ≡ false) ⊎ (¬ (l .verdict ≡ 1)) → not c || not (eqb (l .verdict) 1) ≡ true
     nine-to false w = refl
-    nine-to true (inl e) = clash refl e
+    nine-to true (inl e) = both refl e
     nine-to true (inr h) = not-iff (l .verdict) 1 .1 h
 
     nine-from : (c : Bool) → not c || not (eqb (l .verdict) 1) ≡ true → (c ≡ false) ⊎ (¬ (l .verdict ≡ 1))

@@ -11,6 +11,7 @@ use Rattle.octet.specs.Number.{Bytes}
 use Rattle.octet.specs.Part.{part}
 use Rattle.octet.proofs.TestLaws.{same-eq}
 use Rattle.refusal.specs.Table.{Refusal}
+use Rattle.refusal.proofs.TableLaws.{both}
 use Rattle.kept.proofs.ListLaws.{Test, pass, fail, test}
 use Rattle.wire_fields.specs.Shapes.{Kind}
 use Rattle.wire_fields.specs.Kinds.{present}
@@ -27,7 +28,7 @@ use Rattle.gauge_laws.specs.Table.{messageRows, receiveTable}
 use Rattle.gauge_laws.proofs.TableLaws.{IsMessage}
 use Rattle.sentences.specs.Heard.{Heard, entry, revoke, inquire, authority, ack, other}
 use Rattle.sentences.specs.Numbers as Num
-use Rattle.sentences.proofs.MoveLaws.{clash, holds-not}
+use Rattle.sentences.proofs.MoveLaws.{holds-not}
 use Rattle.sentences.proofs.HeardLaws.{heardBy, answer-hears, hears-answer}
 use Rattle.sentences.proofs.WordLaws.{lent, not-iff, message-zero}
 use Rattle.sentences.proofs.PartLaws.{part-to, part-from}
@@ -49,7 +50,8 @@ module _ (l : Receive) (n : ℕ) (low : Lowest l n) where
   any-both (M.Inquire head a x c validate nonce credential signature key) i w says = inquire-both l n low (head .id) validate
   any-both (M.Authority head acked fields) i w says = authority-both l n low acked (R.isHere (fields .cpa)) says
   any-both (M.Ack head acked flags y) i w says = ack-both l n low acked y
-  any-both (M.Lookup head a precision criteria reason target validate route path credential signature key) i w says = lookup-both l n low (head .id) target
+  any-both (M.Lookup head a precision criteria reason target validate route path credential signature key) i w says =
+      lookup-both l n low (head .id) target
 
 module _ (l : Receive) (bytes : Bytes (l .datagram)) where
   abbrev d : List ℕ
@@ -92,7 +94,8 @@ module _ (l : Receive) (bytes : Bytes (l .datagram)) where
     to (Num.not-opened e h) = inr (inr (inr (inl (e, ap not (holds-not _ (λ w. h (same-eq (part 0 5 d) opening w)))))))
     to (Num.not-major e h) = inr (inr (inr (inr (inl (e, not-iff (getD d 5 0) (l .major) .1 h)))))
     to (Num.not-known e h) = inr (inr (inr (inr (inr (inl (e, ap (λ (o : Option (List Kind)). not (present o)) h))))))
-    to (Num.not-read e p h) = inr (inr (row-front n rs (messageRows l a) (read-row l bytes n low e (holds-not (inPart (typeOf d) d) (λ w. p (part-to d w))) h)))
+    to (Num.not-read e p h) =
+        inr (inr (row-front n rs (messageRows l a) (read-row l bytes n low e (holds-not (inPart (typeOf d) d) (λ w. p (part-to d w))) h)))
     to (Num.not-taken e says) = inr (inr (says-row other says (inl e)))
     to (Num.in-part e p) = inr (inr (inr (inr (inr (inr (inr (inl (e, part-from d p))))))))
     to (Num.no-flood e acked y says h) = inr (inr (says-row (ack acked y) says (inl (e, h))))
@@ -109,8 +112,8 @@ module _ (l : Receive) (bytes : Bytes (l .datagram)) where
     to (Num.no-room e x says ds r h) = inr (inr (says-row x says (inr (e, ds, r, h))))
 
     from : Row n (receiveTable l) → Clause l n
-    from (inl w) = Num.out-of-form (w .0) (λ v. clash (lent-tables l v) (not-true _ (w .1)))
-    from (inr (inl w)) = Num.out-of-form (w .0) (λ v. clash (lent-hands l v) (not-true _ (w .1)))
+    from (inl w) = Num.out-of-form (w .0) (λ v. both (lent-tables l v) (not-true _ (w .1)))
+    from (inr (inl w)) = Num.out-of-form (w .0) (λ v. both (lent-hands l v) (not-true _ (w .1)))
     from (inr (inr w)) = elim (row-either n rs (messageRows l a) w) [ inl v ↦ row-read l bytes n low v | inr v ↦ row-says v ]
 
   pub receive-agree : Agree (Clause l) (receiveTable l)

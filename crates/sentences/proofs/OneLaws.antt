@@ -14,6 +14,7 @@ use Rattle.kept.specs.Keys.{_∈_, Rising, plain}
 use Rattle.kept.proofs.PutLaws.{Tri, less, same, more, tri}
 use Rattle.kept.proofs.ListLaws.{Test, pass, fail, test, rising-ext}
 use Rattle.key.proofs.AroundLaws.{side-near}
+use Rattle.refusal.proofs.TableLaws.{both}
 use Rattle.cache.proofs.CallLaws.{list-only}
 use Rattle.cache.specs.Form.{keysOf, placesIn, heldOf, cacheForm}
 use Rattle.cache.specs.Closest.{candidates, closestOf}
@@ -47,7 +48,8 @@ given-same h h′ a c w o =
 module _ (k : ℕ) (m : Memory) (output : List ℕ) (h h′ : Given) (s : S.Ticks k m output h) (t : S.Ticks k m output h′) where
   ids-same : s .ids ≡ t .ids
   ids-same =
-      rising-ext plain 0 0 (s .ids) (t .ids) (s .rising) (t .rising) (λ i m. t .listed i .1 (s .listed i .0 m)) (λ i m. s .listed i .1 (t .listed i .0 m))
+      rising-ext plain 0 0 (s .ids) (t .ids) (s .rising) (t .rising) (λ i m. t .listed i .1 (s .listed i .0 m))
+      (λ i m. s .listed i .1 (t .listed i .0 m))
 
   pub ticks-one : h ≡ h′
   ticks-one = given-same h h′ (rw (s .counts, t .counts, ids-same) refl) (s .cache ∙ sym (t .cache))
@@ -77,7 +79,8 @@ module _ (own : List ℕ) (m : Memory) (output : List ℕ) (f : cacheForm (keyOf
 
 sent-same : (output : List ℕ) (ds ds′ : List (List ℕ)) (h h′ : Given) → S.Sent output ds h → S.Sent output ds′ h′ → ds ≡ ds′
     → (h .answer ≡ h′ .answer) × (h .output ≡ h′ .output)
-sent-same output ds ds′ h h′ s t e = (s .counts ∙ ap lengths e ∙ sym (t .counts), s .bytes ∙ ap (λ (x : List (List ℕ)). sending x output) e ∙ sym (t .bytes))
+sent-same output ds ds′ h h′ s t e =
+    (s .counts ∙ ap lengths e ∙ sym (t .counts), s .bytes ∙ ap (λ (x : List (List ℕ)). sending x output) e ∙ sym (t .bytes))
 
 module _ (m : Memory) (l : Send) (f : cacheForm (keyOf (l .own)) (m .cache) ≡ true) where
   pub named-one : (r r′ : List ℕ) → S.Named m l r → S.Named m l r′ → r ≡ r′
@@ -176,7 +179,8 @@ module _ (k : ℕ) (m : Memory) (r left left′ : List ℕ) (s : S.Learns k m r 
           let b = t .dropped (omega (arith, size)) in
           let e : a .0 ≡ b .0 = drops-one k (t .more) (a .0) (b .0) (t .rising)
           (subst (λ (x : List (List ℕ)). S.Drops k x (a .0)) more-same (a .1)) (b .1) in
-          cache-same k (m .cache) left left′ _ _ (a .2) (b .2) (λ q i. (to q (i .0), λ z. i .1 (z ∙ sym e))) (λ q i. (from q (i .0), λ z. i .1 (z ∙ e)))
+          cache-same k (m .cache) left left′ _ _ (a .2) (b .2) (λ q i. (to q (i .0), λ z. i .1 (z ∙ sym e)))
+          (λ q i. (from q (i .0), λ z. i .1 (z ∙ e)))
 
       go : Tri (length (s .more)) (suc (placesIn (length (m .cache)))) → left ≡ left′
       go (less h) = few (omega arith)
@@ -209,7 +213,8 @@ module _ (m : Memory) (l : Receive) (f : cacheForm (keyOf (l .own)) (m .cache) �
   authority-one acked a b s t =
       let e = place-one 2 acked (s .p) (t .p) (s .answers) (t .answers) in
       memory-same a b
-      (learns-one k m (placeRecord (t .p)) (a .cache) (b .cache) (subst (λ (p : List ℕ). S.Learns k m (placeRecord p) (a .cache)) e (s .cache)) (t .cache))
+      (learns-one k m (placeRecord (t .p)) (a .cache) (b .cache) (subst (λ (p : List ℕ). S.Learns k m (placeRecord p) (a .cache)) e (s .cache))
+      (t .cache))
       (table-same k (a .waiting) (b .waiting) _ _ (s .table) (t .table) (λ q w. (w .0, λ z. w .1 (z ∙ sym e))) (λ q w. (w .0, λ z. w .1 (z ∙ e))))
 
   ack-one : (acked : ℕ) (n : Bool) (a b : Memory) → S.Ack k m acked n a → S.Ack k m acked n b → a ≡ b
@@ -240,9 +245,6 @@ module _ (m : Memory) (l : Receive) (f : cacheForm (keyOf (l .own)) (m .cache) �
 
 -- ---- the number, and the whole
 
-not-both : {b : Bool} → b ≡ true → b ≡ false → ⊥
-not-both p q = let z : _≡_ {A = ℕ} 0 1 = cc in absurd (omega arith)
-
 number-one : (g h : Gauge) → Meets.MeetsSentences g → Meets.MeetsSentences h → (m : Memory) (c : Call) → Typed c
     → g m c .answer .number ≡ h m c .answer .number
 number-one g h p q m c ty = go (g m c .answer .number) (h m c .answer .number) refl refl
@@ -266,14 +268,14 @@ holds false h = absurd (h refl)
 does-one : (m : Memory) (c : Call) → ((i : ℕ) → ¬ Num.Applies m c i) → (h h′ : Given) → S.Does m c h → S.Does m c h′ → h ≡ h′
 does-one m (receives own cpa major minor id nonce verdict key datagram output) none h h′ s t =
     let l = receive own cpa (m .cache) (m .waiting) major minor id nonce verdict key datagram output in
-    receives-one m l (holds _ (λ e. none 1 (Num.out-of-form refl (λ w. not-both (w .cache) e))))
-    (holds _ (λ e. none 1 (Num.out-of-form refl (λ w. not-both (w .waiting) e)))) h h′ s t
+    receives-one m l (holds _ (λ e. none 1 (Num.out-of-form refl (λ w. both (w .cache) e))))
+    (holds _ (λ e. none 1 (Num.out-of-form refl (λ w. both (w .waiting) e)))) h h′ s t
 does-one m (sends own major minor id neighbour key output) none h h′ s t =
     let l = send own (m .cache) (m .waiting) major minor id neighbour key output in
-    sends-one m l (holds _ (λ e. none 1 (Num.send-out-of-form refl (λ w. not-both (w .cache) e)))) h h′ s t
+    sends-one m l (holds _ (λ e. none 1 (Num.send-out-of-form refl (λ w. both (w .cache) e)))) h h′ s t
 does-one m (ticks own output) none h h′ s t = ticks-one (keyOf own) m output h h′ s t
 does-one m (lists own output) none h h′ s t =
-    lists-one own m output (holds _ (λ e. none 1 (inl (refl, λ w. not-both (w .1) e)))) h h′ s t
+    lists-one own m output (holds _ (λ e. none 1 (inl (refl, λ w. both (w .1) e)))) h h′ s t
 
 pub one-gauge : Meets.OneGauge
 one-gauge g h p q m c ty = go (g m c .answer .number) refl
@@ -283,4 +285,5 @@ one-gauge g h p q m c ty = go (g m c .answer .number) refl
 
     go : (a : ℕ) → g m c .answer .number ≡ a → g m c ≡ h m c
     go zero e = does-one m c (p .table .accepted m c ty .0 e) (g m c) (h m c) (p .does m c ty e) (q .does m c ty (sym n ∙ e))
-    go (suc a) e = p .table .keeps m c (omega arith) ∙ ap (λ (x : ℕ). given (answer x 0 0) m (outputOf c)) n ∙ sym (q .table .keeps m c (omega (arith, n)))
+    go (suc a) e =
+        p .table .keeps m c (omega arith) ∙ ap (λ (x : ℕ). given (answer x 0 0) m (outputOf c)) n ∙ sym (q .table .keeps m c (omega (arith, n)))

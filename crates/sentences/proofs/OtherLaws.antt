@@ -10,6 +10,7 @@ use lib.ListN.{length, getD}
 use borrow.Author.Tests.{eq-eqb, eqb-true, eqb-false, lt-ltb, ltb-true, not-true}
 use Rattle.octet.proofs.TestLaws.{both-true}
 use Rattle.key.specs.Number.{keyAt}
+use Rattle.refusal.proofs.TableLaws.{both}
 use Rattle.record.specs.Record.{keyOf, recordForm}
 use Rattle.record.proofs.EntryLaws.{form-length, few-addresses}
 use Rattle.table.specs.Rows.{joined}
@@ -40,7 +41,7 @@ use Rattle.sentences.specs.Words.{Memory, memory, ticks, lists}
 use Rattle.sentences.specs.Sentences as S
 use Rattle.sentences.specs.Numbers as Num
 use Rattle.sentences.proofs.OneLaws.{named-one}
-use Rattle.sentences.proofs.MoveLaws.{clash, holds-not, any-in, in-any, none-in, found-in, seek-some, seek-none}
+use Rattle.sentences.proofs.MoveLaws.{holds-not, any-in, in-any, none-in, found-in, seek-some, seek-none}
 use Rattle.sentences.proofs.WordLaws.{not-iff}
 use Rattle.sentences.proofs.DoesLaws.{sentBy, named-by}
 use Rattle.sentences.proofs.SaidLaws.{no-room-by}
@@ -57,7 +58,7 @@ tick-agree own output m n low = (to, from)
     to (inr w) = inr (inl (w .0, lt-ltb (length output) 64 (w .1)))
 
     from : Row n (W.tickRefusals own (m .waiting) output) → Num.Applies m (ticks own output) n
-    from (inl w) = inl (w .0, λ v. clash (rw (v .0, v .1) refl) (not-true (recordForm own && waitingForm (keyOf own) (m .waiting)) (w .1)))
+    from (inl w) = inl (w .0, λ v. both (rw (v .0, v .1) refl) (not-true (recordForm own && waitingForm (keyOf own) (m .waiting)) (w .1)))
     from (inr (inl w)) = inr (w .0, ltb-true (length output) 64 (w .1))
     from (inr (inr w)) = absurd w
 
@@ -74,8 +75,8 @@ list-agree own output m n low = (to, from)
     to (inr w) = inr (inr (inl (w .0, lt-ltb (length output) 320 (w .1))))
 
     from : Row n (listWrong own (m .cache) output) → Num.Applies m (lists own output) n
-    from (inl w) = inl (w .0, λ v. clash (v .0) (not-true (recordForm own) (w .1)))
-    from (inr (inl w)) = inl (w .0, λ v. clash (v .1) (not-true (cacheForm (keyOf own) (m .cache)) (w .1)))
+    from (inl w) = inl (w .0, λ v. both (v .0) (not-true (recordForm own) (w .1)))
+    from (inr (inl w)) = inl (w .0, λ v. both (v .1) (not-true (cacheForm (keyOf own) (m .cache)) (w .1)))
     from (inr (inr (inl w))) = inr (w .0, ltb-true (length output) 320 (w .1))
     from (inr (inr (inr w))) = absurd w
 
@@ -129,13 +130,13 @@ module _ (l : Send) where
     where
       go : Test (tablesFit (l .own) (l .cache) (l .waiting)) → Test (keysFit (l .neighbour) (l .key)) → Num.SendLent l
       go (pass e) (pass d) = fit-lent e d
-      go (fail e) d = absurd (h (Num.send-out-of-form refl (λ w. clash (lent-tables w) e)))
-      go (pass e) (fail d) = absurd (h (Num.send-out-of-form refl (λ w. clash (lent-keys w) d)))
+      go (fail e) d = absurd (h (Num.send-out-of-form refl (λ w. both (lent-tables w) e)))
+      go (pass e) (fail d) = absurd (h (Num.send-out-of-form refl (λ w. both (lent-keys w) d)))
 
   held-to : (u : ℕ) → isNothing (heldAt u recs) ≡ true → ¬ ((r : List ℕ) × S.Holds k lent r × (keyOf r ≡ u))
   held-to u e w =
       let t : List ℕ → Bool = λ (q : List ℕ). eqb (keyOf q) u in
-      clash (eq-eqb (keyOf (w .0)) u (w .2)) (none-in t recs (seek-none t recs e) (w .0) (w .1))
+      both (eq-eqb (keyOf (w .0)) u (w .2)) (none-in t recs (seek-none t recs e) (w .0) (w .1))
 
   held-some : (u : ℕ) → isNothing (heldAt u recs) ≡ false → (r : List ℕ) × S.Holds k lent r × (keyOf r ≡ u)
   held-some u e =
@@ -187,7 +188,8 @@ module _ (l : Send) where
         let whole = whole-record r fine in
         ap length (joined-one (S.written floodKinds (floodSent (l .major) (l .minor) (l .id) (l .neighbour) r)))
         ∙ ap (λ (y : List ℕ). length (S.written floodKinds (floodSent (l .major) (l .minor) (l .id) (l .neighbour) y))) (sym whole)
-        ∙ flood-length (l .major) (l .minor) (l .id) r 0 (omega (arith, form-length r fine)) (ap recordForm whole ∙ fine) (l .neighbour) (g .neighbour)
+        ∙ flood-length (l .major) (l .minor) (l .id) r 0 (omega (arith, form-length r fine)) (ap recordForm whole ∙ fine) (l .neighbour)
+        (g .neighbour)
         ∙ ap floodRoom whole
 
   module _ (n : ℕ) (low : (i : ℕ) → i < n → ¬ A i) where
@@ -224,8 +226,8 @@ module _ (l : Send) where
         inr (inr (inr (inr (inr (inr (inl (e, lt-ltb (length (l .output)) (floodRoom r) (omega (arith, room g bar)))))))))
 
     from : Row n (tableOf (G.sends l)) → A n
-    from (inl w) = Num.send-out-of-form (w .0) (λ v. clash (lent-tables v) (not-true _ (w .1)))
-    from (inr (inl w)) = Num.send-out-of-form (w .0) (λ v. clash (lent-keys v) (not-true _ (w .1)))
+    from (inl w) = Num.send-out-of-form (w .0) (λ v. both (lent-tables v) (not-true _ (w .1)))
+    from (inr (inl w)) = Num.send-out-of-form (w .0) (λ v. both (lent-keys v) (not-true _ (w .1)))
     from (inr (inr (inl w))) = Num.not-neighbour (w .0) (held-to (keyAt 0 (l .neighbour)) (w .1))
     from (inr (inr (inr (inl w)))) = Num.not-named (w .0) (named-to (w .1))
     from (inr (inr (inr (inr (inl w))))) =

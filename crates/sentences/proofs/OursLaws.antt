@@ -1,5 +1,5 @@
--- What holds of every call of our gauge, from the laws of gauge_laws: which number, by the code's own tables; what a refusal keeps; which bytes of the output
--- change; the form of memory. Assumes nothing.
+-- What holds of every call of our gauge, from the laws of gauge_laws: which number, by the code's own tables; what a refusal keeps; which bytes
+-- of the output change; the form of memory. Assumes nothing.
 use mathlib.Core.Path.{_≡_, refl, sym, ap, subst, _∙_}
 use mathlib.Core.Bool.{true, false}
 use mathlib.Core.Logic.{_↔_}
@@ -65,7 +65,8 @@ ours-first m (ticks own output) = first-bytes (lent m (ticks own output))
 ours-first m (lists own output) = first-bytes (lent m (lists own output))
 
 -- an accepted call that is lent the cache leaves it in form too; a refused one leaves all
-accepted-form : (m : Memory) (c : Call) → Typed c → InForm (keyOf (ownOf c)) m → ours m c .answer .number ≡ 0 → InForm (keyOf (ownOf c)) (ours m c .memory)
+accepted-form : (m : Memory) (c : Call) → Typed c → InForm (keyOf (ownOf c)) m → ours m c .answer .number ≡ 0
+    → InForm (keyOf (ownOf c)) (ours m c .memory)
 unfolding ours
 accepted-form m (receives own cpa major minor id nonce verdict key datagram output) i f z =
     let h = form-kept (lent m (receives own cpa major minor id nonce verdict key datagram output)) (i .1) z in (h .0, h .1 .0)

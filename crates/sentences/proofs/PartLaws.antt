@@ -11,6 +11,7 @@ use borrow.Author.Tests.{eq-eqb, ne-eqb, eqb-true, eqb-false, not-true}
 use Rattle.octet.specs.Part.{part}
 use Rattle.octet.proofs.PartLaws.{length-part}
 use Rattle.octet.proofs.TestLaws.{both-true}
+use Rattle.refusal.proofs.TableLaws.{both}
 use Rattle.wire_fields.specs.Field.{numberAt}
 use Rattle.wire_fields.specs.Shapes.{hasShape, splitForm}
 use Rattle.wire_fields.specs.Reading.{spanAt, needOf, needAt, wholeIn}
@@ -27,7 +28,6 @@ use Rattle.wire_fields.specs.declared.Need.the-variants.{Field, Missing}
 use Rattle.wire_fields.proofs.SpanLaws.{span-whole, span-fits, span-length}
 use Rattle.wire_fields.proofs.RefusalLaws.{split-four, sized-four}
 use Rattle.sentences.specs.Numbers.{InPart}
-use Rattle.sentences.proofs.MoveLaws.{clash}
 
 -- a field that must be there, found
 record Found (d : List ℕ) (i n : ℕ) (shape : Shape) (s l : ℕ) (c : Cursor) : Type 0 where
@@ -61,8 +61,8 @@ record Four (d : List ℕ) (i n s l : ℕ) (c : Cursor) : Type 0 where
   long : l ≡ 4
   goes : c .at ≡ i + 8
 
-found-four : (d : List ℕ) (i n : ℕ) (shape : Shape) (s l : ℕ) (c : Cursor) → ((v : List ℕ) → hasShape shape v ≡ true → length v ≡ 4) → Found d i n shape s l c
-    → Four d i n s l c
+found-four : (d : List ℕ) (i n : ℕ) (shape : Shape) (s l : ℕ) (c : Cursor) → ((v : List ℕ) → hasShape shape v ≡ true → length v ≡ 4)
+    → Found d i n shape s l c → Four d i n s l c
 found-four d i n shape s l c four f =
     let w = span-fits d i n false s l c (f .span) in
     let e : l ≡ 4 = sym (span-length d i n false s l c (f .span)) ∙ four (part s l d) (f .shaped) in
@@ -121,15 +121,15 @@ module _ (d : List ℕ) where
             acked = (f .number, f .length-is);
             split = (v .number, v .length-is);
             allowed = sym (split-shape (part 24 4 d)) ∙ ap₂ (λ (x y : ℕ). hasShape Split (part x y d)) (sym (v .starts)) (sym (v .long)) ∙ g .shaped;
-            not-whole = λ y. clash (whole-is (s′) (l′) (v .starts) (v .long) y) (not-true (wholeIn d (Here s′ l′)) h);
+            not-whole = λ y. both (whole-is (s′) (l′) (v .starts) (v .long) y) (not-true (wholeIn d (Here s′ l′)) h);
           }
-      split s l c f Missing q h = clash h refl
+      split s l c f Missing q h = both h refl
 
       acked : (x : Need) → needAt d 12 0x18 false (Sized 4) ≡ x → partByAcked d x ≡ true → InPart d
       acked (Field s l c) q h =
           let v = found-four d 12 0x18 (Sized 4) s l c sized-four (need-found d 12 0x18 (Sized 4) s l c q) in
           split s l c v (needAt d 20 0x98 false Split) refl (subst (λ (n : ℕ). partBySplit d (needAt d n 0x98 false Split) ≡ true) (v .goes) h)
-      acked Missing q h = clash h refl
+      acked Missing q h = both h refl
 
   four-sized : 28 ≤ length d → hasShape (Sized 4) (part 16 4 d) ≡ true
   unfolding hasShape

@@ -65,7 +65,8 @@ module _ (l : Receive) where
 
     pub message-fails : AllFail (messageRows l (R.answer (l .datagram) (l .major)))
     message-fails =
-        fails-behind (fields.refusals (l .datagram) (l .major)) (messageRows l (R.answer (l .datagram) (l .major))) (none-applies (G.receives l) z .1 .1)
+        fails-behind (fields.refusals (l .datagram) (l .major)) (messageRows l (R.answer (l .datagram) (l .major)))
+        (none-applies (G.receives l) z .1 .1)
 
     pub plan-is : receivePlan l ≡ planFor l held used (R.answer (l .datagram) (l .major))
     unfolding memoryOf

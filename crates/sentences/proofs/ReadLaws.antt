@@ -13,7 +13,7 @@ use Rattle.octet.specs.Number.{Bytes}
 use Rattle.octet.specs.Part.{part, same}
 use Rattle.octet.proofs.TestLaws.{both-true, same-refl}
 use Rattle.refusal.specs.Table.{Refusal, firstOf, InOrder, byNumber}
-use Rattle.refusal.proofs.TableLaws.{AllFail, all-fail}
+use Rattle.refusal.proofs.TableLaws.{AllFail, all-fail, both}
 use Rattle.refusal.proofs.CallLaws.{number-is, all-pass}
 use Rattle.kept.proofs.ListLaws.{Test, pass, fail, test}
 use Rattle.wire_fields.specs.Kinds.{kindsOf, present}
@@ -29,7 +29,7 @@ use Rattle.gauge_laws.specs.Table.{messageRows}
 use Rattle.gauge_laws.proofs.TableLaws.{IsMessage, shown-message}
 use Rattle.sentences.specs.Heard.{Heard}
 use Rattle.sentences.specs.Numbers as Num
-use Rattle.sentences.proofs.MoveLaws.{clash, holds-not}
+use Rattle.sentences.proofs.MoveLaws.{holds-not}
 use Rattle.sentences.proofs.HeardLaws.{heardBy, answer-hears, hears-answer}
 use Rattle.sentences.proofs.WordLaws.{not-iff, message-zero}
 use Rattle.sentences.proofs.PartLaws.{part-to, part-from}
@@ -71,7 +71,8 @@ module _ (l : Receive) where
   read-number =
       number-is (λ (f : fields.Found). numberOf (R.shown d f)) fields.refused (λ m. refl)
       (fields.found (typeOf d) (fields.placesOf (fieldsIn d)))
-      (message-zero (R.shown d (fields.found (typeOf d) (fields.placesOf (fieldsIn d)))) (shown-message d (typeOf d) (fields.placesOf (fieldsIn d)))) rs
+      (message-zero (R.shown d (fields.found (typeOf d) (fields.placesOf (fieldsIn d))))
+      (shown-message d (typeOf d) (fields.placesOf (fieldsIn d)))) rs
 
   fails-first : (ts : List Refusal) → AllFail ts → firstOf ts ≡ 0
   unfolding firstOf
@@ -87,7 +88,8 @@ module _ (l : Receive) where
   pub fails-message : AllFail rs → IsMessage a
   unfolding fields.foundIn
   fails-message f =
-      subst (λ (y : fields.Found). IsMessage (R.shown d y)) (sym (all-pass fields.refused rs (fields.found (typeOf d) (fields.placesOf (fieldsIn d))) f))
+      subst (λ (y : fields.Found). IsMessage (R.shown d y))
+      (sym (all-pass fields.refused rs (fields.found (typeOf d) (fields.placesOf (fieldsIn d))) f))
       (shown-message d (typeOf d) (fields.placesOf (fieldsIn d)))
 
   pub rows-message : (n : ℕ) (y : T.Answer) → Row n (messageRows l y) → IsMessage y
@@ -116,15 +118,16 @@ module _ (l : Receive) where
 
   unknown : {B : Type 0} (o : Option B) → not (present o) ≡ true → o ≡ none
   unknown none e = refl
-  unknown (some v) e = clash e refl
+  unknown (some v) e = both e refl
 
   module _ (bytes : Bytes (l .datagram)) (n : ℕ) (low : Lowest l n) where
     -- nothing below 6 applies and the fields are there: a message is read
     all-read : 5 < n → inPart (typeOf d) d ≡ false → present (fieldsIn d) ≡ true → AllFail rs
     all-read h p t = (
-      holds-not (not (leb 12 (length d) && leb (length d) 1232)) (λ e. low 2 (omega arith) (Num.wrong-length refl (λ w. clash (long-is w) (not-true _ e)))),
+      holds-not (not (leb 12 (length d) && leb (length d) 1232))
+          (λ e. low 2 (omega arith) (Num.wrong-length refl (λ w. both (long-is w) (not-true _ e)))),
       (
-        holds-not (not (same (part 0 5 d) opening)) (λ e. low 3 (omega arith) (Num.not-opened refl (λ w. clash (opened-is w) (not-true _ e)))),
+        holds-not (not (same (part 0 5 d) opening)) (λ e. low 3 (omega arith) (Num.not-opened refl (λ w. both (opened-is w) (not-true _ e)))),
         (
           holds-not (not (eqb (getD d 5 0) (l .major))) (λ e. low 4 (omega arith) (Num.not-major refl (not-iff (getD d 5 0) (l .major) .0 e))),
           (
@@ -147,13 +150,13 @@ module _ (l : Receive) where
         go (fail t) = inr (inr (inr (inr (inl (e, rw (p, t) refl)))))
 
     pub row-read : Row n rs → Clause l n
-    row-read (inl w) = Num.wrong-length (w .0) (λ v. clash (long-is v) (not-true _ (w .1)))
-    row-read (inr (inl w)) = Num.not-opened (w .0) (λ v. clash (opened-is v) (not-true _ (w .1)))
+    row-read (inl w) = Num.wrong-length (w .0) (λ v. both (long-is v) (not-true _ (w .1)))
+    row-read (inr (inl w)) = Num.not-opened (w .0) (λ v. both (opened-is v) (not-true _ (w .1)))
     row-read (inr (inr (inl w))) = Num.not-major (w .0) (not-iff (getD d 5 0) (l .major) .0 (w .1))
     row-read (inr (inr (inr (inl w)))) = Num.not-known (w .0) (unknown (kindsOf (typeOf d)) (w .1))
     row-read (inr (inr (inr (inr (inl w))))) =
         let v = both-true (not (inPart (typeOf d) d)) (not (present (fieldsIn d))) (w .1) in
-        Num.not-read (w .0) (λ y. clash (part-from d y) (not-true _ (v .0)))
-        (λ x. clash (w .1) (zero-fails (hears-answer d bytes (l .major) (x .0) (x .1) .0) .1 .1 .1 .1 .0))
+        Num.not-read (w .0) (λ y. both (part-from d y) (not-true _ (v .0)))
+        (λ x. both (w .1) (zero-fails (hears-answer d bytes (l .major) (x .0) (x .1) .0) .1 .1 .1 .1 .0))
     row-read (inr (inr (inr (inr (inr (inl w)))))) = Num.in-part (w .0) (part-to d (w .1))
     row-read (inr (inr (inr (inr (inr (inr w)))))) = absurd w

@@ -1,7 +1,7 @@
 -- Ours does what the sentences say of a datagram received, message by message. Assumes nothing.
 use mathlib.Core.Path.{_≡_, refl, sym, subst}
 use Rattle.octet.specs.Number.{Bytes}
-use Rattle.refusal.proofs.TableLaws.{AllFail}
+use Rattle.refusal.proofs.TableLaws.{AllFail, both}
 use Rattle.cache.specs.Form.{heldOf}
 use Rattle.wire_read.specs.Answers as R
 use Rattle.wire_read.specs.declared.Answer as T
@@ -16,7 +16,6 @@ use Rattle.gauge_laws.specs.Table.{messageRows}
 use Rattle.gauge_laws.proofs.TableLaws.{IsMessage}
 use Rattle.sentences.specs.Ours.{asGiven}
 use Rattle.sentences.specs.Sentences as S
-use Rattle.sentences.proofs.MoveLaws.{clash}
 use Rattle.sentences.proofs.HeardLaws.{heardBy, answer-hears}
 use Rattle.sentences.proofs.WordLaws.{lent, message-zero}
 use Rattle.sentences.proofs.PlanLaws.{held, used, Fine, Does, fine, message-fails, plan-is, is-message, passed}
@@ -28,9 +27,9 @@ module _ (l : Receive) where
       → Does l (heardBy (l .datagram) a) (planFor l (held l) (used l) a)
   unfolding planFor authorityPlan ackPlan inquirePlan lookupPlan heldOf
   any-does ok (M.Refused n) i w bars = absurd i
-  any-does ok (M.Solicit head route nonce) i w bars = clash refl (bars .0)
-  any-does ok (M.Advertise head acked keys nonce) i w bars = clash refl (bars .0)
-  any-does ok (M.Request head flags split nonce keys credential signature key) i w bars = clash refl (bars .0)
+  any-does ok (M.Solicit head route nonce) i w bars = both refl (bars .0)
+  any-does ok (M.Advertise head acked keys nonce) i w bars = both refl (bars .0)
+  any-does ok (M.Request head flags split nonce keys credential signature key) i w bars = both refl (bars .0)
   any-does ok (M.Flood head s validate token revokes route reached) i w bars = flood-does l ok head s validate route (w .1) bars
   any-does ok (M.Inquire head a x c validate nonce credential signature key) i w bars = passed l _ _ _ bars (inquire-does l ok (head .id) validate)
   any-does ok (M.Authority head acked fields) i w bars = passed l _ _ _ bars (authority-does l ok acked (R.isHere (fields .cpa)) (bars .0))

@@ -1,4 +1,5 @@
--- What refuses a datagram received: memory lent (1), what was heard (7 to 14) and the room that the answer needs (15), in the clauses' words. Assumes nothing.
+-- What refuses a datagram received: memory lent (1), what was heard (7 to 14) and the room that the answer needs (15), in the clauses' words.
+-- Assumes nothing.
 use mathlib.Core.Path.{_≡_, refl, ap, subst}
 use mathlib.Core.Logic.{_⊎_, inl, inr}
 use mathlib.Core.Bool.{Bool, true, false}
@@ -11,6 +12,7 @@ use borrow.Author.Tests.{eq-eqb, lt-ltb, ltb-true, le-leb}
 use Rattle.key.specs.Number.{keyAt}
 use Rattle.record.specs.Record.{keyOf, recordForm}
 use Rattle.refusal.specs.Table.{Refusal}
+use Rattle.refusal.proofs.TableLaws.{both}
 use Rattle.table.specs.Rows.{joined}
 use Rattle.kept.specs.Keys.{_∈_}
 use Rattle.kept.proofs.ListLaws.{Test, pass, fail, test}
@@ -27,7 +29,6 @@ use Rattle.sentences.specs.Sentences as S
 use Rattle.sentences.specs.Numbers as Num
 use Rattle.sentences.proofs.OneLaws.{reply-one}
 use Rattle.sentences.proofs.WordLaws.{lent}
-use Rattle.sentences.proofs.MoveLaws.{clash}
 use Rattle.sentences.proofs.FirstLaws.{Row}
 
 -- 7 to 14, by what was heard
@@ -114,8 +115,8 @@ module _ (l : Receive) where
     where
       go : Test (tablesFit (l .own) (l .cache) (l .waiting)) → Test (handsFit (l .cpa) (l .nonce) (l .key)) → Num.ReceiveLent l
       go (pass e) (pass d) = fit-lent e d
-      go (fail e) d = absurd (h (Num.out-of-form refl (λ w. clash (lent-tables w) e)))
-      go (pass e) (fail d) = absurd (h (Num.out-of-form refl (λ w. clash (lent-hands w) d)))
+      go (fail e) d = absurd (h (Num.out-of-form refl (λ w. both (lent-tables w) e)))
+      go (pass e) (fail d) = absurd (h (Num.out-of-form refl (λ w. both (lent-hands w) d)))
 
   -- ---- 15
 

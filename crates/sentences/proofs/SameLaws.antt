@@ -1,5 +1,5 @@
--- Two datagrams that say the same are taken alike. In this order: what was heard was read; each clause and each sentence, moved from one datagram to the other;
--- the number; the whole. Assumes nothing.
+-- Two datagrams that say the same are taken alike. In this order: what was heard was read; each clause and each sentence, moved from one datagram
+-- to the other; the number; the whole. Assumes nothing.
 use mathlib.Core.Path.{_≡_, refl, sym, ap, subst, _∙_}
 use mathlib.Core.Bool.{Bool, true, false, not}
 use mathlib.Core.List.{List}
@@ -14,7 +14,7 @@ use Rattle.octet.specs.Number.{Bytes}
 use Rattle.octet.specs.Part.{part, same}
 use Rattle.octet.proofs.TestLaws.{both-true, same-eq}
 use Rattle.refusal.specs.Table.{firstOf, byNumber}
-use Rattle.refusal.proofs.TableLaws.{AllFail, all-fail}
+use Rattle.refusal.proofs.TableLaws.{AllFail, all-fail, both}
 use Rattle.refusal.proofs.CallLaws.{number-is}
 use Rattle.kept.proofs.PutLaws.{Tri, less, more, tri}
 use Rattle.kept.proofs.PutLaws as put
@@ -35,7 +35,6 @@ use Rattle.sentences.specs.Numbers as Num
 use Rattle.sentences.specs.Meets.{MeetsSentences}
 use Rattle.sentences.specs.Same.{SameHeard}
 use Rattle.sentences.proofs.OneLaws.{hears-one, receives-one, holds}
-use Rattle.sentences.proofs.MoveLaws.{clash}
 use Rattle.sentences.proofs.HeardLaws.{hears-answer}
 use Rattle.sentences.proofs.WordLaws.{message-zero}
 use Rattle.sentences.proofs.PartLaws.{part-from}
@@ -130,7 +129,7 @@ module _ (m : Memory) (own cpa : List ℕ) (major minor id : ℕ) (nonce : List 
       (leb-true 12 (length d) (w .0), leb-true (length d) 1232 (w .1))
 
   is-known : kindsOf (typeOf d) ≡ none → ⊥
-  is-known e = clash (ap (λ (o : Option (List Kind)). not (present o)) e) (fails .1 .1 .1 .0)
+  is-known e = both (ap (λ (o : Option (List Kind)). not (present o)) e) (fails .1 .1 .1 .0)
 
   applies-too : (n : ℕ) → Num.ReceiveApplies m l n → Num.ReceiveApplies m l′ n
   applies-too n (Num.out-of-form e h) = Num.out-of-form e (λ w. h (lent-back w))
@@ -140,7 +139,7 @@ module _ (m : Memory) (own cpa : List ℕ) (major minor id : ℕ) (nonce : List 
   applies-too n (Num.not-known e h) = absurd (is-known h)
   applies-too n (Num.not-read e p h) = absurd (h (x, a))
   applies-too n (Num.not-taken e says) = Num.not-taken e (heard-too other says)
-  applies-too n (Num.in-part e p) = clash (part-from d p) (fails .1 .1 .1 .1 .1 .0)
+  applies-too n (Num.in-part e p) = both (part-from d p) (fails .1 .1 .1 .1 .1 .0)
   applies-too n (Num.no-flood e acked y says h) = Num.no-flood e acked y (heard-too _ says) h
   applies-too n (Num.no-inquiry e acked c says h) = Num.no-inquiry e acked c (heard-too _ says) h
   applies-too n (Num.no-cpa e acked says) = Num.no-cpa e acked (heard-too _ says)
@@ -177,8 +176,8 @@ module _ (A B : ℕ → Type 0) (to : (n : ℕ) → A n → B n) (from : (n : �
 
 -- ---- the whole
 
-module _ (g : Gauge) (p : MeetsSentences g) (m : Memory) (own cpa : List ℕ) (major minor id : ℕ) (nonce : List ℕ) (verdict : ℕ) (key output d d′ : List ℕ)
-    (small : id < 2 ^ 32) (b : Bytes d) (b′ : Bytes d′) (x : Heard) (a : Hears d major x) (a′ : Hears d′ major x) where
+module _ (g : Gauge) (p : MeetsSentences g) (m : Memory) (own cpa : List ℕ) (major minor id : ℕ) (nonce : List ℕ) (verdict : ℕ)
+    (key output d d′ : List ℕ) (small : id < 2 ^ 32) (b : Bytes d) (b′ : Bytes d′) (x : Heard) (a : Hears d major x) (a′ : Hears d′ major x) where
   abbrev c : Call
   c = receives own cpa major minor id nonce verdict key d output
 
@@ -190,17 +189,21 @@ module _ (g : Gauge) (p : MeetsSentences g) (m : Memory) (own cpa : List ℕ) (m
       numbers-same (Num.Applies m c) (Num.Applies m c′)
       (applies-too m own cpa major minor id nonce verdict key output d d′ b x a a′)
       (applies-too m own cpa major minor id nonce verdict key output d′ d b′ x a′ a)
-      (g m c .answer .number) (g m c′ .answer .number) (p .table .number m c (b, small)) (p .table .accepted m c (b, small)) (p .table .number m c′ (b′, small)) (p .table .accepted m c′ (b′, small))
+      (g m c .answer .number) (g m c′ .answer .number) (p .table .number m c (b, small)) (p .table .accepted m c (b, small))
+      (p .table .number m c′ (b′, small)) (p .table .accepted m c′ (b′, small))
 
   whole-same : (n : ℕ) → g m c .answer .number ≡ n → g m c ≡ g m c′
   whole-same zero e =
       let none = p .table .accepted m c′ (b′, small) .0 (sym number-same ∙ e) in
       receives-one m (receive own cpa (m .cache) (m .waiting) major minor id nonce verdict key d′ output)
-      (holds _ (λ f. none 1 (Num.out-of-form refl (λ w. clash (w .cache) f)))) (holds _ (λ f. none 1 (Num.out-of-form refl (λ w. clash (w .waiting) f))))
+      (holds _ (λ f. none 1 (Num.out-of-form refl (λ w. both (w .cache) f))))
+      (holds _ (λ f. none 1 (Num.out-of-form refl (λ w. both (w .waiting) f))))
       (g m c) (g m c′)
-      (does-too m own cpa major minor id nonce verdict key output d d′ b x a a′ (g m c) (p .does m c (b, small) e)) (p .does m c′ (b′, small) (sym number-same ∙ e))
+      (does-too m own cpa major minor id nonce verdict key output d d′ b x a a′ (g m c) (p .does m c (b, small) e))
+      (p .does m c′ (b′, small) (sym number-same ∙ e))
   whole-same (suc n) e =
-      p .table .keeps m c (omega arith) ∙ ap (λ (k : ℕ). given (answer k 0 0) m output) number-same ∙ sym (p .table .keeps m c′ (omega (arith, number-same)))
+      p .table .keeps m c (omega arith) ∙ ap (λ (k : ℕ). given (answer k 0 0) m output) number-same
+      ∙ sym (p .table .keeps m c′ (omega (arith, number-same)))
 
 pub same-heard : SameHeard
 same-heard g p m own cpa major minor id nonce verdict key output d d′ small b b′ x a a′ =

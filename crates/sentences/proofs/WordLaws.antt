@@ -9,6 +9,7 @@ use lib.ListN.{getD}
 use borrow.Author.Tests.{eq-eqb, ne-eqb, eqb-true}
 use Rattle.octet.specs.Part.{same}
 use Rattle.octet.proofs.TestLaws.{both-true, same-refl, same-eq}
+use Rattle.refusal.proofs.TableLaws.{both}
 use Rattle.record.specs.Record.{keyOf}
 use Rattle.kept.specs.Keys.{_∈_}
 use Rattle.cache.specs.Form.{heldOf}
@@ -25,7 +26,7 @@ use Rattle.gauge.specs.Lent.{Receive}
 use Rattle.gauge_laws.proofs.TableLaws.{IsMessage}
 use Rattle.sentences.specs.Words.{Memory, memory}
 use Rattle.sentences.specs.Sentences as S
-use Rattle.sentences.proofs.MoveLaws.{clash, holds-not, none-in, in-none, found-in, seek-some, seek-none, is-inquiry, inquiry-is}
+use Rattle.sentences.proofs.MoveLaws.{holds-not, none-in, in-none, found-in, seek-some, seek-none, is-inquiry, inquiry-is}
 
 -- memory as lent
 abbrev pub lent : Receive → Memory
@@ -34,7 +35,7 @@ lent l = memory (l .cache) (l .waiting)
 -- ---- tests and what they say
 
 pub not-iff : (a b : ℕ) → (not (eqb a b) ≡ true) ↔ (¬ (a ≡ b))
-not-iff a b = (λ e d. clash (sym (ap not (eq-eqb a b d)) ∙ e) refl, λ h. ap not (ne-eqb a b h))
+not-iff a b = (λ e d. both (sym (ap not (eq-eqb a b d)) ∙ e) refl, λ h. ap not (ne-eqb a b h))
 
 -- no inquiry for its key waits, by the test
 pub none-asked : (k : ℕ) (m : Memory) (r : List ℕ) → S.MustAsk k m r → anyOf (isInquiry (keyOf r)) (placesOf (m .waiting)) ≡ false
@@ -44,24 +45,26 @@ none-asked k m r h =
 -- whether the record must be inquired about
 ask-by : (x y : Bool) → not x && not y ≡ true → (x ≡ false) × (y ≡ false)
 ask-by false false e = (refl, refl)
-ask-by false true e = clash e refl
-ask-by true y e = clash e refl
+ask-by false true e = both e refl
+ask-by true y e = both e refl
 
 pub must-iff : (k : ℕ) (m : Memory) (r : List ℕ) → (mustAsk (heldOf k (m .cache)) (placesOf (m .waiting)) r ≡ true) ↔ S.MustAsk k m r
 unfolding mustAsk
 must-iff k m r = (to, from)
   where
-    to : not (anyOf (λ (q : List ℕ). same q r) (heldOf k (m .cache))) && not (anyOf (isInquiry (keyOf r)) (placesOf (m .waiting))) ≡ true → S.MustAsk k m r
+    to : not (anyOf (λ (q : List ℕ). same q r) (heldOf k (m .cache))) && not (anyOf (isInquiry (keyOf r)) (placesOf (m .waiting))) ≡ true
+        → S.MustAsk k m r
     to e =
         let w = ask-by _ _ e in (
-          λ h. clash (same-refl r) (none-in (λ (q : List ℕ). same q r) (heldOf k (m .cache)) (w .0) r h),
-          λ p. clash (is-inquiry (keyOf r) (p .0) (p .2)) (none-in (isInquiry (keyOf r)) (placesOf (m .waiting)) (w .1) (p .0) (p .1)),
+          λ h. both (same-refl r) (none-in (λ (q : List ℕ). same q r) (heldOf k (m .cache)) (w .0) r h),
+          λ p. both (is-inquiry (keyOf r) (p .0) (p .2)) (none-in (isInquiry (keyOf r)) (placesOf (m .waiting)) (w .1) (p .0) (p .1)),
         )
 
     not-held : S.MustAsk k m r → (q : List ℕ) → q ∈ heldOf k (m .cache) → same q r ≡ false
     not-held h q i = holds-not (same q r) (λ e. h .0 (subst (λ (x : List ℕ). x ∈ heldOf k (m .cache)) (same-eq q r e) i))
 
-    from : S.MustAsk k m r → not (anyOf (λ (q : List ℕ). same q r) (heldOf k (m .cache))) && not (anyOf (isInquiry (keyOf r)) (placesOf (m .waiting))) ≡ true
+    from : S.MustAsk k m r → not (anyOf (λ (q : List ℕ). same q r) (heldOf k (m .cache)))
+        && not (anyOf (isInquiry (keyOf r)) (placesOf (m .waiting))) ≡ true
     from h = rw (in-none (λ (q : List ℕ). same q r) (heldOf k (m .cache)) (not-held h), none-asked k m r h) refl
 
 -- ---- the place that an AUTHORITY or an ACK answers
@@ -87,7 +90,7 @@ module _ (m : Memory) (kind acked : ℕ) where
   none-iff-not = (to, from)
     where
       to : isNothing found ≡ true → ¬ ((p : List ℕ) × S.WaitsAs m kind acked p)
-      to e w = clash (waits-at (w .0) (w .1)) (none-in (isAt acked kind) ps (seek-none (isAt acked kind) ps e) (w .0) (w .1 .0))
+      to e w = both (waits-at (w .0) (w .1)) (none-in (isAt acked kind) ps (seek-none (isAt acked kind) ps e) (w .0) (w .1 .0))
 
       from : ¬ ((p : List ℕ) × S.WaitsAs m kind acked p) → isNothing found ≡ true
       from h = go (isNothing found) refl

@@ -64,7 +64,8 @@ use Rattle.signed.specs.Answered.{Told, told, toldFrom, inquires, inquir
 use Rattle.signed.proofs.ToldLaws.{happened, log-happened}
 use Rattle.signed.proofs.StepLaws.{moved-all, ran}
 use Rattle.signed.proofs.Theorems.{empty-cache, empty-table, start, typed-calls}
-use Rattle.signed.proofs.InquiryLaws.{Quiet, Floods, Heard, heard, callOf, asked-still, asked-none, asked-other, asked-here, answered-still, answered-one, inquires-is}
+use Rattle.signed.proofs.InquiryLaws.{Quiet, Floods, Heard, heard, callOf, asked-still}
+use Rattle.signed.proofs.InquiryLaws.{asked-none, asked-other, asked-here, answered-still, answered-one, inquires-is}
 
 -- ---- what stands in the tables after an edit
 
@@ -98,7 +99,8 @@ last-there q r rs other e = rw (ne-eqb (keyOf q) (keyOf r) other) e
 module _ (own : ℕ) (cache : List ℕ) (recs : List (List ℕ)) (f : Form own cache recs) (rs : List (List ℕ)) (a : Every (Last rs) recs) where
   last-removed : (k : ℕ) → Every (Last rs) (heldOf own (bytesOf (length cache) (afterRemove k recs)))
   last-removed k =
-      subst (Every (Last rs)) (sym (form-held own (bytesOf (length cache) (afterRemove k recs)) (afterRemove k recs) (removed-form own k cache recs f)))
+      subst (Every (Last rs)) (sym (form-held own (bytesOf (length cache) (afterRemove k recs)) (afterRemove k recs)
+      (removed-form own k cache recs f)))
       (every-by (Last rs) (afterRemove k recs) (λ q m. every-in (Last rs) q recs a (mem-without-by keyOf k q recs m .0)))
 
   last-learnt : (r : List ℕ) → recordForm r ≡ true → NotOwn own (keyOf r)
@@ -145,8 +147,10 @@ module _ (l : Receive) (es : List Told) (u : ℕ) (s n : Bool) (a start len : �
     asks-told = inquires-is (l .major) (l .minor) (l .id) a (l .nonce) Entry (k .hands .nonced) entry-long s n opens
 
   -- the place that opens is that of the INQUIRE, and no other has its ID
-  opened-asked : (k : Flooded l u s n a true start len) → Floods l (R.answer (l .datagram) (l .major)) start len → All (Asked es) (placesOf (l .waiting))
-      → All (Asked (told (callOf l) (Given true) ∷ es)) (placesOf (bytesOf 2240 (opened (inquiryPlace (idAfter (l .id)) Entry) (rows 140 u (l .waiting)))))
+  opened-asked : (k : Flooded l u s n a true start len) → Floods l (R.answer (l .datagram) (l .major)) start len
+      → All (Asked es) (placesOf (l .waiting))
+      → All (Asked (told (callOf l) (Given true) ∷ es))
+      (placesOf (bytesOf 2240 (opened (inquiryPlace (idAfter (l .id)) Entry) (rows 140 u (l .waiting)))))
   opened-asked k f asked =
       let t = l .waiting in
       let own = keyOf (l .own) in
@@ -163,8 +167,8 @@ module _ (l : Receive) (es : List Told) (u : ℕ) (s n : Bool) (a start len : �
       let short = length-take-le 32 Entry (omega arith) in
       let small : i < 2 ^ 32 = mod-lt _ (omega arith) in
       let formed = record-form (part start len (l .datagram)) (k .entry) in
-      let after = open-inquiry own t ps form i Entry (omega (arith, rows-length 140 u t)) small long formed (ne-eqb (keyOf Entry) own (k .plans .other)) new
-      (ask-tells _ _ Entry (sym (k .plans .opens-is)) .1) in
+      let after = open-inquiry own t ps form i Entry (omega (arith, rows-length 140 u t)) small long formed
+      (ne-eqb (keyOf Entry) own (k .plans .other)) new (ask-tells _ _ Entry (sym (k .plans .opens-is)) .1) in
       let here : Asked later p =
       λ kind. ap (λ (j : ℕ). inquired j later) (new-id i 2 2 (part 0 32 Entry) Entry short long small)
       ∙ asked-here l (Given true) es start len f (asks-told true k)
@@ -225,7 +229,8 @@ module _ (l : Receive) (es : List Told) (b : Holds (keyOf (l .own)) es (memory (
     last = last-still (Given l es u s n a start len opens) (q .answers) (l .cache) (b .last);
   }
   plan-holds (Revoke h u s n a) e k q =
-      quiet-holds _ _ q (asked-found (k .ready) (seek (isInquiry (keyAt 0 (l .key))) 0 (rows 140 u (l .waiting)))) (last-without (k .ready) (keyAt 0 (l .key)))
+      quiet-holds _ _ q (asked-found (k .ready) (seek (isInquiry (keyAt 0 (l .key))) 0 (rows 140 u (l .waiting))))
+      (last-without (k .ready) (keyAt 0 (l .key)))
   plan-holds (Learn h u at) e k q =
       let p = getD (rows 140 u (l .waiting)) at [] in
       let r = placeRecord p in
@@ -234,7 +239,8 @@ module _ (l : Receive) (es : List Told) (b : Holds (keyOf (l .own)) es (memory (
       let needs = learn-needs l e in
       let is = record-place u (l .waiting) at (needs .5) in
       let was : inquired (q .acked) es ≡ some r =
-      ap (λ (i : ℕ). inquired i es) (sym (w .id-is)) ∙ all-at (Asked es) at (rows 140 u (l .waiting)) (asked-rows (k .ready)) (w .within) (w .kind-is) in
+      ap (λ (i : ℕ). inquired i es) (sym (w .id-is))
+      ∙ all-at (Asked es) at (rows 140 u (l .waiting)) (asked-rows (k .ready)) (w .within) (w .kind-is) in
       let now = answered-one l g es r (q .answers es ∙ ap thatOf was) refl in
       record {
         asked = asked-later es (told (callOf l) g ∷ es) (asked-still l g es (q .asked)) (placesOf (carried l (Learn h u at) .waiting))
@@ -243,12 +249,14 @@ module _ (l : Receive) (es : List Told) (b : Holds (keyOf (l .own)) es (memory (
             (last-learnt OwnKey (l .cache) (rows 100 h (l .cache)) (k .ready .form) (answered es) (last-rows (k .ready)) r
             (sym (ap recordForm is) ∙ needs .6) (λ o. needs .7 (sym (record-key u (l .waiting) at) ∙ ap keyOf is ∙ o)));
       }
-  plan-holds (Free h u at true) e k q = quiet-holds _ _ q (asked-found (k .ready) (At at)) (last-without (k .ready) (placeKey (getD (rows 140 u (l .waiting)) at [])))
+  plan-holds (Free h u at true) e k q =
+      quiet-holds _ _ q (asked-found (k .ready) (At at)) (last-without (k .ready) (placeKey (getD (rows 140 u (l .waiting)) at [])))
   plan-holds (Free h u at false) e k q = quiet-holds _ _ q (asked-found (k .ready) (At at)) (b .last)
   plan-holds (Certify a) e k q = quiet-holds _ _ q (b .asked) (b .last)
   plan-holds (Show h a target) e k q = quiet-holds _ _ q (b .asked) (b .last)
 
-  receive-holds : receiveCall l .given .number ≡ 0 → Holds OwnKey (told (callOf l) (receiveCall l .given) ∷ es) (memory (receiveCall l .cache) (receiveCall l .waiting))
+  receive-holds : receiveCall l .given .number ≡ 0
+      → Holds OwnKey (told (callOf l) (receiveCall l .given) ∷ es) (memory (receiveCall l .cache) (receiveCall l .waiting))
   unfolding receiveCall
   receive-holds z = plan-holds (receivePlan l) refl (known l) (heard l z)
 
@@ -271,7 +279,8 @@ asked-ticked es p long h kind =
     ap (λ (i : ℕ). inquired i es) (less-id p) ∙ h (sym (less-kind p) ∙ kind) ∙ ap (λ (r : List ℕ). some r) (sym (less-record p))
 
 -- a datagram received
-module _ (k : ℕ) (es : List Told) (l : Receive) (b : Holds k es (memory (l .cache) (l .waiting))) (one : recordForm (l .own) ≡ true → keyOf (l .own) ≡ k) where
+module _ (k : ℕ) (es : List Told) (l : Receive) (b : Holds k es (memory (l .cache) (l .waiting)))
+    (one : recordForm (l .own) ≡ true → keyOf (l .own) ≡ k) where
   receive-step : Holds k (told (callOf l) (receiveCall l .given) ∷ es) (asGiven (receiveCall l) .memory)
   receive-step = go (receiveCall l .given .number) refl
     where
@@ -302,7 +311,8 @@ module _ (k : ℕ) (es : List Told) (m : Memory) (b : Holds k es m) where
         last = subst (λ (cache : List ℕ). Every (Last (answered es)) (heldOf k cache)) (sym (send-cache l)) (b .last);
       }
 
-  tick-step : (own output : List ℕ) (g : Answer) → Holds k (told (ticks own output) g ∷ es) (memory (m .cache) (gaugeTick own (m .waiting) output .waiting))
+  tick-step : (own output : List ℕ) (g : Answer)
+      → Holds k (told (ticks own output) g ∷ es) (memory (m .cache) (gaugeTick own (m .waiting) output .waiting))
   unfolding inquired answered
   tick-step own output g = record { asked = go (gaugeTick own (m .waiting) output .given .number) refl; last = b .last }
     where

@@ -59,12 +59,14 @@ behind l a rs done f t = subst (Told l a) (sym (all-pass Refuse rs done f)) t
 
 module _ (l : Receive) where
   told-flood : (head : Head) (s : Bool) (validate : ℕ) (token revoke entry reached : Part) → AllFail (floodRows l s validate entry)
-      → Told l (M.Flood head s validate token revoke entry reached) (byEntry l (heldIn (keyOf (l .own)) (l .cache)) (usedOf (l .waiting)) head s validate entry)
+      → Told l (M.Flood head s validate token revoke entry reached)
+      (byEntry l (heldIn (keyOf (l .own)) (l .cache)) (usedOf (l .waiting)) head s validate entry)
   unfolding floodPlan revokePlan heldOf
   told-flood head s validate token revoke (Here start len) reached f = behind l _ _ _ f (λ es. refl)
   told-flood head s validate token revoke Absent reached f = behind l _ _ _ f (λ es. refl)
 
-  told-message : (a : T.Answer) → IsMessage a → AllFail (messageRows l a) → Told l a (planFor l (heldIn (keyOf (l .own)) (l .cache)) (usedOf (l .waiting)) a)
+  told-message : (a : T.Answer) → IsMessage a → AllFail (messageRows l a)
+      → Told l a (planFor l (heldIn (keyOf (l .own)) (l .cache)) (usedOf (l .waiting)) a)
   unfolding planFor authorityPlan ackPlan inquirePlan lookupPlan heldOf
   told-message (M.Refused n) m f = m
   told-message (M.Solicit head entry nonce) m f = both refl (f .0)
@@ -85,10 +87,12 @@ module _ (l : Receive) where
   unfolding fields.foundIn
   is-message f =
       let done = fields.found (typeOf (l .datagram)) (fields.placesOf (fields.fieldsIn (l .datagram))) in
-      subst (λ (x : fields.Found). IsMessage (R.shown (l .datagram) x)) (sym (all-pass fields.refused (fields.refusals (l .datagram) (l .major)) done f))
+      subst (λ (x : fields.Found). IsMessage (R.shown (l .datagram) x))
+      (sym (all-pass fields.refused (fields.refusals (l .datagram) (l .major)) done f))
       (shown-message (l .datagram) _ _)
 
-  planned : AllFail (receiveTable l) → receivePlan l ≡ planFor l (heldIn (keyOf (l .own)) (l .cache)) (usedOf (l .waiting)) (R.answer (l .datagram) (l .major))
+  planned : AllFail (receiveTable l)
+      → receivePlan l ≡ planFor l (heldIn (keyOf (l .own)) (l .cache)) (usedOf (l .waiting)) (R.answer (l .datagram) (l .major))
   unfolding receivePlan memoryOf orRefuse
   planned f = rw (not-false (tablesFit (l .own) (l .cache) (l .waiting)) (f .0), not-false (handsFit (l .cpa) (l .nonce) (l .key)) (f .1 .0)) refl
 

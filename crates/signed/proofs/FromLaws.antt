@@ -1,5 +1,5 @@
--- Demand 3 from a saved cache: what holds between two calls (StepLaws) holds at that start too, and learning what is held drops nothing. And what ours has every
--- gauge has that meets the sentences, for it is ours. Assumes nothing.
+-- Demand 3 from a saved cache: what holds between two calls (StepLaws) holds at that start too, and learning what is held drops nothing. And what
+-- ours has every gauge has that meets the sentences, for it is ours. Assumes nothing.
 use mathlib.Core.Path.{_≡_, refl, sym, ap, subst, _∙_}
 use mathlib.Core.Bool.{true}
 use mathlib.Core.List.{List, [], _∷_, _++_, map, append-nil, append-assoc}
@@ -133,7 +133,8 @@ from-empty g meets k C least most calls proper =
       history = r .later;
       happened = r .happened;
       listed = subst (λ (evs : List Event). ListsThese g (left g (empty C) calls) k (kept k C evs)) e (r .listed);
-      among-all = subst (λ (evs : List Event). NoRemoval (drops k) C [] evs → ListsThese g (left g (empty C) calls) k (learnedAll evs)) e (r .among-all);
+      among-all = subst (λ (evs : List Event). NoRemoval (drops k) C [] evs → ListsThese g (left g (empty C) calls) k (learnedAll evs)) e
+          (r .among-all);
     }
 
 -- ---- a gauge that meets the sentences does what ours does
@@ -153,7 +154,8 @@ module _ (g : Gauge) (p : MeetsSentences g) where
 
   lists-same : (m n : Memory) → m ≡ n → (k : ℕ) (keys : List ℕ) → ListsThese ours n k keys → ListsThese g m k keys
   lists-same m n e k keys h own output owned one room =
-      subst (NeighbourList k keys output) (sym (acts g p m (lists own output) tt ∙ ap (λ (x : Memory). ours x (lists own output)) e)) (h own output owned one room)
+      subst (NeighbourList k keys output) (sym (acts g p m (lists own output) tt ∙ ap (λ (x : Memory). ours x (lists own output)) e))
+      (h own output owned one room)
 
 pub restarts : F.Restarts
 restarts g p k C cache form size calls proper =
@@ -171,7 +173,8 @@ pub enough : F.Enough
 enough g p = record {
   demand1 = record {
     table = p .table;
-    first = λ m c ty. subst (λ (h : Given). OnlyFirst (returned c (h .answer)) (outputOf c) (h .output)) (sym (acts g p m c ty)) (meets-demand1 .first m c ty);
+    first = λ m c ty. subst (λ (h : Given). OnlyFirst (returned c (h .answer)) (outputOf c) (h .output)) (sym (acts g p m c ty))
+        (meets-demand1 .first m c ty);
     form = λ m c ty f. subst (λ (h : Given). InForm (keyOf (ownOf c)) (h .memory)) (sym (acts g p m c ty)) (meets-demand1 .form m c ty f);
   };
   demand2 = record {

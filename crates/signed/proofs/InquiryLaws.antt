@@ -103,8 +103,8 @@ module _ (l : Receive) where
   heard-message h u (M.Authority head acked fields) t =
       let ps = rows 140 u (l .waiting) in
       let found = seek (isAt acked 2) 0 ps in
-      behind (M.Authority head acked fields) (authorityRefusals ps (l .verdict) (keyAt 0 (l .key)) acked (R.isHere (fields .cpa))) (Learn h u (placeOf found))
-      (λ f. record {
+      behind (M.Authority head acked fields) (authorityRefusals ps (l .verdict) (keyAt 0 (l .key)) acked (R.isHere (fields .cpa)))
+      (Learn h u (placeOf found)) (λ f. record {
         acked = acked;
         waiting = waits acked 2 (placeOf found) ps (some-found found (f .0));
         asked = λ earlier. refl;

@@ -51,7 +51,8 @@ module _ (own C : ℕ) (cache : List ℕ) (recs : List (List ℕ)) (f : Form own
   is-held : keysOf recs ≡ keys
   is-held = ap keysOf (sym (form-held own cache recs f)) ∙ k .held
 
-  anew-size : (rs : List (List ℕ)) → Form own (bytesOf (length cache) rs) rs → 100 * length rs ≤ length cache → length (bytesOf (length cache) rs) ≡ 100 * C
+  anew-size : (rs : List (List ℕ)) → Form own (bytesOf (length cache) rs) rs → 100 * length rs ≤ length cache
+      → length (bytesOf (length cache) rs) ≡ 100 * C
   anew-size rs g fits = bytes-length 100 (length cache) rs (formed-sized rs (g .held .formed)) fits ∙ k .size
 
   removed-keeps : (j : ℕ) → Keeps own C (after (drops own) C keys (removed j ∷ [])) (bytesOf (length cache) (afterRemove j recs))
@@ -60,7 +61,8 @@ module _ (own C : ℕ) (cache : List ℕ) (recs : List (List ℕ)) (f : Form own
       let g = removed-form own j cache recs f in
       record {
         size = anew-size (afterRemove j recs) g (omega (arith, removed-fewer j recs, form-room own cache recs f));
-        held = ap keysOf (form-held own (bytesOf (length cache) (afterRemove j recs)) (afterRemove j recs) g) ∙ removed-keys j recs ∙ ap (without j) is-held;
+        held = ap keysOf (form-held own (bytesOf (length cache) (afterRemove j recs)) (afterRemove j recs) g) ∙ removed-keys j recs
+            ∙ ap (without j) is-held;
       }
 
   learnt-keeps : (r : List ℕ) → recordForm r ≡ true → NotOwn own (keyOf r)
@@ -102,7 +104,8 @@ module _ (l : Receive) (C : ℕ) (es : List Entry) (keys : List ℕ) (kept : Kee
       needs .7 (sym (record-key u t at) ∙ ap keyOf (record-place u t at (needs .5)) ∙ learnt-key e k ∙ o)
 
   plan-keeps : (p : Plan) → receivePlan l ≡ p → Known l p → Told l (R.answer (l .datagram) (l .major)) p → All (Owed es) (placesOf (l .waiting))
-      → Keeps (keyOf (l .own)) C (after (drops (keyOf (l .own))) C keys (toldBy es (keyAt 0 (l .key)) (heardBy (l .datagram) (R.answer (l .datagram) (l .major))))) (carried l p .cache)
+      → Keeps (keyOf (l .own)) C (after (drops (keyOf (l .own))) C keys
+      (toldBy es (keyAt 0 (l .key)) (heardBy (l .datagram) (R.answer (l .datagram) (l .major))))) (carried l p .cache)
   unfolding carried
   plan-keeps (Refuse n) e k t o = absurd t
   plan-keeps (Flood u s n a opens start len) e k t o = still _ (t es)
@@ -113,11 +116,14 @@ module _ (l : Receive) (C : ℕ) (es : List Entry) (keys : List ℕ) (kept : Kee
       let needs = learn-needs l e in
       let formed = sym (ap recordForm (record-place u (l .waiting) at (needs .5))) ∙ needs .6 in
       rw (t es, sym (learnt-key e k))
-      (learnt-keeps (keyOf (l .own)) C (l .cache) (rows 100 h (l .cache)) (k .ready .form) keys kept r formed (λ i. learnt-other e k (sym (learnt-key e k) ∙ i)))
+      (learnt-keeps (keyOf (l .own)) C (l .cache) (rows 100 h (l .cache)) (k .ready .form) keys kept r formed
+      (λ i. learnt-other e k (sym (learnt-key e k) ∙ i)))
   plan-keeps (Free h u at true) e k t o =
       let p = getD (rows 140 u (l .waiting)) at [] in
       let w = t .waiting in
-      let owes : Owed es p = all-at (Owed es) at (rows 140 u (l .waiting)) (subst (λ (n : ℕ). All (Owed es) (rows 140 n (l .waiting))) (sym (k .ready .used)) o) (w .within) in
+      let owes : Owed es p =
+      all-at (Owed es) at (rows 140 u (l .waiting)) (subst (λ (n : ℕ). All (Owed es) (rows 140 n (l .waiting))) (sym (k .ready .used)) o)
+      (w .within) in
       let sent = ap (λ (i : ℕ). sentTo i es) (sym (w .id-is)) ∙ owes (w .kind-is) in
       rw (t .told es, sent) (removed-keeps (keyOf (l .own)) C (l .cache) (rows 100 h (l .cache)) (k .ready .form) keys kept (placeKey p))
   plan-keeps (Free h u at false) e k t o = still _ (t .told es)
@@ -153,10 +159,12 @@ module _ (l : Receive) (C : ℕ) (es : List Entry) (keys : List ℕ) (kept : Kee
 
   module _ (z : receiveCall l .given .number ≡ 0) where
     pub receive-keeps : All (Owed es) (placesOf (l .waiting))
-        → Keeps (keyOf (l .own)) C (after (drops (keyOf (l .own))) C keys (toldBy es (keyAt 0 (l .key)) (heardBy (l .datagram) (R.answer (l .datagram) (l .major))))) (receiveCall l .cache)
+        → Keeps (keyOf (l .own)) C (after (drops (keyOf (l .own))) C keys
+        (toldBy es (keyAt 0 (l .key)) (heardBy (l .datagram) (R.answer (l .datagram) (l .major))))) (receiveCall l .cache)
     unfolding receiveCall
     receive-keeps o = plan-keeps (receivePlan l) refl (known l) (told l z) o
 
-    pub receive-fine : (j : ℕ) → Learns j (toldBy es (keyAt 0 (l .key)) (heardBy (l .datagram) (R.answer (l .datagram) (l .major)))) → NotOwn (keyOf (l .own)) j
+    pub receive-fine : (j : ℕ) → Learns j (toldBy es (keyAt 0 (l .key)) (heardBy (l .datagram) (R.answer (l .datagram) (l .major))))
+        → NotOwn (keyOf (l .own)) j
     unfolding receiveCall
     receive-fine = plan-fine (receivePlan l) refl (known l) (told l z)

@@ -115,7 +115,8 @@ tick-owned own t o z = go (recordForm own) refl
 
 module _ (k C : ℕ) (es : List Entry) (keys : List ℕ) (m : Memory) (inv : Inv k C es keys m) where
   tick-step : (own output : List ℕ) → OneKey k (ticks own output)
-      → Stepped k C es keys (ticks own output) (gaugeTick own (m .waiting) output .given .number) (memory (m .cache) (gaugeTick own (m .waiting) output .waiting))
+      → Stepped k C es keys (ticks own output) (gaugeTick own (m .waiting) output .given .number)
+      (memory (m .cache) (gaugeTick own (m .waiting) output .waiting))
   tick-step own output one = go (gaugeTick own (m .waiting) output .given .number) refl
     where
       go : (n : ℕ) → gaugeTick own (m .waiting) output .given .number ≡ n
@@ -123,7 +124,9 @@ module _ (k C : ℕ) (es : List Entry) (keys : List ℕ) (m : Memory) (inv : Inv
       go zero z =
           let r = tick-round own (m .waiting) output z in
           let is = one (tick-owned own (m .waiting) output z) in
-          let form = subst (λ (j : ℕ). waitingForm j (gaugeTick own (m .waiting) output .waiting) ≡ true) is (form-kept (G.ticks own (m .waiting) output) tt z .0) in
+          let form =
+          subst (λ (j : ℕ). waitingForm j (gaugeTick own (m .waiting) output .waiting) ≡ true) is
+          (form-kept (G.ticks own (m .waiting) output) tt z .0) in
           let owed : All (Owed es) (placesOf (gaugeTick own (m .waiting) output .waiting)) =
           rw (r .places) (all-ticked (Owed es) (Owed es) (owed-ticked es) (placesOf (m .waiting)) (r .form .sized) (inv .owed)) in
           quiet-step k C es keys m inv (ticks own output) (gaugeTick own (m .waiting) output .waiting) refl form
@@ -175,7 +178,8 @@ module _ (C : ℕ) (es : List Entry) (keys : List ℕ) (own : List ℕ) (major m
       let key-is : placeKey (floodPlace id neighbour) ≡ keyAt 0 neighbour =
       ap (valueBE 256) (new-key id 1 2 neighbour zeros (s .short) long) ∙ ap (valueBE 256) (sym (take-all 32 neighbour (omega (arith, s .short)))) in
       let opened-owed : Owed (entry c 0 ∷ es) (floodPlace id neighbour) =
-      λ kind. ap (λ (i : ℕ). sentTo i (entry c 0 ∷ es)) id-is ∙ sent-here own major minor id neighbour key output es ∙ ap (λ (n : ℕ). some n) (sym key-is) in
+      λ kind. ap (λ (i : ℕ). sentTo i (entry c 0 ∷ es)) id-is ∙ sent-here own major minor id neighbour key output es
+      ∙ ap (λ (n : ℕ). some n) (sym key-is) in
       moved-all (Owed (entry c 0 ∷ es)) (λ (p : List ℕ). p ≡ floodPlace id neighbour) (placesOf (m .waiting)) (placesOf (sendCall l .waiting))
       (λ p is. subst (Owed (entry c 0 ∷ es)) (sym is) opened-owed) (send-moved l small)
       (all-both (λ (q : List ℕ). hasId id q ≡ false) (Owed es) (Owed (entry c 0 ∷ es))
@@ -213,8 +217,8 @@ module _ (C : ℕ) (es : List Entry) (keys : List ℕ) (own : List ℕ) (major m
           refused-step k C es keys m inv (sends own major minor id neighbour key output) (suc n) (asGiven (sendCall l) .memory) (omega arith)
           (ap (λ (h : Handed). asGiven h .memory) (send-refused l (omega (arith, z))))
 
-module _ (C : ℕ) (es : List Entry) (keys : List ℕ) (own cpa : List ℕ) (major minor id : ℕ) (nonce : List ℕ) (verdict : ℕ) (key datagram output : List ℕ)
-    (small : id < 2 ^ 32) where
+module _ (C : ℕ) (es : List Entry) (keys : List ℕ) (own cpa : List ℕ) (major minor id : ℕ) (nonce : List ℕ) (verdict : ℕ)
+    (key datagram output : List ℕ) (small : id < 2 ^ 32) where
   -- with the own record's key
   received : (m : Memory) (inv : Inv (keyOf own) C es keys m)
       → receiveCall (receive own cpa (m .cache) (m .waiting) major minor id nonce verdict key datagram output) .given .number ≡ 0
@@ -226,8 +230,8 @@ module _ (C : ℕ) (es : List Entry) (keys : List ℕ) (own cpa : List ℕ) (maj
       let form = form-kept (G.receives l) small z in
       let t = receiveCall l .waiting in
       let owed : All (Owed es) (placesOf t) =
-      moved-all (Owed es) (λ (p : List ℕ). kindOf p ≡ 2) (placesOf (m .waiting)) (placesOf t) (λ p two one. let w = sym two ∙ one in absurd (omega arith))
-      (receive-moved l) (inv .owed) in
+      moved-all (Owed es) (λ (p : List ℕ). kindOf p ≡ 2) (placesOf (m .waiting)) (placesOf t) (λ p two one. let w = sym two ∙ one in
+      absurd (omega arith)) (receive-moved l) (inv .owed) in
       record {
         inv = record {
           cached = form .0;
@@ -243,7 +247,8 @@ module _ (C : ℕ) (es : List Entry) (keys : List ℕ) (own cpa : List ℕ) (maj
       → Stepped k C es keys (receives own cpa major minor id nonce verdict key datagram output)
       (receiveCall (receive own cpa (m .cache) (m .waiting) major minor id nonce verdict key datagram output) .given .number)
       (asGiven (receiveCall (receive own cpa (m .cache) (m .waiting) major minor id nonce verdict key datagram output)) .memory)
-  receive-step k m inv one = go (receiveCall (receive own cpa (m .cache) (m .waiting) major minor id nonce verdict key datagram output) .given .number) refl
+  receive-step k m inv one =
+      go (receiveCall (receive own cpa (m .cache) (m .waiting) major minor id nonce verdict key datagram output) .given .number) refl
     where
       go : (n : ℕ) → receiveCall (receive own cpa (m .cache) (m .waiting) major minor id nonce verdict key datagram output) .given .number ≡ n
           → Stepped k C es keys (receives own cpa major minor id nonce verdict key datagram output) n
@@ -251,12 +256,12 @@ module _ (C : ℕ) (es : List Entry) (keys : List ℕ) (own cpa : List ℕ) (maj
       go zero z =
           let l = receive own cpa (m .cache) (m .waiting) major minor id nonce verdict key datagram output in
           let is = one (receive-owned l z) in
-          subst (λ (j : ℕ). Stepped j C es keys (receives own cpa major minor id nonce verdict key datagram output) 0 (asGiven (receiveCall l) .memory)) is
-          (received m (subst (λ (j : ℕ). Inv j C es keys m) (sym is) inv) z)
+          subst (λ (j : ℕ). Stepped j C es keys (receives own cpa major minor id nonce verdict key datagram output) 0
+          (asGiven (receiveCall l) .memory)) is (received m (subst (λ (j : ℕ). Inv j C es keys m) (sym is) inv) z)
       go (suc n) z =
           let l = receive own cpa (m .cache) (m .waiting) major minor id nonce verdict key datagram output in
-          refused-step k C es keys m inv (receives own cpa major minor id nonce verdict key datagram output) (suc n) (asGiven (receiveCall l) .memory) (omega arith)
-          (ap (λ (h : Handed). asGiven h .memory) (receive-refused l (omega (arith, z))))
+          refused-step k C es keys m inv (receives own cpa major minor id nonce verdict key datagram output) (suc n) (asGiven (receiveCall l) .memory)
+          (omega arith) (ap (λ (h : Handed). asGiven h .memory) (receive-refused l (omega (arith, z))))
 
 -- ---- any call, and any sequence of calls
 
@@ -276,7 +281,8 @@ pub record Ran (k C : ℕ) (es : List Entry) (keys : List ℕ) (m : Memory) (cal
   pub inv : Inv k C entries (after (drops k) C keys (eventsFrom es (log ours m calls))) (left ours m calls)
   pub fine : (j : ℕ) → Learns j (eventsFrom es (log ours m calls)) → NotOwn k j
 
-pub ran : (k C : ℕ) (es : List Entry) (keys : List ℕ) (m : Memory) → Inv k C es keys m → (calls : List Call) → Proper k calls → Ran k C es keys m calls
+pub ran : (k C : ℕ) (es : List Entry) (keys : List ℕ) (m : Memory) → Inv k C es keys m → (calls : List Call) → Proper k calls
+    → Ran k C es keys m calls
 unfolding log left eventsFrom after
 ran k C es keys m inv [] proper = record { entries = es; inv = inv; fine = λ j none. absurd none }
 ran k C es keys m inv (c ∷ calls) proper =
@@ -287,6 +293,7 @@ ran k C es keys m inv (c ∷ calls) proper =
     let later = eventsFrom (entry c n ∷ es) (log ours (ours m c .memory) calls) in
     record {
       entries = r .entries;
-      inv = subst (λ (ks : List ℕ). Inv k C (r .entries) ks (left ours (ours m c .memory) calls)) (sym (after-append (drops k) C keys ds later)) (r .inv);
+      inv = subst (λ (ks : List ℕ). Inv k C (r .entries) ks (left ours (ours m c .memory) calls)) (sym (after-append (drops k) C keys ds later))
+          (r .inv);
       fine = λ j learns. ⊎-elim (s .fine j) (r .fine j) (learns-or j ds later learns);
     }

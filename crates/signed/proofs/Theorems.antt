@@ -71,8 +71,8 @@ zeros size = let e : size - 0 ≡ size = omega arith in ap (λ (n : ℕ). replic
 module _ (k C : ℕ) (least : 10 ≤ C) (most : C ≤ 256) where
   pub empty-cache : Form k (replicate (100 * C) 0) []
   empty-cache = subst (λ (s : List ℕ). Form k s []) (zeros (100 * C))
-      (form-anew k (100 * C) [] (record { whole = omega arith; least = omega arith; most = omega arith }) (record { formed = tt; rising = tt; others = tt })
-      (omega arith))
+      (form-anew k (100 * C) [] (record { whole = omega arith; least = omega arith; most = omega arith })
+      (record { formed = tt; rising = tt; others = tt }) (omega arith))
 
   pub empty-table : W.Form k (replicate 2240 0) []
   empty-table = subst (λ (s : List ℕ). W.Form k s []) (zeros 2240) (made-of k [] tt (omega arith) tt)
@@ -89,7 +89,8 @@ module _ (k C : ℕ) (least : 10 ≤ C) (most : C ≤ 256) where
 
 module _ (own cache output : List ℕ) (owned : recordForm own ≡ true) (form : cacheForm (keyOf own) cache ≡ true) (room : 320 ≤ length output) where
   list-done : gaugeList own cache output ≡ listed
-      (answer 0 (length (neighbours (keyOf own) below (keysOf (heldOf (keyOf own) cache)))) (length (neighbours (keyOf own) above (keysOf (heldOf (keyOf own) cache)))))
+      (answer 0 (length (neighbours (keyOf own) below (keysOf (heldOf (keyOf own) cache))))
+      (length (neighbours (keyOf own) above (keysOf (heldOf (keyOf own) cache)))))
       (splice 0 (keyBytes (neighbourList (keyOf own) (keysOf (heldOf (keyOf own) cache)))) output)
   unfolding gaugeList listCall
   list-done = ap listAnswered (all-pass _ (listWrong own cache output) _ (rw owned refl, (rw form refl, (le-ltb (length output) 320 room, tt))))
@@ -100,7 +101,8 @@ module _ (own cache output : List ℕ) (owned : recordForm own ≡ true) (form :
       → NeighbourList (keyOf own) among output (ours m (lists own output))
   unfolding ours
   lists-keys m e keys is among near =
-      let done : List ℕ → ListHanded = λ (ks : List ℕ). listed (answer 0 (length (neighbours (keyOf own) below ks)) (length (neighbours (keyOf own) above ks)))
+      let done : List ℕ → ListHanded =
+      λ (ks : List ℕ). listed (answer 0 (length (neighbours (keyOf own) below ks)) (length (neighbours (keyOf own) above ks)))
       (splice 0 (keyBytes (neighbourList (keyOf own) ks)) output) in
       let g : gaugeList own (m .cache) output ≡ done keys = rw e (subst (λ (ks : List ℕ). gaugeList own cache output ≡ done ks) is list-done) in
       record {
@@ -135,8 +137,10 @@ meets-demand3 k C least most calls proper =
     record {
       history = happened ours C calls;
       happened = log-happened [] (empty C) calls (typed-calls k calls proper);
-      listed = lists-these k (kept k C (happened ours C calls)) m (r .inv .cached) (r .inv .keeps .held) (kept k C (happened ours C calls)) (d .right);
-      among-all = λ none. lists-these k (kept k C (happened ours C calls)) m (r .inv .cached) (r .inv .keeps .held) (learnedAll (happened ours C calls)) (d .among-all none);
+      listed = lists-these k (kept k C (happened ours C calls)) m (r .inv .cached) (r .inv .keeps .held) (kept k C (happened ours C calls))
+          (d .right);
+      among-all = λ none. lists-these k (kept k C (happened ours C calls)) m (r .inv .cached) (r .inv .keeps .held)
+          (learnedAll (happened ours C calls)) (d .among-all none);
     }
 
 -- ---- all three

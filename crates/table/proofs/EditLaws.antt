@@ -1,5 +1,5 @@
--- A row inserted, removed or replaced on the bytes is so in the list of rows: first on lists of any rows, then on memory laid out in rows of one width.
--- Assumes nothing.
+-- A row inserted, removed or replaced on the bytes is so in the list of rows: first on lists of any rows, then on memory laid out in rows of one
+-- width. Assumes nothing.
 use mathlib.Core.Path.{_≡_, refl, sym, ap, ap₂, _∙_}
 use mathlib.Core.List.{List, [], _∷_, _++_, append-assoc}
 use Prim.Native.Nat.{ℕ, suc, _+_, _-_, _*_, _≤_, _<_}
@@ -157,7 +157,8 @@ module _ (w n i : ℕ) (s : List ℕ) (laid : Laid w n s) where
     unfolding rs
     remove-laid =
         ap (λ (l : List ℕ). splice (w * i) (part (w * i + w) (w * n - (w * i + w)) l ++ replicate w 0) l) whole-split
-        ∙ remove-bytes (length s) (take i rs) (drop (suc i) rs) (w * i) (front-length (omega arith)) gone room w (w * n - (w * i + w)) gone-length back-length
+        ∙ remove-bytes (length s) (take i rs) (drop (suc i) rs) (w * i) (front-length (omega arith)) gone room w
+        (w * n - (w * i + w)) gone-length back-length
 
     pub replace-laid : (row : List ℕ) → length row ≡ w → splice (w * i) row s ≡ bytesOf (length s) (set (rows w n s) i row)
     unfolding rs

@@ -1,10 +1,10 @@
 -- Laws of the first bytes of a part and of what stands around a replaced part: what the fields of a row are read and written by. Assumes nothing.
 use mathlib.Core.Path.{_≡_, sym, ap, _∙_}
-use mathlib.Core.List.{List, [], _∷_, _++_, append-nil}
+use mathlib.Core.List.{List, [], _∷_, _++_}
 use Prim.Native.Nat.{ℕ, _+_, _-_, _≤_, _<_}
 use native.Mathlib.Nat.{zero-add, suc-add}
 use native.Mathlib.Omega.{arith}
-use lib.ListN.{length, take, drop, set, length-append, length-set, drop-of-length-le}
+use lib.ListN.{length, take, drop, set, length-append, length-set}
 use lib.Seq.{take-take, drop-drop, length-take-le, set-append-left}
 use Rattle.octet.specs.Part.{part, splice}
 use Rattle.octet.proofs.PartLaws.{drop-splice}
@@ -19,12 +19,6 @@ pub part-lent : (at w : ℕ) (s : List ℕ) → take ((at + w) - at) (drop at s)
 part-lent at w s = let e : (at + w) - at ≡ w = omega arith in ap (λ (k : ℕ). take k (drop at s)) e
 
 -- ---- around a replaced part
-
-pub splice-whole : (xs s : List ℕ) → length xs ≡ length s → splice 0 xs s ≡ xs
-unfolding splice
-splice-whole xs s e =
-    let past : length s ≤ 0 + length xs = omega arith in
-    ap (λ (l : List ℕ). xs ++ l) (drop-of-length-le s past) ∙ append-nil xs
 
 set-append-right : (xs ys : List ℕ) (i x : ℕ) → set (xs ++ ys) (length xs + i) x ≡ xs ++ set ys i x
 set-append-right [] ys i x = ap (λ (k : ℕ). set ys k x) (zero-add i)

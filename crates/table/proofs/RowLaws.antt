@@ -1,6 +1,6 @@
 -- Laws of `rows`, `joined` and `bytesOf`, over the width of a row.
--- In this order: how many and how long; a row is a part; the first and the later ones; rows put together and taken apart; memory laid out in rows, and laid
--- out anew. Elsewhere: a row inserted, removed or replaced, in EditLaws; the fields of a row, in PieceLaws. Assumes nothing.
+-- In this order: how many and how long; a row is a part; the first and the later ones; rows put together and taken apart; memory laid out in
+-- rows, and laid out anew. Elsewhere: a row inserted, removed or replaced, in EditLaws; the fields of a row, in PieceLaws. Assumes nothing.
 use mathlib.Core.Path.{_≡_, refl, sym, ap, ap₂, _∙_}
 use mathlib.Core.List.{List, [], _∷_, _++_, append-assoc}
 use Prim.Native.Nat.{ℕ, zero, suc, _+_, _-_, _*_, _≤_, _<_}
@@ -186,7 +186,8 @@ module _ (w : ℕ) where
     }
 
   -- so two lists of as many rows with the same bytes are one list
-  pub bytes-unique : (size : ℕ) (ps qs : List (List ℕ)) → Sized w ps → Sized w qs → length ps ≡ length qs → bytesOf size ps ≡ bytesOf size qs → ps ≡ qs
+  pub bytes-unique : (size : ℕ) (ps qs : List (List ℕ)) → Sized w ps → Sized w qs → length ps ≡ length qs → bytesOf size ps ≡ bytesOf size qs
+      → ps ≡ qs
   unfolding bytesOf
   bytes-unique size ps qs p q e same =
       sym (rows-of-joined ps _ p) ∙ ap₂ (rows w) e same ∙ rows-of-joined qs _ q

@@ -1,4 +1,5 @@
--- The tick on untested memory, by its tests; an accepted one leaves the table in form; its numbers are given exactly when they apply. Assumes nothing.
+-- The tick on untested memory, by its tests; an accepted one leaves the table in form; its numbers are given exactly when they apply.
+-- Assumes nothing.
 use mathlib.Core.Path.{_≡_, refl, sym, _∙_}
 use mathlib.Core.Logic.{_↔_}
 use mathlib.Core.Bool.{true, false}
@@ -38,7 +39,8 @@ module _ (own t o : List ℕ) where
 
   -- a number is given exactly when it applies and no lower one does
   pub tick-exactly : (n : ℕ) → 0 < n
-      → (tickCall own t o .number ≡ n) ↔ ((appliesIn n (tickRefusals own t o) ≡ true) × ((m : ℕ) → m < n → appliesIn m (tickRefusals own t o) ≡ false))
+      → (tickCall own t o .number ≡ n)
+      ↔ ((appliesIn n (tickRefusals own t o) ≡ true) × ((m : ℕ) → m < n → appliesIn m (tickRefusals own t o) ≡ false))
   unfolding tickCall tickRefusals tickDone
   tick-exactly n p =
       call-exactly (λ (r : Ticked). r .number) (λ (k : ℕ). handed k 0 t o) (λ k. refl) (tickDone t o) refl (tickRefusals own t o) 1

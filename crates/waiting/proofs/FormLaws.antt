@@ -1,6 +1,6 @@
 -- The form of the table, as a test and as a property of a list of places.
--- In this order: the used places as a type; how many are used; the test holds exactly for the bytes of such a list, which is unique; what the form test
--- answers. Elsewhere: what keeps the form, in KeptLaws. Assumes nothing.
+-- In this order: the used places as a type; how many are used; the test holds exactly for the bytes of such a list, which is unique; what the
+-- form test answers. Elsewhere: what keeps the form, in KeptLaws. Assumes nothing.
 use mathlib.Core.Path.{_≡_, refl, sym, ap, ap₂, _∙_}
 use mathlib.Core.Logic.{_↔_}
 use mathlib.Core.Bool.{Bool, true, false, not, _&&_, cond}

@@ -10,11 +10,10 @@ use lib.Seq.{take-at, drop-at, take-all, length-take-le}
 use borrow.Author.Tests.{eq-eqb}
 use Rattle.octet.specs.Number.{valueBE, valueLE, digitsLE}
 use Rattle.octet.specs.Part.{part, splice}
-use Rattle.octet.proofs.PartLaws.{splice-next}
+use Rattle.octet.proofs.PartLaws.{splice-next, splice-whole}
 use Rattle.octet.proofs.TestLaws.{zeros-all}
 use Rattle.octet.proofs.LittleLaws.{length-digitsLE, valueLE-digitsLE}
 use Rattle.record.specs.Record.{keyOf, recordForm}
-use Rattle.table.proofs.PieceLaws.{splice-whole}
 use Rattle.waiting.specs.Place.{idOf, kindOf, triesOf, placeKey, placeRecord, newPlace, inquiryPlace, floodPlace}
 use Rattle.waiting.specs.Form.{placeForm}
 use Rattle.waiting.proofs.PlaceLaws.{fieldsForm, by-fields}
@@ -105,7 +104,8 @@ module _ (id kind tries : ℕ) (key held : List ℕ) (short : length key ≡ 32)
       ∙ splice-whole (d ++ k ++ key ++ held) p all
 
 -- an inquiry's place for a record in form with another key than ours, and a flood's place, are in form
-pub inquiry-form : (own id : ℕ) (r : List ℕ) → length r ≡ 100 → recordForm r ≡ true → eqb (keyOf r) own ≡ false → placeForm own (inquiryPlace id r) ≡ true
+pub inquiry-form : (own id : ℕ) (r : List ℕ) → length r ≡ 100 → recordForm r ≡ true → eqb (keyOf r) own ≡ false
+    → placeForm own (inquiryPlace id r) ≡ true
 inquiry-form own id r long ok others =
     new-form id 2 2 (part 0 32 r) r (length-take-le 32 r (omega arith)) long own
     ∙ rw (ok, others, eq-eqb (keyOf r) (keyOf r) refl) refl

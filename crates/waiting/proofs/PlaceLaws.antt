@@ -1,5 +1,5 @@
--- Laws of one place's fields: read where the place lies in the table; of a place with one try less. Elsewhere: of a place made of its fields, in NewLaws.
--- Assumes nothing.
+-- Laws of one place's fields: read where the place lies in the table; of a place with one try less. Elsewhere: of a place made of its fields, in
+-- NewLaws. Assumes nothing.
 use mathlib.Core.Path.{_≡_, refl, sym, ap, ap₂, _∙_}
 use mathlib.Core.Bool.{Bool, true, false, not, _&&_, _||_}
 use mathlib.Core.List.{List}

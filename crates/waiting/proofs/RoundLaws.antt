@@ -146,7 +146,8 @@ nothing : (ids : List ℕ) → length ids ≡ 0 → ids ≡ []
 nothing [] e = refl
 nothing (id ∷ ids) e = absurd (omega arith)
 
-pub three-ticks : (own : ℕ) (t : List ℕ) (ps : List (List ℕ)) → Form own t ps → (listed (ticked (ticked ps)) ≡ []) × (ticked (ticked (ticked ps)) ≡ [])
+pub three-ticks : (own : ℕ) (t : List ℕ) (ps : List (List ℕ)) → Form own t ps
+    → (listed (ticked (ticked ps)) ≡ []) × (ticked (ticked (ticked ps)) ≡ [])
 three-ticks own t ps f =
     let two = tried-form every own 0 ps (placed own 0 ps (f .places)) in
     let one = tried-ticked every all-steady 1 ps (f .sized) two in

@@ -1,4 +1,5 @@
--- Laws of the place that was found: where it is, that it passes the test, that it is in form, and that freed it leaves none for its key. Assumes nothing.
+-- Laws of the place that was found: where it is, that it passes the test, that it is in form, and that freed it leaves none for its key.
+-- Assumes nothing.
 use mathlib.Core.Path.{_≡_, refl, sym, ap, _∙_}
 use mathlib.Core.Bool.{Bool, true, false, cond}
 use mathlib.Core.List.{List, [], _∷_}
@@ -29,8 +30,8 @@ pub data Here (test : List ℕ → Bool) (n i : ℕ) (ps : List (List ℕ)) : Ty
 further : (test : List ℕ → Bool) (n i : ℕ) (p : List ℕ) (ps : List (List ℕ)) → Here test (n + 1) i ps → Here test n i (p ∷ ps)
 further test n i p ps (here j e l t) = here (suc j) (omega arith) (omega arith) t
 
-found-by : (test : List ℕ → Bool) (n i : ℕ) (p : List ℕ) (ps : List (List ℕ)) (b : Bool) → test p ≡ b → (seek test (n + 1) ps ≡ At i → Here test (n + 1) i ps)
-    → cond b (At n) (seek test (n + 1) ps) ≡ At i → Here test n i (p ∷ ps)
+found-by : (test : List ℕ → Bool) (n i : ℕ) (p : List ℕ) (ps : List (List ℕ)) (b : Bool) → test p ≡ b
+    → (seek test (n + 1) ps ≡ At i → Here test (n + 1) i ps) → cond b (At n) (seek test (n + 1) ps) ≡ At i → Here test n i (p ∷ ps)
 found-by test n i p ps true t later e = let is : n ≡ i = cc in here 0 (omega arith) (omega arith) t
 found-by test n i p ps false t later e = further test n i p ps (later e)
 
@@ -116,7 +117,8 @@ only-by k own low n (suc j) p ps false is h e later =
     let d : n + suc j ≡ (n + 1) + j = omega arith in
     rw is (later j (e ∙ ap At d))
 
-pub freed-only : (k own low n i : ℕ) (ps : List (List ℕ)) → Placed own low ps → seek (isInquiry k) n ps ≡ At (n + i) → anyOf (isInquiry k) (freed i ps) ≡ false
+pub freed-only : (k own low n i : ℕ) (ps : List (List ℕ)) → Placed own low ps → seek (isInquiry k) n ps ≡ At (n + i)
+    → anyOf (isInquiry k) (freed i ps) ≡ false
 unfolding seek
 freed-only k own low n i [] h e = let z : _≡_ {A = ℕ} 0 1 = cc in absurd (omega arith)
 freed-only k own low n i (p ∷ ps) h e =

@@ -1,5 +1,5 @@
--- Laws of the tick's round: what one place's part leaves, and how the loop goes on. Elsewhere: that the form is kept, in KeptLaws; three rounds, in RoundLaws.
--- Assumes nothing.
+-- Laws of the tick's round: what one place's part leaves, and how the loop goes on. Elsewhere: that the form is kept, in KeptLaws; three rounds,
+-- in RoundLaws. Assumes nothing.
 use mathlib.Core.Path.{_≡_, refl, sym, ap, ap₂, _∙_}
 use mathlib.Core.Bool.{Bool, true, false, cond}
 use mathlib.Core.List.{List, [], _∷_, _++_, append-assoc, append-nil}

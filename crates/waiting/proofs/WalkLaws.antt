@@ -136,7 +136,8 @@ module _ (used : ℕ) (t : List ℕ) (at : ℕ) where
       → again place later ≡ isFound f
   again-found e d =
       ap₂ _&&_ (eq-eqb (kindOf place) 2 (kind-at (140 * at) t ∙ e))
-      (ap (λ (k : ℕ). anyOf (isInquiry k) later) (key-at (140 * at) t) ∙ any-found (isInquiry (keyAt (140 * at + 8) t)) (at + 1) later ∙ ap isFound (sym d))
+      (ap (λ (k : ℕ). anyOf (isInquiry k) later) (key-at (140 * at) t) ∙ any-found (isInquiry (keyAt (140 * at + 8) t)) (at + 1) later
+      ∙ ap isFound (sym d))
 
   module _ (own low : ℕ) where
     -- the three tests of a place

@@ -1,6 +1,5 @@
--- Laws of a message written again: for any table, rows that agree with the kinds and fields that are the message's make the message's bytes; and so for
--- an answer
--- of each of the eight types, whatever made it. Assumes nothing.
+-- Laws of a message written again: for any table, rows that agree with the kinds and fields that are the message's make the message's bytes; and
+-- so for an answer of each of the eight types, whatever made it. Assumes nothing.
 use Prim.Native.Nat.{ℕ, _+_, _-_, _*_}
 use native.Mathlib.Omega.{arith}
 use mathlib.Core.List.{List, [], _∷_, _++_}
@@ -119,7 +118,8 @@ abbrev told : Option Message → Message
 told none = record { major = 0; minor = 0; type = 0; id = 0; fields = [] }
 told (some m) = m
 
-module _ (js : List Kind) (rs : List Row) (major : ℕ) (d : List ℕ) (a : Answer) (m : Message) (e : messageOf major d a ≡ some m) (w : RowsFor js rs) where
+module _ (js : List Kind) (rs : List Row) (major : ℕ) (d : List ℕ) (a : Answer) (m : Message) (e : messageOf major d a ≡ some m)
+    (w : RowsFor js rs) where
   by-table : kindsOf (told (messageOf major d a) .type) ≡ some js → (l : Lent) (ps : List Piece)
       → (joined (told (messageOf major d a) .type) (told (messageOf major d a) .fields) ≡ true → resent major d a
       ≡ madeBy (told (messageOf major d a) .major) (told (messageOf major d a) .minor) (told (messageOf major d a) .type)

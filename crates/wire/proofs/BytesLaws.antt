@@ -1,34 +1,14 @@
--- Laws of bytes: joined lists of bytes, and the bytes of a well-formed message. Assumes nothing.
-use Prim.Native.Nat.{ℕ, zero, suc, _+_, _<_}
+-- What a well-formed message is written as is bytes. Assumes nothing.
+use Prim.Native.Nat.{ℕ, zero, suc, _+_}
 use native.Mathlib.Omega.{arith}
 use mathlib.Core.List.{List, [], _∷_, _++_}
 use mathlib.Core.Option.{some, none}
 use lib.ListN.{length, replicate}
 use Rattle.octet.specs.Number.{Bytes, digitsBE}
-use Rattle.octet.proofs.BigLaws.{digitsBE-lt}
+use Rattle.octet.proofs.BytesLaws.{bytes-nil, bytes-cons, bytes-append, bytes-zeros, bytes-digits}
 use Rattle.wire_fields.specs.Field.{gap}
 use Rattle.wire_fields.specs.Shapes.{Kind}
 use Rattle.wire_fields.specs.Message.{Contents, Formed, Message, WellFormed, ends, layoutFrom, layoutOf, bytesOf, opening}
-
-pub bytes-nil : Bytes []
-bytes-nil i = omega arith
-
-pub bytes-cons : (x : ℕ) (xs : List ℕ) → x < 256 → Bytes xs → Bytes (x ∷ xs)
-bytes-cons x xs h b zero = h
-bytes-cons x xs h b (suc i) = b i
-
-pub bytes-append : (xs ys : List ℕ) → Bytes xs → Bytes ys → Bytes (xs ++ ys)
-bytes-append [] ys a b i = b i
-bytes-append (x ∷ xs) ys a b zero = a 0
-bytes-append (x ∷ xs) ys a b (suc i) = bytes-append xs ys (λ j. a (suc j)) b i
-
-pub bytes-zeros : (n : ℕ) → Bytes (replicate n 0)
-bytes-zeros zero i = omega arith
-bytes-zeros (suc n) zero = omega arith
-bytes-zeros (suc n) (suc i) = bytes-zeros n i
-
-pub bytes-digits : (w n : ℕ) → Bytes (digitsBE 256 w n)
-bytes-digits w n = digitsBE-lt 256 w n (omega arith)
 
 bytes-fields : (ks : List Kind) (i : ℕ) (fs : List Contents) → Formed ks fs → Bytes (bytesOf (layoutFrom i ks fs))
 bytes-fields [] i fs f = bytes-nil

@@ -96,7 +96,8 @@ module _ (k j : Kind) (js : List Kind) (p : j .padded ≡ false) (held : (size :
             (follows (12 + length (bytesOf (layoutFrom 12 (k ∷ j ∷ js) (f ∷ some x ∷ fs)))) (i + 4) (length x) size n (omega arith)),
       )
 
-  pub all-anew : (fs : List Contents) → Formed (k ∷ j ∷ js) fs → 12 + length (bytesOf (layoutFrom 12 (k ∷ j ∷ js) (splitAgain (k ∷ j ∷ js) fs))) ≤ 1232
+  pub all-anew : (fs : List Contents) → Formed (k ∷ j ∷ js) fs
+      → 12 + length (bytesOf (layoutFrom 12 (k ∷ j ∷ js) (splitAgain (k ∷ j ∷ js) fs))) ≤ 1232
       → Anew (splitAgain (k ∷ j ∷ js) fs)
   all-anew [] w h = absurd w
   all-anew (none ∷ []) w h = absurd (w .1)
@@ -133,7 +134,9 @@ request-whole fs f h = let a = all-anew (may 0x40 true (Sized 2) noneOfTwo) (may
 
 authority-whole : (fs : List Contents) → Wholly fs 8 authorityKinds
 unfolding joined sized
-authority-whole fs f h = let a = all-anew ackedKind splitKind bufferKinds refl split-held (λ v q. split-four v (q .shaped)) fs f h in (a .0, refl, a .1)
+authority-whole fs f h =
+    let a = all-anew ackedKind splitKind bufferKinds refl split-held (λ v q. split-four v (q .shaped)) fs f h in
+    (a .0, refl, a .1)
 
 whole : (fs : List Contents) (t : ℕ) (ks : List Kind) → kindsOf t ≡ some ks → joined t fs ≡ true → Wholly fs t ks
 unfolding sized kindsOf
@@ -152,8 +155,8 @@ whole fs t ks k y = by (eqb t 3) refl (eqb t 8) refl
         subst (Wholly fs t) j (subst (λ (u : ℕ). Wholly fs u authorityKinds) (sym n) (authority-whole fs))
     by false q false r = λ f h. rw (q, r) (f, y, refl)
 
-pub changed-well : (ks : List Kind) (m : Message) (n : ℕ) (c : Contents) → WellFormed ks m → AllowedAt ks n c → joined (m .type) (changedAt n c (m .fields))
-    ≡ true
+pub changed-well : (ks : List Kind) (m : Message) (n : ℕ) (c : Contents) → WellFormed ks m → AllowedAt ks n c
+    → joined (m .type) (changedAt n c (m .fields)) ≡ true
     → length (bytesOf (layoutOf ks (changed ks m n c))) ≤ 1232 → WellFormed ks (changed ks m n c)
 changed-well ks m n c w a j h =
     let x = changed ks m n c in

@@ -14,7 +14,8 @@ use Rattle.octet.proofs.PartLaws.{length-part}
 use Rattle.octet.proofs.TestLaws.{both-true}
 use Rattle.wire_fields.specs.Field.{numberAt}
 use Rattle.wire_fields.specs.Shapes.{Kind, hasShape, lookupForm}
-use Rattle.wire_fields.specs.Kinds.{must, may, ackedKind, splitKind, endpoints, keyList, codes, noneOfTwo, lastOfTwo, lastOfTwoAndOne, flagsAXC, flagsLBN}
+use Rattle.wire_fields.specs.Kinds.{must, may, ackedKind, splitKind, endpoints, keyList}
+use Rattle.wire_fields.specs.Kinds.{codes, noneOfTwo, lastOfTwo, lastOfTwoAndOne, flagsAXC, flagsLBN}
 use Rattle.wire_fields.specs.Kinds.{keepLookup, sized, derived}
 use Rattle.wire_fields.specs.Kinds.{solicitKinds, advertiseKinds, requestKinds, floodKinds, inquireKinds, authorityKinds, ackKinds, lookupKinds}
 use Rattle.wire_fields.specs.Reading.{valueOf, valuesOf, messageAt}
@@ -24,7 +25,8 @@ use Rattle.wire_fields.specs.declared.Shape.the-variants.{Sized, Any, Entry, Lo
 use Rattle.wire_fields.proofs.HeadLaws.{digits-at}
 use Rattle.wire_fields.proofs.ShapeLaws.{number-first, number-in}
 use Rattle.wire_fields.proofs.RefusalLaws.{split-four}
-use Rattle.wire_read.specs.Answers.{isHere, flagIn, headOf, solicitShown, advertiseShown, requestShown, floodShown, inquireShown, authorityShown, ackShown}
+use Rattle.wire_read.specs.Answers.{isHere, flagIn, headOf, solicitShown, advertiseShown}
+use Rattle.wire_read.specs.Answers.{requestShown, floodShown, inquireShown, authorityShown, ackShown}
 use Rattle.wire_read.specs.Answers.{lookupShown}
 use Rattle.wire_read.specs.Meaning.{messageOf, held, bit}
 use Rattle.wire_fields.specs.Kinds.{splitBytes}
@@ -127,7 +129,8 @@ advertise-means major d b m ps w =
     let all = n₀ .is ∙ ap (λ (r : List Part). Here (n₀ .s) (n₀ .l) ∷ r) (n₁ .is ∙ ap (λ (r : List Part). Here (n₁ .s) (n₁ .l) ∷ r)
     (n₂ .is ∙ ap (λ (r : List Part). Here (n₂ .s) (n₂ .l) ∷ r) (last))) in
     subst (λ (q : List Part). messageOf major d (advertiseShown d q) ≡ some (messageAt advertiseKinds d 2 q)) (sym (all))
-    (advertise-at major d b m (n₀ .s) (n₀ .l) (n₀ .shaped) (n₀ .within) (n₁ .s) (n₁ .l) (n₁ .shaped) (n₁ .within) (n₂ .s) (n₂ .l) (n₂ .shaped) (n₂ .within))
+    (advertise-at major d b m (n₀ .s) (n₀ .l) (n₀ .shaped) (n₀ .within) (n₁ .s) (n₁ .l) (n₁ .shaped) (n₁ .within) (n₂ .s) (n₂ .l) (n₂ .shaped)
+    (n₂ .within))
 
 -- REQUEST
 request-at : (major : ℕ) (d : List ℕ) → Bytes d → major ≡ getD d 5 0 → (p₀ : Part) → Fact (may 0x40 true (Sized 2) noneOfTwo) d 12 p₀ → (p₁ : Part)
@@ -166,15 +169,17 @@ request-means major d b m ps w z =
     let y : derived (length d) (n₁ .p) (valueOf (may 0x98 false (Sized 4) []) d (n₁ .p)) ≡ true = rw (n₀ .is, n₁ .is) at z in
     let all = n₀ .is ∙ ap (λ (r : List Part). n₀ .p ∷ r) (n₁ .is ∙ ap (λ (r : List Part). n₁ .p ∷ r)
     (n₂ .is ∙ ap (λ (r : List Part). Here (n₂ .s) (n₂ .l) ∷ r) (n₃ .is ∙ ap (λ (r : List Part). Here (n₃ .s) (n₃ .l) ∷ r)
-    (n₄ .is ∙ ap (λ (r : List Part). n₄ .p ∷ r) (n₅ .is ∙ ap (λ (r : List Part). n₅ .p ∷ r) (n₆ .is ∙ ap (λ (r : List Part). n₆ .p ∷ r) (last))))))) in
+    (n₄ .is ∙ ap (λ (r : List Part). n₄ .p ∷ r)
+    (n₅ .is ∙ ap (λ (r : List Part). n₅ .p ∷ r) (n₆ .is ∙ ap (λ (r : List Part). n₆ .p ∷ r) (last))))))) in
     subst (λ (q : List Part). messageOf major d (requestShown d q) ≡ some (messageAt requestKinds d 3 q)) (sym (all))
-    (request-at major d b m (n₀ .p) (n₀ .fact) (n₁ .p) (n₁ .fact) y (n₂ .s) (n₂ .l) (n₂ .shaped) (n₂ .within) (n₃ .s) (n₃ .l) (n₃ .shaped) (n₃ .within)
-    (n₄ .p) (n₅ .p) (n₆ .p))
+    (request-at major d b m (n₀ .p) (n₀ .fact) (n₁ .p) (n₁ .fact) y (n₂ .s) (n₂ .l) (n₂ .shaped) (n₂ .within) (n₃ .s) (n₃ .l) (n₃ .shaped)
+    (n₃ .within) (n₄ .p) (n₅ .p) (n₆ .p))
 
 -- FLOOD
 flood-at : (major : ℕ) (d : List ℕ) → Bytes d → major ≡ getD d 5 0 → (s₀ l₀ : ℕ) → hasShape ((must 0x43 true (Sized 3) lastOfTwoAndOne) .shape)
-    (part s₀ l₀ d) ≡ true → s₀ + l₀ ≤ length d → (s₁ l₁ : ℕ) → hasShape ((must 0x39 false (Sized 32) []) .shape) (part s₁ l₁ d) ≡ true → s₁ + l₁ ≤ length d
-    → (p₂ : Part) → (p₃ : Part) → (p₄ : Part) → (p₅ : Part) → messageOf major d (floodShown d (Here s₀ l₀ ∷ Here s₁ l₁ ∷ p₂ ∷ p₃ ∷ p₄ ∷ p₅ ∷ []))
+    (part s₀ l₀ d) ≡ true → s₀ + l₀ ≤ length d → (s₁ l₁ : ℕ) → hasShape ((must 0x39 false (Sized 32) []) .shape) (part s₁ l₁ d) ≡ true
+    → s₁ + l₁ ≤ length d → (p₂ : Part) → (p₃ : Part) → (p₄ : Part) → (p₅ : Part)
+    → messageOf major d (floodShown d (Here s₀ l₀ ∷ Here s₁ l₁ ∷ p₂ ∷ p₃ ∷ p₄ ∷ p₅ ∷ []))
     ≡ some (messageAt floodKinds d 4 (Here s₀ l₀ ∷ Here s₁ l₁ ∷ p₂ ∷ p₃ ∷ p₄ ∷ p₅ ∷ []))
 unfolding messageOf headOf
 flood-at major d b m s₀ l₀ g₀ h₀ s₁ l₁ g₁ h₁ p₂ p₃ p₄ p₅ =
@@ -208,9 +213,10 @@ flood-means major d b m ps w =
     (flood-at major d b m (n₀ .s) (n₀ .l) (n₀ .shaped) (n₀ .within) (n₁ .s) (n₁ .l) (n₁ .shaped) (n₁ .within) (n₂ .p) (n₃ .p) (n₄ .p) (n₅ .p))
 
 -- INQUIRE
-inquire-at : (major : ℕ) (d : List ℕ) → Bytes d → major ≡ getD d 5 0 → (s₀ l₀ : ℕ) → hasShape ((must 0x40 true (Sized 2) flagsAXC) .shape) (part s₀ l₀ d)
-    ≡ true → s₀ + l₀ ≤ length d → (s₁ l₁ : ℕ) → hasShape ((must 0x39 false (Sized 32) []) .shape) (part s₁ l₁ d) ≡ true → s₁ + l₁ ≤ length d → (p₂ : Part)
-    → (p₃ : Part) → (p₄ : Part) → (p₅ : Part) → messageOf major d (inquireShown d (Here s₀ l₀ ∷ Here s₁ l₁ ∷ p₂ ∷ p₃ ∷ p₄ ∷ p₅ ∷ []))
+inquire-at : (major : ℕ) (d : List ℕ) → Bytes d → major ≡ getD d 5 0 → (s₀ l₀ : ℕ)
+    → hasShape ((must 0x40 true (Sized 2) flagsAXC) .shape) (part s₀ l₀ d) ≡ true → s₀ + l₀ ≤ length d → (s₁ l₁ : ℕ)
+    → hasShape ((must 0x39 false (Sized 32) []) .shape) (part s₁ l₁ d) ≡ true → s₁ + l₁ ≤ length d
+    → (p₂ : Part) → (p₃ : Part) → (p₄ : Part) → (p₅ : Part) → messageOf major d (inquireShown d (Here s₀ l₀ ∷ Here s₁ l₁ ∷ p₂ ∷ p₃ ∷ p₄ ∷ p₅ ∷ []))
     ≡ some (messageAt inquireKinds d 7 (Here s₀ l₀ ∷ Here s₁ l₁ ∷ p₂ ∷ p₃ ∷ p₄ ∷ p₅ ∷ []))
 unfolding messageOf headOf
 inquire-at major d b m s₀ l₀ g₀ h₀ s₁ l₁ g₁ h₁ p₂ p₃ p₄ p₅ =
@@ -246,8 +252,9 @@ inquire-means major d b m ps w =
 -- AUTHORITY
 authority-at : (major : ℕ) (d : List ℕ) → Bytes d → major ≡ getD d 5 0 → (s₀ l₀ : ℕ) → hasShape ((ackedKind) .shape) (part s₀ l₀ d) ≡ true
     → s₀ + l₀ ≤ length d → (s₁ l₁ : ℕ) → hasShape ((splitKind) .shape) (part s₁ l₁ d) ≡ true → s₁ + l₁ ≤ length d → s₁ ≡ 24
-    → derived (length d) (Here s₁ l₁) (some (part s₁ l₁ d)) ≡ true → (s₂ l₂ : ℕ) → hasShape ((must 0x40 true (Sized 2) flagsLBN) .shape) (part s₂ l₂ d)
-    ≡ true → s₂ + l₂ ≤ length d → (p₃ : Part) → (p₄ : Part) → (p₅ : Part) → (p₆ : Part) → (p₇ : Part) → (p₈ : Part)
+    → derived (length d) (Here s₁ l₁) (some (part s₁ l₁ d)) ≡ true → (s₂ l₂ : ℕ)
+    → hasShape ((must 0x40 true (Sized 2) flagsLBN) .shape) (part s₂ l₂ d) ≡ true
+    → s₂ + l₂ ≤ length d → (p₃ : Part) → (p₄ : Part) → (p₅ : Part) → (p₆ : Part) → (p₇ : Part) → (p₈ : Part)
     → messageOf major d (authorityShown d (Here s₀ l₀ ∷ Here s₁ l₁ ∷ Here s₂ l₂ ∷ p₃ ∷ p₄ ∷ p₅ ∷ p₆ ∷ p₇ ∷ p₈ ∷ []))
     ≡ some (messageAt authorityKinds d 8 (Here s₀ l₀ ∷ Here s₁ l₁ ∷ Here s₂ l₂ ∷ p₃ ∷ p₄ ∷ p₅ ∷ p₆ ∷ p₇ ∷ p₈ ∷ []))
 unfolding messageOf headOf
@@ -293,14 +300,15 @@ authority-means major d b m ps w z =
     let all = n₀ .is ∙ ap (λ (r : List Part). Here (n₀ .s) (n₀ .l) ∷ r) (n₁ .is ∙ ap (λ (r : List Part). Here (n₁ .s) (n₁ .l) ∷ r)
     (n₂ .is ∙ ap (λ (r : List Part). Here (n₂ .s) (n₂ .l) ∷ r) (n₃ .is ∙ ap (λ (r : List Part). n₃ .p ∷ r)
     (n₄ .is ∙ ap (λ (r : List Part). n₄ .p ∷ r) (n₅ .is ∙ ap (λ (r : List Part). n₅ .p ∷ r)
-    (n₆ .is ∙ ap (λ (r : List Part). n₆ .p ∷ r) (n₇ .is ∙ ap (λ (r : List Part). n₇ .p ∷ r) (n₈ .is ∙ ap (λ (r : List Part). n₈ .p ∷ r) (last))))))))) in
+    (n₆ .is ∙ ap (λ (r : List Part). n₆ .p ∷ r)
+    (n₇ .is ∙ ap (λ (r : List Part). n₇ .p ∷ r) (n₈ .is ∙ ap (λ (r : List Part). n₈ .p ∷ r) (last))))))))) in
     subst (λ (q : List Part). messageOf major d (authorityShown d q) ≡ some (messageAt authorityKinds d 8 q)) (sym (all))
     (authority-at major d b m (n₀ .s) (n₀ .l) (n₀ .shaped) (n₀ .within) (n₁ .s) (n₁ .l) (n₁ .shaped) (n₁ .within) o y (n₂ .s) (n₂ .l) (n₂ .shaped)
     (n₂ .within) (n₃ .p) (n₄ .p) (n₅ .p) (n₆ .p) (n₇ .p) (n₈ .p))
 
 -- ACK
-ack-at : (major : ℕ) (d : List ℕ) → Bytes d → major ≡ getD d 5 0 → (s₀ l₀ : ℕ) → hasShape ((ackedKind) .shape) (part s₀ l₀ d) ≡ true → s₀ + l₀ ≤ length d
-    → (p₁ : Part) → Fact (may 0x40 false (Sized 2) lastOfTwo) d 20 p₁ → messageOf major d (ackShown d (Here s₀ l₀ ∷ p₁ ∷ []))
+ack-at : (major : ℕ) (d : List ℕ) → Bytes d → major ≡ getD d 5 0 → (s₀ l₀ : ℕ) → hasShape ((ackedKind) .shape) (part s₀ l₀ d) ≡ true
+    → s₀ + l₀ ≤ length d → (p₁ : Part) → Fact (may 0x40 false (Sized 2) lastOfTwo) d 20 p₁ → messageOf major d (ackShown d (Here s₀ l₀ ∷ p₁ ∷ []))
     ≡ some (messageAt ackKinds d 9 (Here s₀ l₀ ∷ p₁ ∷ []))
 unfolding messageOf headOf
 ack-at major d b m s₀ l₀ g₀ h₀ p₁ f₁ =
@@ -317,12 +325,12 @@ ack-means major d b m ps w =
     let at₁ : after ackedKind 12 (Here (n₀ .s) (n₀ .l)) ≡ 20 = (let e = sized-length 4 d (n₀ .s) (n₀ .l) (n₀ .shaped) (n₀ .within) in rw e) in
     let all = n₀ .is ∙ ap (λ (r : List Part). Here (n₀ .s) (n₀ .l) ∷ r) (n₁ .is ∙ ap (λ (r : List Part). n₁ .p ∷ r) (last)) in
     subst (λ (q : List Part). messageOf major d (ackShown d q) ≡ some (messageAt ackKinds d 9 q)) (sym (all))
-    (ack-at major d b m (n₀ .s) (n₀ .l) (n₀ .shaped) (n₀ .within) (n₁ .p) (subst (λ (i : ℕ). Fact (may 0x40 false (Sized 2) lastOfTwo) d i (n₁ .p)) at₁
-    (n₁ .fact)))
+    (ack-at major d b m (n₀ .s) (n₀ .l) (n₀ .shaped) (n₀ .within) (n₁ .p)
+    (subst (λ (i : ℕ). Fact (may 0x40 false (Sized 2) lastOfTwo) d i (n₁ .p)) at₁ (n₁ .fact)))
 
 -- LOOKUP
-lookup-at : (major : ℕ) (d : List ℕ) → Bytes d → major ≡ getD d 5 0 → (s₀ l₀ : ℕ) → hasShape ((lookupKind) .shape) (part s₀ l₀ d) ≡ true → s₀ + l₀ ≤ length d
-    → (s₁ l₁ : ℕ) → hasShape ((must 0x38 false (Sized 32) []) .shape) (part s₁ l₁ d) ≡ true → s₁ + l₁ ≤ length d → (s₂ l₂ : ℕ)
+lookup-at : (major : ℕ) (d : List ℕ) → Bytes d → major ≡ getD d 5 0 → (s₀ l₀ : ℕ) → hasShape ((lookupKind) .shape) (part s₀ l₀ d) ≡ true
+    → s₀ + l₀ ≤ length d → (s₁ l₁ : ℕ) → hasShape ((must 0x38 false (Sized 32) []) .shape) (part s₁ l₁ d) ≡ true → s₁ + l₁ ≤ length d → (s₂ l₂ : ℕ)
     → hasShape ((must 0x39 false (Sized 32) []) .shape) (part s₂ l₂ d) ≡ true → s₂ + l₂ ≤ length d → (p₃ : Part) → (s₄ l₄ : ℕ)
     → hasShape ((must 0x9E false endpoints []) .shape) (part s₄ l₄ d) ≡ true → s₄ + l₄ ≤ length d → (p₅ : Part) → (p₆ : Part) → (p₇ : Part)
     → messageOf major d (lookupShown d (Here s₀ l₀ ∷ Here s₁ l₁ ∷ Here s₂ l₂ ∷ p₃ ∷ Here s₄ l₄ ∷ p₅ ∷ p₆ ∷ p₇ ∷ []))
@@ -361,5 +369,5 @@ lookup-means major d b m ps w =
     (n₄ .is ∙ ap (λ (r : List Part). Here (n₄ .s) (n₄ .l) ∷ r) (n₅ .is ∙ ap (λ (r : List Part). n₅ .p ∷ r)
     (n₆ .is ∙ ap (λ (r : List Part). n₆ .p ∷ r) (n₇ .is ∙ ap (λ (r : List Part). n₇ .p ∷ r) (last)))))))) in
     subst (λ (q : List Part). messageOf major d (lookupShown d q) ≡ some (messageAt lookupKinds d 11 q)) (sym (all))
-    (lookup-at major d b m (n₀ .s) (n₀ .l) (n₀ .shaped) (n₀ .within) (n₁ .s) (n₁ .l) (n₁ .shaped) (n₁ .within) (n₂ .s) (n₂ .l) (n₂ .shaped) (n₂ .within)
-    (n₃ .p) (n₄ .s) (n₄ .l) (n₄ .shaped) (n₄ .within) (n₅ .p) (n₆ .p) (n₇ .p))
+    (lookup-at major d b m (n₀ .s) (n₀ .l) (n₀ .shaped) (n₀ .within) (n₁ .s) (n₁ .l) (n₁ .shaped) (n₁ .within) (n₂ .s) (n₂ .l) (n₂ .shaped)
+    (n₂ .within) (n₃ .p) (n₄ .s) (n₄ .l) (n₄ .shaped) (n₄ .within) (n₅ .p) (n₆ .p) (n₇ .p))

@@ -1,5 +1,5 @@
--- Laws of an AUTHORITY written again with another payload: what is made is the message with that field changed. In this order: it is right; what follows the
--- split controls; the whole. Assumes nothing.
+-- Laws of an AUTHORITY written again with another payload: what is made is the message with that field changed. In this order: it is right; what
+-- follows the split controls; the whole. Assumes nothing.
 use Prim.Native.Nat.{ℕ, _+_, _-_, _*_, _≤_, _<_}
 use native.Mathlib.Omega.{arith}
 use mathlib.Core.List.{List, [], _∷_, _++_}
@@ -72,8 +72,10 @@ module _ (major : ℕ) (d : List ℕ) (h : Head) (acked : ℕ) (f : Inside) (v :
   unfolding resent madeBy digitsBE hasShape
   payload-within s l e q =
       stands-within s l (subst (λ (p : Part). stands (mayRow 0x5A true Any) p ≡ true) q
-      (within-by (stands (mayRow 0x80 true Any) (f .chain)) (stands (mayRow 0x9F true Any) (f .token)) (stands (mayRow 0x85 true codes) (f .classifier))
-      (stands (mayRow 0x5A true Any) (f .payload)) (stands (mayRow 0x9A true Entry) (f .entry) && (stands (mayRow 0x9B false Any) (f .cpa) && true)) e))
+      (within-by (stands (mayRow 0x80 true Any) (f .chain)) (stands (mayRow 0x9F true Any) (f .token))
+      (stands (mayRow 0x85 true codes) (f .classifier))
+      (stands (mayRow 0x5A true Any) (f .payload))
+      (stands (mayRow 0x9A true Entry) (f .entry) && (stands (mayRow 0x9B false Any) (f .cpa) && true)) e))
 
   -- ---- what follows the split controls
 
@@ -108,7 +110,8 @@ module _ (major : ℕ) (d : List ℕ) (h : Head) (acked : ℕ) (f : Inside) (v :
   followed : Formed bufferKinds behind → length (carrying major d h acked f v 0 .bytes) ≡ 28 + length (bytesOf (layoutFrom 28 bufferKinds behind))
   unfolding carrying madeBy digitsBE
   followed g =
-      let e = rows-bytes bufferKinds (drop 2 authorityRows) 28 behind (drop 2 (contentsOf (givensOf major (h .minor) (lentWith 0) (carryingPieces f v))))
+      let e = rows-bytes bufferKinds (drop 2 authorityRows) 28 behind
+      (drop 2 (contentsOf (givensOf major (h .minor) (lentWith 0) (carryingPieces f v))))
       (authority-rows .2 .2) g (given-behind 0) in
       omega (arith, ap length e)
 
@@ -128,11 +131,13 @@ module _ (major : ℕ) (d : List ℕ) (h : Head) (acked : ℕ) (f : Inside) (v :
   -- header, acked ID, split controls, and what follows them
   front : ℕ → List ℕ → List ℕ
   front size rest =
-      headerOf seen ++ digitsBE 256 2 0x18 ++ digitsBE 256 2 8 ++ digitsBE 256 4 acked ++ digitsBE 256 2 0x98 ++ digitsBE 256 2 8 ++ splitBytes size ++ rest
+      headerOf seen ++ digitsBE 256 2 0x18 ++ digitsBE 256 2 8 ++ digitsBE 256 4 acked ++ digitsBE 256 2 0x98 ++ digitsBE 256 2 8
+      ++ splitBytes size ++ rest
 
   abbrev restGiven : ℕ → List ℕ
   restGiven size =
-      bytesOf (layoutFrom 28 (kindsOfRows (drop 2 authorityRows)) (drop 2 (contentsOf (givensOf major (h .minor) (lentWith size) (carryingPieces f v)))))
+      bytesOf (layoutFrom 28 (kindsOfRows (drop 2 authorityRows))
+      (drop 2 (contentsOf (givensOf major (h .minor) (lentWith size) (carryingPieces f v)))))
 
   made-front : (size : ℕ) → carrying major d h acked f v size .bytes ≡ front size (restGiven size)
   unfolding carrying madeBy digitsBE front
@@ -143,12 +148,14 @@ module _ (major : ℕ) (d : List ℕ) (h : Head) (acked : ℕ) (f : Inside) (v :
   unfolding digitsBE front
   changed-front = refl
 
-  payload-bytes : Formed bufferKinds behind → withPayload major d h acked f v .bytes ≡ bytesOf (layoutOf authorityKinds (changed authorityKinds seen 6 (some v)))
+  payload-bytes : Formed bufferKinds behind
+      → withPayload major d h acked f v .bytes ≡ bytesOf (layoutOf authorityKinds (changed authorityKinds seen 6 (some v)))
   unfolding withPayload
   payload-bytes g =
       let size = length (carrying major d h acked f v 0 .bytes) - 28 in
       let told : size ≡ length (bytesOf (layoutFrom 28 bufferKinds behind)) = omega (arith, followed g) in
-      let same = rows-bytes bufferKinds (drop 2 authorityRows) 28 behind (drop 2 (contentsOf (givensOf major (h .minor) (lentWith size) (carryingPieces f v))))
+      let same = rows-bytes bufferKinds (drop 2 authorityRows) 28 behind
+      (drop 2 (contentsOf (givensOf major (h .minor) (lentWith size) (carryingPieces f v))))
       (authority-rows .2 .2) g (given-behind size) in
       made-front size ∙ ap₂ (λ (n : ℕ) (rest : List ℕ). front n rest) told same ∙ sym changed-front
 

@@ -1,6 +1,5 @@
--- Laws of what is written again being right: a place that was found is a piece of its row's shape, and so the pieces of an answer of each type are right
--- for its
--- rows. Assumes nothing.
+-- Laws of what is written again being right: a place that was found is a piece of its row's shape, and so the pieces of an answer of each type
+-- are right for its rows. Assumes nothing.
 use Prim.Native.Nat.{ℕ, suc, _+_, _≤_}
 use native.Mathlib.Omega.{arith}
 use mathlib.Core.List.{List, [], _∷_}
@@ -14,13 +13,15 @@ use Rattle.octet.specs.Part.{part}
 use Rattle.wire_fields.specs.Field.{numberAt}
 use Rattle.wire_fields.specs.Shapes.{Kind, hasShape, lookupForm, isCriteria}
 use Rattle.wire_fields.specs.Kinds.{oneOf, keyList, endpoints, codes}
-use Rattle.wire_fields.specs.Kinds.{solicitKinds, advertiseKinds, requestKinds, floodKinds, inquireKinds, bufferKinds, authorityKinds, ackKinds, lookupKinds}
+use Rattle.wire_fields.specs.Kinds.{solicitKinds, advertiseKinds, requestKinds, floodKinds, inquireKinds}
+use Rattle.wire_fields.specs.Kinds.{bufferKinds, authorityKinds, ackKinds, lookupKinds}
 use Rattle.wire_fields.specs.declared.Part.{Part}
 use Rattle.wire_fields.specs.declared.Part.the-variants.{Here, Absent}
 use Rattle.wire_fields.specs.declared.Shape.{Shape}
 use Rattle.wire_fields.specs.declared.Shape.the-variants.{Sized, Any, Entry, Lookup}
 use Rattle.wire_fields.proofs.ShapeLaws.{lookup-in}
-use Rattle.wire_read.specs.Answers.{flagAt, headOf, isHere, startOf, solicitShown, advertiseShown, requestShown, floodShown, inquireShown, authorityShown}
+use Rattle.wire_read.specs.Answers.{flagAt, headOf, isHere, startOf, solicitShown}
+use Rattle.wire_read.specs.Answers.{advertiseShown, requestShown, floodShown, inquireShown, authorityShown}
 use Rattle.wire_read.specs.Answers.{ackShown, lookupShown}
 use Rattle.wire_write.specs.Writing.{Made}
 use Rattle.wire_write.specs.Pieces.{Lent, lentOf, pieceOk, rowsOk, madeBy}
@@ -70,8 +71,8 @@ all-ok l [] ps h = refl
 all-ok l (r ∷ rs) [] h = refl
 all-ok l (r ∷ rs) (p ∷ ps) h = ap₂ _&&_ (h .0) (all-ok l rs ps (h .1))
 
-made-ok : (x : Made) (major minor type id : ℕ) (l : Lent) (rs : List Row) (ps : List Piece) → x ≡ madeBy major minor type id l rs ps → AllOk l rs ps → x .ok
-    ≡ true
+made-ok : (x : Made) (major minor type id : ℕ) (l : Lent) (rs : List Row) (ps : List Piece) → x ≡ madeBy major minor type id l rs ps
+    → AllOk l rs ps → x .ok ≡ true
 unfolding madeBy
 made-ok x major minor type id l rs ps e h = ap (λ (y : Made). y .ok) e ∙ all-ok l rs ps h
 
@@ -241,13 +242,13 @@ module _ (major : ℕ) (d : List ℕ) (ps : List Part) where
     ),
   )
 
-  pub flood-right : oneOf (isHere (getD ps 3 Absent)) (isHere (getD ps 4 Absent)) ≡ true → Rights floodKinds d ps 0 → resent major d (floodShown d ps) .ok
-      ≡ true
+  pub flood-right : oneOf (isHere (getD ps 3 Absent)) (isHere (getD ps 4 Absent)) ≡ true → Rights floodKinds d ps 0
+      → resent major d (floodShown d ps) .ok ≡ true
   unfolding resent hasShape digitsBE headOf
   flood-right j w = made-ok (resent major d (floodShown d ps)) major (getD d 6 0) 4 (numberAt 8 4 d)
       (lentOf (ownBytes 0 0 0 (bit (flagAt d (startOf (getD ps 0 Absent)) 1 1))) d d) floodRows
-      (ownPiece 8 3 ∷ firstPiece (startOf (getD ps 1 Absent)) 32 ∷ pieceOf (getD ps 2 Absent) ∷ pieceOf (getD ps 3 Absent) ∷ pieceOf (getD ps 4 Absent)
-      ∷ pieceOf (getD ps 5 Absent) ∷ noPiece ∷ noPiece ∷ noPiece ∷ [])
+      (ownPiece 8 3 ∷ firstPiece (startOf (getD ps 1 Absent)) 32 ∷ pieceOf (getD ps 2 Absent) ∷ pieceOf (getD ps 3 Absent)
+      ∷ pieceOf (getD ps 4 Absent) ∷ pieceOf (getD ps 5 Absent) ∷ noPiece ∷ noPiece ∷ noPiece ∷ [])
       (rw j) (
         refl,
         (

@@ -14,6 +14,7 @@ use Rattle.octet.specs.Part.{part}
 use Rattle.octet.proofs.PartLaws.{part-digits, part-at}
 use Rattle.octet.proofs.TestLaws.{both-true}
 use Rattle.octet.proofs.BigLaws.{length-digitsBE, valueBE-digitsBE}
+use Rattle.octet.proofs.BytesLaws.{bytes-nil, bytes-cons, bytes-append, bytes-digits}
 use Rattle.record.specs.Record.{countOf, recordForm}
 use Rattle.record.specs.Entry.{entryOf}
 use Rattle.record.proofs.EntryLaws.{entry-form}
@@ -21,14 +22,14 @@ use Rattle.record.proofs.PlaceLaws.{record-at, entry-length, entry-in}
 use Rattle.wire_fields.specs.Field.{numberAt, gap}
 use Rattle.wire_fields.specs.Shapes.{hasShape, splitForm}
 use Rattle.wire_fields.specs.declared.Part.the-variants.{Here}
-use Rattle.wire_fields.specs.Kinds.{must, may, ackedKind, splitKind, flagsLBN, kindsOf, joined, sized, derived, floodKinds, authorityKinds, splitBytes}
+use Rattle.wire_fields.specs.Kinds.{must, may, ackedKind, splitKind, flagsLBN, kindsOf}
+use Rattle.wire_fields.specs.Kinds.{joined, sized, derived, floodKinds, authorityKinds, splitBytes}
 use Rattle.wire_fields.specs.Message.{Held, layoutOf, bytesOf}
 use Rattle.wire_fields.specs.declared.Shape.the-variants.{Sized, Entry}
 use Rattle.wire_write.specs.Writing.{fit}
 use Rattle.wire_write.specs.Sent.{floodSent, cpaSent, closestSent}
 use Rattle.wire_write.specs.Making.{floodMade, inquireMade, cpaMade, closestMade, formedAt}
 use Rattle.wire.specs.Sending.{AckFormed, FloodFormed, InquireFormed, CpaFormed, ClosestFormed}
-use Rattle.wire.proofs.BytesLaws.{bytes-nil, bytes-cons, bytes-append, bytes-digits}
 
 -- ---- fields that are the writer's own
 
@@ -93,7 +94,18 @@ ack-formed major minor id acked true h =
       minor-byte = h .1;
       type-byte = omega arith;
       id-small = h .2;
-      formed = (acked-held acked, (record { shaped = refl; clear = refl; whole = small-bytes 0 1 (omega arith) (omega arith); short = omega arith }, tt));
+      formed = (
+        acked-held acked,
+        (
+          record {
+            shaped = refl;
+            clear = refl;
+            whole = small-bytes 0 1 (omega arith) (omega arith);
+            short = omega arith;
+          },
+          tt,
+        ),
+      );
       joins = refl;
       sizes = refl;
       fits = omega arith;
@@ -162,7 +174,8 @@ flood-formed major minor id key s at old h bk bs e f =
 -- split controls of a whole buffer
 split-size : (size : ℕ) → size ≤ 1232 → numberAt 0 2 (splitBytes size) ≡ size
 split-size size h =
-    ap (valueBE 256) (take-at (digitsBE 256 2 size) (0 ∷ 0 ∷ []) 2 (length-digitsBE 256 2 size)) ∙ valueBE-digitsBE 256 2 size (omega arith) (omega arith)
+    ap (valueBE 256) (take-at (digitsBE 256 2 size) (0 ∷ 0 ∷ []) 2 (length-digitsBE 256 2 size))
+    ∙ valueBE-digitsBE 256 2 size (omega arith) (omega arith)
 
 split-offset : (size : ℕ) → numberAt 2 2 (splitBytes size) ≡ 0
 unfolding digitsBE valueBE
@@ -181,7 +194,10 @@ split-held size h =
 
 pub follows : (total s l size : ℕ) → size ≤ 1232 → total - (s + l) ≡ size → derived total (Here s l) (some (splitBytes size)) ≡ true
 follows total s l size h e =
-    rw (eq-eqb (numberAt 0 2 (splitBytes size)) (total - (s + l)) (split-size size h ∙ sym e), eq-eqb (numberAt 2 2 (splitBytes size)) 0 (split-offset size))
+    rw (
+      eq-eqb (numberAt 0 2 (splitBytes size)) (total - (s + l)) (split-size size h ∙ sym e),
+      eq-eqb (numberAt 2 2 (splitBytes size)) 0 (split-offset size),
+    )
 
 flags-held : Held (must 0x40 true (Sized 2) flagsLBN) (0 ∷ 0 ∷ [])
 unfolding hasShape
@@ -224,7 +240,8 @@ cpa-formed major minor id acked cpa old h b f =
         ),
       );
       joins = refl;
-      sizes = follows (length (bytesOf (layoutOf authorityKinds (cpaSent major minor id acked cpa)))) 24 4 (12 + length cpa) (omega arith) (omega arith);
+      sizes = follows (length (bytesOf (layoutOf authorityKinds (cpaSent major minor id acked cpa)))) 24 4 (12 + length cpa) (omega arith)
+          (omega arith);
       fits = m;
     }
 
@@ -256,7 +273,8 @@ closest-formed major minor id acked s at h b e =
         ),
       );
       joins = refl;
-      sizes = follows (length (bytesOf (layoutOf authorityKinds (closestSent major minor id acked (part at 100 s))))) 24 4 (52 + 16 * countOf (part at 100 s))
+      sizes = follows (length (bytesOf (layoutOf authorityKinds (closestSent major minor id acked (part at 100 s))))) 24 4
+          (52 + 16 * countOf (part at 100 s))
           (omega arith) (omega arith);
       fits = omega arith;
     }

@@ -1,5 +1,5 @@
--- What holds of every answer of reading: of each refusal, and of each type of message, with its places as they stand in a datagram of at most 1,232 bytes.
--- Assumes nothing.
+-- What holds of every answer of reading: of each refusal, and of each type of message, with its places as they stand in a datagram of at most
+-- 1,232 bytes. Assumes nothing.
 use Prim.Native.Nat.{ℕ, _≤_}
 use native.Mathlib.Omega.{arith}
 use mathlib.Core.Path.{_≡_, refl, sym, ap, subst, _∙_}

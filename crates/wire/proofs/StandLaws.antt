@@ -21,7 +21,8 @@ use Rattle.wire_fields.specs.declared.Shape.the-variants.{Sized}
 use Rattle.wire_fields.proofs.SpanLaws.{span-fits}
 use Rattle.wire_fields.proofs.FieldLaws.{Came, left-out, found, field-came}
 
--- a place for each kind, from place i on: none only where it is optional, and else right behind the field's head, within the datagram and of the shape
+-- a place for each kind, from place i on: none only where it is optional, and else right behind the field's head, within the datagram and of the
+-- shape
 abbrev pub Fact : Kind → List ℕ → ℕ → Part → Type 0
 Fact k d i Absent = k .optional ≡ true
 Fact k d i (Here s l) = (hasShape (k .shape) (part s l d) ≡ true) × (s + l ≤ length d) × (s ≡ i + 4)

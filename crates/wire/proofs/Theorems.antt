@@ -14,7 +14,8 @@ use Rattle.refusal.proofs.CallLaws.{call-exactly}
 use Rattle.wire_fields.specs.Shapes.{Kind, hasShape}
 use Rattle.wire_fields.specs.declared.Shape.the-variants.{Any}
 use Rattle.wire_fields.specs.Kinds.{kindsOf, may}
-use Rattle.wire_fields.specs.Kinds.{solicitKinds, advertiseKinds, requestKinds, floodKinds, inquireKinds, authorityKinds, ackKinds, lookupKinds, joined}
+use Rattle.wire_fields.specs.Kinds.{solicitKinds, advertiseKinds, requestKinds, floodKinds, inquireKinds}
+use Rattle.wire_fields.specs.Kinds.{authorityKinds, ackKinds, lookupKinds, joined}
 use Rattle.wire_fields.specs.Kinds.{sized}
 use Rattle.wire_fields.specs.Message.{Contents, Held, opening, Message, Formed, Reads, layoutOf, bytesOf, partsOf, typeOf}
 use Rattle.wire_fields.specs.Reading.{messageAt, valuesOf, placesAt, fieldsAs}
@@ -57,8 +58,9 @@ at-most-one ks js d m n p q = reads-once ks js d m n p q
 -- what holds of the answer of each type, of its kinds, holds of the answer shown
 abbrev Holds : (ℕ → List Kind → Answer → Type 0) → List ℕ → List Part → Type 0
 Holds P d ps =
-    P 1 solicitKinds (solicitShown d ps) × P 2 advertiseKinds (advertiseShown d ps) × P 3 requestKinds (requestShown d ps) × P 4 floodKinds (floodShown d ps)
-    × P 7 inquireKinds (inquireShown d ps) × P 8 authorityKinds (authorityShown d ps) × P 9 ackKinds (ackShown d ps) × P 11 lookupKinds (lookupShown d ps)
+    P 1 solicitKinds (solicitShown d ps) × P 2 advertiseKinds (advertiseShown d ps) × P 3 requestKinds (requestShown d ps)
+    × P 4 floodKinds (floodShown d ps) × P 7 inquireKinds (inquireShown d ps) × P 8 authorityKinds (authorityShown d ps)
+    × P 9 ackKinds (ackShown d ps) × P 11 lookupKinds (lookupShown d ps)
 
 module _ (P : ℕ → List Kind → Answer → Type 0) (d : List ℕ) (ps : List Part) (h : Holds P d ps) (t : ℕ) (ks : List Kind) where
   of-kind : (n : ℕ) (js : List Kind) (a : Answer) → P n js a → eqb t n ≡ true → some js ≡ some ks → P t ks a
@@ -68,8 +70,8 @@ module _ (P : ℕ → List Kind → Answer → Type 0) (d : List ℕ) (ps : List
 
   by-kind : (a₁ : Bool) → eqb t 1 ≡ a₁ → (a₂ : Bool) → eqb t 2 ≡ a₂ → (a₃ : Bool) → eqb t 3 ≡ a₃ → (a₄ : Bool) → eqb t 4 ≡ a₄
       → (a₇ : Bool) → eqb t 7 ≡ a₇ → (a₈ : Bool) → eqb t 8 ≡ a₈ → (a₉ : Bool) → eqb t 9 ≡ a₉ → (b₁ : Bool) → eqb t 11 ≡ b₁
-      → cond a₁ (some solicitKinds) (cond a₂ (some advertiseKinds) (cond a₃ (some requestKinds) (cond a₄ (some floodKinds) (cond a₇ (some inquireKinds)
-      (cond a₈ (some authorityKinds) (cond a₉ (some ackKinds) (cond b₁ (some lookupKinds) none))))))) ≡ some ks
+      → cond a₁ (some solicitKinds) (cond a₂ (some advertiseKinds) (cond a₃ (some requestKinds) (cond a₄ (some floodKinds)
+      (cond a₇ (some inquireKinds) (cond a₈ (some authorityKinds) (cond a₉ (some ackKinds) (cond b₁ (some lookupKinds) none))))))) ≡ some ks
       → P t ks (cond a₁ (solicitShown d ps) (cond a₂ (advertiseShown d ps) (cond a₃ (requestShown d ps) (cond a₄ (floodShown d ps)
       (cond a₇ (inquireShown d ps) (cond a₈ (authorityShown d ps) (cond a₉ (ackShown d ps) (lookupShown d ps))))))))
   by-kind true q₁ a₂ q₂ a₃ q₃ a₄ q₄ a₇ q₇ a₈ q₈ a₉ q₉ b₁ r₁ e = of-kind 1 solicitKinds (solicitShown d ps) (h .0) q₁ e
@@ -100,7 +102,8 @@ found-stand major d t ps e ks k =
 -- what is found, `read` says
 abbrev Means : ℕ → List ℕ → List Part → ℕ → List Kind → Answer → Type 0
 Means major d ps t ks a =
-    Bytes d → major ≡ getD d 5 0 → Stand ks d 12 ps → sized t (length d) ps (valuesOf ks d ps) ≡ true → messageOf major d a ≡ some (messageAt ks d t ps)
+    Bytes d → major ≡ getD d 5 0 → Stand ks d 12 ps → sized t (length d) ps (valuesOf ks d ps) ≡ true
+    → messageOf major d a ≡ some (messageAt ks d t ps)
 
 means : (major : ℕ) (d : List ℕ) (ps : List Part) → Holds (Means major d ps) d ps
 means major d ps = (
@@ -166,8 +169,8 @@ zero-cond false x y p q = q
 accepted : (d : List ℕ) (t : ℕ) (ps : List Part) → numberOf (shown d (found t ps)) ≡ 0
 unfolding shown
 accepted d t ps =
-    zero-cond (eqb t 1) _ _ refl (zero-cond (eqb t 2) _ _ refl (zero-cond (eqb t 3) _ _ refl (zero-cond (eqb t 4) _ _ refl (zero-cond (eqb t 7) _ _ refl
-    (zero-cond (eqb t 8) _ _ refl (zero-cond (eqb t 9) _ _ refl refl))))))
+    zero-cond (eqb t 1) _ _ refl (zero-cond (eqb t 2) _ _ refl (zero-cond (eqb t 3) _ _ refl (zero-cond (eqb t 4) _ _ refl
+    (zero-cond (eqb t 7) _ _ refl (zero-cond (eqb t 8) _ _ refl (zero-cond (eqb t 9) _ _ refl refl))))))
 
 numbered : (d : List ℕ) (n : ℕ) → numberOf (shown d (refused n)) ≡ n
 unfolding shown
@@ -190,7 +193,8 @@ either : (d : List ℕ) (b : Bool) (x y : Found)
 either d true x y p q e = p e
 either d false x y p q e = q e
 
-of-type : (d : List ℕ) (t : ℕ) (o : Option (List Kind)) → numberOf (shown d (byType t d o)) ≡ 0 → (u : ℕ) × (ps : List Part) × (byType t d o ≡ found u ps)
+of-type : (d : List ℕ) (t : ℕ) (o : Option (List Kind)) → numberOf (shown d (byType t d o)) ≡ 0
+    → (u : ℕ) × (ps : List Part) × (byType t d o ≡ found u ps)
 of-type d t none e = refuses d 5 (omega arith) e
 of-type d t (some ks) e =
     either d (inPart t d) (refused 7) (foundOf t (fieldsAs t ks d)) (refuses d 7 (omega arith)) (of-fields t (fieldsAs t ks d)) e

@@ -51,7 +51,8 @@ module _ (d : List ℕ) (s : ℕ) where
       → keep flagsAXC (part s 2 d) ≡ 0 ∷ (16 * bit (flagAt d s 1 16) + (8 * bit (flagAt d s 1 8) + 4 * bit (flagAt d s 1 4))) ∷ []
   axc-kept h =
       let b = getD d (s + 1) 0 in
-      let e : b / 16 % 2 * 16 + (b / 8 % 2 * 8 + (b / 4 % 2 * 4 + 0)) ≡ 16 * bit (flagAt d s 1 16) + (8 * bit (flagAt d s 1 8) + 4 * bit (flagAt d s 1 4)) =
+      let e : b / 16 % 2 * 16 + (b / 8 % 2 * 8 + (b / 4 % 2 * 4 + 0))
+      ≡ 16 * bit (flagAt d s 1 16) + (8 * bit (flagAt d s 1 8) + 4 * bit (flagAt d s 1 4)) =
       rw (flag-bit d s 1 16, flag-bit d s 1 8, flag-bit d s 1 4) (omega arith) in
       rw (two-bytes d s h, e)
 

@@ -63,7 +63,8 @@ module _ (k : Kind) (ks : List Kind) (d : List ℕ) (i : ℕ) where
     whole-came s l c q false g e = absurd (let z : _≡_ {A = ℕ} 0 1 = cc in omega arith)
 
     -- the test goes through what follows it
-    after-maybe : (g : Bool) (p : Part) (c : Cursor) → afterMaybe (placesAt ks d) (cond g (Taken p c) Malformed) ≡ cond g (before p (placesAt ks d (c .at))) none
+    after-maybe : (g : Bool) (p : Part) (c : Cursor)
+        → afterMaybe (placesAt ks d) (cond g (Taken p c) Malformed) ≡ cond g (before p (placesAt ks d (c .at))) none
     after-maybe true p c = refl
     after-maybe false p c = refl
 

@@ -12,7 +12,9 @@ use Rattle.octet.specs.Number.{Bytes}
 use mathlib.Core.Bool.{cond}
 use Rattle.wire_fields.specs.Field.{bits, keep}
 use Rattle.wire_fields.specs.Shapes.{Kind, hasShape, lookupForm}
-use Rattle.wire_fields.specs.Kinds.{ackKinds, floodKinds, lookupKinds, solicitKinds, advertiseKinds, requestKinds, inquireKinds, bufferKinds, authorityKinds, keepLookup, endpoints, keyList, codes, kindsOf, lastOfTwo, lastOfTwoAndOne, noneOfTwo, flagsAXC, flagsLBN}
+use Rattle.wire_fields.specs.Kinds.{ackKinds, floodKinds, lookupKinds, solicitKinds, advertiseKinds, requestKinds, inquireKinds}
+use Rattle.wire_fields.specs.Kinds.{bufferKinds, authorityKinds, keepLookup, endpoints, keyList, codes, kindsOf}
+use Rattle.wire_fields.specs.Kinds.{lastOfTwo, lastOfTwoAndOne, noneOfTwo, flagsAXC, flagsLBN}
 use Rattle.wire_fields.specs.declared.Shape.{Shape}
 use Rattle.wire_fields.specs.declared.Shape.the-variants.{Sized, Any, Entry, Lookup, Split}
 use Rattle.wire_fields.proofs.TableLaws.{Law, Lawful}

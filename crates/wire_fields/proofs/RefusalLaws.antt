@@ -62,7 +62,8 @@ six-seven false t (some ps) = refl
 
 by-type : (d : List ℕ) (t : ℕ) (o : Option (List Kind))
     → cond (not (present o)) (refused 5)
-    (cond (not (inPart t d) && not (present (fieldsBy t d o))) (refused 6) (cond (inPart t d) (refused 7) (found t (placesOf (fieldsBy t d o))))) ≡ byType t d o
+    (cond (not (inPart t d) && not (present (fieldsBy t d o))) (refused 6) (cond (inPart t d) (refused 7) (found t (placesOf (fieldsBy t d o)))))
+    ≡ byType t d o
 by-type d t none = refl
 by-type d t (some ks) = six-seven (inPart t d) t (fieldsAs t ks d)
 

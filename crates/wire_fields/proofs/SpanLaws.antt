@@ -68,7 +68,15 @@ module _ (d : List ℕ) (i n : ℕ) (p : Bool) (s l : ℕ) (c : Cursor) where
       let h₃ : 4 ≤ numberAt (i + 2) 2 d = leb-true _ _ q₃ in
       let el : numberAt (i + 2) 2 d - 4 ≡ l = cc in
       let ec : _≡_ {A = Cursor} (record { at = nextAt d i p }) c = cc in
-      record { room = leb-true _ _ q₁; number = eqb-true _ _ q₂; least = h₃; within = leb-true _ _ q₄; starts = cc; long = omega arith; goes = sym (ap (λ (x : Cursor). x .at) ec) }
+      record {
+        room = leb-true _ _ q₁;
+        number = eqb-true _ _ q₂;
+        least = h₃;
+        within = leb-true _ _ q₄;
+        starts = cc;
+        long = omega arith;
+        goes = sym (ap (λ (x : Cursor). x .at) ec);
+      }
   go true q₁ true q₂ true q₃ false q₄ e = absurd (let z : _≡_ {A = ℕ} 0 1 = cc in omega arith)
   go true q₁ true q₂ false q₃ b₄ q₄ e = absurd (let z : _≡_ {A = ℕ} 0 1 = cc in omega arith)
   go true q₁ false q₂ b₃ q₃ b₄ q₄ e = absurd (let z : _≡_ {A = ℕ} 0 1 = cc in omega arith)

@@ -84,7 +84,8 @@ sound-step : (k : Kind) → Law k → (ks : List Kind) (d : List ℕ) → Bytes 
 sound-step k w ks d b i ih ps (left-out qs e o q) = let r = ih i qs q in rw e ((o, r .0), r .1)
 sound-step k w ks d b i ih ps (found s l c qs e q g r) = rw e (sound-here k w ks d b i s l c qs q g (ih (c .at) qs r))
 
-at-end : (d : List ℕ) (i : ℕ) (ps : List Part) (t : Bool) → eqb i (length d) ≡ t → _≡_ {A = Option (List Part)} (cond t (some []) none) (some ps) → drop i d ≡ []
+at-end : (d : List ℕ) (i : ℕ) (ps : List Part) (t : Bool) → eqb i (length d) ≡ t → _≡_ {A = Option (List Part)} (cond t (some []) none) (some ps)
+    → drop i d ≡ []
 at-end d i ps true q e = let h : i ≡ length d = eqb-true i (length d) q in drop-of-length-le d {i = i} (omega arith)
 at-end d i ps false q e = absurd (let z : _≡_ {A = ℕ} 0 1 = cc in omega arith)
 

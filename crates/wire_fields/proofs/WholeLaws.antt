@@ -17,7 +17,8 @@ use mathlib.Core.Bool.{cond}
 use Rattle.wire_fields.specs.Field.{numberAt, gap}
 use Rattle.wire_fields.specs.Shapes.{Kind}
 use Rattle.wire_fields.specs.Kinds.{kindsOf, joined, sized}
-use Rattle.wire_fields.specs.Message.{opening, Segment, Contents, Formed, ends, layoutFrom, bytesOf, cleared, Message, headerOf, layoutOf, partsOf, WellFormed, Reads}
+use Rattle.wire_fields.specs.Message.{opening, Segment, Contents, Formed, ends, layoutFrom, bytesOf}
+use Rattle.wire_fields.specs.Message.{cleared, Message, headerOf, layoutOf, partsOf, WellFormed, Reads}
 use Rattle.octet.specs.Part.{same}
 use Rattle.octet.specs.Number.{digitsBE}
 use Rattle.octet.proofs.PartLaws.{part-add, part-one, part-two}

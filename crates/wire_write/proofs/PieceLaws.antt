@@ -1,4 +1,5 @@
--- Laws of the loops over rows and pieces: one step of the test, of the end and of the bytes put; pieces that are right stand within their slices. Assumes nothing.
+-- Laws of the loops over rows and pieces: one step of the test, of the end and of the bytes put; pieces that are right stand within their slices.
+-- Assumes nothing.
 use Prim.Native.Nat.{ℕ, _+_, _≤_, _<_, min}
 use native.Mathlib.Decide.{decLe}
 use native.Mathlib.Omega.{arith}
@@ -17,7 +18,8 @@ use Rattle.record.specs.Record.{recordForm}
 use Rattle.record.proofs.PlaceLaws.{record-at, entry-length}
 use Rattle.wire_fields.specs.Shapes.{Kind, hasShape}
 use Rattle.wire_fields.specs.declared.Shape.the-variants.{Sized}
-use Rattle.wire_write.specs.Pieces.{Given, Lent, sourceOf, contentsFrom, lenFrom, InFrom, PieceIn, AllIn, okFrom, pieceOk, rowsOk, pieceBytes, givensOf, partBytes, pastOf, kindsOfRows, endRows}
+use Rattle.wire_write.specs.Pieces.{Given, Lent, sourceOf, contentsFrom, lenFrom, InFrom, PieceIn, AllIn, okFrom}
+use Rattle.wire_write.specs.Pieces.{pieceOk, rowsOk, pieceBytes, givensOf, partBytes, pastOf, kindsOfRows, endRows}
 use Rattle.wire_write.specs.declared.Row.{Row}
 use Rattle.wire_write.specs.declared.Piece.{Piece}
 use Rattle.wire_write.specs.declared.Source.the-variants.{Own}
@@ -57,7 +59,8 @@ ok-from-in s r p e = (as-entry, as-bytes)
     as-bytes : p .entry ≡ false → p .start + p .len ≤ length s
     as-bytes t =
         let f : leb (p .start + p .len) (length s) && hasShape (r .shape) (part (p .start) (p .len) s) ≡ true = rw t at e in
-        leb-true (p .start + p .len) (length s) (both-true (leb (p .start + p .len) (length s)) (hasShape (r .shape) (part (p .start) (p .len) s)) f .0)
+        leb-true (p .start + p .len) (length s)
+        (both-true (leb (p .start + p .len) (length s)) (hasShape (r .shape) (part (p .start) (p .len) s)) f .0)
 
 ok-in : (l : Lent) (r : Row) (p : Piece) → pieceOk l r p ≡ true → PieceIn l p
 ok-in l r p e t = ok-from-in (sourceOf l (p .source)) r p (rw t at e)
@@ -95,13 +98,15 @@ cap-all ks gs x y e = go (decLe y 1233)
     go (yes h) = let z : x ≡ y = omega arith in ap (λ (n : ℕ). min 1233 (endAll n ks gs)) z
     go (no h) = let a = end-least ks x gs in let b = end-least ks y gs in omega arith
 
-module _ (major minor : ℕ) (l : Lent) (rows : List Row) (ps : List Piece) (i : ℕ) (r₀ : Row) (p₀ : Piece) (hr : i < length rows) (hp : i < length ps) where
+module _ (major minor : ℕ) (l : Lent) (rows : List Row) (ps : List Piece) (i : ℕ) (r₀ : Row) (p₀ : Piece) (hr : i < length rows)
+    (hp : i < length ps) where
   pub step-ok : rowsOk l (drop i rows) (drop i ps)
       ≡ pieceOk l (getD rows i r₀) (getD ps i p₀) && rowsOk l (drop (i + 1) rows) (drop (i + 1) ps)
   step-ok = rw (row-cons rows i r₀ hr, piece-cons ps i p₀ hp)
 
   pub step-put : (o : List ℕ) (at : ℕ) → putAll o at (kindsOfRows (drop i rows)) (givensOf major minor l (drop i ps))
-      ≡ putAll (splice at (partBytes at (getD ps i p₀ .there) (getD rows i r₀ .number) (getD rows i r₀ .padded) (pieceBytes major minor l (getD ps i p₀))) o)
+      ≡ putAll (splice at (partBytes at (getD ps i p₀ .there) (getD rows i r₀ .number) (getD rows i r₀ .padded)
+      (pieceBytes major minor l (getD ps i p₀))) o)
       (pastOf at (getD ps i p₀ .there) (getD rows i r₀ .padded) (length (pieceBytes major minor l (getD ps i p₀))))
       (kindsOfRows (drop (i + 1) rows)) (givensOf major minor l (drop (i + 1) ps))
   step-put o at = rw (row-cons rows i r₀ hr, piece-cons ps i p₀ hp)
@@ -120,7 +125,8 @@ module _ (major minor : ℕ) (l : Lent) (rows : List Row) (ps : List Piece) (i :
   step-room at n h =
       let e = step-end at in
       let z = end-least (kindsOfRows (drop (i + 1) rows))
-      (pastOf at (getD ps i p₀ .there) (getD rows i r₀ .padded) (length (pieceBytes major minor l (getD ps i p₀)))) (givensOf major minor l (drop (i + 1) ps)) in
+      (pastOf at (getD ps i p₀ .there) (getD rows i r₀ .padded) (length (pieceBytes major minor l (getD ps i p₀))))
+      (givensOf major minor l (drop (i + 1) ps)) in
       omega arith
 
   pub step-short : (at n : ℕ) → endAll at (kindsOfRows (drop i rows)) (givensOf major minor l (drop i ps)) ≤ n → n < 65536
@@ -132,7 +138,8 @@ module _ (major minor : ℕ) (l : Lent) (rows : List Row) (ps : List Piece) (i :
       omega arith
 
   pub step-same : (o : List ℕ) (at : ℕ) → endAll at (kindsOfRows (drop i rows)) (givensOf major minor l (drop i ps)) ≤ length o
-      → length (splice at (partBytes at (getD ps i p₀ .there) (getD rows i r₀ .number) (getD rows i r₀ .padded) (pieceBytes major minor l (getD ps i p₀))) o) ≡ length o
+      → length (splice at (partBytes at (getD ps i p₀ .there) (getD rows i r₀ .number) (getD rows i r₀ .padded)
+      (pieceBytes major minor l (getD ps i p₀))) o) ≡ length o
   step-same o at h =
       let r = getD rows i r₀ in
       let p = getD ps i p₀ in
@@ -142,7 +149,8 @@ module _ (major minor : ℕ) (l : Lent) (rows : List Row) (ps : List Piece) (i :
       put-length o at (partBytes at (p .there) (r .number) (r .padded) b) (omega arith)
 
   -- the end counted only up to 1233
-  pub step-cap : (at x : ℕ) → x ≡ min 1233 (pastOf at (getD ps i p₀ .there) (getD rows i r₀ .padded) (length (pieceBytes major minor l (getD ps i p₀))))
+  pub step-cap : (at x : ℕ) → x ≡ min 1233
+      (pastOf at (getD ps i p₀ .there) (getD rows i r₀ .padded) (length (pieceBytes major minor l (getD ps i p₀))))
       → min 1233 (endAll x (kindsOfRows (drop (i + 1) rows)) (givensOf major minor l (drop (i + 1) ps)))
       ≡ min 1233 (endAll at (kindsOfRows (drop i rows)) (givensOf major minor l (drop i ps)))
   step-cap at x e =

@@ -1,4 +1,5 @@
--- Laws of a whole message written: its header, then its fields one after another, is its bytes at the start of the output; what writing gives. Assumes nothing.
+-- Laws of a whole message written: its header, then its fields one after another, is its bytes at the start of the output; what writing gives.
+-- Assumes nothing.
 use Prim.Native.Nat.{ℕ, _+_, _≤_, _<_, min}
 use native.Mathlib.Decide.{decLe}
 use native.Mathlib.Omega.{arith}
@@ -136,7 +137,8 @@ module _ (ks : List Kind) (major minor type id : ℕ) (gs : List Given) (old : L
       length-append (headerOf m) (bytesOf (layoutFrom 12 ks (contentsOf gs))) ∙ omega (arith, length-header m, finish-all ks 12 gs)
 
   -- room for as many bytes as were counted, up to 1233, is room for the message
-  pub room-is : (n : ℕ) → n ≡ min 1233 (endAll 12 ks gs) → (leb n (length old) && leb n 1232) ≡ fit (bytesOf (layoutOf ks (messageOf major minor type id gs))) old
+  pub room-is : (n : ℕ) → n ≡ min 1233 (endAll 12 ks gs)
+      → (leb n (length old) && leb n 1232) ≡ fit (bytesOf (layoutOf ks (messageOf major minor type id gs))) old
   unfolding fit
   room-is n e = go (decLe (endAll 12 ks gs) 1232)
     where

@@ -8,7 +8,8 @@ use Rattle.carried.proofs.gauge_carry.Statement.{statement}
 use Rattle.carried.proofs.gauge_carry.Tie as tie
 
 -- what was found is what was read
-wanted : (c : tie.After-whole-of) → (let a = c .before .before .before .before .args in wholeOf (answer (a .authority .now) (a .major)) ≡ c .whole-of .result)
+wanted : (c : tie.After-whole-of)
+    → (let a = c .before .before .before .before .args in wholeOf (answer (a .authority .now) (a .major)) ≡ c .whole-of .result)
 wanted c = sym (c .whole-of .ensures ∙ ap wholeOf (c .before .read .ensures))
 
 read-requires : tie.Need-read-requires
@@ -33,7 +34,9 @@ same-length : tie.Need-same-length
 same-length c = search needs
 
 returns-2 : tie.Need-returns-2
-returns-2 c = c .before .before .put-reading .ensures ∙ carry-authority _ _ _ _ _ _ _ (wanted (c .before .before .before .before .before .before .before) ∙ c .before .before .before .before .before .found2 .given .1)
+returns-2 c =
+    let found2 = c .before .before .before .before .before in
+    c .before .before .put-reading .ensures ∙ carry-authority _ _ _ _ _ _ _ (wanted (found2 .before .before) ∙ found2 .found2 .given .1)
 
 pub gauge-carry-spec : {M : Type 1} → statement M
 gauge-carry-spec =

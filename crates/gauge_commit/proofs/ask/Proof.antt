@@ -54,7 +54,8 @@ returns c =
       at-open-inquiry .open-inquiry .ensures
           ∙ ap₂ (λ (n : ℕ) (l : List ℕ). bytesOf 2240 (opened (inquiryPlace n l) (rows 140 (a .used) (a .waiting .now)))) i r,
       c .before .before .send-inquire .ensures
-          ∙ ap₂ (λ (n : ℕ) (l : List ℕ). splice (a .at) (inquireMade (a .major) (a .minor) n (part 0 32 l) (a .nonce .now) .bytes) (a .output .now)) i r,
+          ∙ ap₂ (λ (n : ℕ) (l : List ℕ). splice (a .at) (inquireMade (a .major) (a .minor) n (part 0 32 l) (a .nonce .now) .bytes)
+          (a .output .now)) i r,
     )
 
 pub ask-spec : {M : Type 1} → statement M

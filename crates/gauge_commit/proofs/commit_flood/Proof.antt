@@ -35,7 +35,8 @@ returns c =
     let v = part (a .start) (a .len) (a .d .now) in
     let e : a .opens ≡ false = not-true _ (c .before .if1 .taken) in
     let none = none-follows (a .major) (a .minor) (a .id) (a .acked) (a .n) (a .silent) (a .opens) (a .nonce .now) (recordOf v) e in (
-      c .answer-of .ensures ∙ acks-told (a .major) (a .minor) (a .id) (a .acked) (a .n) (a .silent) (at-send-ack .send-ack .ensures .0) ∙ ap lengths (sym none),
+      c .answer-of .ensures ∙ acks-told (a .major) (a .minor) (a .id) (a .acked) (a .n) (a .silent) (at-send-ack .send-ack .ensures .0)
+          ∙ ap lengths (sym none),
       (
         rw e refl,
         at-send-ack .send-ack .ensures .1 ∙ ap (λ (ds : List (List ℕ)). sending ds (a .output .now)) (sym none),

@@ -17,7 +17,8 @@ send-ack-requires c κs = search needs
 
 answer-of-requires : tie.Need-answer-of-requires
 answer-of-requires c κs =
-    let s = c .before .before .before .before .before .before .before .before .before .before .before .before .before .before .before .before .before in
+    let at-remove = c .before .before .before .before .before .before .before .before .before .before in
+    let s = at-remove .before .before .before .before .before .before .before in
     (room-few (s .args .silent) (s .args .n) (c .before .before .send-ack .ensures .0), omega arith)
 
 same-length : tie.Need-same-length

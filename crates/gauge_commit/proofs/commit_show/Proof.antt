@@ -46,7 +46,8 @@ answer-of-requires c κs =
     let p = s .pre in
     let recs = candidates (a .own .now) (rows 100 (a .held) (a .cache .now)) in
     let r = closestOf (keyAt (a .target) (a .d .now)) recs in
-    let is : now (at-closest .closest .result) ≡ r = at-closest .closest .ensures ∙ ap (λ (k : ℕ). closestOf k recs) (target-lent (a .target) (a .d .now)) in
+    let is : now (at-closest .closest .result) ≡ r =
+    at-closest .closest .ensures ∙ ap (λ (k : ℕ). closestOf k recs) (target-lent (a .target) (a .d .now)) in
     let held = rows 100 (a .held) (a .cache .now) in
     let formed = closest-formed (keyAt (a .target) (a .d .now)) (keyOf (a .own .now)) (a .own .now) held (p .0) (p .1 .held) in
     let w = rw is at (c .before .before .write-closest .ensures) in
@@ -63,7 +64,8 @@ returns c =
     let p = s .pre in
     let recs = candidates (a .own .now) (rows 100 (a .held) (a .cache .now)) in
     let r = closestOf (keyAt (a .target) (a .d .now)) recs in
-    let is : now (at-closest .closest .result) ≡ r = at-closest .closest .ensures ∙ ap (λ (k : ℕ). closestOf k recs) (target-lent (a .target) (a .d .now)) in
+    let is : now (at-closest .closest .result) ≡ r =
+    at-closest .closest .ensures ∙ ap (λ (k : ℕ). closestOf k recs) (target-lent (a .target) (a .d .now)) in
     let held = rows 100 (a .held) (a .cache .now) in
     let formed = closest-formed (keyAt (a .target) (a .d .now)) (keyOf (a .own .now)) (a .own .now) held (p .0) (p .1 .held) in
     let w = rw is at (c .before .before .before .write-closest .ensures) in (

@@ -18,8 +18,11 @@ free-requires c κs =
     let at-find-inquiry = c .before .before .before .before in
     let s = at-find-inquiry .before .before .before .before in
     let a = s .args in
-    let p = s .pre in
-    (found-used (keyAt 0 (a .key .now)) (a .used) (a .waiting .now) (at-find-inquiry .find-inquiry .ensures) (c .before .before .found .given .1), p .0, p .1)
+    let p = s .pre in (
+      found-used (keyAt 0 (a .key .now)) (a .used) (a .waiting .now) (at-find-inquiry .find-inquiry .ensures) (c .before .before .found .given .1),
+      p .0,
+      p .1,
+    )
 
 enum-told : tie.Need-enum-told
 enum-told c = search needs

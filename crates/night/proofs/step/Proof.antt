@@ -52,7 +52,8 @@ copy-to-requires c κs =
     let i = c .before .before .before .before in
     let a = i .before .before .before .before .before .before .before .args in
     let n = night (a .opening .now) (memory (a .cache .now) (a .waiting .now)) in
-    let l = opening-length (a .at) n (a .piece .now) (fit i) (clean i) _ (c .before .before .before .read-u16-le .ensures) (c .before .before .if3 .taken) in
+    let l =
+    opening-length (a .at) n (a .piece .now) (fit i) (clean i) _ (c .before .before .before .read-u16-le .ensures) (c .before .before .if3 .taken) in
     omega (arith, l, fit i)
 
 same-length : tie.Need-same-length
@@ -60,10 +61,12 @@ same-length c = search needs
 
 returns-3 : tie.Need-returns-3
 returns-3 c =
-    let i = c .before .before .before .before .before .before .before in
+    let then3 = c .before .before .before .before .before in
+    let i = then3 .before .before in
     let a = i .before .before .before .before .before .before .before .args in
     let n = night (a .opening .now) (memory (a .cache .now) (a .waiting .now)) in
-    opens (a .at) n (a .piece .now) (fit i) (clean i) _ (c .before .before .before .before .before .before .read-u16-le .ensures) (c .before .before .before .before .before .if3 .taken) _ (c .before .before .copy-to .ensures)
+    opens (a .at) n (a .piece .now) (fit i) (clean i) _ (then3 .before .read-u16-le .ensures) (then3 .if3 .taken) _
+    (c .before .before .copy-to .ensures)
 
 sub-make : tie.Need-sub-make
 sub-make c = kinded (c .before .before .before .before .before)
@@ -92,10 +95,12 @@ same-length-4 c = search needs
 
 returns-4 : tie.Need-returns-4
 returns-4 c =
-    let i = c .before .before .before .before .before .before .before .before .before .before .before in
+    let else3 = c .before .before .before .before .before .before .before .before .before in
+    let i = else3 .before .before in
     let a = i .before .before .before .before .before .before .before .args in
     let n = night (a .opening .now) (memory (a .cache .now) (a .waiting .now)) in
-    makes (a .at) n (a .piece .now) (fit i) (clean i) _ (c .before .before .before .before .before .before .before .before .before .before .read-u16-le .ensures) (c .before .before .before .before .before .before .before .before .before .if3 .left) _ (c .before .before .before .before .make .ensures)
+    makes (a .at) n (a .piece .now) (fit i) (clean i) _ (else3 .before .read-u16-le .ensures) (else3 .if3 .left) _
+    (c .before .before .before .before .make .ensures)
 
 pub step-spec : {M : Type 1} → statement M
 step-spec =

@@ -57,8 +57,9 @@ returns-4 : tie.Need-returns-4
 returns-4 c =
     let start = c .before .before .before .before .before .before .before .before in
     let at = start .args .at in
+    let s = now (start .args .s) in
     c .zero-words .ensures
-    ∙ form-left at (at + 52) (8 * 6) (now (start .args .s)) (start .pre) (omega arith) (omega arith) (c .before .before .if3 .left) (omega arith) (omega arith)
+    ∙ form-left at (at + 52) (8 * 6) s (start .pre) (omega arith) (omega arith) (c .before .before .if3 .left) (omega arith) (omega arith)
 
 add-zero-words-2 : tie.Need-add-zero-words-2
 add-zero-words-2 c = search needs
@@ -70,8 +71,9 @@ returns-5 : tie.Need-returns-5
 returns-5 c =
     let start = c .before .before .before .before .before .before .before .before .before in
     let at = start .args .at in
+    let s = now (start .args .s) in
     c .zero-words2 .ensures
-    ∙ form-left at (at + 68) (8 * 4) (now (start .args .s)) (start .pre) (omega arith) (omega arith) (c .before .before .before .if3 .left) (omega arith) (omega arith)
+    ∙ form-left at (at + 68) (8 * 4) s (start .pre) (omega arith) (omega arith) (c .before .before .before .if3 .left) (omega arith) (omega arith)
 
 add-zero-words-3 : tie.Need-add-zero-words-3
 add-zero-words-3 c = search needs
@@ -81,10 +83,12 @@ zero-words-requires-3 c κs = search needs
 
 returns-6 : tie.Need-returns-6
 returns-6 c =
-    let start = c .before .before .before .before .before .before .before .before .before .before in
+    let passed = c .before .before .before .before in
+    let start = passed .before .before .before .before .before .before in
     let at = start .args .at in
+    let s = now (start .args .s) in
     c .zero-words3 .ensures
-    ∙ form-left at (at + 84) (8 * 2) (now (start .args .s)) (start .pre) (omega arith) (omega arith) (c .before .before .before .before .if3 .left) (omega arith) (omega arith)
+    ∙ form-left at (at + 84) (8 * 2) s (start .pre) (omega arith) (omega arith) (passed .if3 .left) (omega arith) (omega arith)
 
 returns-7 : tie.Need-returns-7
 returns-7 c =

@@ -72,7 +72,9 @@ slice-aggregate-close-5 : tie.Need-slice-aggregate-close-5 Inv-loop μ-loop
 slice-aggregate-close-5 c = c .before .before .before .before .before .before .before .before .before .before .before .before .before .loop .inv .7
 
 close-requires : tie.Need-close-requires Inv-loop μ-loop
-close-requires c κs = (c .before .before .before .before .before .before .before .before .before .before .before .before .before .loop .inv .1 .inside, line-by _ (c .before .before .before .before .before .before .before .before .before .before .before .before .before .loop .inv .7))
+close-requires c κs =
+    let at-loop = c .before .before .before .before .before .before .before .before .before .before .before .before .before in
+    (at-loop .loop .inv .1 .inside, line-by _ (at-loop .loop .inv .7))
 
 array-share-prefix-text : tie.Need-array-share-prefix-text Inv-loop μ-loop
 array-share-prefix-text c = search needs
@@ -105,14 +107,24 @@ array-share-prefix-piece : tie.Need-array-share-prefix-piece Inv-loop μ-loop
 array-share-prefix-piece c = search needs
 
 slice-aggregate-feed-5 : tie.Need-slice-aggregate-feed-5 Inv-loop μ-loop
-slice-aggregate-feed-5 c = c .before .before .before .before .before .before .before .before .before .before .before .before .before .before .loop .inv .7
+slice-aggregate-feed-5 c =
+    let at-loop = c .before .before .before .before .before .before .before .before .before .before .before .before .before .before in
+    at-loop .loop .inv .7
 
 feed-requires : tie.Need-feed-requires Inv-loop μ-loop
 feed-requires c κs =
-    let l = c .before .before .before .before .before .before .before .before .before .before .before .before .before .before .loop in
-    let few = c .before .before .before .before .before .before .before .count .ensures .0 in
-    let same = c .before .before .before .before .before .before .before .before .before .before .before .read .kept .1 .0 in
-    (l .inv .1, (read-text _ _ _ _ (few .0) (few .1) same (l .inv .6) _ (l .inv .7), read-count _ _ _ _ (few .0) (few .1) same (l .inv .6) _ _ (l .inv .0) (c .before .before .before .before .before .before .before .before .before .before .before .before .before .loop-test .taken)))
+    let count = c .before .before .before .before .before .before .before in
+    let loop-test = count .before .before .before .before .before .before in
+    let l = loop-test .before .loop in
+    let few = count .count .ensures .0 in
+    let same = count .before .before .before .before .read .kept .1 .0 in (
+      l .inv .1,
+      (
+        read-text _ _ _ _ (few .0) (few .1) same (l .inv .6) _ (l .inv .7),
+        read-count _ _ _ _ (few .0) (few .1) same (l .inv .6) _ _
+            (l .inv .0) (loop-test .loop-test .taken),
+      ),
+    )
 
 array-share-prefix-text-2 : tie.Need-array-share-prefix-text-2 Inv-loop μ-loop
 array-share-prefix-text-2 c = search needs
@@ -130,17 +142,26 @@ returns-4 : tie.Need-returns-4 Inv-loop μ-loop
 returns-4 c = tt
 
 add-reads : tie.Need-add-reads Inv-loop μ-loop
-add-reads c = omega (arith, c .before .before .before .before .before .before .before .before .before .before .before .before .before .before .before .before .before .before .before .before .before .before .before .loop-test .taken)
+add-reads c =
+    let feed = c .before .before .before .before .before .before .before .before .before in
+    let tested = feed .before .before .before .before .before .before .before .before .before .before .before .before .before .before in
+    omega (arith, tested .loop-test .taken)
 
 loop-less : tie.Need-loop-less Inv-loop μ-loop
-loop-less c = reads-closer _ (c .before .before .before .before .before .before .before .before .before .before .before .before .before .before .before .before .before .before .before .before .before .before .before .loop-test .taken)
+loop-less c =
+    let feed = c .before .before .before .before .before .before .before .before .before in
+    let tested = feed .before .before .before .before .before .before .before .before .before .before .before .before .before .before in
+    reads-closer _ (tested .loop-test .taken)
 
 loop-again : tie.Need-loop-again Inv-loop μ-loop
 loop-again c =
-    let f = c .before .before .before .before .before .before .before .before .before .feed in
-    let n = c .before .before .before .before .before .before .before .before .before .before .before .before .before .before .before .before .before .count in
-    let g = c .before .before .before .before .before .before .before .before .before .before .before .before .before .before .before .before .before .before .before .before .before .read in
-    let l = c .before .before .before .before .before .before .before .before .before .before .before .before .before .before .before .before .before .before .before .before .before .before .before .before .loop in (
+    let feed = c .before .before .before .before .before .before .before .before .before in
+    let count = feed .before .before .before .before .before .before .before .before in
+    let at-loop = count .before .before .before .before .before .before .before in
+    let f = feed .feed in
+    let n = count .count in
+    let g = count .before .before .before .before .read in
+    let l = at-loop .loop in (
       read-numbers _ _ _ _ (n .ensures .0 .0) (n .ensures .0 .1) (g .kept .1 .0) (l .inv .6) _ _ (l .inv .0) _ (f .ensures .1 .0),
       f .ensures .1 .1 .1,
       l .inv .2 ∙ sym (f .kept .1 .0),

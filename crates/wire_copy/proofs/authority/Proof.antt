@@ -57,7 +57,8 @@ slice-aggregate-write-rows c = rw (c .before .before .before .before .before .be
 
 write-rows-requires : tie.Need-write-rows-requires
 write-rows-requires c κs =
-    (rw (c .before .before .before .before .before .before .before .before .before .before .before .before .before .before .before .authority-rows .ensures), refl)
+    let authority-rows = c .before .before .before .before .before .before .before .before .before .before .before .before .before .before .before in
+    (rw (authority-rows .authority-rows .ensures), refl)
 
 same-length : tie.Need-same-length
 same-length c = search needs
@@ -65,21 +66,24 @@ same-length c = search needs
 returns : tie.Need-returns
 unfolding resent
 returns c =
+    let piece-of6 = c .before .before .before .before .before in
+    let piece-of = piece-of6 .before .before .before .before .before in
+    let busy-and-none = piece-of .before .before .before .before .before in
     rw (
-      c .before .before .before .before .before .piece-of6 .ensures,
-      c .before .before .before .before .before .before .piece-of5 .ensures,
-      c .before .before .before .before .before .before .before .piece-of4 .ensures,
-      c .before .before .before .before .before .before .before .before .piece-of3 .ensures,
-      c .before .before .before .before .before .before .before .before .before .piece-of2 .ensures,
-      c .before .before .before .before .before .before .before .before .before .before .piece-of .ensures,
-      c .before .before .before .before .before .before .before .before .before .before .before .own-piece3 .ensures,
-      c .before .before .before .before .before .before .before .before .before .before .before .before .own-piece2 .ensures,
-      c .before .before .before .before .before .before .before .before .before .before .before .before .before .own-piece .ensures,
-      c .before .before .before .before .before .before .before .before .before .before .before .before .before .before .own-bytes .ensures,
-      c .before .before .before .before .before .before .before .before .before .before .before .before .before .before .before .busy-and-none .ensures,
-      c .before .before .before .before .before .before .before .before .before .before .before .before .before .before .before .before .bit-of .ensures .0,
-      c .before .before .before .before .before .before .before .before .before .before .before .before .before .before .before .before .before .behind .ensures,
-      c .before .before .before .before .before .before .before .before .before .before .before .before .before .before .before .before .before .before .authority-rows .ensures,
+      piece-of6 .piece-of6 .ensures,
+      piece-of6 .before .piece-of5 .ensures,
+      piece-of6 .before .before .piece-of4 .ensures,
+      piece-of6 .before .before .before .piece-of3 .ensures,
+      piece-of6 .before .before .before .before .piece-of2 .ensures,
+      piece-of .piece-of .ensures,
+      piece-of .before .own-piece3 .ensures,
+      piece-of .before .before .own-piece2 .ensures,
+      piece-of .before .before .before .own-piece .ensures,
+      piece-of .before .before .before .before .own-bytes .ensures,
+      busy-and-none .busy-and-none .ensures,
+      busy-and-none .before .bit-of .ensures .0,
+      busy-and-none .before .before .behind .ensures,
+      busy-and-none .before .before .before .authority-rows .ensures,
     ) at (c .before .before .write-rows .ensures)
 
 pub authority-spec : {M : Type 1} → statement M

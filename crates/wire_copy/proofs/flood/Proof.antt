@@ -26,9 +26,11 @@ both-or-neither-requires c κs = search needs
 returns : tie.Need-returns
 unfolding resent
 returns c =
-    let b = Bool·not-not (oneOf (isHere (c .before .before .before .before .before .before .before .args .revoke)) (isHere (c .before .before .before .before .before .before .before .args .entry))) in
-    let e : oneOf (isHere (c .before .before .before .before .before .before .before .args .revoke)) (isHere (c .before .before .before .before .before .before .before .args .entry)) ≡ false =
-    sym b ∙ ap not (sym (rw (c .before .before .before .piece-of .ensures, c .before .before .piece-of2 .ensures) at (c .before .both-or-neither .ensures)) ∙ c .if1 .taken) in
+    let start = c .before .before .before .before .before .before .before in
+    let b = Bool·not-not (oneOf (isHere (start .args .revoke)) (isHere (start .args .entry))) in
+    let e : oneOf (isHere (start .args .revoke)) (isHere (start .args .entry)) ≡ false =
+    sym b ∙ ap not (sym (rw (c .before .before .before .piece-of .ensures, c .before .before .piece-of2 .ensures) at
+    (c .before .both-or-neither .ensures)) ∙ c .if1 .taken) in
     rw e (wrote-6 _ _ refl)
 
 bit-of-requires : tie.Need-bit-of-requires
@@ -66,21 +68,26 @@ same-length c = search needs
 returns-2 : tie.Need-returns-2
 unfolding resent
 returns-2 c =
-    let b = Bool·not-not (oneOf (isHere (c .before .before .before .before .before .before .before .before .before .before .before .before .before .before .before .before .before .before .before .args .revoke)) (isHere (c .before .before .before .before .before .before .before .before .before .before .before .before .before .before .before .before .before .before .before .args .entry))) in
-    let e : oneOf (isHere (c .before .before .before .before .before .before .before .before .before .before .before .before .before .before .before .before .before .before .before .args .revoke)) (isHere (c .before .before .before .before .before .before .before .before .before .before .before .before .before .before .before .before .before .before .before .args .entry)) ≡ true =
-    sym b ∙ ap not (sym (rw (c .before .before .before .before .before .before .before .before .before .before .before .before .before .before .before .piece-of .ensures, c .before .before .before .before .before .before .before .before .before .before .before .before .before .before .piece-of2 .ensures) at (c .before .before .before .before .before .before .before .before .before .before .before .before .before .both-or-neither .ensures)) ∙ c .before .before .before .before .before .before .before .before .before .before .before .before .if1 .left) in
+    let no-piece = c .before .before .before .before .before in
+    let own-bytes = no-piece .before .before .before .before .before in
+    let piece-of = own-bytes .before .before .before .before .before in
+    let start = piece-of .before .before .before .before in
+    let b = Bool·not-not (oneOf (isHere (start .args .revoke)) (isHere (start .args .entry))) in
+    let e : oneOf (isHere (start .args .revoke)) (isHere (start .args .entry)) ≡ true =
+    sym b ∙ ap not (sym (rw (piece-of .piece-of .ensures, own-bytes .before .before .before .before .piece-of2 .ensures) at
+    (own-bytes .before .before .before .both-or-neither .ensures)) ∙ own-bytes .before .before .if1 .left) in
     rw e
     (rw (
-      c .before .before .before .before .before .no-piece .ensures,
-      c .before .before .before .before .before .before .piece-of4 .ensures,
-      c .before .before .before .before .before .before .before .piece-of3 .ensures,
-      c .before .before .before .before .before .before .before .before .first-piece .ensures,
-      c .before .before .before .before .before .before .before .before .before .own-piece .ensures,
-      c .before .before .before .before .before .before .before .before .before .before .own-bytes .ensures,
-      c .before .before .before .before .before .before .before .before .before .before .before .bit-of .ensures .0,
-      c .before .before .before .before .before .before .before .before .before .before .before .before .before .before .piece-of2 .ensures,
-      c .before .before .before .before .before .before .before .before .before .before .before .before .before .before .before .piece-of .ensures,
-      c .before .before .before .before .before .before .before .before .before .before .before .before .before .before .before .before .flood-rows .ensures,
+      no-piece .no-piece .ensures,
+      no-piece .before .piece-of4 .ensures,
+      no-piece .before .before .piece-of3 .ensures,
+      no-piece .before .before .before .first-piece .ensures,
+      no-piece .before .before .before .before .own-piece .ensures,
+      own-bytes .own-bytes .ensures,
+      own-bytes .before .bit-of .ensures .0,
+      own-bytes .before .before .before .before .piece-of2 .ensures,
+      piece-of .piece-of .ensures,
+      piece-of .before .flood-rows .ensures,
     ) at (c .before .before .write-rows .ensures))
 
 pub flood-spec : {M : Type 1} → statement M

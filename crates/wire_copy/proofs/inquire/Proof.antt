@@ -71,19 +71,22 @@ same-length c = search needs
 returns : tie.Need-returns
 unfolding resent
 returns c =
+    let no-piece = c .before .before .before .before .before in
+    let first-piece = no-piece .before .before .before .before .before in
+    let bit-of = first-piece .before .before .before .before .before in
     rw (
-      c .before .before .before .before .before .no-piece .ensures,
-      c .before .before .before .before .before .before .piece-of4 .ensures,
-      c .before .before .before .before .before .before .before .piece-of3 .ensures,
-      c .before .before .before .before .before .before .before .before .piece-of2 .ensures,
-      c .before .before .before .before .before .before .before .before .before .piece-of .ensures,
-      c .before .before .before .before .before .before .before .before .before .before .first-piece .ensures,
-      c .before .before .before .before .before .before .before .before .before .before .before .own-piece .ensures,
-      c .before .before .before .before .before .before .before .before .before .before .before .before .own-bytes .ensures,
-      c .before .before .before .before .before .before .before .before .before .before .before .before .before .bit-of3 .ensures .0,
-      c .before .before .before .before .before .before .before .before .before .before .before .before .before .before .bit-of2 .ensures .0,
-      c .before .before .before .before .before .before .before .before .before .before .before .before .before .before .before .bit-of .ensures .0,
-      c .before .before .before .before .before .before .before .before .before .before .before .before .before .before .before .before .inquire-rows .ensures,
+      no-piece .no-piece .ensures,
+      no-piece .before .piece-of4 .ensures,
+      no-piece .before .before .piece-of3 .ensures,
+      no-piece .before .before .before .piece-of2 .ensures,
+      no-piece .before .before .before .before .piece-of .ensures,
+      first-piece .first-piece .ensures,
+      first-piece .before .own-piece .ensures,
+      first-piece .before .before .own-bytes .ensures,
+      first-piece .before .before .before .bit-of3 .ensures .0,
+      first-piece .before .before .before .before .bit-of2 .ensures .0,
+      bit-of .bit-of .ensures .0,
+      bit-of .before .inquire-rows .ensures,
     ) at (c .before .before .write-rows .ensures)
 
 pub inquire-spec : {M : Type 1} → statement M

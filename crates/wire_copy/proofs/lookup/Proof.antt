@@ -54,7 +54,8 @@ slice-aggregate-write-rows c = rw (c .before .before .before .before .before .be
 
 write-rows-requires : tie.Need-write-rows-requires
 write-rows-requires c κs =
-    (rw (c .before .before .before .before .before .before .before .before .before .before .before .before .before .before .lookup-rows .ensures), refl)
+    let lookup-rows = c .before .before .before .before .before .before .before .before .before .before .before .before .before .before in
+    (rw (lookup-rows .lookup-rows .ensures), refl)
 
 same-length : tie.Need-same-length
 same-length c = search needs
@@ -62,20 +63,23 @@ same-length c = search needs
 returns : tie.Need-returns
 unfolding resent
 returns c =
+    let no-piece = c .before .before .before .before .before in
+    let piece-of = no-piece .before .before .before .before .before in
+    let kept-precision = piece-of .before .before .before .before .before in
     rw (
-      c .before .before .before .before .before .no-piece .ensures,
-      c .before .before .before .before .before .before .piece-of5 .ensures,
-      c .before .before .before .before .before .before .before .piece-of4 .ensures,
-      c .before .before .before .before .before .before .before .before .piece-of3 .ensures,
-      c .before .before .before .before .before .before .before .before .before .piece-of2 .ensures,
-      c .before .before .before .before .before .before .before .before .before .before .piece-of .ensures,
-      c .before .before .before .before .before .before .before .before .before .before .before .first-piece2 .ensures,
-      c .before .before .before .before .before .before .before .before .before .before .before .before .first-piece .ensures,
-      c .before .before .before .before .before .before .before .before .before .before .before .before .before .own-piece .ensures,
-      c .before .before .before .before .before .before .before .before .before .before .before .before .before .before .lookup-bytes .ensures,
-      c .before .before .before .before .before .before .before .before .before .before .before .before .before .before .before .kept-precision .ensures,
-      c .before .before .before .before .before .before .before .before .before .before .before .before .before .before .before .before .bit-of .ensures .0,
-      c .before .before .before .before .before .before .before .before .before .before .before .before .before .before .before .before .before .lookup-rows .ensures,
+      no-piece .no-piece .ensures,
+      no-piece .before .piece-of5 .ensures,
+      no-piece .before .before .piece-of4 .ensures,
+      no-piece .before .before .before .piece-of3 .ensures,
+      no-piece .before .before .before .before .piece-of2 .ensures,
+      piece-of .piece-of .ensures,
+      piece-of .before .first-piece2 .ensures,
+      piece-of .before .before .first-piece .ensures,
+      piece-of .before .before .before .own-piece .ensures,
+      piece-of .before .before .before .before .lookup-bytes .ensures,
+      kept-precision .kept-precision .ensures,
+      kept-precision .before .bit-of .ensures .0,
+      kept-precision .before .before .lookup-rows .ensures,
     ) at (c .before .before .write-rows .ensures)
 
 pub lookup-spec : {M : Type 1} → statement M

@@ -56,19 +56,22 @@ same-length c = search needs
 returns : tie.Need-returns
 unfolding resent
 returns c =
+    let no-piece = c .before .before .before .before .before in
+    let first-piece = no-piece .before .before .before .before .before in
+    let split-end = first-piece .before .before .before .before .before in
     rw (
-      c .before .before .before .before .before .no-piece .ensures,
-      c .before .before .before .before .before .before .piece-of4 .ensures,
-      c .before .before .before .before .before .before .before .piece-of3 .ensures,
-      c .before .before .before .before .before .before .before .before .piece-of2 .ensures,
-      c .before .before .before .before .before .before .before .before .before .piece-of .ensures,
-      c .before .before .before .before .before .before .before .before .before .before .first-piece .ensures,
-      c .before .before .before .before .before .before .before .before .before .before .before .own-if2 .ensures,
-      c .before .before .before .before .before .before .before .before .before .before .before .before .own-if .ensures,
-      c .before .before .before .before .before .before .before .before .before .before .before .before .before .own-bytes .ensures,
-      c .before .before .before .before .before .before .before .before .before .before .before .before .before .before .behind .ensures,
-      c .before .before .before .before .before .before .before .before .before .before .before .before .before .before .before .split-end .ensures,
-      c .before .before .before .before .before .before .before .before .before .before .before .before .before .before .before .before .request-rows .ensures,
+      no-piece .no-piece .ensures,
+      no-piece .before .piece-of4 .ensures,
+      no-piece .before .before .piece-of3 .ensures,
+      no-piece .before .before .before .piece-of2 .ensures,
+      no-piece .before .before .before .before .piece-of .ensures,
+      first-piece .first-piece .ensures,
+      first-piece .before .own-if2 .ensures,
+      first-piece .before .before .own-if .ensures,
+      first-piece .before .before .before .own-bytes .ensures,
+      first-piece .before .before .before .before .behind .ensures,
+      split-end .split-end .ensures,
+      split-end .before .request-rows .ensures,
     ) at (c .before .before .write-rows .ensures)
 
 pub request-spec : {M : Type 1} → statement M

@@ -1,12 +1,13 @@
--- `wire_read::read` meets its contract: the code's steps are the table's (found-steps), and each type's reader gives what its fields give. Assumes nothing.
+-- `wire_read::read` meets its contract: the code's steps are the table's (found-steps), and each type's reader gives what its fields give.
+-- Assumes nothing.
 use borrow.Author.Tests.{le-leb, lt-leb, ne-eqb, not-true, not-false}
 use native.Mathlib.Omega.{arith}
-use mathlib.Core.Path.{sym, _∙_}
+use mathlib.Core.Path.{_≡_, sym, _∙_}
 use lib.ListN.{length, getD}
 use denote.Ref.{now}
 use Rattle.wire_fields.specs.Kinds.{kindsOf}
-use Rattle.wire_fields.specs.Refusals.{inPart}
-use Rattle.wire_fields.proofs.RefusalLaws.{inSteps, found-steps, found-by-type}
+use Rattle.wire_fields.specs.Refusals.{foundIn, inPart}
+use Rattle.wire_fields.proofs.RefusalLaws.{byType, inSteps, found-steps, found-by-type}
 use Rattle.wire_read.specs.Answers.{shown}
 use borrow.Author.Needs.{needs}
 use Rattle.wire_read.proofs.read.Statement.{statement}
@@ -75,79 +76,64 @@ read-ack-requires c κs = omega arith
 read-lookup-requires : tie.Need-read-lookup-requires
 read-lookup-requires c κs = omega arith
 
+-- behind the first four tests a datagram is read by its type
+by-type : (c : tie.Else4)
+    → (let a = c .before .before .before .before .before .before .before .args in foundIn (now (a .d)) (a .major)
+    ≡ byType (getD (now (a .d)) 7 0) (now (a .d)) (kindsOf (getD (now (a .d)) 7 0)))
+by-type c =
+    let passed = c .before .before in
+    let a = passed .before .before .before .before .before .args in
+    let o = sym (passed .before .is-opened .ensures) ∙ not-false _ (passed .if3 .left) in
+    found-by-type (now (a .d)) (a .major) (omega arith) (omega arith) o (c .if4 .left)
+
 returns-5 : tie.Need-returns-5
 unfolding kindsOf inPart
 returns-5 c =
-    let a = c .before .before .before .before .before .before .before .before .before .before .args in
-    let o = sym (c .before .before .before .before .before .before .is-opened .ensures) ∙ not-false _ (c .before .before .before .before .before .if3 .left) in
-    let f = found-by-type (now (a .d)) (a .major) (omega arith) (omega arith) o (c .before .before .before .if4 .left) in
-    rw (f, c .before .match .keys1) (c .read-solicit .ensures)
+    rw (by-type (c .before .before .before), c .before .match .keys1) (c .read-solicit .ensures)
 
 returns-6 : tie.Need-returns-6
 unfolding kindsOf inPart
 returns-6 c =
-    let a = c .before .before .before .before .before .before .before .before .before .before .args in
-    let o = sym (c .before .before .before .before .before .before .is-opened .ensures) ∙ not-false _ (c .before .before .before .before .before .if3 .left) in
-    let f = found-by-type (now (a .d)) (a .major) (omega arith) (omega arith) o (c .before .before .before .if4 .left) in
-    rw (f, c .before .match .keys2) (c .read-advertise .ensures)
+    rw (by-type (c .before .before .before), c .before .match .keys2) (c .read-advertise .ensures)
 
 returns-7 : tie.Need-returns-7
 unfolding kindsOf inPart
 returns-7 c =
-    let a = c .before .before .before .before .before .before .before .before .before .before .args in
-    let o = sym (c .before .before .before .before .before .before .is-opened .ensures) ∙ not-false _ (c .before .before .before .before .before .if3 .left) in
-    let f = found-by-type (now (a .d)) (a .major) (omega arith) (omega arith) o (c .before .before .before .if4 .left) in
-    rw (f, c .before .match .keys3) (c .read-request .ensures)
+    rw (by-type (c .before .before .before), c .before .match .keys3) (c .read-request .ensures)
 
 returns-8 : tie.Need-returns-8
 unfolding kindsOf inPart
 returns-8 c =
-    let a = c .before .before .before .before .before .before .before .before .before .before .args in
-    let o = sym (c .before .before .before .before .before .before .is-opened .ensures) ∙ not-false _ (c .before .before .before .before .before .if3 .left) in
-    let f = found-by-type (now (a .d)) (a .major) (omega arith) (omega arith) o (c .before .before .before .if4 .left) in
-    rw (f, c .before .match .keys4) (c .read-flood .ensures)
+    rw (by-type (c .before .before .before), c .before .match .keys4) (c .read-flood .ensures)
 
 returns-9 : tie.Need-returns-9
 unfolding kindsOf inPart
 returns-9 c =
-    let a = c .before .before .before .before .before .before .before .before .before .before .args in
-    let o = sym (c .before .before .before .before .before .before .is-opened .ensures) ∙ not-false _ (c .before .before .before .before .before .if3 .left) in
-    let f = found-by-type (now (a .d)) (a .major) (omega arith) (omega arith) o (c .before .before .before .if4 .left) in
-    rw (f, c .before .match .keys5) (c .read-inquire .ensures)
+    rw (by-type (c .before .before .before), c .before .match .keys5) (c .read-inquire .ensures)
 
 returns-10 : tie.Need-returns-10
 unfolding kindsOf
 returns-10 c =
-    let a = c .before .before .before .before .before .before .before .before .before .before .args in
-    let o = sym (c .before .before .before .before .before .before .is-opened .ensures) ∙ not-false _ (c .before .before .before .before .before .if3 .left) in
-    let f = found-by-type (now (a .d)) (a .major) (omega arith) (omega arith) o (c .before .before .before .if4 .left) in
-    rw (f, c .before .match .keys6) (c .read-authority .ensures)
+    rw (by-type (c .before .before .before), c .before .match .keys6) (c .read-authority .ensures)
 
 returns-11 : tie.Need-returns-11
 unfolding kindsOf inPart
 returns-11 c =
-    let a = c .before .before .before .before .before .before .before .before .before .before .args in
-    let o = sym (c .before .before .before .before .before .before .is-opened .ensures) ∙ not-false _ (c .before .before .before .before .before .if3 .left) in
-    let f = found-by-type (now (a .d)) (a .major) (omega arith) (omega arith) o (c .before .before .before .if4 .left) in
-    rw (f, c .before .match .keys7) (c .read-ack .ensures)
+    rw (by-type (c .before .before .before), c .before .match .keys7) (c .read-ack .ensures)
 
 returns-12 : tie.Need-returns-12
 unfolding kindsOf inPart
 returns-12 c =
-    let a = c .before .before .before .before .before .before .before .before .before .before .args in
-    let o = sym (c .before .before .before .before .before .before .is-opened .ensures) ∙ not-false _ (c .before .before .before .before .before .if3 .left) in
-    let f = found-by-type (now (a .d)) (a .major) (omega arith) (omega arith) o (c .before .before .before .if4 .left) in
-    rw (f, c .before .match .keys8) (c .read-lookup .ensures)
+    rw (by-type (c .before .before .before), c .before .match .keys8) (c .read-lookup .ensures)
 
 returns-13 : tie.Need-returns-13
 unfolding shown kindsOf
 returns-13 c =
     let a = c .before .before .before .before .before .before .before .before .before .args in
     let d = now (a .d) in
-    let o = sym (c .before .before .before .before .before .is-opened .ensures) ∙ not-false _ (c .before .before .before .before .if3 .left) in
     let r = c .match .rest in
     rw (
-      found-by-type d (a .major) (omega arith) (omega arith) o (c .before .before .if4 .left),
+      by-type (c .before .before),
       ne-eqb (getD d 7 0) 1 (r .0 .0 .0 .0 .0 .0 .0 .1),
       ne-eqb (getD d 7 0) 2 (r .0 .0 .0 .0 .0 .0 .1),
       ne-eqb (getD d 7 0) 3 (r .0 .0 .0 .0 .0 .1),

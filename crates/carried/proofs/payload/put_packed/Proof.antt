@@ -28,11 +28,14 @@ enum-known-packed-2 c = search needs
 
 array-share-prefix-image : tie.Need-array-share-prefix-image
 array-share-prefix-image c =
+    let pack-allowed = c .before .before .before .before .before in
+    let start = pack-allowed .before .before .before .before in
     let q = c .before .before .packed2 .given .1 in
-    let e = c .before .before .before .before .before .pack-allowed .ensures in
-    let g = c .before .before .before .before .before .before .before .before .before .pre .1 in
-    let left = c .before .before .before .before .before .pack-allowed .last .1 .0 in
-    let short : c .before .before .packed2 .given .0 .0 ≤ length left = omega (arith, packed-fits _ _ _ _ g refl e _ q, packed-left _ _ _ _ g refl e) in
+    let e = pack-allowed .pack-allowed .ensures in
+    let g = start .pre .1 in
+    let left = pack-allowed .pack-allowed .last .1 .0 in
+    let short : c .before .before .packed2 .given .0 .0 ≤ length left =
+    omega (arith, packed-fits _ _ _ _ g refl e _ q, packed-left _ _ _ _ g refl e) in
     short
 
 slice-aggregate-write-payload : tie.Need-slice-aggregate-write-payload
@@ -49,19 +52,26 @@ told-requires : tie.Need-told-requires
 told-requires c κs = written-short _ _ _ (c .before .before .write-payload .ensures .answer)
 
 returns : tie.Need-returns
-returns c = not-refused _ _ _ _ (c .before .before .before .before .before .before .before .before .before .pre .1) refl (c .before .before .before .before .before .pack-allowed .ensures) _ (c .before .before .packed .given .1)
+returns c =
+    let pack-allowed = c .before .before .before .before .before in
+    let start = pack-allowed .before .before .before .before in
+    not-refused _ _ _ _ (start .pre .1) refl (pack-allowed .pack-allowed .ensures) _ (c .before .before .packed .given .1)
 
 same-length : tie.Need-same-length
 same-length c = search needs
 
 returns-2 : tie.Need-returns-2
 returns-2 c =
-    let q = c .before .before .before .before .before .before .before .packed2 .given .1 in
-    let e = c .before .before .before .before .before .before .before .before .before .before .pack-allowed .ensures in
-    let g = c .before .before .before .before .before .before .before .before .before .before .before .before .before .before .pre .1 in
+    let packed2 = c .before .before .before .before .before .before .before in
+    let known = packed2 .before .before .before .before .before .before in
+    let start = known .before in
+    let q = packed2 .packed2 .given .1 in
+    let e = packed2 .before .before .before .pack-allowed .ensures in
+    let g = start .pre .1 in
     let out = c .before .before .before .write-payload .last .0 in
     ap (λ (x : Carry). handed x out) (c .told .ensures)
-    ∙ carried-as _ _ (λ i. omega (arith, c .before .before .before .before .before .before .before .before .before .before .before .before .before .shared-slice-known .given i)) _ _ _ (c .before .before .before .before .before .before .before .before .before .before .before .before .before .before .pre .0) _ _ _ _ _ (packed-bytes _ _ _ _ g refl e _ q) (c .before .before .before .write-payload .ensures)
+    ∙ carried-as _ _ (λ i. omega (arith, known .shared-slice-known .given i)) _ _ _ (start .pre .0) _ _ _ _ _ (packed-bytes _ _ _ _ g refl e _ q)
+    (c .before .before .before .write-payload .ensures)
 
 pub put-packed-spec : {M : Type 1} → statement M
 put-packed-spec =

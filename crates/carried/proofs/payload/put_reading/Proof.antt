@@ -19,17 +19,27 @@ enum-known-made-2 : tie.Need-enum-known-made-2
 enum-known-made-2 c = search needs
 
 put-packed-requires : tie.Need-put-packed-requires
-put-packed-requires c κs = (c .before .before .before .before .before .before .before .pre, reading-fine _ _ _ _ _ (sym (c .before .before .before .before .reading-of .ensures) ∙ c .before .before .made2 .given .1))
+put-packed-requires c κs =
+    let start = c .before .before .before .before .before .before .before in
+    (start .pre, reading-fine _ _ _ _ _ (sym (c .before .before .before .before .reading-of .ensures) ∙ c .before .before .made2 .given .1))
 
 returns : tie.Need-returns
-returns c = carried-refused _ _ (λ i. omega (arith, c .before .before .before .before .before .before .shared-slice-known .given i)) _ _ _ (c .before .before .before .before .before .before .before .pre) _ _ _ _ (sym (c .before .before .before .before .reading-of .ensures) ∙ c .before .before .made .given .1) (c .refused .ensures)
+returns c =
+    let known = c .before .before .before .before .before .before in
+    let start = known .before in
+    carried-refused _ _ (λ i. omega (arith, known .shared-slice-known .given i)) _ _ _ (start .pre) _ _ _ _
+    (sym (c .before .before .before .before .reading-of .ensures) ∙ c .before .before .made .given .1) (c .refused .ensures)
 
 same-length : tie.Need-same-length
 same-length c = search needs
 
 returns-2 : tie.Need-returns-2
 returns-2 c =
-    carried-read _ _ (λ i. omega (arith, c .before .before .before .before .before .before .before .before .before .shared-slice-known .given i)) _ _ _ (c .before .before .before .before .before .before .before .before .before .before .pre) _ _ _ _ (sym (c .before .before .before .before .before .before .before .reading-of .ensures) ∙ c .before .before .before .before .before .made2 .given .1)
+    let made2 = c .before .before .before .before .before in
+    let known = made2 .before .before .before .before in
+    let start = known .before in
+    carried-read _ _ (λ i. omega (arith, known .shared-slice-known .given i)) _ _ _ (start .pre) _ _ _ _
+    (sym (made2 .before .before .reading-of .ensures) ∙ made2 .made2 .given .1)
     (c .before .before .put-packed .ensures)
 
 pub put-reading-spec : {M : Type 1} → statement M

@@ -20,7 +20,12 @@ enum-known-payload : tie.Need-enum-known-payload
 enum-known-payload c = search needs
 
 add-unpack : tie.Need-add-unpack
-add-unpack c = omega (arith, payload-there _ _ (λ i. omega (arith, c .before .before .before .shared-slice-known .given i)) _ _ _ (c .before .before .before .before .pre) _ _ (c .before .payload .given .1))
+add-unpack c =
+    let known = c .before .before .before in
+    omega (
+      arith,
+      payload-there _ _ (λ i. omega (arith, known .shared-slice-known .given i)) _ _ _ (known .before .pre) _ _ (c .before .payload .given .1),
+    )
 
 sub-unpack : tie.Need-sub-unpack
 sub-unpack c = search needs
@@ -29,7 +34,9 @@ part-unpack-start : tie.Need-part-unpack-start
 part-unpack-start c = search needs
 
 part-unpack-end : tie.Need-part-unpack-end
-part-unpack-end c = payload-there _ _ (λ i. omega (arith, c .before .before .before .shared-slice-known .given i)) _ _ _ (c .before .before .before .before .pre) _ _ (c .before .payload .given .1)
+part-unpack-end c =
+    let known = c .before .before .before in
+    payload-there _ _ (λ i. omega (arith, known .shared-slice-known .given i)) _ _ _ (known .before .pre) _ _ (c .before .payload .given .1)
 
 unpack-requires : tie.Need-unpack-requires
 unpack-requires c κs = search needs
@@ -38,17 +45,23 @@ shown-requires : tie.Need-shown-requires
 shown-requires c κs = λ r e. unpack-fine _ r (sym (c .unpack .ensures) ∙ e)
 
 returns : tie.Need-returns
-returns c = c .nothing .ensures ∙ none-taken _ _ (λ i. omega (arith, c .before .before .before .shared-slice-known .given i)) _ _ _ (c .before .before .before .before .pre) (c .before .enum-told .given .1)
+returns c =
+    let known = c .before .before .before in
+    c .nothing .ensures ∙ none-taken _ _ (λ i. omega (arith, known .shared-slice-known .given i)) _ _ _ (known .before .pre)
+    (c .before .enum-told .given .1)
 
 returns-2 : tie.Need-returns-2
 returns-2 c =
-    let a = c .before .before .before .before .before .before .before .args in
-    let p = c .before .before .before .before .payload .given in
+    let payload = c .before .before .before .before in
+    let known = payload .before .before in
+    let start = known .before in
+    let a = start .args in
+    let p = payload .payload .given in
     let s = p .0 .0 in
     let l = p .0 .1 .0 in
     let z : s + l - s ≡ l = omega arith in
     c .shown .ensures ∙ ap takenBy (c .before .unpack .ensures ∙ ap (λ (n : ℕ). unpackOf (take n (drop s (a .d .now)))) z)
-    ∙ some-taken _ _ (λ i. omega (arith, c .before .before .before .before .before .before .shared-slice-known .given i)) _ _ _ (c .before .before .before .before .before .before .before .pre) s l (p .1)
+    ∙ some-taken _ _ (λ i. omega (arith, known .shared-slice-known .given i)) _ _ _ (start .pre) s l (p .1)
 
 pub take-reading-spec : {M : Type 1} → statement M
 take-reading-spec =

@@ -43,7 +43,8 @@ knows m e = let d = start m .args .datagram .now in subst (KnownAnswer d) (read-
 
 planned : (m : tie.After-read) (minor : ℕ) (nonce : List ℕ) {a : T.Answer} → m .read .result ≡ a
     → (let s = start m in planFor (lent-at s minor nonce) (s .args .held) (s .args .used) a)
-    ≡ planFor (lent-at (start m) minor nonce) (start m .args .held) (start m .args .used) (R.answer (start m .args .datagram .now) (start m .args .major))
+    ≡ planFor (lent-at (start m) minor nonce) (start m .args .held) (start m .args .used)
+    (R.answer (start m .args .datagram .now) (start m .args .major))
 planned m minor nonce e = sym (ap (planFor (lent-at (start m) minor nonce) (start m .args .held) (start m .args .used)) (read-as m e))
 
 read-requires : tie.Need-read-requires
@@ -146,7 +147,8 @@ returns-5 c minor nonce =
     let m = k .before .before in
     let s = start m in
     c .plan-flood .ensures
-    ∙ sym (flood-plan (lent-at s minor nonce) (s .args .held) (s .args .used) (read-as m (k .message2 .given .1)) (c .before .before .entry .given .1))
+    ∙ sym (flood-plan (lent-at s minor nonce) (s .args .held) (s .args .used) (read-as m (k .message2 .given .1))
+    (c .before .before .entry .given .1))
 
 returns-6 : tie.Need-returns-6
 returns-6 c minor nonce =

@@ -8,7 +8,8 @@ use Rattle.key.specs.Number.{keyAt}
 use Rattle.table.specs.Rows.{rows}
 use Rattle.waiting.specs.Seek.{seek, isAt}
 use Rattle.waiting.specs.declared.seek.Found.the-variants.{At}
-use Rattle.gauge_plan.proofs.AnsweringLaws.{place-within, place-key, authority-none, authority-bare, authority-bad, authority-other, authority-right}
+use Rattle.gauge_plan.proofs.AnsweringLaws.{place-within, place-key, authority-none, authority-bare}
+use Rattle.gauge_plan.proofs.AnsweringLaws.{authority-bad, authority-other, authority-right}
 use Rattle.gauge_plan.proofs.answering.plan_authority.Statement.{statement}
 use Rattle.gauge_plan.proofs.answering.plan_authority.Tie as tie
 

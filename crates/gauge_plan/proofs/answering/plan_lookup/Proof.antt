@@ -1,4 +1,5 @@
--- `gauge_plan::answering::plan_lookup` meets its contract: the record shown has 100 bytes, and its count is one of them; where every record fits it need not be known. Assumes nothing.
+-- `gauge_plan::answering::plan_lookup` meets its contract: the record shown has 100 bytes, and its count is one of them; where every record fits
+-- it need not be known. Assumes nothing.
 use mathlib.Core.Path.{_≡_, refl, sym, ap, _∙_}
 use mathlib.Core.List.{[], _∷_}
 use Prim.Native.Nat.{ℕ, _+_, _*_}

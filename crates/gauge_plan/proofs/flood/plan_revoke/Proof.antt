@@ -39,14 +39,15 @@ abbrev start : tie.After-ack-room → tie.Start
 start c = c .before .before .before .before .before .before .before .before
 
 by-room : (c : tie.After-ack-room)
-    → (let a = start c .args in revokePlan (keyOf (a .own .now)) (a .held) (a .used) (a .verdict) (keyAt 0 (a .key .now)) (a .room) (a .d .now) (a .silent)
-    (a .acked) (a .validate))
+    → (let a = start c .args in revokePlan (keyOf (a .own .now)) (a .held) (a .used) (a .verdict) (keyAt 0 (a .key .now)) (a .room) (a .d .now)
+    (a .silent) (a .acked) (a .validate))
     ≡ orRefuse Refuse (when 15 (ltb (start c .args .room) (c .ack-room .result)) ∷ [])
     (let a = start c .args in Revoke (a .held) (a .used) (a .silent) (c .before .not-ours .result) (a .acked))
 by-room c =
     let e = c .before .before in
     let a = start c .args in
-    revoke-by (keyOf (a .own .now)) (a .held) (a .used) (a .verdict) (keyAt 0 (a .key .now)) (a .room) (a .d .now) (a .silent) (a .acked) (a .validate)
+    revoke-by (keyOf (a .own .now)) (a .held) (a .used) (a .verdict) (keyAt 0 (a .key .now)) (a .room) (a .d .now) (a .silent) (a .acked)
+    (a .validate)
     (e .before .before .if1 .left) (sym (e .before .same-at .ensures) ∙ e .if2 .left) (c .before .not-ours .ensures) (c .ack-room .ensures)
 
 returns-3 : tie.Need-returns-3

@@ -49,8 +49,8 @@ returns : tie.Need-returns
 returns c =
     let s = first (c .before) in
     let a = s .args in
-    sym (send-nobody (a .own .now) (a .cache .now) (recs s) (places s) (a .used) (a .id) (a .room) (keyAt 0 (a .neighbour .now)) (keyAt 0 (a .key .now))
-    (nobody (c .before) ∙ c .if1 .taken))
+    sym (send-nobody (a .own .now) (a .cache .now) (recs s) (places s) (a .used) (a .id) (a .room) (keyAt 0 (a .neighbour .now))
+    (keyAt 0 (a .key .now)) (nobody (c .before) ∙ c .if1 .taken))
 
 same-at-requires : tie.Need-same-at-requires
 same-at-requires c κs = search needs
@@ -69,8 +69,8 @@ returns-2 c =
     let e = n .before .before .before in
     let s = start n in
     let a = s .args in
-    sym (send-missing (a .own .now) (a .cache .now) (recs s) (places s) (a .used) (a .id) (a .room) (keyAt 0 (a .neighbour .now)) (keyAt 0 (a .key .now))
-    (nobody (e .before) ∙ e .if1 .left) (n .before .before .same-at .ensures) (missing n) (c .if2 .taken))
+    sym (send-missing (a .own .now) (a .cache .now) (recs s) (places s) (a .used) (a .id) (a .room) (keyAt 0 (a .neighbour .now))
+    (keyAt 0 (a .key .now)) (nobody (e .before) ∙ e .if1 .left) (n .before .before .same-at .ensures) (missing n) (c .if2 .taken))
 
 has-id-requires : tie.Need-has-id-requires
 has-id-requires c κs = search needs
@@ -82,8 +82,8 @@ returns-3 c =
     let e = n .before .before .before in
     let s = start n in
     let a = s .args in
-    sym (send-waits (a .own .now) (a .cache .now) (recs s) (places s) (a .used) (a .id) (a .room) (keyAt 0 (a .neighbour .now)) (keyAt 0 (a .key .now))
-    (nobody (e .before) ∙ e .if1 .left) (n .before .before .same-at .ensures) (missing n) (i .if2 .left)
+    sym (send-waits (a .own .now) (a .cache .now) (recs s) (places s) (a .used) (a .id) (a .room) (keyAt 0 (a .neighbour .now))
+    (keyAt 0 (a .key .now)) (nobody (e .before) ∙ e .if1 .left) (n .before .before .same-at .ensures) (missing n) (i .if2 .left)
     (sym (c .before .has-id .ensures) ∙ c .if3 .taken))
 
 returns-4 : tie.Need-returns-4

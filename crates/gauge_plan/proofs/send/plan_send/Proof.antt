@@ -28,7 +28,8 @@ returns : tie.Need-returns
 returns c =
     let m = c .before .before in
     let a = start m .args in
-    sym (send-unfit (a .own .now) (a .cache .now) (a .waiting .now) (a .id) (a .neighbour .now) (a .key .now) (a .room) (surveyed m (c .enum-told .given .1)))
+    sym (send-unfit (a .own .now) (a .cache .now) (a .waiting .now) (a .id) (a .neighbour .now) (a .key .now) (a .room)
+    (surveyed m (c .enum-told .given .1)))
 
 returns-2 : tie.Need-returns-2
 returns-2 c =

@@ -8,7 +8,9 @@ use Rattle.night.proofs.call.make.Statement.{statement}
 use Rattle.night.proofs.call.make.Tie as tie
 
 receive-requires : tie.Need-receive-requires
-receive-requires c κs = (c .before .before .before .before .before .before .before .pre .0, fits-1 _ _ (c .before .before .if1 .taken) (c .before .before .before .before .before .before .before .pre .1))
+receive-requires c κs =
+    let start = c .before .before .before .before .before .before .before in
+    (start .pre .0, fits-1 _ _ (c .before .before .if1 .taken) (start .pre .1))
 
 same-length : tie.Need-same-length
 same-length c = search needs
@@ -24,7 +26,9 @@ returns c =
     m .receive .ensures ∙ ap (called _) (call-1 (a .opening .now) (a .kind) (a .body .now) (i .if1 .taken))
 
 send-requires : tie.Need-send-requires
-send-requires c κs = (c .before .before .before .before .before .before .before .before .pre .0, fits-2 _ _ (c .before .before .if2 .taken) (c .before .before .before .before .before .before .before .before .pre .1))
+send-requires c κs =
+    let start = c .before .before .before .before .before .before .before .before in
+    (start .pre .0, fits-2 _ _ (c .before .before .if2 .taken) (start .pre .1))
 
 same-length-3 : tie.Need-same-length-3
 same-length-3 c = search needs

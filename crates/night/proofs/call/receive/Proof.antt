@@ -76,11 +76,13 @@ same-length-2 c = search needs
 
 returns : tie.Need-returns
 returns c =
-    let w = c .before .before .before .before .before .before .before .before .before .before .before .before .before .before .before .before in
+    let gauge-receive = c .before .before .before .before .before in
+    let w = gauge-receive .before .before .before .before .before .before .before .before .before .before .before in
     let r = w .before .before in
     let body = r .before .before .before .before .before .args .body .now in
-    receive-called _ _ _ _ body _ _ _ _ _ _ (r .read-u32-le .ensures) (w .wide .ensures) (take-all (length body - 53) (drop 53 body) (omega (arith, length-drop 53 body)))
-    (c .before .before .before .before .before .gauge-receive .ensures)
+    receive-called _ _ _ _ body _ _ _ _ _ _ (r .read-u32-le .ensures) (w .wide .ensures)
+    (take-all (length body - 53) (drop 53 body) (omega (arith, length-drop 53 body)))
+    (gauge-receive .gauge-receive .ensures)
 
 pub receive-spec : {M : Type 1} → statement M
 receive-spec =

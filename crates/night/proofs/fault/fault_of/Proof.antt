@@ -17,9 +17,12 @@ whole c = (c .if2 .left ∙ ap (λ (n : ℕ). 2 + n) (c .before .read-u16-le .en
 
 fitted : (c : tie.After-body-fits)
     → (let r = c .before .before .before .before .before .before .args .piece .now in c .body-fits .result ≡ bodyFits (kindOf r) (length r - 4))
-fitted c = c .body-fits .ensures ∙ ap (λ (k : ℕ). bodyFits k (length (c .before .before .before .before .before .before .args .piece .now) - 4)) (c .before .read-u16-le2 .ensures)
+fitted c =
+    let start = c .before .before .before .before .before .before in
+    c .body-fits .ensures ∙ ap (λ (k : ℕ). bodyFits k (length (start .args .piece .now) - 4)) (c .before .read-u16-le2 .ensures)
 
-known : (c : tie.After-is-kind) → c .is-kind .result ≡ isKind (kindOf (c .before .before .before .before .before .before .before .before .args .piece .now))
+known : (c : tie.After-is-kind)
+    → c .is-kind .result ≡ isKind (kindOf (c .before .before .before .before .before .before .before .before .args .piece .now))
 known c = c .is-kind .ensures ∙ ap isKind (c .before .before .before .read-u16-le2 .ensures)
 
 returns : tie.Need-returns
@@ -63,9 +66,11 @@ misplaced-requires c κs = search needs
 returns-5 : tie.Need-returns-5
 returns-5 c =
     let f = c .before .before .before in
+    let start = f .before .before .before .before .before .before .before in
     let s = whole (f .before .before .before) in
-    c .misplaced .ensures ∙ ap (λ (k : ℕ). firstOf (misplaced (c .before .before .before .before .before .before .before .before .before .before .args .at) k)) (f .before .before .read-u16-le2 .ensures)
-    ∙ fault-placed _ _ (s .0) (s .1) (sym (fitted (f .before)) ∙ not-false _ (f .if3 .left)) (sym (known (c .before .before)) ∙ not-false _ (c .before .if4 .left))
+    c .misplaced .ensures ∙ ap (λ (k : ℕ). firstOf (misplaced (start .args .at) k)) (f .before .before .read-u16-le2 .ensures)
+    ∙ fault-placed _ _ (s .0) (s .1) (sym (fitted (f .before)) ∙ not-false _ (f .if3 .left))
+    (sym (known (c .before .before)) ∙ not-false _ (c .before .if4 .left))
 
 pub fault-of-spec : {M : Type 1} → statement M
 fault-of-spec =

@@ -24,7 +24,8 @@ returns c =
     let first = second .before .before .before .before in
     let start = first .before .before .before in
     let a = start .args in
-    put-two 4 (a .at) (a .inflow) (a .outflow) (now (a .out)) _ _ (omega (arith, start .pre)) (first .write-u32-le .ensures) (second .write-u32-le2 .ensures)
+    put-two 4 (a .at) (a .inflow) (a .outflow) (now (a .out)) _ _ (omega (arith, start .pre)) (first .write-u32-le .ensures)
+    (second .write-u32-le2 .ensures)
 
 pub put-litres-spec : {M : Type 1} → statement M
 put-litres-spec =

@@ -1,5 +1,5 @@
 -- `record::entry::put_entry` meets its contract: the five pieces, put one after the other, are the entry (put-four, entry-in). Assumes nothing.
-use Prim.Native.Nat.{ℕ, _+_, _*_}
+use Prim.Native.Nat.{ℕ, _+_, _*_, _≤_}
 use native.Mathlib.Omega.{arith}
 use mathlib.Core.List.{List, [], _∷_, _++_}
 use mathlib.Core.Path.{refl, sym, ap}
@@ -11,6 +11,26 @@ use Rattle.record.proofs.PlaceLaws.{record-at, entry-in, put-four}
 use borrow.Author.Needs.{needs}
 use Rattle.record.proofs.entry.put_entry.Statement.{statement}
 use Rattle.record.proofs.entry.put_entry.Tie as tie
+
+-- the first place, from behind each piece
+abbrev first : tie.After-copy-piece → tie.Start
+first c = c .before .before .before .before .before
+
+abbrev second : tie.After-copy-to → tie.Start
+second c = first (c .before .before .before .before .before)
+
+abbrev third : tie.After-copy-piece2 → tie.Start
+third c = second (c .before .before .before .before)
+
+abbrev fourth : tie.After-copy-to2 → tie.Start
+fourth c = third (c .before .before .before .before .before)
+
+-- the record has one to four addresses
+abbrev count : tie.Start → ℕ
+count b = getD (now (b .args .s)) (b .args .start + 34) 0
+
+whole : (b : tie.Start) → (1 ≤ count b) × (count b ≤ 4)
+whole b = record-at (b .args .start) (now (b .args .s)) (b .pre .0) (b .pre .1 .0)
 
 add-count : tie.Need-add-count
 add-count c = search needs
@@ -62,7 +82,7 @@ mul-copy-piece c = search needs
 
 copy-piece-requires-3 : tie.Need-copy-piece-requires-3
 copy-piece-requires-3 c κs =
-    let w = record-at (c .before .before .before .before .before .before .before .before .before .before .before .before .before .before .before .before .before .before .before .before .before .before .args .start) (now (c .before .before .before .before .before .before .before .before .before .before .before .before .before .before .before .before .before .before .before .before .before .before .args .s)) (c .before .before .before .before .before .before .before .before .before .before .before .before .before .before .before .before .before .before .before .before .before .before .pre .0) (c .before .before .before .before .before .before .before .before .before .before .before .before .before .before .before .before .before .before .before .before .before .before .pre .1 .0) in
+    let w = whole (fourth (c .before .before .before)) in
     (omega arith, omega (arith, w .1))
 
 same-length : tie.Need-same-length
@@ -70,34 +90,40 @@ same-length c = search needs
 
 returns : tie.Need-returns
 returns c =
-    let o = now (c .before .before .before .before .before .before .before .before .before .before .before .before .before .before .before .before .before .before .before .before .before .before .before .before .before .args .dst) in
-    let s = now (c .before .before .before .before .before .before .before .before .before .before .before .before .before .before .before .before .before .before .before .before .before .before .before .before .before .args .s) in
-    let at = c .before .before .before .before .before .before .before .before .before .before .before .before .before .before .before .before .before .before .before .before .before .before .before .before .before .args .at in
-    let start = c .before .before .before .before .before .before .before .before .before .before .before .before .before .before .before .before .before .before .before .before .before .before .before .before .before .args .start in
-    let w = record-at start s (c .before .before .before .before .before .before .before .before .before .before .before .before .before .before .before .before .before .before .before .before .before .before .before .before .before .pre .0) (c .before .before .before .before .before .before .before .before .before .before .before .before .before .before .before .before .before .before .before .before .before .before .before .before .before .pre .1 .0) in
+    let addresses = c .before .before in
+    let two = addresses .before .before .before .before in
+    let port = two .before .before .before .before .before in
+    let versions = port .before .before .before .before in
+    let key = versions .before .before .before .before .before in
+    let b = first key in
+    let o = now (b .args .dst) in
+    let s = now (b .args .s) in
+    let at = b .args .at in
+    let start = b .args .start in
+    let w = whole b in
     let m = w .1 in
-    let n = getD s (start + 34) 0 in
+    let n = count b in
     let k = part start 32 s in
-    let v : List ℕ = c .before .before .before .before .before .before .before .before .before .before .before .before .before .before .before .before .before .before .before .before .before .before .before .before .before .args .major ∷ c .before .before .before .before .before .before .before .before .before .before .before .before .before .before .before .before .before .before .before .before .before .before .before .before .before .args .minor ∷ [] in
+    let v : List ℕ = b .args .major ∷ b .args .minor ∷ [] in
     let p = part (start + 32) 2 s in
     let r : List ℕ = 0 ∷ n ∷ [] in
     let x = part (start + 36) (16 * n) s in
     let lk = length-part start 32 s (omega arith) in
     let lp = length-part (start + 32) 2 s (omega arith) in
     let lx = length-part (start + 36) (16 * n) s (omega arith) in
-    let a = length-append k v in
-    let b = length-append (k ++ v) p in
+    let f = length-append k v in
+    let g = length-append (k ++ v) p in
     let d = length-append (k ++ v ++ p) r in
     rw (
-      c .before .before .copy-piece3 .ensures,
-      c .before .before .before .before .before .before .copy-to2 .ensures,
-      c .before .before .before .before .before .before .before .before .before .before .before .copy-piece2 .ensures,
-      c .before .before .before .before .before .before .before .before .before .before .before .before .before .before .before .copy-to .ensures,
-      c .before .before .before .before .before .before .before .before .before .before .before .before .before .before .before .before .before .before .before .before .copy-piece .ensures,
+      addresses .copy-piece3 .ensures,
+      two .copy-to2 .ensures,
+      port .copy-piece2 .ensures,
+      versions .copy-to .ensures,
+      key .copy-piece .ensures,
       put-four at 2 k v p r o lk refl lp refl (omega arith),
       splice-next at 38 (k ++ v ++ p ++ r) x o (omega arith) (omega arith),
     )
-    (ap (λ (l : List ℕ). splice at l o) (sym (entry-in (c .before .before .before .before .before .before .before .before .before .before .before .before .before .before .before .before .before .before .before .before .before .before .before .before .before .args .major) (c .before .before .before .before .before .before .before .before .before .before .before .before .before .before .before .before .before .before .before .before .before .before .before .before .before .args .minor) start s m)))
+    (ap (λ (l : List ℕ). splice at l o) (sym (entry-in (b .args .major) (b .args .minor) start s m)))
 
 pub put-entry-spec : {M : Type 1} → statement M
 put-entry-spec =

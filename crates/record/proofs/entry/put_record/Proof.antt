@@ -7,32 +7,49 @@ use denote.Ref.{now}
 use lib.ListN.{getD, replicate, length-replicate}
 use Rattle.octet.specs.Part.{part, splice}
 use Rattle.octet.proofs.PartLaws.{length-part}
-use Rattle.record.proofs.PlaceLaws.{entry-at, record-in, put-pieces}
+use Rattle.record.proofs.PlaceLaws.{Entry-at, entry-at, record-in, put-pieces}
 use borrow.Author.Needs.{needs}
 use Rattle.record.proofs.entry.put_record.Statement.{statement}
 use Rattle.record.proofs.entry.put_record.Tie as tie
+
+-- the first place, from behind each piece
+abbrev first : tie.After-copy-piece → tie.Start
+first c = c .before .before .before .before .before
+
+abbrev second : tie.After-copy-piece2 → tie.Start
+second c = first (c .before .before .before .before)
+
+abbrev third : tie.After-copy-to → tie.Start
+third c = second (c .before .before .before .before .before)
+
+abbrev fourth : tie.After-copy-piece3 → tie.Start
+fourth c = third (c .before .before .before .before)
+
+-- the entry lies there whole
+whole : (b : tie.Start) → Entry-at (b .args .start) (b .args .len) (now (b .args .d))
+whole b = entry-at (b .args .start) (b .args .len) (now (b .args .d)) (b .pre .1 .0) (b .pre .1 .1)
 
 add-count : tie.Need-add-count
 add-count c = search needs
 
 shared-slice-read-count : tie.Need-shared-slice-read-count
 shared-slice-read-count c =
-    let w = entry-at (c .before .before .before .args .start) (c .before .before .before .args .len) (now (c .before .before .before .args .d)) (c .before .before .before .pre .1 .0) (c .before .before .before .pre .1 .1) in
+    let w = whole (c .before .before .before) in
     omega (arith, w .most, w .long)
 
 cast-size : tie.Need-cast-size
 cast-size c =
-    let w = entry-at (c .before .before .before .args .start) (c .before .before .before .args .len) (now (c .before .before .before .args .d)) (c .before .before .before .pre .1 .0) (c .before .before .before .pre .1 .1) in
+    let w = whole (c .before .before .before) in
     omega (arith, w .most, w .long)
 
 mul-size : tie.Need-mul-size
 mul-size c =
-    let w = entry-at (c .before .before .before .args .start) (c .before .before .before .args .len) (now (c .before .before .before .args .d)) (c .before .before .before .pre .1 .0) (c .before .before .before .pre .1 .1) in
+    let w = whole (c .before .before .before) in
     omega (arith, w .most, w .long)
 
 copy-piece-requires : tie.Need-copy-piece-requires
 copy-piece-requires c κs =
-    let w = entry-at (c .before .before .before .before .args .start) (c .before .before .before .before .args .len) (now (c .before .before .before .before .args .d)) (c .before .before .before .before .pre .1 .0) (c .before .before .before .before .pre .1 .1) in
+    let w = whole (c .before .before .before .before) in
     (omega (arith, w .most), omega (arith, w .most, w .long))
 
 add-copy-piece : tie.Need-add-copy-piece
@@ -43,7 +60,7 @@ add-copy-piece-2 c = search needs
 
 copy-piece-requires-2 : tie.Need-copy-piece-requires-2
 copy-piece-requires-2 c κs =
-    let w = entry-at (c .before .before .before .before .before .before .before .before .args .start) (c .before .before .before .before .before .before .before .before .args .len) (now (c .before .before .before .before .before .before .before .before .args .d)) (c .before .before .before .before .before .before .before .before .pre .1 .0) (c .before .before .before .before .before .before .before .before .pre .1 .1) in
+    let w = whole (first (c .before .before .before)) in
     (omega (arith, w .most), omega (arith, w .most, w .long))
 
 add-copy-to : tie.Need-add-copy-to
@@ -63,7 +80,7 @@ add-copy-piece-4 c = search needs
 
 copy-piece-requires-3 : tie.Need-copy-piece-requires-3
 copy-piece-requires-3 c κs =
-    let w = entry-at (c .before .before .before .before .before .before .before .before .before .before .before .before .before .before .before .before .before .args .start) (c .before .before .before .before .before .before .before .before .before .before .before .before .before .before .before .before .before .args .len) (now (c .before .before .before .before .before .before .before .before .before .before .before .before .before .before .before .before .before .args .d)) (c .before .before .before .before .before .before .before .before .before .before .before .before .before .before .before .before .before .pre .1 .0) (c .before .before .before .before .before .before .before .before .before .before .before .before .before .before .before .before .before .pre .1 .1) in
+    let w = whole (third (c .before .before .before)) in
     (omega (arith, w .most), omega (arith, w .most, w .long))
 
 add-unused : tie.Need-add-unused
@@ -71,17 +88,17 @@ add-unused c = search needs
 
 add-unused-2 : tie.Need-add-unused-2
 add-unused-2 c =
-    let w = entry-at (c .before .before .before .before .before .before .before .before .before .before .before .before .before .before .before .before .before .before .before .before .args .start) (c .before .before .before .before .before .before .before .before .before .before .before .before .before .before .before .before .before .before .before .before .args .len) (now (c .before .before .before .before .before .before .before .before .before .before .before .before .before .before .before .before .before .before .before .before .args .d)) (c .before .before .before .before .before .before .before .before .before .before .before .before .before .before .before .before .before .before .before .before .pre .1 .0) (c .before .before .before .before .before .before .before .before .before .before .before .before .before .before .before .before .before .before .before .before .pre .1 .1) in
+    let w = whole (fourth (c .before .before)) in
     omega (arith, w .most, w .long)
 
 sub-clear : tie.Need-sub-clear
 sub-clear c =
-    let w = entry-at (c .before .before .before .before .before .before .before .before .before .before .before .before .before .before .before .before .before .before .before .before .before .args .start) (c .before .before .before .before .before .before .before .before .before .before .before .before .before .before .before .before .before .before .before .before .before .args .len) (now (c .before .before .before .before .before .before .before .before .before .before .before .before .before .before .before .before .before .before .before .before .before .args .d)) (c .before .before .before .before .before .before .before .before .before .before .before .before .before .before .before .before .before .before .before .before .before .pre .1 .0) (c .before .before .before .before .before .before .before .before .before .before .before .before .before .before .before .before .before .before .before .before .before .pre .1 .1) in
+    let w = whole (fourth (c .before .before .before)) in
     omega (arith, w .most, w .long)
 
 clear-requires : tie.Need-clear-requires
 clear-requires c κs =
-    let w = entry-at (c .before .before .before .before .before .before .before .before .before .before .before .before .before .before .before .before .before .before .before .before .before .args .start) (c .before .before .before .before .before .before .before .before .before .before .before .before .before .before .before .before .before .before .before .before .before .args .len) (now (c .before .before .before .before .before .before .before .before .before .before .before .before .before .before .before .before .before .before .before .before .before .args .d)) (c .before .before .before .before .before .before .before .before .before .before .before .before .before .before .before .before .before .before .before .before .before .pre .1 .0) (c .before .before .before .before .before .before .before .before .before .before .before .before .before .before .before .before .before .before .before .before .before .pre .1 .1) in
+    let w = whole (fourth (c .before .before .before)) in
     omega (arith, w .most, w .long)
 
 same-length : tie.Need-same-length
@@ -89,19 +106,26 @@ same-length c = search needs
 
 returns : tie.Need-returns
 returns c =
-    let s = now (c .before .before .before .before .before .before .before .before .before .before .before .before .before .before .before .before .before .before .before .before .before .before .before .before .args .dst) in
-    let d = now (c .before .before .before .before .before .before .before .before .before .before .before .before .before .before .before .before .before .before .before .before .before .before .before .before .args .d) in
-    let at = c .before .before .before .before .before .before .before .before .before .before .before .before .before .before .before .before .before .before .before .before .before .before .before .before .args .at in
-    let start = c .before .before .before .before .before .before .before .before .before .before .before .before .before .before .before .before .before .before .before .before .before .before .before .before .args .start in
-    let w = entry-at (c .before .before .before .before .before .before .before .before .before .before .before .before .before .before .before .before .before .before .before .before .before .before .before .before .args .start) (c .before .before .before .before .before .before .before .before .before .before .before .before .before .before .before .before .before .before .before .before .before .before .before .before .args .len) (now (c .before .before .before .before .before .before .before .before .before .before .before .before .before .before .before .before .before .before .before .before .before .before .before .before .args .d)) (c .before .before .before .before .before .before .before .before .before .before .before .before .before .before .before .before .before .before .before .before .before .before .before .before .pre .1 .0) (c .before .before .before .before .before .before .before .before .before .before .before .before .before .before .before .before .before .before .before .before .before .before .before .before .pre .1 .1) in
+    let cleared = c .before .before in
+    let addresses = cleared .before .before .before .before in
+    let two = addresses .before .before .before .before in
+    let port = two .before .before .before .before .before in
+    let key = port .before .before .before .before in
+    let b = first key in
+    let s = now (b .args .dst) in
+    let d = now (b .args .d) in
+    let at = b .args .at in
+    let start = b .args .start in
+    let w = whole b in
     let n = getD d (start + 37) 0 in
     let m = w .most in
     let l = w .long in
     let z = length-replicate {A = ℕ} (64 - 16 * n) 0 in
-    rw (c .before .before .clear .ensures, c .before .before .before .before .before .before .copy-piece3 .ensures, c .before .before .before .before .before .before .before .before .before .before .copy-to .ensures, c .before .before .before .before .before .before .before .before .before .before .before .before .before .before .before .copy-piece2 .ensures, c .before .before .before .before .before .before .before .before .before .before .before .before .before .before .before .before .before .before .before .copy-piece .ensures)
-    (put-pieces at (16 * n) (64 - 16 * n) (part start 32 d) (part (start + 34) 2 d) (n ∷ 0 ∷ []) (part (start + 38) (16 * n) d) (replicate (64 - 16 * n) 0) s
-    (length-part start 32 d (omega arith)) (length-part (start + 34) 2 d (omega arith)) refl (length-part (start + 38) (16 * n) d (omega arith)) z (omega arith)
-    ∙ ap (λ (r : List ℕ). splice at r s) (sym (record-in start (c .before .before .before .before .before .before .before .before .before .before .before .before .before .before .before .before .before .before .before .before .before .before .before .before .args .len) d (c .before .before .before .before .before .before .before .before .before .before .before .before .before .before .before .before .before .before .before .before .before .before .before .before .pre .1 .0) (c .before .before .before .before .before .before .before .before .before .before .before .before .before .before .before .before .before .before .before .before .before .before .before .before .pre .1 .1))))
+    rw (cleared .clear .ensures, addresses .copy-piece3 .ensures, two .copy-to .ensures, port .copy-piece2 .ensures, key .copy-piece .ensures)
+    (put-pieces at (16 * n) (64 - 16 * n) (part start 32 d) (part (start + 34) 2 d) (n ∷ 0 ∷ []) (part (start + 38) (16 * n) d)
+    (replicate (64 - 16 * n) 0) s (length-part start 32 d (omega arith)) (length-part (start + 34) 2 d (omega arith)) refl
+    (length-part (start + 38) (16 * n) d (omega arith)) z (omega arith)
+    ∙ ap (λ (r : List ℕ). splice at r s) (sym (record-in start (b .args .len) d (b .pre .1 .0) (b .pre .1 .1))))
 
 pub put-record-spec : {M : Type 1} → statement M
 put-record-spec =

@@ -2,45 +2,106 @@
 use Prim.Native.Nat.{ℕ, _+_, _-_, _*_}
 use native.Mathlib.Omega.{arith}
 use borrow.Author.Tests.{eq-eqb, ne-eqb, not-true, not-false}
+use mathlib.Core.Bool.{Bool, true, false, _&&_}
 use mathlib.Core.Path.{_≡_, sym, ap, _∙_}
 use denote.Ref.{now}
+use lib.Dec.{eqb}
 use lib.ListN.{getD}
-use Rattle.octet.specs.Part.{part, allZero}
-use Rattle.record.proofs.PlaceLaws.{entry-at, same-pieces}
+use Rattle.octet.specs.Part.{part, same, allZero}
+use Rattle.record.specs.Entry.{recordOf}
+use Rattle.record.proofs.PlaceLaws.{Entry-at, entry-at, same-pieces}
 use borrow.Author.Needs.{needs}
 use Rattle.record.proofs.entry.same_as_entry.Statement.{statement}
 use Rattle.record.proofs.entry.same_as_entry.Tie as tie
+
+-- the six tests, in words of what was lent
+abbrev count : tie.Start → ℕ
+count b = getD (now (b .args .d)) (b .args .start + 37) 0
+
+abbrev keys : tie.Start → Bool
+keys b = same (part (b .args .at) 32 (now (b .args .s))) (part (b .args .start) 32 (now (b .args .d)))
+
+abbrev ports : tie.Start → Bool
+ports b = same (part (b .args .at + 32) 2 (now (b .args .s))) (part (b .args .start + 34) 2 (now (b .args .d)))
+
+abbrev counts : tie.Start → Bool
+counts b = eqb (getD (now (b .args .s)) (b .args .at + 34) 0) (count b)
+
+abbrev closed : tie.Start → Bool
+closed b = eqb (getD (now (b .args .s)) (b .args .at + 35) 0) 0
+
+abbrev used : tie.Start → Bool
+used b = same (part (b .args .at + 36) (16 * count b) (now (b .args .s))) (part (b .args .start + 38) (16 * count b) (now (b .args .d)))
+
+abbrev unused : tie.Start → ℕ → Bool
+unused b n = allZero (part (b .args .at + 36 + 16 * count b) n (now (b .args .s)))
+
+pieces : (b : tie.Start)
+    → same (part (b .args .at) 100 (now (b .args .s))) (recordOf (part (b .args .start) (b .args .len) (now (b .args .d))))
+    ≡ keys b && ports b && (counts b && closed b) && used b && unused b (64 - 16 * count b)
+pieces b =
+    let a = b .args in
+    same-pieces (a .at) (a .start) (a .len) (now (a .s)) (now (a .d)) (b .pre .0) (b .pre .1 .0) (b .pre .1 .1)
+
+-- the entry lies there whole
+whole : (b : tie.Start) → Entry-at (b .args .start) (b .args .len) (now (b .args .d))
+whole b = entry-at (b .args .start) (b .args .len) (now (b .args .d)) (b .pre .1 .0) (b .pre .1 .1)
+
+-- each place from that of the next test
+abbrev start : tie.After-equal-words → tie.Start
+start c = c .before .before .before .before
+
+abbrev first : tie.Else1 → tie.Start
+first c = start (c .before)
+
+abbrev second : tie.Else2 → tie.Start
+second c = first (c .before .before)
+
+abbrev third : tie.Else3 → tie.Start
+third c = second (c .before .before)
+
+abbrev fourth : tie.Else4 → tie.Start
+fourth c = third (c .before .before)
+
+abbrev fifth : tie.Else5 → tie.Start
+fifth c = fourth (c .before .before)
+
+-- what each test that was passed says
+same-keys : (c : tie.Else1) → keys (first c) ≡ true
+same-keys c = sym (c .before .equal-words .ensures) ∙ not-false _ (c .if1 .left)
+
+same-ports : (c : tie.Else2) → ports (second c) ≡ true
+same-ports c = sym (c .before .same-piece .ensures) ∙ not-false _ (c .if2 .left)
+
+same-counts : (c : tie.Else3) → counts (third c) ≡ true
+same-counts c = eq-eqb _ _ (c .if3 .left)
+
+is-closed : (c : tie.Else4) → closed (fourth c) ≡ true
+is-closed c = eq-eqb _ _ (c .if4 .left)
+
+same-used : (c : tie.Else5) → used (fifth c) ≡ true
+same-used c = sym (c .before .same-piece2 .ensures) ∙ not-false _ (c .if5 .left)
 
 add-count : tie.Need-add-count
 add-count c = search needs
 
 shared-slice-read-count : tie.Need-shared-slice-read-count
-shared-slice-read-count c =
-    let w = entry-at (c .before .before .before .args .start) (c .before .before .before .args .len) (now (c .before .before .before .args .d)) (c .before .before .before .pre .1 .0) (c .before .before .before .pre .1 .1) in
-    omega (arith, w .most, w .long)
+shared-slice-read-count c = let w = whole (c .before .before .before) in omega (arith, w .most, w .long)
 
 cast-size : tie.Need-cast-size
-cast-size c =
-    let w = entry-at (c .before .before .before .args .start) (c .before .before .before .args .len) (now (c .before .before .before .args .d)) (c .before .before .before .pre .1 .0) (c .before .before .before .pre .1 .1) in
-    omega (arith, w .most, w .long)
+cast-size c = let w = whole (c .before .before .before) in omega (arith, w .most, w .long)
 
 mul-size : tie.Need-mul-size
-mul-size c =
-    let w = entry-at (c .before .before .before .args .start) (c .before .before .before .args .len) (now (c .before .before .before .args .d)) (c .before .before .before .pre .1 .0) (c .before .before .before .pre .1 .1) in
-    omega (arith, w .most, w .long)
+mul-size c = let w = whole (c .before .before .before) in omega (arith, w .most, w .long)
 
 equal-words-requires : tie.Need-equal-words-requires
-equal-words-requires c κs =
-    let w = entry-at (c .before .before .before .args .start) (c .before .before .before .args .len) (now (c .before .before .before .args .d)) (c .before .before .before .pre .1 .0) (c .before .before .before .pre .1 .1) in
-    (omega arith, omega (arith, w .most, w .long))
+equal-words-requires c κs = let w = whole (c .before .before .before) in (omega arith, omega (arith, w .most, w .long))
 
 returns : tie.Need-returns
 returns c =
-    let s = now (c .before .before .before .before .before .args .s) in
-    let d = now (c .before .before .before .before .before .args .d) in
-    let at = c .before .before .before .before .before .args .at in
-    let start = c .before .before .before .before .before .args .start in
-    rw (same-pieces at start (c .before .before .before .before .before .args .len) s d (c .before .before .before .before .before .pre .0) (c .before .before .before .before .before .pre .1 .0) (c .before .before .before .before .before .pre .1 .1), sym (c .before .equal-words .ensures) ∙ not-true _ (c .if1 .taken))
+    let e = c .before in
+    let f : keys (start e) ≡ false = sym (e .equal-words .ensures) ∙ not-true _ (c .if1 .taken) in
+    rw (pieces (start e), f)
 
 add-same-piece : tie.Need-add-same-piece
 add-same-piece c = search needs
@@ -49,17 +110,13 @@ add-same-piece-2 : tie.Need-add-same-piece-2
 add-same-piece-2 c = search needs
 
 same-piece-requires : tie.Need-same-piece-requires
-same-piece-requires c κs =
-    let w = entry-at (c .before .before .before .before .before .args .start) (c .before .before .before .before .before .args .len) (now (c .before .before .before .before .before .args .d)) (c .before .before .before .before .before .pre .1 .0) (c .before .before .before .before .before .pre .1 .1) in
-    (omega arith, omega (arith, w .most, w .long))
+same-piece-requires c κs = let w = whole (first c) in (omega arith, omega (arith, w .most, w .long))
 
 returns-2 : tie.Need-returns-2
 returns-2 c =
-    let s = now (c .before .before .before .before .before .before .before .args .s) in
-    let d = now (c .before .before .before .before .before .before .before .args .d) in
-    let at = c .before .before .before .before .before .before .before .args .at in
-    let start = c .before .before .before .before .before .before .before .args .start in
-    rw (same-pieces at start (c .before .before .before .before .before .before .before .args .len) s d (c .before .before .before .before .before .before .before .pre .0) (c .before .before .before .before .before .before .before .pre .1 .0) (c .before .before .before .before .before .before .before .pre .1 .1), sym (c .before .before .before .equal-words .ensures) ∙ not-false _ (c .before .before .if1 .left), sym (c .before .same-piece .ensures) ∙ not-true _ (c .if2 .taken))
+    let e = c .before .before in
+    let f : ports (first e) ≡ false = sym (c .before .same-piece .ensures) ∙ not-true _ (c .if2 .taken) in
+    rw (pieces (first e), same-keys e, f)
 
 add-if3 : tie.Need-add-if3
 add-if3 c = search needs
@@ -69,11 +126,9 @@ shared-slice-read-if3 c = search needs
 
 returns-3 : tie.Need-returns-3
 returns-3 c =
-    let s = now (c .before .before .before .before .before .before .before .before .before .args .s) in
-    let d = now (c .before .before .before .before .before .before .before .before .before .args .d) in
-    let at = c .before .before .before .before .before .before .before .before .before .args .at in
-    let start = c .before .before .before .before .before .before .before .before .before .args .start in
-    rw (same-pieces at start (c .before .before .before .before .before .before .before .before .before .args .len) s d (c .before .before .before .before .before .before .before .before .before .pre .0) (c .before .before .before .before .before .before .before .before .before .pre .1 .0) (c .before .before .before .before .before .before .before .before .before .pre .1 .1), sym (c .before .before .before .before .before .equal-words .ensures) ∙ not-false _ (c .before .before .before .before .if1 .left), sym (c .before .before .before .same-piece .ensures) ∙ not-false _ (c .before .before .if2 .left), ne-eqb (getD s (at + 34) 0) (getD d (start + 37) 0) (c .if3 .taken))
+    let e = c .before .before in
+    let f : counts (second e) ≡ false = ne-eqb _ _ (c .if3 .taken) in
+    rw (pieces (second e), same-keys (e .before .before), same-ports e, f)
 
 add-if4 : tie.Need-add-if4
 add-if4 c = search needs
@@ -83,11 +138,10 @@ shared-slice-read-if4 c = search needs
 
 returns-4 : tie.Need-returns-4
 returns-4 c =
-    let s = now (c .before .before .before .before .before .before .before .before .before .before .before .args .s) in
-    let d = now (c .before .before .before .before .before .before .before .before .before .before .before .args .d) in
-    let at = c .before .before .before .before .before .before .before .before .before .before .before .args .at in
-    let start = c .before .before .before .before .before .before .before .before .before .before .before .args .start in
-    rw (same-pieces at start (c .before .before .before .before .before .before .before .before .before .before .before .args .len) s d (c .before .before .before .before .before .before .before .before .before .before .before .pre .0) (c .before .before .before .before .before .before .before .before .before .before .before .pre .1 .0) (c .before .before .before .before .before .before .before .before .before .before .before .pre .1 .1), sym (c .before .before .before .before .before .before .before .equal-words .ensures) ∙ not-false _ (c .before .before .before .before .before .before .if1 .left), sym (c .before .before .before .before .before .same-piece .ensures) ∙ not-false _ (c .before .before .before .before .if2 .left), eq-eqb (getD s (at + 34) 0) (getD d (start + 37) 0) (c .before .before .if3 .left), ne-eqb (getD s (at + 35) 0) 0 (c .if4 .taken))
+    let e₃ = c .before .before in
+    let e₂ = e₃ .before .before in
+    let f : closed (third e₃) ≡ false = ne-eqb _ _ (c .if4 .taken) in
+    rw (pieces (third e₃), same-keys (e₂ .before .before), same-ports e₂, same-counts e₃, f)
 
 add-same-piece-3 : tie.Need-add-same-piece-3
 add-same-piece-3 c = search needs
@@ -96,56 +150,45 @@ add-same-piece-4 : tie.Need-add-same-piece-4
 add-same-piece-4 c = search needs
 
 same-piece-requires-2 : tie.Need-same-piece-requires-2
-same-piece-requires-2 c κs =
-    let w = entry-at (c .before .before .before .before .before .before .before .before .before .before .before .args .start) (c .before .before .before .before .before .before .before .before .before .before .before .args .len) (now (c .before .before .before .before .before .before .before .before .before .before .before .args .d)) (c .before .before .before .before .before .before .before .before .before .before .before .pre .1 .0) (c .before .before .before .before .before .before .before .before .before .before .before .pre .1 .1) in
-    (omega arith, omega (arith, w .most, w .long))
+same-piece-requires-2 c κs = let w = whole (fourth c) in (omega arith, omega (arith, w .most, w .long))
 
 returns-5 : tie.Need-returns-5
 returns-5 c =
-    let s = now (c .before .before .before .before .before .before .before .before .before .before .before .before .before .args .s) in
-    let d = now (c .before .before .before .before .before .before .before .before .before .before .before .before .before .args .d) in
-    let at = c .before .before .before .before .before .before .before .before .before .before .before .before .before .args .at in
-    let start = c .before .before .before .before .before .before .before .before .before .before .before .before .before .args .start in
-    rw (same-pieces at start (c .before .before .before .before .before .before .before .before .before .before .before .before .before .args .len) s d (c .before .before .before .before .before .before .before .before .before .before .before .before .before .pre .0) (c .before .before .before .before .before .before .before .before .before .before .before .before .before .pre .1 .0) (c .before .before .before .before .before .before .before .before .before .before .before .before .before .pre .1 .1), sym (c .before .before .before .before .before .before .before .before .before .equal-words .ensures) ∙ not-false _ (c .before .before .before .before .before .before .before .before .if1 .left), sym (c .before .before .before .before .before .before .before .same-piece .ensures) ∙ not-false _ (c .before .before .before .before .before .before .if2 .left), eq-eqb (getD s (at + 34) 0) (getD d (start + 37) 0) (c .before .before .before .before .if3 .left), eq-eqb (getD s (at + 35) 0) 0 (c .before .before .if4 .left), sym (c .before .same-piece2 .ensures) ∙ not-true _ (c .if5 .taken))
+    let e₄ = c .before .before in
+    let e₃ = e₄ .before .before in
+    let e₂ = e₃ .before .before in
+    let f : used (fourth e₄) ≡ false = sym (c .before .same-piece2 .ensures) ∙ not-true _ (c .if5 .taken) in
+    rw (pieces (fourth e₄), same-keys (e₂ .before .before), same-ports e₂, same-counts e₃, is-closed e₄, f)
 
 add-unused : tie.Need-add-unused
 add-unused c = search needs
 
 add-unused-2 : tie.Need-add-unused-2
-add-unused-2 c =
-    let w = entry-at (c .before .before .before .before .before .before .before .before .before .before .before .before .before .args .start) (c .before .before .before .before .before .before .before .before .before .before .before .before .before .args .len) (now (c .before .before .before .before .before .before .before .before .before .before .before .before .before .args .d)) (c .before .before .before .before .before .before .before .before .before .before .before .before .before .pre .1 .0) (c .before .before .before .before .before .before .before .before .before .before .before .before .before .pre .1 .1) in
-    omega (arith, w .most, w .long)
+add-unused-2 c = let w = whole (fifth c) in omega (arith, w .most, w .long)
 
 cast-zero-words : tie.Need-cast-zero-words
-cast-zero-words c =
-    let w = entry-at (c .before .before .before .before .before .before .before .before .before .before .before .before .before .args .start) (c .before .before .before .before .before .before .before .before .before .before .before .before .before .args .len) (now (c .before .before .before .before .before .before .before .before .before .before .before .before .before .args .d)) (c .before .before .before .before .before .before .before .before .before .before .before .before .before .pre .1 .0) (c .before .before .before .before .before .before .before .before .before .before .before .before .before .pre .1 .1) in
-    omega (arith, w .most, w .long)
+cast-zero-words c = let w = whole (fifth c) in omega (arith, w .most, w .long)
 
 mul-zero-words : tie.Need-mul-zero-words
-mul-zero-words c =
-    let w = entry-at (c .before .before .before .before .before .before .before .before .before .before .before .before .before .args .start) (c .before .before .before .before .before .before .before .before .before .before .before .before .before .args .len) (now (c .before .before .before .before .before .before .before .before .before .before .before .before .before .args .d)) (c .before .before .before .before .before .before .before .before .before .before .before .before .before .pre .1 .0) (c .before .before .before .before .before .before .before .before .before .before .before .before .before .pre .1 .1) in
-    omega (arith, w .most, w .long)
+mul-zero-words c = let w = whole (fifth c) in omega (arith, w .most, w .long)
 
 sub-zero-words : tie.Need-sub-zero-words
-sub-zero-words c =
-    let w = entry-at (c .before .before .before .before .before .before .before .before .before .before .before .before .before .args .start) (c .before .before .before .before .before .before .before .before .before .before .before .before .before .args .len) (now (c .before .before .before .before .before .before .before .before .before .before .before .before .before .args .d)) (c .before .before .before .before .before .before .before .before .before .before .before .before .before .pre .1 .0) (c .before .before .before .before .before .before .before .before .before .before .before .before .before .pre .1 .1) in
-    omega (arith, w .most, w .long)
+sub-zero-words c = let w = whole (fifth c) in omega (arith, w .most, w .long)
 
 zero-words-requires : tie.Need-zero-words-requires
-zero-words-requires c κs =
-    let w = entry-at (c .before .before .before .before .before .before .before .before .before .before .before .before .before .args .start) (c .before .before .before .before .before .before .before .before .before .before .before .before .before .args .len) (now (c .before .before .before .before .before .before .before .before .before .before .before .before .before .args .d)) (c .before .before .before .before .before .before .before .before .before .before .before .before .before .pre .1 .0) (c .before .before .before .before .before .before .before .before .before .before .before .before .before .pre .1 .1) in
-    omega (arith, w .most, w .long)
+zero-words-requires c κs = let w = whole (fifth c) in omega (arith, w .most, w .long)
 
 returns-6 : tie.Need-returns-6
 returns-6 c =
-    let w = entry-at (c .before .before .before .before .before .before .before .before .before .before .before .before .before .before .args .start) (c .before .before .before .before .before .before .before .before .before .before .before .before .before .before .args .len) (now (c .before .before .before .before .before .before .before .before .before .before .before .before .before .before .args .d)) (c .before .before .before .before .before .before .before .before .before .before .before .before .before .before .pre .1 .0) (c .before .before .before .before .before .before .before .before .before .before .before .before .before .before .pre .1 .1) in
-    let e : 8 * (8 - 2 * getD (now (c .before .before .before .before .before .before .before .before .before .before .before .before .before .before .args .d)) (c .before .before .before .before .before .before .before .before .before .before .before .before .before .before .args .start + 37) 0) ≡ 64 - 16 * getD (now (c .before .before .before .before .before .before .before .before .before .before .before .before .before .before .args .d)) (c .before .before .before .before .before .before .before .before .before .before .before .before .before .before .args .start + 37) 0 = omega (arith, w .most) in
-    let s = now (c .before .before .before .before .before .before .before .before .before .before .before .before .before .before .args .s) in
-    let d = now (c .before .before .before .before .before .before .before .before .before .before .before .before .before .before .args .d) in
-    let at = c .before .before .before .before .before .before .before .before .before .before .before .before .before .before .args .at in
-    let start = c .before .before .before .before .before .before .before .before .before .before .before .before .before .before .args .start in
-    rw (same-pieces at start (c .before .before .before .before .before .before .before .before .before .before .before .before .before .before .args .len) s d (c .before .before .before .before .before .before .before .before .before .before .before .before .before .before .pre .0) (c .before .before .before .before .before .before .before .before .before .before .before .before .before .before .pre .1 .0) (c .before .before .before .before .before .before .before .before .before .before .before .before .before .before .pre .1 .1), sym (c .before .before .before .before .before .before .before .before .before .before .equal-words .ensures) ∙ not-false _ (c .before .before .before .before .before .before .before .before .before .if1 .left), sym (c .before .before .before .before .before .before .before .before .same-piece .ensures) ∙ not-false _ (c .before .before .before .before .before .before .before .if2 .left), eq-eqb (getD s (at + 34) 0) (getD d (start + 37) 0) (c .before .before .before .before .before .if3 .left), eq-eqb (getD s (at + 35) 0) 0 (c .before .before .before .if4 .left), sym (c .before .before .same-piece2 .ensures) ∙ not-false _ (c .before .if5 .left))
-    (c .zero-words .ensures ∙ ap (λ (n : ℕ). allZero (part (at + 36 + 16 * getD d (start + 37) 0) n s)) e)
+    let e₅ = c .before in
+    let e₄ = e₅ .before .before in
+    let e₃ = e₄ .before .before in
+    let e₂ = e₃ .before .before in
+    let b = fifth e₅ in
+    let w = whole b in
+    let e : 8 * (8 - 2 * count b) ≡ 64 - 16 * count b = omega (arith, w .most) in
+    rw (pieces b, same-keys (e₂ .before .before), same-ports e₂, same-counts e₃, is-closed e₄, same-used e₅)
+    (c .zero-words .ensures ∙ ap (unused b) e)
 
 pub same-as-entry-spec : {M : Type 1} → statement M
 same-as-entry-spec =

@@ -20,8 +20,11 @@ returns-2 : tie.Need-returns-2
 returns-2 c =
     let m = c .before .before in
     let i = m .before .before in
-    let a = i .before .before .before .args in
-    (m .put-line .ensures .0, m .put-line .ensures .1 ∙ bad-first (a .at) (a .answer) (take (a .from) (a .out .now)) (i .before .if1 .taken) (i .if2 .left))
+    let a = i .before .before .before .args in (
+      m .put-line .ensures .0,
+      m .put-line .ensures .1
+          ∙ bad-first (a .at) (a .answer) (take (a .from) (a .out .now)) (i .before .if1 .taken) (i .if2 .left),
+    )
 
 put-line-requires-2 : tie.Need-put-line-requires-2
 put-line-requires-2 c κs = search needs
@@ -32,8 +35,11 @@ same-length-2 c = search needs
 returns-3 : tie.Need-returns-3
 returns-3 c =
     let m = c .before .before in
-    let a = m .before .before .before .before .args in
-    (m .put-line2 .ensures .0, m .put-line2 .ensures .1 ∙ later-line (a .at) (a .answer) (take (a .from) (a .out .now)) (m .before .before .if1 .left))
+    let a = m .before .before .before .before .args in (
+      m .put-line2 .ensures .0,
+      m .put-line2 .ensures .1
+          ∙ later-line (a .at) (a .answer) (take (a .from) (a .out .now)) (m .before .before .if1 .left),
+    )
 
 pub put-spec : {M : Type 1} → statement M
 put-spec =

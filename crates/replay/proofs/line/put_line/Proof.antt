@@ -11,19 +11,21 @@ use Rattle.replay.proofs.TextLaws.{line-put}
 use Rattle.replay.proofs.line.put_line.Statement.{statement}
 use Rattle.replay.proofs.line.put_line.Tie as tie
 
-as-long : (c : tie.After-put-number2) → length (c .put-number2 .last .0) ≡ length (c .before .before .before .before .before .before .before .args .out .now)
+as-long : (c : tie.After-put-number2)
+    → length (c .put-number2 .last .0) ≡ length (c .before .before .before .before .before .before .before .args .out .now)
 as-long c =
     let m = c .before .before .before .before in
     c .put-number2 .kept .0 ∙ length-set (m .put-number .last .0) (m .put-number .result) 32 ∙ m .put-number .kept .0
 
 laid : (c : tie.After-put-number2) → (let m = c .before .before .before .before in let a = m .before .before .before .args in
     (c .put-number2 .result + 1 ≤ a .from + 42)
-    × (take (c .put-number2 .result + 1) (set (c .put-number2 .last .0) (c .put-number2 .result) 10) ≡ take (a .from) (a .out .now) ++ textOf (line (a .at) (a .answer))))
+    × (take (c .put-number2 .result + 1) (set (c .put-number2 .last .0) (c .put-number2 .result) 10)
+    ≡ take (a .from) (a .out .now) ++ textOf (line (a .at) (a .answer))))
 laid c =
     let m = c .before .before .before .before in
     let a = m .before .before .before .args in
-    line-put (a .out .now) (a .from) (m .before .before .before .pre) (line (a .at) (a .answer)) _ _ _ _ (m .put-number .ensures .0) (m .put-number .ensures .1 .1)
-    (c .put-number2 .ensures .0) (c .put-number2 .ensures .1 .1)
+    line-put (a .out .now) (a .from) (m .before .before .before .pre) (line (a .at) (a .answer)) _ _ _ _ (m .put-number .ensures .0)
+    (m .put-number .ensures .1 .1) (c .put-number2 .ensures .0) (c .put-number2 .ensures .1 .1)
 
 put-number-requires : tie.Need-put-number-requires
 put-number-requires c κs = search needs

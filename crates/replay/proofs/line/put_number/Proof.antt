@@ -44,8 +44,10 @@ same-length c = search needs
 returns : tie.Need-returns
 returns c =
     let d = c .before .before .before .before .before in
-    let a = d .before .before .before .args in
-    (ap (λ (k : ℕ). a .at + k) (long d), (omega (arith, short d), c .before .before .copy-to .ensures ∙ ap (λ (l : List ℕ). splice (a .at) l (a .out .now)) (text-is d)))
+    let a = d .before .before .before .args in (
+      ap (λ (k : ℕ). a .at + k) (long d),
+      (omega (arith, short d), c .before .before .copy-to .ensures ∙ ap (λ (l : List ℕ). splice (a .at) l (a .out .now)) (text-is d)),
+    )
 
 pub put-number-spec : {M : Type 1} → statement M
 put-number-spec =

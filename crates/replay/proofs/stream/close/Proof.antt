@@ -24,8 +24,11 @@ returns-2 : tie.Need-returns-2
 returns-2 c =
     let u = c .before .before in
     let i = u .before .before in
-    let a = i .before .before .before .before .before .before .before .args in
-    (close-none (a .from .at) (night (a .opening .now) (memory (a .cache .now) (a .waiting .now))) (a .from .over) (a .room .now) (a .from .begun) (i .before .before .before .before .before .before .before .pre .0) (i .before .if1 .left) _ (i .if2 .taken) (u .put-end .ensures .1), u .put-end .ensures .0)
+    let a = i .before .before .before .before .before .before .before .args in (
+      close-none (a .from .at) (night (a .opening .now) (memory (a .cache .now) (a .waiting .now))) (a .from .over) (a .room .now) (a .from .begun)
+          (i .before .before .before .before .before .before .before .pre .0) (i .before .if1 .left) _ (i .if2 .taken) (u .put-end .ensures .1),
+      u .put-end .ensures .0,
+    )
 
 slice-aggregate-step : tie.Need-slice-aggregate-step
 slice-aggregate-step c = sym (length-take-le _ _ (c .before .before .before .before .before .before .before .before .before .before .before .pre .0))
@@ -34,7 +37,10 @@ step-requires : tie.Need-step-requires
 step-requires c κs = tt
 
 put-requires : tie.Need-put-requires
-put-requires c κs = c .before .before .before .before .before .before .before .before .before .before .before .before .before .before .before .before .before .before .before .pre .1
+put-requires c κs =
+    let else2 = c .before .before .before .before .before .before .before .before .before .before .before .before in
+    let start = else2 .before .before .before .before .before .before .before in
+    start .pre .1
 
 same-length-2 : tie.Need-same-length-2
 same-length-2 c = c .before .before .before .before .before .before .before .before .before .before .step .kept .1 .0
@@ -54,7 +60,10 @@ returns-3 c =
     let s = u .before .before .before .before .before .before .before .before in
     let i = s .before .before .before .before .before in
     let a = i .before .before .before .before .before .before .before .args in (
-      close-some (a .from .at) (night (a .opening .now) (memory (a .cache .now) (a .waiting .now))) (a .from .over) (a .room .now) (a .from .begun) (i .before .before .before .before .before .before .before .pre .0) (i .before .if1 .left) (take (u .put .result) (u .put .last .0)) (s .step .result) (night (s .step .last .1 .0) (memory (s .step .last .1 .1 .0) (s .step .last .1 .1 .1 .0))) (i .if2 .left) (s .step .ensures) (u .put .ensures .1),
+      close-some (a .from .at) (night (a .opening .now) (memory (a .cache .now) (a .waiting .now))) (a .from .over) (a .room .now) (a .from .begun)
+          (i .before .before .before .before .before .before .before .pre .0) (i .before .if1 .left) (take (u .put .result) (u .put .last .0))
+          (s .step .result) (night (s .step .last .1 .0) (memory (s .step .last .1 .1 .0) (s .step .last .1 .1 .1 .0))) (i .if2 .left)
+          (s .step .ensures) (u .put .ensures .1),
       u .put .ensures .0,
     )
 

@@ -7,7 +7,8 @@ use Rattle.sentences.specs.Words.{memory}
 use Rattle.night.specs.Step.{night}
 use Rattle.replay.specs.Stream.{stream, after, fed}
 use Rattle.replay.specs.Room.{Begun}
-use Rattle.replay.proofs.RoomLaws.{piece-turn, piece-over, piece-end, Run, run-of, run-asks, run-closer, run-lines, run-numbers, length-run, up-to, up-to-end, at-piece-end}
+use Rattle.replay.proofs.RoomLaws.{piece-turn, piece-over, piece-end, Run, run-of, run-asks, run-closer}
+use Rattle.replay.proofs.RoomLaws.{run-lines, run-numbers, length-run, up-to, up-to-end, at-piece-end}
 use Rattle.replay.proofs.stream.feed.Statement.{statement}
 use Rattle.replay.proofs.stream.feed.Tie as tie
 
@@ -31,11 +32,12 @@ abbrev μ-loop : tie.MeasureT-loop
 -- a run has a byte at least, and as many as were asked
 fit : (g : tie.After-least Inv-loop μ-loop)
     → (let l = g .before .before .before .before .before .loop in
-    Run (l .i) (g .least .result) (length (g .before .before .before .before .before .before .before .before .before .before .before .before .args .piece .now)) (l .h .begun) (g .before .wanted-of .result))
+    let a = g .before .before .before .before .before .before .before .before .before .before .before .before .args in
+    Run (l .i) (g .least .result) (length (a .piece .now)) (l .h .begun) (g .before .wanted-of .result))
 fit g =
     let l = g .before .before .before .before .before .loop in
-    run-of _ _ _ _ _ _ (g .before .before .before .before .loop-test .taken) (g .least .ensures .0) (g .least .ensures .1 .0) (g .before .wanted-of .ensures .0) (l .inv .4 .partly)
-    (g .least .ensures .1 .1)
+    run-of _ _ _ _ _ _ (g .before .before .before .before .loop-test .taken) (g .least .ensures .0) (g .least .ensures .1 .0)
+    (g .before .wanted-of .ensures .0) (l .inv .4 .partly) (g .least .ensures .1 .1)
 
 loop-holds : tie.Need-loop-holds Inv-loop μ-loop
 loop-holds c = (refl, omega arith, omega arith, omega arith, c .before .before .before .before .before .before .pre .0, refl, refl, refl, refl, refl)
@@ -57,10 +59,11 @@ same-length-5 c = c .before .before .loop .inv .9
 
 returns : tie.Need-returns Inv-loop μ-loop
 returns c =
-    let l = c .before .before .loop in
     let st = c .before .before .before .before .before .before .before .before .before in
+    let l = c .before .before .loop in
     let n = length (st .args .piece .now) in (
-      piece-over (st .args .piece .now) (l .i) _ (take (l .h .end) (l .text)) (l .h .at) (night (l .opening) (memory (l .cache) (l .waiting))) (take (l .h .begun) (l .room)) (l .h .over) (l .inv .0) (c .if1 .taken),
+      piece-over (st .args .piece .now) (l .i) _ (take (l .h .end) (l .text)) (l .h .at) (night (l .opening) (memory (l .cache) (l .waiting)))
+          (take (l .h .begun) (l .room)) (l .h .over) (l .inv .0) (c .if1 .taken),
       (up-to-end _ _ (l .i) n (l .inv .1) (l .inv .3), (at-piece-end (l .i) n _ _ _ (l .inv .1) (l .inv .2) (st .pre .1 .0) (l .inv .9), l .inv .4)),
     )
 
@@ -98,20 +101,25 @@ take-run-requires c κs =
     (l .inv .4 .roomy, run-asks (fit g) _ _ _ _ _ _ _ long (w .0) (w .1) (l .inv .2) (l .inv .9) (st .pre .1 .0) (l .inv .3) (st .pre .1 .1))
 
 loop-less : tie.Need-loop-less Inv-loop μ-loop
-loop-less c = run-closer (fit (c .before .before .before .before .before .before .before .before .before .before .before .before .before .before .before .before .before))
+loop-less c =
+    let took = c .before .before .before .before .before .before .before .before .before .before in
+    run-closer (fit (took .before .before .before .before .before .before .before))
 
 loop-again : tie.Need-loop-again Inv-loop μ-loop
 loop-again c =
-    let t = c .before .before .before .before .before .before .before .before .before .before .take-run in
-    let g = c .before .before .before .before .before .before .before .before .before .before .before .before .before .before .before .before .before in
+    let take-run = c .before .before .before .before .before .before .before .before .before .before in
+    let g = take-run .before .before .before .before .before .before .before in
+    let t = take-run .take-run in
     let l = g .before .before .before .before .before .loop in
     let k = g .least .result in
     let st = g .before .before .before .before .before .before .before .before .before .before .before .before in
     let e = t .ensures in (
-      piece-turn (st .args .piece .now) (l .i) (l .i + k) (up-to (l .i) k) _ (take (l .h .end) (l .text)) (l .h .at) (night (l .opening) (memory (l .cache) (l .waiting)))
+      piece-turn (st .args .piece .now) (l .i) (l .i + k) (up-to (l .i) k) _ (take (l .h .end) (l .text)) (l .h .at)
+          (night (l .opening) (memory (l .cache) (l .waiting)))
           (take (l .h .begun) (l .room)) (l .h .over) (l .inv .0) (g .before .before .before .if1 .left)
           (take (t .result .end) (t .last .1 .1 .1 .1 .1 .1 .1 .1 .0))
-          (stream (t .result .at) (night (t .last .1 .1 .1 .0) (memory (t .last .1 .1 .1 .1 .0) (t .last .1 .1 .1 .1 .1 .0))) (take (t .result .begun) (t .last .1 .1 .1 .1 .1 .1 .0)) (t .result .over))
+          (stream (t .result .at) (night (t .last .1 .1 .1 .0) (memory (t .last .1 .1 .1 .1 .0) (t .last .1 .1 .1 .1 .1 .0)))
+          (take (t .result .begun) (t .last .1 .1 .1 .1 .1 .1 .0)) (t .result .over))
           (e .0),
       fit g .rest,
       run-lines (fit g) _ _ (l .inv .2) (e .1 .1 .0),
@@ -141,10 +149,11 @@ same-length-10 c = c .before .loop .inv .9
 
 returns-2 : tie.Need-returns-2 Inv-loop μ-loop
 returns-2 c =
-    let l = c .before .loop in
     let st = c .before .before .before .before .before .before .before .before in
+    let l = c .before .loop in
     let n = length (st .args .piece .now) in (
-      piece-end (st .args .piece .now) (l .i) _ (take (l .h .end) (l .text)) (l .h .at) (night (l .opening) (memory (l .cache) (l .waiting))) (take (l .h .begun) (l .room)) (l .h .over) (l .inv .0) (omega arith),
+      piece-end (st .args .piece .now) (l .i) _ (take (l .h .end) (l .text)) (l .h .at) (night (l .opening) (memory (l .cache) (l .waiting)))
+          (take (l .h .begun) (l .room)) (l .h .over) (l .inv .0) (omega arith),
       (up-to-end _ _ (l .i) n (l .inv .1) (l .inv .3), (at-piece-end (l .i) n _ _ _ (l .inv .1) (l .inv .2) (st .pre .1 .0) (l .inv .9), l .inv .4)),
     )
 

@@ -10,13 +10,17 @@ use Rattle.replay.proofs.stream.take_run.Statement.{statement}
 use Rattle.replay.proofs.stream.take_run.Tie as tie
 
 copy-to-requires : tie.Need-copy-to-requires
-copy-to-requires c κs = in-room _ _ _ (c .before .before .before .before .before .before .before .pre .0) (c .before .before .before .before .before .before .before .pre .1 .1 .0)
+copy-to-requires c κs =
+    let start = c .before .before .before .before .before .before .before in
+    in-room _ _ _ (start .pre .0) (start .pre .1 .1 .0)
 
 add-len : tie.Need-add-len
 add-len c = omega (arith, c .before .before .before .before .before .before .before .before .before .before .pre .1 .1 .0)
 
 wanted-of-requires : tie.Need-wanted-of-requires
-wanted-of-requires c κs = in-new-room _ _ _ (c .before .before .before .before .before .before .before .before .before .before .before .pre .0) (c .before .before .before .before .before .before .before .before .before .before .before .pre .1 .1 .0) _ (c .before .before .before .copy-to .kept .0)
+wanted-of-requires c κs =
+    let start = c .before .before .before .before .before .before .before .before .before .before .before in
+    in-new-room _ _ _ (start .pre .0) (start .pre .1 .1 .0) _ (c .before .before .before .copy-to .kept .0)
 
 same-length : tie.Need-same-length
 same-length c = c .before .before .before .before .before .copy-to .kept .0
@@ -26,35 +30,50 @@ returns c =
     let m = c .before .before .before .before .before in
     let a = m .before .before .before .before .before .before .before .before .args in
     let p = m .before .before .before .before .before .before .before .before .pre in (
-      run-part (a .at) (night (a .opening .now) (memory (a .cache .now) (a .waiting .now))) (a .room .now) (a .run .now) (a .begun) (take (a .end) (a .text .now))
+      run-part (a .at) (night (a .opening .now) (memory (a .cache .now) (a .waiting .now))) (a .room .now) (a .run .now) (a .begun)
+          (take (a .end) (a .text .now))
           (p .1 .0) (in-room _ _ _ (p .0) (p .1 .1 .0)) (p .1 .1 .1 .0) _ (m .copy-to .ensures) _ (c .before .wanted-of .ensures .0) (c .if1 .taken),
       (
         up-to _ 1,
         (
           up-to _ 42,
-          run-begun (a .at) (night (a .opening .now) (memory (a .cache .now) (a .waiting .now))) (a .room .now) (a .run .now) (a .begun) (take (a .end) (a .text .now))
-              (p .1 .0) (in-room _ _ _ (p .0) (p .1 .1 .0)) (p .1 .1 .1 .0) _ (m .copy-to .ensures) _ (c .before .wanted-of .ensures .0) (c .if1 .taken) (p .0),
+          run-begun (a .at) (night (a .opening .now) (memory (a .cache .now) (a .waiting .now))) (a .room .now) (a .run .now) (a .begun)
+              (take (a .end) (a .text .now))
+              (p .1 .0) (in-room _ _ _ (p .0) (p .1 .1 .0)) (p .1 .1 .1 .0) _ (m .copy-to .ensures) _ (c .before .wanted-of .ensures .0)
+              (c .if1 .taken) (p .0),
         ),
       ),
     )
 
 slice-reshare-prefix-step : tie.Need-slice-reshare-prefix-step
-slice-reshare-prefix-step c = in-new-room _ _ _ (c .before .before .before .before .before .before .before .before .before .before .before .before .before .before .before .before .pre .0) (c .before .before .before .before .before .before .before .before .before .before .before .before .before .before .before .before .pre .1 .1 .0) _ (c .before .before .before .before .before .before .before .before .copy-to .kept .0)
+slice-reshare-prefix-step c =
+    let copy-to = c .before .before .before .before .before .before .before .before in
+    let start = copy-to .before .before .before .before .before .before .before .before in
+    in-new-room _ _ _ (start .pre .0) (start .pre .1 .1 .0) _ (copy-to .copy-to .kept .0)
 
 slice-aggregate-step : tie.Need-slice-aggregate-step
-slice-aggregate-step c = sym (length-take-le _ _ (in-new-room _ _ _ (c .before .before .before .before .before .before .before .before .before .before .before .before .before .before .before .before .before .pre .0) (c .before .before .before .before .before .before .before .before .before .before .before .before .before .before .before .before .before .pre .1 .1 .0) _ (c .before .before .before .before .before .before .before .before .before .copy-to .kept .0)))
+slice-aggregate-step c =
+    let copy-to = c .before .before .before .before .before .before .before .before .before in
+    let start = copy-to .before .before .before .before .before .before .before .before in
+    sym (length-take-le _ _ (in-new-room _ _ _ (start .pre .0) (start .pre .1 .1 .0) _ (copy-to .copy-to .kept .0)))
 
 step-requires : tie.Need-step-requires
 step-requires c κs = tt
 
 put-requires : tie.Need-put-requires
-put-requires c κs = c .before .before .before .before .before .before .before .before .before .before .before .before .before .before .before .before .before .before .before .before .before .before .before .before .before .pre .1 .1 .1 .1 .0
+put-requires c κs =
+    let else1 = c .before .before .before .before .before .before .before .before .before .before .before .before in
+    let start = else1 .before .before .before .before .before .before .before .before .before .before .before .before .before in
+    start .pre .1 .1 .1 .1 .0
 
 is-end-requires : tie.Need-is-end-requires
 is-end-requires c κs = tt
 
 add-t31 : tie.Need-add-t31
-add-t31 c = omega (arith, c .before .before .before .before .before .before .before .before .before .before .before .before .before .before .before .before .before .before .before .before .before .before .before .before .before .before .before .before .before .pre .1 .1 .1 .1 .1)
+add-t31 c =
+    let else1 = c .before .before .before .before .before .before .before .before .before .before .before .before .before .before .before .before in
+    let start = else1 .before .before .before .before .before .before .before .before .before .before .before .before .before in
+    omega (arith, start .pre .1 .1 .1 .1 .1)
 
 same-length-2 : tie.Need-same-length-2
 same-length-2 c = c .before .before .before .before .before .before .before .before .before .before .before .step .kept .1 .0
@@ -66,7 +85,9 @@ same-length-4 : tie.Need-same-length-4
 same-length-4 c = c .before .before .before .before .before .before .before .before .before .before .before .step .kept .1 .1 .1 .0
 
 same-length-5 : tie.Need-same-length-5
-same-length-5 c = c .before .before .before .before .before .before .before .before .before .before .before .before .before .before .before .before .before .before .before .before .before .copy-to .kept .0
+same-length-5 c =
+    let else1 = c .before .before .before .before .before .before .before .before .before .before .before .before .before .before .before .before in
+    else1 .before .before .before .before .before .copy-to .kept .0
 
 same-length-6 : tie.Need-same-length-6
 same-length-6 c = c .before .before .before .put .kept .0
@@ -79,7 +100,8 @@ returns-2 c =
     let m = i .before .before .before .before .before in
     let a = m .before .before .before .before .before .before .before .before .args in
     let p = m .before .before .before .before .before .before .before .before .pre in (
-      run-whole (a .at) (night (a .opening .now) (memory (a .cache .now) (a .waiting .now))) (a .room .now) (a .run .now) (a .begun) (take (a .end) (a .text .now))
+      run-whole (a .at) (night (a .opening .now) (memory (a .cache .now) (a .waiting .now))) (a .room .now) (a .run .now) (a .begun)
+          (take (a .end) (a .text .now))
           (p .1 .0) (in-room _ _ _ (p .0) (p .1 .1 .0)) (p .1 .1 .1 .0) _ (m .copy-to .ensures) _ (i .before .wanted-of .ensures .0) (i .if1 .left)
           (s .step .result) (night (s .step .last .1 .0) (memory (s .step .last .1 .1 .0) (s .step .last .1 .1 .1 .0))) (c .is-end .result)
           (take (u .put .result) (u .put .last .0)) (s .step .ensures) (u .put .ensures .1) (c .is-end .ensures),

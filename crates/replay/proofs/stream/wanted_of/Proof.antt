@@ -21,8 +21,11 @@ add-result c = search needs
 
 returns-2 : tie.Need-returns-2
 returns-2 c =
-    let i = c .before .before in
-    (ap (λ (k : ℕ). 2 + k) (c .wide .ensures ∙ c .before .read-u16-le .ensures) ∙ room-told _ _ (i .before .before .pre) (omega (arith, i .if1 .left)), omega arith)
+    let i = c .before .before in (
+      ap (λ (k : ℕ). 2 + k) (c .wide .ensures ∙ c .before .read-u16-le .ensures)
+          ∙ room-told _ _ (i .before .before .pre) (omega (arith, i .if1 .left)),
+      omega arith,
+    )
 
 pub wanted-of-spec : {M : Type 1} → statement M
 wanted-of-spec = tie.close (tie.spec returns read-u16-le-requires wide-requires add-result returns-2)

@@ -19,7 +19,8 @@ from c = c .before .before .before .before .before .before .before .before .befo
 
 -- the table is in form where the form test said so, and its count is the table's
 counted : (c : tie.After-known-told)
-    → (waitingForm (keyOf (from c .args .own .now)) (from c .args .table .now) ≡ true) × (c .before .answer .given .0 .0 ≡ usedOf (from c .args .table .now))
+    → (waitingForm (keyOf (from c .args .own .now)) (from c .args .table .now) ≡ true)
+    × (c .before .answer .given .0 .0 ≡ usedOf (from c .args .table .now))
 counted c =
     let a = c .before .before .before .before .before .before .before .before .before .before .args in
     good-form (keyOf (a .own .now)) (a .table .now) (sym (c .before .before .before .form .ensures) ∙ c .before .answer .given .1)

@@ -52,11 +52,13 @@ same-length-2 c = c .before .before .before .before .before .loop .inv .room
 
 returns : tie.Need-returns Inv-loop μ-loop
 returns c =
-    let l = c .before .before .before .before .before .loop in
-    let a = c .before .before .before .before .before .before .before .before .args in (
+    let at-loop = c .before .before .before .before .before in
+    let l = at-loop .loop in
+    let a = at-loop .before .before .before .args in (
       end-count (a .used) (a .table .now) (a .output .now) (l .table) (l .output) (l .at) (l .kept) (l .inv) (omega arith),
       c .before .before .clear .ensures
-          ∙ end-cleared (a .used) (a .table .now) (a .output .now) (l .table) (l .output) (l .at) (l .kept) (l .inv) (omega arith) (omega arith) (omega arith),
+          ∙ end-cleared (a .used) (a .table .now) (a .output .now) (l .table) (l .output) (l .at) (l .kept) (l .inv) (omega arith) (omega arith)
+          (omega arith),
       end-list (a .used) (a .table .now) (a .output .now) (l .table) (l .output) (l .at) (l .kept) (l .inv) (omega arith),
     )
 

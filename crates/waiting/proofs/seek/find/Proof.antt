@@ -10,7 +10,8 @@ use Rattle.waiting.proofs.seek.find.Statement.{statement}
 use Rattle.waiting.proofs.seek.find.Tie as tie
 
 abbrev Inv-loop : tie.InvT-loop
-Inv-loop table used id kind at₀ at = (at ≤ used) × (seek (isAt id kind) 0 (rows 140 used table) ≡ seek (isAt id kind) at (drop at (rows 140 used table)))
+Inv-loop table used id kind at₀ at =
+    (at ≤ used) × (seek (isAt id kind) 0 (rows 140 used table) ≡ seek (isAt id kind) at (drop at (rows 140 used table)))
 
 abbrev μ-loop : tie.MeasureT-loop
 μ-loop table used id kind at₀ at = used - at

@@ -71,9 +71,11 @@ key-again-requires c κs = (omega arith, omega arith)
 
 returns : tie.Need-returns Inv-loop μ-loop
 returns c =
-    let a = c .before .before .before .before .before .before .before .before .before .args in
-    let l = c .before .before .before .before .before .before .loop in
-    sym (l .inv .2 ∙ form-not (a .used) (a .table .now) (l .at) (keyOf (a .own .now)) (l .low) (omega arith) (turned (c .before) ∙ not-true _ (c .if1 .taken)))
+    let at-loop = c .before .before .before .before .before .before in
+    let a = at-loop .before .before .before .args in
+    let l = at-loop .loop in
+    sym (l .inv .2 ∙ form-not (a .used) (a .table .now) (l .at) (keyOf (a .own .now)) (l .low) (omega arith)
+    (turned (c .before) ∙ not-true _ (c .if1 .taken)))
 
 add-low : tie.Need-add-low Inv-loop μ-loop
 add-low c = omega arith

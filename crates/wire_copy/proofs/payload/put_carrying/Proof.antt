@@ -63,7 +63,9 @@ unfolding digitsBE
 slice-aggregate-write-rows c = rw (c .before .before .before .before .before .before .before .before .before .before .before .own-bytes .ensures)
 
 write-rows-requires : tie.Need-write-rows-requires
-write-rows-requires c κs = (rw (c .before .before .before .before .before .before .before .before .before .before .before .before .before .before .authority-rows .ensures), refl)
+write-rows-requires c κs =
+    let authority-rows = c .before .before .before .before .before .before .before .before .before .before .before .before .before .before in
+    (rw (authority-rows .authority-rows .ensures), refl)
 
 same-length : tie.Need-same-length
 same-length c = search needs
@@ -71,20 +73,23 @@ same-length c = search needs
 returns : tie.Need-returns
 unfolding carrying
 returns c =
+    let piece-of5 = c .before .before .before .before .before in
+    let piece-of = piece-of5 .before .before .before .before .before in
+    let busy-and-none = piece-of .before .before .before .before .before in
     rw (
-      c .before .before .before .before .before .piece-of5 .ensures,
-      c .before .before .before .before .before .before .piece-of4 .ensures,
-      c .before .before .before .before .before .before .before .payload-piece .ensures,
-      c .before .before .before .before .before .before .before .before .piece-of3 .ensures,
-      c .before .before .before .before .before .before .before .before .before .piece-of2 .ensures,
-      c .before .before .before .before .before .before .before .before .before .before .piece-of .ensures,
-      c .before .before .before .before .before .before .before .before .before .before .before .own-piece3 .ensures,
-      c .before .before .before .before .before .before .before .before .before .before .before .before .own-piece2 .ensures,
-      c .before .before .before .before .before .before .before .before .before .before .before .before .before .own-piece .ensures,
-      c .before .before .before .before .before .before .before .before .before .before .before .before .before .before .own-bytes .ensures,
-      c .before .before .before .before .before .before .before .before .before .before .before .before .before .before .before .busy-and-none .ensures,
-      c .before .before .before .before .before .before .before .before .before .before .before .before .before .before .before .before .bit-of .ensures .0,
-      c .before .before .before .before .before .before .before .before .before .before .before .before .before .before .before .before .before .authority-rows .ensures,
+      piece-of5 .piece-of5 .ensures,
+      piece-of5 .before .piece-of4 .ensures,
+      piece-of5 .before .before .payload-piece .ensures,
+      piece-of5 .before .before .before .piece-of3 .ensures,
+      piece-of5 .before .before .before .before .piece-of2 .ensures,
+      piece-of .piece-of .ensures,
+      piece-of .before .own-piece3 .ensures,
+      piece-of .before .before .own-piece2 .ensures,
+      piece-of .before .before .before .own-piece .ensures,
+      piece-of .before .before .before .before .own-bytes .ensures,
+      busy-and-none .busy-and-none .ensures,
+      busy-and-none .before .bit-of .ensures .0,
+      busy-and-none .before .before .authority-rows .ensures,
     ) at (c .before .before .write-rows .ensures)
 
 pub put-carrying-spec : {M : Type 1} → statement M

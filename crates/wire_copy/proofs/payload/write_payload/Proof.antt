@@ -26,7 +26,10 @@ same-length-2 : tie.Need-same-length-2
 same-length-2 c = search needs
 
 returns-2 : tie.Need-returns-2
-returns-2 c = payload-written _ _ _ _ _ _ _ _ _ (c .before .before .before .before .before .before .before .before .before .put-carrying .ensures) (c .before .before .before .before .before .if1 .left) _ _ (c .before .before .put-carrying2 .ensures)
+returns-2 c =
+    let else1 = c .before .before .before .before .before in
+    payload-written _ _ _ _ _ _ _ _ _ (else1 .before .before .before .before .put-carrying .ensures) (else1 .if1 .left) _ _
+    (c .before .before .put-carrying2 .ensures)
 
 pub write-payload-spec : {M : Type 1} → statement M
 write-payload-spec =

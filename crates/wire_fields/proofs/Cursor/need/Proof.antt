@@ -16,7 +16,9 @@ enum-known-start c = search needs
 has-shape-requires : tie.Need-has-shape-requires
 has-shape-requires c κs =
     let a = c .before .before .before .before .before .args in
-    let f = span-fits (now (a .d)) (a .self .at) (a .number) (a .padded) _ _ _ (sym (c .before .before .before .span .ensures) ∙ c .before .start .given .1) in
+    let f =
+    span-fits (now (a .d)) (a .self .at) (a .number) (a .padded) _ _ _
+    (sym (c .before .before .before .span .ensures) ∙ c .before .start .given .1) in
     omega arith
 
 enum-told : tie.Need-enum-told
@@ -27,13 +29,17 @@ enum-told-2 c = search needs
 
 returns : tie.Need-returns
 returns c =
-    let a = c .before .before .before .before .before .before .before .args in
-    need-good (now (a .d)) (a .self .at) (a .number) (a .padded) (a .shape) _ (c .before .before .before .before .before .span .ensures) _ _ _ (c .before .before .before .start .given .1) (sym (c .before .has-shape .ensures) ∙ c .if1 .taken)
+    let start = c .before .before .before in
+    let a = start .before .before .before .before .args in
+    need-good (now (a .d)) (a .self .at) (a .number) (a .padded) (a .shape) _ (start .before .before .span .ensures) _ _ _ (start .start .given .1)
+    (sym (c .before .has-shape .ensures) ∙ c .if1 .taken)
 
 returns-2 : tie.Need-returns-2
 returns-2 c =
-    let a = c .before .before .before .before .before .before .before .args in
-    need-bad (now (a .d)) (a .self .at) (a .number) (a .padded) (a .shape) _ (c .before .before .before .before .before .span .ensures) _ _ _ (c .before .before .before .start .given .1) (sym (c .before .has-shape .ensures) ∙ c .if1 .left)
+    let start = c .before .before .before in
+    let a = start .before .before .before .before .args in
+    need-bad (now (a .d)) (a .self .at) (a .number) (a .padded) (a .shape) _ (start .before .before .span .ensures) _ _ _ (start .start .given .1)
+    (sym (c .before .has-shape .ensures) ∙ c .if1 .left)
 
 returns-3 : tie.Need-returns-3
 returns-3 c =

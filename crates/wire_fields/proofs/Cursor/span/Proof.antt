@@ -19,7 +19,9 @@ read-u16-requires : tie.Need-read-u16-requires
 read-u16-requires c κs = search needs
 
 returns-3 : tie.Need-returns-3
-returns-3 c = let a = c .before .before .before .before .before .args in sym (span-other (now (a .d)) (a .self .at) (a .number) (a .padded) (omega arith) (omega arith))
+returns-3 c =
+    let a = c .before .before .before .before .before .args in
+    sym (span-other (now (a .d)) (a .self .at) (a .number) (a .padded) (omega arith) (omega arith))
 
 add-read-u16 : tie.Need-add-read-u16
 add-read-u16 c = search needs
@@ -31,7 +33,9 @@ cast-whole : tie.Need-cast-whole
 cast-whole c = search needs
 
 returns-4 : tie.Need-returns-4
-returns-4 c = let a = c .before .before .before .before .before .before .before .args in sym (span-low (now (a .d)) (a .self .at) (a .number) (a .padded) (omega arith) (omega arith) (omega arith))
+returns-4 c =
+    let a = c .before .before .before .before .before .before .before .args in
+    sym (span-low (now (a .d)) (a .self .at) (a .number) (a .padded) (omega arith) (omega arith) (omega arith))
 
 add-end : tie.Need-add-end
 add-end c = search needs

@@ -41,8 +41,10 @@ is-array-requires c κs = search needs
 returns : tie.Need-returns
 unfolding hasShape
 returns c =
-    let a = c .before .before .before .before .args in
-    rw (c .before .shape .given .1) (ap (λ (k : ℕ). eqb k (c .before .shape .given .0 .0)) (sym (length-part (a .start) (a .len) (now (a .d)) (c .before .before .before .before .pre))))
+    let start = c .before .before .before .before in
+    let a = start .args in
+    rw (c .before .shape .given .1)
+    (ap (λ (k : ℕ). eqb k (c .before .shape .given .0 .0)) (sym (length-part (a .start) (a .len) (now (a .d)) (start .pre))))
 
 returns-2 : tie.Need-returns-2
 unfolding hasShape

@@ -12,7 +12,9 @@ use Rattle.wire_fields.proofs.contents.is_array.Statement.{statement}
 use Rattle.wire_fields.proofs.contents.is_array.Tie as tie
 
 returns : tie.Need-returns
-returns c = let a = c .before .before .args in sym (array-short (now (a .d)) (a .start) (a .len) (search needs) (a .element) (a .size) (a .least) (a .most) (omega arith))
+returns c =
+    let a = c .before .before .args in
+    sym (array-short (now (a .d)) (a .start) (a .len) (search needs) (a .element) (a .size) (a .least) (a .most) (omega arith))
 
 read-u16-requires : tie.Need-read-u16-requires
 read-u16-requires c κs = search needs
@@ -20,12 +22,19 @@ read-u16-requires c κs = search needs
 returns-2 : tie.Need-returns-2
 returns-2 c =
     let a = c .before .before .before .before .args in
-    rw (array-in (now (a .d)) (a .start) (a .len) (search needs) (a .element) (a .size) (a .least) (a .most) (omega arith), lt-leb (a .least) (numberAt (a .start) 2 (now (a .d))) (omega arith))
+    rw (
+      array-in (now (a .d)) (a .start) (a .len) (search needs) (a .element) (a .size) (a .least) (a .most) (omega arith),
+      lt-leb (a .least) (numberAt (a .start) 2 (now (a .d))) (omega arith),
+    )
 
 returns-3 : tie.Need-returns-3
 returns-3 c =
     let a = c .before .before .before .before .before .args in
-    rw (array-in (now (a .d)) (a .start) (a .len) (search needs) (a .element) (a .size) (a .least) (a .most) (omega arith), le-leb (a .least) (numberAt (a .start) 2 (now (a .d))) (omega arith), lt-leb (numberAt (a .start) 2 (now (a .d))) (a .most) (omega arith))
+    rw (
+      array-in (now (a .d)) (a .start) (a .len) (search needs) (a .element) (a .size) (a .least) (a .most) (omega arith),
+      le-leb (a .least) (numberAt (a .start) 2 (now (a .d))) (omega arith),
+      lt-leb (numberAt (a .start) 2 (now (a .d))) (a .most) (omega arith),
+    )
 
 cast-whole : tie.Need-cast-whole
 cast-whole c = search needs
@@ -55,7 +64,13 @@ returns-4 : tie.Need-returns-4
 returns-4 c =
     let a = c .before .before .before .before .before .before .before .args in
     let w = ap (λ (n : ℕ). 8 + n * a .size) (c .before .before .before .before .read-u16 .ensures) in
-    rw (array-in (now (a .d)) (a .start) (a .len) (search needs) (a .element) (a .size) (a .least) (a .most) (omega arith), le-leb (a .least) (numberAt (a .start) 2 (now (a .d))) (omega arith), le-leb (numberAt (a .start) 2 (now (a .d))) (a .most) (omega arith), ne-eqb (numberAt (a .start + 2) 2 (now (a .d))) (8 + (numberAt (a .start) 2 (now (a .d))) * a .size) (λ q. c .if4 .taken (c .before .read-u162 .ensures ∙ q ∙ sym w)))
+    rw (
+      array-in (now (a .d)) (a .start) (a .len) (search needs) (a .element) (a .size) (a .least) (a .most) (omega arith),
+      le-leb (a .least) (numberAt (a .start) 2 (now (a .d))) (omega arith),
+      le-leb (numberAt (a .start) 2 (now (a .d))) (a .most) (omega arith),
+      ne-eqb (numberAt (a .start + 2) 2 (now (a .d))) (8 + (numberAt (a .start) 2 (now (a .d))) * a .size)
+          (λ q. c .if4 .taken (c .before .read-u162 .ensures ∙ q ∙ sym w)),
+    )
 
 add-read-u16-2 : tie.Need-add-read-u16-2
 add-read-u16-2 c = search needs
@@ -65,9 +80,17 @@ read-u16-requires-3 c κs = search needs
 
 returns-5 : tie.Need-returns-5
 returns-5 c =
-    let a = c .before .before .before .before .before .before .before .before .before .args in
-    let w = ap (λ (n : ℕ). 8 + n * a .size) (c .before .before .before .before .before .before .read-u16 .ensures) in
-    rw (array-in (now (a .d)) (a .start) (a .len) (search needs) (a .element) (a .size) (a .least) (a .most) (omega arith), le-leb (a .least) (numberAt (a .start) 2 (now (a .d))) (omega arith), le-leb (numberAt (a .start) 2 (now (a .d))) (a .most) (omega arith), eq-eqb (numberAt (a .start + 2) 2 (now (a .d))) (8 + (numberAt (a .start) 2 (now (a .d))) * a .size) (sym (c .before .before .before .read-u162 .ensures) ∙ c .before .before .if4 .left ∙ w), ne-eqb (numberAt (a .start + 4) 2 (now (a .d))) (a .element) (λ q. c .if5 .taken (c .before .read-u163 .ensures ∙ q)))
+    let read-u16 = c .before .before .before .before .before .before in
+    let a = read-u16 .before .before .before .args in
+    let w = ap (λ (n : ℕ). 8 + n * a .size) (read-u16 .read-u16 .ensures) in
+    rw (
+      array-in (now (a .d)) (a .start) (a .len) (search needs) (a .element) (a .size) (a .least) (a .most) (omega arith),
+      le-leb (a .least) (numberAt (a .start) 2 (now (a .d))) (omega arith),
+      le-leb (numberAt (a .start) 2 (now (a .d))) (a .most) (omega arith),
+      eq-eqb (numberAt (a .start + 2) 2 (now (a .d))) (8 + (numberAt (a .start) 2 (now (a .d))) * a .size)
+          (sym (c .before .before .before .read-u162 .ensures) ∙ c .before .before .if4 .left ∙ w),
+      ne-eqb (numberAt (a .start + 4) 2 (now (a .d))) (a .element) (λ q. c .if5 .taken (c .before .read-u163 .ensures ∙ q)),
+    )
 
 add-read-u16-3 : tie.Need-add-read-u16-3
 add-read-u16-3 c = search needs
@@ -77,16 +100,33 @@ read-u16-requires-4 c κs = search needs
 
 returns-6 : tie.Need-returns-6
 returns-6 c =
-    let a = c .before .before .before .before .before .before .before .before .before .before .before .args in
-    let w = ap (λ (n : ℕ). 8 + n * a .size) (c .before .before .before .before .before .before .before .before .read-u16 .ensures) in
-    rw (array-in (now (a .d)) (a .start) (a .len) (search needs) (a .element) (a .size) (a .least) (a .most) (omega arith), le-leb (a .least) (numberAt (a .start) 2 (now (a .d))) (omega arith), le-leb (numberAt (a .start) 2 (now (a .d))) (a .most) (omega arith), eq-eqb (numberAt (a .start + 2) 2 (now (a .d))) (8 + (numberAt (a .start) 2 (now (a .d))) * a .size) (sym (c .before .before .before .before .before .read-u162 .ensures) ∙ c .before .before .before .before .if4 .left ∙ w), eq-eqb (numberAt (a .start + 4) 2 (now (a .d))) (a .element) (omega arith), ne-eqb (numberAt (a .start + 6) 2 (now (a .d))) (a .size) (λ q. c .if6 .taken (c .before .read-u164 .ensures ∙ q)))
+    let read-u162 = c .before .before .before .before .before in
+    let a = read-u162 .before .before .before .before .before .before .args in
+    let w = ap (λ (n : ℕ). 8 + n * a .size) (read-u162 .before .before .before .read-u16 .ensures) in
+    rw (
+      array-in (now (a .d)) (a .start) (a .len) (search needs) (a .element) (a .size) (a .least) (a .most) (omega arith),
+      le-leb (a .least) (numberAt (a .start) 2 (now (a .d))) (omega arith),
+      le-leb (numberAt (a .start) 2 (now (a .d))) (a .most) (omega arith),
+      eq-eqb (numberAt (a .start + 2) 2 (now (a .d))) (8 + (numberAt (a .start) 2 (now (a .d))) * a .size)
+          (sym (read-u162 .read-u162 .ensures) ∙ c .before .before .before .before .if4 .left ∙ w),
+      eq-eqb (numberAt (a .start + 4) 2 (now (a .d))) (a .element) (omega arith),
+      ne-eqb (numberAt (a .start + 6) 2 (now (a .d))) (a .size) (λ q. c .if6 .taken (c .before .read-u164 .ensures ∙ q)),
+    )
 
 returns-7 : tie.Need-returns-7
 returns-7 c =
-    let a = c .before .before .before .before .before .before .before .before .before .before .before .args in
-    let w = ap (λ (n : ℕ). 8 + n * a .size) (c .before .before .before .before .before .before .before .before .read-u16 .ensures) in
-    rw (array-in (now (a .d)) (a .start) (a .len) (search needs) (a .element) (a .size) (a .least) (a .most) (omega arith), le-leb (a .least) (numberAt (a .start) 2 (now (a .d))) (omega arith), le-leb (numberAt (a .start) 2 (now (a .d))) (a .most) (omega arith), eq-eqb (numberAt (a .start + 2) 2 (now (a .d))) (8 + (numberAt (a .start) 2 (now (a .d))) * a .size) (sym (c .before .before .before .before .before .read-u162 .ensures) ∙ c .before .before .before .before .if4 .left ∙ w), eq-eqb (numberAt (a .start + 4) 2 (now (a .d))) (a .element) (omega arith), eq-eqb (numberAt (a .start + 6) 2 (now (a .d))) (a .size) (omega arith))
-    (ap (eqb (a .len)) w)
+    let read-u162 = c .before .before .before .before .before in
+    let a = read-u162 .before .before .before .before .before .before .args in
+    let w = ap (λ (n : ℕ). 8 + n * a .size) (read-u162 .before .before .before .read-u16 .ensures) in
+    rw (
+      array-in (now (a .d)) (a .start) (a .len) (search needs) (a .element) (a .size) (a .least) (a .most) (omega arith),
+      le-leb (a .least) (numberAt (a .start) 2 (now (a .d))) (omega arith),
+      le-leb (numberAt (a .start) 2 (now (a .d))) (a .most) (omega arith),
+      eq-eqb (numberAt (a .start + 2) 2 (now (a .d))) (8 + (numberAt (a .start) 2 (now (a .d))) * a .size)
+          (sym (read-u162 .read-u162 .ensures) ∙ c .before .before .before .before .if4 .left ∙ w),
+      eq-eqb (numberAt (a .start + 4) 2 (now (a .d))) (a .element) (omega arith),
+      eq-eqb (numberAt (a .start + 6) 2 (now (a .d))) (a .size) (omega arith),
+    ) (ap (eqb (a .len)) w)
 
 pub is-array-spec : {M : Type 1} → statement M
 is-array-spec =

@@ -30,7 +30,11 @@ returns-2 c =
 returns-3 : tie.Need-returns-3
 returns-3 c =
     let a = c .before .before .before .before .before .args in
-    rw (entry-in (now (a .d)) (a .start) (a .len) (search needs) (omega arith), le-leb 1 (getD (now (a .d)) (a .start + 37) 0) (omega arith), lt-leb (getD (now (a .d)) (a .start + 37) 0) 4 (omega arith))
+    rw (
+      entry-in (now (a .d)) (a .start) (a .len) (search needs) (omega arith),
+      le-leb 1 (getD (now (a .d)) (a .start + 37) 0) (omega arith),
+      lt-leb (getD (now (a .d)) (a .start + 37) 0) 4 (omega arith),
+    )
 
 mul-result : tie.Need-mul-result
 mul-result c = search needs
@@ -41,8 +45,11 @@ add-result c = search needs
 returns-4 : tie.Need-returns-4
 returns-4 c =
     let a = c .before .before .before .before .before .args in
-    rw (entry-in (now (a .d)) (a .start) (a .len) (search needs) (omega arith), le-leb 1 (getD (now (a .d)) (a .start + 37) 0) (omega arith), le-leb (getD (now (a .d)) (a .start + 37) 0) 4 (omega arith))
-    (ap (λ (n : ℕ). eqb (a .len) (38 + 16 * n)) (c .before .before .byte .ensures))
+    rw (
+      entry-in (now (a .d)) (a .start) (a .len) (search needs) (omega arith),
+      le-leb 1 (getD (now (a .d)) (a .start + 37) 0) (omega arith),
+      le-leb (getD (now (a .d)) (a .start + 37) 0) 4 (omega arith),
+    ) (ap (λ (n : ℕ). eqb (a .len) (38 + 16 * n)) (c .before .before .byte .ensures))
 
 pub is-entry-spec : {M : Type 1} → statement M
 is-entry-spec =

@@ -33,17 +33,32 @@ byte-requires-2 c κs = search needs
 returns-3 : tie.Need-returns-3
 returns-3 c =
     let a = c .before .before .before .before .before .before .args in
-    rw (lookup-in (now (a .d)) (a .start) (a .len) (search needs) (omega arith), le-leb (getD (now (a .d)) (a .start + 5) 0) 3 (omega arith), le-leb (getD (now (a .d)) (a .start + 4) 0) 2 (omega arith))
+    rw (
+      lookup-in (now (a .d)) (a .start) (a .len) (search needs) (omega arith),
+      le-leb (getD (now (a .d)) (a .start + 5) 0) 3 (omega arith),
+      le-leb (getD (now (a .d)) (a .start + 4) 0) 2 (omega arith),
+    )
 
 returns-4 : tie.Need-returns-4
 returns-4 c =
     let a = c .before .before .before .before .before .before .before .args in
-    rw (lookup-in (now (a .d)) (a .start) (a .len) (search needs) (omega arith), le-leb (getD (now (a .d)) (a .start + 5) 0) 3 (omega arith), lt-leb (getD (now (a .d)) (a .start + 4) 0) 2 (omega arith), eq-eqb (getD (now (a .d)) (a .start + 4) 0) 4 (omega arith))
+    rw (
+      lookup-in (now (a .d)) (a .start) (a .len) (search needs) (omega arith),
+      le-leb (getD (now (a .d)) (a .start + 5) 0) 3 (omega arith),
+      lt-leb (getD (now (a .d)) (a .start + 4) 0) 2 (omega arith),
+      eq-eqb (getD (now (a .d)) (a .start + 4) 0) 4 (omega arith),
+    )
 
 returns-5 : tie.Need-returns-5
 returns-5 c =
     let a = c .before .before .before .before .before .before .before .args in
-    rw (lookup-in (now (a .d)) (a .start) (a .len) (search needs) (omega arith), le-leb (getD (now (a .d)) (a .start + 5) 0) 3 (omega arith), lt-leb (getD (now (a .d)) (a .start + 4) 0) 2 (omega arith), ne-eqb (getD (now (a .d)) (a .start + 4) 0) 4 (omega arith)) (ap (λ (n : ℕ). eqb n 8) (c .before .before .byte2 .ensures))
+    rw (
+      lookup-in (now (a .d)) (a .start) (a .len) (search needs) (omega arith),
+      le-leb (getD (now (a .d)) (a .start + 5) 0) 3 (omega arith),
+      lt-leb (getD (now (a .d)) (a .start + 4) 0) 2 (omega arith),
+      ne-eqb (getD (now (a .d)) (a .start + 4) 0) 4 (omega arith),
+    )
+    (ap (λ (n : ℕ). eqb n 8) (c .before .before .byte2 .ensures))
 
 pub is-lookup-spec : {M : Type 1} → statement M
 is-lookup-spec =

@@ -46,9 +46,11 @@ returns-2 c =
 returns-3 : tie.Need-returns-3
 unfolding shown fieldsAs joined sized placesAt
 returns-3 c =
+    let flags = c .before .before .before in
+    let acked = flags .before .before .before .before in
     rw (
-      sym (c .before .before .before .before .before .before .before .before .before .need .ensures) ∙ c .before .before .before .before .before .before .before .acked .given .1,
-      sym (c .before .before .before .before .before .maybe .ensures) ∙ c .before .before .before .flags .given .1,
+      sym (acked .before .before .need .ensures) ∙ acked .acked .given .1,
+      sym (flags .before .before .maybe .ensures) ∙ flags .flags .given .1,
       ne-eqb _ _ (c .if1 .taken),
     )
 
@@ -57,7 +59,9 @@ head-requires c κs = search needs
 
 read-u32-requires : tie.Need-read-u32-requires
 read-u32-requires c κs =
-    let q = need-four (now (c .before .before .before .before .before .before .before .before .before .before .before .before .args .d)) _ _ _ (Sized 4) sized-four _ _ _ (sym (c .before .before .before .before .before .before .before .before .before .before .need .ensures) ∙ c .before .before .before .before .before .before .before .before .acked .given .1) in
+    let acked = c .before .before .before .before .before .before .before .before in
+    let start = acked .before .before .before .before in
+    let q = need-four (now (start .args .d)) _ _ _ (Sized 4) sized-four _ _ _ (sym (acked .before .before .need .ensures) ∙ acked .acked .given .1) in
     omega (arith, q .0, q .1)
 
 is-here-requires : tie.Need-is-here-requires
@@ -69,9 +73,11 @@ flag-in-requires c κs = search needs
 returns-4 : tie.Need-returns-4
 unfolding shown fieldsAs joined sized placesAt
 returns-4 c =
+    let flags = c .before .before .before .before .before .before .before in
+    let acked = flags .before .before .before .before in
     rw (
-      sym (c .before .before .before .before .before .before .before .before .before .before .before .before .before .need .ensures) ∙ c .before .before .before .before .before .before .before .before .before .before .before .acked .given .1,
-      sym (c .before .before .before .before .before .before .before .before .before .maybe .ensures) ∙ c .before .before .before .before .before .before .before .flags .given .1,
+      sym (acked .before .before .need .ensures) ∙ acked .acked .given .1,
+      sym (flags .before .before .maybe .ensures) ∙ flags .flags .given .1,
       eq-eqb _ _ (c .before .before .before .before .if1 .left),
       c .before .before .before .head .ensures,
       c .before .before .read-u32 .ensures,

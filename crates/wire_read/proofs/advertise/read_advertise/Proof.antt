@@ -1,4 +1,5 @@
--- `wire_read::advertise::read_advertise` meets its contract: each field that is found, and the first that is not, is the definition's own step. Assumes nothing.
+-- `wire_read::advertise::read_advertise` meets its contract: each field that is found, and the first that is not, is the definition's own step.
+-- Assumes nothing.
 use borrow.Author.Tests.{eq-eqb, ne-eqb}
 use native.Mathlib.Omega.{arith}
 use denote.Ref.{now}
@@ -55,19 +56,24 @@ enum-told-3 c = search needs
 returns-3 : tie.Need-returns-3
 unfolding shown fieldsAs joined sized placesAt
 returns-3 c =
+    let keys = c .before .before .before .before in
+    let acked = keys .before .before .before .before in
     rw (
-      sym (c .before .before .before .before .before .before .before .before .before .before .need .ensures) ∙ c .before .before .before .before .before .before .before .before .acked .given .1,
-      sym (c .before .before .before .before .before .before .need2 .ensures) ∙ c .before .before .before .before .keys .given .1,
+      sym (acked .before .before .need .ensures) ∙ acked .acked .given .1,
+      sym (keys .before .before .need2 .ensures) ∙ keys .keys .given .1,
       sym (c .before .before .need3 .ensures) ∙ c .enum-told3 .given .1,
     )
 
 returns-4 : tie.Need-returns-4
 unfolding shown fieldsAs joined sized placesAt
 returns-4 c =
+    let nonce = c .before .before .before in
+    let keys = nonce .before .before .before .before in
+    let acked = keys .before .before .before .before in
     rw (
-      sym (c .before .before .before .before .before .before .before .before .before .before .before .before .before .need .ensures) ∙ c .before .before .before .before .before .before .before .before .before .before .before .acked .given .1,
-      sym (c .before .before .before .before .before .before .before .before .before .need2 .ensures) ∙ c .before .before .before .before .before .before .before .keys .given .1,
-      sym (c .before .before .before .before .before .need3 .ensures) ∙ c .before .before .before .nonce .given .1,
+      sym (acked .before .before .need .ensures) ∙ acked .acked .given .1,
+      sym (keys .before .before .need2 .ensures) ∙ keys .keys .given .1,
+      sym (nonce .before .before .need3 .ensures) ∙ nonce .nonce .given .1,
       ne-eqb _ _ (c .if1 .taken),
     )
 
@@ -76,16 +82,21 @@ head-requires c κs = search needs
 
 read-u32-requires : tie.Need-read-u32-requires
 read-u32-requires c κs =
-    let q = need-four (now (c .before .before .before .before .before .before .before .before .before .before .before .before .before .before .before .before .args .d)) _ _ _ (Sized 4) sized-four _ _ _ (sym (c .before .before .before .before .before .before .before .before .before .before .before .before .before .before .need .ensures) ∙ c .before .before .before .before .before .before .before .before .before .before .before .before .acked .given .1) in
+    let acked = c .before .before .before .before .before .before .before .before .before .before .before .before in
+    let start = acked .before .before .before .before in
+    let q = need-four (now (start .args .d)) _ _ _ (Sized 4) sized-four _ _ _ (sym (acked .before .before .need .ensures) ∙ acked .acked .given .1) in
     omega (arith, q .0, q .1)
 
 returns-5 : tie.Need-returns-5
 unfolding shown fieldsAs joined sized placesAt
 returns-5 c =
+    let nonce = c .before .before .before .before .before in
+    let keys = nonce .before .before .before .before in
+    let acked = keys .before .before .before .before in
     rw (
-      sym (c .before .before .before .before .before .before .before .before .before .before .before .before .before .before .before .need .ensures) ∙ c .before .before .before .before .before .before .before .before .before .before .before .before .before .acked .given .1,
-      sym (c .before .before .before .before .before .before .before .before .before .before .before .need2 .ensures) ∙ c .before .before .before .before .before .before .before .before .before .keys .given .1,
-      sym (c .before .before .before .before .before .before .before .need3 .ensures) ∙ c .before .before .before .before .before .nonce .given .1,
+      sym (acked .before .before .need .ensures) ∙ acked .acked .given .1,
+      sym (keys .before .before .need2 .ensures) ∙ keys .keys .given .1,
+      sym (nonce .before .before .need3 .ensures) ∙ nonce .nonce .given .1,
       eq-eqb _ _ (c .before .before .if1 .left),
       c .before .head .ensures,
       c .read-u32 .ensures,

@@ -1,4 +1,5 @@
--- `wire_read::authority::read_authority` meets its contract: the two fields before the buffer by their own steps, the rest by the buffer's. Assumes nothing.
+-- `wire_read::authority::read_authority` meets its contract: the two fields before the buffer by their own steps, the rest by the buffer's.
+-- Assumes nothing.
 use borrow.Author.Tests.{not-true, not-false}
 use native.Mathlib.Omega.{arith}
 use mathlib.Core.Path.{sym, _∙_}
@@ -38,16 +39,24 @@ enum-told-2 c = search needs
 returns-2 : tie.Need-returns-2
 unfolding shown inPart fieldsAs placesAt
 returns-2 c =
-    rw (sym (c .before .before .before .before .before .before .need .ensures) ∙ c .before .before .before .before .acked .given .1, sym (c .before .before .need2 .ensures) ∙ c .enum-told2 .given .1)
+    let acked = c .before .before .before .before in
+    rw (sym (acked .before .before .need .ensures) ∙ acked .acked .given .1, sym (c .before .before .need2 .ensures) ∙ c .enum-told2 .given .1)
 
 is-whole-requires : tie.Need-is-whole-requires
 is-whole-requires c κs =
-    need-four (now (c .before .before .before .before .before .before .before .before .before .args .d)) _ _ _ Split split-four _ _ _ (sym (c .before .before .before .need2 .ensures) ∙ c .before .start .given .1)
+    let start = c .before .before .before .before .before .before .before .before .before in
+    need-four (now (start .args .d)) _ _ _ Split split-four _ _ _ (sym (c .before .before .before .need2 .ensures) ∙ c .before .start .given .1)
 
 returns-3 : tie.Need-returns-3
 unfolding shown inPart
 returns-3 c =
-    rw (sym (c .before .before .before .before .before .before .before .before .before .need .ensures) ∙ c .before .before .before .before .before .before .before .acked .given .1, sym (c .before .before .before .before .before .need2 .ensures) ∙ c .before .before .before .start .given .1, sym (c .before .is-whole .ensures) ∙ not-true _ (c .if1 .taken))
+    let split = c .before .before .before in
+    let acked = split .before .before .before .before in
+    rw (
+      sym (acked .before .before .need .ensures) ∙ acked .acked .given .1,
+      sym (split .before .before .need2 .ensures) ∙ split .start .given .1,
+      sym (c .before .is-whole .ensures) ∙ not-true _ (c .if1 .taken),
+    )
 
 read-buffer-requires : tie.Need-read-buffer-requires
 read-buffer-requires c κs = search needs
@@ -60,9 +69,12 @@ enum-told-3 c = search needs
 
 returns-4 : tie.Need-returns-4
 returns-4 c =
-    let d = now (c .before .before .before .before .before .before .before .before .before .before .before .before .before .before .args .d) in
-    let q = sym (c .before .before .before .before .before .before .before .before .before .before .before .before .need .ensures) ∙ c .before .before .before .before .before .before .before .before .before .before .acked .given .1 in
-    let q₂ = sym (c .before .before .before .before .before .before .before .before .need2 .ensures) ∙ c .before .before .before .before .before .before .start .given .1 in
+    let split = c .before .before .before .before .before .before in
+    let acked = split .before .before .before .before in
+    let start = acked .before .before .before .before in
+    let d = now (start .args .d) in
+    let q = sym (acked .before .before .need .ensures) ∙ acked .acked .given .1 in
+    let q₂ = sym (split .before .before .need2 .ensures) ∙ split .start .given .1 in
     let w = sym (c .before .before .before .before .is-whole .ensures) ∙ not-false _ (c .before .before .before .if1 .left) in
     sym (authority-bad d _ _ _ _ _ _ q q₂ w (sym (c .before .before .read-buffer .ensures) ∙ c .enum-told3 .given .1))
 
@@ -71,17 +83,23 @@ head-requires c κs = c .before .before .before .before .before .before .before 
 
 read-u32-requires : tie.Need-read-u32-requires
 read-u32-requires c κs =
-    let q = need-four (now (c .before .before .before .before .before .before .before .before .before .before .before .before .before .before .before .before .args .d)) _ _ _ (Sized 4) sized-four _ _ _ (sym (c .before .before .before .before .before .before .before .before .before .before .before .before .before .before .need .ensures) ∙ c .before .before .before .before .before .before .before .before .before .before .before .before .acked .given .1) in
+    let acked = c .before .before .before .before .before .before .before .before .before .before .before .before in
+    let start = acked .before .before .before .before in
+    let q = need-four (now (start .args .d)) _ _ _ (Sized 4) sized-four _ _ _ (sym (acked .before .before .need .ensures) ∙ acked .acked .given .1) in
     omega (arith, q .0, q .1)
 
 returns-5 : tie.Need-returns-5
 returns-5 c =
-    let d = now (c .before .before .before .before .before .before .before .before .before .before .before .before .before .before .before .before .before .args .d) in
-    let q = sym (c .before .before .before .before .before .before .before .before .before .before .before .before .before .before .before .need .ensures) ∙ c .before .before .before .before .before .before .before .before .before .before .before .before .before .acked .given .1 in
-    let q₂ = sym (c .before .before .before .before .before .before .before .before .before .before .before .need2 .ensures) ∙ c .before .before .before .before .before .before .before .before .before .start .given .1 in
-    let w = sym (c .before .before .before .before .before .before .before .is-whole .ensures) ∙ not-false _ (c .before .before .before .before .before .before .if1 .left) in
+    let fields = c .before .before .before in
+    let split = fields .before .before .before .before .before .before in
+    let acked = split .before .before .before .before in
+    let start = acked .before .before .before .before in
+    let d = now (start .args .d) in
+    let q = sym (acked .before .before .need .ensures) ∙ acked .acked .given .1 in
+    let q₂ = sym (split .before .before .need2 .ensures) ∙ split .start .given .1 in
+    let w = sym (fields .before .before .before .before .is-whole .ensures) ∙ not-false _ (fields .before .before .before .if1 .left) in
     rw (c .before .head .ensures, c .read-u32 .ensures)
-    (sym (authority-good d _ _ _ _ _ _ q q₂ w _ (sym (c .before .before .before .before .before .read-buffer .ensures) ∙ c .before .before .before .fields .given .1)))
+    (sym (authority-good d _ _ _ _ _ _ q q₂ w _ (sym (fields .before .before .read-buffer .ensures) ∙ fields .fields .given .1)))
 
 pub read-authority-spec : {M : Type 1} → statement M
 read-authority-spec =

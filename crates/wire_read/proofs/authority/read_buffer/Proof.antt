@@ -1,4 +1,5 @@
--- `wire_read::authority::read_buffer` meets its contract: each field that is found, and the first that is not, is the definition's own step. Assumes nothing.
+-- `wire_read::authority::read_buffer` meets its contract: each field that is found, and the first that is not, is the definition's own step.
+-- Assumes nothing.
 use borrow.Author.Tests.{eq-eqb, ne-eqb}
 use mathlib.Core.Path.{sym, _∙_}
 use Rattle.wire_fields.specs.Reading.{placesAt}
@@ -50,9 +51,11 @@ enum-told-3 c = search needs
 returns-3 : tie.Need-returns-3
 unfolding bufferAt placesAt
 returns-3 c =
+    let chain = c .before .before .before .before in
+    let flags = chain .before .before .before .before in
     rw (
-      sym (c .before .before .before .before .before .before .before .before .before .before .need .ensures) ∙ c .before .before .before .before .before .before .before .before .flags .given .1,
-      sym (c .before .before .before .before .before .before .maybe .ensures) ∙ c .before .before .before .before .chain .given .1,
+      sym (flags .before .before .need .ensures) ∙ flags .flags .given .1,
+      sym (chain .before .before .maybe .ensures) ∙ chain .chain .given .1,
       sym (c .before .before .maybe2 .ensures) ∙ c .enum-told3 .given .1,
     )
 
@@ -68,10 +71,13 @@ enum-told-4 c = search needs
 returns-4 : tie.Need-returns-4
 unfolding bufferAt placesAt
 returns-4 c =
+    let token = c .before .before .before .before in
+    let chain = token .before .before .before .before in
+    let flags = chain .before .before .before .before in
     rw (
-      sym (c .before .before .before .before .before .before .before .before .before .before .before .before .before .before .need .ensures) ∙ c .before .before .before .before .before .before .before .before .before .before .before .before .flags .given .1,
-      sym (c .before .before .before .before .before .before .before .before .before .before .maybe .ensures) ∙ c .before .before .before .before .before .before .before .before .chain .given .1,
-      sym (c .before .before .before .before .before .before .maybe2 .ensures) ∙ c .before .before .before .before .token .given .1,
+      sym (flags .before .before .need .ensures) ∙ flags .flags .given .1,
+      sym (chain .before .before .maybe .ensures) ∙ chain .chain .given .1,
+      sym (token .before .before .maybe2 .ensures) ∙ token .token .given .1,
       sym (c .before .before .maybe3 .ensures) ∙ c .enum-told4 .given .1,
     )
 
@@ -87,11 +93,15 @@ enum-told-5 c = search needs
 returns-5 : tie.Need-returns-5
 unfolding bufferAt placesAt
 returns-5 c =
+    let classifier = c .before .before .before .before in
+    let token = classifier .before .before .before .before in
+    let chain = token .before .before .before .before in
+    let flags = chain .before .before .before .before in
     rw (
-      sym (c .before .before .before .before .before .before .before .before .before .before .before .before .before .before .before .before .before .before .need .ensures) ∙ c .before .before .before .before .before .before .before .before .before .before .before .before .before .before .before .before .flags .given .1,
-      sym (c .before .before .before .before .before .before .before .before .before .before .before .before .before .before .maybe .ensures) ∙ c .before .before .before .before .before .before .before .before .before .before .before .before .chain .given .1,
-      sym (c .before .before .before .before .before .before .before .before .before .before .maybe2 .ensures) ∙ c .before .before .before .before .before .before .before .before .token .given .1,
-      sym (c .before .before .before .before .before .before .maybe3 .ensures) ∙ c .before .before .before .before .classifier .given .1,
+      sym (flags .before .before .need .ensures) ∙ flags .flags .given .1,
+      sym (chain .before .before .maybe .ensures) ∙ chain .chain .given .1,
+      sym (token .before .before .maybe2 .ensures) ∙ token .token .given .1,
+      sym (classifier .before .before .maybe3 .ensures) ∙ classifier .classifier .given .1,
       sym (c .before .before .maybe4 .ensures) ∙ c .enum-told5 .given .1,
     )
 
@@ -107,12 +117,17 @@ enum-told-6 c = search needs
 returns-6 : tie.Need-returns-6
 unfolding bufferAt placesAt
 returns-6 c =
+    let payload = c .before .before .before .before in
+    let classifier = payload .before .before .before .before in
+    let token = classifier .before .before .before .before in
+    let chain = token .before .before .before .before in
+    let flags = chain .before .before .before .before in
     rw (
-      sym (c .before .before .before .before .before .before .before .before .before .before .before .before .before .before .before .before .before .before .before .before .before .before .need .ensures) ∙ c .before .before .before .before .before .before .before .before .before .before .before .before .before .before .before .before .before .before .before .before .flags .given .1,
-      sym (c .before .before .before .before .before .before .before .before .before .before .before .before .before .before .before .before .before .before .maybe .ensures) ∙ c .before .before .before .before .before .before .before .before .before .before .before .before .before .before .before .before .chain .given .1,
-      sym (c .before .before .before .before .before .before .before .before .before .before .before .before .before .before .maybe2 .ensures) ∙ c .before .before .before .before .before .before .before .before .before .before .before .before .token .given .1,
-      sym (c .before .before .before .before .before .before .before .before .before .before .maybe3 .ensures) ∙ c .before .before .before .before .before .before .before .before .classifier .given .1,
-      sym (c .before .before .before .before .before .before .maybe4 .ensures) ∙ c .before .before .before .before .payload .given .1,
+      sym (flags .before .before .need .ensures) ∙ flags .flags .given .1,
+      sym (chain .before .before .maybe .ensures) ∙ chain .chain .given .1,
+      sym (token .before .before .maybe2 .ensures) ∙ token .token .given .1,
+      sym (classifier .before .before .maybe3 .ensures) ∙ classifier .classifier .given .1,
+      sym (payload .before .before .maybe4 .ensures) ∙ payload .payload .given .1,
       sym (c .before .before .maybe5 .ensures) ∙ c .enum-told6 .given .1,
     )
 
@@ -128,27 +143,40 @@ enum-told-7 c = search needs
 returns-7 : tie.Need-returns-7
 unfolding bufferAt placesAt
 returns-7 c =
+    let entry = c .before .before .before .before in
+    let payload = entry .before .before .before .before in
+    let classifier = payload .before .before .before .before in
+    let token = classifier .before .before .before .before in
+    let chain = token .before .before .before .before in
+    let flags = chain .before .before .before .before in
     rw (
-      sym (c .before .before .before .before .before .before .before .before .before .before .before .before .before .before .before .before .before .before .before .before .before .before .before .before .before .before .need .ensures) ∙ c .before .before .before .before .before .before .before .before .before .before .before .before .before .before .before .before .before .before .before .before .before .before .before .before .flags .given .1,
-      sym (c .before .before .before .before .before .before .before .before .before .before .before .before .before .before .before .before .before .before .before .before .before .before .maybe .ensures) ∙ c .before .before .before .before .before .before .before .before .before .before .before .before .before .before .before .before .before .before .before .before .chain .given .1,
-      sym (c .before .before .before .before .before .before .before .before .before .before .before .before .before .before .before .before .before .before .maybe2 .ensures) ∙ c .before .before .before .before .before .before .before .before .before .before .before .before .before .before .before .before .token .given .1,
-      sym (c .before .before .before .before .before .before .before .before .before .before .before .before .before .before .maybe3 .ensures) ∙ c .before .before .before .before .before .before .before .before .before .before .before .before .classifier .given .1,
-      sym (c .before .before .before .before .before .before .before .before .before .before .maybe4 .ensures) ∙ c .before .before .before .before .before .before .before .before .payload .given .1,
-      sym (c .before .before .before .before .before .before .maybe5 .ensures) ∙ c .before .before .before .before .entry .given .1,
+      sym (flags .before .before .need .ensures) ∙ flags .flags .given .1,
+      sym (chain .before .before .maybe .ensures) ∙ chain .chain .given .1,
+      sym (token .before .before .maybe2 .ensures) ∙ token .token .given .1,
+      sym (classifier .before .before .maybe3 .ensures) ∙ classifier .classifier .given .1,
+      sym (payload .before .before .maybe4 .ensures) ∙ payload .payload .given .1,
+      sym (entry .before .before .maybe5 .ensures) ∙ entry .entry .given .1,
       sym (c .before .before .maybe6 .ensures) ∙ c .enum-told7 .given .1,
     )
 
 returns-8 : tie.Need-returns-8
 unfolding bufferAt placesAt
 returns-8 c =
+    let cpa = c .before .before .before in
+    let entry = cpa .before .before .before .before in
+    let payload = entry .before .before .before .before in
+    let classifier = payload .before .before .before .before in
+    let token = classifier .before .before .before .before in
+    let chain = token .before .before .before .before in
+    let flags = chain .before .before .before .before in
     rw (
-      sym (c .before .before .before .before .before .before .before .before .before .before .before .before .before .before .before .before .before .before .before .before .before .before .before .before .before .before .before .before .before .need .ensures) ∙ c .before .before .before .before .before .before .before .before .before .before .before .before .before .before .before .before .before .before .before .before .before .before .before .before .before .before .before .flags .given .1,
-      sym (c .before .before .before .before .before .before .before .before .before .before .before .before .before .before .before .before .before .before .before .before .before .before .before .before .before .maybe .ensures) ∙ c .before .before .before .before .before .before .before .before .before .before .before .before .before .before .before .before .before .before .before .before .before .before .before .chain .given .1,
-      sym (c .before .before .before .before .before .before .before .before .before .before .before .before .before .before .before .before .before .before .before .before .before .maybe2 .ensures) ∙ c .before .before .before .before .before .before .before .before .before .before .before .before .before .before .before .before .before .before .before .token .given .1,
-      sym (c .before .before .before .before .before .before .before .before .before .before .before .before .before .before .before .before .before .maybe3 .ensures) ∙ c .before .before .before .before .before .before .before .before .before .before .before .before .before .before .before .classifier .given .1,
-      sym (c .before .before .before .before .before .before .before .before .before .before .before .before .before .maybe4 .ensures) ∙ c .before .before .before .before .before .before .before .before .before .before .before .payload .given .1,
-      sym (c .before .before .before .before .before .before .before .before .before .maybe5 .ensures) ∙ c .before .before .before .before .before .before .before .entry .given .1,
-      sym (c .before .before .before .before .before .maybe6 .ensures) ∙ c .before .before .before .cpa .given .1,
+      sym (flags .before .before .need .ensures) ∙ flags .flags .given .1,
+      sym (chain .before .before .maybe .ensures) ∙ chain .chain .given .1,
+      sym (token .before .before .maybe2 .ensures) ∙ token .token .given .1,
+      sym (classifier .before .before .maybe3 .ensures) ∙ classifier .classifier .given .1,
+      sym (payload .before .before .maybe4 .ensures) ∙ payload .payload .given .1,
+      sym (entry .before .before .maybe5 .ensures) ∙ entry .entry .given .1,
+      sym (cpa .before .before .maybe6 .ensures) ∙ cpa .cpa .given .1,
       ne-eqb _ _ (c .if1 .taken),
     )
 
@@ -164,14 +192,21 @@ flag-requires-3 c κs = search needs
 returns-9 : tie.Need-returns-9
 unfolding bufferAt placesAt
 returns-9 c =
+    let cpa = c .before .before .before .before .before .before in
+    let entry = cpa .before .before .before .before in
+    let payload = entry .before .before .before .before in
+    let classifier = payload .before .before .before .before in
+    let token = classifier .before .before .before .before in
+    let chain = token .before .before .before .before in
+    let flags = chain .before .before .before .before in
     rw (
-      sym (c .before .before .before .before .before .before .before .before .before .before .before .before .before .before .before .before .before .before .before .before .before .before .before .before .before .before .before .before .before .before .before .before .need .ensures) ∙ c .before .before .before .before .before .before .before .before .before .before .before .before .before .before .before .before .before .before .before .before .before .before .before .before .before .before .before .before .before .before .flags .given .1,
-      sym (c .before .before .before .before .before .before .before .before .before .before .before .before .before .before .before .before .before .before .before .before .before .before .before .before .before .before .before .before .maybe .ensures) ∙ c .before .before .before .before .before .before .before .before .before .before .before .before .before .before .before .before .before .before .before .before .before .before .before .before .before .before .chain .given .1,
-      sym (c .before .before .before .before .before .before .before .before .before .before .before .before .before .before .before .before .before .before .before .before .before .before .before .before .maybe2 .ensures) ∙ c .before .before .before .before .before .before .before .before .before .before .before .before .before .before .before .before .before .before .before .before .before .before .token .given .1,
-      sym (c .before .before .before .before .before .before .before .before .before .before .before .before .before .before .before .before .before .before .before .before .maybe3 .ensures) ∙ c .before .before .before .before .before .before .before .before .before .before .before .before .before .before .before .before .before .before .classifier .given .1,
-      sym (c .before .before .before .before .before .before .before .before .before .before .before .before .before .before .before .before .maybe4 .ensures) ∙ c .before .before .before .before .before .before .before .before .before .before .before .before .before .before .payload .given .1,
-      sym (c .before .before .before .before .before .before .before .before .before .before .before .before .maybe5 .ensures) ∙ c .before .before .before .before .before .before .before .before .before .before .entry .given .1,
-      sym (c .before .before .before .before .before .before .before .before .maybe6 .ensures) ∙ c .before .before .before .before .before .before .cpa .given .1,
+      sym (flags .before .before .need .ensures) ∙ flags .flags .given .1,
+      sym (chain .before .before .maybe .ensures) ∙ chain .chain .given .1,
+      sym (token .before .before .maybe2 .ensures) ∙ token .token .given .1,
+      sym (classifier .before .before .maybe3 .ensures) ∙ classifier .classifier .given .1,
+      sym (payload .before .before .maybe4 .ensures) ∙ payload .payload .given .1,
+      sym (entry .before .before .maybe5 .ensures) ∙ entry .entry .given .1,
+      sym (cpa .before .before .maybe6 .ensures) ∙ cpa .cpa .given .1,
       eq-eqb _ _ (c .before .before .before .if1 .left),
       c .before .before .flag .ensures,
       c .before .flag2 .ensures,

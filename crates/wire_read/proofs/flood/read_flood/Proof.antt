@@ -1,4 +1,5 @@
--- `wire_read::flood::read_flood` meets its contract: each field that is found, and the first that is not, is the definition's own step. Assumes nothing.
+-- `wire_read::flood::read_flood` meets its contract: each field that is found, and the first that is not, is the definition's own step.
+-- Assumes nothing.
 use borrow.Author.Tests.{eq-eqb, ne-eqb, not-true, not-false}
 use mathlib.Core.Path.{sym, _∙_}
 use Rattle.wire_fields.specs.Kinds.{joined, sized}
@@ -52,9 +53,11 @@ enum-told-3 c = search needs
 returns-3 : tie.Need-returns-3
 unfolding shown fieldsAs joined sized placesAt
 returns-3 c =
+    let validate = c .before .before .before .before in
+    let controls = validate .before .before .before .before in
     rw (
-      sym (c .before .before .before .before .before .before .before .before .before .before .need .ensures) ∙ c .before .before .before .before .before .before .before .before .controls .given .1,
-      sym (c .before .before .before .before .before .before .need2 .ensures) ∙ c .before .before .before .before .validate .given .1,
+      sym (controls .before .before .need .ensures) ∙ controls .controls .given .1,
+      sym (validate .before .before .need2 .ensures) ∙ validate .validate .given .1,
       sym (c .before .before .maybe .ensures) ∙ c .enum-told3 .given .1,
     )
 
@@ -70,10 +73,13 @@ enum-told-4 c = search needs
 returns-4 : tie.Need-returns-4
 unfolding shown fieldsAs joined sized placesAt
 returns-4 c =
+    let token = c .before .before .before .before in
+    let validate = token .before .before .before .before in
+    let controls = validate .before .before .before .before in
     rw (
-      sym (c .before .before .before .before .before .before .before .before .before .before .before .before .before .before .need .ensures) ∙ c .before .before .before .before .before .before .before .before .before .before .before .before .controls .given .1,
-      sym (c .before .before .before .before .before .before .before .before .before .before .need2 .ensures) ∙ c .before .before .before .before .before .before .before .before .validate .given .1,
-      sym (c .before .before .before .before .before .before .maybe .ensures) ∙ c .before .before .before .before .token .given .1,
+      sym (controls .before .before .need .ensures) ∙ controls .controls .given .1,
+      sym (validate .before .before .need2 .ensures) ∙ validate .validate .given .1,
+      sym (token .before .before .maybe .ensures) ∙ token .token .given .1,
       sym (c .before .before .maybe2 .ensures) ∙ c .enum-told4 .given .1,
     )
 
@@ -89,11 +95,15 @@ enum-told-5 c = search needs
 returns-5 : tie.Need-returns-5
 unfolding shown fieldsAs joined sized placesAt
 returns-5 c =
+    let revoke = c .before .before .before .before in
+    let token = revoke .before .before .before .before in
+    let validate = token .before .before .before .before in
+    let controls = validate .before .before .before .before in
     rw (
-      sym (c .before .before .before .before .before .before .before .before .before .before .before .before .before .before .before .before .before .before .need .ensures) ∙ c .before .before .before .before .before .before .before .before .before .before .before .before .before .before .before .before .controls .given .1,
-      sym (c .before .before .before .before .before .before .before .before .before .before .before .before .before .before .need2 .ensures) ∙ c .before .before .before .before .before .before .before .before .before .before .before .before .validate .given .1,
-      sym (c .before .before .before .before .before .before .before .before .before .before .maybe .ensures) ∙ c .before .before .before .before .before .before .before .before .token .given .1,
-      sym (c .before .before .before .before .before .before .maybe2 .ensures) ∙ c .before .before .before .before .revoke .given .1,
+      sym (controls .before .before .need .ensures) ∙ controls .controls .given .1,
+      sym (validate .before .before .need2 .ensures) ∙ validate .validate .given .1,
+      sym (token .before .before .maybe .ensures) ∙ token .token .given .1,
+      sym (revoke .before .before .maybe2 .ensures) ∙ revoke .revoke .given .1,
       sym (c .before .before .maybe3 .ensures) ∙ c .enum-told5 .given .1,
     )
 
@@ -109,25 +119,36 @@ enum-told-6 c = search needs
 returns-6 : tie.Need-returns-6
 unfolding shown fieldsAs joined sized placesAt
 returns-6 c =
+    let entry = c .before .before .before .before in
+    let revoke = entry .before .before .before .before in
+    let token = revoke .before .before .before .before in
+    let validate = token .before .before .before .before in
+    let controls = validate .before .before .before .before in
     rw (
-      sym (c .before .before .before .before .before .before .before .before .before .before .before .before .before .before .before .before .before .before .before .before .before .before .need .ensures) ∙ c .before .before .before .before .before .before .before .before .before .before .before .before .before .before .before .before .before .before .before .before .controls .given .1,
-      sym (c .before .before .before .before .before .before .before .before .before .before .before .before .before .before .before .before .before .before .need2 .ensures) ∙ c .before .before .before .before .before .before .before .before .before .before .before .before .before .before .before .before .validate .given .1,
-      sym (c .before .before .before .before .before .before .before .before .before .before .before .before .before .before .maybe .ensures) ∙ c .before .before .before .before .before .before .before .before .before .before .before .before .token .given .1,
-      sym (c .before .before .before .before .before .before .before .before .before .before .maybe2 .ensures) ∙ c .before .before .before .before .before .before .before .before .revoke .given .1,
-      sym (c .before .before .before .before .before .before .maybe3 .ensures) ∙ c .before .before .before .before .entry .given .1,
+      sym (controls .before .before .need .ensures) ∙ controls .controls .given .1,
+      sym (validate .before .before .need2 .ensures) ∙ validate .validate .given .1,
+      sym (token .before .before .maybe .ensures) ∙ token .token .given .1,
+      sym (revoke .before .before .maybe2 .ensures) ∙ revoke .revoke .given .1,
+      sym (entry .before .before .maybe3 .ensures) ∙ entry .entry .given .1,
       sym (c .before .before .maybe4 .ensures) ∙ c .enum-told6 .given .1,
     )
 
 returns-7 : tie.Need-returns-7
 unfolding shown fieldsAs joined sized placesAt
 returns-7 c =
+    let reached = c .before .before .before in
+    let entry = reached .before .before .before .before in
+    let revoke = entry .before .before .before .before in
+    let token = revoke .before .before .before .before in
+    let validate = token .before .before .before .before in
+    let controls = validate .before .before .before .before in
     rw (
-      sym (c .before .before .before .before .before .before .before .before .before .before .before .before .before .before .before .before .before .before .before .before .before .before .before .before .before .need .ensures) ∙ c .before .before .before .before .before .before .before .before .before .before .before .before .before .before .before .before .before .before .before .before .before .before .before .controls .given .1,
-      sym (c .before .before .before .before .before .before .before .before .before .before .before .before .before .before .before .before .before .before .before .before .before .need2 .ensures) ∙ c .before .before .before .before .before .before .before .before .before .before .before .before .before .before .before .before .before .before .before .validate .given .1,
-      sym (c .before .before .before .before .before .before .before .before .before .before .before .before .before .before .before .before .before .maybe .ensures) ∙ c .before .before .before .before .before .before .before .before .before .before .before .before .before .before .before .token .given .1,
-      sym (c .before .before .before .before .before .before .before .before .before .before .before .before .before .maybe2 .ensures) ∙ c .before .before .before .before .before .before .before .before .before .before .before .revoke .given .1,
-      sym (c .before .before .before .before .before .before .before .before .before .maybe3 .ensures) ∙ c .before .before .before .before .before .before .before .entry .given .1,
-      sym (c .before .before .before .before .before .maybe4 .ensures) ∙ c .before .before .before .reached .given .1,
+      sym (controls .before .before .need .ensures) ∙ controls .controls .given .1,
+      sym (validate .before .before .need2 .ensures) ∙ validate .validate .given .1,
+      sym (token .before .before .maybe .ensures) ∙ token .token .given .1,
+      sym (revoke .before .before .maybe2 .ensures) ∙ revoke .revoke .given .1,
+      sym (entry .before .before .maybe3 .ensures) ∙ entry .entry .given .1,
+      sym (reached .before .before .maybe4 .ensures) ∙ reached .reached .given .1,
       ne-eqb _ _ (c .if1 .taken),
     )
 
@@ -137,13 +158,19 @@ just-one-requires c κs = search needs
 returns-8 : tie.Need-returns-8
 unfolding shown fieldsAs joined sized placesAt
 returns-8 c =
+    let reached = c .before .before .before .before .before in
+    let entry = reached .before .before .before .before in
+    let revoke = entry .before .before .before .before in
+    let token = revoke .before .before .before .before in
+    let validate = token .before .before .before .before in
+    let controls = validate .before .before .before .before in
     rw (
-      sym (c .before .before .before .before .before .before .before .before .before .before .before .before .before .before .before .before .before .before .before .before .before .before .before .before .before .before .before .need .ensures) ∙ c .before .before .before .before .before .before .before .before .before .before .before .before .before .before .before .before .before .before .before .before .before .before .before .before .before .controls .given .1,
-      sym (c .before .before .before .before .before .before .before .before .before .before .before .before .before .before .before .before .before .before .before .before .before .before .before .need2 .ensures) ∙ c .before .before .before .before .before .before .before .before .before .before .before .before .before .before .before .before .before .before .before .before .before .validate .given .1,
-      sym (c .before .before .before .before .before .before .before .before .before .before .before .before .before .before .before .before .before .before .before .maybe .ensures) ∙ c .before .before .before .before .before .before .before .before .before .before .before .before .before .before .before .before .before .token .given .1,
-      sym (c .before .before .before .before .before .before .before .before .before .before .before .before .before .before .before .maybe2 .ensures) ∙ c .before .before .before .before .before .before .before .before .before .before .before .before .before .revoke .given .1,
-      sym (c .before .before .before .before .before .before .before .before .before .before .before .maybe3 .ensures) ∙ c .before .before .before .before .before .before .before .before .before .entry .given .1,
-      sym (c .before .before .before .before .before .before .before .maybe4 .ensures) ∙ c .before .before .before .before .before .reached .given .1,
+      sym (controls .before .before .need .ensures) ∙ controls .controls .given .1,
+      sym (validate .before .before .need2 .ensures) ∙ validate .validate .given .1,
+      sym (token .before .before .maybe .ensures) ∙ token .token .given .1,
+      sym (revoke .before .before .maybe2 .ensures) ∙ revoke .revoke .given .1,
+      sym (entry .before .before .maybe3 .ensures) ∙ entry .entry .given .1,
+      sym (reached .before .before .maybe4 .ensures) ∙ reached .reached .given .1,
       eq-eqb _ _ (c .before .before .if1 .left),
       present-value,
       present-value,
@@ -151,7 +178,11 @@ returns-8 c =
     )
 
 head-requires : tie.Need-head-requires
-head-requires c κs = c .before .before .before .before .before .before .before .before .before .before .before .before .before .before .before .before .before .before .before .before .before .before .before .before .before .before .before .before .before .pre
+head-requires c κs =
+    let revoke = c .before .before .before .before .before .before .before .before .before .before .before .before .before in
+    let controls = revoke .before .before .before .before .before .before .before .before .before .before .before .before in
+    let start = controls .before .before .before .before in
+    start .pre
 
 silent-requires : tie.Need-silent-requires
 silent-requires c κs = search needs
@@ -159,13 +190,19 @@ silent-requires c κs = search needs
 returns-9 : tie.Need-returns-9
 unfolding shown fieldsAs joined sized placesAt
 returns-9 c =
+    let reached = c .before .before .before .before .before .before .before in
+    let entry = reached .before .before .before .before in
+    let revoke = entry .before .before .before .before in
+    let token = revoke .before .before .before .before in
+    let validate = token .before .before .before .before in
+    let controls = validate .before .before .before .before in
     rw (
-      sym (c .before .before .before .before .before .before .before .before .before .before .before .before .before .before .before .before .before .before .before .before .before .before .before .before .before .before .before .before .before .need .ensures) ∙ c .before .before .before .before .before .before .before .before .before .before .before .before .before .before .before .before .before .before .before .before .before .before .before .before .before .before .before .controls .given .1,
-      sym (c .before .before .before .before .before .before .before .before .before .before .before .before .before .before .before .before .before .before .before .before .before .before .before .before .before .need2 .ensures) ∙ c .before .before .before .before .before .before .before .before .before .before .before .before .before .before .before .before .before .before .before .before .before .before .before .validate .given .1,
-      sym (c .before .before .before .before .before .before .before .before .before .before .before .before .before .before .before .before .before .before .before .before .before .maybe .ensures) ∙ c .before .before .before .before .before .before .before .before .before .before .before .before .before .before .before .before .before .before .before .token .given .1,
-      sym (c .before .before .before .before .before .before .before .before .before .before .before .before .before .before .before .before .before .maybe2 .ensures) ∙ c .before .before .before .before .before .before .before .before .before .before .before .before .before .before .before .revoke .given .1,
-      sym (c .before .before .before .before .before .before .before .before .before .before .before .before .before .maybe3 .ensures) ∙ c .before .before .before .before .before .before .before .before .before .before .before .entry .given .1,
-      sym (c .before .before .before .before .before .before .before .before .before .maybe4 .ensures) ∙ c .before .before .before .before .before .before .before .reached .given .1,
+      sym (controls .before .before .need .ensures) ∙ controls .controls .given .1,
+      sym (validate .before .before .need2 .ensures) ∙ validate .validate .given .1,
+      sym (token .before .before .maybe .ensures) ∙ token .token .given .1,
+      sym (revoke .before .before .maybe2 .ensures) ∙ revoke .revoke .given .1,
+      sym (entry .before .before .maybe3 .ensures) ∙ entry .entry .given .1,
+      sym (reached .before .before .maybe4 .ensures) ∙ reached .reached .given .1,
       eq-eqb _ _ (c .before .before .before .before .if1 .left),
       present-value,
       present-value,

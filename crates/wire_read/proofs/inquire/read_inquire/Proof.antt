@@ -1,4 +1,5 @@
--- `wire_read::inquire::read_inquire` meets its contract: each field that is found, and the first that is not, is the definition's own step. Assumes nothing.
+-- `wire_read::inquire::read_inquire` meets its contract: each field that is found, and the first that is not, is the definition's own step.
+-- Assumes nothing.
 use borrow.Author.Tests.{eq-eqb, ne-eqb}
 use mathlib.Core.Path.{sym, _∙_}
 use Rattle.wire_fields.specs.Kinds.{joined, sized}
@@ -51,9 +52,11 @@ enum-told-3 c = search needs
 returns-3 : tie.Need-returns-3
 unfolding shown fieldsAs joined sized placesAt
 returns-3 c =
+    let validate = c .before .before .before .before in
+    let flags = validate .before .before .before .before in
     rw (
-      sym (c .before .before .before .before .before .before .before .before .before .before .need .ensures) ∙ c .before .before .before .before .before .before .before .before .flags .given .1,
-      sym (c .before .before .before .before .before .before .need2 .ensures) ∙ c .before .before .before .before .validate .given .1,
+      sym (flags .before .before .need .ensures) ∙ flags .flags .given .1,
+      sym (validate .before .before .need2 .ensures) ∙ validate .validate .given .1,
       sym (c .before .before .maybe .ensures) ∙ c .enum-told3 .given .1,
     )
 
@@ -69,10 +72,13 @@ enum-told-4 c = search needs
 returns-4 : tie.Need-returns-4
 unfolding shown fieldsAs joined sized placesAt
 returns-4 c =
+    let nonce = c .before .before .before .before in
+    let validate = nonce .before .before .before .before in
+    let flags = validate .before .before .before .before in
     rw (
-      sym (c .before .before .before .before .before .before .before .before .before .before .before .before .before .before .need .ensures) ∙ c .before .before .before .before .before .before .before .before .before .before .before .before .flags .given .1,
-      sym (c .before .before .before .before .before .before .before .before .before .before .need2 .ensures) ∙ c .before .before .before .before .before .before .before .before .validate .given .1,
-      sym (c .before .before .before .before .before .before .maybe .ensures) ∙ c .before .before .before .before .nonce .given .1,
+      sym (flags .before .before .need .ensures) ∙ flags .flags .given .1,
+      sym (validate .before .before .need2 .ensures) ∙ validate .validate .given .1,
+      sym (nonce .before .before .maybe .ensures) ∙ nonce .nonce .given .1,
       sym (c .before .before .maybe2 .ensures) ∙ c .enum-told4 .given .1,
     )
 
@@ -88,11 +94,15 @@ enum-told-5 c = search needs
 returns-5 : tie.Need-returns-5
 unfolding shown fieldsAs joined sized placesAt
 returns-5 c =
+    let credential = c .before .before .before .before in
+    let nonce = credential .before .before .before .before in
+    let validate = nonce .before .before .before .before in
+    let flags = validate .before .before .before .before in
     rw (
-      sym (c .before .before .before .before .before .before .before .before .before .before .before .before .before .before .before .before .before .before .need .ensures) ∙ c .before .before .before .before .before .before .before .before .before .before .before .before .before .before .before .before .flags .given .1,
-      sym (c .before .before .before .before .before .before .before .before .before .before .before .before .before .before .need2 .ensures) ∙ c .before .before .before .before .before .before .before .before .before .before .before .before .validate .given .1,
-      sym (c .before .before .before .before .before .before .before .before .before .before .maybe .ensures) ∙ c .before .before .before .before .before .before .before .before .nonce .given .1,
-      sym (c .before .before .before .before .before .before .maybe2 .ensures) ∙ c .before .before .before .before .credential .given .1,
+      sym (flags .before .before .need .ensures) ∙ flags .flags .given .1,
+      sym (validate .before .before .need2 .ensures) ∙ validate .validate .given .1,
+      sym (nonce .before .before .maybe .ensures) ∙ nonce .nonce .given .1,
+      sym (credential .before .before .maybe2 .ensures) ∙ credential .credential .given .1,
       sym (c .before .before .maybe3 .ensures) ∙ c .enum-told5 .given .1,
     )
 
@@ -108,30 +118,45 @@ enum-told-6 c = search needs
 returns-6 : tie.Need-returns-6
 unfolding shown fieldsAs joined sized placesAt
 returns-6 c =
+    let signature = c .before .before .before .before in
+    let credential = signature .before .before .before .before in
+    let nonce = credential .before .before .before .before in
+    let validate = nonce .before .before .before .before in
+    let flags = validate .before .before .before .before in
     rw (
-      sym (c .before .before .before .before .before .before .before .before .before .before .before .before .before .before .before .before .before .before .before .before .before .before .need .ensures) ∙ c .before .before .before .before .before .before .before .before .before .before .before .before .before .before .before .before .before .before .before .before .flags .given .1,
-      sym (c .before .before .before .before .before .before .before .before .before .before .before .before .before .before .before .before .before .before .need2 .ensures) ∙ c .before .before .before .before .before .before .before .before .before .before .before .before .before .before .before .before .validate .given .1,
-      sym (c .before .before .before .before .before .before .before .before .before .before .before .before .before .before .maybe .ensures) ∙ c .before .before .before .before .before .before .before .before .before .before .before .before .nonce .given .1,
-      sym (c .before .before .before .before .before .before .before .before .before .before .maybe2 .ensures) ∙ c .before .before .before .before .before .before .before .before .credential .given .1,
-      sym (c .before .before .before .before .before .before .maybe3 .ensures) ∙ c .before .before .before .before .signature .given .1,
+      sym (flags .before .before .need .ensures) ∙ flags .flags .given .1,
+      sym (validate .before .before .need2 .ensures) ∙ validate .validate .given .1,
+      sym (nonce .before .before .maybe .ensures) ∙ nonce .nonce .given .1,
+      sym (credential .before .before .maybe2 .ensures) ∙ credential .credential .given .1,
+      sym (signature .before .before .maybe3 .ensures) ∙ signature .signature .given .1,
       sym (c .before .before .maybe4 .ensures) ∙ c .enum-told6 .given .1,
     )
 
 returns-7 : tie.Need-returns-7
 unfolding shown fieldsAs joined sized placesAt
 returns-7 c =
+    let key = c .before .before .before in
+    let signature = key .before .before .before .before in
+    let credential = signature .before .before .before .before in
+    let nonce = credential .before .before .before .before in
+    let validate = nonce .before .before .before .before in
+    let flags = validate .before .before .before .before in
     rw (
-      sym (c .before .before .before .before .before .before .before .before .before .before .before .before .before .before .before .before .before .before .before .before .before .before .before .before .before .need .ensures) ∙ c .before .before .before .before .before .before .before .before .before .before .before .before .before .before .before .before .before .before .before .before .before .before .before .flags .given .1,
-      sym (c .before .before .before .before .before .before .before .before .before .before .before .before .before .before .before .before .before .before .before .before .before .need2 .ensures) ∙ c .before .before .before .before .before .before .before .before .before .before .before .before .before .before .before .before .before .before .before .validate .given .1,
-      sym (c .before .before .before .before .before .before .before .before .before .before .before .before .before .before .before .before .before .maybe .ensures) ∙ c .before .before .before .before .before .before .before .before .before .before .before .before .before .before .before .nonce .given .1,
-      sym (c .before .before .before .before .before .before .before .before .before .before .before .before .before .maybe2 .ensures) ∙ c .before .before .before .before .before .before .before .before .before .before .before .credential .given .1,
-      sym (c .before .before .before .before .before .before .before .before .before .maybe3 .ensures) ∙ c .before .before .before .before .before .before .before .signature .given .1,
-      sym (c .before .before .before .before .before .maybe4 .ensures) ∙ c .before .before .before .key .given .1,
+      sym (flags .before .before .need .ensures) ∙ flags .flags .given .1,
+      sym (validate .before .before .need2 .ensures) ∙ validate .validate .given .1,
+      sym (nonce .before .before .maybe .ensures) ∙ nonce .nonce .given .1,
+      sym (credential .before .before .maybe2 .ensures) ∙ credential .credential .given .1,
+      sym (signature .before .before .maybe3 .ensures) ∙ signature .signature .given .1,
+      sym (key .before .before .maybe4 .ensures) ∙ key .key .given .1,
       ne-eqb _ _ (c .if1 .taken),
     )
 
 head-requires : tie.Need-head-requires
-head-requires c κs = c .before .before .before .before .before .before .before .before .before .before .before .before .before .before .before .before .before .before .before .before .before .before .before .before .before .before .before .pre
+head-requires c κs =
+    let credential = c .before .before .before .before .before .before .before .before .before .before .before in
+    let flags = credential .before .before .before .before .before .before .before .before .before .before .before .before in
+    let start = flags .before .before .before .before in
+    start .pre
 
 flag-requires : tie.Need-flag-requires
 flag-requires c κs = search needs
@@ -145,13 +170,19 @@ flag-requires-3 c κs = search needs
 returns-8 : tie.Need-returns-8
 unfolding shown fieldsAs joined sized placesAt
 returns-8 c =
+    let key = c .before .before .before .before .before .before .before in
+    let signature = key .before .before .before .before in
+    let credential = signature .before .before .before .before in
+    let nonce = credential .before .before .before .before in
+    let validate = nonce .before .before .before .before in
+    let flags = validate .before .before .before .before in
     rw (
-      sym (c .before .before .before .before .before .before .before .before .before .before .before .before .before .before .before .before .before .before .before .before .before .before .before .before .before .before .before .before .before .need .ensures) ∙ c .before .before .before .before .before .before .before .before .before .before .before .before .before .before .before .before .before .before .before .before .before .before .before .before .before .before .before .flags .given .1,
-      sym (c .before .before .before .before .before .before .before .before .before .before .before .before .before .before .before .before .before .before .before .before .before .before .before .before .before .need2 .ensures) ∙ c .before .before .before .before .before .before .before .before .before .before .before .before .before .before .before .before .before .before .before .before .before .before .before .validate .given .1,
-      sym (c .before .before .before .before .before .before .before .before .before .before .before .before .before .before .before .before .before .before .before .before .before .maybe .ensures) ∙ c .before .before .before .before .before .before .before .before .before .before .before .before .before .before .before .before .before .before .before .nonce .given .1,
-      sym (c .before .before .before .before .before .before .before .before .before .before .before .before .before .before .before .before .before .maybe2 .ensures) ∙ c .before .before .before .before .before .before .before .before .before .before .before .before .before .before .before .credential .given .1,
-      sym (c .before .before .before .before .before .before .before .before .before .before .before .before .before .maybe3 .ensures) ∙ c .before .before .before .before .before .before .before .before .before .before .before .signature .given .1,
-      sym (c .before .before .before .before .before .before .before .before .before .maybe4 .ensures) ∙ c .before .before .before .before .before .before .before .key .given .1,
+      sym (flags .before .before .need .ensures) ∙ flags .flags .given .1,
+      sym (validate .before .before .need2 .ensures) ∙ validate .validate .given .1,
+      sym (nonce .before .before .maybe .ensures) ∙ nonce .nonce .given .1,
+      sym (credential .before .before .maybe2 .ensures) ∙ credential .credential .given .1,
+      sym (signature .before .before .maybe3 .ensures) ∙ signature .signature .given .1,
+      sym (key .before .before .maybe4 .ensures) ∙ key .key .given .1,
       eq-eqb _ _ (c .before .before .before .before .if1 .left),
       c .before .before .before .head .ensures,
       c .before .before .flag .ensures,

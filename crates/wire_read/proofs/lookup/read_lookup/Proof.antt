@@ -1,4 +1,5 @@
--- `wire_read::lookup::read_lookup` meets its contract: each field that is found, and the first that is not, is the definition's own step. Assumes nothing.
+-- `wire_read::lookup::read_lookup` meets its contract: each field that is found, and the first that is not, is the definition's own step.
+-- Assumes nothing.
 use borrow.Author.Tests.{eq-eqb, ne-eqb}
 use mathlib.Core.Path.{sym, _∙_}
 use Rattle.wire_fields.specs.Kinds.{joined, sized}
@@ -51,9 +52,11 @@ enum-told-3 c = search needs
 returns-3 : tie.Need-returns-3
 unfolding shown fieldsAs joined sized placesAt
 returns-3 c =
+    let target = c .before .before .before .before in
+    let controls = target .before .before .before .before in
     rw (
-      sym (c .before .before .before .before .before .before .before .before .before .before .need .ensures) ∙ c .before .before .before .before .before .before .before .before .controls .given .1,
-      sym (c .before .before .before .before .before .before .need2 .ensures) ∙ c .before .before .before .before .target .given .1,
+      sym (controls .before .before .need .ensures) ∙ controls .controls .given .1,
+      sym (target .before .before .need2 .ensures) ∙ target .target .given .1,
       sym (c .before .before .need3 .ensures) ∙ c .enum-told3 .given .1,
     )
 
@@ -69,10 +72,13 @@ enum-told-4 c = search needs
 returns-4 : tie.Need-returns-4
 unfolding shown fieldsAs joined sized placesAt
 returns-4 c =
+    let validate = c .before .before .before .before in
+    let target = validate .before .before .before .before in
+    let controls = target .before .before .before .before in
     rw (
-      sym (c .before .before .before .before .before .before .before .before .before .before .before .before .before .before .need .ensures) ∙ c .before .before .before .before .before .before .before .before .before .before .before .before .controls .given .1,
-      sym (c .before .before .before .before .before .before .before .before .before .before .need2 .ensures) ∙ c .before .before .before .before .before .before .before .before .target .given .1,
-      sym (c .before .before .before .before .before .before .need3 .ensures) ∙ c .before .before .before .before .validate .given .1,
+      sym (controls .before .before .need .ensures) ∙ controls .controls .given .1,
+      sym (target .before .before .need2 .ensures) ∙ target .target .given .1,
+      sym (validate .before .before .need3 .ensures) ∙ validate .validate .given .1,
       sym (c .before .before .maybe .ensures) ∙ c .enum-told4 .given .1,
     )
 
@@ -88,11 +94,15 @@ enum-told-5 c = search needs
 returns-5 : tie.Need-returns-5
 unfolding shown fieldsAs joined sized placesAt
 returns-5 c =
+    let entry = c .before .before .before .before in
+    let validate = entry .before .before .before .before in
+    let target = validate .before .before .before .before in
+    let controls = target .before .before .before .before in
     rw (
-      sym (c .before .before .before .before .before .before .before .before .before .before .before .before .before .before .before .before .before .before .need .ensures) ∙ c .before .before .before .before .before .before .before .before .before .before .before .before .before .before .before .before .controls .given .1,
-      sym (c .before .before .before .before .before .before .before .before .before .before .before .before .before .before .need2 .ensures) ∙ c .before .before .before .before .before .before .before .before .before .before .before .before .target .given .1,
-      sym (c .before .before .before .before .before .before .before .before .before .before .need3 .ensures) ∙ c .before .before .before .before .before .before .before .before .validate .given .1,
-      sym (c .before .before .before .before .before .before .maybe .ensures) ∙ c .before .before .before .before .entry .given .1,
+      sym (controls .before .before .need .ensures) ∙ controls .controls .given .1,
+      sym (target .before .before .need2 .ensures) ∙ target .target .given .1,
+      sym (validate .before .before .need3 .ensures) ∙ validate .validate .given .1,
+      sym (entry .before .before .maybe .ensures) ∙ entry .entry .given .1,
       sym (c .before .before .need4 .ensures) ∙ c .enum-told5 .given .1,
     )
 
@@ -108,12 +118,17 @@ enum-told-6 c = search needs
 returns-6 : tie.Need-returns-6
 unfolding shown fieldsAs joined sized placesAt
 returns-6 c =
+    let path = c .before .before .before .before in
+    let entry = path .before .before .before .before in
+    let validate = entry .before .before .before .before in
+    let target = validate .before .before .before .before in
+    let controls = target .before .before .before .before in
     rw (
-      sym (c .before .before .before .before .before .before .before .before .before .before .before .before .before .before .before .before .before .before .before .before .before .before .need .ensures) ∙ c .before .before .before .before .before .before .before .before .before .before .before .before .before .before .before .before .before .before .before .before .controls .given .1,
-      sym (c .before .before .before .before .before .before .before .before .before .before .before .before .before .before .before .before .before .before .need2 .ensures) ∙ c .before .before .before .before .before .before .before .before .before .before .before .before .before .before .before .before .target .given .1,
-      sym (c .before .before .before .before .before .before .before .before .before .before .before .before .before .before .need3 .ensures) ∙ c .before .before .before .before .before .before .before .before .before .before .before .before .validate .given .1,
-      sym (c .before .before .before .before .before .before .before .before .before .before .maybe .ensures) ∙ c .before .before .before .before .before .before .before .before .entry .given .1,
-      sym (c .before .before .before .before .before .before .need4 .ensures) ∙ c .before .before .before .before .path .given .1,
+      sym (controls .before .before .need .ensures) ∙ controls .controls .given .1,
+      sym (target .before .before .need2 .ensures) ∙ target .target .given .1,
+      sym (validate .before .before .need3 .ensures) ∙ validate .validate .given .1,
+      sym (entry .before .before .maybe .ensures) ∙ entry .entry .given .1,
+      sym (path .before .before .need4 .ensures) ∙ path .path .given .1,
       sym (c .before .before .maybe2 .ensures) ∙ c .enum-told6 .given .1,
     )
 
@@ -129,13 +144,19 @@ enum-told-7 c = search needs
 returns-7 : tie.Need-returns-7
 unfolding shown fieldsAs joined sized placesAt
 returns-7 c =
+    let credential = c .before .before .before .before in
+    let path = credential .before .before .before .before in
+    let entry = path .before .before .before .before in
+    let validate = entry .before .before .before .before in
+    let target = validate .before .before .before .before in
+    let controls = target .before .before .before .before in
     rw (
-      sym (c .before .before .before .before .before .before .before .before .before .before .before .before .before .before .before .before .before .before .before .before .before .before .before .before .before .before .need .ensures) ∙ c .before .before .before .before .before .before .before .before .before .before .before .before .before .before .before .before .before .before .before .before .before .before .before .before .controls .given .1,
-      sym (c .before .before .before .before .before .before .before .before .before .before .before .before .before .before .before .before .before .before .before .before .before .before .need2 .ensures) ∙ c .before .before .before .before .before .before .before .before .before .before .before .before .before .before .before .before .before .before .before .before .target .given .1,
-      sym (c .before .before .before .before .before .before .before .before .before .before .before .before .before .before .before .before .before .before .need3 .ensures) ∙ c .before .before .before .before .before .before .before .before .before .before .before .before .before .before .before .before .validate .given .1,
-      sym (c .before .before .before .before .before .before .before .before .before .before .before .before .before .before .maybe .ensures) ∙ c .before .before .before .before .before .before .before .before .before .before .before .before .entry .given .1,
-      sym (c .before .before .before .before .before .before .before .before .before .before .need4 .ensures) ∙ c .before .before .before .before .before .before .before .before .path .given .1,
-      sym (c .before .before .before .before .before .before .maybe2 .ensures) ∙ c .before .before .before .before .credential .given .1,
+      sym (controls .before .before .need .ensures) ∙ controls .controls .given .1,
+      sym (target .before .before .need2 .ensures) ∙ target .target .given .1,
+      sym (validate .before .before .need3 .ensures) ∙ validate .validate .given .1,
+      sym (entry .before .before .maybe .ensures) ∙ entry .entry .given .1,
+      sym (path .before .before .need4 .ensures) ∙ path .path .given .1,
+      sym (credential .before .before .maybe2 .ensures) ∙ credential .credential .given .1,
       sym (c .before .before .maybe3 .ensures) ∙ c .enum-told7 .given .1,
     )
 
@@ -151,34 +172,53 @@ enum-told-8 c = search needs
 returns-8 : tie.Need-returns-8
 unfolding shown fieldsAs joined sized placesAt
 returns-8 c =
+    let signature = c .before .before .before .before in
+    let credential = signature .before .before .before .before in
+    let path = credential .before .before .before .before in
+    let entry = path .before .before .before .before in
+    let validate = entry .before .before .before .before in
+    let target = validate .before .before .before .before in
+    let controls = target .before .before .before .before in
     rw (
-      sym (c .before .before .before .before .before .before .before .before .before .before .before .before .before .before .before .before .before .before .before .before .before .before .before .before .before .before .before .before .before .before .need .ensures) ∙ c .before .before .before .before .before .before .before .before .before .before .before .before .before .before .before .before .before .before .before .before .before .before .before .before .before .before .before .before .controls .given .1,
-      sym (c .before .before .before .before .before .before .before .before .before .before .before .before .before .before .before .before .before .before .before .before .before .before .before .before .before .before .need2 .ensures) ∙ c .before .before .before .before .before .before .before .before .before .before .before .before .before .before .before .before .before .before .before .before .before .before .before .before .target .given .1,
-      sym (c .before .before .before .before .before .before .before .before .before .before .before .before .before .before .before .before .before .before .before .before .before .before .need3 .ensures) ∙ c .before .before .before .before .before .before .before .before .before .before .before .before .before .before .before .before .before .before .before .before .validate .given .1,
-      sym (c .before .before .before .before .before .before .before .before .before .before .before .before .before .before .before .before .before .before .maybe .ensures) ∙ c .before .before .before .before .before .before .before .before .before .before .before .before .before .before .before .before .entry .given .1,
-      sym (c .before .before .before .before .before .before .before .before .before .before .before .before .before .before .need4 .ensures) ∙ c .before .before .before .before .before .before .before .before .before .before .before .before .path .given .1,
-      sym (c .before .before .before .before .before .before .before .before .before .before .maybe2 .ensures) ∙ c .before .before .before .before .before .before .before .before .credential .given .1,
-      sym (c .before .before .before .before .before .before .maybe3 .ensures) ∙ c .before .before .before .before .signature .given .1,
+      sym (controls .before .before .need .ensures) ∙ controls .controls .given .1,
+      sym (target .before .before .need2 .ensures) ∙ target .target .given .1,
+      sym (validate .before .before .need3 .ensures) ∙ validate .validate .given .1,
+      sym (entry .before .before .maybe .ensures) ∙ entry .entry .given .1,
+      sym (path .before .before .need4 .ensures) ∙ path .path .given .1,
+      sym (credential .before .before .maybe2 .ensures) ∙ credential .credential .given .1,
+      sym (signature .before .before .maybe3 .ensures) ∙ signature .signature .given .1,
       sym (c .before .before .maybe4 .ensures) ∙ c .enum-told8 .given .1,
     )
 
 returns-9 : tie.Need-returns-9
 unfolding shown fieldsAs joined sized placesAt
 returns-9 c =
+    let key = c .before .before .before in
+    let signature = key .before .before .before .before in
+    let credential = signature .before .before .before .before in
+    let path = credential .before .before .before .before in
+    let entry = path .before .before .before .before in
+    let validate = entry .before .before .before .before in
+    let target = validate .before .before .before .before in
+    let controls = target .before .before .before .before in
     rw (
-      sym (c .before .before .before .before .before .before .before .before .before .before .before .before .before .before .before .before .before .before .before .before .before .before .before .before .before .before .before .before .before .before .before .before .before .need .ensures) ∙ c .before .before .before .before .before .before .before .before .before .before .before .before .before .before .before .before .before .before .before .before .before .before .before .before .before .before .before .before .before .before .before .controls .given .1,
-      sym (c .before .before .before .before .before .before .before .before .before .before .before .before .before .before .before .before .before .before .before .before .before .before .before .before .before .before .before .before .before .need2 .ensures) ∙ c .before .before .before .before .before .before .before .before .before .before .before .before .before .before .before .before .before .before .before .before .before .before .before .before .before .before .before .target .given .1,
-      sym (c .before .before .before .before .before .before .before .before .before .before .before .before .before .before .before .before .before .before .before .before .before .before .before .before .before .need3 .ensures) ∙ c .before .before .before .before .before .before .before .before .before .before .before .before .before .before .before .before .before .before .before .before .before .before .before .validate .given .1,
-      sym (c .before .before .before .before .before .before .before .before .before .before .before .before .before .before .before .before .before .before .before .before .before .maybe .ensures) ∙ c .before .before .before .before .before .before .before .before .before .before .before .before .before .before .before .before .before .before .before .entry .given .1,
-      sym (c .before .before .before .before .before .before .before .before .before .before .before .before .before .before .before .before .before .need4 .ensures) ∙ c .before .before .before .before .before .before .before .before .before .before .before .before .before .before .before .path .given .1,
-      sym (c .before .before .before .before .before .before .before .before .before .before .before .before .before .maybe2 .ensures) ∙ c .before .before .before .before .before .before .before .before .before .before .before .credential .given .1,
-      sym (c .before .before .before .before .before .before .before .before .before .maybe3 .ensures) ∙ c .before .before .before .before .before .before .before .signature .given .1,
-      sym (c .before .before .before .before .before .maybe4 .ensures) ∙ c .before .before .before .key .given .1,
+      sym (controls .before .before .need .ensures) ∙ controls .controls .given .1,
+      sym (target .before .before .need2 .ensures) ∙ target .target .given .1,
+      sym (validate .before .before .need3 .ensures) ∙ validate .validate .given .1,
+      sym (entry .before .before .maybe .ensures) ∙ entry .entry .given .1,
+      sym (path .before .before .need4 .ensures) ∙ path .path .given .1,
+      sym (credential .before .before .maybe2 .ensures) ∙ credential .credential .given .1,
+      sym (signature .before .before .maybe3 .ensures) ∙ signature .signature .given .1,
+      sym (key .before .before .maybe4 .ensures) ∙ key .key .given .1,
       ne-eqb _ _ (c .if1 .taken),
     )
 
 head-requires : tie.Need-head-requires
-head-requires c κs = c .before .before .before .before .before .before .before .before .before .before .before .before .before .before .before .before .before .before .before .before .before .before .before .before .before .before .before .before .before .before .before .before .before .before .before .pre
+head-requires c κs =
+    let credential = c .before .before .before .before .before .before .before .before .before .before .before in
+    let validate = credential .before .before .before .before .before .before .before .before .before .before .before .before in
+    let start = validate .before .before .before .before .before .before .before .before .before .before .before .before in
+    start .pre
 
 flag-requires : tie.Need-flag-requires
 flag-requires c κs = search needs
@@ -195,16 +235,25 @@ byte-from-requires-2 c κs = search needs
 returns-10 : tie.Need-returns-10
 unfolding shown fieldsAs joined sized placesAt
 returns-10 c =
+    let passed = c .before .before .before .before .before in
+    let key = passed .before .before .before in
+    let signature = key .before .before .before .before in
+    let credential = signature .before .before .before .before in
+    let path = credential .before .before .before .before in
+    let entry = path .before .before .before .before in
+    let validate = entry .before .before .before .before in
+    let target = validate .before .before .before .before in
+    let controls = target .before .before .before .before in
     rw (
-      sym (c .before .before .before .before .before .before .before .before .before .before .before .before .before .before .before .before .before .before .before .before .before .before .before .before .before .before .before .before .before .before .before .before .before .before .before .before .before .before .need .ensures) ∙ c .before .before .before .before .before .before .before .before .before .before .before .before .before .before .before .before .before .before .before .before .before .before .before .before .before .before .before .before .before .before .before .before .before .before .before .before .controls .given .1,
-      sym (c .before .before .before .before .before .before .before .before .before .before .before .before .before .before .before .before .before .before .before .before .before .before .before .before .before .before .before .before .before .before .before .before .before .before .need2 .ensures) ∙ c .before .before .before .before .before .before .before .before .before .before .before .before .before .before .before .before .before .before .before .before .before .before .before .before .before .before .before .before .before .before .before .before .target .given .1,
-      sym (c .before .before .before .before .before .before .before .before .before .before .before .before .before .before .before .before .before .before .before .before .before .before .before .before .before .before .before .before .before .before .need3 .ensures) ∙ c .before .before .before .before .before .before .before .before .before .before .before .before .before .before .before .before .before .before .before .before .before .before .before .before .before .before .before .before .validate .given .1,
-      sym (c .before .before .before .before .before .before .before .before .before .before .before .before .before .before .before .before .before .before .before .before .before .before .before .before .before .before .maybe .ensures) ∙ c .before .before .before .before .before .before .before .before .before .before .before .before .before .before .before .before .before .before .before .before .before .before .before .before .entry .given .1,
-      sym (c .before .before .before .before .before .before .before .before .before .before .before .before .before .before .before .before .before .before .before .before .before .before .need4 .ensures) ∙ c .before .before .before .before .before .before .before .before .before .before .before .before .before .before .before .before .before .before .before .before .path .given .1,
-      sym (c .before .before .before .before .before .before .before .before .before .before .before .before .before .before .before .before .before .before .maybe2 .ensures) ∙ c .before .before .before .before .before .before .before .before .before .before .before .before .before .before .before .before .credential .given .1,
-      sym (c .before .before .before .before .before .before .before .before .before .before .before .before .before .before .maybe3 .ensures) ∙ c .before .before .before .before .before .before .before .before .before .before .before .before .signature .given .1,
-      sym (c .before .before .before .before .before .before .before .before .before .before .maybe4 .ensures) ∙ c .before .before .before .before .before .before .before .before .key .given .1,
-      eq-eqb _ _ (c .before .before .before .before .before .if1 .left),
+      sym (controls .before .before .need .ensures) ∙ controls .controls .given .1,
+      sym (target .before .before .need2 .ensures) ∙ target .target .given .1,
+      sym (validate .before .before .need3 .ensures) ∙ validate .validate .given .1,
+      sym (entry .before .before .maybe .ensures) ∙ entry .entry .given .1,
+      sym (path .before .before .need4 .ensures) ∙ path .path .given .1,
+      sym (credential .before .before .maybe2 .ensures) ∙ credential .credential .given .1,
+      sym (signature .before .before .maybe3 .ensures) ∙ signature .signature .given .1,
+      sym (key .before .before .maybe4 .ensures) ∙ key .key .given .1,
+      eq-eqb _ _ (passed .if1 .left),
       c .before .before .before .before .head .ensures,
       c .before .before .before .flag .ensures,
       c .before .before .precision .ensures,

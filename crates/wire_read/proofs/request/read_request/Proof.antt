@@ -1,4 +1,5 @@
--- `wire_read::request::read_request` meets its contract: each field that is found, and the first that is not, is the definition's own step. Assumes nothing.
+-- `wire_read::request::read_request` meets its contract: each field that is found, and the first that is not, is the definition's own step.
+-- Assumes nothing.
 use borrow.Author.Tests.{eq-eqb, ne-eqb, not-true, not-false}
 use denote.Ref.{now}
 use mathlib.Core.Path.{sym, _∙_}
@@ -54,9 +55,11 @@ enum-told-3 c = search needs
 returns-3 : tie.Need-returns-3
 unfolding shown fieldsAs joined sized placesAt
 returns-3 c =
+    let split = c .before .before .before .before in
+    let flags = split .before .before .before .before in
     rw (
-      sym (c .before .before .before .before .before .before .before .before .before .before .maybe .ensures) ∙ c .before .before .before .before .before .before .before .before .flags .given .1,
-      sym (c .before .before .before .before .before .before .maybe2 .ensures) ∙ c .before .before .before .before .split .given .1,
+      sym (flags .before .before .maybe .ensures) ∙ flags .flags .given .1,
+      sym (split .before .before .maybe2 .ensures) ∙ split .split .given .1,
       sym (c .before .before .need .ensures) ∙ c .enum-told3 .given .1,
     )
 
@@ -72,10 +75,13 @@ enum-told-4 c = search needs
 returns-4 : tie.Need-returns-4
 unfolding shown fieldsAs joined sized placesAt
 returns-4 c =
+    let nonce = c .before .before .before .before in
+    let split = nonce .before .before .before .before in
+    let flags = split .before .before .before .before in
     rw (
-      sym (c .before .before .before .before .before .before .before .before .before .before .before .before .before .before .maybe .ensures) ∙ c .before .before .before .before .before .before .before .before .before .before .before .before .flags .given .1,
-      sym (c .before .before .before .before .before .before .before .before .before .before .maybe2 .ensures) ∙ c .before .before .before .before .before .before .before .before .split .given .1,
-      sym (c .before .before .before .before .before .before .need .ensures) ∙ c .before .before .before .before .nonce .given .1,
+      sym (flags .before .before .maybe .ensures) ∙ flags .flags .given .1,
+      sym (split .before .before .maybe2 .ensures) ∙ split .split .given .1,
+      sym (nonce .before .before .need .ensures) ∙ nonce .nonce .given .1,
       sym (c .before .before .need2 .ensures) ∙ c .enum-told4 .given .1,
     )
 
@@ -91,11 +97,15 @@ enum-told-5 c = search needs
 returns-5 : tie.Need-returns-5
 unfolding shown fieldsAs joined sized placesAt
 returns-5 c =
+    let keys = c .before .before .before .before in
+    let nonce = keys .before .before .before .before in
+    let split = nonce .before .before .before .before in
+    let flags = split .before .before .before .before in
     rw (
-      sym (c .before .before .before .before .before .before .before .before .before .before .before .before .before .before .before .before .before .before .maybe .ensures) ∙ c .before .before .before .before .before .before .before .before .before .before .before .before .before .before .before .before .flags .given .1,
-      sym (c .before .before .before .before .before .before .before .before .before .before .before .before .before .before .maybe2 .ensures) ∙ c .before .before .before .before .before .before .before .before .before .before .before .before .split .given .1,
-      sym (c .before .before .before .before .before .before .before .before .before .before .need .ensures) ∙ c .before .before .before .before .before .before .before .before .nonce .given .1,
-      sym (c .before .before .before .before .before .before .need2 .ensures) ∙ c .before .before .before .before .keys .given .1,
+      sym (flags .before .before .maybe .ensures) ∙ flags .flags .given .1,
+      sym (split .before .before .maybe2 .ensures) ∙ split .split .given .1,
+      sym (nonce .before .before .need .ensures) ∙ nonce .nonce .given .1,
+      sym (keys .before .before .need2 .ensures) ∙ keys .keys .given .1,
       sym (c .before .before .maybe3 .ensures) ∙ c .enum-told5 .given .1,
     )
 
@@ -111,12 +121,17 @@ enum-told-6 c = search needs
 returns-6 : tie.Need-returns-6
 unfolding shown fieldsAs joined sized placesAt
 returns-6 c =
+    let credential = c .before .before .before .before in
+    let keys = credential .before .before .before .before in
+    let nonce = keys .before .before .before .before in
+    let split = nonce .before .before .before .before in
+    let flags = split .before .before .before .before in
     rw (
-      sym (c .before .before .before .before .before .before .before .before .before .before .before .before .before .before .before .before .before .before .before .before .before .before .maybe .ensures) ∙ c .before .before .before .before .before .before .before .before .before .before .before .before .before .before .before .before .before .before .before .before .flags .given .1,
-      sym (c .before .before .before .before .before .before .before .before .before .before .before .before .before .before .before .before .before .before .maybe2 .ensures) ∙ c .before .before .before .before .before .before .before .before .before .before .before .before .before .before .before .before .split .given .1,
-      sym (c .before .before .before .before .before .before .before .before .before .before .before .before .before .before .need .ensures) ∙ c .before .before .before .before .before .before .before .before .before .before .before .before .nonce .given .1,
-      sym (c .before .before .before .before .before .before .before .before .before .before .need2 .ensures) ∙ c .before .before .before .before .before .before .before .before .keys .given .1,
-      sym (c .before .before .before .before .before .before .maybe3 .ensures) ∙ c .before .before .before .before .credential .given .1,
+      sym (flags .before .before .maybe .ensures) ∙ flags .flags .given .1,
+      sym (split .before .before .maybe2 .ensures) ∙ split .split .given .1,
+      sym (nonce .before .before .need .ensures) ∙ nonce .nonce .given .1,
+      sym (keys .before .before .need2 .ensures) ∙ keys .keys .given .1,
+      sym (credential .before .before .maybe3 .ensures) ∙ credential .credential .given .1,
       sym (c .before .before .maybe4 .ensures) ∙ c .enum-told6 .given .1,
     )
 
@@ -132,44 +147,68 @@ enum-told-7 c = search needs
 returns-7 : tie.Need-returns-7
 unfolding shown fieldsAs joined sized placesAt
 returns-7 c =
+    let signature = c .before .before .before .before in
+    let credential = signature .before .before .before .before in
+    let keys = credential .before .before .before .before in
+    let nonce = keys .before .before .before .before in
+    let split = nonce .before .before .before .before in
+    let flags = split .before .before .before .before in
     rw (
-      sym (c .before .before .before .before .before .before .before .before .before .before .before .before .before .before .before .before .before .before .before .before .before .before .before .before .before .before .maybe .ensures) ∙ c .before .before .before .before .before .before .before .before .before .before .before .before .before .before .before .before .before .before .before .before .before .before .before .before .flags .given .1,
-      sym (c .before .before .before .before .before .before .before .before .before .before .before .before .before .before .before .before .before .before .before .before .before .before .maybe2 .ensures) ∙ c .before .before .before .before .before .before .before .before .before .before .before .before .before .before .before .before .before .before .before .before .split .given .1,
-      sym (c .before .before .before .before .before .before .before .before .before .before .before .before .before .before .before .before .before .before .need .ensures) ∙ c .before .before .before .before .before .before .before .before .before .before .before .before .before .before .before .before .nonce .given .1,
-      sym (c .before .before .before .before .before .before .before .before .before .before .before .before .before .before .need2 .ensures) ∙ c .before .before .before .before .before .before .before .before .before .before .before .before .keys .given .1,
-      sym (c .before .before .before .before .before .before .before .before .before .before .maybe3 .ensures) ∙ c .before .before .before .before .before .before .before .before .credential .given .1,
-      sym (c .before .before .before .before .before .before .maybe4 .ensures) ∙ c .before .before .before .before .signature .given .1,
+      sym (flags .before .before .maybe .ensures) ∙ flags .flags .given .1,
+      sym (split .before .before .maybe2 .ensures) ∙ split .split .given .1,
+      sym (nonce .before .before .need .ensures) ∙ nonce .nonce .given .1,
+      sym (keys .before .before .need2 .ensures) ∙ keys .keys .given .1,
+      sym (credential .before .before .maybe3 .ensures) ∙ credential .credential .given .1,
+      sym (signature .before .before .maybe4 .ensures) ∙ signature .signature .given .1,
       sym (c .before .before .maybe5 .ensures) ∙ c .enum-told7 .given .1,
     )
 
 returns-8 : tie.Need-returns-8
 unfolding shown fieldsAs joined sized placesAt
 returns-8 c =
+    let key = c .before .before .before in
+    let signature = key .before .before .before .before in
+    let credential = signature .before .before .before .before in
+    let keys = credential .before .before .before .before in
+    let nonce = keys .before .before .before .before in
+    let split = nonce .before .before .before .before in
+    let flags = split .before .before .before .before in
     rw (
-      sym (c .before .before .before .before .before .before .before .before .before .before .before .before .before .before .before .before .before .before .before .before .before .before .before .before .before .before .before .before .before .maybe .ensures) ∙ c .before .before .before .before .before .before .before .before .before .before .before .before .before .before .before .before .before .before .before .before .before .before .before .before .before .before .before .flags .given .1,
-      sym (c .before .before .before .before .before .before .before .before .before .before .before .before .before .before .before .before .before .before .before .before .before .before .before .before .before .maybe2 .ensures) ∙ c .before .before .before .before .before .before .before .before .before .before .before .before .before .before .before .before .before .before .before .before .before .before .before .split .given .1,
-      sym (c .before .before .before .before .before .before .before .before .before .before .before .before .before .before .before .before .before .before .before .before .before .need .ensures) ∙ c .before .before .before .before .before .before .before .before .before .before .before .before .before .before .before .before .before .before .before .nonce .given .1,
-      sym (c .before .before .before .before .before .before .before .before .before .before .before .before .before .before .before .before .before .need2 .ensures) ∙ c .before .before .before .before .before .before .before .before .before .before .before .before .before .before .before .keys .given .1,
-      sym (c .before .before .before .before .before .before .before .before .before .before .before .before .before .maybe3 .ensures) ∙ c .before .before .before .before .before .before .before .before .before .before .before .credential .given .1,
-      sym (c .before .before .before .before .before .before .before .before .before .maybe4 .ensures) ∙ c .before .before .before .before .before .before .before .signature .given .1,
-      sym (c .before .before .before .before .before .maybe5 .ensures) ∙ c .before .before .before .key .given .1,
+      sym (flags .before .before .maybe .ensures) ∙ flags .flags .given .1,
+      sym (split .before .before .maybe2 .ensures) ∙ split .split .given .1,
+      sym (nonce .before .before .need .ensures) ∙ nonce .nonce .given .1,
+      sym (keys .before .before .need2 .ensures) ∙ keys .keys .given .1,
+      sym (credential .before .before .maybe3 .ensures) ∙ credential .credential .given .1,
+      sym (signature .before .before .maybe4 .ensures) ∙ signature .signature .given .1,
+      sym (key .before .before .maybe5 .ensures) ∙ key .key .given .1,
       ne-eqb _ _ (c .if1 .taken),
     )
 
 is-whole-requires : tie.Need-is-whole-requires
-is-whole-requires c κs = maybe-four (now (c .before .before .before .before .before .before .before .before .before .before .before .before .before .before .before .before .before .before .before .before .before .before .before .before .before .before .before .before .before .before .before .args .d)) _ _ _ (Sized 4) sized-four _ _ (sym (c .before .before .before .before .before .before .before .before .before .before .before .before .before .before .before .before .before .before .before .before .before .before .before .before .before .maybe2 .ensures) ∙ c .before .before .before .before .before .before .before .before .before .before .before .before .before .before .before .before .before .before .before .before .before .before .before .split .given .1)
+is-whole-requires c κs =
+    let credential = c .before .before .before .before .before .before .before .before .before .before .before in
+    let split = credential .before .before .before .before .before .before .before .before .before .before .before .before in
+    let start = split .before .before .before .before .before .before .before .before in
+    maybe-four (now (start .args .d)) _ _ _ (Sized 4) sized-four _ _ (sym (split .before .before .maybe2 .ensures) ∙ split .split .given .1)
 
 returns-9 : tie.Need-returns-9
 unfolding shown fieldsAs joined sized placesAt
 returns-9 c =
+    let key = c .before .before .before .before .before in
+    let signature = key .before .before .before .before in
+    let credential = signature .before .before .before .before in
+    let keys = credential .before .before .before .before in
+    let nonce = keys .before .before .before .before in
+    let split = nonce .before .before .before .before in
+    let flags = split .before .before .before .before in
     rw (
-      sym (c .before .before .before .before .before .before .before .before .before .before .before .before .before .before .before .before .before .before .before .before .before .before .before .before .before .before .before .before .before .before .before .maybe .ensures) ∙ c .before .before .before .before .before .before .before .before .before .before .before .before .before .before .before .before .before .before .before .before .before .before .before .before .before .before .before .before .before .flags .given .1,
-      sym (c .before .before .before .before .before .before .before .before .before .before .before .before .before .before .before .before .before .before .before .before .before .before .before .before .before .before .before .maybe2 .ensures) ∙ c .before .before .before .before .before .before .before .before .before .before .before .before .before .before .before .before .before .before .before .before .before .before .before .before .before .split .given .1,
-      sym (c .before .before .before .before .before .before .before .before .before .before .before .before .before .before .before .before .before .before .before .before .before .before .before .need .ensures) ∙ c .before .before .before .before .before .before .before .before .before .before .before .before .before .before .before .before .before .before .before .before .before .nonce .given .1,
-      sym (c .before .before .before .before .before .before .before .before .before .before .before .before .before .before .before .before .before .before .before .need2 .ensures) ∙ c .before .before .before .before .before .before .before .before .before .before .before .before .before .before .before .before .before .keys .given .1,
-      sym (c .before .before .before .before .before .before .before .before .before .before .before .before .before .before .before .maybe3 .ensures) ∙ c .before .before .before .before .before .before .before .before .before .before .before .before .before .credential .given .1,
-      sym (c .before .before .before .before .before .before .before .before .before .before .before .maybe4 .ensures) ∙ c .before .before .before .before .before .before .before .before .before .signature .given .1,
-      sym (c .before .before .before .before .before .before .before .maybe5 .ensures) ∙ c .before .before .before .before .before .key .given .1,
+      sym (flags .before .before .maybe .ensures) ∙ flags .flags .given .1,
+      sym (split .before .before .maybe2 .ensures) ∙ split .split .given .1,
+      sym (nonce .before .before .need .ensures) ∙ nonce .nonce .given .1,
+      sym (keys .before .before .need2 .ensures) ∙ keys .keys .given .1,
+      sym (credential .before .before .maybe3 .ensures) ∙ credential .credential .given .1,
+      sym (signature .before .before .maybe4 .ensures) ∙ signature .signature .given .1,
+      sym (key .before .before .maybe5 .ensures) ∙ key .key .given .1,
       eq-eqb _ _ (c .before .before .if1 .left),
       split-value,
       sym (c .before .is-whole .ensures) ∙ not-true _ (c .if2 .taken),
@@ -182,20 +221,32 @@ is-here-requires-2 : tie.Need-is-here-requires-2
 is-here-requires-2 c κs = search needs
 
 head-requires : tie.Need-head-requires
-head-requires c κs = c .before .before .before .before .before .before .before .before .before .before .before .before .before .before .before .before .before .before .before .before .before .before .before .before .before .before .before .before .before .before .before .before .before .before .before .pre
+head-requires c κs =
+    let signature = c .before .before .before .before .before .before .before .before .before .before .before in
+    let nonce = signature .before .before .before .before .before .before .before .before .before .before .before .before in
+    let start = nonce .before .before .before .before .before .before .before .before .before .before .before .before in
+    start .pre
 
 returns-10 : tie.Need-returns-10
 unfolding shown fieldsAs joined sized placesAt
 returns-10 c =
+    let passed = c .before .before .before .before .before in
+    let key = passed .before .before .before in
+    let signature = key .before .before .before .before in
+    let credential = signature .before .before .before .before in
+    let keys = credential .before .before .before .before in
+    let nonce = keys .before .before .before .before in
+    let split = nonce .before .before .before .before in
+    let flags = split .before .before .before .before in
     rw (
-      sym (c .before .before .before .before .before .before .before .before .before .before .before .before .before .before .before .before .before .before .before .before .before .before .before .before .before .before .before .before .before .before .before .before .before .before .maybe .ensures) ∙ c .before .before .before .before .before .before .before .before .before .before .before .before .before .before .before .before .before .before .before .before .before .before .before .before .before .before .before .before .before .before .before .before .flags .given .1,
-      sym (c .before .before .before .before .before .before .before .before .before .before .before .before .before .before .before .before .before .before .before .before .before .before .before .before .before .before .before .before .before .before .maybe2 .ensures) ∙ c .before .before .before .before .before .before .before .before .before .before .before .before .before .before .before .before .before .before .before .before .before .before .before .before .before .before .before .before .split .given .1,
-      sym (c .before .before .before .before .before .before .before .before .before .before .before .before .before .before .before .before .before .before .before .before .before .before .before .before .before .before .need .ensures) ∙ c .before .before .before .before .before .before .before .before .before .before .before .before .before .before .before .before .before .before .before .before .before .before .before .before .nonce .given .1,
-      sym (c .before .before .before .before .before .before .before .before .before .before .before .before .before .before .before .before .before .before .before .before .before .before .need2 .ensures) ∙ c .before .before .before .before .before .before .before .before .before .before .before .before .before .before .before .before .before .before .before .before .keys .given .1,
-      sym (c .before .before .before .before .before .before .before .before .before .before .before .before .before .before .before .before .before .before .maybe3 .ensures) ∙ c .before .before .before .before .before .before .before .before .before .before .before .before .before .before .before .before .credential .given .1,
-      sym (c .before .before .before .before .before .before .before .before .before .before .before .before .before .before .maybe4 .ensures) ∙ c .before .before .before .before .before .before .before .before .before .before .before .before .signature .given .1,
-      sym (c .before .before .before .before .before .before .before .before .before .before .maybe5 .ensures) ∙ c .before .before .before .before .before .before .before .before .key .given .1,
-      eq-eqb _ _ (c .before .before .before .before .before .if1 .left),
+      sym (flags .before .before .maybe .ensures) ∙ flags .flags .given .1,
+      sym (split .before .before .maybe2 .ensures) ∙ split .split .given .1,
+      sym (nonce .before .before .need .ensures) ∙ nonce .nonce .given .1,
+      sym (keys .before .before .need2 .ensures) ∙ keys .keys .given .1,
+      sym (credential .before .before .maybe3 .ensures) ∙ credential .credential .given .1,
+      sym (signature .before .before .maybe4 .ensures) ∙ signature .signature .given .1,
+      sym (key .before .before .maybe5 .ensures) ∙ key .key .given .1,
+      eq-eqb _ _ (passed .if1 .left),
       split-value,
       sym (c .before .before .before .before .is-whole .ensures) ∙ not-false _ (c .before .before .before .if2 .left),
       c .before .before .is-here .ensures,

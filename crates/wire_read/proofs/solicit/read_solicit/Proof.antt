@@ -1,4 +1,5 @@
--- `wire_read::solicit::read_solicit` meets its contract: each field that is found, and the first that is not, is the definition's own step. Assumes nothing.
+-- `wire_read::solicit::read_solicit` meets its contract: each field that is found, and the first that is not, is the definition's own step.
+-- Assumes nothing.
 use borrow.Author.Tests.{eq-eqb, ne-eqb}
 use mathlib.Core.Path.{sym, _∙_}
 use Rattle.wire_fields.specs.Kinds.{joined, sized}
@@ -42,9 +43,11 @@ returns-2 c =
 returns-3 : tie.Need-returns-3
 unfolding shown fieldsAs joined sized placesAt
 returns-3 c =
+    let nonce = c .before .before .before in
+    let entry = nonce .before .before .before .before in
     rw (
-      sym (c .before .before .before .before .before .before .before .before .before .maybe .ensures) ∙ c .before .before .before .before .before .before .before .entry .given .1,
-      sym (c .before .before .before .before .before .need .ensures) ∙ c .before .before .before .nonce .given .1,
+      sym (entry .before .before .maybe .ensures) ∙ entry .entry .given .1,
+      sym (nonce .before .before .need .ensures) ∙ nonce .nonce .given .1,
       ne-eqb _ _ (c .if1 .taken),
     )
 
@@ -54,9 +57,11 @@ head-requires c κs = search needs
 returns-4 : tie.Need-returns-4
 unfolding shown fieldsAs joined sized placesAt
 returns-4 c =
+    let nonce = c .before .before .before .before in
+    let entry = nonce .before .before .before .before in
     rw (
-      sym (c .before .before .before .before .before .before .before .before .before .before .maybe .ensures) ∙ c .before .before .before .before .before .before .before .before .entry .given .1,
-      sym (c .before .before .before .before .before .before .need .ensures) ∙ c .before .before .before .before .nonce .given .1,
+      sym (entry .before .before .maybe .ensures) ∙ entry .entry .given .1,
+      sym (nonce .before .before .need .ensures) ∙ nonce .nonce .given .1,
       eq-eqb _ _ (c .before .if1 .left),
       c .head .ensures,
     )

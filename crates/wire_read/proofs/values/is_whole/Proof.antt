@@ -2,12 +2,14 @@
 use Prim.Native.Nat.{ℕ, _+_, _-_}
 use borrow.Author.Tests.{eq-eqb, ne-eqb}
 use native.Mathlib.Omega.{arith}
+use mathlib.Core.List.{List}
 use mathlib.Core.Path.{sym, ap, subst, _∙_}
 use denote.Ref.{now}
 use lib.Dec.{eqb}
 use lib.ListN.{length}
 use Rattle.wire_fields.specs.Field.{numberAt}
 use Rattle.wire_fields.specs.Reading.{wholeIn, FourAt}
+use Rattle.wire_fields.specs.declared.Part.the-variants.{Here}
 use Rattle.wire_fields.proofs.ShapeLaws.{whole-in}
 use borrow.Author.Needs.{needs}
 use Rattle.wire_read.proofs.values.is_whole.Statement.{statement}
@@ -23,49 +25,48 @@ returns : tie.Need-returns
 unfolding wholeIn
 returns c = rw (c .enum-told .given .1)
 
+-- the part that was lent, and the four bytes at its place
+abbrev d : tie.After-p → List ℕ
+d c = now (c .before .before .before .args .d)
+
+four : (c : tie.After-p) → FourAt (d c) (Here (c .p .given .0 .0) (c .p .given .0 .1 .0))
+four c = subst (FourAt (d c)) (c .p .given .1) (c .before .before .before .pre)
+
 read-u16-requires : tie.Need-read-u16-requires
-read-u16-requires c κs =
-    let f = subst (FourAt (now (c .before .before .before .before .args .d))) (c .before .p .given .1) (c .before .before .before .before .pre) in
-    omega (arith, f .0, f .1)
+read-u16-requires c κs = let f = four (c .before) in omega (arith, f .0, f .1)
 
 cast-if1 : tie.Need-cast-if1
 cast-if1 c = search needs
 
 add-if1 : tie.Need-add-if1
-add-if1 c =
-    let f = subst (FourAt (now (c .before .before .before .before .before .args .d))) (c .before .before .p .given .1) (c .before .before .before .before .before .pre) in
-    omega (arith, f .1)
+add-if1 c = let f = four (c .before .before) in omega (arith, f .1)
 
 sub-if1 : tie.Need-sub-if1
-sub-if1 c =
-    let f = subst (FourAt (now (c .before .before .before .before .before .args .d))) (c .before .before .p .given .1) (c .before .before .before .before .before .pre) in
-    omega (arith, f .1)
+sub-if1 c = let f = four (c .before .before) in omega (arith, f .1)
 
 returns-2 : tie.Need-returns-2
 returns-2 c =
-    let d = now (c .before .before .before .before .before .before .args .d) in
-    let f = subst (FourAt d) (c .before .before .before .p .given .1) (c .before .before .before .before .before .before .pre) in
-    let s = c .before .before .before .p .given .0 .0 in
-    let l = c .before .before .before .p .given .0 .1 .0 in
-    rw (c .before .before .before .p .given .1, whole-in d s l (f .1) (f .0), ne-eqb (numberAt s 2 d) (length d - (s + l)) (λ q. c .if1 .taken (c .before .read-u16 .ensures ∙ q)))
+    let k = c .before .before .before in
+    let f = four k in
+    let s = k .p .given .0 .0 in
+    let l = k .p .given .0 .1 .0 in
+    let n = ne-eqb (numberAt s 2 (d k)) (length (d k) - (s + l)) (λ q. c .if1 .taken (c .before .read-u16 .ensures ∙ q)) in
+    rw (k .p .given .1, whole-in (d k) s l (f .1) (f .0), n)
 
 add-read-u16 : tie.Need-add-read-u16
-add-read-u16 c =
-    let f = subst (FourAt (now (c .before .before .before .before .before .before .args .d))) (c .before .before .before .p .given .1) (c .before .before .before .before .before .before .pre) in
-    omega (arith, f .0, f .1)
+add-read-u16 c = let f = four (c .before .before .before) in omega (arith, f .0, f .1)
 
 read-u16-requires-2 : tie.Need-read-u16-requires-2
-read-u16-requires-2 c κs =
-    let f = subst (FourAt (now (c .before .before .before .before .before .before .args .d))) (c .before .before .before .p .given .1) (c .before .before .before .before .before .before .pre) in
-    omega (arith, f .0, f .1)
+read-u16-requires-2 c κs = let f = four (c .before .before .before) in omega (arith, f .0, f .1)
 
 returns-3 : tie.Need-returns-3
 returns-3 c =
-    let d = now (c .before .before .before .before .before .before .before .args .d) in
-    let f = subst (FourAt d) (c .before .before .before .before .p .given .1) (c .before .before .before .before .before .before .before .pre) in
-    let s = c .before .before .before .before .p .given .0 .0 in
-    let l = c .before .before .before .before .p .given .0 .1 .0 in
-    rw (c .before .before .before .before .p .given .1, whole-in d s l (f .1) (f .0), eq-eqb (numberAt s 2 d) (length d - (s + l)) (sym (c .before .before .read-u16 .ensures) ∙ c .before .if1 .left))
+    let k = c .before .before .before .before in
+    let f = four k in
+    let s = k .p .given .0 .0 in
+    let l = k .p .given .0 .1 .0 in
+    let e = eq-eqb (numberAt s 2 (d k)) (length (d k) - (s + l)) (sym (c .before .before .read-u16 .ensures) ∙ c .before .if1 .left) in
+    rw (k .p .given .1, whole-in (d k) s l (f .1) (f .0), e)
     (ap (λ (n : ℕ). eqb n 0) (c .read-u162 .ensures))
 
 pub is-whole-spec : {M : Type 1} → statement M

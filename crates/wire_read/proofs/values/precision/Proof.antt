@@ -40,7 +40,8 @@ returns-2 : tie.Need-returns-2
 unfolding precisionAt
 returns-2 c =
     let a = c .before .before .before .before .before .args in
-    rw (eq-eqb (getD (now (a .d)) (a .start + 4) 0) 8 (sym (c .before .before .before .byte-from .ensures) ∙ c .before .before .if1 .left), sym (c .before .byte-from2 .ensures), sym (c .byte-from3 .ensures))
+    let e = sym (c .before .before .before .byte-from .ensures) ∙ c .before .before .if1 .left in
+    rw (eq-eqb (getD (now (a .d)) (a .start + 4) 0) 8 e, sym (c .before .byte-from2 .ensures), sym (c .byte-from3 .ensures))
 
 pub precision-spec : {M : Type 1} → statement M
 precision-spec =

@@ -21,7 +21,9 @@ is-formed-requires : tie.Need-is-formed-requires
 is-formed-requires c κs = search needs
 
 returns-3 : tie.Need-returns-3
-returns-3 c = let a = c .before .before .before .before .args in rw (le-leb (a .start + 100) (length (now (a .s))) (omega arith)) (c .is-formed .ensures)
+returns-3 c =
+    let a = c .before .before .before .before .args in
+    rw (le-leb (a .start + 100) (length (now (a .s))) (omega arith)) (c .is-formed .ensures)
 
 pub formed-in-spec : {M : Type 1} → statement M
 formed-in-spec = tie.close (tie.spec returns sub-if2 returns-2 is-formed-requires returns-3)

@@ -26,13 +26,19 @@ ok-from-requires-3 : tie.Need-ok-from-requires-3
 ok-from-requires-3 c κs = search needs
 
 returns-2 : tie.Need-returns-2
-returns-2 c = rw (not-false (c .before .before .before .before .before .before .before .before .args .p .there) (c .before .before .before .if1 .left), c .before .enum-told .given .1) (c .ok-from .ensures)
+returns-2 c =
+    let start = c .before .before .before .before .before .before .before .before in
+    rw (not-false (start .args .p .there) (c .before .before .before .if1 .left), c .before .enum-told .given .1) (c .ok-from .ensures)
 
 returns-3 : tie.Need-returns-3
-returns-3 c = rw (not-false (c .before .before .before .before .before .before .before .before .args .p .there) (c .before .before .before .if1 .left), c .before .enum-told2 .given .1) (c .ok-from2 .ensures)
+returns-3 c =
+    let start = c .before .before .before .before .before .before .before .before in
+    rw (not-false (start .args .p .there) (c .before .before .before .if1 .left), c .before .enum-told2 .given .1) (c .ok-from2 .ensures)
 
 returns-4 : tie.Need-returns-4
-returns-4 c = rw (not-false (c .before .before .before .before .before .before .before .before .args .p .there) (c .before .before .before .if1 .left), c .before .enum-told3 .given .1) (c .ok-from3 .ensures)
+returns-4 c =
+    let start = c .before .before .before .before .before .before .before .before in
+    rw (not-false (start .args .p .there) (c .before .before .before .if1 .left), c .before .enum-told3 .given .1) (c .ok-from3 .ensures)
 
 pub piece-ok-spec : {M : Type 1} → statement M
 piece-ok-spec =

@@ -21,7 +21,9 @@ has-shape-requires : tie.Need-has-shape-requires
 has-shape-requires c κs = search needs
 
 returns-3 : tie.Need-returns-3
-returns-3 c = let a = c .before .before .before .before .args in rw (le-leb (a .start + a .len) (length (now (a .s))) (omega arith)) (c .has-shape .ensures)
+returns-3 c =
+    let a = c .before .before .before .before .args in
+    rw (le-leb (a .start + a .len) (length (now (a .s))) (omega arith)) (c .has-shape .ensures)
 
 pub shaped-in-spec : {M : Type 1} → statement M
 shaped-in-spec = tie.close (tie.spec returns sub-if2 returns-2 has-shape-requires returns-3)

@@ -34,12 +34,14 @@ same-length c = search needs
 
 returns : tie.Need-returns
 returns c =
-    let a = c .before .before .before .before .before .before .before .before .before .before .before .before .before .before .args in
+    let copy-piece = c .before .before .before .before .before .before in
+    let start = copy-piece .before .before .before .before .before .before .before .before in
+    let a = start .args in
     let v = part (a .start) (a .len) (now (a .s)) in
-    let l : a .len ≡ length v = sym (length-part (a .start) (a .len) (now (a .s)) (c .before .before .before .before .before .before .before .before .before .before .before .before .before .before .pre .0)) in
-    let h : endOf (a .at) (a .padded) (length v) ≤ length (now (a .out)) = rw l at (c .before .before .before .before .before .before .before .before .before .before .before .before .before .before .pre .1 .1) in (
+    let l : a .len ≡ length v = sym (length-part (a .start) (a .len) (now (a .s)) (start .pre .0)) in
+    let h : endOf (a .at) (a .padded) (length v) ≤ length (now (a .out)) = rw l at (start .pre .1 .1) in (
       c .before .before .put-gap .ensures .0 ∙ ap (endOf (a .at) (a .padded)) l,
-      rw (c .before .before .put-gap .ensures .1, c .before .before .before .before .before .before .copy-piece .ensures, c .before .before .before .before .before .before .before .before .before .before .put-head .ensures)
+      rw (c .before .before .put-gap .ensures .1, copy-piece .copy-piece .ensures, copy-piece .before .before .before .before .put-head .ensures)
           (put-field (now (a .out)) (a .at) (a .number) (a .padded) v h (a .len) l),
     )
 

@@ -1,4 +1,5 @@
--- `wire_write::field::put_entry` meets its contract: head, entry and padding are the field (put-field), and the count gives the length. Assumes nothing.
+-- `wire_write::field::put_entry` meets its contract: head, entry and padding are the field (put-field), and the count gives the length.
+-- Assumes nothing.
 use Prim.Native.Nat.{_+_, _*_, _≤_}
 use native.Mathlib.Omega.{arith}
 use mathlib.Core.Path.{sym, ap, _∙_}
@@ -68,46 +69,50 @@ add-put-entry c = search needs
 
 put-entry-requires : tie.Need-put-entry-requires
 put-entry-requires c κs =
-    let a = c .before .before .before .before .before .before .before .before .args in
+    let start = c .before .before .before .before .before .before .before .before in
+    let a = start .args in
     let s = now (a .s) in
     let n = getD s (a .start + 34) 0 in
-    let w = record-at (a .start) s (c .before .before .before .before .before .before .before .before .pre .0) (c .before .before .before .before .before .before .before .before .pre .1 .0) in
+    let w = record-at (a .start) s (start .pre .0) (start .pre .1 .0) in
     let m = w .1 in
-    let l = entry-length (a .major) (a .minor) (a .start) s (c .before .before .before .before .before .before .before .before .pre .0) m in
-    let room = c .before .before .before .before .before .before .before .before .pre .1 .1 in
-    (c .before .before .before .before .before .before .before .before .pre .0, (c .before .before .before .before .before .before .before .before .pre .1 .0, omega arith))
+    let l = entry-length (a .major) (a .minor) (a .start) s (start .pre .0) m in
+    let room = start .pre .1 .1 in
+    (start .pre .0, (start .pre .1 .0, omega arith))
 
 add-put-gap : tie.Need-add-put-gap
 add-put-gap c =
-    let a = c .before .before .before .before .before .before .before .before .before .before .before .before .args in
+    let start = c .before .before .before .before .before .before .before .before .before .before .before .before in
+    let a = start .args in
     let s = now (a .s) in
     let n = getD s (a .start + 34) 0 in
-    let w = record-at (a .start) s (c .before .before .before .before .before .before .before .before .before .before .before .before .pre .0) (c .before .before .before .before .before .before .before .before .before .before .before .before .pre .1 .0) in
+    let w = record-at (a .start) s (start .pre .0) (start .pre .1 .0) in
     let m = w .1 in
-    let l = entry-length (a .major) (a .minor) (a .start) s (c .before .before .before .before .before .before .before .before .before .before .before .before .pre .0) m in
-    let room = c .before .before .before .before .before .before .before .before .before .before .before .before .pre .1 .1 in
+    let l = entry-length (a .major) (a .minor) (a .start) s (start .pre .0) m in
+    let room = start .pre .1 .1 in
     omega arith
 
 add-put-gap-2 : tie.Need-add-put-gap-2
 add-put-gap-2 c =
-    let a = c .before .before .before .before .before .before .before .before .before .before .before .before .args in
+    let start = c .before .before .before .before .before .before .before .before .before .before .before .before in
+    let a = start .args in
     let s = now (a .s) in
     let n = getD s (a .start + 34) 0 in
-    let w = record-at (a .start) s (c .before .before .before .before .before .before .before .before .before .before .before .before .pre .0) (c .before .before .before .before .before .before .before .before .before .before .before .before .pre .1 .0) in
+    let w = record-at (a .start) s (start .pre .0) (start .pre .1 .0) in
     let m = w .1 in
-    let l = entry-length (a .major) (a .minor) (a .start) s (c .before .before .before .before .before .before .before .before .before .before .before .before .pre .0) m in
-    let room = c .before .before .before .before .before .before .before .before .before .before .before .before .pre .1 .1 in
+    let l = entry-length (a .major) (a .minor) (a .start) s (start .pre .0) m in
+    let room = start .pre .1 .1 in
     omega arith
 
 put-gap-requires : tie.Need-put-gap-requires
 put-gap-requires c κs =
-    let a = c .before .before .before .before .before .before .before .before .before .before .before .before .args in
+    let start = c .before .before .before .before .before .before .before .before .before .before .before .before in
+    let a = start .args in
     let s = now (a .s) in
     let n = getD s (a .start + 34) 0 in
-    let w = record-at (a .start) s (c .before .before .before .before .before .before .before .before .before .before .before .before .pre .0) (c .before .before .before .before .before .before .before .before .before .before .before .before .pre .1 .0) in
+    let w = record-at (a .start) s (start .pre .0) (start .pre .1 .0) in
     let m = w .1 in
-    let l = entry-length (a .major) (a .minor) (a .start) s (c .before .before .before .before .before .before .before .before .before .before .before .before .pre .0) m in
-    let room = c .before .before .before .before .before .before .before .before .before .before .before .before .pre .1 .1 in
+    let l = entry-length (a .major) (a .minor) (a .start) s (start .pre .0) m in
+    let room = start .pre .1 .1 in
     let e : endOf (a .at) (a .row .padded) (38 + 16 * n) ≤ length (now (a .out)) = rw l at room in
     omega arith
 
@@ -116,16 +121,18 @@ same-length c = search needs
 
 returns : tie.Need-returns
 returns c =
-    let a = c .before .before .before .before .before .before .before .before .before .before .before .before .before .before .before .args in
+    let put-entry = c .before .before .before .before .before .before in
+    let start = put-entry .before .before .before .before .before .before .before .before .before in
+    let a = start .args in
     let s = now (a .s) in
     let n = getD s (a .start + 34) 0 in
-    let w = record-at (a .start) s (c .before .before .before .before .before .before .before .before .before .before .before .before .before .before .before .pre .0) (c .before .before .before .before .before .before .before .before .before .before .before .before .before .before .before .pre .1 .0) in
+    let w = record-at (a .start) s (start .pre .0) (start .pre .1 .0) in
     let m = w .1 in
-    let l = entry-length (a .major) (a .minor) (a .start) s (c .before .before .before .before .before .before .before .before .before .before .before .before .before .before .before .pre .0) m in
-    let room = c .before .before .before .before .before .before .before .before .before .before .before .before .before .before .before .pre .1 .1 in
+    let l = entry-length (a .major) (a .minor) (a .start) s (start .pre .0) m in
+    let room = start .pre .1 .1 in
     let v = entryOf (a .major) (a .minor) (part (a .start) 100 s) in (
       c .before .before .put-gap .ensures .0 ∙ ap (endOf (a .at) (a .row .padded)) (sym l),
-      rw (c .before .before .put-gap .ensures .1, c .before .before .before .before .before .before .put-entry .ensures, c .before .before .before .before .before .before .before .before .before .before .put-head .ensures)
+      rw (c .before .before .put-gap .ensures .1, put-entry .put-entry .ensures, put-entry .before .before .before .before .put-head .ensures)
           (put-field (now (a .out)) (a .at) (a .row .number) (a .row .padded) v room (38 + 16 * n) (sym l)),
     )
 

@@ -21,10 +21,11 @@ returns c = rw (c .before .before .before .before .if1 .taken) (c .before .befor
 
 put-bytes-requires : tie.Need-put-bytes-requires
 put-bytes-requires c κs =
-    let a = c .before .before .before .before .args in
-    let h = c .before .before .before .before .pre .0 .1 (c .before .if1 .left) in
+    let start = c .before .before .before .before in
+    let a = start .args in
+    let h = start .pre .0 .1 (c .before .if1 .left) in
     let l : length (part (a .p .start) (a .p .len) (now (a .s))) ≡ a .p .len = length-part (a .p .start) (a .p .len) (now (a .s)) h in
-    (h, (rw (c .before .if1 .left, l) at (c .before .before .before .before .pre .1 .1), rw (c .before .if1 .left, l) at (c .before .before .before .before .pre .1 .0)))
+    (h, (rw (c .before .if1 .left, l) at (start .pre .1 .1), rw (c .before .if1 .left, l) at (start .pre .1 .0)))
 
 same-length-2 : tie.Need-same-length-2
 same-length-2 c = search needs

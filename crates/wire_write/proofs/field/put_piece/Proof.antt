@@ -20,10 +20,11 @@ enum-told c = search needs
 put-from-requires : tie.Need-put-from-requires
 unfolding pastOf
 put-from-requires c κs =
-    let a = c .before .before .before .before .before .before .before .before .before .args in
+    let start = c .before .before .before .before .before .before .before .before .before in
+    let a = start .args in
     let t = not-false (a .p .there) (c .before .before .before .if1 .left) in
     let e = c .before .enum-told .given .1 in
-    (rw e at (c .before .before .before .before .before .before .before .before .before .pre .0 t), (rw (t, e) at (c .before .before .before .before .before .before .before .before .before .pre .1 .0), rw e at (c .before .before .before .before .before .before .before .before .before .pre .1 .1 t)))
+    (rw e at (start .pre .0 t), (rw (t, e) at (start .pre .1 .0), rw e at (start .pre .1 .1 t)))
 
 enum-told-2 : tie.Need-enum-told-2
 enum-told-2 c = search needs
@@ -31,10 +32,11 @@ enum-told-2 c = search needs
 put-from-requires-2 : tie.Need-put-from-requires-2
 unfolding pastOf
 put-from-requires-2 c κs =
-    let a = c .before .before .before .before .before .before .before .before .before .args in
+    let start = c .before .before .before .before .before .before .before .before .before in
+    let a = start .args in
     let t = not-false (a .p .there) (c .before .before .before .if1 .left) in
     let e = c .before .enum-told2 .given .1 in
-    (rw e at (c .before .before .before .before .before .before .before .before .before .pre .0 t), (rw (t, e) at (c .before .before .before .before .before .before .before .before .before .pre .1 .0), rw e at (c .before .before .before .before .before .before .before .before .before .pre .1 .1 t)))
+    (rw e at (start .pre .0 t), (rw (t, e) at (start .pre .1 .0), rw e at (start .pre .1 .1 t)))
 
 enum-told-3 : tie.Need-enum-told-3
 enum-told-3 c = search needs
@@ -42,10 +44,11 @@ enum-told-3 c = search needs
 put-from-requires-3 : tie.Need-put-from-requires-3
 unfolding pastOf
 put-from-requires-3 c κs =
-    let a = c .before .before .before .before .before .before .before .before .before .args in
+    let start = c .before .before .before .before .before .before .before .before .before in
+    let a = start .args in
     let t = not-false (a .p .there) (c .before .before .before .if1 .left) in
     let e = c .before .enum-told3 .given .1 in
-    (rw e at (c .before .before .before .before .before .before .before .before .before .pre .0 t), (rw (t, e) at (c .before .before .before .before .before .before .before .before .before .pre .1 .0), rw e at (c .before .before .before .before .before .before .before .before .before .pre .1 .1 t)))
+    (rw e at (start .pre .0 t), (rw (t, e) at (start .pre .1 .0), rw e at (start .pre .1 .1 t)))
 
 same-length : tie.Need-same-length
 same-length c = search needs
@@ -53,7 +56,9 @@ same-length c = search needs
 returns-2 : tie.Need-returns-2
 unfolding partBytes pastOf
 returns-2 c =
-    rw (not-false (c .before .before .before .before .before .before .before .before .before .before .before .before .args .p .there) (c .before .before .before .before .before .before .if1 .left), c .before .before .before .before .enum-told .given .1) (c .before .before .put-from .ensures)
+    let told = c .before .before .before .before in
+    let start = told .before .before .before .before .before .before .before .before in
+    rw (not-false (start .args .p .there) (told .before .before .if1 .left), told .enum-told .given .1) (c .before .before .put-from .ensures)
 
 same-length-2 : tie.Need-same-length-2
 same-length-2 c = search needs
@@ -61,7 +66,9 @@ same-length-2 c = search needs
 returns-3 : tie.Need-returns-3
 unfolding partBytes pastOf
 returns-3 c =
-    rw (not-false (c .before .before .before .before .before .before .before .before .before .before .before .before .args .p .there) (c .before .before .before .before .before .before .if1 .left), c .before .before .before .before .enum-told2 .given .1) (c .before .before .put-from2 .ensures)
+    let told = c .before .before .before .before in
+    let start = told .before .before .before .before .before .before .before .before in
+    rw (not-false (start .args .p .there) (told .before .before .if1 .left), told .enum-told2 .given .1) (c .before .before .put-from2 .ensures)
 
 same-length-3 : tie.Need-same-length-3
 same-length-3 c = search needs
@@ -69,7 +76,9 @@ same-length-3 c = search needs
 returns-4 : tie.Need-returns-4
 unfolding partBytes pastOf
 returns-4 c =
-    rw (not-false (c .before .before .before .before .before .before .before .before .before .before .before .before .args .p .there) (c .before .before .before .before .before .before .if1 .left), c .before .before .before .before .enum-told3 .given .1) (c .before .before .put-from3 .ensures)
+    let told = c .before .before .before .before in
+    let start = told .before .before .before .before .before .before .before .before in
+    rw (not-false (start .args .p .there) (told .before .before .if1 .left), told .enum-told3 .given .1) (c .before .before .put-from3 .ensures)
 
 pub put-piece-spec : {M : Type 1} → statement M
 put-piece-spec =

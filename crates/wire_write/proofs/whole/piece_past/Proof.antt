@@ -1,4 +1,5 @@
--- `wire_write::whole::piece_past` meets its contract, by the slice that the piece is in: the contents have the length that the code counts. Assumes nothing.
+-- `wire_write::whole::piece_past` meets its contract, by the slice that the piece is in: the contents have the length that the code counts.
+-- Assumes nothing.
 use Prim.Native.Nat.{ℕ, min}
 use native.Mathlib.Omega.{arith}
 use borrow.Author.Tests.{not-true, not-false}
@@ -14,7 +15,8 @@ use Rattle.wire_write.proofs.whole.piece_past.Tie as tie
 returns : tie.Need-returns
 unfolding pastOf
 returns c =
-    rw (not-true (c .before .before .before .before .before .args .p .there) (c .if1 .taken)) (omega (arith, c .before .before .before .before .before .pre .1))
+    let start = c .before .before .before .before .before in
+    rw (not-true (start .args .p .there) (c .if1 .taken)) (omega (arith, start .pre .1))
 
 enum-told : tie.Need-enum-told
 enum-told c = search needs

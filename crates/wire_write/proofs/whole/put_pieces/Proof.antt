@@ -14,7 +14,8 @@ use Rattle.wire_write.proofs.whole.put_pieces.Statement.{statement}
 use Rattle.wire_write.proofs.whole.put_pieces.Tie as tie
 
 record Left (out₀ : List ℕ) (major minor : ℕ) (l : Lent) (rows : List Row) (ps : List Piece) (out : List ℕ) (i at : ℕ) : Type 0 where
-  puts : putAll out at (kindsOfRows (drop i rows)) (givensOf major minor l (drop i ps)) ≡ putAll out₀ 12 (kindsOfRows rows) (givensOf major minor l ps)
+  puts : putAll out at (kindsOfRows (drop i rows)) (givensOf major minor l (drop i ps))
+      ≡ putAll out₀ 12 (kindsOfRows rows) (givensOf major minor l ps)
   ends : endAll at (kindsOfRows (drop i rows)) (givensOf major minor l (drop i ps)) ≡ endAll 12 (kindsOfRows rows) (givensOf major minor l ps)
   inside : AllIn l (drop i ps)
   some : i ≤ 9
@@ -43,25 +44,27 @@ array-copy-out-p c = c .before .loop-test .taken
 
 put-piece-requires : tie.Need-put-piece-requires Inv-loop μ-loop
 put-piece-requires c κs =
-    let a = c .before .before .before .before .before .before .before .before .before .args in
+    let start = c .before .before .before .before .before .before .before .before .before in
+    let a = start .args in
     let i = c .before .before .before .before .loop .i in
     let at = c .before .before .before .before .loop .at in
     let v = c .before .before .before .before .loop .inv in
     let l = lentOf (now (a .own)) (now (a .first)) (now (a .second)) in
     let M = a .major in
     let m = a .minor in
-    let hr : i < length (a .t2) = (let z = c .before .before .before .before .before .before .before .before .before .pre .0 .0 in omega arith) in
-    let hp : i < length (a .t3) = (let z = c .before .before .before .before .before .before .before .before .before .pre .0 .1 in omega arith) in
+    let hr : i < length (a .t2) = (let z = start .pre .0 .0 in omega arith) in
+    let hp : i < length (a .t3) = (let z = start .pre .0 .1 in omega arith) in
     let o = v .same in
     let y = end-rows (a .t2) 12 (givensOf M m l (a .t3)) in
     let e : endAll at (kindsOfRows (drop i (a .t2))) (givensOf M m l (drop i (a .t3))) ≤ length (c .before .before .before .before .loop .out) =
-    (let z = v .ends in let x = c .before .before .before .before .before .before .before .before .before .pre .1 .1 .0 in omega arith) in
+    (let z = v .ends in let x = start .pre .1 .1 .0 in omega arith) in
     let q = step-in M m l (a .t2) (a .t3) i no-row no-piece hr hp (v .inside) in (
       q .0,
       (
         step-room M m l (a .t2) (a .t3) i no-row no-piece hr hp at _ e,
-        step-short M m l (a .t2) (a .t3) i no-row no-piece hr hp at (endAll at (kindsOfRows (drop i (a .t2))) (givensOf M m l (drop i (a .t3)))) (omega arith)
-            (let z = c .before .before .before .before .before .before .before .before .before .pre .1 .1 .1 in let x = v .ends in omega arith),
+        step-short M m l (a .t2) (a .t3) i no-row no-piece hr hp at (endAll at (kindsOfRows (drop i (a .t2))) (givensOf M m l (drop i (a .t3))))
+            (omega arith)
+            (let z = start .pre .1 .1 .1 in let x = v .ends in omega arith),
       ),
     )
 
@@ -73,19 +76,21 @@ loop-less c = omega arith
 
 loop-again : tie.Need-loop-again Inv-loop μ-loop
 loop-again c =
-    let a = c .before .before .before .before .before .before .before .before .before .before .before .before .args in
-    let i = c .before .before .before .before .before .before .before .loop .i in
-    let at = c .before .before .before .before .before .before .before .loop .at in
-    let v = c .before .before .before .before .before .before .before .loop .inv in
+    let at-loop = c .before .before .before .before .before .before .before in
+    let start = at-loop .before .before .before .before .before in
+    let a = start .args in
+    let i = at-loop .loop .i in
+    let at = at-loop .loop .at in
+    let v = at-loop .loop .inv in
     let l = lentOf (now (a .own)) (now (a .first)) (now (a .second)) in
     let M = a .major in
     let m = a .minor in
-    let hr : i < length (a .t2) = (let z = c .before .before .before .before .before .before .before .before .before .before .before .before .pre .0 .0 in omega arith) in
-    let hp : i < length (a .t3) = (let z = c .before .before .before .before .before .before .before .before .before .before .before .before .pre .0 .1 in omega arith) in
+    let hr : i < length (a .t2) = (let z = start .pre .0 .0 in omega arith) in
+    let hp : i < length (a .t3) = (let z = start .pre .0 .1 in omega arith) in
     let o = v .same in
     let y = end-rows (a .t2) 12 (givensOf M m l (a .t3)) in
-    let e : endAll at (kindsOfRows (drop i (a .t2))) (givensOf M m l (drop i (a .t3))) ≤ length (c .before .before .before .before .before .before .before .loop .out) =
-    (let z = v .ends in let x = c .before .before .before .before .before .before .before .before .before .before .before .before .pre .1 .1 .0 in omega arith) in
+    let e : endAll at (kindsOfRows (drop i (a .t2))) (givensOf M m l (drop i (a .t3))) ≤ length (at-loop .loop .out) =
+    (let z = v .ends in let x = start .pre .1 .1 .0 in omega arith) in
     let q = step-in M m l (a .t2) (a .t3) i no-row no-piece hr hp (v .inside) in
     let r = c .before .before .put-piece .ensures in
     record {
@@ -101,15 +106,16 @@ same-length c = c .before .loop .inv .same
 
 returns : tie.Need-returns Inv-loop μ-loop
 returns c =
-    let a = c .before .before .before .before .before .before .args in
+    let start = c .before .before .before .before .before .before in
+    let a = start .args in
     let v = c .before .loop .inv in
     let i = c .before .loop .i in
     let l = lentOf (now (a .own)) (now (a .first)) (now (a .second)) in
     let gs = givensOf (a .major) (a .minor) l (a .t3) in
     let n = v .some in
-    let d : drop i (a .t2) ≡ [] = drop-of-length-le (a .t2) {i = i} (let z = c .before .before .before .before .before .before .pre .0 .0 in omega arith) in
+    let d : drop i (a .t2) ≡ [] = drop-of-length-le (a .t2) {i = i} (let z = start .pre .0 .0 in omega arith) in
     let e : c .before .loop .out ≡ putAll (now (a .out)) 12 (kindsOfRows (a .t2)) gs = rw d at (v .puts) in
-    e ∙ put-all (kindsOfRows (a .t2)) (now (a .out)) 12 gs (let y = end-rows (a .t2) 12 gs in let x = c .before .before .before .before .before .before .pre .1 .1 .0 in omega arith)
+    e ∙ put-all (kindsOfRows (a .t2)) (now (a .out)) 12 gs (let y = end-rows (a .t2) 12 gs in let x = start .pre .1 .1 .0 in omega arith)
 
 pub put-pieces-spec : {M : Type 1} → statement M
 put-pieces-spec =

@@ -1,4 +1,5 @@
--- `wire_write::whole::write_rows` meets its contract: the tests in their order, then what was written by whether there was room (wrote-by). Assumes nothing.
+-- `wire_write::whole::write_rows` meets its contract: the tests in their order, then what was written by whether there was room (wrote-by).
+-- Assumes nothing.
 use Prim.Native.Nat.{min}
 use borrow.Author.Tests.{not-true, not-false}
 use mathlib.Core.Path.{_≡_, sym, ap, _∙_}
@@ -50,13 +51,14 @@ same-length c = search needs
 returns-2 : tie.Need-returns-2
 unfolding madeBy
 returns-2 c =
-    let q = c .before .before .before .before .before .before .before in
+    let has-room = c .before .before .before .before .before in
+    let q = has-room .before .before in
     let s = q .before .before .before .before .before .before .before in
     let a = s .args in
     let gs = givensOf (a .major) (a .minor) (lentOf (now (a .own)) (now (a .first)) (now (a .second))) (a .ps) in
     let K = kindsOfRows (a .rows) in
     let n = q .pieces-end .ensures ∙ ap (min 1233) (end-rows (a .rows) 12 gs) in
-    let room = c .before .before .before .before .before .has-room .ensures ∙ room-is K (a .major) (a .minor) (a .kind) (a .id) gs (now (a .out)) (q .pieces-end .result) n in
+    let room = has-room .has-room .ensures ∙ room-is K (a .major) (a .minor) (a .kind) (a .id) gs (now (a .out)) (q .pieces-end .result) n in
     rw (c .written .ensures)
     (wrote-by _ (now (a .out)) _ (q .pieces-end .result) _
     (sym (q .before .before .pieces-ok .ensures) ∙ not-false _ (q .before .if1 .left))

@@ -6,6 +6,8 @@
 Each function renders a sentence, which stands above it: 01 is the specification, 02 has the requests, 000 is MC-DRT, D numbers and those
 like W4.2 are of docs/DECISIONS.md; C1 to C4, R1 to R4 and W1 to W8 are those of docs/MEMORY.md. Speed is no aim here, to be read is.
 """
+if not __debug__:
+    raise SystemExit("model.py: run it without -O and PYTHONOPTIMIZE, which leave its asserts out")
 
 FIXED = bytes.fromhex("0010000C51")  # 01: "A message begins with 12 bytes: 00 10 00 0C, identifier 51 (hex)"
 

@@ -5,6 +5,8 @@ PNRP 4.0 (document 004) has DRT's header and most of its fields. The dissector o
 first of a datagram with the same header. It does not know the fields that DRT added, takes a CPA apart where ours is opaque, and tests neither ranges nor left-over bytes: what it
 is good for is numbers, lengths, flag bits and places. So it is no test of the gate; `make outside` installs tshark and runs it.
 """
+if not __debug__:
+    raise SystemExit("outside.py: run it without -O and PYTHONOPTIMIZE, which leave its asserts out")
 import ipaddress
 import os
 import struct

@@ -8,6 +8,8 @@
 
 A depth is read by `struct`, rounded by `decimal` and once more by `fractions`; nothing is shared with the crates.
 """
+if not __debug__:
+    raise SystemExit("ponds.py: run it without -O and PYTHONOPTIMIZE, which leave its asserts out")
 import decimal
 import fractions
 import os

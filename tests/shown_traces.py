@@ -2,6 +2,8 @@
 
 Each trace of known answers says them beside its records, and they are held against tests/trace.py's.
 """
+if not __debug__:
+    raise SystemExit("shown_traces.py: run it without -O and PYTHONOPTIMIZE, which leave its asserts out")
 import random
 
 import model

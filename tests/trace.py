@@ -7,6 +7,8 @@
     trace.py --write DIR    those cases as files: N.trace, and N.wanted with the lines that the document wants
     trace.py --same FILE..  each FILE is a trace, and beside it stands FILE with the ending .wanted: the model must write the same
 """
+if not __debug__:
+    raise SystemExit("trace.py: run it without -O and PYTHONOPTIMIZE, which leave its asserts out")
 import os
 import sys
 

@@ -44,6 +44,8 @@ Where to find what (each is a function below, and a heading of crates/vectors/st
     the last good and first bad of every count and length     limits, memory, room, answered (and vector_messages.counts)
     00A1 and 00A2 at each of their places                     malformed (and vector_messages.encrypted)
 """
+if not __debug__:
+    raise SystemExit("vector_calls.py: run it without -O and PYTHONOPTIMIZE, which leave its asserts out")
 import model
 import vector_messages as laid
 from vector_memory import TOP, cache, flood as flood_place, inquiry, key, put, record, table

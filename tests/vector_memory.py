@@ -14,6 +14,8 @@
 Keys in answers are in hexadecimal without leading zeros, IDs are decimal; both apart by commas, - for none. The bytes are laid out here by
 docs/MEMORY.md and not by the model. A `want` is the answer that the documents give, and is compared with the model's.
 """
+if not __debug__:
+    raise SystemExit("vector_memory.py: run it without -O and PYTHONOPTIMIZE, which leave its asserts out")
 import model
 
 TOP = 2 ** 256 - 1

@@ -10,6 +10,8 @@
 The datagrams are laid out here field by field, by the tables of document 000 section 2.2 and docs/DECISIONS.md, and not by the model's
 writers; the answers are the model's. A `want` beside a datagram is the number that the documents give it, and is compared with the model's.
 """
+if not __debug__:
+    raise SystemExit("vector_messages.py: run it without -O and PYTHONOPTIMIZE, which leave its asserts out")
 import model
 
 MAJOR, MINOR, ID = 6, 0x65, 0xD8859CF5  # the versions and the ID of document 003's AUTHORITY

@@ -6,6 +6,8 @@
 
 The answers are made here, by whole numbers and slices of Python and from the documents. Nothing is taken from a run of the gauge.
 """
+if not __debug__:
+    raise SystemExit("vectors.py: run it without -O and PYTHONOPTIMIZE, which leave its asserts out")
 import os
 import re
 import sys

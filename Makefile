@@ -3,7 +3,7 @@
 .PHONY: run test check lib install ponds hill fmt definitions vectors outside counted compare planted nights soak tools clean bench
 
 run: tools
-	@tests/run-vectors
+	@tests/vectors/run-vectors
 	@echo
 	@$(MAKE) --no-print-directory hill
 	@echo
@@ -45,33 +45,33 @@ fmt:
 definitions:
 	@tools/definitions
 
-# The vectors and their answers anew, from tests/vectors.py.
+# The vectors and their answers anew, from tests/vectors/vectors.py.
 vectors:
-	@tests/vectors.py --write
+	@tests/vectors/vectors.py --write
 
 # The good datagrams of the vectors, shown to Wireshark's dissector. No test of the gate.
 outside:
 	@tools/install tshark
-	@tests/outside.py
+	@tests/vectors/outside.py
 
 # Executed instructions of form and closest against plain C (docs/landings/03-memory.md). A test of the gate.
 counted:
-	@tests/counted
+	@tests/c/counted
 
-# Random nights through the archive and through the model in tests/model.c; then bugs planted in the model, which must be found. Tests of the gate.
+# Random nights through the archive and through the model in tests/models/model.c; then bugs planted in the model, which must be found. Tests of the gate.
 compare: tools
-	@tests/compare
+	@tests/nights/compare
 
 planted: tools
-	@tests/planted
+	@tests/planted/planted
 
 # The program replay against the models: the document's cases, random nights and the hill's. A test of the gate.
 nights: tools
-	@tests/replay
+	@tests/programs/replay
 
 # Ten million calls, of other nights than the gate's. No test of the gate: it takes most of an hour where the archive runs by an emulator.
 soak: tools
-	@tests/compare 10000000 2
+	@tests/nights/compare 10000000 2
 
 # The calls of the archive beside plain C that does the same (docs/PERFORMANCE.md). No test of the gate.
 bench: tools

@@ -1,4 +1,4 @@
-"""Executed instructions between two calls of a program's function `mark`, for tests/counted and bench/instructions.
+"""Executed instructions between two calls of a program's function `mark`, for tests/c/counted and bench/instructions.
 
 An emulator steps through the program one instruction at a time and writes down where each stood. Instructions are a measure where seconds are not, as
 on a machine that runs the archive by that emulator; and they are the same in every run. Those of the C library count too.
@@ -11,7 +11,7 @@ import sys
 import tempfile
 import threading
 
-LONGEST = 280  # seconds that a program may take in the emulator: two such fit into the gate's limit for tests/counted
+LONGEST = 280  # seconds that a program may take in the emulator: two such fit into the gate's limit for tests/c/counted
 
 
 def compilers():

@@ -1,7 +1,7 @@
 // Runs vectors from standard input and writes a line for each: the vector, and what the gauge's functions make of it.
 //
 // A line of the input is a name and operands in hexadecimal, one space before each; an operand of no bytes is `-`. A line
-// that begins with `#` is a heading. What is to be written is the file `stdout`, made from the documents by tests/vectors.py.
+// that begins with `#` is a heading. What is to be written is the file `stdout`, made from the documents by tests/vectors/vectors.py.
 use vector_text::line;
 use vector_text::say;
 

@@ -1,0 +1,350 @@
+/* How the calls cross to C: sizes and places in the answers, and the constants; each argument in its place; slices of length 0; every type of message
+ * looked at. What is wanted is worked out by hand from the layout of the messages (documents 000 and 01) and from include/gauge.h. */
+#define _DEFAULT_SOURCE
+#include "gauge.h"
+#include <stdio.h>
+#include <string.h>
+#include <sys/mman.h>
+
+static unsigned tests, failed;
+
+static void check(int holds, const char *what, unsigned line)
+{
+    tests++;
+    if (!holds) {
+        failed++;
+        printf("abi.c:%u: not so: %s\n", line, what);
+    }
+}
+#define CHECK(c) check(c, #c, __LINE__)
+
+/* Sizes and places. */
+
+static void answers(void)
+{
+    CHECK(sizeof(struct gauge_answer) == 12);
+    CHECK(offsetof(struct gauge_answer, number) == 0);
+    CHECK(offsetof(struct gauge_answer, first) == 4);
+    CHECK(offsetof(struct gauge_answer, second) == 8);
+    CHECK(sizeof(struct gauge_look) == 48);
+    CHECK(offsetof(struct gauge_look, number) == 0);
+    CHECK(offsetof(struct gauge_look, kind) == 4);
+    CHECK(offsetof(struct gauge_look, id) == 8);
+    CHECK(offsetof(struct gauge_look, acked) == 12);
+    CHECK(offsetof(struct gauge_look, cpa_at) == 16);
+    CHECK(offsetof(struct gauge_look, cpa_len) == 20);
+    CHECK(offsetof(struct gauge_look, nonce_at) == 24);
+    CHECK(offsetof(struct gauge_look, nonce_len) == 28);
+    CHECK(offsetof(struct gauge_look, entry_at) == 32);
+    CHECK(offsetof(struct gauge_look, entry_len) == 36);
+    CHECK(offsetof(struct gauge_look, target_at) == 40);
+    CHECK(offsetof(struct gauge_look, target_len) == 44);
+    CHECK(sizeof(struct gauge_carry) == 12);
+    CHECK(offsetof(struct gauge_carry, number) == 0);
+    CHECK(offsetof(struct gauge_carry, length) == 4);
+    CHECK(offsetof(struct gauge_carry, reading) == 8);
+    CHECK(sizeof(struct gauge_reading) == 24);
+    CHECK(offsetof(struct gauge_reading, number) == 0);
+    CHECK(offsetof(struct gauge_reading, reading) == 4);
+    CHECK(offsetof(struct gauge_reading, kind) == 8);
+    CHECK(offsetof(struct gauge_reading, measure) == 12);
+    CHECK(offsetof(struct gauge_reading, litres_in) == 16);
+    CHECK(offsetof(struct gauge_reading, litres_out) == 20);
+}
+
+/* The constants, as documents 01 and 02 have them. */
+static void constants(void)
+{
+    CHECK(GAUGE_KEY_LEN == 32 && GAUGE_NONCE_LEN == 16 && GAUGE_ADDRESS_LEN == 16);
+    CHECK(GAUGE_RECORD_LEN == 100 && GAUGE_RECORD_KEY == 0 && GAUGE_RECORD_PORT == 32 && GAUGE_RECORD_COUNT == 34 && GAUGE_RECORD_ADDRESSES == 36);
+    CHECK(GAUGE_ENTRY_KEY == 0 && GAUGE_ENTRY_MAJOR == 32 && GAUGE_ENTRY_MINOR == 33 && GAUGE_ENTRY_PORT == 34);
+    CHECK(GAUGE_ENTRY_COUNT == 37 && GAUGE_ENTRY_ADDRESSES == 38);
+    CHECK(GAUGE_CPA_LEAST == 1 && GAUGE_CPA_MOST == 1024 && GAUGE_DATAGRAM_LEAST == 12 && GAUGE_DATAGRAM_MOST == 1232);
+    CHECK(GAUGE_CACHE_LEAST == 10 && GAUGE_CACHE_MOST == 256 && GAUGE_CACHE_LEN(256) == 25600);
+    CHECK(GAUGE_PLACES == 16 && GAUGE_PLACE_LEN == 140 && GAUGE_WAITING_LEN == 16 * 140);
+    CHECK(GAUGE_OUTPUT_LEN == 2 * 1232 && GAUGE_SEND_LEN == 100 + 4 * 16 && GAUGE_TICK_LEN == 16 * 4 && GAUGE_LIST_LEN == 10 * 32);
+    CHECK(GAUGE_SOLICIT == 1 && GAUGE_ADVERTISE == 2 && GAUGE_REQUEST == 3 && GAUGE_FLOOD == 4);
+    CHECK(GAUGE_INQUIRE == 7 && GAUGE_AUTHORITY == 8 && GAUGE_ACK == 9 && GAUGE_LOOKUP == 11);
+    CHECK(GAUGE_OK == 0 && GAUGE_MEMORY == 1 && GAUGE_LENGTH == 2 && GAUGE_HEADER == 3 && GAUGE_MAJOR == 4 && GAUGE_TYPE == 5 && GAUGE_FIELD == 6);
+    CHECK(GAUGE_NOT_TAKEN == 7 && GAUGE_STRAY == 8 && GAUGE_UNTRUSTED == 9 && GAUGE_OTHER_KEY == 10 && GAUGE_OWN_KEY == 11 && GAUGE_NOT_OURS == 12);
+    CHECK(GAUGE_ID_WAITING == 13 && GAUGE_FULL == 14 && GAUGE_ROOM == 15 && GAUGE_GOOD == 1);
+    CHECK(GAUGE_READING_DEPTH == 1 && GAUGE_READING_FAULT == 2 && GAUGE_CARRY_LEN == 4 + 16 && GAUGE_CARRY_LEN == 4 + 14 + 2);
+    CHECK(GAUGE_READING_OK == 0 && GAUGE_READING_LENGTH == 1 && GAUGE_READING_KIND == 2 && GAUGE_READING_OUTSIDE == 3);
+}
+
+/* Datagrams, as hexadecimal digits with spaces between them. */
+
+static unsigned digit(char c)
+{
+    return (unsigned)(c <= '9' ? c - '0' : c - 'A' + 10);
+}
+
+static size_t bytes(const char *text, uint8_t *out)
+{
+    size_t len = 0;
+    for (; *text != '\0'; text += *text == ' ' ? 1 : 2)
+        if (*text != ' ')
+            out[len++] = (uint8_t)(digit(text[0]) << 4 | digit(text[1]));
+    return len;
+}
+
+#define HEADER(type, id) "0010000C51 06 65 " type " " id " "
+#define ZEROS "000000000000000000000000000000"
+#define KEY(last) ZEROS "00" ZEROS last " " /* 32 bytes */
+#define NONCE "A0A1A2A3A4A5A6A7A8A9AAABACADAEAF "
+#define HASHED "0092 0018 " NONCE "B0B1B2B3 "
+#define NONE_LISTED "0060 000C 0000 0008 0030 0020 " /* a list of keys, empty */
+#define ACKED(id) "0018 0008 " id " "
+#define ENTRY(last) "009A 003A " KEY(last) "06 65 1388 00 01 " ZEROS last " 0000 " /* key and address end alike; two bytes of padding */
+#define CONTROLS(d) "0043 0007 00" d " 00 00 " "0039 0024 " /* of a FLOOD, and the validate key's number and length */
+#define ONE_ENDPOINT "009E 001E 0001 001A 009D 0012 1388 " ZEROS "14"
+
+/* Every type of message. The header has 12 bytes, and the contents of a field stand 4 bytes behind its start. */
+
+static const struct {
+    const char *text;
+    struct gauge_look wanted;
+} messages[] = {
+    {HEADER("01", "00000101") ENTRY("11") HASHED, {0, GAUGE_SOLICIT, 0x101, 0, 0, 0, 76, 20, 16, 54, 0, 0}},
+    {HEADER("02", "00000102") ACKED("00000201") NONE_LISTED HASHED, {0, GAUGE_ADVERTISE, 0x102, 0x201, 0, 0, 36, 20, 0, 0, 0, 0}},
+    {HEADER("03", "00000103") "0093 0014 " NONCE NONE_LISTED, {0, GAUGE_REQUEST, 0x103, 0, 0, 0, 16, 16, 0, 0, 0, 0}},
+    {HEADER("04", "00000104") CONTROLS("00") KEY("12") ENTRY("11"), {0, GAUGE_FLOOD, 0x104, 0, 0, 0, 0, 0, 60, 54, 0, 0}},
+    {HEADER("04", "00000105") CONTROLS("01") KEY("12") "009C 0007 C1C2C3 00", {0, GAUGE_FLOOD, 0x105, 0, 60, 3, 0, 0, 0, 0, 0, 0}},
+    {HEADER("04", "00000106") CONTROLS("01") KEY("12") "009C 0004", {0, GAUGE_FLOOD, 0x106, 0, 60, 0, 0, 0, 0, 0, 0, 0}},
+    {HEADER("07", "00000107") "0040 0006 0010 0000 0039 0024 " KEY("12") "0093 0014 " NONCE, {0, GAUGE_INQUIRE, 0x107, 0, 0, 0, 60, 16, 0, 0, 0, 0}},
+    {HEADER("08", "00000108") ACKED("00000208") "0098 0008 000E 0000 0040 0006 0000 0000 009B 0006 D1D2",
+     {0, GAUGE_AUTHORITY, 0x108, 0x208, 40, 2, 0, 0, 0, 0, 0, 0}},
+    {HEADER("09", "00000109") ACKED("D8859CF5"), {0, GAUGE_ACK, 0x109, 0xD8859CF5, 0, 0, 0, 0, 0, 0, 0, 0}},
+    {HEADER("0B", "0000010A") "0045 000C 0000 0000 00 00 0000 0038 0024 " KEY("13") "0039 0024 " KEY("12") ENTRY("11") ONE_ENDPOINT,
+     {0, GAUGE_LOOKUP, 0x10A, 0, 0, 0, 0, 0, 100, 54, 28, 32}},
+    /* an AUTHORITY in part; and what is refused, for each number once */
+    {HEADER("08", "0000010B") ACKED("00000208") "0098 0008 000F 0000 0040 0006 0000 0000 009B 0006 D1D2",
+     {GAUGE_NOT_TAKEN, 0, 0, 0, 0, 0, 0, 0, 0, 0, 0, 0}},
+    {"0010000C51 06 65 09 000001", {GAUGE_LENGTH, 0, 0, 0, 0, 0, 0, 0, 0, 0, 0, 0}},
+    {"0010000C50 06 65 09 0000010C", {GAUGE_HEADER, 0, 0, 0, 0, 0, 0, 0, 0, 0, 0, 0}},
+    {"0010000C51 05 65 09 0000010D", {GAUGE_MAJOR, 0, 0, 0, 0, 0, 0, 0, 0, 0, 0, 0}},
+    {HEADER("0A", "0000010E"), {GAUGE_TYPE, 0, 0, 0, 0, 0, 0, 0, 0, 0, 0, 0}},
+    {HEADER("09", "0000010F"), {GAUGE_FIELD, 0, 0, 0, 0, 0, 0, 0, 0, 0, 0, 0}},
+};
+
+static void looks(void)
+{
+    for (size_t i = 0; i < sizeof messages / sizeof *messages; i++) {
+        uint8_t datagram[GAUGE_DATAGRAM_MOST];
+        size_t len = bytes(messages[i].text, datagram);
+        struct gauge_look seen = gauge_look(6, datagram, len);
+        check(memcmp(&seen, &messages[i].wanted, sizeof seen) == 0, messages[i].text, __LINE__);
+    }
+}
+
+/* A gauge with key 12 (hex), versions 6 and 101. */
+
+static uint8_t own[GAUGE_RECORD_LEN], cpa[2] = {0xE1, 0xE2}, cache[GAUGE_CACHE_LEN(10)], waiting[GAUGE_WAITING_LEN], nonce[GAUGE_NONCE_LEN],
+    key[GAUGE_KEY_LEN], neighbour[GAUGE_KEY_LEN], output[GAUGE_OUTPUT_LEN], datagram[GAUGE_DATAGRAM_MOST];
+static size_t datagram_len;
+
+static struct gauge_answer receive(uint32_t id, uint32_t verdict, const char *text)
+{
+    datagram_len = bytes(text, datagram);
+    memset(output, 0xEE, sizeof output);
+    return gauge_receive(own, sizeof own, cpa, sizeof cpa, cache, sizeof cache, waiting, sizeof waiting, 6, 101, id, nonce, sizeof nonce, verdict,
+                         key, sizeof key, datagram, datagram_len, output, sizeof output);
+}
+
+static int wrote(const char *text)
+{
+    uint8_t wanted[GAUGE_OUTPUT_LEN];
+    size_t len = bytes(text, wanted);
+    return memcmp(output, wanted, len) == 0 && output[len] == 0xEE;
+}
+
+#define INQUIRE(key, id) HEADER("07", id) "0040 0006 0010 0000 0039 0024 " key "0093 0014 " NONCE
+#define AUTHORITY(acked) HEADER("08", "00000001") ACKED(acked) "0098 0008 0010 0000 0040 0006 0000 0000 009B 0008 F1F2F3F4"
+
+/* Each argument has something in it that shows in what is written, or in what is kept. */
+static void arguments(void)
+{
+    memset(own, 0, sizeof own);
+    bytes(KEY("12") "1388 01 00 " ZEROS "12", own);
+    bytes(NONCE, nonce);
+
+    struct gauge_answer a = receive(7, 0, INQUIRE(KEY("12"), "D8859CF5")); /* own, cpa, major, minor, id, datagram, output */
+    CHECK(a.number == GAUGE_OK && a.first == 42 && a.second == 0);
+    CHECK(wrote(HEADER("08", "00000007") ACKED("D8859CF5") "0098 0008 000E 0000 0040 0006 0000 0000 009B 0006 E1E2"));
+
+    a = receive(8, 0, HEADER("04", "00000001") CONTROLS("00") KEY("12") ENTRY("11")); /* waiting, nonce */
+    CHECK(a.number == GAUGE_OK && a.first == 20 && a.second == 76);
+    CHECK(wrote(HEADER("09", "00000008") ACKED("00000001") INQUIRE(KEY("11"), "00000009")));
+    CHECK(waiting[0] == 9 && waiting[4] == 2);
+
+    bytes(KEY("11"), key); /* verdict, key, cache */
+    CHECK(receive(10, 257, AUTHORITY("00000009")).number == GAUGE_UNTRUSTED);
+    CHECK(receive(10, 0, AUTHORITY("00000009")).number == GAUGE_UNTRUSTED);
+    key[0] = 1;
+    CHECK(receive(10, GAUGE_GOOD, AUTHORITY("00000009")).number == GAUGE_OTHER_KEY);
+    key[0] = 0;
+    CHECK(receive(10, GAUGE_GOOD, AUTHORITY("00000009")).number == GAUGE_OK);
+    CHECK(cache[31] == 0x11 && waiting[4] == 0);
+
+    memset(output, 0xEE, sizeof output); /* the neighbour comes before the record's key */
+    bytes(KEY("11"), neighbour);
+    bytes(KEY("12"), key);
+    a = gauge_send(own, sizeof own, cache, sizeof cache, waiting, sizeof waiting, 6, 101, 12, neighbour, sizeof neighbour, key, sizeof key, output,
+                   sizeof output);
+    CHECK(a.number == GAUGE_OK && a.first == 116 && a.second == 0);
+    CHECK(wrote(HEADER("04", "0000000C") CONTROLS("00") KEY("11") ENTRY("12")));
+
+    memset(output, 0xEE, sizeof output);
+    a = gauge_tick(own, sizeof own, waiting, sizeof waiting, output, sizeof output);
+    CHECK(a.number == GAUGE_OK && a.first == 1 && a.second == 0 && wrote("0C000000"));
+
+    memset(output, 0xEE, sizeof output); /* below is the first count */
+    a = gauge_neighbours(own, sizeof own, cache, sizeof cache, output, sizeof output);
+    CHECK(a.number == GAUGE_OK && a.first == 1 && a.second == 0 && wrote(KEY("11")));
+}
+
+/* Readings carried. An AUTHORITY of 42 bytes with our CPA becomes one of 62: the payload's field, length 4 + 16 or 4 + 14, stands before the CPA's,
+ * and a fault's has two bytes of padding. In the payload the least significant byte is first. */
+
+#define CARRYING(size, payload) HEADER("08", "00000007") ACKED("D8859CF5") "0098 0008 " size " 0000 0040 0006 0000 0000 " payload "009B 0006 E1E2"
+#define LITRES "04030201 08070605 "
+#define DEPTH "005A 0014 0E00 0100 0000C03F " LITRES /* 1.5 m */
+#define FAULT "005A 0012 0C00 0200 B2A1 " LITRES "0000 "
+
+static struct gauge_carry carry(uint8_t major, uint32_t kind, uint32_t measure)
+{
+    memset(output, 0xEE, sizeof output);
+    return gauge_carry(major, datagram, datagram_len, kind, measure, 0x01020304, 0x05060708, output, sizeof output);
+}
+
+static int carry_is(struct gauge_carry a, uint32_t number, uint32_t length, uint32_t reading)
+{
+    return a.number == number && a.length == length && a.reading == reading;
+}
+
+static int reading_is(const char *text, struct gauge_reading wanted)
+{
+    datagram_len = bytes(text, datagram);
+    struct gauge_reading a = gauge_carried(6, datagram, datagram_len);
+    return memcmp(&a, &wanted, sizeof a) == 0;
+}
+
+static void readings(uint8_t *nothing)
+{
+    float metres = 1.5f;
+    uint32_t depth;
+    memcpy(&depth, &metres, sizeof depth);
+    datagram_len = bytes(CARRYING("000E", ""), datagram);
+    CHECK(datagram_len == 42);
+    CHECK(carry_is(carry(6, GAUGE_READING_DEPTH, depth), 0, 62, 0) && wrote(CARRYING("0022", DEPTH)));
+    CHECK(carry_is(carry(6, GAUGE_READING_FAULT, 0xA1B2), 0, 62, 0) && wrote(CARRYING("0022", FAULT)));
+    CHECK(carry_is(carry(7, GAUGE_READING_FAULT, 0xA1B2), GAUGE_MAJOR, 0, 0) && wrote(""));
+    CHECK(carry_is(carry(6, GAUGE_READING_FAULT, 65536), 0, 0, GAUGE_READING_LENGTH) && wrote(""));
+    CHECK(carry_is(carry(6, 257, depth), 0, 0, GAUGE_READING_KIND) && wrote(""));
+    CHECK(carry_is(carry(6, GAUGE_READING_DEPTH, 0x41A00001), 0, 0, GAUGE_READING_OUTSIDE) && wrote("")); /* next above 20 */
+    CHECK(carry_is(gauge_carry(6, datagram, datagram_len, GAUGE_READING_DEPTH, depth, 0, 0, output, 61), GAUGE_ROOM, 0, 0) && wrote(""));
+    CHECK(carry_is(gauge_carry(6, datagram, datagram_len, GAUGE_READING_DEPTH, depth, 0, 0, nothing, 0), GAUGE_ROOM, 0, 0));
+    CHECK(carry_is(gauge_carry(6, nothing, 0, GAUGE_READING_DEPTH, depth, 0, 0, output, sizeof output), GAUGE_LENGTH, 0, 0) && wrote(""));
+
+    CHECK(reading_is(CARRYING("0022", DEPTH), (struct gauge_reading){0, 0, GAUGE_READING_DEPTH, depth, 0x01020304, 0x05060708}));
+    CHECK(reading_is(CARRYING("0022", FAULT), (struct gauge_reading){0, 0, GAUGE_READING_FAULT, 0xA1B2, 0x01020304, 0x05060708}));
+    CHECK(reading_is(CARRYING("000E", ""), (struct gauge_reading){0, 0, 0, 0, 0, 0}));
+    CHECK(reading_is(CARRYING("0012", "005A 0004 "), (struct gauge_reading){0, GAUGE_READING_LENGTH, 0, 0, 0, 0})); /* a payload that is empty */
+    CHECK(reading_is(HEADER("09", "00000109") ACKED("D8859CF5"), (struct gauge_reading){GAUGE_TYPE, 0, 0, 0, 0, 0}));
+    CHECK(gauge_carried(6, nothing, 0).number == GAUGE_LENGTH);
+
+    CHECK(gauge_balance(3, 4) == -1 && gauge_balance(4, 3) == 1 && gauge_balance(7, 7) == 0);
+    CHECK(gauge_balance(0, UINT32_MAX) == -INT64_C(4294967295) && gauge_balance(UINT32_MAX, 0) == INT64_C(4294967295));
+}
+
+/* Each slice in turn has length 0, and points to where no byte may be touched. */
+
+enum { OWN, CPA, CACHE, WAITING, NONCE_LENT, NEIGHBOUR, KEY_LENT, DATAGRAM, OUTPUT, SLICES };
+static struct {
+    uint8_t *at;
+    size_t len;
+} lent[SLICES];
+#define LENT(slice) lent[slice].at, lent[slice].len
+
+static struct gauge_answer receive_lent(void)
+{
+    return gauge_receive(LENT(OWN), LENT(CPA), LENT(CACHE), LENT(WAITING), 6, 101, 20, LENT(NONCE_LENT), 0, LENT(KEY_LENT), LENT(DATAGRAM),
+                         LENT(OUTPUT));
+}
+
+static struct gauge_answer send_lent(void)
+{
+    return gauge_send(LENT(OWN), LENT(CACHE), LENT(WAITING), 6, 101, 20, LENT(NEIGHBOUR), LENT(KEY_LENT), LENT(OUTPUT));
+}
+
+static struct gauge_answer tick_lent(void)
+{
+    return gauge_tick(LENT(OWN), LENT(WAITING), LENT(OUTPUT));
+}
+
+static struct gauge_answer neighbours_lent(void)
+{
+    return gauge_neighbours(LENT(OWN), LENT(CACHE), LENT(OUTPUT));
+}
+
+/* The number for each slice left empty; 0 for those that the call is not lent. */
+static const struct {
+    struct gauge_answer (*call)(void);
+    uint32_t numbers[SLICES];
+} calls[] = {
+    {receive_lent, {[OWN] = 1, [CPA] = 1, [CACHE] = 1, [WAITING] = 1, [NONCE_LENT] = 1, [KEY_LENT] = 1, [DATAGRAM] = 2, [OUTPUT] = 15}},
+    {send_lent, {[OWN] = 1, [CACHE] = 1, [WAITING] = 1, [NEIGHBOUR] = 1, [KEY_LENT] = 1, [OUTPUT] = 15}},
+    {tick_lent, {[OWN] = 1, [WAITING] = 1, [OUTPUT] = 15}},
+    {neighbours_lent, {[OWN] = 1, [CACHE] = 1, [OUTPUT] = 15}},
+};
+
+static void lend_all(void)
+{
+    uint8_t *at[SLICES] = {own, cpa, cache, waiting, nonce, neighbour, key, datagram, output};
+    size_t len[SLICES] = {sizeof own, sizeof cpa, sizeof cache, sizeof waiting, sizeof nonce, sizeof neighbour, sizeof key, datagram_len,
+                          sizeof output};
+    for (int i = 0; i < SLICES; i++) {
+        lent[i].at = at[i];
+        lent[i].len = len[i];
+    }
+}
+
+static void zero_lengths(uint8_t *nothing)
+{
+    uint8_t cache_was[sizeof cache], waiting_was[sizeof waiting];
+    memcpy(cache_was, cache, sizeof cache);
+    memcpy(waiting_was, waiting, sizeof waiting);
+    memset(output, 0xEE, sizeof output);
+    datagram_len = bytes(INQUIRE(KEY("12"), "00000001"), datagram);
+    for (size_t c = 0; c < sizeof calls / sizeof *calls; c++)
+        for (int empty = 0; empty < SLICES; empty++) {
+            if (calls[c].numbers[empty] == 0)
+                continue;
+            lend_all();
+            lent[empty].at = nothing;
+            lent[empty].len = 0;
+            struct gauge_answer a = calls[c].call();
+            CHECK(a.number == calls[c].numbers[empty] && a.first == 0 && a.second == 0);
+            CHECK(memcmp(cache, cache_was, sizeof cache) == 0 && memcmp(waiting, waiting_was, sizeof waiting) == 0 && output[0] == 0xEE);
+        }
+    CHECK(gauge_look(6, nothing, 0).number == GAUGE_LENGTH);
+    for (size_t c = 0; c < sizeof calls / sizeof *calls; c++) { /* and all is accepted where none is empty */
+        lend_all();
+        CHECK(calls[c].call().number == GAUGE_OK);
+    }
+}
+
+int main(void)
+{
+    uint8_t *nothing = mmap(NULL, 4096, PROT_NONE, MAP_PRIVATE | MAP_ANONYMOUS, -1, 0);
+    if (nothing == MAP_FAILED)
+        return 1;
+    answers();
+    constants();
+    looks();
+    arguments();
+    zero_lengths(nothing);
+    readings(nothing);
+    printf("abi: %u facts, %u failed\n", tests, failed);
+    return failed != 0;
+}

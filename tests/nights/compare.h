@@ -1,0 +1,41 @@
+/* The calls of a random night (tests/nights/compare.c): what is handed to a call, how calls are drawn, and what was reached by them. */
+#ifndef COMPARE_H
+#define COMPARE_H
+
+#include "draft.h"
+
+/* A part without a place means: the present memory. */
+struct part {
+    uint8_t *at;
+    size_t len;
+};
+
+enum kind { RECEIVE, SEND, TICK, NEIGHBOURS, LOOK, KINDS };
+extern const char *const kinds[];
+
+/* The neighbour of a send stands where a receive has its nonce. */
+enum lent { OWN, CPA, CACHE, WAITING, NONCE, KEY, DATAGRAM, OUTPUT, LENT };
+
+struct call {
+    enum kind kind;
+    uint8_t major, minor, filled;
+    uint32_t id, verdict;
+    bool front; /* slices begin where a page that may not be touched ends; otherwise they end where one begins */
+    bool sound; /* nothing that is tested for form was damaged */
+    struct part part[LENT];
+};
+
+/* compare.c: bytes that are kept until the night ends; and how many bytes of output a receive or a send needs, by a try of the model. */
+struct part kept(const uint8_t *bytes, size_t len);
+size_t needed(struct call *c);
+
+/* compare_calls.c: a night's beginning, in `now`, and how many calls it has at most; and the next call. */
+#define NIGHT 400
+size_t begin_night(void);
+void make_call(struct call *c);
+
+/* compare_done.c: counts a call's numbers and, where it was accepted, what it did: by what it wrote, and by `now` and the memory before it. */
+void count_call(const struct call *c, const uint32_t *answer, const uint8_t *output, const struct memory *before);
+int show_reached(void); /* the tables; gives how much is marked in them */
+
+#endif

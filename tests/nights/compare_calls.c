@@ -1,0 +1,252 @@
+/* How a random night's calls are drawn (tests/nights/compare.h): its beginning, each call, and the damage to the memory that it is lent. */
+#include "compare.h"
+#include <string.h>
+
+/* A cache of so many records or more begins full in most nights, as calls alone would not fill it, and the night ends before it is empty. */
+#define GREAT 255u
+
+/* Memory damaged, for one call. */
+
+static uint8_t spoiled[MEMORY_ROOM];
+
+/* Fields of a record in the cache and of a place that waits: the first and last byte of each. */
+static const uint8_t cache_fields[] = {0, 31, 32, 33, 34, 35, 36, 51, 52, 67, 68, 83, 84, 99};
+static const uint8_t waiting_fields[] = {0, 3, 4, 4, 5, 5, 5, 6, 7, 8, 39, 40, 71, 72, 74, 75, 76, 91, 92, 107, 108, 123, 124, 139};
+
+/* Memory of rows, of which the first are used. A row's key stands at `key_at`, and in an inquiry's record once more, at `again_at`. */
+struct rows {
+    size_t len, width, used, key_at, again_at;
+};
+
+/* A byte, a bit or a field, anywhere or in a row that is used or just behind. */
+static void spoil_byte(const struct rows *r, uint8_t *row)
+{
+    size_t field;
+    switch (under(7)) {
+    case 0: set_byte(spoiled, r->len); break;
+    case 1: set_byte(row, r->width); break;
+    case 2: flip_bit(row, r->width); break;
+    case 3: /* the first byte of what is free, or the last of all */
+        field = r->width * r->used < r->len && percent(50) ? r->width * r->used : r->len - 1;
+        spoiled[field] = (uint8_t)(1 + under(255));
+        break;
+    default:
+        field = r->width == 100 ? cache_fields[under(sizeof cache_fields)] : waiting_fields[under(sizeof waiting_fields)];
+        row[field] = (uint8_t)under(6);
+        break;
+    }
+}
+
+/* A row exchanged with the next, or twice, or cleared, or with our own key, or with the key and record of another. */
+static void spoil_row(const struct rows *r, uint8_t *row)
+{
+    uint8_t other[140];
+    bool last = (size_t)(row - spoiled) + r->width == r->len;
+    size_t from = r->width * under(r->width * (r->used + 1) < r->len ? r->used + 1 : r->len / r->width);
+    switch (under(5)) {
+    case 0:
+        if (!last) {
+            memcpy(other, row, r->width);
+            memcpy(row, row + r->width, r->width);
+            memcpy(row + r->width, other, r->width);
+        }
+        break;
+    case 1:
+        if (!last)
+            memcpy(row + r->width, row, r->width);
+        break;
+    case 2: memset(row, 0, r->width); break;
+    case 3:
+        memcpy(row + r->key_at, own, 32);
+        if (r->again_at != 0 && row[4] == 2)
+            memcpy(row + r->again_at, own, 32);
+        break;
+    default: memmove(row + r->key_at, spoiled + from + r->key_at, r->width - r->key_at); break; /* its ID and kind kept */
+    }
+}
+
+/* Another length, with the bytes as they are and zeros behind. */
+static size_t spoil_length(const struct rows *r)
+{
+    static const uint16_t lengths[] = {0, 900, 999, 1000, 1001, 1100, 25600, 25601, 25700};
+    size_t rows = r->len / r->width;
+    switch (under(3)) {
+    case 0: return r->width == 100 ? lengths[under(sizeof lengths / sizeof *lengths)] : r->len - r->width * under(rows);
+    case 1: return under(2) ? r->len - 1 - under(r->len) : r->len + 1 + under(r->width);
+    default: return r->len + r->width * under((sizeof spoiled - r->len) / r->width);
+    }
+}
+
+/* The memory changed in one thing, by chance. */
+static struct part spoil(const uint8_t *bytes, const struct rows *r)
+{
+    size_t rows = r->len / r->width, len = r->len;
+    uint8_t *row = spoiled + r->width * under(r->used + 2 < rows ? r->used + 2 : rows);
+    uint32_t way = under(15);
+    memset(spoiled, 0, sizeof spoiled);
+    memcpy(spoiled, bytes, r->len);
+    if (way < 7)
+        spoil_byte(r, row);
+    else if (way < 12)
+        spoil_row(r, row);
+    else
+        len = spoil_length(r);
+    return kept(spoiled, len);
+}
+
+static size_t wrong_length(size_t right)
+{
+    switch (under(5)) {
+    case 0: return right - 1;
+    case 1: return right + 1;
+    case 2: return 0;
+    case 3: return under(2 * right);
+    default: return right + 1 + under(64);
+    }
+}
+
+static void damage_call(struct call *c)
+{
+    static uint8_t b[4096];
+    struct rows records = {now.cache_len, 100, held(), 0, 0}, places = {now.waiting_len, 140, waits(), 8, 40};
+    memset(b, 0, sizeof b);
+    c->sound = false;
+    switch (under(9)) {
+    case 0: case 1: case 2: c->part[CACHE] = spoil(now.cache, &records); break;
+    case 3: case 4: case 5: c->part[WAITING] = spoil(now.waiting, &places); break;
+    case 6: {
+        static const uint8_t fields[] = {34, 35, 52, 68, 84, 99, 0, 31};
+        memcpy(b, own, 100);
+        size_t at = percent(50) ? fields[under(sizeof fields)] : under(100);
+        b[at] = (uint8_t)under(6);
+        c->part[OWN] = kept(b, percent(70) ? 100 : wrong_length(100));
+        break;
+    }
+    case 7: c->part[CPA] = kept(b, percent(40) ? 0 : 1024 + under(3)); break;
+    default:
+        if (percent(50)) {
+            memcpy(b, c->part[NONCE].at, c->part[NONCE].len);
+            c->part[NONCE] = kept(b, wrong_length(c->part[NONCE].len));
+        } else {
+            memcpy(b, c->part[KEY].at, 32);
+            c->part[KEY] = kept(b, wrong_length(32));
+        }
+    }
+}
+
+/* A call. */
+
+/* Room for the output: enough, any, or just what is needed, or one byte less; what is needed is found by a try of the model. */
+static size_t some_room(struct call *c)
+{
+    static const uint16_t edges[] = {0, 1, 19, 20, 63, 64, 65, 96, 319, 320, 321};
+    uint32_t way = under(20);
+    if (way < 13)
+        return 2464;
+    if (way < 15)
+        return under(400);
+    if (way < 17 || (c->kind != RECEIVE && c->kind != SEND))
+        return edges[under(sizeof edges / sizeof *edges)];
+    size_t need = needed(c);
+    if (need == 0 || way == 17)
+        return need;
+    return way == 18 || percent(50) ? need - 1 : under(need);
+}
+
+void make_call(struct call *c)
+{
+    uint8_t b[1024], key[32];
+    uint32_t way = under(100);
+    memset(c, 0, sizeof *c);
+    c->kind = way < 70 ? RECEIVE : way < 80 ? SEND : way < 80 + ticks ? TICK : way < 90 ? NEIGHBOURS : LOOK;
+    c->major = percent(3) ? any() : own_major;
+    c->minor = own_minor;
+    c->filled = any();
+    c->front = percent(30);
+    c->sound = true;
+    c->id = some_id();
+    c->verdict = percent(90) ? 1 : percent(50) ? under(4) : percent(50) ? 257 : (uint32_t)chance();
+    if (percent(10))
+        some_rest(own);
+    c->part[OWN] = kept(own, 100);
+    fill(b, sizeof b);
+    c->part[CPA] = kept(b, percent(90) ? own_cpa : percent(30) ? 1024 : percent(30) ? 1 : 1 + under(1024));
+    c->part[NONCE] = kept(b, 16);
+    draft_message(key);
+    if (c->kind == LOOK && percent(20))
+        damage_head();
+    c->part[KEY] = kept(key, 32);
+    c->part[DATAGRAM] = kept(draft.b, draft.n);
+    if (c->kind == SEND) {
+        draft_send(b, key);
+        c->part[NONCE] = kept(b, 32);
+        c->part[KEY] = kept(key, 32);
+    }
+    if (percent(6))
+        damage_call(c);
+    c->part[OUTPUT].len = some_room(c);
+}
+
+/* A night's beginning: all zero, or memory in form that is full to some degree. */
+
+static void begin_cache(size_t most)
+{
+    bool brim = most >= GREAT && percent(80);
+    size_t wanted = brim || percent(50) ? most : under(most + 1);
+    for (size_t tries = 0; tries < 4 * most && held() < wanted; tries++) {
+        uint8_t record[100];
+        some_key(record);
+        if (percent(30) || (brim && tries > most))
+            fill(record, 32);
+        some_rest(record);
+        size_t at = 0;
+        while (100 * at < now.cache_len && now.cache[100 * at + 34] != 0 && memcmp(now.cache + 100 * at, record, 32) < 0)
+            at++;
+        if (memcmp(record, own, 32) == 0 || (now.cache[100 * at + 34] != 0 && memcmp(now.cache + 100 * at, record, 32) == 0))
+            continue;
+        memmove(now.cache + 100 * at + 100, now.cache + 100 * at, 100 * (held() - at));
+        memcpy(now.cache + 100 * at, record, 100);
+    }
+}
+
+static void begin_waiting(void)
+{
+    size_t wanted = percent(50) ? 16 : under(17);
+    uint32_t id = percent(30) ? under(3) : under(1u << 28);
+    bool lively = percent(30); /* no place has its last try behind it: a tick lists them all */
+    for (size_t n = 0; n < wanted; n++) {
+        uint8_t *p = now.waiting + 140 * n, place[140] = {0};
+        bool inquiry = percent(60);
+        some_key(place + 8);
+        for (size_t i = 0; i < n; i++)
+            if (now.waiting[140 * i + 4] == 2 && memcmp(now.waiting + 140 * i + 8, place + 8, 32) == 0)
+                inquiry = false;
+        if (memcmp(place + 8, own, 32) == 0)
+            inquiry = false;
+        for (int k = 0; k < 4; k++)
+            place[k] = (uint8_t)(id >> 8 * k);
+        place[4] = inquiry ? 2 : 1;
+        place[5] = (uint8_t)(lively ? 1 + under(2) : under(3));
+        if (inquiry) {
+            memcpy(place + 40, place + 8, 32);
+            some_rest(place + 40);
+        }
+        memcpy(p, place, 140);
+        id += 1 + (percent(40) ? 0 : under(1u << 27));
+    }
+}
+
+size_t begin_night(void)
+{
+    static const uint16_t sizes[] = {20, 31, 64};
+    size_t most = percent(25) ? GREAT + under(2) : percent(10) ? sizes[under(3)] : 10 + under(8);
+    memset(&now, 0, sizeof now);
+    now.cache_len = 100 * most;
+    now.waiting_len = 2240;
+    begin_gauge();
+    if (most >= GREAT || percent(50))
+        begin_cache(most);
+    if (percent(60))
+        begin_waiting();
+    return 20 + under(most >= GREAT ? 60 : NIGHT - 20);
+}

@@ -1,0 +1,170 @@
+/* What random nights reached (tests/nights/compare.h), by number, and what accepted calls did. */
+#include "compare.h"
+#include "reached.h"
+#include <stdio.h>
+#include <string.h>
+
+/* What was reached. */
+
+static const uint32_t looked[MESSAGES] = {
+    BIT(2), BIT(2) | BIT(3) | BIT(4) | BIT(5), BIT(0) | ALL, BIT(0) | ALL, BIT(0) | ALL, ALL, BIT(0), BIT(0), BIT(0) | ALL, BIT(0) | ALL | BIT(7),
+    BIT(0) | ALL, BIT(0) | ALL};
+static unsigned long reached[KINDS][MESSAGES][16];
+
+static int message_in(const struct call *c)
+{
+    struct bytes d = {c->part[DATAGRAM].at, c->part[DATAGRAM].len};
+    return c->kind == RECEIVE || c->kind == LOOK ? message_of(c->major, d) : NONE;
+}
+
+static uint32_t possible(int kind, int message)
+{
+    if (kind == RECEIVE)
+        return received[message];
+    if (kind == LOOK)
+        return looked[message];
+    if (message != NONE)
+        return 0;
+    return kind == SEND ? BIT(0) | BIT(1) | BIT(12) | BIT(13) | BIT(14) | BIT(15) : BIT(0) | BIT(1) | BIT(15);
+}
+
+/* What an accepted call did, by what it left and wrote. */
+enum { JOINED, REPLACED, OTHER_DROPPED, SELF_DROPPED, BOTH, ACK_ONLY, INQUIRE_ONLY, QUIET, N_SET, WRAPPED, REVOKED, UNASKED, REVOKED_NOT, N_REMOVED,
+       N_CLEAR, SHOWN_OWN, SHOWN_HELD, EXPIRED, SIXTEEN, FIVES, BETWEEN, LIST_END, LIST_OPPOSITE, SHOWN_END, TIE, TIE_END, FULL_255, FULL_256,
+       SHOWN_256, DONE };
+static const char *const done_names[] = {
+    "learned: joined", "learned: replaced", "learned: another dropped", "learned: newcomer dropped", "FLOOD: ACK and INQUIRE", "FLOOD: ACK alone",
+    "FLOOD: INQUIRE alone", "FLOOD: nothing sent", "ACK sent with N", "INQUIRE with ID 0", "revoked: key removed", "revoked: inquiry freed",
+    "revoked: nothing there", "ACK: N removed the key", "ACK: nothing removed", "LOOKUP: own record shown", "LOOKUP: held record shown",
+    "tick: a place freed", "tick: sixteen listed", "list: five and five", "learned: dropped between", "list: across the end",
+    "list: key just opposite", "LOOKUP: across the end", "LOOKUP: tie", "LOOKUP: tie, larger number", "learned: into a full 255",
+    "learned: into a full 256", "LOOKUP: 256th record shown"};
+static unsigned long done[DONE];
+
+static size_t rows_used(const uint8_t *p, size_t len, size_t width, size_t mark)
+{
+    size_t n = 0;
+    while (width * n < len && p[width * n + mark] != 0)
+        n++;
+    return n;
+}
+
+/* Does a list go across the end of the ring: a key below that is a larger number than our own, or one above that is smaller? */
+static bool across_end(const uint8_t *own_key, const uint8_t *keys, size_t below, size_t above)
+{
+    for (size_t i = 0; i < below + above; i++)
+        if ((memcmp(keys + 32 * i, own_key, 32) > 0) == (i < below))
+            return true;
+    return false;
+}
+
+static bool has_opposite(const uint8_t *own_key, const uint8_t *keys, size_t n)
+{
+    for (size_t i = 0; i < n; i++)
+        if (keys[32 * i] == (own_key[0] ^ 0x80) && memcmp(keys + 32 * i + 1, own_key + 1, 31) == 0)
+            return true;
+    return false;
+}
+
+/* Is the key that was dropped for a newcomer neither the first nor the last number of all? */
+static bool dropped_between(const struct memory *before, size_t was, const uint8_t *newcomer)
+{
+    const uint8_t *first = before->cache, *last = before->cache + 100 * (was - 1);
+    bool first_stays = memcmp(now.cache, first, 32) == 0 || memcmp(newcomer, first, 32) < 0;
+    bool last_stays = memcmp(now.cache + 100 * (was - 1), last, 32) == 0 || memcmp(newcomer, last, 32) > 0;
+    return first_stays && last_stays;
+}
+
+/* A LOOKUP's answer: whose record is shown; is its key nearer across the end; does a key as far from the target on its other side stand in the cache,
+ * or is our own? */
+static void count_shown(const uint8_t *own_key, const uint8_t *target, const uint8_t *shown, const struct memory *before, size_t was)
+{
+    uint8_t other[32];
+    int sum = 0;
+    for (int i = 31; i >= 0; i--) {
+        sum += 2 * target[i] - shown[i];
+        other[i] = (uint8_t)(sum & 0xFF);
+        sum = (sum - other[i]) / 256;
+    }
+    bool tie = memcmp(other, own_key, 32) == 0;
+    for (size_t i = 0; i < was; i++)
+        tie = tie || memcmp(other, before->cache + 100 * i, 32) == 0;
+    tie = tie && memcmp(other, shown, 32) != 0;
+    done[memcmp(shown, own_key, 32) == 0 ? SHOWN_OWN : SHOWN_HELD]++;
+    done[SHOWN_256] += was == 256 && memcmp(shown, before->cache + 25500, 32) == 0;
+    done[SHOWN_END] += (target[0] < shown[0] ? shown[0] - target[0] : target[0] - shown[0]) > 128;
+    done[TIE] += tie;
+    done[TIE_END] += tie && memcmp(shown, other, 32) > 0;
+}
+
+static void count_learned(const uint8_t *key, const struct memory *before, size_t was)
+{
+    bool same = memcmp(before->cache, now.cache, now.cache_len) == 0, there = false;
+    size_t most = before->cache_len / 100;
+    for (size_t i = 0; i < was; i++)
+        there = there || memcmp(before->cache + 100 * i, key, 32) == 0;
+    done[there ? REPLACED : held() > was ? JOINED : same ? SELF_DROPPED : OTHER_DROPPED]++;
+    done[FULL_255] += !there && was == most && most == 255;
+    done[FULL_256] += !there && was == most && most == 256;
+    done[BETWEEN] += !there && held() == was && !same && dropped_between(before, was, key);
+}
+
+/* A FLOOD with a route entry: an ACK has 20 or 26 bytes, an INQUIRE 76. */
+static void count_entry(const struct call *c, const uint32_t *answer)
+{
+    bool acked = answer[1] == 20 || answer[1] == 26, asked = answer[1] == 76 || answer[2] == 76;
+    done[acked && asked ? BOTH : acked ? ACK_ONLY : asked ? INQUIRE_ONLY : QUIET]++;
+    done[WRAPPED] += asked && c->id == UINT32_MAX;
+}
+
+static void count_done(const struct call *c, int message, const uint32_t *answer, const uint8_t *out, const struct memory *before)
+{
+    size_t was = rows_used(before->cache, before->cache_len, 100, 34), is = held();
+    size_t waited = rows_used(before->waiting, before->waiting_len, 140, 4), wait = waits();
+    if (c->kind == TICK) {
+        done[EXPIRED] += wait < waited;
+        done[SIXTEEN] += answer[1] == 16;
+    }
+    if (c->kind == NEIGHBOURS) {
+        done[FIVES] += answer[1] == 5 && answer[2] == 5;
+        done[LIST_END] += across_end(c->part[OWN].at, out, answer[1], answer[2]);
+        done[LIST_OPPOSITE] += has_opposite(c->part[OWN].at, out, answer[1] + answer[2]);
+    }
+    if (c->kind != RECEIVE)
+        return;
+    done[N_SET] += (message == ENTRY || message == REVOKE) && answer[1] == 26;
+    if (message == AUTHORITY)
+        count_learned(c->part[KEY].at, before, was);
+    if (message == ENTRY)
+        count_entry(c, answer);
+    if (message == REVOKE) {
+        done[REVOKED] += is < was;
+        done[UNASKED] += wait < waited;
+        done[REVOKED_NOT] += is == was && wait == waited;
+    }
+    if (message == ACK)
+        done[is < was ? N_REMOVED : N_CLEAR]++;
+    if (message == LOOKUP)
+        count_shown(c->part[OWN].at, c->part[DATAGRAM].at + 28, out + 40, before, was);
+}
+
+void count_call(const struct call *c, const uint32_t *answer, const uint8_t *output, const struct memory *before)
+{
+    int message = message_in(c);
+    reached[c->kind][message][answer[0] & 15]++;
+    if (answer[0] == 0 && c->part[CACHE].at == NULL && c->part[WAITING].at == NULL)
+        count_done(c, message, answer, output, before);
+}
+
+int show_reached(void)
+{
+    int faults = 0;
+    show_numbers("reached, by number");
+    for (int k = 0; k < KINDS; k++)
+        for (int m = 0; m < MESSAGES; m++)
+            if (possible(k, m) != 0)
+                faults += show_row(kinds[k], k == RECEIVE || k == LOOK ? messages[m] : "", reached[k][m], possible(k, m));
+    for (int i = 0; i < DONE; i++)
+        faults += show_times(done_names[i], done[i], i % 4 == 3 || i == DONE - 1);
+    return faults;
+}

@@ -1,0 +1,766 @@
+/* Messages of a random night (tests/nights/draft.h). A draft is put together field by field as document 000 has them, and then perhaps damaged. */
+#include "draft.h"
+#include <string.h>
+
+/* Chance: a fixed seed gives the same nights on every machine. */
+
+uint64_t chance_state;
+
+uint64_t chance(void)
+{
+    uint64_t z = chance_state += 0x9E3779B97F4A7C15u;
+    z = (z ^ z >> 30) * 0xBF58476D1CE4E5B9u;
+    z = (z ^ z >> 27) * 0x94D049BB133111EBu;
+    return z ^ z >> 31;
+}
+
+uint32_t under(size_t n)
+{
+    return (uint32_t)(chance() % n);
+}
+
+bool percent(unsigned n)
+{
+    return under(100) < n;
+}
+
+uint8_t any(void)
+{
+    return (uint8_t)chance();
+}
+
+void fill(uint8_t *p, size_t n)
+{
+    uint64_t z = 0;
+    for (size_t i = 0; i < n; i++, z >>= 8) {
+        if (i % 8 == 0)
+            z = chance();
+        p[i] = (uint8_t)z;
+    }
+}
+
+void set_byte(uint8_t *p, size_t n)
+{
+    size_t at = under(n);
+    p[at] = any();
+}
+
+void flip_bit(uint8_t *p, size_t n)
+{
+    size_t at = under(n);
+    p[at] ^= (uint8_t)(1 << under(8));
+}
+
+/* The night's gauge, and keys that are worth a try. */
+
+uint8_t own[100];
+struct memory now;
+size_t own_cpa;
+uint8_t own_major, own_minor;
+unsigned ticks, answers;
+static uint8_t pool[32][32];
+static uint32_t next_id;
+
+size_t held(void)
+{
+    size_t n = 0;
+    while (100 * n < now.cache_len && now.cache[100 * n + 34] != 0)
+        n++;
+    return n;
+}
+
+size_t waits(void)
+{
+    size_t n = 0;
+    while (140 * n < now.waiting_len && now.waiting[140 * n + 4] != 0)
+        n++;
+    return n;
+}
+
+static void shift(uint8_t *key, int by)
+{
+    for (int i = 31; i >= 0 && by != 0; i--) {
+        int sum = key[i] + by;
+        key[i] = (uint8_t)(sum & 0xFF);
+        by = (sum - (sum & 0xFF)) / 256;
+    }
+}
+
+static int little(void)
+{
+    return (int)under(9) - 4;
+}
+
+/* A key at an edge: 0, 2^32, 2^64, 2^255, 2^256, give or take a little. */
+static void edge_key(uint8_t *key)
+{
+    static const uint8_t set[] = {0, 27, 23, 32};
+    uint32_t which = under(5);
+    memset(key, 0, 32);
+    if (which == 4)
+        key[0] = 0x80;
+    else if (which > 0 && set[which] < 32)
+        key[set[which]] = 1;
+    shift(key, little());
+}
+
+/* A key near to the point just opposite of our own. */
+static void opposite_key(uint8_t *key)
+{
+    memcpy(key, own, 32);
+    key[0] ^= 0x80;
+    shift(key, little());
+}
+
+void some_key(uint8_t *key)
+{
+    size_t h = held(), w = waits();
+    memcpy(key, own, 32);
+    switch (under(13)) {
+    case 0: break;
+    case 1: shift(key, little()); break;
+    case 12: opposite_key(key); break;
+    case 2: edge_key(key); break;
+    case 3: set_byte(key, 32); break;
+    case 4: flip_bit(key, 32); break;
+    case 5: fill(key, 32); break;
+    case 6: case 7:
+        if (h > 0)
+            memcpy(key, now.cache + 100 * under(h), 32);
+        break;
+    case 8:
+        if (h > 0)
+            memcpy(key, now.cache + 100 * under(h), 32);
+        shift(key, little());
+        break;
+    case 9:
+        if (w > 0)
+            memcpy(key, now.waiting + 140 * under(w) + 8, 32);
+        break;
+    default: memcpy(key, pool[under(32)], 32); break;
+    }
+}
+
+/* Half the sum of two keys that are held or our own: a tie, where the sum is even. It lies between them on the line; the other way round the ring,
+ * across its end, the point just opposite does, and is taken where the two are the first key and the last, or are far apart, or now and then. */
+static void middle_key(uint8_t *key)
+{
+    size_t h = held();
+    size_t at = h > 0 ? under(h) : 0;
+    const uint8_t *a = h > 0 ? now.cache + 100 * at : own;
+    const uint8_t *b = h > at + 1 && percent(60) ? a + 100 : own;
+    bool ends = h > 1 && percent(30);
+    if (ends) {
+        a = now.cache;
+        b = now.cache + 100 * (h - 1);
+    }
+    bool across = ends || (a[0] < b[0] ? b[0] - a[0] : a[0] - b[0]) > 127 || percent(10);
+    unsigned carry = 0, rest = 0;
+    for (int i = 31; i >= 0; i--) {
+        carry += (unsigned)a[i] + b[i];
+        key[i] = (uint8_t)carry;
+        carry >>= 8;
+    }
+    rest = carry;
+    for (int i = 0; i < 32; i++) {
+        rest = rest << 8 | key[i];
+        key[i] = (uint8_t)(rest >> 1);
+        rest &= 1;
+    }
+    if (across)
+        key[0] ^= 0x80;
+}
+
+/* All but the key. */
+void some_rest(uint8_t *record)
+{
+    memset(record + 32, 0, 68);
+    record[32] = percent(20) ? 0 : any();
+    record[33] = any();
+    record[34] = (uint8_t)(1 + under(4));
+    fill(record + 36, 16 * (size_t)record[34]);
+    for (size_t i = 0; i < 16 * (size_t)record[34]; i++)
+        if (record[36 + i] < 80)
+            record[36 + i] = 0;
+}
+
+uint32_t some_id(void)
+{
+    size_t w = waits();
+    const uint8_t *p = now.waiting + 140 * (w > 0 ? under(w) : 0);
+    uint32_t id = (uint32_t)p[0] | (uint32_t)p[1] << 8 | (uint32_t)p[2] << 16 | (uint32_t)p[3] << 24;
+    switch (under(10)) {
+    case 0: return id;
+    case 1: return id - 1;
+    case 2: return under(3);
+    case 3: return UINT32_MAX - under(3);
+    case 4: return (uint32_t)chance();
+    default: return next_id += 1 + under(3);
+    }
+}
+
+/* An ID that waits, of a kind; or another. */
+static uint32_t waiting_id(unsigned kind, unsigned often)
+{
+    size_t w = waits(), from = w > 0 ? under(w) : 0;
+    for (size_t i = 0; i < w && percent(often); i++) {
+        const uint8_t *p = now.waiting + 140 * ((from + i) % w);
+        if (p[4] == kind)
+            return (uint32_t)p[0] | (uint32_t)p[1] << 8 | (uint32_t)p[2] << 16 | (uint32_t)p[3] << 24;
+    }
+    return some_id();
+}
+
+/* A gauge for a night. */
+void begin_gauge(void)
+{
+    fill(own, 32);
+    if (percent(60))
+        edge_key(own);
+    some_rest(own);
+    for (size_t i = 0; i < 32; i++) {
+        memcpy(pool[i], own, 32);
+        if (percent(60))
+            shift(pool[i], (int)under(41) - 20);
+        else if (percent(40))
+            fill(pool[i], 32);
+        else if (percent(50))
+            opposite_key(pool[i]);
+        else
+            edge_key(pool[i]);
+    }
+    own_major = percent(70) ? 6 : any();
+    own_minor = percent(70) ? 101 : any();
+    own_cpa = percent(80) ? 1 + under(60) : 1 + under(1024);
+    ticks = under(4) * 2;
+    answers = percent(70) ? 95 : 25;
+    next_id = percent(40) ? UINT32_MAX - under(20) : (uint32_t)chance();
+}
+
+/* Datagrams. A draft remembers where its fields begin. */
+
+struct draft draft;
+
+static void add(const void *bytes, size_t n)
+{
+    if (draft.n + n > sizeof draft.b)
+        return;
+    memcpy(draft.b + draft.n, bytes, n);
+    draft.n += n;
+}
+
+static void add1(unsigned value)
+{
+    uint8_t b = (uint8_t)value;
+    add(&b, 1);
+}
+
+static void add2(size_t value)
+{
+    add1((unsigned)(value >> 8));
+    add1((unsigned)value);
+}
+
+static void add4(uint32_t value)
+{
+    add2(value >> 16);
+    add2(value);
+}
+
+static void set2(size_t at, size_t value)
+{
+    draft.b[at] = (uint8_t)(value >> 8);
+    draft.b[at + 1] = (uint8_t)value;
+}
+
+static void add_any(size_t n)
+{
+    if (draft.n + n > sizeof draft.b)
+        return;
+    fill(draft.b + draft.n, n);
+    draft.n += n;
+}
+
+static void add_field(unsigned number, size_t contents)
+{
+    if (draft.marked < 64)
+        draft.marks[draft.marked++] = draft.n;
+    add2(number);
+    add2(4 + contents);
+}
+
+static void add_key(unsigned number, const uint8_t *key)
+{
+    add_field(number, 32);
+    add(key, 32);
+}
+
+/* Ignored bytes: zero, or any. */
+static void add_ignored(size_t n)
+{
+    bool zeros = percent(50);
+    for (size_t i = 0; i < n; i++)
+        add1(zeros ? 0 : any());
+}
+
+/* A byte whose last bit is set so often of 100; now and then with other bits, which are ignored. */
+static void add_last_bit(unsigned often)
+{
+    unsigned ignored = percent(30) ? any() & 0xFEu : 0;
+    add1(percent(often) ? ignored | 1 : ignored);
+}
+
+static void add_padding(void)
+{
+    add_ignored((4 - draft.n % 4) % 4);
+}
+
+/* Contents of any length; now and then up to the greatest datagram and a little over it. */
+static void add_opaque(unsigned number)
+{
+    size_t n = percent(40) ? under(5) : under(60);
+    if (percent(4) && draft.n < 1200)
+        n = 1232 - draft.n - 4 + under(6) - 3;
+    add_field(number, n);
+    if (n == 0 && percent(4)) /* a length that does not count number and length */
+        draft.b[draft.n - 1] = (uint8_t)under(4);
+    add_any(n);
+}
+
+static void add_entry(const uint8_t *record)
+{
+    unsigned count = percent(1) ? under(2) * 5 : record[34];
+    uint8_t addresses[80] = {0};
+    memcpy(addresses, record + 36, 64);
+    add_field(0x9A, 38 + 16 * count);
+    add(record, 32);
+    add_any(2);
+    add(record + 32, 2);
+    add1(percent(50) ? 0 : any());
+    add1(count);
+    add(addresses, 16 * count);
+    add_padding();
+}
+
+static void add_some_entry(void)
+{
+    uint8_t record[100];
+    some_key(record);
+    some_rest(record);
+    add_entry(record);
+}
+
+static void add_array(unsigned number, unsigned element, unsigned size, size_t count)
+{
+    /* now and then a count whose length is the same in two bytes */
+    size_t wrap = percent(2) ? (size == 32 ? 0x800 * (1u + under(15)) : 0x8000) : 0;
+    add_field(number, 8 + size * count);
+    add2(count + wrap);
+    add2(8 + size * count);
+    add2(element);
+    add2(size);
+    add_any(size * count);
+}
+
+static void add_endpoints(void)
+{
+    size_t n = 1 + under(3);
+    if (percent(15))
+        n = 21 + under(3);
+    if (percent(3))
+        n = 0;
+    add_array(0x9E, 0x9D, 18, n);
+}
+
+static void add_keys(void)
+{
+    add_array(0x60, 0x30, 32, percent(20) ? under(37) : under(4));
+}
+
+static void add_signatures(void)
+{
+    if (percent(15))
+        add_opaque(0x80);
+    if (percent(15))
+        add_opaque(0xA5);
+    if (percent(15))
+        add_opaque(0xA6);
+}
+
+static void add_header(unsigned type)
+{
+    draft.n = draft.marked = 0;
+    add4(0x0010000C);
+    add1(0x51);
+    add1(own_major);
+    add1(any());
+    add1(type);
+    add4(some_id());
+}
+
+static void add_acked(uint32_t id)
+{
+    add_field(0x18, 4);
+    add4(id);
+}
+
+static void draft_solicit(void)
+{
+    add_header(1);
+    if (percent(50))
+        add_some_entry();
+    add_field(0x92, 20);
+    add_any(20);
+}
+
+static void draft_advertise(void)
+{
+    add_header(2);
+    add_acked(some_id());
+    add_keys();
+    add_field(0x92, 20);
+    add_any(20);
+}
+
+static void draft_request(void)
+{
+    size_t split = 0;
+    add_header(3);
+    if (percent(40)) {
+        add_field(0x40, 2);
+        add_ignored(4);
+    }
+    if (percent(40)) {
+        split = draft.n;
+        add_field(0x98, 4);
+        add4(0);
+    }
+    add_field(0x93, 16);
+    add_any(16);
+    add_keys();
+    add_signatures();
+    if (split != 0)
+        set2(split + 4, draft.n - split - 8 + (percent(5) ? under(3) - 1 : 0));
+    if (split != 0 && percent(5))
+        set2(split + 6, percent(50) ? 1188 : under(3));
+}
+
+/* The very same record, the same key with another, a key that is asked about, our own, or another. */
+static void draft_flood_record(uint8_t *record)
+{
+    size_t h = held();
+    some_key(record);
+    some_rest(record);
+    uint32_t way = under(10);
+    if (way < 3 && h > 0)
+        memcpy(record, now.cache + 100 * under(h), way < 2 ? 100 : 32);
+    else if (way < 8)
+        memcpy(record, pool[under(32)], 32);
+    if (way == 0 && h > 0 && percent(50)) { /* all the same but a bit of the port, or of the last address */
+        size_t last = 36 + 16 * (size_t)record[34] - 1;
+        flip_bit(record + (percent(50) ? 32 + under(2) : last), 1);
+    }
+}
+
+static void draft_flood_of(const uint8_t *key, const uint8_t *record, bool revoke)
+{
+    add_header(4);
+    add_field(0x43, 3);
+    add1(percent(50) ? 0 : any());
+    add_last_bit(35);
+    add_ignored(2);
+    add_key(0x39, percent(50) ? own : key);
+    if (percent(8)) {
+        add_opaque(0x9F);
+        add_padding();
+    }
+    if (revoke || percent(1)) {
+        add_opaque(0x9C);
+        add_padding();
+    }
+    if (!revoke || percent(2))
+        add_entry(record);
+    if (percent(12))
+        add_endpoints();
+}
+
+static void draft_flood(bool revoke)
+{
+    uint8_t key[32], record[100];
+    some_key(key);
+    draft_flood_record(record);
+    draft_flood_of(key, record, revoke);
+}
+
+static void draft_inquire(void)
+{
+    uint8_t key[32];
+    some_key(key);
+    add_header(7);
+    add_field(0x40, 2);
+    add_ignored(4);
+    add_key(0x39, percent(75) ? own : key);
+    if (percent(65)) {
+        add_field(0x93, 16);
+        add_any(16);
+    }
+    add_signatures();
+}
+
+/* All before the buffer's optional fields; gives the place of the split controls. */
+static size_t begin_authority(uint32_t to)
+{
+    add_header(8);
+    add_acked(to);
+    size_t split = draft.n;
+    add_field(0x98, 4);
+    add4(0);
+    add_field(0x40, 2);
+    add_ignored(4);
+    return split;
+}
+
+/* Size and offset, now and then of a part or out of bounds. */
+static void end_authority(size_t split)
+{
+    set2(split + 4, draft.n - split - 8);
+    switch (under(60)) {
+    case 0: set2(split + 4, draft.n - split - 8 + under(3) - 1); break;
+    case 1: set2(split + 4, 0x91E3 + under(3)); break;
+    case 2: set2(split + 6, 1188 * (1 + under(3))); break;
+    case 3: set2(split + 6, 1187 + under(3)); break;
+    default: break;
+    }
+}
+
+static void draft_authority(uint32_t to)
+{
+    size_t split = begin_authority(to);
+    if (percent(15)) {
+        add_opaque(0x80);
+        add_padding();
+    }
+    if (percent(8)) {
+        add_opaque(0x9F);
+        add_padding();
+    }
+    if (percent(15)) {
+        add_array(0x85, 0x84, 2, under(6));
+        add_padding();
+    }
+    if (percent(15)) {
+        add_opaque(0x5A);
+        add_padding();
+    }
+    if (percent(20))
+        add_some_entry();
+    if (percent(93))
+        add_opaque(0x9B);
+    end_authority(split);
+}
+
+void draft_authority_with(const uint8_t *payload, size_t len, size_t whole)
+{
+    size_t split = begin_authority(some_id());
+    if (percent(30)) {
+        add_opaque(0x80);
+        add_padding();
+    }
+    if (percent(30)) {
+        add_opaque(0x9F);
+        add_padding();
+    }
+    if (percent(30)) {
+        add_array(0x85, 0x84, 2, under(9));
+        add_padding();
+    }
+    if (payload != NULL) {
+        add_field(0x5A, len);
+        add(payload, len);
+        add_padding();
+    }
+    if (percent(40))
+        add_some_entry();
+    if (whole >= draft.n + 4) {
+        size_t rest = whole - draft.n - 4;
+        add_field(0x9B, rest);
+        add_any(rest);
+    } else if (percent(60)) {
+        add_opaque(0x9B);
+    }
+    end_authority(split);
+}
+
+static void draft_ack(void)
+{
+    add_header(9);
+    add_acked(waiting_id(1, 90));
+    if (percent(55)) {
+        add_field(0x40, 2);
+        add1(percent(50) ? 0 : any());
+        add_last_bit(60);
+    }
+}
+
+/* A target: any key, the middle of two, or near to the last that is held. */
+static void draft_target(uint8_t *target)
+{
+    size_t h = held();
+    uint32_t way = under(20);
+    if (way < 5 && h > 0) {
+        memcpy(target, now.cache + 100 * (h - 1), 32);
+        shift(target, little());
+    } else if (way < 12) {
+        some_key(target);
+    } else {
+        middle_key(target);
+    }
+}
+
+static void draft_lookup(void)
+{
+    static const uint8_t criteria[] = {0, 1, 2, 4, 8};
+    uint8_t target[32], validate[32];
+    some_key(validate);
+    draft_target(target);
+    add_header(11);
+    add_field(0x45, 8);
+    add_ignored(4);
+    add1(percent(97) ? criteria[under(5)] : under(20));
+    add1(percent(97) ? under(4) : under(8));
+    add_ignored(2);
+    add_key(0x38, target);
+    add_key(0x39, validate);
+    if (percent(30))
+        add_some_entry();
+    add_endpoints();
+    add_signatures();
+}
+
+/* One damage: a byte, a bit, a cut, growth, or a field's number or length. */
+void damage_draft(void)
+{
+    static const uint8_t numbers[] = {0x18, 0x38, 0x39, 0x40, 0x5A, 0x60, 0x80, 0x85, 0x92, 0x93, 0x98, 0x9A, 0x9B, 0x9C, 0x9E, 0x9F, 0xA0, 0xA1,
+                                      0xA2, 0xA3, 0xA4, 0xA5, 0xA6};
+    static const uint8_t edges[] = {1, 11, 12, 13};
+    size_t mark = draft.marked > 0 ? draft.marks[under(draft.marked)] : 0;
+    size_t n = draft.n > 0 ? draft.n : 1, edge, grown;
+    switch (under(14)) {
+    case 0: set_byte(draft.b, n); break;
+    case 1: flip_bit(draft.b, n); break;
+    case 2: draft.n = under(n + 1); break;
+    case 3: draft.n = mark; break;
+    case 4: add_any(1 + under(8)); break;
+    case 5: add_ignored(1 + under(4)); break;
+    case 6: draft.b[mark + 1] = numbers[under(sizeof numbers)]; break;
+    case 7: draft.b[mark + 3] = (uint8_t)(draft.b[mark + 3] + under(9) - 4); break;
+    case 8: draft.b[mark + 2] = any(); break;
+    case 9: set_byte(draft.b + mark + 4, 8); break;
+    case 10: set_byte(draft.b, 8); break;
+    case 11: draft.b[7] = (uint8_t)under(14); break;
+    case 12:
+        edge = edges[under(4)];
+        draft.n = n > edge ? edge : n;
+        break;
+    default:
+        grown = 1230 + under(6);
+        if (n < grown)
+            add_any(grown - n);
+        break;
+    }
+    /* an AUTHORITY is often whole again, so that its buffer is looked at */
+    if (draft.n >= 28 && draft.b[7] == 8 && percent(60))
+        set2(24, draft.n - 28);
+}
+
+void damage_head(void)
+{
+    switch (under(3)) {
+    case 0: draft.n = percent(50) ? 8 + under(4) : 1233; break;
+    case 1: flip_bit(draft.b, 5); break;
+    default: draft.b[5] = any(); break;
+    }
+}
+
+void draft_message(uint8_t *key)
+{
+    uint32_t to = waiting_id(2, 92);
+    some_key(key);
+    switch (under(20)) {
+    case 0: draft_solicit(); break;
+    case 1: draft_advertise(); break;
+    case 2: draft_request(); break;
+    case 3: case 4: case 5: case 6: case 7: draft_flood(false); break;
+    case 8: case 9: draft_flood(true); break;
+    case 10: draft_inquire(); break;
+    case 11: case 12: case 13: case 14: case 15:
+        if (percent(answers))
+            draft_authority(to);
+        else
+            draft_flood(false);
+        break;
+    case 16: case 17:
+        if (percent(answers))
+            draft_ack();
+        else
+            draft_inquire();
+        break;
+    default: draft_lookup(); break;
+    }
+    for (size_t i = 0; i < waits(); i++) {
+        const uint8_t *p = now.waiting + 140 * i;
+        uint32_t id = (uint32_t)p[0] | (uint32_t)p[1] << 8 | (uint32_t)p[2] << 16 | (uint32_t)p[3] << 24;
+        if (draft.b[7] == 8 && id == to && percent(92))
+            memcpy(key, p + 8, 32);
+        else if (draft.b[7] == 4 && p[4] == 2 && percent(5))
+            memcpy(key, p + 8, 32);
+    }
+    while (percent(28))
+        damage_draft();
+    if (percent(2))
+        add_header(12 + under(244));
+}
+
+void draft_learning(uint8_t *key)
+{
+    uint8_t record[100];
+    for (size_t i = 0; i < waits(); i++) {
+        const uint8_t *p = now.waiting + 140 * i;
+        if (p[4] == 2) {
+            memcpy(key, p + 8, 32);
+            draft_authority((uint32_t)p[0] | (uint32_t)p[1] << 8 | (uint32_t)p[2] << 16 | (uint32_t)p[3] << 24);
+            return;
+        }
+    }
+    if (percent(25))
+        memcpy(record, pool[under(32)], 32);
+    else
+        fill(record, 32);
+    some_rest(record);
+    memcpy(key, record, 32);
+    draft_flood_of(key, record, false);
+}
+
+void draft_inquire_of(size_t n)
+{
+    add_header(7);
+    add_field(0x40, 2);
+    add_ignored(4);
+    add_key(0x39, own);
+    size_t rest = n - draft.n - 4;
+    add_field(0xA6, rest);
+    add_any(rest);
+}
+
+void draft_send(uint8_t *neighbour, uint8_t *key)
+{
+    size_t h = held();
+    some_key(neighbour);
+    some_key(key);
+    if (h > 0 && percent(75))
+        memcpy(neighbour, now.cache + 100 * under(h), 32);
+    if (percent(35))
+        memcpy(key, own, 32);
+    else if (h > 0 && percent(70))
+        memcpy(key, now.cache + 100 * under(h), 32);
+}

@@ -1,0 +1,59 @@
+/* Messages of a random night, drafted by chance so that they lean on what the gauge has in memory: IDs that wait, keys held, the own key. Used by
+ * tests/nights/compare.c, tests/nights/nights.c and tests/nights/readings.c. The same seed gives the same nights on every machine. */
+#ifndef DRAFT_H
+#define DRAFT_H
+
+#include <stdbool.h>
+#include <stddef.h>
+#include <stdint.h>
+
+#define MEMORY_ROOM (8u * 4096u)
+
+/* Each draw is a statement of its own, or stands behind ?, && or ||: where C leaves an order open, compilers take different ones. */
+extern uint64_t chance_state; /* set to the seed */
+uint64_t chance(void);
+uint32_t under(size_t n);  /* 0 to n - 1 */
+bool percent(unsigned n); /* true n times of 100 */
+uint8_t any(void);
+void fill(uint8_t *p, size_t n);
+void set_byte(uint8_t *p, size_t n); /* one of n bytes, to any */
+void flip_bit(uint8_t *p, size_t n); /* one bit of n bytes */
+
+/* The night's gauge. Whoever makes the calls keeps `now` as the last one left it. */
+struct memory {
+    uint8_t cache[MEMORY_ROOM], waiting[MEMORY_ROOM];
+    size_t cache_len, waiting_len;
+};
+extern struct memory now;
+extern uint8_t own[100];
+extern uint8_t own_major, own_minor;
+extern size_t own_cpa;          /* its length, where it may have any */
+extern unsigned ticks, answers; /* how often in this night, of 100 */
+
+void begin_gauge(void); /* all but `now`, anew */
+size_t held(void);      /* records in the cache */
+size_t waits(void);     /* places in use */
+
+void some_key(uint8_t *key);
+void some_rest(uint8_t *record); /* all but the key */
+uint32_t some_id(void);
+
+/* A datagram; where its fields begin is remembered for damage. */
+struct draft {
+    uint8_t b[2048];
+    size_t n, marks[64], marked;
+};
+extern struct draft draft;
+
+void draft_message(uint8_t *key);  /* and the key that the host names with its verdict */
+void draft_learning(uint8_t *key); /* an AUTHORITY for an inquiry that waits; where none does, a FLOOD of some gauge's record */
+void draft_inquire_of(size_t n);   /* an INQUIRE for our key, n bytes long, good but for that; n from 60 to 2048 */
+void draft_send(uint8_t *neighbour, uint8_t *key);
+
+/* An AUTHORITY with this payload, or none where it is NULL, and its other fields by chance. It is `whole` bytes long where its CPA can make it so,
+ * and of any length where `whole` is 0. */
+void draft_authority_with(const uint8_t *payload, size_t len, size_t whole);
+void damage_draft(void); /* in one place */
+void damage_head(void);  /* so that it gives 2, 3 or 4, which damage anywhere seldom does */
+
+#endif

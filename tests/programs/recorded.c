@@ -1,0 +1,109 @@
+/* Calls of one gauge, made by the archive and recorded by include/gauge_trace.h, as a radio program would.
+ *
+ * recorded CALLS [ANSWERS] <LINES    writes the trace to CALLS and the answers to ANSWERS, and says how many calls there were and whether one failed
+ *
+ * The first line is `own RECORD`, and each other line a call: `receive ID VERDICT KEY DATAGRAM`, `send ID NEIGHBOUR KEY` or `tick`. Bytes have two
+ * hexadecimal digits each, - for none; versions are 6 and 101, and the nonce is 0 to 15. */
+#include "gauge_trace.h"
+#include <stdlib.h>
+#include <string.h>
+
+static char line[200000];
+static uint8_t own[GAUGE_RECORD_LEN], cache[GAUGE_TRACE_HELD * GAUGE_RECORD_LEN], waiting[GAUGE_WAITING_LEN], output[GAUGE_OUTPUT_LEN];
+static const uint8_t cpa[GAUGE_TRACE_CPA_LEN] = {0};
+static uint8_t nonce[GAUGE_NONCE_LEN];
+
+static void stop(const char *what)
+{
+    fprintf(stderr, "recorded: %s\n", what);
+    exit(2);
+}
+
+/* The next word of the line. */
+static const char *word(void)
+{
+    const char *w = strtok(NULL, " \n");
+    if (w == NULL)
+        stop("a line is too short");
+    return w;
+}
+
+static uint32_t number(void)
+{
+    return (uint32_t)strtoul(word(), NULL, 10);
+}
+
+/* Bytes of the next word, no more than there is room for; gives how many. */
+static size_t bytes(uint8_t *to, size_t room)
+{
+    const char *w = word();
+    size_t n = strcmp(w, "-") == 0 ? 0 : strlen(w) / 2;
+    if (n > room)
+        stop("too many bytes");
+    for (size_t i = 0; i < n; i++) {
+        char digits[3] = {w[2 * i], w[2 * i + 1], 0};
+        to[i] = (uint8_t)strtoul(digits, NULL, 16);
+    }
+    return n;
+}
+
+static void receive(struct gauge_trace *t)
+{
+    static uint8_t datagram[sizeof line / 2];
+    uint8_t key[GAUGE_KEY_LEN];
+    uint32_t id = number(), verdict = number();
+    bytes(key, sizeof key);
+    size_t len = bytes(datagram, sizeof datagram);
+    struct gauge_answer a = gauge_receive(own, sizeof own, cpa, sizeof cpa, cache, sizeof cache, waiting, sizeof waiting, 6, 101, id, nonce,
+                                          sizeof nonce, verdict, key, sizeof key, datagram, len, output, sizeof output);
+    gauge_trace_receive(t, a.number, id, nonce, verdict, key, datagram, len);
+}
+
+static void send(struct gauge_trace *t)
+{
+    uint8_t neighbour[GAUGE_KEY_LEN], key[GAUGE_KEY_LEN];
+    uint32_t id = number();
+    bytes(neighbour, sizeof neighbour);
+    bytes(key, sizeof key);
+    struct gauge_answer a = gauge_send(own, sizeof own, cache, sizeof cache, waiting, sizeof waiting, 6, 101, id, neighbour, sizeof neighbour,
+                                       key, sizeof key, output, sizeof output);
+    gauge_trace_send(t, a.number, id, neighbour, key);
+}
+
+static void tick(struct gauge_trace *t)
+{
+    struct gauge_answer a = gauge_tick(own, sizeof own, waiting, sizeof waiting, output, sizeof output);
+    gauge_trace_tick(t, a.number);
+}
+
+/* A file without a buffer: what can't be written is seen at once. */
+static FILE *opened(const char *path)
+{
+    FILE *f = fopen(path, "wb");
+    if (f == NULL || setvbuf(f, NULL, _IONBF, 0) != 0)
+        stop("a file can't be opened");
+    return f;
+}
+
+int main(int argc, char **argv)
+{
+    if (argc < 2 || fgets(line, sizeof line, stdin) == NULL || strtok(line, " \n") == NULL)
+        stop("give a file for the trace, and calls");
+    bytes(own, sizeof own);
+    for (size_t i = 0; i < sizeof nonce; i++)
+        nonce[i] = (uint8_t)i;
+    struct gauge_trace t = gauge_trace_begin(opened(argv[1]), argc > 2 ? opened(argv[2]) : NULL, 6, 101, own);
+    while (fgets(line, sizeof line, stdin) != NULL) {
+        const char *call = strtok(line, " \n");
+        if (call == NULL)
+            stop("an empty line");
+        else if (strcmp(call, "receive") == 0)
+            receive(&t);
+        else if (strcmp(call, "send") == 0)
+            send(&t);
+        else
+            tick(&t);
+    }
+    printf("%lu calls, %s\n", t.count, t.failed ? "failed" : "written");
+    return 0;
+}

@@ -1,0 +1,261 @@
+"""Traces for tests/programs/shown, and names for their keys: every answer that a replay can have, every bad record, a full cache, random nights.
+
+Each trace of known answers says them beside its records, and they are held against tests/models/model_night.py's.
+"""
+if not __debug__:
+    raise SystemExit("shown_traces.py: run it without -O and PYTHONOPTIMIZE, which leave its asserts out")
+import random
+
+import with_models
+import model
+import model_night
+
+
+def key(n):
+    return n.to_bytes(32, "big")
+
+
+def gauge_record(n, port=5000, count=1):
+    return key(n) + model.two(port) + bytes([count, 0]) + bytes(range(1, 16 * count + 1)) + bytes(64 - 16 * count)
+
+
+def put(kind, body):
+    return (len(body) + 2).to_bytes(2, "little") + kind.to_bytes(2, "little") + body
+
+
+def opening(own):
+    return put(4, bytes([6, 101]) + own)
+
+
+def receive(identity, datagram, verdict=0, named=bytes(32)):
+    return put(1, identity.to_bytes(4, "little") + bytes([verdict]) + named + bytes(range(16)) + datagram)
+
+
+def send(identity, neighbour, about):
+    return put(2, identity.to_bytes(4, "little") + key(neighbour) + key(about))
+
+
+TICK = put(3, b"")
+
+
+def message(kind, identity, **named):
+    return model.write(model.message(kind, 6, 101, identity, **named))
+
+
+def flood(identity, record, validate=100):
+    return message("flood", identity, validate=key(validate), route=model.entry_of(record, 6, 101))
+
+
+def revocation(identity):
+    return message("flood", identity, validate=key(100), revoke=b"R")
+
+
+def authority(identity, acked, cpa=b"C"):
+    return message("authority", identity, acked=acked, cpa=cpa)
+
+
+def lookup(identity, target):
+    return message("lookup", identity, target=key(target), validate=key(0), path=[bytes(18)])
+
+
+# The FLOOD of a record, and the AUTHORITY to the INQUIRE that it brings about: the record is learned.
+def learn(identity, record):
+    return [(receive(identity, flood(identity, record)), 0), (receive(identity + 2, authority(7, identity + 1), 1, record[:32]), 0)]
+
+
+# Document 01, "Cases worked by hand", as far as calls make them, and each answer that a replay can have but 1. Pairs of a record and its answer.
+def worked_cases():
+    plain = bytes.fromhex("0010000C510665090000000700180008D8859CF5")
+    calls = []
+    # 1: own 100, held 60, 70, 80, 90, 95, 99, 101, 110
+    for i, n in enumerate([60, 70, 80, 90, 95, 99, 101, 110]):
+        calls += learn(1000 + 10 * i, gauge_record(n, 5000 + n, 1 + i % 4))
+    # 6 by LOOKUP, 10 and 11 as ACKs that nothing waits for
+    calls += [(receive(1, lookup(2, 100)), 0), (receive(1, plain), 8), (receive(1, plain + bytes.fromhex("004000060001")), 8)]
+    # 12: a place with two tries: listed, listed, freed. An ACK is late then, and in time before
+    calls += [(send(20, 99, 100), 0), (TICK, 0), (TICK, 0), (TICK, 0), (receive(1, message("ack", 3, acked=20)), 8)]
+    calls += [(send(21, 99, 101), 0), (receive(1, message("ack", 3, acked=21)), 0)]
+    # N: the neighbour is not there any more, and is taken out
+    calls += [(send(22, 95, 100), 0), (receive(1, message("ack", 4, acked=22, n=True)), 0), (send(23, 95, 100), 12)]
+    # 13: datagrams of 11 and 1,233 bytes, and of 12 with a right header
+    calls += [(receive(1, plain[:11]), 2), (receive(1, plain + bytes(1213)), 2), (receive(1, plain[:12]), 6), (receive(1, b""), 2)]
+    calls += refusals(plain)
+    # 14: sixteen places used, and one freed by an ACK
+    calls += [(send(300 + i, 99, 100), 0) for i in range(16)]
+    again = receive(400, flood(5, gauge_record(55)))
+    calls += [(again, 14), (receive(1, message("ack", 6, acked=307)), 0), (again, 0)]
+    return calls + [(TICK, 0), (send(4294967295, 110, 100), 14)]
+
+
+def refusals(plain):
+    new, own = gauge_record(50), gauge_record(100)
+    calls = [(receive(1, b"\1" + plain[1:]), 3), (receive(1, plain[:5] + b"\7" + plain[6:]), 4), (receive(1, plain[:7] + b"\5" + plain[8:]), 5)]
+    calls += [(receive(1, message("solicit", 30, route=model.entry_of(new, 6, 101), hashed_nonce=bytes(20))), 7)]
+    calls += [(receive(1, message("advertise", 31, acked=5, keys=[key(1)], hashed_nonce=bytes(20))), 7)]
+    calls += [(receive(1, message("request", 32, nonce=bytes(16), keys=[])), 7), (receive(1, authority(33, 5)[:-1]), 7)]
+    # one inquiry: not trusted, not good, for another key; its ID again; then revoked, so that its AUTHORITY comes late
+    calls += [(receive(200, flood(34, new)), 0), (receive(1, authority(35, 201, None), 1, key(50)), 9), (receive(1, authority(35, 201)), 9)]
+    calls += [(receive(1, authority(35, 201), 1, key(51)), 10), (receive(200, flood(36, gauge_record(51))), 13), (send(201, 99, 100), 13)]
+    calls += [(receive(1, revocation(37)), 9), (receive(1, revocation(37), 1, key(100)), 11), (receive(1, revocation(38), 1, key(50)), 0)]
+    calls += [(receive(1, authority(35, 201), 1, key(50)), 8), (receive(1, flood(39, own)), 11)]
+    # an AUTHORITY that tells a gauge, which answers a LOOKUP
+    calls += [(receive(1, message("authority", 40, acked=3, route=model.entry_of(new, 6, 101))), 8)]
+    calls += [(receive(1, message("inquire", 41, a=True, validate=key(100))), 0), (receive(1, message("inquire", 42, a=True, validate=key(99))), 12)]
+    return calls + [(send(24, 99, 98), 12)]
+
+
+def worked_trace():
+    calls = worked_cases()
+    data = opening(gauge_record(100)) + b"".join(record for record, _ in calls)
+    want = ["%d %d" % (n, answer) for n, (_, answer) in enumerate(calls, 1)]
+    assert model_night.replay(data)[0] == want, [pair for pair in zip(model_night.replay(data)[0], want) if pair[0] != pair[1]]
+    assert {answer for _, answer in calls} == set(range(15)) - {1}
+    return data
+
+
+# Each bad record behind a good night's beginning, and as the first. 02: 16 cut short or of wrong length, 17 unknown kind, kind 4 missing or repeated.
+def bad_traces():
+    first, tail = opening(gauge_record(100)), TICK + TICK
+    bad = {"one_byte": b"\2", "no_kind": b"\1\0\3", "cut": receive(1, bytes(12))[:-1], "short_receive": put(1, bytes(52)) + tail,
+           "short_send": put(2, bytes(67)) + tail, "long_send": put(2, bytes(69)) + tail, "long_tick": put(3, b"\0") + tail,
+           "short_opening": put(4, bytes(101)) + tail, "kind_0": put(0, bytes(53)) + tail, "kind_5": put(5, b"") + tail,
+           "kind_256": put(256, b"") + tail}
+    traces = {"empty": b"", "opening_cut": first[:-1], "opening_missing": tail, "opening_again": first + TICK + first + tail, "opening_only": first,
+              "longest_record": first + receive(1, bytes(65480)) + TICK}
+    for name, record in bad.items():
+        traces["bad_" + name] = first + TICK + record
+        traces["first_" + name] = record
+    return traces
+
+
+# Own records out of form: count 0 and 5, the zero byte, an address that is not used. Each call gives 1, a tick too.
+def formless_traces():
+    good, calls = gauge_record(100), TICK + receive(1, flood(5, gauge_record(99))) + send(2, 99, 100) + receive(1, b"")
+    own = {"count_0": good[:34] + b"\0" + good[35:], "count_5": good[:34] + b"\5" + good[35:], "zero": good[:35] + b"\1" + good[36:],
+           "unused": good[:99] + b"\1", "nothing": bytes(100)}
+    traces = {"own_" + name: opening(record) + calls for name, record in own.items()}
+    for data in traces.values():
+        assert model_night.replay(data)[0] == ["1 1", "2 1", "3 1", "4 1"]
+    return traces
+
+
+# A cache that overflows: 70 gauges are learned, of which 64 are held.
+def full_trace():
+    calls = [record for i in range(70) for record, _ in learn(10 * i, gauge_record(1000 + 7 * i, i, 1 + i % 4))]
+    return opening(gauge_record(1200)) + b"".join(calls)
+
+
+# Keys on both sides of the ring's end: 70 gauges around pond 1, two of them just opposite and next to that, of which 64 are held. Then LOOKUPs there.
+def round_trace():
+    keys = [(1 + steps) % 2 ** 256 for steps in [2 ** 255, 2 ** 255 + 1] + [n * way for n in range(34, 0, -1) for way in (1, -1)]]
+    calls = [record for i, n in enumerate(keys) for record, _ in learn(10 * i, gauge_record(n, i, 1 + i % 4))]
+    calls += [receive(1, lookup(2, target)) for target in (0, 2 ** 256 - 1, 2 ** 255, 2 ** 255 + 1)]
+    data = opening(gauge_record(1)) + b"".join(calls)
+    lines, night = model_night.replay(data)
+    assert [line.split()[1] for line in lines] == ["0"] * len(calls)
+    kept = [(1 + steps) % 2 ** 256 for steps in range(-32, 33) if steps]
+    assert [model.key_of(r) for r in model.held(night.own, night.cache)] == sorted(kept)
+    return data
+
+
+def round_names():
+    return b"".join(b"%s %s\n" % (key(n % 2 ** 256).hex().encode(), name)
+                    for n, name in ((1, b"First Pond"), (-1, b"Last Pond"), (0, b"Pond Nought"), (2, b"Second")))
+
+
+# --- Random nights ---------------------------------------------------------------------------------------------------------
+
+def random_trace(seed, count):
+    """Calls on a few gauges, so that answers, late ones and stray ones, meet what waits."""
+    chance = random.Random(seed)
+    ends = [lambda: chance.randrange(2 ** 256), lambda: chance.randrange(300), lambda: 2 ** 256 - 1 - chance.randrange(9)]
+    pool = [chance.choice(ends)() for _ in range(chance.choice([8, 90]))]
+    own = gauge_record(pool[0], chance.randrange(65536), chance.randint(1, 4))
+    data = opening(own)
+    night = model_night.Night(bytes([6, 101]) + own)
+    for _ in range(count):
+        record = random_record(chance, pool, night)
+        kind, body, _ = model_night.taken(record, 0)
+        night.call(kind, body)
+        data += record
+    return data + chance.choice([b"", b"", b"\2\0", put(9, b""), opening(own)])
+
+
+def random_record(chance, pool, night):
+    places = model.waits(night.own, night.waiting)
+    waiting = chance.choice(places) if places and chance.random() < 0.9 else model.place(chance.randrange(2 ** 32), 1, 2, key(pool[1]))
+    identity = chance.choice([chance.randrange(2 ** 32), chance.randrange(40), waiting["id"], 2 ** 32 - 1])
+    which = chance.randrange(12)
+    if which < 2:
+        return TICK
+    if which < 4:
+        return send(identity, chance.choice(pool), chance.choice(pool))
+    if which < 6 and waiting["kind"] == 2:
+        return receive(identity, authority(chance.randrange(2 ** 32), waiting["id"]), chance.choice([1, 1, 1, 0]), waiting["key"])
+    if which < 6:
+        return receive(identity, message("ack", chance.randrange(2 ** 32), acked=waiting["id"], n=chance.choice([None, None, False, True])))
+    return receive(identity, random_datagram(chance, pool), chance.choice([0, 1, 1, 255]), key(chance.choice(pool)))
+
+
+def random_datagram(chance, pool):
+    identity, other = chance.randrange(2 ** 32), gauge_record(chance.choice(pool), chance.randrange(9), chance.randint(1, 4))
+    datagram = chance.choice([
+        lambda: flood(identity, other, chance.choice(pool)), lambda: flood(identity, other), lambda: flood(identity, other),
+        lambda: revocation(identity), lambda: lookup(identity, chance.choice(pool)),
+        lambda: message("inquire", identity, a=True, validate=key(chance.choice(pool[:2]))),
+        lambda: message("authority", identity, acked=chance.randrange(2 ** 32), route=model.entry_of(other, 6, 101))])()
+    if chance.random() < 0.1:
+        at = chance.randrange(len(datagram))
+        datagram = datagram[:at] + bytes([chance.randrange(256)]) + datagram[at + 1:]
+    if chance.random() < 0.05:
+        datagram = datagram[:chance.randrange(len(datagram))]
+    return datagram
+
+
+# --- Names for the traces --------------------------------------------------------------------------------------------------
+
+# examples/hill.c: a generator of 64 bits, 61 at first. A pond's key is 4 times its number and 31 random bytes; before it, from the second pond on,
+# one number is drawn for the pond that it knows.
+def hill_names():
+    state = 61
+
+    def dice(n):
+        nonlocal state
+        state ^= state << 13 & 2 ** 64 - 1
+        state ^= state >> 7
+        state ^= state << 17 & 2 ** 64 - 1
+        return (state >> 32) % n
+
+    lines = ["# the ponds of the hill\n"]
+    for number in range(1, 62):
+        if number > 1:
+            dice(number - 1)
+        lines.append("%s Pond %d\n" % (bytes([4 * number] + [dice(256) for _ in range(31)]).hex(), number))
+    return "".join(lines).encode()
+
+
+# Every form of line: passed over, upper and lower case, a carriage return, too long, with characters of two and three bytes around the fortieth,
+# empty, twice, and the last without a line end.
+def worked_names():
+    def line_of(n, name, case=str.lower):
+        return case(key(n).hex()).encode() + b" " + name.encode()
+
+    lines = [b"# ponds of document 01's cases", b"", line_of(100, "Own Pond"), line_of(99, "Fonte Bassa\r"), line_of(101, "Pozza dell'Àlbero"),
+             line_of(90, "n" * 40, str.upper), line_of(95, "n" * 41), line_of(80, "n" * 39 + "àà"), line_of(70, "n" * 38 + "àà"),
+             line_of(60, "n" * 38 + "€€"), line_of(110, ""), line_of(50, "First"), line_of(50, "Second"),
+             key(55).hex().encode() + b"\tNo Space", b"g" + line_of(51, "No Digit")[1:],
+             b" " + line_of(51, "Not At The Start"), line_of(51, "Short")[1:], line_of(98, "Last")]
+    return b"\n".join(lines)
+
+
+def traces():
+    """Name, trace and names, or None for no names at all."""
+    yield "worked", worked_trace(), worked_names()
+    yield "worked_without_names", worked_trace(), None
+    yield "names_to_the_brim", worked_trace(), b"#" * 65000 + b"\n" + worked_names() + b"\n" + b"x" * 9000
+    yield "full", full_trace(), None
+    yield "round", round_trace(), round_names()
+    for name, data in {**bad_traces(), **formless_traces()}.items():
+        yield name, data, None
+    for seed in range(8):
+        yield "random_%d" % seed, random_trace(seed, 500), worked_names()

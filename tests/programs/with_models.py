@@ -1,0 +1,1 @@
+../vectors/with_models.py

@@ -1,0 +1,1277 @@
+#!/usr/bin/env python3
+"""Vectors for the calls. They act on what the calls before them left, so the lines are read in their order.
+
+    gauge OWN C CPA MAJOR MINOR                      a gauge with an empty cache of C records and an empty waiting table
+    set-cache BYTES, set-waiting BYTES               other bytes for one of them; these three answer ok
+    receive ID NONCE VERDICT KEY DATAGRAM ROOM
+    send ID NEIGHBOUR KEY ROOM
+    tick ROOM
+    list ROOM
+    held                                             the keys held
+    waits                                            the places used, as ID:kind:tries:key
+    look MAJOR DATAGRAM                              the twelve numbers of gauge_look (D23)
+
+    vector_calls.py                                  checks the numbers, lengths and bytes that the documents give
+
+ROOM is the length of the output, two bytes; it is filled with EE before each call. A call's answer is number, first and second; the bytes that
+it has put at the start of the output (first + second, for a tick 4 x first, for a list 32 x (first + second)), - for none; `same` or `changed`
+for the cache, then for the waiting table; `clean` where all of the output behind those bytes is still EE, else `dirty`. IDs are decimal, keys in
+hexadecimal without leading zeros.
+
+A `want` is what the documents give: the number, or number, first and second, or the whole list; it is compared with the model's answer.
+`sends` are the datagrams, laid out by hand.
+
+Where to find what (each is a function below, and a heading of crates/vectors/stdin):
+
+    case 14 of document 01; case 13 by a receive              case14; limits
+    the datagrams that go out, byte by byte                   bytewise (in hexadecimal), and every `sends`
+    every number of every call; two at once                   refusals, pairs; TABLES says which there are, and the check that none is left out
+    nothing has changed after a refusal                       every refused line: `- same same clean`
+    a place freed, then refused for room; a late AUTHORITY    the end of refusals; revocations
+    every type looked at, with and without each field         looking
+    the ring: drops, lists and LOOKUPs across its end         across, listing, answered (and vector_memory, ring_lists to ring_near)
+
+    The vectors of D67, against gauges that would pass without them:
+    verdict 0, 2, 257 with a FLOOD that has a route entry     floods, "the verdict is ignored"
+    an ACK for an inquiry's ID, an AUTHORITY for a flood's    acked, authorities, at their start
+    an ACK with its flags and N clear; N for a key not held   acked
+    the very same record, other versions; another port        floods, "the very same record", "the same key with another port"
+    a LOOKUP whose route entry names us                       answered, "its route entry is not learned"
+    id + 1 is a waiting flood's ID; ID 4294967295 with D      identities
+    a flood with the own key in the waiting table             memory, "in form"
+    a second FLOOD for a waiting key                          floods, "an inquiry for the key is waiting"
+    lengths that are right only modulo 65,536                 malformed (and vector_messages.counts)
+    the last good and first bad of every count and length     limits, memory, room, answered (and vector_messages.counts)
+    00A1 and 00A2 at each of their places                     malformed (and vector_messages.encrypted)
+"""
+if not __debug__:
+    raise SystemExit("vector_calls.py: run it without -O and PYTHONOPTIMIZE, which leave its asserts out")
+import with_models
+import model
+import vector_messages as laid
+from vector_memory import TOP, cache, flood as flood_place, inquiry, key, put, record, table
+
+MAJOR, MINOR = 6, 101
+OWN, CPA, NONCE, ZERO = record(100, 2, 5100), bytes([1, 2, 3, 4, 5]), bytes(range(0xA0, 0xB0)), bytes(32)
+ROOM = 2464  # docs/MEMORY.md: always enough
+
+
+# Which numbers of document 01's table apply, each judged by itself as far as what is lent can be read. The lowest must be the one given.
+
+def datagram_applies(d, major):
+    """2 to 7, which look at the datagram alone; the kind of message; and the message, also where bytes are left over behind it."""
+    numbers = {n for n, applies in ((2, not 12 <= len(d) <= 1232), (3, d[:5] != model.FIXED), (4, len(d) > 5 and d[5] != major),
+                                    (5, len(d) > 7 and d[7] not in model.TYPES)) if applies}
+    kind = model.TYPES.get(d[7]) if len(d) > 7 else None
+    e = (model.FIXED + bytes([major]) + d[6:])[:1232]
+    if kind is None:
+        at = 12  # of an unknown type 6 can still say that a field runs past the end
+        while at < len(e):
+            at += max(4, model.value(e[at + 2:at + 4]))
+        return numbers | ({6} if at > len(e) else set()), kind, None
+    m = next((m for number, m in (model.read(e[:n], major) for n in range(len(e), 11, -1)) if number == 0), None)
+    if model.read(e, major)[0] == 6:
+        numbers.add(6)
+    in_part = kind == "authority" and len(e) >= 28 and (model.value(e[24:26]) != len(e) - 28 or e[26:28] != bytes(2))
+    if kind in ("solicit", "advertise", "request") or in_part:
+        numbers.add(7)
+    if kind == "flood" and m is not None and m["revoke"] is not None:
+        kind = "revocation"
+    return numbers, kind, m
+
+
+def opening_applies(places, identity):
+    return ({13} if identity in [p["id"] for p in places] else set()) | ({14} if len(places) == 16 else set())
+
+
+def receive_applies(g, identity, nonce, verdict, named, d, room):
+    numbers, kind, m = datagram_applies(d, g.major)
+    records, places = model.held(g.own, g.cache), model.waits(g.own, g.waiting)
+    if not model.record_form(g.own) or not 1 <= len(g.cpa) <= 1024 or records is None or places is None or len(nonce) != 16 or len(named) != 32:
+        return numbers | {1}, kind
+    own, key_named, need = model.key_of(g.own), model.value(named), 0
+    if kind in ("ack", "authority") and d[12:16] == bytes.fromhex("00180008"):
+        waiting = [p for p in places if p["id"] == model.value(d[16:20]) and p["kind"] == (1 if kind == "ack" else 2)]
+        numbers |= {8} if not waiting else set()
+        if kind == "authority":
+            numbers |= {9} if verdict != 1 or (m is not None and m["cpa"] is None) else set()
+            numbers |= {10} if verdict == 1 and waiting and model.value(waiting[0]["key"]) != key_named else set()
+    if kind == "revocation":
+        numbers |= ({9} if verdict != 1 else set()) | ({11} if key_named == own else set())
+    if kind == "flood" and m is not None:
+        r = model.record_of(m["route"])
+        numbers |= {11} if model.key_of(r) == own else set()
+        if r not in records and not any(p["kind"] == 2 and model.value(p["key"]) == model.key_of(r) for p in places):
+            numbers |= opening_applies(places, (identity + 1) % 2 ** 32)
+            need += 76
+    if kind in ("flood", "revocation") and m is not None and not m["d"]:
+        need += 20 if model.value(m["validate"]) == own else 26
+    if kind == "inquire" and m is not None:
+        numbers |= {12} if model.value(m["validate"]) != own else set()
+        need = 40 + len(g.cpa)
+    if kind == "lookup" and m is not None:
+        need = 80 + 16 * model.closest(g.own, records, model.value(m["target"]))[34]
+    return numbers | ({15} if need > room else set()), kind
+
+
+def send_applies(g, identity, neighbour, named, room):
+    records, places = model.held(g.own, g.cache), model.waits(g.own, g.waiting)
+    if not model.record_form(g.own) or records is None or places is None:
+        return {1}
+    shown = [r for r in [g.own] + records if r[:32] == named]
+    bad = len(neighbour) != 32 or len(named) != 32
+    numbers = ({1} if bad else set()) | ({12} if neighbour not in [r[:32] for r in records] or not shown else set())
+    need = 100 + 16 * (shown[0][34] if shown else 1)
+    return numbers | opening_applies(places, identity) | ({15} if need > room else set())
+
+
+# The numbers that each can give, in document 01's order. Each is given at least once, and with each neighbour at once.
+TABLES = {"datagram": (1, 2, 3, 4, 5, 6), "solicit": (6, 7), "advertise": (6, 7), "request": (6, 7), "flood": (6, 11, 13, 14, 15),
+          "revocation": (6, 9, 11, 15), "inquire": (6, 12, 15), "authority": (6, 7, 8, 9, 10), "ack": (6, 8), "lookup": (6, 15),
+          "send": (1, 12, 13, 14, 15), "tick": (1, 15), "list": (1, 15), "look": (2, 3, 4, 5, 6), "look at authority": (6, 7)}
+
+
+class Gauge:
+    """The memory that the lines act on. Each method hands back one vector. `seen`: which numbers applied to what, and which was given."""
+
+    def __init__(self):
+        self.seen = []
+
+    def start(self, own=OWN, c=10, cpa=CPA, major=MAJOR, minor=MINOR):
+        self.own, self.cpa, self.major, self.minor = own, cpa, major, minor
+        self.cache, self.waiting = bytes(100 * c), bytes(2240)
+        return ("gauge", own, c, cpa, major, minor), "ok"
+
+    def set_cache(self, s):
+        self.cache = s
+        return ("set-cache", s), "ok"
+
+    def set_waiting(self, s):
+        self.waiting = s
+        return ("set-waiting", s), "ok"
+
+    def answer(self, operands, kinds, applies, result, room, size, want, sends=None):
+        number, first, second, cache_after, waiting_after, output = result
+        assert number == min(applies, default=0), (operands[0], result[:3], applies)  # 01: "The lowest number that applies is given."
+        self.seen += [(kind, applies, number) for kind in kinds]
+        cache_after = self.cache if cache_after is None else cache_after
+        waiting_after = self.waiting if waiting_after is None else waiting_after
+        used = size(first, second)
+        assert want in (number, (number, first, second)), (operands[0], result[:3], want)
+        assert sends is None or b"".join(sends) == output[:used], (output[:used].hex(), [d.hex() for d in sends])
+        assert len(output) == room and (number == 0 or (output, cache_after, waiting_after) == (b"\xEE" * room, self.cache, self.waiting))
+        words = [output[:used].hex() or "-", "same" if cache_after == self.cache else "changed",
+                 "same" if waiting_after == self.waiting else "changed", "clean" if output[used:] == b"\xEE" * (room - used) else "dirty"]
+        self.cache, self.waiting = cache_after, waiting_after
+        return operands, "%d %d %d %s" % (number, first, second, " ".join(words))
+
+    def receive(self, datagram, want, identity=7, nonce=NONCE, verdict=0, named=ZERO, room=ROOM, sends=None):
+        result = model.receive(self.own, self.cpa, self.cache, self.waiting, self.major, self.minor, identity, nonce, verdict, named, datagram,
+                               b"\xEE" * room)
+        applies, kind = receive_applies(self, identity, nonce, verdict, named, datagram, room)
+        return self.answer(("receive", identity, nonce, verdict, named, datagram, model.two(room)), ("datagram", kind), applies, result, room,
+                           lambda a, b: a + b, want, sends)
+
+    def send(self, neighbour, named, want, identity=7, room=ROOM, sends=None):
+        result = model.send(self.own, self.cache, self.waiting, self.major, self.minor, identity, neighbour, named, b"\xEE" * room)
+        return self.answer(("send", identity, neighbour, named, model.two(room)), ("send",), send_applies(self, identity, neighbour, named, room),
+                           result, room, lambda a, b: a + b, want, sends)
+
+    def tick(self, want, room=64, sends=None):
+        bad = not model.record_form(self.own) or model.waits(self.own, self.waiting) is None
+        applies = ({1} if bad else set()) | ({15} if room < 64 else set())
+        return self.answer(("tick", model.two(room)), ("tick",), applies, model.tick(self.own, self.waiting, b"\xEE" * room), room,
+                           lambda a, b: 4 * a, want, sends)
+
+    def list(self, want, room=320, sends=None):
+        bad = not model.record_form(self.own) or model.held(self.own, self.cache) is None
+        applies = ({1} if bad else set()) | ({15} if room < 320 else set())
+        return self.answer(("list", model.two(room)), ("list",), applies, model.neighbours(self.own, self.cache, b"\xEE" * room), room,
+                           lambda a, b: 32 * (a + b), want, sends)
+
+    def look(self, datagram, want, major=MAJOR):
+        """`want` is the number, or all twelve."""
+        result = model.look(major, datagram)
+        assert want in (result[0], result), (result, want)
+        applies, kind, _ = datagram_applies(datagram, major)
+        if kind in ("solicit", "advertise", "request"):
+            applies -= {7}  # 01: reading gives "7 only for an AUTHORITY in part"
+        assert result[0] == min(applies, default=0), (result, applies)
+        self.seen += [("look", applies, result[0])] + ([("look at authority", applies, result[0])] if kind == "authority" else [])
+        return ("look", major, datagram), " ".join(map(str, result))
+
+    def held(self, want):
+        keys = [model.key_of(r) for r in model.held(self.own, self.cache)]
+        assert keys == list(want), (keys, want)
+        return ("held",), ",".join("%x" % k for k in keys) or "-"
+
+    def waits(self, want):
+        """`want` has (ID, kind, tries, key) for each place."""
+        places = [(p["id"], p["kind"], p["tries"], model.value(p["key"])) for p in model.waits(self.own, self.waiting)]
+        assert places == list(want), (places, want)
+        return ("waits",), ",".join("%d:%d:%d:%x" % p for p in places) or "-"
+
+
+FLOOD, INQUIRY = 1, 2
+
+
+# Datagrams that come in.
+
+def entry(r, versions=(MAJOR, MINOR), flags=0):
+    return {**model.entry_of(r, *versions), "flags": flags}
+
+
+def message(kind, identity, major=MAJOR, minor=MINOR, **fields):
+    return model.write(model.message(kind, major, minor, identity, **fields))
+
+
+def flood(r, identity=0x500, validate=100, versions=(MAJOR, MINOR), flags=0, **fields):
+    return message("flood", identity, validate=key(validate), route=entry(r, versions, flags), **fields)
+
+
+def revocation(identity=0x600, validate=100, revoke=b"revoked", **fields):
+    return message("flood", identity, validate=key(validate), revoke=revoke, **fields)
+
+
+def authority(acked, identity=0x700, cpa=b"certified", **fields):
+    return message("authority", identity, acked=acked, cpa=cpa, **fields)
+
+
+def ack(acked, n=None, identity=0x800):
+    return message("ack", identity, acked=acked, n=n)
+
+
+def inquire(n, identity=0x900, **fields):
+    return message("inquire", identity, validate=key(n), **{"a": True, "nonce": bytes(range(16)), **fields})
+
+
+def lookup(target, identity=0xA00, validate=100, **fields):
+    return message("lookup", identity, target=key(target), validate=key(validate), path=[bytes(range(18))], **fields)
+
+
+SOLICIT = message("solicit", 0xB00, hashed_nonce=bytes(20))
+ADVERTISE = message("advertise", 0xB01, acked=1, keys=[key(7)], hashed_nonce=bytes(20))
+REQUEST = message("request", 0xB02, nonce=bytes(16), keys=[key(7)])
+
+
+# Datagrams that go out, by the table "What the calls write" of docs/DECISIONS.md, laid out by hand.
+
+def header(code, identity, versions="0665"):
+    return bytes.fromhex("0010000C51" + versions) + bytes([code]) + identity.to_bytes(4, "big")
+
+
+def ack_out(identity, acked, n, versions="0665"):
+    return header(9, identity, versions) + bytes.fromhex("00180008") + acked.to_bytes(4, "big") + bytes.fromhex("004000060001" if n else "")
+
+
+def inquire_out(identity, n, versions="0665"):
+    return header(7, identity, versions) + bytes.fromhex("0040000600100000" + "00390024") + key(n) + bytes.fromhex("00930014") + NONCE
+
+
+def route_out(r, versions="0665"):
+    count = r[34]
+    head = bytes.fromhex("009A") + (42 + 16 * count).to_bytes(2, "big")
+    return head + r[:32] + bytes.fromhex(versions) + r[32:34] + bytes([0, count]) + r[36:36 + 16 * count] + bytes(2)
+
+
+def authority_head(identity, acked, size, versions):
+    """Up to the buffer's flags, all clear; `size` is that of the buffer."""
+    split = bytes.fromhex("00980008") + size.to_bytes(2, "big") + bytes(2)
+    return header(8, identity, versions) + bytes.fromhex("00180008") + acked.to_bytes(4, "big") + split + bytes.fromhex("0040000600000000")
+
+
+def cpa_out(identity, acked, cpa, versions="0665"):
+    return authority_head(identity, acked, 12 + len(cpa), versions) + bytes.fromhex("009B") + (4 + len(cpa)).to_bytes(2, "big") + cpa
+
+
+def shown_out(identity, acked, r, versions="0665"):
+    return authority_head(identity, acked, 52 + 16 * r[34], versions) + route_out(r, versions)
+
+
+def flood_out(identity, neighbour, r, versions="0665"):
+    return header(4, identity, versions) + bytes.fromhex("0043000700000000" + "00390024") + key(neighbour) + route_out(r, versions)
+
+
+def story(g):
+    yield "# from an empty gauge: a FLOOD of a new key is acked and inquired about, and learned only when its AUTHORITY comes"
+    seventy = record(70, 1, 4070)
+    yield g.start()
+    yield g.held([])
+    yield g.waits([])
+    yield g.receive(flood(seventy, 0xD8859CF5), (0, 20, 76), 7, sends=[ack_out(7, 0xD8859CF5, False), inquire_out(8, 70)])
+    yield g.held([])
+    yield g.waits([(8, INQUIRY, 2, 70)])
+    yield g.receive(lookup(71), (0, 112, 0), 9, sends=[shown_out(9, 0xA00, OWN)])
+    yield g.receive(authority(8), (0, 0, 0), 10, verdict=1, named=key(70))
+    yield g.held([70])
+    yield g.waits([])
+    yield g.list((0, 1, 0), sends=[key(70)])
+    yield g.receive(lookup(71), (0, 96, 0), 11, sends=[shown_out(11, 0xA00, seventy)])
+    yield g.receive(inquire(100), (0, 45, 0), 12, sends=[cpa_out(12, 0x900, CPA)])
+    yield g.send(key(70), key(100), (0, 132, 0), 13, sends=[flood_out(13, 70, OWN)])
+    yield g.waits([(13, FLOOD, 2, 70)])
+    yield g.tick((0, 1, 0), sends=[bytes.fromhex("0D000000")])
+    yield g.waits([(13, FLOOD, 1, 70)])
+    yield g.receive(ack(13), (0, 0, 0))
+    yield g.held([70])
+    yield g.waits([])
+    yield g.receive(flood(record(130, 3)), (0, 20, 76), 20, sends=[ack_out(20, 0x500, False), inquire_out(21, 130)])
+    yield g.receive(authority(21), (0, 0, 0), verdict=1, named=key(130))
+    yield g.list((0, 1, 1), sends=[key(70), key(130)])
+    yield g.send(key(130), key(70), (0, 116, 0), 30, sends=[flood_out(30, 130, seventy)])
+    yield g.send(key(70), key(130), (0, 148, 0), 31, sends=[flood_out(31, 70, record(130, 3))])
+    yield g.receive(ack(30, True), (0, 0, 0))
+    yield g.held([70])
+    yield g.waits([(31, FLOOD, 2, 70)])
+    yield g.receive(revocation(), (0, 20, 0), 40, verdict=1, named=key(70), sends=[ack_out(40, 0x600, False)])
+    yield g.held([])
+    yield g.waits([(31, FLOOD, 2, 70)])
+    yield g.list((0, 0, 0))
+    yield "# the same with other versions: they stand in every header and route entry that is sent, and another major is refused"
+    yield g.start(major=255, minor=0)
+    yield g.receive(flood(seventy, validate=7), 4)
+    yield g.receive(flood(seventy, validate=7, major=255, minor=9), (0, 26, 76), sends=[ack_out(7, 0x500, True, "FF00"), inquire_out(8, 70, "FF00")])
+    yield g.receive(authority(8, major=255), (0, 0, 0), verdict=1, named=key(70))
+    yield g.receive(lookup(71, major=255), (0, 96, 0), sends=[shown_out(7, 0xA00, seventy, "FF00")])
+    yield g.receive(inquire(100, major=255), (0, 45, 0), sends=[cpa_out(7, 0x900, CPA, "FF00")])
+    yield g.send(key(70), key(70), (0, 116, 0), sends=[flood_out(7, 70, seventy, "FF00")])
+
+
+def floods(g):
+    yield "# FLOOD with a route entry: D and N; the INQUIRE stands first where no ACK is written"
+    r = record(70, 4)
+    for fields, first, second, sends in (({}, 20, 76, [ack_out(7, 0x500, False), inquire_out(8, 70)]),
+                                         ({"validate": 70}, 26, 76, [ack_out(7, 0x500, True), inquire_out(8, 70)]),
+                                         ({"validate": 0}, 26, 76, [ack_out(7, 0x500, True), inquire_out(8, 70)]),
+                                         ({"d": True}, 76, 0, [inquire_out(8, 70)]),
+                                         ({"d": True, "validate": 70}, 76, 0, [inquire_out(8, 70)])):
+        yield g.start()
+        yield g.receive(flood(r, **fields), (0, first, second), sends=sends)
+        yield g.waits([(8, INQUIRY, 2, 70)])
+    yield "# validate keys that differ from ours in the first byte and in the last"
+    for validate in (101, 2 ** 255 + 100, 2 ** 32 + 100):
+        yield g.start()
+        yield g.receive(flood(r, validate=validate), (0, 26, 76), sends=[ack_out(7, 0x500, True), inquire_out(8, 70)])
+    yield "# our own key may be 0: then a validate key of zeros is ours"
+    yield g.start(record(0))
+    yield g.receive(flood(r, validate=0), (0, 20, 76), sends=[ack_out(7, 0x500, False), inquire_out(8, 70)])
+    yield "# ignored bits, keytoken and the list of those reached change nothing"
+    yield g.start()
+    dirty = put(flood(r, keytoken=b"token", reached=[bytes(18)] * 3), 16, b"\xFF\xFE\xFF\xFF")
+    yield g.receive(dirty, (0, 20, 76), sends=[ack_out(7, 0x500, False), inquire_out(8, 70)])
+    yield g.receive(put(dirty, 17, b"\xFF"), (0, 0, 0))
+    yield "# the verdict is ignored: it belongs to a CPA"
+    for verdict in (0, 1, 2, 257, 2 ** 32 - 1):
+        yield g.start()
+        yield g.receive(flood(r), (0, 20, 76), verdict=verdict, named=key(100))
+    yield "# the very same record is held: no inquiry, whatever the versions and flags of the route entry"
+    yield g.start()
+    yield g.set_cache(cache([r]))
+    yield g.receive(flood(r), (0, 20, 0), sends=[ack_out(7, 0x500, False)])
+    yield g.receive(flood(r, versions=(9, 9), flags=0xFF), (0, 20, 0), sends=[ack_out(7, 0x500, False)])
+    yield g.receive(flood(r, validate=1), (0, 26, 0), sends=[ack_out(7, 0x500, True)])
+    yield g.receive(flood(r, d=True), (0, 0, 0), room=0)
+    yield g.waits([])
+    yield g.held([70])
+    yield "# the same key with another port, another address, another count: an inquiry, and the old record is held until it is answered"
+    for other in (record(70, 4, 5001), record(70, 4, 5000, 0x22), record(70, 3), put(r, 99, b"\xFF"), put(r, 36, r[52:68] + r[36:52])):
+        yield g.start()
+        yield g.set_cache(cache([r]))
+        yield g.receive(flood(other), (0, 20, 76), sends=[ack_out(7, 0x500, False), inquire_out(8, 70)])
+        yield g.receive(lookup(70), (0, 144, 0), sends=[shown_out(7, 0xA00, r)])
+        yield g.receive(authority(8), (0, 0, 0), verdict=1, named=key(70))
+        yield g.receive(lookup(70), (0, 80 + 16 * other[34], 0), sends=[shown_out(7, 0xA00, other)])
+    yield "# the record learned is the FLOOD's; versions and flags of its route entry are forgotten"
+    yield g.start()
+    yield g.receive(flood(record(70, 2, 1), versions=(9, 8), flags=0xFF), (0, 20, 76))
+    yield g.receive(authority(8), (0, 0, 0), verdict=1, named=key(70))
+    yield g.receive(lookup(70), (0, 112, 0), sends=[shown_out(7, 0xA00, record(70, 2, 1))])
+    yield "# an inquiry for the key is waiting: no second one, and its tries and record stay"
+    yield g.start()
+    yield g.receive(flood(record(70, 1, 1)), (0, 20, 76))
+    yield g.tick((0, 1, 0))
+    yield g.receive(flood(record(70, 1, 2)), (0, 20, 0), 30, sends=[ack_out(30, 0x500, False)])
+    yield g.receive(flood(record(70, 1, 1)), (0, 20, 0), 7)
+    yield g.waits([(8, INQUIRY, 1, 70)])
+    yield g.receive(authority(8), (0, 0, 0), verdict=1, named=key(70))
+    yield g.receive(lookup(70), (0, 96, 0), sends=[shown_out(7, 0xA00, record(70, 1, 1))])
+    yield "# a waiting flood with the same key is no inquiry"
+    yield g.start()
+    yield g.set_waiting(table([flood_place(3, 70)]))
+    yield g.receive(flood(record(70)), (0, 20, 76))
+    yield g.waits([(3, FLOOD, 2, 70), (8, INQUIRY, 2, 70)])
+    yield "# FLOODs of keys at both ends"
+    yield g.start()
+    yield g.receive(flood(record(0)), (0, 20, 76), 7)
+    yield g.receive(flood(record(TOP)), (0, 20, 76), 9)
+    yield g.waits([(8, INQUIRY, 2, 0), (10, INQUIRY, 2, TOP)])
+    yield g.receive(authority(10), (0, 0, 0), verdict=1, named=key(TOP))
+    yield g.receive(authority(8), (0, 0, 0), verdict=1, named=key(0))
+    yield g.held([0, TOP])
+    yield g.list((0, 2, 0), sends=[key(0), key(TOP)])
+    yield "# 11: the route entry names the own key, whatever else"
+    yield g.start()
+    for datagram in (flood(OWN), flood(record(100, 4, 9)), flood(OWN, d=True), flood(OWN, validate=7)):
+        yield g.receive(datagram, 11)
+    yield g.waits([])
+
+
+def identities(g):
+    yield "# message IDs: 4294967295 is followed by 0, also where no ACK is written"
+    last = 2 ** 32 - 1
+    for fields, sends in (({}, [ack_out(last, 0x500, False), inquire_out(0, 70)]), ({"d": True}, [inquire_out(0, 70)])):
+        yield g.start()
+        yield g.set_waiting(table([flood_place(1, 7), flood_place(last, 7)]))
+        yield g.receive(flood(record(70), **fields), 0, last, sends=sends)
+        yield g.waits([(0, INQUIRY, 2, 70), (1, FLOOD, 2, 7), (last, FLOOD, 2, 7)])
+        yield g.receive(authority(0), (0, 0, 0), verdict=1, named=key(70))
+        yield g.held([70])
+    yield g.start()
+    yield g.receive(flood(record(70)), (0, 20, 76), last - 1, sends=[ack_out(last - 1, 0x500, False), inquire_out(last, 70)])
+    yield g.waits([(last, INQUIRY, 2, 70)])
+    yield "# ID 0 in an ACK, an AUTHORITY, a FLOOD"
+    yield g.start()
+    yield g.set_cache(cache([70]))
+    yield g.receive(flood(record(71), 0), (0, 20, 76), 0, sends=[ack_out(0, 0, False), inquire_out(1, 71)])
+    yield g.receive(inquire(100, 0), (0, 45, 0), 0, sends=[cpa_out(0, 0, CPA)])
+    yield g.send(key(70), key(100), (0, 132, 0), 0, sends=[flood_out(0, 70, OWN)])
+    yield g.waits([(0, FLOOD, 2, 70), (1, INQUIRY, 2, 71)])
+    yield g.receive(ack(0), (0, 0, 0))
+    yield g.waits([(1, INQUIRY, 2, 71)])
+    yield "# places stand in the order of their IDs, which are numbers and not bytes"
+    yield g.start()
+    yield g.set_cache(cache([70]))
+    for identity in (256, 1, 65536, 255, 2 ** 31, 2 ** 24):
+        yield g.send(key(70), key(70), (0, 148, 0), identity)
+    yield g.receive(flood(record(71)), (0, 20, 76), 299)
+    yield g.waits([(i, 2 if i == 300 else 1, 2, 71 if i == 300 else 70) for i in (1, 255, 256, 300, 65536, 2 ** 24, 2 ** 31)])
+    yield g.tick((0, 7, 0), sends=[i.to_bytes(4, "little") for i in (1, 255, 256, 300, 65536, 2 ** 24, 2 ** 31)])
+    yield "# 13: the INQUIRE's ID is waiting, of either kind; the ACK's ID may wait"
+    both = table([flood_place(8, 7), inquiry(20, 60)])
+    for datagram in (flood(record(70)), flood(record(70), d=True)):
+        for identity, want in ((7, 13), (19, 13), (8, 0), (20, 0), (9, 0)):
+            yield g.start()
+            yield g.set_waiting(both)
+            yield g.receive(datagram, want, identity)
+    yield g.start()
+    yield g.set_waiting(table([flood_place(0, 7)]))
+    yield g.receive(flood(record(70)), 13, last)
+    yield "# no place must be opened: the ID may wait, and all may be used"
+    yield g.start()
+    yield g.set_cache(cache([record(70)]))
+    yield g.set_waiting(both)
+    yield g.receive(flood(record(70)), (0, 20, 0), 7)
+    yield g.receive(flood(record(60, 2)), (0, 20, 0), 7)
+    yield g.set_waiting(table([flood_place(i, 7) for i in range(15)] + [inquiry(20, 60)]))
+    yield g.receive(flood(record(70)), (0, 20, 0), 7)
+    yield g.receive(flood(record(60, 2)), (0, 20, 0), 7)
+    yield g.receive(inquire(100), (0, 45, 0), 7)
+    yield g.receive(lookup(60), (0, 96, 0), 7, sends=[shown_out(7, 0xA00, record(70))])
+
+
+def revocations(g):
+    yield "# FLOOD with a revocation: a held key is removed, a waiting inquiry for it is freed, a flood to it waits on"
+    start = table([flood_place(1, 70), inquiry(2, 70), inquiry(3, 71), flood_place(4, 70)])
+    left = [(1, FLOOD, 2, 70), (3, INQUIRY, 2, 71), (4, FLOOD, 2, 70)]
+    for fields, first, sends in (({}, 20, [ack_out(7, 0x600, False)]), ({"validate": 70}, 26, [ack_out(7, 0x600, True)]), ({"d": True}, 0, []),
+                                 ({"d": True, "validate": 70}, 0, [])):
+        yield g.start()
+        yield g.set_cache(cache([60, 70, 110]))
+        yield g.set_waiting(start)
+        yield g.receive(revocation(**fields), (0, first, 0), verdict=1, named=key(70), sends=sends)
+        yield g.held([60, 110])
+        yield g.waits(left)
+    yield "# only held, only waiting, neither; the CPA may be empty"
+    yield g.start()
+    yield g.set_cache(cache([60, 70, 110]))
+    yield g.set_waiting(table([inquiry(3, 71)]))
+    yield g.receive(revocation(), (0, 20, 0), verdict=1, named=key(60))
+    yield g.held([70, 110])
+    yield g.receive(revocation(), (0, 20, 0), verdict=1, named=key(71))
+    yield g.waits([])
+    yield g.receive(revocation(), (0, 20, 0), verdict=1, named=key(72))
+    yield g.receive(revocation(revoke=b""), (0, 20, 0), verdict=1, named=key(0))
+    yield g.receive(revocation(keytoken=b"t", reached=[bytes(18)]), (0, 20, 0), verdict=1, named=key(2 ** 32 + 70))
+    yield g.held([70, 110])
+    yield g.receive(revocation(revoke=b""), (0, 20, 0), verdict=1, named=key(110))
+    yield g.held([70])
+    yield "# 9: a verdict that is not 1; 11: the own key is named; both at once: 9"
+    for verdict in (0, 2, 257, 65537, 2 ** 24 + 1, 2 ** 32 - 1):
+        yield g.receive(revocation(), 9, verdict=verdict, named=key(70))
+    yield g.receive(revocation(), 11, verdict=1, named=key(100))
+    yield g.receive(revocation(d=True, validate=7), 11, verdict=1, named=key(100))
+    yield g.receive(revocation(), 9, verdict=0, named=key(100))
+    yield g.held([70])
+    yield "# the old gauge's slip: a late AUTHORITY does not bring back a key revoked meanwhile"
+    yield g.start()
+    yield g.receive(flood(record(70)), (0, 20, 76))
+    yield g.receive(revocation(), (0, 20, 0), verdict=1, named=key(70))
+    yield g.waits([])
+    yield g.receive(authority(8), 8, verdict=1, named=key(70))
+    yield g.held([])
+    yield "# after a revocation the key may be flooded and learned again"
+    yield g.receive(flood(record(70)), (0, 20, 76), 30)
+    yield g.receive(authority(31), (0, 0, 0), verdict=1, named=key(70))
+    yield g.held([70])
+
+
+def authorities(g):
+    yield "# AUTHORITY: 8 for an ID that is no waiting inquiry, also for a waiting flood's; its bytes are the other way round in the table"
+    start = table([inquiry(2, 70), flood_place(3, 70), inquiry(0x01020304, 71)])
+    yield g.start()
+    yield g.set_waiting(start)
+    for acked in (0, 1, 3, 4, 0x02000000, 0x04030201, 2 ** 32 - 1):
+        yield g.receive(authority(acked), 8, verdict=1, named=key(70))
+    yield "# 9: without a CPA, or a verdict that is not 1; 10: good for another key"
+    yield g.receive(authority(2, cpa=None), 9, verdict=1, named=key(70))
+    for verdict in (0, 2, 257, 65537, 2 ** 24 + 1, 2 ** 32 - 1):
+        yield g.receive(authority(2), 9, verdict=verdict, named=key(70))
+    for other in (71, 100, 0, 2 ** 255 + 70, 2 ** 32 + 70):
+        yield g.receive(authority(2), 10, verdict=1, named=key(other))
+    yield g.waits([(2, INQUIRY, 2, 70), (3, FLOOD, 2, 70), (0x01020304, INQUIRY, 2, 71)])
+    yield "# accepted: learned and freed; once more: 8"
+    yield g.receive(authority(0x01020304), (0, 0, 0), verdict=1, named=key(71), room=0)
+    yield g.held([71])
+    yield g.waits([(2, INQUIRY, 2, 70), (3, FLOOD, 2, 70)])
+    yield g.receive(authority(0x01020304), 8, verdict=1, named=key(71))
+    yield "# an empty CPA is a CPA; flags, payload and route entry of the buffer are not acted on"
+    more = {"l": True, "b": True, "n": True, "chain": b"chain", "keytoken": b"t", "classifier": [b"\0x"], "payload": b"p", "route": entry(record(72,
+                                                                                                                                                 4))}
+    yield g.receive(authority(2, cpa=b"", **more), (0, 0, 0), verdict=1, named=key(70))
+    yield g.held([70, 71])
+    yield g.receive(lookup(70), (0, 96, 0), sends=[shown_out(7, 0xA00, record(70))])
+    yield "# tries do not matter, 0 too"
+    yield g.set_waiting(table([inquiry(2, 72, 0)]))
+    yield g.receive(authority(2), (0, 0, 0), verdict=1, named=key(72))
+    yield g.held([70, 71, 72])
+    yield "# 7: in part, whatever its buffer; 6 before it"
+    yield g.set_waiting(start)
+    whole = authority(2)
+    for datagram, want in ((whole[:-1], 7), (whole + b"\0", 7), (put(whole, 26, b"\x04\xA4"), 7), (put(whole[:-1], 28, b"\xFF"), 7),
+                           (put(whole[:-1], 13, b"\x19"), 6), (put(whole, 27, b"\x01"), 6), (put(whole, 28, b"\xFF"), 6)):
+        yield g.receive(datagram, want, verdict=1, named=key(70))
+    yield "# learning into a full cache: cases 3 and 4"
+    yield g.start()
+    yield g.set_cache(cache(range(90, 100)))
+    yield g.receive(flood(record(101)), (0, 20, 76), 7)
+    yield g.receive(flood(record(89)), (0, 20, 76), 9)
+    yield g.receive(authority(8), (0, 0, 0), verdict=1, named=key(101))
+    yield g.held(list(range(91, 100)) + [101])
+    yield g.receive(authority(10), (0, 0, 0), verdict=1, named=key(89))
+    yield g.held(list(range(91, 100)) + [101])
+    yield g.waits([])
+    yield g.list((0, 5, 1), sends=[key(n) for n in (99, 98, 97, 96, 95, 101)])
+    yield "# the records that moved are whole"
+    for n in list(range(91, 100)) + [101]:
+        yield g.receive(lookup(n), 0, sends=[shown_out(7, 0xA00, record(n, 1 + n % 4, 4000 + n % 1000) if n != 101 else record(101))])
+    yield g.receive(revocation(), (0, 20, 0), verdict=1, named=key(95))
+    for n in (91, 94, 96, 99):
+        yield g.receive(lookup(n), 0, sends=[shown_out(7, 0xA00, record(n, 1 + n % 4, 4000 + n % 1000))])
+    yield "# and so are the records of places that moved"
+    yield g.start()
+    for identity, n in ((50, 74), (30, 72), (70, 76), (40, 73), (60, 75), (20, 71)):
+        yield g.receive(flood(record(n, 1 + n % 4, n), d=True), (0, 76, 0), identity - 1)
+    yield g.waits([(10 * n - 690, INQUIRY, 2, n) for n in range(71, 77)])
+    yield g.receive(revocation(), (0, 20, 0), verdict=1, named=key(73))
+    yield g.tick((0, 5, 0))
+    for identity, n in ((50, 74), (20, 71), (70, 76), (30, 72), (60, 75)):
+        yield g.receive(authority(identity), (0, 0, 0), verdict=1, named=key(n))
+        yield g.receive(lookup(n), 0, sends=[shown_out(7, 0xA00, record(n, 1 + n % 4, n))])
+    yield g.held([71, 72, 74, 75, 76])
+    yield "# case 5, and the same with a newcomer below, and with a held key"
+    six = list(range(94, 100)) + list(range(101, 106))
+    yield g.start(c=11)
+    yield g.set_cache(cache(six, 11))
+    yield g.set_waiting(table([inquiry(2, 106, 2, 2), inquiry(3, 93), inquiry(4, 98, 1, 3)]))
+    yield g.receive(authority(2), (0, 0, 0), verdict=1, named=key(106))
+    yield g.held(six)
+    yield g.receive(authority(3), (0, 0, 0), verdict=1, named=key(93))
+    yield g.held(six)
+    yield g.receive(authority(4), (0, 0, 0), verdict=1, named=key(98))
+    yield g.held(six)
+    yield g.receive(lookup(98), (0, 128, 0), sends=[shown_out(7, 0xA00, record(98, 3))])
+    yield "# from an empty cache to one that is full and drops, keys coming in no order"
+    yield g.start()
+    kept = []
+    for n in (50, 150, 99, 101, 60, 140, 95, 105, 70, 130, 80, 120, 90, 110):
+        yield g.receive(flood(record(n), d=True), (0, 76, 0), 2 * n)
+        yield g.receive(authority(2 * n + 1), (0, 0, 0), verdict=1, named=key(n))
+        kept = sorted(kept + [n])
+        if len(kept) == 11:
+            below, above = [k for k in kept if k < 100], [k for k in kept if k > 100]
+            kept.remove(below[0] if len(below) > len(above) else above[-1])
+        yield g.held(kept)
+    yield g.list((0, 5, 5), sends=[key(n) for n in (99, 95, 90, 80, 70, 101, 105, 110, 120, 130)])
+
+
+def across(g):
+    yield "# document 02: own 1, held the last ten, 5 comes by FLOOD and AUTHORITY: the first of them is dropped, and the cache is in plain order"
+    last = list(range(2 ** 256 - 10, 2 ** 256))
+    yield g.start(record(1))
+    yield g.set_cache(cache(last))
+    yield g.receive(flood(record(5), validate=1), (0, 20, 76), 8)
+    yield g.receive(authority(9), (0, 0, 0), verdict=1, named=key(5))
+    yield g.held([5] + last[1:])
+    yield g.list((0, 5, 1), sends=[key(n) for n in (TOP, TOP - 1, TOP - 2, TOP - 3, TOP - 4, 5)])
+    yield "# keys around the last one, coming in no order: kept are those nearest along each side"
+    yield g.start(record(TOP))
+    kept = []
+    for steps in (-50, 50, -1, 1, -40, 40, -5, 5, -30, 30, -20, 20, -10, 10, 2 ** 255, 2 ** 255 + 1):
+        n = (TOP + steps) % 2 ** 256
+        yield g.receive(flood(record(n), d=True, validate=TOP), (0, 76, 0), 7)
+        yield g.receive(authority(8), (0, 0, 0), verdict=1, named=key(n))
+        kept.append(steps if steps <= 2 ** 255 else steps - 2 ** 256)
+        if len(kept) == 11:
+            kept.remove(min(kept) if len([k for k in kept if k < 0]) > 5 else max(kept))
+        yield g.held(sorted((TOP + k) % 2 ** 256 for k in kept))
+    yield g.list((0, 5, 5), sends=[key((TOP + n) % 2 ** 256) for n in (-1, -5, -10, -20, -30, 1, 5, 10, 20, 30)])
+
+
+def acked(g):
+    yield "# ACK: 8 for an ID that is no waiting flood, also for a waiting inquiry's"
+    start = table([inquiry(2, 70), flood_place(3, 70), flood_place(4, 71), flood_place(5, 100), flood_place(0x01020304, 60)])
+    yield g.start()
+    yield g.set_cache(cache([60, 70]))
+    yield g.set_waiting(start)
+    for identity in (0, 1, 2, 6, 0x03000000, 0x04030201, 2 ** 32 - 1):
+        for n in (None, True):
+            yield g.receive(ack(identity, n), 8)
+    yield "# no flags, flags with N clear, and with all bits but N: the place is freed and nothing removed"
+    yield g.receive(put(ack(3, False), 24, b"\xFF\xFE"), (0, 0, 0), room=0)
+    yield g.held([60, 70])
+    yield g.waits([(2, INQUIRY, 2, 70), (4, FLOOD, 2, 71), (5, FLOOD, 2, 100), (0x01020304, FLOOD, 2, 60)])
+    yield g.receive(ack(3, False), 8)
+    yield g.set_waiting(start)
+    yield g.receive(ack(3, False), (0, 0, 0))
+    yield g.set_waiting(start)
+    yield g.receive(ack(3), (0, 0, 0))
+    yield g.held([60, 70])
+    yield "# N for a key that is not held, and for the own key: accepted, nothing removed"
+    yield g.receive(ack(4, True), (0, 0, 0))
+    yield g.receive(ack(5, True), (0, 0, 0))
+    yield g.held([60, 70])
+    yield "# N for a held key removes it; an inquiry for that key waits on"
+    yield g.set_waiting(start)
+    yield g.receive(ack(3, True), (0, 0, 0))
+    yield g.held([60])
+    yield g.waits([(2, INQUIRY, 2, 70), (4, FLOOD, 2, 71), (5, FLOOD, 2, 100), (0x01020304, FLOOD, 2, 60)])
+    yield g.receive(put(ack(0x01020304, True), 24, b"\xFF\xFF"), (0, 0, 0), verdict=1, named=key(70))
+    yield g.held([])
+    yield "# the key removed is the neighbour's, not that of the record sent"
+    yield g.start()
+    yield g.set_cache(cache([60, 70]))
+    yield g.send(key(60), key(70), (0, 148, 0), 9, sends=[flood_out(9, 60, record(70, 3, 4070))])
+    yield g.receive(ack(9, True), (0, 0, 0))
+    yield g.held([70])
+
+
+def answered(g):
+    yield "# INQUIRE: the own CPA, 1 and 1,024 bytes of it, in just enough room and in one byte less"
+    for n in (1, 2, 3, 4, 1024):
+        cpa = bytes(i % 251 for i in range(n))
+        yield g.start(cpa=cpa)
+        yield g.receive(inquire(100), (0, 40 + n, 0), room=40 + n, sends=[cpa_out(7, 0x900, cpa)])
+        yield g.receive(inquire(100), 15, room=39 + n)
+    yield "# its flags, nonce and credentials are not obeyed; the verdict is ignored"
+    yield g.start()
+    for fields in ({"a": False, "nonce": None}, {"a": False}, {"nonce": None}, {"x": True, "c": True},
+                   {"credential": b"c", "signature": b"s", "key_identifier": b"k"}):
+        yield g.receive(inquire(100, **fields), (0, 45, 0), sends=[cpa_out(7, 0x900, CPA)])
+    yield g.receive(inquire(100), (0, 45, 0), verdict=2, named=key(7), sends=[cpa_out(7, 0x900, CPA)])
+    yield "# 12: for a key that is not ours, held or not"
+    yield g.set_cache(cache([70]))
+    for n in (70, 71, 0, 101, 2 ** 255 + 100, 2 ** 32 + 100):
+        yield g.receive(inquire(n), 12)
+    yield "# LOOKUP: the closest record, one to four addresses, in just enough room and in one byte less"
+    four = [record(10, 1, 1), record(20, 2, 2), record(30, 3, 3), record(40, 4, 4)]
+    yield g.start()
+    yield g.set_cache(cache(four))
+    for r in four:
+        room = 80 + 16 * r[34]
+        yield g.receive(lookup(model.key_of(r)), (0, room, 0), room=room, sends=[shown_out(7, 0xA00, r)])
+        yield g.receive(lookup(model.key_of(r)), 15, room=room - 1)
+    yield "# ties go to the key below the target; the own record is a candidate; from the last key on it is not far to the first"
+    for target, r in ((25, four[1]), (26, four[2]), (70, four[3]), (71, OWN), (100, OWN), (TOP, four[0]), (0, four[0])):
+        yield g.receive(lookup(target), 0, sends=[shown_out(7, 0xA00, r)])
+    yield "# criteria, precision, reason, A, validate key, path and credentials are not acted on"
+    for fields in ({"criteria": 8, "precision": 1}, {"criteria": 1, "reason": 3}, {"a": True}, {"validate": 7},
+                   {"credential": b"c", "signature": b"", "key_identifier": b"k"}):
+        yield g.receive(lookup(26, **fields), (0, 128, 0), sends=[shown_out(7, 0xA00, four[2])])
+    yield "# its route entry is not learned nor inquired about, also one that names us"
+    for r in (record(70), OWN, record(100, 4), record(26)):
+        yield g.receive(lookup(26, route=entry(r)), (0, 128, 0), sends=[shown_out(7, 0xA00, four[2])])
+    yield g.held([10, 20, 30, 40])
+    yield g.waits([])
+    yield "# case 6 and 7 by a LOOKUP, and 9 as document 02 has it; then the ring's: the last key before 1, and before our own"
+    for own, keys, target, want in ((50, [99, 101], 100, 99), (9, [1, 4294967296], 0, 1), (5, [0], TOP, 0), (7, [1, TOP], 0, TOP), (1, [TOP], 0, TOP),
+                                    (TOP, [1], 0, TOP), (0, [2 ** 255], 2 ** 255 - 1, 2 ** 255), (2 ** 255, [2 ** 255 - 1], 0, 2 ** 255 - 1)):
+        yield g.start(record(own))
+        yield g.set_cache(cache([record(n) for n in keys]))
+        yield g.receive(lookup(target), (0, 96, 0), sends=[shown_out(7, 0xA00, record(want))])
+
+
+def room(g):
+    yield "# receive: just enough room, one byte less; with 15 nothing has changed"
+    for datagram, need, named in ((flood(record(70)), 96, ZERO), (flood(record(70), validate=7), 102, ZERO), (flood(record(70), d=True), 76, ZERO),
+                                  (flood(record(60)), 20, ZERO), (flood(record(60), validate=7), 26, ZERO),
+                                  (revocation(), 20, key(60)), (revocation(validate=7), 26, key(60)), (revocation(), 20, key(61))):
+        yield g.start()
+        yield g.set_cache(cache([record(60)]))
+        yield g.set_waiting(table([inquiry(3, 61)]))
+        for less in (need - 1, need - 20, 0):
+            yield g.receive(datagram, 15, verdict=1, named=named, room=less)
+        yield g.receive(datagram, 0, verdict=1, named=named, room=need)
+    yield "# enough for the ACK and not for both, for the INQUIRE and not for both"
+    yield g.start()
+    for less in (20, 75, 76, 95):
+        yield g.receive(flood(record(70)), 15, room=less)
+    yield g.receive(flood(record(70)), (0, 20, 76), room=97)
+    yield "# nothing to send needs no room"
+    yield g.set_waiting(table([flood_place(1, 60), inquiry(2, 70)]))
+    yield g.receive(ack(1), (0, 0, 0), room=0)
+    yield g.receive(flood(record(70), d=True), (0, 0, 0), room=0)
+    yield g.receive(authority(2), (0, 0, 0), verdict=1, named=key(70), room=0)
+    yield g.receive(flood(record(70), d=True), (0, 0, 0), room=0)
+    yield g.receive(revocation(d=True), (0, 0, 0), verdict=1, named=key(70), room=0)
+    yield g.held([])
+    yield "# send: 116, 132, 148, 164 bytes"
+    for count in (1, 2, 3, 4):
+        yield g.start()
+        yield g.set_cache(cache([record(70, count)]))
+        yield g.send(key(70), key(70), 15, room=99 + 16 * count)
+        yield g.send(key(70), key(70), 15, room=0)
+        yield g.send(key(70), key(70), (0, 100 + 16 * count, 0), room=100 + 16 * count, sends=[flood_out(7, 70, record(70, count))])
+    yield "# tick and list ask for the same room however little there is to tell"
+    yield g.start()
+    for less in (63, 4, 0):
+        yield g.tick(15, room=less)
+    yield g.tick((0, 0, 0), room=64)
+    yield g.tick((0, 0, 0), room=65)
+    yield g.set_waiting(table([flood_place(1, 60, 0), inquiry(2, 70, 1)]))
+    yield g.tick(15, room=63)
+    yield g.waits([(1, FLOOD, 0, 60), (2, INQUIRY, 1, 70)])
+    yield g.tick((0, 1, 0), room=64)
+    for less in (319, 32, 0):
+        yield g.list(15, room=less)
+    yield g.list((0, 0, 0), room=320)
+    yield g.set_cache(cache([70]))
+    yield g.list(15, room=319)
+    yield g.list((0, 1, 0), room=321)
+
+
+def sending(g):
+    yield "# sending a FLOOD: our own record or a held one, to a held neighbour; the neighbour's own too"
+    yield g.start()
+    yield g.set_cache(cache([record(70, 1), record(110, 4)]))
+    yield g.send(key(70), key(100), (0, 132, 0), 1, sends=[flood_out(1, 70, OWN)])
+    yield g.send(key(70), key(110), (0, 164, 0), 2, sends=[flood_out(2, 70, record(110, 4))])
+    yield g.send(key(110), key(110), (0, 164, 0), 3, sends=[flood_out(3, 110, record(110, 4))])
+    yield g.send(key(110), key(70), (0, 116, 0), 2 ** 32 - 1, sends=[flood_out(2 ** 32 - 1, 110, record(70, 1))])
+    yield g.waits([(1, FLOOD, 2, 70), (2, FLOOD, 2, 70), (3, FLOOD, 2, 110), (2 ** 32 - 1, FLOOD, 2, 110)])
+    yield g.held([70, 110])
+    yield "# 12: a neighbour that is not held, the own key too; a record that is neither ours nor held"
+    for neighbour, named in ((71, 100), (100, 100), (100, 70), (0, 70), (2 ** 255 + 70, 70), (70, 71), (70, 0), (70, 2 ** 255 + 100), (71, 71)):
+        yield g.send(key(neighbour), key(named), 12, 50)
+    yield g.start()
+    yield g.send(key(0), key(100), 12)
+    yield g.send(key(0), key(0), 12)
+    yield "# 13: the ID is waiting, of either kind; 14: all are used"
+    yield g.set_cache(cache([70]))
+    yield g.set_waiting(table([flood_place(1, 70), inquiry(2, 60)]))
+    yield g.send(key(70), key(100), 13, 1)
+    yield g.send(key(70), key(100), 13, 2)
+    yield g.send(key(70), key(100), (0, 132, 0), 3)
+    yield g.set_waiting(table([inquiry(i, 200 + i) for i in range(16)]))
+    yield g.send(key(70), key(100), 14, 16)
+    yield "# an inquiry's key is not held by that"
+    yield g.send(key(203), key(100), 12, 16)
+    yield g.send(key(70), key(203), 12, 16)
+
+
+def ticking(g):
+    yield "# a place is listed at two ticks and gone at the third, whatever calls come between"
+    yield g.start()
+    yield g.set_cache(cache([70]))
+    yield g.send(key(70), key(100), (0, 132, 0), 1)
+    yield g.receive(flood(record(60)), (0, 20, 76), 1)
+    yield g.tick((0, 2, 0), sends=[bytes.fromhex("0100000002000000")])
+    yield g.receive(flood(record(60)), (0, 20, 0), 8)
+    yield g.send(key(70), key(70), 0, 3)
+    yield g.waits([(1, FLOOD, 1, 70), (2, INQUIRY, 1, 60), (3, FLOOD, 2, 70)])
+    yield g.tick((0, 3, 0), sends=[bytes.fromhex("010000000200000003000000")])
+    yield g.receive(lookup(70), 0)
+    yield g.waits([(1, FLOOD, 0, 70), (2, INQUIRY, 0, 60), (3, FLOOD, 1, 70)])
+    yield g.tick((0, 1, 0), sends=[bytes.fromhex("03000000")])
+    yield g.waits([(3, FLOOD, 0, 70)])
+    yield "# a refused tick is none"
+    yield g.tick(15, room=63)
+    yield g.waits([(3, FLOOD, 0, 70)])
+    yield "# a flood that runs out of tries removes no key; answers that come late are 8"
+    yield g.tick((0, 0, 0))
+    yield g.held([70])
+    yield g.waits([])
+    yield g.receive(ack(1, True), 8)
+    yield g.receive(authority(2), 8, verdict=1, named=key(60))
+    yield g.held([70])
+    yield "# and a FLOOD of that key is inquired about again"
+    yield g.receive(flood(record(60)), (0, 20, 76), 1)
+    yield g.waits([(2, INQUIRY, 2, 60)])
+    yield "# with no tries left a place still waits for its answer until the next tick"
+    yield g.tick((0, 1, 0))
+    yield g.tick((0, 1, 0))
+    yield g.receive(authority(2), (0, 0, 0), verdict=1, named=key(60))
+    yield g.held([60, 70])
+    yield "# sixteen places: 64 bytes of IDs"
+    yield g.set_waiting(table([flood_place(0x01020304 * i, 7, 1) for i in range(16)]))
+    yield g.tick((0, 16, 0), sends=[(0x01020304 * i).to_bytes(4, "little") for i in range(16)])
+    yield g.tick((0, 0, 0))
+    yield g.waits([])
+    yield "# an empty table"
+    yield g.tick((0, 0, 0))
+
+
+def listing(g):
+    yield "# the neighbour list: cases 1 and 2; five and not six on a side"
+    yield g.start()
+    yield g.list((0, 0, 0))
+    yield g.set_cache(cache([60, 70, 80, 90, 95, 99, 101, 110]))
+    yield g.list((0, 5, 2), sends=[key(n) for n in (99, 95, 90, 80, 70, 101, 110)])
+    yield g.start(c=14)
+    yield g.set_cache(cache([0, 94, 95, 96, 97, 98, 99, 101, 102, 103, 104, 105, 106, TOP], 14))
+    yield g.list((0, 5, 5), sends=[key(n) for n in (99, 98, 97, 96, 95, 101, 102, 103, 104, 105)])
+    yield g.start(record(TOP))
+    yield g.set_cache(cache([0, 2 ** 32, 2 ** 255]))
+    yield g.list((0, 1, 2), sends=[key(n) for n in (2 ** 255, 0, 2 ** 32)])
+    yield g.start(record(0))
+    yield g.set_cache(cache([1, 2 ** 32, 2 ** 255]))
+    yield g.list((0, 0, 3), sends=[key(n) for n in (1, 2 ** 32, 2 ** 255)])
+    yield "# document 02: pond 1 has the last pond as neighbour below; just opposite is above"
+    yield g.start(record(1))
+    yield g.set_cache(cache([5, TOP]))
+    yield g.list((0, 1, 1), sends=[key(TOP), key(5)])
+    yield g.start(record(0))
+    yield g.set_cache(cache([2 ** 255, 2 ** 255 + 1]))
+    yield g.list((0, 1, 1), sends=[key(2 ** 255 + 1), key(2 ** 255)])
+
+
+def case14(g):
+    yield "# case 14: sixteen places used, a FLOOD of a new key: 14; one freed by an ACK, the same FLOOD: 0"
+    yield g.start()
+    yield g.set_cache(cache([70]))
+    yield g.send(key(70), key(100), (0, 132, 0), 1000)
+    for i in range(15):
+        yield g.receive(flood(record(200 + i), d=True), (0, 76, 0), 2 * i)
+    yield g.waits([(2 * i + 1, INQUIRY, 2, 200 + i) for i in range(15)] + [(1000, FLOOD, 2, 70)])
+    yield g.receive(flood(record(300)), 14, 50)
+    yield g.receive(ack(1000), (0, 0, 0))
+    yield g.receive(flood(record(300)), (0, 20, 76), 50, sends=[ack_out(50, 0x500, False), inquire_out(51, 300)])
+    yield g.receive(flood(record(301)), 14, 52)
+    yield "# one freed by an AUTHORITY, by a revocation, by ticks"
+    yield g.receive(authority(1), (0, 0, 0), verdict=1, named=key(200))
+    yield g.receive(flood(record(301)), (0, 20, 76), 52)
+    yield g.receive(revocation(), (0, 20, 0), verdict=1, named=key(201))
+    yield g.receive(flood(record(302)), (0, 20, 76), 54)
+    yield g.receive(flood(record(303)), 14, 56)
+    yield g.tick((0, 16, 0))
+    yield g.tick((0, 16, 0))
+    yield g.receive(flood(record(303)), 14, 56)
+    yield g.tick((0, 0, 0))
+    yield g.receive(flood(record(303)), (0, 20, 76), 56)
+    yield g.waits([(57, INQUIRY, 2, 303)])
+
+
+def memory(g):
+    good = flood(record(60))
+
+    def calls(received, sent, ticked, listed):
+        """A call of each kind on what is lent, with its number; None for a tick that is not made."""
+        yield g.receive(good, received)
+        yield g.send(key(70), key(100), sent)
+        if ticked is not None:
+            yield g.tick(ticked)
+        yield g.list(listed)
+
+    yield "# 1: the own record"
+    for own in (b"", OWN[:99], OWN + b"\0", bytes(100), put(OWN, 34, b"\0"), put(OWN, 34, b"\5"), put(OWN, 35, b"\1"), put(OWN, 68, b"\1"),
+                put(OWN, 99, b"\1")):
+        yield g.start(own)
+        yield from calls(1, 1, 1, 1)
+    yield "# 1: the own CPA, lent to a receive alone"
+    for cpa, want in ((b"", 1), (bytes(1025), 1), (bytes(1), 0), (bytes(1024), 0)):
+        yield g.start(cpa=cpa)
+        yield g.set_cache(cache([70]))
+        yield g.receive(good, want)
+        yield g.receive(inquire(100), want)
+        yield g.send(key(70), key(100), 0)
+        yield g.tick(0)
+        yield g.list(0)
+    yield "# 1: the cache, not lent to a tick; C 9 and 257, 10 and 256"
+    for c, want in ((0, 1), (9, 1), (10, 0), (11, 0), (256, 0), (257, 1)):
+        yield g.start(c=c)
+        yield from calls(want, 12 if want == 0 else 1, 0, want)
+    yield g.start()
+    filled = cache([70, 80])
+    for bad in (filled[:-1], filled + b"\0", cache([80, 70]), cache([70, 70]), cache([70, 100]), put(filled, 134, b"\0"), put(filled, 35, b"\1"),
+                put(filled, 999, b"\1"), cache([70, bytes(100), 80])):
+        yield g.set_cache(bad)
+        yield from calls(1, 1, None, 1)
+    yield g.tick(0)
+    yield "# 1: the waiting table, not lent to the neighbour list"
+    yield g.start()
+    yield g.set_cache(filled)
+    two = table([flood_place(1, 70), inquiry(2, 90)])
+    for bad in (two[:-1], two + b"\0", b"", table([flood_place(2, 70), inquiry(2, 90)]), table([flood_place(3, 70), inquiry(2, 90)]),
+                table([inquiry(1, 90), inquiry(2, 90)]), table([inquiry(1, 100)]), put(two, 4, b"\3"), put(two, 5, b"\3"), put(two, 147, b"\1"),
+                put(two, 139, b"\1"), put(two, 211, b"\x5B"), put(two, 2239, b"\1"), table([bytes(140), inquiry(2, 90)])):
+        yield g.set_waiting(bad)
+        yield g.receive(good, 1)
+        yield g.send(key(70), key(100), 1, 9)
+        yield g.tick(1)
+        yield g.list((0, 2, 0))
+    yield "# in form: a flood with the own key, ID 0, a key that is held"
+    yield g.set_waiting(table([flood_place(0, 100), inquiry(1, 70), flood_place(2, 70)]))
+    yield g.receive(lookup(70), 0)
+    yield g.tick((0, 3, 0))
+    yield "# 1: nonce and keys have their lengths, whether they are needed or not"
+    yield g.start()
+    yield g.set_cache(filled)
+    yield g.set_waiting(two)
+    for nonce in (b"", NONCE[:15], NONCE + b"\0"):
+        for datagram in (good, ack(1), lookup(7), inquire(100)):
+            yield g.receive(datagram, 1, nonce=nonce)
+    for named in (b"", ZERO[:31], ZERO + b"\0"):
+        for datagram in (good, ack(1), revocation(), authority(2)):
+            yield g.receive(datagram, 1, verdict=1, named=named)
+        yield g.send(named, key(100), 1, 9)
+        yield g.send(key(70), named, 1, 9)
+
+
+def refusals(g):
+    start = table([flood_place(1, 70), inquiry(2, 90)])
+    yield "# every number of a receive, with something held and something waiting; nothing changes"
+    yield g.start()
+    yield g.set_cache(cache([60, 70]))
+    yield g.set_waiting(start)
+    yield g.receive(flood(record(61)), 1, nonce=b"")
+    yield g.receive(b"", 2)
+    yield g.receive(flood(record(61))[:11], 2)
+    yield g.receive(flood(record(61)) + bytes(1233 - 116), 2)
+    for i in range(5):
+        yield g.receive(put(flood(record(61)), i, b"\xAA"), 3)
+    for major in (5, 7, 101):
+        yield g.receive(flood(record(61), major=major), 4)
+    for code in (0, 5, 6, 10, 12, 255):
+        yield g.receive(put(flood(record(61)), 7, bytes([code])), 5)
+    yield g.receive(flood(record(61))[:12], 6)
+    yield g.receive(flood(record(61))[:-1], 6)
+    yield g.receive(flood(record(61)) + b"\0", 6)
+    yield g.receive(put(flood(record(61)), 97, b"\5"), 6)
+    yield g.receive(put(flood(record(61)), 56, b"\x00\xA1"), 6)
+    yield g.receive(put(revocation(), 56, b"\x00\xA2"), 6, verdict=1, named=key(70))
+    yield g.receive(put(lookup(60), 20, b"\3"), 6)
+    yield g.receive(put(authority(2), 36, b"\x00\xA2"), 6, verdict=1, named=key(90))
+    yield g.receive(ack(1) + b"\0\0", 6)
+    for datagram in (SOLICIT, ADVERTISE, REQUEST):
+        yield g.receive(datagram, 7)
+    yield g.receive(authority(2)[:-1], 7, verdict=1, named=key(90))
+    yield g.receive(ack(2), 8)
+    yield g.receive(authority(1), 8, verdict=1, named=key(70))
+    yield g.receive(authority(2), 9, named=key(90))
+    yield g.receive(revocation(), 9, named=key(70))
+    yield g.receive(authority(2), 10, verdict=1, named=key(70))
+    yield g.receive(flood(OWN), 11)
+    yield g.receive(revocation(), 11, verdict=1, named=key(100))
+    yield g.receive(inquire(70), 12)
+    yield g.receive(flood(record(61)), 13, 1)
+    yield g.receive(flood(record(61)), 13, 0)
+    yield g.receive(flood(record(61)), 15, 7, room=95)
+    yield g.receive(inquire(100), 15, room=44)
+    yield g.receive(lookup(60), 15, room=95)
+    yield g.receive(revocation(), 15, verdict=1, named=key(70), room=19)
+    yield g.held([60, 70])
+    yield g.waits([(1, FLOOD, 2, 70), (2, INQUIRY, 2, 90)])
+    yield g.set_waiting(table([flood_place(i, 70) for i in range(15)] + [inquiry(20, 90)]))
+    yield g.receive(flood(record(61)), 14, 20)
+    yield "# two numbers apply: the lower one. Memory and length; length and first bytes; first bytes and major; major and type; type and fields"
+    yield g.set_waiting(start)
+    yield g.receive(b"", 1, nonce=b"")
+    yield g.receive(bytes(1233), 1, named=b"")
+    yield g.receive(bytes(11), 2)
+    yield g.receive(bytes(1233), 2)
+    yield g.receive(put(ack(1), 4, b"\x52\x07"), 3)
+    yield g.receive(put(ack(1), 5, b"\x07\x65\x00"), 4)
+    yield g.receive(put(ack(1), 7, b"\x00")[:12], 5)
+    yield "# fields and a message not taken on; in part and not waiting; not waiting and no CPA; no CPA, or not good, and another key"
+    yield g.receive(SOLICIT[:-1], 6)
+    yield g.receive(ADVERTISE + b"\0", 6)
+    yield g.receive(REQUEST[:12], 6)
+    yield g.receive(put(authority(2)[:-1], 13, b"\x19"), 6)
+    yield g.receive(authority(5)[:-1], 7)
+    yield g.receive(SOLICIT, 7, room=0)
+    yield g.receive(authority(5, cpa=None), 8)
+    yield g.receive(authority(1, cpa=None), 8, verdict=1, named=key(90))
+    yield g.receive(authority(5), 8, verdict=2)
+    yield g.receive(authority(2, cpa=None), 9, verdict=1, named=key(91))
+    yield g.receive(authority(2, cpa=None), 9, verdict=0, named=key(91))
+    yield g.receive(authority(2), 9, verdict=0, named=key(91))
+    yield "# not good and the own key, and no room; the own key and its ID waiting, and all used, and no room; not for us and no room"
+    yield g.receive(revocation(), 9, verdict=3, named=key(100))
+    yield g.receive(revocation(), 9, verdict=3, named=key(70), room=0)
+    yield g.receive(revocation(), 11, verdict=1, named=key(100), room=0)
+    yield g.receive(flood(OWN), 11, 0)
+    yield g.receive(flood(OWN), 11, room=0)
+    yield g.receive(inquire(70), 12, room=0)
+    yield "# the ID waiting and all used; the ID waiting and no room; all used and no room"
+    yield g.receive(flood(record(61)), 13, 1, room=0)
+    yield g.set_waiting(table([flood_place(i, 70) for i in range(15)] + [inquiry(20, 90)]))
+    yield g.receive(flood(OWN), 11, 30)
+    yield g.receive(flood(record(61)), 13, 4)
+    yield g.receive(flood(record(61)), 13, 19)
+    yield g.receive(flood(record(61)), 13, 4, room=0)
+    yield g.receive(flood(record(61)), 14, 30, room=0)
+    yield "# the same for a send, a tick, a list"
+    yield g.send(key(61), key(100), 12, 4)
+    yield g.send(key(61), key(100), 12, 30)
+    yield g.send(key(61), key(100), 12, 30, room=0)
+    yield g.send(key(70), key(61), 12, 4, room=0)
+    yield g.send(key(61)[:31], key(61), 1, 4)
+    yield g.send(key(61), key(100) + b"\0", 1, 4, room=0)
+    yield g.send(key(70), key(100), 13, 4)
+    yield g.send(key(70), key(100), 13, 20, room=0)
+    yield g.send(key(70), key(100), 14, 30, room=0)
+    yield g.set_waiting(start)
+    yield g.send(key(70), key(100), 13, 2, room=131)
+    yield g.send(key(70), key(100), 15, 3, room=131)
+    yield g.send(key(61), key(100), 12, 3, room=131)
+    yield g.set_waiting(bytes(2239))
+    yield g.send(key(61), key(100), 1, 3)
+    yield g.tick(1, room=63)
+    yield g.set_waiting(start)
+    yield g.tick(15, room=63)
+    yield g.set_cache(bytes(999))
+    yield g.list(1, room=319)
+    yield g.set_cache(cache([60, 70]))
+    yield g.list(15, room=319)
+    yield g.held([60, 70])
+    yield g.waits([(1, FLOOD, 2, 70), (2, INQUIRY, 2, 90)])
+    yield "# the old gauge's slip: a place is not freed and then refused for room"
+    yield g.set_waiting(table([inquiry(2, 90)]))
+    yield g.receive(revocation(), 15, verdict=1, named=key(90), room=19)
+    yield g.waits([(2, INQUIRY, 2, 90)])
+    yield g.receive(revocation(), (0, 20, 0), verdict=1, named=key(90), room=20)
+    yield g.waits([])
+
+
+def bytewise(g):
+    yield "# what goes out, byte by byte: ACK with N clear and INQUIRE; ACK with N set; AUTHORITY for an INQUIRE and for a LOOKUP; FLOOD"
+    ours = "009A004A" + "00" * 31 + "64" + "0665" + "13EC" + "00" + "02" + "2122232425262728292A2B2C2D2E2F303132333435363738393A3B3C3D3E3F40" + "0000"
+    ask = "0010000C51066507" + "00000008" + "0040000600100000" + "00390024" + "00" * 31 + "46" + "00930014" + "A0A1A2A3A4A5A6A7A8A9AAABACADAEAF"
+    yield g.start()
+    yield g.receive(flood(record(70)), (0, 20, 76), sends=[bytes.fromhex("0010000C51066509" + "00000007" + "0018000800000500"), bytes.fromhex(ask)])
+    yield g.receive(flood(record(70), validate=70), (0, 26, 0),
+                    sends=[bytes.fromhex("0010000C51066509" + "00000007" + "0018000800000500" + "004000060001")])
+    before = "0010000C51066508" + "00000007"
+    yield g.receive(inquire(100), (0, 45, 0), sends=[bytes.fromhex(before + "0018000800000900" + "0098000800110000" + "0040000600000000"
+                                                                   + "009B0009" + "0102030405")])
+    yield g.receive(lookup(100), (0, 112, 0), sends=[bytes.fromhex(before + "0018000800000A00" + "0098000800540000" + "0040000600000000" + ours)])
+    yield g.receive(authority(8), (0, 0, 0), verdict=1, named=key(70))
+    yield g.send(key(70), key(100), (0, 132, 0), sends=[bytes.fromhex("0010000C51066504" + "00000007" + "0043000700000000"
+                                                                      + "00390024" + "00" * 31 + "46" + ours)])
+
+
+def limits(g):
+    yield "# datagrams of 11, 12, 1,232 and 1,233 bytes: case 13, and the longest that is acted on"
+    yield g.start()
+    yield g.receive(inquire(100)[:11], 2)
+    yield g.receive(inquire(100)[:12], 6)
+    for length, want in ((1232, 0), (1233, 2)):
+        yield g.receive(inquire(100, key_identifier=bytes(length - 80)), want)
+        yield g.receive(revocation(revoke=bytes(length // 4 * 4 - 60)) + bytes(length % 4), want, verdict=1, named=key(70))
+        yield g.receive(lookup(100, key_identifier=bytes(length - 130)), want)
+    yield "# addresses: 1 and 4, 0 and 5; in a FLOOD, in a LOOKUP, in an AUTHORITY"
+    asked = table([inquiry(2, 70)])
+    for count in (1, 4):
+        yield g.start()
+        yield g.set_waiting(asked)
+        yield g.receive(flood(record(60, count)), (0, 20, 76))
+        yield g.receive(lookup(100, route=entry(record(60, count))), (0, 112, 0))
+        yield g.receive(authority(2, route=entry(record(60, count))), (0, 0, 0), verdict=1, named=key(70))
+    yield g.start()
+    yield g.set_waiting(asked)
+    for count, like in ((0, 1), (5, 4)):
+        one = bytes([count])
+        yield g.receive(put(flood(record(60, like)), 97, one), 6)
+        yield g.receive(put(lookup(100, route=entry(record(60, like))), 137, one), 6)
+        yield g.receive(put(authority(2, route=entry(record(60, like))), 77, one), 6, verdict=1, named=key(70))
+    yield "# endpoints: 1 and 22, 0 and 23; in a FLOOD, in a revocation, as the path of a LOOKUP"
+    for n, want in ((1, 0), (22, 0), (23, 6)):
+        points = [bytes(range(18))] * n
+        yield g.start()
+        yield g.receive(flood(record(60), reached=points), want)
+        yield g.receive(revocation(reached=points), want, verdict=1, named=key(60))
+        yield g.receive(message("lookup", 0xA00, target=key(7), validate=key(7), path=points), want)
+    none = bytes.fromhex("009E000C00000008009D0012")
+    yield g.receive(flood(record(60)) + none, 6)
+    yield g.receive(revocation() + none, 6, verdict=1, named=key(60))
+    yield g.receive(message("lookup", 0xA00, target=key(7), validate=key(7), path=[]), 6)
+    yield "# places: with 15 used one more is opened, with 16 none"
+    for used, want in ((15, 0), (16, 14)):
+        yield g.start()
+        yield g.set_cache(cache([70]))
+        yield g.set_waiting(table([flood_place(i, 7) for i in range(used)]))
+        yield g.receive(flood(record(60)), want, 50)
+        yield g.set_waiting(table([flood_place(i, 7) for i in range(used)]))
+        yield g.send(key(70), key(100), want, 50)
+
+
+def malformed(g):
+    yield "# 6 by a receive: 00A1 and 00A2 at each of their places, whatever is held and waiting"
+    yield g.start()
+    yield g.set_cache(cache([60, 70]))
+    yield g.set_waiting(table([flood_place(1, 70), inquiry(2, 90)]))
+    for kind in ("solicit", "flood", "authority", "lookup"):
+        d = laid.LAYERS[kind](route=1)
+        at = [at for number, at in d.fields if number == 0x009A][0]
+        yield g.receive(put(d.s, at, b"\x00\xA1"), 6, verdict=1, named=key(90))
+    for d, at in ((laid.flood(revoke=b"CPA5").s, 56), (laid.flood(token=laid.TOKEN, revoke=b"CPA5").s, 68), (laid.authority(cpa=b"CPA5").s, 36),
+                  (laid.authority(route=1, cpa=b"CPA5").s, 96)):
+        yield g.receive(put(d, at, b"\x00\xA2"), 6, verdict=1, named=key(90))
+    yield "# lists whose lengths are right only modulo 65,536: key lists of 2,048 and 2,049, endpoints of 32,769, a classifier of 32,768"
+    for d, at, n in ((laid.advertise(0).s, 24, 2048), (laid.advertise(1).s, 24, 2049), (laid.request(n=0).s, 36, 2048),
+                     (laid.request(n=1).s, 36, 2049), (laid.flood(route=1, reached=1).s, 120, 0x8001),
+                     (laid.lookup(path=1).s, 100, 0x8001), (laid.authority(units=[]).s, 40, 0x8000)):
+        yield g.receive(put(d, at, model.two(n)), 6, verdict=1, named=key(90))
+    yield g.held([60, 70])
+    yield g.waits([(1, FLOOD, 2, 70), (2, INQUIRY, 2, 90)])
+
+
+def pairs(g):
+    yield "# two neighbours of the table at once: the lower one, and nothing has changed. Of an unknown type, a field past the end"
+    yield g.start()
+    yield g.set_cache(cache([60, 70]))
+    yield g.set_waiting(table([flood_place(1, 70), inquiry(2, 90)]))
+    yield g.receive(put(ack(1), 7, b"\x00")[:-1], 5)
+    yield "# bytes left over behind: a FLOOD of the own key; a revocation that is not good; an ACK, an INQUIRE, a LOOKUP that would be refused too"
+    yield g.receive(flood(OWN) + b"\0", 6)
+    yield g.receive(revocation() + b"\0", 6, verdict=0, named=key(70))
+    yield g.receive(ack(9) + b"\0", 6)
+    yield g.receive(inquire(70) + b"\0", 6)
+    yield g.receive(lookup(60) + b"\0", 6, room=0)
+    yield "# REQUEST, ADVERTISE and SOLICIT cut short"
+    for datagram in (SOLICIT, ADVERTISE, REQUEST):
+        yield g.receive(datagram[:-1], 6)
+    yield "# the record to send not held and the ID waiting; its key too short and the neighbour not held"
+    yield g.send(key(70), key(61), 12, 1)
+    yield g.send(key(61), key(61)[:31], 1, 3)
+    yield g.held([60, 70])
+    yield g.waits([(1, FLOOD, 2, 70), (2, INQUIRY, 2, 90)])
+
+
+def looked(kind, **fields):
+    """A datagram laid out by hand, and the twelve numbers by the places at which its fields were laid."""
+    d = laid.LAYERS[kind](**fields)
+    acked = {"advertise": 0x01020304, "authority": 0xCCDDE43D, "ack": 0xD8859CF5}.get(kind, 0)
+    at = {number: (place + 4, model.value(d.s[place + 2:place + 4]) - 4) for number, place in d.fields}
+    none = (0, 0)
+    return d.s, ((0, laid.CODES[kind], laid.ID, acked) + at.get(0x009B, at.get(0x009C, none)) + at.get(0x0093, at.get(0x0092, none))
+                 + at.get(0x009A, none) + at.get(0x0038, none))
+
+
+def looking(g):
+    yield ("# look: each type with every optional field, and with none; the numbers are type, ID, acked ID, then place and length of CPA, nonce, "
+           "route entry, target")
+    places = {"solicit": ((0, 0), (92, 20), (16, 70), (0, 0)), "advertise": ((0, 0), (100, 20), (0, 0), (0, 0)),
+              "request": ((0, 0), (32, 16), (0, 0), (0, 0)), "inquire": ((0, 0), (60, 16), (0, 0), (0, 0)),
+              "authority": ((152, 3), (0, 0), (92, 54), (0, 0)), "ack": ((0, 0), (0, 0), (0, 0), (0, 0)),
+              "lookup": ((0, 0), (0, 0), (100, 70), (28, 32))}  # of those with every field, counted by hand
+    for kind, fields in laid.FULL + laid.BARE:
+        d, want = looked(kind, **fields)
+        if (kind, fields) in laid.FULL and kind != "flood":
+            assert want[4:] == sum(places[kind], ()), (kind, want)
+        yield g.look(d, want)
+    yield "# each field that is told, alone and beside each other; empty contents have a place and length 0; contents that look like fields"
+    for kind, choices in (("solicit", {"route": 4}), ("request", {"flags": True, "split": True, "credential": b"", "signature": b"s"}),
+                          ("inquire", {"nonce": laid.NONCE, "credential": b"", "signature": b"", "identifier": b"i"}),
+                          ("authority", {"chain": b"chain", "token": laid.TOKEN, "units": [], "payload": laid.PAYLOAD, "route": 3, "cpa": b""}),
+                          ("lookup", {"route": 1, "path": 22, "credential": b"c"})):
+        for fields in laid.choices(**choices):
+            yield g.look(*looked(kind, **fields))
+    for fields in ({"revoke": b""}, {"revoke": b"1"}, {"revoke": laid.REVOKE, "token": b""}, {"revoke": bytes(1000)},
+                   {"route": 4, "token": b"t", "reached": 22}, {"route": 1, "flags": 1}):
+        yield g.look(*looked("flood", **fields))
+    for fields in ({"flags": 0}, {"flags": 1}, {}):
+        yield g.look(*looked("ack", **fields))
+    yield "# ignored bits and padding that is not zero; any minor version; IDs at both ends"
+    for kind, fields in laid.FULL:
+        yield g.look(*looked(kind, dirt=True, **fields))
+    for minor, identity in ((0, 0), (255, 2 ** 32 - 1)):
+        yield g.look(laid.ack(minor=minor, identity=identity).s, (0, 9, identity, 0xD8859CF5) + (0,) * 8)
+    yield g.look(put(laid.ack().s, 16, bytes(4)), (0, 9, laid.ID, 0) + (0,) * 8)
+    yield "# what the calls send, looked at by the one who gets it"
+    yield g.look(ack_out(7, 5, True), (0, 9, 7, 5) + (0,) * 8)
+    yield g.look(inquire_out(8, 70), (0, 7, 8, 0, 0, 0, 60, 16, 0, 0, 0, 0))
+    yield g.look(cpa_out(7, 8, CPA), (0, 8, 7, 8, 40, 5, 0, 0, 0, 0, 0, 0))
+    yield g.look(shown_out(7, 8, OWN), (0, 8, 7, 8, 0, 0, 0, 0, 40, 70, 0, 0))
+    yield g.look(flood_out(7, 70, OWN), (0, 4, 7, 0, 0, 0, 0, 0, 60, 70, 0, 0))
+    yield "# refusals 2 to 7, the rest 0; two neighbours at once"
+    plain, whole = laid.ack(1).s, laid.authority(cpa=b"CPA").s
+    for d, want in ((b"", 2), (plain[:11], 2), (plain + bytes(1207), 2), (bytes(12), 3), (put(plain, 4, b"\x50"), 3), (put(plain, 0, b"\x01"), 3),
+                    (put(plain, 7, b"\x05"), 5), (put(plain, 7, b"\x0C"), 5), (plain[:12], 6), (plain + b"\0", 6), (put(plain, 13, b"\x19"), 6),
+                    (put(laid.flood(route=1).s, 56, b"\x00\xA1"), 6), (whole[:-1], 7), (whole + b"\0", 7), (put(whole, 26, b"\x04\xA4"), 7),
+                    (put(whole[:-1], 28, b"\xFF"), 7), (bytes(11), 2), (bytes(1233), 2), (put(plain, 4, b"\x52\x07"), 3),
+                    (put(plain, 5, b"\x07\x65\x00"), 4), (put(plain, 7, b"\x00")[:-1], 5), (put(whole[:-1], 13, b"\x19"), 6)):
+        yield g.look(d, (want,) + (0,) * 11)
+    for major in (0, 5, 7, 255):
+        yield g.look(plain, (4,) + (0,) * 11, major)
+    yield g.look(put(plain, 5, b"\xFF"), 0, 255)
+
+
+SCENES = (story, floods, identities, revocations, authorities, across, acked, answered, room, sending, ticking, listing, case14, memory, limits,
+          malformed, refusals, pairs, bytewise, looking)
+
+
+def vectors(g=None):
+    """Headings as strings, vectors as (operands, answer)."""
+    g = g or Gauge()
+    for scene in SCENES:
+        yield from scene(g)
+
+
+def check():
+    assert ack_out(7, 0xD8859CF5, False) == bytes.fromhex("0010000C510665090000000700180008D8859CF5")  # case 10
+    assert ack_out(7, 0xD8859CF5, True) == bytes.fromhex("0010000C510665090000000700180008D8859CF5004000060001")  # case 11
+    assert len(inquire_out(1, 2)) == 76 and len(cpa_out(1, 2, b"C" * 1024)) == 1064
+    assert len(shown_out(1, 2, record(7, 4))) == 144 and len(flood_out(1, 2, record(7, 4))) == 164
+    g = Gauge()
+    lines = [v for v in vectors(g) if not isinstance(v, str)]  # each `want` is compared on the way
+    # Every number of every call is there, and no other.
+    given = {name: {int(answer.split()[0]) for operands, answer in lines if operands[0] == name} for name in ("receive", "send", "tick", "list",
+                                                                                                              "look")}
+    assert given == {"receive": set(range(16)), "send": {0, 1, 12, 13, 14, 15}, "tick": {0, 1, 15}, "list": {0, 1, 15},
+                     "look": {0, 2, 3, 4, 5, 6, 7}}, given
+    # So are, for each kind of message, every number that it can be refused with, and every two neighbours at once.
+    for kind, numbers in TABLES.items():
+        for n in numbers:
+            assert any(k == kind and number == n for k, _, number in g.seen), "no %s is refused with %d" % (kind, n)
+        for a, b in zip(numbers, numbers[1:]):
+            assert any(k == kind and number == a and b in applies for k, applies, number in g.seen), "no %s to which %d and %d apply" % (kind, a, b)
+    # With a refusal nothing is told and nothing has changed.
+    for operands, answer in lines:
+        if operands[0] in ("receive", "send", "tick", "list") and not answer.startswith("0 "):
+            assert answer.split()[1:] == ["0", "0", "-", "same", "same", "clean"], (operands, answer)
+    # What a call writes is read as a message, and written again it is the same.
+    for operands, answer in lines:
+        if operands[0] in ("receive", "send") and answer.startswith("0 "):
+            first, second, sent = int(answer.split()[1]), int(answer.split()[2]), answer.split()[3]
+            sent = b"" if sent == "-" else bytes.fromhex(sent)
+            for d in (sent[:first], sent[first:first + second]):
+                assert d == b"" or model.write(model.read(d, d[5])[1]) == d
+    return lines
+
+
+if __name__ == "__main__":
+    lines = check()
+    names = ("gauge", "set-cache", "set-waiting", "receive", "send", "tick", "list", "held", "waits", "look")
+    print("vector_calls: %d vectors, %s" % (len(lines), ", ".join("%d %s" % (sum(v[0][0] == name for v in lines), name) for name in names)))
+    numbers = [int(answer.split()[0]) for operands, answer in lines if operands[0] == "receive"]
+    print("answers of receive: " + ", ".join("%d %d times" % (n, numbers.count(n)) for n in range(16)))

@@ -1,0 +1,546 @@
+#!/usr/bin/env python3
+"""Vectors for the lent memory: the forms, learning, removing, the neighbour list, the closest record, the tick's work on places.
+
+    cache-form OWN CACHE         bad, or how many records are held
+    waiting-form OWN TABLE       bad, or how many places are used
+    learn OWN CACHE RECORD       the number, and with 0 the keys held afterwards
+    remove-key OWN CACHE KEY     the same
+    neighbours OWN CACHE         the number, and with 0 the counts below and above and the keys listed
+    closest OWN CACHE TARGET     the record, - where refused
+    ticks OWN TABLE ROUNDS       for each round number:IDs, then how many places are used at the end
+
+    vector_memory.py             checks the answers that documents 01 and 02 and docs/MEMORY.md state
+
+Keys in answers are in hexadecimal without leading zeros, IDs are decimal; both apart by commas, - for none. The bytes are laid out here by
+docs/MEMORY.md and not by the model. A `want` is the answer that the documents give, and is compared with the model's.
+"""
+if not __debug__:
+    raise SystemExit("vector_memory.py: run it without -O and PYTHONOPTIMIZE, which leave its asserts out")
+import with_models
+import model
+
+TOP = 2 ** 256 - 1
+HALF = 2 ** 255
+ENDS = (0, 1, HALF, TOP)  # where our own key, or a target, lies on the ring
+
+
+def key(n):
+    return n.to_bytes(32, "big")
+
+
+def record(n, count=1, port=5000, first=0x21):
+    """Key n, `count` addresses that tell their place."""
+    used = bytes((first + i) % 256 for i in range(16 * count))
+    return key(n) + port.to_bytes(2, "big") + bytes([count, 0]) + used + bytes(64 - len(used))
+
+
+def cache(keys, c=10):
+    """A cache of C records; a key may be given as a record."""
+    rows = [record(k, 1 + k % 4, 4000 + k % 1000) if isinstance(k, int) else k for k in keys]
+    return b"".join(rows) + bytes(100 * (c - len(rows)))
+
+
+def flood(identity, n, tries=2):
+    return identity.to_bytes(4, "little") + bytes([1, tries, 0, 0]) + key(n) + bytes(100)
+
+
+def inquiry(identity, n, tries=2, count=1):
+    return identity.to_bytes(4, "little") + bytes([2, tries, 0, 0]) + key(n) + record(n, count)
+
+
+def table(places):
+    return b"".join(places) + bytes(2240 - 140 * len(places))
+
+
+def put(s, at, new):
+    return s[:at] + new + s[at + len(new):]
+
+
+OWN = record(100, 2, 5100)
+
+
+# Answers.
+
+def listed(keys):
+    return ",".join("%x" % k for k in keys) or "-"
+
+
+def line(name, operands, answer, want):
+    assert want is None or want == answer, (name, answer, want)
+    return (name, *operands), answer
+
+
+def cache_form(own, s, want=None):
+    records = model.held(own, s)
+    return line("cache-form", (own, s), "bad" if records is None else str(len(records)), want)
+
+
+def waiting_form(own, s, want=None):
+    places = model.waits(own, s)
+    return line("waiting-form", (own, s), "bad" if places is None else str(len(places)), want)
+
+
+# 01, number 1: "lent memory is not as above", the own record and the record or key handed in too.
+def learn(own, s, new, want=None):
+    records = model.held(own, s)
+    if not model.record_form(own) or records is None or not model.record_form(new):
+        return line("learn", (own, s, new), "1", want)
+    return line("learn", (own, s, new), "0 " + listed(map(model.key_of, model.learned(own, records, new, len(s) // 100))), want)
+
+
+def remove(own, s, k, want=None):
+    records = model.held(own, s)
+    if not model.record_form(own) or records is None or len(k) != 32:
+        return line("remove-key", (own, s, k), "1", want)
+    return line("remove-key", (own, s, k), "0 " + listed(map(model.key_of, model.removed(records, model.value(k)))), want)
+
+
+def neighbours(own, s, want=None):
+    number, below, above, _, _, output = model.neighbours(own, s, bytes(320))
+    if number != 0:
+        return line("neighbours", (own, s), str(number), want)
+    keys = [model.value(output[32 * i:32 * i + 32]) for i in range(below + above)]
+    return line("neighbours", (own, s), "0 %d %d %s" % (below, above, listed(keys)), want)
+
+
+def closest(own, s, target, want=None):
+    """`want` is the key of the record shown."""
+    records = model.held(own, s)
+    if not model.record_form(own) or records is None or len(target) != 32:
+        return line("closest", (own, s, target), "-", want)
+    shown = model.closest(own, records, model.value(target))
+    assert want is None or model.key_of(shown) == want, (model.key_of(shown), want)
+    return line("closest", (own, s, target), shown.hex(), None)
+
+
+def tick(own, s, rounds, want=None):
+    answers, after = [], s
+    for _ in range(rounds):
+        number, count, _, _, after, output = model.tick(own, after, bytes(64))
+        ids = [int.from_bytes(output[4 * i:4 * i + 4], "little") for i in range(count)]
+        answers.append("%d:%s" % (number, ",".join(map(str, ids)) or "-"))
+    return line("ticks", (own, s, rounds), " ".join(answers) + " %d" % len(model.waits(own, after)), want)
+
+
+def cache_forms():
+    some = [60, 70, 80, 101, 110]
+    good = cache(some)
+    yield "# the cache: in form, and how many are held"
+    yield cache_form(OWN, bytes(1000), "0")
+    yield cache_form(OWN, cache([7]), "1")
+    yield cache_form(OWN, good, "5")
+    yield "# full, at the least and at the greatest C"
+    yield cache_form(OWN, cache(range(90, 100)), "10")
+    yield cache_form(OWN, cache(range(89, 100), 11), "11")
+    yield cache_form(OWN, cache(range(1000, 1256), 256), "256")
+    yield "# accepted: key 0 and the greatest key, port 0, an address of zeros, one that stands twice, one to four addresses"
+    yield cache_form(OWN, cache([0]), "1")
+    yield cache_form(OWN, cache([0, TOP]), "2")
+    yield cache_form(OWN, cache([record(7, 1, 0), record(8, 1, 65535)]), "2")
+    yield cache_form(OWN, cache([key(7) + b"\x13\x88\x01\x00" + bytes(64)]), "1")
+    yield cache_form(OWN, cache([key(0) + b"\x00\x00\x01\x00" + bytes(64)]), "1")
+    yield cache_form(OWN, cache([key(7) + b"\x13\x88\x02\x00" + b"\xFE" * 32 + bytes(32)]), "1")
+    yield cache_form(OWN, cache([record(n, n) for n in (1, 2, 3, 4)]), "4")
+    yield cache_form(OWN, cache([99, 101]), "2")
+    yield cache_form(OWN, put(cache(list(range(90, 99)) + [record(99, 4)]), 999, b"\x01"), "10")
+    yield cache_form(record(0), cache([1, 2]), "2")
+    yield cache_form(record(TOP), cache([0, TOP - 1]), "2")
+    yield "# accepted: an order that is seen only in the first byte, in the last, at a word's end"
+    for low, high in ((255, 2 ** 248), (2 ** 248, 2 ** 248 + 1), (2 ** 32 - 1, 2 ** 32), (2 ** 64 - 1, 2 ** 64), (2 ** 128 - 1, 2 ** 128),
+                      (2 ** 192 - 1, 2 ** 192), (2 ** 255 - 1, 2 ** 255)):
+        yield cache_form(OWN, cache([low, high]), "2")
+        yield cache_form(OWN, cache([high, low]), "bad")
+    yield "# refused: the length"
+    for length in (0, 1, 99, 100, 900, 999, 1001, 1099):
+        yield cache_form(OWN, bytes(length), "bad")
+    yield cache_form(OWN, cache(some, 9), "bad")
+    yield cache_form(OWN, cache(some, 257), "bad")
+    yield "# refused: the order, equal keys, the own key"
+    yield cache_form(OWN, cache([70, 60]), "bad")
+    yield cache_form(OWN, cache([60, 70, 80, 110, 101]), "bad")
+    yield cache_form(OWN, cache([60, 60]), "bad")
+    yield cache_form(OWN, cache([60, 70, 80, record(110, 1), record(110, 2)]), "bad")
+    yield cache_form(OWN, cache([100]), "bad")
+    yield cache_form(OWN, cache([60, 100, 110]), "bad")
+    yield cache_form(OWN, cache([record(100, 3, 1)]), "bad")
+    yield cache_form(record(0), cache([0, 7]), "bad")
+    yield cache_form(record(TOP), cache([7, TOP]), "bad")
+    yield cache_form(OWN, cache(list(range(91, 100)) + [99]), "bad")
+    yield "# refused: the address count, the zero byte"
+    for row in (0, 2, 4):
+        for count in (0, 5, 255):
+            yield cache_form(OWN, put(good, 100 * row + 34, bytes([count])), "bad")
+        yield cache_form(OWN, put(good, 100 * row + 35, b"\x01"), "bad")
+    yield cache_form(OWN, put(good, 135, b"\x80"), "bad")
+    yield "# refused: an address that is not used and not zero, its first byte and its last"
+    for count in (1, 2, 3):
+        for at in sorted({36 + 16 * count, 51 + 16 * count, 99}):
+            yield cache_form(OWN, put(cache([record(7, count)]), at, b"\x01"), "bad")
+    yield cache_form(OWN, put(cache([record(7, 4)]), 34, b"\x03"), "bad")
+    yield "# refused: a used record behind a free one, a free one that is not all zero"
+    yield cache_form(OWN, cache([60, bytes(100), 70]), "bad")
+    yield cache_form(OWN, cache([bytes(100), 70]), "bad")
+    yield cache_form(OWN, bytes(900) + record(70), "bad")
+    for at in (500, 531, 532, 534, 535, 536, 599, 600, 999):
+        yield cache_form(OWN, put(good, at, b"\x01"), "bad")
+
+
+def waiting_forms():
+    good = table([flood(1, 60), inquiry(2, 70), inquiry(5, 80, 1, 4), flood(9, 60, 0)])
+    yield "# the waiting table: in form, and how many are used"
+    yield waiting_form(OWN, bytes(2240), "0")
+    yield waiting_form(OWN, good, "4")
+    yield waiting_form(OWN, table([flood(i, 7) for i in range(16)]), "16")
+    yield waiting_form(OWN, table([inquiry(i, 200 + i) for i in range(1, 17)]), "16")
+    yield "# accepted: a flood with the own key, with the key of another place; ID 0 and the greatest; tries 0, 1, 2; key 0 and the greatest"
+    yield waiting_form(OWN, table([flood(1, 100)]), "1")
+    yield waiting_form(OWN, table([flood(1, 7), flood(2, 7)]), "2")
+    yield waiting_form(OWN, table([flood(1, 7), inquiry(2, 7)]), "2")
+    yield waiting_form(OWN, table([flood(0, 7), flood(2 ** 32 - 1, 8)]), "2")
+    yield waiting_form(OWN, table([flood(0, 0, 0)]), "1")
+    yield waiting_form(OWN, table([inquiry(0, 0, 0)]), "1")
+    yield waiting_form(OWN, table([inquiry(1, 7, 0), inquiry(2, 8, 1), inquiry(3, 9, 2)]), "3")
+    yield waiting_form(OWN, table([inquiry(1, TOP, 2, 4), flood(2, TOP)]), "2")
+    yield waiting_form(OWN, table([inquiry(3, 80), inquiry(4, 70)]), "2")
+    yield "# IDs are little-endian numbers: in their order, and in the order of their bytes"
+    for low, high in ((1, 256), (255, 256), (65535, 65536), (2 ** 24 - 1, 2 ** 24), (2 ** 31 - 1, 2 ** 31), (0x01020304, 0x04030201)):
+        yield waiting_form(OWN, table([flood(low, 7), flood(high, 8)]), "2")
+        yield waiting_form(OWN, table([flood(high, 8), flood(low, 7)]), "bad")
+    yield "# refused: the length"
+    for length in (0, 1, 140, 2100, 2239, 2241, 2380):
+        yield waiting_form(OWN, bytes(length), "bad")
+    yield waiting_form(OWN, good[:2100], "bad")
+    yield "# refused: equal IDs, also of two kinds; the order"
+    yield waiting_form(OWN, table([flood(3, 7), flood(3, 8)]), "bad")
+    yield waiting_form(OWN, table([flood(3, 7), inquiry(3, 8)]), "bad")
+    yield waiting_form(OWN, table([inquiry(3, 8), flood(3, 7)]), "bad")
+    yield waiting_form(OWN, table([flood(1, 7), flood(3, 7), flood(2, 7)]), "bad")
+    yield waiting_form(OWN, table([flood(i, 7) for i in range(15)] + [flood(14, 7)]), "bad")
+    yield "# refused: kind, tries, the two zero bytes, of a flood and of an inquiry"
+    for place in (0, 140):
+        for at, byte in ((4, 3), (4, 255), (5, 3), (5, 255), (6, 1), (7, 1)):
+            yield waiting_form(OWN, put(good, place + at, bytes([byte])), "bad")
+    yield waiting_form(OWN, put(good, 4, b"\x00"), "bad")
+    yield waiting_form(OWN, put(good, 144, b"\x00"), "bad")
+    yield "# refused: a flood with a record, the kind of the other"
+    yield waiting_form(OWN, put(good, 40, record(60)), "bad")
+    for at in (40, 71, 72, 74, 75, 76, 139):
+        yield waiting_form(OWN, put(good, at, b"\x01"), "bad")
+    yield waiting_form(OWN, put(good, 4, b"\x02"), "bad")
+    yield waiting_form(OWN, put(good, 144, b"\x01"), "bad")
+    yield "# refused: an inquiry whose record is out of form, or has another key"
+    for at, byte in ((74, 0), (74, 5), (75, 1), (92, 1), (139, 1)):
+        yield waiting_form(OWN, put(good, 140 + at, bytes([byte])), "bad")
+    yield waiting_form(OWN, put(good, 180, bytes(100)), "bad")
+    yield waiting_form(OWN, put(good, 180, record(71)), "bad")
+    yield waiting_form(OWN, put(good, 180, b"\x80"), "bad")
+    yield waiting_form(OWN, put(good, 148, b"\x80"), "bad")
+    yield waiting_form(OWN, put(good, 179, b"\x47"), "bad")
+    yield "# refused: two inquiries of one key, side by side and apart; an inquiry of the own key"
+    yield waiting_form(OWN, table([inquiry(1, 7), inquiry(2, 7)]), "bad")
+    yield waiting_form(OWN, table([inquiry(1, 7, 2, 1), inquiry(2, 7, 1, 3)]), "bad")
+    yield waiting_form(OWN, table([inquiry(1, 7), flood(2, 7), inquiry(3, 8), inquiry(4, 7)]), "bad")
+    yield waiting_form(OWN, table([inquiry(i, 200 + i % 15) for i in range(1, 17)]), "bad")
+    yield waiting_form(OWN, table([inquiry(1, 100)]), "bad")
+    yield waiting_form(OWN, table([flood(1, 100), inquiry(2, 7), inquiry(3, 100)]), "bad")
+    yield waiting_form(record(7), table([flood(1, 100), inquiry(2, 7)]), "bad")
+    yield "# refused: a used place behind a free one, a free one that is not all zero"
+    yield waiting_form(OWN, table([flood(1, 7), bytes(140), flood(2, 7)]), "bad")
+    yield waiting_form(OWN, table([bytes(140), flood(2, 7)]), "bad")
+    yield waiting_form(OWN, bytes(2100) + flood(2, 7), "bad")
+    for at in (560, 563, 564, 565, 566, 567, 568, 599, 600, 634, 699, 700, 2239):
+        yield waiting_form(OWN, put(good, at, b"\x01"), "bad")
+
+
+def learning():
+    ten = list(range(90, 100))
+    yield "# learning: case 3 (90 is dropped), case 4 (89 itself), case 5 (six each: 106)"
+    yield learn(OWN, cache(ten), record(101), "0 5b,5c,5d,5e,5f,60,61,62,63,65")
+    yield learn(OWN, cache(ten), record(89), "0 5a,5b,5c,5d,5e,5f,60,61,62,63")
+    six = list(range(94, 100)) + list(range(101, 106))
+    yield learn(OWN, cache(six, 11), record(106), "0 5e,5f,60,61,62,63,65,66,67,68,69")
+    yield "# with equal sides the side above loses its farthest, whoever is new"
+    yield learn(OWN, cache([94, 95, 96, 97, 98, 99, 101, 102, 103, 104, 106], 11), record(105), "0 5e,5f,60,61,62,63,65,66,67,68,69")
+    yield learn(OWN, cache([95, 96, 97, 98, 99, 101, 102, 103, 104, 105, 106], 11), record(94), "0 5e,5f,60,61,62,63,65,66,67,68,69")
+    yield "# with more above than below the farthest above goes, with more below the farthest below"
+    yield learn(OWN, cache(range(101, 111)), record(99), "0 63,65,66,67,68,69,6a,6b,6c,6d")
+    yield learn(OWN, cache(range(101, 111)), record(111), "0 65,66,67,68,69,6a,6b,6c,6d,6e")
+    yield learn(OWN, cache(range(102, 112)), record(101), "0 65,66,67,68,69,6a,6b,6c,6d,6e")
+    yield learn(OWN, cache([95, 96, 97, 98, 99, 101, 102, 103, 104, 105]), record(106), "0 5f,60,61,62,63,65,66,67,68,69")
+    yield learn(OWN, cache([95, 96, 97, 98, 99, 101, 102, 103, 104, 105]), record(94), "0 5f,60,61,62,63,65,66,67,68,69")
+    yield learn(OWN, cache([95, 96, 97, 98, 99, 101, 102, 103, 104, 105]), record(0), "0 5f,60,61,62,63,65,66,67,68,69")
+    yield learn(OWN, cache([95, 96, 97, 98, 99, 101, 102, 103, 104, 105]), record(TOP), "0 5f,60,61,62,63,65,66,67,68,69")
+    yield "# farthest out is by the whole key, not by four bytes of a difference"
+    yield learn(OWN, cache(list(range(101, 110)) + [2 ** 32 + 100]), record(110), "0 65,66,67,68,69,6a,6b,6c,6d,6e")
+    yield learn(record(2 ** 64), cache([1] + list(range(2 ** 64 - 9, 2 ** 64))), record(2 ** 64 - 10), "0 " + listed(range(2 ** 64 - 10, 2 ** 64)))
+    yield "# room left: a new key joins, at either end and between"
+    for new in (0, 65, 99, 105, TOP):
+        yield learn(OWN, cache([60, 70, 101, 110]), record(new), "0 " + listed(sorted([60, 70, 101, 110, new])))
+    yield learn(OWN, bytes(1000), record(7), "0 7")
+    yield learn(OWN, cache(ten[1:]), record(90), "0 5a,5b,5c,5d,5e,5f,60,61,62,63")
+    yield "# a held key: its record is replaced, nothing is dropped, also when full"
+    yield learn(OWN, cache(ten), record(95, 4, 1), "0 5a,5b,5c,5d,5e,5f,60,61,62,63")
+    yield learn(OWN, cache(ten), record(90, 4, 1), "0 5a,5b,5c,5d,5e,5f,60,61,62,63")
+    yield learn(OWN, cache([60, 70]), record(70, 3, 9), "0 3c,46")
+    yield "# the own key at an end: all keys are above it, over the end too"
+    yield learn(record(0), cache(range(1, 11)), record(11), "0 " + listed(range(1, 11)))
+    yield learn(record(0), cache(range(2, 12)), record(1), "0 " + listed(range(1, 11)))
+    yield learn(record(TOP), cache(range(1, 11)), record(11), "0 " + listed(range(1, 11)))
+    yield learn(record(TOP), cache(range(1, 11)), record(0), "0 " + listed(range(0, 10)))
+    yield "# refused: cache, record or own record out of form"
+    yield learn(OWN, bytes(900), record(7), "1")
+    yield learn(OWN, cache([70, 60]), record(7), "1")
+    yield learn(OWN, cache([100]), record(7), "1")
+    new = record(7)
+    for bad in (b"", bytes(100), new[:99], new + b"\0", put(new, 34, b"\0"), put(new, 34, b"\5"), put(new, 35, b"\1"), put(new, 99, b"\1")):
+        yield learn(OWN, cache([60]), bad, "1")
+    for bad in (bytes(100), OWN[:99], put(OWN, 34, b"\5"), put(OWN, 35, b"\1"), put(OWN, 99, b"\1")):
+        yield learn(bad, cache([60]), record(7), "1")
+
+
+def removing():
+    yield "# removing: first, last, between, the only one, from a full cache; a key that is not held changes nothing"
+    for k, left in ((60, "46,65,6e"), (70, "3c,65,6e"), (110, "3c,46,65"), (65, "3c,46,65,6e"), (0, "3c,46,65,6e"), (TOP, "3c,46,65,6e"),
+                    (100, "3c,46,65,6e")):
+        yield remove(OWN, cache([60, 70, 101, 110]), key(k), "0 " + left)
+    yield remove(OWN, cache([7]), key(7), "0 -")
+    yield remove(OWN, bytes(1000), key(7), "0 -")
+    yield remove(OWN, bytes(1000), key(0), "0 -")
+    yield remove(OWN, cache([0, 7]), key(0), "0 7")
+    for k in (90, 95, 99):
+        yield remove(OWN, cache(range(90, 100)), key(k), "0 " + listed(n for n in range(90, 100) if n != k))
+    yield remove(OWN, cache([7, 2 ** 32 + 7, 2 ** 248 + 7]), key(2 ** 32 + 7), "0 " + listed([7, 2 ** 248 + 7]))
+    yield "# refused: cache or own record out of form, a key that has not 32 bytes"
+    yield remove(OWN, bytes(900), key(7), "1")
+    yield remove(OWN, cache([70, 60]), key(60), "1")
+    yield remove(OWN, cache([60]), key(60)[:31], "1")
+    yield remove(OWN, cache([60]), key(60) + b"\0", "1")
+    yield remove(OWN, cache([60]), b"", "1")
+    yield remove(put(OWN, 34, b"\0"), cache([60]), key(60), "1")
+
+
+def lists():
+    yield "# the neighbour list: cases 1 and 2"
+    yield neighbours(OWN, cache([60, 70, 80, 90, 95, 99, 101, 110]), "0 5 2 63,5f,5a,50,46,65,6e")
+    yield neighbours(OWN, bytes(1000), "0 0 0 -")
+    yield "# five and not six, on either side; none on a side; the ends"
+    yield neighbours(OWN, cache([95, 96, 97, 98, 99, 101, 102, 103, 104, 105]), "0 5 5 63,62,61,60,5f,65,66,67,68,69")
+    yield neighbours(OWN, cache([94, 95, 96, 97, 98, 99, 101, 102, 103, 104, 105, 106], 12), "0 5 5 63,62,61,60,5f,65,66,67,68,69")
+    yield neighbours(OWN, cache(range(90, 100)), "0 5 0 63,62,61,60,5f")
+    yield neighbours(OWN, cache(range(101, 111)), "0 0 5 65,66,67,68,69")
+    yield neighbours(OWN, cache([99]), "0 1 0 63")
+    yield neighbours(OWN, cache([101]), "0 0 1 65")
+    yield neighbours(OWN, cache([0, TOP]), "0 2 0 0," + "f" * 64)
+    yield neighbours(record(0), cache([1, TOP]), "0 1 1 %s,1" % ("f" * 64))
+    yield neighbours(record(TOP), cache([0, 1]), "0 0 2 0,1")
+    yield neighbours(record(2 ** 32), cache([1, 2 ** 32 - 1, 2 ** 32 + 1, 2 ** 64]), "0 2 2 ffffffff,1,100000001,10000000000000000")
+    yield neighbours(record(2 ** 255), cache([2 ** 255 - 1, 2 ** 255 + 1]), "0 1 1 7%s,8%s1" % ("f" * 63, "0" * 62))
+    yield "# refused"
+    yield neighbours(OWN, bytes(900), "1")
+    yield neighbours(OWN, cache([99, 98]), "1")
+    yield neighbours(OWN, cache([100]), "1")
+    yield neighbours(put(OWN, 35, b"\1"), cache([99]), "1")
+    yield neighbours(OWN[:99], cache([99]), "1")
+
+
+def near():
+    yield "# the closest record: cases 6 and 7, and 9 as document 02 has it"
+    yield closest(record(50), cache([99, 101]), key(100), 99)
+    yield closest(record(9), cache([1, 4294967296]), key(0), 1)
+    yield closest(record(5), cache([0]), key(TOP), 0)
+    yield "# the own record: alone, nearest, in a tie on either side"
+    yield closest(OWN, bytes(1000), key(0), 100)
+    yield closest(OWN, bytes(1000), key(TOP), 100)
+    yield closest(OWN, cache([99, 101]), key(100), 100)
+    yield closest(OWN, cache([98]), key(99), 98)
+    yield closest(OWN, cache([102]), key(101), 100)
+    yield "# ties go to the key below the target; one nearer wins, wherever it stands"
+    yield closest(record(0), cache([98, 102]), key(100), 98)
+    yield closest(record(0), cache([97, 98, 102, 103]), key(100), 98)
+    yield closest(record(0), cache([97, 101, 104]), key(100), 101)
+    for target, want in ((60, 60), (64, 60), (65, 60), (66, 70), (94, 90), (0, 60), (111, 110), (105, 100), (106, 110)):
+        yield closest(OWN, cache([60, 70, 80, 90, 110]), key(target), want)
+    for target in (90, 94, 99):
+        yield closest(OWN, cache(range(90, 100)), key(target), target)
+    yield "# differences beyond 32, 64, 128 and 192 bits; the shorter way round"
+    yield closest(record(2 ** 200), cache([2 ** 32 + 3, 2 ** 33]), key(1), 2 ** 32 + 3)
+    for bits in (32, 64, 128, 192):
+        yield closest(record(2 ** 255), cache([5, 2 ** bits + 1]), key(1), 5)
+        yield closest(record(2 ** 255), cache([5, 2 ** bits + 5]), key(2 ** bits), 2 ** bits + 5)
+    yield closest(record(2 ** 255), cache([3, TOP - 1]), key(0), TOP - 1)
+    yield closest(record(2 ** 255), cache([0, 2 ** 254]), key(TOP), 0)
+    yield "# the record shown is whole: one to four addresses, its port"
+    for count in (1, 2, 3, 4):
+        yield closest(OWN, cache([record(7, count, 1000 + count)]), key(7), 7)
+    yield closest(record(100, 4, 65535), cache([7]), key(99), 100)
+    yield "# refused"
+    yield closest(OWN, bytes(900), key(7), "-")
+    yield closest(OWN, cache([70, 60]), key(7), "-")
+    yield closest(OWN, cache([60]), key(7)[:31], "-")
+    yield closest(OWN, cache([60]), key(7) + b"\0", "-")
+    yield closest(put(OWN, 34, b"\5"), cache([60]), key(7), "-")
+
+
+def slim(n):
+    """A record whose one address is zero: its line is short, and where only keys matter it does."""
+    return key(n) + b"\x13\x88\x01\x00" + bytes(64)
+
+
+def keys_cache(keys, c=10):
+    return cache([slim(n) for n in sorted(keys)], c)
+
+
+def around(own, steps):
+    """The keys so many steps up from our own, or down; in plain order, as a cache has them."""
+    return sorted((own + n) % 2 ** 256 for n in steps)
+
+
+def far_out(own):
+    """Around a key: nearest first, three below and four above; the last above is just opposite, the last below next to it."""
+    below = [own - 1, own - 2 ** 64, own - (HALF - 1)]
+    above = [own + 1, own + 2 ** 32, own + HALF - 1, own + HALF]
+    return [n % 2 ** 256 for n in below], [n % 2 ** 256 for n in above]
+
+
+# 02: "pond 1 must be able to have the last pond as neighbour below." W4.1: "The key just opposite ours .. is above."
+def ring_lists():
+    yield "# the ring: pond 1 and the last pond; the key just opposite is above, the next one below"
+    yield neighbours(slim(1), keys_cache([5, TOP]), "0 1 1 %s,5" % ("f" * 64))
+    yield neighbours(slim(0), keys_cache([HALF, HALF + 1]), "0 1 1 %x,%x" % (HALF + 1, HALF))
+    yield neighbours(slim(0), keys_cache([HALF - 1, HALF, HALF + 1, HALF + 2]), "0 2 2 " + listed([HALF + 2, HALF + 1, HALF - 1, HALF]))
+    for own in ENDS:
+        below, above = far_out(own)
+        yield neighbours(slim(own), keys_cache(below + above), "0 3 4 " + listed(below + above))
+        for steps, counts in ((1, "0 1"), (HALF - 1, "0 1"), (HALF, "0 1"), (HALF + 1, "1 0"), (TOP, "1 0")):
+            k = (own + steps) % 2 ** 256
+            yield neighbours(slim(own), keys_cache([k]), "0 %s %x" % (counts, k))
+    yield "# five and not six on either side, across the end"
+    for own in ENDS:
+        for shift in range(-6, 7, 3):
+            middle = (own + shift) % 2 ** 256
+            keys = around(middle, [n for n in range(-6, 7) if n])
+            order = [(middle + n) % 2 ** 256 for n in (-1, -2, -3, -4, -5, 1, 2, 3, 4, 5)]
+            yield neighbours(slim(middle), keys_cache(keys, 12), "0 5 5 " + listed(order))
+
+
+# W4.4: "the farthest along its side, .. and not the largest or the smallest number". A row is the steps held, the step learned and the one dropped.
+FIVES = [-5, -4, -3, -2, -1, 1, 2, 3, 4, 5]
+DROPS = ((range(-10, 0), 1, -10), (range(-10, 0), -11, -11), (range(1, 11), -1, 10), (range(1, 11), 11, 11), (range(2, 12), 1, 11),
+         (FIVES, 6, 6), (FIVES, -6, -6), (FIVES, HALF, HALF), (FIVES, HALF - 1, HALF - 1), (FIVES, 1 - HALF, 1 - HALF),
+         ([-9] + FIVES[1:], -5, -9), (FIVES[:-1] + [9], 5, 9), (FIVES[1:] + [HALF], 6, HALF), (FIVES[1:] + [HALF], HALF - 1, HALF),
+         ([1 - HALF] + FIVES[:-1], 5, 1 - HALF), ([1 - HALF] + FIVES[1:], 2 - HALF, 1 - HALF),
+         ([-6] + FIVES, 6, 6), (FIVES + [6], -6, 6), ([1 - HALF] + FIVES, HALF, HALF), (FIVES + [HALF], 1 - HALF, HALF), (FIVES + [6], 1 - HALF, 6))
+
+
+def ring_learning():
+    yield "# the ring: own 1, held the last ten, 5 comes: the first of them is dropped"
+    yield learn(slim(1), keys_cache(range(2 ** 256 - 10, 2 ** 256)), slim(5), "0 " + listed([5] + list(range(2 ** 256 - 9, 2 ** 256))))
+    yield "# wherever our own key lies: the farthest along its side goes, and the cache keeps plain order"
+    for own in ENDS:
+        for held, new, gone in DROPS:
+            left = [n for n in list(held) + [new] if n != gone]
+            yield learn(slim(own), keys_cache(around(own, held), len(held)), slim((own + new) % 2 ** 256), "0 " + listed(around(own, left)))
+    yield "# room left: a new key joins in plain order, across the end too"
+    yield learn(slim(0), keys_cache([1, TOP]), slim(TOP - 1), "0 " + listed([1, TOP - 1, TOP]))
+    yield learn(slim(TOP), keys_cache([1, TOP - 1]), slim(0), "0 " + listed([0, 1, TOP - 1]))
+    yield learn(slim(HALF), keys_cache([1, TOP]), slim(0), "0 " + listed([0, 1, TOP]))
+
+
+# 02: "the shorter way round; at equal distance take the key reached by going down from the target". W4.2: "'the smaller key' stands nowhere".
+def ring_near():
+    yield "# the ring: target 0, own 7, held 1 and the last: the last; and one nearer on either side of the end"
+    yield closest(slim(7), keys_cache([1, TOP]), key(0), TOP)
+    yield closest(slim(7), keys_cache([1, TOP - 1]), key(0), 1)
+    yield closest(slim(7), keys_cache([2, TOP]), key(0), TOP)
+    yield closest(slim(7), keys_cache([1, TOP - 2]), key(TOP), TOP - 2)
+    yield closest(slim(7), keys_cache([1, TOP - 3]), key(TOP), 1)
+    yield "# our own key in a tie across the end, below the target and above it"
+    yield closest(slim(TOP), keys_cache([1]), key(0), TOP)
+    yield closest(slim(1), keys_cache([TOP]), key(0), TOP)
+    yield closest(slim(2), keys_cache([TOP - 1]), key(0), TOP - 1)
+    yield closest(slim(0), keys_cache([TOP - 1]), key(TOP), TOP - 1)
+    yield closest(slim(TOP - 1), keys_cache([0]), key(TOP), TOP - 1)
+    yield "# wherever the target lies: ties go down, just opposite comes last, and ties next to the opposite point"
+    for target in ENDS:
+        def at(steps):
+            return (target + steps) % 2 ** 256
+
+        opposite = slim(at(HALF))
+        for steps in (1, 2 ** 32, 2 ** 64, 2 ** 128, HALF - 1):
+            yield closest(opposite, keys_cache([at(steps), at(-steps)]), key(target), at(-steps))
+            yield closest(slim(at(-steps)), keys_cache([at(steps)]), key(target), at(-steps))
+            yield closest(slim(at(steps)), keys_cache([at(-steps)]), key(target), at(-steps))
+        for steps in (1, 2 ** 32, 2 ** 64, 2 ** 128, HALF - 2):
+            yield closest(opposite, keys_cache([at(steps), at(-steps - 1)]), key(target), at(steps))
+        yield closest(opposite, keys_cache([at(HALF - 1)]), key(target), at(HALF - 1))
+        yield closest(opposite, keys_cache([at(HALF + 1)]), key(target), at(HALF + 1))
+        yield closest(slim(at(5)), keys_cache([at(HALF)]), key(target), at(5))
+        yield closest(slim(at(9)), keys_cache(around(target, [-7, -4, -3, 3, 4, 8])), key(target), at(-3))
+        yield closest(slim(at(9)), keys_cache(around(target, [-7, -4, 3, 4, 8])), key(target), at(3))
+        yield closest(slim(at(-4)), keys_cache(around(target, [-7, 4, 8])), key(target), at(-4))
+        yield closest(slim(at(4)), keys_cache(around(target, [-7, -4, 8])), key(target), at(-4))
+
+
+def ticks():
+    yield "# the tick: case 12, a place with two tries: listed, listed, freed"
+    yield tick(OWN, table([flood(3, 7)]), 3, "0:3 0:3 0:- 0")
+    yield tick(OWN, table([inquiry(3, 7)]), 3, "0:3 0:3 0:- 0")
+    for rounds, want in ((1, "0:3 1"), (2, "0:3 0:3 1"), (4, "0:3 0:3 0:- 0:- 0")):
+        yield tick(OWN, table([flood(3, 7)]), rounds, want)
+    yield "# fewer tries, none, an empty table"
+    yield tick(OWN, table([flood(3, 7, 1)]), 2, "0:3 0:- 0")
+    yield tick(OWN, table([inquiry(3, 7, 0)]), 1, "0:- 0")
+    yield tick(OWN, bytes(2240), 2, "0:- 0:- 0")
+    yield "# places with other tries among them: those left close up and keep their order"
+    mixed = [flood(0, 7, 0), inquiry(1, 8, 2), flood(2, 9, 1), inquiry(256, 9, 0), flood(257, 100, 2), inquiry(2 ** 32 - 1, 6, 1, 4)]
+    for rounds, want in ((1, "0:1,2,257,4294967295 4"), (2, "0:1,2,257,4294967295 0:1,257 2"), (3, "0:1,2,257,4294967295 0:1,257 0:- 0")):
+        yield tick(OWN, table(mixed), rounds, want)
+    yield tick(OWN, table([flood(1, 7, 0), flood(2, 7, 2)]), 3, "0:2 0:2 0:- 0")
+    yield tick(OWN, table([flood(1, 7, 2), flood(2, 7, 0)]), 3, "0:1 0:1 0:- 0")
+    yield "# all sixteen"
+    all_ids = ",".join(str(1000 * i) for i in range(16))
+    yield tick(OWN, table([flood(1000 * i, i) for i in range(16)]), 3, "0:%s 0:%s 0:- 0" % (all_ids, all_ids))
+    yield tick(OWN, table([inquiry(i, 500 + i, i % 3, 1 + i % 4) for i in range(1, 17)]), 2, "0:1,2,4,5,7,8,10,11,13,14,16 0:2,5,8,11,14 5")
+    yield tick(OWN, table([flood(i, 7, 0) for i in range(16)]), 1, "0:- 0")
+
+
+def vectors():
+    """Headings as strings, vectors as (operands, answer)."""
+    for part in (cache_forms, waiting_forms, learning, removing, lists, near, ring_lists, ring_learning, ring_near, ticks):
+        yield from part()
+
+
+def check():
+    assert record(100, 1, 5000)[:36] == key(100) + b"\x13\x88\x01\x00"  # docs/MEMORY.md, the record shown there
+    assert inquiry(8, 7)[:8] == bytes.fromhex("0800000002020000")  # docs/MEMORY.md, the waiting table
+    assert all(model.record_form(record(n, count)) for n in (0, 7, TOP) for count in (1, 2, 3, 4))
+    assert model.waiting_of(model.waits(OWN, table([flood(1, 7), inquiry(2, 8)]))) == table([flood(1, 7), inquiry(2, 8)])
+    assert model.cache_of(model.held(OWN, cache([60, 70])), 1000) == cache([60, 70])
+    # Learning is settled by its result: of the old keys and the new one at most C are left, and what is missing is the farthest of the longer side.
+    # Sides by steps from our own, from 1 - 2^255 to 2^255: above where it is positive, and the farther the greater without its sign.
+    import random
+    chance = random.Random(140)
+    near_own, opposite = list(range(-20, 21)), list(range(HALF - 20, HALF + 21))
+    for _ in range(4000):
+        c, own = chance.randint(10, 14), chance.choice([chance.randrange(1, 40), HALF + chance.randrange(-20, 21), -chance.randrange(1, 20),
+                                                        chance.randrange(2 ** 256)]) % 2 ** 256
+        ring = sorted({(own + n) % 2 ** 256 for n in chance.choice([near_own, opposite, near_own + opposite])} - {own})
+        keys, new = sorted(chance.sample(ring, chance.randrange(c + 1))), chance.choice(ring)
+        after = [model.key_of(r) for r in model.learned(record(own), [record(k) for k in keys], record(new), c)]
+        all_keys = sorted(set(keys) | {new})
+        gone = [k for k in all_keys if k not in after]
+        assert after == [k for k in all_keys if k not in gone] and len(gone) == max(0, len(all_keys) - c)
+        steps = {k: (k - own + HALF - 1) % 2 ** 256 - (HALF - 1) for k in all_keys}
+        for k in gone:
+            side = [x for x in all_keys if (steps[x] > 0) == (steps[k] > 0)]
+            other = [x for x in all_keys if (steps[x] > 0) != (steps[k] > 0)]
+            assert len(side) > len(other) or (len(side) == len(other) and steps[k] > 0)
+            assert all(abs(steps[x]) <= abs(steps[k]) for x in side)
+    assert list(vectors())  # each `want` is compared on the way
+
+
+if __name__ == "__main__":
+    check()
+    lines = [v for v in vectors() if not isinstance(v, str)]
+    names = ("cache-form", "waiting-form", "learn", "remove-key", "neighbours", "closest", "ticks")
+    print("vector_memory: %d vectors, %s" % (len(lines), ", ".join("%d %s" % (sum(v[0][0] == name for v in lines), name) for name in names)))

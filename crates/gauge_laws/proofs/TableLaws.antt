@@ -1,21 +1,22 @@
--- A call's number is the first of its table that applies: given exactly when it applies and none lower does.
+-- A call's number is the first of its table that applies: given exactly when it applies and none that stands before it does.
 -- In this order: the order of a table's rows; the number of a plan; two tables, one behind the other; a datagram received, by the message; any call.
 -- Assumes nothing.
 use mathlib.Core.Path.{_≡_, refl, sym, subst, _∙_}
 use mathlib.Core.Bool.{Bool, true, false, not, cond, _&&_}
 use mathlib.Core.List.{List, [], _∷_, _++_}
-use Prim.Native.Nat.{ℕ, _≤_, _<_}
+use Prim.Native.Nat.{ℕ, suc, _≤_, _<_}
 use native.Mathlib.Decide.{decLe}
 use native.Mathlib.Omega.{arith}
-use lib.Dec.{eqb, leb}
-use mathlib.Core.Logic.{_↔_}
-use borrow.Author.Tests.{leb-true}
+use lib.Dec.{eqb, ltb, leb}
+use lib.ListN.{length}
+use mathlib.Core.Logic.{_↔_, inl, inr}
+use borrow.Author.Tests.{eqb-true, ltb-true, leb-true}
 use Rattle.octet.proofs.TestLaws.{both-true}
 use Rattle.record.specs.Record.{keyOf}
-use Rattle.refusal.specs.Table.{Refusal, when, firstOf, appliesIn, orRefuse, InOrder, byNumber}
-use Rattle.refusal.proofs.TableLaws.{AllFail, all-fail, number-exactly, none-exactly}
+use Rattle.refusal.specs.Table.{Refusal, when, firstOf, appliesIn, orRefuse, order, placeIn, Before, InOrder}
+use Rattle.refusal.proofs.TableLaws.{AllFail, all-fail, listed-some, order-exactly, none-exactly}
 use Rattle.refusal.proofs.CallLaws.{number-is, refusal-is, all-pass}
-use Rattle.kept.specs.Keys.{Every}
+use Rattle.kept.specs.Keys.{Every, _∈_}
 use Rattle.cache.specs.Form.{heldIn, heldOf}
 use Rattle.cache.specs.Bytes.{countsOf, afterList}
 use Rattle.cache.specs.Calls.{Written, written, heldBy, listWrong, listCall}
@@ -47,29 +48,41 @@ use Rattle.gauge_laws.specs.Statements.{Exactly, Accepted, RefusalNumber
 
 -- ---- the order of a table's rows: computed, as their numbers are written out
 
--- from low to 15, rising
+abbrev place : ℕ → ℕ
+place n = placeIn order n
+
+-- from a place on, rising, and each number stands in the order
 abbrev rises : ℕ → List Refusal → Bool
 rises low [] = true
-rises low (r ∷ rs) = leb low (r .number) && leb (r .number) 15 && rises (r .number) rs
+rises low (r ∷ rs) = leb low (place (r .number)) && ltb (place (r .number)) 15 && rises (place (r .number)) rs
 
-module _ (low : ℕ) where
-  rises-first : (r : Refusal) (rs : List Refusal) → rises low (r ∷ rs) ≡ true → (low ≤ r .number) × (r .number ≤ 15) × (rises (r .number) rs ≡ true)
-  rises-first r rs e =
-      let w = both-true (leb low (r .number) && leb (r .number) 15) (rises (r .number) rs) e in
-      let v = both-true (leb low (r .number)) (leb (r .number) 15) (w .0) in
-      (leb-true low (r .number) (v .0), leb-true (r .number) 15 (v .1), w .1)
+rises-first : (low : ℕ) (r : Refusal) (rs : List Refusal) → rises low (r ∷ rs) ≡ true
+    → (low ≤ place (r .number)) × (place (r .number) < 15) × (rises (place (r .number)) rs ≡ true)
+rises-first low r rs e =
+    let w = both-true (leb low (place (r .number)) && ltb (place (r .number)) 15) (rises (place (r .number)) rs) e in
+    let v = both-true (leb low (place (r .number))) (ltb (place (r .number)) 15) (w .0) in
+    (leb-true low (place (r .number)) (v .0), ltb-true (place (r .number)) 15 (v .1), w .1)
 
-rises-order : (low : ℕ) (rs : List Refusal) → 0 < low → rises low rs ≡ true → InOrder byNumber low rs
-rises-order low [] h e = tt
-rises-order low (r ∷ rs) h e =
+rises-order : (low : ℕ) (rs : List Refusal) → rises low rs ≡ true → InOrder (placeIn order) low rs
+rises-order low [] e = tt
+rises-order low (r ∷ rs) e =
     let w = rises-first low r rs e in
-    (omega (arith, w .0), w .0, rises-order (r .number) rs (omega (arith, w .0)) (w .2))
+    (listed-some (r .number) (w .1), w .0, rises-order (place (r .number)) rs (w .2))
 
-rises-listed : (low : ℕ) (rs : List Refusal) → 0 < low → rises low rs ≡ true → Every (λ (r : Refusal). (0 < r .number) × (r .number ≤ 15)) rs
-rises-listed low [] h e = tt
-rises-listed low (r ∷ rs) h e =
+stands-in : (xs : List ℕ) (n : ℕ) → placeIn xs n < length xs → n ∈ xs
+unfolding placeIn
+stands-in [] n h = absurd (omega arith)
+stands-in (x ∷ xs) n h = go (eqb x n) refl h (stands-in xs n)
+  where
+    go : (b : Bool) → eqb x n ≡ b → cond b 0 (suc (placeIn xs n)) < suc (length xs) → (placeIn xs n < length xs → n ∈ xs) → n ∈ (x ∷ xs)
+    go true e h ih = inl (sym (eqb-true x n e))
+    go false e h ih = inr (ih (omega arith))
+
+rises-listed : (low : ℕ) (rs : List Refusal) → rises low rs ≡ true → Every (λ (r : Refusal). r .number ∈ order) rs
+rises-listed low [] e = tt
+rises-listed low (r ∷ rs) e =
     let w = rises-first low r rs e in
-    ((omega (arith, w .0), w .1), rises-listed (r .number) rs (omega (arith, w .0)) (w .2))
+    (stands-in order (r .number) (w .1), rises-listed (place (r .number)) rs (w .2))
 
 -- ---- the number of a plan
 
@@ -197,19 +210,19 @@ module _ (l : Receive) where
       message-number l (R.shown (l .datagram) (fields.found t ps)) (shown-message (l .datagram) t ps)
       ∙ sym (first-behind (fields.refusals (l .datagram) (l .major)) _ a)
 
-  read-by : (rs : List Refusal) (done : fields.Found) → foundNumber done ≡ 0 → InOrder byNumber 1 rs
+  read-by : (rs : List Refusal) (done : fields.Found) → foundNumber done ≡ 0 → InOrder (placeIn order) 0 rs
       → (0 < firstOf rs → Numbered l (fields.refused (firstOf rs))) → (AllFail rs → Numbered l done) → Numbered l (orRefuse fields.refused rs done)
   read-by rs done z o p q = go (decLe 1 (firstOf rs))
     where
       go : Dec (1 ≤ firstOf rs) → Numbered l (orRefuse fields.refused rs done)
       go (yes h) = subst (Numbered l) (sym (refusal-is foundNumber fields.refused (λ n. refl) done z rs h)) (p h)
-      go (no h) = let a = all-fail byNumber rs 1 o (omega arith) in subst (Numbered l) (sym (all-pass fields.refused rs done a)) (q a)
+      go (no h) = let a = all-fail (placeIn order) rs 0 o (omega arith) in subst (Numbered l) (sym (all-pass fields.refused rs done a)) (q a)
 
   read-number : Numbered l (fields.foundIn (l .datagram) (l .major))
-  unfolding fields.foundIn
+  unfolding fields.foundIn placeIn
   read-number =
       let rs = fields.refusals (l .datagram) (l .major) in
-      read-by rs _ refl (rises-order 1 rs (omega arith) refl) refused-number (found-number _ _)
+      read-by rs _ refl (rises-order 0 rs refl) refused-number (found-number _ _)
 
   -- ---- memory and what is handed in, then the datagram
 
@@ -232,11 +245,14 @@ module _ (l : Receive) where
 
   -- ---- the order of its rows
 
-  entry-rises : (s : Bool) (validate : ℕ) (entry : Part) → rises 7 (floodRows l s validate entry) ≡ true
+  entry-rises : (s : Bool) (validate : ℕ) (entry : Part) → rises 6 (floodRows l s validate entry) ≡ true
+  unfolding placeIn
   entry-rises s validate (Here start len) = refl
   entry-rises s validate Absent = refl
 
-  message-rises : (a : T.Answer) → rises 7 (messageRows l a) ≡ true
+  -- behind reading, whose last number is 7
+  message-rises : (a : T.Answer) → rises 6 (messageRows l a) ≡ true
+  unfolding placeIn
   message-rises (M.Refused n) = refl
   message-rises (M.Solicit head entry nonce) = refl
   message-rises (M.Advertise head acked keys nonce) = refl
@@ -262,28 +278,28 @@ call-number (lists own cache output) =
     (written (record { number = 0; below = counts .below; above = counts .above }) (afterList (keyOf own) (heldBy own cache) output)) refl
     (listWrong own cache output)
 
-call-rises : (c : Call) → rises 1 (tableOf c) ≡ true
-unfolding W.tickRefusals
+call-rises : (c : Call) → rises 0 (tableOf c) ≡ true
+unfolding W.tickRefusals placeIn
 call-rises (receives l) = message-rises l (R.answer (l .datagram) (l .major))
 call-rises (sends l) = refl
 call-rises (ticks own waiting output) = refl
 call-rises (lists own cache output) = refl
 
-pub call-order : (c : Call) → InOrder byNumber 1 (tableOf c)
-call-order c = rises-order 1 (tableOf c) (omega arith) (call-rises c)
+pub call-order : (c : Call) → InOrder (placeIn order) 0 (tableOf c)
+call-order c = rises-order 0 (tableOf c) (call-rises c)
 
 -- where a call is accepted, each test of its table fails
 pub none-applies : (c : Call) → made c .given .number ≡ 0 → AllFail (tableOf c)
-none-applies c z = all-fail byNumber (tableOf c) 1 (call-order c) (sym (call-number c) ∙ z)
+none-applies c z = all-fail (placeIn order) (tableOf c) 0 (call-order c) (sym (call-number c) ∙ z)
 
 pub refusal-numbers : RefusalNumbers
-refusal-numbers c = rises-listed 1 (tableOf c) (omega arith) (call-rises c)
+refusal-numbers c = rises-listed 0 (tableOf c) (call-rises c)
 
 pub exactly : Exactly
 exactly c n p = subst
-    (λ (x : ℕ). (x ≡ n) ↔ ((appliesIn n (tableOf c) ≡ true) × ((m : ℕ) → m < n → appliesIn m (tableOf c) ≡ false)))
-    (sym (call-number c)) (number-exactly (tableOf c) 1 n (call-order c) p)
+    (λ (x : ℕ). (x ≡ n) ↔ ((appliesIn n (tableOf c) ≡ true) × ((m : ℕ) → Before m n → appliesIn m (tableOf c) ≡ false)))
+    (sym (call-number c)) (order-exactly (tableOf c) 0 n (call-order c) p)
 
 pub accepted : Accepted
 accepted c = subst (λ (x : ℕ). (x ≡ 0) ↔ ((m : ℕ) → appliesIn m (tableOf c) ≡ false)) (sym (call-number c))
-    (none-exactly byNumber (tableOf c) 1 (call-order c))
+    (none-exactly (placeIn order) (tableOf c) 0 (call-order c))

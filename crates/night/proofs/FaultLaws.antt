@@ -1,5 +1,6 @@
 -- Which number a bad record is given. In this order: the rows, by their tests; what is known of a good one; the number of a bad one. Assumes nothing.
 use mathlib.Core.Path.{_≡_, refl, sym, ap, _∙_}
+use mathlib.Core.Logic.{_⊎_, inl, inr}
 use mathlib.Core.Bool.{Bool, true, false, not, cond, _&&_}
 use mathlib.Core.List.{List, [], _∷_}
 use Prim.Native.Nat.{ℕ, _+_, _-_, _≤_, _<_}
@@ -9,9 +10,20 @@ use lib.ListN.{length, length-drop}
 use borrow.Author.Tests.{eq-eqb, ne-eqb, lt-ltb, le-ltb, eqb-true, eqb-false, ltb-false, leb-true, not-false}
 use Rattle.refusal.specs.Table.{Refusal, firstOf, InOrder, byNumber}
 use Rattle.octet.proofs.TestLaws.{and-true}
-use Rattle.refusal.proofs.TableLaws.{applies-from, given-applies, both}
+use Rattle.refusal.proofs.TableLaws.{both}
+use Rattle.kept.specs.Keys.{Every}
 use Rattle.night.specs.Trace.{lengthOf, kindOf, bodyOf, isKind, bodyFits}
-use Rattle.night.specs.Fault.{misplaced, faults}
+use Rattle.night.specs.Fault.{misplaced, faults, ends}
+
+-- what holds of 0 and of each row's number holds of the number that is given
+pub first-is : (P : ℕ → Type 0) (rs : List Refusal) → P 0 → Every (λ (r : Refusal). P (r .number)) rs → P (firstOf rs)
+unfolding firstOf
+first-is P [] z e = z
+first-is P (r ∷ rs) z e = go (r .applies) (first-is P rs z (e .1))
+  where
+    go : (b : Bool) → P (firstOf rs) → P (cond b (r .number) (firstOf rs))
+    go true later = e .0
+    go false later = later
 
 module _ (at : ℕ) (r : List ℕ) where
   by-length : (a b : Bool) (n : ℕ) → (a ≡ true → b ≡ true) → 16 ≡ cond (not a) 16 (cond b 16 n)
@@ -80,9 +92,16 @@ module _ (at : ℕ) (r : List ℕ) where
     ),
   )
 
-  -- a bad one is given 16 or more
-  pub bad-number : 0 < firstOf (faults at r) → 15 < firstOf (faults at r)
-  bad-number p = applies-from byNumber (faults at r) 16 (firstOf (faults at r)) in-order (given-applies (faults at r) p)
+  -- a bad one is given 16 or 17
+  pub bad-ends : 0 < firstOf (faults at r) → ends (firstOf (faults at r)) ≡ true
+  unfolding faults
+  bad-ends p =
+      go (first-is (λ (n : ℕ). (n ≡ 0) ⊎ (ends n ≡ true)) (faults at r) (inl refl)
+      (inr refl, (inr refl, (inr refl, (inr refl, (inr refl, (inr refl, tt)))))))
+    where
+      go : (firstOf (faults at r) ≡ 0) ⊎ (ends (firstOf (faults at r)) ≡ true) → ends (firstOf (faults at r)) ≡ true
+      go (inl e) = absurd (omega (arith, e, p))
+      go (inr e) = e
 
 -- ---- the length of a body, by its kind
 

@@ -1,15 +1,16 @@
--- The replay is the calls made one by one. In this order: a call's number is 15 at most; a good record, by its place; the records behind the
+-- The replay is the calls made one by one. In this order: a call's number ends no night; a good record, by its place; the records behind the
 -- first; all of them. Assumes nothing.
 use mathlib.Core.Path.{_≡_, refl, sym, ap, ap₂, subst, _∙_}
 use mathlib.Core.Bool.{Bool, true, false, not, cond, _&&_}
 use mathlib.Core.List.{List, [], _∷_, _++_}
-use Prim.Native.Nat.{ℕ, _+_, _≤_, _<_}
+use Prim.Native.Nat.{ℕ, _+_, _<_}
 use native.Mathlib.Omega.{arith}
-use lib.Dec.{eqb, ltb}
+use lib.Dec.{eqb}
 use lib.ListN.{length, length-replicate}
-use borrow.Author.Tests.{eq-eqb, ne-eqb, lt-ltb, le-ltb, eqb-true, eqb-false}
-use Rattle.refusal.specs.Table.{Refusal, firstOf}
-use Rattle.kept.specs.Keys.{Every}
+use borrow.Author.Tests.{eq-eqb, ne-eqb, eqb-true, eqb-false}
+use Rattle.refusal.specs.Table.{Refusal, firstOf, order}
+use Rattle.kept.specs.Keys.{Every, _∈_}
+use Rattle.kept.proofs.ListLaws.{every-at}
 use Rattle.gauge_laws.specs.Table.{tableOf}
 use Rattle.gauge_laws.proofs.TableLaws.{call-number, refusal-numbers}
 use Rattle.sentences.specs.Words.{Memory, memory, Call, receives, sends, ticks, lists, empty, left, log}
@@ -20,20 +21,20 @@ use Rattle.night.specs.Fault.{faults, isGood, ends}
 use Rattle.night.specs.Step.{Night, night, start, Stepped, stepped, called, callOf, stepOf}
 use Rattle.night.specs.Replay.{Line, line, lineOf, replayed, behind, Replayed, atEnd, replayFrom}
 use Rattle.night.specs.Statements.{callsBehind, callsOf, openingOf, numbered, stopOf, OneByOne, AllGood, Stops}
-use Rattle.night.proofs.FaultLaws.{good-record, bad-number, first-opens, later-calls, fits-4}
+use Rattle.night.proofs.FaultLaws.{first-is, good-record, bad-ends, first-opens, later-calls, fits-4}
 use Rattle.night.proofs.StepLaws.{step-bad, step-good, taken-opens, taken-calls}
 use Rattle.night.proofs.ReplayLaws.{at-end, goes-on, ends-there}
 
 -- ---- a call's number
 
-low-by : (b : Bool) (n m : ℕ) → n ≤ 15 → m ≤ 15 → cond b n m ≤ 15
-low-by true n m p q = p
-low-by false n m p q = q
+-- no number of the order ends a night
+goes-on-with : (n : ℕ) → n ∈ order → ends n ≡ false
+goes-on-with n i = every-at (λ (k : ℕ). ends k ≡ false) n order
+    (refl, (refl, (refl, (refl, (refl, (refl, (refl, (refl, (refl, (refl, (refl, (refl, (refl, (refl, (refl, tt))))))))))))))) i
 
-first-low : (rs : List Refusal) → Every (λ (r : Refusal). (0 < r .number) × (r .number ≤ 15)) rs → firstOf rs ≤ 15
-unfolding firstOf
-first-low [] e = omega arith
-first-low (r ∷ rs) e = low-by (r .applies) (r .number) (firstOf rs) (e .0 .1) (first-low rs (e .1))
+each-goes : (rs : List Refusal) → Every (λ (r : Refusal). r .number ∈ order) rs → Every (λ (r : Refusal). ends (r .number) ≡ false) rs
+each-goes [] e = tt
+each-goes (r ∷ rs) e = (goes-on-with (r .number) (e .0), each-goes rs (e .1))
 
 number-of : (m : Memory) (c : Call) → ours m c .answer .number ≡ firstOf (tableOf (lent m c))
 unfolding ours
@@ -45,8 +46,8 @@ number-of m (lists own output) = call-number (lent m (lists own output))
 
 pub goes : (m : Memory) (c : Call) → ends (ours m c .answer .number) ≡ false
 goes m c =
-    le-ltb 15 (ours m c .answer .number)
-    (subst (λ (n : ℕ). n ≤ 15) (sym (number-of m c)) (first-low (tableOf (lent m c)) (refusal-numbers (lent m c))))
+    subst (λ (n : ℕ). ends n ≡ false) (sym (number-of m c))
+    (first-is (λ (n : ℕ). ends n ≡ false) (tableOf (lent m c)) refl (each-goes (tableOf (lent m c)) (refusal-numbers (lent m c))))
 
 neither : (a b : Bool) → (a ≡ true → b ≡ true → ⊥) → a && b ≡ false
 neither true true u = absurd (u refl refl)
@@ -63,7 +64,7 @@ module _ (at : ℕ) (r : List ℕ) where
   bad-some e = omega (arith, eqb-false (firstOf (faults at r)) 0 e)
 
   stopped : isGood at r ≡ false → ends (firstOf (faults at r)) ≡ true
-  stopped e = lt-ltb 15 (firstOf (faults at r)) (bad-number at r (bad-some e))
+  stopped e = bad-ends at r (bad-some e)
 
   -- a record has a line, but for the first where it is good
   has-line : (answer : ℕ) → (at ≡ 0 → answer ≡ 0 → ⊥) → lineOf at answer ≡ line at answer ∷ []

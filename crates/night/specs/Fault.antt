@@ -1,7 +1,7 @@
 -- To believe. The ways in which a record can be bad: "Refusals: 16 for a record cut short or of wrong length, 17 for an unknown kind or a kind 4 missing or
 -- repeated". Assumes nothing.
 use Prim.Native.Nat.{ℕ, _+_}
-use mathlib.Core.Bool.{Bool, not, _&&_}
+use mathlib.Core.Bool.{Bool, not, _&&_, _||_}
 use mathlib.Core.List.{List, [], _∷_, _++_}
 use lib.Dec.{eqb, ltb}
 use lib.ListN.{length}
@@ -26,4 +26,4 @@ isGood at r = eqb (firstOf (faults at r)) 0
 
 -- the replay stops at a bad record, not at a call that is refused
 abbrev pub ends : ℕ → Bool
-ends answer = ltb 15 answer
+ends answer = eqb answer 16 || eqb answer 17

@@ -14,6 +14,8 @@ use Rattle.octet.proofs.TestLaws.{both-true}
 use Rattle.key.specs.Number.{keyAt}
 use Rattle.record.specs.Record.{keyOf}
 use Rattle.record.specs.Entry.{entryForm, recordOf}
+use Rattle.refusal.specs.Table.{placeIn}
+use Rattle.refusal.proofs.TableLaws.{sooner}
 use Rattle.table.specs.Rows.{joined}
 use Rattle.table.proofs.RowLaws.{rows-length, joined-append}
 use Rattle.cache.specs.Form.{heldOf}
@@ -38,9 +40,9 @@ use Rattle.sentences.proofs.HeardLaws.{saidBy}
 use Rattle.sentences.proofs.WordLaws.{lent, not-iff, must-iff}
 use Rattle.gauge_plan.proofs.FloodLaws.{ack-most, inquire-most}
 use Rattle.sentences.proofs.FirstLaws.{Row}
-use Rattle.sentences.proofs.SaidLaws.{Said, short-to, short-from, Lowest, Both, good}
+use Rattle.sentences.proofs.SaidLaws.{Said, short-to, short-from, First, Both, good}
 
-module _ (l : Receive) (n : ℕ) (low : Lowest l n) where
+module _ (l : Receive) (n : ℕ) (low : First l n) where
   abbrev k : ℕ
   k = keyOf (l .own)
 
@@ -98,7 +100,7 @@ module _ (l : Receive) (n : ℕ) (low : Lowest l n) where
         to (inl (inr (inr w))) =
             inr (inr (inl (w .0, rw (must-iff k (lent l) r .1 (w .1), eq-eqb (usedOf (l .waiting)) 16 (sym full-is ∙ w .2)) refl)))
         to (inr w) =
-            let g = good l n low (omega (arith, w .0)) in
+            let g = good l n low (sooner 1 15 (unfold placeIn in refl) (w .0)) in
             inr (inr (inr (inl (short-from l x ds n _ (g .cache) entry-reply (entry-room (g .nonce))
             (omega (arith, ack-most s b, inquire-most o)) w))))
 
@@ -111,7 +113,7 @@ module _ (l : Receive) (n : ℕ) (low : Lowest l n) where
         from (inr (inr (inl w))) =
             let v = both-true o (eqb (usedOf (l .waiting)) 16) (w .1) in
             inl (inr (inr (w .0, must-iff k (lent l) r .0 (v .0), full-is ∙ eqb-true (usedOf (l .waiting)) 16 (v .1))))
-        from (inr (inr (inr (inl w)))) = inr (short-to l x ds n _ entry-reply (entry-room (good l n low (omega (arith, w .0)) .nonce)) w)
+        from (inr (inr (inr (inl w)))) = inr (short-to l x ds n _ entry-reply (entry-room (good l n low (sooner 1 15 (unfold placeIn in refl) (w .0)) .nonce)) w)
         from (inr (inr (inr (inr w)))) = absurd w
 
   -- FLOOD with a revocation
@@ -135,7 +137,7 @@ module _ (l : Receive) (n : ℕ) (low : Lowest l n) where
         to : Said l rx n → Row n (floodRows l s validate Absent)
         to (inl (inl w)) = inl (w .0, not-iff (l .verdict) 1 .1 (w .1))
         to (inl (inr w)) = inr (inl (w .0, eq-eqb (keyAt 0 (l .key)) k (w .1)))
-        to (inr w) = inr (inr (inl (short-from l rx (S.acks l id s rb) n _ (good l n low (omega (arith, w .0)) .cache) revoke-reply revoke-room
+        to (inr w) = inr (inr (inl (short-from l rx (S.acks l id s rb) n _ (good l n low (sooner 1 15 (unfold placeIn in refl) (w .0)) .cache) revoke-reply revoke-room
             (omega (arith, ack-most s rb)) w)))
 
         from : Row n (floodRows l s validate Absent) → Said l rx n

@@ -10,8 +10,8 @@ use lib.Dec.{eqb, ltb}
 use lib.ListN.{length, getD}
 use Rattle.key.specs.Number.{keyAt}
 use Rattle.record.specs.Record.{keyOf, countOf, recordForm}
-use Rattle.refusal.specs.Table.{Refusal, when}
-use Rattle.refusal.proofs.TableLaws.{both}
+use Rattle.refusal.specs.Table.{Refusal, when, placeIn, Before}
+use Rattle.refusal.proofs.TableLaws.{both, sooner}
 use Rattle.table.specs.Rows.{joined}
 use Rattle.cache.specs.Form.{heldOf}
 use Rattle.cache.specs.Closest.{candidates, closestOf}
@@ -37,9 +37,9 @@ use Rattle.sentences.specs.Numbers as Num
 use Rattle.sentences.proofs.MembersLaws.{rise-one, places-rise}
 use Rattle.sentences.proofs.WordLaws.{lent, not-iff, found-waits, none-iff-not}
 use Rattle.sentences.proofs.FirstLaws.{Row}
-use Rattle.sentences.proofs.SaidLaws.{lent-tables, Said, short-to, short-from, none-short, Lowest, Both, good}
+use Rattle.sentences.proofs.SaidLaws.{lent-tables, Said, short-to, short-from, none-short, First, Both, good}
 
-module _ (l : Receive) (n : ℕ) (low : Lowest l n) where
+module _ (l : Receive) (n : ℕ) (low : First l n) where
   abbrev k : ℕ
   k = keyOf (l .own)
 
@@ -64,7 +64,7 @@ module _ (l : Receive) (n : ℕ) (low : Lowest l n) where
       to (inl w) = inl (w .0, not-iff (keyAt validate (l .datagram)) k .1 (w .1))
       to (inr w) =
           inr (inl (short-from l (inquire id (keyAt validate (l .datagram))) (cpaMade (l .major) (l .minor) (l .id) id (l .cpa) .bytes ∷ []) n _
-          (good l n low (omega (arith, w .0)) .cache) refl room (let h = good l n low (omega (arith, w .0)) .cpa-most in omega arith) w))
+          (good l n low (sooner 1 15 (unfold placeIn in refl) (w .0)) .cache) refl room (let h = good l n low (sooner 1 15 (unfold placeIn in refl) (w .0)) .cpa-most in omega arith) w))
 
       from : Row n (when 12 (notOurs k validate (l .datagram)) ∷ when 15 (ltb (length (l .output)) (40 + length (l .cpa))) ∷ [])
           → Said l (inquire id (keyAt validate (l .datagram))) n
@@ -106,7 +106,7 @@ module _ (l : Receive) (n : ℕ) (low : Lowest l n) where
     pub authority-both : Num.Says l (authority acked cpa) → Both l n (authority acked cpa) au
     authority-both says = (to, from)
       where
-        some-there : 8 < n → S.WaitsAs (lent l) 2 acked there
+        some-there : Before 8 n → S.WaitsAs (lent l) 2 acked there
         some-there h = go (isNothing (seek (isAt acked 2) 0 ps)) refl
           where
             go : (y : Bool) → isNothing (seek (isAt acked 2) 0 ps) ≡ y → S.WaitsAs (lent l) 2 acked there
@@ -117,8 +117,8 @@ module _ (l : Receive) (n : ℕ) (low : Lowest l n) where
         to (inl (inl w)) = inl (w .0, none-iff-not (lent l) 2 acked .1 (w .1))
         to (inl (inr (inl w))) = inr (inl (w .0, nine-to cpa (w .1)))
         to (inl (inr (inr w))) =
-            let v = some-there (omega (arith, w .0)) in
-            let up = places-rise k (l .waiting) (good l n low (omega (arith, w .0)) .waiting) in
+            let v = some-there (sooner 8 10 (unfold placeIn in refl) (w .0)) in
+            let up = places-rise k (l .waiting) (good l n low (sooner 1 10 (unfold placeIn in refl) (w .0)) .waiting) in
             let e = rise-one idOf 0 (w .1) there ps up (w .2 .0) (v .0) (w .2 .1 ∙ sym (v .1)) in
             inr (inr (inl (w .0, not-iff (keyAt 0 (l .key)) (placeKey there) .1 (λ d. w .3 (ap placeKey e ∙ sym d)))))
         to (inr w) = absurd (none-short l (w .1) (w .2) (w .3))
@@ -127,7 +127,7 @@ module _ (l : Receive) (n : ℕ) (low : Lowest l n) where
         from (inl w) = inl (inl (w .0, none-iff-not (lent l) 2 acked .0 (w .1)))
         from (inr (inl w)) = inl (inr (inl (w .0, nine-from cpa (w .1))))
         from (inr (inr (inl w))) =
-            inl (inr (inr (w .0, there, some-there (omega (arith, w .0)), λ d. not-iff (keyAt 0 (l .key)) (placeKey there) .0 (w .1) (sym d))))
+            inl (inr (inr (w .0, there, some-there (sooner 8 10 (unfold placeIn in refl) (w .0)), λ d. not-iff (keyAt 0 (l .key)) (placeKey there) .0 (w .1) (sym d))))
         from (inr (inr (inr w))) = absurd w
 
   -- LOOKUP
@@ -169,11 +169,11 @@ module _ (l : Receive) (n : ℕ) (low : Lowest l n) where
       where
         to : Said l (lookup id tk) n → Row n (when 15 (ltb (length (l .output)) (80 + 16 * countOf cr)) ∷ [])
         to (inl w) = absurd w
-        to (inr w) = let g = good l n low (omega (arith, w .0)) in inl (short-from l (lookup id tk) cds n _ (g .cache) lookup-reply (lookup-room g)
+        to (inr w) = let g = good l n low (sooner 1 15 (unfold placeIn in refl) (w .0)) in inl (short-from l (lookup id tk) cds n _ (g .cache) lookup-reply (lookup-room g)
             (omega (arith, few-addresses cr (lookup-formed g))) w)
 
         from : Row n (when 15 (ltb (length (l .output)) (80 + 16 * countOf cr)) ∷ []) → Said l (lookup id tk) n
-        from (inl w) = inr (short-to l (lookup id tk) cds n _ lookup-reply (lookup-room (good l n low (omega (arith, w .0)))) w)
+        from (inl w) = inr (short-to l (lookup id tk) cds n _ lookup-reply (lookup-room (good l n low (sooner 1 15 (unfold placeIn in refl) (w .0)))) w)
         from (inr w) = absurd w
 
   -- SOLICIT, ADVERTISE, REQUEST

@@ -33,12 +33,12 @@ use Rattle.sentences.proofs.HeardLaws.{heardBy, answer-hears, hears-ans
 use Rattle.sentences.proofs.WordLaws.{lent, not-iff, message-zero}
 use Rattle.sentences.proofs.PartLaws.{part-to, part-from}
 use Rattle.sentences.proofs.FirstLaws.{Row, row-front, row-behind, row-either, Agree}
-use Rattle.sentences.proofs.SaidLaws.{refused-applies, Clause, fit-lent, lent-tables, lent-hands, Said, Lowest, Both}
+use Rattle.sentences.proofs.SaidLaws.{refused-applies, Clause, fit-lent, lent-tables, lent-hands, Said, First, Both}
 use Rattle.sentences.proofs.FloodRowsLaws.{flood-both}
 use Rattle.sentences.proofs.MessageRowsLaws.{inquire-both, authority-both, ack-both, lookup-both, seven-both}
 use Rattle.sentences.proofs.ReadLaws.{zero-fails, fails-message, rows-message, is-long, read-row, row-read}
 
-module _ (l : Receive) (n : ℕ) (low : Lowest l n) where
+module _ (l : Receive) (n : ℕ) (low : First l n) where
   -- any message
   any-both : (a : T.Answer) → IsMessage a → KnownAnswer (l .datagram) a → Num.Says l (heardBy (l .datagram) a)
       → Both l n (heardBy (l .datagram) a) (messageRows l a)
@@ -63,7 +63,7 @@ module _ (l : Receive) (bytes : Bytes (l .datagram)) where
   abbrev rs : List Refusal
   rs = fields.refusals (l .datagram) (l .major)
 
-  module _ (n : ℕ) (low : Lowest l n) where
+  module _ (n : ℕ) (low : First l n) where
     says-row : (x : Heard) → Num.Says l x → Said l x n → Row n (rs ++ messageRows l a)
     says-row x says w =
         let h = hears-answer d bytes (l .major) x says in

@@ -14,7 +14,8 @@ use Rattle.kept.specs.Keys.{_∈_, Rising, plain}
 use Rattle.kept.proofs.PutLaws.{Tri, less, same, more, tri}
 use Rattle.kept.proofs.ListLaws.{Test, pass, fail, test, rising-ext}
 use Rattle.key.proofs.AroundLaws.{side-near}
-use Rattle.refusal.proofs.TableLaws.{both}
+use Rattle.refusal.specs.Table.{order, placeIn}
+use Rattle.refusal.proofs.TableLaws.{both, places-differ}
 use Rattle.cache.proofs.CallLaws.{list-only}
 use Rattle.cache.specs.Form.{keysOf, placesIn, heldOf, cacheForm}
 use Rattle.cache.specs.Closest.{candidates, closestOf}
@@ -253,11 +254,11 @@ number-one g h p q m c ty = go (g m c .answer .number) (h m c .answer .number) r
     go zero zero d e = d ∙ sym e
     go zero (suc b) d e = absurd (p .table .accepted m c ty .0 d (suc b) (q .table .number m c ty (suc b) (omega arith) .0 e .0))
     go (suc a) zero d e = absurd (q .table .accepted m c ty .0 e (suc a) (p .table .number m c ty (suc a) (omega arith) .0 d .0))
-    go (suc a) (suc b) d e = by (tri (suc a) (suc b))
+    go (suc a) (suc b) d e = by (tri (placeIn order (suc a)) (placeIn order (suc b)))
       where
-        by : Tri (suc a) (suc b) → g m c .answer .number ≡ h m c .answer .number
+        by : Tri (placeIn order (suc a)) (placeIn order (suc b)) → g m c .answer .number ≡ h m c .answer .number
         by (less i) = absurd (q .table .number m c ty (suc b) (omega arith) .0 e .1 (suc a) i (p .table .number m c ty (suc a) (omega arith) .0 d .0))
-        by (same i) = d ∙ i ∙ sym e
+        by (same i) = d ∙ places-differ order (suc a) (suc b) i ∙ sym e
         by (more i) = absurd (p .table .number m c ty (suc a) (omega arith) .0 d .1 (suc b) i (q .table .number m c ty (suc b) (omega arith) .0 e .0))
 
 -- nothing applies: memory was lent in form

@@ -10,7 +10,8 @@ use lib.ListN.{length, getD}
 use borrow.Author.Tests.{eq-eqb, eqb-true, eqb-false, lt-ltb, ltb-true, not-true}
 use Rattle.octet.proofs.TestLaws.{both-true}
 use Rattle.key.specs.Number.{keyAt}
-use Rattle.refusal.proofs.TableLaws.{both}
+use Rattle.refusal.specs.Table.{placeIn, Before}
+use Rattle.refusal.proofs.TableLaws.{both, sooner}
 use Rattle.record.specs.Record.{keyOf, recordForm}
 use Rattle.record.proofs.EntryLaws.{form-length, few-addresses}
 use Rattle.table.specs.Rows.{joined}
@@ -192,11 +193,11 @@ module _ (l : Send) where
         (g .neighbour)
         ∙ ap floodRoom whole
 
-  module _ (n : ℕ) (low : (i : ℕ) → i < n → ¬ A i) where
-    good : 1 < n → Num.SendLent l
+  module _ (n : ℕ) (low : (i : ℕ) → Before i n → ¬ A i) where
+    good : Before 1 n → Num.SendLent l
     good h = is-lent (low 1 h)
 
-    barred : 12 < n → not (eqb named k) && isNothing (heldAt named recs) ≡ false
+    barred : Before 12 n → not (eqb named k) && isNothing (heldAt named recs) ≡ false
     barred h = holds-not _ (λ e. low 12 h (Num.not-named refl (named-to e)))
 
     full-is : length ps ≡ usedOf (l .waiting)
@@ -217,8 +218,8 @@ module _ (l : Send) where
     to (Num.send-id-waits e p w d) = inr (inr (inr (inr (inl (e, any-in (hasId (l .id)) p ps w (eq-eqb (idOf p) (l .id) d))))))
     to (Num.send-all-used e h) = inr (inr (inr (inr (inr (inl (e, eq-eqb (usedOf (l .waiting)) 16 (sym full-is ∙ h)))))))
     to (Num.send-no-room e q w h) =
-        let g = good (omega arith) in
-        let bar = barred (omega arith) in
+        let g = good (sooner 1 15 (unfold placeIn in refl) e) in
+        let bar = barred (sooner 12 15 (unfold placeIn in refl) e) in
         let full = room g bar in
         let few = few-addresses r (formed-by g bar r (is-named g bar)) in
         let want = no-room-by (l .output) (S.flooding l r) (omega arith)
@@ -234,8 +235,8 @@ module _ (l : Send) where
         let p = in-any (hasId (l .id)) ps (w .1) in Num.send-id-waits (w .0) (p .0) (p .1) (eqb-true (idOf (p .0)) (l .id) (p .2))
     from (inr (inr (inr (inr (inr (inl w)))))) = Num.send-all-used (w .0) (full-is ∙ eqb-true (usedOf (l .waiting)) 16 (w .1))
     from (inr (inr (inr (inr (inr (inr (inl w))))))) =
-        let g = good (omega (arith, w .0)) in
-        let bar = barred (omega (arith, w .0)) in
+        let g = good (sooner 1 15 (unfold placeIn in refl) (w .0)) in
+        let bar = barred (sooner 12 15 (unfold placeIn in refl) (w .0)) in
         Num.send-no-room (w .0) r (is-named g bar) (inl (let h = ltb-true (length (l .output)) (floodRoom r) (w .1) in omega (arith, room g bar)))
     from (inr (inr (inr (inr (inr (inr (inr w))))))) = absurd w
 

@@ -7,7 +7,7 @@ use mathlib.Core.List.{List}
 use Prim.Native.Nat.{ℕ, zero, suc, _<_}
 use native.Mathlib.Omega.{arith}
 use Rattle.record.specs.Record.{keyOf}
-use Rattle.refusal.specs.Table.{appliesIn}
+use Rattle.refusal.specs.Table.{appliesIn, Before}
 use Rattle.cache.specs.Form.{cacheForm}
 use Rattle.gauge_commit.specs.Sending.{answer, OnlyFirst}
 use Rattle.gauge.specs.Lent.{receive, send}
@@ -30,7 +30,7 @@ lent m (ticks own output) = G.ticks own (m .waiting) output
 lent m (lists own output) = G.lists own (m .cache) output
 
 pub ours-exactly : (m : Memory) (c : Call) (n : ℕ) → 0 < n
-    → (ours m c .answer .number ≡ n) ↔ ((appliesIn n (tableOf (lent m c)) ≡ true) × ((i : ℕ) → i < n → appliesIn i (tableOf (lent m c)) ≡ false))
+    → (ours m c .answer .number ≡ n) ↔ ((appliesIn n (tableOf (lent m c)) ≡ true) × ((i : ℕ) → Before i n → appliesIn i (tableOf (lent m c)) ≡ false))
 unfolding ours
 ours-exactly m (receives own cpa major minor id nonce verdict key datagram output) n p =
     exactly (lent m (receives own cpa major minor id nonce verdict key datagram output)) n p

@@ -12,8 +12,8 @@ use borrow.Author.Tests.{le-leb, leb-true, not-true}
 use Rattle.octet.specs.Number.{Bytes}
 use Rattle.octet.specs.Part.{part, same}
 use Rattle.octet.proofs.TestLaws.{both-true, same-refl}
-use Rattle.refusal.specs.Table.{Refusal, firstOf, InOrder, byNumber}
-use Rattle.refusal.proofs.TableLaws.{AllFail, all-fail, both}
+use Rattle.refusal.specs.Table.{Refusal, firstOf, placeIn, InOrder, byNumber}
+use Rattle.refusal.proofs.TableLaws.{AllFail, all-fail, both, sooner}
 use Rattle.refusal.proofs.CallLaws.{number-is, all-pass}
 use Rattle.kept.proofs.ListLaws.{Test, pass, fail, test}
 use Rattle.wire_fields.specs.Kinds.{kindsOf, present}
@@ -34,7 +34,7 @@ use Rattle.sentences.proofs.HeardLaws.{heardBy, answer-hears, hears-ans
 use Rattle.sentences.proofs.WordLaws.{not-iff, message-zero}
 use Rattle.sentences.proofs.PartLaws.{part-to, part-from}
 use Rattle.sentences.proofs.FirstLaws.{Row}
-use Rattle.sentences.proofs.SaidLaws.{Clause, Lowest}
+use Rattle.sentences.proofs.SaidLaws.{Clause, First}
 
 module _ (l : Receive) where
   abbrev d : List ℕ
@@ -120,18 +120,18 @@ module _ (l : Receive) where
   unknown none e = refl
   unknown (some v) e = both e refl
 
-  module _ (bytes : Bytes (l .datagram)) (n : ℕ) (low : Lowest l n) where
-    -- nothing below 6 applies and the fields are there: a message is read
-    all-read : 5 < n → inPart (typeOf d) d ≡ false → present (fieldsIn d) ≡ true → AllFail rs
+  module _ (bytes : Bytes (l .datagram)) (n : ℕ) (low : First l n) where
+    -- nothing before 6 applies and the fields are there: a message is read
+    all-read : n ≡ 6 → inPart (typeOf d) d ≡ false → present (fieldsIn d) ≡ true → AllFail rs
     all-read h p t = (
       holds-not (not (leb 12 (length d) && leb (length d) 1232))
-          (λ e. low 2 (omega arith) (Num.wrong-length refl (λ w. both (long-is w) (not-true _ e)))),
+          (λ e. low 2 (sooner 2 6 (unfold placeIn in refl) h) (Num.wrong-length refl (λ w. both (long-is w) (not-true _ e)))),
       (
-        holds-not (not (same (part 0 5 d) opening)) (λ e. low 3 (omega arith) (Num.not-opened refl (λ w. both (opened-is w) (not-true _ e)))),
+        holds-not (not (same (part 0 5 d) opening)) (λ e. low 3 (sooner 3 6 (unfold placeIn in refl) h) (Num.not-opened refl (λ w. both (opened-is w) (not-true _ e)))),
         (
-          holds-not (not (eqb (getD d 5 0) (l .major))) (λ e. low 4 (omega arith) (Num.not-major refl (not-iff (getD d 5 0) (l .major) .0 e))),
+          holds-not (not (eqb (getD d 5 0) (l .major))) (λ e. low 4 (sooner 4 6 (unfold placeIn in refl) h) (Num.not-major refl (not-iff (getD d 5 0) (l .major) .0 e))),
           (
-            holds-not (not (present (kindsOf (typeOf d)))) (λ e. low 5 (omega arith) (Num.not-known refl (unknown (kindsOf (typeOf d)) e))),
+            holds-not (not (present (kindsOf (typeOf d)))) (λ e. low 5 (sooner 5 6 (unfold placeIn in refl) h) (Num.not-known refl (unknown (kindsOf (typeOf d)) e))),
             (
               rw (p, t) refl,
               (p, tt),
@@ -146,7 +146,7 @@ module _ (l : Receive) where
     read-row e p h = go (test (present (fieldsIn d)))
       where
         go : Test (present (fieldsIn d)) → Row n rs
-        go (pass t) = absurd (h (heardBy d a, answer-hears d bytes (l .major) (fails-zero (all-read (omega arith) p t))))
+        go (pass t) = absurd (h (heardBy d a, answer-hears d bytes (l .major) (fails-zero (all-read e p t))))
         go (fail t) = inr (inr (inr (inr (inl (e, rw (p, t) refl)))))
 
     pub row-read : Row n rs → Clause l n

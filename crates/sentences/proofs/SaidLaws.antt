@@ -11,7 +11,7 @@ use lib.ListN.{length, length-append}
 use borrow.Author.Tests.{eq-eqb, lt-ltb, ltb-true, le-leb}
 use Rattle.key.specs.Number.{keyAt}
 use Rattle.record.specs.Record.{keyOf, recordForm}
-use Rattle.refusal.specs.Table.{Refusal}
+use Rattle.refusal.specs.Table.{Refusal, Before}
 use Rattle.refusal.proofs.TableLaws.{both}
 use Rattle.table.specs.Rows.{joined}
 use Rattle.kept.specs.Keys.{_∈_}
@@ -145,13 +145,13 @@ module _ (l : Receive) where
       go (inl w) = absurd (omega arith)
       go (inr w) = w .1
 
-  -- ---- the clauses by what was heard and the rows of a message's table, where no lower clause applies
+  -- ---- the clauses by what was heard and the rows of a message's table, where no clause before them applies
 
-  abbrev pub Lowest : ℕ → Type 0
-  Lowest n = (i : ℕ) → i < n → ¬ Clause i
+  abbrev pub First : ℕ → Type 0
+  First n = (i : ℕ) → Before i n → ¬ Clause i
 
   abbrev pub Both : ℕ → Heard → List Refusal → Type 0
   Both n x rs = (Said x n → Row n rs) × (Row n rs → Said x n)
 
-  pub good : (n : ℕ) → Lowest n → 1 < n → Num.ReceiveLent l
+  pub good : (n : ℕ) → First n → Before 1 n → Num.ReceiveLent l
   good n low h = is-lent (low 1 h)

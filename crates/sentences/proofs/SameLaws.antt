@@ -13,8 +13,8 @@ use borrow.Author.Tests.{eqb-true, leb-true, not-false}
 use Rattle.octet.specs.Number.{Bytes}
 use Rattle.octet.specs.Part.{part, same}
 use Rattle.octet.proofs.TestLaws.{both-true, same-eq}
-use Rattle.refusal.specs.Table.{firstOf, byNumber}
-use Rattle.refusal.proofs.TableLaws.{AllFail, all-fail, both}
+use Rattle.refusal.specs.Table.{firstOf, order, placeIn, Before, byNumber}
+use Rattle.refusal.proofs.TableLaws.{AllFail, all-fail, both, places-differ}
 use Rattle.refusal.proofs.CallLaws.{number-is}
 use Rattle.kept.proofs.PutLaws.{Tri, less, more, tri}
 use Rattle.kept.proofs.PutLaws as put
@@ -153,13 +153,13 @@ module _ (m : Memory) (own cpa : List ℕ) (major minor id : ℕ) (nonce : List 
   applies-too n (Num.all-used e i s validate r says must h) = Num.all-used e i s validate r (heard-too _ says) must h
   applies-too n (Num.no-room e y says ds r h) = Num.no-room e y (heard-too y says) ds (reply-too y ds r) h
 
--- ---- the number: the lowest that applies is one where the same apply
+-- ---- the number: the first that applies is one where the same apply
 
-abbrev Lowest : (ℕ → Type 0) → ℕ → Type 0
-Lowest A n = A n × ((i : ℕ) → i < n → ¬ A i)
+abbrev First : (ℕ → Type 0) → ℕ → Type 0
+First A n = A n × ((i : ℕ) → Before i n → ¬ A i)
 
 module _ (A B : ℕ → Type 0) (to : (n : ℕ) → A n → B n) (from : (n : ℕ) → B n → A n) (a b : ℕ) where
-  numbers-same : ((n : ℕ) → 0 < n → (a ≡ n) ↔ Lowest A n) → ((a ≡ 0) ↔ ((i : ℕ) → ¬ A i)) → ((n : ℕ) → 0 < n → (b ≡ n) ↔ Lowest B n)
+  numbers-same : ((n : ℕ) → 0 < n → (a ≡ n) ↔ First A n) → ((a ≡ 0) ↔ ((i : ℕ) → ¬ A i)) → ((n : ℕ) → 0 < n → (b ≡ n) ↔ First B n)
       → ((b ≡ 0) ↔ ((i : ℕ) → ¬ B i)) → a ≡ b
   numbers-same p q r s = go a b refl refl
     where
@@ -167,11 +167,11 @@ module _ (A B : ℕ → Type 0) (to : (n : ℕ) → A n → B n) (from : (n : �
       go zero zero d e = d ∙ sym e
       go zero (suc j) d e = absurd (q .0 d (suc j) (from (suc j) (r (suc j) (omega arith) .0 e .0)))
       go (suc i) zero d e = absurd (s .0 e (suc i) (to (suc i) (p (suc i) (omega arith) .0 d .0)))
-      go (suc i) (suc j) d e = by (tri (suc i) (suc j))
+      go (suc i) (suc j) d e = by (tri (placeIn order (suc i)) (placeIn order (suc j)))
         where
-          by : Tri (suc i) (suc j) → a ≡ b
+          by : Tri (placeIn order (suc i)) (placeIn order (suc j)) → a ≡ b
           by (less k) = absurd (r (suc j) (omega arith) .0 e .1 (suc i) k (to (suc i) (p (suc i) (omega arith) .0 d .0)))
-          by (put.same k) = d ∙ k ∙ sym e
+          by (put.same k) = d ∙ places-differ order (suc i) (suc j) k ∙ sym e
           by (more k) = absurd (p (suc i) (omega arith) .0 d .1 (suc j) k (from (suc j) (r (suc j) (omega arith) .0 e .0)))
 
 -- ---- the whole

@@ -2,6 +2,7 @@
 use Prim.Native.Nat.{ℕ, _<_}
 use mathlib.Core.Logic.{_↔_}
 use mathlib.Core.Path.{_≡_}
+use Rattle.refusal.specs.Table.{Before}
 use Rattle.gauge_commit.specs.Sending.{answer}
 use Rattle.sentences.specs.Words.{Memory, Call, given, Gauge, outputOf, Typed}
 use Rattle.sentences.specs.Sentences.{Does}
@@ -9,9 +10,9 @@ use Rattle.sentences.specs.Numbers.{Applies}
 
 -- the table "What comes back"
 pub record MeetsTable (g : Gauge) : Type 0 where
-  -- "The lowest number that applies is given"; 0 where none does
+  -- "The lowest number that applies is given": one before which none of the order applies; 0 where none does
   pub number : (m : Memory) (c : Call) → Typed c → (n : ℕ) → 0 < n
-      → (g m c .answer .number ≡ n) ↔ (Applies m c n × ((i : ℕ) → i < n → ¬ Applies m c i))
+      → (g m c .answer .number ≡ n) ↔ (Applies m c n × ((i : ℕ) → Before i n → ¬ Applies m c i))
   pub accepted : (m : Memory) (c : Call) → Typed c → (g m c .answer .number ≡ 0) ↔ ((i : ℕ) → ¬ Applies m c i)
   -- "With any refusal the counts returned are 0 .. and every writable byte stays as lent"
   pub keeps : (m : Memory) (c : Call) → 0 < g m c .answer .number → g m c ≡ given (answer (g m c .answer .number) 0 0) m (outputOf c)

@@ -14,10 +14,11 @@ use Rattle.octet.proofs.TestLaws.{both-true}
 use Rattle.key.specs.Number.{keyAt}
 use Rattle.record.specs.Record.{keyOf}
 use Rattle.record.specs.Entry.{entryForm, recordOf}
-use Rattle.refusal.specs.Table.{placeIn}
+use Rattle.refusal.specs.Table.{placeIn, Before}
 use Rattle.refusal.proofs.TableLaws.{sooner}
 use Rattle.table.specs.Rows.{joined}
 use Rattle.table.proofs.RowLaws.{rows-length, joined-append}
+use Rattle.kept.proofs.WithoutLaws.{eq-or}
 use Rattle.cache.specs.Form.{heldOf}
 use Rattle.waiting.specs.Place.{idOf}
 use Rattle.waiting.specs.Form.{anyOf, usedOf, placesOf}
@@ -131,23 +132,27 @@ module _ (l : Receive) (n : ℕ) (low : First l n) where
     unfolding ackMade
     revoke-room = acks-room (l .major) (l .minor) (l .id) id rb s
 
-    revoke-both : Both l n rx (floodRows l s validate Absent)
-    revoke-both = (to, from)
+    revoke-both : Num.Says l rx → Both l n rx (floodRows l s validate Absent)
+    revoke-both says = (to, from)
       where
+        is-good : Before 9 n → l .verdict ≡ 1
+        is-good h = elim (eq-or (l .verdict) 1) [ inl e ↦ e | inr d ↦ absurd (low 9 h (Num.bad-revocation refl id s (keyAt validate (l .datagram)) says d)) ]
+
         to : Said l rx n → Row n (floodRows l s validate Absent)
         to (inl (inl w)) = inl (w .0, not-iff (l .verdict) 1 .1 (w .1))
-        to (inl (inr w)) = inr (inl (w .0, eq-eqb (keyAt 0 (l .key)) k (w .1)))
-        to (inr w) = inr (inr (inl (short-from l rx (S.acks l id s rb) n _ (good l n low (sooner 1 15 (unfold placeIn in refl) (w .0)) .cache) revoke-reply revoke-room
-            (omega (arith, ack-most s rb)) w)))
+        to (inl (inr w)) = inr (inl (w .0, eq-eqb (keyAt 0 (l .key)) k (w .2)))
+        to (inr w) =
+            let g = good l n low (sooner 1 15 (unfold placeIn in refl) (w .0)) in
+            inr (inr (inl (short-from l rx (S.acks l id s rb) n _ (g .cache) revoke-reply revoke-room (omega (arith, ack-most s rb)) w)))
 
         from : Row n (floodRows l s validate Absent) → Said l rx n
         from (inl w) = inl (inl (w .0, not-iff (l .verdict) 1 .0 (w .1)))
-        from (inr (inl w)) = inl (inr (w .0, eqb-true (keyAt 0 (l .key)) k (w .1)))
+        from (inr (inl w)) = inl (inr (w .0, is-good (sooner 9 11 (unfold placeIn in refl) (w .0)), eqb-true (keyAt 0 (l .key)) k (w .1)))
         from (inr (inr (inl w))) = inr (short-to l rx (S.acks l id s rb) n _ revoke-reply revoke-room w)
         from (inr (inr (inr w))) = absurd w
 
   -- any FLOOD
   pub flood-both : (id : ℕ) (s : Bool) (validate : ℕ) (route : Part) → EntryIn (l .datagram) route
-      → Both l n (saidBy (l .datagram) id s validate route) (floodRows l s validate route)
-  flood-both id s validate (Here start len) w = entry-both id s validate start len (w .1)
-  flood-both id s validate Absent w = revoke-both id s validate
+      → Num.Says l (saidBy (l .datagram) id s validate route) → Both l n (saidBy (l .datagram) id s validate route) (floodRows l s validate route)
+  flood-both id s validate (Here start len) w says = entry-both id s validate start len (w .1)
+  flood-both id s validate Absent w says = revoke-both id s validate says

@@ -1,6 +1,6 @@
 -- A key that was revoked stays out until it is asked for, out of the cache too: from the sentences alone, of any gauge. Assumes nothing.
 use Prim.Native.Nat.{ℕ, zero, suc}
-use mathlib.Core.Bool.{Bool, true}
+use mathlib.Core.Bool.{Bool, true, false}
 use mathlib.Core.List.{List, [], _∷_}
 use mathlib.Core.Logic.{inl, inr}
 use mathlib.Core.Path.{_≡_, refl, sym, ap, subst, _∙_}
@@ -174,6 +174,16 @@ module _ (g : Gauge) (p : MeetsSentences g) (u : ℕ) where
   revoked-out k m c ty one w z =
       subst (λ (j : ℕ). Out j u (g m c .memory)) (one (revoked-leaves m c ty w z .0)) (λ r i. revoked-leaves m c ty w z .1 .cache .members r .0 i .1)
 
+  -- an AUTHORITY for another key than the inquiry's is refused, as one without a CPA or with a bad verdict is
+  other-refused : (m : Memory) (l : Receive) (acked : ℕ) (cpa : Bool) → Num.Says l (authority acked cpa) → ((i : ℕ) → ¬ Num.ReceiveApplies m l i)
+      → (q : List ℕ) → S.WaitsAs m 2 acked q → ¬ (placeKey q ≡ keyAt 0 (l .key)) → ⊥
+  other-refused m l acked false says none q w h = none 9 (Num.no-cpa refl acked says)
+  other-refused m l acked true says none q w h =
+      elim (eq-or (l .verdict) 1) [
+        | inl good ↦ none 10 (Num.other-key refl acked says good q w h)
+        | inr bad ↦ none 9 (Num.bad-authority refl acked true says bad)
+      ]
+
   -- then no AUTHORITY for it is accepted
   late-refused : (m : Memory) (c : Call) → Typed c → L.Answers u c → Quiet u m → ¬ (g m c .answer .number ≡ 0)
   late-refused m (receives own cpa major minor id nonce verdict key datagram output) ty w quiet z =
@@ -184,7 +194,7 @@ module _ (g : Gauge) (p : MeetsSentences g) (u : ℕ) where
       let v : S.Authority (keyOf own) m (w .0) (g m c .memory) = subst (λ (x : Heard). S.Leaves m l x (g m c .memory)) e (s .leaves) in
       elim (eq-or (placeKey (v .p)) (keyAt 0 key)) [
         | inl is ↦ quiet (v .p, v .answers .0, (v .answers .2, is ∙ w .3))
-        | inr not ↦ p .table .accepted m c ty .0 z 10 (Num.other-key refl (w .0) (w .1) (w .2) (v .p) (v .answers) not)
+        | inr not ↦ other-refused m l (w .0) (w .1) (w .2) (p .table .accepted m c ty .0 z) (v .p) (v .answers) not
       ]
   late-refused m (sends own major minor id neighbour key output) ty w quiet z = absurd w
   late-refused m (ticks own output) ty w quiet z = absurd w

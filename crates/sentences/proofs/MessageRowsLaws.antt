@@ -1,6 +1,6 @@
 -- An INQUIRE, AUTHORITY, ACK or LOOKUP received, or a message that is not taken, is refused when the clauses say so: the rows of their tables.
 -- Assumes nothing.
-use mathlib.Core.Path.{_≡_, refl, sym, ap, _∙_}
+use mathlib.Core.Path.{_≡_, refl, sym, ap, subst, _∙_}
 use mathlib.Core.Logic.{_⊎_, inl, inr}
 use mathlib.Core.Bool.{Bool, true, false, not, _||_}
 use mathlib.Core.List.{List, [], _∷_}
@@ -13,6 +13,7 @@ use Rattle.record.specs.Record.{keyOf, countOf, recordForm}
 use Rattle.refusal.specs.Table.{Refusal, when, placeIn, Before}
 use Rattle.refusal.proofs.TableLaws.{both, sooner}
 use Rattle.table.specs.Rows.{joined}
+use Rattle.kept.proofs.WithoutLaws.{eq-or}
 use Rattle.cache.specs.Form.{heldOf}
 use Rattle.cache.specs.Closest.{candidates, closestOf}
 use Rattle.cache.proofs.ClosestLaws.{closest-among, closest-least}
@@ -113,21 +114,33 @@ module _ (l : Receive) (n : ℕ) (low : First l n) where
             go true e = absurd (low 8 h (Num.no-inquiry refl acked cpa says (none-iff-not (lent l) 2 acked .0 e)))
             go false e = found-waits (lent l) 2 acked e
 
+        has-cpa : Before 9 n → cpa ≡ true
+        has-cpa h = go cpa refl
+          where
+            go : (b : Bool) → cpa ≡ b → cpa ≡ true
+            go true e = e
+            go false e = absurd (low 9 h (Num.no-cpa refl acked (subst (λ (b : Bool). Num.Says l (authority acked b)) e says)))
+
+        is-good : Before 9 n → l .verdict ≡ 1
+        is-good h = elim (eq-or (l .verdict) 1) [ inl e ↦ e | inr d ↦ absurd (low 9 h (Num.bad-authority refl acked cpa says d)) ]
+
         to : Said l (authority acked cpa) n → Row n au
         to (inl (inl w)) = inl (w .0, none-iff-not (lent l) 2 acked .1 (w .1))
         to (inl (inr (inl w))) = inr (inl (w .0, nine-to cpa (w .1)))
         to (inl (inr (inr w))) =
             let v = some-there (sooner 8 10 (unfold placeIn in refl) (w .0)) in
             let up = places-rise k (l .waiting) (good l n low (sooner 1 10 (unfold placeIn in refl) (w .0)) .waiting) in
-            let e = rise-one idOf 0 (w .1) there ps up (w .2 .0) (v .0) (w .2 .1 ∙ sym (v .1)) in
-            inr (inr (inl (w .0, not-iff (keyAt 0 (l .key)) (placeKey there) .1 (λ d. w .3 (ap placeKey e ∙ sym d)))))
+            let e = rise-one idOf 0 (w .3) there ps up (w .4 .0) (v .0) (w .4 .1 ∙ sym (v .1)) in
+            inr (inr (inl (w .0, not-iff (keyAt 0 (l .key)) (placeKey there) .1 (λ d. w .5 (ap placeKey e ∙ sym d)))))
         to (inr w) = absurd (none-short l (w .1) (w .2) (w .3))
 
         from : Row n au → Said l (authority acked cpa) n
         from (inl w) = inl (inl (w .0, none-iff-not (lent l) 2 acked .0 (w .1)))
         from (inr (inl w)) = inl (inr (inl (w .0, nine-from cpa (w .1))))
         from (inr (inr (inl w))) =
-            inl (inr (inr (w .0, there, some-there (sooner 8 10 (unfold placeIn in refl) (w .0)), λ d. not-iff (keyAt 0 (l .key)) (placeKey there) .0 (w .1) (sym d))))
+            let nine = sooner 9 10 (unfold placeIn in refl) (w .0) in
+            let v = some-there (sooner 8 10 (unfold placeIn in refl) (w .0)) in
+            inl (inr (inr (w .0, has-cpa nine, is-good nine, there, v, λ d. not-iff (keyAt 0 (l .key)) (placeKey there) .0 (w .1) (sym d))))
         from (inr (inr (inr w))) = absurd w
 
   -- LOOKUP

@@ -1,7 +1,7 @@
 -- A datagram received is refused when the clauses say so: each clause and its row of the call's table. Assumes nothing.
 use mathlib.Core.Path.{_≡_, refl, ap, subst}
 use mathlib.Core.Logic.{inl, inr}
-use mathlib.Core.Bool.{false, not}
+use mathlib.Core.Bool.{true, false, not}
 use mathlib.Core.List.{List, _++_}
 use mathlib.Core.Option.{Option}
 use Prim.Native.Nat.{ℕ}
@@ -46,7 +46,7 @@ module _ (l : Receive) (n : ℕ) (low : First l n) where
   any-both (M.Solicit head route nonce) i w says = seven-both l n low
   any-both (M.Advertise head acked keys nonce) i w says = seven-both l n low
   any-both (M.Request head flags split nonce keys credential signature key) i w says = seven-both l n low
-  any-both (M.Flood head s validate token revokes route reached) i w says = flood-both l n low (head .id) s validate route (w .1)
+  any-both (M.Flood head s validate token revokes route reached) i w says = flood-both l n low (head .id) s validate route (w .1) says
   any-both (M.Inquire head a x c validate nonce credential signature key) i w says = inquire-both l n low (head .id) validate
   any-both (M.Authority head acked fields) i w says = authority-both l n low acked (R.isHere (fields .cpa)) says
   any-both (M.Ack head acked flags y) i w says = ack-both l n low acked y
@@ -103,9 +103,9 @@ module _ (l : Receive) (bytes : Bytes (l .datagram)) where
     to (Num.no-cpa e acked says) = inr (inr (says-row (authority acked false) says (inl (inr (inl (e, inl refl))))))
     to (Num.bad-authority e acked cpa says h) = inr (inr (says-row (authority acked cpa) says (inl (inr (inl (e, inr h))))))
     to (Num.bad-revocation e id s validate says h) = inr (inr (says-row (revoke id s validate) says (inl (inl (e, h)))))
-    to (Num.other-key e acked cpa says p w h) = inr (inr (says-row (authority acked cpa) says (inl (inr (inr (e, p, w, h))))))
+    to (Num.other-key e acked says good p w h) = inr (inr (says-row (authority acked true) says (inl (inr (inr (e, refl, good, p, w, h))))))
     to (Num.own-entry e id s validate r says h) = inr (inr (says-row (entry id s validate r) says (inl (inl (e, h)))))
-    to (Num.own-revocation e id s validate says h) = inr (inr (says-row (revoke id s validate) says (inl (inr (e, h)))))
+    to (Num.own-revocation e id s validate says good h) = inr (inr (says-row (revoke id s validate) says (inl (inr (e, good, h)))))
     to (Num.not-ours e id validate says h) = inr (inr (says-row (inquire id validate) says (inl (e, h))))
     to (Num.id-waits e id s validate r says must p w h) = inr (inr (says-row (entry id s validate r) says (inl (inr (inl (e, must, p, w, h))))))
     to (Num.all-used e id s validate r says must h) = inr (inr (says-row (entry id s validate r) says (inl (inr (inr (e, must, h))))))

@@ -37,12 +37,12 @@ Refused m l (entry id silent validate r) n =
     ((n ≡ 11) × (keyOf r ≡ keyOf (l .own)))
     ⊎ ((n ≡ 13) × S.MustAsk (keyOf (l .own)) m r × (p : List ℕ) × S.Waits m p × (idOf p ≡ idAfter (l .id)))
     ⊎ ((n ≡ 14) × S.MustAsk (keyOf (l .own)) m r × (length (placesOf (m .waiting)) ≡ 16))
-Refused m l (revoke id silent validate) n = ((n ≡ 9) × (¬ (l .verdict ≡ 1))) ⊎ ((n ≡ 11) × (keyAt 0 (l .key) ≡ keyOf (l .own)))
+Refused m l (revoke id silent validate) n = ((n ≡ 9) × (¬ (l .verdict ≡ 1))) ⊎ ((n ≡ 11) × (l .verdict ≡ 1) × (keyAt 0 (l .key) ≡ keyOf (l .own)))
 Refused m l (inquire id validate) n = (n ≡ 12) × (¬ (validate ≡ keyOf (l .own)))
 Refused m l (authority acked cpa) n =
     ((n ≡ 8) × (¬ ((p : List ℕ) × S.WaitsAs m 2 acked p)))
     ⊎ ((n ≡ 9) × ((cpa ≡ false) ⊎ (¬ (l .verdict ≡ 1))))
-    ⊎ ((n ≡ 10) × (p : List ℕ) × S.WaitsAs m 2 acked p × (¬ (placeKey p ≡ keyAt 0 (l .key))))
+    ⊎ ((n ≡ 10) × (cpa ≡ true) × (l .verdict ≡ 1) × (p : List ℕ) × S.WaitsAs m 2 acked p × (¬ (placeKey p ≡ keyAt 0 (l .key))))
 Refused m l (ack acked b) n = (n ≡ 8) × (¬ ((p : List ℕ) × S.WaitsAs m 1 acked p))
 Refused m l (lookup id target) n = ⊥
 Refused m l other n = n ≡ 7
@@ -53,12 +53,13 @@ module _ (m : Memory) (l : Receive) (n : ℕ) where
   refused-applies (entry id silent validate r) says (inr (inl w)) = Num.id-waits (w .0) id silent validate r says (w .1) (w .2) (w .3) (w .4)
   refused-applies (entry id silent validate r) says (inr (inr w)) = Num.all-used (w .0) id silent validate r says (w .1) (w .2)
   refused-applies (revoke id silent validate) says (inl w) = Num.bad-revocation (w .0) id silent validate says (w .1)
-  refused-applies (revoke id silent validate) says (inr w) = Num.own-revocation (w .0) id silent validate says (w .1)
+  refused-applies (revoke id silent validate) says (inr w) = Num.own-revocation (w .0) id silent validate says (w .1) (w .2)
   refused-applies (inquire id validate) says w = Num.not-ours (w .0) id validate says (w .1)
   refused-applies (authority acked cpa) says (inl w) = Num.no-inquiry (w .0) acked cpa says (w .1)
   refused-applies (authority acked cpa) says (inr (inl (e, inl c))) = Num.no-cpa e acked (subst (λ (b : Bool). Num.Says l (authority acked b)) c says)
   refused-applies (authority acked cpa) says (inr (inl (e, inr h))) = Num.bad-authority e acked cpa says h
-  refused-applies (authority acked cpa) says (inr (inr w)) = Num.other-key (w .0) acked cpa says (w .1) (w .2) (w .3)
+  refused-applies (authority acked cpa) says (inr (inr w)) =
+      Num.other-key (w .0) acked (subst (λ (b : Bool). Num.Says l (authority acked b)) (w .1) says) (w .2) (w .3) (w .4) (w .5)
   refused-applies (ack acked b) says w = Num.no-flood (w .0) acked b says (w .1)
   refused-applies (lookup id target) says w = absurd w
   refused-applies other says w = Num.not-taken w says

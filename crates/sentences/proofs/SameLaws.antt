@@ -145,9 +145,9 @@ module _ (m : Memory) (own cpa : List ℕ) (major minor id : ℕ) (nonce : List 
   applies-too n (Num.no-cpa e acked says) = Num.no-cpa e acked (heard-too _ says)
   applies-too n (Num.bad-authority e acked c says h) = Num.bad-authority e acked c (heard-too _ says) h
   applies-too n (Num.bad-revocation e i s validate says h) = Num.bad-revocation e i s validate (heard-too _ says) h
-  applies-too n (Num.other-key e acked c says p w h) = Num.other-key e acked c (heard-too _ says) p w h
+  applies-too n (Num.other-key e acked says good p w h) = Num.other-key e acked (heard-too _ says) good p w h
   applies-too n (Num.own-entry e i s validate r says h) = Num.own-entry e i s validate r (heard-too _ says) h
-  applies-too n (Num.own-revocation e i s validate says h) = Num.own-revocation e i s validate (heard-too _ says) h
+  applies-too n (Num.own-revocation e i s validate says good h) = Num.own-revocation e i s validate (heard-too _ says) good h
   applies-too n (Num.not-ours e i validate says h) = Num.not-ours e i validate (heard-too _ says) h
   applies-too n (Num.id-waits e i s validate r says must p w h) = Num.id-waits e i s validate r (heard-too _ says) must p w h
   applies-too n (Num.all-used e i s validate r says must h) = Num.all-used e i s validate r (heard-too _ says) must h

@@ -85,13 +85,13 @@ pub data ReceiveApplies (m : Memory) (l : Receive) (n : ℕ) : Type 0 where
   bad-authority : n ≡ 9 → (acked : ℕ) (cpa : Bool) → Says l (authority acked cpa) → ¬ (l .verdict ≡ 1) → ReceiveApplies m l n
   bad-revocation : n ≡ 9 → (id : ℕ) (silent : Bool) (validate : ℕ) → Says l (revoke id silent validate) → ¬ (l .verdict ≡ 1) → ReceiveApplies m l n
   -- 10 "AUTHORITY's verdict is good for another key than the one inquired"
-  other-key : n ≡ 10 → (acked : ℕ) (cpa : Bool) → Says l (authority acked cpa) → (p : List ℕ) → WaitsAs m 2 acked p → ¬ (placeKey p ≡ keyAt 0 (l .key))
-      → ReceiveApplies m l n
-  -- 11 "route entry or revocation in a FLOOD names the own key"
+  other-key : n ≡ 10 → (acked : ℕ) → Says l (authority acked true) → l .verdict ≡ 1 → (p : List ℕ) → WaitsAs m 2 acked p
+      → ¬ (placeKey p ≡ keyAt 0 (l .key)) → ReceiveApplies m l n
+  -- 11 "route entry or revocation in a FLOOD names the own key": a revocation names the key that the verdict is good for
   own-entry : n ≡ 11 → (id : ℕ) (silent : Bool) (validate : ℕ) (r : List ℕ) → Says l (entry id silent validate r) → keyOf r ≡ keyOf (l .own)
       → ReceiveApplies m l n
-  own-revocation : n ≡ 11 → (id : ℕ) (silent : Bool) (validate : ℕ) → Says l (revoke id silent validate) → keyAt 0 (l .key) ≡ keyOf (l .own)
-      → ReceiveApplies m l n
+  own-revocation : n ≡ 11 → (id : ℕ) (silent : Bool) (validate : ℕ) → Says l (revoke id silent validate) → l .verdict ≡ 1
+      → keyAt 0 (l .key) ≡ keyOf (l .own) → ReceiveApplies m l n
   -- 12 "INQUIRE for a key other than ours"
   not-ours : n ≡ 12 → (id validate : ℕ) → Says l (inquire id validate) → ¬ (validate ≡ keyOf (l .own)) → ReceiveApplies m l n
   -- 13 "a place must be opened and its ID is waiting already"; 14 "a place must be opened and all 16 are used"

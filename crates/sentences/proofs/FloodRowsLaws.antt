@@ -36,6 +36,7 @@ use Rattle.gauge.proofs.AnswerLaws.{EntryIn}
 use Rattle.gauge_laws.specs.Table.{floodRows}
 use Rattle.sentences.specs.Heard.{Heard, entry, revoke}
 use Rattle.sentences.specs.Sentences as S
+use Rattle.sentences.specs.Numbers as Num
 use Rattle.sentences.proofs.MoveLaws.{any-in, in-any}
 use Rattle.sentences.proofs.HeardLaws.{saidBy}
 use Rattle.sentences.proofs.WordLaws.{lent, not-iff, must-iff}

@@ -37,13 +37,13 @@ pub fn learn_record(own: &[u8], cache: &mut [u8], record: &[u8]) -> u32
 {
     let found = memory(own, cache);
     let Formed::Good(used) = found else {
-        return 1;
+        return refusal::MEMORY;
     };
     if !record::is_record(record) {
-        return 1;
+        return refusal::MEMORY;
     }
     if key::same_at(record, 0, own, 0) {
-        return 1;
+        return refusal::MEMORY;
     }
     learn(own, cache, used, record);
     0
@@ -56,10 +56,10 @@ pub fn remove_key(own: &[u8], cache: &mut [u8], key: &[u8]) -> u32
 {
     let found = memory(own, cache);
     let Formed::Good(used) = found else {
-        return 1;
+        return refusal::MEMORY;
     };
     if key.len() != 32 {
-        return 1;
+        return refusal::MEMORY;
     }
     remove(own, cache, used, key);
     0
@@ -73,14 +73,14 @@ pub fn neighbour_list(own: &[u8], cache: &[u8], out: &mut [u8]) -> Listed
     let found = memory(own, cache);
     let Formed::Good(used) = found else {
         return Listed {
-            number: 1,
+            number: refusal::MEMORY,
             below: 0,
             above: 0,
         };
     };
     if out.len() < 320 {
         return Listed {
-            number: 15,
+            number: refusal::ROOM,
             below: 0,
             above: 0,
         };

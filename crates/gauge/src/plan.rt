@@ -55,13 +55,13 @@ fn plan_message<'a>(
             head: _,
             entry: _,
             nonce: _,
-        } => Plan::Refuse(7),
+        } => Plan::Refuse(refusal::NOT_TAKEN),
         Answer::Advertise {
             head: _,
             acked: _,
             keys: _,
             nonce: _,
-        } => Plan::Refuse(7),
+        } => Plan::Refuse(refusal::NOT_TAKEN),
         Answer::Request {
             head: _,
             flags: _,
@@ -71,7 +71,7 @@ fn plan_message<'a>(
             credential: _,
             signature: _,
             key: _,
-        } => Plan::Refuse(7),
+        } => Plan::Refuse(refusal::NOT_TAKEN),
         Answer::Flood {
             head,
             d,
@@ -172,10 +172,10 @@ pub fn plan_receive<'a>(
 {
     let memory = gauge_plan::survey(own, cache, waiting);
     let Memory::Fit { held, used } = memory else {
-        return Plan::Refuse(1);
+        return Plan::Refuse(refusal::MEMORY);
     };
     if !gauge_plan::hands_fit(cpa, nonce, key) {
-        return Plan::Refuse(1);
+        return Plan::Refuse(refusal::MEMORY);
     }
     plan_message(
         own,

@@ -26,16 +26,16 @@ pub fn plan_authority(
 {
     let found = waiting::find(waiting, used, acked, 2);
     let waiting::Found::At(at) = found else {
-        return Plan::Refuse(8);
+        return Plan::Refuse(refusal::STRAY);
     };
     if !cpa {
-        return Plan::Refuse(9);
+        return Plan::Refuse(refusal::UNTRUSTED);
     }
     if verdict != 1 {
-        return Plan::Refuse(9);
+        return Plan::Refuse(refusal::UNTRUSTED);
     }
     if !key::same_at(key, 0, waiting, 140 * at + 8) {
-        return Plan::Refuse(10);
+        return Plan::Refuse(refusal::OTHER_KEY);
     }
     Plan::Learn { held, used, at }
 }
@@ -47,7 +47,7 @@ pub fn plan_ack(waiting: &[u8], held: usize, used: usize, acked: u32, n: bool) -
 {
     let found = waiting::find(waiting, used, acked, 1);
     let waiting::Found::At(at) = found else {
-        return Plan::Refuse(8);
+        return Plan::Refuse(refusal::STRAY);
     };
     Plan::Free { held, used, at, n }
 }
@@ -65,10 +65,10 @@ pub fn plan_inquire(
     ensures { λ r. ⌜ r ≡ inquirePlan (keyOf (now (own .entry))) size room (now (d .entry)) acked validate ⌝ }
 {
     if !key::same_at(d, validate, own, 0) {
-        return Plan::Refuse(12);
+        return Plan::Refuse(refusal::NOT_OURS);
     }
     if room < 40 + size {
-        return Plan::Refuse(15);
+        return Plan::Refuse(refusal::ROOM);
     }
     Plan::Certify(acked)
 }
@@ -99,7 +99,7 @@ pub fn plan_lookup<'a>(
     let shown = cache::closest(own, cache, held, &d[target..target + 32]);
     let count = shown[34] as usize;
     if room < 80 + 16 * count {
-        return Plan::Refuse(15);
+        return Plan::Refuse(refusal::ROOM);
     }
     Plan::Show {
         held,

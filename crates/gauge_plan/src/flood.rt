@@ -103,19 +103,19 @@ pub fn plan_flood(
         (rows 140 used (now (waiting .entry))) used id room (now (d .entry)) silent acked validate start len ⌝ }
 {
     if key::same_at(d, start, own, 0) {
-        return Plan::Refuse(11);
+        return Plan::Refuse(refusal::OWN_KEY);
     }
     let n = not_ours(own, d, validate);
     let opens = must_ask(cache, held, waiting, used, d, start, len);
     let waits = waiting::has_id(waiting, used, std::num::wrapping_add_u32(id, 1));
     if opens & waits {
-        return Plan::Refuse(13);
+        return Plan::Refuse(refusal::ID_WAITING);
     }
     if opens & (used == 16) {
-        return Plan::Refuse(14);
+        return Plan::Refuse(refusal::FULL);
     }
     if room < ack_room(silent, n) + inquire_room(opens) {
-        return Plan::Refuse(15);
+        return Plan::Refuse(refusal::ROOM);
     }
     Plan::Flood {
         used,
@@ -146,14 +146,14 @@ pub fn plan_revoke(
         (now (d .entry)) silent acked validate ⌝ }
 {
     if verdict != 1 {
-        return Plan::Refuse(9);
+        return Plan::Refuse(refusal::UNTRUSTED);
     }
     if key::same_at(key, 0, own, 0) {
-        return Plan::Refuse(11);
+        return Plan::Refuse(refusal::OWN_KEY);
     }
     let n = not_ours(own, d, validate);
     if room < ack_room(silent, n) {
-        return Plan::Refuse(15);
+        return Plan::Refuse(refusal::ROOM);
     }
     Plan::Revoke {
         held,

@@ -87,24 +87,24 @@ fn plan_flood_to(
 {
     let to = held_at(cache, held, neighbour);
     if is_nothing(to) {
-        return SendPlan::Refuse(12);
+        return SendPlan::Refuse(refusal::NOT_OURS);
     }
     let ours = key::same_at(key, 0, own, 0);
     let found = held_at(cache, held, key);
     let missing = is_nothing(found);
     if !ours & missing {
-        return SendPlan::Refuse(12);
+        return SendPlan::Refuse(refusal::NOT_OURS);
     }
     if waiting::has_id(waiting, used, id) {
-        return SendPlan::Refuse(13);
+        return SendPlan::Refuse(refusal::ID_WAITING);
     }
     if used == 16 {
-        return SendPlan::Refuse(14);
+        return SendPlan::Refuse(refusal::FULL);
     }
     let at = place_of(found);
     let count = count_sent(own, cache, ours, at);
     if room < 100 + 16 * count {
-        return SendPlan::Refuse(15);
+        return SendPlan::Refuse(refusal::ROOM);
     }
     SendPlan::Flood { used, ours, at }
 }
@@ -124,10 +124,10 @@ pub fn plan_send(
 {
     let memory = survey(own, cache, waiting);
     let Memory::Fit { held, used } = memory else {
-        return SendPlan::Refuse(1);
+        return SendPlan::Refuse(refusal::MEMORY);
     };
     if !((neighbour.len() == 32) & (key.len() == 32)) {
-        return SendPlan::Refuse(1);
+        return SendPlan::Refuse(refusal::MEMORY);
     }
     plan_flood_to(own, cache, held, waiting, used, id, neighbour, key, room)
 }

@@ -19,20 +19,20 @@ pub fn tick(own: &[u8], table: &mut [u8], output: &mut [u8]) -> Answer
 {
     if !record::is_record(own) {
         return Answer {
-            number: 1,
+            number: refusal::MEMORY,
             count: 0,
         };
     }
     let answer = form(own, table);
     let Formed::Good(used) = answer else {
         return Answer {
-            number: 1,
+            number: refusal::MEMORY,
             count: 0,
         };
     };
     if output.len() < 64 {
         return Answer {
-            number: 15,
+            number: refusal::ROOM,
             count: 0,
         };
     }

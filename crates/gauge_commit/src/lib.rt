@@ -70,7 +70,15 @@ fn open_inquiry(waiting: &mut [u8], used: usize, id: u32, r: &[u8])
     ensures { λ _. ⌜ now (waiting .exit)
         ≡ bytesOf 2240 (opened (inquiryPlace id (now (r .entry))) (rows 140 used (now (waiting .entry)))) ⌝ }
 {
-    waiting::open(waiting, used, id, 2, 2, &r[0..32], r);
+    waiting::open(
+        waiting,
+        used,
+        id,
+        waiting::INQUIRY,
+        waiting::TRIES,
+        &r[0..32],
+        r,
+    );
 }
 
 // The INQUIRE for the key of a record, at a place of the output.
@@ -312,7 +320,15 @@ fn open_flood(waiting: &mut [u8], used: usize, id: u32, key: &[u8])
         ≡ bytesOf 2240 (opened (floodPlace id (now (key .entry))) (rows 140 used (now (waiting .entry)))) ⌝ }
 {
     let no_record = [0u8; 100];
-    waiting::open(waiting, used, id, 1, 2, key, &no_record);
+    waiting::open(
+        waiting,
+        used,
+        id,
+        waiting::FLOOD,
+        waiting::TRIES,
+        key,
+        &no_record,
+    );
 }
 
 // The FLOOD to the neighbour of a key, of the record at a place, at the output's start.

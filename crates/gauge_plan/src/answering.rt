@@ -24,7 +24,7 @@ pub fn plan_authority(
     ensures { λ r. ⌜ r ≡ authorityPlan (rows 140 used (now (waiting .entry))) held used verdict
         (keyAt 0 (now (key .entry))) acked cpa ⌝ }
 {
-    let found = waiting::find(waiting, used, acked, 2);
+    let found = waiting::find(waiting, used, acked, waiting::INQUIRY);
     let waiting::Found::At(at) = found else {
         return Plan::Refuse(refusal::STRAY);
     };
@@ -45,7 +45,7 @@ pub fn plan_ack(waiting: &[u8], held: usize, used: usize, acked: u32, n: bool) -
     requires { ⌜ 140 * used ≤ length (now waiting) ⌝ }
     ensures { λ r. ⌜ r ≡ ackPlan (rows 140 used (now (waiting .entry))) held used acked n ⌝ }
 {
-    let found = waiting::find(waiting, used, acked, 1);
+    let found = waiting::find(waiting, used, acked, waiting::FLOOD);
     let waiting::Found::At(at) = found else {
         return Plan::Refuse(refusal::STRAY);
     };

@@ -19,3 +19,11 @@ pub use seek::find_inquiry;
 pub use seek::has_id;
 pub use tested::Formed;
 pub use tested::form;
+
+// What a place waits for: the ACK of a FLOOD, or the AUTHORITY of an inquiry.
+pub const FLOOD: u8 = 1;
+
+pub const INQUIRY: u8 = 2;
+
+// The tries that a place opens with.
+pub const TRIES: u8 = 2;

@@ -6,6 +6,8 @@
  * First each scene is made by all of them: a number, count or byte that differs, or an answer that document 01 does not give, ends the run with
  * status 1. Memory is put back before each call, and outside of what is measured. What a call of an empty function costs is taken off. */
 #define _POSIX_C_SOURCE 199309L
+#include "calling.h"
+#include "empty.h"
 #include "plain.h"
 #include "scene.h"
 #include <math.h>
@@ -28,16 +30,15 @@ PLAIN_CALLS(clang_halves);
 struct side {
     const char *name;
     bool halves;
-    struct gauge_answer (*receive)(const uint8_t *, size_t, const uint8_t *, size_t, uint8_t *, size_t, uint8_t *, size_t, uint8_t, uint8_t, uint32_t,
-                                   const uint8_t *, size_t, uint32_t, const uint8_t *, size_t, const uint8_t *, size_t, uint8_t *, size_t);
-    struct gauge_answer (*send)(const uint8_t *, size_t, const uint8_t *, size_t, uint8_t *, size_t, uint8_t, uint8_t, uint32_t, const uint8_t *,
-                                size_t, const uint8_t *, size_t, uint8_t *, size_t);
-    struct gauge_answer (*tick)(const uint8_t *, size_t, uint8_t *, size_t, uint8_t *, size_t);
-    struct gauge_answer (*neighbours)(const uint8_t *, size_t, const uint8_t *, size_t, uint8_t *, size_t);
-    struct gauge_look (*look)(uint8_t, const uint8_t *, size_t);
+    receive_call *receive;
+    send_call *send;
+    tick_call *tick;
+    neighbours_call *neighbours;
+    look_call *look;
 };
 
-PLAIN_CALLS(empty);
+/* A function under the signature of another (bench/empty.c). */
+#define AS(type, function) ((type *)(void (*)(void))(function))
 #define SIDE(name, halves) {#name, halves, name##_receive, name##_send, name##_tick, name##_neighbours, name##_look}
 static const struct side sides[] = {
     SIDE(gauge, false),
@@ -47,19 +48,21 @@ static const struct side sides[] = {
     SIDE(clang, false),
     SIDE(clang_halves, true),
 #endif
-    SIDE(empty, false),
+    {"empty", false, AS(receive_call, empty_answer), AS(send_call, empty_answer), AS(tick_call, empty_answer), AS(neighbours_call, empty_answer),
+     AS(look_call, empty_look)},
 };
 #define SIDES (sizeof sides / sizeof *sides)
 #define EMPTY (SIDES - 1)
 
-/* What a call leaves: its answer, and the memory that it may write. Lent from one place to all sides. */
+/* What a call leaves: its answer, and what it may write. The same bytes are lent to all sides. */
 struct left {
     uint32_t answer[12];
-    uint8_t cache[GAUGE_CACHE_LEN(GAUGE_CACHE_MOST)], waiting[GAUGE_WAITING_LEN], output[GAUGE_OUTPUT_LEN];
+    uint8_t bytes[SLICES][GAUGE_CACHE_LEN(GAUGE_CACHE_MOST)]; /* as long as any */
 };
 
 static struct scene scene;
-static struct left lent;
+static struct lent lent;
+static struct left left;
 static uint64_t began, ended;
 
 __attribute__((noinline)) void mark(void)
@@ -89,37 +92,39 @@ static inline void end(void)
 
 static void put_back(void)
 {
-    memcpy(lent.cache, scene.cache, scene.cache_len);
-    memcpy(lent.waiting, scene.waiting, sizeof lent.waiting);
-    memset(lent.output, 0xA5, sizeof lent.output);
+    lent = scene.lent;
+    for (int i = 0; i < SLICES; i++) {
+        struct room *to = slice_in(&lent, i);
+        if (slices[i].use == TO_READ)
+            continue;
+        memcpy(left.bytes[i], to->at, to->len);
+        to->at = left.bytes[i];
+    }
+    memset(lent.output.at, 0xA5, GAUGE_OUTPUT_LEN);
 }
 
 static struct gauge_answer answered(const struct side *by)
 {
-    const struct scene *s = &scene;
     struct gauge_answer a = {0, 0, 0};
-    switch (s->call) {
+    switch (scene.call) {
     case RECEIVE:
         begin();
-        a = by->receive(s->own, sizeof s->own, s->cpa, sizeof s->cpa, lent.cache, s->cache_len, lent.waiting, sizeof lent.waiting, SCENE_MAJOR,
-                        SCENE_MINOR, s->id, s->nonce, sizeof s->nonce, GAUGE_GOOD, s->key, sizeof s->key, s->datagram, s->datagram_len,
-                        lent.output, s->room);
+        a = call_receive(by->receive, &lent);
         end();
         break;
     case SEND:
         begin();
-        a = by->send(s->own, sizeof s->own, lent.cache, s->cache_len, lent.waiting, sizeof lent.waiting, SCENE_MAJOR, SCENE_MINOR, s->id,
-                     s->neighbour, sizeof s->neighbour, s->key, sizeof s->key, lent.output, s->room);
+        a = call_send(by->send, &lent);
         end();
         break;
     case TICK:
         begin();
-        a = by->tick(s->own, sizeof s->own, lent.waiting, sizeof lent.waiting, lent.output, s->room);
+        a = call_tick(by->tick, &lent);
         end();
         break;
     default:
         begin();
-        a = by->neighbours(s->own, sizeof s->own, lent.cache, s->cache_len, lent.output, s->room);
+        a = call_neighbours(by->neighbours, &lent);
         end();
         break;
     }
@@ -130,22 +135,37 @@ static struct gauge_answer answered(const struct side *by)
 static void make(const struct side *by)
 {
     put_back();
-    memset(lent.answer, 0, sizeof lent.answer);
+    memset(left.answer, 0, sizeof left.answer);
     if (scene.call == LOOK) {
         begin();
-        struct gauge_look l = by->look(SCENE_MAJOR, scene.datagram, scene.datagram_len);
+        struct gauge_look l = call_look(by->look, &lent);
         end();
-        memcpy(lent.answer, &l, sizeof l);
+        memcpy(left.answer, &l, sizeof l);
     } else {
         struct gauge_answer a = answered(by);
-        memcpy(lent.answer, &a, sizeof a);
+        memcpy(left.answer, &a, sizeof a);
     }
+}
+
+/* How many bytes of a slice are looked at after a call: of the output those behind its room too, of what is only read none. */
+static size_t looked_at(int i)
+{
+    return slices[i].use == TO_READ ? 0 : slices[i].use == TO_FILL ? GAUGE_OUTPUT_LEN : slice_in(&lent, i)->len;
 }
 
 static bool same_left(const struct left *a, const struct left *b)
 {
-    return memcmp(a->answer, b->answer, sizeof a->answer) == 0 && memcmp(a->cache, b->cache, scene.cache_len) == 0
-           && memcmp(a->waiting, b->waiting, sizeof a->waiting) == 0 && memcmp(a->output, b->output, sizeof a->output) == 0;
+    for (int i = 0; i < SLICES; i++)
+        if (memcmp(a->bytes[i], b->bytes[i], looked_at(i)) != 0)
+            return false;
+    return memcmp(a->answer, b->answer, sizeof a->answer) == 0;
+}
+
+static void copy_left(struct left *to)
+{
+    for (int i = 0; i < SLICES; i++)
+        memcpy(to->bytes[i], left.bytes[i], looked_at(i));
+    memcpy(to->answer, left.answer, sizeof to->answer);
 }
 
 /* All sides leave the same, and document 01's answer. */
@@ -155,8 +175,8 @@ static void agree(size_t c)
     for (size_t i = 0; i < EMPTY; i++) {
         make(&sides[i]);
         if (i == 0)
-            memcpy(&first, &lent, sizeof lent);
-        if (!same_left(&first, &lent)) {
+            copy_left(&first);
+        if (!same_left(&first, &left)) {
             printf("bench: %s, C %zu: %s differs from the archive\n", scene.name, c, sides[i].name);
             exit(1);
         }

@@ -1,6 +1,6 @@
-/* The five calls in plain C, written for speed: what the archive is measured against. It makes every test of document 01, with document 02's ring, and
- * gives the same numbers and bytes; nothing is written before the last refusal is decided. Numbers are loaded whole and swapped, keys compared by words up to the first that
- * differ, runs of bytes moved by the C library. For x86-64: words are read least significant byte first.
+/* The five calls in plain C, written for speed: what the archive is measured against. It makes every test of document 01, with document 02's ring,
+ * and gives the same numbers and bytes; nothing is written before the last refusal is decided. Numbers are loaded whole and swapped, keys compared by
+ * words up to the first that differ, runs of bytes moved by the C library. For x86-64: words are read least significant byte first.
  *
  *   PLAIN    begins the names of the calls
  *   HALVE    keys are searched by halving. Without it one record is looked at after the other up to the key's place, as the archive does. */
@@ -15,6 +15,10 @@
 #define JOIN(a, b) JOINED(a, b)
 #define CALL(name) JOIN(PLAIN, name)
 #define NOT_IN_FORM SIZE_MAX
+
+/* The signatures are the header's, under each name. */
+#define DECLARED(name) PLAIN_CALLS(name)
+DECLARED(PLAIN);
 
 /* Numbers as they are loaded. */
 
@@ -500,7 +504,8 @@ static const uint8_t *closest(const uint8_t *own, const uint8_t *cache, size_t h
     return best.record;
 }
 
-/* Where the keys above our own begin in the cache, and how many there are: up to the key just opposite, which is above too, round the end of the cache. */
+/* Where the keys above our own begin in the cache, and how many there are: up to the key just opposite, which is above too, round the end of the
+ * cache. */
 struct sides {
     size_t from, above;
 };

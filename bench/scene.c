@@ -56,7 +56,7 @@ static void fill_key(uint8_t *key, uint64_t first)
 /* A key between record i and the one before it. */
 static void key_between(const struct scene *s, size_t i, uint8_t *key)
 {
-    uint64_t low = first_word(s->cache + 100 * i - 100), high = first_word(s->cache + 100 * i);
+    uint64_t low = first_word(s->cache + GAUGE_RECORD_LEN * i - GAUGE_RECORD_LEN), high = first_word(s->cache + GAUGE_RECORD_LEN * i);
     fill_key(key, low + (high - low) / 2);
 }
 
@@ -67,7 +67,7 @@ static void set_cache(struct scene *s, size_t c, bool alike)
     s->cache_len = GAUGE_CACHE_LEN(c);
     s->held = c;
     for (size_t i = 0; i < c; i++) {
-        uint8_t *r = s->cache + 100 * i;
+        uint8_t *r = s->cache + GAUGE_RECORD_LEN * i;
         fill_key(r, width * i + chance() % width);
         if (alike) {
             memset(r, 7, GAUGE_KEY_LEN);
@@ -92,7 +92,7 @@ static void set_waiting(struct scene *s)
         p[4] = (uint8_t)(1 + i % 2);
         p[5] = (uint8_t)(i % 3);
         if (p[4] == 1) {
-            memcpy(p + 8, s->cache + 100 * i, GAUGE_KEY_LEN);
+            memcpy(p + 8, s->cache + GAUGE_RECORD_LEN * i, GAUGE_KEY_LEN);
         } else {
             fill(p + 8, GAUGE_KEY_LEN);
             memcpy(p + 40, p + 8, GAUGE_KEY_LEN);
@@ -183,14 +183,14 @@ static void flood_new(struct scene *s)
 
 static void flood_held(struct scene *s)
 {
-    flood_of(s, s->cache + 100 * (s->held / 2));
+    flood_of(s, s->cache + GAUGE_RECORD_LEN * (s->held / 2));
 }
 
 static void revocation(struct scene *s)
 {
     begin_flood(s);
     add_opaque(s, 0x009C, 120);
-    memcpy(s->key, s->cache + 100 * (s->held / 3), GAUGE_KEY_LEN);
+    memcpy(s->key, s->cache + GAUGE_RECORD_LEN * (s->held / 3), GAUGE_KEY_LEN);
 }
 
 static void inquire(struct scene *s)
@@ -220,7 +220,7 @@ static void authority_room(struct scene *s)
 {
     authority(s);
     s->held--;
-    memset(s->cache + 100 * s->held, 0, GAUGE_RECORD_LEN);
+    memset(s->cache + GAUGE_RECORD_LEN * s->held, 0, GAUGE_RECORD_LEN);
 }
 
 static void ack(struct scene *s)
@@ -259,7 +259,7 @@ static void lookup_for(struct scene *s, const uint8_t *target)
 static void lookup(struct scene *s)
 {
     uint8_t target[GAUGE_KEY_LEN];
-    const uint8_t *record = s->cache + 100 * (s->held / 3);
+    const uint8_t *record = s->cache + GAUGE_RECORD_LEN * (s->held / 3);
     memcpy(target, record, GAUGE_KEY_LEN);
     for (int i = GAUGE_KEY_LEN - 1; ++target[i] == 0; i--)
         continue;
@@ -270,15 +270,15 @@ static void lookup(struct scene *s)
 /* The same where keys share 31 bytes: the target is held. */
 static void lookup_alike(struct scene *s)
 {
-    const uint8_t *record = s->cache + 100 * (s->held / 3);
+    const uint8_t *record = s->cache + GAUGE_RECORD_LEN * (s->held / 3);
     lookup_for(s, record);
     s->wanted.first = 80 + 16u * record[GAUGE_RECORD_COUNT];
 }
 
 static void send_flood(struct scene *s)
 {
-    const uint8_t *record = s->cache + 100 * (s->held / 2);
-    memcpy(s->neighbour, s->cache + 100 * (s->held / 3), GAUGE_KEY_LEN);
+    const uint8_t *record = s->cache + GAUGE_RECORD_LEN * (s->held / 2);
+    memcpy(s->neighbour, s->cache + GAUGE_RECORD_LEN * (s->held / 3), GAUGE_KEY_LEN);
     memcpy(s->key, record, GAUGE_KEY_LEN);
     s->wanted.first = 100 + 16u * record[GAUGE_RECORD_COUNT];
 }
@@ -317,7 +317,7 @@ static void no_room(struct scene *s)
 
 struct kind {
     const char *name;
-    enum call call;
+    enum call_kind call;
     bool alike;
     void (*set)(struct scene *);
     struct gauge_answer wanted; /* `first` of some depends on a record */
@@ -339,10 +339,32 @@ static const struct kind kinds[] = {
     {"neighbours", NEIGHBOURS, false, nothing_more, {0, 5, 5}},
     {"look at a LOOKUP", LOOK, false, lookup, {0, GAUGE_LOOKUP, 0}},
     {"look at a FLOOD", LOOK, false, flood_new, {0, GAUGE_FLOOD, 0}},
-    {"refused 1: own record", RECEIVE, false, own_unfit, {1, 0, 0}},
-    {"refused 3: header", RECEIVE, false, bad_header, {3, 0, 0}},
-    {"refused 15: no room for INQUIRE", RECEIVE, false, no_room, {15, 0, 0}},
+    {"refused 1: own record", RECEIVE, false, own_unfit, {GAUGE_MEMORY, 0, 0}},
+    {"refused 3: header", RECEIVE, false, bad_header, {GAUGE_HEADER, 0, 0}},
+    {"refused 15: no room for INQUIRE", RECEIVE, false, no_room, {GAUGE_ROOM, 0, 0}},
 };
+
+/* What is lent, when all of it is laid out. */
+static void lend(struct scene *s)
+{
+    static uint8_t zeros[SLICES][GAUGE_CACHE_LEN(GAUGE_CACHE_MOST)]; /* as long as any */
+    struct lent *l = &s->lent;
+    for (int i = 0; i < SLICES; i++)
+        *slice_in(l, i) = as_room(zeros[i], slices[i].usual);
+    l->own = as_room(s->own, sizeof s->own);
+    l->cpa = as_room(s->cpa, sizeof s->cpa);
+    l->cache = as_room(s->cache, s->cache_len);
+    l->waiting = as_room(s->waiting, sizeof s->waiting);
+    l->nonce = as_room(s->nonce, sizeof s->nonce);
+    l->neighbour = as_room(s->neighbour, sizeof s->neighbour);
+    l->key = as_room(s->key, sizeof s->key);
+    l->datagram = as_room(s->datagram, s->datagram_len);
+    l->output.len = s->room;
+    l->major = SCENE_MAJOR;
+    l->minor = SCENE_MINOR;
+    l->id = s->id;
+    l->verdict = GAUGE_GOOD;
+}
 
 const size_t scenes = sizeof kinds / sizeof *kinds;
 
@@ -363,4 +385,5 @@ void set_scene(struct scene *s, size_t i, size_t c)
     k->set(s);
     if (s->call == LOOK)
         s->wanted = k->wanted;
+    lend(s);
 }

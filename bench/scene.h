@@ -3,8 +3,7 @@
 #define SCENE_H
 
 #include "gauge.h"
-
-enum call { RECEIVE, SEND, TICK, NEIGHBOURS, LOOK };
+#include "lent.h"
 
 #define SCENE_MAJOR 6
 #define SCENE_MINOR 101
@@ -13,7 +12,8 @@ enum call { RECEIVE, SEND, TICK, NEIGHBOURS, LOOK };
 
 struct scene {
     const char *name;
-    enum call call;
+    enum call_kind call;
+    struct lent lent; /* what it is made with: the bytes below, and all zero what is not among them */
     uint8_t own[GAUGE_RECORD_LEN], cpa[SCENE_CPA], nonce[GAUGE_NONCE_LEN], key[GAUGE_KEY_LEN], neighbour[GAUGE_KEY_LEN];
     uint8_t cache[GAUGE_CACHE_LEN(GAUGE_CACHE_MOST)], waiting[GAUGE_WAITING_LEN], datagram[GAUGE_DATAGRAM_MOST];
     size_t cache_len, held, datagram_len, room;

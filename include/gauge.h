@@ -23,8 +23,12 @@
  *   gauge cannot test that.
  * - Nothing else writes what is lent before the call returns, `const` or not: no other thread, no interrupt, no radio that fills its receive buffer
  *   by itself (DMA). Copy such a buffer, and lend the copy. The gauge cannot test that either.
- * - Every call returns, whatever the bytes are, and its answer begins with a number (below): 0, or the lowest of those that apply. gauge_balance has
- *   nothing to refuse: its answer is the balance.
+ * - Every call returns, whatever the bytes are, and its answer begins with a number (below): 0, or the first that applies, in this order:
+ *
+ *       1 2 3 4 5 6 7 8 9 10 11 12 13 14 15
+ *
+ *   So where 9 and 15 both apply it is 9. Go by the list: so far it gives the lowest, but numbers of later versions will stand between these, and not
+ *   at its end. gauge_balance has nothing to refuse: its answer is the balance.
  * - With any number but 0 nothing has changed: each byte is as it was lent, and the rest of the answer is 0.
  * - With 0 the output has changed in its first bytes only, as many as the call says; and cache and waiting table are in form again.
  * - The calls on one gauge's memory come one after the other. Gauges that share no memory do not know of each other.
@@ -105,7 +109,7 @@ extern "C" {
 #define GAUGE_ENTRY_COUNT 37
 #define GAUGE_ENTRY_ADDRESSES 38
 
-/* The numbers. For each what is the matter, whose it is, and what to do. */
+/* The numbers. For each what is the matter, whose it is, and what to do. Which one is given where several apply is told by the list above. */
 enum gauge_number {
     GAUGE_OK = 0,          /* accepted */
     GAUGE_MEMORY = 1,      /* what you have lent is not in form: own record, CPA, cache, waiting table, or a nonce or key of another length. Yours: mend it. */

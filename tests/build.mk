@@ -1,20 +1,20 @@
 # What the tests compile: every object once, whichever tests want it. `built` of tests/shared.sh and tests/planted/planted call this; by hand it is
 # make -s -f tests/build.mk target/tests/NAME. A file is moved to its place when it is whole, so that two tests may build at the same time.
 OUT = target/tests
-STRICT = -std=c99 -pedantic -Wall -Wextra -Wconversion -Wshadow -Werror -Iinclude -Itests/models -Itests/nights
+STRICT = -std=c99 -pedantic -Wall -Wextra -Wconversion -Wshadow -Werror -Iinclude -Itests/models -Itests/nights -Itests/c
 SANITIZERS = -fsanitize=address,undefined -fno-sanitize-recover=all
 HEADERS = $(wildcard include/*.h tests/*/*.h)
-MODEL = model draft reached
-COMPARE = compare compare_calls compare_done fence
+MODEL = model draft reached lent
+COMPARE = compare compare_calls compare_done fence calling
 vpath %.c tests/models tests/nights tests/c tests/programs examples $(OUT)
 
 # by name: the objects that a program is made of
 compare = $(COMPARE) $(MODEL)
-carry = readings fence model_readings $(MODEL)
+carry = readings fence calling model_readings $(MODEL)
 nights = nights model_night $(MODEL)
 settings = settings
-recorded = recorded
-abi = abi
+recorded = recorded calling lent
+abi = abi calling lent
 shortest = shortest
 hill = hill
 

@@ -1,7 +1,10 @@
 /* How the calls cross to C: sizes and places in the answers, and the constants; each argument in its place; slices of length 0; every type of message
- * looked at. What is wanted is worked out by hand from the layout of the messages (documents 000 and 01) and from include/gauge.h. */
+ * looked at. What is wanted is worked out by hand from the layout of the messages (documents 000 and 01) and from include/gauge.h.
+ *
+ * `arguments` and `readings` write the calls out, as a radio program does: that each argument stands where the header has it is what they test, and
+ * through tests/c/calling.h an exchange of two would be one in their own hands. The rest calls through it. */
 #define _DEFAULT_SOURCE
-#include "gauge.h"
+#include "calling.h"
 #include <stdio.h>
 #include <string.h>
 #include <sys/mman.h>
@@ -259,54 +262,43 @@ static void readings(uint8_t *nothing)
 
 /* Each slice in turn has length 0, and points to where no byte may be touched. */
 
-enum { OWN, CPA, CACHE, WAITING, NONCE_LENT, NEIGHBOUR, KEY_LENT, DATAGRAM, OUTPUT, SLICES };
-static struct {
-    uint8_t *at;
-    size_t len;
-} lent[SLICES];
-#define LENT(slice) lent[slice].at, lent[slice].len
+static uint8_t zeros[SLICES][GAUGE_CACHE_LEN(GAUGE_CACHE_MOST)]; /* as long as any */
 
-static struct gauge_answer receive_lent(void)
+static struct lent lend_all(void)
 {
-    return gauge_receive(LENT(OWN), LENT(CPA), LENT(CACHE), LENT(WAITING), 6, 101, 20, LENT(NONCE_LENT), 0, LENT(KEY_LENT), LENT(DATAGRAM),
-                         LENT(OUTPUT));
+    struct lent l;
+    memset(&l, 0, sizeof l);
+    for (int i = 0; i < SLICES; i++) /* what is not said below is all zero */
+        *slice_in(&l, i) = as_room(zeros[i], slices[i].usual);
+    l.own = as_room(own, sizeof own);
+    l.cpa = as_room(cpa, sizeof cpa);
+    l.cache = as_room(cache, sizeof cache);
+    l.waiting = as_room(waiting, sizeof waiting);
+    l.nonce = as_room(nonce, sizeof nonce);
+    l.neighbour = as_room(neighbour, sizeof neighbour);
+    l.key = as_room(key, sizeof key);
+    l.datagram = as_room(datagram, datagram_len);
+    l.output = as_room(output, sizeof output);
+    l.major = 6;
+    l.minor = 101;
+    l.id = 20;
+    return l;
 }
 
-static struct gauge_answer send_lent(void)
+static struct gauge_answer call(enum call_kind kind, const struct lent *l)
 {
-    return gauge_send(LENT(OWN), LENT(CACHE), LENT(WAITING), 6, 101, 20, LENT(NEIGHBOUR), LENT(KEY_LENT), LENT(OUTPUT));
-}
-
-static struct gauge_answer tick_lent(void)
-{
-    return gauge_tick(LENT(OWN), LENT(WAITING), LENT(OUTPUT));
-}
-
-static struct gauge_answer neighbours_lent(void)
-{
-    return gauge_neighbours(LENT(OWN), LENT(CACHE), LENT(OUTPUT));
-}
-
-/* The number for each slice left empty; 0 for those that the call is not lent. */
-static const struct {
-    struct gauge_answer (*call)(void);
-    uint32_t numbers[SLICES];
-} calls[] = {
-    {receive_lent, {[OWN] = 1, [CPA] = 1, [CACHE] = 1, [WAITING] = 1, [NONCE_LENT] = 1, [KEY_LENT] = 1, [DATAGRAM] = 2, [OUTPUT] = 15}},
-    {send_lent, {[OWN] = 1, [CACHE] = 1, [WAITING] = 1, [NEIGHBOUR] = 1, [KEY_LENT] = 1, [OUTPUT] = 15}},
-    {tick_lent, {[OWN] = 1, [WAITING] = 1, [OUTPUT] = 15}},
-    {neighbours_lent, {[OWN] = 1, [CACHE] = 1, [OUTPUT] = 15}},
-};
-
-static void lend_all(void)
-{
-    uint8_t *at[SLICES] = {own, cpa, cache, waiting, nonce, neighbour, key, datagram, output};
-    size_t len[SLICES] = {sizeof own, sizeof cpa, sizeof cache, sizeof waiting, sizeof nonce, sizeof neighbour, sizeof key, datagram_len,
-                          sizeof output};
-    for (int i = 0; i < SLICES; i++) {
-        lent[i].at = at[i];
-        lent[i].len = len[i];
+    switch (kind) {
+    case RECEIVE: return call_receive(gauge_receive, l);
+    case SEND: return call_send(gauge_send, l);
+    case TICK: return call_tick(gauge_tick, l);
+    default: return call_neighbours(gauge_neighbours, l);
     }
+}
+
+/* The number for a slice that is left empty: the sender's length, our room, and all else is memory not in form. */
+static uint32_t number_of(int slice)
+{
+    return slice == LENT_datagram ? GAUGE_LENGTH : slice == LENT_output ? GAUGE_ROOM : GAUGE_MEMORY;
 }
 
 static void zero_lengths(uint8_t *nothing)
@@ -316,21 +308,20 @@ static void zero_lengths(uint8_t *nothing)
     memcpy(waiting_was, waiting, sizeof waiting);
     memset(output, 0xEE, sizeof output);
     datagram_len = bytes(INQUIRE(KEY("12"), "00000001"), datagram);
-    for (size_t c = 0; c < sizeof calls / sizeof *calls; c++)
+    for (int c = RECEIVE; c <= NEIGHBOURS; c++)
         for (int empty = 0; empty < SLICES; empty++) {
-            if (calls[c].numbers[empty] == 0)
+            if (!is_lent(empty, (enum call_kind)c))
                 continue;
-            lend_all();
-            lent[empty].at = nothing;
-            lent[empty].len = 0;
-            struct gauge_answer a = calls[c].call();
-            CHECK(a.number == calls[c].numbers[empty] && a.first == 0 && a.second == 0);
+            struct lent l = lend_all();
+            *slice_in(&l, empty) = as_room(nothing, 0);
+            struct gauge_answer a = call((enum call_kind)c, &l);
+            CHECK(a.number == number_of(empty) && a.first == 0 && a.second == 0);
             CHECK(memcmp(cache, cache_was, sizeof cache) == 0 && memcmp(waiting, waiting_was, sizeof waiting) == 0 && output[0] == 0xEE);
         }
     CHECK(gauge_look(6, nothing, 0).number == GAUGE_LENGTH);
-    for (size_t c = 0; c < sizeof calls / sizeof *calls; c++) { /* and all is accepted where none is empty */
-        lend_all();
-        CHECK(calls[c].call().number == GAUGE_OK);
+    for (int c = RECEIVE; c <= NEIGHBOURS; c++) { /* and all is accepted where none is empty */
+        struct lent l = lend_all();
+        CHECK(call((enum call_kind)c, &l).number == GAUGE_OK);
     }
 }
 

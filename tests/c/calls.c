@@ -5,8 +5,7 @@
  * Each slice that is lent ends where a page begins that may not be touched, and has bytes of its own before it: what is read or written past its
  * end stops the program, what is written before it is found. What is lent for reading is compared too. */
 #define _DEFAULT_SOURCE
-#include "gauge.h"
-#include <stdbool.h>
+#include "calling.h"
 #include <stdio.h>
 #include <stdlib.h>
 #include <string.h>
@@ -18,16 +17,9 @@
 #define FILLED 0xEE /* the output before each call */
 #define GUARD 0xA5
 
-/* A slice, and a copy of it as it was lent. */
-struct slice {
-    uint8_t *end; /* where the page begins that may not be touched */
-    uint8_t *at;
-    size_t len;
-    uint8_t *was;
-};
-
-static struct slice own, cpa, cache, waiting, nonce, key, datagram, output;
-static uint8_t major, minor;
+/* What is lent; of each slice where the page begins that may not be touched, and a copy of it as it was lent. */
+static struct lent lent;
+static uint8_t *ends[SLICES], *was[SLICES];
 static char line[LINE];
 static uint8_t room[LINE];
 
@@ -37,38 +29,40 @@ static void fail(const char *what)
     exit(1);
 }
 
-static void make(struct slice *s, size_t pages)
+static void make(int i, size_t pages)
 {
     uint8_t *map = mmap(NULL, (pages + 1) * PAGE, PROT_READ | PROT_WRITE, MAP_PRIVATE | MAP_ANONYMOUS, -1, 0);
-    s->was = malloc(pages * PAGE);
-    if (map == MAP_FAILED || s->was == NULL || mprotect(map + pages * PAGE, PAGE, PROT_NONE) != 0)
+    was[i] = malloc(pages * PAGE);
+    if (map == MAP_FAILED || was[i] == NULL || mprotect(map + pages * PAGE, PAGE, PROT_NONE) != 0)
         fail("no memory");
-    s->end = map + pages * PAGE;
-    s->at = s->end;
-    s->len = 0;
+    ends[i] = map + pages * PAGE;
+    *slice_in(&lent, i) = as_room(ends[i], 0);
     memset(map, GUARD, pages * PAGE);
 }
 
-static void set(struct slice *s, const uint8_t *bytes, size_t len)
+static void set(int i, const uint8_t *bytes, size_t len)
 {
-    s->at = s->end - len;
-    s->len = len;
+    struct room *s = slice_in(&lent, i);
+    *s = as_room(ends[i] - len, len);
     memmove(s->at, bytes, len);
     memset(s->at - BEFORE, GUARD, BEFORE);
 }
 
-static void keep(struct slice *s)
+/* Whether a slice is as it was lent; the bytes before it must be. */
+static bool is_same(int i)
 {
-    memcpy(s->was, s->at, s->len);
+    const struct room *s = slice_in(&lent, i);
+    for (size_t k = 1; k <= BEFORE; k++)
+        if (s->at[-(ptrdiff_t)k] != GUARD)
+            fail("written before what was lent,");
+    return memcmp(was[i], s->at, s->len) == 0;
 }
 
-/* Whether a slice is as it was lent; the bytes before it must be. */
-static bool is_same(const struct slice *s)
+static void all_read_same(void)
 {
-    for (size_t i = 1; i <= BEFORE; i++)
-        if (s->at[-(ptrdiff_t)i] != GUARD)
-            fail("written before what was lent,");
-    return memcmp(s->was, s->at, s->len) == 0;
+    for (int i = 0; i < SLICES; i++)
+        if (slices[i].use == TO_READ && !is_same(i))
+            fail("written to what was lent for reading,");
 }
 
 /* The operands of a line, one space before each. */
@@ -122,24 +116,24 @@ static size_t bytes(unsigned n)
     return len;
 }
 
-static void lend(struct slice *s, unsigned n)
+static void lend(int i, unsigned n)
 {
     size_t len = bytes(n);
-    set(s, room, len);
+    set(i, room, len);
 }
 
 /* Lines that lay out the memory, and lines that show it. */
 
 static void begin(void)
 {
-    lend(&own, 1);
-    size_t len = GAUGE_CACHE_LEN(number(2));
-    lend(&cpa, 3);
-    major = (uint8_t)number(4);
-    minor = (uint8_t)number(5);
-    memset(room, 0, len + GAUGE_WAITING_LEN);
-    set(&cache, room, len);
-    set(&waiting, room, GAUGE_WAITING_LEN);
+    memset(room, 0, sizeof room);
+    for (int i = 0; i < SLICES; i++)
+        if (slices[i].use == TO_KEEP)
+            set(i, room, i == LENT_cache ? GAUGE_CACHE_LEN(number(2)) : slices[i].usual);
+    lend(LENT_own, 1);
+    lend(LENT_cpa, 3);
+    lent.major = (uint8_t)number(4);
+    lent.minor = (uint8_t)number(5);
 }
 
 static void show_key(const uint8_t *k)
@@ -155,10 +149,10 @@ static void show_key(const uint8_t *k)
 static void held(void)
 {
     size_t i = 0;
-    for (; i + GAUGE_RECORD_LEN <= cache.len && cache.at[i + GAUGE_RECORD_COUNT] != 0; i += GAUGE_RECORD_LEN) {
+    for (; i + GAUGE_RECORD_LEN <= lent.cache.len && lent.cache.at[i + GAUGE_RECORD_COUNT] != 0; i += GAUGE_RECORD_LEN) {
         if (i > 0)
             printf(",");
-        show_key(cache.at + i);
+        show_key(lent.cache.at + i);
     }
     printf("%s", i == 0 ? "-" : "");
 }
@@ -166,8 +160,8 @@ static void held(void)
 static void waits(void)
 {
     size_t i = 0;
-    for (; i + GAUGE_PLACE_LEN <= waiting.len && waiting.at[i + 4] != 0; i += GAUGE_PLACE_LEN) {
-        const uint8_t *p = waiting.at + i;
+    for (; i + GAUGE_PLACE_LEN <= lent.waiting.len && lent.waiting.at[i + 4] != 0; i += GAUGE_PLACE_LEN) {
+        const uint8_t *p = lent.waiting.at + i;
         uint32_t id = p[0] | (uint32_t)p[1] << 8 | (uint32_t)p[2] << 16 | (uint32_t)p[3] << 24;
         printf("%s%u:%u:%u:", i > 0 ? "," : "", id, p[4], p[5]);
         show_key(p + 8);
@@ -181,53 +175,54 @@ static void fresh_output(unsigned n)
 {
     size_t len = number(n);
     memset(room, FILLED, len);
-    set(&output, room, len);
+    set(LENT_output, room, len);
 }
 
 static void before_call(void)
 {
-    struct slice *all[] = {&own, &cpa, &cache, &waiting, &nonce, &key, &datagram, &output};
-    for (size_t i = 0; i < sizeof all / sizeof *all; i++)
-        keep(all[i]);
+    for (int i = 0; i < SLICES; i++)
+        memcpy(was[i], slice_in(&lent, i)->at, slice_in(&lent, i)->len);
 }
 
-/* The answer, the bytes written, what has changed. */
+/* The answer, the bytes written, what has changed in the memory. */
 static void after_call(struct gauge_answer a, size_t used)
 {
-    if (!is_same(&own) || !is_same(&cpa) || !is_same(&nonce) || !is_same(&key) || !is_same(&datagram))
-        fail("written to what was lent for reading,");
+    struct room output = lent.output;
+    all_read_same();
     if (used > output.len)
         fail("more told than there is room for,");
-    is_same(&output);
+    is_same(LENT_output);
     printf("%u %u %u ", a.number, a.first, a.second);
     for (size_t i = 0; i < used; i++)
         printf("%02x", output.at[i]);
-    bool clean = memcmp(output.at + used, output.was + used, output.len - used) == 0;
-    printf("%s %s %s %s", used == 0 ? "-" : "", is_same(&cache) ? "same" : "changed", is_same(&waiting) ? "same" : "changed",
-           clean ? "clean" : "dirty");
+    printf("%s", used == 0 ? "-" : "");
+    for (int i = 0; i < SLICES; i++)
+        if (slices[i].use == TO_KEEP)
+            printf(" %s", is_same(i) ? "same" : "changed");
+    printf(" %s", memcmp(output.at + used, was[LENT_output] + used, output.len - used) == 0 ? "clean" : "dirty");
 }
 
 static void receive(void)
 {
-    lend(&nonce, 2);
-    lend(&key, 4);
-    lend(&datagram, 5);
+    lend(LENT_nonce, 2);
+    lend(LENT_key, 4);
+    lend(LENT_datagram, 5);
     fresh_output(6);
+    lent.id = number(1);
+    lent.verdict = number(3);
     before_call();
-    struct gauge_answer a = gauge_receive(own.at, own.len, cpa.at, cpa.len, cache.at, cache.len, waiting.at, waiting.len, major, minor, number(1),
-                                          nonce.at, nonce.len, number(3), key.at, key.len, datagram.at, datagram.len, output.at, output.len);
+    struct gauge_answer a = call_receive(gauge_receive, &lent);
     after_call(a, (size_t)a.first + a.second);
 }
 
-/* The neighbour's key is lent where a receive has its nonce. */
 static void send(void)
 {
-    lend(&nonce, 2);
-    lend(&key, 3);
+    lend(LENT_neighbour, 2);
+    lend(LENT_key, 3);
     fresh_output(4);
+    lent.id = number(1);
     before_call();
-    struct gauge_answer a = gauge_send(own.at, own.len, cache.at, cache.len, waiting.at, waiting.len, major, minor, number(1), nonce.at, nonce.len,
-                                       key.at, key.len, output.at, output.len);
+    struct gauge_answer a = call_send(gauge_send, &lent);
     after_call(a, (size_t)a.first + a.second);
 }
 
@@ -235,7 +230,7 @@ static void tick(void)
 {
     fresh_output(1);
     before_call();
-    struct gauge_answer a = gauge_tick(own.at, own.len, waiting.at, waiting.len, output.at, output.len);
+    struct gauge_answer a = call_tick(gauge_tick, &lent);
     after_call(a, 4 * (size_t)a.first);
 }
 
@@ -243,29 +238,32 @@ static void list(void)
 {
     fresh_output(1);
     before_call();
-    struct gauge_answer a = gauge_neighbours(own.at, own.len, cache.at, cache.len, output.at, output.len);
+    struct gauge_answer a = call_neighbours(gauge_neighbours, &lent);
     after_call(a, GAUGE_KEY_LEN * ((size_t)a.first + a.second));
 }
 
+/* A look has its own major version, and leaves the gauge's as it is. */
 static void look(void)
 {
-    lend(&datagram, 2);
+    struct lent looked;
+    lend(LENT_datagram, 2);
     before_call();
-    struct gauge_look l = gauge_look((uint8_t)number(1), datagram.at, datagram.len);
-    if (!is_same(&datagram))
-        fail("written to what was lent for reading,");
+    looked = lent;
+    looked.major = (uint8_t)number(1);
+    struct gauge_look l = call_look(gauge_look, &looked);
+    all_read_same();
     printf("%u %u %u %u %u %u %u %u %u %u %u %u", l.number, l.kind, l.id, l.acked, l.cpa_at, l.cpa_len, l.nonce_at, l.nonce_len, l.entry_at,
            l.entry_len, l.target_at, l.target_len);
 }
 
 static void set_cache(void)
 {
-    lend(&cache, 1);
+    lend(LENT_cache, 1);
 }
 
 static void set_waiting(void)
 {
-    lend(&waiting, 1);
+    lend(LENT_waiting, 1);
 }
 
 static const struct {
@@ -278,10 +276,8 @@ static const struct {
 
 int main(void)
 {
-    make(&cache, 8);
-    struct slice *small[] = {&own, &cpa, &waiting, &nonce, &key, &datagram, &output};
-    for (size_t i = 0; i < sizeof small / sizeof *small; i++)
-        make(small[i], 2);
+    for (int i = 0; i < SLICES; i++)
+        make(i, i == LENT_cache ? 8 : 3);
     while (fgets(line, LINE, stdin) != NULL) {
         line[strcspn(line, "\n")] = '\0';
         for (size_t i = 0; i < sizeof lines / sizeof *lines; i++) {

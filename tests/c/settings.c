@@ -41,7 +41,7 @@ static int is_below(void)
 /* One depth, put into the AUTHORITY and taken out again. NULL, or what is wrong. */
 static const char *carry(uint32_t bits, uint32_t number)
 {
-    static uint8_t out[1232];
+    static uint8_t out[GAUGE_DATAGRAM_MOST];
     struct gauge_carry a = gauge_carry(6, authority, sizeof authority, 1, bits, 3, 4, out, sizeof out);
     if (a.number != 0 || a.reading != number)
         return "it gave another number";

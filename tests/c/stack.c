@@ -20,8 +20,7 @@ __attribute__((destructor)) static void tell(void)
 
 /* Without a call between them, so that what is below is the call's alone. */
 #define PAINTED_CALL(which, type, name, parameters, arguments)                                                                                     \
-    type __real_##name parameters;                                                                                                                 \
-    type __wrap_##name parameters;                                                                                                                 \
+    __typeof__(name) __real_##name, __wrap_##name; /* so that parameters which are not the header's do not compile */                              \
     __attribute__((noinline)) type __wrap_##name parameters                                                                                        \
     {                                                                                                                                              \
         volatile uint8_t *top, *p;                                                                                                                 \

@@ -2,6 +2,7 @@
  * It is meant to be read beside the documents and is slow: a call works on a copy of all that is lent, and the copy is put back when nothing
  * refuses. */
 #include "model.h"
+#include "model_names.h"
 #include "model_read.h"
 #include <string.h>
 
@@ -32,14 +33,14 @@ static bool zero(const uint8_t *p, size_t n)
 
 static int order(const uint8_t *a, const uint8_t *b)
 {
-    return memcmp(a, b, 32);
+    return memcmp(a, b, KEY_LEN);
 }
 
 /* Keys go round (document 02, Wish 4). One key less another, modulo 2^256: byte by byte from the last, and what the first one borrows is let go. */
 static void minus(const uint8_t *a, const uint8_t *b, uint8_t *result)
 {
     int borrow = 0;
-    for (int i = 31; i >= 0; i--) {
+    for (int i = KEY_LEN - 1; i >= 0; i--) {
         int digit = a[i] - b[i] - borrow;
         borrow = digit < 0;
         result[i] = (uint8_t)(digit + 256 * borrow);
@@ -49,9 +50,9 @@ static void minus(const uint8_t *a, const uint8_t *b, uint8_t *result)
 /* "A key is above ours if (key - own) modulo 2^256 is from 1 to 2^255, else below": 2^255 is 80 and zeros. */
 static bool above(const uint8_t *own, const uint8_t *key)
 {
-    uint8_t up[32];
+    uint8_t up[KEY_LEN];
     minus(key, own, up);
-    return !zero(up, 32) && (up[0] < 0x80 || (up[0] == 0x80 && zero(up + 1, 31)));
+    return !zero(up, KEY_LEN) && (up[0] < 0x80 || (up[0] == 0x80 && zero(up + 1, KEY_LEN - 1)));
 }
 
 /* "Nearness on a side counts along that side." */
@@ -66,11 +67,11 @@ static void nearness(const uint8_t *own, const uint8_t *key, uint8_t *result)
 /* "Closeness to a target is the shorter way round"; whether that goes down from the target. */
 static bool closeness(const uint8_t *target, const uint8_t *key, uint8_t *result)
 {
-    uint8_t up[32], down[32];
+    uint8_t up[KEY_LEN], down[KEY_LEN];
     minus(key, target, up);
     minus(target, key, down);
     bool goes_down = order(down, up) <= 0;
-    memcpy(result, goes_down ? down : up, 32);
+    memcpy(result, goes_down ? down : up, KEY_LEN);
     return goes_down;
 }
 
@@ -238,7 +239,7 @@ static void flood(struct place *p, struct message *m)
     struct span s = field_of(p, 0x0043, 3);
     m->d = in(p, s, 0) & 1;
     skip(p, 1);
-    m->validate = field_of(p, 0x0039, 32);
+    m->validate = field_of(p, 0x0039, KEY_LEN);
     optional_padded(p, 0x009F);
     if (here(p, 0x009C)) {
         m->cpa = field(p, 0x009C);
@@ -254,7 +255,7 @@ static void inquire(struct place *p, struct message *m)
 {
     field_of(p, 0x0040, 2);
     skip(p, 2);
-    m->validate = field_of(p, 0x0039, 32);
+    m->validate = field_of(p, 0x0039, KEY_LEN);
     if (here(p, 0x0093))
         m->nonce = field_of(p, 0x0093, 16);
     signatures(p);
@@ -267,7 +268,7 @@ static void authority(struct place *p, struct message *m)
     unsigned size = in(p, s, 0), offset = in(p, s, 2);
     must(p, size <= 0x91E4 && offset % 1188 == 0);
     if (!p->bad && (offset != 0 || size != p->len - p->at)) {
-        m->number = 7;
+        m->number = NOT_TAKEN;
         return;
     }
     m->flags = in(p, field_of(p, 0x0040, 2), 0);
@@ -299,8 +300,8 @@ static void lookup(struct place *p, struct message *m)
     unsigned criteria = in(p, s, 4) >> 8, reason = in(p, s, 4) & 0xFF;
     must(p, criteria == 0 || criteria == 1 || criteria == 2 || criteria == 4 || criteria == 8);
     must(p, reason <= 3);
-    m->target = field_of(p, 0x0038, 32);
-    m->validate = field_of(p, 0x0039, 32);
+    m->target = field_of(p, 0x0038, KEY_LEN);
+    m->validate = field_of(p, 0x0039, KEY_LEN);
     m->entry = optional_entry(p);
     endpoints(p);
     signatures(p);
@@ -312,14 +313,14 @@ struct message read_message(uint8_t major, struct bytes datagram)
     memset(&m, 0, sizeof m);
     memset(&refused, 0, sizeof refused);
     const uint8_t *d = datagram.at;
-    if (datagram.len < 12 || datagram.len > 1232)
-        refused.number = 2;
+    if (datagram.len < DATAGRAM_LEAST || datagram.len > DATAGRAM_MOST)
+        refused.number = LENGTH;
     else if (memcmp(d, "\x00\x10\x00\x0C\x51", 5) != 0)
-        refused.number = 3;
+        refused.number = HEADER;
     else if (d[5] != major)
-        refused.number = 4;
+        refused.number = MAJOR;
     else if (!(d[7] >= 1 && d[7] <= 4) && !(d[7] >= 7 && d[7] <= 9) && d[7] != 0x0B)
-        refused.number = 5;
+        refused.number = TYPE;
     if (refused.number != 0)
         return refused;
     m.type = d[7];
@@ -335,22 +336,22 @@ struct message read_message(uint8_t major, struct bytes datagram)
     case 0x09: ack(&p, &m); break;
     default: lookup(&p, &m); break;
     }
-    if (m.number == 7) {
-        refused.number = 7;
+    if (m.number == NOT_TAKEN) {
+        refused.number = NOT_TAKEN;
         return refused;
     }
     if (p.bad || p.at != p.len) {
-        refused.number = 6;
+        refused.number = FIELD;
         return refused;
     }
     return m;
 }
 
-struct model_look model_look(uint8_t major, struct bytes datagram)
+struct model_look model_look(const struct lent *l)
 {
-    struct message m = read_message(major, datagram);
-    struct model_look l = {m.number, m.type, m.id, m.acked, m.cpa, m.nonce, m.entry, m.target};
-    return l;
+    struct message m = read_message(l->major, read_only(l->datagram));
+    struct model_look seen = {m.number, m.type, m.id, m.acked, m.cpa, m.nonce, m.entry, m.target};
+    return seen;
 }
 
 /* Lent memory (document 01 "Lent memory"). */
@@ -361,22 +362,22 @@ static bool record_form(const uint8_t *r)
     return count >= 1 && count <= 4 && r[35] == 0 && zero(r + 36 + 16 * count, 64 - 16 * count);
 }
 
-static bool own_form(struct bytes own)
+static bool own_form(struct room own)
 {
-    return own.len == 100 && record_form(own.at);
+    return own.len == RECORD_LEN && record_form(own.at);
 }
 
-static bool cache_form(const uint8_t *own, struct bytes cache)
+static bool cache_form(const uint8_t *own, struct room cache)
 {
-    if (cache.len % 100 != 0 || cache.len < 1000 || cache.len > 25600)
+    if (cache.len % RECORD_LEN != 0 || cache.len < CACHE_LEAST || cache.len > CACHE_MOST)
         return false;
-    for (size_t i = 0; i < cache.len; i += 100) {
+    for (size_t i = 0; i < cache.len; i += RECORD_LEN) {
         const uint8_t *r = cache.at + i;
-        if (zero(r, 100))
+        if (zero(r, RECORD_LEN))
             return zero(r, cache.len - i);
         if (!record_form(r) || order(r, own) == 0)
             return false;
-        if (i > 0 && order(r - 100, r) >= 0)
+        if (i > 0 && order(r - RECORD_LEN, r) >= 0)
             return false;
     }
     return true;
@@ -386,25 +387,25 @@ static bool inquiry_form(const uint8_t *own, const uint8_t *table, const uint8_t
 {
     if (!record_form(p + 40) || order(p + 8, p + 40) != 0 || order(p + 8, own) == 0)
         return false;
-    for (const uint8_t *before = table; before < p; before += 140)
+    for (const uint8_t *before = table; before < p; before += PLACE_LEN)
         if (before[4] == 2 && order(before + 8, p + 8) == 0)
             return false;
     return true;
 }
 
-static bool waiting_form(const uint8_t *own, struct bytes waiting)
+static bool waiting_form(const uint8_t *own, struct room waiting)
 {
-    if (waiting.len != 2240)
+    if (waiting.len != WAITING_LEN)
         return false;
-    for (size_t i = 0; i < 2240; i += 140) {
+    for (size_t i = 0; i < WAITING_LEN; i += PLACE_LEN) {
         const uint8_t *p = waiting.at + i;
-        if (zero(p, 140))
-            return zero(p, 2240 - i);
+        if (zero(p, PLACE_LEN))
+            return zero(p, WAITING_LEN - i);
         if (p[5] > 2 || p[6] != 0 || p[7] != 0)
             return false;
-        if (p[4] == 1 ? !zero(p + 40, 100) : p[4] == 2 ? !inquiry_form(own, waiting.at, p) : true)
+        if (p[4] == 1 ? !zero(p + 40, RECORD_LEN) : p[4] == 2 ? !inquiry_form(own, waiting.at, p) : true)
             return false;
-        if (i > 0 && four_little(p - 140) >= four_little(p))
+        if (i > 0 && four_little(p - PLACE_LEN) >= four_little(p))
             return false;
     }
     return true;
@@ -413,37 +414,44 @@ static bool waiting_form(const uint8_t *own, struct bytes waiting)
 /* The copy that a call works on. What was lent for reading stays outside of it. */
 
 struct work {
+    const struct lent *lent;
     const uint8_t *own;
-    uint8_t cache[25600], waiting[2240], out[2464];
+    uint8_t cache[CACHE_MOST], waiting[WAITING_LEN], out[OUTPUT_LEN];
     size_t most, held, waits, written;
     uint32_t lengths[2];
     int sent;
-    uint8_t major, minor;
 };
 
-static void begin(struct work *w, const uint8_t *own, const uint8_t *cache, size_t cache_len, const uint8_t *waiting)
+static void begin(struct work *w, const struct lent *l)
 {
     memset(w, 0, sizeof *w);
-    w->own = own;
-    if (cache_len > 0)
-        memcpy(w->cache, cache, cache_len);
-    w->most = cache_len / 100;
-    while (w->held < w->most && w->cache[100 * w->held + 34] != 0)
+    w->lent = l;
+    w->own = l->own.at;
+}
+
+static void copy_cache(struct work *w)
+{
+    memcpy(w->cache, w->lent->cache.at, w->lent->cache.len);
+    w->most = w->lent->cache.len / RECORD_LEN;
+    while (w->held < w->most && w->cache[RECORD_LEN * w->held + 34] != 0)
         w->held++;
-    if (waiting != NULL)
-        memcpy(w->waiting, waiting, 2240);
-    while (w->waits < 16 && w->waiting[140 * w->waits + 4] != 0)
+}
+
+static void copy_waiting(struct work *w)
+{
+    memcpy(w->waiting, w->lent->waiting.at, WAITING_LEN);
+    while (w->waits < PLACES && w->waiting[PLACE_LEN * w->waits + 4] != 0)
         w->waits++;
 }
 
 static uint8_t *record_at(struct work *w, size_t i)
 {
-    return w->cache + 100 * i;
+    return w->cache + RECORD_LEN * i;
 }
 
 static uint8_t *place_at(struct work *w, size_t i)
 {
-    return w->waiting + 140 * i;
+    return w->waiting + PLACE_LEN * i;
 }
 
 /* The held record with this key, or NULL. */
@@ -457,28 +465,28 @@ static uint8_t *held(struct work *w, const uint8_t *key)
 
 static void take_out(struct work *w, size_t i)
 {
-    memmove(record_at(w, i), record_at(w, i + 1), 100 * (w->held - i - 1));
+    memmove(record_at(w, i), record_at(w, i + 1), RECORD_LEN * (w->held - i - 1));
     w->held--;
-    memset(record_at(w, w->held), 0, 100);
+    memset(record_at(w, w->held), 0, RECORD_LEN);
 }
 
 static void remove_key(struct work *w, const uint8_t *key)
 {
     uint8_t *r = held(w, key);
     if (r != NULL)
-        take_out(w, (size_t)(r - w->cache) / 100);
+        take_out(w, (size_t)(r - w->cache) / RECORD_LEN);
 }
 
 /* Of so many records, the place of the one farthest out on a side of our own key. */
-static size_t farthest(const uint8_t *own, uint8_t (*list)[100], size_t n, bool side)
+static size_t farthest(const uint8_t *own, uint8_t (*list)[RECORD_LEN], size_t n, bool side)
 {
-    uint8_t far[32], most[32] = {0};
+    uint8_t far[KEY_LEN], most[KEY_LEN] = {0};
     size_t place = 0;
     for (size_t i = 0; i < n; i++) {
         nearness(own, list[i], far);
         if (above(own, list[i]) == side && order(far, most) > 0) {
             place = i;
-            memcpy(most, far, 32);
+            memcpy(most, far, KEY_LEN);
         }
     }
     return place;
@@ -487,41 +495,41 @@ static size_t farthest(const uint8_t *own, uint8_t (*list)[100], size_t n, bool 
 /* One more than there is room for may stand in a list of its own until one is dropped. */
 static void learn(struct work *w, const uint8_t *record)
 {
-    uint8_t list[257][100];
+    uint8_t list[257][RECORD_LEN];
     uint8_t *same = held(w, record);
     if (same != NULL) {
-        memcpy(same, record, 100);
+        memcpy(same, record, RECORD_LEN);
         return;
     }
     size_t n = 0, below = 0;
     for (size_t i = 0; i < w->held && order(record_at(w, i), record) < 0; i++)
-        memcpy(list[n++], record_at(w, i), 100);
-    memcpy(list[n++], record, 100);
+        memcpy(list[n++], record_at(w, i), RECORD_LEN);
+    memcpy(list[n++], record, RECORD_LEN);
     for (size_t i = n - 1; i < w->held; i++)
-        memcpy(list[n++], record_at(w, i), 100);
+        memcpy(list[n++], record_at(w, i), RECORD_LEN);
     for (size_t i = 0; i < n; i++)
         if (!above(w->own, list[i]))
             below++;
     if (n > w->most) {
         size_t gone = farthest(w->own, list, n, below <= n - below);
         n--;
-        memmove(list[gone], list[gone + 1], 100 * (n - gone));
+        memmove(list[gone], list[gone + 1], RECORD_LEN * (n - gone));
     }
-    memcpy(w->cache, list, 100 * n);
+    memcpy(w->cache, list, RECORD_LEN * n);
     w->held = n;
 }
 
 static const uint8_t *closest(struct work *w, const uint8_t *target)
 {
     const uint8_t *best = w->own;
-    uint8_t far[32], least[32];
+    uint8_t far[KEY_LEN], least[KEY_LEN];
     bool best_down = closeness(target, best, least);
     for (size_t i = 0; i < w->held; i++) {
         bool down = closeness(target, record_at(w, i), far);
         if (order(far, least) < 0 || (order(far, least) == 0 && down && !best_down)) {
             best = record_at(w, i);
             best_down = down;
-            memcpy(least, far, 32);
+            memcpy(least, far, KEY_LEN);
         }
     }
     return best;
@@ -546,31 +554,31 @@ static uint8_t *inquiry_for(struct work *w, const uint8_t *key)
 
 static void free_place(struct work *w, uint8_t *p)
 {
-    memmove(p, p + 140, (size_t)(place_at(w, w->waits) - p) - 140);
+    memmove(p, p + PLACE_LEN, (size_t)(place_at(w, w->waits) - p) - PLACE_LEN);
     w->waits--;
-    memset(place_at(w, w->waits), 0, 140);
+    memset(place_at(w, w->waits), 0, PLACE_LEN);
 }
 
 /* Opens a place; gives 13 or 14 where it can't. A flood has no record. */
 static uint32_t open_place(struct work *w, uint32_t id, uint8_t kind, const uint8_t *key, const uint8_t *record)
 {
     if (place_of_id(w, id) != NULL)
-        return 13;
-    if (w->waits == 16)
-        return 14;
+        return ID_WAITING;
+    if (w->waits == PLACES)
+        return FULL;
     size_t i = 0;
     while (i < w->waits && four_little(place_at(w, i)) < id)
         i++;
     uint8_t *p = place_at(w, i);
-    memmove(p + 140, p, 140 * (w->waits - i));
-    memset(p, 0, 140);
+    memmove(p + PLACE_LEN, p, PLACE_LEN * (w->waits - i));
+    memset(p, 0, PLACE_LEN);
     for (int b = 0; b < 4; b++)
         p[b] = (uint8_t)(id >> 8 * b);
     p[4] = kind;
     p[5] = 2;
-    memcpy(p + 8, key, 32);
+    memcpy(p + 8, key, KEY_LEN);
     if (record != NULL)
-        memcpy(p + 40, record, 100);
+        memcpy(p + 40, record, RECORD_LEN);
     w->waits++;
     return 0;
 }
@@ -614,8 +622,8 @@ static void put_header(struct work *w, unsigned type, uint32_t id)
     w->sent++;
     put4(w, 0x0010000C);
     put1(w, 0x51);
-    put1(w, w->major);
-    put1(w, w->minor);
+    put1(w, w->lent->major);
+    put1(w, w->lent->minor);
     put1(w, type);
     put4(w, id);
 }
@@ -639,10 +647,10 @@ static void put_entry(struct work *w, const uint8_t *record)
     unsigned count = record[34];
     put2(w, 0x009A);
     put2(w, 42 + 16 * count);
-    put(w, record, 32);
-    put1(w, w->major);
-    put1(w, w->minor);
-    put(w, record + 32, 2);
+    put(w, record, KEY_LEN);
+    put1(w, w->lent->major);
+    put1(w, w->lent->minor);
+    put(w, record + PORT, 2);
     put1(w, 0);
     put1(w, count);
     put(w, record + 36, 16 * count);
@@ -663,8 +671,8 @@ static void send_inquire(struct work *w, uint32_t id, const uint8_t *key, const 
 {
     put_header(w, 0x07, id);
     put_flags(w, 0x0010);
-    put_field(w, 0x0039, key, 32);
-    put_field(w, 0x0093, nonce, 16);
+    put_field(w, 0x0039, key, KEY_LEN);
+    put_field(w, 0x0093, nonce, NONCE_LEN);
 }
 
 static void send_authority(struct work *w, uint32_t id, uint32_t to, size_t size)
@@ -677,57 +685,63 @@ static void send_authority(struct work *w, uint32_t id, uint32_t to, size_t size
     put_flags(w, 0);
 }
 
-/* What each call does: the number, with what it changes left in the copy. 15 is tested behind them, as the highest. */
+/* What each message does: the number, with what it changes left in the copy. 15 is tested behind them, as the last in order. */
 
-static void acknowledge(struct work *w, const struct message *m, const uint8_t *d, uint32_t id)
+static void acknowledge(struct work *w, const struct message *m)
 {
+    const uint8_t *d = w->lent->datagram.at;
     if (!m->d)
-        send_ack(w, id, m->id, order(d + m->validate.at, w->own) != 0);
+        send_ack(w, w->lent->id, m->id, order(d + m->validate.at, w->own) != 0);
 }
 
-static uint32_t take_entry(struct work *w, const struct message *m, const uint8_t *d, uint32_t id, const uint8_t *nonce)
+static uint32_t take_entry(struct work *w, const struct message *m)
 {
-    const uint8_t *entry = d + m->entry.at;
-    uint8_t record[100] = {0};
-    memcpy(record, entry, 32);
-    memcpy(record + 32, entry + 34, 2);
+    const uint8_t *entry = w->lent->datagram.at + m->entry.at;
+    uint32_t id = w->lent->id;
+    uint8_t record[RECORD_LEN] = {0};
+    memcpy(record, entry, KEY_LEN);
+    memcpy(record + PORT, entry + 34, 2);
     record[34] = entry[37];
     memcpy(record + 36, entry + 38, 16 * (size_t)entry[37]);
     if (order(record, w->own) == 0)
-        return 11;
-    acknowledge(w, m, d, id);
+        return OWN_KEY;
+    acknowledge(w, m);
     const uint8_t *known = held(w, record);
-    if (known != NULL && memcmp(known, record, 100) == 0)
+    if (known != NULL && memcmp(known, record, RECORD_LEN) == 0)
         return 0;
     if (inquiry_for(w, record) != NULL)
         return 0;
-    send_inquire(w, id + 1, record, nonce);
+    send_inquire(w, id + 1, record, w->lent->nonce.at);
     return open_place(w, id + 1, 2, record, record);
 }
 
-static uint32_t take_revocation(struct work *w, const struct message *m, const uint8_t *d, uint32_t id, uint32_t verdict, const uint8_t *key)
+static uint32_t take_revocation(struct work *w, const struct message *m)
 {
+    uint32_t verdict = w->lent->verdict;
+    const uint8_t *key = w->lent->key.at;
     if (verdict != 1)
-        return 9;
+        return UNTRUSTED;
     if (order(key, w->own) == 0)
-        return 11;
+        return OWN_KEY;
     remove_key(w, key);
     uint8_t *inquiry = inquiry_for(w, key);
     if (inquiry != NULL)
         free_place(w, inquiry);
-    acknowledge(w, m, d, id);
+    acknowledge(w, m);
     return 0;
 }
 
-static uint32_t take_authority(struct work *w, const struct message *m, uint32_t verdict, const uint8_t *key)
+static uint32_t take_authority(struct work *w, const struct message *m)
 {
+    uint32_t verdict = w->lent->verdict;
+    const uint8_t *key = w->lent->key.at;
     uint8_t *p = place_of_id(w, m->acked);
     if (p == NULL || p[4] != 2)
-        return 8;
+        return STRAY;
     if (m->cpa.at == 0 || verdict != 1)
-        return 9;
+        return UNTRUSTED;
     if (order(p + 8, key) != 0)
-        return 10;
+        return OTHER_KEY;
     learn(w, p + 40);
     free_place(w, p);
     return 0;
@@ -737,31 +751,44 @@ static uint32_t take_ack(struct work *w, const struct message *m)
 {
     uint8_t *p = place_of_id(w, m->acked);
     if (p == NULL || p[4] != 1)
-        return 8;
+        return STRAY;
     if (m->n)
         remove_key(w, p + 8);
     free_place(w, p);
     return 0;
 }
 
-static uint32_t answer_inquire(struct work *w, const struct message *m, const uint8_t *d, uint32_t id, struct bytes cpa)
+static uint32_t answer_inquire(struct work *w, const struct message *m)
 {
-    if (order(d + m->validate.at, w->own) != 0)
-        return 12;
-    send_authority(w, id, m->id, 12 + cpa.len);
+    struct room cpa = w->lent->cpa;
+    if (order(w->lent->datagram.at + m->validate.at, w->own) != 0)
+        return NOT_OURS;
+    send_authority(w, w->lent->id, m->id, 12 + cpa.len);
     put_field(w, 0x009B, cpa.at, cpa.len);
     return 0;
 }
 
-static uint32_t answer_lookup(struct work *w, const struct message *m, const uint8_t *d, uint32_t id)
+static uint32_t answer_lookup(struct work *w, const struct message *m)
 {
-    const uint8_t *record = closest(w, d + m->target.at);
-    send_authority(w, id, m->id, 52 + 16 * (size_t)record[34]);
+    const uint8_t *record = closest(w, w->lent->datagram.at + m->target.at);
+    send_authority(w, w->lent->id, m->id, 52 + 16 * (size_t)record[34]);
     put_entry(w, record);
     return 0;
 }
 
-/* The calls. */
+static uint32_t take(struct work *w, const struct message *m)
+{
+    switch (m->type) {
+    case 0x04: return m->entry.at != 0 ? take_entry(w, m) : take_revocation(w, m);
+    case 0x07: return answer_inquire(w, m);
+    case 0x08: return take_authority(w, m);
+    case 0x09: return take_ack(w, m);
+    case 0x0B: return answer_lookup(w, m);
+    default: return NOT_TAKEN;
+    }
+}
+
+/* The calls. Each tests in the order in which document 01 has its numbers, and stops at the first that applies. */
 
 static struct model_answer refuse(uint32_t number)
 {
@@ -769,85 +796,73 @@ static struct model_answer refuse(uint32_t number)
     return a;
 }
 
-struct model_answer model_receive(struct bytes own, struct bytes cpa, struct room cache, struct room waiting, uint8_t major, uint8_t minor,
-                                  uint32_t id, struct bytes nonce, uint32_t verdict, struct bytes key, struct bytes datagram, struct room output)
+/* Behind all other numbers: "output needs more bytes than lent". */
+static uint32_t room_for(const struct work *w, uint32_t number)
 {
-    struct bytes cache_lent = {cache.at, cache.len}, waiting_lent = {waiting.at, waiting.len};
-    if (!own_form(own) || cpa.len < 1 || cpa.len > 1024 || nonce.len != 16 || key.len != 32)
-        return refuse(1);
-    if (!cache_form(own.at, cache_lent) || !waiting_form(own.at, waiting_lent))
-        return refuse(1);
-    struct message m = read_message(major, datagram);
+    return number == 0 && w->written > w->lent->output.len ? ROOM : number;
+}
+
+struct model_answer model_receive(const struct lent *l)
+{
+    if (!own_form(l->own) || l->cpa.len < 1 || l->cpa.len > CPA_MOST || l->nonce.len != NONCE_LEN || l->key.len != KEY_LEN)
+        return refuse(MEMORY);
+    if (!cache_form(l->own.at, l->cache) || !waiting_form(l->own.at, l->waiting))
+        return refuse(MEMORY);
+    struct message m = read_message(l->major, read_only(l->datagram));
     if (m.number != 0)
         return refuse(m.number);
     struct work w;
-    begin(&w, own.at, cache.at, cache.len, waiting.at);
-    w.major = major;
-    w.minor = minor;
-    uint32_t number = 7;
-    if (m.type == 0x04 && m.entry.at != 0)
-        number = take_entry(&w, &m, datagram.at, id, nonce.at);
-    else if (m.type == 0x04)
-        number = take_revocation(&w, &m, datagram.at, id, verdict, key.at);
-    else if (m.type == 0x07)
-        number = answer_inquire(&w, &m, datagram.at, id, cpa);
-    else if (m.type == 0x08)
-        number = take_authority(&w, &m, verdict, key.at);
-    else if (m.type == 0x09)
-        number = take_ack(&w, &m);
-    else if (m.type == 0x0B)
-        number = answer_lookup(&w, &m, datagram.at, id);
-    if (number == 0 && w.written > output.len)
-        number = 15;
+    begin(&w, l);
+    copy_cache(&w);
+    copy_waiting(&w);
+    uint32_t number = room_for(&w, take(&w, &m));
     if (number != 0)
         return refuse(number);
-    memcpy(cache.at, w.cache, cache.len);
-    memcpy(waiting.at, w.waiting, 2240);
-    memcpy(output.at, w.out, w.written);
+    memcpy(l->cache.at, w.cache, l->cache.len);
+    memcpy(l->waiting.at, w.waiting, WAITING_LEN);
+    memcpy(l->output.at, w.out, w.written);
     struct model_answer a = {0, w.lengths[0], w.lengths[1]};
     return a;
 }
 
-struct model_answer model_send(struct bytes own, struct bytes cache, struct room waiting, uint8_t major, uint8_t minor, uint32_t id,
-                               struct bytes neighbour, struct bytes key, struct room output)
+struct model_answer model_send(const struct lent *l)
 {
-    struct bytes waiting_lent = {waiting.at, waiting.len};
-    if (!own_form(own) || neighbour.len != 32 || key.len != 32)
-        return refuse(1);
-    if (!cache_form(own.at, cache) || !waiting_form(own.at, waiting_lent))
-        return refuse(1);
+    if (!own_form(l->own) || l->neighbour.len != KEY_LEN || l->key.len != KEY_LEN)
+        return refuse(MEMORY);
+    if (!cache_form(l->own.at, l->cache) || !waiting_form(l->own.at, l->waiting))
+        return refuse(MEMORY);
     struct work w;
-    begin(&w, own.at, cache.at, cache.len, waiting.at);
-    w.major = major;
-    w.minor = minor;
-    const uint8_t *record = order(key.at, own.at) == 0 ? own.at : held(&w, key.at);
-    if (held(&w, neighbour.at) == NULL || record == NULL)
-        return refuse(12);
-    uint32_t number = open_place(&w, id, 1, neighbour.at, NULL);
-    put_header(&w, 0x04, id);
+    begin(&w, l);
+    copy_cache(&w);
+    copy_waiting(&w);
+    const uint8_t *neighbour = l->neighbour.at;
+    const uint8_t *record = order(l->key.at, l->own.at) == 0 ? l->own.at : held(&w, l->key.at);
+    if (held(&w, neighbour) == NULL || record == NULL)
+        return refuse(NOT_OURS);
+    uint32_t number = open_place(&w, l->id, 1, neighbour, NULL);
+    put_header(&w, 0x04, l->id);
     put4(&w, 0x00430007);
     put4(&w, 0);
-    put_field(&w, 0x0039, neighbour.at, 32);
+    put_field(&w, 0x0039, neighbour, KEY_LEN);
     put_entry(&w, record);
-    if (number == 0 && w.written > output.len)
-        number = 15;
+    number = room_for(&w, number);
     if (number != 0)
         return refuse(number);
-    memcpy(waiting.at, w.waiting, 2240);
-    memcpy(output.at, w.out, w.written);
+    memcpy(l->waiting.at, w.waiting, WAITING_LEN);
+    memcpy(l->output.at, w.out, w.written);
     struct model_answer a = {0, w.lengths[0], 0};
     return a;
 }
 
-struct model_answer model_tick(struct bytes own, struct room waiting, struct room output)
+struct model_answer model_tick(const struct lent *l)
 {
-    struct bytes waiting_lent = {waiting.at, waiting.len};
-    if (!own_form(own) || !waiting_form(own.at, waiting_lent))
-        return refuse(1);
-    if (output.len < 64)
-        return refuse(15);
+    if (!own_form(l->own) || !waiting_form(l->own.at, l->waiting))
+        return refuse(MEMORY);
+    if (l->output.len < TICK_LEN)
+        return refuse(ROOM);
     struct work w;
-    begin(&w, own.at, NULL, 0, waiting.at);
+    begin(&w, l);
+    copy_waiting(&w);
     struct model_answer a = {0, 0, 0};
     size_t i = 0;
     while (i < w.waits) {
@@ -856,19 +871,19 @@ struct model_answer model_tick(struct bytes own, struct room waiting, struct roo
             free_place(&w, p);
         } else {
             p[5]--;
-            memcpy(output.at + 4 * a.first, p, 4);
+            memcpy(l->output.at + 4 * a.first, p, 4);
             a.first++;
             i++;
         }
     }
-    memcpy(waiting.at, w.waiting, 2240);
+    memcpy(l->waiting.at, w.waiting, WAITING_LEN);
     return a;
 }
 
 /* Up to five keys of a side, nearest first: each the nearest of those farther out than the one before. Gives how many. */
 static uint32_t list_side(struct work *w, bool side, uint8_t *to)
 {
-    uint8_t last[32] = {0}, far[32], least[32];
+    uint8_t last[KEY_LEN] = {0}, far[KEY_LEN], least[KEY_LEN];
     uint32_t n = 0;
     for (; n < 5; n++) {
         const uint8_t *next = NULL;
@@ -877,26 +892,27 @@ static uint32_t list_side(struct work *w, bool side, uint8_t *to)
             if (above(w->own, record_at(w, i)) != side || order(far, last) <= 0 || (next != NULL && order(far, least) >= 0))
                 continue;
             next = record_at(w, i);
-            memcpy(least, far, 32);
+            memcpy(least, far, KEY_LEN);
         }
         if (next == NULL)
             break;
-        memcpy(to + 32 * n, next, 32);
-        memcpy(last, least, 32);
+        memcpy(to + KEY_LEN * n, next, KEY_LEN);
+        memcpy(last, least, KEY_LEN);
     }
     return n;
 }
 
-struct model_answer model_neighbours(struct bytes own, struct bytes cache, struct room output)
+struct model_answer model_neighbours(const struct lent *l)
 {
-    if (!own_form(own) || !cache_form(own.at, cache))
-        return refuse(1);
-    if (output.len < 320)
-        return refuse(15);
+    if (!own_form(l->own) || !cache_form(l->own.at, l->cache))
+        return refuse(MEMORY);
+    if (l->output.len < LIST_LEN)
+        return refuse(ROOM);
     struct work w;
-    begin(&w, own.at, cache.at, cache.len, NULL);
+    begin(&w, l);
+    copy_cache(&w);
     struct model_answer a = {0, 0, 0};
-    a.first = list_side(&w, false, output.at);
-    a.second = list_side(&w, true, output.at + 32 * a.first);
+    a.first = list_side(&w, false, l->output.at);
+    a.second = list_side(&w, true, l->output.at + KEY_LEN * a.first);
     return a;
 }

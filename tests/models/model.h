@@ -1,20 +1,9 @@
 /* The gauge once more, in plain C, from the documents alone: what tests/nights/compare.c holds the archive against. It shares no code and no constant
- * with anything else, include/gauge.h neither. The five calls have the same arguments in the same order, each slice as one value. */
+ * with anything else, include/gauge.h neither, but for the struct of all that is lent (tests/models/lent.h), of which a call uses what is its own. */
 #ifndef MODEL_H
 #define MODEL_H
 
-#include <stddef.h>
-#include <stdint.h>
-
-/* Lent for reading; lent for writing too. */
-struct bytes {
-    const uint8_t *at;
-    size_t len;
-};
-struct room {
-    uint8_t *at;
-    size_t len;
-};
+#include "lent.h"
 
 struct model_answer {
     uint32_t number, first, second;
@@ -30,12 +19,10 @@ struct model_look {
     struct span cpa, nonce, entry, target;
 };
 
-struct model_answer model_receive(struct bytes own, struct bytes cpa, struct room cache, struct room waiting, uint8_t major, uint8_t minor,
-                                  uint32_t id, struct bytes nonce, uint32_t verdict, struct bytes key, struct bytes datagram, struct room output);
-struct model_answer model_send(struct bytes own, struct bytes cache, struct room waiting, uint8_t major, uint8_t minor, uint32_t id,
-                               struct bytes neighbour, struct bytes key, struct room output);
-struct model_answer model_tick(struct bytes own, struct room waiting, struct room output);
-struct model_answer model_neighbours(struct bytes own, struct bytes cache, struct room output);
-struct model_look model_look(uint8_t major, struct bytes datagram);
+struct model_answer model_receive(const struct lent *l);
+struct model_answer model_send(const struct lent *l);
+struct model_answer model_tick(const struct lent *l);
+struct model_answer model_neighbours(const struct lent *l);
+struct model_look model_look(const struct lent *l);
 
 #endif

@@ -643,7 +643,6 @@ def ticked(places):
 
 
 # --- The calls -------------------------------------------------------------------------------------------------------------
-# Each hands back number, first, second, and cache, waiting table and output after it (None for what it is not lent).
 
 # 01: "the INQUIRE's is one more, and 4294967295 is followed by 0".
 def next_id(identity):
@@ -659,81 +658,6 @@ def no_place(places, identity):
     return 0
 
 
-# 01: "If D is clear, an ACK is written, N set when the validate key is not ours." "A call that sends an ACK writes the second field only where
-# N is set."
-def acks(own, m, major, minor, identity):
-    if m["d"]:
-        return []
-    n = True if value(m["validate"]) != key_of(own) else None
-    return [write(message("ack", major, minor, identity, acked=m["id"], n=n))]
-
-
-# What a message does, number 15 apart: the number, the datagrams to send, the records and the places after it.
-
-# 01, "FLOOD with a route entry"; number 11.
-def on_route(own, records, places, m, major, minor, identity, nonce):
-    record = record_of(m["route"])
-    key = key_of(record)
-    if key == key_of(own):
-        return 11, [], records, places
-    sent = acks(own, m, major, minor, identity)
-    if record in records or waiting_inquiry(places, key):
-        return 0, sent, records, places
-    asked = next_id(identity)
-    number = no_place(places, asked)
-    if number != 0:
-        return number, [], records, places
-    inquire = write(message("inquire", major, minor, asked, a=True, validate=record[:32], nonce=nonce))
-    return 0, sent + [inquire], records, opened(places, place(asked, 2, 2, record[:32], record))
-
-
-# 01, "FLOOD with a revocation": "Verdict 1 names the key. It is removed if held, a waiting inquiry for it is freed, and the ACK is as above."
-# Numbers 9 and 11, in this order (D30).
-def on_revoke(own, records, places, m, major, minor, identity, verdict, key):
-    if verdict != 1:
-        return 9, [], records, places
-    if value(key) == key_of(own):
-        return 11, [], records, places
-    for p in waiting_inquiry(places, value(key)):
-        places = freed(places, p["id"])
-    return 0, acks(own, m, major, minor, identity), removed(records, value(key)), places
-
-
-# 01, "AUTHORITY": "The inquiry's record is learned and its place freed. Nothing is sent." Numbers 8, 9, 10.
-def on_authority(own, records, places, m, verdict, key, c):
-    found_places = waiting_id(places, 2, m["acked"])
-    if not found_places:
-        return 8, [], records, places
-    if m["cpa"] is None or verdict != 1:
-        return 9, [], records, places
-    if value(key) != value(found_places[0]["key"]):
-        return 10, [], records, places
-    return 0, [], learned(own, records, found_places[0]["record"], c), freed(places, m["acked"])
-
-
-# 01, "ACK": "The flood's place is freed. With N set its key is removed if held." Number 8.
-def on_ack(records, places, m):
-    found_places = waiting_id(places, 1, m["acked"])
-    if not found_places:
-        return 8, [], records, places
-    if m["n"]:
-        records = removed(records, value(found_places[0]["key"]))
-    return 0, [], records, freed(places, m["acked"])
-
-
-# 01, "INQUIRE": "One AUTHORITY with the own CPA." Number 12.
-def on_inquire(own, cpa, records, places, m, major, minor, identity):
-    if value(m["validate"]) != key_of(own):
-        return 12, [], records, places
-    return 0, [write(message("authority", major, minor, identity, acked=m["id"], cpa=cpa))], records, places
-
-
-# 01, "LOOKUP": "One AUTHORITY with the record closest to the target, the own record included".
-def on_lookup(own, records, places, m, major, minor, identity):
-    shown = entry_of(closest(own, records, value(m["target"])), major, minor)
-    return 0, [write(message("authority", major, minor, identity, acked=m["id"], route=shown))], records, places
-
-
 # 01, number 15: "output needs more bytes than lent, or a datagram over 1,232". D29: the sum of both lengths.
 def too_long(sent, output):
     return sum(len(d) for d in sent) > len(output) or any(len(d) > 1232 for d in sent)
@@ -744,83 +668,190 @@ def over(written, output):
     return written + output[len(written):]
 
 
-# 01: "The lowest number that applies is given. With any refusal the counts returned are 0, .. and every writable byte stays as lent."
-def receive(own, cpa, cache, waiting, major, minor, identity, nonce, verdict, key, datagram, output):
-    def refused(number):
-        return number, 0, 0, cache, waiting, output
+class Lent:
+    """What is lent to a receive or a send beside the gauge's own: one more slice to read is one more attribute."""
 
-    records, places = held(own, cache), waits(own, waiting)
-    if not record_form(own) or len(cpa) < 1 or len(cpa) > 1024 or records is None or places is None or len(nonce) != 16 or len(key) != 32:
-        return refused(1)
-    number, m = read(datagram, major)
-    if number != 0:
-        return refused(number)
-    if m["type"] in ("solicit", "advertise", "request"):
-        return refused(7)
-    if m["type"] == "flood" and m["route"] is not None:
-        number, sent, records, places = on_route(own, records, places, m, major, minor, identity, nonce)
-    elif m["type"] == "flood":
-        number, sent, records, places = on_revoke(own, records, places, m, major, minor, identity, verdict, key)
-    elif m["type"] == "authority":
-        number, sent, records, places = on_authority(own, records, places, m, verdict, key, len(cache) // 100)
-    elif m["type"] == "ack":
-        number, sent, records, places = on_ack(records, places, m)
-    elif m["type"] == "inquire":
-        number, sent, records, places = on_inquire(own, cpa, records, places, m, major, minor, identity)
-    else:
-        number, sent, records, places = on_lookup(own, records, places, m, major, minor, identity)
-    if number != 0:
-        return refused(number)
-    if too_long(sent, output):
-        return refused(15)
-    first, second = ([len(d) for d in sent] + [0, 0])[:2]
-    return 0, first, second, cache_of(records, len(cache)), waiting_of(places), over(b"".join(sent), output)
+    def __init__(self, identity=0, nonce=bytes(16), verdict=0, key=bytes(32), neighbour=bytes(32), datagram=b""):
+        self.identity, self.nonce, self.verdict, self.key, self.neighbour, self.datagram = identity, nonce, verdict, key, neighbour, datagram
 
 
-# 01, "Sending a FLOOD": "D clear, validate key the neighbour's, one record, empty list of those already reached; a place with the neighbour's
-# key opens with two tries left." Number 12: "a FLOOD to send whose neighbour is not held, or whose record is neither ours nor held".
-def send(own, cache, waiting, major, minor, identity, neighbour, key, output):
-    def refused(number):
-        return number, 0, 0, cache, waiting, output
+class State:
+    """The memory as a call works on it: records held and places that wait; None for what is out of form. `sent` are the datagrams to send."""
 
-    records, places = held(own, cache), waits(own, waiting)
-    if not record_form(own) or records is None or places is None or len(neighbour) != 32 or len(key) != 32:
-        return refused(1)
-    if value(neighbour) not in [key_of(r) for r in records]:
-        return refused(12)
-    named = [r for r in [own] + records if key_of(r) == value(key)]
-    if not named:
-        return refused(12)
-    number = no_place(places, identity)
-    if number != 0:
-        return refused(number)
-    flood = write(message("flood", major, minor, identity, validate=neighbour, route=entry_of(named[0], major, minor)))
-    if too_long([flood], output):
-        return refused(15)
-    return 0, len(flood), 0, cache, waiting_of(opened(places, place(identity, 1, 2, neighbour))), over(flood, output)
+    def __init__(self, gauge):
+        self.records, self.places, self.sent = held(gauge.own, gauge.cache), waits(gauge.own, gauge.waiting), []
 
 
-# 01, "Tick": "The list needs room for 16 numbers of 32 bits, else 15; how many are listed is returned." D25: little-endian.
-def tick(own, waiting, output):
-    places = waits(own, waiting)
-    if not record_form(own) or places is None:
-        return 1, 0, 0, None, waiting, output
-    if len(output) < 64:
-        return 15, 0, 0, None, waiting, output
-    ids, left = ticked(places)
-    return 0, len(ids), 0, None, waiting_of(left), over(b"".join(i.to_bytes(4, "little") for i in ids), output)
+class Gauge:
+    """A gauge: its own record and CPA, its versions, and the memory that a host keeps for it. One more memory is one more attribute, here and in
+    State, and a name in MEMORIES.
 
+    Each call hands back number, first, second and the output after it. 01: "With any refusal the counts returned are 0, .. and every writable byte
+    stays as lent": only what was accepted is kept."""
 
-# 01, "Neighbour list": "Up to five keys below, then up to five above, nearest first, 32 bytes each; both counts returned. .. Output shorter
-# than 320 bytes: 15."
-def neighbours(own, cache, output):
-    records = held(own, cache)
-    if not record_form(own) or records is None:
-        return 1, 0, 0, cache, None, output
-    if len(output) < 320:
-        return 15, 0, 0, cache, None, output
-    below, above = nearest(own, records)
-    return 0, len(below), len(above), cache, None, over(b"".join(k.to_bytes(32, "big") for k in below + above), output)
+    MEMORIES = ("cache", "waiting")
+
+    def __init__(self, own, cache=bytes(1000), waiting=bytes(2240), cpa=bytes(1), major=6, minor=101):
+        self.own, self.cpa, self.major, self.minor = own, cpa, major, minor
+        self.cache, self.waiting = cache, waiting
+
+    def memory(self):
+        return [getattr(self, name) for name in self.MEMORIES]
+
+    def keep(self, state):
+        if state.records is not None:
+            self.cache = cache_of(state.records, len(self.cache))
+        if state.places is not None:
+            self.waiting = waiting_of(state.places)
+
+    # 01, number 1: "lent memory is not as above".
+    def receive_form(self, state, lent):
+        return (record_form(self.own) and 1 <= len(self.cpa) <= 1024 and state.records is not None and state.places is not None
+                and len(lent.nonce) == 16 and len(lent.key) == 32)
+
+    # 01: "The lowest number that applies is given."
+    def receive(self, lent, output):
+        state = State(self)
+        if not self.receive_form(state, lent):
+            return 1, 0, 0, output
+        number, m = read(lent.datagram, self.major)
+        if number == 0:
+            number = self.take(state, m, lent)
+        if number == 0 and too_long(state.sent, output):
+            number = 15
+        if number != 0:
+            return number, 0, 0, output
+        self.keep(state)
+        first, second = ([len(d) for d in state.sent] + [0, 0])[:2]
+        return 0, first, second, over(b"".join(state.sent), output)
+
+    # What a message does, number 15 apart: the number; what it sends and changes is in the state.
+    def take(self, state, m, lent):
+        if m["type"] == "flood":
+            return self.on_route(state, m, lent) if m["route"] is not None else self.on_revoke(state, m, lent)
+        on = {"authority": self.on_authority, "ack": self.on_ack, "inquire": self.on_inquire, "lookup": self.on_lookup}
+        return on[m["type"]](state, m, lent) if m["type"] in on else 7
+
+    # A message of ours, put behind those that are to be sent.
+    def sends(self, state, kind, identity, **fields):
+        state.sent.append(write(message(kind, self.major, self.minor, identity, **fields)))
+
+    # 01: "If D is clear, an ACK is written, N set when the validate key is not ours." "A call that sends an ACK writes the second field only where
+    # N is set."
+    def acks(self, state, m, lent):
+        if not m["d"]:
+            n = True if value(m["validate"]) != key_of(self.own) else None
+            self.sends(state, "ack", lent.identity, acked=m["id"], n=n)
+
+    # 01, "FLOOD with a route entry"; number 11.
+    def on_route(self, state, m, lent):
+        record = record_of(m["route"])
+        key = key_of(record)
+        if key == key_of(self.own):
+            return 11
+        self.acks(state, m, lent)
+        if record in state.records or waiting_inquiry(state.places, key):
+            return 0
+        asked = next_id(lent.identity)
+        number = no_place(state.places, asked)
+        if number != 0:
+            return number
+        self.sends(state, "inquire", asked, a=True, validate=record[:32], nonce=lent.nonce)
+        state.places = opened(state.places, place(asked, 2, 2, record[:32], record))
+        return 0
+
+    # 01, "FLOOD with a revocation": "Verdict 1 names the key. It is removed if held, a waiting inquiry for it is freed, and the ACK is as above."
+    # Numbers 9 and 11, in this order (D30).
+    def on_revoke(self, state, m, lent):
+        if lent.verdict != 1:
+            return 9
+        if value(lent.key) == key_of(self.own):
+            return 11
+        for p in waiting_inquiry(state.places, value(lent.key)):
+            state.places = freed(state.places, p["id"])
+        state.records = removed(state.records, value(lent.key))
+        self.acks(state, m, lent)
+        return 0
+
+    # 01, "AUTHORITY": "The inquiry's record is learned and its place freed. Nothing is sent." Numbers 8, 9, 10.
+    def on_authority(self, state, m, lent):
+        found_places = waiting_id(state.places, 2, m["acked"])
+        if not found_places:
+            return 8
+        if m["cpa"] is None or lent.verdict != 1:
+            return 9
+        if value(lent.key) != value(found_places[0]["key"]):
+            return 10
+        state.records = learned(self.own, state.records, found_places[0]["record"], len(self.cache) // 100)
+        state.places = freed(state.places, m["acked"])
+        return 0
+
+    # 01, "ACK": "The flood's place is freed. With N set its key is removed if held." Number 8.
+    def on_ack(self, state, m, lent):
+        found_places = waiting_id(state.places, 1, m["acked"])
+        if not found_places:
+            return 8
+        if m["n"]:
+            state.records = removed(state.records, value(found_places[0]["key"]))
+        state.places = freed(state.places, m["acked"])
+        return 0
+
+    # 01, "INQUIRE": "One AUTHORITY with the own CPA." Number 12.
+    def on_inquire(self, state, m, lent):
+        if value(m["validate"]) != key_of(self.own):
+            return 12
+        self.sends(state, "authority", lent.identity, acked=m["id"], cpa=self.cpa)
+        return 0
+
+    # 01, "LOOKUP": "One AUTHORITY with the record closest to the target, the own record included".
+    def on_lookup(self, state, m, lent):
+        shown = entry_of(closest(self.own, state.records, value(m["target"])), self.major, self.minor)
+        self.sends(state, "authority", lent.identity, acked=m["id"], route=shown)
+        return 0
+
+    # 01, "Sending a FLOOD": "D clear, validate key the neighbour's, one record, empty list of those already reached; a place with the neighbour's
+    # key opens with two tries left." Number 12: "a FLOOD to send whose neighbour is not held, or whose record is neither ours nor held".
+    def send(self, lent, output):
+        state = State(self)
+        bad = len(lent.neighbour) != 32 or len(lent.key) != 32
+        if not record_form(self.own) or state.records is None or state.places is None or bad:
+            return 1, 0, 0, output
+        named = [r for r in [self.own] + state.records if key_of(r) == value(lent.key)]
+        if value(lent.neighbour) not in [key_of(r) for r in state.records] or not named:
+            return 12, 0, 0, output
+        number = no_place(state.places, lent.identity)
+        if number != 0:
+            return number, 0, 0, output
+        self.sends(state, "flood", lent.identity, validate=lent.neighbour, route=entry_of(named[0], self.major, self.minor))
+        if too_long(state.sent, output):
+            return 15, 0, 0, output
+        state.places = opened(state.places, place(lent.identity, 1, 2, lent.neighbour))
+        self.keep(state)
+        return 0, len(state.sent[0]), 0, over(state.sent[0], output)
+
+    # 01, "Tick": "The list needs room for 16 numbers of 32 bits, else 15; how many are listed is returned." D25: little-endian. A tick is not lent
+    # the cache: what is in it does not matter, and stays.
+    def tick(self, output):
+        state = State(self)
+        state.records = None
+        if not record_form(self.own) or state.places is None:
+            return 1, 0, 0, output
+        if len(output) < 64:
+            return 15, 0, 0, output
+        ids, state.places = ticked(state.places)
+        self.keep(state)
+        return 0, len(ids), 0, over(b"".join(i.to_bytes(4, "little") for i in ids), output)
+
+    # 01, "Neighbour list": "Up to five keys below, then up to five above, nearest first, 32 bytes each; both counts returned. .. Output shorter
+    # than 320 bytes: 15."
+    def neighbours(self, output):
+        state = State(self)
+        if not record_form(self.own) or state.records is None:
+            return 1, 0, 0, output
+        if len(output) < 320:
+            return 15, 0, 0, output
+        below, above = nearest(self.own, state.records)
+        return 0, len(below), len(above), over(b"".join(k.to_bytes(32, "big") for k in below + above), output)
 
 
 # --- Looking ---------------------------------------------------------------------------------------------------------------
@@ -876,8 +907,7 @@ def check_cases():
     # 1 and 2
     assert nearest(rec(100), recs([60, 70, 80, 90, 95, 99, 101, 110])) == ([99, 95, 90, 80, 70], [101, 110])
     assert nearest(rec(100), []) == ([], [])
-    empty = bytes(1000)
-    assert neighbours(rec(100), empty, bytes(320)) == (0, 0, 0, empty, None, bytes(320))
+    assert Gauge(rec(100)).neighbours(bytes(320)) == (0, 0, 0, bytes(320))
     # 3, 4, 5
     assert keys(learned(rec(100), recs(range(90, 100)), rec(101), 10)) == list(range(91, 100)) + [101]
     assert keys(learned(rec(100), recs(range(90, 100)), rec(89), 10)) == list(range(90, 100))
@@ -906,16 +936,14 @@ def check_cases():
     assert read(plain[:11], 6)[0] == 2 and read(plain + bytes(1213), 6)[0] == 2 and read(plain[:12], 6)[0] == 6
     assert len(plain + bytes(1213)) == 1233
     # 14
-    own, cpa, nonce, zero = rec(100), b"C", bytes(16), bytes(32)
     full = waiting_of([place(i, 1, 2, k(7)) for i in range(1, 17)])
-    flood = write(message("flood", 6, 101, 500, validate=k(100), route=entry_of(rec(70), 6, 101)))
-    ack = write(message("ack", 6, 101, 9, acked=5))
+    flood = Lent(600, datagram=write(message("flood", 6, 101, 500, validate=k(100), route=entry_of(rec(70), 6, 101))))
+    ack = Lent(600, datagram=write(message("ack", 6, 101, 9, acked=5)))
     out = b"\xEE" * 200
-    assert receive(own, cpa, empty, full, 6, 101, 600, nonce, 0, zero, flood, out) == (14, 0, 0, empty, full, out)
-    number, first, second, cache, table, after = receive(own, cpa, empty, full, 6, 101, 600, nonce, 0, zero, ack, out)
-    assert (number, first, second, cache, after) == (0, 0, 0, empty, out) and len(waits(own, table)) == 15
-    number, first, second, cache, table, after = receive(own, cpa, empty, table, 6, 101, 600, nonce, 0, zero, flood, out)
-    assert (number, first, second, cache) == (0, 20, 76, empty) and len(waits(own, table)) == 16
+    g = Gauge(rec(100), waiting=full, cpa=b"C")
+    assert g.receive(flood, out) == (14, 0, 0, out) and (g.cache, g.waiting) == (bytes(1000), full)
+    assert g.receive(ack, out) == (0, 0, 0, out) and g.cache == bytes(1000) and len(waits(g.own, g.waiting)) == 15
+    assert g.receive(flood, out)[:3] == (0, 20, 76) and g.cache == bytes(1000) and len(waits(g.own, g.waiting)) == 16
 
 
 def check_ring():

@@ -1,13 +1,15 @@
 /* A recorded night made again (tests/models/model_night.h). A trace is records: length (2 bytes, counting what follows), kind (2), body; numbers have
  * their least significant byte first. */
 #include "model_night.h"
+#include "model_names.h"
 #include <stdbool.h>
 #include <string.h>
 
-/* 02: "Start empty with C 64 and an output of 2,464 bytes"; "the own CPA is one zero byte". */
+/* 02: "Start empty with C 64 and an output of 2,464 bytes"; "the own CPA is one zero byte". What a record says is lent from a copy of its body. */
 struct night {
     bool begun;
-    uint8_t major, minor, own[100], cache[64 * 100], waiting[16 * 140], output[2464];
+    uint8_t own[RECORD_LEN], cpa[1], cache[64 * RECORD_LEN], waiting[WAITING_LEN], output[OUTPUT_LEN], body[65536];
+    struct lent lent;
 };
 
 static unsigned two(const uint8_t *p)
@@ -30,10 +32,10 @@ static bool known(unsigned kind)
 static bool right_length(unsigned kind, size_t body)
 {
     switch (kind) {
-    case 1: return body >= 4 + 1 + 32 + 16;
-    case 2: return body == 4 + 32 + 32;
+    case 1: return body >= 4 + 1 + KEY_LEN + NONCE_LEN;
+    case 2: return body == 4 + KEY_LEN + KEY_LEN;
     case 3: return body == 0;
-    default: return body == 102;
+    default: return body == 2 + RECORD_LEN;
     }
 }
 
@@ -63,23 +65,36 @@ static struct bytes part(const uint8_t *at, size_t len)
 static void begin(struct night *n, const uint8_t *body)
 {
     n->begun = true;
-    n->major = body[0];
-    n->minor = body[1];
-    memcpy(n->own, body + 2, 100);
+    memcpy(n->own, body + 2, RECORD_LEN);
+    n->lent.major = body[0];
+    n->lent.minor = body[1];
+    n->lent.own = as_room(n->own, sizeof n->own);
+    n->lent.cpa = as_room(n->cpa, sizeof n->cpa);
+    n->lent.cache = as_room(n->cache, sizeof n->cache);
+    n->lent.waiting = as_room(n->waiting, sizeof n->waiting);
+    n->lent.output = as_room(n->output, sizeof n->output);
 }
 
 static uint32_t call(struct night *n, unsigned kind, struct bytes body)
 {
-    static const uint8_t cpa[1] = {0};
-    struct bytes own = part(n->own, 100), held = part(n->cache, sizeof n->cache);
-    struct room cache = {n->cache, sizeof n->cache}, waiting = {n->waiting, sizeof n->waiting}, output = {n->output, sizeof n->output};
-    const uint8_t *b = body.at;
-    if (kind == 1)
-        return model_receive(own, part(cpa, 1), cache, waiting, n->major, n->minor, four(b), part(b + 37, 16), b[4], part(b + 5, 32),
-                             part(b + 53, body.len - 53), output).number;
-    if (kind == 2)
-        return model_send(own, held, waiting, n->major, n->minor, four(b), part(b + 4, 32), part(b + 36, 32), output).number;
-    return model_tick(own, waiting, output).number;
+    struct lent *l = &n->lent;
+    uint8_t *b = n->body;
+    memcpy(b, body.at, body.len);
+    if (kind == 1) {
+        l->id = four(b);
+        l->verdict = b[4];
+        l->key = as_room(b + 5, KEY_LEN);
+        l->nonce = as_room(b + 37, NONCE_LEN);
+        l->datagram = as_room(b + 53, body.len - 53);
+        return model_receive(l).number;
+    }
+    if (kind == 2) {
+        l->id = four(b);
+        l->neighbour = as_room(b + 4, KEY_LEN);
+        l->key = as_room(b + 36, KEY_LEN);
+        return model_send(l).number;
+    }
+    return model_tick(l).number;
 }
 
 /* 02: "writes for each later record its number from 1, a space and the answer"; a refusal "is written as that record's line, the replay stops there

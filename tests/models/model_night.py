@@ -38,24 +38,18 @@ def taken(trace, at):
     return int.from_bytes(trace[at + 2:at + 4], "little"), trace[at + 4:at + 2 + length], at + 2 + length
 
 
-class Night:
+class Night(model.Gauge):
     def __init__(self, body):
-        self.major, self.minor, self.own = body[0], body[1], body[2:]
-        self.cache, self.waiting = bytes(100 * C), bytes(2240)
+        super().__init__(body[2:], bytes(100 * C), cpa=CPA, major=body[0], minor=body[1])
 
     def call(self, kind, body):
         identity, output = int.from_bytes(body[:4], "little"), bytes(OUTPUT)
         if kind == 1:
-            answer = model.receive(self.own, CPA, self.cache, self.waiting, self.major, self.minor, identity, body[37:53], body[4], body[5:37],
-                                   body[53:], output)
-        elif kind == 2:
-            answer = model.send(self.own, self.cache, self.waiting, self.major, self.minor, identity, body[4:36], body[36:68], output)
-        else:
-            answer = model.tick(self.own, self.waiting, output)
-        if answer[3] is not None:
-            self.cache = answer[3]
-        self.waiting = answer[4]
-        return answer[0]
+            lent = model.Lent(identity, nonce=body[37:53], verdict=body[4], key=body[5:37], datagram=body[53:])
+            return self.receive(lent, output)[0]
+        if kind == 2:
+            return self.send(model.Lent(identity, neighbour=body[4:36], key=body[36:68]), output)[0]
+        return self.tick(output)[0]
 
 
 # 02: "each is written as that record's line, the replay stops there with the state so far, a bad first record has line number 0, an empty trace
@@ -145,7 +139,7 @@ def main():
         return
     lines, night = replay(open(sys.argv[-1], "rb").read())
     if sys.argv[1] == "--list":
-        below, above = model.nearest(night.own, model.held(night.own, night.cache))
+        below, above = model.nearest(night.own, model.State(night).records)
         print(" ".join(str((k >> 248) // 4) for k in below + above))  # examples/hill.c: a key begins with 4 times the pond's number
     else:
         sys.stdout.write(text(lines))

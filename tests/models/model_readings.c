@@ -1,6 +1,7 @@
 /* Readings carried once more (tests/models/model_readings.h), over the reader of tests/models/model.c. A reading is packed with the least significant
  * byte first, a datagram with the most significant. */
 #include "model_readings.h"
+#include "model_names.h"
 #include "model_read.h"
 #include <string.h>
 
@@ -153,15 +154,14 @@ static void put_authority(struct written *w, const struct message *m, const uint
 /* The number of a datagram that should be an AUTHORITY: that of reading it, and 5 for another message. */
 static uint32_t authority_number(const struct message *m)
 {
-    return m->number != 0 ? m->number : m->type != 0x08 ? 5 : 0;
+    return m->number != 0 ? m->number : m->type != 0x08 ? TYPE : 0;
 }
 
-struct model_carry model_carry(uint8_t major, struct bytes authority, uint32_t kind, uint32_t measure, uint32_t litres_in, uint32_t litres_out,
-                               struct room output)
+struct model_carry model_carry(const struct lent *l)
 {
     struct model_carry a = {0, 0, 0};
-    struct message m = read_message(major, authority);
-    struct reading r = {kind, measure, litres_in, litres_out};
+    struct message m = read_message(l->major, read_only(l->datagram));
+    struct reading r = {l->kind, l->measure, l->litres_in, l->litres_out};
     uint8_t payload[16];
     size_t payload_len = 0;
     a.number = authority_number(&m);
@@ -171,25 +171,25 @@ struct model_carry model_carry(uint8_t major, struct bytes authority, uint32_t k
     if (a.reading != 0)
         return a;
     struct written w = {{0}, 0};
-    put_authority(&w, &m, authority.at, payload, payload_len);
-    if (w.n > 1232 || w.n > output.len) {
-        a.number = 15;
+    put_authority(&w, &m, l->datagram.at, payload, payload_len);
+    if (w.n > DATAGRAM_MOST || w.n > l->output.len) {
+        a.number = ROOM;
         return a;
     }
-    memcpy(output.at, w.b, w.n);
+    memcpy(l->output.at, w.b, w.n);
     a.length = (uint32_t)w.n;
     return a;
 }
 
-struct model_reading model_carried(uint8_t major, struct bytes datagram)
+struct model_reading model_carried(const struct lent *l)
 {
     struct model_reading a = {0, 0, 0, 0, 0, 0};
-    struct message m = read_message(major, datagram);
+    struct message m = read_message(l->major, read_only(l->datagram));
     struct reading r = {0, 0, 0, 0};
     a.number = authority_number(&m);
     if (a.number != 0 || m.payload.at == 0)
         return a;
-    a.reading = unpack(datagram.at + m.payload.at, m.payload.len, &r);
+    a.reading = unpack(l->datagram.at + m.payload.at, m.payload.len, &r);
     a.kind = r.kind;
     a.measure = r.measure;
     a.litres_in = r.litres_in;
@@ -197,7 +197,7 @@ struct model_reading model_carried(uint8_t major, struct bytes datagram)
     return a;
 }
 
-int64_t model_balance(uint32_t litres_in, uint32_t litres_out)
+int64_t model_balance(const struct lent *l)
 {
-    return (int64_t)litres_in - (int64_t)litres_out;
+    return (int64_t)l->litres_in - (int64_t)l->litres_out;
 }

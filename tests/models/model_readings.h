@@ -13,9 +13,8 @@ struct model_reading {
     uint32_t number, reading, kind, measure, litres_in, litres_out;
 };
 
-struct model_carry model_carry(uint8_t major, struct bytes authority, uint32_t kind, uint32_t measure, uint32_t litres_in, uint32_t litres_out,
-                               struct room output);
-struct model_reading model_carried(uint8_t major, struct bytes datagram);
-int64_t model_balance(uint32_t litres_in, uint32_t litres_out);
+struct model_carry model_carry(const struct lent *l); /* the AUTHORITY is the datagram */
+struct model_reading model_carried(const struct lent *l);
+int64_t model_balance(const struct lent *l);
 
 #endif

@@ -11,9 +11,9 @@
  *
  * With ALONE the model stands in for the archive too: so the sanitizers see it on a machine that can't link the archive. */
 #define _DEFAULT_SOURCE
+#include "calling.h"
 #include "compare.h"
 #include "fence.h"
-#include "gauge.h"
 #include "model.h"
 #include "reached.h"
 #include <signal.h>
@@ -24,9 +24,6 @@
 
 #define GATE 250000ul /* calls */
 #define ARENA (24u << 20)
-
-const char *const kinds[] = {"receive", "send", "tick", "neighbours", "look"};
-static const char *const lents[] = {"own", "cpa", "cache", "waiting", "nonce", "key", "datagram", "output"};
 
 struct result {
     uint32_t numbers[12];
@@ -40,33 +37,22 @@ static size_t arena_used;
 static unsigned long calls_run, nights_run;
 static uint64_t seed;
 static const struct call *running; /* for the handler */
-static const struct memory *running_on;
+static struct memory *running_on;
 
-struct part kept(const uint8_t *bytes, size_t len)
+struct room kept(const uint8_t *bytes, size_t len)
 {
-    struct part p = {arena + arena_used, len};
+    struct room r = as_room(arena + arena_used, len);
     if (len > 0)
-        memcpy(p.at, bytes, len);
+        memcpy(r.at, bytes, len);
     arena_used += len + 1;
-    return p;
+    return r;
 }
 
 /* What is lent, one set for the archive and one for the model. */
 
 enum { ARCHIVE, MODEL, SIDES };
-static struct fence fences[SIDES][LENT];
-static struct part lent[SIDES][LENT];
-
-static void lend(int side, int i, const struct call *c, struct part p)
-{
-    uint8_t *at = fenced(&fences[side][i], c->front, p.len);
-    if (i == OUTPUT)
-        memset(at, c->filled, p.len);
-    else if (p.len > 0)
-        memcpy(at, p.at, p.len);
-    lent[side][i].at = at;
-    lent[side][i].len = p.len;
-}
+static struct fence fences[SIDES][SLICES];
+static struct lent lent[SIDES];
 
 static struct result three_numbers(uint32_t number, uint32_t first, uint32_t second)
 {
@@ -74,121 +60,102 @@ static struct result three_numbers(uint32_t number, uint32_t first, uint32_t sec
     return r;
 }
 
-static struct bytes reading(int side, int i)
-{
-    struct bytes b = {lent[side][i].at, lent[side][i].len};
-    return b;
-}
-
-static struct room writing(int side, int i)
-{
-    struct room r = {lent[side][i].at, lent[side][i].len};
-    return r;
-}
-
-static struct result by_model(const struct call *c, int s)
+static struct result by_model(enum call_kind kind, const struct lent *l)
 {
     struct model_answer a = {0, 0, 0};
-    if (c->kind == LOOK) {
-        struct model_look l = model_look(c->major, reading(s, DATAGRAM));
-        struct result r = {{l.number, l.type, l.id, l.acked, l.cpa.at, l.cpa.len, l.nonce.at, l.nonce.len, l.entry.at, l.entry.len, l.target.at,
-                            l.target.len}};
+    if (kind == LOOK) {
+        struct model_look s = model_look(l);
+        struct result r = {{s.number, s.type, s.id, s.acked, s.cpa.at, s.cpa.len, s.nonce.at, s.nonce.len, s.entry.at, s.entry.len, s.target.at,
+                            s.target.len}};
         return r;
     }
-    if (c->kind == RECEIVE)
-        a = model_receive(reading(s, OWN), reading(s, CPA), writing(s, CACHE), writing(s, WAITING), c->major, c->minor, c->id, reading(s, NONCE),
-                          c->verdict, reading(s, KEY), reading(s, DATAGRAM), writing(s, OUTPUT));
-    else if (c->kind == SEND)
-        a = model_send(reading(s, OWN), reading(s, CACHE), writing(s, WAITING), c->major, c->minor, c->id, reading(s, NONCE), reading(s, KEY),
-                       writing(s, OUTPUT));
-    else if (c->kind == TICK)
-        a = model_tick(reading(s, OWN), writing(s, WAITING), writing(s, OUTPUT));
+    if (kind == RECEIVE)
+        a = model_receive(l);
+    else if (kind == SEND)
+        a = model_send(l);
+    else if (kind == TICK)
+        a = model_tick(l);
     else
-        a = model_neighbours(reading(s, OWN), reading(s, CACHE), writing(s, OUTPUT));
+        a = model_neighbours(l);
     return three_numbers(a.number, a.first, a.second);
 }
 
 #ifdef ALONE
-static struct result by_archive(const struct call *c, const struct part *p)
-{
-    (void)p;
-    return by_model(c, ARCHIVE);
-}
+#define by_archive by_model
 #else
-static struct result by_archive(const struct call *c, const struct part *p)
+static struct result by_archive(enum call_kind kind, const struct lent *l)
 {
     struct gauge_answer a;
-    if (c->kind == LOOK) {
-        struct gauge_look l = gauge_look(c->major, p[DATAGRAM].at, p[DATAGRAM].len);
-        struct result r = {{l.number, l.kind, l.id, l.acked, l.cpa_at, l.cpa_len, l.nonce_at, l.nonce_len, l.entry_at, l.entry_len, l.target_at,
-                            l.target_len}};
+    if (kind == LOOK) {
+        struct gauge_look s = call_look(gauge_look, l);
+        struct result r = {{s.number, s.kind, s.id, s.acked, s.cpa_at, s.cpa_len, s.nonce_at, s.nonce_len, s.entry_at, s.entry_len, s.target_at,
+                            s.target_len}};
         return r;
     }
-    if (c->kind == RECEIVE)
-        a = gauge_receive(p[OWN].at, p[OWN].len, p[CPA].at, p[CPA].len, p[CACHE].at, p[CACHE].len, p[WAITING].at, p[WAITING].len, c->major, c->minor,
-                          c->id, p[NONCE].at, p[NONCE].len, c->verdict, p[KEY].at, p[KEY].len, p[DATAGRAM].at, p[DATAGRAM].len, p[OUTPUT].at,
-                          p[OUTPUT].len);
-    else if (c->kind == SEND)
-        a = gauge_send(p[OWN].at, p[OWN].len, p[CACHE].at, p[CACHE].len, p[WAITING].at, p[WAITING].len, c->major, c->minor, c->id, p[NONCE].at,
-                       p[NONCE].len, p[KEY].at, p[KEY].len, p[OUTPUT].at, p[OUTPUT].len);
-    else if (c->kind == TICK)
-        a = gauge_tick(p[OWN].at, p[OWN].len, p[WAITING].at, p[WAITING].len, p[OUTPUT].at, p[OUTPUT].len);
+    if (kind == RECEIVE)
+        a = call_receive(gauge_receive, l);
+    else if (kind == SEND)
+        a = call_send(gauge_send, l);
+    else if (kind == TICK)
+        a = call_tick(gauge_tick, l);
     else
-        a = gauge_neighbours(p[OWN].at, p[OWN].len, p[CACHE].at, p[CACHE].len, p[OUTPUT].at, p[OUTPUT].len);
+        a = call_neighbours(gauge_neighbours, l);
     return three_numbers(a.number, a.first, a.second);
 }
 #endif
 
-/* The bytes that a call is lent for a part: its own, or the present memory. */
-static struct part part_of(const struct call *c, int i, struct memory *m)
+/* What a call is to be lent: its own, and the present memory where it has none. */
+static struct lent wanted_by(const struct call *c, struct memory *m)
 {
-    struct part p = c->part[i];
-    if (p.at == NULL && i == CACHE) {
-        p.at = m->cache;
-        p.len = m->cache_len;
-    }
-    if (p.at == NULL && i == WAITING) {
-        p.at = m->waiting;
-        p.len = m->waiting_len;
-    }
-    return p;
+    struct lent l = c->lent;
+    lend_memory(&l, m);
+    return l;
 }
 
+/* All slices are laid out, those that the call is not lent too: they have to stay as they are. */
 static void lend_all(int side, const struct call *c, struct memory *m)
 {
-    for (int i = 0; i < LENT; i++)
-        lend(side, i, c, part_of(c, i, m));
+    struct lent from = wanted_by(c, m);
+    lent[side] = from;
+    for (int i = 0; i < SLICES; i++) {
+        struct room *bytes = slice_in(&from, i), *to = slice_in(&lent[side], i);
+        to->at = fenced(&fences[side][i], c->front, to->len);
+        if (slices[i].use == TO_FILL)
+            memset(to->at, c->filled, to->len);
+        else if (to->len > 0)
+            memcpy(to->at, bytes->at, to->len);
+    }
     running = c;
     running_on = m;
 }
 
 size_t needed(struct call *c)
 {
-    c->part[OUTPUT].len = 2464;
+    c->lent.output.len = GAUGE_OUTPUT_LEN;
     lend_all(MODEL, c, &now);
-    struct result r = by_model(c, MODEL);
+    struct result r = by_model(c->kind, &lent[MODEL]);
     running = NULL;
     return r.numbers[1] + r.numbers[2];
 }
 
 static char difference[80];
 
-/* What is different in the part after a call, or NULL: what was lent for writing must be the same on both sides, and the rest as it was. */
+/* What is different in a slice after a call, or NULL: what was lent for writing must be the same on both sides, and the rest as it was. */
 static const char *differs_in(int i, const struct call *c, struct memory *m)
 {
-    struct part p = part_of(c, i, m);
-    bool writable = i == CACHE || i == WAITING || i == OUTPUT;
-    const uint8_t *ours = lent[ARCHIVE][i].at, *other = writable ? lent[MODEL][i].at : p.at;
-    if (p.len > 0 && memcmp(ours, other, p.len) != 0) {
+    struct lent from = wanted_by(c, m);
+    struct room as_lent = *slice_in(&from, i);
+    const uint8_t *ours = slice_in(&lent[ARCHIVE], i)->at, *other = slices[i].use == TO_READ ? as_lent.at : slice_in(&lent[MODEL], i)->at;
+    if (as_lent.len > 0 && memcmp(ours, other, as_lent.len) != 0) {
         size_t k = 0;
         while (ours[k] == other[k])
             k++;
-        snprintf(difference, sizeof difference, "%s byte %zu is %02x by the archive, %02x by the model", lents[i], k, ours[k], other[k]);
+        snprintf(difference, sizeof difference, "%s byte %zu is %02x by the archive, %02x by the model", slices[i].name, k, ours[k], other[k]);
         return difference;
     }
     for (int side = 0; side < SIDES; side++)
-        if (!margin_whole(&fences[side][i], c->front, p.len)) {
-            snprintf(difference, sizeof difference, "written outside of %s", lents[i]);
+        if (!margin_whole(&fences[side][i], c->front, as_lent.len)) {
+            snprintf(difference, sizeof difference, "written outside of %s", slices[i].name);
             return difference;
         }
     return NULL;
@@ -198,16 +165,13 @@ static const char *differs_in(int i, const struct call *c, struct memory *m)
  * another own key. */
 static void keep(const struct call *c, struct memory *m)
 {
-    if (c->kind == LOOK || memcmp(c->part[OWN].at, own, 32) != 0)
+    struct lent left = lent[ARCHIVE];
+    if (c->kind == LOOK || memcmp(c->lent.own.at, own, GAUGE_KEY_LEN) != 0)
         return;
-    if (c->kind != TICK) {
-        m->cache_len = lent[ARCHIVE][CACHE].len;
-        memcpy(m->cache, lent[ARCHIVE][CACHE].at, m->cache_len);
-    }
-    if (c->kind != NEIGHBOURS) {
-        m->waiting_len = lent[ARCHIVE][WAITING].len;
-        memcpy(m->waiting, lent[ARCHIVE][WAITING].at, m->waiting_len);
-    }
+    for (int i = 0; i < SLICES; i++)
+        if (!is_lent(i, c->kind))
+            slice_in(&left, i)->at = NULL;
+    keep_memory(m, &left);
 }
 
 /* Runs a call on both sides. NULL, or what is different. */
@@ -215,7 +179,7 @@ static const char *run(const struct call *c, struct memory *m, struct result *an
 {
     lend_all(ARCHIVE, c, m);
     lend_all(MODEL, c, m);
-    struct result a = by_archive(c, lent[ARCHIVE]), b = by_model(c, MODEL);
+    struct result a = by_archive(c->kind, &lent[ARCHIVE]), b = by_model(c->kind, &lent[MODEL]);
     running = NULL;
     *answer = a;
     for (int i = 0; i < 12; i++)
@@ -223,12 +187,12 @@ static const char *run(const struct call *c, struct memory *m, struct result *an
             snprintf(difference, sizeof difference, "answer %d is %u by the archive, %u by the model", i, a.numbers[i], b.numbers[i]);
             return difference;
         }
-    for (int i = 0; i < LENT; i++) {
+    for (int i = 0; i < SLICES; i++) {
         const char *what = differs_in(i, c, m);
         if (what != NULL)
             return what;
     }
-    if (c->sound && c->kind != LOOK && a.numbers[0] == 1)
+    if (c->sound && c->kind != LOOK && a.numbers[0] == GAUGE_MEMORY)
         return "memory that calls have left is not in form";
     if (a.numbers[0] == 0)
         keep(c, m);
@@ -254,21 +218,28 @@ static void show(const char *name, const uint8_t *p, size_t n)
     }
 }
 
-static void show_call(const struct call *c)
+static void show_slices(struct lent l, enum call_kind kind)
 {
-    static const uint8_t wants[KINDS] = {0xFF, 0xFF & ~(1 << CPA | 1 << DATAGRAM), 1 << OWN | 1 << WAITING, 1 << OWN | 1 << CACHE, 1 << DATAGRAM};
-    printf("%s major=%u minor=%u id=%u verdict=%u", kinds[c->kind], c->major, c->minor, c->id, c->verdict);
-    for (int i = 0; i < OUTPUT; i++)
-        if (c->part[i].at != NULL && (wants[c->kind] >> i & 1))
-            show(i == NONCE && c->kind == SEND ? "neighbour" : lents[i], c->part[i].at, c->part[i].len);
-    printf(" room=%zu filled=%02X\n", c->part[OUTPUT].len, c->filled);
+    for (int i = 0; i < SLICES; i++)
+        if (slice_in(&l, i)->at != NULL && slices[i].use != TO_FILL && is_lent(i, kind))
+            show(slices[i].name, slice_in(&l, i)->at, slice_in(&l, i)->len);
 }
 
-static void show_memory(const struct memory *m)
+static void show_call(const struct call *c)
 {
+    printf("%s major=%u minor=%u id=%u verdict=%u", call_names[c->kind], c->lent.major, c->lent.minor, c->lent.id, c->lent.verdict);
+    show_slices(c->lent, c->kind);
+    printf(" room=%zu filled=%02X\n", c->lent.output.len, c->filled);
+}
+
+/* A receive is lent all memory there is. */
+static void show_memory(struct memory *m)
+{
+    struct lent l;
+    memset(&l, 0, sizeof l);
+    lend_memory(&l, m);
     printf("memory");
-    show("cache", m->cache, m->cache_len);
-    show("waiting", m->waiting, m->waiting_len);
+    show_slices(l, RECEIVE);
     printf("\n");
 }
 
@@ -334,19 +305,16 @@ static const char *next_call(void)
     struct result r;
     make_call(c);
     calls_run++;
-    before.cache_len = now.cache_len;
-    before.waiting_len = now.waiting_len;
-    memcpy(before.cache, now.cache, now.cache_len);
-    memcpy(before.waiting, now.waiting, now.waiting_len);
+    copy_memory(&before, &now);
     const char *what = run(c, &now, &r);
     if (what == NULL)
-        count_call(c, r.numbers, lent[ARCHIVE][OUTPUT].at, &before);
+        count_call(c, r.numbers, lent[ARCHIVE].output.at, &before);
     return what;
 }
 
 static int differ(const char *what, bool plain)
 {
-    const char *kind = kinds[night[night_len - 1].kind];
+    const char *kind = call_names[night[night_len - 1].kind];
     printf("compare: %s in call %lu, night %lu, seed %llu: %s\n", kind, calls_run, nights_run, (unsigned long long)seed, what);
     if (!plain)
         tell_shortest();
@@ -362,8 +330,8 @@ int main(int argc, char **argv)
     chance_state = seed = argc > 2 ? strtoull(argv[2], NULL, 10) : 1;
     size_t length = 0;
     set_least(wanted, GATE);
-    for (int i = 0; i < SIDES * LENT; i++)
-        fences[i / LENT][i % LENT] = fence_of(MEMORY_ROOM);
+    for (int i = 0; i < SIDES * SLICES; i++)
+        fences[i / SLICES][i % SLICES] = fence_of(MEMORY_ROOM);
     signal(SIGSEGV, stopped);
     signal(SIGBUS, stopped);
     while (calls_run < wanted) {

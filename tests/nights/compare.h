@@ -4,29 +4,18 @@
 
 #include "draft.h"
 
-/* A part without a place means: the present memory. */
-struct part {
-    uint8_t *at;
-    size_t len;
-};
-
-enum kind { RECEIVE, SEND, TICK, NEIGHBOURS, LOOK, KINDS };
-extern const char *const kinds[];
-
-/* The neighbour of a send stands where a receive has its nonce. */
-enum lent { OWN, CPA, CACHE, WAITING, NONCE, KEY, DATAGRAM, OUTPUT, LENT };
+#define KINDS (LOOK + 1) /* those after it have their nights in tests/nights/readings.c */
 
 struct call {
-    enum kind kind;
-    uint8_t major, minor, filled;
-    uint32_t id, verdict;
+    enum call_kind kind;
+    uint8_t filled;
     bool front; /* slices begin where a page that may not be touched ends; otherwise they end where one begins */
     bool sound; /* nothing that is tested for form was damaged */
-    struct part part[LENT];
+    struct lent lent; /* memory without a place means: the present one */
 };
 
 /* compare.c: bytes that are kept until the night ends; and how many bytes of output a receive or a send needs, by a try of the model. */
-struct part kept(const uint8_t *bytes, size_t len);
+struct room kept(const uint8_t *bytes, size_t len);
 size_t needed(struct call *c);
 
 /* compare_calls.c: a night's beginning, in `now`, and how many calls it has at most; and the next call. */

@@ -4,6 +4,8 @@
 
 /* A cache of so many records or more begins full in most nights, as calls alone would not fill it, and the night ends before it is empty. */
 #define GREAT 255u
+#define LEAST_CACHE (GAUGE_RECORD_LEN * GAUGE_CACHE_LEAST)
+#define MOST_CACHE (GAUGE_RECORD_LEN * GAUGE_CACHE_MOST)
 
 /* Memory damaged, for one call. */
 
@@ -31,7 +33,7 @@ static void spoil_byte(const struct rows *r, uint8_t *row)
         spoiled[field] = (uint8_t)(1 + under(255));
         break;
     default:
-        field = r->width == 100 ? cache_fields[under(sizeof cache_fields)] : waiting_fields[under(sizeof waiting_fields)];
+        field = r->width == GAUGE_RECORD_LEN ? cache_fields[under(sizeof cache_fields)] : waiting_fields[under(sizeof waiting_fields)];
         row[field] = (uint8_t)under(6);
         break;
     }
@@ -40,7 +42,7 @@ static void spoil_byte(const struct rows *r, uint8_t *row)
 /* A row exchanged with the next, or twice, or cleared, or with our own key, or with the key and record of another. */
 static void spoil_row(const struct rows *r, uint8_t *row)
 {
-    uint8_t other[140];
+    uint8_t other[GAUGE_PLACE_LEN];
     bool last = (size_t)(row - spoiled) + r->width == r->len;
     size_t from = r->width * under(r->width * (r->used + 1) < r->len ? r->used + 1 : r->len / r->width);
     switch (under(5)) {
@@ -57,9 +59,9 @@ static void spoil_row(const struct rows *r, uint8_t *row)
         break;
     case 2: memset(row, 0, r->width); break;
     case 3:
-        memcpy(row + r->key_at, own, 32);
+        memcpy(row + r->key_at, own, GAUGE_KEY_LEN);
         if (r->again_at != 0 && row[4] == 2)
-            memcpy(row + r->again_at, own, 32);
+            memcpy(row + r->again_at, own, GAUGE_KEY_LEN);
         break;
     default: memmove(row + r->key_at, spoiled + from + r->key_at, r->width - r->key_at); break; /* its ID and kind kept */
     }
@@ -68,17 +70,18 @@ static void spoil_row(const struct rows *r, uint8_t *row)
 /* Another length, with the bytes as they are and zeros behind. */
 static size_t spoil_length(const struct rows *r)
 {
-    static const uint16_t lengths[] = {0, 900, 999, 1000, 1001, 1100, 25600, 25601, 25700};
+    static const uint16_t lengths[] = {0, LEAST_CACHE - 100, LEAST_CACHE - 1, LEAST_CACHE, LEAST_CACHE + 1, LEAST_CACHE + 100, MOST_CACHE,
+                                       MOST_CACHE + 1, MOST_CACHE + 100};
     size_t rows = r->len / r->width;
     switch (under(3)) {
-    case 0: return r->width == 100 ? lengths[under(sizeof lengths / sizeof *lengths)] : r->len - r->width * under(rows);
+    case 0: return r->width == GAUGE_RECORD_LEN ? lengths[under(sizeof lengths / sizeof *lengths)] : r->len - r->width * under(rows);
     case 1: return under(2) ? r->len - 1 - under(r->len) : r->len + 1 + under(r->width);
     default: return r->len + r->width * under((sizeof spoiled - r->len) / r->width);
     }
 }
 
 /* The memory changed in one thing, by chance. */
-static struct part spoil(const uint8_t *bytes, const struct rows *r)
+static struct room spoil(const uint8_t *bytes, const struct rows *r)
 {
     size_t rows = r->len / r->width, len = r->len;
     uint8_t *row = spoiled + r->width * under(r->used + 2 < rows ? r->used + 2 : rows);
@@ -108,29 +111,26 @@ static size_t wrong_length(size_t right)
 static void damage_call(struct call *c)
 {
     static uint8_t b[4096];
-    struct rows records = {now.cache_len, 100, held(), 0, 0}, places = {now.waiting_len, 140, waits(), 8, 40};
+    struct room *small;
+    struct rows records = {now.cache_len, GAUGE_RECORD_LEN, held(), 0, 0}, places = {now.waiting_len, GAUGE_PLACE_LEN, waits(), 8, 40};
     memset(b, 0, sizeof b);
     c->sound = false;
     switch (under(9)) {
-    case 0: case 1: case 2: c->part[CACHE] = spoil(now.cache, &records); break;
-    case 3: case 4: case 5: c->part[WAITING] = spoil(now.waiting, &places); break;
+    case 0: case 1: case 2: c->lent.cache = spoil(now.cache, &records); break;
+    case 3: case 4: case 5: c->lent.waiting = spoil(now.waiting, &places); break;
     case 6: {
         static const uint8_t fields[] = {34, 35, 52, 68, 84, 99, 0, 31};
-        memcpy(b, own, 100);
-        size_t at = percent(50) ? fields[under(sizeof fields)] : under(100);
+        memcpy(b, own, GAUGE_RECORD_LEN);
+        size_t at = percent(50) ? fields[under(sizeof fields)] : under(GAUGE_RECORD_LEN);
         b[at] = (uint8_t)under(6);
-        c->part[OWN] = kept(b, percent(70) ? 100 : wrong_length(100));
+        c->lent.own = kept(b, percent(70) ? GAUGE_RECORD_LEN : wrong_length(GAUGE_RECORD_LEN));
         break;
     }
-    case 7: c->part[CPA] = kept(b, percent(40) ? 0 : 1024 + under(3)); break;
+    case 7: c->lent.cpa = kept(b, percent(40) ? 0 : GAUGE_CPA_MOST + under(3)); break;
     default:
-        if (percent(50)) {
-            memcpy(b, c->part[NONCE].at, c->part[NONCE].len);
-            c->part[NONCE] = kept(b, wrong_length(c->part[NONCE].len));
-        } else {
-            memcpy(b, c->part[KEY].at, 32);
-            c->part[KEY] = kept(b, wrong_length(32));
-        }
+        small = !percent(50) ? &c->lent.key : c->kind == SEND ? &c->lent.neighbour : &c->lent.nonce;
+        memcpy(b, small->at, small->len);
+        *small = kept(b, wrong_length(small->len));
     }
 }
 
@@ -139,10 +139,11 @@ static void damage_call(struct call *c)
 /* Room for the output: enough, any, or just what is needed, or one byte less; what is needed is found by a try of the model. */
 static size_t some_room(struct call *c)
 {
-    static const uint16_t edges[] = {0, 1, 19, 20, 63, 64, 65, 96, 319, 320, 321};
+    static const uint16_t edges[] = {0, 1, 19, 20, GAUGE_TICK_LEN - 1, GAUGE_TICK_LEN, GAUGE_TICK_LEN + 1, 96, GAUGE_LIST_LEN - 1, GAUGE_LIST_LEN,
+                                     GAUGE_LIST_LEN + 1};
     uint32_t way = under(20);
     if (way < 13)
-        return 2464;
+        return GAUGE_OUTPUT_LEN;
     if (way < 15)
         return under(400);
     if (way < 17 || (c->kind != RECEIVE && c->kind != SEND))
@@ -155,36 +156,36 @@ static size_t some_room(struct call *c)
 
 void make_call(struct call *c)
 {
-    uint8_t b[1024], key[32];
+    uint8_t b[GAUGE_CPA_MOST], key[GAUGE_KEY_LEN];
     uint32_t way = under(100);
     memset(c, 0, sizeof *c);
     c->kind = way < 70 ? RECEIVE : way < 80 ? SEND : way < 80 + ticks ? TICK : way < 90 ? NEIGHBOURS : LOOK;
-    c->major = percent(3) ? any() : own_major;
-    c->minor = own_minor;
+    c->lent = lend_gauge();
+    c->lent.major = percent(3) ? any() : own_major;
     c->filled = any();
     c->front = percent(30);
     c->sound = true;
-    c->id = some_id();
-    c->verdict = percent(90) ? 1 : percent(50) ? under(4) : percent(50) ? 257 : (uint32_t)chance();
+    c->lent.id = some_id();
+    c->lent.verdict = percent(90) ? 1 : percent(50) ? under(4) : percent(50) ? 257 : (uint32_t)chance();
     if (percent(10))
         some_rest(own);
-    c->part[OWN] = kept(own, 100);
+    c->lent.own = kept(own, sizeof own);
     fill(b, sizeof b);
-    c->part[CPA] = kept(b, percent(90) ? own_cpa : percent(30) ? 1024 : percent(30) ? 1 : 1 + under(1024));
-    c->part[NONCE] = kept(b, 16);
+    c->lent.cpa = kept(b, percent(90) ? own_cpa : percent(30) ? GAUGE_CPA_MOST : percent(30) ? 1 : 1 + under(GAUGE_CPA_MOST));
+    c->lent.nonce = kept(b, GAUGE_NONCE_LEN);
     draft_message(key);
     if (c->kind == LOOK && percent(20))
         damage_head();
-    c->part[KEY] = kept(key, 32);
-    c->part[DATAGRAM] = kept(draft.b, draft.n);
+    c->lent.key = kept(key, GAUGE_KEY_LEN);
+    c->lent.datagram = kept(draft.b, draft.n);
     if (c->kind == SEND) {
         draft_send(b, key);
-        c->part[NONCE] = kept(b, 32);
-        c->part[KEY] = kept(key, 32);
+        c->lent.neighbour = kept(b, GAUGE_KEY_LEN);
+        c->lent.key = kept(key, GAUGE_KEY_LEN);
     }
     if (percent(6))
         damage_call(c);
-    c->part[OUTPUT].len = some_room(c);
+    c->lent.output.len = some_room(c);
 }
 
 /* A night's beginning: all zero, or memory in form that is full to some degree. */
@@ -194,44 +195,44 @@ static void begin_cache(size_t most)
     bool brim = most >= GREAT && percent(80);
     size_t wanted = brim || percent(50) ? most : under(most + 1);
     for (size_t tries = 0; tries < 4 * most && held() < wanted; tries++) {
-        uint8_t record[100];
+        uint8_t record[GAUGE_RECORD_LEN];
         some_key(record);
         if (percent(30) || (brim && tries > most))
-            fill(record, 32);
+            fill(record, GAUGE_KEY_LEN);
         some_rest(record);
-        size_t at = 0;
-        while (100 * at < now.cache_len && now.cache[100 * at + 34] != 0 && memcmp(now.cache + 100 * at, record, 32) < 0)
-            at++;
-        if (memcmp(record, own, 32) == 0 || (now.cache[100 * at + 34] != 0 && memcmp(now.cache + 100 * at, record, 32) == 0))
+        uint8_t *row = now.cache, *end = now.cache + now.cache_len;
+        while (row < end && row[GAUGE_RECORD_COUNT] != 0 && memcmp(row, record, GAUGE_KEY_LEN) < 0)
+            row += GAUGE_RECORD_LEN;
+        if (memcmp(record, own, GAUGE_KEY_LEN) == 0 || (row[GAUGE_RECORD_COUNT] != 0 && memcmp(row, record, GAUGE_KEY_LEN) == 0))
             continue;
-        memmove(now.cache + 100 * at + 100, now.cache + 100 * at, 100 * (held() - at));
-        memcpy(now.cache + 100 * at, record, 100);
+        memmove(row + GAUGE_RECORD_LEN, row, GAUGE_RECORD_LEN * held() - (size_t)(row - now.cache));
+        memcpy(row, record, GAUGE_RECORD_LEN);
     }
 }
 
 static void begin_waiting(void)
 {
-    size_t wanted = percent(50) ? 16 : under(17);
+    size_t wanted = percent(50) ? GAUGE_PLACES : under(GAUGE_PLACES + 1);
     uint32_t id = percent(30) ? under(3) : under(1u << 28);
     bool lively = percent(30); /* no place has its last try behind it: a tick lists them all */
     for (size_t n = 0; n < wanted; n++) {
-        uint8_t *p = now.waiting + 140 * n, place[140] = {0};
+        uint8_t *p = now.waiting + GAUGE_PLACE_LEN * n, place[GAUGE_PLACE_LEN] = {0};
         bool inquiry = percent(60);
         some_key(place + 8);
         for (size_t i = 0; i < n; i++)
-            if (now.waiting[140 * i + 4] == 2 && memcmp(now.waiting + 140 * i + 8, place + 8, 32) == 0)
+            if (now.waiting[GAUGE_PLACE_LEN * i + 4] == 2 && memcmp(now.waiting + GAUGE_PLACE_LEN * i + 8, place + 8, GAUGE_KEY_LEN) == 0)
                 inquiry = false;
-        if (memcmp(place + 8, own, 32) == 0)
+        if (memcmp(place + 8, own, GAUGE_KEY_LEN) == 0)
             inquiry = false;
         for (int k = 0; k < 4; k++)
             place[k] = (uint8_t)(id >> 8 * k);
         place[4] = inquiry ? 2 : 1;
         place[5] = (uint8_t)(lively ? 1 + under(2) : under(3));
         if (inquiry) {
-            memcpy(place + 40, place + 8, 32);
+            memcpy(place + 40, place + 8, GAUGE_KEY_LEN);
             some_rest(place + 40);
         }
-        memcpy(p, place, 140);
+        memcpy(p, place, GAUGE_PLACE_LEN);
         id += 1 + (percent(40) ? 0 : under(1u << 27));
     }
 }
@@ -240,9 +241,7 @@ size_t begin_night(void)
 {
     static const uint16_t sizes[] = {20, 31, 64};
     size_t most = percent(25) ? GREAT + under(2) : percent(10) ? sizes[under(3)] : 10 + under(8);
-    memset(&now, 0, sizeof now);
-    now.cache_len = 100 * most;
-    now.waiting_len = 2240;
+    begin_memory(most);
     begin_gauge();
     if (most >= GREAT || percent(50))
         begin_cache(most);

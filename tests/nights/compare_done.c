@@ -6,15 +6,16 @@
 
 /* What was reached. */
 
+#define READ (BIT(GAUGE_OK) | ALL)
 static const uint32_t looked[MESSAGES] = {
-    BIT(2), BIT(2) | BIT(3) | BIT(4) | BIT(5), BIT(0) | ALL, BIT(0) | ALL, BIT(0) | ALL, ALL, BIT(0), BIT(0), BIT(0) | ALL, BIT(0) | ALL | BIT(7),
-    BIT(0) | ALL, BIT(0) | ALL};
-static unsigned long reached[KINDS][MESSAGES][16];
+    [NONE] = BIT(GAUGE_LENGTH), [UNKNOWN] = UNKNOWN_TYPE, [SOLICIT] = READ, [ADVERTISE] = READ, [REQUEST] = READ, [FLOOD] = ALL,
+    [ENTRY] = BIT(GAUGE_OK), [REVOKE] = BIT(GAUGE_OK), [INQUIRE] = READ, [AUTHORITY] = READ | BIT(GAUGE_NOT_TAKEN), [ACK] = READ, [LOOKUP] = READ};
+#define SENDS (BIT(GAUGE_OK) | BIT(GAUGE_MEMORY) | BIT(GAUGE_NOT_OURS) | BIT(GAUGE_ID_WAITING) | BIT(GAUGE_FULL) | BIT(GAUGE_ROOM))
+static struct times reached[KINDS][MESSAGES];
 
 static int message_in(const struct call *c)
 {
-    struct bytes d = {c->part[DATAGRAM].at, c->part[DATAGRAM].len};
-    return c->kind == RECEIVE || c->kind == LOOK ? message_of(c->major, d) : NONE;
+    return c->kind == RECEIVE || c->kind == LOOK ? message_of(&c->lent) : NONE;
 }
 
 static uint32_t possible(int kind, int message)
@@ -25,7 +26,7 @@ static uint32_t possible(int kind, int message)
         return looked[message];
     if (message != NONE)
         return 0;
-    return kind == SEND ? BIT(0) | BIT(1) | BIT(12) | BIT(13) | BIT(14) | BIT(15) : BIT(0) | BIT(1) | BIT(15);
+    return kind == SEND ? SENDS : BIT(GAUGE_OK) | BIT(GAUGE_MEMORY) | BIT(GAUGE_ROOM);
 }
 
 /* What an accepted call did, by what it left and wrote. */
@@ -53,7 +54,7 @@ static size_t rows_used(const uint8_t *p, size_t len, size_t width, size_t mark)
 static bool across_end(const uint8_t *own_key, const uint8_t *keys, size_t below, size_t above)
 {
     for (size_t i = 0; i < below + above; i++)
-        if ((memcmp(keys + 32 * i, own_key, 32) > 0) == (i < below))
+        if ((memcmp(keys + GAUGE_KEY_LEN * i, own_key, GAUGE_KEY_LEN) > 0) == (i < below))
             return true;
     return false;
 }
@@ -61,7 +62,7 @@ static bool across_end(const uint8_t *own_key, const uint8_t *keys, size_t below
 static bool has_opposite(const uint8_t *own_key, const uint8_t *keys, size_t n)
 {
     for (size_t i = 0; i < n; i++)
-        if (keys[32 * i] == (own_key[0] ^ 0x80) && memcmp(keys + 32 * i + 1, own_key + 1, 31) == 0)
+        if (keys[GAUGE_KEY_LEN * i] == (own_key[0] ^ 0x80) && memcmp(keys + GAUGE_KEY_LEN * i + 1, own_key + 1, GAUGE_KEY_LEN - 1) == 0)
             return true;
     return false;
 }
@@ -69,9 +70,9 @@ static bool has_opposite(const uint8_t *own_key, const uint8_t *keys, size_t n)
 /* Is the key that was dropped for a newcomer neither the first nor the last number of all? */
 static bool dropped_between(const struct memory *before, size_t was, const uint8_t *newcomer)
 {
-    const uint8_t *first = before->cache, *last = before->cache + 100 * (was - 1);
-    bool first_stays = memcmp(now.cache, first, 32) == 0 || memcmp(newcomer, first, 32) < 0;
-    bool last_stays = memcmp(now.cache + 100 * (was - 1), last, 32) == 0 || memcmp(newcomer, last, 32) > 0;
+    const uint8_t *first = before->cache, *last = before->cache + GAUGE_RECORD_LEN * (was - 1);
+    bool first_stays = memcmp(now.cache, first, GAUGE_KEY_LEN) == 0 || memcmp(newcomer, first, GAUGE_KEY_LEN) < 0;
+    bool last_stays = memcmp(now.cache + GAUGE_RECORD_LEN * (was - 1), last, GAUGE_KEY_LEN) == 0 || memcmp(newcomer, last, GAUGE_KEY_LEN) > 0;
     return first_stays && last_stays;
 }
 
@@ -79,33 +80,33 @@ static bool dropped_between(const struct memory *before, size_t was, const uint8
  * or is our own? */
 static void count_shown(const uint8_t *own_key, const uint8_t *target, const uint8_t *shown, const struct memory *before, size_t was)
 {
-    uint8_t other[32];
+    uint8_t other[GAUGE_KEY_LEN];
     int sum = 0;
     for (int i = 31; i >= 0; i--) {
         sum += 2 * target[i] - shown[i];
         other[i] = (uint8_t)(sum & 0xFF);
         sum = (sum - other[i]) / 256;
     }
-    bool tie = memcmp(other, own_key, 32) == 0;
+    bool tie = memcmp(other, own_key, GAUGE_KEY_LEN) == 0;
     for (size_t i = 0; i < was; i++)
-        tie = tie || memcmp(other, before->cache + 100 * i, 32) == 0;
-    tie = tie && memcmp(other, shown, 32) != 0;
-    done[memcmp(shown, own_key, 32) == 0 ? SHOWN_OWN : SHOWN_HELD]++;
-    done[SHOWN_256] += was == 256 && memcmp(shown, before->cache + 25500, 32) == 0;
+        tie = tie || memcmp(other, before->cache + GAUGE_RECORD_LEN * i, GAUGE_KEY_LEN) == 0;
+    tie = tie && memcmp(other, shown, GAUGE_KEY_LEN) != 0;
+    done[memcmp(shown, own_key, GAUGE_KEY_LEN) == 0 ? SHOWN_OWN : SHOWN_HELD]++;
+    done[SHOWN_256] += was == GAUGE_CACHE_MOST && memcmp(shown, before->cache + GAUGE_RECORD_LEN * (GAUGE_CACHE_MOST - 1), GAUGE_KEY_LEN) == 0;
     done[SHOWN_END] += (target[0] < shown[0] ? shown[0] - target[0] : target[0] - shown[0]) > 128;
     done[TIE] += tie;
-    done[TIE_END] += tie && memcmp(shown, other, 32) > 0;
+    done[TIE_END] += tie && memcmp(shown, other, GAUGE_KEY_LEN) > 0;
 }
 
 static void count_learned(const uint8_t *key, const struct memory *before, size_t was)
 {
     bool same = memcmp(before->cache, now.cache, now.cache_len) == 0, there = false;
-    size_t most = before->cache_len / 100;
+    size_t most = before->cache_len / GAUGE_RECORD_LEN;
     for (size_t i = 0; i < was; i++)
-        there = there || memcmp(before->cache + 100 * i, key, 32) == 0;
+        there = there || memcmp(before->cache + GAUGE_RECORD_LEN * i, key, GAUGE_KEY_LEN) == 0;
     done[there ? REPLACED : held() > was ? JOINED : same ? SELF_DROPPED : OTHER_DROPPED]++;
-    done[FULL_255] += !there && was == most && most == 255;
-    done[FULL_256] += !there && was == most && most == 256;
+    done[FULL_255] += !there && was == most && most == GAUGE_CACHE_MOST - 1;
+    done[FULL_256] += !there && was == most && most == GAUGE_CACHE_MOST;
     done[BETWEEN] += !there && held() == was && !same && dropped_between(before, was, key);
 }
 
@@ -114,27 +115,27 @@ static void count_entry(const struct call *c, const uint32_t *answer)
 {
     bool acked = answer[1] == 20 || answer[1] == 26, asked = answer[1] == 76 || answer[2] == 76;
     done[acked && asked ? BOTH : acked ? ACK_ONLY : asked ? INQUIRE_ONLY : QUIET]++;
-    done[WRAPPED] += asked && c->id == UINT32_MAX;
+    done[WRAPPED] += asked && c->lent.id == UINT32_MAX;
 }
 
 static void count_done(const struct call *c, int message, const uint32_t *answer, const uint8_t *out, const struct memory *before)
 {
-    size_t was = rows_used(before->cache, before->cache_len, 100, 34), is = held();
-    size_t waited = rows_used(before->waiting, before->waiting_len, 140, 4), wait = waits();
+    size_t was = rows_used(before->cache, before->cache_len, GAUGE_RECORD_LEN, GAUGE_RECORD_COUNT), is = held();
+    size_t waited = rows_used(before->waiting, before->waiting_len, GAUGE_PLACE_LEN, 4), wait = waits();
     if (c->kind == TICK) {
         done[EXPIRED] += wait < waited;
-        done[SIXTEEN] += answer[1] == 16;
+        done[SIXTEEN] += answer[1] == GAUGE_PLACES;
     }
     if (c->kind == NEIGHBOURS) {
         done[FIVES] += answer[1] == 5 && answer[2] == 5;
-        done[LIST_END] += across_end(c->part[OWN].at, out, answer[1], answer[2]);
-        done[LIST_OPPOSITE] += has_opposite(c->part[OWN].at, out, answer[1] + answer[2]);
+        done[LIST_END] += across_end(c->lent.own.at, out, answer[1], answer[2]);
+        done[LIST_OPPOSITE] += has_opposite(c->lent.own.at, out, answer[1] + answer[2]);
     }
     if (c->kind != RECEIVE)
         return;
     done[N_SET] += (message == ENTRY || message == REVOKE) && answer[1] == 26;
     if (message == AUTHORITY)
-        count_learned(c->part[KEY].at, before, was);
+        count_learned(c->lent.key.at, before, was);
     if (message == ENTRY)
         count_entry(c, answer);
     if (message == REVOKE) {
@@ -145,14 +146,24 @@ static void count_done(const struct call *c, int message, const uint32_t *answer
     if (message == ACK)
         done[is < was ? N_REMOVED : N_CLEAR]++;
     if (message == LOOKUP)
-        count_shown(c->part[OWN].at, c->part[DATAGRAM].at + 28, out + 40, before, was);
+        count_shown(c->lent.own.at, c->lent.datagram.at + 28, out + 40, before, was);
+}
+
+/* Was the call lent the present memory, and none that was damaged for it? */
+static bool on_present(const struct call *c)
+{
+    struct lent l = c->lent;
+    for (int i = 0; i < SLICES; i++)
+        if (slices[i].use == TO_KEEP && slice_in(&l, i)->at != NULL)
+            return false;
+    return true;
 }
 
 void count_call(const struct call *c, const uint32_t *answer, const uint8_t *output, const struct memory *before)
 {
     int message = message_in(c);
-    reached[c->kind][message][answer[0] & 15]++;
-    if (answer[0] == 0 && c->part[CACHE].at == NULL && c->part[WAITING].at == NULL)
+    count_number(&reached[c->kind][message], answer[0]);
+    if (answer[0] == 0 && on_present(c))
         count_done(c, message, answer, output, before);
 }
 
@@ -163,7 +174,7 @@ int show_reached(void)
     for (int k = 0; k < KINDS; k++)
         for (int m = 0; m < MESSAGES; m++)
             if (possible(k, m) != 0)
-                faults += show_row(kinds[k], k == RECEIVE || k == LOOK ? messages[m] : "", reached[k][m], possible(k, m));
+                faults += show_row(call_names[k], k == RECEIVE || k == LOOK ? messages[m] : "", &reached[k][m], possible(k, m));
     for (int i = 0; i < DONE; i++)
         faults += show_times(done_names[i], done[i], i % 4 == 3 || i == DONE - 1);
     return faults;

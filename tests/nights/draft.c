@@ -53,18 +53,74 @@ void flip_bit(uint8_t *p, size_t n)
 
 /* The night's gauge, and keys that are worth a try. */
 
-uint8_t own[100];
+uint8_t own[GAUGE_RECORD_LEN];
 struct memory now;
 size_t own_cpa;
 uint8_t own_major, own_minor;
 unsigned ticks, answers;
-static uint8_t pool[32][32];
+
+void begin_memory(size_t records)
+{
+#define BEGIN(name, use, usual, calls) now.name##_len = usual;
+    memset(&now, 0, sizeof now);
+    LENT_MEMORIES(BEGIN)
+    now.cache_len = GAUGE_CACHE_LEN(records);
+}
+
+struct lent lend_gauge(void)
+{
+    static uint8_t zeros[GAUGE_CPA_MOST];
+    struct lent l;
+    memset(&l, 0, sizeof l);
+    for (int i = 0; i < SLICES; i++)
+        if (slices[i].use == TO_READ)
+            *slice_in(&l, i) = as_room(zeros, slices[i].usual);
+    l.own = as_room(own, sizeof own);
+    l.major = own_major;
+    l.minor = own_minor;
+    return l;
+}
+
+static void lend_one(struct room *r, uint8_t *at, size_t len)
+{
+    if (r->at == NULL)
+        *r = as_room(at, len);
+}
+
+static void keep_one(struct room r, uint8_t *at, size_t *len)
+{
+    if (r.at == NULL)
+        return;
+    memcpy(at, r.at, r.len);
+    *len = r.len;
+}
+
+void lend_memory(struct lent *l, struct memory *m)
+{
+#define LEND(name, use, usual, calls) lend_one(&l->name, m->name, m->name##_len);
+    LENT_MEMORIES(LEND)
+}
+
+void keep_memory(struct memory *m, const struct lent *l)
+{
+#define KEEP(name, use, usual, calls) keep_one(l->name, m->name, &m->name##_len);
+    LENT_MEMORIES(KEEP)
+}
+
+void copy_memory(struct memory *to, struct memory *from)
+{
+    struct lent l;
+    memset(&l, 0, sizeof l);
+    lend_memory(&l, from);
+    keep_memory(to, &l);
+}
+static uint8_t pool[32][GAUGE_KEY_LEN];
 static uint32_t next_id;
 
 size_t held(void)
 {
     size_t n = 0;
-    while (100 * n < now.cache_len && now.cache[100 * n + 34] != 0)
+    while (GAUGE_RECORD_LEN * n < now.cache_len && now.cache[GAUGE_RECORD_LEN * n + GAUGE_RECORD_COUNT] != 0)
         n++;
     return n;
 }
@@ -72,7 +128,7 @@ size_t held(void)
 size_t waits(void)
 {
     size_t n = 0;
-    while (140 * n < now.waiting_len && now.waiting[140 * n + 4] != 0)
+    while (GAUGE_PLACE_LEN * n < now.waiting_len && now.waiting[GAUGE_PLACE_LEN * n + 4] != 0)
         n++;
     return n;
 }
@@ -96,7 +152,7 @@ static void edge_key(uint8_t *key)
 {
     static const uint8_t set[] = {0, 27, 23, 32};
     uint32_t which = under(5);
-    memset(key, 0, 32);
+    memset(key, 0, GAUGE_KEY_LEN);
     if (which == 4)
         key[0] = 0x80;
     else if (which > 0 && set[which] < 32)
@@ -107,7 +163,7 @@ static void edge_key(uint8_t *key)
 /* A key near to the point just opposite of our own. */
 static void opposite_key(uint8_t *key)
 {
-    memcpy(key, own, 32);
+    memcpy(key, own, GAUGE_KEY_LEN);
     key[0] ^= 0x80;
     shift(key, little());
 }
@@ -115,29 +171,29 @@ static void opposite_key(uint8_t *key)
 void some_key(uint8_t *key)
 {
     size_t h = held(), w = waits();
-    memcpy(key, own, 32);
+    memcpy(key, own, GAUGE_KEY_LEN);
     switch (under(13)) {
     case 0: break;
     case 1: shift(key, little()); break;
     case 12: opposite_key(key); break;
     case 2: edge_key(key); break;
-    case 3: set_byte(key, 32); break;
-    case 4: flip_bit(key, 32); break;
-    case 5: fill(key, 32); break;
+    case 3: set_byte(key, GAUGE_KEY_LEN); break;
+    case 4: flip_bit(key, GAUGE_KEY_LEN); break;
+    case 5: fill(key, GAUGE_KEY_LEN); break;
     case 6: case 7:
         if (h > 0)
-            memcpy(key, now.cache + 100 * under(h), 32);
+            memcpy(key, now.cache + GAUGE_RECORD_LEN * under(h), GAUGE_KEY_LEN);
         break;
     case 8:
         if (h > 0)
-            memcpy(key, now.cache + 100 * under(h), 32);
+            memcpy(key, now.cache + GAUGE_RECORD_LEN * under(h), GAUGE_KEY_LEN);
         shift(key, little());
         break;
     case 9:
         if (w > 0)
-            memcpy(key, now.waiting + 140 * under(w) + 8, 32);
+            memcpy(key, now.waiting + GAUGE_PLACE_LEN * under(w) + 8, GAUGE_KEY_LEN);
         break;
-    default: memcpy(key, pool[under(32)], 32); break;
+    default: memcpy(key, pool[under(32)], GAUGE_KEY_LEN); break;
     }
 }
 
@@ -147,12 +203,12 @@ static void middle_key(uint8_t *key)
 {
     size_t h = held();
     size_t at = h > 0 ? under(h) : 0;
-    const uint8_t *a = h > 0 ? now.cache + 100 * at : own;
-    const uint8_t *b = h > at + 1 && percent(60) ? a + 100 : own;
+    const uint8_t *a = h > 0 ? now.cache + GAUGE_RECORD_LEN * at : own;
+    const uint8_t *b = h > at + 1 && percent(60) ? a + GAUGE_RECORD_LEN : own;
     bool ends = h > 1 && percent(30);
     if (ends) {
         a = now.cache;
-        b = now.cache + 100 * (h - 1);
+        b = now.cache + GAUGE_RECORD_LEN * (h - 1);
     }
     bool across = ends || (a[0] < b[0] ? b[0] - a[0] : a[0] - b[0]) > 127 || percent(10);
     unsigned carry = 0, rest = 0;
@@ -174,20 +230,20 @@ static void middle_key(uint8_t *key)
 /* All but the key. */
 void some_rest(uint8_t *record)
 {
-    memset(record + 32, 0, 68);
-    record[32] = percent(20) ? 0 : any();
+    memset(record + GAUGE_RECORD_PORT, 0, GAUGE_RECORD_LEN - GAUGE_RECORD_PORT);
+    record[GAUGE_RECORD_PORT] = percent(20) ? 0 : any();
     record[33] = any();
-    record[34] = (uint8_t)(1 + under(4));
-    fill(record + 36, 16 * (size_t)record[34]);
-    for (size_t i = 0; i < 16 * (size_t)record[34]; i++)
-        if (record[36 + i] < 80)
-            record[36 + i] = 0;
+    record[GAUGE_RECORD_COUNT] = (uint8_t)(1 + under(4));
+    fill(record + GAUGE_RECORD_ADDRESSES, 16 * (size_t)record[GAUGE_RECORD_COUNT]);
+    for (size_t i = 0; i < 16 * (size_t)record[GAUGE_RECORD_COUNT]; i++)
+        if (record[GAUGE_RECORD_ADDRESSES + i] < 80)
+            record[GAUGE_RECORD_ADDRESSES + i] = 0;
 }
 
 uint32_t some_id(void)
 {
     size_t w = waits();
-    const uint8_t *p = now.waiting + 140 * (w > 0 ? under(w) : 0);
+    const uint8_t *p = now.waiting + GAUGE_PLACE_LEN * (w > 0 ? under(w) : 0);
     uint32_t id = (uint32_t)p[0] | (uint32_t)p[1] << 8 | (uint32_t)p[2] << 16 | (uint32_t)p[3] << 24;
     switch (under(10)) {
     case 0: return id;
@@ -204,7 +260,7 @@ static uint32_t waiting_id(unsigned kind, unsigned often)
 {
     size_t w = waits(), from = w > 0 ? under(w) : 0;
     for (size_t i = 0; i < w && percent(often); i++) {
-        const uint8_t *p = now.waiting + 140 * ((from + i) % w);
+        const uint8_t *p = now.waiting + GAUGE_PLACE_LEN * ((from + i) % w);
         if (p[4] == kind)
             return (uint32_t)p[0] | (uint32_t)p[1] << 8 | (uint32_t)p[2] << 16 | (uint32_t)p[3] << 24;
     }
@@ -214,16 +270,16 @@ static uint32_t waiting_id(unsigned kind, unsigned often)
 /* A gauge for a night. */
 void begin_gauge(void)
 {
-    fill(own, 32);
+    fill(own, GAUGE_KEY_LEN);
     if (percent(60))
         edge_key(own);
     some_rest(own);
     for (size_t i = 0; i < 32; i++) {
-        memcpy(pool[i], own, 32);
+        memcpy(pool[i], own, GAUGE_KEY_LEN);
         if (percent(60))
             shift(pool[i], (int)under(41) - 20);
         else if (percent(40))
-            fill(pool[i], 32);
+            fill(pool[i], GAUGE_KEY_LEN);
         else if (percent(50))
             opposite_key(pool[i]);
         else
@@ -231,7 +287,7 @@ void begin_gauge(void)
     }
     own_major = percent(70) ? 6 : any();
     own_minor = percent(70) ? 101 : any();
-    own_cpa = percent(80) ? 1 + under(60) : 1 + under(1024);
+    own_cpa = percent(80) ? 1 + under(60) : 1 + under(GAUGE_CPA_MOST);
     ticks = under(4) * 2;
     answers = percent(70) ? 95 : 25;
     next_id = percent(40) ? UINT32_MAX - under(20) : (uint32_t)chance();
@@ -291,8 +347,8 @@ static void add_field(unsigned number, size_t contents)
 
 static void add_key(unsigned number, const uint8_t *key)
 {
-    add_field(number, 32);
-    add(key, 32);
+    add_field(number, GAUGE_KEY_LEN);
+    add(key, GAUGE_KEY_LEN);
 }
 
 /* Ignored bytes: zero, or any. */
@@ -320,7 +376,7 @@ static void add_opaque(unsigned number)
 {
     size_t n = percent(40) ? under(5) : under(60);
     if (percent(4) && draft.n < 1200)
-        n = 1232 - draft.n - 4 + under(6) - 3;
+        n = GAUGE_DATAGRAM_MOST - draft.n - 4 + under(6) - 3;
     add_field(number, n);
     if (n == 0 && percent(4)) /* a length that does not count number and length */
         draft.b[draft.n - 1] = (uint8_t)under(4);
@@ -329,13 +385,13 @@ static void add_opaque(unsigned number)
 
 static void add_entry(const uint8_t *record)
 {
-    unsigned count = percent(1) ? under(2) * 5 : record[34];
+    unsigned count = percent(1) ? under(2) * 5 : record[GAUGE_RECORD_COUNT];
     uint8_t addresses[80] = {0};
-    memcpy(addresses, record + 36, 64);
+    memcpy(addresses, record + GAUGE_RECORD_ADDRESSES, 64);
     add_field(0x9A, 38 + 16 * count);
-    add(record, 32);
+    add(record, GAUGE_KEY_LEN);
     add_any(2);
-    add(record + 32, 2);
+    add(record + GAUGE_RECORD_PORT, 2);
     add1(percent(50) ? 0 : any());
     add1(count);
     add(addresses, 16 * count);
@@ -344,7 +400,7 @@ static void add_entry(const uint8_t *record)
 
 static void add_some_entry(void)
 {
-    uint8_t record[100];
+    uint8_t record[GAUGE_RECORD_LEN];
     some_key(record);
     some_rest(record);
     add_entry(record);
@@ -453,12 +509,12 @@ static void draft_flood_record(uint8_t *record)
     some_rest(record);
     uint32_t way = under(10);
     if (way < 3 && h > 0)
-        memcpy(record, now.cache + 100 * under(h), way < 2 ? 100 : 32);
+        memcpy(record, now.cache + GAUGE_RECORD_LEN * under(h), way < 2 ? GAUGE_RECORD_LEN : GAUGE_KEY_LEN);
     else if (way < 8)
-        memcpy(record, pool[under(32)], 32);
+        memcpy(record, pool[under(32)], GAUGE_KEY_LEN);
     if (way == 0 && h > 0 && percent(50)) { /* all the same but a bit of the port, or of the last address */
-        size_t last = 36 + 16 * (size_t)record[34] - 1;
-        flip_bit(record + (percent(50) ? 32 + under(2) : last), 1);
+        size_t last = GAUGE_RECORD_ADDRESSES + 16 * (size_t)record[GAUGE_RECORD_COUNT] - 1;
+        flip_bit(record + (percent(50) ? GAUGE_RECORD_PORT + under(2) : last), 1);
     }
 }
 
@@ -486,7 +542,7 @@ static void draft_flood_of(const uint8_t *key, const uint8_t *record, bool revok
 
 static void draft_flood(bool revoke)
 {
-    uint8_t key[32], record[100];
+    uint8_t key[GAUGE_KEY_LEN], record[GAUGE_RECORD_LEN];
     some_key(key);
     draft_flood_record(record);
     draft_flood_of(key, record, revoke);
@@ -494,7 +550,7 @@ static void draft_flood(bool revoke)
 
 static void draft_inquire(void)
 {
-    uint8_t key[32];
+    uint8_t key[GAUGE_KEY_LEN];
     some_key(key);
     add_header(7);
     add_field(0x40, 2);
@@ -608,7 +664,7 @@ static void draft_target(uint8_t *target)
     size_t h = held();
     uint32_t way = under(20);
     if (way < 5 && h > 0) {
-        memcpy(target, now.cache + 100 * (h - 1), 32);
+        memcpy(target, now.cache + GAUGE_RECORD_LEN * (h - 1), GAUGE_KEY_LEN);
         shift(target, little());
     } else if (way < 12) {
         some_key(target);
@@ -620,7 +676,7 @@ static void draft_target(uint8_t *target)
 static void draft_lookup(void)
 {
     static const uint8_t criteria[] = {0, 1, 2, 4, 8};
-    uint8_t target[32], validate[32];
+    uint8_t target[GAUGE_KEY_LEN], validate[GAUGE_KEY_LEN];
     some_key(validate);
     draft_target(target);
     add_header(11);
@@ -676,7 +732,7 @@ void damage_draft(void)
 void damage_head(void)
 {
     switch (under(3)) {
-    case 0: draft.n = percent(50) ? 8 + under(4) : 1233; break;
+    case 0: draft.n = percent(50) ? 8 + under(4) : GAUGE_DATAGRAM_MOST + 1; break;
     case 1: flip_bit(draft.b, 5); break;
     default: draft.b[5] = any(); break;
     }
@@ -708,12 +764,12 @@ void draft_message(uint8_t *key)
     default: draft_lookup(); break;
     }
     for (size_t i = 0; i < waits(); i++) {
-        const uint8_t *p = now.waiting + 140 * i;
+        const uint8_t *p = now.waiting + GAUGE_PLACE_LEN * i;
         uint32_t id = (uint32_t)p[0] | (uint32_t)p[1] << 8 | (uint32_t)p[2] << 16 | (uint32_t)p[3] << 24;
         if (draft.b[7] == 8 && id == to && percent(92))
-            memcpy(key, p + 8, 32);
+            memcpy(key, p + 8, GAUGE_KEY_LEN);
         else if (draft.b[7] == 4 && p[4] == 2 && percent(5))
-            memcpy(key, p + 8, 32);
+            memcpy(key, p + 8, GAUGE_KEY_LEN);
     }
     while (percent(28))
         damage_draft();
@@ -723,21 +779,21 @@ void draft_message(uint8_t *key)
 
 void draft_learning(uint8_t *key)
 {
-    uint8_t record[100];
+    uint8_t record[GAUGE_RECORD_LEN];
     for (size_t i = 0; i < waits(); i++) {
-        const uint8_t *p = now.waiting + 140 * i;
+        const uint8_t *p = now.waiting + GAUGE_PLACE_LEN * i;
         if (p[4] == 2) {
-            memcpy(key, p + 8, 32);
+            memcpy(key, p + 8, GAUGE_KEY_LEN);
             draft_authority((uint32_t)p[0] | (uint32_t)p[1] << 8 | (uint32_t)p[2] << 16 | (uint32_t)p[3] << 24);
             return;
         }
     }
     if (percent(25))
-        memcpy(record, pool[under(32)], 32);
+        memcpy(record, pool[under(32)], GAUGE_KEY_LEN);
     else
-        fill(record, 32);
+        fill(record, GAUGE_KEY_LEN);
     some_rest(record);
-    memcpy(key, record, 32);
+    memcpy(key, record, GAUGE_KEY_LEN);
     draft_flood_of(key, record, false);
 }
 
@@ -758,9 +814,9 @@ void draft_send(uint8_t *neighbour, uint8_t *key)
     some_key(neighbour);
     some_key(key);
     if (h > 0 && percent(75))
-        memcpy(neighbour, now.cache + 100 * under(h), 32);
+        memcpy(neighbour, now.cache + GAUGE_RECORD_LEN * under(h), GAUGE_KEY_LEN);
     if (percent(35))
-        memcpy(key, own, 32);
+        memcpy(key, own, GAUGE_KEY_LEN);
     else if (h > 0 && percent(70))
-        memcpy(key, now.cache + 100 * under(h), 32);
+        memcpy(key, now.cache + GAUGE_RECORD_LEN * under(h), GAUGE_KEY_LEN);
 }

@@ -3,9 +3,8 @@
 #ifndef DRAFT_H
 #define DRAFT_H
 
-#include <stdbool.h>
-#include <stddef.h>
-#include <stdint.h>
+#include "gauge.h"
+#include "lent.h"
 
 #define MEMORY_ROOM (8u * 4096u)
 
@@ -20,17 +19,29 @@ void set_byte(uint8_t *p, size_t n); /* one of n bytes, to any */
 void flip_bit(uint8_t *p, size_t n); /* one bit of n bytes */
 
 /* The night's gauge. Whoever makes the calls keeps `now` as the last one left it. */
+#define MEMORY(name, use, usual, calls) \
+    uint8_t name[MEMORY_ROOM];          \
+    size_t name##_len;
 struct memory {
-    uint8_t cache[MEMORY_ROOM], waiting[MEMORY_ROOM];
-    size_t cache_len, waiting_len;
+    LENT_MEMORIES(MEMORY)
 };
+#undef MEMORY
 extern struct memory now;
-extern uint8_t own[100];
+extern uint8_t own[GAUGE_RECORD_LEN];
 extern uint8_t own_major, own_minor;
 extern size_t own_cpa;          /* its length, where it may have any */
 extern unsigned ticks, answers; /* how often in this night, of 100 */
 
-void begin_gauge(void); /* all but `now`, anew */
+void begin_gauge(void);           /* all but `now`, anew */
+void begin_memory(size_t records); /* `now`, all zero, with a cache of so many records */
+
+/* What is lent, as far as the gauge has it by itself: the own record, a CPA of one zero byte, the versions, and all zero what else is to be read.
+ * Memory that has no place yet is then that of `m`; and what was lent, where it has a place, is kept there. */
+struct lent lend_gauge(void);
+void lend_memory(struct lent *l, struct memory *m);
+void keep_memory(struct memory *m, const struct lent *l);
+void copy_memory(struct memory *to, struct memory *from);
+
 size_t held(void);      /* records in the cache */
 size_t waits(void);     /* places in use */
 

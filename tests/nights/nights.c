@@ -70,8 +70,7 @@ static void want(uint32_t number, uint32_t answer)
 
 /* What was reached. */
 
-enum { RECEIVE, SEND, TICK, KINDS };
-static unsigned long reached[KINDS][MESSAGES][16];
+static struct times reached[TICK + 1][MESSAGES];
 
 enum { EMPTY_NIGHT, LONG_NIGHT, SHAPELESS, FULL_CACHE, DROPPED, SIXTEEN, ID_LAST, ID_ORDER, SIZE_0, SIZE_1232, SIZE_1233, SIZE_65480, FOLLOWED,
        AT_ONCE, DONE };
@@ -83,9 +82,9 @@ static unsigned long done[DONE];
 
 static void count_call(int kind, int message, uint32_t answer, uint32_t id)
 {
-    reached[kind][message][answer & 15]++;
+    count_number(&reached[kind][message], answer);
     done[FULL_CACHE] += held() == FULL;
-    done[SIXTEEN] += waits() == 16;
+    done[SIXTEEN] += waits() == GAUGE_PLACES;
     if (kind != TICK) {
         done[ID_LAST] += id == UINT32_MAX;
         done[ID_ORDER] += answer == 0 && id >> 24 != (id & 0xFF);
@@ -94,15 +93,15 @@ static void count_call(int kind, int message, uint32_t answer, uint32_t id)
 
 static void count_size(size_t len, uint32_t answer)
 {
-    done[SIZE_0] += len == 0 && answer == 2;
-    done[SIZE_1232] += len == 1232 && answer == 0;
-    done[SIZE_1233] += len == 1233 && answer == 2;
-    done[SIZE_65480] += len == 65480 && answer == 2;
+    done[SIZE_0] += len == 0 && answer == GAUGE_LENGTH;
+    done[SIZE_1232] += len == GAUGE_DATAGRAM_MOST && answer == 0;
+    done[SIZE_1233] += len == GAUGE_DATAGRAM_MOST + 1 && answer == GAUGE_LENGTH;
+    done[SIZE_65480] += len == 65480 && answer == GAUGE_LENGTH;
 }
 
 /* The calls, recorded and made. C is 64, the output has 2,464 bytes, the own CPA is one zero byte. */
 
-static uint8_t output[2464];
+static uint8_t output[GAUGE_OUTPUT_LEN];
 
 static struct bytes part(const uint8_t *at, size_t len)
 {
@@ -110,49 +109,56 @@ static struct bytes part(const uint8_t *at, size_t len)
     return b;
 }
 
-static struct room room(uint8_t *at, size_t len)
+/* What the night's gauge lends to each call. */
+static struct lent lend(uint32_t id)
 {
-    struct room r = {at, len};
-    return r;
+    struct lent l = lend_gauge();
+    lend_memory(&l, &now);
+    l.output = as_room(output, sizeof output);
+    l.id = id;
+    return l;
 }
 
 static bool is_held(const uint8_t *key)
 {
     for (size_t i = 0; i < held(); i++)
-        if (memcmp(now.cache + 100 * i, key, 32) == 0)
+        if (memcmp(now.cache + GAUGE_RECORD_LEN * i, key, GAUGE_KEY_LEN) == 0)
             return true;
     return false;
 }
 
 /* The key that was dropped last in this night. Only a call about it can tell a cache of one record more. */
-static uint8_t dropped[32];
+static uint8_t dropped[GAUGE_KEY_LEN];
 static bool any_dropped;
 
 static void find_dropped(const uint8_t *before, const uint8_t *newcomer)
 {
-    memcpy(dropped, newcomer, 32);
+    memcpy(dropped, newcomer, GAUGE_KEY_LEN);
     for (size_t i = 0; i < FULL; i++)
-        if (!is_held(before + 100 * i))
-            memcpy(dropped, before + 100 * i, 32);
+        if (!is_held(before + GAUGE_RECORD_LEN * i))
+            memcpy(dropped, before + GAUGE_RECORD_LEN * i, GAUGE_KEY_LEN);
     any_dropped = true;
     done[DROPPED]++;
 }
 
-static void receive(uint32_t id, uint8_t verdict, const uint8_t *key, const uint8_t *nonce, struct bytes datagram)
+static void receive(uint32_t id, uint8_t verdict, uint8_t *key, uint8_t *nonce, struct room datagram)
 {
-    static const uint8_t cpa[1] = {0};
-    uint8_t before[100 * FULL];
+    struct lent l = lend(id);
+    uint8_t before[GAUGE_RECORD_LEN * FULL];
     bool full = held() == FULL, new = !is_held(key);
     memcpy(before, now.cache, sizeof before);
     put_head(1, 53 + datagram.len);
     put_number(id, 4);
     put(&verdict, 1);
-    put(key, 32);
-    put(nonce, 16);
+    put(key, GAUGE_KEY_LEN);
+    put(nonce, GAUGE_NONCE_LEN);
     put(datagram.at, datagram.len);
-    uint32_t answer = model_receive(part(own, 100), part(cpa, 1), room(now.cache, now.cache_len), room(now.waiting, now.waiting_len), own_major,
-                                    own_minor, id, part(nonce, 16), verdict, part(key, 32), datagram, room(output, sizeof output)).number;
-    int message = message_of(own_major, datagram);
+    l.verdict = verdict;
+    l.key = as_room(key, GAUGE_KEY_LEN);
+    l.nonce = as_room(nonce, GAUGE_NONCE_LEN);
+    l.datagram = datagram;
+    uint32_t answer = model_receive(&l).number;
+    int message = message_of(&l);
     want((uint32_t)lines + 1, answer);
     count_call(RECEIVE, message, answer, id);
     count_size(datagram.len, answer);
@@ -160,59 +166,62 @@ static void receive(uint32_t id, uint8_t verdict, const uint8_t *key, const uint
         find_dropped(before, key);
 }
 
-static void send(uint32_t id, const uint8_t *neighbour, const uint8_t *key)
+static void send(uint32_t id, uint8_t *neighbour, uint8_t *key)
 {
+    struct lent l = lend(id);
     put_head(2, 68);
     put_number(id, 4);
-    put(neighbour, 32);
-    put(key, 32);
-    uint32_t answer = model_send(part(own, 100), part(now.cache, now.cache_len), room(now.waiting, now.waiting_len), own_major, own_minor, id,
-                                 part(neighbour, 32), part(key, 32), room(output, sizeof output)).number;
+    put(neighbour, GAUGE_KEY_LEN);
+    put(key, GAUGE_KEY_LEN);
+    l.neighbour = as_room(neighbour, GAUGE_KEY_LEN);
+    l.key = as_room(key, GAUGE_KEY_LEN);
+    uint32_t answer = model_send(&l).number;
     want((uint32_t)lines + 1, answer);
     count_call(SEND, NONE, answer, id);
 }
 
 static void tick(void)
 {
+    struct lent l = lend(0);
     put_head(3, 0);
-    uint32_t answer = model_tick(part(own, 100), room(now.waiting, now.waiting_len), room(output, sizeof output)).number;
+    uint32_t answer = model_tick(&l).number;
     want((uint32_t)lines + 1, answer);
     count_call(TICK, NONE, answer, 0);
 }
 
 /* Now and then a datagram at a limit of its length, or of the greatest that a record can carry. */
-static struct bytes some_datagram(uint8_t *key)
+static struct room some_datagram(uint8_t *key)
 {
-    static const uint32_t sizes[] = {0, 1232, 1233, 65480};
+    static const uint32_t sizes[] = {0, GAUGE_DATAGRAM_MOST, GAUGE_DATAGRAM_MOST + 1, 65480};
     static uint8_t longest[65480];
     draft_message(key);
     if (percent(9))
         damage_head();
     if (!percent(2))
-        return part(draft.b, draft.n);
+        return as_room(draft.b, draft.n);
     size_t n = sizes[under(4)];
-    draft_inquire_of(n == 1232 ? n : 1233);
+    draft_inquire_of(n == GAUGE_DATAGRAM_MOST ? n : GAUGE_DATAGRAM_MOST + 1);
     if (n <= draft.n)
-        return part(draft.b, n);
+        return as_room(draft.b, n);
     memcpy(longest, draft.b, draft.n);
     fill(longest + draft.n, n - draft.n);
-    return part(longest, n);
+    return as_room(longest, n);
 }
 
 static void some_call(void)
 {
-    uint8_t key[32], other[32];
+    uint8_t key[GAUGE_KEY_LEN], other[GAUGE_KEY_LEN];
     uint32_t way = under(100), id = some_id();
     if (way < ticks) {
         tick();
     } else if (way < ticks + 14) {
         draft_send(other, key);
         if (any_dropped && percent(30))
-            memcpy(percent(50) ? other : key, dropped, 32);
+            memcpy(percent(50) ? other : key, dropped, GAUGE_KEY_LEN);
         send(id, other, key);
     } else {
-        struct bytes datagram = some_datagram(key);
-        fill(other, 16);
+        struct room datagram = some_datagram(key);
+        fill(other, GAUGE_NONCE_LEN);
         receive(id, percent(88) ? 1 : any(), key, other, datagram);
     }
 }
@@ -220,14 +229,14 @@ static void some_call(void)
 /* Calls until the cache is full and some keys were dropped, which chance alone would hardly reach. */
 static void fill_cache(void)
 {
-    uint8_t key[32], nonce[16];
+    uint8_t key[GAUGE_KEY_LEN], nonce[GAUGE_NONCE_LEN];
     int more = 30;
     for (int i = 0; i < 400 && more > 0; i++) {
         more -= held() == FULL;
         uint32_t id = some_id();
         draft_learning(key);
-        fill(nonce, 16);
-        receive(id, 1, key, nonce, part(draft.b, draft.n));
+        fill(nonce, GAUGE_NONCE_LEN);
+        receive(id, 1, key, nonce, as_room(draft.b, draft.n));
     }
 }
 
@@ -287,7 +296,7 @@ static void put_first(void)
     put_head(4, 102);
     put(&own_major, 1);
     put(&own_minor, 1);
-    put(own, 100);
+    put(own, GAUGE_RECORD_LEN);
 }
 
 /* The bytes of a bad record. The body of a kind 4 is a good one as far as it goes: versions and a record. */
@@ -350,14 +359,14 @@ static void end_badly(const struct way *w, bool first)
 static void spoil_own(void)
 {
     switch (under(5)) {
-    case 0: own[34] = 0; break;
-    case 1: own[34] = (uint8_t)(5 + under(251)); break;
+    case 0: own[GAUGE_RECORD_COUNT] = 0; break;
+    case 1: own[GAUGE_RECORD_COUNT] = (uint8_t)(5 + under(251)); break;
     case 2: own[35] = (uint8_t)(1 + under(255)); break;
     case 3:
-        own[34] = (uint8_t)(1 + under(3));
+        own[GAUGE_RECORD_COUNT] = (uint8_t)(1 + under(3));
         own[99] = (uint8_t)(1 + under(255));
         break;
-    default: memset(own, 0, 100); break;
+    default: memset(own, 0, GAUGE_RECORD_LEN); break;
     }
     done[SHAPELESS]++;
 }
@@ -373,9 +382,7 @@ static void make_night(unsigned long i)
 {
     bool bad = i % 5 == 0, first = false;
     const struct way *w = bad ? next_way(&first) : NULL;
-    memset(&now, 0, sizeof now);
-    now.cache_len = 100 * FULL;
-    now.waiting_len = 2240;
+    begin_memory(FULL);
     trace_len = lines = 0;
     any_dropped = false;
     begin_gauge();
@@ -474,12 +481,12 @@ static int show_marked(const char *name, unsigned long times, bool possible)
 static int show_all(void)
 {
     int faults = 0;
-    const uint32_t sends = BIT(0) | BIT(1) | BIT(12) | BIT(13) | BIT(14);
+    const uint32_t sends = BIT(GAUGE_OK) | BIT(GAUGE_MEMORY) | BIT(GAUGE_NOT_OURS) | BIT(GAUGE_ID_WAITING) | BIT(GAUGE_FULL);
     show_numbers("reached, by number");
     for (int m = 0; m < MESSAGES; m++) /* the output has room for all that is sent */
-        faults += show_row("receive", messages[m], reached[RECEIVE][m], received[m] & ~BIT(15));
-    faults += show_row("send", "", reached[SEND][NONE], sends);
-    faults += show_row("tick", "", reached[TICK][NONE], BIT(0) | BIT(1));
+        faults += show_row("receive", messages[m], &reached[RECEIVE][m], received[m] & ~BIT(GAUGE_ROOM));
+    faults += show_row("send", "", &reached[SEND][NONE], sends);
+    faults += show_row("tick", "", &reached[TICK][NONE], BIT(GAUGE_OK) | BIT(GAUGE_MEMORY));
     printf("%-46s gives     first      later\n", "bad records");
     for (size_t i = 0; i < WAYS; i++) {
         printf("%-46s    %u", ways[i].name, ways[i].number);

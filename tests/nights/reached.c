@@ -4,21 +4,32 @@
 
 const char *const messages[] = {"cut before type", "unknown type", "SOLICIT", "ADVERTISE", "REQUEST", "FLOOD unread", "FLOOD entry",
                                 "FLOOD revoke", "INQUIRE", "AUTHORITY", "ACK", "LOOKUP"};
+#define LENT (BIT(GAUGE_OK) | BIT(GAUGE_MEMORY)) /* what any message may give that is taken at all */
 const uint32_t received[MESSAGES] = {
-    BIT(1) | BIT(2), BIT(1) | BIT(2) | BIT(3) | BIT(4) | BIT(5), BIT(1) | ALL | BIT(7), BIT(1) | ALL | BIT(7), BIT(1) | ALL | BIT(7), BIT(1) | ALL,
-    BIT(0) | BIT(1) | BIT(11) | BIT(13) | BIT(14) | BIT(15), BIT(0) | BIT(1) | BIT(9) | BIT(11) | BIT(15), BIT(0) | BIT(1) | ALL | BIT(12) | BIT(15),
-    BIT(0) | BIT(1) | ALL | BIT(7) | BIT(8) | BIT(9) | BIT(10), BIT(0) | BIT(1) | ALL | BIT(8), BIT(0) | BIT(1) | ALL | BIT(15)};
+    [NONE] = BIT(GAUGE_MEMORY) | BIT(GAUGE_LENGTH),
+    [UNKNOWN] = BIT(GAUGE_MEMORY) | UNKNOWN_TYPE,
+    [SOLICIT] = BIT(GAUGE_MEMORY) | ALL | BIT(GAUGE_NOT_TAKEN),
+    [ADVERTISE] = BIT(GAUGE_MEMORY) | ALL | BIT(GAUGE_NOT_TAKEN),
+    [REQUEST] = BIT(GAUGE_MEMORY) | ALL | BIT(GAUGE_NOT_TAKEN),
+    [FLOOD] = BIT(GAUGE_MEMORY) | ALL,
+    [ENTRY] = LENT | BIT(GAUGE_OWN_KEY) | BIT(GAUGE_ID_WAITING) | BIT(GAUGE_FULL) | BIT(GAUGE_ROOM),
+    [REVOKE] = LENT | BIT(GAUGE_UNTRUSTED) | BIT(GAUGE_OWN_KEY) | BIT(GAUGE_ROOM),
+    [INQUIRE] = LENT | ALL | BIT(GAUGE_NOT_OURS) | BIT(GAUGE_ROOM),
+    [AUTHORITY] = LENT | ALL | BIT(GAUGE_NOT_TAKEN) | BIT(GAUGE_STRAY) | BIT(GAUGE_UNTRUSTED) | BIT(GAUGE_OTHER_KEY),
+    [ACK] = LENT | ALL | BIT(GAUGE_STRAY),
+    [LOOKUP] = LENT | ALL | BIT(GAUGE_ROOM)};
 
-int message_of(uint8_t major, struct bytes datagram)
+int message_of(const struct lent *l)
 {
     static const uint8_t types[] = {UNKNOWN, SOLICIT, ADVERTISE, REQUEST, FLOOD, UNKNOWN, UNKNOWN, INQUIRE, AUTHORITY, ACK, UNKNOWN, LOOKUP};
-    if (datagram.len < 8)
+    if (l->datagram.len < 8)
         return NONE;
-    int m = datagram.at[7] < sizeof types ? types[datagram.at[7]] : UNKNOWN;
+    uint8_t type = l->datagram.at[7];
+    int m = type < sizeof types ? types[type] : UNKNOWN;
     if (m == FLOOD) {
-        struct model_look l = model_look(major, datagram);
-        if (l.number == 0)
-            m = l.entry.at != 0 ? ENTRY : REVOKE;
+        struct model_look seen = model_look(l);
+        if (seen.number == 0)
+            m = seen.entry.at != 0 ? ENTRY : REVOKE;
     }
     return m;
 }
@@ -35,29 +46,67 @@ bool too_seldom(unsigned long times)
     return times < least;
 }
 
+void count_number(struct times *t, uint64_t number)
+{
+    if (number < NUMBERS)
+        t->of[number]++;
+    else
+        t->above++;
+}
+
+/* The numbers that have a column. */
+static uint32_t columns(void)
+{
+    uint32_t all = 0;
+    for (int m = 0; m < MESSAGES; m++)
+        all |= received[m];
+    return all;
+}
+
 void show_numbers(const char *title)
 {
     printf("%-28s", title);
-    for (int n = 0; n < 16; n++)
-        printf("%8d", n);
+    for (int n = 0; n < NUMBERS; n++)
+        if (columns() >> n & 1)
+            printf("%8d", n);
     printf("\n");
 }
 
-int show_row(const char *kind, const char *message, const unsigned long *times, uint32_t possible)
+/* What has no column: a number that was given, or should have been. Gives how much was marked. */
+static int show_beside(const struct times *t, uint32_t possible)
+{
+    int faults = 0;
+    for (int n = 0; n < NUMBERS; n++) {
+        bool can = possible >> n & 1;
+        if ((columns() >> n & 1) || (!can && t->of[n] == 0))
+            continue;
+        bool fault = !can || too_seldom(t->of[n]);
+        printf("  %d: %lu%s", n, t->of[n], fault ? "!" : "");
+        faults += fault;
+    }
+    if (t->above != 0)
+        printf("  above: %lu!", t->above);
+    return faults + (t->above != 0);
+}
+
+int show_row(const char *kind, const char *message, const struct times *t, uint32_t possible)
 {
     int faults = 0;
     printf("%-11s%-17s", kind, message);
-    for (int n = 0; n < 16; n++) {
+    for (int n = 0; n < NUMBERS; n++) {
         bool can = possible >> n & 1;
-        if (can || times[n] != 0)
-            printf("%8lu", times[n]);
+        if (!(columns() >> n & 1))
+            continue;
+        if (can || t->of[n] != 0)
+            printf("%8lu", t->of[n]);
         else
             printf("%8s", ".");
-        if (can ? too_seldom(times[n]) : times[n] != 0) {
+        if (can ? too_seldom(t->of[n]) : t->of[n] != 0) {
             faults++;
             printf("!");
         }
     }
+    faults += show_beside(t, possible);
     printf("\n");
     return faults;
 }

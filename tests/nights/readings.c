@@ -10,9 +10,9 @@
  *
  * With ALONE the model stands in for the archive too: so the sanitizers see it on a machine that can't link the archive. */
 #define _DEFAULT_SOURCE
+#include "calling.h"
 #include "draft.h"
 #include "fence.h"
-#include "gauge.h"
 #include "model_read.h"
 #include "model_readings.h"
 #include "reached.h"
@@ -22,19 +22,16 @@
 #include <string.h>
 #include <unistd.h>
 
-#define MOST 1232u
+#define MOST ((size_t)GAUGE_DATAGRAM_MOST)
 #define GATE 100000ul /* calls */
 #define COUNT(a) (sizeof(a) / sizeof *(a))
-
-enum { CARRY, CARRIED, BALANCE, KINDS };
-static const char *const kinds[] = {"carry", "carried", "balance"};
 
 struct reading {
     uint32_t kind, measure, litres_in, litres_out;
 };
 
 struct call {
-    int kind;
+    enum call_kind kind;
     uint8_t major, filled;
     bool front; /* slices begin where a page that may not be touched ends; otherwise they end where one begins */
     struct reading reading;
@@ -55,61 +52,57 @@ static bool running; /* for the handler */
 
 enum { ARCHIVE, MODEL, SIDES };
 static struct fence datagrams[SIDES], outputs[SIDES];
-static struct bytes lent[SIDES];
-static struct room rooms[SIDES];
+static struct lent lent[SIDES];
 
 static void lend(int side, const struct call *c)
 {
-    uint8_t *d = fenced(&datagrams[side], c->front, c->len);
-    memcpy(d, c->datagram, c->len);
-    lent[side].at = d;
-    lent[side].len = c->len;
-    rooms[side].at = fenced(&outputs[side], c->front, c->room);
-    rooms[side].len = c->room;
-    memset(rooms[side].at, c->filled, c->room);
+    struct lent *l = &lent[side];
+    memset(l, 0, sizeof *l);
+    l->datagram = as_room(fenced(&datagrams[side], c->front, c->len), c->len);
+    memcpy(l->datagram.at, c->datagram, c->len);
+    l->output = as_room(fenced(&outputs[side], c->front, c->room), c->room);
+    memset(l->output.at, c->filled, c->room);
+    l->major = c->major;
+    l->kind = c->reading.kind;
+    l->measure = c->reading.measure;
+    l->litres_in = c->reading.litres_in;
+    l->litres_out = c->reading.litres_out;
 }
 
-static struct result by_model(const struct call *c, int side)
+static struct result by_model(enum call_kind kind, const struct lent *l)
 {
-    struct reading r = c->reading;
     struct result result = {{0}};
-    if (c->kind == CARRY) {
-        struct model_carry a = model_carry(c->major, lent[side], r.kind, r.measure, r.litres_in, r.litres_out, rooms[side]);
+    if (kind == CARRY) {
+        struct model_carry a = model_carry(l);
         struct result carry = {{a.number, a.length, a.reading, 0, 0, 0}};
         return carry;
     }
-    if (c->kind == CARRIED) {
-        struct model_reading a = model_carried(c->major, lent[side]);
+    if (kind == CARRIED) {
+        struct model_reading a = model_carried(l);
         struct result carried = {{a.number, a.reading, a.kind, a.measure, a.litres_in, a.litres_out}};
         return carried;
     }
-    result.numbers[0] = model_balance(r.litres_in, r.litres_out);
+    result.numbers[0] = model_balance(l);
     return result;
 }
 
 #ifdef ALONE
-static struct result by_archive(const struct call *c)
-{
-    return by_model(c, ARCHIVE);
-}
+#define by_archive by_model
 #else
-static struct result by_archive(const struct call *c)
+static struct result by_archive(enum call_kind kind, const struct lent *l)
 {
-    struct reading r = c->reading;
-    struct bytes d = lent[ARCHIVE];
-    struct room out = rooms[ARCHIVE];
     struct result result = {{0}};
-    if (c->kind == CARRY) {
-        struct gauge_carry a = gauge_carry(c->major, d.at, d.len, r.kind, r.measure, r.litres_in, r.litres_out, out.at, out.len);
+    if (kind == CARRY) {
+        struct gauge_carry a = call_carry(gauge_carry, l);
         struct result carry = {{a.number, a.length, a.reading, 0, 0, 0}};
         return carry;
     }
-    if (c->kind == CARRIED) {
-        struct gauge_reading a = gauge_carried(c->major, d.at, d.len);
+    if (kind == CARRIED) {
+        struct gauge_reading a = call_carried(gauge_carried, l);
         struct result carried = {{a.number, a.reading, a.kind, a.measure, a.litres_in, a.litres_out}};
         return carried;
     }
-    result.numbers[0] = gauge_balance(r.litres_in, r.litres_out);
+    result.numbers[0] = call_balance(gauge_balance, l);
     return result;
 }
 #endif
@@ -121,7 +114,7 @@ static const char *run(const struct call *c, struct result *answer)
     lend(ARCHIVE, c);
     lend(MODEL, c);
     running = true;
-    struct result a = by_archive(c), b = by_model(c, MODEL);
+    struct result a = by_archive(c->kind, &lent[ARCHIVE]), b = by_model(c->kind, &lent[MODEL]);
     running = false;
     *answer = a;
     for (int i = 0; i < 6; i++)
@@ -129,12 +122,13 @@ static const char *run(const struct call *c, struct result *answer)
             snprintf(what, sizeof what, "answer %d is %lld by the archive, %lld by the model", i, (long long)a.numbers[i], (long long)b.numbers[i]);
             return what;
         }
+    const uint8_t *ours = lent[ARCHIVE].output.at, *other = lent[MODEL].output.at;
     for (size_t i = 0; i < c->room; i++)
-        if (rooms[ARCHIVE].at[i] != rooms[MODEL].at[i]) {
-            snprintf(what, sizeof what, "output byte %zu is %02x by the archive, %02x by the model", i, rooms[ARCHIVE].at[i], rooms[MODEL].at[i]);
+        if (ours[i] != other[i]) {
+            snprintf(what, sizeof what, "output byte %zu is %02x by the archive, %02x by the model", i, ours[i], other[i]);
             return what;
         }
-    if (memcmp(lent[ARCHIVE].at, c->datagram, c->len) != 0)
+    if (memcmp(lent[ARCHIVE].datagram.at, c->datagram, c->len) != 0)
         return "the datagram has changed";
     if (!margin_whole(&outputs[ARCHIVE], c->front, c->room) || !margin_whole(&outputs[MODEL], c->front, c->room))
         return "written outside of the output";
@@ -161,7 +155,7 @@ static const char *read_back(const struct call *c, const uint8_t *bytes, size_t 
 
 static void show_call(const struct call *c)
 {
-    printf("%s major=%u kind=%u measure=%08X in=%u out=%u room=%zu datagram=", kinds[c->kind], c->major, c->reading.kind, c->reading.measure,
+    printf("%s major=%u kind=%u measure=%08X in=%u out=%u room=%zu datagram=", call_names[c->kind], c->major, c->reading.kind, c->reading.measure,
            c->reading.litres_in, c->reading.litres_out, c->room);
     for (size_t i = 0; i < c->len; i++)
         printf("%02X", c->datagram[i]);
@@ -296,7 +290,7 @@ static size_t some_whole(void)
 
 static void draft_datagram(void)
 {
-    uint8_t key[32];
+    uint8_t key[GAUGE_KEY_LEN];
     uint32_t way = under(100);
     if (way < 20) {
         draft_message(key);
@@ -326,7 +320,7 @@ static size_t some_room(struct call *c)
     if (way == 7)
         return under(3);
     lend(MODEL, c);
-    size_t need = (size_t)by_model(c, MODEL).numbers[1];
+    size_t need = (size_t)by_model(c->kind, &lent[MODEL]).numbers[1];
     return need == 0 ? under(64) : need + under(3) - 1;
 }
 
@@ -354,7 +348,8 @@ static void make_call(struct call *c)
 
 /* What was reached. */
 
-static unsigned long numbers_reached[2][MESSAGES][16], readings_reached[2][16], depths_reached[COUNT(depths)];
+static struct times numbers_reached[CALLS][MESSAGES], readings_reached[CALLS];
+static unsigned long depths_reached[COUNT(depths)];
 
 enum { PUT_IN, REPLACED, EMPTY_REPLACED, LONGER_REPLACED, CHAIN, KEYTOKEN, CLASSIFIER, ENTRY_KEPT, CPA, EVERY_FIELD, FLAGS, PADDING, WHOLE_MOST,
        OVER_MOST, JUST_ROOM, BYTE_SHORT, NO_ROOM, FAULT_LEAST, FAULT_MOST, FAULT_OVER, READING_BEFORE_ROOM, NUMBER_BEFORE_READING, NONE_CARRIED,
@@ -383,7 +378,7 @@ static void count_accepted(const struct call *c, const struct message *m, size_t
     done[CPA] += m->cpa.at != 0;
     done[EVERY_FIELD] += m->chain.at != 0 && m->keytoken.at != 0 && m->classifier.at != 0 && m->payload.at != 0 && m->entry.at != 0 && m->cpa.at != 0;
     done[FLAGS] += (m->flags & ~0x0209u) != 0;
-    done[PADDING] += c->datagram[34] != 0 || c->datagram[35] != 0;
+    done[PADDING] += c->datagram[GAUGE_RECORD_COUNT] != 0 || c->datagram[35] != 0;
     done[WHOLE_MOST] += length == MOST;
     done[JUST_ROOM] += length == c->room;
     done[FAULT_LEAST] += c->reading.kind == 2 && c->reading.measure == 0;
@@ -402,8 +397,8 @@ static void count_carry(const struct call *c, const struct message *m, const int
     if (a[0] == 0 && a[2] == 0)
         count_accepted(c, m, (size_t)a[1]);
     if (a[0] == 0)
-        readings_reached[CARRY][a[2]]++;
-    if (a[0] == 15) {
+        count_number(&readings_reached[CARRY], (uint64_t)a[2]);
+    if (a[0] == GAUGE_ROOM) {
         done[OVER_MOST] += c->room > MOST;
         done[BYTE_SHORT] += c->room == needed(c, m) - 1 && c->room < MOST;
         done[NO_ROOM] += c->room == 0;
@@ -413,7 +408,7 @@ static void count_carry(const struct call *c, const struct message *m, const int
             depths_reached[i] += depths[i].bits == c->reading.measure && (a[2] == 0) == (i < DEPTHS_GOOD);
     done[FAULT_OVER] += a[2] == 1 && c->reading.measure == 65536;
     done[READING_BEFORE_ROOM] += a[2] != 0 && c->room < needed(c, m);
-    done[NUMBER_BEFORE_READING] += a[0] != 0 && a[0] != 15 && reading_bad(c->reading);
+    done[NUMBER_BEFORE_READING] += a[0] != 0 && a[0] != GAUGE_ROOM && reading_bad(c->reading);
 }
 
 static void count_carried(const struct call *c, const struct message *m, const int64_t *a)
@@ -426,7 +421,7 @@ static void count_carried(const struct call *c, const struct message *m, const i
         done[NONE_CARRIED]++;
         return;
     }
-    readings_reached[CARRIED][a[1]]++;
+    count_number(&readings_reached[CARRIED], (uint64_t)a[1]);
     done[A_DEPTH] += a[2] == 1;
     done[A_FAULT] += a[2] == 2;
     done[EMPTY] += n == 0;
@@ -454,7 +449,8 @@ static void count(const struct call *c, const struct result *r)
         count_balance(r->numbers[0]);
         return;
     }
-    numbers_reached[c->kind][message_of(c->major, d)][r->numbers[0] & 15]++;
+    lend(MODEL, c); /* anew: reading back has lent another */
+    count_number(&numbers_reached[c->kind][message_of(&lent[MODEL])], (uint64_t)r->numbers[0]);
     if (c->kind == CARRY)
         count_carry(c, &m, r->numbers);
     else
@@ -465,25 +461,26 @@ static void count(const struct call *c, const struct result *r)
 static uint32_t possible(int kind, int message)
 {
     switch (message) {
-    case NONE: return BIT(2);
-    case UNKNOWN: return BIT(2) | BIT(3) | BIT(4) | BIT(5);
+    case NONE: return BIT(GAUGE_LENGTH);
+    case UNKNOWN: return UNKNOWN_TYPE;
     case FLOOD: return ALL;
-    case ENTRY: case REVOKE: return BIT(5);
-    case AUTHORITY: return BIT(0) | ALL | BIT(7) | (kind == CARRY ? BIT(15) : 0);
-    default: return ALL | BIT(5);
+    case ENTRY: case REVOKE: return BIT(GAUGE_TYPE);
+    case AUTHORITY: return BIT(GAUGE_OK) | ALL | BIT(GAUGE_NOT_TAKEN) | (kind == CARRY ? BIT(GAUGE_ROOM) : 0);
+    default: return ALL | BIT(GAUGE_TYPE);
     }
 }
 
 static int show_reached(void)
 {
+    const uint32_t of_readings = BIT(GAUGE_READING_OK) | BIT(GAUGE_READING_LENGTH) | BIT(GAUGE_READING_KIND) | BIT(GAUGE_READING_OUTSIDE);
     int faults_found = 0;
     char name[40];
     show_numbers("reached, by number");
     for (int k = CARRY; k <= CARRIED; k++)
         for (int m = 0; m < MESSAGES; m++)
-            faults_found += show_row(kinds[k], messages[m], numbers_reached[k][m], possible(k, m));
+            faults_found += show_row(call_names[k], messages[m], &numbers_reached[k][m], possible(k, m));
     for (int k = CARRY; k <= CARRIED; k++)
-        faults_found += show_row(kinds[k], "the reading's", readings_reached[k], BIT(0) | BIT(1) | BIT(2) | BIT(3));
+        faults_found += show_row(call_names[k], "the reading's", &readings_reached[k], of_readings);
     for (int i = 0; i < DONE; i++)
         faults_found += show_times(done_names[i], done[i], i % 4 == 3 || i == DONE - 1);
     for (size_t i = 0; i < COUNT(depths); i++) {
@@ -502,7 +499,7 @@ static const char *next_call(struct call *c)
     const char *what = run(c, &r);
     if (what == NULL && c->kind == CARRY && r.numbers[1] != 0) {
         written_len = (size_t)r.numbers[1];
-        memcpy(written, rooms[ARCHIVE].at, written_len);
+        memcpy(written, lent[ARCHIVE].output.at, written_len);
         what = read_back(c, written, written_len);
     }
     if (what == NULL)
@@ -512,7 +509,7 @@ static const char *next_call(struct call *c)
 
 static int differ(const struct call *c, const char *what, bool plain)
 {
-    printf("readings: %s in call %lu, seed %llu: %s\n", kinds[c->kind], calls_run, (unsigned long long)seed, what);
+    printf("readings: %s in call %lu, seed %llu: %s\n", call_names[c->kind], calls_run, (unsigned long long)seed, what);
     if (!plain)
         show_call(c);
     return 1;

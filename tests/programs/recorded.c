@@ -4,14 +4,30 @@
  *
  * The first line is `own RECORD`, and each other line a call: `receive ID VERDICT KEY DATAGRAM`, `send ID NEIGHBOUR KEY` or `tick`. Bytes have two
  * hexadecimal digits each, - for none; versions are 6 and 101, and the nonce is 0 to 15. */
+#include "calling.h"
 #include "gauge_trace.h"
 #include <stdlib.h>
 #include <string.h>
 
 static char line[200000];
-static uint8_t own[GAUGE_RECORD_LEN], cache[GAUGE_TRACE_HELD * GAUGE_RECORD_LEN], waiting[GAUGE_WAITING_LEN], output[GAUGE_OUTPUT_LEN];
-static const uint8_t cpa[GAUGE_TRACE_CPA_LEN] = {0};
-static uint8_t nonce[GAUGE_NONCE_LEN];
+static uint8_t own[GAUGE_RECORD_LEN], nonce[GAUGE_NONCE_LEN];
+static struct lent lent;
+
+/* The gauge at a trace's beginning: what is not said is all zero, the CPA too. */
+static void begin(void)
+{
+    static uint8_t zeros[SLICES][GAUGE_CACHE_LEN(GAUGE_CACHE_MOST)]; /* as long as any */
+    for (int i = 0; i < SLICES; i++)
+        *slice_in(&lent, i) = as_room(zeros[i], slices[i].usual);
+    lent.cpa.len = GAUGE_TRACE_CPA_LEN;
+    lent.cache.len = GAUGE_CACHE_LEN(GAUGE_TRACE_HELD);
+    for (size_t i = 0; i < sizeof nonce; i++)
+        nonce[i] = (uint8_t)i;
+    lent.own = as_room(own, sizeof own);
+    lent.nonce = as_room(nonce, sizeof nonce);
+    lent.major = 6;
+    lent.minor = 101;
+}
 
 static void stop(const char *what)
 {
@@ -51,28 +67,30 @@ static void receive(struct gauge_trace *t)
 {
     static uint8_t datagram[sizeof line / 2];
     uint8_t key[GAUGE_KEY_LEN];
-    uint32_t id = number(), verdict = number();
+    lent.id = number();
+    lent.verdict = number();
     bytes(key, sizeof key);
-    size_t len = bytes(datagram, sizeof datagram);
-    struct gauge_answer a = gauge_receive(own, sizeof own, cpa, sizeof cpa, cache, sizeof cache, waiting, sizeof waiting, 6, 101, id, nonce,
-                                          sizeof nonce, verdict, key, sizeof key, datagram, len, output, sizeof output);
-    gauge_trace_receive(t, a.number, id, nonce, verdict, key, datagram, len);
+    lent.key = as_room(key, sizeof key);
+    lent.datagram = as_room(datagram, bytes(datagram, sizeof datagram));
+    struct gauge_answer a = call_receive(gauge_receive, &lent);
+    gauge_trace_receive(t, a.number, lent.id, nonce, lent.verdict, key, datagram, lent.datagram.len);
 }
 
 static void send(struct gauge_trace *t)
 {
     uint8_t neighbour[GAUGE_KEY_LEN], key[GAUGE_KEY_LEN];
-    uint32_t id = number();
+    lent.id = number();
     bytes(neighbour, sizeof neighbour);
     bytes(key, sizeof key);
-    struct gauge_answer a = gauge_send(own, sizeof own, cache, sizeof cache, waiting, sizeof waiting, 6, 101, id, neighbour, sizeof neighbour,
-                                       key, sizeof key, output, sizeof output);
-    gauge_trace_send(t, a.number, id, neighbour, key);
+    lent.neighbour = as_room(neighbour, sizeof neighbour);
+    lent.key = as_room(key, sizeof key);
+    struct gauge_answer a = call_send(gauge_send, &lent);
+    gauge_trace_send(t, a.number, lent.id, neighbour, key);
 }
 
 static void tick(struct gauge_trace *t)
 {
-    struct gauge_answer a = gauge_tick(own, sizeof own, waiting, sizeof waiting, output, sizeof output);
+    struct gauge_answer a = call_tick(gauge_tick, &lent);
     gauge_trace_tick(t, a.number);
 }
 
@@ -90,8 +108,7 @@ int main(int argc, char **argv)
     if (argc < 2 || fgets(line, sizeof line, stdin) == NULL || strtok(line, " \n") == NULL)
         stop("give a file for the trace, and calls");
     bytes(own, sizeof own);
-    for (size_t i = 0; i < sizeof nonce; i++)
-        nonce[i] = (uint8_t)i;
+    begin();
     struct gauge_trace t = gauge_trace_begin(opened(argv[1]), argc > 2 ? opened(argv[2]) : NULL, 6, 101, own);
     while (fgets(line, sizeof line, stdin) != NULL) {
         const char *call = strtok(line, " \n");

@@ -40,6 +40,12 @@ MEANING = {
     15: "no room for what would have to be sent",
     16: "cut short, or not as long as such a record is",
     17: "of no known kind, or the opening record is missing or comes again"}
+BAD_RECORD = (16, 17)  # these two end a replay; every other number is one that a call gave
+
+
+# Document 02 has numbers up to 25. One that has no words here yet is told by itself, so that it is neither lost nor taken for another.
+def meaning(answer):
+    return MEANING.get(answer, "number %d, which has no words yet" % answer)
 
 GLOSSARY = """The messages of the gauges; the number behind one is its ID:
   FLOOD      tells where a gauge is, or that its key is revoked
@@ -122,14 +128,14 @@ def sent_text(names, body, answer):
 
 
 def line(number, what, answer):
-    return "%6d  %-68s  %2d %s\n" % (number, what, answer, MEANING[answer])
+    return "%6d  %-68s  %2d %s\n" % (number, what, answer, meaning(answer))
 
 
 # The lines of the records behind the opening one: each that model_night.replay answers, beside what the record was.
 def record_lines(names, data, answers, major):
     at, lines = model_night.taken(data, 0)[2], []
     for n, answer in enumerate(answers, 1):
-        if answer > 15:
+        if answer in BAD_RECORD:
             what = "a record that cannot be used"
         else:
             kind, body, at = model_night.taken(data, at)
@@ -170,7 +176,7 @@ def waiting_text(names, places):
 
 
 def state_text(names, night):
-    records, places = model.held(night.own, night.cache), model.waits(night.own, night.waiting)
+    records, places = model.State(night).records, model.State(night).places
     below, above = model.nearest(night.own, records)
     return ("\nAt the end of the night\n" + held_text(names, records) + side_text(names, "below, the next keys down", below)
             + side_text(names, "above, the next keys up", above) + waiting_text(names, places))
@@ -179,7 +185,7 @@ def state_text(names, night):
 def totals_text(answers):
     refused = [a for a in answers if a != 0]
     text = "\nRecords   %8d\nAccepted  %8d\nRefused   %8d\n" % (len(answers), len(answers) - len(refused), len(refused))
-    return text + "".join("%18d  %2d %s\n" % (refused.count(n), n, MEANING[n]) for n in sorted(set(refused)))
+    return text + "".join("%18d  %2d %s\n" % (refused.count(n), n, meaning(n)) for n in sorted(set(refused)))
 
 
 # --- The whole -------------------------------------------------------------------------------------------------------------
@@ -196,7 +202,7 @@ def shown(data, names=b""):
         return HEADING + line(0, what, answers[0]) + NO_NIGHT
     known = names_of(names)
     text = opening_text(known, night) + HEADING + record_lines(known, data, answers, night.major)
-    if answers and answers[-1] > 15:
+    if answers and answers[-1] in BAD_RECORD:
         text += STOPPED
     return text + state_text(known, night) + totals_text(answers)
 

@@ -154,7 +154,7 @@ def round_trace():
     lines, night = model_night.replay(data)
     assert [line.split()[1] for line in lines] == ["0"] * len(calls)
     kept = [(1 + steps) % 2 ** 256 for steps in range(-32, 33) if steps]
-    assert [model.key_of(r) for r in model.held(night.own, night.cache)] == sorted(kept)
+    assert [model.key_of(r) for r in model.State(night).records] == sorted(kept)
     return data
 
 
@@ -182,7 +182,7 @@ def random_trace(seed, count):
 
 
 def random_record(chance, pool, night):
-    places = model.waits(night.own, night.waiting)
+    places = model.State(night).places
     waiting = chance.choice(places) if places and chance.random() < 0.9 else model.place(chance.randrange(2 ** 32), 1, 2, key(pool[1]))
     identity = chance.choice([chance.randrange(2 ** 32), chance.randrange(40), waiting["id"], 2 ** 32 - 1])
     which = chance.randrange(12)

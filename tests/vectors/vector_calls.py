@@ -56,7 +56,17 @@ OWN, CPA, NONCE, ZERO = record(100, 2, 5100), bytes([1, 2, 3, 4, 5]), bytes(rang
 ROOM = 2464  # docs/MEMORY.md: always enough
 
 
-# Which numbers of document 01's table apply, each judged by itself as far as what is lent can be read. The lowest must be the one given.
+# What is given when several apply: the first of this list that does. Document 01: "The lowest number that applies is given"; document 02 puts its
+# numbers 18 to 25 between these, so that the order is written here, and not taken from the size of the numbers.
+ORDER = (1, 2, 3, 4, 5, 6, 7, 8, 9, 10, 11, 12, 13, 14, 15)
+
+
+def given(applies):
+    assert applies <= set(ORDER), applies
+    return next((n for n in ORDER if n in applies), 0)
+
+
+# Which numbers of document 01's table apply, each judged by itself as far as what is lent can be read. The first in order must be the one given.
 
 def datagram_applies(d, major):
     """2 to 7, which look at the datagram alone; the kind of message; and the message, also where bytes are left over behind it."""
@@ -84,12 +94,14 @@ def opening_applies(places, identity):
     return ({13} if identity in [p["id"] for p in places] else set()) | ({14} if len(places) == 16 else set())
 
 
-def receive_applies(g, identity, nonce, verdict, named, d, room):
+def receive_applies(g, lent, room):
+    d, verdict = lent.datagram, lent.verdict
     numbers, kind, m = datagram_applies(d, g.major)
-    records, places = model.held(g.own, g.cache), model.waits(g.own, g.waiting)
-    if not model.record_form(g.own) or not 1 <= len(g.cpa) <= 1024 or records is None or places is None or len(nonce) != 16 or len(named) != 32:
+    records, places = model.State(g).records, model.State(g).places
+    lengths = 1 <= len(g.cpa) <= 1024 and len(lent.nonce) == 16 and len(lent.key) == 32
+    if not model.record_form(g.own) or records is None or places is None or not lengths:
         return numbers | {1}, kind
-    own, key_named, need = model.key_of(g.own), model.value(named), 0
+    own, key_named, need = model.key_of(g.own), model.value(lent.key), 0
     if kind in ("ack", "authority") and d[12:16] == bytes.fromhex("00180008"):
         waiting = [p for p in places if p["id"] == model.value(d[16:20]) and p["kind"] == (1 if kind == "ack" else 2)]
         numbers |= {8} if not waiting else set()
@@ -102,7 +114,7 @@ def receive_applies(g, identity, nonce, verdict, named, d, room):
         r = model.record_of(m["route"])
         numbers |= {11} if model.key_of(r) == own else set()
         if r not in records and not any(p["kind"] == 2 and model.value(p["key"]) == model.key_of(r) for p in places):
-            numbers |= opening_applies(places, (identity + 1) % 2 ** 32)
+            numbers |= opening_applies(places, (lent.identity + 1) % 2 ** 32)
             need += 76
     if kind in ("flood", "revocation") and m is not None and not m["d"]:
         need += 20 if model.value(m["validate"]) == own else 26
@@ -114,80 +126,79 @@ def receive_applies(g, identity, nonce, verdict, named, d, room):
     return numbers | ({15} if need > room else set()), kind
 
 
-def send_applies(g, identity, neighbour, named, room):
-    records, places = model.held(g.own, g.cache), model.waits(g.own, g.waiting)
+def send_applies(g, lent, room):
+    neighbour, named = lent.neighbour, lent.key
+    records, places = model.State(g).records, model.State(g).places
     if not model.record_form(g.own) or records is None or places is None:
         return {1}
     shown = [r for r in [g.own] + records if r[:32] == named]
     bad = len(neighbour) != 32 or len(named) != 32
     numbers = ({1} if bad else set()) | ({12} if neighbour not in [r[:32] for r in records] or not shown else set())
     need = 100 + 16 * (shown[0][34] if shown else 1)
-    return numbers | opening_applies(places, identity) | ({15} if need > room else set())
+    return numbers | opening_applies(places, lent.identity) | ({15} if need > room else set())
 
 
-# The numbers that each can give, in document 01's order. Each is given at least once, and with each neighbour at once.
+# The numbers that each can give, in their order. Each is given at least once, and with each neighbour at once.
 TABLES = {"datagram": (1, 2, 3, 4, 5, 6), "solicit": (6, 7), "advertise": (6, 7), "request": (6, 7), "flood": (6, 11, 13, 14, 15),
           "revocation": (6, 9, 11, 15), "inquire": (6, 12, 15), "authority": (6, 7, 8, 9, 10), "ack": (6, 8), "lookup": (6, 15),
           "send": (1, 12, 13, 14, 15), "tick": (1, 15), "list": (1, 15), "look": (2, 3, 4, 5, 6), "look at authority": (6, 7)}
 
 
 class Gauge:
-    """The memory that the lines act on. Each method hands back one vector. `seen`: which numbers applied to what, and which was given."""
+    """The gauge that the lines act on, in `now`. Each method hands back one vector. `seen`: which numbers applied to what, and which was given."""
 
     def __init__(self):
-        self.seen = []
+        self.seen, self.now = [], None
 
     def start(self, own=OWN, c=10, cpa=CPA, major=MAJOR, minor=MINOR):
-        self.own, self.cpa, self.major, self.minor = own, cpa, major, minor
-        self.cache, self.waiting = bytes(100 * c), bytes(2240)
+        self.now = model.Gauge(own, bytes(100 * c), cpa=cpa, major=major, minor=minor)
         return ("gauge", own, c, cpa, major, minor), "ok"
 
     def set_cache(self, s):
-        self.cache = s
+        self.now.cache = s
         return ("set-cache", s), "ok"
 
     def set_waiting(self, s):
-        self.waiting = s
+        self.now.waiting = s
         return ("set-waiting", s), "ok"
 
-    def answer(self, operands, kinds, applies, result, room, size, want, sends=None):
-        number, first, second, cache_after, waiting_after, output = result
-        assert number == min(applies, default=0), (operands[0], result[:3], applies)  # 01: "The lowest number that applies is given."
+    def answer(self, call, operands, kinds, applies, room, size, want, sends=None):
+        """`call` makes the call with the output that it is handed; `size` is how many bytes of it are written, by the two counts."""
+        before = self.now.memory()
+        number, first, second, output = call(b"\xEE" * room)
+        after = self.now.memory()
+        assert number == given(applies), (operands[0], number, first, second, applies)
         self.seen += [(kind, applies, number) for kind in kinds]
-        cache_after = self.cache if cache_after is None else cache_after
-        waiting_after = self.waiting if waiting_after is None else waiting_after
         used = size(first, second)
-        assert want in (number, (number, first, second)), (operands[0], result[:3], want)
+        assert want in (number, (number, first, second)), (operands[0], number, first, second, want)
         assert sends is None or b"".join(sends) == output[:used], (output[:used].hex(), [d.hex() for d in sends])
-        assert len(output) == room and (number == 0 or (output, cache_after, waiting_after) == (b"\xEE" * room, self.cache, self.waiting))
-        words = [output[:used].hex() or "-", "same" if cache_after == self.cache else "changed",
-                 "same" if waiting_after == self.waiting else "changed", "clean" if output[used:] == b"\xEE" * (room - used) else "dirty"]
-        self.cache, self.waiting = cache_after, waiting_after
+        assert len(output) == room and (number == 0 or (output, after) == (b"\xEE" * room, before))
+        words = [output[:used].hex() or "-"] + ["same" if old == new else "changed" for old, new in zip(before, after)]
+        words.append("clean" if output[used:] == b"\xEE" * (room - used) else "dirty")
         return operands, "%d %d %d %s" % (number, first, second, " ".join(words))
 
     def receive(self, datagram, want, identity=7, nonce=NONCE, verdict=0, named=ZERO, room=ROOM, sends=None):
-        result = model.receive(self.own, self.cpa, self.cache, self.waiting, self.major, self.minor, identity, nonce, verdict, named, datagram,
-                               b"\xEE" * room)
-        applies, kind = receive_applies(self, identity, nonce, verdict, named, datagram, room)
-        return self.answer(("receive", identity, nonce, verdict, named, datagram, model.two(room)), ("datagram", kind), applies, result, room,
-                           lambda a, b: a + b, want, sends)
+        lent = model.Lent(identity, nonce=nonce, verdict=verdict, key=named, datagram=datagram)
+        applies, kind = receive_applies(self.now, lent, room)
+        return self.answer(lambda output: self.now.receive(lent, output), ("receive", identity, nonce, verdict, named, datagram, model.two(room)),
+                           ("datagram", kind), applies, room, lambda a, b: a + b, want, sends)
 
     def send(self, neighbour, named, want, identity=7, room=ROOM, sends=None):
-        result = model.send(self.own, self.cache, self.waiting, self.major, self.minor, identity, neighbour, named, b"\xEE" * room)
-        return self.answer(("send", identity, neighbour, named, model.two(room)), ("send",), send_applies(self, identity, neighbour, named, room),
-                           result, room, lambda a, b: a + b, want, sends)
+        lent = model.Lent(identity, neighbour=neighbour, key=named)
+        return self.answer(lambda output: self.now.send(lent, output), ("send", identity, neighbour, named, model.two(room)), ("send",),
+                           send_applies(self.now, lent, room), room, lambda a, b: a + b, want, sends)
 
     def tick(self, want, room=64, sends=None):
-        bad = not model.record_form(self.own) or model.waits(self.own, self.waiting) is None
+        g = self.now
+        bad = not model.record_form(g.own) or model.State(g).places is None
         applies = ({1} if bad else set()) | ({15} if room < 64 else set())
-        return self.answer(("tick", model.two(room)), ("tick",), applies, model.tick(self.own, self.waiting, b"\xEE" * room), room,
-                           lambda a, b: 4 * a, want, sends)
+        return self.answer(g.tick, ("tick", model.two(room)), ("tick",), applies, room, lambda a, b: 4 * a, want, sends)
 
     def list(self, want, room=320, sends=None):
-        bad = not model.record_form(self.own) or model.held(self.own, self.cache) is None
+        g = self.now
+        bad = not model.record_form(g.own) or model.State(g).records is None
         applies = ({1} if bad else set()) | ({15} if room < 320 else set())
-        return self.answer(("list", model.two(room)), ("list",), applies, model.neighbours(self.own, self.cache, b"\xEE" * room), room,
-                           lambda a, b: 32 * (a + b), want, sends)
+        return self.answer(g.neighbours, ("list", model.two(room)), ("list",), applies, room, lambda a, b: 32 * (a + b), want, sends)
 
     def look(self, datagram, want, major=MAJOR):
         """`want` is the number, or all twelve."""
@@ -196,18 +207,18 @@ class Gauge:
         applies, kind, _ = datagram_applies(datagram, major)
         if kind in ("solicit", "advertise", "request"):
             applies -= {7}  # 01: reading gives "7 only for an AUTHORITY in part"
-        assert result[0] == min(applies, default=0), (result, applies)
+        assert result[0] == given(applies), (result, applies)
         self.seen += [("look", applies, result[0])] + ([("look at authority", applies, result[0])] if kind == "authority" else [])
         return ("look", major, datagram), " ".join(map(str, result))
 
     def held(self, want):
-        keys = [model.key_of(r) for r in model.held(self.own, self.cache)]
+        keys = [model.key_of(r) for r in model.State(self.now).records]
         assert keys == list(want), (keys, want)
         return ("held",), ",".join("%x" % k for k in keys) or "-"
 
     def waits(self, want):
         """`want` has (ID, kind, tries, key) for each place."""
-        places = [(p["id"], p["kind"], p["tries"], model.value(p["key"])) for p in model.waits(self.own, self.waiting)]
+        places = [(p["id"], p["kind"], p["tries"], model.value(p["key"])) for p in model.State(self.now).places]
         assert places == list(want), (places, want)
         return ("waits",), ",".join("%d:%d:%d:%x" % p for p in places) or "-"
 
@@ -1245,10 +1256,10 @@ def check():
     g = Gauge()
     lines = [v for v in vectors(g) if not isinstance(v, str)]  # each `want` is compared on the way
     # Every number of every call is there, and no other.
-    given = {name: {int(answer.split()[0]) for operands, answer in lines if operands[0] == name} for name in ("receive", "send", "tick", "list",
+    numbers = {name: {int(answer.split()[0]) for operands, answer in lines if operands[0] == name} for name in ("receive", "send", "tick", "list",
                                                                                                               "look")}
-    assert given == {"receive": set(range(16)), "send": {0, 1, 12, 13, 14, 15}, "tick": {0, 1, 15}, "list": {0, 1, 15},
-                     "look": {0, 2, 3, 4, 5, 6, 7}}, given
+    assert numbers == {"receive": {0, *ORDER}, "send": {0, 1, 12, 13, 14, 15}, "tick": {0, 1, 15}, "list": {0, 1, 15},
+                     "look": {0, 2, 3, 4, 5, 6, 7}}, numbers
     # So are, for each kind of message, every number that it can be refused with, and every two neighbours at once.
     for kind, numbers in TABLES.items():
         for n in numbers:
@@ -1274,4 +1285,4 @@ if __name__ == "__main__":
     names = ("gauge", "set-cache", "set-waiting", "receive", "send", "tick", "list", "held", "waits", "look")
     print("vector_calls: %d vectors, %s" % (len(lines), ", ".join("%d %s" % (sum(v[0][0] == name for v in lines), name) for name in names)))
     numbers = [int(answer.split()[0]) for operands, answer in lines if operands[0] == "receive"]
-    print("answers of receive: " + ", ".join("%d %d times" % (n, numbers.count(n)) for n in range(16)))
+    print("answers of receive: " + ", ".join("%d %d times" % (n, numbers.count(n)) for n in (0, *ORDER)))

@@ -96,7 +96,7 @@ def remove(own, s, k, want=None):
 
 
 def neighbours(own, s, want=None):
-    number, below, above, _, _, output = model.neighbours(own, s, bytes(320))
+    number, below, above, output = model.Gauge(own, cache=s).neighbours(bytes(320))
     if number != 0:
         return line("neighbours", (own, s), str(number), want)
     keys = [model.value(output[32 * i:32 * i + 32]) for i in range(below + above)]
@@ -114,12 +114,12 @@ def closest(own, s, target, want=None):
 
 
 def tick(own, s, rounds, want=None):
-    answers, after = [], s
+    answers, g = [], model.Gauge(own, waiting=s)
     for _ in range(rounds):
-        number, count, _, _, after, output = model.tick(own, after, bytes(64))
+        number, count, _, output = g.tick(bytes(64))
         ids = [int.from_bytes(output[4 * i:4 * i + 4], "little") for i in range(count)]
         answers.append("%d:%s" % (number, ",".join(map(str, ids)) or "-"))
-    return line("ticks", (own, s, rounds), " ".join(answers) + " %d" % len(model.waits(own, after)), want)
+    return line("ticks", (own, s, rounds), " ".join(answers) + " %d" % len(model.waits(own, g.waiting)), want)
 
 
 def cache_forms():

@@ -1,0 +1,43 @@
+/* The lengths and numbers of document 01 by name, for the models alone: those of include/gauge.h are held against them by tests/nights/compare. */
+#ifndef MODEL_NAMES_H
+#define MODEL_NAMES_H
+
+/* Document 01: "Lent memory", in bytes, and where in a record the port stands; the datagram; what a tick and a list need. */
+enum {
+    KEY_LEN = 32,
+    NONCE_LEN = 16,
+    RECORD_LEN = 100,
+    PORT = 32,
+    CPA_MOST = 1024,
+    CACHE_LEAST = 1000,
+    CACHE_MOST = 25600,
+    PLACE_LEN = 140,
+    PLACES = 16,
+    WAITING_LEN = 2240,
+    DATAGRAM_LEAST = 12,
+    DATAGRAM_MOST = 1232,
+    OUTPUT_LEN = 2464,
+    TICK_LEN = 64,
+    LIST_LEN = 320
+};
+
+/* Document 01: "What comes back". */
+enum {
+    MEMORY = 1,
+    LENGTH = 2,
+    HEADER = 3,
+    MAJOR = 4,
+    TYPE = 5,
+    FIELD = 6,
+    NOT_TAKEN = 7,
+    STRAY = 8,
+    UNTRUSTED = 9,
+    OTHER_KEY = 10,
+    OWN_KEY = 11,
+    NOT_OURS = 12,
+    ID_WAITING = 13,
+    FULL = 14,
+    ROOM = 15
+};
+
+#endif

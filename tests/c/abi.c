@@ -1,8 +1,8 @@
 /* How the calls cross to C: sizes and places in the answers, and the constants; each argument in its place; slices of length 0; every type of message
  * looked at. What is wanted is worked out by hand from the layout of the messages (documents 000 and 01) and from include/gauge.h.
  *
- * `arguments` and `readings` write the calls out, as a radio program does: that each argument stands where the header has it is what they test, and
- * through tests/c/calling.h an exchange of two would be one in their own hands. The rest calls through it. */
+ * `arguments`, `readings` and the looks write the calls out, as a radio program does: that each argument stands where the header has it is what they
+ * test, and through tests/c/calling.h an exchange of two would be one in their own hands. The rest calls through it. */
 #define _DEFAULT_SOURCE
 #include "calling.h"
 #include <stdio.h>

@@ -6,7 +6,7 @@
     learn OWN CACHE RECORD       the number, and with 0 the keys held afterwards
     remove-key OWN CACHE KEY     the same
     neighbours OWN CACHE         the number, and with 0 the counts below and above and the keys listed
-    closest OWN CACHE TARGET     the record, - where refused
+    closest OWN CACHE TARGET     the number, and with 0 the record
     ticks OWN TABLE ROUNDS       for each round number:IDs, then how many places are used at the end
 
     vector_memory.py             checks the answers that documents 01 and 02 and docs/MEMORY.md state
@@ -104,13 +104,13 @@ def neighbours(own, s, want=None):
 
 
 def closest(own, s, target, want=None):
-    """`want` is the key of the record shown."""
+    """`want` is the key of the record shown, or the number that the call is refused with, as text."""
     records = model.held(own, s)
     if not model.record_form(own) or records is None or len(target) != 32:
-        return line("closest", (own, s, target), "-", want)
+        return line("closest", (own, s, target), "1", want)
     shown = model.closest(own, records, model.value(target))
     assert want is None or model.key_of(shown) == want, (model.key_of(shown), want)
-    return line("closest", (own, s, target), shown.hex(), None)
+    return line("closest", (own, s, target), "0 " + shown.hex(), None)
 
 
 def tick(own, s, rounds, want=None):
@@ -374,11 +374,12 @@ def near():
         yield closest(OWN, cache([record(7, count, 1000 + count)]), key(7), 7)
     yield closest(record(100, 4, 65535), cache([7]), key(99), 100)
     yield "# refused"
-    yield closest(OWN, bytes(900), key(7), "-")
-    yield closest(OWN, cache([70, 60]), key(7), "-")
-    yield closest(OWN, cache([60]), key(7)[:31], "-")
-    yield closest(OWN, cache([60]), key(7) + b"\0", "-")
-    yield closest(put(OWN, 34, b"\5"), cache([60]), key(7), "-")
+    yield closest(OWN, bytes(900), key(7), "1")
+    yield closest(OWN, cache([70, 60]), key(7), "1")
+    yield closest(OWN, cache([60]), key(7)[:31], "1")
+    yield closest(OWN, cache([60]), key(7) + b"\0", "1")
+    yield closest(put(OWN, 34, b"\5"), cache([60]), key(7), "1")
+    yield closest(OWN[:99], cache([60]), key(7), "1")
 
 
 def slim(n):

@@ -5,16 +5,18 @@ use mathlib.Core.Path.{_≡_, refl, sym, ap, ap₂, _∙_, subst}
 use mathlib.Core.Logic.{_↔_}
 use mathlib.Core.List.{List, [], _∷_, _++_}
 use mathlib.Core.Bool.{Bool, true, false, not, cond, _&&_}
-use Prim.Native.Nat.{ℕ, zero, suc, _+_, _-_, _*_, _%_, _≤_}
+use Prim.Native.Nat.{ℕ, zero, suc, _+_, _-_, _*_, _%_, _≤_, _<_}
 use native.Mathlib.Omega.{arith}
 use lib.Dec.{leb, eqb}
-use lib.ListN.{length, take, drop, getD, replicate, length-append, length-replicate}
-use lib.Seq.{take-take}
+use lib.ListN.{length, take, drop, getD, replicate, length-append, length-drop, length-replicate}
+use lib.Seq.{take-take, getD-drop}
 use borrow.Author.Tests.{eq-eqb, ne-eqb, le-leb, lt-leb, leb-true, eqb-true, eqb-false, not-true}
-use Rattle.octet.specs.Number.{valueBE}
+use Rattle.octet.specs.Number.{Bytes, valueBE}
 use Rattle.octet.specs.Part.{part, allZero}
 use Rattle.octet.proofs.TestLaws.{both-true, zeros-all}
 use Rattle.key.specs.Number.{keyAt}
+use Rattle.key.specs.Around.{ring}
+use Rattle.key.proofs.KeyLaws.{key-lt}
 use Rattle.record.specs.Record.{keyOf, countOf, recordForm}
 use Rattle.record.proofs.EntryLaws.{form-length}
 use Rattle.table.specs.Rows.{rows, joined, bytesOf, Sized, Laid}
@@ -27,6 +29,15 @@ use Rattle.cache.specs.Form.{keysOf, placesIn, Places, Form, follows, le
 
 pub key-of-row : (at : ℕ) (s : List ℕ) → keyOf (part at 100 s) ≡ keyAt at s
 key-of-row at s = ap (valueBE 256) (take-take 32 100 (drop at s) (omega arith))
+
+-- the keys of bytes are keys
+pub keys-small : (used : ℕ) (s : List ℕ) → Bytes s → 100 * used ≤ length s → Every (λ (k : ℕ). k < ring) (keysOf (rows 100 used s))
+unfolding rows
+keys-small zero s b h = tt
+keys-small (suc n) s b h = (
+  subst (λ (k : ℕ). k < ring) (sym (key-of-row 0 s)) (key-lt 0 s b (omega arith)),
+  keys-small n (drop 100 s) (λ i. omega (arith, getD-drop 100 s i 0, b (100 + i))) (simp length-drop (omega arith)),
+)
 
 pub formed-sized : (recs : List (List ℕ)) → Every (λ (r : List ℕ). recordForm r ≡ true) recs → Sized 100 recs
 formed-sized [] h = tt

@@ -1,38 +1,28 @@
 -- Learning and removing on the list of records, as code meets them: a row inserted, and one taken out.
--- In this order: a place taken out; inserting and taking out, in either order; the place that goes; a row exchanged on the bytes; a key not held is learned.
--- Assumes nothing.
-use mathlib.Core.Path.{_≡_, refl, sym, ap, ap₂, _∙_, subst}
-use mathlib.Core.Bool.{Bool, true, false, not, cond}
-use lib.Dec.{ltb}
+-- In this order: a place taken out; inserting and taking out, in either order; a row exchanged on the bytes; a key not held is learned.
+-- Elsewhere: which place goes, in GoesLaws. Assumes nothing.
+use mathlib.Core.Path.{_≡_, refl, sym, ap, ap₂, _∙_}
 use mathlib.Core.List.{List, [], _∷_, _++_, append-assoc, append-nil}
 use Prim.Native.Nat.{ℕ, zero, suc, _+_, _-_, _*_, _≤_, _<_, zero-le}
 use native.Mathlib.Omega.{arith}
 use lib.ListN.{length, take, drop, getD, replicate, length-append, length-take, length-drop, length-map}
 use lib.Seq.{take-all, length-take-le}
-use borrow.Author.Tests.{lt-ltb, le-ltb, ltb-true, ltb-false}
-use Rattle.key.specs.Around.{ring, isAbove, sideOf, below, above}
-use Rattle.octet.specs.Number.{Bytes}
+use borrow.Author.Tests.{lt-ltb, le-ltb}
 use Rattle.record.specs.Record.{keyOf}
 use Rattle.octet.specs.Part.{part, splice}
 use Rattle.octet.proofs.PartLaws.{length-part, splice-next, splice-under}
 use Rattle.table.specs.Rows.{rows, joined, bytesOf, insertAt, removeAt}
 use Rattle.table.proofs.RowLaws.{rows-length, rows-take, rows-drop, rows-joined, joined-append}
-use Rattle.kept.specs.Keys.{Every, Rising, plain, put, among}
-use Rattle.kept.specs.Neighbours.{is}
-use Rattle.kept.specs.Turned.{countUnder, wrapped}
-use Rattle.kept.proofs.HistoryLaws.{on}
-use Rattle.kept.specs.Plain.{NotOwn, drops, countBelow}
+use Rattle.kept.specs.Keys.{Every, Rising, plain, put}
+use Rattle.kept.specs.Plain.{NotOwn, drops}
 use Rattle.kept.specs.Records.{putBy, withoutBy, learnBy}
 use Rattle.kept.proofs.ListLaws.{rising-put, every-put}
 use Rattle.kept.proofs.RecordLaws.{keys-put}
-use Rattle.kept.proofs.TurnLaws.{drops-above, drops-below, count-le, under-le}
-use Rattle.kept.proofs.PlaceLaws.{turned-at, wrapped-lt}
 use Rattle.cache.specs.declared.place.Found.the-variants.{Before}
 use Rattle.cache.specs.Form.{keysOf, placesIn, Form}
-use Rattle.cache.specs.Place.{findKey, farthestAt, Goes}
+use Rattle.cache.specs.Place.{findKey, Goes}
 use Rattle.cache.specs.Bytes.{afterLearn}
 use Rattle.cache.proofs.FormLaws.{form-laid}
-use Rattle.cache.proofs.ListLaws.{keys-small}
 use Rattle.cache.proofs.FindLaws.{found-puts, found-place, without-low, without-this, without-skip}
 
 -- ---- a place taken out by its key
@@ -84,75 +74,6 @@ out-after (suc i) (suc (suc g)) r (x ∷ xs) h l =
     let e : suc (suc g - 1) ≡ suc (suc g) - 1 = omega arith in
     ap (λ (t : List (List ℕ)). x ∷ t) (out-after i (suc g) r xs (omega arith) (omega arith))
     ∙ ap (λ (j : ℕ). insertAt (suc i) r (removeAt j (x ∷ xs))) e
-
--- how many pass a test, with one more
-many-insert : (p : ℕ → Bool) (i : ℕ) (r : List ℕ) (recs : List (List ℕ))
-    → length (among p (keysOf (insertAt i r recs))) ≡ cond (p (keyOf r)) (suc (length (among p (keysOf recs)))) (length (among p (keysOf recs)))
-unfolding among
-many-insert p zero r recs = ends (p (keyOf r))
-  where
-    ends : (b : Bool) → length (cond b (keyOf r ∷ among p (keysOf recs)) (among p (keysOf recs)))
-        ≡ cond b (suc (length (among p (keysOf recs)))) (length (among p (keysOf recs)))
-    ends true = refl
-    ends false = refl
-many-insert p (suc i) r [] = ends (p (keyOf r))
-  where
-    ends : (b : Bool) → length (cond b (keyOf r ∷ []) []) ≡ cond b 1 0
-    ends true = refl
-    ends false = refl
-many-insert p (suc i) r (x ∷ xs) = go (p (keyOf x)) (p (keyOf r)) (many-insert p i r xs)
-  where
-    go : (a b : Bool) → length (among p (keysOf (insertAt i r xs))) ≡ cond b (suc (length (among p (keysOf xs)))) (length (among p (keysOf xs)))
-        → length (cond a (keyOf x ∷ among p (keysOf (insertAt i r xs))) (among p (keysOf (insertAt i r xs))))
-        ≡ cond b (suc (length (cond a (keyOf x ∷ among p (keysOf xs)) (among p (keysOf xs)))))
-        (length (cond a (keyOf x ∷ among p (keysOf xs)) (among p (keysOf xs))))
-    go true true e = ap suc e
-    go true false e = ap suc e
-    go false true e = e
-    go false false e = e
-
-pub under-insert : (own i : ℕ) (r : List ℕ) (recs : List (List ℕ))
-    → countUnder own (keysOf (insertAt i r recs)) ≡ cond (ltb (keyOf r) own) (suc (countUnder own (keysOf recs))) (countUnder own (keysOf recs))
-under-insert own i r recs = many-insert (λ (k : ℕ). ltb k own) i r recs
-
-pub below-insert : (own i : ℕ) (r : List ℕ) (recs : List (List ℕ))
-    → countBelow own (keysOf (insertAt i r recs)) ≡ cond (not (isAbove own (keyOf r))) (suc (countBelow own (keysOf recs))) (countBelow own (keysOf recs))
-below-insert own i r recs =
-    many-insert (on (sideOf own) below) i r recs
-    ∙ ap (λ (b : Bool). cond b (suc (countBelow own (keysOf recs))) (countBelow own (keysOf recs))) (go (isAbove own (keyOf r)))
-  where
-    go : (b : Bool) → is below (cond b above below) ≡ not b
-    go true = refl
-    go false = refl
-
--- ---- the place that goes, of any keys in order
-
-pub farthest-goes : (own : ℕ) (keys : List ℕ) → own < ring → Rising plain 0 keys → Every (NotOwn own) keys → Every (λ (k : ℕ). k < ring) keys
-    → 0 < length keys → Goes own keys (farthestAt (length keys) (countUnder own keys) (countBelow own keys))
-unfolding farthestAt
-farthest-goes own keys o rises others small some = go (ltb (length keys) (countBelow own keys + countBelow own keys)) refl
-  where
-    go : (b : Bool) → ltb (length keys) (countBelow own keys + countBelow own keys) ≡ b
-        → Goes own keys (wrapped (length keys) (cond b (countUnder own keys + (length keys - countBelow own keys))
-        ((countUnder own keys + (length keys - countBelow own keys)) - 1)))
-    go true e =
-        let h = ltb-true (length keys) (countBelow own keys + countBelow own keys) e in
-        let i : ℕ = length keys - countBelow own keys in
-        let l : i < length keys = omega (arith, count-le own keys) in
-        record {
-          inside = wrapped-lt (length keys) (countUnder own keys + i) (omega (arith, under-le own keys)) some;
-          named = drops-below own o keys rises small others h ∙ turned-at (countUnder own keys) keys i (under-le own keys) l;
-        }
-    go false e =
-        let h = ltb-false (length keys) (countBelow own keys + countBelow own keys) e in
-        let i : ℕ = (length keys - countBelow own keys) - 1 in
-        let l : i < length keys = omega (arith, count-le own keys) in
-        let j : countUnder own keys + i ≡ (countUnder own keys + (length keys - countBelow own keys)) - 1 = omega arith in
-        record {
-          inside = wrapped-lt (length keys) ((countUnder own keys + (length keys - countBelow own keys)) - 1) (omega (arith, under-le own keys)) some;
-          named = drops-above own o keys rises small others some h ∙ turned-at (countUnder own keys) keys i (under-le own keys) l
-              ∙ ap (λ (m : ℕ). getD keys (wrapped (length keys) m) 0) j;
-        }
 
 -- ---- one row goes and another comes: the rows between the two places move by one, and no other does
 
@@ -285,6 +206,10 @@ module _ (own used at : ℕ) (s r : List ℕ) (f : Form own s (rows 100 used s))
   keys-are : keysOf more ≡ put plain (keyOf r) (keysOf recs)
   keys-are = ap keysOf (sym put-is) ∙ keys-put keyOf r recs
 
+  pub more-keys : keysOf (insertAt at r (rows 100 used s)) ≡ put plain (keyOf r) (keysOf (rows 100 used s))
+  unfolding recs more
+  more-keys = keys-are
+
   pub place-most : at ≤ used
   place-most = found-place (keyOf r) used s {f = findKey (keyOf r) (keysOf (rows 100 used s))} refl found
 
@@ -309,18 +234,19 @@ module _ (own used at : ℕ) (s r : List ℕ) (f : Form own s (rows 100 used s))
     unfolding more recs
     size = length-map (insertAt at r (rows 100 used s)) keyOf ∙ more-length
 
-    some : 0 < length (keysOf more)
-    some = omega (arith, size)
-
-    pub place-goes : own < ring → Bytes s → keyOf r < ring
-        → Goes own (keysOf (insertAt at r (rows 100 used s))) (farthestAt (length (keysOf (insertAt at r (rows 100 used s))))
-        (countUnder own (keysOf (insertAt at r (rows 100 used s)))) (countBelow own (keysOf (insertAt at r (rows 100 used s)))))
+    pub more-rises : Rising plain 0 (keysOf (insertAt at r (rows 100 used s)))
     unfolding more recs
-    place-goes o b k =
-        farthest-goes own (keysOf more) o rises others
-        (subst (Every (λ (j : ℕ). j < ring)) (sym keys-are)
-        (every-put plain (λ (j : ℕ). j < ring) (keyOf r) (keysOf recs) k (keys-small used s b (form-laid own used s f .room)))) some
+    more-rises = rises
 
+    pub more-others : Every (NotOwn own) (keysOf (insertAt at r (rows 100 used s)))
+    unfolding more recs
+    more-others = others
+
+    pub more-some : 0 < length (keysOf (insertAt at r (rows 100 used s)))
+    unfolding more recs
+    more-some = omega (arith, size)
+
+    -- one is too many: the row that goes is any that the rule names
     module _ (full : length s ≤ 100 * used) (g : ℕ) (goes : Goes own (keysOf (insertAt at r (rows 100 used s))) g) where
       over : afterLearn own (length s) (rows 100 used s) r ≡ withoutBy keyOf (drops own (keysOf more)) more
       unfolding learnBy recs more

@@ -3,10 +3,8 @@ pub mod ShapeLaws
 pub mod SeekLaws
 pub mod FindLaws
 pub mod LearnLaws
+pub mod GoesLaws
 pub mod KeepLaws
-pub mod ListLaws
 pub mod SideLaws
-pub mod ClosestLaws
-pub mod BesideLaws
 pub mod LentLaws
 pub mod CallLaws

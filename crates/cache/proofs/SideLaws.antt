@@ -17,8 +17,7 @@ use Rattle.kept.specs.Plain.{countBelow}
 use Rattle.kept.specs.Turned.{countUnder, countUpto}
 use Rattle.kept.proofs.TurnLaws.{under-le, over-rises, under-rises, below-low, below-high}
 use Rattle.cache.specs.Form.{keysOf, Form}
-use Rattle.cache.proofs.FormLaws.{form-laid}
-use Rattle.cache.proofs.ListLaws.{keys-small}
+use Rattle.cache.proofs.FormLaws.{form-laid, keys-small}
 
 keys-drop : (n : ℕ) (recs : List (List ℕ)) → keysOf (drop n recs) ≡ drop n (keysOf recs)
 keys-drop zero recs = refl

@@ -1,5 +1,5 @@
 -- To believe. "The cache: C records, C from 10 to 256, length exactly 100 x C. Used records first, keys strictly increasing, none equal to the own key; the
--- rest all zero." As a property of the cache with a list of records, and as the test that refusal 1 asks. The own key is a number. Assumes nothing.
+-- rest all zero." As a property of the cache with a list of records, and as the test that refusal 1 asks. Assumes nothing.
 use Prim.Native.Nat.{ℕ, suc, _*_, _/_, _%_, _≤_}
 use mathlib.Core.Path.{_≡_}
 use mathlib.Core.Bool.{Bool, true, not, cond, _&&_}
@@ -8,6 +8,7 @@ use lib.Dec.{leb, eqb}
 use lib.ListN.{length, drop}
 use Rattle.octet.specs.Part.{allZero}
 use Rattle.record.specs.Record.{keyOf, recordForm}
+use Rattle.own.specs.Own.{Own, isOwn}
 use Rattle.table.specs.Rows.{rows, bytesOf}
 use Rattle.kept.specs.Keys.{Every, Rising, plain}
 use Rattle.kept.specs.Plain.{NotOwn}
@@ -26,13 +27,13 @@ pub record Places (size : ℕ) : Type 0 where
   pub most : size ≤ 25600
 
 -- records that a cache under the own key may hold
-pub record Held (own : ℕ) (recs : List (List ℕ)) : Type 0 where
+pub record Held (own : Own) (recs : List (List ℕ)) : Type 0 where
   pub formed : Every (λ (r : List ℕ). recordForm r ≡ true) recs
   pub rising : Rising plain 0 (keysOf recs)
   pub others : Every (NotOwn own) (keysOf recs)
 
 -- the cache holds these records
-pub record Form (own : ℕ) (cache : List ℕ) (recs : List (List ℕ)) : Type 0 where
+pub record Form (own : Own) (cache : List ℕ) (recs : List (List ℕ)) : Type 0 where
   pub places : Places (length cache)
   pub bytes : cache ≡ bytesOf (length cache) recs
   pub held : Held own recs
@@ -40,23 +41,23 @@ pub record Form (own : ℕ) (cache : List ℕ) (recs : List (List ℕ)) : Type 0
 -- ---- the test
 
 -- may the row r stand after keys below low?
-unfoldable pub follows : ℕ → ℕ → List ℕ → Bool
-follows own low r = recordForm r && leb low (keyOf r) && not (eqb (keyOf r) own)
+unfoldable pub follows : Own → ℕ → List ℕ → Bool
+follows own low r = recordForm r && leb low (keyOf r) && not (isOwn own (keyOf r))
 
 -- how many rows, from the first, may stand so one after the other
-unfoldable pub leading : ℕ → ℕ → List (List ℕ) → ℕ
+unfoldable pub leading : Own → ℕ → List (List ℕ) → ℕ
 leading own low [] = 0
 leading own low (r ∷ rs) = cond (follows own low r) (suc (leading own (suc (keyOf r)) rs)) 0
 
 -- how many records the cache holds, and which
-unfoldable pub heldIn : ℕ → List ℕ → ℕ
+unfoldable pub heldIn : Own → List ℕ → ℕ
 heldIn own cache = leading own 0 (rows 100 (placesIn (length cache)) cache)
 
-unfoldable pub heldOf : ℕ → List ℕ → List (List ℕ)
+unfoldable pub heldOf : Own → List ℕ → List (List ℕ)
 heldOf own cache = rows 100 (heldIn own cache) cache
 
 -- is the cache in form?
-unfoldable pub cacheForm : ℕ → List ℕ → Bool
+unfoldable pub cacheForm : Own → List ℕ → Bool
 cacheForm own cache =
     eqb (length cache % 100) 0
     && leb 1000 (length cache)

@@ -1,5 +1,4 @@
 pub mod Form
 pub mod Place
 pub mod Bytes
-pub mod Closest
 pub mod Calls

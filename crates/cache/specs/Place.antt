@@ -5,16 +5,12 @@ use mathlib.Core.Bool.{Bool, true, false, cond}
 use mathlib.Core.List.{List, [], _∷_}
 use lib.Dec.{ltb, eqb}
 use lib.ListN.{length, getD}
-use Rattle.octet.specs.Part.{part}
 use Rattle.key.specs.Number.{keyAt}
-use Rattle.key.specs.Around.{closer}
 use Rattle.kept.specs.Plain.{drops}
 use Rattle.kept.specs.Turned.{wrapped}
 use Rattle.cache.specs.Form.{heldIn, cacheForm}
 use Rattle.cache.specs.declared.shape.Formed.{Formed}
 use Rattle.cache.specs.declared.shape.Formed.the-variants.{Bad, Good}
-use Rattle.cache.specs.declared.nearest.Where.{Where}
-use Rattle.cache.specs.declared.nearest.Where.the-variants.{Own, Held}
 use Rattle.cache.specs.declared.place.Found.{Found}
 use Rattle.cache.specs.declared.place.Found.the-variants.{At, Before}
 
@@ -52,19 +48,3 @@ farthestAt total first under =
 pub record Goes (own : ℕ) (keys : List ℕ) (i : ℕ) : Type 0 where
   pub inside : i < length keys
   pub named : drops own keys ≡ getD keys i 0
-
--- a place among our own record and the first n of the cache, and the record there
-abbrev pub Within : ℕ → Where → Type 0
-Within n Own = Unit {0}
-Within n (Held i) = i < n
-
-abbrev pub recordAt : List ℕ → List ℕ → Where → List ℕ
-recordAt own cache Own = own
-recordAt own cache (Held i) = part (100 * i) 100 cache
-
--- which of our own record and those of two places is the closest to t
-unfoldable pub nearestOf : ℕ → List ℕ → List ℕ → ℕ → ℕ → Where
-nearestOf t own cache up down =
-    cond (closer t (keyAt (100 * up) cache) (keyAt (100 * down) cache))
-    (cond (closer t (keyAt (100 * up) cache) (keyAt 0 own)) (Held up) Own)
-    (cond (closer t (keyAt (100 * down) cache) (keyAt 0 own)) (Held down) Own)

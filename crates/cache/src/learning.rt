@@ -67,7 +67,7 @@ fn who_goes(own: &[u8], cache: &[u8], used: usize, at: usize, record: &[u8]) -> 
     let under = count_under(own, cache, used);
     let held = count_below(own, cache, used, under);
     let first = one_more(under, is_smaller(own, record));
-    let below = one_more(held, !key::is_above(own, record, 0));
+    let below = one_more(held, !ring::is_above(own, record, 0));
     farthest(used + 1, first, below)
 }
 
@@ -78,9 +78,14 @@ fn exchange_up(cache: &mut [u8], used: usize, gone: usize, at: usize, record: &[
     ensures { λ _. ⌜ now (cache .exit) ≡ bytesOf (length (now (cache .entry)))
         (insertAt at (now («record» .entry)) (removeAt gone (rows 100 used (now (cache .entry))))) ⌝ }
 {
-    let to = 100 * gone;
-    octet::move_down(cache, to + 100, to, 100 * (at - gone));
-    octet::copy_to(cache, 100 * at, record);
+    let to = record::RECORD_LEN * gone;
+    runs::move_down(
+        cache,
+        to + record::RECORD_LEN,
+        to,
+        record::RECORD_LEN * (at - gone),
+    );
+    runs::copy_to(cache, record::RECORD_LEN * at, record);
 }
 
 // The same where it comes to stand at a place before the one that goes, and those between them move up.
@@ -89,9 +94,14 @@ fn exchange_down(cache: &mut [u8], used: usize, gone: usize, at: usize, record: 
     ensures { λ _. ⌜ now (cache .exit) ≡ bytesOf (length (now (cache .entry)))
         (insertAt at (now («record» .entry)) (removeAt gone (rows 100 used (now (cache .entry))))) ⌝ }
 {
-    let from = 100 * at;
-    octet::move_up(cache, from, from + 100, 100 * (gone - at));
-    octet::copy_to(cache, from, record);
+    let from = record::RECORD_LEN * at;
+    runs::move_up(
+        cache,
+        from,
+        from + record::RECORD_LEN,
+        record::RECORD_LEN * (gone - at),
+    );
+    runs::copy_to(cache, from, record);
 }
 
 // A record whose key is not held is learned; it would stand before a place. Where all places are used, one goes, or the
@@ -105,8 +115,8 @@ fn learn_new(own: &[u8], cache: &mut [u8], used: usize, at: usize, record: &[u8]
         (afterLearn (keyOf (now (own .entry))) (length (now (cache .entry)))
         (rows 100 used (now (cache .entry))) (now («record» .entry))) ⌝ }
 {
-    if 100 * used < cache.len() {
-        table::insert_row(cache, 100, used, at, record);
+    if record::RECORD_LEN * used < cache.len() {
+        table::insert_row(cache, record::RECORD_LEN, used, at, record);
         return;
     }
     let gone = who_goes(own, cache, used, at, record);
@@ -130,7 +140,7 @@ pub fn learn(own: &[u8], cache: &mut [u8], used: usize, record: &[u8])
 {
     let found = find(cache, used, record);
     match found {
-        Found::At(i) => table::replace_row(cache, 100, used, i, record),
+        Found::At(i) => table::replace_row(cache, record::RECORD_LEN, used, i, record),
         Found::Before(i) => learn_new(own, cache, used, i, record),
     }
 }
@@ -144,6 +154,6 @@ pub fn remove(own: &[u8], cache: &mut [u8], used: usize, key: &[u8])
 {
     let found = find(cache, used, key);
     if let Found::At(i) = found {
-        table::remove_row(cache, 100, used, i);
+        table::remove_row(cache, record::RECORD_LEN, used, i);
     }
 }

@@ -2,22 +2,18 @@
 // a number of document 01; the functions that crates above use on memory already tested ask for its form.
 mod calls;
 mod learning;
-mod listing;
-mod nearest;
 mod place;
 mod shape;
 
-pub use calls::Listed;
-pub use calls::closest_record;
 pub use calls::learn_record;
-pub use calls::neighbour_list;
+pub use calls::memory;
 pub use calls::remove_key;
 pub use learning::learn;
 pub use learning::remove;
-pub use listing::Counts;
-pub use listing::neighbours;
-pub use nearest::closest;
 pub use place::Found;
+pub use place::count_below;
+pub use place::count_under;
 pub use place::find;
+pub use place::wrap;
 pub use shape::Formed;
 pub use shape::form;

@@ -29,12 +29,12 @@ pub fn find(cache: &[u8], used: usize, key: &[u8]) -> Found
     let first = octet::read_u64(key, 0);
     let mut i = 0;
     while i < used {
-        let word = octet::read_u64(cache, 100 * i);
+        let word = octet::read_u64(cache, record::RECORD_LEN * i);
         if word < first {
             i += 1;
             continue;
         }
-        match key::order_at(cache, 100 * i, key, 0) {
+        match key::order_at(cache, record::RECORD_LEN * i, key, 0) {
             Order::Less => {}
             Order::Same => return Found::At(i),
             Order::More => return Found::Before(i),
@@ -45,7 +45,7 @@ pub fn find(cache: &[u8], used: usize, key: &[u8]) -> Found
 }
 
 // How many of the keys held are smaller numbers than our own: so many places stand before the first that is above it.
-pub(crate) fn count_under(own: &[u8], cache: &[u8], used: usize) -> usize
+pub fn count_under(own: &[u8], cache: &[u8], used: usize) -> usize
     requires { ⌜ 32 ≤ length (now own) ⌝ }
     requires { ⌜ 100 * used ≤ length (now cache) ⌝ }
     requires { ⌜ Rising plain 0 (keysOf (rows 100 used (now cache))) ⌝ }
@@ -72,22 +72,22 @@ fn count_upto(cache: &[u8], used: usize, key: &[u8]) -> usize
 
 // How many of the keys held are below our own, round the ring; `first` of them are smaller numbers. Those above our own
 // end at the point opposite: a place from `first` on, or one before it where our own key is in the ring's upper half.
-pub(crate) fn count_below(own: &[u8], cache: &[u8], used: usize, first: usize) -> usize
+pub fn count_below(own: &[u8], cache: &[u8], used: usize, first: usize) -> usize
     requires { ⌜ 32 ≤ length (now own) ⌝ }
     requires { ⌜ Form (keyOf (now own)) (now cache) (rows 100 used (now cache)) ⌝ }
     requires { ⌜ first ≡ countUnder (keyOf (now own)) (keysOf (rows 100 used (now cache))) ⌝ }
     ensures { λ r. ⌜ r ≡ countBelow (keyOf (now (own .entry))) (keysOf (rows 100 used (now (cache .entry)))) ⌝ }
 {
-    let opposite = key::opposite(own);
+    let opposite = ring::opposite(own);
     if own[0] < 128 {
-        let start = 100 * first;
+        let start = record::RECORD_LEN * first;
         return used - count_upto(&cache[start..], used - first, &opposite);
     }
     first - count_upto(cache, first, &opposite)
 }
 
 // Place i of n, counted on round.
-pub(crate) fn wrap(n: usize, i: usize) -> usize
+pub fn wrap(n: usize, i: usize) -> usize
     requires { ⌜ i < n + n ⌝ }
     ensures { λ r. ⌜ (r ≡ wrapped n i) × (r < n) ⌝ }
 {

@@ -25,7 +25,12 @@ fn above_before(cache: &[u8], i: usize) -> bool
         return true;
     }
     let before = i - 1;
-    key::less_at(cache, 100 * before, cache, 100 * i)
+    key::less_at(
+        cache,
+        record::RECORD_LEN * before,
+        cache,
+        record::RECORD_LEN * i,
+    )
 }
 
 // Has place i a record that may stand after those before it?
@@ -35,14 +40,14 @@ fn place_follows(own: &[u8], cache: &[u8], i: usize) -> bool
     ensures { λ r. ⌜ r ≡ follows (keyOf (now (own .entry))) (lowAt (now (cache .entry)) i)
         (part (100 * i) 100 (now (cache .entry))) ⌝ }
 {
-    let at = 100 * i;
+    let at = record::RECORD_LEN * i;
     if !record::is_formed(cache, at) {
         return false;
     }
     if !above_before(cache, i) {
         return false;
     }
-    !key::same_at(cache, at, own, 0)
+    !own::is_own(own, cache, at)
 }
 
 // How many places, from the first, have records in order.
@@ -51,7 +56,7 @@ fn count_held(own: &[u8], cache: &[u8]) -> usize
     ensures { λ r. ⌜ r
         ≡ leading (keyOf (now (own .entry))) 0 (rows 100 (length (now (cache .entry)) / 100) (now (cache .entry))) ⌝ }
 {
-    let n = cache.len() / 100;
+    let n = cache.len() / record::RECORD_LEN;
     let mut i = 0;
     while i < n {
         if !place_follows(own, cache, i) {
@@ -68,7 +73,7 @@ pub fn form(own: &[u8], cache: &[u8]) -> Formed
     ensures { λ r. ⌜ r ≡ formOf (keyOf (now (own .entry))) (now (cache .entry)) ⌝ }
 {
     let size = cache.len();
-    if size % 100 != 0 {
+    if size % record::RECORD_LEN != 0 {
         return Formed::Bad;
     }
     if size < 1000 {
@@ -78,7 +83,7 @@ pub fn form(own: &[u8], cache: &[u8]) -> Formed
         return Formed::Bad;
     }
     let used = count_held(own, cache);
-    let end = 100 * used;
+    let end = record::RECORD_LEN * used;
     if octet::is_zero(&cache[end..]) {
         return Formed::Good(used);
     }

@@ -16,7 +16,7 @@ use Rattle.octet.specs.Number.{Bytes}
 use Rattle.octet.proofs.TestLaws.{both-true, and-true}
 use Rattle.refusal.specs.Table.{orRefuse}
 use Rattle.refusal.proofs.TableLaws.{both}
-use Rattle.wire_fields.specs.Shapes.{Kind}
+use Rattle.wire_shapes.specs.Shapes.{Kind}
 use Rattle.wire_fields.specs.Kinds.{kindsOf, authorityKinds}
 use Rattle.wire_fields.specs.Message.{Message, WellFormed, layoutOf, bytesOf}
 use Rattle.wire_write.specs.Writing.{Made, fit, writeAs, writeIn}
@@ -30,7 +30,7 @@ use Rattle.wire_read.specs.Meaning.{messageOf, numberOf}
 use Rattle.wire_read.specs.declared.Answer.{Answer}
 use Rattle.wire_read.specs.declared.Answer.the-variants as M
 use Rattle.wire_read.specs.declared.Head.{Head}
-use Rattle.wire_read.specs.declared.Inside.{Inside}
+use Rattle.wire_buffer.specs.declared.Inside.{Inside}
 use Rattle.readings.specs.Depth.{allowed}
 use Rattle.readings.specs.Reading.{reading, kindOf, measureOf, isKind, measuredAs, image, fine, MeasuredFits, Typed}
 use Rattle.readings.specs.Numbers.{numberRefusals, readingOf}

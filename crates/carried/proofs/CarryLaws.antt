@@ -19,7 +19,7 @@ use Rattle.wire_fields.specs.declared.Part.{Part}
 use Rattle.wire_fields.specs.declared.Part.the-variants.{Here, Absent}
 use Rattle.wire_write.specs.Writing.{Made, fit, writeAs, writeIn, Wrote}
 use Rattle.wire_write.specs.declared.Written as W
-use Rattle.wire_copy.specs.Payload.{withPayload}
+use Rattle.wire_payload.specs.Payload.{withPayload}
 use Rattle.wire.proofs.PayloadLaws.{seen, payload-within}
 use Rattle.wire.proofs.Theorems.{payload-written, authority-is, authority-again}
 use Rattle.wire_read.specs.Answers.{answer}
@@ -27,7 +27,7 @@ use Rattle.wire_read.specs.Meaning.{messageOf}
 use Rattle.wire_read.specs.declared.Answer.{Answer}
 use Rattle.wire_read.specs.declared.Answer.the-variants as M
 use Rattle.wire_read.specs.declared.Head.{Head}
-use Rattle.wire_read.specs.declared.Inside.{Inside}
+use Rattle.wire_buffer.specs.declared.Inside.{Inside}
 use Rattle.refusal.specs.Table.{orRefuse}
 use Rattle.refusal.proofs.CallLaws.{or-known}
 use Rattle.octet.proofs.PartLaws.{take-splice, length-splice}
@@ -41,8 +41,7 @@ use Rattle.readings.specs.Pack as P
 use Rattle.readings.specs.declared.Measured.{Measured}
 use Rattle.readings.specs.declared.Measured.the-variants.{Depth, Fault}
 use Rattle.readings.specs.declared.Packed.{Packed}
-use Rattle.readings.specs.declared.Packed.the-variants.{Written}
-use Rattle.readings.specs.declared.Packed.the-variants.{Refused as Refuse}
+use Rattle.readings.specs.declared.Packed.the-variants.{Written, Refused as Refuse}
 use Rattle.readings.proofs.PackLaws.{pack-written, length-depth, length-fault}
 use Rattle.readings.specs.declared.Reading.{Reading}
 use Rattle.readings.specs.declared.Unpacked.{Unpacked}

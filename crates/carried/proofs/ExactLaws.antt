@@ -35,9 +35,7 @@ use Rattle.carried.specs.declared.whole.Whole.the-variants.{Other}
 use Rattle.carried.specs.Whole.{wholeOf}
 use Rattle.carried.specs.Carry.{carry, Handed, handed, put, withReading, carryIn, carryAs, carryBy, carryCall}
 use Rattle.carried.specs.Take.{nothing, takenBy, takenFrom, takeCall}
-use Rattle.carried.specs.Statements.{ReadsAs, IsAuthority, Unread, Another, NoRoom, TooLong}
-use Rattle.carried.specs.Statements.{Carries, ReadingApplies, too-large, unknown-kind, outside}
-use Rattle.carried.specs.Statements.{CarryExactly, CarryKeeps, CarryWrites, CarryFirst, TakeExactly}
+use Rattle.carried.specs.Statements.{ReadsAs, IsAuthority, Unread, Another, NoRoom, TooLong, Carries, ReadingApplies, too-large, unknown-kind, outside, CarryExactly, CarryKeeps, CarryWrites, CarryFirst, TakeExactly}
 use Rattle.carried.proofs.CarryLaws.{carry-other, take-other}
 use Rattle.carried.proofs.BackLaws.{typed, means-authority}
 

@@ -10,7 +10,7 @@ use lib.Ieee.{binary32, ofBits}
 use lib.ListN.{length, take, drop, getD}
 use Rattle.octet.specs.Number.{Bytes}
 use Rattle.refusal.specs.Table.{appliesIn}
-use Rattle.wire_fields.specs.Shapes.{Kind}
+use Rattle.wire_shapes.specs.Shapes.{Kind}
 use Rattle.wire_fields.specs.Message.{Message, Reads}
 use Rattle.wire_fields.specs.Refusals.{refusals}
 use Rattle.readings.specs.Depth.{allowed}

@@ -4,9 +4,9 @@ use crate::Taken;
 use readings::Packed;
 use readings::Reading;
 use readings::Unpacked;
+use wire_buffer::Inside;
 use wire_fields::Part;
 use wire_read::Head;
-use wire_read::Inside;
 use wire_write::Written;
 ghost use mathlib.Core.Path.{_≡_};
 ghost use mathlib.Core.Bool.{true};
@@ -18,8 +18,7 @@ ghost use Rattle.readings.specs.Reading.{fine};
 ghost use Rattle.readings.specs.Numbers.{readingOf};
 ghost use Rattle.readings.specs.declared.Unpacked.the-variants.{Read};
 ghost use Rattle.carried.specs.Carry.{carry, handed, carryAs};
-ghost use Rattle.carried.specs.Take.{taken, takenAs, takenBy};
-ghost use Rattle.carried.specs.Take.{nothing as nothingTaken};
+ghost use Rattle.carried.specs.Take.{taken, takenAs, takenBy, nothing as nothingTaken};
 
 fn wide(n: u8) -> u32
     ensures { λ r. ⌜ r ≡ n ⌝ }
@@ -89,11 +88,19 @@ fn put_packed(
         (Read reading) (now (output .entry)) ⌝ }
 {
     let mut image = [0u8; 16];
-    let packed = readings::pack_allowed(reading, &mut image);
+    let packed = packing::pack_allowed(reading, &mut image);
     match packed {
         Packed::Refused(number) => refused(number),
         Packed::Written(n) => {
-            let done = wire_copy::write_payload(output, major, head, acked, fields, d, &image[..n]);
+            let done = wire_payload::write_payload(
+                output,
+                major,
+                head,
+                acked,
+                fields,
+                d,
+                &image[..n],
+            );
             told(done)
         }
     }
@@ -139,6 +146,6 @@ pub(crate) fn take_reading(major: u8, d: &[u8], head: Head, acked: u32, fields: 
     let payload = fields.payload;
     match payload {
         Part::Absent => nothing(0, 0),
-        Part::Here(start, len) => shown(readings::unpack(&d[start..start + len])),
+        Part::Here(start, len) => shown(packing::unpack(&d[start..start + len])),
     }
 }

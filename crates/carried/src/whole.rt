@@ -1,7 +1,7 @@
 // What was read, for whoever wants a whole AUTHORITY.
+use wire_buffer::Inside;
 use wire_read::Answer;
 use wire_read::Head;
-use wire_read::Inside;
 ghost use mathlib.Core.Path.{_≡_};
 ghost use Rattle.carried.specs.Whole.{wholeOf};
 

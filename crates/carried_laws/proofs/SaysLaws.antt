@@ -6,7 +6,7 @@ use Prim.Native.Nat.{ℕ, zero, suc, _≤_}
 use native.Mathlib.Omega.{arith}
 use lib.ListN.{length, getD}
 use Rattle.octet.specs.Number.{Bytes, valueBE}
-use Rattle.wire_fields.specs.Shapes.{Kind}
+use Rattle.wire_shapes.specs.Shapes.{Kind}
 use Rattle.wire_fields.specs.Kinds.{kindsOf, authorityKinds, present}
 use Rattle.wire_fields.specs.Message.{Contents, Message, WellFormed, Reads, layoutOf, bytesOf}
 use Rattle.wire.specs.Statements.{changedAt, splitAgain, changed}

@@ -1,14 +1,14 @@
 -- Beside the demands. A reading changes nothing that the gauge does: "A second layer above, knowing only what the first promises". A theorem of each name stands in
 -- proofs/Theorems.antt. Assumes nothing.
-use Prim.Native.Nat.{ℕ, _^_, _<_}
+use Prim.Native.Nat.{ℕ}
 use mathlib.Core.List.{List}
 use mathlib.Core.Path.{_≡_}
 use lib.ListN.{take}
-use Rattle.octet.specs.Number.{Bytes}
 use Rattle.readings.specs.Numbers.{readingOf}
 use Rattle.carried.specs.Carry.{Handed, carryCall}
-use Rattle.sentences.specs.Words.{Memory, receives, Gauge}
-use Rattle.sentences.specs.Ours.{ours}
+use Rattle.gauge_plan.specs.Lent.{Memory, Receive, hearing, receives}
+use Rattle.gauge.specs.Words.{Gauge, Typed}
+use Rattle.gauge.specs.Ours.{ours}
 use Rattle.sentences.specs.Meets.{MeetsSentences}
 
 -- what an accepted call to carry has written: the first bytes of the output, as many as it says
@@ -19,11 +19,9 @@ writtenBy h = take (h .given .length) (h .output)
 -- whatever else is handed in. The host's verdict is the same argument: the CPA that it judges is the same
 abbrev pub ActsAlike : Gauge → Type 0
 ActsAlike g =
-    (major : ℕ) (d : List ℕ) → Bytes d → (kind measure litresIn litresOut : ℕ) (old : List ℕ)
-    → (let h = carryCall major d (readingOf kind measure litresIn litresOut) old in
-    h .given .number ≡ 0 → h .given .reading ≡ 0
-    → (m : Memory) (own cpa : List ℕ) (minor id : ℕ) (nonce : List ℕ) (verdict : ℕ) (key output : List ℕ) → id < 2 ^ 32
-    → g m (receives own cpa major minor id nonce verdict key d output) ≡ g m (receives own cpa major minor id nonce verdict key (writtenBy h) output))
+    (l : Receive) → Typed (receives l) → (kind measure litresIn litresOut : ℕ) (old : List ℕ)
+    → (let h = carryCall (l .major) (l .datagram) (readingOf kind measure litresIn litresOut) old in
+    h .given .number ≡ 0 → h .given .reading ≡ 0 → (m : Memory) → g m (receives l) ≡ g m (receives (hearing (writtenBy h) l)))
 
 -- ours
 abbrev pub CarriedActs : Type 0

@@ -12,7 +12,9 @@ use Rattle.kept.specs.Neighbours.{onSide}
 use Rattle.kept.specs.Plain.{kept}
 use Rattle.wire_write.specs.Making.{floodMade}
 use Rattle.gauge_commit.specs.declared.Answer.{Answer}
-use Rattle.sentences.specs.Words.{Call, lists, ticks, Given, Gauge, empty, left, log, Proper}
+use Rattle.gauge_plan.specs.Lent.{empty, tick, listing, Call, ticks, lists}
+use Rattle.gauge_commit.specs.Sending.{Handed}
+use Rattle.gauge.specs.Words.{Gauge, left, log, Proper}
 use Rattle.sentences.specs.Sentences.{NeighbourList}
 use Rattle.sentences.specs.Meets.{MeetsSentences}
 use Rattle.sentences.proofs.ComputedLaws.{computed}
@@ -24,6 +26,10 @@ use Rattle.signed.proofs.ToldLaws.{eventsFrom, happened, happened-events, log-t
 use Rattle.signed.proofs.Theorems.{typed-calls}
 use Rattle.controls.specs.Lists as W
 use Rattle.controls.proofs.ShutLaws.{fits, fits-bytes, shut}
+
+-- the neighbour list, of key 100
+abbrev asked : Call
+asked = lists (listing (recordWith 100) (replicate 320 0))
 
 -- ---- the histories of a gauge with the key 100
 
@@ -46,7 +52,7 @@ proper k port cs f p =
 -- ---- what a gauge that meets demand 3 counts
 
 abbrev counted : Gauge → List Call → Answer
-counted g cs = g (left g (empty 10) cs) (lists (recordWith 100) (replicate 320 0)) .answer
+counted g cs = g (left g (empty 10) cs) asked .answer
 
 -- as many keys of a side as are kept there, and five at most
 abbrev wanted : Side → List Event → ℕ
@@ -56,9 +62,9 @@ module _ (g : Gauge) (cs : List Call) (p : Proper 100 cs) (m : MeetsDemand3 g) w
   met : Demand3 g 100 10 cs
   met = m 100 10 (omega arith) (omega arith) cs p
 
-  list : NeighbourList 100 (kept 100 10 (met .history)) (replicate 320 0) (g (left g (empty 10) cs) (lists (recordWith 100) (replicate 320 0)))
+  list : NeighbourList 100 (kept 100 10 (met .history)) (replicate 320 0) (g (left g (empty 10) cs) asked)
   unfolding computed
-  list = met .listed (recordWith 100) (replicate 320 0) refl refl (omega arith)
+  list = met .listed (listing (recordWith 100) (replicate 320 0)) refl refl (omega arith)
 
   told : met .history ≡ happened g 10 cs
   told = happened-events [] (log g (empty 10) cs) (log-typed g (empty 10) cs (typed-calls 100 cs p)) (met .history) (met .happened)
@@ -75,25 +81,22 @@ module _ (g : Gauge) (cs : List Call) (p : Proper 100 cs) (m : MeetsDemand3 g) w
 pub refuses-all-shut : W.RefusesAllShut
 unfolding computed W.refusesAll
 refuses-all-shut n p d =
-    let c = ticks (recordWith 100) (replicate 64 0) in
+    let c = ticks (tick (recordWith 100) (replicate 64 0)) in
     let z : _≡_ {A = ℕ} n 0 = d .accepted (empty 10) c tt .1 (ours-meets-table .accepted (empty 10) c tt .0 refl) in omega arith
-
-abbrev listing : Call
-listing = lists (recordWith 100) (replicate 320 0)
 
 -- the key 99 is learned, or held
 pub empty-list-shut : W.EmptyListShut
 unfolding computed left log eventsFrom W.emptyList fits
 empty-list-shut = (
   λ m. let z : _≡_ {A = ℕ} 0 1 = below-met W.emptyList (learning 99 0 []) (proper 99 0 [] refl tt) m in absurd (omega arith),
-  shut W.emptyList (holding 10 (99 ∷ []) []) listing (λ (h : Given). h .answer .first) tt (λ e. absurd (let z : _≡_ {A = ℕ} 0 1 = e in omega arith)),
+  shut W.emptyList (holding 10 (99 ∷ []) []) asked (λ (h : Handed). h .answer .first) tt (λ e. absurd (let z : _≡_ {A = ℕ} 0 1 = e in omega arith)),
 )
 
 pub learns-nothing-shut : W.LearnsNothingShut
 unfolding computed left log eventsFrom W.learnsNothing fits
 learns-nothing-shut = (
   λ m. let z : _≡_ {A = ℕ} 0 1 = below-met W.learnsNothing (learning 99 0 []) (proper 99 0 [] refl tt) m in absurd (omega arith),
-  shut W.learnsNothing (holding 10 [] (inquiryFor 99 ∷ [])) (hears 100 99 authority) (λ (h : Given). getD (h .memory .cache) 31 0)
+  shut W.learnsNothing (holding 10 [] (inquiryFor 99 ∷ [])) (hears 100 99 authority) (λ (h : Handed). getD (h .memory .cache) 31 0)
       (fits-bytes authority refl, omega arith) (λ e. absurd (let z : _≡_ {A = ℕ} 0 99 = e in omega arith)),
 )
 
@@ -104,7 +107,7 @@ learns-once-shut = (
   λ m. let z : _≡_ {A = ℕ} 0 1 =
       above-met W.learnsOnce (learning 99 0 (learning 101 0 [])) (proper 99 0 (learning 101 0 []) refl (proper 101 0 [] refl tt)) m in
       absurd (omega arith),
-  shut W.learnsOnce (holding 10 (98 ∷ []) (inquiryFor 99 ∷ [])) (hears 100 99 authority) (λ (h : Given). getD (h .memory .cache) 131 0)
+  shut W.learnsOnce (holding 10 (98 ∷ []) (inquiryFor 99 ∷ [])) (hears 100 99 authority) (λ (h : Handed). getD (h .memory .cache) 131 0)
       (fits-bytes authority refl, omega arith) (λ e. absurd (let z : _≡_ {A = ℕ} 0 99 = e in omega arith)),
 )
 
@@ -115,9 +118,9 @@ invented-counts-shut first second = (
   λ m. let z : _≡_ {A = ℕ} first 0 = below-met (W.inventedCounts first second) [] tt m in
       let y : _≡_ {A = ℕ} first 1 = below-met (W.inventedCounts first second) (learning 99 0 []) (proper 99 0 [] refl tt) m in
       absurd (omega arith),
-  λ p. let z : _≡_ {A = ℕ} first 0 = ap (λ (h : Given). h .answer .first) (acts (W.inventedCounts first second) p (holding 10 [] []) listing tt) in
+  λ p. let z : _≡_ {A = ℕ} first 0 = ap (λ (h : Handed). h .answer .first) (acts (W.inventedCounts first second) p (holding 10 [] []) asked tt) in
       let y : _≡_ {A = ℕ} first 1 =
-      ap (λ (h : Given). h .answer .first) (acts (W.inventedCounts first second) p (holding 10 (99 ∷ []) []) listing tt) in
+      ap (λ (h : Handed). h .answer .first) (acts (W.inventedCounts first second) p (holding 10 (99 ∷ []) []) asked tt) in
       absurd (omega arith),
 )
 

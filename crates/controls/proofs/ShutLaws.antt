@@ -8,8 +8,10 @@ use lib.Dec.{ltb}
 use borrow.Author.Tests.{ltb-true}
 use Rattle.octet.specs.Number.{Bytes}
 use Rattle.octet.proofs.TestLaws.{both-true}
-use Rattle.sentences.specs.Words.{Memory, Call, Given, Gauge, Typed}
-use Rattle.sentences.specs.Ours.{ours}
+use Rattle.gauge_plan.specs.Lent.{Memory, Call}
+use Rattle.gauge_commit.specs.Sending.{Handed}
+use Rattle.gauge.specs.Words.{Gauge, Typed}
+use Rattle.gauge.specs.Ours.{ours}
 use Rattle.sentences.specs.Meets.{MeetsSentences}
 use Rattle.sentences.proofs.Theorems.{acts}
 
@@ -27,5 +29,5 @@ fits-bytes (x ∷ xs) e (suc i) = fits-bytes xs (both-true (ltb x 256) (fits xs)
 
 -- ---- a call in which it differs, by some number
 
-pub shut : (g : Gauge) (m : Memory) (c : Call) (f : Given → ℕ) → Typed c → ¬ (f (g m c) ≡ f (ours m c)) → ¬ MeetsSentences g
+pub shut : (g : Gauge) (m : Memory) (c : Call) (f : Handed → ℕ) → Typed c → ¬ (f (g m c) ≡ f (ours m c)) → ¬ MeetsSentences g
 shut g m c f ty d p = d (ap f (acts g p m c ty))

@@ -11,7 +11,8 @@ use Rattle.waiting.specs.Place.{newPlace}
 use Rattle.wire_fields.specs.Kinds.{floodKinds}
 use Rattle.wire_fields.specs.Message as message
 use Rattle.wire_write.specs.Making.{floodMade}
-use Rattle.sentences.specs.Words.{Call, receives, ticks, Given}
+use Rattle.gauge_plan.specs.Lent.{receive, tick, Call, receives, ticks}
+use Rattle.gauge_commit.specs.Sending.{Handed}
 use Rattle.sentences.proofs.ComputedLaws.{computed}
 use Rattle.signed.specs.Cases.{key, recordWith, holding, hears, inquiryFor, authority, lookupOf}
 use Rattle.controls.specs.Wrong as W
@@ -32,38 +33,38 @@ revocation =
 revokes-late-shut : W.Shut W.revokesLate
 unfolding computed W.revokesLate fits
 revokes-late-shut =
-    shut W.revokesLate (holding 10 [] (inquiryFor 99 ∷ [])) (hears 100 99 revocation) (λ (h : Given). usedOf (h .memory .waiting))
+    shut W.revokesLate (holding 10 [] (inquiryFor 99 ∷ [])) (hears 100 99 revocation) (λ (h : Handed). usedOf (h .memory .waiting))
     (fits-bytes revocation refl, omega arith) (λ e. absurd (let z : _≡_ {A = ℕ} 1 0 = e in omega arith))
 
 never-acks-shut : W.Shut W.neverAcks
 unfolding computed W.neverAcks fits
 never-acks-shut =
-    shut W.neverAcks (holding 10 [] []) (hears 100 99 revocation) (λ (h : Given). h .answer .first) (fits-bytes revocation refl, omega arith)
+    shut W.neverAcks (holding 10 [] []) (hears 100 99 revocation) (λ (h : Handed). h .answer .first) (fits-bytes revocation refl, omega arith)
     (λ e. absurd (let z : _≡_ {A = ℕ} 0 26 = e in omega arith))
 
 never-n-shut : W.Shut W.neverN
 unfolding computed W.neverN fits
 never-n-shut =
-    shut W.neverN (holding 10 [] []) (hears 100 99 revocation) (λ (h : Given). h .answer .first) (fits-bytes revocation refl, omega arith)
+    shut W.neverN (holding 10 [] []) (hears 100 99 revocation) (λ (h : Handed). h .answer .first) (fits-bytes revocation refl, omega arith)
     (λ e. absurd (let z : _≡_ {A = ℕ} 20 26 = e in omega arith))
 
 keeps-place-shut : W.Shut W.keepsPlace
 unfolding computed W.keepsPlace fits
 keeps-place-shut =
-    shut W.keepsPlace (holding 10 [] (inquiryFor 99 ∷ [])) (hears 100 99 authority) (λ (h : Given). usedOf (h .memory .waiting))
+    shut W.keepsPlace (holding 10 [] (inquiryFor 99 ∷ [])) (hears 100 99 authority) (λ (h : Handed). usedOf (h .memory .waiting))
     (fits-bytes authority refl, omega arith) (λ e. absurd (let z : _≡_ {A = ℕ} 1 0 = e in omega arith))
 
 -- the tries stand in the sixth byte of a place
 keeps-tries-shut : W.Shut W.keepsTries
 unfolding computed W.keepsTries
 keeps-tries-shut =
-    shut W.keepsTries (holding 10 [] (inquiryFor 99 ∷ [])) (ticks (recordWith 100) (replicate 64 0)) (λ (h : Given). getD (h .memory .waiting) 5 0) tt
+    shut W.keepsTries (holding 10 [] (inquiryFor 99 ∷ [])) (ticks (tick (recordWith 100) (replicate 64 0))) (λ (h : Handed). getD (h .memory .waiting) 5 0) tt
     (λ e. absurd (let z : _≡_ {A = ℕ} 2 1 = e in omega arith))
 
 frees-all-shut : W.Shut W.freesAll
 unfolding computed W.freesAll
 frees-all-shut =
-    shut W.freesAll (holding 10 [] (inquiryFor 99 ∷ [])) (ticks (recordWith 100) (replicate 64 0)) (λ (h : Given). usedOf (h .memory .waiting)) tt
+    shut W.freesAll (holding 10 [] (inquiryFor 99 ∷ [])) (ticks (tick (recordWith 100) (replicate 64 0))) (λ (h : Handed). usedOf (h .memory .waiting)) tt
     (λ e. absurd (let z : _≡_ {A = ℕ} 0 1 = e in omega arith))
 
 -- a FLOOD of 99's record to another's validate key: an ACK of 26 bytes, and the INQUIRE's third byte 0 and not 16
@@ -71,38 +72,38 @@ abbrev flood : List ℕ
 flood = floodMade 6 101 5 (key 3) (recordWith 99) 0 .bytes
 
 abbrev asked : Call
-asked = receives (recordWith 100) (0 ∷ []) 6 101 7 (replicate 16 0) 1 (key 99) flood (replicate 102 0)
+asked = receives (receive (recordWith 100) (0 ∷ []) 6 101 7 (replicate 16 0) 1 (key 99) flood (replicate 102 0))
 
 moves-second-shut : W.Shut W.movesSecond
 unfolding computed W.movesSecond fits
 moves-second-shut =
-    shut W.movesSecond (holding 10 [] []) asked (λ (h : Given). getD (h .output) 27 0) (fits-bytes flood refl, omega arith)
+    shut W.movesSecond (holding 10 [] []) asked (λ (h : Handed). getD (h .output) 27 0) (fits-bytes flood refl, omega arith)
     (λ e. absurd (let z : _≡_ {A = ℕ} 0 16 = e in omega arith))
 
 wants-more-shut : W.Shut W.wantsMore
 unfolding computed W.wantsMore
 wants-more-shut =
-    shut W.wantsMore (holding 10 [] []) (ticks (recordWith 100) (replicate 64 0)) (λ (h : Given). h .answer .number) tt
+    shut W.wantsMore (holding 10 [] []) (ticks (tick (recordWith 100) (replicate 64 0))) (λ (h : Handed). h .answer .number) tt
     (λ e. absurd (let z : _≡_ {A = ℕ} 15 0 = e in omega arith))
 
 -- 99 is held and looked up by the gauge 100: the last byte of the key in the AUTHORITY
 shows-own-shut : W.Shut W.showsOwn
 unfolding computed W.showsOwn fits
 shows-own-shut =
-    shut W.showsOwn (holding 10 (99 ∷ []) []) (hears 100 0 (lookupOf 99)) (λ (h : Given). getD (h .output) 71 0)
+    shut W.showsOwn (holding 10 (99 ∷ []) []) (hears 100 0 (lookupOf 99)) (λ (h : Handed). getD (h .output) 71 0)
     (fits-bytes (lookupOf 99) refl, omega arith) (λ e. absurd (let z : _≡_ {A = ℕ} 100 99 = e in omega arith))
 
 asks-again-shut : W.Shut W.asksAgain
 unfolding computed W.asksAgain fits
 asks-again-shut =
-    shut W.asksAgain (holding 10 (99 ∷ []) []) asked (λ (h : Given). usedOf (h .memory .waiting)) (fits-bytes flood refl, omega arith)
+    shut W.asksAgain (holding 10 (99 ∷ []) []) asked (λ (h : Handed). usedOf (h .memory .waiting)) (fits-bytes flood refl, omega arith)
     (λ e. absurd (let z : _≡_ {A = ℕ} 1 0 = e in omega arith))
 
 -- a place with one try left stands before the one that opens
 resets-tries-shut : W.Shut W.resetsTries
 unfolding computed W.resetsTries fits
 resets-tries-shut =
-    shut W.resetsTries (holding 10 [] (newPlace 3 1 1 (key 7) (replicate 100 0) ∷ [])) asked (λ (h : Given). getD (h .memory .waiting) 5 0)
+    shut W.resetsTries (holding 10 [] (newPlace 3 1 1 (key 7) (replicate 100 0) ∷ [])) asked (λ (h : Handed). getD (h .memory .waiting) 5 0)
     (fits-bytes flood refl, omega arith) (λ e. absurd (let z : _≡_ {A = ℕ} 2 1 = e in omega arith))
 
 -- document 01's case 3: 90 to 99 are held, and 101 is learned
@@ -110,7 +111,7 @@ drops-newcomer-shut : W.Shut W.dropsNewcomer
 unfolding computed W.dropsNewcomer fits
 drops-newcomer-shut =
     shut W.dropsNewcomer (holding 10 (90 ∷ 91 ∷ 92 ∷ 93 ∷ 94 ∷ 95 ∷ 96 ∷ 97 ∷ 98 ∷ 99 ∷ []) (inquiryFor 101 ∷ [])) (hears 100 101 authority)
-    (λ (h : Given). getD (h .memory .cache) 31 0) (fits-bytes authority refl, omega arith)
+    (λ (h : Handed). getD (h .memory .cache) 31 0) (fits-bytes authority refl, omega arith)
     (λ e. absurd (let z : _≡_ {A = ℕ} 90 91 = e in omega arith))
 
 -- the same to our own validate key: an ACK of 20 bytes
@@ -121,27 +122,27 @@ floodToUs = floodMade 6 101 5 (key 100) (recordWith 99) 0 .bytes
 n-by-the-record-shut : W.Shut W.nByTheRecord
 unfolding computed W.nByTheRecord fits
 n-by-the-record-shut =
-    shut W.nByTheRecord (holding 10 (99 ∷ []) []) (hears 100 0 floodToUs) (λ (h : Given). h .answer .first) (fits-bytes floodToUs refl, omega arith)
+    shut W.nByTheRecord (holding 10 (99 ∷ []) []) (hears 100 0 floodToUs) (λ (h : Handed). h .answer .first) (fits-bytes floodToUs refl, omega arith)
     (λ e. absurd (let z : _≡_ {A = ℕ} 26 20 = e in omega arith))
 
 -- 50 is held, and 100 looked up, which is our own
 shows-held-shut : W.Shut W.showsHeld
 unfolding computed W.showsHeld fits
 shows-held-shut =
-    shut W.showsHeld (holding 10 (50 ∷ []) []) (hears 100 0 (lookupOf 100)) (λ (h : Given). getD (h .output) 71 0)
+    shut W.showsHeld (holding 10 (50 ∷ []) []) (hears 100 0 (lookupOf 100)) (λ (h : Handed). getD (h .output) 71 0)
     (fits-bytes (lookupOf 100) refl, omega arith) (λ e. absurd (let z : _≡_ {A = ℕ} 50 100 = e in omega arith))
 
 -- document 01's case 7: own 9, held 1 and 4294967296, target 0
 four-bytes-shut : W.Shut W.fourBytes
 unfolding computed W.fourBytes fits
 four-bytes-shut =
-    shut W.fourBytes (holding 10 (1 ∷ 4294967296 ∷ []) []) (hears 9 0 (lookupOf 0)) (λ (h : Given). getD (h .output) 71 0)
+    shut W.fourBytes (holding 10 (1 ∷ 4294967296 ∷ []) []) (hears 9 0 (lookupOf 0)) (λ (h : Handed). getD (h .output) 71 0)
     (fits-bytes (lookupOf 0) refl, omega arith) (λ e. absurd (let z : _≡_ {A = ℕ} 0 1 = e in omega arith))
 
 learns-early-shut : W.Shut W.learnsEarly
 unfolding computed W.learnsEarly fits
 learns-early-shut =
-    shut W.learnsEarly (holding 10 [] []) asked (λ (h : Given). getD (h .memory .cache) 31 0) (fits-bytes flood refl, omega arith)
+    shut W.learnsEarly (holding 10 [] []) asked (λ (h : Handed). getD (h .memory .cache) 31 0) (fits-bytes flood refl, omega arith)
     (λ e. absurd (let z : _≡_ {A = ℕ} 99 0 = e in omega arith))
 
 -- document 01's case 4: 90 to 99 are held, and 89 is learned
@@ -149,7 +150,7 @@ drops-oldest-shut : W.Shut W.dropsOldest
 unfolding computed W.dropsOldest fits
 drops-oldest-shut =
     shut W.dropsOldest (holding 10 (90 ∷ 91 ∷ 92 ∷ 93 ∷ 94 ∷ 95 ∷ 96 ∷ 97 ∷ 98 ∷ 99 ∷ []) (inquiryFor 89 ∷ [])) (hears 100 89 authority)
-    (λ (h : Given). getD (h .memory .cache) 31 0) (fits-bytes authority refl, omega arith)
+    (λ (h : Handed). getD (h .memory .cache) 31 0) (fits-bytes authority refl, omega arith)
     (λ e. absurd (let z : _≡_ {A = ℕ} 89 90 = e in omega arith))
 
 -- the revocation, with room for 25 bytes where its ACK has 26
@@ -157,8 +158,8 @@ frees-then-refuses-shut : W.Shut W.freesThenRefuses
 unfolding computed W.freesThenRefuses fits
 frees-then-refuses-shut =
     shut W.freesThenRefuses (holding 10 [] (inquiryFor 99 ∷ []))
-    (receives (recordWith 100) (0 ∷ []) 6 101 7 (replicate 16 0) 1 (key 99) revocation (replicate 25 0))
-    (λ (h : Given). usedOf (h .memory .waiting)) (fits-bytes revocation refl, omega arith)
+    (receives (receive (recordWith 100) (0 ∷ []) 6 101 7 (replicate 16 0) 1 (key 99) revocation (replicate 25 0)))
+    (λ (h : Handed). usedOf (h .memory .waiting)) (fits-bytes revocation refl, omega arith)
     (λ e. absurd (let z : _≡_ {A = ℕ} 0 1 = e in omega arith))
 
 pub all-shut : W.AllShut

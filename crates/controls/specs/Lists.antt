@@ -8,34 +8,35 @@ use Rattle.octet.specs.Part.{part, allZero}
 use Rattle.record.specs.Record.{keyOf}
 use Rattle.table.specs.Rows.{bytesOf}
 use Rattle.cache.specs.Form.{heldOf}
-use Rattle.gauge_commit.specs.Sending.{answer}
-use Rattle.sentences.specs.Words.{memory, Call, receives, sends, ticks, lists, given, Gauge, ownOf, outputOf}
-use Rattle.sentences.specs.Ours.{ours}
+use Rattle.gauge_commit.specs.Sending.{answer, handed}
+use Rattle.gauge_plan.specs.Lent.{withCache, Call, receives, sends, ticks, lists, ownOf, outputOf}
+use Rattle.gauge.specs.Words.{Gauge}
+use Rattle.gauge.specs.Ours.{ours}
 use Rattle.sentences.specs.Meets.{MeetsTable, MeetsSentences}
 use Rattle.signed.specs.Statements.{MeetsDemand3}
 use Rattle.signed.specs.Answered.{HoldsLastAnswered}
 
 abbrev pub isList : Call → Bool
-isList (receives own cpa major minor id nonce verdict key datagram output) = false
-isList (sends own major minor id neighbour key output) = false
-isList (ticks own output) = false
-isList (lists own output) = true
+isList (receives l) = false
+isList (sends l) = false
+isList (ticks l) = false
+isList (lists l) = true
 
 -- ---- the gauges
 
 -- "a gauge refusing all": every call is given the number n
 unfoldable pub refusesAll : ℕ → Gauge
-refusesAll n m c = given (answer n 0 0) m (outputOf c)
+refusesAll n m c = handed (answer n 0 0) m (outputOf c)
 
 -- "one giving case 2's list always": as ours, but nothing is ever listed, with counts 0 and 0
 unfoldable pub emptyList : Gauge
-emptyList m c = cond (isList c) (given (answer 0 0 0) m (outputOf c)) (ours m c)
+emptyList m c = cond (isList c) (handed (answer 0 0 0) m (outputOf c)) (ours m c)
 
 -- "one that learns nothing": as ours, but the cache stays as lent
 unfoldable pub learnsNothing : Gauge
 learnsNothing m c =
     let h = ours m c in
-    given (h .answer) (memory (m .cache) (h .memory .waiting)) (h .output)
+    handed (h .answer) (withCache (m .cache) (h .memory)) (h .output)
 
 -- "one that learns the first AUTHORITY and only says 0 to later ones": as ours while nothing is held, then the cache stays as lent
 unfoldable pub learnsOnce : Gauge
@@ -45,7 +46,7 @@ learnsOnce m c = cond (allZero (m .cache)) (ours m c) (learnsNothing m c)
 unfoldable pub inventedCounts : ℕ → ℕ → Gauge
 inventedCounts first second m c =
     let h = ours m c in
-    cond (isList c) (given (answer (h .answer .number) first second) (h .memory) (h .output)) h
+    cond (isList c) (handed (answer (h .answer .number) first second) (h .memory) (h .output)) h
 
 -- as ours, but each key is kept with the port and the addresses of the first record held
 unfoldable pub mixes : Gauge
@@ -53,7 +54,7 @@ mixes m c =
     let h = ours m c in
     let s = h .memory .cache in
     let mixed = map (λ (r : List ℕ). part 0 32 r ++ part 32 68 s) (heldOf (keyOf (ownOf c)) s) in
-    given (h .answer) (memory (bytesOf (length s) mixed) (h .memory .waiting)) (h .output)
+    handed (h .answer) (withCache (bytesOf (length s) mixed) (h .memory)) (h .output)
 
 -- ---- each is shut out
 

@@ -8,36 +8,38 @@ use lib.ListN.{length, getD, replicate, set, take, drop}
 use Rattle.octet.specs.Part.{part, same, allZero}
 use Rattle.kept.specs.Keys.{Every}
 use Rattle.waiting.specs.Form.{usedOf}
-use Rattle.gauge_commit.specs.Sending.{answer}
-use Rattle.sentences.specs.Words.{Memory, memory, Call, receives, sends, ticks, lists, Given, given, Gauge, outputOf}
-use Rattle.sentences.specs.Ours.{ours}
+use Rattle.gauge_commit.specs.Sending.{answer, Handed, handed}
+use Rattle.gauge_plan.specs.Lent.{withCache, withWaiting, receive, Call, receives, sends, ticks, lists, outputOf}
+use Rattle.gauge.specs.Words.{Gauge}
+use Rattle.gauge.specs.Ours.{ours}
 use Rattle.sentences.specs.Meets.{MeetsSentences}
 
 -- ---- which call it is
 
 -- the datagram received, none where another call is made
 abbrev pub datagramOf : Call → List ℕ
-datagramOf (receives own cpa major minor id nonce verdict key datagram output) = datagram
-datagramOf (sends own major minor id neighbour key output) = []
-datagramOf (ticks own output) = []
-datagramOf (lists own output) = []
+datagramOf (receives l) = l .datagram
+datagramOf (sends l) = []
+datagramOf (ticks l) = []
+datagramOf (lists l) = []
 
 -- a datagram received of the type: 4 FLOOD, 8 AUTHORITY, 11 LOOKUP
 abbrev pub hearsType : ℕ → Call → Bool
 hearsType t c = eqb (getD (datagramOf c) 7 0) t
 
 abbrev pub isTick : Call → Bool
-isTick (receives own cpa major minor id nonce verdict key datagram output) = false
-isTick (sends own major minor id neighbour key output) = false
-isTick (ticks own output) = true
-isTick (lists own output) = false
+isTick (receives l) = false
+isTick (sends l) = false
+isTick (ticks l) = true
+isTick (lists l) = false
 
 -- the same datagram, as another gauge would hear it: with another own record
 abbrev pub heardBy : List ℕ → Call → Call
-heardBy r (receives own cpa major minor id nonce verdict key datagram output) = receives r cpa major minor id nonce verdict key datagram output
-heardBy r (sends own major minor id neighbour key output) = sends own major minor id neighbour key output
-heardBy r (ticks own output) = ticks own output
-heardBy r (lists own output) = lists own output
+heardBy r (receives l) =
+    receives (receive r (l .cpa) (l .major) (l .minor) (l .id) (l .nonce) (l .verdict) (l .key) (l .datagram) (l .output))
+heardBy r (sends l) = sends l
+heardBy r (ticks l) = ticks l
+heardBy r (lists l) = lists l
 
 -- a cache without its first record
 abbrev pub behindFirst : List ℕ → List ℕ
@@ -53,47 +55,47 @@ isFull cache = ltb 0 (getD cache (length cache - 66) 0)
 unfoldable pub neverAcks : Gauge
 neverAcks m c =
     let h = ours m c in
-    cond (hearsType 4 c && eqb (h .answer .second) 0 && leb (h .answer .first) 26) (given (answer (h .answer .number) 0 0) (h .memory) (outputOf c)) h
+    cond (hearsType 4 c && eqb (h .answer .second) 0 && leb (h .answer .first) 26) (handed (answer (h .answer .number) 0 0) (h .memory) (outputOf c)) h
 
 -- an ACK with N loses its last field
 unfoldable pub neverN : Gauge
 neverN m c =
     let h = ours m c in
     cond (hearsType 4 c && eqb (h .answer .first) 26)
-    (given (answer (h .answer .number) 20 (h .answer .second)) (h .memory) (take 20 (h .output) ++ drop 26 (h .output) ++ replicate 6 0)) h
+    (handed (answer (h .answer .number) 20 (h .answer .second)) (h .memory) (take 20 (h .output) ++ drop 26 (h .output) ++ replicate 6 0)) h
 
 -- N is set when the validate key is not the record's, where it should be ours: in a FLOOD without a key token they stand at 24 and 60
 unfoldable pub nByTheRecord : Gauge
 nByTheRecord m c =
     let h = ours m c in
     cond (hearsType 4 c && eqb (h .answer .first) 20 && eqb (h .answer .second) 0 && not (same (part 24 32 (datagramOf c)) (part 60 32 (datagramOf c))))
-    (given (answer 0 26 0) (h .memory) (take 20 (h .output) ++ (0 ∷ 0x40 ∷ 0 ∷ 6 ∷ 0 ∷ 1 ∷ []) ++ drop 26 (h .output))) h
+    (handed (answer 0 26 0) (h .memory) (take 20 (h .output) ++ (0 ∷ 0x40 ∷ 0 ∷ 6 ∷ 0 ∷ 1 ∷ []) ++ drop 26 (h .output))) h
 
 -- the second datagram stands a byte further
 unfoldable pub movesSecond : Gauge
 movesSecond m c =
     let h = ours m c in
     cond (ltb 0 (h .answer .second))
-    (given (h .answer) (h .memory) (take (h .answer .first) (h .output) ++ (0 ∷ drop (h .answer .first) (take (length (h .output) - 1) (h .output))))) h
+    (handed (h .answer) (h .memory) (take (h .answer .first) (h .output) ++ (0 ∷ drop (h .answer .first) (take (length (h .output) - 1) (h .output))))) h
 
 -- a LOOKUP is always shown our own record, or always one held
 unfoldable pub showsOwn : Gauge
 showsOwn m c =
-    let h = ours (memory (replicate (length (m .cache)) 0) (m .waiting)) c in
-    cond (hearsType 11 c) (given (h .answer) m (h .output)) (ours m c)
+    let h = ours (withCache (replicate (length (m .cache)) 0) m) c in
+    cond (hearsType 11 c) (handed (h .answer) m (h .output)) (ours m c)
 
 unfoldable pub showsHeld : Gauge
 showsHeld m c =
-    let h = ours (memory (behindFirst (m .cache)) (m .waiting)) (heardBy (part 0 100 (m .cache)) c) in
-    cond (hearsType 11 c && not (allZero (m .cache))) (given (h .answer) m (h .output)) (ours m c)
+    let h = ours (withCache (behindFirst (m .cache)) m) (heardBy (part 0 100 (m .cache)) c) in
+    cond (hearsType 11 c && not (allZero (m .cache))) (handed (h .answer) m (h .output)) (ours m c)
 
 -- document 01's first slip, four bytes of a difference: a record that agrees with the target in its key's last four bytes is shown; here the second held.
 -- A LOOKUP's target stands at 28
 unfoldable pub fourBytes : Gauge
 fourBytes m c =
     let r = part 100 100 (m .cache) in
-    let h = ours (memory (replicate (length (m .cache)) 0) (m .waiting)) (heardBy r c) in
-    cond (hearsType 11 c && same (part 28 4 r) (part 56 4 (datagramOf c))) (given (h .answer) m (h .output)) (ours m c)
+    let h = ours (withCache (replicate (length (m .cache)) 0) m) (heardBy r c) in
+    cond (hearsType 11 c && same (part 28 4 r) (part 56 4 (datagramOf c))) (handed (h .answer) m (h .output)) (ours m c)
 
 -- ---- what is held
 
@@ -102,16 +104,16 @@ unfoldable pub learnsEarly : Gauge
 learnsEarly m c =
     let h = ours m c in
     cond (hearsType 4 c && allZero (m .cache) && ltb 0 (usedOf (h .memory .waiting)))
-    (given (h .answer) (memory (part 40 100 (h .memory .waiting) ++ drop 100 (m .cache)) (h .memory .waiting)) (h .output)) h
+    (handed (h .answer) (withCache (part 40 100 (h .memory .waiting) ++ drop 100 (m .cache)) (h .memory)) (h .output)) h
 
 -- document 01's fourth slip: where the cache is full, the newcomer is dropped always; or the record that has stood longest at its start, never the newcomer
 unfoldable pub dropsNewcomer : Gauge
 dropsNewcomer m c =
     let h = ours m c in
-    cond (hearsType 8 c && isFull (m .cache)) (given (h .answer) (memory (m .cache) (h .memory .waiting)) (h .output)) h
+    cond (hearsType 8 c && isFull (m .cache)) (handed (h .answer) (withCache (m .cache) (h .memory)) (h .output)) h
 
 unfoldable pub dropsOldest : Gauge
-dropsOldest m c = cond (hearsType 8 c && isFull (m .cache)) (ours (memory (behindFirst (m .cache)) (m .waiting)) c) (ours m c)
+dropsOldest m c = cond (hearsType 8 c && isFull (m .cache)) (ours (withCache (behindFirst (m .cache)) m) c) (ours m c)
 
 -- ---- what waits
 
@@ -120,40 +122,40 @@ unfoldable pub revokesLate : Gauge
 revokesLate m c =
     let h = ours m c in
     cond (hearsType 4 c && ltb (usedOf (h .memory .waiting)) (usedOf (m .waiting)))
-    (given (h .answer) (memory (h .memory .cache) (m .waiting)) (h .output)) h
+    (handed (h .answer) (withWaiting (m .waiting) (h .memory)) (h .output)) h
 
 -- document 01's fifth slip: the place is freed, and the call then refused for room
 unfoldable pub freesThenRefuses : Gauge
 freesThenRefuses m c =
     let h = ours m c in
-    cond (hearsType 4 c && eqb (h .answer .number) 15) (given (h .answer) (memory (m .cache) (replicate 2240 0)) (h .output)) h
+    cond (hearsType 4 c && eqb (h .answer .number) 15) (handed (h .answer) (withWaiting (replicate 2240 0) m) (h .output)) h
 
 -- an AUTHORITY's place stays
 unfoldable pub keepsPlace : Gauge
-keepsPlace m c = let h = ours m c in cond (hearsType 8 c) (given (h .answer) (memory (h .memory .cache) (m .waiting)) (h .output)) h
+keepsPlace m c = let h = ours m c in cond (hearsType 8 c) (handed (h .answer) (withWaiting (m .waiting) (h .memory)) (h .output)) h
 
 -- a place opens though the very same record is held
 unfoldable pub asksAgain : Gauge
 asksAgain m c =
-    let h = ours (memory (replicate (length (m .cache)) 0) (m .waiting)) c in
-    cond (hearsType 4 c) (given (h .answer) (memory (m .cache) (h .memory .waiting)) (h .output)) (ours m c)
+    let h = ours (withCache (replicate (length (m .cache)) 0) m) c in
+    cond (hearsType 4 c) (handed (h .answer) (withCache (m .cache) (h .memory)) (h .output)) (ours m c)
 
 -- a FLOOD gives the first place that waits its two tries back
 unfoldable pub resetsTries : Gauge
-resetsTries m c = let h = ours m c in cond (hearsType 4 c) (given (h .answer) (memory (h .memory .cache) (set (h .memory .waiting) 5 2)) (h .output)) h
+resetsTries m c = let h = ours m c in cond (hearsType 4 c) (handed (h .answer) (withWaiting (set (h .memory .waiting) 5 2) (h .memory)) (h .output)) h
 
 -- a tick takes no try, and one that frees all places
 unfoldable pub keepsTries : Gauge
-keepsTries m c = let h = ours m c in cond (isTick c) (given (h .answer) m (h .output)) h
+keepsTries m c = let h = ours m c in cond (isTick c) (handed (h .answer) m (h .output)) h
 
 unfoldable pub freesAll : Gauge
-freesAll m c = let h = ours m c in cond (isTick c) (given (h .answer) (memory (m .cache) (replicate 2240 0)) (h .output)) h
+freesAll m c = let h = ours m c in cond (isTick c) (handed (h .answer) (withWaiting (replicate 2240 0) m) (h .output)) h
 
 -- ---- which number
 
 -- 15 is given one byte too early
 unfoldable pub wantsMore : Gauge
-wantsMore m c = cond (isTick c && eqb (length (outputOf c)) 64) (given (answer 15 0 0) m (outputOf c)) (ours m c)
+wantsMore m c = cond (isTick c && eqb (length (outputOf c)) 64) (handed (answer 15 0 0) m (outputOf c)) (ours m c)
 
 -- ---- each is shut out
 

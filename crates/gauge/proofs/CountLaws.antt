@@ -9,10 +9,11 @@ use Rattle.refusal.proofs.CallLaws.{or-known}
 use Rattle.table.proofs.RowLaws.{rows-length}
 use Rattle.kept.specs.Neighbours.{nearestFirst}
 use Rattle.cache.specs.Form.{keysOf}
-use Rattle.cache.specs.Bytes.{countsOf, afterList}
-use Rattle.cache.specs.Calls.{Written, written, heldBy, listWrong, listCall}
+use Rattle.neighbours.specs.Listing.{countsOf, afterList}
+use Rattle.neighbours.specs.Calls.{Written, written, listWrong, listCall}
+use Rattle.cache.specs.Calls.{heldBy}
 use Rattle.waiting.specs.Form.{usedOf, placesOf}
-use Rattle.waiting.specs.Call.{Ticked, handed, tickRefusals, tickDone, tickCall}
+use Rattle.waiting_form.specs.Call.{Ticked, handed, tickRefusals, tickDone, tickCall}
 use Rattle.waiting.proofs.TickLaws.{listed-few}
 use Rattle.waiting.proofs.FormLaws.{used-few}
 

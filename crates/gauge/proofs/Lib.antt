@@ -1,5 +1,4 @@
 -- The laws of specs/, for the proofs of this crate and of those above it.
-pub mod AnswerLaws
 pub mod ReceiveLaws
 pub mod SendLaws
 pub mod CountLaws

@@ -1,5 +1,5 @@
-pub mod Lent
+pub mod Words
 pub mod Receive
 pub mod Counts
 pub mod Send
-pub mod Handed
+pub mod Ours

@@ -7,24 +7,23 @@ use Rattle.table.specs.Rows.{bytesOf, rows}
 use Rattle.waiting.specs.Open.{opened}
 use Rattle.waiting.specs.Place.{floodPlace}
 use Rattle.wire_write.specs.Making.{floodMade}
-use Rattle.gauge_plan.specs.Send.{recordSent, sendingPlan}
-use Rattle.gauge_plan.specs.declared.send.SendPlan.{SendPlan}
-use Rattle.gauge_plan.specs.declared.send.SendPlan.the-variants.{Refuse, Flood}
-use Rattle.gauge_commit.specs.Sending.{lengths, sending}
-use Rattle.gauge.specs.Lent.{Send}
-use Rattle.gauge.specs.Handed.{Handed, handed, refusedWith}
+use Rattle.plan_send.specs.Send.{recordSent, sendingPlan}
+use Rattle.plan_send.specs.declared.SendPlan.{SendPlan}
+use Rattle.plan_send.specs.declared.SendPlan.the-variants.{Refuse, Flood}
+use Rattle.gauge_plan.specs.Lent.{Memory, withWaiting, Send}
+use Rattle.gauge_commit.specs.Sending.{answer, Handed, handed, lengths, sending}
 
 -- what is planned
-abbrev pub sendPlan : Send → SendPlan
-sendPlan l = sendingPlan (l .own) (l .cache) (l .waiting) (l .id) (l .neighbour) (l .key) (length (l .output))
+abbrev pub sendPlan : Memory → Send → SendPlan
+sendPlan m l = sendingPlan (l .own) m (l .id) (l .neighbour) (l .key) (length (l .output))
 
 -- what is done
-unfoldable pub sendCarried : Send → SendPlan → Handed
-sendCarried l (Refuse n) = refusedWith n (l .cache) (l .waiting) (l .output)
-sendCarried l (Flood used ours at) =
-    let ds = floodMade (l .major) (l .minor) (l .id) (l .neighbour) (recordSent (l .own) (l .cache) ours at) 0 .bytes ∷ [] in
-    handed (lengths ds) (l .cache) (bytesOf 2240 (opened (floodPlace (l .id) (l .neighbour)) (rows 140 used (l .waiting)))) (sending ds (l .output))
+unfoldable pub sendCarried : Memory → Send → SendPlan → Handed
+sendCarried m l (Refuse n) = handed (answer n 0 0) m (l .output)
+sendCarried m l (Flood used ours at) =
+    let ds = floodMade (l .major) (l .minor) (l .id) (l .neighbour) (recordSent (l .own) (m .cache) ours at) 0 .bytes ∷ [] in
+    handed (lengths ds) (withWaiting (bytesOf 2240 (opened (floodPlace (l .id) (l .neighbour)) (rows 140 used (m .waiting)))) m) (sending ds (l .output))
 
 -- the whole call
-unfoldable pub sendCall : Send → Handed
-sendCall l = sendCarried l (sendPlan l)
+unfoldable pub sendCall : Memory → Send → Handed
+sendCall m l = sendCarried m l (sendPlan m l)

@@ -1,16 +1,12 @@
 // The gauge as the radio program calls it.
-mod plan;
-
 ghost use mathlib.Core.Path.{_≡_};
 ghost use Rattle.wire_read.specs.Answers.{answer};
 ghost use Rattle.look.specs.Seen.{lookOf};
-ghost use Rattle.gauge.specs.Lent.{receive, send};
-ghost use Rattle.gauge.specs.Handed.{handed};
-ghost use Rattle.gauge.specs.Receive.{receiveCall};
-ghost use Rattle.gauge.specs.Send.{sendCall};
-ghost use Rattle.gauge.specs.Counts.{ticked, listed, gaugeTick, gaugeList};
+ghost use Rattle.gauge_plan.specs.Lent.{Memory, memory, withCache, withWaiting, withTables, receive, send, tick, listing, receives, sends, ticks, lists};
+ghost use Rattle.gauge_commit.specs.Sending.{handed};
+ghost use Rattle.gauge.specs.Ours.{ours};
 use gauge_plan::Plan;
-use gauge_plan::SendPlan;
+use plan_send::SendPlan;
 
 // A datagram received: everything is planned before a byte is written.
 #[no_mangle]
@@ -28,11 +24,12 @@ pub extern "C" fn gauge_receive(
     datagram: &[u8],
     output: &mut [u8],
 ) -> gauge_commit::Answer
-    ensures { λ r. ⌜ handed r (now (cache .exit)) (now (waiting .exit)) (now (output .exit))
-        ≡ receiveCall (receive (now (own .entry)) (now (cpa .entry)) (now (cache .entry)) (now (waiting .entry)) major
-        minor id (now (nonce .entry)) verdict (now (key .entry)) (now (datagram .entry)) (now (output .entry))) ⌝ }
+    ensures { λ r. ⌜ handed r (memory (now (cache .exit)) (now (waiting .exit))) (now (output .exit))
+        ≡ ours (memory (now (cache .entry)) (now (waiting .entry))) (receives (receive (now (own .entry))
+        (now (cpa .entry)) major minor id (now (nonce .entry)) verdict (now (key .entry)) (now (datagram .entry))
+        (now (output .entry)))) ⌝ }
 {
-    let plan = plan::plan_receive(
+    let plan = plan_message::plan_receive(
         own,
         cpa,
         cache,
@@ -55,7 +52,7 @@ pub extern "C" fn gauge_receive(
             opens,
             start,
             len,
-        } => gauge_commit::commit_flood(
+        } => commit_flood::commit_flood(
             waiting,
             used,
             major,
@@ -77,7 +74,7 @@ pub extern "C" fn gauge_receive(
             silent,
             n,
             acked,
-        } => gauge_commit::commit_revoke(
+        } => commit_flood::commit_revoke(
             own,
             cache,
             held,
@@ -93,20 +90,20 @@ pub extern "C" fn gauge_receive(
             output,
         ),
         Plan::Learn { held, used, at } => {
-            gauge_commit::commit_learn(own, cache, held, waiting, used, at);
+            commit_answer::commit_learn(own, cache, held, waiting, used, at);
             gauge_commit::answer_of(0, 0, 0)
         }
         Plan::Free { held, used, at, n } => {
-            gauge_commit::commit_free(own, cache, held, waiting, used, at, n);
+            commit_answer::commit_free(own, cache, held, waiting, used, at, n);
             gauge_commit::answer_of(0, 0, 0)
         }
-        Plan::Certify(acked) => gauge_commit::commit_cpa(major, minor, id, acked, cpa, output),
+        Plan::Certify(acked) => commit_answer::commit_cpa(major, minor, id, acked, cpa, output),
         Plan::Show {
             held,
             acked,
             target,
         } => {
-            gauge_commit::commit_show(
+            commit_answer::commit_show(
                 own,
                 &cache[..],
                 held,
@@ -123,6 +120,7 @@ pub extern "C" fn gauge_receive(
 }
 
 // A FLOOD sent to a held neighbour, of our own record or of one held: everything is planned before a byte is written.
+// Memory that is not lent may be any.
 #[no_mangle]
 pub extern "C" fn gauge_send(
     own: &[u8],
@@ -135,15 +133,16 @@ pub extern "C" fn gauge_send(
     key: &[u8],
     output: &mut [u8],
 ) -> gauge_commit::Answer
-    ensures { λ r. ⌜ handed r (now (cache .entry)) (now (waiting .exit)) (now (output .exit))
-        ≡ sendCall (send (now (own .entry)) (now (cache .entry)) (now (waiting .entry)) major minor id
-        (now (neighbour .entry)) (now (key .entry)) (now (output .entry))) ⌝ }
+    ensures { λ r. ⌜ ((m : Memory)
+        → handed r (withTables (now (cache .entry)) (now (waiting .exit)) m) (now (output .exit))
+        ≡ ours (withTables (now (cache .entry)) (now (waiting .entry)) m) (sends (send (now (own .entry)) major minor id
+        (now (neighbour .entry)) (now (key .entry)) (now (output .entry))))) ⌝ }
 {
     let room = output.len();
-    let plan = gauge_plan::plan_send(own, cache, waiting, id, neighbour, key, room);
+    let plan = plan_send::plan_send(own, cache, waiting, id, neighbour, key, room);
     match plan {
         SendPlan::Refuse(number) => gauge_commit::answer_of(number, 0, 0),
-        SendPlan::Flood { used, ours, at } => gauge_commit::commit_send(
+        SendPlan::Flood { used, ours, at } => commit_send::commit_send(
             own,
             cache,
             waiting,
@@ -159,31 +158,33 @@ pub extern "C" fn gauge_send(
     }
 }
 
-// One second has passed: how many IDs are listed in the output, each 4 bytes, least significant first.
+// One second has passed: how many IDs are listed in the output, each 4 bytes, least significant first. Memory that is
+// not lent may be any.
 #[no_mangle]
 pub extern "C" fn gauge_tick(
     own: &[u8],
     waiting: &mut [u8],
     output: &mut [u8],
 ) -> gauge_commit::Answer
-    ensures { λ r. ⌜ ticked r (now (waiting .exit)) (now (output .exit))
-        ≡ gaugeTick (now (own .entry)) (now (waiting .entry)) (now (output .entry)) ⌝ }
+    ensures { λ r. ⌜ ((m : Memory) → handed r (withWaiting (now (waiting .exit)) m) (now (output .exit))
+        ≡ ours (withWaiting (now (waiting .entry)) m) (ticks (tick (now (own .entry)) (now (output .entry))))) ⌝ }
 {
-    let done = waiting::tick(own, waiting, output);
+    let done = waiting_form::tick(own, waiting, output);
     gauge_commit::answer_of(done.number, done.count, 0)
 }
 
-// The neighbour list: how many keys below our own, then how many above, stand in the output, nearest first.
+// The neighbour list: how many keys below our own, then how many above, stand in the output, nearest first. Memory that
+// is not lent may be any.
 #[no_mangle]
 pub extern "C" fn gauge_neighbours(
     own: &[u8],
     cache: &[u8],
     output: &mut [u8],
 ) -> gauge_commit::Answer
-    ensures { λ r. ⌜ listed r (now (output .exit))
-        ≡ gaugeList (now (own .entry)) (now (cache .entry)) (now (output .entry)) ⌝ }
+    ensures { λ r. ⌜ ((m : Memory) → handed r (withCache (now (cache .entry)) m) (now (output .exit))
+        ≡ ours (withCache (now (cache .entry)) m) (lists (listing (now (own .entry)) (now (output .entry))))) ⌝ }
 {
-    let done = cache::neighbour_list(own, cache, output);
+    let done = neighbours::neighbour_list(own, cache, output);
     gauge_commit::answer_of(done.number, done.below, done.above)
 }
 

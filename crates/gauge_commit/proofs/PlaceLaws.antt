@@ -16,16 +16,16 @@ use Rattle.table.proofs.PieceLaws.{part-lent, part-start}
 use Rattle.table.proofs.RowLaws.{row-at, rows-length, laid-bytes}
 use Rattle.kept.specs.Keys.{Every, _∈_}
 use Rattle.cache.specs.Form.{Form}
-use Rattle.cache.specs.Closest.{candidates, closestOf}
-use Rattle.cache.proofs.ClosestLaws.{closest-among}
-use Rattle.waiting.specs.declared.seek.Found.{Found}
-use Rattle.waiting.specs.declared.seek.Found.the-variants.{At, Nothing}
+use Rattle.neighbours.specs.Closest.{candidates, closestOf}
+use Rattle.neighbours.proofs.ClosestLaws.{closest-among}
+use Rattle.table.specs.declared.Found.{Found}
+use Rattle.table.specs.declared.Found.the-variants.{At, Nothing}
 use Rattle.waiting.specs.Place.{placeKey, placeRecord}
 use Rattle.waiting.specs.Form.{isInquiry}
 use Rattle.waiting.specs.Open.{freed}
-use Rattle.waiting.specs.Seek.{seek}
+use Rattle.table.specs.Seek.{seek}
 use Rattle.waiting.proofs.PlaceLaws.{key-at, record-at}
-use Rattle.waiting.proofs.SeekLaws.{found-within}
+use Rattle.table.proofs.SeekLaws.{found-within}
 use Rattle.gauge_commit.specs.Replies.{freedAt}
 
 -- ---- of a place, as lent

@@ -22,10 +22,11 @@ use Rattle.table.proofs.PieceLaws.{part-start}
 use Rattle.wire_write.specs.declared.Written.{Written}
 use Rattle.wire_write.specs.Writing.{Made, fit, writeAs, writeIn, Wrote}
 use Rattle.wire_write.specs.Making.{ackMade, floodMade, inquireMade, cpaMade, closestMade}
-use Rattle.gauge_plan.specs.Rooms.{ackRoom, inquireRoom}
-use Rattle.gauge_plan.specs.Ids.{idAfter}
-use Rattle.gauge_plan.specs.Send.{recordSent, floodRoom}
-use Rattle.gauge_plan.proofs.FloodLaws.{ack-most}
+use Rattle.plan_flood.specs.Rooms.{ackRoom}
+use Rattle.asking.specs.Asking.{inquireRoom}
+use Rattle.asking.specs.Ids.{idAfter}
+use Rattle.plan_send.specs.Send.{recordSent, floodRoom}
+use Rattle.plan_flood.proofs.FloodLaws.{ack-most}
 use Rattle.gauge_commit.specs.Sending.{answer, lengths, sending}
 use Rattle.gauge_commit.specs.Replies.{acks, asks}
 use Rattle.gauge_commit.proofs.LengthLaws.{ack-length, inquire-length, cpa-length, closest-length, flood-length}

@@ -5,10 +5,10 @@ use mathlib.Core.Bool.{Bool, cond}
 use mathlib.Core.List.{List, [], _∷_}
 use Rattle.octet.specs.Part.{part}
 use Rattle.waiting.specs.Open.{freed}
-use Rattle.waiting.specs.declared.seek.Found.{Found}
-use Rattle.waiting.specs.declared.seek.Found.the-variants.{At, Nothing}
+use Rattle.table.specs.declared.Found.{Found}
+use Rattle.table.specs.declared.Found.the-variants.{At, Nothing}
 use Rattle.wire_write.specs.Making.{ackMade, inquireMade}
-use Rattle.gauge_plan.specs.Ids.{idAfter}
+use Rattle.asking.specs.Ids.{idAfter}
 
 -- the ACK, where D is clear; the INQUIRE for a record's key, where a place opens
 abbrev pub acks : ℕ → ℕ → ℕ → Bool → ℕ → Bool → List (List ℕ)

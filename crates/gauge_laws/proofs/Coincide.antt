@@ -1,8 +1,8 @@
 -- Any two results that a contract allows coincide. Assumes nothing.
+use mathlib.Core.List.{[]}
 use mathlib.Core.Path.{sym, _∙_}
 use Rattle.look.specs.declared.Look.{Look}
-use Rattle.gauge.specs.Handed.{Handed}
-use Rattle.gauge.specs.Counts.{TickHanded, ListHanded}
+use Rattle.gauge_commit.specs.Sending.{Handed}
 use Rattle.gauge_laws.specs.Contracts.{OneResult, ReceiveOne, SendOne, TickOne, ListOne, LookOne}
 
 pub one-result : OneResult
@@ -15,10 +15,10 @@ pub send-one : SendOne
 send-one κs a r r′ s s′ p q = one-result Handed _ _ _ p q
 
 pub tick-one : TickOne
-tick-one κs a r r′ s s′ p q = one-result TickHanded _ _ _ p q
+tick-one κs a r r′ s s′ p q = one-result Handed _ _ _ (p []) (q [])
 
 pub list-one : ListOne
-list-one κs a r r′ s s′ p q = one-result ListHanded _ _ _ p q
+list-one κs a r r′ s s′ p q = one-result Handed _ _ _ (p []) (q [])
 
 pub look-one : LookOne
 look-one κs a r r′ s s′ p q = one-result Look _ _ _ p q

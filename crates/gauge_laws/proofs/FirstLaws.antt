@@ -17,43 +17,46 @@ use Rattle.key.specs.Number.{keyAt}
 use Rattle.record.specs.Record.{keyOf, countOf, recordForm}
 use Rattle.record.specs.Entry.{recordOf}
 use Rattle.record.proofs.EntryLaws.{form-length}
+use Rattle.own.specs.Own.{ownRecords}
 use Rattle.refusal.proofs.CallLaws.{or-known}
 use Rattle.table.specs.Rows.{rows, joined}
 use Rattle.table.proofs.RowLaws.{joined-append, rows-length}
 use Rattle.kept.specs.Neighbours.{nearestFirst}
 use Rattle.kept.specs.Plain.{neighbours, neighbourList}
 use Rattle.cache.specs.Form.{keysOf}
-use Rattle.cache.specs.Bytes.{countsOf, keyBytes, afterList}
-use Rattle.cache.specs.Calls.{Written, written, heldBy, listWrong, listCall}
-use Rattle.cache.specs.Closest.{candidates, closestOf}
-use Rattle.cache.proofs.ListLaws.{keys-length}
+use Rattle.neighbours.specs.Listing.{countsOf, keyBytes, afterList}
+use Rattle.neighbours.specs.Calls.{Written, written, listWrong, listCall}
+use Rattle.cache.specs.Calls.{heldBy}
+use Rattle.neighbours.specs.Closest.{candidates, closestOf}
+use Rattle.neighbours.proofs.ListLaws.{keys-length}
 use Rattle.waiting.specs.Form.{usedOf, placesOf}
 use Rattle.waiting.specs.Tick.{idBytes}
 use Rattle.waiting.specs.Ticking.{listed}
-use Rattle.waiting.specs.Call as W
+use Rattle.waiting_form.specs.Call as W
 use Rattle.waiting.proofs.TickLaws.{ids-length, listed-few}
 use Rattle.waiting.proofs.FormLaws.{used-few}
 use Rattle.wire_write.specs.Making.{floodMade, cpaMade, closestMade}
-use Rattle.gauge_plan.specs.Rooms.{inquireRoom}
-use Rattle.gauge_plan.specs.Ids.{idAfter}
+use Rattle.asking.specs.Asking.{inquireRoom}
+use Rattle.asking.specs.Ids.{idAfter}
 use Rattle.gauge_plan.specs.declared.Plan.{Plan}
 use Rattle.gauge_plan.specs.declared.Plan.the-variants.{Refuse, Flood, Revoke, Learn, Free, Certify, Show}
-use Rattle.gauge_plan.specs.Send.{recordSent, floodRoom}
-use Rattle.gauge_plan.specs.declared.send.SendPlan.{SendPlan}
-use Rattle.gauge_plan.specs.declared.send.SendPlan.the-variants as S
+use Rattle.plan_send.specs.Send.{recordSent, floodRoom}
+use Rattle.plan_send.specs.declared.SendPlan.{SendPlan}
+use Rattle.plan_send.specs.declared.SendPlan.the-variants as S
 use Rattle.gauge_commit.specs.Sending.{lengths, sending, OnlyFirst}
 use Rattle.gauge_commit.specs.Replies.{acks, asks}
 use Rattle.gauge_commit.proofs.LengthLaws.{inquire-length, cpa-length, closest-length, flood-length}
 use Rattle.gauge_commit.proofs.SentLaws.{joined-one, asked, acks-room, record-long}
-use Rattle.cache.proofs.ClosestLaws.{closest-formed}
-use Rattle.gauge.specs.Lent.{Receive, Send}
-use Rattle.gauge.specs.Receive.{receivePlan, carried, receiveCall}
+use Rattle.neighbours.proofs.ClosestLaws.{closest-formed}
+use Rattle.gauge_plan.specs.Lent.{Memory, Receive, Send, Call, receives, sends, ticks, lists, outputOf}
+use Rattle.gauge.specs.Words.{returned}
+use Rattle.gauge.specs.Ours.{ours}
+use Rattle.plan_message.specs.Planned.{receivePlan}
+use Rattle.gauge.specs.Receive.{carried, receiveCall}
 use Rattle.gauge.specs.Send.{sendPlan, sendCarried, sendCall}
 use Rattle.gauge.specs.Counts.{gaugeTick, gaugeList}
-use Rattle.gauge.proofs.ReceiveLaws.{Known, known}
+use Rattle.plan_message.proofs.PlannedLaws.{Known, known}
 use Rattle.gauge.proofs.SendLaws.{KnownSend, send-known}
-use Rattle.gauge_laws.specs.Calls.{receives, sends, ticks, lists}
-use Rattle.gauge_laws.specs.Statements.{FirstBytes}
 
 -- ---- bytes at its start
 
@@ -141,40 +144,40 @@ module _ (major minor id : ℕ) (r : List ℕ) (formed : recordForm r ≡ true) 
       one-room (floodMade major minor id key r 0 .bytes)
       (flood-length major minor id r 0 long formed-part key keyed ∙ ap floodRoom (whole-record r formed)) h
 
-plan-first : (l : Receive) (p : Plan) → Known l p
-    → OnlyFirst (carried l p .given .first + carried l p .given .second) (l .output) (carried l p .output)
+plan-first : (m : Memory) (l : Receive) (p : Plan) → Known m l p
+    → OnlyFirst (carried m l p .answer .first + carried m l p .answer .second) (l .output) (carried m l p .output)
 unfolding carried
-plan-first l (Refuse n) k = none-first (l .output)
-plan-first l (Flood u s n a opens start len) k =
+plan-first m l (Refuse n) k = none-first (l .output)
+plan-first m l (Flood u s n a opens start len) k =
     let r = recordOf (part start len (l .datagram)) in
     let ds = acks (l .major) (l .minor) (l .id) s a n ++ asks (l .major) (l .minor) (l .id) opens (l .nonce) r in
     let long = record-long (part start len (l .datagram)) (k .entry) in
     sent-first ds (l .output) (both-few (l .major) (l .minor) (l .id) a n (l .nonce) r long (k .hands .nonced) s opens)
     (both-room (l .major) (l .minor) (l .id) a n (l .nonce) r long (k .hands .nonced) s opens
     (omega (arith, acks-room (l .major) (l .minor) (l .id) a n s, k .plans .fits-in)))
-plan-first l (Revoke h u s n a) k =
+plan-first m l (Revoke h u s n a) k =
     sent-first (acks (l .major) (l .minor) (l .id) s a n) (l .output) (omega (arith, acks-few (l .major) (l .minor) (l .id) a n s))
     (omega (arith, acks-room (l .major) (l .minor) (l .id) a n s, k .plans .fits-in))
-plan-first l (Learn h u at) k = none-first (l .output)
-plan-first l (Free h u at n) k = none-first (l .output)
-plan-first l (Certify a) k =
+plan-first m l (Learn h u at) k = none-first (l .output)
+plan-first m l (Free h u at n) k = none-first (l .output)
+plan-first m l (Certify a) k =
     let d = cpaMade (l .major) (l .minor) (l .id) a (l .cpa) .bytes in
     sent-first (d ∷ []) (l .output) (omega arith) (one-room d (cpa-length (l .major) (l .minor) (l .id) a (l .cpa)) (k .plans .fits-in))
-plan-first l (Show h a target) k =
-    let r = closestOf (keyAt target (l .datagram)) (candidates (l .own) (rows 100 h (l .cache))) in
+plan-first m l (Show h a target) k =
+    let r = closestOf (keyAt target (l .datagram)) (candidates (ownRecords (l .own)) (rows 100 h (m .cache))) in
     sent-first (closestMade (l .major) (l .minor) (l .id) a r 0 .bytes ∷ []) (l .output) (omega arith)
     (shown-room (l .major) (l .minor) (l .id) r
-    (closest-formed (keyAt target (l .datagram)) (keyOf (l .own)) (l .own) (rows 100 h (l .cache)) (k .ready .owned) (k .ready .form .held))
+    (closest-formed (keyAt target (l .datagram)) (keyOf (l .own)) (l .own) (rows 100 h (m .cache)) (k .ready .owned) (k .ready .form .held))
     a (k .plans .fits-in))
 
 -- ---- a FLOOD sent
 
-send-first : (l : Send) (p : SendPlan) → KnownSend l p
-    → OnlyFirst (sendCarried l p .given .first + sendCarried l p .given .second) (l .output) (sendCarried l p .output)
+send-first : (m : Memory) (l : Send) (p : SendPlan) → KnownSend m l p
+    → OnlyFirst (sendCarried m l p .answer .first + sendCarried m l p .answer .second) (l .output) (sendCarried m l p .output)
 unfolding sendCarried
-send-first l (S.Refuse n) k = none-first (l .output)
-send-first l (S.Flood u ours at) k =
-    let r = recordSent (l .own) (l .cache) ours at in
+send-first m l (S.Refuse n) k = none-first (l .output)
+send-first m l (S.Flood u ours at) k =
+    let r = recordSent (l .own) (m .cache) ours at in
     sent-first (floodMade (l .major) (l .minor) (l .id) (l .neighbour) r 0 .bytes ∷ []) (l .output) (omega arith)
     (flood-room (l .major) (l .minor) (l .id) r (k .formed) (l .neighbour) (k .addressed) (k .fits-in))
 
@@ -210,9 +213,10 @@ list-first own cache output =
     (keys-length (neighbourList k keys) ∙ ap (λ (n : ℕ). 32 * n) (length-append (neighbours k below keys) (neighbours k above keys)))
     (omega (arith, length-take 5 (nearestFirst (sideOf k) (nearness k) below keys), length-take 5 (nearestFirst (sideOf k) (nearness k) above keys))))
 
-pub first-bytes : FirstBytes
+-- "On acceptance the output changes only in its first bytes, as many as returned"; with a refusal in none
+pub first-bytes : (m : Memory) (c : Call) → OnlyFirst (returned c (ours m c .answer)) (outputOf c) (ours m c .output)
 unfolding receiveCall sendCall gaugeTick gaugeList
-first-bytes (receives l) = plan-first l (receivePlan l) (known l)
-first-bytes (sends l) = send-first l (sendPlan l) (send-known l)
-first-bytes (ticks own waiting output) = tick-first own waiting output
-first-bytes (lists own cache output) = list-first own cache output
+first-bytes m (receives l) = plan-first m l (receivePlan m l) (known m l)
+first-bytes m (sends l) = send-first m l (sendPlan m l) (send-known m l)
+first-bytes m (ticks l) = tick-first (l .own) (m .waiting) (l .output)
+first-bytes m (lists l) = list-first (l .own) (m .cache) (l .output)

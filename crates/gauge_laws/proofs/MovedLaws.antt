@@ -16,38 +16,39 @@ use Rattle.record.specs.Record.{keyOf}
 use Rattle.record.specs.Entry.{recordOf}
 use Rattle.record.proofs.EntryLaws.{form-length, record-form}
 use Rattle.refusal.proofs.CallLaws.{all-pass}
-use Rattle.table.specs.Rows.{rows, bytesOf}
+use Rattle.table.specs.Rows.{rows, bytesOf, anyOf}
 use Rattle.table.proofs.RowLaws.{rows-length}
 use Rattle.cache.specs.Form.{heldIn, heldOf}
 use Rattle.waiting.specs.Place.{idOf, kindOf, inquiryPlace, floodPlace}
-use Rattle.waiting.specs.Form.{Form, anyOf, isInquiry, usedOf, placesOf}
-use Rattle.waiting.specs.Seek.{seek, hasId}
+use Rattle.waiting.specs.Form.{Form, isInquiry, usedOf, placesOf}
+use Rattle.table.specs.Seek.{seek}
+use Rattle.waiting.specs.Seek.{hasId}
 use Rattle.waiting.specs.Open.{opened, freed}
-use Rattle.waiting.specs.declared.seek.Found.{Found}
-use Rattle.waiting.specs.declared.seek.Found.the-variants.{At, Nothing}
+use Rattle.table.specs.declared.Found.{Found}
+use Rattle.table.specs.declared.Found.the-variants.{At, Nothing}
 use Rattle.waiting.proofs.NewLaws.{new-id, new-kind}
 use Rattle.waiting.proofs.FormLaws.{form-of, form-unique}
 use Rattle.waiting.proofs.KeptLaws.{free-kept, open-inquiry, open-flood}
-use Rattle.gauge_plan.specs.Ids.{idAfter}
-use Rattle.gauge_plan.specs.Send.{sendDone, sendingPlan}
+use Rattle.asking.specs.Ids.{idAfter}
+use Rattle.plan_send.specs.Send.{sendDone, sendingPlan}
 use Rattle.gauge_plan.specs.declared.Plan.{Plan}
 use Rattle.gauge_plan.specs.declared.Plan.the-variants.{Refuse, Flood, Revoke, Learn, Free, Certify, Show}
-use Rattle.gauge_plan.specs.declared.send.SendPlan.{SendPlan}
-use Rattle.gauge_plan.specs.declared.send.SendPlan.the-variants as S
+use Rattle.plan_send.specs.declared.SendPlan.{SendPlan}
+use Rattle.plan_send.specs.declared.SendPlan.the-variants as S
 use Rattle.gauge_plan.proofs.MemoryLaws.{Ready, ready}
-use Rattle.gauge_plan.proofs.FloodLaws.{ask-tells}
+use Rattle.asking.proofs.AskingLaws.{ask-tells}
 use Rattle.gauge_commit.specs.Replies.{freedAt}
-use Rattle.gauge.specs.Lent.{Receive, Send}
-use Rattle.gauge.specs.Handed.{Handed}
-use Rattle.gauge.specs.Receive.{receivePlan, carried, receiveCall}
+use Rattle.gauge_plan.specs.Lent.{Memory, Receive, Send, Call, receives, sends, ticks, lists}
+use Rattle.gauge_commit.specs.Sending.{Handed}
+use Rattle.plan_message.specs.Planned.{receivePlan}
+use Rattle.gauge.specs.Receive.{carried, receiveCall}
 use Rattle.gauge.specs.Send.{sendPlan, sendCarried, sendCall}
-use Rattle.gauge.specs.Counts.{TickHanded, gaugeTick}
-use Rattle.gauge.proofs.ReceiveLaws.{Known, Flooded, known}
+use Rattle.gauge.specs.Ours.{ours}
+use Rattle.plan_message.proofs.PlannedLaws.{Known, Flooded, known}
 use Rattle.gauge.proofs.SendLaws.{KnownSend, send-known-by, send-by}
-use Rattle.gauge_laws.specs.Calls.{Call, receives, sends, ticks, lists, IdFits}
 use Rattle.gauge_laws.specs.Table.{tableOf}
 use Rattle.gauge_laws.proofs.TableLaws.{none-applies}
-use Rattle.gauge_laws.proofs.RefusedLaws.{receive-refused, send-refused, tick-refused}
+use Rattle.gauge_laws.proofs.RefusedLaws.{receive-refused, send-refused}
 
 -- ---- what may move
 
@@ -61,8 +62,8 @@ pub data Moved (New : List ℕ → Type 0) (ps qs : List (List ℕ)) : Type 0 wh
 abbrev pub Opens : Call → List ℕ → Type 0
 Opens (receives l) p = kindOf p ≡ 2
 Opens (sends l) p = p ≡ floodPlace (l .id) (l .neighbour)
-Opens (ticks own waiting output) p = ⊥
-Opens (lists own cache output) p = ⊥
+Opens (ticks l) p = ⊥
+Opens (lists l) p = ⊥
 
 -- from the table t to t′, both in form
 pub record Left (New : List ℕ → Type 0) (own : ℕ) (t t′ : List ℕ) : Type 0 where
@@ -86,29 +87,29 @@ module _ (New : List ℕ → Type 0) (own : ℕ) (t : List ℕ) (f : Form own t 
   left-found Nothing = subst (Left New own t) (f .bytes) left-same
 
 -- the places that the plan counts are those of the table
-module _ (own cache t : List ℕ) {h u : ℕ} (ready : Ready own cache t h u) where
-  pub ready-form : Form (keyOf own) t (placesOf t)
-  ready-form = form-of (keyOf own) t (ready .tabled)
+module _ (own : List ℕ) (m : Memory) {h u : ℕ} (ready : Ready own m h u) where
+  pub ready-form : Form (keyOf own) (m .waiting) (placesOf (m .waiting))
+  ready-form = form-of (keyOf own) (m .waiting) (ready .tabled)
 
-  pub ready-places : placesOf t ≡ rows 140 u t
-  ready-places = ap (λ (n : ℕ). rows 140 n t) (sym (ready .used))
+  pub ready-places : placesOf (m .waiting) ≡ rows 140 u (m .waiting)
+  ready-places = ap (λ (n : ℕ). rows 140 n (m .waiting)) (sym (ready .used))
 
 -- ---- a datagram received, by its plan
 
-abbrev ReceiveLeft : Receive → List ℕ → Type 0
-ReceiveLeft l t = Left (Opens (receives l)) (keyOf (l .own)) (l .waiting) t
+abbrev ReceiveLeft : Memory → Receive → List ℕ → Type 0
+ReceiveLeft m l t = Left (Opens (receives l)) (keyOf (l .own)) (m .waiting) t
 
 -- a FLOOD with a route entry
-module _ (l : Receive) (u : ℕ) (s n : Bool) (a : ℕ) (start len : ℕ) (k : Flooded l u s n a true start len) where
-  flood-opens : ReceiveLeft l
-      (bytesOf 2240 (opened (inquiryPlace (idAfter (l .id)) (recordOf (part start len (l .datagram)))) (rows 140 u (l .waiting))))
+module _ (m : Memory) (l : Receive) (u : ℕ) (s n : Bool) (a : ℕ) (start len : ℕ) (k : Flooded m l u s n a true start len) where
+  flood-opens : ReceiveLeft m l
+      (bytesOf 2240 (opened (inquiryPlace (idAfter (l .id)) (recordOf (part start len (l .datagram)))) (rows 140 u (m .waiting))))
   flood-opens =
-      let t = l .waiting in
+      let t = m .waiting in
       let own = keyOf (l .own) in
       let r = recordOf (part start len (l .datagram)) in
       let p = inquiryPlace (idAfter (l .id)) r in
-      let is = ready-places (l .own) (l .cache) t (k .ready) in
-      let f : Form own t (rows 140 u t) = subst (Form own t) is (ready-form (l .own) (l .cache) t (k .ready)) in
+      let is = ready-places (l .own) m (k .ready) in
+      let f : Form own t (rows 140 u t) = subst (Form own t) is (ready-form (l .own) m (k .ready)) in
       let formed = record-form (part start len (l .datagram)) (k .entry) in
       let long = form-length r formed in
       let few = k .ready .few in
@@ -120,106 +121,107 @@ module _ (l : Receive) (u : ℕ) (s n : Bool) (a : ℕ) (start len : ℕ) (k : F
       (ne-eqb (keyOf r) own (k .plans .other)) new only in
       let id-is : idOf p ≡ idAfter (l .id) = new-id (idAfter (l .id)) 2 2 (part 0 32 r) r (length-take-le 32 r (omega arith)) long small in
       record {
-        entered = ready-form (l .own) (l .cache) t (k .ready);
+        entered = ready-form (l .own) m (k .ready);
         places = opened p (rows 140 u t);
         form = g;
         moved = opens p (new-kind (idAfter (l .id)) 2 2 (part 0 32 r) r (length-take-le 32 r (omega arith)) long)
-            (ap (λ (q : List (List ℕ)). anyOf (hasId (idOf p)) q) is ∙ ap (λ (m : ℕ). anyOf (hasId m) (rows 140 u t)) id-is ∙ new)
+            (ap (λ (q : List (List ℕ)). anyOf (hasId (idOf p)) q) is ∙ ap (λ (i : ℕ). anyOf (hasId i) (rows 140 u t)) id-is ∙ new)
             (ap (opened p) (sym is));
       }
 
-module _ (l : Receive) where
+module _ (m : Memory) (l : Receive) where
   abbrev Opening : List ℕ → Type 0
   Opening = Opens (receives l)
 
   -- an accepted one was lent memory in form
-  pub receive-ready : receiveCall l .given .number ≡ 0
-      → Ready (l .own) (l .cache) (l .waiting) (heldIn (keyOf (l .own)) (l .cache)) (usedOf (l .waiting))
-  receive-ready z = ready (l .own) (l .cache) (l .waiting) (not-false _ (none-applies (receives l) z .0))
+  pub receive-ready : receiveCall m l .answer .number ≡ 0
+      → Ready (l .own) m (heldIn (keyOf (l .own)) (m .cache)) (usedOf (m .waiting))
+  unfolding receiveCall
+  receive-ready z = ready (l .own) m (not-false _ (none-applies m (receives l) z .0))
 
-  same-left : {h u : ℕ} → Ready (l .own) (l .cache) (l .waiting) h u → ReceiveLeft l (l .waiting)
-  same-left r = left-same Opening (keyOf (l .own)) (l .waiting) (ready-form (l .own) (l .cache) (l .waiting) r)
+  same-left : {h u : ℕ} → Ready (l .own) m h u → ReceiveLeft m l (m .waiting)
+  same-left r = left-same Opening (keyOf (l .own)) (m .waiting) (ready-form (l .own) m r)
 
-  found-left : {h u : ℕ} → Ready (l .own) (l .cache) (l .waiting) h u → (found : Found)
-      → ReceiveLeft l (bytesOf 2240 (freedAt found (rows 140 u (l .waiting))))
+  found-left : {h u : ℕ} → Ready (l .own) m h u → (found : Found)
+      → ReceiveLeft m l (bytesOf 2240 (freedAt found (rows 140 u (m .waiting))))
   found-left r found =
-      subst (λ (ps : List (List ℕ)). ReceiveLeft l (bytesOf 2240 (freedAt found ps))) (ready-places (l .own) (l .cache) (l .waiting) r)
-      (left-found Opening (keyOf (l .own)) (l .waiting) (ready-form (l .own) (l .cache) (l .waiting) r) found)
+      subst (λ (ps : List (List ℕ)). ReceiveLeft m l (bytesOf 2240 (freedAt found ps))) (ready-places (l .own) m r)
+      (left-found Opening (keyOf (l .own)) (m .waiting) (ready-form (l .own) m r) found)
 
-  plan-left : {h u : ℕ} → Ready (l .own) (l .cache) (l .waiting) h u → (p : Plan) → Known l p → ReceiveLeft l (carried l p .waiting)
+  plan-left : {h u : ℕ} → Ready (l .own) m h u → (p : Plan) → Known m l p → ReceiveLeft m l (carried m l p .memory .waiting)
   unfolding carried
   plan-left r (Refuse n) k = same-left r
-  plan-left r (Flood u s n a true start len) k = flood-opens l u s n a start len k
+  plan-left r (Flood u s n a true start len) k = flood-opens m l u s n a start len k
   plan-left r (Flood u s n a false start len) k = same-left r
-  plan-left r (Revoke h u s n a) k = found-left (k .ready) (seek (isInquiry (keyAt 0 (l .key))) 0 (rows 140 u (l .waiting)))
+  plan-left r (Revoke h u s n a) k = found-left (k .ready) (seek (isInquiry (keyAt 0 (l .key))) 0 (rows 140 u (m .waiting)))
   plan-left r (Learn h u at) k = found-left (k .ready) (At at)
   plan-left r (Free h u at n) k = found-left (k .ready) (At at)
   plan-left r (Certify a) k = same-left r
   plan-left r (Show h a target) k = same-left r
 
-  pub receive-left : receiveCall l .given .number ≡ 0 → ReceiveLeft l (receiveCall l .waiting)
+  pub receive-left : receiveCall m l .answer .number ≡ 0 → ReceiveLeft m l (receiveCall m l .memory .waiting)
   unfolding receiveCall
-  receive-left z = plan-left (receive-ready z) (receivePlan l) (known l)
+  receive-left z = plan-left (receive-ready z) (receivePlan m l) (known m l)
 
-  pub receive-moved : Moved (Opens (receives l)) (placesOf (l .waiting)) (placesOf (receiveCall l .waiting))
-  receive-moved = go (receiveCall l .given .number) refl
+  pub receive-moved : Moved (Opens (receives l)) (placesOf (m .waiting)) (placesOf (receiveCall m l .memory .waiting))
+  receive-moved = go (receiveCall m l .answer .number) refl
     where
-      go : (n : ℕ) → receiveCall l .given .number ≡ n → Moved (Opens (receives l)) (placesOf (l .waiting)) (placesOf (receiveCall l .waiting))
-      go zero e = left-moved (Opens (receives l)) (keyOf (l .own)) (l .waiting) (receiveCall l .waiting) (receive-left e)
-      go (suc n) e = stays (ap (λ (h : Handed). placesOf (h .waiting)) (receive-refused l (omega arith)))
+      go : (n : ℕ) → receiveCall m l .answer .number ≡ n → Moved (Opens (receives l)) (placesOf (m .waiting)) (placesOf (receiveCall m l .memory .waiting))
+      go zero e = left-moved (Opens (receives l)) (keyOf (l .own)) (m .waiting) (receiveCall m l .memory .waiting) (receive-left e)
+      go (suc n) e = stays (ap (λ (h : Handed). placesOf (h .memory .waiting)) (receive-refused m l (omega arith)))
 
 -- ---- a FLOOD sent
 
-module _ (l : Send) where
+module _ (m : Memory) (l : Send) where
   -- what is planned where nothing stands against it, and known of it
   abbrev done : SendPlan
-  done = sendDone (l .own) (heldOf (keyOf (l .own)) (l .cache)) (usedOf (l .waiting)) (keyAt 0 (l .key))
+  done = sendDone (l .own) (heldOf (keyOf (l .own)) (m .cache)) (usedOf (m .waiting)) (keyAt 0 (l .key))
 
-  module _ (z : sendCall l .given .number ≡ 0) where
-    pub send-planned : sendPlan l ≡ done
-    unfolding sendingPlan
-    send-planned = all-pass S.Refuse (tableOf (sends l)) done (none-applies (sends l) z)
+  module _ (z : sendCall m l .answer .number ≡ 0) where
+    pub send-planned : sendPlan m l ≡ done
+    unfolding sendingPlan sendCall
+    send-planned = all-pass S.Refuse (tableOf m (sends l)) done (none-applies m (sends l) z)
 
-    pub send-told : KnownSend l done
-    send-told = send-known-by l send-planned
+    pub send-told : KnownSend m l done
+    send-told = send-known-by m l send-planned
 
     -- its ID did not wait, and the place with it and the neighbour's key is opened
-    pub send-new : anyOf (hasId (l .id)) (placesOf (l .waiting)) ≡ false
+    pub send-new : anyOf (hasId (l .id)) (placesOf (m .waiting)) ≡ false
     send-new = send-told .new
 
-    pub send-opens : sendCall l .waiting ≡ bytesOf 2240 (opened (floodPlace (l .id) (l .neighbour)) (placesOf (l .waiting)))
+    pub send-opens : sendCall m l .memory .waiting ≡ bytesOf 2240 (opened (floodPlace (l .id) (l .neighbour)) (placesOf (m .waiting)))
     unfolding sendCarried
-    send-opens = ap (λ (h : Handed). h .waiting) (send-by l send-planned)
+    send-opens = ap (λ (h : Handed). h .memory .waiting) (send-by m l send-planned)
 
     module _ (small : l .id < 2 ^ 32) where
-      send-form : Form (keyOf (l .own)) (sendCall l .waiting) (opened (floodPlace (l .id) (l .neighbour)) (placesOf (l .waiting)))
+      send-form : Form (keyOf (l .own)) (sendCall m l .memory .waiting) (opened (floodPlace (l .id) (l .neighbour)) (placesOf (m .waiting)))
       send-form =
-          let ps = placesOf (l .waiting) in
+          let ps = placesOf (m .waiting) in
           let free = send-told .free in
           subst (λ (t : List ℕ). Form (keyOf (l .own)) t (opened (floodPlace (l .id) (l .neighbour)) ps)) (sym send-opens)
-          (open-flood (keyOf (l .own)) (l .waiting) ps (ready-form (l .own) (l .cache) (l .waiting) (send-told .ready)) (l .id) (l .neighbour)
-          (omega (arith, rows-length 140 (usedOf (l .waiting)) (l .waiting))) small (send-told .addressed) send-new)
+          (open-flood (keyOf (l .own)) (m .waiting) ps (ready-form (l .own) m (send-told .ready)) (l .id) (l .neighbour)
+          (omega (arith, rows-length 140 (usedOf (m .waiting)) (m .waiting))) small (send-told .addressed) send-new)
 
-      pub send-places : placesOf (sendCall l .waiting) ≡ opened (floodPlace (l .id) (l .neighbour)) (placesOf (l .waiting))
-      send-places = sym (form-unique (keyOf (l .own)) (sendCall l .waiting) _ send-form)
+      pub send-places : placesOf (sendCall m l .memory .waiting) ≡ opened (floodPlace (l .id) (l .neighbour)) (placesOf (m .waiting))
+      send-places = sym (form-unique (keyOf (l .own)) (sendCall m l .memory .waiting) _ send-form)
 
       pub send-id : idOf (floodPlace (l .id) (l .neighbour)) ≡ l .id
       send-id = new-id (l .id) 1 2 (l .neighbour) (replicate 100 0) (send-told .addressed) (length-replicate {A = ℕ} 100 0) small
 
-      pub send-left : Left (Opens (sends l)) (keyOf (l .own)) (l .waiting) (sendCall l .waiting)
+      pub send-left : Left (Opens (sends l)) (keyOf (l .own)) (m .waiting) (sendCall m l .memory .waiting)
       send-left =
-          let ps = placesOf (l .waiting) in
+          let ps = placesOf (m .waiting) in
           let p = floodPlace (l .id) (l .neighbour) in
           record {
-            entered = ready-form (l .own) (l .cache) (l .waiting) (send-told .ready);
+            entered = ready-form (l .own) m (send-told .ready);
             places = opened p ps;
             form = send-form;
             moved = opens p refl (ap (λ (n : ℕ). anyOf (hasId n) ps) send-id ∙ send-new) refl;
           }
 
-  pub send-moved : l .id < 2 ^ 32 → Moved (Opens (sends l)) (placesOf (l .waiting)) (placesOf (sendCall l .waiting))
-  send-moved small = go (sendCall l .given .number) refl
+  pub send-moved : l .id < 2 ^ 32 → Moved (Opens (sends l)) (placesOf (m .waiting)) (placesOf (sendCall m l .memory .waiting))
+  send-moved small = go (sendCall m l .answer .number) refl
     where
-      go : (n : ℕ) → sendCall l .given .number ≡ n → Moved (Opens (sends l)) (placesOf (l .waiting)) (placesOf (sendCall l .waiting))
-      go zero e = left-moved (Opens (sends l)) (keyOf (l .own)) (l .waiting) (sendCall l .waiting) (send-left e small)
-      go (suc n) e = stays (ap (λ (h : Handed). placesOf (h .waiting)) (send-refused l (omega arith)))
+      go : (n : ℕ) → sendCall m l .answer .number ≡ n → Moved (Opens (sends l)) (placesOf (m .waiting)) (placesOf (sendCall m l .memory .waiting))
+      go zero e = left-moved (Opens (sends l)) (keyOf (l .own)) (m .waiting) (sendCall m l .memory .waiting) (send-left e small)
+      go (suc n) e = stays (ap (λ (h : Handed). placesOf (h .memory .waiting)) (send-refused m l (omega arith)))

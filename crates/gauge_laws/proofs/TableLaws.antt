@@ -15,13 +15,14 @@ use Rattle.octet.proofs.TestLaws.{both-true}
 use Rattle.record.specs.Record.{keyOf}
 use Rattle.refusal.specs.Table.{Refusal, when, firstOf, appliesIn, orRefuse, order, placeIn, Before, InOrder}
 use Rattle.refusal.proofs.TableLaws.{AllFail, all-fail, listed-some, order-exactly, none-exactly}
-use Rattle.refusal.proofs.CallLaws.{number-is, refusal-is, all-pass}
+use Rattle.refusal.proofs.CallLaws.{number-is, or-refuses, all-pass}
 use Rattle.kept.specs.Keys.{Every, _∈_}
 use Rattle.cache.specs.Form.{heldIn, heldOf}
-use Rattle.cache.specs.Bytes.{countsOf, afterList}
-use Rattle.cache.specs.Calls.{Written, written, heldBy, listWrong, listCall}
+use Rattle.neighbours.specs.Listing.{countsOf, afterList}
+use Rattle.neighbours.specs.Calls.{Written, written, listWrong, listCall}
+use Rattle.cache.specs.Calls.{heldBy}
 use Rattle.waiting.specs.Form.{usedOf}
-use Rattle.waiting.specs.Call as W
+use Rattle.waiting_form.specs.Call as W
 use Rattle.wire_fields.specs.Refusals as fields
 use Rattle.wire_fields.specs.declared.Part.{Part}
 use Rattle.wire_fields.specs.declared.Part.the-variants.{Here, Absent}
@@ -30,21 +31,21 @@ use Rattle.wire_read.specs.declared.Head.{Head}
 use Rattle.wire_read.specs.declared.Answer as T
 use Rattle.wire_read.specs.declared.Answer.the-variants as M
 use Rattle.gauge_plan.specs.Memory.{tablesFit, memoryOf, handsFit}
-use Rattle.gauge_plan.specs.Flood.{floodPlan, revokePlan}
-use Rattle.gauge_plan.specs.Answering.{authorityPlan, ackPlan, inquirePlan, lookupPlan}
+use Rattle.plan_flood.specs.Flood.{floodPlan, revokePlan}
+use Rattle.plan_answer.specs.Answering.{authorityPlan, ackPlan, inquirePlan, lookupPlan}
 use Rattle.gauge_plan.specs.declared.Plan.{Plan}
 use Rattle.gauge_plan.specs.declared.Plan.the-variants.{Refuse, Flood, Revoke, Learn, Free, Certify, Show}
-use Rattle.gauge_plan.specs.declared.memory.Memory.the-variants.{Unfit, Fit}
-use Rattle.gauge_plan.specs.Send.{sendingPlan}
-use Rattle.gauge_plan.specs.declared.send.SendPlan.{SendPlan}
-use Rattle.gauge_plan.specs.declared.send.SendPlan.the-variants as S
-use Rattle.gauge.specs.Lent.{Receive, Send}
-use Rattle.gauge.specs.Receive.{byEntry, planFor, planIn, receivePlan, carried, receiveCall}
+use Rattle.gauge_plan.specs.declared.memory.Fitness.the-variants.{Unfit, Fit}
+use Rattle.plan_send.specs.Send.{sendingPlan}
+use Rattle.plan_send.specs.declared.SendPlan.{SendPlan}
+use Rattle.plan_send.specs.declared.SendPlan.the-variants as S
+use Rattle.gauge_plan.specs.Lent.{Memory, Receive, Send, Call, receives, sends, ticks, lists}
+use Rattle.plan_message.specs.Planned.{byEntry, planFor, planIn, receivePlan}
+use Rattle.gauge.specs.Receive.{carried, receiveCall}
 use Rattle.gauge.specs.Send.{sendPlan, sendCarried, sendCall}
 use Rattle.gauge.specs.Counts.{gaugeTick, gaugeList}
-use Rattle.gauge_laws.specs.Calls.{Call, receives, sends, ticks, lists, made}
+use Rattle.gauge.specs.Ours.{ours}
 use Rattle.gauge_laws.specs.Table.{floodRows, messageRows, receiveTable, tableOf}
-use Rattle.gauge_laws.specs.Statements.{Exactly, Accepted, RefusalNumbers}
 
 -- ---- the order of a table's rows: computed, as their numbers are written out
 
@@ -91,7 +92,7 @@ numberOf (Refuse n) = n
 numberOf (Flood u s n a o at size) = 0
 numberOf (Revoke h u s n a) = 0
 numberOf (Learn h u at) = 0
-numberOf (Free h u at m) = 0
+numberOf (Free h u at n) = 0
 numberOf (Certify a) = 0
 numberOf (Show h a at) = 0
 
@@ -99,28 +100,28 @@ abbrev sendNumber : SendPlan → ℕ
 sendNumber (S.Refuse n) = n
 sendNumber (S.Flood u ours at) = 0
 
-carried-number : (l : Receive) (p : Plan) → carried l p .given .number ≡ numberOf p
+carried-number : (m : Memory) (l : Receive) (p : Plan) → carried m l p .answer .number ≡ numberOf p
 unfolding carried
-carried-number l (Refuse n) = refl
-carried-number l (Flood u s n a o at size) = refl
-carried-number l (Revoke h u s n a) = refl
-carried-number l (Learn h u at) = refl
-carried-number l (Free h u at m) = refl
-carried-number l (Certify a) = refl
-carried-number l (Show h a at) = refl
+carried-number m l (Refuse n) = refl
+carried-number m l (Flood u s n a o at size) = refl
+carried-number m l (Revoke h u s n a) = refl
+carried-number m l (Learn h u at) = refl
+carried-number m l (Free h u at n) = refl
+carried-number m l (Certify a) = refl
+carried-number m l (Show h a at) = refl
 
 by-table : (rs : List Refusal) (done : Plan) → numberOf done ≡ 0 → numberOf (orRefuse Refuse rs done) ≡ firstOf rs
 by-table rs done e = number-is numberOf Refuse (λ n. refl) done e rs
 
 -- a FLOOD to send
-sent-number : (l : Send) (p : SendPlan) → sendCarried l p .given .number ≡ sendNumber p
+sent-number : (m : Memory) (l : Send) (p : SendPlan) → sendCarried m l p .answer .number ≡ sendNumber p
 unfolding sendCarried
-sent-number l (S.Refuse n) = refl
-sent-number l (S.Flood u ours at) = refl
+sent-number m l (S.Refuse n) = refl
+sent-number m l (S.Flood u ours at) = refl
 
-send-number : (l : Send) → sendCall l .given .number ≡ firstOf (tableOf (sends l))
+send-number : (m : Memory) (l : Send) → sendCall m l .answer .number ≡ firstOf (tableOf m (sends l))
 unfolding sendCall sendingPlan
-send-number l = sent-number l (sendPlan l) ∙ number-is sendNumber S.Refuse (λ n. refl) _ refl (tableOf (sends l))
+send-number m l = sent-number m l (sendPlan m l) ∙ number-is sendNumber S.Refuse (λ n. refl) _ refl (tableOf m (sends l))
 
 -- ---- two tables, one behind the other
 
@@ -163,29 +164,29 @@ shown-message d t ps =
     either P (eqb t 1) _ _ tt (either P (eqb t 2) _ _ tt (either P (eqb t 3) _ _ tt (either P (eqb t 4) _ _ tt (either P (eqb t 7) _ _ tt
     (either P (eqb t 8) _ _ tt (either P (eqb t 9) _ _ tt tt))))))
 
-abbrev used : Receive → ℕ
-used l = usedOf (l .waiting)
+abbrev used : Memory → ℕ
+used m = usedOf (m .waiting)
 
-abbrev held : Receive → ℕ
-held l = heldIn (keyOf (l .own)) (l .cache)
+abbrev held : Memory → Receive → ℕ
+held m l = heldIn (keyOf (l .own)) (m .cache)
 
-entry-number : (l : Receive) (head : Head) (s : Bool) (validate : ℕ) (entry : Part)
-    → numberOf (byEntry l (held l) (used l) head s validate entry) ≡ firstOf (floodRows l s validate entry)
+entry-number : (m : Memory) (l : Receive) (head : Head) (s : Bool) (validate : ℕ) (entry : Part)
+    → numberOf (byEntry m l (held m l) (used m) head s validate entry) ≡ firstOf (floodRows m l s validate entry)
 unfolding floodPlan revokePlan heldOf
-entry-number l head s validate (Here start len) = by-table _ _ refl
-entry-number l head s validate Absent = by-table _ _ refl
+entry-number m l head s validate (Here start len) = by-table _ _ refl
+entry-number m l head s validate Absent = by-table _ _ refl
 
-message-number : (l : Receive) (a : T.Answer) → IsMessage a → numberOf (planFor l (held l) (used l) a) ≡ firstOf (messageRows l a)
+message-number : (m : Memory) (l : Receive) (a : T.Answer) → IsMessage a → numberOf (planFor m l (held m l) (used m) a) ≡ firstOf (messageRows m l a)
 unfolding planFor inquirePlan authorityPlan ackPlan lookupPlan heldOf firstOf
-message-number l (M.Refused n) w = absurd w
-message-number l (M.Solicit head entry nonce) w = refl
-message-number l (M.Advertise head acked keys nonce) w = refl
-message-number l (M.Request head flags split nonce keys credential signature key) w = refl
-message-number l (M.Flood head s validate token revoke entry reached) w = entry-number l head s validate entry
-message-number l (M.Inquire head a x c validate nonce credential signature key) w = by-table _ _ refl
-message-number l (M.Authority head acked fields) w = by-table _ _ refl
-message-number l (M.Ack head acked flags n) w = by-table _ _ refl
-message-number l (M.Lookup head a precision criteria reason target validate entry path credential signature key) w = by-table _ _ refl
+message-number m l (M.Refused n) w = absurd w
+message-number m l (M.Solicit head entry nonce) w = refl
+message-number m l (M.Advertise head acked keys nonce) w = refl
+message-number m l (M.Request head flags split nonce keys credential signature key) w = refl
+message-number m l (M.Flood head s validate token revoke entry reached) w = entry-number m l head s validate entry
+message-number m l (M.Inquire head a x c validate nonce credential signature key) w = by-table _ _ refl
+message-number m l (M.Authority head acked fields) w = by-table _ _ refl
+message-number m l (M.Ack head acked flags n) w = by-table _ _ refl
+message-number m l (M.Lookup head a precision criteria reason target validate entry path credential signature key) w = by-table _ _ refl
 
 -- ---- reading, then the message
 
@@ -194,31 +195,31 @@ foundNumber (fields.refused n) = n
 foundNumber (fields.found t ps) = 0
 
 -- what is found gives the number of the rows of reading and of the message
-abbrev Numbered : Receive → fields.Found → Type 0
-Numbered l x =
-    numberOf (planFor l (held l) (used l) (R.shown (l .datagram) x))
-    ≡ firstOf (fields.refusals (l .datagram) (l .major) ++ messageRows l (R.shown (l .datagram) x))
+abbrev Numbered : Memory → Receive → fields.Found → Type 0
+Numbered m l x =
+    numberOf (planFor m l (held m l) (used m) (R.shown (l .datagram) x))
+    ≡ firstOf (fields.refusals (l .datagram) (l .major) ++ messageRows m l (R.shown (l .datagram) x))
 
-module _ (l : Receive) where
+module _ (m : Memory) (l : Receive) where
   refused-number : 0 < firstOf (fields.refusals (l .datagram) (l .major))
-      → Numbered l (fields.refused (firstOf (fields.refusals (l .datagram) (l .major))))
+      → Numbered m l (fields.refused (firstOf (fields.refusals (l .datagram) (l .major))))
   unfolding planFor R.shown
   refused-number p = sym (first-before (fields.refusals (l .datagram) (l .major)) _ p)
 
-  found-number : (t : ℕ) (ps : List Part) → AllFail (fields.refusals (l .datagram) (l .major)) → Numbered l (fields.found t ps)
+  found-number : (t : ℕ) (ps : List Part) → AllFail (fields.refusals (l .datagram) (l .major)) → Numbered m l (fields.found t ps)
   found-number t ps a =
-      message-number l (R.shown (l .datagram) (fields.found t ps)) (shown-message (l .datagram) t ps)
+      message-number m l (R.shown (l .datagram) (fields.found t ps)) (shown-message (l .datagram) t ps)
       ∙ sym (first-behind (fields.refusals (l .datagram) (l .major)) _ a)
 
   read-by : (rs : List Refusal) (done : fields.Found) → foundNumber done ≡ 0 → InOrder (placeIn order) 0 rs
-      → (0 < firstOf rs → Numbered l (fields.refused (firstOf rs))) → (AllFail rs → Numbered l done) → Numbered l (orRefuse fields.refused rs done)
+      → (0 < firstOf rs → Numbered m l (fields.refused (firstOf rs))) → (AllFail rs → Numbered m l done) → Numbered m l (orRefuse fields.refused rs done)
   read-by rs done z o p q = go (decLe 1 (firstOf rs))
     where
-      go : Dec (1 ≤ firstOf rs) → Numbered l (orRefuse fields.refused rs done)
-      go (yes h) = subst (Numbered l) (sym (refusal-is foundNumber fields.refused (λ n. refl) done z rs h)) (p h)
-      go (no h) = let a = all-fail (placeIn order) rs 0 o (omega arith) in subst (Numbered l) (sym (all-pass fields.refused rs done a)) (q a)
+      go : Dec (1 ≤ firstOf rs) → Numbered m l (orRefuse fields.refused rs done)
+      go (yes h) = subst (Numbered m l) (sym (or-refuses fields.refused rs done h)) (p h)
+      go (no h) = let a = all-fail (placeIn order) rs 0 o (omega arith) in subst (Numbered m l) (sym (all-pass fields.refused rs done a)) (q a)
 
-  read-number : Numbered l (fields.foundIn (l .datagram) (l .major))
+  read-number : Numbered m l (fields.foundIn (l .datagram) (l .major))
   unfolding fields.foundIn placeIn
   read-number =
       let rs = fields.refusals (l .datagram) (l .major) in
@@ -226,32 +227,32 @@ module _ (l : Receive) where
 
   -- ---- memory and what is handed in, then the datagram
 
-  hands-number : (b : Bool) → numberOf (orRefuse Refuse (when 1 (not b) ∷ []) (planFor l (held l) (used l) (R.answer (l .datagram) (l .major))))
-      ≡ firstOf (when 1 (not b) ∷ (fields.refusals (l .datagram) (l .major) ++ messageRows l (R.answer (l .datagram) (l .major))))
+  hands-number : (b : Bool) → numberOf (orRefuse Refuse (when 1 (not b) ∷ []) (planFor m l (held m l) (used m) (R.answer (l .datagram) (l .major))))
+      ≡ firstOf (when 1 (not b) ∷ (fields.refusals (l .datagram) (l .major) ++ messageRows m l (R.answer (l .datagram) (l .major))))
   unfolding orRefuse firstOf
   hands-number true = read-number
   hands-number false = refl
 
-  memory-number : (b : Bool) → numberOf (planIn l (cond b (Fit (held l) (used l)) Unfit))
+  memory-number : (b : Bool) → numberOf (planIn m l (cond b (Fit (held m l) (used m)) Unfit))
       ≡ firstOf (when 1 (not b) ∷ when 1 (not (handsFit (l .cpa) (l .nonce) (l .key)))
-      ∷ (fields.refusals (l .datagram) (l .major) ++ messageRows l (R.answer (l .datagram) (l .major))))
+      ∷ (fields.refusals (l .datagram) (l .major) ++ messageRows m l (R.answer (l .datagram) (l .major))))
   unfolding firstOf
   memory-number true = hands-number (handsFit (l .cpa) (l .nonce) (l .key))
   memory-number false = refl
 
-  pub receive-number : receiveCall l .given .number ≡ firstOf (receiveTable l)
+  pub receive-number : receiveCall m l .answer .number ≡ firstOf (receiveTable m l)
   unfolding receiveCall receivePlan memoryOf
-  receive-number = carried-number l (receivePlan l) ∙ memory-number (tablesFit (l .own) (l .cache) (l .waiting))
+  receive-number = carried-number m l (receivePlan m l) ∙ memory-number (tablesFit (l .own) m)
 
   -- ---- the order of its rows
 
-  entry-rises : (s : Bool) (validate : ℕ) (entry : Part) → rises 6 (floodRows l s validate entry) ≡ true
+  entry-rises : (s : Bool) (validate : ℕ) (entry : Part) → rises 6 (floodRows m l s validate entry) ≡ true
   unfolding placeIn
   entry-rises s validate (Here start len) = refl
   entry-rises s validate Absent = refl
 
   -- behind reading, whose last number is 7
-  message-rises : (a : T.Answer) → rises 6 (messageRows l a) ≡ true
+  message-rises : (a : T.Answer) → rises 6 (messageRows m l a) ≡ true
   unfolding placeIn
   message-rises (M.Refused n) = refl
   message-rises (M.Solicit head entry nonce) = refl
@@ -265,41 +266,47 @@ module _ (l : Receive) where
 
 -- ---- any call
 
-pub call-number : (c : Call) → made c .given .number ≡ firstOf (tableOf c)
+pub call-number : (m : Memory) (c : Call) → ours m c .answer .number ≡ firstOf (tableOf m c)
 unfolding gaugeTick W.tickCall W.tickDone gaugeList listCall
-call-number (receives l) = receive-number l
-call-number (sends l) = send-number l
-call-number (ticks own waiting output) =
-    number-is (λ (t : W.Ticked). t .number) (λ (n : ℕ). W.handed n 0 waiting output) (λ n. refl) (W.tickDone waiting output) refl
-    (W.tickRefusals own waiting output)
-call-number (lists own cache output) =
+call-number m (receives l) = receive-number m l
+call-number m (sends l) = send-number m l
+call-number m (ticks l) =
+    number-is (λ (t : W.Ticked). t .number) (λ (n : ℕ). W.handed n 0 (m .waiting) (l .output)) (λ n. refl) (W.tickDone (m .waiting) (l .output)) refl
+    (W.tickRefusals (l .own) (m .waiting) (l .output))
+call-number m (lists l) =
+    let own = l .own in
+    let cache = m .cache in
     let counts = countsOf (keyOf own) (heldBy own cache) in
-    number-is (λ (w : Written). w .answer .number) (λ (n : ℕ). written (record { number = n; below = 0; above = 0 }) output) (λ n. refl)
-    (written (record { number = 0; below = counts .below; above = counts .above }) (afterList (keyOf own) (heldBy own cache) output)) refl
-    (listWrong own cache output)
+    number-is (λ (w : Written). w .answer .number) (λ (n : ℕ). written (record { number = n; below = 0; above = 0 }) (l .output)) (λ n. refl)
+    (written (record { number = 0; below = counts .below; above = counts .above }) (afterList (keyOf own) (heldBy own cache) (l .output))) refl
+    (listWrong own cache (l .output))
 
-call-rises : (c : Call) → rises 0 (tableOf c) ≡ true
+call-rises : (m : Memory) (c : Call) → rises 0 (tableOf m c) ≡ true
 unfolding W.tickRefusals placeIn
-call-rises (receives l) = message-rises l (R.answer (l .datagram) (l .major))
-call-rises (sends l) = refl
-call-rises (ticks own waiting output) = refl
-call-rises (lists own cache output) = refl
+call-rises m (receives l) = message-rises m l (R.answer (l .datagram) (l .major))
+call-rises m (sends l) = refl
+call-rises m (ticks l) = refl
+call-rises m (lists l) = refl
 
-pub call-order : (c : Call) → InOrder (placeIn order) 0 (tableOf c)
-call-order c = rises-order 0 (tableOf c) (call-rises c)
+pub call-order : (m : Memory) (c : Call) → InOrder (placeIn order) 0 (tableOf m c)
+call-order m c = rises-order 0 (tableOf m c) (call-rises m c)
 
 -- where a call is accepted, each test of its table fails
-pub none-applies : (c : Call) → made c .given .number ≡ 0 → AllFail (tableOf c)
-none-applies c z = all-fail (placeIn order) (tableOf c) 0 (call-order c) (sym (call-number c) ∙ z)
+pub none-applies : (m : Memory) (c : Call) → ours m c .answer .number ≡ 0 → AllFail (tableOf m c)
+none-applies m c z = all-fail (placeIn order) (tableOf m c) 0 (call-order m c) (sym (call-number m c) ∙ z)
 
-pub refusal-numbers : RefusalNumbers
-refusal-numbers c = rises-listed 0 (tableOf c) (call-rises c)
+-- each row's number stands in the order, so that 0 is acceptance alone
+pub refusal-numbers : (m : Memory) (c : Call) → Every (λ (r : Refusal). r .number ∈ order) (tableOf m c)
+refusal-numbers m c = rises-listed 0 (tableOf m c) (call-rises m c)
 
-pub exactly : Exactly
-exactly c n p = subst
-    (λ (x : ℕ). (x ≡ n) ↔ ((appliesIn n (tableOf c) ≡ true) × ((m : ℕ) → Before m n → appliesIn m (tableOf c) ≡ false)))
-    (sym (call-number c)) (order-exactly (tableOf c) 0 n (call-order c) p)
+-- "Given exactly when": a number of the call's table is given exactly when it applies, in whichever of its rows, and none that stands before it in the order
+-- does; 0 when none applies
+pub exactly : (m : Memory) (c : Call) (n : ℕ) → 0 < n
+    → (ours m c .answer .number ≡ n) ↔ ((appliesIn n (tableOf m c) ≡ true) × ((i : ℕ) → Before i n → appliesIn i (tableOf m c) ≡ false))
+exactly m c n p = subst
+    (λ (x : ℕ). (x ≡ n) ↔ ((appliesIn n (tableOf m c) ≡ true) × ((i : ℕ) → Before i n → appliesIn i (tableOf m c) ≡ false)))
+    (sym (call-number m c)) (order-exactly (tableOf m c) 0 n (call-order m c) p)
 
-pub accepted : Accepted
-accepted c = subst (λ (x : ℕ). (x ≡ 0) ↔ ((m : ℕ) → appliesIn m (tableOf c) ≡ false)) (sym (call-number c))
-    (none-exactly (placeIn order) (tableOf c) 0 (call-order c))
+pub accepted : (m : Memory) (c : Call) → (ours m c .answer .number ≡ 0) ↔ ((i : ℕ) → appliesIn i (tableOf m c) ≡ false)
+accepted m c = subst (λ (x : ℕ). (x ≡ 0) ↔ ((i : ℕ) → appliesIn i (tableOf m c) ≡ false)) (sym (call-number m c))
+    (none-exactly (placeIn order) (tableOf m c) 0 (call-order m c))

@@ -10,11 +10,12 @@ use Rattle.refusal.proofs.CallLaws.{all-pass}
 use Rattle.table.specs.Rows.{bytesOf}
 use Rattle.waiting.specs.Form.{Form, waitingForm, placesOf}
 use Rattle.waiting.specs.Ticking.{ticked}
-use Rattle.waiting.specs.Call as W
+use Rattle.waiting_form.specs.Call as W
 use Rattle.waiting.proofs.FormLaws.{form-of, form-unique}
 use Rattle.waiting.proofs.KeptLaws.{tick-kept}
+use Rattle.gauge_plan.specs.Lent.{Memory, Tick, ticks}
 use Rattle.gauge.specs.Counts.{gaugeTick}
-use Rattle.gauge_laws.specs.Calls.{ticks}
+use Rattle.gauge.specs.Ours.{ours}
 use Rattle.gauge_laws.proofs.TableLaws.{none-applies}
 
 -- the table was in form, and its places are those ticked
@@ -23,18 +24,23 @@ pub record Round (t t′ : List ℕ) : Type 0 where
   pub form : Form own t (placesOf t)
   pub places : placesOf t′ ≡ ticked (placesOf t)
 
-tick-done : (own t o : List ℕ) → gaugeTick own t o .given .number ≡ 0
-    → (waitingForm (keyOf own) t ≡ true) × (gaugeTick own t o .waiting ≡ bytesOf 2240 (ticked (placesOf t)))
+tick-done : (m : Memory) (l : Tick) → gaugeTick m l .answer .number ≡ 0
+    → (waitingForm (keyOf (l .own)) (m .waiting) ≡ true) × (gaugeTick m l .memory .waiting ≡ bytesOf 2240 (ticked (placesOf (m .waiting))))
 unfolding gaugeTick W.tickCall W.tickDone W.tickRefusals
-tick-done own t o z =
-    let none = none-applies (ticks own t o) z in (
+tick-done m l z =
+    let own = l .own in
+    let t = m .waiting in
+    let o = l .output in
+    let none = none-applies m (ticks l) z in (
       both-true (recordForm own) (waitingForm (keyOf own) t) (not-false _ (none .0)) .1,
       ap (λ (r : W.Ticked). r .table) (all-pass (λ (k : ℕ). W.handed k 0 t o) (W.tickRefusals own t o) (W.tickDone t o) none),
     )
 
-pub tick-round : (own t o : List ℕ) → gaugeTick own t o .given .number ≡ 0 → Round t (gaugeTick own t o .waiting)
-tick-round own t o z =
-    let done = tick-done own t o z in
-    let f = form-of (keyOf own) t (done .0) in
-    let g = tick-kept (keyOf own) t (placesOf t) f in
-    record { own = keyOf own; form = f; places = ap placesOf (done .1) ∙ sym (form-unique (keyOf own) _ (ticked (placesOf t)) g) }
+pub tick-round : (m : Memory) (l : Tick) → gaugeTick m l .answer .number ≡ 0 → Round (m .waiting) (gaugeTick m l .memory .waiting)
+tick-round m l z =
+    let k = keyOf (l .own) in
+    let t = m .waiting in
+    let done = tick-done m l z in
+    let f = form-of k t (done .0) in
+    let g = tick-kept k t (placesOf t) f in
+    record { own = k; form = f; places = ap placesOf (done .1) ∙ sym (form-unique k _ (ticked (placesOf t)) g) }

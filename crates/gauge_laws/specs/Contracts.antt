@@ -1,6 +1,6 @@
 -- Helps the code. Any two results that a call's contract allows are equal: the answer, and every writable slice at exit. `Post` is what the function's own
--- `ensures` says of its arguments a, its result r and its parameters at exit s. A theorem of each name stands in proofs/. That the results are those of our
--- gauge is in sentences/Contracts. Assumes nothing.
+-- `ensures` says of its arguments a, its result r and its parameters at exit s. A theorem of each name stands in proofs/. Assumes nothing.
+use mathlib.Core.List.{[]}
 use mathlib.Core.Path.{_≡_}
 use contract.Lifetimes.{Lfts}
 use borrow.Fn.World.{ArgsD, ResD}
@@ -16,8 +16,8 @@ use Rattle.gauge.proofs.gauge_neighbours as listing
 use Rattle.gauge.proofs.gauge_neighbours.Reads as listed
 use Rattle.gauge.proofs.gauge_look as looking
 use Rattle.gauge.proofs.gauge_look.Reads as looked
-use Rattle.gauge.specs.Handed.{Handed, handed}
-use Rattle.gauge.specs.Counts as Counts
+use Rattle.gauge_plan.specs.Lent.{memory}
+use Rattle.gauge_commit.specs.Sending.{Handed, handed}
 
 -- 5. Of any contract that says of a result, with what is left in memory, that it is what a definition gives.
 abbrev pub OneResult : Type 1
@@ -25,7 +25,7 @@ OneResult = (R : Type 0) (d r s : R) → r ≡ d → s ≡ d → r ≡ s
 
 -- So of each exported call.
 abbrev receiveLeft : (κs : Lfts 8) → ResD receiving.signature κs → AtExit receiving.ended κs → Handed
-receiveLeft κs r s = handed r (now (s .1 .1 .0)) (now (s .1 .1 .1 .0)) (now (s .1 .1 .1 .1 .1 .1 .1 .1 .1 .1 .1 .0))
+receiveLeft κs r s = handed r (memory (now (s .1 .1 .0)) (now (s .1 .1 .1 .0))) (now (s .1 .1 .1 .1 .1 .1 .1 .1 .1 .1 .1 .0))
 
 abbrev pub ReceiveOne : Type 0
 ReceiveOne =
@@ -34,23 +34,25 @@ ReceiveOne =
 
 -- send has the cache for reading
 abbrev sendLeft : (κs : Lfts 6) → ArgsD sending.signature κs → ResD sending.signature κs → AtExit sending.ended κs → Handed
-sendLeft κs a r s = handed r (now (a .1 .0)) (now (s .1 .1 .0)) (now (s .1 .1 .1 .1 .1 .1 .1 .1 .0))
+sendLeft κs a r s = handed r (memory (now (a .1 .0)) (now (s .1 .1 .0))) (now (s .1 .1 .1 .1 .1 .1 .1 .1 .0))
 
 abbrev pub SendOne : Type 0
 SendOne =
     (κs : Lfts 6) (a : ArgsD sending.signature κs) (r r′ : ResD sending.signature κs) (s s′ : AtExit sending.ended κs)
     → sent.Post κs a r s → sent.Post κs a r′ s′ → sendLeft κs a r s ≡ sendLeft κs a r′ s′
 
+-- of a tick and a list with the memory that they are not lent, whatever it is; here none
 abbrev pub TickOne : Type 0
 TickOne =
     (κs : Lfts 3) (a : ArgsD ticking.signature κs) (r r′ : ResD ticking.signature κs) (s s′ : AtExit ticking.ended κs)
     → ticked.Post κs a r s → ticked.Post κs a r′ s′
-    → Counts.ticked r (now (s .1 .0)) (now (s .1 .1 .0)) ≡ Counts.ticked r′ (now (s′ .1 .0)) (now (s′ .1 .1 .0))
+    → handed r (memory [] (now (s .1 .0))) (now (s .1 .1 .0)) ≡ handed r′ (memory [] (now (s′ .1 .0))) (now (s′ .1 .1 .0))
 
 abbrev pub ListOne : Type 0
 ListOne =
     (κs : Lfts 3) (a : ArgsD listing.signature κs) (r r′ : ResD listing.signature κs) (s s′ : AtExit listing.ended κs)
-    → listed.Post κs a r s → listed.Post κs a r′ s′ → Counts.listed r (now (s .1 .1 .0)) ≡ Counts.listed r′ (now (s′ .1 .1 .0))
+    → listed.Post κs a r s → listed.Post κs a r′ s′
+    → handed r (memory (now (a .1 .0)) []) (now (s .1 .1 .0)) ≡ handed r′ (memory (now (a .1 .0)) []) (now (s′ .1 .1 .0))
 
 -- the look writes nothing
 abbrev pub LookOne : Type 0

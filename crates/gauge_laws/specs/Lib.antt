@@ -1,4 +1,2 @@
-pub mod Calls
-pub mod Statements
 pub mod Contracts
 pub mod Table

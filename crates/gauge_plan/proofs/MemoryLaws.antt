@@ -16,90 +16,87 @@ use Rattle.cache.specs.declared.shape.Formed.the-variants as held-is
 use Rattle.cache.proofs.ShapeLaws as shape
 use Rattle.cache.proofs.FormLaws.{true-form, form-laid}
 use Rattle.waiting.specs.Form.{waitingForm, usedOf}
-use Rattle.waiting.specs.Formed as waited
-use Rattle.waiting.specs.declared.tested.Formed.the-variants as used-is
-use Rattle.waiting.proofs.FormLaws as tested
+use Rattle.waiting_form.specs.Formed as waited
+use Rattle.waiting_form.specs.declared.tested.Formed.the-variants as used-is
+use Rattle.waiting.proofs.FormLaws as waits
+use Rattle.waiting_form.proofs.FormedLaws as tested
+use Rattle.gauge_plan.specs.Lent.{Memory}
 use Rattle.gauge_plan.specs.Memory.{tablesFit, memoryOf, handsFit}
-use Rattle.gauge_plan.specs.declared.memory.Memory.{Memory}
-use Rattle.gauge_plan.specs.declared.memory.Memory.the-variants.{Unfit, Fit}
-
--- a record of another length is out of form
-pub short-record : (r : List ℕ) → (length r ≡ 100 → ⊥) → recordForm r ≡ false
-unfolding recordForm
-short-record r d = rw (ne-eqb (length r) 100 d) refl
+use Rattle.gauge_plan.specs.declared.memory.Fitness.{Fitness}
+use Rattle.gauge_plan.specs.declared.memory.Fitness.the-variants.{Unfit, Fit}
 
 -- ---- what the tests make of it
 
-module _ (own cache table : List ℕ) where
-  pub no-record : recordForm own ≡ false → memoryOf own cache table ≡ Unfit
+module _ (own : List ℕ) (m : Memory) where
+  pub no-record : recordForm own ≡ false → memoryOf own m ≡ Unfit
   unfolding memoryOf tablesFit
   no-record e = rw e refl
 
   module _ (well : recordForm own ≡ true) where
-    pub no-cache : cached.formOf (keyOf own) cache ≡ held-is.Bad → memoryOf own cache table ≡ Unfit
+    pub no-cache : cached.formOf (keyOf own) (m .cache) ≡ held-is.Bad → memoryOf own m ≡ Unfit
     unfolding memoryOf tablesFit
-    no-cache e = rw (well, shape.bad-is (keyOf own) cache e) refl
+    no-cache e = rw (well, shape.bad-is (keyOf own) (m .cache) e) refl
 
-    module _ {h : ℕ} (held : cached.formOf (keyOf own) cache ≡ held-is.Good h) where
-      pub no-table : waited.formOf (keyOf own) table ≡ used-is.Bad → memoryOf own cache table ≡ Unfit
+    module _ {h : ℕ} (held : cached.formOf (keyOf own) (m .cache) ≡ held-is.Good h) where
+      pub no-table : waited.formOf (keyOf own) (m .waiting) ≡ used-is.Bad → memoryOf own m ≡ Unfit
       unfolding memoryOf tablesFit
-      no-table e = rw (well, shape.good-is (keyOf own) cache held .0, tested.bad-form (keyOf own) table e) refl
+      no-table e = rw (well, shape.good-is (keyOf own) (m .cache) held .0, tested.bad-form (keyOf own) (m .waiting) e) refl
 
-      pub all-fit : {u : ℕ} → waited.formOf (keyOf own) table ≡ used-is.Good u → memoryOf own cache table ≡ Fit h u
+      pub all-fit : {u : ℕ} → waited.formOf (keyOf own) (m .waiting) ≡ used-is.Good u → memoryOf own m ≡ Fit h u
       unfolding memoryOf tablesFit
       all-fit e =
-          let a = shape.good-is (keyOf own) cache held in
-          let b = tested.good-form (keyOf own) table e in
+          let a = shape.good-is (keyOf own) (m .cache) held in
+          let b = tested.good-form (keyOf own) (m .waiting) e in
           rw (well, a .0, b .0, a .1, sym (b .1)) refl
 
 -- ---- what is known of it
 
 -- memory in form, with so many records held and so many places used
-pub record Ready (own cache table : List ℕ) (h u : ℕ) : Type 0 where
+pub record Ready (own : List ℕ) (m : Memory) (h u : ℕ) : Type 0 where
   pub owned : recordForm own ≡ true
   pub long : length own ≡ 100
-  pub held : h ≡ heldIn (keyOf own) cache
-  pub cached : cacheForm (keyOf own) cache ≡ true
-  pub form : Form (keyOf own) cache (rows 100 h cache)
-  pub room : 100 * h ≤ length cache
-  pub used : u ≡ usedOf table
+  pub held : h ≡ heldIn (keyOf own) (m .cache)
+  pub cached : cacheForm (keyOf own) (m .cache) ≡ true
+  pub form : Form (keyOf own) (m .cache) (rows 100 h (m .cache))
+  pub room : 100 * h ≤ length (m .cache)
+  pub used : u ≡ usedOf (m .waiting)
   pub few : u ≤ 16
-  pub tabled : waitingForm (keyOf own) table ≡ true
-  pub size : length table ≡ 2240
-  pub laid : Laid 140 u table
+  pub tabled : waitingForm (keyOf own) (m .waiting) ≡ true
+  pub size : length (m .waiting) ≡ 2240
+  pub laid : Laid 140 u (m .waiting)
 
-abbrev pub KnownMemory : List ℕ → List ℕ → List ℕ → Memory → Type 0
-KnownMemory own cache table Unfit = tablesFit own cache table ≡ false
-KnownMemory own cache table (Fit h u) = Ready own cache table h u
+abbrev pub KnownMemory : List ℕ → Memory → Fitness → Type 0
+KnownMemory own m Unfit = tablesFit own m ≡ false
+KnownMemory own m (Fit h u) = Ready own m h u
 
-pub ready : (own cache table : List ℕ) → tablesFit own cache table ≡ true → Ready own cache table (heldIn (keyOf own) cache) (usedOf table)
+pub ready : (own : List ℕ) (m : Memory) → tablesFit own m ≡ true → Ready own m (heldIn (keyOf own) (m .cache)) (usedOf (m .waiting))
 unfolding tablesFit heldOf
-ready own cache table e =
-    let front = both-true (recordForm own && cacheForm (keyOf own) cache) (waitingForm (keyOf own) table) e in
-    let both = both-true (recordForm own) (cacheForm (keyOf own) cache) (front .0) in
-    let form = true-form (keyOf own) cache (both .1) in
+ready own m e =
+    let front = both-true (recordForm own && cacheForm (keyOf own) (m .cache)) (waitingForm (keyOf own) (m .waiting)) e in
+    let both = both-true (recordForm own) (cacheForm (keyOf own) (m .cache)) (front .0) in
+    let form = true-form (keyOf own) (m .cache) (both .1) in
     record {
       owned = both .0;
       long = form-length own (both .0);
       held = refl;
       cached = both .1;
       form = form;
-      room = form-laid (keyOf own) (heldIn (keyOf own) cache) cache form .room;
+      room = form-laid (keyOf own) (heldIn (keyOf own) (m .cache)) (m .cache) form .room;
       used = refl;
-      few = tested.used-few table;
+      few = waits.used-few (m .waiting);
       tabled = front .1;
-      size = tested.form-size (keyOf own) table (front .1);
-      laid = tested.form-laid (keyOf own) table (front .1);
+      size = waits.form-size (keyOf own) (m .waiting) (front .1);
+      laid = waits.form-laid (keyOf own) (m .waiting) (front .1);
     }
 
-known-by : (own cache table : List ℕ) (b : Bool) → tablesFit own cache table ≡ b
-    → KnownMemory own cache table (cond b (Fit (heldIn (keyOf own) cache) (usedOf table)) Unfit)
-known-by own cache table true e = ready own cache table e
-known-by own cache table false e = e
+known-by : (own : List ℕ) (m : Memory) (b : Bool) → tablesFit own m ≡ b
+    → KnownMemory own m (cond b (Fit (heldIn (keyOf own) (m .cache)) (usedOf (m .waiting))) Unfit)
+known-by own m true e = ready own m e
+known-by own m false e = e
 
-pub known-memory : (own cache table : List ℕ) → KnownMemory own cache table (memoryOf own cache table)
+pub known-memory : (own : List ℕ) (m : Memory) → KnownMemory own m (memoryOf own m)
 unfolding memoryOf
-known-memory own cache table = known-by own cache table (tablesFit own cache table) refl
+known-memory own m = known-by own m (tablesFit own m) refl
 
 -- what is handed in besides
 pub record Handed (cpa nonce key : List ℕ) : Type 0 where

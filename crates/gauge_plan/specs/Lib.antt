@@ -1,6 +1,5 @@
-pub mod Rooms
+pub mod Lent
 pub mod Memory
-pub mod Flood
-pub mod Answering
-pub mod Send
-pub mod Ids
+pub mod Own
+pub mod Found
+pub mod Opening

@@ -5,19 +5,20 @@ use mathlib.Core.Bool.{Bool, _&&_, cond}
 use mathlib.Core.List.{List}
 use lib.Dec.{eqb, leb}
 use lib.ListN.{length}
-use Rattle.record.specs.Record.{keyOf, recordForm}
+use Rattle.own.specs.Own.{ownForm, ownKeys}
 use Rattle.cache.specs.Form.{cacheForm, heldIn}
 use Rattle.waiting.specs.Form.{waitingForm, usedOf}
-use Rattle.gauge_plan.specs.declared.memory.Memory.{Memory}
-use Rattle.gauge_plan.specs.declared.memory.Memory.the-variants.{Unfit, Fit}
+use Rattle.gauge_plan.specs.Lent.{Memory}
+use Rattle.gauge_plan.specs.declared.memory.Fitness.{Fitness}
+use Rattle.gauge_plan.specs.declared.memory.Fitness.the-variants.{Unfit, Fit}
 
 -- own record, cache and waiting table in form
-unfoldable pub tablesFit : List ℕ → List ℕ → List ℕ → Bool
-tablesFit own cache waiting = recordForm own && cacheForm (keyOf own) cache && waitingForm (keyOf own) waiting
+unfoldable pub tablesFit : List ℕ → Memory → Bool
+tablesFit own m = ownForm own && cacheForm (ownKeys own) (m .cache) && waitingForm (ownKeys own) (m .waiting)
 
 -- and with it how many records are held and how many places are used
-unfoldable pub memoryOf : List ℕ → List ℕ → List ℕ → Memory
-memoryOf own cache waiting = cond (tablesFit own cache waiting) (Fit (heldIn (keyOf own) cache) (usedOf waiting)) Unfit
+unfoldable pub memoryOf : List ℕ → Memory → Fitness
+memoryOf own m = cond (tablesFit own m) (Fit (heldIn (ownKeys own) (m .cache)) (usedOf (m .waiting))) Unfit
 
 -- "Own CPA: 1 to 1,024 bytes"; "a 16-byte nonce .. (other lengths give 1)"; "A key handed in has 32 bytes, else 1"
 unfoldable pub handsFit : List ℕ → List ℕ → List ℕ → Bool

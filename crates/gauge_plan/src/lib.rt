@@ -1,21 +1,12 @@
-// What is planned for a datagram received, and for a FLOOD to send: lent everything for reading, each function decides
-// every refusal of its message.
-mod answering;
-mod flood;
+// What all planning shares: whether what is lent is in form, and what a plan is. The plans of each message stand in the
+// crates plan_flood, plan_answer, plan_send and plan_message; lent everything for reading, they decide every refusal.
 mod memory;
-mod send;
+mod opening;
 
-pub use answering::plan_ack;
-pub use answering::plan_authority;
-pub use answering::plan_inquire;
-pub use answering::plan_lookup;
-pub use flood::plan_flood;
-pub use flood::plan_revoke;
-pub use memory::Memory;
+pub use memory::Fitness;
 pub use memory::hands_fit;
 pub use memory::survey;
-pub use send::SendPlan;
-pub use send::plan_send;
+pub use opening::open_refusal;
 
 // What is to be done with a datagram received: numbers and places, never a part of a slice.
 pub enum Plan {

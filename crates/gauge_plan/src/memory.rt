@@ -1,32 +1,31 @@
 // Whether the memory that every call is lent is in form.
 ghost use mathlib.Core.Path.{_≡_};
+ghost use Rattle.gauge_plan.specs.Lent.{Memory, withTables};
 ghost use Rattle.gauge_plan.specs.Memory.{memoryOf, handsFit};
 
 // How many records are held and how many places are used, where memory is in form.
-pub enum Memory {
+pub enum Fitness {
     Unfit,
     Fit { held: usize, used: usize },
 }
 
-// Are own record, cache and waiting table in form?
-pub fn survey(own: &[u8], cache: &[u8], waiting: &[u8]) -> Memory
-    ensures { λ r. ⌜ r ≡ memoryOf (now (own .entry)) (now (cache .entry)) (now (waiting .entry)) ⌝ }
+// Are own record, cache and waiting table in form? Memory that is not lent may be any.
+pub fn survey(own: &[u8], cache: &[u8], waiting: &[u8]) -> Fitness
+    ensures { λ r. ⌜ ((m : Memory) → r
+        ≡ memoryOf (now (own .entry)) (withTables (now (cache .entry)) (now (waiting .entry)) m)) ⌝ }
 {
-    if own.len() != 100 {
-        return Memory::Unfit;
-    }
-    if !record::is_formed(own, 0) {
-        return Memory::Unfit;
+    if !own::own_form(own) {
+        return Fitness::Unfit;
     }
     let held = cache::form(own, cache);
     let cache::Formed::Good(held) = held else {
-        return Memory::Unfit;
+        return Fitness::Unfit;
     };
-    let used = waiting::form(own, waiting);
-    let waiting::Formed::Good(used) = used else {
-        return Memory::Unfit;
+    let used = waiting_form::form(own, waiting);
+    let waiting_form::Formed::Good(used) = used else {
+        return Fitness::Unfit;
     };
-    Memory::Fit { held, used }
+    Fitness::Fit { held, used }
 }
 
 // Have own CPA, nonce and key the lengths that document 01 gives them?

@@ -12,8 +12,7 @@ use Rattle.kept.specs.Plain as Plain
 use Rattle.kept.specs.Plain.{NotOwn}
 use Rattle.kept.specs.Demand3.{Demand3-holds, Same-keys-same-neighbours, Plain-demand3, Plain-same-keys-same-neighbours}
 use Rattle.kept.proofs.ListLaws.{Test, pass, fail, test}
-use Rattle.kept.proofs.HistoryLaws.{Fine, nothing-fine, neighbours-right, neighbours-only, after-fine, after-length, after-same}
-use Rattle.kept.proofs.HistoryLaws.{learned-has, learned-from, learned-fine, learned-same}
+use Rattle.kept.proofs.HistoryLaws.{Fine, nothing-fine, neighbours-right, neighbours-only, after-fine, after-length, after-same, learned-has, learned-from, learned-fine, learned-same}
 use Rattle.kept.proofs.FarthestLaws.{farthest-rule}
 
 -- the neighbours among the kept keys are those among all the keys learned

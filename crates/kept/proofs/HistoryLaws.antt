@@ -14,12 +14,9 @@ use Rattle.key.specs.Around.{Side, below, above}
 use Rattle.kept.specs.Neighbours.{is, nearestFirst, neighbours, IsNeighbours}
 use Rattle.kept.specs.History.{Event, learned, removed, trimmed, learn, happen, after, gathered, learnedAll, Learns, NoRemoval}
 use Rattle.kept.specs.Rules.{Order, DropRule}
-use Rattle.kept.proofs.ListLaws.{Test, pass, fail, test, every-at, mem-take, mem-put, put-keeps}
-use Rattle.kept.proofs.ListLaws.{put-there, every-of, every-put, length-put, rising-put, rising-take}
-use Rattle.kept.proofs.ListLaws.{beyond-take, rising-ext, only-list}
+use Rattle.kept.proofs.ListLaws.{Test, pass, fail, test, every-at, mem-take, mem-put, put-keeps, put-there, every-of, every-put, length-put, rising-put, rising-take, beyond-take, rising-ext, only-list, rising-at}
 use Rattle.kept.proofs.WithoutLaws.{every-without, rising-without, length-without, shorter-without}
 use Rattle.kept.proofs.RemovalLaws.{none-keeps}
-use Rattle.kept.proofs.ListLaws.{rising-at}
 use Rattle.kept.proofs.PutLaws.{put-same, put-more}
 use Rattle.kept.proofs.RankedLaws.{mem-ranked, ranked-rises, ranked-mem, length-ranked, first-put, first-without}
 

@@ -10,8 +10,7 @@ use native.Mathlib.Omega.{arith}
 use lib.ListN.{length, take}
 use Rattle.kept.specs.Keys.{_∈_, Every, Rising, plain, put, without, among, inOrder}
 use Rattle.kept.proofs.PutLaws.{Tri, less, same, more, tri, put-nil, put-less, put-more, put-same, put-twice, put-comm, take-put, take-beyond}
-use Rattle.kept.proofs.ListLaws.{Test, pass, fail, test, every-at, every-of, among-pass, among-fail, mem-among}
-use Rattle.kept.proofs.ListLaws.{mem-put, put-keeps, put-there, length-put-new, rising-at, rising-put}
+use Rattle.kept.proofs.ListLaws.{Test, pass, fail, test, every-at, every-of, among-pass, among-fail, mem-among, mem-put, put-keeps, put-there, length-put-new, rising-at, rising-put}
 use Rattle.kept.proofs.WithoutLaws.{put-without, every-without}
 
 abbrev pub ranked : (ℕ → Bool) → (ℕ → ℕ) → List ℕ → List ℕ

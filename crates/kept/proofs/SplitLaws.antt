@@ -9,8 +9,7 @@ use native.Mathlib.Omega.{arith}
 use lib.ListN.{length, getD}
 use Rattle.kept.specs.Keys.{_∈_, Every, Rising, plain, put, without, among, inOrder, lastOr}
 use Rattle.kept.proofs.PutLaws.{put-nil, put-more, put-same, put-front}
-use Rattle.kept.proofs.ListLaws.{Test, pass, fail, test, every-of, rising-at, rising-from}
-use Rattle.kept.proofs.ListLaws.{among-pass, among-fail}
+use Rattle.kept.proofs.ListLaws.{Test, pass, fail, test, every-of, rising-at, rising-from, among-pass, among-fail}
 use Rattle.kept.proofs.WithoutLaws.{without-this, without-other, without-absent}
 
 -- put, without, in a list that is split at the place -----------------------------------------------------------------------------

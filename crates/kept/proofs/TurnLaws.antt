@@ -24,8 +24,7 @@ use Rattle.kept.proofs.PutLaws.{Tri, less, same, more, tri}
 use Rattle.kept.proofs.RankedLaws.{ranked, mem-inOrder, mem-ranked, ranked-mem, ranked-rises}
 use Rattle.kept.proofs.HistoryLaws.{is-side, on, apart}
 use Rattle.kept.proofs.Demand3Laws.{plain-order}
-use Rattle.kept.proofs.ListLaws.{Test, pass, fail, test, every-at, every-of, rising-at, rising-ext}
-use Rattle.kept.proofs.ListLaws.{mem-take, mem-among, among-pass, among-fail}
+use Rattle.kept.proofs.ListLaws.{Test, pass, fail, test, every-at, every-of, rising-at, rising-ext, mem-take, mem-among, among-pass, among-fail}
 use Rattle.kept.proofs.SplitLaws.{put-last, inOrder-rising, rising-among, among-none, among-all, among-append, rising-raise, last-getD, last-reverse}
 
 -- ---- members of two lists after each other

@@ -1,17 +1,17 @@
 -- To believe. What we go by: the order around our own key that key's Around gives, with the farthest out dropped. "Dropping and the neighbour list follow this"
 -- (02, Wish 4). Assumes nothing.
-use mathlib.Core.Path.{_≡_}
 use mathlib.Core.List.{List, _++_}
 use Prim.Native.Nat.{ℕ}
 use lib.ListN.{length}
 use Rattle.key.specs.Around.{Side, below, above, sideOf, nearness}
+use Rattle.own.specs.Own.{Own, IsOwn}
 use Rattle.kept.specs.Neighbours as N
 use Rattle.kept.specs.History as H
 use Rattle.kept.specs.History.{Event}
 
 -- which numbers may be kept: our own key is never learned
-abbrev pub NotOwn : ℕ → ℕ → Type 0
-NotOwn own k = ¬ (k ≡ own)
+abbrev pub NotOwn : Own → ℕ → Type 0
+NotOwn own k = ¬ IsOwn own k
 
 -- how many of the keys are below our own
 abbrev pub countBelow : ℕ → List ℕ → ℕ

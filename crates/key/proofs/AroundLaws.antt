@@ -15,8 +15,7 @@ use Rattle.key.specs.Around.{ring, half, up, isAbove, nearness, apart, i
 use Rattle.key.proofs.DifferenceLaws.{distance-sym}
 use Rattle.key.proofs.OrderLaws.{Stand, stand}
 use Rattle.key.proofs.OrderLaws.Stand.{below, equal, above}
-use Rattle.key.proofs.RingLaws.{half-twice, half-some, keys-are, keys-not, Stands, stands}
-use Rattle.key.proofs.RingLaws.{up-lt, up-straight, up-over, up-back, up-zero, up-self, up-from, up-to}
+use Rattle.key.proofs.RingLaws.{half-twice, half-some, keys-are, keys-not, Stands, stands, up-lt, up-straight, up-over, up-back, up-zero, up-self, up-from, up-to}
 use Rattle.key.proofs.RingLaws.Stands.{round, line}
 
 -- ---- sides and nearness

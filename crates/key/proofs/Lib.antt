@@ -4,5 +4,4 @@ pub mod DifferenceLaws
 pub mod KeyLaws
 pub mod PlaceLaws
 pub mod RingLaws
-pub mod HalfLaws
 pub mod AroundLaws

@@ -1,13 +1,10 @@
-// Keys: 256-bit numbers, 32 bytes most significant first. In hand a key is four words by value, and so is a difference.
-mod around;
+// Keys: 256-bit numbers, 32 bytes most significant first. In hand a key is four words by value, and so is a difference. How
+// keys stand around our own and around a target is in the crate ring.
 mod ordered;
 mod subtract;
 
-pub use around::how_far;
-pub use around::is_above;
-pub use around::is_closer;
-pub use around::opposite;
 pub use ordered::compare;
+pub use ordered::is_less;
 pub use ordered::is_same;
 pub use ordered::less_at;
 pub use ordered::order_at;

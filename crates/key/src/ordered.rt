@@ -36,7 +36,7 @@ pub fn compare(x: Key, y: Key) -> Order
 }
 
 // Is one key, or one difference, less than another?
-pub(crate) fn is_less(x: Key, y: Key) -> bool
+pub fn is_less(x: Key, y: Key) -> bool
     ensures { λ r. ⌜ r ≡ ltb (number x) (number y) ⌝ }
 {
     match compare(x, y) {

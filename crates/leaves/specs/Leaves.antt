@@ -10,7 +10,7 @@ use Rattle.key.specs.Number.{keyAt}
 use Rattle.key.specs.Around.{closer}
 use Rattle.record.specs.Record.{keyOf}
 use Rattle.cache.specs.Form.{cacheForm, heldIn}
-use Rattle.cache.specs.Calls.{closestCall}
+use Rattle.neighbours.specs.Calls.{closestCall}
 
 unfoldable pub wordOr0 : ℕ → List ℕ → ℕ
 wordOr0 at s = cond (leb (at + 8) (length s)) (valueBE 256 (part at 8 s)) 0
@@ -25,4 +25,4 @@ unfoldable pub heldOr257 : List ℕ → List ℕ → ℕ
 heldOr257 own cache = cond (leb 32 (length own) && cacheForm (keyOf own) cache) (heldIn (keyOf own) cache) 257
 
 abbrev pub closestWord : List ℕ → List ℕ → List ℕ → ℕ
-closestWord own cache target = wordOr0 24 (closestCall own cache target)
+closestWord own cache target = wordOr0 24 (closestCall own cache target .bytes)

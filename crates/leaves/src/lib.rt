@@ -3,6 +3,7 @@
 ghost use mathlib.Core.Path.{_≡_};
 ghost use Rattle.octet.specs.Part.{same, allZero};
 ghost use Rattle.leaves.specs.Leaves.{wordOr0, closerOr2, heldOr257, closestWord};
+use neighbours::Nearest;
 
 // The number of the eight bytes at a place, most significant first; 0 where they do not lie within.
 #[no_mangle]
@@ -51,9 +52,9 @@ pub extern "C" fn leaves_closer(target: &[u8], k: &[u8], j: &[u8]) -> u8
     let t = key::key_at(target, 0);
     let x = key::key_at(k, 0);
     let y = key::key_at(j, 0);
-    let d = key::how_far(t, x);
-    let e = key::how_far(t, y);
-    if key::is_closer(t, x, d, y, e) { 1 } else { 0 }
+    let d = ring::how_far(t, x);
+    let e = ring::how_far(t, y);
+    if ring::is_closer(t, x, d, y, e) { 1 } else { 0 }
 }
 
 // How many records a cache holds; 257 where it is not in form, or the own slice is too short for a key.
@@ -74,8 +75,15 @@ pub extern "C" fn leaves_form(own: &[u8], cache: &[u8]) -> usize
 // The last eight bytes of the key of the record closest to a target, among our own and those of the cache; 0 where memory
 // is not in form or the target has not 32 bytes. The form is tested first: what closest alone executes is the difference.
 #[no_mangle]
-pub extern "C" fn leaves_closest<'a>(own: &'a [u8], cache: &'a [u8], target: &[u8]) -> u64
+pub extern "C" fn leaves_closest(own: &[u8], cache: &[u8], target: &[u8]) -> u64
     ensures { λ r. ⌜ r ≡ closestWord (now (own .entry)) (now (cache .entry)) (now (target .entry)) ⌝ }
 {
-    leaves_u64(cache::closest_record(own, cache, target), 24)
+    match neighbours::closest_record(own, cache, target) {
+        Nearest::Refused(_) => 0,
+        Nearest::Own => leaves_u64(own, 24),
+        Nearest::Held(i) => {
+            let at = 100 * i;
+            leaves_u64(&cache[at..at + 100], 24)
+        }
+    }
 }

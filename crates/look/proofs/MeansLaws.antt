@@ -11,8 +11,8 @@ use lib.Seq.{getD-drop}
 use borrow.Author.Tests.{eqb-true}
 use Rattle.octet.specs.Number.{valueBE}
 use Rattle.octet.specs.Part.{part}
-use Rattle.wire_fields.specs.Field.{numberAt}
-use Rattle.wire_fields.specs.Shapes.{Kind, hasShape}
+use Rattle.wire_shapes.specs.Field.{numberAt}
+use Rattle.wire_shapes.specs.Shapes.{Kind, hasShape}
 use Rattle.wire_fields.specs.Kinds as K
 use Rattle.wire_fields.specs.Kinds.{kindsOf}
 use Rattle.wire_fields.specs.Message.{Contents, Message, Formed, ends, partsOf}
@@ -20,10 +20,11 @@ use Rattle.wire_fields.specs.Reading.{valuesOf}
 use Rattle.wire_fields.specs.Refusals.{found}
 use Rattle.wire_fields.specs.declared.Part.{Part}
 use Rattle.wire_fields.specs.declared.Part.the-variants.{Absent}
-use Rattle.wire_fields.specs.declared.Shape.{Shape}
-use Rattle.wire_fields.specs.declared.Shape.the-variants.{Sized}
+use Rattle.wire_shapes.specs.declared.Shape.{Shape}
+use Rattle.wire_shapes.specs.declared.Shape.the-variants.{Sized}
 use Rattle.wire_fields.proofs.WholeLaws.{reads-found}
-use Rattle.wire_read.specs.Answers.{startOf, headOf, shown, answer}
+use Rattle.wire_buffer.specs.Buffer.{startOf}
+use Rattle.wire_read.specs.Answers.{headOf, shown, answer}
 use Rattle.wire_read.specs.Meaning.{numberOf}
 use Rattle.wire_read.specs.declared.Answer.{Answer}
 use Rattle.wire_read.specs.declared.Answer.the-variants as M

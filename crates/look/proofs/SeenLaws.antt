@@ -7,14 +7,15 @@ use mathlib.Core.Bool.{Bool, false}
 use mathlib.Core.List.{List, [], _∷_}
 use lib.ListN.{length, getD}
 use lib.Seq.{getD-drop}
-use Rattle.wire_fields.specs.Shapes.{Kind}
+use Rattle.wire_shapes.specs.Shapes.{Kind}
 use Rattle.wire_fields.specs.Kinds as K
 use Rattle.wire_fields.specs.Kinds.{must}
 use Rattle.wire_fields.specs.declared.Part.{Part}
 use Rattle.wire_fields.specs.declared.Part.the-variants.{Here, Absent}
-use Rattle.wire_fields.specs.declared.Shape.the-variants.{Sized}
+use Rattle.wire_shapes.specs.declared.Shape.the-variants.{Sized}
 use Rattle.wire_read.specs.Answers as R
-use Rattle.wire_read.specs.Answers.{answer, startOf}
+use Rattle.wire_buffer.specs.Buffer.{startOf}
+use Rattle.wire_read.specs.Answers.{answer}
 use Rattle.wire_read.specs.declared.Answer.{Answer}
 use Rattle.wire.proofs.StandLaws.{Fact, Stand, after, sized-length}
 use Rattle.wire.proofs.ShownLaws.{of-each}

@@ -11,7 +11,7 @@ use lib.Dec.{eqb}
 use lib.ListN.{length, getD}
 use Rattle.octet.specs.Number.{Bytes, valueBE}
 use Rattle.octet.specs.Part.{part}
-use Rattle.wire_fields.specs.Shapes.{Kind}
+use Rattle.wire_shapes.specs.Shapes.{Kind}
 use Rattle.wire_fields.specs.Message.{Contents, Message, Reads, partsOf}
 use Rattle.wire_fields.specs.declared.Part.{Part}
 use Rattle.wire_fields.specs.declared.Part.the-variants.{Here, Absent}

@@ -4,7 +4,7 @@
 use Prim.Native.Nat.{ℕ}
 use Rattle.wire_fields.specs.declared.Part.{Part}
 use Rattle.wire_fields.specs.declared.Part.the-variants.{Here, Absent}
-use Rattle.wire_read.specs.Answers.{startOf}
+use Rattle.wire_buffer.specs.Buffer.{startOf}
 use Rattle.wire_read.specs.declared.Answer.{Answer}
 use Rattle.wire_read.specs.declared.Answer.the-variants.{Refused, Solicit, Advertise, Request, Flood, Inquire, Authority, Ack, Lookup}
 use Rattle.look.specs.declared.Look.{Look}
@@ -15,7 +15,7 @@ sizeOf (Here s l) = l
 sizeOf Absent = 0
 
 -- number; type, message ID, acked ID; place and length of the CPA or revoke CPA, of the nonce, of the route entry, of the target key
-abbrev pub seenAs : ℕ → ℕ → ℕ → ℕ → Part → Part → Part → Part → Look
+abbrev pub seenAs : (number kind id acked : ℕ) (cpa nonce entry target : Part) → Look
 seenAs number kind id acked cpa nonce entry target =
     record {
       number = number;

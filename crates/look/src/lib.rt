@@ -2,7 +2,8 @@
 // fields stand that the program must judge or sign.
 ghost use mathlib.Core.Path.{_≡_};
 ghost use Prim.Native.Nat.{_+_, _≤_};
-ghost use Rattle.wire_read.specs.Answers.{answer, startOf};
+ghost use Rattle.wire_buffer.specs.Buffer.{startOf};
+ghost use Rattle.wire_read.specs.Answers.{answer};
 ghost use Rattle.look.specs.Seen.{sizeOf, seenAs, lookOf};
 use wire_fields::Part;
 use wire_read::Answer;

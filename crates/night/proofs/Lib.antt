@@ -1,5 +1,4 @@
 pub mod CallLaws
-pub mod FaultLaws
 pub mod StepLaws
 pub mod ReplayLaws
 pub mod MadeLaws

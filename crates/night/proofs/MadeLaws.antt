@@ -13,15 +13,15 @@ use Rattle.kept.specs.Keys.{Every, _∈_}
 use Rattle.kept.proofs.ListLaws.{every-at}
 use Rattle.gauge_laws.specs.Table.{tableOf}
 use Rattle.gauge_laws.proofs.TableLaws.{call-number, refusal-numbers}
-use Rattle.sentences.specs.Words.{Memory, memory, Call, receives, sends, ticks, lists, empty, left, log}
-use Rattle.sentences.specs.Ours.{ours}
-use Rattle.sentences.proofs.OursLaws.{lent}
-use Rattle.night.specs.Trace.{kindOf, bodyOf, bodyFits}
-use Rattle.night.specs.Fault.{faults, isGood, ends}
+use Rattle.gauge_plan.specs.Lent.{Memory, empty, Call}
+use Rattle.gauge.specs.Words.{left, log}
+use Rattle.gauge.specs.Ours.{ours}
+use Rattle.trace.specs.Trace.{kindOf, bodyOf, bodyFits}
+use Rattle.trace.specs.Fault.{faults, isGood, ends}
 use Rattle.night.specs.Step.{Night, night, start, Stepped, stepped, called, callOf, stepOf}
 use Rattle.night.specs.Replay.{Line, line, lineOf, replayed, behind, Replayed, atEnd, replayFrom}
 use Rattle.night.specs.Statements.{callsBehind, callsOf, openingOf, numbered, stopOf, OneByOne, AllGood, Stops}
-use Rattle.night.proofs.FaultLaws.{first-is, good-record, bad-ends, first-opens, later-calls, fits-4}
+use Rattle.trace.proofs.FaultLaws.{first-is, good-record, bad-ends, first-opens, later-calls, fits-4}
 use Rattle.night.proofs.StepLaws.{step-bad, step-good, taken-opens, taken-calls}
 use Rattle.night.proofs.ReplayLaws.{at-end, goes-on, ends-there}
 
@@ -36,18 +36,10 @@ each-goes : (rs : List Refusal) → Every (λ (r : Refusal). r .number ∈ order
 each-goes [] e = tt
 each-goes (r ∷ rs) e = (goes-on-with (r .number) (e .0), each-goes rs (e .1))
 
-number-of : (m : Memory) (c : Call) → ours m c .answer .number ≡ firstOf (tableOf (lent m c))
-unfolding ours
-number-of m (receives own cpa major minor id nonce verdict key datagram output) =
-    call-number (lent m (receives own cpa major minor id nonce verdict key datagram output))
-number-of m (sends own major minor id neighbour key output) = call-number (lent m (sends own major minor id neighbour key output))
-number-of m (ticks own output) = call-number (lent m (ticks own output))
-number-of m (lists own output) = call-number (lent m (lists own output))
-
 pub goes : (m : Memory) (c : Call) → ends (ours m c .answer .number) ≡ false
 goes m c =
-    subst (λ (n : ℕ). ends n ≡ false) (sym (number-of m c))
-    (first-is (λ (n : ℕ). ends n ≡ false) (tableOf (lent m c)) refl (each-goes (tableOf (lent m c)) (refusal-numbers (lent m c))))
+    subst (λ (n : ℕ). ends n ≡ false) (sym (call-number m c))
+    (first-is (λ (n : ℕ). ends n ≡ false) (tableOf m c) refl (each-goes (tableOf m c) (refusal-numbers m c)))
 
 neither : (a b : Bool) → (a ≡ true → b ≡ true → ⊥) → a && b ≡ false
 neither true true u = absurd (u refl refl)

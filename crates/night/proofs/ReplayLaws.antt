@@ -3,7 +3,7 @@ use mathlib.Core.Path.{_≡_, refl}
 use mathlib.Core.Bool.{true, false, cond}
 use mathlib.Core.List.{List, [], _∷_}
 use Prim.Native.Nat.{ℕ, _+_}
-use Rattle.night.specs.Fault.{ends}
+use Rattle.trace.specs.Fault.{ends}
 use Rattle.night.specs.Step.{Night, stepOf}
 use Rattle.night.specs.Replay.{lineOf, replayed, behind, atEnd, replayFrom}
 

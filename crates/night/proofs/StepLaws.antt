@@ -14,11 +14,10 @@ use Rattle.octet.proofs.PartLaws.{splice-whole}
 use Rattle.refusal.specs.Table.{Refusal, when, firstOf, orRefuse}
 use Rattle.refusal.proofs.TableLaws.{AllFail, all-fail}
 use Rattle.refusal.proofs.CallLaws.{all-pass, row-applies, row-passes}
-use Rattle.sentences.specs.Words.{Memory}
-use Rattle.night.specs.Trace.{kindOf, bodyOf, bodyFits}
-use Rattle.night.specs.Fault.{faults}
+use Rattle.trace.specs.Trace.{kindOf, bodyOf, bodyFits}
+use Rattle.trace.specs.Fault.{faults}
 use Rattle.night.specs.Step.{Night, night, Stepped, stepped, called, callOf, taken, stepOf}
-use Rattle.night.proofs.FaultLaws.{in-order, good-record, fits-4}
+use Rattle.trace.proofs.FaultLaws.{in-order, good-record, fits-4}
 
 -- ---- the first row that applies refuses
 

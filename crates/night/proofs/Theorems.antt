@@ -2,8 +2,8 @@
 use mathlib.Core.Path.{refl}
 use Rattle.refusal.specs.Table.{firstOf}
 use Rattle.sentences.proofs.ComputedLaws.{computed}
-use Rattle.night.specs.Trace.{bodyFits, cutInto, written, allWritten}
-use Rattle.night.specs.Fault.{faults}
+use Rattle.trace.specs.Trace.{bodyFits, cutInto, written, allWritten}
+use Rattle.trace.specs.Fault.{faults}
 use Rattle.night.specs.Step.{called, stepOf}
 use Rattle.night.specs.Replay.{replayFrom}
 use Rattle.night.specs.Statements.{OneByOne, Stops, ReadsBack, Whole, Example}

@@ -10,7 +10,7 @@ use Rattle.octet.specs.Part.{part}
 use Rattle.octet.proofs.LittleLaws.{valueLE-digitsLE}
 use Rattle.kept.specs.Keys.{Every}
 use Rattle.table.specs.Rows.{joined}
-use Rattle.night.specs.Trace.{lengthOf, kindOf, bodyOf, cutInto, recordsOf, Piece, written, allWritten, traceOf, pieceOf}
+use Rattle.trace.specs.Trace.{lengthOf, kindOf, bodyOf, cutInto, recordsOf, Piece, written, allWritten, traceOf, pieceOf}
 use Rattle.night.specs.Statements.{Writable, ReadsBack, Whole}
 
 -- ---- no byte is lost

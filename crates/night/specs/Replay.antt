@@ -4,8 +4,8 @@ use Prim.Native.Nat.{ℕ, _+_}
 use mathlib.Core.Bool.{cond, _&&_}
 use mathlib.Core.List.{List, [], _∷_, _++_}
 use lib.Dec.{eqb}
-use Rattle.night.specs.Trace.{recordsOf}
-use Rattle.night.specs.Fault.{ends}
+use Rattle.trace.specs.Trace.{recordsOf}
+use Rattle.trace.specs.Fault.{ends}
 use Rattle.night.specs.Step.{Night, Stepped, start, stepOf}
 
 pub record Line : Type 0 where

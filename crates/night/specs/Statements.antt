@@ -7,10 +7,11 @@ use lib.ListN.{length, replicate}
 use Rattle.refusal.specs.Table.{firstOf}
 use Rattle.kept.specs.Keys.{Every}
 use Rattle.table.specs.Rows.{joined}
-use Rattle.sentences.specs.Words.{Call, Entry, empty, left, log}
-use Rattle.sentences.specs.Ours.{ours}
-use Rattle.night.specs.Trace.{kindOf, bodyOf, recordsOf, Piece, written, allWritten, traceOf, pieceOf}
-use Rattle.night.specs.Fault.{faults, isGood}
+use Rattle.gauge_plan.specs.Lent.{empty, Call}
+use Rattle.gauge.specs.Words.{Entry, left, log}
+use Rattle.gauge.specs.Ours.{ours}
+use Rattle.trace.specs.Trace.{kindOf, bodyOf, recordsOf, Piece, written, allWritten, traceOf, pieceOf}
+use Rattle.trace.specs.Fault.{faults, isGood}
 use Rattle.night.specs.Step.{night, start, callOf}
 use Rattle.night.specs.Replay.{Line, line, replayed, replayFrom, replay, atEnd}
 

@@ -8,10 +8,11 @@ use lib.ListN.{length, drop, getD, replicate}
 use Rattle.octet.specs.Number.{valueLE}
 use Rattle.octet.specs.Part.{part}
 use Rattle.refusal.specs.Table.{when, orRefuse}
-use Rattle.sentences.specs.Words.{Memory, Call, receives, sends, ticks, Given, empty}
-use Rattle.sentences.specs.Ours.{ours}
-use Rattle.night.specs.Trace.{kindOf, bodyOf}
-use Rattle.night.specs.Fault.{faults}
+use Rattle.gauge_plan.specs.Lent.{Memory, empty, receive, send, tick, Call, receives, sends, ticks}
+use Rattle.gauge_commit.specs.Sending.{Handed}
+use Rattle.gauge.specs.Ours.{ours}
+use Rattle.trace.specs.Trace.{kindOf, bodyOf}
+use Rattle.trace.specs.Fault.{faults}
 
 -- ---- the calls that records are
 
@@ -29,15 +30,15 @@ output = replicate 2464 0
 
 abbrev pub received : List ℕ → List ℕ → Call
 received opening body =
-    receives (ownOf opening) (0 ∷ []) (majorOf opening) (minorOf opening) (valueLE 256 (part 0 4 body)) (part 37 16 body) (getD body 4 0) (part 5 32 body)
-    (drop 53 body) output
+    receives (receive (ownOf opening) (0 ∷ []) (majorOf opening) (minorOf opening) (valueLE 256 (part 0 4 body)) (part 37 16 body) (getD body 4 0)
+    (part 5 32 body) (drop 53 body) output)
 
 abbrev pub sent : List ℕ → List ℕ → Call
 sent opening body =
-    sends (ownOf opening) (majorOf opening) (minorOf opening) (valueLE 256 (part 0 4 body)) (part 4 32 body) (part 36 32 body) output
+    sends (send (ownOf opening) (majorOf opening) (minorOf opening) (valueLE 256 (part 0 4 body)) (part 4 32 body) (part 36 32 body) output)
 
 abbrev pub ticked : List ℕ → Call
-ticked opening = ticks (ownOf opening) output
+ticked opening = ticks (tick (ownOf opening) output)
 
 -- by the body of the record that opened the night, the kind and the body
 abbrev pub callOf : List ℕ → ℕ → List ℕ → Call

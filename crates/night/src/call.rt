@@ -4,8 +4,8 @@ ghost use mathlib.Core.Bool.{true};
 ghost use mathlib.Core.List.{List};
 ghost use Prim.Native.Nat.{ℕ, _≤_};
 ghost use lib.ListN.{length};
-ghost use Rattle.sentences.specs.Words.{memory};
-ghost use Rattle.night.specs.Trace.{bodyFits, isKind};
+ghost use Rattle.gauge_plan.specs.Lent.{memory};
+ghost use Rattle.trace.specs.Trace.{bodyFits, isKind};
 ghost use Rattle.night.specs.Step.{night, stepped, received, sent, ticked, called, callOf};
 
 const OUTPUT: usize = 2464;

@@ -28,7 +28,7 @@ fn one(line: &mut [u8], room: &mut [u8], number: u64, sums: Sums) -> Turn {
     if next.len == 0 {
         return Turn { sums, more: false };
     }
-    let found = readings::unpack(text::part(room, 0, next.len));
+    let found = packing::unpack(text::part(room, 0, next.len));
     line::say_found(line, number, found);
     Turn {
         sums: sums::with(sums, found),

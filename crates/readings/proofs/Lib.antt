@@ -8,4 +8,3 @@ pub mod UnpackLaws
 pub mod PackLaws
 pub mod RoundLaws
 pub mod Theorems
-pub mod ContractLaws

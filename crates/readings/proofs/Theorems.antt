@@ -11,9 +11,7 @@ use Rattle.refusal.proofs.CallLaws.{refusal-keeps, call-exactly}
 use Rattle.readings.specs.Reading.{image}
 use Rattle.readings.specs.Unpack.{unpackRefusals, readingIn, unpackOf, unpackNumber}
 use Rattle.readings.specs.Pack.{Handed, handed, packRefusals, packOf, packNumber}
-use Rattle.readings.specs.Statements.{ReadsBack, WritesBack, PackedReads, UnpackedWrites, NumbersBack}
-use Rattle.readings.specs.Statements.{UnpackOne, PackOne, BalanceOne, UnpackExactly, PackExactly, RefusedKeeps}
-use Rattle.readings.specs.Statements.{Depths, NegativeZero, Edges, Balanced, Balances}
+use Rattle.readings.specs.Statements.{ReadsBack, WritesBack, PackedReads, UnpackedWrites, NumbersBack, UnpackOne, PackOne, BalanceOne, UnpackExactly, PackExactly, RefusedKeeps, Depths, NegativeZero, Edges, Balanced, Balances}
 use Rattle.readings.specs.declared.Reading.{Reading}
 use Rattle.readings.specs.declared.Unpacked.the-variants.{Read, Refused}
 use Rattle.readings.specs.declared.Packed.the-variants.{Written, Refused as Kept}

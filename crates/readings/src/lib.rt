@@ -1,24 +1,18 @@
-// Pond readings, for the extended payload: packed into bytes and read from them, and the balance of the litres.
+// Pond readings, for the extended payload: what one is, in numbers too, and the balance of the litres.
 mod depth;
 mod litres;
 mod numbers;
-mod packing;
-mod unpacking;
 
 pub use depth::bits_of;
 pub use depth::depth_of_bits;
 pub use depth::is_allowed;
 pub use litres::balance;
 pub use litres::magnitude;
+pub use numbers::depth_reading;
 pub use numbers::kind_of;
 pub use numbers::measure_allowed;
 pub use numbers::measure_of;
 pub use numbers::reading_of;
-pub use packing::pack;
-pub use packing::pack_allowed;
-pub use packing::pack_number;
-pub use unpacking::unpack;
-pub use unpacking::unpack_number;
 
 // A depth in metres, or the number of a fault.
 pub enum Measured {

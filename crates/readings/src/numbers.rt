@@ -12,7 +12,7 @@ ghost use Rattle.readings.specs.Reading.{kindOf, measureOf, fine};
 ghost use Rattle.readings.specs.Numbers.{depthReading, readingOf};
 
 // A reading of kind 1, or 3 where the depth is outside.
-pub(crate) fn depth_reading(bits: u32, inflow: u32, outflow: u32) -> Unpacked
+pub fn depth_reading(bits: u32, inflow: u32, outflow: u32) -> Unpacked
     ensures { λ r. ⌜ r ≡ depthReading bits inflow outflow ⌝ }
 {
     let Metres::Within(depth) = depth_of_bits(bits) else {

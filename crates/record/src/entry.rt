@@ -49,10 +49,10 @@ pub fn put_record(dst: &mut [u8], at: usize, d: &[u8], start: usize, len: usize)
     copy_piece(dst, at, d, start, 32);
     copy_piece(dst, at + 32, d, start + 34, 2);
     let two = [count, 0];
-    octet::copy_to(dst, at + 34, &two);
+    runs::copy_to(dst, at + 34, &two);
     copy_piece(dst, at + 36, d, start + 38, size);
     let unused = at + 36 + size;
-    octet::clear(dst, unused, 64 - size);
+    runs::clear(dst, unused, 64 - size);
 }
 
 // Writes the route entry of the given versions that carries the record at a place.
@@ -65,9 +65,9 @@ pub fn put_entry(dst: &mut [u8], at: usize, major: u8, minor: u8, s: &[u8], star
     let count = s[start + 34];
     copy_piece(dst, at, s, start, 32);
     let versions = [major, minor];
-    octet::copy_to(dst, at + 32, &versions);
+    runs::copy_to(dst, at + 32, &versions);
     copy_piece(dst, at + 34, s, start + 32, 2);
     let rest = [0, count];
-    octet::copy_to(dst, at + 36, &rest);
+    runs::copy_to(dst, at + 36, &rest);
     copy_piece(dst, at + 38, s, start + 36, 16 * (count as usize));
 }

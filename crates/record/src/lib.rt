@@ -14,11 +14,14 @@ ghost use lib.ListN.{length};
 ghost use Rattle.octet.specs.Part.{part};
 ghost use Rattle.record.specs.Record.{recordForm};
 
+// How many bytes a record has.
+pub const RECORD_LEN: usize = 100;
+
 // Is the slice a record in form?
 pub fn is_record(r: &[u8]) -> bool
     ensures { λ b. ⌜ b ≡ recordForm (now (r .entry)) ⌝ }
 {
-    if r.len() != 100 {
+    if r.len() != RECORD_LEN {
         return false;
     }
     is_formed(r, 0)

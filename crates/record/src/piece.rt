@@ -22,5 +22,5 @@ pub fn copy_piece(dst: &mut [u8], at: usize, d: &[u8], start: usize, n: usize)
     ensures { λ _. ⌜ now (dst .exit) ≡ splice at (part start n (now (d .entry))) (now (dst .entry)) ⌝ }
 {
     let end = start + n;
-    octet::copy_to(dst, at, &d[start..end]);
+    runs::copy_to(dst, at, &d[start..end]);
 }

@@ -13,7 +13,7 @@ use borrow.Author.Tests.{eq-eqb, ne-eqb}
 use Rattle.octet.specs.Number.{valueLE}
 use Rattle.octet.specs.Part.{part, splice}
 use Rattle.octet.proofs.PartLaws.{length-part, take-splice, length-splice}
-use Rattle.night.specs.Fault.{ends}
+use Rattle.trace.specs.Fault.{ends}
 use Rattle.night.specs.Step.{Night, Stepped, stepped, stepOf}
 use Rattle.night.specs.Replay.{lineOf, atEnd}
 use Rattle.replay.specs.Text.{textsOf}

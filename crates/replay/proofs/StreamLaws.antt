@@ -11,8 +11,8 @@ use lib.Seq.{take-append-le, take-at, drop-at, take-all}
 use borrow.Author.Tests.{ne-eqb, lt-ltb, le-ltb, eqb-true, eqb-false}
 use Rattle.octet.specs.Number.{valueLE}
 use Rattle.table.specs.Rows.{joined}
-use Rattle.night.specs.Trace.{lengthOf, cutInto}
-use Rattle.night.specs.Fault.{ends}
+use Rattle.trace.specs.Trace.{lengthOf, cutInto}
+use Rattle.trace.specs.Fault.{ends}
 use Rattle.night.specs.Step.{Night, start, stepOf}
 use Rattle.night.specs.Replay.{Line, lineOf, atEnd, behind, replayFrom, Replayed, replay}
 use Rattle.night.proofs.TraceLaws.{cut-next}

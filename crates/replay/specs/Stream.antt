@@ -5,8 +5,8 @@ use mathlib.Core.Bool.{Bool, false, cond}
 use mathlib.Core.List.{List, [], _∷_, _++_}
 use lib.Dec.{eqb, ltb}
 use lib.ListN.{length}
-use Rattle.night.specs.Trace.{lengthOf}
-use Rattle.night.specs.Fault.{ends}
+use Rattle.trace.specs.Trace.{lengthOf}
+use Rattle.trace.specs.Fault.{ends}
 use Rattle.night.specs.Step.{Night, start, stepOf}
 use Rattle.night.specs.Replay.{lineOf, atEnd}
 use Rattle.replay.specs.Text.{textsOf}

@@ -18,7 +18,7 @@ fn put_number(out: &mut [u8], at: usize, n: u64) -> usize
 {
     let mut digits = [0u8; 20];
     let k = io::decimal(n, &mut digits);
-    octet::copy_to(out, at, &digits[..k]);
+    runs::copy_to(out, at, &digits[..k]);
     at + k
 }
 

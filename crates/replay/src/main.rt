@@ -41,7 +41,7 @@ fn main() {
     let mut first = [0u8; night::OPENING];
     let mut cache = [0u8; night::CACHE];
     let mut waiting = [0u8; night::WAITING];
-    let mut room = [0u8; night::RECORD];
+    let mut room = [0u8; trace::RECORD];
     let mut piece = [0u8; PIECE];
     let mut text = [0u8; TEXT];
     let mut held = stream::opened();

@@ -3,7 +3,7 @@ ghost use mathlib.Core.Path.{_≡_};
 ghost use mathlib.Core.Bool.{false};
 ghost use Prim.Native.Nat.{_+_, _*_, _^_, _≤_, _<_};
 ghost use lib.ListN.{length, take};
-ghost use Rattle.sentences.specs.Words.{memory};
+ghost use Rattle.gauge_plan.specs.Lent.{memory};
 ghost use Rattle.night.specs.Step.{night};
 ghost use Rattle.replay.specs.Stream.{stream, gives, after, wanted, fed, closing, closed};
 ghost use Rattle.replay.specs.Room.{Begun};
@@ -89,7 +89,7 @@ fn take_run(
     ensures { λ r. ⌜ (r .end) ≤ end + 42 ⌝ }
     ensures { λ r. ⌜ Begun (r .begun) (now (room .exit)) ⌝ }
 {
-    octet::copy_to(room, begun, run);
+    runs::copy_to(room, begun, run);
     let len = begun + run.len();
     if wanted_of(room, len) != len {
         return Held {
@@ -101,7 +101,7 @@ fn take_run(
     }
     let answer = night::step(at, opening, cache, waiting, &room[..len]);
     let put = line::put(text, end, at, answer);
-    let over = night::is_end(answer);
+    let over = trace::is_end(answer);
     Held {
         at: at + 1,
         begun: 0,

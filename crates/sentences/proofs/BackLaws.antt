@@ -29,11 +29,10 @@ use Rattle.wire_write.specs.Making.{floodMade, inquireMade, cpaMade, closestMad
 use Rattle.wire.specs.Sending.{Numbers}
 use Rattle.wire.proofs.SendingLaws as formed
 use Rattle.wire.proofs.Theorems.{written-back}
-use Rattle.gauge_plan.specs.Ids.{idAfter}
+use Rattle.asking.specs.Ids.{idAfter}
 use Rattle.gauge_commit.proofs.LengthLaws.{cpa-length, flood-length}
 use Rattle.gauge_laws.proofs.FirstLaws.{whole-record}
-use Rattle.gauge.specs.Lent.{Receive, Send}
-use Rattle.sentences.specs.Words.{Memory, memory}
+use Rattle.gauge_plan.specs.Lent.{Memory, Receive}
 use Rattle.sentences.specs.Heard.{Heard, entry, revoke, inquire, authority, ack, lookup, other}
 use Rattle.sentences.specs.Sentences as S
 use Rattle.sentences.specs.Numbers as Num
@@ -147,7 +146,7 @@ both-back : (xs ys : List (List ℕ)) → Every ReadsBack xs → Every ReadsBack
 both-back [] ys a b = b
 both-back (x ∷ xs) ys a b = (a .0, both-back xs ys (a .1) b)
 
-module _ (l : Receive) (w : Bytewise l) (ok : Num.ReceiveLent l) where
+module _ (m : Memory) (l : Receive) (w : Bytewise m l) (ok : Num.ReceiveLent m l) where
   acks-back : (id : ℕ) (silent n : Bool) → Every ReadsBack (S.acks l id silent n)
   acks-back id true n = tt
   acks-back id false n = (ack-back (l .major) (l .minor) (l .id) (w .numbers) id n, tt)
@@ -162,12 +161,12 @@ module _ (l : Receive) (w : Bytewise l) (ok : Num.ReceiveLent l) where
   asks-back false r long b = tt
 
   -- our own record or one held
-  candidate-fine : (r : List ℕ) → S.Candidate (memory (l .cache) (l .waiting)) l r → (recordForm r ≡ true) × Bytes r
+  candidate-fine : (r : List ℕ) → S.Candidate m l r → (recordForm r ≡ true) × Bytes r
   candidate-fine r (inl e) = rw e (ok .own, w .own)
-  candidate-fine r (inr m) =
-      (held-formed (keyOf (l .own)) (l .cache) r (ok .cache) m, held-bytes (keyOf (l .own)) (l .cache) r (w .cache) m)
+  candidate-fine r (inr i) =
+      (held-formed (keyOf (l .own)) (m .cache) r (ok .cache) i, held-bytes (keyOf (l .own)) (m .cache) r (w .cache) i)
 
-  reply-back : (x : Heard) → Num.Says l x → (ds : List (List ℕ)) → S.Reply (memory (l .cache) (l .waiting)) l x ds → Every ReadsBack ds
+  reply-back : (x : Heard) → Num.Says l x → (ds : List (List ℕ)) → S.Reply m l x ds → Every ReadsBack ds
   reply-back (entry id silent validate r) h ds s =
       let e = entry-heard (l .datagram) (w .datagram) (l .major) id silent validate r h in
       let long = form-length r (ap recordForm (e .is) ∙ record-form (part (e .start) (e .len) (l .datagram)) (e .formed)) in
@@ -186,18 +185,18 @@ module _ (l : Receive) (w : Bytewise l) (ok : Num.ReceiveLent l) where
   reply-back other h ds s = absurd s
 
 pub sent-reads : SentReads
-sent-reads l w ok x h ds s = reply-back l w ok x h ds s
+sent-reads m l w ok x h ds s = reply-back m l w ok x h ds s
 
 -- ---- a FLOOD sent
 
 pub flood-reads : FloodReads
-flood-reads l w ok r (inl n) = (
+flood-reads m l w ok r (inl n) = (
   flood-back (l .major) (l .minor) (l .id) (w .numbers) (l .neighbour) r (ok .neighbour) (w .neighbour) (ap recordForm (n .1) ∙ ok .own)
       (subst Bytes (sym (n .1)) (w .own)),
   tt,
 )
-flood-reads l w ok r (inr n) = (
+flood-reads m l w ok r (inr n) = (
   flood-back (l .major) (l .minor) (l .id) (w .numbers) (l .neighbour) r (ok .neighbour) (w .neighbour)
-      (held-formed (keyOf (l .own)) (l .cache) r (ok .cache) (n .1)) (held-bytes (keyOf (l .own)) (l .cache) r (w .cache) (n .1)),
+      (held-formed (keyOf (l .own)) (m .cache) r (ok .cache) (n .1)) (held-bytes (keyOf (l .own)) (m .cache) r (w .cache) (n .1)),
   tt,
 )

@@ -10,30 +10,33 @@ use Rattle.kept.specs.Keys.{put, without, among, inOrder, lastOr}
 use Rattle.kept.specs.Neighbours.{farthestOut}
 use Rattle.kept.specs.History.{trimmed, learn, happen, after}
 use Rattle.kept.specs.Records.{putBy, withoutBy, learnBy}
-use Rattle.table.specs.Rows.{rows, joined, bytesOf}
+use Rattle.table.specs.Rows.{rows, joined, bytesOf, anyOf}
 use Rattle.cache.specs.Form.{follows, leading, heldIn, heldOf, cacheForm}
-use Rattle.cache.specs.Bytes.{keyBytes}
-use Rattle.cache.specs.Closest.{closestFrom, closestOf}
-use Rattle.cache.specs.Calls.{listCall}
+use Rattle.neighbours.specs.Listing.{keyBytes}
+use Rattle.neighbours.specs.Closest.{closestFrom, closestOf}
+use Rattle.neighbours.specs.Calls.{listCall}
 use Rattle.waiting.specs.Place.{newPlace}
-use Rattle.waiting.specs.Form.{placeForm, anyOf, placesForm, usedIn, usedOf, waitingForm}
-use Rattle.waiting.specs.Seek.{seek}
+use Rattle.waiting.specs.Form.{placeForm, placesForm, usedIn, usedOf, waitingForm}
+use Rattle.table.specs.Seek.{seek}
 use Rattle.waiting.specs.Open.{opened, freed}
 use Rattle.waiting.specs.Tick.{idBytes}
 use Rattle.waiting.specs.Ticking.{ticked, listed}
-use Rattle.waiting.specs.Call.{tickRefusals, tickDone, tickCall}
-use Rattle.wire_fields.specs.Shapes.{arrayForm, lookupForm, splitForm, hasShape}
+use Rattle.waiting_form.specs.Call.{tickRefusals, tickDone, tickCall}
+use Rattle.wire_shapes.specs.Shapes.{arrayForm, lookupForm, splitForm, hasShape}
 use Rattle.wire_fields.specs.Kinds as kinds
 use Rattle.wire_fields.specs.Reading.{spanAt, needAt, maybeAt, placesAt, fieldsAs, wholeIn}
 use Rattle.wire_fields.specs.Refusals.{inPart, foundIn}
-use Rattle.wire_read.specs.Answers.{flagAt, headOf, precisionAt, shown}
+use Rattle.wire_buffer.specs.Buffer.{flagAt}
+use Rattle.wire_read.specs.Answers.{headOf, precisionAt, shown}
 use Rattle.wire_write.specs.Making.{ackMade, floodMade, inquireMade, cpaMade, closestMade}
 use Rattle.gauge_plan.specs.Memory.{tablesFit, memoryOf, handsFit}
-use Rattle.gauge_plan.specs.Flood.{mustAsk, floodPlan, revokePlan}
-use Rattle.gauge_plan.specs.Answering.{authorityPlan, lookupPlan}
-use Rattle.gauge.specs.Receive.{planFor, receivePlan, carried, receiveCall}
+use Rattle.asking.specs.Asking.{mustAsk}
+use Rattle.plan_flood.specs.Flood.{floodPlan, revokePlan}
+use Rattle.plan_answer.specs.Answering.{authorityPlan, lookupPlan}
+use Rattle.plan_message.specs.Planned.{planFor, receivePlan}
+use Rattle.gauge.specs.Receive.{carried, receiveCall}
 use Rattle.gauge.specs.Counts.{gaugeTick, gaugeList}
-use Rattle.sentences.specs.Ours.{ours}
+use Rattle.gauge.specs.Ours.{ours}
 
 -- to compute a call: what unfolds this name unfolds all that a call is made of
 unfoldable pub computed : Unit {0}
@@ -44,5 +47,5 @@ unfolding valueBE valueLE digitsBE digitsLE splice same allZero distance ring ha
     newPlace placeForm anyOf placesForm usedIn usedOf waitingForm seek opened freed ticked listed idBytes tickRefusals tickDone tickCall
     arrayForm lookupForm splitForm hasShape kinds.kindsOf kinds.joined kinds.sized spanAt needAt maybeAt placesAt fieldsAs wholeIn inPart foundIn
     flagAt headOf precisionAt shown ackMade floodMade inquireMade cpaMade closestMade
-    tablesFit memoryOf handsFit mustAsk floodPlan revokePlan authorityPlan lookupPlan planFor receivePlan carried receiveCall gaugeTick gaugeList ours
+    tablesFit memoryOf handsFit mustAsk floodPlan revokePlan authorityPlan lookupPlan planFor receivePlan carried receiveCall gaugeTick gaugeList
 computed = tt

@@ -20,40 +20,38 @@ use Rattle.table.proofs.RowLaws.{rows-length, row-at}
 use Rattle.kept.specs.Keys.{_∈_, Rising, plain}
 use Rattle.kept.specs.Plain.{neighbours, neighbourList}
 use Rattle.cache.specs.Form.{keysOf, heldIn, heldOf, cacheForm}
-use Rattle.cache.specs.Bytes.{keyBytes, countsOf, afterList}
-use Rattle.cache.specs.Calls.{Written, written, heldBy, listWrong, listCall}
-use Rattle.cache.proofs.CallLaws.{list-right}
+use Rattle.neighbours.specs.Listing.{keyBytes, countsOf, afterList}
+use Rattle.neighbours.specs.Calls.{Written, written, listWrong, listCall}
+use Rattle.cache.specs.Calls.{heldBy}
+use Rattle.neighbours.proofs.CallLaws.{list-right}
 use Rattle.waiting.specs.Place.{idOf, triesOf, floodPlace}
 use Rattle.waiting.specs.Form.{usedOf, placesOf, waitingForm}
 use Rattle.waiting.specs.Tick.{oneLess, idBytes}
 use Rattle.waiting.specs.Ticking.{ticked, listed}
-use Rattle.waiting.specs.Call as W
-use Rattle.waiting.specs.Seek.{seek}
+use Rattle.waiting_form.specs.Call as W
+use Rattle.table.specs.Seek.{seek}
 use Rattle.waiting.specs.Open.{opened}
 use Rattle.waiting.proofs.FormLaws.{Placed, form-placed, form-of}
 use Rattle.waiting.proofs.KeptLaws.{tick-kept}
 use Rattle.waiting.proofs.RoundLaws as round
-use Rattle.waiting.proofs.CallLaws as call
-use Rattle.waiting.proofs.SeekLaws.{found-within}
+use Rattle.waiting_form.proofs.CallLaws as call
+use Rattle.table.proofs.SeekLaws.{found-within}
 use Rattle.wire_fields.specs.Kinds.{floodKinds}
 use Rattle.wire_write.specs.Sent.{floodSent}
 use Rattle.wire_write.specs.Making.{floodMade}
-use Rattle.gauge_plan.specs.Send.{recordSent, heldAt, sendDone}
-use Rattle.gauge_plan.specs.Answering.{isNothing, placeOf}
-use Rattle.gauge_commit.specs.Sending.{answer, lengths, sending}
+use Rattle.plan_send.specs.Send.{recordSent, heldAt, sendDone}
+use Rattle.gauge_plan.specs.Found.{isNothing, placeOf}
+use Rattle.gauge_commit.specs.Sending.{answer, lengths, sending, Handed, handed}
 use Rattle.gauge_commit.proofs.SentLaws.{joined-one}
-use Rattle.gauge.specs.Lent.{Send}
-use Rattle.gauge.specs.Handed.{Handed}
+use Rattle.gauge_plan.specs.Lent.{Memory, Send, Tick, Listing, sends, ticks, lists}
 use Rattle.gauge.specs.Send.{sendCall, sendCarried}
-use Rattle.gauge.specs.Counts.{TickHanded, tickAnswered, gaugeTick, ListHanded, listAnswered, gaugeList}
+use Rattle.gauge.specs.Counts.{tickAnswered, gaugeTick, listAnswered, gaugeList}
 use Rattle.gauge.proofs.SendLaws.{send-by}
-use Rattle.gauge_laws.specs.Calls as G
 use Rattle.gauge_laws.proofs.TableLaws.{none-applies}
 use Rattle.gauge_laws.proofs.FirstLaws.{whole-record}
-use Rattle.gauge_laws.proofs.FormLaws.{form-kept}
+use Rattle.gauge_laws.proofs.FormLaws.{send-form}
 use Rattle.gauge_laws.proofs.MovedLaws.{send-planned, send-told, send-places}
-use Rattle.sentences.specs.Words.{Memory, memory, Call, receives, sends, ticks, lists, Given, given}
-use Rattle.sentences.specs.Ours.{asGiven, ours}
+use Rattle.gauge.specs.Ours.{ours}
 use Rattle.sentences.specs.Sentences as S
 use Rattle.sentences.proofs.MoveLaws.{found-in, seek-some, opened-in, ticked-in, listed-in}
 use Rattle.sentences.proofs.LearnLaws.{table-by}
@@ -67,63 +65,62 @@ rises-as : (b : ℕ) (l : List ℕ) → round.Rising b l → Rising plain b l
 rises-as b [] r = tt
 rises-as b (x ∷ l) r = (r .0, rises-as (suc x) l (r .1))
 
-module _ (own : List ℕ) (m : Memory) (output : List ℕ) (z : gaugeTick own (m .waiting) output .given .number ≡ 0) where
-  tick-lent : (recordForm own ≡ true) × (waitingForm (keyOf own) (m .waiting) ≡ true) × (64 ≤ length output)
+module _ (m : Memory) (l : Tick) (z : gaugeTick m l .answer .number ≡ 0) where
+  tick-lent : (recordForm (l .own) ≡ true) × (waitingForm (keyOf (l .own)) (m .waiting) ≡ true) × (64 ≤ length (l .output))
   unfolding W.tickRefusals
   tick-lent =
-      let f = none-applies (G.ticks own (m .waiting) output) z in
-      let w = both-true (recordForm own) (waitingForm (keyOf own) (m .waiting)) (not-false _ (f .0)) in
-      (w .0, w .1, ltb-false (length output) 64 (f .1 .0))
+      let f = none-applies m (ticks l) z in
+      let w = both-true (recordForm (l .own)) (waitingForm (keyOf (l .own)) (m .waiting)) (not-false _ (f .0)) in
+      (w .0, w .1, ltb-false (length (l .output)) 64 (f .1 .0))
 
-  tick-is : gaugeTick own (m .waiting) output ≡ tickAnswered (W.tickDone (m .waiting) output)
+  tick-is : gaugeTick m l ≡ tickAnswered m (W.tickDone (m .waiting) (l .output))
   unfolding gaugeTick
-  tick-is = ap tickAnswered (call.ticks own (m .waiting) output (tick-lent .0) (tick-lent .1) (tick-lent .2))
+  tick-is = ap (tickAnswered m) (call.ticks (l .own) (m .waiting) (l .output) (tick-lent .0) (tick-lent .1) (tick-lent .2))
 
-  pub ticks-does : S.Ticks (keyOf own) m output (ours m (ticks own output))
-  unfolding ours W.tickDone
+  pub ticks-does : S.Ticks (keyOf (l .own)) m (l .output) (gaugeTick m l)
+  unfolding W.tickDone
   ticks-does =
-      let k = keyOf own in
+      let k = keyOf (l .own) in
       let t = m .waiting in
       let ps = placesOf t in
       let f = form-of k t (tick-lent .1) in
-      subst (λ (h : TickHanded). S.Ticks k m output (given (h .given) (memory (m .cache) (h .waiting)) (h .output))) (sym tick-is) (record {
+      subst (S.Ticks k m (l .output)) (sym tick-is) (record {
         ids = listed ps;
         rising = rises-as 0 (listed ps) (round.listed-rising k 0 ps (form-placed k t (tick-lent .1)));
         listed = λ i. (λ n. let w = listed-in i ps .0 n in (w .0, w .1, w .2, sym (w .3)), λ w. listed-in i ps .1 (w .0, w .1, w .2, sym (w .3)));
         counts = refl;
-        bytes = start-one (idBytes (listed ps)) output;
+        bytes = start-one (idBytes (listed ps)) (l .output);
         cache = refl;
         table = table-by k _ (ticked ps) _ (tick-kept k t ps f) (λ q. ticked-in q ps);
       })
 
 -- ---- the neighbour list
 
-module _ (own : List ℕ) (m : Memory) (output : List ℕ) (z : gaugeList own (m .cache) output .given .number ≡ 0) where
+module _ (m : Memory) (l : Listing) (z : gaugeList m l .answer .number ≡ 0) where
   abbrev listDone : Written
   listDone =
-      let counts = countsOf (keyOf own) (heldBy own (m .cache)) in
-      written (record { number = 0; below = counts .below; above = counts .above }) (afterList (keyOf own) (heldBy own (m .cache)) output)
+      let counts = countsOf (keyOf (l .own)) (heldBy (l .own) (m .cache)) in
+      written (record { number = 0; below = counts .below; above = counts .above }) (afterList (keyOf (l .own)) (heldBy (l .own) (m .cache)) (l .output))
 
-  list-is : gaugeList own (m .cache) output ≡ listAnswered listDone
+  list-is : gaugeList m l ≡ listAnswered m listDone
   unfolding gaugeList listCall
-  list-is = ap listAnswered (all-pass _ (listWrong own (m .cache) output) listDone (none-applies (G.lists own (m .cache) output) z))
+  list-is = ap (listAnswered m) (all-pass _ (listWrong (l .own) (m .cache) (l .output)) listDone (none-applies m (lists l) z))
 
-  list-form : cacheForm (keyOf own) (m .cache) ≡ true
-  list-form = not-false _ (none-applies (G.lists own (m .cache) output) z .1 .0)
+  list-form : cacheForm (keyOf (l .own)) (m .cache) ≡ true
+  list-form = not-false _ (none-applies m (lists l) z .1 .0)
 
-  pub lists-does : S.Lists (keyOf own) m output (ours m (lists own output))
-  unfolding ours
+  pub lists-does : S.Lists (keyOf (l .own)) m (l .output) (gaugeList m l)
   lists-does =
-      let k = keyOf own in
+      let k = keyOf (l .own) in
       let keys = keysOf (heldOf k (m .cache)) in
-      subst (λ (h : ListHanded). S.Lists k m output (given (h .given) m (h .output))) (sym list-is) (record {
+      subst (S.Lists k m (l .output)) (sym list-is) (record {
         listed = record {
           low = neighbours k below keys;
           high = neighbours k above keys;
-          nearest-below = list-right own (m .cache) list-form below;
-          nearest-above = list-right own (m .cache) list-form above;
+          nearest-below = list-right (l .own) (m .cache) list-form below;
+          nearest-above = list-right (l .own) (m .cache) list-form above;
           counts = refl;
-          bytes = start-one (keyBytes (neighbourList k keys)) output;
+          bytes = start-one (keyBytes (neighbourList k keys)) (l .output);
         };
         same = refl;
       })
@@ -134,23 +131,20 @@ second-false : (a b : Bool) → not a && b ≡ false → a ≡ false → b ≡ f
 second-false true b e d = both refl d
 second-false false b e d = e
 
-module _ (l : Send) where
-  abbrev lent : Memory
-  lent = memory (l .cache) (l .waiting)
-
+module _ (m : Memory) (l : Send) where
   abbrev named : ℕ
   named = keyAt 0 (l .key)
 
   abbrev recs : List (List ℕ)
-  recs = heldOf (keyOf (l .own)) (l .cache)
+  recs = heldOf (keyOf (l .own)) (m .cache)
 
   -- the record that is sent: ours, or one held
   abbrev pub sentBy : Bool → List ℕ
-  sentBy b = recordSent (l .own) (l .cache) b (placeOf (heldAt named recs))
+  sentBy b = recordSent (l .own) (m .cache) b (placeOf (heldAt named recs))
 
   module _ (bar : not (eqb named (keyOf (l .own))) && isNothing (heldAt named recs) ≡ false) where
-    held-one : eqb named (keyOf (l .own)) ≡ false → (part (100 * placeOf (heldAt named recs)) 100 (l .cache) ∈ recs)
-        × (keyOf (part (100 * placeOf (heldAt named recs)) 100 (l .cache)) ≡ named)
+    held-one : eqb named (keyOf (l .own)) ≡ false → (part (100 * placeOf (heldAt named recs)) 100 (m .cache) ∈ recs)
+        × (keyOf (part (100 * placeOf (heldAt named recs)) 100 (m .cache)) ≡ named)
     unfolding heldOf
     held-one e =
         let t : List ℕ → Bool = λ (q : List ℕ). eqb (keyOf q) named in
@@ -159,41 +153,41 @@ module _ (l : Send) where
         let found = seek-some t recs some in
         let w = found-in t at recs found in
         let n = found-within t at recs found in
-        let here : getD recs at [] ≡ part (100 * at) 100 (l .cache) =
-        row-at 100 (heldIn (keyOf (l .own)) (l .cache)) (l .cache) at
-        (omega (arith, n, rows-length 100 (heldIn (keyOf (l .own)) (l .cache)) (l .cache))) in
+        let here : getD recs at [] ≡ part (100 * at) 100 (m .cache) =
+        row-at 100 (heldIn (keyOf (l .own)) (m .cache)) (m .cache) at
+        (omega (arith, n, rows-length 100 (heldIn (keyOf (l .own)) (m .cache)) (m .cache))) in
         (subst (λ (q : List ℕ). q ∈ recs) here (w .0), sym (ap keyOf here) ∙ eqb-true (keyOf (getD recs at [])) named (w .1))
 
-    pub named-by : (b : Bool) → eqb named (keyOf (l .own)) ≡ b → S.Named lent l (sentBy b)
+    pub named-by : (b : Bool) → eqb named (keyOf (l .own)) ≡ b → S.Named m l (sentBy b)
     named-by true e = inl (eqb-true named (keyOf (l .own)) e, refl)
     named-by false e = inr (eqb-false named (keyOf (l .own)) e, held-one e .0, held-one e .1)
 
-module _ (l : Send) (small : l .id < 2 ^ 32) (z : sendCall l .given .number ≡ 0) where
+module _ (m : Memory) (l : Send) (small : l .id < 2 ^ 32) (z : sendCall m l .answer .number ≡ 0) where
   abbrev r : List ℕ
-  r = sentBy l (eqb (named l) (keyOf (l .own)))
+  r = sentBy m l (eqb (named m l) (keyOf (l .own)))
 
   sent-is : floodMade (l .major) (l .minor) (l .id) (l .neighbour) r 0 .bytes ∷ [] ≡ S.flooding l r
   unfolding floodMade
   sent-is =
       ap (λ (x : List ℕ). S.written floodKinds (floodSent (l .major) (l .minor) (l .id) (l .neighbour) x) ∷ [])
-      (whole-record r (send-told l z .formed))
+      (whole-record r (send-told m l z .formed))
 
-  send-is : sendCall l ≡ sendCarried l (sendDone (l .own) (recs l) (usedOf (l .waiting)) (named l))
-  send-is = send-by l (send-planned l z)
+  send-is : sendCall m l ≡ sendCarried m l (sendDone (l .own) (recs m l) (usedOf (m .waiting)) (named m l))
+  send-is = send-by m l (send-planned m l z)
 
-  pub sends-does : S.Sends (lent l) l (asGiven (sendCall l))
+  pub sends-does : S.Sends m l (sendCall m l)
   unfolding sendCarried
   sends-does = record {
     r = r;
-    named = named-by l (none-applies (G.sends l) z .1 .1 .1 .0) (eqb (named l) (keyOf (l .own))) refl;
+    named = named-by m l (none-applies m (sends l) z .1 .1 .1 .0) (eqb (named m l) (keyOf (l .own))) refl;
     sent = record {
-      counts = ap (λ (h : Handed). h .given) send-is ∙ ap lengths sent-is;
+      counts = ap (λ (h : Handed). h .answer) send-is ∙ ap lengths sent-is;
       bytes = ap (λ (h : Handed). h .output) send-is ∙ ap (λ (ds : List (List ℕ)). sending ds (l .output)) sent-is;
     };
-    cache = ap (λ (h : Handed). h .cache) send-is;
+    cache = ap (λ (h : Handed). h .memory .cache) send-is;
     table = record {
-      form = form-kept (G.sends l) small z .0;
-      members = λ p. subst (λ (ps : List (List ℕ)). (p ∈ ps) ↔ ((p ∈ placesOf (l .waiting)) ⊎ (p ≡ floodPlace (l .id) (l .neighbour))))
-          (sym (send-places l z small)) (opened-in (floodPlace (l .id) (l .neighbour)) p (placesOf (l .waiting)));
+      form = send-form m l small z;
+      members = λ p. subst (λ (ps : List (List ℕ)). (p ∈ ps) ↔ ((p ∈ placesOf (m .waiting)) ⊎ (p ≡ floodPlace (l .id) (l .neighbour))))
+          (sym (send-places m l z small)) (opened-in (floodPlace (l .id) (l .neighbour)) p (placesOf (m .waiting)));
     };
   }

@@ -14,15 +14,16 @@ use Rattle.record.specs.Record.{keyOf}
 use Rattle.record.specs.Entry.{entryForm, recordOf}
 use Rattle.record.proofs.EntryLaws.{form-length, record-form}
 use Rattle.refusal.proofs.TableLaws.{AllFail, both}
-use Rattle.table.specs.Rows.{bytesOf}
+use Rattle.table.specs.Rows.{bytesOf, anyOf}
 use Rattle.table.proofs.RowLaws.{rows-length}
 use Rattle.cache.specs.Form.{heldOf}
 use Rattle.waiting.specs.Place.{inquiryPlace}
-use Rattle.waiting.specs.Form.{isInquiry, anyOf, placesOf}
-use Rattle.waiting.specs.Seek.{seek, hasId}
+use Rattle.waiting.specs.Form.{isInquiry, placesOf}
+use Rattle.table.specs.Seek.{seek}
+use Rattle.waiting.specs.Seek.{hasId}
 use Rattle.waiting.specs.Open.{opened}
-use Rattle.waiting.specs.declared.seek.Found.{Found}
-use Rattle.waiting.specs.declared.seek.Found.the-variants.{At, Nothing}
+use Rattle.table.specs.declared.Found.{Found}
+use Rattle.table.specs.declared.Found.the-variants.{At, Nothing}
 use Rattle.waiting.proofs.FormLaws.{form-placed}
 use Rattle.waiting.proofs.KeptLaws.{free-kept, open-inquiry}
 use Rattle.waiting.specs.Form as W
@@ -30,20 +31,23 @@ use Rattle.wire_fields.specs.declared.Part.{Part}
 use Rattle.wire_fields.specs.declared.Part.the-variants.{Here, Absent}
 use Rattle.wire_read.specs.declared.Head.{Head}
 use Rattle.wire_write.specs.Making.{ackMade, inquireMade}
-use Rattle.gauge_plan.specs.Ids.{idAfter}
-use Rattle.gauge_plan.specs.Flood.{notOurs, mustAsk, floodPlan, revokePlan}
+use Rattle.asking.specs.Ids.{idAfter}
+use Rattle.gauge_plan.specs.Own.{notOurs}
+use Rattle.asking.specs.Asking.{mustAsk}
+use Rattle.plan_flood.specs.Flood.{floodPlan, revokePlan}
 use Rattle.gauge_plan.specs.declared.Plan.the-variants.{Flood, Revoke}
 use Rattle.gauge_commit.specs.Replies.{freedAt}
-use Rattle.gauge.specs.Lent.{Receive}
-use Rattle.gauge.specs.Receive.{byEntry, carried}
-use Rattle.gauge.proofs.AnswerLaws.{EntryIn}
+use Rattle.gauge_plan.specs.Lent.{Memory, Receive}
+use Rattle.plan_message.specs.Planned.{byEntry}
+use Rattle.gauge.specs.Receive.{carried}
+use Rattle.plan_message.proofs.AnswerLaws.{EntryIn}
 use Rattle.gauge_laws.specs.Table.{floodRows}
 use Rattle.sentences.specs.Heard.{entry, revoke}
 use Rattle.sentences.specs.Sentences as S
 use Rattle.sentences.proofs.MoveLaws.{opened-in, none-inquires}
 use Rattle.sentences.proofs.LearnLaws.{table-by, removes}
 use Rattle.sentences.proofs.HeardLaws.{saidBy}
-use Rattle.sentences.proofs.WordLaws.{lent, not-iff, must-iff, none-asked}
+use Rattle.sentences.proofs.WordLaws.{not-iff, must-iff, none-asked}
 use Rattle.sentences.proofs.PlanLaws.{held, used, Fine, Does, table-form, ids-rise, passed}
 
 -- of two tests that do not hold together, where the first does the second does not
@@ -51,16 +55,16 @@ second-fails : (a b : Bool) → a && b ≡ false → a ≡ true → b ≡ false
 second-fails true b e h = e
 second-fails false b e h = both h refl
 
-module _ (l : Receive) (ok : Fine l) where
+module _ (m : Memory) (l : Receive) (ok : Fine m l) where
   abbrev recs : List (List ℕ)
-  recs = heldOf (keyOf (l .own)) (l .cache)
+  recs = heldOf (keyOf (l .own)) (m .cache)
 
   abbrev ps : List (List ℕ)
-  ps = placesOf (l .waiting)
+  ps = placesOf (m .waiting)
 
   -- FLOOD with a route entry
   module _ (id : ℕ) (s : Bool) (validate start len : ℕ) (formed : entryForm (part start len (l .datagram)) ≡ true)
-      (bars : AllFail (floodRows l s validate (Here start len))) where
+      (bars : AllFail (floodRows m l s validate (Here start len))) where
     abbrev r : List ℕ
     r = recordOf (part start len (l .datagram))
 
@@ -68,26 +72,26 @@ module _ (l : Receive) (ok : Fine l) where
     n = notOurs (keyOf (l .own)) validate (l .datagram)
 
     entry-table : (b : Bool) → mustAsk recs ps r ≡ b
-        → S.WaitsExactly (keyOf (l .own)) (cond b (bytesOf 2240 (opened (inquiryPlace (idAfter (l .id)) r) ps)) (l .waiting))
-        (λ (p : List ℕ). S.Waits (lent l) p ⊎ (S.MustAsk (keyOf (l .own)) (lent l) r × (p ≡ inquiryPlace (idAfter (l .id)) r)))
+        → S.WaitsExactly (keyOf (l .own)) (cond b (bytesOf 2240 (opened (inquiryPlace (idAfter (l .id)) r) ps)) (m .waiting))
+        (λ (p : List ℕ). S.Waits m p ⊎ (S.MustAsk (keyOf (l .own)) m r × (p ≡ inquiryPlace (idAfter (l .id)) r)))
     entry-table true e =
-        let must = must-iff (keyOf (l .own)) (lent l) r .0 e in
+        let must = must-iff (keyOf (l .own)) m r .0 e in
         let good = record-form (part start len (l .datagram)) formed in
-        let full = eqb-false (used l) 16 (second-fails (mustAsk recs ps r) (eqb (used l) 16) (bars .1 .1 .0) e) in
-        let g = open-inquiry (keyOf (l .own)) (l .waiting) ps (table-form l ok) (idAfter (l .id)) r
-        (omega (arith, rows-length 140 (used l) (l .waiting), ok .ready .few, full))
+        let full = eqb-false (used m l) 16 (second-fails (mustAsk recs ps r) (eqb (used m l) 16) (bars .1 .1 .0) e) in
+        let g = open-inquiry (keyOf (l .own)) (m .waiting) ps (table-form m l ok) (idAfter (l .id)) r
+        (omega (arith, rows-length 140 (used m l) (m .waiting), ok .ready .few, full))
         (mod-lt _ (omega arith)) (form-length r good) good (bars .0)
         (second-fails (mustAsk recs ps r) (anyOf (hasId (idAfter (l .id))) ps) (bars .1 .0) e)
-        (none-asked (keyOf (l .own)) (lent l) r must) in
+        (none-asked (keyOf (l .own)) m r must) in
         table-by (keyOf (l .own)) _ (opened (inquiryPlace (idAfter (l .id)) r) ps) _ g
         (λ q. (
           λ i. elim (opened-in (inquiryPlace (idAfter (l .id)) r) q ps .0 i) [ inl w ↦ inl w | inr w ↦ inr (must, w) ],
           λ i. opened-in (inquiryPlace (idAfter (l .id)) r) q ps .1 (elim i [ inl w ↦ inl w | inr w ↦ inr (w .1) ]),
         ))
-    entry-table false e = table-by (keyOf (l .own)) (l .waiting) ps _ (table-form l ok)
-        (λ q. (λ i. inl i, λ i. elim i [ inl w ↦ w | inr w ↦ both (must-iff (keyOf (l .own)) (lent l) r .1 (w .0)) e ]))
+    entry-table false e = table-by (keyOf (l .own)) (m .waiting) ps _ (table-form m l ok)
+        (λ q. (λ i. inl i, λ i. elim i [ inl w ↦ w | inr w ↦ both (must-iff (keyOf (l .own)) m r .1 (w .0)) e ]))
 
-    entry-does : Does l (entry id s (keyAt validate (l .datagram)) r) (Flood (used l) s n id (mustAsk recs ps r) start len)
+    entry-does : Does m l (entry id s (keyAt validate (l .datagram)) r) (Flood (used m l) s n id (mustAsk recs ps r) start len)
     unfolding carried ackMade inquireMade
     entry-does h = record {
       x = entry id s (keyAt validate (l .datagram)) r;
@@ -97,7 +101,7 @@ module _ (l : Receive) (ok : Fine l) where
         n = n;
         ask = mustAsk recs ps r;
         set = not-iff (keyAt validate (l .datagram)) (keyOf (l .own));
-        asked = must-iff (keyOf (l .own)) (lent l) r;
+        asked = must-iff (keyOf (l .own)) m r;
         are = refl;
       };
       sent = record { counts = refl; bytes = refl };
@@ -106,7 +110,7 @@ module _ (l : Receive) (ok : Fine l) where
 
   -- FLOOD with a revocation
   revoke-does : (id : ℕ) (s : Bool) (validate : ℕ)
-      → Does l (revoke id s (keyAt validate (l .datagram))) (Revoke (held l) (used l) s (notOurs (keyOf (l .own)) validate (l .datagram)) id)
+      → Does m l (revoke id s (keyAt validate (l .datagram))) (Revoke (held m l) (used m l) s (notOurs (keyOf (l .own)) validate (l .datagram)) id)
   unfolding carried ackMade heldOf
   revoke-does id s validate h =
       let u = keyAt 0 (l .key) in
@@ -121,19 +125,19 @@ module _ (l : Receive) (ok : Fine l) where
         };
         sent = record { counts = refl; bytes = refl };
         leaves = record {
-          cache = removes (keyOf (l .own)) (lent l) (ok .ready .cached) u;
+          cache = removes (keyOf (l .own)) m (ok .ready .cached) u;
           table = table-by (keyOf (l .own)) _ (freedAt (seek (isInquiry u) 0 ps) ps) _ (freed-form (seek (isInquiry u) 0 ps))
-              (λ q. none-inquires (keyOf (l .own)) u q ps (form-placed (keyOf (l .own)) (l .waiting) (ok .ready .tabled)) (ids-rise l ok));
+              (λ q. none-inquires (keyOf (l .own)) u q ps (form-placed (keyOf (l .own)) (m .waiting) (ok .ready .tabled)) (ids-rise m l ok));
         };
       }
     where
       freed-form : (found : Found) → W.Form (keyOf (l .own)) (bytesOf 2240 (freedAt found ps)) (freedAt found ps)
-      freed-form (At i) = free-kept (keyOf (l .own)) (l .waiting) ps (table-form l ok) i
-      freed-form Nothing = subst (λ (t : List ℕ). W.Form (keyOf (l .own)) t ps) (table-form l ok .bytes) (table-form l ok)
+      freed-form (At i) = free-kept (keyOf (l .own)) (m .waiting) ps (table-form m l ok) i
+      freed-form Nothing = subst (λ (t : List ℕ). W.Form (keyOf (l .own)) t ps) (table-form m l ok .bytes) (table-form m l ok)
 
   -- any FLOOD
-  pub flood-does : (head : Head) (s : Bool) (validate : ℕ) (route : Part) → EntryIn (l .datagram) route → AllFail (floodRows l s validate route)
-      → Does l (saidBy (l .datagram) (head .id) s validate route) (byEntry l (held l) (used l) head s validate route)
+  pub flood-does : (head : Head) (s : Bool) (validate : ℕ) (route : Part) → EntryIn (l .datagram) route → AllFail (floodRows m l s validate route)
+      → Does m l (saidBy (l .datagram) (head .id) s validate route) (byEntry m l (held m l) (used m l) head s validate route)
   unfolding floodPlan revokePlan heldOf
-  flood-does head s validate (Here start len) w bars = passed l _ _ _ bars (entry-does (head .id) s validate start len (w .1) bars)
-  flood-does head s validate Absent w bars = passed l _ _ _ bars (revoke-does (head .id) s validate)
+  flood-does head s validate (Here start len) w bars = passed m l _ _ _ bars (entry-does (head .id) s validate start len (w .1) bars)
+  flood-does head s validate Absent w bars = passed m l _ _ _ bars (revoke-does (head .id) s validate)

@@ -19,9 +19,10 @@ use Rattle.waiting.specs.Place.{idOf, triesOf, newPlace}
 use Rattle.waiting.specs.Form.{placesOf, waitingForm}
 use Rattle.waiting.proofs.PlaceLaws.{form-tries, less-id, less-tries}
 use Rattle.waiting.proofs.FormLaws.{form-of}
-use Rattle.gauge_plan.specs.Ids.{idAfter}
-use Rattle.gauge.specs.Lent.{Receive, receive}
-use Rattle.sentences.specs.Words.{Memory, Call, receives, sends, ticks, lists, Given, Gauge, left, Typed}
+use Rattle.asking.specs.Ids.{idAfter}
+use Rattle.gauge_plan.specs.Lent.{Memory, Receive, Call, receives, sends, ticks, lists}
+use Rattle.gauge_commit.specs.Sending.{Handed}
+use Rattle.gauge.specs.Words.{Gauge, left, Typed}
 use Rattle.sentences.specs.Heard.{Heard, entry, revoke, inquire, authority, ack, lookup, other, Hears}
 use Rattle.sentences.specs.Sentences as S
 use Rattle.sentences.specs.Numbers as Num
@@ -88,41 +89,40 @@ Came m c left =
     ((p q : List ℕ) → S.Waits m p → S.Waits left q → idOf q ≡ idOf p → triesOf q + took c ≤ triesOf p)
     × ((q : List ℕ) → S.Waits left q → triesOf q + took c ≤ 2)
 
-does-came : (m : Memory) (c : Call) (h : Given) → Typed c → ((i : ℕ) → ¬ Num.Applies m c i) → S.Does m c h
+does-came : (m : Memory) (c : Call) (h : Handed) → Typed c → ((i : ℕ) → ¬ Num.Applies m c i) → S.Does m c h
     → ((h .memory ≡ m) × (took c ≡ 0)) ⊎ Came m c (h .memory)
-does-came m (receives own cpa major minor id nonce verdict key datagram output) h ty low s =
-    let l = receive own cpa (m .cache) (m .waiting) major minor id nonce verdict key datagram output in
+does-came m (receives l) h ty low s =
     let form = true-by _ (λ e. low 1 (Num.out-of-form refl (λ w. both (w .waiting) e))) in
     inr (
       λ p q wait y e.
-          let is = ap triesOf (leaves-came m (keyOf own) form l (low 13) (s .x) (h .memory) (s .hears) (s .leaves) p q wait y e) in
+          let is = ap triesOf (leaves-came m (keyOf (l .own)) form l (low 13) (s .x) (h .memory) (s .hears) (s .leaves) p q wait y e) in
           omega arith,
-      λ q y. let few = leaves-few m (keyOf own) form l (s .x) (h .memory) (s .leaves) q y in omega arith,
+      λ q y. let few = leaves-few m (keyOf (l .own)) form l (s .x) (h .memory) (s .leaves) q y in omega arith,
     )
-does-came m (sends own major minor id neighbour key output) h ty low s =
+does-came m (sends l) h ty low s =
     let form = true-by _ (λ e. low 1 (Num.send-out-of-form refl (λ w. both (w .waiting) e))) in
     inr (
       λ p q wait y e. elim (s .table .members q .0 y) [
-        | inl was ↦ let is = ap triesOf (only m (keyOf own) form p wait q was e) in omega arith
-        | inr is ↦ absurd (low 13 (Num.send-id-waits refl p wait (sym e ∙ ap idOf is ∙ new-is id 1 2 neighbour _ ty)))
+        | inl was ↦ let is = ap triesOf (only m (keyOf (l .own)) form p wait q was e) in omega arith
+        | inr is ↦ absurd (low 13 (Num.send-id-waits refl p wait (sym e ∙ ap idOf is ∙ new-is (l .id) 1 2 (l .neighbour) _ ty)))
       ],
-      λ q y. let few = few-left (keyOf own) (h .memory .waiting) (s .table .form) q y in omega arith,
+      λ q y. let few = few-left (keyOf (l .own)) (h .memory .waiting) (s .table .form) q y in omega arith,
     )
-does-came m (ticks own output) h ty low s =
+does-came m (ticks l) h ty low s =
     let form = true-by _ (λ e. low 1 (inl (refl, λ w. both (w .1) e))) in
-    let sized = form-of (keyOf own) (m .waiting) form .sized in
+    let sized = form-of (keyOf (l .own)) (m .waiting) form .sized in
     inr (
       λ p q wait y e.
           let w = s .table .members q .0 y in
-          let is : w .0 ≡ p = only m (keyOf own) form p wait (w .0) (w .1) (sym (ap idOf (w .3) ∙ less-id (w .0)) ∙ e) in
+          let is : w .0 ≡ p = only m (keyOf (l .own)) form p wait (w .0) (w .1) (sym (ap idOf (w .3) ∙ less-id (w .0)) ∙ e) in
           let less = ap triesOf (w .3) ∙ less-tries (w .0) (sized-in 140 (placesOf (m .waiting)) sized (w .0) (w .1)) in
           omega (arith, less, w .2, ap triesOf is),
       λ q y.
           let w = s .table .members q .0 y in
           let less = ap triesOf (w .3) ∙ less-tries (w .0) (sized-in 140 (placesOf (m .waiting)) sized (w .0) (w .1)) in
-          omega (arith, less, w .2, few-left (keyOf own) (m .waiting) form (w .0) (w .1)),
+          omega (arith, less, w .2, few-left (keyOf (l .own)) (m .waiting) form (w .0) (w .1)),
     )
-does-came m (lists own output) h ty low s = inl (s .same, refl)
+does-came m (lists l) h ty low s = inl (s .same, refl)
 
 count-done : (b : Bool) (n : ℕ) → n ≡ 0 → _≡_ {A = ℕ} (cond (b && eqb n 0) 1 0) (cond b 1 0)
 count-done true n e = rw e refl
@@ -152,7 +152,7 @@ module _ (g : Gauge) (meets : MeetsSentences g) (id : ℕ) where
     -- a refused call changes nothing and counts for nothing
     kept-on : (n : ℕ) → g m c .answer .number ≡ suc n → (g m c .memory ≡ m) × (L.tickCount g m (c ∷ cs) ≡ L.tickCount g (g m c .memory) cs)
     kept-on n e = (
-      ap (λ (y : Given). y .memory) (meets .table .keeps m c (omega arith)),
+      ap (λ (y : Handed). y .memory) (meets .table .keeps m c (omega arith)),
       omega (arith, count-refused (L.isTick c) (g m c .answer .number) (omega arith)),
     )
 

@@ -13,14 +13,15 @@ use Rattle.octet.specs.Part.{part}
 use Rattle.octet.proofs.BigLaws.{valueBE-digitsBE}
 use Rattle.key.specs.Number.{keyAt}
 use Rattle.record.specs.Entry.{entryForm, recordOf}
-use Rattle.wire_fields.specs.Field.{numberAt}
+use Rattle.wire_shapes.specs.Field.{numberAt}
 use Rattle.wire_fields.specs.Kinds.{must, ackKinds, authorityKinds, present}
 use Rattle.wire_fields.specs.Message.{Message}
 use Rattle.wire_fields.specs.Reading.{contentsIn}
 use Rattle.wire_fields.specs.declared.Part.{Part}
 use Rattle.wire_fields.specs.declared.Part.the-variants.{Here, Absent}
-use Rattle.wire_fields.specs.declared.Shape.the-variants.{Sized}
+use Rattle.wire_shapes.specs.declared.Shape.the-variants.{Sized}
 use Rattle.wire_fields.proofs.HeadLaws.{number-small}
+use Rattle.wire_buffer.specs.Buffer.{startOf}
 use Rattle.wire_read.specs.Answers as R
 use Rattle.wire_read.specs.Meaning.{bit, numberOf, messageOf}
 use Rattle.wire_read.specs.declared.Answer as T
@@ -28,7 +29,7 @@ use Rattle.wire_read.specs.declared.Answer.the-variants as M
 use Rattle.wire.proofs.StandLaws.{Stand, needed, sized-length}
 use Rattle.wire.proofs.ShownLaws.{of-each}
 use Rattle.wire.proofs.Theorems.{at-most-one, read-gives, read-accepts}
-use Rattle.gauge.proofs.AnswerLaws.{KnownAnswer, known-answer}
+use Rattle.plan_message.proofs.AnswerLaws.{KnownAnswer, known-answer}
 use Rattle.sentences.specs.Heard.{Heard, entry, revoke, inquire, authority, ack, lookup, other, heard, Hears}
 use Rattle.sentences.proofs.OneLaws.{hears-one}
 
@@ -77,7 +78,7 @@ module _ (d : List ℕ) (b : Bytes d) where
   ack-acked : (ps : List Part) → Stand ackKinds d 12 ps → Acked (R.ackShown d ps)
   ack-acked ps w =
       let n = needed (must 0x18 false (Sized 4) []) (drop 1 ackKinds) d _ ps refl w in (
-        subst (λ (q : List Part). numberAt (R.startOf (getD q 0 Absent)) 4 d < 256 ^ 4) (sym (n .is))
+        subst (λ (q : List Part). numberAt (startOf (getD q 0 Absent)) 4 d < 256 ^ 4) (sym (n .is))
             (number-small (n .s) 4 d b (let e = sized-length 4 d (n .s) (n .l) (n .shaped) (n .within) in omega (arith, n .within))),
         flag-absent d (getD ps 1 Absent),
       )

@@ -20,8 +20,9 @@ use Rattle.waiting.specs.Place.{kindOf, placeKey, placeRecord, inquiryPlace, fl
 use Rattle.waiting.specs.Form.{waitingForm}
 use Rattle.waiting.proofs.NewLaws.{new-key, new-kind}
 use Rattle.waiting.proofs.PlaceLaws.{less-kind, less-key, inquiry-key}
-use Rattle.gauge.specs.Lent.{Receive, receive, send}
-use Rattle.sentences.specs.Words.{Memory, Call, receives, sends, ticks, lists, Given, Gauge, ownOf, left, Typed, OneKey}
+use Rattle.gauge_plan.specs.Lent.{Memory, Receive, Call, receives, sends, ticks, lists, ownOf}
+use Rattle.gauge_commit.specs.Sending.{Handed}
+use Rattle.gauge.specs.Words.{Gauge, left, Typed, OneKey}
 use Rattle.sentences.specs.Heard.{Heard, entry, revoke, inquire, authority, ack, lookup, other, Hears}
 use Rattle.sentences.specs.Sentences as S
 use Rattle.sentences.specs.Numbers as Num
@@ -71,20 +72,20 @@ module _ (u : ℕ) (m : Memory) (quiet : Quiet u m) where
   leaves-quiet l b (lookup i t) left h none w q = quiet (q .0, subst (λ (y : Memory). S.Waits y (q .0)) w (q .1), q .2)
   leaves-quiet l b other left h none w q = absurd w
 
-  does-quiet : (c : Call) (h : Given) → Typed c → ¬ L.AsksFor u m c → ((i : ℕ) → ¬ Num.Applies m c i) → S.Does m c h → Quiet u (h .memory)
-  does-quiet (receives own cpa major minor id nonce verdict key datagram output) h ty none low s q =
-      leaves-quiet (receive own cpa (m .cache) (m .waiting) major minor id nonce verdict key datagram output) (ty .0) (s .x) (h .memory) (s .hears)
+  does-quiet : (c : Call) (h : Handed) → Typed c → ¬ L.AsksFor u m c → ((i : ℕ) → ¬ Num.Applies m c i) → S.Does m c h → Quiet u (h .memory)
+  does-quiet (receives l) h ty none low s q =
+      leaves-quiet l (ty .0) (s .x) (h .memory) (s .hears)
       (λ i t v r y e must. none (i, t, v, r, y, e, must)) (s .leaves) q
-  does-quiet (sends own major minor id neighbour key output) h ty none low s q =
-      let g = is-lent (send own (m .cache) (m .waiting) major minor id neighbour key output) (low 1) in
+  does-quiet (sends l) h ty none low s q =
+      let g = is-lent m l (low 1) in
       elim (s .table .members (q .0) .0 (q .1)) [
         | inl y ↦ quiet (q .0, y, q .2)
-        | inr y ↦ absurd (let z : _≡_ {A = ℕ} 1 2 = sym (ap kindOf y ∙ flood-kind id neighbour (g .neighbour)) ∙ q .2 .0 in omega arith)
+        | inr y ↦ absurd (let z : _≡_ {A = ℕ} 1 2 = sym (ap kindOf y ∙ flood-kind (l .id) (l .neighbour) (g .neighbour)) ∙ q .2 .0 in omega arith)
       ]
-  does-quiet (ticks own output) h ty none low s q =
+  does-quiet (ticks l) h ty none low s q =
       let w = s .table .members (q .0) .0 (q .1) in
       quiet (w .0, w .1, (sym (ap kindOf (w .3) ∙ less-kind (w .0)) ∙ q .2 .0, sym (ap placeKey (w .3) ∙ less-key (w .0)) ∙ q .2 .1))
-  does-quiet (lists own output) h ty none low s q = quiet (q .0, subst (λ (y : Memory). S.Waits y (q .0)) (s .same) (q .1), q .2)
+  does-quiet (lists l) h ty none low s q = quiet (q .0, subst (λ (y : Memory). S.Waits y (q .0)) (s .same) (q .1), q .2)
 
   -- what is learned is the record of an inquiry that waited, and none for the key did
   learns-out : (k : ℕ) (r cache : List ℕ) → ¬ (keyOf r ≡ u) → S.Learns k m r cache → Out k u m → (q : List ℕ) → q ∈ heldOf k cache → ¬ (keyOf q ≡ u)
@@ -112,16 +113,15 @@ module _ (u : ℕ) (m : Memory) (quiet : Quiet u m) where
   leaves-out l f (lookup i t) left w out q y = out q (subst (λ (n : Memory). S.Holds (keyOf (l .own)) n q) w y)
   leaves-out l f other left w out q y = absurd w
 
-  does-out : (k : ℕ) (c : Call) (h : Given) → OneKey k c → ((i : ℕ) → ¬ Num.Applies m c i) → S.Does m c h → Out k u m → Out k u (h .memory)
-  does-out k (receives own cpa major minor id nonce verdict key datagram output) h one low s out q y =
-      let l = receive own cpa (m .cache) (m .waiting) major minor id nonce verdict key datagram output in
-      let g = Said.is-lent l (low 1) in
-      let e : keyOf own ≡ k = one (g .own) in
+  does-out : (k : ℕ) (c : Call) (h : Handed) → OneKey k c → ((i : ℕ) → ¬ Num.Applies m c i) → S.Does m c h → Out k u m → Out k u (h .memory)
+  does-out k (receives l) h one low s out q y =
+      let g = Said.is-lent m l (low 1) in
+      let e : keyOf (l .own) ≡ k = one (g .own) in
       subst (λ (j : ℕ). Out j u (h .memory)) e
       (leaves-out l (g .waiting) (s .x) (h .memory) (s .leaves) (subst (λ (j : ℕ). Out j u m) (sym e) out)) q y
-  does-out k (sends own major minor id neighbour key output) h one low s out q y = out q (subst (λ (c : List ℕ). q ∈ heldOf k c) (s .cache) y)
-  does-out k (ticks own output) h one low s out q y = out q (subst (λ (c : List ℕ). q ∈ heldOf k c) (s .cache) y)
-  does-out k (lists own output) h one low s out q y = out q (subst (λ (n : Memory). S.Holds k n q) (s .same) y)
+  does-out k (sends l) h one low s out q y = out q (subst (λ (c : List ℕ). q ∈ heldOf k c) (s .cache) y)
+  does-out k (ticks l) h one low s out q y = out q (subst (λ (c : List ℕ). q ∈ heldOf k c) (s .cache) y)
+  does-out k (lists l) h one low s out q y = out q (subst (λ (n : Memory). S.Holds k n q) (s .same) y)
 
 -- ---- calls one after the other
 
@@ -131,7 +131,7 @@ module _ (g : Gauge) (p : MeetsSentences g) (u : ℕ) where
     where
       go : (n : ℕ) → g m c .answer .number ≡ n → Quiet u (g m c .memory)
       go zero e = does-quiet u m quiet c (g m c) ty (none e) (p .table .accepted m c ty .0 e) (p .does m c ty e)
-      go (suc n) e = subst (λ (h : Given). Quiet u (h .memory)) (sym (p .table .keeps m c (omega arith))) quiet
+      go (suc n) e = subst (λ (h : Handed). Quiet u (h .memory)) (sym (p .table .keeps m c (omega arith))) quiet
 
   left-quiet : (m : Memory) (cs : List Call) → L.NoneAsks g u m cs → Quiet u m → Quiet u (left g m cs)
   unfolding left
@@ -143,7 +143,7 @@ module _ (g : Gauge) (p : MeetsSentences g) (u : ℕ) where
     where
       go : (n : ℕ) → g m c .answer .number ≡ n → Out k u (g m c .memory)
       go zero e = does-out u m quiet k c (g m c) one (p .table .accepted m c ty .0 e) (p .does m c ty e) out
-      go (suc n) e = subst (λ (h : Given). Out k u (h .memory)) (sym (p .table .keeps m c (omega arith))) out
+      go (suc n) e = subst (λ (h : Handed). Out k u (h .memory)) (sym (p .table .keeps m c (omega arith))) out
 
   left-out : (k : ℕ) (m : Memory) (cs : List Call) → Every (OneKey k) cs → L.NoneAsks g u m cs → Quiet u m → Out k u m → Out k u (left g m cs)
   unfolding left
@@ -154,16 +154,15 @@ module _ (g : Gauge) (p : MeetsSentences g) (u : ℕ) where
   -- what an accepted revocation leaves, with an own record in form
   revoked-leaves : (m : Memory) (c : Call) → Typed c → L.Revokes u c → g m c .answer .number ≡ 0
       → (recordForm (ownOf c) ≡ true) × S.FloodRevokes (keyOf (ownOf c)) m u (g m c .memory)
-  revoked-leaves m (receives own cpa major minor id nonce verdict key datagram output) ty w z =
-      let c = receives own cpa major minor id nonce verdict key datagram output in
-      let l = receive own cpa (m .cache) (m .waiting) major minor id nonce verdict key datagram output in
+  revoked-leaves m (receives l) ty w z =
+      let c = receives l in
       let s = p .does m c ty z in
-      let e = hears-one datagram major (s .x) (revoke (w .0) (w .1) (w .2)) (s .hears) (w .3) in
-      let v : S.FloodRevokes (keyOf own) m (keyAt 0 key) (g m c .memory) = subst (λ (x : Heard). S.Leaves m l x (g m c .memory)) e (s .leaves) in
-      (Said.is-lent l (p .table .accepted m c ty .0 z 1) .own, subst (λ (j : ℕ). S.FloodRevokes (keyOf own) m j (g m c .memory)) (w .4) v)
-  revoked-leaves m (sends own major minor id neighbour key output) ty w z = absurd w
-  revoked-leaves m (ticks own output) ty w z = absurd w
-  revoked-leaves m (lists own output) ty w z = absurd w
+      let e = hears-one (l .datagram) (l .major) (s .x) (revoke (w .0) (w .1) (w .2)) (s .hears) (w .3) in
+      let v : S.FloodRevokes (keyOf (l .own)) m (keyAt 0 (l .key)) (g m c .memory) = subst (λ (x : Heard). S.Leaves m l x (g m c .memory)) e (s .leaves) in
+      (Said.is-lent m l (p .table .accepted m c ty .0 z 1) .own, subst (λ (j : ℕ). S.FloodRevokes (keyOf (l .own)) m j (g m c .memory)) (w .4) v)
+  revoked-leaves m (sends l) ty w z = absurd w
+  revoked-leaves m (ticks l) ty w z = absurd w
+  revoked-leaves m (lists l) ty w z = absurd w
 
   -- a revocation leaves it quiet
   revoked-quiet : (m : Memory) (c : Call) → Typed c → L.Revokes u c → g m c .answer .number ≡ 0 → Quiet u (g m c .memory)
@@ -186,19 +185,18 @@ module _ (g : Gauge) (p : MeetsSentences g) (u : ℕ) where
 
   -- then no AUTHORITY for it is accepted
   late-refused : (m : Memory) (c : Call) → Typed c → L.Answers u c → Quiet u m → ¬ (g m c .answer .number ≡ 0)
-  late-refused m (receives own cpa major minor id nonce verdict key datagram output) ty w quiet z =
-      let c = receives own cpa major minor id nonce verdict key datagram output in
-      let l = receive own cpa (m .cache) (m .waiting) major minor id nonce verdict key datagram output in
+  late-refused m (receives l) ty w quiet z =
+      let c = receives l in
       let s = p .does m c ty z in
-      let e = hears-one datagram major (s .x) (authority (w .0) (w .1)) (s .hears) (w .2) in
-      let v : S.Authority (keyOf own) m (w .0) (g m c .memory) = subst (λ (x : Heard). S.Leaves m l x (g m c .memory)) e (s .leaves) in
-      elim (eq-or (placeKey (v .p)) (keyAt 0 key)) [
+      let e = hears-one (l .datagram) (l .major) (s .x) (authority (w .0) (w .1)) (s .hears) (w .2) in
+      let v : S.Authority (keyOf (l .own)) m (w .0) (g m c .memory) = subst (λ (x : Heard). S.Leaves m l x (g m c .memory)) e (s .leaves) in
+      elim (eq-or (placeKey (v .p)) (keyAt 0 (l .key))) [
         | inl is ↦ quiet (v .p, v .answers .0, (v .answers .2, is ∙ w .3))
         | inr not ↦ other-refused m l (w .0) (w .1) (w .2) (p .table .accepted m c ty .0 z) (v .p) (v .answers) not
       ]
-  late-refused m (sends own major minor id neighbour key output) ty w quiet z = absurd w
-  late-refused m (ticks own output) ty w quiet z = absurd w
-  late-refused m (lists own output) ty w quiet z = absurd w
+  late-refused m (sends l) ty w quiet z = absurd w
+  late-refused m (ticks l) ty w quiet z = absurd w
+  late-refused m (lists l) ty w quiet z = absurd w
 
 pub revoked-stays-out : L.RevokedStaysOut
 revoked-stays-out g p u m c ty w z cs none =

@@ -29,7 +29,7 @@ use Rattle.table.proofs.RowLaws.{bytes-length}
 use Rattle.waiting.specs.Form as W
 use Rattle.waiting.specs.Form.{placesOf, waitingForm}
 use Rattle.waiting.proofs.FormLaws.{form-unique, form-test}
-use Rattle.sentences.specs.Words.{Memory}
+use Rattle.gauge_plan.specs.Lent.{Memory}
 use Rattle.sentences.specs.Sentences as S
 use Rattle.sentences.proofs.MembersLaws.{rise-one}
 use Rattle.sentences.proofs.MoveLaws.{without-in, put-in}

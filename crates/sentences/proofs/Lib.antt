@@ -18,8 +18,6 @@ pub mod MessageRowsLaws
 pub mod ReadLaws
 pub mod NumberLaws
 pub mod OtherLaws
-pub mod OursLaws
-pub mod ContractLaws
 pub mod Theorems
 pub mod BackLaws
 pub mod LateLaws

@@ -23,8 +23,9 @@ use Rattle.waiting.proofs.PlaceLaws.{less-id, less-kind, less-key, less-tries}
 use Rattle.waiting.proofs.FormLaws.{form-of}
 use Rattle.gauge_commit.specs.declared.Answer.{Answer}
 use Rattle.gauge_commit.proofs.SentLaws.{joined-one}
-use Rattle.gauge.specs.Lent.{Receive, receive}
-use Rattle.sentences.specs.Words.{Memory, Call, receives, sends, ticks, lists, Given, Gauge, left, Typed}
+use Rattle.gauge_plan.specs.Lent.{Memory, Receive, Tick, Call, receives, sends, ticks, lists}
+use Rattle.gauge_commit.specs.Sending.{Handed}
+use Rattle.gauge.specs.Words.{Gauge, left, Typed}
 use Rattle.sentences.specs.Heard.{Heard, entry, revoke, inquire, authority, ack, lookup, other, Hears}
 use Rattle.sentences.specs.Sentences as S
 use Rattle.sentences.specs.Meets.{MeetsSentences}
@@ -113,13 +114,13 @@ module _ (p q : List ℕ) (same : Same p q) (m : Memory) (wait : S.Waits m q) wh
   leaves-on l (lookup i t) left h a k f w = subst (λ (y : Memory). S.Waits y q) (sym w) wait
   leaves-on l other left h a k f w = absurd w
 
-  does-on : (c : Call) (h : Given) → ¬ L.Concerns p c → S.Does m c h → S.Waits (h .memory) q
-  does-on (receives own cpa major minor id nonce verdict key datagram output) h none s =
-      leaves-on (receive own cpa (m .cache) (m .waiting) major minor id nonce verdict key datagram output) (s .x) (h .memory) (s .hears)
+  does-on : (c : Call) (h : Handed) → ¬ L.Concerns p c → S.Does m c h → S.Waits (h .memory) q
+  does-on (receives l) h none s =
+      leaves-on l (s .x) (h .memory) (s .hears)
       (λ c y. none (inl (c, y))) (λ n y. none (inr (inl (n, y)))) (λ i t v y e. none (inr (inr (i, t, v, y, e)))) (s .leaves)
-  does-on (sends own major minor id neighbour key output) h none s = s .table .members q .1 (inl wait)
-  does-on (ticks own output) h none s = absurd (none tt)
-  does-on (lists own output) h none s = subst (λ (y : Memory). S.Waits y q) (sym (s .same)) wait
+  does-on (sends l) h none s = s .table .members q .1 (inl wait)
+  does-on (ticks l) h none s = absurd (none tt)
+  does-on (lists l) h none s = subst (λ (y : Memory). S.Waits y q) (sym (s .same)) wait
 
 -- ---- IDs keep their 32 bits
 
@@ -137,18 +138,17 @@ module _ (m : Memory) (fit : Fit m) where
   leaves-fit l (lookup i t) left w q y = fit q (subst (λ (n : Memory). S.Waits n q) w y)
   leaves-fit l other left w q y = absurd w
 
-  does-fit : (c : Call) (h : Given) → S.Does m c h → Fit (h .memory)
-  does-fit (receives own cpa major minor id nonce verdict key datagram output) h s q y =
-      leaves-fit (receive own cpa (m .cache) (m .waiting) major minor id nonce verdict key datagram output) (s .x) (h .memory) (s .leaves) q y
-  does-fit (sends own major minor id neighbour key output) h s q y =
+  does-fit : (c : Call) (h : Handed) → S.Does m c h → Fit (h .memory)
+  does-fit (receives l) h s q y = leaves-fit l (s .x) (h .memory) (s .leaves) q y
+  does-fit (sends l) h s q y =
       elim (s .table .members q .0 y) [
         | inl was ↦ fit q was
-        | inr is ↦ subst (λ (x : List ℕ). idOf x < 2 ^ 32) (sym is) (new-fit id 1 2 neighbour _)
+        | inr is ↦ subst (λ (x : List ℕ). idOf x < 2 ^ 32) (sym is) (new-fit (l .id) 1 2 (l .neighbour) _)
       ]
-  does-fit (ticks own output) h s q y =
+  does-fit (ticks l) h s q y =
       let w = s .table .members q .0 y in
       subst (λ (i : ℕ). i < 2 ^ 32) (sym (ap idOf (w .3) ∙ less-id (w .0))) (fit (w .0) (w .1))
-  does-fit (lists own output) h s q y = fit q (subst (λ (n : Memory). S.Waits n q) (s .same) y)
+  does-fit (lists l) h s q y = fit q (subst (λ (n : Memory). S.Waits n q) (s .same) y)
 
 -- ---- a tick
 
@@ -161,22 +161,22 @@ pub true-by : (b : Bool) → ¬ (b ≡ false) → b ≡ true
 true-by true h = refl
 true-by false h = absurd (h refl)
 
-module _ (g : Gauge) (meets : MeetsSentences g) (m : Memory) (fit : Fit m) (own output : List ℕ)
-    (ok : g m (ticks own output) .answer .number ≡ 0) where
-  abbrev h : Given
-  h = g m (ticks own output)
+module _ (g : Gauge) (meets : MeetsSentences g) (m : Memory) (fit : Fit m) (l : Tick)
+    (ok : g m (ticks l) .answer .number ≡ 0) where
+  abbrev h : Handed
+  h = g m (ticks l)
 
-  done : S.Ticks (keyOf own) m output h
-  done = meets .does m (ticks own output) tt ok
+  done : S.Ticks (keyOf (l .own)) m (l .output) h
+  done = meets .does m (ticks l) tt ok
 
-  form : waitingForm (keyOf own) (m .waiting) ≡ true
-  form = true-by _ (λ e. meets .table .accepted m (ticks own output) tt .0 ok 1 (inl (refl, λ w. both (w .1) e)))
+  form : waitingForm (keyOf (l .own)) (m .waiting) ≡ true
+  form = true-by _ (λ e. meets .table .accepted m (ticks l) tt .0 ok 1 (inl (refl, λ w. both (w .1) e)))
 
   small : (i : ℕ) → i ∈ done .ids → i < 2 ^ 32
   small i y = let w = done .listed i .0 y in subst (λ (n : ℕ). n < 2 ^ 32) (w .3) (fit (w .0) (w .1))
 
   rest : List ℕ
-  rest = drop (0 + length (joined (idBytes (done .ids) ∷ []))) output
+  rest = drop (0 + length (joined (idBytes (done .ids) ∷ []))) (l .output)
 
   starts : h .output ≡ idBytes (done .ids) ++ rest
   unfolding splice rest
@@ -187,10 +187,10 @@ module _ (g : Gauge) (meets : MeetsSentences g) (m : Memory) (fit : Fit m) (own 
 
   module _ (q : List ℕ) (wait : S.Waits m q) where
     one : (r : List ℕ) → S.Waits m r → idOf r ≡ idOf q → r ≡ q
-    one r w e = rise-one idOf 0 r q (placesOf (m .waiting)) (places-rise (keyOf own) (m .waiting) form) w wait e
+    one r w e = rise-one idOf 0 r q (placesOf (m .waiting)) (places-rise (keyOf (l .own)) (m .waiting) form) w wait e
 
     long : length q ≡ 140
-    long = sized-in 140 (placesOf (m .waiting)) (form-of (keyOf own) (m .waiting) form .sized) q wait
+    long = sized-in 140 (placesOf (m .waiting)) (form-of (keyOf (l .own)) (m .waiting) form .sized) q wait
 
     tick-lists : 0 < triesOf q → L.Listed (idOf q) h
     tick-lists some =
@@ -224,7 +224,7 @@ module _ (g : Gauge) (meets : MeetsSentences g) where
     where
       go : (n : ℕ) → g m c .answer .number ≡ n → Fit (g m c .memory)
       go zero e = does-fit m fit c (g m c) (meets .does m c ty e)
-      go (suc n) e = subst (λ (h : Given). Fit (h .memory)) (sym (meets .table .keeps m c (omega arith))) fit
+      go (suc n) e = subst (λ (h : Handed). Fit (h .memory)) (sym (meets .table .keeps m c (omega arith))) fit
 
   step-on : (p q : List ℕ) → Same p q → (m : Memory) (c : Call) → Typed c → (g m c .answer .number ≡ 0 → ¬ L.Concerns p c) → S.Waits m q
       → S.Waits (g m c .memory) q
@@ -232,7 +232,7 @@ module _ (g : Gauge) (meets : MeetsSentences g) where
     where
       go : (n : ℕ) → g m c .answer .number ≡ n → S.Waits (g m c .memory) q
       go zero e = does-on p q same m wait c (g m c) (none e) (meets .does m c ty e)
-      go (suc n) e = subst (λ (h : Given). S.Waits (h .memory) q) (sym (meets .table .keeps m c (omega arith))) wait
+      go (suc n) e = subst (λ (h : Handed). S.Waits (h .memory) q) (sym (meets .table .keeps m c (omega arith))) wait
 
   left-on : (p q : List ℕ) → Same p q → (m : Memory) (cs : List Call) → L.NoneConcerns g p m cs → Fit m → S.Waits m q
       → Fit (left g m cs) × S.Waits (left g m cs) q
@@ -245,21 +245,21 @@ module _ (g : Gauge) (meets : MeetsSentences g) where
   listed-for p zero q same tries m fit wait = λ r passes.
       let w = left-on p q same m (r .calls) (passes .0) fit wait in
       let now = left g m (r .calls) in (
-        subst (λ (i : ℕ). ¬ L.Listed i (L.tickOf g m r)) (same .id) (tick-silent g meets now (w .0) (r .own) (r .output) (passes .1) q (w .1) tries),
+        subst (λ (i : ℕ). ¬ L.Listed i (L.tickOf g m r)) (same .id) (tick-silent g meets now (w .0) (r .tick) (passes .1) q (w .1) tries),
         subst (λ (i : ℕ). L.Gone i (L.tickOf g m r .memory)) (same .id)
-            (tick-frees g meets now (w .0) (r .own) (r .output) (passes .1) q (w .1) tries),
+            (tick-frees g meets now (w .0) (r .tick) (passes .1) q (w .1) tries),
       )
   listed-for p (suc n) q same tries m fit wait = λ r passes.
       let w = left-on p q same m (r .calls) (passes .0) fit wait in
       let now = left g m (r .calls) in
       let less : triesOf (oneLess q) ≡ n =
-      less-tries q (long g meets now (w .0) (r .own) (r .output) (passes .1) q (w .1)) ∙ (let e : triesOf q - 1 ≡ n = omega arith in e) in (
+      less-tries q (long g meets now (w .0) (r .tick) (passes .1) q (w .1)) ∙ (let e : triesOf q - 1 ≡ n = omega arith in e) in (
         subst (λ (i : ℕ). L.Listed i (L.tickOf g m r)) (same .id)
-            (tick-lists g meets now (w .0) (r .own) (r .output) (passes .1) q (w .1) (omega arith)),
+            (tick-lists g meets now (w .0) (r .tick) (passes .1) q (w .1) (omega arith)),
         listed-for p n (oneLess q)
             (record { id = less-id q ∙ same .id; kind = less-kind q ∙ same .kind; key = less-key q ∙ same .key }) less (L.tickOf g m r .memory)
-            (step-fit now (ticks (r .own) (r .output)) tt (w .0))
-            (tick-less g meets now (w .0) (r .own) (r .output) (passes .1) q (w .1) (omega arith)),
+            (step-fit now (ticks (r .tick)) tt (w .0))
+            (tick-less g meets now (w .0) (r .tick) (passes .1) q (w .1) (omega arith)),
       )
 
 pub listed-twice : L.ListedTwice

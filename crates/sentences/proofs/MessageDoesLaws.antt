@@ -8,26 +8,27 @@ use Rattle.octet.proofs.PartLaws.{splice-nil}
 use Rattle.key.specs.Number.{keyAt}
 use Rattle.refusal.proofs.TableLaws.{both}
 use Rattle.record.specs.Record.{keyOf}
+use Rattle.own.specs.Own.{ownRecords}
 use Rattle.table.specs.Rows.{joined, bytesOf}
 use Rattle.cache.specs.Form.{heldOf}
 use Rattle.cache.specs.Bytes.{afterRemove}
-use Rattle.cache.specs.Closest.{candidates, closestOf}
-use Rattle.cache.proofs.ClosestLaws.{closest-among, closest-least}
+use Rattle.neighbours.specs.Closest.{candidates, closestOf}
+use Rattle.neighbours.proofs.ClosestLaws.{closest-among, closest-least, closest-formed}
 use Rattle.waiting.specs.Place.{placeKey, placeRecord}
 use Rattle.waiting.specs.Form.{placesOf}
-use Rattle.waiting.specs.Seek.{seek, isAt}
+use Rattle.table.specs.Seek.{seek}
+use Rattle.waiting.specs.Seek.{isAt}
 use Rattle.waiting.specs.Open.{freed}
-use Rattle.waiting.specs.declared.seek.Found.the-variants.{At}
+use Rattle.table.specs.declared.Found.the-variants.{At}
 use Rattle.waiting.proofs.KeptLaws.{free-kept}
-use Rattle.waiting.proofs.SeekLaws.{found-within}
+use Rattle.table.proofs.SeekLaws.{found-within}
 use Rattle.waiting.proofs.PlaceLaws.{inquiry-record, inquiry-key, inquiry-other}
 use Rattle.wire_fields.specs.Kinds.{authorityKinds}
 use Rattle.wire_write.specs.Sent.{closestSent}
 use Rattle.wire_write.specs.Making.{cpaMade, closestMade}
-use Rattle.gauge_plan.specs.Answering.{isNothing, placeOf}
+use Rattle.gauge_plan.specs.Found.{isNothing, placeOf}
 use Rattle.gauge_plan.specs.declared.Plan.the-variants.{Learn, Free, Certify, Show}
-use Rattle.cache.proofs.ClosestLaws.{closest-formed}
-use Rattle.gauge.specs.Lent.{Receive}
+use Rattle.gauge_plan.specs.Lent.{Memory, Receive}
 use Rattle.gauge.specs.Receive.{carried}
 use Rattle.gauge_laws.proofs.FirstLaws.{whole-record}
 use Rattle.sentences.specs.Heard.{inquire, authority, ack, lookup}
@@ -35,15 +36,15 @@ use Rattle.sentences.specs.Sentences as S
 use Rattle.sentences.proofs.MembersLaws.{place-formed}
 use Rattle.sentences.proofs.MoveLaws.{seek-some, freed-in}
 use Rattle.sentences.proofs.LearnLaws.{table-by, removes, learns}
-use Rattle.sentences.proofs.WordLaws.{lent, found-waits}
+use Rattle.sentences.proofs.WordLaws.{found-waits}
 use Rattle.sentences.proofs.PlanLaws.{held, used, Fine, Does, table-form, ids-rise}
 
-module _ (l : Receive) (ok : Fine l) where
+module _ (m : Memory) (l : Receive) (ok : Fine m l) where
   abbrev recs : List (List ℕ)
-  recs = heldOf (keyOf (l .own)) (l .cache)
+  recs = heldOf (keyOf (l .own)) (m .cache)
 
   abbrev ps : List (List ℕ)
-  ps = placesOf (l .waiting)
+  ps = placesOf (m .waiting)
 
   -- the place that an AUTHORITY or an ACK answers
   module _ (acked kind : ℕ) (bars : isNothing (seek (isAt acked kind) 0 ps) ≡ false) where
@@ -53,19 +54,19 @@ module _ (l : Receive) (ok : Fine l) where
     found : seek (isAt acked kind) 0 ps ≡ At at
     found = seek-some (isAt acked kind) ps bars
 
-    freed-table : S.WaitsExactly (keyOf (l .own)) (bytesOf 2240 (freed at ps)) (λ (q : List ℕ). S.Waits (lent l) q × (¬ (q ≡ getD ps at [])))
-    freed-table = table-by (keyOf (l .own)) _ (freed at ps) _ (free-kept (keyOf (l .own)) (l .waiting) ps (table-form l ok) at)
-        (λ q. freed-in q at ps (ids-rise l ok) (found-within (isAt acked kind) at ps found))
+    freed-table : S.WaitsExactly (keyOf (l .own)) (bytesOf 2240 (freed at ps)) (λ (q : List ℕ). S.Waits m q × (¬ (q ≡ getD ps at [])))
+    freed-table = table-by (keyOf (l .own)) _ (freed at ps) _ (free-kept (keyOf (l .own)) (m .waiting) ps (table-form m l ok) at)
+        (λ q. freed-in q at ps (ids-rise m l ok) (found-within (isAt acked kind) at ps found))
 
   -- AUTHORITY
   pub authority-does : (acked : ℕ) (cpa : Bool) → isNothing (seek (isAt acked 2) 0 ps) ≡ false
-      → Does l (authority acked cpa) (Learn (held l) (used l) (placeOf (seek (isAt acked 2) 0 ps)))
+      → Does m l (authority acked cpa) (Learn (held m l) (used m l) (placeOf (seek (isAt acked 2) 0 ps)))
   unfolding carried heldOf joined
   authority-does acked cpa bars h =
       let i = at acked 2 bars in
       let p = getD ps i [] in
-      let w = found-waits (lent l) 2 acked bars in
-      let good = place-formed (keyOf (l .own)) (l .waiting) (ok .ready .tabled) p (w .0) in
+      let w = found-waits m 2 acked bars in
+      let good = place-formed (keyOf (l .own)) (m .waiting) (ok .ready .tabled) p (w .0) in
       record {
         x = authority acked cpa;
         hears = h;
@@ -75,7 +76,7 @@ module _ (l : Receive) (ok : Fine l) where
         leaves = record {
           p = p;
           answers = w;
-          cache = learns (keyOf (l .own)) (lent l) (ok .ready .cached) (placeRecord p) (inquiry-record (keyOf (l .own)) p good (w .2))
+          cache = learns (keyOf (l .own)) m (ok .ready .cached) (placeRecord p) (inquiry-record (keyOf (l .own)) p good (w .2))
               (λ e. inquiry-other (keyOf (l .own)) p good (w .2) (sym (inquiry-key (keyOf (l .own)) p good (w .2)) ∙ e));
           table = freed-table acked 2 bars;
         };
@@ -83,10 +84,10 @@ module _ (l : Receive) (ok : Fine l) where
 
   -- ACK
   ack-cache : (acked : ℕ) (b : Bool) (p : List ℕ)
-      → S.HoldsExactly (keyOf (l .own)) (l .cache) (cond b (bytesOf (length (l .cache)) (afterRemove (placeKey p) recs)) (l .cache))
-      (λ (r : List ℕ). S.Holds (keyOf (l .own)) (lent l) r × (¬ ((b ≡ true) × (keyOf r ≡ placeKey p))))
+      → S.HoldsExactly (keyOf (l .own)) (m .cache) (cond b (bytesOf (length (m .cache)) (afterRemove (placeKey p) recs)) (m .cache))
+      (λ (r : List ℕ). S.Holds (keyOf (l .own)) m r × (¬ ((b ≡ true) × (keyOf r ≡ placeKey p))))
   ack-cache acked true p =
-      let c = removes (keyOf (l .own)) (lent l) (ok .ready .cached) (placeKey p) in
+      let c = removes (keyOf (l .own)) m (ok .ready .cached) (placeKey p) in
       record {
         form = c .form;
         size = c .size;
@@ -95,7 +96,7 @@ module _ (l : Receive) (ok : Fine l) where
   ack-cache acked false p = record { form = ok .ready .cached; size = refl; members = λ r. (λ i. (i, λ e. both (e .0) refl), λ w. w .0) }
 
   pub ack-does : (acked : ℕ) (b : Bool) → isNothing (seek (isAt acked 1) 0 ps) ≡ false
-      → Does l (ack acked b) (Free (held l) (used l) (placeOf (seek (isAt acked 1) 0 ps)) b)
+      → Does m l (ack acked b) (Free (held m l) (used m l) (placeOf (seek (isAt acked 1) 0 ps)) b)
   unfolding carried heldOf joined
   ack-does acked b bars h = record {
     x = ack acked b;
@@ -105,14 +106,14 @@ module _ (l : Receive) (ok : Fine l) where
     sent = record { counts = refl; bytes = sym (splice-nil 0 (l .output)) };
     leaves = record {
       p = getD ps (at acked 1 bars) [];
-      answers = found-waits (lent l) 1 acked bars;
+      answers = found-waits m 1 acked bars;
       cache = ack-cache acked b (getD ps (at acked 1 bars) []);
       table = freed-table acked 1 bars;
     };
   }
 
   -- INQUIRE
-  pub inquire-does : (id validate : ℕ) → Does l (inquire id (keyAt validate (l .datagram))) (Certify id)
+  pub inquire-does : (id validate : ℕ) → Does m l (inquire id (keyAt validate (l .datagram))) (Certify id)
   unfolding carried cpaMade
   inquire-does id validate h = record {
     x = inquire id (keyAt validate (l .datagram));
@@ -124,11 +125,11 @@ module _ (l : Receive) (ok : Fine l) where
   }
 
   -- LOOKUP
-  pub lookup-does : (id target : ℕ) → Does l (lookup id (keyAt target (l .datagram))) (Show (held l) id target)
+  pub lookup-does : (id target : ℕ) → Does m l (lookup id (keyAt target (l .datagram))) (Show (held m l) id target)
   unfolding carried closestMade heldOf
   lookup-does id target h =
       let t = keyAt target (l .datagram) in
-      let r = closestOf t (candidates (l .own) recs) in
+      let r = closestOf t (candidates (ownRecords (l .own)) recs) in
       let good = closest-formed t (keyOf (l .own)) (l .own) recs (ok .ready .owned) (ok .ready .form .held) in
       record {
         x = lookup id t;

@@ -15,44 +15,45 @@ use Rattle.refusal.proofs.TableLaws.{both, sooner}
 use Rattle.table.specs.Rows.{joined}
 use Rattle.kept.proofs.WithoutLaws.{eq-or}
 use Rattle.cache.specs.Form.{heldOf}
-use Rattle.cache.specs.Closest.{candidates, closestOf}
-use Rattle.cache.proofs.ClosestLaws.{closest-among, closest-least}
+use Rattle.neighbours.specs.Closest.{candidates, closestOf}
+use Rattle.neighbours.proofs.ClosestLaws.{closest-among, closest-least, closest-formed}
 use Rattle.waiting.specs.Place.{idOf, placeKey}
 use Rattle.waiting.specs.Form.{placesOf}
-use Rattle.waiting.specs.Seek.{seek, isAt}
+use Rattle.table.specs.Seek.{seek}
+use Rattle.waiting.specs.Seek.{isAt}
 use Rattle.wire_fields.specs.Kinds.{authorityKinds}
 use Rattle.wire_write.specs.Sent.{closestSent}
 use Rattle.wire_write.specs.Making.{cpaMade, closestMade}
-use Rattle.gauge_plan.specs.Flood.{notOurs}
-use Rattle.gauge_plan.specs.Answering.{isNothing, placeOf}
+use Rattle.gauge_plan.specs.Own.{notOurs}
+use Rattle.gauge_plan.specs.Found.{isNothing, placeOf}
 use Rattle.gauge_plan.proofs.MemoryLaws.{ready}
 use Rattle.gauge_commit.proofs.LengthLaws.{cpa-length, closest-length}
 use Rattle.gauge_commit.proofs.SentLaws.{joined-one}
-use Rattle.cache.proofs.ClosestLaws.{closest-formed}
 use Rattle.record.proofs.EntryLaws.{form-length, few-addresses}
-use Rattle.gauge.specs.Lent.{Receive}
+use Rattle.own.specs.Own.{ownRecords}
+use Rattle.gauge_plan.specs.Lent.{Memory, Receive}
 use Rattle.gauge_laws.proofs.FirstLaws.{whole-record}
 use Rattle.sentences.specs.Heard.{inquire, authority, ack, lookup, other}
 use Rattle.sentences.specs.Sentences as S
 use Rattle.sentences.specs.Numbers as Num
 use Rattle.sentences.proofs.MembersLaws.{rise-one, places-rise}
-use Rattle.sentences.proofs.WordLaws.{lent, not-iff, found-waits, none-iff-not}
+use Rattle.sentences.proofs.WordLaws.{not-iff, found-waits, none-iff-not}
 use Rattle.sentences.proofs.FirstLaws.{Row}
 use Rattle.sentences.proofs.SaidLaws.{lent-tables, Said, short-to, short-from, none-short, First, Both, good}
 
-module _ (l : Receive) (n : ℕ) (low : First l n) where
+module _ (m : Memory) (l : Receive) (n : ℕ) (low : First m l n) where
   abbrev k : ℕ
   k = keyOf (l .own)
 
   abbrev recs : List (List ℕ)
-  recs = heldOf (keyOf (l .own)) (l .cache)
+  recs = heldOf (keyOf (l .own)) (m .cache)
 
   abbrev ps : List (List ℕ)
-  ps = placesOf (l .waiting)
+  ps = placesOf (m .waiting)
 
   -- INQUIRE
   pub inquire-both : (id validate : ℕ)
-      → Both l n (inquire id (keyAt validate (l .datagram)))
+      → Both m l n (inquire id (keyAt validate (l .datagram)))
       (when 12 (notOurs k validate (l .datagram)) ∷ when 15 (ltb (length (l .output)) (40 + length (l .cpa))) ∷ [])
   unfolding cpaMade
   inquire-both id validate = (to, from)
@@ -60,30 +61,30 @@ module _ (l : Receive) (n : ℕ) (low : First l n) where
       room : length (joined (cpaMade (l .major) (l .minor) (l .id) id (l .cpa) .bytes ∷ [])) ≡ 40 + length (l .cpa)
       room = ap length (joined-one (cpaMade (l .major) (l .minor) (l .id) id (l .cpa) .bytes)) ∙ cpa-length (l .major) (l .minor) (l .id) id (l .cpa)
 
-      to : Said l (inquire id (keyAt validate (l .datagram))) n
+      to : Said m l (inquire id (keyAt validate (l .datagram))) n
           → Row n (when 12 (notOurs k validate (l .datagram)) ∷ when 15 (ltb (length (l .output)) (40 + length (l .cpa))) ∷ [])
       to (inl w) = inl (w .0, not-iff (keyAt validate (l .datagram)) k .1 (w .1))
       to (inr w) =
-          inr (inl (short-from l (inquire id (keyAt validate (l .datagram))) (cpaMade (l .major) (l .minor) (l .id) id (l .cpa) .bytes ∷ []) n _
-          (good l n low (sooner 1 15 (unfold placeIn in refl) (w .0)) .cache) refl room (let h = good l n low (sooner 1 15 (unfold placeIn in refl) (w .0)) .cpa-most in omega arith) w))
+          inr (inl (short-from m l (inquire id (keyAt validate (l .datagram))) (cpaMade (l .major) (l .minor) (l .id) id (l .cpa) .bytes ∷ []) n _
+          (good m l n low (sooner 1 15 (unfold placeIn in refl) (w .0)) .cache) refl room (let h = good m l n low (sooner 1 15 (unfold placeIn in refl) (w .0)) .cpa-most in omega arith) w))
 
       from : Row n (when 12 (notOurs k validate (l .datagram)) ∷ when 15 (ltb (length (l .output)) (40 + length (l .cpa))) ∷ [])
-          → Said l (inquire id (keyAt validate (l .datagram))) n
+          → Said m l (inquire id (keyAt validate (l .datagram))) n
       from (inl w) = inl (w .0, not-iff (keyAt validate (l .datagram)) k .0 (w .1))
       from (inr (inl w)) =
-          inr (short-to l (inquire id (keyAt validate (l .datagram))) (cpaMade (l .major) (l .minor) (l .id) id (l .cpa) .bytes ∷ []) n _ refl room w)
+          inr (short-to m l (inquire id (keyAt validate (l .datagram))) (cpaMade (l .major) (l .minor) (l .id) id (l .cpa) .bytes ∷ []) n _ refl room w)
       from (inr (inr w)) = absurd w
 
   -- ACK
-  pub ack-both : (acked : ℕ) (y : Bool) → Both l n (ack acked y) (when 8 (isNothing (seek (isAt acked 1) 0 ps)) ∷ [])
+  pub ack-both : (acked : ℕ) (y : Bool) → Both m l n (ack acked y) (when 8 (isNothing (seek (isAt acked 1) 0 ps)) ∷ [])
   ack-both acked y = (to, from)
     where
-      to : Said l (ack acked y) n → Row n (when 8 (isNothing (seek (isAt acked 1) 0 ps)) ∷ [])
-      to (inl w) = inl (w .0, none-iff-not (lent l) 1 acked .1 (w .1))
-      to (inr w) = absurd (none-short l (w .1) (w .2) (w .3))
+      to : Said m l (ack acked y) n → Row n (when 8 (isNothing (seek (isAt acked 1) 0 ps)) ∷ [])
+      to (inl w) = inl (w .0, none-iff-not m 1 acked .1 (w .1))
+      to (inr w) = absurd (none-short m l (w .1) (w .2) (w .3))
 
-      from : Row n (when 8 (isNothing (seek (isAt acked 1) 0 ps)) ∷ []) → Said l (ack acked y) n
-      from (inl w) = inl (w .0, none-iff-not (lent l) 1 acked .0 (w .1))
+      from : Row n (when 8 (isNothing (seek (isAt acked 1) 0 ps)) ∷ []) → Said m l (ack acked y) n
+      from (inl w) = inl (w .0, none-iff-not m 1 acked .0 (w .1))
       from (inr w) = absurd w
 
   -- AUTHORITY
@@ -104,15 +105,15 @@ module _ (l : Receive) (n : ℕ) (low : First l n) where
     nine-from false e = inl refl
     nine-from true e = inr (not-iff (l .verdict) 1 .0 e)
 
-    pub authority-both : Num.Says l (authority acked cpa) → Both l n (authority acked cpa) au
+    pub authority-both : Num.Says l (authority acked cpa) → Both m l n (authority acked cpa) au
     authority-both says = (to, from)
       where
-        some-there : Before 8 n → S.WaitsAs (lent l) 2 acked there
+        some-there : Before 8 n → S.WaitsAs m 2 acked there
         some-there h = go (isNothing (seek (isAt acked 2) 0 ps)) refl
           where
-            go : (y : Bool) → isNothing (seek (isAt acked 2) 0 ps) ≡ y → S.WaitsAs (lent l) 2 acked there
-            go true e = absurd (low 8 h (Num.no-inquiry refl acked cpa says (none-iff-not (lent l) 2 acked .0 e)))
-            go false e = found-waits (lent l) 2 acked e
+            go : (y : Bool) → isNothing (seek (isAt acked 2) 0 ps) ≡ y → S.WaitsAs m 2 acked there
+            go true e = absurd (low 8 h (Num.no-inquiry refl acked cpa says (none-iff-not m 2 acked .0 e)))
+            go false e = found-waits m 2 acked e
 
         has-cpa : Before 9 n → cpa ≡ true
         has-cpa h = go cpa refl
@@ -124,18 +125,18 @@ module _ (l : Receive) (n : ℕ) (low : First l n) where
         is-good : Before 9 n → l .verdict ≡ 1
         is-good h = elim (eq-or (l .verdict) 1) [ inl e ↦ e | inr d ↦ absurd (low 9 h (Num.bad-authority refl acked cpa says d)) ]
 
-        to : Said l (authority acked cpa) n → Row n au
-        to (inl (inl w)) = inl (w .0, none-iff-not (lent l) 2 acked .1 (w .1))
+        to : Said m l (authority acked cpa) n → Row n au
+        to (inl (inl w)) = inl (w .0, none-iff-not m 2 acked .1 (w .1))
         to (inl (inr (inl w))) = inr (inl (w .0, nine-to cpa (w .1)))
         to (inl (inr (inr w))) =
             let v = some-there (sooner 8 10 (unfold placeIn in refl) (w .0)) in
-            let up = places-rise k (l .waiting) (good l n low (sooner 1 10 (unfold placeIn in refl) (w .0)) .waiting) in
+            let up = places-rise k (m .waiting) (good m l n low (sooner 1 10 (unfold placeIn in refl) (w .0)) .waiting) in
             let e = rise-one idOf 0 (w .3) there ps up (w .4 .0) (v .0) (w .4 .1 ∙ sym (v .1)) in
             inr (inr (inl (w .0, not-iff (keyAt 0 (l .key)) (placeKey there) .1 (λ d. w .5 (ap placeKey e ∙ sym d)))))
-        to (inr w) = absurd (none-short l (w .1) (w .2) (w .3))
+        to (inr w) = absurd (none-short m l (w .1) (w .2) (w .3))
 
-        from : Row n au → Said l (authority acked cpa) n
-        from (inl w) = inl (inl (w .0, none-iff-not (lent l) 2 acked .0 (w .1)))
+        from : Row n au → Said m l (authority acked cpa) n
+        from (inl w) = inl (inl (w .0, none-iff-not m 2 acked .0 (w .1)))
         from (inr (inl w)) = inl (inr (inl (w .0, nine-from cpa (w .1))))
         from (inr (inr (inl w))) =
             let nine = sooner 9 10 (unfold placeIn in refl) (w .0) in
@@ -149,25 +150,25 @@ module _ (l : Receive) (n : ℕ) (low : First l n) where
     tk = keyAt target (l .datagram)
 
     abbrev cr : List ℕ
-    cr = closestOf tk (candidates (l .own) recs)
+    cr = closestOf tk (candidates (ownRecords (l .own)) recs)
 
     abbrev cds : List (List ℕ)
     cds = S.written authorityKinds (closestSent (l .major) (l .minor) (l .id) id cr) ∷ []
 
-    lookup-reply : S.Reply (lent l) l (lookup id tk) cds
+    lookup-reply : S.Reply m l (lookup id tk) cds
     lookup-reply = record {
       r = cr;
       closest = record { candidate = closest-among tk (l .own) recs; none-closer = λ q i. closest-least tk (l .own) recs q i };
       are = refl;
     }
 
-    lookup-formed : Num.ReceiveLent l → recordForm cr ≡ true
+    lookup-formed : Num.ReceiveLent m l → recordForm cr ≡ true
     unfolding heldOf
     lookup-formed g =
-        let rd = ready (l .own) (l .cache) (l .waiting) (lent-tables l g) in
+        let rd = ready (l .own) m (lent-tables m l g) in
         closest-formed tk k (l .own) recs (rd .owned) (rd .form .held)
 
-    lookup-room : Num.ReceiveLent l → length (joined cds) ≡ 80 + 16 * countOf cr
+    lookup-room : Num.ReceiveLent m l → length (joined cds) ≡ 80 + 16 * countOf cr
     unfolding closestMade heldOf
     lookup-room g =
         let fine = lookup-formed g in
@@ -177,18 +178,18 @@ module _ (l : Receive) (n : ℕ) (low : First l n) where
         ∙ closest-length (l .major) (l .minor) (l .id) cr 0 (omega (arith, form-length cr fine)) (ap recordForm whole ∙ fine) id
         ∙ ap (λ (y : List ℕ). 80 + 16 * countOf y) whole
 
-    pub lookup-both : Both l n (lookup id tk) (when 15 (ltb (length (l .output)) (80 + 16 * countOf cr)) ∷ [])
+    pub lookup-both : Both m l n (lookup id tk) (when 15 (ltb (length (l .output)) (80 + 16 * countOf cr)) ∷ [])
     lookup-both = (to, from)
       where
-        to : Said l (lookup id tk) n → Row n (when 15 (ltb (length (l .output)) (80 + 16 * countOf cr)) ∷ [])
+        to : Said m l (lookup id tk) n → Row n (when 15 (ltb (length (l .output)) (80 + 16 * countOf cr)) ∷ [])
         to (inl w) = absurd w
-        to (inr w) = let g = good l n low (sooner 1 15 (unfold placeIn in refl) (w .0)) in inl (short-from l (lookup id tk) cds n _ (g .cache) lookup-reply (lookup-room g)
+        to (inr w) = let g = good m l n low (sooner 1 15 (unfold placeIn in refl) (w .0)) in inl (short-from m l (lookup id tk) cds n _ (g .cache) lookup-reply (lookup-room g)
             (omega (arith, few-addresses cr (lookup-formed g))) w)
 
-        from : Row n (when 15 (ltb (length (l .output)) (80 + 16 * countOf cr)) ∷ []) → Said l (lookup id tk) n
-        from (inl w) = inr (short-to l (lookup id tk) cds n _ lookup-reply (lookup-room (good l n low (sooner 1 15 (unfold placeIn in refl) (w .0)))) w)
+        from : Row n (when 15 (ltb (length (l .output)) (80 + 16 * countOf cr)) ∷ []) → Said m l (lookup id tk) n
+        from (inl w) = inr (short-to m l (lookup id tk) cds n _ lookup-reply (lookup-room (good m l n low (sooner 1 15 (unfold placeIn in refl) (w .0)))) w)
         from (inr w) = absurd w
 
   -- SOLICIT, ADVERTISE, REQUEST
-  pub seven-both : Both l n other (when 7 true ∷ [])
+  pub seven-both : Both m l n other (when 7 true ∷ [])
   seven-both = (λ w. inl (elim w [ inl v ↦ v | inr v ↦ absurd (v .2) ], refl), λ w. elim w [ inl v ↦ inl (v .0) | inr v ↦ absurd v ])

@@ -13,7 +13,7 @@ use Rattle.octet.proofs.TestLaws.{same-eq}
 use Rattle.refusal.specs.Table.{Refusal}
 use Rattle.refusal.proofs.TableLaws.{both}
 use Rattle.kept.proofs.ListLaws.{Test, pass, fail, test}
-use Rattle.wire_fields.specs.Shapes.{Kind}
+use Rattle.wire_shapes.specs.Shapes.{Kind}
 use Rattle.wire_fields.specs.Kinds.{present}
 use Rattle.wire_fields.specs.Message.{opening, typeOf}
 use Rattle.wire_fields.specs.Refusals as fields
@@ -22,15 +22,15 @@ use Rattle.wire_read.specs.Answers as R
 use Rattle.wire_read.specs.declared.Answer as T
 use Rattle.wire_read.specs.declared.Answer.the-variants as M
 use Rattle.gauge_plan.specs.Memory.{tablesFit, handsFit}
-use Rattle.gauge.specs.Lent.{Receive}
-use Rattle.gauge.proofs.AnswerLaws.{KnownAnswer, known-answer}
+use Rattle.gauge_plan.specs.Lent.{Memory, Receive}
+use Rattle.plan_message.proofs.AnswerLaws.{KnownAnswer, known-answer}
 use Rattle.gauge_laws.specs.Table.{messageRows, receiveTable}
 use Rattle.gauge_laws.proofs.TableLaws.{IsMessage}
 use Rattle.sentences.specs.Heard.{Heard, entry, revoke, inquire, authority, ack, other}
 use Rattle.sentences.specs.Numbers as Num
 use Rattle.sentences.proofs.MoveLaws.{holds-not}
 use Rattle.sentences.proofs.HeardLaws.{heardBy, answer-hears, hears-answer}
-use Rattle.sentences.proofs.WordLaws.{lent, not-iff, message-zero}
+use Rattle.sentences.proofs.WordLaws.{not-iff, message-zero}
 use Rattle.sentences.proofs.PartLaws.{part-to, part-from}
 use Rattle.sentences.proofs.FirstLaws.{Row, row-front, row-behind, row-either, Agree}
 use Rattle.sentences.proofs.SaidLaws.{refused-applies, Clause, fit-lent, lent-tables, lent-hands, Said, First, Both}
@@ -38,22 +38,22 @@ use Rattle.sentences.proofs.FloodRowsLaws.{flood-both}
 use Rattle.sentences.proofs.MessageRowsLaws.{inquire-both, authority-both, ack-both, lookup-both, seven-both}
 use Rattle.sentences.proofs.ReadLaws.{zero-fails, fails-message, rows-message, is-long, read-row, row-read}
 
-module _ (l : Receive) (n : ℕ) (low : First l n) where
+module _ (m : Memory) (l : Receive) (n : ℕ) (low : First m l n) where
   -- any message
   any-both : (a : T.Answer) → IsMessage a → KnownAnswer (l .datagram) a → Num.Says l (heardBy (l .datagram) a)
-      → Both l n (heardBy (l .datagram) a) (messageRows l a)
+      → Both m l n (heardBy (l .datagram) a) (messageRows m l a)
   any-both (M.Refused m) i w says = absurd i
-  any-both (M.Solicit head route nonce) i w says = seven-both l n low
-  any-both (M.Advertise head acked keys nonce) i w says = seven-both l n low
-  any-both (M.Request head flags split nonce keys credential signature key) i w says = seven-both l n low
-  any-both (M.Flood head s validate token revokes route reached) i w says = flood-both l n low (head .id) s validate route (w .1) says
-  any-both (M.Inquire head a x c validate nonce credential signature key) i w says = inquire-both l n low (head .id) validate
-  any-both (M.Authority head acked fields) i w says = authority-both l n low acked (R.isHere (fields .cpa)) says
-  any-both (M.Ack head acked flags y) i w says = ack-both l n low acked y
+  any-both (M.Solicit head route nonce) i w says = seven-both m l n low
+  any-both (M.Advertise head acked keys nonce) i w says = seven-both m l n low
+  any-both (M.Request head flags split nonce keys credential signature key) i w says = seven-both m l n low
+  any-both (M.Flood head s validate token revokes route reached) i w says = flood-both m l n low (head .id) s validate route (w .1) says
+  any-both (M.Inquire head a x c validate nonce credential signature key) i w says = inquire-both m l n low (head .id) validate
+  any-both (M.Authority head acked fields) i w says = authority-both m l n low acked (R.isHere (fields .cpa)) says
+  any-both (M.Ack head acked flags y) i w says = ack-both m l n low acked y
   any-both (M.Lookup head a precision criteria reason target validate route path credential signature key) i w says =
-      lookup-both l n low (head .id) target
+      lookup-both m l n low (head .id) target
 
-module _ (l : Receive) (bytes : Bytes (l .datagram)) where
+module _ (m : Memory) (l : Receive) (bytes : Bytes (l .datagram)) where
   abbrev d : List ℕ
   d = l .datagram
 
@@ -63,39 +63,39 @@ module _ (l : Receive) (bytes : Bytes (l .datagram)) where
   abbrev rs : List Refusal
   rs = fields.refusals (l .datagram) (l .major)
 
-  module _ (n : ℕ) (low : First l n) where
-    says-row : (x : Heard) → Num.Says l x → Said l x n → Row n (rs ++ messageRows l a)
+  module _ (n : ℕ) (low : First m l n) where
+    says-row : (x : Heard) → Num.Says l x → Said m l x n → Row n (rs ++ messageRows m l a)
     says-row x says w =
         let h = hears-answer d bytes (l .major) x says in
-        row-behind n rs (messageRows l a)
-        (any-both l n low a (fails-message l (zero-fails l (h .0))) (known-answer d (l .major)) (answer-hears d bytes (l .major) (h .0)) .0
-        (subst (λ (y : Heard). Said l y n) (h .1) w))
+        row-behind n rs (messageRows m l a)
+        (any-both m l n low a (fails-message m l (zero-fails m l (h .0))) (known-answer d (l .major)) (answer-hears d bytes (l .major) (h .0)) .0
+        (subst (λ (y : Heard). Said m l y n) (h .1) w))
 
-    row-says : Row n (messageRows l a) → Clause l n
+    row-says : Row n (messageRows m l a) → Clause m l n
     row-says w =
-        let i = rows-message l n a w in
+        let i = rows-message m l n a w in
         let says = answer-hears d bytes (l .major) (message-zero a i) in
-        elim (any-both l n low a i (known-answer d (l .major)) says .1 w) [
-          | inl v ↦ refused-applies (lent l) l n (heardBy d a) says v
+        elim (any-both m l n low a i (known-answer d (l .major)) says .1 w) [
+          | inl v ↦ refused-applies m l n (heardBy d a) says v
           | inr v ↦ Num.no-room (v .0) (heardBy d a) says (v .1) (v .2) (v .3)
         ]
 
-    lent-row : n ≡ 1 → ¬ Num.ReceiveLent l → Row n (receiveTable l)
-    lent-row e h = go (test (tablesFit (l .own) (l .cache) (l .waiting))) (test (handsFit (l .cpa) (l .nonce) (l .key)))
+    lent-row : n ≡ 1 → ¬ Num.ReceiveLent m l → Row n (receiveTable m l)
+    lent-row e h = go (test (tablesFit (l .own) m)) (test (handsFit (l .cpa) (l .nonce) (l .key)))
       where
-        go : Test (tablesFit (l .own) (l .cache) (l .waiting)) → Test (handsFit (l .cpa) (l .nonce) (l .key)) → Row n (receiveTable l)
+        go : Test (tablesFit (l .own) m) → Test (handsFit (l .cpa) (l .nonce) (l .key)) → Row n (receiveTable m l)
         go (fail t) u = inl (e, ap not t)
         go (pass t) (fail u) = inr (inl (e, ap not u))
-        go (pass t) (pass u) = absurd (h (fit-lent l t u))
+        go (pass t) (pass u) = absurd (h (fit-lent m l t u))
 
-    to : Clause l n → Row n (receiveTable l)
+    to : Clause m l n → Row n (receiveTable m l)
     to (Num.out-of-form e h) = lent-row e h
-    to (Num.wrong-length e h) = inr (inr (inl (e, ap not (holds-not _ (λ w. h (is-long l w))))))
+    to (Num.wrong-length e h) = inr (inr (inl (e, ap not (holds-not _ (λ w. h (is-long m l w))))))
     to (Num.not-opened e h) = inr (inr (inr (inl (e, ap not (holds-not _ (λ w. h (same-eq (part 0 5 d) opening w)))))))
     to (Num.not-major e h) = inr (inr (inr (inr (inl (e, not-iff (getD d 5 0) (l .major) .1 h)))))
     to (Num.not-known e h) = inr (inr (inr (inr (inr (inl (e, ap (λ (o : Option (List Kind)). not (present o)) h))))))
     to (Num.not-read e p h) =
-        inr (inr (row-front n rs (messageRows l a) (read-row l bytes n low e (holds-not (inPart (typeOf d) d) (λ w. p (part-to d w))) h)))
+        inr (inr (row-front n rs (messageRows m l a) (read-row m l bytes n low e (holds-not (inPart (typeOf d) d) (λ w. p (part-to d w))) h)))
     to (Num.not-taken e says) = inr (inr (says-row other says (inl e)))
     to (Num.in-part e p) = inr (inr (inr (inr (inr (inr (inr (inl (e, part-from d p))))))))
     to (Num.no-flood e acked y says h) = inr (inr (says-row (ack acked y) says (inl (e, h))))
@@ -111,10 +111,10 @@ module _ (l : Receive) (bytes : Bytes (l .datagram)) where
     to (Num.all-used e id s validate r says must h) = inr (inr (says-row (entry id s validate r) says (inl (inr (inr (e, must, h))))))
     to (Num.no-room e x says ds r h) = inr (inr (says-row x says (inr (e, ds, r, h))))
 
-    from : Row n (receiveTable l) → Clause l n
-    from (inl w) = Num.out-of-form (w .0) (λ v. both (lent-tables l v) (not-true _ (w .1)))
-    from (inr (inl w)) = Num.out-of-form (w .0) (λ v. both (lent-hands l v) (not-true _ (w .1)))
-    from (inr (inr w)) = elim (row-either n rs (messageRows l a) w) [ inl v ↦ row-read l bytes n low v | inr v ↦ row-says v ]
+    from : Row n (receiveTable m l) → Clause m l n
+    from (inl w) = Num.out-of-form (w .0) (λ v. both (lent-tables m l v) (not-true _ (w .1)))
+    from (inr (inl w)) = Num.out-of-form (w .0) (λ v. both (lent-hands m l v) (not-true _ (w .1)))
+    from (inr (inr w)) = elim (row-either n rs (messageRows m l a) w) [ inl v ↦ row-read m l bytes n low v | inr v ↦ row-says v ]
 
-  pub receive-agree : Agree (Clause l) (receiveTable l)
+  pub receive-agree : Agree (Clause m l) (receiveTable m l)
   receive-agree n low = (to n low, from n low)

@@ -16,50 +16,50 @@ use Rattle.kept.proofs.ListLaws.{Test, pass, fail, test, rising-ext}
 use Rattle.key.proofs.AroundLaws.{side-near}
 use Rattle.refusal.specs.Table.{order, placeIn}
 use Rattle.refusal.proofs.TableLaws.{both, places-differ}
-use Rattle.cache.proofs.CallLaws.{list-only}
+use Rattle.neighbours.proofs.CallLaws.{list-only}
 use Rattle.cache.specs.Form.{keysOf, placesIn, heldOf, cacheForm}
-use Rattle.cache.specs.Closest.{candidates, closestOf}
+use Rattle.neighbours.specs.Closest.{candidates, closestOf}
 use Rattle.cache.proofs.FormLaws.{true-form}
-use Rattle.cache.proofs.ClosestLaws.{closest-only}
+use Rattle.neighbours.proofs.ClosestLaws.{closest-only}
 use Rattle.waiting.specs.Place.{idOf, kindOf, triesOf, placeKey, placeRecord}
 use Rattle.waiting.specs.Form.{placesOf, waitingForm}
 use Rattle.waiting.specs.Tick.{oneLess}
 use Rattle.wire.proofs.Theorems.{at-most-one}
 use Rattle.gauge_commit.specs.declared.Answer.{Answer}
-use Rattle.gauge_commit.specs.Sending.{answer, lengths, sending}
+use Rattle.gauge_commit.specs.Sending.{answer, lengths, sending, Handed, handed}
 use Rattle.wire_fields.specs.Kinds.{authorityKinds}
 use Rattle.wire_write.specs.Sent.{closestSent}
-use Rattle.gauge.specs.Lent.{Receive, receive, Send, send}
-use Rattle.sentences.specs.Words.{Memory, memory, Call, receives, sends, ticks, lists, Given, given, Gauge, outputOf, Typed}
+use Rattle.gauge_plan.specs.Lent.{Memory, memory, Receive, Send, Call, receives, sends, ticks, lists, outputOf}
+use Rattle.gauge.specs.Words.{Gauge, Typed}
 use Rattle.sentences.specs.Heard.{Heard, entry, revoke, inquire, authority, ack, lookup, other, heard, Hears}
 use Rattle.sentences.specs.Sentences as S
 use Rattle.sentences.specs.Numbers as Num
 use Rattle.sentences.specs.Meets as Meets
 use Rattle.sentences.proofs.MembersLaws.{rise-one, rise-ext, cache-same, table-same, places-rise, held-rises}
 
-given-same : (h h′ : Given) → h .answer ≡ h′ .answer → h .memory .cache ≡ h′ .memory .cache → h .memory .waiting ≡ h′ .memory .waiting
+handed-same : (h h′ : Handed) → h .answer ≡ h′ .answer → h .memory .cache ≡ h′ .memory .cache → h .memory .waiting ≡ h′ .memory .waiting
     → h .output ≡ h′ .output → h ≡ h′
-given-same h h′ a c w o =
-    ap (λ (x : Answer). given x (h .memory) (h .output)) a
-    ∙ ap₂ (λ (x y : List ℕ). given (h′ .answer) (memory x y) (h .output)) c w
-    ∙ ap (λ (x : List ℕ). given (h′ .answer) (h′ .memory) x) o
+handed-same h h′ a c w o =
+    ap (λ (x : Answer). handed x (h .memory) (h .output)) a
+    ∙ ap₂ (λ (x y : List ℕ). handed (h′ .answer) (memory x y) (h .output)) c w
+    ∙ ap (λ (x : List ℕ). handed (h′ .answer) (h′ .memory) x) o
 
 -- ---- the tick
 
-module _ (k : ℕ) (m : Memory) (output : List ℕ) (h h′ : Given) (s : S.Ticks k m output h) (t : S.Ticks k m output h′) where
+module _ (k : ℕ) (m : Memory) (output : List ℕ) (h h′ : Handed) (s : S.Ticks k m output h) (t : S.Ticks k m output h′) where
   ids-same : s .ids ≡ t .ids
   ids-same =
       rising-ext plain 0 0 (s .ids) (t .ids) (s .rising) (t .rising) (λ i m. t .listed i .1 (s .listed i .0 m))
       (λ i m. s .listed i .1 (t .listed i .0 m))
 
   pub ticks-one : h ≡ h′
-  ticks-one = given-same h h′ (rw (s .counts, t .counts, ids-same) refl) (s .cache ∙ sym (t .cache))
+  ticks-one = handed-same h h′ (rw (s .counts, t .counts, ids-same) refl) (s .cache ∙ sym (t .cache))
       (table-same k (h .memory .waiting) (h′ .memory .waiting) _ _ (s .table) (t .table) (λ p w. w) (λ p w. w))
       (rw (s .bytes, t .bytes, ids-same) refl)
 
 -- ---- the neighbour list
 
-module _ (own : List ℕ) (m : Memory) (output : List ℕ) (f : cacheForm (keyOf own) (m .cache) ≡ true) (h h′ : Given)
+module _ (own : List ℕ) (m : Memory) (output : List ℕ) (f : cacheForm (keyOf own) (m .cache) ≡ true) (h h′ : Handed)
     (s : S.Lists (keyOf own) m output h) (t : S.Lists (keyOf own) m output h′) where
   low-same : s .listed .low ≡ t .listed .low
   low-same =
@@ -72,13 +72,13 @@ module _ (own : List ℕ) (m : Memory) (output : List ℕ) (f : cacheForm (keyOf
       ∙ sym (list-only own (m .cache) f above (t .listed .high) (t .listed .nearest-above))
 
   pub lists-one : h ≡ h′
-  lists-one = given-same h h′ (rw (s .listed .counts, t .listed .counts, low-same, high-same) refl)
+  lists-one = handed-same h h′ (rw (s .listed .counts, t .listed .counts, low-same, high-same) refl)
       (ap (λ (x : Memory). x .cache) (s .same ∙ sym (t .same))) (ap (λ (x : Memory). x .waiting) (s .same ∙ sym (t .same)))
       (rw (s .listed .bytes, t .listed .bytes, low-same, high-same) refl)
 
 -- ---- a FLOOD sent
 
-sent-same : (output : List ℕ) (ds ds′ : List (List ℕ)) (h h′ : Given) → S.Sent output ds h → S.Sent output ds′ h′ → ds ≡ ds′
+sent-same : (output : List ℕ) (ds ds′ : List (List ℕ)) (h h′ : Handed) → S.Sent output ds h → S.Sent output ds′ h′ → ds ≡ ds′
     → (h .answer ≡ h′ .answer) × (h .output ≡ h′ .output)
 sent-same output ds ds′ h h′ s t e =
     (s .counts ∙ ap lengths e ∙ sym (t .counts), s .bytes ∙ ap (λ (x : List (List ℕ)). sending x output) e ∙ sym (t .bytes))
@@ -91,11 +91,11 @@ module _ (m : Memory) (l : Send) (f : cacheForm (keyOf (l .own)) (m .cache) ≡ 
   named-one r r′ (inr a) (inr b) =
       rise-one keyOf 0 r r′ (heldOf (keyOf (l .own)) (m .cache)) (held-rises (keyOf (l .own)) (m .cache) f) (a .1) (b .1) (a .2 ∙ sym (b .2))
 
-  pub sends-one : (h h′ : Given) → S.Sends m l h → S.Sends m l h′ → h ≡ h′
+  pub sends-one : (h h′ : Handed) → S.Sends m l h → S.Sends m l h′ → h ≡ h′
   sends-one h h′ s t =
       let e = named-one (s .r) (t .r) (s .named) (t .named) in
       let d = sent-same (l .output) (S.flooding l (s .r)) (S.flooding l (t .r)) h h′ (s .sent) (t .sent) (ap (S.flooding l) e) in
-      given-same h h′ (d .0) (s .cache ∙ sym (t .cache))
+      handed-same h h′ (d .0) (s .cache ∙ sym (t .cache))
       (table-same (keyOf (l .own)) (h .memory .waiting) (h′ .memory .waiting) _ _ (s .table) (t .table) (λ p w. w) (λ p w. w)) (d .1)
 
 -- ---- a datagram received: what it says, and what answers it
@@ -236,13 +236,13 @@ module _ (m : Memory) (l : Receive) (f : cacheForm (keyOf (l .own)) (m .cache) �
   leaves-one (lookup id target) a b s t = s ∙ sym t
   leaves-one other a b s t = absurd s
 
-  pub receives-one : (h h′ : Given) → S.Receives m l h → S.Receives m l h′ → h ≡ h′
+  pub receives-one : (h h′ : Handed) → S.Receives m l h → S.Receives m l h′ → h ≡ h′
   receives-one h h′ s t =
       let e = hears-one (l .datagram) (l .major) (s .x) (t .x) (s .hears) (t .hears) in
       let d = sent-same (l .output) (s .ds) (t .ds) h h′ (s .sent) (t .sent)
       (reply-one m l f (t .x) (s .ds) (t .ds) (subst (λ (x : Heard). S.Reply m l x (s .ds)) e (s .reply)) (t .reply)) in
       let z = leaves-one (t .x) (h .memory) (h′ .memory) (subst (λ (x : Heard). S.Leaves m l x (h .memory)) e (s .leaves)) (t .leaves) in
-      given-same h h′ (d .0) (ap (λ (y : Memory). y .cache) z) (ap (λ (y : Memory). y .waiting) z) (d .1)
+      handed-same h h′ (d .0) (ap (λ (y : Memory). y .cache) z) (ap (λ (y : Memory). y .waiting) z) (d .1)
 
 -- ---- the number, and the whole
 
@@ -266,17 +266,13 @@ pub holds : (b : Bool) → (b ≡ false → ⊥) → b ≡ true
 holds true h = refl
 holds false h = absurd (h refl)
 
-does-one : (m : Memory) (c : Call) → ((i : ℕ) → ¬ Num.Applies m c i) → (h h′ : Given) → S.Does m c h → S.Does m c h′ → h ≡ h′
-does-one m (receives own cpa major minor id nonce verdict key datagram output) none h h′ s t =
-    let l = receive own cpa (m .cache) (m .waiting) major minor id nonce verdict key datagram output in
+does-one : (m : Memory) (c : Call) → ((i : ℕ) → ¬ Num.Applies m c i) → (h h′ : Handed) → S.Does m c h → S.Does m c h′ → h ≡ h′
+does-one m (receives l) none h h′ s t =
     receives-one m l (holds _ (λ e. none 1 (Num.out-of-form refl (λ w. both (w .cache) e))))
     (holds _ (λ e. none 1 (Num.out-of-form refl (λ w. both (w .waiting) e)))) h h′ s t
-does-one m (sends own major minor id neighbour key output) none h h′ s t =
-    let l = send own (m .cache) (m .waiting) major minor id neighbour key output in
-    sends-one m l (holds _ (λ e. none 1 (Num.send-out-of-form refl (λ w. both (w .cache) e)))) h h′ s t
-does-one m (ticks own output) none h h′ s t = ticks-one (keyOf own) m output h h′ s t
-does-one m (lists own output) none h h′ s t =
-    lists-one own m output (holds _ (λ e. none 1 (inl (refl, λ w. both (w .1) e)))) h h′ s t
+does-one m (sends l) none h h′ s t = sends-one m l (holds _ (λ e. none 1 (Num.send-out-of-form refl (λ w. both (w .cache) e)))) h h′ s t
+does-one m (ticks l) none h h′ s t = ticks-one (keyOf (l .own)) m (l .output) h h′ s t
+does-one m (lists l) none h h′ s t = lists-one (l .own) m (l .output) (holds _ (λ e. none 1 (inl (refl, λ w. both (w .1) e)))) h h′ s t
 
 pub one-gauge : Meets.OneGauge
 one-gauge g h p q m c ty = go (g m c .answer .number) refl
@@ -287,4 +283,4 @@ one-gauge g h p q m c ty = go (g m c .answer .number) refl
     go : (a : ℕ) → g m c .answer .number ≡ a → g m c ≡ h m c
     go zero e = does-one m c (p .table .accepted m c ty .0 e) (g m c) (h m c) (p .does m c ty e) (q .does m c ty (sym n ∙ e))
     go (suc a) e =
-        p .table .keeps m c (omega arith) ∙ ap (λ (x : ℕ). given (answer x 0 0) m (outputOf c)) n ∙ sym (q .table .keeps m c (omega (arith, n)))
+        p .table .keeps m c (omega arith) ∙ ap (λ (x : ℕ). handed (answer x 0 0) m (outputOf c)) n ∙ sym (q .table .keeps m c (omega (arith, n)))

@@ -19,26 +19,24 @@ use Rattle.table.proofs.RowLaws.{rows-length}
 use Rattle.kept.specs.Keys.{_∈_, Every}
 use Rattle.kept.proofs.ListLaws.{Test, pass, fail, test}
 use Rattle.cache.specs.Form.{heldOf, cacheForm}
-use Rattle.cache.specs.Calls.{listWrong}
+use Rattle.neighbours.specs.Calls.{listWrong}
 use Rattle.cache.proofs.FormLaws.{true-form}
 use Rattle.waiting.specs.Place.{idOf}
 use Rattle.waiting.specs.Form.{usedOf, placesOf, waitingForm}
 use Rattle.waiting.specs.Seek.{hasId}
-use Rattle.waiting.specs.Call as W
+use Rattle.waiting_form.specs.Call as W
 use Rattle.wire_fields.specs.Kinds.{floodKinds}
 use Rattle.wire_write.specs.Sent.{floodSent}
 use Rattle.wire_write.specs.Making.{floodMade}
 use Rattle.gauge_plan.specs.Memory.{tablesFit}
-use Rattle.gauge_plan.specs.Send.{keysFit, heldAt, floodRoom}
-use Rattle.gauge_plan.specs.Answering.{isNothing, placeOf}
+use Rattle.plan_send.specs.Send.{keysFit, heldAt, floodRoom}
+use Rattle.gauge_plan.specs.Found.{isNothing, placeOf}
 use Rattle.gauge_plan.proofs.MemoryLaws.{ready}
 use Rattle.gauge_commit.proofs.LengthLaws.{flood-length}
 use Rattle.gauge_commit.proofs.SentLaws.{joined-one}
-use Rattle.gauge.specs.Lent.{Send}
-use Rattle.gauge_laws.specs.Calls as G
+use Rattle.gauge_plan.specs.Lent.{Memory, Send, Tick, Listing, sends, ticks, lists}
 use Rattle.gauge_laws.specs.Table.{tableOf}
 use Rattle.gauge_laws.proofs.FirstLaws.{whole-record}
-use Rattle.sentences.specs.Words.{Memory, memory, ticks, lists}
 use Rattle.sentences.specs.Sentences as S
 use Rattle.sentences.specs.Numbers as Num
 use Rattle.sentences.proofs.OneLaws.{named-one}
@@ -50,35 +48,35 @@ use Rattle.sentences.proofs.FirstLaws.{Row, Agree}
 
 -- ---- the tick and the neighbour list
 
-pub tick-agree : (own output : List ℕ) (m : Memory) → Agree (Num.Applies m (ticks own output)) (tableOf (G.ticks own (m .waiting) output))
+pub tick-agree : (m : Memory) (l : Tick) → Agree (Num.Applies m (ticks l)) (tableOf m (ticks l))
 unfolding W.tickRefusals
-tick-agree own output m n low = (to, from)
+tick-agree m l n low = (to, from)
   where
-    to : Num.Applies m (ticks own output) n → Row n (W.tickRefusals own (m .waiting) output)
-    to (inl w) = inl (w .0, ap not (holds-not _ (λ e. w .1 (both-true (recordForm own) (waitingForm (keyOf own) (m .waiting)) e))))
-    to (inr w) = inr (inl (w .0, lt-ltb (length output) 64 (w .1)))
+    to : Num.Applies m (ticks l) n → Row n (W.tickRefusals (l .own) (m .waiting) (l .output))
+    to (inl w) = inl (w .0, ap not (holds-not _ (λ e. w .1 (both-true (recordForm (l .own)) (waitingForm (keyOf (l .own)) (m .waiting)) e))))
+    to (inr w) = inr (inl (w .0, lt-ltb (length (l .output)) 64 (w .1)))
 
-    from : Row n (W.tickRefusals own (m .waiting) output) → Num.Applies m (ticks own output) n
-    from (inl w) = inl (w .0, λ v. both (rw (v .0, v .1) refl) (not-true (recordForm own && waitingForm (keyOf own) (m .waiting)) (w .1)))
-    from (inr (inl w)) = inr (w .0, ltb-true (length output) 64 (w .1))
+    from : Row n (W.tickRefusals (l .own) (m .waiting) (l .output)) → Num.Applies m (ticks l) n
+    from (inl w) = inl (w .0, λ v. both (rw (v .0, v .1) refl) (not-true (recordForm (l .own) && waitingForm (keyOf (l .own)) (m .waiting)) (w .1)))
+    from (inr (inl w)) = inr (w .0, ltb-true (length (l .output)) 64 (w .1))
     from (inr (inr w)) = absurd w
 
-pub list-agree : (own output : List ℕ) (m : Memory) → Agree (Num.Applies m (lists own output)) (tableOf (G.lists own (m .cache) output))
-list-agree own output m n low = (to, from)
+pub list-agree : (m : Memory) (l : Listing) → Agree (Num.Applies m (lists l)) (tableOf m (lists l))
+list-agree m l n low = (to, from)
   where
-    to : Num.Applies m (lists own output) n → Row n (listWrong own (m .cache) output)
-    to (inl w) = go (test (recordForm own)) (test (cacheForm (keyOf own) (m .cache)))
+    to : Num.Applies m (lists l) n → Row n (listWrong (l .own) (m .cache) (l .output))
+    to (inl w) = go (test (recordForm (l .own))) (test (cacheForm (keyOf (l .own)) (m .cache)))
       where
-        go : Test (recordForm own) → Test (cacheForm (keyOf own) (m .cache)) → Row n (listWrong own (m .cache) output)
+        go : Test (recordForm (l .own)) → Test (cacheForm (keyOf (l .own)) (m .cache)) → Row n (listWrong (l .own) (m .cache) (l .output))
         go (fail e) d = inl (w .0, ap not e)
         go (pass e) (fail d) = inr (inl (w .0, ap not d))
         go (pass e) (pass d) = absurd (w .1 (e, d))
-    to (inr w) = inr (inr (inl (w .0, lt-ltb (length output) 320 (w .1))))
+    to (inr w) = inr (inr (inl (w .0, lt-ltb (length (l .output)) 320 (w .1))))
 
-    from : Row n (listWrong own (m .cache) output) → Num.Applies m (lists own output) n
-    from (inl w) = inl (w .0, λ v. both (v .0) (not-true (recordForm own) (w .1)))
-    from (inr (inl w)) = inl (w .0, λ v. both (v .1) (not-true (cacheForm (keyOf own) (m .cache)) (w .1)))
-    from (inr (inr (inl w))) = inr (w .0, ltb-true (length output) 320 (w .1))
+    from : Row n (listWrong (l .own) (m .cache) (l .output)) → Num.Applies m (lists l) n
+    from (inl w) = inl (w .0, λ v. both (v .0) (not-true (recordForm (l .own)) (w .1)))
+    from (inr (inl w)) = inl (w .0, λ v. both (v .1) (not-true (cacheForm (keyOf (l .own)) (m .cache)) (w .1)))
+    from (inr (inr (inl w))) = inr (w .0, ltb-true (length (l .output)) 320 (w .1))
     from (inr (inr (inr w))) = absurd w
 
 -- ---- a FLOOD to send
@@ -88,35 +86,32 @@ every-in P x [] a m = absurd m
 every-in P x (y ∷ xs) a (inl e) = subst P (sym e) (a .0)
 every-in P x (y ∷ xs) a (inr m) = every-in P x xs (a .1) m
 
-module _ (l : Send) where
-  abbrev lent : Memory
-  lent = memory (l .cache) (l .waiting)
-
+module _ (m : Memory) (l : Send) where
   abbrev k : ℕ
   k = keyOf (l .own)
 
   abbrev recs : List (List ℕ)
-  recs = heldOf (keyOf (l .own)) (l .cache)
+  recs = heldOf (keyOf (l .own)) (m .cache)
 
   abbrev ps : List (List ℕ)
-  ps = placesOf (l .waiting)
+  ps = placesOf (m .waiting)
 
   abbrev named : ℕ
   named = keyAt 0 (l .key)
 
   abbrev A : ℕ → Type 0
-  A n = Num.SendApplies lent l n
+  A n = Num.SendApplies m l n
 
-  lent-tables : Num.SendLent l → tablesFit (l .own) (l .cache) (l .waiting) ≡ true
+  lent-tables : Num.SendLent m l → tablesFit (l .own) m ≡ true
   unfolding tablesFit
   lent-tables w = rw (w .own, w .cache, w .waiting) refl
 
-  lent-keys : Num.SendLent l → keysFit (l .neighbour) (l .key) ≡ true
+  lent-keys : Num.SendLent m l → keysFit (l .neighbour) (l .key) ≡ true
   lent-keys w = rw (eq-eqb (length (l .neighbour)) 32 (w .neighbour), eq-eqb (length (l .key)) 32 (w .key)) refl
 
-  fit-lent : tablesFit (l .own) (l .cache) (l .waiting) ≡ true → keysFit (l .neighbour) (l .key) ≡ true → Num.SendLent l
+  fit-lent : tablesFit (l .own) m ≡ true → keysFit (l .neighbour) (l .key) ≡ true → Num.SendLent m l
   fit-lent e h =
-      let r = ready (l .own) (l .cache) (l .waiting) e in
+      let r = ready (l .own) m e in
       let w = both-true (eqb (length (l .neighbour)) 32) (eqb (length (l .key)) 32) h in
       record {
         own = r .owned;
@@ -126,43 +121,43 @@ module _ (l : Send) where
         key = eqb-true (length (l .key)) 32 (w .1);
       }
 
-  pub is-lent : ¬ A 1 → Num.SendLent l
-  is-lent h = go (test (tablesFit (l .own) (l .cache) (l .waiting))) (test (keysFit (l .neighbour) (l .key)))
+  pub is-lent : ¬ A 1 → Num.SendLent m l
+  is-lent h = go (test (tablesFit (l .own) m)) (test (keysFit (l .neighbour) (l .key)))
     where
-      go : Test (tablesFit (l .own) (l .cache) (l .waiting)) → Test (keysFit (l .neighbour) (l .key)) → Num.SendLent l
+      go : Test (tablesFit (l .own) m) → Test (keysFit (l .neighbour) (l .key)) → Num.SendLent m l
       go (pass e) (pass d) = fit-lent e d
       go (fail e) d = absurd (h (Num.send-out-of-form refl (λ w. both (lent-tables w) e)))
       go (pass e) (fail d) = absurd (h (Num.send-out-of-form refl (λ w. both (lent-keys w) d)))
 
-  held-to : (u : ℕ) → isNothing (heldAt u recs) ≡ true → ¬ ((r : List ℕ) × S.Holds k lent r × (keyOf r ≡ u))
+  held-to : (u : ℕ) → isNothing (heldAt u recs) ≡ true → ¬ ((r : List ℕ) × S.Holds k m r × (keyOf r ≡ u))
   held-to u e w =
       let t : List ℕ → Bool = λ (q : List ℕ). eqb (keyOf q) u in
       both (eq-eqb (keyOf (w .0)) u (w .2)) (none-in t recs (seek-none t recs e) (w .0) (w .1))
 
-  held-some : (u : ℕ) → isNothing (heldAt u recs) ≡ false → (r : List ℕ) × S.Holds k lent r × (keyOf r ≡ u)
+  held-some : (u : ℕ) → isNothing (heldAt u recs) ≡ false → (r : List ℕ) × S.Holds k m r × (keyOf r ≡ u)
   held-some u e =
       let t : List ℕ → Bool = λ (q : List ℕ). eqb (keyOf q) u in
       let w = found-in t (placeOf (heldAt u recs)) recs (seek-some t recs e) in
       (getD recs (placeOf (heldAt u recs)) [], w .0, eqb-true (keyOf (getD recs (placeOf (heldAt u recs)) [])) u (w .1))
 
-  held-from : (u : ℕ) → ¬ ((r : List ℕ) × S.Holds k lent r × (keyOf r ≡ u)) → isNothing (heldAt u recs) ≡ true
+  held-from : (u : ℕ) → ¬ ((r : List ℕ) × S.Holds k m r × (keyOf r ≡ u)) → isNothing (heldAt u recs) ≡ true
   held-from u h = go (isNothing (heldAt u recs)) refl
     where
       go : (b : Bool) → isNothing (heldAt u recs) ≡ b → isNothing (heldAt u recs) ≡ true
       go true e = e
       go false e = absurd (h (held-some u e))
 
-  named-to : not (eqb named k) && isNothing (heldAt named recs) ≡ true → ¬ ((r : List ℕ) × S.Named lent l r)
+  named-to : not (eqb named k) && isNothing (heldAt named recs) ≡ true → ¬ ((r : List ℕ) × S.Named m l r)
   named-to e w = go (w .1)
     where
       v : (not (eqb named k) ≡ true) × (isNothing (heldAt named recs) ≡ true)
       v = both-true (not (eqb named k)) (isNothing (heldAt named recs)) e
 
-      go : S.Named lent l (w .0) → ⊥
+      go : S.Named m l (w .0) → ⊥
       go (inl y) = not-iff named k .0 (v .0) (y .0)
       go (inr y) = held-to named (v .1) (w .0, y .1, y .2)
 
-  named-from : ¬ ((r : List ℕ) × S.Named lent l r) → not (eqb named k) && isNothing (heldAt named recs) ≡ true
+  named-from : ¬ ((r : List ℕ) × S.Named m l r) → not (eqb named k) && isNothing (heldAt named recs) ≡ true
   named-from h = go (test (eqb named k)) (test (isNothing (heldAt named recs)))
     where
       go : Test (eqb named k) → Test (isNothing (heldAt named recs)) → not (eqb named k) && isNothing (heldAt named recs) ≡ true
@@ -172,15 +167,15 @@ module _ (l : Send) where
 
   -- what is sent, where the record is known
   abbrev r : List ℕ
-  r = sentBy l (eqb named k)
+  r = sentBy m l (eqb named k)
 
-  module _ (g : Num.SendLent l) (bar : not (eqb named k) && isNothing (heldAt named recs) ≡ false) where
-    is-named : S.Named lent l r
-    is-named = named-by l bar (eqb named k) refl
+  module _ (g : Num.SendLent m l) (bar : not (eqb named k) && isNothing (heldAt named recs) ≡ false) where
+    is-named : S.Named m l r
+    is-named = named-by m l bar (eqb named k) refl
 
-    formed-by : (q : List ℕ) → S.Named lent l q → recordForm q ≡ true
+    formed-by : (q : List ℕ) → S.Named m l q → recordForm q ≡ true
     formed-by q (inl w) = ap recordForm (w .1) ∙ g .own
-    formed-by q (inr w) = every-in (λ (x : List ℕ). recordForm x ≡ true) q recs (true-form k (l .cache) (g .cache) .held .formed) (w .1)
+    formed-by q (inr w) = every-in (λ (x : List ℕ). recordForm x ≡ true) q recs (true-form k (m .cache) (g .cache) .held .formed) (w .1)
 
     room : length (joined (S.flooding l r)) ≡ floodRoom r
     unfolding floodMade
@@ -194,51 +189,51 @@ module _ (l : Send) where
         ∙ ap floodRoom whole
 
   module _ (n : ℕ) (low : (i : ℕ) → Before i n → ¬ A i) where
-    good : Before 1 n → Num.SendLent l
+    good : Before 1 n → Num.SendLent m l
     good h = is-lent (low 1 h)
 
     barred : Before 12 n → not (eqb named k) && isNothing (heldAt named recs) ≡ false
     barred h = holds-not _ (λ e. low 12 h (Num.not-named refl (named-to e)))
 
-    full-is : length ps ≡ usedOf (l .waiting)
-    full-is = rows-length 140 (usedOf (l .waiting)) (l .waiting)
+    full-is : length ps ≡ usedOf (m .waiting)
+    full-is = rows-length 140 (usedOf (m .waiting)) (m .waiting)
 
-    lent-row : n ≡ 1 → ¬ Num.SendLent l → Row n (tableOf (G.sends l))
-    lent-row e h = go (test (tablesFit (l .own) (l .cache) (l .waiting))) (test (keysFit (l .neighbour) (l .key)))
+    lent-row : n ≡ 1 → ¬ Num.SendLent m l → Row n (tableOf m (sends l))
+    lent-row e h = go (test (tablesFit (l .own) m)) (test (keysFit (l .neighbour) (l .key)))
       where
-        go : Test (tablesFit (l .own) (l .cache) (l .waiting)) → Test (keysFit (l .neighbour) (l .key)) → Row n (tableOf (G.sends l))
+        go : Test (tablesFit (l .own) m) → Test (keysFit (l .neighbour) (l .key)) → Row n (tableOf m (sends l))
         go (fail t) u = inl (e, ap not t)
         go (pass t) (fail u) = inr (inl (e, ap not u))
         go (pass t) (pass u) = absurd (h (fit-lent t u))
 
-    to : A n → Row n (tableOf (G.sends l))
+    to : A n → Row n (tableOf m (sends l))
     to (Num.send-out-of-form e h) = lent-row e h
     to (Num.not-neighbour e h) = inr (inr (inl (e, held-from (keyAt 0 (l .neighbour)) h)))
     to (Num.not-named e h) = inr (inr (inr (inl (e, named-from h))))
     to (Num.send-id-waits e p w d) = inr (inr (inr (inr (inl (e, any-in (hasId (l .id)) p ps w (eq-eqb (idOf p) (l .id) d))))))
-    to (Num.send-all-used e h) = inr (inr (inr (inr (inr (inl (e, eq-eqb (usedOf (l .waiting)) 16 (sym full-is ∙ h)))))))
+    to (Num.send-all-used e h) = inr (inr (inr (inr (inr (inl (e, eq-eqb (usedOf (m .waiting)) 16 (sym full-is ∙ h)))))))
     to (Num.send-no-room e q w h) =
         let g = good (sooner 1 15 (unfold placeIn in refl) e) in
         let bar = barred (sooner 12 15 (unfold placeIn in refl) e) in
         let full = room g bar in
         let few = few-addresses r (formed-by g bar r (is-named g bar)) in
         let want = no-room-by (l .output) (S.flooding l r) (omega arith)
-        (subst (λ (y : List ℕ). Num.NoRoom (l .output) (S.flooding l y)) (named-one lent l (g .cache) q r w (is-named g bar)) h) in
+        (subst (λ (y : List ℕ). Num.NoRoom (l .output) (S.flooding l y)) (named-one m l (g .cache) q r w (is-named g bar)) h) in
         inr (inr (inr (inr (inr (inr (inl (e, lt-ltb (length (l .output)) (floodRoom r) (omega (arith, room g bar)))))))))
 
-    from : Row n (tableOf (G.sends l)) → A n
+    from : Row n (tableOf m (sends l)) → A n
     from (inl w) = Num.send-out-of-form (w .0) (λ v. both (lent-tables v) (not-true _ (w .1)))
     from (inr (inl w)) = Num.send-out-of-form (w .0) (λ v. both (lent-keys v) (not-true _ (w .1)))
     from (inr (inr (inl w))) = Num.not-neighbour (w .0) (held-to (keyAt 0 (l .neighbour)) (w .1))
     from (inr (inr (inr (inl w)))) = Num.not-named (w .0) (named-to (w .1))
     from (inr (inr (inr (inr (inl w))))) =
         let p = in-any (hasId (l .id)) ps (w .1) in Num.send-id-waits (w .0) (p .0) (p .1) (eqb-true (idOf (p .0)) (l .id) (p .2))
-    from (inr (inr (inr (inr (inr (inl w)))))) = Num.send-all-used (w .0) (full-is ∙ eqb-true (usedOf (l .waiting)) 16 (w .1))
+    from (inr (inr (inr (inr (inr (inl w)))))) = Num.send-all-used (w .0) (full-is ∙ eqb-true (usedOf (m .waiting)) 16 (w .1))
     from (inr (inr (inr (inr (inr (inr (inl w))))))) =
         let g = good (sooner 1 15 (unfold placeIn in refl) (w .0)) in
         let bar = barred (sooner 12 15 (unfold placeIn in refl) (w .0)) in
         Num.send-no-room (w .0) r (is-named g bar) (inl (let h = ltb-true (length (l .output)) (floodRoom r) (w .1) in omega (arith, room g bar)))
     from (inr (inr (inr (inr (inr (inr (inr w))))))) = absurd w
 
-  pub send-agree : Agree A (tableOf (G.sends l))
+  pub send-agree : Agree A (tableOf m (sends l))
   send-agree n low = (to n low, from n low)

@@ -12,13 +12,13 @@ use Rattle.octet.specs.Part.{part}
 use Rattle.octet.proofs.PartLaws.{length-part}
 use Rattle.octet.proofs.TestLaws.{both-true}
 use Rattle.refusal.proofs.TableLaws.{both}
-use Rattle.wire_fields.specs.Field.{numberAt}
-use Rattle.wire_fields.specs.Shapes.{hasShape, splitForm}
+use Rattle.wire_shapes.specs.Field.{numberAt}
+use Rattle.wire_shapes.specs.Shapes.{hasShape, splitForm}
 use Rattle.wire_fields.specs.Reading.{spanAt, needOf, needAt, wholeIn}
 use Rattle.wire_fields.specs.Refusals.{inPart, partByAcked, partBySplit}
 use Rattle.wire_fields.specs.Message.{typeOf}
-use Rattle.wire_fields.specs.declared.Shape.{Shape}
-use Rattle.wire_fields.specs.declared.Shape.the-variants.{Sized, Split}
+use Rattle.wire_shapes.specs.declared.Shape.{Shape}
+use Rattle.wire_shapes.specs.declared.Shape.the-variants.{Sized, Split}
 use Rattle.wire_fields.specs.declared.Span.{Span}
 use Rattle.wire_fields.specs.declared.Span.the-variants.{Whole, Other, Cut}
 use Rattle.wire_fields.specs.declared.Cursor.{Cursor}

@@ -24,7 +24,7 @@ use Rattle.wire_read.specs.Answers as R
 use Rattle.wire_read.specs.Meaning.{numberOf}
 use Rattle.wire_read.specs.declared.Answer as T
 use Rattle.wire_read.specs.declared.Answer.the-variants as M
-use Rattle.gauge.specs.Lent.{Receive}
+use Rattle.gauge_plan.specs.Lent.{Memory, Receive}
 use Rattle.gauge_laws.specs.Table.{messageRows}
 use Rattle.gauge_laws.proofs.TableLaws.{IsMessage, shown-message}
 use Rattle.sentences.specs.Heard.{Heard}
@@ -36,7 +36,7 @@ use Rattle.sentences.proofs.PartLaws.{part-to, part-from}
 use Rattle.sentences.proofs.FirstLaws.{Row}
 use Rattle.sentences.proofs.SaidLaws.{Clause, First}
 
-module _ (l : Receive) where
+module _ (m : Memory) (l : Receive) where
   abbrev d : List ℕ
   d = l .datagram
 
@@ -92,7 +92,7 @@ module _ (l : Receive) where
       (sym (all-pass fields.refused rs (fields.found (typeOf d) (fields.placesOf (fieldsIn d))) f))
       (shown-message d (typeOf d) (fields.placesOf (fieldsIn d)))
 
-  pub rows-message : (n : ℕ) (y : T.Answer) → Row n (messageRows l y) → IsMessage y
+  pub rows-message : (n : ℕ) (y : T.Answer) → Row n (messageRows m l y) → IsMessage y
   rows-message n (M.Refused m) w = w
   rows-message n (M.Solicit head route nonce) w = tt
   rows-message n (M.Advertise head acked keys nonce) w = tt
@@ -120,7 +120,7 @@ module _ (l : Receive) where
   unknown none e = refl
   unknown (some v) e = both e refl
 
-  module _ (bytes : Bytes (l .datagram)) (n : ℕ) (low : First l n) where
+  module _ (bytes : Bytes (l .datagram)) (n : ℕ) (low : First m l n) where
     -- nothing before 6 applies and the fields are there: a message is read
     all-read : n ≡ 6 → inPart (typeOf d) d ≡ false → present (fieldsIn d) ≡ true → AllFail rs
     all-read h p t = (
@@ -149,7 +149,7 @@ module _ (l : Receive) where
         go (pass t) = absurd (h (heardBy d a, answer-hears d bytes (l .major) (fails-zero (all-read e p t))))
         go (fail t) = inr (inr (inr (inr (inl (e, rw (p, t) refl)))))
 
-    pub row-read : Row n rs → Clause l n
+    pub row-read : Row n rs → Clause m l n
     row-read (inl w) = Num.wrong-length (w .0) (λ v. both (long-is v) (not-true _ (w .1)))
     row-read (inr (inl w)) = Num.not-opened (w .0) (λ v. both (opened-is v) (not-true _ (w .1)))
     row-read (inr (inr (inl w))) = Num.not-major (w .0) (not-iff (getD d 5 0) (l .major) .0 (w .1))

@@ -6,41 +6,40 @@ use Rattle.cache.specs.Form.{heldOf}
 use Rattle.wire_read.specs.Answers as R
 use Rattle.wire_read.specs.declared.Answer as T
 use Rattle.wire_read.specs.declared.Answer.the-variants as M
-use Rattle.gauge_plan.specs.Answering.{authorityPlan, ackPlan, inquirePlan, lookupPlan}
-use Rattle.gauge.specs.Lent.{Receive}
-use Rattle.gauge.specs.Handed as H
-use Rattle.gauge.specs.Receive.{planFor, receiveCall}
-use Rattle.gauge.proofs.AnswerLaws.{KnownAnswer, known-answer}
+use Rattle.plan_answer.specs.Answering.{authorityPlan, ackPlan, inquirePlan, lookupPlan}
+use Rattle.gauge_plan.specs.Lent.{Memory, Receive}
+use Rattle.plan_message.specs.Planned.{planFor}
+use Rattle.gauge.specs.Receive.{receiveCall}
+use Rattle.plan_message.proofs.AnswerLaws.{KnownAnswer, known-answer}
 use Rattle.gauge.proofs.ReceiveLaws.{call-by}
 use Rattle.gauge_laws.specs.Table.{messageRows}
 use Rattle.gauge_laws.proofs.TableLaws.{IsMessage}
-use Rattle.sentences.specs.Ours.{asGiven}
 use Rattle.sentences.specs.Sentences as S
 use Rattle.sentences.proofs.HeardLaws.{heardBy, answer-hears}
-use Rattle.sentences.proofs.WordLaws.{lent, message-zero}
+use Rattle.sentences.proofs.WordLaws.{message-zero}
 use Rattle.sentences.proofs.PlanLaws.{held, used, Fine, Does, fine, message-fails, plan-is, is-message, passed}
 use Rattle.sentences.proofs.FloodDoesLaws.{flood-does}
 use Rattle.sentences.proofs.MessageDoesLaws.{authority-does, ack-does, inquire-does, lookup-does}
 
-module _ (l : Receive) where
-  any-does : Fine l → (a : T.Answer) → IsMessage a → KnownAnswer (l .datagram) a → AllFail (messageRows l a)
-      → Does l (heardBy (l .datagram) a) (planFor l (held l) (used l) a)
+module _ (m : Memory) (l : Receive) where
+  any-does : Fine m l → (a : T.Answer) → IsMessage a → KnownAnswer (l .datagram) a → AllFail (messageRows m l a)
+      → Does m l (heardBy (l .datagram) a) (planFor m l (held m l) (used m l) a)
   unfolding planFor authorityPlan ackPlan inquirePlan lookupPlan heldOf
   any-does ok (M.Refused n) i w bars = absurd i
   any-does ok (M.Solicit head route nonce) i w bars = both refl (bars .0)
   any-does ok (M.Advertise head acked keys nonce) i w bars = both refl (bars .0)
   any-does ok (M.Request head flags split nonce keys credential signature key) i w bars = both refl (bars .0)
-  any-does ok (M.Flood head s validate token revokes route reached) i w bars = flood-does l ok head s validate route (w .1) bars
-  any-does ok (M.Inquire head a x c validate nonce credential signature key) i w bars = passed l _ _ _ bars (inquire-does l ok (head .id) validate)
-  any-does ok (M.Authority head acked fields) i w bars = passed l _ _ _ bars (authority-does l ok acked (R.isHere (fields .cpa)) (bars .0))
-  any-does ok (M.Ack head acked flags b) i w bars = passed l _ _ _ bars (ack-does l ok acked b (bars .0))
+  any-does ok (M.Flood head s validate token revokes route reached) i w bars = flood-does m l ok head s validate route (w .1) bars
+  any-does ok (M.Inquire head a x c validate nonce credential signature key) i w bars = passed m l _ _ _ bars (inquire-does m l ok (head .id) validate)
+  any-does ok (M.Authority head acked fields) i w bars = passed m l _ _ _ bars (authority-does m l ok acked (R.isHere (fields .cpa)) (bars .0))
+  any-does ok (M.Ack head acked flags b) i w bars = passed m l _ _ _ bars (ack-does m l ok acked b (bars .0))
   any-does ok (M.Lookup head a precision criteria reason target validate route path credential signature key) i w bars =
-      passed l _ _ _ bars (lookup-does l ok (head .id) target)
+      passed m l _ _ _ bars (lookup-does m l ok (head .id) target)
 
-  pub receives-does : Bytes (l .datagram) → receiveCall l .given .number ≡ 0 → S.Receives (lent l) l (asGiven (receiveCall l))
+  pub receives-does : Bytes (l .datagram) → receiveCall m l .answer .number ≡ 0 → S.Receives m l (receiveCall m l)
   receives-does b z =
       let a = R.answer (l .datagram) (l .major) in
-      let i = is-message l z in
-      let d = any-does (fine l z) a i (known-answer (l .datagram) (l .major)) (message-fails l z)
+      let i = is-message m l z in
+      let d = any-does (fine m l z) a i (known-answer (l .datagram) (l .major)) (message-fails m l z)
       (answer-hears (l .datagram) b (l .major) (message-zero a i)) in
-      subst (λ (h : H.Handed). S.Receives (lent l) l (asGiven h)) (sym (call-by l (plan-is l z))) d
+      subst (S.Receives m l) (sym (call-by m l (plan-is m l z))) d

@@ -19,16 +19,14 @@ use Rattle.kept.proofs.ListLaws.{Test, pass, fail, test}
 use Rattle.cache.specs.Form.{cacheForm}
 use Rattle.waiting.specs.Place.{idOf, placeKey}
 use Rattle.waiting.specs.Form.{placesOf}
-use Rattle.gauge_plan.specs.Ids.{idAfter}
+use Rattle.asking.specs.Ids.{idAfter}
 use Rattle.gauge_plan.specs.Memory.{tablesFit, handsFit}
 use Rattle.gauge_plan.proofs.MemoryLaws.{ready, known-hands}
-use Rattle.gauge.specs.Lent.{Receive}
-use Rattle.sentences.specs.Words.{Memory}
+use Rattle.gauge_plan.specs.Lent.{Memory, Receive}
 use Rattle.sentences.specs.Heard.{Heard, entry, revoke, inquire, authority, ack, lookup, other}
 use Rattle.sentences.specs.Sentences as S
 use Rattle.sentences.specs.Numbers as Num
 use Rattle.sentences.proofs.OneLaws.{reply-one}
-use Rattle.sentences.proofs.WordLaws.{lent}
 use Rattle.sentences.proofs.FirstLaws.{Row}
 
 -- 7 to 14, by what was heard
@@ -76,16 +74,16 @@ pub no-room-by : (output : List ℕ) (ds : List (List ℕ)) → length (joined d
 no-room-by output ds h (inl w) = w
 no-room-by output ds h (inr w) = absurd (omega (arith, joined-in (w .0) ds (w .1), w .2))
 
-module _ (l : Receive) where
+module _ (m : Memory) (l : Receive) where
   -- the clauses of the call
   abbrev pub Clause : ℕ → Type 0
-  Clause n = Num.ReceiveApplies (lent l) l n
+  Clause n = Num.ReceiveApplies m l n
 
   -- ---- 1
 
-  pub fit-lent : tablesFit (l .own) (l .cache) (l .waiting) ≡ true → handsFit (l .cpa) (l .nonce) (l .key) ≡ true → Num.ReceiveLent l
+  pub fit-lent : tablesFit (l .own) m ≡ true → handsFit (l .cpa) (l .nonce) (l .key) ≡ true → Num.ReceiveLent m l
   fit-lent e h =
-      let r = ready (l .own) (l .cache) (l .waiting) e in
+      let r = ready (l .own) m e in
       let w = known-hands (l .cpa) (l .nonce) (l .key) h in
       record {
         own = r .owned;
@@ -97,11 +95,11 @@ module _ (l : Receive) where
         key = w .keyed;
       }
 
-  pub lent-tables : Num.ReceiveLent l → tablesFit (l .own) (l .cache) (l .waiting) ≡ true
+  pub lent-tables : Num.ReceiveLent m l → tablesFit (l .own) m ≡ true
   unfolding tablesFit
   lent-tables w = rw (w .own, w .cache, w .waiting) refl
 
-  pub lent-hands : Num.ReceiveLent l → handsFit (l .cpa) (l .nonce) (l .key) ≡ true
+  pub lent-hands : Num.ReceiveLent m l → handsFit (l .cpa) (l .nonce) (l .key) ≡ true
   unfolding handsFit
   lent-hands w =
       rw (
@@ -111,10 +109,10 @@ module _ (l : Receive) where
         eq-eqb (length (l .key)) 32 (w .key),
       ) refl
 
-  pub is-lent : ¬ Clause 1 → Num.ReceiveLent l
-  is-lent h = go (test (tablesFit (l .own) (l .cache) (l .waiting))) (test (handsFit (l .cpa) (l .nonce) (l .key)))
+  pub is-lent : ¬ Clause 1 → Num.ReceiveLent m l
+  is-lent h = go (test (tablesFit (l .own) m)) (test (handsFit (l .cpa) (l .nonce) (l .key)))
     where
-      go : Test (tablesFit (l .own) (l .cache) (l .waiting)) → Test (handsFit (l .cpa) (l .nonce) (l .key)) → Num.ReceiveLent l
+      go : Test (tablesFit (l .own) m) → Test (handsFit (l .cpa) (l .nonce) (l .key)) → Num.ReceiveLent m l
       go (pass e) (pass d) = fit-lent e d
       go (fail e) d = absurd (h (Num.out-of-form refl (λ w. both (lent-tables w) e)))
       go (pass e) (fail d) = absurd (h (Num.out-of-form refl (λ w. both (lent-hands w) d)))
@@ -122,19 +120,19 @@ module _ (l : Receive) where
   -- ---- 15
 
   abbrev Short : Heard → ℕ → Type 0
-  Short x n = (n ≡ 15) × (ds : List (List ℕ)) × S.Reply (lent l) l x ds × Num.NoRoom (l .output) ds
+  Short x n = (n ≡ 15) × (ds : List (List ℕ)) × S.Reply m l x ds × Num.NoRoom (l .output) ds
 
   abbrev pub Said : Heard → ℕ → Type 0
-  Said x n = Refused (lent l) l x n ⊎ Short x n
+  Said x n = Refused m l x n ⊎ Short x n
 
-  pub short-to : (x : Heard) (ds : List (List ℕ)) (n need : ℕ) → S.Reply (lent l) l x ds → length (joined ds) ≡ need
+  pub short-to : (x : Heard) (ds : List (List ℕ)) (n need : ℕ) → S.Reply m l x ds → length (joined ds) ≡ need
       → (n ≡ 15) × (ltb (length (l .output)) need ≡ true) → Short x n
   short-to x ds n need r e w = (w .0, ds, r, inl (let h = ltb-true (length (l .output)) need (w .1) in omega arith))
 
-  pub short-from : (x : Heard) (ds : List (List ℕ)) (n need : ℕ) → cacheForm (keyOf (l .own)) (l .cache) ≡ true → S.Reply (lent l) l x ds
+  pub short-from : (x : Heard) (ds : List (List ℕ)) (n need : ℕ) → cacheForm (keyOf (l .own)) (m .cache) ≡ true → S.Reply m l x ds
       → length (joined ds) ≡ need → need ≤ 1232 → Short x n → (n ≡ 15) × (ltb (length (l .output)) need ≡ true)
   short-from x ds n need f r e few w =
-      let h = no-room-by (l .output) ds (omega arith) (subst (Num.NoRoom (l .output)) (reply-one (lent l) l f x (w .1) ds (w .2) r) (w .3)) in
+      let h = no-room-by (l .output) ds (omega arith) (subst (Num.NoRoom (l .output)) (reply-one m l f x (w .1) ds (w .2) r) (w .3)) in
       (w .0, lt-ltb (length (l .output)) need (omega arith))
 
   -- nothing is sent: no room is needed
@@ -154,5 +152,5 @@ module _ (l : Receive) where
   abbrev pub Both : ℕ → Heard → List Refusal → Type 0
   Both n x rs = (Said x n → Row n rs) × (Row n rs → Said x n)
 
-  pub good : (n : ℕ) → First n → Before 1 n → Num.ReceiveLent l
+  pub good : (n : ℕ) → First n → Before 1 n → Num.ReceiveLent m l
   good n low h = is-lent (low 1 h)

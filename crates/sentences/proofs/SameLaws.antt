@@ -18,17 +18,17 @@ use Rattle.refusal.proofs.TableLaws.{AllFail, all-fail, both, places-differ}
 use Rattle.refusal.proofs.CallLaws.{number-is}
 use Rattle.kept.proofs.PutLaws.{Tri, less, more, tri}
 use Rattle.kept.proofs.PutLaws as put
-use Rattle.wire_fields.specs.Shapes.{Kind}
+use Rattle.wire_shapes.specs.Shapes.{Kind}
 use Rattle.wire_fields.specs.Kinds.{kindsOf, present}
 use Rattle.wire_fields.specs.Message.{opening, typeOf}
 use Rattle.wire_fields.specs.Refusals as fields
 use Rattle.wire_fields.specs.Refusals.{fieldsIn, refusals}
 use Rattle.wire_read.specs.Answers as R
 use Rattle.wire_read.specs.Meaning.{numberOf}
-use Rattle.gauge_commit.specs.Sending.{answer}
-use Rattle.gauge.specs.Lent.{Receive, receive}
+use Rattle.gauge_commit.specs.Sending.{answer, Handed, handed}
+use Rattle.gauge_plan.specs.Lent.{Memory, Receive, hearing, Call, receives}
 use Rattle.gauge_laws.proofs.TableLaws.{shown-message}
-use Rattle.sentences.specs.Words.{Memory, Call, receives, Given, given, Gauge}
+use Rattle.gauge.specs.Words.{Gauge}
 use Rattle.sentences.specs.Heard.{Heard, entry, revoke, inquire, authority, ack, lookup, other, Hears}
 use Rattle.sentences.specs.Sentences as S
 use Rattle.sentences.specs.Numbers as Num
@@ -55,13 +55,15 @@ module _ (l : Receive) where
 
 -- ---- from one datagram to the other
 
-module _ (m : Memory) (own cpa : List ℕ) (major minor id : ℕ) (nonce : List ℕ) (verdict : ℕ) (key output d d′ : List ℕ) (b : Bytes d) (x : Heard)
-    (a : Hears d major x) (a′ : Hears d′ major x) where
+module _ (m : Memory) (c : Receive) (d d′ : List ℕ) (b : Bytes d) (x : Heard) (a : Hears d (c .major) x) (a′ : Hears d′ (c .major) x) where
+  abbrev major : ℕ
+  major = c .major
+
   abbrev l : Receive
-  l = receive own cpa (m .cache) (m .waiting) major minor id nonce verdict key d output
+  l = hearing d c
 
   abbrev l′ : Receive
-  l′ = receive own cpa (m .cache) (m .waiting) major minor id nonce verdict key d′ output
+  l′ = hearing d′ c
 
   fails : AllFail (refusals d major)
   fails = zero-fails l (hears-answer d b major x a .0)
@@ -69,7 +71,7 @@ module _ (m : Memory) (own cpa : List ℕ) (major minor id : ℕ) (nonce : List 
   heard-too : (y : Heard) → Hears d major y → Hears d′ major y
   heard-too y h = subst (Hears d′ major) (hears-one d major x y a h) a′
 
-  lent-too : Num.ReceiveLent l → Num.ReceiveLent l′
+  lent-too : Num.ReceiveLent m l → Num.ReceiveLent m l′
   lent-too w =
       record {
         own = w .own;
@@ -81,7 +83,7 @@ module _ (m : Memory) (own cpa : List ℕ) (major minor id : ℕ) (nonce : List 
         key = w .key;
       }
 
-  lent-back : Num.ReceiveLent l′ → Num.ReceiveLent l
+  lent-back : Num.ReceiveLent m l′ → Num.ReceiveLent m l
   lent-back w =
       record {
         own = w .own;
@@ -112,7 +114,7 @@ module _ (m : Memory) (own cpa : List ℕ) (major minor id : ℕ) (nonce : List 
   leaves-too (lookup i target) left w = w
   leaves-too other left w = absurd w
 
-  does-too : (h : Given) → S.Receives m l h → S.Receives m l′ h
+  does-too : (h : Handed) → S.Receives m l h → S.Receives m l′ h
   does-too h w =
       record {
         x = w .x;
@@ -176,35 +178,33 @@ module _ (A B : ℕ → Type 0) (to : (n : ℕ) → A n → B n) (from : (n : �
 
 -- ---- the whole
 
-module _ (g : Gauge) (p : MeetsSentences g) (m : Memory) (own cpa : List ℕ) (major minor id : ℕ) (nonce : List ℕ) (verdict : ℕ)
-    (key output d d′ : List ℕ) (small : id < 2 ^ 32) (b : Bytes d) (b′ : Bytes d′) (x : Heard) (a : Hears d major x) (a′ : Hears d′ major x) where
+module _ (g : Gauge) (p : MeetsSentences g) (m : Memory) (l : Receive) (d d′ : List ℕ) (small : l .id < 2 ^ 32) (b : Bytes d) (b′ : Bytes d′)
+    (x : Heard) (a : Hears d (l .major) x) (a′ : Hears d′ (l .major) x) where
   abbrev c : Call
-  c = receives own cpa major minor id nonce verdict key d output
+  c = receives (hearing d l)
 
   abbrev c′ : Call
-  c′ = receives own cpa major minor id nonce verdict key d′ output
+  c′ = receives (hearing d′ l)
 
   number-same : g m c .answer .number ≡ g m c′ .answer .number
   number-same =
       numbers-same (Num.Applies m c) (Num.Applies m c′)
-      (applies-too m own cpa major minor id nonce verdict key output d d′ b x a a′)
-      (applies-too m own cpa major minor id nonce verdict key output d′ d b′ x a′ a)
+      (applies-too m l d d′ b x a a′) (applies-too m l d′ d b′ x a′ a)
       (g m c .answer .number) (g m c′ .answer .number) (p .table .number m c (b, small)) (p .table .accepted m c (b, small))
       (p .table .number m c′ (b′, small)) (p .table .accepted m c′ (b′, small))
 
   whole-same : (n : ℕ) → g m c .answer .number ≡ n → g m c ≡ g m c′
   whole-same zero e =
       let none = p .table .accepted m c′ (b′, small) .0 (sym number-same ∙ e) in
-      receives-one m (receive own cpa (m .cache) (m .waiting) major minor id nonce verdict key d′ output)
+      receives-one m (hearing d′ l)
       (holds _ (λ f. none 1 (Num.out-of-form refl (λ w. both (w .cache) f))))
       (holds _ (λ f. none 1 (Num.out-of-form refl (λ w. both (w .waiting) f))))
       (g m c) (g m c′)
-      (does-too m own cpa major minor id nonce verdict key output d d′ b x a a′ (g m c) (p .does m c (b, small) e))
+      (does-too m l d d′ b x a a′ (g m c) (p .does m c (b, small) e))
       (p .does m c′ (b′, small) (sym number-same ∙ e))
   whole-same (suc n) e =
-      p .table .keeps m c (omega arith) ∙ ap (λ (k : ℕ). given (answer k 0 0) m output) number-same
+      p .table .keeps m c (omega arith) ∙ ap (λ (k : ℕ). handed (answer k 0 0) m (l .output)) number-same
       ∙ sym (p .table .keeps m c′ (omega (arith, number-same)))
 
 pub same-heard : SameHeard
-same-heard g p m own cpa major minor id nonce verdict key output d d′ small b b′ x a a′ =
-    whole-same g p m own cpa major minor id nonce verdict key output d d′ small b b′ x a a′ _ refl
+same-heard g p m l d d′ small b b′ x a a′ = whole-same g p m l d d′ small b b′ x a a′ _ refl

@@ -4,10 +4,12 @@ use mathlib.Core.Logic.{_↔_}
 use Prim.Native.Nat.{ℕ, _<_}
 use native.Mathlib.Omega.{arith}
 use Rattle.refusal.specs.Table.{Refusal}
-use Rattle.gauge.specs.Lent.{receive, send}
+use Rattle.gauge_plan.specs.Lent.{Memory, Call, receives, sends, ticks, lists}
+use Rattle.gauge.specs.Words.{Gauge, Typed}
+use Rattle.gauge.specs.Ours.{ours}
 use Rattle.gauge_laws.specs.Table.{tableOf}
-use Rattle.sentences.specs.Words.{Memory, Call, receives, sends, ticks, lists, Gauge, Typed}
-use Rattle.sentences.specs.Ours.{ours}
+use Rattle.gauge_laws.proofs.TableLaws.{exactly, accepted}
+use Rattle.gauge_laws.proofs.RefusedLaws.{refused-keeps}
 use Rattle.sentences.specs.Sentences as S
 use Rattle.sentences.specs.Numbers as Num
 use Rattle.sentences.specs.Meets as Meets
@@ -17,35 +19,30 @@ use Rattle.sentences.proofs.OtherLaws.{tick-agree, list-agree, send-agr
 use Rattle.sentences.proofs.DoesLaws.{ticks-does, lists-does, sends-does}
 use Rattle.sentences.proofs.ReceiveLaws.{receives-does}
 use Rattle.sentences.proofs.OneLaws.{one-gauge}
-use Rattle.sentences.proofs.OursLaws.{lent, ours-exactly, ours-accepted, ours-keeps}
 
-agree : (m : Memory) (c : Call) → Typed c → Agree (Num.Applies m c) (tableOf (lent m c))
-agree m (receives own cpa major minor id nonce verdict key datagram output) ty =
-    receive-agree (receive own cpa (m .cache) (m .waiting) major minor id nonce verdict key datagram output) (ty .0)
-agree m (sends own major minor id neighbour key output) ty = send-agree (send own (m .cache) (m .waiting) major minor id neighbour key output)
-agree m (ticks own output) ty = tick-agree own output m
-agree m (lists own output) ty = list-agree own output m
+agree : (m : Memory) (c : Call) → Typed c → Agree (Num.Applies m c) (tableOf m c)
+agree m (receives l) ty = receive-agree m l (ty .0)
+agree m (sends l) ty = send-agree m l
+agree m (ticks l) ty = tick-agree m l
+agree m (lists l) ty = list-agree m l
 
 does : (m : Memory) (c : Call) → Typed c → ours m c .answer .number ≡ 0 → S.Does m c (ours m c)
-unfolding ours
-does m (receives own cpa major minor id nonce verdict key datagram output) ty z =
-    receives-does (receive own cpa (m .cache) (m .waiting) major minor id nonce verdict key datagram output) (ty .0) z
-does m (sends own major minor id neighbour key output) ty z =
-    sends-does (send own (m .cache) (m .waiting) major minor id neighbour key output) ty z
-does m (ticks own output) ty z = ticks-does own m output z
-does m (lists own output) ty z = lists-does own m output z
+does m (receives l) ty z = receives-does m l (ty .0) z
+does m (sends l) ty z = sends-does m l ty z
+does m (ticks l) ty z = ticks-does m l z
+does m (lists l) ty z = lists-does m l z
 
 pub ours-meets-table : Meets.MeetsTable ours
 ours-meets-table = record {
   number = λ m c ty n p.
-      let e = ours-exactly m c n p in
-      let f = first-iff (Num.Applies m c) (tableOf (lent m c)) (agree m c ty) n in
+      let e = exactly m c n p in
+      let f = first-iff (Num.Applies m c) (tableOf m c) (agree m c ty) n in
       (λ h. f .0 (e .0 h), λ h. e .1 (f .1 h));
   accepted = λ m c ty.
-      let e = ours-accepted m c in
-      let f = none-iff (Num.Applies m c) (tableOf (lent m c)) (agree m c ty) in
+      let e = accepted m c in
+      let f = none-iff (Num.Applies m c) (tableOf m c) (agree m c ty) in
       (λ h. f .0 (e .0 h), λ h. e .1 (f .1 h));
-  keeps = ours-keeps;
+  keeps = refused-keeps;
 }
 
 pub ours-meets : Meets.MeetsSentences ours

@@ -14,23 +14,20 @@ use Rattle.record.specs.Record.{keyOf}
 use Rattle.kept.specs.Keys.{_∈_}
 use Rattle.cache.specs.Form.{heldOf}
 use Rattle.waiting.specs.Place.{idOf, kindOf}
-use Rattle.waiting.specs.Form.{isInquiry, anyOf, placesOf}
-use Rattle.waiting.specs.Seek.{seek, isAt}
-use Rattle.waiting.specs.declared.seek.Found.{Found}
+use Rattle.table.specs.Rows.{anyOf}
+use Rattle.waiting.specs.Form.{isInquiry, placesOf}
+use Rattle.table.specs.Seek.{seek}
+use Rattle.waiting.specs.Seek.{isAt}
+use Rattle.table.specs.declared.Found.{Found}
 use Rattle.wire_read.specs.Meaning.{numberOf}
 use Rattle.wire_read.specs.declared.Answer as T
 use Rattle.wire_read.specs.declared.Answer.the-variants as M
-use Rattle.gauge_plan.specs.Flood.{mustAsk}
-use Rattle.gauge_plan.specs.Answering.{isNothing, placeOf}
-use Rattle.gauge.specs.Lent.{Receive}
+use Rattle.asking.specs.Asking.{mustAsk}
+use Rattle.gauge_plan.specs.Found.{isNothing, placeOf}
+use Rattle.gauge_plan.specs.Lent.{Memory}
 use Rattle.gauge_laws.proofs.TableLaws.{IsMessage}
-use Rattle.sentences.specs.Words.{Memory, memory}
 use Rattle.sentences.specs.Sentences as S
 use Rattle.sentences.proofs.MoveLaws.{holds-not, none-in, in-none, found-in, seek-some, seek-none, is-inquiry, inquiry-is}
-
--- memory as lent
-abbrev pub lent : Receive → Memory
-lent l = memory (l .cache) (l .waiting)
 
 -- ---- tests and what they say
 

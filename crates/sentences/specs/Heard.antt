@@ -8,7 +8,7 @@ use lib.Dec.{eqb}
 use lib.ListN.{getD}
 use Rattle.octet.specs.Number.{valueBE}
 use Rattle.record.specs.Entry.{recordOf}
-use Rattle.wire_fields.specs.Shapes.{Kind}
+use Rattle.wire_shapes.specs.Shapes.{Kind}
 use Rattle.wire_fields.specs.Kinds.{present}
 use Rattle.wire_fields.specs.Message.{Contents, Message, Reads}
 

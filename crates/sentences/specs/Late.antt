@@ -7,34 +7,36 @@ use mathlib.Core.List.{List, [], _∷_}
 use mathlib.Core.Path.{_≡_}
 use Rattle.key.specs.Number.{keyAt}
 use Rattle.record.specs.Record.{keyOf}
+use Rattle.own.specs.Own.{ownKeys}
 use Rattle.kept.specs.Keys.{Every}
-use Rattle.sentences.specs.Words.{Memory, Call, receives, sends, ticks, lists, Gauge, left, Typed, OneKey}
+use Rattle.gauge_plan.specs.Lent.{Memory, Call, receives, sends, ticks, lists}
+use Rattle.gauge.specs.Words.{Gauge, left, Typed, OneKey}
 use Rattle.sentences.specs.Heard.{entry, revoke, authority, Hears}
 use Rattle.sentences.specs.Sentences.{Holds, MustAsk}
 use Rattle.sentences.specs.Meets.{MeetsSentences}
 
 -- a FLOOD that revokes the key u, by the host's verdict; an AUTHORITY whose CPA is good for it
 abbrev pub Revokes : ℕ → Call → Type 0
-Revokes u (receives own cpa major minor id nonce verdict key datagram output) =
-    (i : ℕ) × (silent : Bool) × (validate : ℕ) × Hears datagram major (revoke i silent validate) × (keyAt 0 key ≡ u)
-Revokes u (sends own major minor id neighbour key output) = ⊥
-Revokes u (ticks own output) = ⊥
-Revokes u (lists own output) = ⊥
+Revokes u (receives l) =
+    (i : ℕ) × (silent : Bool) × (validate : ℕ) × Hears (l .datagram) (l .major) (revoke i silent validate) × (keyAt 0 (l .key) ≡ u)
+Revokes u (sends l) = ⊥
+Revokes u (ticks l) = ⊥
+Revokes u (lists l) = ⊥
 
 abbrev pub Answers : ℕ → Call → Type 0
-Answers u (receives own cpa major minor id nonce verdict key datagram output) =
-    (acked : ℕ) × (c : Bool) × Hears datagram major (authority acked c) × (keyAt 0 key ≡ u)
-Answers u (sends own major minor id neighbour key output) = ⊥
-Answers u (ticks own output) = ⊥
-Answers u (lists own output) = ⊥
+Answers u (receives l) = (acked : ℕ) × (c : Bool) × Hears (l .datagram) (l .major) (authority acked c) × (keyAt 0 (l .key) ≡ u)
+Answers u (sends l) = ⊥
+Answers u (ticks l) = ⊥
+Answers u (lists l) = ⊥
 
 -- a FLOOD of a record of the key, which must be inquired about
 abbrev pub AsksFor : ℕ → Memory → Call → Type 0
-AsksFor u m (receives own cpa major minor id nonce verdict key datagram output) =
-    (i : ℕ) × (silent : Bool) × (validate : ℕ) × (r : List ℕ) × Hears datagram major (entry i silent validate r) × (keyOf r ≡ u) × MustAsk (keyOf own) m r
-AsksFor u m (sends own major minor id neighbour key output) = ⊥
-AsksFor u m (ticks own output) = ⊥
-AsksFor u m (lists own output) = ⊥
+AsksFor u m (receives l) =
+    (i : ℕ) × (silent : Bool) × (validate : ℕ) × (r : List ℕ) × Hears (l .datagram) (l .major) (entry i silent validate r) × (keyOf r ≡ u)
+    × MustAsk (ownKeys (l .own)) m r
+AsksFor u m (sends l) = ⊥
+AsksFor u m (ticks l) = ⊥
+AsksFor u m (lists l) = ⊥
 
 -- of calls one after the other no accepted one asks for the key
 abbrev pub NoneAsks : Gauge → ℕ → Memory → List Call → Type 0

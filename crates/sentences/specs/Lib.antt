@@ -1,6 +1,3 @@
-pub mod Words
-pub mod Ours
-pub mod Contracts
 pub mod Heard
 pub mod Sentences
 pub mod Numbers

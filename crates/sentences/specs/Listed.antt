@@ -13,20 +13,23 @@ use Rattle.octet.specs.Part.{part}
 use Rattle.key.specs.Number.{keyAt}
 use Rattle.kept.specs.Keys.{Every}
 use Rattle.waiting.specs.Place.{idOf, triesOf}
-use Rattle.sentences.specs.Words.{Memory, Call, receives, sends, ticks, lists, Given, Gauge, left, Typed}
+use Rattle.gauge_plan.specs.Lent.{Memory, Tick, tick, Call, receives, sends, ticks, lists}
+use Rattle.gauge_commit.specs.Sending.{Handed}
+use Rattle.gauge.specs.Words.{Gauge, left, Typed}
 use Rattle.sentences.specs.Heard.{revoke, authority, ack, Hears}
 use Rattle.sentences.specs.Sentences.{Waits, Inquiry}
 use Rattle.sentences.specs.Meets.{MeetsSentences}
 
 -- the call answers the place, or is a tick. It is answered by an AUTHORITY or an ACK with its ID, and an inquiry by a revocation of its key
 abbrev pub Concerns : List ℕ → Call → Type 0
-Concerns p (receives own cpa major minor id nonce verdict key datagram output) =
-    ((cpa : Bool) × Hears datagram major (authority (idOf p) cpa))
-    ⊎ ((n : Bool) × Hears datagram major (ack (idOf p) n))
-    ⊎ ((i : ℕ) × (silent : Bool) × (validate : ℕ) × Hears datagram major (revoke i silent validate) × Inquiry (keyAt 0 key) p)
-Concerns p (sends own major minor id neighbour key output) = ⊥
-Concerns p (ticks own output) = Unit {0}
-Concerns p (lists own output) = ⊥
+Concerns p (receives l) =
+    ((cpa : Bool) × Hears (l .datagram) (l .major) (authority (idOf p) cpa))
+    ⊎ ((n : Bool) × Hears (l .datagram) (l .major) (ack (idOf p) n))
+    ⊎ ((i : ℕ) × (silent : Bool) × (validate : ℕ) × Hears (l .datagram) (l .major) (revoke i silent validate)
+    × Inquiry (keyAt 0 (l .key)) p)
+Concerns p (sends l) = ⊥
+Concerns p (ticks l) = Unit {0}
+Concerns p (lists l) = ⊥
 
 -- of calls one after the other no accepted one concerns the place; a refused one may be any
 abbrev pub NoneConcerns : Gauge → List ℕ → Memory → List Call → Type 0
@@ -36,18 +39,17 @@ NoneConcerns g p m (c ∷ cs) = Typed c × (g m c .answer .number ≡ 0 → ¬ C
 -- calls, and a tick after them
 pub record Round : Type 0 where
   pub calls : List Call
-  pub own : List ℕ
-  pub output : List ℕ
+  pub tick : Tick
 
-abbrev pub tickOf : Gauge → Memory → Round → Given
-tickOf g m r = g (left g m (r .calls)) (ticks (r .own) (r .output))
+abbrev pub tickOf : Gauge → Memory → Round → Handed
+tickOf g m r = g (left g m (r .calls)) (ticks (r .tick))
 
 -- none of the calls concerns the place, and the tick is accepted
 abbrev pub Passes : Gauge → List ℕ → Memory → Round → Type 0
 Passes g p m r = NoneConcerns g p m (r .calls) × (tickOf g m r .answer .number ≡ 0)
 
 -- the ID is one of the numbers that a tick's output begins with, as many as counted
-abbrev pub Listed : ℕ → Given → Type 0
+abbrev pub Listed : ℕ → Handed → Type 0
 Listed id h = (i : ℕ) × (i < h .answer .first) × (valueLE 256 (part (4 * i) 4 (h .output)) ≡ id)
 
 -- no place with the ID waits
@@ -65,10 +67,10 @@ ListedTwice =
 
 -- how many of calls one after the other are accepted ticks
 abbrev pub isTick : Call → Bool
-isTick (receives own cpa major minor id nonce verdict key datagram output) = false
-isTick (sends own major minor id neighbour key output) = false
-isTick (ticks own output) = true
-isTick (lists own output) = false
+isTick (receives l) = false
+isTick (sends l) = false
+isTick (ticks l) = true
+isTick (lists l) = false
 
 abbrev pub tickCount : Gauge → Memory → List Call → ℕ
 tickCount g m [] = 0

@@ -9,37 +9,37 @@ use lib.ListN.{length, getD}
 use Rattle.octet.specs.Part.{part}
 use Rattle.key.specs.Number.{keyAt}
 use Rattle.key.specs.Around.{above}
-use Rattle.record.specs.Record.{keyOf, recordForm}
+use Rattle.record.specs.Record.{keyOf}
+use Rattle.own.specs.Own.{ownKeys, ownForm, IsOwn}
 use Rattle.table.specs.Rows.{joined}
 use Rattle.kept.specs.Keys.{_∈_}
 use Rattle.cache.specs.Form.{cacheForm}
 use Rattle.waiting.specs.Place.{idOf, placeKey}
 use Rattle.waiting.specs.Form.{placesOf, waitingForm}
-use Rattle.wire_fields.specs.Shapes.{splitForm}
+use Rattle.wire_shapes.specs.Shapes.{splitForm}
 use Rattle.wire_fields.specs.Kinds.{kindsOf}
 use Rattle.wire_fields.specs.Message.{opening, typeOf}
-use Rattle.wire_fields.specs.Field.{numberAt}
-use Rattle.gauge_plan.specs.Ids.{idAfter}
-use Rattle.gauge.specs.Lent.{Receive, receive, Send, send}
-use Rattle.sentences.specs.Words.{Memory, Call, receives, sends, ticks, lists}
+use Rattle.wire_shapes.specs.Field.{numberAt}
+use Rattle.asking.specs.Ids.{idAfter}
+use Rattle.gauge_plan.specs.Lent.{Memory, Receive, Send, Call, receives, sends, ticks, lists}
 use Rattle.sentences.specs.Heard.{Heard, entry, revoke, inquire, authority, ack, other, Hears}
 use Rattle.sentences.specs.Sentences.{Holds, Waits, WaitsAs, MustAsk, Reply, Named, flooding}
 
 -- memory lent as it should be: "Each call on the cache or the waiting table is lent the own record too"; "Own CPA: 1 to 1,024 bytes"; "a 16-byte nonce"; "A key handed
 -- in has 32 bytes"
-pub record ReceiveLent (l : Receive) : Type 0 where
-  pub own : recordForm (l .own) ≡ true
-  pub cache : cacheForm (keyOf (l .own)) (l .cache) ≡ true
-  pub waiting : waitingForm (keyOf (l .own)) (l .waiting) ≡ true
+pub record ReceiveLent (m : Memory) (l : Receive) : Type 0 where
+  pub own : ownForm (l .own) ≡ true
+  pub cache : cacheForm (ownKeys (l .own)) (m .cache) ≡ true
+  pub waiting : waitingForm (ownKeys (l .own)) (m .waiting) ≡ true
   pub cpa-least : 1 ≤ length (l .cpa)
   pub cpa-most : length (l .cpa) ≤ 1024
   pub nonce : length (l .nonce) ≡ 16
   pub key : length (l .key) ≡ 32
 
-pub record SendLent (l : Send) : Type 0 where
-  pub own : recordForm (l .own) ≡ true
-  pub cache : cacheForm (keyOf (l .own)) (l .cache) ≡ true
-  pub waiting : waitingForm (keyOf (l .own)) (l .waiting) ≡ true
+pub record SendLent (m : Memory) (l : Send) : Type 0 where
+  pub own : ownForm (l .own) ≡ true
+  pub cache : cacheForm (ownKeys (l .own)) (m .cache) ≡ true
+  pub waiting : waitingForm (ownKeys (l .own)) (m .waiting) ≡ true
   pub neighbour : length (l .neighbour) ≡ 32
   pub key : length (l .key) ≡ 32
 
@@ -63,7 +63,7 @@ NoRoom output ds = (length output < length (joined ds)) ⊎ ((d : List ℕ) × (
 -- a datagram received: the number applies, row by row of the table
 pub data ReceiveApplies (m : Memory) (l : Receive) (n : ℕ) : Type 0 where
   -- 1 "lent memory is not as above"
-  out-of-form : n ≡ 1 → ¬ ReceiveLent l → ReceiveApplies m l n
+  out-of-form : n ≡ 1 → ¬ ReceiveLent m l → ReceiveApplies m l n
   -- 2 "datagram shorter than 12 or longer than 1,232 bytes"
   wrong-length : n ≡ 2 → ¬ ((12 ≤ length (l .datagram)) × (length (l .datagram) ≤ 1232)) → ReceiveApplies m l n
   -- 3 "first five bytes are not 00 10 00 0C 51"
@@ -88,16 +88,16 @@ pub data ReceiveApplies (m : Memory) (l : Receive) (n : ℕ) : Type 0 where
   other-key : n ≡ 10 → (acked : ℕ) → Says l (authority acked true) → l .verdict ≡ 1 → (p : List ℕ) → WaitsAs m 2 acked p
       → ¬ (placeKey p ≡ keyAt 0 (l .key)) → ReceiveApplies m l n
   -- 11 "route entry or revocation in a FLOOD names the own key": a revocation names the key that the verdict is good for
-  own-entry : n ≡ 11 → (id : ℕ) (silent : Bool) (validate : ℕ) (r : List ℕ) → Says l (entry id silent validate r) → keyOf r ≡ keyOf (l .own)
+  own-entry : n ≡ 11 → (id : ℕ) (silent : Bool) (validate : ℕ) (r : List ℕ) → Says l (entry id silent validate r) → IsOwn (ownKeys (l .own)) (keyOf r)
       → ReceiveApplies m l n
   own-revocation : n ≡ 11 → (id : ℕ) (silent : Bool) (validate : ℕ) → Says l (revoke id silent validate) → l .verdict ≡ 1
-      → keyAt 0 (l .key) ≡ keyOf (l .own) → ReceiveApplies m l n
+      → IsOwn (ownKeys (l .own)) (keyAt 0 (l .key)) → ReceiveApplies m l n
   -- 12 "INQUIRE for a key other than ours"
-  not-ours : n ≡ 12 → (id validate : ℕ) → Says l (inquire id validate) → ¬ (validate ≡ keyOf (l .own)) → ReceiveApplies m l n
+  not-ours : n ≡ 12 → (id validate : ℕ) → Says l (inquire id validate) → ¬ IsOwn (ownKeys (l .own)) validate → ReceiveApplies m l n
   -- 13 "a place must be opened and its ID is waiting already"; 14 "a place must be opened and all 16 are used"
-  id-waits : n ≡ 13 → (id : ℕ) (silent : Bool) (validate : ℕ) (r : List ℕ) → Says l (entry id silent validate r) → MustAsk (keyOf (l .own)) m r
+  id-waits : n ≡ 13 → (id : ℕ) (silent : Bool) (validate : ℕ) (r : List ℕ) → Says l (entry id silent validate r) → MustAsk (ownKeys (l .own)) m r
       → (p : List ℕ) → Waits m p → idOf p ≡ idAfter (l .id) → ReceiveApplies m l n
-  all-used : n ≡ 14 → (id : ℕ) (silent : Bool) (validate : ℕ) (r : List ℕ) → Says l (entry id silent validate r) → MustAsk (keyOf (l .own)) m r
+  all-used : n ≡ 14 → (id : ℕ) (silent : Bool) (validate : ℕ) (r : List ℕ) → Says l (entry id silent validate r) → MustAsk (ownKeys (l .own)) m r
       → length (placesOf (m .waiting)) ≡ 16 → ReceiveApplies m l n
   -- 15 "output needs more bytes than lent, or a datagram over 1,232"
   no-room : n ≡ 15 → (x : Heard) → Says l x → (ds : List (List ℕ)) → Reply m l x ds → NoRoom (l .output) ds → ReceiveApplies m l n
@@ -105,9 +105,9 @@ pub data ReceiveApplies (m : Memory) (l : Receive) (n : ℕ) : Type 0 where
 -- a FLOOD to send
 pub data SendApplies (m : Memory) (l : Send) (n : ℕ) : Type 0 where
   -- 1 "lent memory is not as above"
-  send-out-of-form : n ≡ 1 → ¬ SendLent l → SendApplies m l n
+  send-out-of-form : n ≡ 1 → ¬ SendLent m l → SendApplies m l n
   -- 12 "a FLOOD to send whose neighbour is not held, or whose record is neither ours nor held"
-  not-neighbour : n ≡ 12 → ¬ ((r : List ℕ) × Holds (keyOf (l .own)) m r × (keyOf r ≡ keyAt 0 (l .neighbour))) → SendApplies m l n
+  not-neighbour : n ≡ 12 → ¬ ((r : List ℕ) × Holds (ownKeys (l .own)) m r × (keyOf r ≡ keyAt 0 (l .neighbour))) → SendApplies m l n
   not-named : n ≡ 12 → ¬ ((r : List ℕ) × Named m l r) → SendApplies m l n
   -- 13 "a place must be opened and its ID is waiting already"; 14 "a place must be opened and all 16 are used"; 15
   send-id-waits : n ≡ 13 → (p : List ℕ) → Waits m p → idOf p ≡ l .id → SendApplies m l n
@@ -116,10 +116,9 @@ pub data SendApplies (m : Memory) (l : Send) (n : ℕ) : Type 0 where
 
 -- "The list needs room for 16 numbers of 32 bits, else 15"; "Output shorter than 320 bytes: 15"
 abbrev pub Applies : Memory → Call → ℕ → Type 0
-Applies m (receives own cpa major minor id nonce verdict key datagram output) n =
-    ReceiveApplies m (receive own cpa (m .cache) (m .waiting) major minor id nonce verdict key datagram output) n
-Applies m (sends own major minor id neighbour key output) n = SendApplies m (send own (m .cache) (m .waiting) major minor id neighbour key output) n
-Applies m (ticks own output) n =
-    ((n ≡ 1) × (¬ ((recordForm own ≡ true) × (waitingForm (keyOf own) (m .waiting) ≡ true)))) ⊎ ((n ≡ 15) × (length output < 64))
-Applies m (lists own output) n =
-    ((n ≡ 1) × (¬ ((recordForm own ≡ true) × (cacheForm (keyOf own) (m .cache) ≡ true)))) ⊎ ((n ≡ 15) × (length output < 320))
+Applies m (receives l) n = ReceiveApplies m l n
+Applies m (sends l) n = SendApplies m l n
+Applies m (ticks l) n =
+    ((n ≡ 1) × (¬ ((ownForm (l .own) ≡ true) × (waitingForm (ownKeys (l .own)) (m .waiting) ≡ true)))) ⊎ ((n ≡ 15) × (length (l .output) < 64))
+Applies m (lists l) n =
+    ((n ≡ 1) × (¬ ((ownForm (l .own) ≡ true) × (cacheForm (ownKeys (l .own)) (m .cache) ≡ true)))) ⊎ ((n ≡ 15) × (length (l .output) < 320))

@@ -4,13 +4,13 @@ use Prim.Native.Nat.{ℕ, _^_, _<_}
 use mathlib.Core.List.{List}
 use mathlib.Core.Path.{_≡_}
 use Rattle.octet.specs.Number.{Bytes}
-use Rattle.sentences.specs.Words.{Memory, receives, Gauge}
+use Rattle.gauge_plan.specs.Lent.{Memory, Receive, hearing, receives}
+use Rattle.gauge.specs.Words.{Gauge}
 use Rattle.sentences.specs.Heard.{Heard, Hears}
 use Rattle.sentences.specs.Meets.{MeetsSentences}
 
 -- two datagrams that say the same: the same number, the same counts, and every byte
 abbrev pub SameHeard : Type 0
 SameHeard =
-    (g : Gauge) → MeetsSentences g → (m : Memory) (own cpa : List ℕ) (major minor id : ℕ) (nonce : List ℕ) (verdict : ℕ) (key output d d′ : List ℕ)
-    → id < 2 ^ 32 → Bytes d → Bytes d′ → (x : Heard) → Hears d major x → Hears d′ major x
-    → g m (receives own cpa major minor id nonce verdict key d output) ≡ g m (receives own cpa major minor id nonce verdict key d′ output)
+    (g : Gauge) → MeetsSentences g → (m : Memory) (l : Receive) (d d′ : List ℕ) → l .id < 2 ^ 32 → Bytes d → Bytes d′
+    → (x : Heard) → Hears d (l .major) x → Hears d′ (l .major) x → g m (receives (hearing d l)) ≡ g m (receives (hearing d′ l))

@@ -12,21 +12,21 @@ use Rattle.octet.specs.Part.{part}
 use Rattle.key.specs.Number.{keyAt}
 use Rattle.key.specs.Around.{Side, below, above, sideOf, nearness, closer}
 use Rattle.record.specs.Record.{keyOf}
+use Rattle.own.specs.Own.{ownKeys, IsOwn}
 use Rattle.kept.specs.Keys.{_∈_, Rising, plain}
 use Rattle.kept.specs.Neighbours.{IsNeighbours, onSide}
 use Rattle.cache.specs.Form.{keysOf, placesIn, heldOf, cacheForm}
-use Rattle.cache.specs.Bytes.{keyBytes}
+use Rattle.neighbours.specs.Listing.{keyBytes}
 use Rattle.waiting.specs.Place.{idOf, kindOf, triesOf, placeKey, placeRecord, inquiryPlace, floodPlace}
 use Rattle.waiting.specs.Form.{placesOf, waitingForm}
 use Rattle.waiting.specs.Tick.{oneLess, idBytes}
-use Rattle.wire_fields.specs.Shapes.{Kind}
+use Rattle.wire_shapes.specs.Shapes.{Kind}
 use Rattle.wire_fields.specs.Kinds.{floodKinds, inquireKinds, authorityKinds, ackKinds}
 use Rattle.wire_fields.specs.Message.{Message, bytesOf, layoutOf}
 use Rattle.wire_write.specs.Sent.{ackSent, floodSent, inquireSent, cpaSent, closestSent}
-use Rattle.gauge_plan.specs.Ids.{idAfter}
-use Rattle.gauge_commit.specs.Sending.{answer, lengths, sending}
-use Rattle.gauge.specs.Lent.{Receive, receive, Send, send}
-use Rattle.sentences.specs.Words.{Memory, Call, receives, sends, ticks, lists, Given, given}
+use Rattle.asking.specs.Ids.{idAfter}
+use Rattle.gauge_commit.specs.Sending.{answer, lengths, sending, Handed, handed}
+use Rattle.gauge_plan.specs.Lent.{Memory, Receive, Send, Call, receives, sends, ticks, lists}
 use Rattle.sentences.specs.Heard.{Heard, entry, revoke, inquire, authority, ack, lookup, other, Hears}
 
 -- ---- views: what is held and what waits, for the own key k
@@ -62,7 +62,7 @@ written ks msg = bytesOf (layoutOf ks msg)
 
 -- "accepted; the lengths of up to two datagrams to send are returned, in the order written, 0 for one not there": they stand one after the other at the output's
 -- start, and the rest of it is as lent
-pub record Sent (output : List ℕ) (ds : List (List ℕ)) (h : Given) : Type 0 where
+pub record Sent (output : List ℕ) (ds : List (List ℕ)) (h : Handed) : Type 0 where
   pub counts : h .answer ≡ lengths ds
   pub bytes : h .output ≡ sending ds output
 
@@ -74,7 +74,7 @@ MustAsk k m r = (¬ Holds k m r) × (¬ ((p : List ℕ) × Waits m p × Inquiry 
 
 -- "N set when the validate key is not ours"
 abbrev pub NSet : Receive → ℕ → Bool → Type 0
-NSet l validate n = (n ≡ true) ↔ (¬ (validate ≡ keyOf (l .own)))
+NSet l validate n = (n ≡ true) ↔ (¬ IsOwn (ownKeys (l .own)) validate)
 
 -- "If D is clear, an ACK is written", with the given ID
 abbrev pub acks : Receive → ℕ → Bool → Bool → List (List ℕ)
@@ -86,7 +86,7 @@ asks l ask r = cond ask (written inquireKinds (inquireSent (l .major) (l .minor)
 
 -- "the record closest to the target, the own record included"; "the shorter way round; at equal distance .. the key reached by going down" (02, Wish 4)
 abbrev pub Candidate : Memory → Receive → List ℕ → Type 0
-Candidate m l r = (r ≡ l .own) ⊎ Holds (keyOf (l .own)) m r
+Candidate m l r = (r ≡ l .own) ⊎ Holds (ownKeys (l .own)) m r
 
 pub record Closest (m : Memory) (l : Receive) (target : ℕ) (r : List ℕ) : Type 0 where
   pub candidate : Candidate m l r
@@ -96,7 +96,7 @@ pub record EntryReply (m : Memory) (l : Receive) (id : ℕ) (silent : Bool) (val
   pub n : Bool
   pub ask : Bool
   pub set : NSet l validate n
-  pub asked : (ask ≡ true) ↔ MustAsk (keyOf (l .own)) m r
+  pub asked : (ask ≡ true) ↔ MustAsk (ownKeys (l .own)) m r
   pub are : ds ≡ acks l id silent n ++ asks l ask r
 
 pub record RevokeReply (l : Receive) (id : ℕ) (silent : Bool) (validate : ℕ) (ds : List (List ℕ)) : Type 0 where
@@ -170,17 +170,17 @@ pub record Ack (k : ℕ) (m : Memory) (acked : ℕ) (n : Bool) (left : Memory) :
 
 -- INQUIRE and LOOKUP leave memory as it was: "The route entry in a LOOKUP is not learned"
 abbrev pub Leaves : Memory → Receive → Heard → Memory → Type 0
-Leaves m l (entry id silent validate r) left = FloodEntry (keyOf (l .own)) m l r left
-Leaves m l (revoke id silent validate) left = FloodRevokes (keyOf (l .own)) m (keyAt 0 (l .key)) left
+Leaves m l (entry id silent validate r) left = FloodEntry (ownKeys (l .own)) m l r left
+Leaves m l (revoke id silent validate) left = FloodRevokes (ownKeys (l .own)) m (keyAt 0 (l .key)) left
 Leaves m l (inquire id validate) left = left ≡ m
-Leaves m l (authority acked cpa) left = Authority (keyOf (l .own)) m acked left
-Leaves m l (ack acked n) left = Ack (keyOf (l .own)) m acked n left
+Leaves m l (authority acked cpa) left = Authority (ownKeys (l .own)) m acked left
+Leaves m l (ack acked n) left = Ack (ownKeys (l .own)) m acked n left
 Leaves m l (lookup id target) left = left ≡ m
 Leaves m l other left = ⊥
 
 -- ---- what each call does, accepted
 
-pub record Receives (m : Memory) (l : Receive) (h : Given) : Type 0 where
+pub record Receives (m : Memory) (l : Receive) (h : Handed) : Type 0 where
   pub x : Heard
   pub hears : Hears (l .datagram) (l .major) x
   pub ds : List (List ℕ)
@@ -190,23 +190,23 @@ pub record Receives (m : Memory) (l : Receive) (h : Given) : Type 0 where
 
 -- "a FLOOD to send .. whose record is neither ours nor held": the record is ours, or the one held with the key
 abbrev pub Named : Memory → Send → List ℕ → Type 0
-Named m l r = ((keyAt 0 (l .key) ≡ keyOf (l .own)) × (r ≡ l .own))
-    ⊎ ((¬ (keyAt 0 (l .key) ≡ keyOf (l .own))) × Holds (keyOf (l .own)) m r × (keyOf r ≡ keyAt 0 (l .key)))
+Named m l r = (IsOwn (ownKeys (l .own)) (keyAt 0 (l .key)) × (r ≡ l .own))
+    ⊎ ((¬ IsOwn (ownKeys (l .own)) (keyAt 0 (l .key))) × Holds (ownKeys (l .own)) m r × (keyOf r ≡ keyAt 0 (l .key)))
 
 abbrev pub flooding : Send → List ℕ → List (List ℕ)
 flooding l r = written floodKinds (floodSent (l .major) (l .minor) (l .id) (l .neighbour) r) ∷ []
 
 -- "Sending a FLOOD. D clear, validate key the neighbour's, one record, empty list of those already reached; a place with the neighbour's key opens with two tries
 -- left."
-pub record Sends (m : Memory) (l : Send) (h : Given) : Type 0 where
+pub record Sends (m : Memory) (l : Send) (h : Handed) : Type 0 where
   pub r : List ℕ
   pub named : Named m l r
   pub sent : Sent (l .output) (flooding l r) h
   pub cache : h .memory .cache ≡ m .cache
-  pub table : WaitsExactly (keyOf (l .own)) (h .memory .waiting) (λ (p : List ℕ). Waits m p ⊎ (p ≡ floodPlace (l .id) (l .neighbour)))
+  pub table : WaitsExactly (ownKeys (l .own)) (h .memory .waiting) (λ (p : List ℕ). Waits m p ⊎ (p ≡ floodPlace (l .id) (l .neighbour)))
 
 -- "Tick. Each place with tries left loses one and its ID is listed, increasing; one with none is freed."
-pub record Ticks (k : ℕ) (m : Memory) (output : List ℕ) (h : Given) : Type 0 where
+pub record Ticks (k : ℕ) (m : Memory) (output : List ℕ) (h : Handed) : Type 0 where
   pub ids : List ℕ
   pub rising : Rising plain 0 ids
   pub listed : (i : ℕ) → (i ∈ ids) ↔ ((p : List ℕ) × Waits m p × (0 < triesOf p) × (idOf p ≡ i))
@@ -216,7 +216,7 @@ pub record Ticks (k : ℕ) (m : Memory) (output : List ℕ) (h : Given) : Type 0
   pub table : WaitsExactly k (h .memory .waiting) (λ (q : List ℕ). (p : List ℕ) × Waits m p × (0 < triesOf p) × (q ≡ oneLess p))
 
 -- "Neighbour list. Up to five keys below, then up to five above, nearest first, 32 bytes each; both counts returned": what is handed back is that of these keys
-pub record NeighbourList (k : ℕ) (keys output : List ℕ) (h : Given) : Type 0 where
+pub record NeighbourList (k : ℕ) (keys output : List ℕ) (h : Handed) : Type 0 where
   pub low : List ℕ
   pub high : List ℕ
   pub nearest-below : IsNeighbours (sideOf k) (nearness k) below keys low
@@ -225,13 +225,12 @@ pub record NeighbourList (k : ℕ) (keys output : List ℕ) (h : Given) : Type 0
   pub bytes : h .output ≡ sending (keyBytes (low ++ high) ∷ []) output
 
 -- of the keys held
-pub record Lists (k : ℕ) (m : Memory) (output : List ℕ) (h : Given) : Type 0 where
+pub record Lists (k : ℕ) (m : Memory) (output : List ℕ) (h : Handed) : Type 0 where
   pub listed : NeighbourList k (keysOf (heldOf k (m .cache))) output h
   pub same : h .memory ≡ m
 
-abbrev pub Does : Memory → Call → Given → Type 0
-Does m (receives own cpa major minor id nonce verdict key datagram output) h =
-    Receives m (receive own cpa (m .cache) (m .waiting) major minor id nonce verdict key datagram output) h
-Does m (sends own major minor id neighbour key output) h = Sends m (send own (m .cache) (m .waiting) major minor id neighbour key output) h
-Does m (ticks own output) h = Ticks (keyOf own) m output h
-Does m (lists own output) h = Lists (keyOf own) m output h
+abbrev pub Does : Memory → Call → Handed → Type 0
+Does m (receives l) h = Receives m l h
+Does m (sends l) h = Sends m l h
+Does m (ticks l) h = Ticks (ownKeys (l .own)) m (l .output) h
+Does m (lists l) h = Lists (ownKeys (l .own)) m (l .output) h

@@ -36,7 +36,7 @@ fn put_call(
     answer: u32,
     call: &[u8],
 ) -> usize {
-    if night::is_end(answer) {
+    if trace::is_end(answer) {
         return text::put(line, at, b"a record that cannot be used");
     }
     match message::byte(call, 2) {

@@ -18,7 +18,7 @@ const NAMES: usize = 65536;
 
 // The record that opens the night: whose it is. Answers whether to go on.
 fn open(line: &mut [u8], names: &[u8], opening: &[u8], answer: u32) -> bool {
-    if night::is_end(answer) {
+    if trace::is_end(answer) {
         call::say_heading();
         call::say_call(line, names, 0, 0, answer, b"");
         return false;
@@ -41,7 +41,7 @@ fn go_on(
 ) -> bool {
     call::say_call(line, names, at, whose::major(opening), answer, record);
     totals::count(counts, answer);
-    !night::is_end(answer)
+    !trace::is_end(answer)
 }
 
 // The trace has ended. Where it had no record at all, the opening one is missing.
@@ -64,7 +64,7 @@ fn one(
     waiting: &mut [u8],
     counts: &mut [u64; 18],
 ) -> bool {
-    let len = night::next_record(room);
+    let len = trace::next_record(room);
     if len == 0 {
         return end(line, at);
     }
@@ -131,7 +131,7 @@ fn say_end(
 fn main() {
     let mut line = [0u8; LINE];
     let mut names = [0u8; NAMES];
-    let mut room = [0u8; night::RECORD];
+    let mut room = [0u8; trace::RECORD];
     let mut opening = [0u8; night::OPENING];
     let mut cache = [0u8; night::CACHE];
     let mut waiting = [0u8; night::WAITING];

@@ -136,8 +136,8 @@ fn waits(own: &[u8], waiting: &[u8]) -> usize {
     if own.len() < 32 {
         return 0;
     }
-    let formed = waiting::form(own, waiting);
-    if let waiting::Formed::Good(used) = formed {
+    let formed = waiting_form::form(own, waiting);
+    if let waiting_form::Formed::Good(used) = formed {
         return used;
     }
     0

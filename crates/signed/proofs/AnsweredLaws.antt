@@ -29,43 +29,44 @@ use Rattle.cache.proofs.KeepLaws.{learnt-form, removed-form}
 use Rattle.waiting.specs.Place.{idOf, kindOf, placeKey, placeRecord, newPlace, inquiryPlace, floodPlace}
 use Rattle.waiting.specs.Form as W
 use Rattle.waiting.specs.Form.{isInquiry, placesOf}
-use Rattle.waiting.specs.Seek.{seek, hasId}
+use Rattle.table.specs.Seek.{seek}
+use Rattle.waiting.specs.Seek.{hasId}
 use Rattle.waiting.specs.Open.{opened, freed}
 use Rattle.waiting.specs.Tick.{oneLess}
-use Rattle.waiting.specs.declared.seek.Found.{Found}
-use Rattle.waiting.specs.declared.seek.Found.the-variants.{At, Nothing}
+use Rattle.table.specs.declared.Found.{Found}
+use Rattle.table.specs.declared.Found.the-variants.{At, Nothing}
 use Rattle.waiting.proofs.PlaceLaws.{less-id, less-kind, less-record}
 use Rattle.waiting.proofs.NewLaws.{new-id, new-record}
 use Rattle.waiting.proofs.FormLaws.{form-unique}
 use Rattle.waiting.proofs.KeptLaws.{free-kept, open-inquiry}
 use Rattle.waiting.proofs.RoundLaws.{All, all-none, all-at, all-map, all-both, all-freed, all-opened, all-ticked}
 use Rattle.wire_read.specs.Answers as R
-use Rattle.gauge_plan.specs.Ids.{idAfter}
+use Rattle.asking.specs.Ids.{idAfter}
 use Rattle.gauge_plan.specs.declared.Plan.{Plan}
 use Rattle.gauge_plan.specs.declared.Plan.the-variants.{Refuse, Flood, Revoke, Learn, Free, Certify, Show}
 use Rattle.gauge_plan.proofs.MemoryLaws.{Ready}
-use Rattle.gauge_plan.proofs.FloodLaws.{ask-tells}
+use Rattle.asking.proofs.AskingLaws.{ask-tells}
 use Rattle.gauge_commit.specs.Replies.{freedAt}
 use Rattle.gauge_commit.specs.declared.Answer.{Answer}
 use Rattle.gauge_commit.proofs.PlaceLaws.{record-place, record-key}
-use Rattle.gauge.specs.Lent.{Receive, receive, send}
-use Rattle.gauge.specs.Handed.{Handed}
-use Rattle.gauge.specs.Receive.{receivePlan, carried, receiveCall}
+use Rattle.gauge_plan.specs.Lent.{Memory, empty, Receive, Call, receives, sends, ticks, lists}
+use Rattle.gauge_commit.specs.Sending.{Handed}
+use Rattle.plan_message.specs.Planned.{receivePlan}
+use Rattle.gauge.specs.Receive.{carried, receiveCall}
 use Rattle.gauge.specs.Send.{sendCall}
-use Rattle.gauge.specs.Counts.{TickHanded, gaugeTick}
-use Rattle.gauge.proofs.ReceiveLaws.{Known, Flooded, known, learn-needs}
-use Rattle.gauge_laws.proofs.RefusedLaws.{receive-refused, tick-refused}
+use Rattle.gauge.specs.Counts.{gaugeTick, gaugeList}
+use Rattle.plan_message.proofs.PlannedLaws.{Known, Flooded, known, learn-needs}
+use Rattle.gauge_laws.proofs.RefusedLaws.{refused-keeps}
 use Rattle.gauge_laws.proofs.MovedLaws.{ready-form, ready-places, receive-ready, send-moved}
 use Rattle.gauge_laws.proofs.TickLaws.{tick-round}
 use Rattle.gauge_laws.proofs.FormLaws.{send-cache}
-use Rattle.sentences.specs.Words.{Memory, memory, Call, receives, sends, ticks, lists, empty, left, OneKey, Typed, Proper}
-use Rattle.sentences.specs.Ours.{asGiven, ours}
+use Rattle.gauge.specs.Words.{left, OneKey, Typed, Proper}
+use Rattle.gauge.specs.Ours.{ours}
 use Rattle.signed.specs.Answered.{Told, told, toldFrom, inquires, inquired, thatOf, answeredBy, answered, firstOf, HoldsLastAnswered}
 use Rattle.signed.proofs.ToldLaws.{happened, log-happened}
 use Rattle.signed.proofs.StepLaws.{moved-all, ran}
 use Rattle.signed.proofs.Theorems.{empty-cache, empty-table, start, typed-calls}
-use Rattle.signed.proofs.InquiryLaws.{Quiet, Floods, Heard, heard, callOf, asked-still}
-use Rattle.signed.proofs.InquiryLaws.{asked-none, asked-other, asked-here, answered-still, answered-one, inquires-is}
+use Rattle.signed.proofs.InquiryLaws.{Quiet, Floods, Heard, heard, asked-still, asked-none, asked-other, asked-here, answered-still, answered-one, inquires-is}
 
 -- ---- what stands in the tables after an edit
 
@@ -131,14 +132,14 @@ asked-later : (es es′ : List Told) → ((id : ℕ) → inquired id es′ ≡ i
 asked-later es es′ same ps a = all-map (Asked es) (Asked es′) (λ p h kind. same (idOf p) ∙ h kind) ps a
 
 -- a FLOOD with a route entry
-module _ (l : Receive) (es : List Told) (u : ℕ) (s n : Bool) (a start len : ℕ) where
+module _ (m : Memory) (l : Receive) (es : List Told) (u : ℕ) (s n : Bool) (a start len : ℕ) where
   abbrev Entry : List ℕ
   Entry = recordOf (part start len (l .datagram))
 
   abbrev Given : Bool → Answer
-  Given opens = carried l (Flood u s n a opens start len) .given
+  Given opens = carried m l (Flood u s n a opens start len) .answer
 
-  module _ (opens : Bool) (k : Flooded l u s n a opens start len) where
+  module _ (opens : Bool) (k : Flooded m l u s n a opens start len) where
     entry-long : length Entry ≡ 100
     entry-long = form-length Entry (record-form (part start len (l .datagram)) (k .entry))
 
@@ -147,19 +148,19 @@ module _ (l : Receive) (es : List Told) (u : ℕ) (s n : Bool) (a start len : �
     asks-told = inquires-is (l .major) (l .minor) (l .id) a (l .nonce) Entry (k .hands .nonced) entry-long s n opens
 
   -- the place that opens is that of the INQUIRE, and no other has its ID
-  opened-asked : (k : Flooded l u s n a true start len) → Floods l (R.answer (l .datagram) (l .major)) start len
-      → All (Asked es) (placesOf (l .waiting))
-      → All (Asked (told (callOf l) (Given true) ∷ es))
-      (placesOf (bytesOf 2240 (opened (inquiryPlace (idAfter (l .id)) Entry) (rows 140 u (l .waiting)))))
+  opened-asked : (k : Flooded m l u s n a true start len) → Floods m l (R.answer (l .datagram) (l .major)) start len
+      → All (Asked es) (placesOf (m .waiting))
+      → All (Asked (told (receives l) (Given true) ∷ es))
+      (placesOf (bytesOf 2240 (opened (inquiryPlace (idAfter (l .id)) Entry) (rows 140 u (m .waiting)))))
   opened-asked k f asked =
-      let t = l .waiting in
+      let t = m .waiting in
       let own = keyOf (l .own) in
       let ps = rows 140 u t in
       let i = idAfter (l .id) in
       let p = inquiryPlace i Entry in
-      let later = told (callOf l) (Given true) ∷ es in
-      let is = ready-places (l .own) (l .cache) t (k .ready) in
-      let form : W.Form own t ps = subst (W.Form own t) is (ready-form (l .own) (l .cache) t (k .ready)) in
+      let later = told (receives l) (Given true) ∷ es in
+      let is = ready-places (l .own) m (k .ready) in
+      let form : W.Form own t ps = subst (W.Form own t) is (ready-form (l .own) m (k .ready)) in
       let few = k .ready .few in
       let free = k .plans .free refl in
       let new = k .plans .new refl in
@@ -171,94 +172,94 @@ module _ (l : Receive) (es : List Told) (u : ℕ) (s n : Bool) (a start len : �
       (ne-eqb (keyOf Entry) own (k .plans .other)) new (ask-tells _ _ Entry (sym (k .plans .opens-is)) .1) in
       let here : Asked later p =
       λ kind. ap (λ (j : ℕ). inquired j later) (new-id i 2 2 (part 0 32 Entry) Entry short long small)
-      ∙ asked-here l (Given true) es start len f (asks-told true k)
+      ∙ asked-here m l (Given true) es start len f (asks-told true k)
       ∙ ap (λ (r : List ℕ). some r) (sym (new-record i 2 2 (part 0 32 Entry) Entry short long)) in
       let others : All (Asked later) ps =
-      all-both (λ (q : List ℕ). hasId i q ≡ false) (Asked es) (Asked later) (λ q other h kind. asked-other l (Given true) es (idOf q) other ∙ h kind)
+      all-both (λ (q : List ℕ). hasId i q ≡ false) (Asked es) (Asked later) (λ q other h kind. asked-other m l (Given true) es (idOf q) other ∙ h kind)
       ps (all-none (hasId i) ps new) (subst (All (Asked es)) is asked) in
       subst (All (Asked later)) (form-unique own (bytesOf 2240 (opened p ps)) (opened p ps) after) (all-opened (Asked later) p ps here others)
 
-  flood-asked : (opens : Bool) → Flooded l u s n a opens start len → Floods l (R.answer (l .datagram) (l .major)) start len
-      → All (Asked es) (placesOf (l .waiting))
-      → All (Asked (told (callOf l) (Given opens) ∷ es)) (placesOf (carried l (Flood u s n a opens start len) .waiting))
+  flood-asked : (opens : Bool) → Flooded m l u s n a opens start len → Floods m l (R.answer (l .datagram) (l .major)) start len
+      → All (Asked es) (placesOf (m .waiting))
+      → All (Asked (told (receives l) (Given opens) ∷ es)) (placesOf (carried m l (Flood u s n a opens start len) .memory .waiting))
   unfolding carried
   flood-asked true k f asked = opened-asked k f asked
   flood-asked false k f asked =
-      asked-later es (told (callOf l) (Given false) ∷ es) (asked-none l (Given false) es (asks-told false k)) (placesOf (l .waiting)) asked
+      asked-later es (told (receives l) (Given false) ∷ es) (asked-none m l (Given false) es (asks-told false k)) (placesOf (m .waiting)) asked
 
-module _ (l : Receive) (es : List Told) (b : Holds (keyOf (l .own)) es (memory (l .cache) (l .waiting))) where
+module _ (m : Memory) (l : Receive) (es : List Told) (b : Holds (keyOf (l .own)) es m) where
   abbrev OwnKey : ℕ
   OwnKey = keyOf (l .own)
 
   -- where nothing is answered, and nothing asked
   last-still : (g : Answer) → ((fs : List Told) → answeredBy fs (R.answer (l .datagram) (l .major)) ≡ []) → (cache : List ℕ)
-      → Every (Last (answered es)) (heldOf OwnKey cache) → Every (Last (answered (told (callOf l) g ∷ es))) (heldOf OwnKey cache)
-  last-still g q cache a = subst (λ (rs : List (List ℕ)). Every (Last rs) (heldOf OwnKey cache)) (sym (answered-still l g es q)) a
+      → Every (Last (answered es)) (heldOf OwnKey cache) → Every (Last (answered (told (receives l) g ∷ es))) (heldOf OwnKey cache)
+  last-still g q cache a = subst (λ (rs : List (List ℕ)). Every (Last rs) (heldOf OwnKey cache)) (sym (answered-still m l g es q)) a
 
-  quiet-holds : (g : Answer) (m : Memory) → Quiet l (R.answer (l .datagram) (l .major)) → All (Asked es) (placesOf (m .waiting))
-      → Every (Last (answered es)) (heldOf OwnKey (m .cache)) → Holds OwnKey (told (callOf l) g ∷ es) m
-  quiet-holds g m q asked last = record {
-    asked = asked-later es (told (callOf l) g ∷ es) (asked-still l g es (q .asked)) (placesOf (m .waiting)) asked;
-    last = last-still g (q .answers) (m .cache) last;
+  quiet-holds : (g : Answer) (m′ : Memory) → Quiet m l (R.answer (l .datagram) (l .major)) → All (Asked es) (placesOf (m′ .waiting))
+      → Every (Last (answered es)) (heldOf OwnKey (m′ .cache)) → Holds OwnKey (told (receives l) g ∷ es) m′
+  quiet-holds g m′ q asked last = record {
+    asked = asked-later es (told (receives l) g ∷ es) (asked-still m l g es (q .asked)) (placesOf (m′ .waiting)) asked;
+    last = last-still g (q .answers) (m′ .cache) last;
   }
 
   -- with the records and places as the plan counts them
-  module _ {h u : ℕ} (ready : Ready (l .own) (l .cache) (l .waiting) h u) where
-    last-rows : Every (Last (answered es)) (rows 100 h (l .cache))
-    last-rows = subst (Every (Last (answered es))) (form-held OwnKey (l .cache) (rows 100 h (l .cache)) (ready .form)) (b .last)
+  module _ {h u : ℕ} (ready : Ready (l .own) m h u) where
+    last-rows : Every (Last (answered es)) (rows 100 h (m .cache))
+    last-rows = subst (Every (Last (answered es))) (form-held OwnKey (m .cache) (rows 100 h (m .cache)) (ready .form)) (b .last)
 
-    asked-rows : All (Asked es) (rows 140 u (l .waiting))
-    asked-rows = subst (All (Asked es)) (ready-places (l .own) (l .cache) (l .waiting) ready) (b .asked)
+    asked-rows : All (Asked es) (rows 140 u (m .waiting))
+    asked-rows = subst (All (Asked es)) (ready-places (l .own) m ready) (b .asked)
 
-    asked-found : (found : Found) → All (Asked es) (placesOf (bytesOf 2240 (freedAt found (rows 140 u (l .waiting)))))
+    asked-found : (found : Found) → All (Asked es) (placesOf (bytesOf 2240 (freedAt found (rows 140 u (m .waiting)))))
     asked-found =
-        let ps = rows 140 u (l .waiting) in
-        all-found OwnKey (l .waiting) ps
-        (subst (W.Form OwnKey (l .waiting)) (ready-places (l .own) (l .cache) (l .waiting) ready) (ready-form (l .own) (l .cache) (l .waiting) ready))
+        let ps = rows 140 u (m .waiting) in
+        all-found OwnKey (m .waiting) ps
+        (subst (W.Form OwnKey (m .waiting)) (ready-places (l .own) m ready) (ready-form (l .own) m ready))
         (Asked es) asked-rows
 
-    last-without : (k : ℕ) → Every (Last (answered es)) (heldOf OwnKey (bytesOf (length (l .cache)) (afterRemove k (rows 100 h (l .cache)))))
-    last-without = last-removed OwnKey (l .cache) (rows 100 h (l .cache)) (ready .form) (answered es) last-rows
+    last-without : (k : ℕ) → Every (Last (answered es)) (heldOf OwnKey (bytesOf (length (m .cache)) (afterRemove k (rows 100 h (m .cache)))))
+    last-without = last-removed OwnKey (m .cache) (rows 100 h (m .cache)) (ready .form) (answered es) last-rows
 
-  plan-holds : (p : Plan) → receivePlan l ≡ p → Known l p → Heard l (R.answer (l .datagram) (l .major)) p
-      → Holds OwnKey (told (callOf l) (carried l p .given) ∷ es) (memory (carried l p .cache) (carried l p .waiting))
+  plan-holds : (p : Plan) → receivePlan m l ≡ p → Known m l p → Heard m l (R.answer (l .datagram) (l .major)) p
+      → Holds OwnKey (told (receives l) (carried m l p .answer) ∷ es) (carried m l p .memory)
   unfolding carried
   plan-holds (Refuse n) e k q = absurd q
   plan-holds (Flood u s n a opens start len) e k q = record {
-    asked = flood-asked l es u s n a start len opens k q (b .asked);
-    last = last-still (Given l es u s n a start len opens) (q .answers) (l .cache) (b .last);
+    asked = flood-asked m l es u s n a start len opens k q (b .asked);
+    last = last-still (Given m l es u s n a start len opens) (q .answers) (m .cache) (b .last);
   }
   plan-holds (Revoke h u s n a) e k q =
-      quiet-holds _ _ q (asked-found (k .ready) (seek (isInquiry (keyAt 0 (l .key))) 0 (rows 140 u (l .waiting))))
+      quiet-holds _ _ q (asked-found (k .ready) (seek (isInquiry (keyAt 0 (l .key))) 0 (rows 140 u (m .waiting))))
       (last-without (k .ready) (keyAt 0 (l .key)))
   plan-holds (Learn h u at) e k q =
-      let p = getD (rows 140 u (l .waiting)) at [] in
+      let p = getD (rows 140 u (m .waiting)) at [] in
       let r = placeRecord p in
-      let g = carried l (Learn h u at) .given in
+      let g = carried m l (Learn h u at) .answer in
       let w = q .waiting in
-      let needs = learn-needs l e in
-      let is = record-place u (l .waiting) at (needs .5) in
+      let needs = learn-needs m l e in
+      let is = record-place u (m .waiting) at (needs .5) in
       let was : inquired (q .acked) es ≡ some r =
       ap (λ (i : ℕ). inquired i es) (sym (w .id-is))
-      ∙ all-at (Asked es) at (rows 140 u (l .waiting)) (asked-rows (k .ready)) (w .within) (w .kind-is) in
-      let now = answered-one l g es r (q .answers es ∙ ap thatOf was) refl in
+      ∙ all-at (Asked es) at (rows 140 u (m .waiting)) (asked-rows (k .ready)) (w .within) (w .kind-is) in
+      let now = answered-one m l g es r (q .answers es ∙ ap thatOf was) refl in
       record {
-        asked = asked-later es (told (callOf l) g ∷ es) (asked-still l g es (q .asked)) (placesOf (carried l (Learn h u at) .waiting))
+        asked = asked-later es (told (receives l) g ∷ es) (asked-still m l g es (q .asked)) (placesOf (carried m l (Learn h u at) .memory .waiting))
             (asked-found (k .ready) (At at));
-        last = subst (λ (rs : List (List ℕ)). Every (Last rs) (heldOf OwnKey (carried l (Learn h u at) .cache))) (sym now)
-            (last-learnt OwnKey (l .cache) (rows 100 h (l .cache)) (k .ready .form) (answered es) (last-rows (k .ready)) r
-            (sym (ap recordForm is) ∙ needs .6) (λ o. needs .7 (sym (record-key u (l .waiting) at) ∙ ap keyOf is ∙ o)));
+        last = subst (λ (rs : List (List ℕ)). Every (Last rs) (heldOf OwnKey (carried m l (Learn h u at) .memory .cache))) (sym now)
+            (last-learnt OwnKey (m .cache) (rows 100 h (m .cache)) (k .ready .form) (answered es) (last-rows (k .ready)) r
+            (sym (ap recordForm is) ∙ needs .6) (λ o. needs .7 (sym (record-key u (m .waiting) at) ∙ ap keyOf is ∙ o)));
       }
   plan-holds (Free h u at true) e k q =
-      quiet-holds _ _ q (asked-found (k .ready) (At at)) (last-without (k .ready) (placeKey (getD (rows 140 u (l .waiting)) at [])))
+      quiet-holds _ _ q (asked-found (k .ready) (At at)) (last-without (k .ready) (placeKey (getD (rows 140 u (m .waiting)) at [])))
   plan-holds (Free h u at false) e k q = quiet-holds _ _ q (asked-found (k .ready) (At at)) (b .last)
   plan-holds (Certify a) e k q = quiet-holds _ _ q (b .asked) (b .last)
   plan-holds (Show h a target) e k q = quiet-holds _ _ q (b .asked) (b .last)
 
-  receive-holds : receiveCall l .given .number ≡ 0
-      → Holds OwnKey (told (callOf l) (receiveCall l .given) ∷ es) (memory (receiveCall l .cache) (receiveCall l .waiting))
+  receive-holds : receiveCall m l .answer .number ≡ 0
+      → Holds OwnKey (told (receives l) (receiveCall m l .answer) ∷ es) (receiveCall m l .memory)
   unfolding receiveCall
-  receive-holds z = plan-holds (receivePlan l) refl (known l) (heard l z)
+  receive-holds z = plan-holds (receivePlan m l) refl (known m l) (heard m l z)
 
 -- ---- any call
 
@@ -267,75 +268,59 @@ flood-kind : (id : ℕ) (key : List ℕ) → kindOf (floodPlace id key) ≡ 1
 unfolding newPlace digitsLE
 flood-kind id key = refl
 
-refused-asked : (l : Receive) (g : Answer) (es : List Told) → 0 < g .number → (id : ℕ) → inquired id (told (callOf l) g ∷ es) ≡ inquired id es
-refused-asked l g es p = asked-none l g es (rw (ne-eqb (g .number) 0 (omega arith)) refl)
+-- a refused call tells nothing
+refused-asked : (c : Call) (g : Answer) (es : List Told) → 0 < g .number → (id : ℕ) → inquired id (told c g ∷ es) ≡ inquired id es
+unfolding inquired
+refused-asked (receives l) g es p id = rw (ne-eqb (g .number) 0 (omega arith)) refl
+refused-asked (sends l) g es p id = refl
+refused-asked (ticks l) g es p id = refl
+refused-asked (lists l) g es p id = refl
 
-refused-answered : (l : Receive) (g : Answer) (es : List Told) → 0 < g .number → answered (told (callOf l) g ∷ es) ≡ answered es
+refused-answered : (c : Call) (g : Answer) (es : List Told) → 0 < g .number → answered (told c g ∷ es) ≡ answered es
 unfolding answered
-refused-answered l g es p = rw (ne-eqb (g .number) 0 (omega arith)) refl
+refused-answered (receives l) g es p = rw (ne-eqb (g .number) 0 (omega arith)) refl
+refused-answered (sends l) g es p = refl
+refused-answered (ticks l) g es p = refl
+refused-answered (lists l) g es p = refl
 
 asked-ticked : (es : List Told) (p : List ℕ) → length p ≡ 140 → Asked es p → Asked es (oneLess p)
 asked-ticked es p long h kind =
     ap (λ (i : ℕ). inquired i es) (less-id p) ∙ h (sym (less-kind p) ∙ kind) ∙ ap (λ (r : List ℕ). some r) (sym (less-record p))
 
--- a datagram received
-module _ (k : ℕ) (es : List Told) (l : Receive) (b : Holds k es (memory (l .cache) (l .waiting)))
-    (one : recordForm (l .own) ≡ true → keyOf (l .own) ≡ k) where
-  receive-step : Holds k (told (callOf l) (receiveCall l .given) ∷ es) (asGiven (receiveCall l) .memory)
-  receive-step = go (receiveCall l .given .number) refl
-    where
-      go : (n : ℕ) → receiveCall l .given .number ≡ n → Holds k (told (callOf l) (receiveCall l .given) ∷ es) (asGiven (receiveCall l) .memory)
-      go zero z =
-          let is = one (receive-ready l z .owned) in
-          subst (λ (j : ℕ). Holds j (told (callOf l) (receiveCall l .given) ∷ es) (asGiven (receiveCall l) .memory)) is
-          (receive-holds l es (subst (λ (j : ℕ). Holds j es (memory (l .cache) (l .waiting))) (sym is) b) z)
-      go (suc n) z =
-          let g = receiveCall l .given in
-          let p : 0 < g .number = omega (arith, z) in
-          subst (Holds k (told (callOf l) g ∷ es)) (sym (ap (λ (h : Handed). asGiven h .memory) (receive-refused l p))) (record {
-            asked = asked-later es (told (callOf l) g ∷ es) (refused-asked l g es p) (placesOf (l .waiting)) (b .asked);
-            last = subst (λ (rs : List (List ℕ)). Every (Last rs) (heldOf k (l .cache))) (sym (refused-answered l g es p)) (b .last);
-          })
-
--- the others tell nothing of inquiries
 module _ (k : ℕ) (es : List Told) (m : Memory) (b : Holds k es m) where
-  send-step : (own : List ℕ) (major minor id : ℕ) (neighbour key output : List ℕ) (g : Answer) → id < 2 ^ 32
-      → Holds k (told (sends own major minor id neighbour key output) g ∷ es)
-      (asGiven (sendCall (send own (m .cache) (m .waiting) major minor id neighbour key output)) .memory)
-  unfolding inquired answered
-  send-step own major minor id neighbour key output g small =
-      let l = send own (m .cache) (m .waiting) major minor id neighbour key output in
+  accepted-step : (c : Call) → OneKey k c → Typed c → ours m c .answer .number ≡ 0 → Holds k (told c (ours m c .answer) ∷ es) (ours m c .memory)
+  unfolding inquired answered gaugeTick gaugeList
+  accepted-step (receives l) one ty z =
+      let is = one (receive-ready m l z .owned) in
+      subst (λ (j : ℕ). Holds j (told (receives l) (receiveCall m l .answer) ∷ es) (receiveCall m l .memory)) is
+      (receive-holds m l es (subst (λ (j : ℕ). Holds j es m) (sym is) b) z)
+  -- the others tell nothing of inquiries
+  accepted-step (sends l) one ty z = record {
+    asked = moved-all (Asked es) (λ (p : List ℕ). p ≡ floodPlace (l .id) (l .neighbour)) (placesOf (m .waiting))
+        (placesOf (sendCall m l .memory .waiting)) (λ p is two. let w = sym (ap kindOf is ∙ flood-kind (l .id) (l .neighbour)) ∙ two in absurd (omega arith))
+        (send-moved m l ty) (b .asked);
+    last = subst (λ (cache : List ℕ). Every (Last (answered es)) (heldOf k cache)) (sym (send-cache m l)) (b .last);
+  }
+  accepted-step (ticks l) one ty z =
+      let r = tick-round m l z in
       record {
-        asked = moved-all (Asked es) (λ (p : List ℕ). p ≡ floodPlace id neighbour) (placesOf (m .waiting)) (placesOf (sendCall l .waiting))
-            (λ p is two. let w = sym (ap kindOf is ∙ flood-kind id neighbour) ∙ two in absurd (omega arith)) (send-moved l small) (b .asked);
-        last = subst (λ (cache : List ℕ). Every (Last (answered es)) (heldOf k cache)) (sym (send-cache l)) (b .last);
+        asked = rw (r .places) (all-ticked (Asked es) (Asked es) (asked-ticked es) (placesOf (m .waiting)) (r .form .sized) (b .asked));
+        last = b .last;
       }
+  accepted-step (lists l) one ty z = record { asked = b .asked; last = b .last }
 
-  tick-step : (own output : List ℕ) (g : Answer)
-      → Holds k (told (ticks own output) g ∷ es) (memory (m .cache) (gaugeTick own (m .waiting) output .waiting))
-  unfolding inquired answered
-  tick-step own output g = record { asked = go (gaugeTick own (m .waiting) output .given .number) refl; last = b .last }
+  call-step : (c : Call) → OneKey k c → Typed c → Holds k (told c (ours m c .answer) ∷ es) (ours m c .memory)
+  call-step c one ty = go (ours m c .answer .number) refl
     where
-      go : (n : ℕ) → gaugeTick own (m .waiting) output .given .number ≡ n → All (Asked es) (placesOf (gaugeTick own (m .waiting) output .waiting))
-      go zero z =
-          let r = tick-round own (m .waiting) output z in
-          rw (r .places) (all-ticked (Asked es) (Asked es) (asked-ticked es) (placesOf (m .waiting)) (r .form .sized) (b .asked))
+      go : (n : ℕ) → ours m c .answer .number ≡ n → Holds k (told c (ours m c .answer) ∷ es) (ours m c .memory)
+      go zero z = accepted-step c one ty z
       go (suc n) z =
-          let same = ap (λ (h : TickHanded). h .waiting) (tick-refused own (m .waiting) output (omega (arith, z))) in
-          subst (λ (t : List ℕ). All (Asked es) (placesOf t)) (sym same) (b .asked)
-
-  list-step : (own output : List ℕ) (g : Answer) → Holds k (told (lists own output) g ∷ es) m
-  unfolding inquired answered
-  list-step own output g = record { asked = b .asked; last = b .last }
-
-call-step : (k : ℕ) (es : List Told) (m : Memory) → Holds k es m → (c : Call) → OneKey k c → Typed c
-    → Holds k (told c (ours m c .answer) ∷ es) (ours m c .memory)
-unfolding ours
-call-step k es m b (receives own cpa major minor id nonce verdict key datagram output) one small =
-    receive-step k es (receive own cpa (m .cache) (m .waiting) major minor id nonce verdict key datagram output) b one
-call-step k es m b (sends own major minor id neighbour key output) one small = send-step k es m b own major minor id neighbour key output _ small
-call-step k es m b (ticks own output) one small = tick-step k es m b own output _
-call-step k es m b (lists own output) one small = list-step k es m b own output _
+          let g = ours m c .answer in
+          let p : 0 < g .number = omega (arith, z) in
+          subst (Holds k (told c g ∷ es)) (sym (ap (λ (h : Handed). h .memory) (refused-keeps m c p))) (record {
+            asked = asked-later es (told c g ∷ es) (refused-asked c g es p) (placesOf (m .waiting)) (b .asked);
+            last = subst (λ (rs : List (List ℕ)). Every (Last rs) (heldOf k (m .cache))) (sym (refused-answered c g es p)) (b .last);
+          })
 
 -- ---- any sequence of calls
 

@@ -22,9 +22,10 @@ use Rattle.cache.specs.Form.{cacheForm, keysOf, heldOf}
 use Rattle.cache.proofs.FormLaws.{true-form, form-room}
 use Rattle.waiting.proofs.FormLaws as WF
 use Rattle.waiting.proofs.RoundLaws.{All}
-use Rattle.gauge_commit.specs.Sending.{OnlyFirst}
-use Rattle.sentences.specs.Words.{Memory, Call, lists, Given, Gauge, empty, left, Entry, entry, log, ownOf, outputOf, returned, InForm, Typed, Proper}
-use Rattle.sentences.specs.Ours.{ours}
+use Rattle.gauge_commit.specs.Sending.{OnlyFirst, Handed}
+use Rattle.gauge_plan.specs.Lent.{Memory, empty, Call, lists, ownOf, outputOf}
+use Rattle.gauge.specs.Words.{Gauge, left, Entry, entry, log, returned, InForm, Typed, Proper}
+use Rattle.gauge.specs.Ours.{ours}
 use Rattle.sentences.specs.Sentences.{NeighbourList}
 use Rattle.sentences.specs.Meets.{MeetsSentences}
 use Rattle.sentences.proofs.Theorems.{acts}
@@ -143,19 +144,18 @@ module _ (g : Gauge) (p : MeetsSentences g) where
   left-same : (m : Memory) (cs : List Call) → Every Typed cs → left g m cs ≡ left ours m cs
   unfolding left
   left-same m [] t = refl
-  left-same m (c ∷ cs) t = ap (λ (h : Given). left g (h .memory) cs) (acts g p m c (t .0)) ∙ left-same (ours m c .memory) cs (t .1)
+  left-same m (c ∷ cs) t = ap (λ (h : Handed). left g (h .memory) cs) (acts g p m c (t .0)) ∙ left-same (ours m c .memory) cs (t .1)
 
   log-same : (m : Memory) (cs : List Call) → Every Typed cs → log g m cs ≡ log ours m cs
   unfolding log
   log-same m [] t = refl
   log-same m (c ∷ cs) t =
-      ap (λ (h : Given). entry c (h .answer .number) ∷ log g (h .memory) cs) (acts g p m c (t .0))
+      ap (λ (h : Handed). entry c (h .answer .number) ∷ log g (h .memory) cs) (acts g p m c (t .0))
       ∙ ap (λ (es : List Entry). entry c (ours m c .answer .number) ∷ es) (log-same (ours m c .memory) cs (t .1))
 
   lists-same : (m n : Memory) → m ≡ n → (k : ℕ) (keys : List ℕ) → ListsThese ours n k keys → ListsThese g m k keys
-  lists-same m n e k keys h own output owned one room =
-      subst (NeighbourList k keys output) (sym (acts g p m (lists own output) tt ∙ ap (λ (x : Memory). ours x (lists own output)) e))
-      (h own output owned one room)
+  lists-same m n e k keys h l owned one room =
+      subst (NeighbourList k keys (l .output)) (sym (acts g p m (lists l) tt ∙ ap (λ (x : Memory). ours x (lists l)) e)) (h l owned one room)
 
 pub restarts : F.Restarts
 restarts g p k C cache form size calls proper =
@@ -173,9 +173,9 @@ pub enough : F.Enough
 enough g p = record {
   demand1 = record {
     table = p .table;
-    first = λ m c ty. subst (λ (h : Given). OnlyFirst (returned c (h .answer)) (outputOf c) (h .output)) (sym (acts g p m c ty))
+    first = λ m c ty. subst (λ (h : Handed). OnlyFirst (returned c (h .answer)) (outputOf c) (h .output)) (sym (acts g p m c ty))
         (meets-demand1 .first m c ty);
-    form = λ m c ty f. subst (λ (h : Given). InForm (keyOf (ownOf c)) (h .memory)) (sym (acts g p m c ty)) (meets-demand1 .form m c ty f);
+    form = λ m c ty f. subst (λ (h : Handed). InForm (keyOf (ownOf c)) (h .memory)) (sym (acts g p m c ty)) (meets-demand1 .form m c ty f);
   };
   demand2 = record {
     one-message = meets-demand2 .one-message;

@@ -19,7 +19,8 @@ use Rattle.refusal.proofs.CallLaws.{or-known}
 use Rattle.table.specs.Rows.{rows}
 use Rattle.cache.specs.Form.{heldIn}
 use Rattle.waiting.specs.Form.{usedOf}
-use Rattle.waiting.specs.Seek.{seek, isAt}
+use Rattle.table.specs.Seek.{seek}
+use Rattle.waiting.specs.Seek.{isAt}
 use Rattle.wire_fields.specs.declared.Part.{Part}
 use Rattle.wire_fields.specs.declared.Part.the-variants.{Here, Absent}
 use Rattle.wire_read.specs.Answers as R
@@ -27,71 +28,72 @@ use Rattle.wire_read.specs.declared.Head.{Head}
 use Rattle.wire_read.specs.declared.Answer as T
 use Rattle.wire_read.specs.declared.Answer.the-variants as M
 use Rattle.wire_write.specs.Making.{inquireMade}
-use Rattle.gauge_plan.specs.Ids.{idAfter}
+use Rattle.asking.specs.Ids.{idAfter}
 use Rattle.gauge_plan.specs.Memory.{tablesFit, memoryOf, handsFit}
-use Rattle.gauge_plan.specs.Flood.{floodPlan, revokePlan}
-use Rattle.gauge_plan.specs.Answering.{placeOf, authorityRefusals, authorityPlan, ackPlan, inquirePlan, lookupPlan}
+use Rattle.plan_flood.specs.Flood.{floodPlan, revokePlan}
+use Rattle.gauge_plan.specs.Found.{placeOf}
+use Rattle.plan_answer.specs.Answering.{authorityRefusals, authorityPlan, ackPlan, inquirePlan, lookupPlan}
 use Rattle.gauge_plan.specs.declared.Plan.{Plan}
 use Rattle.gauge_plan.specs.declared.Plan.the-variants.{Refuse, Flood, Revoke, Learn, Free, Certify, Show}
-use Rattle.gauge_plan.specs.declared.memory.Memory.the-variants.{Fit}
-use Rattle.gauge_plan.proofs.AnsweringLaws.{Waits, waits, some-found}
+use Rattle.gauge_plan.specs.declared.memory.Fitness.the-variants.{Fit}
+use Rattle.gauge_plan.proofs.FoundLaws.{some-found}
+use Rattle.plan_answer.proofs.AnsweringLaws.{Waits, waits}
 use Rattle.gauge_commit.specs.Sending.{lengths}
 use Rattle.gauge_commit.specs.Replies.{acks, asks}
 use Rattle.gauge_commit.specs.declared.Answer.{Answer}
 use Rattle.gauge_commit.proofs.LengthLaws.{ack-length, inquire-length}
-use Rattle.gauge.specs.Lent.{Receive}
-use Rattle.gauge.specs.Receive.{byEntry, planFor, receivePlan, receiveCall}
-use Rattle.gauge.proofs.ReceiveLaws.{plan-message}
-use Rattle.gauge_laws.specs.Calls as G
+use Rattle.gauge_plan.specs.Lent.{Memory, Receive, receives}
+use Rattle.plan_message.specs.Planned.{byEntry, planFor, receivePlan}
+use Rattle.gauge.specs.Receive.{receiveCall}
+use Rattle.plan_message.proofs.PlannedLaws.{plan-message}
 use Rattle.gauge_laws.proofs.TableLaws.{none-applies}
-use Rattle.sentences.specs.Words.{Call, receives}
 use Rattle.signed.specs.Answered.{Told, told, inquires, floodedOr, inquired, thatOf, answeredBy, answered}
 use Rattle.signed.proofs.EventLaws as event
 
 -- ---- what an accepted datagram tells of inquiries, by its plan
 
 -- neither that one is sent nor that one is answered
-pub record Quiet (l : Receive) (a : T.Answer) : Type 0 where
+pub record Quiet (m : Memory) (l : Receive) (a : T.Answer) : Type 0 where
   pub asked : (earlier : Option (List ℕ)) → floodedOr (l .datagram) a earlier ≡ earlier
   pub answers : (es : List Told) → answeredBy es a ≡ []
 
 -- a FLOOD with a route entry
-pub record Floods (l : Receive) (a : T.Answer) (start len : ℕ) : Type 0 where
+pub record Floods (m : Memory) (l : Receive) (a : T.Answer) (start len : ℕ) : Type 0 where
   pub asked : (earlier : Option (List ℕ)) → floodedOr (l .datagram) a earlier ≡ some (recordOf (part start len (l .datagram)))
   pub answers : (es : List Told) → answeredBy es a ≡ []
 
 -- an AUTHORITY: the inquiry that waits with the acked ID
-pub record Answers (l : Receive) (a : T.Answer) (u at : ℕ) : Type 0 where
+pub record Answers (m : Memory) (l : Receive) (a : T.Answer) (u at : ℕ) : Type 0 where
   pub acked : ℕ
-  pub waiting : Waits acked 2 at (rows 140 u (l .waiting))
+  pub waiting : Waits acked 2 at (rows 140 u (m .waiting))
   pub asked : (earlier : Option (List ℕ)) → floodedOr (l .datagram) a earlier ≡ earlier
   pub answers : (es : List Told) → answeredBy es a ≡ thatOf (inquired acked es)
 
-abbrev pub Heard : Receive → T.Answer → Plan → Type 0
-Heard l a (Refuse n) = ⊥
-Heard l a (Flood u s n b o start len) = Floods l a start len
-Heard l a (Revoke h u s n b) = Quiet l a
-Heard l a (Learn h u at) = Answers l a u at
-Heard l a (Free h u at n) = Quiet l a
-Heard l a (Certify b) = Quiet l a
-Heard l a (Show h b at) = Quiet l a
+abbrev pub Heard : Memory → Receive → T.Answer → Plan → Type 0
+Heard m l a (Refuse n) = ⊥
+Heard m l a (Flood u s n b o start len) = Floods m l a start len
+Heard m l a (Revoke h u s n b) = Quiet m l a
+Heard m l a (Learn h u at) = Answers m l a u at
+Heard m l a (Free h u at n) = Quiet m l a
+Heard m l a (Certify b) = Quiet m l a
+Heard m l a (Show h b at) = Quiet m l a
 
-module _ (l : Receive) where
+module _ (m : Memory) (l : Receive) where
   -- behind a table: what is refused is not accepted, and the rest is known where no row applies
-  behind : (a : T.Answer) (rs : List Refusal) (done : Plan) → (AllFail rs → Heard l a done)
-      → event.Told l a (orRefuse Refuse rs done) → Heard l a (orRefuse Refuse rs done)
-  behind a rs done h = or-known (λ (p : Plan). event.Told l a p → Heard l a p) Refuse rs done (λ n t. t) (λ f t. h f)
+  behind : (a : T.Answer) (rs : List Refusal) (done : Plan) → (AllFail rs → Heard m l a done)
+      → event.Told m l a (orRefuse Refuse rs done) → Heard m l a (orRefuse Refuse rs done)
+  behind a rs done h = or-known (λ (p : Plan). event.Told m l a p → Heard m l a p) Refuse rs done (λ n t. t) (λ f t. h f)
 
   heard-flood : (h u : ℕ) (head : Head) (s : Bool) (validate : ℕ) (token revoke entry reached : Part)
-      → event.Told l (M.Flood head s validate token revoke entry reached) (byEntry l h u head s validate entry)
-      → Heard l (M.Flood head s validate token revoke entry reached) (byEntry l h u head s validate entry)
+      → event.Told m l (M.Flood head s validate token revoke entry reached) (byEntry m l h u head s validate entry)
+      → Heard m l (M.Flood head s validate token revoke entry reached) (byEntry m l h u head s validate entry)
   unfolding floodPlan revokePlan
   heard-flood h u head s validate token revoke (Here start len) reached =
       behind _ _ _ (λ f. record { asked = λ earlier. refl; answers = λ es. refl })
   heard-flood h u head s validate token revoke Absent reached =
       behind _ _ _ (λ f. record { asked = λ earlier. refl; answers = λ es. refl })
 
-  heard-message : (h u : ℕ) (a : T.Answer) → event.Told l a (planFor l h u a) → Heard l a (planFor l h u a)
+  heard-message : (h u : ℕ) (a : T.Answer) → event.Told m l a (planFor m l h u a) → Heard m l a (planFor m l h u a)
   unfolding planFor authorityPlan ackPlan inquirePlan lookupPlan
   heard-message h u (M.Refused n) t = t
   heard-message h u (M.Solicit head entry nonce) t = t
@@ -101,7 +103,7 @@ module _ (l : Receive) where
   heard-message h u (M.Inquire head a x c validate nonce credential signature key) t =
       behind _ _ _ (λ f. record { asked = λ earlier. refl; answers = λ es. refl }) t
   heard-message h u (M.Authority head acked fields) t =
-      let ps = rows 140 u (l .waiting) in
+      let ps = rows 140 u (m .waiting) in
       let found = seek (isAt acked 2) 0 ps in
       behind (M.Authority head acked fields) (authorityRefusals ps (l .verdict) (keyAt 0 (l .key)) acked (R.isHere (fields .cpa)))
       (Learn h u (placeOf found)) (λ f. record {
@@ -114,16 +116,16 @@ module _ (l : Receive) where
   heard-message h u (M.Lookup head a precision criteria reason target validate entry path credential signature key) t =
       behind _ _ _ (λ f. record { asked = λ earlier. refl; answers = λ es. refl }) t
 
-  pub heard : receiveCall l .given .number ≡ 0 → Heard l (R.answer (l .datagram) (l .major)) (receivePlan l)
+  pub heard : receiveCall m l .answer .number ≡ 0 → Heard m l (R.answer (l .datagram) (l .major)) (receivePlan m l)
   unfolding memoryOf
   heard z =
       let a = R.answer (l .datagram) (l .major) in
-      let f = none-applies (G.receives l) z in
-      let h = heldIn (keyOf (l .own)) (l .cache) in
-      let u = usedOf (l .waiting) in
-      let fit : memoryOf (l .own) (l .cache) (l .waiting) ≡ Fit h u = rw (not-false (tablesFit (l .own) (l .cache) (l .waiting)) (f .0)) refl in
-      let is = plan-message l fit (not-false (handsFit (l .cpa) (l .nonce) (l .key)) (f .1 .0)) in
-      subst (Heard l a) (sym is) (heard-message h u a (subst (event.Told l a) is (event.told l z)))
+      let f = none-applies m (receives l) z in
+      let h = heldIn (keyOf (l .own)) (m .cache) in
+      let u = usedOf (m .waiting) in
+      let fit : memoryOf (l .own) m ≡ Fit h u = rw (not-false (tablesFit (l .own) m) (f .0)) refl in
+      let is = plan-message m l fit (not-false (handsFit (l .cpa) (l .nonce) (l .key)) (f .1 .0)) in
+      subst (Heard m l a) (sym is) (heard-message h u a (subst (event.Told m l a) is (event.told m l z)))
 
 -- ---- the log with one call more
 
@@ -135,40 +137,37 @@ cond-unless : {A : Type 0} (b : Bool) (x y : A) → cond (b && false) x y ≡ y
 cond-unless true x y = refl
 cond-unless false x y = refl
 
-abbrev pub callOf : Receive → Call
-callOf l = receives (l .own) (l .cpa) (l .major) (l .minor) (l .id) (l .nonce) (l .verdict) (l .key) (l .datagram) (l .output)
-
-module _ (l : Receive) (g : Answer) (es : List Told) where
+module _ (m : Memory) (l : Receive) (g : Answer) (es : List Told) where
   abbrev Message : T.Answer
   Message = R.answer (l .datagram) (l .major)
 
   -- which inquiry an ID is that of
   pub asked-still : ((earlier : Option (List ℕ)) → floodedOr (l .datagram) Message earlier ≡ earlier)
-      → (id : ℕ) → inquired id (told (callOf l) g ∷ es) ≡ inquired id es
+      → (id : ℕ) → inquired id (told (receives l) g ∷ es) ≡ inquired id es
   unfolding inquired
   asked-still q id = rw (q (inquired id es)) (cond-same (inquires g && eqb (idAfter (l .id)) id) (inquired id es))
 
-  pub asked-none : inquires g ≡ false → (id : ℕ) → inquired id (told (callOf l) g ∷ es) ≡ inquired id es
+  pub asked-none : inquires g ≡ false → (id : ℕ) → inquired id (told (receives l) g ∷ es) ≡ inquired id es
   unfolding inquired
   asked-none e id = rw e refl
 
-  pub asked-other : (id : ℕ) → eqb id (idAfter (l .id)) ≡ false → inquired id (told (callOf l) g ∷ es) ≡ inquired id es
+  pub asked-other : (id : ℕ) → eqb id (idAfter (l .id)) ≡ false → inquired id (told (receives l) g ∷ es) ≡ inquired id es
   unfolding inquired
   asked-other id e =
       rw (ne-eqb (idAfter (l .id)) id (λ is. eqb-false id (idAfter (l .id)) e (sym is)))
       (cond-unless (inquires g) (floodedOr (l .datagram) Message (inquired id es)) (inquired id es))
 
-  pub asked-here : (start len : ℕ) → Floods l Message start len → inquires g ≡ true
-      → inquired (idAfter (l .id)) (told (callOf l) g ∷ es) ≡ some (recordOf (part start len (l .datagram)))
+  pub asked-here : (start len : ℕ) → Floods m l Message start len → inquires g ≡ true
+      → inquired (idAfter (l .id)) (told (receives l) g ∷ es) ≡ some (recordOf (part start len (l .datagram)))
   unfolding inquired
   asked-here start len f e = rw (e, eq-eqb (idAfter (l .id)) (idAfter (l .id)) refl) (f .asked (inquired (idAfter (l .id)) es))
 
   -- which were answered
-  pub answered-still : ((fs : List Told) → answeredBy fs Message ≡ []) → answered (told (callOf l) g ∷ es) ≡ answered es
+  pub answered-still : ((fs : List Told) → answeredBy fs Message ≡ []) → answered (told (receives l) g ∷ es) ≡ answered es
   unfolding answered
   answered-still q = rw (q es) (ap (λ (rs : List (List ℕ)). rs ++ answered es) (cond-same (eqb (g .number) 0) []))
 
-  pub answered-one : (r : List ℕ) → answeredBy es Message ≡ r ∷ [] → g .number ≡ 0 → answered (told (callOf l) g ∷ es) ≡ r ∷ answered es
+  pub answered-one : (r : List ℕ) → answeredBy es Message ≡ r ∷ [] → g .number ≡ 0 → answered (told (receives l) g ∷ es) ≡ r ∷ answered es
   unfolding answered
   answered-one r e z = rw (e, eq-eqb (g .number) 0 z) refl
 

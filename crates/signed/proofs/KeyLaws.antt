@@ -20,8 +20,9 @@ use Rattle.cache.proofs.FormLaws.{form-held, form-room, formed-sized}
 use Rattle.cache.proofs.KeepLaws.{learnt-form, learnt-keys, learnt-fits, removed-form, removed-keys, removed-fewer}
 use Rattle.waiting.specs.Place.{idOf, kindOf, placeKey, placeRecord}
 use Rattle.waiting.specs.Form.{placesOf, usedOf}
-use Rattle.waiting.specs.Seek.{seek, isAt}
-use Rattle.waiting.specs.declared.seek.Found.the-variants.{At}
+use Rattle.table.specs.Seek.{seek}
+use Rattle.waiting.specs.Seek.{isAt}
+use Rattle.table.specs.declared.Found.the-variants.{At}
 use Rattle.waiting.proofs.RoundLaws.{All, all-at}
 use Rattle.waiting.proofs.PlaceLaws.{key-at}
 use Rattle.waiting.proofs.SeekLaws.{found-key}
@@ -30,10 +31,11 @@ use Rattle.gauge_plan.specs.declared.Plan.{Plan}
 use Rattle.gauge_plan.specs.declared.Plan.the-variants.{Refuse, Flood, Revoke, Learn, Free, Certify, Show}
 use Rattle.gauge_plan.proofs.MemoryLaws.{Ready}
 use Rattle.gauge_commit.proofs.PlaceLaws.{record-place, record-key}
-use Rattle.gauge.specs.Lent.{Receive}
-use Rattle.gauge.specs.Receive.{receivePlan, carried, receiveCall}
-use Rattle.gauge.proofs.ReceiveLaws.{Known, known, learn-needs}
-use Rattle.sentences.specs.Words.{Entry}
+use Rattle.gauge_plan.specs.Lent.{Memory, Receive}
+use Rattle.plan_message.specs.Planned.{receivePlan}
+use Rattle.gauge.specs.Receive.{carried, receiveCall}
+use Rattle.plan_message.proofs.PlannedLaws.{Known, known, learn-needs}
+use Rattle.gauge.specs.Words.{Entry}
 use Rattle.sentences.proofs.HeardLaws.{heardBy}
 use Rattle.signed.specs.Events.{sentTo, removedIf, toldBy}
 use Rattle.signed.proofs.EventLaws.{Told, told, Acked}
@@ -80,52 +82,52 @@ module _ (own C : ℕ) (cache : List ℕ) (recs : List (List ℕ)) (f : Form own
 
 -- ---- by the plan
 
-module _ (l : Receive) (C : ℕ) (es : List Entry) (keys : List ℕ) (kept : Keeps (keyOf (l .own)) C keys (l .cache)) where
+module _ (m : Memory) (l : Receive) (C : ℕ) (es : List Entry) (keys : List ℕ) (kept : Keeps (keyOf (l .own)) C keys (m .cache)) where
   -- nothing is told: the keys stay
-  still : (ds : List Event) → ds ≡ [] → Keeps (keyOf (l .own)) C (after (drops (keyOf (l .own))) C keys ds) (l .cache)
+  still : (ds : List Event) → ds ≡ [] → Keeps (keyOf (l .own)) C (after (drops (keyOf (l .own))) C keys ds) (m .cache)
   unfolding after
-  still ds e = subst (λ (xs : List Event). Keeps (keyOf (l .own)) C (after (drops (keyOf (l .own))) C keys xs) (l .cache)) (sym e) kept
+  still ds e = subst (λ (xs : List Event). Keeps (keyOf (l .own)) C (after (drops (keyOf (l .own))) C keys xs) (m .cache)) (sym e) kept
 
   -- what the inquiry of an AUTHORITY was about: its record's key is the verdict's
-  learnt-key : {h u at : ℕ} → receivePlan l ≡ Learn h u at → Known l (Learn h u at)
-      → keyOf (placeRecord (getD (rows 140 u (l .waiting)) at [])) ≡ keyAt 0 (l .key)
+  learnt-key : {h u at : ℕ} → receivePlan m l ≡ Learn h u at → Known m l (Learn h u at)
+      → keyOf (placeRecord (getD (rows 140 u (m .waiting)) at [])) ≡ keyAt 0 (l .key)
   learnt-key {h} {u} {at} e k =
-      let t = l .waiting in
-      let within = learn-needs l e .5 in
+      let t = m .waiting in
+      let within = learn-needs m l e .5 in
       let found = subst (λ (v : ℕ). seek (isAt (k .acked) 2) 0 (rows 140 v t) ≡ At at) (k .ready .used) (k .plans .waiting .found) in
       sym (ap keyOf (record-place u t at within)) ∙ found-key (keyOf (l .own)) t (k .ready .tabled) (k .acked) at found
       ∙ sym (ap placeKey (row-at 140 u t at within) ∙ key-at (140 * at) t) ∙ sym (k .plans .key-is)
 
   -- its key is not our own
-  learnt-other : {h u at : ℕ} → receivePlan l ≡ Learn h u at → Known l (Learn h u at) → NotOwn (keyOf (l .own)) (keyAt 0 (l .key))
+  learnt-other : {h u at : ℕ} → receivePlan m l ≡ Learn h u at → Known m l (Learn h u at) → NotOwn (keyOf (l .own)) (keyAt 0 (l .key))
   learnt-other {h} {u} {at} e k o =
-      let t = l .waiting in
-      let needs = learn-needs l e in
+      let t = m .waiting in
+      let needs = learn-needs m l e in
       needs .7 (sym (record-key u t at) ∙ ap keyOf (record-place u t at (needs .5)) ∙ learnt-key e k ∙ o)
 
-  plan-keeps : (p : Plan) → receivePlan l ≡ p → Known l p → Told l (R.answer (l .datagram) (l .major)) p → All (Owed es) (placesOf (l .waiting))
+  plan-keeps : (p : Plan) → receivePlan m l ≡ p → Known m l p → Told m l (R.answer (l .datagram) (l .major)) p → All (Owed es) (placesOf (m .waiting))
       → Keeps (keyOf (l .own)) C (after (drops (keyOf (l .own))) C keys
-      (toldBy es (keyAt 0 (l .key)) (heardBy (l .datagram) (R.answer (l .datagram) (l .major))))) (carried l p .cache)
+      (toldBy es (keyAt 0 (l .key)) (heardBy (l .datagram) (R.answer (l .datagram) (l .major))))) (carried m l p .memory .cache)
   unfolding carried
   plan-keeps (Refuse n) e k t o = absurd t
   plan-keeps (Flood u s n a opens start len) e k t o = still _ (t es)
   plan-keeps (Revoke h u s n a) e k t o =
-      rw (t es) (removed-keeps (keyOf (l .own)) C (l .cache) (rows 100 h (l .cache)) (k .ready .form) keys kept (keyAt 0 (l .key)))
+      rw (t es) (removed-keeps (keyOf (l .own)) C (m .cache) (rows 100 h (m .cache)) (k .ready .form) keys kept (keyAt 0 (l .key)))
   plan-keeps (Learn h u at) e k t o =
-      let r = placeRecord (getD (rows 140 u (l .waiting)) at []) in
-      let needs = learn-needs l e in
-      let formed = sym (ap recordForm (record-place u (l .waiting) at (needs .5))) ∙ needs .6 in
+      let r = placeRecord (getD (rows 140 u (m .waiting)) at []) in
+      let needs = learn-needs m l e in
+      let formed = sym (ap recordForm (record-place u (m .waiting) at (needs .5))) ∙ needs .6 in
       rw (t es, sym (learnt-key e k))
-      (learnt-keeps (keyOf (l .own)) C (l .cache) (rows 100 h (l .cache)) (k .ready .form) keys kept r formed
+      (learnt-keeps (keyOf (l .own)) C (m .cache) (rows 100 h (m .cache)) (k .ready .form) keys kept r formed
       (λ i. learnt-other e k (sym (learnt-key e k) ∙ i)))
   plan-keeps (Free h u at true) e k t o =
-      let p = getD (rows 140 u (l .waiting)) at [] in
+      let p = getD (rows 140 u (m .waiting)) at [] in
       let w = t .waiting in
       let owes : Owed es p =
-      all-at (Owed es) at (rows 140 u (l .waiting)) (subst (λ (n : ℕ). All (Owed es) (rows 140 n (l .waiting))) (sym (k .ready .used)) o)
+      all-at (Owed es) at (rows 140 u (m .waiting)) (subst (λ (n : ℕ). All (Owed es) (rows 140 n (m .waiting))) (sym (k .ready .used)) o)
       (w .within) in
       let sent = ap (λ (i : ℕ). sentTo i es) (sym (w .id-is)) ∙ owes (w .kind-is) in
-      rw (t .told es, sent) (removed-keeps (keyOf (l .own)) C (l .cache) (rows 100 h (l .cache)) (k .ready .form) keys kept (placeKey p))
+      rw (t .told es, sent) (removed-keeps (keyOf (l .own)) C (m .cache) (rows 100 h (m .cache)) (k .ready .form) keys kept (placeKey p))
   plan-keeps (Free h u at false) e k t o = still _ (t .told es)
   plan-keeps (Certify a) e k t o = still _ (t es)
   plan-keeps (Show h a target) e k t o = still _ (t es)
@@ -145,7 +147,7 @@ module _ (l : Receive) (C : ℕ) (es : List Entry) (keys : List ℕ) (kept : Kee
       only (inl is) o = other (sym is ∙ o)
       only (inr f) o = f
 
-  plan-fine : (p : Plan) → receivePlan l ≡ p → Known l p → Told l (R.answer (l .datagram) (l .major)) p
+  plan-fine : (p : Plan) → receivePlan m l ≡ p → Known m l p → Told m l (R.answer (l .datagram) (l .major)) p
       → (j : ℕ) → Learns j (toldBy es (keyAt 0 (l .key)) (heardBy (l .datagram) (R.answer (l .datagram) (l .major)))) → NotOwn (keyOf (l .own)) j
   unfolding carried
   plan-fine (Refuse n) e k t = absurd t
@@ -157,14 +159,14 @@ module _ (l : Receive) (C : ℕ) (es : List Entry) (keys : List ℕ) (kept : Kee
   plan-fine (Certify a) e k t = nothing-learned _ (t es)
   plan-fine (Show h a target) e k t = nothing-learned _ (t es)
 
-  module _ (z : receiveCall l .given .number ≡ 0) where
-    pub receive-keeps : All (Owed es) (placesOf (l .waiting))
+  module _ (z : receiveCall m l .answer .number ≡ 0) where
+    pub receive-keeps : All (Owed es) (placesOf (m .waiting))
         → Keeps (keyOf (l .own)) C (after (drops (keyOf (l .own))) C keys
-        (toldBy es (keyAt 0 (l .key)) (heardBy (l .datagram) (R.answer (l .datagram) (l .major))))) (receiveCall l .cache)
+        (toldBy es (keyAt 0 (l .key)) (heardBy (l .datagram) (R.answer (l .datagram) (l .major))))) (receiveCall m l .memory .cache)
     unfolding receiveCall
-    receive-keeps o = plan-keeps (receivePlan l) refl (known l) (told l z) o
+    receive-keeps o = plan-keeps (receivePlan m l) refl (known m l) (told m l z) o
 
     pub receive-fine : (j : ℕ) → Learns j (toldBy es (keyAt 0 (l .key)) (heardBy (l .datagram) (R.answer (l .datagram) (l .major))))
         → NotOwn (keyOf (l .own)) j
     unfolding receiveCall
-    receive-fine = plan-fine (receivePlan l) refl (known l) (told l z)
+    receive-fine = plan-fine (receivePlan m l) refl (known m l) (told m l z)

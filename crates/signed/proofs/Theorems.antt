@@ -20,23 +20,25 @@ use Rattle.kept.specs.Neighbours.{IsNeighbours}
 use Rattle.kept.specs.History.{learnedAll}
 use Rattle.kept.proofs.Demand3Laws.{plain-demand3}
 use Rattle.cache.specs.Form.{Places, Form, cacheForm, keysOf, heldOf}
-use Rattle.cache.specs.Bytes.{keyBytes}
-use Rattle.cache.specs.Calls.{listCall, listWrong}
+use Rattle.neighbours.specs.Listing.{keyBytes}
+use Rattle.neighbours.specs.Calls.{listCall, listWrong}
 use Rattle.cache.proofs.FormLaws.{form-true, form-held}
 use Rattle.cache.proofs.KeepLaws.{form-anew}
-use Rattle.cache.proofs.ListLaws.{keys-length}
+use Rattle.neighbours.proofs.ListLaws.{keys-length}
 use Rattle.waiting.specs.Form as W
 use Rattle.waiting.proofs.FormLaws as WF
 use Rattle.waiting.proofs.KeptLaws.{made-of}
 use Rattle.waiting.proofs.RoundLaws.{All}
-use Rattle.gauge_commit.specs.Sending.{answer}
+use Rattle.gauge_commit.specs.Sending.{answer, Handed, handed}
 use Rattle.wire.proofs.Theorems.{at-most-one, written-back, read-again}
-use Rattle.gauge.specs.Counts.{TickHanded, ListHanded, listed, listAnswered, gaugeList}
-use Rattle.sentences.specs.Words.{Memory, Call, lists, empty, left, Typed, Proper}
+use Rattle.gauge.specs.Counts.{listAnswered, gaugeList}
+use Rattle.gauge_plan.specs.Lent.{Memory, empty, Listing, Call, lists}
+use Rattle.gauge.specs.Words.{left, Typed, Proper}
 use Rattle.sentences.specs.Sentences.{NeighbourList}
-use Rattle.sentences.specs.Ours.{ours}
+use Rattle.gauge.specs.Ours.{ours}
 use Rattle.sentences.proofs.DoesLaws.{start-one}
-use Rattle.sentences.proofs.OursLaws.{ours-first, ours-form}
+use Rattle.gauge_laws.proofs.FirstLaws.{first-bytes}
+use Rattle.gauge_laws.proofs.FormLaws.{form-kept}
 use Rattle.sentences.proofs.Theorems.{ours-meets-table, ours-meets}
 use Rattle.sentences.proofs.BackLaws.{sent-reads, flood-reads}
 use Rattle.signed.specs.Statements.{MeetsDemand1, MeetsDemand2, ListsThese, MeetsDemand3, Signed}
@@ -47,7 +49,7 @@ use Rattle.signed.proofs.StepLaws.{Inv, ran}
 -- ---- demand 1
 
 pub meets-demand1 : MeetsDemand1 ours
-meets-demand1 = record { table = ours-meets-table; first = λ m c ty. ours-first m c; form = ours-form }
+meets-demand1 = record { table = ours-meets-table; first = λ m c ty. first-bytes m c; form = form-kept }
 
 -- ---- demand 2
 
@@ -87,31 +89,33 @@ module _ (k C : ℕ) (least : 10 ≤ C) (most : C ≤ 256) where
 
 -- ---- the neighbour list of memory in form
 
-module _ (own cache output : List ℕ) (owned : recordForm own ≡ true) (form : cacheForm (keyOf own) cache ≡ true) (room : 320 ≤ length output) where
-  list-done : gaugeList own cache output ≡ listed
-      (answer 0 (length (neighbours (keyOf own) below (keysOf (heldOf (keyOf own) cache))))
-      (length (neighbours (keyOf own) above (keysOf (heldOf (keyOf own) cache)))))
-      (splice 0 (keyBytes (neighbourList (keyOf own) (keysOf (heldOf (keyOf own) cache)))) output)
+module _ (m : Memory) (l : Listing) (owned : recordForm (l .own) ≡ true) (form : cacheForm (keyOf (l .own)) (m .cache) ≡ true)
+    (room : 320 ≤ length (l .output)) where
+  -- the list of these keys, where they are the keys held
+  abbrev listOf : List ℕ → Handed
+  listOf keys =
+      let k = keyOf (l .own) in
+      handed (answer 0 (length (neighbours k below keys)) (length (neighbours k above keys))) m (splice 0 (keyBytes (neighbourList k keys)) (l .output))
+
+  list-done : gaugeList m l ≡ listOf (keysOf (heldOf (keyOf (l .own)) (m .cache)))
   unfolding gaugeList listCall
-  list-done = ap listAnswered (all-pass _ (listWrong own cache output) _ (rw owned refl, (rw form refl, (le-ltb (length output) 320 room, tt))))
+  list-done =
+      ap (listAnswered m) (all-pass _ (listWrong (l .own) (m .cache) (l .output)) _ (rw owned refl, (rw form refl, (le-ltb (length (l .output)) 320 room, tt))))
 
   -- the list of the keys held is right among others too, where the same keys are the nearest of them
-  lists-keys : (m : Memory) → m .cache ≡ cache → (keys : List ℕ) → keysOf (heldOf (keyOf own) cache) ≡ keys
-      → (among : List ℕ) → ((s : Side) → IsNeighbours (sideOf (keyOf own)) (nearness (keyOf own)) s among (neighbours (keyOf own) s keys))
-      → NeighbourList (keyOf own) among output (ours m (lists own output))
-  unfolding ours
-  lists-keys m e keys is among near =
-      let done : List ℕ → ListHanded =
-      λ (ks : List ℕ). listed (answer 0 (length (neighbours (keyOf own) below ks)) (length (neighbours (keyOf own) above ks)))
-      (splice 0 (keyBytes (neighbourList (keyOf own) ks)) output) in
-      let g : gaugeList own (m .cache) output ≡ done keys = rw e (subst (λ (ks : List ℕ). gaugeList own cache output ≡ done ks) is list-done) in
+  lists-keys : (keys : List ℕ) → keysOf (heldOf (keyOf (l .own)) (m .cache)) ≡ keys → (among : List ℕ)
+      → ((s : Side) → IsNeighbours (sideOf (keyOf (l .own))) (nearness (keyOf (l .own))) s among (neighbours (keyOf (l .own)) s keys))
+      → NeighbourList (keyOf (l .own)) among (l .output) (ours m (lists l))
+  lists-keys keys is among near =
+      let k = keyOf (l .own) in
+      let g : gaugeList m l ≡ listOf keys = subst (λ (ks : List ℕ). gaugeList m l ≡ listOf ks) is list-done in
       record {
-        low = neighbours (keyOf own) below keys;
-        high = neighbours (keyOf own) above keys;
+        low = neighbours k below keys;
+        high = neighbours k above keys;
         nearest-below = near below;
         nearest-above = near above;
-        counts = ap (λ (h : ListHanded). h .given) g;
-        bytes = ap (λ (h : ListHanded). h .output) g ∙ start-one (keyBytes (neighbourList (keyOf own) keys)) output;
+        counts = ap (λ (h : Handed). h .answer) g;
+        bytes = ap (λ (h : Handed). h .output) g ∙ start-one (keyBytes (neighbourList k keys)) (l .output);
       }
 
 -- ---- demand 3
@@ -123,9 +127,9 @@ typed-calls k (c ∷ cs) p = (p .0 .1, typed-calls k cs (p .1))
 -- after any calls the list is that of the keys kept, and of any among which these are the nearest
 module _ (k : ℕ) (keys : List ℕ) (m : Memory) (formed : cacheForm k (m .cache) ≡ true) (held : keysOf (heldOf k (m .cache)) ≡ keys) where
   pub lists-these : (among : List ℕ) → ((s : Side) → IsNeighbours (sideOf k) (nearness k) s among (neighbours k s keys)) → ListsThese ours m k among
-  lists-these among near own output owned one room =
-      subst (λ (j : ℕ). NeighbourList j among output (ours m (lists own output))) one
-      (lists-keys own (m .cache) output owned (subst (λ (j : ℕ). cacheForm j (m .cache) ≡ true) (sym one) formed) room m refl keys
+  lists-these among near l owned one room =
+      subst (λ (j : ℕ). NeighbourList j among (l .output) (ours m (lists l))) one
+      (lists-keys m l owned (subst (λ (j : ℕ). cacheForm j (m .cache) ≡ true) (sym one) formed) room keys
       (subst (λ (j : ℕ). keysOf (heldOf j (m .cache)) ≡ keys) (sym one) held) among
       (subst (λ (j : ℕ). (s : Side) → IsNeighbours (sideOf j) (nearness j) s among (neighbours j s keys)) (sym one) near))
 

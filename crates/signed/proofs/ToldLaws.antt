@@ -12,8 +12,9 @@ use Rattle.key.specs.Number.{keyAt}
 use Rattle.kept.specs.History.{Event}
 use Rattle.kept.specs.Keys.{Every}
 use Rattle.wire_read.specs.Answers as R
-use Rattle.sentences.specs.Words.{Memory, Call, receives, sends, ticks, lists, Gauge, empty, Entry, entry, log, Typed}
-use Rattle.sentences.specs.Ours.{ours}
+use Rattle.gauge_plan.specs.Lent.{Memory, empty, Call, receives, sends, ticks, lists}
+use Rattle.gauge.specs.Words.{Gauge, Entry, entry, log, Typed}
+use Rattle.gauge.specs.Ours.{ours}
 use Rattle.sentences.specs.Heard.{Heard}
 use Rattle.sentences.proofs.HeardLaws.{heardBy, hears-answer}
 use Rattle.sentences.proofs.Theorems.{ours-meets}
@@ -21,11 +22,10 @@ use Rattle.signed.specs.Events.{toldBy, Tells, Happened}
 
 -- what a call does when it is accepted
 abbrev pub does : List Entry → Call → List Event
-does earlier (receives own cpa major minor id nonce verdict key datagram output) =
-    toldBy earlier (keyAt 0 key) (heardBy datagram (R.answer datagram major))
-does earlier (sends own major minor id neighbour key output) = []
-does earlier (ticks own output) = []
-does earlier (lists own output) = []
+does earlier (receives l) = toldBy earlier (keyAt 0 (l .key)) (heardBy (l .datagram) (R.answer (l .datagram) (l .major)))
+does earlier (sends l) = []
+does earlier (ticks l) = []
+does earlier (lists l) = []
 
 unfoldable pub eventsFrom : List Entry → List Entry → List Event
 eventsFrom earlier [] = []
@@ -41,11 +41,11 @@ happened g C calls = events (log g (empty C) calls)
 -- ---- what a call tells is what is computed
 
 tells-does : (earlier : List Entry) (c : Call) → Typed c → (now : List Event) → Tells earlier c now → now ≡ does earlier c
-tells-does earlier (receives own cpa major minor id nonce verdict key datagram output) ty now t =
-    t .2 ∙ ap (toldBy earlier (keyAt 0 key)) (hears-answer datagram (ty .0) major (t .0) (t .1) .1)
-tells-does earlier (sends own major minor id neighbour key output) ty now t = t
-tells-does earlier (ticks own output) ty now t = t
-tells-does earlier (lists own output) ty now t = t
+tells-does earlier (receives l) ty now t =
+    t .2 ∙ ap (toldBy earlier (keyAt 0 (l .key))) (hears-answer (l .datagram) (ty .0) (l .major) (t .0) (t .1) .1)
+tells-does earlier (sends l) ty now t = t
+tells-does earlier (ticks l) ty now t = t
+tells-does earlier (lists l) ty now t = t
 
 pub happened-events : (earlier es : List Entry) → Every (λ (e : Entry). Typed (e .call)) es → (history : List Event) → Happened earlier es history
     → history ≡ eventsFrom earlier es
@@ -62,12 +62,12 @@ happened-events earlier (e ∷ es) ty history h =
 -- ---- an accepted call of ours tells it
 
 accepted-tells : (earlier : List Entry) (m : Memory) (c : Call) → Typed c → ours m c .answer .number ≡ 0 → Tells earlier c (does earlier c)
-accepted-tells earlier m (receives own cpa major minor id nonce verdict key datagram output) ty z =
-    let s = ours-meets .does m (receives own cpa major minor id nonce verdict key datagram output) ty z in
-    (s .x, s .hears, ap (toldBy earlier (keyAt 0 key)) (sym (hears-answer datagram (ty .0) major (s .x) (s .hears) .1)))
-accepted-tells earlier m (sends own major minor id neighbour key output) ty z = refl
-accepted-tells earlier m (ticks own output) ty z = refl
-accepted-tells earlier m (lists own output) ty z = refl
+accepted-tells earlier m (receives l) ty z =
+    let s = ours-meets .does m (receives l) ty z in
+    (s .x, s .hears, ap (toldBy earlier (keyAt 0 (l .key))) (sym (hears-answer (l .datagram) (ty .0) (l .major) (s .x) (s .hears) .1)))
+accepted-tells earlier m (sends l) ty z = refl
+accepted-tells earlier m (ticks l) ty z = refl
+accepted-tells earlier m (lists l) ty z = refl
 
 pub log-happened : (earlier : List Entry) (m : Memory) (cs : List Call) → Every Typed cs
     → Happened earlier (log ours m cs) (eventsFrom earlier (log ours m cs))

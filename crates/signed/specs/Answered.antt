@@ -21,9 +21,10 @@ use Rattle.wire_fields.specs.declared.Part.the-variants.{Here, Absent}
 use Rattle.wire_read.specs.Answers as R
 use Rattle.wire_read.specs.declared.Answer as T
 use Rattle.wire_read.specs.declared.Answer.the-variants as M
-use Rattle.gauge_plan.specs.Ids.{idAfter}
+use Rattle.asking.specs.Ids.{idAfter}
 use Rattle.gauge_commit.specs.declared.Answer.{Answer}
-use Rattle.sentences.specs.Words.{Memory, Call, receives, sends, ticks, lists, Gauge, empty, left, log, Proper}
+use Rattle.gauge_plan.specs.Lent.{Memory, empty, Call, receives, sends, ticks, lists}
+use Rattle.gauge.specs.Words.{Gauge, left, log, Proper}
 use Rattle.signed.specs.Events.{Happened}
 
 -- a call with its answer: the number, and the lengths of what is to be sent
@@ -63,11 +64,11 @@ floodedOr d (M.Lookup head a precision criteria reason target validate entry pat
 
 -- a FLOOD answered with an INQUIRE of the ID
 abbrev pub inquiredBy : ℕ → Call → Answer → Option (List ℕ) → Option (List ℕ)
-inquiredBy id (receives own cpa major minor i nonce verdict key datagram output) a earlier =
-    cond (inquires a && eqb (idAfter i) id) (floodedOr datagram (R.answer datagram major) earlier) earlier
-inquiredBy id (sends own major minor i neighbour key output) a earlier = earlier
-inquiredBy id (ticks own output) a earlier = earlier
-inquiredBy id (lists own output) a earlier = earlier
+inquiredBy id (receives l) a earlier =
+    cond (inquires a && eqb (idAfter (l .id)) id) (floodedOr (l .datagram) (R.answer (l .datagram) (l .major)) earlier) earlier
+inquiredBy id (sends l) a earlier = earlier
+inquiredBy id (ticks l) a earlier = earlier
+inquiredBy id (lists l) a earlier = earlier
 
 -- the record that the latest INQUIRE with the ID is about
 unfoldable pub inquired : ℕ → List Told → Option (List ℕ)
@@ -93,11 +94,10 @@ answeredBy earlier (M.Ack head acked flags n) = []
 answeredBy earlier (M.Lookup head a precision criteria reason target validate entry path credential signature key) = []
 
 abbrev pub answers : List Told → Call → Answer → List (List ℕ)
-answers earlier (receives own cpa major minor id nonce verdict key datagram output) a =
-    cond (eqb (a .number) 0) (answeredBy earlier (R.answer datagram major)) []
-answers earlier (sends own major minor id neighbour key output) a = []
-answers earlier (ticks own output) a = []
-answers earlier (lists own output) a = []
+answers earlier (receives l) a = cond (eqb (a .number) 0) (answeredBy earlier (R.answer (l .datagram) (l .major))) []
+answers earlier (sends l) a = []
+answers earlier (ticks l) a = []
+answers earlier (lists l) a = []
 
 -- the one last answered first
 unfoldable pub answered : List Told → List (List ℕ)

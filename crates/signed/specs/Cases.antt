@@ -10,15 +10,15 @@ use Rattle.octet.specs.Number.{digitsBE}
 use Rattle.key.specs.Around as around
 use Rattle.kept.specs.Keys.{Every}
 use Rattle.table.specs.Rows.{bytesOf}
-use Rattle.cache.specs.Bytes.{keyBytes}
+use Rattle.neighbours.specs.Listing.{keyBytes}
 use Rattle.waiting.specs.Place.{newPlace, inquiryPlace}
 use Rattle.waiting.specs.Tick.{idBytes}
 use Rattle.wire_fields.specs.Kinds.{lookupKinds}
 use Rattle.wire_fields.specs.Message as message
 use Rattle.wire_write.specs.Making.{ackMade, cpaMade, closestMade}
-use Rattle.gauge_commit.specs.Sending.{answer}
-use Rattle.sentences.specs.Words.{Memory, memory, Call, receives, ticks, lists, given}
-use Rattle.sentences.specs.Ours.{ours}
+use Rattle.gauge_commit.specs.Sending.{answer, handed}
+use Rattle.gauge_plan.specs.Lent.{Memory, empty, withCache, withWaiting, receive, tick, listing, Call, receives, ticks, lists}
+use Rattle.gauge.specs.Ours.{ours}
 
 -- ---- on which bytes
 
@@ -31,11 +31,11 @@ recordWith k = key k ++ (0 ∷ 0 ∷ 1 ∷ 0 ∷ []) ++ replicate 64 0
 
 -- a cache of C places that holds records with these keys, and a waiting table with these places
 abbrev pub holding : ℕ → List ℕ → List (List ℕ) → Memory
-holding C keys ps = memory (bytesOf (100 * C) (map recordWith keys)) (bytesOf 2240 ps)
+holding C keys ps = withCache (bytesOf (100 * C) (map recordWith keys)) (withWaiting (bytesOf 2240 ps) (empty C))
 
 -- a datagram received by the gauge with the own key, with ID 7 and verdict 1 for the key k
 abbrev pub hears : ℕ → ℕ → List ℕ → Call
-hears own k datagram = receives (recordWith own) (0 ∷ []) 6 101 7 (replicate 16 0) 1 (key k) datagram (replicate 96 0)
+hears own k datagram = receives (receive (recordWith own) (0 ∷ []) 6 101 7 (replicate 16 0) 1 (key k) datagram (replicate 96 0))
 
 -- the inquiry for the key k, with ID 8, and an AUTHORITY that answers it
 abbrev pub inquiryFor : ℕ → List ℕ
@@ -62,7 +62,7 @@ lookupOf target =
 abbrev pub Ticking : Memory → List (List ℕ) → Type 0
 Ticking m [] = m ≡ holding 10 [] []
 Ticking m (ids ∷ more) =
-    let h = ours m (ticks (recordWith 100) (replicate 64 0)) in
+    let h = ours m (ticks (tick (recordWith 100) (replicate 64 0))) in
     (h .answer ≡ answer 0 (length ids) 0) × (h .output ≡ idBytes ids ++ replicate (64 - 4 * length ids) 0) × Ticking (h .memory) more
 
 -- ---- the rows
@@ -84,13 +84,13 @@ pub data Case : Type 0 where
 -- a key is learned by the AUTHORITY that answers its inquiry; the closest record is what a LOOKUP is answered with
 abbrev pub Right : Case → Type 0
 Right (listed own held list low high) =
-    ours (holding 10 held []) (lists (recordWith own) (replicate 320 0))
-    ≡ given (answer 0 low high) (holding 10 held []) (keyBytes list ++ replicate (320 - 32 * length list) 0)
+    ours (holding 10 held []) (lists (listing (recordWith own) (replicate 320 0)))
+    ≡ handed (answer 0 low high) (holding 10 held []) (keyBytes list ++ replicate (320 - 32 * length list) 0)
 Right (learnt C own held k then) =
-    ours (holding C held (inquiryFor k ∷ [])) (hears own k authority) ≡ given (answer 0 0 0) (holding C then []) (replicate 96 0)
+    ours (holding C held (inquiryFor k ∷ [])) (hears own k authority) ≡ handed (answer 0 0 0) (holding C then []) (replicate 96 0)
 Right (shown own held target k) =
     ours (holding 10 held []) (hears own 0 (lookupOf target))
-    ≡ given (answer 0 96 0) (holding 10 held []) (closestMade 6 101 7 5 (recordWith k) 0 .bytes)
+    ≡ handed (answer 0 96 0) (holding 10 held []) (closestMade 6 101 7 5 (recordWith k) 0 .bytes)
 Right (differ j k d) = around.apart j k ≡ d
 Right (acks major minor id acked n bytes) = ackMade major minor id acked n .bytes ≡ bytes
 Right (waits id tries ids) = Ticking (holding 10 [] (newPlace id 1 tries (key 7) (replicate 100 0) ∷ [])) ids

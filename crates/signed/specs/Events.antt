@@ -8,15 +8,16 @@ use mathlib.Core.Path.{_≡_}
 use lib.Dec.{eqb}
 use Rattle.key.specs.Number.{keyAt}
 use Rattle.kept.specs.History.{Event, learned, removed}
-use Rattle.sentences.specs.Words.{Call, receives, sends, ticks, lists, Entry}
+use Rattle.gauge_plan.specs.Lent.{Call, receives, sends, ticks, lists}
+use Rattle.gauge.specs.Words.{Entry}
 use Rattle.sentences.specs.Heard.{Heard, entry, revoke, inquire, authority, ack, lookup, other, Hears}
 
 -- whom a call sent a FLOOD with the ID to, if it did: the neighbour's key, not the record's; else what is known from before
 abbrev pub sentBy : ℕ → Call → ℕ → Option ℕ → Option ℕ
-sentBy id (receives own cpa major minor i nonce verdict key datagram output) n earlier = earlier
-sentBy id (sends own major minor i neighbour key output) n earlier = cond (eqb n 0 && eqb i id) (some (keyAt 0 neighbour)) earlier
-sentBy id (ticks own output) n earlier = earlier
-sentBy id (lists own output) n earlier = earlier
+sentBy id (receives l) n earlier = earlier
+sentBy id (sends l) n earlier = cond (eqb n 0 && eqb (l .id) id) (some (keyAt 0 (l .neighbour))) earlier
+sentBy id (ticks l) n earlier = earlier
+sentBy id (lists l) n earlier = earlier
 
 -- whom the latest such FLOOD went to, of a log with the latest call first
 unfoldable pub sentTo : ℕ → List Entry → Option ℕ
@@ -40,11 +41,10 @@ toldBy earlier k other = []
 
 -- what a call does when it is accepted
 abbrev pub Tells : List Entry → Call → List Event → Type 0
-Tells earlier (receives own cpa major minor id nonce verdict key datagram output) now =
-    (x : Heard) × Hears datagram major x × (now ≡ toldBy earlier (keyAt 0 key) x)
-Tells earlier (sends own major minor id neighbour key output) now = now ≡ []
-Tells earlier (ticks own output) now = now ≡ []
-Tells earlier (lists own output) now = now ≡ []
+Tells earlier (receives l) now = (x : Heard) × Hears (l .datagram) (l .major) x × (now ≡ toldBy earlier (keyAt 0 (l .key)) x)
+Tells earlier (sends l) now = now ≡ []
+Tells earlier (ticks l) now = now ≡ []
+Tells earlier (lists l) now = now ≡ []
 
 -- these are the events of a log; `earlier` are the calls before it, the latest first. A call that was given another number than 0 has none
 abbrev pub Happened : List Entry → List Entry → List Event → Type 0

@@ -4,18 +4,19 @@ use Prim.Native.Nat.{ℕ, _*_}
 use mathlib.Core.Bool.{true}
 use mathlib.Core.List.{List, [], _++_, map}
 use mathlib.Core.Path.{_≡_}
-use lib.ListN.{length, replicate}
+use lib.ListN.{length}
 use Rattle.kept.specs.History.{Event, learned, NoRemoval, learnedAll}
 use Rattle.kept.specs.Plain.{drops, kept}
 use Rattle.cache.specs.Form.{keysOf, heldOf, cacheForm}
-use Rattle.sentences.specs.Words.{Memory, memory, Call, Gauge, left, log, Proper}
+use Rattle.gauge_plan.specs.Lent.{Memory, empty, withCache, Call}
+use Rattle.gauge.specs.Words.{Gauge, left, log, Proper}
 use Rattle.sentences.specs.Meets.{MeetsSentences}
 use Rattle.signed.specs.Events.{Happened}
 use Rattle.signed.specs.Statements.{ListsThese, MeetsDemand3, Signed}
 
 -- the cache as saved, and an empty waiting table
 abbrev pub restarted : List ℕ → Memory
-restarted cache = memory cache (replicate 2240 0)
+restarted cache = withCache cache (empty 0)
 
 -- the keys held at the start count as learned before the first call, one after the other
 abbrev pub heldBefore : ℕ → List ℕ → List Event

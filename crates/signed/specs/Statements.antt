@@ -4,12 +4,13 @@ use mathlib.Core.Bool.{true}
 use mathlib.Core.List.{List, []}
 use mathlib.Core.Path.{_≡_}
 use lib.ListN.{length}
-use Rattle.record.specs.Record.{keyOf, recordForm}
+use Rattle.own.specs.Own.{ownKeys, ownForm}
 use Rattle.kept.specs.History.{Event, NoRemoval, learnedAll}
 use Rattle.kept.specs.Plain.{drops, kept}
 use Rattle.wire.specs.Statements.{AtMostOne, WrittenReads, ReadWritten}
 use Rattle.gauge_commit.specs.Sending.{OnlyFirst}
-use Rattle.sentences.specs.Words.{Memory, Call, lists, Gauge, ownOf, outputOf, returned, InForm, Typed, empty, left, log, Proper}
+use Rattle.gauge_plan.specs.Lent.{Memory, empty, Listing, Call, lists, ownOf, outputOf}
+use Rattle.gauge.specs.Words.{Gauge, returned, InForm, Typed, left, log, Proper}
 use Rattle.sentences.specs.Sentences.{NeighbourList}
 use Rattle.sentences.specs.Meets.{MeetsTable, MeetsSentences}
 use Rattle.sentences.specs.Back.{SentReads, FloodReads}
@@ -26,7 +27,7 @@ pub record MeetsDemand1 (g : Gauge) : Type 0 where
   -- the output changes only in its first bytes, as many as returned
   pub first : (m : Memory) (c : Call) → Typed c → OnlyFirst (returned c (g m c .answer)) (outputOf c) (g m c .output)
   -- a call leaves memory in form
-  pub form : (m : Memory) (c : Call) → Typed c → InForm (keyOf (ownOf c)) m → InForm (keyOf (ownOf c)) (g m c .memory)
+  pub form : (m : Memory) (c : Call) → Typed c → InForm (ownKeys (ownOf c)) m → InForm (ownKeys (ownOf c)) (g m c .memory)
 
 -- ---- demand 2
 
@@ -46,7 +47,7 @@ pub record MeetsDemand2 (g : Gauge) : Type 0 where
 -- the neighbour call, with any own record of the key and any output of 320 bytes or more, is given 0 and the list of these keys
 abbrev pub ListsThese : Gauge → Memory → ℕ → List ℕ → Type 0
 ListsThese g m k keys =
-    (own output : List ℕ) → recordForm own ≡ true → keyOf own ≡ k → 320 ≤ length output → NeighbourList k keys output (g m (lists own output))
+    (l : Listing) → ownForm (l .own) ≡ true → ownKeys (l .own) ≡ k → 320 ≤ length (l .output) → NeighbourList k keys (l .output) (g m (lists l))
 
 -- "From an empty cache and waiting table .., with one own key, one C and memory that only our calls change: after any sequence of calls the neighbour list is
 -- exactly the five nearest kept keys below our own and the five nearest above, all of them where a side has fewer, each once, nearest first. The kept keys

@@ -2,3 +2,4 @@
 pub mod RowLaws
 pub mod EditLaws
 pub mod PieceLaws
+pub mod SeekLaws

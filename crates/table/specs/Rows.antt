@@ -2,7 +2,7 @@
 -- Assumes nothing.
 use Prim.Native.Nat.{ℕ, zero, suc, _-_, _*_, _≤_}
 use mathlib.Core.Path.{_≡_}
-use mathlib.Core.Bool.{true}
+use mathlib.Core.Bool.{Bool, true, false, _||_}
 use mathlib.Core.List.{List, [], _∷_, _++_}
 use lib.ListN.{length, take, drop, replicate}
 use Rattle.octet.specs.Part.{allZero}
@@ -38,3 +38,8 @@ insertAt i r rs = take i rs ++ (r ∷ drop i rs)
 -- the row at place i taken out
 abbrev pub removeAt : ℕ → List (List ℕ) → List (List ℕ)
 removeAt i rs = take i rs ++ drop (suc i) rs
+
+-- does one of the rows pass a test?
+unfoldable pub anyOf : (List ℕ → Bool) → List (List ℕ) → Bool
+anyOf test [] = false
+anyOf test (r ∷ rs) = test r || anyOf test rs

@@ -1,9 +1,16 @@
-// Rows of one width in a slice, the used ones first and zeros after them: a row inserted, removed and replaced.
+// Rows of one width in a slice, the used ones first and zeros after them: a row inserted, removed and replaced. What a search
+// among rows answers.
 // The cache has rows of 100 bytes, the waiting table rows of 140.
 ghost use mathlib.Core.Path.{_≡_};
 ghost use Prim.Native.Nat.{_+_, _*_, _≤_, _<_};
 ghost use lib.ListN.{length, set};
 ghost use Rattle.table.specs.Rows.{rows, bytesOf, Laid, insertAt, removeAt};
+
+// Which row was found.
+pub enum Found {
+    At(usize),
+    Nothing,
+}
 
 // The row comes to stand at a place, and those from there on move up.
 pub fn insert_row(s: &mut [u8], width: usize, used: usize, at: usize, row: &[u8])
@@ -14,7 +21,7 @@ pub fn insert_row(s: &mut [u8], width: usize, used: usize, at: usize, row: &[u8]
 {
     let from = width * at;
     let end = width * used;
-    octet::insert(s, from, end, row);
+    runs::insert(s, from, end, row);
 }
 
 // The row at a place goes, those after it move down, and the last of them is cleared.
@@ -25,7 +32,7 @@ pub fn remove_row(s: &mut [u8], width: usize, used: usize, at: usize)
 {
     let from = width * at;
     let end = width * used;
-    octet::remove(s, from, width, end);
+    runs::remove(s, from, width, end);
 }
 
 // The row takes the place of another.
@@ -35,5 +42,5 @@ pub fn replace_row(s: &mut [u8], width: usize, used: usize, at: usize, row: &[u8
         ≡ bytesOf (length (now (s .entry))) (set (rows width used (now (s .entry))) at (now (row .entry))) ⌝ }
 {
     let from = width * at;
-    octet::copy_to(s, from, row);
+    runs::copy_to(s, from, row);
 }

@@ -19,7 +19,7 @@ pub fn put(line: &mut [u8], at: usize, s: &[u8]) -> usize {
     if line.len() - s.len() < at {
         return at;
     }
-    octet::copy_to(line, at, s);
+    runs::copy_to(line, at, s);
     at + s.len()
 }
 

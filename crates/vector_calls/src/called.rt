@@ -144,8 +144,8 @@ pub(crate) fn run(given: Given, lent: &[u8], cache: &mut [u8], waiting: &mut [u8
     let mut held = [0u8; CACHE];
     let mut waits = [0u8; WAITING];
     let mut output = [0xEEu8; OUTPUT];
-    octet::copy_to(&mut held, 0, cache);
-    octet::copy_to(&mut waits, 0, waiting);
+    runs::copy_to(&mut held, 0, cache);
+    runs::copy_to(&mut waits, 0, waiting);
     say_call(
         given,
         lent,

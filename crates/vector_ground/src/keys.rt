@@ -51,7 +51,7 @@ fn above(text: &[u8], room: &mut [u8], side: &mut [u8]) {
     if side.len() < 32 {
         return say::outside();
     }
-    say::yes(key::is_above(room, side, 0));
+    say::yes(ring::is_above(room, side, 0));
 }
 
 // `closer TARGET KEY KEY`: is the first key taken before the second?
@@ -59,9 +59,9 @@ fn closer(text: &[u8], room: &mut [u8]) {
     let target = operand(text, 1, room);
     let k = operand(text, 2, room);
     let j = operand(text, 3, room);
-    let d = key::how_far(target, k);
-    let e = key::how_far(target, j);
-    say::yes(key::is_closer(target, k, d, j, e));
+    let d = ring::how_far(target, k);
+    let e = ring::how_far(target, j);
+    say::yes(ring::is_closer(target, k, d, j, e));
 }
 
 pub fn answer(text: &[u8], room: &mut [u8], side: &mut [u8]) -> bool {
@@ -78,7 +78,7 @@ pub fn answer(text: &[u8], room: &mut [u8], side: &mut [u8]) -> bool {
         return true;
     }
     if line::is_named(text, b"far") {
-        say::key(key::how_far(operand(text, 1, room), operand(text, 2, side)));
+        say::key(ring::how_far(operand(text, 1, room), operand(text, 2, side)));
         return true;
     }
     if line::is_named(text, b"same") {

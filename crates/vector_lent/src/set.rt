@@ -17,8 +17,8 @@ fn begin(
     if waiting.len() < 2240 {
         return say::outside();
     }
-    octet::clear(cache, 0, held);
-    octet::clear(waiting, 0, 2240);
+    runs::clear(cache, 0, held);
+    runs::clear(waiting, 0, 2240);
     let own = line::bytes(text, 1, lent, 0);
     sizes[0] = own;
     sizes[1] = line::bytes(text, 3, lent, own);

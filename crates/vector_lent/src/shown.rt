@@ -56,8 +56,8 @@ fn waits(own: &[u8], waiting: &[u8]) {
     if own.len() < 32 {
         return say::text(b"bad");
     }
-    let formed = waiting::form(own, waiting);
-    if let waiting::Formed::Good(used) = formed {
+    let formed = waiting_form::form(own, waiting);
+    if let waiting_form::Formed::Good(used) = formed {
         return say_places(waiting, used);
     }
     say::text(b"bad");

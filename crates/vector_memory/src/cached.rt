@@ -1,5 +1,6 @@
 // Vectors of the cache.
 use cache::Formed;
+use neighbours::Nearest;
 use vector_text::line;
 use vector_text::say;
 
@@ -44,7 +45,7 @@ fn remove(own: &[u8], cache: &mut [u8], key: &[u8]) {
 // The number, and with 0 the two counts and the keys.
 fn neighbours(own: &[u8], cache: &[u8]) {
     let mut out = [0u8; 320];
-    let listed = cache::neighbour_list(own, cache, &mut out);
+    let listed = neighbours::neighbour_list(own, cache, &mut out);
     say::number(listed.number as u64);
     if listed.number != 0 {
         return;
@@ -57,8 +58,24 @@ fn neighbours(own: &[u8], cache: &[u8]) {
     say::keys(&out, listed.below % 16 + listed.above % 16, 32);
 }
 
-fn closest<'a>(own: &'a [u8], cache: &'a [u8], target: &[u8]) {
-    say::bytes(cache::closest_record(own, cache, target));
+// The number, and with 0 the record.
+fn say_record(record: &[u8]) {
+    say::number(0);
+    say::text(b" ");
+    say::bytes(record);
+}
+
+fn closest(own: &[u8], cache: &[u8], target: &[u8]) {
+    match neighbours::closest_record(own, cache, target) {
+        Nearest::Refused(number) => say::number(number as u64),
+        Nearest::Own => say_record(own),
+        Nearest::Held(i) => {
+            let at = 100 * (i % 256);
+            if at + 100 <= cache.len() {
+                say_record(&cache[at..at + 100]);
+            }
+        }
+    }
 }
 
 // Vectors that change the cache.
@@ -75,7 +92,7 @@ fn answer_change(text: &[u8], own: &[u8], cache: &mut [u8], third: &[u8]) -> boo
 }
 
 // Vectors that read it.
-fn answer_read<'a>(text: &[u8], own: &'a [u8], cache: &'a [u8], third: &[u8]) -> bool {
+fn answer_read(text: &[u8], own: &[u8], cache: &[u8], third: &[u8]) -> bool {
     if line::is_named(text, b"cache-form") {
         say_form(own, cache);
         return true;

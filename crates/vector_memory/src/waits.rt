@@ -1,14 +1,14 @@
 // Vectors of the waiting table.
 use vector_text::line;
 use vector_text::say;
-use waiting::Formed;
+use waiting_form::Formed;
 
 // How many places are used, where the table is in form.
 fn say_form(own: &[u8], table: &[u8]) {
     if own.len() < 32 {
         return say::text(b"bad");
     }
-    let formed = waiting::form(own, table);
+    let formed = waiting_form::form(own, table);
     if let Formed::Good(used) = formed {
         return say::number(used as u64);
     }
@@ -46,7 +46,7 @@ fn say_id(s: &[u8], at: usize) {
 // One tick: its number and the IDs it lists.
 fn one_tick(own: &[u8], table: &mut [u8]) {
     let mut out = [0u8; 64];
-    let answer = waiting::tick(own, table, &mut out);
+    let answer = waiting_form::tick(own, table, &mut out);
     say::number(answer.number as u64);
     say::text(b":");
     say_ids(&out, answer.count);

@@ -125,7 +125,7 @@ fn put_zeros(room: &mut [u8], at: usize, n: usize) -> usize {
     if room.len() - n < at {
         return at;
     }
-    octet::clear(room, at, n);
+    runs::clear(room, at, n);
     at + n
 }
 

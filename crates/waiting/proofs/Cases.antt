@@ -3,9 +3,9 @@ use mathlib.Core.Path.{refl}
 use Rattle.octet.specs.Number.{valueBE, valueLE, digitsLE}
 use Rattle.octet.specs.Part.{allZero}
 use Rattle.record.specs.Record.{recordForm}
-use Rattle.table.specs.Rows.{rows, joined, bytesOf}
+use Rattle.table.specs.Rows.{rows, joined, bytesOf, anyOf}
 use Rattle.waiting.specs.Place.{newPlace}
-use Rattle.waiting.specs.Form.{placeForm, anyOf, placesForm, usedIn, usedOf, waitingForm}
+use Rattle.waiting.specs.Form.{placeForm, placesForm, usedIn, usedOf, waitingForm}
 use Rattle.waiting.specs.Cases.{FormCases}
 
 pub form-cases : FormCases

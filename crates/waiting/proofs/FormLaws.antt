@@ -1,25 +1,23 @@
 -- The form of the table, as a test and as a property of a list of places.
--- In this order: the used places as a type; how many are used; the test holds exactly for the bytes of such a list, which is unique; what the
--- form test answers. Elsewhere: what keeps the form, in KeptLaws. Assumes nothing.
+-- In this order: the used places as a type; how many are used; the test holds exactly for the bytes of such a list, which is unique.
+-- Elsewhere: what keeps the form, in KeptLaws; what the form test answers, in FormedLaws of the crate waiting_form. Assumes nothing.
 use mathlib.Core.Path.{_≡_, refl, sym, ap, ap₂, _∙_}
 use mathlib.Core.Logic.{_↔_}
 use mathlib.Core.Bool.{Bool, true, false, not, _&&_, cond}
 use mathlib.Core.List.{List, [], _∷_, _++_, append-assoc}
-use Prim.Native.Nat.{ℕ, zero, suc, _+_, _*_, _-_, _≤_, zero-le, suc-le-suc}
+use Prim.Native.Nat.{ℕ, zero, suc, _*_, _-_, _≤_, zero-le, suc-le-suc}
 use native.Mathlib.Nat.{not-suc-le-zero, le-of-suc-le-suc}
 use native.Mathlib.Omega.{arith}
 use lib.Dec.{eqb, leb}
-use lib.ListN.{length, take, drop, getD, replicate, length-drop}
-use lib.Seq.{take-at, drop-at, take-all, getD-take}
+use lib.ListN.{length, take, drop, getD, replicate}
+use lib.Seq.{take-at, drop-at, getD-take}
 use borrow.Author.Tests.{eq-eqb, ne-eqb, eqb-true, le-leb, leb-true, not-true}
 use Rattle.octet.specs.Part.{allZero}
 use Rattle.octet.proofs.TestLaws.{both-true}
-use Rattle.table.specs.Rows.{rows, joined, bytesOf, Sized, Laid}
+use Rattle.table.specs.Rows.{rows, joined, bytesOf, Sized, Laid, anyOf}
 use Rattle.table.proofs.RowLaws.{rows-length, rows-sized, laid-bytes, bytes-length, bytes-rows, bytes-laid}
-use Rattle.waiting.specs.declared.tested.Formed.the-variants.{Bad, Good}
 use Rattle.waiting.specs.Place.{idOf, kindOf, placeKey}
-use Rattle.waiting.specs.Form.{isInquiry, anyOf, again, placeForm, placesForm, usedIn, usedOf, placesOf, waitingForm, Form}
-use Rattle.waiting.specs.Formed.{formOf}
+use Rattle.waiting.specs.Form.{isInquiry, again, placeForm, placesForm, usedIn, usedOf, placesOf, waitingForm, Form}
 use Rattle.waiting.proofs.PlaceLaws.{form-used}
 
 -- ---- the used places, as a type: each in form, above those before it, and alone with its key where it is an inquiry
@@ -155,44 +153,3 @@ form-test own t ps f = ap (waitingForm own) (f .bytes) ∙ made-form own ps (f .
 
 pub form-exactly : (own : ℕ) (t : List ℕ) → (waitingForm own t ≡ true) ↔ Form own t (placesOf t)
 form-exactly own t = (form-of own t, form-test own t (placesOf t))
-
--- ---- what the form test answers, by its tests
-
-pub not-long : (own : ℕ) (t : List ℕ) → (length t ≡ 2240 → ⊥) → formOf own t ≡ Bad
-unfolding formOf waitingForm
-not-long own t h = rw (ne-eqb (length t) 2240 h) refl
-
-module _ (own : ℕ) (t : List ℕ) (size : length t ≡ 2240) {u : ℕ} {z p : Bool} (hu : u ≡ usedOf t)
-    (hz : z ≡ allZero (take (2240 - 140 * u) (drop (140 * u) t))) (hp : p ≡ placesForm own 0 (rows 140 u t)) where
-  form-tests : waitingForm own t ≡ (z && p)
-  unfolding waitingForm
-  form-tests =
-      let whole : take (2240 - 140 * u) (drop (140 * u) t) ≡ drop (140 * u) t =
-      take-all (2240 - 140 * u) (drop (140 * u) t) (simp length-drop (omega arith)) in
-      rw (eq-eqb (length t) 2240 size, hz, hp, whole, hu) refl
-
-  pub is-good : z && p ≡ true → formOf own t ≡ Good u
-  unfolding formOf
-  is-good e = rw (form-tests, e, ← hu) refl
-
-  pub is-bad : z && p ≡ false → formOf own t ≡ Bad
-  unfolding formOf
-  is-bad e = rw (form-tests, e) refl
-
--- ---- what an answer tells
-
-bad-by : (b : Bool) (u : ℕ) → cond b (Good u) Bad ≡ Bad → b ≡ false
-bad-by true u e = let z : _≡_ {A = ℕ} 0 1 = cc in absurd (omega arith)
-bad-by false u e = refl
-
-good-by : (b : Bool) (u v : ℕ) → cond b (Good u) Bad ≡ Good v → (b ≡ true) × (v ≡ u)
-good-by true u v e = (refl, cc)
-good-by false u v e = let z : _≡_ {A = ℕ} 0 1 = cc in absurd (omega arith)
-
-pub bad-form : (own : ℕ) (t : List ℕ) → formOf own t ≡ Bad → waitingForm own t ≡ false
-unfolding formOf
-bad-form own t e = bad-by (waitingForm own t) (usedOf t) e
-
-pub good-form : (own : ℕ) (t : List ℕ) {u : ℕ} → formOf own t ≡ Good u → (waitingForm own t ≡ true) × (u ≡ usedOf t)
-unfolding formOf
-good-form own t {u} e = good-by (waitingForm own t) (usedOf t) u e

@@ -3,7 +3,7 @@
 use mathlib.Core.Path.{_≡_, refl, sym, ap, _∙_, subst}
 use mathlib.Core.Bool.{Bool, true, false, _&&_, _||_, cond}
 use mathlib.Core.List.{List, [], _∷_}
-use Prim.Native.Nat.{ℕ, zero, suc, _-_, _^_, _≤_, _<_}
+use Prim.Native.Nat.{ℕ, zero, suc, _^_, _≤_, _<_}
 use native.Mathlib.Omega.{arith}
 use lib.Dec.{eqb, leb}
 use lib.ListN.{length, replicate, length-replicate}
@@ -12,9 +12,9 @@ use borrow.Author.Tests.{eq-eqb, ne-eqb, eqb-true, eqb-false, leb-true, leb-fals
 use Rattle.octet.specs.Number.{valueBE}
 use Rattle.octet.specs.Part.{part}
 use Rattle.record.specs.Record.{keyOf, recordForm}
-use Rattle.table.specs.Rows.{bytesOf, Sized}
+use Rattle.table.specs.Rows.{bytesOf, Sized, anyOf}
 use Rattle.waiting.specs.Place.{idOf, kindOf, placeKey, inquiryPlace, floodPlace}
-use Rattle.waiting.specs.Form.{isInquiry, anyOf, placeForm, Form}
+use Rattle.waiting.specs.Form.{isInquiry, placeForm, Form}
 use Rattle.waiting.specs.Seek.{hasId}
 use Rattle.waiting.specs.Open.{opened, freed}
 use Rattle.waiting.specs.Tick.{oneLess}

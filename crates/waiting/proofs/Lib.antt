@@ -7,7 +7,5 @@ pub mod TickLaws
 pub mod FormLaws
 pub mod KeptLaws
 pub mod RoundLaws
-pub mod CallLaws
 pub mod SeekLaws
 pub mod Cases
-pub mod Coincide

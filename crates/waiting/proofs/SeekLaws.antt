@@ -1,5 +1,5 @@
--- Laws of the place that was found: where it is, that it passes the test, that it is in form, and that freed it leaves none for its key.
--- Assumes nothing.
+-- Laws of the place that was found: that it is in form, and that freed it leaves none for its key. Elsewhere: where it is and that it passes the test, in
+-- SeekLaws of the crate table. Assumes nothing.
 use mathlib.Core.Path.{_≡_, refl, sym, ap, _∙_}
 use mathlib.Core.Bool.{Bool, true, false, cond}
 use mathlib.Core.List.{List, [], _∷_}
@@ -13,48 +13,17 @@ use Rattle.octet.proofs.TestLaws.{both-true}
 use Rattle.key.specs.Number.{keyAt}
 use Rattle.record.specs.Record.{keyOf, recordForm}
 use Rattle.table.proofs.RowLaws.{rows-length, row-at}
-use Rattle.waiting.specs.declared.seek.Found.the-variants.{At, Nothing}
+use Rattle.table.proofs.SeekLaws.{Here, seek-is, found-within, found-passes}
+use Rattle.table.proofs.SeekLaws.Here.{here}
+use Rattle.table.specs.declared.Found.the-variants.{At}
 use Rattle.waiting.specs.Place.{idOf, kindOf, placeKey}
-use Rattle.waiting.specs.Form.{isInquiry, anyOf, placeForm, usedOf, placesOf, waitingForm}
-use Rattle.waiting.specs.Seek.{isAt, seek}
+use Rattle.table.specs.Rows.{anyOf}
+use Rattle.waiting.specs.Form.{isInquiry, placeForm, usedOf, placesOf, waitingForm}
+use Rattle.table.specs.Seek.{seek}
+use Rattle.waiting.specs.Seek.{isAt}
 use Rattle.waiting.specs.Open.{freed}
-use Rattle.waiting.proofs.WalkLaws.{isFound, any-found}
 use Rattle.waiting.proofs.FormLaws.{Placed, form-placed}
 use Rattle.waiting.proofs.PlaceLaws.{key-at, record-at, inquiry-record, inquiry-key, inquiry-other}
-
--- place number i of a list whose first is number n, and it passes the test
-pub data Here (test : List ℕ → Bool) (n i : ℕ) (ps : List (List ℕ)) : Type 0 where
-  here : (j : ℕ) → i ≡ n + j → j < length ps → test (getD ps j []) ≡ true → Here test n i ps
-
--- the same place, in a list that has one more before it
-further : (test : List ℕ → Bool) (n i : ℕ) (p : List ℕ) (ps : List (List ℕ)) → Here test (n + 1) i ps → Here test n i (p ∷ ps)
-further test n i p ps (here j e l t) = here (suc j) (omega arith) (omega arith) t
-
-found-by : (test : List ℕ → Bool) (n i : ℕ) (p : List ℕ) (ps : List (List ℕ)) (b : Bool) → test p ≡ b
-    → (seek test (n + 1) ps ≡ At i → Here test (n + 1) i ps) → cond b (At n) (seek test (n + 1) ps) ≡ At i → Here test n i (p ∷ ps)
-found-by test n i p ps true t later e = let is : n ≡ i = cc in here 0 (omega arith) (omega arith) t
-found-by test n i p ps false t later e = further test n i p ps (later e)
-
--- where the found place is, and that it passes the test
-pub seek-is : (test : List ℕ → Bool) (n i : ℕ) (ps : List (List ℕ)) → seek test n ps ≡ At i → Here test n i ps
-unfolding seek
-seek-is test n i [] e = let z : _≡_ {A = ℕ} 0 1 = cc in absurd (omega arith)
-seek-is test n i (p ∷ ps) e = found-by test n i p ps (test p) refl (seek-is test (n + 1) i ps) e
-
-from-start : (test : List ℕ → Bool) (i : ℕ) (ps : List (List ℕ)) → Here test 0 i ps → (i < length ps) × (test (getD ps i []) ≡ true)
-from-start test i ps (here j e l t) =
-    let is : i ≡ j = omega arith in
-    (omega arith, ap (λ (k : ℕ). test (getD ps k [])) is ∙ t)
-
-pub found-within : (test : List ℕ → Bool) (i : ℕ) (ps : List (List ℕ)) → seek test 0 ps ≡ At i → i < length ps
-found-within test i ps e = from-start test i ps (seek-is test 0 i ps e) .0
-
-pub found-passes : (test : List ℕ → Bool) (i : ℕ) (ps : List (List ℕ)) → seek test 0 ps ≡ At i → test (getD ps i []) ≡ true
-found-passes test i ps e = from-start test i ps (seek-is test 0 i ps e) .1
-
--- where none is found, none passes
-pub none-found : (test : List ℕ → Bool) (n : ℕ) (ps : List (List ℕ)) → seek test n ps ≡ Nothing → anyOf test ps ≡ false
-none-found test n ps e = any-found test n ps ∙ ap isFound e
 
 -- a place of a table in form is in form
 pub placed-at : (own low i : ℕ) (ps : List (List ℕ)) → Placed own low ps → i < length ps → placeForm own (getD ps i []) ≡ true

@@ -1,7 +1,7 @@
 -- A turn and the end of each walk over the used places: the answer for the whole is the answer for what is left from place number at on.
--- In this order: the first that passes a test; whether one does; where a place is opened; how many are used; the form of the places. Assumes nothing.
+-- In this order: where a place is opened; how many are used; the form of the places. Elsewhere: searches, in SeekLaws of the crate table. Assumes nothing.
 use mathlib.Core.Path.{_≡_, refl, sym, ap, ap₂, _∙_}
-use mathlib.Core.Bool.{Bool, true, false, not, _&&_, _||_, cond}
+use mathlib.Core.Bool.{Bool, true, false, not, _&&_}
 use mathlib.Core.List.{List, [], _∷_}
 use Prim.Native.Nat.{ℕ, _+_, _*_, _-_, _≤_, _<_}
 use native.Mathlib.Nat.{add-zero}
@@ -13,14 +13,15 @@ use borrow.Author.Tests.{eq-eqb, ne-eqb, le-leb, lt-leb}
 use Rattle.octet.specs.Number.{valueLE}
 use Rattle.octet.specs.Part.{part}
 use Rattle.key.specs.Number.{keyAt}
-use Rattle.table.specs.Rows.{rows}
+use Rattle.table.specs.Rows.{rows, anyOf}
 use Rattle.table.proofs.RowLaws.{rows-next, rows-end}
 use Rattle.table.proofs.PieceLaws.{part-lent}
-use Rattle.waiting.specs.declared.seek.Found.{Found}
-use Rattle.waiting.specs.declared.seek.Found.the-variants.{At, Nothing}
+use Rattle.table.proofs.SeekLaws.{isFound, any-found}
+use Rattle.table.specs.declared.Found.{Found}
 use Rattle.waiting.specs.Place.{idOf, kindOf}
-use Rattle.waiting.specs.Form.{isInquiry, anyOf, again, placeForm, placesForm, usedIn}
-use Rattle.waiting.specs.Seek.{isAt, seek}
+use Rattle.waiting.specs.Form.{isInquiry, again, placeForm, placesForm, usedIn}
+use Rattle.table.specs.Seek.{seek}
+use Rattle.waiting.specs.Seek.{isAt}
 use Rattle.waiting.specs.Slot.{slotIn}
 use Rattle.waiting.proofs.PlaceLaws.{id-at, kind-at, key-at}
 
@@ -33,20 +34,6 @@ at-is id kind from t e = ap₂ (λ (n m : ℕ). eqb n id && eqb m kind) (id-at f
 pub inquiry-is : (k from : ℕ) (t : List ℕ) {r : Bool} → r ≡ eqb (keyAt (from + 8) t) k
     → isInquiry k (part from 140 t) ≡ (eqb (getD t (from + 4) 0) 2 && r)
 inquiry-is k from t e = ap₂ (λ (n : ℕ) (b : Bool). eqb n 2 && b) (kind-at from t) (ap (λ (n : ℕ). eqb n k) (key-at from t) ∙ sym e)
-
--- whether one passes a test is whether it is found
-abbrev pub isFound : Found → Bool
-isFound (At n) = true
-isFound Nothing = false
-
-found-by : (b : Bool) (n : ℕ) (f : Found) (r : Bool) → r ≡ isFound f → (b || r) ≡ isFound (cond b (At n) f)
-found-by true n f r e = refl
-found-by false n f r e = e
-
-pub any-found : (test : List ℕ → Bool) (n : ℕ) (ps : List (List ℕ)) → anyOf test ps ≡ isFound (seek test n ps)
-unfolding anyOf seek
-any-found test n [] = refl
-any-found test n (p ∷ ps) = found-by (test p) n (seek test (n + 1) ps) (anyOf test ps) (any-found test (n + 1) ps)
 
 module _ (used : ℕ) (t : List ℕ) (at : ℕ) where
   -- the place number at, and those from there on
@@ -64,35 +51,6 @@ module _ (used : ℕ) (t : List ℕ) (at : ℕ) where
 
   none : used ≤ at → left ≡ []
   none h = rows-end 140 used t at h
-
-  module _ (test : List ℕ → Bool) where
-    -- ---- the first that passes a test
-
-    pub seek-here : at < used → test place ≡ true → seek test at left ≡ At at
-    unfolding seek
-    seek-here h e = ap (seek test at) (next h) ∙ rw e refl
-
-    pub seek-on : at < used → test place ≡ false → seek test at left ≡ seek test (at + 1) later
-    unfolding seek
-    seek-on h e = ap (seek test at) (next h) ∙ rw e refl
-
-    pub seek-end : used ≤ at → seek test at left ≡ Nothing
-    unfolding seek
-    seek-end h = ap (seek test at) (none h)
-
-    -- ---- whether one does
-
-    pub any-here : at < used → test place ≡ true → anyOf test left ≡ true
-    unfolding anyOf
-    any-here h e = ap (anyOf test) (next h) ∙ rw e refl
-
-    pub any-on : at < used → test place ≡ false → anyOf test left ≡ anyOf test later
-    unfolding anyOf
-    any-on h e = ap (anyOf test) (next h) ∙ rw e refl
-
-    pub any-end : used ≤ at → anyOf test left ≡ false
-    unfolding anyOf
-    any-end h = ap (anyOf test) (none h)
 
   -- ---- where a place is opened
 

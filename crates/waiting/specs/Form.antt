@@ -2,13 +2,14 @@
 -- and has the place's key; no two inquiries have the same key, and none has the own key. A flood's record is all zero." Assumes nothing.
 use Prim.Native.Nat.{ℕ, suc, _*_, _≤_}
 use mathlib.Core.Path.{_≡_}
-use mathlib.Core.Bool.{Bool, true, false, not, _&&_, _||_, cond}
+use mathlib.Core.Bool.{Bool, true, not, _&&_, _||_, cond}
 use mathlib.Core.List.{List, [], _∷_}
 use lib.Dec.{eqb, leb}
 use lib.ListN.{length, drop, getD}
 use Rattle.octet.specs.Part.{allZero}
 use Rattle.record.specs.Record.{keyOf, recordForm}
-use Rattle.table.specs.Rows.{rows, bytesOf, Sized}
+use Rattle.own.specs.Own.{Own, isOwn}
+use Rattle.table.specs.Rows.{rows, bytesOf, Sized, anyOf}
 use Rattle.waiting.specs.Place.{idOf, kindOf, triesOf, placeKey, placeRecord}
 
 -- ---- a used place, for a gauge with the own key
@@ -16,11 +17,11 @@ use Rattle.waiting.specs.Place.{idOf, kindOf, triesOf, placeKey, placeRe
 abbrev pub floodForm : List ℕ → Bool
 floodForm p = eqb (kindOf p) 1 && allZero (placeRecord p)
 
-abbrev pub inquiryForm : ℕ → List ℕ → Bool
+abbrev pub inquiryForm : Own → List ℕ → Bool
 inquiryForm own p =
-    eqb (kindOf p) 2 && recordForm (placeRecord p) && eqb (keyOf (placeRecord p)) (placeKey p) && not (eqb (placeKey p) own)
+    eqb (kindOf p) 2 && recordForm (placeRecord p) && eqb (keyOf (placeRecord p)) (placeKey p) && not (isOwn own (placeKey p))
 
-unfoldable pub placeForm : ℕ → List ℕ → Bool
+unfoldable pub placeForm : Own → List ℕ → Bool
 placeForm own p =
     leb (triesOf p) 2 && eqb (getD p 6 0) 0 && eqb (getD p 7 0) 0 && (floodForm p || inquiryForm own p)
 
@@ -29,11 +30,6 @@ placeForm own p =
 -- is the place an inquiry for the key?
 abbrev pub isInquiry : ℕ → List ℕ → Bool
 isInquiry k p = eqb (kindOf p) 2 && eqb (placeKey p) k
-
--- does one of them pass a test?
-unfoldable pub anyOf : (List ℕ → Bool) → List (List ℕ) → Bool
-anyOf test [] = false
-anyOf test (p ∷ ps) = test p || anyOf test ps
 
 -- is the place an inquiry, and one of those after it one for the same key?
 abbrev pub again : List ℕ → List (List ℕ) → Bool
@@ -58,7 +54,7 @@ usedOf t = usedIn (rows 140 16 t)
 abbrev pub placesOf : List ℕ → List (List ℕ)
 placesOf t = rows 140 (usedOf t) t
 
-unfoldable pub waitingForm : ℕ → List ℕ → Bool
+unfoldable pub waitingForm : Own → List ℕ → Bool
 waitingForm own t = eqb (length t) 2240 && allZero (drop (140 * usedOf t) t) && placesForm own 0 (placesOf t)
 
 -- the same as a property of a list of places: the table is this list, and then zeros

@@ -1,10 +1,8 @@
 pub mod Place
 pub mod Form
-pub mod Formed
 pub mod Seek
 pub mod Open
 pub mod Slot
 pub mod Tick
-pub mod Call
 pub mod Cases
 pub mod Ticking

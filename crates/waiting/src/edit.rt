@@ -14,9 +14,9 @@ fn write_place(place: &mut [u8], id: u32, kind: u8, tries: u8, key: &[u8], held:
 {
     let head = [kind, tries, 0, 0];
     octet::write_u32_le(place, 0, id);
-    octet::copy_to(place, 4, &head);
-    octet::copy_to(place, 8, key);
-    octet::copy_to(place, 40, held);
+    runs::copy_to(place, 4, &head);
+    runs::copy_to(place, 8, key);
+    runs::copy_to(place, 40, held);
 }
 
 // Opens a place where its ID belongs.
@@ -28,9 +28,9 @@ pub fn open(table: &mut [u8], used: usize, id: u32, kind: u8, tries: u8, key: &[
         (rows 140 used (now (table .entry)))) ⌝ }
 {
     let at = slot(table, used, id);
-    let mut place = [0u8; 140];
+    let mut place = [0u8; crate::PLACE_LEN];
     write_place(&mut place, id, kind, tries, key, held);
-    table::insert_row(table, 140, used, at, &place);
+    table::insert_row(table, crate::PLACE_LEN, used, at, &place);
 }
 
 // Frees the place number `at`.
@@ -38,5 +38,5 @@ pub fn free(table: &mut [u8], used: usize, at: usize)
     requires { ⌜ (at < used) × (length (now table) ≡ 2240) × Laid 140 used (now table) ⌝ }
     ensures { λ _. ⌜ now (table .exit) ≡ bytesOf 2240 (freed at (rows 140 used (now (table .entry)))) ⌝ }
 {
-    table::remove_row(table, 140, used, at);
+    table::remove_row(table, crate::PLACE_LEN, used, at);
 }

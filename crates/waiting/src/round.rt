@@ -20,15 +20,15 @@ fn tick_place(table: &mut [u8], at: usize, kept: usize, output: &mut [u8]) -> us
         (splice (4 * kept) (digitsLE 256 4 (idOf (part (140 * at) 140 (now (table .entry)))))
         (now (output .entry)))) ⌝ }
 {
-    let from = 140 * at;
-    let to = 140 * kept;
+    let from = crate::PLACE_LEN * at;
+    let to = crate::PLACE_LEN * kept;
     let tries = table[from + 5];
     if tries == 0 {
         return kept;
     }
     let id = octet::read_u32_le(table, from);
     octet::write_u32_le(output, 4 * kept, id);
-    octet::move_down(table, from, to, 140);
+    runs::move_down(table, from, to, crate::PLACE_LEN);
     table[to + 5] = tries - 1;
     kept + 1
 }
@@ -47,7 +47,7 @@ pub fn tick_places(table: &mut [u8], used: usize, output: &mut [u8]) -> usize
         kept = tick_place(table, at, kept, output);
         at += 1;
     }
-    let free = 140 * kept;
-    octet::clear(table, free, 2240 - free);
+    let free = crate::PLACE_LEN * kept;
+    runs::clear(table, free, crate::WAITING_LEN - free);
     kept
 }

@@ -3,16 +3,12 @@ ghost use mathlib.Core.Path.{_≡_};
 ghost use Prim.Native.Nat.{_+_, _*_, _≤_};
 ghost use lib.ListN.{length, drop};
 ghost use Rattle.key.specs.Number.{keyAt};
-ghost use Rattle.table.specs.Rows.{rows};
-ghost use Rattle.waiting.specs.Form.{isInquiry, anyOf};
-ghost use Rattle.waiting.specs.Seek.{seek, isAt, hasId};
+ghost use Rattle.table.specs.Rows.{rows, anyOf};
+ghost use Rattle.table.specs.Seek.{seek};
+ghost use Rattle.waiting.specs.Form.{isInquiry};
+ghost use Rattle.waiting.specs.Seek.{isAt, hasId};
 ghost use Rattle.waiting.specs.Slot.{slotIn};
-
-// Which place was found.
-pub enum Found {
-    At(usize),
-    Nothing,
-}
+use table::Found;
 
 // The place with the ID and the kind.
 pub fn find(table: &[u8], used: usize, id: u32, kind: u8) -> Found
@@ -21,7 +17,7 @@ pub fn find(table: &[u8], used: usize, id: u32, kind: u8) -> Found
 {
     let mut at = 0;
     while at < used {
-        let from = 140 * at;
+        let from = crate::PLACE_LEN * at;
         let this = octet::read_u32_le(table, from);
         if (this == id) & (table[from + 4] == kind) {
             return Found::At(at);
@@ -38,7 +34,7 @@ pub fn has_id(table: &[u8], used: usize, id: u32) -> bool
 {
     let mut at = 0;
     while at < used {
-        let this = octet::read_u32_le(table, 140 * at);
+        let this = octet::read_u32_le(table, crate::PLACE_LEN * at);
         if this == id {
             return true;
         }
@@ -55,7 +51,7 @@ pub fn find_inquiry(table: &[u8], start: usize, used: usize, key: &[u8], place: 
 {
     let mut at = start;
     while at < used {
-        let from = 140 * at;
+        let from = crate::PLACE_LEN * at;
         let same = key::same_at(table, from + 8, key, place);
         if (table[from + 4] == 2) & same {
             return Found::At(at);
@@ -72,7 +68,7 @@ pub(crate) fn slot(table: &[u8], used: usize, id: u32) -> usize
 {
     let mut at = 0;
     while at < used {
-        let this = octet::read_u32_le(table, 140 * at);
+        let this = octet::read_u32_le(table, crate::PLACE_LEN * at);
         if id <= this {
             return at;
         }

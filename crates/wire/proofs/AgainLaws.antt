@@ -10,22 +10,21 @@ use lib.Dec.{eqb}
 use lib.ListN.{getD}
 use Rattle.octet.specs.Number.{digitsBE}
 use Rattle.octet.specs.Part.{part}
-use Rattle.wire_fields.specs.Shapes.{Kind}
-use Rattle.wire_fields.specs.Kinds.{kindsOf, joined, present, oneOf}
-use Rattle.wire_fields.specs.Kinds.{solicitKinds, advertiseKinds, requestKinds, floodKinds, inquireKinds, authorityKinds, ackKinds, lookupKinds}
+use Rattle.wire_shapes.specs.Shapes.{Kind}
+use Rattle.wire_fields.specs.Kinds.{kindsOf, joined, present, oneOf, solicitKinds, advertiseKinds, requestKinds, floodKinds, inquireKinds, authorityKinds, ackKinds, lookupKinds}
 use Rattle.wire_fields.specs.Message.{Contents, Message, Formed, ends, layoutFrom, layoutOf, bytesOf, headerOf}
 use Rattle.wire_fields.specs.Reading.{contentsIn}
 use Rattle.wire_fields.specs.declared.Part.{Part}
 use Rattle.wire_fields.specs.declared.Part.the-variants.{Here, Absent}
-use Rattle.wire_read.specs.Answers.{isHere, startOf}
+use Rattle.wire_buffer.specs.Buffer.{startOf}
+use Rattle.wire_read.specs.Answers.{isHere}
 use Rattle.wire_read.specs.Meaning.{messageOf, held, bit}
 use Rattle.wire_read.specs.declared.Head.{Head}
 use Rattle.wire_read.specs.declared.Answer.{Answer}
 use Rattle.wire_read.specs.declared.Answer.the-variants.{Refused, Solicit, Advertise, Request, Flood, Inquire, Authority, Ack, Lookup}
 use Rattle.wire_write.specs.Writing.{Made}
 use Rattle.wire_write.specs.Pieces.{Lent, lentOf, kindsOfRows, contentsOf, givensOf, madeBy}
-use Rattle.wire_write.specs.Rows.{solicitRows, advertiseRows, requestRows, floodRows, inquireRows, authorityRows, ackRows, lookupRows}
-use Rattle.wire_write.specs.Rows.{ownPiece, firstPiece, noPiece, ownBytes}
+use Rattle.wire_write.specs.Rows.{solicitRows, advertiseRows, requestRows, floodRows, inquireRows, authorityRows, ackRows, lookupRows, ownPiece, firstPiece, noPiece, ownBytes}
 use Rattle.wire_write.specs.declared.Row.{Row}
 use Rattle.wire_write.specs.declared.Piece.{Piece}
 use Rattle.wire_copy.specs.Resent.{resent, lenOf, pieceOf}

@@ -6,8 +6,8 @@ use mathlib.Core.Option.{some, none}
 use lib.ListN.{length, replicate}
 use Rattle.octet.specs.Number.{Bytes, digitsBE}
 use Rattle.octet.proofs.BytesLaws.{bytes-nil, bytes-cons, bytes-append, bytes-zeros, bytes-digits}
-use Rattle.wire_fields.specs.Field.{gap}
-use Rattle.wire_fields.specs.Shapes.{Kind}
+use Rattle.wire_shapes.specs.Field.{gap}
+use Rattle.wire_shapes.specs.Shapes.{Kind}
 use Rattle.wire_fields.specs.Message.{Contents, Formed, Message, WellFormed, ends, layoutFrom, layoutOf, bytesOf, opening}
 
 bytes-fields : (ks : List Kind) (i : ℕ) (fs : List Contents) → Formed ks fs → Bytes (bytesOf (layoutFrom i ks fs))

@@ -10,15 +10,14 @@ use lib.ListN.{length, getD, drop, length-append, replicate, length-replicate}
 use borrow.Author.Tests.{eqb-true, eq-eqb}
 use Rattle.octet.specs.Number.{digitsBE}
 use Rattle.octet.proofs.BigLaws.{length-digitsBE}
-use Rattle.wire_fields.specs.Field.{gap}
-use Rattle.wire_fields.specs.Shapes.{Kind, hasShape}
-use Rattle.wire_fields.specs.Kinds.{may, noneOfTwo, ackedKind, splitKind, kindsOf, requestKinds, bufferKinds, authorityKinds, joined, sized, derived}
+use Rattle.wire_shapes.specs.Field.{gap}
+use Rattle.wire_shapes.specs.Shapes.{Kind, hasShape}
+use Rattle.wire_fields.specs.Kinds.{may, noneOfTwo, ackedKind, splitKind, kindsOf, requestKinds, bufferKinds, authorityKinds, joined, sized, derived, splitBytes}
 use Rattle.wire_fields.specs.Message.{Contents, Message, Held, Formed, WellFormed, ends, layoutFrom, layoutOf, bytesOf, headerOf, partsOf}
 use Rattle.wire_fields.specs.declared.Part.the-variants.{Here, Absent}
-use Rattle.wire_fields.specs.declared.Shape.the-variants.{Sized}
+use Rattle.wire_shapes.specs.declared.Shape.the-variants.{Sized}
 use Rattle.wire_fields.proofs.RefusalLaws.{split-four}
 use Rattle.wire_fields.proofs.WholeLaws.{length-header}
-use Rattle.wire_fields.specs.Kinds.{splitBytes}
 use Rattle.wire_write.proofs.PutLaws.{head-length}
 use Rattle.wire.specs.Statements.{AllowedAt, changedAt, splitAgain, changed}
 use Rattle.wire.proofs.SendingLaws.{split-held, follows}

@@ -12,24 +12,18 @@ use Rattle.octet.specs.Number.{Bytes}
 use Rattle.octet.specs.Part.{part}
 use Rattle.octet.proofs.PartLaws.{length-part}
 use Rattle.octet.proofs.TestLaws.{both-true}
-use Rattle.wire_fields.specs.Field.{numberAt}
-use Rattle.wire_fields.specs.Shapes.{Kind, hasShape, lookupForm}
-use Rattle.wire_fields.specs.Kinds.{must, may, ackedKind, splitKind, endpoints, keyList}
-use Rattle.wire_fields.specs.Kinds.{codes, noneOfTwo, lastOfTwo, lastOfTwoAndOne, flagsAXC, flagsLBN}
-use Rattle.wire_fields.specs.Kinds.{keepLookup, sized, derived}
-use Rattle.wire_fields.specs.Kinds.{solicitKinds, advertiseKinds, requestKinds, floodKinds, inquireKinds, authorityKinds, ackKinds, lookupKinds}
+use Rattle.wire_shapes.specs.Field.{numberAt}
+use Rattle.wire_shapes.specs.Shapes.{Kind, hasShape, lookupForm}
+use Rattle.wire_fields.specs.Kinds.{must, may, ackedKind, splitKind, endpoints, keyList, codes, noneOfTwo, lastOfTwo, lastOfTwoAndOne, flagsAXC, flagsLBN, keepLookup, sized, derived, solicitKinds, advertiseKinds, requestKinds, floodKinds, inquireKinds, authorityKinds, ackKinds, lookupKinds, splitBytes}
 use Rattle.wire_fields.specs.Reading.{valueOf, valuesOf, messageAt}
 use Rattle.wire_fields.specs.declared.Part.{Part}
 use Rattle.wire_fields.specs.declared.Part.the-variants.{Here, Absent}
-use Rattle.wire_fields.specs.declared.Shape.the-variants.{Sized, Any, Entry, Lookup, Split}
+use Rattle.wire_shapes.specs.declared.Shape.the-variants.{Sized, Any, Entry, Lookup, Split}
 use Rattle.wire_fields.proofs.HeadLaws.{digits-at}
-use Rattle.wire_fields.proofs.ShapeLaws.{number-first, number-in}
+use Rattle.wire_shapes.proofs.ShapeLaws.{number-first, number-in}
 use Rattle.wire_fields.proofs.RefusalLaws.{split-four}
-use Rattle.wire_read.specs.Answers.{isHere, flagIn, headOf, solicitShown, advertiseShown}
-use Rattle.wire_read.specs.Answers.{requestShown, floodShown, inquireShown, authorityShown, ackShown}
-use Rattle.wire_read.specs.Answers.{lookupShown}
+use Rattle.wire_read.specs.Answers.{isHere, flagIn, headOf, solicitShown, advertiseShown, requestShown, floodShown, inquireShown, authorityShown, ackShown, lookupShown}
 use Rattle.wire_read.specs.Meaning.{messageOf, held, bit}
-use Rattle.wire_fields.specs.Kinds.{splitBytes}
 use Rattle.wire.proofs.StandLaws.{Fact, after, Stand, needed, maybed, ended, plain-may, sized-length}
 use Rattle.wire.proofs.ValueLaws.{none-kept, last-kept, controls-kept, axc-kept, lbn-kept, split-bytes, lookup-kept}
 

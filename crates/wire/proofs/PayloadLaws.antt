@@ -13,24 +13,24 @@ use borrow.Author.Tests.{le-leb, leb-true}
 use Rattle.octet.specs.Number.{digitsBE, Bytes}
 use Rattle.octet.specs.Part.{part}
 use Rattle.octet.proofs.TestLaws.{and-true}
-use Rattle.wire_fields.specs.Shapes.{hasShape}
+use Rattle.wire_shapes.specs.Shapes.{hasShape}
 use Rattle.wire_fields.specs.declared.Part.{Part}
 use Rattle.wire_fields.specs.declared.Part.the-variants.{Here}
-use Rattle.wire_fields.specs.declared.Shape.the-variants.{Any, Entry}
+use Rattle.wire_shapes.specs.declared.Shape.the-variants.{Any, Entry}
 use Rattle.wire_fields.specs.Kinds.{may, codes, bufferKinds, authorityKinds, kindsOf, splitBytes}
 use Rattle.wire_fields.specs.Message.{Contents, Message, Held, Formed, WellFormed, layoutFrom, layoutOf, bytesOf, headerOf}
 use Rattle.wire_fields.specs.Reading.{contentsIn}
 use Rattle.wire_read.specs.Meaning.{messageOf, held, bit, insideFields}
 use Rattle.wire_read.specs.declared.Head.{Head}
-use Rattle.wire_read.specs.declared.Inside.{Inside}
+use Rattle.wire_buffer.specs.declared.Inside.{Inside}
 use Rattle.wire_read.specs.declared.Answer.the-variants.{Authority}
 use Rattle.wire_write.specs.Writing.{Made}
 use Rattle.wire_write.specs.Pieces.{Lent, pieceOk, lentOf, kindsOfRows, contentsOf, givensOf, madeBy}
 use Rattle.wire_write.specs.Rows.{mayRow, authorityRows, ownBytes}
 use Rattle.wire_write.specs.declared.Row.{Row}
 use Rattle.wire_copy.specs.Resent.{pieceOf, resent}
-use Rattle.wire_copy.specs.Payload.{carryingPieces, carrying, withPayload}
-use Rattle.wire_copy.proofs.PayloadLaws.{same-ok}
+use Rattle.wire_payload.specs.Payload.{carryingPieces, carrying, withPayload}
+use Rattle.wire_payload.proofs.PayloadLaws.{same-ok}
 use Rattle.wire.specs.Statements.{changedAt, changed}
 use Rattle.wire.proofs.ChangedLaws.{formed-at}
 use Rattle.wire.proofs.AgainLaws.{RowsFor, Same, rows-bytes, table-bytes, authority-rows, piece-is}

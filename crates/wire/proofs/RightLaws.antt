@@ -10,19 +10,16 @@ use lib.ListN.{length, getD, drop}
 use borrow.Author.Tests.{le-leb}
 use Rattle.octet.specs.Number.{digitsBE}
 use Rattle.octet.specs.Part.{part}
-use Rattle.wire_fields.specs.Field.{numberAt}
-use Rattle.wire_fields.specs.Shapes.{Kind, hasShape, lookupForm, isCriteria}
-use Rattle.wire_fields.specs.Kinds.{oneOf, keyList, endpoints, codes}
-use Rattle.wire_fields.specs.Kinds.{solicitKinds, advertiseKinds, requestKinds, floodKinds, inquireKinds}
-use Rattle.wire_fields.specs.Kinds.{bufferKinds, authorityKinds, ackKinds, lookupKinds}
+use Rattle.wire_shapes.specs.Field.{numberAt}
+use Rattle.wire_shapes.specs.Shapes.{Kind, hasShape, lookupForm, isCriteria}
+use Rattle.wire_fields.specs.Kinds.{oneOf, keyList, endpoints, codes, solicitKinds, advertiseKinds, requestKinds, floodKinds, inquireKinds, bufferKinds, authorityKinds, ackKinds, lookupKinds}
 use Rattle.wire_fields.specs.declared.Part.{Part}
 use Rattle.wire_fields.specs.declared.Part.the-variants.{Here, Absent}
-use Rattle.wire_fields.specs.declared.Shape.{Shape}
-use Rattle.wire_fields.specs.declared.Shape.the-variants.{Sized, Any, Entry, Lookup}
-use Rattle.wire_fields.proofs.ShapeLaws.{lookup-in}
-use Rattle.wire_read.specs.Answers.{flagAt, headOf, isHere, startOf, solicitShown}
-use Rattle.wire_read.specs.Answers.{advertiseShown, requestShown, floodShown, inquireShown, authorityShown}
-use Rattle.wire_read.specs.Answers.{ackShown, lookupShown}
+use Rattle.wire_shapes.specs.declared.Shape.{Shape}
+use Rattle.wire_shapes.specs.declared.Shape.the-variants.{Sized, Any, Entry, Lookup}
+use Rattle.wire_shapes.proofs.ShapeLaws.{lookup-in}
+use Rattle.wire_buffer.specs.Buffer.{flagAt, startOf}
+use Rattle.wire_read.specs.Answers.{headOf, isHere, solicitShown, advertiseShown, requestShown, floodShown, inquireShown, authorityShown, ackShown, lookupShown}
 use Rattle.wire_write.specs.Writing.{Made}
 use Rattle.wire_write.specs.Pieces.{Lent, lentOf, pieceOk, rowsOk, madeBy}
 use Rattle.wire_write.specs.Rows.{needRow, ownPiece, firstPiece, noPiece, ownBytes, floodRows}

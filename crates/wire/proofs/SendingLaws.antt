@@ -19,13 +19,12 @@ use Rattle.record.specs.Record.{countOf, recordForm}
 use Rattle.record.specs.Entry.{entryOf}
 use Rattle.record.proofs.EntryLaws.{entry-form}
 use Rattle.record.proofs.PlaceLaws.{record-at, entry-length, entry-in}
-use Rattle.wire_fields.specs.Field.{numberAt, gap}
-use Rattle.wire_fields.specs.Shapes.{hasShape, splitForm}
+use Rattle.wire_shapes.specs.Field.{numberAt, gap}
+use Rattle.wire_shapes.specs.Shapes.{hasShape, splitForm}
 use Rattle.wire_fields.specs.declared.Part.the-variants.{Here}
-use Rattle.wire_fields.specs.Kinds.{must, may, ackedKind, splitKind, flagsLBN, kindsOf}
-use Rattle.wire_fields.specs.Kinds.{joined, sized, derived, floodKinds, authorityKinds, splitBytes}
+use Rattle.wire_fields.specs.Kinds.{must, may, ackedKind, splitKind, flagsLBN, kindsOf, joined, sized, derived, floodKinds, authorityKinds, splitBytes}
 use Rattle.wire_fields.specs.Message.{Held, layoutOf, bytesOf}
-use Rattle.wire_fields.specs.declared.Shape.the-variants.{Sized, Entry}
+use Rattle.wire_shapes.specs.declared.Shape.the-variants.{Sized, Entry}
 use Rattle.wire_write.specs.Writing.{fit}
 use Rattle.wire_write.specs.Sent.{floodSent, cpaSent, closestSent}
 use Rattle.wire_write.specs.Making.{floodMade, inquireMade, cpaMade, closestMade, formedAt}

@@ -9,7 +9,7 @@ use mathlib.Core.Option.{some, none}
 use lib.Dec.{eqb}
 use lib.ListN.{length}
 use borrow.Author.Tests.{eqb-true}
-use Rattle.wire_fields.specs.Shapes.{Kind}
+use Rattle.wire_shapes.specs.Shapes.{Kind}
 use Rattle.wire_fields.specs.Kinds as K
 use Rattle.wire_fields.specs.Kinds.{kindsOf}
 use Rattle.wire_fields.specs.Refusals.{Found, refused, found, foundIn}

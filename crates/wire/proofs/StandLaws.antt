@@ -10,14 +10,14 @@ use lib.ListN.{length}
 use borrow.Author.Tests.{eqb-true}
 use Rattle.octet.specs.Part.{part}
 use Rattle.octet.proofs.PartLaws.{length-part}
-use Rattle.wire_fields.specs.Field.{numberAt, gap}
-use Rattle.wire_fields.specs.Shapes.{Kind, hasShape}
+use Rattle.wire_shapes.specs.Field.{numberAt, gap}
+use Rattle.wire_shapes.specs.Shapes.{Kind, hasShape}
 use Rattle.wire_fields.specs.Kinds.{may}
 use Rattle.wire_fields.specs.Reading.{placesAt, valueOf, contentsIn}
 use Rattle.wire_fields.specs.declared.Part.{Part}
 use Rattle.wire_fields.specs.declared.Part.the-variants.{Here, Absent}
-use Rattle.wire_fields.specs.declared.Shape.{Shape}
-use Rattle.wire_fields.specs.declared.Shape.the-variants.{Sized}
+use Rattle.wire_shapes.specs.declared.Shape.{Shape}
+use Rattle.wire_shapes.specs.declared.Shape.the-variants.{Sized}
 use Rattle.wire_fields.proofs.SpanLaws.{span-fits}
 use Rattle.wire_fields.proofs.FieldLaws.{Came, left-out, found, field-came}
 

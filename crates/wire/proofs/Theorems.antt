@@ -11,12 +11,9 @@ use lib.Seq.{take-at}
 use borrow.Author.Tests.{eqb-true, le-leb}
 use Rattle.octet.specs.Number.{Bytes}
 use Rattle.refusal.proofs.CallLaws.{call-exactly}
-use Rattle.wire_fields.specs.Shapes.{Kind, hasShape}
-use Rattle.wire_fields.specs.declared.Shape.the-variants.{Any}
-use Rattle.wire_fields.specs.Kinds.{kindsOf, may}
-use Rattle.wire_fields.specs.Kinds.{solicitKinds, advertiseKinds, requestKinds, floodKinds, inquireKinds}
-use Rattle.wire_fields.specs.Kinds.{authorityKinds, ackKinds, lookupKinds, joined}
-use Rattle.wire_fields.specs.Kinds.{sized}
+use Rattle.wire_shapes.specs.Shapes.{Kind, hasShape}
+use Rattle.wire_shapes.specs.declared.Shape.the-variants.{Any}
+use Rattle.wire_fields.specs.Kinds.{kindsOf, may, solicitKinds, advertiseKinds, requestKinds, floodKinds, inquireKinds, authorityKinds, ackKinds, lookupKinds, joined, sized}
 use Rattle.wire_fields.specs.Message.{Contents, Held, opening, Message, Formed, Reads, layoutOf, bytesOf, partsOf, typeOf}
 use Rattle.wire_fields.specs.Reading.{messageAt, valuesOf, placesAt, fieldsAs}
 use Rattle.octet.specs.Part.{same}
@@ -24,27 +21,23 @@ use Rattle.wire_fields.proofs.RefusalLaws.{byType, inSteps, found-steps}
 use Rattle.wire_fields.specs.Refusals.{Found, refused, found, foundOf, inPart, placesOf, fieldsIn, refusals, foundIn}
 use Rattle.wire_fields.specs.declared.Part.{Part}
 use Rattle.wire_fields.proofs.WholeLaws.{way, lengths, found-reads, reads-found, reads-once, written-reads, read-written}
-use Rattle.wire_read.specs.Answers.{answer, shown, solicitShown, advertiseShown, requestShown, floodShown, inquireShown, authorityShown, ackShown}
-use Rattle.wire_read.specs.Answers.{lookupShown}
+use Rattle.wire_read.specs.Answers.{answer, shown, solicitShown, advertiseShown, requestShown, floodShown, inquireShown, authorityShown, ackShown, lookupShown}
 use Rattle.wire_read.specs.Meaning.{numberOf, messageOf}
 use Rattle.wire_read.specs.declared.Answer.{Answer}
 use Rattle.wire_read.specs.declared.Answer.the-variants.{Authority}
 use Rattle.wire_read.specs.declared.Head.{Head}
-use Rattle.wire_read.specs.declared.Inside.{Inside}
+use Rattle.wire_buffer.specs.declared.Inside.{Inside}
 use Rattle.wire_write.specs.Writing.{Made, fit, writeAs, writeIn, Wrote}
 use Rattle.wire_write.specs.declared.Written.{Written}
 use Rattle.wire.specs.Statements.{PayloadReads, changedAt, changed, AtMostOne, WrittenReads, ReadWritten, ChangedReads}
-use Rattle.wire.specs.Code.{ReadGives, ReadAccepts, ReadRefuses, WrittenRead, OutputReads, WriteReads}
-use Rattle.wire.specs.Code.{ReadWrittenAgain, OutputAgain, ReadOne, WriteOne, PayloadWritten}
+use Rattle.wire.specs.Code.{ReadGives, ReadAccepts, ReadRefuses, WrittenRead, OutputReads, WriteReads, ReadWrittenAgain, OutputAgain, ReadOne, WriteOne, PayloadWritten}
 use Rattle.wire.proofs.StandLaws.{Stand, stands}
-use Rattle.wire.proofs.MeaningLaws.{solicit-means, advertise-means, request-means, flood-means, inquire-means, authority-means, ack-means}
-use Rattle.wire.proofs.MeaningLaws.{lookup-means}
+use Rattle.wire.proofs.MeaningLaws.{solicit-means, advertise-means, request-means, flood-means, inquire-means, authority-means, ack-means, lookup-means}
 use Rattle.wire_copy.specs.Resent.{resent}
 use Rattle.wire_fields.proofs.SegmentLaws.{cleared-length}
 use Rattle.wire_fields.proofs.KindLaws.{lawful}
 use Rattle.wire.proofs.AgainLaws.{again-bytes, flood-one}
-use Rattle.wire.proofs.RightLaws.{stand-rights, buffer-rights, solicit-right, advertise-right, request-right, flood-right, inquire-right}
-use Rattle.wire.proofs.RightLaws.{authority-right, ack-right, lookup-right}
+use Rattle.wire.proofs.RightLaws.{stand-rights, buffer-rights, solicit-right, advertise-right, request-right, flood-right, inquire-right, authority-right, ack-right, lookup-right}
 use Rattle.wire.proofs.PayloadLaws.{seen, payload-made}
 use Rattle.wire.proofs.ChangedLaws.{changed-well}
 use Rattle.wire.proofs.BytesLaws.{bytes-message}

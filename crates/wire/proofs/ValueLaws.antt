@@ -10,10 +10,11 @@ use lib.ListN.{length, getD}
 use Rattle.octet.specs.Number.{Bytes, digitsBE}
 use Rattle.octet.specs.Part.{part}
 use Rattle.octet.proofs.PartLaws.{length-part, part-at, part-two, part-one, part-add}
-use Rattle.wire_fields.specs.Field.{numberAt, keep}
+use Rattle.wire_shapes.specs.Field.{numberAt, keep}
 use Rattle.wire_fields.specs.Kinds.{noneOfTwo, lastOfTwo, lastOfTwoAndOne, flagsAXC, flagsLBN, keepLookup, splitBytes}
 use Rattle.wire_fields.proofs.HeadLaws.{digits-at}
-use Rattle.wire_read.specs.Answers.{flagAt, precisionAt}
+use Rattle.wire_buffer.specs.Buffer.{flagAt}
+use Rattle.wire_read.specs.Answers.{precisionAt}
 use Rattle.wire_read.specs.Meaning.{bit}
 
 -- a bit of a byte as a flag

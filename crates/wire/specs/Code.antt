@@ -9,20 +9,20 @@ use mathlib.Core.Path.{_≡_}
 use lib.ListN.{length, take}
 use Rattle.octet.specs.Number.{Bytes}
 use Rattle.refusal.specs.Table.{appliesIn}
-use Rattle.wire_fields.specs.Shapes.{Kind}
+use Rattle.wire_shapes.specs.Shapes.{Kind}
 use Rattle.wire_fields.specs.Kinds.{authorityKinds}
 use Rattle.wire_fields.specs.Message.{Message, WellFormed, Reads, layoutOf, bytesOf, cleared}
 use Rattle.wire_fields.specs.Refusals.{refusals}
 use Rattle.wire_read.specs.declared.Answer.{Answer}
 use Rattle.wire_read.specs.declared.Answer.the-variants.{Authority}
 use Rattle.wire_read.specs.declared.Head.{Head}
-use Rattle.wire_read.specs.declared.Inside.{Inside}
+use Rattle.wire_buffer.specs.declared.Inside.{Inside}
 use Rattle.wire_read.specs.Answers.{answer}
 use Rattle.wire_read.specs.Meaning.{numberOf, messageOf}
 use Rattle.wire_write.specs.Writing.{Made, Wrote}
 use Rattle.wire_write.specs.declared.Written.{Written}
 use Rattle.wire_copy.specs.Resent.{resent}
-use Rattle.wire_copy.specs.Payload.{withPayload}
+use Rattle.wire_payload.specs.Payload.{withPayload}
 use Rattle.wire.specs.Statements.{changed}
 
 -- 2. `read` gives the message that the datagram reads as, in the given major version, exactly when there is one; and it gives 0 just then.

@@ -8,7 +8,7 @@ use mathlib.Core.Path.{_≡_}
 use lib.Dec.{eqb}
 use lib.ListN.{length}
 use Rattle.octet.specs.Number.{Bytes}
-use Rattle.wire_fields.specs.Shapes.{Kind}
+use Rattle.wire_shapes.specs.Shapes.{Kind}
 use Rattle.wire_fields.specs.Kinds.{joined, authorityKinds, splitBytes}
 use Rattle.wire_fields.specs.Message.{Contents, Message, Held, WellFormed, Reads, ends, layoutFrom, layoutOf, bytesOf, cleared}
 

@@ -1,2 +1,1 @@
 pub mod Resent
-pub mod Payload

@@ -7,14 +7,14 @@ use lib.ListN.{length}
 use Rattle.wire_fields.specs.Kinds.{oneOf}
 use Rattle.wire_fields.specs.declared.Part.{Part}
 use Rattle.wire_fields.specs.declared.Part.the-variants.{Here, Absent}
-use Rattle.wire_read.specs.Answers.{isHere, startOf}
+use Rattle.wire_buffer.specs.Buffer.{startOf}
+use Rattle.wire_read.specs.Answers.{isHere}
 use Rattle.wire_read.specs.Meaning.{bit}
 use Rattle.wire_read.specs.declared.Answer.{Answer}
 use Rattle.wire_read.specs.declared.Answer.the-variants.{Refused, Solicit, Advertise, Request, Flood, Inquire, Authority, Ack, Lookup}
 use Rattle.wire_write.specs.Writing.{Made}
 use Rattle.wire_write.specs.Pieces.{lentOf, madeBy}
-use Rattle.wire_write.specs.Rows.{solicitRows, advertiseRows, requestRows, floodRows, inquireRows, authorityRows, ackRows, lookupRows}
-use Rattle.wire_write.specs.Rows.{ownPiece, firstPiece, noPiece, ownBytes, lookupBytes, ackPieces}
+use Rattle.wire_write.specs.Rows.{solicitRows, advertiseRows, requestRows, floodRows, inquireRows, authorityRows, ackRows, lookupRows, ownPiece, firstPiece, noPiece, ownBytes, lookupBytes, ackPieces}
 use Rattle.wire_write.specs.declared.Piece.{Piece}
 use Rattle.wire_write.specs.declared.Source.the-variants.{Own, First}
 

@@ -1,29 +1,26 @@
 // A message of any of the eight types that was read from a datagram, written again from where it was read, by the one
-// writer of `wire_write`.
-mod payload;
-
-pub use payload::write_payload;
+// writer of `wire_whole`.
+use wire_buffer::Inside;
 use wire_fields::Part;
 use wire_read::Answer;
 use wire_read::Head;
-use wire_read::Inside;
+use wire_rows::ack_rows;
+use wire_rows::advertise_rows;
+use wire_rows::authority_rows;
+use wire_rows::first_piece;
+use wire_rows::flood_rows;
+use wire_rows::inquire_rows;
+use wire_rows::lookup_bytes;
+use wire_rows::lookup_rows;
+use wire_rows::no_piece;
+use wire_rows::own_bytes;
+use wire_rows::own_piece;
+use wire_rows::request_rows;
+use wire_rows::solicit_rows;
+use wire_whole::write_rows;
 use wire_write::Piece;
 use wire_write::Source;
 use wire_write::Written;
-use wire_write::ack_rows;
-use wire_write::advertise_rows;
-use wire_write::authority_rows;
-use wire_write::first_piece;
-use wire_write::flood_rows;
-use wire_write::inquire_rows;
-use wire_write::lookup_bytes;
-use wire_write::lookup_rows;
-use wire_write::no_piece;
-use wire_write::own_bytes;
-use wire_write::own_piece;
-use wire_write::request_rows;
-use wire_write::solicit_rows;
-use wire_write::write_rows;
 ghost use mathlib.Core.Path.{_≡_};
 ghost use mathlib.Core.Bool.{cond, not};
 ghost use Prim.Native.Nat.{_+_, _*_, _-_, _<_};
@@ -36,7 +33,7 @@ ghost use Rattle.wire_write.specs.Writing.{Wrote};
 ghost use Rattle.wire_copy.specs.Resent.{pieceOf, ownIf, resent};
 
 // A place as a piece of the datagram.
-pub(crate) fn piece_of(p: Part) -> Piece
+pub fn piece_of(p: Part) -> Piece
     ensures { λ r. ⌜ r ≡ pieceOf p ⌝ }
 {
     if let Part::Here(start, len) = p {
@@ -69,7 +66,7 @@ fn own_if(there: bool, start: usize, len: usize) -> Piece
     }
 }
 
-pub(crate) fn bit_of(b: bool) -> u8
+pub fn bit_of(b: bool) -> u8
     ensures { λ r. ⌜ r ≡ bit b ⌝ }
     ensures { λ r. ⌜ r < 2 ⌝ }
 {
@@ -77,7 +74,7 @@ pub(crate) fn bit_of(b: bool) -> u8
 }
 
 // The second byte of a buffer's flags: B, and N.
-pub(crate) fn busy_and_none(b: bool, n: bool) -> u8
+pub fn busy_and_none(b: bool, n: bool) -> u8
     ensures { λ r. ⌜ r ≡ 8 * bit b + bit n ⌝ }
 {
     let busy = bit_of(b);

@@ -8,8 +8,8 @@ use mathlib.Core.Option.{some, none}
 use mathlib.Core.Path.{_≡_, refl, ap, _∙_}
 use lib.ListN.{length}
 use Rattle.octet.specs.Number.{Bytes}
-use Rattle.wire_fields.specs.Field.{gap}
-use Rattle.wire_fields.specs.Shapes.{Kind}
+use Rattle.wire_shapes.specs.Field.{gap}
+use Rattle.wire_shapes.specs.Shapes.{Kind}
 use Rattle.wire_fields.specs.Kinds.{bufferKinds}
 use Rattle.wire_fields.specs.Message.{Contents, Formed, layoutFrom, bytesOf, cleared, partsOf}
 use Rattle.wire_fields.specs.Reading.{placesAt, valuesOf}

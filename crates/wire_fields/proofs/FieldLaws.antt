@@ -10,8 +10,8 @@ use lib.Seq.{drop-drop}
 use Rattle.octet.specs.Number.{digitsBE}
 use Rattle.octet.specs.Part.{part}
 use mathlib.Core.Bool.{cond}
-use Rattle.wire_fields.specs.Field.{gap}
-use Rattle.wire_fields.specs.Shapes.{Kind, hasShape}
+use Rattle.wire_shapes.specs.Field.{gap}
+use Rattle.wire_shapes.specs.Shapes.{Kind, hasShape}
 use Rattle.wire_fields.specs.Message.{Segment, ends, fieldLayout}
 use Rattle.wire_fields.specs.Reading.{spanAt, needAt, needOf, maybeAt, maybeOf, placesAt, before, afterNeed, afterMaybe}
 use Rattle.wire_fields.specs.declared.Cursor.{Cursor}

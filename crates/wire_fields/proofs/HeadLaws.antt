@@ -9,7 +9,7 @@ use Rattle.octet.specs.Number.{Bytes, valueBE, digitsBE}
 use Rattle.octet.specs.Part.{part}
 use Rattle.octet.proofs.PartLaws.{part-add, part-digits, length-part}
 use Rattle.octet.proofs.BigLaws.{length-digitsBE, valueBE-lt, valueBE-digitsBE, digitsBE-valueBE}
-use Rattle.wire_fields.specs.Field.{numberAt}
+use Rattle.wire_shapes.specs.Field.{numberAt}
 use Rattle.record.proofs.PlaceLaws.{part-part}
 
 -- bytes are the digits of their number

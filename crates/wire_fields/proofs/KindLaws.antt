@@ -10,13 +10,11 @@ use lib.ListN.{length, getD}
 use borrow.Author.Tests.{eqb-true}
 use Rattle.octet.specs.Number.{Bytes}
 use mathlib.Core.Bool.{cond}
-use Rattle.wire_fields.specs.Field.{bits, keep}
-use Rattle.wire_fields.specs.Shapes.{Kind, hasShape, lookupForm}
-use Rattle.wire_fields.specs.Kinds.{ackKinds, floodKinds, lookupKinds, solicitKinds, advertiseKinds, requestKinds, inquireKinds}
-use Rattle.wire_fields.specs.Kinds.{bufferKinds, authorityKinds, keepLookup, endpoints, keyList, codes, kindsOf}
-use Rattle.wire_fields.specs.Kinds.{lastOfTwo, lastOfTwoAndOne, noneOfTwo, flagsAXC, flagsLBN}
-use Rattle.wire_fields.specs.declared.Shape.{Shape}
-use Rattle.wire_fields.specs.declared.Shape.the-variants.{Sized, Any, Entry, Lookup, Split}
+use Rattle.wire_shapes.specs.Field.{bits, keep}
+use Rattle.wire_shapes.specs.Shapes.{Kind, hasShape, lookupForm}
+use Rattle.wire_fields.specs.Kinds.{ackKinds, floodKinds, lookupKinds, solicitKinds, advertiseKinds, requestKinds, inquireKinds, bufferKinds, authorityKinds, keepLookup, endpoints, keyList, codes, kindsOf, lastOfTwo, lastOfTwoAndOne, noneOfTwo, flagsAXC, flagsLBN}
+use Rattle.wire_shapes.specs.declared.Shape.{Shape}
+use Rattle.wire_shapes.specs.declared.Shape.the-variants.{Sized, Any, Entry, Lookup, Split}
 use Rattle.wire_fields.proofs.TableLaws.{Law, Lawful}
 
 -- a table of kept bits: clearing twice is clearing once, and what is left of a byte is a byte

@@ -1,4 +1,3 @@
-pub mod ShapeLaws
 pub mod SpanLaws
 pub mod StepLaws
 pub mod SegmentLaws

@@ -1,6 +1,6 @@
 -- Laws of the table of reading's refusals: the steps in which the code goes through it; an AUTHORITY in part, and that a whole one is not; the four
 -- bytes of split controls. Assumes nothing.
-use Prim.Native.Nat.{ℕ, _≤_}
+use Prim.Native.Nat.{ℕ, _+_, _-_, _≤_}
 use native.Mathlib.Omega.{arith}
 use mathlib.Core.List.{List, [], _∷_}
 use mathlib.Core.Bool.{Bool, true, false, cond, not, _&&_}
@@ -12,7 +12,9 @@ use borrow.Author.Tests.{eqb-true, eq-eqb, le-leb}
 use Rattle.octet.specs.Part.{part, same}
 use Rattle.octet.proofs.TestLaws.{both-true}
 use Rattle.refusal.specs.Table.{orRefuse}
-use Rattle.wire_fields.specs.Shapes.{Kind, hasShape, splitForm}
+use Rattle.wire_shapes.specs.Field.{numberAt}
+use Rattle.wire_shapes.specs.Shapes.{Kind, hasShape, splitForm}
+use Rattle.wire_shapes.proofs.ShapeLaws.{number-first, number-in}
 use Rattle.wire_fields.specs.Kinds.{kindsOf, sized, derived, may, present, ackedKind, splitKind, authorityKinds}
 use Rattle.wire_fields.specs.Message.{opening}
 use Rattle.wire_fields.specs.Reading.{spanAt, needAt, needOf, maybeAt, maybeOf, placesAt, valuesOf, valueOf, wholeIn, FourAt, fieldsAs}
@@ -25,8 +27,8 @@ use Rattle.wire_fields.specs.declared.Part.the-variants.{Here, Absent}
 use Rattle.wire_fields.specs.declared.Need.{Need}
 use Rattle.wire_fields.specs.declared.Need.the-variants.{Field, Missing}
 use Rattle.wire_fields.specs.declared.Maybe.the-variants.{Taken, Malformed}
-use Rattle.wire_fields.specs.declared.Shape.{Shape}
-use Rattle.wire_fields.specs.declared.Shape.the-variants.{Sized, Split}
+use Rattle.wire_shapes.specs.declared.Shape.{Shape}
+use Rattle.wire_shapes.specs.declared.Shape.the-variants.{Sized, Split}
 use Rattle.wire_fields.proofs.SpanLaws.{span-fits, span-length}
 use Rattle.wire_fields.proofs.StepLaws.{need-good}
 use Rattle.wire_fields.proofs.FieldLaws.{Came, left-out, found as came, field-came}
@@ -205,3 +207,9 @@ pub split-value : (d : List ℕ) (p : Part) → derived (length d) p (valueOf (m
 unfolding wholeIn
 split-value d (Here s l) = refl
 split-value d Absent = refl
+
+-- split controls, by the datagram's own bytes
+pub whole-in : (d : List ℕ) (s l : ℕ) → s + l ≤ length d → l ≡ 4
+    → wholeIn d (Here s l) ≡ eqb (numberAt s 2 d) (length d - (s + l)) && eqb (numberAt (s + 2) 2 d) 0
+unfolding wholeIn
+whole-in d s l h m = rw (number-first d s l h 2 (omega arith), number-in d s l h 2 2 (omega arith))

@@ -10,7 +10,7 @@ use borrow.Author.Tests.{le-leb, lt-leb, eq-eqb, ne-eqb, leb-true, eqb-true}
 use Rattle.octet.specs.Part.{part}
 use mathlib.Core.Bool.{_&&_}
 use mathlib.Core.Bool.{cond}
-use Rattle.wire_fields.specs.Field.{numberAt, gap}
+use Rattle.wire_shapes.specs.Field.{numberAt, gap}
 use Rattle.wire_fields.specs.Reading.{spanAt, nextAt}
 use Rattle.wire_fields.specs.declared.Cursor.{Cursor}
 use Rattle.wire_fields.specs.declared.Span.the-variants.{Whole, Other, Cut}

@@ -4,9 +4,9 @@ use mathlib.Core.List.{List}
 use mathlib.Core.Path.{_≡_, sym, ap, _∙_}
 use mathlib.Core.Bool.{Bool, true, false}
 use Rattle.octet.specs.Part.{part}
-use Rattle.wire_fields.specs.Shapes.{hasShape}
+use Rattle.wire_shapes.specs.Shapes.{hasShape}
 use Rattle.wire_fields.specs.Reading.{spanAt, needOf, needAt, maybeOf, maybeAt}
-use Rattle.wire_fields.specs.declared.Shape.{Shape}
+use Rattle.wire_shapes.specs.declared.Shape.{Shape}
 use Rattle.wire_fields.specs.declared.Cursor.{Cursor}
 use Rattle.wire_fields.specs.declared.Span.{Span}
 use Rattle.wire_fields.specs.declared.Span.the-variants.{Whole, Other, Cut}

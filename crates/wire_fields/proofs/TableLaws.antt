@@ -12,8 +12,8 @@ use borrow.Author.Tests.{eq-eqb, eqb-true}
 use Rattle.octet.specs.Number.{Bytes}
 use Rattle.octet.specs.Part.{part}
 use mathlib.Core.Bool.{cond}
-use Rattle.wire_fields.specs.Field.{numberAt, gap}
-use Rattle.wire_fields.specs.Shapes.{Kind, hasShape}
+use Rattle.wire_shapes.specs.Field.{numberAt, gap}
+use Rattle.wire_shapes.specs.Shapes.{Kind, hasShape}
 use Rattle.wire_fields.specs.Message.{Contents, Held, Formed, ends, layoutFrom, partsOf}
 use Rattle.wire_fields.specs.Reading.{spanAt, placesAt, valuesOf, before}
 use Rattle.wire_fields.specs.declared.Cursor.{Cursor}

@@ -10,17 +10,14 @@ use lib.Dec.{leb, eqb}
 use lib.ListN.{length, getD, take, drop, replicate, length-replicate}
 use lib.Seq.{take-add, take-take, take-all, getD-take, take-append-seam, drop-append-seam}
 use borrow.Author.Tests.{le-leb, leb-true, eq-eqb, eqb-true}
-use Rattle.octet.specs.Number.{Bytes}
-use Rattle.octet.specs.Number.{digitsBE}
+use Rattle.octet.specs.Number.{Bytes, digitsBE}
 use mathlib.Core.Bool.{_&&_}
 use mathlib.Core.Bool.{cond}
-use Rattle.wire_fields.specs.Field.{numberAt, gap}
-use Rattle.wire_fields.specs.Shapes.{Kind}
+use Rattle.wire_shapes.specs.Field.{numberAt, gap}
+use Rattle.wire_shapes.specs.Shapes.{Kind}
 use Rattle.wire_fields.specs.Kinds.{kindsOf, joined, sized}
-use Rattle.wire_fields.specs.Message.{opening, Segment, Contents, Formed, ends, layoutFrom, bytesOf}
-use Rattle.wire_fields.specs.Message.{cleared, Message, headerOf, layoutOf, partsOf, WellFormed, Reads}
+use Rattle.wire_fields.specs.Message.{opening, Segment, Contents, Formed, ends, layoutFrom, bytesOf, cleared, Message, headerOf, layoutOf, partsOf, WellFormed, Reads}
 use Rattle.octet.specs.Part.{same}
-use Rattle.octet.specs.Number.{digitsBE}
 use Rattle.octet.proofs.PartLaws.{part-add, part-one, part-two}
 use Rattle.octet.proofs.TestLaws.{same-eq, same-refl, both-true}
 use Rattle.octet.proofs.BigLaws.{length-digitsBE}

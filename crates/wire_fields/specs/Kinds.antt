@@ -6,10 +6,10 @@ use mathlib.Core.Bool.{Bool, true, false, not, cond, _&&_, _||_}
 use mathlib.Core.Option.{Option, some, none}
 use lib.ListN.{length, getD}
 use lib.Dec.{eqb}
-use Rattle.wire_fields.specs.Field.{numberAt, bits, keep}
-use Rattle.wire_fields.specs.Shapes.{Kind}
-use Rattle.wire_fields.specs.declared.Shape.{Shape}
-use Rattle.wire_fields.specs.declared.Shape.the-variants.{Sized, Any, Entry, Array, Lookup, Split}
+use Rattle.wire_shapes.specs.Field.{numberAt, bits, keep}
+use Rattle.wire_shapes.specs.Shapes.{Kind}
+use Rattle.wire_shapes.specs.declared.Shape.{Shape}
+use Rattle.wire_shapes.specs.declared.Shape.the-variants.{Sized, Any, Entry, Array, Lookup, Split}
 use Rattle.wire_fields.specs.declared.Part.{Part}
 use Rattle.wire_fields.specs.declared.Part.the-variants.{Here, Absent}
 use Rattle.octet.specs.Number.{digitsBE}

@@ -1,5 +1,3 @@
-pub mod Field
-pub mod Shapes
 pub mod Kinds
 pub mod Message
 pub mod Reading

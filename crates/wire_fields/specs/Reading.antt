@@ -8,11 +8,11 @@ use mathlib.Core.Option.{Option, some, none}
 use lib.ListN.{length, getD}
 use lib.Dec.{leb, eqb}
 use Rattle.octet.specs.Part.{part}
-use Rattle.wire_fields.specs.Field.{numberAt, gap}
-use Rattle.wire_fields.specs.Shapes.{Kind, hasShape}
+use Rattle.wire_shapes.specs.Field.{numberAt, gap}
+use Rattle.wire_shapes.specs.Shapes.{Kind, hasShape}
 use Rattle.wire_fields.specs.Kinds.{joined, sized, derived}
 use Rattle.wire_fields.specs.Message.{Message}
-use Rattle.wire_fields.specs.declared.Shape.{Shape}
+use Rattle.wire_shapes.specs.declared.Shape.{Shape}
 use Rattle.wire_fields.specs.declared.Span.{Span}
 use Rattle.wire_fields.specs.declared.Span.the-variants.{Whole, Other, Cut}
 use Rattle.wire_fields.specs.declared.Part.{Part}

@@ -9,7 +9,7 @@ use lib.ListN.{length, getD}
 use lib.Dec.{leb, eqb}
 use Rattle.octet.specs.Part.{part, same}
 use Rattle.refusal.specs.Table.{Refusal, when, orRefuse}
-use Rattle.wire_fields.specs.Shapes.{Kind}
+use Rattle.wire_shapes.specs.Shapes.{Kind}
 use Rattle.wire_fields.specs.Kinds.{kindsOf, present}
 use Rattle.wire_fields.specs.Message.{opening, typeOf}
 use Rattle.wire_fields.specs.Reading.{needAt, fieldsAs, wholeIn}
@@ -17,7 +17,7 @@ use Rattle.wire_fields.specs.declared.Part.{Part}
 use Rattle.wire_fields.specs.declared.Part.the-variants.{Here}
 use Rattle.wire_fields.specs.declared.Need.{Need}
 use Rattle.wire_fields.specs.declared.Need.the-variants.{Field, Missing}
-use Rattle.wire_fields.specs.declared.Shape.the-variants.{Sized, Split}
+use Rattle.wire_shapes.specs.declared.Shape.the-variants.{Sized, Split}
 
 -- what a datagram holds: the number of a refusal, or the type of a message and the places of its fields
 pub data Found : Type 0 where

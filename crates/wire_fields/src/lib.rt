@@ -1,15 +1,11 @@
 // The fields of a datagram: number, length, contents, padding. A reading position is a value; each field read hands
 // back the place of the next.
 
-mod contents;
 mod opening;
 mod position;
 
-pub use contents::has_shape;
 pub use opening::is_opened;
 pub use opening::put_opening;
-pub use position::byte;
-pub use position::padding;
 
 // A reading position: a place in the datagram.
 pub struct Cursor {
@@ -30,22 +26,6 @@ pub enum Span {
 pub enum Part {
     Here(usize, usize),
     Absent,
-}
-
-// What a field's contents must look like.
-pub enum Shape {
-    // Just so many bytes.
-    Sized(usize),
-    // Any bytes.
-    Any,
-    // A route entry.
-    Entry,
-    // LOOKUP's controls.
-    Lookup,
-    // AUTHORITY's split controls.
-    Split,
-    // An array of elements: their number, their size, how many at least and at most.
-    Array(u16, u16, u16, u16),
 }
 
 // The answer of a field that must be there: where its contents start, their length, the next position.

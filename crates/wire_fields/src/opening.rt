@@ -20,5 +20,5 @@ pub fn put_opening(out: &mut [u8])
     requires { ⌜ 5 ≤ length (now out) ⌝ }
     ensures { λ _. ⌜ now (out .exit) ≡ splice 0 opening (now (out .entry)) ⌝ }
 {
-    octet::copy_to(out, 0, &OPENING);
+    runs::copy_to(out, 0, &OPENING);
 }

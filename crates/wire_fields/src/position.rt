@@ -3,29 +3,12 @@ use crate::Cursor;
 use crate::Maybe;
 use crate::Need;
 use crate::Part;
-use crate::Shape;
 use crate::Span;
-use crate::contents::has_shape;
+use wire_shapes::Shape;
+use wire_shapes::has_shape;
+use wire_shapes::padding;
 ghost use mathlib.Core.Path.{_≡_};
-ghost use Prim.Native.Nat.{_<_};
-ghost use lib.ListN.{getD};
-ghost use Rattle.wire_fields.specs.Field.{gap};
 ghost use Rattle.wire_fields.specs.Reading.{spanAt, needAt, maybeAt};
-
-// The byte at a place, 0 past the end.
-pub fn byte(d: &[u8], at: usize) -> u8
-    ensures { λ r. ⌜ r ≡ getD (now (d .entry)) at 0 ⌝ }
-{
-    if at < d.len() { d[at] } else { 0 }
-}
-
-// How many bytes of padding follow a place.
-pub fn padding(end: usize, padded: bool) -> usize
-    ensures { λ r. ⌜ r ≡ gap padded end ⌝ }
-    ensures { λ r. ⌜ r < 4 ⌝ }
-{
-    if padded { (4 - end % 4) % 4 } else { 0 }
-}
 
 impl Cursor {
     // The field of a number at this position.

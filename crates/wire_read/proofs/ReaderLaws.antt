@@ -5,8 +5,8 @@ use mathlib.Core.List.{List, _∷_}
 use mathlib.Core.Bool.{false, true}
 use mathlib.Core.Option.{Option, some, none}
 use mathlib.Core.Path.{_≡_, refl, ap, _∙_}
-use Rattle.wire_fields.specs.Field.{numberAt}
-use Rattle.wire_fields.specs.Shapes.{Kind}
+use Rattle.wire_shapes.specs.Field.{numberAt}
+use Rattle.wire_shapes.specs.Shapes.{Kind}
 use Rattle.wire_fields.specs.Kinds.{present, joined, sized, ackedKind, splitKind, bufferKinds, authorityKinds}
 use Rattle.wire_fields.specs.Reading.{needAt, placesAt, valueOf, wholeIn, fieldsAs}
 use Rattle.wire_fields.specs.Refusals.{refused, found, foundOf, inPart}
@@ -14,11 +14,12 @@ use Rattle.wire_fields.specs.declared.Cursor.{Cursor}
 use Rattle.wire_fields.specs.declared.Part.{Part}
 use Rattle.wire_fields.specs.declared.Part.the-variants.{Here, Absent}
 use Rattle.wire_fields.specs.declared.Need.the-variants.{Field}
-use Rattle.wire_fields.specs.declared.Shape.the-variants.{Sized, Split}
+use Rattle.wire_shapes.specs.declared.Shape.the-variants.{Sized, Split}
 use Rattle.wire_fields.proofs.RefusalLaws.{gated}
-use Rattle.wire_read.specs.Answers.{isHere, shown, headOf, bufferShown, insideShown, bufferAt}
-use Rattle.wire_read.specs.declared.Inside.{Inside}
-use Rattle.wire_read.specs.declared.Buffer.the-variants.{Holds, Malformed}
+use Rattle.wire_buffer.specs.Buffer.{bufferShown, insideShown, bufferAt}
+use Rattle.wire_read.specs.Answers.{isHere, shown, headOf}
+use Rattle.wire_buffer.specs.declared.Inside.{Inside}
+use Rattle.wire_buffer.specs.declared.Buffer.the-variants.{Holds, Malformed}
 use Rattle.wire_read.specs.declared.Answer.the-variants.{Refused, Authority}
 
 -- a field's contents are there where its place is

@@ -1,38 +1,25 @@
 -- Helps the code. What the code answers, from what a datagram holds (Refusals): the message as numbers and as places in the datagram. That it is the
 -- message that the datagram reads as is a theorem of `wire`. Assumes nothing.
-use Prim.Native.Nat.{ℕ, _+_, _*_, _/_, _%_}
+use Prim.Native.Nat.{ℕ, _+_, _*_}
 use mathlib.Core.List.{List}
 use mathlib.Core.Bool.{Bool, true, false, cond}
-use mathlib.Core.Option.{Option, some, none}
 use lib.ListN.{getD, drop}
 use lib.Dec.{eqb}
-use Rattle.wire_fields.specs.Field.{numberAt}
-use Rattle.wire_fields.specs.Kinds.{bufferKinds}
-use Rattle.wire_fields.specs.Reading.{placesAt}
+use Rattle.wire_shapes.specs.Field.{numberAt}
 use Rattle.wire_fields.specs.Refusals.{Found, refused, found, foundIn}
 use Rattle.wire_fields.specs.declared.Part.{Part}
 use Rattle.wire_fields.specs.declared.Part.the-variants.{Here, Absent}
+use Rattle.wire_buffer.specs.Buffer.{startOf, flagAt, insideShown}
 use Rattle.wire_read.specs.declared.Head.{Head}
 use Rattle.wire_read.specs.declared.Answer.{Answer}
 use Rattle.wire_read.specs.declared.Answer.the-variants.{Refused, Solicit, Advertise, Request, Flood, Inquire, Authority, Ack, Lookup}
-use Rattle.wire_read.specs.declared.Inside.{Inside}
-use Rattle.wire_read.specs.declared.Buffer.{Buffer}
-use Rattle.wire_read.specs.declared.Buffer.the-variants.{Holds, Malformed}
 
--- the place of a field, and whether it is there
-abbrev pub startOf : Part → ℕ
-startOf (Here s l) = s
-startOf Absent = 0
-
+-- whether a field is there
 abbrev pub isHere : Part → Bool
 isHere (Here s l) = true
 isHere Absent = false
 
--- the bit of a weight in the byte at an offset from a place
-unfoldable pub flagAt : List ℕ → ℕ → ℕ → ℕ → Bool
-flagAt d start offset weight = eqb (getD d (start + offset) 0 / weight % 2) 1
-
--- the same in a field, clear where it is absent
+-- the bit of a weight in a field, clear where it is absent
 unfoldable pub flagIn : List ℕ → Part → ℕ → ℕ → Bool
 flagIn d (Here s l) offset weight = flagAt d s offset weight
 flagIn d Absent offset weight = false
@@ -61,28 +48,6 @@ inquireShown d ps =
     Inquire (headOf d) (flagAt d (startOf (getD ps 0 Absent)) 1 16) (flagAt d (startOf (getD ps 0 Absent)) 1 8)
     (flagAt d (startOf (getD ps 0 Absent)) 1 4) (startOf (getD ps 1 Absent)) (getD ps 2 Absent)
     (getD ps 3 Absent) (getD ps 4 Absent) (getD ps 5 Absent)
-
--- the fields of a buffer; the buffer from a place to the end of any list
-abbrev pub insideShown : List ℕ → List Part → Inside
-insideShown d ps =
-    record {
-      l = flagAt d (startOf (getD ps 0 Absent)) 0 2;
-      b = flagAt d (startOf (getD ps 0 Absent)) 1 8;
-      n = flagAt d (startOf (getD ps 0 Absent)) 1 1;
-      chain = getD ps 1 Absent;
-      token = getD ps 2 Absent;
-      classifier = getD ps 3 Absent;
-      payload = getD ps 4 Absent;
-      entry = getD ps 5 Absent;
-      cpa = getD ps 6 Absent;
-    }
-
-abbrev pub bufferShown : List ℕ → Option (List Part) → Buffer
-bufferShown d none = Malformed
-bufferShown d (some ps) = Holds (insideShown d ps)
-
-unfoldable pub bufferAt : List ℕ → ℕ → Buffer
-bufferAt d i = bufferShown d (placesAt bufferKinds d i)
 
 abbrev pub authorityShown : List ℕ → List Part → Answer
 authorityShown d ps = Authority (headOf d) (numberAt (startOf (getD ps 0 Absent)) 4 d) (insideShown d (drop 2 ps))

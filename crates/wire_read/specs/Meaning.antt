@@ -11,7 +11,7 @@ use Rattle.octet.specs.Part.{part}
 use Rattle.wire_fields.specs.Message.{Contents, Message}
 use Rattle.wire_fields.specs.Reading.{contentsIn}
 use Rattle.wire_read.specs.declared.Head.{Head}
-use Rattle.wire_read.specs.declared.Inside.{Inside}
+use Rattle.wire_buffer.specs.declared.Inside.{Inside}
 use Rattle.wire_read.specs.declared.Answer.{Answer}
 use Rattle.wire_read.specs.declared.Answer.the-variants.{Refused, Solicit, Advertise, Request, Flood, Inquire, Authority, Ack, Lookup}
 use Rattle.wire_fields.specs.Kinds.{splitBytes}

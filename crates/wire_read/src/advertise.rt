@@ -4,7 +4,7 @@ use crate::values::head;
 use wire_fields::Cursor;
 use wire_fields::Need;
 use wire_fields::Part;
-use wire_fields::Shape;
+use wire_shapes::Shape;
 ghost use mathlib.Core.Path.{_≡_};
 ghost use Prim.Native.Nat.{_≤_};
 ghost use lib.ListN.{length};

@@ -1,19 +1,20 @@
 // FLOOD: controls; validate key; key token; CPA revoked; route entry; endpoints reached.
 use crate::Answer;
-use crate::values::flag;
 use crate::values::head;
 use crate::values::just_one;
+use wire_buffer::flag;
 use wire_fields::Cursor;
 use wire_fields::Maybe;
 use wire_fields::Need;
-use wire_fields::Shape;
+use wire_shapes::Shape;
 ghost use mathlib.Core.Path.{_≡_};
 ghost use Prim.Native.Nat.{_≤_};
 ghost use lib.ListN.{length};
 ghost use Rattle.wire_fields.specs.Kinds.{floodKinds};
 ghost use Rattle.wire_fields.specs.Reading.{fieldsAs};
 ghost use Rattle.wire_fields.specs.Refusals.{foundOf};
-ghost use Rattle.wire_read.specs.Answers.{flagAt, shown};
+ghost use Rattle.wire_buffer.specs.Buffer.{flagAt};
+ghost use Rattle.wire_read.specs.Answers.{shown};
 
 // D, the last bit of the controls' first two bytes.
 fn silent(d: &[u8], controls: usize) -> bool

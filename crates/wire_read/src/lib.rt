@@ -10,7 +10,6 @@ mod request;
 mod solicit;
 mod values;
 
-pub use authority::read_buffer;
 use wire_fields::is_opened;
 ghost use mathlib.Core.Path.{_≡_};
 ghost use Rattle.wire_read.specs.Answers.{answer};
@@ -19,24 +18,6 @@ ghost use Rattle.wire_read.specs.Answers.{answer};
 pub struct Head {
     pub minor: u8,
     pub id: u32,
-}
-
-// What the buffer of an AUTHORITY holds: flags, and where its fields are.
-pub struct Inside {
-    pub l: bool,
-    pub b: bool,
-    pub n: bool,
-    pub chain: wire_fields::Part,
-    pub token: wire_fields::Part,
-    pub classifier: wire_fields::Part,
-    pub payload: wire_fields::Part,
-    pub entry: wire_fields::Part,
-    pub cpa: wire_fields::Part,
-}
-
-pub enum Buffer {
-    Holds(Inside),
-    Malformed,
 }
 
 // A refusal's number, or a message. A field of fixed length is the place where its contents start, one of any length
@@ -87,7 +68,7 @@ pub enum Answer {
     Authority {
         head: Head,
         acked: u32,
-        fields: Inside,
+        fields: wire_buffer::Inside,
     },
     Ack {
         head: Head,

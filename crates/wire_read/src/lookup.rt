@@ -1,14 +1,14 @@
 // LOOKUP: controls; target key; validate key; route entry; path; credential, signature, key identifier.
 use crate::Answer;
 use crate::values::byte_from;
-use crate::values::flag;
 use crate::values::head;
 use crate::values::precision;
+use wire_buffer::flag;
 use wire_fields::Cursor;
 use wire_fields::Maybe;
 use wire_fields::Need;
 use wire_fields::Part;
-use wire_fields::Shape;
+use wire_shapes::Shape;
 ghost use mathlib.Core.Path.{_≡_};
 ghost use Prim.Native.Nat.{_≤_};
 ghost use lib.ListN.{length};

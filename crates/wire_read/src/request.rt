@@ -2,12 +2,12 @@
 use crate::Answer;
 use crate::values::head;
 use crate::values::is_here;
-use crate::values::is_whole;
+use wire_buffer::is_whole;
 use wire_fields::Cursor;
 use wire_fields::Maybe;
 use wire_fields::Need;
 use wire_fields::Part;
-use wire_fields::Shape;
+use wire_shapes::Shape;
 ghost use mathlib.Core.Path.{_≡_};
 ghost use Prim.Native.Nat.{_≤_};
 ghost use lib.ListN.{length};

@@ -1,26 +1,15 @@
 // Flags, numbers and presence at the places of fields.
 use crate::Head;
+use wire_buffer::flag;
 use wire_fields::Part;
-use wire_fields::byte;
+use wire_shapes::byte;
 ghost use mathlib.Core.Path.{_≡_};
 ghost use Prim.Native.Nat.{_+_, _<_, _≤_};
 ghost use lib.ListN.{getD, length};
 ghost use Rattle.wire_fields.specs.Kinds.{oneOf};
-ghost use Rattle.wire_fields.specs.Reading.{wholeIn, FourAt};
-ghost use Rattle.wire_read.specs.Answers.{isHere, flagAt, flagIn, headOf, precisionAt};
+ghost use Rattle.wire_read.specs.Answers.{isHere, flagIn, headOf, precisionAt};
 
-// The bit of a weight in the byte at a small offset from a place.
-pub(crate) fn flag(d: &[u8], start: usize, offset: usize, weight: u8) -> bool
-    requires { ⌜ (offset < 4) × (0 < weight) ⌝ }
-    ensures { λ r. ⌜ r ≡ flagAt (now (d .entry)) start offset weight ⌝ }
-{
-    if d.len() <= start {
-        return false;
-    }
-    byte(d, start + offset) / weight % 2 == 1
-}
-
-// The same in a field, clear where it is absent.
+// The bit of a weight in a field, clear where it is absent.
 pub(crate) fn flag_in(d: &[u8], p: Part, offset: usize, weight: u8) -> bool
     requires { ⌜ (offset < 4) × (0 < weight) ⌝ }
     ensures { λ r. ⌜ r ≡ flagIn (now (d .entry)) p offset weight ⌝ }
@@ -84,18 +73,4 @@ pub(crate) fn head(d: &[u8]) -> Head
         minor: d[6],
         id: octet::read_u32(d, 8),
     }
-}
-
-// Whether split controls follow from the rest: the size is the number of bytes after them and the offset is 0.
-pub(crate) fn is_whole(d: &[u8], p: Part) -> bool
-    requires { ⌜ FourAt (now d) p ⌝ }
-    ensures { λ r. ⌜ r ≡ wholeIn (now (d .entry)) p ⌝ }
-{
-    let Part::Here(start, len) = p else {
-        return true;
-    };
-    if octet::read_u16(d, start) as usize != d.len() - (start + len) {
-        return false;
-    }
-    octet::read_u16(d, start + 2) == 0
 }

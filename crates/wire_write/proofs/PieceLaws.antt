@@ -16,10 +16,9 @@ use Rattle.octet.proofs.PartLaws.{length-part}
 use Rattle.octet.proofs.TestLaws.{both-true}
 use Rattle.record.specs.Record.{recordForm}
 use Rattle.record.proofs.PlaceLaws.{record-at, entry-length}
-use Rattle.wire_fields.specs.Shapes.{Kind, hasShape}
-use Rattle.wire_fields.specs.declared.Shape.the-variants.{Sized}
-use Rattle.wire_write.specs.Pieces.{Given, Lent, sourceOf, contentsFrom, lenFrom, InFrom, PieceIn, AllIn, okFrom}
-use Rattle.wire_write.specs.Pieces.{pieceOk, rowsOk, pieceBytes, givensOf, partBytes, pastOf, kindsOfRows, endRows}
+use Rattle.wire_shapes.specs.Shapes.{Kind, hasShape}
+use Rattle.wire_shapes.specs.declared.Shape.the-variants.{Sized}
+use Rattle.wire_write.specs.Pieces.{Given, Lent, sourceOf, contentsFrom, lenFrom, InFrom, PieceIn, AllIn, okFrom, pieceOk, rowsOk, pieceBytes, givensOf, partBytes, pastOf, kindsOfRows, endRows}
 use Rattle.wire_write.specs.declared.Row.{Row}
 use Rattle.wire_write.specs.declared.Piece.{Piece}
 use Rattle.wire_write.specs.declared.Source.the-variants.{Own}

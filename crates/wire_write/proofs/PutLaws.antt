@@ -9,7 +9,7 @@ use Rattle.octet.specs.Number.{digitsBE}
 use Rattle.octet.specs.Part.{splice}
 use Rattle.octet.proofs.PartLaws.{length-splice, splice-splice}
 use Rattle.octet.proofs.BigLaws.{length-digitsBE}
-use Rattle.wire_fields.specs.Field.{gap}
+use Rattle.wire_shapes.specs.Field.{gap}
 use Rattle.wire_write.specs.Pieces.{fieldBytes, endOf}
 
 pub head-length : (n w : ℕ) → length (digitsBE 256 2 n ++ digitsBE 256 2 w) ≡ 4

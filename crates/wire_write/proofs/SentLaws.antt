@@ -12,14 +12,13 @@ use Rattle.octet.specs.Number.{digitsBE}
 use Rattle.octet.specs.Part.{part}
 use Rattle.octet.proofs.TestLaws.{and-true}
 use Rattle.record.specs.Record.{countOf}
-use Rattle.wire_fields.specs.Shapes.{hasShape}
+use Rattle.wire_shapes.specs.Shapes.{hasShape}
 use Rattle.wire_fields.specs.Kinds.{authorityKinds}
 use Rattle.wire_fields.specs.Message.{bytesOf, layoutOf}
-use Rattle.wire_fields.proofs.ShapeLaws.{and-false}
+use Rattle.wire_shapes.proofs.ShapeLaws.{and-false}
 use Rattle.wire_write.specs.Writing.{fit}
 use Rattle.wire_write.specs.Pieces.{lentOf, madeBy}
-use Rattle.wire_write.specs.Rows.{ackRows, ackPieces, floodRows, floodPieces, inquireRows}
-use Rattle.wire_write.specs.Rows.{inquirePieces, authorityRows, cpaPieces, closestPieces, ownBytes}
+use Rattle.wire_write.specs.Rows.{ackRows, ackPieces, floodRows, floodPieces, inquireRows, inquirePieces, authorityRows, cpaPieces, closestPieces, ownBytes}
 use Rattle.wire_write.specs.Sent.{cpaSent}
 use Rattle.wire_write.specs.Making.{ackMade, floodMade, inquireMade, cpaMade, closestMade, formedAt}
 

@@ -14,10 +14,10 @@ use Rattle.octet.specs.Number.{digitsBE}
 use Rattle.octet.specs.Part.{splice}
 use Rattle.octet.proofs.PartLaws.{splice-nil}
 use Rattle.octet.proofs.TestLaws.{both-true}
-use Rattle.wire_fields.specs.Field.{gap}
-use Rattle.wire_fields.specs.Shapes.{Kind}
+use Rattle.wire_shapes.specs.Field.{gap}
+use Rattle.wire_shapes.specs.Shapes.{Kind}
 use Rattle.wire_fields.specs.Message.{Contents, ends, layoutFrom, bytesOf, headerOf, layoutOf}
-use Rattle.wire_fields.proofs.ShapeLaws.{and-false}
+use Rattle.wire_shapes.proofs.ShapeLaws.{and-false}
 use Rattle.wire_fields.proofs.WholeLaws.{length-header}
 use Rattle.wire_read.specs.Meaning.{held}
 use Rattle.wire_write.specs.Writing.{Made, fit, writeAs, writeIn, Wrote}

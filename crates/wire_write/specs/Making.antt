@@ -7,7 +7,7 @@ use lib.Dec.{eqb, leb}
 use lib.ListN.{length}
 use Rattle.octet.specs.Part.{part}
 use Rattle.record.specs.Record.{recordForm}
-use Rattle.wire_fields.specs.Shapes.{Kind}
+use Rattle.wire_shapes.specs.Shapes.{Kind}
 use Rattle.wire_fields.specs.Kinds.{floodKinds, inquireKinds, authorityKinds, ackKinds}
 use Rattle.wire_fields.specs.Message.{Message, bytesOf, layoutOf}
 use Rattle.wire_write.specs.Writing.{Made}

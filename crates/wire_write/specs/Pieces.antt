@@ -10,8 +10,8 @@ use Rattle.octet.specs.Number.{digitsBE}
 use Rattle.octet.specs.Part.{part}
 use Rattle.record.specs.Record.{recordForm}
 use Rattle.record.specs.Entry.{entryOf}
-use Rattle.wire_fields.specs.Field.{gap}
-use Rattle.wire_fields.specs.Shapes.{Kind, hasShape}
+use Rattle.wire_shapes.specs.Field.{gap}
+use Rattle.wire_shapes.specs.Shapes.{Kind, hasShape}
 use Rattle.wire_fields.specs.Message.{Contents, Message, bytesOf, layoutOf}
 use Rattle.wire_read.specs.Meaning.{held}
 use Rattle.wire_write.specs.Writing.{Made}

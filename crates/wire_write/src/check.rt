@@ -2,8 +2,8 @@
 use crate::Piece;
 use crate::Row;
 use crate::Source;
-use wire_fields::Shape;
-use wire_fields::has_shape;
+use wire_shapes::Shape;
+use wire_shapes::has_shape;
 ghost use mathlib.Core.Path.{_≡_};
 ghost use mathlib.Core.Bool.{_&&_};
 ghost use Prim.Native.Nat.{_+_};
@@ -11,7 +11,7 @@ ghost use lib.Dec.{leb};
 ghost use lib.ListN.{length};
 ghost use Rattle.octet.specs.Part.{part};
 ghost use Rattle.record.specs.Record.{recordForm};
-ghost use Rattle.wire_fields.specs.Shapes.{hasShape};
+ghost use Rattle.wire_shapes.specs.Shapes.{hasShape};
 ghost use Rattle.wire_write.specs.Pieces.{lentOf, okFrom, pieceOk, rowsOk};
 
 // Whether contents stand within a slice and have a shape.
@@ -64,13 +64,7 @@ fn piece_ok(row: Row, p: Piece, own: &[u8], first: &[u8], second: &[u8]) -> bool
     }
 }
 
-pub(crate) fn pieces_ok(
-    rows: [Row; 9],
-    ps: [Piece; 9],
-    own: &[u8],
-    first: &[u8],
-    second: &[u8],
-) -> bool
+pub fn pieces_ok(rows: [Row; 9], ps: [Piece; 9], own: &[u8], first: &[u8], second: &[u8]) -> bool
     requires { ⌜ (length rows ≡ 9) × (length ps ≡ 9) ⌝ }
     ensures { λ r. ⌜ r ≡ rowsOk (lentOf (now (own .entry)) (now (first .entry)) (now (second .entry))) rows ps ⌝ }
 {

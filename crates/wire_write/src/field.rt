@@ -2,7 +2,7 @@
 use crate::Piece;
 use crate::Row;
 use crate::Source;
-use wire_fields::padding;
+use wire_shapes::padding;
 ghost use mathlib.Core.Path.{_≡_};
 ghost use mathlib.Core.Bool.{true};
 ghost use mathlib.Core.List.{_++_};
@@ -12,7 +12,7 @@ ghost use Rattle.octet.specs.Number.{digitsBE};
 ghost use Rattle.octet.specs.Part.{part, splice};
 ghost use Rattle.record.specs.Record.{recordForm};
 ghost use Rattle.record.specs.Entry.{entryOf};
-ghost use Rattle.wire_fields.specs.Field.{gap};
+ghost use Rattle.wire_shapes.specs.Field.{gap};
 ghost use Rattle.wire_write.specs.Pieces.{lentOf, fieldBytes, endOf, partBytes, pastOf, contentsFrom, InFrom, PieceIn, pieceBytes, lenFrom};
 
 // A field's number and its length.
@@ -31,7 +31,7 @@ fn put_gap(out: &mut [u8], end: usize, padded: bool) -> usize
     ensures { λ _. ⌜ now (out .exit) ≡ splice end (replicate (gap padded end) 0) (now (out .entry)) ⌝ }
 {
     let n = padding(end, padded);
-    octet::clear(out, end, n);
+    runs::clear(out, end, n);
     end + n
 }
 
@@ -80,7 +80,7 @@ fn put_entry(
 }
 
 // How long the contents of a piece of a slice are.
-pub(crate) fn len_from(s: &[u8], p: Piece) -> usize
+pub fn len_from(s: &[u8], p: Piece) -> usize
     requires { ⌜ InFrom (now s) p ⌝ }
     ensures { λ r. ⌜ r ≡ lenFrom (now (s .entry)) p ⌝ }
 {
@@ -107,7 +107,7 @@ fn put_from(out: &mut [u8], at: usize, row: Row, p: Piece, major: u8, minor: u8,
 }
 
 // A field of any of the three slices, where it is there.
-pub(crate) fn put_piece(
+pub fn put_piece(
     out: &mut [u8],
     at: usize,
     row: Row,

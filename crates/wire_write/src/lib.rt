@@ -1,37 +1,19 @@
-// Writing a message: one writer for all, over the rows of a message's table and the pieces of its fields. A field's
-// contents stay where they are lent until they are written, and a record goes out as a route entry with no copy made.
+// Writing a message, field by field: the one writer (`wire_whole`) goes over the rows of a message's table and the pieces of
+// its fields. A field's contents stay where they are lent until they are written, and a record goes out as a route entry with
+// no copy made.
 mod check;
 mod field;
-mod rows;
-mod sent;
-mod whole;
 
-pub use rows::ack_rows;
-pub use rows::advertise_rows;
-pub use rows::authority_rows;
-pub use rows::first_piece;
-pub use rows::flood_rows;
-pub use rows::inquire_rows;
-pub use rows::lookup_bytes;
-pub use rows::lookup_rows;
-pub use rows::no_piece;
-pub use rows::own_bytes;
-pub use rows::own_piece;
-pub use rows::request_rows;
-pub use rows::solicit_rows;
-pub use sent::write_ack;
-pub use sent::write_closest;
-pub use sent::write_cpa;
-pub use sent::write_flood;
-pub use sent::write_inquire;
-pub use whole::write_rows;
+pub use check::pieces_ok;
+pub use field::len_from;
+pub use field::put_piece;
 
 // What the code knows of a kind of field.
 pub struct Row {
     pub number: u16,
     pub optional: bool,
     pub padded: bool,
-    pub shape: wire_fields::Shape,
+    pub shape: wire_shapes::Shape,
 }
 
 // Which slice a piece is taken from: the writer's own bytes, or one of two that are lent.

@@ -1,8 +1,10 @@
 -- `gauge_neighbours` meets its contract: the cache's neighbour list, with its counts in 32 bits. Assumes nothing.
 use mathlib.Core.Path.{ap}
 use native.Mathlib.Omega.{arith}
-use Rattle.cache.specs.Calls.{Written}
+use Rattle.neighbours.specs.Calls.{Written}
+use Rattle.gauge_plan.specs.Lent.{withCache}
 use Rattle.gauge.specs.Counts.{listAnswered, gaugeList}
+use Rattle.gauge.specs.Ours.{ours}
 use Rattle.gauge.proofs.CountLaws.{list-few}
 use borrow.Author.Needs.{needs}
 use Rattle.gauge.proofs.gauge_neighbours.Statement.{statement}
@@ -24,7 +26,10 @@ same-length c = search needs
 
 returns : tie.Need-returns
 unfolding gaugeList
-returns c = rw (c .answer-of .ensures) (ap listAnswered (c .before .before .before .neighbour-list .ensures))
+returns c o =
+    let l = c .before .before .before in
+    let m = withCache (l .before .before .before .before .before .args .cache .now) o in
+    rw (c .answer-of .ensures) (ap (listAnswered m) (l .neighbour-list .ensures))
 
 pub gauge-neighbours-spec : {M : Type 1} → statement M
 gauge-neighbours-spec =

@@ -1,23 +1,31 @@
 -- `gauge_receive` meets its contract: what the plan says is what the call does. Assumes nothing.
 use mathlib.Core.Path.{_≡_, sym, _∙_}
 use Rattle.gauge_plan.specs.declared.Plan.{Plan}
-use Rattle.gauge.specs.Lent.{Receive, receive}
-use Rattle.gauge.specs.Receive.{receivePlan, carried}
-use Rattle.gauge.proofs.ReceiveLaws.{flood-needs, revoke-needs, learn-needs, free-needs, cpa-needs, show-needs, call-by}
+use Rattle.gauge_plan.specs.Lent.{Memory, memory, Receive, receive}
+use Rattle.plan_message.specs.Planned.{receivePlan}
+use Rattle.gauge.specs.Receive.{carried}
+use Rattle.gauge.specs.Ours.{ours}
+use Rattle.plan_message.proofs.PlannedLaws.{flood-needs, revoke-needs, learn-needs, free-needs, cpa-needs, show-needs}
+use Rattle.gauge.proofs.ReceiveLaws.{call-by}
 use borrow.Author.Needs.{needs}
 use Rattle.gauge.proofs.gauge_receive.Statement.{statement}
 use Rattle.gauge.proofs.gauge_receive.Tie as tie
 
 -- all that was lent
+abbrev start : tie.After-plan-receive → tie.Start
+start c = c .before .before .before .before .before .before .before .before .before .before .before .before
+
+abbrev memory-at : tie.After-plan-receive → Memory
+memory-at c = memory (start c .args .cache .now) (start c .args .waiting .now)
+
 abbrev lent-at : tie.After-plan-receive → Receive
-lent-at m =
-    let a = m .before .before .before .before .before .before .before .before .before .before .before .before .args in
-    receive (a .own .now) (a .cpa .now) (a .cache .now) (a .waiting .now) (a .major) (a .minor) (a .id) (a .nonce .now) (a .verdict) (a .key .now)
-    (a .datagram .now) (a .output .now)
+lent-at c =
+    let a = start c .args in
+    receive (a .own .now) (a .cpa .now) (a .major) (a .minor) (a .id) (a .nonce .now) (a .verdict) (a .key .now) (a .datagram .now) (a .output .now)
 
 -- the plan that was made
-planned : (m : tie.After-plan-receive) {p : Plan} → m .plan-receive .result ≡ p → receivePlan (lent-at m) ≡ p
-planned m e = sym (m .plan-receive .ensures (lent-at m .minor)) ∙ e
+planned : (c : tie.After-plan-receive) {p : Plan} → c .plan-receive .result ≡ p → receivePlan (memory-at c) (lent-at c) ≡ p
+planned c e = sym (c .plan-receive .ensures (memory-at c) (lent-at c .minor)) ∙ e
 
 plan-receive-requires : tie.Need-plan-receive-requires
 plan-receive-requires c κs = search needs
@@ -35,7 +43,7 @@ commit-flood-requires : tie.Need-commit-flood-requires
 commit-flood-requires c κs =
     let k = c .before .before .before in
     let m = k .before .before in
-    flood-needs (lent-at m) (planned m (k .plan2 .given .1))
+    flood-needs (memory-at m) (lent-at m) (planned m (k .plan2 .given .1))
 
 enum-known-plan-3 : tie.Need-enum-known-plan-3
 enum-known-plan-3 c = search needs
@@ -44,7 +52,7 @@ commit-revoke-requires : tie.Need-commit-revoke-requires
 commit-revoke-requires c κs =
     let k = c .before .before .before .before in
     let m = k .before .before in
-    revoke-needs (lent-at m) (planned m (k .plan3 .given .1))
+    revoke-needs (memory-at m) (lent-at m) (planned m (k .plan3 .given .1))
 
 enum-known-plan-4 : tie.Need-enum-known-plan-4
 enum-known-plan-4 c = search needs
@@ -53,7 +61,7 @@ commit-learn-requires : tie.Need-commit-learn-requires
 commit-learn-requires c κs =
     let k = c .before .before .before in
     let m = k .before .before in
-    learn-needs (lent-at m) (planned m (k .plan4 .given .1))
+    learn-needs (memory-at m) (lent-at m) (planned m (k .plan4 .given .1))
 
 answer-of-requires-2 : tie.Need-answer-of-requires-2
 answer-of-requires-2 c κs = search needs
@@ -65,7 +73,7 @@ commit-free-requires : tie.Need-commit-free-requires
 commit-free-requires c κs =
     let k = c .before .before .before in
     let m = k .before .before in
-    free-needs (lent-at m) (planned m (k .plan5 .given .1))
+    free-needs (memory-at m) (lent-at m) (planned m (k .plan5 .given .1))
 
 answer-of-requires-3 : tie.Need-answer-of-requires-3
 answer-of-requires-3 c κs = search needs
@@ -77,7 +85,7 @@ commit-cpa-requires : tie.Need-commit-cpa-requires
 commit-cpa-requires c κs =
     let k = c .before .before in
     let m = k .before .before in
-    cpa-needs (lent-at m) (planned m (k .plan6 .given .1))
+    cpa-needs (memory-at m) (lent-at m) (planned m (k .plan6 .given .1))
 
 enum-known-plan-7 : tie.Need-enum-known-plan-7
 enum-known-plan-7 c = search needs
@@ -86,7 +94,7 @@ commit-show-requires : tie.Need-commit-show-requires
 commit-show-requires c κs =
     let k = c .before .before .before in
     let m = k .before .before in
-    show-needs (lent-at m) (planned m (k .plan7 .given .1))
+    show-needs (memory-at m) (lent-at m) (planned m (k .plan7 .given .1))
 
 same-length : tie.Need-same-length
 same-length c = search needs
@@ -102,7 +110,7 @@ unfolding carried
 returns c =
     let k = c .before .before in
     let m = k .before .before in
-    rw (c .answer-of .ensures) (sym (call-by (lent-at m) (planned m (k .plan .given .1))))
+    rw (c .answer-of .ensures) (sym (call-by (memory-at m) (lent-at m) (planned m (k .plan .given .1))))
 
 same-length-4 : tie.Need-same-length-4
 same-length-4 c = search needs
@@ -119,7 +127,7 @@ returns-2 c =
     let w = c .before .before .before .before .commit-flood .ensures in
     let k = c .before .before .before .before .before .before .before .before in
     let m = k .before .before in
-    rw (w .0, w .1 .0, w .1 .1) (sym (call-by (lent-at m) (planned m (k .plan2 .given .1))))
+    rw (w .0, w .1 .0, w .1 .1) (sym (call-by (memory-at m) (lent-at m) (planned m (k .plan2 .given .1))))
 
 same-length-7 : tie.Need-same-length-7
 same-length-7 c = search needs
@@ -136,7 +144,7 @@ returns-3 c =
     let w = c .before .before .before .before .before .before .commit-revoke .ensures in
     let k = c .before .before .before .before .before .before .before .before .before .before .before in
     let m = k .before .before in
-    rw (w .0, w .1 .0, w .1 .1 .0, w .1 .1 .1) (sym (call-by (lent-at m) (planned m (k .plan3 .given .1))))
+    rw (w .0, w .1 .0, w .1 .1 .0, w .1 .1 .1) (sym (call-by (memory-at m) (lent-at m) (planned m (k .plan3 .given .1))))
 
 same-length-10 : tie.Need-same-length-10
 same-length-10 c = search needs
@@ -153,7 +161,7 @@ returns-4 c =
     let d = c .before .before .before .before .before in
     let k = c .before .before .before .before .before .before .before .before .before in
     let m = k .before .before in
-    rw (c .answer-of2 .ensures, d .commit-learn .ensures .0, d .commit-learn .ensures .1) (sym (call-by (lent-at m) (planned m (k .plan4 .given .1))))
+    rw (c .answer-of2 .ensures, d .commit-learn .ensures .0, d .commit-learn .ensures .1) (sym (call-by (memory-at m) (lent-at m) (planned m (k .plan4 .given .1))))
 
 same-length-13 : tie.Need-same-length-13
 same-length-13 c = search needs
@@ -170,7 +178,7 @@ returns-5 c =
     let d = c .before .before .before .before .before in
     let k = c .before .before .before .before .before .before .before .before .before in
     let m = k .before .before in
-    rw (c .answer-of3 .ensures, d .commit-free .ensures .0, d .commit-free .ensures .1) (sym (call-by (lent-at m) (planned m (k .plan5 .given .1))))
+    rw (c .answer-of3 .ensures, d .commit-free .ensures .0, d .commit-free .ensures .1) (sym (call-by (memory-at m) (lent-at m) (planned m (k .plan5 .given .1))))
 
 same-length-16 : tie.Need-same-length-16
 same-length-16 c = search needs
@@ -187,7 +195,7 @@ returns-6 c =
     let d = c .before .before in
     let k = c .before .before .before .before .before in
     let m = k .before .before in
-    rw (d .commit-cpa .ensures .0, d .commit-cpa .ensures .1) (sym (call-by (lent-at m) (planned m (k .plan6 .given .1))))
+    rw (d .commit-cpa .ensures .0, d .commit-cpa .ensures .1) (sym (call-by (memory-at m) (lent-at m) (planned m (k .plan6 .given .1))))
 
 same-length-19 : tie.Need-same-length-19
 same-length-19 c = search needs
@@ -204,7 +212,7 @@ returns-7 c =
     let d = c .before .before in
     let k = c .before .before .before .before .before .before in
     let m = k .before .before in
-    rw (d .commit-show .ensures .0, d .commit-show .ensures .1) (sym (call-by (lent-at m) (planned m (k .plan7 .given .1))))
+    rw (d .commit-show .ensures .0, d .commit-show .ensures .1) (sym (call-by (memory-at m) (lent-at m) (planned m (k .plan7 .given .1))))
 
 pub gauge-receive-spec : {M : Type 1} → statement M
 gauge-receive-spec =

@@ -1,8 +1,10 @@
 -- `gauge_tick` meets its contract: waiting's tick, with its count in 32 bits. Assumes nothing.
 use mathlib.Core.Path.{ap}
 use native.Mathlib.Omega.{arith}
-use Rattle.waiting.specs.Call.{Ticked}
+use Rattle.waiting_form.specs.Call.{Ticked}
+use Rattle.gauge_plan.specs.Lent.{withWaiting}
 use Rattle.gauge.specs.Counts.{tickAnswered, gaugeTick}
+use Rattle.gauge.specs.Ours.{ours}
 use Rattle.gauge.proofs.CountLaws.{tick-few}
 use borrow.Author.Needs.{needs}
 use Rattle.gauge.proofs.gauge_tick.Statement.{statement}
@@ -25,7 +27,10 @@ same-length-2 c = search needs
 
 returns : tie.Need-returns
 unfolding gaugeTick
-returns c = rw (c .answer-of .ensures) (ap tickAnswered (c .before .before .before .before .before .tick .ensures))
+returns c o =
+    let t = c .before .before .before .before .before in
+    let m = withWaiting (t .before .before .before .before .before .before .args .waiting .now) o in
+    rw (c .answer-of .ensures) (ap (tickAnswered m) (t .tick .ensures))
 
 pub gauge-tick-spec : {M : Type 1} → statement M
 gauge-tick-spec =

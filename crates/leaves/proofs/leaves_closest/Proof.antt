@@ -1,18 +1,101 @@
--- `leaves::leaves_closest` meets its contract: the word of the record that is shown. Assumes nothing.
-use mathlib.Core.Path.{ap, _∙_}
+-- `leaves::leaves_closest` meets its contract: the word of the record that is shown, 0 where none is. Assumes nothing.
+use mathlib.Core.Path.{_≡_, refl, sym, ap, _∙_, subst}
+use mathlib.Core.List.{[]}
+use Prim.Native.Nat.{ℕ, _+_, _-_, _*_, _≤_}
+use native.Mathlib.Omega.{arith}
+use lib.ListN.{length, take, drop}
 use borrow.Author.Needs.{needs}
+use Rattle.neighbours.specs.declared.nearest.Nearest.{Nearest}
+use Rattle.neighbours.specs.Calls.{Shown, shownBy, Inside, closestCall}
 use Rattle.leaves.specs.Leaves.{wordOr0}
 use Rattle.leaves.proofs.leaves_closest.Statement.{statement}
 use Rattle.leaves.proofs.leaves_closest.Tie as tie
 
+abbrev start : tie.After-closest-record → tie.Start
+start c = c .before .before .before .before
+
+-- the bytes that an answer shows
+shows : (c : tie.After-closest-record) (n : Nearest) → c .closest-record .result ≡ n
+    → shownBy (start c .args .own .now) (start c .args .cache .now) n .bytes
+    ≡ closestCall (start c .args .own .now) (start c .args .cache .now) (start c .args .target .now) .bytes
+shows c n e =
+    let a = start c .args in
+    ap (λ (h : Shown). h .bytes) (ap (shownBy (a .own .now) (a .cache .now)) (sym e) ∙ c .closest-record .ensures .0)
+
+no-word : wordOr0 24 [] ≡ 0
+unfolding wordOr0
+no-word = refl
+
 closest-record-requires : tie.Need-closest-record-requires
 closest-record-requires c κs = search needs
+
+enum-told : tie.Need-enum-told
+enum-told c = search needs
+
+enum-told-2 : tie.Need-enum-told-2
+enum-told-2 c = search needs
 
 leaves-u64-requires : tie.Need-leaves-u64-requires
 leaves-u64-requires c κs = search needs
 
+enum-known-i : tie.Need-enum-known-i
+enum-known-i c = search needs
+
+-- the place lies within the cache
+inside : (c : tie.After-known-told)
+    → 100 * c .before .i .given .0 .0 + 100 ≤ length (start (c .before .before .before) .args .cache .now)
+inside c =
+    let r = c .before .before .before in
+    subst (Inside (start r .args .own .now) (start r .args .cache .now)) (c .before .i .given .1) (r .closest-record .ensures .1) .1
+
+mul-at : tie.Need-mul-at
+mul-at c = omega (arith, inside c)
+
+add-leaves-u64 : tie.Need-add-leaves-u64
+add-leaves-u64 c = omega (arith, inside c)
+
+sub-leaves-u64 : tie.Need-sub-leaves-u64
+sub-leaves-u64 c = search needs
+
+part-leaves-u64-start : tie.Need-part-leaves-u64-start
+part-leaves-u64-start c = search needs
+
+part-leaves-u64-end : tie.Need-part-leaves-u64-end
+part-leaves-u64-end c = omega (arith, inside c)
+
+leaves-u64-requires-2 : tie.Need-leaves-u64-requires-2
+leaves-u64-requires-2 c κs = search needs
+
 returns : tie.Need-returns
-returns c = c .leaves-u64 .ensures ∙ ap (wordOr0 24) (c .before .closest-record .ensures)
+returns c = sym no-word ∙ ap (wordOr0 24) (shows (c .before .before) _ (c .enum-told .given .1))
+
+returns-2 : tie.Need-returns-2
+returns-2 c = c .leaves-u64 .ensures ∙ ap (wordOr0 24) (shows (c .before .before .before) _ (c .before .enum-told2 .given .1))
+
+returns-3 : tie.Need-returns-3
+returns-3 c =
+    let place = c .before .before .before in
+    let found = place .before .before in
+    let i = place .i .given .0 .0 in
+    let n : 100 * i + 100 - 100 * i ≡ 100 = omega arith in
+    c .leaves-u642 .ensures ∙ ap (λ (k : ℕ). wordOr0 24 (take k (drop (100 * i) (start found .args .cache .now)))) n
+    ∙ ap (wordOr0 24) (shows found _ (place .i .given .1))
 
 pub leaves-closest-spec : {M : Type 1} → statement M
-leaves-closest-spec = tie.close (tie.spec closest-record-requires leaves-u64-requires returns)
+leaves-closest-spec =
+    tie.close
+    (tie.spec
+    closest-record-requires
+    enum-told
+    enum-told-2
+    leaves-u64-requires
+    enum-known-i
+    mul-at
+    add-leaves-u64
+    sub-leaves-u64
+    part-leaves-u64-start
+    part-leaves-u64-end
+    leaves-u64-requires-2
+    returns
+    returns-2
+    returns-3)

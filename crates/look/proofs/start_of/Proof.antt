@@ -4,7 +4,7 @@ use Prim.Native.Nat.{_≤_}
 use native.Mathlib.Omega.{arith}
 use borrow.Author.Needs.{needs}
 use Rattle.wire_fields.specs.declared.Part.{Part}
-use Rattle.wire_read.specs.Answers.{startOf}
+use Rattle.wire_buffer.specs.Buffer.{startOf}
 use Rattle.look.proofs.start_of.Statement.{statement}
 use Rattle.look.proofs.start_of.Tie as tie
 

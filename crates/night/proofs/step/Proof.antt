@@ -5,10 +5,10 @@ use native.Mathlib.Omega.{arith}
 use lib.ListN.{length}
 use borrow.Author.Needs.{needs}
 use Rattle.refusal.specs.Table.{firstOf}
-use Rattle.sentences.specs.Words.{memory}
-use Rattle.night.specs.Fault.{faults}
+use Rattle.gauge_plan.specs.Lent.{memory}
+use Rattle.trace.specs.Fault.{faults}
 use Rattle.night.specs.Step.{night}
-use Rattle.night.proofs.FaultLaws.{good-record}
+use Rattle.trace.proofs.FaultLaws.{good-record}
 use Rattle.night.proofs.StepLaws.{step-unfit, refuses, body-fits, opening-length, opens, makes}
 use Rattle.night.proofs.step.Statement.{statement}
 use Rattle.night.proofs.step.Tie as tie

@@ -13,8 +13,7 @@ use Rattle.table.specs.Rows.{bytesOf}
 use Rattle.cache.specs.Bytes.{afterLearn}
 use Rattle.cache.specs.Calls.{Changed, changed, learnCall, heldBy}
 use Rattle.refusal.proofs.CallLaws.{row-applies, row-passes, no-row}
-use Rattle.cache.proofs.LentLaws.{not-is, not-isn't}
-use Rattle.cache.proofs.LentLaws.{memory-own, memory-form, memory-held, memory-passes, memory-refuses}
+use Rattle.cache.proofs.LentLaws.{not-is, not-isn't, memory-own, memory-form, memory-held, memory-passes, memory-refuses}
 use native.Mathlib.Omega.{arith}
 use borrow.Author.Needs.{needs}
 use Rattle.cache.proofs.calls.learn_record.Statement.{statement}
@@ -65,14 +64,14 @@ returns-2 c =
     sym (memory-passes (s .args .own .now) (s .args .cache .now) (c5 .memory .ensures) (c3 .found .given .1) (refuse s) _ (done s)
     ∙ row-applies (refuse s) 1 (not (recordForm (s .args .«record» .now))) _ (done s) wrong)
 
-same-at-requires : tie.Need-same-at-requires
-same-at-requires c κs =
+is-own-requires : tie.Need-is-own-requires
+is-own-requires c κs =
     let c3 = c .before .before .before in
     let c5 = c3 .before .before in
     let c10 = c5 .before .before .before .before .before in
     let s = c10 in
     let long = form-length (s .args .«record» .now) (sym (c .before .is-record .ensures) ∙ not-false _ (c .if1 .left)) in
-    (omega (arith, long), omega (arith, memory-own (s .args .own .now) (s .args .cache .now) (c5 .memory .ensures) (c3 .found .given .1)))
+    (omega (arith, memory-own (s .args .own .now) (s .args .cache .now) (c5 .memory .ensures) (c3 .found .given .1)), omega (arith, long))
 
 same-length-3 : tie.Need-same-length-3
 same-length-3 c = search needs
@@ -88,7 +87,7 @@ returns-3 c =
     sym (memory-passes (s .args .own .now) (s .args .cache .now) (c7 .memory .ensures) (c5 .found .given .1) (refuse s) _ (done s)
     ∙ row-passes (refuse s) 1 (not (recordForm (s .args .«record» .now))) _ (done s) (not-is (sym (c3 .is-record .ensures) ∙ not-false _
     (c .before .before .if1 .left)))
-    ∙ row-applies (refuse s) 1 (eqb (keyOf (s .args .«record» .now)) (keyOf (s .args .own .now))) [] (done s) (sym (c .before .same-at .ensures)
+    ∙ row-applies (refuse s) 1 (eqb (keyOf (s .args .«record» .now)) (keyOf (s .args .own .now))) [] (done s) (sym (c .before .is-own .ensures)
     ∙ c .if2 .taken))
 
 learn-requires : tie.Need-learn-requires
@@ -107,7 +106,7 @@ learn-requires c κs =
       (
         memory-form (s .args .own .now) (s .args .cache .now) (c8 .memory .ensures) (c6 .found .given .1),
         eqb-false (keyOf (s .args .«record» .now))
-            (keyOf (s .args .own .now)) (sym (c .before .before .same-at .ensures) ∙ c .before .if2 .left),
+            (keyOf (s .args .own .now)) (sym (c .before .before .is-own .ensures) ∙ c .before .if2 .left),
       ),
     )
 
@@ -132,7 +131,7 @@ returns-4 c =
     ∙ sym (memory-passes (s .args .own .now) (s .args .cache .now) (c11 .memory .ensures) (c9 .found .given .1) (refuse s) _ (done s)
     ∙ row-passes (refuse s) 1 (not (recordForm (s .args .«record» .now))) _ (done s) (not-is (sym (c7 .is-record .ensures) ∙ not-false _
     (c6 .if1 .left)))
-    ∙ row-passes (refuse s) 1 (eqb (keyOf (s .args .«record» .now)) (keyOf (s .args .own .now))) [] (done s) (sym (c5 .same-at .ensures)
+    ∙ row-passes (refuse s) 1 (eqb (keyOf (s .args .«record» .now)) (keyOf (s .args .own .now))) [] (done s) (sym (c5 .is-own .ensures)
     ∙ c4 .if2 .left)
     ∙ no-row (refuse s) (done s))
 
@@ -148,7 +147,7 @@ learn-record-spec =
     is-record-requires
     same-length-2
     returns-2
-    same-at-requires
+    is-own-requires
     same-length-3
     returns-3
     learn-requires

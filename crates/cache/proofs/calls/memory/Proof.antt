@@ -7,19 +7,19 @@ use borrow.Author.Needs.{needs}
 use Rattle.cache.proofs.calls.memory.Statement.{statement}
 use Rattle.cache.proofs.calls.memory.Tie as tie
 
-is-record-requires : tie.Need-is-record-requires
-is-record-requires c κs = search needs
+own-form-requires : tie.Need-own-form-requires
+own-form-requires c κs = search needs
 
 returns : tie.Need-returns
-returns c = sym (rw (sym (c .before .is-record .ensures) ∙ not-true _ (c .if1 .taken)) refl)
+returns c = sym (rw (sym (c .before .own-form .ensures) ∙ not-true _ (c .if1 .taken)) refl)
 
 form-requires : tie.Need-form-requires
 form-requires c κs =
     let c4 = c .before .before .before .before in
-    omega (arith, form-length (c4 .args .own .now) (sym (c .before .is-record .ensures) ∙ not-false _ (c .if1 .left)))
+    omega (arith, form-length (c4 .args .own .now) (sym (c .before .own-form .ensures) ∙ not-false _ (c .if1 .left)))
 
 returns-2 : tie.Need-returns-2
-returns-2 c = c .form .ensures ∙ sym (rw (sym (c .before .before .is-record .ensures) ∙ not-false _ (c .before .if1 .left)) refl)
+returns-2 c = c .form .ensures ∙ sym (rw (sym (c .before .before .own-form .ensures) ∙ not-false _ (c .before .if1 .left)) refl)
 
 pub memory-spec : {M : Type 1} → statement M
-memory-spec = tie.close (tie.spec is-record-requires returns form-requires returns-2)
+memory-spec = tie.close (tie.spec own-form-requires returns form-requires returns-2)

@@ -12,8 +12,7 @@ use Rattle.table.specs.Rows.{bytesOf}
 use Rattle.cache.specs.Bytes.{afterRemove}
 use Rattle.cache.specs.Calls.{Changed, changed, removeCall, heldBy}
 use Rattle.refusal.proofs.CallLaws.{row-applies, row-passes, no-row}
-use Rattle.cache.proofs.LentLaws.{not-is, not-isn't}
-use Rattle.cache.proofs.LentLaws.{memory-own, memory-form, memory-held, memory-passes, memory-refuses}
+use Rattle.cache.proofs.LentLaws.{not-is, not-isn't, memory-own, memory-form, memory-held, memory-passes, memory-refuses}
 use native.Mathlib.Omega.{arith}
 use borrow.Author.Needs.{needs}
 use Rattle.cache.proofs.calls.remove_key.Statement.{statement}

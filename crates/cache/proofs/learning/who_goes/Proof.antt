@@ -18,7 +18,8 @@ use Rattle.kept.proofs.TurnLaws.{count-le, under-le}
 use Rattle.cache.specs.Form.{keysOf}
 use Rattle.cache.specs.Place.{farthestAt, Goes}
 use Rattle.cache.proofs.FormLaws.{form-laid}
-use Rattle.cache.proofs.LearnLaws.{place-goes, more-length, under-insert, below-insert}
+use Rattle.cache.proofs.LearnLaws.{more-length}
+use Rattle.cache.proofs.GoesLaws.{place-goes, under-insert, below-insert}
 use borrow.Author.Needs.{needs}
 use Rattle.cache.proofs.learning.who_goes.Statement.{statement}
 use Rattle.cache.proofs.learning.who_goes.Tie as tie

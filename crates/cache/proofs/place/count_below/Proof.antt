@@ -8,7 +8,7 @@ use Rattle.octet.specs.Number.{Bytes}
 use Rattle.key.specs.Number.{keyAt}
 use Rattle.key.specs.Around.{ring, half}
 use Rattle.key.proofs.KeyLaws.{key-lt}
-use Rattle.key.proofs.HalfLaws.{byte-low, byte-high}
+use Rattle.ring.proofs.HalfLaws.{byte-low, byte-high}
 use Rattle.record.specs.Record.{keyOf}
 use Rattle.table.specs.Rows.{rows}
 use Rattle.kept.specs.Keys.{Rising, plain}

@@ -26,11 +26,11 @@ row-key : (s : tie.Start) → keyOf (row s) ≡ keyAt (100 * s .args .i) (s .arg
 row-key s = key-of-row (100 * s .args .i) (s .args .cache .now)
 
 -- where the comparison with the own key is made
-abbrev start : tie.After-same-at → tie.Start
+abbrev start : tie.After-is-own → tie.Start
 start m = m .before .before .before .before .before .before .before
 
 -- the other tests have passed
-passed : (m : tie.After-same-at) → (recordForm (row (start m)) ≡ true) × (leb (low (start m)) (keyOf (row (start m))) ≡ true)
+passed : (m : tie.After-is-own) → (recordForm (row (start m)) ≡ true) × (leb (low (start m)) (keyOf (row (start m))) ≡ true)
 passed m = (
   sym (m .before .before .before .before .is-formed .ensures) ∙ not-false _ (m .before .before .before .if1 .left),
   ap (leb (low (start m))) (row-key (start m)) ∙ sym (m .before .before .above-before .ensures) ∙ not-false _ (m .before .if2 .left),
@@ -64,15 +64,15 @@ returns-2 c =
     (c .if2 .taken) in
     sym (rw (f, l) refl)
 
-same-at-requires : tie.Need-same-at-requires
-same-at-requires c κs = search needs
+is-own-requires : tie.Need-is-own-requires
+is-own-requires c κs = search needs
 
 returns-3 : tie.Need-returns-3
 unfolding follows
 returns-3 c =
     let s = start c in
     let p = passed c in
-    ap not (c .same-at .ensures) ∙ sym (rw (p .0, p .1, row-key s) refl)
+    ap not (c .is-own .ensures) ∙ sym (rw (p .0, p .1, row-key s) refl)
 
 pub place-follows-spec : {M : Type 1} → statement M
 place-follows-spec =
@@ -83,5 +83,5 @@ place-follows-spec =
     returns
     above-before-requires
     returns-2
-    same-at-requires
+    is-own-requires
     returns-3)

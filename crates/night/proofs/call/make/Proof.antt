@@ -2,7 +2,7 @@
 use mathlib.Core.Path.{ap, _∙_}
 use borrow.Author.Needs.{needs}
 use Rattle.night.specs.Step.{called}
-use Rattle.night.proofs.FaultLaws.{fits-1, fits-2}
+use Rattle.trace.proofs.FaultLaws.{fits-1, fits-2}
 use Rattle.night.proofs.CallLaws.{call-1, call-2, call-3}
 use Rattle.night.proofs.call.make.Statement.{statement}
 use Rattle.night.proofs.call.make.Tie as tie

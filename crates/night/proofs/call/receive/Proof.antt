@@ -80,7 +80,7 @@ returns c =
     let w = gauge-receive .before .before .before .before .before .before .before .before .before .before .before in
     let r = w .before .before in
     let body = r .before .before .before .before .before .args .body .now in
-    receive-called _ _ _ _ body _ _ _ _ _ _ (r .read-u32-le .ensures) (w .wide .ensures)
+    receive-called _ _ _ body _ _ _ (r .read-u32-le .ensures) (w .wide .ensures)
     (take-all (length body - 53) (drop 53 body) (omega (arith, length-drop 53 body)))
     (gauge-receive .gauge-receive .ensures)
 

@@ -53,7 +53,7 @@ returns : tie.Need-returns
 returns c =
     let r = c .before .before .before .before .before .before .before .before .before .before .before in
     let body = r .before .before .before .before .before .args .body .now in
-    send-called _ _ _ _ body _ _ _ (r .read-u32-le .ensures) (c .before .before .before .gauge-send .ensures)
+    send-called _ _ _ body _ (r .read-u32-le .ensures) (c .before .before .before .gauge-send .ensures)
 
 pub send-spec : {M : Type 1} → statement M
 send-spec =

@@ -23,7 +23,7 @@ same-length : tie.Need-same-length
 same-length c = search needs
 
 returns : tie.Need-returns
-returns c = λ cache. tick-called _ cache _ _ _ _ (c .before .before .before .gauge-tick .ensures)
+returns c = λ cache. tick-called _ _ _ (c .before .before .before .gauge-tick .ensures cache)
 
 pub tick-spec : {M : Type 1} → statement M
 tick-spec =

@@ -3,12 +3,11 @@ use mathlib.Core.Path.{_≡_, refl, _∙_}
 use Prim.Native.Nat.{_+_, _-_, _*_, _≤_}
 use native.Mathlib.Omega.{arith}
 use lib.ListN.{length, take, drop}
-use Rattle.sentences.specs.Words.{memory}
+use Rattle.gauge_plan.specs.Lent.{memory}
 use Rattle.night.specs.Step.{night}
 use Rattle.replay.specs.Stream.{stream, after, fed}
 use Rattle.replay.specs.Room.{Begun}
-use Rattle.replay.proofs.RoomLaws.{piece-turn, piece-over, piece-end, Run, run-of, run-asks, run-closer}
-use Rattle.replay.proofs.RoomLaws.{run-lines, run-numbers, length-run, up-to, up-to-end, at-piece-end}
+use Rattle.replay.proofs.RoomLaws.{piece-turn, piece-over, piece-end, Run, run-of, run-asks, run-closer, run-lines, run-numbers, length-run, up-to, up-to-end, at-piece-end}
 use Rattle.replay.proofs.stream.feed.Statement.{statement}
 use Rattle.replay.proofs.stream.feed.Tie as tie
 

@@ -4,8 +4,10 @@ use Prim.Native.Nat.{_*_, _-_, _≤_}
 use native.Mathlib.Omega.{arith}
 use lib.ListN.{drop}
 use Rattle.table.specs.Rows.{rows}
-use Rattle.waiting.specs.Seek.{seek, isAt}
-use Rattle.waiting.proofs.WalkLaws.{at-is, seek-here, seek-on, seek-end}
+use Rattle.table.specs.Seek.{seek}
+use Rattle.waiting.specs.Seek.{isAt}
+use Rattle.table.proofs.SeekLaws.{seek-here, seek-on, seek-end}
+use Rattle.waiting.proofs.WalkLaws.{at-is}
 use Rattle.waiting.proofs.seek.find.Statement.{statement}
 use Rattle.waiting.proofs.seek.find.Tie as tie
 
@@ -35,7 +37,7 @@ returns : tie.Need-returns Inv-loop μ-loop
 returns c =
     let a = c .before .before .before .before .before .before .args in
     let l = c .before .before .before .before .loop in
-    sym (l .inv .1 ∙ seek-here (a .used) (a .table .now) (l .at) (isAt (a .id) (a .kind)) (omega arith)
+    sym (l .inv .1 ∙ seek-here 140 (a .used) (a .table .now) (l .at) (isAt (a .id) (a .kind)) (omega arith)
     (at-is (a .id) (a .kind) (140 * l .at) (a .table .now) (c .before .before .read-u32-le .ensures) ∙ c .if1 .taken))
 
 add-at : tie.Need-add-at Inv-loop μ-loop
@@ -49,7 +51,7 @@ loop-again c =
     let a = c .before .before .before .before .before .before .args in
     let l = c .before .before .before .before .loop in (
       omega arith,
-      l .inv .1 ∙ seek-on (a .used) (a .table .now) (l .at) (isAt (a .id) (a .kind)) (omega arith)
+      l .inv .1 ∙ seek-on 140 (a .used) (a .table .now) (l .at) (isAt (a .id) (a .kind)) (omega arith)
           (at-is (a .id) (a .kind) (140 * l .at) (a .table .now) (c .before .before .read-u32-le .ensures) ∙ c .if1 .left),
     )
 
@@ -57,7 +59,7 @@ returns-2 : tie.Need-returns-2 Inv-loop μ-loop
 returns-2 c =
     let a = c .before .before .before .args in
     let l = c .before .loop in
-    sym (l .inv .1 ∙ seek-end (a .used) (a .table .now) (l .at) (isAt (a .id) (a .kind)) (omega arith))
+    sym (l .inv .1 ∙ seek-end 140 (a .used) (a .table .now) (l .at) (isAt (a .id) (a .kind)) (omega arith))
 
 pub find-spec : {M : Type 1} → statement M
 find-spec =

@@ -6,8 +6,9 @@ use lib.ListN.{drop}
 use Rattle.key.specs.Number.{keyAt}
 use Rattle.table.specs.Rows.{rows}
 use Rattle.waiting.specs.Form.{isInquiry}
-use Rattle.waiting.specs.Seek.{seek}
-use Rattle.waiting.proofs.WalkLaws.{inquiry-is, seek-here, seek-on, seek-end}
+use Rattle.table.specs.Seek.{seek}
+use Rattle.table.proofs.SeekLaws.{seek-here, seek-on, seek-end}
+use Rattle.waiting.proofs.WalkLaws.{inquiry-is}
 use Rattle.waiting.proofs.seek.find_inquiry.Statement.{statement}
 use Rattle.waiting.proofs.seek.find_inquiry.Tie as tie
 
@@ -43,7 +44,7 @@ returns c =
     let a = c .before .before .before .before .before .before .before .args in
     let l = c .before .before .before .before .loop in
     let k = keyAt (a .place) (a .key .now) in
-    sym (l .inv .1 ∙ seek-here (a .used) (a .table .now) (l .at) (isInquiry k) (omega arith)
+    sym (l .inv .1 ∙ seek-here 140 (a .used) (a .table .now) (l .at) (isInquiry k) (omega arith)
     (inquiry-is k (140 * l .at) (a .table .now) (c .before .before .same-at .ensures) ∙ c .if1 .taken))
 
 add-at : tie.Need-add-at Inv-loop μ-loop
@@ -58,7 +59,7 @@ loop-again c =
     let l = c .before .before .before .before .loop in
     let k = keyAt (a .place) (a .key .now) in (
       omega arith,
-      l .inv .1 ∙ seek-on (a .used) (a .table .now) (l .at) (isInquiry k) (omega arith)
+      l .inv .1 ∙ seek-on 140 (a .used) (a .table .now) (l .at) (isInquiry k) (omega arith)
           (inquiry-is k (140 * l .at) (a .table .now) (c .before .before .same-at .ensures) ∙ c .if1 .left),
     )
 
@@ -66,7 +67,7 @@ returns-2 : tie.Need-returns-2 Inv-loop μ-loop
 returns-2 c =
     let a = c .before .before .before .before .args in
     let l = c .before .loop in
-    sym (l .inv .1 ∙ seek-end (a .used) (a .table .now) (l .at) (isInquiry (keyAt (a .place) (a .key .now))) (omega arith))
+    sym (l .inv .1 ∙ seek-end 140 (a .used) (a .table .now) (l .at) (isInquiry (keyAt (a .place) (a .key .now))) (omega arith))
 
 pub find-inquiry-spec : {M : Type 1} → statement M
 find-inquiry-spec =

@@ -5,12 +5,11 @@ use native.Mathlib.Omega.{arith}
 use lib.ListN.{drop}
 use borrow.Author.Tests.{eq-eqb, ne-eqb}
 use Rattle.octet.specs.Part.{part}
-use Rattle.table.specs.Rows.{rows}
+use Rattle.table.specs.Rows.{rows, anyOf}
 use Rattle.waiting.specs.Place.{idOf}
-use Rattle.waiting.specs.Form.{anyOf}
 use Rattle.waiting.specs.Seek.{hasId}
 use Rattle.waiting.proofs.PlaceLaws.{id-at}
-use Rattle.waiting.proofs.WalkLaws.{any-here, any-on, any-end}
+use Rattle.table.proofs.SeekLaws.{any-here, any-on, any-end}
 use Rattle.waiting.proofs.seek.has_id.Statement.{statement}
 use Rattle.waiting.proofs.seek.has_id.Tie as tie
 
@@ -34,7 +33,7 @@ returns c =
     let a = c .before .before .before .before .before .args in
     let l = c .before .before .before .loop in
     let is = id-at (140 * l .at) (a .table .now) ∙ sym (c .before .read-u32-le .ensures) in
-    sym (l .inv .1 ∙ any-here (a .used) (a .table .now) (l .at) (hasId (a .id)) (omega arith)
+    sym (l .inv .1 ∙ any-here 140 (a .used) (a .table .now) (l .at) (hasId (a .id)) (omega arith)
     (eq-eqb (idOf (part (140 * l .at) 140 (a .table .now))) (a .id) (is ∙ c .if1 .taken)))
 
 add-at : tie.Need-add-at Inv-loop μ-loop
@@ -49,7 +48,7 @@ loop-again c =
     let l = c .before .before .before .loop in
     let is = id-at (140 * l .at) (a .table .now) ∙ sym (c .before .read-u32-le .ensures) in (
       omega arith,
-      l .inv .1 ∙ any-on (a .used) (a .table .now) (l .at) (hasId (a .id)) (omega arith)
+      l .inv .1 ∙ any-on 140 (a .used) (a .table .now) (l .at) (hasId (a .id)) (omega arith)
           (ne-eqb (idOf (part (140 * l .at) 140 (a .table .now))) (a .id) (λ e. c .if1 .left (sym is ∙ e))),
     )
 
@@ -57,7 +56,7 @@ returns-2 : tie.Need-returns-2 Inv-loop μ-loop
 returns-2 c =
     let a = c .before .before .before .args in
     let l = c .before .loop in
-    sym (l .inv .1 ∙ any-end (a .used) (a .table .now) (l .at) (hasId (a .id)) (omega arith))
+    sym (l .inv .1 ∙ any-end 140 (a .used) (a .table .now) (l .at) (hasId (a .id)) (omega arith))
 
 pub has-id-spec : {M : Type 1} → statement M
 has-id-spec =

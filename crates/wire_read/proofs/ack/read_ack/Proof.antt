@@ -5,7 +5,7 @@ use denote.Ref.{now}
 use mathlib.Core.Path.{sym, _∙_}
 use Rattle.wire_fields.specs.Kinds.{joined, sized}
 use Rattle.wire_fields.specs.Reading.{placesAt, fieldsAs}
-use Rattle.wire_fields.specs.declared.Shape.the-variants.{Sized}
+use Rattle.wire_shapes.specs.declared.Shape.the-variants.{Sized}
 use Rattle.wire_fields.proofs.RefusalLaws.{need-four, sized-four}
 use Rattle.wire_read.specs.Answers.{shown}
 use borrow.Author.Needs.{needs}

@@ -6,7 +6,7 @@ use mathlib.Core.Path.{sym, _∙_}
 use denote.Ref.{now}
 use Rattle.wire_fields.specs.Refusals.{inPart}
 use Rattle.wire_fields.specs.Reading.{fieldsAs, placesAt}
-use Rattle.wire_fields.specs.declared.Shape.the-variants.{Sized, Split}
+use Rattle.wire_shapes.specs.declared.Shape.the-variants.{Sized, Split}
 use Rattle.wire_fields.proofs.RefusalLaws.{need-four, sized-four, split-four}
 use Rattle.wire_read.specs.Answers.{shown}
 use Rattle.wire_read.proofs.ReaderLaws.{authority-bad, authority-good}

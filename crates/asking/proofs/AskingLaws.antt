@@ -1,0 +1,79 @@
+-- Laws of a record that must be inquired about: how many bytes; the key of the record that an entry names; the walk over the records held; whether the record
+-- must be inquired about. Assumes nothing.
+use mathlib.Core.Path.{_≡_, refl, sym, ap, _∙_}
+use mathlib.Core.Bool.{Bool, true, false, not, _&&_}
+use mathlib.Core.List.{List}
+use Prim.Native.Nat.{ℕ, _+_, _*_, _≤_, _<_}
+use native.Mathlib.Omega.{arith}
+use lib.ListN.{length, drop}
+use Rattle.octet.specs.Number.{valueBE}
+use Rattle.octet.specs.Part.{part, same}
+use Rattle.key.specs.Number.{keyAt}
+use Rattle.record.specs.Record.{keyOf}
+use Rattle.record.specs.Entry.{entryForm, recordOf}
+use Rattle.record.proofs.EntryLaws.{record-key}
+use Rattle.record.proofs.PlaceLaws.{entry-at}
+use Rattle.table.specs.Rows.{rows, anyOf}
+use Rattle.table.proofs.RowLaws.{rows-next, rows-end}
+use Rattle.table.proofs.PieceLaws.{part-start}
+use Rattle.waiting.specs.Form.{isInquiry}
+use Rattle.table.specs.Seek.{seek}
+use Rattle.table.specs.declared.Found.{Found}
+use Rattle.table.proofs.SeekLaws.{isFound, any-found}
+use Rattle.asking.specs.Asking.{mustAsk, inquireRoom}
+
+-- ---- how many bytes
+
+pub inquire-most : (opens : Bool) → inquireRoom opens ≤ 76
+inquire-most true = omega arith
+inquire-most false = omega arith
+
+-- ---- the key of the record that an entry names is the key that the entry begins with
+
+module _ (start len : ℕ) (d : List ℕ) (room : start + len ≤ length d) (form : entryForm (part start len d) ≡ true) where
+  pub entry-room : start + 32 ≤ length d
+  entry-room = let l = entry-at start len d room form .long in omega arith
+
+  pub key-in : keyOf (recordOf (part start len d)) ≡ keyAt start d
+  key-in =
+      let l = entry-at start len d room form .long in
+      record-key (part start len d) form ∙ ap (valueBE 256) (part-start start len 32 d (omega arith))
+
+-- ---- the walk over the records held: whether one passes a test
+
+module _ (w used : ℕ) (s : List ℕ) (at : ℕ) (test : List ℕ → Bool) where
+  pub one-here : at < used → test (part (w * at) w s) ≡ true → anyOf test (drop at (rows w used s)) ≡ true
+  unfolding anyOf
+  one-here h e = ap (anyOf test) (rows-next w used s at h) ∙ rw e refl
+
+  pub one-on : at < used → test (part (w * at) w s) ≡ false → anyOf test (drop at (rows w used s)) ≡ anyOf test (drop (at + 1) (rows w used s))
+  unfolding anyOf
+  one-on h e = ap (anyOf test) (rows-next w used s at h) ∙ rw e refl
+
+  pub one-end : used ≤ at → anyOf test (drop at (rows w used s)) ≡ false
+  unfolding anyOf
+  one-end h = ap (anyOf test) (rows-end w used s at h)
+
+-- ---- whether the record must be inquired about
+
+module _ (recs ps : List (List ℕ)) (r : List ℕ) where
+  pub ask-held : anyOf (λ (q : List ℕ). same q r) recs ≡ true → mustAsk recs ps r ≡ false
+  unfolding mustAsk
+  ask-held e = rw e refl
+
+  pub ask-found : anyOf (λ (q : List ℕ). same q r) recs ≡ false → {k : ℕ} → keyOf r ≡ k → {f : Found} → f ≡ seek (isInquiry k) 0 ps
+      → mustAsk recs ps r ≡ not (isFound f)
+  unfolding mustAsk
+  ask-found e {k} is {f} found =
+      rw e (ap not (ap (λ (j : ℕ). anyOf (isInquiry j) ps) is ∙ any-found (isInquiry k) 0 ps ∙ ap isFound (sym found)))
+
+both-not : (a b : Bool) → not a && not b ≡ true → (a ≡ false) × (b ≡ false)
+both-not false false e = (refl, refl)
+both-not false true e = let z : _≡_ {A = ℕ} 0 1 = cc in absurd (omega arith)
+both-not true b e = let z : _≡_ {A = ℕ} 0 1 = cc in absurd (omega arith)
+
+-- a record that must be inquired about is not held, and no inquiry for its key is waiting
+pub ask-tells : (recs ps : List (List ℕ)) (r : List ℕ) → mustAsk recs ps r ≡ true
+    → (anyOf (λ (q : List ℕ). same q r) recs ≡ false) × (anyOf (isInquiry (keyOf r)) ps ≡ false)
+unfolding mustAsk
+ask-tells recs ps r e = both-not (anyOf (λ (q : List ℕ). same q r) recs) (anyOf (isInquiry (keyOf r)) ps) e

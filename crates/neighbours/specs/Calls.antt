@@ -1,0 +1,61 @@
+-- To believe. The two calls on lent memory that nobody has tested: refused with 1 where "lent memory is not as above" (a target is such memory too), with 15
+-- where the output is "shorter than 320 bytes"; then nothing changes, counts are 0 and no record is shown. Assumes nothing.
+use Prim.Native.Nat.{ℕ, _+_, _*_, _≤_, _<_}
+use mathlib.Core.List.{List, [], _∷_}
+use lib.Dec.{ltb}
+use lib.ListN.{length}
+use Rattle.octet.specs.Part.{part}
+use Rattle.refusal.specs.Table.{Refusal, when, orRefuse}
+use Rattle.key.specs.Number.{keyAt}
+use Rattle.own.specs.Own.{ownKeys, ownRecords}
+use Rattle.cache.specs.Calls.{memoryWrong, keyWrong, heldBy}
+use Rattle.neighbours.specs.Listing.{afterList, countsOf}
+use Rattle.neighbours.specs.Closest.{candidates, closestOf}
+use Rattle.neighbours.specs.declared.listing.Listed.{Listed}
+use Rattle.neighbours.specs.declared.nearest.Nearest.{Nearest}
+use Rattle.neighbours.specs.declared.nearest.Nearest.the-variants.{Refused, Own, Held}
+
+-- what the neighbour list hands back: the number and the counts, and the output
+pub record Written : Type 0 where
+  pub answer : Listed
+  pub output : List ℕ
+
+abbrev pub written : Listed → List ℕ → Written
+written a out = record { answer = a; output = out }
+
+abbrev pub listWrong : List ℕ → List ℕ → List ℕ → List Refusal
+listWrong own cache out = memoryWrong own cache (when 15 (ltb (length out) 320) ∷ [])
+
+unfoldable pub listCall : List ℕ → List ℕ → List ℕ → Written
+listCall own cache out =
+    let counts = countsOf (ownKeys own) (heldBy own cache) in
+    orRefuse (λ (n : ℕ). written (record { number = n; below = 0; above = 0 }) out) (listWrong own cache out)
+    (written (record { number = 0; below = counts .below; above = counts .above }) (afterList (ownKeys own) (heldBy own cache) out))
+
+-- what the call for the closest record hands back: the number, and the record that is shown
+pub record Shown : Type 0 where
+  pub number : ℕ
+  pub bytes : List ℕ
+
+abbrev pub shown : ℕ → List ℕ → Shown
+shown n r = record { number = n; bytes = r }
+
+-- an answer, with the bytes of the record that it names
+abbrev pub shownBy : List ℕ → List ℕ → Nearest → Shown
+shownBy own cache (Refused n) = shown n []
+shownBy own cache Own = shown 0 own
+shownBy own cache (Held i) = shown 0 (part (100 * i) 100 cache)
+
+-- a place that it names is a used one, and lies within the cache
+abbrev pub Inside : List ℕ → List ℕ → Nearest → Type 0
+Inside own cache (Refused n) = Unit {0}
+Inside own cache Own = Unit {0}
+Inside own cache (Held i) = (i < length (heldBy own cache)) × (100 * i + 100 ≤ length cache)
+
+abbrev pub closestWrong : List ℕ → List ℕ → List ℕ → List Refusal
+closestWrong own cache target = memoryWrong own cache (keyWrong target ∷ [])
+
+unfoldable pub closestCall : List ℕ → List ℕ → List ℕ → Shown
+closestCall own cache target =
+    orRefuse (λ (n : ℕ). shown n []) (closestWrong own cache target)
+    (shown 0 (closestOf (keyAt 0 target) (candidates (ownRecords own) (heldBy own cache))))

@@ -1,0 +1,4 @@
+pub mod Listing
+pub mod Closest
+pub mod Where
+pub mod Calls

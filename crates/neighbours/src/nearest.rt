@@ -1,0 +1,105 @@
+// The record closest to a target key: a part of one of two lent slices, and no copy.
+ghost use mathlib.Core.Path.{_≡_};
+ghost use Prim.Native.Nat.{_+_, _*_, _≤_};
+ghost use lib.ListN.{length};
+ghost use Rattle.key.specs.Number.{number, keyAt};
+ghost use Rattle.record.specs.Record.{keyOf};
+ghost use Rattle.own.specs.Own.{ownRecords};
+ghost use Rattle.table.specs.Rows.{rows};
+ghost use Rattle.cache.specs.Form.{Form};
+ghost use Rattle.neighbours.specs.Closest.{candidates, closestOf};
+ghost use Rattle.neighbours.specs.Where.{recordAt, nearestOf, Within};
+ghost use Rattle.neighbours.specs.Calls.{Inside, shownBy, closestCall};
+use cache::Formed;
+use key::Key;
+
+// Where a record stands: it is our own, or that of a place of the cache.
+pub(crate) enum Where {
+    Own,
+    Held(usize),
+}
+
+// The number that a call for the closest record is refused with, or the record: our own, or that of a place of the cache.
+pub enum Nearest {
+    Refused(u32),
+    Own,
+    Held(usize),
+}
+
+// Which of our own record and those of two places is the closest to the target?
+fn nearest_of(own: &[u8], cache: &[u8], up: usize, down: usize, target: Key) -> Where
+    requires { ⌜ (32 ≤ length (now own)) × (100 * up + 32 ≤ length (now cache)) × (100 * down + 32 ≤ length (now cache)) ⌝ }
+    ensures { λ r. ⌜ r ≡ nearestOf (number target) (now (own .entry)) (now (cache .entry)) up down ⌝ }
+{
+    let ours = key::key_at(own, 0);
+    let over = key::key_at(cache, record::RECORD_LEN * up);
+    let under = key::key_at(cache, record::RECORD_LEN * down);
+    let far = ring::how_far(target, ours);
+    let far_up = ring::how_far(target, over);
+    let far_down = ring::how_far(target, under);
+    if ring::is_closer(target, over, far_up, under, far_down) {
+        if ring::is_closer(target, over, far_up, ours, far) {
+            return Where::Held(up);
+        }
+        return Where::Own;
+    }
+    if ring::is_closer(target, under, far_down, ours, far) {
+        return Where::Held(down);
+    }
+    Where::Own
+}
+
+// Where the closest record stands. Keys go round, so of those held it can only be the first that is reached by going up
+// from the target or the first by going down: they stand on the two sides of the target's own place.
+fn place_of_closest(own: &[u8], cache: &[u8], used: usize, target: &[u8]) -> Where
+    requires { ⌜ (32 ≤ length (now own)) × (32 ≤ length (now target)) ⌝ }
+    requires { ⌜ Form (keyOf (now own)) (now cache) (rows 100 used (now cache)) ⌝ }
+    ensures { λ r. ⌜ recordAt (now (own .entry)) (now (cache .entry)) r
+        ≡ closestOf (keyAt 0 (now (target .entry))) (candidates (ownRecords (now (own .entry))) (rows 100 used (now (cache .entry)))) ⌝ }
+    ensures { λ r. ⌜ Within used r ⌝ }
+{
+    if used == 0 {
+        return Where::Own;
+    }
+    let at = cache::count_under(target, cache, used);
+    let up = cache::wrap(used, at);
+    let down = cache::wrap(used, at + (used - 1));
+    nearest_of(own, cache, up, down, key::key_at(target, 0))
+}
+
+// The record closest to the target, whose 32 bytes begin its slice, among our own record and those that are held, so
+// many as `used` says.
+pub fn closest<'a>(own: &'a [u8], cache: &'a [u8], used: usize, target: &[u8]) -> &'a [u8]
+    requires { ⌜ (32 ≤ length (now own)) × (32 ≤ length (now target)) ⌝ }
+    requires { ⌜ Form (keyOf (now own)) (now cache) (rows 100 used (now cache)) ⌝ }
+    ensures { λ r. ⌜ now r ≡ closestOf (keyAt 0 (now (target .entry)))
+        (candidates (ownRecords (now (own .entry))) (rows 100 used (now (cache .entry)))) ⌝ }
+{
+    match place_of_closest(own, cache, used, target) {
+        Where::Own => own,
+        Where::Held(i) => {
+            let at = record::RECORD_LEN * i;
+            &cache[at..at + record::RECORD_LEN]
+        }
+    }
+}
+
+// Which record is the closest to the target, on memory that nobody has tested: refused with 1 where it is not in form or the
+// target has not 32 bytes.
+pub fn closest_record(own: &[u8], cache: &[u8], target: &[u8]) -> Nearest
+    ensures { λ r. ⌜ shownBy (now (own .entry)) (now (cache .entry)) r
+        ≡ closestCall (now (own .entry)) (now (cache .entry)) (now (target .entry)) ⌝ }
+    ensures { λ r. ⌜ Inside (now (own .entry)) (now (cache .entry)) r ⌝ }
+{
+    let found = cache::memory(own, cache);
+    let Formed::Good(used) = found else {
+        return Nearest::Refused(refusal::MEMORY);
+    };
+    if target.len() != 32 {
+        return Nearest::Refused(refusal::MEMORY);
+    }
+    match place_of_closest(own, cache, used, target) {
+        Where::Own => Nearest::Own,
+        Where::Held(i) => Nearest::Held(i),
+    }
+}

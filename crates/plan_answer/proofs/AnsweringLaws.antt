@@ -1,0 +1,234 @@
+-- Laws of the plans for an AUTHORITY, an ACK, an INQUIRE and a LOOKUP.
+-- In this order: the place found; each plan by the tests that the code makes; what is known of a plan. Assumes nothing.
+use mathlib.Core.Path.{_≡_, refl, ap, _∙_}
+use mathlib.Core.Logic.{inl, inr}
+use mathlib.Core.Bool.{Bool, true, false, not, _||_}
+use mathlib.Core.List.{List, [], _∷_}
+use Prim.Native.Nat.{ℕ, _+_, _*_, _≤_, _<_}
+use native.Mathlib.Omega.{arith}
+use lib.Dec.{eqb, ltb}
+use lib.ListN.{length, getD}
+use borrow.Author.Tests.{eq-eqb, ne-eqb, eqb-true, ltb-false, le-ltb, not-false}
+use Rattle.octet.proofs.TestLaws.{both-true}
+use Rattle.key.specs.Number.{keyAt}
+use Rattle.record.specs.Record.{countOf, recordForm}
+use Rattle.record.proofs.EntryLaws.{few-addresses}
+use Rattle.own.specs.Own.{ownRecords}
+use Rattle.refusal.specs.Table.{when, orRefuse}
+use Rattle.refusal.proofs.CallLaws.{or-known}
+use Rattle.table.specs.Rows.{rows}
+use Rattle.table.proofs.RowLaws.{rows-length, row-at}
+use Rattle.neighbours.specs.Closest.{candidates, closestOf}
+use Rattle.cache.specs.Form.{Held}
+use Rattle.neighbours.proofs.ClosestLaws.{closest-formed}
+use Rattle.waiting.specs.Place.{idOf, kindOf, placeKey}
+use Rattle.table.specs.Seek.{seek}
+use Rattle.waiting.specs.Seek.{isAt}
+use Rattle.table.specs.declared.Found.{Found}
+use Rattle.table.specs.declared.Found.the-variants.{At, Nothing}
+use Rattle.waiting.proofs.PlaceLaws.{key-at}
+use Rattle.table.proofs.SeekLaws.{found-within, found-passes}
+use Rattle.gauge_plan.specs.Found.{isNothing, placeOf}
+use Rattle.plan_answer.specs.Answering.{authorityPlan, ackPlan, inquirePlan, lookupPlan, authorityRefusals, ackRefusals, inquireRefusals, lookupRefusals}
+use Rattle.gauge_plan.proofs.FoundLaws.{some-found}
+use Rattle.gauge_plan.specs.declared.Plan.{Plan}
+use Rattle.gauge_plan.specs.declared.Plan.the-variants.{Refuse, Flood, Revoke, Learn, Free, Certify, Show}
+
+-- ---- the place found
+
+module _ (test : List ℕ → Bool) (used i : ℕ) (t : List ℕ) (e : seek test 0 (rows 140 used t) ≡ At i) where
+  pub place-within : i < used
+  place-within = omega (arith, found-within test i (rows 140 used t) e, rows-length 140 used t)
+
+  pub place-key : placeKey (getD (rows 140 used t) i []) ≡ keyAt (140 * i + 8) t
+  place-key = ap placeKey (row-at 140 used t i place-within) ∙ key-at (140 * i) t
+
+-- ---- each plan by the tests that the code makes
+
+module _ (ps : List (List ℕ)) (held used verdict k acked : ℕ) (cpa : Bool) where
+  pub authority-none : seek (isAt acked 2) 0 ps ≡ Nothing → authorityPlan ps held used verdict k acked cpa ≡ Refuse 8
+  unfolding authorityPlan orRefuse
+  authority-none e = rw e refl
+
+  module _ {i : ℕ} (e : seek (isAt acked 2) 0 ps ≡ At i) where
+    pub authority-bare : not cpa ≡ true → authorityPlan ps held used verdict k acked cpa ≡ Refuse 9
+    unfolding authorityPlan orRefuse
+    authority-bare b = rw (e, b) refl
+
+    module _ (has : not cpa ≡ false) where
+      pub authority-bad : (verdict ≡ 1 → ⊥) → authorityPlan ps held used verdict k acked cpa ≡ Refuse 9
+      unfolding authorityPlan orRefuse
+      authority-bad d = rw (e, has, ne-eqb verdict 1 d) refl
+
+      module _ (good : verdict ≡ 1) {j : ℕ} (is : placeKey (getD ps i []) ≡ j) where
+        pub authority-other : eqb k j ≡ false → authorityPlan ps held used verdict k acked cpa ≡ Refuse 10
+        unfolding authorityPlan orRefuse
+        authority-other d = rw (e, has, eq-eqb verdict 1 good, is, d) refl
+
+        pub authority-right : eqb k j ≡ true → authorityPlan ps held used verdict k acked cpa ≡ Learn held used i
+        unfolding authorityPlan orRefuse
+        authority-right d = rw (e, has, eq-eqb verdict 1 good, is, d) refl
+
+module _ (ps : List (List ℕ)) (held used acked : ℕ) (n : Bool) where
+  pub ack-none : seek (isAt acked 1) 0 ps ≡ Nothing → ackPlan ps held used acked n ≡ Refuse 8
+  unfolding ackPlan orRefuse
+  ack-none e = rw e refl
+
+  pub ack-by : {i : ℕ} → seek (isAt acked 1) 0 ps ≡ At i → ackPlan ps held used acked n ≡ Free held used i n
+  unfolding ackPlan orRefuse
+  ack-by e = rw e refl
+
+module _ (own : List ℕ) (recs : List (List ℕ)) (held room : ℕ) (d : List ℕ) (acked target : ℕ) where
+  pub lookup-by : {c : ℕ} → countOf (closestOf (keyAt target d) (candidates (ownRecords own) recs)) ≡ c
+      → lookupPlan own recs held room d acked target ≡ orRefuse Refuse (when 15 (ltb room (80 + 16 * c)) ∷ []) (Show held acked target)
+  unfolding lookupPlan
+  lookup-by e = rw e refl
+
+  -- with room for any record
+  pub lookup-any : {k : ℕ} → 144 ≤ room → recordForm own ≡ true → Held k recs → lookupPlan own recs held room d acked target ≡ Show held acked target
+  unfolding orRefuse
+  lookup-any {k} r e f =
+      let t = keyAt target d in
+      let n = few-addresses (closestOf t (candidates (ownRecords own) recs)) (closest-formed t k own recs e f) in
+      lookup-by refl ∙ rw (le-ltb room (80 + 16 * countOf (closestOf t (candidates (ownRecords own) recs))) (omega arith)) refl
+
+-- ---- what is known of a plan
+
+-- neither without a CPA nor with a verdict that is not good
+neither : (cpa good : Bool) → (not cpa || not good) ≡ false → (cpa ≡ true) × (good ≡ true)
+neither true true e = (refl, refl)
+neither true false e = let z : _≡_ {A = ℕ} 0 1 = cc in absurd (omega arith)
+neither false good e = let z : _≡_ {A = ℕ} 0 1 = cc in absurd (omega arith)
+
+-- the place with the acked ID and the kind
+pub record Waits (id kind at : ℕ) (ps : List (List ℕ)) : Type 0 where
+  pub found : seek (isAt id kind) 0 ps ≡ At at
+  pub within : at < length ps
+  pub id-is : idOf (getD ps at []) ≡ id
+  pub kind-is : kindOf (getD ps at []) ≡ kind
+
+pub waits : (id kind at : ℕ) (ps : List (List ℕ)) → seek (isAt id kind) 0 ps ≡ At at → Waits id kind at ps
+waits id kind at ps e =
+    let p = getD ps at [] in
+    let b = both-true (eqb (idOf p) id) (eqb (kindOf p) kind) (found-passes (isAt id kind) at ps e) in
+    record {
+      found = e;
+      within = found-within (isAt id kind) at ps e;
+      id-is = eqb-true (idOf p) id (b .0);
+      kind-is = eqb-true (kindOf p) kind (b .1);
+    }
+
+module _ (ps : List (List ℕ)) (held used verdict k acked : ℕ) (cpa : Bool) where
+  -- an AUTHORITY is planned: the inquiry with the acked ID waits, and the verdict is good for its key
+  pub record Learning (h u at : ℕ) : Type 0 where
+    pub held-is : h ≡ held
+    pub used-is : u ≡ used
+    pub waiting : Waits acked 2 at ps
+    pub cpa-is : cpa ≡ true
+    pub verdict-is : verdict ≡ 1
+    pub key-is : k ≡ placeKey (getD ps at [])
+
+  abbrev pub KnownAuthority : Plan → Type 0
+  KnownAuthority (Refuse m) = Unit {0}
+  KnownAuthority (Flood u s n a o at size) = ⊥
+  KnownAuthority (Revoke h u s n a) = ⊥
+  KnownAuthority (Learn h u at) = Learning h u at
+  KnownAuthority (Free h u at m) = ⊥
+  KnownAuthority (Certify a) = ⊥
+  KnownAuthority (Show h a at) = ⊥
+
+  pub known-authority : KnownAuthority (authorityPlan ps held used verdict k acked cpa)
+  unfolding authorityPlan
+  known-authority =
+      let f = seek (isAt acked 2) 0 ps in
+      or-known KnownAuthority Refuse (authorityRefusals ps verdict k acked cpa) (Learn held used (placeOf f))
+      (λ m. tt)
+      (λ w. let b = neither cpa (eqb verdict 1) (w .1 .0) in record {
+        held-is = refl;
+        used-is = refl;
+        waiting = waits acked 2 (placeOf f) ps (some-found f (w .0));
+        cpa-is = b .0;
+        verdict-is = eqb-true verdict 1 (b .1);
+        key-is = eqb-true k (placeKey (getD ps (placeOf f) [])) (not-false (eqb k (placeKey (getD ps (placeOf f) []))) (w .1 .1 .0));
+      })
+
+module _ (ps : List (List ℕ)) (held used acked : ℕ) (n : Bool) where
+  -- an ACK is planned: the flood with the acked ID waits
+  pub record Freeing (h u at : ℕ) (m : Bool) : Type 0 where
+    pub held-is : h ≡ held
+    pub used-is : u ≡ used
+    pub n-is : m ≡ n
+    pub waiting : Waits acked 1 at ps
+
+  abbrev pub KnownAck : Plan → Type 0
+  KnownAck (Refuse m) = Unit {0}
+  KnownAck (Flood u s n a o at size) = ⊥
+  KnownAck (Revoke h u s n a) = ⊥
+  KnownAck (Learn h u at) = ⊥
+  KnownAck (Free h u at m) = Freeing h u at m
+  KnownAck (Certify a) = ⊥
+  KnownAck (Show h a at) = ⊥
+
+  pub known-ack : KnownAck (ackPlan ps held used acked n)
+  unfolding ackPlan
+  known-ack =
+      let f = seek (isAt acked 1) 0 ps in
+      or-known KnownAck Refuse (ackRefusals ps acked) (Free held used (placeOf f) n)
+      (λ m. tt)
+      (λ w. record { held-is = refl; used-is = refl; n-is = refl; waiting = waits acked 1 (placeOf f) ps (some-found f (w .0)) })
+
+module _ (own size room : ℕ) (d : List ℕ) (acked validate : ℕ) where
+  -- an INQUIRE is planned: it is for our key, and the AUTHORITY has room
+  pub record Certifying (a : ℕ) : Type 0 where
+    pub acked-is : a ≡ acked
+    pub ours : keyAt validate d ≡ own
+    pub fits-in : 40 + size ≤ room
+
+  abbrev pub KnownInquire : Plan → Type 0
+  KnownInquire (Refuse m) = Unit {0}
+  KnownInquire (Flood u s n a o at size) = ⊥
+  KnownInquire (Revoke h u s n a) = ⊥
+  KnownInquire (Learn h u at) = ⊥
+  KnownInquire (Free h u at m) = ⊥
+  KnownInquire (Certify a) = Certifying a
+  KnownInquire (Show h a at) = ⊥
+
+  pub known-inquire : KnownInquire (inquirePlan own size room d acked validate)
+  unfolding inquirePlan
+  known-inquire =
+      or-known KnownInquire Refuse (inquireRefusals own size room d validate) (Certify acked)
+      (λ m. tt)
+      (λ w. record {
+        acked-is = refl;
+        ours = eqb-true (keyAt validate d) own (not-false (eqb (keyAt validate d) own) (w .0));
+        fits-in = ltb-false room (40 + size) (w .1 .0);
+      })
+
+module _ (own : List ℕ) (recs : List (List ℕ)) (held room : ℕ) (d : List ℕ) (acked target : ℕ) where
+  -- a LOOKUP is planned: the AUTHORITY with the closest record has room
+  pub record Showing (h a at : ℕ) : Type 0 where
+    pub held-is : h ≡ held
+    pub acked-is : a ≡ acked
+    pub target-is : at ≡ target
+    pub fits-in : 80 + 16 * countOf (closestOf (keyAt target d) (candidates (ownRecords own) recs)) ≤ room
+
+  abbrev pub KnownLookup : Plan → Type 0
+  KnownLookup (Refuse m) = Unit {0}
+  KnownLookup (Flood u s n a o at size) = ⊥
+  KnownLookup (Revoke h u s n a) = ⊥
+  KnownLookup (Learn h u at) = ⊥
+  KnownLookup (Free h u at m) = ⊥
+  KnownLookup (Certify a) = ⊥
+  KnownLookup (Show h a at) = Showing h a at
+
+  pub known-lookup : KnownLookup (lookupPlan own recs held room d acked target)
+  unfolding lookupPlan
+  known-lookup =
+      or-known KnownLookup Refuse (lookupRefusals own recs room d target) (Show held acked target)
+      (λ m. tt)
+      (λ w. record {
+        held-is = refl;
+        acked-is = refl;
+        target-is = refl;
+        fits-in = ltb-false room (80 + 16 * countOf (closestOf (keyAt target d) (candidates (ownRecords own) recs))) (w .0);
+      })

@@ -1,0 +1,109 @@
+// What is planned for an AUTHORITY, an ACK, an INQUIRE, a LOOKUP: every refusal is decided here.
+ghost use mathlib.Core.Path.{_≡_};
+ghost use mathlib.Core.Bool.{true};
+ghost use Prim.Native.Nat.{_+_, _*_, _≤_};
+ghost use lib.ListN.{length};
+ghost use Rattle.key.specs.Number.{keyAt};
+ghost use Rattle.record.specs.Record.{keyOf, recordForm};
+ghost use Rattle.table.specs.Rows.{rows};
+ghost use Rattle.cache.specs.Form.{Form};
+ghost use Rattle.plan_answer.specs.Answering.{authorityPlan, ackPlan, inquirePlan, lookupPlan};
+use gauge_plan::Plan;
+
+// The plan for an AUTHORITY, with a CPA or without.
+pub fn plan_authority(
+    waiting: &[u8],
+    held: usize,
+    used: usize,
+    verdict: u32,
+    key: &[u8],
+    acked: u32,
+    cpa: bool,
+) -> Plan
+    requires { ⌜ (140 * used ≤ length (now waiting)) × (32 ≤ length (now key)) ⌝ }
+    ensures { λ r. ⌜ r ≡ authorityPlan (rows 140 used (now (waiting .entry))) held used verdict
+        (keyAt 0 (now (key .entry))) acked cpa ⌝ }
+{
+    let found = waiting::find(waiting, used, acked, waiting::INQUIRY);
+    let table::Found::At(at) = found else {
+        return Plan::Refuse(refusal::STRAY);
+    };
+    if !cpa {
+        return Plan::Refuse(refusal::UNTRUSTED);
+    }
+    if verdict != 1 {
+        return Plan::Refuse(refusal::UNTRUSTED);
+    }
+    if !key::same_at(key, 0, waiting, waiting::PLACE_LEN * at + 8) {
+        return Plan::Refuse(refusal::OTHER_KEY);
+    }
+    Plan::Learn { held, used, at }
+}
+
+// The plan for an ACK, with N or without.
+pub fn plan_ack(waiting: &[u8], held: usize, used: usize, acked: u32, n: bool) -> Plan
+    requires { ⌜ 140 * used ≤ length (now waiting) ⌝ }
+    ensures { λ r. ⌜ r ≡ ackPlan (rows 140 used (now (waiting .entry))) held used acked n ⌝ }
+{
+    let found = waiting::find(waiting, used, acked, waiting::FLOOD);
+    let table::Found::At(at) = found else {
+        return Plan::Refuse(refusal::STRAY);
+    };
+    Plan::Free { held, used, at, n }
+}
+
+// The plan for an INQUIRE. `size` is the own CPA's length, `room` the output's.
+pub fn plan_inquire(
+    own: &[u8],
+    size: usize,
+    room: usize,
+    d: &[u8],
+    acked: u32,
+    validate: usize,
+) -> Plan
+    requires { ⌜ (32 ≤ length (now own)) × (validate + 32 ≤ length (now d)) × (size ≤ 1024) ⌝ }
+    ensures { λ r. ⌜ r ≡ inquirePlan (keyOf (now (own .entry))) size room (now (d .entry)) acked validate ⌝ }
+{
+    if !own::is_own(own, d, validate) {
+        return Plan::Refuse(refusal::NOT_OURS);
+    }
+    if room < 40 + size {
+        return Plan::Refuse(refusal::ROOM);
+    }
+    Plan::Certify(acked)
+}
+
+// The plan for a LOOKUP whose target stands at a place of the datagram. Where the output has room for any record, which
+// has four addresses at most, the closest need not be known yet: it is looked for once, when it is shown.
+pub fn plan_lookup<'a>(
+    own: &'a [u8],
+    cache: &'a [u8],
+    held: usize,
+    room: usize,
+    d: &[u8],
+    acked: u32,
+    target: usize,
+) -> Plan
+    requires { ⌜ (recordForm (now own) ≡ true) × Form (keyOf (now own)) (now cache) (rows 100 held (now cache))
+        × (target + 32 ≤ length (now d)) ⌝ }
+    ensures { λ r. ⌜ r ≡ lookupPlan (now (own .entry)) (rows 100 held (now (cache .entry))) held room (now (d .entry))
+        acked target ⌝ }
+{
+    if 144 <= room {
+        return Plan::Show {
+            held,
+            acked,
+            target,
+        };
+    }
+    let shown = neighbours::closest(own, cache, held, &d[target..target + 32]);
+    let count = shown[34] as usize;
+    if room < 80 + 16 * count {
+        return Plan::Refuse(refusal::ROOM);
+    }
+    Plan::Show {
+        held,
+        acked,
+        target,
+    }
+}

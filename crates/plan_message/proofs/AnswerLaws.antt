@@ -1,0 +1,94 @@
+-- Laws of the answer of reading: the places in it stand within the datagram, and a route entry is in form. Assumes nothing.
+use Prim.Native.Nat.{ℕ, _+_, _≤_}
+use native.Mathlib.Omega.{arith}
+use mathlib.Core.Path.{_≡_, refl, sym, ap, subst, _∙_}
+use mathlib.Core.Bool.{true, false}
+use mathlib.Core.List.{List, [], _∷_}
+use lib.ListN.{length, drop}
+use Rattle.octet.specs.Part.{part}
+use Rattle.record.specs.Entry.{entryForm}
+use Rattle.wire_shapes.specs.Shapes.{Kind, hasShape}
+use Rattle.wire_fields.specs.Kinds.{must, may, lastOfTwoAndOne, flagsAXC, keepLookup, floodKinds, inquireKinds, lookupKinds}
+use Rattle.wire_fields.specs.declared.Part.{Part}
+use Rattle.wire_fields.specs.declared.Part.the-variants.{Here, Absent}
+use Rattle.wire_shapes.specs.declared.Shape.the-variants.{Sized, Any, Entry, Lookup}
+use Rattle.wire_read.specs.Answers.{answer, floodShown, inquireShown, lookupShown}
+use Rattle.wire_read.specs.declared.Answer as T
+use Rattle.wire_read.specs.declared.Answer.the-variants as M
+use Rattle.wire.proofs.StandLaws.{Fact, Stand, needed, maybed, sized-length}
+use Rattle.wire.proofs.ShownLaws.{of-each}
+
+-- ---- what is known of an answer
+
+abbrev pub EntryIn : List ℕ → Part → Type 0
+EntryIn d (Here s l) = (s + l ≤ length d) × (entryForm (part s l d) ≡ true)
+EntryIn d Absent = Unit {0}
+
+abbrev pub KnownAnswer : List ℕ → T.Answer → Type 0
+KnownAnswer d (M.Refused n) = Unit {0}
+KnownAnswer d (M.Solicit head entry nonce) = Unit {0}
+KnownAnswer d (M.Advertise head acked keys nonce) = Unit {0}
+KnownAnswer d (M.Request head flags split nonce keys credential signature key) = Unit {0}
+KnownAnswer d (M.Flood head silent validate token revoke entry reached) = (validate + 32 ≤ length d) × EntryIn d entry
+KnownAnswer d (M.Inquire head a x c validate nonce credential signature key) = validate + 32 ≤ length d
+KnownAnswer d (M.Authority head acked fields) = Unit {0}
+KnownAnswer d (M.Ack head acked flags n) = Unit {0}
+KnownAnswer d (M.Lookup head a precision criteria reason target validate entry path credential signature key) = target + 32 ≤ length d
+
+-- ---- of the three types with places that a plan looks at
+
+entry-in : (d : List ℕ) (i : ℕ) (p : Part) → Fact (may 0x9A true Entry []) d i p → EntryIn d p
+unfolding hasShape
+entry-in d i (Here s l) f = (f .1, f .0)
+entry-in d i Absent f = tt
+
+-- a key of 32 bytes
+key-in : (d : List ℕ) (s l : ℕ) → hasShape (Sized 32) (part s l d) ≡ true → s + l ≤ length d → s + 32 ≤ length d
+key-in d s l e h = let n = sized-length 32 d s l e h in omega arith
+
+flood-known : (d : List ℕ) (ps : List Part) → Stand floodKinds d 12 ps → KnownAnswer d (floodShown d ps)
+flood-known d ps w =
+    let n₀ = needed (must 0x43 true (Sized 3) lastOfTwoAndOne) (drop 1 floodKinds) d _ ps refl w in
+    let n₁ = needed (must 0x39 false (Sized 32) []) (drop 2 floodKinds) d _ (n₀ .rest) refl (n₀ .more) in
+    let n₂ = maybed (may 0x9F true Any []) (drop 3 floodKinds) d _ (n₁ .rest) (n₁ .more) in
+    let n₃ = maybed (may 0x9C true Any []) (drop 4 floodKinds) d _ (n₂ .rest) (n₂ .more) in
+    let n₄ = maybed (may 0x9A true Entry []) (drop 5 floodKinds) d _ (n₃ .rest) (n₃ .more) in
+    let tail = n₁ .is ∙ ap (λ (r : List Part). Here (n₁ .s) (n₁ .l) ∷ r) (n₂ .is ∙ ap (λ (r : List Part). n₂ .p ∷ r)
+    (n₃ .is ∙ ap (λ (r : List Part). n₃ .p ∷ r) (n₄ .is))) in
+    let all = n₀ .is ∙ ap (λ (r : List Part). Here (n₀ .s) (n₀ .l) ∷ r) tail in
+    subst (λ (q : List Part). KnownAnswer d (floodShown d q)) (sym all)
+    (key-in d (n₁ .s) (n₁ .l) (n₁ .shaped) (n₁ .within), entry-in d _ (n₄ .p) (n₄ .fact))
+
+inquire-known : (d : List ℕ) (ps : List Part) → Stand inquireKinds d 12 ps → KnownAnswer d (inquireShown d ps)
+inquire-known d ps w =
+    let n₀ = needed (must 0x40 true (Sized 2) flagsAXC) (drop 1 inquireKinds) d _ ps refl w in
+    let n₁ = needed (must 0x39 false (Sized 32) []) (drop 2 inquireKinds) d _ (n₀ .rest) refl (n₀ .more) in
+    let all = n₀ .is ∙ ap (λ (r : List Part). Here (n₀ .s) (n₀ .l) ∷ r) (n₁ .is) in
+    subst (λ (q : List Part). KnownAnswer d (inquireShown d q)) (sym all) (key-in d (n₁ .s) (n₁ .l) (n₁ .shaped) (n₁ .within))
+
+abbrev controls : Kind
+controls = record { number = 0x45; optional = false; padded = false; shape = Lookup; kept = keepLookup }
+
+lookup-known : (d : List ℕ) (ps : List Part) → Stand lookupKinds d 12 ps → KnownAnswer d (lookupShown d ps)
+lookup-known d ps w =
+    let n₀ = needed controls (drop 1 lookupKinds) d _ ps refl w in
+    let n₁ = needed (must 0x38 false (Sized 32) []) (drop 2 lookupKinds) d _ (n₀ .rest) refl (n₀ .more) in
+    let all = n₀ .is ∙ ap (λ (r : List Part). Here (n₀ .s) (n₀ .l) ∷ r) (n₁ .is) in
+    subst (λ (q : List Part). KnownAnswer d (lookupShown d q)) (sym all) (key-in d (n₁ .s) (n₁ .l) (n₁ .shaped) (n₁ .within))
+
+-- ---- of each answer
+
+pub known-answer : (d : List ℕ) (major : ℕ) → KnownAnswer d (answer d major)
+known-answer d major =
+    of-each (KnownAnswer d) d (λ n. tt)
+    (λ h. record {
+      solicit = λ ps w. tt;
+      advertise = λ ps w. tt;
+      request = λ ps w. tt;
+      flood = flood-known d;
+      inquire = inquire-known d;
+      authority = λ ps w. tt;
+      ack = λ ps w. tt;
+      lookup = lookup-known d;
+    })
+    major

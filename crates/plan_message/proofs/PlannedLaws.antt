@@ -1,0 +1,326 @@
+-- Laws of the plan for a datagram: by the tests that the code makes; what is known of a plan; what the commits require. Assumes nothing.
+use mathlib.Core.Path.{_≡_, refl, sym, ap, subst, _∙_}
+use mathlib.Core.Bool.{Bool, true, false, not}
+use mathlib.Core.List.{[], _∷_}
+use Prim.Native.Nat.{ℕ, _+_, _*_, _≤_, _<_}
+use native.Mathlib.Omega.{arith}
+use lib.ListN.{length}
+use borrow.Author.Tests.{not-false}
+use Rattle.octet.specs.Number.{valueBE}
+use Rattle.octet.specs.Part.{part}
+use Rattle.key.specs.Number.{keyAt}
+use Rattle.record.specs.Record.{keyOf, countOf, recordForm}
+use Rattle.record.specs.Entry.{entryForm, recordOf}
+use Rattle.own.specs.Own.{ownRecords}
+use Rattle.refusal.specs.Table.{when, orRefuse}
+use Rattle.refusal.proofs.CallLaws.{or-known}
+use Rattle.table.specs.Rows.{rows, Laid}
+use Rattle.table.proofs.PieceLaws.{part-start}
+use Rattle.table.proofs.RowLaws.{rows-length}
+use Rattle.kept.specs.Plain.{NotOwn}
+use Rattle.cache.specs.Form.{Form}
+use Rattle.neighbours.specs.Closest.{candidates, closestOf}
+use Rattle.table.specs.Seek.{seek}
+use Rattle.waiting.specs.Seek.{isAt}
+use Rattle.table.specs.declared.Found.the-variants.{At}
+use Rattle.waiting.proofs.SeekLaws.{found-record, found-key, found-other}
+use Rattle.wire_fields.specs.declared.Part.{Part}
+use Rattle.wire_fields.specs.declared.Part.the-variants.{Here, Absent}
+use Rattle.wire_read.specs.Answers as R
+use Rattle.wire_read.specs.declared.Head.{Head}
+use Rattle.wire_read.specs.declared.Answer as T
+use Rattle.wire_read.specs.declared.Answer.the-variants as M
+use Rattle.gauge_plan.specs.Lent.{Memory, Receive}
+use Rattle.gauge_plan.specs.Memory.{memoryOf, handsFit}
+use Rattle.plan_flood.specs.Rooms.{ackRoom}
+use Rattle.asking.specs.Asking.{inquireRoom, mustAsk}
+use Rattle.gauge_plan.specs.Own.{notOurs}
+use Rattle.plan_flood.specs.Flood.{floodRefusals, revokeRefusals, floodPlan, revokePlan}
+use Rattle.gauge_plan.specs.Found.{placeOf}
+use Rattle.plan_answer.specs.Answering.{authorityPlan, ackPlan, inquirePlan, lookupPlan, authorityRefusals, ackRefusals, inquireRefusals, lookupRefusals}
+use Rattle.gauge_plan.specs.declared.Plan.{Plan}
+use Rattle.gauge_plan.specs.declared.Plan.the-variants.{Refuse, Flood, Revoke, Learn, Free, Certify, Show}
+use Rattle.gauge_plan.specs.declared.memory.Fitness.{Fitness}
+use Rattle.gauge_plan.specs.declared.memory.Fitness.the-variants.{Unfit, Fit}
+use Rattle.gauge_plan.proofs.MemoryLaws as memory
+use Rattle.plan_flood.proofs.FloodLaws as flood
+use Rattle.plan_answer.proofs.AnsweringLaws as answering
+use Rattle.plan_message.specs.Planned.{byEntry, planFor, planIn, receivePlan}
+use Rattle.plan_message.proofs.AnswerLaws.{EntryIn, KnownAnswer, known-answer}
+
+-- ---- the plan by the tests that the code makes
+
+module _ (m : Memory) (l : Receive) where
+  pub plan-unfit : memoryOf (l .own) m ≡ Unfit → receivePlan m l ≡ Refuse 1
+  unfolding receivePlan
+  plan-unfit e = rw e refl
+
+  module _ {h u : ℕ} (fit : memoryOf (l .own) m ≡ Fit h u) where
+    pub plan-hands : handsFit (l .cpa) (l .nonce) (l .key) ≡ false → receivePlan m l ≡ Refuse 1
+    unfolding receivePlan orRefuse
+    plan-hands e = rw (fit, e) refl
+
+    pub plan-message : handsFit (l .cpa) (l .nonce) (l .key) ≡ true → receivePlan m l ≡ planFor m l h u (R.answer (l .datagram) (l .major))
+    unfolding receivePlan orRefuse
+    plan-message e = rw (fit, e) refl
+
+    pub fit-ready : memory.Ready (l .own) m h u
+    fit-ready = subst (memory.KnownMemory (l .own) m) fit (memory.known-memory (l .own) m)
+
+    pub message-needs : handsFit (l .cpa) (l .nonce) (l .key) ≡ true
+        → (recordForm (l .own) ≡ true) × (length (l .cpa) ≤ 1024) × Form (keyOf (l .own)) (m .cache) (rows 100 h (m .cache))
+        × (140 * u ≤ length (m .waiting)) × (length (l .key) ≡ 32)
+    message-needs e =
+        let w = memory.known-hands (l .cpa) (l .nonce) (l .key) e in
+        (fit-ready .owned, w .most, fit-ready .form, fit-ready .laid .room, w .keyed)
+
+-- a FLOOD's plan, by whether it has a route entry
+module _ (m : Memory) (l : Receive) (h u : ℕ) {a : T.Answer} {head : Head} {s : Bool} {validate : ℕ} {token revoke entry reached : Part}
+    (is : a ≡ M.Flood head s validate token revoke entry reached) where
+  pub flood-plan : {start len : ℕ} → entry ≡ Here start len
+      → planFor m l h u a
+      ≡ floodPlan (keyOf (l .own)) (rows 100 h (m .cache)) (rows 140 u (m .waiting)) u (l .id) (length (l .output)) (l .datagram) s
+      (head .id) validate start len
+  unfolding planFor
+  flood-plan e = ap (planFor m l h u) is ∙ ap (byEntry m l h u head s validate) e
+
+  pub revoke-plan : entry ≡ Absent
+      → planFor m l h u a ≡ revokePlan (keyOf (l .own)) h u (l .verdict) (keyAt 0 (l .key)) (length (l .output)) (l .datagram) s (head .id) validate
+  unfolding planFor
+  revoke-plan e = ap (planFor m l h u) is ∙ ap (byEntry m l h u head s validate) e
+
+-- ---- what is known of a plan
+
+-- a FLOOD with a route entry is planned
+pub record Flooded (m : Memory) (l : Receive) (u : ℕ) (s n : Bool) (a : ℕ) (opens : Bool) (start len : ℕ) : Type 0 where
+  pub held : ℕ
+  pub validate : ℕ
+  pub ready : memory.Ready (l .own) m held u
+  pub hands : memory.Handed (l .cpa) (l .nonce) (l .key)
+  pub within : start + len ≤ length (l .datagram)
+  pub entry : entryForm (part start len (l .datagram)) ≡ true
+  pub plans : flood.Flooding (keyOf (l .own)) (rows 100 held (m .cache)) (rows 140 u (m .waiting)) u (l .id) (length (l .output))
+      (l .datagram) s a validate start len u s n a opens start len
+
+-- a FLOOD with a revocation
+pub record Revoked (m : Memory) (l : Receive) (h u : ℕ) (s n : Bool) (a : ℕ) : Type 0 where
+  pub validate : ℕ
+  pub ready : memory.Ready (l .own) m h u
+  pub hands : memory.Handed (l .cpa) (l .nonce) (l .key)
+  pub plans : flood.Revoking (keyOf (l .own)) h u (l .verdict) (keyAt 0 (l .key)) (length (l .output)) (l .datagram) s a validate h u s n a
+
+-- an AUTHORITY
+pub record Learned (m : Memory) (l : Receive) (h u at : ℕ) : Type 0 where
+  pub acked : ℕ
+  pub cpa : Bool
+  pub ready : memory.Ready (l .own) m h u
+  pub hands : memory.Handed (l .cpa) (l .nonce) (l .key)
+  pub plans : answering.Learning (rows 140 u (m .waiting)) h u (l .verdict) (keyAt 0 (l .key)) acked cpa h u at
+
+-- an ACK
+pub record Freed (m : Memory) (l : Receive) (h u at : ℕ) (n : Bool) : Type 0 where
+  pub acked : ℕ
+  pub ready : memory.Ready (l .own) m h u
+  pub hands : memory.Handed (l .cpa) (l .nonce) (l .key)
+  pub plans : answering.Freeing (rows 140 u (m .waiting)) h u acked n h u at n
+
+-- an INQUIRE
+pub record Certified (m : Memory) (l : Receive) (a : ℕ) : Type 0 where
+  pub held : ℕ
+  pub used : ℕ
+  pub validate : ℕ
+  pub ready : memory.Ready (l .own) m held used
+  pub hands : memory.Handed (l .cpa) (l .nonce) (l .key)
+  pub plans : answering.Certifying (keyOf (l .own)) (length (l .cpa)) (length (l .output)) (l .datagram) a validate a
+
+-- a LOOKUP
+pub record Shown (m : Memory) (l : Receive) (h a target : ℕ) : Type 0 where
+  pub used : ℕ
+  pub ready : memory.Ready (l .own) m h used
+  pub hands : memory.Handed (l .cpa) (l .nonce) (l .key)
+  pub within : target + 32 ≤ length (l .datagram)
+  pub plans : answering.Showing (l .own) (rows 100 h (m .cache)) h (length (l .output)) (l .datagram) a target h a target
+
+abbrev pub Known : Memory → Receive → Plan → Type 0
+Known m l (Refuse n) = Unit {0}
+Known m l (Flood u s n a opens start len) = Flooded m l u s n a opens start len
+Known m l (Revoke h u s n a) = Revoked m l h u s n a
+Known m l (Learn h u at) = Learned m l h u at
+Known m l (Free h u at n) = Freed m l h u at n
+Known m l (Certify a) = Certified m l a
+Known m l (Show h a target) = Shown m l h a target
+
+module _ (m : Memory) (l : Receive) (h u : ℕ) (ready : memory.Ready (l .own) m h u)
+    (hands : memory.Handed (l .cpa) (l .nonce) (l .key)) where
+  flood-known : (s : Bool) (a validate start len : ℕ) → start + len ≤ length (l .datagram) → entryForm (part start len (l .datagram)) ≡ true
+      → Known m l (floodPlan (keyOf (l .own)) (rows 100 h (m .cache)) (rows 140 u (m .waiting)) u (l .id) (length (l .output))
+      (l .datagram) s a validate start len)
+  unfolding floodPlan
+  flood-known s a validate start len within entry =
+      let own = keyOf (l .own) in
+      let recs = rows 100 h (m .cache) in
+      let ps = rows 140 u (m .waiting) in
+      let room = length (l .output) in
+      let r = recordOf (part start len (l .datagram)) in
+      let n = notOurs own validate (l .datagram) in
+      let opens = mustAsk recs ps r in
+      let K : Plan → Type 0 = flood.KnownFlood own recs ps u (l .id) room (l .datagram) s a validate start len in
+      or-known (λ (p : Plan). K p → Known m l p) Refuse (floodRefusals own ps u (l .id) room s n opens r) (Flood u s n a opens start len)
+      (λ i k. tt)
+      (λ f k. record { held = h; validate = validate; ready = ready; hands = hands; within = within; entry = entry; plans = k })
+      (flood.known-flood own recs ps u (l .id) room (l .datagram) s a validate start len)
+
+  revoke-known : (s : Bool) (a validate : ℕ)
+      → Known m l (revokePlan (keyOf (l .own)) h u (l .verdict) (keyAt 0 (l .key)) (length (l .output)) (l .datagram) s a validate)
+  unfolding revokePlan
+  revoke-known s a validate =
+      let own = keyOf (l .own) in
+      let k = keyAt 0 (l .key) in
+      let room = length (l .output) in
+      let n = notOurs own validate (l .datagram) in
+      let K : Plan → Type 0 = flood.KnownRevoke own h u (l .verdict) k room (l .datagram) s a validate in
+      or-known (λ (p : Plan). K p → Known m l p) Refuse (revokeRefusals own (l .verdict) k room s n) (Revoke h u s n a)
+      (λ i k. tt)
+      (λ f k. record { validate = validate; ready = ready; hands = hands; plans = k })
+      (flood.known-revoke own h u (l .verdict) k room (l .datagram) s a validate)
+
+  authority-known : (acked : ℕ) (cpa : Bool) → Known m l (authorityPlan (rows 140 u (m .waiting)) h u (l .verdict) (keyAt 0 (l .key)) acked cpa)
+  unfolding authorityPlan
+  authority-known acked cpa =
+      let ps = rows 140 u (m .waiting) in
+      let k = keyAt 0 (l .key) in
+      let K : Plan → Type 0 = answering.KnownAuthority ps h u (l .verdict) k acked cpa in
+      or-known (λ (p : Plan). K p → Known m l p) Refuse (authorityRefusals ps (l .verdict) k acked cpa) (Learn h u (placeOf (seek (isAt acked 2) 0 ps)))
+      (λ i k. tt)
+      (λ f k. record { acked = acked; cpa = cpa; ready = ready; hands = hands; plans = k })
+      (answering.known-authority ps h u (l .verdict) k acked cpa)
+
+  ack-known : (acked : ℕ) (n : Bool) → Known m l (ackPlan (rows 140 u (m .waiting)) h u acked n)
+  unfolding ackPlan
+  ack-known acked n =
+      let ps = rows 140 u (m .waiting) in
+      let K : Plan → Type 0 = answering.KnownAck ps h u acked n in
+      or-known (λ (p : Plan). K p → Known m l p) Refuse (ackRefusals ps acked) (Free h u (placeOf (seek (isAt acked 1) 0 ps)) n)
+      (λ i k. tt)
+      (λ f k. record { acked = acked; ready = ready; hands = hands; plans = k })
+      (answering.known-ack ps h u acked n)
+
+  inquire-known : (a validate : ℕ) → Known m l (inquirePlan (keyOf (l .own)) (length (l .cpa)) (length (l .output)) (l .datagram) a validate)
+  unfolding inquirePlan
+  inquire-known a validate =
+      let own = keyOf (l .own) in
+      let K : Plan → Type 0 = answering.KnownInquire own (length (l .cpa)) (length (l .output)) (l .datagram) a validate in
+      or-known (λ (p : Plan). K p → Known m l p) Refuse (inquireRefusals own (length (l .cpa)) (length (l .output)) (l .datagram) validate) (Certify a)
+      (λ i k. tt)
+      (λ f k. record { held = h; used = u; validate = validate; ready = ready; hands = hands; plans = k })
+      (answering.known-inquire own (length (l .cpa)) (length (l .output)) (l .datagram) a validate)
+
+  lookup-known : (a target : ℕ) → target + 32 ≤ length (l .datagram)
+      → Known m l (lookupPlan (l .own) (rows 100 h (m .cache)) h (length (l .output)) (l .datagram) a target)
+  unfolding lookupPlan
+  lookup-known a target within =
+      let recs = rows 100 h (m .cache) in
+      let K : Plan → Type 0 = answering.KnownLookup (l .own) recs h (length (l .output)) (l .datagram) a target in
+      or-known (λ (p : Plan). K p → Known m l p) Refuse (lookupRefusals (l .own) recs (length (l .output)) (l .datagram) target) (Show h a target)
+      (λ i k. tt)
+      (λ f k. record { used = u; ready = ready; hands = hands; within = within; plans = k })
+      (answering.known-lookup (l .own) recs h (length (l .output)) (l .datagram) a target)
+
+  entry-known : (head : Head) (s : Bool) (validate : ℕ) (entry : Part) → EntryIn (l .datagram) entry → Known m l (byEntry m l h u head s validate entry)
+  entry-known head s validate (Here start len) w = flood-known s (head .id) validate start len (w .0) (w .1)
+  entry-known head s validate Absent w = revoke-known s (head .id) validate
+
+  message-known : (a : T.Answer) → KnownAnswer (l .datagram) a → Known m l (planFor m l h u a)
+  unfolding planFor
+  message-known (M.Refused n) w = tt
+  message-known (M.Solicit head entry nonce) w = tt
+  message-known (M.Advertise head acked keys nonce) w = tt
+  message-known (M.Request head flags split nonce keys credential signature key) w = tt
+  message-known (M.Flood head s validate token revoke entry reached) w = entry-known head s validate entry (w .1)
+  message-known (M.Inquire head a x c validate nonce credential signature key) w = inquire-known (head .id) validate
+  message-known (M.Authority head acked fields) w = authority-known acked (R.isHere (fields .cpa))
+  message-known (M.Ack head acked flags n) w = ack-known acked n
+  message-known (M.Lookup head a precision criteria reason target validate entry path credential signature key) w = lookup-known (head .id) target w
+
+memory-known : (m : Memory) (l : Receive) (f : Fitness) → memory.KnownMemory (l .own) m f → Known m l (planIn m l f)
+memory-known m l Unfit w = tt
+memory-known m l (Fit h u) w =
+    let fit = handsFit (l .cpa) (l .nonce) (l .key) in
+    or-known (Known m l) Refuse (when 1 (not fit) ∷ []) (planFor m l h u (R.answer (l .datagram) (l .major)))
+    (λ i. tt)
+    (λ f. message-known m l h u w (memory.known-hands (l .cpa) (l .nonce) (l .key) (not-false fit (f .0)))
+    (R.answer (l .datagram) (l .major)) (known-answer (l .datagram) (l .major)))
+
+pub known : (m : Memory) (l : Receive) → Known m l (receivePlan m l)
+unfolding receivePlan
+known m l = memory-known m l (memoryOf (l .own) m) (memory.known-memory (l .own) m)
+
+-- ---- what the commits require
+
+module _ (m : Memory) (l : Receive) where
+  pub known-by : {p : Plan} → receivePlan m l ≡ p → Known m l p
+  known-by e = subst (Known m l) e (known m l)
+
+  pub flood-needs : {u : ℕ} {s n : Bool} {a : ℕ} {opens : Bool} {start len : ℕ} → receivePlan m l ≡ Flood u s n a opens start len
+      → (opens ≡ true → u < 16) × (length (m .waiting) ≡ 2240) × Laid 140 u (m .waiting) × (length (l .nonce) ≡ 16)
+      × (start + len ≤ length (l .datagram)) × (entryForm (part start len (l .datagram)) ≡ true)
+      × (ackRoom s n + inquireRoom opens ≤ length (l .output))
+  flood-needs {u} {s} {n} {a} {opens} {start} {len} e =
+      let k : Flooded m l u s n a opens start len = known-by e in (
+        λ o. (let few = k .ready .few in let free = k .plans .free o in omega arith),
+        k .ready .size,
+        k .ready .laid,
+        k .hands .nonced,
+        k .within,
+        k .entry,
+        k .plans .fits-in,
+      )
+
+  pub revoke-needs : {h u : ℕ} {s n : Bool} {a : ℕ} → receivePlan m l ≡ Revoke h u s n a
+      → (length (l .own) ≡ 100) × (length (l .key) ≡ 32) × Form (keyOf (l .own)) (m .cache) (rows 100 h (m .cache)) × (length (m .waiting) ≡ 2240)
+      × Laid 140 u (m .waiting) × (u ≤ 16) × (ackRoom s n ≤ length (l .output))
+  revoke-needs {h} {u} {s} {n} {a} e =
+      let k : Revoked m l h u s n a = known-by e in
+      (k .ready .long, k .hands .keyed, k .ready .form, k .ready .size, k .ready .laid, k .ready .few, k .plans .fits-in)
+
+  pub learn-needs : {h u at : ℕ} → receivePlan m l ≡ Learn h u at
+      → (length (l .own) ≡ 100) × Form (keyOf (l .own)) (m .cache) (rows 100 h (m .cache)) × (length (m .waiting) ≡ 2240)
+      × Laid 140 u (m .waiting) × (u ≤ 16) × (at < u) × (recordForm (part (140 * at + 40) 100 (m .waiting)) ≡ true)
+      × NotOwn (keyOf (l .own)) (keyAt (140 * at + 40) (m .waiting))
+  learn-needs {h} {u} {at} e =
+      let k : Learned m l h u at = known-by e in
+      let t = m .waiting in
+      let own = keyOf (l .own) in
+      let found = subst (λ (v : ℕ). seek (isAt (k .acked) 2) 0 (rows 140 v t) ≡ At at) (k .ready .used) (k .plans .waiting .found) in
+      let key : keyAt (140 * at + 40) t ≡ keyAt (140 * at + 8) t =
+      sym (ap (valueBE 256) (part-start (140 * at + 40) 100 32 t (omega arith))) ∙ found-key own t (k .ready .tabled) (k .acked) at found in (
+        k .ready .long,
+        k .ready .form,
+        k .ready .size,
+        k .ready .laid,
+        k .ready .few,
+        omega (arith, k .plans .waiting .within, rows-length 140 u t),
+        found-record own t (k .ready .tabled) (k .acked) at found,
+        λ o. found-other own t (k .ready .tabled) (k .acked) at found (sym key ∙ o),
+      )
+
+  pub free-needs : {h u at : ℕ} {n : Bool} → receivePlan m l ≡ Free h u at n
+      → (length (l .own) ≡ 100) × Form (keyOf (l .own)) (m .cache) (rows 100 h (m .cache)) × (length (m .waiting) ≡ 2240)
+      × Laid 140 u (m .waiting) × (u ≤ 16) × (at < u)
+  free-needs {h} {u} {at} {n} e =
+      let k : Freed m l h u at n = known-by e in (
+        k .ready .long,
+        k .ready .form,
+        k .ready .size,
+        k .ready .laid,
+        k .ready .few,
+        omega (arith, k .plans .waiting .within, rows-length 140 u (m .waiting)),
+      )
+
+  pub cpa-needs : {a : ℕ} → receivePlan m l ≡ Certify a → (length (l .cpa) ≤ 1024) × (40 + length (l .cpa) ≤ length (l .output))
+  cpa-needs {a} e = let k : Certified m l a = known-by e in (k .hands .most, k .plans .fits-in)
+
+  pub show-needs : {h a target : ℕ} → receivePlan m l ≡ Show h a target
+      → (recordForm (l .own) ≡ true) × Form (keyOf (l .own)) (m .cache) (rows 100 h (m .cache)) × (target + 32 ≤ length (l .datagram))
+      × (80 + 16 * countOf (closestOf (keyAt target (l .datagram)) (candidates (ownRecords (l .own)) (rows 100 h (m .cache)))) ≤ length (l .output))
+  show-needs {h} {a} {target} e = let k : Shown m l h a target = known-by e in (k .ready .owned, k .ready .form, k .within, k .plans .fits-in)

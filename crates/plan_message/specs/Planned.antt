@@ -1,0 +1,53 @@
+-- Helps the code. What is planned for a datagram received: memory and what is handed in are tested, then the message that it holds is planned. Nothing is done
+-- before the last refusal is decided. Tied to document 01 by `ours-meets` (sentences/Theorems). Assumes nothing.
+use Prim.Native.Nat.{ℕ}
+use mathlib.Core.Bool.{Bool, not}
+use mathlib.Core.List.{[], _∷_}
+use lib.ListN.{length}
+use Rattle.key.specs.Number.{keyAt}
+use Rattle.own.specs.Own.{ownKeys}
+use Rattle.refusal.specs.Table.{when, orRefuse}
+use Rattle.table.specs.Rows.{rows}
+use Rattle.wire_fields.specs.declared.Part.{Part}
+use Rattle.wire_fields.specs.declared.Part.the-variants.{Here, Absent}
+use Rattle.wire_read.specs.Answers as R
+use Rattle.wire_read.specs.declared.Head.{Head}
+use Rattle.wire_read.specs.declared.Answer as T
+use Rattle.wire_read.specs.declared.Answer.the-variants as M
+use Rattle.gauge_plan.specs.declared.Plan.{Plan}
+use Rattle.gauge_plan.specs.declared.Plan.the-variants.{Refuse}
+use Rattle.gauge_plan.specs.Lent.{Memory, Receive}
+use Rattle.gauge_plan.specs.declared.memory.Fitness.{Fitness}
+use Rattle.gauge_plan.specs.declared.memory.Fitness.the-variants.{Unfit, Fit}
+use Rattle.gauge_plan.specs.Memory.{memoryOf, handsFit}
+use Rattle.plan_flood.specs.Flood.{floodPlan, revokePlan}
+use Rattle.plan_answer.specs.Answering.{authorityPlan, ackPlan, inquirePlan, lookupPlan}
+
+-- a FLOOD carries either a route entry or a revocation
+abbrev pub byEntry : (m : Memory) (l : Receive) (held used : ℕ) (head : Head) (d : Bool) (validate : ℕ) (entry : Part) → Plan
+byEntry m l held used head d validate (Here start len) =
+    floodPlan (ownKeys (l .own)) (rows 100 held (m .cache)) (rows 140 used (m .waiting)) used (l .id) (length (l .output)) (l .datagram) d (head .id)
+    validate start len
+byEntry m l held used head d validate Absent =
+    revokePlan (ownKeys (l .own)) held used (l .verdict) (keyAt 0 (l .key)) (length (l .output)) (l .datagram) d (head .id) validate
+
+unfoldable pub planFor : Memory → Receive → ℕ → ℕ → T.Answer → Plan
+planFor m l held used (M.Refused n) = Refuse n
+planFor m l held used (M.Solicit head entry nonce) = Refuse 7
+planFor m l held used (M.Advertise head acked keys nonce) = Refuse 7
+planFor m l held used (M.Request head flags split nonce keys credential signature key) = Refuse 7
+planFor m l held used (M.Flood head d validate token revoke entry reached) = byEntry m l held used head d validate entry
+planFor m l held used (M.Inquire head a x c validate nonce credential signature key) =
+    inquirePlan (ownKeys (l .own)) (length (l .cpa)) (length (l .output)) (l .datagram) (head .id) validate
+planFor m l held used (M.Authority head acked fields) =
+    authorityPlan (rows 140 used (m .waiting)) held used (l .verdict) (keyAt 0 (l .key)) acked (R.isHere (fields .cpa))
+planFor m l held used (M.Ack head acked flags n) = ackPlan (rows 140 used (m .waiting)) held used acked n
+planFor m l held used (M.Lookup head a precision criteria reason target validate entry path credential signature key) =
+    lookupPlan (l .own) (rows 100 held (m .cache)) held (length (l .output)) (l .datagram) (head .id) target
+
+abbrev pub planIn : Memory → Receive → Fitness → Plan
+planIn m l Unfit = Refuse 1
+planIn m l (Fit held used) = orRefuse Refuse (when 1 (not (handsFit (l .cpa) (l .nonce) (l .key))) ∷ []) (planFor m l held used (R.answer (l .datagram) (l .major)))
+
+unfoldable pub receivePlan : Memory → Receive → Plan
+receivePlan m l = planIn m l (memoryOf (l .own) m)

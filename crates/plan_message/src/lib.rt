@@ -1,0 +1,198 @@
+// What is planned for a datagram received. Lent everything for reading.
+ghost use mathlib.Core.Path.{_≡_};
+ghost use mathlib.Core.Bool.{true};
+ghost use mathlib.Core.List.{List};
+ghost use Prim.Native.Nat.{ℕ, _*_, _≤_};
+ghost use lib.ListN.{length};
+ghost use Rattle.record.specs.Record.{keyOf, recordForm};
+ghost use Rattle.table.specs.Rows.{rows};
+ghost use Rattle.cache.specs.Form.{Form};
+ghost use Rattle.wire_read.specs.Answers.{isHere, answer};
+ghost use Rattle.gauge_plan.specs.Lent.{Memory, withTables, receive};
+ghost use Rattle.plan_message.specs.Planned.{planFor, receivePlan};
+use gauge_plan::Fitness;
+use gauge_plan::Plan;
+use wire_fields::Part;
+use wire_read::Answer;
+
+// Is the field there?
+fn is_here(p: Part) -> bool
+    ensures { λ r. ⌜ r ≡ isHere p ⌝ }
+{
+    match p {
+        Part::Here(_, _) => true,
+        Part::Absent => false,
+    }
+}
+
+// The plan for the message that the datagram holds, where memory is in form. Neither minor version nor nonce counts,
+// nor memory that is not lent.
+fn plan_message<'a>(
+    own: &'a [u8],
+    cpa: &[u8],
+    cache: &'a [u8],
+    held: usize,
+    waiting: &[u8],
+    used: usize,
+    major: u8,
+    id: u32,
+    verdict: u32,
+    key: &[u8],
+    datagram: &[u8],
+    output: &[u8],
+) -> Plan
+    requires { ⌜ (recordForm (now own) ≡ true) × (length (now cpa) ≤ 1024)
+        × Form (keyOf (now own)) (now cache) (rows 100 held (now cache))
+        × (140 * used ≤ length (now waiting)) × (length (now key) ≡ 32) ⌝ }
+    ensures { λ r. ⌜ ((m : Memory) (minor : ℕ) (nonce : List ℕ) → r ≡ planFor (withTables (now (cache .entry))
+        (now (waiting .entry)) m) (receive (now (own .entry)) (now (cpa .entry)) major minor id nonce verdict
+        (now (key .entry)) (now (datagram .entry)) (now (output .entry))) held used
+        (answer (now (datagram .entry)) major)) ⌝ }
+{
+    let room = output.len();
+    let message = wire_read::read(datagram, major);
+    match message {
+        Answer::Refused(number) => Plan::Refuse(number as u32),
+        Answer::Solicit {
+            head: _,
+            entry: _,
+            nonce: _,
+        } => Plan::Refuse(refusal::NOT_TAKEN),
+        Answer::Advertise {
+            head: _,
+            acked: _,
+            keys: _,
+            nonce: _,
+        } => Plan::Refuse(refusal::NOT_TAKEN),
+        Answer::Request {
+            head: _,
+            flags: _,
+            split: _,
+            nonce: _,
+            keys: _,
+            credential: _,
+            signature: _,
+            key: _,
+        } => Plan::Refuse(refusal::NOT_TAKEN),
+        Answer::Flood {
+            head,
+            d,
+            validate,
+            token: _,
+            revoke: _,
+            entry,
+            reached: _,
+        } => match entry {
+            Part::Here(start, len) => plan_flood::plan_flood(
+                own,
+                cache,
+                held,
+                waiting,
+                used,
+                id,
+                room,
+                datagram,
+                d,
+                head.id,
+                validate,
+                start,
+                len,
+            ),
+            Part::Absent => plan_flood::plan_revoke(
+                own,
+                held,
+                used,
+                verdict,
+                key,
+                room,
+                datagram,
+                d,
+                head.id,
+                validate,
+            ),
+        },
+        Answer::Inquire {
+            head,
+            a: _,
+            x: _,
+            c: _,
+            validate,
+            nonce: _,
+            credential: _,
+            signature: _,
+            key: _,
+        } => plan_answer::plan_inquire(own, cpa.len(), room, datagram, head.id, validate),
+        Answer::Authority {
+            head: _,
+            acked,
+            fields,
+        } => {
+            let part = fields.cpa;
+            let has_cpa = is_here(part);
+            plan_answer::plan_authority(waiting, held, used, verdict, key, acked, has_cpa)
+        }
+        Answer::Ack {
+            head: _,
+            acked,
+            flags: _,
+            n,
+        } => plan_answer::plan_ack(waiting, held, used, acked, n),
+        Answer::Lookup {
+            head,
+            a: _,
+            precision: _,
+            criteria: _,
+            reason: _,
+            target,
+            validate: _,
+            entry: _,
+            path: _,
+            credential: _,
+            signature: _,
+            key: _,
+        } => plan_answer::plan_lookup(own, cache, held, room, datagram, head.id, target),
+    }
+}
+
+// The plan for the datagram: memory is tested, and the plan of its message made. The minor version does not count,
+// nor memory that is not lent.
+pub fn plan_receive<'a>(
+    own: &'a [u8],
+    cpa: &[u8],
+    cache: &'a [u8],
+    waiting: &[u8],
+    major: u8,
+    id: u32,
+    nonce: &[u8],
+    verdict: u32,
+    key: &[u8],
+    datagram: &[u8],
+    output: &[u8],
+) -> Plan
+    ensures { λ r. ⌜ ((m : Memory) (minor : ℕ) → r
+        ≡ receivePlan (withTables (now (cache .entry)) (now (waiting .entry)) m)
+        (receive (now (own .entry)) (now (cpa .entry)) major minor id (now (nonce .entry)) verdict (now (key .entry))
+        (now (datagram .entry)) (now (output .entry)))) ⌝ }
+{
+    let memory = gauge_plan::survey(own, cache, waiting);
+    let Fitness::Fit { held, used } = memory else {
+        return Plan::Refuse(refusal::MEMORY);
+    };
+    if !gauge_plan::hands_fit(cpa, nonce, key) {
+        return Plan::Refuse(refusal::MEMORY);
+    }
+    plan_message(
+        own,
+        cpa,
+        cache,
+        held,
+        waiting,
+        used,
+        major,
+        id,
+        verdict,
+        key,
+        datagram,
+        output,
+    )
+}

@@ -1,0 +1,44 @@
+-- `ring::is_closer` meets its contract: the two differences decide, and where neither is less the tie. Assumes nothing.
+use mathlib.Core.Path.{sym, _∙_}
+use native.Mathlib.Omega.{arith}
+use Prim.Native.Nat.{_≤_, _<_}
+use borrow.Author.Tests.{ltb-true, ltb-false}
+use Rattle.key.specs.Number.{number}
+use Rattle.key.proofs.AroundLaws.{closer-less, closer-same, closer-more}
+use borrow.Author.Needs.{needs}
+use Rattle.ring.proofs.is_closer.Statement.{statement}
+use Rattle.ring.proofs.is_closer.Tie as tie
+
+is-less-requires : tie.Need-is-less-requires
+is-less-requires c κs = search needs
+
+returns : tie.Need-returns
+returns c =
+    let a = c .before .before .args in
+    let h : number (a .d) < number (a .e) = ltb-true (number (a .d)) (number (a .e)) (sym (c .before .is-less .ensures) ∙ c .if1 .taken) in
+    sym (closer-less (number (a .target)) (number (a .k)) (number (a .j)) (omega arith))
+
+is-less-requires-2 : tie.Need-is-less-requires-2
+is-less-requires-2 c κs = search needs
+
+returns-2 : tie.Need-returns-2
+returns-2 c =
+    let a = c .before .before .before .before .args in
+    let h : number (a .e) < number (a .d) = ltb-true (number (a .e)) (number (a .d)) (sym (c .before .is-less2 .ensures) ∙ c .if2 .taken) in
+    sym (closer-more (number (a .target)) (number (a .k)) (number (a .j)) (omega arith))
+
+wins-tie-requires : tie.Need-wins-tie-requires
+wins-tie-requires c κs = search needs
+
+returns-3 : tie.Need-returns-3
+returns-3 c =
+    let m = c .before .before .before .before in
+    let a = m .before .args in
+    let h : number (a .e) ≤ number (a .d) = ltb-false (number (a .d)) (number (a .e)) (sym (m .is-less .ensures) ∙ c .before .before .before .if1 .left) in
+    let g : number (a .d) ≤ number (a .e) = ltb-false (number (a .e)) (number (a .d)) (sym (c .before .before .is-less2 .ensures) ∙ c .before .if2 .left) in
+    c .wins-tie .ensures ∙ sym (closer-same (number (a .target)) (number (a .k)) (number (a .j)) (omega arith))
+
+pub is-closer-spec : {M : Type 1} → statement M
+is-closer-spec =
+    tie.close
+    (tie.spec is-less-requires returns is-less-requires-2 returns-2 wins-tie-requires returns-3)

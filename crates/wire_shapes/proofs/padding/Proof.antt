@@ -1,0 +1,15 @@
+use borrow.Author.Needs.{needs}
+use Rattle.wire_shapes.proofs.padding.Statement.{statement}
+use Rattle.wire_shapes.proofs.padding.Tie as tie
+
+sub-result : tie.Need-sub-result
+sub-result c = search needs
+
+returns : tie.Need-returns
+returns c = rw (c .if1 .taken) (search needs)
+
+returns-2 : tie.Need-returns-2
+returns-2 c = search needs
+
+pub padding-spec : {M : Type 1} → statement M
+padding-spec = tie.close (tie.spec sub-result returns returns-2)

@@ -2,18 +2,21 @@
 -- In this order: a place taken out; inserting and taking out, in either order; a row exchanged on the bytes; a key not held is learned.
 -- Elsewhere: which place goes, in GoesLaws. Assumes nothing.
 use mathlib.Core.Path.{_≡_, refl, sym, ap, ap₂, _∙_}
+use mathlib.Core.Bool.{true, false, cond}
 use mathlib.Core.List.{List, [], _∷_, _++_, append-assoc, append-nil}
 use Prim.Native.Nat.{ℕ, zero, suc, _+_, _-_, _*_, _≤_, _<_, zero-le}
 use native.Mathlib.Omega.{arith}
 use lib.ListN.{length, take, drop, getD, replicate, length-append, length-take, length-drop, length-map}
+use lib.Dec.{eqb}
 use lib.Seq.{take-all, length-take-le}
-use borrow.Author.Tests.{lt-ltb, le-ltb}
+use borrow.Author.Tests.{lt-ltb, le-ltb, eq-eqb, ne-eqb}
+use Rattle.key.specs.Number.{keyAt}
 use Rattle.record.specs.Record.{keyOf}
 use Rattle.octet.specs.Part.{part, splice}
 use Rattle.octet.proofs.PartLaws.{length-part, splice-next, splice-under}
 use Rattle.table.specs.Rows.{rows, joined, bytesOf, insertAt, removeAt}
-use Rattle.table.proofs.RowLaws.{rows-length, rows-take, rows-drop, rows-joined, joined-append}
-use Rattle.kept.specs.Keys.{Every, Rising, plain, put}
+use Rattle.table.proofs.RowLaws.{rows-length, row-at, rows-take, rows-drop, rows-joined, joined-append}
+use Rattle.kept.specs.Keys.{Every, has, Rising, plain, put}
 use Rattle.kept.specs.Plain.{NotOwn, drops}
 use Rattle.kept.specs.Records.{putBy, withoutBy, learnBy}
 use Rattle.kept.proofs.ListLaws.{rising-put, every-put}
@@ -22,8 +25,9 @@ use Rattle.cache.specs.declared.place.Found.the-variants.{Before}
 use Rattle.cache.specs.Form.{keysOf, placesIn, Form}
 use Rattle.cache.specs.Place.{findKey, Goes}
 use Rattle.cache.specs.Bytes.{afterLearn}
-use Rattle.cache.proofs.FormLaws.{form-laid}
-use Rattle.cache.proofs.FindLaws.{found-puts, found-place, without-low, without-this, without-skip}
+use Rattle.cache.specs.Change.{changes, learned, removed}
+use Rattle.cache.proofs.FormLaws.{form-laid, key-of-row}
+use Rattle.cache.proofs.FindLaws.{found-puts, found-place, found-held, without-low, without-this, without-skip}
 
 -- ---- a place taken out by its key
 
@@ -31,6 +35,13 @@ rising-getD : (low : ℕ) (recs : List (List ℕ)) (j : ℕ) → Rising plain lo
 rising-getD low [] j r h = absurd (omega arith)
 rising-getD low (x ∷ xs) zero r h = r .0
 rising-getD low (x ∷ xs) (suc j) r h = omega (arith, r .0, rising-getD (suc (keyOf x)) xs j (r .1) (omega arith))
+
+rising-less : (low : ℕ) (recs : List (List ℕ)) (i j : ℕ) → Rising plain low (keysOf recs) → i < j → j < length recs
+    → getD (keysOf recs) i 0 < getD (keysOf recs) j 0
+rising-less low [] i j r h l = absurd (omega arith)
+rising-less low (x ∷ xs) i zero r h l = absurd (omega arith)
+rising-less low (x ∷ xs) zero (suc j) r h l = rising-getD (suc (keyOf x)) xs j (r .1) (omega arith)
+rising-less low (x ∷ xs) (suc i) (suc j) r h l = rising-less (suc (keyOf x)) xs i j (r .1) (omega arith) (omega arith)
 
 pub remove-place : (low : ℕ) (recs : List (List ℕ)) (j : ℕ) → Rising plain low (keysOf recs) → j < length recs
     → withoutBy keyOf (getD (keysOf recs) j 0) recs ≡ removeAt j recs
@@ -46,6 +57,38 @@ remove-place low (x ∷ xs) (suc j) r h =
 pub insert-length : (i : ℕ) (r : List ℕ) (recs : List (List ℕ)) → length (insertAt i r recs) ≡ suc (length recs)
 insert-length i r recs =
     length-append (take i recs) (r ∷ drop i recs) ∙ simp (length-take, length-drop) (omega arith)
+
+-- the key at a place before it, at its own, after it
+key-before : (i j : ℕ) (r : List ℕ) (recs : List (List ℕ)) → j < i → i ≤ length recs → getD (keysOf (insertAt i r recs)) j 0 ≡ getD (keysOf recs) j 0
+key-before zero j r recs h l = absurd (omega arith)
+key-before (suc i) j r [] h l = absurd (omega arith)
+key-before (suc i) zero r (x ∷ xs) h l = refl
+key-before (suc i) (suc j) r (x ∷ xs) h l = key-before i j r xs (omega arith) (omega arith)
+
+key-there : (i : ℕ) (r : List ℕ) (recs : List (List ℕ)) → i ≤ length recs → getD (keysOf (insertAt i r recs)) i 0 ≡ keyOf r
+key-there zero r recs l = refl
+key-there (suc i) r [] l = absurd (omega arith)
+key-there (suc i) r (x ∷ xs) l = key-there i r xs (omega arith)
+
+key-after : (i j : ℕ) (r : List ℕ) (recs : List (List ℕ)) → i < j → j ≤ length recs
+    → getD (keysOf (insertAt i r recs)) j 0 ≡ getD (keysOf recs) (j - 1) 0
+key-after i zero r recs h l = absurd (omega arith)
+key-after i (suc j) r [] h l = absurd (omega arith)
+key-after zero (suc j) r (x ∷ xs) h l = let e : j ≡ suc j - 1 = omega arith in ap (λ (n : ℕ). getD (keysOf (x ∷ xs)) n 0) e
+key-after (suc i) (suc zero) r (x ∷ xs) h l = absurd (omega arith)
+key-after (suc i) (suc (suc j)) r (x ∷ xs) h l =
+    let e : suc (suc j - 1) ≡ suc (suc j) - 1 = omega arith in
+    key-after i (suc j) r xs (omega arith) (omega arith) ∙ ap (λ (n : ℕ). getD (keysOf (x ∷ xs)) n 0) e
+
+-- the key of the row at a place
+row-key : (recs : List (List ℕ)) (j : ℕ) → j < length recs → getD (keysOf recs) j 0 ≡ keyOf (getD recs j [])
+row-key [] j h = absurd (omega arith)
+row-key (x ∷ xs) zero h = refl
+row-key (x ∷ xs) (suc j) h = row-key xs j (omega arith)
+
+place-key : (used j : ℕ) (s : List ℕ) → j < used → getD (keysOf (rows 100 used s)) j 0 ≡ keyAt (100 * j) s
+place-key used j s h =
+    row-key (rows 100 used s) j (omega (arith, rows-length 100 used s)) ∙ ap keyOf (row-at 100 used s j h) ∙ key-of-row (100 * j) s
 
 -- before it, itself, after it
 pub out-before : (i g : ℕ) (r : List ℕ) (recs : List (List ℕ)) → g < i → i ≤ length recs
@@ -221,6 +264,15 @@ module _ (own used at : ℕ) (s r : List ℕ) (f : Form own s (rows 100 used s))
   unfolding learnBy recs more
   new-room h = sym (rw (put-is, le-ltb (placesIn (length s)) (length more) (omega (arith, more-length, f .places .whole))) refl)
 
+  not-held : has (keyOf r) (keysOf recs) ≡ false
+  unfolding recs
+  not-held = found-held (keyOf r) used s {f = findKey (keyOf r) (keysOf (rows 100 used s))} refl found (f .held .rising)
+
+  pub told-room : 100 * used < length s → changes true false 0 ≡ learned own (length s) (rows 100 used s) r
+  unfolding learned recs more
+  told-room h =
+      sym (rw (not-held, put-is, le-ltb (placesIn (length s)) (length more) (omega (arith, more-length, f .places .whole))) refl)
+
   module _ (other : NotOwn own (keyOf r)) where
     rises : Rising plain 0 (keysOf more)
     unfolding recs
@@ -275,7 +327,56 @@ module _ (own used at : ℕ) (s r : List ℕ) (f : Form own s (rows 100 used s))
           sym (gone ∙ ap (λ (j : ℕ). removeAt j (insertAt at r (rows 100 used s))) (sym e)
           ∙ out-again at r (rows 100 used s) (omega (arith, held-many, place-most)))
 
+      told-full : learned own (length s) (rows 100 used s) r
+          ≡ cond (eqb (drops own (keysOf more)) (keyOf r)) (changes false false 0) (changes true true (drops own (keysOf more)))
+      unfolding learned recs more
+      told-full = rw (not-held, put-is, lt-ltb (placesIn (length s)) (length more) (omega (arith, more-length, f .places .whole))) refl
+
+      its-key : getD (keysOf more) at 0 ≡ keyOf r
+      unfolding more recs
+      its-key = key-there at r (rows 100 used s) (omega (arith, held-many, place-most))
+
+      -- another leaves, and the newcomer joins
+      told-other : (k : ℕ) → getD (keysOf more) g 0 ≡ k → ¬ (k ≡ keyOf r) → changes true true k ≡ learned own (length s) (rows 100 used s) r
+      unfolding more recs
+      told-other k e ne = sym (told-full ∙ rw (goes .named, e, ne-eqb k (keyOf r) ne) refl)
+
+      pub told-before : g < at → changes true true (keyAt (100 * g) s) ≡ learned own (length s) (rows 100 used s) r
+      unfolding more recs
+      told-before h =
+          let e : getD (keysOf more) g 0 ≡ keyAt (100 * g) s =
+          key-before at g r (rows 100 used s) h (omega (arith, held-many, place-most)) ∙ place-key used g s (omega (arith, place-most)) in
+          let l : getD (keysOf more) g 0 < getD (keysOf more) at 0 = rising-less 0 more g at rises h (omega (arith, more-length, place-most)) in
+          told-other (keyAt (100 * g) s) e (λ q. omega (arith, e, l, its-key, q))
+
+      pub told-after : at < g → changes true true (keyAt (100 * (g - 1)) s) ≡ learned own (length s) (rows 100 used s) r
+      unfolding more recs
+      told-after h =
+          let e : getD (keysOf more) g 0 ≡ keyAt (100 * (g - 1)) s =
+          key-after at g r (rows 100 used s) h (omega (arith, held-many, goes-most)) ∙ place-key used (g - 1) s (omega (arith, goes-most)) in
+          let l : getD (keysOf more) at 0 < getD (keysOf more) g 0 = rising-less 0 more at g rises h (omega (arith, more-length, goes-most)) in
+          told-other (keyAt (100 * (g - 1)) s) e (λ q. omega (arith, e, l, its-key, q))
+
+      pub told-goes : at ≡ g → changes false false 0 ≡ learned own (length s) (rows 100 used s) r
+      unfolding more recs
+      told-goes e =
+          let n : drops own (keysOf more) ≡ keyOf r = goes .named ∙ ap (λ (j : ℕ). getD (keysOf more) j 0) (sym e) ∙ its-key in
+          sym (told-full ∙ rw (eq-eqb (drops own (keysOf more)) (keyOf r) n) refl)
+
 -- a held key has its record replaced
+pub told-held : (own size : ℕ) (recs : List (List ℕ)) (r : List ℕ) → has (keyOf r) (keysOf recs) ≡ true → changes false false 0 ≡ learned own size recs r
+unfolding learned
+told-held own size recs r h = sym (rw h refl)
+
+-- a key that is held leaves, another does not
+pub told-removed : (k : ℕ) (recs : List (List ℕ)) → has k (keysOf recs) ≡ true → changes false true k ≡ removed k recs
+unfolding removed
+told-removed k recs h = sym (rw h refl)
+
+pub told-kept : (k : ℕ) (recs : List (List ℕ)) → has k (keysOf recs) ≡ false → changes false false 0 ≡ removed k recs
+unfolding removed
+told-kept k recs h = sym (rw h refl)
+
 pub held-room : (own used : ℕ) (s r : List ℕ) → Form own s (rows 100 used s) → length (putBy keyOf r (rows 100 used s)) ≤ used
     → putBy keyOf r (rows 100 used s) ≡ afterLearn own (length s) (rows 100 used s) r
 unfolding learnBy

@@ -1,4 +1,5 @@
 pub mod Form
 pub mod Place
 pub mod Bytes
+pub mod Change
 pub mod Calls

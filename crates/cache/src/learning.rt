@@ -1,23 +1,55 @@
 // Learning a record, and removing a key, in a cache that is in form.
 ghost use mathlib.Core.Path.{_≡_};
-ghost use mathlib.Core.Bool.{true, cond};
+ghost use mathlib.Core.Bool.{true, false, cond};
 ghost use Prim.Native.Nat.{suc, _+_, _*_, _≤_, _<_};
 ghost use lib.Dec.{ltb};
 ghost use lib.ListN.{length};
-ghost use Rattle.key.specs.Number.{keyAt};
+ghost use Rattle.key.specs.Number.{number, keyAt};
 ghost use Rattle.record.specs.Record.{keyOf, recordForm};
 ghost use Rattle.table.specs.Rows.{rows, bytesOf, insertAt, removeAt};
 ghost use Rattle.kept.specs.Plain.{NotOwn};
 ghost use Rattle.cache.specs.Form.{keysOf, Form};
 ghost use Rattle.cache.specs.Place.{findKey, farthestAt, Goes};
 ghost use Rattle.cache.specs.Bytes.{afterLearn, afterRemove};
+ghost use Rattle.cache.specs.Change.{changes, told, learned, removed};
 ghost use Rattle.cache.specs.declared.place.Found.the-variants.{Before};
 use crate::place::Found;
 use crate::place::count_below;
 use crate::place::count_under;
 use crate::place::find;
 use crate::place::wrap;
+use key::Key;
 use key::Order;
+
+// What a change did to the keys held: did one join them, did one leave, and which? The key is 0 where none left.
+pub struct Change {
+    pub joined: bool,
+    pub left: bool,
+    pub gone: Key,
+}
+
+// The key that stands for none.
+fn no_key() -> Key
+    ensures { λ r. ⌜ number r ≡ 0 ⌝ }
+{
+    Key {
+        a: 0,
+        b: 0,
+        c: 0,
+        d: 0,
+    }
+}
+
+// No key joined, and none left.
+fn unmoved() -> Change
+    ensures { λ r. ⌜ told r ≡ changes false false 0 ⌝ }
+{
+    Change {
+        joined: false,
+        left: false,
+        gone: no_key(),
+    }
+}
 
 // One more, or as many.
 fn one_more(n: usize, more: bool) -> usize
@@ -106,7 +138,7 @@ fn exchange_down(cache: &mut [u8], used: usize, gone: usize, at: usize, record: 
 
 // A record whose key is not held is learned; it would stand before a place. Where all places are used, one goes, or the
 // newcomer itself.
-fn learn_new(own: &[u8], cache: &mut [u8], used: usize, at: usize, record: &[u8])
+fn learn_new(own: &[u8], cache: &mut [u8], used: usize, at: usize, record: &[u8]) -> Change
     requires { ⌜ (32 ≤ length (now own)) × (recordForm (now «record») ≡ true) ⌝ }
     requires { ⌜ Form (keyOf (now own)) (now cache) (rows 100 used (now cache)) ⌝ }
     requires { ⌜ NotOwn (keyOf (now own)) (keyOf (now «record»)) ⌝ }
@@ -114,46 +146,76 @@ fn learn_new(own: &[u8], cache: &mut [u8], used: usize, at: usize, record: &[u8]
     ensures { λ _. ⌜ now (cache .exit) ≡ bytesOf (length (now (cache .entry)))
         (afterLearn (keyOf (now (own .entry))) (length (now (cache .entry)))
         (rows 100 used (now (cache .entry))) (now («record» .entry))) ⌝ }
+    ensures { λ r. ⌜ told r ≡ learned (keyOf (now (own .entry))) (length (now (cache .entry)))
+        (rows 100 used (now (cache .entry))) (now («record» .entry)) ⌝ }
 {
     if record::RECORD_LEN * used < cache.len() {
         table::insert_row(cache, record::RECORD_LEN, used, at, record);
-        return;
+        return Change {
+            joined: true,
+            left: false,
+            gone: no_key(),
+        };
     }
-    let gone = who_goes(own, cache, used, at, record);
-    if gone < at {
-        exchange_up(cache, used, gone, at - 1, record);
-        return;
+    let goes = who_goes(own, cache, used, at, record);
+    if goes < at {
+        let gone = key::key_at(cache, record::RECORD_LEN * goes);
+        exchange_up(cache, used, goes, at - 1, record);
+        return Change {
+            joined: true,
+            left: true,
+            gone,
+        };
     }
-    if at < gone {
-        exchange_down(cache, used, gone - 1, at, record);
+    if at < goes {
+        let gone = key::key_at(cache, record::RECORD_LEN * (goes - 1));
+        exchange_down(cache, used, goes - 1, at, record);
+        return Change {
+            joined: true,
+            left: true,
+            gone,
+        };
     }
+    unmoved()
 }
 
 // The record is learned, as document 01 has it under "Learning". `used` records are held.
-pub fn learn(own: &[u8], cache: &mut [u8], used: usize, record: &[u8])
+pub fn learn(own: &[u8], cache: &mut [u8], used: usize, record: &[u8]) -> Change
     requires { ⌜ (32 ≤ length (now own)) × (recordForm (now «record») ≡ true) ⌝ }
     requires { ⌜ Form (keyOf (now own)) (now cache) (rows 100 used (now cache)) ⌝ }
     requires { ⌜ NotOwn (keyOf (now own)) (keyOf (now «record»)) ⌝ }
     ensures { λ _. ⌜ now (cache .exit) ≡ bytesOf (length (now (cache .entry)))
         (afterLearn (keyOf (now (own .entry))) (length (now (cache .entry)))
         (rows 100 used (now (cache .entry))) (now («record» .entry))) ⌝ }
+    ensures { λ r. ⌜ told r ≡ learned (keyOf (now (own .entry))) (length (now (cache .entry)))
+        (rows 100 used (now (cache .entry))) (now («record» .entry)) ⌝ }
 {
     let found = find(cache, used, record);
     match found {
-        Found::At(i) => table::replace_row(cache, record::RECORD_LEN, used, i, record),
+        Found::At(i) => {
+            table::replace_row(cache, record::RECORD_LEN, used, i, record);
+            unmoved()
+        }
         Found::Before(i) => learn_new(own, cache, used, i, record),
     }
 }
 
 // The key, whose 32 bytes begin the slice, is removed if held.
-pub fn remove(own: &[u8], cache: &mut [u8], used: usize, key: &[u8])
+pub fn remove(own: &[u8], cache: &mut [u8], used: usize, key: &[u8]) -> Change
     requires { ⌜ (32 ≤ length (now own)) × (32 ≤ length (now key)) ⌝ }
     requires { ⌜ Form (keyOf (now own)) (now cache) (rows 100 used (now cache)) ⌝ }
     ensures { λ _. ⌜ now (cache .exit) ≡ bytesOf (length (now (cache .entry)))
         (afterRemove (keyAt 0 (now (key .entry))) (rows 100 used (now (cache .entry)))) ⌝ }
+    ensures { λ r. ⌜ told r ≡ removed (keyAt 0 (now (key .entry))) (rows 100 used (now (cache .entry))) ⌝ }
 {
     let found = find(cache, used, key);
-    if let Found::At(i) = found {
-        table::remove_row(cache, record::RECORD_LEN, used, i);
+    let Found::At(i) = found else {
+        return unmoved();
+    };
+    table::remove_row(cache, record::RECORD_LEN, used, i);
+    Change {
+        joined: false,
+        left: true,
+        gone: key::key_at(key, 0),
     }
 }

@@ -8,6 +8,7 @@ mod shape;
 pub use calls::learn_record;
 pub use calls::memory;
 pub use calls::remove_key;
+pub use learning::Change;
 pub use learning::learn;
 pub use learning::remove;
 pub use place::Found;

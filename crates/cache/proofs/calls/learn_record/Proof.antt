@@ -126,7 +126,7 @@ returns-4 c =
     let s = c16 in
     let n = length (s .args .cache .now) in
     let held = memory-held (s .args .own .now) (s .args .cache .now) (c11 .memory .ensures) (c9 .found .given .1) in
-    ap (changed 0) (c .before .before .learn .ensures ∙ ap (λ (l : List (List ℕ)). bytesOf n (afterLearn (keyOf (s .args .own .now)) n l
+    ap (changed 0) (c .before .before .learn .ensures .0 ∙ ap (λ (l : List (List ℕ)). bytesOf n (afterLearn (keyOf (s .args .own .now)) n l
     (s .args .«record» .now))) (sym held))
     ∙ sym (memory-passes (s .args .own .now) (s .args .cache .now) (c11 .memory .ensures) (c9 .found .given .1) (refuse s) _ (done s)
     ∙ row-passes (refuse s) 1 (not (recordForm (s .args .«record» .now))) _ (done s) (not-is (sym (c7 .is-record .ensures) ∙ not-false _

@@ -86,7 +86,7 @@ returns-3 c =
     let s = c13 in
     let n = length (s .args .cache .now) in
     let held = memory-held (s .args .own .now) (s .args .cache .now) (c8 .memory .ensures) (c6 .found .given .1) in
-    ap (changed 0) (c .before .before .remove .ensures ∙ ap (λ (l : List (List ℕ)). bytesOf n (afterRemove (keyAt 0 (s .args .key .now)) l))
+    ap (changed 0) (c .before .before .remove .ensures .0 ∙ ap (λ (l : List (List ℕ)). bytesOf n (afterRemove (keyAt 0 (s .args .key .now)) l))
     (sym held))
     ∙ sym (memory-passes (s .args .own .now) (s .args .cache .now) (c8 .memory .ensures) (c6 .found .given .1) (refuse s) _ (done s)
     ∙ row-passes (refuse s) 1 (not (eqb (length (s .args .key .now)) 32)) [] (done s) (not-is (eq-eqb (length (s .args .key .now)) 32

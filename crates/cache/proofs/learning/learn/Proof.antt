@@ -7,8 +7,8 @@ use Rattle.table.proofs.RowLaws.{rows-length}
 use Rattle.kept.specs.Records.{putBy}
 use Rattle.record.proofs.EntryLaws.{form-length}
 use Rattle.cache.proofs.FormLaws.{form-laid}
-use Rattle.cache.proofs.FindLaws.{found-place, found-puts}
-use Rattle.cache.proofs.LearnLaws.{held-room}
+use Rattle.cache.proofs.FindLaws.{found-place, found-held, found-puts}
+use Rattle.cache.proofs.LearnLaws.{held-room, told-held}
 use native.Mathlib.Omega.{arith}
 use borrow.Author.Needs.{needs}
 use Rattle.cache.proofs.learning.learn.Statement.{statement}
@@ -36,6 +36,9 @@ replace-row-requires c κs =
     let a = s .args in
     (found-place (keyOf (a .«record» .now)) (a .used) (a .cache .now) (c4 .find .ensures) (c .before .before .found .given .1), long s, laid s)
 
+unmoved-requires : tie.Need-unmoved-requires
+unmoved-requires c κs = search needs
+
 enum-known-found-2 : tie.Need-enum-known-found-2
 enum-known-found-2 c = search needs
 
@@ -51,17 +54,21 @@ same-length c = search needs
 
 returns : tie.Need-returns
 returns c =
-    let c5 = c .before .before .before .before .before in
-    let c7 = c5 .before .before in
-    let c12 = c7 .before .before .before .before .before in
-    let s = c12 in
+    let at-found = c .before .before .before .before .before .before in
+    let at-find = at-found .before .before in
+    let s = at-find .before .before .before .before .before in
     let a = s .args in
     let rs = rows 100 (a .used) (a .cache .now) in
-    let e = found-puts (a .«record» .now) (a .used) (a .cache .now) (c7 .find .ensures) (c5 .found .given .1) in
-    let n : length (putBy keyOf (a .«record» .now) rs) ≡ a .used = ap length (sym e) ∙ simp length-set (rows-length 100 (a .used) (a .cache .now)) in
-    c .before .before .replace-row .ensures
-    ∙ ap (bytesOf (length (a .cache .now))) (e ∙ held-room (keyOf (a .own .now)) (a .used) (a .cache .now) (a .«record» .now) (s .pre .1 .0)
-    (omega arith))
+    let e = found-puts (a .«record» .now) (a .used) (a .cache .now) (at-find .find .ensures) (at-found .found .given .1) in
+    let n : length (putBy keyOf (a .«record» .now) rs) ≡ a .used = ap length (sym e) ∙ simp length-set (rows-length 100 (a .used) (a .cache .now)) in (
+      c .before .before .before .replace-row .ensures
+          ∙ ap (bytesOf (length (a .cache .now))) (e ∙ held-room (keyOf (a .own .now)) (a .used) (a .cache .now) (a .«record» .now) (s .pre .1 .0)
+          (omega arith)),
+      c .unmoved .ensures
+          ∙ told-held (keyOf (a .own .now)) (length (a .cache .now)) rs (a .«record» .now)
+          (found-held (keyOf (a .«record» .now)) (a .used) (a .cache .now) (at-find .find .ensures) (at-found .found .given .1)
+          (s .pre .1 .0 .held .rising)),
+    )
 
 same-length-2 : tie.Need-same-length-2
 same-length-2 c = search needs
@@ -76,6 +83,7 @@ learn-spec =
     find-requires
     enum-known-found
     replace-row-requires
+    unmoved-requires
     enum-known-found-2
     learn-new-requires
     same-length

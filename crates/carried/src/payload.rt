@@ -144,8 +144,8 @@ pub(crate) fn take_reading(major: u8, d: &[u8], head: Head, acked: u32, fields: 
     ensures { λ r. ⌜ r ≡ takenAs (messageOf major (now (d .entry)) (TheAuthority head acked fields)) ⌝ }
 {
     let payload = fields.payload;
-    match payload {
-        Part::Absent => nothing(0, 0),
-        Part::Here(start, len) => shown(packing::unpack(&d[start..start + len])),
-    }
+    let Part::Here(start, len) = payload else {
+        return nothing(0, 0);
+    };
+    shown(packing::unpack(&d[start..start + len]))
 }

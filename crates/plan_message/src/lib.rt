@@ -19,10 +19,10 @@ use wire_read::Answer;
 fn is_here(p: Part) -> bool
     ensures { λ r. ⌜ r ≡ isHere p ⌝ }
 {
-    match p {
-        Part::Here(_, _) => true,
-        Part::Absent => false,
-    }
+    let Part::Here(_, _) = p else {
+        return false;
+    };
+    true
 }
 
 // The plan for the message that the datagram holds, where memory is in form. Neither minor version nor nonce counts,
@@ -82,8 +82,22 @@ fn plan_message<'a>(
             revoke: _,
             entry,
             reached: _,
-        } => match entry {
-            Part::Here(start, len) => plan_flood::plan_flood(
+        } => {
+            let Part::Here(start, len) = entry else {
+                return plan_flood::plan_revoke(
+                    own,
+                    held,
+                    used,
+                    verdict,
+                    key,
+                    room,
+                    datagram,
+                    d,
+                    head.id,
+                    validate,
+                );
+            };
+            plan_flood::plan_flood(
                 own,
                 cache,
                 held,
@@ -97,20 +111,8 @@ fn plan_message<'a>(
                 validate,
                 start,
                 len,
-            ),
-            Part::Absent => plan_flood::plan_revoke(
-                own,
-                held,
-                used,
-                verdict,
-                key,
-                room,
-                datagram,
-                d,
-                head.id,
-                validate,
-            ),
-        },
+            )
+        }
         Answer::Inquire {
             head,
             a: _,

@@ -48,7 +48,7 @@ returns c =
     let m = a .cache .now in
     let n = at-if1 .if1 .taken in (
       rw n
-          (at-remove .remove .ensures
+          (at-remove .remove .ensures .0
           ∙ ap (λ (k : ℕ). bytesOf (length m) (afterRemove k (rows 100 (a .held) m))) (key-lent (a .used) (a .waiting .now) (a .at) (s .pre .5))),
       c .before .before .free .ensures,
     )

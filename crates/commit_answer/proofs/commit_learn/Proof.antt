@@ -58,7 +58,7 @@ returns c =
     let s = at-learn .before .before .before .before .before .before .before in
     let a = s .args in
     let m = a .cache .now in (
-      at-learn .learn .ensures
+      at-learn .learn .ensures .0
           ∙ ap (λ (r : List ℕ). bytesOf (length m) (afterLearn (keyOf (a .own .now)) (length m) (rows 100 (a .held) m) r))
           (record-lent (a .used) (a .waiting .now) (a .at) ∙ record-place (a .used) (a .waiting .now) (a .at) (s .pre .5)),
       c .before .before .free .ensures,

@@ -37,7 +37,7 @@ returns c =
     let s = at-remove .before .before .before .before .before .before .before in
     let a = s .args in (
       c .answer-of .ensures ∙ acks-told (a .major) (a .minor) (a .id) (a .acked) (a .n) (a .silent) (c .before .before .before .send-ack .ensures .0),
-      (at-remove .remove .ensures, (at-free-inquiry .free-inquiry .ensures, c .before .before .before .send-ack .ensures .1)),
+      (at-remove .remove .ensures .0, (at-free-inquiry .free-inquiry .ensures, c .before .before .before .send-ack .ensures .1)),
     )
 
 pub commit-revoke-spec : {M : Type 1} → statement M

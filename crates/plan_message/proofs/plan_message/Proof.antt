@@ -128,37 +128,37 @@ plan-lookup-requires c κs =
     (s .pre .0, s .pre .2, knows m (c .before .message6 .given .1))
 
 returns : tie.Need-returns
-unfolding planFor
-returns c o minor nonce = planned (c .before .before .before) o minor nonce (c .before .message .given .1)
+returns c o minor nonce =
+    let k = c .before .before .before .before in
+    let m = k .before .before in
+    let s = start m in
+    c .plan-revoke .ensures
+    ∙ sym (revoke-plan (memory-at s o) (lent-at s minor nonce) (s .args .held) (s .args .used) (read-as m (k .message2 .given .1)) (c .before .enum-told4 .given .1))
 
 returns-2 : tie.Need-returns-2
 unfolding planFor
-returns-2 c o minor nonce = planned (c .before .before) o minor nonce (c .enum-told .given .1)
+returns-2 c o minor nonce = planned (c .before .before .before) o minor nonce (c .before .message .given .1)
 
 returns-3 : tie.Need-returns-3
 unfolding planFor
-returns-3 c o minor nonce = planned (c .before .before) o minor nonce (c .enum-told2 .given .1)
+returns-3 c o minor nonce = planned (c .before .before) o minor nonce (c .enum-told .given .1)
 
 returns-4 : tie.Need-returns-4
 unfolding planFor
-returns-4 c o minor nonce = planned (c .before .before) o minor nonce (c .enum-told3 .given .1)
+returns-4 c o minor nonce = planned (c .before .before) o minor nonce (c .enum-told2 .given .1)
 
 returns-5 : tie.Need-returns-5
-returns-5 c o minor nonce =
+unfolding planFor
+returns-5 c o minor nonce = planned (c .before .before) o minor nonce (c .enum-told3 .given .1)
+
+returns-6 : tie.Need-returns-6
+returns-6 c o minor nonce =
     let k = c .before .before .before .before .before in
     let m = k .before .before in
     let s = start m in
     c .plan-flood .ensures
     ∙ sym (flood-plan (memory-at s o) (lent-at s minor nonce) (s .args .held) (s .args .used) (read-as m (k .message2 .given .1))
     (c .before .before .entry .given .1))
-
-returns-6 : tie.Need-returns-6
-returns-6 c o minor nonce =
-    let k = c .before .before .before .before in
-    let m = k .before .before in
-    let s = start m in
-    c .plan-revoke .ensures
-    ∙ sym (revoke-plan (memory-at s o) (lent-at s minor nonce) (s .args .held) (s .args .used) (read-as m (k .message2 .given .1)) (c .before .enum-told4 .given .1))
 
 returns-7 : tie.Need-returns-7
 unfolding planFor
@@ -190,9 +190,10 @@ plan-message-spec =
     enum-told-3
     enum-known-message-2
     enum-known-entry
-    plan-flood-requires
     enum-told-4
     plan-revoke-requires
+    returns
+    plan-flood-requires
     enum-known-message-3
     plan-inquire-requires
     enum-known-message-4
@@ -202,7 +203,6 @@ plan-message-spec =
     plan-ack-requires
     enum-known-message-6
     plan-lookup-requires
-    returns
     returns-2
     returns-3
     returns-4

@@ -67,14 +67,14 @@ pub take-reading-spec : {M : Type 1} → statement M
 take-reading-spec =
     tie.close
     (tie.spec
+    enum-known-payload
     enum-told
     nothing-requires
-    enum-known-payload
+    returns
     add-unpack
     sub-unpack
     part-unpack-start
     part-unpack-end
     unpack-requires
     shown-requires
-    returns
     returns-2)

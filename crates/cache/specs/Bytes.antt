@@ -1,4 +1,5 @@
--- To believe. What learning and removing leave of the records held. What they do to records and keys is in kept. Assumes nothing.
+-- Helps the code. What learning and removing leave of the records held. What they do to records and keys is in kept. Tied to document 01 by `ours-meets`
+-- (sentences/Theorems). Assumes nothing.
 use Prim.Native.Nat.{ℕ}
 use mathlib.Core.List.{List}
 use Rattle.record.specs.Record.{keyOf}

@@ -1,5 +1,5 @@
--- To believe. The calls on lent memory that nobody has tested: refused with 1 where "lent memory is not as above" (a record to be learned is such memory too,
--- and not of our own key); then nothing changes. Assumes nothing.
+-- Helps the code. The calls on lent memory that nobody has tested: refused with 1 where "lent memory is not as above" (a record to be learned is such memory
+-- too, and not of our own key); then nothing changes. Tied to what is kept by `keys-learn` and `keys-without` (kept/RecordLaws). Assumes nothing.
 use Prim.Native.Nat.{ℕ}
 use mathlib.Core.Bool.{not}
 use mathlib.Core.List.{List, [], _∷_}

@@ -12,25 +12,25 @@ use Rattle.kept.specs.Plain.{drops}
 use Rattle.cache.specs.Form.{keysOf, placesIn}
 use Rattle.cache.specs.declared.learning.Change.{Change}
 
-pub record Told : Type 0 where
+pub record Changes : Type 0 where
   pub joined : Bool
   pub left : Bool
   pub gone : ℕ
 
-abbrev pub changes : Bool → Bool → ℕ → Told
+abbrev pub changes : Bool → Bool → ℕ → Changes
 changes joined left gone = record { joined = joined; left = left; gone = gone }
 
 -- what the code answers
-abbrev pub told : Change → Told
-told c = changes (c .joined) (c .left) (number (c .gone))
+abbrev pub changesOf : Change → Changes
+changesOf c = changes (c .joined) (c .left) (number (c .gone))
 
 -- a held key has its record replaced; another joins, and where that is one too many the one dropped leaves, which may be the newcomer itself
-unfoldable pub learned : ℕ → ℕ → List (List ℕ) → List ℕ → Told
+unfoldable pub learned : ℕ → ℕ → List (List ℕ) → List ℕ → Changes
 learned own size recs r =
     let more = putBy keyOf r recs in
     let k = drops own (keysOf more) in
     cond (has (keyOf r) (keysOf recs)) (changes false false 0)
     (cond (ltb (placesIn size) (length more)) (cond (eqb k (keyOf r)) (changes false false 0) (changes true true k)) (changes true false 0))
 
-unfoldable pub removed : ℕ → List (List ℕ) → Told
+unfoldable pub removed : ℕ → List (List ℕ) → Changes
 removed k recs = cond (has k (keysOf recs)) (changes false true k) (changes false false 0)

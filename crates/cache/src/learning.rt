@@ -11,7 +11,7 @@ ghost use Rattle.kept.specs.Plain.{NotOwn};
 ghost use Rattle.cache.specs.Form.{keysOf, Form};
 ghost use Rattle.cache.specs.Place.{findKey, farthestAt, Goes};
 ghost use Rattle.cache.specs.Bytes.{afterLearn, afterRemove};
-ghost use Rattle.cache.specs.Change.{changes, told, learned, removed};
+ghost use Rattle.cache.specs.Change.{changes, changesOf, learned, removed};
 ghost use Rattle.cache.specs.declared.place.Found.the-variants.{Before};
 use crate::place::Found;
 use crate::place::count_below;
@@ -42,7 +42,7 @@ fn no_key() -> Key
 
 // No key joined, and none left.
 fn unmoved() -> Change
-    ensures { λ r. ⌜ told r ≡ changes false false 0 ⌝ }
+    ensures { λ r. ⌜ changesOf r ≡ changes false false 0 ⌝ }
 {
     Change {
         joined: false,
@@ -146,7 +146,7 @@ fn learn_new(own: &[u8], cache: &mut [u8], used: usize, at: usize, record: &[u8]
     ensures { λ _. ⌜ now (cache .exit) ≡ bytesOf (length (now (cache .entry)))
         (afterLearn (keyOf (now (own .entry))) (length (now (cache .entry)))
         (rows 100 used (now (cache .entry))) (now («record» .entry))) ⌝ }
-    ensures { λ r. ⌜ told r ≡ learned (keyOf (now (own .entry))) (length (now (cache .entry)))
+    ensures { λ r. ⌜ changesOf r ≡ learned (keyOf (now (own .entry))) (length (now (cache .entry)))
         (rows 100 used (now (cache .entry))) (now («record» .entry)) ⌝ }
 {
     if record::RECORD_LEN * used < cache.len() {
@@ -187,7 +187,7 @@ pub fn learn(own: &[u8], cache: &mut [u8], used: usize, record: &[u8]) -> Change
     ensures { λ _. ⌜ now (cache .exit) ≡ bytesOf (length (now (cache .entry)))
         (afterLearn (keyOf (now (own .entry))) (length (now (cache .entry)))
         (rows 100 used (now (cache .entry))) (now («record» .entry))) ⌝ }
-    ensures { λ r. ⌜ told r ≡ learned (keyOf (now (own .entry))) (length (now (cache .entry)))
+    ensures { λ r. ⌜ changesOf r ≡ learned (keyOf (now (own .entry))) (length (now (cache .entry)))
         (rows 100 used (now (cache .entry))) (now («record» .entry)) ⌝ }
 {
     let found = find(cache, used, record);
@@ -206,7 +206,7 @@ pub fn remove(own: &[u8], cache: &mut [u8], used: usize, key: &[u8]) -> Change
     requires { ⌜ Form (keyOf (now own)) (now cache) (rows 100 used (now cache)) ⌝ }
     ensures { λ _. ⌜ now (cache .exit) ≡ bytesOf (length (now (cache .entry)))
         (afterRemove (keyAt 0 (now (key .entry))) (rows 100 used (now (cache .entry)))) ⌝ }
-    ensures { λ r. ⌜ told r ≡ removed (keyAt 0 (now (key .entry))) (rows 100 used (now (cache .entry))) ⌝ }
+    ensures { λ r. ⌜ changesOf r ≡ removed (keyAt 0 (now (key .entry))) (rows 100 used (now (cache .entry))) ⌝ }
 {
     let found = find(cache, used, key);
     let Found::At(i) = found else {

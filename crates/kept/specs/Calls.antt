@@ -1,4 +1,4 @@
--- To believe. A sequence of calls on lent memory, and the events that it makes: `step` is what a call leaves in memory, and `events` what it does to the
+-- Beside the demands. A sequence of calls on lent memory, and the events that it makes: `step` is what a call leaves in memory, and `events` what it does to the
 -- keys in that state (nothing where it is refused).
 -- Assumes nothing.
 use mathlib.Core.List.{List, [], _∷_, _++_}

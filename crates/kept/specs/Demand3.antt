@@ -1,4 +1,4 @@
--- To believe. Demand 3 on lists of keys, as statements. proofs/Demand3Laws.antt proves them.
+-- Beside the demands. Demand 3 on lists of keys, as statements, by which signed's is proved. proofs/Demand3Laws.antt proves them.
 -- Everything that is handed in stands in front: `ok` (which numbers may be kept), `side` and `near` (the order round our own key), `drops`
 -- (the drop rule) and C. The last two statements hand in ours: the order round the ring (02, Wish 4), the farthest out dropped, C at least 10.
 -- Assumes nothing.

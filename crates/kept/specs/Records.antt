@@ -1,6 +1,5 @@
--- To believe. The same on records of any kind, which have keys, strictly increasing: "a held key has its record replaced", and what is dropped or removed
--- goes with its record.
--- Assumes nothing.
+-- Helps the code. The same on records of any kind, which have keys, strictly increasing: "a held key has its record replaced", and what is dropped or removed
+-- goes with its record. Tied to the keys by `keys-learn` and `keys-without` (proofs/RecordLaws). Assumes nothing.
 use mathlib.Core.Bool.{cond}
 use mathlib.Core.List.{List, [], _∷_, map}
 use Prim.Native.Nat.{ℕ}

@@ -1,4 +1,4 @@
--- To believe. What the theorems ask of an order round our own key and of a drop rule. `ok` says which numbers may be keys of the cache.
+-- Beside the demands. What the theorems ask of an order round our own key and of a drop rule. `ok` says which numbers may be keys of the cache.
 -- Assumes nothing.
 use mathlib.Core.Path.{_≡_}
 use mathlib.Core.List.{List}

@@ -1,5 +1,6 @@
--- To believe. The two calls on lent memory that nobody has tested: refused with 1 where "lent memory is not as above" (a target is such memory too), with 15
--- where the output is "shorter than 320 bytes"; then nothing changes, counts are 0 and no record is shown. Assumes nothing.
+-- Helps the code. The two calls on lent memory that nobody has tested: refused with 1 where "lent memory is not as above" (a target is such memory too), with
+-- 15 where the output is "shorter than 320 bytes"; then nothing changes, counts are 0 and no record is shown. Tied to document 01 by `ours-meets`
+-- (sentences/Theorems). Assumes nothing.
 use Prim.Native.Nat.{ℕ, _+_, _*_, _≤_, _<_}
 use mathlib.Core.List.{List, [], _∷_}
 use lib.Dec.{ltb}

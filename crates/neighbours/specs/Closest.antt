@@ -1,5 +1,6 @@
--- To believe. "The record closest to the target, the own record included"; "Closeness to a target is the shorter way round; at equal distance take the key
--- reached by going down from the target" (02, Wish 4): key's Around has which of two keys is closer. Assumes nothing.
+-- Helps the code. "The record closest to the target, the own record included"; "Closeness to a target is the shorter way round; at equal distance take the key
+-- reached by going down from the target" (02, Wish 4): key's Around has which of two keys is closer. Tied to document 01 by
+-- `ours-meets` (sentences/Theorems). Assumes nothing.
 use Prim.Native.Nat.{ℕ}
 use mathlib.Core.Bool.{cond}
 use mathlib.Core.List.{List, [], _∷_, _++_}

@@ -1,10 +1,9 @@
 // The calls of a night. Each is lent an output of 2,464 zero bytes; the own CPA is one zero byte.
 ghost use mathlib.Core.Path.{_≡_};
 ghost use mathlib.Core.Bool.{true};
-ghost use mathlib.Core.List.{List};
-ghost use Prim.Native.Nat.{ℕ, _≤_};
+ghost use Prim.Native.Nat.{_≤_};
 ghost use lib.ListN.{length};
-ghost use Rattle.gauge_plan.specs.Lent.{memory};
+ghost use Rattle.gauge_plan.specs.Lent.{Memory, memory, withWaiting, withTables};
 ghost use Rattle.trace.specs.Trace.{bodyFits, isKind};
 ghost use Rattle.night.specs.Step.{night, stepped, received, sent, ticked, called, callOf};
 
@@ -49,9 +48,10 @@ fn receive(opening: &[u8], cache: &mut [u8], waiting: &mut [u8], body: &[u8]) ->
 fn send(opening: &[u8], cache: &[u8], waiting: &mut [u8], body: &[u8]) -> u32
     requires { ⌜ length (now opening) ≡ 102 ⌝ }
     requires { ⌜ length (now body) ≡ 68 ⌝ }
-    ensures { λ r. ⌜ stepped r (night (now (opening .entry)) (memory (now (cache .entry)) (now (waiting .exit))))
-        ≡ called (night (now (opening .entry)) (memory (now (cache .entry)) (now (waiting .entry))))
-        (sent (now (opening .entry)) (now (body .entry))) ⌝ }
+    ensures { λ r. ⌜ ((m : Memory)
+        → stepped r (night (now (opening .entry)) (withTables (now (cache .entry)) (now (waiting .exit)) m))
+        ≡ called (night (now (opening .entry)) (withTables (now (cache .entry)) (now (waiting .entry)) m))
+        (sent (now (opening .entry)) (now (body .entry)))) ⌝ }
 {
     let mut output = [0u8; OUTPUT];
     let id = octet::read_u32_le(body, 0);
@@ -72,8 +72,9 @@ fn send(opening: &[u8], cache: &[u8], waiting: &mut [u8], body: &[u8]) -> u32
 // Kind 3: no body.
 fn tick(opening: &[u8], waiting: &mut [u8]) -> u32
     requires { ⌜ length (now opening) ≡ 102 ⌝ }
-    ensures { λ r. ⌜ ((cache : List ℕ) → stepped r (night (now (opening .entry)) (memory cache (now (waiting .exit))))
-        ≡ called (night (now (opening .entry)) (memory cache (now (waiting .entry)))) (ticked (now (opening .entry)))) ⌝ }
+    ensures { λ r. ⌜ ((m : Memory) → stepped r (night (now (opening .entry)) (withWaiting (now (waiting .exit)) m))
+        ≡ called (night (now (opening .entry)) (withWaiting (now (waiting .entry)) m))
+        (ticked (now (opening .entry)))) ⌝ }
 {
     let mut output = [0u8; OUTPUT];
     let answer = gauge::gauge_tick(&opening[2..102], waiting, &mut output);

@@ -1,6 +1,7 @@
 -- `night::call::make` meets its contract. Assumes nothing.
 use mathlib.Core.Path.{ap, _∙_}
 use borrow.Author.Needs.{needs}
+use Rattle.gauge_plan.specs.Lent.{memory}
 use Rattle.night.specs.Step.{called}
 use Rattle.trace.proofs.FaultLaws.{fits-1, fits-2}
 use Rattle.night.proofs.CallLaws.{call-1, call-2, call-3}
@@ -41,7 +42,7 @@ returns-2 c =
     let m = c .before .before in
     let i = m .before .before .before in
     let a = i .before .before .before .before .before .before .args in
-    m .send .ensures ∙ ap (called _) (call-2 (a .opening .now) (a .kind) (a .body .now) (i .before .if1 .left) (i .if2 .taken))
+    m .send .ensures (memory (a .cache .now) (a .waiting .now)) ∙ ap (called _) (call-2 (a .opening .now) (a .kind) (a .body .now) (i .before .if1 .left) (i .if2 .taken))
 
 tick-requires : tie.Need-tick-requires
 tick-requires c κs = search needs
@@ -54,7 +55,7 @@ returns-3 c =
     let m = c .before .before in
     let i = m .before .before in
     let a = i .before .before .before .before .before .before .args in
-    m .tick .ensures _ ∙ ap (called _) (call-3 (a .opening .now) (a .kind) (a .body .now) (i .before .if1 .left) (i .if2 .left))
+    m .tick .ensures (memory (a .cache .now) (a .waiting .now)) ∙ ap (called _) (call-3 (a .opening .now) (a .kind) (a .body .now) (i .before .if1 .left) (i .if2 .left))
 
 pub make-spec : {M : Type 1} → statement M
 make-spec =

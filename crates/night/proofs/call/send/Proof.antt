@@ -50,10 +50,10 @@ same-length : tie.Need-same-length
 same-length c = search needs
 
 returns : tie.Need-returns
-returns c =
+returns c m =
     let r = c .before .before .before .before .before .before .before .before .before .before .before in
     let body = r .before .before .before .before .before .args .body .now in
-    send-called _ _ _ body _ (r .read-u32-le .ensures) (c .before .before .before .gauge-send .ensures)
+    send-called _ _ _ body _ (r .read-u32-le .ensures) (c .before .before .before .gauge-send .ensures m)
 
 pub send-spec : {M : Type 1} → statement M
 send-spec =

@@ -23,7 +23,7 @@ same-length : tie.Need-same-length
 same-length c = search needs
 
 returns : tie.Need-returns
-returns c = λ cache. tick-called _ _ _ (c .before .before .before .gauge-tick .ensures cache)
+returns c m = tick-called _ _ _ (c .before .before .before .gauge-tick .ensures m)
 
 pub tick-spec : {M : Type 1} → statement M
 tick-spec =

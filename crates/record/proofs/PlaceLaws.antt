@@ -7,10 +7,11 @@ use native.Mathlib.Omega.{arith}
 use lib.Dec.{leb, eqb}
 use lib.ListN.{length, take, drop, getD, replicate, length-append, length-replicate}
 use lib.Seq.{take-take, drop-drop, take-nil}
-use borrow.Author.Tests.{le-leb, lt-leb, leb-true, eq-eqb, eqb-true}
+use borrow.Author.Tests.{le-leb, lt-leb, leb-true, eq-eqb, ne-eqb, eqb-true}
 use Rattle.octet.specs.Part.{part, same, allZero, splice}
 use Rattle.octet.proofs.PartLaws.{part-add, part-at, part-two, length-part, splice-next}
-use Rattle.octet.proofs.TestLaws.{both-true, and-true, same-append}
+use Rattle.octet.specs.Number.{valueLE}
+use Rattle.octet.proofs.TestLaws.{both-true, and-true, same-append, zero-two}
 use Rattle.record.specs.Record.{countOf, recordForm}
 use Rattle.record.specs.Entry.{entryForm, entryCount, recordOf, entryOf}
 
@@ -81,6 +82,70 @@ form-many at s m =
     none true true c d = refl
     none true false c d = refl
     none false b c d = refl
+
+-- count and zero byte as one number
+pub count-word : (at : ℕ) (s : List ℕ) → at + 36 ≤ length s → valueLE 256 (part (at + 34) 2 s) ≡ getD s (at + 35) 0 * 256 + getD s (at + 34) 0
+unfolding valueLE
+count-word at s h =
+    let place : at + 34 + 1 ≡ at + 35 = omega arith in
+    let next : getD s (at + 34 + 1) 0 ≡ getD s (at + 35) 0 = ap (λ (n : ℕ). getD s n 0) place in
+    let both : valueLE 256 (part (at + 34) 2 s) ≡ getD s (at + 34 + 1) 0 * 256 + getD s (at + 34) 0 =
+    rw (part-two (at + 34) s (omega arith)) (omega arith) in
+    omega (arith, both, next)
+
+-- a number above four: too many addresses, or a zero byte that is none
+pub form-over : (at : ℕ) (s : List ℕ) → 4 < getD s (at + 35) 0 * 256 + getD s (at + 34) 0 → false ≡ recordForm (part at 100 s)
+unfolding recordForm
+form-over at s m = by-case (getD s (at + 35) 0) refl
+  where
+    none : (a b c d : Bool) → a && b && c && false && d ≡ false
+    none true true true d = refl
+    none true true false d = refl
+    none true false c d = refl
+    none false b c d = refl
+
+    other : (getD s (at + 35) 0 ≡ 0 → ⊥) → false ≡ recordForm (part at 100 s)
+    other ne =
+        sym (rw (part-at at 100 35 s (omega arith), ne-eqb (getD s (at + 35) 0) 0 ne)
+        (none (eqb (length (part at 100 s)) 100) (leb 1 (countOf (part at 100 s))) (leb (countOf (part at 100 s)) 4) _))
+
+    by-case : (z : ℕ) → getD s (at + 35) 0 ≡ z → false ≡ recordForm (part at 100 s)
+    by-case zero e = form-many at s (omega arith)
+    by-case (suc z) e = other (λ (f : getD s (at + 35) 0 ≡ 0). omega arith)
+
+-- bytes that are not zero where an unused address is
+pub form-spoilt : (at p : ℕ) (s : List ℕ) → at + 100 ≤ length s → getD s (at + 34) 0 ≤ 4 → at + 36 + 16 * getD s (at + 34) 0 ≤ p → p + 16 ≤ at + 100
+    → allZero (part p 16 s) ≡ false → false ≡ recordForm (part at 100 s)
+form-spoilt at p s h m from to bad =
+    let c = getD s (at + 34) 0 in
+    let q : ℕ = at + 36 + 16 * c in
+    let n : ℕ = 8 * (8 - 2 * c) in
+    let before : ℕ = p - q in
+    let after : ℕ = n - (before + 16) in
+    let width : n ≡ before + (16 + after) = omega arith in
+    let place : q + before ≡ p = omega arith in
+    let left : allZero (part q n s) ≡ false =
+    ap (λ (k : ℕ). allZero (part q k s)) width ∙ zero-two q before (16 + after) s
+    ∙ ap (λ (k : ℕ). allZero (part q before s) && allZero (part k (16 + after) s)) place
+    ∙ ap (λ (t : Bool). allZero (part q before s) && t) (zero-two p 16 after s ∙ ap (λ (t : Bool). t && allZero (part (p + 16) after s)) bad)
+    ∙ and-false (allZero (part q before s)) in
+    sym (form-at at s h m ∙ ap (λ (t : Bool). leb 1 c && leb c 4 && eqb (getD s (at + 35) 0) 0 && t) left
+    ∙ last (leb 1 c) (leb c 4) (eqb (getD s (at + 35) 0) 0))
+  where
+    and-false : (t : Bool) → t && false ≡ false
+    and-false true = refl
+    and-false false = refl
+
+    last : (a b c : Bool) → a && b && c && false ≡ false
+    last true true true = refl
+    last true true false = refl
+    last true false c = refl
+    last false b c = refl
+
+-- 16 bytes and those after them
+pub zero-both : (p q m : ℕ) (s : List ℕ) → q ≡ p + 16 → allZero (part p 16 s) ≡ true → allZero (part q m s) ≡ true → allZero (part p (16 + m) s)
+    ≡ true
+zero-both p q m s e a b = zero-two p 16 m s ∙ ap₂ _&&_ a (ap (λ (k : ℕ). allZero (part k m s)) (sym e) ∙ b)
 
 -- the pieces of the record that an entry at a place names
 pub record Entry-at (start len : ℕ) (d : List ℕ) : Type 0 where

@@ -46,7 +46,7 @@ pub fn put_record(dst: &mut [u8], at: usize, d: &[u8], start: usize, len: usize)
 {
     let count = d[start + 37];
     let size = 16 * (count as usize);
-    copy_piece(dst, at, d, start, 32);
+    runs::copy_32(dst, at, d, start);
     copy_piece(dst, at + 32, d, start + 34, 2);
     let two = [count, 0];
     runs::copy_to(dst, at + 34, &two);
@@ -63,7 +63,7 @@ pub fn put_entry(dst: &mut [u8], at: usize, major: u8, minor: u8, s: &[u8], star
     ensures { λ _. ⌜ now (dst .exit) ≡ splice at (entryOf major minor (part start 100 (now (s .entry)))) (now (dst .entry)) ⌝ }
 {
     let count = s[start + 34];
-    copy_piece(dst, at, s, start, 32);
+    runs::copy_32(dst, at, s, start);
     let versions = [major, minor];
     runs::copy_to(dst, at + 32, &versions);
     copy_piece(dst, at + 34, s, start + 32, 2);

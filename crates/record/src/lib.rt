@@ -27,30 +27,36 @@ pub fn is_record(r: &[u8]) -> bool
     is_formed(r, 0)
 }
 
-// Are the 100 bytes at a place a record in form? Each count of addresses leaves a known number of words, so that the
-// compiler needs no loop for them.
+// Are the 100 bytes at a place a record in form? Count and zero byte are one number. What is unused is looked at from the
+// end on, so that each count shares the tests of the next.
 pub fn is_formed(s: &[u8], at: usize) -> bool
     requires { ⌜ at + 100 ≤ length (now s) ⌝ }
     ensures { λ r. ⌜ r ≡ recordForm (part at 100 (now (s .entry))) ⌝ }
 {
-    let count = s[at + 34] as usize;
-    if count < 1 {
-        return false;
-    }
+    let count = octet::read_u16_le(s, at + 34);
     if 4 < count {
         return false;
     }
-    if s[at + 35] != 0 {
+    if count == 4 {
+        return true;
+    }
+    if !octet::zero_pair(s, at + 84) {
+        return false;
+    }
+    if count == 3 {
+        return true;
+    }
+    if !octet::zero_pair(s, at + 68) {
+        return false;
+    }
+    if count == 2 {
+        return true;
+    }
+    if !octet::zero_pair(s, at + 52) {
         return false;
     }
     if count == 1 {
-        return octet::zero_words(s, at + 52, 6);
+        return true;
     }
-    if count == 2 {
-        return octet::zero_words(s, at + 68, 4);
-    }
-    if count == 3 {
-        return octet::zero_words(s, at + 84, 2);
-    }
-    true
+    false
 }

@@ -1,2 +1,3 @@
--- The laws of its loops, for the proofs of this crate.
+-- The laws of its loops and of parts that are lent on, for the proofs of this crate.
 pub mod TurnLaws
+pub mod LentLaws

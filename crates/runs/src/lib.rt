@@ -9,6 +9,13 @@ ghost use mathlib.Core.List.{_++_};
 ghost use lib.ListN.{length, replicate};
 ghost use Rattle.octet.specs.Part.{part, splice};
 
+mod rows;
+
+use rows::lift_100;
+use rows::lift_140;
+use rows::shift_100;
+use rows::shift_140;
+
 // Copies the whole of `src` into `dst`, from a place on.
 pub fn copy_to(dst: &mut [u8], at: usize, src: &[u8])
     requires { ⌜ at + length (now src) ≤ length (now dst) ⌝ }
@@ -19,6 +26,29 @@ pub fn copy_to(dst: &mut [u8], at: usize, src: &[u8])
         dst[at + i] = src[i];
         i += 1;
     }
+}
+
+// Copies 32 bytes from a place of one slice to a place of another: by way of bytes of its own, so that the compiler need
+// not ask whether the two overlap.
+pub fn copy_32(dst: &mut [u8], at: usize, src: &[u8], from: usize)
+    requires { ⌜ at + 32 ≤ length (now dst) ⌝ }
+    requires { ⌜ from + 32 ≤ length (now src) ⌝ }
+    ensures { λ _. ⌜ now (dst .exit) ≡ splice at (part from 32 (now (src .entry))) (now (dst .entry)) ⌝ }
+{
+    let mut held = [0u8; 32];
+    copy_to(&mut held, 0, &src[from..from + 32]);
+    copy_to(dst, at, &held);
+}
+
+// The same of 16 bytes.
+pub fn copy_16(dst: &mut [u8], at: usize, src: &[u8], from: usize)
+    requires { ⌜ at + 16 ≤ length (now dst) ⌝ }
+    requires { ⌜ from + 16 ≤ length (now src) ⌝ }
+    ensures { λ _. ⌜ now (dst .exit) ≡ splice at (part from 16 (now (src .entry))) (now (dst .entry)) ⌝ }
+{
+    let mut held = [0u8; 16];
+    copy_to(&mut held, 0, &src[from..from + 16]);
+    copy_to(dst, at, &held);
 }
 
 // Clears `n` bytes from a place on.
@@ -39,6 +69,14 @@ pub fn move_down(s: &mut [u8], from: usize, to: usize, n: usize)
     requires { ⌜ from + n ≤ length (now s) ⌝ }
     ensures { λ _. ⌜ now (s .exit) ≡ splice to (part from n (now (s .entry))) (now (s .entry)) ⌝ }
 {
+    if from - to == 100 {
+        shift_100(&mut s[to..], n);
+        return;
+    }
+    if from - to == 140 {
+        shift_140(&mut s[to..], n);
+        return;
+    }
     let mut i = 0;
     while i < n {
         let x = s[from + i];
@@ -53,6 +91,14 @@ pub fn move_up(s: &mut [u8], from: usize, to: usize, n: usize)
     requires { ⌜ to + n ≤ length (now s) ⌝ }
     ensures { λ _. ⌜ now (s .exit) ≡ splice to (part from n (now (s .entry))) (now (s .entry)) ⌝ }
 {
+    if to - from == 100 {
+        lift_100(&mut s[from..], n);
+        return;
+    }
+    if to - from == 140 {
+        lift_140(&mut s[from..], n);
+        return;
+    }
     let mut i = n;
     while 0 < i {
         i -= 1;

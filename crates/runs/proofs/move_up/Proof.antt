@@ -1,11 +1,14 @@
--- `runs::move_up` meets its contract. The invariant: the bytes from index i on are moved, and no more. Assumes nothing.
-use mathlib.Core.Path.{_≡_, refl, sym, ap, _∙_}
+-- `runs::move_up` meets its contract: by a known distance, or in a loop that has moved the bytes from index i on and no more. Assumes nothing.
+use mathlib.Core.Path.{_≡_, refl, sym, ap, ap₂, _∙_}
+use mathlib.Core.List.{List}
 use Prim.Native.Nat.{ℕ, _+_, _-_, _≤_}
-use native.Mathlib.Omega.{arith}
-use lib.ListN.{length, length-set}
 use native.Mathlib.Nat.{add-zero, sub-self, sub-zero}
+use native.Mathlib.Omega.{arith}
+use borrow.Author.Needs.{needs}
+use lib.ListN.{length, take, drop, length-set, length-take, length-drop}
 use Rattle.octet.specs.Part.{part, splice}
-use Rattle.octet.proofs.PartLaws.{splice-nil}
+use Rattle.octet.proofs.PartLaws.{splice-nil, length-part}
+use Rattle.runs.proofs.LentLaws.{put-mid, part-lent}
 use Rattle.runs.proofs.TurnLaws.{up-turn}
 use Rattle.runs.proofs.move_up.Statement.{statement}
 use Rattle.runs.proofs.move_up.Tie as tie
@@ -16,11 +19,84 @@ Inv-loop s₀ from to n i₀ s i = (i ≤ n) × (s ≡ splice (to + i) (part (fr
 abbrev μ-loop : tie.MeasureT-loop
 μ-loop s₀ from to n i₀ s i = i
 
+sub-if1 : tie.Need-sub-if1 Inv-loop μ-loop
+sub-if1 c = omega arith
+
+sub-lift-100 : tie.Need-sub-lift-100 Inv-loop μ-loop
+sub-lift-100 c = omega arith
+
+part-lift-100-start : tie.Need-part-lift-100-start Inv-loop μ-loop
+part-lift-100-start c = omega arith
+
+part-lift-100-end : tie.Need-part-lift-100-end Inv-loop μ-loop
+part-lift-100-end c = omega arith
+
+lift-100-requires : tie.Need-lift-100-requires Inv-loop μ-loop
+lift-100-requires c κs =
+    let a = c .before .before .before .args in
+    let s = a .s .now in
+    omega (arith, length-take (length s - a .from) (drop (a .from) s), length-drop (a .from) s)
+
+same-length : tie.Need-same-length Inv-loop μ-loop
+same-length c = search needs
+
+returns : tie.Need-returns Inv-loop μ-loop
+returns c =
+    let start = c .before .before .before .before .before .before in
+    let a = start .args in
+    let s = a .s .now in
+    let to : a .from + 100 ≡ a .to = omega arith in
+    put-mid (a .from) 100 (part 0 (a .n) (take (length s - a .from) (drop (a .from) s))) s (c .before .before .lift-100 .last .0)
+    (omega (
+      arith,
+      length-part 0 (a .n) (take (length s - a .from) (drop (a .from) s))
+          (omega (arith, length-take (length s - a .from) (drop (a .from) s), length-drop (a .from) s)),
+    )) (c .before .before .lift-100 .ensures)
+    ∙ ap₂ (λ (p : ℕ) (l : List ℕ). splice p l s) to (part-lent (a .from) 0 (a .n) s (omega arith)
+    ∙ ap (λ (p : ℕ). part p (a .n) s) (add-zero (a .from)))
+
+sub-if2 : tie.Need-sub-if2 Inv-loop μ-loop
+sub-if2 c = omega arith
+
+sub-lift-140 : tie.Need-sub-lift-140 Inv-loop μ-loop
+sub-lift-140 c = omega arith
+
+part-lift-140-start : tie.Need-part-lift-140-start Inv-loop μ-loop
+part-lift-140-start c = omega arith
+
+part-lift-140-end : tie.Need-part-lift-140-end Inv-loop μ-loop
+part-lift-140-end c = omega arith
+
+lift-140-requires : tie.Need-lift-140-requires Inv-loop μ-loop
+lift-140-requires c κs =
+    let a = c .before .before .before .before .args in
+    let s = a .s .now in
+    omega (arith, length-take (length s - a .from) (drop (a .from) s), length-drop (a .from) s)
+
+same-length-2 : tie.Need-same-length-2 Inv-loop μ-loop
+same-length-2 c = search needs
+
+returns-2 : tie.Need-returns-2 Inv-loop μ-loop
+returns-2 c =
+    let start = c .before .before .before .before .before .before .before in
+    let a = start .args in
+    let s = a .s .now in
+    let to : a .from + 140 ≡ a .to = omega arith in
+    put-mid (a .from) 140 (part 0 (a .n) (take (length s - a .from) (drop (a .from) s))) s (c .before .before .lift-140 .last .0)
+    (omega (
+      arith,
+      length-part 0 (a .n) (take (length s - a .from) (drop (a .from) s))
+          (omega (arith, length-take (length s - a .from) (drop (a .from) s), length-drop (a .from) s)),
+    )) (c .before .before .lift-140 .ensures)
+    ∙ ap₂ (λ (p : ℕ) (l : List ℕ). splice p l s) to (part-lent (a .from) 0 (a .n) s (omega arith)
+    ∙ ap (λ (p : ℕ). part p (a .n) s) (add-zero (a .from)))
+
 loop-holds : tie.Need-loop-holds Inv-loop μ-loop
 loop-holds c =
-    let s = c .args .s .now in
-    let end = c .args .to + c .args .n in
-    let none = ap (λ (k : ℕ). splice end (part (c .args .from + c .args .n) k s) s) (sub-self (c .args .n)) in
+    let a = c .before .before .before .args in
+    let s = a .s .now in
+    let end = a .to + a .n in
+    let none = ap (λ (k : ℕ). splice end (part (a .from + a .n) k s) s) (sub-self (a .n)) in
     (omega arith, sym (none ∙ splice-nil end s), refl)
 
 sub-i : tie.Need-sub-i Inv-loop μ-loop
@@ -44,19 +120,19 @@ loop-less c = omega arith
 loop-again : tie.Need-loop-again Inv-loop μ-loop
 loop-again c =
     let at-loop = c .before .before in
-    let at-start = at-loop .before in (
+    let at-start = at-loop .before .before .before .before in (
       omega arith,
       up-turn (at-start .args .from) (at-start .args .to) (at-start .args .n) (at-loop .loop .i) (at-loop .loop .i - 1) (at-start .args .s .now)
           (omega arith) (omega arith) (omega arith) (omega arith) (at-loop .loop .s) (at-loop .loop .inv .1),
       simp length-set (at-loop .loop .inv .2),
     )
 
-same-length : tie.Need-same-length Inv-loop μ-loop
-same-length c = c .before .loop .inv .2
+same-length-3 : tie.Need-same-length-3 Inv-loop μ-loop
+same-length-3 c = c .before .loop .inv .2
 
-returns : tie.Need-returns Inv-loop μ-loop
-returns c =
-    let at-start = c .before .before in
+returns-3 : tie.Need-returns-3 Inv-loop μ-loop
+returns-3 c =
+    let at-start = c .before .before .before .before .before in
     let s = at-start .args .s .now in
     let e : c .before .loop .i ≡ 0 = omega arith in
     c .before .loop .inv .1
@@ -69,6 +145,20 @@ move-up-spec =
     (tie.spec
     Inv-loop
     μ-loop
+    sub-if1
+    sub-lift-100
+    part-lift-100-start
+    part-lift-100-end
+    lift-100-requires
+    same-length
+    returns
+    sub-if2
+    sub-lift-140
+    part-lift-140-start
+    part-lift-140-end
+    lift-140-requires
+    same-length-2
+    returns-2
     loop-holds
     sub-i
     add-x
@@ -77,5 +167,5 @@ move-up-spec =
     slice-write-s
     loop-less
     loop-again
-    same-length
-    returns)
+    same-length-3
+    returns-3)

@@ -13,13 +13,13 @@ use Rattle.record.proofs.entry.put_entry.Statement.{statement}
 use Rattle.record.proofs.entry.put_entry.Tie as tie
 
 -- the first place, from behind each piece
-abbrev first : tie.After-copy-piece → tie.Start
+abbrev first : tie.After-copy-32 → tie.Start
 first c = c .before .before .before .before .before
 
 abbrev second : tie.After-copy-to → tie.Start
 second c = first (c .before .before .before .before .before)
 
-abbrev third : tie.After-copy-piece2 → tie.Start
+abbrev third : tie.After-copy-piece → tie.Start
 third c = second (c .before .before .before .before)
 
 abbrev fourth : tie.After-copy-to2 → tie.Start
@@ -38,8 +38,8 @@ add-count c = search needs
 shared-slice-read-count : tie.Need-shared-slice-read-count
 shared-slice-read-count c = search needs
 
-copy-piece-requires : tie.Need-copy-piece-requires
-copy-piece-requires c κs = search needs
+copy-32-requires : tie.Need-copy-32-requires
+copy-32-requires c κs = search needs
 
 add-copy-to : tie.Need-add-copy-to
 add-copy-to c = search needs
@@ -56,8 +56,8 @@ add-copy-piece c = search needs
 add-copy-piece-2 : tie.Need-add-copy-piece-2
 add-copy-piece-2 c = search needs
 
-copy-piece-requires-2 : tie.Need-copy-piece-requires-2
-copy-piece-requires-2 c κs = search needs
+copy-piece-requires : tie.Need-copy-piece-requires
+copy-piece-requires c κs = search needs
 
 add-copy-to-2 : tie.Need-add-copy-to-2
 add-copy-to-2 c = search needs
@@ -80,8 +80,8 @@ cast-copy-piece c = search needs
 mul-copy-piece : tie.Need-mul-copy-piece
 mul-copy-piece c = search needs
 
-copy-piece-requires-3 : tie.Need-copy-piece-requires-3
-copy-piece-requires-3 c κs =
+copy-piece-requires-2 : tie.Need-copy-piece-requires-2
+copy-piece-requires-2 c κs =
     let w = whole (fourth (c .before .before .before)) in
     (omega arith, omega (arith, w .1))
 
@@ -115,11 +115,11 @@ returns c =
     let g = length-append (k ++ v) p in
     let d = length-append (k ++ v ++ p) r in
     rw (
-      addresses .copy-piece3 .ensures,
+      addresses .copy-piece2 .ensures,
       two .copy-to2 .ensures,
-      port .copy-piece2 .ensures,
+      port .copy-piece .ensures,
       versions .copy-to .ensures,
-      key .copy-piece .ensures,
+      key .copy-32 .ensures,
       put-four at 2 k v p r o lk refl lp refl (omega arith),
       splice-next at 38 (k ++ v ++ p ++ r) x o (omega arith) (omega arith),
     )
@@ -131,13 +131,13 @@ put-entry-spec =
     (tie.spec
     add-count
     shared-slice-read-count
-    copy-piece-requires
+    copy-32-requires
     add-copy-to
     slice-aggregate-copy-to
     copy-to-requires
     add-copy-piece
     add-copy-piece-2
-    copy-piece-requires-2
+    copy-piece-requires
     add-copy-to-2
     slice-aggregate-copy-to-2
     copy-to-requires-2
@@ -145,6 +145,6 @@ put-entry-spec =
     add-copy-piece-4
     cast-copy-piece
     mul-copy-piece
-    copy-piece-requires-3
+    copy-piece-requires-2
     same-length
     returns)

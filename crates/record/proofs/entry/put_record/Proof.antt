@@ -13,16 +13,16 @@ use Rattle.record.proofs.entry.put_record.Statement.{statement}
 use Rattle.record.proofs.entry.put_record.Tie as tie
 
 -- the first place, from behind each piece
-abbrev first : tie.After-copy-piece → tie.Start
+abbrev first : tie.After-copy-32 → tie.Start
 first c = c .before .before .before .before .before
 
-abbrev second : tie.After-copy-piece2 → tie.Start
+abbrev second : tie.After-copy-piece → tie.Start
 second c = first (c .before .before .before .before)
 
 abbrev third : tie.After-copy-to → tie.Start
 third c = second (c .before .before .before .before .before)
 
-abbrev fourth : tie.After-copy-piece3 → tie.Start
+abbrev fourth : tie.After-copy-piece2 → tie.Start
 fourth c = third (c .before .before .before .before)
 
 -- the entry lies there whole
@@ -47,8 +47,8 @@ mul-size c =
     let w = whole (c .before .before .before) in
     omega (arith, w .most, w .long)
 
-copy-piece-requires : tie.Need-copy-piece-requires
-copy-piece-requires c κs =
+copy-32-requires : tie.Need-copy-32-requires
+copy-32-requires c κs =
     let w = whole (c .before .before .before .before) in
     (omega (arith, w .most), omega (arith, w .most, w .long))
 
@@ -58,8 +58,8 @@ add-copy-piece c = search needs
 add-copy-piece-2 : tie.Need-add-copy-piece-2
 add-copy-piece-2 c = search needs
 
-copy-piece-requires-2 : tie.Need-copy-piece-requires-2
-copy-piece-requires-2 c κs =
+copy-piece-requires : tie.Need-copy-piece-requires
+copy-piece-requires c κs =
     let w = whole (first (c .before .before .before)) in
     (omega (arith, w .most), omega (arith, w .most, w .long))
 
@@ -78,8 +78,8 @@ add-copy-piece-3 c = search needs
 add-copy-piece-4 : tie.Need-add-copy-piece-4
 add-copy-piece-4 c = search needs
 
-copy-piece-requires-3 : tie.Need-copy-piece-requires-3
-copy-piece-requires-3 c κs =
+copy-piece-requires-2 : tie.Need-copy-piece-requires-2
+copy-piece-requires-2 c κs =
     let w = whole (third (c .before .before .before)) in
     (omega (arith, w .most), omega (arith, w .most, w .long))
 
@@ -121,7 +121,7 @@ returns c =
     let m = w .most in
     let l = w .long in
     let z = length-replicate {A = ℕ} (64 - 16 * n) 0 in
-    rw (cleared .clear .ensures, addresses .copy-piece3 .ensures, two .copy-to .ensures, port .copy-piece2 .ensures, key .copy-piece .ensures)
+    rw (cleared .clear .ensures, addresses .copy-piece2 .ensures, two .copy-to .ensures, port .copy-piece .ensures, key .copy-32 .ensures)
     (put-pieces at (16 * n) (64 - 16 * n) (part start 32 d) (part (start + 34) 2 d) (n ∷ 0 ∷ []) (part (start + 38) (16 * n) d)
     (replicate (64 - 16 * n) 0) s (length-part start 32 d (omega arith)) (length-part (start + 34) 2 d (omega arith)) refl
     (length-part (start + 38) (16 * n) d (omega arith)) z (omega arith)
@@ -135,16 +135,16 @@ put-record-spec =
     shared-slice-read-count
     cast-size
     mul-size
-    copy-piece-requires
+    copy-32-requires
     add-copy-piece
     add-copy-piece-2
-    copy-piece-requires-2
+    copy-piece-requires
     add-copy-to
     slice-aggregate-copy-to
     copy-to-requires
     add-copy-piece-3
     add-copy-piece-4
-    copy-piece-requires-3
+    copy-piece-requires-2
     add-unused
     add-unused-2
     sub-clear

@@ -1,24 +1,27 @@
 -- Laws of the test of the form as code makes it: place by place, then by the size and by what follows the records.
 -- In this order: what a place's key has to be at least; the loop over the places; the answer. Assumes nothing.
-use mathlib.Core.Path.{_≡_, refl, ap, _∙_}
+use mathlib.Core.Path.{_≡_, refl, ap, _∙_, subst}
 use mathlib.Core.List.{List}
 use mathlib.Core.Bool.{Bool, true, false, cond}
-use Prim.Native.Nat.{ℕ, suc, _+_, _-_, _*_, _%_, _≤_, _<_}
+use Prim.Native.Nat.{ℕ, zero, suc, _+_, _-_, _*_, _%_, _≤_, _<_}
 use native.Mathlib.Numerals.{add-one}
 use native.Mathlib.Omega.{arith}
-use lib.Dec.{leb, ltb}
+use lib.Dec.{leb, ltb, eqb}
 use lib.ListN.{length, drop}
 use borrow.Author.Tests.{eq-eqb, ne-eqb, le-leb, lt-leb}
 use mathlib.Core.Path.{sym}
+use Rattle.octet.specs.Number.{Digits, valueBE}
 use Rattle.octet.specs.Part.{part, allZero}
+use Rattle.key.proofs.OrderLaws.{test-less}
 use Rattle.key.specs.Number.{keyAt}
 use Rattle.record.specs.Record.{keyOf}
 use Rattle.table.specs.Rows.{rows}
 use Rattle.table.proofs.RowLaws.{rows-next, rows-end}
 use Rattle.cache.specs.declared.shape.Formed.the-variants.{Bad, Good}
 use Rattle.cache.specs.Form.{Form, follows, leading, heldIn, heldOf, cacheForm, placesIn}
-use Rattle.cache.specs.Place.{formOf, lowAt}
+use Rattle.cache.specs.Place.{formOf, lowAt, Carried}
 use Rattle.cache.proofs.FormLaws.{key-of-row, true-form}
+use Rattle.cache.proofs.SeekLaws.{first-less}
 
 -- ---- what the key of a place has to be at least
 
@@ -31,6 +34,29 @@ unfolding lowAt
 low-next s i k d =
     let p : i ≡ suc (i - 1) = omega arith in
     ap (λ (j : ℕ). leb (lowAt s j) k) p
+
+-- by the key before it, and where it is not above
+pub low-by : (s : List ℕ) (i k : ℕ) → ltb (keyAt (100 * (i - 1)) s) k ≡ true → true ≡ leb (lowAt s i) k
+low-by s zero k t = sym (low-first s 0 k refl)
+low-by s (suc i) k t = sym (low-next s (suc i) k (λ e. omega arith) ∙ t)
+
+pub low-not : (s : List ℕ) (i k : ℕ) → ltb (keyAt (100 * (i - 1)) s) k ≡ false → eqb i 0 ≡ leb (lowAt s i) k
+low-not s zero k t = sym (low-first s 0 k refl)
+low-not s (suc i) k t = ne-eqb (suc i) 0 (λ e. omega arith) ∙ sym (low-next s (suc i) k (λ e. omega arith) ∙ t)
+
+-- by the first words
+pub low-words : (s : List ℕ) (i last : ℕ) → Digits 256 s → 100 * i + 100 ≤ length s → Carried s i last → last < valueBE 256 (part (100 * i) 8 s)
+    → true ≡ leb (lowAt s i) (keyAt (100 * i) s)
+low-words s zero last d h is l = sym (low-first s 0 (keyAt 0 s) refl)
+low-words s (suc i) last d h is l =
+    let p : 100 * (suc i - 1) ≡ 100 * i = omega arith in
+    low-by s (suc i) (keyAt (100 * suc i) s)
+    (ap (λ (n : ℕ). ltb (keyAt n s) (keyAt (100 * suc i) s)) p
+    ∙ test-less (keyAt (100 * i) s) (keyAt (100 * suc i) s) (first-less (100 * i) (100 * suc i) s s d d (omega arith) (omega arith)
+    (omega (arith, is))) .0)
+
+pub carried-next : (s : List ℕ) (i last : ℕ) → last ≡ valueBE 256 (part (100 * i) 8 s) → Carried s (i + 1) last
+carried-next s i last e = subst (λ (n : ℕ). Carried s n last) (sym (add-one i)) e
 
 -- ---- the loop that counts the places in order
 
@@ -76,8 +102,8 @@ module _ (own : ℕ) (s : List ℕ) where
       unfolding formOf cacheForm
       too-large h = rw (eq-eqb (length s % 100) 0 whole, le-leb 1000 (length s) least, lt-leb (length s) 25600 h) refl
 
-      pub by-rest : (used : ℕ) (b : Bool) → length s ≤ 25600 → used ≡ leading own 0 (rows 100 (placesIn (length s)) s) → b ≡ allZero (drop (100 * used) s)
-          → formOf own s ≡ cond b (Good used) Bad
+      pub by-rest : (used : ℕ) (b : Bool) → length s ≤ 25600 → used ≡ leading own 0 (rows 100 (placesIn (length s)) s)
+          → b ≡ allZero (drop (100 * used) s) → formOf own s ≡ cond b (Good used) Bad
       unfolding formOf cacheForm heldIn
       by-rest used b most is z =
           rw (eq-eqb (length s % 100) 0 whole, le-leb 1000 (length s) least, le-leb (length s) 25600 most, z, is) refl

@@ -5,6 +5,8 @@ use mathlib.Core.Bool.{Bool, true, false, cond}
 use mathlib.Core.List.{List, [], _∷_}
 use lib.Dec.{ltb, eqb}
 use lib.ListN.{length, getD}
+use Rattle.octet.specs.Number.{valueBE}
+use Rattle.octet.specs.Part.{part}
 use Rattle.key.specs.Number.{keyAt}
 use Rattle.kept.specs.Plain.{drops}
 use Rattle.kept.specs.Turned.{wrapped}
@@ -22,6 +24,11 @@ formOf own cache = cond (cacheForm own cache) (Good (heldIn own cache)) Bad
 unfoldable pub lowAt : List ℕ → ℕ → ℕ
 lowAt cache zero = 0
 lowAt cache (suc i) = suc (keyAt (100 * i) cache)
+
+-- the first word of the key before place i, which the loop over the places carries along; anything before the first
+abbrev pub Carried : List ℕ → ℕ → ℕ → Type 0
+Carried cache zero last = Unit {0}
+Carried cache (suc i) last = last ≡ valueBE 256 (part (100 * i) 8 cache)
 
 -- one place further
 abbrev pub further : Found → Found

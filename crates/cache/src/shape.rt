@@ -1,14 +1,15 @@
 // The form of the cache: used records first, keys strictly increasing, none the own key; the rest all zero.
 ghost use mathlib.Core.Path.{_≡_};
-ghost use Prim.Native.Nat.{_+_, _*_, _/_, _≤_};
+ghost use Prim.Native.Nat.{_+_, _-_, _*_, _/_, _≤_};
 ghost use lib.Dec.{leb};
 ghost use lib.ListN.{length};
+ghost use Rattle.octet.specs.Number.{valueBE};
 ghost use Rattle.octet.specs.Part.{part};
 ghost use Rattle.key.specs.Number.{keyAt};
 ghost use Rattle.record.specs.Record.{keyOf};
 ghost use Rattle.table.specs.Rows.{rows};
 ghost use Rattle.cache.specs.Form.{follows, leading};
-ghost use Rattle.cache.specs.Place.{formOf, lowAt};
+ghost use Rattle.cache.specs.Place.{formOf, lowAt, Carried};
 
 // Whether the cache is in form, and then how many records it holds.
 pub enum Formed {
@@ -16,27 +17,44 @@ pub enum Formed {
     Good(usize),
 }
 
-// Is the key at place i above the one before it?
-fn above_before(cache: &[u8], i: usize) -> bool
-    requires { ⌜ 100 * i + 100 ≤ length (now cache) ⌝ }
-    ensures { λ r. ⌜ r ≡ leb (lowAt (now (cache .entry)) i) (keyAt (100 * i) (now (cache .entry))) ⌝ }
+// The place before place i; the first is before itself.
+fn place_before(i: usize) -> usize
+    ensures { λ r. ⌜ r ≡ i - 1 ⌝ }
 {
     if i == 0 {
+        return 0;
+    }
+    i - 1
+}
+
+// Is the key at place i, which begins with a word, above the one before it, which began with the last? Mostly the words
+// say it.
+fn above_before(cache: &[u8], i: usize, word: u64, last: u64) -> bool
+    requires { ⌜ 100 * i + 100 ≤ length (now cache) ⌝ }
+    requires { ⌜ word ≡ valueBE 256 (part (100 * i) 8 (now cache)) ⌝ }
+    requires { ⌜ Carried (now cache) i last ⌝ }
+    ensures { λ r. ⌜ r ≡ leb (lowAt (now (cache .entry)) i) (keyAt (100 * i) (now (cache .entry))) ⌝ }
+{
+    if last < word {
         return true;
     }
-    let before = i - 1;
-    key::less_at(
+    let before = place_before(i);
+    if key::less_at(
         cache,
         record::RECORD_LEN * before,
         cache,
         record::RECORD_LEN * i,
-    )
+    ) {
+        return true;
+    }
+    i == 0
 }
 
-// Has place i a record that may stand after those before it?
-fn place_follows(own: &[u8], cache: &[u8], i: usize) -> bool
+// Has place i a record that may stand after those before it? The key before it began with the last word.
+fn place_follows(own: &[u8], cache: &[u8], i: usize, last: u64) -> bool
     requires { ⌜ 32 ≤ length (now own) ⌝ }
     requires { ⌜ 100 * i + 100 ≤ length (now cache) ⌝ }
+    requires { ⌜ Carried (now cache) i last ⌝ }
     ensures { λ r. ⌜ r ≡ follows (keyOf (now (own .entry))) (lowAt (now (cache .entry)) i)
         (part (100 * i) 100 (now (cache .entry))) ⌝ }
 {
@@ -44,24 +62,27 @@ fn place_follows(own: &[u8], cache: &[u8], i: usize) -> bool
     if !record::is_formed(cache, at) {
         return false;
     }
-    if !above_before(cache, i) {
+    let word = octet::read_u64(cache, at);
+    if !above_before(cache, i, word, last) {
         return false;
     }
     !own::is_own(own, cache, at)
 }
 
-// How many places, from the first, have records in order.
+// How many places, from the first, have records in order. The first word of each key is carried to the next place.
 fn count_held(own: &[u8], cache: &[u8]) -> usize
     requires { ⌜ 32 ≤ length (now own) ⌝ }
     ensures { λ r. ⌜ r
         ≡ leading (keyOf (now (own .entry))) 0 (rows 100 (length (now (cache .entry)) / 100) (now (cache .entry))) ⌝ }
 {
     let n = cache.len() / record::RECORD_LEN;
+    let mut last = 0;
     let mut i = 0;
     while i < n {
-        if !place_follows(own, cache, i) {
+        if !place_follows(own, cache, i, last) {
             return i;
         }
+        last = octet::read_u64(cache, record::RECORD_LEN * i);
         i += 1;
     }
     n

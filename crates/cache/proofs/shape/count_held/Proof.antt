@@ -4,40 +4,54 @@ use Prim.Native.Nat.{_+_, _-_, _/_, _≤_}
 use native.Mathlib.Nat.{zero-add}
 use lib.ListN.{length, drop}
 use borrow.Author.Tests.{not-true, not-false}
+use Rattle.octet.specs.Number.{valueBE}
+use Rattle.octet.specs.Part.{part}
 use Rattle.record.specs.Record.{keyOf}
 use Rattle.table.specs.Rows.{rows}
 use Rattle.cache.specs.Form.{leading}
-use Rattle.cache.specs.Place.{lowAt}
-use Rattle.cache.proofs.ShapeLaws.{count-more, count-stop, count-end}
+use Rattle.cache.specs.Place.{lowAt, Carried}
+use Rattle.cache.proofs.ShapeLaws.{carried-next, count-more, count-stop, count-end}
 use native.Mathlib.Omega.{arith}
 use Rattle.cache.proofs.shape.count_held.Statement.{statement}
 use Rattle.cache.proofs.shape.count_held.Tie as tie
 
 abbrev Inv-loop : tie.InvT-loop
-Inv-loop own cache n i₀ i =
+Inv-loop own cache n last₀ i₀ last i =
     (n ≡ length cache / 100)
     × (i ≤ n)
     × (leading (keyOf own) 0 (rows 100 n cache) ≡ i + leading (keyOf own) (lowAt cache i) (drop i (rows 100 n cache)))
+    × Carried cache i last
 
 abbrev μ-loop : tie.MeasureT-loop
-μ-loop own cache n i₀ i = n - i
+μ-loop own cache n last₀ i₀ last i = n - i
 
 loop-holds : tie.Need-loop-holds Inv-loop μ-loop
 unfolding lowAt
 loop-holds c =
-    let a = c .before .before .args in
-    (omega arith, omega arith, sym (zero-add (leading (keyOf (a .own .now)) 0 (rows 100 (length (a .cache .now) / 100) (a .cache .now)))))
+    let a = c .before .before .args in (
+      omega arith,
+      omega arith,
+      sym (zero-add (leading (keyOf (a .own .now)) 0 (rows 100 (length (a .cache .now) / 100) (a .cache .now)))),
+      tt,
+    )
 
 place-follows-requires : tie.Need-place-follows-requires Inv-loop μ-loop
-place-follows-requires c κs = omega arith
+place-follows-requires c κs =
+    let l = c .before in
+    let s = l .before .before .before in (omega (arith, s .pre), (omega arith, l .loop .inv .3))
 
 returns : tie.Need-returns Inv-loop μ-loop
 returns c =
-    let c3 = c .before .before .before in
-    let l = c3 in
+    let l = c .before .before .before in
     let a = l .before .before .before .args in
     sym (l .loop .inv .2 ∙ count-stop (keyOf (a .own .now)) (length (a .cache .now) / 100) (a .cache .now) (l .loop .i) (omega arith)
     (sym (c .before .place-follows .ensures) ∙ not-true _ (c .if1 .taken)))
+
+mul-read-u64 : tie.Need-mul-read-u64 Inv-loop μ-loop
+mul-read-u64 c = omega arith
+
+read-u64-requires : tie.Need-read-u64-requires Inv-loop μ-loop
+read-u64-requires c κs = omega arith
 
 add-i : tie.Need-add-i Inv-loop μ-loop
 add-i c = omega arith
@@ -47,13 +61,14 @@ loop-less c = omega arith
 
 loop-again : tie.Need-loop-again Inv-loop μ-loop
 loop-again c =
-    let c3 = c .before .before .before in
-    let l = c3 in
+    let tested = c .before in
+    let l = tested .before .before .before in
     let a = l .before .before .before .args in (
       omega arith,
       omega arith,
       l .loop .inv .2 ∙ count-more (keyOf (a .own .now)) (length (a .cache .now) / 100) (a .cache .now) (l .loop .i) (omega arith)
-          (sym (c .before .place-follows .ensures) ∙ not-false _ (c .if1 .left)),
+          (sym (tested .before .place-follows .ensures) ∙ not-false _ (tested .if1 .left)),
+      carried-next (a .cache .now) (l .loop .i) (c .read-u64 .result) (c .read-u64 .ensures),
     )
 
 returns-2 : tie.Need-returns-2 Inv-loop μ-loop
@@ -72,6 +87,8 @@ count-held-spec =
     loop-holds
     place-follows-requires
     returns
+    mul-read-u64
+    read-u64-requires
     add-i
     loop-less
     loop-again

@@ -3,7 +3,7 @@ use mathlib.Core.Path.{_≡_, refl, sym, ap, _∙_}
 use mathlib.Core.Bool.{true, false, not}
 use mathlib.Core.List.{List}
 use Prim.Native.Nat.{ℕ, _*_}
-use lib.Dec.{leb}
+use lib.Dec.{leb, eqb}
 use borrow.Author.Tests.{not-true, not-false}
 use Rattle.octet.specs.Part.{part}
 use Rattle.key.specs.Number.{keyAt}
@@ -11,6 +11,7 @@ use Rattle.record.specs.Record.{keyOf, recordForm}
 use Rattle.cache.specs.Form.{follows}
 use Rattle.cache.specs.Place.{lowAt}
 use Rattle.cache.proofs.FormLaws.{key-of-row}
+use native.Mathlib.Omega.{arith}
 use borrow.Author.Needs.{needs}
 use Rattle.cache.proofs.shape.place_follows.Statement.{statement}
 use Rattle.cache.proofs.shape.place_follows.Tie as tie
@@ -25,17 +26,6 @@ low s = lowAt (s .args .cache .now) (s .args .i)
 row-key : (s : tie.Start) → keyOf (row s) ≡ keyAt (100 * s .args .i) (s .args .cache .now)
 row-key s = key-of-row (100 * s .args .i) (s .args .cache .now)
 
--- where the comparison with the own key is made
-abbrev start : tie.After-is-own → tie.Start
-start m = m .before .before .before .before .before .before .before
-
--- the other tests have passed
-passed : (m : tie.After-is-own) → (recordForm (row (start m)) ≡ true) × (leb (low (start m)) (keyOf (row (start m))) ≡ true)
-passed m = (
-  sym (m .before .before .before .before .is-formed .ensures) ∙ not-false _ (m .before .before .before .if1 .left),
-  ap (leb (low (start m))) (row-key (start m)) ∙ sym (m .before .before .above-before .ensures) ∙ not-false _ (m .before .if2 .left),
-)
-
 mul-at : tie.Need-mul-at
 mul-at c = search needs
 
@@ -45,24 +35,29 @@ is-formed-requires c κs = search needs
 returns : tie.Need-returns
 unfolding follows
 returns c =
-    let c4 = c .before .before .before .before in
-    let s = c4 in
+    let s = c .before .before .before .before in
     let f : recordForm (row s) ≡ false = sym (c .before .is-formed .ensures) ∙ not-true _ (c .if1 .taken) in
     sym (rw f refl)
 
+read-u64-requires : tie.Need-read-u64-requires
+read-u64-requires c κs = search needs
+
 above-before-requires : tie.Need-above-before-requires
-above-before-requires c κs = search needs
+above-before-requires c κs =
+    let s = c .before .before .before .before .before in (omega (arith, s .pre .1 .0), (c .read-u64 .ensures, s .pre .1 .1))
+
+-- the record is in form
+formed : (m : tie.After-read-u64) → recordForm (row (m .before .before .before .before .before)) ≡ true
+formed m = sym (m .before .before .is-formed .ensures) ∙ not-false _ (m .before .if1 .left)
 
 returns-2 : tie.Need-returns-2
 unfolding follows
 returns-2 c =
-    let c3 = c .before .before .before in
-    let c6 = c3 .before .before .before in
-    let s = c6 in
-    let f : recordForm (row s) ≡ true = sym (c3 .is-formed .ensures) ∙ not-false _ (c .before .before .if1 .left) in
-    let l : leb (low s) (keyOf (row s)) ≡ false = ap (leb (low s)) (row-key s) ∙ sym (c .before .above-before .ensures) ∙ not-true _
-    (c .if2 .taken) in
-    sym (rw (f, l) refl)
+    let read = c .before .before in
+    let s = read .before .before .before .before .before in
+    let l : leb (low s) (keyOf (row s)) ≡ false = ap (leb (low s)) (row-key s) ∙ sym (c .before .above-before .ensures)
+    ∙ not-true _ (c .if2 .taken) in
+    sym (rw (formed read, l) refl)
 
 is-own-requires : tie.Need-is-own-requires
 is-own-requires c κs = search needs
@@ -70,9 +65,12 @@ is-own-requires c κs = search needs
 returns-3 : tie.Need-returns-3
 unfolding follows
 returns-3 c =
-    let s = start c in
-    let p = passed c in
-    ap not (c .is-own .ensures) ∙ sym (rw (p .0, p .1, row-key s) refl)
+    let tested = c .before .before in
+    let read = tested .before in
+    let s = read .before .before .before .before .before in
+    let l : leb (low s) (keyOf (row s)) ≡ true = ap (leb (low s)) (row-key s) ∙ sym (tested .above-before .ensures)
+    ∙ not-false _ (c .before .if2 .left) in
+    ap not (c .is-own .ensures) ∙ sym (rw (formed read, l, row-key s) refl)
 
 pub place-follows-spec : {M : Type 1} → statement M
 place-follows-spec =
@@ -81,6 +79,7 @@ place-follows-spec =
     mul-at
     is-formed-requires
     returns
+    read-u64-requires
     above-before-requires
     returns-2
     is-own-requires

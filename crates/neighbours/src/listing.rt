@@ -40,7 +40,7 @@ fn keys_down(cache: &[u8], used: usize, from: usize, n: usize, out: &mut [u8])
     let mut i = 0;
     while i < n {
         let start = record::RECORD_LEN * cache::wrap(used, from + (used - (i + 1)));
-        runs::copy_to(out, 32 * i, &cache[start..start + 32]);
+        runs::copy_32(out, 32 * i, cache, start);
         i += 1;
     }
 }
@@ -54,7 +54,7 @@ fn keys_up(cache: &[u8], used: usize, from: usize, n: usize, out: &mut [u8], at:
     let mut i = 0;
     while i < n {
         let start = record::RECORD_LEN * cache::wrap(used, from + i);
-        runs::copy_to(out, at + 32 * i, &cache[start..start + 32]);
+        runs::copy_32(out, at + 32 * i, cache, start);
         i += 1;
     }
 }

@@ -5,7 +5,7 @@ use Prim.Native.Nat.{ℕ, _+_, _-_, _*_, _≤_}
 use lib.ListN.{length, take, drop}
 use lib.Seq.{take-all}
 use Rattle.octet.specs.Number.{Bytes}
-use Rattle.octet.specs.Part.{splice}
+use Rattle.octet.specs.Part.{part, splice}
 use Rattle.octet.proofs.PartLaws.{splice-nil}
 use Rattle.table.specs.Rows.{rows}
 use Rattle.kept.specs.Turned.{turned}
@@ -37,26 +37,14 @@ wrap-requires c κs = omega arith
 mul-start : tie.Need-mul-start Inv-loop μ-loop
 mul-start c = omega arith
 
-mul-copy-to : tie.Need-mul-copy-to Inv-loop μ-loop
-mul-copy-to c = omega arith
+mul-copy-32 : tie.Need-mul-copy-32 Inv-loop μ-loop
+mul-copy-32 c = omega arith
 
-add-copy-to : tie.Need-add-copy-to Inv-loop μ-loop
-add-copy-to c = omega arith
+add-copy-32 : tie.Need-add-copy-32 Inv-loop μ-loop
+add-copy-32 c = omega arith
 
-add-copy-to-2 : tie.Need-add-copy-to-2 Inv-loop μ-loop
-add-copy-to-2 c = omega arith
-
-sub-copy-to : tie.Need-sub-copy-to Inv-loop μ-loop
-sub-copy-to c = omega arith
-
-part-copy-to-start : tie.Need-part-copy-to-start Inv-loop μ-loop
-part-copy-to-start c = omega arith
-
-part-copy-to-end : tie.Need-part-copy-to-end Inv-loop μ-loop
-part-copy-to-end c = omega arith
-
-copy-to-requires : tie.Need-copy-to-requires Inv-loop μ-loop
-copy-to-requires c κs = omega arith
+copy-32-requires : tie.Need-copy-32-requires Inv-loop μ-loop
+copy-32-requires c κs = omega arith
 
 add-i : tie.Need-add-i Inv-loop μ-loop
 add-i c = omega arith
@@ -66,20 +54,20 @@ loop-less c = omega arith
 
 loop-again : tie.Need-loop-again Inv-loop μ-loop
 loop-again c =
-    let at-wrap = c .before .before .before .before .before in
+    let at-wrap = c .before .before .before .before in
     let l = at-wrap .before .before in
     let a = l .before .before .before .args in
     let i = l .loop .i in
     let s = a .cache .now in
     let p = 100 * at-wrap .wrap .result in
-    let e : p + 32 - p ≡ 32 = omega arith in
     let inside : p + 32 ≤ length s = omega (arith, at-wrap .wrap .ensures .1) in
     let bytes : Bytes s = λ j. omega (arith, l .before .before .shared-slice-known .given j) in
-    let row = ap (λ (k : ℕ). take k (drop p s)) e ∙ key-digits p s bytes inside in (
+    let row = key-digits p s bytes inside in (
       omega arith,
-      omega (arith, c .before .before .copy-to .kept .0, l .loop .inv .1),
-      c .before .before .copy-to .ensures
-          ∙ write-turn (a .at) i _ (take (a .n) (turned (a .from) (keysOf (rows 100 (a .used) (a .cache .now))))) _ (a .out .now) (l .loop .out) (omega
+      omega (arith, c .before .before .copy-32 .kept .0, l .loop .inv .1),
+      c .before .before .copy-32 .ensures
+          ∙ write-turn (a .at) i _ (take (a .n) (turned (a .from) (keysOf (rows 100 (a .used) (a .cache .now))))) _ (a .out .now) (l .loop .out)
+          (omega
           (arith, up-length (a .used) s (a .from) (a .n) (omega arith)))
           (up-key (a .used) s (a .from) (a .n) i (omega arith) (omega arith) (omega arith)
           ∙ ap (λ (k : ℕ). keyAt (100 * k) s) (sym (at-wrap .wrap .ensures .0))) row (l .loop .inv .2) (omega arith),
@@ -110,13 +98,9 @@ keys-up-spec =
     add-wrap
     wrap-requires
     mul-start
-    mul-copy-to
-    add-copy-to
-    add-copy-to-2
-    sub-copy-to
-    part-copy-to-start
-    part-copy-to-end
-    copy-to-requires
+    mul-copy-32
+    add-copy-32
+    copy-32-requires
     add-i
     loop-less
     loop-again

@@ -2,3 +2,4 @@
 pub mod FormedLaws
 pub mod CallLaws
 pub mod Coincide
+pub mod HeadLaws

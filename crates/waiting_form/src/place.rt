@@ -1,18 +1,43 @@
 // The test of one place.
 ghost use mathlib.Core.Path.{_≡_};
+ghost use mathlib.Core.Bool.{_&&_};
 ghost use Prim.Native.Nat.{_≤_};
-ghost use lib.ListN.{length};
+ghost use lib.Dec.{leb, eqb};
+ghost use lib.ListN.{length, getD};
+ghost use Rattle.octet.specs.Part.{allZero};
 ghost use Rattle.record.specs.Record.{keyOf};
 ghost use Rattle.waiting.specs.Form.{placeForm};
+ghost use Rattle.waiting.specs.Place.{triesOf, placeRecord};
+
+// Is the record of a place all zero?
+fn zero_record(place: &[u8]) -> bool
+    requires { ⌜ length (now place) ≡ 140 ⌝ }
+    ensures { λ r. ⌜ r ≡ allZero (placeRecord (now (place .entry))) ⌝ }
+{
+    let most = octet::zero_block(place, 40);
+    let next = octet::zero_pair(place, 104);
+    let last = octet::zero_pair(place, 120);
+    let rest = octet::read_u32_le(place, 136);
+    most & (next & (last & (rest == 0)))
+}
+
+// Has a place at most two tries left, and are the two bytes behind them zero? As one number with the kind below it.
+fn is_fresh(place: &[u8]) -> bool
+    requires { ⌜ length (now place) ≡ 140 ⌝ }
+    ensures { λ r. ⌜ r ≡ leb (triesOf (now (place .entry))) 2 && eqb (getD (now (place .entry)) 6 0) 0
+        && eqb (getD (now (place .entry)) 7 0) 0 ⌝ }
+{
+    octet::read_u32_le(place, 4) / 256 <= 2
+}
 
 // Is a used place in form?
 pub(crate) fn place_formed(own: &[u8], place: &[u8]) -> bool
     requires { ⌜ (32 ≤ length (now own)) × (length (now place) ≡ 140) ⌝ }
     ensures { λ r. ⌜ r ≡ placeForm (keyOf (now (own .entry))) (now (place .entry)) ⌝ }
 {
-    let head = (place[5] <= 2) & (place[6] == 0) & (place[7] == 0);
+    let head = is_fresh(place);
     if place[4] == 1 {
-        return head & octet::is_zero(&place[40..waiting::PLACE_LEN]);
+        return head & zero_record(place);
     }
     if place[4] != 2 {
         return false;

@@ -1,4 +1,6 @@
 -- `waiting_form::place::place_formed` meets its contract: its tests are those of the definition for the place's kind. Assumes nothing.
+use mathlib.Core.Path.{ap, _∙_}
+use mathlib.Core.Bool.{Bool, not, _&&_}
 use borrow.Author.Tests.{ne-eqb}
 use Rattle.record.specs.Record.{keyOf}
 use Rattle.waiting.specs.Place.{kindOf}
@@ -7,41 +9,31 @@ use borrow.Author.Needs.{needs}
 use Rattle.waiting_form.proofs.place.place_formed.Statement.{statement}
 use Rattle.waiting_form.proofs.place.place_formed.Tie as tie
 
-shared-slice-read-head : tie.Need-shared-slice-read-head
-shared-slice-read-head c = search needs
+abbrev start : tie.After-is-fresh → tie.Start
+start h = h .before .before .before
 
-shared-slice-read-head-2 : tie.Need-shared-slice-read-head-2
-shared-slice-read-head-2 c = search needs
-
-shared-slice-read-head-3 : tie.Need-shared-slice-read-head-3
-shared-slice-read-head-3 c = search needs
+is-fresh-requires : tie.Need-is-fresh-requires
+is-fresh-requires c κs = search needs
 
 shared-slice-read-if1 : tie.Need-shared-slice-read-if1
 shared-slice-read-if1 c = search needs
 
-sub-is-zero : tie.Need-sub-is-zero
-sub-is-zero c = search needs
-
-part-is-zero-start : tie.Need-part-is-zero-start
-part-is-zero-start c = search needs
-
-part-is-zero-end : tie.Need-part-is-zero-end
-part-is-zero-end c = search needs
-
-is-zero-requires : tie.Need-is-zero-requires
-is-zero-requires c κs = search needs
+zero-record-requires : tie.Need-zero-record-requires
+zero-record-requires c κs = search needs
 
 returns : tie.Need-returns
 returns c =
-    let a = c .before .before .before .before .before .before .before .before .before .args in
-    flood-is (keyOf (a .own .now)) (a .place .now) _ (c .before .before .if1 .taken) (c .is-zero .ensures)
+    let h = c .before .before .before in
+    let a = start h .args in
+    ap (λ (t : Bool). t && c .zero-record .result) (h .is-fresh .ensures)
+    ∙ flood-is (keyOf (a .own .now)) (a .place .now) _ (c .before .if1 .taken) (c .zero-record .ensures)
 
 shared-slice-read-if2 : tie.Need-shared-slice-read-if2
 shared-slice-read-if2 c = search needs
 
 returns-2 : tie.Need-returns-2
 returns-2 c =
-    let a = c .before .before .before .before .before .before .before .before .before .args in
+    let a = start (c .before .before .before .before) .args in
     let kind = kindOf (a .place .now) in
     neither-is (keyOf (a .own .now)) (a .place .now) (ne-eqb kind 1 (c .before .before .if1 .left)) (ne-eqb kind 2 (c .if2 .taken))
 
@@ -56,22 +48,20 @@ is-own-requires c κs = search needs
 
 returns-3 : tie.Need-returns-3
 returns-3 c =
-    let a = c .before .before .before .before .before .before .before .before .before .before .before .before .args in
-    inquiry-is (keyOf (a .own .now)) (a .place .now) (c .before .before .before .if2 .left) (c .before .before .is-formed .ensures)
-    (c .before .same-at .ensures) (c .is-own .ensures)
+    let kind = c .before .before .before in
+    let h = kind .before .before .before .before in
+    let a = start h .args in
+    ap (λ (t : Bool). t && (c .before .before .is-formed .result && c .before .same-at .result && not (c .is-own .result))) (h .is-fresh .ensures)
+    ∙ inquiry-is (keyOf (a .own .now)) (a .place .now) (kind .if2 .left) (c .before .before .is-formed .ensures) (c .before .same-at .ensures)
+    (c .is-own .ensures)
 
 pub place-formed-spec : {M : Type 1} → statement M
 place-formed-spec =
     tie.close
     (tie.spec
-    shared-slice-read-head
-    shared-slice-read-head-2
-    shared-slice-read-head-3
+    is-fresh-requires
     shared-slice-read-if1
-    sub-is-zero
-    part-is-zero-start
-    part-is-zero-end
-    is-zero-requires
+    zero-record-requires
     returns
     shared-slice-read-if2
     returns-2

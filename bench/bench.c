@@ -138,7 +138,7 @@ static void make(const struct side *by)
     memset(left.answer, 0, sizeof left.answer);
     if (scene.call == LOOK) {
         begin();
-        struct gauge_look l = call_look(by->look, &lent);
+        struct gauge_look_answer l = call_look(by->look, &lent);
         end();
         memcpy(left.answer, &l, sizeof l);
     } else {

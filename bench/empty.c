@@ -8,8 +8,8 @@ struct gauge_answer empty_answer(void)
     return none;
 }
 
-struct gauge_look empty_look(void)
+struct gauge_look_answer empty_look(void)
 {
-    static const struct gauge_look nothing;
+    static const struct gauge_look_answer nothing;
     return nothing;
 }

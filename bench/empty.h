@@ -5,6 +5,6 @@
 #include "gauge.h"
 
 struct gauge_answer empty_answer(void);
-struct gauge_look empty_look(void);
+struct gauge_look_answer empty_look(void);
 
 #endif

@@ -156,7 +156,7 @@ static size_t waiting_form(const uint8_t *own, const uint8_t *waiting, size_t le
 /* Reading. A field of known length is told by its first four bytes at once. */
 
 struct message {
-    struct gauge_look seen;
+    struct gauge_look_answer seen;
     uint32_t validate_at;
     bool d, n;
 };
@@ -225,7 +225,7 @@ static bool signatures(struct place *p)
     return optional(p, 0x0080) && optional(p, 0x00A5) && optional(p, 0x00A6);
 }
 
-static bool optional_entry(struct place *p, struct gauge_look *m)
+static bool optional_entry(struct place *p, struct gauge_look_answer *m)
 {
     if (!here(p, 0x009A))
         return true;
@@ -254,7 +254,7 @@ static bool endpoints(struct place *p)
     return array(p, 0x009E, 0x009D, 0x12, 1, 22);
 }
 
-static inline bool acked(struct place *p, struct gauge_look *m)
+static inline bool acked(struct place *p, struct gauge_look_answer *m)
 {
     uint32_t at;
     if (!fixed(p, 0x00180008, &at))
@@ -263,23 +263,23 @@ static inline bool acked(struct place *p, struct gauge_look *m)
     return true;
 }
 
-static inline bool nonce(struct place *p, struct gauge_look *m, uint32_t head)
+static inline bool nonce(struct place *p, struct gauge_look_answer *m, uint32_t head)
 {
     m->nonce_len = (head & 0xFFFF) - 4;
     return fixed(p, head, &m->nonce_at);
 }
 
-static bool solicit(struct place *p, struct gauge_look *m)
+static bool solicit(struct place *p, struct gauge_look_answer *m)
 {
     return optional_entry(p, m) && nonce(p, m, 0x00920018);
 }
 
-static bool advertise(struct place *p, struct gauge_look *m)
+static bool advertise(struct place *p, struct gauge_look_answer *m)
 {
     return acked(p, m) && keys(p) && nonce(p, m, 0x00920018);
 }
 
-static bool request(struct place *p, struct gauge_look *m)
+static bool request(struct place *p, struct gauge_look_answer *m)
 {
     uint32_t at;
     if (here(p, 0x0040) && !(fixed(p, 0x00400006, &at) && skip(p, 2)))
@@ -313,7 +313,7 @@ static bool inquire(struct place *p, struct message *m)
 }
 
 /* An AUTHORITY gives 7 where it is not its whole buffer, and 6 where a field is bad. */
-static uint32_t authority(struct place *p, struct gauge_look *m)
+static uint32_t authority(struct place *p, struct gauge_look_answer *m)
 {
     uint32_t at;
     if (!acked(p, m) || !fixed(p, 0x00980008, &at))
@@ -918,12 +918,12 @@ struct gauge_answer CALL(neighbours)(const uint8_t *own, size_t own_len, const u
     return answer(0, first, second);
 }
 
-struct gauge_look CALL(look)(uint8_t major, const uint8_t *datagram, size_t datagram_len)
+struct gauge_look_answer CALL(look)(uint8_t major, const uint8_t *datagram, size_t datagram_len)
 {
     struct message m;
     uint32_t number = read_message(major, datagram, datagram_len, &m);
     if (number != 0) {
-        struct gauge_look refused = {number, 0, 0, 0, 0, 0, 0, 0, 0, 0, 0, 0};
+        struct gauge_look_answer refused = {number, 0, 0, 0, 0, 0, 0, 0, 0, 0, 0, 0};
         return refused;
     }
     return m.seen;

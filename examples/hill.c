@@ -10,13 +10,14 @@
  * are made up here. Pond n is n / 4 metres deep, or has fault 700 + n where n ends with 5; 40 n litres came in, and 35 n went out, or 80 n where n leaves
  * 5 when divided by 8. The run ends with what the last reading of each pond says.
  *
- * The gauge reads all datagrams, by gauge_look too: nothing here reads one. Three messages are written here, for which the gauge has no call: the first
- * FLOOD, the revocation and the LOOKUP. The calls of one gauge are written to target/hill.trace, and their answers to target/hill.answers
- * (gauge_trace.h); the ponds' names, for ./shown, to target/hill.names.
+ * The gauge reads all datagrams, by gauge_look too, and gauge_host.h writes those for which it has no call, the first FLOOD, the revocation and the
+ * LOOKUP: no byte of one is laid out here. The calls of one gauge are written to target/hill.trace, and their answers to target/hill.answers
+ * (gauge_trace.h); the ponds' names, for bin/shown, to target/hill.names; the last reading of each pond on the hill, for bin/ponds, to target/hill.readings,
+ * and the names in the same order to target/hill.readings.names.
  *
  * What a CPA is made of is no matter of the gauge. Here it is one zero byte, and a revoke CPA is the key; both are believed. Real ones are signed, and
  * hold the nonce of the INQUIRE. Random numbers here come in the same order at each run, so that each run is the same. */
-#include "gauge.h"
+#include "gauge_host.h"
 #include "gauge_trace.h"
 #include <stdarg.h>
 #include <stdbool.h>
@@ -24,8 +25,8 @@
 #include <stdlib.h>
 #include <string.h>
 
-#define MAJOR 6
-#define MINOR 101
+#define MAJOR GAUGE_DRT_MAJOR
+#define MINOR GAUGE_DRT_MINOR
 #define PONDS 61
 #define NEW 62      /* the gauge that gets another's address */
 #define RECORDED 34 /* the gauge whose calls are recorded */
@@ -50,11 +51,9 @@ struct pond {
     bool on;                 /* it works */
     bool listed;             /* it belongs into its neighbours' lists, working or not: it was neither revoked nor replaced */
     unsigned address, known; /* its own address, and the one that it knows from the start */
-    uint8_t own[GAUGE_RECORD_LEN];
-    uint8_t cache[GAUGE_CACHE_LEN(GAUGE_TRACE_HELD)];
-    uint8_t waiting[GAUGE_WAITING_LEN];
+    struct gauge_lent lent;  /* all that the calls are lent, .. */
+    uint8_t cache[GAUGE_CACHE_LEN(GAUGE_TRACE_HELD)]; /* .. with this cache */
     unsigned age;            /* seconds that it works */
-    uint32_t id;             /* the next one */
     struct {
         uint32_t id;
         struct datagram what;
@@ -149,91 +148,40 @@ static void forget(struct pond *p, uint32_t id)
             p->sent[i].what.len = 0;
 }
 
-/* What the gauge has no call for: the three messages that are written here. */
+/* What the gauge has no call for: three messages that gauge_host.h writes. The first is our own record to a gauge that is not held. */
 
-static void add(struct datagram *d, const void *bytes, size_t len)
-{
-    memcpy(d->bytes + d->len, bytes, len);
-    d->len += len;
-}
-
-static struct datagram message(struct pond *p, uint8_t type)
-{
-    uint8_t header[] = {0x00, 0x10, 0x00, 0x0C, 0x51, MAJOR, MINOR, type, 0, 0, 0, 0};
-    struct datagram d = {0};
-    for (int i = 0; i < 4; i++)
-        header[8 + i] = (uint8_t)(p->id >> (24 - 8 * i));
-    p->id++;
-    add(&d, header, sizeof header);
-    return d;
-}
-
-/* Controls with D, so that no ACK comes, and no key to validate. */
-static struct datagram flood_message(struct pond *p)
-{
-    static const uint8_t no_key[GAUGE_KEY_LEN];
-    struct datagram d = message(p, GAUGE_FLOOD);
-    add(&d, "\x00\x43\x00\x07\x00\x01\x00\x00" "\x00\x39\x00\x24", 12);
-    add(&d, no_key, sizeof no_key);
-    return d;
-}
-
-/* The own record to a gauge that is not held, for which gauge_send would give GAUGE_NOT_OURS. */
 static void send_first_flood(struct pond *p, unsigned to)
 {
-    static const uint8_t versions[] = {MAJOR, MINOR};
-    struct datagram d = flood_message(p);
-    add(&d, "\x00\x9A\x00\x3A", 4); /* route entry */
-    add(&d, p->own + GAUGE_RECORD_KEY, GAUGE_KEY_LEN);
-    add(&d, versions, sizeof versions);
-    add(&d, p->own + GAUGE_RECORD_PORT, 2);
-    add(&d, "\x00\x01", 2); /* flags, one address */
-    add(&d, p->own + GAUGE_RECORD_ADDRESSES, GAUGE_ADDRESS_LEN);
-    add(&d, "\x00\x00", 2); /* padding up to a multiple of 4 */
-    send(p, to, d.bytes, d.len);
+    uint8_t flood[GAUGE_SEND_LEN];
+    send(p, to, flood, gauge_first_flood(&p->lent, flood));
 }
 
 static void send_revocation(struct pond *p, unsigned to, const uint8_t *key)
 {
-    struct datagram d = flood_message(p);
-    add(&d, "\x00\x9C\x00\x24", 4); /* revoke CPA */
-    add(&d, key, GAUGE_KEY_LEN);
-    send(p, to, d.bytes, d.len);
+    uint8_t revocation[GAUGE_DATAGRAM_MOST];
+    send(p, to, revocation, gauge_revocation(&p->lent, key, GAUGE_KEY_LEN, revocation));
 }
 
 static void send_lookup(struct pond *p, unsigned to, const uint8_t *target)
 {
-    static const uint8_t no_key[GAUGE_KEY_LEN];
-    struct datagram d = message(p, GAUGE_LOOKUP);
-    add(&d, "\x00\x45\x00\x0C\x00\x00\x00\x00\x00\x00\x00\x00" "\x00\x38\x00\x24", 16); /* controls, target key */
-    add(&d, target, GAUGE_KEY_LEN);
-    add(&d, "\x00\x39\x00\x24", 4); /* validate key */
-    add(&d, no_key, sizeof no_key);
-    add(&d, "\x00\x9E\x00\x1E\x00\x01\x00\x1A\x00\x9D\x00\x12", 12); /* the path: one endpoint, the own */
-    add(&d, p->own + GAUGE_RECORD_PORT, 2);
-    add(&d, p->own + GAUGE_RECORD_ADDRESSES, GAUGE_ADDRESS_LEN);
-    send(p, to, d.bytes, d.len);
+    uint8_t lookup[GAUGE_LOOKUP_LEN];
+    send(p, to, lookup, gauge_lookup(&p->lent, target, lookup));
 }
-
-/* The records held: how many, and the i-th. */
 
 static const uint8_t *record(const struct pond *p, size_t i)
 {
-    return p->cache + GAUGE_RECORD_LEN * i;
+    return gauge_lent_record(&p->lent, i);
 }
 
 static uint32_t held(const struct pond *p)
 {
-    uint32_t n = 0;
-    while (n < GAUGE_TRACE_HELD && record(p, n)[GAUGE_RECORD_COUNT] != 0)
-        n++;
-    return n;
+    return gauge_lent_held(&p->lent);
 }
 
 /* The neighbour list. */
 static struct gauge_answer neighbours(const struct pond *p, uint8_t *keys)
 {
-    struct gauge_answer a = gauge_neighbours(p->own, sizeof p->own, p->cache, sizeof p->cache, keys, GAUGE_LIST_LEN);
+    struct gauge_answer a = gauge_neighbours(p->lent.own, sizeof p->lent.own, p->cache, sizeof p->cache, keys, GAUGE_LIST_LEN);
     if (a.number != GAUGE_OK)
         stop("pond %u: gauge_neighbours gave %u\n", number_of(p), a.number);
     return a;
@@ -270,7 +218,7 @@ static void send_authority(const struct pond *p, unsigned to, const uint8_t *byt
 {
     uint8_t output[GAUGE_DATAGRAM_MOST];
     struct gauge_reading r = reading_of(number_of(p));
-    struct gauge_carry c = gauge_carry(MAJOR, bytes, len, r.kind, r.measure, r.litres_in, r.litres_out, output, sizeof output);
+    struct gauge_carry_answer c = gauge_lent_carry(&p->lent, bytes, len, &r, output, sizeof output);
     if (c.number != GAUGE_OK || c.reading != GAUGE_READING_OK)
         stop("pond %u: gauge_carry gave %u and %u\n", number_of(p), c.number, c.reading);
     send(p, to, output, c.length);
@@ -290,11 +238,11 @@ static void take_reading(const struct datagram *d)
 /* A datagram arrives. */
 
 /* The verdict on its CPA, and the key that it is good for: of an AUTHORITY that of the sender, of a revocation the one in it. */
-static uint32_t judge(const struct datagram *d, const struct gauge_look *seen, uint8_t *key)
+static uint32_t judge(const struct datagram *d, const struct gauge_look_answer *seen, uint8_t *key)
 {
     memset(key, 0, GAUGE_KEY_LEN);
     if (seen->kind == GAUGE_AUTHORITY && seen->cpa_len == sizeof cpa && d->bytes[seen->cpa_at] == cpa[0])
-        memcpy(key, ponds[at[d->from]].own + GAUGE_RECORD_KEY, GAUGE_KEY_LEN);
+        memcpy(key, ponds[at[d->from]].lent.own + GAUGE_RECORD_KEY, GAUGE_KEY_LEN);
     else if (seen->kind == GAUGE_FLOOD && seen->cpa_len == GAUGE_KEY_LEN)
         memcpy(key, d->bytes + seen->cpa_at, GAUGE_KEY_LEN);
     else
@@ -303,7 +251,7 @@ static uint32_t judge(const struct datagram *d, const struct gauge_look *seen, u
 }
 
 /* ACK and AUTHORITY go to the sender; an INQUIRE goes to the gauge that the FLOOD told of, and is kept. */
-static void send_answer(struct pond *p, const struct datagram *d, const struct gauge_look *seen, const uint8_t *bytes, size_t len)
+static void send_answer(struct pond *p, const struct datagram *d, const struct gauge_look_answer *seen, const uint8_t *bytes, size_t len)
 {
     uint32_t kind = len == 0 ? 0 : gauge_look(MAJOR, bytes, len).kind;
     if (kind == GAUGE_INQUIRE)
@@ -315,7 +263,7 @@ static void send_answer(struct pond *p, const struct datagram *d, const struct g
 }
 
 /* The gauge has accepted a datagram: what was answered by it is forgotten, its reading taken, and a revocation passed on. */
-static void accepted(struct pond *p, const struct datagram *d, const struct gauge_look *seen, const uint8_t *key, uint32_t held_before)
+static void accepted(struct pond *p, const struct datagram *d, const struct gauge_look_answer *seen, const uint8_t *key, uint32_t held_before)
 {
     if (seen->kind == GAUGE_ACK || seen->kind == GAUGE_AUTHORITY)
         forget(p, seen->acked);
@@ -329,33 +277,33 @@ static void accepted(struct pond *p, const struct datagram *d, const struct gaug
 
 static void arrives(struct pond *p, const struct datagram *d)
 {
-    uint8_t output[GAUGE_OUTPUT_LEN], nonce[GAUGE_NONCE_LEN], key[GAUGE_KEY_LEN];
-    struct gauge_look seen = gauge_look(MAJOR, d->bytes, d->len);
-    uint32_t verdict = judge(d, &seen, key), held_before = held(p);
-    random_bytes(nonce, sizeof nonce);
-    struct gauge_answer a = gauge_receive(p->own, sizeof p->own, cpa, sizeof cpa, p->cache, sizeof p->cache, p->waiting, sizeof p->waiting, MAJOR, MINOR,
-                                          p->id, nonce, sizeof nonce, verdict, key, sizeof key, d->bytes, d->len, output, sizeof output);
+    struct gauge_lent *l = &p->lent;
+    uint8_t key[GAUGE_KEY_LEN];
+    struct gauge_look_answer seen = gauge_lent_look(l, d->bytes, d->len);
+    uint32_t verdict = judge(d, &seen, key), held_before = held(p), id = l->id;
+    random_bytes(l->nonce, sizeof l->nonce);
+    gauge_lent_verdict(l, verdict, key);
+    struct gauge_answer a = gauge_lent_receive(l, d->bytes, d->len);
     if (p->trace != NULL)
-        gauge_trace_receive(p->trace, a.number, p->id, nonce, verdict, key, d->bytes, d->len);
-    p->id += 2; /* a receive may use up two */
+        gauge_trace_receive(p->trace, a.number, id, l->nonce, verdict, key, d->bytes, d->len);
     switch (a.number) {
     case GAUGE_OK:
         accepted(p, d, &seen, key, held_before);
-        send_answer(p, d, &seen, output, a.first);
-        send_answer(p, d, &seen, output + a.first, a.second);
+        send_answer(p, d, &seen, l->output, a.first);
+        send_answer(p, d, &seen, l->output + a.first, a.second);
         break;
     case GAUGE_STRAY:    /* an answer for the second time, or too late */
     case GAUGE_NOT_OURS: /* somebody inquires about the gauge that had our address */
     case GAUGE_FULL:     /* too much waits: the sender will try again */
         break;
-    default: stop("pond %u: gauge_receive gave %u\n", number_of(p), a.number);
+    default: stop("pond %u: gauge_receive gave %u, %s\n", number_of(p), a.number, gauge_number_text(a.number));
     }
 }
 
 /* The office has no gauge. What it gets is the answer to its LOOKUP, whose route entry is the closest record; its key tells the pond. */
 static void arrives_at_office(const struct datagram *d)
 {
-    struct gauge_look seen = gauge_look(MAJOR, d->bytes, d->len);
+    struct gauge_look_answer seen = gauge_look(MAJOR, d->bytes, d->len);
     if (seen.number != GAUGE_OK || seen.kind != GAUGE_AUTHORITY || seen.entry_len == 0)
         stop("the office gets something else than it asked for\n");
     closest = d->bytes[seen.entry_at + GAUGE_ENTRY_KEY] / APART;
@@ -384,18 +332,14 @@ static void radio(void)
 /* What the tick lists is sent again; what is kept and not listed is forgotten. */
 static void tick(struct pond *p)
 {
-    uint8_t ids[GAUGE_TICK_LEN];
-    struct gauge_answer a = gauge_tick(p->own, sizeof p->own, p->waiting, sizeof p->waiting, ids, sizeof ids);
+    struct gauge_answer a = gauge_lent_tick(&p->lent);
     if (p->trace != NULL)
         gauge_trace_tick(p->trace, a.number);
     if (a.number != GAUGE_OK)
         stop("pond %u: gauge_tick gave %u\n", number_of(p), a.number);
     for (size_t i = 0; i < SENT; i++) {
-        bool listed = false;
-        for (const uint8_t *id = ids; id < ids + 4 * a.first; id += 4)
-            listed |= (id[0] | (uint32_t)id[1] << 8 | (uint32_t)id[2] << 16 | (uint32_t)id[3] << 24) == p->sent[i].id;
         struct datagram *d = &p->sent[i].what;
-        if (!listed)
+        if (!gauge_tick_lists(p->lent.output, a.first, p->sent[i].id))
             d->len = 0;
         if (d->len > 0)
             send(p, d->to, d->bytes, d->len);
@@ -405,16 +349,14 @@ static void tick(struct pond *p)
 /* A record goes to a gauge that we hold: one that we hold with a key near to that gauge's, round the ring, or else our own. */
 static void flood(struct pond *p)
 {
-    uint8_t output[GAUGE_OUTPUT_LEN];
     uint32_t n = held(p), to = dice(n), near = (to + dice(2 * SIDE + 1) + SIDE * (n - 1)) % n; /* SIDE less, modulo n */
-    const uint8_t *neighbour = record(p, to), *what = near == to ? p->own : record(p, near);
-    struct gauge_answer a = gauge_send(p->own, sizeof p->own, p->cache, sizeof p->cache, p->waiting, sizeof p->waiting, MAJOR, MINOR, p->id,
-                                       neighbour + GAUGE_RECORD_KEY, GAUGE_KEY_LEN, what + GAUGE_RECORD_KEY, GAUGE_KEY_LEN, output, sizeof output);
+    const uint8_t *neighbour = record(p, to), *what = near == to ? p->lent.own : record(p, near);
+    uint32_t id = p->lent.id;
+    struct gauge_answer a = gauge_lent_send(&p->lent, neighbour + GAUGE_RECORD_KEY, what + GAUGE_RECORD_KEY);
     if (p->trace != NULL)
-        gauge_trace_send(p->trace, a.number, p->id, neighbour + GAUGE_RECORD_KEY, what + GAUGE_RECORD_KEY);
-    p->id++;
+        gauge_trace_send(p->trace, a.number, id, neighbour + GAUGE_RECORD_KEY, what + GAUGE_RECORD_KEY);
     if (a.number == GAUGE_OK)
-        send_and_keep(p, address_at(neighbour + GAUGE_RECORD_ADDRESSES), output, a.first);
+        send_and_keep(p, address_at(neighbour + GAUGE_RECORD_ADDRESSES), p->lent.output, a.first);
     else if (a.number != GAUGE_FULL) /* too much waits: later */
         stop("pond %u: gauge_send gave %u\n", number_of(p), a.number);
 }
@@ -457,8 +399,8 @@ static bool is_right(const struct pond *p)
     for (size_t i = 0; i < SIDE; i++) {
         down = next(down, -1);
         up = next(up, 1);
-        memcpy(truth + GAUGE_KEY_LEN * i, down->own + GAUGE_RECORD_KEY, GAUGE_KEY_LEN);
-        memcpy(truth + GAUGE_KEY_LEN * (SIDE + i), up->own + GAUGE_RECORD_KEY, GAUGE_KEY_LEN);
+        memcpy(truth + GAUGE_KEY_LEN * i, down->lent.own + GAUGE_RECORD_KEY, GAUGE_KEY_LEN);
+        memcpy(truth + GAUGE_KEY_LEN * (SIDE + i), up->lent.own + GAUGE_RECORD_KEY, GAUGE_KEY_LEN);
     }
     struct gauge_answer a = neighbours(p, keys);
     return a.first == SIDE && a.second == SIDE && memcmp(keys, truth, sizeof truth) == 0;
@@ -514,7 +456,7 @@ static void tell(unsigned number, const char *what)
             listed = a.first + a.second;
         }
         for (uint32_t i = 0; i < listed; i++)
-            if (memcmp(keys + GAUGE_KEY_LEN * i, ponds[number].own + GAUGE_RECORD_KEY, GAUGE_KEY_LEN) == 0)
+            if (memcmp(keys + GAUGE_KEY_LEN * i, ponds[number].lent.own + GAUGE_RECORD_KEY, GAUGE_KEY_LEN) == 0)
                 printf("%s %u", n++ == 0 ? " listed by ponds" : "", number_of(p));
     }
     printf("%s\n", n == 0 ? " listed by none" : "");
@@ -584,15 +526,12 @@ static void begin(unsigned number, unsigned address, unsigned known)
     p->on = p->listed = true;
     p->address = address;
     p->known = known;
-    p->id = 1000000 * number;
-    p->own[GAUGE_RECORD_KEY] = (uint8_t)(APART * number);
-    random_bytes(p->own + GAUGE_RECORD_KEY + 1, GAUGE_KEY_LEN - 1);
-    p->own[GAUGE_RECORD_PORT] = 5000 >> 8;
-    p->own[GAUGE_RECORD_PORT + 1] = 5000 & 255;
-    p->own[GAUGE_RECORD_COUNT] = 1;
-    p->own[GAUGE_RECORD_ADDRESSES] = 0xFE;
-    p->own[GAUGE_RECORD_ADDRESSES + 1] = 0x80;
-    p->own[GAUGE_RECORD_ADDRESSES + GAUGE_ADDRESS_LEN - 1] = (uint8_t)address;
+    uint8_t key[GAUGE_KEY_LEN] = {(uint8_t)(APART * number)}, place[GAUGE_ADDRESS_LEN] = {0xFE, 0x80};
+    random_bytes(key + 1, sizeof key - 1);
+    place[GAUGE_ADDRESS_LEN - 1] = (uint8_t)address;
+    gauge_lent_begin(&p->lent, p->cache, sizeof p->cache, cpa, sizeof cpa);
+    gauge_lent_own(&p->lent, key, 5000, place, 1);
+    p->lent.id = 1000000 * number;
     at[address] = number;
 }
 
@@ -608,7 +547,7 @@ static void hill(void)
     tell(7, "silent, still");
 
     printf("Pond 20's gauge is revoked, and taken away.\n");
-    pass_on(&ponds[20], ponds[20].own + GAUGE_RECORD_KEY);
+    pass_on(&ponds[20], ponds[20].lent.own + GAUGE_RECORD_KEY);
     ponds[20].on = ponds[20].listed = false;
     until_right();
     tell(20, "revoked,");
@@ -642,30 +581,56 @@ static FILE *opened(const char *path)
     return f;
 }
 
-/* The names by which ./shown tells the ponds: a line each, key and name. */
+static void closed(FILE *f, const char *path)
+{
+    if (ferror(f) != 0 || fclose(f) != 0)
+        stop("%s could not be written\n", path);
+}
+
+static void write_name(FILE *f, unsigned number)
+{
+    for (size_t i = 0; i < GAUGE_KEY_LEN; i++)
+        fprintf(f, "%02x", ponds[number].lent.own[i]);
+    fprintf(f, " pond %u\n", number);
+}
+
+/* The names by which bin/shown tells the ponds: a line each, key and name. */
 static void write_names(void)
 {
     FILE *f = opened("target/hill.names");
+    for (unsigned n = 1; n <= NEW; n++)
+        write_name(f, n);
+    closed(f, "target/hill.names");
+}
+
+/* The last reading of each pond that is on the hill, packed as bin/ponds takes them, and in the same order their names. */
+static void write_readings(void)
+{
+    FILE *f = opened("target/hill.readings"), *of = opened("target/hill.readings.names");
     for (unsigned n = 1; n <= NEW; n++) {
-        for (size_t i = 0; i < GAUGE_KEY_LEN; i++)
-            fprintf(f, "%02x", ponds[n].own[i]);
-        fprintf(f, " pond %u\n", n);
+        uint8_t packed[GAUGE_READING_MOST];
+        if (!ponds[n].listed || last[n].kind == 0)
+            continue;
+        fwrite(packed, 1, gauge_reading_pack(&last[n], packed), f);
+        write_name(of, n);
     }
-    if (ferror(f) != 0 || fclose(f) != 0)
-        stop("the names could not be written\n");
+    closed(f, "target/hill.readings");
+    closed(of, "target/hill.readings.names");
 }
 
 int main(void)
 {
+    gauge_lent_begin(&OFFICE->lent, OFFICE->cache, sizeof OFFICE->cache, cpa, sizeof cpa);
     for (unsigned n = 1; n <= PONDS; n++)
         begin(n, n, n == 1 ? 2 : 1 + dice(n - 1));
     FILE *calls = opened("target/hill.trace"), *answers = opened("target/hill.answers");
-    struct gauge_trace trace = gauge_trace_begin(calls, answers, MAJOR, MINOR, ponds[RECORDED].own);
+    struct gauge_trace trace = gauge_trace_begin(calls, answers, MAJOR, MINOR, ponds[RECORDED].lent.own);
     ponds[RECORDED].trace = &trace;
     hill();
     if (trace.failed || fclose(calls) != 0 || fclose(answers) != 0)
         stop("the trace could not be written\n");
     write_names();
+    write_readings();
     printf("target/hill.trace has the %lu calls that pond %d's gauge took.\n", trace.count, RECORDED);
     return 0;
 }

@@ -1,17 +1,18 @@
-/* Two ponds find each other: a short radio program that makes every call of the gauge and looks at every answer.
+/* Two ponds find each other: a short radio program that makes every call of the gauge by itself and looks at every answer. A shorter one,
+ * with the struct of gauge_host.h, is first.c; of that header only the text of numbers, the first FLOOD and the tick's IDs are used here.
  *
- *     make ponds
+ *     make two_ponds
  *
  * Pond 12 is new, and knows only where pond 40 is. Both gauges live in this one process, and the radio is a function call; it loses one datagram, so
  * that a tick has something to repeat. What a CPA is made of is no matter of the gauge. Here it is the key and the nonce of the INQUIRE, which
  * anybody could write: a real one is signed. */
-#include "gauge.h"
+#include "gauge_host.h"
 #include <stdio.h>
 #include <stdlib.h>
 #include <string.h>
 
-#define MAJOR 6
-#define MINOR 101
+#define MAJOR GAUGE_DRT_MAJOR
+#define MINOR GAUGE_DRT_MINOR
 #define HELD 10 /* records in a cache */
 #define CPA_LEN (GAUGE_KEY_LEN + GAUGE_NONCE_LEN)
 
@@ -28,14 +29,23 @@ struct pond {
     uint32_t sent_len, sent_id;
 };
 
+/* A number that is our own fault ends the program. */
 static void wrong(const struct pond *p, const char *call, uint32_t number)
 {
-    printf("pond %u: %s gave %u\n", p->name, call, number);
+    printf("pond %u: %s gave %u, %s\n", p->name, call, number, gauge_number_text(number));
     exit(1);
 }
 
+/* One that is the sender's is told, and the program goes on: what was sent is dropped, and nothing has changed. */
+static void refused(const struct pond *p, const char *call, uint32_t number)
+{
+    if (!gauge_number_is_senders(number))
+        wrong(p, call, number);
+    printf("  pond %u drops a datagram: %u, %s\n", p->name, number, gauge_number_text(number));
+}
+
 /* Its key is its name; one address, FE80:: and its name; port 5000. */
-static struct pond pond(unsigned name)
+static struct pond new_pond(unsigned name)
 {
     struct pond p;
     memset(&p, 0, sizeof p); /* an empty cache, and nothing waits */
@@ -64,7 +74,7 @@ static const char *kind_name(uint32_t kind)
 }
 
 /* What we have to say of the CPA in a datagram: it is good for the key in it, if it holds the nonce that we sent. */
-static uint32_t judged(const struct pond *p, const struct gauge_look *seen, const uint8_t *datagram, uint8_t *key)
+static uint32_t judged(const struct pond *p, const struct gauge_look_answer *seen, const uint8_t *datagram, uint8_t *key)
 {
     memset(key, 0, GAUGE_KEY_LEN);
     if (seen->cpa_len != CPA_LEN || memcmp(datagram + seen->cpa_at + GAUGE_KEY_LEN, p->nonce, GAUGE_NONCE_LEN) != 0)
@@ -77,9 +87,11 @@ static uint32_t judged(const struct pond *p, const struct gauge_look *seen, cons
 static void arrives(struct pond *p, const uint8_t *datagram, size_t len)
 {
     uint8_t output[GAUGE_OUTPUT_LEN], cpa[CPA_LEN] = {0}, key[GAUGE_KEY_LEN];
-    struct gauge_look seen = gauge_look(MAJOR, datagram, len);
-    if (seen.number != GAUGE_OK)
-        wrong(p, "gauge_look", seen.number);
+    struct gauge_look_answer seen = gauge_look(MAJOR, datagram, len);
+    if (seen.number != GAUGE_OK) {
+        refused(p, "gauge_look", seen.number);
+        return;
+    }
 
     /* Our own CPA holds the nonce of the one who asks. */
     memcpy(cpa, p->own + GAUGE_RECORD_KEY, GAUGE_KEY_LEN);
@@ -87,11 +99,14 @@ static void arrives(struct pond *p, const uint8_t *datagram, size_t len)
         memcpy(cpa + GAUGE_KEY_LEN, datagram + seen.nonce_at, GAUGE_NONCE_LEN);
 
     uint32_t verdict = judged(p, &seen, datagram, key);
-    struct gauge_answer a = gauge_receive(p->own, sizeof p->own, cpa, sizeof cpa, p->cache, sizeof p->cache, p->waiting, sizeof p->waiting, MAJOR, MINOR,
-                                          p->id, p->nonce, sizeof p->nonce, verdict, key, sizeof key, datagram, len, output, sizeof output);
+    struct gauge_answer a = gauge_receive(p->own, sizeof p->own, cpa, sizeof cpa, p->cache, sizeof p->cache, p->waiting, sizeof p->waiting,
+                                          MAJOR, MINOR, p->id, p->nonce, sizeof p->nonce, verdict, key, sizeof key, datagram, len, output,
+                                          sizeof output);
     p->id += 2; /* a receive may use up two */
-    if (a.number != GAUGE_OK)
-        wrong(p, "gauge_receive", a.number);
+    if (a.number != GAUGE_OK) {
+        refused(p, "gauge_receive", a.number);
+        return;
+    }
     if (seen.kind == GAUGE_ACK && seen.acked == p->sent_id)
         p->sent_len = 0;
 
@@ -110,32 +125,19 @@ static void arrives(struct pond *p, const uint8_t *datagram, size_t len)
 /* The first FLOOD to a gauge that is not held yet, which gauge_send would refuse: our own record, with D set, so that no ACK comes. */
 static size_t first_flood(struct pond *p, uint8_t *out)
 {
-    static const uint8_t fixed[] = {0x00, 0x10, 0x00, 0x0C, 0x51, MAJOR, MINOR, GAUGE_FLOOD, 0, 0, 0, 0, /* header; the ID is put in below */
-                                    0x00, 0x43, 0x00, 0x07, 0x00, 0x01, 0x00, 0x00,                      /* controls: D */
-                                    0x00, 0x39, 0x00, 0x24};                                             /* validate key: zeros */
-    size_t at = sizeof fixed + GAUGE_KEY_LEN, used = (size_t)p->own[GAUGE_RECORD_COUNT] * GAUGE_ADDRESS_LEN;
-    memset(out, 0, GAUGE_SEND_LEN);
-    memcpy(out, fixed, sizeof fixed);
-    for (int i = 0; i < 4; i++)
-        out[8 + i] = (uint8_t)(p->id >> (24 - 8 * i));
-    p->id++;
-    out[at + 1] = 0x9A; /* the route entry */
-    out[at + 3] = (uint8_t)(4 + GAUGE_ENTRY_ADDRESSES + used);
-    at += 4;
-    memcpy(out + at + GAUGE_ENTRY_KEY, p->own + GAUGE_RECORD_KEY, GAUGE_KEY_LEN);
-    out[at + GAUGE_ENTRY_MAJOR] = MAJOR;
-    out[at + GAUGE_ENTRY_MINOR] = MINOR;
-    memcpy(out + at + GAUGE_ENTRY_PORT, p->own + GAUGE_RECORD_PORT, 2);
-    out[at + GAUGE_ENTRY_COUNT] = p->own[GAUGE_RECORD_COUNT];
-    memcpy(out + at + GAUGE_ENTRY_ADDRESSES, p->own + GAUGE_RECORD_ADDRESSES, used);
-    return at + GAUGE_ENTRY_ADDRESSES + used + 2; /* padding up to a multiple of 4 */
+    struct gauge_lent l;
+    uint8_t none[1] = {0};
+    gauge_lent_begin(&l, none, sizeof none, none, sizeof none); /* no memory is needed for it */
+    memcpy(l.own, p->own, sizeof l.own);
+    l.id = p->id++;
+    return gauge_first_flood(&l, out);
 }
 
 /* Our own record goes to a neighbour that we hold. The FLOOD is kept until its ACK comes. */
 static void floods(struct pond *p, const uint8_t *neighbour)
 {
-    struct gauge_answer a = gauge_send(p->own, sizeof p->own, p->cache, sizeof p->cache, p->waiting, sizeof p->waiting, MAJOR, MINOR, p->id, neighbour,
-                                       GAUGE_KEY_LEN, p->own + GAUGE_RECORD_KEY, GAUGE_KEY_LEN, p->sent, sizeof p->sent);
+    struct gauge_answer a = gauge_send(p->own, sizeof p->own, p->cache, sizeof p->cache, p->waiting, sizeof p->waiting, MAJOR, MINOR, p->id,
+                                       neighbour, GAUGE_KEY_LEN, p->own + GAUGE_RECORD_KEY, GAUGE_KEY_LEN, p->sent, sizeof p->sent);
     if (a.number != GAUGE_OK)
         wrong(p, "gauge_send", a.number);
     p->sent_len = a.first;
@@ -147,15 +149,10 @@ static void second(struct pond *p)
 {
     uint8_t ids[GAUGE_TICK_LEN];
     struct gauge_answer a = gauge_tick(p->own, sizeof p->own, p->waiting, sizeof p->waiting, ids, sizeof ids);
-    int listed = 0;
     if (a.number != GAUGE_OK)
         wrong(p, "gauge_tick", a.number);
-    for (uint32_t i = 0; i < a.first; i++) {
-        const uint8_t *id = ids + 4 * i;
-        listed |= (id[0] | (uint32_t)id[1] << 8 | (uint32_t)id[2] << 16 | (uint32_t)id[3] << 24) == p->sent_id;
-    }
     printf("a second passes: pond %u waits for %u\n", p->name, a.first);
-    if (!listed)
+    if (!gauge_tick_lists(ids, a.first, p->sent_id))
         p->sent_len = 0;
     if (p->sent_len > 0)
         arrives(p->other, p->sent, p->sent_len);
@@ -175,13 +172,16 @@ static void neighbours(struct pond *p)
 
 int main(void)
 {
-    struct pond twelve = pond(12), forty = pond(40);
+    struct pond twelve = new_pond(12), forty = new_pond(40);
     uint8_t first[GAUGE_SEND_LEN];
     twelve.other = &forty;
     forty.other = &twelve;
 
-    printf("pond 12 floods its record\n");
-    arrives(&forty, first, first_flood(&twelve, first));
+    printf("pond 12 floods its record, which somebody else's message and a damaged copy come before\n");
+    size_t len = first_flood(&twelve, first);
+    arrives(&forty, (const uint8_t *)"somebody else's", 15);
+    arrives(&forty, first, len - 1);
+    arrives(&forty, first, len);
     neighbours(&twelve);
     neighbours(&forty);
 

@@ -1,6 +1,7 @@
 /* The gauge, as a radio program in C calls it. Link libgauge.a (`make lib`), for x86-64.
  *
- * The gauge has no memory, no socket and no clock of its own. The radio program lends it memory and numbers, and sends what it writes. Its five calls:
+ * The gauge has no memory, no socket and no clock of its own. The radio program lends it memory and numbers, and
+ * sends what it writes. Its five calls:
  *
  *   gauge_receive      a datagram has come: what is to be sent, and what changes in the memory
  *   gauge_send         a FLOOD of a record is to go to a neighbour
@@ -8,7 +9,8 @@
  *   gauge_neighbours   the five keys next to our own on either side
  *   gauge_look         what a datagram is, and where in it the CPA and the nonce stand; nothing is done
  *
- * Above the gauge stand three for a pond's reading, a depth or a fault with litres in and out, which an AUTHORITY may carry. They use no memory:
+ * Above the gauge stand three for a pond's reading, a depth or a fault with litres in and out, which an AUTHORITY may
+ * carry. They use no memory:
  *
  *   gauge_carry        an AUTHORITY is to carry a reading
  *   gauge_carried      which reading a datagram carries
@@ -16,61 +18,86 @@
  *
  * What holds for all of them:
  *
- * - What is lent is a pointer and a length in bytes, one after the other. It is lent for that call alone: the gauge keeps no pointer, and hands none
- *   back. A pointer is not NULL, not even with length 0. Any length may be lent that something in C can have (PTRDIFF_MAX, below 2^63): one that is
- *   not right is answered by a number.
- * - `const` is lent for reading. All else is lent for writing too, and may then not overlap anything else that is lent to the same call. The
- *   gauge cannot test that.
- * - Nothing else writes what is lent before the call returns, `const` or not: no other thread, no interrupt, no radio that fills its receive buffer
- *   by itself (DMA). Copy such a buffer, and lend the copy. The gauge cannot test that either.
- * - Every call returns, whatever the bytes are, and its answer begins with a number (below): 0, or the first that applies, in this order:
+ * - What is lent is a pointer and a length in bytes, one after the other. It is lent for that call alone: the gauge
+ *   keeps no pointer, and hands none back. A pointer is not NULL, not even with length 0. Any length may be lent that
+ *   something in C can have (PTRDIFF_MAX, below 2^63): one that is not right is answered by a number.
+ * - `const` is lent for reading. All else is lent for writing too, and may then not overlap anything else that is
+ *   lent to the same call. The gauge cannot test that.
+ * - Nothing else writes what is lent before the call returns, `const` or not: no other thread, no interrupt, no radio
+ *   that fills its receive buffer by itself (DMA). Copy such a buffer, and lend the copy. The gauge cannot test that
+ *   either.
+ * - Every call returns, whatever the bytes are, and its answer begins with a number (below): 0, or the first that
+ *   applies, in this order:
  *
  *       1 2 3 4 5 6 7 8 9 10 11 12 13 14 15
  *
- *   So where 9 and 15 both apply it is 9. Go by the list: so far it gives the lowest, but numbers of later versions will stand between these, and not
- *   at its end. gauge_balance has nothing to refuse: its answer is the balance.
+ *   So where 9 and 15 both apply it is 9. Go by the list: so far it gives the lowest, but numbers of later versions
+ *   will stand between these, and not at its end. gauge_balance has nothing to refuse: its answer is the balance.
  * - With any number but 0 nothing has changed: each byte is as it was lent, and the rest of the answer is 0.
- * - With 0 the output has changed in its first bytes only, as many as the call says; and cache and waiting table are in form again.
+ * - With 0 the output has changed in its first bytes only, as many as the call says; and cache and waiting table are
+ *   in form again.
  * - The calls on one gauge's memory come one after the other. Gauges that share no memory do not know of each other.
- * - A call takes at most GAUGE_STACK_MOST bytes of the stack that it is called on, whatever the bytes are: what is passed there, the return address and
- *   all below it, with 256 bytes for a memcpy, memmove or memset of your C library. A loader that looks these up at their first call takes more then:
- *   link with -z now, or statically. No call allots memory, and none calls anything of yours.
- * - Keys go round, modulo 2^256. A key is above ours if 1 to 2^255 steps up from ours lead to it, so the one just opposite too, and else below; how near
- *   it is counts along that side. So the gauge with the smallest key has the one with the largest as its neighbour below. In the cache records stand in
- *   plain order all the same.
- * - How floating-point numbers are rounded, and whether they trap, does not matter to any call: a depth is looked at by its bits.
+ * - A call takes at most GAUGE_STACK_MOST bytes of the stack that it is called on, whatever the bytes are: what is
+ *   passed there, the return address and all below it, with 256 bytes for a memcpy, memmove or memset of your C
+ *   library. A loader that looks these up at their first call takes more then: link with -z now, or statically. No
+ *   call allots memory, and none calls anything of yours.
+ * - Keys go round, modulo 2^256. A key is above ours if 1 to 2^255 steps up from ours lead to it, so the one just
+ *   opposite too, and else below; how near it is counts along that side. So the gauge with the smallest key has the
+ *   one with the largest as its neighbour below. In the cache records stand in plain order all the same.
+ * - How floating-point numbers are rounded, and whether they trap, does not matter to any call: a depth is looked at
+ *   by its bits.
  *
- * Numbers are of fixed width; build with -Wconversion, so that none loses bits on the way: a verdict of 257 in eight bits would be 1, and good.
- * From C's library the archive wants memcpy, memmove and memset.
+ * Numbers are of fixed width; build with -Wconversion, so that none loses bits on the way: a verdict of 257 in eight
+ * bits would be 1, and good. From C's library the archive wants memcpy, memmove and memset.
  *
- * The shortest program: the gauge with key 12 takes one datagram, and what it answers is written. (A real one keeps its memory, looks first, and sends.)
+ * The shortest program: the gauge with key 12 takes one datagram, and what it answers is written. (A real one keeps
+ * its memory, looks first, and sends.)
  *
  *     #include "gauge.h"
  *     #include <stdio.h>
- *     static uint8_t own[GAUGE_RECORD_LEN], cpa[1], cache[GAUGE_CACHE_LEN(64)], waiting[GAUGE_WAITING_LEN], nonce[GAUGE_NONCE_LEN],
- *         key[GAUGE_KEY_LEN], datagram[GAUGE_DATAGRAM_MOST], output[GAUGE_OUTPUT_LEN];
+ *     static uint8_t own[GAUGE_RECORD_LEN], cpa[1], cache[GAUGE_CACHE_LEN(64)], waiting[GAUGE_WAITING_LEN],
+ *         nonce[GAUGE_NONCE_LEN], key[GAUGE_KEY_LEN], datagram[GAUGE_DATAGRAM_MOST], output[GAUGE_OUTPUT_LEN];
  *     int main(void)
  *     {
  *         own[GAUGE_RECORD_KEY + GAUGE_KEY_LEN - 1] = 12;
  *         own[GAUGE_RECORD_COUNT] = 1;
  *         size_t len = fread(datagram, 1, sizeof datagram, stdin);
- *         struct gauge_answer a = gauge_receive(own, sizeof own, cpa, sizeof cpa, cache, sizeof cache, waiting, sizeof waiting, 6, 101, 7, nonce,
- *                                               sizeof nonce, 0, key, sizeof key, datagram, len, output, sizeof output);
+ *         struct gauge_answer a = gauge_receive(own, sizeof own, cpa, sizeof cpa, cache, sizeof cache, waiting,
+ *                                               sizeof waiting, GAUGE_DRT_MAJOR, GAUGE_DRT_MINOR, 7, nonce,
+ *                                               sizeof nonce, 0, key, sizeof key, datagram, len, output,
+ *                                               sizeof output);
  *         fwrite(output, 1, (size_t)a.first + a.second, stdout);
  *         return (int)a.number;
  *     }
  *
- * The memory, byte by byte: docs/MEMORY.md. What was decided, and why: docs/DECISIONS.md. Examples: examples/two_ponds.c, and
- * examples/hill.c with all that a radio program does. To record a gauge's calls: gauge_trace.h. */
+ * Twenty arguments by hand are for who wants them: gauge_host.h has the same calls over one struct, the messages that a
+ * host writes itself, texts for the numbers, and recipes for what a host does all day. To record a gauge's calls:
+ * gauge_trace.h. The memory, byte by byte: docs/MEMORY.md. What was decided, and why: docs/DECISIONS.md. Examples:
+ * examples/first.c, examples/two_ponds.c, and examples/hill.c with all that a radio program does. */
 #ifndef GAUGE_H
 #define GAUGE_H
 
 #include <stddef.h>
 #include <stdint.h>
 
+/* A cast that C and C++ both take without a warning. */
 #ifdef __cplusplus
+#define GAUGE_TO(type, value) static_cast<type>(value)
 extern "C" {
+#else
+#define GAUGE_TO(type, value) ((type)(value))
 #endif
+
+/* The version of this header and of the archive, as gauge.pc has it; and as a number that rises. CHANGELOG.md tells
+ * what changed. */
+#define GAUGE_VERSION "1.1"
+#define GAUGE_VERSION_NUMBER 101
+
+/* The versions in the header of a message: those of the message that document 003 prints. Document 000 leaves them to
+ * whoever builds on it. Every call that has a major and a minor takes any others too; all gauges that are to hear each
+ * other have the same major. */
+#define GAUGE_DRT_MAJOR 6
+#define GAUGE_DRT_MINOR 101
 
 /* Lengths in bytes. */
 #define GAUGE_KEY_LEN 32          /* a key: a number of 256 bits, most significant byte first */
@@ -83,7 +110,8 @@ extern "C" {
 #define GAUGE_WAITING_LEN 2240    /* the waiting table: 16 places */
 #define GAUGE_CACHE_LEAST 10      /* the cache has C records, C from 10 to 256, .. */
 #define GAUGE_CACHE_MOST 256
-#define GAUGE_CACHE_LEN(c) ((size_t)GAUGE_RECORD_LEN * (size_t)(c)) /* .. and this length. C stays as long as the memory is in use. */
+/* .. and this length. C stays as long as the memory is in use. */
+#define GAUGE_CACHE_LEN(c) (GAUGE_TO(size_t, GAUGE_RECORD_LEN) * GAUGE_TO(size_t, c))
 #define GAUGE_DATAGRAM_LEAST 12
 #define GAUGE_DATAGRAM_MOST 1232
 #define GAUGE_OUTPUT_LEN 2464     /* an output that is enough for each of the calls */
@@ -93,15 +121,16 @@ extern "C" {
 #define GAUGE_CARRY_LEN 20        /* what a reading adds to an AUTHORITY that has no payload, whatever its kind */
 #define GAUGE_STACK_MOST 4096     /* no call takes more stack than this */
 
-/* A record, by place: key (32), port (2, most significant byte first), how many addresses (1, from 1 to 4), a zero byte, four addresses of 16 bytes
- * as they stand on the wire. Those not used are zero. */
+/* A record, by place: key (32), port (2, most significant byte first), how many addresses (1, from 1 to 4), a zero
+ * byte, four addresses of 16 bytes as they stand on the wire. Those not used are zero. */
 #define GAUGE_RECORD_KEY 0
 #define GAUGE_RECORD_PORT 32
 #define GAUGE_RECORD_COUNT 34
 #define GAUGE_RECORD_ADDRESSES 36
 #define GAUGE_ADDRESS_LEN 16
 
-/* A route entry in a datagram, by place from `entry_at` of gauge_look: key (32), major, minor, port (2), flags, how many addresses, the addresses. */
+/* A route entry in a datagram, by place from `entry_at` of gauge_look: key (32), major, minor, port (2), flags, how
+ * many addresses, the addresses. */
 #define GAUGE_ENTRY_KEY 0
 #define GAUGE_ENTRY_MAJOR 32
 #define GAUGE_ENTRY_MINOR 33
@@ -109,25 +138,32 @@ extern "C" {
 #define GAUGE_ENTRY_COUNT 37
 #define GAUGE_ENTRY_ADDRESSES 38
 
-/* The numbers. For each what is the matter, whose it is, and what to do. Which one is given where several apply is told by the list above. */
+/* The numbers. For each what is the matter, whose it is, and what to do. Which one is given where several apply is
+ * told by the list above. */
 enum gauge_number {
     GAUGE_OK = 0,          /* accepted */
-    GAUGE_MEMORY = 1,      /* what you have lent is not in form: own record, CPA, cache, waiting table, or a nonce or key of another length. Yours: mend it. */
-    GAUGE_LENGTH = 2,      /* datagram shorter than 12 or longer than 1,232 bytes. The sender's, as up to 7: drop the datagram. */
+    GAUGE_MEMORY = 1,      /* what you have lent is not in form: own record, CPA, cache, waiting table, or a nonce or
+                              key of another length. Yours: mend it (gauge_host.h tells which). */
+    GAUGE_LENGTH = 2,      /* datagram shorter than 12 or longer than 1,232 bytes. The sender's, as up to 7: drop the
+                              datagram. */
     GAUGE_HEADER = 3,      /* its first five bytes are not 00 10 00 0C 51 */
     GAUGE_MAJOR = 4,       /* its major version is not the given one */
     GAUGE_TYPE = 5,        /* its type is unknown */
-    GAUGE_FIELD = 6,       /* a field malformed, misplaced, missing or running past the end, an address count outside 1 to 4, or bytes left over */
+    GAUGE_FIELD = 6,       /* a field malformed, misplaced, missing or running past the end, an address count outside
+                              1 to 4, or bytes left over */
     GAUGE_NOT_TAKEN = 7,   /* SOLICIT, ADVERTISE or REQUEST, or an AUTHORITY in part */
     GAUGE_STRAY = 8,       /* an ACK to no waiting flood, an AUTHORITY to no waiting inquiry: late or stray. Drop it. */
-    GAUGE_UNTRUSTED = 9,   /* an AUTHORITY without a CPA, or a verdict that is not 1 where a CPA is needed. Not trusted: drop it. */
-    GAUGE_OTHER_KEY = 10,  /* the AUTHORITY's CPA is good for another key than the one inquired about. Not trusted: drop it. */
+    GAUGE_UNTRUSTED = 9,   /* an AUTHORITY without a CPA, or a verdict that is not 1 where a CPA is needed. Not
+                              trusted: drop it. */
+    GAUGE_OTHER_KEY = 10,  /* the AUTHORITY's CPA is good for another key than the one inquired about. Not trusted:
+                              drop it. */
     GAUGE_OWN_KEY = 11,    /* a route entry or revocation in a FLOOD names our own key. Drop it. */
-    GAUGE_NOT_OURS = 12,   /* an INQUIRE for another key than ours: drop it. Or a FLOOD to send whose neighbour is not held, or whose record is neither
-                              ours nor held. */
+    GAUGE_NOT_OURS = 12,   /* an INQUIRE for another key than ours: drop it. Or a FLOOD to send whose neighbour is not
+                              held, or whose record is neither ours nor held. */
     GAUGE_ID_WAITING = 13, /* a place must be opened, and its ID is waiting already. Call again with another ID. */
     GAUGE_FULL = 14,       /* a place must be opened, and all 16 are used. Try later: answers and ticks free them. */
-    GAUGE_ROOM = 15        /* the output has too little room. Call again with more: GAUGE_OUTPUT_LEN is always enough. */
+    GAUGE_ROOM = 15        /* the output has too little room. Call again with more: GAUGE_OUTPUT_LEN is always
+                              enough. */
 };
 
 /* The types of messages, as gauge_look tells them. */
@@ -146,10 +182,12 @@ enum gauge_kind {
 #define GAUGE_READING_DEPTH 1
 #define GAUGE_READING_FAULT 2
 
-/* The numbers of a reading, in `reading` of the two answers below. They have nothing to do with those above, and are never mixed with them. */
+/* The numbers of a reading, in `reading` of the two answers below. They have nothing to do with those above, and are
+ * never mixed with them. */
 enum gauge_reading_number {
     GAUGE_READING_OK = 0,
-    GAUGE_READING_LENGTH = 1, /* a payload that is shorter or longer than a reading of its kind is, or than it says; a fault number over 65535 */
+    GAUGE_READING_LENGTH = 1, /* a payload that is shorter or longer than a reading of its kind is, or than it says; a
+                                 fault number over 65535 */
     GAUGE_READING_KIND = 2,   /* its kind is unknown */
     GAUGE_READING_OUTSIDE = 3 /* its depth is not from 0 to 20 metres, or not a number */
 };
@@ -157,27 +195,31 @@ enum gauge_reading_number {
 /* The verdict on a CPA that is good. Any other number is not good. */
 #define GAUGE_GOOD 1
 
-/* What the first four calls answer. `first` and `second`: lengths of datagrams (receive, send), how many IDs (tick), how many keys below and above
- * (neighbours). */
+/* What the first four calls answer. `first` and `second`: lengths of datagrams (receive, send), how many IDs (tick),
+ * how many keys below and above (neighbours). */
 struct gauge_answer {
     uint32_t number, first, second;
 };
 
-/* What gauge_look answers. A place (`_at`) counts from the start of the datagram, and is that of the contents behind a field's number and length;
- * place and length are both 0 for what is not there. Contents that are there and empty have a place, and length 0. */
-struct gauge_look {
-    uint32_t number;             /* GAUGE_OK, GAUGE_LENGTH to GAUGE_FIELD, or GAUGE_NOT_TAKEN for an AUTHORITY in part. Not 0: the rest is 0. */
-    uint32_t kind;               /* one of enum gauge_kind */
-    uint32_t id;                 /* the message ID */
-    uint32_t acked;              /* the ID that an ADVERTISE, AUTHORITY or ACK answers; 0 in the others */
-    uint32_t cpa_at, cpa_len;    /* AUTHORITY: the CPA. FLOOD: the revoke CPA. */
-    uint32_t nonce_at, nonce_len; /* INQUIRE, REQUEST: the nonce, 16 bytes. SOLICIT, ADVERTISE: the hashed nonce, 20 bytes. */
-    uint32_t entry_at, entry_len; /* SOLICIT, FLOOD, AUTHORITY, LOOKUP: the route entry, 38 bytes and 16 for each address */
+/* What gauge_look answers. A place (`_at`) counts from the start of the datagram, and is that of the contents behind
+ * a field's number and length; place and length are both 0 for what is not there. Contents that are there and empty
+ * have a place, and length 0. */
+struct gauge_look_answer {
+    uint32_t number;                /* GAUGE_OK, GAUGE_LENGTH to GAUGE_FIELD, or GAUGE_NOT_TAKEN for an AUTHORITY in
+                                       part. Not 0: the rest is 0. */
+    uint32_t kind;                  /* one of enum gauge_kind */
+    uint32_t id;                    /* the message ID */
+    uint32_t acked;                 /* the ID that an ADVERTISE, AUTHORITY or ACK answers; 0 in the others */
+    uint32_t cpa_at, cpa_len;       /* AUTHORITY: the CPA. FLOOD: the revoke CPA. */
+    uint32_t nonce_at, nonce_len;   /* INQUIRE, REQUEST: the nonce, 16 bytes. SOLICIT, ADVERTISE: the hashed nonce, 20
+                                       bytes. */
+    uint32_t entry_at, entry_len;   /* SOLICIT, FLOOD, AUTHORITY, LOOKUP: the route entry, 38 bytes and 16 for each
+                                       address */
     uint32_t target_at, target_len; /* LOOKUP: the target key, 32 bytes */
 };
 
 /* What gauge_carry answers. */
-struct gauge_carry {
+struct gauge_carry_answer {
     uint32_t number;  /* GAUGE_OK, GAUGE_LENGTH to GAUGE_NOT_TAKEN, or GAUGE_ROOM. Not 0: the rest is 0. */
     uint32_t length;  /* how many bytes were written; 0 where `reading` is not 0 */
     uint32_t reading; /* one of enum gauge_reading_number */
@@ -194,44 +236,51 @@ struct gauge_reading {
 
 /* A datagram has come.
  *
- *   own       our own record: 100 bytes. Its port and addresses may change from call to call; its key may not, as long as cache and waiting table
- *             are in use (for another key begin with both all zero).
- *   cpa       our own CPA: 1 to 1,024 bytes, which go into the AUTHORITY that answers an INQUIRE. Where that INQUIRE has a nonce (gauge_look), the
- *             CPA should hold it: only you can see to that.
+ *   own       our own record: 100 bytes. Its port and addresses may change from call to call; its key may not, as
+ *             long as cache and waiting table are in use (for another key begin with both all zero).
+ *   cpa       our own CPA: 1 to 1,024 bytes, which go into the AUTHORITY that answers an INQUIRE. Where that INQUIRE
+ *             has a nonce (gauge_look), the CPA should hold it: only you can see to that.
  *   cache     for writing: GAUGE_CACHE_LEN(C) bytes. All zero is the empty cache.
  *   waiting   for writing: 2,240 bytes. All zero is the empty table.
  *   major     our major version. A datagram with another one gives GAUGE_MAJOR. It stands in what is sent.
  *   minor     our minor version, which stands in what is sent.
- *   id        a message ID that you have not used of late. The ACK or AUTHORITY that is sent has it; an INQUIRE has id + 1 (4294967295 is followed
- *             by 0), also where it goes out alone. So a receive may use up both.
+ *   id        a message ID that you have not used of late. The ACK or AUTHORITY that is sent has it; an INQUIRE has
+ *             id + 1 (4294967295 is followed by 0), also where it goes out alone. So a receive may use up both.
  *   nonce     16 bytes, random, which go into an INQUIRE. Lend them with every receive.
- *   verdict   your verdict on the CPA or revoke CPA in the datagram (gauge_look tells where it stands): GAUGE_GOOD if it is good for the key below.
- *             Ignored where the message has none.
- *   key       32 bytes: the key that the verdict is given with, zeros where there is none. Lend them with every receive.
+ *   verdict   your verdict on the CPA or revoke CPA in the datagram (gauge_look tells where it stands): GAUGE_GOOD if
+ *             it is good for the key below. Ignored where the message has none.
+ *   key       32 bytes: the key that the verdict is given with, zeros where there is none. Lend them with every
+ *             receive.
  *   datagram  as it came.
- *   output    for writing: what is to be sent. On GAUGE_OK the first `first` bytes are a datagram, and the next `second` bytes another one; 0 for one
- *             that is not there. No other byte of it has changed.
+ *   output    for writing: what is to be sent. On GAUGE_OK the first `first` bytes are a datagram, and the next
+ *             `second` bytes another one; 0 for one that is not there. No other byte of it has changed.
  *
  * What is done, and where what is written goes:
  *
- *   FLOOD with a route entry   an ACK to the sender, unless the FLOOD asks for none; an INQUIRE to an address of the route entry (gauge_look), and a
- *                              place that waits for its answer, unless that very record is held or an inquiry for its key waits already.
- *                              Nothing is learned yet. Where both are written the ACK is the first; an INQUIRE alone is the first.
- *   FLOOD with a revocation    the key of the verdict is removed from the cache, and a waiting inquiry for it freed; an ACK to the sender, as above.
+ *   FLOOD with a route entry   an ACK to the sender, unless the FLOOD asks for none; an INQUIRE to an address of the
+ *                              route entry (gauge_look), and a place that waits for its answer, unless that very
+ *                              record is held or an inquiry for its key waits already. Nothing is learned yet. Where
+ *                              both are written the ACK is the first; an INQUIRE alone is the first.
+ *   FLOOD with a revocation    the key of the verdict is removed from the cache, and a waiting inquiry for it freed;
+ *                              an ACK to the sender, as above.
  *   INQUIRE for our key        an AUTHORITY with our CPA, to the sender.
- *   AUTHORITY                  the record that was inquired about is learned, and its place freed. Nothing is sent. A full cache drops the key that
- *                              lies farthest out along the fuller side, above if both are equally full; that may be the one just learned.
- *   ACK                        the flood's place is freed. If it says that the neighbour has not the key that we hold it for, the key is removed.
- *   LOOKUP                     an AUTHORITY with the record closest to the target, to the sender: of those held and our own, the one with the
- *                              shortest way round to the target; of two equally close the one reached by going down from the target.
+ *   AUTHORITY                  the record that was inquired about is learned, and its place freed. Nothing is sent. A
+ *                              full cache drops the key that lies farthest out along the fuller side, above if both
+ *                              are equally full; that may be the one just learned.
+ *   ACK                        the flood's place is freed. If it says that the neighbour has not the key that we hold
+ *                              it for, the key is removed.
+ *   LOOKUP                     an AUTHORITY with the record closest to the target, to the sender: of those held and
+ *                              our own, the one with the shortest way round to the target; of two equally close the
+ *                              one reached by going down from the target.
  *
- * Keep each FLOOD and INQUIRE that you send, with its ID and where it went: gauge_tick says when to send it again, and when to forget it. A gauge that
- * falls silent stays in the cache until it is revoked or such an ACK comes.
+ * Keep each FLOOD and INQUIRE that you send, with its ID and where it went: gauge_tick says when to send it again,
+ * and when to forget it. A gauge that falls silent stays in the cache until it is revoked or such an ACK comes.
  *
  * Gives GAUGE_OK or any number from GAUGE_MEMORY to GAUGE_ROOM. */
-struct gauge_answer gauge_receive(const uint8_t *own, size_t own_len, const uint8_t *cpa, size_t cpa_len, uint8_t *cache, size_t cache_len,
-                                  uint8_t *waiting, size_t waiting_len, uint8_t major, uint8_t minor, uint32_t id, const uint8_t *nonce,
-                                  size_t nonce_len, uint32_t verdict, const uint8_t *key, size_t key_len, const uint8_t *datagram,
+struct gauge_answer gauge_receive(const uint8_t *own, size_t own_len, const uint8_t *cpa, size_t cpa_len,
+                                  uint8_t *cache, size_t cache_len, uint8_t *waiting, size_t waiting_len,
+                                  uint8_t major, uint8_t minor, uint32_t id, const uint8_t *nonce, size_t nonce_len,
+                                  uint32_t verdict, const uint8_t *key, size_t key_len, const uint8_t *datagram,
                                   size_t datagram_len, uint8_t *output, size_t output_len);
 
 /* A FLOOD of a record is to go to a neighbour. A place opens that waits for its ACK.
@@ -240,71 +289,84 @@ struct gauge_answer gauge_receive(const uint8_t *own, size_t own_len, const uint
  *   id         the FLOOD's message ID.
  *   neighbour  32 bytes: the key of the neighbour, which must be held.
  *   key        32 bytes: the key of the record to send, which must be our own or held.
- *   output     for writing: on GAUGE_OK the first `first` bytes are the FLOOD, to be sent to an address of the neighbour's record in the cache. 116
- *              bytes for a record of one address, 16 more for each other. `second` is 0.
+ *   output     for writing: on GAUGE_OK the first `first` bytes are the FLOOD, to be sent to an address of the
+ *              neighbour's record in the cache. 116 bytes for a record of one address, 16 more for each other.
+ *              `second` is 0.
  *
- * A first FLOOD to a gauge that is not held yet is the radio program's own to write: examples/two_ponds.c has one.
+ * A first FLOOD to a gauge that is not held yet is written by gauge_first_flood of gauge_host.h.
  *
  * Gives GAUGE_OK, GAUGE_MEMORY, GAUGE_NOT_OURS, GAUGE_ID_WAITING, GAUGE_FULL or GAUGE_ROOM. */
-struct gauge_answer gauge_send(const uint8_t *own, size_t own_len, const uint8_t *cache, size_t cache_len, uint8_t *waiting, size_t waiting_len,
-                               uint8_t major, uint8_t minor, uint32_t id, const uint8_t *neighbour, size_t neighbour_len, const uint8_t *key,
-                               size_t key_len, uint8_t *output, size_t output_len);
+struct gauge_answer gauge_send(const uint8_t *own, size_t own_len, const uint8_t *cache, size_t cache_len,
+                               uint8_t *waiting, size_t waiting_len, uint8_t major, uint8_t minor, uint32_t id,
+                               const uint8_t *neighbour, size_t neighbour_len, const uint8_t *key, size_t key_len,
+                               uint8_t *output, size_t output_len);
 
 /* A second has passed. Each place that waits has one try less, and is listed; one that had none left is freed.
  *
  *   own      as above.
  *   waiting  for writing.
- *   output   for writing: GAUGE_TICK_LEN bytes or more. On GAUGE_OK the first 4 * `first` bytes are message IDs, increasing, each of 4 bytes, least
- *            significant first: send those FLOODs and INQUIREs again, and forget those that you kept and that are not listed. `second` is 0.
+ *   output   for writing: GAUGE_TICK_LEN bytes or more. On GAUGE_OK the first 4 * `first` bytes are message IDs,
+ *            increasing, each of 4 bytes, least significant first: send those FLOODs and INQUIREs again, and forget
+ *            those that you kept and that are not listed. `second` is 0.
  *
  * A place is listed at two ticks, and gone with the third.
  *
  * Gives GAUGE_OK, GAUGE_MEMORY or GAUGE_ROOM. */
-struct gauge_answer gauge_tick(const uint8_t *own, size_t own_len, uint8_t *waiting, size_t waiting_len, uint8_t *output, size_t output_len);
+struct gauge_answer gauge_tick(const uint8_t *own, size_t own_len, uint8_t *waiting, size_t waiting_len,
+                               uint8_t *output, size_t output_len);
 
-/* The keys next to our own round the ring: up to five below, then up to five above, nearest first. No key is listed twice.
+/* The keys next to our own round the ring: up to five below, then up to five above, nearest first. No key is listed
+ * twice.
  *
  *   own     as above.
  *   cache   for reading.
- *   output  for writing: GAUGE_LIST_LEN bytes or more. On GAUGE_OK the first 32 * `first` bytes are the keys below, and the next 32 * `second` bytes the
- *           keys above.
+ *   output  for writing: GAUGE_LIST_LEN bytes or more. On GAUGE_OK the first 32 * `first` bytes are the keys below,
+ *           and the next 32 * `second` bytes the keys above.
  *
  * Gives GAUGE_OK, GAUGE_MEMORY or GAUGE_ROOM. */
-struct gauge_answer gauge_neighbours(const uint8_t *own, size_t own_len, const uint8_t *cache, size_t cache_len, uint8_t *output, size_t output_len);
+struct gauge_answer gauge_neighbours(const uint8_t *own, size_t own_len, const uint8_t *cache, size_t cache_len,
+                                     uint8_t *output, size_t output_len);
 
 /* What a datagram is. Nothing is done, and nothing is lent but the datagram, for reading.
  *
- * Look at an AUTHORITY, and at a FLOOD with a revoke CPA, before gauge_receive: the CPA there is yours to judge. Look at an INQUIRE for the nonce that
- * your CPA should hold, and at a FLOOD for the addresses to which an INQUIRE goes. */
-struct gauge_look gauge_look(uint8_t major, const uint8_t *datagram, size_t datagram_len);
+ * Look at an AUTHORITY, and at a FLOOD with a revoke CPA, before gauge_receive: the CPA there is yours to judge. Look
+ * at an INQUIRE for the nonce that your CPA should hold, and at a FLOOD for the addresses to which an INQUIRE goes. */
+struct gauge_look_answer gauge_look(uint8_t major, const uint8_t *datagram, size_t datagram_len);
 
-/* An AUTHORITY is to carry a reading of the pond: call this between gauge_receive, which writes the AUTHORITY, and the radio, and send what it writes.
+/* An AUTHORITY is to carry a reading of the pond: call this between gauge_receive, which writes the AUTHORITY, and
+ * the radio, and send what it writes.
  *
  *   major       our major version.
  *   authority   the AUTHORITY, whole: as the gauge wrote it, or any other.
  *   kind        GAUGE_READING_DEPTH or GAUGE_READING_FAULT.
- *   measure     a depth in metres by its 32 bits (memcpy from a float), from 0 to 20, both ends and negative zero allowed; or a fault number, up to
- *               65535.
+ *   measure     a depth in metres by its 32 bits (memcpy from a float), from 0 to 20, both ends and negative zero
+ *               allowed; or a fault number, up to 65535.
  *   litres_in, litres_out  any.
- *   output      for writing: GAUGE_DATAGRAM_MOST bytes are always enough. Where both numbers are 0, its first `length` bytes are the same AUTHORITY with
- *               the reading as its payload: GAUGE_CARRY_LEN bytes more where it had none. One that it had is replaced. All else in it is the same, and
- *               bits that are ignored on reading are zero. No other byte of the output has changed.
+ *   output      for writing: GAUGE_DATAGRAM_MOST bytes are always enough. Where both numbers are 0, its first
+ *               `length` bytes are the same AUTHORITY with the reading as its payload: GAUGE_CARRY_LEN bytes more
+ *               where it had none. One that it had is replaced. All else in it is the same, and bits that are ignored
+ *               on reading are zero. No other byte of the output has changed.
  *
- * What gauge_receive writes never gets too long by it. Where another AUTHORITY would have more than 1,232 bytes no room is enough: send it as it is.
+ * What gauge_receive writes never gets too long by it. Where another AUTHORITY would have more than 1,232 bytes no
+ * room is enough: send it as it is.
  *
- * Gives, in this order: in `number` GAUGE_LENGTH to GAUGE_NOT_TAKEN for a datagram that gauge_look would refuse, and GAUGE_TYPE too for a message that is
- * no AUTHORITY; in `reading` GAUGE_READING_LENGTH for a fault number over 65535, GAUGE_READING_KIND or GAUGE_READING_OUTSIDE; in `number` GAUGE_ROOM, where
- * the output is too short or the AUTHORITY would be too long. One of the two at most is not 0, and then nothing is written. */
-struct gauge_carry gauge_carry(uint8_t major, const uint8_t *authority, size_t authority_len, uint32_t kind, uint32_t measure, uint32_t litres_in,
-                               uint32_t litres_out, uint8_t *output, size_t output_len);
+ * Gives, in this order: in `number` GAUGE_LENGTH to GAUGE_NOT_TAKEN for a datagram that gauge_look would refuse, and
+ * GAUGE_TYPE too for a message that is no AUTHORITY; in `reading` GAUGE_READING_LENGTH for a fault number over 65535,
+ * GAUGE_READING_KIND or GAUGE_READING_OUTSIDE; in `number` GAUGE_ROOM, where the output is too short or the AUTHORITY
+ * would be too long. One of the two at most is not 0, and then nothing is written. */
+struct gauge_carry_answer gauge_carry(uint8_t major, const uint8_t *authority, size_t authority_len, uint32_t kind,
+                                      uint32_t measure, uint32_t litres_in, uint32_t litres_out, uint8_t *output,
+                                      size_t output_len);
 
 /* Which reading a datagram carries. Nothing is done, and nothing is lent but the datagram, for reading.
  *
- * A reading is to be believed as far as the AUTHORITY is: call this when gauge_receive has accepted it. A payload that is no reading, as others may send
- * what they like, is told by `reading`, and is no reason to refuse the AUTHORITY.
+ * A reading is to be believed as far as the AUTHORITY is: call this when gauge_receive has accepted it. A payload
+ * that is no reading, as others may send what they like, is told by `reading`, and is no reason to refuse the
+ * AUTHORITY.
  *
- * Gives in `number` GAUGE_LENGTH to GAUGE_NOT_TAKEN for a datagram that gauge_look would refuse, and GAUGE_TYPE too for a message that is no AUTHORITY;
- * then in `reading` the lowest that applies to its payload. One of the two at most is not 0. */
+ * Gives in `number` GAUGE_LENGTH to GAUGE_NOT_TAKEN for a datagram that gauge_look would refuse, and GAUGE_TYPE too
+ * for a message that is no AUTHORITY; then in `reading` the lowest that applies to its payload. One of the two at
+ * most is not 0. */
 struct gauge_reading gauge_carried(uint8_t major, const uint8_t *datagram, size_t datagram_len);
 
 /* Litres in minus litres out: 3 in and 4 out is -1. */

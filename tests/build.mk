@@ -16,10 +16,12 @@ settings = settings
 recorded = recorded calling lent
 abi = abi calling lent
 shortest = shortest
+host = host calling lent
+first = first
 hill = hill
 
 # for x86-64, with the archive; and by the model alone, for this machine: by gcc under the sanitizers, and by clang
-ON_ARCHIVE = compare carry settings recorded abi shortest hill
+ON_ARCHIVE = compare carry settings recorded abi shortest host first hill
 ALONE = compare carry nights
 
 .SECONDARY:
@@ -53,11 +55,33 @@ $(OUT)/shortest.c: include/gauge.h
 	@mkdir -p $(@D)
 	@sed -n '/^ \*     #include "gauge.h"/,/^ \*     }$$/s/^ \*     //p' $< >$@.$$$$ && mv $@.$$$$ $@
 
-# a header alone, in C and in C++
-$(OUT)/%.alone: include/% tests/build.mk
+# the recipes in the comment of gauge_host.h, likewise
+$(OUT)/recipes.c: include/gauge_host.h
 	@mkdir -p $(@D)
-	@echo '#include "$*"' | tools/cc $(STRICT) -x c -fsyntax-only -
-	@echo '#include "$*"' | g++ -std=c++11 -pedantic -Wall -Wextra -Wconversion -Werror -Iinclude -x c++ -fsyntax-only -
+	@sed -n 's/^ \*     //p' $< >$@.$$$$ && mv $@.$$$$ $@
+
+# a header, the recipes and the first example as whoever includes or copies them compiles them: in C and C++, by gcc and, where it is there, by clang.
+# Of clang's warnings all that are not on compatibility with older languages, padding or buffers.
+WHOEVER = -pedantic -Wall -Wextra -Wconversion -Wsign-conversion -Wshadow -Werror -Iinclude -fsyntax-only
+EVERYTHING = -Weverything -Wno-padded -Wno-c++98-compat -Wno-c++98-compat-pedantic -Wno-unknown-warning-option -Wno-unsafe-buffer-usage \
+    -Wno-pre-c11-compat -Wno-pre-c2x-compat -Werror -Iinclude -fsyntax-only
+in_all = tools/cc -x c -std=c99 $(WHOEVER) $(1) && g++ -x c++ -std=c++11 $(WHOEVER) $(1) && g++ -x c++ -std=c++17 $(WHOEVER) $(1)
+by_clang = clang -x c -std=c99 $(2) $(1) && clang++ -x c++ -std=c++17 $(2) $(1)
+with_clang = if command -v clang++ >/dev/null; then $(by_clang); fi
+
+$(OUT)/%.h.alone: include/%.h include/gauge.h tests/build.mk
+	@mkdir -p $(@D)
+	@echo '#include "$*.h"' >$@.$$$$.c && $(call in_all,$@.$$$$.c) && $(call with_clang,$@.$$$$.c,$(EVERYTHING)); \
+	    status=$$?; rm -f $@.$$$$.c; exit $$status
+	@touch $@
+
+$(OUT)/first.alone: examples/first.c $(HEADERS) tests/build.mk
+	@mkdir -p $(@D)
+	@$(call in_all,$<) && $(call with_clang,$<,$(WHOEVER))
+	@touch $@
+
+$(OUT)/recipes.alone: $(OUT)/recipes.c $(HEADERS) tests/build.mk
+	@$(call in_all,$<) && $(call with_clang,$<,$(WHOEVER))
 	@touch $@
 
 # tools/lib leaves the archive alone where nothing that it is made of is newer

@@ -29,23 +29,23 @@ static void answers(void)
     CHECK(offsetof(struct gauge_answer, number) == 0);
     CHECK(offsetof(struct gauge_answer, first) == 4);
     CHECK(offsetof(struct gauge_answer, second) == 8);
-    CHECK(sizeof(struct gauge_look) == 48);
-    CHECK(offsetof(struct gauge_look, number) == 0);
-    CHECK(offsetof(struct gauge_look, kind) == 4);
-    CHECK(offsetof(struct gauge_look, id) == 8);
-    CHECK(offsetof(struct gauge_look, acked) == 12);
-    CHECK(offsetof(struct gauge_look, cpa_at) == 16);
-    CHECK(offsetof(struct gauge_look, cpa_len) == 20);
-    CHECK(offsetof(struct gauge_look, nonce_at) == 24);
-    CHECK(offsetof(struct gauge_look, nonce_len) == 28);
-    CHECK(offsetof(struct gauge_look, entry_at) == 32);
-    CHECK(offsetof(struct gauge_look, entry_len) == 36);
-    CHECK(offsetof(struct gauge_look, target_at) == 40);
-    CHECK(offsetof(struct gauge_look, target_len) == 44);
-    CHECK(sizeof(struct gauge_carry) == 12);
-    CHECK(offsetof(struct gauge_carry, number) == 0);
-    CHECK(offsetof(struct gauge_carry, length) == 4);
-    CHECK(offsetof(struct gauge_carry, reading) == 8);
+    CHECK(sizeof(struct gauge_look_answer) == 48);
+    CHECK(offsetof(struct gauge_look_answer, number) == 0);
+    CHECK(offsetof(struct gauge_look_answer, kind) == 4);
+    CHECK(offsetof(struct gauge_look_answer, id) == 8);
+    CHECK(offsetof(struct gauge_look_answer, acked) == 12);
+    CHECK(offsetof(struct gauge_look_answer, cpa_at) == 16);
+    CHECK(offsetof(struct gauge_look_answer, cpa_len) == 20);
+    CHECK(offsetof(struct gauge_look_answer, nonce_at) == 24);
+    CHECK(offsetof(struct gauge_look_answer, nonce_len) == 28);
+    CHECK(offsetof(struct gauge_look_answer, entry_at) == 32);
+    CHECK(offsetof(struct gauge_look_answer, entry_len) == 36);
+    CHECK(offsetof(struct gauge_look_answer, target_at) == 40);
+    CHECK(offsetof(struct gauge_look_answer, target_len) == 44);
+    CHECK(sizeof(struct gauge_carry_answer) == 12);
+    CHECK(offsetof(struct gauge_carry_answer, number) == 0);
+    CHECK(offsetof(struct gauge_carry_answer, length) == 4);
+    CHECK(offsetof(struct gauge_carry_answer, reading) == 8);
     CHECK(sizeof(struct gauge_reading) == 24);
     CHECK(offsetof(struct gauge_reading, number) == 0);
     CHECK(offsetof(struct gauge_reading, reading) == 4);
@@ -106,7 +106,7 @@ static size_t bytes(const char *text, uint8_t *out)
 
 static const struct {
     const char *text;
-    struct gauge_look wanted;
+    struct gauge_look_answer wanted;
 } messages[] = {
     {HEADER("01", "00000101") ENTRY("11") HASHED, {0, GAUGE_SOLICIT, 0x101, 0, 0, 0, 76, 20, 16, 54, 0, 0}},
     {HEADER("02", "00000102") ACKED("00000201") NONE_LISTED HASHED, {0, GAUGE_ADVERTISE, 0x102, 0x201, 0, 0, 36, 20, 0, 0, 0, 0}},
@@ -135,7 +135,7 @@ static void looks(void)
     for (size_t i = 0; i < sizeof messages / sizeof *messages; i++) {
         uint8_t datagram[GAUGE_DATAGRAM_MOST];
         size_t len = bytes(messages[i].text, datagram);
-        struct gauge_look seen = gauge_look(6, datagram, len);
+        struct gauge_look_answer seen = gauge_look(6, datagram, len);
         check(memcmp(&seen, &messages[i].wanted, sizeof seen) == 0, messages[i].text, __LINE__);
     }
 }
@@ -214,13 +214,13 @@ static void arguments(void)
 #define DEPTH "005A 0014 0E00 0100 0000C03F " LITRES /* 1.5 m */
 #define FAULT "005A 0012 0C00 0200 B2A1 " LITRES "0000 "
 
-static struct gauge_carry carry(uint8_t major, uint32_t kind, uint32_t measure)
+static struct gauge_carry_answer carry(uint8_t major, uint32_t kind, uint32_t measure)
 {
     memset(output, 0xEE, sizeof output);
     return gauge_carry(major, datagram, datagram_len, kind, measure, 0x01020304, 0x05060708, output, sizeof output);
 }
 
-static int carry_is(struct gauge_carry a, uint32_t number, uint32_t length, uint32_t reading)
+static int carry_is(struct gauge_carry_answer a, uint32_t number, uint32_t length, uint32_t reading)
 {
     return a.number == number && a.length == length && a.reading == reading;
 }

@@ -25,12 +25,12 @@ struct gauge_answer call_neighbours(neighbours_call *by, const struct lent *l)
     return by(TAKEN(own), TAKEN(cache), TAKEN(output));
 }
 
-struct gauge_look call_look(look_call *by, const struct lent *l)
+struct gauge_look_answer call_look(look_call *by, const struct lent *l)
 {
     return by(l->major, TAKEN(datagram));
 }
 
-struct gauge_carry call_carry(carry_call *by, const struct lent *l)
+struct gauge_carry_answer call_carry(carry_call *by, const struct lent *l)
 {
     return by(l->major, TAKEN(datagram), l->kind, l->measure, l->litres_in, l->litres_out, TAKEN(output));
 }

@@ -20,8 +20,8 @@ struct gauge_answer call_receive(receive_call *by, const struct lent *l);
 struct gauge_answer call_send(send_call *by, const struct lent *l);
 struct gauge_answer call_tick(tick_call *by, const struct lent *l);
 struct gauge_answer call_neighbours(neighbours_call *by, const struct lent *l);
-struct gauge_look call_look(look_call *by, const struct lent *l);
-struct gauge_carry call_carry(carry_call *by, const struct lent *l); /* the AUTHORITY is the datagram */
+struct gauge_look_answer call_look(look_call *by, const struct lent *l);
+struct gauge_carry_answer call_carry(carry_call *by, const struct lent *l); /* the AUTHORITY is the datagram */
 struct gauge_reading call_carried(carried_call *by, const struct lent *l);
 int64_t call_balance(balance_call *by, const struct lent *l);
 

@@ -250,7 +250,7 @@ static void look(void)
     before_call();
     looked = lent;
     looked.major = (uint8_t)number(1);
-    struct gauge_look l = call_look(gauge_look, &looked);
+    struct gauge_look_answer l = call_look(gauge_look, &looked);
     all_read_same();
     printf("%u %u %u %u %u %u %u %u %u %u %u %u", l.number, l.kind, l.id, l.acked, l.cpa_at, l.cpa_len, l.nonce_at, l.nonce_len, l.entry_at,
            l.entry_len, l.target_at, l.target_len);

@@ -42,7 +42,7 @@ static int is_below(void)
 static const char *carry(uint32_t bits, uint32_t number)
 {
     static uint8_t out[GAUGE_DATAGRAM_MOST];
-    struct gauge_carry a = gauge_carry(6, authority, sizeof authority, 1, bits, 3, 4, out, sizeof out);
+    struct gauge_carry_answer a = gauge_carry(6, authority, sizeof authority, 1, bits, 3, 4, out, sizeof out);
     if (a.number != 0 || a.reading != number)
         return "it gave another number";
     if (number != 0)

@@ -53,8 +53,8 @@ PAINTED_CALL(TICK, struct gauge_answer, gauge_tick,
 PAINTED_CALL(NEIGHBOURS, struct gauge_answer, gauge_neighbours,
              (const uint8_t *own, size_t own_len, const uint8_t *cache, size_t cache_len, uint8_t *output, size_t output_len),
              (own, own_len, cache, cache_len, output, output_len))
-PAINTED_CALL(LOOK, struct gauge_look, gauge_look, (uint8_t major, const uint8_t *datagram, size_t datagram_len), (major, datagram, datagram_len))
-PAINTED_CALL(CARRY, struct gauge_carry, gauge_carry,
+PAINTED_CALL(LOOK, struct gauge_look_answer, gauge_look, (uint8_t major, const uint8_t *datagram, size_t datagram_len), (major, datagram, datagram_len))
+PAINTED_CALL(CARRY, struct gauge_carry_answer, gauge_carry,
              (uint8_t major, const uint8_t *authority, size_t authority_len, uint32_t kind, uint32_t measure, uint32_t litres_in, uint32_t litres_out,
               uint8_t *output, size_t output_len),
              (major, authority, authority_len, kind, measure, litres_in, litres_out, output, output_len))

@@ -87,7 +87,7 @@ static struct result by_archive(enum call_kind kind, const struct lent *l)
 {
     struct gauge_answer a;
     if (kind == LOOK) {
-        struct gauge_look s = call_look(gauge_look, l);
+        struct gauge_look_answer s = call_look(gauge_look, l);
         struct result r = {{s.number, s.kind, s.id, s.acked, s.cpa_at, s.cpa_len, s.nonce_at, s.nonce_len, s.entry_at, s.entry_len, s.target_at,
                             s.target_len}};
         return r;

@@ -93,7 +93,7 @@ static struct result by_archive(enum call_kind kind, const struct lent *l)
 {
     struct result result = {{0}};
     if (kind == CARRY) {
-        struct gauge_carry a = call_carry(gauge_carry, l);
+        struct gauge_carry_answer a = call_carry(gauge_carry, l);
         struct result carry = {{a.number, a.length, a.reading, 0, 0, 0}};
         return carry;
     }

@@ -1,0 +1,264 @@
+/* include/gauge_host.h: what each function over the struct does is what the plain call does with the same bytes, made beside it by tests/c/calling.h;
+ * the rest is held to what its comment says. The messages are written out, for tests/c/host_messages.py to hold them to the model. */
+#include "gauge_host.h"
+#include "calling.h"
+#include <stdio.h>
+
+#define HELD 10
+
+static unsigned tests, failed;
+
+static void check(int holds, const char *what, unsigned line)
+{
+    tests++;
+    if (!holds) {
+        failed++;
+        printf("host.c:%u: not so: %s\n", line, what);
+    }
+}
+#define CHECK(c) check(c, #c, __LINE__)
+
+/* A gauge twice: by the struct of the header, and by memory that the plain calls are lent. */
+struct gauge {
+    struct gauge_lent lent;
+    uint8_t cache[GAUGE_CACHE_LEN(HELD)], cpa[GAUGE_KEY_LEN];
+    uint8_t plain_cache[GAUGE_CACHE_LEN(HELD)], plain_waiting[GAUGE_WAITING_LEN], plain_output[GAUGE_OUTPUT_LEN];
+};
+
+static struct gauge gauges[3]; /* by number, from 1 */
+
+static void begin(uint8_t number)
+{
+    struct gauge *g = &gauges[number];
+    uint8_t address[GAUGE_ADDRESS_LEN] = {0xFE, 0x80};
+    memset(g, 0xA5, sizeof *g); /* what was there before does not matter */
+    memset(g->cpa, number, sizeof g->cpa);
+    memset(g->plain_cache, 0, sizeof g->plain_cache);
+    memset(g->plain_waiting, 0, sizeof g->plain_waiting);
+    address[GAUGE_ADDRESS_LEN - 1] = number;
+    gauge_lent_begin(&g->lent, g->cache, sizeof g->cache, g->cpa, sizeof g->cpa);
+    gauge_lent_own(&g->lent, g->cpa, 5000, address, 1);
+    memcpy(g->plain_output, g->lent.output, sizeof g->plain_output);
+}
+
+/* What the plain calls are lent of it. */
+static struct lent plain(struct gauge *g, const uint8_t *datagram, size_t len)
+{
+    struct lent l = {0};
+    l.own = as_room(g->lent.own, GAUGE_RECORD_LEN);
+    l.cpa = as_room(g->cpa, sizeof g->cpa);
+    l.cache = as_room(g->plain_cache, sizeof g->plain_cache);
+    l.waiting = as_room(g->plain_waiting, sizeof g->plain_waiting);
+    l.nonce = as_room(g->lent.nonce, GAUGE_NONCE_LEN);
+    l.key = as_room(g->lent.key, GAUGE_KEY_LEN);
+    l.output = as_room(g->plain_output, sizeof g->plain_output);
+    l.datagram = as_room((uint8_t *)(size_t)datagram, len);
+    l.major = 6;
+    l.minor = 101;
+    l.id = g->lent.id;
+    l.verdict = g->lent.verdict;
+    return l;
+}
+
+static void same(const struct gauge *g, struct gauge_answer a, struct gauge_answer b)
+{
+    CHECK(a.number == b.number && a.first == b.first && a.second == b.second);
+    CHECK(memcmp(g->cache, g->plain_cache, sizeof g->cache) == 0);
+    CHECK(memcmp(g->lent.waiting, g->plain_waiting, sizeof g->plain_waiting) == 0);
+    CHECK(memcmp(g->lent.output, g->plain_output, sizeof g->plain_output) == 0);
+}
+
+static struct gauge_answer receive(struct gauge *g, const uint8_t *datagram, size_t len)
+{
+    struct lent l = plain(g, datagram, len);
+    uint32_t id = g->lent.id;
+    struct gauge_answer b = call_receive(gauge_receive, &l), a = gauge_lent_receive(&g->lent, datagram, len);
+    same(g, a, b);
+    CHECK(g->lent.id == id + 2 && g->lent.verdict == 0 && g->lent.key[0] == 0 && g->lent.key[GAUGE_KEY_LEN - 1] == 0);
+    return a;
+}
+
+static struct gauge_answer send_record(struct gauge *g, const uint8_t *neighbour, const uint8_t *key)
+{
+    struct lent l = plain(g, key, 0);
+    uint32_t id = g->lent.id;
+    l.neighbour = as_room((uint8_t *)(size_t)neighbour, GAUGE_KEY_LEN);
+    l.key = as_room((uint8_t *)(size_t)key, GAUGE_KEY_LEN);
+    struct gauge_answer b = call_send(gauge_send, &l), a = gauge_lent_send(&g->lent, neighbour, key);
+    same(g, a, b);
+    CHECK(g->lent.id == id + 1);
+    return a;
+}
+
+static struct gauge_answer tick(struct gauge *g)
+{
+    struct lent l = plain(g, g->cpa, 0);
+    struct gauge_answer b = call_tick(gauge_tick, &l), a = gauge_lent_tick(&g->lent);
+    same(g, a, b);
+    return a;
+}
+
+static struct gauge_answer list(struct gauge *g)
+{
+    struct lent l = plain(g, g->cpa, 0);
+    struct gauge_answer b = call_neighbours(gauge_neighbours, &l), a = gauge_lent_neighbours(&g->lent);
+    same(g, a, b);
+    return a;
+}
+
+/* A datagram from one to the other, and every answer to it; an AUTHORITY goes on with a reading, and comes with it. */
+static void delivered(uint8_t to, const uint8_t *bytes, size_t len)
+{
+    struct gauge *g = &gauges[to];
+    struct gauge_reading r = {0, 0, GAUGE_READING_FAULT, 700 + to, 3, 4}, came;
+    struct gauge_look_answer seen = gauge_lent_look(&g->lent, bytes, len), by_call = gauge_look(6, bytes, len);
+    uint8_t sent[GAUGE_OUTPUT_LEN], carried[GAUGE_DATAGRAM_MOST];
+    CHECK(memcmp(&seen, &by_call, sizeof seen) == 0);
+    if (seen.cpa_len == GAUGE_KEY_LEN)
+        gauge_lent_verdict(&g->lent, GAUGE_GOOD, bytes + seen.cpa_at);
+    struct gauge_answer a = receive(g, bytes, len);
+    CHECK(a.number == GAUGE_OK);
+    memcpy(sent, g->lent.output, sizeof sent);
+    for (int i = 0; i < 2; i++) {
+        const uint8_t *next = i == 0 ? sent : sent + a.first;
+        size_t n = i == 0 ? a.first : a.second;
+        if (n > 0 && gauge_look(6, next, n).kind == GAUGE_AUTHORITY) {
+            struct gauge_carry_answer c = gauge_lent_carry(&g->lent, next, n, &r, carried, sizeof carried);
+            CHECK(c.number == GAUGE_OK && c.reading == GAUGE_READING_OK && c.length == n + GAUGE_CARRY_LEN);
+            came = gauge_lent_carried(&g->lent, carried, c.length);
+            CHECK(memcmp(&came, &r, sizeof r) == 0 && gauge_lent_balance(&came) == -1);
+            delivered((uint8_t)(3 - to), carried, c.length);
+        } else if (n > 0) {
+            delivered((uint8_t)(3 - to), next, n);
+        }
+    }
+}
+
+static void find_each_other(void)
+{
+    uint8_t flood[GAUGE_SEND_LEN];
+    struct gauge *one = &gauges[1], *two = &gauges[2];
+    begin(1);
+    begin(2);
+    CHECK(one->lent.major == 6 && one->lent.minor == 101 && gauge_lent_held(&one->lent) == 0);
+    delivered(2, flood, gauge_first_flood(&one->lent, flood));
+    CHECK(gauge_lent_held(&two->lent) == 1 && gauge_lent_find(&two->lent, one->cpa) == 0 && gauge_lent_find(&two->lent, two->cpa) == 1);
+    CHECK(memcmp(gauge_lent_record(&two->lent, 0), one->lent.own, GAUGE_RECORD_LEN) == 0);
+    uint32_t id = two->lent.id;
+    struct gauge_answer a = send_record(two, one->cpa, two->cpa);
+    memcpy(flood, two->lent.output, a.first);
+    CHECK(tick(two).first == 1 && gauge_tick_id(two->lent.output, 0) == id);
+    CHECK(gauge_tick_lists(two->lent.output, 1, id) && !gauge_tick_lists(two->lent.output, 1, id + 1) && !gauge_tick_lists(two->lent.output, 0, id));
+    delivered(1, flood, a.first);
+    CHECK(list(one).second == 1 && list(two).first == 1);
+    CHECK(tick(two).first == 0);
+    a = send_record(two, two->cpa, two->cpa);
+    CHECK(a.number == GAUGE_NOT_OURS);
+    CHECK(receive(two, flood, 11).number == GAUGE_LENGTH);
+    uint8_t revocation[GAUGE_DATAGRAM_MOST];
+    delivered(2, revocation, gauge_revocation(&one->lent, one->cpa, sizeof one->cpa, revocation));
+    CHECK(gauge_lent_held(&two->lent) == 0);
+}
+
+/* Each part out of form, by itself and with those behind it; nothing changes by asking. */
+static void parts(void)
+{
+    struct gauge_lent *l = &gauges[1].lent;
+    begin(1);
+    CHECK(gauge_lent_not_in_form(l) == GAUGE_PART_NONE);
+    l->waiting[4] = 3;
+    CHECK(gauge_lent_not_in_form(l) == GAUGE_PART_WAITING && l->waiting[4] == 3);
+    gauges[1].cache[GAUGE_RECORD_COUNT] = 5;
+    CHECK(gauge_lent_not_in_form(l) == GAUGE_PART_CACHE);
+    l->cpa_len = 1025;
+    CHECK(gauge_lent_not_in_form(l) == GAUGE_PART_CPA);
+    l->cpa_len = 0;
+    CHECK(gauge_lent_not_in_form(l) == GAUGE_PART_CPA);
+    l->own[GAUGE_RECORD_COUNT] = 0;
+    CHECK(gauge_lent_not_in_form(l) == GAUGE_PART_OWN);
+    CHECK(gauge_lent_receive(l, l->own, 0).number == GAUGE_MEMORY);
+    uint8_t own[GAUGE_RECORD_LEN] = {0}, waiting[GAUGE_WAITING_LEN] = {0}, cache[GAUGE_CACHE_LEN(HELD)] = {0};
+    own[GAUGE_RECORD_COUNT] = 1;
+    CHECK(gauge_not_in_form(own, sizeof own, 1, cache, sizeof cache, waiting, sizeof waiting) == GAUGE_PART_NONE);
+    CHECK(gauge_not_in_form(own, 99, 1, cache, sizeof cache, waiting, sizeof waiting) == GAUGE_PART_OWN);
+    CHECK(gauge_not_in_form(own, sizeof own, 1, cache, 900, waiting, sizeof waiting) == GAUGE_PART_CACHE);
+    CHECK(gauge_not_in_form(own, sizeof own, 1, cache, sizeof cache, waiting, 2239) == GAUGE_PART_WAITING);
+}
+
+/* A text for each number, no two the same; another for what is none. Which are the sender's: gauge.h says it of 2 to 12. */
+static void texts(void)
+{
+    for (uint32_t n = 0; n <= 17; n++)
+        for (uint32_t m = 0; m < n; m++)
+            CHECK((strcmp(gauge_number_text(n), gauge_number_text(m)) == 0) == (n == 17 && m == 16));
+    for (uint32_t n = 0; n <= 16; n++)
+        CHECK(gauge_number_is_senders(n) == (n >= 2 && n <= 12));
+    CHECK(strcmp(gauge_kind_text(GAUGE_FLOOD), "FLOOD") == 0 && strcmp(gauge_kind_text(GAUGE_LOOKUP), "LOOKUP") == 0);
+    CHECK(strcmp(gauge_kind_text(5), gauge_kind_text(0)) == 0 && strcmp(gauge_kind_text(GAUGE_ACK), gauge_kind_text(0)) != 0);
+    CHECK(strcmp(gauge_reading_text(3), gauge_reading_text(4)) != 0 && strcmp(gauge_reading_text(1), gauge_reading_text(2)) != 0);
+    CHECK(strcmp(gauge_part_text(GAUGE_PART_CACHE), "the cache") == 0 && strcmp(gauge_part_text(GAUGE_PART_WAITING), "the waiting table") == 0);
+    CHECK(strcmp(GAUGE_VERSION, "1.1") == 0 && GAUGE_VERSION_NUMBER == 101);
+}
+
+static void hex(const uint8_t *bytes, size_t len)
+{
+    for (size_t i = 0; i < len; i++)
+        printf("%02x", bytes[i]);
+}
+
+/* The messages and the packed readings, a line each: what it is, of what, and its bytes. */
+static void told(const char *what, const struct gauge_lent *l, uint32_t id, const uint8_t *of, size_t of_len, const uint8_t *bytes, size_t len)
+{
+    printf("message %s %lu ", what, (unsigned long)id);
+    hex(l->own, sizeof l->own);
+    printf(" ");
+    hex(of, of_len);
+    printf("- ");
+    hex(bytes, len);
+    printf("\n");
+}
+
+static void messages(void)
+{
+    struct gauge_lent *l = &gauges[1].lent;
+    uint8_t bytes[GAUGE_DATAGRAM_MOST + 1], target[1200], addresses[4 * GAUGE_ADDRESS_LEN];
+    begin(1);
+    for (size_t i = 0; i < sizeof target; i++)
+        target[i] = (uint8_t)(i * 7 + 1);
+    for (size_t i = 0; i < sizeof addresses; i++)
+        addresses[i] = (uint8_t)(i + 64);
+    bytes[GAUGE_DATAGRAM_MOST] = 0x5A;
+    for (uint8_t count = 1; count <= 4; count++) {
+        l->id = 0xFFFFFFFD + count;
+        gauge_lent_own(l, target, 0x1234, addresses, count);
+        uint32_t id = l->id;
+        told("first_flood", l, id, target, 0, bytes, gauge_first_flood(l, bytes));
+        CHECK(l->id == id + 1);
+        id = l->id;
+        told("lookup", l, id, target, GAUGE_KEY_LEN, bytes, gauge_lookup(l, target, bytes));
+    }
+    const size_t lengths[] = {0, 1, 2, 3, 4, 32, 1171, 1172};
+    for (size_t i = 0; i < sizeof lengths / sizeof *lengths; i++) {
+        uint32_t id = l->id;
+        told("revocation", l, id, target, lengths[i], bytes, gauge_revocation(l, target, lengths[i], bytes));
+    }
+    CHECK(gauge_revocation(l, target, 1173, bytes) == 0 && bytes[GAUGE_DATAGRAM_MOST] == 0x5A);
+    const struct gauge_reading readings[] = {{0, 0, 1, 0x3FA00000, 3, 4}, {0, 0, 2, 65535, 0xFFFFFFFF, 0x01020304}, {0, 0, 3, 1, 2, 3}};
+    for (size_t i = 0; i < 3; i++) {
+        const struct gauge_reading *r = &readings[i];
+        printf("reading %lu %lu %lu %lu ", (unsigned long)r->kind, (unsigned long)r->measure, (unsigned long)r->litres_in,
+               (unsigned long)r->litres_out);
+        hex(bytes, gauge_reading_pack(r, bytes));
+        printf("-\n");
+    }
+}
+
+int main(void)
+{
+    find_each_other();
+    parts();
+    texts();
+    messages();
+    printf("%u things hold, %u do not\n", tests - failed, failed);
+    return failed > 0;
+}

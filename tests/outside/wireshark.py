@@ -1,23 +1,30 @@
 #!/usr/bin/env python3
-"""Holds the good datagrams of the vectors against Wireshark's PNRP dissector, a reader that nobody here wrote.
+"""Shows the good datagrams of the vectors to Wireshark, by its own dissector and by ours. `make outside` installs tshark and runs it; no test of the gate.
 
-PNRP 4.0 (document 004) has DRT's header and most of its fields. The dissector of Debian's tshark 4.0 stops after the first field, so each field is
-shown to it as the first of a datagram with the same header. It does not know the fields that DRT added, takes a CPA apart where ours is opaque, and
-tests neither ranges nor left-over bytes: what it is good for is numbers, lengths, flag bits and places. So it is no test of the gate; `make outside`
-installs tshark and runs it.
+Its own is for PNRP 4.0 (document 004), which has DRT's header and most of its fields, and was written by nobody here. Of a whole datagram of ours it
+reads the header and the first field, and then calls the packet malformed, as it does not know DRT's fields: how often is counted here. So each field is
+shown to it as the first of a datagram with the same header. It takes a CPA apart where ours is opaque, and tests neither ranges nor left-over bytes:
+what it is good for is numbers, lengths, flag bits and places.
+
+Ours is tools/drt.lua, for all eight messages: of each good datagram, whole, every value that the model reads must be shown and nothing be called
+malformed; of damaged ones, those that the model refuses must be, and no others. By itself it is tried in the gate (tests/outside/read).
 """
 if not __debug__:
-    raise SystemExit("outside.py: run it without -O and PYTHONOPTIMIZE, which leave its asserts out")
+    raise SystemExit("wireshark.py: run it without -O and PYTHONOPTIMIZE, which leave its asserts out")
+import importlib.machinery
 import ipaddress
 import os
+import random
 import struct
 import subprocess
 import sys
 import tempfile
 
-import with_models
+sys.dont_write_bytecode = True
+HERE = os.path.dirname(os.path.abspath(__file__))
+ROOT = os.path.join(HERE, "..", "..")
+read = importlib.machinery.SourceFileLoader("read", os.path.join(HERE, "read")).load_module()  # it finds the models
 import model
-import vector_messages
 
 
 def places(datagram):
@@ -39,14 +46,25 @@ def capture(datagrams, path):
             f.write(struct.pack("<IIII", i, 0, len(ip), len(ip)) + ip)
 
 
-def dissected(datagram):
-    """All lines that tshark prints of the header and of each field."""
+def tshark(datagrams, *words):
+    """What tshark prints of packets with these datagrams."""
     fd, path = tempfile.mkstemp(suffix=".pcap")
     os.close(fd)
-    capture([datagram[:12] + datagram[at:] + bytes(8) for at in places(datagram)], path)
-    run = subprocess.run(["tshark", "-r", path, "-d", "udp.port==3540,pnrp", "-O", "pnrp"], capture_output=True, text=True, check=True)
+    capture(datagrams, path)
+    run = subprocess.run(["tshark", "-r", path, *words], capture_output=True, text=True, check=True)
     os.unlink(path)
-    return {line.strip() for line in run.stdout.splitlines()}
+    return run.stdout
+
+
+def dissected(datagram):
+    """All lines that Wireshark's own dissector prints of the header and of each field."""
+    cuts = [datagram[:12] + datagram[at:] + bytes(8) for at in places(datagram)]
+    return {line.strip() for line in tshark(cuts, "-d", "udp.port==3540,pnrp", "-O", "pnrp").splitlines()}
+
+
+def called_malformed(datagrams):
+    """How many of the packets its own dissector calls malformed where each is shown whole."""
+    return tshark(datagrams, "-d", "udp.port==3540,pnrp").count("[Malformed Packet")
 
 
 def entry_lines(e):
@@ -76,21 +94,68 @@ def expected(m):
     return lines
 
 
-def main():
-    count, wrong = 0, 0
-    for v in vector_messages.vectors():
-        if isinstance(v, str) or v[0][0] != "read" or not v[1].startswith("0 "):
-            continue
-        number, message = model.read(v[0][2], v[0][1])
-        assert number == 0
-        lines, wanted = dissected(v[0][2]), expected(message)
-        count += 1
-        for line in wanted:
+OURS = ("-X", "lua_script:" + os.path.join(ROOT, "tools", "drt.lua"), "-d", "udp.port==3540,drt")
+
+
+def values_of(d):
+    """What our dissector must show of a datagram: each value of the line that tests/outside/read wants, in order."""
+    words = [word.split("=")[1] for word in read.wanted(d).split(" ") if "=" in word]
+    return words[:2] + words[4:]  # type and ID are shown in words of their own
+
+
+def shown_by_ours(datagrams):
+    """Of each packet the values that our dissector shows, and whether it is called malformed or in part."""
+    text = tshark(datagrams, *OURS, "-O", "drt")
+    for packet in text.split("\nFrame "):
+        layer = packet.split("Distributed Routing Table, ", 1)[-1].split("\n")
+        lines = [line.strip().replace("[truncated]", "") for line in layer[1:] if ":" in line and not line.strip().startswith("[E")]
+        values = [line.split(":", 1)[1].strip() for line in lines if not line.startswith(("Message type", "Message ID"))]
+        yield [str(int(v, 16)) if v.startswith("0x") else v for v in values], "(Error/Malformed)" in packet, "(Note/Reassemble)" in packet
+
+
+def as_shown(value, shown):
+    """Is it the value, of which tshark shows the first 200 characters or so?"""
+    return value == shown or (len(shown) > 150 and value.startswith(shown))
+
+
+def by_ours(whole):
+    """The differences between our dissector under tshark and the model."""
+    wrong = 0
+    for d, (values, malformed, part) in zip(whole, shown_by_ours(whole)):
+        if malformed or part or len(values) != len(values_of(d)) or not all(map(as_shown, values_of(d), values)):
+            wrong += 1
+            print("outside: drt.lua shows %s of %s" % (values, d.hex()[:80]))
+    chance = random.Random(30)
+    bad = [d for d in read.damaged(whole, chance) if 12 <= len(d) <= 1232 and chance.random() < 0.15]
+    for d, (_, malformed, part) in zip(bad, shown_by_ours(bad)):
+        number = int(read.wanted(d)[0])
+        if (malformed, part) != (number in (3, 5, 6), number == 7):
+            wrong += 1
+            print("outside: drt.lua finds %s malformed, %s in part; the model %d: %s" % (malformed, part, number, d.hex()[:80]))
+    return len(whole) + len(bad), wrong
+
+
+def by_their_own(whole):
+    """The differences between Wireshark's PNRP dissector, each field shown as a first one, and the model."""
+    wrong = 0
+    for d in whole:
+        lines = dissected(d)
+        for line in expected(model.read(d, d[5])[1]):
             if line not in lines:
                 wrong += 1
-                print("outside: %s: the dissector does not say '%s' of %s" % (message["type"], line, v[0][2].hex()[:80]))
-    print("outside: %d datagrams shown to tshark, %d differences" % (count, wrong))
-    sys.exit(1 if wrong or not count else 0)
+                print("outside: the PNRP dissector does not say '%s' of %s" % (line, d.hex()[:80]))
+    return wrong
+
+
+def main():
+    whole = read.good()
+    assert whole
+    theirs = by_their_own(whole)
+    print("outside: %d datagrams field by field to Wireshark's PNRP dissector, %d differences; whole, it calls %d of them malformed"
+          % (len(whole), theirs, called_malformed(whole)))
+    shown, ours = by_ours(whole)
+    print("outside: %d datagrams, whole and damaged, to tools/drt.lua under tshark, %d differences" % (shown, ours))
+    sys.exit(1 if theirs or ours else 0)
 
 
 if __name__ == "__main__":

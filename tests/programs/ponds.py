@@ -1,8 +1,8 @@
 #!/usr/bin/env python3
 """What the program `ponds` must write of packed readings, from document 02's request 7 by Python's own numbers.
 
-    ponds.py FILE           the whole text
-    ponds.py --inputs DIR   writes inputs into DIR: NAME.readings, and NAME.wanted beside it
+    ponds.py FILE [NAMES]   the whole text; NAMES has a line for each reading, in their order
+    ponds.py --inputs DIR   writes inputs into DIR: NAME.readings, NAME.names where there are names, and NAME.wanted beside it
     ponds.py --write        writes crates/ponds/stdin and crates/ponds/stdout
     ponds.py --check        compares the two files with what is said here, and what is said here with cases worked by hand
 
@@ -22,7 +22,7 @@ HERE = os.path.join(os.path.dirname(os.path.abspath(__file__)), "..", "..", "cra
 # 02, request 7: "Refusals of this layer"; no room is a refusal of writing.
 MEANING = {1: "of wrong length, or cut short", 2: "of an unknown kind", 3: "its depth is not from 0 to 20 metres"}
 
-HEADING = "%7s  %-11s  %10s  %10s  %11s\n" % ("Reading", "Depth, m", "Litres in", "Litres out", "Balance")
+HEADING = "%7s  %-11s  %10s  %10s  %11s" % ("Reading", "Depth, m", "Litres in", "Litres out", "Balance")
 
 
 # --- What a reading is -----------------------------------------------------------------------------------------------------
@@ -79,28 +79,44 @@ def marked(balance):
     return "  deficit" if balance < 0 else ""
 
 
-def line(n, number, reading):
+# A name stands behind what its line has, all from one column on.
+def named(text, name):
+    return "%-66s  %s\n" % (text, name) if name else text + "\n"
+
+
+def line(n, number, reading, unseen):
     if number:
-        return "%7d  refused: %d %s\n" % (n, number, MEANING[number])
+        return "%7d  refused: %d %s" % (n, number, MEANING[number]) + ("; bytes not looked at: %d" % unseen if unseen else "")
     measured, inflow, outflow = reading
     balance = inflow - outflow
-    return "%7d  %-11s  %10d  %10d  %11s%s\n" % (n, measured, inflow, outflow, signed(balance), marked(balance))
+    return "%7d  %-11s  %10d  %10d  %11s%s" % (n, measured, inflow, outflow, signed(balance), marked(balance))
 
 
-def sums_text(found):
+# Behind a length that is wrong nothing is looked at, up to where it leads.
+def unseen_in(piece, number):
+    return max(0, len(piece) - 2) if number == 1 else 0
+
+
+def sums_text(found, unseen):
     numbers = [number for number, _ in found if number]
     flows = [reading[1:] for number, reading in found if not number]
     inflow, outflow = sum(f[0] for f in flows), sum(f[1] for f in flows)
     text = "\n" + "".join("%-20s%22d\n" % row for row in (("Readings", len(found)), ("Taken", len(flows)), ("Refused", len(numbers))))
     text += "".join("%42d  %d %s\n" % (numbers.count(n), n, MEANING[n]) for n in sorted(set(numbers)))
+    text += "%-20s%22d\n" % ("Bytes not looked at", unseen) if unseen else ""
     text += "%-20s%22d\n%-20s%22d\n" % ("Litres in", inflow, "Litres out", outflow)
     text += "%-20s%22s%s\n" % ("Balance", signed(inflow - outflow), marked(inflow - outflow))
-    return text + "%-20s%22d\n" % ("Ponds with a deficit", sum(1 for i, o in flows if i < o))
+    return text + "%-20s%22d\n" % ("Readings in deficit", sum(1 for i, o in flows if i < o))
 
 
-def shown(data):
-    found = [unpacked(piece) for piece in cut_up(data)]
-    return HEADING + "".join(line(n, *f) for n, f in enumerate(found, 1)) + sums_text(found)
+def shown(data, names=b""):
+    pieces, known = list(cut_up(data)), names.decode().split("\n")
+    found = [unpacked(piece) for piece in pieces]
+    unseen = [unseen_in(piece, number) for piece, (number, _) in zip(pieces, found)]
+    text = named(HEADING, "Pond" if names else "")
+    for n, (number, reading) in enumerate(found, 1):
+        text += named(line(n, number, reading, unseen[n - 1]), known[n - 1] if n <= len(known) else "")
+    return text + sums_text(found, sum(unseen))
 
 
 # --- Readings --------------------------------------------------------------------------------------------------------------
@@ -195,6 +211,13 @@ def inputs():
         yield "random_%02d" % n, random_readings(rng)
 
 
+# Fewer names than readings, as many, and more; empty ones, one with characters of two bytes, and a last line without an end.
+def named_inputs():
+    for name, names in (("one", b"Fonte Bassa"), ("all", b"Fonte Bassa\n\n%s\n" % "Pozza dell'Àlbero".encode() + b"n" * 40), ("ended", b"a\nb\n"),
+                        ("empty", b"\n"), ("more", b"\n".join(b"Pond %d" % n for n in range(6000)))):
+        yield "named_" + name, worked(), names
+
+
 # --- Worked by hand --------------------------------------------------------------------------------------------------------
 
 # 1/16 is 62.5 mm and 3/16 is 187.5 mm: to the even one. The binary32 next to 0.0005 and 0.0015 lie above them, that next to 0.0025 below.
@@ -212,7 +235,10 @@ BY_HAND = (
     (depth(0x41A00001), "      1  refused: 3 its depth is not from 0 to 20 metres\n"),
     (depth(0x7FC00000), "      1  refused: 3 its depth is not from 0 to 20 metres\n"),
     (packed(3, b""), "      1  refused: 2 of an unknown kind\n"),
-    (b"\2", "      1  refused: 1 of wrong length, or cut short\n"))
+    (b"\2", "      1  refused: 1 of wrong length, or cut short\n"),
+    (b"\2\0", "      1  refused: 1 of wrong length, or cut short\n"),
+    (depth(1)[:-1], "      1  refused: 1 of wrong length, or cut short; bytes not looked at: 13\n"),
+    (b"\x1e" + depth(1)[1:] + fault(1), "      1  refused: 1 of wrong length, or cut short; bytes not looked at: 28\n"))
 
 
 def faults():
@@ -231,10 +257,12 @@ def files():
 
 
 def write_inputs(folder):
-    for name, data in inputs():
+    for name, data, names in [(*pair, b"") for pair in inputs()] + list(named_inputs()):
         base = os.path.join(folder, name)
         open(base + ".readings", "wb").write(data)
-        open(base + ".wanted", "w").write(shown(data))
+        open(base + ".wanted", "w").write(shown(data, names))
+        if names:
+            open(base + ".names", "wb").write(names)
 
 
 def main():
@@ -250,7 +278,7 @@ def main():
             print("ponds: " + fault_text)
         sys.exit(1 if found else 0)
     else:
-        sys.stdout.write(shown(open(words[0], "rb").read()))
+        sys.stdout.write(shown(*(open(path, "rb").read() for path in words[:2])))
 
 
 if __name__ == "__main__":

@@ -191,6 +191,8 @@ def totals_text(answers):
 # --- The whole -------------------------------------------------------------------------------------------------------------
 
 STOPPED = "The replay stopped at this record. What follows it in the trace was not looked at.\n"
+MIDDLE = "This night ends in the middle: it is not the whole night.\n"
+NONE = "This night has no call that was accepted: it was refused from its first call on.\n"
 NO_NIGHT = "The trace does not open with a gauge's own record, as a night must: there is no more to show.\n"
 
 
@@ -202,9 +204,11 @@ def shown(data, names=b""):
         return HEADING + line(0, what, answers[0]) + NO_NIGHT
     known = names_of(names)
     text = opening_text(known, night) + HEADING + record_lines(known, data, answers, night.major)
-    if answers and answers[-1] in BAD_RECORD:
+    stopped = answers and answers[-1] in BAD_RECORD
+    if stopped:
         text += STOPPED
-    return text + state_text(known, night) + totals_text(answers)
+    text += state_text(known, night) + totals_text(answers)
+    return text + (MIDDLE if stopped else NONE if answers and 0 not in answers else "")
 
 
 # --- Commands --------------------------------------------------------------------------------------------------------------

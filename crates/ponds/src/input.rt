@@ -1,4 +1,5 @@
 // Readings from standard input.
+use readings::Unpacked;
 
 // A reading has so many bytes at most: two of its length, and as many as they can say.
 pub(crate) const READING: usize = 65537;
@@ -41,4 +42,23 @@ pub(crate) fn next_reading(room: &mut [u8]) -> Next {
         len: 2 + came,
         more: came == told,
     }
+}
+
+// Of a reading of so many bytes: how many stand behind a length that is wrong, and were not looked at.
+pub(crate) fn unseen(len: usize, found: Unpacked) -> u64 {
+    match found {
+        Unpacked::Read(_) => 0,
+        Unpacked::Refused(number) => behind_length(len, number),
+    }
+}
+
+// Number 1 is document 02's for a wrong length.
+fn behind_length(len: usize, number: u32) -> u64 {
+    if number != 1 {
+        return 0;
+    }
+    if len < 2 {
+        return 0;
+    }
+    (len - 2) as u64
 }

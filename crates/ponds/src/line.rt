@@ -1,12 +1,23 @@
 // The line of a reading.
 use crate::balance;
 use crate::depth;
+use crate::names;
 use readings::Measured;
 use readings::Reading;
 use readings::Unpacked;
 
-pub(crate) fn say_heading() {
-    text::tell(b"Reading  Depth, m      Litres in  Litres out      Balance\n");
+// The column of names is there where some bytes of names are.
+pub(crate) fn say_heading(line: &mut [u8], named: usize) {
+    let end = text::put(
+        line,
+        0,
+        b"Reading  Depth, m      Litres in  Litres out      Balance",
+    );
+    if named == 0 {
+        return text::say(line, end);
+    }
+    let a = names::put(line, end, b"Pond");
+    text::say(line, a)
 }
 
 // A depth in metres, or a fault with its number, in a column.
@@ -56,23 +67,35 @@ fn put_place(line: &mut [u8], at: u64) -> usize {
     text::put(line, a, b"  ")
 }
 
-fn say_reading(line: &mut [u8], at: u64, reading: Reading) {
+fn say_reading(line: &mut [u8], name: &[u8], at: u64, reading: Reading) {
     let a = put_place(line, at);
     let b = put_reading(line, a, reading);
-    text::say(line, b);
-}
-
-fn say_refused(line: &mut [u8], at: u64, number: u32) {
-    let a = put_place(line, at);
-    let b = text::put(line, a, b"refused: ");
-    let c = put_refusal(line, b, number);
+    let c = names::put(line, b, name);
     text::say(line, c);
 }
 
-// What was found at a place, counted from 1.
-pub(crate) fn say_found(line: &mut [u8], at: u64, found: Unpacked) {
+// How many bytes behind a wrong length were not looked at, if some were.
+fn put_unseen(line: &mut [u8], at: usize, unseen: u64) -> usize {
+    if unseen == 0 {
+        return at;
+    }
+    let a = text::put(line, at, b"; bytes not looked at: ");
+    text::number(line, a, unseen)
+}
+
+fn say_refused(line: &mut [u8], name: &[u8], at: u64, number: u32, unseen: u64) {
+    let a = put_place(line, at);
+    let b = text::put(line, a, b"refused: ");
+    let c = put_refusal(line, b, number);
+    let d = put_unseen(line, c, unseen);
+    let e = names::put(line, d, name);
+    text::say(line, e);
+}
+
+// What was found at a place, counted from 1, the name of that pond, and how many bytes were not looked at.
+pub(crate) fn say_found(line: &mut [u8], name: &[u8], at: u64, found: Unpacked, unseen: u64) {
     match found {
-        Unpacked::Read(reading) => say_reading(line, at, reading),
-        Unpacked::Refused(number) => say_refused(line, at, number),
+        Unpacked::Read(reading) => say_reading(line, name, at, reading),
+        Unpacked::Refused(number) => say_refused(line, name, at, number, unseen),
     }
 }

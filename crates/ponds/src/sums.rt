@@ -17,6 +17,7 @@ pub(crate) struct Sums {
     inflow: u64,
     outflow: u64,
     deficits: u64,
+    unseen: u64,
 }
 
 pub(crate) fn none() -> Sums {
@@ -28,6 +29,7 @@ pub(crate) fn none() -> Sums {
         inflow: 0,
         outflow: 0,
         deficits: 0,
+        unseen: 0,
     }
 }
 
@@ -50,10 +52,11 @@ fn with_reading(sums: Sums, reading: Reading) -> Sums {
         inflow: plus(sums.inflow, reading.inflow as u64),
         outflow: plus(sums.outflow, reading.outflow as u64),
         deficits: plus(sums.deficits, one_if(deficit)),
+        unseen: sums.unseen,
     }
 }
 
-fn with_refused(sums: Sums, number: u32) -> Sums {
+fn with_refused(sums: Sums, number: u32, unseen: u64) -> Sums {
     Sums {
         taken: sums.taken,
         wrong_length: plus(sums.wrong_length, one_if(number == 1)),
@@ -62,13 +65,15 @@ fn with_refused(sums: Sums, number: u32) -> Sums {
         inflow: sums.inflow,
         outflow: sums.outflow,
         deficits: sums.deficits,
+        unseen: plus(sums.unseen, unseen),
     }
 }
 
-pub(crate) fn with(sums: Sums, found: Unpacked) -> Sums {
+// With what was found, and the bytes that were not looked at.
+pub(crate) fn with(sums: Sums, found: Unpacked, unseen: u64) -> Sums {
     match found {
         Unpacked::Read(reading) => with_reading(sums, reading),
-        Unpacked::Refused(number) => with_refused(sums, number),
+        Unpacked::Refused(number) => with_refused(sums, number, unseen),
     }
 }
 
@@ -76,6 +81,13 @@ fn say_sum(line: &mut [u8], what: &[u8], n: u64) {
     let a = text::left(line, 0, what, LABEL);
     let b = text::column(line, a, n, SUM);
     text::say(line, b);
+}
+
+fn say_unseen(line: &mut [u8], unseen: u64) {
+    if unseen == 0 {
+        return;
+    }
+    say_sum(line, b"Bytes not looked at", unseen)
 }
 
 // Of one number, if it was given.
@@ -101,6 +113,7 @@ fn say_counts(line: &mut [u8], sums: Sums) {
     say_sum(line, b"Taken", sums.taken);
     say_sum(line, b"Refused", refused);
     say_refusals(line, sums);
+    say_unseen(line, sums.unseen);
 }
 
 fn say_balance(line: &mut [u8], inflow: u64, outflow: u64) {
@@ -115,10 +128,10 @@ fn say_litres(line: &mut [u8], sums: Sums) {
     say_balance(line, sums.inflow, sums.outflow);
 }
 
-// A reading does not say whose it is: each is that of a pond.
+// A reading does not say whose it is, and a pond may have several: what is counted are readings.
 pub(crate) fn say_sums(line: &mut [u8], sums: Sums) {
     text::tell(b"\n");
     say_counts(line, sums);
     say_litres(line, sums);
-    say_sum(line, b"Ponds with a deficit", sums.deficits);
+    say_sum(line, b"Readings in deficit", sums.deficits);
 }

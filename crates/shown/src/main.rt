@@ -104,6 +104,18 @@ fn each(
     at
 }
 
+// The last line, where the night is not whole, or no call of it was taken: the launcher's status goes by it.
+fn say_last(counts: &[u64; 18]) {
+    if totals::is_stopped(counts) {
+        return text::tell(b"This night ends in the middle: it is not the whole night.\n");
+    }
+    if totals::is_refused(counts) {
+        text::tell(
+            b"This night has no call that was accepted: it was refused from its first call on.\n",
+        );
+    }
+}
+
 // Behind the records: why there are no more, what the gauge kept, how often each answer was given.
 fn say_end(
     line: &mut [u8],
@@ -126,6 +138,7 @@ fn say_end(
     }
     state::say_state(line, names, opening, cache, waiting);
     totals::say_totals(line, counts);
+    say_last(counts)
 }
 
 fn main() {

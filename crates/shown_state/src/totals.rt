@@ -30,6 +30,14 @@ fn sum(counts: &[u64; 18], from: usize) -> u64 {
     all
 }
 
+// Were there calls, and none that was accepted?
+pub fn is_refused(counts: &[u64; 18]) -> bool {
+    if counts[0] != 0 {
+        return false;
+    }
+    sum(counts, 1) != 0
+}
+
 fn say_sum(line: &mut [u8], what: &[u8], n: u64) {
     let a = text::put(line, 0, what);
     let b = text::column(line, a, n, 8);

@@ -7,11 +7,11 @@ use Rattle.ponds.proofs.each.Statement.{statement}
 use Rattle.ponds.proofs.each.Tie as tie
 
 abbrev Inv-loop : tie.InvT-loop
-Inv-loop line₀ room₀ sums₀ taken₀ t6 line room sums taken =
+Inv-loop line₀ names room₀ sums₀ taken₀ t6 line room sums taken =
     (length line ≡ length line₀) × (length room ≡ length room₀)
 
 abbrev μ-loop : tie.MeasureT-loop
-μ-loop line₀ room₀ sums₀ taken₀ t6 line room sums taken = 4294967296 - taken
+μ-loop line₀ names room₀ sums₀ taken₀ t6 line room sums taken = 4294967296 - taken
 
 none-requires : tie.Need-none-requires Inv-loop μ-loop
 none-requires c κs = search needs

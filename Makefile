@@ -1,13 +1,14 @@
-# Two commands: `make run` shows what the gauge's functions make of fixed vectors, what happens on the hill, and the night recorded there; `make test` is
+# Two commands: `make run` shows what happens on the hill, the night recorded there, and what the gauge's functions make of fixed vectors; `make test` is
 # all that the gate runs.
-.PHONY: run test check lib install ponds hill fmt definitions vectors outside counted compare planted nights soak tools clean bench
+.PHONY: run test check lib install first two_ponds hill fmt definitions vectors outside counted compare planted nights soak tools clean bench
 
+# What is not proved yet is proved first, and told crate by crate (tools/prove). The three programs of bin/ are then built too.
 run: tools
-	@tests/vectors/run-vectors
-	@echo
 	@$(MAKE) --no-print-directory hill
 	@echo
 	@tools/run-night
+	@echo
+	@tests/vectors/run-vectors
 
 test:
 	@tests/gate
@@ -16,27 +17,34 @@ test:
 check:
 	@rt check
 
-# What a C program links and includes: target/libgauge.a, target/gauge.h and, to record calls, target/gauge_trace.h.
+# What a C program links and includes: target/libgauge.a, target/gauge.h, for a host target/gauge_host.h, to record calls target/gauge_trace.h.
 lib:
+	@tools/install lib
 	@tools/lib
 	@echo 'target/libgauge.a and target/gauge.h, for C on x86-64'
 
 # The same where pkg-config finds it: make install PREFIX=.. (DESTDIR for whoever makes a package).
 PREFIX = /usr/local
 install:
+	@tools/install lib
 	@tools/lib
 	@tools/install-lib $(PREFIX) $(DESTDIR)
 
-# Radio programs in C, built on the archive and run: two gauges that find each other, and all 61.
-C = tools/cc -std=c99 -O1 -Wall -Wextra -Wconversion -Werror -Itarget
-ponds: tools lib
-	@$(C) examples/two_ponds.c target/libgauge.a -o target/two_ponds
-	@tools/run target/two_ponds
+# Radio programs in C, built on the archive and run: the first host, two gauges by each call in turn, and all 61.
+C = tools/cc -std=c99 -O1 -Wall -Wextra -Wconversion -Wshadow -Werror -Itarget
+define example
+@tools/lib
+@$(C) examples/$@.c target/libgauge.a -o target/$@
+@tools/run target/$@
+endef
+first: tools
+	$(example)
+
+two_ponds: tools
+	$(example)
 
 hill: tools
-	@tools/lib
-	@$(C) examples/hill.c target/libgauge.a -o target/hill
-	@tools/run target/hill
+	$(example)
 
 fmt:
 	@rt fmt
@@ -49,10 +57,10 @@ definitions:
 vectors:
 	@tests/vectors/vectors.py --write
 
-# The good datagrams of the vectors, shown to Wireshark's dissector. No test of the gate.
+# The good datagrams of the vectors, shown to Wireshark: to its own dissector and to ours (tools/drt.lua), also damaged ones. No test of the gate.
 outside:
-	@tools/install tshark
-	@tests/vectors/outside.py
+	@tools/install outside
+	@tests/outside/wireshark.py
 
 # Executed instructions of form and closest against plain C (docs/landings/03-memory.md). A test of the gate.
 counted:

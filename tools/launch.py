@@ -1,41 +1,316 @@
-#!/usr/bin/env bash
-# launch NAME [TRACE [NAMES]]: runs a program of the repository on this machine, on a recorded night; it is proved and built first where needed.
-# TRACE becomes its standard input, NAMES its file descriptor 3. For ./replay and ./shown.
-set -eu
-name=$1
-shift
-fault() {
-    echo "$name: $1" >&2
-    exit 2
-}
-readable() { # FILE
-    [ -e "$1" ] || fault "no such file: $1"
-    [ ! -d "$1" ] || fault "$1 is a folder; give the file of a trace"
-    [ -r "$1" ] || fault "$1 can't be read: give yourself the right to"
-}
-exec 3<&-
-if [ $# -gt 0 ]; then
-    readable "$1"
-    exec <"$1"
-elif [ -t 0 ]; then
-    fault "give a trace: ./$name FILE, or ./$name <FILE"
-fi
-if [ $# -gt 1 ]; then
-    readable "$2"
-    exec 3<"$2"
-fi
+"""Runs a program of the house as a keeper does: bin/replay, bin/shown and bin/ponds all come here.
 
-cd "$(dirname "$0")/.."
-program=target/bin/$name
-if [ ! -x "$program" ] || [ -n "$(find crates crates.txt -newer "$program" -print -quit)" ]; then
-    command -v rt >/dev/null || fault "the Rattle kit is missing: its command rt must be on the PATH"
-    echo "$name: proving and building, which takes a while the first time" >&2
-    mkdir -p target
-    if ! rt check "$name" >"target/launch-$name.log" 2>&1 </dev/null 3<&-; then
-        tail -n 5 "target/launch-$name.log" >&2
-        fault "not proved, so it is not run; the whole report is target/launch-$name.log"
-    fi
-    touch -c "$program" # as new as what it was built from
-fi
-[ "$(uname -m)" = x86_64 ] || command -v qemu-x86_64 >/dev/null || fault "an emulator is missing: make tools installs it"
-exec tools/run "$program"
+    launch NAME [WORDS..]
+
+The program is proved and built first where what it is made of has changed (tools/prove tells how far that is). Its input and output go through this
+launcher, which so sees what can't be read or written, and gives a status, as a program itself has none:
+
+    0  a whole night; readings that were all taken
+    1  a night that is damaged, cut short, or refused from its first call on; a reading that was refused
+    2  a file that can't be read, an output that can't be written, a wrong use
+
+It goes by the lines that the program writes (WATCHERS) and by what comes on descriptor 2. Names are made ready here (tools/names.py).
+"""
+import hashlib
+import os
+import re
+import shutil
+import signal
+import stat
+import subprocess
+import sys
+import threading
+
+sys.dont_write_bytecode = True
+import layers
+import names
+
+ROOT = os.path.join(os.path.dirname(os.path.realpath(__file__)), "..")
+PIECE = 65536
+NIGHT = "a recorded night, a file in the form of document 02's request 1 (include/gauge_trace.h writes one)"
+STATUS = """It ends with 0 %s, 1 %s,
+2 for a file that can't be read, an output that can't be written or a wrong use."""
+OF_NIGHT = STATUS % ("for a whole night", "for one that is damaged, cut short or refused from its first call on")
+NAMES = """NAMES   a text file: each line a key of 64 hexadecimal digits, a space, tab or comma, and the name of its pond"""
+
+HELP = {
+    "replay": """bin/replay [TRACE]
+
+Makes a recorded night again. Writes for each call its number from 1, a space and the answer that it gave; 16 or 17 for a record that can't be used,
+which is the last line.
+
+TRACE   %s; standard input where it is left out or -
+
+%s
+""" % (NIGHT, OF_NIGHT),
+    "shown": """bin/shown [TRACE [NAMES]]
+
+Shows a recorded night in words: each call with its answer's meaning, what the gauge held at the end, how often each answer was given.
+
+TRACE   %s; standard input where it is left out or -
+%s
+
+%s
+""" % (NIGHT, NAMES, OF_NIGHT),
+    "ponds": """bin/ponds [READINGS [NAMES]]
+
+Lists packed readings of ponds: each with its depth or fault, its litres in and out and the balance, or why it is refused; then the sums.
+
+READINGS   readings packed as in document 02's request 7 (docs/MEMORY.md), one behind the other; standard input where it is left out or -
+%s;
+        the first name is that of the first reading, and so on
+
+%s
+""" % (NAMES, STATUS % ("for readings that were all taken", "where one was refused or cut short")),
+}
+MOST_WORDS = {"replay": 1, "shown": 2, "ponds": 2}
+
+
+class Fault(Exception):
+    """What the keeper is told before status 2."""
+
+
+# --- What the lines say ------------------------------------------------------------------------------------------------------
+
+class Replay:
+    """Each line is a number, a space and an answer."""
+
+    def __init__(self):
+        self.calls, self.accepted, self.last = 0, 0, None
+
+    def line(self, text):
+        number, _, answer = text.partition(" ")
+        self.calls, self.last = self.calls + 1, (number, answer)
+        self.accepted += answer == "0"
+
+    def verdict(self):
+        """A status, and a word for descriptor 2."""
+        if self.last and self.last[1] in ("16", "17"):
+            if self.last[0] == "0":
+                return 1, "the trace does not open with a gauge's own record: there is no night in it"
+            return 1, "the night ends in the middle: record %s can't be used (%s), and what follows it was not looked at" % self.last
+        if self.calls and not self.accepted:
+            return 1, "no call of this night was accepted: it was refused from its first call on"
+        return 0, None
+
+
+class Shown:
+    """Its last line says so where the night is not whole."""
+    ENDS = ("This night ends in the middle", "This night has no call that was accepted", "The trace does not open with a gauge's own record")
+
+    def __init__(self):
+        self.last = ""
+
+    def line(self, text):
+        self.last = text
+
+    def verdict(self):
+        return int(self.last.startswith(self.ENDS)), None
+
+
+class Ponds:
+    """The sums stand behind the last reading: how many were refused."""
+
+    def __init__(self):
+        self.refused = False
+
+    def line(self, text):
+        found = re.fullmatch(r"Refused +(\d+)", text)
+        self.refused = self.refused or bool(found and int(found.group(1)))
+
+    def verdict(self):
+        return int(self.refused), None
+
+
+WATCHERS = {"replay": Replay, "shown": Shown, "ponds": Ponds}
+
+
+# --- The program -------------------------------------------------------------------------------------------------------------
+
+def sums_of(name):
+    """What a program was made of and is, as one sum: the sources of its crates, and itself."""
+    whole = hashlib.sha256()
+    files = [os.path.join(at, file) for crate in layers.below([name]) for part in ("src", "specs", "proofs") for at, _, found in os.walk("crates/%s/%s" % (crate, part))
+             for file in found]
+    for path in sorted(files) + ["target/bin/" + name]:
+        whole.update(path.encode() + b"\0" + open(path, "rb").read())
+    return whole.hexdigest()
+
+
+def build(name):
+    """Proves and builds the program where that is needed."""
+    stamp = "target/launch-%s.stamp" % name
+    if os.path.exists("target/bin/" + name) and os.path.exists(stamp) and open(stamp, encoding="utf-8").read() == sums_of(name):
+        return
+    if not shutil.which("rt"):
+        raise Fault("the Rattle kit is missing: its command rt must be on the PATH")
+    if subprocess.run(["tools/prove", name], stdin=subprocess.DEVNULL).returncode != 0:
+        raise Fault("not proved, so it is not run")
+    with open(stamp, "w", encoding="utf-8") as file:
+        file.write(sums_of(name))
+
+
+def opened(path, what):
+    try:
+        file = os.open(path, os.O_RDONLY)
+        if stat.S_ISDIR(os.fstat(file).st_mode):
+            raise Fault("%s is a folder; give the file of %s" % (path, what))
+        return file
+    except FileNotFoundError:
+        raise Fault("no such file: %s" % path)
+    except OSError as error:
+        raise Fault("%s can't be read: %s" % (path, error.strerror))
+
+
+def ready_names(path, name):
+    try:
+        return names.ready(opened(path, "names"), path, name, keyed=name == "shown")
+    except OSError as error:
+        raise Fault("%s can't be read: %s" % (path, error.strerror))
+
+
+def is_open(descriptor):
+    try:
+        os.fstat(descriptor)
+        return True
+    except OSError:
+        return False
+
+
+def set_up():
+    """Descriptors 0 to 3 are taken from the start on, so that no file gets one of these: 3 is for names."""
+    closed = [descriptor for descriptor in (0, 1, 2) if not is_open(descriptor)]
+    while os.open(os.devnull, os.O_RDWR) < 3:
+        pass
+    os.dup2(os.open(os.devnull, os.O_RDONLY), 3)
+    if 1 in closed:
+        raise Fault("standard output can't be written: it is closed")
+    return 0 not in closed
+
+
+def input_of(name, words, readable):
+    """The descriptor that is read: of a file, or standard input."""
+    what = "readings" if name == "ponds" else "a trace"
+    if words and words[0] != "-":
+        return opened(words[0], what)
+    if not readable:
+        raise Fault("standard input is closed; give the file of %s" % what)
+    if stat.S_ISDIR(os.fstat(0).st_mode):
+        raise Fault("standard input is a folder; give the file of %s" % what)
+    if os.isatty(0) and not words:
+        raise Fault("give %s: bin/%s FILE, or bin/%s <FILE; bin/%s --help tells more" % (what, name, name, name))
+    return 0
+
+
+class Run:
+    """The program, with what goes in and what comes out."""
+
+    def __init__(self, name, source, text):
+        self.name, self.source, self.watcher = name, source, WATCHERS[name]()
+        self.unread = self.complained = None
+        keep = ()
+        if text is not None:
+            held = os.memfd_create("names")
+            os.write(held, text)
+            os.lseek(held, 0, os.SEEK_SET)
+            os.dup2(held, 3)
+            keep = (3,)
+        self.child = subprocess.Popen(["tools/run", "target/bin/" + name], stdin=subprocess.PIPE, stdout=subprocess.PIPE, stderr=subprocess.PIPE,
+                                      pass_fds=keep)
+
+    def feed(self):
+        """All that can be read goes to the program, as long as it takes some."""
+        try:
+            with self.child.stdin as pipe:
+                while True:
+                    try:
+                        piece = os.read(self.source, PIECE)
+                    except OSError as error:
+                        self.unread = error.strerror
+                        return
+                    if not piece:
+                        return
+                    pipe.write(piece)
+                    pipe.flush()
+        except BrokenPipeError:  # it has ended, at a record that it can't use
+            pass
+
+    def complain(self):
+        for piece in iter(lambda: os.read(self.child.stderr.fileno(), PIECE), b""):
+            self.complained = True
+            os.write(2, piece)
+
+    def copy(self):
+        """What the program writes, line by line, to standard output."""
+        rest = b""
+        for piece in iter(lambda: os.read(self.child.stdout.fileno(), PIECE), b""):
+            put(piece)
+            *lines, rest = (rest + piece).split(b"\n")
+            for line in lines:
+                self.watcher.line(line.decode(errors="replace"))
+
+    def whole(self):
+        """Runs it to its end; its status."""
+        threads = [threading.Thread(target=t, daemon=True) for t in (self.feed, self.complain)]
+        for thread in threads:
+            thread.start()
+        try:
+            self.copy()
+            os.close(1)
+        except OSError as error:
+            self.child.kill()
+            if isinstance(error, BrokenPipeError):  # whoever reads has read enough
+                signal.signal(signal.SIGPIPE, signal.SIG_DFL)
+                os.kill(os.getpid(), signal.SIGPIPE)
+            raise Fault("standard output can't be written (%s): this is not all; make room and run it again" % error.strerror)
+        status = self.child.wait()
+        threads[1].join()
+        if self.unread:
+            raise Fault("the input can't be read to its end (%s): this is not all" % self.unread)
+        if status:
+            raise Fault("the program ended with status %d, which it should not: this is not all" % status)
+        if self.complained:
+            return 2
+        answer, word = self.watcher.verdict()
+        if word:
+            sys.stderr.write("%s: %s\n" % (self.name, word))
+        return answer
+
+
+def put(piece):
+    while piece:
+        piece = piece[os.write(1, piece):]
+
+
+def main(name, words):
+    readable = set_up()
+    if name not in HELP:
+        raise Fault("%s is none of %s" % (name, ", ".join(HELP)))
+    if words and words[0] in ("--help", "-h"):
+        sys.stdout.write(HELP[name])
+        return 0
+    if words[:1] == ["--"]:
+        words = words[1:]
+    elif words and words[0].startswith("-") and words[0] != "-":
+        raise Fault("%s is no option\n%s" % (words[0], HELP[name].split("\n")[0]))
+    if len(words) > MOST_WORDS[name]:
+        raise Fault("too many words\n%s" % HELP[name].split("\n")[0])
+    source = input_of(name, words, readable)
+    text = None
+    if len(words) > 1:
+        text = ready_names(words[1], name)
+    os.chdir(ROOT)
+    build(name)
+    if os.uname().machine != "x86_64" and not shutil.which("qemu-x86_64"):
+        raise Fault("an emulator is missing: make tools installs it")
+    return Run(name, source, text).whole()
+
+
+if __name__ == "__main__":
+    try:
+        sys.exit(main(sys.argv[1] if len(sys.argv) > 1 else "", sys.argv[2:]))
+    except Fault as fault:
+        sys.stderr.write("%s: %s\n" % (sys.argv[1] if len(sys.argv) > 1 else "launch", fault))
+        sys.exit(2)
+    except KeyboardInterrupt:
+        sys.exit(130)

@@ -3,6 +3,7 @@
 
     hill_readings.py            the lines that the run must end with, but for the first, which counts them
     hill_readings.py --in FILE  the recorded night: each AUTHORITY in it must carry the reading of a pond, packed as document 02's request 7 has it
+    hill_readings.py --file FILE NAMES   the readings that the hill leaves for bin/ponds: those of the ponds on it, in the order of their names
 """
 import struct
 import sys
@@ -61,8 +62,20 @@ def carried(path):
     return found
 
 
+def left_behind(path, names_path):
+    if open(path, "rb").read() != b"".join(packed(n) for n in PONDS):
+        sys.exit("hill: %s has other readings than those of the ponds on the hill, in their order" % path)
+    names = [line.split(" ", 1) for line in open(names_path, encoding="utf-8").read().split("\n")[:-1]]
+    if [name for _, name in names] != ["pond %d" % n for n in PONDS] or any(len(bytes.fromhex(key)) != 32 or int(key[:2], 16) != 4 * n
+                                                                           for (key, _), n in zip(names, PONDS)):
+        sys.exit("hill: %s has other names than those of the ponds on the hill, in their order" % names_path)
+    return len(PONDS)
+
+
 def main():
-    if sys.argv[1:2] == ["--in"]:
+    if sys.argv[1:2] == ["--file"]:
+        print("hill: %d readings in a file, with their names" % left_behind(*sys.argv[2:4]))
+    elif sys.argv[1:2] == ["--in"]:
         print("hill: %d AUTHORITYs in the recorded night carry a pond's reading" % carried(sys.argv[2]))
     else:
         print("\n".join(lines()))

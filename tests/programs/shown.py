@@ -43,9 +43,9 @@ MEANING = {
 BAD_RECORD = (16, 17)  # these two end a replay; every other number is one that a call gave
 
 
-# Document 02 has numbers up to 25. One that has no words here yet is told by itself, so that it is neither lost nor taken for another.
+# Document 02 has numbers up to 25. One that has no words here yet is told as such, so that it is neither lost nor taken for another.
 def meaning(answer):
-    return MEANING.get(answer, "number %d, which has no words yet" % answer)
+    return MEANING.get(answer, "a number of a later version")
 
 GLOSSARY = """The messages of the gauges; the number behind one is its ID:
   FLOOD      tells where a gauge is, or that its key is revoked

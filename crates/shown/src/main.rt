@@ -37,7 +37,7 @@ fn go_on(
     opening: &[u8],
     answer: u32,
     record: &[u8],
-    counts: &mut [u64; 18],
+    counts: &mut [u64; 26],
 ) -> bool {
     call::say_call(line, names, at, whose::major(opening), answer, record);
     totals::count(counts, answer);
@@ -62,7 +62,7 @@ fn one(
     opening: &mut [u8],
     cache: &mut [u8],
     waiting: &mut [u8],
-    counts: &mut [u64; 18],
+    counts: &mut [u64; 26],
 ) -> bool {
     let len = trace::next_record(room);
     if len == 0 {
@@ -92,7 +92,7 @@ fn each(
     opening: &mut [u8],
     cache: &mut [u8],
     waiting: &mut [u8],
-    counts: &mut [u64; 18],
+    counts: &mut [u64; 26],
 ) -> u64 {
     let mut at = 0u64;
     while at < u64::MAX {
@@ -105,7 +105,7 @@ fn each(
 }
 
 // The last line, where the night is not whole, or no call of it was taken: the launcher's status goes by it.
-fn say_last(counts: &[u64; 18]) {
+fn say_last(counts: &[u64; 26]) {
     if totals::is_stopped(counts) {
         return text::tell(b"This night ends in the middle: it is not the whole night.\n");
     }
@@ -124,7 +124,7 @@ fn say_end(
     opening: &[u8],
     cache: &[u8],
     waiting: &[u8],
-    counts: &[u64; 18],
+    counts: &[u64; 26],
 ) {
     if totals::is_stopped(counts) {
         text::tell(
@@ -148,7 +148,7 @@ fn main() {
     let mut opening = [0u8; night::OPENING];
     let mut cache = [0u8; night::CACHE];
     let mut waiting = [0u8; night::WAITING];
-    let mut counts = [0u64; 18];
+    let mut counts = [0u64; 26];
     let len = io::read_full(3, &mut names);
     let good = each(
         &mut line,

@@ -1,10 +1,10 @@
 // How many records had each answer.
 use shown_words::words;
 
-// The answers are 0 to 17.
-pub fn count(counts: &mut [u64; 18], answer: u32) {
+// The answers are 0 to 25: those above 17 are for later versions.
+pub fn count(counts: &mut [u64; 26], answer: u32) {
     let i = answer as usize;
-    if 17 < i {
+    if 25 < i {
         return;
     }
     if counts[i] < u64::MAX {
@@ -13,17 +13,17 @@ pub fn count(counts: &mut [u64; 18], answer: u32) {
 }
 
 // Has a bad record ended the replay?
-pub fn is_stopped(counts: &[u64; 18]) -> bool {
+pub fn is_stopped(counts: &[u64; 26]) -> bool {
     if counts[16] != 0 {
         return true;
     }
     counts[17] != 0
 }
 
-fn sum(counts: &[u64; 18], from: usize) -> u64 {
+fn sum(counts: &[u64; 26], from: usize) -> u64 {
     let mut all = 0u64;
     let mut i = from;
-    while i < 18 {
+    while i < 26 {
         all = std::num::wrapping_add_u64(all, counts[i]);
         i += 1;
     }
@@ -31,7 +31,7 @@ fn sum(counts: &[u64; 18], from: usize) -> u64 {
 }
 
 // Were there calls, and none that was accepted?
-pub fn is_refused(counts: &[u64; 18]) -> bool {
+pub fn is_refused(counts: &[u64; 26]) -> bool {
     if counts[0] != 0 {
         return false;
     }
@@ -55,15 +55,15 @@ fn say_number(line: &mut [u8], number: u64, n: u64) {
     text::say(line, c);
 }
 
-fn say_refusals(line: &mut [u8], counts: &[u64; 18]) {
+fn say_refusals(line: &mut [u8], counts: &[u64; 26]) {
     let mut i = 1;
-    while i < 18 {
+    while i < 26 {
         say_number(line, i as u64, counts[i]);
         i += 1;
     }
 }
 
-pub fn say_totals(line: &mut [u8], counts: &[u64; 18]) {
+pub fn say_totals(line: &mut [u8], counts: &[u64; 26]) {
     text::tell(b"\n");
     say_sum(line, b"Records   ", sum(counts, 0));
     say_sum(line, b"Accepted  ", counts[0]);

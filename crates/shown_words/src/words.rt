@@ -61,11 +61,12 @@ fn put_wanting(line: &mut [u8], at: usize, number: u64) -> usize {
         14 => text::put(line, at, b"no place free: 16 messages are waiting already"),
         15 => text::put(line, at, b"no room for what would have to be sent"),
         16 => text::put(line, at, b"cut short, or not as long as such a record is"),
-        _ => text::put(
+        17 => text::put(
             line,
             at,
             b"of no known kind, or the opening record is missing or comes again",
         ),
+        _ => text::put(line, at, b"a number of a later version"),
     }
 }
 

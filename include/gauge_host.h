@@ -48,7 +48,7 @@
  *         memcpy(told_of, from, sizeof told_of);
  *         if (seen.entry_len > 0)
  *             memcpy(told_of, datagram + seen.entry_at + GAUGE_ENTRY_ADDRESSES, sizeof told_of);
- *         if (seen.cpa_len > 0)
+ *         if (seen.cpa_len >= GAUGE_KEY_LEN)
  *             gauge_lent_verdict(l, GAUGE_GOOD, datagram + seen.cpa_at);
  *         random_bytes(l->nonce, sizeof l->nonce);
  *         struct gauge_answer a = gauge_lent_receive(l, datagram, len);
@@ -310,7 +310,7 @@ static inline const char *gauge_number_text(uint32_t number)
     }
 }
 
-/* Whose a number is: the sender's (drop the datagram and go on) or our own. */
+/* Whose a number of gauge_receive or gauge_look is: the sender's (drop the datagram and go on) or our own. */
 static inline int gauge_number_is_senders(uint32_t number)
 {
     return number >= GAUGE_LENGTH && number <= GAUGE_NOT_OURS;

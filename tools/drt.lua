@@ -1,5 +1,5 @@
--- A dissector for DRT's eight messages, for Wireshark and tshark, written from the layout of document 000 (section 2.2) alone: no code of the gauge's
--- stands behind it, so it is a reader from outside.
+-- A dissector for DRT's eight messages, for Wireshark and tshark, written from the layout of document 000 (section 2.2), and of document 01 where it says
+-- more: 1 to 4 addresses, which AUTHORITY is whole, what a REQUEST's split controls tell. No code of the gauge's stands behind it.
 --
 --     wireshark -X lua_script:tools/drt.lua                           datagrams that begin as DRT's do are shown as such
 --     tshark -X lua_script:tools/drt.lua -d udp.port==3540,drt ..     those of a port

@@ -24,7 +24,7 @@ use Rattle.wire_read.specs.declared.Answer.{Answer}
 use Rattle.wire_read.specs.declared.Answer.the-variants.{Refused, Solicit, Advertise, Request, Flood, Inquire, Authority, Ack, Lookup}
 use Rattle.wire_write.specs.Writing.{Made}
 use Rattle.wire_write.specs.Pieces.{Lent, lentOf, kindsOfRows, contentsOf, givensOf, madeBy}
-use Rattle.wire_write.specs.Rows.{solicitRows, advertiseRows, requestRows, floodRows, inquireRows, authorityRows, ackRows, lookupRows, ownPiece, firstPiece, noPiece, ownBytes}
+use Rattle.wire_write.specs.Rows.{solicitRows, advertiseRows, requestRows, floodRows, inquireRows, authorityRows, ackRows, lookupRows, spelledPiece, firstPiece, noPiece, spelledBytes}
 use Rattle.wire_write.specs.declared.Row.{Row}
 use Rattle.wire_write.specs.declared.Piece.{Piece}
 use Rattle.wire_copy.specs.Resent.{resent, lenOf, pieceOf}
@@ -64,11 +64,11 @@ piece-is d Absent = refl
 
 -- a message of the rows of a table
 pub table-bytes : (ks : List Kind) (rs : List Row) (m : Message) (l : Lent) (ps : List Piece) → RowsFor ks rs → Formed ks (m .fields)
-    → Same (m .fields) (contentsOf (givensOf (m .major) (m .minor) l ps))
+    → Same (m .fields) (contentsOf (givensOf l ps))
     → madeBy (m .major) (m .minor) (m .type) (m .id) l rs ps .bytes ≡ bytesOf (layoutOf ks m)
 unfolding madeBy
 table-bytes ks rs m l ps w f h =
-    ap (λ (b : List ℕ). headerOf m ++ b) (rows-bytes ks rs 12 (m .fields) (contentsOf (givensOf (m .major) (m .minor) l ps)) w f h)
+    ap (λ (b : List ℕ). headerOf m ++ b) (rows-bytes ks rs 12 (m .fields) (contentsOf (givensOf l ps)) w f h)
 
 solicit-rows : RowsFor solicitKinds solicitRows
 solicit-rows = (refl, refl, (refl, refl, tt))
@@ -124,7 +124,7 @@ module _ (js : List Kind) (rs : List Row) (major : ℕ) (d : List ℕ) (a : Answ
       ≡ madeBy (told (messageOf major d a) .major) (told (messageOf major d a) .minor) (told (messageOf major d a) .type)
       (told (messageOf major d a) .id) l rs ps)
       → (Formed js (told (messageOf major d a) .fields) → Same (told (messageOf major d a) .fields)
-      (contentsOf (givensOf (told (messageOf major d a) .major) (told (messageOf major d a) .minor) l ps)))
+      (contentsOf (givensOf l ps)))
       → Again major d a m
   by-table k l ps made given =
       let r = told (messageOf major d a) in
@@ -148,8 +148,8 @@ again-bytes major d (Request h flags split nonce keys credential signature key) 
     (λ f. (refl, (refl, (refl, (piece-is d keys, (piece-is d credential, (piece-is d signature, (piece-is d key, (refl, (refl, tt))))))))))
 again-bytes major d (Flood h silent validate token revoke entry reached) m e =
     by-table floodKinds floodRows major d (Flood h silent validate token revoke entry reached) m e flood-rows refl
-    (lentOf (ownBytes 0 0 0 (bit silent)) d d)
-    (ownPiece 8 3 ∷ firstPiece validate 32 ∷ pieceOf token ∷ pieceOf revoke ∷ pieceOf entry ∷ pieceOf reached ∷ noPiece ∷ noPiece ∷ noPiece ∷ [])
+    (lentOf (spelledBytes 0 0 0 (bit silent)) d d)
+    (spelledPiece 8 3 ∷ firstPiece validate 32 ∷ pieceOf token ∷ pieceOf revoke ∷ pieceOf entry ∷ pieceOf reached ∷ noPiece ∷ noPiece ∷ noPiece ∷ [])
     (λ j. let q : oneOf (isHere revoke) (isHere entry) ≡ true = rw (here-is d revoke, here-is d entry) at j in rw q)
     (λ f. (refl, (refl, (piece-is d token, (piece-is d revoke, (piece-is d entry, (piece-is d reached, (refl, (refl, (refl, tt))))))))))
 again-bytes major d (Inquire h a x c validate nonce credential signature key) m e =

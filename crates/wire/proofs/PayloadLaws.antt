@@ -26,7 +26,7 @@ use Rattle.wire_buffer.specs.declared.Inside.{Inside}
 use Rattle.wire_read.specs.declared.Answer.the-variants.{Authority}
 use Rattle.wire_write.specs.Writing.{Made}
 use Rattle.wire_write.specs.Pieces.{Lent, pieceOk, lentOf, kindsOfRows, contentsOf, givensOf, madeBy}
-use Rattle.wire_write.specs.Rows.{mayRow, authorityRows, ownBytes}
+use Rattle.wire_write.specs.Rows.{mayRow, authorityRows, spelledBytes}
 use Rattle.wire_write.specs.declared.Row.{Row}
 use Rattle.wire_copy.specs.Resent.{pieceOf, resent}
 use Rattle.wire_payload.specs.Payload.{carryingPieces, carrying, withPayload}
@@ -86,9 +86,9 @@ module _ (major : ℕ) (d : List ℕ) (h : Head) (acked : ℕ) (f : Inside) (v :
       ∷ some v ∷ contentsIn d (f .entry) ∷ contentsIn d (f .cpa) ∷ []
 
   abbrev lentWith : ℕ → Lent
-  lentWith size = lentOf (ownBytes acked size (2 * bit (f .l)) (8 * bit (f .b) + bit (f .n))) d v
+  lentWith size = lentOf (spelledBytes acked size (2 * bit (f .l)) (8 * bit (f .b) + bit (f .n))) d v
 
-  given-behind : (size : ℕ) → Same behind (drop 2 (contentsOf (givensOf major (h .minor) (lentWith size) (carryingPieces f v))))
+  given-behind : (size : ℕ) → Same behind (drop 2 (contentsOf (givensOf (lentWith size) (carryingPieces f v))))
   unfolding digitsBE
   given-behind size = (
     refl,
@@ -111,7 +111,7 @@ module _ (major : ℕ) (d : List ℕ) (h : Head) (acked : ℕ) (f : Inside) (v :
   unfolding carrying madeBy digitsBE
   followed g =
       let e = rows-bytes bufferKinds (drop 2 authorityRows) 28 behind
-      (drop 2 (contentsOf (givensOf major (h .minor) (lentWith 0) (carryingPieces f v))))
+      (drop 2 (contentsOf (givensOf (lentWith 0) (carryingPieces f v))))
       (authority-rows .2 .2) g (given-behind 0) in
       omega (arith, ap length e)
 
@@ -137,7 +137,7 @@ module _ (major : ℕ) (d : List ℕ) (h : Head) (acked : ℕ) (f : Inside) (v :
   abbrev restGiven : ℕ → List ℕ
   restGiven size =
       bytesOf (layoutFrom 28 (kindsOfRows (drop 2 authorityRows))
-      (drop 2 (contentsOf (givensOf major (h .minor) (lentWith size) (carryingPieces f v)))))
+      (drop 2 (contentsOf (givensOf (lentWith size) (carryingPieces f v)))))
 
   made-front : (size : ℕ) → carrying major d h acked f v size .bytes ≡ front size (restGiven size)
   unfolding carrying madeBy digitsBE front
@@ -155,7 +155,7 @@ module _ (major : ℕ) (d : List ℕ) (h : Head) (acked : ℕ) (f : Inside) (v :
       let size = length (carrying major d h acked f v 0 .bytes) - 28 in
       let told : size ≡ length (bytesOf (layoutFrom 28 bufferKinds behind)) = omega (arith, followed g) in
       let same = rows-bytes bufferKinds (drop 2 authorityRows) 28 behind
-      (drop 2 (contentsOf (givensOf major (h .minor) (lentWith size) (carryingPieces f v))))
+      (drop 2 (contentsOf (givensOf (lentWith size) (carryingPieces f v))))
       (authority-rows .2 .2) g (given-behind size) in
       made-front size ∙ ap₂ (λ (n : ℕ) (rest : List ℕ). front n rest) told same ∙ sym changed-front
 

@@ -22,7 +22,7 @@ use Rattle.wire_buffer.specs.Buffer.{flagAt, startOf}
 use Rattle.wire_read.specs.Answers.{headOf, isHere, solicitShown, advertiseShown, requestShown, floodShown, inquireShown, authorityShown, ackShown, lookupShown}
 use Rattle.wire_write.specs.Writing.{Made}
 use Rattle.wire_write.specs.Pieces.{Lent, lentOf, pieceOk, rowsOk, madeBy}
-use Rattle.wire_write.specs.Rows.{needRow, ownPiece, firstPiece, noPiece, ownBytes, floodRows}
+use Rattle.wire_write.specs.Rows.{needRow, spelledPiece, firstPiece, noPiece, spelledBytes, floodRows}
 use Rattle.wire_read.specs.Meaning.{bit}
 use Rattle.wire_write.specs.declared.Row.{Row}
 use Rattle.wire_write.specs.declared.Piece.{Piece}
@@ -243,8 +243,8 @@ module _ (major : ℕ) (d : List ℕ) (ps : List Part) where
       → resent major d (floodShown d ps) .ok ≡ true
   unfolding resent hasShape digitsBE headOf
   flood-right j w = made-ok (resent major d (floodShown d ps)) major (getD d 6 0) 4 (numberAt 8 4 d)
-      (lentOf (ownBytes 0 0 0 (bit (flagAt d (startOf (getD ps 0 Absent)) 1 1))) d d) floodRows
-      (ownPiece 8 3 ∷ firstPiece (startOf (getD ps 1 Absent)) 32 ∷ pieceOf (getD ps 2 Absent) ∷ pieceOf (getD ps 3 Absent)
+      (lentOf (spelledBytes 0 0 0 (bit (flagAt d (startOf (getD ps 0 Absent)) 1 1))) d d) floodRows
+      (spelledPiece 8 3 ∷ firstPiece (startOf (getD ps 1 Absent)) 32 ∷ pieceOf (getD ps 2 Absent) ∷ pieceOf (getD ps 3 Absent)
       ∷ pieceOf (getD ps 4 Absent) ∷ pieceOf (getD ps 5 Absent) ∷ noPiece ∷ noPiece ∷ noPiece ∷ [])
       (rw j) (
         refl,

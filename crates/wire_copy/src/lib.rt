@@ -2,6 +2,7 @@
 // writer of `wire_whole`.
 use wire_buffer::Inside;
 use wire_fields::Part;
+use wire_numbers::*;
 use wire_read::Answer;
 use wire_read::Head;
 use wire_rows::ack_rows;
@@ -13,10 +14,10 @@ use wire_rows::inquire_rows;
 use wire_rows::lookup_bytes;
 use wire_rows::lookup_rows;
 use wire_rows::no_piece;
-use wire_rows::own_bytes;
-use wire_rows::own_piece;
 use wire_rows::request_rows;
 use wire_rows::solicit_rows;
+use wire_rows::spelled_bytes;
+use wire_rows::spelled_piece;
 use wire_whole::write_rows;
 use wire_write::Piece;
 use wire_write::Source;
@@ -30,7 +31,7 @@ ghost use Rattle.wire_fields.specs.Kinds.{oneOf};
 ghost use Rattle.wire_read.specs.Meaning.{bit};
 ghost use Rattle.wire_read.specs.declared.Answer.the-variants.{Solicit, Advertise, Request, Flood, Inquire, Authority, Ack, Lookup};
 ghost use Rattle.wire_write.specs.Writing.{Wrote};
-ghost use Rattle.wire_copy.specs.Resent.{pieceOf, ownIf, resent};
+ghost use Rattle.wire_copy.specs.Resent.{pieceOf, spelledIf, resent};
 
 // A place as a piece of the datagram.
 pub fn piece_of(p: Part) -> Piece
@@ -39,7 +40,6 @@ pub fn piece_of(p: Part) -> Piece
     if let Part::Here(start, len) = p {
         return Piece {
             there: true,
-            entry: false,
             source: Source::First,
             start,
             len,
@@ -47,20 +47,18 @@ pub fn piece_of(p: Part) -> Piece
     }
     Piece {
         there: false,
-        entry: false,
         source: Source::First,
         start: 0,
         len: 0,
     }
 }
 
-fn own_if(there: bool, start: usize, len: usize) -> Piece
-    ensures { λ r. ⌜ r ≡ ownIf there start len ⌝ }
+fn spelled_if(there: bool, start: usize, len: usize) -> Piece
+    ensures { λ r. ⌜ r ≡ spelledIf there start len ⌝ }
 {
     Piece {
         there,
-        entry: false,
-        source: Source::Own,
+        source: Source::Spelled,
         start,
         len,
     }
@@ -122,10 +120,10 @@ fn solicit(out: &mut [u8], major: u8, head: Head, entry: Part, nonce: usize, d: 
 {
     let rows = solicit_rows();
     let entry = piece_of(entry);
-    let nonce = first_piece(nonce, 20);
+    let nonce = first_piece(nonce, HASHED_LEN);
     let none = no_piece();
     let ps = [entry, nonce, none, none, none, none, none, none, none];
-    write_rows(out, major, head.minor, 1, head.id, rows, ps, d, d, d)
+    write_rows(out, major, head.minor, SOLICIT, head.id, rows, ps, d, d, d)
 }
 
 fn advertise(
@@ -140,13 +138,24 @@ fn advertise(
     ensures { λ r. ⌜ Wrote (resent major (now (d .entry)) (Advertise head acked keys nonce)) (now (out .entry)) r (now (out .exit)) ⌝ }
 {
     let rows = advertise_rows();
-    let own = own_bytes(acked, 0, 0, 0);
-    let id_piece = own_piece(0, 4);
+    let spelled = spelled_bytes(acked, 0, 0, 0);
+    let id_piece = spelled_piece(0, ACKED_LEN);
     let keys = piece_of(keys);
-    let nonce = first_piece(nonce, 20);
+    let nonce = first_piece(nonce, HASHED_LEN);
     let none = no_piece();
     let ps = [id_piece, keys, nonce, none, none, none, none, none, none];
-    write_rows(out, major, head.minor, 2, head.id, rows, ps, &own, d, d)
+    write_rows(
+        out,
+        major,
+        head.minor,
+        ADVERTISE,
+        head.id,
+        rows,
+        ps,
+        &spelled,
+        d,
+        d,
+    )
 }
 
 fn request(
@@ -168,10 +177,10 @@ fn request(
     let rows = request_rows();
     let place = split_end(flags);
     let size = behind(d, place);
-    let own = own_bytes(0, size, 0, 0);
-    let flags = own_if(flags, 8, 2);
-    let split = own_if(split, 4, 4);
-    let nonce = first_piece(nonce, 16);
+    let spelled = spelled_bytes(0, size, 0, 0);
+    let flags = spelled_if(flags, 8, FLAGS_LEN);
+    let split = spelled_if(split, 4, SPLIT_LEN);
+    let nonce = first_piece(nonce, NONCE_LEN);
     let keys = piece_of(keys);
     let credential = piece_of(credential);
     let signature = piece_of(signature);
@@ -188,7 +197,18 @@ fn request(
         none,
         none,
     ];
-    write_rows(out, major, head.minor, 3, head.id, rows, ps, &own, d, d)
+    write_rows(
+        out,
+        major,
+        head.minor,
+        REQUEST,
+        head.id,
+        rows,
+        ps,
+        &spelled,
+        d,
+        d,
+    )
 }
 
 fn flood(
@@ -216,9 +236,9 @@ fn flood(
         };
     }
     let low = bit_of(silent);
-    let own = own_bytes(0, 0, 0, low);
-    let controls = own_piece(8, 3);
-    let validate = first_piece(validate, 32);
+    let spelled = spelled_bytes(0, 0, 0, low);
+    let controls = spelled_piece(8, FLOOD_CONTROLS_LEN);
+    let validate = first_piece(validate, KEY_LEN);
     let token = piece_of(token);
     let reached = piece_of(reached);
     let none = no_piece();
@@ -233,7 +253,18 @@ fn flood(
         none,
         none,
     ];
-    write_rows(out, major, head.minor, 4, head.id, rows, ps, &own, d, d)
+    write_rows(
+        out,
+        major,
+        head.minor,
+        FLOOD,
+        head.id,
+        rows,
+        ps,
+        &spelled,
+        d,
+        d,
+    )
 }
 
 fn inquire(
@@ -258,9 +289,9 @@ fn inquire(
     let second = bit_of(x);
     let third = bit_of(c);
     let low = 16 * first + (8 * second + 4 * third);
-    let own = own_bytes(0, 0, 0, low);
-    let flags = own_piece(8, 2);
-    let validate = first_piece(validate, 32);
+    let spelled = spelled_bytes(0, 0, 0, low);
+    let flags = spelled_piece(8, FLAGS_LEN);
+    let validate = first_piece(validate, KEY_LEN);
     let nonce = piece_of(nonce);
     let credential = piece_of(credential);
     let signature = piece_of(signature);
@@ -277,7 +308,18 @@ fn inquire(
         none,
         none,
     ];
-    write_rows(out, major, head.minor, 7, head.id, rows, ps, &own, d, d)
+    write_rows(
+        out,
+        major,
+        head.minor,
+        INQUIRE,
+        head.id,
+        rows,
+        ps,
+        &spelled,
+        d,
+        d,
+    )
 }
 
 fn authority(out: &mut [u8], major: u8, head: Head, acked: u32, fields: Inside, d: &[u8]) -> Written
@@ -288,10 +330,10 @@ fn authority(out: &mut [u8], major: u8, head: Head, acked: u32, fields: Inside, 
     let l = bit_of(fields.l);
     let high = 2 * l;
     let low = busy_and_none(fields.b, fields.n);
-    let own = own_bytes(acked, size, high, low);
-    let id_piece = own_piece(0, 4);
-    let split = own_piece(4, 4);
-    let flags = own_piece(8, 2);
+    let spelled = spelled_bytes(acked, size, high, low);
+    let id_piece = spelled_piece(0, ACKED_LEN);
+    let split = spelled_piece(4, SPLIT_LEN);
+    let flags = spelled_piece(8, FLAGS_LEN);
     let part = fields.chain;
     let chain = piece_of(part);
     let part = fields.token;
@@ -315,7 +357,18 @@ fn authority(out: &mut [u8], major: u8, head: Head, acked: u32, fields: Inside, 
         entry,
         cpa,
     ];
-    write_rows(out, major, head.minor, 8, head.id, rows, ps, &own, d, d)
+    write_rows(
+        out,
+        major,
+        head.minor,
+        AUTHORITY,
+        head.id,
+        rows,
+        ps,
+        &spelled,
+        d,
+        d,
+    )
 }
 
 fn ack(out: &mut [u8], major: u8, head: Head, acked: u32, flags: bool, n: bool, d: &[u8]) -> Written
@@ -323,12 +376,23 @@ fn ack(out: &mut [u8], major: u8, head: Head, acked: u32, flags: bool, n: bool, 
 {
     let rows = ack_rows();
     let low = bit_of(n);
-    let own = own_bytes(acked, 0, 0, low);
-    let id_piece = own_piece(0, 4);
-    let flags = own_if(flags, 8, 2);
+    let spelled = spelled_bytes(acked, 0, 0, low);
+    let id_piece = spelled_piece(0, ACKED_LEN);
+    let flags = spelled_if(flags, 8, FLAGS_LEN);
     let none = no_piece();
     let ps = [id_piece, flags, none, none, none, none, none, none, none];
-    write_rows(out, major, head.minor, 9, head.id, rows, ps, &own, d, d)
+    write_rows(
+        out,
+        major,
+        head.minor,
+        ACK,
+        head.id,
+        rows,
+        ps,
+        &spelled,
+        d,
+        d,
+    )
 }
 
 fn lookup(
@@ -355,10 +419,10 @@ fn lookup(
     let first = bit_of(a);
     let low = 2 * first;
     let kept = kept_precision(criteria, precision);
-    let own = lookup_bytes(low, kept, criteria, reason);
-    let controls = own_piece(0, 8);
-    let target = first_piece(target, 32);
-    let validate = first_piece(validate, 32);
+    let spelled = lookup_bytes(low, kept, criteria, reason);
+    let controls = spelled_piece(0, LOOKUP_CONTROLS_LEN);
+    let target = first_piece(target, KEY_LEN);
+    let validate = first_piece(validate, KEY_LEN);
     let entry = piece_of(entry);
     let path = piece_of(path);
     let credential = piece_of(credential);
@@ -376,7 +440,18 @@ fn lookup(
         key,
         none,
     ];
-    write_rows(out, major, head.minor, 11, head.id, rows, ps, &own, d, d)
+    write_rows(
+        out,
+        major,
+        head.minor,
+        LOOKUP,
+        head.id,
+        rows,
+        ps,
+        &spelled,
+        d,
+        d,
+    )
 }
 
 // A message that `read` gave of the datagram `d`, at the start of the output.

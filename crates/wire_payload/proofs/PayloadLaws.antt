@@ -3,12 +3,12 @@ use Prim.Native.Nat.{ℕ, _+_, _-_, _≤_}
 use native.Mathlib.Omega.{arith}
 use mathlib.Core.List.{List, [], _∷_, _++_}
 use mathlib.Core.Bool.{Bool, true, false, cond, _&&_}
-use mathlib.Core.Path.{_≡_, refl, sym, ap, ap₂, subst, _∙_}
+use mathlib.Core.Path.{_≡_, refl, sym, ap, ap₂, _∙_}
 use lib.Dec.{leb}
-use lib.ListN.{length, drop, length-append, length-drop}
-use lib.Seq.{drop-at}
+use lib.ListN.{length, drop, length-append}
 use borrow.Author.Tests.{leb-true}
 use Rattle.octet.specs.Number.{digitsBE}
+use Rattle.octet.specs.Part.{splice}
 use Rattle.octet.proofs.TestLaws.{both-true}
 use Rattle.wire_shapes.specs.Shapes.{hasShape}
 use Rattle.wire_read.specs.declared.Head.{Head}
@@ -31,7 +31,7 @@ module _ (major : ℕ) (d : List ℕ) (h : Head) (acked : ℕ) (f : Inside) (v :
   unfolding carrying madeBy digitsBE
   at-least = omega arith
 
--- ---- written twice
+-- ---- written, and then told how long it is
 
 -- the answer, by whether it is right and fits
 abbrev told : Bool → Bool → ℕ → Written
@@ -60,90 +60,79 @@ written-in : (m : Made) (old : List ℕ) → (m .ok ≡ true) × (fit (m .bytes)
 unfolding writeIn
 written-in m old a = rw (a .0, a .1) refl
 
-fits-within : (b old : List ℕ) → fit b old ≡ true → length b ≤ length old
+fits-within : (b old : List ℕ) → fit b old ≡ true → (length b ≤ length old) × (length b ≤ 1232)
 unfolding fit
-fits-within b old e = leb-true (length b) (length old) (both-true (leb (length b) (length old)) (leb (length b) 1232) e .0)
+fits-within b old e =
+    let w = both-true (leb (length b) (length old)) (leb (length b) 1232) e in
+    (leb-true (length b) (length old) (w .0), leb-true (length b) 1232 (w .1))
 
-module _ (first : Made) (old : List ℕ) (r : Written) (out : List ℕ) (w : Wrote first old r out) where
-  number-as : r .number ≡ writeAs first old .number
-  number-as = ap (λ (x : Written). x .number) (w .answer)
+-- the same answer for as many bytes, and the same right
+same-as : (m m′ : Made) (old : List ℕ) → m′ .ok ≡ m .ok → length (m′ .bytes) ≡ length (m .bytes) → writeAs m′ old ≡ writeAs m old
+unfolding writeAs fit
+same-as m m′ old ok long = rw (ok, long) refl
 
-  pub told-length : r .number ≡ 0 → r .length ≡ length (first .bytes)
-  unfolding writeAs
-  told-length z =
-      let a = right-in first old (sym number-as ∙ z) in
-      ap (λ (x : Written). x .length) (w .answer) ∙ (rw (a .0, a .1) refl)
+module _ (major : ℕ) (d : List ℕ) (h : Head) (acked : ℕ) (f : Inside) (v : List ℕ) where
+  -- the size is bytes 24 and 25, whatever stands behind the message
+  size-put : (size : ℕ) (t : List ℕ) → splice 24 (digitsBE 256 2 size) (carrying major d h acked f v 0 .bytes ++ t)
+      ≡ carrying major d h acked f v size .bytes ++ t
+  unfolding carrying madeBy digitsBE splice
+  size-put size t = refl
 
-  module _ (second : Made) (ok : second .ok ≡ first .ok) (long : length (second .bytes) ≡ length (first .bytes)) where
-    same-as : writeAs second old ≡ writeAs first old
-    unfolding writeAs fit
-    same-as = rw (ok, long) refl
+  module _ (old : List ℕ) (r : Written) (out : List ℕ) (w : Wrote (carrying major d h acked f v 0) old r out) where
+    number-as : r .number ≡ writeAs (carrying major d h acked f v 0) old .number
+    number-as = ap (λ (x : Written). x .number) (w .answer)
 
-    -- where the first is refused, so is the second
-    pub refused-twice : (r .number ≡ 0 → ⊥) → Wrote second old r out
-    refused-twice u =
-        let first-not : (writeAs first old .number ≡ 0 → ⊥) = λ e. u (number-as ∙ e) in
-        let second-not : (writeAs second old .number ≡ 0 → ⊥) = λ e. first-not (sym (ap (λ (x : Written). x .number) same-as) ∙ e) in
-        record { answer = w .answer ∙ sym same-as; output = w .output ∙ refused-in first old first-not ∙ sym (refused-in second old second-not) }
+    -- the split controls change neither the answer nor what is right
+    same-answer : r ≡ writeAs (withPayload major d h acked f v) old
+    unfolding withPayload
+    same-answer =
+        let size = length (carrying major d h acked f v 0 .bytes) - 28 in
+        w .answer ∙ sym (same-as (carrying major d h acked f v 0) (carrying major d h acked f v size) old (same-ok major d h acked f v size)
+        (same-long major d h acked f v size))
 
-    -- and the second over the first is the second alone
+    pub payload-refused : (r .number ≡ 0 → ⊥) → Wrote (withPayload major d h acked f v) old r out
+    payload-refused u =
+        record {
+          answer = same-answer;
+          output =
+              w .output ∙ refused-in (carrying major d h acked f v 0) old (λ e. u (number-as ∙ e))
+              ∙ sym (refused-in (withPayload major d h acked f v) old (λ e. u (ap (λ (x : Written). x .number) same-answer ∙ e)));
+        }
+
     module _ (z : r .number ≡ 0) where
-      fits-first : (first .ok ≡ true) × (fit (first .bytes) old ≡ true)
-      fits-first = right-in first old (sym number-as ∙ z)
+      fits-first : (carrying major d h acked f v 0 .ok ≡ true) × (fit (carrying major d h acked f v 0 .bytes) old ≡ true)
+      fits-first = right-in (carrying major d h acked f v 0) old (sym number-as ∙ z)
 
-      out-is : out ≡ first .bytes ++ drop (length (first .bytes)) old
-      out-is = w .output ∙ written-in first old fits-first
-
-      out-long : length out ≡ length old
-      out-long =
-          ap length out-is ∙ length-append (first .bytes) (drop (length (first .bytes)) old)
-          ∙ omega (arith, length-drop (length (first .bytes)) old, fits-within (first .bytes) old (fits-first .1))
-
-      fit-over : fit (second .bytes) out ≡ fit (second .bytes) old
-      unfolding fit
-      fit-over = ap (λ (n : ℕ). leb (length (second .bytes)) n && leb (length (second .bytes)) 1232) out-long
-
-      fit-second : fit (second .bytes) old ≡ true
-      unfolding fit
-      fit-second = rw long (fits-first .1)
-
-      pub second-over : (q : Written) (last : List ℕ) → Wrote second out q last → Wrote second old q last
+      told-length : r .length ≡ length (carrying major d h acked f v 0 .bytes)
       unfolding writeAs
-      second-over q last x =
-          let ok-true = ok ∙ fits-first .0 in
-          let here : writeAs second out ≡ writeAs second old = rw fit-over refl in
-          let behind : drop (length (second .bytes)) out ≡ drop (length (second .bytes)) old =
-          ap₂ (λ (n : ℕ) (l : List ℕ). drop n l) long out-is
-          ∙ drop-at (first .bytes) (drop (length (first .bytes)) old) (length (first .bytes)) refl
-          ∙ ap (λ (n : ℕ). drop n old) (sym long) in
+      told-length = ap (λ (x : Written). x .length) (w .answer) ∙ (rw (fits-first .0, fits-first .1) refl)
+
+      -- it has split controls, and is a datagram within the output
+      pub payload-long : (28 ≤ r .length) × (r .length ≤ 1232) × (r .length ≤ length out)
+      payload-long =
+          let within = fits-within (carrying major d h acked f v 0 .bytes) old (fits-first .1) in
+          let b = carrying major d h acked f v 0 .bytes in
+          let long = ap length (w .output ∙ written-in (carrying major d h acked f v 0) old fits-first) ∙ length-append b (drop (length b) old) in (
+            omega (arith, told-length, at-least major d h acked f v 0),
+            omega (arith, told-length, within .1),
+            omega (arith, told-length, long),
+          )
+
+      pub payload-written : {last : List ℕ} → last ≡ splice 24 (digitsBE 256 2 (r .length - 28)) out
+          → Wrote (withPayload major d h acked f v) old r last
+      unfolding withPayload
+      payload-written e =
+          let b = carrying major d h acked f v 0 .bytes in
+          let size = length b - 28 in
+          let long = same-long major d h acked f v size in
+          let fits : (carrying major d h acked f v size .ok ≡ true) × (fit (carrying major d h acked f v size .bytes) old ≡ true) =
+          right-in (carrying major d h acked f v size) old (sym (ap (λ (x : Written). x .number) same-answer) ∙ z) in
           record {
-            answer = x .answer ∙ here;
+            answer = same-answer;
             output =
-                x .output ∙ written-in second out (ok-true, fit-over ∙ fit-second) ∙ ap (λ (l : List ℕ). second .bytes ++ l) behind
-                ∙ sym (written-in second old (ok-true, fit-second));
+                e ∙ ap₂ (λ (n : ℕ) (o : List ℕ). splice 24 (digitsBE 256 2 (n - 28)) o) told-length
+                (w .output ∙ written-in (carrying major d h acked f v 0) old fits-first)
+                ∙ size-put size (drop (length b) old)
+                ∙ ap (λ (n : ℕ). carrying major d h acked f v size .bytes ++ drop n old) (sym long)
+                ∙ sym (written-in (carrying major d h acked f v size) old fits);
           }
-
--- ---- as the code has it
-
-module _ (major : ℕ) (d : List ℕ) (h : Head) (acked : ℕ) (f : Inside) (v : List ℕ) (old : List ℕ) (r : Written) (out : List ℕ)
-    (w : Wrote (carrying major d h acked f v 0) old r out) where
-  pub payload-refused : (r .number ≡ 0 → ⊥) → Wrote (withPayload major d h acked f v) old r out
-  unfolding withPayload
-  payload-refused u =
-      let size = length (carrying major d h acked f v 0 .bytes) - 28 in
-      refused-twice (carrying major d h acked f v 0) old r out w (carrying major d h acked f v size) (same-ok major d h acked f v size)
-      (same-long major d h acked f v size) u
-
-  pub payload-long : r .number ≡ 0 → 28 ≤ r .length
-  payload-long z = subst (λ (n : ℕ). 28 ≤ n) (sym (told-length (carrying major d h acked f v 0) old r out w z)) (at-least major d h acked f v 0)
-
-  pub payload-written : r .number ≡ 0 → (q : Written) (last : List ℕ) → Wrote (carrying major d h acked f v (r .length - 28)) out q last
-      → Wrote (withPayload major d h acked f v) old q last
-  unfolding withPayload
-  payload-written z q last x =
-      let first = carrying major d h acked f v 0 in
-      let size = length (first .bytes) - 28 in
-      let second = carrying major d h acked f v size in
-      let told = told-length first old r out w z in
-      second-over first old r out w second (same-ok major d h acked f v size) (same-long major d h acked f v size) z q last
-      (subst (λ (n : ℕ). Wrote (carrying major d h acked f v (n - 28)) out q last) told x)

@@ -8,19 +8,19 @@ use Rattle.wire_read.specs.declared.Head.{Head}
 use Rattle.wire_buffer.specs.declared.Inside.{Inside}
 use Rattle.wire_write.specs.Writing.{Made}
 use Rattle.wire_write.specs.Pieces.{lentOf, madeBy}
-use Rattle.wire_write.specs.Rows.{authorityRows, ownPiece, secondPiece, ownBytes}
+use Rattle.wire_write.specs.Rows.{authorityRows, spelledPiece, secondPiece, spelledBytes}
 use Rattle.wire_write.specs.declared.Piece.{Piece}
 use Rattle.wire_copy.specs.Resent.{pieceOf}
 
 abbrev pub carryingPieces : Inside → List ℕ → List Piece
 carryingPieces f v =
-    ownPiece 0 4 ∷ ownPiece 4 4 ∷ ownPiece 8 2 ∷ pieceOf (f .chain) ∷ pieceOf (f .token) ∷ pieceOf (f .classifier) ∷ secondPiece 0 (length v)
+    spelledPiece 0 4 ∷ spelledPiece 4 4 ∷ spelledPiece 8 2 ∷ pieceOf (f .chain) ∷ pieceOf (f .token) ∷ pieceOf (f .classifier) ∷ secondPiece 0 (length v)
     ∷ pieceOf (f .entry) ∷ pieceOf (f .cpa) ∷ []
 
 -- split controls that say so many bytes
 unfoldable pub carrying : ℕ → List ℕ → Head → ℕ → Inside → List ℕ → ℕ → Made
 carrying major d h acked f v size =
-    madeBy major (h .minor) 8 (h .id) (lentOf (ownBytes acked size (2 * bit (f .l)) (8 * bit (f .b) + bit (f .n))) d v) authorityRows (carryingPieces f v)
+    madeBy major (h .minor) 8 (h .id) (lentOf (spelledBytes acked size (2 * bit (f .l)) (8 * bit (f .b) + bit (f .n))) d v) authorityRows (carryingPieces f v)
 
 -- split controls that say as many as follow: behind the header, the acked ID and themselves
 unfoldable pub withPayload : ℕ → List ℕ → Head → ℕ → Inside → List ℕ → Made

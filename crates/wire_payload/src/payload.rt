@@ -6,31 +6,16 @@ use wire_copy::busy_and_none;
 use wire_copy::piece_of;
 use wire_read::Head;
 use wire_rows::authority_rows;
-use wire_rows::own_bytes;
-use wire_rows::own_piece;
+use wire_rows::second_piece;
+use wire_rows::spelled_bytes;
+use wire_rows::spelled_piece;
 use wire_whole::write_rows;
-use wire_write::Piece;
-use wire_write::Source;
 use wire_write::Written;
 ghost use mathlib.Core.Path.{_≡_};
-ghost use lib.ListN.{length};
 ghost use Rattle.wire_write.specs.Writing.{Wrote};
-ghost use Rattle.wire_write.specs.Rows.{secondPiece};
 ghost use Rattle.wire_payload.specs.Payload.{carrying, withPayload};
 
-fn payload_piece(payload: &[u8]) -> Piece
-    ensures { λ r. ⌜ r ≡ secondPiece 0 (length (now (payload .entry))) ⌝ }
-{
-    Piece {
-        there: true,
-        entry: false,
-        source: Source::Second,
-        start: 0,
-        len: payload.len(),
-    }
-}
-
-// The AUTHORITY with the payload, and with split controls that say `size`.
+// The AUTHORITY with the payload, and with split controls that say 0.
 fn put_carrying(
     out: &mut [u8],
     major: u8,
@@ -39,26 +24,25 @@ fn put_carrying(
     fields: Inside,
     d: &[u8],
     payload: &[u8],
-    size: usize,
 ) -> Written
-    ensures { λ r. ⌜ Wrote (carrying major (now (d .entry)) head acked fields (now (payload .entry)) size)
+    ensures { λ r. ⌜ Wrote (carrying major (now (d .entry)) head acked fields (now (payload .entry)) 0)
         (now (out .entry)) r (now (out .exit)) ⌝ }
 {
     let rows = authority_rows();
     let l = bit_of(fields.l);
     let high = 2 * l;
     let low = busy_and_none(fields.b, fields.n);
-    let own = own_bytes(acked, size, high, low);
-    let id_piece = own_piece(0, 4);
-    let split = own_piece(4, 4);
-    let flags = own_piece(8, 2);
+    let spelled = spelled_bytes(acked, 0, high, low);
+    let id_piece = spelled_piece(0, wire_numbers::ACKED_LEN);
+    let split = spelled_piece(4, wire_numbers::SPLIT_LEN);
+    let flags = spelled_piece(8, wire_numbers::FLAGS_LEN);
     let part = fields.chain;
     let chain = piece_of(part);
     let part = fields.token;
     let token = piece_of(part);
     let part = fields.classifier;
     let classifier = piece_of(part);
-    let carried = payload_piece(payload);
+    let carried = second_piece(0, payload.len());
     let part = fields.entry;
     let entry = piece_of(part);
     let part = fields.cpa;
@@ -78,18 +62,17 @@ fn put_carrying(
         out,
         major,
         head.minor,
-        8,
+        wire_numbers::AUTHORITY,
         head.id,
         rows,
         ps,
-        &own,
+        &spelled,
         d,
         payload,
     )
 }
 
-// Writing it once tells how long it is; the second time its split controls say so. Where there is no room the first writes
-// nothing.
+// Where it is written, its length tells how many bytes follow the split controls, and these say so.
 pub fn write_payload(
     out: &mut [u8],
     major: u8,
@@ -102,10 +85,11 @@ pub fn write_payload(
     ensures { λ r. ⌜ Wrote (withPayload major (now (d .entry)) head acked fields (now (payload .entry)))
         (now (out .entry)) r (now (out .exit)) ⌝ }
 {
-    let first = put_carrying(out, major, head, acked, fields, d, payload, 0);
-    if first.number != 0 {
-        return first;
+    let done = put_carrying(out, major, head, acked, fields, d, payload);
+    if done.number != 0 {
+        return done;
     }
-    let size = first.length - 28;
-    put_carrying(out, major, head, acked, fields, d, payload, size)
+    let size = done.length - 28;
+    octet::write_u16(out, 24, size as u16);
+    done
 }

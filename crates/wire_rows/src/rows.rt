@@ -1,10 +1,11 @@
 // The rows of the messages' tables, and pieces, as the one writer takes them.
+use wire_numbers::*;
 use wire_shapes::Shape;
 use wire_write::Piece;
 use wire_write::Row;
 use wire_write::Source;
 ghost use mathlib.Core.Path.{_≡_};
-ghost use Rattle.wire_write.specs.Rows.{needRow, mayRow, ownPiece, firstPiece, secondPiece, entryPiece, noPiece, ownBytes, solicitRows, advertiseRows, requestRows, lookupRows, lookupBytes, ackRows, floodRows, inquireRows, authorityRows};
+ghost use Rattle.wire_write.specs.Rows.{needRow, mayRow, spelledPiece, firstPiece, secondPiece, noPiece, spelledBytes, solicitRows, advertiseRows, requestRows, lookupRows, lookupBytes, ackRows, floodRows, inquireRows, authorityRows};
 
 fn need_row(number: u16, padded: bool, shape: Shape) -> Row
     ensures { λ r. ⌜ r ≡ needRow number padded shape ⌝ }
@@ -28,13 +29,12 @@ fn may_row(number: u16, padded: bool, shape: Shape) -> Row
     }
 }
 
-pub fn own_piece(start: usize, len: usize) -> Piece
-    ensures { λ r. ⌜ r ≡ ownPiece start len ⌝ }
+pub fn spelled_piece(start: usize, len: usize) -> Piece
+    ensures { λ r. ⌜ r ≡ spelledPiece start len ⌝ }
 {
     Piece {
         there: true,
-        entry: false,
-        source: Source::Own,
+        source: Source::Spelled,
         start,
         len,
     }
@@ -45,7 +45,6 @@ pub fn first_piece(start: usize, len: usize) -> Piece
 {
     Piece {
         there: true,
-        entry: false,
         source: Source::First,
         start,
         len,
@@ -57,22 +56,9 @@ pub fn second_piece(start: usize, len: usize) -> Piece
 {
     Piece {
         there: true,
-        entry: false,
         source: Source::Second,
         start,
         len,
-    }
-}
-
-pub fn entry_piece(start: usize) -> Piece
-    ensures { λ r. ⌜ r ≡ entryPiece start ⌝ }
-{
-    Piece {
-        there: true,
-        entry: true,
-        source: Source::First,
-        start,
-        len: 100,
     }
 }
 
@@ -81,16 +67,15 @@ pub fn no_piece() -> Piece
 {
     Piece {
         there: false,
-        entry: false,
-        source: Source::Own,
+        source: Source::Spelled,
         start: 0,
         len: 0,
     }
 }
 
-// The writer's own bytes: acked ID at 0, split controls at 4, flags at 8 with a byte after them.
-pub fn own_bytes(acked: u32, size: usize, high: u8, low: u8) -> [u8; 11]
-    ensures { λ r. ⌜ r ≡ ownBytes acked size high low ⌝ }
+// The bytes that the writer spells out: acked ID at 0, split controls at 4, flags at 8 with a byte after them.
+pub fn spelled_bytes(acked: u32, size: usize, high: u8, low: u8) -> [u8; 11]
+    ensures { λ r. ⌜ r ≡ spelledBytes acked size high low ⌝ }
 {
     let a = (acked / 16777216 % 256) as u8;
     let b = (acked / 65536 % 256) as u8;
@@ -104,8 +89,8 @@ pub fn own_bytes(acked: u32, size: usize, high: u8, low: u8) -> [u8; 11]
 pub fn solicit_rows() -> [Row; 9]
     ensures { λ r. ⌜ r ≡ solicitRows ⌝ }
 {
-    let entry = may_row(0x9A, true, Shape::Entry);
-    let nonce = need_row(0x92, false, Shape::Sized(20));
+    let entry = may_row(ENTRY, true, Shape::Entry);
+    let nonce = need_row(HASHED, false, Shape::Sized(HASHED_LEN));
     let none = may_row(0, false, Shape::Any);
     [entry, nonce, none, none, none, none, none, none, none]
 }
@@ -113,9 +98,9 @@ pub fn solicit_rows() -> [Row; 9]
 pub fn advertise_rows() -> [Row; 9]
     ensures { λ r. ⌜ r ≡ advertiseRows ⌝ }
 {
-    let acked = need_row(0x18, false, Shape::Sized(4));
-    let keys = need_row(0x60, false, Shape::Array(0x30, 32, 0, 0x7FFF));
-    let nonce = need_row(0x92, false, Shape::Sized(20));
+    let acked = need_row(ACKED, false, Shape::Sized(ACKED_LEN));
+    let keys = need_row(KEYS, false, Shape::Array(KEY, KEYS_EACH, 0, KEYS_MOST));
+    let nonce = need_row(HASHED, false, Shape::Sized(HASHED_LEN));
     let none = may_row(0, false, Shape::Any);
     [acked, keys, nonce, none, none, none, none, none, none]
 }
@@ -123,13 +108,13 @@ pub fn advertise_rows() -> [Row; 9]
 pub fn request_rows() -> [Row; 9]
     ensures { λ r. ⌜ r ≡ requestRows ⌝ }
 {
-    let flags = may_row(0x40, true, Shape::Sized(2));
-    let split = may_row(0x98, false, Shape::Sized(4));
-    let nonce = need_row(0x93, false, Shape::Sized(16));
-    let keys = need_row(0x60, false, Shape::Array(0x30, 32, 0, 0x7FFF));
-    let credential = may_row(0x80, false, Shape::Any);
-    let signature = may_row(0xA5, false, Shape::Any);
-    let key = may_row(0xA6, false, Shape::Any);
+    let flags = may_row(FLAGS, true, Shape::Sized(FLAGS_LEN));
+    let split = may_row(SPLIT, false, Shape::Sized(SPLIT_LEN));
+    let nonce = need_row(NONCE, false, Shape::Sized(NONCE_LEN));
+    let keys = need_row(KEYS, false, Shape::Array(KEY, KEYS_EACH, 0, KEYS_MOST));
+    let credential = may_row(CREDENTIAL, false, Shape::Any);
+    let signature = may_row(SIGNATURE, false, Shape::Any);
+    let key = may_row(KEY_ID, false, Shape::Any);
     let none = may_row(0, false, Shape::Any);
     [
         flags,
@@ -147,14 +132,18 @@ pub fn request_rows() -> [Row; 9]
 pub fn lookup_rows() -> [Row; 9]
     ensures { λ r. ⌜ r ≡ lookupRows ⌝ }
 {
-    let controls = need_row(0x45, false, Shape::Lookup);
-    let target = need_row(0x38, false, Shape::Sized(32));
-    let validate = need_row(0x39, false, Shape::Sized(32));
-    let entry = may_row(0x9A, true, Shape::Entry);
-    let path = need_row(0x9E, false, Shape::Array(0x9D, 18, 1, 22));
-    let credential = may_row(0x80, false, Shape::Any);
-    let signature = may_row(0xA5, false, Shape::Any);
-    let key = may_row(0xA6, false, Shape::Any);
+    let controls = need_row(LOOKUP_CONTROLS, false, Shape::Lookup);
+    let target = need_row(TARGET, false, Shape::Sized(KEY_LEN));
+    let validate = need_row(VALIDATE, false, Shape::Sized(KEY_LEN));
+    let entry = may_row(ENTRY, true, Shape::Entry);
+    let path = need_row(
+        ENDPOINTS,
+        false,
+        Shape::Array(ENDPOINT, ENDPOINTS_EACH, ENDPOINTS_LEAST, ENDPOINTS_MOST),
+    );
+    let credential = may_row(CREDENTIAL, false, Shape::Any);
+    let signature = may_row(SIGNATURE, false, Shape::Any);
+    let key = may_row(KEY_ID, false, Shape::Any);
     let none = may_row(0, false, Shape::Any);
     [
         controls,
@@ -181,8 +170,8 @@ pub fn lookup_bytes(low: u8, precision: u16, criteria: u8, reason: u8) -> [u8; 8
 pub fn ack_rows() -> [Row; 9]
     ensures { λ r. ⌜ r ≡ ackRows ⌝ }
 {
-    let acked = need_row(0x18, false, Shape::Sized(4));
-    let flags = may_row(0x40, false, Shape::Sized(2));
+    let acked = need_row(ACKED, false, Shape::Sized(ACKED_LEN));
+    let flags = may_row(FLAGS, false, Shape::Sized(FLAGS_LEN));
     let none = may_row(0, false, Shape::Any);
     [acked, flags, none, none, none, none, none, none, none]
 }
@@ -190,12 +179,16 @@ pub fn ack_rows() -> [Row; 9]
 pub fn flood_rows() -> [Row; 9]
     ensures { λ r. ⌜ r ≡ floodRows ⌝ }
 {
-    let controls = need_row(0x43, true, Shape::Sized(3));
-    let validate = need_row(0x39, false, Shape::Sized(32));
-    let token = may_row(0x9F, true, Shape::Any);
-    let revoke = may_row(0x9C, true, Shape::Any);
-    let entry = may_row(0x9A, true, Shape::Entry);
-    let reached = may_row(0x9E, false, Shape::Array(0x9D, 18, 1, 22));
+    let controls = need_row(FLOOD_CONTROLS, true, Shape::Sized(FLOOD_CONTROLS_LEN));
+    let validate = need_row(VALIDATE, false, Shape::Sized(KEY_LEN));
+    let token = may_row(TOKEN, true, Shape::Any);
+    let revoke = may_row(REVOKED, true, Shape::Any);
+    let entry = may_row(ENTRY, true, Shape::Entry);
+    let reached = may_row(
+        ENDPOINTS,
+        false,
+        Shape::Array(ENDPOINT, ENDPOINTS_EACH, ENDPOINTS_LEAST, ENDPOINTS_MOST),
+    );
     let none = may_row(0, false, Shape::Any);
     [
         controls,
@@ -213,12 +206,12 @@ pub fn flood_rows() -> [Row; 9]
 pub fn inquire_rows() -> [Row; 9]
     ensures { λ r. ⌜ r ≡ inquireRows ⌝ }
 {
-    let flags = need_row(0x40, true, Shape::Sized(2));
-    let validate = need_row(0x39, false, Shape::Sized(32));
-    let nonce = may_row(0x93, false, Shape::Sized(16));
-    let credential = may_row(0x80, false, Shape::Any);
-    let signature = may_row(0xA5, false, Shape::Any);
-    let key = may_row(0xA6, false, Shape::Any);
+    let flags = need_row(FLAGS, true, Shape::Sized(FLAGS_LEN));
+    let validate = need_row(VALIDATE, false, Shape::Sized(KEY_LEN));
+    let nonce = may_row(NONCE, false, Shape::Sized(NONCE_LEN));
+    let credential = may_row(CREDENTIAL, false, Shape::Any);
+    let signature = may_row(SIGNATURE, false, Shape::Any);
+    let key = may_row(KEY_ID, false, Shape::Any);
     let none = may_row(0, false, Shape::Any);
     [
         flags,
@@ -236,15 +229,15 @@ pub fn inquire_rows() -> [Row; 9]
 pub fn authority_rows() -> [Row; 9]
     ensures { λ r. ⌜ r ≡ authorityRows ⌝ }
 {
-    let acked = need_row(0x18, false, Shape::Sized(4));
-    let split = need_row(0x98, false, Shape::Sized(4));
-    let flags = need_row(0x40, true, Shape::Sized(2));
-    let chain = may_row(0x80, true, Shape::Any);
-    let token = may_row(0x9F, true, Shape::Any);
-    let classifier = may_row(0x85, true, Shape::Array(0x84, 2, 0, 0x7FFF));
-    let payload = may_row(0x5A, true, Shape::Any);
-    let entry = may_row(0x9A, true, Shape::Entry);
-    let cpa = may_row(0x9B, false, Shape::Any);
+    let acked = need_row(ACKED, false, Shape::Sized(ACKED_LEN));
+    let split = need_row(SPLIT, false, Shape::Sized(SPLIT_LEN));
+    let flags = need_row(FLAGS, true, Shape::Sized(FLAGS_LEN));
+    let chain = may_row(CREDENTIAL, true, Shape::Any);
+    let token = may_row(TOKEN, true, Shape::Any);
+    let classifier = may_row(CODES, true, Shape::Array(CODE, CODES_EACH, 0, CODES_MOST));
+    let payload = may_row(PAYLOAD, true, Shape::Any);
+    let entry = may_row(ENTRY, true, Shape::Entry);
+    let cpa = may_row(CPA, false, Shape::Any);
     [
         acked,
         split,

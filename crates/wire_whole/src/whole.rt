@@ -1,24 +1,20 @@
 // A whole message: where it ends, its header, its fields.
-use wire_fields::put_opening;
 use wire_shapes::padding;
 use wire_write::Piece;
 use wire_write::Row;
-use wire_write::Source;
 use wire_write::Written;
-use wire_write::len_from;
 use wire_write::pieces_ok;
+use wire_write::put_header;
 use wire_write::put_piece;
 ghost use mathlib.Core.Path.{_≡_};
 ghost use mathlib.Core.Bool.{true, cond, _&&_};
-ghost use mathlib.Core.List.{_∷_, _++_};
 ghost use Prim.Native.Nat.{_+_, _<_, _≤_, min};
 ghost use lib.Dec.{leb};
 ghost use lib.ListN.{length};
-ghost use Rattle.octet.specs.Number.{digitsBE};
 ghost use Rattle.octet.specs.Part.{splice};
-ghost use Rattle.wire_fields.specs.Message.{opening, layoutFrom, bytesOf};
+ghost use Rattle.wire_fields.specs.Message.{layoutFrom, bytesOf};
 ghost use Rattle.wire_write.specs.Writing.{Wrote, fit};
-ghost use Rattle.wire_write.specs.Pieces.{lentOf, pastOf, PieceIn, AllIn, pieceBytes, givensOf, contentsOf, kindsOfRows, endRows, madeBy};
+ghost use Rattle.wire_write.specs.Pieces.{lentOf, pastOf, AllIn, givensOf, contentsOf, kindsOfRows, endRows, madeBy};
 
 // The place past a field of so many bytes; 1233 for any that is past 1232.
 fn past(at: usize, padded: bool, len: usize) -> usize
@@ -39,67 +35,30 @@ fn past(at: usize, padded: bool, len: usize) -> usize
 }
 
 // The same of a piece, where it is there.
-fn piece_past(
-    at: usize,
-    row: Row,
-    p: Piece,
-    major: u8,
-    minor: u8,
-    own: &[u8],
-    first: &[u8],
-    second: &[u8],
-) -> usize
-    requires { ⌜ PieceIn (lentOf (now own) (now first) (now second)) p ⌝ }
+fn piece_past(at: usize, row: Row, p: Piece) -> usize
     requires { ⌜ at ≤ 1233 ⌝ }
-    ensures { λ r. ⌜ r ≡ min 1233 (pastOf at (p .there) (row .padded)
-        (length (pieceBytes major minor (lentOf (now (own .entry)) (now (first .entry)) (now (second .entry))) p))) ⌝ }
+    ensures { λ r. ⌜ r ≡ min 1233 (pastOf at (p .there) (row .padded) (p .len)) ⌝ }
 {
     if !p.there {
         return at;
     }
-    let source = p.source;
-    match source {
-        Source::Own => past(at, row.padded, len_from(own, p)),
-        Source::First => past(at, row.padded, len_from(first, p)),
-        Source::Second => past(at, row.padded, len_from(second, p)),
-    }
+    past(at, row.padded, p.len)
 }
 
 // Where the fields end; 1233 for any place past 1232.
-fn pieces_end(
-    rows: [Row; 9],
-    ps: [Piece; 9],
-    major: u8,
-    minor: u8,
-    own: &[u8],
-    first: &[u8],
-    second: &[u8],
-) -> usize
+fn pieces_end(rows: [Row; 9], ps: [Piece; 9]) -> usize
     requires { ⌜ (length rows ≡ 9) × (length ps ≡ 9) ⌝ }
-    requires { ⌜ AllIn (lentOf (now own) (now first) (now second)) ps ⌝ }
-    ensures { λ r. ⌜ r ≡ min 1233 (endRows 12 rows
-        (givensOf major minor (lentOf (now (own .entry)) (now (first .entry)) (now (second .entry))) ps)) ⌝ }
+    ensures { λ r. ⌜ r ≡ min 1233 (endRows 12 rows ps) ⌝ }
 {
     let mut i = 0;
     let mut at = 12;
     while i < 9 {
         let row = rows[i];
         let p = ps[i];
-        at = piece_past(at, row, p, major, minor, own, first, second);
+        at = piece_past(at, row, p);
         i += 1;
     }
     at
-}
-
-// The twelve bytes of a header.
-fn put_header(out: &mut [u8], major: u8, minor: u8, kind: u8, id: u32)
-    requires { ⌜ 12 ≤ length (now out) ⌝ }
-    ensures { λ _. ⌜ now (out .exit) ≡ splice 0 (opening ++ (major ∷ minor ∷ kind ∷ digitsBE 256 4 id)) (now (out .entry)) ⌝ }
-{
-    put_opening(out);
-    let three = [major, minor, kind];
-    runs::copy_to(out, 5, &three);
-    octet::write_u32(out, 8, id);
 }
 
 // All fields, from place 12 on.
@@ -107,25 +66,23 @@ fn put_pieces(
     out: &mut [u8],
     rows: [Row; 9],
     ps: [Piece; 9],
-    major: u8,
-    minor: u8,
-    own: &[u8],
+    spelled: &[u8],
     first: &[u8],
     second: &[u8],
 )
     requires { ⌜ (length rows ≡ 9) × (length ps ≡ 9) ⌝ }
-    requires { ⌜ AllIn (lentOf (now own) (now first) (now second)) ps ⌝ }
-    requires { ⌜ endRows 12 rows (givensOf major minor (lentOf (now own) (now first) (now second)) ps) ≤ length (now out) ⌝ }
-    requires { ⌜ endRows 12 rows (givensOf major minor (lentOf (now own) (now first) (now second)) ps) < 65536 ⌝ }
+    requires { ⌜ AllIn (lentOf (now spelled) (now first) (now second)) ps ⌝ }
+    requires { ⌜ endRows 12 rows ps ≤ length (now out) ⌝ }
+    requires { ⌜ endRows 12 rows ps < 65536 ⌝ }
     ensures { λ _. ⌜ now (out .exit) ≡ splice 12 (bytesOf (layoutFrom 12 (kindsOfRows rows)
-        (contentsOf (givensOf major minor (lentOf (now (own .entry)) (now (first .entry)) (now (second .entry))) ps)))) (now (out .entry)) ⌝ }
+        (contentsOf (givensOf (lentOf (now (spelled .entry)) (now (first .entry)) (now (second .entry))) ps)))) (now (out .entry)) ⌝ }
 {
     let mut i = 0;
     let mut at = 12;
     while i < 9 {
         let row = rows[i];
         let p = ps[i];
-        at = put_piece(out, at, row, p, major, minor, own, first, second);
+        at = put_piece(out, at, row, p, spelled, first, second);
         i += 1;
     }
 }
@@ -150,22 +107,22 @@ fn put_where(
     id: u32,
     rows: [Row; 9],
     ps: [Piece; 9],
-    own: &[u8],
+    spelled: &[u8],
     first: &[u8],
     second: &[u8],
 )
     requires { ⌜ (length rows ≡ 9) × (length ps ≡ 9) ⌝ }
-    requires { ⌜ AllIn (lentOf (now own) (now first) (now second)) ps ⌝ }
-    requires { ⌜ (room ≡ true → fit (madeBy major minor kind id (lentOf (now own) (now first) (now second)) rows ps .bytes)
+    requires { ⌜ AllIn (lentOf (now spelled) (now first) (now second)) ps ⌝ }
+    requires { ⌜ (room ≡ true → fit (madeBy major minor kind id (lentOf (now spelled) (now first) (now second)) rows ps .bytes)
         (now out) ≡ true) ⌝ }
-    ensures { λ _. ⌜ now (out .exit) ≡ cond room (splice 0 (madeBy major minor kind id (lentOf (now (own .entry))
+    ensures { λ _. ⌜ now (out .exit) ≡ cond room (splice 0 (madeBy major minor kind id (lentOf (now (spelled .entry))
         (now (first .entry)) (now (second .entry))) rows ps .bytes) (now (out .entry))) (now (out .entry)) ⌝ }
 {
     if !room {
         return;
     }
     put_header(out, major, minor, kind, id);
-    put_pieces(out, rows, ps, major, minor, own, first, second);
+    put_pieces(out, rows, ps, spelled, first, second);
 }
 
 // What is answered for a message whose fields are right.
@@ -193,21 +150,21 @@ pub fn write_rows(
     id: u32,
     rows: [Row; 9],
     ps: [Piece; 9],
-    own: &[u8],
+    spelled: &[u8],
     first: &[u8],
     second: &[u8],
 ) -> Written
     requires { ⌜ (length rows ≡ 9) × (length ps ≡ 9) ⌝ }
-    ensures { λ r. ⌜ Wrote (madeBy major minor kind id (lentOf (now (own .entry)) (now (first .entry)) (now (second .entry))) rows ps)
+    ensures { λ r. ⌜ Wrote (madeBy major minor kind id (lentOf (now (spelled .entry)) (now (first .entry)) (now (second .entry))) rows ps)
         (now (out .entry)) r (now (out .exit)) ⌝ }
 {
-    if !pieces_ok(rows, ps, own, first, second) {
+    if !pieces_ok(rows, ps, spelled, first, second) {
         return Written {
             number: 6,
             length: 0,
         };
     }
-    let size = pieces_end(rows, ps, major, minor, own, first, second);
+    let size = pieces_end(rows, ps);
     let room = has_room(out, size);
     put_where(
         out,
@@ -218,7 +175,7 @@ pub fn write_rows(
         id,
         rows,
         ps,
-        own,
+        spelled,
         first,
         second,
     );

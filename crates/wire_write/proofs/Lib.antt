@@ -1,4 +1,3 @@
 pub mod PutLaws
 pub mod WriteLaws
 pub mod PieceLaws
-pub mod SentLaws

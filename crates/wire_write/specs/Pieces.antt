@@ -1,15 +1,13 @@
 -- Helps the code. A message as rows of its table and pieces of lent slices, in which the one writer has it: shown to be the bytes of the message that they make
 -- (Message) by the laws of this crate. Row, Piece and Source are the code's. Assumes nothing.
-use Prim.Native.Nat.{ℕ, _+_, _*_, _≤_}
+use Prim.Native.Nat.{ℕ, _+_, _≤_}
 use mathlib.Core.List.{List, [], _∷_, _++_}
 use mathlib.Core.Bool.{Bool, true, false, cond, _&&_}
 use mathlib.Core.Path.{_≡_}
 use lib.Dec.{leb}
-use lib.ListN.{length, replicate, getD}
+use lib.ListN.{length, replicate}
 use Rattle.octet.specs.Number.{digitsBE}
 use Rattle.octet.specs.Part.{part}
-use Rattle.record.specs.Record.{recordForm}
-use Rattle.record.specs.Entry.{entryOf}
 use Rattle.wire_shapes.specs.Field.{gap}
 use Rattle.wire_shapes.specs.Shapes.{Kind, hasShape}
 use Rattle.wire_fields.specs.Message.{Contents, Message, bytesOf, layoutOf}
@@ -18,7 +16,7 @@ use Rattle.wire_write.specs.Writing.{Made}
 use Rattle.wire_write.specs.declared.Row.{Row}
 use Rattle.wire_write.specs.declared.Piece.{Piece}
 use Rattle.wire_write.specs.declared.Source.{Source}
-use Rattle.wire_write.specs.declared.Source.the-variants.{Own, First, Second}
+use Rattle.wire_write.specs.declared.Source.the-variants.{Spelled, First, Second}
 
 -- the bytes of a field that starts at place i, and where it ends
 unfoldable pub fieldBytes : ℕ → ℕ → Bool → List ℕ → List ℕ
@@ -49,31 +47,26 @@ abbrev pub messageOf : ℕ → ℕ → ℕ → ℕ → List Given → Message
 messageOf major minor type id gs =
     record { major = major; minor = minor; type = type; id = id; fields = contentsOf gs }
 
--- what pieces are taken from: the writer's own bytes and two lent slices
+-- what pieces are taken from: the bytes that the writer spells out and two lent slices
 pub record Lent : Type 0 where
-  pub own : List ℕ
+  pub spelled : List ℕ
   pub first : List ℕ
   pub second : List ℕ
 
 abbrev pub lentOf : List ℕ → List ℕ → List ℕ → Lent
-lentOf own first second = record { own = own; first = first; second = second }
+lentOf spelled first second = record { spelled = spelled; first = first; second = second }
 
 abbrev pub sourceOf : Lent → Source → List ℕ
-sourceOf l Own = l .own
+sourceOf l Spelled = l .spelled
 sourceOf l First = l .first
 sourceOf l Second = l .second
 
--- the contents of a piece of the slice s, a record as a route entry of the given versions; and whether it is right for a row: it stands within s and has the shape, or is a record in form
-abbrev pub contentsFrom : ℕ → ℕ → List ℕ → Piece → List ℕ
-contentsFrom major minor s p = cond (p .entry) (entryOf major minor (part (p .start) 100 s)) (part (p .start) (p .len) s)
+-- the contents of a piece; and whether they are right for a row: they stand within their slice and have the shape
+abbrev pub pieceBytes : Lent → Piece → List ℕ
+pieceBytes l p = part (p .start) (p .len) (sourceOf l (p .source))
 
 abbrev pub okFrom : List ℕ → Row → Piece → Bool
-okFrom s r p =
-    cond (p .entry) (leb (p .start + 100) (length s) && recordForm (part (p .start) 100 s))
-    (leb (p .start + p .len) (length s) && hasShape (r .shape) (part (p .start) (p .len) s))
-
-abbrev pub pieceBytes : ℕ → ℕ → Lent → Piece → List ℕ
-pieceBytes major minor l p = contentsFrom major minor (sourceOf l (p .source)) p
+okFrom s r p = leb (p .start + p .len) (length s) && hasShape (r .shape) (part (p .start) (p .len) s)
 
 abbrev pub pieceOk : Lent → Row → Piece → Bool
 pieceOk l r p = cond (p .there) (okFrom (sourceOf l (p .source)) r p) (r .optional)
@@ -83,25 +76,17 @@ rowsOk l [] ps = true
 rowsOk l (r ∷ rs) [] = true
 rowsOk l (r ∷ rs) (p ∷ ps) = pieceOk l r p && rowsOk l rs ps
 
-abbrev pub givensOf : ℕ → ℕ → Lent → List Piece → List Given
-givensOf major minor l [] = []
-givensOf major minor l (p ∷ ps) = record { there = p .there; bytes = pieceBytes major minor l p } ∷ givensOf major minor l ps
+abbrev pub givensOf : Lent → List Piece → List Given
+givensOf l [] = []
+givensOf l (p ∷ ps) = record { there = p .there; bytes = pieceBytes l p } ∷ givensOf l ps
 
 -- a piece that is there stands within its source
-abbrev pub InFrom : List ℕ → Piece → Type 0
-InFrom s p =
-    (p .entry ≡ true → (p .start + 100 ≤ length s) × (recordForm (part (p .start) 100 s) ≡ true)) × (p .entry ≡ false → p .start + p .len ≤ length s)
-
 abbrev pub PieceIn : Lent → Piece → Type 0
-PieceIn l p = p .there ≡ true → InFrom (sourceOf l (p .source)) p
+PieceIn l p = p .there ≡ true → p .start + p .len ≤ length (sourceOf l (p .source))
 
 abbrev pub AllIn : Lent → List Piece → Type 0
 AllIn l [] = Unit {0}
 AllIn l (p ∷ ps) = PieceIn l p × AllIn l ps
-
--- how long the contents of a piece are
-abbrev pub lenFrom : List ℕ → Piece → ℕ
-lenFrom s p = cond (p .entry) (38 + 16 * getD s (p .start + 34) 0) (p .len)
 
 -- the kind that a row says; writing asks nothing of the ignored bits
 abbrev pub kindOfRow : Row → Kind
@@ -111,16 +96,16 @@ abbrev pub kindsOfRows : List Row → List Kind
 kindsOfRows [] = []
 kindsOfRows (r ∷ rs) = kindOfRow r ∷ kindsOfRows rs
 
--- where the fields end
-abbrev pub endRows : ℕ → List Row → List Given → ℕ
-endRows i [] gs = i
+-- where the fields end, by the lengths that the pieces say
+abbrev pub endRows : ℕ → List Row → List Piece → ℕ
+endRows i [] ps = i
 endRows i (r ∷ rs) [] = i
-endRows i (r ∷ rs) (g ∷ gs) = endRows (pastOf i (g .there) (r .padded) (length (g .bytes))) rs gs
+endRows i (r ∷ rs) (p ∷ ps) = endRows (pastOf i (p .there) (r .padded) (p .len)) rs ps
 
 -- what is written of a message of a type: 6, or its bytes
 unfoldable pub madeBy : ℕ → ℕ → ℕ → ℕ → Lent → List Row → List Piece → Made
 madeBy major minor type id l rows ps =
     record {
       ok = rowsOk l rows ps;
-      bytes = bytesOf (layoutOf (kindsOfRows rows) (messageOf major minor type id (givensOf major minor l ps)));
+      bytes = bytesOf (layoutOf (kindsOfRows rows) (messageOf major minor type id (givensOf l ps)));
     }

@@ -1,12 +1,13 @@
 // Writing a message, field by field: the one writer (`wire_whole`) goes over the rows of a message's table and the pieces of
-// its fields. A field's contents stay where they are lent until they are written, and a record goes out as a route entry with
-// no copy made.
+// its fields. A field's contents stay where they are lent until they are written.
 mod check;
 mod field;
+mod header;
 
 pub use check::pieces_ok;
-pub use field::len_from;
+pub use field::put_head;
 pub use field::put_piece;
+pub use header::put_header;
 
 // What the code knows of a kind of field.
 pub struct Row {
@@ -16,18 +17,16 @@ pub struct Row {
     pub shape: wire_shapes::Shape,
 }
 
-// Which slice a piece is taken from: the writer's own bytes, or one of two that are lent.
+// Which slice a piece is taken from: the bytes that the writer spells out, or one of two that are lent.
 pub enum Source {
-    Own,
+    Spelled,
     First,
     Second,
 }
 
-// A field of a message: whether it is there, and where its contents stand. An entry is the record at `start`, which
-// goes out as a route entry; any other piece is its `len` bytes.
+// A field of a message: whether it is there, and where its contents stand.
 pub struct Piece {
     pub there: bool,
-    pub entry: bool,
     pub source: Source,
     pub start: usize,
     pub len: usize,

@@ -12,21 +12,21 @@ ack-rows-requires c κs = search needs
 bit-of-requires : tie.Need-bit-of-requires
 bit-of-requires c κs = search needs
 
-own-bytes-requires : tie.Need-own-bytes-requires
-own-bytes-requires c κs = search needs
+spelled-bytes-requires : tie.Need-spelled-bytes-requires
+spelled-bytes-requires c κs = search needs
 
-own-piece-requires : tie.Need-own-piece-requires
-own-piece-requires c κs = search needs
+spelled-piece-requires : tie.Need-spelled-piece-requires
+spelled-piece-requires c κs = search needs
 
-own-if-requires : tie.Need-own-if-requires
-own-if-requires c κs = search needs
+spelled-if-requires : tie.Need-spelled-if-requires
+spelled-if-requires c κs = search needs
 
 no-piece-requires : tie.Need-no-piece-requires
 no-piece-requires c κs = search needs
 
 slice-aggregate-write-rows : tie.Need-slice-aggregate-write-rows
 unfolding digitsBE
-slice-aggregate-write-rows c = rw (c .before .before .before .before .before .own-bytes .ensures)
+slice-aggregate-write-rows c = rw (c .before .before .before .before .before .spelled-bytes .ensures)
 
 write-rows-requires : tie.Need-write-rows-requires
 write-rows-requires c κs =
@@ -40,9 +40,9 @@ unfolding resent
 returns c =
     rw (
       c .before .before .before .before .before .no-piece .ensures,
-      c .before .before .before .before .before .before .own-if .ensures,
-      c .before .before .before .before .before .before .before .own-piece .ensures,
-      c .before .before .before .before .before .before .before .before .own-bytes .ensures,
+      c .before .before .before .before .before .before .spelled-if .ensures,
+      c .before .before .before .before .before .before .before .spelled-piece .ensures,
+      c .before .before .before .before .before .before .before .before .spelled-bytes .ensures,
       c .before .before .before .before .before .before .before .before .before .bit-of .ensures .0,
       c .before .before .before .before .before .before .before .before .before .before .ack-rows .ensures,
     ) at (c .before .before .write-rows .ensures)
@@ -53,9 +53,9 @@ ack-spec =
     (tie.spec
     ack-rows-requires
     bit-of-requires
-    own-bytes-requires
-    own-piece-requires
-    own-if-requires
+    spelled-bytes-requires
+    spelled-piece-requires
+    spelled-if-requires
     no-piece-requires
     slice-aggregate-write-rows
     write-rows-requires

@@ -9,11 +9,11 @@ use Rattle.wire_copy.proofs.advertise.Tie as tie
 advertise-rows-requires : tie.Need-advertise-rows-requires
 advertise-rows-requires c κs = search needs
 
-own-bytes-requires : tie.Need-own-bytes-requires
-own-bytes-requires c κs = search needs
+spelled-bytes-requires : tie.Need-spelled-bytes-requires
+spelled-bytes-requires c κs = search needs
 
-own-piece-requires : tie.Need-own-piece-requires
-own-piece-requires c κs = search needs
+spelled-piece-requires : tie.Need-spelled-piece-requires
+spelled-piece-requires c κs = search needs
 
 piece-of-requires : tie.Need-piece-of-requires
 piece-of-requires c κs = search needs
@@ -26,7 +26,7 @@ no-piece-requires c κs = search needs
 
 slice-aggregate-write-rows : tie.Need-slice-aggregate-write-rows
 unfolding digitsBE
-slice-aggregate-write-rows c = rw (c .before .before .before .before .before .before .own-bytes .ensures)
+slice-aggregate-write-rows c = rw (c .before .before .before .before .before .before .spelled-bytes .ensures)
 
 write-rows-requires : tie.Need-write-rows-requires
 write-rows-requires c κs =
@@ -42,8 +42,8 @@ returns c =
       c .before .before .before .before .before .no-piece .ensures,
       c .before .before .before .before .before .before .first-piece .ensures,
       c .before .before .before .before .before .before .before .piece-of .ensures,
-      c .before .before .before .before .before .before .before .before .own-piece .ensures,
-      c .before .before .before .before .before .before .before .before .before .own-bytes .ensures,
+      c .before .before .before .before .before .before .before .before .spelled-piece .ensures,
+      c .before .before .before .before .before .before .before .before .before .spelled-bytes .ensures,
       c .before .before .before .before .before .before .before .before .before .before .advertise-rows .ensures,
     ) at (c .before .before .write-rows .ensures)
 
@@ -52,8 +52,8 @@ advertise-spec =
     tie.close
     (tie.spec
     advertise-rows-requires
-    own-bytes-requires
-    own-piece-requires
+    spelled-bytes-requires
+    spelled-piece-requires
     piece-of-requires
     first-piece-requires
     no-piece-requires

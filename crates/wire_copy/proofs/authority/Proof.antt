@@ -21,17 +21,17 @@ mul-high c = search needs
 busy-and-none-requires : tie.Need-busy-and-none-requires
 busy-and-none-requires c κs = search needs
 
-own-bytes-requires : tie.Need-own-bytes-requires
-own-bytes-requires c κs = search needs
+spelled-bytes-requires : tie.Need-spelled-bytes-requires
+spelled-bytes-requires c κs = search needs
 
-own-piece-requires : tie.Need-own-piece-requires
-own-piece-requires c κs = search needs
+spelled-piece-requires : tie.Need-spelled-piece-requires
+spelled-piece-requires c κs = search needs
 
-own-piece-requires-2 : tie.Need-own-piece-requires-2
-own-piece-requires-2 c κs = search needs
+spelled-piece-requires-2 : tie.Need-spelled-piece-requires-2
+spelled-piece-requires-2 c κs = search needs
 
-own-piece-requires-3 : tie.Need-own-piece-requires-3
-own-piece-requires-3 c κs = search needs
+spelled-piece-requires-3 : tie.Need-spelled-piece-requires-3
+spelled-piece-requires-3 c κs = search needs
 
 piece-of-requires : tie.Need-piece-of-requires
 piece-of-requires c κs = search needs
@@ -53,7 +53,7 @@ piece-of-requires-6 c κs = search needs
 
 slice-aggregate-write-rows : tie.Need-slice-aggregate-write-rows
 unfolding digitsBE
-slice-aggregate-write-rows c = rw (c .before .before .before .before .before .before .before .before .before .before .before .own-bytes .ensures)
+slice-aggregate-write-rows c = rw (c .before .before .before .before .before .before .before .before .before .before .before .spelled-bytes .ensures)
 
 write-rows-requires : tie.Need-write-rows-requires
 write-rows-requires c κs =
@@ -76,10 +76,10 @@ returns c =
       piece-of6 .before .before .before .piece-of3 .ensures,
       piece-of6 .before .before .before .before .piece-of2 .ensures,
       piece-of .piece-of .ensures,
-      piece-of .before .own-piece3 .ensures,
-      piece-of .before .before .own-piece2 .ensures,
-      piece-of .before .before .before .own-piece .ensures,
-      piece-of .before .before .before .before .own-bytes .ensures,
+      piece-of .before .spelled-piece3 .ensures,
+      piece-of .before .before .spelled-piece2 .ensures,
+      piece-of .before .before .before .spelled-piece .ensures,
+      piece-of .before .before .before .before .spelled-bytes .ensures,
       busy-and-none .busy-and-none .ensures,
       busy-and-none .before .bit-of .ensures .0,
       busy-and-none .before .before .behind .ensures,
@@ -95,10 +95,10 @@ authority-spec =
     bit-of-requires
     mul-high
     busy-and-none-requires
-    own-bytes-requires
-    own-piece-requires
-    own-piece-requires-2
-    own-piece-requires-3
+    spelled-bytes-requires
+    spelled-piece-requires
+    spelled-piece-requires-2
+    spelled-piece-requires-3
     piece-of-requires
     piece-of-requires-2
     piece-of-requires-3

@@ -36,11 +36,11 @@ returns c =
 bit-of-requires : tie.Need-bit-of-requires
 bit-of-requires c κs = search needs
 
-own-bytes-requires : tie.Need-own-bytes-requires
-own-bytes-requires c κs = search needs
+spelled-bytes-requires : tie.Need-spelled-bytes-requires
+spelled-bytes-requires c κs = search needs
 
-own-piece-requires : tie.Need-own-piece-requires
-own-piece-requires c κs = search needs
+spelled-piece-requires : tie.Need-spelled-piece-requires
+spelled-piece-requires c κs = search needs
 
 first-piece-requires : tie.Need-first-piece-requires
 first-piece-requires c κs = search needs
@@ -56,7 +56,7 @@ no-piece-requires c κs = search needs
 
 slice-aggregate-write-rows : tie.Need-slice-aggregate-write-rows
 unfolding digitsBE
-slice-aggregate-write-rows c = rw (c .before .before .before .before .before .before .before .own-bytes .ensures)
+slice-aggregate-write-rows c = rw (c .before .before .before .before .before .before .before .spelled-bytes .ensures)
 
 write-rows-requires : tie.Need-write-rows-requires
 write-rows-requires c κs =
@@ -69,23 +69,23 @@ returns-2 : tie.Need-returns-2
 unfolding resent
 returns-2 c =
     let no-piece = c .before .before .before .before .before in
-    let own-bytes = no-piece .before .before .before .before .before in
-    let piece-of = own-bytes .before .before .before .before .before in
+    let spelled-bytes = no-piece .before .before .before .before .before in
+    let piece-of = spelled-bytes .before .before .before .before .before in
     let start = piece-of .before .before .before .before in
     let b = Bool·not-not (oneOf (isHere (start .args .revoke)) (isHere (start .args .entry))) in
     let e : oneOf (isHere (start .args .revoke)) (isHere (start .args .entry)) ≡ true =
-    sym b ∙ ap not (sym (rw (piece-of .piece-of .ensures, own-bytes .before .before .before .before .piece-of2 .ensures) at
-    (own-bytes .before .before .before .both-or-neither .ensures)) ∙ own-bytes .before .before .if1 .left) in
+    sym b ∙ ap not (sym (rw (piece-of .piece-of .ensures, spelled-bytes .before .before .before .before .piece-of2 .ensures) at
+    (spelled-bytes .before .before .before .both-or-neither .ensures)) ∙ spelled-bytes .before .before .if1 .left) in
     rw e
     (rw (
       no-piece .no-piece .ensures,
       no-piece .before .piece-of4 .ensures,
       no-piece .before .before .piece-of3 .ensures,
       no-piece .before .before .before .first-piece .ensures,
-      no-piece .before .before .before .before .own-piece .ensures,
-      own-bytes .own-bytes .ensures,
-      own-bytes .before .bit-of .ensures .0,
-      own-bytes .before .before .before .before .piece-of2 .ensures,
+      no-piece .before .before .before .before .spelled-piece .ensures,
+      spelled-bytes .spelled-bytes .ensures,
+      spelled-bytes .before .bit-of .ensures .0,
+      spelled-bytes .before .before .before .before .piece-of2 .ensures,
       piece-of .piece-of .ensures,
       piece-of .before .flood-rows .ensures,
     ) at (c .before .before .write-rows .ensures))
@@ -100,8 +100,8 @@ flood-spec =
     both-or-neither-requires
     returns
     bit-of-requires
-    own-bytes-requires
-    own-piece-requires
+    spelled-bytes-requires
+    spelled-piece-requires
     first-piece-requires
     piece-of-requires-3
     piece-of-requires-4

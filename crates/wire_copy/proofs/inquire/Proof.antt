@@ -33,11 +33,11 @@ add-low c = search needs
 add-low-2 : tie.Need-add-low-2
 add-low-2 c = search needs
 
-own-bytes-requires : tie.Need-own-bytes-requires
-own-bytes-requires c κs = search needs
+spelled-bytes-requires : tie.Need-spelled-bytes-requires
+spelled-bytes-requires c κs = search needs
 
-own-piece-requires : tie.Need-own-piece-requires
-own-piece-requires c κs = search needs
+spelled-piece-requires : tie.Need-spelled-piece-requires
+spelled-piece-requires c κs = search needs
 
 first-piece-requires : tie.Need-first-piece-requires
 first-piece-requires c κs = search needs
@@ -59,7 +59,7 @@ no-piece-requires c κs = search needs
 
 slice-aggregate-write-rows : tie.Need-slice-aggregate-write-rows
 unfolding digitsBE
-slice-aggregate-write-rows c = rw (c .before .before .before .before .before .before .before .before .before .own-bytes .ensures)
+slice-aggregate-write-rows c = rw (c .before .before .before .before .before .before .before .before .before .spelled-bytes .ensures)
 
 write-rows-requires : tie.Need-write-rows-requires
 write-rows-requires c κs =
@@ -81,8 +81,8 @@ returns c =
       no-piece .before .before .before .piece-of2 .ensures,
       no-piece .before .before .before .before .piece-of .ensures,
       first-piece .first-piece .ensures,
-      first-piece .before .own-piece .ensures,
-      first-piece .before .before .own-bytes .ensures,
+      first-piece .before .spelled-piece .ensures,
+      first-piece .before .before .spelled-bytes .ensures,
       first-piece .before .before .before .bit-of3 .ensures .0,
       first-piece .before .before .before .before .bit-of2 .ensures .0,
       bit-of .bit-of .ensures .0,
@@ -102,8 +102,8 @@ inquire-spec =
     mul-low-3
     add-low
     add-low-2
-    own-bytes-requires
-    own-piece-requires
+    spelled-bytes-requires
+    spelled-piece-requires
     first-piece-requires
     piece-of-requires
     piece-of-requires-2

@@ -21,8 +21,8 @@ kept-precision-requires c κs = search needs
 lookup-bytes-requires : tie.Need-lookup-bytes-requires
 lookup-bytes-requires c κs = search needs
 
-own-piece-requires : tie.Need-own-piece-requires
-own-piece-requires c κs = search needs
+spelled-piece-requires : tie.Need-spelled-piece-requires
+spelled-piece-requires c κs = search needs
 
 first-piece-requires : tie.Need-first-piece-requires
 first-piece-requires c κs = search needs
@@ -75,7 +75,7 @@ returns c =
       piece-of .piece-of .ensures,
       piece-of .before .first-piece2 .ensures,
       piece-of .before .before .first-piece .ensures,
-      piece-of .before .before .before .own-piece .ensures,
+      piece-of .before .before .before .spelled-piece .ensures,
       piece-of .before .before .before .before .lookup-bytes .ensures,
       kept-precision .kept-precision .ensures,
       kept-precision .before .bit-of .ensures .0,
@@ -91,7 +91,7 @@ lookup-spec =
     mul-low
     kept-precision-requires
     lookup-bytes-requires
-    own-piece-requires
+    spelled-piece-requires
     first-piece-requires
     first-piece-requires-2
     piece-of-requires

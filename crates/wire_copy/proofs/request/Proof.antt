@@ -15,14 +15,14 @@ split-end-requires c κs = search needs
 behind-requires : tie.Need-behind-requires
 behind-requires c κs = search needs
 
-own-bytes-requires : tie.Need-own-bytes-requires
-own-bytes-requires c κs = search needs
+spelled-bytes-requires : tie.Need-spelled-bytes-requires
+spelled-bytes-requires c κs = search needs
 
-own-if-requires : tie.Need-own-if-requires
-own-if-requires c κs = search needs
+spelled-if-requires : tie.Need-spelled-if-requires
+spelled-if-requires c κs = search needs
 
-own-if-requires-2 : tie.Need-own-if-requires-2
-own-if-requires-2 c κs = search needs
+spelled-if-requires-2 : tie.Need-spelled-if-requires-2
+spelled-if-requires-2 c κs = search needs
 
 first-piece-requires : tie.Need-first-piece-requires
 first-piece-requires c κs = search needs
@@ -44,7 +44,7 @@ no-piece-requires c κs = search needs
 
 slice-aggregate-write-rows : tie.Need-slice-aggregate-write-rows
 unfolding digitsBE
-slice-aggregate-write-rows c = rw (c .before .before .before .before .before .before .before .before .before .before .own-bytes .ensures)
+slice-aggregate-write-rows c = rw (c .before .before .before .before .before .before .before .before .before .before .spelled-bytes .ensures)
 
 write-rows-requires : tie.Need-write-rows-requires
 write-rows-requires c κs =
@@ -66,9 +66,9 @@ returns c =
       no-piece .before .before .before .piece-of2 .ensures,
       no-piece .before .before .before .before .piece-of .ensures,
       first-piece .first-piece .ensures,
-      first-piece .before .own-if2 .ensures,
-      first-piece .before .before .own-if .ensures,
-      first-piece .before .before .before .own-bytes .ensures,
+      first-piece .before .spelled-if2 .ensures,
+      first-piece .before .before .spelled-if .ensures,
+      first-piece .before .before .before .spelled-bytes .ensures,
       first-piece .before .before .before .before .behind .ensures,
       split-end .split-end .ensures,
       split-end .before .request-rows .ensures,
@@ -81,9 +81,9 @@ request-spec =
     request-rows-requires
     split-end-requires
     behind-requires
-    own-bytes-requires
-    own-if-requires
-    own-if-requires-2
+    spelled-bytes-requires
+    spelled-if-requires
+    spelled-if-requires-2
     first-piece-requires
     piece-of-requires
     piece-of-requires-2

@@ -9,11 +9,11 @@ use Rattle.wire_payload.proofs.payload.put_carrying.Reads as reads
 use Rattle.wire_payload.proofs.payload.put_carrying.Lts as lts
 use Rattle.wire_copy.proofs.bit_of.Reads as bit-of-reads
 use Rattle.wire_copy.proofs.busy_and_none.Reads as busy-and-none-reads
-use Rattle.wire_payload.proofs.payload.payload_piece.Reads as payload-piece-reads
+use Rattle.wire_rows.proofs.second_piece.Reads as second-piece-reads
 use Rattle.wire_copy.proofs.piece_of.Reads as piece-of-reads
 use Rattle.wire_rows.proofs.authority_rows.Reads as authority-rows-reads
-use Rattle.wire_rows.proofs.own_bytes.Reads as own-bytes-reads
-use Rattle.wire_rows.proofs.own_piece.Reads as own-piece-reads
+use Rattle.wire_rows.proofs.spelled_bytes.Reads as spelled-bytes-reads
+use Rattle.wire_rows.proofs.spelled_piece.Reads as spelled-piece-reads
 use Rattle.wire_whole.proofs.write_rows.Reads as write-rows-reads
 
 authority-rows-requires : tie.Need-authority-rows-requires
@@ -28,17 +28,17 @@ mul-high c = search needs
 busy-and-none-requires : tie.Need-busy-and-none-requires
 busy-and-none-requires c κs = search needs
 
-own-bytes-requires : tie.Need-own-bytes-requires
-own-bytes-requires c κs = search needs
+spelled-bytes-requires : tie.Need-spelled-bytes-requires
+spelled-bytes-requires c κs = search needs
 
-own-piece-requires : tie.Need-own-piece-requires
-own-piece-requires c κs = search needs
+spelled-piece-requires : tie.Need-spelled-piece-requires
+spelled-piece-requires c κs = search needs
 
-own-piece-requires-2 : tie.Need-own-piece-requires-2
-own-piece-requires-2 c κs = search needs
+spelled-piece-requires-2 : tie.Need-spelled-piece-requires-2
+spelled-piece-requires-2 c κs = search needs
 
-own-piece-requires-3 : tie.Need-own-piece-requires-3
-own-piece-requires-3 c κs = search needs
+spelled-piece-requires-3 : tie.Need-spelled-piece-requires-3
+spelled-piece-requires-3 c κs = search needs
 
 piece-of-requires : tie.Need-piece-of-requires
 piece-of-requires c κs = search needs
@@ -49,8 +49,8 @@ piece-of-requires-2 c κs = search needs
 piece-of-requires-3 : tie.Need-piece-of-requires-3
 piece-of-requires-3 c κs = search needs
 
-payload-piece-requires : tie.Need-payload-piece-requires
-payload-piece-requires c κs = search needs
+second-piece-requires : tie.Need-second-piece-requires
+second-piece-requires c κs = search needs
 
 piece-of-requires-4 : tie.Need-piece-of-requires-4
 piece-of-requires-4 c κs = search needs
@@ -60,7 +60,7 @@ piece-of-requires-5 c κs = search needs
 
 slice-aggregate-write-rows : tie.Need-slice-aggregate-write-rows
 unfolding digitsBE
-slice-aggregate-write-rows c = rw (c .before .before .before .before .before .before .before .before .before .before .before .own-bytes .ensures)
+slice-aggregate-write-rows c = rw (c .before .before .before .before .before .before .before .before .before .before .before .spelled-bytes .ensures)
 
 write-rows-requires : tie.Need-write-rows-requires
 write-rows-requires c κs =
@@ -79,14 +79,14 @@ returns c =
     rw (
       piece-of5 .piece-of5 .ensures,
       piece-of5 .before .piece-of4 .ensures,
-      piece-of5 .before .before .payload-piece .ensures,
+      piece-of5 .before .before .second-piece .ensures,
       piece-of5 .before .before .before .piece-of3 .ensures,
       piece-of5 .before .before .before .before .piece-of2 .ensures,
       piece-of .piece-of .ensures,
-      piece-of .before .own-piece3 .ensures,
-      piece-of .before .before .own-piece2 .ensures,
-      piece-of .before .before .before .own-piece .ensures,
-      piece-of .before .before .before .before .own-bytes .ensures,
+      piece-of .before .spelled-piece3 .ensures,
+      piece-of .before .before .spelled-piece2 .ensures,
+      piece-of .before .before .before .spelled-piece .ensures,
+      piece-of .before .before .before .before .spelled-bytes .ensures,
       busy-and-none .busy-and-none .ensures,
       busy-and-none .before .bit-of .ensures .0,
       busy-and-none .before .before .authority-rows .ensures,
@@ -100,14 +100,14 @@ put-carrying-spec =
     bit-of-requires
     mul-high
     busy-and-none-requires
-    own-bytes-requires
-    own-piece-requires
-    own-piece-requires-2
-    own-piece-requires-3
+    spelled-bytes-requires
+    spelled-piece-requires
+    spelled-piece-requires-2
+    spelled-piece-requires-3
     piece-of-requires
     piece-of-requires-2
     piece-of-requires-3
-    payload-piece-requires
+    second-piece-requires
     piece-of-requires-4
     piece-of-requires-5
     slice-aggregate-write-rows

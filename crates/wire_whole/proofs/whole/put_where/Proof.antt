@@ -18,7 +18,7 @@ unfolding madeBy
 put-header-requires c κs =
     let s = c .before .before .before .before .before .before in
     let a = s .args in
-    let gs = givensOf (a .major) (a .minor) (lentOf (now (a .own)) (now (a .first)) (now (a .second))) (a .ps) in
+    let gs = givensOf (lentOf (now (a .spelled)) (now (a .first)) (now (a .second))) (a .ps) in
     let K = kindsOfRows (a .rows) in
     let f = s .pre .1 .1 (not-false _ (c .before .if1 .left)) in
     omega (arith, end-least K 12 gs, ends-within K (a .major) (a .minor) (a .kind) (a .id) gs (now (a .out)) f .0)
@@ -28,11 +28,11 @@ unfolding madeBy
 put-pieces-requires c κs =
     let s = c .before .before .before .before .before .before .before .before .before .before in
     let a = s .args in
-    let gs = givensOf (a .major) (a .minor) (lentOf (now (a .own)) (now (a .first)) (now (a .second))) (a .ps) in
+    let gs = givensOf (lentOf (now (a .spelled)) (now (a .first)) (now (a .second))) (a .ps) in
     let K = kindsOfRows (a .rows) in
     let f = s .pre .1 .1 (not-false _ (c .before .before .before .before .before .if1 .left)) in
     let w = ends-within K (a .major) (a .minor) (a .kind) (a .id) gs (now (a .out)) f in
-    let y = end-rows (a .rows) 12 gs in
+    let y = end-rows (lentOf (now (a .spelled)) (now (a .first)) (now (a .second))) (a .rows) 12 (a .ps) (s .pre .1 .0) in
     (s .pre .0, (s .pre .1 .0, (omega (arith, c .before .before .before .put-header .kept .0), omega arith)))
 
 same-length : tie.Need-same-length
@@ -43,7 +43,7 @@ unfolding madeBy
 returns-2 c =
     let s = c .before .before .before .before .before .before .before .before .before .before .before .before .before in
     let a = s .args in
-    let gs = givensOf (a .major) (a .minor) (lentOf (now (a .own)) (now (a .first)) (now (a .second))) (a .ps) in
+    let gs = givensOf (lentOf (now (a .spelled)) (now (a .first)) (now (a .second))) (a .ps) in
     let k = not-false (a .room) (c .before .before .before .before .before .before .before .before .if1 .left) in
     rw (k, c .before .before .put-pieces .ensures, c .before .before .before .before .before .before .put-header .ensures)
     (whole-put (kindsOfRows (a .rows)) (a .major) (a .minor) (a .kind) (a .id) gs (now (a .out)) (s .pre .1 .1 k))

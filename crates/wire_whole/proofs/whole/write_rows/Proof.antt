@@ -20,11 +20,7 @@ returns c =
     wrote-6 _ _ (sym (c .before .pieces-ok .ensures) ∙ not-true _ (c .if1 .taken))
 
 pieces-end-requires : tie.Need-pieces-end-requires
-pieces-end-requires c κs =
-    let s = c .before .before .before .before .before .before in
-    let a = s .args in
-    let k = sym (c .before .pieces-ok .ensures) ∙ not-false _ (c .if1 .left) in
-    (s .pre, rows-in (lentOf (now (a .own)) (now (a .first)) (now (a .second))) (a .rows) (a .ps) (s .pre .0 ∙ sym (s .pre .1)) k)
+pieces-end-requires c κs = search needs
 
 has-room-requires : tie.Need-has-room-requires
 has-room-requires c κs = search needs
@@ -35,12 +31,13 @@ put-where-requires c κs =
     let q = c .before .before .before in
     let s = q .before .before .before .before .before .before .before in
     let a = s .args in
-    let l = lentOf (now (a .own)) (now (a .first)) (now (a .second)) in
-    let gs = givensOf (a .major) (a .minor) l (a .ps) in
+    let l = lentOf (now (a .spelled)) (now (a .first)) (now (a .second)) in
+    let gs = givensOf l (a .ps) in
     let k = sym (q .before .before .pieces-ok .ensures) ∙ not-false _ (q .before .if1 .left) in
-    let n = q .pieces-end .ensures ∙ ap (min 1233) (end-rows (a .rows) 12 gs) in
+    let inside = rows-in l (a .rows) (a .ps) (s .pre .0 ∙ sym (s .pre .1)) k in
+    let n = q .pieces-end .ensures ∙ ap (min 1233) (end-rows l (a .rows) 12 (a .ps) inside) in
     let room = room-is (kindsOfRows (a .rows)) (a .major) (a .minor) (a .kind) (a .id) gs (now (a .out)) (q .pieces-end .result) n in
-    (s .pre, (rows-in l (a .rows) (a .ps) (s .pre .0 ∙ sym (s .pre .1)) k, λ h. sym room ∙ sym (c .before .has-room .ensures) ∙ h))
+    (s .pre, (inside, λ h. sym room ∙ sym (c .before .has-room .ensures) ∙ h))
 
 written-requires : tie.Need-written-requires
 written-requires c κs = search needs
@@ -55,13 +52,15 @@ returns-2 c =
     let q = has-room .before .before in
     let s = q .before .before .before .before .before .before .before in
     let a = s .args in
-    let gs = givensOf (a .major) (a .minor) (lentOf (now (a .own)) (now (a .first)) (now (a .second))) (a .ps) in
+    let l = lentOf (now (a .spelled)) (now (a .first)) (now (a .second)) in
+    let gs = givensOf l (a .ps) in
     let K = kindsOfRows (a .rows) in
-    let n = q .pieces-end .ensures ∙ ap (min 1233) (end-rows (a .rows) 12 gs) in
+    let k = sym (q .before .before .pieces-ok .ensures) ∙ not-false _ (q .before .if1 .left) in
+    let n = q .pieces-end .ensures ∙ ap (min 1233) (end-rows l (a .rows) 12 (a .ps) (rows-in l (a .rows) (a .ps) (s .pre .0 ∙ sym (s .pre .1)) k)) in
     let room = has-room .has-room .ensures ∙ room-is K (a .major) (a .minor) (a .kind) (a .id) gs (now (a .out)) (q .pieces-end .result) n in
     rw (c .written .ensures)
     (wrote-by _ (now (a .out)) _ (q .pieces-end .result) _
-    (sym (q .before .before .pieces-ok .ensures) ∙ not-false _ (q .before .if1 .left))
+    k
     room
     (λ h. exact-end K (a .major) (a .minor) (a .kind) (a .id) gs (now (a .out)) (sym room ∙ h) (q .pieces-end .result) n)
     (c .before .before .before .put-where .ensures))

@@ -10,35 +10,35 @@ returns c = rw (not-true (c .before .before .before .before .before .args .p .th
 enum-told : tie.Need-enum-told
 enum-told c = search needs
 
-ok-from-requires : tie.Need-ok-from-requires
-ok-from-requires c κs = search needs
+shaped-in-requires : tie.Need-shaped-in-requires
+shaped-in-requires c κs = search needs
 
 enum-told-2 : tie.Need-enum-told-2
 enum-told-2 c = search needs
 
-ok-from-requires-2 : tie.Need-ok-from-requires-2
-ok-from-requires-2 c κs = search needs
+shaped-in-requires-2 : tie.Need-shaped-in-requires-2
+shaped-in-requires-2 c κs = search needs
 
 enum-told-3 : tie.Need-enum-told-3
 enum-told-3 c = search needs
 
-ok-from-requires-3 : tie.Need-ok-from-requires-3
-ok-from-requires-3 c κs = search needs
+shaped-in-requires-3 : tie.Need-shaped-in-requires-3
+shaped-in-requires-3 c κs = search needs
 
 returns-2 : tie.Need-returns-2
 returns-2 c =
     let start = c .before .before .before .before .before .before .before .before in
-    rw (not-false (start .args .p .there) (c .before .before .before .if1 .left), c .before .enum-told .given .1) (c .ok-from .ensures)
+    rw (not-false (start .args .p .there) (c .before .before .before .if1 .left), c .before .enum-told .given .1) (c .shaped-in .ensures)
 
 returns-3 : tie.Need-returns-3
 returns-3 c =
     let start = c .before .before .before .before .before .before .before .before in
-    rw (not-false (start .args .p .there) (c .before .before .before .if1 .left), c .before .enum-told2 .given .1) (c .ok-from2 .ensures)
+    rw (not-false (start .args .p .there) (c .before .before .before .if1 .left), c .before .enum-told2 .given .1) (c .shaped-in2 .ensures)
 
 returns-4 : tie.Need-returns-4
 returns-4 c =
     let start = c .before .before .before .before .before .before .before .before in
-    rw (not-false (start .args .p .there) (c .before .before .before .if1 .left), c .before .enum-told3 .given .1) (c .ok-from3 .ensures)
+    rw (not-false (start .args .p .there) (c .before .before .before .if1 .left), c .before .enum-told3 .given .1) (c .shaped-in3 .ensures)
 
 pub piece-ok-spec : {M : Type 1} → statement M
 piece-ok-spec =
@@ -46,11 +46,11 @@ piece-ok-spec =
     (tie.spec
     returns
     enum-told
-    ok-from-requires
+    shaped-in-requires
     enum-told-2
-    ok-from-requires-2
+    shaped-in-requires-2
     enum-told-3
-    ok-from-requires-3
+    shaped-in-requires-3
     returns-2
     returns-3
     returns-4)

@@ -12,11 +12,11 @@ use Rattle.wire_write.proofs.check.pieces_ok.Statement.{statement}
 use Rattle.wire_write.proofs.check.pieces_ok.Tie as tie
 
 abbrev Inv-loop : tie.InvT-loop
-Inv-loop own first second rows ps i₀ i =
-    (rowsOk (lentOf own first second) (drop i rows) (drop i ps) ≡ rowsOk (lentOf own first second) rows ps) × (i ≤ 9)
+Inv-loop spelled first second rows ps i₀ i =
+    (rowsOk (lentOf spelled first second) (drop i rows) (drop i ps) ≡ rowsOk (lentOf spelled first second) rows ps) × (i ≤ 9)
 
 abbrev μ-loop : tie.MeasureT-loop
-μ-loop own first second rows ps i₀ i = 9 - i
+μ-loop spelled first second rows ps i₀ i = 9 - i
 
 loop-holds : tie.Need-loop-holds Inv-loop μ-loop
 loop-holds c = (refl, omega arith)
@@ -41,10 +41,10 @@ returns c =
     let a = c .before .before .before .before .before .before .before .before .before .args in
     let i = c .before .before .before .before .before .loop .i in
     let v = c .before .before .before .before .before .loop .inv in
-    let l = lentOf (now (a .own)) (now (a .first)) (now (a .second)) in
+    let l = lentOf (now (a .spelled)) (now (a .first)) (now (a .second)) in
     let hr : i < length (a .t1) = (let z = c .before .before .before .before .before .before .before .before .before .pre .0 in omega arith) in
     let hp : i < length (a .t2) = (let z = c .before .before .before .before .before .before .before .before .before .pre .1 in omega arith) in
-    rw (sym (v .0), step-ok 0 0 l (a .t1) (a .t2) i no-row no-piece hr hp, sym (c .before .piece-ok .ensures) ∙ not-true _ (c .if1 .taken))
+    rw (sym (v .0), step-ok (a .t1) (a .t2) i no-row no-piece hr hp l, sym (c .before .piece-ok .ensures) ∙ not-true _ (c .if1 .taken))
 
 add-i : tie.Need-add-i Inv-loop μ-loop
 add-i c = omega arith
@@ -57,10 +57,10 @@ loop-again c =
     let a = c .before .before .before .before .before .before .before .before .before .args in
     let i = c .before .before .before .before .before .loop .i in
     let v = c .before .before .before .before .before .loop .inv in
-    let l = lentOf (now (a .own)) (now (a .first)) (now (a .second)) in
+    let l = lentOf (now (a .spelled)) (now (a .first)) (now (a .second)) in
     let hr : i < length (a .t1) = (let z = c .before .before .before .before .before .before .before .before .before .pre .0 in omega arith) in
     let hp : i < length (a .t2) = (let z = c .before .before .before .before .before .before .before .before .before .pre .1 in omega arith) in
-    let e = step-ok 0 0 l (a .t1) (a .t2) i no-row no-piece hr hp in
+    let e = step-ok (a .t1) (a .t2) i no-row no-piece hr hp l in
     let f = sym (c .before .piece-ok .ensures) ∙ not-false _ (c .if1 .left) in
     (rw f at (sym e) ∙ v .0, omega arith)
 

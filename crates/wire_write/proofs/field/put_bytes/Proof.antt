@@ -1,6 +1,6 @@
 -- `wire_write::field::put_bytes` meets its contract: head, contents and padding are the field (put-field). Assumes nothing.
 use Prim.Native.Nat.{_≤_}
-use mathlib.Core.Path.{_≡_, sym, ap, _∙_}
+use mathlib.Core.Path.{_≡_, sym}
 use denote.Ref.{now}
 use lib.ListN.{length}
 use Rattle.octet.specs.Part.{part}
@@ -40,7 +40,7 @@ returns c =
     let v = part (a .start) (a .len) (now (a .s)) in
     let l : a .len ≡ length v = sym (length-part (a .start) (a .len) (now (a .s)) (start .pre .0)) in
     let h : endOf (a .at) (a .padded) (length v) ≤ length (now (a .out)) = rw l at (start .pre .1 .1) in (
-      c .before .before .put-gap .ensures .0 ∙ ap (endOf (a .at) (a .padded)) l,
+      c .before .before .put-gap .ensures .0,
       rw (c .before .before .put-gap .ensures .1, copy-piece .copy-piece .ensures, copy-piece .before .before .before .before .put-head .ensures)
           (put-field (now (a .out)) (a .at) (a .number) (a .padded) v h (a .len) l),
     )

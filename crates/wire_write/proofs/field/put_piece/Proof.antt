@@ -17,38 +17,38 @@ returns c =
 enum-told : tie.Need-enum-told
 enum-told c = search needs
 
-put-from-requires : tie.Need-put-from-requires
+put-bytes-requires : tie.Need-put-bytes-requires
 unfolding pastOf
-put-from-requires c κs =
+put-bytes-requires c κs =
     let start = c .before .before .before .before .before .before .before .before .before in
     let a = start .args in
     let t = not-false (a .p .there) (c .before .before .before .if1 .left) in
     let e = c .before .enum-told .given .1 in
-    (rw e at (start .pre .0 t), (rw (t, e) at (start .pre .1 .0), rw e at (start .pre .1 .1 t)))
+    (rw e at (start .pre .0 t), (start .pre .1 .1 t, rw t at (start .pre .1 .0)))
 
 enum-told-2 : tie.Need-enum-told-2
 enum-told-2 c = search needs
 
-put-from-requires-2 : tie.Need-put-from-requires-2
+put-bytes-requires-2 : tie.Need-put-bytes-requires-2
 unfolding pastOf
-put-from-requires-2 c κs =
+put-bytes-requires-2 c κs =
     let start = c .before .before .before .before .before .before .before .before .before in
     let a = start .args in
     let t = not-false (a .p .there) (c .before .before .before .if1 .left) in
     let e = c .before .enum-told2 .given .1 in
-    (rw e at (start .pre .0 t), (rw (t, e) at (start .pre .1 .0), rw e at (start .pre .1 .1 t)))
+    (rw e at (start .pre .0 t), (start .pre .1 .1 t, rw t at (start .pre .1 .0)))
 
 enum-told-3 : tie.Need-enum-told-3
 enum-told-3 c = search needs
 
-put-from-requires-3 : tie.Need-put-from-requires-3
+put-bytes-requires-3 : tie.Need-put-bytes-requires-3
 unfolding pastOf
-put-from-requires-3 c κs =
+put-bytes-requires-3 c κs =
     let start = c .before .before .before .before .before .before .before .before .before in
     let a = start .args in
     let t = not-false (a .p .there) (c .before .before .before .if1 .left) in
     let e = c .before .enum-told3 .given .1 in
-    (rw e at (start .pre .0 t), (rw (t, e) at (start .pre .1 .0), rw e at (start .pre .1 .1 t)))
+    (rw e at (start .pre .0 t), (start .pre .1 .1 t, rw t at (start .pre .1 .0)))
 
 same-length : tie.Need-same-length
 same-length c = search needs
@@ -58,7 +58,7 @@ unfolding partBytes pastOf
 returns-2 c =
     let told = c .before .before .before .before in
     let start = told .before .before .before .before .before .before .before .before in
-    rw (not-false (start .args .p .there) (told .before .before .if1 .left), told .enum-told .given .1) (c .before .before .put-from .ensures)
+    rw (not-false (start .args .p .there) (told .before .before .if1 .left), told .enum-told .given .1) (c .before .before .put-bytes .ensures)
 
 same-length-2 : tie.Need-same-length-2
 same-length-2 c = search needs
@@ -68,7 +68,7 @@ unfolding partBytes pastOf
 returns-3 c =
     let told = c .before .before .before .before in
     let start = told .before .before .before .before .before .before .before .before in
-    rw (not-false (start .args .p .there) (told .before .before .if1 .left), told .enum-told2 .given .1) (c .before .before .put-from2 .ensures)
+    rw (not-false (start .args .p .there) (told .before .before .if1 .left), told .enum-told2 .given .1) (c .before .before .put-bytes2 .ensures)
 
 same-length-3 : tie.Need-same-length-3
 same-length-3 c = search needs
@@ -78,7 +78,7 @@ unfolding partBytes pastOf
 returns-4 c =
     let told = c .before .before .before .before in
     let start = told .before .before .before .before .before .before .before .before in
-    rw (not-false (start .args .p .there) (told .before .before .if1 .left), told .enum-told3 .given .1) (c .before .before .put-from3 .ensures)
+    rw (not-false (start .args .p .there) (told .before .before .if1 .left), told .enum-told3 .given .1) (c .before .before .put-bytes3 .ensures)
 
 pub put-piece-spec : {M : Type 1} → statement M
 put-piece-spec =
@@ -86,11 +86,11 @@ put-piece-spec =
     (tie.spec
     returns
     enum-told
-    put-from-requires
+    put-bytes-requires
     enum-told-2
-    put-from-requires-2
+    put-bytes-requires-2
     enum-told-3
-    put-from-requires-3
+    put-bytes-requires-3
     same-length
     returns-2
     same-length-2

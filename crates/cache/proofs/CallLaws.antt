@@ -18,33 +18,33 @@ use Rattle.kept.specs.Keys.{without}
 use Rattle.kept.specs.Plain as Plain
 use Rattle.cache.specs.Form.{keysOf, placesIn, Form, cacheForm}
 use Rattle.cache.specs.Bytes.{afterLearn, afterRemove}
-use Rattle.cache.specs.Calls.{heldBy, Changed, changed, learnWrong, learnCall, removeWrong, removeCall}
+use Rattle.cache.specs.Calls.{heldBy, Changed, cacheChanged, learnWrong, learnCall, removeWrong, removeCall}
 use Rattle.cache.proofs.FormLaws.{form-held, form-true, true-form}
 use Rattle.cache.proofs.KeepLaws.{learnt-keys, learnt-form, removed-keys, removed-form}
 
 -- ---- one result
 
 module _ (own cache r : List ℕ) (m n : ℕ) (s t : List ℕ) where
-  pub learn-coincides : changed m s ≡ learnCall own cache r → changed n t ≡ learnCall own cache r → (m ≡ n) × (s ≡ t)
-  learn-coincides p q = let e : changed m s ≡ changed n t = p ∙ sym q in (ap (λ (h : Changed). h .number) e, ap (λ (h : Changed). h .cache) e)
+  pub learn-coincides : cacheChanged m s ≡ learnCall own cache r → cacheChanged n t ≡ learnCall own cache r → (m ≡ n) × (s ≡ t)
+  learn-coincides p q = let e : cacheChanged m s ≡ cacheChanged n t = p ∙ sym q in (ap (λ (h : Changed). h .number) e, ap (λ (h : Changed). h .cache) e)
 
-  pub remove-coincides : changed m s ≡ removeCall own cache r → changed n t ≡ removeCall own cache r → (m ≡ n) × (s ≡ t)
-  remove-coincides p q = let e : changed m s ≡ changed n t = p ∙ sym q in (ap (λ (h : Changed). h .number) e, ap (λ (h : Changed). h .cache) e)
+  pub remove-coincides : cacheChanged m s ≡ removeCall own cache r → cacheChanged n t ≡ removeCall own cache r → (m ≡ n) × (s ≡ t)
+  remove-coincides p q = let e : cacheChanged m s ≡ cacheChanged n t = p ∙ sym q in (ap (λ (h : Changed). h .number) e, ap (λ (h : Changed). h .cache) e)
 
 -- ---- calls that write the cache
 
 module _ (cache : List ℕ) (rs : List Refusal) (o : InOrder byNumber 0 rs) (after : List ℕ) where
-  pub call-passes : orRefuse (λ (n : ℕ). changed n cache) rs (changed 0 after) .number ≡ 0 → AllFail rs
+  pub call-passes : orRefuse (λ (n : ℕ). cacheChanged n cache) rs (cacheChanged 0 after) .number ≡ 0 → AllFail rs
   call-passes e =
-      all-fail byNumber rs 0 o (sym (number-is (λ (h : Changed). h .number) (λ (n : ℕ). changed n cache) (λ n. refl) (changed 0 after) refl rs) ∙ e)
+      all-fail byNumber rs 0 o (sym (number-is (λ (h : Changed). h .number) (λ (n : ℕ). cacheChanged n cache) (λ n. refl) (cacheChanged 0 after) refl rs) ∙ e)
 
-  pub call-does : AllFail rs → orRefuse (λ (n : ℕ). changed n cache) rs (changed 0 after) ≡ changed 0 after
-  call-does a = all-pass (λ (n : ℕ). changed n cache) rs (changed 0 after) a
+  pub call-does : AllFail rs → orRefuse (λ (n : ℕ). cacheChanged n cache) rs (cacheChanged 0 after) ≡ cacheChanged 0 after
+  call-does a = all-pass (λ (n : ℕ). cacheChanged n cache) rs (cacheChanged 0 after) a
 
-  pub call-keeps : 0 < orRefuse (λ (n : ℕ). changed n cache) rs (changed 0 after) .number
-      → orRefuse (λ (n : ℕ). changed n cache) rs (changed 0 after) .cache ≡ cache
+  pub call-keeps : 0 < orRefuse (λ (n : ℕ). cacheChanged n cache) rs (cacheChanged 0 after) .number
+      → orRefuse (λ (n : ℕ). cacheChanged n cache) rs (cacheChanged 0 after) .cache ≡ cache
   call-keeps p =
-      refusal-keeps (λ (h : Changed). h .number) (λ (n : ℕ). changed n cache) (λ n. refl) (changed 0 after) refl
+      refusal-keeps (λ (h : Changed). h .number) (λ (n : ℕ). cacheChanged n cache) (λ n. refl) (cacheChanged 0 after) refl
       (λ (h : Changed). h .cache) cache (λ n. refl) rs p
 
 -- what a call has done that is accepted: memory is in form, and holds these records
@@ -91,7 +91,7 @@ module _ (own cache r : List ℕ) where
       → (learnCall own cache r .number ≡ n) ↔ ((appliesIn n (learnWrong own cache r) ≡ true) × ((m : ℕ) → m < n → appliesIn m (learnWrong own cache r) ≡ false))
   unfolding learnCall learn-bytes
   learn-exactly n p =
-      call-exactly (λ (h : Changed). h .number) (λ (n : ℕ). changed n cache) (λ n. refl) (changed 0 learn-bytes) refl (learnWrong own cache r) 0 learn-order n p
+      call-exactly (λ (h : Changed). h .number) (λ (n : ℕ). cacheChanged n cache) (λ n. refl) (cacheChanged 0 learn-bytes) refl (learnWrong own cache r) 0 learn-order n p
 
 -- ---- removing
 
@@ -125,5 +125,5 @@ module _ (own cache key : List ℕ) where
       ↔ ((appliesIn n (removeWrong own cache key) ≡ true) × ((m : ℕ) → m < n → appliesIn m (removeWrong own cache key) ≡ false))
   unfolding removeCall remove-bytes
   remove-exactly n p =
-      call-exactly (λ (h : Changed). h .number) (λ (n : ℕ). changed n cache) (λ n. refl) (changed 0 remove-bytes) refl (removeWrong own cache key) 0
+      call-exactly (λ (h : Changed). h .number) (λ (n : ℕ). cacheChanged n cache) (λ n. refl) (cacheChanged 0 remove-bytes) refl (removeWrong own cache key) 0
       remove-order n p

@@ -20,7 +20,7 @@ use Rattle.kept.proofs.ListLaws.{has-out, rising-at}
 use Rattle.cache.specs.declared.place.Found.{Found}
 use Rattle.cache.specs.declared.place.Found.the-variants.{At, Before}
 use Rattle.cache.specs.Form.{keysOf}
-use Rattle.cache.specs.Place.{further, findKey, isAt}
+use Rattle.cache.specs.Place.{further, findKey, isFound}
 
 -- ---- what a place found says of the records
 
@@ -143,11 +143,11 @@ found-tells k low (j ∷ ks) r = go (stand j k) (found-tells k (suc j) ks (r .1)
     go (above h) ih = rw (le-ltb j k (omega arith), ne-eqb j k (omega arith))
         (λ m. absurd (omega (arith, rising-at plain j k (j ∷ ks) (omega arith, r .1) m)))
 
-at-further : (f : Found) → isAt (further f) ≡ isAt f
+at-further : (f : Found) → isFound (further f) ≡ isFound f
 at-further (At i) = refl
 at-further (Before i) = refl
 
-pub found-has : (k low : ℕ) (ks : List ℕ) → Rising plain low ks → has k ks ≡ isAt (findKey k ks)
+pub found-has : (k low : ℕ) (ks : List ℕ) → Rising plain low ks → has k ks ≡ isFound (findKey k ks)
 unfolding findKey has
 found-has k low [] r = refl
 found-has k low (j ∷ ks) r = go (stand j k) (found-has k (suc j) ks (r .1))
@@ -156,7 +156,7 @@ found-has k low (j ∷ ks) r = go (stand j k) (found-has k (suc j) ks (r .1))
     later (inl h) = rw (ne-eqb k j (omega arith)) refl
     later (inr h) = rw (ne-eqb k j (omega arith)) refl
 
-    go : Stand j k → has k ks ≡ isAt (findKey k ks) → has k (j ∷ ks) ≡ isAt (findKey k (j ∷ ks))
+    go : Stand j k → has k ks ≡ isFound (findKey k ks) → has k (j ∷ ks) ≡ isFound (findKey k (j ∷ ks))
     go (below h) ih = rw (lt-ltb j k h) (later (inl h) ∙ ih ∙ sym (at-further (findKey k ks)))
     go (equal h) ih = rw (le-ltb j k (omega arith), eq-eqb j k h, eq-eqb k j (sym h)) refl
     go (above h) ih =
@@ -213,8 +213,8 @@ module _ (k used : ℕ) (s : List ℕ) {f g : Found} (e : f ≡ findKey k (keysO
   pub found-is : Rising plain 0 (keysOf (rows 100 used s)) → Tells k (keysOf (rows 100 used s)) g
   found-is rises = subst (λ (h : Found). Tells k (keysOf (rows 100 used s)) h) (sym e ∙ t) (found-tells k 0 (keysOf (rows 100 used s)) rises)
 
-  pub found-held : Rising plain 0 (keysOf (rows 100 used s)) → has k (keysOf (rows 100 used s)) ≡ isAt g
-  found-held rises = found-has k 0 (keysOf (rows 100 used s)) rises ∙ ap isAt (sym e ∙ t)
+  pub found-held : Rising plain 0 (keysOf (rows 100 used s)) → has k (keysOf (rows 100 used s)) ≡ isFound g
+  found-held rises = found-has k 0 (keysOf (rows 100 used s)) rises ∙ ap isFound (sym e ∙ t)
 
   pub found-removes : Rising plain 0 (keysOf (rows 100 used s)) → takenOut g (rows 100 used s) ≡ withoutBy keyOf k (rows 100 used s)
   found-removes rises = ap (λ (h : Found). takenOut h (rows 100 used s)) (sym t ∙ e) ∙ sym (remove-found k 0 (rows 100 used s) rises)

@@ -13,7 +13,7 @@ use Rattle.record.specs.Record.{keyOf, recordForm}
 use Rattle.table.specs.Rows.{bytesOf}
 use Rattle.table.proofs.RowLaws.{bytes-length}
 use Rattle.kept.specs.Keys.{Every, Rising, plain, without}
-use Rattle.kept.specs.History.{learned, learn, happen, after, Learns}
+use Rattle.kept.specs.History.{learned, learnWith, happen, after, Learns}
 use Rattle.kept.specs.Rules.{DropRule}
 use Rattle.kept.specs.Records.{putBy, withoutBy, learnBy}
 use Rattle.kept.specs.Plain as Plain
@@ -24,7 +24,7 @@ use Rattle.kept.proofs.HistoryLaws.{Fine, after-fine, after-length}
 use Rattle.kept.proofs.FarthestLaws.{farthest-rule}
 use Rattle.kept.proofs.Demand3Laws.{plain-order}
 use Rattle.kept.proofs.RecordLaws.{keys-learn, keys-without}
-use Rattle.cache.specs.Form.{keysOf, placesIn, Places, Held, Form}
+use Rattle.cache.specs.Form.{keysOf, placesIn, Places, HeldRecords, Form}
 use Rattle.cache.specs.Bytes.{afterLearn, afterRemove}
 use Rattle.cache.proofs.FormLaws.{formed-sized, form-room}
 
@@ -60,7 +60,7 @@ module _ (P : List ℕ → Type 0) where
 
 -- ---- laid out anew
 
-pub form-anew : (own size : ℕ) (recs : List (List ℕ)) → Places size → Held own recs → 100 * length recs ≤ size → Form own (bytesOf size recs) recs
+pub form-anew : (own size : ℕ) (recs : List (List ℕ)) → Places size → HeldRecords own recs → 100 * length recs ≤ size → Form own (bytesOf size recs) recs
 form-anew own size recs pl h fits =
     let n : length (bytesOf size recs) ≡ size = bytes-length 100 size recs (formed-sized recs (h .formed)) fits in
     record { places = rw n pl; bytes = ap (λ (m : ℕ). bytesOf m recs) (sym n); held = h }
@@ -79,11 +79,11 @@ module _ (own C : ℕ) (c : 10 ≤ C) (keys : List ℕ) (rises : Rising plain 0 
   sound j (inl e) d = other (sym e ∙ d)
   sound j (inr m) d = absurd m
 
-  learn-fine : Fine (NotOwn own) (learn (drops own) C keys k)
+  learn-fine : Fine (NotOwn own) (learnWith (drops own) C keys k)
   unfolding after happen
   learn-fine = after-fine (NotOwn own) (sideOf own) (nearness own) (plain-order own) (drops own) C rule (learned k ∷ []) keys fine sound
 
-  learn-fits : length keys ≤ C → length (learn (drops own) C keys k) ≤ C
+  learn-fits : length keys ≤ C → length (learnWith (drops own) C keys k) ≤ C
   unfolding after happen
   learn-fits h = after-length (NotOwn own) (sideOf own) (nearness own) (plain-order own) (drops own) C rule (learned k ∷ []) keys fine h sound
 
@@ -92,9 +92,9 @@ pub learnt-keys : (own size : ℕ) (recs : List (List ℕ)) (r : List ℕ)
     → keysOf (afterLearn own size recs r) ≡ Plain.learn own (placesIn size) (keysOf recs) (keyOf r)
 learnt-keys own size recs r = keys-learn keyOf (drops own) (placesIn size) recs r
 
-module _ (own size : ℕ) (pl : Places size) (recs : List (List ℕ)) (h : Held own recs) (fits : 100 * length recs ≤ size)
+module _ (own size : ℕ) (pl : Places size) (recs : List (List ℕ)) (h : HeldRecords own recs) (fits : 100 * length recs ≤ size)
     (r : List ℕ) (formed : recordForm r ≡ true) (other : NotOwn own (keyOf r)) where
-  pub learnt-held : Held own (afterLearn own size recs r)
+  pub learnt-held : HeldRecords own (afterLearn own size recs r)
   learnt-held =
       let f = learn-fine own (placesIn size) (omega (arith, pl .least)) (keysOf recs) (h .rising) (h .others) (keyOf r) other in
       record {
@@ -123,7 +123,7 @@ learnt-form own s recs r f formed other =
 pub removed-keys : (k : ℕ) (recs : List (List ℕ)) → keysOf (afterRemove k recs) ≡ without k (keysOf recs)
 removed-keys k recs = keys-without keyOf k recs
 
-pub removed-held : (own k : ℕ) (recs : List (List ℕ)) → Held own recs → Held own (afterRemove k recs)
+pub removed-held : (own k : ℕ) (recs : List (List ℕ)) → HeldRecords own recs → HeldRecords own (afterRemove k recs)
 removed-held own k recs h = record {
   formed = every-out (λ (q : List ℕ). recordForm q ≡ true) k recs (h .formed);
   rising = rw (removed-keys k recs) (rising-without plain 0 k (keysOf recs) (h .rising));

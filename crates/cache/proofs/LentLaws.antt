@@ -13,7 +13,7 @@ use Rattle.table.specs.Rows.{rows}
 use Rattle.cache.specs.declared.shape.Formed.{Formed}
 use Rattle.cache.specs.declared.shape.Formed.the-variants.{Bad, Good}
 use Rattle.cache.specs.Form.{Form, cacheForm}
-use Rattle.cache.specs.Place.{formOf}
+use Rattle.cache.specs.Place.{cacheFormed}
 use Rattle.cache.specs.Calls.{memoryWrong, heldBy}
 use Rattle.cache.proofs.ShapeLaws.{good-is, good-held, good-form, bad-is}
 
@@ -26,13 +26,13 @@ not-isn't {b} e = rw e refl
 -- what the test of memory tells where it is good
 record Good-memory (own cache : List ℕ) (used : ℕ) : Type 0 where
   pub formed : recordForm own ≡ true
-  pub form : formOf (keyOf own) cache ≡ Good used
+  pub form : cacheFormed (keyOf own) cache ≡ Good used
 
-tells : (own cache : List ℕ) (used : ℕ) (b : Bool) → recordForm own ≡ b → cond b (formOf (keyOf own) cache) Bad ≡ Good used → Good-memory own cache used
+tells : (own cache : List ℕ) (used : ℕ) (b : Bool) → recordForm own ≡ b → cond b (cacheFormed (keyOf own) cache) Bad ≡ Good used → Good-memory own cache used
 tells own cache used true e g = record { formed = e; form = g }
 tells own cache used false e g = let z : _≡_ {A = ℕ} 0 1 = cc in absurd (omega arith)
 
-module _ (own cache : List ℕ) {m : Formed} (is : m ≡ cond (recordForm own) (formOf (keyOf own) cache) Bad) where
+module _ (own cache : List ℕ) {m : Formed} (is : m ≡ cond (recordForm own) (cacheFormed (keyOf own) cache) Bad) where
   module _ {used : ℕ} (good : m ≡ Good used) where
     both : Good-memory own cache used
     both = tells own cache used (recordForm own) refl (sym is ∙ good)

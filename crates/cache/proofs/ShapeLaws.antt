@@ -19,7 +19,7 @@ use Rattle.table.specs.Rows.{rows}
 use Rattle.table.proofs.RowLaws.{rows-next, rows-end}
 use Rattle.cache.specs.declared.shape.Formed.the-variants.{Bad, Good}
 use Rattle.cache.specs.Form.{Form, follows, leading, heldIn, heldOf, cacheForm, placesIn}
-use Rattle.cache.specs.Place.{formOf, lowAt, Carried}
+use Rattle.cache.specs.Place.{cacheFormed, lowAt, Carried}
 use Rattle.cache.proofs.FormLaws.{key-of-row, true-form}
 use Rattle.cache.proofs.SeekLaws.{first-less}
 
@@ -88,23 +88,23 @@ module _ (own n : ℕ) (s : List ℕ) (i : ℕ) where
 -- ---- the answer
 
 module _ (own : ℕ) (s : List ℕ) where
-  pub not-whole : (length s % 100 ≡ 0 → ⊥) → formOf own s ≡ Bad
-  unfolding formOf cacheForm
+  pub not-whole : (length s % 100 ≡ 0 → ⊥) → cacheFormed own s ≡ Bad
+  unfolding cacheFormed cacheForm
   not-whole d = rw (ne-eqb (length s % 100) 0 d) refl
 
   module _ (whole : length s % 100 ≡ 0) where
-    pub too-small : length s < 1000 → formOf own s ≡ Bad
-    unfolding formOf cacheForm
+    pub too-small : length s < 1000 → cacheFormed own s ≡ Bad
+    unfolding cacheFormed cacheForm
     too-small h = rw (eq-eqb (length s % 100) 0 whole, lt-leb 1000 (length s) h) refl
 
     module _ (least : 1000 ≤ length s) where
-      pub too-large : 25600 < length s → formOf own s ≡ Bad
-      unfolding formOf cacheForm
+      pub too-large : 25600 < length s → cacheFormed own s ≡ Bad
+      unfolding cacheFormed cacheForm
       too-large h = rw (eq-eqb (length s % 100) 0 whole, le-leb 1000 (length s) least, lt-leb (length s) 25600 h) refl
 
       pub by-rest : (used : ℕ) (b : Bool) → length s ≤ 25600 → used ≡ leading own 0 (rows 100 (placesIn (length s)) s)
-          → b ≡ allZero (drop (100 * used) s) → formOf own s ≡ cond b (Good used) Bad
-      unfolding formOf cacheForm heldIn
+          → b ≡ allZero (drop (100 * used) s) → cacheFormed own s ≡ cond b (Good used) Bad
+      unfolding cacheFormed cacheForm heldIn
       by-rest used b most is z =
           rw (eq-eqb (length s % 100) 0 whole, le-leb 1000 (length s) least, le-leb (length s) 25600 most, z, is) refl
 
@@ -117,17 +117,17 @@ module _ (own : ℕ) (s : List ℕ) where
   tells-bad false n e = refl
 
   -- what it tells
-  pub good-is : {used : ℕ} → formOf own s ≡ Good used → (cacheForm own s ≡ true) × (heldIn own s ≡ used)
-  unfolding formOf
+  pub good-is : {used : ℕ} → cacheFormed own s ≡ Good used → (cacheForm own s ≡ true) × (heldIn own s ≡ used)
+  unfolding cacheFormed
   good-is {used} e = tells (cacheForm own s) (heldIn own s) used e
 
-  pub bad-is : formOf own s ≡ Bad → cacheForm own s ≡ false
-  unfolding formOf
+  pub bad-is : cacheFormed own s ≡ Bad → cacheForm own s ≡ false
+  unfolding cacheFormed
   bad-is e = tells-bad (cacheForm own s) (heldIn own s) e
 
-  pub good-held : {used : ℕ} → formOf own s ≡ Good used → heldOf own s ≡ rows 100 used s
+  pub good-held : {used : ℕ} → cacheFormed own s ≡ Good used → heldOf own s ≡ rows 100 used s
   unfolding heldOf
   good-held e = ap (λ (n : ℕ). rows 100 n s) (good-is e .1)
 
-  pub good-form : {used : ℕ} → formOf own s ≡ Good used → Form own s (rows 100 used s)
+  pub good-form : {used : ℕ} → cacheFormed own s ≡ Good used → Form own s (rows 100 used s)
   good-form e = rw (good-held e) at (true-form own s (good-is e .0))

@@ -30,21 +30,21 @@ pub record Changed : Type 0 where
   pub number : ℕ
   pub cache : List ℕ
 
-abbrev pub changed : ℕ → List ℕ → Changed
-changed n cache = record { number = n; cache = cache }
+abbrev pub cacheChanged : ℕ → List ℕ → Changed
+cacheChanged n cache = record { number = n; cache = cache }
 
 abbrev pub learnWrong : List ℕ → List ℕ → List ℕ → List Refusal
 learnWrong own cache r = memoryWrong own cache (when 1 (not (recordForm r)) ∷ when 1 (isOwn (ownKeys own) (keyOf r)) ∷ [])
 
 unfoldable pub learnCall : List ℕ → List ℕ → List ℕ → Changed
 learnCall own cache r =
-    orRefuse (λ (n : ℕ). changed n cache) (learnWrong own cache r)
-    (changed 0 (bytesOf (length cache) (afterLearn (ownKeys own) (length cache) (heldBy own cache) r)))
+    orRefuse (λ (n : ℕ). cacheChanged n cache) (learnWrong own cache r)
+    (cacheChanged 0 (bytesOf (length cache) (afterLearn (ownKeys own) (length cache) (heldBy own cache) r)))
 
 abbrev pub removeWrong : List ℕ → List ℕ → List ℕ → List Refusal
 removeWrong own cache key = memoryWrong own cache (keyWrong key ∷ [])
 
 unfoldable pub removeCall : List ℕ → List ℕ → List ℕ → Changed
 removeCall own cache key =
-    orRefuse (λ (n : ℕ). changed n cache) (removeWrong own cache key)
-    (changed 0 (bytesOf (length cache) (afterRemove (keyAt 0 key) (heldBy own cache))))
+    orRefuse (λ (n : ℕ). cacheChanged n cache) (removeWrong own cache key)
+    (cacheChanged 0 (bytesOf (length cache) (afterRemove (keyAt 0 key) (heldBy own cache))))

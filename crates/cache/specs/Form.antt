@@ -27,7 +27,7 @@ pub record Places (size : ℕ) : Type 0 where
   pub most : size ≤ 25600
 
 -- records that a cache under the own key may hold
-pub record Held (own : Own) (recs : List (List ℕ)) : Type 0 where
+pub record HeldRecords (own : Own) (recs : List (List ℕ)) : Type 0 where
   pub formed : Every (λ (r : List ℕ). recordForm r ≡ true) recs
   pub rising : Rising plain 0 (keysOf recs)
   pub others : Every (NotOwn own) (keysOf recs)
@@ -36,7 +36,7 @@ pub record Held (own : Own) (recs : List (List ℕ)) : Type 0 where
 pub record Form (own : Own) (cache : List ℕ) (recs : List (List ℕ)) : Type 0 where
   pub places : Places (length cache)
   pub bytes : cache ≡ bytesOf (length cache) recs
-  pub held : Held own recs
+  pub held : HeldRecords own recs
 
 -- ---- the test
 

@@ -17,8 +17,8 @@ use Rattle.cache.specs.declared.place.Found.{Found}
 use Rattle.cache.specs.declared.place.Found.the-variants.{At, Before}
 
 -- the test of the form, with how many records are held
-unfoldable pub formOf : ℕ → List ℕ → Formed
-formOf own cache = cond (cacheForm own cache) (Good (heldIn own cache)) Bad
+unfoldable pub cacheFormed : ℕ → List ℕ → Formed
+cacheFormed own cache = cond (cacheForm own cache) (Good (heldIn own cache)) Bad
 
 -- what the key of place i has to be at least: above the one before it
 unfoldable pub lowAt : List ℕ → ℕ → ℕ
@@ -41,9 +41,9 @@ findKey k [] = Before 0
 findKey k (j ∷ ks) = cond (ltb j k) (further (findKey k ks)) (cond (eqb j k) (At 0) (Before 0))
 
 -- does it stand there?
-abbrev pub isAt : Found → Bool
-isAt (At i) = true
-isAt (Before i) = false
+abbrev pub isFound : Found → Bool
+isFound (At i) = true
+isFound (Before i) = false
 
 -- of so many keys, of which so many are below our own, and those above it begin at place first and go on round: the place of the first below where more are
 -- below, else of the last above

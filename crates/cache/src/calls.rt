@@ -2,8 +2,8 @@
 ghost use mathlib.Core.Path.{_≡_};
 ghost use mathlib.Core.Bool.{cond};
 ghost use Rattle.record.specs.Record.{keyOf, recordForm};
-ghost use Rattle.cache.specs.Place.{formOf};
-ghost use Rattle.cache.specs.Calls.{changed, learnCall, removeCall};
+ghost use Rattle.cache.specs.Place.{cacheFormed};
+ghost use Rattle.cache.specs.Calls.{cacheChanged, learnCall, removeCall};
 ghost use Rattle.cache.specs.declared.shape.Formed.the-variants.{Bad};
 use crate::learning::learn;
 use crate::learning::remove;
@@ -13,7 +13,7 @@ use crate::shape::form;
 // Are our own record and the cache in form, and how many records are held?
 pub fn memory(own: &[u8], cache: &[u8]) -> Formed
     ensures { λ r. ⌜ r
-        ≡ cond (recordForm (now (own .entry))) (formOf (keyOf (now (own .entry))) (now (cache .entry))) Bad ⌝ }
+        ≡ cond (recordForm (now (own .entry))) (cacheFormed (keyOf (now (own .entry))) (now (cache .entry))) Bad ⌝ }
 {
     if !own::own_form(own) {
         return Formed::Bad;
@@ -23,7 +23,7 @@ pub fn memory(own: &[u8], cache: &[u8]) -> Formed
 
 // A record is learned. Gives 0 or 1.
 pub fn learn_record(own: &[u8], cache: &mut [u8], record: &[u8]) -> u32
-    ensures { λ r. ⌜ changed r (now (cache .exit))
+    ensures { λ r. ⌜ cacheChanged r (now (cache .exit))
         ≡ learnCall (now (own .entry)) (now (cache .entry)) (now («record» .entry)) ⌝ }
 {
     let found = memory(own, cache);
@@ -42,7 +42,7 @@ pub fn learn_record(own: &[u8], cache: &mut [u8], record: &[u8]) -> u32
 
 // A key is removed if held. Gives 0 or 1.
 pub fn remove_key(own: &[u8], cache: &mut [u8], key: &[u8]) -> u32
-    ensures { λ r. ⌜ changed r (now (cache .exit))
+    ensures { λ r. ⌜ cacheChanged r (now (cache .exit))
         ≡ removeCall (now (own .entry)) (now (cache .entry)) (now (key .entry)) ⌝ }
 {
     let found = memory(own, cache);

@@ -9,7 +9,7 @@ ghost use Rattle.key.specs.Number.{keyAt};
 ghost use Rattle.record.specs.Record.{keyOf};
 ghost use Rattle.table.specs.Rows.{rows};
 ghost use Rattle.cache.specs.Form.{follows, leading};
-ghost use Rattle.cache.specs.Place.{formOf, lowAt, Carried};
+ghost use Rattle.cache.specs.Place.{cacheFormed, lowAt, Carried};
 
 // Whether the cache is in form, and then how many records it holds.
 pub enum Formed {
@@ -91,7 +91,7 @@ fn count_held(own: &[u8], cache: &[u8]) -> usize
 // The test of the form, under the own key, which stands at the own record's start.
 pub fn form(own: &[u8], cache: &[u8]) -> Formed
     requires { ⌜ 32 ≤ length (now own) ⌝ }
-    ensures { λ r. ⌜ r ≡ formOf (keyOf (now (own .entry))) (now (cache .entry)) ⌝ }
+    ensures { λ r. ⌜ r ≡ cacheFormed (keyOf (now (own .entry))) (now (cache .entry)) ⌝ }
 {
     let size = cache.len();
     if size % record::RECORD_LEN != 0 {

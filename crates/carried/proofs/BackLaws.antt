@@ -42,7 +42,7 @@ use Rattle.readings.specs.declared.Reading.{Reading}
 use Rattle.readings.specs.declared.Unpacked.{Unpacked}
 use Rattle.readings.specs.declared.Unpacked.the-variants.{Read, Refused}
 use Rattle.readings.proofs.DepthLaws.{allowed-no-nan}
-use Rattle.carried.specs.Carry.{carry, handed, put, withReading, carryIn, carryAs, carryBy, carryCall}
+use Rattle.carried.specs.Carry.{carry, carryHanded, put, withReading, carryIn, carryAs, carryBy, carryCall}
 use Rattle.carried.specs.declared.whole.Whole.{Whole}
 use Rattle.carried.specs.declared.whole.Whole.the-variants.{Authority, Other}
 use Rattle.carried.specs.Statements.{Words, TakenBack}

@@ -33,7 +33,7 @@ use Rattle.refusal.proofs.CallLaws.{or-known}
 use Rattle.octet.proofs.PartLaws.{take-splice, length-splice}
 use Rattle.octet.proofs.BytesLaws.{bytes-append}
 use Rattle.readings.specs.Depth.{allowed}
-use Rattle.readings.specs.Reading.{reading, kindOf, measureOf, widthOf, isKind, measuredAs, contents, image, fine}
+use Rattle.readings.specs.Reading.{reading, kindOf, measureOf, widthOf, isKind, measuredAs, readingContents, image, fine}
 use Rattle.readings.specs.Numbers.{numberRefusals, readingOf}
 use Rattle.readings.specs.Unpack.{kindIn, measureIn, unpackRefusals, readingIn, unpackOf}
 use Rattle.readings.specs.Pack.{packOf}
@@ -50,7 +50,7 @@ use Rattle.carried.specs.declared.Carry.{Carry}
 use Rattle.carried.specs.declared.whole.Whole.{Whole}
 use Rattle.carried.specs.declared.whole.Whole.the-variants.{Authority, Other}
 use Rattle.carried.specs.Whole.{wholeOf}
-use Rattle.carried.specs.Carry.{carry, Handed, handed, withReading, carryAs, carryBy, carryCall}
+use Rattle.carried.specs.Carry.{carry, CarryHanded, carryHanded, withReading, carryAs, carryBy, carryCall}
 use Rattle.carried.specs.Take.{nothing, takenBy, takenFrom, takenAs, takeBy, takeCall}
 
 -- ---- the AUTHORITY that is wanted
@@ -72,7 +72,7 @@ whole-authority (M.Lookup head a precision criteria reason target validate entry
 -- ---- the calls, by what was read
 
 module _ (major : ℕ) (d : List ℕ) where
-  pub carry-other : (n : ℕ) (u : Unpacked) (old : List ℕ) → wholeOf (answer d major) ≡ Other n → handed (carry n 0 0) old ≡ carryCall major d u old
+  pub carry-other : (n : ℕ) (u : Unpacked) (old : List ℕ) → wholeOf (answer d major) ≡ Other n → carryHanded (carry n 0 0) old ≡ carryCall major d u old
   unfolding carryCall
   carry-other n u old e = sym (ap (λ (w : Whole). carryBy major d w u old) e)
 
@@ -131,11 +131,11 @@ image-short (Depth d) i o = omega (arith, length-depth d i o)
 image-short (Fault n) i o = omega (arith, length-fault n i o)
 
 -- with room for 16 bytes it is written
-pub packed-sure : (r : Reading) (out left : List ℕ) (a : Packed) → fine (r .measured) ≡ true → length out ≡ 16 → P.handed a left ≡ packOf r out
+pub packed-sure : (r : Reading) (out left : List ℕ) (a : Packed) → fine (r .measured) ≡ true → length out ≡ 16 → P.packHanded a left ≡ packOf r out
     → (a ≡ Written (length (image r))) × (left ≡ splice 0 (image r) out)
 packed-sure r out left a g l e =
     let p = e ∙ sym (pack-written r out (omega (arith, l, image-short (r .measured) (r .inflow) (r .outflow))) g) in
-    (ap (λ (h : P.Handed). h .answer) p, ap (λ (h : P.Handed). h .out) p)
+    (ap (λ (h : P.PackHanded). h .answer) p, ap (λ (h : P.PackHanded). h .out) p)
 
 -- its first bytes are the reading's
 pub packed-image : (r : Reading) (out left : List ℕ) → length out ≡ 16 → left ≡ splice 0 (image r) out → take (length (image r)) left ≡ image r
@@ -148,7 +148,7 @@ digits : (w n : ℕ) → Bytes (digitsLE 256 w n)
 digits w n = digitsLE-lt 256 w n (omega arith)
 
 pub image-bytes : (r : Reading) → Bytes (image r)
-unfolding image contents
+unfolding image readingContents
 image-bytes r =
     let kind = kindOf (r .measured) in
     let a = digitsLE 256 2 kind in
@@ -177,7 +177,7 @@ written-short m old r e =
 -- the AUTHORITY that was read, with the reading
 module _ (major : ℕ) (d : List ℕ) (b : Bytes d) (h : Head) (acked : ℕ) (f : Inside) (a : answer d major ≡ M.Authority h acked f) where
   pub carried-as : (r : Reading) (old : List ℕ) (w : W.Written) (out v : List ℕ) → v ≡ image r → Wrote (withPayload major d h acked f v) old w out
-      → handed (carry (w .number) (w .length) 0) out ≡ carryAs (messageOf major d (M.Authority h acked f)) (Read r) old
+      → carryHanded (carry (w .number) (w .length) 0) out ≡ carryAs (messageOf major d (M.Authority h acked f)) (Read r) old
   unfolding messageOf
   carried-as r old w out v e x =
       let m = seen major d h acked f [] in
@@ -185,7 +185,7 @@ module _ (major : ℕ) (d : List ℕ) (b : Bytes d) (h : Head) (acked : ℕ) (f 
       ap (withPayload major d h acked f) e
       ∙ payload-written d b major h acked f m a (authority-is d b major h acked f a) (image r) (image-bytes r)
       (omega (arith, image-short (r .measured) (r .inflow) (r .outflow))) in
-      ap₂ (λ (y : W.Written) (l : List ℕ). handed (carry (y .number) (y .length) 0) l) (x .answer ∙ ap (λ (y : Made). writeAs y old) made)
+      ap₂ (λ (y : W.Written) (l : List ℕ). carryHanded (carry (y .number) (y .length) 0) l) (x .answer ∙ ap (λ (y : Made). writeAs y old) made)
       (x .output ∙ ap (λ (y : Made). writeIn y old) made)
 
   -- ---- what is taken
@@ -204,19 +204,19 @@ module _ (major : ℕ) (d : List ℕ) (b : Bytes d) (h : Head) (acked : ℕ) (f 
   -- ---- as the code has it
 
   pub carried-refused : (u : Unpacked) (n : ℕ) (old : List ℕ) (g : Carry) → u ≡ Refused n → g ≡ carry 0 0 n
-      → handed g old ≡ carryAs (messageOf major d (M.Authority h acked f)) u old
+      → carryHanded g old ≡ carryAs (messageOf major d (M.Authority h acked f)) u old
   unfolding messageOf
   carried-refused u n old g e q =
-      ap (λ (x : Carry). handed x old) q ∙ sym (ap (λ (x : Unpacked). carryAs (messageOf major d (M.Authority h acked f)) x old) e)
+      ap (λ (x : Carry). carryHanded x old) q ∙ sym (ap (λ (x : Unpacked). carryAs (messageOf major d (M.Authority h acked f)) x old) e)
 
-  pub carried-read : (u : Unpacked) (r : Reading) (old : List ℕ) (x : Handed) → u ≡ Read r
+  pub carried-read : (u : Unpacked) (r : Reading) (old : List ℕ) (x : CarryHanded) → u ≡ Read r
       → x ≡ carryAs (messageOf major d (M.Authority h acked f)) (Read r) old
       → x ≡ carryAs (messageOf major d (M.Authority h acked f)) u old
   carried-read u r old x e q = q ∙ sym (ap (λ (y : Unpacked). carryAs (messageOf major d (M.Authority h acked f)) y old) e)
 
 -- a reading that may be written is packed into 16 bytes
 module _ (r : Reading) (out left : List ℕ) (a : Packed) (g : fine (r .measured) ≡ true) (l : length out ≡ 16)
-    (e : P.handed a left ≡ packOf r out) where
+    (e : P.packHanded a left ≡ packOf r out) where
   pub not-refused : {A : Type 0} (n : ℕ) → a ≡ Refuse n → A
   not-refused n q = absurd (let z = sym (packed-sure r out left a g l e .0) ∙ q in let y : _≡_ {A = ℕ} 0 1 = cc in omega arith)
 

@@ -33,9 +33,9 @@ use Rattle.readings.specs.declared.Unpacked.the-variants.{Read, Refused}
 use Rattle.carried.specs.declared.Taken.{Taken}
 use Rattle.carried.specs.declared.whole.Whole.the-variants.{Other}
 use Rattle.carried.specs.Whole.{wholeOf}
-use Rattle.carried.specs.Carry.{carry, Handed, handed, put, withReading, carryIn, carryAs, carryBy, carryCall}
+use Rattle.carried.specs.Carry.{carry, CarryHanded, carryHanded, put, withReading, carryIn, carryAs, carryBy, carryCall}
 use Rattle.carried.specs.Take.{nothing, takenBy, takenFrom, takeCall}
-use Rattle.carried.specs.Statements.{ReadsAs, IsAuthority, Unread, Another, NoRoom, TooLong, Carries, ReadingApplies, too-large, unknown-kind, outside, CarryExactly, CarryKeeps, CarryWrites, CarryFirst, TakeExactly}
+use Rattle.carried.specs.Statements.{ReadsAs, IsAuthority, Unread, Another, CarryNoRoom, TooLong, Carries, ReadingApplies, too-large, unknown-kind, outside, CarryExactly, CarryKeeps, CarryWrites, CarryFirst, TakeExactly}
 use Rattle.carried.proofs.CarryLaws.{carry-other, take-other}
 use Rattle.carried.proofs.BackLaws.{typed, means-authority}
 
@@ -131,11 +131,11 @@ module _ (kind measure i o : ℕ) where
 -- ---- what is put
 
 put-fits : (m : Made) (old : List ℕ) → m .ok ≡ true → fit (m .bytes) old ≡ true
-    → put m old ≡ handed (carry 0 (length (m .bytes)) 0) (m .bytes ++ drop (length (m .bytes)) old)
+    → put m old ≡ carryHanded (carry 0 (length (m .bytes)) 0) (m .bytes ++ drop (length (m .bytes)) old)
 unfolding writeAs writeIn
 put-fits m old k f = rw (k, f) refl
 
-put-full : (m : Made) (old : List ℕ) → m .ok ≡ true → fit (m .bytes) old ≡ false → put m old ≡ handed (carry 15 0 0) old
+put-full : (m : Made) (old : List ℕ) → m .ok ≡ true → fit (m .bytes) old ≡ false → put m old ≡ carryHanded (carry 15 0 0) old
 unfolding writeAs writeIn
 put-full m old k f = rw (k, f) refl
 
@@ -164,23 +164,23 @@ not-fit b old t = go t (fit-is b old)
 -- ---- a call to carry
 
 -- how it ends
-data Ends (major : ℕ) (d : List ℕ) (u : Unpacked) (old : List ℕ) (h : Handed) : Type 0 where
-  not-read : (n : ℕ) → 0 < n → Unread major d n → h ≡ handed (carry n 0 0) old → Ends major d u old h
-  not-authority : (m : Message) → ReadsAs major d m → ¬ (m .type ≡ 8) → h ≡ handed (carry 5 0 0) old → Ends major d u old h
-  not-reading : (m : Message) → IsAuthority major d m → (n : ℕ) → u ≡ Refused n → h ≡ handed (carry 0 0 n) old → Ends major d u old h
-  no-room : (m : Message) → IsAuthority major d m → (r : Reading) → u ≡ Read r → TooLong old m r → h ≡ handed (carry 15 0 0) old
+data Ends (major : ℕ) (d : List ℕ) (u : Unpacked) (old : List ℕ) (h : CarryHanded) : Type 0 where
+  not-read : (n : ℕ) → 0 < n → Unread major d n → h ≡ carryHanded (carry n 0 0) old → Ends major d u old h
+  not-authority : (m : Message) → ReadsAs major d m → ¬ (m .type ≡ 8) → h ≡ carryHanded (carry 5 0 0) old → Ends major d u old h
+  not-reading : (m : Message) → IsAuthority major d m → (n : ℕ) → u ≡ Refused n → h ≡ carryHanded (carry 0 0 n) old → Ends major d u old h
+  no-room : (m : Message) → IsAuthority major d m → (r : Reading) → u ≡ Read r → TooLong old m r → h ≡ carryHanded (carry 15 0 0) old
       → Ends major d u old h
   done : (m : Message) → IsAuthority major d m → (r : Reading) → u ≡ Read r → length (withReading m r .bytes) ≤ length old
       → length (withReading m r .bytes) ≤ 1232
-      → h ≡ handed (carry 0 (length (withReading m r .bytes)) 0) (withReading m r .bytes ++ drop (length (withReading m r .bytes)) old)
+      → h ≡ carryHanded (carry 0 (length (withReading m r .bytes)) 0) (withReading m r .bytes ++ drop (length (withReading m r .bytes)) old)
       → Ends major d u old h
 
 module _ (major : ℕ) (d : List ℕ) (b : Bytes d) where
   module _ (u : Unpacked) (old : List ℕ) where
-    unread-is : (n : ℕ) → 0 < n → numberOf (answer d major) ≡ n → carryCall major d u old ≡ handed (carry n 0 0) old
+    unread-is : (n : ℕ) → 0 < n → numberOf (answer d major) ≡ n → carryCall major d u old ≡ carryHanded (carry n 0 0) old
     unread-is n p e = sym (carry-other major d n u old (refused-whole (answer d major) n p e))
 
-    another-is : (m : Message) → messageOf major d (answer d major) ≡ some m → ¬ (m .type ≡ 8) → carryCall major d u old ≡ handed (carry 5 0 0) old
+    another-is : (m : Message) → messageOf major d (answer d major) ≡ some m → ¬ (m .type ≡ 8) → carryCall major d u old ≡ carryHanded (carry 5 0 0) old
     another-is m e t = sym (carry-other major d 5 u old (another-whole major d (answer d major) m e t))
 
     authority-is : (m : Message) → messageOf major d (answer d major) ≡ some m → m .type ≡ 8 → carryCall major d u old ≡ carryIn m u old
@@ -210,27 +210,27 @@ module _ (major : ℕ) (d : List ℕ) (b : Bytes d) where
         go (authority m e t) = put-ends m (read-gives d b major m .0 e, t) (authority-is m e t) u refl
 
 -- its numbers
-abbrev numbered : Handed → ℕ
+abbrev numbered : CarryHanded → ℕ
 numbered h = h .given .number
 
-abbrev answered : Handed → ℕ
+abbrev answered : CarryHanded → ℕ
 answered h = h .given .reading
 
 module _ (major : ℕ) (d : List ℕ) (b : Bytes d) (kind measure i o : ℕ) (old : List ℕ) where
   abbrev u : Unpacked
   u = readingOf kind measure i o
 
-  abbrev h : Handed
+  abbrev h : CarryHanded
   h = carryCall major d (readingOf kind measure i o) old
 
-  number-from : (n : ℕ) → 0 < n → Ends major d u old h → h .given .number ≡ n → Unread major d n ⊎ (Another major d n ⊎ NoRoom major d u old n)
+  number-from : (n : ℕ) → 0 < n → Ends major d u old h → h .given .number ≡ n → Unread major d n ⊎ (Another major d n ⊎ CarryNoRoom major d u old n)
   number-from n p (not-read k q w e) z = inl (subst (Unread major d) (sym (ap numbered e) ∙ z) w)
   number-from n p (not-authority m w t e) z = inr (inl (sym (sym (ap numbered e) ∙ z), (m, w, t)))
   number-from n p (not-reading m a k q e) z = absurd (omega (arith, ap numbered e, z))
   number-from n p (no-room m a r q t e) z = inr (inr (sym (sym (ap numbered e) ∙ z), (m, r, a, q, t)))
   number-from n p (done m a r q f g e) z = absurd (omega (arith, ap numbered e, z))
 
-  number-to : (n : ℕ) → 0 < n → Unread major d n ⊎ (Another major d n ⊎ NoRoom major d u old n) → h .given .number ≡ n
+  number-to : (n : ℕ) → 0 < n → Unread major d n ⊎ (Another major d n ⊎ CarryNoRoom major d u old n) → h .given .number ≡ n
   number-to n p (inl w) = ap numbered (unread-is major d b u old n p (read-refuses d major n p .1 w))
   number-to n p (inr (inl (z, (m, w, t)))) = ap numbered (another-is major d b u old m (read-gives d b major m .1 w) t) ∙ sym z
   number-to n p (inr (inr (z, (m, r, a, q, t)))) =
@@ -262,25 +262,25 @@ module _ (major : ℕ) (d : List ℕ) (b : Bytes d) (kind measure i o : ℕ) (ol
 
   abbrev Keeps : Type 0
   Keeps =
-      (0 < h .given .number → h ≡ handed (carry (h .given .number) 0 0) old)
-      × (0 < h .given .reading → h ≡ handed (carry 0 0 (h .given .reading)) old)
+      (0 < h .given .number → h ≡ carryHanded (carry (h .given .number) 0 0) old)
+      × (0 < h .given .reading → h ≡ carryHanded (carry 0 0 (h .given .reading)) old)
 
   -- a refusal is that of its number
-  kept-by : (n : ℕ) → h ≡ handed (carry n 0 0) old → Keeps
+  kept-by : (n : ℕ) → h ≡ carryHanded (carry n 0 0) old → Keeps
   kept-by n e =
-      (λ p. e ∙ ap (λ (x : ℕ). handed (carry x 0 0) old) (sym (ap numbered e)), λ p. absurd (omega (arith, ap answered e, p)))
+      (λ p. e ∙ ap (λ (x : ℕ). carryHanded (carry x 0 0) old) (sym (ap numbered e)), λ p. absurd (omega (arith, ap answered e, p)))
 
   keeps-by : Ends major d u old h → Keeps
   keeps-by (not-read k q w e) = kept-by k e
   keeps-by (not-authority m w t e) = kept-by 5 e
   keeps-by (not-reading m a k q e) =
-      (λ p. absurd (omega (arith, ap numbered e, p)), λ p. e ∙ ap (λ (x : ℕ). handed (carry 0 0 x) old) (sym (ap answered e)))
+      (λ p. absurd (omega (arith, ap numbered e, p)), λ p. e ∙ ap (λ (x : ℕ). carryHanded (carry 0 0 x) old) (sym (ap answered e)))
   keeps-by (no-room m a r q t e) = kept-by 15 e
   keeps-by (done m a r q f g e) = (λ p. absurd (omega (arith, ap numbered e, p)), λ p. absurd (omega (arith, ap answered e, p)))
 
   writes-by : Ends major d u old h → h .given .number ≡ 0 → h .given .reading ≡ 0
       → (m : Message) × (r : Reading) × IsAuthority major d m × (u ≡ Read r) × (length (withReading m r .bytes) ≤ 1232)
-      × (h ≡ handed (carry 0 (length (withReading m r .bytes)) 0) (withReading m r .bytes ++ drop (length (withReading m r .bytes)) old))
+      × (h ≡ carryHanded (carry 0 (length (withReading m r .bytes)) 0) (withReading m r .bytes ++ drop (length (withReading m r .bytes)) old))
   writes-by (not-read k p w e) z y = absurd (omega (arith, ap numbered e, z))
   writes-by (not-authority m w t e) z y = absurd (omega (arith, ap numbered e, z))
   writes-by (not-reading m a k q e) z y =
@@ -288,10 +288,10 @@ module _ (major : ℕ) (d : List ℕ) (b : Bytes d) (kind measure i o : ℕ) (ol
   writes-by (no-room m a r q t e) z y = absurd (omega (arith, ap numbered e, z))
   writes-by (done m a r q f g e) z y = (m, r, a, q, g, e)
 
-  abbrev First : Handed → Type 0
+  abbrev First : CarryHanded → Type 0
   First x = (x .given .length ≤ length old) × (length (x .output) ≡ length old) × (drop (x .given .length) (x .output) ≡ drop (x .given .length) old)
 
-  same-by : (n k : ℕ) → h ≡ handed (carry n 0 k) old → First h
+  same-by : (n k : ℕ) → h ≡ carryHanded (carry n 0 k) old → First h
   same-by n k e = subst First (sym e) (omega arith, refl, refl)
 
   first-by : Ends major d u old h → First h

@@ -24,35 +24,35 @@ abbrev pub carry : ℕ → ℕ → ℕ → Carry
 carry number length reading = record { number = number; length = length; reading = reading }
 
 -- what is handed back: the answer, and the output
-pub record Handed : Type 0 where
+pub record CarryHanded : Type 0 where
   pub given : Carry
   pub output : List ℕ
 
-abbrev pub handed : Carry → List ℕ → Handed
-handed given output = record { given = given; output = output }
+abbrev pub carryHanded : Carry → List ℕ → CarryHanded
+carryHanded given output = record { given = given; output = output }
 
 -- the same message, but for its payload: field 6 of an AUTHORITY's
 abbrev pub withReading : Message → Reading → Made
 withReading m r = record { ok = true; bytes = bytesOf (layoutOf authorityKinds (changed authorityKinds m 6 (some (image r)))) }
 
 -- 0 and how many bytes, or 15 where there is no room in the output or in a datagram
-abbrev pub put : Made → List ℕ → Handed
-put m old = handed (carry (writeAs m old .number) (writeAs m old .length) 0) (writeIn m old)
+abbrev pub put : Made → List ℕ → CarryHanded
+put m old = carryHanded (carry (writeAs m old .number) (writeAs m old .length) 0) (writeIn m old)
 
 -- a reading that is refused is not written
-abbrev pub carryIn : Message → Unpacked → List ℕ → Handed
+abbrev pub carryIn : Message → Unpacked → List ℕ → CarryHanded
 carryIn m (Read r) old = put (withReading m r) old
-carryIn m (Refused n) old = handed (carry 0 0 n) old
+carryIn m (Refused n) old = carryHanded (carry 0 0 n) old
 
 -- into a message; an AUTHORITY that was read is one
-abbrev pub carryAs : Option Message → Unpacked → List ℕ → Handed
+abbrev pub carryAs : Option Message → Unpacked → List ℕ → CarryHanded
 carryAs (some m) u old = carryIn m u old
-carryAs none u old = handed (carry 5 0 0) old
+carryAs none u old = carryHanded (carry 5 0 0) old
 
-abbrev pub carryBy : ℕ → List ℕ → Whole → Unpacked → List ℕ → Handed
-carryBy major d (Other n) u old = handed (carry n 0 0) old
+abbrev pub carryBy : ℕ → List ℕ → Whole → Unpacked → List ℕ → CarryHanded
+carryBy major d (Other n) u old = carryHanded (carry n 0 0) old
 carryBy major d (Authority head acked fields) u old = carryAs (messageOf major d (M.Authority head acked fields)) u old
 
 -- the whole call: the datagram's refusals first, then the reading's, then the room's
-unfoldable pub carryCall : ℕ → List ℕ → Unpacked → List ℕ → Handed
+unfoldable pub carryCall : ℕ → List ℕ → Unpacked → List ℕ → CarryHanded
 carryCall major d u old = carryBy major d (wholeOf (answer d major)) u old

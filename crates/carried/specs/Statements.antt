@@ -20,7 +20,7 @@ use Rattle.readings.specs.Unpack.{unpackOf}
 use Rattle.readings.specs.declared.Reading.{Reading}
 use Rattle.readings.specs.declared.Unpacked.{Unpacked}
 use Rattle.readings.specs.declared.Unpacked.the-variants.{Read, Refused}
-use Rattle.carried.specs.Carry.{carry, handed, withReading, carryCall}
+use Rattle.carried.specs.Carry.{carry, carryHanded, withReading, carryCall}
 use Rattle.carried.specs.Take.{taken, nothing, takeCall}
 
 -- the numbers that are handed in have 32 bits, as their types say
@@ -56,8 +56,8 @@ Another major d n = (n ≡ 5) × ((m : Message) × ReadsAs major d m × (¬ (m .
 abbrev pub TooLong : List ℕ → Message → Reading → Type 0
 TooLong old m r = (length old < length (withReading m r .bytes)) ⊎ (1232 < length (withReading m r .bytes))
 
-abbrev pub NoRoom : ℕ → List ℕ → Unpacked → List ℕ → ℕ → Type 0
-NoRoom major d u old n = (n ≡ 15) × ((m : Message) × (r : Reading) × IsAuthority major d m × (u ≡ Read r) × TooLong old m r)
+abbrev pub CarryNoRoom : ℕ → List ℕ → Unpacked → List ℕ → ℕ → Type 0
+CarryNoRoom major d u old n = (n ≡ 15) × ((m : Message) × (r : Reading) × IsAuthority major d m × (u ≡ Read r) × TooLong old m r)
 
 -- document 02's number of a reading handed in
 pub data ReadingApplies (kind measure n : ℕ) : Type 0 where
@@ -71,7 +71,7 @@ pub data ReadingApplies (kind measure n : ℕ) : Type 0 where
 pub record CarryNumbers (major : ℕ) (d : List ℕ) (kind measure litresIn litresOut : ℕ) (old : List ℕ) : Type 0 where
   pub number : (n : ℕ) → 0 < n
       → (carryCall major d (readingOf kind measure litresIn litresOut) old .given .number ≡ n)
-      ↔ (Unread major d n ⊎ (Another major d n ⊎ NoRoom major d (readingOf kind measure litresIn litresOut) old n))
+      ↔ (Unread major d n ⊎ (Another major d n ⊎ CarryNoRoom major d (readingOf kind measure litresIn litresOut) old n))
   -- for an AUTHORITY alone
   pub reading : (n : ℕ) → 0 < n
       → (carryCall major d (readingOf kind measure litresIn litresOut) old .given .reading ≡ n)
@@ -89,8 +89,8 @@ abbrev pub CarryKeeps : Type 0
 CarryKeeps =
     (major : ℕ) (d : List ℕ) → Bytes d → (kind measure litresIn litresOut : ℕ) (old : List ℕ)
     → (let h = carryCall major d (readingOf kind measure litresIn litresOut) old in
-    (0 < h .given .number → h ≡ handed (carry (h .given .number) 0 0) old)
-    × (0 < h .given .reading → h ≡ handed (carry 0 0 (h .given .reading)) old))
+    (0 < h .given .number → h ≡ carryHanded (carry (h .given .number) 0 0) old)
+    × (0 < h .given .reading → h ≡ carryHanded (carry 0 0 (h .given .reading)) old))
 
 -- accepted, what was handed in is an AUTHORITY and a reading, and they stand at the output's start: the same message but for its payload. The rest is as lent
 abbrev pub CarryWrites : Type 0
@@ -99,7 +99,7 @@ CarryWrites =
     → (let h = carryCall major d (readingOf kind measure litresIn litresOut) old in
     h .given .number ≡ 0 → h .given .reading ≡ 0
     → (m : Message) × (r : Reading) × IsAuthority major d m × (readingOf kind measure litresIn litresOut ≡ Read r) × (length (withReading m r .bytes) ≤ 1232)
-    × (h ≡ handed (carry 0 (length (withReading m r .bytes)) 0) (withReading m r .bytes ++ drop (length (withReading m r .bytes)) old)))
+    × (h ≡ carryHanded (carry 0 (length (withReading m r .bytes)) 0) (withReading m r .bytes ++ drop (length (withReading m r .bytes)) old)))
 
 -- "On acceptance the output changes only in its first bytes, as many as returned." So it is with a refusal, which returns none
 abbrev pub CarryFirst : Type 0

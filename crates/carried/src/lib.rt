@@ -6,7 +6,7 @@ mod whole;
 ghost use mathlib.Core.Path.{_≡_};
 ghost use Rattle.readings.specs.Numbers.{readingOf};
 ghost use Rattle.readings.specs.Balance.{balanceOf};
-ghost use Rattle.carried.specs.Carry.{handed, carryCall};
+ghost use Rattle.carried.specs.Carry.{carryHanded, carryCall};
 ghost use Rattle.carried.specs.Take.{takeCall};
 use whole::Whole;
 
@@ -40,7 +40,7 @@ pub extern "C" fn gauge_carry(
     litres_out: u32,
     output: &mut [u8],
 ) -> Carry
-    ensures { λ r. ⌜ handed r (now (output .exit)) ≡ carryCall major (now (authority .entry))
+    ensures { λ r. ⌜ carryHanded r (now (output .exit)) ≡ carryCall major (now (authority .entry))
         (readingOf kind measure «litres_in» «litres_out») (now (output .entry)) ⌝ }
 {
     let answer = wire_read::read(authority, major);

@@ -17,7 +17,7 @@ ghost use Rattle.wire_read.specs.declared.Answer.the-variants.{Authority as The
 ghost use Rattle.readings.specs.Reading.{fine};
 ghost use Rattle.readings.specs.Numbers.{readingOf};
 ghost use Rattle.readings.specs.declared.Unpacked.the-variants.{Read};
-ghost use Rattle.carried.specs.Carry.{carry, handed, carryAs};
+ghost use Rattle.carried.specs.Carry.{carry, carryHanded, carryAs};
 ghost use Rattle.carried.specs.Take.{taken, takenAs, takenBy, nothing as nothingTaken};
 
 fn wide(n: u8) -> u32
@@ -62,7 +62,7 @@ pub(crate) fn put_reading(
     output: &mut [u8],
 ) -> Carry
     requires { ⌜ readAs (now d) major ≡ TheAuthority head acked fields ⌝ }
-    ensures { λ r. ⌜ handed r (now (output .exit)) ≡ carryAs (messageOf major (now (d .entry)) (TheAuthority head acked fields))
+    ensures { λ r. ⌜ carryHanded r (now (output .exit)) ≡ carryAs (messageOf major (now (d .entry)) (TheAuthority head acked fields))
         (readingOf kind measure inflow outflow) (now (output .entry)) ⌝ }
 {
     let made = readings::reading_of(kind, measure, inflow, outflow);
@@ -84,7 +84,7 @@ fn put_packed(
 ) -> Carry
     requires { ⌜ readAs (now d) major ≡ TheAuthority head acked fields ⌝ }
     requires { ⌜ fine (reading .measured) ≡ true ⌝ }
-    ensures { λ r. ⌜ handed r (now (output .exit)) ≡ carryAs (messageOf major (now (d .entry)) (TheAuthority head acked fields))
+    ensures { λ r. ⌜ carryHanded r (now (output .exit)) ≡ carryAs (messageOf major (now (d .entry)) (TheAuthority head acked fields))
         (Read reading) (now (output .entry)) ⌝ }
 {
     let mut image = [0u8; 16];

@@ -5,14 +5,14 @@ use mathlib.Core.List.{List}
 use mathlib.Core.Path.{_≡_}
 use lib.ListN.{take}
 use Rattle.readings.specs.Numbers.{readingOf}
-use Rattle.carried.specs.Carry.{Handed, carryCall}
+use Rattle.carried.specs.Carry.{CarryHanded, carryCall}
 use Rattle.gauge_plan.specs.Lent.{Memory, Receive, hearing, receives}
 use Rattle.gauge.specs.Words.{Gauge, Typed}
 use Rattle.gauge.specs.Ours.{ours}
 use Rattle.sentences.specs.Meets.{MeetsSentences}
 
 -- what an accepted call to carry has written: the first bytes of the output, as many as it says
-abbrev pub writtenBy : Handed → List ℕ
+abbrev pub writtenBy : CarryHanded → List ℕ
 writtenBy h = take (h .given .length) (h .output)
 
 -- the gauge receives it as it would receive the AUTHORITY without the reading: the same number and counts, the same memory, the same output, byte for byte,

@@ -19,7 +19,7 @@ ghost use Rattle.plan_flood.specs.Rooms.{ackRoom};
 ghost use Rattle.asking.specs.Asking.{inquireRoom};
 ghost use Rattle.asking.specs.Ids.{idAfter};
 ghost use Rattle.gauge_commit.specs.Sending.{lengths, sending};
-ghost use Rattle.gauge_commit.specs.Replies.{acks, asks, freedAt};
+ghost use Rattle.gauge_commit.specs.Replies.{ackWritten, inquireWritten, freedAt};
 use gauge_commit::Answer;
 
 // The ACK, where D is clear, at the output's start. Answers how long it is.
@@ -34,7 +34,7 @@ fn send_ack(
 ) -> usize
     requires { ⌜ ackRoom silent n ≤ length (now output) ⌝ }
     ensures { λ r. ⌜ r ≡ ackRoom silent n ⌝ }
-    ensures { λ _. ⌜ now (output .exit) ≡ sending (acks major minor id silent acked n) (now (output .entry)) ⌝ }
+    ensures { λ _. ⌜ now (output .exit) ≡ sending (ackWritten major minor id silent acked n) (now (output .entry)) ⌝ }
 {
     if silent {
         return 0;
@@ -63,13 +63,13 @@ pub fn commit_flood(
     requires { ⌜ (opens ≡ true → used < 16) × (length (now waiting) ≡ 2240) × Laid 140 used (now waiting)
         × (length (now nonce) ≡ 16) × (start + len ≤ length (now d)) × (entryForm (part start len (now d)) ≡ true)
         × (ackRoom silent n + inquireRoom opens ≤ length (now output)) ⌝ }
-    ensures { λ r. ⌜ r ≡ lengths (acks major minor id silent acked n
-        ++ asks major minor id opens (now (nonce .entry)) (recordOf (part start len (now (d .entry))))) ⌝ }
+    ensures { λ r. ⌜ r ≡ lengths (ackWritten major minor id silent acked n
+        ++ inquireWritten major minor id opens (now (nonce .entry)) (recordOf (part start len (now (d .entry))))) ⌝ }
     ensures { λ _. ⌜ now (waiting .exit) ≡ cond opens (bytesOf 2240 (opened (inquiryPlace (idAfter id)
         (recordOf (part start len (now (d .entry))))) (rows 140 used (now (waiting .entry)))))
         (now (waiting .entry)) ⌝ }
-    ensures { λ _. ⌜ now (output .exit) ≡ sending (acks major minor id silent acked n
-        ++ asks major minor id opens (now (nonce .entry)) (recordOf (part start len (now (d .entry)))))
+    ensures { λ _. ⌜ now (output .exit) ≡ sending (ackWritten major minor id silent acked n
+        ++ inquireWritten major minor id opens (now (nonce .entry)) (recordOf (part start len (now (d .entry)))))
         (now (output .entry)) ⌝ }
 {
     let first = send_ack(output, major, minor, id, silent, acked, n);
@@ -126,12 +126,12 @@ pub fn commit_revoke(
     requires { ⌜ (length (now own) ≡ 100) × (length (now key) ≡ 32)
         × Form (keyOf (now own)) (now cache) (rows 100 held (now cache)) × (length (now waiting) ≡ 2240)
         × Laid 140 used (now waiting) × (used ≤ 16) × (ackRoom silent n ≤ length (now output)) ⌝ }
-    ensures { λ r. ⌜ r ≡ lengths (acks major minor id silent acked n) ⌝ }
+    ensures { λ r. ⌜ r ≡ lengths (ackWritten major minor id silent acked n) ⌝ }
     ensures { λ _. ⌜ now (cache .exit) ≡ bytesOf (length (now (cache .entry)))
         (afterRemove (keyAt 0 (now (key .entry))) (rows 100 held (now (cache .entry)))) ⌝ }
     ensures { λ _. ⌜ now (waiting .exit) ≡ bytesOf 2240 (freedAt (seek (isInquiry (keyAt 0 (now (key .entry)))) 0
         (rows 140 used (now (waiting .entry)))) (rows 140 used (now (waiting .entry)))) ⌝ }
-    ensures { λ _. ⌜ now (output .exit) ≡ sending (acks major minor id silent acked n) (now (output .entry)) ⌝ }
+    ensures { λ _. ⌜ now (output .exit) ≡ sending (ackWritten major minor id silent acked n) (now (output .entry)) ⌝ }
 {
     cache::remove(own, cache, held, key);
     free_inquiry(waiting, used, key);

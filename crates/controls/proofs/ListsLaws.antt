@@ -20,7 +20,7 @@ use Rattle.sentences.specs.Meets.{MeetsSentences}
 use Rattle.sentences.proofs.ComputedLaws.{computed}
 use Rattle.sentences.proofs.Theorems.{acts, ours-meets-table}
 use Rattle.signed.specs.Statements.{Demand3, MeetsDemand3}
-use Rattle.signed.specs.Answered.{toldFrom, inquired, answered, firstOf}
+use Rattle.signed.specs.Answered.{toldFrom, inquired, answered, firstTold}
 use Rattle.signed.specs.Cases.{key, recordWith, holding, hears, inquiryFor, authority}
 use Rattle.signed.proofs.ToldLaws.{eventsFrom, happened, happened-events, log-typed}
 use Rattle.signed.proofs.Theorems.{typed-calls}
@@ -130,7 +130,7 @@ portOf none = 0
 portOf (some r) = getD r 33 0
 
 pub mixes-shut : W.MixesShut
-unfolding computed left toldFrom inquired answered firstOf W.mixes fits
+unfolding computed left toldFrom inquired answered firstTold W.mixes fits
 mixes-shut m =
     let both =
     m 100 10 (omega arith) (omega arith) (learning 99 1 (learning 101 2 [])) (proper 99 1 (learning 101 2 []) refl (proper 101 2 [] refl tt)) .last in

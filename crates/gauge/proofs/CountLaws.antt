@@ -10,10 +10,10 @@ use Rattle.table.proofs.RowLaws.{rows-length}
 use Rattle.kept.specs.Neighbours.{nearestFirst}
 use Rattle.cache.specs.Form.{keysOf}
 use Rattle.neighbours.specs.Listing.{countsOf, afterList}
-use Rattle.neighbours.specs.Calls.{Written, written, listWrong, listCall}
+use Rattle.neighbours.specs.Calls.{Written, listWritten, listWrong, listCall}
 use Rattle.cache.specs.Calls.{heldBy}
 use Rattle.waiting.specs.Form.{usedOf, placesOf}
-use Rattle.waiting_form.specs.Call.{Ticked, handed, tickRefusals, tickDone, tickCall}
+use Rattle.waiting_form.specs.Call.{Ticked, tickHanded, tickRefusals, tickDone, tickCall}
 use Rattle.waiting.proofs.TickLaws.{listed-few}
 use Rattle.waiting.proofs.FormLaws.{used-few}
 
@@ -21,7 +21,7 @@ use Rattle.waiting.proofs.FormLaws.{used-few}
 pub tick-few : (own t o : List ℕ) → tickCall own t o .count ≤ 16
 unfolding tickCall tickDone
 tick-few own t o =
-    or-known (λ (r : Ticked). r .count ≤ 16) (λ (n : ℕ). handed n 0 t o) (tickRefusals own t o) (tickDone t o)
+    or-known (λ (r : Ticked). r .count ≤ 16) (λ (n : ℕ). tickHanded n 0 t o) (tickRefusals own t o) (tickDone t o)
     (λ n. omega arith)
     (λ f. omega (arith, listed-few (placesOf t), rows-length 140 (usedOf t) t, used-few t))
 
@@ -32,8 +32,8 @@ list-few own cache out =
     let k = keyOf own in
     let recs = heldBy own cache in
     let counts = countsOf k recs in
-    or-known (λ (w : Written). (w .answer .below ≤ 5) × (w .answer .above ≤ 5)) (λ (n : ℕ). written (record { number = n; below = 0; above = 0 }) out)
-    (listWrong own cache out) (written (record { number = 0; below = counts .below; above = counts .above }) (afterList k recs out))
+    or-known (λ (w : Written). (w .answer .below ≤ 5) × (w .answer .above ≤ 5)) (λ (n : ℕ). listWritten (record { number = n; below = 0; above = 0 }) out)
+    (listWrong own cache out) (listWritten (record { number = 0; below = counts .below; above = counts .above }) (afterList k recs out))
     (λ n. (omega arith, omega arith))
     (λ f. (
       omega (arith, length-take 5 (nearestFirst (sideOf k) (nearness k) below (keysOf recs))),

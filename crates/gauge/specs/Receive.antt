@@ -19,7 +19,7 @@ use Rattle.gauge_plan.specs.declared.Plan.{Plan}
 use Rattle.gauge_plan.specs.declared.Plan.the-variants.{Refuse, Flood, Revoke, Learn, Free, Certify, Show}
 use Rattle.gauge_plan.specs.Lent.{Memory, withCache, withWaiting, Receive}
 use Rattle.gauge_commit.specs.Sending.{answer, Handed, handed, lengths, sending}
-use Rattle.gauge_commit.specs.Replies.{acks, asks, freedAt}
+use Rattle.gauge_commit.specs.Replies.{ackWritten, inquireWritten, freedAt}
 use Rattle.asking.specs.Ids.{idAfter}
 use Rattle.plan_message.specs.Planned.{receivePlan}
 
@@ -27,13 +27,13 @@ unfoldable pub carried : Memory → Receive → Plan → Handed
 carried m l (Refuse n) = handed (answer n 0 0) m (l .output)
 carried m l (Flood used silent n acked opens start len) =
     let r = recordOf (part start len (l .datagram)) in
-    let ds = acks (l .major) (l .minor) (l .id) silent acked n ++ asks (l .major) (l .minor) (l .id) opens (l .nonce) r in
+    let ds = ackWritten (l .major) (l .minor) (l .id) silent acked n ++ inquireWritten (l .major) (l .minor) (l .id) opens (l .nonce) r in
     handed (lengths ds)
     (withWaiting (cond opens (bytesOf 2240 (opened (inquiryPlace (idAfter (l .id)) r) (rows 140 used (m .waiting)))) (m .waiting)) m)
     (sending ds (l .output))
 carried m l (Revoke held used silent n acked) =
     let ps = rows 140 used (m .waiting) in
-    let ds = acks (l .major) (l .minor) (l .id) silent acked n in
+    let ds = ackWritten (l .major) (l .minor) (l .id) silent acked n in
     handed (lengths ds)
     (withCache (bytesOf (length (m .cache)) (afterRemove (keyAt 0 (l .key)) (rows 100 held (m .cache))))
     (withWaiting (bytesOf 2240 (freedAt (seek (isInquiry (keyAt 0 (l .key))) 0 ps) ps)) m))

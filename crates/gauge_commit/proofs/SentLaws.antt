@@ -28,7 +28,7 @@ use Rattle.asking.specs.Ids.{idAfter}
 use Rattle.plan_send.specs.Send.{recordSent, floodRoom}
 use Rattle.plan_flood.proofs.FloodLaws.{ack-most}
 use Rattle.gauge_commit.specs.Sending.{answer, lengths, sending}
-use Rattle.gauge_commit.specs.Replies.{acks, asks}
+use Rattle.gauge_commit.specs.Replies.{ackWritten, inquireWritten}
 use Rattle.gauge_commit.proofs.LengthLaws.{ack-length, inquire-length, cpa-length, closest-length, flood-length}
 
 -- ---- one datagram
@@ -98,19 +98,19 @@ abbrev pub asked : ℕ → ℕ → ℕ → List ℕ → List ℕ → List ℕ
 asked major minor id nonce r = inquireMade major minor (idAfter id) (part 0 32 r) nonce .bytes
 
 module _ (major minor id acked : ℕ) (n : Bool) where
-  pub acks-room : (silent : Bool) → length (joined (acks major minor id silent acked n)) ≡ ackRoom silent n
+  pub acks-room : (silent : Bool) → length (joined (ackWritten major minor id silent acked n)) ≡ ackRoom silent n
   unfolding joined
   acks-room true = refl
   acks-room false = ap length (append-nil (ackMade major minor id acked n .bytes)) ∙ ack-length major minor id acked n
 
-  pub acks-told : (silent : Bool) {k : ℕ} → k ≡ ackRoom silent n → answer 0 k 0 ≡ lengths (acks major minor id silent acked n)
+  pub acks-told : (silent : Bool) {k : ℕ} → k ≡ ackRoom silent n → answer 0 k 0 ≡ lengths (ackWritten major minor id silent acked n)
   acks-told true e = ap (λ (l : ℕ). answer 0 l 0) e
   acks-told false e = ap (λ (l : ℕ). answer 0 l 0) (e ∙ sym (ack-length major minor id acked n))
 
   pub silent-told : (silent : Bool) → silent ≡ true → 0 ≡ ackRoom silent n
   silent-told silent e = rw e
 
-  pub silent-sent : (silent : Bool) (old : List ℕ) → silent ≡ true → old ≡ sending (acks major minor id silent acked n) old
+  pub silent-sent : (silent : Bool) (old : List ℕ) → silent ≡ true → old ≡ sending (ackWritten major minor id silent acked n) old
   unfolding joined
   silent-sent silent old e = rw e (sym (splice-nil 0 old))
 
@@ -126,25 +126,25 @@ module _ (major minor id acked : ℕ) (n : Bool) where
     pub heard-told : r .length ≡ ackRoom silent n
     heard-told = wrote-length w ack-made (omega (arith, ack-size)) (omega (arith, ack-size, ack-most silent n)) ∙ ack-size
 
-    pub heard-sent : out ≡ sending (acks major minor id silent acked n) old
+    pub heard-sent : out ≡ sending (ackWritten major minor id silent acked n) old
     heard-sent = rw heard (wrote-start w ack-made (omega (arith, ack-size)) (omega (arith, ack-size, ack-most silent n)))
 
   -- what follows the ACK
   module _ (silent opens : Bool) (nonce r : List ℕ) where
-    pub none-follows : opens ≡ false → acks major minor id silent acked n ++ asks major minor id opens nonce r ≡ acks major minor id silent acked n
-    none-follows e = rw e (append-nil (acks major minor id silent acked n))
+    pub none-follows : opens ≡ false → ackWritten major minor id silent acked n ++ inquireWritten major minor id opens nonce r ≡ ackWritten major minor id silent acked n
+    none-follows e = rw e (append-nil (ackWritten major minor id silent acked n))
 
     module _ (long : length r ≡ 100) (fresh : length nonce ≡ 16) (e : opens ≡ true) where
       asked-long : length (asked major minor id nonce r) ≡ 76
       asked-long = inquire-length major minor (idAfter id) (part 0 32 r) nonce (length-part 0 32 r (omega arith)) fresh
 
       pub follows-sent : (k : ℕ) (old between : List ℕ) → ackRoom silent n + inquireRoom opens ≤ length old
-          → k ≡ ackRoom silent n → between ≡ sending (acks major minor id silent acked n) old
+          → k ≡ ackRoom silent n → between ≡ sending (ackWritten major minor id silent acked n) old
           → splice k (asked major minor id nonce r) between
-          ≡ sending (acks major minor id silent acked n ++ asks major minor id opens nonce r) old
+          ≡ sending (ackWritten major minor id silent acked n ++ inquireWritten major minor id opens nonce r) old
       follows-sent k old between h is left =
           let b = asked major minor id nonce r in
-          let xs = acks major minor id silent acked n in
+          let xs = ackWritten major minor id silent acked n in
           let l = asked-long in
           let room : ackRoom silent n + 76 ≤ length old = rw e at h in
           rw e
@@ -153,11 +153,11 @@ module _ (major minor id acked : ℕ) (n : Bool) where
           ∙ ap (λ (y : List ℕ). splice 0 y old) (ap (λ (y : List ℕ). joined xs ++ y) (sym (joined-one b)) ∙ sym (joined-append xs (b ∷ []))))
 
       pub follows-told : {k : ℕ} → k ≡ ackRoom silent n → silent ≡ false
-          → answer 0 k 76 ≡ lengths (acks major minor id silent acked n ++ asks major minor id opens nonce r)
+          → answer 0 k 76 ≡ lengths (ackWritten major minor id silent acked n ++ inquireWritten major minor id opens nonce r)
       follows-told is heard =
           rw (e, heard) (ap₂ (answer 0) (is ∙ ap (λ (s : Bool). ackRoom s n) heard ∙ sym (ack-length major minor id acked n)) (sym asked-long))
 
-      pub alone-told : silent ≡ true → answer 0 76 0 ≡ lengths (acks major minor id silent acked n ++ asks major minor id opens nonce r)
+      pub alone-told : silent ≡ true → answer 0 76 0 ≡ lengths (ackWritten major minor id silent acked n ++ inquireWritten major minor id opens nonce r)
       alone-told s = rw (e, s) (ap (λ (l : ℕ). answer 0 l 0) (sym asked-long))
 
 -- ---- the AUTHORITY with a CPA

@@ -11,11 +11,11 @@ use Rattle.wire_write.specs.Making.{ackMade, inquireMade}
 use Rattle.asking.specs.Ids.{idAfter}
 
 -- the ACK, where D is clear; the INQUIRE for a record's key, where a place opens
-abbrev pub acks : ℕ → ℕ → ℕ → Bool → ℕ → Bool → List (List ℕ)
-acks major minor id silent acked n = cond silent [] (ackMade major minor id acked n .bytes ∷ [])
+abbrev pub ackWritten : ℕ → ℕ → ℕ → Bool → ℕ → Bool → List (List ℕ)
+ackWritten major minor id silent acked n = cond silent [] (ackMade major minor id acked n .bytes ∷ [])
 
-abbrev pub asks : ℕ → ℕ → ℕ → Bool → List ℕ → List ℕ → List (List ℕ)
-asks major minor id opens nonce r = cond opens (inquireMade major minor (idAfter id) (part 0 32 r) nonce .bytes ∷ []) []
+abbrev pub inquireWritten : ℕ → ℕ → ℕ → Bool → List ℕ → List ℕ → List (List ℕ)
+inquireWritten major minor id opens nonce r = cond opens (inquireMade major minor (idAfter id) (part 0 32 r) nonce .bytes ∷ []) []
 
 -- the places without the one found
 abbrev pub freedAt : Found → List (List ℕ) → List (List ℕ)

@@ -25,7 +25,7 @@ use Rattle.kept.specs.Neighbours.{nearestFirst}
 use Rattle.kept.specs.Plain.{neighbours, neighbourList}
 use Rattle.cache.specs.Form.{keysOf}
 use Rattle.neighbours.specs.Listing.{countsOf, keyBytes, afterList}
-use Rattle.neighbours.specs.Calls.{Written, written, listWrong, listCall}
+use Rattle.neighbours.specs.Calls.{Written, listWritten, listWrong, listCall}
 use Rattle.cache.specs.Calls.{heldBy}
 use Rattle.neighbours.specs.Closest.{candidates, closestOf}
 use Rattle.neighbours.proofs.ListLaws.{keys-length}
@@ -44,7 +44,7 @@ use Rattle.plan_send.specs.Send.{recordSent, floodRoom}
 use Rattle.plan_send.specs.declared.SendPlan.{SendPlan}
 use Rattle.plan_send.specs.declared.SendPlan.the-variants as S
 use Rattle.gauge_commit.specs.Sending.{lengths, sending, OnlyFirst}
-use Rattle.gauge_commit.specs.Replies.{acks, asks}
+use Rattle.gauge_commit.specs.Replies.{ackWritten, inquireWritten}
 use Rattle.gauge_commit.proofs.LengthLaws.{inquire-length, cpa-length, closest-length, flood-length}
 use Rattle.gauge_commit.proofs.SentLaws.{joined-one, asked, acks-room, record-long}
 use Rattle.neighbours.proofs.ClosestLaws.{closest-formed}
@@ -91,31 +91,31 @@ sent-first ds out few room =
 
 -- the ACK and the INQUIRE are two at most, and as long as the plan has room for
 module _ (major minor id acked : ℕ) (n : Bool) where
-  pub acks-few : (silent : Bool) → length (acks major minor id silent acked n) ≤ 1
+  pub acks-few : (silent : Bool) → length (ackWritten major minor id silent acked n) ≤ 1
   acks-few true = omega arith
   acks-few false = omega arith
 
   module _ (nonce r : List ℕ) (long : length r ≡ 100) (fresh : length nonce ≡ 16) where
-    asks-few : (opens : Bool) → length (asks major minor id opens nonce r) ≤ 1
+    asks-few : (opens : Bool) → length (inquireWritten major minor id opens nonce r) ≤ 1
     asks-few true = omega arith
     asks-few false = omega arith
 
-    asks-room : (opens : Bool) → length (joined (asks major minor id opens nonce r)) ≡ inquireRoom opens
+    asks-room : (opens : Bool) → length (joined (inquireWritten major minor id opens nonce r)) ≡ inquireRoom opens
     unfolding joined
     asks-room true =
         ap length (joined-one (asked major minor id nonce r))
         ∙ inquire-length major minor (idAfter id) (part 0 32 r) nonce (length-part 0 32 r (omega arith)) fresh
     asks-room false = refl
 
-    pub both-few : (silent opens : Bool) → length (acks major minor id silent acked n ++ asks major minor id opens nonce r) ≤ 2
+    pub both-few : (silent opens : Bool) → length (ackWritten major minor id silent acked n ++ inquireWritten major minor id opens nonce r) ≤ 2
     both-few silent opens =
-        omega (arith, length-append (acks major minor id silent acked n) (asks major minor id opens nonce r), acks-few silent, asks-few opens)
+        omega (arith, length-append (ackWritten major minor id silent acked n) (inquireWritten major minor id opens nonce r), acks-few silent, asks-few opens)
 
-    pub both-room : (silent opens : Bool) {room : ℕ} → length (joined (acks major minor id silent acked n)) + inquireRoom opens ≤ room
-        → length (joined (acks major minor id silent acked n ++ asks major minor id opens nonce r)) ≤ room
+    pub both-room : (silent opens : Bool) {room : ℕ} → length (joined (ackWritten major minor id silent acked n)) + inquireRoom opens ≤ room
+        → length (joined (ackWritten major minor id silent acked n ++ inquireWritten major minor id opens nonce r)) ≤ room
     both-room silent opens h =
-        let xs = acks major minor id silent acked n in
-        let ys = asks major minor id opens nonce r in
+        let xs = ackWritten major minor id silent acked n in
+        let ys = inquireWritten major minor id opens nonce r in
         omega (arith, ap length (joined-append xs ys), length-append (joined xs) (joined ys), asks-room opens)
 
 one-room : (d : List ℕ) {n room : ℕ} → length d ≡ n → n ≤ room → length (joined (d ∷ [])) ≤ room
@@ -150,13 +150,13 @@ unfolding carried
 plan-first m l (Refuse n) k = none-first (l .output)
 plan-first m l (Flood u s n a opens start len) k =
     let r = recordOf (part start len (l .datagram)) in
-    let ds = acks (l .major) (l .minor) (l .id) s a n ++ asks (l .major) (l .minor) (l .id) opens (l .nonce) r in
+    let ds = ackWritten (l .major) (l .minor) (l .id) s a n ++ inquireWritten (l .major) (l .minor) (l .id) opens (l .nonce) r in
     let long = record-long (part start len (l .datagram)) (k .entry) in
     sent-first ds (l .output) (both-few (l .major) (l .minor) (l .id) a n (l .nonce) r long (k .hands .nonced) s opens)
     (both-room (l .major) (l .minor) (l .id) a n (l .nonce) r long (k .hands .nonced) s opens
     (omega (arith, acks-room (l .major) (l .minor) (l .id) a n s, k .plans .fits-in)))
 plan-first m l (Revoke h u s n a) k =
-    sent-first (acks (l .major) (l .minor) (l .id) s a n) (l .output) (omega (arith, acks-few (l .major) (l .minor) (l .id) a n s))
+    sent-first (ackWritten (l .major) (l .minor) (l .id) s a n) (l .output) (omega (arith, acks-few (l .major) (l .minor) (l .id) a n s))
     (omega (arith, acks-room (l .major) (l .minor) (l .id) a n s, k .plans .fits-in))
 plan-first m l (Learn h u at) k = none-first (l .output)
 plan-first m l (Free h u at n) k = none-first (l .output)
@@ -186,7 +186,7 @@ send-first m l (S.Flood u ours at) k =
 tick-first : (own waiting output : List ℕ) → OnlyFirst (4 * W.tickCall own waiting output .count) output (W.tickCall own waiting output .output)
 unfolding W.tickCall W.tickDone W.tickRefusals
 tick-first own waiting output =
-    or-known (λ (t : W.Ticked). OnlyFirst (4 * t .count) output (t .output)) (λ (n : ℕ). W.handed n 0 waiting output)
+    or-known (λ (t : W.Ticked). OnlyFirst (4 * t .count) output (t .output)) (λ (n : ℕ). W.tickHanded n 0 waiting output)
     (W.tickRefusals own waiting output) (W.tickDone waiting output)
     (λ n. none-first output)
     (λ f.
@@ -204,8 +204,8 @@ list-first own cache output =
     let keys = keysOf (heldBy own cache) in
     let counts = countsOf k (heldBy own cache) in
     or-known (λ (w : Written). OnlyFirst (32 * (w .answer .below + w .answer .above)) output (w .output))
-    (λ (n : ℕ). written (record { number = n; below = 0; above = 0 }) output) (listWrong own cache output)
-    (written (record { number = 0; below = counts .below; above = counts .above }) (afterList k (heldBy own cache) output))
+    (λ (n : ℕ). listWritten (record { number = n; below = 0; above = 0 }) output) (listWrong own cache output)
+    (listWritten (record { number = 0; below = counts .below; above = counts .above }) (afterList k (heldBy own cache) output))
     (λ n. none-first output)
     (λ f.
     let room = ltb-false (length output) 320 (f .1 .1 .0) in

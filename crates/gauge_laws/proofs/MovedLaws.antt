@@ -20,7 +20,7 @@ use Rattle.table.specs.Rows.{rows, bytesOf, anyOf}
 use Rattle.table.proofs.RowLaws.{rows-length}
 use Rattle.cache.specs.Form.{heldIn, heldOf}
 use Rattle.waiting.specs.Place.{idOf, kindOf, inquiryPlace, floodPlace}
-use Rattle.waiting.specs.Form.{Form, isInquiry, usedOf, placesOf}
+use Rattle.waiting.specs.Form.{PlacesForm, isInquiry, usedOf, placesOf}
 use Rattle.table.specs.Seek.{seek}
 use Rattle.waiting.specs.Seek.{hasId}
 use Rattle.waiting.specs.Open.{opened, freed}
@@ -67,15 +67,15 @@ Opens (lists l) p = ⊥
 
 -- from the table t to t′, both in form
 pub record Left (New : List ℕ → Type 0) (own : ℕ) (t t′ : List ℕ) : Type 0 where
-  pub entered : Form own t (placesOf t)
+  pub entered : PlacesForm own t (placesOf t)
   pub places : List (List ℕ)
-  pub form : Form own t′ places
+  pub form : PlacesForm own t′ places
   pub moved : Moved New (placesOf t) places
 
 left-moved : (New : List ℕ → Type 0) (own : ℕ) (t t′ : List ℕ) → Left New own t t′ → Moved New (placesOf t) (placesOf t′)
 left-moved New own t t′ left = subst (Moved New (placesOf t)) (form-unique own t′ (left .places) (left .form)) (left .moved)
 
-module _ (New : List ℕ → Type 0) (own : ℕ) (t : List ℕ) (f : Form own t (placesOf t)) where
+module _ (New : List ℕ → Type 0) (own : ℕ) (t : List ℕ) (f : PlacesForm own t (placesOf t)) where
   left-same : Left New own t t
   left-same = record { entered = f; places = placesOf t; form = f; moved = stays refl }
 
@@ -88,7 +88,7 @@ module _ (New : List ℕ → Type 0) (own : ℕ) (t : List ℕ) (f : Form own t 
 
 -- the places that the plan counts are those of the table
 module _ (own : List ℕ) (m : Memory) {h u : ℕ} (ready : Ready own m h u) where
-  pub ready-form : Form (keyOf own) (m .waiting) (placesOf (m .waiting))
+  pub ready-form : PlacesForm (keyOf own) (m .waiting) (placesOf (m .waiting))
   ready-form = form-of (keyOf own) (m .waiting) (ready .tabled)
 
   pub ready-places : placesOf (m .waiting) ≡ rows 140 u (m .waiting)
@@ -109,7 +109,7 @@ module _ (m : Memory) (l : Receive) (u : ℕ) (s n : Bool) (a : ℕ) (start len 
       let r = recordOf (part start len (l .datagram)) in
       let p = inquiryPlace (idAfter (l .id)) r in
       let is = ready-places (l .own) m (k .ready) in
-      let f : Form own t (rows 140 u t) = subst (Form own t) is (ready-form (l .own) m (k .ready)) in
+      let f : PlacesForm own t (rows 140 u t) = subst (PlacesForm own t) is (ready-form (l .own) m (k .ready)) in
       let formed = record-form (part start len (l .datagram)) (k .entry) in
       let long = form-length r formed in
       let few = k .ready .few in
@@ -194,11 +194,11 @@ module _ (m : Memory) (l : Send) where
     send-opens = ap (λ (h : Handed). h .memory .waiting) (send-by m l send-planned)
 
     module _ (small : l .id < 2 ^ 32) where
-      send-form : Form (keyOf (l .own)) (sendCall m l .memory .waiting) (opened (floodPlace (l .id) (l .neighbour)) (placesOf (m .waiting)))
+      send-form : PlacesForm (keyOf (l .own)) (sendCall m l .memory .waiting) (opened (floodPlace (l .id) (l .neighbour)) (placesOf (m .waiting)))
       send-form =
           let ps = placesOf (m .waiting) in
           let free = send-told .free in
-          subst (λ (t : List ℕ). Form (keyOf (l .own)) t (opened (floodPlace (l .id) (l .neighbour)) ps)) (sym send-opens)
+          subst (λ (t : List ℕ). PlacesForm (keyOf (l .own)) t (opened (floodPlace (l .id) (l .neighbour)) ps)) (sym send-opens)
           (open-flood (keyOf (l .own)) (m .waiting) ps (ready-form (l .own) m (send-told .ready)) (l .id) (l .neighbour)
           (omega (arith, rows-length 140 (usedOf (m .waiting)) (m .waiting))) small (send-told .addressed) send-new)
 

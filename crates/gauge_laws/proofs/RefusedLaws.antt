@@ -7,7 +7,7 @@ use Rattle.refusal.specs.Table.{Refusal, orRefuse}
 use Rattle.refusal.proofs.CallLaws.{or-refuses, number-is}
 use Rattle.record.specs.Record.{keyOf}
 use Rattle.neighbours.specs.Listing.{countsOf, afterList}
-use Rattle.neighbours.specs.Calls.{Written, written, listWrong, listCall}
+use Rattle.neighbours.specs.Calls.{Written, listWritten, listWrong, listCall}
 use Rattle.cache.specs.Calls.{heldBy}
 use Rattle.waiting_form.specs.Call as W
 use Rattle.gauge_plan.specs.declared.Plan.{Plan}
@@ -62,7 +62,7 @@ tick-refused : (m : Memory) (l : Tick) → 0 < gaugeTick m l .answer .number
     → gaugeTick m l ≡ handed (answer (gaugeTick m l .answer .number) 0 0) m (l .output)
 unfolding gaugeTick W.tickCall W.tickDone
 tick-refused m l h =
-    ap (tickAnswered m) (by-table (λ (t : W.Ticked). t .number) (λ (n : ℕ). W.handed n 0 (m .waiting) (l .output)) (λ n. refl)
+    ap (tickAnswered m) (by-table (λ (t : W.Ticked). t .number) (λ (n : ℕ). W.tickHanded n 0 (m .waiting) (l .output)) (λ n. refl)
     (W.tickRefusals (l .own) (m .waiting) (l .output)) (W.tickDone (m .waiting) (l .output)) refl h)
 
 list-refused : (m : Memory) (l : Listing) → 0 < gaugeList m l .answer .number
@@ -72,9 +72,9 @@ list-refused m l h =
     let own = l .own in
     let cache = m .cache in
     let counts = countsOf (keyOf own) (heldBy own cache) in
-    ap (listAnswered m) (by-table (λ (w : Written). w .answer .number) (λ (n : ℕ). written (record { number = n; below = 0; above = 0 }) (l .output))
+    ap (listAnswered m) (by-table (λ (w : Written). w .answer .number) (λ (n : ℕ). listWritten (record { number = n; below = 0; above = 0 }) (l .output))
     (λ n. refl) (listWrong own cache (l .output))
-    (written (record { number = 0; below = counts .below; above = counts .above }) (afterList (keyOf own) (heldBy own cache) (l .output))) refl h)
+    (listWritten (record { number = 0; below = counts .below; above = counts .above }) (afterList (keyOf own) (heldBy own cache) (l .output))) refl h)
 
 -- "With any refusal the counts returned are 0 .. and every writable byte stays as lent."
 pub refused-keeps : (m : Memory) (c : Call) → 0 < ours m c .answer .number

@@ -19,7 +19,7 @@ use Rattle.refusal.proofs.CallLaws.{number-is, or-refuses, all-pass}
 use Rattle.kept.specs.Keys.{Every, _∈_}
 use Rattle.cache.specs.Form.{heldIn, heldOf}
 use Rattle.neighbours.specs.Listing.{countsOf, afterList}
-use Rattle.neighbours.specs.Calls.{Written, written, listWrong, listCall}
+use Rattle.neighbours.specs.Calls.{Written, listWritten, listWrong, listCall}
 use Rattle.cache.specs.Calls.{heldBy}
 use Rattle.waiting.specs.Form.{usedOf}
 use Rattle.waiting_form.specs.Call as W
@@ -45,7 +45,7 @@ use Rattle.gauge.specs.Receive.{carried, receiveCall}
 use Rattle.gauge.specs.Send.{sendPlan, sendCarried, sendCall}
 use Rattle.gauge.specs.Counts.{gaugeTick, gaugeList}
 use Rattle.gauge.specs.Ours.{ours}
-use Rattle.gauge_laws.specs.Table.{floodRows, messageRows, receiveTable, tableOf}
+use Rattle.gauge_laws.specs.Table.{floodTable, messageRows, receiveTable, tableOf}
 
 -- ---- the order of a table's rows: computed, as their numbers are written out
 
@@ -171,7 +171,7 @@ abbrev held : Memory → Receive → ℕ
 held m l = heldIn (keyOf (l .own)) (m .cache)
 
 entry-number : (m : Memory) (l : Receive) (head : Head) (s : Bool) (validate : ℕ) (entry : Part)
-    → numberOf (byEntry m l (held m l) (used m) head s validate entry) ≡ firstOf (floodRows m l s validate entry)
+    → numberOf (byEntry m l (held m l) (used m) head s validate entry) ≡ firstOf (floodTable m l s validate entry)
 unfolding floodPlan revokePlan heldOf
 entry-number m l head s validate (Here start len) = by-table _ _ refl
 entry-number m l head s validate Absent = by-table _ _ refl
@@ -246,7 +246,7 @@ module _ (m : Memory) (l : Receive) where
 
   -- ---- the order of its rows
 
-  entry-rises : (s : Bool) (validate : ℕ) (entry : Part) → rises 6 (floodRows m l s validate entry) ≡ true
+  entry-rises : (s : Bool) (validate : ℕ) (entry : Part) → rises 6 (floodTable m l s validate entry) ≡ true
   unfolding placeIn
   entry-rises s validate (Here start len) = refl
   entry-rises s validate Absent = refl
@@ -271,14 +271,14 @@ unfolding gaugeTick W.tickCall W.tickDone gaugeList listCall
 call-number m (receives l) = receive-number m l
 call-number m (sends l) = send-number m l
 call-number m (ticks l) =
-    number-is (λ (t : W.Ticked). t .number) (λ (n : ℕ). W.handed n 0 (m .waiting) (l .output)) (λ n. refl) (W.tickDone (m .waiting) (l .output)) refl
+    number-is (λ (t : W.Ticked). t .number) (λ (n : ℕ). W.tickHanded n 0 (m .waiting) (l .output)) (λ n. refl) (W.tickDone (m .waiting) (l .output)) refl
     (W.tickRefusals (l .own) (m .waiting) (l .output))
 call-number m (lists l) =
     let own = l .own in
     let cache = m .cache in
     let counts = countsOf (keyOf own) (heldBy own cache) in
-    number-is (λ (w : Written). w .answer .number) (λ (n : ℕ). written (record { number = n; below = 0; above = 0 }) (l .output)) (λ n. refl)
-    (written (record { number = 0; below = counts .below; above = counts .above }) (afterList (keyOf own) (heldBy own cache) (l .output))) refl
+    number-is (λ (w : Written). w .answer .number) (λ (n : ℕ). listWritten (record { number = n; below = 0; above = 0 }) (l .output)) (λ n. refl)
+    (listWritten (record { number = 0; below = counts .below; above = counts .above }) (afterList (keyOf own) (heldBy own cache) (l .output))) refl
     (listWrong own cache (l .output))
 
 call-rises : (m : Memory) (c : Call) → rises 0 (tableOf m c) ≡ true

@@ -8,7 +8,7 @@ use Rattle.octet.proofs.TestLaws.{both-true}
 use Rattle.record.specs.Record.{keyOf, recordForm}
 use Rattle.refusal.proofs.CallLaws.{all-pass}
 use Rattle.table.specs.Rows.{bytesOf}
-use Rattle.waiting.specs.Form.{Form, waitingForm, placesOf}
+use Rattle.waiting.specs.Form.{PlacesForm, waitingForm, placesOf}
 use Rattle.waiting.specs.Ticking.{ticked}
 use Rattle.waiting_form.specs.Call as W
 use Rattle.waiting.proofs.FormLaws.{form-of, form-unique}
@@ -21,7 +21,7 @@ use Rattle.gauge_laws.proofs.TableLaws.{none-applies}
 -- the table was in form, and its places are those ticked
 pub record Round (t t′ : List ℕ) : Type 0 where
   pub own : ℕ
-  pub form : Form own t (placesOf t)
+  pub form : PlacesForm own t (placesOf t)
   pub places : placesOf t′ ≡ ticked (placesOf t)
 
 tick-done : (m : Memory) (l : Tick) → gaugeTick m l .answer .number ≡ 0
@@ -33,7 +33,7 @@ tick-done m l z =
     let o = l .output in
     let none = none-applies m (ticks l) z in (
       both-true (recordForm own) (waitingForm (keyOf own) t) (not-false _ (none .0)) .1,
-      ap (λ (r : W.Ticked). r .table) (all-pass (λ (k : ℕ). W.handed k 0 t o) (W.tickRefusals own t o) (W.tickDone t o) none),
+      ap (λ (r : W.Ticked). r .table) (all-pass (λ (k : ℕ). W.tickHanded k 0 t o) (W.tickRefusals own t o) (W.tickDone t o) none),
     )
 
 pub tick-round : (m : Memory) (l : Tick) → gaugeTick m l .answer .number ≡ 0 → Round (m .waiting) (gaugeTick m l .memory .waiting)

@@ -28,12 +28,12 @@ use Rattle.plan_answer.specs.Answering.{authorityRefusals, ackRefusals, inquire
 use Rattle.plan_send.specs.Send.{sendRefusals}
 
 -- a FLOOD with a route entry, or with a revocation
-abbrev pub floodRows : Memory → Receive → Bool → ℕ → Part → List Refusal
-floodRows m l silent validate (Here start len) =
+abbrev pub floodTable : Memory → Receive → Bool → ℕ → Part → List Refusal
+floodTable m l silent validate (Here start len) =
     let r = recordOf (part start len (l .datagram)) in
     floodRefusals (ownKeys (l .own)) (placesOf (m .waiting)) (usedOf (m .waiting)) (l .id) (length (l .output)) silent
     (notOurs (ownKeys (l .own)) validate (l .datagram)) (mustAsk (heldOf (ownKeys (l .own)) (m .cache)) (placesOf (m .waiting)) r) r
-floodRows m l silent validate Absent =
+floodTable m l silent validate Absent =
     revokeRefusals (ownKeys (l .own)) (l .verdict) (keyAt 0 (l .key)) (length (l .output)) silent (notOurs (ownKeys (l .own)) validate (l .datagram))
 
 -- the rows of a message; SOLICIT, ADVERTISE and REQUEST are refused with 7
@@ -42,7 +42,7 @@ messageRows m l (M.Refused n) = []
 messageRows m l (M.Solicit head entry nonce) = when 7 true ∷ []
 messageRows m l (M.Advertise head acked keys nonce) = when 7 true ∷ []
 messageRows m l (M.Request head flags split nonce keys credential signature key) = when 7 true ∷ []
-messageRows m l (M.Flood head d validate token revoke entry reached) = floodRows m l d validate entry
+messageRows m l (M.Flood head d validate token revoke entry reached) = floodTable m l d validate entry
 messageRows m l (M.Inquire head a x c validate nonce credential signature key) =
     inquireRefusals (ownKeys (l .own)) (length (l .cpa)) (length (l .output)) (l .datagram) validate
 messageRows m l (M.Authority head acked fields) =

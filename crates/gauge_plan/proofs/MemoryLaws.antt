@@ -33,16 +33,16 @@ module _ (own : List ℕ) (m : Memory) where
   no-record e = rw e refl
 
   module _ (well : recordForm own ≡ true) where
-    pub no-cache : cached.formOf (keyOf own) (m .cache) ≡ held-is.Bad → memoryOf own m ≡ Unfit
+    pub no-cache : cached.cacheFormed (keyOf own) (m .cache) ≡ held-is.Bad → memoryOf own m ≡ Unfit
     unfolding memoryOf tablesFit
     no-cache e = rw (well, shape.bad-is (keyOf own) (m .cache) e) refl
 
-    module _ {h : ℕ} (held : cached.formOf (keyOf own) (m .cache) ≡ held-is.Good h) where
-      pub no-table : waited.formOf (keyOf own) (m .waiting) ≡ used-is.Bad → memoryOf own m ≡ Unfit
+    module _ {h : ℕ} (held : cached.cacheFormed (keyOf own) (m .cache) ≡ held-is.Good h) where
+      pub no-table : waited.waitingFormed (keyOf own) (m .waiting) ≡ used-is.Bad → memoryOf own m ≡ Unfit
       unfolding memoryOf tablesFit
       no-table e = rw (well, shape.good-is (keyOf own) (m .cache) held .0, tested.bad-form (keyOf own) (m .waiting) e) refl
 
-      pub all-fit : {u : ℕ} → waited.formOf (keyOf own) (m .waiting) ≡ used-is.Good u → memoryOf own m ≡ Fit h u
+      pub all-fit : {u : ℕ} → waited.waitingFormed (keyOf own) (m .waiting) ≡ used-is.Good u → memoryOf own m ≡ Fit h u
       unfolding memoryOf tablesFit
       all-fit e =
           let a = shape.good-is (keyOf own) (m .cache) held in

@@ -6,10 +6,10 @@ use mathlib.Core.List.{List, [], _∷_, _++_}
 use Prim.Native.Nat.{ℕ}
 use mathlib.Core.Logic.{_⊎_, inl, inr, ⊎-elim}
 use Rattle.key.specs.Around.{Side}
-use Rattle.kept.specs.History.{Event, learned, removed, happen, after, kept, Learns}
+use Rattle.kept.specs.History.{Event, learned, removed, happen, after, keptBy, Learns}
 use Rattle.kept.specs.Rules.{Order, DropRule}
 use Rattle.kept.specs.Calls.{run, eventsOf}
-use Rattle.kept.specs.Demand3.{Demand3}
+use Rattle.kept.specs.Demand3.{KeysDemand3}
 use Rattle.kept.proofs.Demand3Laws.{demand3}
 
 pub after-append : (drops : List ℕ → ℕ) (C : ℕ) (keys : List ℕ) (es ds : List Event) → after drops C keys (es ++ ds) ≡ after drops C (after drops C keys es) ds
@@ -36,7 +36,7 @@ module _ {State Call : Type 0} (step : State → Call → State) (events : State
 
   -- from an empty cache
   pub keys-kept : (state : State) (calls : List Call) → InForm state → keysOf state ≡ []
-      → keysOf (run step state calls) ≡ kept drops C (eventsOf step events state calls)
+      → keysOf (run step state calls) ≡ keptBy drops C (eventsOf step events state calls)
   keys-kept state calls h e = keys-after state calls h ∙ ap (λ (keys : List ℕ). after drops C keys (eventsOf step events state calls)) e
 
 pub learns-or : (k : ℕ) (es ds : List Event) → Learns k (es ++ ds) → Learns k es ⊎ Learns k ds
@@ -59,7 +59,7 @@ module _ {State Call : Type 0} (step : State → Call → State) (events : State
       (learns-or k (events state call) (eventsOf step events (step state call) calls) m)
 
   pub calls-demand3 : (state : State) (calls : List Call) → InForm state → keysOf state ≡ []
-      → (keysOf (run step state calls) ≡ kept drops C (eventsOf step events state calls)) × Demand3 ok side near drops C (eventsOf step events state calls)
+      → (keysOf (run step state calls) ≡ keptBy drops C (eventsOf step events state calls)) × KeysDemand3 ok side near drops C (eventsOf step events state calls)
   calls-demand3 state calls h e = (
     keys-kept step events keysOf drops C InForm stays does state calls h e,
     demand3 ok side near drops C order rule (eventsOf step events state calls) (all-sound state calls h),

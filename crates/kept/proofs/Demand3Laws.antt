@@ -5,8 +5,8 @@ use mathlib.Core.List.{List, []}
 use Prim.Native.Nat.{ℕ, zero-le}
 use Rattle.key.specs.Around.{Side, below, above, isAbove, sideOf, nearness}
 use Rattle.key.proofs.AroundLaws.{side-near}
-use Rattle.kept.specs.Neighbours.{neighbours}
-use Rattle.kept.specs.History.{Event, kept, learnedAll, Learns, NoRemoval}
+use Rattle.kept.specs.Neighbours.{neighboursBy}
+use Rattle.kept.specs.History.{Event, keptBy, learnedAll, Learns, NoRemoval}
 use Rattle.kept.specs.Rules.{Order, DropRule}
 use Rattle.kept.specs.Plain as Plain
 use Rattle.kept.specs.Plain.{NotOwn}
@@ -18,20 +18,20 @@ use Rattle.kept.proofs.FarthestLaws.{farthest-rule}
 -- the neighbours among the kept keys are those among all the keys learned
 kept-same : (ok : ℕ → Type 0) (side : ℕ → Side) (near : ℕ → ℕ) → Order ok side near → (drops : List ℕ → ℕ) (C : ℕ) → DropRule ok side near drops C
     → (events : List Event) → ((k : ℕ) → Learns k events → ok k) → NoRemoval drops C [] events
-    → (s : Side) → neighbours side near s (kept drops C events) ≡ neighbours side near s (learnedAll events)
+    → (s : Side) → neighboursBy side near s (keptBy drops C events) ≡ neighboursBy side near s (learnedAll events)
 kept-same ok side near order drops C rule events o calm s =
     after-same ok side near order drops C rule events [] [] (nothing-fine ok) tt (λ t. refl) o calm s
 
 pub demand3 : Demand3-holds
 demand3 ok side near drops C order rule events o =
-    let fine : Fine ok (kept drops C events) = after-fine ok side near order drops C rule events [] (nothing-fine ok) o in
+    let fine : Fine ok (keptBy drops C events) = after-fine ok side near order drops C rule events [] (nothing-fine ok) o in
     record {
       increasing = fine .rises;
       allowed = fine .oks;
       fit = after-length ok side near order drops C rule events [] (nothing-fine ok) zero-le o;
-      right = neighbours-right ok side near order (kept drops C events) fine;
-      only = λ s l h. neighbours-only ok side near order (kept drops C events) (fine .oks) s l (neighbours side near s (kept drops C events)) h
-          (neighbours-right ok side near order (kept drops C events) fine s);
+      right = neighbours-right ok side near order (keptBy drops C events) fine;
+      only = λ s l h. neighbours-only ok side near order (keptBy drops C events) (fine .oks) s l (neighboursBy side near s (keptBy drops C events)) h
+          (neighbours-right ok side near order (keptBy drops C events) fine s);
       all-of-them = λ k m. learned-has k events m;
       no-others = λ k m. learned-from k events m;
       among-all = λ calm s. rw (kept-same ok side near order drops C rule events o calm s)
@@ -41,7 +41,7 @@ demand3 ok side near drops C order rule events o =
 pub same-keys-same-neighbours : Same-keys-same-neighbours
 same-keys-same-neighbours ok side near order drops drops′ C C′ rule rule′ es ds o same calm calm′ s =
     kept-same ok side near order drops C rule es o calm s
-    ∙ (ap (λ (l : List ℕ). neighbours side near s l) (learned-same es ds (same .to) (same .from))
+    ∙ (ap (λ (l : List ℕ). neighboursBy side near s l) (learned-same es ds (same .to) (same .from))
     ∙ sym (kept-same ok side near order drops′ C′ rule′ ds (λ k m. o k (same .from k m)) calm′ s))
 
 -- the order around our own key ----------------------------------------------------------------------------------------------------

@@ -10,7 +10,7 @@ use lib.ListN.{length}
 use borrow.Author.Tests.{leb-true, leb-false}
 use Rattle.kept.specs.Keys.{_∈_, among, lastOr}
 use Rattle.key.specs.Around.{Side, below, above}
-use Rattle.kept.specs.Neighbours.{onSide, nearestFirst, neighbours, farthestOut}
+use Rattle.kept.specs.Neighbours.{onSide, nearestFirst, neighboursBy, farthestOut}
 use Rattle.kept.specs.Rules.{Order, DropRule}
 use Rattle.kept.proofs.ListLaws.{Test, pass, fail, test, mem-take, last-in, last-beyond}
 use Rattle.kept.proofs.RankedLaws.{mem-ranked, ranked-rises, length-ranked}
@@ -31,7 +31,7 @@ module _ (ok : ℕ → Type 0) (side : ℕ → Side) (near : ℕ → ℕ) (order
   -- what the rule needs of the key it names: one of six or more keys of a side, and the farthest of them
   record Out (keys : List ℕ) (k : ℕ) : Type 0 where
     there : k ∈ keys
-    out : (s : Side) → ¬ (k ∈ neighbours side near s keys)
+    out : (s : Side) → ¬ (k ∈ neighboursBy side near s keys)
 
   last-out : (s : Side) (keys : List ℕ) → Fine ok keys → 5 < length (onSide side s keys) → Out keys (lastOr 0 (nearestFirst side near s keys))
   last-out s keys h n = record { there = at .0; out = out }
@@ -48,7 +48,7 @@ module _ (ok : ℕ → Type 0) (side : ℕ → Side) (near : ℕ → ℕ) (order
       at : (k ∈ keys) × (on side s k ≡ true)
       at = on-side s (last-in near 0 (nearestFirst side near s keys) (omega (arith, long)))
 
-      out : (t : Side) → ¬ (k ∈ neighbours side near t keys)
+      out : (t : Side) → ¬ (k ∈ neighboursBy side near t keys)
       out t m =
           let e : t ≡ s = sym (is-side t (side k) (on-side t (mem-take 5 k (nearestFirst side near t keys) m) .1)) ∙ is-side s (side k) (at .1) in
           last-beyond near 5 0 0 (nearestFirst side near s keys) (ranked-rises ok (on side s) near (apart ok side near order s) keys) (omega (arith, long))

@@ -11,8 +11,8 @@ use lib.ListN.{length, length-take}
 use borrow.Author.Tests.{ltb-true, ltb-false, lt-ltb, le-ltb}
 use Rattle.kept.specs.Keys.{_∈_, Every, Rising, plain, put, without}
 use Rattle.key.specs.Around.{Side, below, above}
-use Rattle.kept.specs.Neighbours.{is, nearestFirst, neighbours, IsNeighbours}
-use Rattle.kept.specs.History.{Event, learned, removed, trimmed, learn, happen, after, gathered, learnedAll, Learns, NoRemoval}
+use Rattle.kept.specs.Neighbours.{is, nearestFirst, neighboursBy, IsNeighbours}
+use Rattle.kept.specs.History.{Event, learned, removed, trimmed, learnWith, happen, after, gathered, learnedAll, Learns, NoRemoval}
 use Rattle.kept.specs.Rules.{Order, DropRule}
 use Rattle.kept.proofs.ListLaws.{Test, pass, fail, test, every-at, mem-take, mem-put, put-keeps, put-there, every-of, every-put, length-put, rising-put, rising-take, beyond-take, rising-ext, only-list, rising-at}
 use Rattle.kept.proofs.WithoutLaws.{every-without, rising-without, length-without, shorter-without}
@@ -46,7 +46,7 @@ module _ (ok : ℕ → Type 0) (side : ℕ → Side) (near : ℕ → ℕ) (order
   apart s a b o q u v e = order .apart a b o q (is-side s (side a) u ∙ sym (is-side s (side b) v)) e
 
   -- the neighbour list is as it must be
-  pub neighbours-right : (keys : List ℕ) → Fine ok keys → (s : Side) → IsNeighbours side near s keys (neighbours side near s keys)
+  pub neighbours-right : (keys : List ℕ) → Fine ok keys → (s : Side) → IsNeighbours side near s keys (neighboursBy side near s keys)
   neighbours-right keys h s =
       record {
         ordered = rising-take near 5 0 (nearestFirst side near s keys) (ranked-rises ok (on side s) near (apart s) keys);
@@ -88,11 +88,11 @@ module _ (ok : ℕ → Type 0) (side : ℕ → Side) (near : ℕ → ℕ) (order
         go (fail e) = rw e (ltb-false C (length keys) e)
 
     -- a drop changes no neighbour list
-    trimmed-same : (keys : List ℕ) → Fine ok keys → (s : Side) → neighbours side near s (trimmed drops C keys) ≡ neighbours side near s keys
+    trimmed-same : (keys : List ℕ) → Fine ok keys → (s : Side) → neighboursBy side near s (trimmed drops C keys) ≡ neighboursBy side near s keys
     unfolding trimmed
     trimmed-same keys h s = go (test (ltb C (length keys)))
       where
-        go : Test (ltb C (length keys)) → neighbours side near s (trimmed drops C keys) ≡ neighbours side near s keys
+        go : Test (ltb C (length keys)) → neighboursBy side near s (trimmed drops C keys) ≡ neighboursBy side near s keys
         go (pass e) =
             let n : C < length keys = ltb-true C (length keys) e in
             rw e
@@ -103,23 +103,23 @@ module _ (ok : ℕ → Type 0) (side : ℕ → Side) (near : ℕ → ℕ) (order
     put-fine : (k : ℕ) (keys : List ℕ) → ok k → Fine ok keys → Fine ok (put plain k keys)
     put-fine k keys o h = record { rises = rising-put plain 0 k keys zero-le (h .rises); oks = every-put plain ok k keys o (h .oks) }
 
-    learn-fine : (k : ℕ) (keys : List ℕ) → ok k → Fine ok keys → Fine ok (learn drops C keys k)
-    unfolding learn
+    learn-fine : (k : ℕ) (keys : List ℕ) → ok k → Fine ok keys → Fine ok (learnWith drops C keys k)
+    unfolding learnWith
     learn-fine k keys o h = trimmed-fine (put plain k keys) (put-fine k keys o h)
 
     -- after any events: strictly increasing, keys that may be kept, at most C
     pub after-fine : (es : List Event) (keys : List ℕ) → Fine ok keys → ((k : ℕ) → Learns k es → ok k) → Fine ok (after drops C keys es)
     unfolding after happen
     after-fine [] keys h o = h
-    after-fine (learned k ∷ es) keys h o = after-fine es (learn drops C keys k) (learn-fine k keys (o k (inl refl)) h) (λ j n. o j (inr n))
+    after-fine (learned k ∷ es) keys h o = after-fine es (learnWith drops C keys k) (learn-fine k keys (o k (inl refl)) h) (λ j n. o j (inr n))
     after-fine (removed k ∷ es) keys h o =
         after-fine es (without k keys) (record { rises = rising-without plain 0 k keys (h .rises); oks = every-without ok k keys (h .oks) }) o
 
     pub after-length : (es : List Event) (keys : List ℕ) → Fine ok keys → length keys ≤ C → ((k : ℕ) → Learns k es → ok k) → length (after drops C keys es) ≤ C
-    unfolding after happen learn
+    unfolding after happen learnWith
     after-length [] keys h n o = n
     after-length (learned k ∷ es) keys h n o =
-        after-length es (learn drops C keys k) (learn-fine k keys (o k (inl refl)) h)
+        after-length es (learnWith drops C keys k) (learn-fine k keys (o k (inl refl)) h)
         (trimmed-length (put plain k keys) (put-fine k keys (o k (inl refl)) h) (omega (arith, length-put plain k keys)))
         (λ j m. o j (inr m))
     after-length (removed k ∷ es) keys h n o =
@@ -128,13 +128,13 @@ module _ (ok : ℕ → Type 0) (side : ℕ → Side) (near : ℕ → ℕ) (order
 
     -- until the first removal: the neighbours among the kept keys are those among all the keys learned
     pub after-same : (es : List Event) (keys all : List ℕ) → Fine ok keys → Every ok all
-        → ((s : Side) → neighbours side near s keys ≡ neighbours side near s all) → ((k : ℕ) → Learns k es → ok k) → NoRemoval drops C keys es
-        → (s : Side) → neighbours side near s (after drops C keys es) ≡ neighbours side near s (gathered all es)
-    unfolding after happen gathered learn
+        → ((s : Side) → neighboursBy side near s keys ≡ neighboursBy side near s all) → ((k : ℕ) → Learns k es → ok k) → NoRemoval drops C keys es
+        → (s : Side) → neighboursBy side near s (after drops C keys es) ≡ neighboursBy side near s (gathered all es)
+    unfolding after happen gathered learnWith
     after-same [] keys all h a e o calm s = e s
     after-same (learned k ∷ es) keys all h a e o calm s =
         let q : ok k = o k (inl refl) in
-        after-same es (learn drops C keys k) (put plain k all) (learn-fine k keys q h) (every-put plain ok k all q a)
+        after-same es (learnWith drops C keys k) (put plain k all) (learn-fine k keys q h) (every-put plain ok k all q a)
         (λ t. trimmed-same (put plain k keys) (put-fine k keys q h) t ∙ first-put ok (on side t) near (apart t) 5 k keys all q (h .oks) a (e t))
         (λ j m. o j (inr m)) calm s
     after-same (removed k ∷ es) keys all h a e o calm s =
@@ -149,16 +149,16 @@ put-member b k (j ∷ l) r (inl e) = put-same plain k j l e
 put-member b k (j ∷ l) r (inr m) = put-more plain k j l (rising-at plain (suc j) k l (r .1) m) ∙ ap (λ (t : List ℕ). j ∷ t) (put-member (suc j) k l (r .1) m)
 
 module _ (drops : List ℕ → ℕ) (C k : ℕ) (keys : List ℕ) where
-  pub learn-held : Rising plain 0 keys → length keys ≤ C → k ∈ keys → learn drops C keys k ≡ keys
-  unfolding learn trimmed
+  pub learn-held : Rising plain 0 keys → length keys ≤ C → k ∈ keys → learnWith drops C keys k ≡ keys
+  unfolding learnWith trimmed
   learn-held r h m = rw (put-member 0 k keys r m, le-ltb C (length keys) h)
 
-  pub learn-room : length (put plain k keys) ≤ C → learn drops C keys k ≡ put plain k keys
-  unfolding learn trimmed
+  pub learn-room : length (put plain k keys) ≤ C → learnWith drops C keys k ≡ put plain k keys
+  unfolding learnWith trimmed
   learn-room h = rw (le-ltb C (length (put plain k keys)) h)
 
-  pub learn-full : C < length (put plain k keys) → learn drops C keys k ≡ without (drops (put plain k keys)) (put plain k keys)
-  unfolding learn trimmed
+  pub learn-full : C < length (put plain k keys) → learnWith drops C keys k ≡ without (drops (put plain k keys)) (put plain k keys)
+  unfolding learnWith trimmed
   learn-full h = rw (lt-ltb C (length (put plain k keys)) h)
 
 -- all the keys learned ----------------------------------------------------------------------------------------------------------

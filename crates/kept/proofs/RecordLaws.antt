@@ -10,7 +10,7 @@ use lib.ListN.{length, length-map}
 use native.Mathlib.Omega.{arith}
 use borrow.Author.Tests.{ltb-false, lt-ltb, le-ltb, eqb-false}
 use Rattle.kept.specs.Keys.{_∈_, Rising, plain, put, without}
-use Rattle.kept.specs.History.{learn, trimmed}
+use Rattle.kept.specs.History.{learnWith, trimmed}
 use Rattle.kept.specs.Records.{putBy, withoutBy, learnBy}
 use Rattle.kept.proofs.PutLaws.{Tri, less, same, more, tri}
 use Rattle.kept.proofs.ListLaws.{Test, pass, fail, test, rising-at}
@@ -38,8 +38,8 @@ module _ {A : Type 0} (key : A → ℕ) where
       go (pass e) ih = rw e ih
       go (fail e) ih = rw e (ap (λ (x : List ℕ). key q ∷ x) ih)
 
-  pub keys-learn : (drops : List ℕ → ℕ) (C : ℕ) (l : List A) (r : A) → map key (learnBy key drops C l r) ≡ learn drops C (map key l) (key r)
-  unfolding learn trimmed learnBy
+  pub keys-learn : (drops : List ℕ → ℕ) (C : ℕ) (l : List A) (r : A) → map key (learnBy key drops C l r) ≡ learnWith drops C (map key l) (key r)
+  unfolding learnWith trimmed learnBy
   keys-learn drops C l r = go (test (ltb C (length (putBy key r l))))
     where
       more : map key (putBy key r l) ≡ put plain (key r) (map key l)
@@ -48,7 +48,7 @@ module _ {A : Type 0} (key : A → ℕ) where
       size : length (putBy key r l) ≡ length (put plain (key r) (map key l))
       size = sym (length-map (putBy key r l) key) ∙ ap length more
 
-      go : Test (ltb C (length (putBy key r l))) → map key (learnBy key drops C l r) ≡ learn drops C (map key l) (key r)
+      go : Test (ltb C (length (putBy key r l))) → map key (learnBy key drops C l r) ≡ learnWith drops C (map key l) (key r)
       go (pass e) = rw (e, (rw size at e)) (keys-without (drops (map key (putBy key r l))) (putBy key r l) ∙ rw more)
       go (fail e) = rw (e, (rw size at e)) more
 

@@ -4,21 +4,21 @@ use mathlib.Core.Logic.{_↔_}
 use mathlib.Core.List.{List, [], _∷_, _++_}
 use Prim.Native.Nat.{ℕ}
 use Rattle.kept.specs.Keys.{_∈_, without}
-use Rattle.kept.specs.History.{Event, learned, removed, learn, happen, after, NoRemoval}
+use Rattle.kept.specs.History.{Event, learned, removed, learnWith, happen, after, NoRemoval}
 use Rattle.kept.proofs.WithoutLaws.{without-absent}
 
 module _ (drops : List ℕ → ℕ) (C k : ℕ) where
   absent-none : (keys : List ℕ) (es : List Event) → NoRemoval drops C keys es → ¬ (k ∈ after drops C keys es) → NoRemoval drops C keys (es ++ removed k ∷ [])
   unfolding after happen
   absent-none keys [] calm out = (out, tt)
-  absent-none keys (learned j ∷ es) calm out = absent-none (learn drops C keys j) es calm out
+  absent-none keys (learned j ∷ es) calm out = absent-none (learnWith drops C keys j) es calm out
   absent-none keys (removed j ∷ es) calm out =
       (calm .0, absent-none keys es (calm .1) (subst (λ (ks : List ℕ). ¬ (k ∈ after drops C ks es)) (without-absent j keys (calm .0)) out))
 
   none-absent : (keys : List ℕ) (es : List Event) → NoRemoval drops C keys (es ++ removed k ∷ []) → NoRemoval drops C keys es × (¬ (k ∈ after drops C keys es))
   unfolding after happen
   none-absent keys [] calm = (tt, calm .0)
-  none-absent keys (learned j ∷ es) calm = none-absent (learn drops C keys j) es calm
+  none-absent keys (learned j ∷ es) calm = none-absent (learnWith drops C keys j) es calm
   none-absent keys (removed j ∷ es) calm =
       let w = none-absent keys es (calm .1) in
       ((calm .0, w .0), subst (λ (ks : List ℕ). ¬ (k ∈ after drops C ks es)) (sym (without-absent j keys (calm .0))) (w .1))

@@ -26,8 +26,8 @@ abbrev pub nearestFirst : (ℕ → Side) → (ℕ → ℕ) → Side → List ℕ
 nearestFirst side near s keys = inOrder near (onSide side s keys)
 
 -- the neighbour list of side s: the first five of them
-abbrev pub neighbours : (ℕ → Side) → (ℕ → ℕ) → Side → List ℕ → List ℕ
-neighbours side near s keys = take 5 (nearestFirst side near s keys)
+abbrev pub neighboursBy : (ℕ → Side) → (ℕ → ℕ) → Side → List ℕ → List ℕ
+neighboursBy side near s keys = take 5 (nearestFirst side near s keys)
 
 -- what document 01 drops of too many keys: the farthest out on the side with more, above if equal
 unfoldable pub farthestOut : (ℕ → Side) → (ℕ → ℕ) → List ℕ → ℕ

@@ -18,7 +18,7 @@ abbrev pub countBelow : ℕ → List ℕ → ℕ
 countBelow own keys = length (N.onSide (sideOf own) below keys)
 
 abbrev pub neighbours : ℕ → Side → List ℕ → List ℕ
-neighbours own s keys = N.neighbours (sideOf own) (nearness own) s keys
+neighbours own s keys = N.neighboursBy (sideOf own) (nearness own) s keys
 
 -- the list that document 01 asks for: those below, then those above. Its two counts are the lengths of the two
 abbrev pub neighbourList : ℕ → List ℕ → List ℕ
@@ -28,7 +28,7 @@ abbrev pub drops : ℕ → List ℕ → ℕ
 drops own keys = N.farthestOut (sideOf own) (nearness own) keys
 
 abbrev pub learn : ℕ → ℕ → List ℕ → ℕ → List ℕ
-learn own C keys k = H.learn (drops own) C keys k
+learn own C keys k = H.learnWith (drops own) C keys k
 
 abbrev pub kept : ℕ → ℕ → List Event → List ℕ
-kept own C events = H.kept (drops own) C events
+kept own C events = H.keptBy (drops own) C events

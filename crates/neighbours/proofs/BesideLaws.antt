@@ -38,7 +38,7 @@ pub row-in : (used i : ℕ) (s : List ℕ) → i < used → part (100 * i) 100 s
 row-in used i s h =
     subst (λ (r : List ℕ). r ∈ rows 100 used s) (row-at 100 used s i h) (getD-in (rows 100 used s) i [] (omega (arith, rows-length 100 used s)))
 
-module _ (t : ℕ) (own s : List ℕ) (used : ℕ) (f : F.Held (keyOf own) (rows 100 used s)) (o : t < ring)
+module _ (t : ℕ) (own s : List ℕ) (used : ℕ) (f : F.HeldRecords (keyOf own) (rows 100 used s)) (o : t < ring)
     (small : Every (λ (k : ℕ). k < ring) (keysOf (rows 100 used s))) (some : 0 < used)
     (at u d : ℕ) (ea : at ≡ countUnder t (keysOf (rows 100 used s)))
     (eu : u ≡ wrapped used at) (ed : d ≡ wrapped used (at + (used - 1))) (lu : u < used) (ld : d < used) where

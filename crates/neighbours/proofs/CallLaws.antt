@@ -28,17 +28,17 @@ use Rattle.cache.specs.Form.{keysOf, cacheForm}
 use Rattle.neighbours.specs.Listing.{keyBytes, afterList}
 use Rattle.neighbours.specs.Closest.{candidates, closestOf}
 use Rattle.cache.specs.Calls.{heldBy}
-use Rattle.neighbours.specs.Calls.{Written, written, listWrong, listCall, Shown, shown, closestWrong, closestCall}
+use Rattle.neighbours.specs.Calls.{Written, listWritten, listWrong, listCall, Shown, shown, closestWrong, closestCall}
 use Rattle.cache.proofs.FormLaws.{true-form}
 use Rattle.neighbours.proofs.ListLaws.{keys-length}
 use Rattle.neighbours.proofs.ClosestLaws.{closest-among, closest-least, closest-only}
 
 -- ---- one result
 
-pub list-coincides : (own cache out : List ℕ) (a b : Listed) (s t : List ℕ) → written a s ≡ listCall own cache out → written b t ≡ listCall own cache out
+pub list-coincides : (own cache out : List ℕ) (a b : Listed) (s t : List ℕ) → listWritten a s ≡ listCall own cache out → listWritten b t ≡ listCall own cache out
     → (a ≡ b) × (s ≡ t)
 list-coincides own cache out a b s t p q =
-    let e : written a s ≡ written b t = p ∙ sym q in (ap (λ (h : Written). h .answer) e, ap (λ (h : Written). h .output) e)
+    let e : listWritten a s ≡ listWritten b t = p ∙ sym q in (ap (λ (h : Written). h .answer) e, ap (λ (h : Written). h .output) e)
 
 -- ---- the neighbour list
 
@@ -63,7 +63,7 @@ module _ (own cache out : List ℕ) where
   -- what an accepted list hands back
   list-done : Written
   list-done =
-      written
+      listWritten
       (record {
         number = 0;
         below = length (neighbours (keyOf own) below (keysOf (heldBy own cache)));
@@ -72,7 +72,7 @@ module _ (own cache out : List ℕ) where
       (afterList (keyOf own) (heldBy own cache) out)
 
   list-refused : ℕ → Written
-  list-refused n = written (record { number = n; below = 0; above = 0 }) out
+  list-refused n = listWritten (record { number = n; below = 0; above = 0 }) out
 
   pub list-does : listCall own cache out .answer .number ≡ 0
       → (listCall own cache out .output ≡ afterList (keyOf own) (heldBy own cache) out)

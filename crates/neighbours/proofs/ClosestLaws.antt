@@ -16,7 +16,7 @@ use Rattle.table.proofs.RowLaws.{rows-sized}
 use Rattle.kept.specs.Keys.{_∈_, Every, Rising, plain}
 use Rattle.kept.specs.Plain.{NotOwn}
 use Rattle.kept.proofs.ListLaws.{every-at, rising-at}
-use Rattle.cache.specs.Form.{keysOf, Held}
+use Rattle.cache.specs.Form.{keysOf, HeldRecords}
 use Rattle.neighbours.specs.Closest.{candidates, closestFrom, closestOf}
 
 -- ---- it is one of the records
@@ -94,7 +94,7 @@ one-held low (z ∷ recs) x y r (inr m) (inl q) e =
     absurd (omega (arith, rising-at plain (suc (keyOf z)) (keyOf x) (keysOf recs) (r .1) (held-key x recs m), e, ap keyOf q))
 one-held low (z ∷ recs) x y r (inr m) (inr n) e = one-held (suc (keyOf z)) recs x y (r .1) m n e
 
-one-candidate : (own : List ℕ) (held : List (List ℕ)) → Held (keyOf own) held → (x y : List ℕ)
+one-candidate : (own : List ℕ) (held : List (List ℕ)) → HeldRecords (keyOf own) held → (x y : List ℕ)
     → x ∈ candidates (ownRecords own) held → y ∈ candidates (ownRecords own) held → keyOf x ≡ keyOf y → x ≡ y
 one-candidate own held f x y (inl p) (inl q) e = p ∙ sym q
 one-candidate own held f x y (inl p) (inr n) e =
@@ -104,7 +104,7 @@ one-candidate own held f x y (inr m) (inl q) e =
 one-candidate own held f x y (inr m) (inr n) e = one-held 0 held x y (f .rising) m n e
 
 -- so they fix the record
-pub closest-only : (t : ℕ) (own : List ℕ) (held : List (List ℕ)) → Held (keyOf own) held → (z : List ℕ) → z ∈ candidates (ownRecords own) held
+pub closest-only : (t : ℕ) (own : List ℕ) (held : List (List ℕ)) → HeldRecords (keyOf own) held → (z : List ℕ) → z ∈ candidates (ownRecords own) held
     → ((y : List ℕ) → y ∈ candidates (ownRecords own) held → closer t (keyOf y) (keyOf z) ≡ false) → z ≡ closestOf t (candidates (ownRecords own) held)
 closest-only t own held f z m h =
     one-candidate own held f z (closestOf t (candidates (ownRecords own) held)) m (closest-among t own held) (closest-key t own held z m h)
@@ -116,7 +116,7 @@ in-form r [] a m = absurd m
 in-form r (q ∷ recs) a (inl e) = rw e (a .0)
 in-form r (q ∷ recs) a (inr m) = in-form r recs (a .1) m
 
-pub closest-formed : (t own-key : ℕ) (own : List ℕ) (held : List (List ℕ)) → recordForm own ≡ true → Held own-key held
+pub closest-formed : (t own-key : ℕ) (own : List ℕ) (held : List (List ℕ)) → recordForm own ≡ true → HeldRecords own-key held
     → recordForm (closestOf t (candidates (ownRecords own) held)) ≡ true
 closest-formed t k own held e f = in-form (closestOf t (candidates (ownRecords own) held)) (candidates (ownRecords own) held) (e, f .formed) (closest-among t own held)
 

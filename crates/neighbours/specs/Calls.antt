@@ -21,8 +21,8 @@ pub record Written : Type 0 where
   pub answer : Listed
   pub output : List ℕ
 
-abbrev pub written : Listed → List ℕ → Written
-written a out = record { answer = a; output = out }
+abbrev pub listWritten : Listed → List ℕ → Written
+listWritten a out = record { answer = a; output = out }
 
 abbrev pub listWrong : List ℕ → List ℕ → List ℕ → List Refusal
 listWrong own cache out = memoryWrong own cache (when 15 (ltb (length out) 320) ∷ [])
@@ -30,8 +30,8 @@ listWrong own cache out = memoryWrong own cache (when 15 (ltb (length out) 320) 
 unfoldable pub listCall : List ℕ → List ℕ → List ℕ → Written
 listCall own cache out =
     let counts = countsOf (ownKeys own) (heldBy own cache) in
-    orRefuse (λ (n : ℕ). written (record { number = n; below = 0; above = 0 }) out) (listWrong own cache out)
-    (written (record { number = 0; below = counts .below; above = counts .above }) (afterList (ownKeys own) (heldBy own cache) out))
+    orRefuse (λ (n : ℕ). listWritten (record { number = n; below = 0; above = 0 }) out) (listWrong own cache out)
+    (listWritten (record { number = 0; below = counts .below; above = counts .above }) (afterList (ownKeys own) (heldBy own cache) out))
 
 -- what the call for the closest record hands back: the number, and the record that is shown
 pub record Shown : Type 0 where

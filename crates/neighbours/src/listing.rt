@@ -9,7 +9,7 @@ ghost use Rattle.table.specs.Rows.{rows};
 ghost use Rattle.kept.specs.Turned.{turned};
 ghost use Rattle.cache.specs.Form.{keysOf, Form};
 ghost use Rattle.neighbours.specs.Listing.{keyBytes, afterList, countsOf};
-ghost use Rattle.neighbours.specs.Calls.{written, listCall};
+ghost use Rattle.neighbours.specs.Calls.{listWritten, listCall};
 use cache::Formed;
 
 // How many keys of each side are listed.
@@ -78,7 +78,7 @@ pub fn neighbours(own: &[u8], cache: &[u8], used: usize, out: &mut [u8]) -> Coun
 
 // The same on memory that nobody has tested. Gives 0, 1 or 15, and the two counts; refused, it changes nothing.
 pub fn neighbour_list(own: &[u8], cache: &[u8], out: &mut [u8]) -> Listed
-    ensures { λ r. ⌜ written r (now (out .exit))
+    ensures { λ r. ⌜ listWritten r (now (out .exit))
         ≡ listCall (now (own .entry)) (now (cache .entry)) (now (out .entry)) ⌝ }
 {
     let found = cache::memory(own, cache);

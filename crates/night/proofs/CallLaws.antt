@@ -9,7 +9,7 @@ use Rattle.octet.specs.Part.{part}
 use Rattle.gauge_plan.specs.Lent.{Memory, receive, send, tick, receives, sends, ticks}
 use Rattle.gauge_commit.specs.Sending.{Handed}
 use Rattle.gauge.specs.Ours.{ours}
-use Rattle.night.specs.Step.{majorOf, minorOf, ownOf, output, received, sent, ticked, callOf, night, Stepped, stepped, called}
+use Rattle.night.specs.Step.{majorOf, minorOf, nightOwn, output, received, sent, ticked, callOf, night, Stepped, stepped, called}
 
 -- what is handed back, as a step of the night
 abbrev steppedBy : List ℕ → Handed → Stepped
@@ -19,18 +19,18 @@ module _ (o : List ℕ) (m : Memory) (h : Handed) where
   -- the numbers and the datagram as the code has them
   pub receive-called : (body : List ℕ) (id verdict : ℕ) (datagram : List ℕ)
       → id ≡ valueLE 256 (part 0 4 body) → verdict ≡ getD body 4 0 → datagram ≡ drop 53 body
-      → h ≡ ours m (receives (receive (ownOf o) (0 ∷ []) (majorOf o) (minorOf o) id (part 37 16 body) verdict (part 5 32 body) datagram output))
+      → h ≡ ours m (receives (receive (nightOwn o) (0 ∷ []) (majorOf o) (minorOf o) id (part 37 16 body) verdict (part 5 32 body) datagram output))
       → steppedBy o h ≡ called (night o m) (received o body)
   unfolding called
   receive-called body id verdict datagram i v d e = ap (steppedBy o) (rw (i, v, d) at e)
 
   pub send-called : (body : List ℕ) (id : ℕ) → id ≡ valueLE 256 (part 0 4 body)
-      → h ≡ ours m (sends (send (ownOf o) (majorOf o) (minorOf o) id (part 4 32 body) (part 36 32 body) output))
+      → h ≡ ours m (sends (send (nightOwn o) (majorOf o) (minorOf o) id (part 4 32 body) (part 36 32 body) output))
       → steppedBy o h ≡ called (night o m) (sent o body)
   unfolding called
   send-called body id i e = ap (steppedBy o) (rw i at e)
 
-  pub tick-called : h ≡ ours m (ticks (tick (ownOf o) output)) → steppedBy o h ≡ called (night o m) (ticked o)
+  pub tick-called : h ≡ ours m (ticks (tick (nightOwn o) output)) → steppedBy o h ≡ called (night o m) (ticked o)
   unfolding called
   tick-called e = ap (steppedBy o) e
 

@@ -6,7 +6,7 @@ use Rattle.trace.specs.Trace.{bodyFits, cutInto, written, allWritten}
 use Rattle.trace.specs.Fault.{faults}
 use Rattle.night.specs.Step.{called, stepOf}
 use Rattle.night.specs.Replay.{replayFrom}
-use Rattle.night.specs.Statements.{OneByOne, Stops, ReadsBack, Whole, Example}
+use Rattle.night.specs.Statements.{OneByOne, Stops, TraceReadsBack, Whole, Example}
 use Rattle.night.proofs.MadeLaws as made
 use Rattle.night.proofs.TraceLaws as trace
 
@@ -16,7 +16,7 @@ one-by-one = made.one-by-one
 pub stops : Stops
 stops = made.stops
 
-pub reads-back : ReadsBack
+pub reads-back : TraceReadsBack
 reads-back = trace.reads-back
 
 pub whole : Whole

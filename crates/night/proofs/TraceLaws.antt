@@ -11,7 +11,7 @@ use Rattle.octet.proofs.LittleLaws.{valueLE-digitsLE}
 use Rattle.kept.specs.Keys.{Every}
 use Rattle.table.specs.Rows.{joined}
 use Rattle.trace.specs.Trace.{lengthOf, kindOf, bodyOf, cutInto, recordsOf, Piece, written, allWritten, traceOf, pieceOf}
-use Rattle.night.specs.Statements.{Writable, ReadsBack, Whole}
+use Rattle.night.specs.Statements.{Writable, TraceReadsBack, Whole}
 
 -- ---- no byte is lost
 
@@ -77,5 +77,5 @@ pieces-back : (ps : List Piece) → Every Writable ps → Every (λ (p : Piece).
 pieces-back [] w = tt
 pieces-back (p ∷ ps) w = (piece-back p (w .0), pieces-back ps (w .1))
 
-pub reads-back : ReadsBack
+pub reads-back : TraceReadsBack
 reads-back ps w = (cut-written (length (traceOf ps)) ps w (omega arith), pieces-back ps w)

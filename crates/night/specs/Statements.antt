@@ -61,8 +61,8 @@ Stops =
 abbrev pub Writable : Piece → Type 0
 Writable p = (p .kind < 65536) × (length (p .body) < 65534)
 
-abbrev pub ReadsBack : Type 0
-ReadsBack =
+abbrev pub TraceReadsBack : Type 0
+TraceReadsBack =
     (ps : List Piece) → Every Writable ps → (recordsOf (traceOf ps) ≡ allWritten ps) × Every (λ (p : Piece). pieceOf (written p) ≡ p) ps
 
 -- no byte of a trace is lost: its records joined are the trace

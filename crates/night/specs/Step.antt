@@ -22,23 +22,23 @@ majorOf opening = getD opening 0 0
 abbrev pub minorOf : List ℕ → ℕ
 minorOf opening = getD opening 1 0
 
-abbrev pub ownOf : List ℕ → List ℕ
-ownOf opening = part 2 100 opening
+abbrev pub nightOwn : List ℕ → List ℕ
+nightOwn opening = part 2 100 opening
 
 abbrev pub output : List ℕ
 output = replicate 2464 0
 
 abbrev pub received : List ℕ → List ℕ → Call
 received opening body =
-    receives (receive (ownOf opening) (0 ∷ []) (majorOf opening) (minorOf opening) (valueLE 256 (part 0 4 body)) (part 37 16 body) (getD body 4 0)
+    receives (receive (nightOwn opening) (0 ∷ []) (majorOf opening) (minorOf opening) (valueLE 256 (part 0 4 body)) (part 37 16 body) (getD body 4 0)
     (part 5 32 body) (drop 53 body) output)
 
 abbrev pub sent : List ℕ → List ℕ → Call
 sent opening body =
-    sends (send (ownOf opening) (majorOf opening) (minorOf opening) (valueLE 256 (part 0 4 body)) (part 4 32 body) (part 36 32 body) output)
+    sends (send (nightOwn opening) (majorOf opening) (minorOf opening) (valueLE 256 (part 0 4 body)) (part 4 32 body) (part 36 32 body) output)
 
 abbrev pub ticked : List ℕ → Call
-ticked opening = ticks (tick (ownOf opening) output)
+ticked opening = ticks (tick (nightOwn opening) output)
 
 -- by the body of the record that opened the night, the kind and the body
 abbrev pub callOf : List ℕ → ℕ → List ℕ → Call

@@ -10,7 +10,7 @@ use denote.Ref.{now}
 use Rattle.octet.specs.Number.{Bytes}
 use Rattle.octet.specs.Part.{splice}
 use Rattle.readings.specs.Unpack.{unpackOf}
-use Rattle.readings.specs.Pack.{handed, packOf}
+use Rattle.readings.specs.Pack.{packHanded, packOf}
 use Rattle.readings.specs.declared.Reading.{Reading}
 use Rattle.readings.specs.declared.Unpacked.the-variants.{Read}
 use Rattle.readings.specs.declared.Packed.the-variants.{Written}
@@ -27,7 +27,7 @@ pub unpack-coincides : (κs : Lfts 1) (a : ArgsD unpacking.signature κs) (r r�
 unpack-coincides κs a r r′ s s′ p q = p ∙ sym q
 
 pub pack-coincides : (κs : Lfts 1) (a : ArgsD packing.signature κs) (r r′ : ResD packing.signature κs) (s s′ : AtExit packing.ended κs)
-    → packed.Post κs a r s → packed.Post κs a r′ s′ → handed r (now (s .1 .0)) ≡ handed r′ (now (s′ .1 .0))
+    → packed.Post κs a r s → packed.Post κs a r′ s′ → packHanded r (now (s .1 .0)) ≡ packHanded r′ (now (s′ .1 .0))
 pack-coincides κs a r r′ s s′ p q = p .0 ∙ sym (q .0)
 
 pub balance-coincides : (κs : Lfts 0) (a : ArgsD balancing.signature κs) (r r′ : ResD balancing.signature κs) (s s′ : AtExit balancing.ended κs)
@@ -43,8 +43,8 @@ packed-unpacks κs a n s p κs′ b u t e q =
 pub unpacked-packs : (κs : Lfts 1) (a : ArgsD unpacking.signature κs) (r : Reading) (s : AtExit unpacking.ended κs) → unpacked.Post κs a (Read r) s
     → Bytes (now (a .0)) → (κs′ : Lfts 1) (b : ArgsD packing.signature κs′) (w : ResD packing.signature κs′) (t : AtExit packing.ended κs′)
     → b .0 ≡ r → length (now (a .0)) ≤ length (now (b .1 .0)) → packed.Post κs′ b w t
-    → handed w (now (t .1 .0)) ≡ handed (Written (length (now (a .0)))) (splice 0 (now (a .0)) (now (b .1 .0)))
+    → packHanded w (now (t .1 .0)) ≡ packHanded (Written (length (now (a .0)))) (splice 0 (now (a .0)) (now (b .1 .0)))
 unpacked-packs κs a r s p bytes κs′ b w t e room q =
     let out = now (b .1 .0) in
     let all = unpacked-writes (now (a .0)) bytes r p out (now (t .1 .0)) w room (q .0 ∙ ap (λ (x : Reading). packOf x out) e) in
-    ap₂ handed (all .0) (all .1)
+    ap₂ packHanded (all .0) (all .1)

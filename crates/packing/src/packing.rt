@@ -11,12 +11,12 @@ ghost use Rattle.octet.specs.Number.{digitsLE};
 ghost use Rattle.octet.specs.Part.{splice};
 ghost use Rattle.readings.specs.Depth.{allowed};
 ghost use Rattle.readings.specs.Reading.{depthOf, faultOf, fine, Typed};
-ghost use Rattle.readings.specs.Pack.{handed, packOf, packNumber};
+ghost use Rattle.readings.specs.Pack.{packHanded, packOf, packNumber};
 
 // Writes the reading to the start of `out`; 1 where there is no room, 3 where the depth is outside. Every reading that a program
 // can hand in is one of those that the theorems speak of.
 pub fn pack(reading: Reading, out: &mut [u8]) -> Packed
-    ensures { λ r. ⌜ handed r (now (out .exit)) ≡ packOf reading (now (out .entry)) ⌝ }
+    ensures { λ r. ⌜ packHanded r (now (out .exit)) ≡ packOf reading (now (out .entry)) ⌝ }
     ensures { λ _. ⌜ Typed reading ⌝ }
 {
     let measured = reading.measured;
@@ -30,7 +30,7 @@ pub fn pack(reading: Reading, out: &mut [u8]) -> Packed
 // of its depth but the bits.
 pub fn pack_allowed(reading: Reading, out: &mut [u8]) -> Packed
     requires { ⌜ fine (reading .measured) ≡ true ⌝ }
-    ensures { λ r. ⌜ handed r (now (out .exit)) ≡ packOf reading (now (out .entry)) ⌝ }
+    ensures { λ r. ⌜ packHanded r (now (out .exit)) ≡ packOf reading (now (out .entry)) ⌝ }
 {
     let measured = reading.measured;
     match measured {
@@ -40,7 +40,7 @@ pub fn pack_allowed(reading: Reading, out: &mut [u8]) -> Packed
 }
 
 fn pack_depth(depth: f32, inflow: u32, outflow: u32, out: &mut [u8]) -> Packed
-    ensures { λ r. ⌜ handed r (now (out .exit)) ≡ packOf (depthOf depth inflow outflow) (now (out .entry)) ⌝ }
+    ensures { λ r. ⌜ packHanded r (now (out .exit)) ≡ packOf (depthOf depth inflow outflow) (now (out .entry)) ⌝ }
     ensures { λ _. ⌜ Typed (depthOf depth inflow outflow) ⌝ }
 {
     if out.len() < 16 {
@@ -55,7 +55,7 @@ fn pack_depth(depth: f32, inflow: u32, outflow: u32, out: &mut [u8]) -> Packed
 // Of a depth that is allowed; 1 where there is no room.
 fn put_depth(depth: f32, inflow: u32, outflow: u32, out: &mut [u8]) -> Packed
     requires { ⌜ allowed depth ≡ true ⌝ }
-    ensures { λ r. ⌜ handed r (now (out .exit)) ≡ packOf (depthOf depth inflow outflow) (now (out .entry)) ⌝ }
+    ensures { λ r. ⌜ packHanded r (now (out .exit)) ≡ packOf (depthOf depth inflow outflow) (now (out .entry)) ⌝ }
 {
     if out.len() < 16 {
         return Packed::Refused(1);
@@ -67,7 +67,7 @@ fn put_depth(depth: f32, inflow: u32, outflow: u32, out: &mut [u8]) -> Packed
 }
 
 fn pack_fault(fault: u16, inflow: u32, outflow: u32, out: &mut [u8]) -> Packed
-    ensures { λ r. ⌜ handed r (now (out .exit)) ≡ packOf (faultOf fault inflow outflow) (now (out .entry)) ⌝ }
+    ensures { λ r. ⌜ packHanded r (now (out .exit)) ≡ packOf (faultOf fault inflow outflow) (now (out .entry)) ⌝ }
     ensures { λ _. ⌜ Typed (faultOf fault inflow outflow) ⌝ }
 {
     if out.len() < 14 {

@@ -19,7 +19,7 @@ use Rattle.refusal.proofs.CallLaws.{or-known}
 use Rattle.table.specs.Rows.{rows}
 use Rattle.table.proofs.RowLaws.{rows-length, row-at}
 use Rattle.neighbours.specs.Closest.{candidates, closestOf}
-use Rattle.cache.specs.Form.{Held}
+use Rattle.cache.specs.Form.{HeldRecords}
 use Rattle.neighbours.proofs.ClosestLaws.{closest-formed}
 use Rattle.waiting.specs.Place.{idOf, kindOf, placeKey}
 use Rattle.table.specs.Seek.{seek}
@@ -85,7 +85,7 @@ module _ (own : List ℕ) (recs : List (List ℕ)) (held room : ℕ) (d : List �
   lookup-by e = rw e refl
 
   -- with room for any record
-  pub lookup-any : {k : ℕ} → 144 ≤ room → recordForm own ≡ true → Held k recs → lookupPlan own recs held room d acked target ≡ Show held acked target
+  pub lookup-any : {k : ℕ} → 144 ≤ room → recordForm own ≡ true → HeldRecords k recs → lookupPlan own recs held room d acked target ≡ Show held acked target
   unfolding orRefuse
   lookup-any {k} r e f =
       let t = keyAt target d in

@@ -14,22 +14,22 @@ use Rattle.octet.specs.Part.{splice}
 use Rattle.octet.proofs.PartLaws.{splice-next}
 use Rattle.octet.proofs.LittleLaws.{length-digitsLE}
 use Rattle.refusal.specs.Table.{orRefuse}
-use Rattle.readings.specs.Reading.{depthOf, faultOf, contents, image, fine}
-use Rattle.readings.specs.Pack.{handed, packRefusals, packOf}
+use Rattle.readings.specs.Reading.{depthOf, faultOf, readingContents, image, fine}
+use Rattle.readings.specs.Pack.{packHanded, packRefusals, packOf}
 use Rattle.readings.specs.declared.Reading.{Reading}
 use Rattle.readings.specs.declared.Packed.the-variants.{Written, Refused}
 
 module _ (r : Reading) (out : List ℕ) where
-  pub pack-no-room : length out < length (image r) → handed (Refused 1) out ≡ packOf r out
+  pub pack-no-room : length out < length (image r) → packHanded (Refused 1) out ≡ packOf r out
   unfolding packOf packRefusals orRefuse
   pack-no-room h = simp (lt-ltb _ _ h) refl
 
-  pub pack-outside : length (image r) ≤ length out → fine (r .measured) ≡ false → handed (Refused 3) out ≡ packOf r out
+  pub pack-outside : length (image r) ≤ length out → fine (r .measured) ≡ false → packHanded (Refused 3) out ≡ packOf r out
   unfolding packOf packRefusals orRefuse
   pack-outside h f = simp (le-ltb _ _ h, f) refl
 
   pub pack-written : length (image r) ≤ length out → fine (r .measured) ≡ true
-      → handed (Written (length (image r))) (splice 0 (image r) out) ≡ packOf r out
+      → packHanded (Written (length (image r))) (splice 0 (image r) out) ≡ packOf r out
   unfolding packOf packRefusals orRefuse
   pack-written h f = simp (le-ltb _ _ h, f) refl
 
@@ -42,19 +42,19 @@ abbrev pub litres : ℕ → ℕ → List ℕ
 litres i o = digitsLE 256 4 i ++ digitsLE 256 4 o
 
 pub image-depth : (d : Float) (i o : ℕ) → head 14 1 ++ digitsLE 256 4 (toBits binary32 d) ++ litres i o ≡ image (depthOf d i o)
-unfolding image contents digitsLE
+unfolding image readingContents digitsLE
 image-depth d i o = refl
 
 pub image-fault : (n i o : ℕ) → head 12 2 ++ digitsLE 256 2 n ++ litres i o ≡ image (faultOf n i o)
-unfolding image contents digitsLE
+unfolding image readingContents digitsLE
 image-fault n i o = refl
 
 pub length-depth : (d : Float) (i o : ℕ) → length (image (depthOf d i o)) ≡ 16
-unfolding image contents digitsLE
+unfolding image readingContents digitsLE
 length-depth d i o = refl
 
 pub length-fault : (n i o : ℕ) → length (image (faultOf n i o)) ≡ 14
-unfolding image contents digitsLE
+unfolding image readingContents digitsLE
 length-fault n i o = refl
 
 -- ---- put down one after the other

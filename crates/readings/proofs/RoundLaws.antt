@@ -18,11 +18,11 @@ use Rattle.refusal.specs.Table.{orRefuse}
 use Rattle.refusal.proofs.TableLaws.{AllFail, both}
 use Rattle.refusal.proofs.CallLaws.{or-known}
 use Rattle.readings.specs.Depth.{allowed}
-use Rattle.readings.specs.Reading.{reading, depthOf, faultOf, contents, image, fine, MeasuredFits, Typed}
+use Rattle.readings.specs.Reading.{reading, depthOf, faultOf, readingContents, image, fine, MeasuredFits, Typed}
 use Rattle.readings.specs.Unpack.{numberAt, toldIn, kindIn, measureIn, lengthFits, unpackRefusals, readingIn, unpackOf}
-use Rattle.readings.specs.Pack.{Handed, handed, packRefusals, packOf}
+use Rattle.readings.specs.Pack.{PackHanded, packHanded, packRefusals, packOf}
 use Rattle.readings.specs.Numbers.{depthReading}
-use Rattle.readings.specs.Statements.{ReadsBack, WritesBack, PackedReads, UnpackedWrites}
+use Rattle.readings.specs.Statements.{ReadingReadsBack, WritesBack, PackedReads, UnpackedWrites}
 use Rattle.readings.specs.declared.Measured.{Measured}
 use Rattle.readings.specs.declared.Measured.the-variants.{Depth, Fault}
 use Rattle.readings.specs.declared.Reading.{Reading}
@@ -49,7 +49,7 @@ fault-read s n i o l told kind fault in-is out-is =
 
 module _ (i o : ℕ) (hi : i < 4294967296) (ho : o < 4294967296) where
   back : (m : Measured) → MeasuredFits m → fine m ≡ true → unpackOf (image (reading m i o)) ≡ Read (reading m i o)
-  unfolding image contents digitsLE
+  unfolding image readingContents digitsLE
   back (Depth d) t good =
       let bits = toBits binary32 d in
       let b : valueLE 256 (digitsLE 256 4 bits) ≡ bits = valueLE-digitsLE 256 4 bits (omega arith) (toBits-lt binary32 d t) in
@@ -62,7 +62,7 @@ module _ (i o : ℕ) (hi : i < 4294967296) (ho : o < 4294967296) where
       (valueLE-digitsLE 256 2 12 (omega arith) (omega arith)) (valueLE-digitsLE 256 2 2 (omega arith) (omega arith))
       (valueLE-digitsLE 256 2 n (omega arith) t) (valueLE-digitsLE 256 4 i (omega arith) hi) (valueLE-digitsLE 256 4 o (omega arith) ho)
 
-pub reads-back : ReadsBack
+pub reads-back : ReadingReadsBack
 reads-back r t good = back (r .inflow) (r .outflow) (t .1) (t .2) (r .measured) (t .0) good
 
 -- ---- bytes read, and written
@@ -103,7 +103,7 @@ module _ (s : List ℕ) (b : Bytes s) where
 
   depth-image : length s ≡ 16 → toldIn s ≡ 14 → kindIn s ≡ 1 → allowed (ofBits binary32 (numberAt 4 4 s)) ≡ true
       → image (depthOf (ofBits binary32 (numberAt 4 4 s)) (numberAt 8 4 s) (numberAt 12 4 s)) ≡ s
-  unfolding image contents digitsLE
+  unfolding image readingContents digitsLE
   depth-image l told kind good =
       let bits : toBits binary32 (ofBits binary32 (numberAt 4 4 s)) ≡ numberAt 4 4 s =
       toBits-ofBits binary32 (numberAt 4 4 s) (below 4 4 (omega (arith, l))) (allowed-no-nan _ good) in
@@ -111,7 +111,7 @@ module _ (s : List ℕ) (b : Bytes s) where
       rw bits (rw (told, kind) at whole)
 
   fault-image : length s ≡ 14 → toldIn s ≡ 12 → kindIn s ≡ 2 → image (faultOf (numberAt 4 2 s) (numberAt 6 4 s) (numberAt 10 4 s)) ≡ s
-  unfolding image contents digitsLE
+  unfolding image readingContents digitsLE
   fault-image l told kind =
       let whole = all-five 2 (omega (arith, l)) in
       rw (told, kind) at whole
@@ -180,18 +180,18 @@ writes-back s b r e =
 -- ---- through the contracts
 
 -- what was written: there was room, the depth is allowed, and the answer and the bytes are those of the reading
-written : (r : Reading) (out left : List ℕ) (n : ℕ) → handed (Written n) left ≡ packOf r out
+written : (r : Reading) (out left : List ℕ) (n : ℕ) → packHanded (Written n) left ≡ packOf r out
     → (length (image r) ≤ length out) × (fine (r .measured) ≡ true) × (n ≡ length (image r)) × (left ≡ splice 0 (image r) out)
 unfolding packOf packRefusals
 written r out left n e =
     or-known
-    (λ (h : Handed). handed (Written n) left ≡ h
+    (λ (h : PackHanded). packHanded (Written n) left ≡ h
     → (length (image r) ≤ length out) × (fine (r .measured) ≡ true) × (n ≡ length (image r)) × (left ≡ splice 0 (image r) out))
-    (λ (k : ℕ). handed (Kept k) out) (packRefusals r out) (handed (Written (length (image r))) (splice 0 (image r) out))
-    (λ k f. let a : Written n ≡ Kept k = ap (λ (h : Handed). h .answer) f in let z : _≡_ {A = ℕ} 0 1 = cc in absurd (omega arith))
+    (λ (k : ℕ). packHanded (Kept k) out) (packRefusals r out) (packHanded (Written (length (image r))) (splice 0 (image r) out))
+    (λ k f. let a : Written n ≡ Kept k = ap (λ (h : PackHanded). h .answer) f in let z : _≡_ {A = ℕ} 0 1 = cc in absurd (omega arith))
     (λ fails f.
-    let a : Written n ≡ Written (length (image r)) = ap (λ (h : Handed). h .answer) f in
-    (ltb-false _ _ (fails .0), not-false _ (fails .1 .0), cc, ap (λ (h : Handed). h .out) f))
+    let a : Written n ≡ Written (length (image r)) = ap (λ (h : PackHanded). h .answer) f in
+    (ltb-false _ _ (fails .0), not-false _ (fails .1 .0), cc, ap (λ (h : PackHanded). h .out) f))
     e
 
 pub packed-reads : PackedReads
@@ -205,6 +205,6 @@ unpacked-writes s b r is out left a room e =
     let o = writes-back s b r (sym is) in
     let enough : length (image r) ≤ length out = rw (o .0) room in
     let all = e ∙ sym (pack-written r out enough (o .2)) in (
-      ap (λ (h : Handed). h .answer) all ∙ ap (λ (l : List ℕ). Written (length l)) (o .0),
-      ap (λ (h : Handed). h .out) all ∙ ap (λ (l : List ℕ). splice 0 l out) (o .0),
+      ap (λ (h : PackHanded). h .answer) all ∙ ap (λ (l : List ℕ). Written (length l)) (o .0),
+      ap (λ (h : PackHanded). h .out) all ∙ ap (λ (l : List ℕ). splice 0 l out) (o .0),
     )

@@ -10,8 +10,8 @@ use Rattle.refusal.specs.Table.{InOrder, byNumber}
 use Rattle.refusal.proofs.CallLaws.{refusal-keeps, call-exactly}
 use Rattle.readings.specs.Reading.{image}
 use Rattle.readings.specs.Unpack.{unpackRefusals, readingIn, unpackOf, unpackNumber}
-use Rattle.readings.specs.Pack.{Handed, handed, packRefusals, packOf, packNumber}
-use Rattle.readings.specs.Statements.{ReadsBack, WritesBack, PackedReads, UnpackedWrites, NumbersBack, UnpackOne, PackOne, BalanceOne, UnpackExactly, PackExactly, RefusedKeeps, Depths, NegativeZero, Edges, Balanced, Balances}
+use Rattle.readings.specs.Pack.{PackHanded, packHanded, packRefusals, packOf, packNumber}
+use Rattle.readings.specs.Statements.{ReadingReadsBack, WritesBack, PackedReads, UnpackedWrites, NumbersBack, UnpackOne, PackOne, BalanceOne, UnpackExactly, PackExactly, RefusedKeeps, Depths, NegativeZero, Edges, Balanced, Balances}
 use Rattle.readings.specs.declared.Reading.{Reading}
 use Rattle.readings.specs.declared.Unpacked.the-variants.{Read, Refused}
 use Rattle.readings.specs.declared.Packed.the-variants.{Written, Refused as Kept}
@@ -22,7 +22,7 @@ use Rattle.readings.proofs.RoundLaws as round
 
 -- ---- there and back
 
-pub reads-back : ReadsBack
+pub reads-back : ReadingReadsBack
 reads-back = round.reads-back
 
 pub writes-back : WritesBack
@@ -43,7 +43,7 @@ pub unpack-one : UnpackOne
 unpack-one s r r′ p q = p ∙ sym q
 
 pub pack-one : PackOne
-pack-one r out left left′ a a′ p q = (ap (λ (h : Handed). h .answer) (p ∙ sym q), ap (λ (h : Handed). h .out) (p ∙ sym q))
+pack-one r out left left′ a a′ p q = (ap (λ (h : PackHanded). h .answer) (p ∙ sym q), ap (λ (h : PackHanded). h .out) (p ∙ sym q))
 
 pub balance-one : BalanceOne
 balance-one i o b b′ p q = p ∙ sym q
@@ -64,23 +64,23 @@ module _ (r : Reading) (out : List ℕ) where
   unfolding packRefusals
   pack-order = (omega arith, omega arith, (omega arith, omega arith, tt))
 
-  abbrev number : Handed → ℕ
+  abbrev number : PackHanded → ℕ
   number h = packNumber (h .answer)
 
-  abbrev refused : ℕ → Handed
-  refused k = handed (Kept k) out
+  abbrev refused : ℕ → PackHanded
+  refused k = packHanded (Kept k) out
 
 pub pack-exactly : PackExactly
 unfolding packOf
 pack-exactly r out n p =
-    call-exactly (number r out) (refused r out) (λ k. refl) (handed (Written (length (image r))) (splice 0 (image r) out)) refl (packRefusals r out) 1
+    call-exactly (number r out) (refused r out) (λ k. refl) (packHanded (Written (length (image r))) (splice 0 (image r) out)) refl (packRefusals r out) 1
     (pack-order r out) n p
 
 pub refused-keeps : RefusedKeeps
 unfolding packOf
 refused-keeps r out p =
-    refusal-keeps (number r out) (refused r out) (λ k. refl) (handed (Written (length (image r))) (splice 0 (image r) out)) refl
-    (λ (h : Handed). h .out) out (λ k. refl) (packRefusals r out) p
+    refusal-keeps (number r out) (refused r out) (λ k. refl) (packHanded (Written (length (image r))) (splice 0 (image r) out)) refl
+    (λ (h : PackHanded). h .out) out (λ k. refl) (packRefusals r out) p
 
 -- ---- depths
 

@@ -13,19 +13,19 @@ use Rattle.readings.specs.declared.Packed.{Packed}
 use Rattle.readings.specs.declared.Packed.the-variants.{Written, Refused}
 
 -- what is handed back: the answer, and what was lent for writing
-pub record Handed : Type 0 where
+pub record PackHanded : Type 0 where
   pub answer : Packed
   pub out : List ℕ
 
-abbrev pub handed : Packed → List ℕ → Handed
-handed answer out = record { answer = answer; out = out }
+abbrev pub packHanded : Packed → List ℕ → PackHanded
+packHanded answer out = record { answer = answer; out = out }
 
 unfoldable pub packRefusals : Reading → List ℕ → List Refusal
 packRefusals r out = when 1 (ltb (length out) (length (image r))) ∷ when 3 (not (fine (r .measured))) ∷ []
 
-unfoldable pub packOf : Reading → List ℕ → Handed
+unfoldable pub packOf : Reading → List ℕ → PackHanded
 packOf r out =
-    orRefuse (λ (n : ℕ). handed (Refused n) out) (packRefusals r out) (handed (Written (length (image r))) (splice 0 (image r) out))
+    orRefuse (λ (n : ℕ). packHanded (Refused n) out) (packRefusals r out) (packHanded (Written (length (image r))) (splice 0 (image r) out))
 
 -- the paper's number of an answer
 abbrev pub packNumber : Packed → ℕ

@@ -44,13 +44,13 @@ abbrev pub widthOf : ℕ → ℕ
 widthOf kind = cond (eqb kind 1) 4 2
 
 -- what follows the length
-unfoldable pub contents : Reading → List ℕ
-contents r =
+unfoldable pub readingContents : Reading → List ℕ
+readingContents r =
     let kind = kindOf (r .measured) in
     digitsLE 256 2 kind ++ digitsLE 256 (widthOf kind) (measureOf (r .measured)) ++ digitsLE 256 4 (r .inflow) ++ digitsLE 256 4 (r .outflow)
 
 unfoldable pub image : Reading → List ℕ
-image r = digitsLE 256 2 (length (contents r)) ++ contents r
+image r = digitsLE 256 2 (length (readingContents r)) ++ readingContents r
 
 -- ---- which readings there are
 

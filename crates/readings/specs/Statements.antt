@@ -16,7 +16,7 @@ use Rattle.readings.specs.Depth.{allowed}
 use Rattle.readings.specs.Balance.{balanceOf}
 use Rattle.readings.specs.Reading.{depthOf, kindOf, measureOf, image, fine, Typed}
 use Rattle.readings.specs.Unpack.{unpackRefusals, unpackOf, unpackNumber}
-use Rattle.readings.specs.Pack.{handed, packRefusals, packOf, packNumber}
+use Rattle.readings.specs.Pack.{packHanded, packRefusals, packOf, packNumber}
 use Rattle.readings.specs.Numbers.{readingOf}
 use Rattle.readings.specs.declared.Reading.{Reading}
 use Rattle.readings.specs.declared.Unpacked.{Unpacked}
@@ -27,8 +27,8 @@ use Rattle.readings.specs.declared.Packed.the-variants.{Written}
 -- ---- there and back
 
 -- "Readings written read back the same"
-abbrev pub ReadsBack : Type 0
-ReadsBack = (r : Reading) → Typed r → fine (r .measured) ≡ true → unpackOf (image r) ≡ Read r
+abbrev pub ReadingReadsBack : Type 0
+ReadingReadsBack = (r : Reading) → Typed r → fine (r .measured) ≡ true → unpackOf (image r) ≡ Read r
 
 -- "bytes accepted are written back the same", and are those of a reading that may be written
 abbrev pub WritesBack : Type 0
@@ -37,14 +37,14 @@ WritesBack = (s : List ℕ) → Bytes s → (r : Reading) → unpackOf s ≡ Rea
 -- and through the contracts: what `pack` leaves at the start, as many bytes as it says, `unpack` reads as the reading
 abbrev pub PackedReads : Type 0
 PackedReads =
-    (r : Reading) → Typed r → (out left : List ℕ) (n : ℕ) → handed (Written n) left ≡ packOf r out
+    (r : Reading) → Typed r → (out left : List ℕ) (n : ℕ) → packHanded (Written n) left ≡ packOf r out
     → (u : Unpacked) → u ≡ unpackOf (take n left) → u ≡ Read r
 
 -- what `unpack` reads, `pack` writes as the bytes it was read from, wherever there is room for them
 abbrev pub UnpackedWrites : Type 0
 UnpackedWrites =
     (s : List ℕ) → Bytes s → (r : Reading) → Read r ≡ unpackOf s
-    → (out left : List ℕ) (a : Packed) → length s ≤ length out → handed a left ≡ packOf r out → (a ≡ Written (length s)) × (left ≡ splice 0 s out)
+    → (out left : List ℕ) (a : Packed) → length s ≤ length out → packHanded a left ≡ packOf r out → (a ≡ Written (length s)) × (left ≡ splice 0 s out)
 
 -- a reading taken apart into the numbers that C sees is made of them again
 abbrev pub NumbersBack : Type 0
@@ -58,7 +58,7 @@ UnpackOne = (s : List ℕ) (r r′ : Unpacked) → r ≡ unpackOf s → r′ ≡
 
 abbrev pub PackOne : Type 0
 PackOne =
-    (r : Reading) (out left left′ : List ℕ) (a a′ : Packed) → handed a left ≡ packOf r out → handed a′ left′ ≡ packOf r out → (a ≡ a′) × (left ≡ left′)
+    (r : Reading) (out left left′ : List ℕ) (a a′ : Packed) → packHanded a left ≡ packOf r out → packHanded a′ left′ ≡ packOf r out → (a ≡ a′) × (left ≡ left′)
 
 abbrev pub BalanceOne : Type 0
 BalanceOne = (i o : ℕ) (b b′ : ℤ) → b ≡ balanceOf i o → b′ ≡ balanceOf i o → b ≡ b′

@@ -8,7 +8,7 @@ use Rattle.record.specs.Record.{recordForm}
 use Rattle.record.specs.Entry.{entryForm, recordOf, entryOf}
 use Rattle.kept.specs.Keys.{put, without, among, inOrder, lastOr}
 use Rattle.kept.specs.Neighbours.{farthestOut}
-use Rattle.kept.specs.History.{trimmed, learn, happen, after}
+use Rattle.kept.specs.History.{trimmed, learnWith, happen, after}
 use Rattle.kept.specs.Records.{putBy, withoutBy, learnBy}
 use Rattle.table.specs.Rows.{rows, joined, bytesOf, anyOf}
 use Rattle.cache.specs.Form.{follows, leading, heldIn, heldOf, cacheForm}
@@ -42,7 +42,7 @@ use Rattle.gauge.specs.Ours.{ours}
 unfoldable pub computed : Unit {0}
 unfolding valueBE valueLE digitsBE digitsLE splice same allZero distance ring half areKeys up isAbove nearness apart isDown tie closer
     orRefuse recordForm entryForm recordOf entryOf
-    put without among inOrder lastOr farthestOut trimmed learn happen after putBy withoutBy learnBy rows joined bytesOf
+    put without among inOrder lastOr farthestOut trimmed learnWith happen after putBy withoutBy learnBy rows joined bytesOf
     follows leading heldIn heldOf cacheForm keyBytes closestFrom closestOf listCall
     newPlace placeForm anyOf placesForm usedIn usedOf waitingForm seek opened freed ticked listed idBytes tickRefusals tickDone tickCall
     arrayForm lookupForm splitForm hasShape kinds.kindsOf kinds.joined kinds.sized spanAt needAt maybeAt placesAt fieldsAs wholeIn inPart foundIn

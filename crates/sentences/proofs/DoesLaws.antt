@@ -21,7 +21,7 @@ use Rattle.kept.specs.Keys.{_∈_, Rising, plain}
 use Rattle.kept.specs.Plain.{neighbours, neighbourList}
 use Rattle.cache.specs.Form.{keysOf, heldIn, heldOf, cacheForm}
 use Rattle.neighbours.specs.Listing.{keyBytes, countsOf, afterList}
-use Rattle.neighbours.specs.Calls.{Written, written, listWrong, listCall}
+use Rattle.neighbours.specs.Calls.{Written, listWritten, listWrong, listCall}
 use Rattle.cache.specs.Calls.{heldBy}
 use Rattle.neighbours.proofs.CallLaws.{list-right}
 use Rattle.waiting.specs.Place.{idOf, triesOf, floodPlace}
@@ -100,7 +100,7 @@ module _ (m : Memory) (l : Listing) (z : gaugeList m l .answer .number ≡ 0) wh
   abbrev listDone : Written
   listDone =
       let counts = countsOf (keyOf (l .own)) (heldBy (l .own) (m .cache)) in
-      written (record { number = 0; below = counts .below; above = counts .above }) (afterList (keyOf (l .own)) (heldBy (l .own) (m .cache)) (l .output))
+      listWritten (record { number = 0; below = counts .below; above = counts .above }) (afterList (keyOf (l .own)) (heldBy (l .own) (m .cache)) (l .output))
 
   list-is : gaugeList m l ≡ listAnswered m listDone
   unfolding gaugeList listCall

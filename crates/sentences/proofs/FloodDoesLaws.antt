@@ -41,7 +41,7 @@ use Rattle.gauge_plan.specs.Lent.{Memory, Receive}
 use Rattle.plan_message.specs.Planned.{byEntry}
 use Rattle.gauge.specs.Receive.{carried}
 use Rattle.plan_message.proofs.AnswerLaws.{EntryIn}
-use Rattle.gauge_laws.specs.Table.{floodRows}
+use Rattle.gauge_laws.specs.Table.{floodTable}
 use Rattle.sentences.specs.Heard.{entry, revoke}
 use Rattle.sentences.specs.Sentences as S
 use Rattle.sentences.proofs.MoveLaws.{opened-in, none-inquires}
@@ -64,7 +64,7 @@ module _ (m : Memory) (l : Receive) (ok : Fine m l) where
 
   -- FLOOD with a route entry
   module _ (id : ℕ) (s : Bool) (validate start len : ℕ) (formed : entryForm (part start len (l .datagram)) ≡ true)
-      (bars : AllFail (floodRows m l s validate (Here start len))) where
+      (bars : AllFail (floodTable m l s validate (Here start len))) where
     abbrev r : List ℕ
     r = recordOf (part start len (l .datagram))
 
@@ -131,12 +131,12 @@ module _ (m : Memory) (l : Receive) (ok : Fine m l) where
         };
       }
     where
-      freed-form : (found : Found) → W.Form (keyOf (l .own)) (bytesOf 2240 (freedAt found ps)) (freedAt found ps)
+      freed-form : (found : Found) → W.PlacesForm (keyOf (l .own)) (bytesOf 2240 (freedAt found ps)) (freedAt found ps)
       freed-form (At i) = free-kept (keyOf (l .own)) (m .waiting) ps (table-form m l ok) i
-      freed-form Nothing = subst (λ (t : List ℕ). W.Form (keyOf (l .own)) t ps) (table-form m l ok .bytes) (table-form m l ok)
+      freed-form Nothing = subst (λ (t : List ℕ). W.PlacesForm (keyOf (l .own)) t ps) (table-form m l ok .bytes) (table-form m l ok)
 
   -- any FLOOD
-  pub flood-does : (head : Head) (s : Bool) (validate : ℕ) (route : Part) → EntryIn (l .datagram) route → AllFail (floodRows m l s validate route)
+  pub flood-does : (head : Head) (s : Bool) (validate : ℕ) (route : Part) → EntryIn (l .datagram) route → AllFail (floodTable m l s validate route)
       → Does m l (saidBy (l .datagram) (head .id) s validate route) (byEntry m l (held m l) (used m l) head s validate route)
   unfolding floodPlan revokePlan heldOf
   flood-does head s validate (Here start len) w bars = passed m l _ _ _ bars (entry-does (head .id) s validate start len (w .1) bars)

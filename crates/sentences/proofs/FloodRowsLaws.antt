@@ -34,7 +34,7 @@ use Rattle.gauge_commit.proofs.LengthLaws.{inquire-length}
 use Rattle.gauge_commit.proofs.SentLaws.{joined-one, acks-room, record-long}
 use Rattle.gauge_plan.specs.Lent.{Memory, Receive}
 use Rattle.plan_message.proofs.AnswerLaws.{EntryIn}
-use Rattle.gauge_laws.specs.Table.{floodRows}
+use Rattle.gauge_laws.specs.Table.{floodTable}
 use Rattle.sentences.specs.Heard.{Heard, entry, revoke}
 use Rattle.sentences.specs.Sentences as S
 use Rattle.sentences.specs.Numbers as Num
@@ -90,13 +90,13 @@ module _ (m : Memory) (l : Receive) (n : ℕ) (low : First m l n) where
         ap length (joined-append (S.acks l id s b) (S.asks l o r)) ∙ length-append (joined (S.acks l id s b)) (joined (S.asks l o r))
         ∙ ap₂ _+_ (acks-room (l .major) (l .minor) (l .id) id b s) (asks-room fresh o)
 
-    entry-both : Both m l n x (floodRows m l s validate (Here start len))
+    entry-both : Both m l n x (floodTable m l s validate (Here start len))
     entry-both = (to, from)
       where
         full-is : length ps ≡ usedOf (m .waiting)
         full-is = rows-length 140 (usedOf (m .waiting)) (m .waiting)
 
-        to : Said m l x n → Row n (floodRows m l s validate (Here start len))
+        to : Said m l x n → Row n (floodTable m l s validate (Here start len))
         to (inl (inl w)) = inl (w .0, eq-eqb (keyOf r) k (w .1))
         to (inl (inr (inl w))) =
             let there = any-in (hasId (idAfter (l .id))) (w .2) ps (w .3) (eq-eqb (idOf (w .2)) (idAfter (l .id)) (w .4)) in
@@ -108,7 +108,7 @@ module _ (m : Memory) (l : Receive) (n : ℕ) (low : First m l n) where
             inr (inr (inr (inl (short-from m l x ds n _ (g .cache) entry-reply (entry-room (g .nonce))
             (omega (arith, ack-most s b, inquire-most o)) w))))
 
-        from : Row n (floodRows m l s validate (Here start len)) → Said m l x n
+        from : Row n (floodTable m l s validate (Here start len)) → Said m l x n
         from (inl w) = inl (inl (w .0, eqb-true (keyOf r) k (w .1)))
         from (inr (inl w)) =
             let v = both-true o (anyOf (hasId (idAfter (l .id))) ps) (w .1) in
@@ -135,20 +135,20 @@ module _ (m : Memory) (l : Receive) (n : ℕ) (low : First m l n) where
     unfolding ackMade
     revoke-room = acks-room (l .major) (l .minor) (l .id) id rb s
 
-    revoke-both : Num.Says l rx → Both m l n rx (floodRows m l s validate Absent)
+    revoke-both : Num.Says l rx → Both m l n rx (floodTable m l s validate Absent)
     revoke-both says = (to, from)
       where
         is-good : Before 9 n → l .verdict ≡ 1
         is-good h = elim (eq-or (l .verdict) 1) [ inl e ↦ e | inr d ↦ absurd (low 9 h (Num.bad-revocation refl id s (keyAt validate (l .datagram)) says d)) ]
 
-        to : Said m l rx n → Row n (floodRows m l s validate Absent)
+        to : Said m l rx n → Row n (floodTable m l s validate Absent)
         to (inl (inl w)) = inl (w .0, not-iff (l .verdict) 1 .1 (w .1))
         to (inl (inr w)) = inr (inl (w .0, eq-eqb (keyAt 0 (l .key)) k (w .2)))
         to (inr w) =
             let g = good m l n low (sooner 1 15 (unfold placeIn in refl) (w .0)) in
             inr (inr (inl (short-from m l rx (S.acks l id s rb) n _ (g .cache) revoke-reply revoke-room (omega (arith, ack-most s rb)) w)))
 
-        from : Row n (floodRows m l s validate Absent) → Said m l rx n
+        from : Row n (floodTable m l s validate Absent) → Said m l rx n
         from (inl w) = inl (inl (w .0, not-iff (l .verdict) 1 .0 (w .1)))
         from (inr (inl w)) = inl (inr (w .0, is-good (sooner 9 11 (unfold placeIn in refl) (w .0)), eqb-true (keyAt 0 (l .key)) k (w .1)))
         from (inr (inr (inl w))) = inr (short-to m l rx (S.acks l id s rb) n _ revoke-reply revoke-room w)
@@ -156,6 +156,6 @@ module _ (m : Memory) (l : Receive) (n : ℕ) (low : First m l n) where
 
   -- any FLOOD
   pub flood-both : (id : ℕ) (s : Bool) (validate : ℕ) (route : Part) → EntryIn (l .datagram) route
-      → Num.Says l (saidBy (l .datagram) id s validate route) → Both m l n (saidBy (l .datagram) id s validate route) (floodRows m l s validate route)
+      → Num.Says l (saidBy (l .datagram) id s validate route) → Both m l n (saidBy (l .datagram) id s validate route) (floodTable m l s validate route)
   flood-both id s validate (Here start len) w says = entry-both id s validate start len (w .1)
   flood-both id s validate Absent w says = revoke-both id s validate says

@@ -21,7 +21,7 @@ use Rattle.kept.proofs.RankedLaws.{mem-ranked, ranked-rises, ranked-mem, length
 use Rattle.kept.proofs.HistoryLaws.{is-side, side-is, on, apart}
 use Rattle.kept.proofs.RecordLaws.{keys-put}
 use Rattle.kept.proofs.Demand3Laws.{plain-order}
-use Rattle.cache.specs.Form.{keysOf, placesIn, heldOf, cacheForm, Held, Form}
+use Rattle.cache.specs.Form.{keysOf, placesIn, heldOf, cacheForm, HeldRecords, Form}
 use Rattle.cache.specs.Bytes.{afterLearn, afterRemove}
 use Rattle.cache.proofs.FormLaws.{form-held, form-true, true-form, form-room, formed-sized}
 use Rattle.cache.proofs.KeepLaws.{learnt-form, learnt-fits, removed-form, removed-fewer}
@@ -36,7 +36,7 @@ use Rattle.sentences.proofs.MoveLaws.{without-in, put-in}
 
 -- ---- the views, from rows
 
-pub table-by : (k : ℕ) (t : List ℕ) (ps : List (List ℕ)) (P : List ℕ → Type 0) → W.Form k t ps → ((p : List ℕ) → (p ∈ ps) ↔ P p)
+pub table-by : (k : ℕ) (t : List ℕ) (ps : List (List ℕ)) (P : List ℕ → Type 0) → W.PlacesForm k t ps → ((p : List ℕ) → (p ∈ ps) ↔ P p)
     → S.WaitsExactly k t P
 table-by k t ps P f h = record {
   form = form-test k t ps f;
@@ -52,7 +52,7 @@ cache-by k lent left recs P f e h = record {
 }
 
 -- a cache laid out anew has its size
-anew-size : (k n : ℕ) (recs : List (List ℕ)) → Held k recs → 100 * length recs ≤ n → length (bytesOf n recs) ≡ n
+anew-size : (k n : ℕ) (recs : List (List ℕ)) → HeldRecords k recs → 100 * length recs ≤ n → length (bytesOf n recs) ≡ n
 anew-size k n recs h fits = bytes-length 100 n recs (formed-sized recs (h .formed)) fits
 
 -- ---- removing

@@ -84,7 +84,7 @@ module _ (m : Memory) (l : Receive) where
     is-message = subst (λ (x : fields.Found). IsMessage (R.shown (l .datagram) x)) (sym reads-it) (shown-message (l .datagram) _ _)
 
   module _ (ok : Fine) where
-    pub table-form : W.Form (keyOf (l .own)) (m .waiting) (placesOf (m .waiting))
+    pub table-form : W.PlacesForm (keyOf (l .own)) (m .waiting) (placesOf (m .waiting))
     table-form = form-of (keyOf (l .own)) (m .waiting) (ok .ready .tabled)
 
     pub ids-rise : Rising plain 0 (map idOf (placesOf (m .waiting)))

@@ -62,7 +62,7 @@ use Rattle.gauge_laws.proofs.TickLaws.{tick-round}
 use Rattle.gauge_laws.proofs.FormLaws.{send-cache}
 use Rattle.gauge.specs.Words.{left, OneKey, Typed, Proper}
 use Rattle.gauge.specs.Ours.{ours}
-use Rattle.signed.specs.Answered.{Told, told, toldFrom, inquires, inquired, thatOf, answeredBy, answered, firstOf, HoldsLastAnswered}
+use Rattle.signed.specs.Answered.{AnswerTold, answerTold, toldFrom, inquires, inquired, thatOf, answeredBy, answered, firstTold, HoldsLastAnswered}
 use Rattle.signed.proofs.ToldLaws.{happened, log-happened}
 use Rattle.signed.proofs.StepLaws.{moved-all, ran}
 use Rattle.signed.proofs.Theorems.{empty-cache, empty-table, start, typed-calls}
@@ -83,18 +83,18 @@ module _ {A : Type 0} (P : A → Type 0) where
 
 -- a record is the first of its key among those of the inquiries answered; a waiting inquiry's record is the one told
 abbrev Last : List (List ℕ) → List ℕ → Type 0
-Last rs r = firstOf (keyOf r) rs ≡ some r
+Last rs r = firstTold (keyOf r) rs ≡ some r
 
-abbrev Asked : List Told → List ℕ → Type 0
+abbrev Asked : List AnswerTold → List ℕ → Type 0
 Asked es p = kindOf p ≡ 2 → inquired (idOf p) es ≡ some (placeRecord p)
 
 -- a record learned is the first of its key; those of other keys stay the first of theirs
 last-here : (r : List ℕ) (rs : List (List ℕ)) → Last (r ∷ rs) r
-unfolding firstOf
+unfolding firstTold
 last-here r rs = rw (eq-eqb (keyOf r) (keyOf r) refl) refl
 
 last-there : (q r : List ℕ) (rs : List (List ℕ)) → ¬ (keyOf q ≡ keyOf r) → Last rs q → Last (r ∷ rs) q
-unfolding firstOf
+unfolding firstTold
 last-there q r rs other e = rw (ne-eqb (keyOf q) (keyOf r) other) e
 
 module _ (own : ℕ) (cache : List ℕ) (recs : List (List ℕ)) (f : Form own cache recs) (rs : List (List ℕ)) (a : Every (Last rs) recs) where
@@ -116,7 +116,7 @@ module _ (own : ℕ) (cache : List ℕ) (recs : List (List ℕ)) (f : Form own c
       by q (inr m) = last-there q r rs (m .1) (every-in (Last rs) q recs a (m .0))
 
 -- what holds of the places holds of those without one
-module _ (own : ℕ) (t : List ℕ) (ps : List (List ℕ)) (f : W.Form own t ps) (P : List ℕ → Type 0) (a : All P ps) where
+module _ (own : ℕ) (t : List ℕ) (ps : List (List ℕ)) (f : W.PlacesForm own t ps) (P : List ℕ → Type 0) (a : All P ps) where
   all-found : (found : Found) → All P (placesOf (bytesOf 2240 (freedAt found ps)))
   all-found (At i) = subst (All P) (form-unique own (bytesOf 2240 (freed i ps)) (freed i ps) (free-kept own t ps f i)) (all-freed P i ps a)
   all-found Nothing = subst (λ (s : List ℕ). All P (placesOf s)) (f .bytes) (subst (All P) (form-unique own t ps f) a)
@@ -124,15 +124,15 @@ module _ (own : ℕ) (t : List ℕ) (ps : List (List ℕ)) (f : W.Form own t ps)
 -- ---- an accepted datagram
 
 -- what holds between two calls
-pub record Holds (k : ℕ) (es : List Told) (m : Memory) : Type 0 where
+pub record Holds (k : ℕ) (es : List AnswerTold) (m : Memory) : Type 0 where
   pub asked : All (Asked es) (placesOf (m .waiting))
   pub last : Every (Last (answered es)) (heldOf k (m .cache))
 
-asked-later : (es es′ : List Told) → ((id : ℕ) → inquired id es′ ≡ inquired id es) → (ps : List (List ℕ)) → All (Asked es) ps → All (Asked es′) ps
+asked-later : (es es′ : List AnswerTold) → ((id : ℕ) → inquired id es′ ≡ inquired id es) → (ps : List (List ℕ)) → All (Asked es) ps → All (Asked es′) ps
 asked-later es es′ same ps a = all-map (Asked es) (Asked es′) (λ p h kind. same (idOf p) ∙ h kind) ps a
 
 -- a FLOOD with a route entry
-module _ (m : Memory) (l : Receive) (es : List Told) (u : ℕ) (s n : Bool) (a start len : ℕ) where
+module _ (m : Memory) (l : Receive) (es : List AnswerTold) (u : ℕ) (s n : Bool) (a start len : ℕ) where
   abbrev Entry : List ℕ
   Entry = recordOf (part start len (l .datagram))
 
@@ -150,7 +150,7 @@ module _ (m : Memory) (l : Receive) (es : List Told) (u : ℕ) (s n : Bool) (a s
   -- the place that opens is that of the INQUIRE, and no other has its ID
   opened-asked : (k : Flooded m l u s n a true start len) → Floods m l (R.answer (l .datagram) (l .major)) start len
       → All (Asked es) (placesOf (m .waiting))
-      → All (Asked (told (receives l) (Given true) ∷ es))
+      → All (Asked (answerTold (receives l) (Given true) ∷ es))
       (placesOf (bytesOf 2240 (opened (inquiryPlace (idAfter (l .id)) Entry) (rows 140 u (m .waiting)))))
   opened-asked k f asked =
       let t = m .waiting in
@@ -158,9 +158,9 @@ module _ (m : Memory) (l : Receive) (es : List Told) (u : ℕ) (s n : Bool) (a s
       let ps = rows 140 u t in
       let i = idAfter (l .id) in
       let p = inquiryPlace i Entry in
-      let later = told (receives l) (Given true) ∷ es in
+      let later = answerTold (receives l) (Given true) ∷ es in
       let is = ready-places (l .own) m (k .ready) in
-      let form : W.Form own t ps = subst (W.Form own t) is (ready-form (l .own) m (k .ready)) in
+      let form : W.PlacesForm own t ps = subst (W.PlacesForm own t) is (ready-form (l .own) m (k .ready)) in
       let few = k .ready .few in
       let free = k .plans .free refl in
       let new = k .plans .new refl in
@@ -181,25 +181,25 @@ module _ (m : Memory) (l : Receive) (es : List Told) (u : ℕ) (s n : Bool) (a s
 
   flood-asked : (opens : Bool) → Flooded m l u s n a opens start len → Floods m l (R.answer (l .datagram) (l .major)) start len
       → All (Asked es) (placesOf (m .waiting))
-      → All (Asked (told (receives l) (Given opens) ∷ es)) (placesOf (carried m l (Flood u s n a opens start len) .memory .waiting))
+      → All (Asked (answerTold (receives l) (Given opens) ∷ es)) (placesOf (carried m l (Flood u s n a opens start len) .memory .waiting))
   unfolding carried
   flood-asked true k f asked = opened-asked k f asked
   flood-asked false k f asked =
-      asked-later es (told (receives l) (Given false) ∷ es) (asked-none m l (Given false) es (asks-told false k)) (placesOf (m .waiting)) asked
+      asked-later es (answerTold (receives l) (Given false) ∷ es) (asked-none m l (Given false) es (asks-told false k)) (placesOf (m .waiting)) asked
 
-module _ (m : Memory) (l : Receive) (es : List Told) (b : Holds (keyOf (l .own)) es m) where
+module _ (m : Memory) (l : Receive) (es : List AnswerTold) (b : Holds (keyOf (l .own)) es m) where
   abbrev OwnKey : ℕ
   OwnKey = keyOf (l .own)
 
   -- where nothing is answered, and nothing asked
-  last-still : (g : Answer) → ((fs : List Told) → answeredBy fs (R.answer (l .datagram) (l .major)) ≡ []) → (cache : List ℕ)
-      → Every (Last (answered es)) (heldOf OwnKey cache) → Every (Last (answered (told (receives l) g ∷ es))) (heldOf OwnKey cache)
+  last-still : (g : Answer) → ((fs : List AnswerTold) → answeredBy fs (R.answer (l .datagram) (l .major)) ≡ []) → (cache : List ℕ)
+      → Every (Last (answered es)) (heldOf OwnKey cache) → Every (Last (answered (answerTold (receives l) g ∷ es))) (heldOf OwnKey cache)
   last-still g q cache a = subst (λ (rs : List (List ℕ)). Every (Last rs) (heldOf OwnKey cache)) (sym (answered-still m l g es q)) a
 
   quiet-holds : (g : Answer) (m′ : Memory) → Quiet m l (R.answer (l .datagram) (l .major)) → All (Asked es) (placesOf (m′ .waiting))
-      → Every (Last (answered es)) (heldOf OwnKey (m′ .cache)) → Holds OwnKey (told (receives l) g ∷ es) m′
+      → Every (Last (answered es)) (heldOf OwnKey (m′ .cache)) → Holds OwnKey (answerTold (receives l) g ∷ es) m′
   quiet-holds g m′ q asked last = record {
-    asked = asked-later es (told (receives l) g ∷ es) (asked-still m l g es (q .asked)) (placesOf (m′ .waiting)) asked;
+    asked = asked-later es (answerTold (receives l) g ∷ es) (asked-still m l g es (q .asked)) (placesOf (m′ .waiting)) asked;
     last = last-still g (q .answers) (m′ .cache) last;
   }
 
@@ -215,14 +215,14 @@ module _ (m : Memory) (l : Receive) (es : List Told) (b : Holds (keyOf (l .own))
     asked-found =
         let ps = rows 140 u (m .waiting) in
         all-found OwnKey (m .waiting) ps
-        (subst (W.Form OwnKey (m .waiting)) (ready-places (l .own) m ready) (ready-form (l .own) m ready))
+        (subst (W.PlacesForm OwnKey (m .waiting)) (ready-places (l .own) m ready) (ready-form (l .own) m ready))
         (Asked es) asked-rows
 
     last-without : (k : ℕ) → Every (Last (answered es)) (heldOf OwnKey (bytesOf (length (m .cache)) (afterRemove k (rows 100 h (m .cache)))))
     last-without = last-removed OwnKey (m .cache) (rows 100 h (m .cache)) (ready .form) (answered es) last-rows
 
   plan-holds : (p : Plan) → receivePlan m l ≡ p → Known m l p → Heard m l (R.answer (l .datagram) (l .major)) p
-      → Holds OwnKey (told (receives l) (carried m l p .answer) ∷ es) (carried m l p .memory)
+      → Holds OwnKey (answerTold (receives l) (carried m l p .answer) ∷ es) (carried m l p .memory)
   unfolding carried
   plan-holds (Refuse n) e k q = absurd q
   plan-holds (Flood u s n a opens start len) e k q = record {
@@ -244,7 +244,7 @@ module _ (m : Memory) (l : Receive) (es : List Told) (b : Holds (keyOf (l .own))
       ∙ all-at (Asked es) at (rows 140 u (m .waiting)) (asked-rows (k .ready)) (w .within) (w .kind-is) in
       let now = answered-one m l g es r (q .answers es ∙ ap thatOf was) refl in
       record {
-        asked = asked-later es (told (receives l) g ∷ es) (asked-still m l g es (q .asked)) (placesOf (carried m l (Learn h u at) .memory .waiting))
+        asked = asked-later es (answerTold (receives l) g ∷ es) (asked-still m l g es (q .asked)) (placesOf (carried m l (Learn h u at) .memory .waiting))
             (asked-found (k .ready) (At at));
         last = subst (λ (rs : List (List ℕ)). Every (Last rs) (heldOf OwnKey (carried m l (Learn h u at) .memory .cache))) (sym now)
             (last-learnt OwnKey (m .cache) (rows 100 h (m .cache)) (k .ready .form) (answered es) (last-rows (k .ready)) r
@@ -257,7 +257,7 @@ module _ (m : Memory) (l : Receive) (es : List Told) (b : Holds (keyOf (l .own))
   plan-holds (Show h a target) e k q = quiet-holds _ _ q (b .asked) (b .last)
 
   receive-holds : receiveCall m l .answer .number ≡ 0
-      → Holds OwnKey (told (receives l) (receiveCall m l .answer) ∷ es) (receiveCall m l .memory)
+      → Holds OwnKey (answerTold (receives l) (receiveCall m l .answer) ∷ es) (receiveCall m l .memory)
   unfolding receiveCall
   receive-holds z = plan-holds (receivePlan m l) refl (known m l) (heard m l z)
 
@@ -269,30 +269,30 @@ unfolding newPlace digitsLE
 flood-kind id key = refl
 
 -- a refused call tells nothing
-refused-asked : (c : Call) (g : Answer) (es : List Told) → 0 < g .number → (id : ℕ) → inquired id (told c g ∷ es) ≡ inquired id es
+refused-asked : (c : Call) (g : Answer) (es : List AnswerTold) → 0 < g .number → (id : ℕ) → inquired id (answerTold c g ∷ es) ≡ inquired id es
 unfolding inquired
 refused-asked (receives l) g es p id = rw (ne-eqb (g .number) 0 (omega arith)) refl
 refused-asked (sends l) g es p id = refl
 refused-asked (ticks l) g es p id = refl
 refused-asked (lists l) g es p id = refl
 
-refused-answered : (c : Call) (g : Answer) (es : List Told) → 0 < g .number → answered (told c g ∷ es) ≡ answered es
+refused-answered : (c : Call) (g : Answer) (es : List AnswerTold) → 0 < g .number → answered (answerTold c g ∷ es) ≡ answered es
 unfolding answered
 refused-answered (receives l) g es p = rw (ne-eqb (g .number) 0 (omega arith)) refl
 refused-answered (sends l) g es p = refl
 refused-answered (ticks l) g es p = refl
 refused-answered (lists l) g es p = refl
 
-asked-ticked : (es : List Told) (p : List ℕ) → length p ≡ 140 → Asked es p → Asked es (oneLess p)
+asked-ticked : (es : List AnswerTold) (p : List ℕ) → length p ≡ 140 → Asked es p → Asked es (oneLess p)
 asked-ticked es p long h kind =
     ap (λ (i : ℕ). inquired i es) (less-id p) ∙ h (sym (less-kind p) ∙ kind) ∙ ap (λ (r : List ℕ). some r) (sym (less-record p))
 
-module _ (k : ℕ) (es : List Told) (m : Memory) (b : Holds k es m) where
-  accepted-step : (c : Call) → OneKey k c → Typed c → ours m c .answer .number ≡ 0 → Holds k (told c (ours m c .answer) ∷ es) (ours m c .memory)
+module _ (k : ℕ) (es : List AnswerTold) (m : Memory) (b : Holds k es m) where
+  accepted-step : (c : Call) → OneKey k c → Typed c → ours m c .answer .number ≡ 0 → Holds k (answerTold c (ours m c .answer) ∷ es) (ours m c .memory)
   unfolding inquired answered gaugeTick gaugeList
   accepted-step (receives l) one ty z =
       let is = one (receive-ready m l z .owned) in
-      subst (λ (j : ℕ). Holds j (told (receives l) (receiveCall m l .answer) ∷ es) (receiveCall m l .memory)) is
+      subst (λ (j : ℕ). Holds j (answerTold (receives l) (receiveCall m l .answer) ∷ es) (receiveCall m l .memory)) is
       (receive-holds m l es (subst (λ (j : ℕ). Holds j es m) (sym is) b) z)
   -- the others tell nothing of inquiries
   accepted-step (sends l) one ty z = record {
@@ -309,27 +309,27 @@ module _ (k : ℕ) (es : List Told) (m : Memory) (b : Holds k es m) where
       }
   accepted-step (lists l) one ty z = record { asked = b .asked; last = b .last }
 
-  call-step : (c : Call) → OneKey k c → Typed c → Holds k (told c (ours m c .answer) ∷ es) (ours m c .memory)
+  call-step : (c : Call) → OneKey k c → Typed c → Holds k (answerTold c (ours m c .answer) ∷ es) (ours m c .memory)
   call-step c one ty = go (ours m c .answer .number) refl
     where
-      go : (n : ℕ) → ours m c .answer .number ≡ n → Holds k (told c (ours m c .answer) ∷ es) (ours m c .memory)
+      go : (n : ℕ) → ours m c .answer .number ≡ n → Holds k (answerTold c (ours m c .answer) ∷ es) (ours m c .memory)
       go zero z = accepted-step c one ty z
       go (suc n) z =
           let g = ours m c .answer in
           let p : 0 < g .number = omega (arith, z) in
-          subst (Holds k (told c g ∷ es)) (sym (ap (λ (h : Handed). h .memory) (refused-keeps m c p))) (record {
-            asked = asked-later es (told c g ∷ es) (refused-asked c g es p) (placesOf (m .waiting)) (b .asked);
+          subst (Holds k (answerTold c g ∷ es)) (sym (ap (λ (h : Handed). h .memory) (refused-keeps m c p))) (record {
+            asked = asked-later es (answerTold c g ∷ es) (refused-asked c g es p) (placesOf (m .waiting)) (b .asked);
             last = subst (λ (rs : List (List ℕ)). Every (Last rs) (heldOf k (m .cache))) (sym (refused-answered c g es p)) (b .last);
           })
 
 -- ---- any sequence of calls
 
-all-hold : (k : ℕ) (es : List Told) (m : Memory) → Holds k es m → (calls : List Call) → Proper k calls
+all-hold : (k : ℕ) (es : List AnswerTold) (m : Memory) → Holds k es m → (calls : List Call) → Proper k calls
     → Holds k (toldFrom ours m es calls) (left ours m calls)
 unfolding toldFrom left
 all-hold k es m b [] proper = b
 all-hold k es m b (c ∷ calls) proper =
-    all-hold k (told c (ours m c .answer) ∷ es) (ours m c .memory) (call-step k es m b c (proper .0 .0) (proper .0 .1)) calls (proper .1)
+    all-hold k (answerTold c (ours m c .answer) ∷ es) (ours m c .memory) (call-step k es m b c (proper .0 .0) (proper .0 .1)) calls (proper .1)
 
 pub holds-last-answered : HoldsLastAnswered ours
 holds-last-answered k C least most calls proper =

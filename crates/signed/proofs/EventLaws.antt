@@ -34,7 +34,7 @@ use Rattle.plan_answer.proofs.AnsweringLaws.{Waits, waits}
 use Rattle.gauge_plan.specs.Lent.{Memory, Receive, receives}
 use Rattle.plan_message.specs.Planned.{byEntry, planFor, receivePlan}
 use Rattle.gauge.specs.Receive.{receiveCall}
-use Rattle.gauge_laws.specs.Table.{floodRows, messageRows, receiveTable}
+use Rattle.gauge_laws.specs.Table.{floodTable, messageRows, receiveTable}
 use Rattle.gauge_laws.proofs.TableLaws.{IsMessage, shown-message, none-applies}
 use Rattle.gauge.specs.Words.{Entry}
 use Rattle.sentences.proofs.HeardLaws.{heardBy}
@@ -61,7 +61,7 @@ behind : (m : Memory) (l : Receive) (a : T.Answer) (rs : List Refusal) (done : P
 behind m l a rs done f t = subst (Told m l a) (sym (all-pass Refuse rs done f)) t
 
 module _ (m : Memory) (l : Receive) where
-  told-flood : (head : Head) (s : Bool) (validate : ℕ) (token revoke entry reached : Part) → AllFail (floodRows m l s validate entry)
+  told-flood : (head : Head) (s : Bool) (validate : ℕ) (token revoke entry reached : Part) → AllFail (floodTable m l s validate entry)
       → Told m l (M.Flood head s validate token revoke entry reached)
       (byEntry m l (heldIn (keyOf (l .own)) (m .cache)) (usedOf (m .waiting)) head s validate entry)
   unfolding floodPlan revokePlan heldOf

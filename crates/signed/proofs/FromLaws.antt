@@ -11,7 +11,7 @@ use borrow.Author.Tests.{le-ltb}
 use Rattle.key.specs.Around.{Side, sideOf, nearness}
 use Rattle.record.specs.Record.{keyOf}
 use Rattle.kept.specs.Keys.{_∈_, Every, Rising, plain, put}
-use Rattle.kept.specs.History.{Event, learned, trimmed, learn, happen, after, Learns, NoRemoval, learnedAll}
+use Rattle.kept.specs.History.{Event, learned, trimmed, learnWith, happen, after, Learns, NoRemoval, learnedAll}
 use Rattle.kept.specs.Neighbours.{IsNeighbours}
 use Rattle.kept.specs.Plain.{NotOwn, neighbours, drops, kept}
 use Rattle.kept.proofs.PutLaws.{put-nil, put-more}
@@ -51,8 +51,8 @@ put-last b x (j ∷ l) more r =
 
 module _ (k C : ℕ) where
   learn-last : (x : ℕ) (front rest : List ℕ) → Rising plain 0 (front ++ (x ∷ rest)) → length (front ++ (x ∷ rest)) ≤ C
-      → learn (drops k) C front x ≡ front ++ (x ∷ [])
-  unfolding learn trimmed
+      → learnWith (drops k) C front x ≡ front ++ (x ∷ [])
+  unfolding learnWith trimmed
   learn-last x front rest r few =
       ap (trimmed (drops k) C) (put-last 0 x front rest r)
       ∙ rw (le-ltb C (length (front ++ (x ∷ []))) (omega (arith, few, length-append front (x ∷ rest), length-append front (x ∷ [])))) refl

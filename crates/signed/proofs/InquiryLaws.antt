@@ -39,7 +39,7 @@ use Rattle.gauge_plan.specs.declared.memory.Fitness.the-variants.{Fit}
 use Rattle.gauge_plan.proofs.FoundLaws.{some-found}
 use Rattle.plan_answer.proofs.AnsweringLaws.{Waits, waits}
 use Rattle.gauge_commit.specs.Sending.{lengths}
-use Rattle.gauge_commit.specs.Replies.{acks, asks}
+use Rattle.gauge_commit.specs.Replies.{ackWritten, inquireWritten}
 use Rattle.gauge_commit.specs.declared.Answer.{Answer}
 use Rattle.gauge_commit.proofs.LengthLaws.{ack-length, inquire-length}
 use Rattle.gauge_plan.specs.Lent.{Memory, Receive, receives}
@@ -47,7 +47,7 @@ use Rattle.plan_message.specs.Planned.{byEntry, planFor, receivePlan}
 use Rattle.gauge.specs.Receive.{receiveCall}
 use Rattle.plan_message.proofs.PlannedLaws.{plan-message}
 use Rattle.gauge_laws.proofs.TableLaws.{none-applies}
-use Rattle.signed.specs.Answered.{Told, told, inquires, floodedOr, inquired, thatOf, answeredBy, answered}
+use Rattle.signed.specs.Answered.{AnswerTold, answerTold, inquires, floodedOr, inquired, thatOf, answeredBy, answered}
 use Rattle.signed.proofs.EventLaws as event
 
 -- ---- what an accepted datagram tells of inquiries, by its plan
@@ -55,19 +55,19 @@ use Rattle.signed.proofs.EventLaws as event
 -- neither that one is sent nor that one is answered
 pub record Quiet (m : Memory) (l : Receive) (a : T.Answer) : Type 0 where
   pub asked : (earlier : Option (List ℕ)) → floodedOr (l .datagram) a earlier ≡ earlier
-  pub answers : (es : List Told) → answeredBy es a ≡ []
+  pub answers : (es : List AnswerTold) → answeredBy es a ≡ []
 
 -- a FLOOD with a route entry
 pub record Floods (m : Memory) (l : Receive) (a : T.Answer) (start len : ℕ) : Type 0 where
   pub asked : (earlier : Option (List ℕ)) → floodedOr (l .datagram) a earlier ≡ some (recordOf (part start len (l .datagram)))
-  pub answers : (es : List Told) → answeredBy es a ≡ []
+  pub answers : (es : List AnswerTold) → answeredBy es a ≡ []
 
 -- an AUTHORITY: the inquiry that waits with the acked ID
 pub record Answers (m : Memory) (l : Receive) (a : T.Answer) (u at : ℕ) : Type 0 where
   pub acked : ℕ
   pub waiting : Waits acked 2 at (rows 140 u (m .waiting))
   pub asked : (earlier : Option (List ℕ)) → floodedOr (l .datagram) a earlier ≡ earlier
-  pub answers : (es : List Told) → answeredBy es a ≡ thatOf (inquired acked es)
+  pub answers : (es : List AnswerTold) → answeredBy es a ≡ thatOf (inquired acked es)
 
 abbrev pub Heard : Memory → Receive → T.Answer → Plan → Type 0
 Heard m l a (Refuse n) = ⊥
@@ -137,37 +137,37 @@ cond-unless : {A : Type 0} (b : Bool) (x y : A) → cond (b && false) x y ≡ y
 cond-unless true x y = refl
 cond-unless false x y = refl
 
-module _ (m : Memory) (l : Receive) (g : Answer) (es : List Told) where
+module _ (m : Memory) (l : Receive) (g : Answer) (es : List AnswerTold) where
   abbrev Message : T.Answer
   Message = R.answer (l .datagram) (l .major)
 
   -- which inquiry an ID is that of
   pub asked-still : ((earlier : Option (List ℕ)) → floodedOr (l .datagram) Message earlier ≡ earlier)
-      → (id : ℕ) → inquired id (told (receives l) g ∷ es) ≡ inquired id es
+      → (id : ℕ) → inquired id (answerTold (receives l) g ∷ es) ≡ inquired id es
   unfolding inquired
   asked-still q id = rw (q (inquired id es)) (cond-same (inquires g && eqb (idAfter (l .id)) id) (inquired id es))
 
-  pub asked-none : inquires g ≡ false → (id : ℕ) → inquired id (told (receives l) g ∷ es) ≡ inquired id es
+  pub asked-none : inquires g ≡ false → (id : ℕ) → inquired id (answerTold (receives l) g ∷ es) ≡ inquired id es
   unfolding inquired
   asked-none e id = rw e refl
 
-  pub asked-other : (id : ℕ) → eqb id (idAfter (l .id)) ≡ false → inquired id (told (receives l) g ∷ es) ≡ inquired id es
+  pub asked-other : (id : ℕ) → eqb id (idAfter (l .id)) ≡ false → inquired id (answerTold (receives l) g ∷ es) ≡ inquired id es
   unfolding inquired
   asked-other id e =
       rw (ne-eqb (idAfter (l .id)) id (λ is. eqb-false id (idAfter (l .id)) e (sym is)))
       (cond-unless (inquires g) (floodedOr (l .datagram) Message (inquired id es)) (inquired id es))
 
   pub asked-here : (start len : ℕ) → Floods m l Message start len → inquires g ≡ true
-      → inquired (idAfter (l .id)) (told (receives l) g ∷ es) ≡ some (recordOf (part start len (l .datagram)))
+      → inquired (idAfter (l .id)) (answerTold (receives l) g ∷ es) ≡ some (recordOf (part start len (l .datagram)))
   unfolding inquired
   asked-here start len f e = rw (e, eq-eqb (idAfter (l .id)) (idAfter (l .id)) refl) (f .asked (inquired (idAfter (l .id)) es))
 
   -- which were answered
-  pub answered-still : ((fs : List Told) → answeredBy fs Message ≡ []) → answered (told (receives l) g ∷ es) ≡ answered es
+  pub answered-still : ((fs : List AnswerTold) → answeredBy fs Message ≡ []) → answered (answerTold (receives l) g ∷ es) ≡ answered es
   unfolding answered
   answered-still q = rw (q es) (ap (λ (rs : List (List ℕ)). rs ++ answered es) (cond-same (eqb (g .number) 0) []))
 
-  pub answered-one : (r : List ℕ) → answeredBy es Message ≡ r ∷ [] → g .number ≡ 0 → answered (told (receives l) g ∷ es) ≡ r ∷ answered es
+  pub answered-one : (r : List ℕ) → answeredBy es Message ≡ r ∷ [] → g .number ≡ 0 → answered (answerTold (receives l) g ∷ es) ≡ r ∷ answered es
   unfolding answered
   answered-one r e z = rw (e, eq-eqb (g .number) 0 z) refl
 
@@ -176,7 +176,7 @@ module _ (major minor id acked : ℕ) (nonce r : List ℕ) (fresh : length nonce
   asked-long : length (inquireMade major minor (idAfter id) (part 0 32 r) nonce .bytes) ≡ 76
   asked-long = inquire-length major minor (idAfter id) (part 0 32 r) nonce (length-take-le 32 r (omega arith)) fresh
 
-  pub inquires-is : (silent n opens : Bool) → inquires (lengths (acks major minor id silent acked n ++ asks major minor id opens nonce r)) ≡ opens
+  pub inquires-is : (silent n opens : Bool) → inquires (lengths (ackWritten major minor id silent acked n ++ inquireWritten major minor id opens nonce r)) ≡ opens
   inquires-is true n true = rw asked-long refl
   inquires-is true n false = refl
   inquires-is false true true = rw (ack-length major minor id acked true, asked-long) refl

@@ -76,8 +76,8 @@ module _ (k C : ℕ) (least : 10 ≤ C) (most : C ≤ 256) where
       (form-anew k (100 * C) [] (record { whole = omega arith; least = omega arith; most = omega arith })
       (record { formed = tt; rising = tt; others = tt }) (omega arith))
 
-  pub empty-table : W.Form k (replicate 2240 0) []
-  empty-table = subst (λ (s : List ℕ). W.Form k s []) (zeros 2240) (made-of k [] tt (omega arith) tt)
+  pub empty-table : W.PlacesForm k (replicate 2240 0) []
+  empty-table = subst (λ (s : List ℕ). W.PlacesForm k s []) (zeros 2240) (made-of k [] tt (omega arith) tt)
 
   pub start : Inv k C [] [] (empty C)
   start = record {

@@ -28,17 +28,17 @@ use Rattle.gauge.specs.Words.{Gauge, left, log, Proper}
 use Rattle.signed.specs.Events.{Happened}
 
 -- a call with its answer: the number, and the lengths of what is to be sent
-pub record Told : Type 0 where
+pub record AnswerTold : Type 0 where
   pub call : Call
   pub answer : Answer
 
-abbrev pub told : Call → Answer → Told
-told c a = record { call = c; answer = a }
+abbrev pub answerTold : Call → Answer → AnswerTold
+answerTold c a = record { call = c; answer = a }
 
 -- calls one after the other, the latest first; `earlier` are those before them
-unfoldable pub toldFrom : Gauge → Memory → List Told → List Call → List Told
+unfoldable pub toldFrom : Gauge → Memory → List AnswerTold → List Call → List AnswerTold
 toldFrom g m earlier [] = earlier
-toldFrom g m earlier (c ∷ cs) = toldFrom g (g m c .memory) (told c (g m c .answer) ∷ earlier) cs
+toldFrom g m earlier (c ∷ cs) = toldFrom g (g m c .memory) (answerTold c (g m c .answer) ∷ earlier) cs
 
 -- ---- the record that an inquiry is about
 
@@ -71,7 +71,7 @@ inquiredBy id (ticks l) a earlier = earlier
 inquiredBy id (lists l) a earlier = earlier
 
 -- the record that the latest INQUIRE with the ID is about
-unfoldable pub inquired : ℕ → List Told → Option (List ℕ)
+unfoldable pub inquired : ℕ → List AnswerTold → Option (List ℕ)
 inquired id [] = none
 inquired id (e ∷ es) = inquiredBy id (e .call) (e .answer) (inquired id es)
 
@@ -82,7 +82,7 @@ thatOf none = []
 thatOf (some r) = r ∷ []
 
 -- an AUTHORITY answers the inquiry with the acked ID
-abbrev pub answeredBy : List Told → T.Answer → List (List ℕ)
+abbrev pub answeredBy : List AnswerTold → T.Answer → List (List ℕ)
 answeredBy earlier (M.Refused n) = []
 answeredBy earlier (M.Solicit head entry nonce) = []
 answeredBy earlier (M.Advertise head acked keys nonce) = []
@@ -93,21 +93,21 @@ answeredBy earlier (M.Authority head acked fields) = thatOf (inquired acked earl
 answeredBy earlier (M.Ack head acked flags n) = []
 answeredBy earlier (M.Lookup head a precision criteria reason target validate entry path credential signature key) = []
 
-abbrev pub answers : List Told → Call → Answer → List (List ℕ)
+abbrev pub answers : List AnswerTold → Call → Answer → List (List ℕ)
 answers earlier (receives l) a = cond (eqb (a .number) 0) (answeredBy earlier (R.answer (l .datagram) (l .major))) []
 answers earlier (sends l) a = []
 answers earlier (ticks l) a = []
 answers earlier (lists l) a = []
 
 -- the one last answered first
-unfoldable pub answered : List Told → List (List ℕ)
+unfoldable pub answered : List AnswerTold → List (List ℕ)
 answered [] = []
 answered (e ∷ es) = answers es (e .call) (e .answer) ++ answered es
 
 -- the first that has the key
-unfoldable pub firstOf : ℕ → List (List ℕ) → Option (List ℕ)
-firstOf k [] = none
-firstOf k (r ∷ rs) = cond (eqb k (keyOf r)) (some r) (firstOf k rs)
+unfoldable pub firstTold : ℕ → List (List ℕ) → Option (List ℕ)
+firstTold k [] = none
+firstTold k (r ∷ rs) = cond (eqb k (keyOf r)) (some r) (firstTold k rs)
 
 -- ---- the statement
 
@@ -116,7 +116,7 @@ pub record LastAnswered (g : Gauge) (k C : ℕ) (calls : List Call) : Type 0 whe
   pub history : List Event
   pub happened : Happened [] (log g (empty C) calls) history
   pub keys : keysOf (heldOf k (left g (empty C) calls .cache)) ≡ kept k C history
-  pub last : Every (λ (r : List ℕ). firstOf (keyOf r) (answered (toldFrom g (empty C) [] calls)) ≡ some r) (heldOf k (left g (empty C) calls .cache))
+  pub last : Every (λ (r : List ℕ). firstTold (keyOf r) (answered (toldFrom g (empty C) [] calls)) ≡ some r) (heldOf k (left g (empty C) calls .cache))
 
 abbrev pub HoldsLastAnswered : Gauge → Type 0
 HoldsLastAnswered g = (k C : ℕ) → 10 ≤ C → C ≤ 256 → (calls : List Call) → Proper k calls → LastAnswered g k C calls

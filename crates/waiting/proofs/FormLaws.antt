@@ -17,7 +17,7 @@ use Rattle.octet.proofs.TestLaws.{both-true}
 use Rattle.table.specs.Rows.{rows, joined, bytesOf, Sized, Laid, anyOf}
 use Rattle.table.proofs.RowLaws.{rows-length, rows-sized, laid-bytes, bytes-length, bytes-rows, bytes-laid}
 use Rattle.waiting.specs.Place.{idOf, kindOf, placeKey}
-use Rattle.waiting.specs.Form.{isInquiry, again, placeForm, placesForm, usedIn, usedOf, placesOf, waitingForm, Form}
+use Rattle.waiting.specs.Form.{isInquiry, again, placeForm, placesForm, usedIn, usedOf, placesOf, waitingForm, PlacesForm}
 use Rattle.waiting.proofs.PlaceLaws.{form-used}
 
 -- ---- the used places, as a type: each in form, above those before it, and alone with its key where it is an inquiry
@@ -112,7 +112,7 @@ module _ (own : ℕ) (t : List ℕ) (e : waitingForm own t ≡ true) where
   pub form-placed : Placed own 0 (placesOf t)
   form-placed = placed own 0 (placesOf t) (outer .1)
 
-  pub form-of : Form own t (placesOf t)
+  pub form-of : PlacesForm own t (placesOf t)
   form-of = record {
     bytes = laid-bytes 140 (usedOf t) t form-laid ∙ ap (λ (n : ℕ). bytesOf n (placesOf t)) form-size;
     sized = rows-sized 140 (usedOf t) t (form-laid .room);
@@ -144,12 +144,12 @@ module _ (own : ℕ) (ps : List (List ℕ)) (sized : Sized 140 ps) (few : length
 
 -- ---- so the test holds exactly where the bytes are those of a list of places in form, and this list is unique
 
-pub form-unique : (own : ℕ) (t : List ℕ) (ps : List (List ℕ)) → Form own t ps → ps ≡ placesOf t
+pub form-unique : (own : ℕ) (t : List ℕ) (ps : List (List ℕ)) → PlacesForm own t ps → ps ≡ placesOf t
 form-unique own t ps f =
     sym (ap placesOf (f .bytes) ∙ made-places own ps (f .sized) (f .few) (placed own 0 ps (f .places)))
 
-pub form-test : (own : ℕ) (t : List ℕ) (ps : List (List ℕ)) → Form own t ps → waitingForm own t ≡ true
+pub form-test : (own : ℕ) (t : List ℕ) (ps : List (List ℕ)) → PlacesForm own t ps → waitingForm own t ≡ true
 form-test own t ps f = ap (waitingForm own) (f .bytes) ∙ made-form own ps (f .sized) (f .few) (placed own 0 ps (f .places))
 
-pub form-exactly : (own : ℕ) (t : List ℕ) → (waitingForm own t ≡ true) ↔ Form own t (placesOf t)
+pub form-exactly : (own : ℕ) (t : List ℕ) → (waitingForm own t ≡ true) ↔ PlacesForm own t (placesOf t)
 form-exactly own t = (form-of own t, form-test own t (placesOf t))

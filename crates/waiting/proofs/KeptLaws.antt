@@ -14,7 +14,7 @@ use Rattle.octet.specs.Part.{part}
 use Rattle.record.specs.Record.{keyOf, recordForm}
 use Rattle.table.specs.Rows.{bytesOf, Sized, anyOf}
 use Rattle.waiting.specs.Place.{idOf, kindOf, placeKey, inquiryPlace, floodPlace}
-use Rattle.waiting.specs.Form.{isInquiry, placeForm, Form}
+use Rattle.waiting.specs.Form.{isInquiry, placeForm, PlacesForm}
 use Rattle.waiting.specs.Seek.{hasId}
 use Rattle.waiting.specs.Open.{opened, freed}
 use Rattle.waiting.specs.Tick.{oneLess}
@@ -181,23 +181,23 @@ module _ (p : List ℕ) where
 -- ---- the table in form
 
 -- the table made of a list of places in form, as a property
-pub made-of : (own : ℕ) (ps : List (List ℕ)) → Sized 140 ps → length ps ≤ 16 → Placed own 0 ps → Form own (bytesOf 2240 ps) ps
+pub made-of : (own : ℕ) (ps : List (List ℕ)) → Sized 140 ps → length ps ≤ 16 → Placed own 0 ps → PlacesForm own (bytesOf 2240 ps) ps
 made-of own ps s few h = record { bytes = refl; sized = s; few = few; places = placed-form own 0 ps h }
 
-module _ (own : ℕ) (t : List ℕ) (ps : List (List ℕ)) (f : Form own t ps) where
+module _ (own : ℕ) (t : List ℕ) (ps : List (List ℕ)) (f : PlacesForm own t ps) where
   here : Placed own 0 ps
   here = placed own 0 ps (f .places)
 
-  pub tick-kept : Form own (bytesOf 2240 (ticked ps)) (ticked ps)
+  pub tick-kept : PlacesForm own (bytesOf 2240 (ticked ps)) (ticked ps)
   tick-kept =
       made-of own (ticked ps) (ticked-sized ps (f .sized)) (omega (arith, ticked-few ps, f .few)) (ticked-placed own 0 ps (f .sized) here)
 
-  pub free-kept : (at : ℕ) → Form own (bytesOf 2240 (freed at ps)) (freed at ps)
+  pub free-kept : (at : ℕ) → PlacesForm own (bytesOf 2240 (freed at ps)) (freed at ps)
   free-kept at =
       made-of own (freed at ps) (freed-sized at ps (f .sized)) (omega (arith, freed-few at ps, f .few)) (freed-placed own 0 at ps here)
 
   pub open-kept : (p : List ℕ) → length ps < 16 → length p ≡ 140 → placeForm own p ≡ true → anyOf (hasId (idOf p)) ps ≡ false
-      → (kindOf p ≡ 2 → anyOf (isInquiry (placeKey p)) ps ≡ false) → Form own (bytesOf 2240 (opened p ps)) (opened p ps)
+      → (kindOf p ≡ 2 → anyOf (isInquiry (placeKey p)) ps ≡ false) → PlacesForm own (bytesOf 2240 (opened p ps)) (opened p ps)
   open-kept p free long ok new only =
       made-of own (opened p ps) (opened-sized p ps long (f .sized)) (omega (arith, opened-length p ps))
       (opened-placed p own 0 ps ok (omega arith) new only here)
@@ -205,7 +205,7 @@ module _ (own : ℕ) (t : List ℕ) (ps : List (List ℕ)) (f : Form own t ps) w
   -- an inquiry for a record in form of another, and a flood, whose IDs do not wait
   pub open-inquiry : (id : ℕ) (r : List ℕ) → length ps < 16 → id < 2 ^ 32 → length r ≡ 100 → recordForm r ≡ true → eqb (keyOf r) own ≡ false
       → anyOf (hasId id) ps ≡ false → anyOf (isInquiry (keyOf r)) ps ≡ false
-      → Form own (bytesOf 2240 (opened (inquiryPlace id r) ps)) (opened (inquiryPlace id r) ps)
+      → PlacesForm own (bytesOf 2240 (opened (inquiryPlace id r) ps)) (opened (inquiryPlace id r) ps)
   open-inquiry id r free small long ok others new only =
       let short = length-take-le 32 r (omega arith) in
       let is = new-id id 2 2 (part 0 32 r) r short long small in
@@ -214,7 +214,7 @@ module _ (own : ℕ) (t : List ℕ) (ps : List (List ℕ)) (f : Form own t ps) w
       (ap (λ (n : ℕ). anyOf (hasId n) ps) is ∙ new) (λ k. ap (λ (n : ℕ). anyOf (isInquiry n) ps) key ∙ only)
 
   pub open-flood : (id : ℕ) (key : List ℕ) → length ps < 16 → id < 2 ^ 32 → length key ≡ 32 → anyOf (hasId id) ps ≡ false
-      → Form own (bytesOf 2240 (opened (floodPlace id key) ps)) (opened (floodPlace id key) ps)
+      → PlacesForm own (bytesOf 2240 (opened (floodPlace id key) ps)) (opened (floodPlace id key) ps)
   open-flood id key free small short new =
       let zeros : List ℕ = replicate 100 0 in
       let long : length zeros ≡ 100 = length-replicate {A = ℕ} 100 0 in

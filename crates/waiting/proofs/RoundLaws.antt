@@ -11,7 +11,7 @@ use lib.ListN.{length, getD}
 use borrow.Author.Tests.{eqb-false}
 use Rattle.table.specs.Rows.{Sized, anyOf}
 use Rattle.waiting.specs.Place.{idOf, triesOf}
-use Rattle.waiting.specs.Form.{Form}
+use Rattle.waiting.specs.Form.{PlacesForm}
 use Rattle.waiting.specs.Seek.{hasId}
 use Rattle.waiting.specs.Open.{opened, freed}
 use Rattle.waiting.specs.Tick.{oneLess}
@@ -146,7 +146,7 @@ nothing : (ids : List ℕ) → length ids ≡ 0 → ids ≡ []
 nothing [] e = refl
 nothing (id ∷ ids) e = absurd (omega arith)
 
-pub three-ticks : (own : ℕ) (t : List ℕ) (ps : List (List ℕ)) → Form own t ps
+pub three-ticks : (own : ℕ) (t : List ℕ) (ps : List (List ℕ)) → PlacesForm own t ps
     → (listed (ticked (ticked ps)) ≡ []) × (ticked (ticked (ticked ps)) ≡ [])
 three-ticks own t ps f =
     let two = tried-form every own 0 ps (placed own 0 ps (f .places)) in

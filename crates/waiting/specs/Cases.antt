@@ -9,14 +9,14 @@ use Rattle.waiting.specs.Place.{newPlace, inquiryPlace, floodPlace}
 use Rattle.waiting.specs.Form.{waitingForm}
 
 -- a key below 256, and a record of it with one address
-abbrev pub keyBytes : ℕ → List ℕ
-keyBytes k = replicate 31 0 ++ (k ∷ [])
+abbrev pub caseKey : ℕ → List ℕ
+caseKey k = replicate 31 0 ++ (k ∷ [])
 
 abbrev pub recordBytes : ℕ → List ℕ
-recordBytes k = keyBytes k ++ (0 ∷ 80 ∷ 1 ∷ 0 ∷ []) ++ replicate 64 0
+recordBytes k = caseKey k ++ (0 ∷ 80 ∷ 1 ∷ 0 ∷ []) ++ replicate 64 0
 
 abbrev pub flood : ℕ → ℕ → List ℕ
-flood id k = floodPlace id (keyBytes k)
+flood id k = floodPlace id (caseKey k)
 
 abbrev pub inquiry : ℕ → ℕ → List ℕ
 inquiry id k = inquiryPlace id (recordBytes k)
@@ -37,13 +37,13 @@ formRows =
     ∷ row (flood 0 9 ∷ inquiry 1 7 ∷ flood 2 7 ∷ inquiry 3 8 ∷ []) true
     ∷ row (flood 1 7 ∷ flood 1 8 ∷ []) false
     ∷ row (flood 2 7 ∷ flood 1 8 ∷ []) false
-    ∷ row (newPlace 1 1 3 (keyBytes 7) (replicate 100 0) ∷ []) false
-    ∷ row (newPlace 1 3 2 (keyBytes 7) (replicate 100 0) ∷ []) false
+    ∷ row (newPlace 1 1 3 (caseKey 7) (replicate 100 0) ∷ []) false
+    ∷ row (newPlace 1 3 2 (caseKey 7) (replicate 100 0) ∷ []) false
     ∷ row (((1 ∷ 0 ∷ 0 ∷ 0 ∷ 1 ∷ 2 ∷ 0 ∷ 5 ∷ []) ++ replicate 132 0) ∷ []) false
-    ∷ row (newPlace 1 2 2 (keyBytes 7) (recordBytes 8) ∷ []) false
+    ∷ row (newPlace 1 2 2 (caseKey 7) (recordBytes 8) ∷ []) false
     ∷ row (inquiry 1 7 ∷ inquiry 2 7 ∷ []) false
     ∷ row (inquiry 1 9 ∷ []) false
-    ∷ row (newPlace 1 1 2 (keyBytes 7) (recordBytes 7) ∷ []) false
+    ∷ row (newPlace 1 1 2 (caseKey 7) (recordBytes 7) ∷ []) false
     ∷ row (replicate 140 0 ∷ flood 1 7 ∷ []) false
     ∷ []
 

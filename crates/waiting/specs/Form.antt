@@ -58,7 +58,7 @@ unfoldable pub waitingForm : Own → List ℕ → Bool
 waitingForm own t = eqb (length t) 2240 && allZero (drop (140 * usedOf t) t) && placesForm own 0 (placesOf t)
 
 -- the same as a property of a list of places: the table is this list, and then zeros
-pub record Form (own : ℕ) (t : List ℕ) (ps : List (List ℕ)) : Type 0 where
+pub record PlacesForm (own : ℕ) (t : List ℕ) (ps : List (List ℕ)) : Type 0 where
   pub bytes : t ≡ bytesOf 2240 ps
   pub sized : Sized 140 ps
   pub few : length ps ≤ 16

@@ -14,22 +14,22 @@ use Rattle.refusal.specs.Table.{orRefuse, appliesIn, byNumber}
 use Rattle.refusal.proofs.TableLaws.{all-fail}
 use Rattle.refusal.proofs.CallLaws.{call-exactly, refusal-keeps, number-is, or-known}
 use Rattle.waiting.specs.Form.{waitingForm, placesOf}
-use Rattle.waiting_form.specs.Call.{Ticked, handed, tickRefusals, tickDone, tickCall}
+use Rattle.waiting_form.specs.Call.{Ticked, tickHanded, tickRefusals, tickDone, tickCall}
 use Rattle.waiting.proofs.FormLaws.{form-of, form-test}
 use Rattle.waiting.specs.Ticking.{ticked}
 use Rattle.waiting.proofs.KeptLaws.{tick-kept}
 
 module _ (own t o : List ℕ) where
-  pub own-bad : recordForm own ≡ false → tickCall own t o ≡ handed 1 0 t o
+  pub own-bad : recordForm own ≡ false → tickCall own t o ≡ tickHanded 1 0 t o
   unfolding tickCall tickRefusals orRefuse
   own-bad e = rw e refl
 
   module _ (whole : recordForm own ≡ true) where
-    pub table-bad : waitingForm (keyOf own) t ≡ false → tickCall own t o ≡ handed 1 0 t o
+    pub table-bad : waitingForm (keyOf own) t ≡ false → tickCall own t o ≡ tickHanded 1 0 t o
     unfolding tickCall tickRefusals orRefuse
     table-bad e = rw (whole, e) refl
 
-    pub no-room : waitingForm (keyOf own) t ≡ true → length o < 64 → tickCall own t o ≡ handed 15 0 t o
+    pub no-room : waitingForm (keyOf own) t ≡ true → length o < 64 → tickCall own t o ≡ tickHanded 15 0 t o
     unfolding tickCall tickRefusals orRefuse
     no-room e h = rw (whole, e, lt-ltb (length o) 64 h) refl
 
@@ -43,16 +43,16 @@ module _ (own t o : List ℕ) where
       ↔ ((appliesIn n (tickRefusals own t o) ≡ true) × ((m : ℕ) → m < n → appliesIn m (tickRefusals own t o) ≡ false))
   unfolding tickCall tickRefusals tickDone
   tick-exactly n p =
-      call-exactly (λ (r : Ticked). r .number) (λ (k : ℕ). handed k 0 t o) (λ k. refl) (tickDone t o) refl (tickRefusals own t o) 1
+      call-exactly (λ (r : Ticked). r .number) (λ (k : ℕ). tickHanded k 0 t o) (λ k. refl) (tickDone t o) refl (tickRefusals own t o) 1
       (omega arith, omega arith, (omega arith, omega arith, tt)) n p
 
   -- a refused one leaves table and output as they were
   pub tick-refused : 0 < tickCall own t o .number → (tickCall own t o .table ≡ t) × (tickCall own t o .output ≡ o)
   unfolding tickCall tickDone
   tick-refused p = (
-    refusal-keeps (λ (r : Ticked). r .number) (λ (k : ℕ). handed k 0 t o) (λ k. refl) (tickDone t o) refl (λ (r : Ticked). r .table) t (λ k. refl)
+    refusal-keeps (λ (r : Ticked). r .number) (λ (k : ℕ). tickHanded k 0 t o) (λ k. refl) (tickDone t o) refl (λ (r : Ticked). r .table) t (λ k. refl)
         (tickRefusals own t o) p,
-    refusal-keeps (λ (r : Ticked). r .number) (λ (k : ℕ). handed k 0 t o) (λ k. refl) (tickDone t o) refl (λ (r : Ticked). r .output) o (λ k. refl)
+    refusal-keeps (λ (r : Ticked). r .number) (λ (k : ℕ). tickHanded k 0 t o) (λ k. refl) (tickDone t o) refl (λ (r : Ticked). r .output) o (λ k. refl)
         (tickRefusals own t o) p,
   )
 
@@ -60,7 +60,7 @@ module _ (own t o : List ℕ) where
   pub tick-stays : waitingForm (keyOf own) t ≡ true → waitingForm (keyOf own) (tickCall own t o .table) ≡ true
   unfolding tickCall tickDone
   tick-stays e =
-      or-known (λ (r : Ticked). waitingForm (keyOf own) (r .table) ≡ true) (λ (k : ℕ). handed k 0 t o) (tickRefusals own t o) (tickDone t o)
+      or-known (λ (r : Ticked). waitingForm (keyOf own) (r .table) ≡ true) (λ (k : ℕ). tickHanded k 0 t o) (tickRefusals own t o) (tickDone t o)
       (λ k. e) (λ f. form-test (keyOf own) _ (ticked (placesOf t)) (tick-kept (keyOf own) t (placesOf t) (form-of (keyOf own) t e)))
 
   -- and an accepted tick was lent one in form, so it leaves one
@@ -68,5 +68,5 @@ module _ (own t o : List ℕ) where
   unfolding tickCall tickDone tickRefusals
   tick-leaves z =
       let none = all-fail byNumber (tickRefusals own t o) 1 (omega arith, omega arith, (omega arith, omega arith, tt))
-      (sym (number-is (λ (r : Ticked). r .number) (λ (k : ℕ). handed k 0 t o) (λ k. refl) (tickDone t o) refl (tickRefusals own t o)) ∙ z) in
+      (sym (number-is (λ (r : Ticked). r .number) (λ (k : ℕ). tickHanded k 0 t o) (λ k. refl) (tickDone t o) refl (tickRefusals own t o)) ∙ z) in
       tick-stays (both-true (recordForm own) (waitingForm (keyOf own) t) (not-false _ (none .0)) .1)

@@ -11,12 +11,12 @@ use Rattle.octet.specs.Part.{allZero}
 use Rattle.table.specs.Rows.{rows}
 use Rattle.waiting_form.specs.declared.tested.Formed.the-variants.{Bad, Good}
 use Rattle.waiting.specs.Form.{placesForm, usedOf, waitingForm}
-use Rattle.waiting_form.specs.Formed.{formOf}
+use Rattle.waiting_form.specs.Formed.{waitingFormed}
 
 -- ---- what it is, by its tests
 
-pub not-long : (own : ℕ) (t : List ℕ) → (length t ≡ 2240 → ⊥) → formOf own t ≡ Bad
-unfolding formOf waitingForm
+pub not-long : (own : ℕ) (t : List ℕ) → (length t ≡ 2240 → ⊥) → waitingFormed own t ≡ Bad
+unfolding waitingFormed waitingForm
 not-long own t h = rw (ne-eqb (length t) 2240 h) refl
 
 module _ (own : ℕ) (t : List ℕ) (size : length t ≡ 2240) {u : ℕ} {z p : Bool} (hu : u ≡ usedOf t)
@@ -28,12 +28,12 @@ module _ (own : ℕ) (t : List ℕ) (size : length t ≡ 2240) {u : ℕ} {z p : 
       take-all (2240 - 140 * u) (drop (140 * u) t) (simp length-drop (omega arith)) in
       rw (eq-eqb (length t) 2240 size, hz, hp, whole, hu) refl
 
-  pub is-good : z && p ≡ true → formOf own t ≡ Good u
-  unfolding formOf
+  pub is-good : z && p ≡ true → waitingFormed own t ≡ Good u
+  unfolding waitingFormed
   is-good e = rw (form-tests, e, ← hu) refl
 
-  pub is-bad : z && p ≡ false → formOf own t ≡ Bad
-  unfolding formOf
+  pub is-bad : z && p ≡ false → waitingFormed own t ≡ Bad
+  unfolding waitingFormed
   is-bad e = rw (form-tests, e) refl
 
 -- ---- what it tells
@@ -46,10 +46,10 @@ good-by : (b : Bool) (u v : ℕ) → cond b (Good u) Bad ≡ Good v → (b ≡ t
 good-by true u v e = (refl, cc)
 good-by false u v e = let z : _≡_ {A = ℕ} 0 1 = cc in absurd (omega arith)
 
-pub bad-form : (own : ℕ) (t : List ℕ) → formOf own t ≡ Bad → waitingForm own t ≡ false
-unfolding formOf
+pub bad-form : (own : ℕ) (t : List ℕ) → waitingFormed own t ≡ Bad → waitingForm own t ≡ false
+unfolding waitingFormed
 bad-form own t e = bad-by (waitingForm own t) (usedOf t) e
 
-pub good-form : (own : ℕ) (t : List ℕ) {u : ℕ} → formOf own t ≡ Good u → (waitingForm own t ≡ true) × (u ≡ usedOf t)
-unfolding formOf
+pub good-form : (own : ℕ) (t : List ℕ) {u : ℕ} → waitingFormed own t ≡ Good u → (waitingForm own t ≡ true) × (u ≡ usedOf t)
+unfolding waitingFormed
 good-form own t {u} e = good-by (waitingForm own t) (usedOf t) u e

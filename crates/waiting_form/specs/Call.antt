@@ -20,14 +20,14 @@ pub record Ticked : Type 0 where
   pub table : List ℕ
   pub output : List ℕ
 
-abbrev pub handed : ℕ → ℕ → List ℕ → List ℕ → Ticked
-handed n k t o = record { number = n; count = k; table = t; output = o }
+abbrev pub tickHanded : ℕ → ℕ → List ℕ → List ℕ → Ticked
+tickHanded n k t o = record { number = n; count = k; table = t; output = o }
 
 unfoldable pub tickRefusals : List ℕ → List ℕ → List ℕ → List Refusal
 tickRefusals own t o = when 1 (not (ownForm own && waitingForm (ownKeys own) t)) ∷ when 15 (ltb (length o) 64) ∷ []
 
 unfoldable pub tickDone : List ℕ → List ℕ → Ticked
-tickDone t o = handed 0 (length (listed (placesOf t))) (bytesOf 2240 (ticked (placesOf t))) (splice 0 (idBytes (listed (placesOf t))) o)
+tickDone t o = tickHanded 0 (length (listed (placesOf t))) (bytesOf 2240 (ticked (placesOf t))) (splice 0 (idBytes (listed (placesOf t))) o)
 
 unfoldable pub tickCall : List ℕ → List ℕ → List ℕ → Ticked
-tickCall own t o = orRefuse (λ (n : ℕ). handed n 0 t o) (tickRefusals own t o) (tickDone t o)
+tickCall own t o = orRefuse (λ (n : ℕ). tickHanded n 0 t o) (tickRefusals own t o) (tickDone t o)

@@ -7,5 +7,5 @@ use Rattle.waiting_form.specs.declared.tested.Formed.the-variants.{Bad, 
 use Rattle.waiting.specs.Form.{waitingForm, usedOf}
 
 -- a table in form, with how many places are used, or one out of form
-unfoldable pub formOf : ℕ → List ℕ → Formed
-formOf own t = cond (waitingForm own t) (Good (usedOf t)) Bad
+unfoldable pub waitingFormed : ℕ → List ℕ → Formed
+waitingFormed own t = cond (waitingForm own t) (Good (usedOf t)) Bad

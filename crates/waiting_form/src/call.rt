@@ -2,7 +2,7 @@
 use crate::tested::Formed;
 use crate::tested::form;
 ghost use mathlib.Core.Path.{_≡_};
-ghost use Rattle.waiting_form.specs.Call.{handed, tickCall};
+ghost use Rattle.waiting_form.specs.Call.{tickHanded, tickCall};
 
 // A number of document 01, and how many IDs are listed.
 pub struct Answer {
@@ -13,7 +13,7 @@ pub struct Answer {
 // The waiting table after one second, and the list of IDs in the first bytes of the output. 1 where the own record or
 // the table is out of form, 15 where the output is shorter than 64 bytes; then nothing changes.
 pub fn tick(own: &[u8], table: &mut [u8], output: &mut [u8]) -> Answer
-    ensures { λ r. ⌜ handed (r .number) (r .count) (now (table .exit)) (now (output .exit))
+    ensures { λ r. ⌜ tickHanded (r .number) (r .count) (now (table .exit)) (now (output .exit))
         ≡ tickCall (now (own .entry)) (now (table .entry)) (now (output .entry)) ⌝ }
 {
     if !own::own_form(own) {

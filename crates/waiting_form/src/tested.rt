@@ -7,7 +7,7 @@ ghost use Rattle.octet.specs.Part.{part};
 ghost use Rattle.record.specs.Record.{keyOf};
 ghost use Rattle.table.specs.Rows.{rows};
 ghost use Rattle.waiting.specs.Form.{again, placesForm, usedOf};
-ghost use Rattle.waiting_form.specs.Formed.{formOf};
+ghost use Rattle.waiting_form.specs.Formed.{waitingFormed};
 use table::Found;
 
 // What the form test finds: how many places are used, where the table is in form.
@@ -71,7 +71,7 @@ fn places_formed(own: &[u8], table: &[u8], used: usize) -> bool
 // Is the table in form, for a gauge with the own record?
 pub fn form(own: &[u8], table: &[u8]) -> Formed
     requires { ⌜ 32 ≤ length (now own) ⌝ }
-    ensures { λ r. ⌜ r ≡ formOf (keyOf (now (own .entry))) (now (table .entry)) ⌝ }
+    ensures { λ r. ⌜ r ≡ waitingFormed (keyOf (now (own .entry))) (now (table .entry)) ⌝ }
 {
     if table.len() != waiting::WAITING_LEN {
         return Formed::Bad;

@@ -11,7 +11,7 @@ use Rattle.record.specs.Record.{keyOf, recordForm}
 use Rattle.record.proofs.EntryLaws.{form-length}
 use Rattle.table.specs.Rows.{bytesOf}
 use Rattle.cache.specs.Bytes.{afterLearn}
-use Rattle.cache.specs.Calls.{Changed, changed, learnCall, heldBy}
+use Rattle.cache.specs.Calls.{Changed, cacheChanged, learnCall, heldBy}
 use Rattle.refusal.proofs.CallLaws.{row-applies, row-passes, no-row}
 use Rattle.cache.proofs.LentLaws.{not-is, not-isn't, memory-own, memory-form, memory-held, memory-passes, memory-refuses}
 use native.Mathlib.Omega.{arith}
@@ -21,12 +21,12 @@ use Rattle.cache.proofs.calls.learn_record.Tie as tie
 
 -- what a refusal hands back, and what is handed back where there is none
 abbrev refuse : tie.Start → ℕ → Changed
-refuse s n = changed n (s .args .cache .now)
+refuse s n = cacheChanged n (s .args .cache .now)
 
 abbrev done : tie.Start → Changed
 done s =
     let n = length (s .args .cache .now) in
-    changed 0 (bytesOf n (afterLearn (keyOf (s .args .own .now)) n (heldBy (s .args .own .now) (s .args .cache .now)) (s .args .«record» .now)))
+    cacheChanged 0 (bytesOf n (afterLearn (keyOf (s .args .own .now)) n (heldBy (s .args .own .now) (s .args .cache .now)) (s .args .«record» .now)))
 
 memory-requires : tie.Need-memory-requires
 memory-requires c κs = search needs
@@ -126,7 +126,7 @@ returns-4 c =
     let s = c16 in
     let n = length (s .args .cache .now) in
     let held = memory-held (s .args .own .now) (s .args .cache .now) (c11 .memory .ensures) (c9 .found .given .1) in
-    ap (changed 0) (c .before .before .learn .ensures .0 ∙ ap (λ (l : List (List ℕ)). bytesOf n (afterLearn (keyOf (s .args .own .now)) n l
+    ap (cacheChanged 0) (c .before .before .learn .ensures .0 ∙ ap (λ (l : List (List ℕ)). bytesOf n (afterLearn (keyOf (s .args .own .now)) n l
     (s .args .«record» .now))) (sym held))
     ∙ sym (memory-passes (s .args .own .now) (s .args .cache .now) (c11 .memory .ensures) (c9 .found .given .1) (refuse s) _ (done s)
     ∙ row-passes (refuse s) 1 (not (recordForm (s .args .«record» .now))) _ (done s) (not-is (sym (c7 .is-record .ensures) ∙ not-false _

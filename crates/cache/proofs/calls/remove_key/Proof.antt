@@ -10,7 +10,7 @@ use borrow.Author.Tests.{eq-eqb, ne-eqb}
 use Rattle.key.specs.Number.{keyAt}
 use Rattle.table.specs.Rows.{bytesOf}
 use Rattle.cache.specs.Bytes.{afterRemove}
-use Rattle.cache.specs.Calls.{Changed, changed, removeCall, heldBy}
+use Rattle.cache.specs.Calls.{Changed, cacheChanged, removeCall, heldBy}
 use Rattle.refusal.proofs.CallLaws.{row-applies, row-passes, no-row}
 use Rattle.cache.proofs.LentLaws.{not-is, not-isn't, memory-own, memory-form, memory-held, memory-passes, memory-refuses}
 use native.Mathlib.Omega.{arith}
@@ -20,11 +20,11 @@ use Rattle.cache.proofs.calls.remove_key.Tie as tie
 
 -- what a refusal hands back, and what is handed back where there is none
 abbrev refuse : tie.Start → ℕ → Changed
-refuse s n = changed n (s .args .cache .now)
+refuse s n = cacheChanged n (s .args .cache .now)
 
 abbrev done : tie.Start → Changed
 done s =
-    changed 0
+    cacheChanged 0
     (bytesOf (length (s .args .cache .now)) (afterRemove (keyAt 0 (s .args .key .now)) (heldBy (s .args .own .now) (s .args .cache .now))))
 
 memory-requires : tie.Need-memory-requires
@@ -86,7 +86,7 @@ returns-3 c =
     let s = c13 in
     let n = length (s .args .cache .now) in
     let held = memory-held (s .args .own .now) (s .args .cache .now) (c8 .memory .ensures) (c6 .found .given .1) in
-    ap (changed 0) (c .before .before .remove .ensures .0 ∙ ap (λ (l : List (List ℕ)). bytesOf n (afterRemove (keyAt 0 (s .args .key .now)) l))
+    ap (cacheChanged 0) (c .before .before .remove .ensures .0 ∙ ap (λ (l : List (List ℕ)). bytesOf n (afterRemove (keyAt 0 (s .args .key .now)) l))
     (sym held))
     ∙ sym (memory-passes (s .args .own .now) (s .args .cache .now) (c8 .memory .ensures) (c6 .found .given .1) (refuse s) _ (done s)
     ∙ row-passes (refuse s) 1 (not (eqb (length (s .args .key .now)) 32)) [] (done s) (not-is (eq-eqb (length (s .args .key .now)) 32

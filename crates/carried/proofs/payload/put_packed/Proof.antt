@@ -5,7 +5,7 @@ use native.Mathlib.Omega.{arith}
 use lib.ListN.{length}
 use lib.Seq.{length-take-le}
 use borrow.Author.Needs.{needs}
-use Rattle.carried.specs.Carry.{handed}
+use Rattle.carried.specs.Carry.{carryHanded}
 use Rattle.carried.specs.declared.Carry.{Carry}
 use Rattle.carried.proofs.CarryLaws.{not-refused, packed-fits, packed-left, packed-bytes, written-short, carried-as}
 use Rattle.carried.proofs.payload.put_packed.Statement.{statement}
@@ -69,7 +69,7 @@ returns-2 c =
     let e = packed2 .before .before .before .pack-allowed .ensures in
     let g = start .pre .1 in
     let out = c .before .before .before .write-payload .last .0 in
-    ap (λ (x : Carry). handed x out) (c .told .ensures)
+    ap (λ (x : Carry). carryHanded x out) (c .told .ensures)
     ∙ carried-as _ _ (λ i. omega (arith, known .shared-slice-known .given i)) _ _ _ (start .pre .0) _ _ _ _ _ (packed-bytes _ _ _ _ g refl e _ q)
     (c .before .before .before .write-payload .ensures)
 

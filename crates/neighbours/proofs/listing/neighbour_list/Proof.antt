@@ -8,7 +8,7 @@ use lib.ListN.{length}
 use borrow.Author.Tests.{lt-ltb, le-ltb}
 use Rattle.record.specs.Record.{keyOf}
 use Rattle.neighbours.specs.Listing.{afterList, countsOf}
-use Rattle.neighbours.specs.Calls.{Written, written, listCall}
+use Rattle.neighbours.specs.Calls.{Written, listWritten, listCall}
 use Rattle.cache.specs.Calls.{heldBy}
 use Rattle.refusal.proofs.CallLaws.{row-applies, row-passes, no-row}
 use Rattle.cache.proofs.LentLaws.{memory-own, memory-form, memory-held, memory-passes, memory-refuses}
@@ -20,12 +20,12 @@ use Rattle.neighbours.proofs.listing.neighbour_list.Tie as tie
 
 -- what a refusal hands back, and what is handed back where there is none
 abbrev refuse : tie.Start → ℕ → Written
-refuse s n = written (record { number = n; below = 0; above = 0 }) (s .args .out .now)
+refuse s n = listWritten (record { number = n; below = 0; above = 0 }) (s .args .out .now)
 
 abbrev done : tie.Start → Written
 done s =
     let n = countsOf (keyOf (s .args .own .now)) (heldBy (s .args .own .now) (s .args .cache .now)) in
-    written (record { number = 0; below = n .below; above = n .above })
+    listWritten (record { number = 0; below = n .below; above = n .above })
     (afterList (keyOf (s .args .own .now)) (heldBy (s .args .own .now) (s .args .cache .now)) (s .args .out .now))
 
 memory-requires : tie.Need-memory-requires
@@ -82,7 +82,7 @@ returns-3 c =
     let c12 = c8 .before .before .before .before in
     let s = c12 in
     let held = memory-held (s .args .own .now) (s .args .cache .now) (c8 .memory .ensures) (c6 .found .given .1) in
-    ap₂ (λ (n : Counts) (l : List ℕ). written (record { number = 0; below = n .below; above = n .above }) l)
+    ap₂ (λ (n : Counts) (l : List ℕ). listWritten (record { number = 0; below = n .below; above = n .above }) l)
     (c .before .before .neighbours .ensures .0 ∙ ap (countsOf (keyOf (s .args .own .now))) (sym held))
     (c .before .before .neighbours .ensures .1 ∙ ap (λ (l : List (List ℕ)). afterList (keyOf (s .args .own .now)) l (s .args .out .now)) (sym held))
     ∙ sym (memory-passes (s .args .own .now) (s .args .cache .now) (c8 .memory .ensures) (c6 .found .given .1) (refuse s) _ (done s)

@@ -7,7 +7,7 @@ use lib.ListN.{length}
 use denote.Ref.{now}
 use Rattle.octet.specs.Part.{splice}
 use Rattle.readings.specs.Reading.{faultOf, image, Typed}
-use Rattle.readings.specs.Pack.{handed}
+use Rattle.readings.specs.Pack.{packHanded}
 use Rattle.readings.specs.declared.Packed.the-variants.{Written}
 use Rattle.readings.proofs.PackLaws.{pack-no-room, pack-written, image-fault, length-fault, put-three}
 use borrow.Author.Needs.{needs}
@@ -55,7 +55,7 @@ returns-2 c =
     put-three 12 2 2 (a .fault) (a .inflow) (a .outflow) out (omega (arith, size, room)) _ _ _
     (first .put-head .ensures) (second .write-u16-le .ensures) (third .put-litres .ensures)
     ∙ ap (λ (l : List ℕ). splice 0 l out) (image-fault (a .fault) (a .inflow) (a .outflow)) in
-    (ap₂ (λ (n : ℕ) (l : List ℕ). handed (Written n) l) (sym size) put ∙ pack-written r out room refl, typed start)
+    (ap₂ (λ (n : ℕ) (l : List ℕ). packHanded (Written n) l) (sym size) put ∙ pack-written r out room refl, typed start)
 
 pub pack-fault-spec : {M : Type 1} → statement M
 pack-fault-spec =

@@ -8,7 +8,7 @@ use lib.Ieee.{binary32, toBits}
 use denote.Ref.{now}
 use Rattle.octet.specs.Part.{splice}
 use Rattle.readings.specs.Reading.{depthOf, image}
-use Rattle.readings.specs.Pack.{handed}
+use Rattle.readings.specs.Pack.{packHanded}
 use Rattle.readings.specs.declared.Packed.the-variants.{Written}
 use Rattle.readings.proofs.DepthLaws.{allowed-no-nan}
 use Rattle.readings.proofs.PackLaws.{pack-no-room, pack-written, image-depth, length-depth, put-three}
@@ -53,7 +53,7 @@ returns-2 c =
     put-three 14 1 4 (toBits binary32 (a .depth)) (a .inflow) (a .outflow) out (omega (arith, size, room)) _ _ _
     (first .put-head .ensures) (second .write-u32-le .ensures) (third .put-litres .ensures)
     ∙ ap (λ (l : List ℕ). splice 0 l out) (image-depth (a .depth) (a .inflow) (a .outflow)) in
-    ap₂ (λ (n : ℕ) (l : List ℕ). handed (Written n) l) (sym size) put ∙ pack-written r out room (start .pre)
+    ap₂ (λ (n : ℕ) (l : List ℕ). packHanded (Written n) l) (sym size) put ∙ pack-written r out room (start .pre)
 
 pub put-depth-spec : {M : Type 1} → statement M
 put-depth-spec =

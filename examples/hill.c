@@ -621,6 +621,7 @@ static void write_readings(void)
 int main(void)
 {
     gauge_lent_begin(&OFFICE->lent, OFFICE->cache, sizeof OFFICE->cache, cpa, sizeof cpa);
+    OFFICE->lent.id = 0;
     for (unsigned n = 1; n <= PONDS; n++)
         begin(n, n, n == 1 ? 2 : 1 + dice(n - 1));
     FILE *calls = opened("target/hill.trace"), *answers = opened("target/hill.answers");

@@ -376,7 +376,7 @@ static inline enum gauge_part gauge_lent_not_in_form(struct gauge_lent *l)
                              sizeof l->waiting);
 }
 
-static inline const char *gauge_part_text(enum gauge_part part)
+static inline const char *gauge_part_text(uint32_t part)
 {
     switch (part) {
     case GAUGE_PART_NONE: return "all is in form";
@@ -384,8 +384,8 @@ static inline const char *gauge_part_text(enum gauge_part part)
     case GAUGE_PART_CPA: return "the own CPA";
     case GAUGE_PART_CACHE: return "the cache";
     case GAUGE_PART_WAITING: return "the waiting table";
+    default: return "no part";
     }
-    return "no part";
 }
 
 /* Messages that a host writes itself, as the gauge has no call for them. Each takes one message ID, asks for no ACK

@@ -1,5 +1,5 @@
--- Laws of a record that must be inquired about: how many bytes; the key of the record that an entry names; the walk over the records held; whether the record
--- must be inquired about. Assumes nothing.
+-- Laws of a record that must be inquired about: how many bytes; the key of the record that an entry names; whether the record must be inquired about.
+-- Elsewhere: the very same record among those held, in SameLaws. Assumes nothing.
 use mathlib.Core.Path.{_≡_, refl, sym, ap, _∙_}
 use mathlib.Core.Bool.{Bool, true, false, not, _&&_}
 use mathlib.Core.List.{List}
@@ -13,8 +13,7 @@ use Rattle.record.specs.Record.{keyOf}
 use Rattle.record.specs.Entry.{entryForm, recordOf}
 use Rattle.record.proofs.EntryLaws.{record-key}
 use Rattle.record.proofs.PlaceLaws.{entry-at}
-use Rattle.table.specs.Rows.{rows, anyOf}
-use Rattle.table.proofs.RowLaws.{rows-next, rows-end}
+use Rattle.table.specs.Rows.{anyOf}
 use Rattle.table.proofs.PieceLaws.{part-start}
 use Rattle.waiting.specs.Form.{isInquiry}
 use Rattle.table.specs.Seek.{seek}
@@ -38,21 +37,6 @@ module _ (start len : ℕ) (d : List ℕ) (room : start + len ≤ length d) (for
   key-in =
       let l = entry-at start len d room form .long in
       record-key (part start len d) form ∙ ap (valueBE 256) (part-start start len 32 d (omega arith))
-
--- ---- the walk over the records held: whether one passes a test
-
-module _ (w used : ℕ) (s : List ℕ) (at : ℕ) (test : List ℕ → Bool) where
-  pub one-here : at < used → test (part (w * at) w s) ≡ true → anyOf test (drop at (rows w used s)) ≡ true
-  unfolding anyOf
-  one-here h e = ap (anyOf test) (rows-next w used s at h) ∙ rw e refl
-
-  pub one-on : at < used → test (part (w * at) w s) ≡ false → anyOf test (drop at (rows w used s)) ≡ anyOf test (drop (at + 1) (rows w used s))
-  unfolding anyOf
-  one-on h e = ap (anyOf test) (rows-next w used s at h) ∙ rw e refl
-
-  pub one-end : used ≤ at → anyOf test (drop at (rows w used s)) ≡ false
-  unfolding anyOf
-  one-end h = ap (anyOf test) (rows-end w used s at h)
 
 -- ---- whether the record must be inquired about
 

@@ -7,6 +7,8 @@ ghost use lib.ListN.{length};
 ghost use Rattle.octet.specs.Part.{part, same};
 ghost use Rattle.record.specs.Entry.{entryForm, recordOf};
 ghost use Rattle.table.specs.Rows.{rows, anyOf};
+ghost use Rattle.kept.specs.Keys.{Rising, plain};
+ghost use Rattle.cache.specs.Form.{keysOf};
 ghost use Rattle.asking.specs.Asking.{inquireRoom, mustAsk};
 ghost use Rattle.asking.specs.Ids.{idAfter};
 
@@ -27,21 +29,18 @@ pub fn inquire_room(opens: bool) -> usize
     if opens { INQUIRE_LEN } else { 0 }
 }
 
-// Is the very record that the entry at a place names held?
+// Is the very record that the entry at a place names held? Only one with its key can be it.
 fn holds_same(cache: &[u8], held: usize, d: &[u8], start: usize, len: usize) -> bool
     requires { ⌜ (100 * held ≤ length (now cache)) × (start + len ≤ length (now d))
-        × (entryForm (part start len (now d)) ≡ true) ⌝ }
+        × (entryForm (part start len (now d)) ≡ true) × Rising plain 0 (keysOf (rows 100 held (now cache))) ⌝ }
     ensures { λ r. ⌜ r ≡ anyOf (λ (q : List ℕ). same q (recordOf (part start len (now (d .entry)))))
         (rows 100 held (now (cache .entry))) ⌝ }
 {
-    let mut i = 0;
-    while i < held {
-        if record::same_as_entry(cache, record::RECORD_LEN * i, d, start, len) {
-            return true;
-        }
-        i += 1;
+    let end = start + len;
+    match cache::find(cache, held, &d[start..end]) {
+        cache::Found::At(i) => record::same_as_entry(cache, record::RECORD_LEN * i, d, start, len),
+        cache::Found::Before(_) => false,
     }
-    false
 }
 
 // Must the record be inquired about?
@@ -55,7 +54,8 @@ pub fn must_ask(
     len: usize,
 ) -> bool
     requires { ⌜ (100 * held ≤ length (now cache)) × (140 * used ≤ length (now waiting))
-        × (start + len ≤ length (now d)) × (entryForm (part start len (now d)) ≡ true) ⌝ }
+        × (start + len ≤ length (now d)) × (entryForm (part start len (now d)) ≡ true)
+        × Rising plain 0 (keysOf (rows 100 held (now cache))) ⌝ }
     ensures { λ r. ⌜ r ≡ mustAsk (rows 100 held (now (cache .entry))) (rows 140 used (now (waiting .entry)))
         (recordOf (part start len (now (d .entry)))) ⌝ }
 {

@@ -8,6 +8,7 @@ ghost use Rattle.key.specs.Number.{keyAt};
 ghost use Rattle.record.specs.Record.{keyOf};
 ghost use Rattle.record.specs.Entry.{entryForm};
 ghost use Rattle.table.specs.Rows.{rows};
+ghost use Rattle.cache.specs.Form.{Form};
 ghost use Rattle.gauge_plan.specs.Own.{notOurs};
 ghost use Rattle.plan_flood.specs.Flood.{floodPlan, revokePlan};
 ghost use Rattle.plan_flood.specs.Rooms.{ackRoom};
@@ -47,7 +48,7 @@ pub fn plan_flood(
     start: usize,
     len: usize,
 ) -> Plan
-    requires { ⌜ (32 ≤ length (now own)) × (100 * held ≤ length (now cache)) × (140 * used ≤ length (now waiting))
+    requires { ⌜ (32 ≤ length (now own)) × Form (keyOf (now own)) (now cache) (rows 100 held (now cache)) × (140 * used ≤ length (now waiting))
         × (validate + 32 ≤ length (now d)) × (start + len ≤ length (now d))
         × (entryForm (part start len (now d)) ≡ true) ⌝ }
     ensures { λ r. ⌜ r ≡ floodPlan (keyOf (now (own .entry))) (rows 100 held (now (cache .entry)))

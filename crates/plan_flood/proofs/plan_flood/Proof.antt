@@ -13,6 +13,7 @@ use Rattle.record.specs.Entry.{recordOf}
 use Rattle.refusal.specs.Table.{when, firstOf, orRefuse}
 use Rattle.refusal.proofs.CallLaws.{row-applies, row-passes, no-row}
 use Rattle.table.specs.Rows.{rows}
+use Rattle.cache.proofs.FormLaws.{form-laid}
 use Rattle.gauge_plan.specs.Opening.{openRows}
 use Rattle.gauge_plan.specs.declared.Plan.{Plan}
 use Rattle.gauge_plan.specs.declared.Plan.the-variants.{Refuse, Flood}
@@ -77,8 +78,13 @@ returns c =
 not-ours-requires : tie.Need-not-ours-requires
 not-ours-requires c κs = search needs
 
+-- memory in form: the records lie within it, and their keys rise
 must-ask-requires : tie.Need-must-ask-requires
-must-ask-requires c κs = search needs
+must-ask-requires c κs =
+    let s = c .before .before .before .before .before .before .before in
+    let a = s .args in
+    let laid = form-laid (keyOf (a .own .now)) (a .held) (a .cache .now) (s .pre .1) in
+    (laid .room, s .pre .2, s .pre .4, s .pre .5, s .pre .1 .held .rising)
 
 id-after-requires : tie.Need-id-after-requires
 id-after-requires c κs = search needs

@@ -1,9 +1,9 @@
--- `wire_rows::rows::spelled_bytes` meets its contract: the digits of the two numbers. Assumes nothing.
+-- `wire_rows::pieces::spelled_bytes` meets its contract: the digits of the two numbers. Assumes nothing.
 use native.Mathlib.Nat.{div-one}
 use Rattle.octet.specs.Number.{digitsBE}
 use borrow.Author.Needs.{needs}
-use Rattle.wire_rows.proofs.rows.spelled_bytes.Statement.{statement}
-use Rattle.wire_rows.proofs.rows.spelled_bytes.Tie as tie
+use Rattle.wire_rows.proofs.pieces.spelled_bytes.Statement.{statement}
+use Rattle.wire_rows.proofs.pieces.spelled_bytes.Tie as tie
 
 cast-a : tie.Need-cast-a
 cast-a c = search needs

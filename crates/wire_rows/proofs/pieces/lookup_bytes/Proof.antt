@@ -1,9 +1,9 @@
--- `wire_rows::rows::lookup_bytes` meets its contract: the digits of the precision. Assumes nothing.
+-- `wire_rows::pieces::lookup_bytes` meets its contract: the digits of the precision. Assumes nothing.
 use native.Mathlib.Nat.{div-one}
 use Rattle.octet.specs.Number.{digitsBE}
 use borrow.Author.Needs.{needs}
-use Rattle.wire_rows.proofs.rows.lookup_bytes.Statement.{statement}
-use Rattle.wire_rows.proofs.rows.lookup_bytes.Tie as tie
+use Rattle.wire_rows.proofs.pieces.lookup_bytes.Statement.{statement}
+use Rattle.wire_rows.proofs.pieces.lookup_bytes.Tie as tie
 
 cast-high : tie.Need-cast-high
 cast-high c = search needs

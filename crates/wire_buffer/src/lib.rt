@@ -3,7 +3,6 @@ use wire_fields::Cursor;
 use wire_fields::Maybe;
 use wire_fields::Need;
 use wire_fields::Part;
-use wire_shapes::Shape;
 use wire_shapes::byte;
 ghost use mathlib.Core.Path.{_≡_};
 ghost use Prim.Native.Nat.{_<_};
@@ -57,26 +56,25 @@ pub fn flag(d: &[u8], start: usize, offset: usize, weight: u8) -> bool
 pub fn read_buffer(d: &[u8], c: Cursor) -> Buffer
     ensures { λ r. ⌜ r ≡ bufferAt (now (d .entry)) (c .at) ⌝ }
 {
-    let Need::Field(flags, _, c) = c.need(d, 0x40, true, Shape::Sized(2)) else {
+    let Need::Field(flags, _, c) = c.fixed(d, 0x40, true, 2) else {
         return Buffer::Malformed;
     };
-    let Maybe::Taken(chain, c) = c.maybe(d, 0x80, true, Shape::Any) else {
+    let Maybe::Taken(chain, c) = c.any_or_none(d, 0x80, true) else {
         return Buffer::Malformed;
     };
-    let Maybe::Taken(token, c) = c.maybe(d, 0x9F, true, Shape::Any) else {
+    let Maybe::Taken(token, c) = c.any_or_none(d, 0x9F, true) else {
         return Buffer::Malformed;
     };
-    let codes = Shape::Array(0x84, 2, 0, 0x7FFF);
-    let Maybe::Taken(classifier, c) = c.maybe(d, 0x85, true, codes) else {
+    let Maybe::Taken(classifier, c) = c.array_or_none(d, 0x85, true, 0x84, 2, 0, 0x7FFF) else {
         return Buffer::Malformed;
     };
-    let Maybe::Taken(payload, c) = c.maybe(d, 0x5A, true, Shape::Any) else {
+    let Maybe::Taken(payload, c) = c.any_or_none(d, 0x5A, true) else {
         return Buffer::Malformed;
     };
-    let Maybe::Taken(entry, c) = c.maybe(d, 0x9A, true, Shape::Entry) else {
+    let Maybe::Taken(entry, c) = c.entry_or_none(d) else {
         return Buffer::Malformed;
     };
-    let Maybe::Taken(cpa, c) = c.maybe(d, 0x9B, false, Shape::Any) else {
+    let Maybe::Taken(cpa, c) = c.any_or_none(d, 0x9B, false) else {
         return Buffer::Malformed;
     };
     if c.at != d.len() {

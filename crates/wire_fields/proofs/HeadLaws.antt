@@ -1,14 +1,19 @@
--- Laws of the head of a field: its number and its length, as numbers and as bytes, at any width. Assumes nothing.
+-- Laws of the head of a field: its number and its length, as numbers and as bytes, at any width. Behind them the bytes that a datagram begins with, four of
+-- them as one number. Assumes nothing.
 use Prim.Native.Nat.{ℕ, _+_, _^_, _≤_, _<_}
 use native.Mathlib.Omega.{arith}
-use mathlib.Core.List.{List, _++_}
-use mathlib.Core.Path.{_≡_, sym, ap, ap₂, _∙_}
-use lib.ListN.{length, take, drop}
+use mathlib.Core.List.{List, [], _∷_, _++_}
+use mathlib.Core.Bool.{true, _&&_}
+use lib.Dec.{eqb}
+use mathlib.Core.Path.{_≡_, refl, sym, ap, ap₂, _∙_}
+use lib.ListN.{length, getD, take, drop}
 use lib.Seq.{take-at, drop-at, take-all}
 use Rattle.octet.specs.Number.{Bytes, valueBE, digitsBE}
-use Rattle.octet.specs.Part.{part}
-use Rattle.octet.proofs.PartLaws.{part-add, part-digits, length-part}
-use Rattle.octet.proofs.BigLaws.{length-digitsBE, valueBE-lt, valueBE-digitsBE, digitsBE-valueBE}
+use Rattle.octet.specs.Part.{part, same}
+use Rattle.octet.proofs.PartLaws.{part-add, part-one, part-digits, length-part}
+use Rattle.octet.proofs.BigLaws.{length-digitsBE, valueBE-lt, valueBE-digitsBE, digitsBE-valueBE, valueBE-inj}
+use Rattle.octet.proofs.TestLaws.{and-true, same-by, same-append}
+use Rattle.wire_fields.specs.Message.{opening}
 use Rattle.wire_shapes.specs.Field.{numberAt}
 use Rattle.record.proofs.PlaceLaws.{part-part}
 
@@ -50,3 +55,20 @@ module _ (d : List ℕ) (i n w : ℕ) (hn : n < 65536) (hw : w < 65536) (e : tak
     where
       whole : take 2 (digitsBE 256 2 w) ≡ digitsBE 256 2 w
       whole = take-all 2 (digitsBE 256 2 w) (omega (arith, length-digitsBE 256 2 w))
+
+-- ---- the opening
+
+-- five bytes are the same where the number of the first four is, and the last
+pub five-same : (d e : List ℕ) → Bytes d → Bytes e → 5 ≤ length d → 5 ≤ length e
+    → same (part 0 5 d) (part 0 5 e) ≡ eqb (numberAt 0 4 d) (numberAt 0 4 e) && eqb (getD d 4 0) (getD e 4 0)
+unfolding same
+five-same d e b c m n =
+    let last : same (part 4 1 d) (part 4 1 e) ≡ eqb (getD d 4 0) (getD e 4 0) =
+    rw (part-one 4 d (omega arith), part-one 4 e (omega arith)) (and-true (eqb (getD d 4 0) (getD e 4 0))) in
+    let l = length-part 0 4 d (omega arith) in
+    let k = length-part 0 4 e (omega arith) in
+    let first : same (part 0 4 d) (part 0 4 e) ≡ eqb (numberAt 0 4 d) (numberAt 0 4 e) =
+    same-by (valueBE 256) (part 0 4 d) (part 0 4 e)
+    (valueBE-inj 256 (part 0 4 d) (part 0 4 e) (part-digits 256 0 4 d (omega arith) b) (part-digits 256 0 4 e (omega arith) c) (l ∙ sym k)) in
+    ap₂ same (part-add 0 4 1 d) (part-add 0 4 1 e)
+    ∙ same-append (part 0 4 d) (part 0 4 e) (part 4 1 d) (part 4 1 e) (l ∙ sym k) ∙ ap₂ _&&_ first last

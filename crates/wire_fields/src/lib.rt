@@ -28,14 +28,16 @@ pub enum Part {
     Absent,
 }
 
-// The answer of a field that must be there: where its contents start, their length, the next position.
+// The answer of a field that must be there: where its contents start, their length, the next position. What fails stands
+// first, here and in `Maybe`: the compiler takes the first for the rarer, and puts the reading of the next field in its
+// place only where it takes that to be no rare thing.
 pub enum Need {
-    Field(usize, usize, Cursor),
     Missing,
+    Field(usize, usize, Cursor),
 }
 
 // The answer of a field that may be absent.
 pub enum Maybe {
-    Taken(Part, Cursor),
     Malformed,
+    Taken(Part, Cursor),
 }

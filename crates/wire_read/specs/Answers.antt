@@ -1,10 +1,13 @@
 -- Helps the code. What the code answers, from what a datagram holds (Refusals): the message as numbers and as places in the datagram. That it is the
 -- message that the datagram reads as is a theorem of `wire`. Assumes nothing.
 use Prim.Native.Nat.{ℕ, _+_, _*_}
-use mathlib.Core.List.{List}
-use mathlib.Core.Bool.{Bool, true, false, cond}
-use lib.ListN.{getD, drop}
-use lib.Dec.{eqb}
+use mathlib.Core.List.{List, _∷_}
+use mathlib.Core.Bool.{Bool, true, false, cond, _&&_}
+use mathlib.Core.Option.{Option, some, none}
+use lib.ListN.{length, getD, drop}
+use lib.Dec.{leb, eqb}
+use Rattle.octet.specs.Part.{part, same}
+use Rattle.wire_fields.specs.Message.{opening}
 use Rattle.wire_shapes.specs.Field.{numberAt}
 use Rattle.wire_fields.specs.Refusals.{Found, refused, found, foundIn}
 use Rattle.wire_fields.specs.declared.Part.{Part}
@@ -66,6 +69,16 @@ lookupShown d ps =
     (getD d (startOf (getD ps 0 Absent) + 4) 0) (getD d (startOf (getD ps 0 Absent) + 5) 0)
     (startOf (getD ps 1 Absent)) (startOf (getD ps 2 Absent)) (getD ps 3 Absent) (getD ps 4 Absent)
     (getD ps 5 Absent) (getD ps 6 Absent) (getD ps 7 Absent)
+
+-- the same by the places of the first three fields and of those behind them
+abbrev pub lookupBehind : List ℕ → ℕ → ℕ → ℕ → Option (List Part) → Answer
+lookupBehind d controls target validate none = Refused 6
+lookupBehind d controls target validate (some ps) = lookupShown d (Here controls 8 ∷ Here target 32 ∷ Here validate 32 ∷ ps)
+
+-- the number of the refusal by length and header, 0 for none
+unfoldable pub headNumber : List ℕ → ℕ → ℕ
+headNumber d major =
+    cond (leb 12 (length d) && leb (length d) 1232) (cond (same (part 0 5 d) opening) (cond (eqb (getD d 5 0) major) 0 4) 3) 2
 
 -- the answer
 unfoldable pub shown : List ℕ → Found → Answer

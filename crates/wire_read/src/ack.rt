@@ -6,7 +6,6 @@ use crate::values::is_here;
 use wire_fields::Cursor;
 use wire_fields::Maybe;
 use wire_fields::Need;
-use wire_shapes::Shape;
 ghost use mathlib.Core.Path.{_≡_};
 ghost use Prim.Native.Nat.{_≤_};
 ghost use lib.ListN.{length};
@@ -15,15 +14,15 @@ ghost use Rattle.wire_fields.specs.Reading.{fieldsAs};
 ghost use Rattle.wire_fields.specs.Refusals.{foundOf};
 ghost use Rattle.wire_read.specs.Answers.{shown};
 
-pub(crate) fn read_ack(d: &[u8]) -> Answer
+pub fn read_ack(d: &[u8]) -> Answer
     requires { ⌜ 12 ≤ length (now d) ⌝ }
     ensures { λ r. ⌜ r ≡ shown (now (d .entry)) (foundOf 9 (fieldsAs 9 ackKinds (now (d .entry)))) ⌝ }
 {
     let c = Cursor { at: 12 };
-    let Need::Field(acked, _, c) = c.need(d, 0x18, false, Shape::Sized(4)) else {
+    let Need::Field(acked, _, c) = c.fixed(d, 0x18, false, 4) else {
         return Answer::Refused(6);
     };
-    let Maybe::Taken(flags, c) = c.maybe(d, 0x40, false, Shape::Sized(2)) else {
+    let Maybe::Taken(flags, c) = c.fixed_or_none(d, 0x40, false, 2) else {
         return Answer::Refused(6);
     };
     if c.at != d.len() {

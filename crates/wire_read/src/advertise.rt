@@ -4,7 +4,6 @@ use crate::values::head;
 use wire_fields::Cursor;
 use wire_fields::Need;
 use wire_fields::Part;
-use wire_shapes::Shape;
 ghost use mathlib.Core.Path.{_≡_};
 ghost use Prim.Native.Nat.{_≤_};
 ghost use lib.ListN.{length};
@@ -13,19 +12,18 @@ ghost use Rattle.wire_fields.specs.Reading.{fieldsAs};
 ghost use Rattle.wire_fields.specs.Refusals.{foundOf};
 ghost use Rattle.wire_read.specs.Answers.{shown};
 
-pub(crate) fn read_advertise(d: &[u8]) -> Answer
+pub fn read_advertise(d: &[u8]) -> Answer
     requires { ⌜ 12 ≤ length (now d) ⌝ }
     ensures { λ r. ⌜ r ≡ shown (now (d .entry)) (foundOf 2 (fieldsAs 2 advertiseKinds (now (d .entry)))) ⌝ }
 {
     let c = Cursor { at: 12 };
-    let Need::Field(acked, _, c) = c.need(d, 0x18, false, Shape::Sized(4)) else {
+    let Need::Field(acked, _, c) = c.fixed(d, 0x18, false, 4) else {
         return Answer::Refused(6);
     };
-    let keys_shape = Shape::Array(0x30, 32, 0, 0x7FFF);
-    let Need::Field(keys, keys_len, c) = c.need(d, 0x60, false, keys_shape) else {
+    let Need::Field(keys, keys_len, c) = c.array(d, 0x60, 0x30, 32, 0, 0x7FFF) else {
         return Answer::Refused(6);
     };
-    let Need::Field(nonce, _, c) = c.need(d, 0x92, false, Shape::Sized(20)) else {
+    let Need::Field(nonce, _, c) = c.fixed(d, 0x92, false, 20) else {
         return Answer::Refused(6);
     };
     if c.at != d.len() {

@@ -7,7 +7,6 @@ use wire_buffer::read_buffer;
 use wire_fields::Cursor;
 use wire_fields::Need;
 use wire_fields::Part;
-use wire_shapes::Shape;
 ghost use mathlib.Core.Path.{_≡_};
 ghost use Prim.Native.Nat.{_≤_};
 ghost use lib.ListN.{length};
@@ -18,15 +17,15 @@ ghost use Rattle.wire_fields.proofs.RefusalLaws.{gated};
 ghost use Rattle.wire_read.specs.Answers.{shown};
 
 // 6 where the fields before the buffer are not right, 7 where the buffer is not whole, 6 where it is malformed.
-pub(crate) fn read_authority(d: &[u8]) -> Answer
+pub fn read_authority(d: &[u8]) -> Answer
     requires { ⌜ 12 ≤ length (now d) ⌝ }
     ensures { λ r. ⌜ r ≡ shown (now (d .entry)) (gated 8 (now (d .entry)) (foundOf 8 (fieldsAs 8 authorityKinds (now (d .entry))))) ⌝ }
 {
     let c = Cursor { at: 12 };
-    let Need::Field(acked, _, c) = c.need(d, 0x18, false, Shape::Sized(4)) else {
+    let Need::Field(acked, _, c) = c.fixed(d, 0x18, false, 4) else {
         return Answer::Refused(6);
     };
-    let Need::Field(start, len, c) = c.need(d, 0x98, false, Shape::Split) else {
+    let Need::Field(start, len, c) = c.split(d) else {
         return Answer::Refused(6);
     };
     if !is_whole(d, Part::Here(start, len)) {

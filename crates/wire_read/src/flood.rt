@@ -6,7 +6,6 @@ use wire_buffer::flag;
 use wire_fields::Cursor;
 use wire_fields::Maybe;
 use wire_fields::Need;
-use wire_shapes::Shape;
 ghost use mathlib.Core.Path.{_≡_};
 ghost use Prim.Native.Nat.{_≤_};
 ghost use lib.ListN.{length};
@@ -23,28 +22,27 @@ fn silent(d: &[u8], controls: usize) -> bool
     flag(d, controls, 1, 1)
 }
 
-pub(crate) fn read_flood(d: &[u8]) -> Answer
+pub fn read_flood(d: &[u8]) -> Answer
     requires { ⌜ 12 ≤ length (now d) ⌝ }
     ensures { λ r. ⌜ r ≡ shown (now (d .entry)) (foundOf 4 (fieldsAs 4 floodKinds (now (d .entry)))) ⌝ }
 {
     let c = Cursor { at: 12 };
-    let Need::Field(controls, _, c) = c.need(d, 0x43, true, Shape::Sized(3)) else {
+    let Need::Field(controls, _, c) = c.fixed(d, 0x43, true, 3) else {
         return Answer::Refused(6);
     };
-    let Need::Field(validate, _, c) = c.need(d, 0x39, false, Shape::Sized(32)) else {
+    let Need::Field(validate, _, c) = c.fixed(d, 0x39, false, 32) else {
         return Answer::Refused(6);
     };
-    let Maybe::Taken(token, c) = c.maybe(d, 0x9F, true, Shape::Any) else {
+    let Maybe::Taken(token, c) = c.any_or_none(d, 0x9F, true) else {
         return Answer::Refused(6);
     };
-    let Maybe::Taken(revoke, c) = c.maybe(d, 0x9C, true, Shape::Any) else {
+    let Maybe::Taken(revoke, c) = c.any_or_none(d, 0x9C, true) else {
         return Answer::Refused(6);
     };
-    let Maybe::Taken(entry, c) = c.maybe(d, 0x9A, true, Shape::Entry) else {
+    let Maybe::Taken(entry, c) = c.entry_or_none(d) else {
         return Answer::Refused(6);
     };
-    let reached_shape = Shape::Array(0x9D, 18, 1, 22);
-    let Maybe::Taken(reached, c) = c.maybe(d, 0x9E, false, reached_shape) else {
+    let Maybe::Taken(reached, c) = c.array_or_none(d, 0x9E, false, 0x9D, 18, 1, 22) else {
         return Answer::Refused(6);
     };
     if c.at != d.len() {

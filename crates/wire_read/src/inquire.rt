@@ -5,7 +5,6 @@ use wire_buffer::flag;
 use wire_fields::Cursor;
 use wire_fields::Maybe;
 use wire_fields::Need;
-use wire_shapes::Shape;
 ghost use mathlib.Core.Path.{_≡_};
 ghost use Prim.Native.Nat.{_≤_};
 ghost use lib.ListN.{length};
@@ -14,27 +13,27 @@ ghost use Rattle.wire_fields.specs.Reading.{fieldsAs};
 ghost use Rattle.wire_fields.specs.Refusals.{foundOf};
 ghost use Rattle.wire_read.specs.Answers.{shown};
 
-pub(crate) fn read_inquire(d: &[u8]) -> Answer
+pub fn read_inquire(d: &[u8]) -> Answer
     requires { ⌜ 12 ≤ length (now d) ⌝ }
     ensures { λ r. ⌜ r ≡ shown (now (d .entry)) (foundOf 7 (fieldsAs 7 inquireKinds (now (d .entry)))) ⌝ }
 {
     let c = Cursor { at: 12 };
-    let Need::Field(flags, _, c) = c.need(d, 0x40, true, Shape::Sized(2)) else {
+    let Need::Field(flags, _, c) = c.fixed(d, 0x40, true, 2) else {
         return Answer::Refused(6);
     };
-    let Need::Field(validate, _, c) = c.need(d, 0x39, false, Shape::Sized(32)) else {
+    let Need::Field(validate, _, c) = c.fixed(d, 0x39, false, 32) else {
         return Answer::Refused(6);
     };
-    let Maybe::Taken(nonce, c) = c.maybe(d, 0x93, false, Shape::Sized(16)) else {
+    let Maybe::Taken(nonce, c) = c.fixed_or_none(d, 0x93, false, 16) else {
         return Answer::Refused(6);
     };
-    let Maybe::Taken(credential, c) = c.maybe(d, 0x80, false, Shape::Any) else {
+    let Maybe::Taken(credential, c) = c.any_or_none(d, 0x80, false) else {
         return Answer::Refused(6);
     };
-    let Maybe::Taken(signature, c) = c.maybe(d, 0xA5, false, Shape::Any) else {
+    let Maybe::Taken(signature, c) = c.any_or_none(d, 0xA5, false) else {
         return Answer::Refused(6);
     };
-    let Maybe::Taken(key, c) = c.maybe(d, 0xA6, false, Shape::Any) else {
+    let Maybe::Taken(key, c) = c.any_or_none(d, 0xA6, false) else {
         return Answer::Refused(6);
     };
     if c.at != d.len() {

@@ -10,9 +10,17 @@ mod request;
 mod solicit;
 mod values;
 
+pub use ack::read_ack;
+pub use advertise::read_advertise;
+pub use authority::read_authority;
+pub use flood::read_flood;
+pub use inquire::read_inquire;
+pub use lookup::read_lookup;
+pub use request::read_request;
+pub use solicit::read_solicit;
 use wire_fields::is_opened;
 ghost use mathlib.Core.Path.{_≡_};
-ghost use Rattle.wire_read.specs.Answers.{answer};
+ghost use Rattle.wire_read.specs.Answers.{headNumber, answer};
 
 // What a header has besides its fixed bytes, the major version and the type.
 pub struct Head {
@@ -92,32 +100,43 @@ pub enum Answer {
     },
 }
 
+// The number of a refusal by length or header, 0 where they are right and the type is to be looked at.
+pub fn header(d: &[u8], major: u8) -> u8
+    ensures { λ r. ⌜ r ≡ headNumber (now (d .entry)) major ⌝ }
+{
+    if d.len() < 12 {
+        return 2;
+    }
+    if 1232 < d.len() {
+        return 2;
+    }
+    if !is_opened(d) {
+        return 3;
+    }
+    if d[5] != major {
+        return 4;
+    }
+    0
+}
+
 // The message in a datagram, or the number of its refusal.
 pub fn read(d: &[u8], major: u8) -> Answer
     ensures { λ r. ⌜ r ≡ answer (now (d .entry)) major ⌝ }
 {
-    if d.len() < 12 {
-        return Answer::Refused(2);
-    }
-    if 1232 < d.len() {
-        return Answer::Refused(2);
-    }
-    if !is_opened(d) {
-        return Answer::Refused(3);
-    }
-    if d[5] != major {
-        return Answer::Refused(4);
+    let number = header(d, major);
+    if number != 0 {
+        return Answer::Refused(number);
     }
     let kind = d[7];
     match kind {
-        1 => solicit::read_solicit(d),
-        2 => advertise::read_advertise(d),
-        3 => request::read_request(d),
-        4 => flood::read_flood(d),
-        7 => inquire::read_inquire(d),
-        8 => authority::read_authority(d),
-        9 => ack::read_ack(d),
-        11 => lookup::read_lookup(d),
+        1 => read_solicit(d),
+        2 => read_advertise(d),
+        3 => read_request(d),
+        4 => read_flood(d),
+        7 => read_inquire(d),
+        8 => read_authority(d),
+        9 => read_ack(d),
+        11 => read_lookup(d),
         _ => Answer::Refused(5),
     }
 }

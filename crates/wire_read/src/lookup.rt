@@ -8,43 +8,51 @@ use wire_fields::Cursor;
 use wire_fields::Maybe;
 use wire_fields::Need;
 use wire_fields::Part;
-use wire_shapes::Shape;
 ghost use mathlib.Core.Path.{_≡_};
 ghost use Prim.Native.Nat.{_≤_};
-ghost use lib.ListN.{length};
+ghost use lib.ListN.{drop, length};
 ghost use Rattle.wire_fields.specs.Kinds.{lookupKinds};
-ghost use Rattle.wire_fields.specs.Reading.{fieldsAs};
+ghost use Rattle.wire_fields.specs.Reading.{placesAt, fieldsAs};
 ghost use Rattle.wire_fields.specs.Refusals.{foundOf};
-ghost use Rattle.wire_read.specs.Answers.{shown};
+ghost use Rattle.wire_read.specs.Answers.{shown, lookupBehind};
 
-pub(crate) fn read_lookup(d: &[u8]) -> Answer
+pub fn read_lookup(d: &[u8]) -> Answer
     requires { ⌜ 12 ≤ length (now d) ⌝ }
     ensures { λ r. ⌜ r ≡ shown (now (d .entry)) (foundOf 11 (fieldsAs 11 lookupKinds (now (d .entry)))) ⌝ }
 {
     let c = Cursor { at: 12 };
-    let Need::Field(controls, _, c) = c.need(d, 0x45, false, Shape::Lookup) else {
+    let Need::Field(controls, _, c) = c.controls(d) else {
         return Answer::Refused(6);
     };
-    let Need::Field(target, _, c) = c.need(d, 0x38, false, Shape::Sized(32)) else {
+    let Need::Field(target, _, c) = c.fixed(d, 0x38, false, 32) else {
         return Answer::Refused(6);
     };
-    let Need::Field(validate, _, c) = c.need(d, 0x39, false, Shape::Sized(32)) else {
+    let Need::Field(validate, _, c) = c.fixed(d, 0x39, false, 32) else {
         return Answer::Refused(6);
     };
-    let Maybe::Taken(entry, c) = c.maybe(d, 0x9A, true, Shape::Entry) else {
+    lookup_behind(d, controls, target, validate, c)
+}
+
+// The fields behind the first three, of which these are the places, from a position to the end. (A function of its own:
+// so many fields in one, and the compiler would call the last instead of putting them in their place.)
+fn lookup_behind(d: &[u8], controls: usize, target: usize, validate: usize, c: Cursor) -> Answer
+    requires { ⌜ 12 ≤ length (now d) ⌝ }
+    ensures { λ r. ⌜ r ≡ lookupBehind (now (d .entry)) controls target validate
+        (placesAt (drop 3 lookupKinds) (now (d .entry)) (c .at)) ⌝ }
+{
+    let Maybe::Taken(entry, c) = c.entry_or_none(d) else {
         return Answer::Refused(6);
     };
-    let path_shape = Shape::Array(0x9D, 18, 1, 22);
-    let Need::Field(path, path_len, c) = c.need(d, 0x9E, false, path_shape) else {
+    let Need::Field(path, path_len, c) = c.array(d, 0x9E, 0x9D, 18, 1, 22) else {
         return Answer::Refused(6);
     };
-    let Maybe::Taken(credential, c) = c.maybe(d, 0x80, false, Shape::Any) else {
+    let Maybe::Taken(credential, c) = c.any_or_none(d, 0x80, false) else {
         return Answer::Refused(6);
     };
-    let Maybe::Taken(signature, c) = c.maybe(d, 0xA5, false, Shape::Any) else {
+    let Maybe::Taken(signature, c) = c.any_or_none(d, 0xA5, false) else {
         return Answer::Refused(6);
     };
-    let Maybe::Taken(key, c) = c.maybe(d, 0xA6, false, Shape::Any) else {
+    let Maybe::Taken(key, c) = c.any_or_none(d, 0xA6, false) else {
         return Answer::Refused(6);
     };
     if c.at != d.len() {

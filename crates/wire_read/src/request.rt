@@ -7,7 +7,6 @@ use wire_fields::Cursor;
 use wire_fields::Maybe;
 use wire_fields::Need;
 use wire_fields::Part;
-use wire_shapes::Shape;
 ghost use mathlib.Core.Path.{_≡_};
 ghost use Prim.Native.Nat.{_≤_};
 ghost use lib.ListN.{length};
@@ -16,31 +15,30 @@ ghost use Rattle.wire_fields.specs.Reading.{fieldsAs};
 ghost use Rattle.wire_fields.specs.Refusals.{foundOf};
 ghost use Rattle.wire_read.specs.Answers.{shown};
 
-pub(crate) fn read_request(d: &[u8]) -> Answer
+pub fn read_request(d: &[u8]) -> Answer
     requires { ⌜ 12 ≤ length (now d) ⌝ }
     ensures { λ r. ⌜ r ≡ shown (now (d .entry)) (foundOf 3 (fieldsAs 3 requestKinds (now (d .entry)))) ⌝ }
 {
     let c = Cursor { at: 12 };
-    let Maybe::Taken(flags, c) = c.maybe(d, 0x40, true, Shape::Sized(2)) else {
+    let Maybe::Taken(flags, c) = c.fixed_or_none(d, 0x40, true, 2) else {
         return Answer::Refused(6);
     };
-    let Maybe::Taken(split, c) = c.maybe(d, 0x98, false, Shape::Sized(4)) else {
+    let Maybe::Taken(split, c) = c.fixed_or_none(d, 0x98, false, 4) else {
         return Answer::Refused(6);
     };
-    let Need::Field(nonce, _, c) = c.need(d, 0x93, false, Shape::Sized(16)) else {
+    let Need::Field(nonce, _, c) = c.fixed(d, 0x93, false, 16) else {
         return Answer::Refused(6);
     };
-    let keys_shape = Shape::Array(0x30, 32, 0, 0x7FFF);
-    let Need::Field(keys, keys_len, c) = c.need(d, 0x60, false, keys_shape) else {
+    let Need::Field(keys, keys_len, c) = c.array(d, 0x60, 0x30, 32, 0, 0x7FFF) else {
         return Answer::Refused(6);
     };
-    let Maybe::Taken(credential, c) = c.maybe(d, 0x80, false, Shape::Any) else {
+    let Maybe::Taken(credential, c) = c.any_or_none(d, 0x80, false) else {
         return Answer::Refused(6);
     };
-    let Maybe::Taken(signature, c) = c.maybe(d, 0xA5, false, Shape::Any) else {
+    let Maybe::Taken(signature, c) = c.any_or_none(d, 0xA5, false) else {
         return Answer::Refused(6);
     };
-    let Maybe::Taken(key, c) = c.maybe(d, 0xA6, false, Shape::Any) else {
+    let Maybe::Taken(key, c) = c.any_or_none(d, 0xA6, false) else {
         return Answer::Refused(6);
     };
     if c.at != d.len() {

@@ -4,7 +4,6 @@ use crate::values::head;
 use wire_fields::Cursor;
 use wire_fields::Maybe;
 use wire_fields::Need;
-use wire_shapes::Shape;
 ghost use mathlib.Core.Path.{_≡_};
 ghost use Prim.Native.Nat.{_≤_};
 ghost use lib.ListN.{length};
@@ -13,15 +12,15 @@ ghost use Rattle.wire_fields.specs.Reading.{fieldsAs};
 ghost use Rattle.wire_fields.specs.Refusals.{foundOf};
 ghost use Rattle.wire_read.specs.Answers.{shown};
 
-pub(crate) fn read_solicit(d: &[u8]) -> Answer
+pub fn read_solicit(d: &[u8]) -> Answer
     requires { ⌜ 12 ≤ length (now d) ⌝ }
     ensures { λ r. ⌜ r ≡ shown (now (d .entry)) (foundOf 1 (fieldsAs 1 solicitKinds (now (d .entry)))) ⌝ }
 {
     let c = Cursor { at: 12 };
-    let Maybe::Taken(entry, c) = c.maybe(d, 0x9A, true, Shape::Entry) else {
+    let Maybe::Taken(entry, c) = c.entry_or_none(d) else {
         return Answer::Refused(6);
     };
-    let Need::Field(nonce, _, c) = c.need(d, 0x92, false, Shape::Sized(20)) else {
+    let Need::Field(nonce, _, c) = c.fixed(d, 0x92, false, 20) else {
         return Answer::Refused(6);
     };
     if c.at != d.len() {

@@ -1,6 +1,5 @@
 // What a field's contents look like.
 use crate::Shape;
-use crate::byte;
 ghost use mathlib.Core.Path.{_≡_};
 ghost use Prim.Native.Nat.{_+_, _≤_};
 ghost use lib.ListN.{length};
@@ -31,15 +30,21 @@ pub fn has_shape(d: &[u8], start: usize, len: usize, shape: Shape) -> bool
     }
 }
 
+fn wide(n: u8) -> usize
+    ensures { λ r. ⌜ r ≡ n ⌝ }
+{
+    n as usize
+}
+
 // A route entry of 1 to 4 addresses.
-fn is_entry(d: &[u8], start: usize, len: usize) -> bool
+pub fn is_entry(d: &[u8], start: usize, len: usize) -> bool
     requires { ⌜ start + len ≤ length (now d) ⌝ }
     ensures { λ r. ⌜ r ≡ entryForm (part start len (now (d .entry))) ⌝ }
 {
     if len < 38 {
         return false;
     }
-    let count = byte(d, start + 37) as usize;
+    let count = wide(d[start + 37]);
     if count < 1 {
         return false;
     }
@@ -50,17 +55,17 @@ fn is_entry(d: &[u8], start: usize, len: usize) -> bool
 }
 
 // LOOKUP's controls: eight bytes, a reason up to 3 and one of five criteria.
-fn is_lookup(d: &[u8], start: usize, len: usize) -> bool
+pub fn is_lookup(d: &[u8], start: usize, len: usize) -> bool
     requires { ⌜ start + len ≤ length (now d) ⌝ }
     ensures { λ r. ⌜ r ≡ lookupForm (part start len (now (d .entry))) ⌝ }
 {
     if len != 8 {
         return false;
     }
-    if 3 < byte(d, start + 5) {
+    if 3 < d[start + 5] {
         return false;
     }
-    let criteria = byte(d, start + 4);
+    let criteria = d[start + 4];
     if criteria <= 2 {
         return true;
     }
@@ -71,7 +76,7 @@ fn is_lookup(d: &[u8], start: usize, len: usize) -> bool
 }
 
 // AUTHORITY's split controls: a size up to 37,348 and an offset that is a multiple of 1,188.
-fn is_split(d: &[u8], start: usize, len: usize) -> bool
+pub fn is_split(d: &[u8], start: usize, len: usize) -> bool
     requires { ⌜ start + len ≤ length (now d) ⌝ }
     ensures { λ r. ⌜ r ≡ splitForm (part start len (now (d .entry))) ⌝ }
 {
@@ -85,7 +90,7 @@ fn is_split(d: &[u8], start: usize, len: usize) -> bool
 }
 
 // An array of elements of a number and a size.
-fn is_array(
+pub fn is_array(
     d: &[u8],
     start: usize,
     len: usize,

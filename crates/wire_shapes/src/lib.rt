@@ -2,6 +2,10 @@
 mod contents;
 
 pub use contents::has_shape;
+pub use contents::is_array;
+pub use contents::is_entry;
+pub use contents::is_lookup;
+pub use contents::is_split;
 ghost use mathlib.Core.Path.{_≡_};
 ghost use Prim.Native.Nat.{_<_};
 ghost use lib.ListN.{getD};

@@ -8,8 +8,8 @@ use borrow.Author.Needs.{needs}
 use Rattle.wire_buffer.proofs.read_buffer.Statement.{statement}
 use Rattle.wire_buffer.proofs.read_buffer.Tie as tie
 
-need-requires : tie.Need-need-requires
-need-requires c κs = search needs
+fixed-requires : tie.Need-fixed-requires
+fixed-requires c κs = search needs
 
 enum-known-flags : tie.Need-enum-known-flags
 enum-known-flags c = search needs
@@ -20,10 +20,10 @@ enum-told c = search needs
 returns : tie.Need-returns
 unfolding bufferAt placesAt
 returns c =
-    rw (sym (c .before .before .need .ensures) ∙ c .enum-told .given .1)
+    rw (sym (c .before .before .fixed .ensures) ∙ c .enum-told .given .1)
 
-maybe-requires : tie.Need-maybe-requires
-maybe-requires c κs = search needs
+any-or-none-requires : tie.Need-any-or-none-requires
+any-or-none-requires c κs = search needs
 
 enum-known-chain : tie.Need-enum-known-chain
 enum-known-chain c = search needs
@@ -35,12 +35,12 @@ returns-2 : tie.Need-returns-2
 unfolding bufferAt placesAt
 returns-2 c =
     rw (
-      sym (c .before .before .before .before .before .before .need .ensures) ∙ c .before .before .before .before .flags .given .1,
-      sym (c .before .before .maybe .ensures) ∙ c .enum-told2 .given .1,
+      sym (c .before .before .before .before .before .before .fixed .ensures) ∙ c .before .before .before .before .flags .given .1,
+      sym (c .before .before .any-or-none .ensures) ∙ c .enum-told2 .given .1,
     )
 
-maybe-requires-2 : tie.Need-maybe-requires-2
-maybe-requires-2 c κs = search needs
+any-or-none-requires-2 : tie.Need-any-or-none-requires-2
+any-or-none-requires-2 c κs = search needs
 
 enum-known-token : tie.Need-enum-known-token
 enum-known-token c = search needs
@@ -54,13 +54,13 @@ returns-3 c =
     let chain = c .before .before .before .before in
     let flags = chain .before .before .before .before in
     rw (
-      sym (flags .before .before .need .ensures) ∙ flags .flags .given .1,
-      sym (chain .before .before .maybe .ensures) ∙ chain .chain .given .1,
-      sym (c .before .before .maybe2 .ensures) ∙ c .enum-told3 .given .1,
+      sym (flags .before .before .fixed .ensures) ∙ flags .flags .given .1,
+      sym (chain .before .before .any-or-none .ensures) ∙ chain .chain .given .1,
+      sym (c .before .before .any-or-none2 .ensures) ∙ c .enum-told3 .given .1,
     )
 
-maybe-requires-3 : tie.Need-maybe-requires-3
-maybe-requires-3 c κs = search needs
+array-or-none-requires : tie.Need-array-or-none-requires
+array-or-none-requires c κs = search needs
 
 enum-known-classifier : tie.Need-enum-known-classifier
 enum-known-classifier c = search needs
@@ -75,14 +75,14 @@ returns-4 c =
     let chain = token .before .before .before .before in
     let flags = chain .before .before .before .before in
     rw (
-      sym (flags .before .before .need .ensures) ∙ flags .flags .given .1,
-      sym (chain .before .before .maybe .ensures) ∙ chain .chain .given .1,
-      sym (token .before .before .maybe2 .ensures) ∙ token .token .given .1,
-      sym (c .before .before .maybe3 .ensures) ∙ c .enum-told4 .given .1,
+      sym (flags .before .before .fixed .ensures) ∙ flags .flags .given .1,
+      sym (chain .before .before .any-or-none .ensures) ∙ chain .chain .given .1,
+      sym (token .before .before .any-or-none2 .ensures) ∙ token .token .given .1,
+      sym (c .before .before .array-or-none .ensures) ∙ c .enum-told4 .given .1,
     )
 
-maybe-requires-4 : tie.Need-maybe-requires-4
-maybe-requires-4 c κs = search needs
+any-or-none-requires-3 : tie.Need-any-or-none-requires-3
+any-or-none-requires-3 c κs = search needs
 
 enum-known-payload : tie.Need-enum-known-payload
 enum-known-payload c = search needs
@@ -98,15 +98,15 @@ returns-5 c =
     let chain = token .before .before .before .before in
     let flags = chain .before .before .before .before in
     rw (
-      sym (flags .before .before .need .ensures) ∙ flags .flags .given .1,
-      sym (chain .before .before .maybe .ensures) ∙ chain .chain .given .1,
-      sym (token .before .before .maybe2 .ensures) ∙ token .token .given .1,
-      sym (classifier .before .before .maybe3 .ensures) ∙ classifier .classifier .given .1,
-      sym (c .before .before .maybe4 .ensures) ∙ c .enum-told5 .given .1,
+      sym (flags .before .before .fixed .ensures) ∙ flags .flags .given .1,
+      sym (chain .before .before .any-or-none .ensures) ∙ chain .chain .given .1,
+      sym (token .before .before .any-or-none2 .ensures) ∙ token .token .given .1,
+      sym (classifier .before .before .array-or-none .ensures) ∙ classifier .classifier .given .1,
+      sym (c .before .before .any-or-none3 .ensures) ∙ c .enum-told5 .given .1,
     )
 
-maybe-requires-5 : tie.Need-maybe-requires-5
-maybe-requires-5 c κs = search needs
+entry-or-none-requires : tie.Need-entry-or-none-requires
+entry-or-none-requires c κs = search needs
 
 enum-known-entry : tie.Need-enum-known-entry
 enum-known-entry c = search needs
@@ -123,16 +123,16 @@ returns-6 c =
     let chain = token .before .before .before .before in
     let flags = chain .before .before .before .before in
     rw (
-      sym (flags .before .before .need .ensures) ∙ flags .flags .given .1,
-      sym (chain .before .before .maybe .ensures) ∙ chain .chain .given .1,
-      sym (token .before .before .maybe2 .ensures) ∙ token .token .given .1,
-      sym (classifier .before .before .maybe3 .ensures) ∙ classifier .classifier .given .1,
-      sym (payload .before .before .maybe4 .ensures) ∙ payload .payload .given .1,
-      sym (c .before .before .maybe5 .ensures) ∙ c .enum-told6 .given .1,
+      sym (flags .before .before .fixed .ensures) ∙ flags .flags .given .1,
+      sym (chain .before .before .any-or-none .ensures) ∙ chain .chain .given .1,
+      sym (token .before .before .any-or-none2 .ensures) ∙ token .token .given .1,
+      sym (classifier .before .before .array-or-none .ensures) ∙ classifier .classifier .given .1,
+      sym (payload .before .before .any-or-none3 .ensures) ∙ payload .payload .given .1,
+      sym (c .before .before .entry-or-none .ensures) ∙ c .enum-told6 .given .1,
     )
 
-maybe-requires-6 : tie.Need-maybe-requires-6
-maybe-requires-6 c κs = search needs
+any-or-none-requires-4 : tie.Need-any-or-none-requires-4
+any-or-none-requires-4 c κs = search needs
 
 enum-known-cpa : tie.Need-enum-known-cpa
 enum-known-cpa c = search needs
@@ -150,13 +150,13 @@ returns-7 c =
     let chain = token .before .before .before .before in
     let flags = chain .before .before .before .before in
     rw (
-      sym (flags .before .before .need .ensures) ∙ flags .flags .given .1,
-      sym (chain .before .before .maybe .ensures) ∙ chain .chain .given .1,
-      sym (token .before .before .maybe2 .ensures) ∙ token .token .given .1,
-      sym (classifier .before .before .maybe3 .ensures) ∙ classifier .classifier .given .1,
-      sym (payload .before .before .maybe4 .ensures) ∙ payload .payload .given .1,
-      sym (entry .before .before .maybe5 .ensures) ∙ entry .entry .given .1,
-      sym (c .before .before .maybe6 .ensures) ∙ c .enum-told7 .given .1,
+      sym (flags .before .before .fixed .ensures) ∙ flags .flags .given .1,
+      sym (chain .before .before .any-or-none .ensures) ∙ chain .chain .given .1,
+      sym (token .before .before .any-or-none2 .ensures) ∙ token .token .given .1,
+      sym (classifier .before .before .array-or-none .ensures) ∙ classifier .classifier .given .1,
+      sym (payload .before .before .any-or-none3 .ensures) ∙ payload .payload .given .1,
+      sym (entry .before .before .entry-or-none .ensures) ∙ entry .entry .given .1,
+      sym (c .before .before .any-or-none4 .ensures) ∙ c .enum-told7 .given .1,
     )
 
 returns-8 : tie.Need-returns-8
@@ -170,13 +170,13 @@ returns-8 c =
     let chain = token .before .before .before .before in
     let flags = chain .before .before .before .before in
     rw (
-      sym (flags .before .before .need .ensures) ∙ flags .flags .given .1,
-      sym (chain .before .before .maybe .ensures) ∙ chain .chain .given .1,
-      sym (token .before .before .maybe2 .ensures) ∙ token .token .given .1,
-      sym (classifier .before .before .maybe3 .ensures) ∙ classifier .classifier .given .1,
-      sym (payload .before .before .maybe4 .ensures) ∙ payload .payload .given .1,
-      sym (entry .before .before .maybe5 .ensures) ∙ entry .entry .given .1,
-      sym (cpa .before .before .maybe6 .ensures) ∙ cpa .cpa .given .1,
+      sym (flags .before .before .fixed .ensures) ∙ flags .flags .given .1,
+      sym (chain .before .before .any-or-none .ensures) ∙ chain .chain .given .1,
+      sym (token .before .before .any-or-none2 .ensures) ∙ token .token .given .1,
+      sym (classifier .before .before .array-or-none .ensures) ∙ classifier .classifier .given .1,
+      sym (payload .before .before .any-or-none3 .ensures) ∙ payload .payload .given .1,
+      sym (entry .before .before .entry-or-none .ensures) ∙ entry .entry .given .1,
+      sym (cpa .before .before .any-or-none4 .ensures) ∙ cpa .cpa .given .1,
       ne-eqb _ _ (c .if1 .taken),
     )
 
@@ -200,13 +200,13 @@ returns-9 c =
     let chain = token .before .before .before .before in
     let flags = chain .before .before .before .before in
     rw (
-      sym (flags .before .before .need .ensures) ∙ flags .flags .given .1,
-      sym (chain .before .before .maybe .ensures) ∙ chain .chain .given .1,
-      sym (token .before .before .maybe2 .ensures) ∙ token .token .given .1,
-      sym (classifier .before .before .maybe3 .ensures) ∙ classifier .classifier .given .1,
-      sym (payload .before .before .maybe4 .ensures) ∙ payload .payload .given .1,
-      sym (entry .before .before .maybe5 .ensures) ∙ entry .entry .given .1,
-      sym (cpa .before .before .maybe6 .ensures) ∙ cpa .cpa .given .1,
+      sym (flags .before .before .fixed .ensures) ∙ flags .flags .given .1,
+      sym (chain .before .before .any-or-none .ensures) ∙ chain .chain .given .1,
+      sym (token .before .before .any-or-none2 .ensures) ∙ token .token .given .1,
+      sym (classifier .before .before .array-or-none .ensures) ∙ classifier .classifier .given .1,
+      sym (payload .before .before .any-or-none3 .ensures) ∙ payload .payload .given .1,
+      sym (entry .before .before .entry-or-none .ensures) ∙ entry .entry .given .1,
+      sym (cpa .before .before .any-or-none4 .ensures) ∙ cpa .cpa .given .1,
       eq-eqb _ _ (c .before .before .before .if1 .left),
       c .before .before .flag .ensures,
       c .before .flag2 .ensures,
@@ -217,31 +217,31 @@ pub read-buffer-spec : {M : Type 1} → statement M
 read-buffer-spec =
     tie.close
     (tie.spec
-    need-requires
+    fixed-requires
     enum-known-flags
     enum-told
     returns
-    maybe-requires
+    any-or-none-requires
     enum-known-chain
     enum-told-2
     returns-2
-    maybe-requires-2
+    any-or-none-requires-2
     enum-known-token
     enum-told-3
     returns-3
-    maybe-requires-3
+    array-or-none-requires
     enum-known-classifier
     enum-told-4
     returns-4
-    maybe-requires-4
+    any-or-none-requires-3
     enum-known-payload
     enum-told-5
     returns-5
-    maybe-requires-5
+    entry-or-none-requires
     enum-known-entry
     enum-told-6
     returns-6
-    maybe-requires-6
+    any-or-none-requires-4
     enum-known-cpa
     enum-told-7
     returns-7

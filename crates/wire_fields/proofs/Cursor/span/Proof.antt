@@ -15,19 +15,19 @@ sub-if2 c = search needs
 returns-2 : tie.Need-returns-2
 returns-2 c = let a = c .before .before .before .args in sym (span-short (now (a .d)) (a .self .at) (a .number) (a .padded) (omega arith))
 
-read-u16-requires : tie.Need-read-u16-requires
-read-u16-requires c κs = search needs
+two-requires : tie.Need-two-requires
+two-requires c κs = search needs
 
 returns-3 : tie.Need-returns-3
 returns-3 c =
     let a = c .before .before .before .before .before .args in
     sym (span-other (now (a .d)) (a .self .at) (a .number) (a .padded) (omega arith) (omega arith))
 
-add-read-u16 : tie.Need-add-read-u16
-add-read-u16 c = search needs
+add-two : tie.Need-add-two
+add-two c = search needs
 
-read-u16-requires-2 : tie.Need-read-u16-requires-2
-read-u16-requires-2 c κs = search needs
+two-requires-2 : tie.Need-two-requires-2
+two-requires-2 c κs = search needs
 
 cast-whole : tie.Need-cast-whole
 cast-whole c = search needs
@@ -48,7 +48,7 @@ add-next c = search needs
 
 returns-5 : tie.Need-returns-5
 returns-5 c = let a = c .before .before .before .before .before .before .before .before .before .args in
-    sym (span-past (now (a .d)) (a .self .at) (a .number) (a .padded) _ _ (c .before .before .before .read-u162 .ensures)
+    sym (span-past (now (a .d)) (a .self .at) (a .number) (a .padded) _ _ (c .before .before .before .two2 .ensures)
     (c .before .padding .ensures .0) (omega arith) (omega arith) (omega arith) (omega arith))
 
 add-start : tie.Need-add-start
@@ -56,7 +56,7 @@ add-start c = search needs
 
 returns-6 : tie.Need-returns-6
 returns-6 c = let a = c .before .before .before .before .before .before .before .before .before .args in
-    sym (span-whole (now (a .d)) (a .self .at) (a .number) (a .padded) _ _ (c .before .before .before .read-u162 .ensures)
+    sym (span-whole (now (a .d)) (a .self .at) (a .number) (a .padded) _ _ (c .before .before .before .two2 .ensures)
     (c .before .padding .ensures .0) (omega arith) (omega arith) (omega arith) (omega arith))
 
 pub span-spec : {M : Type 1} → statement M
@@ -66,10 +66,10 @@ span-spec =
     returns
     sub-if2
     returns-2
-    read-u16-requires
+    two-requires
     returns-3
-    add-read-u16
-    read-u16-requires-2
+    add-two
+    two-requires-2
     cast-whole
     returns-4
     add-end

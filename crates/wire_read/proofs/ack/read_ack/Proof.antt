@@ -12,8 +12,8 @@ use borrow.Author.Needs.{needs}
 use Rattle.wire_read.proofs.ack.read_ack.Statement.{statement}
 use Rattle.wire_read.proofs.ack.read_ack.Tie as tie
 
-need-requires : tie.Need-need-requires
-need-requires c κs = search needs
+fixed-requires : tie.Need-fixed-requires
+fixed-requires c κs = search needs
 
 enum-known-acked : tie.Need-enum-known-acked
 enum-known-acked c = search needs
@@ -24,10 +24,10 @@ enum-told c = search needs
 returns : tie.Need-returns
 unfolding shown fieldsAs joined sized placesAt
 returns c =
-    rw (sym (c .before .before .need .ensures) ∙ c .enum-told .given .1)
+    rw (sym (c .before .before .fixed .ensures) ∙ c .enum-told .given .1)
 
-maybe-requires : tie.Need-maybe-requires
-maybe-requires c κs = search needs
+fixed-or-none-requires : tie.Need-fixed-or-none-requires
+fixed-or-none-requires c κs = search needs
 
 enum-known-flags : tie.Need-enum-known-flags
 enum-known-flags c = search needs
@@ -39,8 +39,8 @@ returns-2 : tie.Need-returns-2
 unfolding shown fieldsAs joined sized placesAt
 returns-2 c =
     rw (
-      sym (c .before .before .before .before .before .before .need .ensures) ∙ c .before .before .before .before .acked .given .1,
-      sym (c .before .before .maybe .ensures) ∙ c .enum-told2 .given .1,
+      sym (c .before .before .before .before .before .before .fixed .ensures) ∙ c .before .before .before .before .acked .given .1,
+      sym (c .before .before .fixed-or-none .ensures) ∙ c .enum-told2 .given .1,
     )
 
 returns-3 : tie.Need-returns-3
@@ -49,8 +49,8 @@ returns-3 c =
     let flags = c .before .before .before in
     let acked = flags .before .before .before .before in
     rw (
-      sym (acked .before .before .need .ensures) ∙ acked .acked .given .1,
-      sym (flags .before .before .maybe .ensures) ∙ flags .flags .given .1,
+      sym (acked .before .before .fixed .ensures) ∙ acked .acked .given .1,
+      sym (flags .before .before .fixed-or-none .ensures) ∙ flags .flags .given .1,
       ne-eqb _ _ (c .if1 .taken),
     )
 
@@ -61,7 +61,7 @@ read-u32-requires : tie.Need-read-u32-requires
 read-u32-requires c κs =
     let acked = c .before .before .before .before .before .before .before .before in
     let start = acked .before .before .before .before in
-    let q = need-four (now (start .args .d)) _ _ _ (Sized 4) sized-four _ _ _ (sym (acked .before .before .need .ensures) ∙ acked .acked .given .1) in
+    let q = need-four (now (start .args .d)) _ _ _ (Sized 4) sized-four _ _ _ (sym (acked .before .before .fixed .ensures) ∙ acked .acked .given .1) in
     omega (arith, q .0, q .1)
 
 is-here-requires : tie.Need-is-here-requires
@@ -76,8 +76,8 @@ returns-4 c =
     let flags = c .before .before .before .before .before .before .before in
     let acked = flags .before .before .before .before in
     rw (
-      sym (acked .before .before .need .ensures) ∙ acked .acked .given .1,
-      sym (flags .before .before .maybe .ensures) ∙ flags .flags .given .1,
+      sym (acked .before .before .fixed .ensures) ∙ acked .acked .given .1,
+      sym (flags .before .before .fixed-or-none .ensures) ∙ flags .flags .given .1,
       eq-eqb _ _ (c .before .before .before .before .if1 .left),
       c .before .before .before .head .ensures,
       c .before .before .read-u32 .ensures,
@@ -89,11 +89,11 @@ pub read-ack-spec : {M : Type 1} → statement M
 read-ack-spec =
     tie.close
     (tie.spec
-    need-requires
+    fixed-requires
     enum-known-acked
     enum-told
     returns
-    maybe-requires
+    fixed-or-none-requires
     enum-known-flags
     enum-told-2
     returns-2

@@ -13,8 +13,8 @@ use borrow.Author.Needs.{needs}
 use Rattle.wire_read.proofs.advertise.read_advertise.Statement.{statement}
 use Rattle.wire_read.proofs.advertise.read_advertise.Tie as tie
 
-need-requires : tie.Need-need-requires
-need-requires c κs = search needs
+fixed-requires : tie.Need-fixed-requires
+fixed-requires c κs = search needs
 
 enum-known-acked : tie.Need-enum-known-acked
 enum-known-acked c = search needs
@@ -25,10 +25,10 @@ enum-told c = search needs
 returns : tie.Need-returns
 unfolding shown fieldsAs joined sized placesAt
 returns c =
-    rw (sym (c .before .before .need .ensures) ∙ c .enum-told .given .1)
+    rw (sym (c .before .before .fixed .ensures) ∙ c .enum-told .given .1)
 
-need-requires-2 : tie.Need-need-requires-2
-need-requires-2 c κs = search needs
+array-requires : tie.Need-array-requires
+array-requires c κs = search needs
 
 enum-known-keys : tie.Need-enum-known-keys
 enum-known-keys c = search needs
@@ -40,12 +40,12 @@ returns-2 : tie.Need-returns-2
 unfolding shown fieldsAs joined sized placesAt
 returns-2 c =
     rw (
-      sym (c .before .before .before .before .before .before .need .ensures) ∙ c .before .before .before .before .acked .given .1,
-      sym (c .before .before .need2 .ensures) ∙ c .enum-told2 .given .1,
+      sym (c .before .before .before .before .before .before .fixed .ensures) ∙ c .before .before .before .before .acked .given .1,
+      sym (c .before .before .array .ensures) ∙ c .enum-told2 .given .1,
     )
 
-need-requires-3 : tie.Need-need-requires-3
-need-requires-3 c κs = search needs
+fixed-requires-2 : tie.Need-fixed-requires-2
+fixed-requires-2 c κs = search needs
 
 enum-known-nonce : tie.Need-enum-known-nonce
 enum-known-nonce c = search needs
@@ -59,9 +59,9 @@ returns-3 c =
     let keys = c .before .before .before .before in
     let acked = keys .before .before .before .before in
     rw (
-      sym (acked .before .before .need .ensures) ∙ acked .acked .given .1,
-      sym (keys .before .before .need2 .ensures) ∙ keys .keys .given .1,
-      sym (c .before .before .need3 .ensures) ∙ c .enum-told3 .given .1,
+      sym (acked .before .before .fixed .ensures) ∙ acked .acked .given .1,
+      sym (keys .before .before .array .ensures) ∙ keys .keys .given .1,
+      sym (c .before .before .fixed2 .ensures) ∙ c .enum-told3 .given .1,
     )
 
 returns-4 : tie.Need-returns-4
@@ -71,9 +71,9 @@ returns-4 c =
     let keys = nonce .before .before .before .before in
     let acked = keys .before .before .before .before in
     rw (
-      sym (acked .before .before .need .ensures) ∙ acked .acked .given .1,
-      sym (keys .before .before .need2 .ensures) ∙ keys .keys .given .1,
-      sym (nonce .before .before .need3 .ensures) ∙ nonce .nonce .given .1,
+      sym (acked .before .before .fixed .ensures) ∙ acked .acked .given .1,
+      sym (keys .before .before .array .ensures) ∙ keys .keys .given .1,
+      sym (nonce .before .before .fixed2 .ensures) ∙ nonce .nonce .given .1,
       ne-eqb _ _ (c .if1 .taken),
     )
 
@@ -84,7 +84,7 @@ read-u32-requires : tie.Need-read-u32-requires
 read-u32-requires c κs =
     let acked = c .before .before .before .before .before .before .before .before .before .before .before .before in
     let start = acked .before .before .before .before in
-    let q = need-four (now (start .args .d)) _ _ _ (Sized 4) sized-four _ _ _ (sym (acked .before .before .need .ensures) ∙ acked .acked .given .1) in
+    let q = need-four (now (start .args .d)) _ _ _ (Sized 4) sized-four _ _ _ (sym (acked .before .before .fixed .ensures) ∙ acked .acked .given .1) in
     omega (arith, q .0, q .1)
 
 returns-5 : tie.Need-returns-5
@@ -94,9 +94,9 @@ returns-5 c =
     let keys = nonce .before .before .before .before in
     let acked = keys .before .before .before .before in
     rw (
-      sym (acked .before .before .need .ensures) ∙ acked .acked .given .1,
-      sym (keys .before .before .need2 .ensures) ∙ keys .keys .given .1,
-      sym (nonce .before .before .need3 .ensures) ∙ nonce .nonce .given .1,
+      sym (acked .before .before .fixed .ensures) ∙ acked .acked .given .1,
+      sym (keys .before .before .array .ensures) ∙ keys .keys .given .1,
+      sym (nonce .before .before .fixed2 .ensures) ∙ nonce .nonce .given .1,
       eq-eqb _ _ (c .before .before .if1 .left),
       c .before .head .ensures,
       c .read-u32 .ensures,
@@ -106,15 +106,15 @@ pub read-advertise-spec : {M : Type 1} → statement M
 read-advertise-spec =
     tie.close
     (tie.spec
-    need-requires
+    fixed-requires
     enum-known-acked
     enum-told
     returns
-    need-requires-2
+    array-requires
     enum-known-keys
     enum-told-2
     returns-2
-    need-requires-3
+    fixed-requires-2
     enum-known-nonce
     enum-told-3
     returns-3

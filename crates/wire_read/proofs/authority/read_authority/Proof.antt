@@ -14,8 +14,8 @@ use borrow.Author.Needs.{needs}
 use Rattle.wire_read.proofs.authority.read_authority.Statement.{statement}
 use Rattle.wire_read.proofs.authority.read_authority.Tie as tie
 
-need-requires : tie.Need-need-requires
-need-requires c κs = search needs
+fixed-requires : tie.Need-fixed-requires
+fixed-requires c κs = search needs
 
 enum-known-acked : tie.Need-enum-known-acked
 enum-known-acked c = search needs
@@ -25,10 +25,10 @@ enum-told c = search needs
 
 returns : tie.Need-returns
 unfolding shown inPart fieldsAs placesAt
-returns c = rw (sym (c .before .before .need .ensures) ∙ c .enum-told .given .1)
+returns c = rw (sym (c .before .before .fixed .ensures) ∙ c .enum-told .given .1)
 
-need-requires-2 : tie.Need-need-requires-2
-need-requires-2 c κs = search needs
+split-requires : tie.Need-split-requires
+split-requires c κs = search needs
 
 enum-known-start : tie.Need-enum-known-start
 enum-known-start c = search needs
@@ -40,12 +40,12 @@ returns-2 : tie.Need-returns-2
 unfolding shown inPart fieldsAs placesAt
 returns-2 c =
     let acked = c .before .before .before .before in
-    rw (sym (acked .before .before .need .ensures) ∙ acked .acked .given .1, sym (c .before .before .need2 .ensures) ∙ c .enum-told2 .given .1)
+    rw (sym (acked .before .before .fixed .ensures) ∙ acked .acked .given .1, sym (c .before .before .split .ensures) ∙ c .enum-told2 .given .1)
 
 is-whole-requires : tie.Need-is-whole-requires
 is-whole-requires c κs =
     let start = c .before .before .before .before .before .before .before .before .before in
-    need-four (now (start .args .d)) _ _ _ Split split-four _ _ _ (sym (c .before .before .before .need2 .ensures) ∙ c .before .start .given .1)
+    need-four (now (start .args .d)) _ _ _ Split split-four _ _ _ (sym (c .before .before .before .split .ensures) ∙ c .before .start .given .1)
 
 returns-3 : tie.Need-returns-3
 unfolding shown inPart
@@ -53,8 +53,8 @@ returns-3 c =
     let split = c .before .before .before in
     let acked = split .before .before .before .before in
     rw (
-      sym (acked .before .before .need .ensures) ∙ acked .acked .given .1,
-      sym (split .before .before .need2 .ensures) ∙ split .start .given .1,
+      sym (acked .before .before .fixed .ensures) ∙ acked .acked .given .1,
+      sym (split .before .before .split .ensures) ∙ split .start .given .1,
       sym (c .before .is-whole .ensures) ∙ not-true _ (c .if1 .taken),
     )
 
@@ -73,8 +73,8 @@ returns-4 c =
     let acked = split .before .before .before .before in
     let start = acked .before .before .before .before in
     let d = now (start .args .d) in
-    let q = sym (acked .before .before .need .ensures) ∙ acked .acked .given .1 in
-    let q₂ = sym (split .before .before .need2 .ensures) ∙ split .start .given .1 in
+    let q = sym (acked .before .before .fixed .ensures) ∙ acked .acked .given .1 in
+    let q₂ = sym (split .before .before .split .ensures) ∙ split .start .given .1 in
     let w = sym (c .before .before .before .before .is-whole .ensures) ∙ not-false _ (c .before .before .before .if1 .left) in
     sym (authority-bad d _ _ _ _ _ _ q q₂ w (sym (c .before .before .read-buffer .ensures) ∙ c .enum-told3 .given .1))
 
@@ -85,7 +85,7 @@ read-u32-requires : tie.Need-read-u32-requires
 read-u32-requires c κs =
     let acked = c .before .before .before .before .before .before .before .before .before .before .before .before in
     let start = acked .before .before .before .before in
-    let q = need-four (now (start .args .d)) _ _ _ (Sized 4) sized-four _ _ _ (sym (acked .before .before .need .ensures) ∙ acked .acked .given .1) in
+    let q = need-four (now (start .args .d)) _ _ _ (Sized 4) sized-four _ _ _ (sym (acked .before .before .fixed .ensures) ∙ acked .acked .given .1) in
     omega (arith, q .0, q .1)
 
 returns-5 : tie.Need-returns-5
@@ -95,8 +95,8 @@ returns-5 c =
     let acked = split .before .before .before .before in
     let start = acked .before .before .before .before in
     let d = now (start .args .d) in
-    let q = sym (acked .before .before .need .ensures) ∙ acked .acked .given .1 in
-    let q₂ = sym (split .before .before .need2 .ensures) ∙ split .start .given .1 in
+    let q = sym (acked .before .before .fixed .ensures) ∙ acked .acked .given .1 in
+    let q₂ = sym (split .before .before .split .ensures) ∙ split .start .given .1 in
     let w = sym (fields .before .before .before .before .is-whole .ensures) ∙ not-false _ (fields .before .before .before .if1 .left) in
     rw (c .before .head .ensures, c .read-u32 .ensures)
     (sym (authority-good d _ _ _ _ _ _ q q₂ w _ (sym (fields .before .before .read-buffer .ensures) ∙ fields .fields .given .1)))
@@ -105,11 +105,11 @@ pub read-authority-spec : {M : Type 1} → statement M
 read-authority-spec =
     tie.close
     (tie.spec
-    need-requires
+    fixed-requires
     enum-known-acked
     enum-told
     returns
-    need-requires-2
+    split-requires
     enum-known-start
     enum-told-2
     returns-2

@@ -10,8 +10,8 @@ use borrow.Author.Needs.{needs}
 use Rattle.wire_read.proofs.flood.read_flood.Statement.{statement}
 use Rattle.wire_read.proofs.flood.read_flood.Tie as tie
 
-need-requires : tie.Need-need-requires
-need-requires c κs = search needs
+fixed-requires : tie.Need-fixed-requires
+fixed-requires c κs = search needs
 
 enum-known-controls : tie.Need-enum-known-controls
 enum-known-controls c = search needs
@@ -22,10 +22,10 @@ enum-told c = search needs
 returns : tie.Need-returns
 unfolding shown fieldsAs joined sized placesAt
 returns c =
-    rw (sym (c .before .before .need .ensures) ∙ c .enum-told .given .1)
+    rw (sym (c .before .before .fixed .ensures) ∙ c .enum-told .given .1)
 
-need-requires-2 : tie.Need-need-requires-2
-need-requires-2 c κs = search needs
+fixed-requires-2 : tie.Need-fixed-requires-2
+fixed-requires-2 c κs = search needs
 
 enum-known-validate : tie.Need-enum-known-validate
 enum-known-validate c = search needs
@@ -37,12 +37,12 @@ returns-2 : tie.Need-returns-2
 unfolding shown fieldsAs joined sized placesAt
 returns-2 c =
     rw (
-      sym (c .before .before .before .before .before .before .need .ensures) ∙ c .before .before .before .before .controls .given .1,
-      sym (c .before .before .need2 .ensures) ∙ c .enum-told2 .given .1,
+      sym (c .before .before .before .before .before .before .fixed .ensures) ∙ c .before .before .before .before .controls .given .1,
+      sym (c .before .before .fixed2 .ensures) ∙ c .enum-told2 .given .1,
     )
 
-maybe-requires : tie.Need-maybe-requires
-maybe-requires c κs = search needs
+any-or-none-requires : tie.Need-any-or-none-requires
+any-or-none-requires c κs = search needs
 
 enum-known-token : tie.Need-enum-known-token
 enum-known-token c = search needs
@@ -56,13 +56,13 @@ returns-3 c =
     let validate = c .before .before .before .before in
     let controls = validate .before .before .before .before in
     rw (
-      sym (controls .before .before .need .ensures) ∙ controls .controls .given .1,
-      sym (validate .before .before .need2 .ensures) ∙ validate .validate .given .1,
-      sym (c .before .before .maybe .ensures) ∙ c .enum-told3 .given .1,
+      sym (controls .before .before .fixed .ensures) ∙ controls .controls .given .1,
+      sym (validate .before .before .fixed2 .ensures) ∙ validate .validate .given .1,
+      sym (c .before .before .any-or-none .ensures) ∙ c .enum-told3 .given .1,
     )
 
-maybe-requires-2 : tie.Need-maybe-requires-2
-maybe-requires-2 c κs = search needs
+any-or-none-requires-2 : tie.Need-any-or-none-requires-2
+any-or-none-requires-2 c κs = search needs
 
 enum-known-revoke : tie.Need-enum-known-revoke
 enum-known-revoke c = search needs
@@ -77,14 +77,14 @@ returns-4 c =
     let validate = token .before .before .before .before in
     let controls = validate .before .before .before .before in
     rw (
-      sym (controls .before .before .need .ensures) ∙ controls .controls .given .1,
-      sym (validate .before .before .need2 .ensures) ∙ validate .validate .given .1,
-      sym (token .before .before .maybe .ensures) ∙ token .token .given .1,
-      sym (c .before .before .maybe2 .ensures) ∙ c .enum-told4 .given .1,
+      sym (controls .before .before .fixed .ensures) ∙ controls .controls .given .1,
+      sym (validate .before .before .fixed2 .ensures) ∙ validate .validate .given .1,
+      sym (token .before .before .any-or-none .ensures) ∙ token .token .given .1,
+      sym (c .before .before .any-or-none2 .ensures) ∙ c .enum-told4 .given .1,
     )
 
-maybe-requires-3 : tie.Need-maybe-requires-3
-maybe-requires-3 c κs = search needs
+entry-or-none-requires : tie.Need-entry-or-none-requires
+entry-or-none-requires c κs = search needs
 
 enum-known-entry : tie.Need-enum-known-entry
 enum-known-entry c = search needs
@@ -100,15 +100,15 @@ returns-5 c =
     let validate = token .before .before .before .before in
     let controls = validate .before .before .before .before in
     rw (
-      sym (controls .before .before .need .ensures) ∙ controls .controls .given .1,
-      sym (validate .before .before .need2 .ensures) ∙ validate .validate .given .1,
-      sym (token .before .before .maybe .ensures) ∙ token .token .given .1,
-      sym (revoke .before .before .maybe2 .ensures) ∙ revoke .revoke .given .1,
-      sym (c .before .before .maybe3 .ensures) ∙ c .enum-told5 .given .1,
+      sym (controls .before .before .fixed .ensures) ∙ controls .controls .given .1,
+      sym (validate .before .before .fixed2 .ensures) ∙ validate .validate .given .1,
+      sym (token .before .before .any-or-none .ensures) ∙ token .token .given .1,
+      sym (revoke .before .before .any-or-none2 .ensures) ∙ revoke .revoke .given .1,
+      sym (c .before .before .entry-or-none .ensures) ∙ c .enum-told5 .given .1,
     )
 
-maybe-requires-4 : tie.Need-maybe-requires-4
-maybe-requires-4 c κs = search needs
+array-or-none-requires : tie.Need-array-or-none-requires
+array-or-none-requires c κs = search needs
 
 enum-known-reached : tie.Need-enum-known-reached
 enum-known-reached c = search needs
@@ -125,12 +125,12 @@ returns-6 c =
     let validate = token .before .before .before .before in
     let controls = validate .before .before .before .before in
     rw (
-      sym (controls .before .before .need .ensures) ∙ controls .controls .given .1,
-      sym (validate .before .before .need2 .ensures) ∙ validate .validate .given .1,
-      sym (token .before .before .maybe .ensures) ∙ token .token .given .1,
-      sym (revoke .before .before .maybe2 .ensures) ∙ revoke .revoke .given .1,
-      sym (entry .before .before .maybe3 .ensures) ∙ entry .entry .given .1,
-      sym (c .before .before .maybe4 .ensures) ∙ c .enum-told6 .given .1,
+      sym (controls .before .before .fixed .ensures) ∙ controls .controls .given .1,
+      sym (validate .before .before .fixed2 .ensures) ∙ validate .validate .given .1,
+      sym (token .before .before .any-or-none .ensures) ∙ token .token .given .1,
+      sym (revoke .before .before .any-or-none2 .ensures) ∙ revoke .revoke .given .1,
+      sym (entry .before .before .entry-or-none .ensures) ∙ entry .entry .given .1,
+      sym (c .before .before .array-or-none .ensures) ∙ c .enum-told6 .given .1,
     )
 
 returns-7 : tie.Need-returns-7
@@ -143,12 +143,12 @@ returns-7 c =
     let validate = token .before .before .before .before in
     let controls = validate .before .before .before .before in
     rw (
-      sym (controls .before .before .need .ensures) ∙ controls .controls .given .1,
-      sym (validate .before .before .need2 .ensures) ∙ validate .validate .given .1,
-      sym (token .before .before .maybe .ensures) ∙ token .token .given .1,
-      sym (revoke .before .before .maybe2 .ensures) ∙ revoke .revoke .given .1,
-      sym (entry .before .before .maybe3 .ensures) ∙ entry .entry .given .1,
-      sym (reached .before .before .maybe4 .ensures) ∙ reached .reached .given .1,
+      sym (controls .before .before .fixed .ensures) ∙ controls .controls .given .1,
+      sym (validate .before .before .fixed2 .ensures) ∙ validate .validate .given .1,
+      sym (token .before .before .any-or-none .ensures) ∙ token .token .given .1,
+      sym (revoke .before .before .any-or-none2 .ensures) ∙ revoke .revoke .given .1,
+      sym (entry .before .before .entry-or-none .ensures) ∙ entry .entry .given .1,
+      sym (reached .before .before .array-or-none .ensures) ∙ reached .reached .given .1,
       ne-eqb _ _ (c .if1 .taken),
     )
 
@@ -165,12 +165,12 @@ returns-8 c =
     let validate = token .before .before .before .before in
     let controls = validate .before .before .before .before in
     rw (
-      sym (controls .before .before .need .ensures) ∙ controls .controls .given .1,
-      sym (validate .before .before .need2 .ensures) ∙ validate .validate .given .1,
-      sym (token .before .before .maybe .ensures) ∙ token .token .given .1,
-      sym (revoke .before .before .maybe2 .ensures) ∙ revoke .revoke .given .1,
-      sym (entry .before .before .maybe3 .ensures) ∙ entry .entry .given .1,
-      sym (reached .before .before .maybe4 .ensures) ∙ reached .reached .given .1,
+      sym (controls .before .before .fixed .ensures) ∙ controls .controls .given .1,
+      sym (validate .before .before .fixed2 .ensures) ∙ validate .validate .given .1,
+      sym (token .before .before .any-or-none .ensures) ∙ token .token .given .1,
+      sym (revoke .before .before .any-or-none2 .ensures) ∙ revoke .revoke .given .1,
+      sym (entry .before .before .entry-or-none .ensures) ∙ entry .entry .given .1,
+      sym (reached .before .before .array-or-none .ensures) ∙ reached .reached .given .1,
       eq-eqb _ _ (c .before .before .if1 .left),
       present-value,
       present-value,
@@ -197,12 +197,12 @@ returns-9 c =
     let validate = token .before .before .before .before in
     let controls = validate .before .before .before .before in
     rw (
-      sym (controls .before .before .need .ensures) ∙ controls .controls .given .1,
-      sym (validate .before .before .need2 .ensures) ∙ validate .validate .given .1,
-      sym (token .before .before .maybe .ensures) ∙ token .token .given .1,
-      sym (revoke .before .before .maybe2 .ensures) ∙ revoke .revoke .given .1,
-      sym (entry .before .before .maybe3 .ensures) ∙ entry .entry .given .1,
-      sym (reached .before .before .maybe4 .ensures) ∙ reached .reached .given .1,
+      sym (controls .before .before .fixed .ensures) ∙ controls .controls .given .1,
+      sym (validate .before .before .fixed2 .ensures) ∙ validate .validate .given .1,
+      sym (token .before .before .any-or-none .ensures) ∙ token .token .given .1,
+      sym (revoke .before .before .any-or-none2 .ensures) ∙ revoke .revoke .given .1,
+      sym (entry .before .before .entry-or-none .ensures) ∙ entry .entry .given .1,
+      sym (reached .before .before .array-or-none .ensures) ∙ reached .reached .given .1,
       eq-eqb _ _ (c .before .before .before .before .if1 .left),
       present-value,
       present-value,
@@ -215,27 +215,27 @@ pub read-flood-spec : {M : Type 1} → statement M
 read-flood-spec =
     tie.close
     (tie.spec
-    need-requires
+    fixed-requires
     enum-known-controls
     enum-told
     returns
-    need-requires-2
+    fixed-requires-2
     enum-known-validate
     enum-told-2
     returns-2
-    maybe-requires
+    any-or-none-requires
     enum-known-token
     enum-told-3
     returns-3
-    maybe-requires-2
+    any-or-none-requires-2
     enum-known-revoke
     enum-told-4
     returns-4
-    maybe-requires-3
+    entry-or-none-requires
     enum-known-entry
     enum-told-5
     returns-5
-    maybe-requires-4
+    array-or-none-requires
     enum-known-reached
     enum-told-6
     returns-6

@@ -9,8 +9,8 @@ use borrow.Author.Needs.{needs}
 use Rattle.wire_read.proofs.inquire.read_inquire.Statement.{statement}
 use Rattle.wire_read.proofs.inquire.read_inquire.Tie as tie
 
-need-requires : tie.Need-need-requires
-need-requires c κs = search needs
+fixed-requires : tie.Need-fixed-requires
+fixed-requires c κs = search needs
 
 enum-known-flags : tie.Need-enum-known-flags
 enum-known-flags c = search needs
@@ -21,10 +21,10 @@ enum-told c = search needs
 returns : tie.Need-returns
 unfolding shown fieldsAs joined sized placesAt
 returns c =
-    rw (sym (c .before .before .need .ensures) ∙ c .enum-told .given .1)
+    rw (sym (c .before .before .fixed .ensures) ∙ c .enum-told .given .1)
 
-need-requires-2 : tie.Need-need-requires-2
-need-requires-2 c κs = search needs
+fixed-requires-2 : tie.Need-fixed-requires-2
+fixed-requires-2 c κs = search needs
 
 enum-known-validate : tie.Need-enum-known-validate
 enum-known-validate c = search needs
@@ -36,12 +36,12 @@ returns-2 : tie.Need-returns-2
 unfolding shown fieldsAs joined sized placesAt
 returns-2 c =
     rw (
-      sym (c .before .before .before .before .before .before .need .ensures) ∙ c .before .before .before .before .flags .given .1,
-      sym (c .before .before .need2 .ensures) ∙ c .enum-told2 .given .1,
+      sym (c .before .before .before .before .before .before .fixed .ensures) ∙ c .before .before .before .before .flags .given .1,
+      sym (c .before .before .fixed2 .ensures) ∙ c .enum-told2 .given .1,
     )
 
-maybe-requires : tie.Need-maybe-requires
-maybe-requires c κs = search needs
+fixed-or-none-requires : tie.Need-fixed-or-none-requires
+fixed-or-none-requires c κs = search needs
 
 enum-known-nonce : tie.Need-enum-known-nonce
 enum-known-nonce c = search needs
@@ -55,13 +55,13 @@ returns-3 c =
     let validate = c .before .before .before .before in
     let flags = validate .before .before .before .before in
     rw (
-      sym (flags .before .before .need .ensures) ∙ flags .flags .given .1,
-      sym (validate .before .before .need2 .ensures) ∙ validate .validate .given .1,
-      sym (c .before .before .maybe .ensures) ∙ c .enum-told3 .given .1,
+      sym (flags .before .before .fixed .ensures) ∙ flags .flags .given .1,
+      sym (validate .before .before .fixed2 .ensures) ∙ validate .validate .given .1,
+      sym (c .before .before .fixed-or-none .ensures) ∙ c .enum-told3 .given .1,
     )
 
-maybe-requires-2 : tie.Need-maybe-requires-2
-maybe-requires-2 c κs = search needs
+any-or-none-requires : tie.Need-any-or-none-requires
+any-or-none-requires c κs = search needs
 
 enum-known-credential : tie.Need-enum-known-credential
 enum-known-credential c = search needs
@@ -76,14 +76,14 @@ returns-4 c =
     let validate = nonce .before .before .before .before in
     let flags = validate .before .before .before .before in
     rw (
-      sym (flags .before .before .need .ensures) ∙ flags .flags .given .1,
-      sym (validate .before .before .need2 .ensures) ∙ validate .validate .given .1,
-      sym (nonce .before .before .maybe .ensures) ∙ nonce .nonce .given .1,
-      sym (c .before .before .maybe2 .ensures) ∙ c .enum-told4 .given .1,
+      sym (flags .before .before .fixed .ensures) ∙ flags .flags .given .1,
+      sym (validate .before .before .fixed2 .ensures) ∙ validate .validate .given .1,
+      sym (nonce .before .before .fixed-or-none .ensures) ∙ nonce .nonce .given .1,
+      sym (c .before .before .any-or-none .ensures) ∙ c .enum-told4 .given .1,
     )
 
-maybe-requires-3 : tie.Need-maybe-requires-3
-maybe-requires-3 c κs = search needs
+any-or-none-requires-2 : tie.Need-any-or-none-requires-2
+any-or-none-requires-2 c κs = search needs
 
 enum-known-signature : tie.Need-enum-known-signature
 enum-known-signature c = search needs
@@ -99,15 +99,15 @@ returns-5 c =
     let validate = nonce .before .before .before .before in
     let flags = validate .before .before .before .before in
     rw (
-      sym (flags .before .before .need .ensures) ∙ flags .flags .given .1,
-      sym (validate .before .before .need2 .ensures) ∙ validate .validate .given .1,
-      sym (nonce .before .before .maybe .ensures) ∙ nonce .nonce .given .1,
-      sym (credential .before .before .maybe2 .ensures) ∙ credential .credential .given .1,
-      sym (c .before .before .maybe3 .ensures) ∙ c .enum-told5 .given .1,
+      sym (flags .before .before .fixed .ensures) ∙ flags .flags .given .1,
+      sym (validate .before .before .fixed2 .ensures) ∙ validate .validate .given .1,
+      sym (nonce .before .before .fixed-or-none .ensures) ∙ nonce .nonce .given .1,
+      sym (credential .before .before .any-or-none .ensures) ∙ credential .credential .given .1,
+      sym (c .before .before .any-or-none2 .ensures) ∙ c .enum-told5 .given .1,
     )
 
-maybe-requires-4 : tie.Need-maybe-requires-4
-maybe-requires-4 c κs = search needs
+any-or-none-requires-3 : tie.Need-any-or-none-requires-3
+any-or-none-requires-3 c κs = search needs
 
 enum-known-key : tie.Need-enum-known-key
 enum-known-key c = search needs
@@ -124,12 +124,12 @@ returns-6 c =
     let validate = nonce .before .before .before .before in
     let flags = validate .before .before .before .before in
     rw (
-      sym (flags .before .before .need .ensures) ∙ flags .flags .given .1,
-      sym (validate .before .before .need2 .ensures) ∙ validate .validate .given .1,
-      sym (nonce .before .before .maybe .ensures) ∙ nonce .nonce .given .1,
-      sym (credential .before .before .maybe2 .ensures) ∙ credential .credential .given .1,
-      sym (signature .before .before .maybe3 .ensures) ∙ signature .signature .given .1,
-      sym (c .before .before .maybe4 .ensures) ∙ c .enum-told6 .given .1,
+      sym (flags .before .before .fixed .ensures) ∙ flags .flags .given .1,
+      sym (validate .before .before .fixed2 .ensures) ∙ validate .validate .given .1,
+      sym (nonce .before .before .fixed-or-none .ensures) ∙ nonce .nonce .given .1,
+      sym (credential .before .before .any-or-none .ensures) ∙ credential .credential .given .1,
+      sym (signature .before .before .any-or-none2 .ensures) ∙ signature .signature .given .1,
+      sym (c .before .before .any-or-none3 .ensures) ∙ c .enum-told6 .given .1,
     )
 
 returns-7 : tie.Need-returns-7
@@ -142,12 +142,12 @@ returns-7 c =
     let validate = nonce .before .before .before .before in
     let flags = validate .before .before .before .before in
     rw (
-      sym (flags .before .before .need .ensures) ∙ flags .flags .given .1,
-      sym (validate .before .before .need2 .ensures) ∙ validate .validate .given .1,
-      sym (nonce .before .before .maybe .ensures) ∙ nonce .nonce .given .1,
-      sym (credential .before .before .maybe2 .ensures) ∙ credential .credential .given .1,
-      sym (signature .before .before .maybe3 .ensures) ∙ signature .signature .given .1,
-      sym (key .before .before .maybe4 .ensures) ∙ key .key .given .1,
+      sym (flags .before .before .fixed .ensures) ∙ flags .flags .given .1,
+      sym (validate .before .before .fixed2 .ensures) ∙ validate .validate .given .1,
+      sym (nonce .before .before .fixed-or-none .ensures) ∙ nonce .nonce .given .1,
+      sym (credential .before .before .any-or-none .ensures) ∙ credential .credential .given .1,
+      sym (signature .before .before .any-or-none2 .ensures) ∙ signature .signature .given .1,
+      sym (key .before .before .any-or-none3 .ensures) ∙ key .key .given .1,
       ne-eqb _ _ (c .if1 .taken),
     )
 
@@ -177,12 +177,12 @@ returns-8 c =
     let validate = nonce .before .before .before .before in
     let flags = validate .before .before .before .before in
     rw (
-      sym (flags .before .before .need .ensures) ∙ flags .flags .given .1,
-      sym (validate .before .before .need2 .ensures) ∙ validate .validate .given .1,
-      sym (nonce .before .before .maybe .ensures) ∙ nonce .nonce .given .1,
-      sym (credential .before .before .maybe2 .ensures) ∙ credential .credential .given .1,
-      sym (signature .before .before .maybe3 .ensures) ∙ signature .signature .given .1,
-      sym (key .before .before .maybe4 .ensures) ∙ key .key .given .1,
+      sym (flags .before .before .fixed .ensures) ∙ flags .flags .given .1,
+      sym (validate .before .before .fixed2 .ensures) ∙ validate .validate .given .1,
+      sym (nonce .before .before .fixed-or-none .ensures) ∙ nonce .nonce .given .1,
+      sym (credential .before .before .any-or-none .ensures) ∙ credential .credential .given .1,
+      sym (signature .before .before .any-or-none2 .ensures) ∙ signature .signature .given .1,
+      sym (key .before .before .any-or-none3 .ensures) ∙ key .key .given .1,
       eq-eqb _ _ (c .before .before .before .before .if1 .left),
       c .before .before .before .head .ensures,
       c .before .before .flag .ensures,
@@ -194,27 +194,27 @@ pub read-inquire-spec : {M : Type 1} → statement M
 read-inquire-spec =
     tie.close
     (tie.spec
-    need-requires
+    fixed-requires
     enum-known-flags
     enum-told
     returns
-    need-requires-2
+    fixed-requires-2
     enum-known-validate
     enum-told-2
     returns-2
-    maybe-requires
+    fixed-or-none-requires
     enum-known-nonce
     enum-told-3
     returns-3
-    maybe-requires-2
+    any-or-none-requires
     enum-known-credential
     enum-told-4
     returns-4
-    maybe-requires-3
+    any-or-none-requires-2
     enum-known-signature
     enum-told-5
     returns-5
-    maybe-requires-4
+    any-or-none-requires-3
     enum-known-key
     enum-told-6
     returns-6

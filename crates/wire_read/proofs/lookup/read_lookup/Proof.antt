@@ -1,16 +1,16 @@
 -- `wire_read::lookup::read_lookup` meets its contract: each field that is found, and the first that is not, is the definition's own step.
 -- Assumes nothing.
-use borrow.Author.Tests.{eq-eqb, ne-eqb}
 use mathlib.Core.Path.{sym, _∙_}
 use Rattle.wire_fields.specs.Kinds.{joined, sized}
 use Rattle.wire_fields.specs.Reading.{placesAt, fieldsAs}
 use Rattle.wire_read.specs.Answers.{shown}
+use Rattle.wire_read.proofs.ReaderLaws.{lookup-front}
 use borrow.Author.Needs.{needs}
 use Rattle.wire_read.proofs.lookup.read_lookup.Statement.{statement}
 use Rattle.wire_read.proofs.lookup.read_lookup.Tie as tie
 
-need-requires : tie.Need-need-requires
-need-requires c κs = search needs
+controls-requires : tie.Need-controls-requires
+controls-requires c κs = search needs
 
 enum-known-controls : tie.Need-enum-known-controls
 enum-known-controls c = search needs
@@ -21,10 +21,10 @@ enum-told c = search needs
 returns : tie.Need-returns
 unfolding shown fieldsAs joined sized placesAt
 returns c =
-    rw (sym (c .before .before .need .ensures) ∙ c .enum-told .given .1)
+    rw (sym (c .before .before .controls .ensures) ∙ c .enum-told .given .1)
 
-need-requires-2 : tie.Need-need-requires-2
-need-requires-2 c κs = search needs
+fixed-requires : tie.Need-fixed-requires
+fixed-requires c κs = search needs
 
 enum-known-target : tie.Need-enum-known-target
 enum-known-target c = search needs
@@ -36,12 +36,12 @@ returns-2 : tie.Need-returns-2
 unfolding shown fieldsAs joined sized placesAt
 returns-2 c =
     rw (
-      sym (c .before .before .before .before .before .before .need .ensures) ∙ c .before .before .before .before .controls .given .1,
-      sym (c .before .before .need2 .ensures) ∙ c .enum-told2 .given .1,
+      sym (c .before .before .before .before .before .before .controls .ensures) ∙ c .before .before .before .before .controls2 .given .1,
+      sym (c .before .before .fixed .ensures) ∙ c .enum-told2 .given .1,
     )
 
-need-requires-3 : tie.Need-need-requires-3
-need-requires-3 c κs = search needs
+fixed-requires-2 : tie.Need-fixed-requires-2
+fixed-requires-2 c κs = search needs
 
 enum-known-validate : tie.Need-enum-known-validate
 enum-known-validate c = search needs
@@ -55,252 +55,39 @@ returns-3 c =
     let target = c .before .before .before .before in
     let controls = target .before .before .before .before in
     rw (
-      sym (controls .before .before .need .ensures) ∙ controls .controls .given .1,
-      sym (target .before .before .need2 .ensures) ∙ target .target .given .1,
-      sym (c .before .before .need3 .ensures) ∙ c .enum-told3 .given .1,
+      sym (controls .before .before .controls .ensures) ∙ controls .controls2 .given .1,
+      sym (target .before .before .fixed .ensures) ∙ target .target .given .1,
+      sym (c .before .before .fixed2 .ensures) ∙ c .enum-told3 .given .1,
     )
 
-maybe-requires : tie.Need-maybe-requires
-maybe-requires c κs = search needs
-
-enum-known-entry : tie.Need-enum-known-entry
-enum-known-entry c = search needs
-
-enum-told-4 : tie.Need-enum-told-4
-enum-told-4 c = search needs
+lookup-behind-requires : tie.Need-lookup-behind-requires
+lookup-behind-requires c κs = c .before .before .before .before .before .before .before .before .before .before .before .before .before .pre
 
 returns-4 : tie.Need-returns-4
-unfolding shown fieldsAs joined sized placesAt
 returns-4 c =
-    let validate = c .before .before .before .before in
+    let validate = c .before .before in
     let target = validate .before .before .before .before in
     let controls = target .before .before .before .before in
-    rw (
-      sym (controls .before .before .need .ensures) ∙ controls .controls .given .1,
-      sym (target .before .before .need2 .ensures) ∙ target .target .given .1,
-      sym (validate .before .before .need3 .ensures) ∙ validate .validate .given .1,
-      sym (c .before .before .maybe .ensures) ∙ c .enum-told4 .given .1,
-    )
-
-need-requires-4 : tie.Need-need-requires-4
-need-requires-4 c κs = search needs
-
-enum-known-path : tie.Need-enum-known-path
-enum-known-path c = search needs
-
-enum-told-5 : tie.Need-enum-told-5
-enum-told-5 c = search needs
-
-returns-5 : tie.Need-returns-5
-unfolding shown fieldsAs joined sized placesAt
-returns-5 c =
-    let entry = c .before .before .before .before in
-    let validate = entry .before .before .before .before in
-    let target = validate .before .before .before .before in
-    let controls = target .before .before .before .before in
-    rw (
-      sym (controls .before .before .need .ensures) ∙ controls .controls .given .1,
-      sym (target .before .before .need2 .ensures) ∙ target .target .given .1,
-      sym (validate .before .before .need3 .ensures) ∙ validate .validate .given .1,
-      sym (entry .before .before .maybe .ensures) ∙ entry .entry .given .1,
-      sym (c .before .before .need4 .ensures) ∙ c .enum-told5 .given .1,
-    )
-
-maybe-requires-2 : tie.Need-maybe-requires-2
-maybe-requires-2 c κs = search needs
-
-enum-known-credential : tie.Need-enum-known-credential
-enum-known-credential c = search needs
-
-enum-told-6 : tie.Need-enum-told-6
-enum-told-6 c = search needs
-
-returns-6 : tie.Need-returns-6
-unfolding shown fieldsAs joined sized placesAt
-returns-6 c =
-    let path = c .before .before .before .before in
-    let entry = path .before .before .before .before in
-    let validate = entry .before .before .before .before in
-    let target = validate .before .before .before .before in
-    let controls = target .before .before .before .before in
-    rw (
-      sym (controls .before .before .need .ensures) ∙ controls .controls .given .1,
-      sym (target .before .before .need2 .ensures) ∙ target .target .given .1,
-      sym (validate .before .before .need3 .ensures) ∙ validate .validate .given .1,
-      sym (entry .before .before .maybe .ensures) ∙ entry .entry .given .1,
-      sym (path .before .before .need4 .ensures) ∙ path .path .given .1,
-      sym (c .before .before .maybe2 .ensures) ∙ c .enum-told6 .given .1,
-    )
-
-maybe-requires-3 : tie.Need-maybe-requires-3
-maybe-requires-3 c κs = search needs
-
-enum-known-signature : tie.Need-enum-known-signature
-enum-known-signature c = search needs
-
-enum-told-7 : tie.Need-enum-told-7
-enum-told-7 c = search needs
-
-returns-7 : tie.Need-returns-7
-unfolding shown fieldsAs joined sized placesAt
-returns-7 c =
-    let credential = c .before .before .before .before in
-    let path = credential .before .before .before .before in
-    let entry = path .before .before .before .before in
-    let validate = entry .before .before .before .before in
-    let target = validate .before .before .before .before in
-    let controls = target .before .before .before .before in
-    rw (
-      sym (controls .before .before .need .ensures) ∙ controls .controls .given .1,
-      sym (target .before .before .need2 .ensures) ∙ target .target .given .1,
-      sym (validate .before .before .need3 .ensures) ∙ validate .validate .given .1,
-      sym (entry .before .before .maybe .ensures) ∙ entry .entry .given .1,
-      sym (path .before .before .need4 .ensures) ∙ path .path .given .1,
-      sym (credential .before .before .maybe2 .ensures) ∙ credential .credential .given .1,
-      sym (c .before .before .maybe3 .ensures) ∙ c .enum-told7 .given .1,
-    )
-
-maybe-requires-4 : tie.Need-maybe-requires-4
-maybe-requires-4 c κs = search needs
-
-enum-known-key : tie.Need-enum-known-key
-enum-known-key c = search needs
-
-enum-told-8 : tie.Need-enum-told-8
-enum-told-8 c = search needs
-
-returns-8 : tie.Need-returns-8
-unfolding shown fieldsAs joined sized placesAt
-returns-8 c =
-    let signature = c .before .before .before .before in
-    let credential = signature .before .before .before .before in
-    let path = credential .before .before .before .before in
-    let entry = path .before .before .before .before in
-    let validate = entry .before .before .before .before in
-    let target = validate .before .before .before .before in
-    let controls = target .before .before .before .before in
-    rw (
-      sym (controls .before .before .need .ensures) ∙ controls .controls .given .1,
-      sym (target .before .before .need2 .ensures) ∙ target .target .given .1,
-      sym (validate .before .before .need3 .ensures) ∙ validate .validate .given .1,
-      sym (entry .before .before .maybe .ensures) ∙ entry .entry .given .1,
-      sym (path .before .before .need4 .ensures) ∙ path .path .given .1,
-      sym (credential .before .before .maybe2 .ensures) ∙ credential .credential .given .1,
-      sym (signature .before .before .maybe3 .ensures) ∙ signature .signature .given .1,
-      sym (c .before .before .maybe4 .ensures) ∙ c .enum-told8 .given .1,
-    )
-
-returns-9 : tie.Need-returns-9
-unfolding shown fieldsAs joined sized placesAt
-returns-9 c =
-    let key = c .before .before .before in
-    let signature = key .before .before .before .before in
-    let credential = signature .before .before .before .before in
-    let path = credential .before .before .before .before in
-    let entry = path .before .before .before .before in
-    let validate = entry .before .before .before .before in
-    let target = validate .before .before .before .before in
-    let controls = target .before .before .before .before in
-    rw (
-      sym (controls .before .before .need .ensures) ∙ controls .controls .given .1,
-      sym (target .before .before .need2 .ensures) ∙ target .target .given .1,
-      sym (validate .before .before .need3 .ensures) ∙ validate .validate .given .1,
-      sym (entry .before .before .maybe .ensures) ∙ entry .entry .given .1,
-      sym (path .before .before .need4 .ensures) ∙ path .path .given .1,
-      sym (credential .before .before .maybe2 .ensures) ∙ credential .credential .given .1,
-      sym (signature .before .before .maybe3 .ensures) ∙ signature .signature .given .1,
-      sym (key .before .before .maybe4 .ensures) ∙ key .key .given .1,
-      ne-eqb _ _ (c .if1 .taken),
-    )
-
-head-requires : tie.Need-head-requires
-head-requires c κs =
-    let credential = c .before .before .before .before .before .before .before .before .before .before .before in
-    let validate = credential .before .before .before .before .before .before .before .before .before .before .before .before in
-    let start = validate .before .before .before .before .before .before .before .before .before .before .before .before in
-    start .pre
-
-flag-requires : tie.Need-flag-requires
-flag-requires c κs = search needs
-
-precision-requires : tie.Need-precision-requires
-precision-requires c κs = search needs
-
-byte-from-requires : tie.Need-byte-from-requires
-byte-from-requires c κs = search needs
-
-byte-from-requires-2 : tie.Need-byte-from-requires-2
-byte-from-requires-2 c κs = search needs
-
-returns-10 : tie.Need-returns-10
-unfolding shown fieldsAs joined sized placesAt
-returns-10 c =
-    let passed = c .before .before .before .before .before in
-    let key = passed .before .before .before in
-    let signature = key .before .before .before .before in
-    let credential = signature .before .before .before .before in
-    let path = credential .before .before .before .before in
-    let entry = path .before .before .before .before in
-    let validate = entry .before .before .before .before in
-    let target = validate .before .before .before .before in
-    let controls = target .before .before .before .before in
-    rw (
-      sym (controls .before .before .need .ensures) ∙ controls .controls .given .1,
-      sym (target .before .before .need2 .ensures) ∙ target .target .given .1,
-      sym (validate .before .before .need3 .ensures) ∙ validate .validate .given .1,
-      sym (entry .before .before .maybe .ensures) ∙ entry .entry .given .1,
-      sym (path .before .before .need4 .ensures) ∙ path .path .given .1,
-      sym (credential .before .before .maybe2 .ensures) ∙ credential .credential .given .1,
-      sym (signature .before .before .maybe3 .ensures) ∙ signature .signature .given .1,
-      sym (key .before .before .maybe4 .ensures) ∙ key .key .given .1,
-      eq-eqb _ _ (passed .if1 .left),
-      c .before .before .before .before .head .ensures,
-      c .before .before .before .flag .ensures,
-      c .before .before .precision .ensures,
-      c .before .byte-from .ensures,
-      c .byte-from2 .ensures,
-    )
+    c .lookup-behind .ensures
+    ∙ lookup-front _ _ _ _ _ _ _ _ _ _ (sym (controls .before .before .controls .ensures) ∙ controls .controls2 .given .1)
+    (sym (target .before .before .fixed .ensures) ∙ target .target .given .1)
+    (sym (validate .before .before .fixed2 .ensures) ∙ validate .validate .given .1)
 
 pub read-lookup-spec : {M : Type 1} → statement M
 read-lookup-spec =
     tie.close
     (tie.spec
-    need-requires
+    controls-requires
     enum-known-controls
     enum-told
     returns
-    need-requires-2
+    fixed-requires
     enum-known-target
     enum-told-2
     returns-2
-    need-requires-3
+    fixed-requires-2
     enum-known-validate
     enum-told-3
     returns-3
-    maybe-requires
-    enum-known-entry
-    enum-told-4
-    returns-4
-    need-requires-4
-    enum-known-path
-    enum-told-5
-    returns-5
-    maybe-requires-2
-    enum-known-credential
-    enum-told-6
-    returns-6
-    maybe-requires-3
-    enum-known-signature
-    enum-told-7
-    returns-7
-    maybe-requires-4
-    enum-known-key
-    enum-told-8
-    returns-8
-    returns-9
-    head-requires
-    flag-requires
-    precision-requires
-    byte-from-requires
-    byte-from-requires-2
-    returns-10)
+    lookup-behind-requires
+    returns-4)

@@ -12,8 +12,8 @@ use borrow.Author.Needs.{needs}
 use Rattle.wire_read.proofs.request.read_request.Statement.{statement}
 use Rattle.wire_read.proofs.request.read_request.Tie as tie
 
-maybe-requires : tie.Need-maybe-requires
-maybe-requires c κs = search needs
+fixed-or-none-requires : tie.Need-fixed-or-none-requires
+fixed-or-none-requires c κs = search needs
 
 enum-known-flags : tie.Need-enum-known-flags
 enum-known-flags c = search needs
@@ -24,10 +24,10 @@ enum-told c = search needs
 returns : tie.Need-returns
 unfolding shown fieldsAs joined sized placesAt
 returns c =
-    rw (sym (c .before .before .maybe .ensures) ∙ c .enum-told .given .1)
+    rw (sym (c .before .before .fixed-or-none .ensures) ∙ c .enum-told .given .1)
 
-maybe-requires-2 : tie.Need-maybe-requires-2
-maybe-requires-2 c κs = search needs
+fixed-or-none-requires-2 : tie.Need-fixed-or-none-requires-2
+fixed-or-none-requires-2 c κs = search needs
 
 enum-known-split : tie.Need-enum-known-split
 enum-known-split c = search needs
@@ -39,12 +39,12 @@ returns-2 : tie.Need-returns-2
 unfolding shown fieldsAs joined sized placesAt
 returns-2 c =
     rw (
-      sym (c .before .before .before .before .before .before .maybe .ensures) ∙ c .before .before .before .before .flags .given .1,
-      sym (c .before .before .maybe2 .ensures) ∙ c .enum-told2 .given .1,
+      sym (c .before .before .before .before .before .before .fixed-or-none .ensures) ∙ c .before .before .before .before .flags .given .1,
+      sym (c .before .before .fixed-or-none2 .ensures) ∙ c .enum-told2 .given .1,
     )
 
-need-requires : tie.Need-need-requires
-need-requires c κs = search needs
+fixed-requires : tie.Need-fixed-requires
+fixed-requires c κs = search needs
 
 enum-known-nonce : tie.Need-enum-known-nonce
 enum-known-nonce c = search needs
@@ -58,13 +58,13 @@ returns-3 c =
     let split = c .before .before .before .before in
     let flags = split .before .before .before .before in
     rw (
-      sym (flags .before .before .maybe .ensures) ∙ flags .flags .given .1,
-      sym (split .before .before .maybe2 .ensures) ∙ split .split .given .1,
-      sym (c .before .before .need .ensures) ∙ c .enum-told3 .given .1,
+      sym (flags .before .before .fixed-or-none .ensures) ∙ flags .flags .given .1,
+      sym (split .before .before .fixed-or-none2 .ensures) ∙ split .split .given .1,
+      sym (c .before .before .fixed .ensures) ∙ c .enum-told3 .given .1,
     )
 
-need-requires-2 : tie.Need-need-requires-2
-need-requires-2 c κs = search needs
+array-requires : tie.Need-array-requires
+array-requires c κs = search needs
 
 enum-known-keys : tie.Need-enum-known-keys
 enum-known-keys c = search needs
@@ -79,14 +79,14 @@ returns-4 c =
     let split = nonce .before .before .before .before in
     let flags = split .before .before .before .before in
     rw (
-      sym (flags .before .before .maybe .ensures) ∙ flags .flags .given .1,
-      sym (split .before .before .maybe2 .ensures) ∙ split .split .given .1,
-      sym (nonce .before .before .need .ensures) ∙ nonce .nonce .given .1,
-      sym (c .before .before .need2 .ensures) ∙ c .enum-told4 .given .1,
+      sym (flags .before .before .fixed-or-none .ensures) ∙ flags .flags .given .1,
+      sym (split .before .before .fixed-or-none2 .ensures) ∙ split .split .given .1,
+      sym (nonce .before .before .fixed .ensures) ∙ nonce .nonce .given .1,
+      sym (c .before .before .array .ensures) ∙ c .enum-told4 .given .1,
     )
 
-maybe-requires-3 : tie.Need-maybe-requires-3
-maybe-requires-3 c κs = search needs
+any-or-none-requires : tie.Need-any-or-none-requires
+any-or-none-requires c κs = search needs
 
 enum-known-credential : tie.Need-enum-known-credential
 enum-known-credential c = search needs
@@ -102,15 +102,15 @@ returns-5 c =
     let split = nonce .before .before .before .before in
     let flags = split .before .before .before .before in
     rw (
-      sym (flags .before .before .maybe .ensures) ∙ flags .flags .given .1,
-      sym (split .before .before .maybe2 .ensures) ∙ split .split .given .1,
-      sym (nonce .before .before .need .ensures) ∙ nonce .nonce .given .1,
-      sym (keys .before .before .need2 .ensures) ∙ keys .keys .given .1,
-      sym (c .before .before .maybe3 .ensures) ∙ c .enum-told5 .given .1,
+      sym (flags .before .before .fixed-or-none .ensures) ∙ flags .flags .given .1,
+      sym (split .before .before .fixed-or-none2 .ensures) ∙ split .split .given .1,
+      sym (nonce .before .before .fixed .ensures) ∙ nonce .nonce .given .1,
+      sym (keys .before .before .array .ensures) ∙ keys .keys .given .1,
+      sym (c .before .before .any-or-none .ensures) ∙ c .enum-told5 .given .1,
     )
 
-maybe-requires-4 : tie.Need-maybe-requires-4
-maybe-requires-4 c κs = search needs
+any-or-none-requires-2 : tie.Need-any-or-none-requires-2
+any-or-none-requires-2 c κs = search needs
 
 enum-known-signature : tie.Need-enum-known-signature
 enum-known-signature c = search needs
@@ -127,16 +127,16 @@ returns-6 c =
     let split = nonce .before .before .before .before in
     let flags = split .before .before .before .before in
     rw (
-      sym (flags .before .before .maybe .ensures) ∙ flags .flags .given .1,
-      sym (split .before .before .maybe2 .ensures) ∙ split .split .given .1,
-      sym (nonce .before .before .need .ensures) ∙ nonce .nonce .given .1,
-      sym (keys .before .before .need2 .ensures) ∙ keys .keys .given .1,
-      sym (credential .before .before .maybe3 .ensures) ∙ credential .credential .given .1,
-      sym (c .before .before .maybe4 .ensures) ∙ c .enum-told6 .given .1,
+      sym (flags .before .before .fixed-or-none .ensures) ∙ flags .flags .given .1,
+      sym (split .before .before .fixed-or-none2 .ensures) ∙ split .split .given .1,
+      sym (nonce .before .before .fixed .ensures) ∙ nonce .nonce .given .1,
+      sym (keys .before .before .array .ensures) ∙ keys .keys .given .1,
+      sym (credential .before .before .any-or-none .ensures) ∙ credential .credential .given .1,
+      sym (c .before .before .any-or-none2 .ensures) ∙ c .enum-told6 .given .1,
     )
 
-maybe-requires-5 : tie.Need-maybe-requires-5
-maybe-requires-5 c κs = search needs
+any-or-none-requires-3 : tie.Need-any-or-none-requires-3
+any-or-none-requires-3 c κs = search needs
 
 enum-known-key : tie.Need-enum-known-key
 enum-known-key c = search needs
@@ -154,13 +154,13 @@ returns-7 c =
     let split = nonce .before .before .before .before in
     let flags = split .before .before .before .before in
     rw (
-      sym (flags .before .before .maybe .ensures) ∙ flags .flags .given .1,
-      sym (split .before .before .maybe2 .ensures) ∙ split .split .given .1,
-      sym (nonce .before .before .need .ensures) ∙ nonce .nonce .given .1,
-      sym (keys .before .before .need2 .ensures) ∙ keys .keys .given .1,
-      sym (credential .before .before .maybe3 .ensures) ∙ credential .credential .given .1,
-      sym (signature .before .before .maybe4 .ensures) ∙ signature .signature .given .1,
-      sym (c .before .before .maybe5 .ensures) ∙ c .enum-told7 .given .1,
+      sym (flags .before .before .fixed-or-none .ensures) ∙ flags .flags .given .1,
+      sym (split .before .before .fixed-or-none2 .ensures) ∙ split .split .given .1,
+      sym (nonce .before .before .fixed .ensures) ∙ nonce .nonce .given .1,
+      sym (keys .before .before .array .ensures) ∙ keys .keys .given .1,
+      sym (credential .before .before .any-or-none .ensures) ∙ credential .credential .given .1,
+      sym (signature .before .before .any-or-none2 .ensures) ∙ signature .signature .given .1,
+      sym (c .before .before .any-or-none3 .ensures) ∙ c .enum-told7 .given .1,
     )
 
 returns-8 : tie.Need-returns-8
@@ -174,13 +174,13 @@ returns-8 c =
     let split = nonce .before .before .before .before in
     let flags = split .before .before .before .before in
     rw (
-      sym (flags .before .before .maybe .ensures) ∙ flags .flags .given .1,
-      sym (split .before .before .maybe2 .ensures) ∙ split .split .given .1,
-      sym (nonce .before .before .need .ensures) ∙ nonce .nonce .given .1,
-      sym (keys .before .before .need2 .ensures) ∙ keys .keys .given .1,
-      sym (credential .before .before .maybe3 .ensures) ∙ credential .credential .given .1,
-      sym (signature .before .before .maybe4 .ensures) ∙ signature .signature .given .1,
-      sym (key .before .before .maybe5 .ensures) ∙ key .key .given .1,
+      sym (flags .before .before .fixed-or-none .ensures) ∙ flags .flags .given .1,
+      sym (split .before .before .fixed-or-none2 .ensures) ∙ split .split .given .1,
+      sym (nonce .before .before .fixed .ensures) ∙ nonce .nonce .given .1,
+      sym (keys .before .before .array .ensures) ∙ keys .keys .given .1,
+      sym (credential .before .before .any-or-none .ensures) ∙ credential .credential .given .1,
+      sym (signature .before .before .any-or-none2 .ensures) ∙ signature .signature .given .1,
+      sym (key .before .before .any-or-none3 .ensures) ∙ key .key .given .1,
       ne-eqb _ _ (c .if1 .taken),
     )
 
@@ -189,7 +189,7 @@ is-whole-requires c κs =
     let credential = c .before .before .before .before .before .before .before .before .before .before .before in
     let split = credential .before .before .before .before .before .before .before .before .before .before .before .before in
     let start = split .before .before .before .before .before .before .before .before in
-    maybe-four (now (start .args .d)) _ _ _ (Sized 4) sized-four _ _ (sym (split .before .before .maybe2 .ensures) ∙ split .split .given .1)
+    maybe-four (now (start .args .d)) _ _ _ (Sized 4) sized-four _ _ (sym (split .before .before .fixed-or-none2 .ensures) ∙ split .split .given .1)
 
 returns-9 : tie.Need-returns-9
 unfolding shown fieldsAs joined sized placesAt
@@ -202,13 +202,13 @@ returns-9 c =
     let split = nonce .before .before .before .before in
     let flags = split .before .before .before .before in
     rw (
-      sym (flags .before .before .maybe .ensures) ∙ flags .flags .given .1,
-      sym (split .before .before .maybe2 .ensures) ∙ split .split .given .1,
-      sym (nonce .before .before .need .ensures) ∙ nonce .nonce .given .1,
-      sym (keys .before .before .need2 .ensures) ∙ keys .keys .given .1,
-      sym (credential .before .before .maybe3 .ensures) ∙ credential .credential .given .1,
-      sym (signature .before .before .maybe4 .ensures) ∙ signature .signature .given .1,
-      sym (key .before .before .maybe5 .ensures) ∙ key .key .given .1,
+      sym (flags .before .before .fixed-or-none .ensures) ∙ flags .flags .given .1,
+      sym (split .before .before .fixed-or-none2 .ensures) ∙ split .split .given .1,
+      sym (nonce .before .before .fixed .ensures) ∙ nonce .nonce .given .1,
+      sym (keys .before .before .array .ensures) ∙ keys .keys .given .1,
+      sym (credential .before .before .any-or-none .ensures) ∙ credential .credential .given .1,
+      sym (signature .before .before .any-or-none2 .ensures) ∙ signature .signature .given .1,
+      sym (key .before .before .any-or-none3 .ensures) ∙ key .key .given .1,
       eq-eqb _ _ (c .before .before .if1 .left),
       split-value,
       sym (c .before .is-whole .ensures) ∙ not-true _ (c .if2 .taken),
@@ -239,13 +239,13 @@ returns-10 c =
     let split = nonce .before .before .before .before in
     let flags = split .before .before .before .before in
     rw (
-      sym (flags .before .before .maybe .ensures) ∙ flags .flags .given .1,
-      sym (split .before .before .maybe2 .ensures) ∙ split .split .given .1,
-      sym (nonce .before .before .need .ensures) ∙ nonce .nonce .given .1,
-      sym (keys .before .before .need2 .ensures) ∙ keys .keys .given .1,
-      sym (credential .before .before .maybe3 .ensures) ∙ credential .credential .given .1,
-      sym (signature .before .before .maybe4 .ensures) ∙ signature .signature .given .1,
-      sym (key .before .before .maybe5 .ensures) ∙ key .key .given .1,
+      sym (flags .before .before .fixed-or-none .ensures) ∙ flags .flags .given .1,
+      sym (split .before .before .fixed-or-none2 .ensures) ∙ split .split .given .1,
+      sym (nonce .before .before .fixed .ensures) ∙ nonce .nonce .given .1,
+      sym (keys .before .before .array .ensures) ∙ keys .keys .given .1,
+      sym (credential .before .before .any-or-none .ensures) ∙ credential .credential .given .1,
+      sym (signature .before .before .any-or-none2 .ensures) ∙ signature .signature .given .1,
+      sym (key .before .before .any-or-none3 .ensures) ∙ key .key .given .1,
       eq-eqb _ _ (passed .if1 .left),
       split-value,
       sym (c .before .before .before .before .is-whole .ensures) ∙ not-false _ (c .before .before .before .if2 .left),
@@ -258,31 +258,31 @@ pub read-request-spec : {M : Type 1} → statement M
 read-request-spec =
     tie.close
     (tie.spec
-    maybe-requires
+    fixed-or-none-requires
     enum-known-flags
     enum-told
     returns
-    maybe-requires-2
+    fixed-or-none-requires-2
     enum-known-split
     enum-told-2
     returns-2
-    need-requires
+    fixed-requires
     enum-known-nonce
     enum-told-3
     returns-3
-    need-requires-2
+    array-requires
     enum-known-keys
     enum-told-4
     returns-4
-    maybe-requires-3
+    any-or-none-requires
     enum-known-credential
     enum-told-5
     returns-5
-    maybe-requires-4
+    any-or-none-requires-2
     enum-known-signature
     enum-told-6
     returns-6
-    maybe-requires-5
+    any-or-none-requires-3
     enum-known-key
     enum-told-7
     returns-7

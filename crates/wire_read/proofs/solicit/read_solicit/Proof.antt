@@ -9,8 +9,8 @@ use borrow.Author.Needs.{needs}
 use Rattle.wire_read.proofs.solicit.read_solicit.Statement.{statement}
 use Rattle.wire_read.proofs.solicit.read_solicit.Tie as tie
 
-maybe-requires : tie.Need-maybe-requires
-maybe-requires c κs = search needs
+entry-or-none-requires : tie.Need-entry-or-none-requires
+entry-or-none-requires c κs = search needs
 
 enum-known-entry : tie.Need-enum-known-entry
 enum-known-entry c = search needs
@@ -21,10 +21,10 @@ enum-told c = search needs
 returns : tie.Need-returns
 unfolding shown fieldsAs joined sized placesAt
 returns c =
-    rw (sym (c .before .before .maybe .ensures) ∙ c .enum-told .given .1)
+    rw (sym (c .before .before .entry-or-none .ensures) ∙ c .enum-told .given .1)
 
-need-requires : tie.Need-need-requires
-need-requires c κs = search needs
+fixed-requires : tie.Need-fixed-requires
+fixed-requires c κs = search needs
 
 enum-known-nonce : tie.Need-enum-known-nonce
 enum-known-nonce c = search needs
@@ -36,8 +36,8 @@ returns-2 : tie.Need-returns-2
 unfolding shown fieldsAs joined sized placesAt
 returns-2 c =
     rw (
-      sym (c .before .before .before .before .before .before .maybe .ensures) ∙ c .before .before .before .before .entry .given .1,
-      sym (c .before .before .need .ensures) ∙ c .enum-told2 .given .1,
+      sym (c .before .before .before .before .before .before .entry-or-none .ensures) ∙ c .before .before .before .before .entry .given .1,
+      sym (c .before .before .fixed .ensures) ∙ c .enum-told2 .given .1,
     )
 
 returns-3 : tie.Need-returns-3
@@ -46,8 +46,8 @@ returns-3 c =
     let nonce = c .before .before .before in
     let entry = nonce .before .before .before .before in
     rw (
-      sym (entry .before .before .maybe .ensures) ∙ entry .entry .given .1,
-      sym (nonce .before .before .need .ensures) ∙ nonce .nonce .given .1,
+      sym (entry .before .before .entry-or-none .ensures) ∙ entry .entry .given .1,
+      sym (nonce .before .before .fixed .ensures) ∙ nonce .nonce .given .1,
       ne-eqb _ _ (c .if1 .taken),
     )
 
@@ -60,8 +60,8 @@ returns-4 c =
     let nonce = c .before .before .before .before in
     let entry = nonce .before .before .before .before in
     rw (
-      sym (entry .before .before .maybe .ensures) ∙ entry .entry .given .1,
-      sym (nonce .before .before .need .ensures) ∙ nonce .nonce .given .1,
+      sym (entry .before .before .entry-or-none .ensures) ∙ entry .entry .given .1,
+      sym (nonce .before .before .fixed .ensures) ∙ nonce .nonce .given .1,
       eq-eqb _ _ (c .before .if1 .left),
       c .head .ensures,
     )
@@ -70,11 +70,11 @@ pub read-solicit-spec : {M : Type 1} → statement M
 read-solicit-spec =
     tie.close
     (tie.spec
-    maybe-requires
+    entry-or-none-requires
     enum-known-entry
     enum-told
     returns
-    need-requires
+    fixed-requires
     enum-known-nonce
     enum-told-2
     returns-2

@@ -1,4 +1,3 @@
-use borrow.Author.Needs.{needs}
 use borrow.Author.Tests.{le-leb, lt-leb}
 use native.Mathlib.Omega.{arith}
 use mathlib.Core.Path.{sym, ap}
@@ -7,29 +6,30 @@ use lib.Dec.{eqb}
 use lib.ListN.{getD}
 use denote.Ref.{now}
 use Rattle.wire_shapes.proofs.ShapeLaws.{entry-short, entry-in}
+use borrow.Author.Needs.{needs}
 use Rattle.wire_shapes.proofs.contents.is_entry.Statement.{statement}
 use Rattle.wire_shapes.proofs.contents.is_entry.Tie as tie
 
 returns : tie.Need-returns
 returns c = let a = c .before .before .args in sym (entry-short (now (a .d)) (a .start) (a .len) (search needs) (omega arith))
 
-add-byte : tie.Need-add-byte
-add-byte c = search needs
+add-wide : tie.Need-add-wide
+add-wide c = search needs
 
-byte-requires : tie.Need-byte-requires
-byte-requires c κs = search needs
+shared-slice-read-wide : tie.Need-shared-slice-read-wide
+shared-slice-read-wide c = search needs
 
-cast-count : tie.Need-cast-count
-cast-count c = search needs
+wide-requires : tie.Need-wide-requires
+wide-requires c κs = search needs
 
 returns-2 : tie.Need-returns-2
 returns-2 c =
-    let a = c .before .before .before .before .args in
+    let a = c .before .before .before .before .before .args in
     rw (entry-in (now (a .d)) (a .start) (a .len) (search needs) (omega arith), lt-leb 1 (getD (now (a .d)) (a .start + 37) 0) (omega arith))
 
 returns-3 : tie.Need-returns-3
 returns-3 c =
-    let a = c .before .before .before .before .before .args in
+    let a = c .before .before .before .before .before .before .args in
     rw (
       entry-in (now (a .d)) (a .start) (a .len) (search needs) (omega arith),
       le-leb 1 (getD (now (a .d)) (a .start + 37) 0) (omega arith),
@@ -44,21 +44,21 @@ add-result c = search needs
 
 returns-4 : tie.Need-returns-4
 returns-4 c =
-    let a = c .before .before .before .before .before .args in
+    let a = c .before .before .before .before .before .before .args in
     rw (
       entry-in (now (a .d)) (a .start) (a .len) (search needs) (omega arith),
       le-leb 1 (getD (now (a .d)) (a .start + 37) 0) (omega arith),
       le-leb (getD (now (a .d)) (a .start + 37) 0) 4 (omega arith),
-    ) (ap (λ (n : ℕ). eqb (a .len) (38 + 16 * n)) (c .before .before .byte .ensures))
+    ) (ap (λ (n : ℕ). eqb (a .len) (38 + 16 * n)) (c .before .before .wide .ensures))
 
 pub is-entry-spec : {M : Type 1} → statement M
 is-entry-spec =
     tie.close
     (tie.spec
     returns
-    add-byte
-    byte-requires
-    cast-count
+    add-wide
+    shared-slice-read-wide
+    wide-requires
     returns-2
     returns-3
     mul-result

@@ -1,38 +1,37 @@
-use borrow.Author.Needs.{needs}
 use borrow.Author.Tests.{le-leb, lt-leb, eq-eqb, ne-eqb}
 use native.Mathlib.Omega.{arith}
-use mathlib.Core.Path.{sym, ap}
-use Prim.Native.Nat.{ℕ, _+_}
-use lib.Dec.{eqb}
+use mathlib.Core.Path.{sym}
+use Prim.Native.Nat.{_+_}
 use lib.ListN.{getD}
 use denote.Ref.{now}
 use Rattle.wire_shapes.proofs.ShapeLaws.{lookup-other, lookup-in}
+use borrow.Author.Needs.{needs}
 use Rattle.wire_shapes.proofs.contents.is_lookup.Statement.{statement}
 use Rattle.wire_shapes.proofs.contents.is_lookup.Tie as tie
 
 returns : tie.Need-returns
-returns c = let a = c .before .before .args in sym (lookup-other (now (a .d)) (a .start) (a .len) (search needs) (c .if1 .taken))
+returns c = let a = c .before .args in sym (lookup-other (now (a .d)) (a .start) (a .len) (search needs) (c .if1 .taken))
 
-add-byte : tie.Need-add-byte
-add-byte c = search needs
+add-if2 : tie.Need-add-if2
+add-if2 c = search needs
 
-byte-requires : tie.Need-byte-requires
-byte-requires c κs = search needs
+shared-slice-read-if2 : tie.Need-shared-slice-read-if2
+shared-slice-read-if2 c = search needs
 
 returns-2 : tie.Need-returns-2
 returns-2 c =
-    let a = c .before .before .before .before .args in
+    let a = c .before .before .before .args in
     rw (lookup-in (now (a .d)) (a .start) (a .len) (search needs) (omega arith), lt-leb (getD (now (a .d)) (a .start + 5) 0) 3 (omega arith))
 
-add-byte-2 : tie.Need-add-byte-2
-add-byte-2 c = search needs
+add-criteria : tie.Need-add-criteria
+add-criteria c = search needs
 
-byte-requires-2 : tie.Need-byte-requires-2
-byte-requires-2 c κs = search needs
+shared-slice-read-criteria : tie.Need-shared-slice-read-criteria
+shared-slice-read-criteria c = search needs
 
 returns-3 : tie.Need-returns-3
 returns-3 c =
-    let a = c .before .before .before .before .before .before .args in
+    let a = c .before .before .before .before .before .args in
     rw (
       lookup-in (now (a .d)) (a .start) (a .len) (search needs) (omega arith),
       le-leb (getD (now (a .d)) (a .start + 5) 0) 3 (omega arith),
@@ -41,7 +40,7 @@ returns-3 c =
 
 returns-4 : tie.Need-returns-4
 returns-4 c =
-    let a = c .before .before .before .before .before .before .before .args in
+    let a = c .before .before .before .before .before .before .args in
     rw (
       lookup-in (now (a .d)) (a .start) (a .len) (search needs) (omega arith),
       le-leb (getD (now (a .d)) (a .start + 5) 0) 3 (omega arith),
@@ -51,25 +50,24 @@ returns-4 c =
 
 returns-5 : tie.Need-returns-5
 returns-5 c =
-    let a = c .before .before .before .before .before .before .before .args in
+    let a = c .before .before .before .before .before .before .args in
     rw (
       lookup-in (now (a .d)) (a .start) (a .len) (search needs) (omega arith),
       le-leb (getD (now (a .d)) (a .start + 5) 0) 3 (omega arith),
       lt-leb (getD (now (a .d)) (a .start + 4) 0) 2 (omega arith),
       ne-eqb (getD (now (a .d)) (a .start + 4) 0) 4 (omega arith),
     )
-    (ap (λ (n : ℕ). eqb n 8) (c .before .before .byte2 .ensures))
 
 pub is-lookup-spec : {M : Type 1} → statement M
 is-lookup-spec =
     tie.close
     (tie.spec
     returns
-    add-byte
-    byte-requires
+    add-if2
+    shared-slice-read-if2
     returns-2
-    add-byte-2
-    byte-requires-2
+    add-criteria
+    shared-slice-read-criteria
     returns-3
     returns-4
     returns-5)

@@ -1,11 +1,14 @@
 use native.Mathlib.Omega.{arith}
 use mathlib.Core.Path.{sym, _∙_}
+use mathlib.Core.Bool.{true, false}
 use denote.Ref.{now}
+use Rattle.wire_shapes.specs.Shapes.{hasShape}
+use Rattle.wire_shapes.specs.declared.Shape.the-variants.{Split}
 use Rattle.wire_fields.proofs.SpanLaws.{span-fits}
 use Rattle.wire_fields.proofs.StepLaws.{need-good, need-bad, need-other, need-cut}
 use borrow.Author.Needs.{needs}
-use Rattle.wire_fields.proofs.Cursor.need.Statement.{statement}
-use Rattle.wire_fields.proofs.Cursor.need.Tie as tie
+use Rattle.wire_fields.proofs.Cursor.split.Statement.{statement}
+use Rattle.wire_fields.proofs.Cursor.split.Tie as tie
 
 span-requires : tie.Need-span-requires
 span-requires c κs = search needs
@@ -13,11 +16,11 @@ span-requires c κs = search needs
 enum-known-start : tie.Need-enum-known-start
 enum-known-start c = search needs
 
-has-shape-requires : tie.Need-has-shape-requires
-has-shape-requires c κs =
+is-split-requires : tie.Need-is-split-requires
+is-split-requires c κs =
     let a = c .before .before .before .before .before .args in
     let f =
-    span-fits (now (a .d)) (a .self .at) (a .number) (a .padded) _ _ _
+    span-fits (now (a .d)) (a .self .at) 0x98 false _ _ _
     (sym (c .before .before .before .span .ensures) ∙ c .before .start .given .1) in
     omega arith
 
@@ -28,36 +31,38 @@ enum-told-2 : tie.Need-enum-told-2
 enum-told-2 c = search needs
 
 returns : tie.Need-returns
+unfolding hasShape
 returns c =
     let start = c .before .before .before in
     let a = start .before .before .before .before .args in
-    need-good (now (a .d)) (a .self .at) (a .number) (a .padded) (a .shape) _ (start .before .before .span .ensures) _ _ _ (start .start .given .1)
-    (sym (c .before .has-shape .ensures) ∙ c .if1 .taken)
+    need-good (now (a .d)) (a .self .at) 0x98 false Split _ (start .before .before .span .ensures) _ _ _ (start .start .given .1)
+    (sym (c .before .is-split .ensures) ∙ c .if1 .taken)
 
 returns-2 : tie.Need-returns-2
+unfolding hasShape
 returns-2 c =
     let start = c .before .before .before in
     let a = start .before .before .before .before .args in
-    need-bad (now (a .d)) (a .self .at) (a .number) (a .padded) (a .shape) _ (start .before .before .span .ensures) _ _ _ (start .start .given .1)
-    (sym (c .before .has-shape .ensures) ∙ c .if1 .left)
+    need-bad (now (a .d)) (a .self .at) 0x98 false Split _ (start .before .before .span .ensures) _ _ _ (start .start .given .1)
+    (sym (c .before .is-split .ensures) ∙ c .if1 .left)
 
 returns-3 : tie.Need-returns-3
 returns-3 c =
     let a = c .before .before .before .before .args in
-    need-other (now (a .d)) (a .self .at) (a .number) (a .padded) (a .shape) _ (c .before .before .span .ensures) (c .enum-told .given .1)
+    need-other (now (a .d)) (a .self .at) 0x98 false Split _ (c .before .before .span .ensures) (c .enum-told .given .1)
 
 returns-4 : tie.Need-returns-4
 returns-4 c =
     let a = c .before .before .before .before .args in
-    need-cut (now (a .d)) (a .self .at) (a .number) (a .padded) (a .shape) _ (c .before .before .span .ensures) (c .enum-told2 .given .1)
+    need-cut (now (a .d)) (a .self .at) 0x98 false Split _ (c .before .before .span .ensures) (c .enum-told2 .given .1)
 
-pub need-spec : {M : Type 1} → statement M
-need-spec =
+pub split-spec : {M : Type 1} → statement M
+split-spec =
     tie.close
     (tie.spec
     span-requires
     enum-known-start
-    has-shape-requires
+    is-split-requires
     enum-told
     enum-told-2
     returns

@@ -1,0 +1,64 @@
+use borrow.Author.Tests.{eq-eqb, ne-eqb}
+use mathlib.Core.Path.{sym, _∙_}
+use denote.Ref.{now}
+use Rattle.wire_shapes.specs.Shapes.{hasShape}
+use Rattle.wire_shapes.specs.declared.Shape.the-variants.{Sized}
+use Rattle.wire_fields.proofs.SpanLaws.{span-length}
+use Rattle.wire_fields.proofs.StepLaws.{maybe-good, maybe-bad, maybe-other, maybe-cut}
+use borrow.Author.Needs.{needs}
+use Rattle.wire_fields.proofs.Cursor.fixed_or_none.Statement.{statement}
+use Rattle.wire_fields.proofs.Cursor.fixed_or_none.Tie as tie
+
+span-requires : tie.Need-span-requires
+span-requires c κs = search needs
+
+enum-known-start : tie.Need-enum-known-start
+enum-known-start c = search needs
+
+enum-told : tie.Need-enum-told
+enum-told c = search needs
+
+enum-told-2 : tie.Need-enum-told-2
+enum-told-2 c = search needs
+
+returns : tie.Need-returns
+unfolding hasShape
+returns c =
+    let start = c .before .before in
+    let a = start .before .before .before .before .args in
+    let q = sym (start .before .before .span .ensures) ∙ start .start .given .1 in
+    let m = span-length (now (a .d)) (a .self .at) (a .number) (a .padded) _ _ _ q in
+    maybe-good (now (a .d)) (a .self .at) (a .number) (a .padded) (Sized (a .wanted)) _ (start .before .before .span .ensures) _ _ _ (start .start .given .1) (eq-eqb _ _ (m ∙ c .if1 .taken))
+
+returns-2 : tie.Need-returns-2
+unfolding hasShape
+returns-2 c =
+    let start = c .before .before in
+    let a = start .before .before .before .before .args in
+    let q = sym (start .before .before .span .ensures) ∙ start .start .given .1 in
+    let m = span-length (now (a .d)) (a .self .at) (a .number) (a .padded) _ _ _ q in
+    maybe-bad (now (a .d)) (a .self .at) (a .number) (a .padded) (Sized (a .wanted)) _ (start .before .before .span .ensures) _ _ _ (start .start .given .1)
+    (ne-eqb _ _ (λ e. c .if1 .left (sym m ∙ e)))
+
+returns-3 : tie.Need-returns-3
+returns-3 c =
+    let a = c .before .before .before .before .args in
+    maybe-other (now (a .d)) (a .self .at) (a .number) (a .padded) (Sized (a .wanted)) _ (c .before .before .span .ensures) (c .enum-told .given .1)
+
+returns-4 : tie.Need-returns-4
+returns-4 c =
+    let a = c .before .before .before .before .args in
+    maybe-cut (now (a .d)) (a .self .at) (a .number) (a .padded) (Sized (a .wanted)) _ (c .before .before .span .ensures) (c .enum-told2 .given .1)
+
+pub fixed-or-none-spec : {M : Type 1} → statement M
+fixed-or-none-spec =
+    tie.close
+    (tie.spec
+    span-requires
+    enum-known-start
+    enum-told
+    enum-told-2
+    returns
+    returns-2
+    returns-3
+    returns-4)

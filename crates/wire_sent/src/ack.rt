@@ -1,4 +1,5 @@
 // ACK: the ID of the message answered, and the flags only where N is set.
+use crate::NO_ROOM;
 use crate::front::put_acked;
 use wire_write::Written;
 use wire_write::put_head;
@@ -24,10 +25,7 @@ fn write_plain(out: &mut [u8], major: u8, minor: u8, id: u32, acked: u32) -> Wri
     ensures { λ r. ⌜ Wrote (ackMade major minor id acked false) (now (out .entry)) r (now (out .exit)) ⌝ }
 {
     if out.len() < 20 {
-        return Written {
-            number: 15,
-            length: 0,
-        };
+        return NO_ROOM;
     }
     put_acked(out, major, minor, wire_numbers::ACK, id, acked);
     Written {
@@ -41,10 +39,7 @@ fn write_noted(out: &mut [u8], major: u8, minor: u8, id: u32, acked: u32) -> Wri
     ensures { λ r. ⌜ Wrote (ackMade major minor id acked true) (now (out .entry)) r (now (out .exit)) ⌝ }
 {
     if out.len() < 26 {
-        return Written {
-            number: 15,
-            length: 0,
-        };
+        return NO_ROOM;
     }
     put_acked(out, major, minor, wire_numbers::ACK, id, acked);
     put_head(out, 20, wire_numbers::FLAGS, wire_numbers::FLAGS_LEN);

@@ -1,5 +1,7 @@
 // AUTHORITY: the ID of the message answered, split controls that say how many bytes follow them, clear flags; then our CPA, or
 // the record closest to a target.
+use crate::NO_ROOM;
+use crate::NOT_RIGHT;
 use crate::front::entry_len;
 use crate::front::put_acked;
 use crate::front::put_entry;
@@ -19,17 +21,11 @@ pub fn write_cpa(out: &mut [u8], major: u8, minor: u8, id: u32, acked: u32, cpa:
     ensures { λ r. ⌜ Wrote (cpaMade major minor id acked (now (cpa .entry))) (now (out .entry)) r (now (out .exit)) ⌝ }
 {
     if 1192 < cpa.len() {
-        return Written {
-            number: 15,
-            length: 0,
-        };
+        return NO_ROOM;
     }
     let size = 40 + cpa.len();
     if out.len() < size {
-        return Written {
-            number: 15,
-            length: 0,
-        };
+        return NO_ROOM;
     }
     put_answer(out, major, minor, id, acked, 12 + cpa.len());
     put_head(out, 36, wire_numbers::CPA, cpa.len());
@@ -54,17 +50,11 @@ pub fn write_closest(
 {
     let entry = entry_len(s, at);
     if entry == 0 {
-        return Written {
-            number: 6,
-            length: 0,
-        };
+        return NOT_RIGHT;
     }
     let size = 36 + entry;
     if out.len() < size {
-        return Written {
-            number: 15,
-            length: 0,
-        };
+        return NO_ROOM;
     }
     put_answer(out, major, minor, id, acked, 8 + entry);
     put_entry(out, 36, major, minor, s, at);

@@ -1,4 +1,6 @@
 // FLOOD to the neighbour of a key, of the record at a place: controls with D clear, the key, the record's route entry.
+use crate::NO_ROOM;
+use crate::NOT_RIGHT;
 use crate::front::entry_len;
 use crate::front::put_entry;
 use crate::front::put_keyed;
@@ -19,24 +21,15 @@ pub fn write_flood(
     ensures { λ r. ⌜ Wrote (floodMade major minor id (now (key .entry)) (now (s .entry)) at) (now (out .entry)) r (now (out .exit)) ⌝ }
 {
     if key.len() != wire_numbers::KEY_LEN {
-        return Written {
-            number: 6,
-            length: 0,
-        };
+        return NOT_RIGHT;
     }
     let entry = entry_len(s, at);
     if entry == 0 {
-        return Written {
-            number: 6,
-            length: 0,
-        };
+        return NOT_RIGHT;
     }
     let size = 56 + entry;
     if out.len() < size {
-        return Written {
-            number: 15,
-            length: 0,
-        };
+        return NO_ROOM;
     }
     put_keyed(
         out,

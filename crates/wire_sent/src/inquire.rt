@@ -1,4 +1,6 @@
 // INQUIRE for a key: flags, the key, a nonce.
+use crate::NO_ROOM;
+use crate::NOT_RIGHT;
 use crate::front::put_keyed;
 use wire_write::Written;
 use wire_write::put_head;
@@ -20,22 +22,13 @@ pub fn write_inquire(
     ensures { λ r. ⌜ Wrote (inquireMade major minor id (now (key .entry)) (now (nonce .entry))) (now (out .entry)) r (now (out .exit)) ⌝ }
 {
     if key.len() != wire_numbers::KEY_LEN {
-        return Written {
-            number: 6,
-            length: 0,
-        };
+        return NOT_RIGHT;
     }
     if nonce.len() != wire_numbers::NONCE_LEN {
-        return Written {
-            number: 6,
-            length: 0,
-        };
+        return NOT_RIGHT;
     }
     if out.len() < 76 {
-        return Written {
-            number: 15,
-            length: 0,
-        };
+        return NO_ROOM;
     }
     put_keyed(
         out,

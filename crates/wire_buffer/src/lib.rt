@@ -56,25 +56,33 @@ pub fn flag(d: &[u8], start: usize, offset: usize, weight: u8) -> bool
 pub fn read_buffer(d: &[u8], c: Cursor) -> Buffer
     ensures { λ r. ⌜ r ≡ bufferAt (now (d .entry)) (c .at) ⌝ }
 {
-    let Need::Field(flags, _, c) = c.fixed(d, 0x40, true, 2) else {
+    let Need::Field(flags, _, c) = c.fixed(d, wire_numbers::FLAGS, true, 2) else {
         return Buffer::Malformed;
     };
-    let Maybe::Taken(chain, c) = c.any_or_none(d, 0x80, true) else {
+    let Maybe::Taken(chain, c) = c.any_or_none(d, wire_numbers::CREDENTIAL, true) else {
         return Buffer::Malformed;
     };
-    let Maybe::Taken(token, c) = c.any_or_none(d, 0x9F, true) else {
+    let Maybe::Taken(token, c) = c.any_or_none(d, wire_numbers::TOKEN, true) else {
         return Buffer::Malformed;
     };
-    let Maybe::Taken(classifier, c) = c.array_or_none(d, 0x85, true, 0x84, 2, 0, 0x7FFF) else {
+    let Maybe::Taken(classifier, c) = c.array_or_none(
+        d,
+        wire_numbers::CODES,
+        true,
+        wire_numbers::CODE,
+        wire_numbers::CODES_EACH,
+        0,
+        wire_numbers::CODES_MOST,
+    ) else {
         return Buffer::Malformed;
     };
-    let Maybe::Taken(payload, c) = c.any_or_none(d, 0x5A, true) else {
+    let Maybe::Taken(payload, c) = c.any_or_none(d, wire_numbers::PAYLOAD, true) else {
         return Buffer::Malformed;
     };
     let Maybe::Taken(entry, c) = c.entry_or_none(d) else {
         return Buffer::Malformed;
     };
-    let Maybe::Taken(cpa, c) = c.any_or_none(d, 0x9B, false) else {
+    let Maybe::Taken(cpa, c) = c.any_or_none(d, wire_numbers::CPA, false) else {
         return Buffer::Malformed;
     };
     if c.at != d.len() {

@@ -112,7 +112,7 @@ impl Cursor {
     pub fn entry_or_none(self, d: &[u8]) -> Maybe
         ensures { λ r. ⌜ r ≡ maybeAt (now (d .entry)) (self .at) 0x9A true Entry ⌝ }
     {
-        match self.span(d, 0x9A, true) {
+        match self.span(d, wire_numbers::ENTRY, true) {
             Span::Whole(start, len, next) => {
                 if is_entry(d, start, len) {
                     Maybe::Taken(Part::Here(start, len), next)
@@ -180,7 +180,7 @@ impl Cursor {
     pub fn controls(self, d: &[u8]) -> Need
         ensures { λ r. ⌜ r ≡ needAt (now (d .entry)) (self .at) 0x45 false Lookup ⌝ }
     {
-        match self.span(d, 0x45, false) {
+        match self.span(d, wire_numbers::LOOKUP_CONTROLS, false) {
             Span::Whole(start, len, next) => {
                 if is_lookup(d, start, len) {
                     Need::Field(start, len, next)
@@ -197,7 +197,7 @@ impl Cursor {
     pub fn split(self, d: &[u8]) -> Need
         ensures { λ r. ⌜ r ≡ needAt (now (d .entry)) (self .at) 0x98 false Split ⌝ }
     {
-        match self.span(d, 0x98, false) {
+        match self.span(d, wire_numbers::SPLIT, false) {
             Span::Whole(start, len, next) => {
                 if is_split(d, start, len) {
                     Need::Field(start, len, next)

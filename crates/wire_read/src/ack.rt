@@ -19,10 +19,15 @@ pub fn read_ack(d: &[u8]) -> Answer
     ensures { λ r. ⌜ r ≡ shown (now (d .entry)) (foundOf 9 (fieldsAs 9 ackKinds (now (d .entry)))) ⌝ }
 {
     let c = Cursor { at: 12 };
-    let Need::Field(acked, _, c) = c.fixed(d, 0x18, false, 4) else {
+    let Need::Field(acked, _, c) = c.fixed(d, wire_numbers::ACKED, false, 4) else {
         return Answer::Refused(6);
     };
-    let Maybe::Taken(flags, c) = c.fixed_or_none(d, 0x40, false, 2) else {
+    let Maybe::Taken(flags, c) = c.fixed_or_none(
+        d,
+        wire_numbers::FLAGS,
+        false,
+        wire_numbers::FLAGS_LEN,
+    ) else {
         return Answer::Refused(6);
     };
     if c.at != d.len() {

@@ -17,13 +17,20 @@ pub fn read_advertise(d: &[u8]) -> Answer
     ensures { λ r. ⌜ r ≡ shown (now (d .entry)) (foundOf 2 (fieldsAs 2 advertiseKinds (now (d .entry)))) ⌝ }
 {
     let c = Cursor { at: 12 };
-    let Need::Field(acked, _, c) = c.fixed(d, 0x18, false, 4) else {
+    let Need::Field(acked, _, c) = c.fixed(d, wire_numbers::ACKED, false, 4) else {
         return Answer::Refused(6);
     };
-    let Need::Field(keys, keys_len, c) = c.array(d, 0x60, 0x30, 32, 0, 0x7FFF) else {
+    let Need::Field(keys, keys_len, c) = c.array(
+        d,
+        wire_numbers::KEYS,
+        wire_numbers::KEY,
+        wire_numbers::KEYS_EACH,
+        0,
+        wire_numbers::KEYS_MOST,
+    ) else {
         return Answer::Refused(6);
     };
-    let Need::Field(nonce, _, c) = c.fixed(d, 0x92, false, 20) else {
+    let Need::Field(nonce, _, c) = c.fixed(d, wire_numbers::HASHED, false, 20) else {
         return Answer::Refused(6);
     };
     if c.at != d.len() {

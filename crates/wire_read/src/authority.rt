@@ -22,7 +22,7 @@ pub fn read_authority(d: &[u8]) -> Answer
     ensures { λ r. ⌜ r ≡ shown (now (d .entry)) (gated 8 (now (d .entry)) (foundOf 8 (fieldsAs 8 authorityKinds (now (d .entry))))) ⌝ }
 {
     let c = Cursor { at: 12 };
-    let Need::Field(acked, _, c) = c.fixed(d, 0x18, false, 4) else {
+    let Need::Field(acked, _, c) = c.fixed(d, wire_numbers::ACKED, false, 4) else {
         return Answer::Refused(6);
     };
     let Need::Field(start, len, c) = c.split(d) else {

@@ -27,22 +27,30 @@ pub fn read_flood(d: &[u8]) -> Answer
     ensures { λ r. ⌜ r ≡ shown (now (d .entry)) (foundOf 4 (fieldsAs 4 floodKinds (now (d .entry)))) ⌝ }
 {
     let c = Cursor { at: 12 };
-    let Need::Field(controls, _, c) = c.fixed(d, 0x43, true, 3) else {
+    let Need::Field(controls, _, c) = c.fixed(d, wire_numbers::FLOOD_CONTROLS, true, 3) else {
         return Answer::Refused(6);
     };
-    let Need::Field(validate, _, c) = c.fixed(d, 0x39, false, 32) else {
+    let Need::Field(validate, _, c) = c.fixed(d, wire_numbers::VALIDATE, false, 32) else {
         return Answer::Refused(6);
     };
-    let Maybe::Taken(token, c) = c.any_or_none(d, 0x9F, true) else {
+    let Maybe::Taken(token, c) = c.any_or_none(d, wire_numbers::TOKEN, true) else {
         return Answer::Refused(6);
     };
-    let Maybe::Taken(revoke, c) = c.any_or_none(d, 0x9C, true) else {
+    let Maybe::Taken(revoke, c) = c.any_or_none(d, wire_numbers::REVOKED, true) else {
         return Answer::Refused(6);
     };
     let Maybe::Taken(entry, c) = c.entry_or_none(d) else {
         return Answer::Refused(6);
     };
-    let Maybe::Taken(reached, c) = c.array_or_none(d, 0x9E, false, 0x9D, 18, 1, 22) else {
+    let Maybe::Taken(reached, c) = c.array_or_none(
+        d,
+        wire_numbers::ENDPOINTS,
+        false,
+        wire_numbers::ENDPOINT,
+        wire_numbers::ENDPOINTS_EACH,
+        wire_numbers::ENDPOINTS_LEAST,
+        wire_numbers::ENDPOINTS_MOST,
+    ) else {
         return Answer::Refused(6);
     };
     if c.at != d.len() {

@@ -18,22 +18,27 @@ pub fn read_inquire(d: &[u8]) -> Answer
     ensures { λ r. ⌜ r ≡ shown (now (d .entry)) (foundOf 7 (fieldsAs 7 inquireKinds (now (d .entry)))) ⌝ }
 {
     let c = Cursor { at: 12 };
-    let Need::Field(flags, _, c) = c.fixed(d, 0x40, true, 2) else {
+    let Need::Field(flags, _, c) = c.fixed(d, wire_numbers::FLAGS, true, 2) else {
         return Answer::Refused(6);
     };
-    let Need::Field(validate, _, c) = c.fixed(d, 0x39, false, 32) else {
+    let Need::Field(validate, _, c) = c.fixed(d, wire_numbers::VALIDATE, false, 32) else {
         return Answer::Refused(6);
     };
-    let Maybe::Taken(nonce, c) = c.fixed_or_none(d, 0x93, false, 16) else {
+    let Maybe::Taken(nonce, c) = c.fixed_or_none(
+        d,
+        wire_numbers::NONCE,
+        false,
+        wire_numbers::NONCE_LEN,
+    ) else {
         return Answer::Refused(6);
     };
-    let Maybe::Taken(credential, c) = c.any_or_none(d, 0x80, false) else {
+    let Maybe::Taken(credential, c) = c.any_or_none(d, wire_numbers::CREDENTIAL, false) else {
         return Answer::Refused(6);
     };
-    let Maybe::Taken(signature, c) = c.any_or_none(d, 0xA5, false) else {
+    let Maybe::Taken(signature, c) = c.any_or_none(d, wire_numbers::SIGNATURE, false) else {
         return Answer::Refused(6);
     };
-    let Maybe::Taken(key, c) = c.any_or_none(d, 0xA6, false) else {
+    let Maybe::Taken(key, c) = c.any_or_none(d, wire_numbers::KEY_ID, false) else {
         return Answer::Refused(6);
     };
     if c.at != d.len() {

@@ -24,10 +24,10 @@ pub fn read_lookup(d: &[u8]) -> Answer
     let Need::Field(controls, _, c) = c.controls(d) else {
         return Answer::Refused(6);
     };
-    let Need::Field(target, _, c) = c.fixed(d, 0x38, false, 32) else {
+    let Need::Field(target, _, c) = c.fixed(d, wire_numbers::TARGET, false, 32) else {
         return Answer::Refused(6);
     };
-    let Need::Field(validate, _, c) = c.fixed(d, 0x39, false, 32) else {
+    let Need::Field(validate, _, c) = c.fixed(d, wire_numbers::VALIDATE, false, 32) else {
         return Answer::Refused(6);
     };
     lookup_behind(d, controls, target, validate, c)
@@ -43,16 +43,23 @@ fn lookup_behind(d: &[u8], controls: usize, target: usize, validate: usize, c: C
     let Maybe::Taken(entry, c) = c.entry_or_none(d) else {
         return Answer::Refused(6);
     };
-    let Need::Field(path, path_len, c) = c.array(d, 0x9E, 0x9D, 18, 1, 22) else {
+    let Need::Field(path, path_len, c) = c.array(
+        d,
+        wire_numbers::ENDPOINTS,
+        wire_numbers::ENDPOINT,
+        wire_numbers::ENDPOINTS_EACH,
+        wire_numbers::ENDPOINTS_LEAST,
+        wire_numbers::ENDPOINTS_MOST,
+    ) else {
         return Answer::Refused(6);
     };
-    let Maybe::Taken(credential, c) = c.any_or_none(d, 0x80, false) else {
+    let Maybe::Taken(credential, c) = c.any_or_none(d, wire_numbers::CREDENTIAL, false) else {
         return Answer::Refused(6);
     };
-    let Maybe::Taken(signature, c) = c.any_or_none(d, 0xA5, false) else {
+    let Maybe::Taken(signature, c) = c.any_or_none(d, wire_numbers::SIGNATURE, false) else {
         return Answer::Refused(6);
     };
-    let Maybe::Taken(key, c) = c.any_or_none(d, 0xA6, false) else {
+    let Maybe::Taken(key, c) = c.any_or_none(d, wire_numbers::KEY_ID, false) else {
         return Answer::Refused(6);
     };
     if c.at != d.len() {

@@ -20,25 +20,42 @@ pub fn read_request(d: &[u8]) -> Answer
     ensures { λ r. ⌜ r ≡ shown (now (d .entry)) (foundOf 3 (fieldsAs 3 requestKinds (now (d .entry)))) ⌝ }
 {
     let c = Cursor { at: 12 };
-    let Maybe::Taken(flags, c) = c.fixed_or_none(d, 0x40, true, 2) else {
+    let Maybe::Taken(flags, c) = c.fixed_or_none(
+        d,
+        wire_numbers::FLAGS,
+        true,
+        wire_numbers::FLAGS_LEN,
+    ) else {
         return Answer::Refused(6);
     };
-    let Maybe::Taken(split, c) = c.fixed_or_none(d, 0x98, false, 4) else {
+    let Maybe::Taken(split, c) = c.fixed_or_none(
+        d,
+        wire_numbers::SPLIT,
+        false,
+        wire_numbers::SPLIT_LEN,
+    ) else {
         return Answer::Refused(6);
     };
-    let Need::Field(nonce, _, c) = c.fixed(d, 0x93, false, 16) else {
+    let Need::Field(nonce, _, c) = c.fixed(d, wire_numbers::NONCE, false, 16) else {
         return Answer::Refused(6);
     };
-    let Need::Field(keys, keys_len, c) = c.array(d, 0x60, 0x30, 32, 0, 0x7FFF) else {
+    let Need::Field(keys, keys_len, c) = c.array(
+        d,
+        wire_numbers::KEYS,
+        wire_numbers::KEY,
+        wire_numbers::KEYS_EACH,
+        0,
+        wire_numbers::KEYS_MOST,
+    ) else {
         return Answer::Refused(6);
     };
-    let Maybe::Taken(credential, c) = c.any_or_none(d, 0x80, false) else {
+    let Maybe::Taken(credential, c) = c.any_or_none(d, wire_numbers::CREDENTIAL, false) else {
         return Answer::Refused(6);
     };
-    let Maybe::Taken(signature, c) = c.any_or_none(d, 0xA5, false) else {
+    let Maybe::Taken(signature, c) = c.any_or_none(d, wire_numbers::SIGNATURE, false) else {
         return Answer::Refused(6);
     };
-    let Maybe::Taken(key, c) = c.any_or_none(d, 0xA6, false) else {
+    let Maybe::Taken(key, c) = c.any_or_none(d, wire_numbers::KEY_ID, false) else {
         return Answer::Refused(6);
     };
     if c.at != d.len() {

@@ -20,7 +20,7 @@ pub fn read_solicit(d: &[u8]) -> Answer
     let Maybe::Taken(entry, c) = c.entry_or_none(d) else {
         return Answer::Refused(6);
     };
-    let Need::Field(nonce, _, c) = c.fixed(d, 0x92, false, 20) else {
+    let Need::Field(nonce, _, c) = c.fixed(d, wire_numbers::HASHED, false, 20) else {
         return Answer::Refused(6);
     };
     if c.at != d.len() {

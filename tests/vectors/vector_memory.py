@@ -7,6 +7,7 @@
     remove-key OWN CACHE KEY     the same
     neighbours OWN CACHE         the number, and with 0 the counts below and above and the keys listed
     closest OWN CACHE TARGET     the number, and with 0 the record
+    searches OWN CACHE           for each record held the place of the closest to its key with the last byte 0, to the key, and to it with the last byte 255
     ticks OWN TABLE ROUNDS       for each round number:IDs, then how many places are used at the end
 
     vector_memory.py             checks the answers that documents 01 and 02 and docs/MEMORY.md state
@@ -111,6 +112,18 @@ def closest(own, s, target, want=None):
     shown = model.closest(own, records, model.value(target))
     assert want is None or model.key_of(shown) == want, (model.key_of(shown), want)
     return line("closest", (own, s, target), "0 " + shown.hex(), None)
+
+
+def searches(own, s):
+    """The model walks over all the records for each target. To its own key a record is the closest."""
+    records = model.held(own, s)
+    place = {record: str(i) for i, record in enumerate(records)}
+    answers = []
+    for i, k in enumerate(map(model.key_of, records)):
+        low, here, high = (place.get(model.closest(own, records, target), "own") for target in (k - k % 256, k, k - k % 256 + 255))
+        assert here == str(i)
+        answers.append("%s,%s,%s" % (low, here, high))
+    return line("searches", (own, s), " ".join(answers), None)
 
 
 def tick(own, s, rounds, want=None):
@@ -482,6 +495,16 @@ def ring_near():
         yield closest(slim(at(4)), keys_cache(around(target, [-7, -4, 8])), key(target), at(-4))
 
 
+# 02, request 3: "Find a key by halving." Keys end in 80 hexadecimal, so that each other last byte is in a gap.
+def halving():
+    yield "# every key held and every gap, in a full cache of 256: keys all over the ring; keys that share 30 bytes, with ties between them"
+    yield searches(slim(7), keys_cache([(2 * i + 1) * 2 ** 247 + 0x80 for i in range(256)], 256))
+    yield searches(slim(2 ** 200 + 0x6440), keys_cache([2 ** 200 + 0x100 * i + 0x80 for i in range(256)], 256))
+    yield "# one, two, three, one less than there is room for, as many"
+    for n in (1, 2, 3, 9, 10):
+        yield searches(slim(7), keys_cache([i * 2 ** 240 + 0x80 for i in range(n)]))
+
+
 def ticks():
     yield "# the tick: case 12, a place with two tries: listed, listed, freed"
     yield tick(OWN, table([flood(3, 7)]), 3, "0:3 0:3 0:- 0")
@@ -507,7 +530,7 @@ def ticks():
 
 def vectors():
     """Headings as strings, vectors as (operands, answer)."""
-    for part in (cache_forms, waiting_forms, learning, removing, lists, near, ring_lists, ring_learning, ring_near, ticks):
+    for part in (cache_forms, waiting_forms, learning, removing, lists, near, ring_lists, ring_learning, ring_near, halving, ticks):
         yield from part()
 
 
@@ -543,5 +566,5 @@ def check():
 if __name__ == "__main__":
     check()
     lines = [v for v in vectors() if not isinstance(v, str)]
-    names = ("cache-form", "waiting-form", "learn", "remove-key", "neighbours", "closest", "ticks")
+    names = ("cache-form", "waiting-form", "learn", "remove-key", "neighbours", "closest", "searches", "ticks")
     print("vector_memory: %d vectors, %s" % (len(lines), ", ".join("%d %s" % (sum(v[0][0] == name for v in lines), name) for name in names)))

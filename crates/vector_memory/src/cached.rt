@@ -1,4 +1,5 @@
 // Vectors of the cache.
+use crate::searched::searches;
 use cache::Formed;
 use neighbours::Nearest;
 use vector_text::line;
@@ -103,6 +104,10 @@ fn answer_read(text: &[u8], own: &[u8], cache: &[u8], third: &[u8]) -> bool {
     }
     if line::is_named(text, b"closest") {
         closest(own, cache, third);
+        return true;
+    }
+    if line::is_named(text, b"searches") {
+        searches(own, cache);
         return true;
     }
     false

@@ -1,6 +1,7 @@
 // Vectors of lent memory: forms, learning, removing, the neighbour list, the closest record, the tick. Used by the program
 // `vectors` alone.
 mod cached;
+mod searched;
 mod waits;
 
 // The group of vectors that has the line's name answers; false where none has.

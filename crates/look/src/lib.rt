@@ -2,9 +2,12 @@
 // fields stand that the program must judge or sign.
 ghost use mathlib.Core.Path.{_≡_};
 ghost use Prim.Native.Nat.{_+_, _≤_};
+ghost use lib.ListN.{length};
+ghost use Rattle.wire_fields.specs.Kinds.{solicitKinds, advertiseKinds, requestKinds, floodKinds, inquireKinds, ackKinds, lookupKinds};
 ghost use Rattle.wire_buffer.specs.Buffer.{startOf};
-ghost use Rattle.wire_read.specs.Answers.{answer};
-ghost use Rattle.look.specs.Seen.{sizeOf, seenAs, lookOf};
+ghost use Rattle.wire_read.specs.Answers.{isHere, answer};
+ghost use Rattle.wire_read.specs.declared.Answer.the-variants.{Refused};
+ghost use Rattle.look.specs.Seen.{sizeOf, seenAs, lookOf, briefOf, readAs, authorityRead, Small};
 use wire_fields::Part;
 use wire_read::Answer;
 
@@ -79,90 +82,295 @@ fn seen_as(
     }
 }
 
-// What the datagram's message is, for a gauge of the major version.
+// What calls want of a message besides: where the validate key of a FLOOD or INQUIRE stands, and one flag: a FLOOD's D, an
+// ACK's N, whether an AUTHORITY has a CPA.
+pub struct Brief {
+    pub seen: Look,
+    pub validate: usize,
+    pub flag: bool,
+}
+
+// What is told of a refusal.
+fn refused(number: u8) -> Brief
+    ensures { λ r. ⌜ r ≡ briefOf (Refused number) ⌝ }
+{
+    let none = Part::Absent;
+    let seen = seen_as(number as u32, 0, 0, 0, none, none, none, none);
+    Brief {
+        seen,
+        validate: 0,
+        flag: false,
+    }
+}
+
+// Whether a field is there.
+fn is_here(p: Part) -> bool
+    ensures { λ r. ⌜ r ≡ isHere p ⌝ }
+{
+    if let Part::Here(_, _) = p {
+        true
+    } else {
+        false
+    }
+}
+
+// Of each message, where its fields are told within the datagram.
+fn brief_solicit(datagram: &[u8]) -> Brief
+    requires { ⌜ (12 ≤ length (now datagram)) × Small (lookOf (readAs 1 solicitKinds (now datagram))) ⌝ }
+    ensures { λ r. ⌜ r ≡ briefOf (readAs 1 solicitKinds (now (datagram .entry))) ⌝ }
+{
+    let none = Part::Absent;
+    let message = wire_read::read_solicit(datagram);
+    let Answer::Solicit { head, entry, nonce } = message else {
+        return refused(6);
+    };
+    let seen = seen_as(0, 1, head.id, 0, none, Part::Here(nonce, 20), entry, none);
+    Brief {
+        seen,
+        validate: 0,
+        flag: false,
+    }
+}
+
+fn brief_advertise(datagram: &[u8]) -> Brief
+    requires { ⌜ (12 ≤ length (now datagram)) × Small (lookOf (readAs 2 advertiseKinds (now datagram))) ⌝ }
+    ensures { λ r. ⌜ r ≡ briefOf (readAs 2 advertiseKinds (now (datagram .entry))) ⌝ }
+{
+    let none = Part::Absent;
+    let message = wire_read::read_advertise(datagram);
+    let Answer::Advertise {
+        head,
+        acked,
+        keys: _,
+        nonce,
+    } = message
+    else {
+        return refused(6);
+    };
+    let seen = seen_as(
+        0,
+        2,
+        head.id,
+        acked,
+        none,
+        Part::Here(nonce, 20),
+        none,
+        none,
+    );
+    Brief {
+        seen,
+        validate: 0,
+        flag: false,
+    }
+}
+
+fn brief_request(datagram: &[u8]) -> Brief
+    requires { ⌜ (12 ≤ length (now datagram)) × Small (lookOf (readAs 3 requestKinds (now datagram))) ⌝ }
+    ensures { λ r. ⌜ r ≡ briefOf (readAs 3 requestKinds (now (datagram .entry))) ⌝ }
+{
+    let none = Part::Absent;
+    let message = wire_read::read_request(datagram);
+    let Answer::Request {
+        head,
+        flags: _,
+        split: _,
+        nonce,
+        keys: _,
+        credential: _,
+        signature: _,
+        key: _,
+    } = message
+    else {
+        return refused(6);
+    };
+    let seen = seen_as(0, 3, head.id, 0, none, Part::Here(nonce, 16), none, none);
+    Brief {
+        seen,
+        validate: 0,
+        flag: false,
+    }
+}
+
+fn brief_flood(datagram: &[u8]) -> Brief
+    requires { ⌜ (12 ≤ length (now datagram)) × Small (lookOf (readAs 4 floodKinds (now datagram))) ⌝ }
+    ensures { λ r. ⌜ r ≡ briefOf (readAs 4 floodKinds (now (datagram .entry))) ⌝ }
+{
+    let none = Part::Absent;
+    let message = wire_read::read_flood(datagram);
+    let Answer::Flood {
+        head,
+        d,
+        validate,
+        token: _,
+        revoke,
+        entry,
+        reached: _,
+    } = message
+    else {
+        return refused(6);
+    };
+    let seen = seen_as(0, 4, head.id, 0, revoke, none, entry, none);
+    Brief {
+        seen,
+        validate,
+        flag: d,
+    }
+}
+
+fn brief_inquire(datagram: &[u8]) -> Brief
+    requires { ⌜ (12 ≤ length (now datagram)) × Small (lookOf (readAs 7 inquireKinds (now datagram))) ⌝ }
+    ensures { λ r. ⌜ r ≡ briefOf (readAs 7 inquireKinds (now (datagram .entry))) ⌝ }
+{
+    let none = Part::Absent;
+    let message = wire_read::read_inquire(datagram);
+    let Answer::Inquire {
+        head,
+        a: _,
+        x: _,
+        c: _,
+        validate,
+        nonce,
+        credential: _,
+        signature: _,
+        key: _,
+    } = message
+    else {
+        return refused(6);
+    };
+    let seen = seen_as(0, 7, head.id, 0, none, nonce, none, none);
+    Brief {
+        seen,
+        validate,
+        flag: false,
+    }
+}
+
+fn brief_authority(datagram: &[u8]) -> Brief
+    requires { ⌜ (12 ≤ length (now datagram)) × Small (lookOf (authorityRead (now datagram))) ⌝ }
+    ensures { λ r. ⌜ r ≡ briefOf (authorityRead (now (datagram .entry))) ⌝ }
+{
+    let none = Part::Absent;
+    let message = wire_read::read_authority(datagram);
+    let Answer::Authority {
+        head,
+        acked,
+        fields,
+    } = message
+    else {
+        let Answer::Refused(number) = message else {
+            return refused(6);
+        };
+        return refused(number);
+    };
+    let cpa = fields.cpa;
+    let entry = fields.entry;
+    let seen = seen_as(0, 8, head.id, acked, cpa, none, entry, none);
+    Brief {
+        seen,
+        validate: 0,
+        flag: is_here(cpa),
+    }
+}
+
+fn brief_ack(datagram: &[u8]) -> Brief
+    requires { ⌜ (12 ≤ length (now datagram)) × Small (lookOf (readAs 9 ackKinds (now datagram))) ⌝ }
+    ensures { λ r. ⌜ r ≡ briefOf (readAs 9 ackKinds (now (datagram .entry))) ⌝ }
+{
+    let none = Part::Absent;
+    let message = wire_read::read_ack(datagram);
+    let Answer::Ack {
+        head,
+        acked,
+        flags: _,
+        n,
+    } = message
+    else {
+        return refused(6);
+    };
+    let seen = seen_as(0, 9, head.id, acked, none, none, none, none);
+    Brief {
+        seen,
+        validate: 0,
+        flag: n,
+    }
+}
+
+fn brief_lookup(datagram: &[u8]) -> Brief
+    requires { ⌜ (12 ≤ length (now datagram)) × Small (lookOf (readAs 11 lookupKinds (now datagram))) ⌝ }
+    ensures { λ r. ⌜ r ≡ briefOf (readAs 11 lookupKinds (now (datagram .entry))) ⌝ }
+{
+    let none = Part::Absent;
+    let message = wire_read::read_lookup(datagram);
+    let Answer::Lookup {
+        head,
+        a: _,
+        precision: _,
+        criteria: _,
+        reason: _,
+        target,
+        validate: _,
+        entry,
+        path: _,
+        credential: _,
+        signature: _,
+        key: _,
+    } = message
+    else {
+        return refused(6);
+    };
+    let seen = seen_as(0, 11, head.id, 0, none, none, entry, Part::Here(target, 32));
+    Brief {
+        seen,
+        validate: 0,
+        flag: false,
+    }
+}
+
+// What the datagram's message is, for a gauge of the major version. Each message has its own way from its bytes to what is
+// told of it, so that the compiler keeps what was read where it is and writes down no answer in between.
+pub fn brief_at(major: u8, datagram: &[u8]) -> Brief
+    ensures { λ r. ⌜ r ≡ briefOf (answer (now (datagram .entry)) major) ⌝ }
+{
+    let number = wire_read::header(datagram, major);
+    if number != 0 {
+        return refused(number);
+    }
+    let kind = datagram[7];
+    match kind {
+        1 => {
+            return brief_solicit(datagram);
+        }
+        2 => {
+            return brief_advertise(datagram);
+        }
+        3 => {
+            return brief_request(datagram);
+        }
+        4 => {
+            return brief_flood(datagram);
+        }
+        7 => {
+            return brief_inquire(datagram);
+        }
+        8 => {
+            return brief_authority(datagram);
+        }
+        9 => {
+            return brief_ack(datagram);
+        }
+        11 => {
+            return brief_lookup(datagram);
+        }
+        _ => {
+            return refused(5);
+        }
+    }
+}
+
+// What the radio program is told of it.
 pub fn look_at(major: u8, datagram: &[u8]) -> Look
     ensures { λ r. ⌜ r ≡ lookOf (answer (now (datagram .entry)) major) ⌝ }
 {
-    let none = Part::Absent;
-    let message = wire_read::read(datagram, major);
-    match message {
-        Answer::Refused(number) => seen_as(number as u32, 0, 0, 0, none, none, none, none),
-        Answer::Solicit { head, entry, nonce } => {
-            seen_as(0, 1, head.id, 0, none, Part::Here(nonce, 20), entry, none)
-        }
-        Answer::Advertise {
-            head,
-            acked,
-            keys: _,
-            nonce,
-        } => seen_as(
-            0,
-            2,
-            head.id,
-            acked,
-            none,
-            Part::Here(nonce, 20),
-            none,
-            none,
-        ),
-        Answer::Request {
-            head,
-            flags: _,
-            split: _,
-            nonce,
-            keys: _,
-            credential: _,
-            signature: _,
-            key: _,
-        } => seen_as(0, 3, head.id, 0, none, Part::Here(nonce, 16), none, none),
-        Answer::Flood {
-            head,
-            d: _,
-            validate: _,
-            token: _,
-            revoke,
-            entry,
-            reached: _,
-        } => seen_as(0, 4, head.id, 0, revoke, none, entry, none),
-        Answer::Inquire {
-            head,
-            a: _,
-            x: _,
-            c: _,
-            validate: _,
-            nonce,
-            credential: _,
-            signature: _,
-            key: _,
-        } => seen_as(0, 7, head.id, 0, none, nonce, none, none),
-        Answer::Authority {
-            head,
-            acked,
-            fields,
-        } => {
-            let cpa = fields.cpa;
-            let entry = fields.entry;
-            seen_as(0, 8, head.id, acked, cpa, none, entry, none)
-        }
-        Answer::Ack {
-            head,
-            acked,
-            flags: _,
-            n: _,
-        } => seen_as(0, 9, head.id, acked, none, none, none, none),
-        Answer::Lookup {
-            head,
-            a: _,
-            precision: _,
-            criteria: _,
-            reason: _,
-            target,
-            validate: _,
-            entry,
-            path: _,
-            credential: _,
-            signature: _,
-            key: _,
-        } => seen_as(0, 11, head.id, 0, none, none, entry, Part::Here(target, 32)),
-    }
+    let told = brief_at(major, datagram);
+    told.seen
 }

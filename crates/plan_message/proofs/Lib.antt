@@ -1,3 +1,4 @@
 -- The laws of specs/, for the proofs of this crate and of those above it.
 pub mod AnswerLaws
 pub mod PlannedLaws
+pub mod BriefLaws

@@ -7,23 +7,11 @@ ghost use lib.ListN.{length};
 ghost use Rattle.record.specs.Record.{keyOf, recordForm};
 ghost use Rattle.table.specs.Rows.{rows};
 ghost use Rattle.cache.specs.Form.{Form};
-ghost use Rattle.wire_read.specs.Answers.{isHere, answer};
+ghost use Rattle.wire_read.specs.Answers.{answer};
 ghost use Rattle.gauge_plan.specs.Lent.{Memory, withTables, receive};
 ghost use Rattle.plan_message.specs.Planned.{planFor, receivePlan};
 use gauge_plan::Fitness;
 use gauge_plan::Plan;
-use wire_fields::Part;
-use wire_read::Answer;
-
-// Is the field there?
-fn is_here(p: Part) -> bool
-    ensures { λ r. ⌜ r ≡ isHere p ⌝ }
-{
-    let Part::Here(_, _) = p else {
-        return false;
-    };
-    true
-}
 
 // The plan for the message that the datagram holds, where memory is in form. Neither minor version nor nonce counts,
 // nor memory that is not lent.
@@ -50,40 +38,13 @@ fn plan_message<'a>(
         (answer (now (datagram .entry)) major)) ⌝ }
 {
     let room = output.len();
-    let message = wire_read::read(datagram, major);
-    match message {
-        Answer::Refused(number) => Plan::Refuse(number as u32),
-        Answer::Solicit {
-            head: _,
-            entry: _,
-            nonce: _,
-        } => Plan::Refuse(refusal::NOT_TAKEN),
-        Answer::Advertise {
-            head: _,
-            acked: _,
-            keys: _,
-            nonce: _,
-        } => Plan::Refuse(refusal::NOT_TAKEN),
-        Answer::Request {
-            head: _,
-            flags: _,
-            split: _,
-            nonce: _,
-            keys: _,
-            credential: _,
-            signature: _,
-            key: _,
-        } => Plan::Refuse(refusal::NOT_TAKEN),
-        Answer::Flood {
-            head,
-            d,
-            validate,
-            token: _,
-            revoke: _,
-            entry,
-            reached: _,
-        } => {
-            let Part::Here(start, len) = entry else {
+    let told = look::brief_at(major, datagram);
+    let seen = told.seen;
+    let kind = seen.kind;
+    match kind {
+        0 => Plan::Refuse(seen.number),
+        4 => {
+            if seen.entry_length == 0 {
                 return plan_flood::plan_revoke(
                     own,
                     held,
@@ -92,11 +53,11 @@ fn plan_message<'a>(
                     key,
                     room,
                     datagram,
-                    d,
-                    head.id,
-                    validate,
+                    told.flag,
+                    seen.id,
+                    told.validate,
                 );
-            };
+            }
             plan_flood::plan_flood(
                 own,
                 cache,
@@ -106,53 +67,26 @@ fn plan_message<'a>(
                 id,
                 room,
                 datagram,
-                d,
-                head.id,
-                validate,
-                start,
-                len,
+                told.flag,
+                seen.id,
+                told.validate,
+                seen.entry as usize,
+                seen.entry_length as usize,
             )
         }
-        Answer::Inquire {
-            head,
-            a: _,
-            x: _,
-            c: _,
-            validate,
-            nonce: _,
-            credential: _,
-            signature: _,
-            key: _,
-        } => plan_answer::plan_inquire(own, cpa.len(), room, datagram, head.id, validate),
-        Answer::Authority {
-            head: _,
-            acked,
-            fields,
-        } => {
-            let part = fields.cpa;
-            let has_cpa = is_here(part);
-            plan_answer::plan_authority(waiting, held, used, verdict, key, acked, has_cpa)
-        }
-        Answer::Ack {
-            head: _,
-            acked,
-            flags: _,
-            n,
-        } => plan_answer::plan_ack(waiting, held, used, acked, n),
-        Answer::Lookup {
-            head,
-            a: _,
-            precision: _,
-            criteria: _,
-            reason: _,
-            target,
-            validate: _,
-            entry: _,
-            path: _,
-            credential: _,
-            signature: _,
-            key: _,
-        } => plan_answer::plan_lookup(own, cache, held, room, datagram, head.id, target),
+        7 => plan_answer::plan_inquire(own, cpa.len(), room, datagram, seen.id, told.validate),
+        8 => plan_answer::plan_authority(waiting, held, used, verdict, key, seen.acked, told.flag),
+        9 => plan_answer::plan_ack(waiting, held, used, seen.acked, told.flag),
+        11 => plan_answer::plan_lookup(
+            own,
+            cache,
+            held,
+            room,
+            datagram,
+            seen.id,
+            seen.target as usize,
+        ),
+        _ => Plan::Refuse(refusal::NOT_TAKEN),
     }
 }
 

@@ -6,14 +6,15 @@ use mathlib.Core.List.{List, [], _∷_, _++_, append-assoc, append-nil}
 use Prim.Native.Nat.{ℕ, suc, _+_, _*_, _-_, _≤_, _<_}
 use native.Mathlib.Nat.{zero-add, add-zero}
 use native.Mathlib.Omega.{arith}
-use lib.ListN.{length, take, drop, getD, set, replicate, length-append, length-replicate, drop-of-length-le}
-use lib.Seq.{length-take-le}
+use lib.ListN.{length, take, drop, getD, set, replicate, length-append, length-drop, length-replicate, replicate-append-replicate, take-append-drop}
+use lib.Seq.{length-take-le, take-add}
 use borrow.Author.Tests.{eq-eqb, ne-eqb}
 use Rattle.octet.specs.Number.{digitsLE}
 use Rattle.octet.specs.Part.{part, splice}
 use Rattle.octet.proofs.PartLaws.{length-part, length-splice, take-splice, splice-next, splice-nil}
+use Rattle.octet.proofs.TestLaws.{all-zeros}
 use Rattle.octet.proofs.LittleLaws.{length-digitsLE}
-use Rattle.table.specs.Rows.{rows, joined, bytesOf}
+use Rattle.table.specs.Rows.{rows, joined, bytesOf, Laid}
 use Rattle.table.proofs.RowLaws.{rows-length, rows-drop, rows-next, rows-end}
 use Rattle.table.proofs.PieceLaws.{set-splice, drop-behind}
 use Rattle.waiting.specs.Place.{idOf, triesOf}
@@ -28,6 +29,14 @@ is-spent from t e = eq-eqb (triesOf (part from 140 t)) 0 (tries-at from t ∙ e)
 
 pub not-spent : (from : ℕ) (t : List ℕ) → (getD t (from + 5) 0 ≡ 0 → ⊥) → spent (part from 140 t) ≡ false
 not-spent from t e = ne-eqb (triesOf (part from 140 t)) 0 (λ z. e (sym (tries-at from t) ∙ z))
+
+-- a part put where it stands
+pub place-stays : (at n : ℕ) (s : List ℕ) → at + n ≤ length s → splice at (part at n s) s ≡ s
+unfolding splice
+place-stays at n s h =
+    ap (λ (k : ℕ). take at s ++ part at n s ++ drop (at + k) s) (length-part at n s h)
+    ∙ ap (λ (l : List ℕ). l ++ drop (at + n) s) (sym (take-add at n s))
+    ∙ take-append-drop (at + n) s
 
 -- the move, and then the store of one try less
 pub kept-place : (from to : ℕ) (t : List ℕ) → to ≤ from → from + 140 ≤ length t
@@ -80,6 +89,7 @@ pub record Left (used : ℕ) (t₀ o₀ t o : List ℕ) (at kept : ℕ) : Type 0
   pub count : length (listed (rows 140 used t₀)) ≡ kept + length (listed (drop at (rows 140 used t)))
   pub table : joined (ticked (rows 140 used t₀)) ≡ take (140 * kept) t ++ joined (ticked (drop at (rows 140 used t)))
   pub list : splice 0 (idBytes (listed (rows 140 used t₀))) o₀ ≡ splice (4 * kept) (idBytes (listed (drop at (rows 140 used t)))) o
+  pub rest : drop (140 * used) t ≡ drop (140 * used) t₀
 
 pub left-start : (used : ℕ) (t o : List ℕ) → Left used t o t o 0 0
 left-start used t o = record {
@@ -90,6 +100,7 @@ left-start used t o = record {
   count = sym (zero-add (length (listed (rows 140 used t))));
   table = refl;
   list = refl;
+  rest = refl;
 }
 
 one-more : (n : ℕ) (x : ℕ) (xs : List ℕ) → n + length (x ∷ xs) ≡ (n + 1) + length xs
@@ -129,6 +140,7 @@ module _ (used : ℕ) (t₀ o₀ t o : List ℕ) (at kept : ℕ) (l : Left used 
         count = l .count ∙ ap (λ (qs : List ℕ). kept + length qs) ids;
         table = l .table ∙ ap (λ (qs : List (List ℕ)). take (140 * kept) t ++ joined qs) after;
         list = l .list ∙ ap (λ (qs : List ℕ). splice (4 * kept) (idBytes qs) o) ids;
+        rest = l .rest;
       }
 
   q : List ℕ
@@ -182,6 +194,7 @@ module _ (used : ℕ) (t₀ o₀ t o : List ℕ) (at kept : ℕ) (l : Left used 
             l .list ∙ ap (λ (qs : List ℕ). splice (4 * kept) (idBytes qs) o) ids
             ∙ sym (splice-next (4 * kept) 4 four (idBytes (listed rest)) o len4 fits)
             ∙ ap (λ (k : ℕ). splice k (idBytes (listed rest)) (splice (4 * kept) four o)) next4;
+        rest = drop-behind (140 * kept) q t (140 * used) (omega (arith, q-length)) (omega (arith, q-length)) ∙ l .rest;
       }
 
   pub turn : (b : Bool) → spent (part (140 * at) 140 t) ≡ b
@@ -211,17 +224,24 @@ module _ (used : ℕ) (t₀ o₀ t o : List ℕ) (at kept : ℕ) (l : Left used 
   unfolding ticked joined
   end-table = sym (l .table ∙ ap (λ (ps : List (List ℕ)). take (140 * kept) t ++ joined (ticked ps)) none ∙ append-nil (take (140 * kept) t))
 
-  -- the rest is cleared
-  pub end-cleared : 140 * kept ≤ 2240 → length t₀ ≡ 2240
-      → splice (140 * kept) (replicate (2240 - 140 * kept) 0) t ≡ bytesOf 2240 (ticked (rows 140 used t₀))
+  -- what was freed is cleared, and what was free is clear
+  pub end-cleared : Laid 140 used t₀ → used ≤ 16 → length t₀ ≡ 2240
+      → splice (140 * kept) (replicate (140 * used - 140 * kept) 0) t ≡ bytesOf 2240 (ticked (rows 140 used t₀))
   unfolding splice bytesOf
-  end-cleared inside size =
-      let n : ℕ = 2240 - 140 * kept in
+  end-cleared laid all size =
+      let n : ℕ = 140 * used - 140 * kept in
       let zeros : List ℕ = replicate n 0 in
       let long : length zeros ≡ n = length-replicate {A = ℕ} n 0 in
-      let past : length t ≤ 140 * kept + length zeros = omega (arith, long, l .size) in
+      let next : 140 * kept + length zeros ≡ 140 * used = omega (arith, long, l .few, l .low, done) in
+      let behind : drop (140 * used) t ≡ replicate (2240 - 140 * used) 0 =
+      l .rest ∙ all-zeros (drop (140 * used) t₀) (laid .clear)
+      ∙ ap (λ (k : ℕ). replicate {A = ℕ} k 0) (length-drop (140 * used) t₀ ∙ ap (λ (k : ℕ). k - 140 * used) size) in
+      let whole : n + (2240 - 140 * used) ≡ 2240 - 140 * kept = omega (arith, l .few, l .low, done) in
       let front : 140 * kept ≡ length (joined (ticked (rows 140 used t₀))) =
-      sym (length-take-le (140 * kept) t (omega (arith, l .size))) ∙ ap length end-table in
-      ap (λ (r : List ℕ). take (140 * kept) t ++ zeros ++ r) (drop-of-length-le t past)
-      ∙ append-nil (take (140 * kept) t ++ zeros)
+      sym (length-take-le (140 * kept) t (omega (arith, l .size, l .few, l .low))) ∙ ap length end-table in
+      ap (λ (k : ℕ). take (140 * kept) t ++ zeros ++ drop k t) next
+      ∙ ap (λ (r : List ℕ). take (140 * kept) t ++ zeros ++ r) behind
+      ∙ append-assoc (take (140 * kept) t) zeros (replicate (2240 - 140 * used) 0)
+      ∙ ap (λ (r : List ℕ). take (140 * kept) t ++ r)
+      (replicate-append-replicate n (2240 - 140 * used) 0 ∙ ap (λ (k : ℕ). replicate {A = ℕ} k 0) whole)
       ∙ ap₂ (λ (a : List ℕ) (m : ℕ). a ++ replicate (2240 - m) 0) end-table front

@@ -39,8 +39,8 @@ mul-write-u32-le c = search needs
 write-u32-le-requires : tie.Need-write-u32-le-requires
 write-u32-le-requires c κs = search needs
 
-move-down-requires : tie.Need-move-down-requires
-move-down-requires c κs = search needs
+move-place-requires : tie.Need-move-place-requires
+move-place-requires c κs = search needs
 
 sub-table : tie.Need-sub-table
 sub-table c = search needs
@@ -71,7 +71,7 @@ returns-2 c =
     let to = 140 * a .kept in
     let stays = not-spent from t (kept .if1 .left) in
     let same = read .read-u32-le .ensures ∙ sym (id-at from t) in
-    let moved = ap (λ (l : List ℕ). set l (to + 5) (getD t (from + 5) 0 - 1)) (c .before .before .move-down .ensures) in (
+    let moved = ap (λ (l : List ℕ). set l (to + 5) (getD t (from + 5) 0 - 1)) (c .before .before .move-place .ensures) in (
       rw stays refl,
       rw stays (moved ∙ kept-place from to t (omega arith) (omega arith)),
       rw stays (listed .write-u32-le .ensures ∙ ap (λ (n : ℕ). splice (4 * a .kept) (digitsLE 256 4 n) (a .output .now)) same),
@@ -89,7 +89,7 @@ tick-place-spec =
     read-u32-le-requires
     mul-write-u32-le
     write-u32-le-requires
-    move-down-requires
+    move-place-requires
     sub-table
     add-table
     slice-write-table

@@ -38,6 +38,9 @@ loop-again c =
 mul-free : tie.Need-mul-free Inv-loop μ-loop
 mul-free c = omega arith
 
+mul-clear : tie.Need-mul-clear Inv-loop μ-loop
+mul-clear c = omega arith
+
 sub-clear : tie.Need-sub-clear Inv-loop μ-loop
 sub-clear c = omega arith
 
@@ -57,8 +60,8 @@ returns c =
     let a = at-loop .before .before .before .args in (
       end-count (a .used) (a .table .now) (a .output .now) (l .table) (l .output) (l .at) (l .kept) (l .inv) (omega arith),
       c .before .before .clear .ensures
-          ∙ end-cleared (a .used) (a .table .now) (a .output .now) (l .table) (l .output) (l .at) (l .kept) (l .inv) (omega arith) (omega arith)
-          (omega arith),
+          ∙ end-cleared (a .used) (a .table .now) (a .output .now) (l .table) (l .output) (l .at) (l .kept) (l .inv) (omega arith) (at-loop .before .before .before .pre .3)
+          (omega arith) (omega arith),
       end-list (a .used) (a .table .now) (a .output .now) (l .table) (l .output) (l .at) (l .kept) (l .inv) (omega arith),
     )
 
@@ -74,6 +77,7 @@ tick-places-spec =
     loop-less
     loop-again
     mul-free
+    mul-clear
     sub-clear
     clear-requires
     same-length

@@ -1,13 +1,15 @@
 -- `waiting_form::call::tick` meets its contract: each return follows from the tests before it, by a law of CallLaws. Assumes nothing.
 use Rattle.waiting.specs.Form.{waitingForm, usedOf}
-use mathlib.Core.Path.{_≡_, sym, _∙_}
+use mathlib.Core.Path.{_≡_, sym, subst, _∙_}
+use Prim.Native.Nat.{ℕ}
+use Rattle.table.specs.Rows.{Laid}
 use mathlib.Core.Bool.{true}
 use native.Mathlib.Omega.{arith}
 use borrow.Author.Tests.{not-true, not-false}
 use Rattle.record.specs.Record.{keyOf, recordForm}
 use Rattle.record.proofs.EntryLaws.{form-length}
 use Rattle.waiting_form.specs.Call.{tickDone}
-use Rattle.waiting.proofs.FormLaws.{form-size, used-few}
+use Rattle.waiting.proofs.FormLaws.{form-size, form-laid, used-few}
 use Rattle.waiting_form.proofs.FormedLaws.{bad-form, good-form}
 use Rattle.waiting_form.proofs.CallLaws.{own-bad, table-bad, no-room, ticks}
 use borrow.Author.Needs.{needs}
@@ -69,8 +71,12 @@ returns-3 c =
 tick-places-requires : tie.Need-tick-places-requires
 tick-places-requires c κs =
     let a = c .before .before .before .before .before .before .before .before .before .before .before .before .before .args in
-    let good = counted (c .before .before .before) in
-    (omega (arith, good .1, used-few (a .table .now)), form-size (keyOf (a .own .now)) (a .table .now) (good .0), omega arith)
+    let good = counted (c .before .before .before) in (
+      omega (arith, good .1, used-few (a .table .now)),
+      form-size (keyOf (a .own .now)) (a .table .now) (good .0),
+      omega arith,
+      subst (λ (n : ℕ). Laid 140 n (a .table .now)) (sym (good .1)) (form-laid (keyOf (a .own .now)) (a .table .now) (good .0)),
+    )
 
 same-length-3 : tie.Need-same-length-3
 same-length-3 c = search needs

@@ -18,7 +18,7 @@ use Rattle.refusal.specs.Table.{orRefuse}
 use Rattle.refusal.proofs.TableLaws.{both}
 use Rattle.wire_shapes.specs.Shapes.{Kind}
 use Rattle.wire_fields.specs.Kinds.{kindsOf, authorityKinds}
-use Rattle.wire_fields.specs.Message.{Message, WellFormed, layoutOf, bytesOf}
+use Rattle.wire_fields.specs.Message.{Message, WellFormed, layoutOf, messageBytes}
 use Rattle.wire_write.specs.Writing.{Made, fit, writeAs, writeIn}
 use Rattle.wire_write.specs.declared.Written as W
 use Rattle.wire.specs.Statements.{changedAt, changed}
@@ -149,17 +149,17 @@ module _ (major : ℕ) (d : List ℕ) (b : Bytes d) (h : Head) (acked : ℕ) (f 
       let kinds : ks ≡ authorityKinds = cc in
       subst (λ (k : List Kind). WellFormed k was) kinds (x .well)
 
-  is-well : length (bytesOf (layoutOf authorityKinds is)) ≤ 1232 → WellFormed authorityKinds is
+  is-well : length (messageBytes (layoutOf authorityKinds is)) ≤ 1232 → WellFormed authorityKinds is
   is-well l =
       changed-well authorityKinds was 6 (some (image r)) was-well
       (payload-held (image r) (image-bytes r) (omega (arith, image-short (r .measured) (r .inflow) (r .outflow))))
       (authority-joins 8 (changedAt 6 (some (image r)) (was .fields)) (was-well .known)) l
 
-  pub written-taken : length (bytesOf (layoutOf authorityKinds is)) ≤ 1232
-      → takeCall major (bytesOf (layoutOf authorityKinds is)) ≡ takenBy (unpackOf (image r))
+  pub written-taken : length (messageBytes (layoutOf authorityKinds is)) ≤ 1232
+      → takeCall major (messageBytes (layoutOf authorityKinds is)) ≡ takenBy (unpackOf (image r))
   unfolding takeCall
   written-taken l =
-      let bytes = bytesOf (layoutOf authorityKinds is) in
+      let bytes = messageBytes (layoutOf authorityKinds is) in
       means-authority major bytes (answer bytes major) is (written-read authorityKinds is (is-well l)) refl
 
 -- ---- the calls

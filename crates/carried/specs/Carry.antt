@@ -5,7 +5,7 @@ use mathlib.Core.List.{List}
 use mathlib.Core.Bool.{true}
 use mathlib.Core.Option.{Option, some, none}
 use Rattle.wire_fields.specs.Kinds.{authorityKinds}
-use Rattle.wire_fields.specs.Message.{Message, layoutOf, bytesOf}
+use Rattle.wire_fields.specs.Message.{Message, layoutOf, messageBytes}
 use Rattle.wire_read.specs.Answers.{answer}
 use Rattle.wire_read.specs.Meaning.{messageOf}
 use Rattle.wire_read.specs.declared.Answer.the-variants as M
@@ -33,7 +33,7 @@ carryHanded given output = record { given = given; output = output }
 
 -- the same message, but for its payload: field 6 of an AUTHORITY's
 abbrev pub withReading : Message → Reading → Made
-withReading m r = record { ok = true; bytes = bytesOf (layoutOf authorityKinds (changed authorityKinds m 6 (some (image r)))) }
+withReading m r = record { ok = true; bytes = messageBytes (layoutOf authorityKinds (changed authorityKinds m 6 (some (image r)))) }
 
 -- 0 and how many bytes, or 15 where there is no room in the output or in a datagram
 abbrev pub put : Made → List ℕ → CarryHanded

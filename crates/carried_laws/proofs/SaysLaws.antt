@@ -8,7 +8,7 @@ use lib.ListN.{length, getD}
 use Rattle.octet.specs.Number.{Bytes, valueBE}
 use Rattle.wire_shapes.specs.Shapes.{Kind}
 use Rattle.wire_fields.specs.Kinds.{kindsOf, authorityKinds, present}
-use Rattle.wire_fields.specs.Message.{Contents, Message, WellFormed, Reads, layoutOf, bytesOf}
+use Rattle.wire_fields.specs.Message.{Contents, Message, WellFormed, Reads, layoutOf, messageBytes}
 use Rattle.wire.specs.Statements.{changedAt, splitAgain, changed}
 use Rattle.wire.proofs.BytesLaws.{bytes-message}
 use Rattle.wire.proofs.Theorems.{payload-reads}
@@ -75,7 +75,7 @@ authority-well ks m t w =
 module _ (major : ℕ) (d : List ℕ) (ks : List Kind) (m : Message) (reads : Reads ks d m) (version : m .major ≡ major) (t : m .type ≡ 8)
     (v : List ℕ) (bytes : Bytes v) (short : length v ≤ 1232) where
   abbrev anew : List ℕ
-  anew = bytesOf (layoutOf authorityKinds (changed authorityKinds m 6 (some v)))
+  anew = messageBytes (layoutOf authorityKinds (changed authorityKinds m 6 (some v)))
 
   pub hears-before : Hears d major (heard m)
   hears-before = record { kinds = ks; message = m; reads = reads; version = version; says = refl }

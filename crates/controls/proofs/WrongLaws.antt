@@ -21,7 +21,7 @@ use Rattle.controls.proofs.ShutLaws.{fits, fits-bytes, shut}
 -- a FLOOD with a revocation, D clear, to another's validate key
 abbrev revocation : List ℕ
 revocation =
-    message.bytesOf (message.layoutOf floodKinds (record {
+    message.messageBytes (message.layoutOf floodKinds (record {
       major = 6;
       minor = 101;
       type = 4;

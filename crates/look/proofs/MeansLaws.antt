@@ -30,7 +30,7 @@ use Rattle.wire_read.specs.declared.Answer.{Answer}
 use Rattle.wire_read.specs.declared.Answer.the-variants as M
 use Rattle.wire.proofs.Theorems.{read-gives, read-accepts}
 use Rattle.look.specs.Seen.{sizeOf, seenAs, lookOf}
-use Rattle.look.specs.Means.{toldOf, numberIn, Tells, Says, LookMeans}
+use Rattle.look.specs.Means.{toldOf, numberShown, LookTells, LookSays, LookMeans}
 
 -- ---- the fields of a message, each at its place
 
@@ -55,7 +55,7 @@ Fixed (k ∷ ks) zero n = (k .optional ≡ false) × (k .shape ≡ Sized n)
 Fixed (k ∷ ks) (suc i) n = Fixed ks i n
 
 told-at : (d : List ℕ) (ks : List Kind) (j : ℕ) (fs : List Contents) → Formed ks fs → valuesOf ks d (partsOf j ks fs) ≡ fs → (i : ℕ) → Plain ks i
-    → Tells d (getD fs i none) (getD (partsOf j ks fs) i Absent) (startOf (getD (partsOf j ks fs) i Absent))
+    → LookTells d (getD fs i none) (getD (partsOf j ks fs) i Absent) (startOf (getD (partsOf j ks fs) i Absent))
     (sizeOf (getD (partsOf j ks fs) i Absent))
 told-at d [] j [] f e i p = absurd p
 told-at d [] j (x ∷ fs) f e i p = absurd f
@@ -77,7 +77,7 @@ fixed-at (k ∷ ks) j (none ∷ fs) f (suc i) n x = fixed-at ks j fs (f .1) i n 
 fixed-at (k ∷ ks) j (some v ∷ fs) f zero n x = fixed-size v (k .shape) n (x .1) (f .0 .shaped)
 fixed-at (k ∷ ks) j (some v ∷ fs) f (suc i) n x = fixed-at ks (ends j k (some v)) fs (f .1) i n x
 
-number-of : (d : List ℕ) (c : Contents) (p : Part) (at : ℕ) → Tells d c p at 4 → numberAt at 4 d ≡ numberIn c
+number-of : (d : List ℕ) (c : Contents) (p : Part) (at : ℕ) → LookTells d c p at 4 → numberAt at 4 d ≡ numberShown c
 number-of d none p at t = let z = t .1 in absurd (omega arith)
 number-of d (some v) p at t = ap (valueBE 256) (t .2)
 
@@ -85,21 +85,21 @@ module _ (d : List ℕ) (ks : List Kind) (fs : List Contents) (formed : Formed k
   abbrev ps : List Part
   ps = partsOf 12 ks fs
 
-  at-place : (i : ℕ) → Plain ks i → Tells d (getD fs i none) (getD ps i Absent) (startOf (getD ps i Absent)) (sizeOf (getD ps i Absent))
+  at-place : (i : ℕ) → Plain ks i → LookTells d (getD fs i none) (getD ps i Absent) (startOf (getD ps i Absent)) (sizeOf (getD ps i Absent))
   at-place i p = told-at d ks 12 fs formed values i p
 
-  at-fixed : (i n : ℕ) → Plain ks i → Fixed ks i n → Tells d (getD fs i none) (getD ps i Absent) (startOf (getD ps i Absent)) n
+  at-fixed : (i n : ℕ) → Plain ks i → Fixed ks i n → LookTells d (getD fs i none) (getD ps i Absent) (startOf (getD ps i Absent)) n
   at-fixed i n p x =
-      subst (λ (l : ℕ). Tells d (getD fs i none) (getD ps i Absent) (startOf (getD ps i Absent)) l) (fixed-at ks 12 fs formed i n x) (at-place i p)
+      subst (λ (l : ℕ). LookTells d (getD fs i none) (getD ps i Absent) (startOf (getD ps i Absent)) l) (fixed-at ks 12 fs formed i n x) (at-place i p)
 
-  at-number : (i : ℕ) → Plain ks i → Fixed ks i 4 → numberAt (startOf (getD ps i Absent)) 4 d ≡ numberIn (getD fs i none)
+  at-number : (i : ℕ) → Plain ks i → Fixed ks i 4 → numberAt (startOf (getD ps i Absent)) 4 d ≡ numberShown (getD fs i none)
   at-number i p x = number-of d (getD fs i none) (getD ps i Absent) (startOf (getD ps i Absent)) (at-fixed i 4 p x)
 
   -- behind the first two
   at-behind : (i : ℕ) → Plain ks (2 + i)
-      → Tells d (getD fs (2 + i) none) (getD ps (2 + i) Absent) (startOf (getD (drop 2 ps) i Absent)) (sizeOf (getD (drop 2 ps) i Absent))
+      → LookTells d (getD fs (2 + i) none) (getD ps (2 + i) Absent) (startOf (getD (drop 2 ps) i Absent)) (sizeOf (getD (drop 2 ps) i Absent))
   at-behind i p =
-      subst (λ (q : Part). Tells d (getD fs (2 + i) none) (getD ps (2 + i) Absent) (startOf q) (sizeOf q)) (sym (getD-drop 2 ps i Absent))
+      subst (λ (q : Part). LookTells d (getD fs (2 + i) none) (getD ps (2 + i) Absent) (startOf q) (sizeOf q)) (sym (getD-drop 2 ps i Absent))
       (at-place (2 + i) p)
 
 -- ---- type by type
@@ -111,7 +111,7 @@ module _ (d : List ℕ) where
   abbrev Right : ℕ → List Kind → Type 0
   Right t ks =
       (major minor : ℕ) (fs : List Contents) → Formed ks fs → valuesOf ks d (partsOf 12 ks fs) ≡ fs
-      → Says d ks (messageWith major minor t (numberAt 8 4 d) fs) (lookOf (shown d (found t (partsOf 12 ks fs))))
+      → LookSays d ks (messageWith major minor t (numberAt 8 4 d) fs) (lookOf (shown d (found t (partsOf 12 ks fs))))
 
   solicit : Right 1 K.solicitKinds
   unfolding toldOf lookOf shown headOf
@@ -278,8 +278,8 @@ look-means d b major =
           let id : numberAt 8 4 d ≡ msg .id = ap (λ (m : Message). m .id) (f .1) in
           let is : answer d major ≡ shown d (found (msg .type) (partsOf 12 ks (msg .fields))) =
           ap (λ (n : ℕ). answer d n) (sym v) ∙ ap (shown d) (f .0) in
-          subst (λ (a : Answer). Says d ks msg (lookOf a)) (sym is)
-          (subst (λ (i : ℕ). Says d ks (messageWith (msg .major) (msg .minor) (msg .type) i (msg .fields))
+          subst (λ (a : Answer). LookSays d ks msg (lookOf a)) (sym is)
+          (subst (λ (i : ℕ). LookSays d ks (messageWith (msg .major) (msg .minor) (msg .type) i (msg .fields))
           (lookOf (shown d (found (msg .type) (partsOf 12 ks (msg .fields)))))) id
           (by-type d (msg .type) ks (r .well .known) (msg .major) (msg .minor) (msg .fields) (r .well .formed) fields));
       refused = look-refused (answer d major);

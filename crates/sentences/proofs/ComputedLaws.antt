@@ -45,7 +45,7 @@ unfolding valueBE valueLE digitsBE digitsLE splice same allZero distance ring ha
     put without among inOrder lastOr farthestOut trimmed learnWith happen after putBy withoutBy learnBy rows joined bytesOf
     follows leading heldIn heldOf cacheForm keyBytes closestFrom closestOf listCall
     newPlace placeForm anyOf placesForm usedIn usedOf waitingForm seek opened freed ticked listed idBytes tickRefusals tickDone tickCall
-    arrayForm lookupForm splitForm hasShape kinds.kindsOf kinds.joined kinds.sized spanAt needAt maybeAt placesAt fieldsAs wholeIn inPart foundIn
+    arrayForm lookupForm splitForm hasShape kinds.kindsOf kinds.joinedFields kinds.sized spanAt needAt maybeAt placesAt fieldsAs wholeIn inPart foundIn
     flagAt headOf precisionAt shown ackMade floodMade inquireMade cpaMade closestMade
     tablesFit memoryOf handsFit mustAsk floodPlan revokePlan authorityPlan lookupPlan planFor receivePlan carried receiveCall gaugeTick gaugeList
 computed = tt

@@ -73,7 +73,7 @@ module _ (m : Memory) (l : Receive) where
         plan-message m l (rw fit refl) (not-false _ (none-applies m (receives l) z .1 .0))
 
     -- it read a message
-    reads-it : fields.foundIn (l .datagram) (l .major) ≡ fields.found (typeOf (l .datagram)) (fields.placesOf (fields.fieldsIn (l .datagram)))
+    reads-it : fields.foundIn (l .datagram) (l .major) ≡ fields.found (typeOf (l .datagram)) (fields.spansOf (fields.fieldsIn (l .datagram)))
     unfolding fields.foundIn
     reads-it =
         let behind = messageRows m l (R.answer (l .datagram) (l .major)) in

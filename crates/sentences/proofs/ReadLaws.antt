@@ -70,9 +70,9 @@ module _ (m : Memory) (l : Receive) where
   unfolding fields.foundIn R.shown
   read-number =
       number-is (λ (f : fields.Found). numberOf (R.shown d f)) fields.refused (λ m. refl)
-      (fields.found (typeOf d) (fields.placesOf (fieldsIn d)))
-      (message-zero (R.shown d (fields.found (typeOf d) (fields.placesOf (fieldsIn d))))
-      (shown-message d (typeOf d) (fields.placesOf (fieldsIn d)))) rs
+      (fields.found (typeOf d) (fields.spansOf (fieldsIn d)))
+      (message-zero (R.shown d (fields.found (typeOf d) (fields.spansOf (fieldsIn d))))
+      (shown-message d (typeOf d) (fields.spansOf (fieldsIn d)))) rs
 
   fails-first : (ts : List Refusal) → AllFail ts → firstOf ts ≡ 0
   unfolding firstOf
@@ -89,8 +89,8 @@ module _ (m : Memory) (l : Receive) where
   unfolding fields.foundIn
   fails-message f =
       subst (λ (y : fields.Found). IsMessage (R.shown d y))
-      (sym (all-pass fields.refused rs (fields.found (typeOf d) (fields.placesOf (fieldsIn d))) f))
-      (shown-message d (typeOf d) (fields.placesOf (fieldsIn d)))
+      (sym (all-pass fields.refused rs (fields.found (typeOf d) (fields.spansOf (fieldsIn d))) f))
+      (shown-message d (typeOf d) (fields.spansOf (fieldsIn d)))
 
   pub rows-message : (n : ℕ) (y : T.Answer) → Row n (messageRows m l y) → IsMessage y
   rows-message n (M.Refused m) w = w

@@ -46,9 +46,9 @@ module _ (l : Receive) where
   unfolding fields.foundIn R.shown
   read-number =
       let d = l .datagram in
-      let found = fields.found (typeOf d) (fields.placesOf (fieldsIn d)) in
+      let found = fields.found (typeOf d) (fields.spansOf (fieldsIn d)) in
       number-is (λ (f : fields.Found). numberOf (R.shown d f)) fields.refused (λ m. refl) found
-      (message-zero (R.shown d found) (shown-message d (typeOf d) (fields.placesOf (fieldsIn d)))) (refusals d (l .major))
+      (message-zero (R.shown d found) (shown-message d (typeOf d) (fields.spansOf (fieldsIn d)))) (refusals d (l .major))
 
   zero-fails : numberOf (R.answer (l .datagram) (l .major)) ≡ 0 → AllFail (refusals (l .datagram) (l .major))
   zero-fails z = all-fail byNumber (refusals (l .datagram) (l .major)) 1 (omega arith) (sym read-number ∙ z)

@@ -22,7 +22,7 @@ use Rattle.waiting.specs.Form.{placesOf, waitingForm}
 use Rattle.waiting.specs.Tick.{oneLess, idBytes}
 use Rattle.wire_shapes.specs.Shapes.{Kind}
 use Rattle.wire_fields.specs.Kinds.{floodKinds, inquireKinds, authorityKinds, ackKinds}
-use Rattle.wire_fields.specs.Message.{Message, bytesOf, layoutOf}
+use Rattle.wire_fields.specs.Message.{Message, messageBytes, layoutOf}
 use Rattle.wire_write.specs.Sent.{ackSent, floodSent, inquireSent, cpaSent, closestSent}
 use Rattle.asking.specs.Ids.{idAfter}
 use Rattle.gauge_commit.specs.Sending.{answer, lengths, sending, Handed, handed}
@@ -58,7 +58,7 @@ pub record WaitsExactly (k : ℕ) (left : List ℕ) (P : List ℕ → Type 0) : 
 
 -- the bytes of a message
 abbrev pub written : List Kind → Message → List ℕ
-written ks msg = bytesOf (layoutOf ks msg)
+written ks msg = messageBytes (layoutOf ks msg)
 
 -- "accepted; the lengths of up to two datagrams to send are returned, in the order written, 0 for one not there": they stand one after the other at the output's
 -- start, and the rest of it is as lent

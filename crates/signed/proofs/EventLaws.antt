@@ -89,7 +89,7 @@ module _ (m : Memory) (l : Receive) where
   is-message : AllFail (fields.refusals (l .datagram) (l .major)) → IsMessage (R.answer (l .datagram) (l .major))
   unfolding fields.foundIn
   is-message f =
-      let done = fields.found (typeOf (l .datagram)) (fields.placesOf (fields.fieldsIn (l .datagram))) in
+      let done = fields.found (typeOf (l .datagram)) (fields.spansOf (fields.fieldsIn (l .datagram))) in
       subst (λ (x : fields.Found). IsMessage (R.shown (l .datagram) x))
       (sym (all-pass fields.refused (fields.refusals (l .datagram) (l .major)) done f))
       (shown-message (l .datagram) _ _)

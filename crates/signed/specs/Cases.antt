@@ -50,7 +50,7 @@ endpoint = (0x00 ∷ 0x01 ∷ 0x00 ∷ 0x1A ∷ 0x00 ∷ 0x9D ∷ 0x00 ∷ 0x12 
 
 abbrev pub lookupOf : ℕ → List ℕ
 lookupOf target =
-    message.bytesOf (message.layoutOf lookupKinds (record {
+    message.messageBytes (message.layoutOf lookupKinds (record {
       major = 6;
       minor = 101;
       type = 11;

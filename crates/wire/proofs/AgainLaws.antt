@@ -11,8 +11,8 @@ use lib.ListN.{getD}
 use Rattle.octet.specs.Number.{digitsBE}
 use Rattle.octet.specs.Part.{part}
 use Rattle.wire_shapes.specs.Shapes.{Kind}
-use Rattle.wire_fields.specs.Kinds.{kindsOf, joined, present, oneOf, solicitKinds, advertiseKinds, requestKinds, floodKinds, inquireKinds, authorityKinds, ackKinds, lookupKinds}
-use Rattle.wire_fields.specs.Message.{Contents, Message, Formed, ends, layoutFrom, layoutOf, bytesOf, headerOf}
+use Rattle.wire_fields.specs.Kinds.{kindsOf, joinedFields, present, oneOf, solicitKinds, advertiseKinds, requestKinds, floodKinds, inquireKinds, authorityKinds, ackKinds, lookupKinds}
+use Rattle.wire_fields.specs.Message.{Contents, Message, Formed, ends, layoutFrom, layoutOf, messageBytes, headerOf}
 use Rattle.wire_fields.specs.Reading.{contentsIn}
 use Rattle.wire_fields.specs.declared.Part.{Part}
 use Rattle.wire_fields.specs.declared.Part.the-variants.{Here, Absent}
@@ -41,13 +41,13 @@ Same [] (c ∷ cs) = (c ≡ none) × Same [] cs
 Same (f ∷ fs) [] = ⊥
 Same (f ∷ fs) (c ∷ cs) = (c ≡ f) × Same fs cs
 
-nothing : (rs : List Row) (i : ℕ) (cs : List Contents) → Same [] cs → bytesOf (layoutFrom i (kindsOfRows rs) cs) ≡ []
+nothing : (rs : List Row) (i : ℕ) (cs : List Contents) → Same [] cs → messageBytes (layoutFrom i (kindsOfRows rs) cs) ≡ []
 nothing [] i cs h = refl
 nothing (r ∷ rs) i [] h = refl
 nothing (r ∷ rs) i (c ∷ cs) h = rw (h .0) (nothing rs i cs (h .1))
 
 pub rows-bytes : (ks : List Kind) (rs : List Row) (i : ℕ) (fs cs : List Contents) → RowsFor ks rs → Formed ks fs → Same fs cs
-    → bytesOf (layoutFrom i (kindsOfRows rs) cs) ≡ bytesOf (layoutFrom i ks fs)
+    → messageBytes (layoutFrom i (kindsOfRows rs) cs) ≡ messageBytes (layoutFrom i ks fs)
 rows-bytes [] rs i [] cs w f h = nothing rs i cs h
 rows-bytes [] rs i (x ∷ fs) cs w f h = absurd f
 rows-bytes (k ∷ ks) [] i fs cs w f h = absurd w
@@ -65,7 +65,7 @@ piece-is d Absent = refl
 -- a message of the rows of a table
 pub table-bytes : (ks : List Kind) (rs : List Row) (m : Message) (l : Lent) (ps : List Piece) → RowsFor ks rs → Formed ks (m .fields)
     → Same (m .fields) (contentsOf (givensOf l ps))
-    → madeBy (m .major) (m .minor) (m .type) (m .id) l rs ps .bytes ≡ bytesOf (layoutOf ks m)
+    → madeBy (m .major) (m .minor) (m .type) (m .id) l rs ps .bytes ≡ messageBytes (layoutOf ks m)
 unfolding madeBy
 table-bytes ks rs m l ps w f h =
     ap (λ (b : List ℕ). headerOf m ++ b) (rows-bytes ks rs 12 (m .fields) (contentsOf (givensOf l ps)) w f h)
@@ -109,8 +109,8 @@ precise false p a b = ap₂ (λ (x y : ℕ). x ∷ y ∷ []) a b
 -- the bytes that are made of an answer are those of a message
 abbrev Again : ℕ → List ℕ → Answer → Message → Type 0
 Again major d a m =
-    (ks : List Kind) → kindsOf (m .type) ≡ some ks → Formed ks (m .fields) → joined (m .type) (m .fields) ≡ true
-    → resent major d a .bytes ≡ bytesOf (layoutOf ks m)
+    (ks : List Kind) → kindsOf (m .type) ≡ some ks → Formed ks (m .fields) → joinedFields (m .type) (m .fields) ≡ true
+    → resent major d a .bytes ≡ messageBytes (layoutOf ks m)
 
 -- the message of an answer
 abbrev told : Option Message → Message
@@ -120,7 +120,7 @@ told (some m) = m
 module _ (js : List Kind) (rs : List Row) (major : ℕ) (d : List ℕ) (a : Answer) (m : Message) (e : messageOf major d a ≡ some m)
     (w : RowsFor js rs) where
   by-table : kindsOf (told (messageOf major d a) .type) ≡ some js → (l : Lent) (ps : List Piece)
-      → (joined (told (messageOf major d a) .type) (told (messageOf major d a) .fields) ≡ true → resent major d a
+      → (joinedFields (told (messageOf major d a) .type) (told (messageOf major d a) .fields) ≡ true → resent major d a
       ≡ madeBy (told (messageOf major d a) .major) (told (messageOf major d a) .minor) (told (messageOf major d a) .type)
       (told (messageOf major d a) .id) l rs ps)
       → (Formed js (told (messageOf major d a) .fields) → Same (told (messageOf major d a) .fields)
@@ -131,11 +131,11 @@ module _ (js : List Kind) (rs : List Row) (major : ℕ) (d : List ℕ) (a : Answ
       subst (Again major d a) (ap told e) (λ ks n f j.
       let o : js ≡ ks = (let z : some js ≡ some ks = sym k ∙ n in cc) in
       let g = subst (λ (x : List Kind). Formed x (r .fields)) (sym o) f in
-      subst (λ (x : List Kind). resent major d a .bytes ≡ bytesOf (layoutOf x r)) o
+      subst (λ (x : List Kind). resent major d a .bytes ≡ messageBytes (layoutOf x r)) o
       (ap (λ (x : Made). x .bytes) (made j) ∙ table-bytes js rs r l ps w g (given g)))
 
 pub again-bytes : (major : ℕ) (d : List ℕ) (a : Answer) (m : Message) → messageOf major d a ≡ some m → Again major d a m
-unfolding messageOf resent kindsOf digitsBE joined
+unfolding messageOf resent kindsOf digitsBE joinedFields
 again-bytes major d (Refused n) m e = absurd (let z : _≡_ {A = ℕ} 0 1 = cc in omega arith)
 again-bytes major d (Solicit h entry nonce) m e =
     by-table solicitKinds solicitRows major d (Solicit h entry nonce) m e solicit-rows refl _ _ (λ j. refl)
@@ -194,11 +194,11 @@ again-bytes major d (Lookup h a precision criteria reason target validate entry 
 
 -- FLOOD carries one of the two
 pub flood-one : (major : ℕ) (d : List ℕ) (h : Head) (silent : Bool) (validate : ℕ) (token revoke entry reached : Part) (m : Message)
-    → messageOf major d (Flood h silent validate token revoke entry reached) ≡ some m → joined (m .type) (m .fields) ≡ true
+    → messageOf major d (Flood h silent validate token revoke entry reached) ≡ some m → joinedFields (m .type) (m .fields) ≡ true
     → oneOf (isHere revoke) (isHere entry) ≡ true
-unfolding messageOf joined
+unfolding messageOf joinedFields
 flood-one major d h silent validate token revoke entry reached m e j =
-    let q : joined (told (messageOf major d (Flood h silent validate token revoke entry reached)) .type)
+    let q : joinedFields (told (messageOf major d (Flood h silent validate token revoke entry reached)) .type)
     (told (messageOf major d (Flood h silent validate token revoke entry reached)) .fields) ≡ true =
-    subst (λ (x : Message). joined (x .type) (x .fields) ≡ true) (sym (ap told e)) j in
+    subst (λ (x : Message). joinedFields (x .type) (x .fields) ≡ true) (sym (ap told e)) j in
     rw (here-is d revoke, here-is d entry) at q

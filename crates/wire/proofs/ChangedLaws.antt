@@ -12,8 +12,8 @@ use Rattle.octet.specs.Number.{digitsBE}
 use Rattle.octet.proofs.BigLaws.{length-digitsBE}
 use Rattle.wire_shapes.specs.Field.{gap}
 use Rattle.wire_shapes.specs.Shapes.{Kind, hasShape}
-use Rattle.wire_fields.specs.Kinds.{may, noneOfTwo, ackedKind, splitKind, kindsOf, requestKinds, bufferKinds, authorityKinds, joined, sized, derived, splitBytes}
-use Rattle.wire_fields.specs.Message.{Contents, Message, Held, Formed, WellFormed, ends, layoutFrom, layoutOf, bytesOf, headerOf, partsOf}
+use Rattle.wire_fields.specs.Kinds.{may, noneOfTwo, ackedKind, splitKind, kindsOf, requestKinds, bufferKinds, authorityKinds, joinedFields, sized, derived, splitBytes}
+use Rattle.wire_fields.specs.Message.{Contents, Message, Held, Formed, WellFormed, ends, layoutFrom, layoutOf, messageBytes, headerOf, partsOf}
 use Rattle.wire_fields.specs.declared.Part.the-variants.{Here, Absent}
 use Rattle.wire_shapes.specs.declared.Shape.the-variants.{Sized}
 use Rattle.wire_fields.proofs.RefusalLaws.{split-four}
@@ -34,11 +34,11 @@ formed-at (k ∷ ks) (suc n) c (some w ∷ fs) f a = (f .0, formed-at ks n c fs 
 
 -- the bytes of the fields from a place on end where the first field ends and the rest after it
 pub ends-rest : (i : ℕ) (k : Kind) (f : Contents) (ks : List Kind) (fs : List Contents)
-    → i + length (bytesOf (layoutFrom i (k ∷ ks) (f ∷ fs))) ≡ ends i k f + length (bytesOf (layoutFrom (ends i k f) ks fs))
+    → i + length (messageBytes (layoutFrom i (k ∷ ks) (f ∷ fs))) ≡ ends i k f + length (messageBytes (layoutFrom (ends i k f) ks fs))
 ends-rest i k none ks fs = refl
 ends-rest i k (some v) ks fs =
     let g = gap (k .padded) (i + (length v + 4)) in
-    let rest = bytesOf (layoutFrom (ends i k (some v)) ks fs) in
+    let rest = messageBytes (layoutFrom (ends i k (some v)) ks fs) in
     let e₁ = length-append (digitsBE 256 2 (k .number) ++ digitsBE 256 2 (length v + 4)) (v ++ (replicate g 0 ++ rest)) in
     let e₂ = head-length (k .number) (length v + 4) in
     let e₃ = length-append v (replicate g 0 ++ rest) in
@@ -74,10 +74,10 @@ module _ (k j : Kind) (js : List Kind) (p : j .padded ≡ false) (held : (size :
   abbrev Anew : List Contents → Type 0
   Anew gs =
       Formed (k ∷ j ∷ js) gs
-      × (derived (12 + length (bytesOf (layoutFrom 12 (k ∷ j ∷ js) gs))) (getD (partsOf 12 (k ∷ j ∷ js) gs) 1 Absent) (getD gs 1 none) ≡ true)
+      × (derived (12 + length (messageBytes (layoutFrom 12 (k ∷ j ∷ js) gs))) (getD (partsOf 12 (k ∷ j ∷ js) gs) 1 Absent) (getD gs 1 none) ≡ true)
 
-  anew : (f : Contents) (v : List ℕ) (fs : List Contents) (size : ℕ) → size ≡ length (bytesOf (layoutFrom (ends (ends 12 k f) j (some v)) js fs))
-      → Formed (k ∷ j ∷ js) (f ∷ some v ∷ fs) → 12 + length (bytesOf (layoutFrom 12 (k ∷ j ∷ js) (f ∷ some (splitBytes size) ∷ fs))) ≤ 1232
+  anew : (f : Contents) (v : List ℕ) (fs : List Contents) (size : ℕ) → size ≡ length (messageBytes (layoutFrom (ends (ends 12 k f) j (some v)) js fs))
+      → Formed (k ∷ j ∷ js) (f ∷ some v ∷ fs) → 12 + length (messageBytes (layoutFrom 12 (k ∷ j ∷ js) (f ∷ some (splitBytes size) ∷ fs))) ≤ 1232
       → Anew (f ∷ some (splitBytes size) ∷ fs)
   anew f v fs size z w h =
       let i = ends 12 k f in
@@ -88,15 +88,15 @@ module _ (k j : Kind) (js : List Kind) (p : j .padded ≡ false) (held : (size :
       let e₂ = ends-rest i j (some x) js fs in
       let g : gap (j .padded) (i + (length x + 4)) ≡ 0 = rw p in
       let o : ends i j (some x) ≡ ends i j (some v) = rw (lx, lv) in
-      let y : length (bytesOf (layoutFrom (ends i j (some x)) js fs)) ≡ size = ap (λ (u : ℕ). length (bytesOf (layoutFrom u js fs))) o ∙ sym z in
+      let y : length (messageBytes (layoutFrom (ends i j (some x)) js fs)) ≡ size = ap (λ (u : ℕ). length (messageBytes (layoutFrom u js fs))) o ∙ sym z in
       let n : size ≤ 1232 = omega arith in (
         second-formed k j js f (some v) (some x) fs w (λ q. (held size n, q .1)),
         rw (second-place k j js f x fs)
-            (follows (12 + length (bytesOf (layoutFrom 12 (k ∷ j ∷ js) (f ∷ some x ∷ fs)))) (i + 4) (length x) size n (omega arith)),
+            (follows (12 + length (messageBytes (layoutFrom 12 (k ∷ j ∷ js) (f ∷ some x ∷ fs)))) (i + 4) (length x) size n (omega arith)),
       )
 
   pub all-anew : (fs : List Contents) → Formed (k ∷ j ∷ js) fs
-      → 12 + length (bytesOf (layoutFrom 12 (k ∷ j ∷ js) (splitAgain (k ∷ j ∷ js) fs))) ≤ 1232
+      → 12 + length (messageBytes (layoutFrom 12 (k ∷ j ∷ js) (splitAgain (k ∷ j ∷ js) fs))) ≤ 1232
       → Anew (splitAgain (k ∷ j ∷ js) fs)
   all-anew [] w h = absurd w
   all-anew (none ∷ []) w h = absurd (w .1)
@@ -121,23 +121,23 @@ again t ks fs = cond (eqb t 3 || eqb t 8) (splitAgain ks fs) fs
 
 abbrev Whole : ℕ → List Kind → List Contents → Type 0
 Whole t ks gs =
-    Formed ks gs × (joined t gs ≡ true) × (sized t (12 + length (bytesOf (layoutFrom 12 ks gs))) (partsOf 12 ks gs) gs ≡ true)
+    Formed ks gs × (joinedFields t gs ≡ true) × (sized t (12 + length (messageBytes (layoutFrom 12 ks gs))) (partsOf 12 ks gs) gs ≡ true)
 
 abbrev Wholly : List Contents → ℕ → List Kind → Type 0
-Wholly fs t ks = Formed ks fs → 12 + length (bytesOf (layoutFrom 12 ks (again t ks fs))) ≤ 1232 → Whole t ks (again t ks fs)
+Wholly fs t ks = Formed ks fs → 12 + length (messageBytes (layoutFrom 12 ks (again t ks fs))) ≤ 1232 → Whole t ks (again t ks fs)
 
 request-whole : (fs : List Contents) → Wholly fs 3 requestKinds
-unfolding joined sized
+unfolding joinedFields sized
 request-whole fs f h = let a = all-anew (may 0x40 true (Sized 2) noneOfTwo) (may 0x98 false (Sized 4) [])
     (drop 2 requestKinds) refl request-held request-four fs f h in (a .0, refl, a .1)
 
 authority-whole : (fs : List Contents) → Wholly fs 8 authorityKinds
-unfolding joined sized
+unfolding joinedFields sized
 authority-whole fs f h =
     let a = all-anew ackedKind splitKind bufferKinds refl split-held (λ v q. split-four v (q .shaped)) fs f h in
     (a .0, refl, a .1)
 
-whole : (fs : List Contents) (t : ℕ) (ks : List Kind) → kindsOf t ≡ some ks → joined t fs ≡ true → Wholly fs t ks
+whole : (fs : List Contents) (t : ℕ) (ks : List Kind) → kindsOf t ≡ some ks → joinedFields t fs ≡ true → Wholly fs t ks
 unfolding sized kindsOf
 whole fs t ks k y = by (eqb t 3) refl (eqb t 8) refl
   where
@@ -155,12 +155,12 @@ whole fs t ks k y = by (eqb t 3) refl (eqb t 8) refl
     by false q false r = λ f h. rw (q, r) (f, y, refl)
 
 pub changed-well : (ks : List Kind) (m : Message) (n : ℕ) (c : Contents) → WellFormed ks m → AllowedAt ks n c
-    → joined (m .type) (changedAt n c (m .fields)) ≡ true
-    → length (bytesOf (layoutOf ks (changed ks m n c))) ≤ 1232 → WellFormed ks (changed ks m n c)
+    → joinedFields (m .type) (changedAt n c (m .fields)) ≡ true
+    → length (messageBytes (layoutOf ks (changed ks m n c))) ≤ 1232 → WellFormed ks (changed ks m n c)
 changed-well ks m n c w a j h =
     let x = changed ks m n c in
-    let l : length (bytesOf (layoutOf ks x)) ≡ 12 + length (bytesOf (layoutFrom 12 ks (x .fields))) =
-    length-append (headerOf x) (bytesOf (layoutFrom 12 ks (x .fields))) ∙ omega (arith, length-header x) in
+    let l : length (messageBytes (layoutOf ks x)) ≡ 12 + length (messageBytes (layoutFrom 12 ks (x .fields))) =
+    length-append (headerOf x) (messageBytes (layoutFrom 12 ks (x .fields))) ∙ omega (arith, length-header x) in
     let g = whole (changedAt n c (m .fields)) (m .type) ks (w .known) j (formed-at ks n c (m .fields) (w .formed) a) (omega arith) in
     record {
       known = w .known;

@@ -18,7 +18,7 @@ use Rattle.wire_fields.specs.declared.Part.{Part}
 use Rattle.wire_fields.specs.declared.Part.the-variants.{Here}
 use Rattle.wire_shapes.specs.declared.Shape.the-variants.{Any, Entry}
 use Rattle.wire_fields.specs.Kinds.{may, codes, bufferKinds, authorityKinds, kindsOf, splitBytes}
-use Rattle.wire_fields.specs.Message.{Contents, Message, Held, Formed, WellFormed, layoutFrom, layoutOf, bytesOf, headerOf}
+use Rattle.wire_fields.specs.Message.{Contents, Message, Held, Formed, WellFormed, layoutFrom, layoutOf, messageBytes, headerOf}
 use Rattle.wire_fields.specs.Reading.{contentsIn}
 use Rattle.wire_read.specs.Meaning.{messageOf, held, bit, insideFields}
 use Rattle.wire_read.specs.declared.Head.{Head}
@@ -107,7 +107,7 @@ module _ (major : ℕ) (d : List ℕ) (h : Head) (acked : ℕ) (f : Inside) (v :
     ),
   )
 
-  followed : Formed bufferKinds behind → length (carrying major d h acked f v 0 .bytes) ≡ 28 + length (bytesOf (layoutFrom 28 bufferKinds behind))
+  followed : Formed bufferKinds behind → length (carrying major d h acked f v 0 .bytes) ≡ 28 + length (messageBytes (layoutFrom 28 bufferKinds behind))
   unfolding carrying madeBy digitsBE
   followed g =
       let e = rows-bytes bufferKinds (drop 2 authorityRows) 28 behind
@@ -136,31 +136,31 @@ module _ (major : ℕ) (d : List ℕ) (h : Head) (acked : ℕ) (f : Inside) (v :
 
   abbrev restGiven : ℕ → List ℕ
   restGiven size =
-      bytesOf (layoutFrom 28 (kindsOfRows (drop 2 authorityRows))
+      messageBytes (layoutFrom 28 (kindsOfRows (drop 2 authorityRows))
       (drop 2 (contentsOf (givensOf (lentWith size) (carryingPieces f v)))))
 
   made-front : (size : ℕ) → carrying major d h acked f v size .bytes ≡ front size (restGiven size)
   unfolding carrying madeBy digitsBE front
   made-front size = refl
 
-  changed-front : bytesOf (layoutOf authorityKinds (changed authorityKinds seen 6 (some v)))
-      ≡ front (length (bytesOf (layoutFrom 28 bufferKinds behind))) (bytesOf (layoutFrom 28 bufferKinds behind))
+  changed-front : messageBytes (layoutOf authorityKinds (changed authorityKinds seen 6 (some v)))
+      ≡ front (length (messageBytes (layoutFrom 28 bufferKinds behind))) (messageBytes (layoutFrom 28 bufferKinds behind))
   unfolding digitsBE front
   changed-front = refl
 
   payload-bytes : Formed bufferKinds behind
-      → withPayload major d h acked f v .bytes ≡ bytesOf (layoutOf authorityKinds (changed authorityKinds seen 6 (some v)))
+      → withPayload major d h acked f v .bytes ≡ messageBytes (layoutOf authorityKinds (changed authorityKinds seen 6 (some v)))
   unfolding withPayload
   payload-bytes g =
       let size = length (carrying major d h acked f v 0 .bytes) - 28 in
-      let told : size ≡ length (bytesOf (layoutFrom 28 bufferKinds behind)) = omega (arith, followed g) in
+      let told : size ≡ length (messageBytes (layoutFrom 28 bufferKinds behind)) = omega (arith, followed g) in
       let same = rows-bytes bufferKinds (drop 2 authorityRows) 28 behind
       (drop 2 (contentsOf (givensOf (lentWith size) (carryingPieces f v))))
       (authority-rows .2 .2) g (given-behind size) in
       made-front size ∙ ap₂ (λ (n : ℕ) (rest : List ℕ). front n rest) told same ∙ sym changed-front
 
   pub payload-made : Formed authorityKinds (seen .fields) → Held (may 0x5A true Any []) v → resent major d (Authority h acked f) .ok ≡ true
-      → withPayload major d h acked f v ≡ record { ok = true; bytes = bytesOf (layoutOf authorityKinds (changed authorityKinds seen 6 (some v))) }
+      → withPayload major d h acked f v ≡ record { ok = true; bytes = messageBytes (layoutOf authorityKinds (changed authorityKinds seen 6 (some v))) }
   unfolding withPayload
   payload-made g p e =
       let changed-formed = formed-at authorityKinds 6 (some v) (seen .fields) g p in

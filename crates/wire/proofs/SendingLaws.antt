@@ -22,8 +22,8 @@ use Rattle.record.proofs.PlaceLaws.{record-at, entry-length, entry-in}
 use Rattle.wire_shapes.specs.Field.{numberAt, gap}
 use Rattle.wire_shapes.specs.Shapes.{hasShape, splitForm}
 use Rattle.wire_fields.specs.declared.Part.the-variants.{Here}
-use Rattle.wire_fields.specs.Kinds.{must, may, ackedKind, splitKind, flagsLBN, kindsOf, joined, sized, derived, floodKinds, authorityKinds, splitBytes}
-use Rattle.wire_fields.specs.Message.{Held, layoutOf, bytesOf}
+use Rattle.wire_fields.specs.Kinds.{must, may, ackedKind, splitKind, flagsLBN, kindsOf, joinedFields, sized, derived, floodKinds, authorityKinds, splitBytes}
+use Rattle.wire_fields.specs.Message.{Held, layoutOf, messageBytes}
 use Rattle.wire_shapes.specs.declared.Shape.the-variants.{Sized, Entry}
 use Rattle.wire_write.specs.Writing.{fit}
 use Rattle.wire_write.specs.Sent.{floodSent, cpaSent, closestSent}
@@ -85,7 +85,7 @@ fit-small b old f = leb-true (length b) 1232 (both-true (leb (length b) (length 
 -- ---- the messages
 
 pub ack-formed : AckFormed
-unfolding kindsOf joined sized hasShape digitsBE
+unfolding kindsOf joinedFields sized hasShape digitsBE
 ack-formed major minor id acked true h =
     record {
       known = refl;
@@ -123,7 +123,7 @@ ack-formed major minor id acked false h =
     }
 
 pub inquire-formed : InquireFormed
-unfolding kindsOf joined sized hasShape inquireMade digitsBE
+unfolding kindsOf joinedFields sized hasShape inquireMade digitsBE
 inquire-formed major minor id key nonce h bk bn e =
     let w = both-true (eqb (length key) 32) (eqb (length nonce) 16) e in
     let lk : length key ≡ 32 = eqb-true _ _ (w .0) in
@@ -144,7 +144,7 @@ inquire-formed major minor id key nonce h bk bn e =
     }
 
 pub flood-formed : FloodFormed
-unfolding kindsOf joined sized hasShape floodMade
+unfolding kindsOf joinedFields sized hasShape floodMade
 flood-formed major minor id key s at old h bk bs e f =
     let w = both-true (eqb (length key) 32) (formedAt at s) e in
     let lk : length key ≡ 32 = eqb-true _ _ (w .0) in
@@ -167,7 +167,7 @@ flood-formed major minor id key s at old h bk bs e f =
       );
       joins = refl;
       sizes = refl;
-      fits = fit-small (bytesOf (layoutOf floodKinds (floodSent major minor id key (part at 100 s)))) old f;
+      fits = fit-small (messageBytes (layoutOf floodKinds (floodSent major minor id key (part at 100 s)))) old f;
     }
 
 -- split controls of a whole buffer
@@ -203,10 +203,10 @@ unfolding hasShape
 flags-held = record { shaped = refl; clear = refl; whole = small-bytes 0 0 (omega arith) (omega arith); short = omega arith }
 
 pub cpa-formed : CpaFormed
-unfolding kindsOf joined sized hasShape cpaMade digitsBE
+unfolding kindsOf joinedFields sized hasShape cpaMade digitsBE
 cpa-formed major minor id acked cpa old h b f =
-    let n : length (bytesOf (layoutOf authorityKinds (cpaSent major minor id acked cpa))) ≡ 40 + length cpa = simp length-append (omega arith) in
-    let m : length (bytesOf (layoutOf authorityKinds (cpaSent major minor id acked cpa))) ≤ 1232 = fit-small _ old f in
+    let n : length (messageBytes (layoutOf authorityKinds (cpaSent major minor id acked cpa))) ≡ 40 + length cpa = simp length-append (omega arith) in
+    let m : length (messageBytes (layoutOf authorityKinds (cpaSent major minor id acked cpa))) ≤ 1232 = fit-small _ old f in
     record {
       known = refl;
       major-byte = h .0;
@@ -239,13 +239,13 @@ cpa-formed major minor id acked cpa old h b f =
         ),
       );
       joins = refl;
-      sizes = follows (length (bytesOf (layoutOf authorityKinds (cpaSent major minor id acked cpa)))) 24 4 (12 + length cpa) (omega arith)
+      sizes = follows (length (messageBytes (layoutOf authorityKinds (cpaSent major minor id acked cpa)))) 24 4 (12 + length cpa) (omega arith)
           (omega arith);
       fits = m;
     }
 
 pub closest-formed : ClosestFormed
-unfolding kindsOf joined sized hasShape closestMade digitsBE
+unfolding kindsOf joinedFields sized hasShape closestMade digitsBE
 closest-formed major minor id acked s at h b e =
     let w = both-true (leb (at + 100) (length s)) (recordForm (part at 100 s)) e in
     let in-s : at + 100 ≤ length s = leb-true _ _ (w .0) in
@@ -256,7 +256,7 @@ closest-formed major minor id acked s at h b e =
     let l : length x ≡ 38 + 16 * getD s (at + 34) 0 = entry-length major minor at s in-s most in
     let g : gap true (36 + (length x + 4)) ≡ 2 = omega arith in
     let z = length-replicate {A = ℕ} (gap true (36 + (length x + 4))) 0 in
-    let n : length (bytesOf (layoutOf authorityKinds (closestSent major minor id acked (part at 100 s)))) ≡ 80 + 16 * countOf (part at 100 s) =
+    let n : length (messageBytes (layoutOf authorityKinds (closestSent major minor id acked (part at 100 s)))) ≡ 80 + 16 * countOf (part at 100 s) =
     simp length-append (omega arith) in
     record {
       known = refl;
@@ -272,7 +272,7 @@ closest-formed major minor id acked s at h b e =
         ),
       );
       joins = refl;
-      sizes = follows (length (bytesOf (layoutOf authorityKinds (closestSent major minor id acked (part at 100 s))))) 24 4
+      sizes = follows (length (messageBytes (layoutOf authorityKinds (closestSent major minor id acked (part at 100 s))))) 24 4
           (52 + 16 * countOf (part at 100 s))
           (omega arith) (omega arith);
       fits = omega arith;

@@ -13,12 +13,12 @@ use Rattle.octet.specs.Number.{Bytes}
 use Rattle.refusal.proofs.CallLaws.{call-exactly}
 use Rattle.wire_shapes.specs.Shapes.{Kind, hasShape}
 use Rattle.wire_shapes.specs.declared.Shape.the-variants.{Any}
-use Rattle.wire_fields.specs.Kinds.{kindsOf, may, solicitKinds, advertiseKinds, requestKinds, floodKinds, inquireKinds, authorityKinds, ackKinds, lookupKinds, joined, sized}
-use Rattle.wire_fields.specs.Message.{Contents, Held, opening, Message, Formed, Reads, layoutOf, bytesOf, partsOf, typeOf}
+use Rattle.wire_fields.specs.Kinds.{kindsOf, may, solicitKinds, advertiseKinds, requestKinds, floodKinds, inquireKinds, authorityKinds, ackKinds, lookupKinds, joinedFields, sized}
+use Rattle.wire_fields.specs.Message.{Contents, Held, opening, Message, Formed, Reads, layoutOf, messageBytes, partsOf, typeOf}
 use Rattle.wire_fields.specs.Reading.{messageAt, valuesOf, placesAt, fieldsAs}
 use Rattle.octet.specs.Part.{same}
 use Rattle.wire_fields.proofs.RefusalLaws.{byType, inSteps, found-steps}
-use Rattle.wire_fields.specs.Refusals.{Found, refused, found, foundOf, inPart, placesOf, fieldsIn, refusals, foundIn}
+use Rattle.wire_fields.specs.Refusals.{Found, refused, found, foundOf, inPart, spansOf, fieldsIn, refusals, foundIn}
 use Rattle.wire_fields.specs.declared.Part.{Part}
 use Rattle.wire_fields.proofs.WholeLaws.{way, lengths, found-reads, reads-found, reads-once, written-reads, read-written}
 use Rattle.wire_read.specs.Answers.{answer, shown, solicitShown, advertiseShown, requestShown, floodShown, inquireShown, authorityShown, ackShown, lookupShown}
@@ -119,7 +119,7 @@ shown-means major d b t ps e ks k =
 -- and it is right to be written again
 abbrev Right : ℕ → List ℕ → List Part → ℕ → List Kind → Answer → Type 0
 Right major d ps t ks a =
-    Stand ks d 12 ps → (m : Message) → messageOf major d a ≡ some m → joined (m .type) (m .fields) ≡ true → resent major d a .ok ≡ true
+    Stand ks d 12 ps → (m : Message) → messageOf major d a ≡ some m → joinedFields (m .type) (m .fields) ≡ true → resent major d a .ok ≡ true
 
 right : (major : ℕ) (d : List ℕ) (ps : List Part) → Holds (Right major d ps) d ps
 right major d ps = (
@@ -172,8 +172,8 @@ numbered d n = refl
 pub read-refuses : ReadRefuses
 unfolding foundIn
 read-refuses d major n p =
-    call-exactly (λ (x : Found). numberOf (shown d x)) refused (numbered d) (found (typeOf d) (placesOf (fieldsIn d)))
-    (accepted d (typeOf d) (placesOf (fieldsIn d))) (refusals d major) 2 (omega arith) n p
+    call-exactly (λ (x : Found). numberOf (shown d x)) refused (numbered d) (found (typeOf d) (spansOf (fieldsIn d)))
+    (accepted d (typeOf d) (spansOf (fieldsIn d))) (refusals d major) 2 (omega arith) n p
 
 -- 0 is given only with a message
 refuses : (d : List ℕ) (n : ℕ) → 0 < n → numberOf (shown d (refused n)) ≡ 0 → (t : ℕ) × (ps : List Part) × (refused n ≡ found t ps)
@@ -227,7 +227,7 @@ pub written-back : WrittenReads
 written-back ks m w = written-reads ks m w
 
 pub written-read : WrittenRead
-written-read ks m w = reads-give (bytesOf (layoutOf ks m)) (bytes-message ks m w) (m .major) m ks (written-reads ks m w) refl
+written-read ks m w = reads-give (messageBytes (layoutOf ks m)) (bytes-message ks m w) (m .major) m ks (written-reads ks m w) refl
 
 zero-as : (m : Made) (old : List ℕ) → m .ok ≡ true → fit (m .bytes) old ≡ true
     → (writeAs m old ≡ record { number = 0; length = length (m .bytes) }) × (writeIn m old ≡ m .bytes ++ drop (length (m .bytes)) old)
@@ -256,7 +256,7 @@ output-bytes m old r out w z = by (m .ok) refl (fit (m .bytes) old) refl
 
 pub output-reads : OutputReads
 output-reads ks m ok old r out w v z =
-    let e = output-bytes (record { ok = ok; bytes = bytesOf (layoutOf ks m) }) old r out v z in
+    let e = output-bytes (record { ok = ok; bytes = messageBytes (layoutOf ks m) }) old r out v z in
     rw e (written-read ks m w)
 
 pub write-reads : WriteReads
@@ -268,14 +268,14 @@ write-reads major d a ks m e w old r out o z =
 pub read-again : ReadWritten
 read-again ks d m r = read-written ks d m r
 
-reads-length : (ks : List Kind) (d : List ℕ) (m : Message) → Reads ks d m → length (bytesOf (layoutOf ks m)) ≡ length d
+reads-length : (ks : List Kind) (d : List ℕ) (m : Message) → Reads ks d m → length (messageBytes (layoutOf ks m)) ≡ length d
 reads-length ks d m r =
     sym (ap length (r .same))
     ∙ cleared-length (layoutOf ks m) (λ x. refl, lengths ks (lawful (m .type) ks (r .well .known)) 12 (m .fields)) d
 
 -- what is written again of what `read` gave
 made-again : (d : List ℕ) → Bytes d → (major : ℕ) (m : Message) (ks : List Kind) → Reads ks d m → m .major ≡ major
-    → resent major d (answer d major) ≡ record { ok = true; bytes = bytesOf (layoutOf ks m) }
+    → resent major d (answer d major) ≡ record { ok = true; bytes = messageBytes (layoutOf ks m) }
 made-again d b major m ks r v =
     let g = reads-give d b major m ks r v in
     let f = reads-found ks d m r in
@@ -301,7 +301,7 @@ room b old h l = ap₂ _&&_ (le-leb (length b) (length old) h) (le-leb (length b
 pub output-again : OutputAgain
 output-again d b major m e old r out h w =
     let (ks, x, v) = by-found d b major m (foundIn d major) refl e in
-    let y = bytesOf (layoutOf ks m) in
+    let y = messageBytes (layoutOf ks m) in
     let n : length y ≡ length d = reads-length ks d m x in
     let o : Wrote (record { ok = true; bytes = y }) old r out = subst (λ (z : Made). Wrote z old r out) (made-again d b major m ks x v) w in
     let f = x .well .fits in
@@ -324,11 +324,11 @@ write-one m old r s out other p q = (p .answer ∙ sym (q .answer), p .output �
 pub changed-reads : ChangedReads
 changed-reads ks m n c w a j h = written-reads ks (changed ks m n c) (changed-well ks m n c w a j h)
 
-pub authority-joins : (t : ℕ) (fs : List Contents) → kindsOf t ≡ some authorityKinds → joined t fs ≡ true
-unfolding joined kindsOf
+pub authority-joins : (t : ℕ) (fs : List Contents) → kindsOf t ≡ some authorityKinds → joinedFields t fs ≡ true
+unfolding joinedFields kindsOf
 authority-joins t fs k = by (eqb t 4) refl
   where
-    by : (b : Bool) → eqb t 4 ≡ b → joined t fs ≡ true
+    by : (b : Bool) → eqb t 4 ≡ b → joinedFields t fs ≡ true
     by true q =
         let o : some floodKinds ≡ some authorityKinds = ap kindsOf (sym (eqb-true t 4 q)) ∙ k in
         let j : floodKinds ≡ authorityKinds = cc in
@@ -368,4 +368,4 @@ payload-written d b major h acked f m a e v c l =
     let formed : Formed authorityKinds (x .fields) = subst (λ (y : Message). Formed authorityKinds (y .fields)) same
     (subst (λ (k : List Kind). Formed k (m .fields)) kinds (r .well .formed)) in
     payload-made major d h acked f v formed (payload-held v c l) (authority-again d b major h acked f a)
-    ∙ ap (λ (y : Message). record { ok = true; bytes = bytesOf (layoutOf authorityKinds (changed authorityKinds y 6 (some v))) }) (sym same)
+    ∙ ap (λ (y : Message). record { ok = true; bytes = messageBytes (layoutOf authorityKinds (changed authorityKinds y 6 (some v))) }) (sym same)

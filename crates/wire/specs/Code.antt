@@ -11,7 +11,7 @@ use Rattle.octet.specs.Number.{Bytes}
 use Rattle.refusal.specs.Table.{appliesIn}
 use Rattle.wire_shapes.specs.Shapes.{Kind}
 use Rattle.wire_fields.specs.Kinds.{authorityKinds}
-use Rattle.wire_fields.specs.Message.{Message, WellFormed, Reads, layoutOf, bytesOf, cleared}
+use Rattle.wire_fields.specs.Message.{Message, WellFormed, Reads, layoutOf, messageBytes, cleared}
 use Rattle.wire_fields.specs.Refusals.{refusals}
 use Rattle.wire_read.specs.declared.Answer.{Answer}
 use Rattle.wire_read.specs.declared.Answer.the-variants.{Authority}
@@ -44,13 +44,13 @@ ReadRefuses =
 abbrev pub WrittenRead : Type 0
 WrittenRead =
     (ks : List Kind) (m : Message) → WellFormed ks m
-    → messageOf (m .major) (bytesOf (layoutOf ks m)) (answer (bytesOf (layoutOf ks m)) (m .major)) ≡ some m
+    → messageOf (m .major) (messageBytes (layoutOf ks m)) (answer (messageBytes (layoutOf ks m)) (m .major)) ≡ some m
 
 -- and so does what a writer leaves in the output where it gives 0: its first bytes, as many as it says, are the message's
 abbrev pub OutputReads : Type 0
 OutputReads =
     (ks : List Kind) (m : Message) (ok : Bool) (old : List ℕ) (r : Written) (out : List ℕ) → WellFormed ks m
-    → Wrote (record { ok = ok; bytes = bytesOf (layoutOf ks m) }) old r out → r .number ≡ 0
+    → Wrote (record { ok = ok; bytes = messageBytes (layoutOf ks m) }) old r out → r .number ≡ 0
     → messageOf (m .major) (take (r .length) out) (answer (take (r .length) out) (m .major)) ≡ some m
 
 -- and what `write` leaves of any answer that means a well-formed message, wherever its fields stand
@@ -86,4 +86,4 @@ abbrev pub PayloadWritten : Type 0
 PayloadWritten =
     (d : List ℕ) → Bytes d → (major : ℕ) (h : Head) (acked : ℕ) (f : Inside) (m : Message) → answer d major ≡ Authority h acked f
     → messageOf major d (answer d major) ≡ some m → (v : List ℕ) → Bytes v → length v ≤ 1232
-    → withPayload major d h acked f v ≡ record { ok = true; bytes = bytesOf (layoutOf authorityKinds (changed authorityKinds m 6 (some v))) }
+    → withPayload major d h acked f v ≡ record { ok = true; bytes = messageBytes (layoutOf authorityKinds (changed authorityKinds m 6 (some v))) }

@@ -11,7 +11,7 @@ use Rattle.octet.specs.Number.{Bytes}
 use Rattle.wire_shapes.specs.Field.{gap}
 use Rattle.wire_shapes.specs.Shapes.{Kind}
 use Rattle.wire_fields.specs.Kinds.{bufferKinds}
-use Rattle.wire_fields.specs.Message.{Contents, Formed, layoutFrom, bytesOf, cleared, partsOf}
+use Rattle.wire_fields.specs.Message.{Contents, Formed, layoutFrom, messageBytes, cleared, partsOf}
 use Rattle.wire_fields.specs.Reading.{placesAt, valuesOf}
 use Rattle.wire_fields.specs.declared.Part.{Part}
 use Rattle.wire_fields.proofs.SegmentLaws.{agrees-of, of-agrees}
@@ -22,7 +22,7 @@ use Rattle.wire_fields.proofs.WholeLaws.{lengths}
 -- a list of bytes reads as a buffer with these fields
 pub record BufferReads (b : List ℕ) (fs : List Contents) : Type 0 where
   pub formed : Formed bufferKinds fs
-  pub same : cleared (layoutFrom 0 bufferKinds fs) b ≡ bytesOf (layoutFrom 0 bufferKinds fs)
+  pub same : cleared (layoutFrom 0 bufferKinds fs) b ≡ messageBytes (layoutFrom 0 bufferKinds fs)
 
 pub buffer-found : (b : List ℕ) → Bytes b → (ps : List Part) → placesAt bufferKinds b 0 ≡ some ps → BufferReads b (valuesOf bufferKinds b ps)
 buffer-found b h ps e =

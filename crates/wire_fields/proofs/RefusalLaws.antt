@@ -18,7 +18,7 @@ use Rattle.wire_shapes.proofs.ShapeLaws.{number-first, number-in}
 use Rattle.wire_fields.specs.Kinds.{kindsOf, sized, derived, may, present, ackedKind, splitKind, authorityKinds}
 use Rattle.wire_fields.specs.Message.{opening}
 use Rattle.wire_fields.specs.Reading.{spanAt, needAt, needOf, maybeAt, maybeOf, placesAt, valuesOf, valueOf, wholeIn, FourAt, fieldsAs}
-use Rattle.wire_fields.specs.Refusals.{Found, refused, found, foundOf, placesOf, fieldsBy, partBySplit, inPart, foundIn}
+use Rattle.wire_fields.specs.Refusals.{Found, refused, found, foundOf, spansOf, fieldsBy, partBySplit, inPart, foundIn}
 use Rattle.wire_fields.specs.declared.Cursor.{Cursor}
 use Rattle.wire_fields.specs.declared.Span.{Span}
 use Rattle.wire_fields.specs.declared.Span.the-variants.{Whole, Other, Cut}
@@ -57,14 +57,14 @@ not-first true x y z e = e
 not-first false x y z e = refl
 
 six-seven : (p : Bool) (t : ℕ) (o : Option (List Part))
-    → cond (not p && not (present o)) (refused 6) (cond p (refused 7) (found t (placesOf o))) ≡ cond p (refused 7) (foundOf t o)
+    → cond (not p && not (present o)) (refused 6) (cond p (refused 7) (found t (spansOf o))) ≡ cond p (refused 7) (foundOf t o)
 six-seven true t o = refl
 six-seven false t none = refl
 six-seven false t (some ps) = refl
 
 by-type : (d : List ℕ) (t : ℕ) (o : Option (List Kind))
     → cond (not (present o)) (refused 5)
-    (cond (not (inPart t d) && not (present (fieldsBy t d o))) (refused 6) (cond (inPart t d) (refused 7) (found t (placesOf (fieldsBy t d o)))))
+    (cond (not (inPart t d) && not (present (fieldsBy t d o))) (refused 6) (cond (inPart t d) (refused 7) (found t (spansOf (fieldsBy t d o)))))
     ≡ byType t d o
 by-type d t none = refl
 by-type d t (some ks) = six-seven (inPart t d) t (fieldsAs t ks d)

@@ -15,8 +15,8 @@ use mathlib.Core.Bool.{_&&_}
 use mathlib.Core.Bool.{cond}
 use Rattle.wire_shapes.specs.Field.{numberAt, gap}
 use Rattle.wire_shapes.specs.Shapes.{Kind}
-use Rattle.wire_fields.specs.Kinds.{kindsOf, joined, sized}
-use Rattle.wire_fields.specs.Message.{opening, Segment, Contents, Formed, ends, layoutFrom, bytesOf, cleared, Message, headerOf, layoutOf, partsOf, WellFormed, Reads}
+use Rattle.wire_fields.specs.Kinds.{kindsOf, joinedFields, sized}
+use Rattle.wire_fields.specs.Message.{opening, Segment, Contents, Formed, ends, layoutFrom, messageBytes, cleared, Message, headerOf, layoutOf, partsOf, WellFormed, Reads}
 use Rattle.octet.specs.Part.{same}
 use Rattle.octet.proofs.PartLaws.{part-add, part-one, part-two}
 use Rattle.octet.proofs.TestLaws.{same-eq, same-refl, both-true}
@@ -64,16 +64,16 @@ pub record Way (d : List ℕ) (major t : ℕ) (ps : List Part) (ks : List Kind) 
   pub kind : getD d 7 0 ≡ t
   pub kinds : kindsOf t ≡ some ks
   pub places : placesAt ks d 12 ≡ some ps
-  pub joins : joined t (valuesOf ks d ps) ≡ true
+  pub joins : joinedFields t (valuesOf ks d ps) ≡ true
   pub sizes : sized t (length d) ps (valuesOf ks d ps) ≡ true
 
 checked-found : (t₀ t : ℕ) (ks : List Kind) (d : List ℕ) (o : Option (List Part)) (ps : List Part) → foundOf t₀ (checked t₀ ks d o) ≡ found t ps
-    → (t₀ ≡ t) × (o ≡ some ps) × (joined t (valuesOf ks d ps) && sized t (length d) ps (valuesOf ks d ps) ≡ true)
+    → (t₀ ≡ t) × (o ≡ some ps) × (joinedFields t (valuesOf ks d ps) && sized t (length d) ps (valuesOf ks d ps) ≡ true)
 checked-found t₀ t ks d none ps e = absurd (let z : _≡_ {A = ℕ} 0 1 = cc in omega arith)
 checked-found t₀ t ks d (some qs) ps e = by _ refl e
   where
-    by : (b : Bool) → joined t₀ (valuesOf ks d qs) && sized t₀ (length d) qs (valuesOf ks d qs) ≡ b → foundOf t₀ (cond b (some qs) none) ≡ found t ps
-        → (t₀ ≡ t) × (some qs ≡ some ps) × (joined t (valuesOf ks d ps) && sized t (length d) ps (valuesOf ks d ps) ≡ true)
+    by : (b : Bool) → joinedFields t₀ (valuesOf ks d qs) && sized t₀ (length d) qs (valuesOf ks d qs) ≡ b → foundOf t₀ (cond b (some qs) none) ≡ found t ps
+        → (t₀ ≡ t) × (some qs ≡ some ps) × (joinedFields t (valuesOf ks d ps) && sized t (length d) ps (valuesOf ks d ps) ≡ true)
     by true b e =
         let p : t₀ ≡ t = cc in
         let q : qs ≡ ps = cc in
@@ -89,7 +89,7 @@ by-kinds d major t ps b₁ b₂ b₃ (some ks) q e =
     let g = gated-found d (foundOf (getD d 7 0) (checked (getD d 7 0) ks d (placesAt ks d 12))) t ps (getD d 7 0) e in
     let r = checked-found (getD d 7 0) t ks d (placesAt ks d 12) ps g in
     let sizes = both-true (leb 12 (length d)) (leb (length d) 1232) b₁ in
-    let rest = both-true (joined t (valuesOf ks d ps)) (sized t (length d) ps (valuesOf ks d ps)) (r .2) in (
+    let rest = both-true (joinedFields t (valuesOf ks d ps)) (sized t (length d) ps (valuesOf ks d ps)) (r .2) in (
       ks,
       record {
         least = leb-true _ _ (sizes .0);
@@ -126,7 +126,7 @@ found-reads d b major t ps e =
     let a : Agrees (layoutOf ks m) d = (w .least, h, s .1) in
     let c = of-agrees (layoutOf ks m) d a in
     let l = lengths ks law 12 (valuesOf ks d ps) in
-    let n : length (bytesOf (layoutOf ks m)) ≡ length d = sym (ap length c) ∙ cleared-length (layoutOf ks m) (λ x. refl, l) d in
+    let n : length (messageBytes (layoutOf ks m)) ≡ length d = sym (ap length c) ∙ cleared-length (layoutOf ks m) (λ x. refl, l) d in
     let b₅ = b 5 in
     let b₆ = b 6 in
     let b₇ = b 7 in
@@ -174,7 +174,7 @@ reads-found ks d m r =
     let law = lawful (m .type) ks (w .known) in
     let l = lengths ks law 12 (m .fields) in
     let a = agrees-of (layoutOf ks m) (λ x. refl, l) d (r .same) in
-    let n : length (bytesOf (layoutOf ks m)) ≡ length d =
+    let n : length (messageBytes (layoutOf ks m)) ≡ length d =
     sym (ap length (r .same)) ∙ cleared-length (layoutOf ks m) (λ x. refl, l) d in
     let f = w .fits in
     let h : 12 ≤ length d = a .0 in
@@ -222,10 +222,10 @@ abbrev Fixed : List Segment → Type 0
 Fixed [] = Unit {0}
 Fixed (s ∷ ss) = (s .kept (s .bytes) ≡ s .bytes) × Fixed ss
 
-fixed-same : (ss : List Segment) → Fixed ss → cleared ss (bytesOf ss) ≡ bytesOf ss
+fixed-same : (ss : List Segment) → Fixed ss → cleared ss (messageBytes ss) ≡ messageBytes ss
 fixed-same [] h = refl
 fixed-same (s ∷ ss) h =
-    rw (take-append-seam (s .bytes) (bytesOf ss), drop-append-seam (s .bytes) (bytesOf ss), h .0, fixed-same ss (h .1))
+    rw (take-append-seam (s .bytes) (messageBytes ss), drop-append-seam (s .bytes) (messageBytes ss), h .0, fixed-same ss (h .1))
 
 fixed-layout : (ks : List Kind) (i : ℕ) (fs : List Contents) → Formed ks fs → Fixed (layoutFrom i ks fs)
 fixed-layout [] i fs f = tt
@@ -243,10 +243,10 @@ fixed-layout (k ∷ ks) i (some v ∷ fs) f = (
 )
 
 -- what is written reads back as the same message
-pub written-reads : (ks : List Kind) (m : Message) → WellFormed ks m → Reads ks (bytesOf (layoutOf ks m)) m
+pub written-reads : (ks : List Kind) (m : Message) → WellFormed ks m → Reads ks (messageBytes (layoutOf ks m)) m
 written-reads ks m w =
     record { well = w; same = fixed-same (layoutOf ks m) (refl, fixed-layout ks 12 (m .fields) (w .formed)) }
 
 -- what was read, written again, is the datagram with the ignored bits zero
-pub read-written : (ks : List Kind) (d : List ℕ) (m : Message) → Reads ks d m → bytesOf (layoutOf ks m) ≡ cleared (layoutOf ks m) d
+pub read-written : (ks : List Kind) (d : List ℕ) (m : Message) → Reads ks d m → messageBytes (layoutOf ks m) ≡ cleared (layoutOf ks m) d
 read-written ks d m r = sym (r .same)

@@ -124,8 +124,8 @@ abbrev pub oneOf : Bool → Bool → Bool
 oneOf a b = cond a (not b) b
 
 -- what holds between fields: "FLOOD carries either a route entry or a revoke CPA, never both and never neither"
-unfoldable pub joined : ℕ → List (Option (List ℕ)) → Bool
-joined t fs = cond (eqb t 4) (oneOf (present (getD fs 3 none)) (present (getD fs 4 none))) true
+unfoldable pub joinedFields : ℕ → List (Option (List ℕ)) → Bool
+joinedFields t fs = cond (eqb t 4) (oneOf (present (getD fs 3 none)) (present (getD fs 4 none))) true
 
 -- split controls that follow from the rest: the size is the number of bytes after them, of total in all, and the offset is 0
 abbrev pub derived : ℕ → Part → Option (List ℕ) → Bool

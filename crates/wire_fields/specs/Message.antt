@@ -9,7 +9,7 @@ use lib.ListN.{length, take, drop, replicate, getD}
 use Rattle.octet.specs.Number.{Bytes, digitsBE}
 use Rattle.wire_shapes.specs.Field.{gap}
 use Rattle.wire_shapes.specs.Shapes.{Kind, hasShape}
-use Rattle.wire_fields.specs.Kinds.{kindsOf, joined, sized}
+use Rattle.wire_fields.specs.Kinds.{kindsOf, joinedFields, sized}
 use Rattle.wire_fields.specs.declared.Part.{Part}
 use Rattle.wire_fields.specs.declared.Part.the-variants.{Here, Absent}
 
@@ -55,9 +55,9 @@ partsOf i (k ∷ ks) (none ∷ fs) = Absent ∷ partsOf i ks fs
 partsOf i (k ∷ ks) (some v ∷ fs) = Here (i + 4) (length v) ∷ partsOf (ends i k (some v)) ks fs
 
 -- the bytes of a layout, and a datagram with the bits cleared that the layout ignores
-abbrev pub bytesOf : List Segment → List ℕ
-bytesOf [] = []
-bytesOf (s ∷ ss) = s .bytes ++ bytesOf ss
+abbrev pub messageBytes : List Segment → List ℕ
+messageBytes [] = []
+messageBytes (s ∷ ss) = s .bytes ++ messageBytes ss
 
 abbrev pub cleared : List Segment → List ℕ → List ℕ
 cleared [] d = d
@@ -104,14 +104,14 @@ pub record WellFormed (ks : List Kind) (m : Message) : Type 0 where
   pub type-byte : m .type < 256
   pub id-small : m .id < 2 ^ 32
   pub formed : Formed ks (m .fields)
-  pub joins : joined (m .type) (m .fields) ≡ true
-  pub sizes : sized (m .type) (length (bytesOf (layoutOf ks m))) (partsOf 12 ks (m .fields)) (m .fields) ≡ true
-  pub fits : length (bytesOf (layoutOf ks m)) ≤ 1232
+  pub joins : joinedFields (m .type) (m .fields) ≡ true
+  pub sizes : sized (m .type) (length (messageBytes (layoutOf ks m))) (partsOf 12 ks (m .fields)) (m .fields) ≡ true
+  pub fits : length (messageBytes (layoutOf ks m)) ≤ 1232
 
 -- a datagram reads as a message: with the ignored bits zero it is the message's bytes
 pub record Reads (ks : List Kind) (d : List ℕ) (m : Message) : Type 0 where
   pub well : WellFormed ks m
-  pub same : cleared (layoutOf ks m) d ≡ bytesOf (layoutOf ks m)
+  pub same : cleared (layoutOf ks m) d ≡ messageBytes (layoutOf ks m)
 
 abbrev pub typeOf : List ℕ → ℕ
 typeOf d = getD d 7 0

@@ -10,7 +10,7 @@ use lib.Dec.{leb, eqb}
 use Rattle.octet.specs.Part.{part}
 use Rattle.wire_shapes.specs.Field.{numberAt, gap}
 use Rattle.wire_shapes.specs.Shapes.{Kind, hasShape}
-use Rattle.wire_fields.specs.Kinds.{joined, sized, derived}
+use Rattle.wire_fields.specs.Kinds.{joinedFields, sized, derived}
 use Rattle.wire_fields.specs.Message.{Message}
 use Rattle.wire_shapes.specs.declared.Shape.{Shape}
 use Rattle.wire_fields.specs.declared.Span.{Span}
@@ -89,7 +89,7 @@ valuesOf (k ∷ ks) d (p ∷ ps) = valueOf k d p ∷ valuesOf ks d ps
 -- the places of a message's fields, where what holds between them holds
 abbrev pub checked : ℕ → List Kind → List ℕ → Option (List Part) → Option (List Part)
 checked t ks d none = none
-checked t ks d (some ps) = cond (joined t (valuesOf ks d ps) && sized t (length d) ps (valuesOf ks d ps)) (some ps) none
+checked t ks d (some ps) = cond (joinedFields t (valuesOf ks d ps) && sized t (length d) ps (valuesOf ks d ps)) (some ps) none
 
 unfoldable pub fieldsAs : ℕ → List Kind → List ℕ → Option (List Part)
 fieldsAs t ks d = checked t ks d (placesAt ks d 12)

@@ -29,9 +29,9 @@ abbrev pub foundOf : ℕ → Option (List Part) → Found
 foundOf t none = refused 6
 foundOf t (some ps) = found t ps
 
-abbrev pub placesOf : Option (List Part) → List Part
-placesOf none = []
-placesOf (some ps) = ps
+abbrev pub spansOf : Option (List Part) → List Part
+spansOf none = []
+spansOf (some ps) = ps
 
 -- the places of all fields of the datagram's type, where each is right
 abbrev pub fieldsBy : ℕ → List ℕ → Option (List Kind) → Option (List Part)
@@ -65,4 +65,4 @@ refusals d major =
     ∷ []
 
 unfoldable pub foundIn : List ℕ → ℕ → Found
-foundIn d major = orRefuse refused (refusals d major) (found (typeOf d) (placesOf (fieldsIn d)))
+foundIn d major = orRefuse refused (refusals d major) (found (typeOf d) (spansOf (fieldsIn d)))

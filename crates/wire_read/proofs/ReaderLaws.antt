@@ -12,7 +12,7 @@ use mathlib.Core.Option.{Option, some, none}
 use mathlib.Core.Path.{_≡_, refl, sym, ap, _∙_}
 use Rattle.wire_shapes.specs.Field.{numberAt}
 use Rattle.wire_shapes.specs.Shapes.{Kind}
-use Rattle.wire_fields.specs.Kinds.{kindsOf, must, present, joined, sized, keepLookup, ackedKind, splitKind, bufferKinds, authorityKinds, lookupKinds}
+use Rattle.wire_fields.specs.Kinds.{kindsOf, must, present, joinedFields, sized, keepLookup, ackedKind, splitKind, bufferKinds, authorityKinds, lookupKinds}
 use Rattle.wire_fields.specs.Message.{opening}
 use Rattle.wire_fields.specs.Reading.{needAt, before as ahead, placesAt, valueOf, checked, wholeIn, fieldsAs}
 use Rattle.wire_fields.specs.Refusals.{Found, refused, found, foundOf, foundIn, inPart}
@@ -45,12 +45,12 @@ buffer-some d (some qs) f e = (qs, refl, cc)
 module _ (ks : List Kind) (d : List ℕ) (s l s₂ l₂ : ℕ) (c c₂ : Cursor) (q : needAt d 12 0x18 false (Sized 4) ≡ Field s l c)
     (q₂ : needAt d (c .at) 0x98 false Split ≡ Field s₂ l₂ c₂) (w : wholeIn d (Here s₂ l₂) ≡ true) where
   authority-not : placesAt ks d (c₂ .at) ≡ none → gated 8 d (foundOf 8 (fieldsAs 8 (ackedKind ∷ splitKind ∷ ks) d)) ≡ refused 6
-  unfolding inPart fieldsAs placesAt joined sized wholeIn
+  unfolding inPart fieldsAs placesAt joinedFields sized wholeIn
   authority-not e = rw (q, q₂, w, e)
 
   authority-in : (qs : List Part) → placesAt ks d (c₂ .at) ≡ some qs
       → gated 8 d (foundOf 8 (fieldsAs 8 (ackedKind ∷ splitKind ∷ ks) d)) ≡ found 8 (Here s l ∷ Here s₂ l₂ ∷ qs)
-  unfolding inPart fieldsAs placesAt joined sized wholeIn
+  unfolding inPart fieldsAs placesAt joinedFields sized wholeIn
   authority-in qs e = rw (q, q₂, w, e, w)
 
 module _ (d : List ℕ) (s l s₂ l₂ : ℕ) (c c₂ : Cursor) (q : needAt d 12 0x18 false (Sized 4) ≡ Field s l c)
@@ -74,7 +74,7 @@ controlsKind = record { number = 0x45; optional = false; padded = false; shape =
 module _ (d : List ℕ) (s₁ l₁ s₂ l₂ s₃ l₃ : ℕ) (c₁ c₂ c₃ : Cursor) where
   behind : (o : Option (List Part))
       → shown d (foundOf 11 (checked 11 lookupKinds d (ahead (Here s₁ l₁) (ahead (Here s₂ l₂) (ahead (Here s₃ l₃) o))))) ≡ lookupBehind d s₁ s₂ s₃ o
-  unfolding shown joined sized
+  unfolding shown joinedFields sized
   behind none = refl
   behind (some ps) = refl
 

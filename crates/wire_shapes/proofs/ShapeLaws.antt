@@ -1,11 +1,12 @@
 -- Laws of the contents of a field: their bytes are the datagram's, and so what the shape tests say of them. In this order: a number in a part;
 -- route entry, LOOKUP's controls, split controls, arrays. Assumes nothing.
-use Prim.Native.Nat.{ℕ, _+_, _*_, _%_, _≤_, _<_}
+use Prim.Native.Nat.{ℕ, zero, suc, _+_, _*_, _%_, _≤_, _<_}
 use native.Mathlib.Omega.{arith}
 use mathlib.Core.List.{List}
 use mathlib.Core.Bool.{Bool, true, false, _&&_}
-use mathlib.Core.Path.{_≡_, refl, ap, _∙_}
+use mathlib.Core.Path.{_≡_, refl, sym, ap, _∙_}
 use lib.Dec.{leb, eqb}
+use native.Mathlib.Decide.{decLt}
 use lib.ListN.{length, getD, List·getD-eq-default}
 use borrow.Author.Tests.{le-leb, lt-leb, eq-eqb, ne-eqb}
 use Rattle.octet.specs.Part.{part}
@@ -41,6 +42,25 @@ module _ (d : List ℕ) (s l : ℕ) (h : s + l ≤ length d) where
       ≡ leb 1 (getD d (s + 37) 0) && leb (getD d (s + 37) 0) 4 && eqb l (38 + 16 * getD d (s + 37) 0)
   unfolding entryForm
   entry-in m = rw (length-part s l d h, part-at s l 37 d (omega arith))
+
+  -- an entry has an address, and so 54 bytes at least; with so many the count need not be asked whether it is 0
+  count-few : (c : ℕ) → l < 54 → leb 1 c && leb c 4 && eqb l (38 + 16 * c) ≡ false
+  count-few zero m = refl
+  count-few (suc c) m = rw (ne-eqb l (38 + 16 * suc c) (λ e. omega (arith, e))) (and-false (leb 1 (suc c) && leb (suc c) 4))
+
+  count-many : (c : ℕ) → 54 ≤ l → c ≤ 4 → leb 1 c && leb c 4 && eqb l (38 + 16 * c) ≡ eqb l (38 + 16 * c)
+  count-many zero m k = sym (ne-eqb l (38 + 16 * 0) (λ e. omega (arith, e)))
+  count-many (suc c) m k = rw (le-leb 1 (suc c) (omega arith), le-leb (suc c) 4 k) refl
+
+  pub entry-few : l < 54 → entryForm (part s l d) ≡ false
+  entry-few m = go (decLt l 38)
+    where
+      go : Dec (l < 38) → entryForm (part s l d) ≡ false
+      go (yes k) = entry-short k
+      go (no k) = entry-in (omega (arith, k)) ∙ count-few (getD d (s + 37) 0) m
+
+  pub entry-many : 54 ≤ l → getD d (s + 37) 0 ≤ 4 → entryForm (part s l d) ≡ eqb l (38 + 16 * getD d (s + 37) 0)
+  entry-many m k = entry-in (omega arith) ∙ count-many (getD d (s + 37) 0) m k
 
   pub lookup-other : (l ≡ 8 → ⊥) → lookupForm (part s l d) ≡ false
   unfolding lookupForm

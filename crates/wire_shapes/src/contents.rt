@@ -36,18 +36,15 @@ fn wide(n: u8) -> usize
     n as usize
 }
 
-// A route entry of 1 to 4 addresses.
+// A route entry of 1 to 4 addresses: one has 54 bytes.
 pub fn is_entry(d: &[u8], start: usize, len: usize) -> bool
     requires { ⌜ start + len ≤ length (now d) ⌝ }
     ensures { λ r. ⌜ r ≡ entryForm (part start len (now (d .entry))) ⌝ }
 {
-    if len < 38 {
+    if len < 54 {
         return false;
     }
     let count = wide(d[start + 37]);
-    if count < 1 {
-        return false;
-    }
     if 4 < count {
         return false;
     }

@@ -12,7 +12,7 @@ ghost use Prim.Native.Nat.{_+_, _<_, _≤_, min};
 ghost use lib.Dec.{leb};
 ghost use lib.ListN.{length};
 ghost use Rattle.octet.specs.Part.{splice};
-ghost use Rattle.wire_fields.specs.Message.{layoutFrom, bytesOf};
+ghost use Rattle.wire_fields.specs.Message.{layoutFrom, messageBytes};
 ghost use Rattle.wire_write.specs.Writing.{Wrote, fit};
 ghost use Rattle.wire_write.specs.Pieces.{lentOf, pastOf, AllIn, givensOf, contentsOf, kindsOfRows, endRows, madeBy};
 
@@ -74,7 +74,7 @@ fn put_pieces(
     requires { ⌜ AllIn (lentOf (now spelled) (now first) (now second)) ps ⌝ }
     requires { ⌜ endRows 12 rows ps ≤ length (now out) ⌝ }
     requires { ⌜ endRows 12 rows ps < 65536 ⌝ }
-    ensures { λ _. ⌜ now (out .exit) ≡ splice 12 (bytesOf (layoutFrom 12 (kindsOfRows rows)
+    ensures { λ _. ⌜ now (out .exit) ≡ splice 12 (messageBytes (layoutFrom 12 (kindsOfRows rows)
         (contentsOf (givensOf (lentOf (now (spelled .entry)) (now (first .entry)) (now (second .entry))) ps)))) (now (out .entry)) ⌝ }
 {
     let mut i = 0;

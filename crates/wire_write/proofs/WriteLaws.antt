@@ -16,12 +16,12 @@ use Rattle.octet.proofs.PartLaws.{splice-nil}
 use Rattle.octet.proofs.TestLaws.{both-true}
 use Rattle.wire_shapes.specs.Field.{gap}
 use Rattle.wire_shapes.specs.Shapes.{Kind}
-use Rattle.wire_fields.specs.Message.{Contents, ends, layoutFrom, bytesOf, headerOf, layoutOf}
+use Rattle.wire_fields.specs.Message.{Contents, ends, layoutFrom, messageBytes, headerOf, layoutOf}
 use Rattle.wire_shapes.proofs.ShapeLaws.{and-false}
 use Rattle.wire_fields.proofs.WholeLaws.{length-header}
 use Rattle.wire_read.specs.Meaning.{held}
 use Rattle.wire_write.specs.Writing.{Made, fit, writeAs, writeIn, Wrote}
-use Rattle.wire_write.specs.Pieces.{fieldBytes, partBytes, pastOf, Given, contentsOf, messageOf}
+use Rattle.wire_write.specs.Pieces.{fieldBytes, partBytes, pastOf, Given, contentsOf, messagePieces}
 use Rattle.wire_write.proofs.PutLaws.{put-put, put-length, head-length}
 
 pub past-is : (i : ℕ) (k : Kind) (t : Bool) (v : List ℕ) → ends i k (held t v) ≡ pastOf i t (k .padded) (length v)
@@ -30,8 +30,8 @@ past-is i k true v = refl
 past-is i k false v = refl
 
 part-is : (i : ℕ) (k : Kind) (t : Bool) (v : List ℕ) (ks : List Kind) (fs : List Contents)
-    → bytesOf (layoutFrom i (k ∷ ks) (held t v ∷ fs))
-    ≡ partBytes i t (k .number) (k .padded) v ++ bytesOf (layoutFrom (pastOf i t (k .padded) (length v)) ks fs)
+    → messageBytes (layoutFrom i (k ∷ ks) (held t v ∷ fs))
+    ≡ partBytes i t (k .number) (k .padded) v ++ messageBytes (layoutFrom (pastOf i t (k .padded) (length v)) ks fs)
 unfolding partBytes pastOf fieldBytes
 part-is i k true v ks fs = simp append-assoc
 part-is i k false v ks fs = refl
@@ -49,7 +49,7 @@ part-length i false n p v = omega arith
 
 -- where the fields end
 abbrev pub finish : ℕ → List Kind → List Contents → ℕ
-finish i ks fs = i + length (bytesOf (layoutFrom i ks fs))
+finish i ks fs = i + length (messageBytes (layoutFrom i ks fs))
 
 -- the same by the fields handed in, and the output after all of them
 abbrev pub endAll : ℕ → List Kind → List Given → ℕ
@@ -69,7 +69,7 @@ finish-all [] i gs = omega arith
 finish-all (k ∷ ks) i [] = omega arith
 finish-all (k ∷ ks) i (g ∷ gs) =
     let j = pastOf i (g .there) (k .padded) (length (g .bytes)) in
-    let r = bytesOf (layoutFrom j ks (contentsOf gs)) in
+    let r = messageBytes (layoutFrom j ks (contentsOf gs)) in
     let e₁ = ap length (part-is i k (g .there) (g .bytes) ks (contentsOf gs)) in
     let e₂ = length-append (partBytes i (g .there) (k .number) (k .padded) (g .bytes)) r in
     let e₃ = part-length i (g .there) (k .number) (k .padded) (g .bytes) in
@@ -80,13 +80,13 @@ pub end-least : (ks : List Kind) (i : ℕ) (gs : List Given) → i ≤ endAll i 
 end-least ks i gs = let e = finish-all ks i gs in omega arith
 
 pub put-all : (ks : List Kind) (o : List ℕ) (i : ℕ) (gs : List Given) → endAll i ks gs ≤ length o
-    → putAll o i ks gs ≡ splice i (bytesOf (layoutFrom i ks (contentsOf gs))) o
+    → putAll o i ks gs ≡ splice i (messageBytes (layoutFrom i ks (contentsOf gs))) o
 put-all [] o i gs h = sym (splice-nil i o)
 put-all (k ∷ ks) o i [] h = sym (splice-nil i o)
 put-all (k ∷ ks) o i (g ∷ gs) h =
     let j = pastOf i (g .there) (k .padded) (length (g .bytes)) in
     let b = partBytes i (g .there) (k .number) (k .padded) (g .bytes) in
-    let r = bytesOf (layoutFrom j ks (contentsOf gs)) in
+    let r = messageBytes (layoutFrom j ks (contentsOf gs)) in
     let e = part-length i (g .there) (k .number) (k .padded) (g .bytes) in
     let f = finish-all ks j gs in
     let l = put-length o i b (omega arith) in
@@ -131,45 +131,45 @@ module _ (m : Made) (old : List ℕ) where
 
 -- a message of fields handed in
 module _ (ks : List Kind) (major minor type id : ℕ) (gs : List Given) (old : List ℕ) where
-  whole-size : length (bytesOf (layoutOf ks (messageOf major minor type id gs))) ≡ endAll 12 ks gs
+  whole-size : length (messageBytes (layoutOf ks (messagePieces major minor type id gs))) ≡ endAll 12 ks gs
   whole-size =
-      let m = messageOf major minor type id gs in
-      length-append (headerOf m) (bytesOf (layoutFrom 12 ks (contentsOf gs))) ∙ omega (arith, length-header m, finish-all ks 12 gs)
+      let m = messagePieces major minor type id gs in
+      length-append (headerOf m) (messageBytes (layoutFrom 12 ks (contentsOf gs))) ∙ omega (arith, length-header m, finish-all ks 12 gs)
 
   -- room for as many bytes as were counted, up to 1233, is room for the message
   pub room-is : (n : ℕ) → n ≡ min 1233 (endAll 12 ks gs)
-      → (leb n (length old) && leb n 1232) ≡ fit (bytesOf (layoutOf ks (messageOf major minor type id gs))) old
+      → (leb n (length old) && leb n 1232) ≡ fit (messageBytes (layoutOf ks (messagePieces major minor type id gs))) old
   unfolding fit
   room-is n e = go (decLe (endAll 12 ks gs) 1232)
     where
       go : Dec (endAll 12 ks gs ≤ 1232) → (leb n (length old) && leb n 1232)
-          ≡ (leb (length (bytesOf (layoutOf ks (messageOf major minor type id gs)))) (length old)
-          && leb (length (bytesOf (layoutOf ks (messageOf major minor type id gs)))) 1232)
+          ≡ (leb (length (messageBytes (layoutOf ks (messagePieces major minor type id gs)))) (length old)
+          && leb (length (messageBytes (layoutOf ks (messagePieces major minor type id gs)))) 1232)
       go (yes h) = ap (λ (x : ℕ). leb x (length old) && leb x 1232) (omega (arith, whole-size))
       go (no h) =
           rw (whole-size, lt-leb (endAll 12 ks gs) 1232 (omega arith), lt-leb n 1232 (omega arith))
           (and-false (leb n (length old)) ∙ sym (and-false (leb (endAll 12 ks gs) (length old))))
 
-  module _ (f : fit (bytesOf (layoutOf ks (messageOf major minor type id gs))) old ≡ true) where
+  module _ (f : fit (messageBytes (layoutOf ks (messagePieces major minor type id gs))) old ≡ true) where
     -- the fields end within the output and within a datagram
     pub ends-within : (endAll 12 ks gs ≤ length old) × (endAll 12 ks gs ≤ 1232)
     unfolding fit
     ends-within =
-        let n = length (bytesOf (layoutOf ks (messageOf major minor type id gs))) in
+        let n = length (messageBytes (layoutOf ks (messagePieces major minor type id gs))) in
         let b = both-true (leb n (length old)) (leb n 1232) f in
         let x = leb-true n (length old) (b .0) in
         let y = leb-true n 1232 (b .1) in
         (omega (arith, whole-size), omega (arith, whole-size))
 
-    pub exact-end : (n : ℕ) → n ≡ min 1233 (endAll 12 ks gs) → n ≡ length (bytesOf (layoutOf ks (messageOf major minor type id gs)))
+    pub exact-end : (n : ℕ) → n ≡ min 1233 (endAll 12 ks gs) → n ≡ length (messageBytes (layoutOf ks (messagePieces major minor type id gs)))
     exact-end n e = omega (arith, whole-size, ends-within .1)
 
-    pub whole-put : splice 12 (bytesOf (layoutFrom 12 ks (contentsOf gs))) (splice 0 (headerOf (messageOf major minor type id gs)) old)
-        ≡ splice 0 (bytesOf (layoutOf ks (messageOf major minor type id gs))) old
+    pub whole-put : splice 12 (messageBytes (layoutFrom 12 ks (contentsOf gs))) (splice 0 (headerOf (messagePieces major minor type id gs)) old)
+        ≡ splice 0 (messageBytes (layoutOf ks (messagePieces major minor type id gs))) old
     whole-put =
-        let header = headerOf (messageOf major minor type id gs) in
-        let r = bytesOf (layoutFrom 12 ks (contentsOf gs)) in
-        let lh = length-header (messageOf major minor type id gs) in
+        let header = headerOf (messagePieces major minor type id gs) in
+        let r = messageBytes (layoutFrom 12 ks (contentsOf gs)) in
+        let lh = length-header (messagePieces major minor type id gs) in
         let e = finish-all ks 12 gs in
         let w = ends-within .0 in
         put-put old 0 header (omega arith) 12 r (omega arith) (omega arith)

@@ -9,7 +9,7 @@ use Rattle.octet.specs.Part.{part}
 use Rattle.record.specs.Record.{recordForm}
 use Rattle.wire_shapes.specs.Shapes.{Kind}
 use Rattle.wire_fields.specs.Kinds.{floodKinds, inquireKinds, authorityKinds, ackKinds}
-use Rattle.wire_fields.specs.Message.{Message, bytesOf, layoutOf}
+use Rattle.wire_fields.specs.Message.{Message, messageBytes, layoutOf}
 use Rattle.wire_write.specs.Writing.{Made}
 use Rattle.wire_write.specs.Sent.{ackSent, floodSent, inquireSent, cpaSent, closestSent}
 
@@ -18,7 +18,7 @@ abbrev pub formedAt : ℕ → List ℕ → Bool
 formedAt at s = leb (at + 100) (length s) && recordForm (part at 100 s)
 
 abbrev pub madeAs : Bool → List Kind → Message → Made
-madeAs ok ks m = record { ok = ok; bytes = bytesOf (layoutOf ks m) }
+madeAs ok ks m = record { ok = ok; bytes = messageBytes (layoutOf ks m) }
 
 unfoldable pub ackMade : ℕ → ℕ → ℕ → ℕ → Bool → Made
 ackMade major minor id acked n = madeAs true ackKinds (ackSent major minor id acked n)

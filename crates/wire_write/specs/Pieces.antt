@@ -10,7 +10,7 @@ use Rattle.octet.specs.Number.{digitsBE}
 use Rattle.octet.specs.Part.{part}
 use Rattle.wire_shapes.specs.Field.{gap}
 use Rattle.wire_shapes.specs.Shapes.{Kind, hasShape}
-use Rattle.wire_fields.specs.Message.{Contents, Message, bytesOf, layoutOf}
+use Rattle.wire_fields.specs.Message.{Contents, Message, messageBytes, layoutOf}
 use Rattle.wire_read.specs.Meaning.{held}
 use Rattle.wire_write.specs.Writing.{Made}
 use Rattle.wire_write.specs.declared.Row.{Row}
@@ -43,8 +43,8 @@ contentsOf [] = []
 contentsOf (g ∷ gs) = held (g .there) (g .bytes) ∷ contentsOf gs
 
 -- a message of fields handed in
-abbrev pub messageOf : ℕ → ℕ → ℕ → ℕ → List Given → Message
-messageOf major minor type id gs =
+abbrev pub messagePieces : ℕ → ℕ → ℕ → ℕ → List Given → Message
+messagePieces major minor type id gs =
     record { major = major; minor = minor; type = type; id = id; fields = contentsOf gs }
 
 -- what pieces are taken from: the bytes that the writer spells out and two lent slices
@@ -107,5 +107,5 @@ unfoldable pub madeBy : ℕ → ℕ → ℕ → ℕ → Lent → List Row → Li
 madeBy major minor type id l rows ps =
     record {
       ok = rowsOk l rows ps;
-      bytes = bytesOf (layoutOf (kindsOfRows rows) (messageOf major minor type id (givensOf l ps)));
+      bytes = messageBytes (layoutOf (kindsOfRows rows) (messagePieces major minor type id (givensOf l ps)));
     }

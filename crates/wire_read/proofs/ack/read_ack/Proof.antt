@@ -3,7 +3,7 @@ use borrow.Author.Tests.{eq-eqb, ne-eqb}
 use native.Mathlib.Omega.{arith}
 use denote.Ref.{now}
 use mathlib.Core.Path.{sym, _∙_}
-use Rattle.wire_fields.specs.Kinds.{joined, sized}
+use Rattle.wire_fields.specs.Kinds.{joinedFields, sized}
 use Rattle.wire_fields.specs.Reading.{placesAt, fieldsAs}
 use Rattle.wire_shapes.specs.declared.Shape.the-variants.{Sized}
 use Rattle.wire_fields.proofs.RefusalLaws.{need-four, sized-four}
@@ -22,7 +22,7 @@ enum-told : tie.Need-enum-told
 enum-told c = search needs
 
 returns : tie.Need-returns
-unfolding shown fieldsAs joined sized placesAt
+unfolding shown fieldsAs joinedFields sized placesAt
 returns c =
     rw (sym (c .before .before .fixed .ensures) ∙ c .enum-told .given .1)
 
@@ -36,7 +36,7 @@ enum-told-2 : tie.Need-enum-told-2
 enum-told-2 c = search needs
 
 returns-2 : tie.Need-returns-2
-unfolding shown fieldsAs joined sized placesAt
+unfolding shown fieldsAs joinedFields sized placesAt
 returns-2 c =
     rw (
       sym (c .before .before .before .before .before .before .fixed .ensures) ∙ c .before .before .before .before .acked .given .1,
@@ -44,7 +44,7 @@ returns-2 c =
     )
 
 returns-3 : tie.Need-returns-3
-unfolding shown fieldsAs joined sized placesAt
+unfolding shown fieldsAs joinedFields sized placesAt
 returns-3 c =
     let flags = c .before .before .before in
     let acked = flags .before .before .before .before in
@@ -71,7 +71,7 @@ flag-in-requires : tie.Need-flag-in-requires
 flag-in-requires c κs = search needs
 
 returns-4 : tie.Need-returns-4
-unfolding shown fieldsAs joined sized placesAt
+unfolding shown fieldsAs joinedFields sized placesAt
 returns-4 c =
     let flags = c .before .before .before .before .before .before .before in
     let acked = flags .before .before .before .before in

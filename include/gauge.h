@@ -119,7 +119,7 @@ extern "C" {
 #define GAUGE_TICK_LEN 64         /* what gauge_tick asks for, always */
 #define GAUGE_LIST_LEN 320        /* what gauge_neighbours asks for, always */
 #define GAUGE_CARRY_LEN 20        /* what a reading adds to an AUTHORITY that has no payload, whatever its kind */
-#define GAUGE_STACK_MOST 4096     /* no call takes more stack than this */
+#define GAUGE_STACK_MOST 2048     /* no call takes more stack than this */
 
 /* A record, by place: key (32), port (2, most significant byte first), how many addresses (1, from 1 to 4), a zero
  * byte, four addresses of 16 bytes as they stand on the wire. Those not used are zero. */

@@ -27,11 +27,11 @@ datagramOf (lists l) = []
 abbrev pub hearsType : ℕ → Call → Bool
 hearsType t c = eqb (getD (datagramOf c) 7 0) t
 
-abbrev pub tickCall : Call → Bool
-tickCall (receives l) = false
-tickCall (sends l) = false
-tickCall (ticks l) = true
-tickCall (lists l) = false
+abbrev pub isOneTick : Call → Bool
+isOneTick (receives l) = false
+isOneTick (sends l) = false
+isOneTick (ticks l) = true
+isOneTick (lists l) = false
 
 -- the same datagram, as another gauge would hear it: with another own record
 abbrev pub heardBy : List ℕ → Call → Call
@@ -146,16 +146,16 @@ resetsTries m c = let h = ours m c in cond (hearsType 4 c) (handed (h .answer) (
 
 -- a tick takes no try, and one that frees all places
 unfoldable pub keepsTries : Gauge
-keepsTries m c = let h = ours m c in cond (tickCall c) (handed (h .answer) m (h .output)) h
+keepsTries m c = let h = ours m c in cond (isOneTick c) (handed (h .answer) m (h .output)) h
 
 unfoldable pub freesAll : Gauge
-freesAll m c = let h = ours m c in cond (tickCall c) (handed (h .answer) (withWaiting (replicate 2240 0) m) (h .output)) h
+freesAll m c = let h = ours m c in cond (isOneTick c) (handed (h .answer) (withWaiting (replicate 2240 0) m) (h .output)) h
 
 -- ---- which number
 
 -- 15 is given one byte too early
 unfoldable pub wantsMore : Gauge
-wantsMore m c = cond (tickCall c && eqb (length (outputOf c)) 64) (handed (answer 15 0 0) m (outputOf c)) (ours m c)
+wantsMore m c = cond (isOneTick c && eqb (length (outputOf c)) 64) (handed (answer 15 0 0) m (outputOf c)) (ours m c)
 
 -- ---- each is shut out
 

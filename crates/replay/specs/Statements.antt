@@ -8,8 +8,8 @@ use Rattle.night.specs.Replay.{line, replay}
 use Rattle.replay.specs.Text.{textsOf}
 use Rattle.replay.specs.Stream.{opened, fedAll, closed}
 
-abbrev pub textOf : List ℕ → List ℕ
-textOf trace = textsOf (replay trace .lines)
+abbrev pub replayText : List ℕ → List ℕ
+replayText trace = textsOf (replay trace .lines)
 
 -- fed any pieces, and closed: the text and the night are those of the pieces joined
 abbrev pub Streams : Type 0
@@ -17,7 +17,7 @@ Streams =
     (pieces : List (List ℕ))
     → (let f = fedAll opened pieces in
     let c = closed (f .left) in
-    (f .text ++ c .text ≡ textOf (joined pieces)) × (c .night ≡ replay (joined pieces) .night))
+    (f .text ++ c .text ≡ replayText (joined pieces)) × (c .night ≡ replay (joined pieces) .night))
 
 abbrev pub Example : Type 0
 Example = (textsOf (line 1 0 ∷ []) ≡ 49 ∷ 32 ∷ 48 ∷ 10 ∷ []) × (textsOf (line 0 17 ∷ []) ≡ 48 ∷ 32 ∷ 49 ∷ 55 ∷ 10 ∷ [])

@@ -7,17 +7,11 @@ use readings::Reading;
 use readings::Unpacked;
 
 // The column of names is there where some bytes of names are.
-pub(crate) fn say_heading(line: &mut [u8], named: usize) {
-    let end = text::put(
-        line,
-        0,
-        b"Reading  Depth, m      Litres in  Litres out      Balance",
-    );
+pub(crate) fn say_heading(named: usize) {
     if named == 0 {
-        return text::say(line, end);
+        return text::tell(b"Reading  Depth, m      Litres in  Litres out      Balance\n");
     }
-    let a = names::put(line, end, b"Pond");
-    text::say(line, a)
+    text::tell(b"Reading  Depth, m      Litres in  Litres out      Balance           Pond\n")
 }
 
 // A depth in metres, or a fault with its number, in a column.
@@ -30,10 +24,7 @@ fn put_measured(line: &mut [u8], at: usize, measured: Measured) -> usize {
 fn put_cell(cell: &mut [u8], measured: Measured) -> usize {
     match measured {
         Measured::Depth(depth) => depth::put(cell, 0, readings::bits_of(depth)),
-        Measured::Fault(fault) => {
-            let a = text::put(cell, 0, b"fault ");
-            text::number(cell, a, fault as u64)
-        }
+        Measured::Fault(fault) => text::put_number(cell, 0, b"fault ", fault as u64),
     }
 }
 
@@ -45,20 +36,15 @@ fn put_reading(line: &mut [u8], at: usize, reading: Reading) -> usize {
     balance::put(line, c, reading.inflow, reading.outflow, 13)
 }
 
-// What the numbers of document 02, request 7, mean for a reading that is not taken.
-fn put_meaning(line: &mut [u8], at: usize, number: u32) -> usize {
-    match number {
-        1 => text::put(line, at, b"of wrong length, or cut short"),
-        2 => text::put(line, at, b"of an unknown kind"),
-        _ => text::put(line, at, b"its depth is not from 0 to 20 metres"),
-    }
-}
-
-// A number, and what it means.
-pub(crate) fn put_refusal(line: &mut [u8], at: usize, number: u32) -> usize {
-    let a = text::number(line, at, number as u64);
-    let b = text::put(line, a, b" ");
-    put_meaning(line, b, number)
+// A word, a number, and what those of document 02, request 7, mean for a reading that is not taken.
+pub(crate) fn put_refusal(line: &mut [u8], at: usize, word: &[u8], number: u32) -> usize {
+    let a = text::put_number(line, at, word, number as u64);
+    text::put_row(
+        line,
+        a,
+        b"\n of wrong length, or cut short\n of an unknown kind\n its depth is not from 0 to 20 metres",
+        number as u64,
+    )
 }
 
 // Its number among the readings, in a column.
@@ -79,17 +65,15 @@ fn put_unseen(line: &mut [u8], at: usize, unseen: u64) -> usize {
     if unseen == 0 {
         return at;
     }
-    let a = text::put(line, at, b"; bytes not looked at: ");
-    text::number(line, a, unseen)
+    text::put_number(line, at, b"; bytes not looked at: ", unseen)
 }
 
 fn say_refused(line: &mut [u8], name: &[u8], at: u64, number: u32, unseen: u64) {
     let a = put_place(line, at);
-    let b = text::put(line, a, b"refused: ");
-    let c = put_refusal(line, b, number);
-    let d = put_unseen(line, c, unseen);
-    let e = names::put(line, d, name);
-    text::say(line, e);
+    let b = put_refusal(line, a, b"refused: ", number);
+    let c = put_unseen(line, b, unseen);
+    let d = names::put(line, c, name);
+    text::say(line, d);
 }
 
 // What was found at a place, counted from 1, the name of that pond, and how many bytes were not looked at.

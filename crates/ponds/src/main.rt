@@ -65,7 +65,7 @@ fn main() {
     let mut room = [0u8; input::READING];
     let mut names = [0u8; NAMES];
     let len = io::read_full(3, &mut names);
-    line::say_heading(&mut line, len);
+    line::say_heading(len);
     let sums = each(&mut line, text::part(&names, 0, len), &mut room);
     sums::say_sums(&mut line, sums);
 }

@@ -96,9 +96,8 @@ fn say_refusal(line: &mut [u8], number: u32, n: u64) {
         return;
     }
     let a = text::column(line, 0, n, LABEL + SUM);
-    let b = text::put(line, a, b"  ");
-    let c = line::put_refusal(line, b, number);
-    text::say(line, c);
+    let b = line::put_refusal(line, a, b"  ", number);
+    text::say(line, b);
 }
 
 fn say_refusals(line: &mut [u8], sums: Sums) {

@@ -7,12 +7,9 @@ use shown_words::words;
 // The columns that what it was has in a line.
 const COLUMNS: usize = 68;
 
-// A FLOOD that was refused was not sent.
+// A FLOOD that was refused, with any other number than 0, was not sent.
 fn put_verb(line: &mut [u8], at: usize, answer: u32) -> usize {
-    if answer == 0 {
-        return text::put(line, at, b"sent FLOOD ");
-    }
-    text::put(line, at, b"not sent: FLOOD ")
+    text::put_row(line, at, b"sent FLOOD \nnot sent: FLOOD ", answer as u64)
 }
 
 // A record of a FLOOD to send: message ID, neighbour's key, record's key.

@@ -83,27 +83,6 @@ fn one(
     )
 }
 
-// The records, one after the other, up to the end or the first bad one. Answers how many were good. A proved loop has
-// to end, and nothing says that the input does; no input has so many records as this one can count.
-fn each(
-    line: &mut [u8],
-    names: &[u8],
-    room: &mut [u8],
-    opening: &mut [u8],
-    cache: &mut [u8],
-    waiting: &mut [u8],
-    counts: &mut [u64; 26],
-) -> u64 {
-    let mut at = 0u64;
-    while at < u64::MAX {
-        if !one(line, names, at, room, opening, cache, waiting, counts) {
-            return at;
-        }
-        at += 1;
-    }
-    at
-}
-
 // The last line, where the night is not whole, or no call of it was taken: the launcher's status goes by it.
 fn say_last(counts: &[u64; 26]) {
     if totals::is_stopped(counts) {
@@ -141,6 +120,8 @@ fn say_end(
     say_last(counts)
 }
 
+// The records, one after the other, up to the end or the first bad one, and what is behind them; `at` have been good. A proved loop has
+// to end, and nothing says that the input does; no input has so many records as this one can count.
 fn main() {
     let mut line = [0u8; LINE];
     let mut names = [0u8; NAMES];
@@ -150,22 +131,29 @@ fn main() {
     let mut waiting = [0u8; night::WAITING];
     let mut counts = [0u64; 26];
     let len = io::read_full(3, &mut names);
-    let good = each(
-        &mut line,
-        text::part(&names, 0, len),
-        &mut room,
-        &mut opening,
-        &mut cache,
-        &mut waiting,
-        &mut counts,
-    );
-    say_end(
-        &mut line,
-        text::part(&names, 0, len),
-        good,
-        &opening,
-        &cache,
-        &waiting,
-        &counts,
-    );
+    let mut at = 0u64;
+    while at < u64::MAX {
+        let more = one(
+            &mut line,
+            text::part(&names, 0, len),
+            at,
+            &mut room,
+            &mut opening,
+            &mut cache,
+            &mut waiting,
+            &mut counts,
+        );
+        if !more {
+            return say_end(
+                &mut line,
+                text::part(&names, 0, len),
+                at,
+                &opening,
+                &cache,
+                &waiting,
+                &counts,
+            );
+        }
+        at += 1;
+    }
 }

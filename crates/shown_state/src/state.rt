@@ -7,10 +7,9 @@ fn wide(x: u8) -> u64 {
 }
 
 fn say_count(line: &mut [u8], what: &[u8], count: u64, of: &[u8]) {
-    let a = text::put(line, 0, what);
-    let b = text::number(line, a, count);
-    let c = text::put(line, b, of);
-    text::say(line, c);
+    let a = text::put_number(line, 0, what, count);
+    let b = text::put(line, a, of);
+    text::say(line, b);
 }
 
 // A record held: 100 bytes.
@@ -20,9 +19,7 @@ fn say_held(line: &mut [u8], names: &[u8], held: &[u8]) {
     }
     let a = text::column(line, 0, octet::read_u16(held, 32) as u64, 7);
     let b = text::column(line, a, wide(held[34]), 11);
-    let c = text::put(line, b, b"  ");
-    let d = names::put_whose(line, c, names, text::part(held, 0, 32));
-    text::say(line, d);
+    names::say_whose(line, b, b"  ", names, &held[0..32]);
 }
 
 fn say_all_held(line: &mut [u8], names: &[u8], cache: &[u8], used: usize) {
@@ -49,40 +46,49 @@ fn say_keys(line: &mut [u8], names: &[u8], list: &[u8], from: usize, count: usiz
             return;
         }
         let start = from % 16 * 32 + 32 * i;
-        let a = text::put(line, 0, b"  ");
-        let b = names::put_whose(line, a, names, text::part(list, start, start + 32));
-        text::say(line, b);
+        names::say_whose(line, 0, b"  ", names, text::part(list, start, start + 32));
         i += 1;
     }
+}
+
+// One side: how many, and which.
+fn say_side(line: &mut [u8], what: &[u8], names: &[u8], list: &[u8], from: usize, count: usize) {
+    let a = text::put_number(line, 0, what, count as u64);
+    text::say(line, a);
+    say_keys(line, names, list, from, count);
 }
 
 // The neighbours, of which a gauge has five on either side at most.
 fn say_neighbours(line: &mut [u8], names: &[u8], own: &[u8], cache: &[u8]) {
     let mut list = [0u8; 320];
-    let answer = gauge::gauge_neighbours(own, cache, &mut list);
-    let below = answer.first as usize;
-    let above = answer.second as usize;
-    say_count(
+    let listed = neighbours::neighbour_list(own, cache, &mut list);
+    let below = listed.below;
+    say_side(
         line,
         b"\nNeighbours below, the next keys down, nearest first: ",
-        below as u64,
-        b"",
+        names,
+        &list,
+        0,
+        below,
     );
-    say_keys(line, names, &list, 0, below);
-    say_count(
+    say_side(
         line,
         b"\nNeighbours above, the next keys up, nearest first: ",
-        above as u64,
-        b"",
+        names,
+        &list,
+        below,
+        listed.above,
     );
-    say_keys(line, names, &list, below, above);
 }
 
+// Kind 1 is a FLOOD.
 fn put_awaited(line: &mut [u8], at: usize, kind: u8) -> usize {
-    if kind == 1 {
-        return text::put(line, at, b"FLOOD sent to ");
-    }
-    text::put(line, at, b"INQUIRE about ")
+    text::put_row(
+        line,
+        at,
+        b"  INQUIRE about \n  FLOOD sent to \n  INQUIRE about ",
+        wide(kind),
+    )
 }
 
 // A place of the waiting table: 140 bytes.
@@ -92,10 +98,9 @@ fn say_place(line: &mut [u8], names: &[u8], place: &[u8]) {
     }
     let a = text::column(line, 0, octet::read_u32_le(place, 0) as u64, 12);
     let b = text::column(line, a, wide(place[5]), 12);
-    let c = text::put(line, b, b"  ");
-    let d = put_awaited(line, c, place[4]);
-    let e = names::put_whose(line, d, names, &place[8..40]);
-    text::say(line, e);
+    let c = put_awaited(line, b, place[4]);
+    let d = names::put_whose(line, c, names, &place[8..40]);
+    text::say(line, d);
 }
 
 fn say_places(line: &mut [u8], names: &[u8], waiting: &[u8], used: usize) {

@@ -19,23 +19,20 @@ pub fn major(opening: &[u8]) -> u8 {
 }
 
 fn say_own_key(line: &mut [u8], names: &[u8], own: &[u8]) {
-    let a = text::put(line, 0, b"Night of  ");
-    let b = names::put_whose(line, a, names, text::part(own, 0, 32));
+    let key = text::part(own, 0, 32);
+    names::say_whose(line, 0, b"Night of  ", names, key);
+    let a = text::put(line, 0, b"Own key   ");
+    let b = names::put_key(line, a, key);
     text::say(line, b);
-    let c = text::put(line, 0, b"Own key   ");
-    let d = names::put_key(line, c, text::part(own, 0, 32));
-    text::say(line, d);
 }
 
 fn say_versions(line: &mut [u8], opening: &[u8]) {
     if opening.len() < 2 {
         return;
     }
-    let a = text::put(line, 0, b"Versions  major ");
-    let b = text::number(line, a, wide(opening[0]));
-    let c = text::put(line, b, b", minor ");
-    let d = text::number(line, c, wide(opening[1]));
-    text::say(line, d);
+    let a = text::put_number(line, 0, b"Versions  major ", wide(opening[0]));
+    let b = text::put_number(line, a, b", minor ", wide(opening[1]));
+    text::say(line, b);
 }
 
 // Whose night: the opening record has been taken.
@@ -47,9 +44,7 @@ pub fn say_whose(line: &mut [u8], names: &[u8], opening: &[u8]) {
         return text::tell(b"\n");
     }
     text::tell(
-        b"\nThis gauge's own record, with which the trace opens, is not as a record must be. So every call is refused\n",
-    );
-    text::tell(
-        b"with number 1, and the gauge has kept nothing: the trace was recorded wrongly, or is damaged.\n\n",
+        b"\nThis gauge's own record, with which the trace opens, is not as a record must be. So every call is refused\n\
+        with number 1, and the gauge has kept nothing: the trace was recorded wrongly, or is damaged.\n\n",
     );
 }

@@ -15,31 +15,31 @@ pub fn byte(s: &[u8], at: usize) -> u8 {
     s[at]
 }
 
+// Where the datagram stands in the record of one received: behind message ID, verdict, key and nonce.
+const DATAGRAM: usize = 57;
+
 // " about" or " for" whom: the key that stands at a place of the datagram, if there is one.
 fn put_key_at(
     line: &mut [u8],
     at: usize,
     word: &[u8],
     names: &[u8],
-    datagram: &[u8],
+    call: &[u8],
     place: u32,
 ) -> usize {
     if place == 0 {
         return at;
     }
-    let start = wide(place) % 65536;
+    let start = DATAGRAM + wide(place) % 65536;
     let behind = text::put(line, at, word);
-    names::put_whose(line, behind, names, text::part(datagram, start, start + 32))
+    names::put_whose(line, behind, names, text::part(call, start, start + 32))
 }
 
 // The message that an ADVERTISE, AUTHORITY or ACK answers.
 fn put_answered(line: &mut [u8], at: usize, l: Look) -> usize {
     let kind = l.kind;
     match kind {
-        2 | 8 | 9 => {
-            let a = text::put(line, at, b" in answer to ");
-            text::number(line, a, l.acked as u64)
-        }
+        2 | 8 | 9 => text::put_number(line, at, b" in answer to ", l.acked as u64),
         _ => at,
     }
 }
@@ -61,39 +61,34 @@ fn put_revoked(line: &mut [u8], at: usize, names: &[u8], call: &[u8], l: Look) -
 
 fn put_head(line: &mut [u8], at: usize, l: Look) -> usize {
     let a = words::put_type(line, at, l.kind);
-    let b = text::put(line, a, b" ");
-    let c = text::number(line, b, l.id as u64);
-    put_answered(line, c, l)
+    let b = text::put_number(line, a, b" ", l.id as u64);
+    put_answered(line, b, l)
+}
+
+// Of a datagram without a message: what it is.
+fn put_unread(line: &mut [u8], at: usize, number: u32) -> usize {
+    if number == 7 {
+        return text::put(line, at, b"a part of an AUTHORITY");
+    }
+    text::put(line, at, b"what cannot be read")
 }
 
 // The message that the datagram holds, as far as it can be read.
-fn put_message(
-    line: &mut [u8],
-    at: usize,
-    names: &[u8],
-    call: &[u8],
-    datagram: &[u8],
-    l: Look,
-) -> usize {
-    if l.number == 7 {
-        return text::put(line, at, b"a part of an AUTHORITY");
-    }
+fn put_message(line: &mut [u8], at: usize, names: &[u8], call: &[u8], l: Look) -> usize {
     if l.number != 0 {
-        return text::put(line, at, b"what cannot be read");
+        return put_unread(line, at, l.number);
     }
     let a = put_head(line, at, l);
     let b = put_revoked(line, a, names, call, l);
-    let c = put_key_at(line, b, b" about ", names, datagram, l.entry);
-    put_key_at(line, c, b" for ", names, datagram, l.target)
+    let c = put_key_at(line, b, b" about ", names, call, l.entry);
+    put_key_at(line, c, b" for ", names, call, l.target)
 }
 
-// A record of a datagram received: message ID, verdict, key, nonce, datagram.
+// A record of a datagram received.
 pub fn put_received(line: &mut [u8], at: usize, names: &[u8], major: u8, call: &[u8]) -> usize {
-    let datagram = text::part(call, 57, call.len());
-    let l = gauge::gauge_look(major, datagram);
+    let datagram = text::part(call, DATAGRAM, call.len());
     let a = text::put(line, at, b"received ");
-    let b = put_message(line, a, names, call, datagram, l);
-    let c = text::put(line, b, b", ");
-    let d = text::number(line, c, datagram.len() as u64);
-    text::put(line, d, b" bytes")
+    let b = put_message(line, a, names, call, look::look_at(major, datagram));
+    let c = text::put_number(line, b, b", ", datagram.len() as u64);
+    text::put(line, c, b" bytes")
 }

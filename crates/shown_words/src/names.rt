@@ -109,3 +109,10 @@ pub fn put_whose(line: &mut [u8], at: usize, names: &[u8], key: &[u8]) -> usize 
     }
     text::put(line, at, name)
 }
+
+// The rest of a line: a word, and whose key it is.
+pub fn say_whose(line: &mut [u8], at: usize, word: &[u8], names: &[u8], key: &[u8]) {
+    let a = text::put(line, at, word);
+    let b = put_whose(line, a, names, key);
+    text::say(line, b);
+}

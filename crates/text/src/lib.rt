@@ -43,8 +43,51 @@ pub fn right(line: &mut [u8], at: usize, s: &[u8], width: usize) -> usize {
     put(line, start, s)
 }
 
+// Where a row of a table begins. Rows are counted from 0, and a line end stands between two; the last one is there for
+// every number beyond it too.
+fn row_start(rows: &[u8], number: u64) -> usize {
+    let mut left = number;
+    let mut start = 0;
+    let mut at = 0;
+    while at < rows.len() {
+        if left == 0 {
+            return start;
+        }
+        let ends = rows[at] == b'\n';
+        at += 1;
+        if ends {
+            start = at;
+            left -= 1;
+        }
+    }
+    start
+}
+
+fn row_end(rows: &[u8], start: usize) -> usize {
+    let mut at = start;
+    while at < rows.len() {
+        if rows[at] == b'\n' {
+            return at;
+        }
+        at += 1;
+    }
+    rows.len()
+}
+
+// A row of a table. One literal is far cheaper to prove than a `match` with one in each arm.
+pub fn put_row(line: &mut [u8], at: usize, rows: &[u8], number: u64) -> usize {
+    let start = row_start(rows, number);
+    put(line, at, part(rows, start, row_end(rows, start)))
+}
+
 pub fn number(line: &mut [u8], at: usize, n: u64) -> usize {
     column(line, at, n, 0)
+}
+
+// A word and a number behind it.
+pub fn put_number(line: &mut [u8], at: usize, word: &[u8], n: u64) -> usize {
+    let a = put(line, at, word);
+    number(line, a, n)
 }
 
 // A number at the right end of a column.

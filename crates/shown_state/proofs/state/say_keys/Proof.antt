@@ -7,10 +7,10 @@ use Rattle.shown_state.proofs.state.say_keys.Statement.{statement}
 use Rattle.shown_state.proofs.state.say_keys.Tie as tie
 
 abbrev Inv-loop : tie.InvT-loop
-Inv-loop line₀ names list from count i₀ t10 line i = (i ≤ 5) × (length line ≡ length line₀)
+Inv-loop line₀ names list from count i₀ t8 line i = (i ≤ 5) × (length line ≡ length line₀)
 
 abbrev μ-loop : tie.MeasureT-loop
-μ-loop line₀ names list from count i₀ t10 line i = 5 - i
+μ-loop line₀ names list from count i₀ t8 line i = 5 - i
 
 loop-holds : tie.Need-loop-holds Inv-loop μ-loop
 loop-holds c = search needs
@@ -30,11 +30,8 @@ mul-start-2 c = search needs
 add-start : tie.Need-add-start Inv-loop μ-loop
 add-start c = search needs
 
-slice-aggregate-put : tie.Need-slice-aggregate-put Inv-loop μ-loop
-slice-aggregate-put c = search needs
-
-put-requires : tie.Need-put-requires Inv-loop μ-loop
-put-requires c κs = search needs
+slice-aggregate-say-whose : tie.Need-slice-aggregate-say-whose Inv-loop μ-loop
+slice-aggregate-say-whose c = search needs
 
 add-part : tie.Need-add-part Inv-loop μ-loop
 add-part c = search needs
@@ -42,11 +39,8 @@ add-part c = search needs
 part-requires : tie.Need-part-requires Inv-loop μ-loop
 part-requires c κs = search needs
 
-put-whose-requires : tie.Need-put-whose-requires Inv-loop μ-loop
-put-whose-requires c κs = search needs
-
-say-requires : tie.Need-say-requires Inv-loop μ-loop
-say-requires c κs = search needs
+say-whose-requires : tie.Need-say-whose-requires Inv-loop μ-loop
+say-whose-requires c κs = search needs
 
 add-i : tie.Need-add-i Inv-loop μ-loop
 add-i c = search needs
@@ -75,12 +69,10 @@ say-keys-spec =
     mul-start
     mul-start-2
     add-start
-    slice-aggregate-put
-    put-requires
+    slice-aggregate-say-whose
     add-part
     part-requires
-    put-whose-requires
-    say-requires
+    say-whose-requires
     add-i
     loop-less
     loop-again

@@ -1,8 +1,7 @@
 // Lines that are calls: made through the functions that the radio program calls, with an output filled with EE, and compared
 // with what was there before.
-use crate::operands::Call;
-use crate::operands::Given;
 use gauge_commit::Answer;
+use vector_lent::operands::Given;
 use vector_text::line;
 use vector_text::say;
 
@@ -57,12 +56,12 @@ fn call(
     waiting: &mut [u8],
     output: &mut [u8],
 ) -> Answer {
-    let call = given.call;
-    match call {
-        Call::Tick => gauge::gauge_tick(line::part(lent, 0, given.own), waiting, output),
-        Call::List => gauge::gauge_neighbours(line::part(lent, 0, given.own), cache, output),
-        Call::Receive => receive(given, lent, cache, waiting, output),
-        Call::Send => send(given, lent, cache, waiting, output),
+    let kind = given.call;
+    match kind {
+        0 => receive(given, lent, cache, waiting, output),
+        1 => send(given, lent, cache, waiting, output),
+        2 => gauge::gauge_tick(line::part(lent, 0, given.own), waiting, output),
+        _ => gauge::gauge_neighbours(line::part(lent, 0, given.own), cache, output),
     }
 }
 
@@ -71,14 +70,13 @@ fn wide(n: u32) -> usize {
 }
 
 // How many bytes of the output a call that gave this has written: datagrams, IDs of 4, keys of 32.
-fn written(call: Call, answer: Answer) -> usize {
+fn written(call: usize, answer: Answer) -> usize {
     let first = wide(answer.first) % 65536;
     let second = wide(answer.second) % 65536;
     match call {
-        Call::Tick => 4 * first,
-        Call::List => 32 * (first + second),
-        Call::Receive => first + second,
-        Call::Send => first + second,
+        2 => 4 * first,
+        3 => 32 * (first + second),
+        _ => first + second,
     }
 }
 
@@ -91,12 +89,9 @@ fn say_same(was: &[u8], is: &[u8]) {
 
 // Number and counts, and the bytes that were written.
 fn say_answer(answer: Answer, output: &[u8], end: usize) {
-    say::number(answer.number as u64);
-    say::text(b" ");
-    say::number(answer.first as u64);
-    say::text(b" ");
-    say::number(answer.second as u64);
-    say::text(b" ");
+    say::field(answer.number as u64);
+    say::field(answer.first as u64);
+    say::field(answer.second as u64);
     say::bytes(line::part(output, 0, end));
 }
 
@@ -121,8 +116,7 @@ fn say_call(
     output: &mut [u8],
 ) {
     let answer = call(given, lent, cache, waiting, output);
-    let kind = given.call;
-    let end = written(kind, answer);
+    let end = written(given.call, answer);
     say_answer(answer, output, end);
     say_same(line::part(held, 0, cache.len()), cache);
     say_same(line::part(waits, 0, waiting.len()), waiting);

@@ -1,7 +1,9 @@
-// Vectors of the calls, each made through the function that the radio program calls. It acts on the memory that the lines
-// before it left, which `vector_lent` lays out and shows. Used by the program `vectors` alone.
+// Vectors of the calls, each made through the function that the radio program calls: those that act on the memory that the lines
+// before left, which `vector_lent` lays out and shows, and the look at a datagram. Used by the program `vectors` alone.
 mod called;
-mod operands;
+mod looked;
+
+use vector_lent::operands;
 
 // Of a line that is a call: its answer, what it has written, and what has changed.
 pub fn answer(
@@ -11,6 +13,10 @@ pub fn answer(
     waiting: &mut [u8],
     sizes: &[usize; 6],
 ) -> bool {
+    let call = operands::call_of(text);
+    if 3 < call {
+        return looked::answer(text, lent, sizes[1]);
+    }
     let held = sizes[2];
     let waits = sizes[3];
     if cache.len() < held {
@@ -19,10 +25,7 @@ pub fn answer(
     if waiting.len() < waits {
         return false;
     }
-    if operands::is_call(text) {
-        let given = operands::read(text, lent, sizes);
-        called::run(given, lent, &mut cache[0..held], &mut waiting[0..waits]);
-        return true;
-    }
-    false
+    let given = operands::read(text, call, lent, sizes);
+    called::run(given, lent, &mut cache[0..held], &mut waiting[0..waits]);
+    true
 }

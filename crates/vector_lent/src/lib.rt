@@ -1,8 +1,8 @@
-// Lines beside the calls: the memory that they are lent is laid out and shown, and datagrams are looked at. The memory stays
-// from line to line: own record and CPA, one behind the other, in `lent`; the cache; the waiting table; and six numbers,
-// `sizes`: where own record and CPA end, how long cache and waiting table are, major and minor version. Used by the program
-// `vectors` alone.
-mod looked;
+// Lines beside the calls: the memory that they are lent is laid out and shown. It stays from line to line: own record and CPA, one
+// behind the other, in `lent`; the cache; the waiting table; and six numbers, `sizes`: where own record and CPA end, how long
+// cache and waiting table are, major and minor version. Of a line that is a call, `operands` reads what it hands over. Used by
+// the program `vectors` alone.
+pub mod operands;
 mod set;
 mod shown;
 
@@ -17,8 +17,5 @@ pub fn answer(
     if set::answer(text, lent, cache, waiting, sizes) {
         return true;
     }
-    if shown::answer(text, lent, cache, waiting, sizes) {
-        return true;
-    }
-    looked::answer(text, lent, sizes[1])
+    shown::answer(text, lent, cache, waiting, sizes)
 }

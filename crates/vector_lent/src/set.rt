@@ -29,6 +29,13 @@ fn begin(
     say::text(b"ok");
 }
 
+// `set-cache BYTES`, `set-waiting BYTES`: the whole of either, as it is.
+fn set(text: &[u8], table: &mut [u8]) -> usize {
+    let end = line::bytes(text, 1, table, 0);
+    say::text(b"ok");
+    end
+}
+
 pub(crate) fn answer(
     text: &[u8],
     lent: &mut [u8],
@@ -36,19 +43,19 @@ pub(crate) fn answer(
     waiting: &mut [u8],
     sizes: &mut [usize; 6],
 ) -> bool {
-    if line::is_named(text, b"gauge") {
-        begin(text, lent, cache, waiting, sizes);
-        return true;
+    match line::which(text, b"gauge set-cache set-waiting") {
+        0 => {
+            begin(text, lent, cache, waiting, sizes);
+            true
+        }
+        1 => {
+            sizes[2] = set(text, cache);
+            true
+        }
+        2 => {
+            sizes[3] = set(text, waiting);
+            true
+        }
+        _ => false,
     }
-    if line::is_named(text, b"set-cache") {
-        sizes[2] = line::bytes(text, 1, cache, 0);
-        say::text(b"ok");
-        return true;
-    }
-    if line::is_named(text, b"set-waiting") {
-        sizes[3] = line::bytes(text, 1, waiting, 0);
-        say::text(b"ok");
-        return true;
-    }
-    false
 }

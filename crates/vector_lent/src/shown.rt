@@ -71,13 +71,12 @@ pub(crate) fn answer(
     sizes: &[usize; 6],
 ) -> bool {
     let own = line::part(lent, 0, sizes[0]);
-    if line::is_named(text, b"held") {
-        held(own, line::part(cache, 0, sizes[2]));
-        return true;
+    match line::which(text, b"held waits") {
+        0 => held(own, line::part(cache, 0, sizes[2])),
+        1 => waits(own, line::part(waiting, 0, sizes[3])),
+        _ => {
+            return false;
+        }
     }
-    if line::is_named(text, b"waits") {
-        waits(own, line::part(waiting, 0, sizes[3]));
-        return true;
-    }
-    false
+    true
 }

@@ -52,17 +52,14 @@ fn neighbours(own: &[u8], cache: &[u8]) {
         return;
     }
     say::text(b" ");
-    say::number(listed.below as u64);
-    say::text(b" ");
-    say::number(listed.above as u64);
-    say::text(b" ");
+    say::field(listed.below as u64);
+    say::field(listed.above as u64);
     say::keys(&out, listed.below % 16 + listed.above % 16, 32);
 }
 
 // The number, and with 0 the record.
 fn say_record(record: &[u8]) {
-    say::number(0);
-    say::text(b" ");
+    say::field(0);
     say::bytes(record);
 }
 
@@ -81,36 +78,31 @@ fn closest(own: &[u8], cache: &[u8], target: &[u8]) {
 
 // Vectors that change the cache.
 fn answer_change(text: &[u8], own: &[u8], cache: &mut [u8], third: &[u8]) -> bool {
-    if line::is_named(text, b"learn") {
-        learn(own, cache, third);
-        return true;
+    match line::which(text, b"learn remove-key") {
+        0 => {
+            learn(own, cache, third);
+            true
+        }
+        1 => {
+            remove(own, cache, third);
+            true
+        }
+        _ => false,
     }
-    if line::is_named(text, b"remove-key") {
-        remove(own, cache, third);
-        return true;
-    }
-    false
 }
 
 // Vectors that read it.
 fn answer_read(text: &[u8], own: &[u8], cache: &[u8], third: &[u8]) -> bool {
-    if line::is_named(text, b"cache-form") {
-        say_form(own, cache);
-        return true;
+    match line::which(text, b"cache-form neighbours closest searches") {
+        0 => say_form(own, cache),
+        1 => neighbours(own, cache),
+        2 => closest(own, cache, third),
+        3 => searches(own, cache),
+        _ => {
+            return false;
+        }
     }
-    if line::is_named(text, b"neighbours") {
-        neighbours(own, cache);
-        return true;
-    }
-    if line::is_named(text, b"closest") {
-        closest(own, cache, third);
-        return true;
-    }
-    if line::is_named(text, b"searches") {
-        searches(own, cache);
-        return true;
-    }
-    false
+    true
 }
 
 // The cache is the second operand.

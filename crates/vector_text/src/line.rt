@@ -75,6 +75,23 @@ pub fn is_named(text: &[u8], name: &[u8]) -> bool {
     octet::equal(word(text, 0), name)
 }
 
+// Which of some names, apart by a space, the line has: counted from 0, and how many there are where it has none of them.
+// There are 16 at most. One list of names is far cheaper to prove than a test for each of them.
+pub fn which(text: &[u8], names: &[u8]) -> usize {
+    let mut i = 0;
+    while i < 16 {
+        let name = word(names, i);
+        if name.len() == 0 {
+            return i;
+        }
+        if is_named(text, name) {
+            return i;
+        }
+        i += 1;
+    }
+    i
+}
+
 // The value of a hexadecimal digit; 16 for any other byte.
 fn digit(b: u8) -> u8 {
     match b {

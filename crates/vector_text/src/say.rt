@@ -10,6 +10,12 @@ pub fn number(n: u64) {
     io::print_decimal(1, n);
 }
 
+// A number with a space behind it.
+pub fn field(n: u64) {
+    number(n);
+    text(b" ");
+}
+
 // Bytes in hexadecimal; `-` where there is none.
 pub fn bytes(s: &[u8]) {
     if s.len() == 0 {

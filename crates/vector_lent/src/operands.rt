@@ -2,17 +2,10 @@
 // operands behind them.
 use vector_text::line;
 
-pub(crate) enum Call {
-    Receive,
-    Send,
-    Tick,
-    List,
-}
-
 // The numbers of a call; where each part ends that it is lent for reading; how long its output is. In a send the neighbour's
 // key stands in the nonce's place.
-pub(crate) struct Given {
-    pub call: Call,
+pub struct Given {
+    pub call: usize,
     pub own: usize,
     pub cpa: usize,
     pub major: u8,
@@ -25,46 +18,23 @@ pub(crate) struct Given {
     pub room: usize,
 }
 
-pub(crate) fn is_call(text: &[u8]) -> bool {
-    if line::is_named(text, b"receive") {
-        return true;
-    }
-    if line::is_named(text, b"send") {
-        return true;
-    }
-    if line::is_named(text, b"tick") {
-        return true;
-    }
-    line::is_named(text, b"list")
-}
-
-fn call_of(text: &[u8]) -> Call {
-    if line::is_named(text, b"receive") {
-        return Call::Receive;
-    }
-    if line::is_named(text, b"send") {
-        return Call::Send;
-    }
-    if line::is_named(text, b"tick") {
-        return Call::Tick;
-    }
-    Call::List
+// Which call a line is: 0 to receive, 1 to send, 2 to tick, 3 to list the neighbours; 4 where it is none.
+pub fn call_of(text: &[u8]) -> usize {
+    line::which(text, b"receive send tick list")
 }
 
 // The length of the output is a line's last operand.
-fn room_of(text: &[u8]) -> usize {
-    if line::is_named(text, b"receive") {
-        return line::place(text, 6);
+fn last_of(call: usize) -> usize {
+    match call {
+        0 => 6,
+        1 => 4,
+        _ => 1,
     }
-    if line::is_named(text, b"send") {
-        return line::place(text, 4);
-    }
-    line::place(text, 1)
 }
 
 // Which operand the key is.
-fn key_of(text: &[u8]) -> usize {
-    if line::is_named(text, b"send") { 3 } else { 4 }
+fn key_of(call: usize) -> usize {
+    if call == 1 { 3 } else { 4 }
 }
 
 fn word(text: &[u8], i: usize) -> u32 {
@@ -72,13 +42,13 @@ fn word(text: &[u8], i: usize) -> u32 {
 }
 
 // `receive ID NONCE VERDICT KEY DATAGRAM ROOM`, `send ID NEIGHBOUR KEY ROOM`, `tick ROOM`, `list ROOM`
-pub(crate) fn read(text: &[u8], lent: &mut [u8], sizes: &[usize; 6]) -> Given {
+pub fn read(text: &[u8], call: usize, lent: &mut [u8], sizes: &[usize; 6]) -> Given {
     let cpa = sizes[1];
     let nonce = line::bytes(text, 2, lent, cpa);
-    let key = line::bytes(text, key_of(text), lent, nonce);
+    let key = line::bytes(text, key_of(call), lent, nonce);
     let datagram = line::bytes(text, 5, lent, key);
     Given {
-        call: call_of(text),
+        call,
         own: sizes[0],
         cpa,
         major: (sizes[4] % 256) as u8,
@@ -88,6 +58,6 @@ pub(crate) fn read(text: &[u8], lent: &mut [u8], sizes: &[usize; 6]) -> Given {
         verdict: word(text, 3),
         key,
         datagram,
-        room: room_of(text),
+        room: line::place(text, last_of(call)),
     }
 }

@@ -1,38 +1,158 @@
--- A record's call is the gauge's. In this order: what each call hands back is the step; the call of each kind. Assumes nothing.
-use mathlib.Core.Path.{_≡_, refl, ap}
-use mathlib.Core.List.{List, [], _∷_}
-use Prim.Native.Nat.{ℕ}
-use lib.ListN.{drop, getD}
+-- A record's call is the gauge's. In this order: what is taken out of the night's slice and put back into it; what a call hands back is the step; the call of each
+-- kind. Assumes nothing.
+use mathlib.Core.Path.{_≡_, refl, sym, ap, ap₂, _∙_}
+use mathlib.Core.List.{List, [], _∷_, _++_}
+use Prim.Native.Nat.{ℕ, _+_, _-_, _≤_}
+use native.Mathlib.Omega.{arith}
+use lib.ListN.{length, take, drop, getD, replicate, take-append-drop, length-drop, length-replicate}
+use lib.Seq.{take-all, take-take, take-append-le, take-add, drop-drop, drop-at, getD-drop, length-take-le}
 use borrow.Author.Tests.{eq-eqb, ne-eqb}
 use Rattle.octet.specs.Number.{valueLE}
-use Rattle.octet.specs.Part.{part}
-use Rattle.gauge_plan.specs.Lent.{Memory, receive, send, tick, receives, sends, ticks}
-use Rattle.gauge_commit.specs.Sending.{Handed}
+use Rattle.octet.specs.Part.{part, splice}
+use Rattle.octet.proofs.PartLaws.{length-part, splice-whole, length-splice, part-splice, take-splice, drop-splice}
+use Rattle.gauge_plan.specs.Lent.{Memory, memory, withCache, withWaiting, withTables, receive, send, tick, Call, receives, sends, ticks}
+use Rattle.gauge_commit.specs.declared.Answer.{Answer}
+use Rattle.gauge_commit.specs.Sending.{Handed, handed}
 use Rattle.gauge.specs.Ours.{ours}
-use Rattle.night.specs.Step.{majorOf, minorOf, nightOwn, output, received, sent, ticked, callOf, night, Stepped, stepped, called}
+use Rattle.night.specs.Step.{nightIn, majorOf, minorOf, nightOwn, output, received, sent, ticked, callOf, Night, night, Stepped, stepped, called}
 
--- what is handed back, as a step of the night
-abbrev steppedBy : List ℕ → Handed → Stepped
-steppedBy o h = stepped (h .answer .number) (night o (h .memory))
+-- ---- what stands before and behind a part that is written
 
-module _ (o : List ℕ) (m : Memory) (h : Handed) where
-  -- the numbers and the datagram as the code has them
-  pub receive-called : (body : List ℕ) (id verdict : ℕ) (datagram : List ℕ)
-      → id ≡ valueLE 256 (part 0 4 body) → verdict ≡ getD body 4 0 → datagram ≡ drop 53 body
-      → h ≡ ours m (receives (receive (nightOwn o) (0 ∷ []) (majorOf o) (minorOf o) id (part 37 16 body) verdict (part 5 32 body) datagram output))
-      → steppedBy o h ≡ called (night o m) (received o body)
-  unfolding called
-  receive-called body id verdict datagram i v d e = ap (steppedBy o) (rw (i, v, d) at e)
+module _ (at : ℕ) (xs s : List ℕ) (h : at + length xs ≤ length s) where
+  abbrev left : List ℕ
+  left = splice at xs s
 
-  pub send-called : (body : List ℕ) (id : ℕ) → id ≡ valueLE 256 (part 0 4 body)
-      → h ≡ ours m (sends (send (nightOwn o) (majorOf o) (minorOf o) id (part 4 32 body) (part 36 32 body) output))
-      → steppedBy o h ≡ called (night o m) (sent o body)
-  unfolding called
-  send-called body id i e = ap (steppedBy o) (rw i at e)
+  kept-behind : (k : ℕ) → drop (at + length xs + k) left ≡ drop (at + length xs + k) s
+  kept-behind k = sym (drop-drop k (at + length xs) left) ∙ ap (drop k) (drop-splice at xs s h) ∙ drop-drop k (at + length xs) s
 
-  pub tick-called : h ≡ ours m (ticks (tick (nightOwn o) output)) → steppedBy o h ≡ called (night o m) (ticked o)
-  unfolding called
-  tick-called e = ap (steppedBy o) e
+  kept-front : take at left ≡ take at s
+  kept-front =
+      sym (take-take at (at + length xs) left (omega arith)) ∙ ap (take at) (take-splice at xs s h)
+      ∙ take-append-le at (take at s) xs (omega (arith, length-take-le at s (omega arith))) ∙ take-take at at s (omega arith)
+
+  -- the rest of the list
+  written-last : at + length xs ≡ length s → drop at left ≡ xs
+  written-last e =
+      sym (take-all (length xs) (drop at left) (omega (arith, length-drop at left, length-splice at xs s h))) ∙ part-splice at xs s h
+
+-- a part of the first k
+part-take : (a n k : ℕ) (s : List ℕ) → a + n ≤ k → k ≤ length s → take n (drop a (take k s)) ≡ part a n s
+part-take a n k s h w =
+    let cut : take k s ≡ take a s ++ take (k - a) (drop a s) = ap (λ (j : ℕ). take j s) (let e : k ≡ a + (k - a) = omega arith in e) ∙ take-add a (k - a) s in
+    ap (λ (x : List ℕ). take n (drop a x)) cut
+    ∙ ap (take n) (drop-at (take a s) (take (k - a) (drop a s)) a (length-take-le a s (omega arith)))
+    ∙ take-take n (k - a) (drop a s) (omega arith)
+
+kept-part : (a n at : ℕ) (xs s : List ℕ) → a + n ≤ at → at + length xs ≤ length s → part a n (splice at xs s) ≡ part a n s
+kept-part a n at xs s w h =
+    sym (part-take a n at (splice at xs s) w (omega (arith, length-splice at xs s h)))
+    ∙ ap (λ (x : List ℕ). take n (drop a x)) (kept-front at xs s h) ∙ part-take a n at s w (omega arith)
+
+-- ---- the night's slice
+
+-- a part taken out into zeros of its length
+pub taken-out : (at n : ℕ) (s : List ℕ) → at + n ≤ length s → splice 0 (part at n s) (replicate n 0) ≡ part at n s
+taken-out at n s h = splice-whole (part at n s) (replicate n 0) (length-part at n s h ∙ sym (length-replicate {A = ℕ} n 0))
+
+module _ (s : List ℕ) (fit : length s ≡ 8742) where
+  -- versions and own record as they stand there
+  pub own-taken : take (length s - 8642) (drop 8642 s) ≡ nightOwn (nightIn s .opening)
+  own-taken = ap₂ take (let e : length s - 8642 ≡ 100 = omega (arith, fit) in e) (sym (drop-drop 2 8640 s))
+
+  pub own-copied : splice 0 (take (length s - 8642) (drop 8642 s)) (replicate 100 0) ≡ nightOwn (nightIn s .opening)
+  own-copied =
+      splice-whole (take (length s - 8642) (drop 8642 s)) (replicate 100 0)
+      (omega (arith, fit, length-take-le (length s - 8642) (drop 8642 s) (omega (arith, length-drop 8642 s)), length-replicate {A = ℕ} 100 0))
+      ∙ own-taken
+
+  pub major-taken : getD s 8640 0 ≡ majorOf (nightIn s .opening)
+  major-taken = sym (getD-drop 8640 s 0 0)
+
+  pub minor-taken : getD s 8641 0 ≡ minorOf (nightIn s .opening)
+  minor-taken = sym (getD-drop 8640 s 1 0)
+
+  pub opening-fits : length (nightIn s .opening) ≡ 102
+  opening-fits = omega (arith, fit, length-drop 8640 s)
+
+  -- what is written back: the cache; the waiting table; the opening
+  cache-back : (c : List ℕ) → length c ≡ 6400 → nightIn (splice 0 c s) ≡ night (nightIn s .opening) (withCache c (nightIn s .memory))
+  cache-back c e =
+      let h : 0 + length c ≤ length s = omega (arith, e, fit) in
+      let here : part 0 6400 (splice 0 c s) ≡ c = rw e at (part-splice 0 c s h) in
+      let behind : drop 6400 (splice 0 c s) ≡ drop 6400 s = rw e at (drop-splice 0 c s h) in
+      let last : drop 8640 (splice 0 c s) ≡ drop 8640 s = rw e at (kept-behind 0 c s h 2240) in
+      ap (λ (o : List ℕ). night o (nightIn (splice 0 c s) .memory)) last
+      ∙ ap₂ (λ (x b : List ℕ). night (drop 8640 s) (memory x (take 2240 b))) here behind
+
+  waiting-back : (w : List ℕ) → length w ≡ 2240 → nightIn (splice 6400 w s) ≡ night (nightIn s .opening) (withWaiting w (nightIn s .memory))
+  waiting-back w e =
+      let h : 6400 + length w ≤ length s = omega (arith, e, fit) in
+      let here : part 6400 2240 (splice 6400 w s) ≡ w = rw e at (part-splice 6400 w s h) in
+      let last : drop 8640 (splice 6400 w s) ≡ drop 8640 s = rw e at (drop-splice 6400 w s h) in
+      ap (λ (o : List ℕ). night o (nightIn (splice 6400 w s) .memory)) last
+      ∙ ap₂ (λ (x t : List ℕ). night (drop 8640 s) (memory x t)) (kept-part 0 6400 6400 w s (omega arith) h) here
+
+  pub opening-back : (o : List ℕ) → length o ≡ 102 → nightIn (splice 8640 o s) ≡ night o (nightIn s .memory)
+  opening-back o e =
+      let h : 8640 + length o ≤ length s = omega (arith, e, fit) in
+      ap (λ (x : List ℕ). night x (nightIn (splice 8640 o s) .memory)) (written-last 8640 o s h (omega (arith, e, fit)))
+      ∙ ap₂ (λ (x t : List ℕ). night o (memory x t)) (kept-part 0 6400 8640 o s (omega arith) h) (kept-part 6400 2240 8640 o s (omega arith) h)
+
+-- slices of one night have the same bytes
+whole : (s : List ℕ) → part 0 6400 s ++ (part 6400 2240 s ++ drop 8640 s) ≡ s
+whole s =
+    ap (λ (x : List ℕ). part 0 6400 s ++ (part 6400 2240 s ++ x)) (sym (drop-drop 2240 6400 s))
+    ∙ ap (λ (x : List ℕ). part 0 6400 s ++ x) (take-append-drop 2240 (drop 6400 s)) ∙ take-append-drop 6400 s
+
+pub night-one : (s t : List ℕ) → nightIn s ≡ nightIn t → s ≡ t
+night-one s t e = sym (whole s) ∙ ap (λ (n : Night). n .memory .cache ++ (n .memory .waiting ++ n .opening)) e ∙ whole t
+
+tables-back : (s : List ℕ) → length s ≡ 8742 → (c w : List ℕ) → length c ≡ 6400 → length w ≡ 2240
+    → nightIn (splice 6400 w (splice 0 c s)) ≡ night (nightIn s .opening) (withTables c w (nightIn s .memory))
+tables-back s fit c w d e =
+    waiting-back (splice 0 c s) (length-splice 0 c s (omega (arith, d, fit)) ∙ fit) w e
+    ∙ ap (λ (n : Night). night (n .opening) (withWaiting w (n .memory))) (cache-back s fit c d)
+
+-- ---- what each call hands back is the step
+
+call-made : (n : Night) (h : Handed) (c : Call) → h ≡ ours (n .memory) c → stepped (h .answer .number) (night (n .opening) (h .memory)) ≡ called n c
+unfolding called
+call-made n h c e = ap (λ (x : Handed). stepped (x .answer .number) (night (n .opening) (x .memory))) e
+
+-- c, w and those with a stroke: cache and waiting table as lent and as left
+module _ (s : List ℕ) (fit : length s ≡ 8742) (a : Answer) (out own w w′ after : List ℕ) (owned : own ≡ nightOwn (nightIn s .opening))
+    (tabled : w ≡ part 6400 2240 s) (sized : length w′ ≡ length w) where
+  table-size : length w′ ≡ 2240
+  table-size = sized ∙ ap length tabled ∙ length-part 6400 2240 s (omega (arith, fit))
+
+  pub tick-called : after ≡ splice 6400 w′ s
+      → handed a (withWaiting w′ (nightIn s .memory)) out ≡ ours (withWaiting w (nightIn s .memory)) (ticks (tick own output))
+      → stepped (a .number) (nightIn after) ≡ called (nightIn s) (ticked (nightIn s .opening))
+  tick-called back e =
+      ap (λ (x : List ℕ). stepped (a .number) (nightIn x)) back ∙ ap (stepped (a .number)) (waiting-back s fit w′ table-size)
+      ∙ call-made (nightIn s) (handed a (withWaiting w′ (nightIn s .memory)) out) (ticked (nightIn s .opening)) (rw (owned, tabled) at e)
+
+  module _ (body : List ℕ) (major minor id : ℕ) (first : major ≡ majorOf (nightIn s .opening)) (second : minor ≡ minorOf (nightIn s .opening))
+      (ided : id ≡ valueLE 256 (part 0 4 body)) where
+    pub send-called : after ≡ splice 6400 w′ s
+        → handed a (withTables (part 0 6400 s) w′ (nightIn s .memory)) out
+        ≡ ours (withTables (part 0 6400 s) w (nightIn s .memory)) (sends (send own major minor id (part 4 32 body) (part 36 32 body) output))
+        → stepped (a .number) (nightIn after) ≡ called (nightIn s) (sent (nightIn s .opening) body)
+    send-called back e =
+        ap (λ (x : List ℕ). stepped (a .number) (nightIn x)) back ∙ ap (stepped (a .number)) (waiting-back s fit w′ table-size)
+        ∙ call-made (nightIn s) (handed a (withWaiting w′ (nightIn s .memory)) out) (sent (nightIn s .opening) body)
+        (rw (owned, tabled, first, second, ided) at e)
+
+    pub receive-called : (c c′ : List ℕ) (verdict : ℕ) (datagram : List ℕ) → verdict ≡ getD body 4 0 → datagram ≡ drop 53 body
+        → c ≡ part 0 6400 s → length c′ ≡ length c → after ≡ splice 6400 w′ (splice 0 c′ s)
+        → handed a (memory c′ w′) out
+        ≡ ours (memory c w) (receives (receive own (0 ∷ []) major minor id (part 37 16 body) verdict (part 5 32 body) datagram output))
+        → stepped (a .number) (nightIn after) ≡ called (nightIn s) (received (nightIn s .opening) body)
+    receive-called c c′ verdict datagram judged heard cached kept back e =
+        ap (λ (x : List ℕ). stepped (a .number) (nightIn x)) back
+        ∙ ap (stepped (a .number)) (tables-back s fit c′ w′ (kept ∙ ap length cached ∙ length-part 0 6400 s (omega (arith, fit))) table-size)
+        ∙ call-made (nightIn s) (handed a (memory c′ w′) out) (received (nightIn s .opening) body)
+        (rw (owned, cached, tabled, first, second, ided, judged, heard) at e)
 
 -- ---- by the kind
 

@@ -1,4 +1,4 @@
--- What a record does. In this order: a table's first row that applies; a step, by its tests; a record taken, by its kind; the opening copied.
+-- What a record does. In this order: a table's first row that applies; a step, by its tests; a record taken, by its kind.
 -- Assumes nothing.
 use mathlib.Core.Path.{_≡_, refl, sym, ap, ap₂, _∙_}
 use mathlib.Core.Bool.{Bool, true, false, not, cond}
@@ -9,8 +9,6 @@ use lib.Dec.{eqb}
 use lib.ListN.{length, take, drop, length-drop}
 use lib.Seq.{take-all}
 use borrow.Author.Tests.{eq-eqb, ne-eqb}
-use Rattle.octet.specs.Part.{splice}
-use Rattle.octet.proofs.PartLaws.{splice-whole}
 use Rattle.refusal.specs.Table.{Refusal, when, firstOf, orRefuse}
 use Rattle.refusal.proofs.TableLaws.{AllFail, all-fail}
 use Rattle.refusal.proofs.CallLaws.{all-pass, row-applies, row-passes}
@@ -79,11 +77,9 @@ module _ (at : ℕ) (n : Night) (r : List ℕ) (fit : length (n .opening) ≡ 10
       pub opening-length : kind ≡ 4 → length (take (length r - 4) (drop 4 r)) ≡ 102
       opening-length e = fits-4 kind (length (take (length r - 4) (drop 4 r))) e body-fits
 
-      pub opens : kind ≡ 4 → (o : List ℕ) → o ≡ splice 0 (take (length r - 4) (drop 4 r)) (n .opening)
-          → stepped 0 (night o (n .memory)) ≡ stepOf at n r
-      opens e o w =
-          ap (λ (l : List ℕ). stepped 0 (night l (n .memory)))
-          (w ∙ splice-whole (take (length r - 4) (drop 4 r)) (n .opening) (opening-length e ∙ sym fit) ∙ body-is)
+      pub opens : kind ≡ 4 → (left : Night) → left ≡ night (take (length r - 4) (drop 4 r)) (n .memory) → stepped 0 left ≡ stepOf at n r
+      opens e left w =
+          ap (stepped 0) (w ∙ ap (λ (o : List ℕ). night o (n .memory)) body-is)
           ∙ sym (step-good at n r fit clean ∙ taken-opens at n r (sym known ∙ e))
 
       pub makes : (kind ≡ 4 → ⊥) → (s : Stepped) → s ≡ called n (callOf (n .opening) kind (take (length r - 4) (drop 4 r))) → s ≡ stepOf at n r

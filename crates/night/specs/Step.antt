@@ -8,7 +8,7 @@ use lib.ListN.{length, drop, getD, replicate}
 use Rattle.octet.specs.Number.{valueLE}
 use Rattle.octet.specs.Part.{part}
 use Rattle.refusal.specs.Table.{when, orRefuse}
-use Rattle.gauge_plan.specs.Lent.{Memory, empty, receive, send, tick, Call, receives, sends, ticks}
+use Rattle.gauge_plan.specs.Lent.{Memory, memory, empty, receive, send, tick, Call, receives, sends, ticks}
 use Rattle.gauge_commit.specs.Sending.{Handed}
 use Rattle.gauge.specs.Ours.{ours}
 use Rattle.trace.specs.Trace.{kindOf, bodyOf}
@@ -53,6 +53,13 @@ pub record Night : Type 0 where
 
 abbrev pub night : List ℕ → Memory → Night
 night opening memory = record { opening = opening; memory = memory }
+
+-- the same as it lies in one slice of so many bytes: cache, waiting table and opening, one behind the other
+abbrev pub nightIn : List ℕ → Night
+nightIn s = night (drop 8640 s) (memory (part 0 6400 s) (part 6400 2240 s))
+
+abbrev pub stateLen : ℕ
+stateLen = 8742
 
 abbrev pub start : Night
 start = night (replicate 102 0) (empty 64)

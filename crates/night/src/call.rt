@@ -1,13 +1,22 @@
-// The calls of a night. Each is lent an output of 2,464 zero bytes; the own CPA is one zero byte.
+// The calls of a night. Each is lent an output of 2,464 zero bytes; the own CPA is one zero byte. Cache and waiting table are
+// taken out of the night's one slice for a call that may write them, and put back behind it.
+use crate::CACHE;
+use crate::OPENING;
+use crate::TABLES;
+use crate::WAITING;
 ghost use mathlib.Core.Path.{_≡_};
 ghost use mathlib.Core.Bool.{true};
 ghost use Prim.Native.Nat.{_≤_};
 ghost use lib.ListN.{length};
-ghost use Rattle.gauge_plan.specs.Lent.{Memory, memory, withWaiting, withTables};
-ghost use Rattle.trace.specs.Trace.{bodyFits, isKind};
-ghost use Rattle.night.specs.Step.{night, stepped, received, sent, ticked, called, callOf};
+ghost use Rattle.trace.specs.Trace.{bodyFits};
+ghost use Rattle.night.specs.Step.{stateLen, nightIn, stepped, received, sent, ticked, called, callOf};
 
 const OUTPUT: usize = 2464;
+
+// Behind the major version: the minor one, and the own record.
+const MINOR: usize = 8641;
+
+const OWN: usize = 8642;
 
 fn wide(x: u8) -> u32
     ensures { λ r. ⌜ r ≡ x ⌝ }
@@ -16,24 +25,31 @@ fn wide(x: u8) -> u32
 }
 
 // Kind 1: message ID 4, verdict 1, key 32, nonce 16, datagram.
-fn receive(opening: &[u8], cache: &mut [u8], waiting: &mut [u8], body: &[u8]) -> u32
-    requires { ⌜ length (now opening) ≡ 102 ⌝ }
+fn receive(state: &mut [u8], body: &[u8]) -> u32
+    requires { ⌜ length (now state) ≡ stateLen ⌝ }
     requires { ⌜ 53 ≤ length (now body) ⌝ }
-    ensures { λ r. ⌜ stepped r (night (now (opening .entry)) (memory (now (cache .exit)) (now (waiting .exit))))
-        ≡ called (night (now (opening .entry)) (memory (now (cache .entry)) (now (waiting .entry))))
-        (received (now (opening .entry)) (now (body .entry))) ⌝ }
+    ensures { λ r. ⌜ stepped r (nightIn (now (state .exit))) ≡ called (nightIn (now (state .entry)))
+        (received (nightIn (now (state .entry)) .opening) (now (body .entry))) ⌝ }
 {
     let cpa = [0u8; 1];
+    let mut own = [0u8; record::RECORD_LEN];
+    let mut cache = [0u8; CACHE];
+    let mut waiting = [0u8; WAITING];
     let mut output = [0u8; OUTPUT];
+    runs::copy_to(&mut own, 0, &state[OWN..]);
+    runs::copy_to(&mut cache, 0, &state[..CACHE]);
+    runs::copy_to(&mut waiting, 0, &state[CACHE..TABLES]);
+    let major = state[OPENING];
+    let minor = state[MINOR];
     let id = octet::read_u32_le(body, 0);
     let verdict = wide(body[4]);
     let answer = gauge::gauge_receive(
-        &opening[2..102],
+        &own,
         &cpa,
-        cache,
-        waiting,
-        opening[0],
-        opening[1],
+        &mut cache,
+        &mut waiting,
+        major,
+        minor,
         id,
         &body[37..53],
         verdict,
@@ -41,65 +57,67 @@ fn receive(opening: &[u8], cache: &mut [u8], waiting: &mut [u8], body: &[u8]) ->
         &body[53..],
         &mut output,
     );
+    runs::copy_to(state, 0, &cache);
+    runs::copy_to(state, CACHE, &waiting);
     answer.number
 }
 
 // Kind 2: message ID 4, neighbour key 32, record key 32.
-fn send(opening: &[u8], cache: &[u8], waiting: &mut [u8], body: &[u8]) -> u32
-    requires { ⌜ length (now opening) ≡ 102 ⌝ }
+fn send(state: &mut [u8], body: &[u8]) -> u32
+    requires { ⌜ length (now state) ≡ stateLen ⌝ }
     requires { ⌜ length (now body) ≡ 68 ⌝ }
-    ensures { λ r. ⌜ ((m : Memory)
-        → stepped r (night (now (opening .entry)) (withTables (now (cache .entry)) (now (waiting .exit)) m))
-        ≡ called (night (now (opening .entry)) (withTables (now (cache .entry)) (now (waiting .entry)) m))
-        (sent (now (opening .entry)) (now (body .entry)))) ⌝ }
+    ensures { λ r. ⌜ stepped r (nightIn (now (state .exit))) ≡ called (nightIn (now (state .entry)))
+        (sent (nightIn (now (state .entry)) .opening) (now (body .entry))) ⌝ }
 {
+    let mut own = [0u8; record::RECORD_LEN];
+    let mut waiting = [0u8; WAITING];
     let mut output = [0u8; OUTPUT];
+    runs::copy_to(&mut own, 0, &state[OWN..]);
+    runs::copy_to(&mut waiting, 0, &state[CACHE..TABLES]);
+    let major = state[OPENING];
+    let minor = state[MINOR];
     let id = octet::read_u32_le(body, 0);
     let answer = gauge::gauge_send(
-        &opening[2..102],
-        cache,
-        waiting,
-        opening[0],
-        opening[1],
+        &own,
+        &state[..CACHE],
+        &mut waiting,
+        major,
+        minor,
         id,
         &body[4..36],
         &body[36..68],
         &mut output,
     );
+    runs::copy_to(state, CACHE, &waiting);
     answer.number
 }
 
 // Kind 3: no body.
-fn tick(opening: &[u8], waiting: &mut [u8]) -> u32
-    requires { ⌜ length (now opening) ≡ 102 ⌝ }
-    ensures { λ r. ⌜ ((m : Memory) → stepped r (night (now (opening .entry)) (withWaiting (now (waiting .exit)) m))
-        ≡ called (night (now (opening .entry)) (withWaiting (now (waiting .entry)) m))
-        (ticked (now (opening .entry)))) ⌝ }
+fn tick(state: &mut [u8]) -> u32
+    requires { ⌜ length (now state) ≡ stateLen ⌝ }
+    ensures { λ r. ⌜ stepped r (nightIn (now (state .exit))) ≡ called (nightIn (now (state .entry)))
+        (ticked (nightIn (now (state .entry)) .opening)) ⌝ }
 {
+    let mut waiting = [0u8; WAITING];
     let mut output = [0u8; OUTPUT];
-    let answer = gauge::gauge_tick(&opening[2..102], waiting, &mut output);
+    runs::copy_to(&mut waiting, 0, &state[CACHE..TABLES]);
+    let answer = gauge::gauge_tick(&state[OWN..], &mut waiting, &mut output);
+    runs::copy_to(state, CACHE, &waiting);
     answer.number
 }
 
 // The call that a record of kind 1, 2 or 3 is.
-pub(crate) fn make(
-    kind: u16,
-    opening: &[u8],
-    cache: &mut [u8],
-    waiting: &mut [u8],
-    body: &[u8],
-) -> u32
-    requires { ⌜ length (now opening) ≡ 102 ⌝ }
+pub(crate) fn make(kind: u16, state: &mut [u8], body: &[u8]) -> u32
+    requires { ⌜ length (now state) ≡ stateLen ⌝ }
     requires { ⌜ bodyFits kind (length (now body)) ≡ true ⌝ }
-    ensures { λ r. ⌜ stepped r (night (now (opening .entry)) (memory (now (cache .exit)) (now (waiting .exit))))
-        ≡ called (night (now (opening .entry)) (memory (now (cache .entry)) (now (waiting .entry))))
-        (callOf (now (opening .entry)) kind (now (body .entry))) ⌝ }
+    ensures { λ r. ⌜ stepped r (nightIn (now (state .exit))) ≡ called (nightIn (now (state .entry)))
+        (callOf (nightIn (now (state .entry)) .opening) kind (now (body .entry))) ⌝ }
 {
     if kind == 1 {
-        return receive(opening, cache, waiting, body);
+        return receive(state, body);
     }
     if kind == 2 {
-        return send(opening, cache, waiting, body);
+        return send(state, body);
     }
-    tick(opening, waiting)
+    tick(state)
 }

@@ -2,25 +2,28 @@
 mod call;
 
 ghost use mathlib.Core.Path.{_≡_};
-ghost use Rattle.gauge_plan.specs.Lent.{memory};
-ghost use Rattle.night.specs.Step.{night, stepped, stepOf};
+ghost use Rattle.night.specs.Step.{nightIn, stepped, stepOf};
 
-// What is lent from one record to the next: versions and own record as the first record has them, a cache of 64 records,
-// the waiting table.
-pub const OPENING: usize = 102;
-
+// What is lent from one record to the next is one slice, so that nobody but the calls has to know of what memory is made:
+// a cache of 64 records, the waiting table behind it, which ends at TABLES; and behind all memory, at OPENING, versions and
+// own record as the first record has them.
 pub const CACHE: usize = 6400;
 
 pub const WAITING: usize = 2240;
 
+pub const TABLES: usize = 8640;
+
+pub const OPENING: usize = 8640;
+
+pub const STATE: usize = 8742;
+
 // Record number `at` of a night, counted from 0: the number of its call, 0 for the record that opens the night, or 16 or 17
 // where it is bad.
-pub fn step(at: u64, opening: &mut [u8], cache: &mut [u8], waiting: &mut [u8], piece: &[u8]) -> u32
-    ensures { λ r. ⌜ stepped r (night (now (opening .exit)) (memory (now (cache .exit)) (now (waiting .exit))))
-        ≡ stepOf at (night (now (opening .entry)) (memory (now (cache .entry)) (now (waiting .entry))))
-        (now (piece .entry)) ⌝ }
+pub fn step(at: u64, state: &mut [u8], piece: &[u8]) -> u32
+    ensures { λ r. ⌜ stepped r (nightIn (now (state .exit)))
+        ≡ stepOf at (nightIn (now (state .entry))) (now (piece .entry)) ⌝ }
 {
-    if opening.len() != OPENING {
+    if state.len() != STATE {
         return 1;
     }
     let bad = trace::fault_of(at, piece);
@@ -29,8 +32,8 @@ pub fn step(at: u64, opening: &mut [u8], cache: &mut [u8], waiting: &mut [u8], p
     }
     let kind = octet::read_u16_le(piece, 2);
     if kind == 4 {
-        runs::copy_to(opening, 0, &piece[4..]);
+        runs::copy_to(state, OPENING, &piece[4..]);
         return 0;
     }
-    call::make(kind, opening, cache, waiting, &piece[4..])
+    call::make(kind, state, &piece[4..])
 }

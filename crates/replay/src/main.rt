@@ -38,9 +38,7 @@ fn say_unread() {
 }
 
 fn main() {
-    let mut first = [0u8; night::OPENING];
-    let mut cache = [0u8; night::CACHE];
-    let mut waiting = [0u8; night::WAITING];
+    let mut state = [0u8; night::STATE];
     let mut room = [0u8; trace::RECORD];
     let mut piece = [0u8; PIECE];
     let mut text = [0u8; TEXT];
@@ -53,20 +51,12 @@ fn main() {
         }
         let n = io::count(got, &piece);
         if n == 0 {
-            let end = close(held, &mut first, &mut cache, &mut waiting, &room, &mut text);
+            let end = close(held, &mut state, &room, &mut text);
             write(&text[..end]);
             return;
         }
         let new = &piece[..n];
-        held = feed(
-            held,
-            &mut first,
-            &mut cache,
-            &mut waiting,
-            &mut room,
-            new,
-            &mut text,
-        );
+        held = feed(held, &mut state, &mut room, new, &mut text);
         let end = held.end;
         if !write(&text[..end]) || held.over {
             return;

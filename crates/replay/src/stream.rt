@@ -3,8 +3,7 @@ ghost use mathlib.Core.Path.{_≡_};
 ghost use mathlib.Core.Bool.{false};
 ghost use Prim.Native.Nat.{_+_, _*_, _^_, _≤_, _<_};
 ghost use lib.ListN.{length, take};
-ghost use Rattle.gauge_plan.specs.Lent.{memory};
-ghost use Rattle.night.specs.Step.{night};
+ghost use Rattle.night.specs.Step.{nightIn};
 ghost use Rattle.replay.specs.Stream.{stream, gives, after, wanted, fed, closing, closed};
 ghost use Rattle.replay.specs.Room.{Begun};
 use crate::line;
@@ -66,9 +65,7 @@ fn take_run(
     at: u64,
     begun: usize,
     end: usize,
-    opening: &mut [u8],
-    cache: &mut [u8],
-    waiting: &mut [u8],
+    state: &mut [u8],
     room: &mut [u8],
     run: &[u8],
     text: &mut [u8],
@@ -80,10 +77,10 @@ fn take_run(
     requires { ⌜ end + 42 ≤ length (now text) ⌝ }
     requires { ⌜ at + 1 < 2 ^ 64 ⌝ }
     ensures { λ r. ⌜ gives (take (r .end) (now (text .exit))) (stream (r .at)
-        (night (now (opening .exit)) (memory (now (cache .exit)) (now (waiting .exit))))
+        (nightIn (now (state .exit)))
         (take (r .begun) (now (room .exit))) (r .over))
         ≡ after (take end (now (text .entry))) (fed (stream at
-        (night (now (opening .entry)) (memory (now (cache .entry)) (now (waiting .entry))))
+        (nightIn (now (state .entry)))
         (take begun (now (room .entry))) false) (now (run .entry))) ⌝ }
     ensures { λ r. ⌜ (r .at) ≤ at + 1 ⌝ }
     ensures { λ r. ⌜ (r .end) ≤ end + 42 ⌝ }
@@ -99,7 +96,7 @@ fn take_run(
             end,
         };
     }
-    let answer = night::step(at, opening, cache, waiting, &room[..len]);
+    let answer = night::step(at, state, &room[..len]);
     let put = line::put(text, end, at, answer);
     let over = trace::is_end(answer);
     Held {
@@ -113,9 +110,7 @@ fn take_run(
 // Takes a piece of the trace, and puts the lines of the records that it makes whole at the start of `text`.
 pub(crate) fn feed(
     from: Held,
-    opening: &mut [u8],
-    cache: &mut [u8],
-    waiting: &mut [u8],
+    state: &mut [u8],
     room: &mut [u8],
     piece: &[u8],
     text: &mut [u8],
@@ -124,10 +119,10 @@ pub(crate) fn feed(
     requires { ⌜ 42 * length (now piece) ≤ length (now text) ⌝ }
     requires { ⌜ (from .at) + length (now piece) < 2 ^ 64 ⌝ }
     ensures { λ r. ⌜ gives (take (r .end) (now (text .exit))) (stream (r .at)
-        (night (now (opening .exit)) (memory (now (cache .exit)) (now (waiting .exit))))
+        (nightIn (now (state .exit)))
         (take (r .begun) (now (room .exit))) (r .over))
         ≡ fed (stream (from .at)
-        (night (now (opening .entry)) (memory (now (cache .entry)) (now (waiting .entry))))
+        (nightIn (now (state .entry)))
         (take (from .begun) (now (room .entry))) (from .over)) (now (piece .entry)) ⌝ }
     ensures { λ r. ⌜ (r .at) ≤ (from .at) + length (now (piece .entry)) ⌝ }
     ensures { λ r. ⌜ (r .end) ≤ length (now (text .exit)) ⌝ }
@@ -148,27 +143,20 @@ pub(crate) fn feed(
         let want = wanted_of(room, begun);
         let next = i + least(want - begun, piece.len() - i);
         let run = &piece[i..next];
-        h = take_run(h.at, begun, h.end, opening, cache, waiting, room, run, text);
+        h = take_run(h.at, begun, h.end, state, room, run, text);
         i = next;
     }
     h
 }
 
 // The trace has ended. Puts the last line, if there is one, at the start of `text`.
-pub(crate) fn close(
-    from: Held,
-    opening: &mut [u8],
-    cache: &mut [u8],
-    waiting: &mut [u8],
-    room: &[u8],
-    text: &mut [u8],
-) -> usize
+pub(crate) fn close(from: Held, state: &mut [u8], room: &[u8], text: &mut [u8]) -> usize
     requires { ⌜ (from .begun) ≤ length (now room) ⌝ }
     requires { ⌜ 42 ≤ length (now text) ⌝ }
     ensures { λ r. ⌜ closing (take r (now (text .exit)))
-        (night (now (opening .exit)) (memory (now (cache .exit)) (now (waiting .exit))))
+        (nightIn (now (state .exit)))
         ≡ closed (stream (from .at)
-        (night (now (opening .entry)) (memory (now (cache .entry)) (now (waiting .entry))))
+        (nightIn (now (state .entry)))
         (take (from .begun) (now (room .entry))) (from .over)) ⌝ }
     ensures { λ r. ⌜ r ≤ 42 ⌝ }
 {
@@ -179,6 +167,6 @@ pub(crate) fn close(
     if begun == 0 {
         return line::put_end(text, from.at);
     }
-    let answer = night::step(from.at, opening, cache, waiting, &room[..begun]);
+    let answer = night::step(from.at, state, &room[..begun]);
     line::put(text, 0, from.at, answer)
 }

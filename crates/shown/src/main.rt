@@ -16,6 +16,11 @@ const LINE: usize = 512;
 
 const NAMES: usize = 65536;
 
+// Versions and own record, as the first record has them.
+fn opening(state: &[u8]) -> &[u8] {
+    text::part(state, night::OPENING, night::STATE)
+}
+
 // The record that opens the night: whose it is. Answers whether to go on.
 fn open(line: &mut [u8], names: &[u8], opening: &[u8], answer: u32) -> bool {
     if trace::is_end(answer) {
@@ -59,24 +64,22 @@ fn one(
     names: &[u8],
     at: u64,
     room: &mut [u8],
-    opening: &mut [u8],
-    cache: &mut [u8],
-    waiting: &mut [u8],
+    state: &mut [u8],
     counts: &mut [u64; 26],
 ) -> bool {
     let len = trace::next_record(room);
     if len == 0 {
         return end(line, at);
     }
-    let answer = night::step(at, opening, cache, waiting, text::part(room, 0, len));
+    let answer = night::step(at, state, text::part(room, 0, len));
     if at == 0 {
-        return open(line, names, opening, answer);
+        return open(line, names, opening(state), answer);
     }
     go_on(
         line,
         names,
         at,
-        opening,
+        opening(state),
         answer,
         text::part(room, 0, len),
         counts,
@@ -96,15 +99,7 @@ fn say_last(counts: &[u64; 26]) {
 }
 
 // Behind the records: why there are no more, what the gauge kept, how often each answer was given.
-fn say_end(
-    line: &mut [u8],
-    names: &[u8],
-    good: u64,
-    opening: &[u8],
-    cache: &[u8],
-    waiting: &[u8],
-    counts: &[u64; 26],
-) {
+fn say_end(line: &mut [u8], names: &[u8], good: u64, state: &[u8], counts: &[u64; 26]) {
     if totals::is_stopped(counts) {
         text::tell(
             b"The replay stopped at this record. What follows it in the trace was not looked at.\n",
@@ -115,7 +110,13 @@ fn say_end(
             b"The trace does not open with a gauge's own record, as a night must: there is no more to show.\n",
         );
     }
-    state::say_state(line, names, opening, cache, waiting);
+    state::say_state(
+        line,
+        names,
+        opening(state),
+        text::part(state, 0, night::CACHE),
+        text::part(state, night::CACHE, night::TABLES),
+    );
     totals::say_totals(line, counts);
     say_last(counts)
 }
@@ -126,9 +127,7 @@ fn main() {
     let mut line = [0u8; LINE];
     let mut names = [0u8; NAMES];
     let mut room = [0u8; trace::RECORD];
-    let mut opening = [0u8; night::OPENING];
-    let mut cache = [0u8; night::CACHE];
-    let mut waiting = [0u8; night::WAITING];
+    let mut state = [0u8; night::STATE];
     let mut counts = [0u64; 26];
     let len = io::read_full(3, &mut names);
     let mut at = 0u64;
@@ -138,21 +137,11 @@ fn main() {
             text::part(&names, 0, len),
             at,
             &mut room,
-            &mut opening,
-            &mut cache,
-            &mut waiting,
+            &mut state,
             &mut counts,
         );
         if !more {
-            return say_end(
-                &mut line,
-                text::part(&names, 0, len),
-                at,
-                &opening,
-                &cache,
-                &waiting,
-                &counts,
-            );
+            return say_end(&mut line, text::part(&names, 0, len), at, &state, &counts);
         }
         at += 1;
     }

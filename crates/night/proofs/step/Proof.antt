@@ -1,38 +1,46 @@
 -- `night::step` meets its contract. Assumes nothing.
-use mathlib.Core.Path.{_≡_, sym, _∙_}
+use mathlib.Core.Path.{_≡_, sym, ap, _∙_}
 use Prim.Native.Nat.{_≤_}
 use native.Mathlib.Omega.{arith}
-use lib.ListN.{length}
-use borrow.Author.Needs.{needs}
+use lib.ListN.{length, length-drop}
 use Rattle.refusal.specs.Table.{firstOf}
-use Rattle.gauge_plan.specs.Lent.{memory}
 use Rattle.trace.specs.Fault.{faults}
-use Rattle.night.specs.Step.{night}
+use Rattle.night.specs.Step.{nightIn}
 use Rattle.trace.proofs.FaultLaws.{good-record}
+use Rattle.night.proofs.CallLaws.{opening-fits, opening-back}
 use Rattle.night.proofs.StepLaws.{step-unfit, refuses, body-fits, opening-length, opens, makes}
+use borrow.Author.Needs.{needs}
 use Rattle.night.proofs.step.Statement.{statement}
 use Rattle.night.proofs.step.Tie as tie
 
--- behind the second test: the opening has its length, the record is good
-fit : (c : tie.Else2) → length (c .before .before .before .before .before .before .before .args .opening .now) ≡ 102
+-- behind the second test: the slice has its length, the record is good
+abbrev lent : tie.Else2 → tie.Start
+lent c = c .before .before .before .before .before
+
+fit : (c : tie.Else2) → length (lent c .args .state .now) ≡ 8742
 fit c = c .before .before .if1 .left
 
-clean : (c : tie.Else2) → (let a = c .before .before .before .before .before .before .before .args in firstOf (faults (a .at) (a .piece .now)) ≡ 0)
+fits-so : (c : tie.Else2) → length (nightIn (lent c .args .state .now) .opening) ≡ 102
+fits-so c = opening-fits (lent c .args .state .now) (fit c)
+
+clean : (c : tie.Else2) → firstOf (faults (lent c .args .at) (lent c .args .piece .now)) ≡ 0
 clean c = sym (c .before .fault-of .ensures) ∙ c .if2 .left
 
-kinded : (c : tie.Else2) → 4 ≤ length (c .before .before .before .before .before .before .before .args .piece .now)
+kinded : (c : tie.Else2) → 4 ≤ length (lent c .args .piece .now)
 kinded c = good-record _ _ (clean c) .0
 
 returns : tie.Need-returns
-returns c = step-unfit _ _ _ (c .if1 .taken)
+returns c =
+    let s = c .before .before .before .args .state .now in
+    step-unfit _ _ _ (λ e. c .if1 .taken (omega (arith, e, length-drop 8640 s)))
 
 fault-of-requires : tie.Need-fault-of-requires
 fault-of-requires c κs = search needs
 
 returns-2 : tie.Need-returns-2
 returns-2 c =
-    let a = c .before .before .before .before .before .before .before .args in
-    refuses (a .at) (night (a .opening .now) (memory (a .cache .now) (a .waiting .now))) (a .piece .now) (c .before .before .if1 .left) _
+    let a = c .before .before .before .before .before .args in
+    refuses (a .at) (nightIn (a .state .now)) (a .piece .now) (opening-fits (a .state .now) (c .before .before .if1 .left)) _
     (c .before .fault-of .ensures) (c .if2 .taken)
 
 read-u16-le-requires : tie.Need-read-u16-le-requires
@@ -50,10 +58,10 @@ part-copy-to-end c = search needs
 copy-to-requires : tie.Need-copy-to-requires
 copy-to-requires c κs =
     let i = c .before .before .before .before in
-    let a = i .before .before .before .before .before .before .before .args in
-    let n = night (a .opening .now) (memory (a .cache .now) (a .waiting .now)) in
+    let a = lent i .args in
     let l =
-    opening-length (a .at) n (a .piece .now) (fit i) (clean i) _ (c .before .before .before .read-u16-le .ensures) (c .before .before .if3 .taken) in
+    opening-length (a .at) (nightIn (a .state .now)) (a .piece .now) (fits-so i) (clean i) _ (c .before .before .before .read-u16-le .ensures)
+    (c .before .before .if3 .taken) in
     omega (arith, l, fit i)
 
 same-length : tie.Need-same-length
@@ -63,44 +71,38 @@ returns-3 : tie.Need-returns-3
 returns-3 c =
     let then3 = c .before .before .before .before .before in
     let i = then3 .before .before in
-    let a = i .before .before .before .before .before .before .before .args in
-    let n = night (a .opening .now) (memory (a .cache .now) (a .waiting .now)) in
-    opens (a .at) n (a .piece .now) (fit i) (clean i) _ (then3 .before .read-u16-le .ensures) (then3 .if3 .taken) _
-    (c .before .before .copy-to .ensures)
+    let a = lent i .args in
+    let n = nightIn (a .state .now) in
+    let known = then3 .before .read-u16-le .ensures in
+    opens (a .at) n (a .piece .now) (fits-so i) (clean i) _ known (then3 .if3 .taken) _
+    (ap nightIn (c .before .before .copy-to .ensures)
+    ∙ opening-back (a .state .now) (fit i) _ (opening-length (a .at) n (a .piece .now) (fits-so i) (clean i) _ known (then3 .if3 .taken)))
 
 sub-make : tie.Need-sub-make
-sub-make c = kinded (c .before .before .before .before .before)
+sub-make c = kinded (c .before .before .before)
 
 part-make-start : tie.Need-part-make-start
-part-make-start c = kinded (c .before .before .before .before .before)
+part-make-start c = kinded (c .before .before .before)
 
 part-make-end : tie.Need-part-make-end
 part-make-end c = search needs
 
 make-requires : tie.Need-make-requires
 make-requires c κs =
-    let i = c .before .before .before .before .before .before in
-    let a = i .before .before .before .before .before .before .before .args in
-    let n = night (a .opening .now) (memory (a .cache .now) (a .waiting .now)) in
-    (fit i, body-fits (a .at) n (a .piece .now) (fit i) (clean i) _ (c .before .before .before .before .before .read-u16-le .ensures))
+    let i = c .before .before .before .before in
+    let a = lent i .args in
+    (fit i, body-fits (a .at) (nightIn (a .state .now)) (a .piece .now) (fits-so i) (clean i) _ (c .before .before .before .read-u16-le .ensures))
 
 same-length-2 : tie.Need-same-length-2
 same-length-2 c = search needs
 
-same-length-3 : tie.Need-same-length-3
-same-length-3 c = search needs
-
-same-length-4 : tie.Need-same-length-4
-same-length-4 c = search needs
-
 returns-4 : tie.Need-returns-4
 returns-4 c =
-    let else3 = c .before .before .before .before .before .before .before .before .before in
+    let else3 = c .before .before .before .before .before in
     let i = else3 .before .before in
-    let a = i .before .before .before .before .before .before .before .args in
-    let n = night (a .opening .now) (memory (a .cache .now) (a .waiting .now)) in
-    makes (a .at) n (a .piece .now) (fit i) (clean i) _ (else3 .before .read-u16-le .ensures) (else3 .if3 .left) _
-    (c .before .before .before .before .make .ensures)
+    let a = lent i .args in
+    makes (a .at) (nightIn (a .state .now)) (a .piece .now) (fits-so i) (clean i) _ (else3 .before .read-u16-le .ensures) (else3 .if3 .left) _
+    (c .before .before .make .ensures)
 
 pub step-spec : {M : Type 1} → statement M
 step-spec =
@@ -121,6 +123,4 @@ step-spec =
     part-make-end
     make-requires
     same-length-2
-    same-length-3
-    same-length-4
     returns-4)

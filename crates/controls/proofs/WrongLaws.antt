@@ -11,10 +11,10 @@ use Rattle.waiting.specs.Place.{newPlace}
 use Rattle.wire_fields.specs.Kinds.{floodKinds}
 use Rattle.wire_fields.specs.Message as message
 use Rattle.wire_write.specs.Making.{floodMade}
-use Rattle.gauge_plan.specs.Lent.{receive, tick, Call, receives, ticks}
+use Rattle.gauge_plan.specs.Lent.{tick, Call, ticks}
 use Rattle.gauge_commit.specs.Sending.{Handed}
 use Rattle.sentences.proofs.ComputedLaws.{computed}
-use Rattle.signed.specs.Cases.{key, recordWith, holding, hears, inquiryFor, authority, lookupOf}
+use Rattle.signed.specs.Cases.{key, recordWith, holding, hearsInto, hears, inquiryFor, authority, lookupOf}
 use Rattle.controls.specs.Wrong as W
 use Rattle.controls.proofs.ShutLaws.{fits, fits-bytes, shut}
 
@@ -72,7 +72,7 @@ abbrev flood : List ℕ
 flood = floodMade 6 101 5 (key 3) (recordWith 99) 0 .bytes
 
 abbrev asked : Call
-asked = receives (receive (recordWith 100) (0 ∷ []) 6 101 7 (replicate 16 0) 1 (key 99) flood (replicate 102 0))
+asked = hearsInto 102 100 99 flood
 
 moves-second-shut : W.Shut W.movesSecond
 unfolding computed W.movesSecond fits
@@ -158,7 +158,7 @@ frees-then-refuses-shut : W.Shut W.freesThenRefuses
 unfolding computed W.freesThenRefuses fits
 frees-then-refuses-shut =
     shut W.freesThenRefuses (holding 10 [] (inquiryFor 99 ∷ []))
-    (receives (receive (recordWith 100) (0 ∷ []) 6 101 7 (replicate 16 0) 1 (key 99) revocation (replicate 25 0)))
+    (hearsInto 25 100 99 revocation)
     (λ (h : Handed). usedOf (h .memory .waiting)) (fits-bytes revocation refl, omega arith)
     (λ e. absurd (let z : _≡_ {A = ℕ} 0 1 = e in omega arith))
 

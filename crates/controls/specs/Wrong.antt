@@ -9,7 +9,7 @@ use Rattle.octet.specs.Part.{part, same, allZero}
 use Rattle.kept.specs.Keys.{Every}
 use Rattle.waiting.specs.Form.{usedOf}
 use Rattle.gauge_commit.specs.Sending.{answer, Handed, handed}
-use Rattle.gauge_plan.specs.Lent.{withCache, withWaiting, receive, Call, receives, sends, ticks, lists, outputOf}
+use Rattle.gauge_plan.specs.Lent.{withCache, withWaiting, hearingAs, Call, receives, sends, ticks, lists, outputOf}
 use Rattle.gauge.specs.Words.{Gauge}
 use Rattle.gauge.specs.Ours.{ours}
 use Rattle.sentences.specs.Meets.{MeetsSentences}
@@ -35,8 +35,7 @@ isOneTick (lists l) = false
 
 -- the same datagram, as another gauge would hear it: with another own record
 abbrev pub heardBy : List ℕ → Call → Call
-heardBy r (receives l) =
-    receives (receive r (l .cpa) (l .major) (l .minor) (l .id) (l .nonce) (l .verdict) (l .key) (l .datagram) (l .output))
+heardBy r (receives l) = receives (hearingAs r l)
 heardBy r (sends l) = sends l
 heardBy r (ticks l) = ticks l
 heardBy r (lists l) = lists l

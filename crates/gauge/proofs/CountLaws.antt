@@ -1,11 +1,12 @@
--- Laws of the counts that a tick and the neighbour list answer: they are small. Assumes nothing.
+-- Laws of a tick and of the neighbour list: the tick is waiting_form's; the counts are small. Assumes nothing.
+use mathlib.Core.Path.{_≡_}
 use Prim.Native.Nat.{ℕ, _≤_}
 use native.Mathlib.Omega.{arith}
 use mathlib.Core.List.{List}
 use lib.ListN.{length-take}
 use Rattle.key.specs.Around.{below, above, sideOf, nearness}
 use Rattle.record.specs.Record.{keyOf}
-use Rattle.refusal.proofs.CallLaws.{or-known}
+use Rattle.refusal.proofs.CallLaws.{or-known, or-under}
 use Rattle.table.proofs.RowLaws.{rows-length}
 use Rattle.kept.specs.Neighbours.{nearestFirst}
 use Rattle.cache.specs.Form.{keysOf}
@@ -16,6 +17,16 @@ use Rattle.waiting.specs.Form.{usedOf, placesOf}
 use Rattle.waiting_form.specs.Call.{Ticked, tickHanded, tickRefusals, tickDone, tickCall}
 use Rattle.waiting.proofs.TickLaws.{listed-few}
 use Rattle.waiting.proofs.FormLaws.{used-few}
+use Rattle.gauge_plan.specs.Lent.{Memory, Tick}
+use Rattle.gauge_plan.specs.Memory.{tickFit}
+use Rattle.gauge.specs.Counts.{tickAnswered, gaugeTick}
+
+-- the call is that on own record, waiting table and output
+pub tick-called : (m : Memory) (l : Tick) → tickAnswered m (tickCall (l .own) (m .waiting) (l .output)) ≡ gaugeTick m l
+unfolding gaugeTick tickCall tickRefusals tickFit
+tick-called m l =
+    or-under (tickAnswered m) (λ (n : ℕ). tickHanded n 0 (m .waiting) (l .output)) (tickRefusals (l .own) (m .waiting) (l .output))
+    (tickDone (m .waiting) (l .output))
 
 -- at most 16 IDs are listed
 pub tick-few : (own t o : List ℕ) → tickCall own t o .count ≤ 16

@@ -6,18 +6,12 @@ use mathlib.Core.Bool.{true}
 use Rattle.octet.specs.Number.{Bytes}
 use Rattle.own.specs.Own.{ownKeys, ownForm}
 use Rattle.kept.specs.Keys.{Every}
-use Rattle.cache.specs.Form.{cacheForm}
-use Rattle.waiting.specs.Form.{waitingForm}
 use Rattle.gauge_plan.specs.Lent.{Memory, Call, receives, sends, ticks, lists, ownOf}
 use Rattle.gauge_commit.specs.declared.Answer.{Answer}
 use Rattle.gauge_commit.specs.Sending.{Handed}
 
 abbrev pub Gauge : Type 0
 Gauge = Memory → Call → Handed
-
--- memory is in form, for the own key k
-abbrev pub InForm : ℕ → Memory → Type 0
-InForm k m = (cacheForm k (m .cache) ≡ true) × (waitingForm k (m .waiting) ≡ true)
 
 -- how many bytes of the output the two counts stand for: lengths of datagrams, IDs of 4 bytes, keys of 32
 abbrev pub returned : Call → Answer → ℕ

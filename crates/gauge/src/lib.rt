@@ -29,6 +29,9 @@ pub extern "C" fn gauge_receive(
         (now (cpa .entry)) major minor id (now (nonce .entry)) verdict (now (key .entry)) (now (datagram .entry))
         (now (output .entry)))) ⌝ }
 {
+    if !gauge_plan::hands_fit(cpa, nonce, key) {
+        return gauge_commit::answer_of(refusal::MEMORY, 0, 0);
+    }
     let plan = plan_message::plan_receive(
         own,
         cpa,
@@ -36,7 +39,6 @@ pub extern "C" fn gauge_receive(
         waiting,
         major,
         id,
-        nonce,
         verdict,
         key,
         datagram,

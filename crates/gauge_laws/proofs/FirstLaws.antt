@@ -43,18 +43,18 @@ use Rattle.gauge_plan.specs.declared.Plan.the-variants.{Refuse, Flood, Revoke, 
 use Rattle.plan_send.specs.Send.{recordSent, floodRoom}
 use Rattle.plan_send.specs.declared.SendPlan.{SendPlan}
 use Rattle.plan_send.specs.declared.SendPlan.the-variants as S
-use Rattle.gauge_commit.specs.Sending.{lengths, sending, OnlyFirst}
+use Rattle.gauge_commit.specs.Sending.{answer, lengths, sending, Handed, handed, OnlyFirst}
 use Rattle.gauge_commit.specs.Replies.{ackWritten, inquireWritten}
 use Rattle.gauge_commit.proofs.LengthLaws.{inquire-length, cpa-length, closest-length, flood-length}
 use Rattle.gauge_commit.proofs.SentLaws.{joined-one, asked, acks-room, record-long}
 use Rattle.neighbours.proofs.ClosestLaws.{closest-formed}
-use Rattle.gauge_plan.specs.Lent.{Memory, Receive, Send, Call, receives, sends, ticks, lists, outputOf}
+use Rattle.gauge_plan.specs.Lent.{Memory, Receive, Send, Tick, Call, receives, sends, ticks, lists, outputOf}
 use Rattle.gauge.specs.Words.{returned}
 use Rattle.gauge.specs.Ours.{ours}
 use Rattle.plan_message.specs.Planned.{receivePlan}
 use Rattle.gauge.specs.Receive.{carried, receiveCall}
 use Rattle.gauge.specs.Send.{sendPlan, sendCarried, sendCall}
-use Rattle.gauge.specs.Counts.{gaugeTick, gaugeList}
+use Rattle.gauge.specs.Counts.{tickAnswered, tickTable, gaugeTick, gaugeList}
 use Rattle.plan_message.proofs.PlannedLaws.{Known, known}
 use Rattle.gauge.proofs.SendLaws.{KnownSend, send-known}
 
@@ -183,11 +183,13 @@ send-first m l (S.Flood u ours at) k =
 
 -- ---- the tick and the neighbour list
 
-tick-first : (own waiting output : List ℕ) → OnlyFirst (4 * W.tickCall own waiting output .count) output (W.tickCall own waiting output .output)
-unfolding W.tickCall W.tickDone W.tickRefusals
-tick-first own waiting output =
-    or-known (λ (t : W.Ticked). OnlyFirst (4 * t .count) output (t .output)) (λ (n : ℕ). W.tickHanded n 0 waiting output)
-    (W.tickRefusals own waiting output) (W.tickDone waiting output)
+tick-first : (m : Memory) (l : Tick) → OnlyFirst (4 * gaugeTick m l .answer .first) (l .output) (gaugeTick m l .output)
+unfolding gaugeTick W.tickDone
+tick-first m l =
+    let waiting = m .waiting in
+    let output = l .output in
+    or-known (λ (h : Handed). OnlyFirst (4 * h .answer .first) output (h .output)) (λ (n : ℕ). handed (answer n 0 0) m output) (tickTable m l)
+    (tickAnswered m (W.tickDone waiting output))
     (λ n. none-first output)
     (λ f.
     let ids = listed (placesOf waiting) in
@@ -215,8 +217,8 @@ list-first own cache output =
 
 -- "On acceptance the output changes only in its first bytes, as many as returned"; with a refusal in none
 pub first-bytes : (m : Memory) (c : Call) → OnlyFirst (returned c (ours m c .answer)) (outputOf c) (ours m c .output)
-unfolding receiveCall sendCall gaugeTick gaugeList
+unfolding receiveCall sendCall gaugeList
 first-bytes m (receives l) = plan-first m l (receivePlan m l) (known m l)
 first-bytes m (sends l) = send-first m l (sendPlan m l) (send-known m l)
-first-bytes m (ticks l) = tick-first (l .own) (m .waiting) (l .output)
+first-bytes m (ticks l) = tick-first m l
 first-bytes m (lists l) = list-first (l .own) (m .cache) (l .output)

@@ -1,4 +1,4 @@
--- An accepted call leaves the cache and the waiting table in form. Assumes nothing.
+-- An accepted call leaves memory in form: cache and waiting table, and what stands beside them as it was. Assumes nothing.
 use mathlib.Core.Path.{_≡_, refl, sym, ap, subst, _∙_}
 use mathlib.Core.Bool.{true, false}
 use mathlib.Core.List.{List, []}
@@ -12,26 +12,71 @@ use Rattle.cache.specs.Form.{Form, cacheForm}
 use Rattle.cache.specs.Bytes.{afterLearn, afterRemove}
 use Rattle.cache.proofs.FormLaws.{form-true}
 use Rattle.cache.proofs.KeepLaws.{learnt-form, removed-form}
-use Rattle.waiting.specs.Form.{waitingForm}
+use Rattle.waiting.specs.Form.{waitingForm, placesOf}
+use Rattle.waiting.specs.Ticking.{ticked}
 use Rattle.waiting.specs.Place.{placeKey, placeRecord}
-use Rattle.waiting.proofs.FormLaws.{form-test}
-use Rattle.waiting_form.proofs.CallLaws.{tick-leaves}
+use Rattle.waiting.proofs.FormLaws.{form-of, form-test}
+use Rattle.waiting.proofs.KeptLaws.{tick-kept}
+use Rattle.waiting_form.specs.Call.{tickDone}
+use Rattle.refusal.proofs.CallLaws.{or-known}
 use Rattle.gauge_plan.specs.declared.Plan.{Plan}
 use Rattle.gauge_plan.specs.declared.Plan.the-variants.{Refuse, Flood, Revoke, Learn, Free, Certify, Show}
 use Rattle.plan_send.specs.declared.SendPlan.{SendPlan}
 use Rattle.plan_send.specs.declared.SendPlan.the-variants as S
-use Rattle.gauge_commit.specs.Sending.{Handed}
+use Rattle.gauge_commit.specs.Sending.{answer, Handed, handed}
 use Rattle.gauge_commit.proofs.PlaceLaws.{record-place, record-key}
-use Rattle.gauge_plan.specs.Lent.{Memory, Receive, Send, Tick, Call, receives, sends, ticks, lists, ownOf}
-use Rattle.gauge.specs.Words.{InForm, Typed}
+use Rattle.gauge_plan.specs.Lent.{Memory, withTables, withWaiting, InForm, Receive, Send, Tick, Call, receives, sends, ticks, lists, ownOf}
+use Rattle.gauge_plan.proofs.MemoryLaws.{in-form-with}
+use Rattle.gauge.specs.Words.{Typed}
 use Rattle.gauge.specs.Ours.{ours}
 use Rattle.plan_message.specs.Planned.{receivePlan}
 use Rattle.gauge.specs.Receive.{carried, receiveCall}
 use Rattle.gauge.specs.Send.{sendPlan, sendCarried, sendCall}
-use Rattle.gauge.specs.Counts.{gaugeTick, gaugeList}
+use Rattle.gauge.specs.Counts.{tickAnswered, tickTable, gaugeTick, gaugeList}
 use Rattle.plan_message.proofs.PlannedLaws.{Known, known, learn-needs}
 use Rattle.gauge_laws.proofs.RefusedLaws.{refused-keeps}
 use Rattle.gauge_laws.proofs.MovedLaws.{receive-ready, receive-left, send-left}
+use Rattle.gauge_laws.proofs.TickLaws.{tick-done}
+
+-- ---- what stands beside the tables is as it was
+
+receive-by : (m : Memory) (l : Receive) (p : Plan)
+    → carried m l p .memory ≡ withTables (carried m l p .memory .cache) (carried m l p .memory .waiting) m
+unfolding carried
+receive-by m l (Refuse n) = refl
+receive-by m l (Flood u s n a opens start len) = refl
+receive-by m l (Revoke h u s n a) = refl
+receive-by m l (Learn h u at) = refl
+receive-by m l (Free h u at n) = refl
+receive-by m l (Certify a) = refl
+receive-by m l (Show h a target) = refl
+
+pub receive-rest : (m : Memory) (l : Receive)
+    → receiveCall m l .memory ≡ withTables (receiveCall m l .memory .cache) (receiveCall m l .memory .waiting) m
+unfolding receiveCall
+receive-rest m l = receive-by m l (receivePlan m l)
+
+send-by : (m : Memory) (l : Send) (p : SendPlan) → sendCarried m l p .memory ≡ withWaiting (sendCarried m l p .memory .waiting) m
+unfolding sendCarried
+send-by m l (S.Refuse n) = refl
+send-by m l (S.Flood u ours at) = refl
+
+pub send-rest : (m : Memory) (l : Send) → sendCall m l .memory ≡ withWaiting (sendCall m l .memory .waiting) m
+unfolding sendCall
+send-rest m l = send-by m l (sendPlan m l)
+
+pub tick-rest : (m : Memory) (l : Tick) → gaugeTick m l .memory ≡ withWaiting (gaugeTick m l .memory .waiting) m
+unfolding gaugeTick
+tick-rest m l =
+    or-known (λ (h : Handed). h .memory ≡ withWaiting (h .memory .waiting) m) (λ (n : ℕ). handed (answer n 0 0) m (l .output)) (tickTable m l)
+    (tickAnswered m (tickDone (m .waiting) (l .output))) (λ n. refl) (λ f. refl)
+
+-- so is the cache, in a FLOOD sent and a tick
+pub send-cache : (m : Memory) (l : Send) → sendCall m l .memory .cache ≡ m .cache
+send-cache m l = ap (λ (x : Memory). x .cache) (send-rest m l)
+
+pub tick-cache : (m : Memory) (l : Tick) → gaugeTick m l .memory .cache ≡ m .cache
+tick-cache m l = ap (λ (x : Memory). x .cache) (tick-rest m l)
 
 -- ---- the cache
 
@@ -66,19 +111,10 @@ module _ (m : Memory) (l : Receive) where
   unfolding receiveCall
   receive-cache z = plan-cache (receive-ready m l z .cached) (receivePlan m l) refl (known m l)
 
--- a FLOOD sent reads it only
-send-cache-by : (m : Memory) (l : Send) (p : SendPlan) → sendCarried m l p .memory .cache ≡ m .cache
-unfolding sendCarried
-send-cache-by m l (S.Refuse n) = refl
-send-cache-by m l (S.Flood u ours at) = refl
-
-pub send-cache : (m : Memory) (l : Send) → sendCall m l .memory .cache ≡ m .cache
-unfolding sendCall
-send-cache m l = send-cache-by m l (sendPlan m l)
-
 -- ---- every call: "An accepted call leaves the cache, the waiting table and such memory in form."
 
-pub receive-form : (m : Memory) (l : Receive) → receiveCall m l .answer .number ≡ 0 → InForm (keyOf (l .own)) (receiveCall m l .memory)
+pub receive-form : (m : Memory) (l : Receive) → receiveCall m l .answer .number ≡ 0
+    → (cacheForm (keyOf (l .own)) (receiveCall m l .memory .cache) ≡ true) × (waitingForm (keyOf (l .own)) (receiveCall m l .memory .waiting) ≡ true)
 receive-form m l z =
     let left = receive-left m l z in
     (receive-cache m l z, form-test (keyOf (l .own)) (receiveCall m l .memory .waiting) (left .places) (left .form))
@@ -90,15 +126,26 @@ send-form m l i z =
     form-test (keyOf (l .own)) (sendCall m l .memory .waiting) (left .places) (left .form)
 
 pub tick-form : (m : Memory) (l : Tick) → gaugeTick m l .answer .number ≡ 0 → waitingForm (keyOf (l .own)) (gaugeTick m l .memory .waiting) ≡ true
-unfolding gaugeTick
-tick-form m l z = tick-leaves (l .own) (m .waiting) (l .output) z
+tick-form m l z =
+    let k = keyOf (l .own) in
+    let t = m .waiting in
+    let done = tick-done m l z in
+    subst (λ (left : List ℕ). waitingForm k left ≡ true) (sym (done .1))
+    (form-test k _ (ticked (placesOf t)) (tick-kept k t (placesOf t) (form-of k t (done .0))))
 
 accepted-form : (m : Memory) (c : Call) → Typed c → InForm (keyOf (ownOf c)) m → ours m c .answer .number ≡ 0
     → InForm (keyOf (ownOf c)) (ours m c .memory)
-unfolding gaugeTick gaugeList
-accepted-form m (receives l) i f z = receive-form m l z
-accepted-form m (sends l) i f z = (ap (cacheForm (keyOf (l .own))) (send-cache m l) ∙ f .0, send-form m l i z)
-accepted-form m (ticks l) i f z = (f .0, tick-form m l z)
+unfolding gaugeList
+accepted-form m (receives l) i f z =
+    let k = keyOf (l .own) in
+    let w = receive-form m l z in
+    subst (InForm k) (sym (receive-rest m l)) (in-form-with k m _ _ f (w .0) (w .1))
+accepted-form m (sends l) i f z =
+    let k = keyOf (l .own) in
+    subst (InForm k) (sym (send-rest m l)) (in-form-with k m (m .cache) _ f (f .0) (send-form m l i z))
+accepted-form m (ticks l) i f z =
+    let k = keyOf (l .own) in
+    subst (InForm k) (sym (tick-rest m l)) (in-form-with k m (m .cache) _ f (f .0) (tick-form m l z))
 accepted-form m (lists l) i f z = f
 
 -- and a refused one leaves all

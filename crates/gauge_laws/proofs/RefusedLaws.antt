@@ -9,14 +9,14 @@ use Rattle.record.specs.Record.{keyOf}
 use Rattle.neighbours.specs.Listing.{countsOf, afterList}
 use Rattle.neighbours.specs.Calls.{Written, listWritten, listWrong, listCall}
 use Rattle.cache.specs.Calls.{heldBy}
-use Rattle.waiting_form.specs.Call as W
+use Rattle.waiting_form.specs.Call.{tickDone}
 use Rattle.gauge_plan.specs.declared.Plan.{Plan}
 use Rattle.gauge_plan.specs.declared.Plan.the-variants.{Refuse, Flood, Revoke, Learn, Free, Certify, Show}
 use Rattle.plan_send.specs.declared.SendPlan.{SendPlan}
 use Rattle.plan_send.specs.declared.SendPlan.the-variants as S
 use Rattle.gauge_commit.specs.Sending.{answer, Handed, handed}
 use Rattle.gauge_plan.specs.Lent.{Memory, Receive, Send, Tick, Listing, Call, receives, sends, ticks, lists, outputOf}
-use Rattle.gauge.specs.Counts.{tickAnswered, gaugeTick, listAnswered, gaugeList}
+use Rattle.gauge.specs.Counts.{tickAnswered, tickTable, gaugeTick, listAnswered, gaugeList}
 use Rattle.plan_message.specs.Planned.{receivePlan}
 use Rattle.gauge.specs.Receive.{carried, receiveCall}
 use Rattle.gauge.specs.Send.{sendPlan, sendCarried, sendCall}
@@ -60,10 +60,10 @@ by-table number refused numbered rs done accepted h =
 
 tick-refused : (m : Memory) (l : Tick) → 0 < gaugeTick m l .answer .number
     → gaugeTick m l ≡ handed (answer (gaugeTick m l .answer .number) 0 0) m (l .output)
-unfolding gaugeTick W.tickCall W.tickDone
+unfolding gaugeTick tickDone
 tick-refused m l h =
-    ap (tickAnswered m) (by-table (λ (t : W.Ticked). t .number) (λ (n : ℕ). W.tickHanded n 0 (m .waiting) (l .output)) (λ n. refl)
-    (W.tickRefusals (l .own) (m .waiting) (l .output)) (W.tickDone (m .waiting) (l .output)) refl h)
+    by-table (λ (d : Handed). d .answer .number) (λ (n : ℕ). handed (answer n 0 0) m (l .output)) (λ n. refl) (tickTable m l)
+    (tickAnswered m (tickDone (m .waiting) (l .output))) refl h
 
 list-refused : (m : Memory) (l : Listing) → 0 < gaugeList m l .answer .number
     → gaugeList m l ≡ handed (answer (gaugeList m l .answer .number) 0 0) m (l .output)

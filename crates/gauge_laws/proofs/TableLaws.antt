@@ -43,7 +43,8 @@ use Rattle.gauge_plan.specs.Lent.{Memory, Receive, Send, Call, receives, sends,
 use Rattle.plan_message.specs.Planned.{byEntry, planFor, planIn, receivePlan}
 use Rattle.gauge.specs.Receive.{carried, receiveCall}
 use Rattle.gauge.specs.Send.{sendPlan, sendCarried, sendCall}
-use Rattle.gauge.specs.Counts.{gaugeTick, gaugeList}
+use Rattle.gauge_commit.specs.Sending.{answer, Handed, handed}
+use Rattle.gauge.specs.Counts.{tickAnswered, tickTable, gaugeTick, gaugeList}
 use Rattle.gauge.specs.Ours.{ours}
 use Rattle.gauge_laws.specs.Table.{floodTable, messageRows, receiveTable, tableOf}
 
@@ -234,10 +235,10 @@ module _ (m : Memory) (l : Receive) where
   hands-number false = refl
 
   memory-number : (b : Bool) → numberOf (planIn m l (cond b (Fit (held m l) (used m)) Unfit))
-      ≡ firstOf (when 1 (not b) ∷ when 1 (not (handsFit (l .cpa) (l .nonce) (l .key)))
+      ≡ firstOf (when 1 (not b) ∷ when 1 (not (handsFit m l))
       ∷ (fields.refusals (l .datagram) (l .major) ++ messageRows m l (R.answer (l .datagram) (l .major))))
   unfolding firstOf
-  memory-number true = hands-number (handsFit (l .cpa) (l .nonce) (l .key))
+  memory-number true = hands-number (handsFit m l)
   memory-number false = refl
 
   pub receive-number : receiveCall m l .answer .number ≡ firstOf (receiveTable m l)
@@ -267,12 +268,12 @@ module _ (m : Memory) (l : Receive) where
 -- ---- any call
 
 pub call-number : (m : Memory) (c : Call) → ours m c .answer .number ≡ firstOf (tableOf m c)
-unfolding gaugeTick W.tickCall W.tickDone gaugeList listCall
+unfolding gaugeTick W.tickDone gaugeList listCall
 call-number m (receives l) = receive-number m l
 call-number m (sends l) = send-number m l
 call-number m (ticks l) =
-    number-is (λ (t : W.Ticked). t .number) (λ (n : ℕ). W.tickHanded n 0 (m .waiting) (l .output)) (λ n. refl) (W.tickDone (m .waiting) (l .output)) refl
-    (W.tickRefusals (l .own) (m .waiting) (l .output))
+    number-is (λ (h : Handed). h .answer .number) (λ (n : ℕ). handed (answer n 0 0) m (l .output)) (λ n. refl)
+    (tickAnswered m (W.tickDone (m .waiting) (l .output))) refl (tickTable m l)
 call-number m (lists l) =
     let own = l .own in
     let cache = m .cache in
@@ -282,7 +283,7 @@ call-number m (lists l) =
     (listWrong own cache (l .output))
 
 call-rises : (m : Memory) (c : Call) → rises 0 (tableOf m c) ≡ true
-unfolding W.tickRefusals placeIn
+unfolding placeIn
 call-rises m (receives l) = message-rises m l (R.answer (l .datagram) (l .major))
 call-rises m (sends l) = refl
 call-rises m (ticks l) = refl

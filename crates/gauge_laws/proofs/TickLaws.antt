@@ -4,17 +4,18 @@ use mathlib.Core.Bool.{true}
 use mathlib.Core.List.{List}
 use Prim.Native.Nat.{ℕ}
 use borrow.Author.Tests.{not-false}
-use Rattle.octet.proofs.TestLaws.{both-true}
-use Rattle.record.specs.Record.{keyOf, recordForm}
+use Rattle.record.specs.Record.{keyOf}
 use Rattle.refusal.proofs.CallLaws.{all-pass}
 use Rattle.table.specs.Rows.{bytesOf}
 use Rattle.waiting.specs.Form.{PlacesForm, waitingForm, placesOf}
 use Rattle.waiting.specs.Ticking.{ticked}
-use Rattle.waiting_form.specs.Call as W
+use Rattle.waiting_form.specs.Call.{tickDone}
 use Rattle.waiting.proofs.FormLaws.{form-of, form-unique}
 use Rattle.waiting.proofs.KeptLaws.{tick-kept}
 use Rattle.gauge_plan.specs.Lent.{Memory, Tick, ticks}
-use Rattle.gauge.specs.Counts.{gaugeTick}
+use Rattle.gauge_plan.proofs.MemoryLaws.{tick-fit-lent}
+use Rattle.gauge_commit.specs.Sending.{answer, Handed, handed}
+use Rattle.gauge.specs.Counts.{tickAnswered, tickTable, gaugeTick}
 use Rattle.gauge.specs.Ours.{ours}
 use Rattle.gauge_laws.proofs.TableLaws.{none-applies}
 
@@ -24,16 +25,14 @@ pub record Round (t t′ : List ℕ) : Type 0 where
   pub form : PlacesForm own t (placesOf t)
   pub places : placesOf t′ ≡ ticked (placesOf t)
 
-tick-done : (m : Memory) (l : Tick) → gaugeTick m l .answer .number ≡ 0
+pub tick-done : (m : Memory) (l : Tick) → gaugeTick m l .answer .number ≡ 0
     → (waitingForm (keyOf (l .own)) (m .waiting) ≡ true) × (gaugeTick m l .memory .waiting ≡ bytesOf 2240 (ticked (placesOf (m .waiting))))
-unfolding gaugeTick W.tickCall W.tickDone W.tickRefusals
+unfolding gaugeTick tickDone
 tick-done m l z =
-    let own = l .own in
-    let t = m .waiting in
-    let o = l .output in
     let none = none-applies m (ticks l) z in (
-      both-true (recordForm own) (waitingForm (keyOf own) t) (not-false _ (none .0)) .1,
-      ap (λ (r : W.Ticked). r .table) (all-pass (λ (k : ℕ). W.tickHanded k 0 t o) (W.tickRefusals own t o) (W.tickDone t o) none),
+      tick-fit-lent m l (not-false _ (none .0)) .waiting,
+      ap (λ (h : Handed). h .memory .waiting) (all-pass (λ (k : ℕ). handed (answer k 0 0) m (l .output)) (tickTable m l)
+          (tickAnswered m (tickDone (m .waiting) (l .output))) none),
     )
 
 pub tick-round : (m : Memory) (l : Tick) → gaugeTick m l .answer .number ≡ 0 → Round (m .waiting) (gaugeTick m l .memory .waiting)

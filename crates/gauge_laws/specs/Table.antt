@@ -12,7 +12,6 @@ use Rattle.refusal.specs.Table.{Refusal, when}
 use Rattle.cache.specs.Form.{heldOf}
 use Rattle.neighbours.specs.Calls.{listWrong}
 use Rattle.waiting.specs.Form.{usedOf, placesOf}
-use Rattle.waiting_form.specs.Call.{tickRefusals}
 use Rattle.wire_fields.specs.Refusals.{refusals}
 use Rattle.wire_fields.specs.declared.Part.{Part}
 use Rattle.wire_fields.specs.declared.Part.the-variants.{Here, Absent}
@@ -26,6 +25,7 @@ use Rattle.asking.specs.Asking.{mustAsk}
 use Rattle.plan_flood.specs.Flood.{floodRefusals, revokeRefusals}
 use Rattle.plan_answer.specs.Answering.{authorityRefusals, ackRefusals, inquireRefusals, lookupRefusals}
 use Rattle.plan_send.specs.Send.{sendRefusals}
+use Rattle.gauge.specs.Counts.{tickTable}
 
 -- a FLOOD with a route entry, or with a revocation
 abbrev pub floodTable : Memory → Receive → Bool → ℕ → Part → List Refusal
@@ -54,11 +54,11 @@ messageRows m l (M.Lookup head a precision criteria reason target validate entry
 abbrev pub receiveTable : Memory → Receive → List Refusal
 receiveTable m l =
     when 1 (not (tablesFit (l .own) m))
-    ∷ when 1 (not (handsFit (l .cpa) (l .nonce) (l .key)))
+    ∷ when 1 (not (handsFit m l))
     ∷ (refusals (l .datagram) (l .major) ++ messageRows m l (R.answer (l .datagram) (l .major)))
 
 abbrev pub tableOf : Memory → Call → List Refusal
 tableOf m (receives l) = receiveTable m l
 tableOf m (sends l) = sendRefusals (l .own) m (l .id) (l .neighbour) (l .key) (length (l .output))
-tableOf m (ticks l) = tickRefusals (l .own) (m .waiting) (l .output)
+tableOf m (ticks l) = tickTable m l
 tableOf m (lists l) = listWrong (l .own) (m .cache) (l .output)

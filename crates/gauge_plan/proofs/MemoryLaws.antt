@@ -1,11 +1,11 @@
 -- Laws of lent memory: what the tests of own record, cache and waiting table make of it, and what is known of memory in form.
 -- Assumes nothing.
-use mathlib.Core.Path.{_≡_, refl, sym}
+use mathlib.Core.Path.{_≡_, refl, sym, _∙_}
 use mathlib.Core.Bool.{Bool, true, false, _&&_, cond}
 use mathlib.Core.List.{List}
 use Prim.Native.Nat.{ℕ, _*_, _≤_}
 use lib.ListN.{length}
-use borrow.Author.Tests.{ne-eqb, eqb-true, leb-true}
+use borrow.Author.Tests.{eq-eqb, eqb-true, le-leb, leb-true}
 use Rattle.octet.proofs.TestLaws.{both-true}
 use Rattle.record.specs.Record.{keyOf, recordForm}
 use Rattle.record.proofs.EntryLaws.{form-length}
@@ -20,8 +20,8 @@ use Rattle.waiting_form.specs.Formed as waited
 use Rattle.waiting_form.specs.declared.tested.Formed.the-variants as used-is
 use Rattle.waiting.proofs.FormLaws as waits
 use Rattle.waiting_form.proofs.FormedLaws as tested
-use Rattle.gauge_plan.specs.Lent.{Memory}
-use Rattle.gauge_plan.specs.Memory.{tablesFit, memoryOf, handsFit}
+use Rattle.gauge_plan.specs.Lent.{Memory, withTables, InForm, Receive, hearing, Tick, ReceiveLent, TickLent}
+use Rattle.gauge_plan.specs.Memory.{tablesFit, memoryOf, handsFit, tickFit}
 use Rattle.gauge_plan.specs.declared.memory.Fitness.{Fitness}
 use Rattle.gauge_plan.specs.declared.memory.Fitness.the-variants.{Unfit, Fit}
 
@@ -105,15 +105,69 @@ pub record Handed (cpa nonce key : List ℕ) : Type 0 where
   pub nonced : length nonce ≡ 16
   pub keyed : length key ≡ 32
 
-pub known-hands : (cpa nonce key : List ℕ) → handsFit cpa nonce key ≡ true → Handed cpa nonce key
+pub known-hands : (m : Memory) (l : Receive) → handsFit m l ≡ true → Handed (l .cpa) (l .nonce) (l .key)
 unfolding handsFit
-known-hands cpa nonce key e =
+known-hands m l e =
     let w = both-true _ _ e in
     let v = both-true _ _ (w .0) in
     let u = both-true _ _ (v .0) in
     record {
-      least = leb-true 1 (length cpa) (u .0);
-      most = leb-true (length cpa) 1024 (u .1);
-      nonced = eqb-true (length nonce) 16 (v .1);
-      keyed = eqb-true (length key) 32 (w .1);
+      least = leb-true 1 (length (l .cpa)) (u .0);
+      most = leb-true (length (l .cpa)) 1024 (u .1);
+      nonced = eqb-true (length (l .nonce)) 16 (v .1);
+      keyed = eqb-true (length (l .key)) 32 (w .1);
     }
+
+-- the tables with another cache and another waiting table, both in form
+pub in-form-with : (k : ℕ) (m : Memory) (cache waiting : List ℕ) → InForm k m → cacheForm k cache ≡ true → waitingForm k waiting ≡ true
+    → InForm k (withTables cache waiting m)
+in-form-with k m cache waiting f c w = (c, w)
+
+-- ---- the tests are what it says of memory lent as it should be
+
+module _ (m : Memory) (l : Receive) where
+  pub fit-lent : tablesFit (l .own) m ≡ true → handsFit m l ≡ true → ReceiveLent m l
+  fit-lent e h =
+      let r = ready (l .own) m e in
+      let w = known-hands m l h in
+      record {
+        own = r .owned;
+        cache = r .cached;
+        waiting = r .tabled;
+        cpa-least = w .least;
+        cpa-most = w .most;
+        nonce = w .nonced;
+        key = w .keyed;
+      }
+
+  pub lent-tables : ReceiveLent m l → tablesFit (l .own) m ≡ true
+  unfolding tablesFit
+  lent-tables w = rw (w .own, w .cache, w .waiting) refl
+
+  pub lent-hands : ReceiveLent m l → handsFit m l ≡ true
+  unfolding handsFit
+  lent-hands w =
+      rw (
+        le-leb 1 (length (l .cpa)) (w .cpa-least),
+        le-leb (length (l .cpa)) 1024 (w .cpa-most),
+        eq-eqb (length (l .nonce)) 16 (w .nonce),
+        eq-eqb (length (l .key)) 32 (w .key),
+      ) refl
+
+-- none of it is the datagram
+hands-hearing : (m : Memory) (l : Receive) (d : List ℕ) → handsFit m (hearing d l) ≡ handsFit m l
+unfolding handsFit
+hands-hearing m l d = refl
+
+pub lent-hearing : (m : Memory) (l : Receive) (d : List ℕ) → ReceiveLent m l → ReceiveLent m (hearing d l)
+lent-hearing m l d w = fit-lent m (hearing d l) (lent-tables m l w) (hands-hearing m l d ∙ lent-hands m l w)
+
+pub tick-fit-lent : (m : Memory) (l : Tick) → tickFit (l .own) m ≡ true → TickLent m l
+unfolding tickFit
+tick-fit-lent m l e =
+    let w = both-true (recordForm (l .own)) (waitingForm (keyOf (l .own)) (m .waiting)) e in
+    record { own = w .0; waiting = w .1 }
+
+pub lent-tick-fit : (m : Memory) (l : Tick) → TickLent m l → tickFit (l .own) m ≡ true
+unfolding tickFit
+lent-tick-fit m l w = rw (w .own, w .waiting) refl

@@ -1,8 +1,13 @@
 -- To believe. All that a call is lent and handed in: the memory that only calls change, and for each of the four calls all else, the output as lent among
--- it. Assumes nothing.
-use Prim.Native.Nat.{ℕ, _*_}
+-- it; and when it is as it should be. Assumes nothing.
+use Prim.Native.Nat.{ℕ, _*_, _≤_}
+use mathlib.Core.Path.{_≡_}
+use mathlib.Core.Bool.{true}
 use mathlib.Core.List.{List}
-use lib.ListN.{replicate}
+use lib.ListN.{length, replicate}
+use Rattle.own.specs.Own.{ownKeys, ownForm}
+use Rattle.cache.specs.Form.{cacheForm}
+use Rattle.waiting.specs.Form.{waitingForm}
 
 -- what is lent to each call as the one before left it
 pub record Memory : Type 0 where
@@ -26,6 +31,10 @@ withWaiting waiting m = memory (m .cache) waiting
 -- with both, and whatever memory there is besides: what a function leaves open that is lent these two alone
 abbrev pub withTables : List ℕ → List ℕ → Memory → Memory
 withTables cache waiting m = withCache cache (withWaiting waiting m)
+
+-- memory is in form, for the own key k
+abbrev pub InForm : ℕ → Memory → Type 0
+InForm k m = (cacheForm k (m .cache) ≡ true) × (waitingForm k (m .waiting) ≡ true)
 
 -- what a received datagram comes with
 pub record Receive : Type 0 where
@@ -55,9 +64,19 @@ receive own cpa major minor id nonce verdict key datagram output =
       output = output;
     }
 
--- the same with another datagram
+-- the same with another datagram; by a gauge with another own record
 abbrev pub hearing : List ℕ → Receive → Receive
 hearing d l = receive (l .own) (l .cpa) (l .major) (l .minor) (l .id) (l .nonce) (l .verdict) (l .key) d (l .output)
+
+abbrev pub hearingAs : List ℕ → Receive → Receive
+hearingAs own l = receive own (l .cpa) (l .major) (l .minor) (l .id) (l .nonce) (l .verdict) (l .key) (l .datagram) (l .output)
+
+-- with these, and whatever it comes with besides: what a function leaves open that gets these alone. What is handed in with a datagram; what a plan is made of
+abbrev pub handing : (cpa nonce key : List ℕ) → Receive → Receive
+handing cpa nonce key l = receive (l .own) cpa (l .major) (l .minor) (l .id) nonce (l .verdict) key (l .datagram) (l .output)
+
+abbrev pub planning : (own cpa : List ℕ) (major id verdict : ℕ) (key datagram output : List ℕ) → Receive → Receive
+planning own cpa major id verdict key datagram output l = receive own cpa major (l .minor) id (l .nonce) verdict key datagram output
 
 -- what a FLOOD is sent from
 pub record Send : Type 0 where
@@ -94,6 +113,35 @@ pub data Call : Type 0 where
   sends : Send → Call
   ticks : Tick → Call
   lists : Listing → Call
+
+-- ---- lent as it should be: "Each call on the cache or the waiting table is lent the own record too"; "Own CPA: 1 to 1,024 bytes"; "a 16-byte nonce"; "A key handed
+-- in has 32 bytes"
+
+pub record ReceiveLent (m : Memory) (l : Receive) : Type 0 where
+  pub own : ownForm (l .own) ≡ true
+  pub cache : cacheForm (ownKeys (l .own)) (m .cache) ≡ true
+  pub waiting : waitingForm (ownKeys (l .own)) (m .waiting) ≡ true
+  pub cpa-least : 1 ≤ length (l .cpa)
+  pub cpa-most : length (l .cpa) ≤ 1024
+  pub nonce : length (l .nonce) ≡ 16
+  pub key : length (l .key) ≡ 32
+
+pub record SendLent (m : Memory) (l : Send) : Type 0 where
+  pub own : ownForm (l .own) ≡ true
+  pub cache : cacheForm (ownKeys (l .own)) (m .cache) ≡ true
+  pub waiting : waitingForm (ownKeys (l .own)) (m .waiting) ≡ true
+  pub neighbour : length (l .neighbour) ≡ 32
+  pub key : length (l .key) ≡ 32
+
+pub record TickLent (m : Memory) (l : Tick) : Type 0 where
+  pub own : ownForm (l .own) ≡ true
+  pub waiting : waitingForm (ownKeys (l .own)) (m .waiting) ≡ true
+
+pub record ListLent (m : Memory) (l : Listing) : Type 0 where
+  pub own : ownForm (l .own) ≡ true
+  pub cache : cacheForm (ownKeys (l .own)) (m .cache) ≡ true
+
+-- ---- one call, of any of the four
 
 -- of any of them, the own record and the output as lent
 abbrev pub ownOf : Call → List ℕ

@@ -8,7 +8,7 @@ use lib.ListN.{length}
 use Rattle.own.specs.Own.{ownForm, ownKeys}
 use Rattle.cache.specs.Form.{cacheForm, heldIn}
 use Rattle.waiting.specs.Form.{waitingForm, usedOf}
-use Rattle.gauge_plan.specs.Lent.{Memory}
+use Rattle.gauge_plan.specs.Lent.{Memory, Receive}
 use Rattle.gauge_plan.specs.declared.memory.Fitness.{Fitness}
 use Rattle.gauge_plan.specs.declared.memory.Fitness.the-variants.{Unfit, Fit}
 
@@ -20,6 +20,11 @@ tablesFit own m = ownForm own && cacheForm (ownKeys own) (m .cache) && waitingFo
 unfoldable pub memoryOf : List ℕ → Memory → Fitness
 memoryOf own m = cond (tablesFit own m) (Fit (heldIn (ownKeys own) (m .cache)) (usedOf (m .waiting))) Unfit
 
--- "Own CPA: 1 to 1,024 bytes"; "a 16-byte nonce .. (other lengths give 1)"; "A key handed in has 32 bytes, else 1"
-unfoldable pub handsFit : List ℕ → List ℕ → List ℕ → Bool
-handsFit cpa nonce key = leb 1 (length cpa) && leb (length cpa) 1024 && eqb (length nonce) 16 && eqb (length key) 32
+-- what comes with a datagram: "Own CPA: 1 to 1,024 bytes"; "a 16-byte nonce .. (other lengths give 1)"; "A key handed in has 32 bytes, else 1"; and memory that
+-- stands beside those two tables, today none
+unfoldable pub handsFit : Memory → Receive → Bool
+handsFit m l = leb 1 (length (l .cpa)) && leb (length (l .cpa)) 1024 && eqb (length (l .nonce)) 16 && eqb (length (l .key)) 32
+
+-- of a tick: own record and waiting table in form
+unfoldable pub tickFit : List ℕ → Memory → Bool
+tickFit own m = ownForm own && waitingForm (ownKeys own) (m .waiting)

@@ -1,6 +1,6 @@
 // Whether the memory that every call is lent is in form.
 ghost use mathlib.Core.Path.{_≡_};
-ghost use Rattle.gauge_plan.specs.Lent.{Memory, withTables};
+ghost use Rattle.gauge_plan.specs.Lent.{Memory, withTables, Receive, handing};
 ghost use Rattle.gauge_plan.specs.Memory.{memoryOf, handsFit};
 
 // How many records are held and how many places are used, where memory is in form.
@@ -28,9 +28,11 @@ pub fn survey(own: &[u8], cache: &[u8], waiting: &[u8]) -> Fitness
     Fitness::Fit { held, used }
 }
 
-// Have own CPA, nonce and key the lengths that document 01 gives them?
+// Have own CPA, nonce and key the lengths that document 01 gives them? Memory that is not lent may be any, and so may
+// all else that a datagram comes with.
 pub fn hands_fit(cpa: &[u8], nonce: &[u8], key: &[u8]) -> bool
-    ensures { λ r. ⌜ r ≡ handsFit (now (cpa .entry)) (now (nonce .entry)) (now (key .entry)) ⌝ }
+    ensures { λ r. ⌜ ((m : Memory) (l : Receive) → r
+        ≡ handsFit m (handing (now (cpa .entry)) (now (nonce .entry)) (now (key .entry)) l)) ⌝ }
 {
     (1 <= cpa.len()) & (cpa.len() <= 1024) & (nonce.len() == 16) & (key.len() == 32)
 }

@@ -1,7 +1,7 @@
 -- Laws of the plan for a datagram: by the tests that the code makes; what is known of a plan; what the commits require. Assumes nothing.
 use mathlib.Core.Path.{_≡_, refl, sym, ap, subst, _∙_}
 use mathlib.Core.Bool.{Bool, true, false, not}
-use mathlib.Core.List.{[], _∷_}
+use mathlib.Core.List.{List, [], _∷_}
 use Prim.Native.Nat.{ℕ, _+_, _*_, _≤_, _<_}
 use native.Mathlib.Omega.{arith}
 use lib.ListN.{length}
@@ -45,34 +45,42 @@ use Rattle.gauge_plan.specs.declared.memory.Fitness.the-variants.{Unfit, Fit}
 use Rattle.gauge_plan.proofs.MemoryLaws as memory
 use Rattle.plan_flood.proofs.FloodLaws as flood
 use Rattle.plan_answer.proofs.AnsweringLaws as answering
-use Rattle.plan_message.specs.Planned.{byEntry, planFor, planIn, receivePlan}
+use Rattle.plan_message.specs.Planned.{byEntry, planFor, planBy, planIn, receivePlan}
 use Rattle.plan_message.proofs.AnswerLaws.{EntryIn, KnownAnswer, known-answer}
 
 -- ---- the plan by the tests that the code makes
 
 module _ (m : Memory) (l : Receive) where
-  pub plan-unfit : memoryOf (l .own) m ≡ Unfit → receivePlan m l ≡ Refuse 1
+  -- what is handed in is tested whatever the tables are
+  no-hands : handsFit m l ≡ false → (f : Fitness) → planIn m l f ≡ Refuse 1
+  unfolding orRefuse
+  no-hands e Unfit = refl
+  no-hands e (Fit h u) = rw e refl
+
+  pub plan-hands : handsFit m l ≡ false → receivePlan m l ≡ Refuse 1
   unfolding receivePlan
-  plan-unfit e = rw e refl
+  plan-hands e = no-hands e (memoryOf (l .own) m)
+
+  hands : handsFit m l ≡ true → (f : Fitness) → planIn m l f ≡ planBy m l f
+  unfolding orRefuse
+  hands e Unfit = refl
+  hands e (Fit h u) = rw e refl
+
+  pub plan-by : handsFit m l ≡ true → receivePlan m l ≡ planBy m l (memoryOf (l .own) m)
+  unfolding receivePlan
+  plan-by e = hands e (memoryOf (l .own) m)
 
   module _ {h u : ℕ} (fit : memoryOf (l .own) m ≡ Fit h u) where
-    pub plan-hands : handsFit (l .cpa) (l .nonce) (l .key) ≡ false → receivePlan m l ≡ Refuse 1
-    unfolding receivePlan orRefuse
-    plan-hands e = rw (fit, e) refl
-
-    pub plan-message : handsFit (l .cpa) (l .nonce) (l .key) ≡ true → receivePlan m l ≡ planFor m l h u (R.answer (l .datagram) (l .major))
+    pub plan-message : handsFit m l ≡ true → receivePlan m l ≡ planFor m l h u (R.answer (l .datagram) (l .major))
     unfolding receivePlan orRefuse
     plan-message e = rw (fit, e) refl
 
-    pub fit-ready : memory.Ready (l .own) m h u
-    fit-ready = subst (memory.KnownMemory (l .own) m) fit (memory.known-memory (l .own) m)
-
-    pub message-needs : handsFit (l .cpa) (l .nonce) (l .key) ≡ true
-        → (recordForm (l .own) ≡ true) × (length (l .cpa) ≤ 1024) × Form (keyOf (l .own)) (m .cache) (rows 100 h (m .cache))
-        × (140 * u ≤ length (m .waiting)) × (length (l .key) ≡ 32)
-    message-needs e =
-        let w = memory.known-hands (l .cpa) (l .nonce) (l .key) e in
-        (fit-ready .owned, w .most, fit-ready .form, fit-ready .laid .room, w .keyed)
+-- what the plan of a message requires of memory
+pub message-needs : (own : List ℕ) (m : Memory) {h u : ℕ} → memoryOf own m ≡ Fit h u
+    → (recordForm own ≡ true) × Form (keyOf own) (m .cache) (rows 100 h (m .cache)) × (140 * u ≤ length (m .waiting))
+message-needs own m fit =
+    let r = subst (memory.KnownMemory own m) fit (memory.known-memory own m) in
+    (r .owned, r .form, r .laid .room)
 
 -- a FLOOD's plan, by whether it has a route entry
 module _ (m : Memory) (l : Receive) (h u : ℕ) {a : T.Answer} {head : Head} {s : Bool} {validate : ℕ} {token revoke entry reached : Part}
@@ -245,10 +253,10 @@ module _ (m : Memory) (l : Receive) (h u : ℕ) (ready : memory.Ready (l .own) m
 memory-known : (m : Memory) (l : Receive) (f : Fitness) → memory.KnownMemory (l .own) m f → Known m l (planIn m l f)
 memory-known m l Unfit w = tt
 memory-known m l (Fit h u) w =
-    let fit = handsFit (l .cpa) (l .nonce) (l .key) in
+    let fit = handsFit m l in
     or-known (Known m l) Refuse (when 1 (not fit) ∷ []) (planFor m l h u (R.answer (l .datagram) (l .major)))
     (λ i. tt)
-    (λ f. message-known m l h u w (memory.known-hands (l .cpa) (l .nonce) (l .key) (not-false fit (f .0)))
+    (λ f. message-known m l h u w (memory.known-hands m l (not-false fit (f .0)))
     (R.answer (l .datagram) (l .major)) (known-answer (l .datagram) (l .major)))
 
 pub known : (m : Memory) (l : Receive) → Known m l (receivePlan m l)
@@ -258,6 +266,9 @@ known m l = memory-known m l (memoryOf (l .own) m) (memory.known-memory (l .own)
 -- ---- what the commits require
 
 module _ (m : Memory) (l : Receive) where
+  pub plan-needs : handsFit m l ≡ true → (length (l .cpa) ≤ 1024) × (length (l .key) ≡ 32)
+  plan-needs e = let w = memory.known-hands m l e in (w .most, w .keyed)
+
   pub known-by : {p : Plan} → receivePlan m l ≡ p → Known m l p
   known-by e = subst (Known m l) e (known m l)
 

@@ -45,9 +45,14 @@ planFor m l held used (M.Ack head acked flags n) = ackPlan (rows 140 used (m .wa
 planFor m l held used (M.Lookup head a precision criteria reason target validate entry path credential signature key) =
     lookupPlan (l .own) (rows 100 held (m .cache)) held (length (l .output)) (l .datagram) (head .id) target
 
+-- where what is handed in with it is as it should be
+abbrev pub planBy : Memory → Receive → Fitness → Plan
+planBy m l Unfit = Refuse 1
+planBy m l (Fit held used) = planFor m l held used (R.answer (l .datagram) (l .major))
+
 abbrev pub planIn : Memory → Receive → Fitness → Plan
 planIn m l Unfit = Refuse 1
-planIn m l (Fit held used) = orRefuse Refuse (when 1 (not (handsFit (l .cpa) (l .nonce) (l .key))) ∷ []) (planFor m l held used (R.answer (l .datagram) (l .major)))
+planIn m l (Fit held used) = orRefuse Refuse (when 1 (not (handsFit m l)) ∷ []) (planFor m l held used (R.answer (l .datagram) (l .major)))
 
 unfoldable pub receivePlan : Memory → Receive → Plan
 receivePlan m l = planIn m l (memoryOf (l .own) m)

@@ -1,20 +1,20 @@
 // What is planned for a datagram received. Lent everything for reading.
 ghost use mathlib.Core.Path.{_≡_};
 ghost use mathlib.Core.Bool.{true};
-ghost use mathlib.Core.List.{List};
-ghost use Prim.Native.Nat.{ℕ, _*_, _≤_};
+ghost use Prim.Native.Nat.{_*_, _≤_};
 ghost use lib.ListN.{length};
 ghost use Rattle.record.specs.Record.{keyOf, recordForm};
 ghost use Rattle.table.specs.Rows.{rows};
 ghost use Rattle.cache.specs.Form.{Form};
 ghost use Rattle.wire_read.specs.Answers.{answer};
-ghost use Rattle.gauge_plan.specs.Lent.{Memory, withTables, receive};
-ghost use Rattle.plan_message.specs.Planned.{planFor, receivePlan};
+ghost use Rattle.gauge_plan.specs.Lent.{Memory, withTables, Receive, planning};
+ghost use Rattle.gauge_plan.specs.Memory.{memoryOf};
+ghost use Rattle.plan_message.specs.Planned.{planFor, planBy};
 use gauge_plan::Fitness;
 use gauge_plan::Plan;
 
-// The plan for the message that the datagram holds, where memory is in form. Neither minor version nor nonce counts,
-// nor memory that is not lent.
+// The plan for the message that the datagram holds, where memory is in form. Nothing else that it comes with counts, nor
+// memory that is not lent.
 fn plan_message<'a>(
     own: &'a [u8],
     cpa: &[u8],
@@ -32,10 +32,10 @@ fn plan_message<'a>(
     requires { ⌜ (recordForm (now own) ≡ true) × (length (now cpa) ≤ 1024)
         × Form (keyOf (now own)) (now cache) (rows 100 held (now cache))
         × (140 * used ≤ length (now waiting)) × (length (now key) ≡ 32) ⌝ }
-    ensures { λ r. ⌜ ((m : Memory) (minor : ℕ) (nonce : List ℕ) → r ≡ planFor (withTables (now (cache .entry))
-        (now (waiting .entry)) m) (receive (now (own .entry)) (now (cpa .entry)) major minor id nonce verdict
-        (now (key .entry)) (now (datagram .entry)) (now (output .entry))) held used
-        (answer (now (datagram .entry)) major)) ⌝ }
+    ensures { λ r. ⌜ ((m : Memory) (l : Receive) → r
+        ≡ planFor (withTables (now (cache .entry)) (now (waiting .entry)) m)
+        (planning (now (own .entry)) (now (cpa .entry)) major id verdict (now (key .entry)) (now (datagram .entry))
+        (now (output .entry)) l) held used (answer (now (datagram .entry)) major)) ⌝ }
 {
     let room = output.len();
     let told = look::brief_at(major, datagram);
@@ -90,8 +90,8 @@ fn plan_message<'a>(
     }
 }
 
-// The plan for the datagram: memory is tested, and the plan of its message made. The minor version does not count,
-// nor memory that is not lent.
+// The plan for the datagram, where what is handed in with it has been tested: memory is tested, and the plan of its
+// message made. Nothing else that it comes with counts, nor memory that is not lent.
 pub fn plan_receive<'a>(
     own: &'a [u8],
     cpa: &[u8],
@@ -99,24 +99,22 @@ pub fn plan_receive<'a>(
     waiting: &[u8],
     major: u8,
     id: u32,
-    nonce: &[u8],
     verdict: u32,
     key: &[u8],
     datagram: &[u8],
     output: &[u8],
 ) -> Plan
-    ensures { λ r. ⌜ ((m : Memory) (minor : ℕ) → r
-        ≡ receivePlan (withTables (now (cache .entry)) (now (waiting .entry)) m)
-        (receive (now (own .entry)) (now (cpa .entry)) major minor id (now (nonce .entry)) verdict (now (key .entry))
-        (now (datagram .entry)) (now (output .entry)))) ⌝ }
+    requires { ⌜ (length (now cpa) ≤ 1024) × (length (now key) ≡ 32) ⌝ }
+    ensures { λ r. ⌜ ((m : Memory) (l : Receive) → r
+        ≡ planBy (withTables (now (cache .entry)) (now (waiting .entry)) m)
+        (planning (now (own .entry)) (now (cpa .entry)) major id verdict (now (key .entry)) (now (datagram .entry))
+        (now (output .entry)) l)
+        (memoryOf (now (own .entry)) (withTables (now (cache .entry)) (now (waiting .entry)) m))) ⌝ }
 {
     let memory = gauge_plan::survey(own, cache, waiting);
     let Fitness::Fit { held, used } = memory else {
         return Plan::Refuse(refusal::MEMORY);
     };
-    if !gauge_plan::hands_fit(cpa, nonce, key) {
-        return Plan::Refuse(refusal::MEMORY);
-    }
     plan_message(
         own,
         cpa,

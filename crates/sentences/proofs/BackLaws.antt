@@ -32,7 +32,7 @@ use Rattle.wire.proofs.Theorems.{written-back}
 use Rattle.asking.specs.Ids.{idAfter}
 use Rattle.gauge_commit.proofs.LengthLaws.{cpa-length, flood-length}
 use Rattle.gauge_laws.proofs.FirstLaws.{whole-record}
-use Rattle.gauge_plan.specs.Lent.{Memory, Receive}
+use Rattle.gauge_plan.specs.Lent.{Memory, Receive, ReceiveLent}
 use Rattle.sentences.specs.Heard.{Heard, entry, revoke, inquire, authority, ack, lookup, other}
 use Rattle.sentences.specs.Sentences as S
 use Rattle.sentences.specs.Numbers as Num
@@ -146,7 +146,7 @@ both-back : (xs ys : List (List ℕ)) → Every ReadsBack xs → Every ReadsBack
 both-back [] ys a b = b
 both-back (x ∷ xs) ys a b = (a .0, both-back xs ys (a .1) b)
 
-module _ (m : Memory) (l : Receive) (w : Bytewise m l) (ok : Num.ReceiveLent m l) where
+module _ (m : Memory) (l : Receive) (w : Bytewise m l) (ok : ReceiveLent m l) where
   acks-back : (id : ℕ) (silent n : Bool) → Every ReadsBack (S.acks l id silent n)
   acks-back id true n = tt
   acks-back id false n = (ack-back (l .major) (l .minor) (l .id) (w .numbers) id n, tt)

@@ -21,7 +21,7 @@ use Rattle.table.specs.Seek.{seek}
 use Rattle.waiting.specs.Open.{opened, freed}
 use Rattle.waiting.specs.Tick.{idBytes}
 use Rattle.waiting.specs.Ticking.{ticked, listed}
-use Rattle.waiting_form.specs.Call.{tickRefusals, tickDone, tickCall}
+use Rattle.waiting_form.specs.Call.{tickDone}
 use Rattle.wire_shapes.specs.Shapes.{arrayForm, lookupForm, splitForm, hasShape}
 use Rattle.wire_fields.specs.Kinds as kinds
 use Rattle.wire_fields.specs.Reading.{spanAt, needAt, maybeAt, placesAt, fieldsAs, wholeIn}
@@ -29,7 +29,7 @@ use Rattle.wire_fields.specs.Refusals.{inPart, foundIn}
 use Rattle.wire_buffer.specs.Buffer.{flagAt}
 use Rattle.wire_read.specs.Answers.{headOf, precisionAt, shown}
 use Rattle.wire_write.specs.Making.{ackMade, floodMade, inquireMade, cpaMade, closestMade}
-use Rattle.gauge_plan.specs.Memory.{tablesFit, memoryOf, handsFit}
+use Rattle.gauge_plan.specs.Memory.{tablesFit, memoryOf, handsFit, tickFit}
 use Rattle.asking.specs.Asking.{mustAsk}
 use Rattle.plan_flood.specs.Flood.{floodPlan, revokePlan}
 use Rattle.plan_answer.specs.Answering.{authorityPlan, lookupPlan}
@@ -44,8 +44,8 @@ unfolding valueBE valueLE digitsBE digitsLE splice same allZero distance ring ha
     orRefuse recordForm entryForm recordOf entryOf
     put without among inOrder lastOr farthestOut trimmed learnWith happen after putBy withoutBy learnBy rows joined bytesOf
     follows leading heldIn heldOf cacheForm keyBytes closestFrom closestOf listCall
-    newPlace placeForm anyOf placesForm usedIn usedOf waitingForm seek opened freed ticked listed idBytes tickRefusals tickDone tickCall
+    newPlace placeForm anyOf placesForm usedIn usedOf waitingForm seek opened freed ticked listed idBytes tickDone
     arrayForm lookupForm splitForm hasShape kinds.kindsOf kinds.joinedFields kinds.sized spanAt needAt maybeAt placesAt fieldsAs wholeIn inPart foundIn
     flagAt headOf precisionAt shown ackMade floodMade inquireMade cpaMade closestMade
-    tablesFit memoryOf handsFit mustAsk floodPlan revokePlan authorityPlan lookupPlan planFor receivePlan carried receiveCall gaugeTick gaugeList
+    tablesFit memoryOf handsFit tickFit mustAsk floodPlan revokePlan authorityPlan lookupPlan planFor receivePlan carried receiveCall gaugeTick gaugeList
 computed = tt

@@ -43,13 +43,14 @@ use Rattle.plan_send.specs.Send.{recordSent, heldAt, sendDone}
 use Rattle.gauge_plan.specs.Found.{isNothing, placeOf}
 use Rattle.gauge_commit.specs.Sending.{answer, lengths, sending, Handed, handed}
 use Rattle.gauge_commit.proofs.SentLaws.{joined-one}
-use Rattle.gauge_plan.specs.Lent.{Memory, Send, Tick, Listing, sends, ticks, lists}
+use Rattle.gauge_plan.proofs.MemoryLaws.{tick-fit-lent}
+use Rattle.gauge_plan.specs.Lent.{Memory, Send, Tick, Listing, sends, ticks, lists, TickLent}
 use Rattle.gauge.specs.Send.{sendCall, sendCarried}
-use Rattle.gauge.specs.Counts.{tickAnswered, gaugeTick, listAnswered, gaugeList}
+use Rattle.gauge.specs.Counts.{tickAnswered, tickTable, gaugeTick, listAnswered, gaugeList}
 use Rattle.gauge.proofs.SendLaws.{send-by}
 use Rattle.gauge_laws.proofs.TableLaws.{none-applies}
 use Rattle.gauge_laws.proofs.FirstLaws.{whole-record}
-use Rattle.gauge_laws.proofs.FormLaws.{send-form}
+use Rattle.gauge_laws.proofs.FormLaws.{send-form, send-rest}
 use Rattle.gauge_laws.proofs.MovedLaws.{send-planned, send-told, send-places}
 use Rattle.gauge.specs.Ours.{ours}
 use Rattle.sentences.specs.Sentences as S
@@ -66,16 +67,12 @@ rises-as b [] r = tt
 rises-as b (x ∷ l) r = (r .0, rises-as (suc x) l (r .1))
 
 module _ (m : Memory) (l : Tick) (z : gaugeTick m l .answer .number ≡ 0) where
-  tick-lent : (recordForm (l .own) ≡ true) × (waitingForm (keyOf (l .own)) (m .waiting) ≡ true) × (64 ≤ length (l .output))
-  unfolding W.tickRefusals
-  tick-lent =
-      let f = none-applies m (ticks l) z in
-      let w = both-true (recordForm (l .own)) (waitingForm (keyOf (l .own)) (m .waiting)) (not-false _ (f .0)) in
-      (w .0, w .1, ltb-false (length (l .output)) 64 (f .1 .0))
+  tick-lent : TickLent m l
+  tick-lent = tick-fit-lent m l (not-false _ (none-applies m (ticks l) z .0))
 
   tick-is : gaugeTick m l ≡ tickAnswered m (W.tickDone (m .waiting) (l .output))
   unfolding gaugeTick
-  tick-is = ap (tickAnswered m) (call.ticks (l .own) (m .waiting) (l .output) (tick-lent .0) (tick-lent .1) (tick-lent .2))
+  tick-is = all-pass _ (tickTable m l) _ (none-applies m (ticks l) z)
 
   pub ticks-does : S.Ticks (keyOf (l .own)) m (l .output) (gaugeTick m l)
   unfolding W.tickDone
@@ -83,14 +80,14 @@ module _ (m : Memory) (l : Tick) (z : gaugeTick m l .answer .number ≡ 0) where
       let k = keyOf (l .own) in
       let t = m .waiting in
       let ps = placesOf t in
-      let f = form-of k t (tick-lent .1) in
+      let f = form-of k t (tick-lent .waiting) in
       subst (S.Ticks k m (l .output)) (sym tick-is) (record {
         ids = listed ps;
-        rising = rises-as 0 (listed ps) (round.listed-rising k 0 ps (form-placed k t (tick-lent .1)));
+        rising = rises-as 0 (listed ps) (round.listed-rising k 0 ps (form-placed k t (tick-lent .waiting)));
         listed = λ i. (λ n. let w = listed-in i ps .0 n in (w .0, w .1, w .2, sym (w .3)), λ w. listed-in i ps .1 (w .0, w .1, w .2, sym (w .3)));
         counts = refl;
         bytes = start-one (idBytes (listed ps)) (l .output);
-        cache = refl;
+        rest = refl;
         table = table-by k _ (ticked ps) _ (tick-kept k t ps f) (λ q. ticked-in q ps);
       })
 
@@ -184,7 +181,7 @@ module _ (m : Memory) (l : Send) (small : l .id < 2 ^ 32) (z : sendCall m l .ans
       counts = ap (λ (h : Handed). h .answer) send-is ∙ ap lengths sent-is;
       bytes = ap (λ (h : Handed). h .output) send-is ∙ ap (λ (ds : List (List ℕ)). sending ds (l .output)) sent-is;
     };
-    cache = ap (λ (h : Handed). h .memory .cache) send-is;
+    rest = send-rest m l;
     table = record {
       form = send-form m l small z;
       members = λ p. subst (λ (ps : List (List ℕ)). (p ∈ ps) ↔ ((p ∈ placesOf (m .waiting)) ⊎ (p ≡ floodPlace (l .id) (l .neighbour))))

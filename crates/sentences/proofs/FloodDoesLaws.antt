@@ -106,6 +106,7 @@ module _ (m : Memory) (l : Receive) (ok : Fine m l) where
       };
       sent = record { counts = refl; bytes = refl };
       leaves = record { cache = refl; table = entry-table (mustAsk recs ps r) refl };
+      rest = refl;
     }
 
   -- FLOOD with a revocation
@@ -129,6 +130,7 @@ module _ (m : Memory) (l : Receive) (ok : Fine m l) where
           table = table-by (keyOf (l .own)) _ (freedAt (seek (isInquiry u) 0 ps) ps) _ (freed-form (seek (isInquiry u) 0 ps))
               (λ q. none-inquires (keyOf (l .own)) u q ps (form-placed (keyOf (l .own)) (m .waiting) (ok .ready .tabled)) (ids-rise m l ok));
         };
+        rest = refl;
       }
     where
       freed-form : (found : Found) → W.PlacesForm (keyOf (l .own)) (bytesOf 2240 (freedAt found ps)) (freedAt found ps)

@@ -109,7 +109,7 @@ does-came m (sends l) h ty low s =
       λ q y. let few = few-left (keyOf (l .own)) (h .memory .waiting) (s .table .form) q y in omega arith,
     )
 does-came m (ticks l) h ty low s =
-    let form = true-by _ (λ e. low 1 (inl (refl, λ w. both (w .1) e))) in
+    let form = true-by _ (λ e. low 1 (inl (refl, λ w. both (w .waiting) e))) in
     let sized = form-of (keyOf (l .own)) (m .waiting) form .sized in
     inr (
       λ p q wait y e.

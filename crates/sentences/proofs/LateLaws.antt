@@ -119,8 +119,8 @@ module _ (u : ℕ) (m : Memory) (quiet : Quiet u m) where
       let e : keyOf (l .own) ≡ k = one (g .own) in
       subst (λ (j : ℕ). Out j u (h .memory)) e
       (leaves-out l (g .waiting) (s .x) (h .memory) (s .leaves) (subst (λ (j : ℕ). Out j u m) (sym e) out)) q y
-  does-out k (sends l) h one low s out q y = out q (subst (λ (c : List ℕ). q ∈ heldOf k c) (s .cache) y)
-  does-out k (ticks l) h one low s out q y = out q (subst (λ (c : List ℕ). q ∈ heldOf k c) (s .cache) y)
+  does-out k (sends l) h one low s out q y = out q (subst (λ (x : Memory). q ∈ heldOf k (x .cache)) (s .rest) y)
+  does-out k (ticks l) h one low s out q y = out q (subst (λ (x : Memory). q ∈ heldOf k (x .cache)) (s .rest) y)
   does-out k (lists l) h one low s out q y = out q (subst (λ (n : Memory). S.Holds k n q) (s .same) y)
 
 -- ---- calls one after the other

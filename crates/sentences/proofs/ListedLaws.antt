@@ -170,7 +170,7 @@ module _ (g : Gauge) (meets : MeetsSentences g) (m : Memory) (fit : Fit m) (l : 
   done = meets .does m (ticks l) tt ok
 
   form : waitingForm (keyOf (l .own)) (m .waiting) ≡ true
-  form = true-by _ (λ e. meets .table .accepted m (ticks l) tt .0 ok 1 (inl (refl, λ w. both (w .1) e)))
+  form = true-by _ (λ e. meets .table .accepted m (ticks l) tt .0 ok 1 (inl (refl, λ w. both (w .waiting) e)))
 
   small : (i : ℕ) → i ∈ done .ids → i < 2 ^ 32
   small i y = let w = done .listed i .0 y in subst (λ (n : ℕ). n < 2 ^ 32) (w .3) (fit (w .0) (w .1))

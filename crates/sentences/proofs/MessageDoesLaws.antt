@@ -80,6 +80,7 @@ module _ (m : Memory) (l : Receive) (ok : Fine m l) where
               (λ e. inquiry-other (keyOf (l .own)) p good (w .2) (sym (inquiry-key (keyOf (l .own)) p good (w .2)) ∙ e));
           table = freed-table acked 2 bars;
         };
+        rest = refl;
       }
 
   -- ACK
@@ -110,6 +111,7 @@ module _ (m : Memory) (l : Receive) (ok : Fine m l) where
       cache = ack-cache acked b (getD ps (at acked 1 bars) []);
       table = freed-table acked 1 bars;
     };
+    rest = refl;
   }
 
   -- INQUIRE
@@ -122,6 +124,7 @@ module _ (m : Memory) (l : Receive) (ok : Fine m l) where
     reply = refl;
     sent = record { counts = refl; bytes = refl };
     leaves = refl;
+    rest = refl;
   }
 
   -- LOOKUP
@@ -142,4 +145,5 @@ module _ (m : Memory) (l : Receive) (ok : Fine m l) where
         };
         sent = record { counts = refl; bytes = refl };
         leaves = refl;
+        rest = refl;
       }

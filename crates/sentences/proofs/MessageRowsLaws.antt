@@ -26,12 +26,11 @@ use Rattle.wire_write.specs.Sent.{closestSent}
 use Rattle.wire_write.specs.Making.{cpaMade, closestMade}
 use Rattle.gauge_plan.specs.Own.{notOurs}
 use Rattle.gauge_plan.specs.Found.{isNothing, placeOf}
-use Rattle.gauge_plan.proofs.MemoryLaws.{ready}
 use Rattle.gauge_commit.proofs.LengthLaws.{cpa-length, closest-length}
 use Rattle.gauge_commit.proofs.SentLaws.{joined-one}
 use Rattle.record.proofs.EntryLaws.{form-length, few-addresses}
 use Rattle.own.specs.Own.{ownRecords}
-use Rattle.gauge_plan.specs.Lent.{Memory, Receive}
+use Rattle.gauge_plan.specs.Lent.{Memory, Receive, ReceiveLent}
 use Rattle.gauge_laws.proofs.FirstLaws.{whole-record}
 use Rattle.sentences.specs.Heard.{inquire, authority, ack, lookup, other}
 use Rattle.sentences.specs.Sentences as S
@@ -39,7 +38,8 @@ use Rattle.sentences.specs.Numbers as Num
 use Rattle.sentences.proofs.MembersLaws.{rise-one, places-rise}
 use Rattle.sentences.proofs.WordLaws.{not-iff, found-waits, none-iff-not}
 use Rattle.sentences.proofs.FirstLaws.{Row}
-use Rattle.sentences.proofs.SaidLaws.{lent-tables, Said, short-to, short-from, none-short, First, Both, good}
+use Rattle.gauge_plan.proofs.MemoryLaws.{lent-tables, ready}
+use Rattle.sentences.proofs.SaidLaws.{Said, short-to, short-from, none-short, First, Both, good}
 
 module _ (m : Memory) (l : Receive) (n : ℕ) (low : First m l n) where
   abbrev k : ℕ
@@ -162,13 +162,13 @@ module _ (m : Memory) (l : Receive) (n : ℕ) (low : First m l n) where
       are = refl;
     }
 
-    lookup-formed : Num.ReceiveLent m l → recordForm cr ≡ true
+    lookup-formed : ReceiveLent m l → recordForm cr ≡ true
     unfolding heldOf
     lookup-formed g =
         let rd = ready (l .own) m (lent-tables m l g) in
         closest-formed tk k (l .own) recs (rd .owned) (rd .form .held)
 
-    lookup-room : Num.ReceiveLent m l → length (joined cds) ≡ 80 + 16 * countOf cr
+    lookup-room : ReceiveLent m l → length (joined cds) ≡ 80 + 16 * countOf cr
     unfolding closestMade heldOf
     lookup-room g =
         let fine = lookup-formed g in

@@ -22,7 +22,8 @@ use Rattle.wire_read.specs.Answers as R
 use Rattle.wire_read.specs.declared.Answer as T
 use Rattle.wire_read.specs.declared.Answer.the-variants as M
 use Rattle.gauge_plan.specs.Memory.{tablesFit, handsFit}
-use Rattle.gauge_plan.specs.Lent.{Memory, Receive}
+use Rattle.gauge_plan.proofs.MemoryLaws.{fit-lent, lent-tables, lent-hands}
+use Rattle.gauge_plan.specs.Lent.{Memory, Receive, ReceiveLent}
 use Rattle.plan_message.proofs.AnswerLaws.{KnownAnswer, known-answer}
 use Rattle.gauge_laws.specs.Table.{messageRows, receiveTable}
 use Rattle.gauge_laws.proofs.TableLaws.{IsMessage}
@@ -33,7 +34,7 @@ use Rattle.sentences.proofs.HeardLaws.{heardBy, answer-hears, hears-ans
 use Rattle.sentences.proofs.WordLaws.{not-iff, message-zero}
 use Rattle.sentences.proofs.PartLaws.{part-to, part-from}
 use Rattle.sentences.proofs.FirstLaws.{Row, row-front, row-behind, row-either, Agree}
-use Rattle.sentences.proofs.SaidLaws.{refused-applies, Clause, fit-lent, lent-tables, lent-hands, Said, First, Both}
+use Rattle.sentences.proofs.SaidLaws.{refused-applies, Clause, Said, First, Both}
 use Rattle.sentences.proofs.FloodRowsLaws.{flood-both}
 use Rattle.sentences.proofs.MessageRowsLaws.{inquire-both, authority-both, ack-both, lookup-both, seven-both}
 use Rattle.sentences.proofs.ReadLaws.{zero-fails, fails-message, rows-message, is-long, read-row, row-read}
@@ -80,10 +81,10 @@ module _ (m : Memory) (l : Receive) (bytes : Bytes (l .datagram)) where
           | inr v ↦ Num.no-room (v .0) (heardBy d a) says (v .1) (v .2) (v .3)
         ]
 
-    lent-row : n ≡ 1 → ¬ Num.ReceiveLent m l → Row n (receiveTable m l)
-    lent-row e h = go (test (tablesFit (l .own) m)) (test (handsFit (l .cpa) (l .nonce) (l .key)))
+    lent-row : n ≡ 1 → ¬ ReceiveLent m l → Row n (receiveTable m l)
+    lent-row e h = go (test (tablesFit (l .own) m)) (test (handsFit m l))
       where
-        go : Test (tablesFit (l .own) m) → Test (handsFit (l .cpa) (l .nonce) (l .key)) → Row n (receiveTable m l)
+        go : Test (tablesFit (l .own) m) → Test (handsFit m l) → Row n (receiveTable m l)
         go (fail t) u = inl (e, ap not t)
         go (pass t) (fail u) = inr (inl (e, ap not u))
         go (pass t) (pass u) = absurd (h (fit-lent m l t u))

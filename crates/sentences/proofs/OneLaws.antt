@@ -29,7 +29,7 @@ use Rattle.gauge_commit.specs.declared.Answer.{Answer}
 use Rattle.gauge_commit.specs.Sending.{answer, lengths, sending, Handed, handed}
 use Rattle.wire_fields.specs.Kinds.{authorityKinds}
 use Rattle.wire_write.specs.Sent.{closestSent}
-use Rattle.gauge_plan.specs.Lent.{Memory, memory, Receive, Send, Call, receives, sends, ticks, lists, outputOf}
+use Rattle.gauge_plan.specs.Lent.{Memory, withWaiting, withTables, Receive, Send, Call, receives, sends, ticks, lists, outputOf}
 use Rattle.gauge.specs.Words.{Gauge, Typed}
 use Rattle.sentences.specs.Heard.{Heard, entry, revoke, inquire, authority, ack, lookup, other, heard, Hears}
 use Rattle.sentences.specs.Sentences as S
@@ -37,12 +37,19 @@ use Rattle.sentences.specs.Numbers as Num
 use Rattle.sentences.specs.Meets as Meets
 use Rattle.sentences.proofs.MembersLaws.{rise-one, rise-ext, cache-same, table-same, places-rise, held-rises}
 
-handed-same : (h h′ : Handed) → h .answer ≡ h′ .answer → h .memory .cache ≡ h′ .memory .cache → h .memory .waiting ≡ h′ .memory .waiting
-    → h .output ≡ h′ .output → h ≡ h′
-handed-same h h′ a c w o =
+handed-same : (h h′ : Handed) → h .answer ≡ h′ .answer → h .memory ≡ h′ .memory → h .output ≡ h′ .output → h ≡ h′
+handed-same h h′ a m o =
     ap (λ (x : Answer). handed x (h .memory) (h .output)) a
-    ∙ ap₂ (λ (x y : List ℕ). handed (h′ .answer) (memory x y) (h .output)) c w
+    ∙ ap (λ (x : Memory). handed (h′ .answer) x (h .output)) m
     ∙ ap (λ (x : List ℕ). handed (h′ .answer) (h′ .memory) x) o
+
+-- two memories that are the lent one with another waiting table; with another cache too
+table-alone : (m a b : Memory) → a ≡ withWaiting (a .waiting) m → b ≡ withWaiting (b .waiting) m → a .waiting ≡ b .waiting → a ≡ b
+table-alone m a b p q w = p ∙ ap (λ (x : List ℕ). withWaiting x m) w ∙ sym q
+
+tables-alone : (m a b : Memory) → a ≡ withTables (a .cache) (a .waiting) m → b ≡ withTables (b .cache) (b .waiting) m
+    → (a .cache ≡ b .cache) × (a .waiting ≡ b .waiting) → a ≡ b
+tables-alone m a b p q w = p ∙ ap₂ (λ (x y : List ℕ). withTables x y m) (w .0) (w .1) ∙ sym q
 
 -- ---- the tick
 
@@ -53,8 +60,9 @@ module _ (k : ℕ) (m : Memory) (output : List ℕ) (h h′ : Handed) (s : S.Tic
       (λ i m. s .listed i .1 (t .listed i .0 m))
 
   pub ticks-one : h ≡ h′
-  ticks-one = handed-same h h′ (rw (s .counts, t .counts, ids-same) refl) (s .cache ∙ sym (t .cache))
-      (table-same k (h .memory .waiting) (h′ .memory .waiting) _ _ (s .table) (t .table) (λ p w. w) (λ p w. w))
+  ticks-one = handed-same h h′ (rw (s .counts, t .counts, ids-same) refl)
+      (table-alone m (h .memory) (h′ .memory) (s .rest) (t .rest)
+      (table-same k (h .memory .waiting) (h′ .memory .waiting) _ _ (s .table) (t .table) (λ p w. w) (λ p w. w)))
       (rw (s .bytes, t .bytes, ids-same) refl)
 
 -- ---- the neighbour list
@@ -73,7 +81,7 @@ module _ (own : List ℕ) (m : Memory) (output : List ℕ) (f : cacheForm (keyOf
 
   pub lists-one : h ≡ h′
   lists-one = handed-same h h′ (rw (s .listed .counts, t .listed .counts, low-same, high-same) refl)
-      (ap (λ (x : Memory). x .cache) (s .same ∙ sym (t .same))) (ap (λ (x : Memory). x .waiting) (s .same ∙ sym (t .same)))
+      (s .same ∙ sym (t .same))
       (rw (s .listed .bytes, t .listed .bytes, low-same, high-same) refl)
 
 -- ---- a FLOOD sent
@@ -95,8 +103,9 @@ module _ (m : Memory) (l : Send) (f : cacheForm (keyOf (l .own)) (m .cache) ≡ 
   sends-one h h′ s t =
       let e = named-one (s .r) (t .r) (s .named) (t .named) in
       let d = sent-same (l .output) (S.flooding l (s .r)) (S.flooding l (t .r)) h h′ (s .sent) (t .sent) (ap (S.flooding l) e) in
-      handed-same h h′ (d .0) (s .cache ∙ sym (t .cache))
-      (table-same (keyOf (l .own)) (h .memory .waiting) (h′ .memory .waiting) _ _ (s .table) (t .table) (λ p w. w) (λ p w. w)) (d .1)
+      handed-same h h′ (d .0)
+      (table-alone m (h .memory) (h′ .memory) (s .rest) (t .rest)
+      (table-same (keyOf (l .own)) (h .memory .waiting) (h′ .memory .waiting) _ _ (s .table) (t .table) (λ p w. w) (λ p w. w))) (d .1)
 
 -- ---- a datagram received: what it says, and what answers it
 
@@ -190,8 +199,11 @@ module _ (k : ℕ) (m : Memory) (r left left′ : List ℕ) (s : S.Learns k m r 
 
 -- ---- what each message leaves
 
-memory-same : (a b : Memory) → a .cache ≡ b .cache → a .waiting ≡ b .waiting → a ≡ b
-memory-same a b c w = ap₂ memory c w
+abbrev SameTables : Memory → Memory → Type 0
+SameTables a b = (a .cache ≡ b .cache) × (a .waiting ≡ b .waiting)
+
+all-same : (a b : Memory) → a ≡ b → SameTables a b
+all-same a b e = (ap (λ (x : Memory). x .cache) e, ap (λ (x : Memory). x .waiting) e)
 
 module _ (m : Memory) (l : Receive) (f : cacheForm (keyOf (l .own)) (m .cache) ≡ true) (g : waitingForm (keyOf (l .own)) (m .waiting) ≡ true) where
   abbrev k : ℕ
@@ -201,39 +213,40 @@ module _ (m : Memory) (l : Receive) (f : cacheForm (keyOf (l .own)) (m .cache) �
   place-one : (kind id : ℕ) (p q : List ℕ) → S.WaitsAs m kind id p → S.WaitsAs m kind id q → p ≡ q
   place-one kind id p q a b = rise-one idOf 0 p q (placesOf (m .waiting)) (places-rise k (m .waiting) g) (a .0) (b .0) (a .1 ∙ sym (b .1))
 
-  entry-one : (r : List ℕ) (a b : Memory) → S.FloodEntry k m l r a → S.FloodEntry k m l r b → a ≡ b
+  entry-one : (r : List ℕ) (a b : Memory) → S.FloodEntry k m l r a → S.FloodEntry k m l r b → SameTables a b
   entry-one r a b s t =
-      memory-same a b (s .cache ∙ sym (t .cache)) (table-same k (a .waiting) (b .waiting) _ _ (s .table) (t .table) (λ p w. w) (λ p w. w))
+      (s .cache ∙ sym (t .cache), table-same k (a .waiting) (b .waiting) _ _ (s .table) (t .table) (λ p w. w) (λ p w. w))
 
-  revoke-one : (u : ℕ) (a b : Memory) → S.FloodRevokes k m u a → S.FloodRevokes k m u b → a ≡ b
-  revoke-one u a b s t =
-      memory-same a b (cache-same k (m .cache) (a .cache) (b .cache) _ _ (s .cache) (t .cache) (λ p w. w) (λ p w. w))
-      (table-same k (a .waiting) (b .waiting) _ _ (s .table) (t .table) (λ p w. w) (λ p w. w))
+  revoke-one : (u : ℕ) (a b : Memory) → S.FloodRevokes k m u a → S.FloodRevokes k m u b → SameTables a b
+  revoke-one u a b s t = (
+    cache-same k (m .cache) (a .cache) (b .cache) _ _ (s .cache) (t .cache) (λ p w. w) (λ p w. w),
+    table-same k (a .waiting) (b .waiting) _ _ (s .table) (t .table) (λ p w. w) (λ p w. w),
+  )
 
-  authority-one : (acked : ℕ) (a b : Memory) → S.Authority k m acked a → S.Authority k m acked b → a ≡ b
+  authority-one : (acked : ℕ) (a b : Memory) → S.Authority k m acked a → S.Authority k m acked b → SameTables a b
   authority-one acked a b s t =
-      let e = place-one 2 acked (s .p) (t .p) (s .answers) (t .answers) in
-      memory-same a b
-      (learns-one k m (placeRecord (t .p)) (a .cache) (b .cache) (subst (λ (p : List ℕ). S.Learns k m (placeRecord p) (a .cache)) e (s .cache))
-      (t .cache))
-      (table-same k (a .waiting) (b .waiting) _ _ (s .table) (t .table) (λ q w. (w .0, λ z. w .1 (z ∙ sym e))) (λ q w. (w .0, λ z. w .1 (z ∙ e))))
+      let e = place-one 2 acked (s .p) (t .p) (s .answers) (t .answers) in (
+        learns-one k m (placeRecord (t .p)) (a .cache) (b .cache) (subst (λ (p : List ℕ). S.Learns k m (placeRecord p) (a .cache)) e (s .cache))
+            (t .cache),
+        table-same k (a .waiting) (b .waiting) _ _ (s .table) (t .table) (λ q w. (w .0, λ z. w .1 (z ∙ sym e))) (λ q w. (w .0, λ z. w .1 (z ∙ e))),
+      )
 
-  ack-one : (acked : ℕ) (n : Bool) (a b : Memory) → S.Ack k m acked n a → S.Ack k m acked n b → a ≡ b
+  ack-one : (acked : ℕ) (n : Bool) (a b : Memory) → S.Ack k m acked n a → S.Ack k m acked n b → SameTables a b
   ack-one acked n a b s t =
       let e = place-one 1 acked (s .p) (t .p) (s .answers) (t .answers) in
-      let u = ap placeKey e in
-      memory-same a b
-      (cache-same k (m .cache) (a .cache) (b .cache) _ _ (s .cache) (t .cache) (λ r w. (w .0, λ z. w .1 (z .0, z .1 ∙ sym u)))
-      (λ r w. (w .0, λ z. w .1 (z .0, z .1 ∙ u))))
-      (table-same k (a .waiting) (b .waiting) _ _ (s .table) (t .table) (λ q w. (w .0, λ z. w .1 (z ∙ sym e))) (λ q w. (w .0, λ z. w .1 (z ∙ e))))
+      let u = ap placeKey e in (
+        cache-same k (m .cache) (a .cache) (b .cache) _ _ (s .cache) (t .cache) (λ r w. (w .0, λ z. w .1 (z .0, z .1 ∙ sym u)))
+            (λ r w. (w .0, λ z. w .1 (z .0, z .1 ∙ u))),
+        table-same k (a .waiting) (b .waiting) _ _ (s .table) (t .table) (λ q w. (w .0, λ z. w .1 (z ∙ sym e))) (λ q w. (w .0, λ z. w .1 (z ∙ e))),
+      )
 
-  leaves-one : (x : Heard) (a b : Memory) → S.Leaves m l x a → S.Leaves m l x b → a ≡ b
+  leaves-one : (x : Heard) (a b : Memory) → S.Leaves m l x a → S.Leaves m l x b → SameTables a b
   leaves-one (entry id silent validate r) a b s t = entry-one r a b s t
   leaves-one (revoke id silent validate) a b s t = revoke-one (keyAt 0 (l .key)) a b s t
-  leaves-one (inquire id validate) a b s t = s ∙ sym t
+  leaves-one (inquire id validate) a b s t = all-same a b (s ∙ sym t)
   leaves-one (authority acked cpa) a b s t = authority-one acked a b s t
   leaves-one (ack acked n) a b s t = ack-one acked n a b s t
-  leaves-one (lookup id target) a b s t = s ∙ sym t
+  leaves-one (lookup id target) a b s t = all-same a b (s ∙ sym t)
   leaves-one other a b s t = absurd s
 
   pub receives-one : (h h′ : Handed) → S.Receives m l h → S.Receives m l h′ → h ≡ h′
@@ -242,7 +255,7 @@ module _ (m : Memory) (l : Receive) (f : cacheForm (keyOf (l .own)) (m .cache) �
       let d = sent-same (l .output) (s .ds) (t .ds) h h′ (s .sent) (t .sent)
       (reply-one m l f (t .x) (s .ds) (t .ds) (subst (λ (x : Heard). S.Reply m l x (s .ds)) e (s .reply)) (t .reply)) in
       let z = leaves-one (t .x) (h .memory) (h′ .memory) (subst (λ (x : Heard). S.Leaves m l x (h .memory)) e (s .leaves)) (t .leaves) in
-      handed-same h h′ (d .0) (ap (λ (y : Memory). y .cache) z) (ap (λ (y : Memory). y .waiting) z) (d .1)
+      handed-same h h′ (d .0) (tables-alone m (h .memory) (h′ .memory) (s .rest) (t .rest) z) (d .1)
 
 -- ---- the number, and the whole
 
@@ -272,7 +285,7 @@ does-one m (receives l) none h h′ s t =
     (holds _ (λ e. none 1 (Num.out-of-form refl (λ w. both (w .waiting) e)))) h h′ s t
 does-one m (sends l) none h h′ s t = sends-one m l (holds _ (λ e. none 1 (Num.send-out-of-form refl (λ w. both (w .cache) e)))) h h′ s t
 does-one m (ticks l) none h h′ s t = ticks-one (keyOf (l .own)) m (l .output) h h′ s t
-does-one m (lists l) none h h′ s t = lists-one (l .own) m (l .output) (holds _ (λ e. none 1 (inl (refl, λ w. both (w .1) e)))) h h′ s t
+does-one m (lists l) none h h′ s t = lists-one (l .own) m (l .output) (holds _ (λ e. none 1 (inl (refl, λ w. both (w .cache) e)))) h h′ s t
 
 pub one-gauge : Meets.OneGauge
 one-gauge g h p q m c ty = go (g m c .answer .number) refl

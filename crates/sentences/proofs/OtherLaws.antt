@@ -28,13 +28,14 @@ use Rattle.waiting_form.specs.Call as W
 use Rattle.wire_fields.specs.Kinds.{floodKinds}
 use Rattle.wire_write.specs.Sent.{floodSent}
 use Rattle.wire_write.specs.Making.{floodMade}
-use Rattle.gauge_plan.specs.Memory.{tablesFit}
+use Rattle.gauge_plan.specs.Memory.{tablesFit, tickFit}
+use Rattle.gauge.specs.Counts.{tickTable}
 use Rattle.plan_send.specs.Send.{keysFit, heldAt, floodRoom}
 use Rattle.gauge_plan.specs.Found.{isNothing, placeOf}
-use Rattle.gauge_plan.proofs.MemoryLaws.{ready}
+use Rattle.gauge_plan.proofs.MemoryLaws.{ready, tick-fit-lent, lent-tick-fit}
 use Rattle.gauge_commit.proofs.LengthLaws.{flood-length}
 use Rattle.gauge_commit.proofs.SentLaws.{joined-one}
-use Rattle.gauge_plan.specs.Lent.{Memory, Send, Tick, Listing, sends, ticks, lists}
+use Rattle.gauge_plan.specs.Lent.{Memory, Send, Tick, Listing, sends, ticks, lists, SendLent}
 use Rattle.gauge_laws.specs.Table.{tableOf}
 use Rattle.gauge_laws.proofs.FirstLaws.{whole-record}
 use Rattle.sentences.specs.Sentences as S
@@ -49,15 +50,14 @@ use Rattle.sentences.proofs.FirstLaws.{Row, Agree}
 -- ---- the tick and the neighbour list
 
 pub tick-agree : (m : Memory) (l : Tick) → Agree (Num.Applies m (ticks l)) (tableOf m (ticks l))
-unfolding W.tickRefusals
 tick-agree m l n low = (to, from)
   where
-    to : Num.Applies m (ticks l) n → Row n (W.tickRefusals (l .own) (m .waiting) (l .output))
-    to (inl w) = inl (w .0, ap not (holds-not _ (λ e. w .1 (both-true (recordForm (l .own)) (waitingForm (keyOf (l .own)) (m .waiting)) e))))
+    to : Num.Applies m (ticks l) n → Row n (tickTable m l)
+    to (inl w) = inl (w .0, ap not (holds-not _ (λ e. w .1 (tick-fit-lent m l e))))
     to (inr w) = inr (inl (w .0, lt-ltb (length (l .output)) 64 (w .1)))
 
-    from : Row n (W.tickRefusals (l .own) (m .waiting) (l .output)) → Num.Applies m (ticks l) n
-    from (inl w) = inl (w .0, λ v. both (rw (v .0, v .1) refl) (not-true (recordForm (l .own) && waitingForm (keyOf (l .own)) (m .waiting)) (w .1)))
+    from : Row n (tickTable m l) → Num.Applies m (ticks l) n
+    from (inl w) = inl (w .0, λ v. both (lent-tick-fit m l v) (not-true (tickFit (l .own) m) (w .1)))
     from (inr (inl w)) = inr (w .0, ltb-true (length (l .output)) 64 (w .1))
     from (inr (inr w)) = absurd w
 
@@ -70,12 +70,12 @@ list-agree m l n low = (to, from)
         go : Test (recordForm (l .own)) → Test (cacheForm (keyOf (l .own)) (m .cache)) → Row n (listWrong (l .own) (m .cache) (l .output))
         go (fail e) d = inl (w .0, ap not e)
         go (pass e) (fail d) = inr (inl (w .0, ap not d))
-        go (pass e) (pass d) = absurd (w .1 (e, d))
+        go (pass e) (pass d) = absurd (w .1 (record { own = e; cache = d }))
     to (inr w) = inr (inr (inl (w .0, lt-ltb (length (l .output)) 320 (w .1))))
 
     from : Row n (listWrong (l .own) (m .cache) (l .output)) → Num.Applies m (lists l) n
-    from (inl w) = inl (w .0, λ v. both (v .0) (not-true (recordForm (l .own)) (w .1)))
-    from (inr (inl w)) = inl (w .0, λ v. both (v .1) (not-true (cacheForm (keyOf (l .own)) (m .cache)) (w .1)))
+    from (inl w) = inl (w .0, λ v. both (v .own) (not-true (recordForm (l .own)) (w .1)))
+    from (inr (inl w)) = inl (w .0, λ v. both (v .cache) (not-true (cacheForm (keyOf (l .own)) (m .cache)) (w .1)))
     from (inr (inr (inl w))) = inr (w .0, ltb-true (length (l .output)) 320 (w .1))
     from (inr (inr (inr w))) = absurd w
 
@@ -102,14 +102,14 @@ module _ (m : Memory) (l : Send) where
   abbrev A : ℕ → Type 0
   A n = Num.SendApplies m l n
 
-  lent-tables : Num.SendLent m l → tablesFit (l .own) m ≡ true
+  lent-tables : SendLent m l → tablesFit (l .own) m ≡ true
   unfolding tablesFit
   lent-tables w = rw (w .own, w .cache, w .waiting) refl
 
-  lent-keys : Num.SendLent m l → keysFit (l .neighbour) (l .key) ≡ true
+  lent-keys : SendLent m l → keysFit (l .neighbour) (l .key) ≡ true
   lent-keys w = rw (eq-eqb (length (l .neighbour)) 32 (w .neighbour), eq-eqb (length (l .key)) 32 (w .key)) refl
 
-  fit-lent : tablesFit (l .own) m ≡ true → keysFit (l .neighbour) (l .key) ≡ true → Num.SendLent m l
+  fit-lent : tablesFit (l .own) m ≡ true → keysFit (l .neighbour) (l .key) ≡ true → SendLent m l
   fit-lent e h =
       let r = ready (l .own) m e in
       let w = both-true (eqb (length (l .neighbour)) 32) (eqb (length (l .key)) 32) h in
@@ -121,10 +121,10 @@ module _ (m : Memory) (l : Send) where
         key = eqb-true (length (l .key)) 32 (w .1);
       }
 
-  pub is-lent : ¬ A 1 → Num.SendLent m l
+  pub is-lent : ¬ A 1 → SendLent m l
   is-lent h = go (test (tablesFit (l .own) m)) (test (keysFit (l .neighbour) (l .key)))
     where
-      go : Test (tablesFit (l .own) m) → Test (keysFit (l .neighbour) (l .key)) → Num.SendLent m l
+      go : Test (tablesFit (l .own) m) → Test (keysFit (l .neighbour) (l .key)) → SendLent m l
       go (pass e) (pass d) = fit-lent e d
       go (fail e) d = absurd (h (Num.send-out-of-form refl (λ w. both (lent-tables w) e)))
       go (pass e) (fail d) = absurd (h (Num.send-out-of-form refl (λ w. both (lent-keys w) d)))
@@ -169,7 +169,7 @@ module _ (m : Memory) (l : Send) where
   abbrev r : List ℕ
   r = sentBy m l (eqb named k)
 
-  module _ (g : Num.SendLent m l) (bar : not (eqb named k) && isNothing (heldAt named recs) ≡ false) where
+  module _ (g : SendLent m l) (bar : not (eqb named k) && isNothing (heldAt named recs) ≡ false) where
     is-named : S.Named m l r
     is-named = named-by m l bar (eqb named k) refl
 
@@ -189,7 +189,7 @@ module _ (m : Memory) (l : Send) where
         ∙ ap floodRoom whole
 
   module _ (n : ℕ) (low : (i : ℕ) → Before i n → ¬ A i) where
-    good : Before 1 n → Num.SendLent m l
+    good : Before 1 n → SendLent m l
     good h = is-lent (low 1 h)
 
     barred : Before 12 n → not (eqb named k) && isNothing (heldAt named recs) ≡ false
@@ -198,7 +198,7 @@ module _ (m : Memory) (l : Send) where
     full-is : length ps ≡ usedOf (m .waiting)
     full-is = rows-length 140 (usedOf (m .waiting)) (m .waiting)
 
-    lent-row : n ≡ 1 → ¬ Num.SendLent m l → Row n (tableOf m (sends l))
+    lent-row : n ≡ 1 → ¬ SendLent m l → Row n (tableOf m (sends l))
     lent-row e h = go (test (tablesFit (l .own) m)) (test (keysFit (l .neighbour) (l .key)))
       where
         go : Test (tablesFit (l .own) m) → Test (keysFit (l .neighbour) (l .key)) → Row n (tableOf m (sends l))

@@ -59,7 +59,7 @@ module _ (m : Memory) (l : Receive) where
 
   module _ (z : receiveCall m l .answer .number ≡ 0) where
     pub fine : Fine
-    fine = record { ready = receive-ready m l z; hands = known-hands (l .cpa) (l .nonce) (l .key) (not-false _ (none-applies m (receives l) z .1 .0)) }
+    fine = record { ready = receive-ready m l z; hands = known-hands m l (not-false _ (none-applies m (receives l) z .1 .0)) }
 
     pub message-fails : AllFail (messageRows m l (R.answer (l .datagram) (l .major)))
     message-fails =

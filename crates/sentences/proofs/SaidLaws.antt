@@ -8,7 +8,7 @@ use Prim.Native.Nat.{ℕ, _+_, _*_, _≤_, _<_}
 use native.Mathlib.Omega.{arith}
 use lib.Dec.{ltb}
 use lib.ListN.{length, length-append}
-use borrow.Author.Tests.{eq-eqb, lt-ltb, ltb-true, le-leb}
+use borrow.Author.Tests.{lt-ltb, ltb-true}
 use Rattle.key.specs.Number.{keyAt}
 use Rattle.record.specs.Record.{keyOf, recordForm}
 use Rattle.refusal.specs.Table.{Refusal, Before}
@@ -21,8 +21,8 @@ use Rattle.waiting.specs.Place.{idOf, placeKey}
 use Rattle.waiting.specs.Form.{placesOf}
 use Rattle.asking.specs.Ids.{idAfter}
 use Rattle.gauge_plan.specs.Memory.{tablesFit, handsFit}
-use Rattle.gauge_plan.proofs.MemoryLaws.{ready, known-hands}
-use Rattle.gauge_plan.specs.Lent.{Memory, Receive}
+use Rattle.gauge_plan.proofs.MemoryLaws.{fit-lent, lent-tables, lent-hands}
+use Rattle.gauge_plan.specs.Lent.{Memory, Receive, ReceiveLent}
 use Rattle.sentences.specs.Heard.{Heard, entry, revoke, inquire, authority, ack, lookup, other}
 use Rattle.sentences.specs.Sentences as S
 use Rattle.sentences.specs.Numbers as Num
@@ -81,41 +81,13 @@ module _ (m : Memory) (l : Receive) where
 
   -- ---- 1
 
-  pub fit-lent : tablesFit (l .own) m ≡ true → handsFit (l .cpa) (l .nonce) (l .key) ≡ true → Num.ReceiveLent m l
-  fit-lent e h =
-      let r = ready (l .own) m e in
-      let w = known-hands (l .cpa) (l .nonce) (l .key) h in
-      record {
-        own = r .owned;
-        cache = r .cached;
-        waiting = r .tabled;
-        cpa-least = w .least;
-        cpa-most = w .most;
-        nonce = w .nonced;
-        key = w .keyed;
-      }
-
-  pub lent-tables : Num.ReceiveLent m l → tablesFit (l .own) m ≡ true
-  unfolding tablesFit
-  lent-tables w = rw (w .own, w .cache, w .waiting) refl
-
-  pub lent-hands : Num.ReceiveLent m l → handsFit (l .cpa) (l .nonce) (l .key) ≡ true
-  unfolding handsFit
-  lent-hands w =
-      rw (
-        le-leb 1 (length (l .cpa)) (w .cpa-least),
-        le-leb (length (l .cpa)) 1024 (w .cpa-most),
-        eq-eqb (length (l .nonce)) 16 (w .nonce),
-        eq-eqb (length (l .key)) 32 (w .key),
-      ) refl
-
-  pub is-lent : ¬ Clause 1 → Num.ReceiveLent m l
-  is-lent h = go (test (tablesFit (l .own) m)) (test (handsFit (l .cpa) (l .nonce) (l .key)))
+  pub is-lent : ¬ Clause 1 → ReceiveLent m l
+  is-lent h = go (test (tablesFit (l .own) m)) (test (handsFit m l))
     where
-      go : Test (tablesFit (l .own) m) → Test (handsFit (l .cpa) (l .nonce) (l .key)) → Num.ReceiveLent m l
-      go (pass e) (pass d) = fit-lent e d
-      go (fail e) d = absurd (h (Num.out-of-form refl (λ w. both (lent-tables w) e)))
-      go (pass e) (fail d) = absurd (h (Num.out-of-form refl (λ w. both (lent-hands w) d)))
+      go : Test (tablesFit (l .own) m) → Test (handsFit m l) → ReceiveLent m l
+      go (pass e) (pass d) = fit-lent m l e d
+      go (fail e) d = absurd (h (Num.out-of-form refl (λ w. both (lent-tables m l w) e)))
+      go (pass e) (fail d) = absurd (h (Num.out-of-form refl (λ w. both (lent-hands m l w) d)))
 
   -- ---- 15
 
@@ -152,5 +124,5 @@ module _ (m : Memory) (l : Receive) where
   abbrev pub Both : ℕ → Heard → List Refusal → Type 0
   Both n x rs = (Said x n → Row n rs) × (Row n rs → Said x n)
 
-  pub good : (n : ℕ) → First n → Before 1 n → Num.ReceiveLent m l
+  pub good : (n : ℕ) → First n → Before 1 n → ReceiveLent m l
   good n low h = is-lent (low 1 h)

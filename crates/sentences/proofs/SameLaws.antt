@@ -26,7 +26,8 @@ use Rattle.wire_fields.specs.Refusals.{fieldsIn, refusals}
 use Rattle.wire_read.specs.Answers as R
 use Rattle.wire_read.specs.Meaning.{numberOf}
 use Rattle.gauge_commit.specs.Sending.{answer, Handed, handed}
-use Rattle.gauge_plan.specs.Lent.{Memory, Receive, hearing, Call, receives}
+use Rattle.gauge_plan.specs.Lent.{Memory, Receive, hearing, Call, receives, ReceiveLent}
+use Rattle.gauge_plan.proofs.MemoryLaws.{lent-hearing}
 use Rattle.gauge_laws.proofs.TableLaws.{shown-message}
 use Rattle.gauge.specs.Words.{Gauge}
 use Rattle.sentences.specs.Heard.{Heard, entry, revoke, inquire, authority, ack, lookup, other, Hears}
@@ -71,29 +72,11 @@ module _ (m : Memory) (c : Receive) (d d′ : List ℕ) (b : Bytes d) (x : Heard
   heard-too : (y : Heard) → Hears d major y → Hears d′ major y
   heard-too y h = subst (Hears d′ major) (hears-one d major x y a h) a′
 
-  lent-too : Num.ReceiveLent m l → Num.ReceiveLent m l′
-  lent-too w =
-      record {
-        own = w .own;
-        cache = w .cache;
-        waiting = w .waiting;
-        cpa-least = w .cpa-least;
-        cpa-most = w .cpa-most;
-        nonce = w .nonce;
-        key = w .key;
-      }
+  lent-too : ReceiveLent m l → ReceiveLent m l′
+  lent-too w = lent-hearing m l d′ w
 
-  lent-back : Num.ReceiveLent m l′ → Num.ReceiveLent m l
-  lent-back w =
-      record {
-        own = w .own;
-        cache = w .cache;
-        waiting = w .waiting;
-        cpa-least = w .cpa-least;
-        cpa-most = w .cpa-most;
-        nonce = w .nonce;
-        key = w .key;
-      }
+  lent-back : ReceiveLent m l′ → ReceiveLent m l
+  lent-back w = lent-hearing m l′ d w
 
   reply-too : (y : Heard) (ds : List (List ℕ)) → S.Reply m l y ds → S.Reply m l′ y ds
   reply-too (entry i silent validate r) ds w = record { n = w .n; ask = w .ask; set = w .set; asked = w .asked; are = w .are }
@@ -123,6 +106,7 @@ module _ (m : Memory) (c : Receive) (d d′ : List ℕ) (b : Bytes d) (x : Heard
         reply = reply-too (w .x) (w .ds) (w .reply);
         sent = w .sent;
         leaves = leaves-too (w .x) (h .memory) (w .leaves);
+        rest = w .rest;
       }
 
   is-long : (12 ≤ length d) × (length d ≤ 1232)

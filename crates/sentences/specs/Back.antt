@@ -6,10 +6,10 @@ use Rattle.octet.specs.Number.{Bytes}
 use Rattle.kept.specs.Keys.{Every}
 use Rattle.wire_shapes.specs.Shapes.{Kind}
 use Rattle.wire_fields.specs.Message.{Message, Reads}
-use Rattle.gauge_plan.specs.Lent.{Memory, Receive, Send}
+use Rattle.gauge_plan.specs.Lent.{Memory, Receive, Send, ReceiveLent, SendLent}
 use Rattle.sentences.specs.Heard.{Heard}
 use Rattle.sentences.specs.Sentences.{written, Reply, Named, flooding}
-use Rattle.sentences.specs.Numbers.{ReceiveLent, SendLent, Says}
+use Rattle.sentences.specs.Numbers.{Says}
 
 -- the datagram is the bytes of a message, and reads as it
 abbrev pub ReadsBack : List ℕ → Type 0

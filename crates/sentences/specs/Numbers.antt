@@ -10,38 +10,19 @@ use Rattle.octet.specs.Part.{part}
 use Rattle.key.specs.Number.{keyAt}
 use Rattle.key.specs.Around.{above}
 use Rattle.record.specs.Record.{keyOf}
-use Rattle.own.specs.Own.{ownKeys, ownForm, IsOwn}
+use Rattle.own.specs.Own.{ownKeys, IsOwn}
 use Rattle.table.specs.Rows.{joined}
 use Rattle.kept.specs.Keys.{_∈_}
-use Rattle.cache.specs.Form.{cacheForm}
 use Rattle.waiting.specs.Place.{idOf, placeKey}
-use Rattle.waiting.specs.Form.{placesOf, waitingForm}
+use Rattle.waiting.specs.Form.{placesOf}
 use Rattle.wire_shapes.specs.Shapes.{splitForm}
 use Rattle.wire_fields.specs.Kinds.{kindsOf}
 use Rattle.wire_fields.specs.Message.{opening, typeOf}
 use Rattle.wire_shapes.specs.Field.{numberAt}
 use Rattle.asking.specs.Ids.{idAfter}
-use Rattle.gauge_plan.specs.Lent.{Memory, Receive, Send, Call, receives, sends, ticks, lists}
+use Rattle.gauge_plan.specs.Lent.{Memory, Receive, Send, Call, receives, sends, ticks, lists, ReceiveLent, SendLent, TickLent, ListLent}
 use Rattle.sentences.specs.Heard.{Heard, entry, revoke, inquire, authority, ack, other, Hears}
 use Rattle.sentences.specs.Sentences.{Holds, Waits, WaitsAs, MustAsk, Reply, Named, flooding}
-
--- memory lent as it should be: "Each call on the cache or the waiting table is lent the own record too"; "Own CPA: 1 to 1,024 bytes"; "a 16-byte nonce"; "A key handed
--- in has 32 bytes"
-pub record ReceiveLent (m : Memory) (l : Receive) : Type 0 where
-  pub own : ownForm (l .own) ≡ true
-  pub cache : cacheForm (ownKeys (l .own)) (m .cache) ≡ true
-  pub waiting : waitingForm (ownKeys (l .own)) (m .waiting) ≡ true
-  pub cpa-least : 1 ≤ length (l .cpa)
-  pub cpa-most : length (l .cpa) ≤ 1024
-  pub nonce : length (l .nonce) ≡ 16
-  pub key : length (l .key) ≡ 32
-
-pub record SendLent (m : Memory) (l : Send) : Type 0 where
-  pub own : ownForm (l .own) ≡ true
-  pub cache : cacheForm (ownKeys (l .own)) (m .cache) ≡ true
-  pub waiting : waitingForm (ownKeys (l .own)) (m .waiting) ≡ true
-  pub neighbour : length (l .neighbour) ≡ 32
-  pub key : length (l .key) ≡ 32
 
 abbrev pub Says : Receive → Heard → Type 0
 Says l x = Hears (l .datagram) (l .major) x
@@ -118,7 +99,5 @@ pub data SendApplies (m : Memory) (l : Send) (n : ℕ) : Type 0 where
 abbrev pub Applies : Memory → Call → ℕ → Type 0
 Applies m (receives l) n = ReceiveApplies m l n
 Applies m (sends l) n = SendApplies m l n
-Applies m (ticks l) n =
-    ((n ≡ 1) × (¬ ((ownForm (l .own) ≡ true) × (waitingForm (ownKeys (l .own)) (m .waiting) ≡ true)))) ⊎ ((n ≡ 15) × (length (l .output) < 64))
-Applies m (lists l) n =
-    ((n ≡ 1) × (¬ ((ownForm (l .own) ≡ true) × (cacheForm (ownKeys (l .own)) (m .cache) ≡ true)))) ⊎ ((n ≡ 15) × (length (l .output) < 320))
+Applies m (ticks l) n = ((n ≡ 1) × (¬ TickLent m l)) ⊎ ((n ≡ 15) × (length (l .output) < 64))
+Applies m (lists l) n = ((n ≡ 1) × (¬ ListLent m l)) ⊎ ((n ≡ 15) × (length (l .output) < 320))

@@ -26,7 +26,7 @@ use Rattle.wire_fields.specs.Message.{Message, messageBytes, layoutOf}
 use Rattle.wire_write.specs.Sent.{ackSent, floodSent, inquireSent, cpaSent, closestSent}
 use Rattle.asking.specs.Ids.{idAfter}
 use Rattle.gauge_commit.specs.Sending.{answer, lengths, sending, Handed, handed}
-use Rattle.gauge_plan.specs.Lent.{Memory, Receive, Send, Call, receives, sends, ticks, lists}
+use Rattle.gauge_plan.specs.Lent.{Memory, Receive, Send, Call, receives, sends, ticks, lists, withWaiting, withTables}
 use Rattle.sentences.specs.Heard.{Heard, entry, revoke, inquire, authority, ack, lookup, other, Hears}
 
 -- ---- views: what is held and what waits, for the own key k
@@ -187,6 +187,8 @@ pub record Receives (m : Memory) (l : Receive) (h : Handed) : Type 0 where
   pub reply : Reply m l x ds
   pub sent : Sent (l .output) ds h
   pub leaves : Leaves m l x (h .memory)
+  -- whatever memory stands beside cache and waiting table is as it was
+  pub rest : h .memory ≡ withTables (h .memory .cache) (h .memory .waiting) m
 
 -- "a FLOOD to send .. whose record is neither ours nor held": the record is ours, or the one held with the key
 abbrev pub Named : Memory → Send → List ℕ → Type 0
@@ -202,7 +204,8 @@ pub record Sends (m : Memory) (l : Send) (h : Handed) : Type 0 where
   pub r : List ℕ
   pub named : Named m l r
   pub sent : Sent (l .output) (flooding l r) h
-  pub cache : h .memory .cache ≡ m .cache
+  -- the cache is as it was, and whatever else stands beside the waiting table
+  pub rest : h .memory ≡ withWaiting (h .memory .waiting) m
   pub table : WaitsExactly (ownKeys (l .own)) (h .memory .waiting) (λ (p : List ℕ). Waits m p ⊎ (p ≡ floodPlace (l .id) (l .neighbour)))
 
 -- "Tick. Each place with tries left loses one and its ID is listed, increasing; one with none is freed."
@@ -212,7 +215,7 @@ pub record Ticks (k : ℕ) (m : Memory) (output : List ℕ) (h : Handed) : Type 
   pub listed : (i : ℕ) → (i ∈ ids) ↔ ((p : List ℕ) × Waits m p × (0 < triesOf p) × (idOf p ≡ i))
   pub counts : h .answer ≡ answer 0 (length ids) 0
   pub bytes : h .output ≡ sending (idBytes ids ∷ []) output
-  pub cache : h .memory .cache ≡ m .cache
+  pub rest : h .memory ≡ withWaiting (h .memory .waiting) m
   pub table : WaitsExactly k (h .memory .waiting) (λ (q : List ℕ). (p : List ℕ) × Waits m p × (0 < triesOf p) × (q ≡ oneLess p))
 
 -- "Neighbour list. Up to five keys below, then up to five above, nearest first, 32 bytes each; both counts returned": what is handed back is that of these keys

@@ -59,7 +59,7 @@ use Rattle.plan_message.proofs.PlannedLaws.{Known, Flooded, known, learn-needs}
 use Rattle.gauge_laws.proofs.RefusedLaws.{refused-keeps}
 use Rattle.gauge_laws.proofs.MovedLaws.{ready-form, ready-places, receive-ready, send-moved}
 use Rattle.gauge_laws.proofs.TickLaws.{tick-round}
-use Rattle.gauge_laws.proofs.FormLaws.{send-cache}
+use Rattle.gauge_laws.proofs.FormLaws.{send-cache, tick-cache}
 use Rattle.gauge.specs.Words.{left, OneKey, Typed, Proper}
 use Rattle.gauge.specs.Ours.{ours}
 use Rattle.signed.specs.Answered.{AnswerTold, answerTold, toldFrom, inquires, inquired, thatOf, answeredBy, answered, firstTold, HoldsLastAnswered}
@@ -305,7 +305,7 @@ module _ (k : ℕ) (es : List AnswerTold) (m : Memory) (b : Holds k es m) where
       let r = tick-round m l z in
       record {
         asked = rw (r .places) (all-ticked (Asked es) (Asked es) (asked-ticked es) (placesOf (m .waiting)) (r .form .sized) (b .asked));
-        last = b .last;
+        last = subst (λ (cache : List ℕ). Every (Last (answered es)) (heldOf k cache)) (sym (tick-cache m l)) (b .last);
       }
   accepted-step (lists l) one ty z = record { asked = b .asked; last = b .last }
 

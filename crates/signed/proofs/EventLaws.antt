@@ -97,7 +97,7 @@ module _ (m : Memory) (l : Receive) where
   planned : AllFail (receiveTable m l)
       → receivePlan m l ≡ planFor m l (heldIn (keyOf (l .own)) (m .cache)) (usedOf (m .waiting)) (R.answer (l .datagram) (l .major))
   unfolding receivePlan memoryOf orRefuse
-  planned f = rw (not-false (tablesFit (l .own) m) (f .0), not-false (handsFit (l .cpa) (l .nonce) (l .key)) (f .1 .0)) refl
+  planned f = rw (not-false (tablesFit (l .own) m) (f .0), not-false (handsFit m l) (f .1 .0)) refl
 
   pub told : receiveCall m l .answer .number ≡ 0 → Told m l (R.answer (l .datagram) (l .major)) (receivePlan m l)
   told z =

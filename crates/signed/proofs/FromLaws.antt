@@ -23,8 +23,8 @@ use Rattle.cache.proofs.FormLaws.{true-form, form-room}
 use Rattle.waiting.proofs.FormLaws as WF
 use Rattle.waiting.proofs.RoundLaws.{All}
 use Rattle.gauge_commit.specs.Sending.{OnlyFirst, Handed}
-use Rattle.gauge_plan.specs.Lent.{Memory, empty, Call, lists, ownOf, outputOf}
-use Rattle.gauge.specs.Words.{Gauge, left, Entry, entry, log, returned, InForm, Typed, Proper}
+use Rattle.gauge_plan.specs.Lent.{Memory, InForm, empty, Call, lists, ownOf, outputOf}
+use Rattle.gauge.specs.Words.{Gauge, left, Entry, entry, log, returned, Typed, Proper}
 use Rattle.gauge.specs.Ours.{ours}
 use Rattle.sentences.specs.Sentences.{NeighbourList}
 use Rattle.sentences.specs.Meets.{MeetsSentences}

@@ -124,7 +124,7 @@ module _ (m : Memory) (l : Receive) where
       let h = heldIn (keyOf (l .own)) (m .cache) in
       let u = usedOf (m .waiting) in
       let fit : memoryOf (l .own) m ≡ Fit h u = rw (not-false (tablesFit (l .own) m) (f .0)) refl in
-      let is = plan-message m l fit (not-false (handsFit (l .cpa) (l .nonce) (l .key)) (f .1 .0)) in
+      let is = plan-message m l fit (not-false (handsFit m l) (f .1 .0)) in
       subst (Heard m l a) (sym is) (heard-message h u a (subst (event.Told m l a) is (event.told m l z)))
 
 -- ---- the log with one call more

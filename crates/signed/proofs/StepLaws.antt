@@ -10,7 +10,7 @@ use lib.Dec.{eqb}
 use lib.Seq.{take-all}
 use lib.ListN.{length, replicate, length-replicate}
 use Rattle.octet.specs.Number.{valueBE}
-use borrow.Author.Tests.{eq-eqb, ne-eqb, eqb-false}
+use borrow.Author.Tests.{eq-eqb, ne-eqb, eqb-false, not-false}
 use Rattle.key.specs.Number.{keyAt}
 use Rattle.record.specs.Record.{keyOf, recordForm}
 use Rattle.kept.specs.History.{Event, after, Learns}
@@ -20,8 +20,8 @@ use Rattle.cache.specs.Form.{cacheForm}
 use Rattle.waiting.specs.Place.{idOf, kindOf, placeKey, floodPlace}
 use Rattle.waiting.specs.Form.{waitingForm, placesOf}
 use Rattle.waiting.specs.Tick.{oneLess}
-use Rattle.waiting_form.specs.Call.{Ticked}
-use Rattle.waiting_form.proofs.CallLaws.{own-bad}
+use Rattle.gauge_plan.proofs.MemoryLaws.{tick-fit-lent}
+use Rattle.gauge_laws.proofs.TableLaws.{none-applies}
 use Rattle.waiting.proofs.PlaceLaws.{less-id, less-key, less-kind}
 use Rattle.waiting.specs.Seek.{hasId}
 use Rattle.waiting.proofs.NewLaws.{new-id, new-key}
@@ -33,7 +33,7 @@ use Rattle.gauge.specs.Send.{sendCall}
 use Rattle.gauge.specs.Counts.{gaugeTick, gaugeList}
 use Rattle.gauge_laws.proofs.RefusedLaws.{refused-keeps}
 use Rattle.gauge_laws.proofs.MovedLaws.{Moved, stays, frees, opens, receive-ready, receive-moved, send-moved}
-use Rattle.gauge_laws.proofs.FormLaws.{receive-form, send-form, tick-form, send-cache}
+use Rattle.gauge_laws.proofs.FormLaws.{receive-form, send-form, tick-form, send-cache, tick-cache}
 use Rattle.gauge_laws.proofs.TickLaws.{tick-round}
 use Rattle.gauge.specs.Words.{Entry, entry, left, log, OneKey, Typed, Proper}
 use Rattle.gauge.specs.Ours.{ours}
@@ -116,12 +116,7 @@ moved-all P New ps qs f (opens p h new e) a = rw e (all-opened P p ps (f p h) a)
 
 -- an accepted tick was lent an own record in form
 tick-owned : (m : Memory) (l : Tick) → gaugeTick m l .answer .number ≡ 0 → recordForm (l .own) ≡ true
-unfolding gaugeTick
-tick-owned m l z = go (recordForm (l .own)) refl
-  where
-    go : (b : Bool) → recordForm (l .own) ≡ b → recordForm (l .own) ≡ true
-    go true e = e
-    go false e = let w = ap (λ (h : Ticked). h .number) (own-bad (l .own) (m .waiting) (l .output) e) in absurd (omega arith)
+tick-owned m l z = tick-fit-lent m l (not-false _ (none-applies m (ticks l) z .0)) .own
 
 module _ (C : ℕ) (es : List Entry) (keys : List ℕ) (m : Memory) where
   tick-step : (l : Tick) → Inv (keyOf (l .own)) C es keys m → gaugeTick m l .answer .number ≡ 0
@@ -132,7 +127,7 @@ module _ (C : ℕ) (es : List Entry) (keys : List ℕ) (m : Memory) where
       let t = gaugeTick m l .memory .waiting in
       let owed : All (Owed es) (placesOf t) =
       rw (r .places) (all-ticked (Owed es) (Owed es) (owed-ticked es) (placesOf (m .waiting)) (r .form .sized) (inv .owed)) in
-      quiet-step (keyOf (l .own)) C es keys m inv (ticks l) (gaugeTick m l .memory) refl refl (tick-form m l z)
+      quiet-step (keyOf (l .own)) C es keys m inv (ticks l) (gaugeTick m l .memory) refl (tick-cache m l) (tick-form m l z)
       (owed-later es (entry (ticks l) 0 ∷ es) (λ id. unfold sentTo in refl) (placesOf t) owed)
 
   -- a log with the send in front: its ID went to its neighbour, another where it went before

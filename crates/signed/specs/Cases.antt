@@ -33,9 +33,12 @@ recordWith k = key k ++ (0 ∷ 0 ∷ 1 ∷ 0 ∷ []) ++ replicate 64 0
 abbrev pub holding : ℕ → List ℕ → List (List ℕ) → Memory
 holding C keys ps = withCache (bytesOf (100 * C) (map recordWith keys)) (withWaiting (bytesOf 2240 ps) (empty C))
 
--- a datagram received by the gauge with the own key, with ID 7 and verdict 1 for the key k
+-- a datagram received by the gauge with the own key, with ID 7 and verdict 1 for the key k, and so many bytes of output
+abbrev pub hearsInto : ℕ → ℕ → ℕ → List ℕ → Call
+hearsInto room own k datagram = receives (receive (recordWith own) (0 ∷ []) 6 101 7 (replicate 16 0) 1 (key k) datagram (replicate room 0))
+
 abbrev pub hears : ℕ → ℕ → List ℕ → Call
-hears own k datagram = receives (receive (recordWith own) (0 ∷ []) 6 101 7 (replicate 16 0) 1 (key k) datagram (replicate 96 0))
+hears own k datagram = hearsInto 96 own k datagram
 
 -- the inquiry for the key k, with ID 8, and an AUTHORITY that answers it
 abbrev pub inquiryFor : ℕ → List ℕ

@@ -9,8 +9,8 @@ use Rattle.kept.specs.History.{Event, NoRemoval, learnedAll}
 use Rattle.kept.specs.Plain.{drops, kept}
 use Rattle.wire.specs.Statements.{AtMostOne, WrittenReads, ReadWritten}
 use Rattle.gauge_commit.specs.Sending.{OnlyFirst}
-use Rattle.gauge_plan.specs.Lent.{Memory, empty, Listing, Call, lists, ownOf, outputOf}
-use Rattle.gauge.specs.Words.{Gauge, returned, InForm, Typed, left, log, Proper}
+use Rattle.gauge_plan.specs.Lent.{Memory, InForm, empty, Listing, Call, lists, ownOf, outputOf}
+use Rattle.gauge.specs.Words.{Gauge, returned, Typed, left, log, Proper}
 use Rattle.sentences.specs.Sentences.{NeighbourList}
 use Rattle.sentences.specs.Meets.{MeetsTable, MeetsSentences}
 use Rattle.sentences.specs.Back.{SentReads, FloodReads}

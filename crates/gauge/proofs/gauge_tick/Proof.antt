@@ -1,11 +1,11 @@
 -- `gauge_tick` meets its contract: waiting's tick, with its count in 32 bits. Assumes nothing.
-use mathlib.Core.Path.{ap}
+use mathlib.Core.Path.{ap, _∙_}
 use native.Mathlib.Omega.{arith}
 use Rattle.waiting_form.specs.Call.{Ticked}
-use Rattle.gauge_plan.specs.Lent.{withWaiting}
-use Rattle.gauge.specs.Counts.{tickAnswered, gaugeTick}
+use Rattle.gauge_plan.specs.Lent.{withWaiting, tick}
+use Rattle.gauge.specs.Counts.{tickAnswered}
 use Rattle.gauge.specs.Ours.{ours}
-use Rattle.gauge.proofs.CountLaws.{tick-few}
+use Rattle.gauge.proofs.CountLaws.{tick-called, tick-few}
 use borrow.Author.Needs.{needs}
 use Rattle.gauge.proofs.gauge_tick.Statement.{statement}
 use Rattle.gauge.proofs.gauge_tick.Tie as tie
@@ -26,11 +26,11 @@ same-length-2 : tie.Need-same-length-2
 same-length-2 c = search needs
 
 returns : tie.Need-returns
-unfolding gaugeTick
 returns c o =
     let t = c .before .before .before .before .before in
-    let m = withWaiting (t .before .before .before .before .before .before .args .waiting .now) o in
-    rw (c .answer-of .ensures) (ap (tickAnswered m) (t .tick .ensures))
+    let a = t .before .before .before .before .before .before .args in
+    let m = withWaiting (a .waiting .now) o in
+    rw (c .answer-of .ensures) (ap (tickAnswered m) (t .tick .ensures) ∙ tick-called m (tick (a .own .now) (a .output .now)))
 
 pub gauge-tick-spec : {M : Type 1} → statement M
 gauge-tick-spec =

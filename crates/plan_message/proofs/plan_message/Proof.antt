@@ -1,7 +1,5 @@
 -- `plan_message::plan_message` meets its contract: each arm is the clause of its message, by what is told of it, and reading knows the places. Assumes nothing.
 use mathlib.Core.Path.{_≡_, sym, subst, _∙_}
-use mathlib.Core.List.{List}
-use Prim.Native.Nat.{ℕ}
 use native.Mathlib.Omega.{arith}
 use lib.ListN.{length}
 use Rattle.record.proofs.EntryLaws.{form-length}
@@ -9,7 +7,7 @@ use Rattle.wire_read.specs.Answers as R
 use Rattle.wire_read.specs.declared.Answer as T
 use Rattle.look.specs.Seen.{briefOf}
 use Rattle.look.specs.declared.Brief.{Brief}
-use Rattle.gauge_plan.specs.Lent.{Memory, withTables, Receive, receive}
+use Rattle.gauge_plan.specs.Lent.{Memory, withTables, Receive, planning}
 use Rattle.plan_message.proofs.AnswerLaws.{known-answer}
 use Rattle.plan_message.proofs.BriefLaws.{refused-by, flood-by, revoke-by, inquire-by, authority-by, ack-by, lookup-by, other-by, known-flood, known-entry, known-inquire, known-lookup}
 use Rattle.plan_message.proofs.BriefLaws.{RefusedBy, FloodBy, RevokeBy, InquireBy, AuthorityBy, AckBy, LookupBy, OtherBy, KnownFlood, KnownEntry, KnownInquire, KnownLookup}
@@ -20,14 +18,14 @@ use Rattle.plan_message.proofs.plan_message.Tie as tie
 abbrev start : tie.After-brief-at → tie.Start
 start m = m .before .before .before .before .before .before .before .before
 
--- all that was lent, with any memory besides, any minor version and nonce
+-- all that was lent, with any memory besides and whatever else the datagram comes with
 abbrev memory-at : tie.Start → Memory → Memory
 memory-at s o = withTables (s .args .cache .now) (s .args .waiting .now) o
 
-abbrev lent-at : tie.Start → ℕ → List ℕ → Receive
-lent-at s minor nonce =
+abbrev lent-at : tie.Start → Receive → Receive
+lent-at s l =
     let a = s .args in
-    receive (a .own .now) (a .cpa .now) (a .major) minor (a .id) nonce (a .verdict) (a .key .now) (a .datagram .now) (a .output .now)
+    planning (a .own .now) (a .cpa .now) (a .major) (a .id) (a .verdict) (a .key .now) (a .datagram .now) (a .output .now) l
 
 -- what memory in form is known by
 long : (s : tie.Start) → length (s .args .own .now) ≡ 100
@@ -51,11 +49,11 @@ plan-revoke-requires c κs =
     (omega (arith, long s), omega (arith, s .pre .4), by m (KnownFlood d) (known-flood d) (known-answer d (s .args .major)) (c .before .before .match .keys2))
 
 returns : tie.Need-returns
-returns c o minor nonce =
+returns c o l =
     let m = c .before .before .before .before .before in
     let s = start m in
     c .plan-revoke .ensures
-    ∙ sym (by m (RevokeBy (memory-at s o) (lent-at s minor nonce) (s .args .held) (s .args .used)) (revoke-by (memory-at s o) (lent-at s minor nonce) (s .args .held) (s .args .used)) (known-answer (s .args .datagram .now) (s .args .major)) (c .before .before .before .match .keys2) (c .before .if1 .taken))
+    ∙ sym (by m (RevokeBy (memory-at s o) (lent-at s l) (s .args .held) (s .args .used)) (revoke-by (memory-at s o) (lent-at s l) (s .args .held) (s .args .used)) (known-answer (s .args .datagram .now) (s .args .major)) (c .before .before .before .match .keys2) (c .before .if1 .taken))
 
 cast-plan-flood : tie.Need-cast-plan-flood
 cast-plan-flood c = search needs
@@ -96,52 +94,52 @@ plan-lookup-requires c κs =
     (s .pre .0, s .pre .2, by m (KnownLookup d) (known-lookup d) (known-answer d (s .args .major)) (c .before .match .keys6))
 
 returns-2 : tie.Need-returns-2
-returns-2 c o minor nonce =
+returns-2 c o l =
     let m = c .before .before in
     let s = start m in
-    sym (by m (RefusedBy (memory-at s o) (lent-at s minor nonce) (s .args .held) (s .args .used)) (refused-by (memory-at s o) (lent-at s minor nonce) (s .args .held) (s .args .used)) (c .match .keys1))
+    sym (by m (RefusedBy (memory-at s o) (lent-at s l) (s .args .held) (s .args .used)) (refused-by (memory-at s o) (lent-at s l) (s .args .held) (s .args .used)) (c .match .keys1))
 
 returns-3 : tie.Need-returns-3
-returns-3 c o minor nonce =
+returns-3 c o l =
     let m = c .before .before .before .before .before .before .before in
     let s = start m in
     c .plan-flood .ensures
-    ∙ sym (by m (FloodBy (memory-at s o) (lent-at s minor nonce) (s .args .held) (s .args .used)) (flood-by (memory-at s o) (lent-at s minor nonce) (s .args .held) (s .args .used)) (c .before .before .before .before .before .match .keys2) (c .before .before .before .if1 .left))
+    ∙ sym (by m (FloodBy (memory-at s o) (lent-at s l) (s .args .held) (s .args .used)) (flood-by (memory-at s o) (lent-at s l) (s .args .held) (s .args .used)) (c .before .before .before .before .before .match .keys2) (c .before .before .before .if1 .left))
 
 returns-4 : tie.Need-returns-4
-returns-4 c o minor nonce =
+returns-4 c o l =
     let m = c .before .before .before in
     let s = start m in
     c .plan-inquire .ensures
-    ∙ sym (by m (InquireBy (memory-at s o) (lent-at s minor nonce) (s .args .held) (s .args .used)) (inquire-by (memory-at s o) (lent-at s minor nonce) (s .args .held) (s .args .used)) (c .before .match .keys3))
+    ∙ sym (by m (InquireBy (memory-at s o) (lent-at s l) (s .args .held) (s .args .used)) (inquire-by (memory-at s o) (lent-at s l) (s .args .held) (s .args .used)) (c .before .match .keys3))
 
 returns-5 : tie.Need-returns-5
-returns-5 c o minor nonce =
+returns-5 c o l =
     let m = c .before .before .before in
     let s = start m in
     c .plan-authority .ensures
-    ∙ sym (by m (AuthorityBy (memory-at s o) (lent-at s minor nonce) (s .args .held) (s .args .used)) (authority-by (memory-at s o) (lent-at s minor nonce) (s .args .held) (s .args .used)) (c .before .match .keys4))
+    ∙ sym (by m (AuthorityBy (memory-at s o) (lent-at s l) (s .args .held) (s .args .used)) (authority-by (memory-at s o) (lent-at s l) (s .args .held) (s .args .used)) (c .before .match .keys4))
 
 returns-6 : tie.Need-returns-6
-returns-6 c o minor nonce =
+returns-6 c o l =
     let m = c .before .before .before in
     let s = start m in
     c .plan-ack .ensures
-    ∙ sym (by m (AckBy (memory-at s o) (lent-at s minor nonce) (s .args .held) (s .args .used)) (ack-by (memory-at s o) (lent-at s minor nonce) (s .args .held) (s .args .used)) (c .before .match .keys5))
+    ∙ sym (by m (AckBy (memory-at s o) (lent-at s l) (s .args .held) (s .args .used)) (ack-by (memory-at s o) (lent-at s l) (s .args .held) (s .args .used)) (c .before .match .keys5))
 
 returns-7 : tie.Need-returns-7
-returns-7 c o minor nonce =
+returns-7 c o l =
     let m = c .before .before .before .before in
     let s = start m in
     c .plan-lookup .ensures
-    ∙ sym (by m (LookupBy (memory-at s o) (lent-at s minor nonce) (s .args .held) (s .args .used)) (lookup-by (memory-at s o) (lent-at s minor nonce) (s .args .held) (s .args .used)) (c .before .before .match .keys6))
+    ∙ sym (by m (LookupBy (memory-at s o) (lent-at s l) (s .args .held) (s .args .used)) (lookup-by (memory-at s o) (lent-at s l) (s .args .held) (s .args .used)) (c .before .before .match .keys6))
 
 returns-8 : tie.Need-returns-8
-returns-8 c o minor nonce =
+returns-8 c o l =
     let m = c .before .before in
     let s = start m in
     let r = c .match .rest in
-    sym (by m (OtherBy (memory-at s o) (lent-at s minor nonce) (s .args .held) (s .args .used)) (other-by (memory-at s o) (lent-at s minor nonce) (s .args .held) (s .args .used)) (r .0 .0 .0 .0 .0 .1) (r .0 .0 .0 .0 .1) (r .0 .0 .0 .1) (r .0 .0 .1) (r .0 .1) (r .1))
+    sym (by m (OtherBy (memory-at s o) (lent-at s l) (s .args .held) (s .args .used)) (other-by (memory-at s o) (lent-at s l) (s .args .held) (s .args .used)) (r .0 .0 .0 .0 .0 .1) (r .0 .0 .0 .0 .1) (r .0 .0 .0 .1) (r .0 .0 .1) (r .0 .1) (r .1))
 
 pub plan-message-spec : {M : Type 1} → statement M
 plan-message-spec =

@@ -1,26 +1,25 @@
--- `plan_message::plan_receive` meets its contract: memory and what is handed in are tested, then the message is planned. Assumes nothing.
-use mathlib.Core.Path.{_≡_, sym, _∙_}
-use Prim.Native.Nat.{ℕ}
-use borrow.Author.Tests.{not-true, not-false}
+-- `plan_message::plan_receive` meets its contract: memory is tested, then the message is planned. Assumes nothing.
+use mathlib.Core.Path.{_≡_, sym, ap, _∙_}
 use Rattle.gauge_plan.specs.Memory.{memoryOf}
 use Rattle.gauge_plan.specs.declared.memory.Fitness.{Fitness}
-use Rattle.gauge_plan.specs.Lent.{Memory, empty, withTables, Receive, receive}
-use Rattle.plan_message.proofs.PlannedLaws.{plan-unfit, plan-hands, plan-message, message-needs}
+use Rattle.gauge_plan.specs.Lent.{Memory, empty, withTables, Receive, planning}
+use Rattle.plan_message.specs.Planned.{planBy}
+use Rattle.plan_message.proofs.PlannedLaws.{message-needs}
 use borrow.Author.Needs.{needs}
 use Rattle.plan_message.proofs.plan_receive.Statement.{statement}
 use Rattle.plan_message.proofs.plan_receive.Tie as tie
 
 abbrev start : tie.After-survey → tie.Start
-start m = m .before .before .before .before .before .before .before .before .before
+start m = m .before .before .before .before .before .before .before .before
 
--- all that was lent, with any memory besides and any minor version
+-- all that was lent, with any memory besides and whatever else the datagram comes with
 abbrev memory-at : tie.Start → Memory → Memory
 memory-at s o = withTables (s .args .cache .now) (s .args .waiting .now) o
 
-abbrev lent-at : tie.Start → ℕ → Receive
-lent-at s minor =
+abbrev lent-at : tie.Start → Receive → Receive
+lent-at s l =
     let a = s .args in
-    receive (a .own .now) (a .cpa .now) (a .major) minor (a .id) (a .nonce .now) (a .verdict) (a .key .now) (a .datagram .now) (a .output .now)
+    planning (a .own .now) (a .cpa .now) (a .major) (a .id) (a .verdict) (a .key .now) (a .datagram .now) (a .output .now) l
 
 surveyed : (m : tie.After-survey) {r : Fitness} → m .survey .result ≡ r → (o : Memory)
     → memoryOf (start m .args .own .now) (memory-at (start m) o) ≡ r
@@ -36,34 +35,22 @@ enum-told : tie.Need-enum-told
 enum-told c = search needs
 
 returns : tie.Need-returns
-returns c o minor =
+returns c o l =
     let s = start (c .before .before) in
-    sym (plan-unfit (memory-at s o) (lent-at s minor) (surveyed (c .before .before) (c .enum-told .given .1) o))
-
-hands-fit-requires : tie.Need-hands-fit-requires
-hands-fit-requires c κs = search needs
-
-returns-2 : tie.Need-returns-2
-returns-2 c o minor =
-    let k = c .before .before .before in
-    let s = start (k .before .before) in
-    sym (plan-hands (memory-at s o) (lent-at s minor) (surveyed (k .before .before) (k .memory .given .1) o)
-    (sym (c .before .hands-fit .ensures) ∙ not-true _ (c .if1 .taken)))
+    sym (ap (planBy (memory-at s o) (lent-at s l)) (surveyed (c .before .before) (c .enum-told .given .1) o))
 
 plan-message-requires : tie.Need-plan-message-requires
 plan-message-requires c κs =
-    let k = c .before .before .before in
+    let k = c .before in
     let s = start (k .before .before) in
-    message-needs (memory-at s (empty 0)) (lent-at s 0) (surveyed (k .before .before) (k .memory .given .1) (empty 0))
-    (sym (c .before .hands-fit .ensures) ∙ not-false _ (c .if1 .left))
+    let w = message-needs (s .args .own .now) (memory-at s (empty 0)) (surveyed (k .before .before) (k .memory .given .1) (empty 0)) in
+    (w .0, s .pre .0, w .1, w .2, s .pre .1)
 
-returns-3 : tie.Need-returns-3
-returns-3 c o minor =
-    let k = c .before .before .before .before in
+returns-2 : tie.Need-returns-2
+returns-2 c o l =
+    let k = c .before .before in
     let s = start (k .before .before) in
-    let l = lent-at s minor in
-    let hands = sym (c .before .before .hands-fit .ensures) ∙ not-false _ (c .before .if1 .left) in
-    c .plan-message .ensures o minor (l .nonce) ∙ sym (plan-message (memory-at s o) l (surveyed (k .before .before) (k .memory .given .1) o) hands)
+    c .plan-message .ensures o l ∙ sym (ap (planBy (memory-at s o) (lent-at s l)) (surveyed (k .before .before) (k .memory .given .1) o))
 
 pub plan-receive-spec : {M : Type 1} → statement M
 plan-receive-spec =
@@ -73,7 +60,5 @@ plan-receive-spec =
     enum-known-memory
     enum-told
     returns
-    hands-fit-requires
-    returns-2
     plan-message-requires
-    returns-3)
+    returns-2)

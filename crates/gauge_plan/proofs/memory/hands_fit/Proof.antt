@@ -6,7 +6,7 @@ use Rattle.gauge_plan.proofs.memory.hands_fit.Tie as tie
 
 returns : tie.Need-returns
 unfolding handsFit
-returns c = refl
+returns c m l = refl
 
 pub hands-fit-spec : {M : Type 1} → statement M
 hands-fit-spec = tie.close (tie.spec returns)

@@ -22,7 +22,8 @@ use Rattle.kept.proofs.TurnLaws.{drops-above, drops-below, count-le, under-le}
 use Rattle.kept.proofs.PlaceLaws.{turned-at, wrapped-lt}
 use Rattle.cache.specs.declared.place.Found.the-variants.{Before}
 use Rattle.cache.specs.Form.{keysOf, Form}
-use Rattle.cache.specs.Place.{findKey, farthestAt, Goes}
+use Rattle.round.specs.Farthest.{farthestAt}
+use Rattle.cache.specs.Place.{findKey, Goes}
 use Rattle.cache.proofs.FormLaws.{form-laid, keys-small}
 use Rattle.cache.proofs.LearnLaws.{more-keys, more-rises, more-others, more-some}
 

@@ -1,5 +1,5 @@
 -- Helps the code. Where a key stands among rising keys, or would; and the answers of the searches, by enum. Assumes nothing.
-use Prim.Native.Nat.{ℕ, zero, suc, _+_, _-_, _*_, _<_}
+use Prim.Native.Nat.{ℕ, zero, suc, _-_, _*_, _<_}
 use mathlib.Core.Path.{_≡_}
 use mathlib.Core.Bool.{Bool, true, false, cond}
 use mathlib.Core.List.{List, [], _∷_}
@@ -9,7 +9,6 @@ use Rattle.octet.specs.Number.{valueBE}
 use Rattle.octet.specs.Part.{part}
 use Rattle.key.specs.Number.{keyAt}
 use Rattle.kept.specs.Plain.{drops}
-use Rattle.kept.specs.Turned.{wrapped}
 use Rattle.cache.specs.Form.{heldIn, cacheForm}
 use Rattle.cache.specs.declared.shape.Formed.{Formed}
 use Rattle.cache.specs.declared.shape.Formed.the-variants.{Bad, Good}
@@ -44,12 +43,6 @@ findKey k (j ∷ ks) = cond (ltb j k) (further (findKey k ks)) (cond (eqb j k) (
 abbrev pub isFound : Found → Bool
 isFound (At i) = true
 isFound (Before i) = false
-
--- of so many keys, of which so many are below our own, and those above it begin at place first and go on round: the place of the first below where more are
--- below, else of the last above
-unfoldable pub farthestAt : ℕ → ℕ → ℕ → ℕ
-farthestAt total first under =
-    wrapped total (cond (ltb total (under + under)) (first + (total - under)) ((first + (total - under)) - 1))
 
 -- the key at place i is the one that the drop rule names
 pub record Goes (own : ℕ) (keys : List ℕ) (i : ℕ) : Type 0 where

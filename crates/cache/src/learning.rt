@@ -6,10 +6,10 @@ ghost use lib.Dec.{ltb};
 ghost use lib.ListN.{length};
 ghost use Rattle.key.specs.Number.{number, keyAt};
 ghost use Rattle.record.specs.Record.{keyOf, recordForm};
-ghost use Rattle.table.specs.Rows.{rows, bytesOf, insertAt, removeAt};
+ghost use Rattle.table.specs.Rows.{rows, bytesOf, insertAt};
 ghost use Rattle.kept.specs.Plain.{NotOwn};
 ghost use Rattle.cache.specs.Form.{keysOf, Form};
-ghost use Rattle.cache.specs.Place.{findKey, farthestAt, Goes};
+ghost use Rattle.cache.specs.Place.{findKey, Goes};
 ghost use Rattle.cache.specs.Bytes.{afterLearn, afterRemove};
 ghost use Rattle.cache.specs.Change.{changes, changesOf, learned, removed};
 ghost use Rattle.cache.specs.declared.place.Found.the-variants.{Before};
@@ -17,7 +17,6 @@ use crate::place::Found;
 use crate::place::count_below;
 use crate::place::count_under;
 use crate::place::find;
-use crate::place::wrap;
 use key::Key;
 use key::Order;
 
@@ -62,19 +61,6 @@ fn one_more(n: usize, more: bool) -> usize
     n
 }
 
-// Of so many keys, of which so many are below our own, and those above it begin at a place: which place is the farthest
-// out on the side with more?
-fn farthest(total: usize, first: usize, below: usize) -> usize
-    requires { ⌜ (0 < total) × (total < 1000) × (first ≤ total) × (below ≤ total) ⌝ }
-    ensures { λ r. ⌜ r ≡ farthestAt total first below ⌝ }
-{
-    let end = first + (total - below);
-    if total < below + below {
-        return wrap(total, end);
-    }
-    wrap(total, end - 1)
-}
-
 // Is the record's key a smaller number than our own?
 fn is_smaller(own: &[u8], record: &[u8]) -> bool
     requires { ⌜ (32 ≤ length (now own)) × (32 ≤ length (now «record»)) ⌝ }
@@ -100,40 +86,7 @@ fn who_goes(own: &[u8], cache: &[u8], used: usize, at: usize, record: &[u8]) -> 
     let held = count_below(own, cache, used, under);
     let first = one_more(under, is_smaller(own, record));
     let below = one_more(held, !ring::is_above(own, record, 0));
-    farthest(used + 1, first, below)
-}
-
-// In a full cache the record at one place goes, those after it move down, and another comes to stand at a place behind
-// them: no other record moves.
-fn exchange_up(cache: &mut [u8], used: usize, gone: usize, at: usize, record: &[u8])
-    requires { ⌜ (gone ≤ at) × (at < used) × (length (now «record») ≡ 100) × (length (now cache) ≡ 100 * used) ⌝ }
-    ensures { λ _. ⌜ now (cache .exit) ≡ bytesOf (length (now (cache .entry)))
-        (insertAt at (now («record» .entry)) (removeAt gone (rows 100 used (now (cache .entry))))) ⌝ }
-{
-    let to = record::RECORD_LEN * gone;
-    runs::move_down(
-        cache,
-        to + record::RECORD_LEN,
-        to,
-        record::RECORD_LEN * (at - gone),
-    );
-    runs::copy_to(cache, record::RECORD_LEN * at, record);
-}
-
-// The same where it comes to stand at a place before the one that goes, and those between them move up.
-fn exchange_down(cache: &mut [u8], used: usize, gone: usize, at: usize, record: &[u8])
-    requires { ⌜ (at ≤ gone) × (gone < used) × (length (now «record») ≡ 100) × (length (now cache) ≡ 100 * used) ⌝ }
-    ensures { λ _. ⌜ now (cache .exit) ≡ bytesOf (length (now (cache .entry)))
-        (insertAt at (now («record» .entry)) (removeAt gone (rows 100 used (now (cache .entry))))) ⌝ }
-{
-    let from = record::RECORD_LEN * at;
-    runs::move_up(
-        cache,
-        from,
-        from + record::RECORD_LEN,
-        record::RECORD_LEN * (gone - at),
-    );
-    runs::copy_to(cache, from, record);
+    round::farthest(used + 1, first, below)
 }
 
 // A record whose key is not held is learned; it would stand before a place. Where all places are used, one goes, or the
@@ -160,7 +113,7 @@ fn learn_new(own: &[u8], cache: &mut [u8], used: usize, at: usize, record: &[u8]
     let goes = who_goes(own, cache, used, at, record);
     if goes < at {
         let gone = key::key_at(cache, record::RECORD_LEN * goes);
-        exchange_up(cache, used, goes, at - 1, record);
+        table::exchange_up(cache, used, goes, at - 1, record);
         return Change {
             joined: true,
             left: true,
@@ -169,7 +122,7 @@ fn learn_new(own: &[u8], cache: &mut [u8], used: usize, at: usize, record: &[u8]
     }
     if at < goes {
         let gone = key::key_at(cache, record::RECORD_LEN * (goes - 1));
-        exchange_down(cache, used, goes - 1, at, record);
+        table::exchange_down(cache, used, goes - 1, at, record);
         return Change {
             joined: true,
             left: true,

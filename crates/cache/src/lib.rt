@@ -15,6 +15,5 @@ pub use place::Found;
 pub use place::count_below;
 pub use place::count_under;
 pub use place::find;
-pub use place::wrap;
 pub use shape::Formed;
 pub use shape::form;

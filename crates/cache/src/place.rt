@@ -9,7 +9,7 @@ ghost use Rattle.record.specs.Record.{keyOf};
 ghost use Rattle.table.specs.Rows.{rows};
 ghost use Rattle.kept.specs.Keys.{Rising, plain};
 ghost use Rattle.kept.specs.Plain.{countBelow};
-ghost use Rattle.kept.specs.Turned.{countUnder, countUpto, wrapped};
+ghost use Rattle.kept.specs.Turned.{countUnder, countUpto};
 ghost use Rattle.cache.specs.Form.{keysOf, Form};
 ghost use Rattle.cache.specs.Place.{findKey};
 use key::Order;
@@ -104,15 +104,4 @@ pub fn count_below(own: &[u8], cache: &[u8], used: usize, first: usize) -> usize
         return used - count_upto(&cache[start..], used - first, &opposite);
     }
     first - count_upto(cache, first, &opposite)
-}
-
-// Place i of n, counted on round.
-pub fn wrap(n: usize, i: usize) -> usize
-    requires { ⌜ i < n + n ⌝ }
-    ensures { λ r. ⌜ (r ≡ wrapped n i) × (r < n) ⌝ }
-{
-    if i < n {
-        return i;
-    }
-    i - n
 }

@@ -39,7 +39,7 @@ fn keys_down(cache: &[u8], used: usize, from: usize, n: usize, out: &mut [u8])
 {
     let mut i = 0;
     while i < n {
-        let start = record::RECORD_LEN * cache::wrap(used, from + (used - (i + 1)));
+        let start = record::RECORD_LEN * round::wrap(used, from + (used - (i + 1)));
         runs::copy_32(out, 32 * i, cache, start);
         i += 1;
     }
@@ -53,7 +53,7 @@ fn keys_up(cache: &[u8], used: usize, from: usize, n: usize, out: &mut [u8], at:
 {
     let mut i = 0;
     while i < n {
-        let start = record::RECORD_LEN * cache::wrap(used, from + i);
+        let start = record::RECORD_LEN * round::wrap(used, from + i);
         runs::copy_32(out, at + 32 * i, cache, start);
         i += 1;
     }

@@ -62,8 +62,8 @@ fn place_of_closest(own: &[u8], cache: &[u8], used: usize, target: &[u8]) -> Whe
         return Where::Own;
     }
     let at = cache::count_under(target, cache, used);
-    let up = cache::wrap(used, at);
-    let down = cache::wrap(used, at + (used - 1));
+    let up = round::wrap(used, at);
+    let down = round::wrap(used, at + (used - 1));
     nearest_of(own, cache, up, down, key::key_at(target, 0))
 }
 

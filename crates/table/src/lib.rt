@@ -1,10 +1,14 @@
-// Rows of one width in a slice, the used ones first and zeros after them: a row inserted, removed and replaced. What a search
-// among rows answers.
+// Rows of one width in a slice, the used ones first and zeros after them: a row inserted, removed and replaced, or, in a full
+// table, exchanged for another. What a search among rows answers.
 // The cache has rows of 100 bytes, the waiting table rows of 140.
+mod exchange;
+
 ghost use mathlib.Core.Path.{_≡_};
 ghost use Prim.Native.Nat.{_+_, _*_, _≤_, _<_};
 ghost use lib.ListN.{length, set};
 ghost use Rattle.table.specs.Rows.{rows, bytesOf, Laid, insertAt, removeAt};
+pub use exchange::exchange_down;
+pub use exchange::exchange_up;
 
 // Which row was found.
 pub enum Found {

@@ -16,7 +16,8 @@ use Rattle.kept.specs.Plain.{countBelow}
 use Rattle.kept.specs.Turned.{countUnder}
 use Rattle.kept.proofs.TurnLaws.{count-le, under-le}
 use Rattle.cache.specs.Form.{keysOf}
-use Rattle.cache.specs.Place.{farthestAt, Goes}
+use Rattle.round.specs.Farthest.{farthestAt}
+use Rattle.cache.specs.Place.{Goes}
 use Rattle.cache.proofs.FormLaws.{form-laid}
 use Rattle.cache.proofs.LearnLaws.{more-length}
 use Rattle.cache.proofs.GoesLaws.{place-goes, under-insert, below-insert}

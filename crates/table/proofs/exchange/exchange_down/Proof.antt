@@ -1,12 +1,12 @@
--- `cache::learning::exchange_down` meets its contract: those between move up, and the other stands before them. Assumes nothing.
+-- `table::exchange_down` meets its contract: those between move up, and the other stands before them. Assumes nothing.
 use mathlib.Core.Path.{ap, _∙_}
 use mathlib.Core.List.{List}
 use Prim.Native.Nat.{ℕ, _*_}
 use Rattle.octet.specs.Part.{splice}
-use Rattle.cache.proofs.LearnLaws.{exchanged-down}
+use Rattle.table.proofs.ExchangeLaws.{exchanged-down}
 use borrow.Author.Needs.{needs}
-use Rattle.cache.proofs.learning.exchange_down.Statement.{statement}
-use Rattle.cache.proofs.learning.exchange_down.Tie as tie
+use Rattle.table.proofs.exchange.exchange_down.Statement.{statement}
+use Rattle.table.proofs.exchange.exchange_down.Tie as tie
 
 mul-from : tie.Need-mul-from
 mul-from c = search needs
@@ -35,8 +35,8 @@ returns c =
     let moved = copied .before .before .before .before in
     let s = moved .before .before .before .before in
     let a = s .args in
-    copied .copy-to .ensures ∙ ap (λ (t : List ℕ). splice (100 * a .at) (a .«record» .now) t) (moved .move-up .ensures)
-    ∙ exchanged-down (a .used) (a .cache .now) (a .«record» .now) (s .pre .3) (s .pre .2) (a .gone) (a .at) (s .pre .0) (s .pre .1)
+    copied .copy-to .ensures ∙ ap (λ (t : List ℕ). splice (100 * a .at) (a .row .now) t) (moved .move-up .ensures)
+    ∙ exchanged-down (a .used) (a .s .now) (a .row .now) (s .pre .3) (s .pre .2) (a .gone) (a .at) (s .pre .0) (s .pre .1)
 
 pub exchange-down-spec : {M : Type 1} → statement M
 exchange-down-spec =

@@ -1,11 +1,11 @@
--- `cache::place::wrap` meets its contract. Assumes nothing.
+-- `round::wrap` meets its contract. Assumes nothing.
 use mathlib.Core.Path.{_≡_, refl}
 use Prim.Native.Nat.{_+_, _-_, _<_}
 use native.Mathlib.Omega.{arith}
 use borrow.Author.Tests.{lt-ltb, le-ltb}
 use Rattle.kept.specs.Turned.{wrapped}
-use Rattle.cache.proofs.place.wrap.Statement.{statement}
-use Rattle.cache.proofs.place.wrap.Tie as tie
+use Rattle.round.proofs.wrap.Statement.{statement}
+use Rattle.round.proofs.wrap.Tie as tie
 
 returns : tie.Need-returns
 unfolding wrapped

@@ -1,12 +1,12 @@
--- `cache::learning::exchange_up` meets its contract: those between move down, and the other stands behind them. Assumes nothing.
+-- `table::exchange_up` meets its contract: those between move down, and the other stands behind them. Assumes nothing.
 use mathlib.Core.Path.{ap, _∙_}
 use mathlib.Core.List.{List}
 use Prim.Native.Nat.{ℕ, _*_}
 use Rattle.octet.specs.Part.{splice}
-use Rattle.cache.proofs.LearnLaws.{exchanged-up}
+use Rattle.table.proofs.ExchangeLaws.{exchanged-up}
 use borrow.Author.Needs.{needs}
-use Rattle.cache.proofs.learning.exchange_up.Statement.{statement}
-use Rattle.cache.proofs.learning.exchange_up.Tie as tie
+use Rattle.table.proofs.exchange.exchange_up.Statement.{statement}
+use Rattle.table.proofs.exchange.exchange_up.Tie as tie
 
 mul-to : tie.Need-mul-to
 mul-to c = search needs
@@ -38,8 +38,8 @@ returns c =
     let moved = copied .before .before .before .before in
     let s = moved .before .before .before .before in
     let a = s .args in
-    copied .copy-to .ensures ∙ ap (λ (t : List ℕ). splice (100 * a .at) (a .«record» .now) t) (moved .move-down .ensures)
-    ∙ exchanged-up (a .used) (a .cache .now) (a .«record» .now) (s .pre .3) (s .pre .2) (a .gone) (a .at) (s .pre .0) (s .pre .1)
+    copied .copy-to .ensures ∙ ap (λ (t : List ℕ). splice (100 * a .at) (a .row .now) t) (moved .move-down .ensures)
+    ∙ exchanged-up (a .used) (a .s .now) (a .row .now) (s .pre .3) (s .pre .2) (a .gone) (a .at) (s .pre .0) (s .pre .1)
 
 pub exchange-up-spec : {M : Type 1} → statement M
 exchange-up-spec =

@@ -1,13 +1,13 @@
--- `cache::learning::farthest` meets its contract: the two cases of its definition. Assumes nothing.
+-- `round::farthest` meets its contract: the two cases of its definition. Assumes nothing.
 use mathlib.Core.Path.{_≡_, refl, sym, ap, _∙_}
 use Prim.Native.Nat.{ℕ, _+_, _-_}
 use native.Mathlib.Omega.{arith}
 use borrow.Author.Tests.{lt-ltb, le-ltb}
 use Rattle.kept.specs.Turned.{wrapped}
-use Rattle.cache.specs.Place.{farthestAt}
+use Rattle.round.specs.Farthest.{farthestAt}
 use borrow.Author.Needs.{needs}
-use Rattle.cache.proofs.learning.farthest.Statement.{statement}
-use Rattle.cache.proofs.learning.farthest.Tie as tie
+use Rattle.round.proofs.farthest.Statement.{statement}
+use Rattle.round.proofs.farthest.Tie as tie
 
 sub-end : tie.Need-sub-end
 sub-end c = search needs

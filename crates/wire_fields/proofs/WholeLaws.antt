@@ -72,7 +72,8 @@ checked-found : (t₀ t : ℕ) (ks : List Kind) (d : List ℕ) (o : Option (List
 checked-found t₀ t ks d none ps e = absurd (let z : _≡_ {A = ℕ} 0 1 = cc in omega arith)
 checked-found t₀ t ks d (some qs) ps e = by _ refl e
   where
-    by : (b : Bool) → joinedFields t₀ (valuesOf ks d qs) && sized t₀ (length d) qs (valuesOf ks d qs) ≡ b → foundOf t₀ (cond b (some qs) none) ≡ found t ps
+    by : (b : Bool) → joinedFields t₀ (valuesOf ks d qs) && sized t₀ (length d) qs (valuesOf ks d qs) ≡ b
+        → foundOf t₀ (cond b (some qs) none) ≡ found t ps
         → (t₀ ≡ t) × (some qs ≡ some ps) × (joinedFields t (valuesOf ks d ps) && sized t (length d) ps (valuesOf ks d ps) ≡ true)
     by true b e =
         let p : t₀ ≡ t = cc in

@@ -35,7 +35,8 @@ unfolding hasShape
 returns c =
     let start = c .before .before .before in
     let a = start .before .before .before .before .args in
-    need-good (now (a .d)) (a .self .at) (a .number) false (Array (a .element) (a .size) (a .least) (a .most)) _ (start .before .before .span .ensures) _ _ _ (start .start .given .1)
+    need-good (now (a .d)) (a .self .at) (a .number) false (Array (a .element) (a .size) (a .least) (a .most)) _
+    (start .before .before .span .ensures) _ _ _ (start .start .given .1)
     (sym (c .before .is-array .ensures) ∙ c .if1 .taken)
 
 returns-2 : tie.Need-returns-2
@@ -43,18 +44,21 @@ unfolding hasShape
 returns-2 c =
     let start = c .before .before .before in
     let a = start .before .before .before .before .args in
-    need-bad (now (a .d)) (a .self .at) (a .number) false (Array (a .element) (a .size) (a .least) (a .most)) _ (start .before .before .span .ensures) _ _ _ (start .start .given .1)
+    need-bad (now (a .d)) (a .self .at) (a .number) false (Array (a .element) (a .size) (a .least) (a .most)) _ (start .before .before .span .ensures)
+    _ _ _ (start .start .given .1)
     (sym (c .before .is-array .ensures) ∙ c .if1 .left)
 
 returns-3 : tie.Need-returns-3
 returns-3 c =
     let a = c .before .before .before .before .args in
-    need-other (now (a .d)) (a .self .at) (a .number) false (Array (a .element) (a .size) (a .least) (a .most)) _ (c .before .before .span .ensures) (c .enum-told .given .1)
+    need-other (now (a .d)) (a .self .at) (a .number) false (Array (a .element) (a .size) (a .least) (a .most)) _ (c .before .before .span .ensures)
+    (c .enum-told .given .1)
 
 returns-4 : tie.Need-returns-4
 returns-4 c =
     let a = c .before .before .before .before .args in
-    need-cut (now (a .d)) (a .self .at) (a .number) false (Array (a .element) (a .size) (a .least) (a .most)) _ (c .before .before .span .ensures) (c .enum-told2 .given .1)
+    need-cut (now (a .d)) (a .self .at) (a .number) false (Array (a .element) (a .size) (a .least) (a .most)) _ (c .before .before .span .ensures)
+    (c .enum-told2 .given .1)
 
 pub array-spec : {M : Type 1} → statement M
 array-spec =

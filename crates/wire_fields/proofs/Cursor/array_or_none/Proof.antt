@@ -34,7 +34,8 @@ unfolding hasShape
 returns c =
     let start = c .before .before .before in
     let a = start .before .before .before .before .args in
-    maybe-good (now (a .d)) (a .self .at) (a .number) (a .padded) (Array (a .element) (a .size) (a .least) (a .most)) _ (start .before .before .span .ensures) _ _ _ (start .start .given .1)
+    maybe-good (now (a .d)) (a .self .at) (a .number) (a .padded) (Array (a .element) (a .size) (a .least) (a .most)) _
+    (start .before .before .span .ensures) _ _ _ (start .start .given .1)
     (sym (c .before .is-array .ensures) ∙ c .if1 .taken)
 
 returns-2 : tie.Need-returns-2
@@ -42,18 +43,21 @@ unfolding hasShape
 returns-2 c =
     let start = c .before .before .before in
     let a = start .before .before .before .before .args in
-    maybe-bad (now (a .d)) (a .self .at) (a .number) (a .padded) (Array (a .element) (a .size) (a .least) (a .most)) _ (start .before .before .span .ensures) _ _ _ (start .start .given .1)
+    maybe-bad (now (a .d)) (a .self .at) (a .number) (a .padded) (Array (a .element) (a .size) (a .least) (a .most)) _
+    (start .before .before .span .ensures) _ _ _ (start .start .given .1)
     (sym (c .before .is-array .ensures) ∙ c .if1 .left)
 
 returns-3 : tie.Need-returns-3
 returns-3 c =
     let a = c .before .before .before .before .args in
-    maybe-other (now (a .d)) (a .self .at) (a .number) (a .padded) (Array (a .element) (a .size) (a .least) (a .most)) _ (c .before .before .span .ensures) (c .enum-told .given .1)
+    maybe-other (now (a .d)) (a .self .at) (a .number) (a .padded) (Array (a .element) (a .size) (a .least) (a .most)) _
+    (c .before .before .span .ensures) (c .enum-told .given .1)
 
 returns-4 : tie.Need-returns-4
 returns-4 c =
     let a = c .before .before .before .before .args in
-    maybe-cut (now (a .d)) (a .self .at) (a .number) (a .padded) (Array (a .element) (a .size) (a .least) (a .most)) _ (c .before .before .span .ensures) (c .enum-told2 .given .1)
+    maybe-cut (now (a .d)) (a .self .at) (a .number) (a .padded) (Array (a .element) (a .size) (a .least) (a .most)) _
+    (c .before .before .span .ensures) (c .enum-told2 .given .1)
 
 pub array-or-none-spec : {M : Type 1} → statement M
 array-or-none-spec =

@@ -37,7 +37,8 @@ returns-3 : tie.Need-returns-3
 returns-3 c =
     let start = c .before .before .before .before in
     let a = start .before .args in
-    fixed-past (now (a .d)) (a .self .at) (a .number) (a .padded) (a .len) _ _ refl (c .before .padding .ensures .0) (λ i. omega (arith, start .shared-slice-known .given i)) (omega arith) (omega arith)
+    fixed-past (now (a .d)) (a .self .at) (a .number) (a .padded) (a .len) _ _ refl (c .before .padding .ensures .0)
+    (λ i. omega (arith, start .shared-slice-known .given i)) (omega arith) (omega arith)
 
 mul-head : tie.Need-mul-head
 mul-head c = search needs
@@ -55,7 +56,8 @@ returns-4 : tie.Need-returns-4
 returns-4 c =
     let start = c .before .before .before .before .before .before in
     let a = start .before .args in
-    fixed-other (now (a .d)) (a .self .at) (a .number) (a .padded) (a .len) (a .len + 4) _ refl (c .before .before .before .padding .ensures .0) (λ i. omega (arith, start .shared-slice-known .given i)) (omega arith)
+    fixed-other (now (a .d)) (a .self .at) (a .number) (a .padded) (a .len) (a .len + 4) _ refl (c .before .before .before .padding .ensures .0)
+    (λ i. omega (arith, start .shared-slice-known .given i)) (omega arith)
     (λ e. c .if4 .taken (c .before .read-u32 .ensures ∙ e))
 
 add-t13 : tie.Need-add-t13
@@ -65,7 +67,8 @@ returns-5 : tie.Need-returns-5
 returns-5 c =
     let start = c .before .before .before .before .before .before in
     let a = start .before .args in
-    fixed-good (now (a .d)) (a .self .at) (a .number) (a .padded) (a .len) (a .len + 4) _ refl (c .before .before .before .padding .ensures .0) (λ i. omega (arith, start .shared-slice-known .given i)) (omega arith) (search needs) (omega arith)
+    fixed-good (now (a .d)) (a .self .at) (a .number) (a .padded) (a .len) (a .len + 4) _ refl (c .before .before .before .padding .ensures .0)
+    (λ i. omega (arith, start .shared-slice-known .given i)) (omega arith) (search needs) (omega arith)
     (sym (c .before .read-u32 .ensures) ∙ c .if4 .left)
 
 pub fixed-spec : {M : Type 1} → statement M

@@ -28,7 +28,8 @@ returns c =
     let a = start .before .before .before .before .args in
     let q = sym (start .before .before .span .ensures) ∙ start .start .given .1 in
     let m = span-length (now (a .d)) (a .self .at) (a .number) (a .padded) _ _ _ q in
-    maybe-good (now (a .d)) (a .self .at) (a .number) (a .padded) (Sized (a .wanted)) _ (start .before .before .span .ensures) _ _ _ (start .start .given .1) (eq-eqb _ _ (m ∙ c .if1 .taken))
+    maybe-good (now (a .d)) (a .self .at) (a .number) (a .padded) (Sized (a .wanted)) _ (start .before .before .span .ensures) _ _ _
+    (start .start .given .1) (eq-eqb _ _ (m ∙ c .if1 .taken))
 
 returns-2 : tie.Need-returns-2
 unfolding hasShape
@@ -37,7 +38,8 @@ returns-2 c =
     let a = start .before .before .before .before .args in
     let q = sym (start .before .before .span .ensures) ∙ start .start .given .1 in
     let m = span-length (now (a .d)) (a .self .at) (a .number) (a .padded) _ _ _ q in
-    maybe-bad (now (a .d)) (a .self .at) (a .number) (a .padded) (Sized (a .wanted)) _ (start .before .before .span .ensures) _ _ _ (start .start .given .1)
+    maybe-bad (now (a .d)) (a .self .at) (a .number) (a .padded) (Sized (a .wanted)) _ (start .before .before .span .ensures) _ _ _
+    (start .start .given .1)
     (ne-eqb _ _ (λ e. c .if1 .left (sym m ∙ e)))
 
 returns-3 : tie.Need-returns-3

@@ -16,18 +16,13 @@ use Rattle.octet.proofs.PartLaws.{splice-nil}
 use Rattle.octet.proofs.TestLaws.{both-true}
 use Rattle.wire_shapes.specs.Field.{gap}
 use Rattle.wire_shapes.specs.Shapes.{Kind}
-use Rattle.wire_fields.specs.Message.{Contents, ends, layoutFrom, messageBytes, headerOf, layoutOf}
+use Rattle.wire_fields.specs.Message.{Contents, layoutFrom, messageBytes, headerOf, layoutOf}
 use Rattle.wire_shapes.proofs.ShapeLaws.{and-false}
 use Rattle.wire_fields.proofs.WholeLaws.{length-header}
 use Rattle.wire_read.specs.Meaning.{held}
 use Rattle.wire_write.specs.Writing.{Made, fit, writeAs, writeIn, Wrote}
 use Rattle.wire_write.specs.Pieces.{fieldBytes, partBytes, pastOf, Given, contentsOf, messagePieces}
 use Rattle.wire_write.proofs.PutLaws.{put-put, put-length, head-length}
-
-pub past-is : (i : ℕ) (k : Kind) (t : Bool) (v : List ℕ) → ends i k (held t v) ≡ pastOf i t (k .padded) (length v)
-unfolding pastOf
-past-is i k true v = refl
-past-is i k false v = refl
 
 part-is : (i : ℕ) (k : Kind) (t : Bool) (v : List ℕ) (ks : List Kind) (fs : List Contents)
     → messageBytes (layoutFrom i (k ∷ ks) (held t v ∷ fs))
@@ -97,18 +92,11 @@ from-start : (o b : List ℕ) → splice 0 b o ≡ b ++ drop (length b) o
 unfolding splice
 from-start o b = rw zero-add
 
--- the end of the fields so far, counted only up to 1233
+-- a field ends no sooner than it starts
 pub past-more : (i : ℕ) (t p : Bool) (l : ℕ) → i ≤ pastOf i t p l
 unfolding pastOf
 past-more i true p l = omega arith
 past-more i false p l = omega arith
-
-pub cap-on : (r x s l : ℕ) (t p : Bool) → s ≡ min 1233 (pastOf r t p l) → r ≡ min 1233 x → s ≡ min 1233 (pastOf x t p l)
-cap-on r x s l t p e q = go (decLe x 1233)
-  where
-    go : Dec (x ≤ 1233) → s ≡ min 1233 (pastOf x t p l)
-    go (yes h) = let z : r ≡ x = omega arith in e ∙ ap (λ (y : ℕ). min 1233 (pastOf y t p l)) z
-    go (no h) = let a = past-more x t p l in let b = past-more r t p l in omega arith
 
 -- ---- what writing gives
 

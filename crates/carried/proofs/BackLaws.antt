@@ -3,7 +3,7 @@
 use mathlib.Core.Path.{_≡_, refl, sym, ap, ap₂, subst, _∙_}
 use mathlib.Core.Bool.{Bool, true, false, not, cond, _&&_, _||_}
 use mathlib.Core.List.{List, [], _∷_, _++_}
-use mathlib.Core.Option.{Option, some, none}
+use mathlib.Core.Option.{some}
 use Prim.Native.Nat.{ℕ, _+_, _≤_, _<_}
 use native.Mathlib.Omega.{arith}
 use lib.Dec.{eqb, leb, ltb}
@@ -25,12 +25,11 @@ use Rattle.wire.specs.Statements.{changedAt, changed}
 use Rattle.wire.proofs.ChangedLaws.{changed-well}
 use Rattle.wire.proofs.PayloadLaws.{seen}
 use Rattle.wire.proofs.Theorems.{read-accepts, read-written-again, written-read, authority-is, authority-joins, payload-held}
-use Rattle.wire_read.specs.Answers.{answer}
+use Rattle.wire_read.specs.Answers.{readIn}
 use Rattle.wire_read.specs.Meaning.{messageOf, numberOf}
-use Rattle.wire_read.specs.declared.Answer.{Answer}
-use Rattle.wire_read.specs.declared.Answer.the-variants as M
-use Rattle.wire_read.specs.declared.Head.{Head}
-use Rattle.wire_buffer.specs.declared.Inside.{Inside}
+use Rattle.wire_read.specs.declared.Incoming.{Incoming}
+use Rattle.wire_read.specs.declared.Incoming.the-variants as M
+use Rattle.wire_read.specs.declared.messages.Authority as T
 use Rattle.readings.specs.Depth.{allowed}
 use Rattle.readings.specs.Reading.{reading, kindOf, measureOf, isKind, measuredAs, image, fine, MeasuredFits, Typed}
 use Rattle.readings.specs.Numbers.{numberRefusals, readingOf}
@@ -46,7 +45,7 @@ use Rattle.carried.specs.Carry.{carry, carryHanded, put, withReading, ca
 use Rattle.carried.specs.declared.whole.Whole.{Whole}
 use Rattle.carried.specs.declared.whole.Whole.the-variants.{Authority, Other}
 use Rattle.carried.specs.Statements.{Words, TakenBack}
-use Rattle.carried.proofs.CarryLaws.{whole-authority, image-short, image-bytes}
+use Rattle.carried.proofs.CarryLaws.{typed, Wanted, is-refused, is-wanted, is-another, wanted-as, whole-authority, image-short, image-bytes}
 use Rattle.carried.specs.Take.{taken, takenAs, takenBy, takeBy, takeCall}
 use Rattle.carried.specs.Whole.{wholeOf}
 
@@ -116,27 +115,20 @@ module _ (kind measure : ℕ) (w : measure < 4294967296) where
 -- ---- a message that was written, read again
 
 -- an answer that means an AUTHORITY is one
-abbrev pub typed : Option Message → ℕ
-typed none = 0
-typed (some m) = m .type
-
-pub means-authority : (major : ℕ) (d : List ℕ) (a : Answer) (m : Message) → messageOf major d a ≡ some m → m .type ≡ 8
+means-by : (major : ℕ) (d : List ℕ) (a : Incoming) (m : Message) → messageOf major d a ≡ some m → m .type ≡ 8 → Wanted a
     → takeBy major d (wholeOf a) ≡ takenAs (some m)
 unfolding messageOf
-means-authority major d (M.Refused n) m e t = absurd (omega (arith, ap typed e, t))
-means-authority major d (M.Solicit head entry nonce) m e t = absurd (omega (arith, ap typed e, t))
-means-authority major d (M.Advertise head acked keys nonce) m e t = absurd (omega (arith, ap typed e, t))
-means-authority major d (M.Request head flags split nonce keys credential signature key) m e t = absurd (omega (arith, ap typed e, t))
-means-authority major d (M.Flood head s validate token revoke entry reached) m e t = absurd (omega (arith, ap typed e, t))
-means-authority major d (M.Inquire head a x c validate nonce credential signature key) m e t = absurd (omega (arith, ap typed e, t))
-means-authority major d (M.Authority head acked fields) m e t = ap takenAs e
-means-authority major d (M.Ack head acked flags n) m e t = absurd (omega (arith, ap typed e, t))
-means-authority major d (M.Lookup head a precision criteria reason target validate entry path credential signature key) m e t =
-    absurd (omega (arith, ap typed e, t))
+means-by major d a m e t (is-refused n q) = absurd (omega (arith, ap typed (sym (ap (messageOf major d) q) ∙ e), t))
+means-by major d a m e t (is-wanted x q) = ap (λ (y : Incoming). takeBy major d (wholeOf y)) q ∙ ap takenAs (sym (ap (messageOf major d) q) ∙ e)
+means-by major d a m e t (is-another w z u) = absurd (u major d (ap typed e ∙ t))
 
-module _ (major : ℕ) (d : List ℕ) (b : Bytes d) (h : Head) (acked : ℕ) (f : Inside) (a : answer d major ≡ M.Authority h acked f) (r : Reading) where
+pub means-authority : (major : ℕ) (d : List ℕ) (a : Incoming) (m : Message) → messageOf major d a ≡ some m → m .type ≡ 8
+    → takeBy major d (wholeOf a) ≡ takenAs (some m)
+means-authority major d a m e t = means-by major d a m e t (wanted-as a)
+
+module _ (major : ℕ) (d : List ℕ) (b : Bytes d) (m : T.Authority) (a : readIn d major ≡ M.Authority m) (r : Reading) where
   abbrev was : Message
-  was = seen major d h acked f []
+  was = seen major d m []
 
   abbrev is : Message
   is = changed authorityKinds was 6 (some (image r))
@@ -144,7 +136,7 @@ module _ (major : ℕ) (d : List ℕ) (b : Bytes d) (h : Head) (acked : ℕ) (f 
   was-well : WellFormed authorityKinds was
   unfolding kindsOf
   was-well =
-      let (ks, x, again) = read-written-again d b major was (authority-is d b major h acked f a) in
+      let (ks, x, again) = read-written-again d b major was (authority-is d b major m a) in
       let kind : some ks ≡ some authorityKinds = sym (x .well .known) in
       let kinds : ks ≡ authorityKinds = cc in
       subst (λ (k : List Kind). WellFormed k was) kinds (x .well)
@@ -160,7 +152,7 @@ module _ (major : ℕ) (d : List ℕ) (b : Bytes d) (h : Head) (acked : ℕ) (f 
   unfolding takeCall
   written-taken l =
       let bytes = messageBytes (layoutOf authorityKinds is) in
-      means-authority major bytes (answer bytes major) is (written-read authorityKinds is (is-well l)) refl
+      means-authority major bytes (readIn bytes major) is (written-read authorityKinds is (is-well l)) refl
 
 -- ---- the calls
 
@@ -185,34 +177,34 @@ put-there m old k z =
 some-number : (n : ℕ) → (n ≡ 0 → ⊥) → 0 < n
 some-number n u = omega (arith, u)
 
-other-by : (major : ℕ) (d : List ℕ) (a : Answer) (n : ℕ) → wholeOf a ≡ Other n
-    → (numberOf a ≡ 0 → (m : Message) × (messageOf major d a ≡ some m)) → 0 < n
+other-by : (major : ℕ) (d : List ℕ) (a : Incoming) (n : ℕ) → wholeOf a ≡ Other n
+    → (numberOf a ≡ 0 → (m : Message) × (messageOf major d a ≡ some m)) → Wanted a → 0 < n
 unfolding messageOf
-other-by major d (M.Refused k) n e acc =
-    some-number n (λ z. let q : k ≡ n = cc in let (m, x) = acc (q ∙ z) in let y : _≡_ {A = ℕ} 0 1 = cc in omega arith)
-other-by major d (M.Authority head acked fields) n e acc = absurd (let z : _≡_ {A = ℕ} 0 1 = cc in omega arith)
-other-by major d (M.Solicit head entry nonce) n e acc = let z : 5 ≡ n = cc in omega (arith, z)
-other-by major d (M.Advertise head acked keys nonce) n e acc = let z : 5 ≡ n = cc in omega (arith, z)
-other-by major d (M.Request head flags split nonce keys credential signature key) n e acc = let z : 5 ≡ n = cc in omega (arith, z)
-other-by major d (M.Flood head s validate token revoke entry reached) n e acc = let z : 5 ≡ n = cc in omega (arith, z)
-other-by major d (M.Inquire head a x c validate nonce credential signature key) n e acc = let z : 5 ≡ n = cc in omega (arith, z)
-other-by major d (M.Ack head acked flags k) n e acc = let z : 5 ≡ n = cc in omega (arith, z)
-other-by major d (M.Lookup head a precision criteria reason target validate entry path credential signature key) n e acc =
-    let z : 5 ≡ n = cc in omega (arith, z)
+other-by major d a n e acc (is-refused k q) =
+    let o : Other k ≡ Other n = sym (ap wholeOf q) ∙ e in
+    let p : k ≡ n = cc in
+    some-number n (λ z.
+    let (m, x) = acc (ap numberOf q ∙ p ∙ z) in
+    let y = sym (ap (messageOf major d) q) ∙ x in
+    let v : _≡_ {A = ℕ} 0 1 = cc in
+    omega arith)
+other-by major d a n e acc (is-wanted m q) = absurd (let o = sym (ap wholeOf q) ∙ e in let z : _≡_ {A = ℕ} 0 1 = cc in omega arith)
+other-by major d a n e acc (is-another w z t) = let o = sym w ∙ e in let p : 5 ≡ n = cc in omega (arith, p)
 
 module _ (major : ℕ) (d : List ℕ) (b : Bytes d) (kind measure i o : ℕ) (w : Words measure i o) (old : List ℕ) where
-  by-whole : (x : Whole) → wholeOf (answer d major) ≡ x → (u : Unpacked) → readingOf kind measure i o ≡ u
+  by-whole : (x : Whole) → wholeOf (readIn d major) ≡ x → (u : Unpacked) → readingOf kind measure i o ≡ u
       → carryBy major d x u old .given .number ≡ 0 → carryBy major d x u old .given .reading ≡ 0
       → takeCall major (take (carryBy major d x u old .given .length) (carryBy major d x u old .output)) ≡ taken 0 0 kind measure i o
   unfolding messageOf
-  by-whole (Other n) e u v z q = absurd (omega (arith, z, other-by major d (answer d major) n e (read-accepts d b major .0)))
-  by-whole (Authority h acked f) e (Refused n) v z q = absurd (omega (arith, q, number-refused kind measure (w .0) i o n v))
-  by-whole (Authority h acked f) e (Read r) v z q =
-      let a = whole-authority (answer d major) h acked f e in
-      let (first, short) = put-there (withReading (was major d b h acked f a r) r) old refl z in
-      ap (takeCall major) first ∙ written-taken major d b h acked f a r short ∙ taken-back kind measure (w .0) i o r (w .1) (w .2) v
+  by-whole (Other n) e u v z q =
+      absurd (omega (arith, z, other-by major d (readIn d major) n e (read-accepts d b major .0) (wanted-as (readIn d major))))
+  by-whole (Authority m) e (Refused n) v z q = absurd (omega (arith, q, number-refused kind measure (w .0) i o n v))
+  by-whole (Authority m) e (Read r) v z q =
+      let a = whole-authority (readIn d major) m e in
+      let (first, short) = put-there (withReading (was major d b m a r) r) old refl z in
+      ap (takeCall major) first ∙ written-taken major d b m a r short ∙ taken-back kind measure (w .0) i o r (w .1) (w .2) v
 
 pub carried-back : TakenBack
 unfolding carryCall
 carried-back major d b kind measure i o w old z q =
-    by-whole major d b kind measure i o w old (wholeOf (answer d major)) refl (readingOf kind measure i o) refl z q
+    by-whole major d b kind measure i o w old (wholeOf (readIn d major)) refl (readingOf kind measure i o) refl z q

@@ -3,7 +3,7 @@
 use mathlib.Core.Path.{_≡_, refl, sym, ap, ap₂, subst, _∙_}
 use mathlib.Core.Bool.{Bool, true, false, not, cond, _&&_}
 use mathlib.Core.List.{List, [], _++_}
-use mathlib.Core.Option.{some, none}
+use mathlib.Core.Option.{Option, some, none}
 use Prim.Native.Nat.{ℕ, _+_, _≤_}
 use native.Mathlib.Omega.{arith}
 use lib.Dec.{eqb, leb, ltb}
@@ -14,6 +14,7 @@ use Rattle.octet.specs.Number.{Bytes, digitsLE}
 use Rattle.octet.proofs.LittleLaws.{digitsLE-lt}
 use Rattle.octet.proofs.TestLaws.{both-true}
 use Rattle.octet.specs.Part.{part, splice}
+use Rattle.wire_fields.specs.Message.{Message}
 use Rattle.wire_fields.specs.Reading.{contentsIn}
 use Rattle.wire_fields.specs.declared.Part.{Part}
 use Rattle.wire_fields.specs.declared.Part.the-variants.{Here, Absent}
@@ -22,12 +23,11 @@ use Rattle.wire_write.specs.declared.Written as W
 use Rattle.wire_payload.specs.Payload.{withPayload}
 use Rattle.wire.proofs.PayloadLaws.{seen, payload-within}
 use Rattle.wire.proofs.Theorems.{payload-written, authority-is, authority-again}
-use Rattle.wire_read.specs.Answers.{answer}
-use Rattle.wire_read.specs.Meaning.{messageOf}
-use Rattle.wire_read.specs.declared.Answer.{Answer}
-use Rattle.wire_read.specs.declared.Answer.the-variants as M
-use Rattle.wire_read.specs.declared.Head.{Head}
-use Rattle.wire_buffer.specs.declared.Inside.{Inside}
+use Rattle.wire_read.specs.Answers.{readIn}
+use Rattle.wire_read.specs.Meaning.{messageOf, numberOf}
+use Rattle.wire_read.specs.declared.Incoming.{Incoming}
+use Rattle.wire_read.specs.declared.Incoming.the-variants as M
+use Rattle.wire_read.specs.declared.messages.Authority as T
 use Rattle.refusal.specs.Table.{orRefuse}
 use Rattle.refusal.proofs.CallLaws.{or-known}
 use Rattle.octet.proofs.PartLaws.{take-splice, length-splice}
@@ -55,40 +55,60 @@ use Rattle.carried.specs.Take.{nothing, takenBy, takenFrom, takenAs, tak
 
 -- ---- the AUTHORITY that is wanted
 
-other : {n : ℕ} {h : Head} {acked : ℕ} {f : Inside} {A : Type 0} → Other n ≡ Authority h acked f → A
+other : {n : ℕ} {m : T.Authority} {A : Type 0} → Other n ≡ Authority m → A
 other e = absurd (let z : _≡_ {A = ℕ} 0 1 = cc in omega arith)
 
-pub whole-authority : (a : Answer) (h : Head) (acked : ℕ) (f : Inside) → wholeOf a ≡ Authority h acked f → a ≡ M.Authority h acked f
-whole-authority (M.Refused n) h acked f e = other e
-whole-authority (M.Authority head id fields) h acked f e = cc
-whole-authority (M.Solicit head entry nonce) h acked f e = other e
-whole-authority (M.Advertise head id keys nonce) h acked f e = other e
-whole-authority (M.Request head flags split nonce keys credential signature key) h acked f e = other e
-whole-authority (M.Flood head d validate token revoke entry reached) h acked f e = other e
-whole-authority (M.Inquire head a x c validate nonce credential signature key) h acked f e = other e
-whole-authority (M.Ack head id flags n) h acked f e = other e
-whole-authority (M.Lookup head a precision criteria reason target validate entry path credential signature key) h acked f e = other e
+-- the type of a message, 0 where there is none
+abbrev pub typed : Option Message → ℕ
+typed none = 0
+typed (some m) = m .type
+
+-- a refusal, an AUTHORITY, or another message
+pub data Wanted (a : Incoming) : Type 0 where
+  is-refused : (n : ℕ) → a ≡ M.Refused n → Wanted a
+  is-wanted : (m : T.Authority) → a ≡ M.Authority m → Wanted a
+  is-another : wholeOf a ≡ Other 5 → numberOf a ≡ 0 → ((major : ℕ) (d : List ℕ) → ¬ (typed (messageOf major d a) ≡ 8)) → Wanted a
+
+pub wanted-as : (a : Incoming) → Wanted a
+unfolding messageOf
+wanted-as (M.Refused n) = is-refused n refl
+wanted-as (M.Authority m) = is-wanted m refl
+wanted-as (M.Solicit m) = is-another refl refl (λ major d e. omega (arith, e))
+wanted-as (M.Advertise m) = is-another refl refl (λ major d e. omega (arith, e))
+wanted-as (M.Request m) = is-another refl refl (λ major d e. omega (arith, e))
+wanted-as (M.Flood m) = is-another refl refl (λ major d e. omega (arith, e))
+wanted-as (M.Inquire m) = is-another refl refl (λ major d e. omega (arith, e))
+wanted-as (M.Ack m) = is-another refl refl (λ major d e. omega (arith, e))
+wanted-as (M.Lookup m) = is-another refl refl (λ major d e. omega (arith, e))
+
+pub whole-authority : (a : Incoming) (m : T.Authority) → wholeOf a ≡ Authority m → a ≡ M.Authority m
+whole-authority a m e = by (wanted-as a)
+  where
+    by : Wanted a → a ≡ M.Authority m
+    by (is-refused n q) = other (sym (ap wholeOf q) ∙ e)
+    by (is-wanted x q) = q ∙ ap M.Authority (let z : Authority x ≡ Authority m = sym (ap wholeOf q) ∙ e in cc)
+    by (is-another w z t) = other (sym w ∙ e)
 
 -- ---- the calls, by what was read
 
 module _ (major : ℕ) (d : List ℕ) where
-  pub carry-other : (n : ℕ) (u : Unpacked) (old : List ℕ) → wholeOf (answer d major) ≡ Other n → carryHanded (carry n 0 0) old ≡ carryCall major d u old
+  pub carry-other : (n : ℕ) (u : Unpacked) (old : List ℕ) → wholeOf (readIn d major) ≡ Other n → carryHanded (carry n 0 0) old ≡ carryCall major d u old
   unfolding carryCall
   carry-other n u old e = sym (ap (λ (w : Whole). carryBy major d w u old) e)
 
-  pub carry-authority : (h : Head) (acked : ℕ) (f : Inside) (u : Unpacked) (old : List ℕ) → wholeOf (answer d major) ≡ Authority h acked f
-      → carryAs (messageOf major d (M.Authority h acked f)) u old ≡ carryCall major d u old
+  pub carry-authority : (m : T.Authority) (u : Unpacked) (old : List ℕ) → wholeOf (readIn d major) ≡ Authority m
+      → carryAs (messageOf major d (M.Authority m)) u old ≡ carryCall major d u old
   unfolding carryCall
-  carry-authority h acked f u old e = sym (ap (λ (w : Whole). carryBy major d w u old) e)
+  carry-authority m u old e = sym (ap (λ (w : Whole). carryBy major d w u old) e)
 
-  pub take-other : (n : ℕ) → wholeOf (answer d major) ≡ Other n → nothing n 0 ≡ takeCall major d
+  pub take-other : (n : ℕ) → wholeOf (readIn d major) ≡ Other n → nothing n 0 ≡ takeCall major d
   unfolding takeCall
   take-other n e = sym (ap (takeBy major d) e)
 
-  pub take-authority : (h : Head) (acked : ℕ) (f : Inside) → wholeOf (answer d major) ≡ Authority h acked f
-      → takenAs (messageOf major d (M.Authority h acked f)) ≡ takeCall major d
+  pub take-authority : (m : T.Authority) → wholeOf (readIn d major) ≡ Authority m
+      → takenAs (messageOf major d (M.Authority m)) ≡ takeCall major d
   unfolding takeCall
-  take-authority h acked f e = sym (ap (takeBy major d) e)
+  take-authority m e = sym (ap (takeBy major d) e)
 
 -- ---- a reading that may be written
 
@@ -175,44 +195,44 @@ written-short m old r e =
     (λ q. leb-true (length (m .bytes)) 1232 (both-true (leb (length (m .bytes)) (length old)) (leb (length (m .bytes)) 1232) q .1)))
 
 -- the AUTHORITY that was read, with the reading
-module _ (major : ℕ) (d : List ℕ) (b : Bytes d) (h : Head) (acked : ℕ) (f : Inside) (a : answer d major ≡ M.Authority h acked f) where
-  pub carried-as : (r : Reading) (old : List ℕ) (w : W.Written) (out v : List ℕ) → v ≡ image r → Wrote (withPayload major d h acked f v) old w out
-      → carryHanded (carry (w .number) (w .length) 0) out ≡ carryAs (messageOf major d (M.Authority h acked f)) (Read r) old
+module _ (major : ℕ) (d : List ℕ) (b : Bytes d) (m : T.Authority) (a : readIn d major ≡ M.Authority m) where
+  pub carried-as : (r : Reading) (old : List ℕ) (w : W.Written) (out v : List ℕ) → v ≡ image r → Wrote (withPayload major d m v) old w out
+      → carryHanded (carry (w .number) (w .length) 0) out ≡ carryAs (messageOf major d (M.Authority m)) (Read r) old
   unfolding messageOf
   carried-as r old w out v e x =
-      let m = seen major d h acked f [] in
-      let made : withPayload major d h acked f v ≡ withReading m r =
-      ap (withPayload major d h acked f) e
-      ∙ payload-written d b major h acked f m a (authority-is d b major h acked f a) (image r) (image-bytes r)
+      let s = seen major d m [] in
+      let made : withPayload major d m v ≡ withReading s r =
+      ap (withPayload major d m) e
+      ∙ payload-written d b major m s a (authority-is d b major m a) (image r) (image-bytes r)
       (omega (arith, image-short (r .measured) (r .inflow) (r .outflow))) in
       ap₂ (λ (y : W.Written) (l : List ℕ). carryHanded (carry (y .number) (y .length) 0) l) (x .answer ∙ ap (λ (y : Made). writeAs y old) made)
       (x .output ∙ ap (λ (y : Made). writeIn y old) made)
 
   -- ---- what is taken
 
-  pub payload-there : (s l : ℕ) → f .payload ≡ Here s l → s + l ≤ length d
-  payload-there s l q = payload-within major d h acked f [] s l (authority-again d b major h acked f a) q
+  pub payload-there : (s l : ℕ) → m .fields .payload ≡ Here s l → s + l ≤ length d
+  payload-there s l q = payload-within major d m [] s l (authority-again d b major m a) q
 
-  pub none-taken : f .payload ≡ Absent → nothing 0 0 ≡ takenAs (messageOf major d (M.Authority h acked f))
+  pub none-taken : m .fields .payload ≡ Absent → nothing 0 0 ≡ takenAs (messageOf major d (M.Authority m))
   unfolding messageOf
   none-taken q = sym (ap (λ (p : Part). takenFrom (contentsIn d p)) q)
 
-  pub some-taken : (s l : ℕ) → f .payload ≡ Here s l → takenBy (unpackOf (part s l d)) ≡ takenAs (messageOf major d (M.Authority h acked f))
+  pub some-taken : (s l : ℕ) → m .fields .payload ≡ Here s l → takenBy (unpackOf (part s l d)) ≡ takenAs (messageOf major d (M.Authority m))
   unfolding messageOf
   some-taken s l q = sym (ap (λ (p : Part). takenFrom (contentsIn d p)) q)
 
   -- ---- as the code has it
 
   pub carried-refused : (u : Unpacked) (n : ℕ) (old : List ℕ) (g : Carry) → u ≡ Refused n → g ≡ carry 0 0 n
-      → carryHanded g old ≡ carryAs (messageOf major d (M.Authority h acked f)) u old
+      → carryHanded g old ≡ carryAs (messageOf major d (M.Authority m)) u old
   unfolding messageOf
   carried-refused u n old g e q =
-      ap (λ (x : Carry). carryHanded x old) q ∙ sym (ap (λ (x : Unpacked). carryAs (messageOf major d (M.Authority h acked f)) x old) e)
+      ap (λ (x : Carry). carryHanded x old) q ∙ sym (ap (λ (x : Unpacked). carryAs (messageOf major d (M.Authority m)) x old) e)
 
   pub carried-read : (u : Unpacked) (r : Reading) (old : List ℕ) (x : CarryHanded) → u ≡ Read r
-      → x ≡ carryAs (messageOf major d (M.Authority h acked f)) (Read r) old
-      → x ≡ carryAs (messageOf major d (M.Authority h acked f)) u old
-  carried-read u r old x e q = q ∙ sym (ap (λ (y : Unpacked). carryAs (messageOf major d (M.Authority h acked f)) y old) e)
+      → x ≡ carryAs (messageOf major d (M.Authority m)) (Read r) old
+      → x ≡ carryAs (messageOf major d (M.Authority m)) u old
+  carried-read u r old x e q = q ∙ sym (ap (λ (y : Unpacked). carryAs (messageOf major d (M.Authority m)) y old) e)
 
 -- a reading that may be written is packed into 16 bytes
 module _ (r : Reading) (out left : List ℕ) (a : Packed) (g : fine (r .measured) ≡ true) (l : length out ≡ 16)

@@ -17,10 +17,9 @@ use Rattle.refusal.specs.Table.{orRefuse}
 use Rattle.wire_fields.specs.Message.{Contents, Message}
 use Rattle.wire_write.specs.Writing.{Made, fit, writeAs, writeIn}
 use Rattle.wire.proofs.Theorems.{read-gives, read-accepts, read-refuses}
-use Rattle.wire_read.specs.Answers.{answer}
+use Rattle.wire_read.specs.Answers.{readIn}
 use Rattle.wire_read.specs.Meaning.{messageOf, numberOf}
-use Rattle.wire_read.specs.declared.Answer.{Answer}
-use Rattle.wire_read.specs.declared.Answer.the-variants as M
+use Rattle.wire_read.specs.declared.Incoming.{Incoming}
 use Rattle.readings.specs.Depth.{allowed}
 use Rattle.readings.specs.Reading.{reading, measuredAs}
 use Rattle.readings.specs.Numbers.{numberRefusals, readingOf}
@@ -36,65 +35,53 @@ use Rattle.carried.specs.Whole.{wholeOf}
 use Rattle.carried.specs.Carry.{carry, CarryHanded, carryHanded, put, withReading, carryIn, carryAs, carryBy, carryCall}
 use Rattle.carried.specs.Take.{nothing, takenBy, takenFrom, takeCall}
 use Rattle.carried.specs.Statements.{ReadsAs, IsAuthority, Unread, Another, CarryNoRoom, TooLong, Carries, ReadingApplies, too-large, unknown-kind, outside, CarryExactly, CarryKeeps, CarryWrites, CarryFirst, TakeExactly}
-use Rattle.carried.proofs.CarryLaws.{carry-other, take-other}
-use Rattle.carried.proofs.BackLaws.{typed, means-authority}
+use Rattle.carried.proofs.CarryLaws.{typed, Wanted, is-refused, is-wanted, is-another, wanted-as, carry-other, take-other}
+use Rattle.carried.proofs.BackLaws.{means-authority}
 
 -- ---- what a datagram is
 
 -- not read, another message, or an AUTHORITY
 data Sees (major : ℕ) (d : List ℕ) : Type 0 where
-  unread : (n : ℕ) → 0 < n → numberOf (answer d major) ≡ n → Sees major d
-  another : (m : Message) → messageOf major d (answer d major) ≡ some m → ¬ (m .type ≡ 8) → Sees major d
-  authority : (m : Message) → messageOf major d (answer d major) ≡ some m → m .type ≡ 8 → Sees major d
+  unread : (n : ℕ) → 0 < n → numberOf (readIn d major) ≡ n → Sees major d
+  another : (m : Message) → messageOf major d (readIn d major) ≡ some m → ¬ (m .type ≡ 8) → Sees major d
+  authority : (m : Message) → messageOf major d (readIn d major) ≡ some m → m .type ≡ 8 → Sees major d
 
 sees : (major : ℕ) (d : List ℕ) → Bytes d → Sees major d
-sees major d b = go (numberOf (answer d major)) refl
+sees major d b = go (numberOf (readIn d major)) refl
   where
-    by-type : (m : Message) → messageOf major d (answer d major) ≡ some m → (t : Bool) → eqb (m .type) 8 ≡ t → Sees major d
+    by-type : (m : Message) → messageOf major d (readIn d major) ≡ some m → (t : Bool) → eqb (m .type) 8 ≡ t → Sees major d
     by-type m e true q = authority m e (eqb-true (m .type) 8 q)
     by-type m e false q = another m e (eqb-false (m .type) 8 q)
 
-    go : (n : ℕ) → numberOf (answer d major) ≡ n → Sees major d
+    go : (n : ℕ) → numberOf (readIn d major) ≡ n → Sees major d
     go zero e = let (m, x) = read-accepts d b major .0 e in by-type m x (eqb (m .type) 8) refl
     go (suc n) e = unread (suc n) (omega arith) e
 
 -- what is found of it
-refused-whole : (a : Answer) (n : ℕ) → 0 < n → numberOf a ≡ n → wholeOf a ≡ Other n
-refused-whole (M.Refused k) n p e = ap Other e
-refused-whole (M.Authority head acked fields) n p e = absurd (omega (arith, e))
-refused-whole (M.Solicit head entry nonce) n p e = absurd (omega (arith, e))
-refused-whole (M.Advertise head acked keys nonce) n p e = absurd (omega (arith, e))
-refused-whole (M.Request head flags split nonce keys credential signature key) n p e = absurd (omega (arith, e))
-refused-whole (M.Flood head s validate token revoke entry reached) n p e = absurd (omega (arith, e))
-refused-whole (M.Inquire head a x c validate nonce credential signature key) n p e = absurd (omega (arith, e))
-refused-whole (M.Ack head acked flags k) n p e = absurd (omega (arith, e))
-refused-whole (M.Lookup head a precision criteria reason target validate entry path credential signature key) n p e = absurd (omega (arith, e))
+refused-whole : (a : Incoming) (n : ℕ) → 0 < n → numberOf a ≡ n → wholeOf a ≡ Other n
+refused-whole a n p e = by (wanted-as a)
+  where
+    by : Wanted a → wholeOf a ≡ Other n
+    by (is-refused k q) = ap wholeOf q ∙ ap Other (sym (ap numberOf q) ∙ e)
+    by (is-wanted m q) = absurd (omega (arith, ap numberOf q, e, p))
+    by (is-another w z t) = absurd (omega (arith, z, e, p))
 
-another-whole : (major : ℕ) (d : List ℕ) (a : Answer) (m : Message) → messageOf major d a ≡ some m → ¬ (m .type ≡ 8) → wholeOf a ≡ Other 5
+another-by : (major : ℕ) (d : List ℕ) (a : Incoming) (m : Message) → messageOf major d a ≡ some m → ¬ (m .type ≡ 8) → Wanted a → wholeOf a ≡ Other 5
 unfolding messageOf
-another-whole major d (M.Refused k) m e t = absurd (let z : _≡_ {A = ℕ} 0 1 = cc in omega arith)
-another-whole major d (M.Authority head acked fields) m e t = absurd (t (sym (ap typed e)))
-another-whole major d (M.Solicit head entry nonce) m e t = refl
-another-whole major d (M.Advertise head acked keys nonce) m e t = refl
-another-whole major d (M.Request head flags split nonce keys credential signature key) m e t = refl
-another-whole major d (M.Flood head s validate token revoke entry reached) m e t = refl
-another-whole major d (M.Inquire head a x c validate nonce credential signature key) m e t = refl
-another-whole major d (M.Ack head acked flags k) m e t = refl
-another-whole major d (M.Lookup head a precision criteria reason target validate entry path credential signature key) m e t = refl
+another-by major d a m e t (is-refused n q) = absurd (let o = sym (ap (messageOf major d) q) ∙ e in let z : _≡_ {A = ℕ} 0 1 = cc in omega arith)
+another-by major d a m e t (is-wanted x q) = absurd (t (sym (ap typed (sym (ap (messageOf major d) q) ∙ e))))
+another-by major d a m e t (is-another w z u) = w
 
-authority-by : (major : ℕ) (d : List ℕ) (a : Answer) (m : Message) (u : Unpacked) (old : List ℕ) → messageOf major d a ≡ some m → m .type ≡ 8
-    → carryBy major d (wholeOf a) u old ≡ carryIn m u old
+another-whole : (major : ℕ) (d : List ℕ) (a : Incoming) (m : Message) → messageOf major d a ≡ some m → ¬ (m .type ≡ 8) → wholeOf a ≡ Other 5
+another-whole major d a m e t = another-by major d a m e t (wanted-as a)
+
+authority-by : (major : ℕ) (d : List ℕ) (a : Incoming) (m : Message) (u : Unpacked) (old : List ℕ) → messageOf major d a ≡ some m → m .type ≡ 8
+    → Wanted a → carryBy major d (wholeOf a) u old ≡ carryIn m u old
 unfolding messageOf
-authority-by major d (M.Refused n) m u old e t = absurd (omega (arith, ap typed e, t))
-authority-by major d (M.Authority head acked fields) m u old e t = ap (λ (x : Option Message). carryAs x u old) e
-authority-by major d (M.Solicit head entry nonce) m u old e t = absurd (omega (arith, ap typed e, t))
-authority-by major d (M.Advertise head acked keys nonce) m u old e t = absurd (omega (arith, ap typed e, t))
-authority-by major d (M.Request head flags split nonce keys credential signature key) m u old e t = absurd (omega (arith, ap typed e, t))
-authority-by major d (M.Flood head s validate token revoke entry reached) m u old e t = absurd (omega (arith, ap typed e, t))
-authority-by major d (M.Inquire head a x c validate nonce credential signature key) m u old e t = absurd (omega (arith, ap typed e, t))
-authority-by major d (M.Ack head acked flags n) m u old e t = absurd (omega (arith, ap typed e, t))
-authority-by major d (M.Lookup head a precision criteria reason target validate entry path credential signature key) m u old e t =
-    absurd (omega (arith, ap typed e, t))
+authority-by major d a m u old e t (is-refused n q) = absurd (omega (arith, ap typed (sym (ap (messageOf major d) q) ∙ e), t))
+authority-by major d a m u old e t (is-wanted x q) =
+    ap (λ (y : Incoming). carryBy major d (wholeOf y) u old) q ∙ ap (λ (y : Option Message). carryAs y u old) (sym (ap (messageOf major d) q) ∙ e)
+authority-by major d a m u old e t (is-another w z v) = absurd (v major d (ap typed e ∙ t))
 
 -- ---- a reading handed in
 
@@ -177,15 +164,15 @@ data Ends (major : ℕ) (d : List ℕ) (u : Unpacked) (old : List ℕ) (h : Carr
 
 module _ (major : ℕ) (d : List ℕ) (b : Bytes d) where
   module _ (u : Unpacked) (old : List ℕ) where
-    unread-is : (n : ℕ) → 0 < n → numberOf (answer d major) ≡ n → carryCall major d u old ≡ carryHanded (carry n 0 0) old
-    unread-is n p e = sym (carry-other major d n u old (refused-whole (answer d major) n p e))
+    unread-is : (n : ℕ) → 0 < n → numberOf (readIn d major) ≡ n → carryCall major d u old ≡ carryHanded (carry n 0 0) old
+    unread-is n p e = sym (carry-other major d n u old (refused-whole (readIn d major) n p e))
 
-    another-is : (m : Message) → messageOf major d (answer d major) ≡ some m → ¬ (m .type ≡ 8) → carryCall major d u old ≡ carryHanded (carry 5 0 0) old
-    another-is m e t = sym (carry-other major d 5 u old (another-whole major d (answer d major) m e t))
+    another-is : (m : Message) → messageOf major d (readIn d major) ≡ some m → ¬ (m .type ≡ 8) → carryCall major d u old ≡ carryHanded (carry 5 0 0) old
+    another-is m e t = sym (carry-other major d 5 u old (another-whole major d (readIn d major) m e t))
 
-    authority-is : (m : Message) → messageOf major d (answer d major) ≡ some m → m .type ≡ 8 → carryCall major d u old ≡ carryIn m u old
+    authority-is : (m : Message) → messageOf major d (readIn d major) ≡ some m → m .type ≡ 8 → carryCall major d u old ≡ carryIn m u old
     unfolding carryCall
-    authority-is m e t = authority-by major d (answer d major) m u old e t
+    authority-is m e t = authority-by major d (readIn d major) m u old e t (wanted-as (readIn d major))
 
     -- an AUTHORITY, with a reading or with none
     put-ends : (m : Message) → IsAuthority major d m → carryCall major d u old ≡ carryIn m u old → (x : Unpacked) → u ≡ x
@@ -327,15 +314,15 @@ carry-first major d b kind measure i o old = first-by major d b kind measure i o
 -- ---- a call to take
 
 module _ (major : ℕ) (d : List ℕ) (b : Bytes d) where
-  unread-taken : (n : ℕ) → 0 < n → numberOf (answer d major) ≡ n → takeCall major d ≡ nothing n 0
-  unread-taken n p e = sym (take-other major d n (refused-whole (answer d major) n p e))
+  unread-taken : (n : ℕ) → 0 < n → numberOf (readIn d major) ≡ n → takeCall major d ≡ nothing n 0
+  unread-taken n p e = sym (take-other major d n (refused-whole (readIn d major) n p e))
 
-  another-taken : (m : Message) → messageOf major d (answer d major) ≡ some m → ¬ (m .type ≡ 8) → takeCall major d ≡ nothing 5 0
-  another-taken m e t = sym (take-other major d 5 (another-whole major d (answer d major) m e t))
+  another-taken : (m : Message) → messageOf major d (readIn d major) ≡ some m → ¬ (m .type ≡ 8) → takeCall major d ≡ nothing 5 0
+  another-taken m e t = sym (take-other major d 5 (another-whole major d (readIn d major) m e t))
 
   authority-taken : (m : Message) → IsAuthority major d m → (c : Contents) → getD (m .fields) 6 none ≡ c → takeCall major d ≡ takenFrom c
   unfolding takeCall
-  authority-taken m a c e = means-authority major d (answer d major) m (read-gives d b major m .1 (a .0)) (a .1) ∙ ap takenFrom e
+  authority-taken m a c e = means-authority major d (readIn d major) m (read-gives d b major m .1 (a .0)) (a .1) ∙ ap takenFrom e
 
   -- how it ends
   data Takes (t : Taken) : Type 0 where

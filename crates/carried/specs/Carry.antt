@@ -6,9 +6,9 @@ use mathlib.Core.Bool.{true}
 use mathlib.Core.Option.{Option, some, none}
 use Rattle.wire_fields.specs.Kinds.{authorityKinds}
 use Rattle.wire_fields.specs.Message.{Message, layoutOf, messageBytes}
-use Rattle.wire_read.specs.Answers.{answer}
+use Rattle.wire_read.specs.Answers.{readIn}
 use Rattle.wire_read.specs.Meaning.{messageOf}
-use Rattle.wire_read.specs.declared.Answer.the-variants as M
+use Rattle.wire_read.specs.declared.Incoming.the-variants as M
 use Rattle.wire_write.specs.Writing.{Made, writeAs, writeIn}
 use Rattle.wire.specs.Statements.{changed}
 use Rattle.readings.specs.Reading.{image}
@@ -51,8 +51,8 @@ carryAs none u old = carryHanded (carry 5 0 0) old
 
 abbrev pub carryBy : ℕ → List ℕ → Whole → Unpacked → List ℕ → CarryHanded
 carryBy major d (Other n) u old = carryHanded (carry n 0 0) old
-carryBy major d (Authority head acked fields) u old = carryAs (messageOf major d (M.Authority head acked fields)) u old
+carryBy major d (Authority m) u old = carryAs (messageOf major d (M.Authority m)) u old
 
 -- the whole call: the datagram's refusals first, then the reading's, then the room's
 unfoldable pub carryCall : ℕ → List ℕ → Unpacked → List ℕ → CarryHanded
-carryCall major d u old = carryBy major d (wholeOf (answer d major)) u old
+carryCall major d u old = carryBy major d (wholeOf (readIn d major)) u old

@@ -5,9 +5,9 @@ use mathlib.Core.List.{List}
 use mathlib.Core.Option.{Option, some, none}
 use lib.ListN.{getD}
 use Rattle.wire_fields.specs.Message.{Contents, Message}
-use Rattle.wire_read.specs.Answers.{answer}
+use Rattle.wire_read.specs.Answers.{readIn}
 use Rattle.wire_read.specs.Meaning.{messageOf}
-use Rattle.wire_read.specs.declared.Answer.the-variants as M
+use Rattle.wire_read.specs.declared.Incoming.the-variants as M
 use Rattle.readings.specs.Reading.{kindOf, measureOf}
 use Rattle.readings.specs.Unpack.{unpackOf}
 use Rattle.readings.specs.declared.Unpacked.{Unpacked}
@@ -41,7 +41,7 @@ takenAs none = nothing 5 0
 
 abbrev pub takeBy : ℕ → List ℕ → Whole → Taken
 takeBy major d (Other n) = nothing n 0
-takeBy major d (Authority head acked fields) = takenAs (messageOf major d (M.Authority head acked fields))
+takeBy major d (Authority m) = takenAs (messageOf major d (M.Authority m))
 
 unfoldable pub takeCall : ℕ → List ℕ → Taken
-takeCall major d = takeBy major d (wholeOf (answer d major))
+takeCall major d = takeBy major d (wholeOf (readIn d major))

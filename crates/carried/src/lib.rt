@@ -43,20 +43,18 @@ pub extern "C" fn gauge_carry(
     ensures { λ r. ⌜ carryHanded r (now (output .exit)) ≡ carryCall major (now (authority .entry))
         (readingOf kind measure «litres_in» «litres_out») (now (output .entry)) ⌝ }
 {
-    let answer = wire_read::read(authority, major);
-    let found = whole::whole_of(answer);
+    let message = wire_read::read(authority, major);
+    let found = whole::whole_of(message);
     match found {
         Whole::Other(number) => Carry {
             number,
             length: 0,
             reading: 0,
         },
-        Whole::Authority(head, acked, fields) => payload::put_reading(
+        Whole::Authority(m) => payload::put_reading(
             major,
             authority,
-            head,
-            acked,
-            fields,
+            m,
             kind,
             measure,
             litres_in,
@@ -71,17 +69,11 @@ pub extern "C" fn gauge_carry(
 pub extern "C" fn gauge_carried(major: u8, datagram: &[u8]) -> Taken
     ensures { λ r. ⌜ r ≡ takeCall major (now (datagram .entry)) ⌝ }
 {
-    let answer = wire_read::read(datagram, major);
-    let found = whole::whole_of(answer);
+    let message = wire_read::read(datagram, major);
+    let found = whole::whole_of(message);
     match found {
         Whole::Other(number) => payload::nothing(number, 0),
-        Whole::Authority(head, acked, fields) => payload::take_reading(
-            major,
-            datagram,
-            head,
-            acked,
-            fields,
-        ),
+        Whole::Authority(m) => payload::take_reading(major, datagram, m),
     }
 }
 

@@ -4,16 +4,15 @@ use crate::Taken;
 use readings::Packed;
 use readings::Reading;
 use readings::Unpacked;
-use wire_buffer::Inside;
 use wire_fields::Part;
-use wire_read::Head;
+use wire_read::messages::Authority;
 use wire_write::Written;
 ghost use mathlib.Core.Path.{_≡_};
 ghost use mathlib.Core.Bool.{true};
 ghost use Prim.Native.Nat.{_≤_};
-ghost use Rattle.wire_read.specs.Answers.{answer as readAs};
+ghost use Rattle.wire_read.specs.Answers.{readIn};
 ghost use Rattle.wire_read.specs.Meaning.{messageOf};
-ghost use Rattle.wire_read.specs.declared.Answer.the-variants.{Authority as TheAuthority};
+ghost use Rattle.wire_read.specs.declared.Incoming.the-variants.{Authority as TheAuthority};
 ghost use Rattle.readings.specs.Reading.{fine};
 ghost use Rattle.readings.specs.Numbers.{readingOf};
 ghost use Rattle.readings.specs.declared.Unpacked.the-variants.{Read};
@@ -52,39 +51,29 @@ fn refused(number: u32) -> Carry
 pub(crate) fn put_reading(
     major: u8,
     d: &[u8],
-    head: Head,
-    acked: u32,
-    fields: Inside,
+    m: Authority,
     kind: u32,
     measure: u32,
     inflow: u32,
     outflow: u32,
     output: &mut [u8],
 ) -> Carry
-    requires { ⌜ readAs (now d) major ≡ TheAuthority head acked fields ⌝ }
-    ensures { λ r. ⌜ carryHanded r (now (output .exit)) ≡ carryAs (messageOf major (now (d .entry)) (TheAuthority head acked fields))
+    requires { ⌜ readIn (now d) major ≡ TheAuthority m ⌝ }
+    ensures { λ r. ⌜ carryHanded r (now (output .exit)) ≡ carryAs (messageOf major (now (d .entry)) (TheAuthority m))
         (readingOf kind measure inflow outflow) (now (output .entry)) ⌝ }
 {
     let made = readings::reading_of(kind, measure, inflow, outflow);
     match made {
         Unpacked::Refused(number) => refused(number),
-        Unpacked::Read(reading) => put_packed(major, d, head, acked, fields, reading, output),
+        Unpacked::Read(reading) => put_packed(major, d, m, reading, output),
     }
 }
 
 // A reading that may be written has room in 16 bytes.
-fn put_packed(
-    major: u8,
-    d: &[u8],
-    head: Head,
-    acked: u32,
-    fields: Inside,
-    reading: Reading,
-    output: &mut [u8],
-) -> Carry
-    requires { ⌜ readAs (now d) major ≡ TheAuthority head acked fields ⌝ }
+fn put_packed(major: u8, d: &[u8], m: Authority, reading: Reading, output: &mut [u8]) -> Carry
+    requires { ⌜ readIn (now d) major ≡ TheAuthority m ⌝ }
     requires { ⌜ fine (reading .measured) ≡ true ⌝ }
-    ensures { λ r. ⌜ carryHanded r (now (output .exit)) ≡ carryAs (messageOf major (now (d .entry)) (TheAuthority head acked fields))
+    ensures { λ r. ⌜ carryHanded r (now (output .exit)) ≡ carryAs (messageOf major (now (d .entry)) (TheAuthority m))
         (Read reading) (now (output .entry)) ⌝ }
 {
     let mut image = [0u8; 16];
@@ -92,15 +81,7 @@ fn put_packed(
     match packed {
         Packed::Refused(number) => refused(number),
         Packed::Written(n) => {
-            let done = wire_payload::write_payload(
-                output,
-                major,
-                head,
-                acked,
-                fields,
-                d,
-                &image[..n],
-            );
+            let done = wire_payload::write_payload(output, major, m, d, &image[..n]);
             told(done)
         }
     }
@@ -139,10 +120,11 @@ fn shown(reading: Unpacked) -> Taken
 }
 
 // The reading that stands as the payload, or none.
-pub(crate) fn take_reading(major: u8, d: &[u8], head: Head, acked: u32, fields: Inside) -> Taken
-    requires { ⌜ readAs (now d) major ≡ TheAuthority head acked fields ⌝ }
-    ensures { λ r. ⌜ r ≡ takenAs (messageOf major (now (d .entry)) (TheAuthority head acked fields)) ⌝ }
+pub(crate) fn take_reading(major: u8, d: &[u8], m: Authority) -> Taken
+    requires { ⌜ readIn (now d) major ≡ TheAuthority m ⌝ }
+    ensures { λ r. ⌜ r ≡ takenAs (messageOf major (now (d .entry)) (TheAuthority m)) ⌝ }
 {
+    let fields = m.fields;
     let payload = fields.payload;
     let Part::Here(start, len) = payload else {
         return nothing(0, 0);

@@ -1,6 +1,6 @@
 // The gauge as the radio program calls it.
 ghost use mathlib.Core.Path.{_≡_};
-ghost use Rattle.wire_read.specs.Answers.{answer};
+ghost use Rattle.wire_read.specs.Answers.{readIn};
 ghost use Rattle.look.specs.Seen.{lookOf};
 ghost use Rattle.gauge_plan.specs.Lent.{Memory, memory, withCache, withWaiting, withTables, receive, send, tick, listing, receives, sends, ticks, lists};
 ghost use Rattle.gauge_commit.specs.Sending.{handed};
@@ -194,7 +194,7 @@ pub extern "C" fn gauge_neighbours(
 // signed.
 #[no_mangle]
 pub extern "C" fn gauge_look(major: u8, datagram: &[u8]) -> look::Look
-    ensures { λ r. ⌜ r ≡ lookOf (answer (now (datagram .entry)) major) ⌝ }
+    ensures { λ r. ⌜ r ≡ lookOf (readIn (now (datagram .entry)) major) ⌝ }
 {
     look::look_at(major, datagram)
 }

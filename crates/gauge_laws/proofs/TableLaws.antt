@@ -28,8 +28,8 @@ use Rattle.wire_fields.specs.declared.Part.{Part}
 use Rattle.wire_fields.specs.declared.Part.the-variants.{Here, Absent}
 use Rattle.wire_read.specs.Answers as R
 use Rattle.wire_read.specs.declared.Head.{Head}
-use Rattle.wire_read.specs.declared.Answer as T
-use Rattle.wire_read.specs.declared.Answer.the-variants as M
+use Rattle.wire_read.specs.declared.Incoming as T
+use Rattle.wire_read.specs.declared.Incoming.the-variants as M
 use Rattle.gauge_plan.specs.Memory.{tablesFit, memoryOf, handsFit}
 use Rattle.plan_flood.specs.Flood.{floodPlan, revokePlan}
 use Rattle.plan_answer.specs.Answering.{authorityPlan, ackPlan, inquirePlan, lookupPlan}
@@ -143,25 +143,25 @@ first-before (r ∷ rs) ss p = before-by (r .applies) (r .number) rs ss (first-b
 
 -- ---- by the message
 
-abbrev pub IsMessage : T.Answer → Type 0
+abbrev pub IsMessage : T.Incoming → Type 0
 IsMessage (M.Refused n) = ⊥
-IsMessage (M.Solicit head entry nonce) = Unit {0}
-IsMessage (M.Advertise head acked keys nonce) = Unit {0}
-IsMessage (M.Request head flags split nonce keys credential signature key) = Unit {0}
-IsMessage (M.Flood head d validate token revoke entry reached) = Unit {0}
-IsMessage (M.Inquire head a x c validate nonce credential signature key) = Unit {0}
-IsMessage (M.Authority head acked fields) = Unit {0}
-IsMessage (M.Ack head acked flags n) = Unit {0}
-IsMessage (M.Lookup head a precision criteria reason target validate entry path credential signature key) = Unit {0}
+IsMessage (M.Solicit x) = Unit {0}
+IsMessage (M.Advertise x) = Unit {0}
+IsMessage (M.Request x) = Unit {0}
+IsMessage (M.Flood x) = Unit {0}
+IsMessage (M.Inquire x) = Unit {0}
+IsMessage (M.Authority x) = Unit {0}
+IsMessage (M.Ack x) = Unit {0}
+IsMessage (M.Lookup x) = Unit {0}
 
 either : {A : Type 0} (P : A → Type 0) (b : Bool) (x y : A) → P x → P y → P (cond b x y)
 either P true x y p q = p
 either P false x y p q = q
 
-pub shown-message : (d : List ℕ) (t : ℕ) (ps : List Part) → IsMessage (R.shown d (fields.found t ps))
-unfolding R.shown
+pub shown-message : (d : List ℕ) (t : ℕ) (ps : List Part) → IsMessage (R.incomingOf d (fields.found t ps))
+unfolding R.incomingOf
 shown-message d t ps =
-    let P : T.Answer → Type 0 = IsMessage in
+    let P : T.Incoming → Type 0 = IsMessage in
     either P (eqb t 1) _ _ tt (either P (eqb t 2) _ _ tt (either P (eqb t 3) _ _ tt (either P (eqb t 4) _ _ tt (either P (eqb t 7) _ _ tt
     (either P (eqb t 8) _ _ tt (either P (eqb t 9) _ _ tt tt))))))
 
@@ -177,17 +177,17 @@ unfolding floodPlan revokePlan heldOf
 entry-number m l head s validate (Here start len) = by-table _ _ refl
 entry-number m l head s validate Absent = by-table _ _ refl
 
-message-number : (m : Memory) (l : Receive) (a : T.Answer) → IsMessage a → numberOf (planFor m l (held m l) (used m) a) ≡ firstOf (messageRows m l a)
+message-number : (m : Memory) (l : Receive) (a : T.Incoming) → IsMessage a → numberOf (planFor m l (held m l) (used m) a) ≡ firstOf (messageRows m l a)
 unfolding planFor inquirePlan authorityPlan ackPlan lookupPlan heldOf firstOf
 message-number m l (M.Refused n) w = absurd w
-message-number m l (M.Solicit head entry nonce) w = refl
-message-number m l (M.Advertise head acked keys nonce) w = refl
-message-number m l (M.Request head flags split nonce keys credential signature key) w = refl
-message-number m l (M.Flood head s validate token revoke entry reached) w = entry-number m l head s validate entry
-message-number m l (M.Inquire head a x c validate nonce credential signature key) w = by-table _ _ refl
-message-number m l (M.Authority head acked fields) w = by-table _ _ refl
-message-number m l (M.Ack head acked flags n) w = by-table _ _ refl
-message-number m l (M.Lookup head a precision criteria reason target validate entry path credential signature key) w = by-table _ _ refl
+message-number m l (M.Solicit x) w = refl
+message-number m l (M.Advertise x) w = refl
+message-number m l (M.Request x) w = refl
+message-number m l (M.Flood x) w = entry-number m l (x .head) (x .d) (x .validate) (x .entry)
+message-number m l (M.Inquire x) w = by-table _ _ refl
+message-number m l (M.Authority x) w = by-table _ _ refl
+message-number m l (M.Ack x) w = by-table _ _ refl
+message-number m l (M.Lookup x) w = by-table _ _ refl
 
 -- ---- reading, then the message
 
@@ -198,18 +198,18 @@ foundNumber (fields.found t ps) = 0
 -- what is found gives the number of the rows of reading and of the message
 abbrev Numbered : Memory → Receive → fields.Found → Type 0
 Numbered m l x =
-    numberOf (planFor m l (held m l) (used m) (R.shown (l .datagram) x))
-    ≡ firstOf (fields.refusals (l .datagram) (l .major) ++ messageRows m l (R.shown (l .datagram) x))
+    numberOf (planFor m l (held m l) (used m) (R.incomingOf (l .datagram) x))
+    ≡ firstOf (fields.refusals (l .datagram) (l .major) ++ messageRows m l (R.incomingOf (l .datagram) x))
 
 module _ (m : Memory) (l : Receive) where
   refused-number : 0 < firstOf (fields.refusals (l .datagram) (l .major))
       → Numbered m l (fields.refused (firstOf (fields.refusals (l .datagram) (l .major))))
-  unfolding planFor R.shown
+  unfolding planFor R.incomingOf
   refused-number p = sym (first-before (fields.refusals (l .datagram) (l .major)) _ p)
 
   found-number : (t : ℕ) (ps : List Part) → AllFail (fields.refusals (l .datagram) (l .major)) → Numbered m l (fields.found t ps)
   found-number t ps a =
-      message-number m l (R.shown (l .datagram) (fields.found t ps)) (shown-message (l .datagram) t ps)
+      message-number m l (R.incomingOf (l .datagram) (fields.found t ps)) (shown-message (l .datagram) t ps)
       ∙ sym (first-behind (fields.refusals (l .datagram) (l .major)) _ a)
 
   read-by : (rs : List Refusal) (done : fields.Found) → foundNumber done ≡ 0 → InOrder (placeIn order) 0 rs
@@ -228,15 +228,15 @@ module _ (m : Memory) (l : Receive) where
 
   -- ---- memory and what is handed in, then the datagram
 
-  hands-number : (b : Bool) → numberOf (orRefuse Refuse (when 1 (not b) ∷ []) (planFor m l (held m l) (used m) (R.answer (l .datagram) (l .major))))
-      ≡ firstOf (when 1 (not b) ∷ (fields.refusals (l .datagram) (l .major) ++ messageRows m l (R.answer (l .datagram) (l .major))))
+  hands-number : (b : Bool) → numberOf (orRefuse Refuse (when 1 (not b) ∷ []) (planFor m l (held m l) (used m) (R.readIn (l .datagram) (l .major))))
+      ≡ firstOf (when 1 (not b) ∷ (fields.refusals (l .datagram) (l .major) ++ messageRows m l (R.readIn (l .datagram) (l .major))))
   unfolding orRefuse firstOf
   hands-number true = read-number
   hands-number false = refl
 
   memory-number : (b : Bool) → numberOf (planIn m l (cond b (Fit (held m l) (used m)) Unfit))
       ≡ firstOf (when 1 (not b) ∷ when 1 (not (handsFit m l))
-      ∷ (fields.refusals (l .datagram) (l .major) ++ messageRows m l (R.answer (l .datagram) (l .major))))
+      ∷ (fields.refusals (l .datagram) (l .major) ++ messageRows m l (R.readIn (l .datagram) (l .major))))
   unfolding firstOf
   memory-number true = hands-number (handsFit m l)
   memory-number false = refl
@@ -253,17 +253,17 @@ module _ (m : Memory) (l : Receive) where
   entry-rises s validate Absent = refl
 
   -- behind reading, whose last number is 7
-  message-rises : (a : T.Answer) → rises 6 (messageRows m l a) ≡ true
+  message-rises : (a : T.Incoming) → rises 6 (messageRows m l a) ≡ true
   unfolding placeIn
   message-rises (M.Refused n) = refl
-  message-rises (M.Solicit head entry nonce) = refl
-  message-rises (M.Advertise head acked keys nonce) = refl
-  message-rises (M.Request head flags split nonce keys credential signature key) = refl
-  message-rises (M.Flood head s validate token revoke entry reached) = entry-rises s validate entry
-  message-rises (M.Inquire head a x c validate nonce credential signature key) = refl
-  message-rises (M.Authority head acked fields) = refl
-  message-rises (M.Ack head acked flags n) = refl
-  message-rises (M.Lookup head a precision criteria reason target validate entry path credential signature key) = refl
+  message-rises (M.Solicit x) = refl
+  message-rises (M.Advertise x) = refl
+  message-rises (M.Request x) = refl
+  message-rises (M.Flood x) = entry-rises (x .d) (x .validate) (x .entry)
+  message-rises (M.Inquire x) = refl
+  message-rises (M.Authority x) = refl
+  message-rises (M.Ack x) = refl
+  message-rises (M.Lookup x) = refl
 
 -- ---- any call
 
@@ -284,7 +284,7 @@ call-number m (lists l) =
 
 call-rises : (m : Memory) (c : Call) → rises 0 (tableOf m c) ≡ true
 unfolding placeIn
-call-rises m (receives l) = message-rises m l (R.answer (l .datagram) (l .major))
+call-rises m (receives l) = message-rises m l (R.readIn (l .datagram) (l .major))
 call-rises m (sends l) = refl
 call-rises m (ticks l) = refl
 call-rises m (lists l) = refl

@@ -16,8 +16,8 @@ use Rattle.wire_fields.specs.Refusals.{refusals}
 use Rattle.wire_fields.specs.declared.Part.{Part}
 use Rattle.wire_fields.specs.declared.Part.the-variants.{Here, Absent}
 use Rattle.wire_read.specs.Answers as R
-use Rattle.wire_read.specs.declared.Answer as T
-use Rattle.wire_read.specs.declared.Answer.the-variants as M
+use Rattle.wire_read.specs.declared.Incoming as T
+use Rattle.wire_read.specs.declared.Incoming.the-variants as M
 use Rattle.gauge_plan.specs.Lent.{Memory, Receive, Call, receives, sends, ticks, lists}
 use Rattle.gauge_plan.specs.Memory.{tablesFit, handsFit}
 use Rattle.gauge_plan.specs.Own.{notOurs}
@@ -37,25 +37,22 @@ floodTable m l silent validate Absent =
     revokeRefusals (ownKeys (l .own)) (l .verdict) (keyAt 0 (l .key)) (length (l .output)) silent (notOurs (ownKeys (l .own)) validate (l .datagram))
 
 -- the rows of a message; SOLICIT, ADVERTISE and REQUEST are refused with 7
-abbrev pub messageRows : Memory → Receive → T.Answer → List Refusal
+abbrev pub messageRows : Memory → Receive → T.Incoming → List Refusal
 messageRows m l (M.Refused n) = []
-messageRows m l (M.Solicit head entry nonce) = when 7 true ∷ []
-messageRows m l (M.Advertise head acked keys nonce) = when 7 true ∷ []
-messageRows m l (M.Request head flags split nonce keys credential signature key) = when 7 true ∷ []
-messageRows m l (M.Flood head d validate token revoke entry reached) = floodTable m l d validate entry
-messageRows m l (M.Inquire head a x c validate nonce credential signature key) =
-    inquireRefusals (ownKeys (l .own)) (length (l .cpa)) (length (l .output)) (l .datagram) validate
-messageRows m l (M.Authority head acked fields) =
-    authorityRefusals (placesOf (m .waiting)) (l .verdict) (keyAt 0 (l .key)) acked (R.isHere (fields .cpa))
-messageRows m l (M.Ack head acked flags n) = ackRefusals (placesOf (m .waiting)) acked
-messageRows m l (M.Lookup head a precision criteria reason target validate entry path credential signature key) =
-    lookupRefusals (l .own) (heldOf (ownKeys (l .own)) (m .cache)) (length (l .output)) (l .datagram) target
+messageRows m l (M.Solicit x) = when 7 true ∷ []
+messageRows m l (M.Advertise x) = when 7 true ∷ []
+messageRows m l (M.Request x) = when 7 true ∷ []
+messageRows m l (M.Flood x) = floodTable m l (x .d) (x .validate) (x .entry)
+messageRows m l (M.Inquire x) = inquireRefusals (ownKeys (l .own)) (length (l .cpa)) (length (l .output)) (l .datagram) (x .validate)
+messageRows m l (M.Authority x) = authorityRefusals (placesOf (m .waiting)) (l .verdict) (keyAt 0 (l .key)) (x .acked) (R.isHere (x .fields .cpa))
+messageRows m l (M.Ack x) = ackRefusals (placesOf (m .waiting)) (x .acked)
+messageRows m l (M.Lookup x) = lookupRefusals (l .own) (heldOf (ownKeys (l .own)) (m .cache)) (length (l .output)) (l .datagram) (x .target)
 
 abbrev pub receiveTable : Memory → Receive → List Refusal
 receiveTable m l =
     when 1 (not (tablesFit (l .own) m))
     ∷ when 1 (not (handsFit m l))
-    ∷ (refusals (l .datagram) (l .major) ++ messageRows m l (R.answer (l .datagram) (l .major)))
+    ∷ (refusals (l .datagram) (l .major) ++ messageRows m l (R.readIn (l .datagram) (l .major)))
 
 abbrev pub tableOf : Memory → Call → List Refusal
 tableOf m (receives l) = receiveTable m l

@@ -1,5 +1,5 @@
--- Laws of the ways from a datagram to what is told of it: an answer of a type's reader that is no message of the type is a refusal; what is read is what the
--- type's reader gives; and what is told is part of the brief. Assumes nothing.
+-- Laws of the ways from a datagram to what is told of it: an answer of a type's reader that is no message of the type is a refusal; what is read is
+-- what the type's reader gives; and what is told is part of the brief. Assumes nothing.
 use Prim.Native.Nat.{ℕ}
 use mathlib.Core.Path.{_≡_, refl, ap, subst, _∙_}
 use mathlib.Core.Bool.{Bool, true, false, not, cond}
@@ -16,30 +16,30 @@ use Rattle.wire_fields.specs.Reading.{fieldsAs}
 use Rattle.wire_fields.specs.Refusals.{Found, refused, found, foundOf, foundIn, inPart}
 use Rattle.wire_fields.proofs.RefusalLaws.{gated, byType}
 use Rattle.wire_fields.specs.declared.Part.{Part}
-use Rattle.wire_read.specs.Answers.{answer, shown}
-use Rattle.wire_read.specs.declared.Answer.{Answer}
-use Rattle.wire_read.specs.declared.Answer.the-variants.{Refused, Solicit, Advertise, Request, Flood, Inquire, Authority, Ack, Lookup}
-use Rattle.wire_read.proofs.Answer.{the-type}
+use Rattle.wire_read.specs.Answers.{readIn, incomingOf}
+use Rattle.wire_read.specs.declared.Incoming.{Incoming}
+use Rattle.wire_read.specs.declared.Incoming.the-variants as M
+use Rattle.wire_read.proofs.Incoming.{the-type}
 use Rattle.look.specs.Seen.{lookOf, briefed, briefOf, readAs, authorityRead}
 use Rattle.look.specs.declared.Look.{Look}
 
 -- an answer's variant is none of the keys, if it is a message of the type
-module _ (d : List ℕ) (t k : ℕ) (keys : List ℕ) (tagged : (ps : List Part) → tagOf the-type (shown d (found t ps)) ≡ k) (other : T (not (hasKey keys k)))
-    (a : Answer) where
-  else-by : (o : Option (List Part)) → a ≡ shown d (foundOf t o) → OneOf keys (tagOf the-type a) → a ≡ Refused 6
-  unfolding shown
+module _ (d : List ℕ) (t k : ℕ) (keys : List ℕ) (tagged : (ps : List Part) → tagOf the-type (incomingOf d (found t ps)) ≡ k)
+    (other : T (not (hasKey keys k))) (a : Incoming) where
+  else-by : (o : Option (List Part)) → a ≡ incomingOf d (foundOf t o) → OneOf keys (tagOf the-type a) → a ≡ M.Refused 6
+  unfolding incomingOf
   else-by none e h = e
   else-by (some ps) e h = absurd (miss keys k other (subst (OneOf keys) (ap (tagOf the-type) e ∙ tagged ps) h))
 
-  pub else-refused : (ks : List Kind) → a ≡ readAs t ks d → OneOf keys (tagOf the-type a) → a ≡ Refused 6
+  pub else-refused : (ks : List Kind) → a ≡ readAs t ks d → OneOf keys (tagOf the-type a) → a ≡ M.Refused 6
   else-refused ks e h = else-by (fieldsAs t ks d) e h
 
 -- an AUTHORITY's answer is a refusal or an AUTHORITY
-module _ (d : List ℕ) (a : Answer) (keys others : List ℕ) (tagged : (ps : List Part) → tagOf the-type (shown d (found 8 ps)) ≡ 6)
-    (refuses : (n : ℕ) → tagOf the-type (Refused n) ≡ 0) (no-message : T (not (hasKey keys 6))) (no-refusal : T (not (hasKey others 0))) where
-  neither-by : (b : Bool) (o : Option (List Part)) → a ≡ shown d (cond b (refused 7) (foundOf 8 o)) → OneOf keys (tagOf the-type a)
+module _ (d : List ℕ) (a : Incoming) (keys others : List ℕ) (tagged : (ps : List Part) → tagOf the-type (incomingOf d (found 8 ps)) ≡ 6)
+    (refuses : (n : ℕ) → tagOf the-type (M.Refused n) ≡ 0) (no-message : T (not (hasKey keys 6))) (no-refusal : T (not (hasKey others 0))) where
+  neither-by : (b : Bool) (o : Option (List Part)) → a ≡ incomingOf d (cond b (refused 7) (foundOf 8 o)) → OneOf keys (tagOf the-type a)
       → OneOf others (tagOf the-type a) → ⊥
-  unfolding shown
+  unfolding incomingOf
   neither-by true o e h g = miss others 0 no-refusal (subst (OneOf others) (ap (tagOf the-type) e ∙ refuses 7) g)
   neither-by false none e h g = miss others 0 no-refusal (subst (OneOf others) (ap (tagOf the-type) e ∙ refuses 6) g)
   neither-by false (some ps) e h g = miss keys 6 no-message (subst (OneOf keys) (ap (tagOf the-type) e ∙ tagged ps) h)
@@ -53,27 +53,27 @@ module _ (d : List ℕ) (major t : ℕ) (ks : List Kind) (e : foundIn d major �
   typed : foundIn d major ≡ gated t d (foundOf t (fieldsAs t ks d))
   typed = e ∙ ap (λ (n : ℕ). byType n d (kindsOf n)) q ∙ ap (byType t d) k
 
-  pub read-as : inPart t d ≡ false → answer d major ≡ readAs t ks d
-  read-as n = ap (shown d) (typed ∙ ap (λ (b : Bool). cond b (refused 7) (foundOf t (fieldsAs t ks d))) n)
+  pub read-as : inPart t d ≡ false → readIn d major ≡ readAs t ks d
+  read-as n = ap (incomingOf d) (typed ∙ ap (λ (b : Bool). cond b (refused 7) (foundOf t (fieldsAs t ks d))) n)
 
 pub read-authority : (d : List ℕ) (major : ℕ) → foundIn d major ≡ byType (getD d 7 0) d (kindsOf (getD d 7 0)) → getD d 7 0 ≡ 8
-    → answer d major ≡ authorityRead d
+    → readIn d major ≡ authorityRead d
 unfolding kindsOf
-read-authority d major e q = ap (shown d) (typed d major 8 authorityKinds e q refl)
+read-authority d major e q = ap (incomingOf d) (typed d major 8 authorityKinds e q refl)
 
 -- a brief by what is told
 pub brief-by : {s r : Look} {v : ℕ} {f : Bool} → s ≡ r → briefed s v f ≡ briefed r v f
 brief-by {v = v} {f = f} e = ap (λ (x : Look). briefed x v f) e
 
 -- the brief has what is told
-pub brief-seen : (a : Answer) → briefOf a .seen ≡ lookOf a
+pub brief-seen : (a : Incoming) → briefOf a .seen ≡ lookOf a
 unfolding briefOf
-brief-seen (Refused n) = refl
-brief-seen (Solicit head entry nonce) = refl
-brief-seen (Advertise head acked keys nonce) = refl
-brief-seen (Request head flags split nonce keys credential signature key) = refl
-brief-seen (Flood head d validate token revoke entry reached) = refl
-brief-seen (Inquire head a x c validate nonce credential signature key) = refl
-brief-seen (Authority head acked fields) = refl
-brief-seen (Ack head acked flags n) = refl
-brief-seen (Lookup head a precision criteria reason target validate entry path credential signature key) = refl
+brief-seen (M.Refused n) = refl
+brief-seen (M.Solicit m) = refl
+brief-seen (M.Advertise m) = refl
+brief-seen (M.Request m) = refl
+brief-seen (M.Flood m) = refl
+brief-seen (M.Inquire m) = refl
+brief-seen (M.Authority m) = refl
+brief-seen (M.Ack m) = refl
+brief-seen (M.Lookup m) = refl

@@ -24,10 +24,10 @@ use Rattle.wire_shapes.specs.declared.Shape.{Shape}
 use Rattle.wire_shapes.specs.declared.Shape.the-variants.{Sized}
 use Rattle.wire_fields.proofs.WholeLaws.{reads-found}
 use Rattle.wire_buffer.specs.Buffer.{startOf}
-use Rattle.wire_read.specs.Answers.{headOf, shown, answer}
+use Rattle.wire_read.specs.Answers.{headOf, incomingOf, readIn}
 use Rattle.wire_read.specs.Meaning.{numberOf}
-use Rattle.wire_read.specs.declared.Answer.{Answer}
-use Rattle.wire_read.specs.declared.Answer.the-variants as M
+use Rattle.wire_read.specs.declared.Incoming.{Incoming}
+use Rattle.wire_read.specs.declared.Incoming.the-variants as M
 use Rattle.wire.proofs.Theorems.{read-gives, read-accepts}
 use Rattle.look.specs.Seen.{sizeOf, seenAs, lookOf}
 use Rattle.look.specs.Means.{toldOf, numberShown, LookTells, LookSays, LookMeans}
@@ -90,7 +90,8 @@ module _ (d : List ℕ) (ks : List Kind) (fs : List Contents) (formed : Formed k
 
   at-fixed : (i n : ℕ) → Plain ks i → Fixed ks i n → LookTells d (getD fs i none) (getD ps i Absent) (startOf (getD ps i Absent)) n
   at-fixed i n p x =
-      subst (λ (l : ℕ). LookTells d (getD fs i none) (getD ps i Absent) (startOf (getD ps i Absent)) l) (fixed-at ks 12 fs formed i n x) (at-place i p)
+      subst (λ (l : ℕ). LookTells d (getD fs i none) (getD ps i Absent) (startOf (getD ps i Absent)) l) (fixed-at ks 12 fs formed i n x)
+      (at-place i p)
 
   at-number : (i : ℕ) → Plain ks i → Fixed ks i 4 → numberAt (startOf (getD ps i Absent)) 4 d ≡ numberShown (getD fs i none)
   at-number i p x = number-of d (getD fs i none) (getD ps i Absent) (startOf (getD ps i Absent)) (at-fixed i 4 p x)
@@ -111,10 +112,10 @@ module _ (d : List ℕ) where
   abbrev Right : ℕ → List Kind → Type 0
   Right t ks =
       (major minor : ℕ) (fs : List Contents) → Formed ks fs → valuesOf ks d (partsOf 12 ks fs) ≡ fs
-      → LookSays d ks (messageWith major minor t (numberAt 8 4 d) fs) (lookOf (shown d (found t (partsOf 12 ks fs))))
+      → LookSays d ks (messageWith major minor t (numberAt 8 4 d) fs) (lookOf (incomingOf d (found t (partsOf 12 ks fs))))
 
   solicit : Right 1 K.solicitKinds
-  unfolding toldOf lookOf shown headOf
+  unfolding toldOf lookOf incomingOf headOf
   solicit major minor fs f e =
       record {
         type = refl;
@@ -127,7 +128,7 @@ module _ (d : List ℕ) where
       }
 
   advertise : Right 2 K.advertiseKinds
-  unfolding toldOf lookOf shown headOf
+  unfolding toldOf lookOf incomingOf headOf
   advertise major minor fs f e =
       record {
         type = refl;
@@ -140,7 +141,7 @@ module _ (d : List ℕ) where
       }
 
   request : Right 3 K.requestKinds
-  unfolding toldOf lookOf shown headOf
+  unfolding toldOf lookOf incomingOf headOf
   request major minor fs f e =
       record {
         type = refl;
@@ -153,7 +154,7 @@ module _ (d : List ℕ) where
       }
 
   flood : Right 4 K.floodKinds
-  unfolding toldOf lookOf shown headOf
+  unfolding toldOf lookOf incomingOf headOf
   flood major minor fs f e =
       record {
         type = refl;
@@ -166,7 +167,7 @@ module _ (d : List ℕ) where
       }
 
   inquire : Right 7 K.inquireKinds
-  unfolding toldOf lookOf shown headOf
+  unfolding toldOf lookOf incomingOf headOf
   inquire major minor fs f e =
       record {
         type = refl;
@@ -179,7 +180,7 @@ module _ (d : List ℕ) where
       }
 
   authority : Right 8 K.authorityKinds
-  unfolding toldOf lookOf shown headOf
+  unfolding toldOf lookOf incomingOf headOf
   authority major minor fs f e =
       record {
         type = refl;
@@ -192,7 +193,7 @@ module _ (d : List ℕ) where
       }
 
   acks : Right 9 K.ackKinds
-  unfolding toldOf lookOf shown headOf
+  unfolding toldOf lookOf incomingOf headOf
   acks major minor fs f e =
       record {
         type = refl;
@@ -205,7 +206,7 @@ module _ (d : List ℕ) where
       }
 
   lookup : Right 11 K.lookupKinds
-  unfolding toldOf lookOf shown headOf
+  unfolding toldOf lookOf incomingOf headOf
   lookup major minor fs f e =
       record {
         type = refl;
@@ -238,49 +239,49 @@ module _ (d : List ℕ) where
 
 -- ---- and the number
 
-look-number : (a : Answer) → lookOf a .number ≡ numberOf a
+look-number : (a : Incoming) → lookOf a .number ≡ numberOf a
 unfolding lookOf
 look-number (M.Refused n) = refl
-look-number (M.Solicit head entry nonce) = refl
-look-number (M.Advertise head acked keys nonce) = refl
-look-number (M.Request head flags split nonce keys credential signature key) = refl
-look-number (M.Flood head d validate token revoke entry reached) = refl
-look-number (M.Inquire head a x c validate nonce credential signature key) = refl
-look-number (M.Authority head acked fields) = refl
-look-number (M.Ack head acked flags n) = refl
-look-number (M.Lookup head a precision criteria reason target validate entry path credential signature key) = refl
+look-number (M.Solicit m) = refl
+look-number (M.Advertise m) = refl
+look-number (M.Request m) = refl
+look-number (M.Flood m) = refl
+look-number (M.Inquire m) = refl
+look-number (M.Authority m) = refl
+look-number (M.Ack m) = refl
+look-number (M.Lookup m) = refl
 
-look-refused : (a : Answer) → ¬ (lookOf a .number ≡ 0) → lookOf a ≡ seenAs (lookOf a .number) 0 0 0 Absent Absent Absent Absent
+look-refused : (a : Incoming) → ¬ (lookOf a .number ≡ 0) → lookOf a ≡ seenAs (lookOf a .number) 0 0 0 Absent Absent Absent Absent
 unfolding lookOf
 look-refused (M.Refused n) h = refl
-look-refused (M.Solicit head entry nonce) h = absurd (h refl)
-look-refused (M.Advertise head acked keys nonce) h = absurd (h refl)
-look-refused (M.Request head flags split nonce keys credential signature key) h = absurd (h refl)
-look-refused (M.Flood head d validate token revoke entry reached) h = absurd (h refl)
-look-refused (M.Inquire head a x c validate nonce credential signature key) h = absurd (h refl)
-look-refused (M.Authority head acked fields) h = absurd (h refl)
-look-refused (M.Ack head acked flags n) h = absurd (h refl)
-look-refused (M.Lookup head a precision criteria reason target validate entry path credential signature key) h = absurd (h refl)
+look-refused (M.Solicit m) h = absurd (h refl)
+look-refused (M.Advertise m) h = absurd (h refl)
+look-refused (M.Request m) h = absurd (h refl)
+look-refused (M.Flood m) h = absurd (h refl)
+look-refused (M.Inquire m) h = absurd (h refl)
+look-refused (M.Authority m) h = absurd (h refl)
+look-refused (M.Ack m) h = absurd (h refl)
+look-refused (M.Lookup m) h = absurd (h refl)
 
 pub look-means : LookMeans
 look-means d b major =
     record {
       reads = (
         λ z.
-            let w = read-accepts d b major .0 (sym (look-number (answer d major)) ∙ z) in
+            let w = read-accepts d b major .0 (sym (look-number (readIn d major)) ∙ z) in
             let r = read-gives d b major (w .0) .0 (w .1) in
             (r .0, w .0, r .1, r .2),
-        λ w. look-number (answer d major) ∙ read-accepts d b major .1 (w .1, read-gives d b major (w .1) .1 (w .0, w .2, w .3)),
+        λ w. look-number (readIn d major) ∙ read-accepts d b major .1 (w .1, read-gives d b major (w .1) .1 (w .0, w .2, w .3)),
       );
       says = λ ks msg r v.
           let f = reads-found ks d msg r in
           let fields : valuesOf ks d (partsOf 12 ks (msg .fields)) ≡ msg .fields = ap (λ (m : Message). m .fields) (f .1) in
           let id : numberAt 8 4 d ≡ msg .id = ap (λ (m : Message). m .id) (f .1) in
-          let is : answer d major ≡ shown d (found (msg .type) (partsOf 12 ks (msg .fields))) =
-          ap (λ (n : ℕ). answer d n) (sym v) ∙ ap (shown d) (f .0) in
-          subst (λ (a : Answer). LookSays d ks msg (lookOf a)) (sym is)
+          let is : readIn d major ≡ incomingOf d (found (msg .type) (partsOf 12 ks (msg .fields))) =
+          ap (λ (n : ℕ). readIn d n) (sym v) ∙ ap (incomingOf d) (f .0) in
+          subst (λ (a : Incoming). LookSays d ks msg (lookOf a)) (sym is)
           (subst (λ (i : ℕ). LookSays d ks (messageWith (msg .major) (msg .minor) (msg .type) i (msg .fields))
-          (lookOf (shown d (found (msg .type) (partsOf 12 ks (msg .fields)))))) id
+          (lookOf (incomingOf d (found (msg .type) (partsOf 12 ks (msg .fields)))))) id
           (by-type d (msg .type) ks (r .well .known) (msg .major) (msg .minor) (msg .fields) (r .well .formed) fields));
-      refused = look-refused (answer d major);
+      refused = look-refused (readIn d major);
     }

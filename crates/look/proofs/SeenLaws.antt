@@ -15,8 +15,8 @@ use Rattle.wire_fields.specs.declared.Part.the-variants.{Here, Absent}
 use Rattle.wire_shapes.specs.declared.Shape.the-variants.{Sized}
 use Rattle.wire_read.specs.Answers as R
 use Rattle.wire_buffer.specs.Buffer.{startOf}
-use Rattle.wire_read.specs.Answers.{answer}
-use Rattle.wire_read.specs.declared.Answer.{Answer}
+use Rattle.wire_read.specs.Answers.{readIn}
+use Rattle.wire_read.specs.declared.Incoming.{Incoming}
 use Rattle.wire.proofs.StandLaws.{Fact, Stand, after, sized-length}
 use Rattle.wire.proofs.ShownLaws.{of-each}
 use Rattle.look.specs.Seen.{sizeOf, seenAs, lookOf}
@@ -58,7 +58,7 @@ Told n r =
     (r .cpa + r .«cpa_length» ≤ n) × (r .nonce + r .«nonce_length» ≤ n) × (r .entry + r .«entry_length» ≤ n) × (r .target + r .«target_length» ≤ n)
 
 module _ (d : List ℕ) (n : ℕ) (within : length d ≤ 1232 → length d ≤ n) where
-  abbrev Tells : Answer → Type 0
+  abbrev Tells : Incoming → Type 0
   Tells a = Told n (lookOf a)
 
   module _ (h : length d ≤ n) where
@@ -115,7 +115,7 @@ module _ (d : List ℕ) (n : ℕ) (within : length d ≤ 1232 → length d ≤ n
   zeros : (m : ℕ) → Told n (seenAs m 0 0 0 Absent Absent Absent Absent)
   zeros m = (omega arith, omega arith, omega arith, omega arith)
 
-  told : (major : ℕ) → Tells (answer d major)
+  told : (major : ℕ) → Tells (readIn d major)
   unfolding lookOf
   told major =
       of-each Tells d zeros
@@ -132,8 +132,8 @@ module _ (d : List ℕ) (n : ℕ) (within : length d ≤ 1232 → length d ≤ n
       major
 
 -- every field told stands within the datagram
-pub look-within : (d : List ℕ) (major : ℕ) → Told (length d) (lookOf (answer d major))
+pub look-within : (d : List ℕ) (major : ℕ) → Told (length d) (lookOf (readIn d major))
 look-within d major = told d (length d) (λ h. omega arith) major
 
-pub look-small : (d : List ℕ) (major : ℕ) → Told 1232 (lookOf (answer d major))
+pub look-small : (d : List ℕ) (major : ℕ) → Told 1232 (lookOf (readIn d major))
 look-small d major = told d 1232 (λ h. h) major

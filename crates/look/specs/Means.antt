@@ -15,7 +15,7 @@ use Rattle.wire_shapes.specs.Shapes.{Kind}
 use Rattle.wire_fields.specs.Message.{Contents, Message, Reads, partsOf}
 use Rattle.wire_fields.specs.declared.Part.{Part}
 use Rattle.wire_fields.specs.declared.Part.the-variants.{Here, Absent}
-use Rattle.wire_read.specs.Answers.{answer}
+use Rattle.wire_read.specs.Answers.{readIn}
 use Rattle.look.specs.declared.Look.{Look}
 use Rattle.look.specs.Seen.{seenAs, lookOf}
 
@@ -83,4 +83,4 @@ pub record Means (d : List ℕ) (major : ℕ) (l : Look) : Type 0 where
   pub refused : ¬ (l .number ≡ 0) → l ≡ seenAs (l .number) 0 0 0 Absent Absent Absent Absent
 
 abbrev pub LookMeans : Type 0
-LookMeans = (d : List ℕ) → Bytes d → (major : ℕ) → Means d major (lookOf (answer d major))
+LookMeans = (d : List ℕ) → Bytes d → (major : ℕ) → Means d major (lookOf (readIn d major))

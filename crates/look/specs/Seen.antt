@@ -7,14 +7,14 @@ use mathlib.Core.Bool.{Bool, false}
 use Rattle.wire_fields.specs.declared.Part.{Part}
 use Rattle.wire_fields.specs.declared.Part.the-variants.{Here, Absent}
 use Rattle.wire_buffer.specs.Buffer.{startOf}
-use Rattle.wire_read.specs.declared.Answer.{Answer}
-use Rattle.wire_read.specs.declared.Answer.the-variants.{Refused, Solicit, Advertise, Request, Flood, Inquire, Authority, Ack, Lookup}
+use Rattle.wire_read.specs.declared.Incoming.{Incoming}
+use Rattle.wire_read.specs.declared.Incoming.the-variants as M
 use Rattle.wire_shapes.specs.Shapes.{Kind}
 use Rattle.wire_fields.specs.Kinds.{authorityKinds}
 use Rattle.wire_fields.specs.Reading.{fieldsAs}
 use Rattle.wire_fields.specs.Refusals.{foundOf}
 use Rattle.wire_fields.proofs.RefusalLaws.{gated}
-use Rattle.wire_read.specs.Answers.{isHere, shown}
+use Rattle.wire_read.specs.Answers.{isHere, incomingOf}
 use Rattle.look.specs.declared.Look.{Look}
 use Rattle.look.specs.declared.Brief.{Brief}
 
@@ -42,42 +42,38 @@ seenAs number kind id acked cpa nonce entry target =
     }
 
 -- a hashed nonce has 20 bytes, a REQUEST's nonce 16, a key 32
-unfoldable pub lookOf : Answer → Look
-lookOf (Refused n) = seenAs n 0 0 0 Absent Absent Absent Absent
-lookOf (Solicit head entry nonce) = seenAs 0 1 (head .id) 0 Absent (Here nonce 20) entry Absent
-lookOf (Advertise head acked keys nonce) = seenAs 0 2 (head .id) acked Absent (Here nonce 20) Absent Absent
-lookOf (Request head flags split nonce keys credential signature key) = seenAs 0 3 (head .id) 0 Absent (Here nonce 16) Absent Absent
-lookOf (Flood head d validate token revoke entry reached) = seenAs 0 4 (head .id) 0 revoke Absent entry Absent
-lookOf (Inquire head a x c validate nonce credential signature key) = seenAs 0 7 (head .id) 0 Absent nonce Absent Absent
-lookOf (Authority head acked fields) = seenAs 0 8 (head .id) acked (fields .cpa) Absent (fields .entry) Absent
-lookOf (Ack head acked flags n) = seenAs 0 9 (head .id) acked Absent Absent Absent Absent
-lookOf (Lookup head a precision criteria reason target validate entry path credential signature key) =
-    seenAs 0 11 (head .id) 0 Absent Absent entry (Here target 32)
+unfoldable pub lookOf : Incoming → Look
+lookOf (M.Refused n) = seenAs n 0 0 0 Absent Absent Absent Absent
+lookOf (M.Solicit m) = seenAs 0 1 (m .head .id) 0 Absent (Here (m .nonce) 20) (m .entry) Absent
+lookOf (M.Advertise m) = seenAs 0 2 (m .head .id) (m .acked) Absent (Here (m .nonce) 20) Absent Absent
+lookOf (M.Request m) = seenAs 0 3 (m .head .id) 0 Absent (Here (m .nonce) 16) Absent Absent
+lookOf (M.Flood m) = seenAs 0 4 (m .head .id) 0 (m .revoke) Absent (m .entry) Absent
+lookOf (M.Inquire m) = seenAs 0 7 (m .head .id) 0 Absent (m .nonce) Absent Absent
+lookOf (M.Authority m) = seenAs 0 8 (m .head .id) (m .acked) (m .fields .cpa) Absent (m .fields .entry) Absent
+lookOf (M.Ack m) = seenAs 0 9 (m .head .id) (m .acked) Absent Absent Absent Absent
+lookOf (M.Lookup m) = seenAs 0 11 (m .head .id) 0 Absent Absent (m .entry) (Here (m .target) 32)
 
 -- what calls want of a message besides: a validate key's place, and a flag
 abbrev pub briefed : Look → ℕ → Bool → Brief
 briefed seen validate flag = record { seen = seen; validate = validate; flag = flag }
 
-unfoldable pub briefOf : Answer → Brief
-briefOf (Refused n) = briefed (lookOf (Refused n)) 0 false
-briefOf (Solicit head entry nonce) = briefed (lookOf (Solicit head entry nonce)) 0 false
-briefOf (Advertise head acked keys nonce) = briefed (lookOf (Advertise head acked keys nonce)) 0 false
-briefOf (Request head flags split nonce keys credential signature key) =
-    briefed (lookOf (Request head flags split nonce keys credential signature key)) 0 false
-briefOf (Flood head d validate token revoke entry reached) = briefed (lookOf (Flood head d validate token revoke entry reached)) validate d
-briefOf (Inquire head a x c validate nonce credential signature key) =
-    briefed (lookOf (Inquire head a x c validate nonce credential signature key)) validate false
-briefOf (Authority head acked fields) = briefed (lookOf (Authority head acked fields)) 0 (isHere (fields .cpa))
-briefOf (Ack head acked flags n) = briefed (lookOf (Ack head acked flags n)) 0 n
-briefOf (Lookup head a precision criteria reason target validate entry path credential signature key) =
-    briefed (lookOf (Lookup head a precision criteria reason target validate entry path credential signature key)) 0 false
+unfoldable pub briefOf : Incoming → Brief
+briefOf (M.Refused n) = briefed (lookOf (M.Refused n)) 0 false
+briefOf (M.Solicit m) = briefed (lookOf (M.Solicit m)) 0 false
+briefOf (M.Advertise m) = briefed (lookOf (M.Advertise m)) 0 false
+briefOf (M.Request m) = briefed (lookOf (M.Request m)) 0 false
+briefOf (M.Flood m) = briefed (lookOf (M.Flood m)) (m .validate) (m .d)
+briefOf (M.Inquire m) = briefed (lookOf (M.Inquire m)) (m .validate) false
+briefOf (M.Authority m) = briefed (lookOf (M.Authority m)) 0 (isHere (m .fields .cpa))
+briefOf (M.Ack m) = briefed (lookOf (M.Ack m)) 0 (m .n)
+briefOf (M.Lookup m) = briefed (lookOf (M.Lookup m)) 0 false
 
 -- what the reader of a type gives, and that of an AUTHORITY
-abbrev pub readAs : ℕ → List Kind → List ℕ → Answer
-readAs t ks d = shown d (foundOf t (fieldsAs t ks d))
+abbrev pub readAs : ℕ → List Kind → List ℕ → Incoming
+readAs t ks d = incomingOf d (foundOf t (fieldsAs t ks d))
 
-abbrev pub authorityRead : List ℕ → Answer
-authorityRead d = shown d (gated 8 d (foundOf 8 (fieldsAs 8 authorityKinds d)))
+abbrev pub authorityRead : List ℕ → Incoming
+authorityRead d = incomingOf d (gated 8 d (foundOf 8 (fieldsAs 8 authorityKinds d)))
 
 -- the four fields told stand within 1,232 bytes
 abbrev pub Small : Look → Type 0

@@ -5,11 +5,11 @@ ghost use Prim.Native.Nat.{_+_, _≤_};
 ghost use lib.ListN.{length};
 ghost use Rattle.wire_fields.specs.Kinds.{solicitKinds, advertiseKinds, requestKinds, floodKinds, inquireKinds, ackKinds, lookupKinds};
 ghost use Rattle.wire_buffer.specs.Buffer.{startOf};
-ghost use Rattle.wire_read.specs.Answers.{isHere, answer};
-ghost use Rattle.wire_read.specs.declared.Answer.the-variants.{Refused};
+ghost use Rattle.wire_read.specs.Answers.{isHere, readIn};
+ghost use Rattle.wire_read.specs.declared.Incoming.the-variants.{Refused};
 ghost use Rattle.look.specs.Seen.{sizeOf, seenAs, lookOf, briefOf, readAs, authorityRead, Small};
 use wire_fields::Part;
-use wire_read::Answer;
+use wire_read::Incoming;
 
 // Document 01's number of reading; type, message ID and acked ID; place and length of the CPA or revoke CPA, of the
 // nonce, of the route entry and of the target key, 0 and 0 for one not there.
@@ -121,10 +121,20 @@ fn brief_solicit(datagram: &[u8]) -> Brief
 {
     let none = Part::Absent;
     let message = wire_read::read_solicit(datagram);
-    let Answer::Solicit { head, entry, nonce } = message else {
+    let Incoming::Solicit(m) = message else {
         return refused(6);
     };
-    let seen = seen_as(0, 1, head.id, 0, none, Part::Here(nonce, 20), entry, none);
+    let entry = m.entry;
+    let seen = seen_as(
+        0,
+        1,
+        m.head.id,
+        0,
+        none,
+        Part::Here(m.nonce, 20),
+        entry,
+        none,
+    );
     Brief {
         seen,
         validate: 0,
@@ -138,22 +148,16 @@ fn brief_advertise(datagram: &[u8]) -> Brief
 {
     let none = Part::Absent;
     let message = wire_read::read_advertise(datagram);
-    let Answer::Advertise {
-        head,
-        acked,
-        keys: _,
-        nonce,
-    } = message
-    else {
+    let Incoming::Advertise(m) = message else {
         return refused(6);
     };
     let seen = seen_as(
         0,
         2,
-        head.id,
-        acked,
+        m.head.id,
+        m.acked,
         none,
-        Part::Here(nonce, 20),
+        Part::Here(m.nonce, 20),
         none,
         none,
     );
@@ -170,20 +174,19 @@ fn brief_request(datagram: &[u8]) -> Brief
 {
     let none = Part::Absent;
     let message = wire_read::read_request(datagram);
-    let Answer::Request {
-        head,
-        flags: _,
-        split: _,
-        nonce,
-        keys: _,
-        credential: _,
-        signature: _,
-        key: _,
-    } = message
-    else {
+    let Incoming::Request(m) = message else {
         return refused(6);
     };
-    let seen = seen_as(0, 3, head.id, 0, none, Part::Here(nonce, 16), none, none);
+    let seen = seen_as(
+        0,
+        3,
+        m.head.id,
+        0,
+        none,
+        Part::Here(m.nonce, 16),
+        none,
+        none,
+    );
     Brief {
         seen,
         validate: 0,
@@ -197,23 +200,16 @@ fn brief_flood(datagram: &[u8]) -> Brief
 {
     let none = Part::Absent;
     let message = wire_read::read_flood(datagram);
-    let Answer::Flood {
-        head,
-        d,
-        validate,
-        token: _,
-        revoke,
-        entry,
-        reached: _,
-    } = message
-    else {
+    let Incoming::Flood(m) = message else {
         return refused(6);
     };
-    let seen = seen_as(0, 4, head.id, 0, revoke, none, entry, none);
+    let revoke = m.revoke;
+    let entry = m.entry;
+    let seen = seen_as(0, 4, m.head.id, 0, revoke, none, entry, none);
     Brief {
         seen,
-        validate,
-        flag: d,
+        validate: m.validate,
+        flag: m.d,
     }
 }
 
@@ -223,24 +219,14 @@ fn brief_inquire(datagram: &[u8]) -> Brief
 {
     let none = Part::Absent;
     let message = wire_read::read_inquire(datagram);
-    let Answer::Inquire {
-        head,
-        a: _,
-        x: _,
-        c: _,
-        validate,
-        nonce,
-        credential: _,
-        signature: _,
-        key: _,
-    } = message
-    else {
+    let Incoming::Inquire(m) = message else {
         return refused(6);
     };
-    let seen = seen_as(0, 7, head.id, 0, none, nonce, none, none);
+    let nonce = m.nonce;
+    let seen = seen_as(0, 7, m.head.id, 0, none, nonce, none, none);
     Brief {
         seen,
-        validate,
+        validate: m.validate,
         flag: false,
     }
 }
@@ -251,20 +237,16 @@ fn brief_authority(datagram: &[u8]) -> Brief
 {
     let none = Part::Absent;
     let message = wire_read::read_authority(datagram);
-    let Answer::Authority {
-        head,
-        acked,
-        fields,
-    } = message
-    else {
-        let Answer::Refused(number) = message else {
+    let Incoming::Authority(m) = message else {
+        let Incoming::Refused(number) = message else {
             return refused(6);
         };
         return refused(number);
     };
+    let fields = m.fields;
     let cpa = fields.cpa;
     let entry = fields.entry;
-    let seen = seen_as(0, 8, head.id, acked, cpa, none, entry, none);
+    let seen = seen_as(0, 8, m.head.id, m.acked, cpa, none, entry, none);
     Brief {
         seen,
         validate: 0,
@@ -278,20 +260,14 @@ fn brief_ack(datagram: &[u8]) -> Brief
 {
     let none = Part::Absent;
     let message = wire_read::read_ack(datagram);
-    let Answer::Ack {
-        head,
-        acked,
-        flags: _,
-        n,
-    } = message
-    else {
+    let Incoming::Ack(m) = message else {
         return refused(6);
     };
-    let seen = seen_as(0, 9, head.id, acked, none, none, none, none);
+    let seen = seen_as(0, 9, m.head.id, m.acked, none, none, none, none);
     Brief {
         seen,
         validate: 0,
-        flag: n,
+        flag: m.n,
     }
 }
 
@@ -301,24 +277,20 @@ fn brief_lookup(datagram: &[u8]) -> Brief
 {
     let none = Part::Absent;
     let message = wire_read::read_lookup(datagram);
-    let Answer::Lookup {
-        head,
-        a: _,
-        precision: _,
-        criteria: _,
-        reason: _,
-        target,
-        validate: _,
-        entry,
-        path: _,
-        credential: _,
-        signature: _,
-        key: _,
-    } = message
-    else {
+    let Incoming::Lookup(m) = message else {
         return refused(6);
     };
-    let seen = seen_as(0, 11, head.id, 0, none, none, entry, Part::Here(target, 32));
+    let entry = m.entry;
+    let seen = seen_as(
+        0,
+        11,
+        m.head.id,
+        0,
+        none,
+        none,
+        entry,
+        Part::Here(m.target, 32),
+    );
     Brief {
         seen,
         validate: 0,
@@ -329,7 +301,7 @@ fn brief_lookup(datagram: &[u8]) -> Brief
 // What the datagram's message is, for a gauge of the major version. Each message has its own way from its bytes to what is
 // told of it, so that the compiler keeps what was read where it is and writes down no answer in between.
 pub fn brief_at(major: u8, datagram: &[u8]) -> Brief
-    ensures { λ r. ⌜ r ≡ briefOf (answer (now (datagram .entry)) major) ⌝ }
+    ensures { λ r. ⌜ r ≡ briefOf (readIn (now (datagram .entry)) major) ⌝ }
 {
     let number = wire_read::header(datagram, major);
     if number != 0 {
@@ -369,7 +341,7 @@ pub fn brief_at(major: u8, datagram: &[u8]) -> Brief
 
 // What the radio program is told of it.
 pub fn look_at(major: u8, datagram: &[u8]) -> Look
-    ensures { λ r. ⌜ r ≡ lookOf (answer (now (datagram .entry)) major) ⌝ }
+    ensures { λ r. ⌜ r ≡ lookOf (readIn (now (datagram .entry)) major) ⌝ }
 {
     let told = brief_at(major, datagram);
     told.seen

@@ -12,9 +12,9 @@ use Rattle.wire_fields.specs.Kinds.{must, may, lastOfTwoAndOne, flagsAXC, keepL
 use Rattle.wire_fields.specs.declared.Part.{Part}
 use Rattle.wire_fields.specs.declared.Part.the-variants.{Here, Absent}
 use Rattle.wire_shapes.specs.declared.Shape.the-variants.{Sized, Any, Entry, Lookup}
-use Rattle.wire_read.specs.Answers.{answer, floodShown, inquireShown, lookupShown}
-use Rattle.wire_read.specs.declared.Answer as T
-use Rattle.wire_read.specs.declared.Answer.the-variants as M
+use Rattle.wire_read.specs.Answers.{readIn, floodShown, inquireShown, lookupShown}
+use Rattle.wire_read.specs.declared.Incoming as T
+use Rattle.wire_read.specs.declared.Incoming.the-variants as M
 use Rattle.wire.proofs.StandLaws.{Fact, Stand, needed, maybed, sized-length}
 use Rattle.wire.proofs.ShownLaws.{of-each}
 
@@ -24,16 +24,16 @@ abbrev pub EntryIn : List ℕ → Part → Type 0
 EntryIn d (Here s l) = (s + l ≤ length d) × (entryForm (part s l d) ≡ true)
 EntryIn d Absent = Unit {0}
 
-abbrev pub KnownAnswer : List ℕ → T.Answer → Type 0
+abbrev pub KnownAnswer : List ℕ → T.Incoming → Type 0
 KnownAnswer d (M.Refused n) = Unit {0}
-KnownAnswer d (M.Solicit head entry nonce) = Unit {0}
-KnownAnswer d (M.Advertise head acked keys nonce) = Unit {0}
-KnownAnswer d (M.Request head flags split nonce keys credential signature key) = Unit {0}
-KnownAnswer d (M.Flood head silent validate token revoke entry reached) = (validate + 32 ≤ length d) × EntryIn d entry
-KnownAnswer d (M.Inquire head a x c validate nonce credential signature key) = validate + 32 ≤ length d
-KnownAnswer d (M.Authority head acked fields) = Unit {0}
-KnownAnswer d (M.Ack head acked flags n) = Unit {0}
-KnownAnswer d (M.Lookup head a precision criteria reason target validate entry path credential signature key) = target + 32 ≤ length d
+KnownAnswer d (M.Solicit x) = Unit {0}
+KnownAnswer d (M.Advertise x) = Unit {0}
+KnownAnswer d (M.Request x) = Unit {0}
+KnownAnswer d (M.Flood x) = (x .validate + 32 ≤ length d) × EntryIn d (x .entry)
+KnownAnswer d (M.Inquire x) = x .validate + 32 ≤ length d
+KnownAnswer d (M.Authority x) = Unit {0}
+KnownAnswer d (M.Ack x) = Unit {0}
+KnownAnswer d (M.Lookup x) = x .target + 32 ≤ length d
 
 -- ---- of the three types with places that a plan looks at
 
@@ -78,7 +78,7 @@ lookup-known d ps w =
 
 -- ---- of each answer
 
-pub known-answer : (d : List ℕ) (major : ℕ) → KnownAnswer d (answer d major)
+pub known-answer : (d : List ℕ) (major : ℕ) → KnownAnswer d (readIn d major)
 known-answer d major =
     of-each (KnownAnswer d) d (λ n. tt)
     (λ h. record {

@@ -28,8 +28,8 @@ use Rattle.wire_fields.specs.declared.Part.{Part}
 use Rattle.wire_fields.specs.declared.Part.the-variants.{Here, Absent}
 use Rattle.wire_read.specs.Answers as R
 use Rattle.wire_read.specs.declared.Head.{Head}
-use Rattle.wire_read.specs.declared.Answer as T
-use Rattle.wire_read.specs.declared.Answer.the-variants as M
+use Rattle.wire_read.specs.declared.Incoming as T
+use Rattle.wire_read.specs.declared.Incoming.the-variants as M
 use Rattle.gauge_plan.specs.Lent.{Memory, Receive}
 use Rattle.gauge_plan.specs.Memory.{memoryOf, handsFit}
 use Rattle.plan_flood.specs.Rooms.{ackRoom}
@@ -71,7 +71,7 @@ module _ (m : Memory) (l : Receive) where
   plan-by e = hands e (memoryOf (l .own) m)
 
   module _ {h u : ℕ} (fit : memoryOf (l .own) m ≡ Fit h u) where
-    pub plan-message : handsFit m l ≡ true → receivePlan m l ≡ planFor m l h u (R.answer (l .datagram) (l .major))
+    pub plan-message : handsFit m l ≡ true → receivePlan m l ≡ planFor m l h u (R.readIn (l .datagram) (l .major))
     unfolding receivePlan orRefuse
     plan-message e = rw (fit, e) refl
 
@@ -81,21 +81,6 @@ pub message-needs : (own : List ℕ) (m : Memory) {h u : ℕ} → memoryOf own m
 message-needs own m fit =
     let r = subst (memory.KnownMemory own m) fit (memory.known-memory own m) in
     (r .owned, r .form, r .laid .room)
-
--- a FLOOD's plan, by whether it has a route entry
-module _ (m : Memory) (l : Receive) (h u : ℕ) {a : T.Answer} {head : Head} {s : Bool} {validate : ℕ} {token revoke entry reached : Part}
-    (is : a ≡ M.Flood head s validate token revoke entry reached) where
-  pub flood-plan : {start len : ℕ} → entry ≡ Here start len
-      → planFor m l h u a
-      ≡ floodPlan (keyOf (l .own)) (rows 100 h (m .cache)) (rows 140 u (m .waiting)) u (l .id) (length (l .output)) (l .datagram) s
-      (head .id) validate start len
-  unfolding planFor
-  flood-plan e = ap (planFor m l h u) is ∙ ap (byEntry m l h u head s validate) e
-
-  pub revoke-plan : entry ≡ Absent
-      → planFor m l h u a ≡ revokePlan (keyOf (l .own)) h u (l .verdict) (keyAt 0 (l .key)) (length (l .output)) (l .datagram) s (head .id) validate
-  unfolding planFor
-  revoke-plan e = ap (planFor m l h u) is ∙ ap (byEntry m l h u head s validate) e
 
 -- ---- what is known of a plan
 
@@ -238,26 +223,26 @@ module _ (m : Memory) (l : Receive) (h u : ℕ) (ready : memory.Ready (l .own) m
   entry-known head s validate (Here start len) w = flood-known s (head .id) validate start len (w .0) (w .1)
   entry-known head s validate Absent w = revoke-known s (head .id) validate
 
-  message-known : (a : T.Answer) → KnownAnswer (l .datagram) a → Known m l (planFor m l h u a)
+  message-known : (a : T.Incoming) → KnownAnswer (l .datagram) a → Known m l (planFor m l h u a)
   unfolding planFor
   message-known (M.Refused n) w = tt
-  message-known (M.Solicit head entry nonce) w = tt
-  message-known (M.Advertise head acked keys nonce) w = tt
-  message-known (M.Request head flags split nonce keys credential signature key) w = tt
-  message-known (M.Flood head s validate token revoke entry reached) w = entry-known head s validate entry (w .1)
-  message-known (M.Inquire head a x c validate nonce credential signature key) w = inquire-known (head .id) validate
-  message-known (M.Authority head acked fields) w = authority-known acked (R.isHere (fields .cpa))
-  message-known (M.Ack head acked flags n) w = ack-known acked n
-  message-known (M.Lookup head a precision criteria reason target validate entry path credential signature key) w = lookup-known (head .id) target w
+  message-known (M.Solicit x) w = tt
+  message-known (M.Advertise x) w = tt
+  message-known (M.Request x) w = tt
+  message-known (M.Flood x) w = entry-known (x .head) (x .d) (x .validate) (x .entry) (w .1)
+  message-known (M.Inquire x) w = inquire-known (x .head .id) (x .validate)
+  message-known (M.Authority x) w = authority-known (x .acked) (R.isHere (x .fields .cpa))
+  message-known (M.Ack x) w = ack-known (x .acked) (x .n)
+  message-known (M.Lookup x) w = lookup-known (x .head .id) (x .target) w
 
 memory-known : (m : Memory) (l : Receive) (f : Fitness) → memory.KnownMemory (l .own) m f → Known m l (planIn m l f)
 memory-known m l Unfit w = tt
 memory-known m l (Fit h u) w =
     let fit = handsFit m l in
-    or-known (Known m l) Refuse (when 1 (not fit) ∷ []) (planFor m l h u (R.answer (l .datagram) (l .major)))
+    or-known (Known m l) Refuse (when 1 (not fit) ∷ []) (planFor m l h u (R.readIn (l .datagram) (l .major)))
     (λ i. tt)
     (λ f. message-known m l h u w (memory.known-hands m l (not-false fit (f .0)))
-    (R.answer (l .datagram) (l .major)) (known-answer (l .datagram) (l .major)))
+    (R.readIn (l .datagram) (l .major)) (known-answer (l .datagram) (l .major)))
 
 pub known : (m : Memory) (l : Receive) → Known m l (receivePlan m l)
 unfolding receivePlan

@@ -12,8 +12,8 @@ use Rattle.wire_fields.specs.declared.Part.{Part}
 use Rattle.wire_fields.specs.declared.Part.the-variants.{Here, Absent}
 use Rattle.wire_read.specs.Answers as R
 use Rattle.wire_read.specs.declared.Head.{Head}
-use Rattle.wire_read.specs.declared.Answer as T
-use Rattle.wire_read.specs.declared.Answer.the-variants as M
+use Rattle.wire_read.specs.declared.Incoming as T
+use Rattle.wire_read.specs.declared.Incoming.the-variants as M
 use Rattle.gauge_plan.specs.declared.Plan.{Plan}
 use Rattle.gauge_plan.specs.declared.Plan.the-variants.{Refuse}
 use Rattle.gauge_plan.specs.Lent.{Memory, Receive}
@@ -31,28 +31,26 @@ byEntry m l held used head d validate (Here start len) =
 byEntry m l held used head d validate Absent =
     revokePlan (ownKeys (l .own)) held used (l .verdict) (keyAt 0 (l .key)) (length (l .output)) (l .datagram) d (head .id) validate
 
-unfoldable pub planFor : Memory → Receive → ℕ → ℕ → T.Answer → Plan
+unfoldable pub planFor : Memory → Receive → ℕ → ℕ → T.Incoming → Plan
 planFor m l held used (M.Refused n) = Refuse n
-planFor m l held used (M.Solicit head entry nonce) = Refuse 7
-planFor m l held used (M.Advertise head acked keys nonce) = Refuse 7
-planFor m l held used (M.Request head flags split nonce keys credential signature key) = Refuse 7
-planFor m l held used (M.Flood head d validate token revoke entry reached) = byEntry m l held used head d validate entry
-planFor m l held used (M.Inquire head a x c validate nonce credential signature key) =
-    inquirePlan (ownKeys (l .own)) (length (l .cpa)) (length (l .output)) (l .datagram) (head .id) validate
-planFor m l held used (M.Authority head acked fields) =
-    authorityPlan (rows 140 used (m .waiting)) held used (l .verdict) (keyAt 0 (l .key)) acked (R.isHere (fields .cpa))
-planFor m l held used (M.Ack head acked flags n) = ackPlan (rows 140 used (m .waiting)) held used acked n
-planFor m l held used (M.Lookup head a precision criteria reason target validate entry path credential signature key) =
-    lookupPlan (l .own) (rows 100 held (m .cache)) held (length (l .output)) (l .datagram) (head .id) target
+planFor m l held used (M.Solicit x) = Refuse 7
+planFor m l held used (M.Advertise x) = Refuse 7
+planFor m l held used (M.Request x) = Refuse 7
+planFor m l held used (M.Flood x) = byEntry m l held used (x .head) (x .d) (x .validate) (x .entry)
+planFor m l held used (M.Inquire x) = inquirePlan (ownKeys (l .own)) (length (l .cpa)) (length (l .output)) (l .datagram) (x .head .id) (x .validate)
+planFor m l held used (M.Authority x) =
+    authorityPlan (rows 140 used (m .waiting)) held used (l .verdict) (keyAt 0 (l .key)) (x .acked) (R.isHere (x .fields .cpa))
+planFor m l held used (M.Ack x) = ackPlan (rows 140 used (m .waiting)) held used (x .acked) (x .n)
+planFor m l held used (M.Lookup x) = lookupPlan (l .own) (rows 100 held (m .cache)) held (length (l .output)) (l .datagram) (x .head .id) (x .target)
 
 -- where what is handed in with it is as it should be
 abbrev pub planBy : Memory → Receive → Fitness → Plan
 planBy m l Unfit = Refuse 1
-planBy m l (Fit held used) = planFor m l held used (R.answer (l .datagram) (l .major))
+planBy m l (Fit held used) = planFor m l held used (R.readIn (l .datagram) (l .major))
 
 abbrev pub planIn : Memory → Receive → Fitness → Plan
 planIn m l Unfit = Refuse 1
-planIn m l (Fit held used) = orRefuse Refuse (when 1 (not (handsFit m l)) ∷ []) (planFor m l held used (R.answer (l .datagram) (l .major)))
+planIn m l (Fit held used) = orRefuse Refuse (when 1 (not (handsFit m l)) ∷ []) (planFor m l held used (R.readIn (l .datagram) (l .major)))
 
 unfoldable pub receivePlan : Memory → Receive → Plan
 receivePlan m l = planIn m l (memoryOf (l .own) m)

@@ -6,7 +6,7 @@ ghost use lib.ListN.{length};
 ghost use Rattle.record.specs.Record.{keyOf, recordForm};
 ghost use Rattle.table.specs.Rows.{rows};
 ghost use Rattle.cache.specs.Form.{Form};
-ghost use Rattle.wire_read.specs.Answers.{answer};
+ghost use Rattle.wire_read.specs.Answers.{readIn};
 ghost use Rattle.gauge_plan.specs.Lent.{Memory, withTables, Receive, planning};
 ghost use Rattle.gauge_plan.specs.Memory.{memoryOf};
 ghost use Rattle.plan_message.specs.Planned.{planFor, planBy};
@@ -35,7 +35,7 @@ fn plan_message<'a>(
     ensures { λ r. ⌜ ((m : Memory) (l : Receive) → r
         ≡ planFor (withTables (now (cache .entry)) (now (waiting .entry)) m)
         (planning (now (own .entry)) (now (cpa .entry)) major id verdict (now (key .entry)) (now (datagram .entry))
-        (now (output .entry)) l) held used (answer (now (datagram .entry)) major)) ⌝ }
+        (now (output .entry)) l) held used (readIn (now (datagram .entry)) major)) ⌝ }
 {
     let room = output.len();
     let told = look::brief_at(major, datagram);

@@ -27,7 +27,7 @@ use Rattle.wire_fields.specs.Kinds as kinds
 use Rattle.wire_fields.specs.Reading.{spanAt, needAt, maybeAt, placesAt, fieldsAs, wholeIn}
 use Rattle.wire_fields.specs.Refusals.{inPart, foundIn}
 use Rattle.wire_buffer.specs.Buffer.{flagAt}
-use Rattle.wire_read.specs.Answers.{headOf, precisionAt, shown}
+use Rattle.wire_read.specs.Answers.{headOf, precisionAt, incomingOf}
 use Rattle.wire_write.specs.Making.{ackMade, floodMade, inquireMade, cpaMade, closestMade}
 use Rattle.gauge_plan.specs.Memory.{tablesFit, memoryOf, handsFit, tickFit}
 use Rattle.asking.specs.Asking.{mustAsk}
@@ -46,6 +46,6 @@ unfolding valueBE valueLE digitsBE digitsLE splice same allZero distance ring ha
     follows leading heldIn heldOf cacheForm keyBytes closestFrom closestOf listCall
     newPlace placeForm anyOf placesForm usedIn usedOf waitingForm seek opened freed ticked listed idBytes tickDone
     arrayForm lookupForm splitForm hasShape kinds.kindsOf kinds.joinedFields kinds.sized spanAt needAt maybeAt placesAt fieldsAs wholeIn inPart foundIn
-    flagAt headOf precisionAt shown ackMade floodMade inquireMade cpaMade closestMade
+    flagAt headOf precisionAt incomingOf ackMade floodMade inquireMade cpaMade closestMade
     tablesFit memoryOf handsFit tickFit mustAsk floodPlan revokePlan authorityPlan lookupPlan planFor receivePlan carried receiveCall gaugeTick gaugeList
 computed = tt

@@ -24,10 +24,12 @@ use Rattle.wire_fields.proofs.HeadLaws.{number-small}
 use Rattle.wire_buffer.specs.Buffer.{startOf}
 use Rattle.wire_read.specs.Answers as R
 use Rattle.wire_read.specs.Meaning.{bit, numberOf, messageOf}
-use Rattle.wire_read.specs.declared.Answer as T
-use Rattle.wire_read.specs.declared.Answer.the-variants as M
+use Rattle.wire_read.specs.declared.Incoming as T
+use Rattle.wire_read.specs.declared.Incoming.the-variants as M
+use Rattle.wire_read.specs.declared.messages.Flood as F
+use Rattle.wire_read.specs.declared.messages.Ack as A
 use Rattle.wire.proofs.StandLaws.{Stand, needed, sized-length}
-use Rattle.wire.proofs.ShownLaws.{of-each}
+use Rattle.wire.proofs.ShownLaws.{of-each, withEntry}
 use Rattle.wire.proofs.Theorems.{at-most-one, read-gives, read-accepts}
 use Rattle.plan_message.proofs.AnswerLaws.{KnownAnswer, known-answer}
 use Rattle.sentences.specs.Heard.{Heard, entry, revoke, inquire, authority, ack, lookup, other, heard, Hears}
@@ -39,32 +41,32 @@ abbrev pub saidBy : List ℕ → ℕ → Bool → ℕ → Part → Heard
 saidBy d id s validate (Here start len) = entry id s (keyAt validate d) (recordOf (part start len d))
 saidBy d id s validate Absent = revoke id s (keyAt validate d)
 
-abbrev pub heardBy : List ℕ → T.Answer → Heard
+abbrev pub heardBy : List ℕ → T.Incoming → Heard
 heardBy d (M.Refused n) = other
-heardBy d (M.Solicit head route nonce) = other
-heardBy d (M.Advertise head acked keys nonce) = other
-heardBy d (M.Request head flags split nonce keys credential signature key) = other
-heardBy d (M.Flood head s validate token revokes route reached) = saidBy d (head .id) s validate route
-heardBy d (M.Inquire head a x c validate nonce credential signature key) = inquire (head .id) (keyAt validate d)
-heardBy d (M.Authority head acked fields) = authority acked (R.isHere (fields .cpa))
-heardBy d (M.Ack head acked flags n) = ack acked n
-heardBy d (M.Lookup head a precision criteria reason target validate route path credential signature key) = lookup (head .id) (keyAt target d)
+heardBy d (M.Solicit x) = other
+heardBy d (M.Advertise x) = other
+heardBy d (M.Request x) = other
+heardBy d (M.Flood x) = saidBy d (x .head .id) (x .d) (x .validate) (x .entry)
+heardBy d (M.Inquire x) = inquire (x .head .id) (keyAt (x .validate) d)
+heardBy d (M.Authority x) = authority (x .acked) (R.isHere (x .fields .cpa))
+heardBy d (M.Ack x) = ack (x .acked) (x .n)
+heardBy d (M.Lookup x) = lookup (x .head .id) (keyAt (x .target) d)
 
 -- ---- an acked ID has 32 bits, and N is clear where the flags are absent
 
-abbrev Acked : T.Answer → Type 0
+abbrev Acked : T.Incoming → Type 0
 Acked (M.Refused n) = Unit {0}
-Acked (M.Solicit head route nonce) = Unit {0}
-Acked (M.Advertise head acked keys nonce) = Unit {0}
-Acked (M.Request head flags split nonce keys credential signature key) = Unit {0}
-Acked (M.Flood head s validate token revokes route reached) = Unit {0}
-Acked (M.Inquire head a x c validate nonce credential signature key) = Unit {0}
-Acked (M.Authority head acked fields) = acked < 256 ^ 4
-Acked (M.Ack head acked flags n) = (acked < 256 ^ 4) × (flags ≡ false → n ≡ false)
-Acked (M.Lookup head a precision criteria reason target validate route path credential signature key) = Unit {0}
+Acked (M.Solicit x) = Unit {0}
+Acked (M.Advertise x) = Unit {0}
+Acked (M.Request x) = Unit {0}
+Acked (M.Flood x) = Unit {0}
+Acked (M.Inquire x) = Unit {0}
+Acked (M.Authority x) = x .acked < 256 ^ 4
+Acked (M.Ack x) = (x .acked < 256 ^ 4) × (x .flags ≡ false → x .n ≡ false)
+Acked (M.Lookup x) = Unit {0}
 
-flag-absent : (d : List ℕ) (p : Part) → R.isHere p ≡ false → R.flagIn d p 1 1 ≡ false
-unfolding R.flagIn
+flag-absent : (d : List ℕ) (p : Part) → R.isHere p ≡ false → R.partFlag d p 1 1 ≡ false
+unfolding R.partFlag
 flag-absent d (Here s l) e = let z : _≡_ {A = ℕ} 0 1 = cc in absurd (omega arith)
 flag-absent d Absent e = refl
 
@@ -83,7 +85,7 @@ module _ (d : List ℕ) (b : Bytes d) where
         flag-absent d (getD ps 1 Absent),
       )
 
-  answer-acked : (major : ℕ) → Acked (R.answer d major)
+  answer-acked : (major : ℕ) → Acked (R.readIn d major)
   answer-acked major =
       of-each Acked d (λ n. tt)
       (λ h. record {
@@ -112,28 +114,38 @@ here-present d (Here s l) = refl
 here-present d Absent = refl
 
 module _ (major : ℕ) (d : List ℕ) (msg : Message) where
-  heard-is : (a : T.Answer) → Acked a → messageOf major d a ≡ some msg → heard msg ≡ heardBy d a
+  heard-flood : (x : F.Flood) (p : Part) → messageOf major d (M.Flood (withEntry x p)) ≡ some msg → heard msg ≡ heardBy d (M.Flood (withEntry x p))
+  unfolding messageOf heard
+  heard-flood x (Here start len) e =
+      sym (ap heard (inj e)) ∙ ap (λ (b : Bool). entry (x .head .id) b (keyAt (x .validate) d) (recordOf (part start len d))) (flag-of (x .d))
+  heard-flood x Absent e = sym (ap heard (inj e)) ∙ ap (λ (b : Bool). revoke (x .head .id) b (keyAt (x .validate) d)) (flag-of (x .d))
+
+  abbrev withFlags : A.Ack → Bool → A.Ack
+  withFlags x flags = record { head = x .head; acked = x .acked; flags = flags; n = x .n }
+
+  heard-ack : (x : A.Ack) (flags : Bool) → Acked (M.Ack (withFlags x flags)) → messageOf major d (M.Ack (withFlags x flags)) ≡ some msg
+      → heard msg ≡ heardBy d (M.Ack x)
+  unfolding messageOf heard
+  heard-ack x true k e = sym (ap heard (inj e)) ∙ ap₂ ack (valueBE-digitsBE 256 4 (x .acked) (omega arith) (k .0)) (flag-of (x .n))
+  heard-ack x false k e = sym (ap heard (inj e)) ∙ ap₂ ack (valueBE-digitsBE 256 4 (x .acked) (omega arith) (k .0)) (sym (k .1 refl))
+
+  heard-is : (a : T.Incoming) → Acked a → messageOf major d a ≡ some msg → heard msg ≡ heardBy d a
   unfolding messageOf heard
   heard-is (M.Refused n) k e = let z : _≡_ {A = ℕ} 0 1 = cc in absurd (omega arith)
-  heard-is (M.Solicit head route nonce) k e = sym (ap heard (inj e))
-  heard-is (M.Advertise head acked keys nonce) k e = sym (ap heard (inj e))
-  heard-is (M.Request head flags split nonce keys credential signature key) k e = sym (ap heard (inj e))
-  heard-is (M.Flood head s validate token revokes (Here start len) reached) k e =
-      sym (ap heard (inj e)) ∙ ap (λ (b : Bool). entry (head .id) b (keyAt validate d) (recordOf (part start len d))) (flag-of s)
-  heard-is (M.Flood head s validate token revokes Absent reached) k e =
-      sym (ap heard (inj e)) ∙ ap (λ (b : Bool). revoke (head .id) b (keyAt validate d)) (flag-of s)
-  heard-is (M.Inquire head a x c validate nonce credential signature key) k e = sym (ap heard (inj e))
-  heard-is (M.Authority head acked fields) k e =
-      sym (ap heard (inj e)) ∙ ap₂ authority (valueBE-digitsBE 256 4 acked (omega arith) k) (here-present d (fields .cpa))
-  heard-is (M.Ack head acked true n) k e = sym (ap heard (inj e)) ∙ ap₂ ack (valueBE-digitsBE 256 4 acked (omega arith) (k .0)) (flag-of n)
-  heard-is (M.Ack head acked false n) k e =
-      sym (ap heard (inj e)) ∙ ap₂ ack (valueBE-digitsBE 256 4 acked (omega arith) (k .0)) (sym (k .1 refl))
-  heard-is (M.Lookup head a precision criteria reason target validate route path credential signature key) k e = sym (ap heard (inj e))
+  heard-is (M.Solicit x) k e = sym (ap heard (inj e))
+  heard-is (M.Advertise x) k e = sym (ap heard (inj e))
+  heard-is (M.Request x) k e = sym (ap heard (inj e))
+  heard-is (M.Flood x) k e = heard-flood x (x .entry) e
+  heard-is (M.Inquire x) k e = sym (ap heard (inj e))
+  heard-is (M.Authority x) k e =
+      sym (ap heard (inj e)) ∙ ap₂ authority (valueBE-digitsBE 256 4 (x .acked) (omega arith) k) (here-present d (x .fields .cpa))
+  heard-is (M.Ack x) k e = heard-ack x (x .flags) k e
+  heard-is (M.Lookup x) k e = sym (ap heard (inj e))
 
 -- ---- so reading and hearing agree
 
 module _ (d : List ℕ) (b : Bytes d) (major : ℕ) where
-  pub answer-hears : numberOf (R.answer d major) ≡ 0 → Hears d major (heardBy d (R.answer d major))
+  pub answer-hears : numberOf (R.readIn d major) ≡ 0 → Hears d major (heardBy d (R.readIn d major))
   answer-hears z =
       let w = read-accepts d b major .0 z in
       let r = read-gives d b major (w .0) .0 (w .1) in
@@ -142,14 +154,14 @@ module _ (d : List ℕ) (b : Bytes d) (major : ℕ) where
         message = w .0;
         reads = r .1;
         version = r .2;
-        says = heard-is major d (w .0) (R.answer d major) (answer-acked d b major) (w .1);
+        says = heard-is major d (w .0) (R.readIn d major) (answer-acked d b major) (w .1);
       }
 
-  pub hears-answer : (x : Heard) → Hears d major x → (numberOf (R.answer d major) ≡ 0) × (x ≡ heardBy d (R.answer d major))
+  pub hears-answer : (x : Heard) → Hears d major x → (numberOf (R.readIn d major) ≡ 0) × (x ≡ heardBy d (R.readIn d major))
   hears-answer x h =
       let e = read-gives d b major (h .message) .1 (h .kinds, h .reads, h .version) in
       let z = read-accepts d b major .1 (h .message, e) in
-      (z, hears-one d major x (heardBy d (R.answer d major)) h (answer-hears z))
+      (z, hears-one d major x (heardBy d (R.readIn d major)) h (answer-hears z))
 
 -- ---- the record of a FLOOD is that of a route entry in the datagram
 
@@ -159,21 +171,24 @@ pub record EntryHeard (d r : List ℕ) : Type 0 where
   pub is : r ≡ recordOf (part start len d)
   pub formed : entryForm (part start len d) ≡ true
 
-entry-of : (d : List ℕ) (i : ℕ) (s : Bool) (v : ℕ) (r : List ℕ) (a : T.Answer) → KnownAnswer d a → entry i s v r ≡ heardBy d a → EntryHeard d r
-entry-of d i s v r (M.Refused n) k e = let z : _≡_ {A = ℕ} 0 1 = cc in absurd (omega arith)
-entry-of d i s v r (M.Solicit head route nonce) k e = let z : _≡_ {A = ℕ} 0 1 = cc in absurd (omega arith)
-entry-of d i s v r (M.Advertise head acked keys nonce) k e = let z : _≡_ {A = ℕ} 0 1 = cc in absurd (omega arith)
-entry-of d i s v r (M.Request head flags split nonce keys credential signature key) k e = let z : _≡_ {A = ℕ} 0 1 = cc in absurd (omega arith)
-entry-of d i s v r (M.Flood head silent validate token revokes (Here start len) reached) k e =
+flood-entry : (d : List ℕ) (i : ℕ) (s : Bool) (v : ℕ) (r : List ℕ) (x : F.Flood) (p : Part) → KnownAnswer d (M.Flood (withEntry x p))
+    → entry i s v r ≡ heardBy d (M.Flood (withEntry x p)) → EntryHeard d r
+flood-entry d i s v r x (Here start len) k e =
     let is : r ≡ recordOf (part start len d) = cc in
     record { start = start; len = len; is = is; formed = k .1 .1 }
-entry-of d i s v r (M.Flood head silent validate token revokes Absent reached) k e = let z : _≡_ {A = ℕ} 0 1 = cc in absurd (omega arith)
-entry-of d i s v r (M.Inquire head a x c validate nonce credential signature key) k e = let z : _≡_ {A = ℕ} 0 1 = cc in absurd (omega arith)
-entry-of d i s v r (M.Authority head acked fields) k e = let z : _≡_ {A = ℕ} 0 1 = cc in absurd (omega arith)
-entry-of d i s v r (M.Ack head acked flags n) k e = let z : _≡_ {A = ℕ} 0 1 = cc in absurd (omega arith)
-entry-of d i s v r (M.Lookup head a precision criteria reason target validate route path credential signature key) k e =
-    let z : _≡_ {A = ℕ} 0 1 = cc in absurd (omega arith)
+flood-entry d i s v r x Absent k e = let z : _≡_ {A = ℕ} 0 1 = cc in absurd (omega arith)
+
+entry-of : (d : List ℕ) (i : ℕ) (s : Bool) (v : ℕ) (r : List ℕ) (a : T.Incoming) → KnownAnswer d a → entry i s v r ≡ heardBy d a → EntryHeard d r
+entry-of d i s v r (M.Refused n) k e = let z : _≡_ {A = ℕ} 0 1 = cc in absurd (omega arith)
+entry-of d i s v r (M.Solicit x) k e = let z : _≡_ {A = ℕ} 0 1 = cc in absurd (omega arith)
+entry-of d i s v r (M.Advertise x) k e = let z : _≡_ {A = ℕ} 0 1 = cc in absurd (omega arith)
+entry-of d i s v r (M.Request x) k e = let z : _≡_ {A = ℕ} 0 1 = cc in absurd (omega arith)
+entry-of d i s v r (M.Flood x) k e = flood-entry d i s v r x (x .entry) k e
+entry-of d i s v r (M.Inquire x) k e = let z : _≡_ {A = ℕ} 0 1 = cc in absurd (omega arith)
+entry-of d i s v r (M.Authority x) k e = let z : _≡_ {A = ℕ} 0 1 = cc in absurd (omega arith)
+entry-of d i s v r (M.Ack x) k e = let z : _≡_ {A = ℕ} 0 1 = cc in absurd (omega arith)
+entry-of d i s v r (M.Lookup x) k e = let z : _≡_ {A = ℕ} 0 1 = cc in absurd (omega arith)
 
 pub entry-heard : (d : List ℕ) → Bytes d → (major i : ℕ) (s : Bool) (v : ℕ) (r : List ℕ) → Hears d major (entry i s v r) → EntryHeard d r
 entry-heard d b major i s v r h =
-    entry-of d i s v r (R.answer d major) (known-answer d major) (hears-answer d b major (entry i s v r) h .1)
+    entry-of d i s v r (R.readIn d major) (known-answer d major) (hears-answer d b major (entry i s v r) h .1)

@@ -19,8 +19,8 @@ use Rattle.wire_fields.specs.Message.{opening, typeOf}
 use Rattle.wire_fields.specs.Refusals as fields
 use Rattle.wire_fields.specs.Refusals.{inPart}
 use Rattle.wire_read.specs.Answers as R
-use Rattle.wire_read.specs.declared.Answer as T
-use Rattle.wire_read.specs.declared.Answer.the-variants as M
+use Rattle.wire_read.specs.declared.Incoming as T
+use Rattle.wire_read.specs.declared.Incoming.the-variants as M
 use Rattle.gauge_plan.specs.Memory.{tablesFit, handsFit}
 use Rattle.gauge_plan.proofs.MemoryLaws.{fit-lent, lent-tables, lent-hands}
 use Rattle.gauge_plan.specs.Lent.{Memory, Receive, ReceiveLent}
@@ -41,25 +41,24 @@ use Rattle.sentences.proofs.ReadLaws.{zero-fails, fails-message, rows-m
 
 module _ (m : Memory) (l : Receive) (n : ℕ) (low : First m l n) where
   -- any message
-  any-both : (a : T.Answer) → IsMessage a → KnownAnswer (l .datagram) a → Num.Says l (heardBy (l .datagram) a)
+  any-both : (a : T.Incoming) → IsMessage a → KnownAnswer (l .datagram) a → Num.Says l (heardBy (l .datagram) a)
       → Both m l n (heardBy (l .datagram) a) (messageRows m l a)
   any-both (M.Refused m) i w says = absurd i
-  any-both (M.Solicit head route nonce) i w says = seven-both m l n low
-  any-both (M.Advertise head acked keys nonce) i w says = seven-both m l n low
-  any-both (M.Request head flags split nonce keys credential signature key) i w says = seven-both m l n low
-  any-both (M.Flood head s validate token revokes route reached) i w says = flood-both m l n low (head .id) s validate route (w .1) says
-  any-both (M.Inquire head a x c validate nonce credential signature key) i w says = inquire-both m l n low (head .id) validate
-  any-both (M.Authority head acked fields) i w says = authority-both m l n low acked (R.isHere (fields .cpa)) says
-  any-both (M.Ack head acked flags y) i w says = ack-both m l n low acked y
-  any-both (M.Lookup head a precision criteria reason target validate route path credential signature key) i w says =
-      lookup-both m l n low (head .id) target
+  any-both (M.Solicit x) i w says = seven-both m l n low
+  any-both (M.Advertise x) i w says = seven-both m l n low
+  any-both (M.Request x) i w says = seven-both m l n low
+  any-both (M.Flood x) i w says = flood-both m l n low (x .head .id) (x .d) (x .validate) (x .entry) (w .1) says
+  any-both (M.Inquire x) i w says = inquire-both m l n low (x .head .id) (x .validate)
+  any-both (M.Authority x) i w says = authority-both m l n low (x .acked) (R.isHere (x .fields .cpa)) says
+  any-both (M.Ack x) i w says = ack-both m l n low (x .acked) (x .n)
+  any-both (M.Lookup x) i w says = lookup-both m l n low (x .head .id) (x .target)
 
 module _ (m : Memory) (l : Receive) (bytes : Bytes (l .datagram)) where
   abbrev d : List ℕ
   d = l .datagram
 
-  abbrev a : T.Answer
-  a = R.answer (l .datagram) (l .major)
+  abbrev a : T.Incoming
+  a = R.readIn (l .datagram) (l .major)
 
   abbrev rs : List Refusal
   rs = fields.refusals (l .datagram) (l .major)

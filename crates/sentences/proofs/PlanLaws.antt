@@ -61,12 +61,12 @@ module _ (m : Memory) (l : Receive) where
     pub fine : Fine
     fine = record { ready = receive-ready m l z; hands = known-hands m l (not-false _ (none-applies m (receives l) z .1 .0)) }
 
-    pub message-fails : AllFail (messageRows m l (R.answer (l .datagram) (l .major)))
+    pub message-fails : AllFail (messageRows m l (R.readIn (l .datagram) (l .major)))
     message-fails =
-        fails-behind (fields.refusals (l .datagram) (l .major)) (messageRows m l (R.answer (l .datagram) (l .major)))
+        fails-behind (fields.refusals (l .datagram) (l .major)) (messageRows m l (R.readIn (l .datagram) (l .major)))
         (none-applies m (receives l) z .1 .1)
 
-    pub plan-is : receivePlan m l ≡ planFor m l held used (R.answer (l .datagram) (l .major))
+    pub plan-is : receivePlan m l ≡ planFor m l held used (R.readIn (l .datagram) (l .major))
     unfolding memoryOf
     plan-is =
         let fit : tablesFit (l .own) m ≡ true = not-false _ (none-applies m (receives l) z .0) in
@@ -76,12 +76,12 @@ module _ (m : Memory) (l : Receive) where
     reads-it : fields.foundIn (l .datagram) (l .major) ≡ fields.found (typeOf (l .datagram)) (fields.spansOf (fields.fieldsIn (l .datagram)))
     unfolding fields.foundIn
     reads-it =
-        let behind = messageRows m l (R.answer (l .datagram) (l .major)) in
+        let behind = messageRows m l (R.readIn (l .datagram) (l .major)) in
         all-pass fields.refused (fields.refusals (l .datagram) (l .major)) _
         (fails-front (fields.refusals (l .datagram) (l .major)) behind (none-applies m (receives l) z .1 .1))
 
-    pub is-message : IsMessage (R.answer (l .datagram) (l .major))
-    is-message = subst (λ (x : fields.Found). IsMessage (R.shown (l .datagram) x)) (sym reads-it) (shown-message (l .datagram) _ _)
+    pub is-message : IsMessage (R.readIn (l .datagram) (l .major))
+    is-message = subst (λ (x : fields.Found). IsMessage (R.incomingOf (l .datagram) x)) (sym reads-it) (shown-message (l .datagram) _ _)
 
   module _ (ok : Fine) where
     pub table-form : W.PlacesForm (keyOf (l .own)) (m .waiting) (placesOf (m .waiting))

@@ -22,8 +22,8 @@ use Rattle.wire_fields.specs.Refusals as fields
 use Rattle.wire_fields.specs.Refusals.{inPart, fieldsIn}
 use Rattle.wire_read.specs.Answers as R
 use Rattle.wire_read.specs.Meaning.{numberOf}
-use Rattle.wire_read.specs.declared.Answer as T
-use Rattle.wire_read.specs.declared.Answer.the-variants as M
+use Rattle.wire_read.specs.declared.Incoming as T
+use Rattle.wire_read.specs.declared.Incoming.the-variants as M
 use Rattle.gauge_plan.specs.Lent.{Memory, Receive}
 use Rattle.gauge_laws.specs.Table.{messageRows}
 use Rattle.gauge_laws.proofs.TableLaws.{IsMessage, shown-message}
@@ -40,8 +40,8 @@ module _ (m : Memory) (l : Receive) where
   abbrev d : List ℕ
   d = l .datagram
 
-  abbrev a : T.Answer
-  a = R.answer (l .datagram) (l .major)
+  abbrev a : T.Incoming
+  a = R.readIn (l .datagram) (l .major)
 
   abbrev rs : List Refusal
   rs = fields.refusals (l .datagram) (l .major)
@@ -67,11 +67,11 @@ module _ (m : Memory) (l : Receive) where
 
   -- the number of reading is that of its rows
   read-number : numberOf a ≡ firstOf rs
-  unfolding fields.foundIn R.shown
+  unfolding fields.foundIn R.incomingOf
   read-number =
-      number-is (λ (f : fields.Found). numberOf (R.shown d f)) fields.refused (λ m. refl)
+      number-is (λ (f : fields.Found). numberOf (R.incomingOf d f)) fields.refused (λ m. refl)
       (fields.found (typeOf d) (fields.spansOf (fieldsIn d)))
-      (message-zero (R.shown d (fields.found (typeOf d) (fields.spansOf (fieldsIn d))))
+      (message-zero (R.incomingOf d (fields.found (typeOf d) (fields.spansOf (fieldsIn d))))
       (shown-message d (typeOf d) (fields.spansOf (fieldsIn d)))) rs
 
   fails-first : (ts : List Refusal) → AllFail ts → firstOf ts ≡ 0
@@ -88,20 +88,20 @@ module _ (m : Memory) (l : Receive) where
   pub fails-message : AllFail rs → IsMessage a
   unfolding fields.foundIn
   fails-message f =
-      subst (λ (y : fields.Found). IsMessage (R.shown d y))
+      subst (λ (y : fields.Found). IsMessage (R.incomingOf d y))
       (sym (all-pass fields.refused rs (fields.found (typeOf d) (fields.spansOf (fieldsIn d))) f))
       (shown-message d (typeOf d) (fields.spansOf (fieldsIn d)))
 
-  pub rows-message : (n : ℕ) (y : T.Answer) → Row n (messageRows m l y) → IsMessage y
+  pub rows-message : (n : ℕ) (y : T.Incoming) → Row n (messageRows m l y) → IsMessage y
   rows-message n (M.Refused m) w = w
-  rows-message n (M.Solicit head route nonce) w = tt
-  rows-message n (M.Advertise head acked keys nonce) w = tt
-  rows-message n (M.Request head flags split nonce keys credential signature key) w = tt
-  rows-message n (M.Flood head s validate token revokes route reached) w = tt
-  rows-message n (M.Inquire head b x c validate nonce credential signature key) w = tt
-  rows-message n (M.Authority head acked fields) w = tt
-  rows-message n (M.Ack head acked flags y) w = tt
-  rows-message n (M.Lookup head b precision criteria reason target validate route path credential signature key) w = tt
+  rows-message n (M.Solicit x) w = tt
+  rows-message n (M.Advertise x) w = tt
+  rows-message n (M.Request x) w = tt
+  rows-message n (M.Flood x) w = tt
+  rows-message n (M.Inquire x) w = tt
+  rows-message n (M.Authority x) w = tt
+  rows-message n (M.Ack x) w = tt
+  rows-message n (M.Lookup x) w = tt
 
   -- the tests of reading, in words
   abbrev Long : Type 0

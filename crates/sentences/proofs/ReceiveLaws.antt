@@ -4,8 +4,8 @@ use Rattle.octet.specs.Number.{Bytes}
 use Rattle.refusal.proofs.TableLaws.{AllFail, both}
 use Rattle.cache.specs.Form.{heldOf}
 use Rattle.wire_read.specs.Answers as R
-use Rattle.wire_read.specs.declared.Answer as T
-use Rattle.wire_read.specs.declared.Answer.the-variants as M
+use Rattle.wire_read.specs.declared.Incoming as T
+use Rattle.wire_read.specs.declared.Incoming.the-variants as M
 use Rattle.plan_answer.specs.Answering.{authorityPlan, ackPlan, inquirePlan, lookupPlan}
 use Rattle.gauge_plan.specs.Lent.{Memory, Receive}
 use Rattle.plan_message.specs.Planned.{planFor}
@@ -22,23 +22,22 @@ use Rattle.sentences.proofs.FloodDoesLaws.{flood-does}
 use Rattle.sentences.proofs.MessageDoesLaws.{authority-does, ack-does, inquire-does, lookup-does}
 
 module _ (m : Memory) (l : Receive) where
-  any-does : Fine m l → (a : T.Answer) → IsMessage a → KnownAnswer (l .datagram) a → AllFail (messageRows m l a)
+  any-does : Fine m l → (a : T.Incoming) → IsMessage a → KnownAnswer (l .datagram) a → AllFail (messageRows m l a)
       → Does m l (heardBy (l .datagram) a) (planFor m l (held m l) (used m l) a)
   unfolding planFor authorityPlan ackPlan inquirePlan lookupPlan heldOf
   any-does ok (M.Refused n) i w bars = absurd i
-  any-does ok (M.Solicit head route nonce) i w bars = both refl (bars .0)
-  any-does ok (M.Advertise head acked keys nonce) i w bars = both refl (bars .0)
-  any-does ok (M.Request head flags split nonce keys credential signature key) i w bars = both refl (bars .0)
-  any-does ok (M.Flood head s validate token revokes route reached) i w bars = flood-does m l ok head s validate route (w .1) bars
-  any-does ok (M.Inquire head a x c validate nonce credential signature key) i w bars = passed m l _ _ _ bars (inquire-does m l ok (head .id) validate)
-  any-does ok (M.Authority head acked fields) i w bars = passed m l _ _ _ bars (authority-does m l ok acked (R.isHere (fields .cpa)) (bars .0))
-  any-does ok (M.Ack head acked flags b) i w bars = passed m l _ _ _ bars (ack-does m l ok acked b (bars .0))
-  any-does ok (M.Lookup head a precision criteria reason target validate route path credential signature key) i w bars =
-      passed m l _ _ _ bars (lookup-does m l ok (head .id) target)
+  any-does ok (M.Solicit x) i w bars = both refl (bars .0)
+  any-does ok (M.Advertise x) i w bars = both refl (bars .0)
+  any-does ok (M.Request x) i w bars = both refl (bars .0)
+  any-does ok (M.Flood x) i w bars = flood-does m l ok (x .head) (x .d) (x .validate) (x .entry) (w .1) bars
+  any-does ok (M.Inquire x) i w bars = passed m l _ _ _ bars (inquire-does m l ok (x .head .id) (x .validate))
+  any-does ok (M.Authority x) i w bars = passed m l _ _ _ bars (authority-does m l ok (x .acked) (R.isHere (x .fields .cpa)) (bars .0))
+  any-does ok (M.Ack x) i w bars = passed m l _ _ _ bars (ack-does m l ok (x .acked) (x .n) (bars .0))
+  any-does ok (M.Lookup x) i w bars = passed m l _ _ _ bars (lookup-does m l ok (x .head .id) (x .target))
 
   pub receives-does : Bytes (l .datagram) → receiveCall m l .answer .number ≡ 0 → S.Receives m l (receiveCall m l)
   receives-does b z =
-      let a = R.answer (l .datagram) (l .major) in
+      let a = R.readIn (l .datagram) (l .major) in
       let i = is-message m l z in
       let d = any-does (fine m l z) a i (known-answer (l .datagram) (l .major)) (message-fails m l z)
       (answer-hears (l .datagram) b (l .major) (message-zero a i)) in

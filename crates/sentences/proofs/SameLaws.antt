@@ -43,15 +43,15 @@ use Rattle.sentences.proofs.PartLaws.{part-from}
 -- ---- what was heard was read: none of the numbers 2 to 7 applies
 
 module _ (l : Receive) where
-  read-number : numberOf (R.answer (l .datagram) (l .major)) ≡ firstOf (refusals (l .datagram) (l .major))
-  unfolding fields.foundIn R.shown
+  read-number : numberOf (R.readIn (l .datagram) (l .major)) ≡ firstOf (refusals (l .datagram) (l .major))
+  unfolding fields.foundIn R.incomingOf
   read-number =
       let d = l .datagram in
       let found = fields.found (typeOf d) (fields.spansOf (fieldsIn d)) in
-      number-is (λ (f : fields.Found). numberOf (R.shown d f)) fields.refused (λ m. refl) found
-      (message-zero (R.shown d found) (shown-message d (typeOf d) (fields.spansOf (fieldsIn d)))) (refusals d (l .major))
+      number-is (λ (f : fields.Found). numberOf (R.incomingOf d f)) fields.refused (λ m. refl) found
+      (message-zero (R.incomingOf d found) (shown-message d (typeOf d) (fields.spansOf (fieldsIn d)))) (refusals d (l .major))
 
-  zero-fails : numberOf (R.answer (l .datagram) (l .major)) ≡ 0 → AllFail (refusals (l .datagram) (l .major))
+  zero-fails : numberOf (R.readIn (l .datagram) (l .major)) ≡ 0 → AllFail (refusals (l .datagram) (l .major))
   zero-fails z = all-fail byNumber (refusals (l .datagram) (l .major)) 1 (omega arith) (sym read-number ∙ z)
 
 -- ---- from one datagram to the other

@@ -20,8 +20,8 @@ use Rattle.table.specs.Seek.{seek}
 use Rattle.waiting.specs.Seek.{isAt}
 use Rattle.table.specs.declared.Found.{Found}
 use Rattle.wire_read.specs.Meaning.{numberOf}
-use Rattle.wire_read.specs.declared.Answer as T
-use Rattle.wire_read.specs.declared.Answer.the-variants as M
+use Rattle.wire_read.specs.declared.Incoming as T
+use Rattle.wire_read.specs.declared.Incoming.the-variants as M
 use Rattle.asking.specs.Asking.{mustAsk}
 use Rattle.gauge_plan.specs.Found.{isNothing, placeOf}
 use Rattle.gauge_plan.specs.Lent.{Memory}
@@ -98,13 +98,13 @@ module _ (m : Memory) (kind acked : ℕ) where
 
 -- ---- a message was read
 
-pub message-zero : (a : T.Answer) → IsMessage a → numberOf a ≡ 0
+pub message-zero : (a : T.Incoming) → IsMessage a → numberOf a ≡ 0
 message-zero (M.Refused n) i = absurd i
-message-zero (M.Solicit head route nonce) i = refl
-message-zero (M.Advertise head acked keys nonce) i = refl
-message-zero (M.Request head flags split nonce keys credential signature key) i = refl
-message-zero (M.Flood head s validate token revokes route reached) i = refl
-message-zero (M.Inquire head a x c validate nonce credential signature key) i = refl
-message-zero (M.Authority head acked fields) i = refl
-message-zero (M.Ack head acked flags b) i = refl
-message-zero (M.Lookup head a precision criteria reason target validate route path credential signature key) i = refl
+message-zero (M.Solicit x) i = refl
+message-zero (M.Advertise x) i = refl
+message-zero (M.Request x) i = refl
+message-zero (M.Flood x) i = refl
+message-zero (M.Inquire x) i = refl
+message-zero (M.Authority x) i = refl
+message-zero (M.Ack x) i = refl
+message-zero (M.Lookup x) i = refl

@@ -148,7 +148,7 @@ module _ (m : Memory) (l : Receive) (es : List AnswerTold) (u : ℕ) (s n : Bool
     asks-told = inquires-is (l .major) (l .minor) (l .id) a (l .nonce) Entry (k .hands .nonced) entry-long s n opens
 
   -- the place that opens is that of the INQUIRE, and no other has its ID
-  opened-asked : (k : Flooded m l u s n a true start len) → Floods m l (R.answer (l .datagram) (l .major)) start len
+  opened-asked : (k : Flooded m l u s n a true start len) → Floods m l (R.readIn (l .datagram) (l .major)) start len
       → All (Asked es) (placesOf (m .waiting))
       → All (Asked (answerTold (receives l) (Given true) ∷ es))
       (placesOf (bytesOf 2240 (opened (inquiryPlace (idAfter (l .id)) Entry) (rows 140 u (m .waiting)))))
@@ -179,7 +179,7 @@ module _ (m : Memory) (l : Receive) (es : List AnswerTold) (u : ℕ) (s n : Bool
       ps (all-none (hasId i) ps new) (subst (All (Asked es)) is asked) in
       subst (All (Asked later)) (form-unique own (bytesOf 2240 (opened p ps)) (opened p ps) after) (all-opened (Asked later) p ps here others)
 
-  flood-asked : (opens : Bool) → Flooded m l u s n a opens start len → Floods m l (R.answer (l .datagram) (l .major)) start len
+  flood-asked : (opens : Bool) → Flooded m l u s n a opens start len → Floods m l (R.readIn (l .datagram) (l .major)) start len
       → All (Asked es) (placesOf (m .waiting))
       → All (Asked (answerTold (receives l) (Given opens) ∷ es)) (placesOf (carried m l (Flood u s n a opens start len) .memory .waiting))
   unfolding carried
@@ -192,11 +192,11 @@ module _ (m : Memory) (l : Receive) (es : List AnswerTold) (b : Holds (keyOf (l 
   OwnKey = keyOf (l .own)
 
   -- where nothing is answered, and nothing asked
-  last-still : (g : Answer) → ((fs : List AnswerTold) → answeredBy fs (R.answer (l .datagram) (l .major)) ≡ []) → (cache : List ℕ)
+  last-still : (g : Answer) → ((fs : List AnswerTold) → answeredBy fs (R.readIn (l .datagram) (l .major)) ≡ []) → (cache : List ℕ)
       → Every (Last (answered es)) (heldOf OwnKey cache) → Every (Last (answered (answerTold (receives l) g ∷ es))) (heldOf OwnKey cache)
   last-still g q cache a = subst (λ (rs : List (List ℕ)). Every (Last rs) (heldOf OwnKey cache)) (sym (answered-still m l g es q)) a
 
-  quiet-holds : (g : Answer) (m′ : Memory) → Quiet m l (R.answer (l .datagram) (l .major)) → All (Asked es) (placesOf (m′ .waiting))
+  quiet-holds : (g : Answer) (m′ : Memory) → Quiet m l (R.readIn (l .datagram) (l .major)) → All (Asked es) (placesOf (m′ .waiting))
       → Every (Last (answered es)) (heldOf OwnKey (m′ .cache)) → Holds OwnKey (answerTold (receives l) g ∷ es) m′
   quiet-holds g m′ q asked last = record {
     asked = asked-later es (answerTold (receives l) g ∷ es) (asked-still m l g es (q .asked)) (placesOf (m′ .waiting)) asked;
@@ -221,7 +221,7 @@ module _ (m : Memory) (l : Receive) (es : List AnswerTold) (b : Holds (keyOf (l 
     last-without : (k : ℕ) → Every (Last (answered es)) (heldOf OwnKey (bytesOf (length (m .cache)) (afterRemove k (rows 100 h (m .cache)))))
     last-without = last-removed OwnKey (m .cache) (rows 100 h (m .cache)) (ready .form) (answered es) last-rows
 
-  plan-holds : (p : Plan) → receivePlan m l ≡ p → Known m l p → Heard m l (R.answer (l .datagram) (l .major)) p
+  plan-holds : (p : Plan) → receivePlan m l ≡ p → Known m l p → Heard m l (R.readIn (l .datagram) (l .major)) p
       → Holds OwnKey (answerTold (receives l) (carried m l p .answer) ∷ es) (carried m l p .memory)
   unfolding carried
   plan-holds (Refuse n) e k q = absurd q

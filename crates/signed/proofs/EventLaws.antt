@@ -20,9 +20,10 @@ use Rattle.wire_fields.specs.Refusals as fields
 use Rattle.wire_fields.specs.declared.Part.{Part}
 use Rattle.wire_fields.specs.declared.Part.the-variants.{Here, Absent}
 use Rattle.wire_read.specs.Answers as R
-use Rattle.wire_read.specs.declared.Head.{Head}
-use Rattle.wire_read.specs.declared.Answer as T
-use Rattle.wire_read.specs.declared.Answer.the-variants as M
+use Rattle.wire_read.specs.declared.Incoming as T
+use Rattle.wire_read.specs.declared.Incoming.the-variants as M
+use Rattle.wire_read.specs.declared.messages.Flood as F
+use Rattle.wire.proofs.ShownLaws.{withEntry}
 use Rattle.gauge_plan.specs.Memory.{tablesFit, memoryOf, handsFit}
 use Rattle.plan_flood.specs.Flood.{floodPlan, revokePlan}
 use Rattle.gauge_plan.specs.Found.{placeOf}
@@ -41,13 +42,13 @@ use Rattle.sentences.proofs.HeardLaws.{heardBy}
 use Rattle.signed.specs.Events.{sentTo, removedIf, toldBy}
 
 -- an ACK: the flood that waits with the acked ID, and with N the key that it went to
-pub record Acked (m : Memory) (l : Receive) (a : T.Answer) (u at : ℕ) (n : Bool) : Type 0 where
+pub record Acked (m : Memory) (l : Receive) (a : T.Incoming) (u at : ℕ) (n : Bool) : Type 0 where
   pub acked : ℕ
   pub waiting : Waits acked 1 at (rows 140 u (m .waiting))
   pub told : (es : List Entry) → toldBy es (keyAt 0 (l .key)) (heardBy (l .datagram) a) ≡ cond n (removedIf (sentTo acked es)) []
 
 -- what a message tells, where a plan is made for it
-abbrev pub Told : Memory → Receive → T.Answer → Plan → Type 0
+abbrev pub Told : Memory → Receive → T.Incoming → Plan → Type 0
 Told m l a (Refuse n) = ⊥
 Told m l a (Flood u s n b o at size) = (es : List Entry) → toldBy es (keyAt 0 (l .key)) (heardBy (l .datagram) a) ≡ []
 Told m l a (Revoke h u s n b) = (es : List Entry) → toldBy es (keyAt 0 (l .key)) (heardBy (l .datagram) a) ≡ removed (keyAt 0 (l .key)) ∷ []
@@ -57,53 +58,53 @@ Told m l a (Certify b) = (es : List Entry) → toldBy es (keyAt 0 (l .key)) (hea
 Told m l a (Show h b at) = (es : List Entry) → toldBy es (keyAt 0 (l .key)) (heardBy (l .datagram) a) ≡ []
 
 -- where no row of a table applies, what stands behind it
-behind : (m : Memory) (l : Receive) (a : T.Answer) (rs : List Refusal) (done : Plan) → AllFail rs → Told m l a done → Told m l a (orRefuse Refuse rs done)
+behind : (m : Memory) (l : Receive) (a : T.Incoming) (rs : List Refusal) (done : Plan) → AllFail rs → Told m l a done → Told m l a (orRefuse Refuse rs done)
 behind m l a rs done f t = subst (Told m l a) (sym (all-pass Refuse rs done f)) t
 
 module _ (m : Memory) (l : Receive) where
-  told-flood : (head : Head) (s : Bool) (validate : ℕ) (token revoke entry reached : Part) → AllFail (floodTable m l s validate entry)
-      → Told m l (M.Flood head s validate token revoke entry reached)
-      (byEntry m l (heldIn (keyOf (l .own)) (m .cache)) (usedOf (m .waiting)) head s validate entry)
+  told-flood : (x : F.Flood) (p : Part) → AllFail (floodTable m l (x .d) (x .validate) p)
+      → Told m l (M.Flood (withEntry x p))
+      (byEntry m l (heldIn (keyOf (l .own)) (m .cache)) (usedOf (m .waiting)) (x .head) (x .d) (x .validate) p)
   unfolding floodPlan revokePlan heldOf
-  told-flood head s validate token revoke (Here start len) reached f = behind m l _ _ _ f (λ es. refl)
-  told-flood head s validate token revoke Absent reached f = behind m l _ _ _ f (λ es. refl)
+  told-flood x (Here start len) f = behind m l _ _ _ f (λ es. refl)
+  told-flood x Absent f = behind m l _ _ _ f (λ es. refl)
 
-  told-message : (a : T.Answer) → IsMessage a → AllFail (messageRows m l a)
+  told-message : (a : T.Incoming) → IsMessage a → AllFail (messageRows m l a)
       → Told m l a (planFor m l (heldIn (keyOf (l .own)) (m .cache)) (usedOf (m .waiting)) a)
   unfolding planFor authorityPlan ackPlan inquirePlan lookupPlan heldOf
   told-message (M.Refused n) w f = w
-  told-message (M.Solicit head entry nonce) w f = both refl (f .0)
-  told-message (M.Advertise head acked keys nonce) w f = both refl (f .0)
-  told-message (M.Request head flags split nonce keys credential signature key) w f = both refl (f .0)
-  told-message (M.Flood head s validate token revoke entry reached) w f = told-flood head s validate token revoke entry reached f
-  told-message (M.Inquire head a x c validate nonce credential signature key) w f = behind m l _ _ _ f (λ es. refl)
-  told-message (M.Authority head acked fields) w f = behind m l _ _ _ f (λ es. refl)
-  told-message (M.Ack head acked flags n) w f =
+  told-message (M.Solicit x) w f = both refl (f .0)
+  told-message (M.Advertise x) w f = both refl (f .0)
+  told-message (M.Request x) w f = both refl (f .0)
+  told-message (M.Flood x) w f = told-flood x (x .entry) f
+  told-message (M.Inquire x) w f = behind m l _ _ _ f (λ es. refl)
+  told-message (M.Authority x) w f = behind m l _ _ _ f (λ es. refl)
+  told-message (M.Ack x) w f =
       let ps = placesOf (m .waiting) in
-      let found = seek (isAt acked 1) 0 ps in
-      behind m l (M.Ack head acked flags n) (ackRefusals ps acked) (Free (heldIn (keyOf (l .own)) (m .cache)) (usedOf (m .waiting)) (placeOf found) n) f
-      (record { acked = acked; waiting = waits acked 1 (placeOf found) ps (some-found found (f .0)); told = λ es. refl })
-  told-message (M.Lookup head a precision criteria reason target validate entry path credential signature key) w f = behind m l _ _ _ f (λ es. refl)
+      let found = seek (isAt (x .acked) 1) 0 ps in
+      behind m l (M.Ack x) (ackRefusals ps (x .acked)) (Free (heldIn (keyOf (l .own)) (m .cache)) (usedOf (m .waiting)) (placeOf found) (x .n)) f
+      (record { acked = x .acked; waiting = waits (x .acked) 1 (placeOf found) ps (some-found found (f .0)); told = λ es. refl })
+  told-message (M.Lookup x) w f = behind m l _ _ _ f (λ es. refl)
 
   -- a datagram that no row of reading refuses holds a message
-  is-message : AllFail (fields.refusals (l .datagram) (l .major)) → IsMessage (R.answer (l .datagram) (l .major))
+  is-message : AllFail (fields.refusals (l .datagram) (l .major)) → IsMessage (R.readIn (l .datagram) (l .major))
   unfolding fields.foundIn
   is-message f =
       let done = fields.found (typeOf (l .datagram)) (fields.spansOf (fields.fieldsIn (l .datagram))) in
-      subst (λ (x : fields.Found). IsMessage (R.shown (l .datagram) x))
+      subst (λ (x : fields.Found). IsMessage (R.incomingOf (l .datagram) x))
       (sym (all-pass fields.refused (fields.refusals (l .datagram) (l .major)) done f))
       (shown-message (l .datagram) _ _)
 
   planned : AllFail (receiveTable m l)
-      → receivePlan m l ≡ planFor m l (heldIn (keyOf (l .own)) (m .cache)) (usedOf (m .waiting)) (R.answer (l .datagram) (l .major))
+      → receivePlan m l ≡ planFor m l (heldIn (keyOf (l .own)) (m .cache)) (usedOf (m .waiting)) (R.readIn (l .datagram) (l .major))
   unfolding receivePlan memoryOf orRefuse
   planned f = rw (not-false (tablesFit (l .own) m) (f .0), not-false (handsFit m l) (f .1 .0)) refl
 
-  pub told : receiveCall m l .answer .number ≡ 0 → Told m l (R.answer (l .datagram) (l .major)) (receivePlan m l)
+  pub told : receiveCall m l .answer .number ≡ 0 → Told m l (R.readIn (l .datagram) (l .major)) (receivePlan m l)
   told z =
       let f = none-applies m (receives l) z in
       let r = f .1 .1 in
       let reads : AllFail (fields.refusals (l .datagram) (l .major)) =
       (r .0, (r .1 .0, (r .1 .1 .0, (r .1 .1 .1 .0, (r .1 .1 .1 .1 .0, (r .1 .1 .1 .1 .1 .0, tt)))))) in
-      subst (Told m l (R.answer (l .datagram) (l .major))) (sym (planned f))
-      (told-message (R.answer (l .datagram) (l .major)) (is-message reads) (r .1 .1 .1 .1 .1 .1))
+      subst (Told m l (R.readIn (l .datagram) (l .major))) (sym (planned f))
+      (told-message (R.readIn (l .datagram) (l .major)) (is-message reads) (r .1 .1 .1 .1 .1 .1))

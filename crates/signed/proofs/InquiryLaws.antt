@@ -24,9 +24,10 @@ use Rattle.waiting.specs.Seek.{isAt}
 use Rattle.wire_fields.specs.declared.Part.{Part}
 use Rattle.wire_fields.specs.declared.Part.the-variants.{Here, Absent}
 use Rattle.wire_read.specs.Answers as R
-use Rattle.wire_read.specs.declared.Head.{Head}
-use Rattle.wire_read.specs.declared.Answer as T
-use Rattle.wire_read.specs.declared.Answer.the-variants as M
+use Rattle.wire_read.specs.declared.Incoming as T
+use Rattle.wire_read.specs.declared.Incoming.the-variants as M
+use Rattle.wire_read.specs.declared.messages.Flood as F
+use Rattle.wire.proofs.ShownLaws.{withEntry}
 use Rattle.wire_write.specs.Making.{inquireMade}
 use Rattle.asking.specs.Ids.{idAfter}
 use Rattle.gauge_plan.specs.Memory.{tablesFit, memoryOf, handsFit}
@@ -53,23 +54,23 @@ use Rattle.signed.proofs.EventLaws as event
 -- ---- what an accepted datagram tells of inquiries, by its plan
 
 -- neither that one is sent nor that one is answered
-pub record Quiet (m : Memory) (l : Receive) (a : T.Answer) : Type 0 where
+pub record Quiet (m : Memory) (l : Receive) (a : T.Incoming) : Type 0 where
   pub asked : (earlier : Option (List ℕ)) → floodedOr (l .datagram) a earlier ≡ earlier
   pub answers : (es : List AnswerTold) → answeredBy es a ≡ []
 
 -- a FLOOD with a route entry
-pub record Floods (m : Memory) (l : Receive) (a : T.Answer) (start len : ℕ) : Type 0 where
+pub record Floods (m : Memory) (l : Receive) (a : T.Incoming) (start len : ℕ) : Type 0 where
   pub asked : (earlier : Option (List ℕ)) → floodedOr (l .datagram) a earlier ≡ some (recordOf (part start len (l .datagram)))
   pub answers : (es : List AnswerTold) → answeredBy es a ≡ []
 
 -- an AUTHORITY: the inquiry that waits with the acked ID
-pub record Answers (m : Memory) (l : Receive) (a : T.Answer) (u at : ℕ) : Type 0 where
+pub record Answers (m : Memory) (l : Receive) (a : T.Incoming) (u at : ℕ) : Type 0 where
   pub acked : ℕ
   pub waiting : Waits acked 2 at (rows 140 u (m .waiting))
   pub asked : (earlier : Option (List ℕ)) → floodedOr (l .datagram) a earlier ≡ earlier
   pub answers : (es : List AnswerTold) → answeredBy es a ≡ thatOf (inquired acked es)
 
-abbrev pub Heard : Memory → Receive → T.Answer → Plan → Type 0
+abbrev pub Heard : Memory → Receive → T.Incoming → Plan → Type 0
 Heard m l a (Refuse n) = ⊥
 Heard m l a (Flood u s n b o start len) = Floods m l a start len
 Heard m l a (Revoke h u s n b) = Quiet m l a
@@ -80,46 +81,42 @@ Heard m l a (Show h b at) = Quiet m l a
 
 module _ (m : Memory) (l : Receive) where
   -- behind a table: what is refused is not accepted, and the rest is known where no row applies
-  behind : (a : T.Answer) (rs : List Refusal) (done : Plan) → (AllFail rs → Heard m l a done)
+  behind : (a : T.Incoming) (rs : List Refusal) (done : Plan) → (AllFail rs → Heard m l a done)
       → event.Told m l a (orRefuse Refuse rs done) → Heard m l a (orRefuse Refuse rs done)
   behind a rs done h = or-known (λ (p : Plan). event.Told m l a p → Heard m l a p) Refuse rs done (λ n t. t) (λ f t. h f)
 
-  heard-flood : (h u : ℕ) (head : Head) (s : Bool) (validate : ℕ) (token revoke entry reached : Part)
-      → event.Told m l (M.Flood head s validate token revoke entry reached) (byEntry m l h u head s validate entry)
-      → Heard m l (M.Flood head s validate token revoke entry reached) (byEntry m l h u head s validate entry)
+  heard-flood : (h u : ℕ) (x : F.Flood) (p : Part)
+      → event.Told m l (M.Flood (withEntry x p)) (byEntry m l h u (x .head) (x .d) (x .validate) p)
+      → Heard m l (M.Flood (withEntry x p)) (byEntry m l h u (x .head) (x .d) (x .validate) p)
   unfolding floodPlan revokePlan
-  heard-flood h u head s validate token revoke (Here start len) reached =
-      behind _ _ _ (λ f. record { asked = λ earlier. refl; answers = λ es. refl })
-  heard-flood h u head s validate token revoke Absent reached =
-      behind _ _ _ (λ f. record { asked = λ earlier. refl; answers = λ es. refl })
+  heard-flood h u x (Here start len) = behind _ _ _ (λ f. record { asked = λ earlier. refl; answers = λ es. refl })
+  heard-flood h u x Absent = behind _ _ _ (λ f. record { asked = λ earlier. refl; answers = λ es. refl })
 
-  heard-message : (h u : ℕ) (a : T.Answer) → event.Told m l a (planFor m l h u a) → Heard m l a (planFor m l h u a)
+  heard-message : (h u : ℕ) (a : T.Incoming) → event.Told m l a (planFor m l h u a) → Heard m l a (planFor m l h u a)
   unfolding planFor authorityPlan ackPlan inquirePlan lookupPlan
   heard-message h u (M.Refused n) t = t
-  heard-message h u (M.Solicit head entry nonce) t = t
-  heard-message h u (M.Advertise head acked keys nonce) t = t
-  heard-message h u (M.Request head flags split nonce keys credential signature key) t = t
-  heard-message h u (M.Flood head s validate token revoke entry reached) t = heard-flood h u head s validate token revoke entry reached t
-  heard-message h u (M.Inquire head a x c validate nonce credential signature key) t =
-      behind _ _ _ (λ f. record { asked = λ earlier. refl; answers = λ es. refl }) t
-  heard-message h u (M.Authority head acked fields) t =
+  heard-message h u (M.Solicit x) t = t
+  heard-message h u (M.Advertise x) t = t
+  heard-message h u (M.Request x) t = t
+  heard-message h u (M.Flood x) t = heard-flood h u x (x .entry) t
+  heard-message h u (M.Inquire x) t = behind _ _ _ (λ f. record { asked = λ earlier. refl; answers = λ es. refl }) t
+  heard-message h u (M.Authority x) t =
       let ps = rows 140 u (m .waiting) in
-      let found = seek (isAt acked 2) 0 ps in
-      behind (M.Authority head acked fields) (authorityRefusals ps (l .verdict) (keyAt 0 (l .key)) acked (R.isHere (fields .cpa)))
+      let found = seek (isAt (x .acked) 2) 0 ps in
+      behind (M.Authority x) (authorityRefusals ps (l .verdict) (keyAt 0 (l .key)) (x .acked) (R.isHere (x .fields .cpa)))
       (Learn h u (placeOf found)) (λ f. record {
-        acked = acked;
-        waiting = waits acked 2 (placeOf found) ps (some-found found (f .0));
+        acked = x .acked;
+        waiting = waits (x .acked) 2 (placeOf found) ps (some-found found (f .0));
         asked = λ earlier. refl;
         answers = λ es. refl;
       }) t
-  heard-message h u (M.Ack head acked flags n) t = behind _ _ _ (λ f. record { asked = λ earlier. refl; answers = λ es. refl }) t
-  heard-message h u (M.Lookup head a precision criteria reason target validate entry path credential signature key) t =
-      behind _ _ _ (λ f. record { asked = λ earlier. refl; answers = λ es. refl }) t
+  heard-message h u (M.Ack x) t = behind _ _ _ (λ f. record { asked = λ earlier. refl; answers = λ es. refl }) t
+  heard-message h u (M.Lookup x) t = behind _ _ _ (λ f. record { asked = λ earlier. refl; answers = λ es. refl }) t
 
-  pub heard : receiveCall m l .answer .number ≡ 0 → Heard m l (R.answer (l .datagram) (l .major)) (receivePlan m l)
+  pub heard : receiveCall m l .answer .number ≡ 0 → Heard m l (R.readIn (l .datagram) (l .major)) (receivePlan m l)
   unfolding memoryOf
   heard z =
-      let a = R.answer (l .datagram) (l .major) in
+      let a = R.readIn (l .datagram) (l .major) in
       let f = none-applies m (receives l) z in
       let h = heldIn (keyOf (l .own)) (m .cache) in
       let u = usedOf (m .waiting) in
@@ -138,8 +135,8 @@ cond-unless true x y = refl
 cond-unless false x y = refl
 
 module _ (m : Memory) (l : Receive) (g : Answer) (es : List AnswerTold) where
-  abbrev Message : T.Answer
-  Message = R.answer (l .datagram) (l .major)
+  abbrev Message : T.Incoming
+  Message = R.readIn (l .datagram) (l .major)
 
   -- which inquiry an ID is that of
   pub asked-still : ((earlier : Option (List ℕ)) → floodedOr (l .datagram) Message earlier ≡ earlier)

@@ -105,9 +105,9 @@ module _ (m : Memory) (l : Receive) (C : ℕ) (es : List Entry) (keys : List ℕ
       let needs = learn-needs m l e in
       needs .7 (sym (record-key u t at) ∙ ap keyOf (record-place u t at (needs .5)) ∙ learnt-key e k ∙ o)
 
-  plan-keeps : (p : Plan) → receivePlan m l ≡ p → Known m l p → Told m l (R.answer (l .datagram) (l .major)) p → All (Owed es) (placesOf (m .waiting))
+  plan-keeps : (p : Plan) → receivePlan m l ≡ p → Known m l p → Told m l (R.readIn (l .datagram) (l .major)) p → All (Owed es) (placesOf (m .waiting))
       → Keeps (keyOf (l .own)) C (after (drops (keyOf (l .own))) C keys
-      (toldBy es (keyAt 0 (l .key)) (heardBy (l .datagram) (R.answer (l .datagram) (l .major))))) (carried m l p .memory .cache)
+      (toldBy es (keyAt 0 (l .key)) (heardBy (l .datagram) (R.readIn (l .datagram) (l .major))))) (carried m l p .memory .cache)
   unfolding carried
   plan-keeps (Refuse n) e k t o = absurd t
   plan-keeps (Flood u s n a opens start len) e k t o = still _ (t es)
@@ -147,8 +147,8 @@ module _ (m : Memory) (l : Receive) (C : ℕ) (es : List Entry) (keys : List ℕ
       only (inl is) o = other (sym is ∙ o)
       only (inr f) o = f
 
-  plan-fine : (p : Plan) → receivePlan m l ≡ p → Known m l p → Told m l (R.answer (l .datagram) (l .major)) p
-      → (j : ℕ) → Learns j (toldBy es (keyAt 0 (l .key)) (heardBy (l .datagram) (R.answer (l .datagram) (l .major)))) → NotOwn (keyOf (l .own)) j
+  plan-fine : (p : Plan) → receivePlan m l ≡ p → Known m l p → Told m l (R.readIn (l .datagram) (l .major)) p
+      → (j : ℕ) → Learns j (toldBy es (keyAt 0 (l .key)) (heardBy (l .datagram) (R.readIn (l .datagram) (l .major)))) → NotOwn (keyOf (l .own)) j
   unfolding carried
   plan-fine (Refuse n) e k t = absurd t
   plan-fine (Flood u s n a opens start len) e k t = nothing-learned _ (t es)
@@ -162,11 +162,11 @@ module _ (m : Memory) (l : Receive) (C : ℕ) (es : List Entry) (keys : List ℕ
   module _ (z : receiveCall m l .answer .number ≡ 0) where
     pub receive-keeps : All (Owed es) (placesOf (m .waiting))
         → Keeps (keyOf (l .own)) C (after (drops (keyOf (l .own))) C keys
-        (toldBy es (keyAt 0 (l .key)) (heardBy (l .datagram) (R.answer (l .datagram) (l .major))))) (receiveCall m l .memory .cache)
+        (toldBy es (keyAt 0 (l .key)) (heardBy (l .datagram) (R.readIn (l .datagram) (l .major))))) (receiveCall m l .memory .cache)
     unfolding receiveCall
     receive-keeps o = plan-keeps (receivePlan m l) refl (known m l) (told m l z) o
 
-    pub receive-fine : (j : ℕ) → Learns j (toldBy es (keyAt 0 (l .key)) (heardBy (l .datagram) (R.answer (l .datagram) (l .major))))
+    pub receive-fine : (j : ℕ) → Learns j (toldBy es (keyAt 0 (l .key)) (heardBy (l .datagram) (R.readIn (l .datagram) (l .major))))
         → NotOwn (keyOf (l .own)) j
     unfolding receiveCall
     receive-fine = plan-fine (receivePlan m l) refl (known m l) (told m l z)

@@ -22,7 +22,7 @@ use Rattle.signed.specs.Events.{toldBy, Tells, Happened}
 
 -- what a call does when it is accepted
 abbrev pub does : List Entry → Call → List Event
-does earlier (receives l) = toldBy earlier (keyAt 0 (l .key)) (heardBy (l .datagram) (R.answer (l .datagram) (l .major)))
+does earlier (receives l) = toldBy earlier (keyAt 0 (l .key)) (heardBy (l .datagram) (R.readIn (l .datagram) (l .major)))
 does earlier (sends l) = []
 does earlier (ticks l) = []
 does earlier (lists l) = []

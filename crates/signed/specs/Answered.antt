@@ -19,8 +19,8 @@ use Rattle.cache.specs.Form.{keysOf, heldOf}
 use Rattle.wire_fields.specs.declared.Part.{Part}
 use Rattle.wire_fields.specs.declared.Part.the-variants.{Here, Absent}
 use Rattle.wire_read.specs.Answers as R
-use Rattle.wire_read.specs.declared.Answer as T
-use Rattle.wire_read.specs.declared.Answer.the-variants as M
+use Rattle.wire_read.specs.declared.Incoming as T
+use Rattle.wire_read.specs.declared.Incoming.the-variants as M
 use Rattle.asking.specs.Ids.{idAfter}
 use Rattle.gauge_commit.specs.declared.Answer.{Answer}
 use Rattle.gauge_plan.specs.Lent.{Memory, empty, Call, receives, sends, ticks, lists}
@@ -51,21 +51,21 @@ abbrev pub entryOr : List ℕ → Part → Option (List ℕ) → Option (List �
 entryOr d (Here start len) earlier = some (recordOf (part start len d))
 entryOr d Absent earlier = earlier
 
-abbrev pub floodedOr : List ℕ → T.Answer → Option (List ℕ) → Option (List ℕ)
+abbrev pub floodedOr : List ℕ → T.Incoming → Option (List ℕ) → Option (List ℕ)
 floodedOr d (M.Refused n) earlier = earlier
-floodedOr d (M.Solicit head entry nonce) earlier = earlier
-floodedOr d (M.Advertise head acked keys nonce) earlier = earlier
-floodedOr d (M.Request head flags split nonce keys credential signature key) earlier = earlier
-floodedOr d (M.Flood head s validate token revoke entry reached) earlier = entryOr d entry earlier
-floodedOr d (M.Inquire head a x c validate nonce credential signature key) earlier = earlier
-floodedOr d (M.Authority head acked fields) earlier = earlier
-floodedOr d (M.Ack head acked flags n) earlier = earlier
-floodedOr d (M.Lookup head a precision criteria reason target validate entry path credential signature key) earlier = earlier
+floodedOr d (M.Solicit x) earlier = earlier
+floodedOr d (M.Advertise x) earlier = earlier
+floodedOr d (M.Request x) earlier = earlier
+floodedOr d (M.Flood x) earlier = entryOr d (x .entry) earlier
+floodedOr d (M.Inquire x) earlier = earlier
+floodedOr d (M.Authority x) earlier = earlier
+floodedOr d (M.Ack x) earlier = earlier
+floodedOr d (M.Lookup x) earlier = earlier
 
 -- a FLOOD answered with an INQUIRE of the ID
 abbrev pub inquiredBy : ℕ → Call → Answer → Option (List ℕ) → Option (List ℕ)
 inquiredBy id (receives l) a earlier =
-    cond (inquires a && eqb (idAfter (l .id)) id) (floodedOr (l .datagram) (R.answer (l .datagram) (l .major)) earlier) earlier
+    cond (inquires a && eqb (idAfter (l .id)) id) (floodedOr (l .datagram) (R.readIn (l .datagram) (l .major)) earlier) earlier
 inquiredBy id (sends l) a earlier = earlier
 inquiredBy id (ticks l) a earlier = earlier
 inquiredBy id (lists l) a earlier = earlier
@@ -82,19 +82,19 @@ thatOf none = []
 thatOf (some r) = r ∷ []
 
 -- an AUTHORITY answers the inquiry with the acked ID
-abbrev pub answeredBy : List AnswerTold → T.Answer → List (List ℕ)
+abbrev pub answeredBy : List AnswerTold → T.Incoming → List (List ℕ)
 answeredBy earlier (M.Refused n) = []
-answeredBy earlier (M.Solicit head entry nonce) = []
-answeredBy earlier (M.Advertise head acked keys nonce) = []
-answeredBy earlier (M.Request head flags split nonce keys credential signature key) = []
-answeredBy earlier (M.Flood head s validate token revoke entry reached) = []
-answeredBy earlier (M.Inquire head a x c validate nonce credential signature key) = []
-answeredBy earlier (M.Authority head acked fields) = thatOf (inquired acked earlier)
-answeredBy earlier (M.Ack head acked flags n) = []
-answeredBy earlier (M.Lookup head a precision criteria reason target validate entry path credential signature key) = []
+answeredBy earlier (M.Solicit x) = []
+answeredBy earlier (M.Advertise x) = []
+answeredBy earlier (M.Request x) = []
+answeredBy earlier (M.Flood x) = []
+answeredBy earlier (M.Inquire x) = []
+answeredBy earlier (M.Authority x) = thatOf (inquired (x .acked) earlier)
+answeredBy earlier (M.Ack x) = []
+answeredBy earlier (M.Lookup x) = []
 
 abbrev pub answers : List AnswerTold → Call → Answer → List (List ℕ)
-answers earlier (receives l) a = cond (eqb (a .number) 0) (answeredBy earlier (R.answer (l .datagram) (l .major))) []
+answers earlier (receives l) a = cond (eqb (a .number) 0) (answeredBy earlier (R.readIn (l .datagram) (l .major))) []
 answers earlier (sends l) a = []
 answers earlier (ticks l) a = []
 answers earlier (lists l) a = []

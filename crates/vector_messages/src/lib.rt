@@ -1,12 +1,12 @@
 // Vectors of messages: datagrams read, each prefix of them too, and written again. Used by the program `vectors` alone.
 use vector_text::line;
 use vector_text::say;
-use wire_read::Answer;
 use wire_read::Head;
+use wire_read::Incoming;
 
 // Document 01's number for what reading gave.
-fn number_of(answer: Answer) -> u8 {
-    if let Answer::Refused(n) = answer {
+fn number_of(message: Incoming) -> u8 {
+    if let Incoming::Refused(n) = message {
         return n;
     }
     0
@@ -22,75 +22,17 @@ fn say_message(name: &[u8], head: Head) {
 }
 
 // The number of a refusal, or the message's type, minor version and ID.
-fn say_answer(answer: Answer) {
-    match answer {
-        Answer::Refused(n) => say::number(n as u64),
-        Answer::Solicit {
-            head,
-            entry: _,
-            nonce: _,
-        } => say_message(b"solicit", head),
-        Answer::Advertise {
-            head,
-            acked: _,
-            keys: _,
-            nonce: _,
-        } => say_message(b"advertise", head),
-        Answer::Request {
-            head,
-            flags: _,
-            split: _,
-            nonce: _,
-            keys: _,
-            credential: _,
-            signature: _,
-            key: _,
-        } => { say_message(b"request", head) }
-        Answer::Flood {
-            head,
-            d: _,
-            validate: _,
-            token: _,
-            revoke: _,
-            entry: _,
-            reached: _,
-        } => { say_message(b"flood", head) }
-        Answer::Inquire {
-            head,
-            a: _,
-            x: _,
-            c: _,
-            validate: _,
-            nonce: _,
-            credential: _,
-            signature: _,
-            key: _,
-        } => { say_message(b"inquire", head) }
-        Answer::Authority {
-            head,
-            acked: _,
-            fields: _,
-        } => say_message(b"authority", head),
-        Answer::Ack {
-            head,
-            acked: _,
-            flags: _,
-            n: _,
-        } => say_message(b"ack", head),
-        Answer::Lookup {
-            head,
-            a: _,
-            precision: _,
-            criteria: _,
-            reason: _,
-            target: _,
-            validate: _,
-            entry: _,
-            path: _,
-            credential: _,
-            signature: _,
-            key: _,
-        } => say_message(b"lookup", head),
+fn say_read(message: Incoming) {
+    match message {
+        Incoming::Refused(n) => say::number(n as u64),
+        Incoming::Solicit(m) => say_message(b"solicit", m.head),
+        Incoming::Advertise(m) => say_message(b"advertise", m.head),
+        Incoming::Request(m) => say_message(b"request", m.head),
+        Incoming::Flood(m) => say_message(b"flood", m.head),
+        Incoming::Inquire(m) => say_message(b"inquire", m.head),
+        Incoming::Authority(m) => say_message(b"authority", m.head),
+        Incoming::Ack(m) => say_message(b"ack", m.head),
+        Incoming::Lookup(m) => say_message(b"lookup", m.head),
     }
 }
 
@@ -139,7 +81,7 @@ pub fn answer(text: &[u8], room: &mut [u8]) -> bool {
     let end = line::bytes(text, 2, room, 0);
     let d = line::part(room, 0, end);
     if line::is_named(text, b"read") {
-        say_answer(wire_read::read(d, major));
+        say_read(wire_read::read(d, major));
         return true;
     }
     if line::is_named(text, b"again") {

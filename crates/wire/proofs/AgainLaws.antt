@@ -19,15 +19,15 @@ use Rattle.wire_fields.specs.declared.Part.the-variants.{Here, Absent}
 use Rattle.wire_buffer.specs.Buffer.{startOf}
 use Rattle.wire_read.specs.Answers.{isHere}
 use Rattle.wire_read.specs.Meaning.{messageOf, held, bit}
-use Rattle.wire_read.specs.declared.Head.{Head}
-use Rattle.wire_read.specs.declared.Answer.{Answer}
-use Rattle.wire_read.specs.declared.Answer.the-variants.{Refused, Solicit, Advertise, Request, Flood, Inquire, Authority, Ack, Lookup}
+use Rattle.wire_read.specs.declared.Incoming.{Incoming}
+use Rattle.wire_read.specs.declared.Incoming.the-variants as M
+use Rattle.wire_read.specs.declared.messages.Flood.{Flood}
 use Rattle.wire_write.specs.Writing.{Made}
 use Rattle.wire_write.specs.Pieces.{Lent, lentOf, kindsOfRows, contentsOf, givensOf, madeBy}
-use Rattle.wire_write.specs.Rows.{solicitRows, advertiseRows, requestRows, floodRows, inquireRows, authorityRows, ackRows, lookupRows, spelledPiece, firstPiece, noPiece, spelledBytes}
+use Rattle.wire_write.specs.Rows.{solicitRows, advertiseRows, requestRows, floodRows, inquireRows, authorityRows, ackRows, lookupRows, spelledBytes}
 use Rattle.wire_write.specs.declared.Row.{Row}
 use Rattle.wire_write.specs.declared.Piece.{Piece}
-use Rattle.wire_copy.specs.Resent.{resent, lenOf, pieceOf}
+use Rattle.wire_copy.specs.Resent.{resent, lenOf, floodPieces}
 
 -- rows that are those of a list of kinds, then any; fields that are those of a message, then none
 abbrev pub RowsFor : List Kind → List Row → Type 0
@@ -107,7 +107,7 @@ precise true p a b = refl
 precise false p a b = ap₂ (λ (x y : ℕ). x ∷ y ∷ []) a b
 
 -- the bytes that are made of an answer are those of a message
-abbrev Again : ℕ → List ℕ → Answer → Message → Type 0
+abbrev Again : ℕ → List ℕ → Incoming → Message → Type 0
 Again major d a m =
     (ks : List Kind) → kindsOf (m .type) ≡ some ks → Formed ks (m .fields) → joinedFields (m .type) (m .fields) ≡ true
     → resent major d a .bytes ≡ messageBytes (layoutOf ks m)
@@ -117,7 +117,7 @@ abbrev told : Option Message → Message
 told none = record { major = 0; minor = 0; type = 0; id = 0; fields = [] }
 told (some m) = m
 
-module _ (js : List Kind) (rs : List Row) (major : ℕ) (d : List ℕ) (a : Answer) (m : Message) (e : messageOf major d a ≡ some m)
+module _ (js : List Kind) (rs : List Row) (major : ℕ) (d : List ℕ) (a : Incoming) (m : Message) (e : messageOf major d a ≡ some m)
     (w : RowsFor js rs) where
   by-table : kindsOf (told (messageOf major d a) .type) ≡ some js → (l : Lent) (ps : List Piece)
       → (joinedFields (told (messageOf major d a) .type) (told (messageOf major d a) .fields) ≡ true → resent major d a
@@ -134,29 +134,37 @@ module _ (js : List Kind) (rs : List Row) (major : ℕ) (d : List ℕ) (a : Answ
       subst (λ (x : List Kind). resent major d a .bytes ≡ messageBytes (layoutOf x r)) o
       (ap (λ (x : Made). x .bytes) (made j) ∙ table-bytes js rs r l ps w g (given g)))
 
-pub again-bytes : (major : ℕ) (d : List ℕ) (a : Answer) (m : Message) → messageOf major d a ≡ some m → Again major d a m
+pub again-bytes : (major : ℕ) (d : List ℕ) (a : Incoming) (m : Message) → messageOf major d a ≡ some m → Again major d a m
 unfolding messageOf resent kindsOf digitsBE joinedFields
-again-bytes major d (Refused n) m e = absurd (let z : _≡_ {A = ℕ} 0 1 = cc in omega arith)
-again-bytes major d (Solicit h entry nonce) m e =
-    by-table solicitKinds solicitRows major d (Solicit h entry nonce) m e solicit-rows refl _ _ (λ j. refl)
-    (λ f. (piece-is d entry, (refl, (refl, (refl, (refl, (refl, (refl, (refl, (refl, tt))))))))))
-again-bytes major d (Advertise h acked keys nonce) m e =
-    by-table advertiseKinds advertiseRows major d (Advertise h acked keys nonce) m e advertise-rows refl _ _ (λ j. refl)
-    (λ f. (refl, (piece-is d keys, (refl, (refl, (refl, (refl, (refl, (refl, (refl, tt))))))))))
-again-bytes major d (Request h flags split nonce keys credential signature key) m e =
-    by-table requestKinds requestRows major d (Request h flags split nonce keys credential signature key) m e request-rows refl _ _ (λ j. refl)
-    (λ f. (refl, (refl, (refl, (piece-is d keys, (piece-is d credential, (piece-is d signature, (piece-is d key, (refl, (refl, tt))))))))))
-again-bytes major d (Flood h silent validate token revoke entry reached) m e =
-    by-table floodKinds floodRows major d (Flood h silent validate token revoke entry reached) m e flood-rows refl
-    (lentOf (spelledBytes 0 0 0 (bit silent)) d d)
-    (spelledPiece 8 3 ∷ firstPiece validate 32 ∷ pieceOf token ∷ pieceOf revoke ∷ pieceOf entry ∷ pieceOf reached ∷ noPiece ∷ noPiece ∷ noPiece ∷ [])
-    (λ j. let q : oneOf (isHere revoke) (isHere entry) ≡ true = rw (here-is d revoke, here-is d entry) at j in rw q)
-    (λ f. (refl, (refl, (piece-is d token, (piece-is d revoke, (piece-is d entry, (piece-is d reached, (refl, (refl, (refl, tt))))))))))
-again-bytes major d (Inquire h a x c validate nonce credential signature key) m e =
-    by-table inquireKinds inquireRows major d (Inquire h a x c validate nonce credential signature key) m e inquire-rows refl _ _ (λ j. refl)
-    (λ f. (refl, (refl, (piece-is d nonce, (piece-is d credential, (piece-is d signature, (piece-is d key, (refl, (refl, (refl, tt))))))))))
-again-bytes major d (Authority h acked i) m e =
-    by-table authorityKinds authorityRows major d (Authority h acked i) m e authority-rows refl _ _ (λ j. refl)
+again-bytes major d (M.Refused n) m e = absurd (let z : _≡_ {A = ℕ} 0 1 = cc in omega arith)
+again-bytes major d (M.Solicit x) m e =
+    by-table solicitKinds solicitRows major d (M.Solicit x) m e solicit-rows refl _ _ (λ j. refl)
+    (λ f. (piece-is d (x .entry), (refl, (refl, (refl, (refl, (refl, (refl, (refl, (refl, tt))))))))))
+again-bytes major d (M.Advertise x) m e =
+    by-table advertiseKinds advertiseRows major d (M.Advertise x) m e advertise-rows refl _ _ (λ j. refl)
+    (λ f. (refl, (piece-is d (x .keys), (refl, (refl, (refl, (refl, (refl, (refl, (refl, tt))))))))))
+again-bytes major d (M.Request x) m e =
+    by-table requestKinds requestRows major d (M.Request x) m e request-rows refl _ _ (λ j. refl)
+    (λ f. (
+      refl,
+      (refl, (refl, (piece-is d (x .keys), (piece-is d (x .credential), (piece-is d (x .signature), (piece-is d (x .key), (refl, (refl, tt)))))))),
+    ))
+again-bytes major d (M.Flood x) m e =
+    by-table floodKinds floodRows major d (M.Flood x) m e flood-rows refl (lentOf (spelledBytes 0 0 0 (bit (x .d))) d d) (floodPieces x)
+    (λ j. let q : oneOf (isHere (x .revoke)) (isHere (x .entry)) ≡ true = rw (here-is d (x .revoke), here-is d (x .entry)) at j in rw q)
+    (λ f. (
+      refl,
+      (refl, (piece-is d (x .token), (piece-is d (x .revoke), (piece-is d (x .entry), (piece-is d (x .reached), (refl, (refl, (refl, tt)))))))),
+    ))
+again-bytes major d (M.Inquire x) m e =
+    by-table inquireKinds inquireRows major d (M.Inquire x) m e inquire-rows refl _ _ (λ j. refl)
+    (λ f. (
+      refl,
+      (refl, (piece-is d (x .nonce), (piece-is d (x .credential), (piece-is d (x .signature), (piece-is d (x .key), (refl, (refl, (refl, tt)))))))),
+    ))
+again-bytes major d (M.Authority x) m e =
+    let i = x .fields in
+    by-table authorityKinds authorityRows major d (M.Authority x) m e authority-rows refl _ _ (λ j. refl)
     (λ f. (
       refl,
       (
@@ -179,26 +187,32 @@ again-bytes major d (Authority h acked i) m e =
         ),
       ),
     ))
-again-bytes major d (Ack h acked flags n) m e =
-    by-table ackKinds ackRows major d (Ack h acked flags n) m e ack-rows refl _ _ (λ j. refl)
+again-bytes major d (M.Ack x) m e =
+    by-table ackKinds ackRows major d (M.Ack x) m e ack-rows refl _ _ (λ j. refl)
     (λ f. (refl, (refl, (refl, (refl, (refl, (refl, (refl, (refl, (refl, tt))))))))))
-again-bytes major d (Lookup h a precision criteria reason target validate entry path credential signature key) m e =
-    by-table lookupKinds lookupRows major d
-    (Lookup h a precision criteria reason target validate entry path credential signature key) m e lookup-rows refl _ _
-    (λ j. refl)
+again-bytes major d (M.Lookup x) m e =
+    by-table lookupKinds lookupRows major d (M.Lookup x) m e lookup-rows refl _ _ (λ j. refl)
     (λ f. (
-      ap (λ (b : List ℕ). some (0 ∷ (2 * bit a) ∷ (b ++ (criteria ∷ reason ∷ 0 ∷ 0 ∷ []))))
-          (precise (eqb criteria 8) precision (ap (λ (v : List ℕ). getD v 2 0) (f .0 .clear)) (ap (λ (v : List ℕ). getD v 3 0) (f .0 .clear))),
-      (refl, (refl, (piece-is d entry, (piece-is d path, (piece-is d credential, (piece-is d signature, (piece-is d key, (refl, tt)))))))),
+      ap (λ (b : List ℕ). some (0 ∷ (2 * bit (x .a)) ∷ (b ++ (x .criteria ∷ x .reason ∷ 0 ∷ 0 ∷ []))))
+          (precise (eqb (x .criteria) 8) (x .precision) (ap (λ (v : List ℕ). getD v 2 0) (f .0 .clear))
+          (ap (λ (v : List ℕ). getD v 3 0) (f .0 .clear))),
+      (
+        refl,
+        (
+          refl,
+          (
+            piece-is d (x .entry),
+            (piece-is d (x .path), (piece-is d (x .credential), (piece-is d (x .signature), (piece-is d (x .key), (refl, tt))))),
+          ),
+        ),
+      ),
     ))
 
 -- FLOOD carries one of the two
-pub flood-one : (major : ℕ) (d : List ℕ) (h : Head) (silent : Bool) (validate : ℕ) (token revoke entry reached : Part) (m : Message)
-    → messageOf major d (Flood h silent validate token revoke entry reached) ≡ some m → joinedFields (m .type) (m .fields) ≡ true
-    → oneOf (isHere revoke) (isHere entry) ≡ true
+pub flood-one : (major : ℕ) (d : List ℕ) (x : Flood) (m : Message) → messageOf major d (M.Flood x) ≡ some m
+    → joinedFields (m .type) (m .fields) ≡ true → oneOf (isHere (x .revoke)) (isHere (x .entry)) ≡ true
 unfolding messageOf joinedFields
-flood-one major d h silent validate token revoke entry reached m e j =
-    let q : joinedFields (told (messageOf major d (Flood h silent validate token revoke entry reached)) .type)
-    (told (messageOf major d (Flood h silent validate token revoke entry reached)) .fields) ≡ true =
-    subst (λ (x : Message). joinedFields (x .type) (x .fields) ≡ true) (sym (ap told e)) j in
-    rw (here-is d revoke, here-is d entry) at q
+flood-one major d x m e j =
+    let q : joinedFields (told (messageOf major d (M.Flood x)) .type) (told (messageOf major d (M.Flood x)) .fields) ≡ true =
+    subst (λ (y : Message). joinedFields (y .type) (y .fields) ≡ true) (sym (ap told e)) j in
+    rw (here-is d (x .revoke), here-is d (x .entry)) at q

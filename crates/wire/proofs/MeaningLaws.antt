@@ -22,7 +22,7 @@ use Rattle.wire_shapes.specs.declared.Shape.the-variants.{Sized, Any, Entry, Lo
 use Rattle.wire_fields.proofs.HeadLaws.{digits-at}
 use Rattle.wire_shapes.proofs.ShapeLaws.{number-first, number-in}
 use Rattle.wire_fields.proofs.RefusalLaws.{split-four}
-use Rattle.wire_read.specs.Answers.{isHere, flagIn, headOf, solicitShown, advertiseShown, requestShown, floodShown, inquireShown, authorityShown, ackShown, lookupShown}
+use Rattle.wire_read.specs.Answers.{isHere, partFlag, headOf, solicitShown, advertiseShown, requestShown, floodShown, inquireShown, authorityShown, ackShown, lookupShown}
 use Rattle.wire_read.specs.Meaning.{messageOf, held, bit}
 use Rattle.wire.proofs.StandLaws.{Fact, after, Stand, needed, maybed, ended, plain-may, sized-length}
 use Rattle.wire.proofs.ValueLaws.{none-kept, last-kept, controls-kept, axc-kept, lbn-kept, split-bytes, lookup-kept}
@@ -40,8 +40,8 @@ split-length d s l e h = sym (length-part s l d h) ∙ split-four (part s l d) e
 
 -- ACK's flags, and REQUEST's, which may be absent
 ack-flags : (d : List ℕ) (i : ℕ) (p : Part) → Fact (may 0x40 false (Sized 2) lastOfTwo) d i p
-    → held (isHere p) (0 ∷ bit (flagIn d p 1 1) ∷ []) ≡ valueOf (may 0x40 false (Sized 2) lastOfTwo) d p
-unfolding flagIn
+    → held (isHere p) (0 ∷ bit (partFlag d p 1 1) ∷ []) ≡ valueOf (may 0x40 false (Sized 2) lastOfTwo) d p
+unfolding partFlag
 ack-flags d i Absent f = refl
 ack-flags d i (Here s l) f =
     let e = sized-length 2 d s l (f .0) (f .1) in

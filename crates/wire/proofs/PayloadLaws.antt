@@ -20,15 +20,15 @@ use Rattle.wire_shapes.specs.declared.Shape.the-variants.{Any, Entry}
 use Rattle.wire_fields.specs.Kinds.{may, codes, bufferKinds, authorityKinds, kindsOf, splitBytes}
 use Rattle.wire_fields.specs.Message.{Contents, Message, Held, Formed, WellFormed, layoutFrom, layoutOf, messageBytes, headerOf}
 use Rattle.wire_fields.specs.Reading.{contentsIn}
-use Rattle.wire_read.specs.Meaning.{messageOf, held, bit, insideFields}
-use Rattle.wire_read.specs.declared.Head.{Head}
+use Rattle.wire_read.specs.Meaning.{messageOf, held, bit, authorityFields}
 use Rattle.wire_buffer.specs.declared.Inside.{Inside}
-use Rattle.wire_read.specs.declared.Answer.the-variants.{Authority}
+use Rattle.wire_read.specs.declared.Incoming.the-variants as M
+use Rattle.wire_read.specs.declared.messages.Authority.{Authority}
 use Rattle.wire_write.specs.Writing.{Made}
 use Rattle.wire_write.specs.Pieces.{Lent, pieceOk, lentOf, kindsOfRows, contentsOf, givensOf, madeBy}
-use Rattle.wire_write.specs.Rows.{mayRow, authorityRows, spelledBytes}
+use Rattle.wire_write.specs.Rows.{mayRow, authorityRows}
 use Rattle.wire_write.specs.declared.Row.{Row}
-use Rattle.wire_copy.specs.Resent.{pieceOf, resent}
+use Rattle.wire_copy.specs.Resent.{pieceOf, authorityBytes, resent}
 use Rattle.wire_payload.specs.Payload.{carryingPieces, carrying, withPayload}
 use Rattle.wire_payload.proofs.PayloadLaws.{same-ok}
 use Rattle.wire.specs.Statements.{changedAt, changed}
@@ -44,12 +44,15 @@ right-by true true false p q e x h k = h
 right-by true false c p q e x h k = h
 right-by false b c p q e x h k = h
 
-module _ (major : ℕ) (d : List ℕ) (h : Head) (acked : ℕ) (f : Inside) (v : List ℕ) where
+module _ (major : ℕ) (d : List ℕ) (m : Authority) (v : List ℕ) where
+  abbrev f : Inside
+  f = m .fields
+
   -- a piece of the datagram is right for its row, whatever else is lent
   abbrev stands : Row → Part → Bool
   stands r p = pieceOk (lentOf [] d []) r (pieceOf p)
 
-  pub carrying-right : (size : ℕ) → resent major d (Authority h acked f) .ok ≡ true → carrying major d h acked f v size .ok ≡ true
+  pub carrying-right : (size : ℕ) → resent major d (M.Authority m) .ok ≡ true → carrying major d m v size .ok ≡ true
   unfolding resent carrying madeBy digitsBE hasShape
   carrying-right size e =
       right-by (stands (mayRow 0x80 true Any) (f .chain)) (stands (mayRow 0x9F true Any) (f .token)) (stands (mayRow 0x85 true codes) (f .classifier))
@@ -68,7 +71,7 @@ module _ (major : ℕ) (d : List ℕ) (h : Head) (acked : ℕ) (f : Inside) (v :
   unfolding hasShape
   stands-within s l e = leb-true (s + l) (length d) (sym (and-true (leb (s + l) (length d))) ∙ e)
 
-  pub payload-within : (s l : ℕ) → resent major d (Authority h acked f) .ok ≡ true → f .payload ≡ Here s l → s + l ≤ length d
+  pub payload-within : (s l : ℕ) → resent major d (M.Authority m) .ok ≡ true → f .payload ≡ Here s l → s + l ≤ length d
   unfolding resent madeBy digitsBE hasShape
   payload-within s l e q =
       stands-within s l (subst (λ (p : Part). stands (mayRow 0x5A true Any) p ≡ true) q
@@ -86,7 +89,7 @@ module _ (major : ℕ) (d : List ℕ) (h : Head) (acked : ℕ) (f : Inside) (v :
       ∷ some v ∷ contentsIn d (f .entry) ∷ contentsIn d (f .cpa) ∷ []
 
   abbrev lentWith : ℕ → Lent
-  lentWith size = lentOf (spelledBytes acked size (2 * bit (f .l)) (8 * bit (f .b) + bit (f .n))) d v
+  lentWith size = lentOf (authorityBytes (m .acked) size (m .fields)) d v
 
   given-behind : (size : ℕ) → Same behind (drop 2 (contentsOf (givensOf (lentWith size) (carryingPieces f v))))
   unfolding digitsBE
@@ -107,7 +110,7 @@ module _ (major : ℕ) (d : List ℕ) (h : Head) (acked : ℕ) (f : Inside) (v :
     ),
   )
 
-  followed : Formed bufferKinds behind → length (carrying major d h acked f v 0 .bytes) ≡ 28 + length (messageBytes (layoutFrom 28 bufferKinds behind))
+  followed : Formed bufferKinds behind → length (carrying major d m v 0 .bytes) ≡ 28 + length (messageBytes (layoutFrom 28 bufferKinds behind))
   unfolding carrying madeBy digitsBE
   followed g =
       let e = rows-bytes bufferKinds (drop 2 authorityRows) 28 behind
@@ -122,16 +125,16 @@ module _ (major : ℕ) (d : List ℕ) (h : Head) (acked : ℕ) (f : Inside) (v :
   seen =
       record {
         major = major;
-        minor = h .minor;
+        minor = m .head .minor;
         type = 8;
-        id = h .id;
-        fields = some (digitsBE 256 4 acked) ∷ some (splitBytes (length d - 28)) ∷ insideFields d f;
+        id = m .head .id;
+        fields = authorityFields d m;
       }
 
   -- header, acked ID, split controls, and what follows them
   front : ℕ → List ℕ → List ℕ
   front size rest =
-      headerOf seen ++ digitsBE 256 2 0x18 ++ digitsBE 256 2 8 ++ digitsBE 256 4 acked ++ digitsBE 256 2 0x98 ++ digitsBE 256 2 8
+      headerOf seen ++ digitsBE 256 2 0x18 ++ digitsBE 256 2 8 ++ digitsBE 256 4 (m .acked) ++ digitsBE 256 2 0x98 ++ digitsBE 256 2 8
       ++ splitBytes size ++ rest
 
   abbrev restGiven : ℕ → List ℕ
@@ -139,7 +142,7 @@ module _ (major : ℕ) (d : List ℕ) (h : Head) (acked : ℕ) (f : Inside) (v :
       messageBytes (layoutFrom 28 (kindsOfRows (drop 2 authorityRows))
       (drop 2 (contentsOf (givensOf (lentWith size) (carryingPieces f v)))))
 
-  made-front : (size : ℕ) → carrying major d h acked f v size .bytes ≡ front size (restGiven size)
+  made-front : (size : ℕ) → carrying major d m v size .bytes ≡ front size (restGiven size)
   unfolding carrying madeBy digitsBE front
   made-front size = refl
 
@@ -149,18 +152,18 @@ module _ (major : ℕ) (d : List ℕ) (h : Head) (acked : ℕ) (f : Inside) (v :
   changed-front = refl
 
   payload-bytes : Formed bufferKinds behind
-      → withPayload major d h acked f v .bytes ≡ messageBytes (layoutOf authorityKinds (changed authorityKinds seen 6 (some v)))
+      → withPayload major d m v .bytes ≡ messageBytes (layoutOf authorityKinds (changed authorityKinds seen 6 (some v)))
   unfolding withPayload
   payload-bytes g =
-      let size = length (carrying major d h acked f v 0 .bytes) - 28 in
+      let size = length (carrying major d m v 0 .bytes) - 28 in
       let told : size ≡ length (messageBytes (layoutFrom 28 bufferKinds behind)) = omega (arith, followed g) in
       let same = rows-bytes bufferKinds (drop 2 authorityRows) 28 behind
       (drop 2 (contentsOf (givensOf (lentWith size) (carryingPieces f v))))
       (authority-rows .2 .2) g (given-behind size) in
       made-front size ∙ ap₂ (λ (n : ℕ) (rest : List ℕ). front n rest) told same ∙ sym changed-front
 
-  pub payload-made : Formed authorityKinds (seen .fields) → Held (may 0x5A true Any []) v → resent major d (Authority h acked f) .ok ≡ true
-      → withPayload major d h acked f v ≡ record { ok = true; bytes = messageBytes (layoutOf authorityKinds (changed authorityKinds seen 6 (some v))) }
+  pub payload-made : Formed authorityKinds (seen .fields) → Held (may 0x5A true Any []) v → resent major d (M.Authority m) .ok ≡ true
+      → withPayload major d m v ≡ record { ok = true; bytes = messageBytes (layoutOf authorityKinds (changed authorityKinds seen 6 (some v))) }
   unfolding withPayload
   payload-made g p e =
       let changed-formed = formed-at authorityKinds 6 (some v) (seen .fields) g p in

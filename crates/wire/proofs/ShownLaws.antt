@@ -16,13 +16,19 @@ use Rattle.wire_fields.specs.Refusals.{Found, refused, found, foundIn}
 use Rattle.wire_fields.specs.declared.Part.{Part}
 use Rattle.wire_fields.proofs.WholeLaws.{way}
 use Rattle.wire_read.specs.Answers as R
-use Rattle.wire_read.specs.Answers.{answer, shown}
-use Rattle.wire_read.specs.declared.Answer.{Answer}
-use Rattle.wire_read.specs.declared.Answer.the-variants.{Refused}
+use Rattle.wire_read.specs.Answers.{readIn, incomingOf}
+use Rattle.wire_read.specs.declared.Incoming.{Incoming}
+use Rattle.wire_read.specs.declared.Incoming.the-variants.{Refused}
+use Rattle.wire_read.specs.declared.messages.Flood.{Flood}
 use Rattle.wire.proofs.StandLaws.{Stand, stands}
 
+-- a FLOOD with this route entry: with its own it is itself, and a law goes by whether it has one
+abbrev pub withEntry : Flood → Part → Flood
+withEntry m p =
+    record { head = m .head; d = m .d; validate = m .validate; token = m .token; revoke = m .revoke; entry = p; reached = m .reached }
+
 -- a property of the answer of each type
-pub record Each (P : Answer → Type 0) (d : List ℕ) : Type 0 where
+pub record Each (P : Incoming → Type 0) (d : List ℕ) : Type 0 where
   pub solicit : (ps : List Part) → Stand K.solicitKinds d 12 ps → P (R.solicitShown d ps)
   pub advertise : (ps : List Part) → Stand K.advertiseKinds d 12 ps → P (R.advertiseShown d ps)
   pub request : (ps : List Part) → Stand K.requestKinds d 12 ps → P (R.requestShown d ps)
@@ -32,7 +38,7 @@ pub record Each (P : Answer → Type 0) (d : List ℕ) : Type 0 where
   pub ack : (ps : List Part) → Stand K.ackKinds d 12 ps → P (R.ackShown d ps)
   pub lookup : (ps : List Part) → Stand K.lookupKinds d 12 ps → P (R.lookupShown d ps)
 
-which : (P : Answer → Type 0) (b : Bool) (x y : Answer) → (b ≡ true → P x) → (b ≡ false → P y) → P (cond b x y)
+which : (P : Incoming → Type 0) (b : Bool) (x y : Incoming) → (b ≡ true → P x) → (b ≡ false → P y) → P (cond b x y)
 which P true x y p q = p refl
 which P false x y p q = q refl
 
@@ -50,9 +56,9 @@ lookup-kinds : (t : ℕ) (ks : List Kind) → kindsOf t ≡ some ks → eqb t 1 
 unfolding kindsOf
 lookup-kinds t ks k e₁ e₂ e₃ e₄ e₇ e₈ e₉ = last-kinds (eqb t 11) ks (rw (e₁, e₂, e₃, e₄, e₇, e₈, e₉) at k)
 
-module _ (P : Answer → Type 0) (d : List ℕ) where
-  of-type : Each P d → (t : ℕ) (ks : List Kind) (ps : List Part) → kindsOf t ≡ some ks → Stand ks d 12 ps → P (shown d (found t ps))
-  unfolding shown kindsOf
+module _ (P : Incoming → Type 0) (d : List ℕ) where
+  of-type : Each P d → (t : ℕ) (ks : List Kind) (ps : List Part) → kindsOf t ≡ some ks → Stand ks d 12 ps → P (incomingOf d (found t ps))
+  unfolding incomingOf kindsOf
   of-type each t ks ps k w =
       let S : List Kind → Type 0 = λ (js : List Kind). Stand js d 12 ps in
       which P (eqb t 1) _ _ (λ e. each .solicit ps (subst S (one-kinds t 1 ks K.solicitKinds k e refl) w))
@@ -65,12 +71,12 @@ module _ (P : Answer → Type 0) (d : List ℕ) where
       (λ e₉. each .lookup ps (subst S (lookup-kinds t ks k e₁ e₂ e₃ e₄ e₇ e₈ e₉) w))))))))
 
   module _ (refusal : (n : ℕ) → P (Refused n)) (each : length d ≤ 1232 → Each P d) (major : ℕ) where
-    of-found : (x : Found) → foundIn d major ≡ x → P (shown d x)
-    unfolding shown
+    of-found : (x : Found) → foundIn d major ≡ x → P (incomingOf d x)
+    unfolding incomingOf
     of-found (refused n) e = refusal n
     of-found (found t ps) e =
         let (ks, w) = way d major t ps e in
         of-type (each (w .most)) t ks ps (w .kinds) (stands ks d 12 ps (w .places))
 
-    pub of-each : P (answer d major)
+    pub of-each : P (readIn d major)
     of-each = of-found (foundIn d major) refl

@@ -21,12 +21,11 @@ use Rattle.wire_fields.proofs.RefusalLaws.{byType, inSteps, found-steps}
 use Rattle.wire_fields.specs.Refusals.{Found, refused, found, foundOf, inPart, spansOf, fieldsIn, refusals, foundIn}
 use Rattle.wire_fields.specs.declared.Part.{Part}
 use Rattle.wire_fields.proofs.WholeLaws.{way, lengths, found-reads, reads-found, reads-once, written-reads, read-written}
-use Rattle.wire_read.specs.Answers.{answer, shown, solicitShown, advertiseShown, requestShown, floodShown, inquireShown, authorityShown, ackShown, lookupShown}
+use Rattle.wire_read.specs.Answers.{readIn, incomingOf, solicitShown, advertiseShown, requestShown, floodShown, inquireShown, authorityShown, ackShown, lookupShown}
 use Rattle.wire_read.specs.Meaning.{numberOf, messageOf}
-use Rattle.wire_read.specs.declared.Answer.{Answer}
-use Rattle.wire_read.specs.declared.Answer.the-variants.{Authority}
-use Rattle.wire_read.specs.declared.Head.{Head}
-use Rattle.wire_buffer.specs.declared.Inside.{Inside}
+use Rattle.wire_read.specs.declared.Incoming.{Incoming}
+use Rattle.wire_read.specs.declared.Incoming.the-variants as M
+use Rattle.wire_read.specs.declared.messages.Authority.{Authority}
 use Rattle.wire_write.specs.Writing.{Made, fit, writeAs, writeIn, Wrote}
 use Rattle.wire_write.specs.declared.Written.{Written}
 use Rattle.wire.specs.Statements.{PayloadReads, changedAt, changed, AtMostOne, WrittenReads, ReadWritten, ChangedReads}
@@ -49,14 +48,14 @@ at-most-one ks js d m n p q = reads-once ks js d m n p q
 -- ---- the answer, by what is found
 
 -- what holds of the answer of each type, of its kinds, holds of the answer shown
-abbrev Holds : (ℕ → List Kind → Answer → Type 0) → List ℕ → List Part → Type 0
+abbrev Holds : (ℕ → List Kind → Incoming → Type 0) → List ℕ → List Part → Type 0
 Holds P d ps =
     P 1 solicitKinds (solicitShown d ps) × P 2 advertiseKinds (advertiseShown d ps) × P 3 requestKinds (requestShown d ps)
     × P 4 floodKinds (floodShown d ps) × P 7 inquireKinds (inquireShown d ps) × P 8 authorityKinds (authorityShown d ps)
     × P 9 ackKinds (ackShown d ps) × P 11 lookupKinds (lookupShown d ps)
 
-module _ (P : ℕ → List Kind → Answer → Type 0) (d : List ℕ) (ps : List Part) (h : Holds P d ps) (t : ℕ) (ks : List Kind) where
-  of-kind : (n : ℕ) (js : List Kind) (a : Answer) → P n js a → eqb t n ≡ true → some js ≡ some ks → P t ks a
+module _ (P : ℕ → List Kind → Incoming → Type 0) (d : List ℕ) (ps : List Part) (h : Holds P d ps) (t : ℕ) (ks : List Kind) where
+  of-kind : (n : ℕ) (js : List Kind) (a : Incoming) → P n js a → eqb t n ≡ true → some js ≡ some ks → P t ks a
   of-kind n js a p q e =
       let k : js ≡ ks = cc in
       subst (λ (x : List Kind). P t x a) k (subst (λ (u : ℕ). P u js a) (sym (eqb-true t n q)) p)
@@ -77,8 +76,8 @@ module _ (P : ℕ → List Kind → Answer → Type 0) (d : List ℕ) (ps : List
   by-kind false q₁ false q₂ false q₃ false q₄ false q₇ false q₈ false q₉ true r₁ e = of-kind 11 lookupKinds (lookupShown d ps) (h .7) r₁ e
   by-kind false q₁ false q₂ false q₃ false q₄ false q₇ false q₈ false q₉ false r₁ e = absurd (let o : _≡_ {A = ℕ} 0 1 = cc in omega arith)
 
-  by-shown : kindsOf t ≡ some ks → P t ks (shown d (found t ps))
-  unfolding shown kindsOf
+  by-shown : kindsOf t ≡ some ks → P t ks (incomingOf d (found t ps))
+  unfolding incomingOf kindsOf
   by-shown e = by-kind _ refl _ refl _ refl _ refl _ refl _ refl _ refl _ refl e
 
 -- the places found stand, and split controls follow from the rest
@@ -93,7 +92,7 @@ found-stand major d t ps e ks k =
     )
 
 -- what is found, `read` says
-abbrev Means : ℕ → List ℕ → List Part → ℕ → List Kind → Answer → Type 0
+abbrev Means : ℕ → List ℕ → List Part → ℕ → List Kind → Incoming → Type 0
 Means major d ps t ks a =
     Bytes d → major ≡ getD d 5 0 → Stand ks d 12 ps → sized t (length d) ps (valuesOf ks d ps) ≡ true
     → messageOf major d a ≡ some (messageAt ks d t ps)
@@ -111,13 +110,13 @@ means major d ps = (
 )
 
 shown-means : (major : ℕ) (d : List ℕ) → Bytes d → (t : ℕ) (ps : List Part) → foundIn d major ≡ found t ps
-    → (ks : List Kind) → kindsOf t ≡ some ks → messageOf major d (shown d (found t ps)) ≡ some (messageAt ks d t ps)
+    → (ks : List Kind) → kindsOf t ≡ some ks → messageOf major d (incomingOf d (found t ps)) ≡ some (messageAt ks d t ps)
 shown-means major d b t ps e ks k =
     let (w, z, m) = found-stand major d t ps e ks k in
     by-shown (Means major d ps) d ps (means major d ps) t ks k b m w z
 
 -- and it is right to be written again
-abbrev Right : ℕ → List ℕ → List Part → ℕ → List Kind → Answer → Type 0
+abbrev Right : ℕ → List ℕ → List Part → ℕ → List Kind → Incoming → Type 0
 Right major d ps t ks a =
     Stand ks d 12 ps → (m : Message) → messageOf major d a ≡ some m → joinedFields (m .type) (m .fields) ≡ true → resent major d a .ok ≡ true
 
@@ -126,16 +125,16 @@ right major d ps = (
   λ w m e j. solicit-right major d ps (stand-rights solicitKinds d 12 ps w),
   λ w m e j. advertise-right major d ps (stand-rights advertiseKinds d 12 ps w),
   λ w m e j. request-right major d ps (stand-rights requestKinds d 12 ps w),
-  λ w m e j. flood-right major d ps (flood-one major d _ _ _ _ _ _ _ m e j) (stand-rights floodKinds d 12 ps w),
+  λ w m e j. flood-right major d ps (flood-one major d _ m e j) (stand-rights floodKinds d 12 ps w),
   λ w m e j. inquire-right major d ps (stand-rights inquireKinds d 12 ps w),
   λ w m e j. authority-right major d ps (buffer-rights d 12 ps w),
   λ w m e j. ack-right major d ps (stand-rights ackKinds d 12 ps w),
   λ w m e j. lookup-right major d ps (stand-rights lookupKinds d 12 ps w),
 )
 
-by-found : (d : List ℕ) → Bytes d → (major : ℕ) (m : Message) (x : Found) → foundIn d major ≡ x → messageOf major d (shown d x) ≡ some m
+by-found : (d : List ℕ) → Bytes d → (major : ℕ) (m : Message) (x : Found) → foundIn d major ≡ x → messageOf major d (incomingOf d x) ≡ some m
     → (ks : List Kind) × Reads ks d m × (m .major ≡ major)
-unfolding shown messageOf
+unfolding incomingOf messageOf
 by-found d b major m (refused n) e q = absurd (let z : _≡_ {A = ℕ} 0 1 = cc in omega arith)
 by-found d b major m (found t ps) e q =
     let (ks, r, v) = found-reads d b major t ps e in
@@ -144,59 +143,59 @@ by-found d b major m (found t ps) e q =
     (ks, subst (Reads ks d) s r, sym (ap (λ (y : Message). y .major) s) ∙ v)
 
 reads-give : (d : List ℕ) → Bytes d → (major : ℕ) (m : Message) (ks : List Kind) → Reads ks d m → m .major ≡ major
-    → messageOf major d (answer d major) ≡ some m
+    → messageOf major d (readIn d major) ≡ some m
 reads-give d b major m ks r v =
     let f = reads-found ks d m r in
     let ps = partsOf 12 ks (m .fields) in
     let e : foundIn d major ≡ found (m .type) ps = ap (foundIn d) (sym v) ∙ f .0 in
-    ap (λ (x : Found). messageOf major d (shown d x)) e ∙ shown-means major d b (m .type) ps e ks (r .well .known) ∙ ap some (f .1)
+    ap (λ (x : Found). messageOf major d (incomingOf d x)) e ∙ shown-means major d b (m .type) ps e ks (r .well .known) ∙ ap some (f .1)
 
 -- 2
 pub read-gives : ReadGives
 read-gives d b major m = (λ e. by-found d b major m (foundIn d major) refl e, λ w. reads-give d b major m (w .0) (w .1) (w .2))
 
-zero-cond : (a : Bool) (x y : Answer) → numberOf x ≡ 0 → numberOf y ≡ 0 → numberOf (cond a x y) ≡ 0
+zero-cond : (a : Bool) (x y : Incoming) → numberOf x ≡ 0 → numberOf y ≡ 0 → numberOf (cond a x y) ≡ 0
 zero-cond true x y p q = p
 zero-cond false x y p q = q
 
-accepted : (d : List ℕ) (t : ℕ) (ps : List Part) → numberOf (shown d (found t ps)) ≡ 0
-unfolding shown
+accepted : (d : List ℕ) (t : ℕ) (ps : List Part) → numberOf (incomingOf d (found t ps)) ≡ 0
+unfolding incomingOf
 accepted d t ps =
     zero-cond (eqb t 1) _ _ refl (zero-cond (eqb t 2) _ _ refl (zero-cond (eqb t 3) _ _ refl (zero-cond (eqb t 4) _ _ refl
     (zero-cond (eqb t 7) _ _ refl (zero-cond (eqb t 8) _ _ refl (zero-cond (eqb t 9) _ _ refl refl))))))
 
-numbered : (d : List ℕ) (n : ℕ) → numberOf (shown d (refused n)) ≡ n
-unfolding shown
+numbered : (d : List ℕ) (n : ℕ) → numberOf (incomingOf d (refused n)) ≡ n
+unfolding incomingOf
 numbered d n = refl
 
 pub read-refuses : ReadRefuses
 unfolding foundIn
 read-refuses d major n p =
-    call-exactly (λ (x : Found). numberOf (shown d x)) refused (numbered d) (found (typeOf d) (spansOf (fieldsIn d)))
+    call-exactly (λ (x : Found). numberOf (incomingOf d x)) refused (numbered d) (found (typeOf d) (spansOf (fieldsIn d)))
     (accepted d (typeOf d) (spansOf (fieldsIn d))) (refusals d major) 2 (omega arith) n p
 
 -- 0 is given only with a message
-refuses : (d : List ℕ) (n : ℕ) → 0 < n → numberOf (shown d (refused n)) ≡ 0 → (t : ℕ) × (ps : List Part) × (refused n ≡ found t ps)
+refuses : (d : List ℕ) (n : ℕ) → 0 < n → numberOf (incomingOf d (refused n)) ≡ 0 → (t : ℕ) × (ps : List Part) × (refused n ≡ found t ps)
 refuses d n p e = absurd (omega (arith, numbered d n))
 
 either : (d : List ℕ) (b : Bool) (x y : Found)
-    → (numberOf (shown d x) ≡ 0 → (t : ℕ) × (ps : List Part) × (x ≡ found t ps))
-    → (numberOf (shown d y) ≡ 0 → (t : ℕ) × (ps : List Part) × (y ≡ found t ps))
-    → numberOf (shown d (cond b x y)) ≡ 0 → (t : ℕ) × (ps : List Part) × (cond b x y ≡ found t ps)
+    → (numberOf (incomingOf d x) ≡ 0 → (t : ℕ) × (ps : List Part) × (x ≡ found t ps))
+    → (numberOf (incomingOf d y) ≡ 0 → (t : ℕ) × (ps : List Part) × (y ≡ found t ps))
+    → numberOf (incomingOf d (cond b x y)) ≡ 0 → (t : ℕ) × (ps : List Part) × (cond b x y ≡ found t ps)
 either d true x y p q e = p e
 either d false x y p q e = q e
 
-of-type : (d : List ℕ) (t : ℕ) (o : Option (List Kind)) → numberOf (shown d (byType t d o)) ≡ 0
+of-type : (d : List ℕ) (t : ℕ) (o : Option (List Kind)) → numberOf (incomingOf d (byType t d o)) ≡ 0
     → (u : ℕ) × (ps : List Part) × (byType t d o ≡ found u ps)
 of-type d t none e = refuses d 5 (omega arith) e
 of-type d t (some ks) e =
     either d (inPart t d) (refused 7) (foundOf t (fieldsAs t ks d)) (refuses d 7 (omega arith)) (of-fields t (fieldsAs t ks d)) e
   where
-    of-fields : (t : ℕ) (o : Option (List Part)) → numberOf (shown d (foundOf t o)) ≡ 0 → (u : ℕ) × (ps : List Part) × (foundOf t o ≡ found u ps)
+    of-fields : (t : ℕ) (o : Option (List Part)) → numberOf (incomingOf d (foundOf t o)) ≡ 0 → (u : ℕ) × (ps : List Part) × (foundOf t o ≡ found u ps)
     of-fields t none e = refuses d 6 (omega arith) e
     of-fields t (some ps) e = (t, ps, refl)
 
-accepts : (d : List ℕ) (major : ℕ) → numberOf (shown d (inSteps d major)) ≡ 0 → (t : ℕ) × (ps : List Part) × (inSteps d major ≡ found t ps)
+accepts : (d : List ℕ) (major : ℕ) → numberOf (incomingOf d (inSteps d major)) ≡ 0 → (t : ℕ) × (ps : List Part) × (inSteps d major ≡ found t ps)
 unfolding inSteps
 accepts d major e =
     either d (leb 12 (length d) && leb (length d) 1232) _ (refused 2)
@@ -208,19 +207,19 @@ accepts d major e =
 pub read-accepts : ReadAccepts
 read-accepts d b major = (forth, back)
   where
-    forth : numberOf (answer d major) ≡ 0 → (m : Message) × (messageOf major d (answer d major) ≡ some m)
+    forth : numberOf (readIn d major) ≡ 0 → (m : Message) × (messageOf major d (readIn d major) ≡ some m)
     forth e =
         let s = found-steps d major in
-        let (t, ps, q) = accepts d major (ap (λ (x : Found). numberOf (shown d x)) (sym s) ∙ e) in
+        let (t, ps, q) = accepts d major (ap (λ (x : Found). numberOf (incomingOf d x)) (sym s) ∙ e) in
         let f : foundIn d major ≡ found t ps = s ∙ q in
         let (ks, r, v) = found-reads d b major t ps f in
-        (messageAt ks d t ps, ap (λ (x : Found). messageOf major d (shown d x)) f ∙ shown-means major d b t ps f ks (r .well .known))
+        (messageAt ks d t ps, ap (λ (x : Found). messageOf major d (incomingOf d x)) f ∙ shown-means major d b t ps f ks (r .well .known))
 
-    back : (m : Message) × (messageOf major d (answer d major) ≡ some m) → numberOf (answer d major) ≡ 0
+    back : (m : Message) × (messageOf major d (readIn d major) ≡ some m) → numberOf (readIn d major) ≡ 0
     back w =
         let (ks, r, v) = by-found d b major (w .0) (foundIn d major) refl (w .1) in
         let f = reads-found ks d (w .0) r in
-        ap (λ (x : Found). numberOf (shown d x)) (ap (foundIn d) (sym v) ∙ f .0) ∙ accepted d _ _
+        ap (λ (x : Found). numberOf (incomingOf d x)) (ap (foundIn d) (sym v) ∙ f .0) ∙ accepted d _ _
 
 -- 3
 pub written-back : WrittenReads
@@ -275,18 +274,18 @@ reads-length ks d m r =
 
 -- what is written again of what `read` gave
 made-again : (d : List ℕ) → Bytes d → (major : ℕ) (m : Message) (ks : List Kind) → Reads ks d m → m .major ≡ major
-    → resent major d (answer d major) ≡ record { ok = true; bytes = messageBytes (layoutOf ks m) }
+    → resent major d (readIn d major) ≡ record { ok = true; bytes = messageBytes (layoutOf ks m) }
 made-again d b major m ks r v =
     let g = reads-give d b major m ks r v in
     let f = reads-found ks d m r in
     let ps = partsOf 12 ks (m .fields) in
     let e : foundIn d major ≡ found (m .type) ps = ap (foundIn d) (sym v) ∙ f .0 in
     let w = found-stand major d (m .type) ps e ks (r .well .known) in
-    let q : messageOf major d (shown d (found (m .type) ps)) ≡ some m = ap (λ (x : Found). messageOf major d (shown d x)) (sym e) ∙ g in
-    let o : resent major d (answer d major) .ok ≡ true =
-    ap (λ (x : Found). resent major d (shown d x) .ok) e
+    let q : messageOf major d (incomingOf d (found (m .type) ps)) ≡ some m = ap (λ (x : Found). messageOf major d (incomingOf d x)) (sym e) ∙ g in
+    let o : resent major d (readIn d major) .ok ≡ true =
+    ap (λ (x : Found). resent major d (incomingOf d x) .ok) e
     ∙ by-shown (Right major d ps) d ps (right major d ps) (m .type) ks (r .well .known) (w .0) m q (r .well .joins) in
-    let y = again-bytes major d (answer d major) m g ks (r .well .known) (r .well .formed) (r .well .joins) in
+    let y = again-bytes major d (readIn d major) m g ks (r .well .known) (r .well .formed) (r .well .joins) in
     ap₂ (λ (x : Bool) (z : List ℕ). record { ok = x; bytes = z }) o y
 
 pub read-written-again : ReadWrittenAgain
@@ -309,8 +308,8 @@ output-again d b major m e old r out h w =
     let q : r ≡ record { number = 0; length = length d } = o .answer ∙ a .0 ∙ ap (λ (z : ℕ). record { number = 0; length = z }) n in
     let g = output-reads ks m true old r out (x .well) o (ap (λ (z : Written). z .number) q) in (
       q,
-      subst (λ (k : ℕ). messageOf major (take k out) (answer (take k out) major) ≡ some m) (ap (λ (z : Written). z .length) q)
-          (subst (λ (k : ℕ). messageOf k (take (r .length) out) (answer (take (r .length) out) k) ≡ some m) v g),
+      subst (λ (k : ℕ). messageOf major (take k out) (readIn (take k out) major) ≡ some m) (ap (λ (z : Written). z .length) q)
+          (subst (λ (k : ℕ). messageOf k (take (r .length) out) (readIn (take (r .length) out) k) ≡ some m) v g),
     )
 
 -- 5
@@ -346,26 +345,26 @@ payload-reads m v w b l h =
 -- 7
 
 -- an AUTHORITY that was read is a message, and right to be written again
-module _ (d : List ℕ) (b : Bytes d) (major : ℕ) (h : Head) (acked : ℕ) (f : Inside) (a : answer d major ≡ Authority h acked f) where
-  pub authority-is : messageOf major d (answer d major) ≡ some (seen major d h acked f [])
+module _ (d : List ℕ) (b : Bytes d) (major : ℕ) (x : Authority) (a : readIn d major ≡ M.Authority x) where
+  pub authority-is : messageOf major d (readIn d major) ≡ some (seen major d x [])
   unfolding messageOf
   authority-is = ap (messageOf major d) a
 
-  pub authority-again : resent major d (Authority h acked f) .ok ≡ true
+  pub authority-again : resent major d (M.Authority x) .ok ≡ true
   authority-again =
-      let (ks, r, again) = read-written-again d b major (seen major d h acked f []) authority-is in
-      ap (λ (y : Answer). resent major d y .ok) (sym a) ∙ ap (λ (y : Made). y .ok) again
+      let (ks, r, again) = read-written-again d b major (seen major d x []) authority-is in
+      ap (λ (y : Incoming). resent major d y .ok) (sym a) ∙ ap (λ (y : Made). y .ok) again
 
 pub payload-written : PayloadWritten
 unfolding messageOf kindsOf
-payload-written d b major h acked f m a e v c l =
-    let x = seen major d h acked f v in
-    let told : some m ≡ some x = sym e ∙ ap (messageOf major d) a in
-    let same : m ≡ x = cc in
+payload-written d b major x m a e v c l =
+    let s = seen major d x v in
+    let told : some m ≡ some s = sym e ∙ ap (messageOf major d) a in
+    let same : m ≡ s = cc in
     let (ks, r, again) = read-written-again d b major m e in
     let kind : some ks ≡ some authorityKinds = sym (r .well .known) ∙ ap (λ (y : Message). kindsOf (y .type)) same in
     let kinds : ks ≡ authorityKinds = cc in
-    let formed : Formed authorityKinds (x .fields) = subst (λ (y : Message). Formed authorityKinds (y .fields)) same
+    let formed : Formed authorityKinds (s .fields) = subst (λ (y : Message). Formed authorityKinds (y .fields)) same
     (subst (λ (k : List Kind). Formed k (m .fields)) kinds (r .well .formed)) in
-    payload-made major d h acked f v formed (payload-held v c l) (authority-again d b major h acked f a)
+    payload-made major d x v formed (payload-held v c l) (authority-again d b major x a)
     ∙ ap (λ (y : Message). record { ok = true; bytes = messageBytes (layoutOf authorityKinds (changed authorityKinds y 6 (some v))) }) (sym same)

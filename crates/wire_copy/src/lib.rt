@@ -1,10 +1,16 @@
 // A message of any of the eight types that was read from a datagram, written again from where it was read, by the one
 // writer of `wire_whole`.
-use wire_buffer::Inside;
 use wire_fields::Part;
 use wire_numbers::*;
-use wire_read::Answer;
-use wire_read::Head;
+use wire_read::Incoming;
+use wire_read::messages::Ack;
+use wire_read::messages::Advertise;
+use wire_read::messages::Authority;
+use wire_read::messages::Flood;
+use wire_read::messages::Inquire;
+use wire_read::messages::Lookup;
+use wire_read::messages::Request;
+use wire_read::messages::Solicit;
 use wire_rows::ack_rows;
 use wire_rows::advertise_rows;
 use wire_rows::authority_rows;
@@ -29,7 +35,7 @@ ghost use lib.Dec.{eqb};
 ghost use lib.ListN.{length};
 ghost use Rattle.wire_fields.specs.Kinds.{oneOf};
 ghost use Rattle.wire_read.specs.Meaning.{bit};
-ghost use Rattle.wire_read.specs.declared.Answer.the-variants.{Solicit, Advertise, Request, Flood, Inquire, Authority, Ack, Lookup};
+ghost use Rattle.wire_read.specs.declared.Incoming.the-variants as read;
 ghost use Rattle.wire_write.specs.Writing.{Wrote};
 ghost use Rattle.wire_copy.specs.Resent.{pieceOf, spelledIf, resent};
 
@@ -115,41 +121,46 @@ fn kept_precision(criteria: u8, precision: u16) -> u16
     0
 }
 
-fn solicit(out: &mut [u8], major: u8, head: Head, entry: Part, nonce: usize, d: &[u8]) -> Written
-    ensures { λ r. ⌜ Wrote (resent major (now (d .entry)) (Solicit head entry nonce)) (now (out .entry)) r (now (out .exit)) ⌝ }
+fn solicit(out: &mut [u8], major: u8, m: Solicit, d: &[u8]) -> Written
+    ensures { λ r. ⌜ Wrote (resent major (now (d .entry)) (read.Solicit m)) (now (out .entry)) r (now (out .exit)) ⌝ }
 {
     let rows = solicit_rows();
-    let entry = piece_of(entry);
-    let nonce = first_piece(nonce, HASHED_LEN);
+    let part = m.entry;
+    let entry = piece_of(part);
+    let nonce = first_piece(m.nonce, HASHED_LEN);
     let none = no_piece();
     let ps = [entry, nonce, none, none, none, none, none, none, none];
-    write_rows(out, major, head.minor, SOLICIT, head.id, rows, ps, d, d, d)
+    write_rows(
+        out,
+        major,
+        m.head.minor,
+        SOLICIT,
+        m.head.id,
+        rows,
+        ps,
+        d,
+        d,
+        d,
+    )
 }
 
-fn advertise(
-    out: &mut [u8],
-    major: u8,
-    head: Head,
-    acked: u32,
-    keys: Part,
-    nonce: usize,
-    d: &[u8],
-) -> Written
-    ensures { λ r. ⌜ Wrote (resent major (now (d .entry)) (Advertise head acked keys nonce)) (now (out .entry)) r (now (out .exit)) ⌝ }
+fn advertise(out: &mut [u8], major: u8, m: Advertise, d: &[u8]) -> Written
+    ensures { λ r. ⌜ Wrote (resent major (now (d .entry)) (read.Advertise m)) (now (out .entry)) r (now (out .exit)) ⌝ }
 {
     let rows = advertise_rows();
-    let spelled = spelled_bytes(acked, 0, 0, 0);
+    let spelled = spelled_bytes(m.acked, 0, 0, 0);
     let id_piece = spelled_piece(0, ACKED_LEN);
-    let keys = piece_of(keys);
-    let nonce = first_piece(nonce, HASHED_LEN);
+    let part = m.keys;
+    let keys = piece_of(part);
+    let nonce = first_piece(m.nonce, HASHED_LEN);
     let none = no_piece();
     let ps = [id_piece, keys, nonce, none, none, none, none, none, none];
     write_rows(
         out,
         major,
-        head.minor,
+        m.head.minor,
         ADVERTISE,
-        head.id,
+        m.head.id,
         rows,
         ps,
         &spelled,
@@ -158,33 +169,24 @@ fn advertise(
     )
 }
 
-fn request(
-    out: &mut [u8],
-    major: u8,
-    head: Head,
-    flags: bool,
-    split: bool,
-    nonce: usize,
-    keys: Part,
-    credential: Part,
-    signature: Part,
-    key: Part,
-    d: &[u8],
-) -> Written
-    ensures { λ r. ⌜ Wrote (resent major (now (d .entry)) (Request head flags split nonce keys credential signature key))
-        (now (out .entry)) r (now (out .exit)) ⌝ }
+fn request(out: &mut [u8], major: u8, m: Request, d: &[u8]) -> Written
+    ensures { λ r. ⌜ Wrote (resent major (now (d .entry)) (read.Request m)) (now (out .entry)) r (now (out .exit)) ⌝ }
 {
     let rows = request_rows();
-    let place = split_end(flags);
+    let place = split_end(m.flags);
     let size = behind(d, place);
     let spelled = spelled_bytes(0, size, 0, 0);
-    let flags = spelled_if(flags, 8, FLAGS_LEN);
-    let split = spelled_if(split, 4, SPLIT_LEN);
-    let nonce = first_piece(nonce, NONCE_LEN);
-    let keys = piece_of(keys);
-    let credential = piece_of(credential);
-    let signature = piece_of(signature);
-    let key = piece_of(key);
+    let flags = spelled_if(m.flags, 8, FLAGS_LEN);
+    let split = spelled_if(m.split, 4, SPLIT_LEN);
+    let nonce = first_piece(m.nonce, NONCE_LEN);
+    let part = m.keys;
+    let keys = piece_of(part);
+    let part = m.credential;
+    let credential = piece_of(part);
+    let part = m.signature;
+    let signature = piece_of(part);
+    let part = m.key;
+    let key = piece_of(part);
     let none = no_piece();
     let ps = [
         flags,
@@ -200,9 +202,9 @@ fn request(
     write_rows(
         out,
         major,
-        head.minor,
+        m.head.minor,
         REQUEST,
-        head.id,
+        m.head.id,
         rows,
         ps,
         &spelled,
@@ -211,36 +213,28 @@ fn request(
     )
 }
 
-fn flood(
-    out: &mut [u8],
-    major: u8,
-    head: Head,
-    silent: bool,
-    validate: usize,
-    token: Part,
-    revoke: Part,
-    entry: Part,
-    reached: Part,
-    d: &[u8],
-) -> Written
-    ensures { λ r. ⌜ Wrote (resent major (now (d .entry)) (Flood head silent validate token revoke entry reached))
-        (now (out .entry)) r (now (out .exit)) ⌝ }
+fn flood(out: &mut [u8], major: u8, m: Flood, d: &[u8]) -> Written
+    ensures { λ r. ⌜ Wrote (resent major (now (d .entry)) (read.Flood m)) (now (out .entry)) r (now (out .exit)) ⌝ }
 {
     let rows = flood_rows();
-    let revoke = piece_of(revoke);
-    let entry = piece_of(entry);
+    let part = m.revoke;
+    let revoke = piece_of(part);
+    let part = m.entry;
+    let entry = piece_of(part);
     if both_or_neither(revoke.there, entry.there) {
         return Written {
             number: 6,
             length: 0,
         };
     }
-    let low = bit_of(silent);
+    let low = bit_of(m.d);
     let spelled = spelled_bytes(0, 0, 0, low);
     let controls = spelled_piece(8, FLOOD_CONTROLS_LEN);
-    let validate = first_piece(validate, KEY_LEN);
-    let token = piece_of(token);
-    let reached = piece_of(reached);
+    let validate = first_piece(m.validate, KEY_LEN);
+    let part = m.token;
+    let token = piece_of(part);
+    let part = m.reached;
+    let reached = piece_of(part);
     let none = no_piece();
     let ps = [
         controls,
@@ -256,9 +250,9 @@ fn flood(
     write_rows(
         out,
         major,
-        head.minor,
+        m.head.minor,
         FLOOD,
-        head.id,
+        m.head.id,
         rows,
         ps,
         &spelled,
@@ -267,35 +261,25 @@ fn flood(
     )
 }
 
-fn inquire(
-    out: &mut [u8],
-    major: u8,
-    head: Head,
-    a: bool,
-    x: bool,
-    c: bool,
-    validate: usize,
-    nonce: Part,
-    credential: Part,
-    signature: Part,
-    key: Part,
-    d: &[u8],
-) -> Written
-    ensures { λ r. ⌜ Wrote (resent major (now (d .entry)) (Inquire head a x c validate nonce credential signature key))
-        (now (out .entry)) r (now (out .exit)) ⌝ }
+fn inquire(out: &mut [u8], major: u8, m: Inquire, d: &[u8]) -> Written
+    ensures { λ r. ⌜ Wrote (resent major (now (d .entry)) (read.Inquire m)) (now (out .entry)) r (now (out .exit)) ⌝ }
 {
     let rows = inquire_rows();
-    let first = bit_of(a);
-    let second = bit_of(x);
-    let third = bit_of(c);
+    let first = bit_of(m.a);
+    let second = bit_of(m.x);
+    let third = bit_of(m.c);
     let low = 16 * first + (8 * second + 4 * third);
     let spelled = spelled_bytes(0, 0, 0, low);
     let flags = spelled_piece(8, FLAGS_LEN);
-    let validate = first_piece(validate, KEY_LEN);
-    let nonce = piece_of(nonce);
-    let credential = piece_of(credential);
-    let signature = piece_of(signature);
-    let key = piece_of(key);
+    let validate = first_piece(m.validate, KEY_LEN);
+    let part = m.nonce;
+    let nonce = piece_of(part);
+    let part = m.credential;
+    let credential = piece_of(part);
+    let part = m.signature;
+    let signature = piece_of(part);
+    let part = m.key;
+    let key = piece_of(part);
     let none = no_piece();
     let ps = [
         flags,
@@ -311,9 +295,9 @@ fn inquire(
     write_rows(
         out,
         major,
-        head.minor,
+        m.head.minor,
         INQUIRE,
-        head.id,
+        m.head.id,
         rows,
         ps,
         &spelled,
@@ -322,15 +306,16 @@ fn inquire(
     )
 }
 
-fn authority(out: &mut [u8], major: u8, head: Head, acked: u32, fields: Inside, d: &[u8]) -> Written
-    ensures { λ r. ⌜ Wrote (resent major (now (d .entry)) (Authority head acked fields)) (now (out .entry)) r (now (out .exit)) ⌝ }
+fn authority(out: &mut [u8], major: u8, m: Authority, d: &[u8]) -> Written
+    ensures { λ r. ⌜ Wrote (resent major (now (d .entry)) (read.Authority m)) (now (out .entry)) r (now (out .exit)) ⌝ }
 {
+    let fields = m.fields;
     let rows = authority_rows();
     let size = behind(d, 28);
     let l = bit_of(fields.l);
     let high = 2 * l;
     let low = busy_and_none(fields.b, fields.n);
-    let spelled = spelled_bytes(acked, size, high, low);
+    let spelled = spelled_bytes(m.acked, size, high, low);
     let id_piece = spelled_piece(0, ACKED_LEN);
     let split = spelled_piece(4, SPLIT_LEN);
     let flags = spelled_piece(8, FLAGS_LEN);
@@ -360,9 +345,9 @@ fn authority(out: &mut [u8], major: u8, head: Head, acked: u32, fields: Inside, 
     write_rows(
         out,
         major,
-        head.minor,
+        m.head.minor,
         AUTHORITY,
-        head.id,
+        m.head.id,
         rows,
         ps,
         &spelled,
@@ -371,22 +356,22 @@ fn authority(out: &mut [u8], major: u8, head: Head, acked: u32, fields: Inside, 
     )
 }
 
-fn ack(out: &mut [u8], major: u8, head: Head, acked: u32, flags: bool, n: bool, d: &[u8]) -> Written
-    ensures { λ r. ⌜ Wrote (resent major (now (d .entry)) (Ack head acked flags n)) (now (out .entry)) r (now (out .exit)) ⌝ }
+fn ack(out: &mut [u8], major: u8, m: Ack, d: &[u8]) -> Written
+    ensures { λ r. ⌜ Wrote (resent major (now (d .entry)) (read.Ack m)) (now (out .entry)) r (now (out .exit)) ⌝ }
 {
     let rows = ack_rows();
-    let low = bit_of(n);
-    let spelled = spelled_bytes(acked, 0, 0, low);
+    let low = bit_of(m.n);
+    let spelled = spelled_bytes(m.acked, 0, 0, low);
     let id_piece = spelled_piece(0, ACKED_LEN);
-    let flags = spelled_if(flags, 8, FLAGS_LEN);
+    let flags = spelled_if(m.flags, 8, FLAGS_LEN);
     let none = no_piece();
     let ps = [id_piece, flags, none, none, none, none, none, none, none];
     write_rows(
         out,
         major,
-        head.minor,
+        m.head.minor,
         ACK,
-        head.id,
+        m.head.id,
         rows,
         ps,
         &spelled,
@@ -395,39 +380,27 @@ fn ack(out: &mut [u8], major: u8, head: Head, acked: u32, flags: bool, n: bool, 
     )
 }
 
-fn lookup(
-    out: &mut [u8],
-    major: u8,
-    head: Head,
-    a: bool,
-    precision: u16,
-    criteria: u8,
-    reason: u8,
-    target: usize,
-    validate: usize,
-    entry: Part,
-    path: Part,
-    credential: Part,
-    signature: Part,
-    key: Part,
-    d: &[u8],
-) -> Written
-    ensures { λ r. ⌜ Wrote (resent major (now (d .entry)) (Lookup head a precision criteria reason target validate entry path credential signature key))
-        (now (out .entry)) r (now (out .exit)) ⌝ }
+fn lookup(out: &mut [u8], major: u8, m: Lookup, d: &[u8]) -> Written
+    ensures { λ r. ⌜ Wrote (resent major (now (d .entry)) (read.Lookup m)) (now (out .entry)) r (now (out .exit)) ⌝ }
 {
     let rows = lookup_rows();
-    let first = bit_of(a);
+    let first = bit_of(m.a);
     let low = 2 * first;
-    let kept = kept_precision(criteria, precision);
-    let spelled = lookup_bytes(low, kept, criteria, reason);
+    let kept = kept_precision(m.criteria, m.precision);
+    let spelled = lookup_bytes(low, kept, m.criteria, m.reason);
     let controls = spelled_piece(0, LOOKUP_CONTROLS_LEN);
-    let target = first_piece(target, KEY_LEN);
-    let validate = first_piece(validate, KEY_LEN);
-    let entry = piece_of(entry);
-    let path = piece_of(path);
-    let credential = piece_of(credential);
-    let signature = piece_of(signature);
-    let key = piece_of(key);
+    let target = first_piece(m.target, KEY_LEN);
+    let validate = first_piece(m.validate, KEY_LEN);
+    let part = m.entry;
+    let entry = piece_of(part);
+    let part = m.path;
+    let path = piece_of(part);
+    let part = m.credential;
+    let credential = piece_of(part);
+    let part = m.signature;
+    let signature = piece_of(part);
+    let part = m.key;
+    let key = piece_of(part);
     let none = no_piece();
     let ps = [
         controls,
@@ -443,9 +416,9 @@ fn lookup(
     write_rows(
         out,
         major,
-        head.minor,
+        m.head.minor,
         LOOKUP,
-        head.id,
+        m.head.id,
         rows,
         ps,
         &spelled,
@@ -455,133 +428,21 @@ fn lookup(
 }
 
 // A message that `read` gave of the datagram `d`, at the start of the output.
-pub fn write(out: &mut [u8], major: u8, message: Answer, d: &[u8]) -> Written
+pub fn write(out: &mut [u8], major: u8, message: Incoming, d: &[u8]) -> Written
     ensures { λ r. ⌜ Wrote (resent major (now (d .entry)) message) (now (out .entry)) r (now (out .exit)) ⌝ }
 {
     match message {
-        Answer::Refused(_) => Written {
+        Incoming::Refused(_) => Written {
             number: 6,
             length: 0,
         },
-        Answer::Solicit { head, entry, nonce } => solicit(out, major, head, entry, nonce, d),
-        Answer::Advertise {
-            head,
-            acked,
-            keys,
-            nonce,
-        } => advertise(out, major, head, acked, keys, nonce, d),
-        Answer::Request {
-            head,
-            flags,
-            split,
-            nonce,
-            keys,
-            credential,
-            signature,
-            key,
-        } => {
-            request(
-                out,
-                major,
-                head,
-                flags,
-                split,
-                nonce,
-                keys,
-                credential,
-                signature,
-                key,
-                d,
-            )
-        }
-        Answer::Flood {
-            head,
-            d: silent,
-            validate,
-            token,
-            revoke,
-            entry,
-            reached,
-        } => {
-            flood(
-                out,
-                major,
-                head,
-                silent,
-                validate,
-                token,
-                revoke,
-                entry,
-                reached,
-                d,
-            )
-        }
-        Answer::Inquire {
-            head,
-            a,
-            x,
-            c,
-            validate,
-            nonce,
-            credential,
-            signature,
-            key,
-        } => {
-            inquire(
-                out,
-                major,
-                head,
-                a,
-                x,
-                c,
-                validate,
-                nonce,
-                credential,
-                signature,
-                key,
-                d,
-            )
-        }
-        Answer::Authority {
-            head,
-            acked,
-            fields,
-        } => authority(out, major, head, acked, fields, d),
-        Answer::Ack {
-            head,
-            acked,
-            flags,
-            n,
-        } => ack(out, major, head, acked, flags, n, d),
-        Answer::Lookup {
-            head,
-            a,
-            precision,
-            criteria,
-            reason,
-            target,
-            validate,
-            entry,
-            path,
-            credential,
-            signature,
-            key,
-        } => lookup(
-            out,
-            major,
-            head,
-            a,
-            precision,
-            criteria,
-            reason,
-            target,
-            validate,
-            entry,
-            path,
-            credential,
-            signature,
-            key,
-            d,
-        ),
+        Incoming::Solicit(m) => solicit(out, major, m, d),
+        Incoming::Advertise(m) => advertise(out, major, m, d),
+        Incoming::Request(m) => request(out, major, m, d),
+        Incoming::Flood(m) => flood(out, major, m, d),
+        Incoming::Inquire(m) => inquire(out, major, m, d),
+        Incoming::Authority(m) => authority(out, major, m, d),
+        Incoming::Ack(m) => ack(out, major, m, d),
+        Incoming::Lookup(m) => lookup(out, major, m, d),
     }
 }

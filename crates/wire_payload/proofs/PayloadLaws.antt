@@ -11,23 +11,22 @@ use Rattle.octet.specs.Number.{digitsBE}
 use Rattle.octet.specs.Part.{splice}
 use Rattle.octet.proofs.TestLaws.{both-true}
 use Rattle.wire_shapes.specs.Shapes.{hasShape}
-use Rattle.wire_read.specs.declared.Head.{Head}
-use Rattle.wire_buffer.specs.declared.Inside.{Inside}
+use Rattle.wire_read.specs.declared.messages.Authority.{Authority}
 use Rattle.wire_write.specs.Writing.{Made, fit, writeAs, writeIn, Wrote}
 use Rattle.wire_write.specs.Pieces.{madeBy}
 use Rattle.wire_write.specs.declared.Written.{Written}
 use Rattle.wire_payload.specs.Payload.{carrying, withPayload}
 
-module _ (major : ℕ) (d : List ℕ) (h : Head) (acked : ℕ) (f : Inside) (v : List ℕ) (size : ℕ) where
-  pub same-ok : carrying major d h acked f v size .ok ≡ carrying major d h acked f v 0 .ok
+module _ (major : ℕ) (d : List ℕ) (m : Authority) (v : List ℕ) (size : ℕ) where
+  pub same-ok : carrying major d m v size .ok ≡ carrying major d m v 0 .ok
   unfolding carrying madeBy digitsBE hasShape
   same-ok = refl
 
-  pub same-long : length (carrying major d h acked f v size .bytes) ≡ length (carrying major d h acked f v 0 .bytes)
+  pub same-long : length (carrying major d m v size .bytes) ≡ length (carrying major d m v 0 .bytes)
   unfolding carrying madeBy digitsBE
   same-long = refl
 
-  pub at-least : 28 ≤ length (carrying major d h acked f v size .bytes)
+  pub at-least : 28 ≤ length (carrying major d m v size .bytes)
   unfolding carrying madeBy digitsBE
   at-least = omega arith
 
@@ -71,68 +70,68 @@ same-as : (m m′ : Made) (old : List ℕ) → m′ .ok ≡ m .ok → length (m�
 unfolding writeAs fit
 same-as m m′ old ok long = rw (ok, long) refl
 
-module _ (major : ℕ) (d : List ℕ) (h : Head) (acked : ℕ) (f : Inside) (v : List ℕ) where
+module _ (major : ℕ) (d : List ℕ) (m : Authority) (v : List ℕ) where
   -- the size is bytes 24 and 25, whatever stands behind the message
-  size-put : (size : ℕ) (t : List ℕ) → splice 24 (digitsBE 256 2 size) (carrying major d h acked f v 0 .bytes ++ t)
-      ≡ carrying major d h acked f v size .bytes ++ t
+  size-put : (size : ℕ) (t : List ℕ) → splice 24 (digitsBE 256 2 size) (carrying major d m v 0 .bytes ++ t)
+      ≡ carrying major d m v size .bytes ++ t
   unfolding carrying madeBy digitsBE splice
   size-put size t = refl
 
-  module _ (old : List ℕ) (r : Written) (out : List ℕ) (w : Wrote (carrying major d h acked f v 0) old r out) where
-    number-as : r .number ≡ writeAs (carrying major d h acked f v 0) old .number
+  module _ (old : List ℕ) (r : Written) (out : List ℕ) (w : Wrote (carrying major d m v 0) old r out) where
+    number-as : r .number ≡ writeAs (carrying major d m v 0) old .number
     number-as = ap (λ (x : Written). x .number) (w .answer)
 
     -- the split controls change neither the answer nor what is right
-    same-answer : r ≡ writeAs (withPayload major d h acked f v) old
+    same-answer : r ≡ writeAs (withPayload major d m v) old
     unfolding withPayload
     same-answer =
-        let size = length (carrying major d h acked f v 0 .bytes) - 28 in
-        w .answer ∙ sym (same-as (carrying major d h acked f v 0) (carrying major d h acked f v size) old (same-ok major d h acked f v size)
-        (same-long major d h acked f v size))
+        let size = length (carrying major d m v 0 .bytes) - 28 in
+        w .answer ∙ sym (same-as (carrying major d m v 0) (carrying major d m v size) old (same-ok major d m v size)
+        (same-long major d m v size))
 
-    pub payload-refused : (r .number ≡ 0 → ⊥) → Wrote (withPayload major d h acked f v) old r out
+    pub payload-refused : (r .number ≡ 0 → ⊥) → Wrote (withPayload major d m v) old r out
     payload-refused u =
         record {
           answer = same-answer;
           output =
-              w .output ∙ refused-in (carrying major d h acked f v 0) old (λ e. u (number-as ∙ e))
-              ∙ sym (refused-in (withPayload major d h acked f v) old (λ e. u (ap (λ (x : Written). x .number) same-answer ∙ e)));
+              w .output ∙ refused-in (carrying major d m v 0) old (λ e. u (number-as ∙ e))
+              ∙ sym (refused-in (withPayload major d m v) old (λ e. u (ap (λ (x : Written). x .number) same-answer ∙ e)));
         }
 
     module _ (z : r .number ≡ 0) where
-      fits-first : (carrying major d h acked f v 0 .ok ≡ true) × (fit (carrying major d h acked f v 0 .bytes) old ≡ true)
-      fits-first = right-in (carrying major d h acked f v 0) old (sym number-as ∙ z)
+      fits-first : (carrying major d m v 0 .ok ≡ true) × (fit (carrying major d m v 0 .bytes) old ≡ true)
+      fits-first = right-in (carrying major d m v 0) old (sym number-as ∙ z)
 
-      told-length : r .length ≡ length (carrying major d h acked f v 0 .bytes)
+      told-length : r .length ≡ length (carrying major d m v 0 .bytes)
       unfolding writeAs
       told-length = ap (λ (x : Written). x .length) (w .answer) ∙ (rw (fits-first .0, fits-first .1) refl)
 
       -- it has split controls, and is a datagram within the output
       pub payload-long : (28 ≤ r .length) × (r .length ≤ 1232) × (r .length ≤ length out)
       payload-long =
-          let within = fits-within (carrying major d h acked f v 0 .bytes) old (fits-first .1) in
-          let b = carrying major d h acked f v 0 .bytes in
-          let long = ap length (w .output ∙ written-in (carrying major d h acked f v 0) old fits-first) ∙ length-append b (drop (length b) old) in (
-            omega (arith, told-length, at-least major d h acked f v 0),
+          let within = fits-within (carrying major d m v 0 .bytes) old (fits-first .1) in
+          let b = carrying major d m v 0 .bytes in
+          let long = ap length (w .output ∙ written-in (carrying major d m v 0) old fits-first) ∙ length-append b (drop (length b) old) in (
+            omega (arith, told-length, at-least major d m v 0),
             omega (arith, told-length, within .1),
             omega (arith, told-length, long),
           )
 
       pub payload-written : {last : List ℕ} → last ≡ splice 24 (digitsBE 256 2 (r .length - 28)) out
-          → Wrote (withPayload major d h acked f v) old r last
+          → Wrote (withPayload major d m v) old r last
       unfolding withPayload
       payload-written e =
-          let b = carrying major d h acked f v 0 .bytes in
+          let b = carrying major d m v 0 .bytes in
           let size = length b - 28 in
-          let long = same-long major d h acked f v size in
-          let fits : (carrying major d h acked f v size .ok ≡ true) × (fit (carrying major d h acked f v size .bytes) old ≡ true) =
-          right-in (carrying major d h acked f v size) old (sym (ap (λ (x : Written). x .number) same-answer) ∙ z) in
+          let long = same-long major d m v size in
+          let fits : (carrying major d m v size .ok ≡ true) × (fit (carrying major d m v size .bytes) old ≡ true) =
+          right-in (carrying major d m v size) old (sym (ap (λ (x : Written). x .number) same-answer) ∙ z) in
           record {
             answer = same-answer;
             output =
                 e ∙ ap₂ (λ (n : ℕ) (o : List ℕ). splice 24 (digitsBE 256 2 (n - 28)) o) told-length
-                (w .output ∙ written-in (carrying major d h acked f v 0) old fits-first)
+                (w .output ∙ written-in (carrying major d m v 0) old fits-first)
                 ∙ size-put size (drop (length b) old)
-                ∙ ap (λ (n : ℕ). carrying major d h acked f v size .bytes ++ drop n old) (sym long)
-                ∙ sym (written-in (carrying major d h acked f v size) old fits);
+                ∙ ap (λ (n : ℕ). carrying major d m v size .bytes ++ drop n old) (sym long)
+                ∙ sym (written-in (carrying major d m v size) old fits);
           }

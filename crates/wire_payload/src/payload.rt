@@ -1,10 +1,9 @@
 // An AUTHORITY that was read, written again with another payload: all else is as it was read, and the split controls say how
 // many bytes follow them now.
-use wire_buffer::Inside;
 use wire_copy::bit_of;
 use wire_copy::busy_and_none;
 use wire_copy::piece_of;
-use wire_read::Head;
+use wire_read::messages::Authority;
 use wire_rows::authority_rows;
 use wire_rows::second_piece;
 use wire_rows::spelled_bytes;
@@ -16,23 +15,16 @@ ghost use Rattle.wire_write.specs.Writing.{Wrote};
 ghost use Rattle.wire_payload.specs.Payload.{carrying, withPayload};
 
 // The AUTHORITY with the payload, and with split controls that say 0.
-fn put_carrying(
-    out: &mut [u8],
-    major: u8,
-    head: Head,
-    acked: u32,
-    fields: Inside,
-    d: &[u8],
-    payload: &[u8],
-) -> Written
-    ensures { λ r. ⌜ Wrote (carrying major (now (d .entry)) head acked fields (now (payload .entry)) 0)
+fn put_carrying(out: &mut [u8], major: u8, m: Authority, d: &[u8], payload: &[u8]) -> Written
+    ensures { λ r. ⌜ Wrote (carrying major (now (d .entry)) m (now (payload .entry)) 0)
         (now (out .entry)) r (now (out .exit)) ⌝ }
 {
+    let fields = m.fields;
     let rows = authority_rows();
     let l = bit_of(fields.l);
     let high = 2 * l;
     let low = busy_and_none(fields.b, fields.n);
-    let spelled = spelled_bytes(acked, 0, high, low);
+    let spelled = spelled_bytes(m.acked, 0, high, low);
     let id_piece = spelled_piece(0, wire_numbers::ACKED_LEN);
     let split = spelled_piece(4, wire_numbers::SPLIT_LEN);
     let flags = spelled_piece(8, wire_numbers::FLAGS_LEN);
@@ -61,9 +53,9 @@ fn put_carrying(
     write_rows(
         out,
         major,
-        head.minor,
+        m.head.minor,
         wire_numbers::AUTHORITY,
-        head.id,
+        m.head.id,
         rows,
         ps,
         &spelled,
@@ -73,19 +65,11 @@ fn put_carrying(
 }
 
 // Where it is written, its length tells how many bytes follow the split controls, and these say so.
-pub fn write_payload(
-    out: &mut [u8],
-    major: u8,
-    head: Head,
-    acked: u32,
-    fields: Inside,
-    d: &[u8],
-    payload: &[u8],
-) -> Written
-    ensures { λ r. ⌜ Wrote (withPayload major (now (d .entry)) head acked fields (now (payload .entry)))
+pub fn write_payload(out: &mut [u8], major: u8, m: Authority, d: &[u8], payload: &[u8]) -> Written
+    ensures { λ r. ⌜ Wrote (withPayload major (now (d .entry)) m (now (payload .entry)))
         (now (out .entry)) r (now (out .exit)) ⌝ }
 {
-    let done = put_carrying(out, major, head, acked, fields, d, payload);
+    let done = put_carrying(out, major, m, d, payload);
     if done.number != 0 {
         return done;
     }

@@ -1,5 +1,5 @@
--- Laws that the readers cite: presence of a field's contents; an AUTHORITY by the places before its buffer and the buffer's; a LOOKUP by its first three fields
--- and those behind them; what is found where a header is right, and where it is not. Assumes nothing.
+-- Laws that the readers cite: presence of a field's contents; an AUTHORITY by the places before its buffer and the buffer's; a LOOKUP by its first
+-- three fields and those behind them; what is found where a header is right, and where it is not. Assumes nothing.
 use Prim.Native.Nat.{ℕ, _≤_}
 use native.Mathlib.Omega.{arith}
 use mathlib.Core.List.{List, [], _∷_}
@@ -23,10 +23,10 @@ use Rattle.wire_fields.specs.declared.Need.the-variants.{Field}
 use Rattle.wire_shapes.specs.declared.Shape.the-variants.{Sized, Lookup, Split}
 use Rattle.wire_fields.proofs.RefusalLaws.{gated, byType, inSteps, found-steps}
 use Rattle.wire_buffer.specs.Buffer.{bufferShown, insideShown, bufferAt}
-use Rattle.wire_read.specs.Answers.{isHere, shown, headOf, headNumber, lookupBehind}
+use Rattle.wire_read.specs.Answers.{isHere, incomingOf, headOf, headNumber, lookupBehind}
 use Rattle.wire_buffer.specs.declared.Inside.{Inside}
 use Rattle.wire_buffer.specs.declared.Buffer.the-variants.{Holds, Malformed}
-use Rattle.wire_read.specs.declared.Answer.the-variants.{Refused, Authority}
+use Rattle.wire_read.specs.declared.Incoming.the-variants.{Refused, Authority}
 
 -- a field's contents are there where its place is
 pub present-value : (k : Kind) (d : List ℕ) (p : Part) → present (valueOf k d p) ≡ isHere p
@@ -55,16 +55,18 @@ module _ (ks : List Kind) (d : List ℕ) (s l s₂ l₂ : ℕ) (c c₂ : Cursor)
 
 module _ (d : List ℕ) (s l s₂ l₂ : ℕ) (c c₂ : Cursor) (q : needAt d 12 0x18 false (Sized 4) ≡ Field s l c)
     (q₂ : needAt d (c .at) 0x98 false Split ≡ Field s₂ l₂ c₂) (w : wholeIn d (Here s₂ l₂) ≡ true) where
-  pub authority-bad : bufferAt d (c₂ .at) ≡ Malformed → shown d (gated 8 d (foundOf 8 (fieldsAs 8 authorityKinds d))) ≡ Refused 6
-  unfolding bufferAt shown
-  authority-bad e = ap (shown d) (authority-not bufferKinds d s l s₂ l₂ c c₂ q q₂ w (buffer-none d (placesAt bufferKinds d (c₂ .at)) e))
+  pub authority-bad : bufferAt d (c₂ .at) ≡ Malformed → incomingOf d (gated 8 d (foundOf 8 (fieldsAs 8 authorityKinds d))) ≡ Refused 6
+  unfolding bufferAt incomingOf
+  authority-bad e = ap (incomingOf d) (authority-not bufferKinds d s l s₂ l₂ c c₂ q q₂ w (buffer-none d (placesAt bufferKinds d (c₂ .at)) e))
 
   pub authority-good : (f : Inside) → bufferAt d (c₂ .at) ≡ Holds f
-      → shown d (gated 8 d (foundOf 8 (fieldsAs 8 authorityKinds d))) ≡ Authority (headOf d) (numberAt s 4 d) f
-  unfolding bufferAt shown
+      → incomingOf d (gated 8 d (foundOf 8 (fieldsAs 8 authorityKinds d)))
+      ≡ Authority (record { head = headOf d; acked = numberAt s 4 d; fields = f })
+  unfolding bufferAt incomingOf
   authority-good f e =
       let (qs, r, i) = buffer-some d (placesAt bufferKinds d (c₂ .at)) f e in
-      ap (shown d) (authority-in bufferKinds d s l s₂ l₂ c c₂ q q₂ w qs r) ∙ ap (Authority (headOf d) (numberAt s 4 d)) i
+      ap (incomingOf d) (authority-in bufferKinds d s l s₂ l₂ c c₂ q q₂ w qs r)
+      ∙ ap (λ (x : Inside). Authority (record { head = headOf d; acked = numberAt s 4 d; fields = x })) i
 
 -- ---- a LOOKUP by its first three fields
 
@@ -73,8 +75,9 @@ controlsKind = record { number = 0x45; optional = false; padded = false; shape =
 
 module _ (d : List ℕ) (s₁ l₁ s₂ l₂ s₃ l₃ : ℕ) (c₁ c₂ c₃ : Cursor) where
   behind : (o : Option (List Part))
-      → shown d (foundOf 11 (checked 11 lookupKinds d (ahead (Here s₁ l₁) (ahead (Here s₂ l₂) (ahead (Here s₃ l₃) o))))) ≡ lookupBehind d s₁ s₂ s₃ o
-  unfolding shown joinedFields sized
+      → incomingOf d (foundOf 11 (checked 11 lookupKinds d (ahead (Here s₁ l₁) (ahead (Here s₂ l₂) (ahead (Here s₃ l₃) o)))))
+      ≡ lookupBehind d s₁ s₂ s₃ o
+  unfolding incomingOf joinedFields sized
   behind none = refl
   behind (some ps) = refl
 
@@ -85,10 +88,10 @@ module _ (d : List ℕ) (s₁ l₁ s₂ l₂ s₃ l₃ : ℕ) (c₁ c₂ c₃ : 
     unfolding placesAt
     three ks = rw (q₁, q₂, q₃)
 
-    pub lookup-front : lookupBehind d s₁ s₂ s₃ (placesAt (drop 3 lookupKinds) d (c₃ .at)) ≡ shown d (foundOf 11 (fieldsAs 11 lookupKinds d))
+    pub lookup-front : lookupBehind d s₁ s₂ s₃ (placesAt (drop 3 lookupKinds) d (c₃ .at)) ≡ incomingOf d (foundOf 11 (fieldsAs 11 lookupKinds d))
     unfolding fieldsAs
     lookup-front =
-        sym (ap (λ (o : Option (List Part)). shown d (foundOf 11 (checked 11 lookupKinds d o))) (three (drop 3 lookupKinds))
+        sym (ap (λ (o : Option (List Part)). incomingOf d (foundOf 11 (checked 11 lookupKinds d o))) (three (drop 3 lookupKinds))
         ∙ behind (placesAt (drop 3 lookupKinds) d (c₃ .at)))
 
 -- ---- length and header

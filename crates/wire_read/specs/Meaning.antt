@@ -12,21 +12,29 @@ use Rattle.wire_fields.specs.Message.{Contents, Message}
 use Rattle.wire_fields.specs.Reading.{contentsIn}
 use Rattle.wire_read.specs.declared.Head.{Head}
 use Rattle.wire_buffer.specs.declared.Inside.{Inside}
-use Rattle.wire_read.specs.declared.Answer.{Answer}
-use Rattle.wire_read.specs.declared.Answer.the-variants.{Refused, Solicit, Advertise, Request, Flood, Inquire, Authority, Ack, Lookup}
+use Rattle.wire_read.specs.declared.Incoming.{Incoming}
+use Rattle.wire_read.specs.declared.Incoming.the-variants as M
+use Rattle.wire_read.specs.declared.messages.Solicit.{Solicit}
+use Rattle.wire_read.specs.declared.messages.Advertise.{Advertise}
+use Rattle.wire_read.specs.declared.messages.Request.{Request}
+use Rattle.wire_read.specs.declared.messages.Flood.{Flood}
+use Rattle.wire_read.specs.declared.messages.Inquire.{Inquire}
+use Rattle.wire_read.specs.declared.messages.Authority.{Authority}
+use Rattle.wire_read.specs.declared.messages.Ack.{Ack}
+use Rattle.wire_read.specs.declared.messages.Lookup.{Lookup}
 use Rattle.wire_fields.specs.Kinds.{splitBytes}
 
 -- the number of an answer: 0 with a message
-abbrev pub numberOf : Answer → ℕ
-numberOf (Refused n) = n
-numberOf (Solicit h entry nonce) = 0
-numberOf (Advertise h acked keys nonce) = 0
-numberOf (Request h flags split nonce keys credential signature key) = 0
-numberOf (Flood h d validate token revoke entry reached) = 0
-numberOf (Inquire h a x c validate nonce credential signature key) = 0
-numberOf (Authority h acked fields) = 0
-numberOf (Ack h acked flags n) = 0
-numberOf (Lookup h a precision criteria reason target validate entry path credential signature key) = 0
+abbrev pub numberOf : Incoming → ℕ
+numberOf (M.Refused n) = n
+numberOf (M.Solicit m) = 0
+numberOf (M.Advertise m) = 0
+numberOf (M.Request m) = 0
+numberOf (M.Flood m) = 0
+numberOf (M.Inquire m) = 0
+numberOf (M.Authority m) = 0
+numberOf (M.Ack m) = 0
+numberOf (M.Lookup m) = 0
 
 -- a flag as a bit
 abbrev pub bit : Bool → ℕ
@@ -41,30 +49,51 @@ insideFields d f =
     some ((2 * bit (f .l)) ∷ (8 * bit (f .b) + bit (f .n)) ∷ []) ∷ contentsIn d (f .chain) ∷ contentsIn d (f .token) ∷ contentsIn d (f .classifier)
     ∷ contentsIn d (f .payload) ∷ contentsIn d (f .entry) ∷ contentsIn d (f .cpa) ∷ []
 
+-- the fields of each message
+abbrev pub solicitFields : List ℕ → Solicit → List Contents
+solicitFields d m = contentsIn d (m .entry) ∷ some (part (m .nonce) 20 d) ∷ []
+
+abbrev pub advertiseFields : List ℕ → Advertise → List Contents
+advertiseFields d m = some (digitsBE 256 4 (m .acked)) ∷ contentsIn d (m .keys) ∷ some (part (m .nonce) 20 d) ∷ []
+
+abbrev pub requestFields : List ℕ → Request → List Contents
+requestFields d m =
+    held (m .flags) (0 ∷ 0 ∷ []) ∷ held (m .split) (splitBytes (length d - cond (m .flags) 28 20)) ∷ some (part (m .nonce) 16 d)
+    ∷ contentsIn d (m .keys) ∷ contentsIn d (m .credential) ∷ contentsIn d (m .signature) ∷ contentsIn d (m .key) ∷ []
+
+abbrev pub floodFields : List ℕ → Flood → List Contents
+floodFields d m =
+    some (0 ∷ bit (m .d) ∷ 0 ∷ []) ∷ some (part (m .validate) 32 d) ∷ contentsIn d (m .token) ∷ contentsIn d (m .revoke) ∷ contentsIn d (m .entry)
+    ∷ contentsIn d (m .reached) ∷ []
+
+abbrev pub inquireFields : List ℕ → Inquire → List Contents
+inquireFields d m =
+    some (0 ∷ (16 * bit (m .a) + (8 * bit (m .x) + 4 * bit (m .c))) ∷ []) ∷ some (part (m .validate) 32 d) ∷ contentsIn d (m .nonce)
+    ∷ contentsIn d (m .credential) ∷ contentsIn d (m .signature) ∷ contentsIn d (m .key) ∷ []
+
+abbrev pub authorityFields : List ℕ → Authority → List Contents
+authorityFields d m = some (digitsBE 256 4 (m .acked)) ∷ some (splitBytes (length d - 28)) ∷ insideFields d (m .fields)
+
+abbrev pub ackFields : Ack → List Contents
+ackFields m = some (digitsBE 256 4 (m .acked)) ∷ held (m .flags) (0 ∷ bit (m .n) ∷ []) ∷ []
+
+abbrev pub lookupFields : List ℕ → Lookup → List Contents
+lookupFields d m =
+    some (0 ∷ (2 * bit (m .a)) ∷ (digitsBE 256 2 (m .precision) ++ (m .criteria ∷ m .reason ∷ 0 ∷ 0 ∷ []))) ∷ some (part (m .target) 32 d)
+    ∷ some (part (m .validate) 32 d) ∷ contentsIn d (m .entry) ∷ contentsIn d (m .path) ∷ contentsIn d (m .credential)
+    ∷ contentsIn d (m .signature) ∷ contentsIn d (m .key) ∷ []
+
 abbrev message : ℕ → ℕ → Head → List Contents → Option Message
 message major type h fs = some (record { major = major; minor = h .minor; type = type; id = h .id; fields = fs })
 
 -- the message of an answer
-unfoldable pub messageOf : ℕ → List ℕ → Answer → Option Message
-messageOf major d (Refused n) = none
-messageOf major d (Solicit h entry nonce) = message major 1 h (contentsIn d entry ∷ some (part nonce 20 d) ∷ [])
-messageOf major d (Advertise h acked keys nonce) =
-    message major 2 h (some (digitsBE 256 4 acked) ∷ contentsIn d keys ∷ some (part nonce 20 d) ∷ [])
-messageOf major d (Request h flags split nonce keys credential signature key) =
-    message major 3 h
-    (held flags (0 ∷ 0 ∷ []) ∷ held split (splitBytes (length d - cond flags 28 20)) ∷ some (part nonce 16 d) ∷ contentsIn d keys
-    ∷ contentsIn d credential ∷ contentsIn d signature ∷ contentsIn d key ∷ [])
-messageOf major d (Flood h silent validate token revoke entry reached) =
-    message major 4 h
-    (some (0 ∷ bit silent ∷ 0 ∷ []) ∷ some (part validate 32 d) ∷ contentsIn d token ∷ contentsIn d revoke ∷ contentsIn d entry ∷ contentsIn d reached ∷ [])
-messageOf major d (Inquire h a x c validate nonce credential signature key) =
-    message major 7 h
-    (some (0 ∷ (16 * bit a + (8 * bit x + 4 * bit c)) ∷ []) ∷ some (part validate 32 d) ∷ contentsIn d nonce
-    ∷ contentsIn d credential ∷ contentsIn d signature ∷ contentsIn d key ∷ [])
-messageOf major d (Authority h acked fields) =
-    message major 8 h (some (digitsBE 256 4 acked) ∷ some (splitBytes (length d - 28)) ∷ insideFields d fields)
-messageOf major d (Ack h acked flags n) = message major 9 h (some (digitsBE 256 4 acked) ∷ held flags (0 ∷ bit n ∷ []) ∷ [])
-messageOf major d (Lookup h a precision criteria reason target validate entry path credential signature key) =
-    message major 11 h
-    (some (0 ∷ (2 * bit a) ∷ (digitsBE 256 2 precision ++ (criteria ∷ reason ∷ 0 ∷ 0 ∷ []))) ∷ some (part target 32 d) ∷ some (part validate 32 d)
-    ∷ contentsIn d entry ∷ contentsIn d path ∷ contentsIn d credential ∷ contentsIn d signature ∷ contentsIn d key ∷ [])
+unfoldable pub messageOf : ℕ → List ℕ → Incoming → Option Message
+messageOf major d (M.Refused n) = none
+messageOf major d (M.Solicit m) = message major 1 (m .head) (solicitFields d m)
+messageOf major d (M.Advertise m) = message major 2 (m .head) (advertiseFields d m)
+messageOf major d (M.Request m) = message major 3 (m .head) (requestFields d m)
+messageOf major d (M.Flood m) = message major 4 (m .head) (floodFields d m)
+messageOf major d (M.Inquire m) = message major 7 (m .head) (inquireFields d m)
+messageOf major d (M.Authority m) = message major 8 (m .head) (authorityFields d m)
+messageOf major d (M.Ack m) = message major 9 (m .head) (ackFields m)
+messageOf major d (M.Lookup m) = message major 11 (m .head) (lookupFields d m)

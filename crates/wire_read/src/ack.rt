@@ -1,5 +1,6 @@
 // ACK: acked ID; flags.
-use crate::Answer;
+use crate::Incoming;
+use crate::messages::Ack;
 use crate::values::flag_in;
 use crate::values::head;
 use crate::values::is_here;
@@ -12,15 +13,15 @@ ghost use lib.ListN.{length};
 ghost use Rattle.wire_fields.specs.Kinds.{ackKinds};
 ghost use Rattle.wire_fields.specs.Reading.{fieldsAs};
 ghost use Rattle.wire_fields.specs.Refusals.{foundOf};
-ghost use Rattle.wire_read.specs.Answers.{shown};
+ghost use Rattle.wire_read.specs.Answers.{incomingOf};
 
-pub fn read_ack(d: &[u8]) -> Answer
+pub fn read_ack(d: &[u8]) -> Incoming
     requires { ⌜ 12 ≤ length (now d) ⌝ }
-    ensures { λ r. ⌜ r ≡ shown (now (d .entry)) (foundOf 9 (fieldsAs 9 ackKinds (now (d .entry)))) ⌝ }
+    ensures { λ r. ⌜ r ≡ incomingOf (now (d .entry)) (foundOf 9 (fieldsAs 9 ackKinds (now (d .entry)))) ⌝ }
 {
     let c = Cursor { at: 12 };
     let Need::Field(acked, _, c) = c.fixed(d, wire_numbers::ACKED, false, 4) else {
-        return Answer::Refused(6);
+        return Incoming::Refused(6);
     };
     let Maybe::Taken(flags, c) = c.fixed_or_none(
         d,
@@ -28,15 +29,15 @@ pub fn read_ack(d: &[u8]) -> Answer
         false,
         wire_numbers::FLAGS_LEN,
     ) else {
-        return Answer::Refused(6);
+        return Incoming::Refused(6);
     };
     if c.at != d.len() {
-        return Answer::Refused(6);
+        return Incoming::Refused(6);
     }
-    Answer::Ack {
+    Incoming::Ack(Ack {
         head: head(d),
         acked: octet::read_u32(d, acked),
         flags: is_here(flags),
         n: flag_in(d, flags, 1, 1),
-    }
+    })
 }

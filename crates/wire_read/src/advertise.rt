@@ -1,5 +1,6 @@
 // ADVERTISE: acked ID; keys; hashed nonce.
-use crate::Answer;
+use crate::Incoming;
+use crate::messages::Advertise;
 use crate::values::head;
 use wire_fields::Cursor;
 use wire_fields::Need;
@@ -10,15 +11,15 @@ ghost use lib.ListN.{length};
 ghost use Rattle.wire_fields.specs.Kinds.{advertiseKinds};
 ghost use Rattle.wire_fields.specs.Reading.{fieldsAs};
 ghost use Rattle.wire_fields.specs.Refusals.{foundOf};
-ghost use Rattle.wire_read.specs.Answers.{shown};
+ghost use Rattle.wire_read.specs.Answers.{incomingOf};
 
-pub fn read_advertise(d: &[u8]) -> Answer
+pub fn read_advertise(d: &[u8]) -> Incoming
     requires { ⌜ 12 ≤ length (now d) ⌝ }
-    ensures { λ r. ⌜ r ≡ shown (now (d .entry)) (foundOf 2 (fieldsAs 2 advertiseKinds (now (d .entry)))) ⌝ }
+    ensures { λ r. ⌜ r ≡ incomingOf (now (d .entry)) (foundOf 2 (fieldsAs 2 advertiseKinds (now (d .entry)))) ⌝ }
 {
     let c = Cursor { at: 12 };
     let Need::Field(acked, _, c) = c.fixed(d, wire_numbers::ACKED, false, 4) else {
-        return Answer::Refused(6);
+        return Incoming::Refused(6);
     };
     let Need::Field(keys, keys_len, c) = c.array(
         d,
@@ -28,19 +29,19 @@ pub fn read_advertise(d: &[u8]) -> Answer
         0,
         wire_numbers::KEYS_MOST,
     ) else {
-        return Answer::Refused(6);
+        return Incoming::Refused(6);
     };
     let Need::Field(nonce, _, c) = c.fixed(d, wire_numbers::HASHED, false, 20) else {
-        return Answer::Refused(6);
+        return Incoming::Refused(6);
     };
     if c.at != d.len() {
-        return Answer::Refused(6);
+        return Incoming::Refused(6);
     }
     let keys = Part::Here(keys, keys_len);
-    Answer::Advertise {
+    Incoming::Advertise(Advertise {
         head: head(d),
         acked: octet::read_u32(d, acked),
         keys,
         nonce,
-    }
+    })
 }

@@ -1,5 +1,6 @@
 // FLOOD: controls; validate key; key token; CPA revoked; route entry; endpoints reached.
-use crate::Answer;
+use crate::Incoming;
+use crate::messages::Flood;
 use crate::values::head;
 use crate::values::just_one;
 use wire_buffer::flag;
@@ -13,7 +14,7 @@ ghost use Rattle.wire_fields.specs.Kinds.{floodKinds};
 ghost use Rattle.wire_fields.specs.Reading.{fieldsAs};
 ghost use Rattle.wire_fields.specs.Refusals.{foundOf};
 ghost use Rattle.wire_buffer.specs.Buffer.{flagAt};
-ghost use Rattle.wire_read.specs.Answers.{shown};
+ghost use Rattle.wire_read.specs.Answers.{incomingOf};
 
 // D, the last bit of the controls' first two bytes.
 fn silent(d: &[u8], controls: usize) -> bool
@@ -22,25 +23,25 @@ fn silent(d: &[u8], controls: usize) -> bool
     flag(d, controls, 1, 1)
 }
 
-pub fn read_flood(d: &[u8]) -> Answer
+pub fn read_flood(d: &[u8]) -> Incoming
     requires { ⌜ 12 ≤ length (now d) ⌝ }
-    ensures { λ r. ⌜ r ≡ shown (now (d .entry)) (foundOf 4 (fieldsAs 4 floodKinds (now (d .entry)))) ⌝ }
+    ensures { λ r. ⌜ r ≡ incomingOf (now (d .entry)) (foundOf 4 (fieldsAs 4 floodKinds (now (d .entry)))) ⌝ }
 {
     let c = Cursor { at: 12 };
     let Need::Field(controls, _, c) = c.fixed(d, wire_numbers::FLOOD_CONTROLS, true, 3) else {
-        return Answer::Refused(6);
+        return Incoming::Refused(6);
     };
     let Need::Field(validate, _, c) = c.fixed(d, wire_numbers::VALIDATE, false, 32) else {
-        return Answer::Refused(6);
+        return Incoming::Refused(6);
     };
     let Maybe::Taken(token, c) = c.any_or_none(d, wire_numbers::TOKEN, true) else {
-        return Answer::Refused(6);
+        return Incoming::Refused(6);
     };
     let Maybe::Taken(revoke, c) = c.any_or_none(d, wire_numbers::REVOKED, true) else {
-        return Answer::Refused(6);
+        return Incoming::Refused(6);
     };
     let Maybe::Taken(entry, c) = c.entry_or_none(d) else {
-        return Answer::Refused(6);
+        return Incoming::Refused(6);
     };
     let Maybe::Taken(reached, c) = c.array_or_none(
         d,
@@ -51,15 +52,15 @@ pub fn read_flood(d: &[u8]) -> Answer
         wire_numbers::ENDPOINTS_LEAST,
         wire_numbers::ENDPOINTS_MOST,
     ) else {
-        return Answer::Refused(6);
+        return Incoming::Refused(6);
     };
     if c.at != d.len() {
-        return Answer::Refused(6);
+        return Incoming::Refused(6);
     }
     if !just_one(revoke, entry) {
-        return Answer::Refused(6);
+        return Incoming::Refused(6);
     }
-    Answer::Flood {
+    Incoming::Flood(Flood {
         head: head(d),
         d: silent(d, controls),
         validate,
@@ -67,5 +68,5 @@ pub fn read_flood(d: &[u8]) -> Answer
         revoke,
         entry,
         reached,
-    }
+    })
 }

@@ -6,6 +6,7 @@ mod authority;
 mod flood;
 mod inquire;
 mod lookup;
+pub mod messages;
 mod request;
 mod solicit;
 mod values;
@@ -20,7 +21,7 @@ pub use request::read_request;
 pub use solicit::read_solicit;
 use wire_fields::is_opened;
 ghost use mathlib.Core.Path.{_≡_};
-ghost use Rattle.wire_read.specs.Answers.{headNumber, answer};
+ghost use Rattle.wire_read.specs.Answers.{headNumber, readIn};
 
 // What a header has besides its fixed bytes, the major version and the type.
 pub struct Head {
@@ -28,76 +29,17 @@ pub struct Head {
     pub id: u32,
 }
 
-// A refusal's number, or a message. A field of fixed length is the place where its contents start, one of any length
-// or one that may be absent a `Part`; flags and numbers are themselves.
-pub enum Answer {
+// A refusal's number, or a message.
+pub enum Incoming {
     Refused(u8),
-    Solicit {
-        head: Head,
-        entry: wire_fields::Part,
-        nonce: usize,
-    },
-    Advertise {
-        head: Head,
-        acked: u32,
-        keys: wire_fields::Part,
-        nonce: usize,
-    },
-    Request {
-        head: Head,
-        flags: bool,
-        split: bool,
-        nonce: usize,
-        keys: wire_fields::Part,
-        credential: wire_fields::Part,
-        signature: wire_fields::Part,
-        key: wire_fields::Part,
-    },
-    Flood {
-        head: Head,
-        d: bool,
-        validate: usize,
-        token: wire_fields::Part,
-        revoke: wire_fields::Part,
-        entry: wire_fields::Part,
-        reached: wire_fields::Part,
-    },
-    Inquire {
-        head: Head,
-        a: bool,
-        x: bool,
-        c: bool,
-        validate: usize,
-        nonce: wire_fields::Part,
-        credential: wire_fields::Part,
-        signature: wire_fields::Part,
-        key: wire_fields::Part,
-    },
-    Authority {
-        head: Head,
-        acked: u32,
-        fields: wire_buffer::Inside,
-    },
-    Ack {
-        head: Head,
-        acked: u32,
-        flags: bool,
-        n: bool,
-    },
-    Lookup {
-        head: Head,
-        a: bool,
-        precision: u16,
-        criteria: u8,
-        reason: u8,
-        target: usize,
-        validate: usize,
-        entry: wire_fields::Part,
-        path: wire_fields::Part,
-        credential: wire_fields::Part,
-        signature: wire_fields::Part,
-        key: wire_fields::Part,
-    },
+    Solicit(messages::Solicit),
+    Advertise(messages::Advertise),
+    Request(messages::Request),
+    Flood(messages::Flood),
+    Inquire(messages::Inquire),
+    Authority(messages::Authority),
+    Ack(messages::Ack),
+    Lookup(messages::Lookup),
 }
 
 // The number of a refusal by length or header, 0 where they are right and the type is to be looked at.
@@ -120,12 +62,12 @@ pub fn header(d: &[u8], major: u8) -> u8
 }
 
 // The message in a datagram, or the number of its refusal.
-pub fn read(d: &[u8], major: u8) -> Answer
-    ensures { λ r. ⌜ r ≡ answer (now (d .entry)) major ⌝ }
+pub fn read(d: &[u8], major: u8) -> Incoming
+    ensures { λ r. ⌜ r ≡ readIn (now (d .entry)) major ⌝ }
 {
     let number = header(d, major);
     if number != 0 {
-        return Answer::Refused(number);
+        return Incoming::Refused(number);
     }
     let kind = d[7];
     match kind {
@@ -137,6 +79,6 @@ pub fn read(d: &[u8], major: u8) -> Answer
         8 => read_authority(d),
         9 => read_ack(d),
         11 => read_lookup(d),
-        _ => Answer::Refused(5),
+        _ => Incoming::Refused(5),
     }
 }

@@ -1,5 +1,6 @@
 // SOLICIT: route entry; hashed nonce.
-use crate::Answer;
+use crate::Incoming;
+use crate::messages::Solicit;
 use crate::values::head;
 use wire_fields::Cursor;
 use wire_fields::Maybe;
@@ -10,25 +11,25 @@ ghost use lib.ListN.{length};
 ghost use Rattle.wire_fields.specs.Kinds.{solicitKinds};
 ghost use Rattle.wire_fields.specs.Reading.{fieldsAs};
 ghost use Rattle.wire_fields.specs.Refusals.{foundOf};
-ghost use Rattle.wire_read.specs.Answers.{shown};
+ghost use Rattle.wire_read.specs.Answers.{incomingOf};
 
-pub fn read_solicit(d: &[u8]) -> Answer
+pub fn read_solicit(d: &[u8]) -> Incoming
     requires { ⌜ 12 ≤ length (now d) ⌝ }
-    ensures { λ r. ⌜ r ≡ shown (now (d .entry)) (foundOf 1 (fieldsAs 1 solicitKinds (now (d .entry)))) ⌝ }
+    ensures { λ r. ⌜ r ≡ incomingOf (now (d .entry)) (foundOf 1 (fieldsAs 1 solicitKinds (now (d .entry)))) ⌝ }
 {
     let c = Cursor { at: 12 };
     let Maybe::Taken(entry, c) = c.entry_or_none(d) else {
-        return Answer::Refused(6);
+        return Incoming::Refused(6);
     };
     let Need::Field(nonce, _, c) = c.fixed(d, wire_numbers::HASHED, false, 20) else {
-        return Answer::Refused(6);
+        return Incoming::Refused(6);
     };
     if c.at != d.len() {
-        return Answer::Refused(6);
+        return Incoming::Refused(6);
     }
-    Answer::Solicit {
+    Incoming::Solicit(Solicit {
         head: head(d),
         entry,
         nonce,
-    }
+    })
 }

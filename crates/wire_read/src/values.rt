@@ -7,12 +7,12 @@ ghost use mathlib.Core.Path.{_≡_};
 ghost use Prim.Native.Nat.{_+_, _<_, _≤_};
 ghost use lib.ListN.{getD, length};
 ghost use Rattle.wire_fields.specs.Kinds.{oneOf};
-ghost use Rattle.wire_read.specs.Answers.{isHere, flagIn, headOf, precisionAt};
+ghost use Rattle.wire_read.specs.Answers.{isHere, partFlag, headOf, precisionAt};
 
 // The bit of a weight in a field, clear where it is absent.
 pub(crate) fn flag_in(d: &[u8], p: Part, offset: usize, weight: u8) -> bool
     requires { ⌜ (offset < 4) × (0 < weight) ⌝ }
-    ensures { λ r. ⌜ r ≡ flagIn (now (d .entry)) p offset weight ⌝ }
+    ensures { λ r. ⌜ r ≡ partFlag (now (d .entry)) p offset weight ⌝ }
 {
     let Part::Here(start, _) = p else {
         return false;

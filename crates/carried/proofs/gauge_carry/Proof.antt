@@ -1,7 +1,7 @@
 -- `carried::gauge_carry` meets its contract. Assumes nothing.
 use mathlib.Core.Path.{_≡_, ap, sym, _∙_}
 use borrow.Author.Needs.{needs}
-use Rattle.wire_read.specs.Answers.{answer}
+use Rattle.wire_read.specs.Answers.{readIn}
 use Rattle.carried.specs.Whole.{wholeOf}
 use Rattle.carried.proofs.CarryLaws.{whole-authority, carry-other, carry-authority}
 use Rattle.carried.proofs.gauge_carry.Statement.{statement}
@@ -9,7 +9,7 @@ use Rattle.carried.proofs.gauge_carry.Tie as tie
 
 -- what was found is what was read
 wanted : (c : tie.After-whole-of)
-    → (let a = c .before .before .before .before .args in wholeOf (answer (a .authority .now) (a .major)) ≡ c .whole-of .result)
+    → (let a = c .before .before .before .before .args in wholeOf (readIn (a .authority .now) (a .major)) ≡ c .whole-of .result)
 wanted c = sym (c .whole-of .ensures ∙ ap wholeOf (c .before .read .ensures))
 
 read-requires : tie.Need-read-requires
@@ -25,7 +25,7 @@ enum-known-found-2 : tie.Need-enum-known-found-2
 enum-known-found-2 c = search needs
 
 put-reading-requires : tie.Need-put-reading-requires
-put-reading-requires c κs = whole-authority _ _ _ _ (wanted (c .before .before .before .before) ∙ c .before .before .found2 .given .1)
+put-reading-requires c κs = whole-authority _ _ (wanted (c .before .before .before .before) ∙ c .before .before .found2 .given .1)
 
 returns : tie.Need-returns
 returns c = carry-other _ _ _ _ _ (wanted (c .before .before .before) ∙ c .before .found .given .1)
@@ -36,7 +36,7 @@ same-length c = search needs
 returns-2 : tie.Need-returns-2
 returns-2 c =
     let found2 = c .before .before .before .before .before in
-    c .before .before .put-reading .ensures ∙ carry-authority _ _ _ _ _ _ _ (wanted (found2 .before .before) ∙ found2 .found2 .given .1)
+    c .before .before .put-reading .ensures ∙ carry-authority _ _ _ _ _ (wanted (found2 .before .before) ∙ found2 .found2 .given .1)
 
 pub gauge-carry-spec : {M : Type 1} → statement M
 gauge-carry-spec =

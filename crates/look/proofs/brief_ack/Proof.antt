@@ -3,8 +3,7 @@ use mathlib.Core.Path.{refl, sym, ap, subst, _∙_}
 use mathlib.Core.List.{[], _∷_}
 use denote.Ref.{now}
 use Rattle.wire_fields.specs.Kinds.{ackKinds}
-use Rattle.wire_read.specs.Answers.{shown}
-use Rattle.wire_read.specs.declared.Answer.{Answer}
+use Rattle.wire_read.specs.Answers.{incomingOf}
 use Rattle.look.specs.Seen.{lookOf, briefOf, Small}
 use Rattle.look.proofs.BriefLaws.{else-refused, brief-by}
 use borrow.Author.Needs.{needs}
@@ -21,12 +20,13 @@ refused-requires : tie.Need-refused-requires
 refused-requires c κs = search needs
 
 returns : tie.Need-returns
-unfolding shown
+unfolding incomingOf
 returns c =
     let start = c .before .before .before .before in
     let read = c .before .before .read-ack .ensures in
     c .refused .ensures
-    ∙ ap briefOf (sym (else-refused (now (start .args .datagram)) 9 7 (0 ∷ 1 ∷ 2 ∷ 3 ∷ 4 ∷ 5 ∷ 6 ∷ 8 ∷ []) (λ ps. refl) tt _ ackKinds read (c .before .match .keys2)) ∙ read)
+    ∙ ap briefOf (sym (else-refused (now (start .args .datagram)) 9 7 (0 ∷ 1 ∷ 2 ∷ 3 ∷ 4 ∷ 5 ∷ 6 ∷ 8 ∷ []) (λ ps. refl) tt _ ackKinds read
+    (c .before .match .keys2)) ∙ read)
 
 seen-as-requires : tie.Need-seen-as-requires
 seen-as-requires c κs = search needs

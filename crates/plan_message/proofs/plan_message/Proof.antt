@@ -4,7 +4,7 @@ use native.Mathlib.Omega.{arith}
 use lib.ListN.{length}
 use Rattle.record.proofs.EntryLaws.{form-length}
 use Rattle.wire_read.specs.Answers as R
-use Rattle.wire_read.specs.declared.Answer as T
+use Rattle.wire_read.specs.declared.Incoming as T
 use Rattle.look.specs.Seen.{briefOf}
 use Rattle.look.specs.declared.Brief.{Brief}
 use Rattle.gauge_plan.specs.Lent.{Memory, withTables, Receive, planning}
@@ -32,10 +32,10 @@ long : (s : tie.Start) → length (s .args .own .now) ≡ 100
 long s = form-length (s .args .own .now) (s .pre .0)
 
 -- what holds of every answer and what is told of it holds here
-by : (m : tie.After-brief-at) (P : T.Answer → Brief → Type 0) → ((a : T.Answer) → P a (briefOf a))
-    → P (R.answer (start m .args .datagram .now) (start m .args .major)) (m .brief-at .result)
+by : (m : tie.After-brief-at) (P : T.Incoming → Brief → Type 0) → ((a : T.Incoming) → P a (briefOf a))
+    → P (R.readIn (start m .args .datagram .now) (start m .args .major)) (m .brief-at .result)
 by m P f =
-    let a = R.answer (start m .args .datagram .now) (start m .args .major) in
+    let a = R.readIn (start m .args .datagram .now) (start m .args .major) in
     subst (P a) (sym (m .brief-at .ensures)) (f a)
 
 brief-at-requires : tie.Need-brief-at-requires

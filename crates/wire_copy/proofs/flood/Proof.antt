@@ -27,8 +27,8 @@ returns : tie.Need-returns
 unfolding resent
 returns c =
     let start = c .before .before .before .before .before .before .before in
-    let b = Bool·not-not (oneOf (isHere (start .args .revoke)) (isHere (start .args .entry))) in
-    let e : oneOf (isHere (start .args .revoke)) (isHere (start .args .entry)) ≡ false =
+    let b = Bool·not-not (oneOf (isHere (start .args .m .revoke)) (isHere (start .args .m .entry))) in
+    let e : oneOf (isHere (start .args .m .revoke)) (isHere (start .args .m .entry)) ≡ false =
     sym b ∙ ap not (sym (rw (c .before .before .before .piece-of .ensures, c .before .before .piece-of2 .ensures) at
     (c .before .both-or-neither .ensures)) ∙ c .if1 .taken) in
     rw e (wrote-6 _ _ refl)
@@ -72,8 +72,8 @@ returns-2 c =
     let spelled-bytes = no-piece .before .before .before .before .before in
     let piece-of = spelled-bytes .before .before .before .before .before in
     let start = piece-of .before .before .before .before in
-    let b = Bool·not-not (oneOf (isHere (start .args .revoke)) (isHere (start .args .entry))) in
-    let e : oneOf (isHere (start .args .revoke)) (isHere (start .args .entry)) ≡ true =
+    let b = Bool·not-not (oneOf (isHere (start .args .m .revoke)) (isHere (start .args .m .entry))) in
+    let e : oneOf (isHere (start .args .m .revoke)) (isHere (start .args .m .entry)) ≡ true =
     sym b ∙ ap not (sym (rw (piece-of .piece-of .ensures, spelled-bytes .before .before .before .before .piece-of2 .ensures) at
     (spelled-bytes .before .before .before .both-or-neither .ensures)) ∙ spelled-bytes .before .before .if1 .left) in
     rw e

@@ -8,8 +8,8 @@ use denote.Ref.{now}
 use Rattle.wire_fields.specs.Kinds.{kindsOf}
 use Rattle.wire_fields.specs.Refusals.{foundIn, inPart}
 use Rattle.wire_fields.proofs.RefusalLaws.{byType}
-use Rattle.wire_read.specs.Answers.{shown}
-use Rattle.wire_read.specs.declared.Answer.the-variants.{Refused}
+use Rattle.wire_read.specs.Answers.{incomingOf}
+use Rattle.wire_read.specs.declared.Incoming.the-variants.{Refused}
 use Rattle.wire_read.proofs.ReaderLaws.{header-refuses, header-right}
 use borrow.Author.Needs.{needs}
 use Rattle.wire_read.proofs.read.Statement.{statement}
@@ -25,7 +25,7 @@ header-requires : tie.Need-header-requires
 header-requires c κs = search needs
 
 returns : tie.Need-returns
-unfolding shown
+unfolding incomingOf
 returns c =
     let a = c .before .before .before .args in
     rw (header-refuses (now (a .d)) (a .major) (λ e. c .if1 .taken (c .before .header .ensures ∙ e))) (ap Refused (c .before .header .ensures))
@@ -99,7 +99,7 @@ returns-9 c =
     rw (right-at (c .before .before .before) .1, c .before .match .keys8) (c .read-lookup .ensures)
 
 returns-10 : tie.Need-returns-10
-unfolding shown kindsOf
+unfolding incomingOf kindsOf
 returns-10 c =
     let d = now (c .before .before .before .before .before .args .d) in
     let r = c .match .rest in

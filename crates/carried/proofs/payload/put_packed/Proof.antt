@@ -70,7 +70,7 @@ returns-2 c =
     let g = start .pre .1 in
     let out = c .before .before .before .write-payload .last .0 in
     ap (λ (x : Carry). carryHanded x out) (c .told .ensures)
-    ∙ carried-as _ _ (λ i. omega (arith, known .shared-slice-known .given i)) _ _ _ (start .pre .0) _ _ _ _ _ (packed-bytes _ _ _ _ g refl e _ q)
+    ∙ carried-as _ _ (λ i. omega (arith, known .shared-slice-known .given i)) _ (start .pre .0) _ _ _ _ _ (packed-bytes _ _ _ _ g refl e _ q)
     (c .before .before .before .write-payload .ensures)
 
 pub put-packed-spec : {M : Type 1} → statement M

@@ -27,7 +27,7 @@ returns : tie.Need-returns
 returns c =
     let known = c .before .before .before .before .before .before in
     let start = known .before in
-    carried-refused _ _ (λ i. omega (arith, known .shared-slice-known .given i)) _ _ _ (start .pre) _ _ _ _
+    carried-refused _ _ (λ i. omega (arith, known .shared-slice-known .given i)) _ (start .pre) _ _ _ _
     (sym (c .before .before .before .before .reading-of .ensures) ∙ c .before .before .made .given .1) (c .refused .ensures)
 
 same-length : tie.Need-same-length
@@ -38,7 +38,7 @@ returns-2 c =
     let made2 = c .before .before .before .before .before in
     let known = made2 .before .before .before .before in
     let start = known .before in
-    carried-read _ _ (λ i. omega (arith, known .shared-slice-known .given i)) _ _ _ (start .pre) _ _ _ _
+    carried-read _ _ (λ i. omega (arith, known .shared-slice-known .given i)) _ (start .pre) _ _ _ _
     (sym (made2 .before .before .reading-of .ensures) ∙ made2 .made2 .given .1)
     (c .before .before .put-packed .ensures)
 

@@ -21,10 +21,10 @@ enum-known-payload c = search needs
 
 add-unpack : tie.Need-add-unpack
 add-unpack c =
-    let known = c .before .before .before in
+    let known = c .before .before .before .before in
     omega (
       arith,
-      payload-there _ _ (λ i. omega (arith, known .shared-slice-known .given i)) _ _ _ (known .before .pre) _ _ (c .before .payload .given .1),
+      payload-there _ _ (λ i. omega (arith, known .shared-slice-known .given i)) _ (known .before .pre) _ _ (c .before .payload .given .1),
     )
 
 sub-unpack : tie.Need-sub-unpack
@@ -35,8 +35,8 @@ part-unpack-start c = search needs
 
 part-unpack-end : tie.Need-part-unpack-end
 part-unpack-end c =
-    let known = c .before .before .before in
-    payload-there _ _ (λ i. omega (arith, known .shared-slice-known .given i)) _ _ _ (known .before .pre) _ _ (c .before .payload .given .1)
+    let known = c .before .before .before .before in
+    payload-there _ _ (λ i. omega (arith, known .shared-slice-known .given i)) _ (known .before .pre) _ _ (c .before .payload .given .1)
 
 unpack-requires : tie.Need-unpack-requires
 unpack-requires c κs = search needs
@@ -46,14 +46,14 @@ shown-requires c κs = λ r e. unpack-fine _ r (sym (c .unpack .ensures) ∙ e)
 
 returns : tie.Need-returns
 returns c =
-    let known = c .before .before .before in
-    c .nothing .ensures ∙ none-taken _ _ (λ i. omega (arith, known .shared-slice-known .given i)) _ _ _ (known .before .pre)
+    let known = c .before .before .before .before in
+    c .nothing .ensures ∙ none-taken _ _ (λ i. omega (arith, known .shared-slice-known .given i)) _ (known .before .pre)
     (c .before .enum-told .given .1)
 
 returns-2 : tie.Need-returns-2
 returns-2 c =
     let payload = c .before .before .before .before in
-    let known = payload .before .before in
+    let known = payload .before .before .before in
     let start = known .before in
     let a = start .args in
     let p = payload .payload .given in
@@ -61,7 +61,7 @@ returns-2 c =
     let l = p .0 .1 .0 in
     let z : s + l - s ≡ l = omega arith in
     c .shown .ensures ∙ ap takenBy (c .before .unpack .ensures ∙ ap (λ (n : ℕ). unpackOf (take n (drop s (a .d .now)))) z)
-    ∙ some-taken _ _ (λ i. omega (arith, known .shared-slice-known .given i)) _ _ _ (start .pre) s l (p .1)
+    ∙ some-taken _ _ (λ i. omega (arith, known .shared-slice-known .given i)) _ (start .pre) s l (p .1)
 
 pub take-reading-spec : {M : Type 1} → statement M
 take-reading-spec =

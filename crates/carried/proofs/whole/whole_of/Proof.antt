@@ -6,14 +6,14 @@ use Rattle.carried.specs.Whole.{wholeOf}
 use Rattle.carried.proofs.whole.whole_of.Statement.{statement}
 use Rattle.carried.proofs.whole.whole_of.Tie as tie
 
-enum-known-answer : tie.Need-enum-known-answer
-enum-known-answer c = search needs
+enum-known-message : tie.Need-enum-known-message
+enum-known-message c = search needs
 
 wide-requires : tie.Need-wide-requires
 wide-requires c κs = search needs
 
-enum-known-answer-2 : tie.Need-enum-known-answer-2
-enum-known-answer-2 c = search needs
+enum-known-message-2 : tie.Need-enum-known-message-2
+enum-known-message-2 c = search needs
 
 enum-told : tie.Need-enum-told
 enum-told c = search needs
@@ -37,10 +37,10 @@ enum-told-7 : tie.Need-enum-told-7
 enum-told-7 c = search needs
 
 returns : tie.Need-returns
-returns c = ap Other (c .wide .ensures) ∙ sym (ap wholeOf (c .before .before .answer .given .1))
+returns c = ap Other (c .wide .ensures) ∙ sym (ap wholeOf (c .before .before .message .given .1))
 
 returns-2 : tie.Need-returns-2
-returns-2 c = sym (ap wholeOf (c .before .answer2 .given .1))
+returns-2 c = sym (ap wholeOf (c .before .message2 .given .1))
 
 returns-3 : tie.Need-returns-3
 returns-3 c = search needs
@@ -67,9 +67,9 @@ pub whole-of-spec : {M : Type 1} → statement M
 whole-of-spec =
     tie.close
     (tie.spec
-    enum-known-answer
+    enum-known-message
     wide-requires
-    enum-known-answer-2
+    enum-known-message-2
     enum-told
     enum-told-2
     enum-told-3

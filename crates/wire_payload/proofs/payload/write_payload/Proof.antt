@@ -13,20 +13,20 @@ same-length : tie.Need-same-length
 same-length c = search needs
 
 returns : tie.Need-returns
-returns c = payload-refused _ _ _ _ _ _ _ _ _ (c .before .before .before .before .put-carrying .ensures) (c .if1 .taken)
+returns c = payload-refused _ _ _ _ _ _ _ (c .before .before .before .before .put-carrying .ensures) (c .if1 .taken)
 
 sub-size : tie.Need-sub-size
-sub-size c = payload-long _ _ _ _ _ _ _ _ _ (c .before .before .before .before .before .put-carrying .ensures) (c .before .if1 .left) .0
+sub-size c = payload-long _ _ _ _ _ _ _ (c .before .before .before .before .before .put-carrying .ensures) (c .before .if1 .left) .0
 
 cast-write-u16 : tie.Need-cast-write-u16
 cast-write-u16 c =
     let accepted = c .before .before in
-    omega (arith, payload-long _ _ _ _ _ _ _ _ _ (accepted .before .before .before .before .put-carrying .ensures) (accepted .if1 .left) .1)
+    omega (arith, payload-long _ _ _ _ _ _ _ (accepted .before .before .before .before .put-carrying .ensures) (accepted .if1 .left) .1)
 
 write-u16-requires : tie.Need-write-u16-requires
 write-u16-requires c κs =
     let accepted = c .before .before in
-    let long = payload-long _ _ _ _ _ _ _ _ _ (accepted .before .before .before .before .put-carrying .ensures) (accepted .if1 .left) in
+    let long = payload-long _ _ _ _ _ _ _ (accepted .before .before .before .before .put-carrying .ensures) (accepted .if1 .left) in
     omega (arith, long .0, long .2)
 
 same-length-2 : tie.Need-same-length-2
@@ -36,7 +36,7 @@ returns-2 : tie.Need-returns-2
 returns-2 c =
     let write = c .before .before in
     let accepted = write .before .before .before in
-    payload-written _ _ _ _ _ _ _ _ _ (accepted .before .before .before .before .put-carrying .ensures) (accepted .if1 .left) (write .write-u16 .ensures)
+    payload-written _ _ _ _ _ _ _ (accepted .before .before .before .before .put-carrying .ensures) (accepted .if1 .left) (write .write-u16 .ensures)
 
 pub write-payload-spec : {M : Type 1} → statement M
 write-payload-spec =

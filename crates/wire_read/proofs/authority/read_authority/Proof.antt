@@ -8,7 +8,7 @@ use Rattle.wire_fields.specs.Refusals.{inPart}
 use Rattle.wire_fields.specs.Reading.{fieldsAs, placesAt}
 use Rattle.wire_shapes.specs.declared.Shape.the-variants.{Sized, Split}
 use Rattle.wire_fields.proofs.RefusalLaws.{need-four, sized-four, split-four}
-use Rattle.wire_read.specs.Answers.{shown}
+use Rattle.wire_read.specs.Answers.{incomingOf}
 use Rattle.wire_read.proofs.ReaderLaws.{authority-bad, authority-good}
 use borrow.Author.Needs.{needs}
 use Rattle.wire_read.proofs.authority.read_authority.Statement.{statement}
@@ -24,7 +24,7 @@ enum-told : tie.Need-enum-told
 enum-told c = search needs
 
 returns : tie.Need-returns
-unfolding shown inPart fieldsAs placesAt
+unfolding incomingOf inPart fieldsAs placesAt
 returns c = rw (sym (c .before .before .fixed .ensures) ∙ c .enum-told .given .1)
 
 split-requires : tie.Need-split-requires
@@ -37,7 +37,7 @@ enum-told-2 : tie.Need-enum-told-2
 enum-told-2 c = search needs
 
 returns-2 : tie.Need-returns-2
-unfolding shown inPart fieldsAs placesAt
+unfolding incomingOf inPart fieldsAs placesAt
 returns-2 c =
     let acked = c .before .before .before .before in
     rw (sym (acked .before .before .fixed .ensures) ∙ acked .acked .given .1, sym (c .before .before .split .ensures) ∙ c .enum-told2 .given .1)
@@ -48,7 +48,7 @@ is-whole-requires c κs =
     need-four (now (start .args .d)) _ _ _ Split split-four _ _ _ (sym (c .before .before .before .split .ensures) ∙ c .before .start .given .1)
 
 returns-3 : tie.Need-returns-3
-unfolding shown inPart
+unfolding incomingOf inPart
 returns-3 c =
     let split = c .before .before .before in
     let acked = split .before .before .before .before in
@@ -85,7 +85,8 @@ read-u32-requires : tie.Need-read-u32-requires
 read-u32-requires c κs =
     let acked = c .before .before .before .before .before .before .before .before .before .before .before .before in
     let start = acked .before .before .before .before in
-    let q = need-four (now (start .args .d)) _ _ _ (Sized 4) sized-four _ _ _ (sym (acked .before .before .fixed .ensures) ∙ acked .acked .given .1) in
+    let q = need-four (now (start .args .d)) _ _ _ (Sized 4) sized-four _ _ _
+    (sym (acked .before .before .fixed .ensures) ∙ acked .acked .given .1) in
     omega (arith, q .0, q .1)
 
 returns-5 : tie.Need-returns-5

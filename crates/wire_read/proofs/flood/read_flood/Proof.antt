@@ -4,7 +4,7 @@ use borrow.Author.Tests.{eq-eqb, ne-eqb, not-true, not-false}
 use mathlib.Core.Path.{sym, _∙_}
 use Rattle.wire_fields.specs.Kinds.{joinedFields, sized}
 use Rattle.wire_fields.specs.Reading.{placesAt, fieldsAs}
-use Rattle.wire_read.specs.Answers.{shown}
+use Rattle.wire_read.specs.Answers.{incomingOf}
 use Rattle.wire_read.proofs.ReaderLaws.{present-value}
 use borrow.Author.Needs.{needs}
 use Rattle.wire_read.proofs.flood.read_flood.Statement.{statement}
@@ -20,7 +20,7 @@ enum-told : tie.Need-enum-told
 enum-told c = search needs
 
 returns : tie.Need-returns
-unfolding shown fieldsAs joinedFields sized placesAt
+unfolding incomingOf fieldsAs joinedFields sized placesAt
 returns c =
     rw (sym (c .before .before .fixed .ensures) ∙ c .enum-told .given .1)
 
@@ -34,7 +34,7 @@ enum-told-2 : tie.Need-enum-told-2
 enum-told-2 c = search needs
 
 returns-2 : tie.Need-returns-2
-unfolding shown fieldsAs joinedFields sized placesAt
+unfolding incomingOf fieldsAs joinedFields sized placesAt
 returns-2 c =
     rw (
       sym (c .before .before .before .before .before .before .fixed .ensures) ∙ c .before .before .before .before .controls .given .1,
@@ -51,7 +51,7 @@ enum-told-3 : tie.Need-enum-told-3
 enum-told-3 c = search needs
 
 returns-3 : tie.Need-returns-3
-unfolding shown fieldsAs joinedFields sized placesAt
+unfolding incomingOf fieldsAs joinedFields sized placesAt
 returns-3 c =
     let validate = c .before .before .before .before in
     let controls = validate .before .before .before .before in
@@ -71,7 +71,7 @@ enum-told-4 : tie.Need-enum-told-4
 enum-told-4 c = search needs
 
 returns-4 : tie.Need-returns-4
-unfolding shown fieldsAs joinedFields sized placesAt
+unfolding incomingOf fieldsAs joinedFields sized placesAt
 returns-4 c =
     let token = c .before .before .before .before in
     let validate = token .before .before .before .before in
@@ -93,7 +93,7 @@ enum-told-5 : tie.Need-enum-told-5
 enum-told-5 c = search needs
 
 returns-5 : tie.Need-returns-5
-unfolding shown fieldsAs joinedFields sized placesAt
+unfolding incomingOf fieldsAs joinedFields sized placesAt
 returns-5 c =
     let revoke = c .before .before .before .before in
     let token = revoke .before .before .before .before in
@@ -117,7 +117,7 @@ enum-told-6 : tie.Need-enum-told-6
 enum-told-6 c = search needs
 
 returns-6 : tie.Need-returns-6
-unfolding shown fieldsAs joinedFields sized placesAt
+unfolding incomingOf fieldsAs joinedFields sized placesAt
 returns-6 c =
     let entry = c .before .before .before .before in
     let revoke = entry .before .before .before .before in
@@ -134,7 +134,7 @@ returns-6 c =
     )
 
 returns-7 : tie.Need-returns-7
-unfolding shown fieldsAs joinedFields sized placesAt
+unfolding incomingOf fieldsAs joinedFields sized placesAt
 returns-7 c =
     let reached = c .before .before .before in
     let entry = reached .before .before .before .before in
@@ -156,7 +156,7 @@ just-one-requires : tie.Need-just-one-requires
 just-one-requires c κs = search needs
 
 returns-8 : tie.Need-returns-8
-unfolding shown fieldsAs joinedFields sized placesAt
+unfolding incomingOf fieldsAs joinedFields sized placesAt
 returns-8 c =
     let reached = c .before .before .before .before .before in
     let entry = reached .before .before .before .before in
@@ -188,7 +188,7 @@ silent-requires : tie.Need-silent-requires
 silent-requires c κs = search needs
 
 returns-9 : tie.Need-returns-9
-unfolding shown fieldsAs joinedFields sized placesAt
+unfolding incomingOf fieldsAs joinedFields sized placesAt
 returns-9 c =
     let reached = c .before .before .before .before .before .before .before in
     let entry = reached .before .before .before .before in

@@ -4,7 +4,7 @@ use borrow.Author.Tests.{eq-eqb, ne-eqb}
 use mathlib.Core.Path.{sym, _∙_}
 use Rattle.wire_fields.specs.Kinds.{joinedFields, sized}
 use Rattle.wire_fields.specs.Reading.{placesAt, fieldsAs}
-use Rattle.wire_read.specs.Answers.{shown}
+use Rattle.wire_read.specs.Answers.{incomingOf}
 use borrow.Author.Needs.{needs}
 use Rattle.wire_read.proofs.inquire.read_inquire.Statement.{statement}
 use Rattle.wire_read.proofs.inquire.read_inquire.Tie as tie
@@ -19,7 +19,7 @@ enum-told : tie.Need-enum-told
 enum-told c = search needs
 
 returns : tie.Need-returns
-unfolding shown fieldsAs joinedFields sized placesAt
+unfolding incomingOf fieldsAs joinedFields sized placesAt
 returns c =
     rw (sym (c .before .before .fixed .ensures) ∙ c .enum-told .given .1)
 
@@ -33,7 +33,7 @@ enum-told-2 : tie.Need-enum-told-2
 enum-told-2 c = search needs
 
 returns-2 : tie.Need-returns-2
-unfolding shown fieldsAs joinedFields sized placesAt
+unfolding incomingOf fieldsAs joinedFields sized placesAt
 returns-2 c =
     rw (
       sym (c .before .before .before .before .before .before .fixed .ensures) ∙ c .before .before .before .before .flags .given .1,
@@ -50,7 +50,7 @@ enum-told-3 : tie.Need-enum-told-3
 enum-told-3 c = search needs
 
 returns-3 : tie.Need-returns-3
-unfolding shown fieldsAs joinedFields sized placesAt
+unfolding incomingOf fieldsAs joinedFields sized placesAt
 returns-3 c =
     let validate = c .before .before .before .before in
     let flags = validate .before .before .before .before in
@@ -70,7 +70,7 @@ enum-told-4 : tie.Need-enum-told-4
 enum-told-4 c = search needs
 
 returns-4 : tie.Need-returns-4
-unfolding shown fieldsAs joinedFields sized placesAt
+unfolding incomingOf fieldsAs joinedFields sized placesAt
 returns-4 c =
     let nonce = c .before .before .before .before in
     let validate = nonce .before .before .before .before in
@@ -92,7 +92,7 @@ enum-told-5 : tie.Need-enum-told-5
 enum-told-5 c = search needs
 
 returns-5 : tie.Need-returns-5
-unfolding shown fieldsAs joinedFields sized placesAt
+unfolding incomingOf fieldsAs joinedFields sized placesAt
 returns-5 c =
     let credential = c .before .before .before .before in
     let nonce = credential .before .before .before .before in
@@ -116,7 +116,7 @@ enum-told-6 : tie.Need-enum-told-6
 enum-told-6 c = search needs
 
 returns-6 : tie.Need-returns-6
-unfolding shown fieldsAs joinedFields sized placesAt
+unfolding incomingOf fieldsAs joinedFields sized placesAt
 returns-6 c =
     let signature = c .before .before .before .before in
     let credential = signature .before .before .before .before in
@@ -133,7 +133,7 @@ returns-6 c =
     )
 
 returns-7 : tie.Need-returns-7
-unfolding shown fieldsAs joinedFields sized placesAt
+unfolding incomingOf fieldsAs joinedFields sized placesAt
 returns-7 c =
     let key = c .before .before .before in
     let signature = key .before .before .before .before in
@@ -168,7 +168,7 @@ flag-requires-3 : tie.Need-flag-requires-3
 flag-requires-3 c κs = search needs
 
 returns-8 : tie.Need-returns-8
-unfolding shown fieldsAs joinedFields sized placesAt
+unfolding incomingOf fieldsAs joinedFields sized placesAt
 returns-8 c =
     let key = c .before .before .before .before .before .before .before in
     let signature = key .before .before .before .before in

@@ -3,7 +3,7 @@
 use mathlib.Core.Path.{sym, _∙_}
 use Rattle.wire_fields.specs.Kinds.{joinedFields, sized}
 use Rattle.wire_fields.specs.Reading.{placesAt, fieldsAs}
-use Rattle.wire_read.specs.Answers.{shown}
+use Rattle.wire_read.specs.Answers.{incomingOf}
 use Rattle.wire_read.proofs.ReaderLaws.{lookup-front}
 use borrow.Author.Needs.{needs}
 use Rattle.wire_read.proofs.lookup.read_lookup.Statement.{statement}
@@ -19,7 +19,7 @@ enum-told : tie.Need-enum-told
 enum-told c = search needs
 
 returns : tie.Need-returns
-unfolding shown fieldsAs joinedFields sized placesAt
+unfolding incomingOf fieldsAs joinedFields sized placesAt
 returns c =
     rw (sym (c .before .before .controls .ensures) ∙ c .enum-told .given .1)
 
@@ -33,7 +33,7 @@ enum-told-2 : tie.Need-enum-told-2
 enum-told-2 c = search needs
 
 returns-2 : tie.Need-returns-2
-unfolding shown fieldsAs joinedFields sized placesAt
+unfolding incomingOf fieldsAs joinedFields sized placesAt
 returns-2 c =
     rw (
       sym (c .before .before .before .before .before .before .controls .ensures) ∙ c .before .before .before .before .controls2 .given .1,
@@ -50,7 +50,7 @@ enum-told-3 : tie.Need-enum-told-3
 enum-told-3 c = search needs
 
 returns-3 : tie.Need-returns-3
-unfolding shown fieldsAs joinedFields sized placesAt
+unfolding incomingOf fieldsAs joinedFields sized placesAt
 returns-3 c =
     let target = c .before .before .before .before in
     let controls = target .before .before .before .before in

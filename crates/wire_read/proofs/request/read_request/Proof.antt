@@ -7,7 +7,7 @@ use Rattle.wire_fields.specs.Kinds.{joinedFields, sized}
 use Rattle.wire_fields.specs.Reading.{placesAt, fieldsAs}
 use Rattle.wire_shapes.specs.declared.Shape.the-variants.{Sized}
 use Rattle.wire_fields.proofs.RefusalLaws.{split-value, maybe-four, sized-four}
-use Rattle.wire_read.specs.Answers.{shown}
+use Rattle.wire_read.specs.Answers.{incomingOf}
 use borrow.Author.Needs.{needs}
 use Rattle.wire_read.proofs.request.read_request.Statement.{statement}
 use Rattle.wire_read.proofs.request.read_request.Tie as tie
@@ -22,7 +22,7 @@ enum-told : tie.Need-enum-told
 enum-told c = search needs
 
 returns : tie.Need-returns
-unfolding shown fieldsAs joinedFields sized placesAt
+unfolding incomingOf fieldsAs joinedFields sized placesAt
 returns c =
     rw (sym (c .before .before .fixed-or-none .ensures) ∙ c .enum-told .given .1)
 
@@ -36,7 +36,7 @@ enum-told-2 : tie.Need-enum-told-2
 enum-told-2 c = search needs
 
 returns-2 : tie.Need-returns-2
-unfolding shown fieldsAs joinedFields sized placesAt
+unfolding incomingOf fieldsAs joinedFields sized placesAt
 returns-2 c =
     rw (
       sym (c .before .before .before .before .before .before .fixed-or-none .ensures) ∙ c .before .before .before .before .flags .given .1,
@@ -53,7 +53,7 @@ enum-told-3 : tie.Need-enum-told-3
 enum-told-3 c = search needs
 
 returns-3 : tie.Need-returns-3
-unfolding shown fieldsAs joinedFields sized placesAt
+unfolding incomingOf fieldsAs joinedFields sized placesAt
 returns-3 c =
     let split = c .before .before .before .before in
     let flags = split .before .before .before .before in
@@ -73,7 +73,7 @@ enum-told-4 : tie.Need-enum-told-4
 enum-told-4 c = search needs
 
 returns-4 : tie.Need-returns-4
-unfolding shown fieldsAs joinedFields sized placesAt
+unfolding incomingOf fieldsAs joinedFields sized placesAt
 returns-4 c =
     let nonce = c .before .before .before .before in
     let split = nonce .before .before .before .before in
@@ -95,7 +95,7 @@ enum-told-5 : tie.Need-enum-told-5
 enum-told-5 c = search needs
 
 returns-5 : tie.Need-returns-5
-unfolding shown fieldsAs joinedFields sized placesAt
+unfolding incomingOf fieldsAs joinedFields sized placesAt
 returns-5 c =
     let keys = c .before .before .before .before in
     let nonce = keys .before .before .before .before in
@@ -119,7 +119,7 @@ enum-told-6 : tie.Need-enum-told-6
 enum-told-6 c = search needs
 
 returns-6 : tie.Need-returns-6
-unfolding shown fieldsAs joinedFields sized placesAt
+unfolding incomingOf fieldsAs joinedFields sized placesAt
 returns-6 c =
     let credential = c .before .before .before .before in
     let keys = credential .before .before .before .before in
@@ -145,7 +145,7 @@ enum-told-7 : tie.Need-enum-told-7
 enum-told-7 c = search needs
 
 returns-7 : tie.Need-returns-7
-unfolding shown fieldsAs joinedFields sized placesAt
+unfolding incomingOf fieldsAs joinedFields sized placesAt
 returns-7 c =
     let signature = c .before .before .before .before in
     let credential = signature .before .before .before .before in
@@ -164,7 +164,7 @@ returns-7 c =
     )
 
 returns-8 : tie.Need-returns-8
-unfolding shown fieldsAs joinedFields sized placesAt
+unfolding incomingOf fieldsAs joinedFields sized placesAt
 returns-8 c =
     let key = c .before .before .before in
     let signature = key .before .before .before .before in
@@ -192,7 +192,7 @@ is-whole-requires c κs =
     maybe-four (now (start .args .d)) _ _ _ (Sized 4) sized-four _ _ (sym (split .before .before .fixed-or-none2 .ensures) ∙ split .split .given .1)
 
 returns-9 : tie.Need-returns-9
-unfolding shown fieldsAs joinedFields sized placesAt
+unfolding incomingOf fieldsAs joinedFields sized placesAt
 returns-9 c =
     let key = c .before .before .before .before .before in
     let signature = key .before .before .before .before in
@@ -228,7 +228,7 @@ head-requires c κs =
     start .pre
 
 returns-10 : tie.Need-returns-10
-unfolding shown fieldsAs joinedFields sized placesAt
+unfolding incomingOf fieldsAs joinedFields sized placesAt
 returns-10 c =
     let passed = c .before .before .before .before .before in
     let key = passed .before .before .before in

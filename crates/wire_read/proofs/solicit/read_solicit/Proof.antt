@@ -4,7 +4,7 @@ use borrow.Author.Tests.{eq-eqb, ne-eqb}
 use mathlib.Core.Path.{sym, _∙_}
 use Rattle.wire_fields.specs.Kinds.{joinedFields, sized}
 use Rattle.wire_fields.specs.Reading.{placesAt, fieldsAs}
-use Rattle.wire_read.specs.Answers.{shown}
+use Rattle.wire_read.specs.Answers.{incomingOf}
 use borrow.Author.Needs.{needs}
 use Rattle.wire_read.proofs.solicit.read_solicit.Statement.{statement}
 use Rattle.wire_read.proofs.solicit.read_solicit.Tie as tie
@@ -19,7 +19,7 @@ enum-told : tie.Need-enum-told
 enum-told c = search needs
 
 returns : tie.Need-returns
-unfolding shown fieldsAs joinedFields sized placesAt
+unfolding incomingOf fieldsAs joinedFields sized placesAt
 returns c =
     rw (sym (c .before .before .entry-or-none .ensures) ∙ c .enum-told .given .1)
 
@@ -33,7 +33,7 @@ enum-told-2 : tie.Need-enum-told-2
 enum-told-2 c = search needs
 
 returns-2 : tie.Need-returns-2
-unfolding shown fieldsAs joinedFields sized placesAt
+unfolding incomingOf fieldsAs joinedFields sized placesAt
 returns-2 c =
     rw (
       sym (c .before .before .before .before .before .before .entry-or-none .ensures) ∙ c .before .before .before .before .entry .given .1,
@@ -41,7 +41,7 @@ returns-2 c =
     )
 
 returns-3 : tie.Need-returns-3
-unfolding shown fieldsAs joinedFields sized placesAt
+unfolding incomingOf fieldsAs joinedFields sized placesAt
 returns-3 c =
     let nonce = c .before .before .before in
     let entry = nonce .before .before .before .before in
@@ -55,7 +55,7 @@ head-requires : tie.Need-head-requires
 head-requires c κs = search needs
 
 returns-4 : tie.Need-returns-4
-unfolding shown fieldsAs joinedFields sized placesAt
+unfolding incomingOf fieldsAs joinedFields sized placesAt
 returns-4 c =
     let nonce = c .before .before .before .before in
     let entry = nonce .before .before .before .before in

@@ -14,7 +14,7 @@ use Rattle.gauge_plan.specs.Lent.{Memory, memory, withCache, withWaiting, withT
 use Rattle.gauge_commit.specs.declared.Answer.{Answer}
 use Rattle.gauge_commit.specs.Sending.{Handed, handed}
 use Rattle.gauge.specs.Ours.{ours}
-use Rattle.night.specs.Step.{nightIn, majorOf, minorOf, nightOwn, output, received, sent, ticked, callOf, Night, night, Stepped, stepped, called}
+use Rattle.night.specs.Step.{nightIn, stateLen, majorOf, minorOf, nightOwn, output, received, sent, ticked, callOf, Night, night, Stepped, stepped, called}
 
 -- ---- what stands before and behind a part that is written
 
@@ -53,6 +53,10 @@ kept-part a n at xs s w h =
 -- a part taken out into zeros of its length
 pub taken-out : (at n : ℕ) (s : List ℕ) → at + n ≤ length s → splice 0 (part at n s) (replicate n 0) ≡ part at n s
 taken-out at n s h = splice-whole (part at n s) (replicate n 0) (length-part at n s h ∙ sym (length-replicate {A = ℕ} n 0))
+
+-- another length, and the opening has another
+pub opening-unfit : (s : List ℕ) → (length s ≡ stateLen → ⊥) → length (nightIn s .opening) ≡ 102 → ⊥
+opening-unfit s u e = u (omega (arith, e, length-drop 8640 s))
 
 module _ (s : List ℕ) (fit : length s ≡ 8742) where
   -- versions and own record as they stand there

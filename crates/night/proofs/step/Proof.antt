@@ -2,12 +2,12 @@
 use mathlib.Core.Path.{_≡_, sym, ap, _∙_}
 use Prim.Native.Nat.{_≤_}
 use native.Mathlib.Omega.{arith}
-use lib.ListN.{length, length-drop}
+use lib.ListN.{length}
 use Rattle.refusal.specs.Table.{firstOf}
 use Rattle.trace.specs.Fault.{faults}
-use Rattle.night.specs.Step.{nightIn}
+use Rattle.night.specs.Step.{nightIn, stateLen}
 use Rattle.trace.proofs.FaultLaws.{good-record}
-use Rattle.night.proofs.CallLaws.{opening-fits, opening-back}
+use Rattle.night.proofs.CallLaws.{opening-unfit, opening-fits, opening-back}
 use Rattle.night.proofs.StepLaws.{step-unfit, refuses, body-fits, opening-length, opens, makes}
 use borrow.Author.Needs.{needs}
 use Rattle.night.proofs.step.Statement.{statement}
@@ -17,7 +17,7 @@ use Rattle.night.proofs.step.Tie as tie
 abbrev lent : tie.Else2 → tie.Start
 lent c = c .before .before .before .before .before
 
-fit : (c : tie.Else2) → length (lent c .args .state .now) ≡ 8742
+fit : (c : tie.Else2) → length (lent c .args .state .now) ≡ stateLen
 fit c = c .before .before .if1 .left
 
 fits-so : (c : tie.Else2) → length (nightIn (lent c .args .state .now) .opening) ≡ 102
@@ -30,9 +30,7 @@ kinded : (c : tie.Else2) → 4 ≤ length (lent c .args .piece .now)
 kinded c = good-record _ _ (clean c) .0
 
 returns : tie.Need-returns
-returns c =
-    let s = c .before .before .before .args .state .now in
-    step-unfit _ _ _ (λ e. c .if1 .taken (omega (arith, e, length-drop 8640 s)))
+returns c = step-unfit _ _ _ (opening-unfit (c .before .before .before .args .state .now) (c .if1 .taken))
 
 fault-of-requires : tie.Need-fault-of-requires
 fault-of-requires c κs = search needs

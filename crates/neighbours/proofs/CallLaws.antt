@@ -26,12 +26,13 @@ use Rattle.kept.proofs.Demand3Laws.{plain-order}
 use Rattle.neighbours.specs.declared.listing.Listed.{Listed}
 use Rattle.cache.specs.Form.{keysOf, cacheForm}
 use Rattle.neighbours.specs.Listing.{keyBytes, afterList}
-use Rattle.neighbours.specs.Closest.{candidates, closestOf}
+use Rattle.neighbours.specs.Closest.{candidates, offPath, closestOf}
 use Rattle.cache.specs.Calls.{heldBy}
 use Rattle.neighbours.specs.Calls.{Written, listWritten, listWrong, listCall, Shown, shown, closestWrong, closestCall}
 use Rattle.cache.proofs.FormLaws.{true-form}
 use Rattle.neighbours.proofs.ListLaws.{keys-length}
 use Rattle.neighbours.proofs.ClosestLaws.{closest-among, closest-least, closest-only}
+use Rattle.neighbours.proofs.SkipLaws.{off-held, off-empty}
 
 -- ---- one result
 
@@ -124,53 +125,61 @@ list-rest own recs out h =
 
 -- ---- the closest record
 
-module _ (own cache target : List ℕ) (a : AllFail (closestWrong own cache target)) where
-  -- accepted: the record is our own or one held, none is closer, and no other is so
-  pub closest-does : closestCall own cache target ≡ shown 0 (closestOf (keyAt 0 target) (candidates (ownRecords own) (heldBy own cache)))
+module _ (own cache path target : List ℕ) (a : AllFail (closestWrong own cache path target)) where
+  -- accepted: the record is our own or one held and not on the path, none is closer, and no other is so
+  pub closest-does : closestCall own cache path target ≡ shown 0 (closestOf (keyAt 0 target) (candidates (ownRecords own) (offPath path (heldBy own cache))))
   unfolding closestCall
   closest-does =
-      all-pass (λ (n : ℕ). shown n []) (closestWrong own cache target)
-      (shown 0 (closestOf (keyAt 0 target) (candidates (ownRecords own) (heldBy own cache)))) a
+      all-pass (λ (n : ℕ). shown n []) (closestWrong own cache path target)
+      (shown 0 (closestOf (keyAt 0 target) (candidates (ownRecords own) (offPath path (heldBy own cache))))) a
 
-  closest-bytes : closestCall own cache target .bytes ≡ closestOf (keyAt 0 target) (candidates (ownRecords own) (heldBy own cache))
+  closest-bytes : closestCall own cache path target .bytes ≡ closestOf (keyAt 0 target) (candidates (ownRecords own) (offPath path (heldBy own cache)))
   closest-bytes = ap (λ (h : Shown). h .bytes) closest-does
 
-  pub closest-candidate : closestCall own cache target .bytes ∈ candidates (ownRecords own) (heldBy own cache)
-  closest-candidate = rw closest-bytes (closest-among (keyAt 0 target) own (heldBy own cache))
+  pub closest-candidate : closestCall own cache path target .bytes ∈ candidates (ownRecords own) (offPath path (heldBy own cache))
+  closest-candidate = rw closest-bytes (closest-among (keyAt 0 target) own (offPath path (heldBy own cache)))
 
-  pub closest-none-closer : (y : List ℕ) → y ∈ candidates (ownRecords own) (heldBy own cache)
-      → closer (keyAt 0 target) (keyOf y) (keyOf (closestCall own cache target .bytes)) ≡ false
-  closest-none-closer y m = rw closest-bytes (closest-least (keyAt 0 target) own (heldBy own cache) y m)
+  pub closest-none-closer : (y : List ℕ) → y ∈ candidates (ownRecords own) (offPath path (heldBy own cache))
+      → closer (keyAt 0 target) (keyOf y) (keyOf (closestCall own cache path target .bytes)) ≡ false
+  closest-none-closer y m = rw closest-bytes (closest-least (keyAt 0 target) own (offPath path (heldBy own cache)) y m)
 
-  pub closest-fixed : (z : List ℕ) → z ∈ candidates (ownRecords own) (heldBy own cache)
-      → ((y : List ℕ) → y ∈ candidates (ownRecords own) (heldBy own cache) → closer (keyAt 0 target) (keyOf y) (keyOf z) ≡ false)
-      → z ≡ closestCall own cache target .bytes
+  pub closest-fixed : (z : List ℕ) → z ∈ candidates (ownRecords own) (offPath path (heldBy own cache))
+      → ((y : List ℕ) → y ∈ candidates (ownRecords own) (offPath path (heldBy own cache)) → closer (keyAt 0 target) (keyOf y) (keyOf z) ≡ false)
+      → z ≡ closestCall own cache path target .bytes
   closest-fixed z m h =
-      closest-only (keyAt 0 target) own (heldBy own cache) (true-form (keyOf own) cache (not-false _ (a .1 .0)) .held) z m h ∙ sym closest-bytes
+      closest-only (keyAt 0 target) own (offPath path (heldBy own cache))
+      (off-held path (keyOf own) (heldBy own cache) (true-form (keyOf own) cache (not-false _ (a .1 .0)) .held)) z m h ∙ sym closest-bytes
 
-module _ (own cache target : List ℕ) where
-  closest-order : InOrder byNumber 0 (closestWrong own cache target)
-  closest-order = (omega arith, omega arith, (omega arith, omega arith, (omega arith, omega arith, tt)))
+module _ (own cache path target : List ℕ) where
+  closest-order : InOrder byNumber 0 (closestWrong own cache path target)
+  closest-order = (omega arith, omega arith, (omega arith, omega arith, (omega arith, omega arith, (omega arith, omega arith, tt))))
 
   closest-done : Shown
-  closest-done = shown 0 (closestOf (keyAt 0 target) (candidates (ownRecords own) (heldBy own cache)))
+  closest-done = shown 0 (closestOf (keyAt 0 target) (candidates (ownRecords own) (offPath path (heldBy own cache))))
 
-  pub closest-passes : closestCall own cache target .number ≡ 0 → AllFail (closestWrong own cache target)
+  pub closest-passes : closestCall own cache path target .number ≡ 0 → AllFail (closestWrong own cache path target)
   unfolding closestCall closest-done
   closest-passes e =
-      all-fail byNumber (closestWrong own cache target) 0 closest-order
-      (sym (number-is (λ (h : Shown). h .number) (λ (n : ℕ). shown n []) (λ n. refl) closest-done refl (closestWrong own cache target)) ∙ e)
+      all-fail byNumber (closestWrong own cache path target) 0 closest-order
+      (sym (number-is (λ (h : Shown). h .number) (λ (n : ℕ). shown n []) (λ n. refl) closest-done refl (closestWrong own cache path target)) ∙ e)
 
   -- refused: no record is shown; and exactly when
-  pub closest-keeps : 0 < closestCall own cache target .number → closestCall own cache target .bytes ≡ []
+  pub closest-keeps : 0 < closestCall own cache path target .number → closestCall own cache path target .bytes ≡ []
   unfolding closestCall closest-done
   closest-keeps p =
       refusal-keeps (λ (h : Shown). h .number) (λ (n : ℕ). shown n []) (λ n. refl) closest-done refl (λ (h : Shown). h .bytes) [] (λ n. refl)
-      (closestWrong own cache target) p
+      (closestWrong own cache path target) p
 
   pub closest-exactly : (n : ℕ) → 0 < n
-      → (closestCall own cache target .number ≡ n)
-      ↔ ((appliesIn n (closestWrong own cache target) ≡ true) × ((m : ℕ) → m < n → appliesIn m (closestWrong own cache target) ≡ false))
+      → (closestCall own cache path target .number ≡ n)
+      ↔ ((appliesIn n (closestWrong own cache path target) ≡ true) × ((m : ℕ) → m < n → appliesIn m (closestWrong own cache path target) ≡ false))
   unfolding closestCall closest-done
   closest-exactly n p =
-      call-exactly (λ (h : Shown). h .number) (λ (n : ℕ). shown n []) (λ n. refl) closest-done refl (closestWrong own cache target) 0 closest-order n p
+      call-exactly (λ (h : Shown). h .number) (λ (n : ℕ). shown n []) (λ n. refl) closest-done refl (closestWrong own cache path target) 0 closest-order n p
+
+-- with no path it is the closest of our own record and all that are held, as document 01 has it
+pub closest-empty-path : (own cache target : List ℕ) → AllFail (closestWrong own cache [] target)
+    → closestCall own cache [] target ≡ shown 0 (closestOf (keyAt 0 target) (candidates (ownRecords own) (heldBy own cache)))
+closest-empty-path own cache target a =
+    closest-does own cache [] target a
+    ∙ ap (λ (l : List (List ℕ)). shown 0 (closestOf (keyAt 0 target) (candidates (ownRecords own) l))) (off-empty (heldBy own cache))

@@ -4,15 +4,12 @@ use mathlib.Core.Path.{_≡_, refl, sym, ap, _∙_}
 use mathlib.Core.Logic.{inl, inr}
 use mathlib.Core.Bool.{Bool, true, false, cond}
 use mathlib.Core.List.{List, [], _∷_}
-use Prim.Native.Nat.{ℕ, suc, _*_, _≤_}
+use Prim.Native.Nat.{ℕ, suc}
 use native.Mathlib.Omega.{arith}
-use lib.ListN.{length}
 use Rattle.key.specs.Around.{closer}
 use Rattle.key.proofs.AroundLaws.{closer-self, closer-anti, closer-trans, closer-both}
 use Rattle.record.specs.Record.{keyOf, recordForm}
 use Rattle.own.specs.Own.{ownRecords}
-use Rattle.table.specs.Rows.{rows, Sized}
-use Rattle.table.proofs.RowLaws.{rows-sized}
 use Rattle.kept.specs.Keys.{_∈_, Every, Rising, plain}
 use Rattle.kept.specs.Plain.{NotOwn}
 use Rattle.kept.proofs.ListLaws.{every-at, rising-at}
@@ -85,7 +82,7 @@ held-key x [] m = absurd m
 held-key x (r ∷ recs) (inl e) = inl (ap keyOf e)
 held-key x (r ∷ recs) (inr m) = inr (held-key x recs m)
 
-one-held : (low : ℕ) (recs : List (List ℕ)) (x y : List ℕ) → Rising plain low (keysOf recs) → x ∈ recs → y ∈ recs → keyOf x ≡ keyOf y → x ≡ y
+pub one-held : (low : ℕ) (recs : List (List ℕ)) (x y : List ℕ) → Rising plain low (keysOf recs) → x ∈ recs → y ∈ recs → keyOf x ≡ keyOf y → x ≡ y
 one-held low [] x y r m n e = absurd m
 one-held low (z ∷ recs) x y r (inl p) (inl q) e = p ∙ sym q
 one-held low (z ∷ recs) x y r (inl p) (inr n) e =
@@ -111,7 +108,7 @@ closest-only t own held f z m h =
 
 -- ---- it is in form where all are
 
-in-form : (r : List ℕ) (recs : List (List ℕ)) → Every (λ (q : List ℕ). recordForm q ≡ true) recs → r ∈ recs → recordForm r ≡ true
+pub in-form : (r : List ℕ) (recs : List (List ℕ)) → Every (λ (q : List ℕ). recordForm q ≡ true) recs → r ∈ recs → recordForm r ≡ true
 in-form r [] a m = absurd m
 in-form r (q ∷ recs) a (inl e) = rw e (a .0)
 in-form r (q ∷ recs) a (inr m) = in-form r recs (a .1) m
@@ -119,16 +116,3 @@ in-form r (q ∷ recs) a (inr m) = in-form r recs (a .1) m
 pub closest-formed : (t own-key : ℕ) (own : List ℕ) (held : List (List ℕ)) → recordForm own ≡ true → HeldRecords own-key held
     → recordForm (closestOf t (candidates (ownRecords own) held)) ≡ true
 closest-formed t k own held e f = in-form (closestOf t (candidates (ownRecords own) held)) (candidates (ownRecords own) held) (e, f .formed) (closest-among t own held)
-
--- ---- a record is 100 bytes, so the answer is
-
-sized-in : (y : List ℕ) (recs : List (List ℕ)) → Sized 100 recs → y ∈ recs → length y ≡ 100
-sized-in y [] z m = absurd m
-sized-in y (r ∷ recs) z (inl e) = ap length e ∙ z .0
-sized-in y (r ∷ recs) z (inr m) = sized-in y recs (z .1) m
-
-pub closest-length : (t used : ℕ) (own cache : List ℕ) → length own ≡ 100 → 100 * used ≤ length cache
-    → length (closestOf t (candidates (ownRecords own) (rows 100 used cache))) ≡ 100
-closest-length t used own cache h k =
-    sized-in (closestOf t (candidates (ownRecords own) (rows 100 used cache))) (candidates (ownRecords own) (rows 100 used cache)) (h, rows-sized 100 used cache k)
-    (closest-among t own (rows 100 used cache))

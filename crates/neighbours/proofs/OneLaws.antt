@@ -36,10 +36,10 @@ rise-one low (k ∷ ks) (suc i) zero r l m e =
     absurd (omega (arith, e, rising-at plain (suc k) (getD ks i 0) ks (r .1) (getD-in ks i 0 (omega arith))))
 rise-one low (k ∷ ks) (suc i) (suc j) r l m e = ap suc (rise-one (suc k) ks i j (r .1) (omega arith) (omega arith) e)
 
-module _ (own cache target : List ℕ) where
-  module _ (z : List ℕ) (e : shown 0 z ≡ closestCall own cache target) where
-    passes : AllFail (closestWrong own cache target)
-    passes = closest-passes own cache target (sym (ap (λ (h : Shown). h .number) e))
+module _ (own cache path target : List ℕ) where
+  module _ (z : List ℕ) (e : shown 0 z ≡ closestCall own cache path target) where
+    passes : AllFail (closestWrong own cache path target)
+    passes = closest-passes own cache path target (sym (ap (λ (h : Shown). h .number) e))
 
     own-long : length own ≡ 100
     own-long = form-length own (not-false _ (passes .0))
@@ -69,14 +69,14 @@ module _ (own cache target : List ℕ) where
         rise-one 0 (keysOf (heldBy own cache)) i j (holds .held .rising) (omega (arith, l, n)) (omega (arith, m, n))
         (held-key-at i l ∙ ap keyOf d ∙ sym (held-key-at j m))
 
-  bytes-of : {m n : ℕ} {r s : List ℕ} → shown m r ≡ closestCall own cache target → shown n s ≡ closestCall own cache target → r ≡ s
+  bytes-of : {m n : ℕ} {r s : List ℕ} → shown m r ≡ closestCall own cache path target → shown n s ≡ closestCall own cache path target → r ≡ s
   bytes-of p q = ap (λ (h : Shown). h .bytes) (p ∙ sym q)
 
   some : (i : ℕ) → 100 * i + 100 ≤ length cache → part (100 * i) 100 cache ≡ [] → ⊥
   some i l e = let n : _≡_ {A = ℕ} 0 100 = sym (ap length e) ∙ length-part (100 * i) 100 cache l in omega (arith, n)
 
-  pub nearest-one : (a b : Nearest) → shownBy own cache a ≡ closestCall own cache target → Inside own cache a
-      → shownBy own cache b ≡ closestCall own cache target → Inside own cache b → a ≡ b
+  pub nearest-one : (a b : Nearest) → shownBy own cache a ≡ closestCall own cache path target → Inside own cache a
+      → shownBy own cache b ≡ closestCall own cache path target → Inside own cache b → a ≡ b
   nearest-one (Refused m) (Refused n) p f q g = ap Refused (ap (λ (h : Shown). h .number) (p ∙ sym q))
   nearest-one (Refused m) Own p f q g = let n : _≡_ {A = ℕ} 0 100 = ap length (bytes-of p q) ∙ own-long own q in absurd (omega (arith, n))
   nearest-one (Refused m) (Held i) p f q g = absurd (some i (g .1) (bytes-of q p))

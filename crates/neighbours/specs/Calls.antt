@@ -1,7 +1,8 @@
--- Helps the code. The two calls on lent memory that nobody has tested: refused with 1 where "lent memory is not as above" (a target is such memory too), with
--- 15 where the output is "shorter than 320 bytes"; then nothing changes, counts are 0 and no record is shown. Tied to document 01 by `ours-meets`
+-- Helps the code. The two calls on lent memory that nobody has tested: refused with 1 where "lent memory is not as above" (a target is such memory too, and
+-- a path, "1 if not whole ones"), with 15 where the output is "shorter than 320 bytes"; then nothing changes, counts are 0 and no record is shown. Tied to document 01 by `ours-meets`
 -- (sentences/Theorems). Assumes nothing.
 use Prim.Native.Nat.{ℕ, _+_, _*_, _≤_, _<_}
+use mathlib.Core.Bool.{not}
 use mathlib.Core.List.{List, [], _∷_}
 use lib.Dec.{ltb}
 use lib.ListN.{length}
@@ -9,9 +10,10 @@ use Rattle.octet.specs.Part.{part}
 use Rattle.refusal.specs.Table.{Refusal, when, orRefuse}
 use Rattle.key.specs.Number.{keyAt}
 use Rattle.own.specs.Own.{ownKeys, ownRecords}
+use Rattle.path.specs.Path.{pathForm}
 use Rattle.cache.specs.Calls.{memoryWrong, keyWrong, heldBy}
 use Rattle.neighbours.specs.Listing.{afterList, countsOf}
-use Rattle.neighbours.specs.Closest.{candidates, closestOf}
+use Rattle.neighbours.specs.Closest.{candidates, offPath, closestOf}
 use Rattle.neighbours.specs.declared.listing.Listed.{Listed}
 use Rattle.neighbours.specs.declared.nearest.Nearest.{Nearest}
 use Rattle.neighbours.specs.declared.nearest.Nearest.the-variants.{Refused, Own, Held}
@@ -53,10 +55,14 @@ Inside own cache (Refused n) = Unit {0}
 Inside own cache Own = Unit {0}
 Inside own cache (Held i) = (i < length (heldBy own cache)) × (100 * i + 100 ≤ length cache)
 
-abbrev pub closestWrong : List ℕ → List ℕ → List ℕ → List Refusal
-closestWrong own cache target = memoryWrong own cache (keyWrong target ∷ [])
+-- a path that is handed in
+abbrev pub pathWrong : List ℕ → Refusal
+pathWrong path = when 1 (not (pathForm path))
 
-unfoldable pub closestCall : List ℕ → List ℕ → List ℕ → Shown
-closestCall own cache target =
-    orRefuse (λ (n : ℕ). shown n []) (closestWrong own cache target)
-    (shown 0 (closestOf (keyAt 0 target) (candidates (ownRecords own) (heldBy own cache))))
+abbrev pub closestWrong : List ℕ → List ℕ → List ℕ → List ℕ → List Refusal
+closestWrong own cache path target = memoryWrong own cache (pathWrong path ∷ keyWrong target ∷ [])
+
+unfoldable pub closestCall : (own cache path target : List ℕ) → Shown
+closestCall own cache path target =
+    orRefuse (λ (n : ℕ). shown n []) (closestWrong own cache path target)
+    (shown 0 (closestOf (keyAt 0 target) (candidates (ownRecords own) (offPath path (heldBy own cache)))))

@@ -1,4 +1,5 @@
--- Helps the code. "The record closest to the target, the own record included"; "Closeness to a target is the shorter way round; at equal distance take the key
+-- Helps the code. "The record closest to the target, the own record included"; "The closest record must skip any held record" on the LOOKUP's path, "The own
+-- record is never skipped" (02, Wish 2); "Closeness to a target is the shorter way round; at equal distance take the key
 -- reached by going down from the target" (02, Wish 4): key's Around has which of two keys is closer. Tied to document 01 by
 -- `ours-meets` (sentences/Theorems). Assumes nothing.
 use Prim.Native.Nat.{ℕ}
@@ -6,10 +7,16 @@ use mathlib.Core.Bool.{cond}
 use mathlib.Core.List.{List, [], _∷_, _++_}
 use Rattle.key.specs.Around.{closer}
 use Rattle.record.specs.Record.{keyOf}
+use Rattle.path.specs.Path.{onPath}
 
--- the records that may be shown: our own, and those held
+-- the records that may be shown: our own, and of those held the ones given
 abbrev pub candidates : List (List ℕ) → List (List ℕ) → List (List ℕ)
 candidates own held = own ++ held
+
+-- of the records held, those that are not on the path
+unfoldable pub offPath : List ℕ → List (List ℕ) → List (List ℕ)
+offPath path [] = []
+offPath path (r ∷ rs) = cond (onPath r path) (offPath path rs) (r ∷ offPath path rs)
 
 -- the closest to t of r and the records of the list
 unfoldable pub closestFrom : ℕ → List ℕ → List (List ℕ) → List ℕ

@@ -1,12 +1,38 @@
--- Helps the code. Where the closest record stands: which of our own and those of two places it is. Assumes nothing.
-use Prim.Native.Nat.{ℕ, _*_, _<_}
-use mathlib.Core.Bool.{cond}
+-- Helps the code. Where the closest record stands: the first places on the two sides of the target whose records are not on the path, and which of our own and those
+-- of two places it is. Assumes nothing.
+use Prim.Native.Nat.{ℕ, zero, suc, _+_, _-_, _*_, _<_}
+use mathlib.Core.Bool.{Bool, cond}
 use mathlib.Core.List.{List}
 use Rattle.octet.specs.Part.{part}
 use Rattle.key.specs.Number.{keyAt}
 use Rattle.key.specs.Around.{closer}
+use Rattle.kept.specs.Turned.{wrapped}
+use Rattle.path.specs.Path.{onPath}
 use Rattle.neighbours.specs.declared.nearest.Where.{Where}
 use Rattle.neighbours.specs.declared.nearest.Where.the-variants.{Own, Held}
+
+-- of n numbers from i on, the first at which the test fails; the one behind them where it holds at all
+unfoldable pub passOver : (ℕ → Bool) → ℕ → ℕ → ℕ
+passOver f i zero = i
+passOver f i (suc n) = cond (f i) (passOver f (suc i) n) i
+
+-- of n places, the one i steps up from a place, counted round, and i steps down from before it
+abbrev pub stepsUp : ℕ → ℕ → ℕ → ℕ
+stepsUp n at i = wrapped n (at + i)
+
+abbrev pub stepsDown : ℕ → ℕ → ℕ → ℕ
+stepsDown n at i = wrapped n (at + (n - (i + 1)))
+
+-- is the record of a place on the path?
+abbrev pub skipsAt : List ℕ → List ℕ → ℕ → Bool
+skipsAt path cache i = onPath (part (100 * i) 100 cache) path
+
+-- how many records are on the path before the first that is not
+abbrev pub skippedUp : List ℕ → List ℕ → ℕ → ℕ → ℕ
+skippedUp path cache used at = passOver (λ (i : ℕ). skipsAt path cache (stepsUp used at i)) 0 used
+
+abbrev pub skippedDown : List ℕ → List ℕ → ℕ → ℕ → ℕ
+skippedDown path cache used at = passOver (λ (i : ℕ). skipsAt path cache (stepsDown used at i)) 0 used
 
 -- a place among our own record and the first n of the cache, and the record there
 abbrev pub Within : ℕ → Where → Type 0

@@ -1,14 +1,17 @@
 // The record closest to a target key: a part of one of two lent slices, and no copy.
 ghost use mathlib.Core.Path.{_≡_};
-ghost use Prim.Native.Nat.{_+_, _*_, _≤_};
+ghost use mathlib.Core.Bool.{true};
+ghost use mathlib.Core.List.{List};
+ghost use Prim.Native.Nat.{ℕ, _+_, _*_, _≤_};
 ghost use lib.ListN.{length};
 ghost use Rattle.key.specs.Number.{number, keyAt};
-ghost use Rattle.record.specs.Record.{keyOf};
+ghost use Rattle.record.specs.Record.{keyOf, recordForm};
 ghost use Rattle.own.specs.Own.{ownRecords};
 ghost use Rattle.table.specs.Rows.{rows};
+ghost use Rattle.kept.specs.Keys.{Every};
 ghost use Rattle.cache.specs.Form.{Form};
-ghost use Rattle.neighbours.specs.Closest.{candidates, closestOf};
-ghost use Rattle.neighbours.specs.Where.{recordAt, nearestOf, Within};
+ghost use Rattle.neighbours.specs.Closest.{candidates, offPath, closestOf};
+ghost use Rattle.neighbours.specs.Where.{skippedUp, skippedDown, recordAt, nearestOf, Within};
 ghost use Rattle.neighbours.specs.Calls.{Inside, shownBy, closestCall};
 use cache::Formed;
 use key::Key;
@@ -49,33 +52,77 @@ fn nearest_of(own: &[u8], cache: &[u8], up: usize, down: usize, target: Key) -> 
     Where::Own
 }
 
-// Where the closest record stands. Keys go round, so of those held it can only be the first that is reached by going up
-// from the target or the first by going down: they stand on the two sides of the target's own place.
-fn place_of_closest(own: &[u8], cache: &[u8], used: usize, target: &[u8]) -> Where
+// How many records are on the path, from a place up and counted round, before the first that is not; all of them where
+// none is not.
+fn skipped_up(cache: &[u8], used: usize, at: usize, path: &[u8]) -> usize
+    requires { ⌜ (100 * used ≤ length (now cache)) × (at ≤ used)
+        × Every (λ (q : List ℕ). recordForm q ≡ true) (rows 100 used (now cache)) ⌝ }
+    ensures { λ r. ⌜ r ≡ skippedUp (now (path .entry)) (now (cache .entry)) used at ⌝ }
+{
+    let mut i = 0;
+    while i < used {
+        let start = record::RECORD_LEN * round::wrap(used, at + i);
+        if !path::on_path(cache, start, path) {
+            return i;
+        }
+        i += 1;
+    }
+    i
+}
+
+// The same from before the place down.
+fn skipped_down(cache: &[u8], used: usize, at: usize, path: &[u8]) -> usize
+    requires { ⌜ (100 * used ≤ length (now cache)) × (at ≤ used)
+        × Every (λ (q : List ℕ). recordForm q ≡ true) (rows 100 used (now cache)) ⌝ }
+    ensures { λ r. ⌜ r ≡ skippedDown (now (path .entry)) (now (cache .entry)) used at ⌝ }
+{
+    let mut i = 0;
+    while i < used {
+        let start = record::RECORD_LEN * round::wrap(used, at + (used - (i + 1)));
+        if !path::on_path(cache, start, path) {
+            return i;
+        }
+        i += 1;
+    }
+    i
+}
+
+// Where the closest record stands, those on the path left out. Keys go round, so of those held it can only be the first
+// that is reached by going up from the target or the first by going down.
+fn place_of_closest(own: &[u8], cache: &[u8], used: usize, path: &[u8], target: &[u8]) -> Where
     requires { ⌜ (32 ≤ length (now own)) × (32 ≤ length (now target)) ⌝ }
     requires { ⌜ Form (keyOf (now own)) (now cache) (rows 100 used (now cache)) ⌝ }
     ensures { λ r. ⌜ recordAt (now (own .entry)) (now (cache .entry)) r
-        ≡ closestOf (keyAt 0 (now (target .entry))) (candidates (ownRecords (now (own .entry))) (rows 100 used (now (cache .entry)))) ⌝ }
+        ≡ closestOf (keyAt 0 (now (target .entry))) (candidates (ownRecords (now (own .entry)))
+        (offPath (now (path .entry)) (rows 100 used (now (cache .entry))))) ⌝ }
     ensures { λ r. ⌜ Within used r ⌝ }
 {
-    if used == 0 {
+    let at = cache::count_under(target, cache, used);
+    let over = skipped_up(cache, used, at, path);
+    if over == used {
         return Where::Own;
     }
-    let at = cache::count_under(target, cache, used);
-    let up = round::wrap(used, at);
-    let down = round::wrap(used, at + (used - 1));
+    let under = skipped_down(cache, used, at, path);
+    let up = round::wrap(used, at + over);
+    let down = round::wrap(used, at + (used - (under + 1)));
     nearest_of(own, cache, up, down, key::key_at(target, 0))
 }
 
 // The record closest to the target, whose 32 bytes begin its slice, among our own record and those that are held, so
-// many as `used` says.
-pub fn closest<'a>(own: &'a [u8], cache: &'a [u8], used: usize, target: &[u8]) -> &'a [u8]
+// many as `used` says, and not on the path.
+pub fn closest<'a>(
+    own: &'a [u8],
+    cache: &'a [u8],
+    used: usize,
+    path: &[u8],
+    target: &[u8],
+) -> &'a [u8]
     requires { ⌜ (32 ≤ length (now own)) × (32 ≤ length (now target)) ⌝ }
     requires { ⌜ Form (keyOf (now own)) (now cache) (rows 100 used (now cache)) ⌝ }
-    ensures { λ r. ⌜ now r ≡ closestOf (keyAt 0 (now (target .entry)))
-        (candidates (ownRecords (now (own .entry))) (rows 100 used (now (cache .entry)))) ⌝ }
+    ensures { λ r. ⌜ now r ≡ closestOf (keyAt 0 (now (target .entry))) (candidates (ownRecords (now (own .entry)))
+        (offPath (now (path .entry)) (rows 100 used (now (cache .entry))))) ⌝ }
 {
-    match place_of_closest(own, cache, used, target) {
+    match place_of_closest(own, cache, used, path, target) {
         Where::Own => own,
         Where::Held(i) => {
             let at = record::RECORD_LEN * i;
@@ -84,21 +131,24 @@ pub fn closest<'a>(own: &'a [u8], cache: &'a [u8], used: usize, target: &[u8]) -
     }
 }
 
-// Which record is the closest to the target, on memory that nobody has tested: refused with 1 where it is not in form or the
-// target has not 32 bytes.
-pub fn closest_record(own: &[u8], cache: &[u8], target: &[u8]) -> Nearest
+// Which record is the closest to the target, on memory that nobody has tested: refused with 1 where it is not in form, the
+// path is not whole endpoints or the target has not 32 bytes.
+pub fn closest_record(own: &[u8], cache: &[u8], path: &[u8], target: &[u8]) -> Nearest
     ensures { λ r. ⌜ shownBy (now (own .entry)) (now (cache .entry)) r
-        ≡ closestCall (now (own .entry)) (now (cache .entry)) (now (target .entry)) ⌝ }
+        ≡ closestCall (now (own .entry)) (now (cache .entry)) (now (path .entry)) (now (target .entry)) ⌝ }
     ensures { λ r. ⌜ Inside (now (own .entry)) (now (cache .entry)) r ⌝ }
 {
     let found = cache::memory(own, cache);
     let Formed::Good(used) = found else {
         return Nearest::Refused(refusal::MEMORY);
     };
+    if !path::is_path(path) {
+        return Nearest::Refused(refusal::MEMORY);
+    }
     if target.len() != 32 {
         return Nearest::Refused(refusal::MEMORY);
     }
-    match place_of_closest(own, cache, used, target) {
+    match place_of_closest(own, cache, used, path, target) {
         Where::Own => Nearest::Own,
         Where::Held(i) => Nearest::Held(i),
     }

@@ -11,7 +11,7 @@ use Rattle.neighbours.proofs.nearest.closest.Statement.{statement}
 use Rattle.neighbours.proofs.nearest.closest.Tie as tie
 
 abbrev start : tie.After-place-of-closest → tie.Start
-start c = c .before .before .before .before
+start c = c .before .before .before .before .before
 
 room : (s : tie.Start) → 100 * s .args .used ≤ length (s .args .cache .now)
 room s = form-laid (keyOf (s .args .own .now)) (s .args .used) (s .args .cache .now) (s .pre .1) .room

@@ -1,8 +1,11 @@
--- `neighbours::nearest::place_of_closest` meets its contract: of the records held, one of the two beside the target's place. Assumes nothing.
-use mathlib.Core.Path.{_≡_, sym, ap, _∙_}
-use Prim.Native.Nat.{ℕ, _*_, _≤_, _<_}
+-- `neighbours::nearest::place_of_closest` meets its contract: of the records held, one of the first two on the sides of the target's place that are not on the path.
+-- Assumes nothing.
+use mathlib.Core.Path.{_≡_, refl, sym, ap, ap₂, _∙_}
+use mathlib.Core.Bool.{Bool}
+use mathlib.Core.List.{List}
+use Prim.Native.Nat.{ℕ, _+_, _-_, _*_, _≤_, _<_}
 use native.Mathlib.Omega.{arith}
-use lib.ListN.{length, length-map}
+use lib.ListN.{length}
 use borrow.Author.Needs.{needs}
 use Rattle.octet.specs.Number.{Bytes}
 use Rattle.key.specs.Number.{keyAt}
@@ -11,51 +14,112 @@ use Rattle.key.proofs.KeyLaws.{key-lt}
 use Rattle.record.specs.Record.{keyOf}
 use Rattle.own.specs.Own.{ownRecords}
 use Rattle.table.specs.Rows.{rows}
-use Rattle.table.proofs.RowLaws.{rows-length}
-use Rattle.kept.proofs.TurnLaws.{under-le}
-use Rattle.neighbours.specs.declared.nearest.Where.{Where}
+use Rattle.kept.specs.Keys.{Every}
+use Rattle.kept.specs.Turned.{countUnder}
 use Rattle.cache.specs.Form.{keysOf}
-use Rattle.neighbours.specs.Closest.{candidates, closestFrom, closestOf}
-use Rattle.neighbours.specs.Where.{recordAt, nearestOf, Within}
 use Rattle.cache.proofs.FormLaws.{form-laid, keys-small}
-use Rattle.neighbours.proofs.BesideLaws.{nearest-closest, nearest-within}
+use Rattle.neighbours.specs.Closest.{candidates, closestFrom, closestOf}
+use Rattle.neighbours.specs.Where.{passOver, stepsUp, stepsDown, skipsAt, skippedUp, skippedDown, recordAt, nearestOf}
+use Rattle.neighbours.proofs.SkipLaws.{over-le}
+use Rattle.neighbours.proofs.BesideLaws.{nearest-within}
+use Rattle.neighbours.proofs.SidesLaws.{place-most, none-left, under-less, sides-closest}
 use Rattle.neighbours.proofs.nearest.place_of_closest.Statement.{statement}
 use Rattle.neighbours.proofs.nearest.place_of_closest.Tie as tie
 
-abbrev start : tie.After-shared-slice-known3 → tie.Start
-start c = c .before .before .before
+-- behind the search for the target's place
+module _ (n : tie.After-count-under) where
+  abbrev s : tie.Start
+  s = n .before .before .before .before .before
 
-room : (s : tie.Start) → 100 * s .args .used ≤ length (s .args .cache .now)
-room s = form-laid (keyOf (s .args .own .now)) (s .args .used) (s .args .cache .now) (s .pre .1) .room
+  abbrev own : List ℕ
+  own = s .args .own .now
 
-at-most : (c : tie.After-count-under) → c .count-under .result ≤ start (c .before .before) .args .used
-at-most c =
-    let a = start (c .before .before) .args in
-    let held = rows 100 (a .used) (a .cache .now) in
-    omega (arith, c .count-under .ensures, under-le (keyAt 0 (a .target .now)) (keysOf held), length-map held keyOf, rows-length 100 (a .used) (a .cache .now))
+  abbrev cache : List ℕ
+  cache = s .args .cache .now
 
-returns : tie.Need-returns
-unfolding closestOf closestFrom rows
-returns c =
-    let a = start (c .before) .args in
-    (sym (ap (λ (n : ℕ). closestOf (keyAt 0 (a .target .now)) (candidates (ownRecords (a .own .now)) (rows 100 n (a .cache .now)))) (c .if1 .taken)), tt)
+  abbrev used : ℕ
+  used = s .args .used
+
+  abbrev path : List ℕ
+  path = s .args .path .now
+
+  abbrev t : ℕ
+  t = keyAt 0 (s .args .target .now)
+
+  -- the target's place
+  abbrev at : ℕ
+  at = countUnder t (keysOf (rows 100 used cache))
+
+  room : 100 * used ≤ length cache
+  room = form-laid (keyOf own) used cache (s .pre .1) .room
+
+  small : Every (λ (k : ℕ). k < ring) (keysOf (rows 100 used cache))
+  small = keys-small used cache (λ i. omega (arith, n .before .before .before .shared-slice-known2 .given i)) room
+
+  o : t < ring
+  o = key-lt 0 (s .args .target .now) (λ i. omega (arith, n .before .shared-slice-known4 .given i)) (s .pre .0 .1)
+
+  at-most : n .count-under .result ≤ used
+  at-most = omega (arith, n .count-under .ensures, place-most t own path cache used (s .pre .1 .held) o small)
+
+-- how many are passed over on each side
+over-is : (c : tie.After-skipped-up) → (let n = c .before in c .skipped-up .result ≡ skippedUp (path n) (cache n) (used n) (at n))
+over-is c = let n = c .before in c .skipped-up .ensures ∙ ap (skippedUp (path n) (cache n) (used n)) (n .count-under .ensures)
+
+under-is : (c : tie.After-skipped-down) → (let n = c .before .before .before in c .skipped-down .result ≡ skippedDown (path n) (cache n) (used n) (at n))
+under-is c = let n = c .before .before .before in c .skipped-down .ensures ∙ ap (skippedDown (path n) (cache n) (used n)) (n .count-under .ensures)
+
+-- not all of them
+some : (c : tie.After-skipped-down) → (let n = c .before .before .before in skippedUp (path n) (cache n) (used n) (at n) < used n)
+some c =
+    let n = c .before .before .before in
+    let f : ℕ → Bool = λ (i : ℕ). skipsAt (path n) (cache n) (stepsUp (used n) (at n) i) in
+    omega (arith, c .before .if1 .left, over-is (c .before .before), over-le f 0 (used n))
+
+under-most : (c : tie.After-skipped-down) → (let n = c .before .before .before in c .skipped-down .result < used n)
+under-most c =
+    let n = c .before .before .before in
+    omega (arith, under-is c, under-less (t n) (own n) (path n) (cache n) (used n) (s n .pre .1 .held) (o n) (small n) (some c))
+
+over-most : (c : tie.After-skipped-down) → (let n = c .before .before .before in c .before .before .skipped-up .result < used n)
+over-most c = omega (arith, some c, over-is (c .before .before))
 
 count-under-requires : tie.Need-count-under-requires
 count-under-requires c κs =
-    let s = start (c .before) in
-    (s .pre .0 .1, (room s, s .pre .1 .held .rising))
+    let s = c .before .before .before .before in
+    let a = s .args in
+    (s .pre .0 .1, (form-laid (keyOf (a .own .now)) (a .used) (a .cache .now) (s .pre .1) .room, s .pre .1 .held .rising))
 
-wrap-requires : tie.Need-wrap-requires
-wrap-requires c κs = omega (arith, at-most c, c .before .if1 .left)
+skipped-up-requires : tie.Need-skipped-up-requires
+skipped-up-requires c κs = (room c, at-most c, s c .pre .1 .held .formed)
 
-sub-wrap : tie.Need-sub-wrap
-sub-wrap c = search needs
+returns : tie.Need-returns
+unfolding closestOf closestFrom
+returns c =
+    let n = c .before .before in
+    let none = none-left (t n) (own n) (path n) (cache n) (used n) (s n .pre .1 .held) (o n) (small n) (sym (over-is (c .before)) ∙ c .if1 .taken) in
+    (sym (ap (λ (l : List (List ℕ)). closestOf (t n) (candidates (ownRecords (own n)) l)) none), tt)
+
+skipped-down-requires : tie.Need-skipped-down-requires
+skipped-down-requires c κs = let n = c .before .before in (room n, at-most n, s n .pre .1 .held .formed)
 
 add-wrap : tie.Need-add-wrap
-add-wrap c = omega (arith, at-most (c .before), room (start (c .before .before .before)))
+add-wrap c = let n = c .before .before .before in omega (arith, at-most n, over-most c, room n)
+
+wrap-requires : tie.Need-wrap-requires
+wrap-requires c κs = let n = c .before .before .before in omega (arith, at-most n, over-most c)
+
+add-wrap-2 : tie.Need-add-wrap-2
+add-wrap-2 c = let n = c .before .before .before .before in omega (arith, under-most (c .before), room n)
+
+sub-wrap : tie.Need-sub-wrap
+sub-wrap c = omega (arith, under-most (c .before))
+
+add-wrap-3 : tie.Need-add-wrap-3
+add-wrap-3 c = let n = c .before .before .before .before in omega (arith, at-most n, room n)
 
 wrap-requires-2 : tie.Need-wrap-requires-2
-wrap-requires-2 c κs = omega (arith, at-most (c .before), c .before .before .if1 .left)
+wrap-requires-2 c κs = let n = c .before .before .before .before in omega (arith, at-most n, under-most (c .before))
 
 key-at-requires : tie.Need-key-at-requires
 key-at-requires c κs = search needs
@@ -64,43 +128,40 @@ nearest-of-requires : tie.Need-nearest-of-requires
 nearest-of-requires c κs =
     let down = c .before in
     let up = down .before in
-    let s = start (up .before .before .before) in
-    (s .pre .0 .0, omega (arith, room s, up .wrap .ensures .1), omega (arith, room s, down .wrap2 .ensures .1))
+    let n = up .before .before .before .before in
+    (s n .pre .0 .0, omega (arith, room n, up .wrap .ensures .1), omega (arith, room n, down .wrap2 .ensures .1))
 
 returns-2 : tie.Need-returns-2
 returns-2 c =
     let k = c .before in
     let down = k .before in
     let up = down .before in
-    let n = up .before in
-    let known3 = n .before .before in
-    let s = start known3 in
-    let a = s .args in
-    let t = keyAt 0 (a .target .now) in
-    let bytes : Bytes (a .cache .now) = λ i. omega (arith, known3 .before .shared-slice-known2 .given i) in
-    let target-bytes : Bytes (a .target .now) = λ i. omega (arith, known3 .shared-slice-known3 .given i) in
-    let o : t < ring = key-lt 0 (a .target .now) target-bytes (s .pre .0 .1) in
-    let small = keys-small (a .used) (a .cache .now) bytes (room s) in
-    let some : 0 < a .used = omega (arith, n .before .if1 .left) in
-    let is : c .nearest-of .result ≡ nearestOf t (a .own .now) (a .cache .now) (up .wrap .result) (down .wrap2 .result) =
-    c .nearest-of .ensures
-    ∙ ap (λ (m : ℕ). nearestOf m (a .own .now) (a .cache .now) (up .wrap .result) (down .wrap2 .result)) (k .key-at .ensures) in (
-      ap (recordAt (a .own .now) (a .cache .now)) is
-          ∙ nearest-closest t (a .own .now) (a .cache .now) (a .used) (s .pre .1 .held) o small some (n .count-under .result) (up .wrap .result)
-          (down .wrap2 .result) (n .count-under .ensures) (up .wrap .ensures .0) (down .wrap2 .ensures .0) (up .wrap .ensures .1) (down .wrap2 .ensures .1),
-      rw is (nearest-within t (a .own .now) (a .cache .now) (a .used) (s .pre .1 .held) o small some (n .count-under .result) (up .wrap .result)
-          (down .wrap2 .result) (n .count-under .ensures) (up .wrap .ensures .0) (down .wrap2 .ensures .0) (up .wrap .ensures .1) (down .wrap2 .ensures .1)),
+    let stop = up .before in
+    let n = stop .before .before .before in
+    let eu : up .wrap .result ≡ stepsUp (used n) (at n) (skippedUp (path n) (cache n) (used n) (at n)) =
+    up .wrap .ensures .0 ∙ ap₂ (stepsUp (used n)) (n .count-under .ensures) (over-is (stop .before .before)) in
+    let ed : down .wrap2 .result ≡ stepsDown (used n) (at n) (skippedDown (path n) (cache n) (used n) (at n)) =
+    down .wrap2 .ensures .0 ∙ ap₂ (stepsDown (used n)) (n .count-under .ensures) (under-is stop) in
+    let is : c .nearest-of .result ≡ nearestOf (t n) (own n) (cache n) (up .wrap .result) (down .wrap2 .result) =
+    c .nearest-of .ensures ∙ ap (λ (m : ℕ). nearestOf m (own n) (cache n) (up .wrap .result) (down .wrap2 .result)) (k .key-at .ensures) in (
+      ap (recordAt (own n) (cache n)) is
+          ∙ sides-closest (t n) (own n) (path n) (cache n) (used n) (s n .pre .1 .held) (o n) (small n) (some stop) (up .wrap .result) (down .wrap2 .result) eu ed,
+      rw is (nearest-within (t n) (own n) (cache n) (used n) (up .wrap .result) (down .wrap2 .result) (up .wrap .ensures .1) (down .wrap2 .ensures .1)),
     )
 
 pub place-of-closest-spec : {M : Type 1} → statement M
 place-of-closest-spec =
     tie.close
     (tie.spec
-    returns
     count-under-requires
-    wrap-requires
-    sub-wrap
+    skipped-up-requires
+    returns
+    skipped-down-requires
     add-wrap
+    wrap-requires
+    add-wrap-2
+    sub-wrap
+    add-wrap-3
     wrap-requires-2
     key-at-requires
     nearest-of-requires

@@ -1,11 +1,14 @@
--- Laws of a record that must be inquired about: how many bytes; the key of the record that an entry names; whether the record must be inquired about.
+-- Laws of a record that must be inquired about: how many bytes; the key of the record that an entry names; whether the record must be inquired about; of an entry
+-- that may be none.
 -- Elsewhere: the very same record among those held, in SameLaws. Assumes nothing.
 use mathlib.Core.Path.{_≡_, refl, sym, ap, _∙_}
 use mathlib.Core.Bool.{Bool, true, false, not, _&&_}
 use mathlib.Core.List.{List}
 use Prim.Native.Nat.{ℕ, _+_, _*_, _≤_, _<_}
 use native.Mathlib.Omega.{arith}
+use lib.Dec.{eqb}
 use lib.ListN.{length, drop}
+use borrow.Author.Tests.{eq-eqb, ne-eqb, eqb-false}
 use Rattle.octet.specs.Number.{valueBE}
 use Rattle.octet.specs.Part.{part, same}
 use Rattle.key.specs.Number.{keyAt}
@@ -13,13 +16,14 @@ use Rattle.record.specs.Record.{keyOf}
 use Rattle.record.specs.Entry.{entryForm, recordOf}
 use Rattle.record.proofs.EntryLaws.{record-key}
 use Rattle.record.proofs.PlaceLaws.{entry-at}
+use Rattle.own.specs.Own.{Own, isOwn}
 use Rattle.table.specs.Rows.{anyOf}
 use Rattle.table.proofs.PieceLaws.{part-start}
 use Rattle.waiting.specs.Form.{isInquiry}
 use Rattle.table.specs.Seek.{seek}
 use Rattle.table.specs.declared.Found.{Found}
 use Rattle.table.proofs.SeekLaws.{isFound, any-found}
-use Rattle.asking.specs.Asking.{mustAsk, inquireRoom}
+use Rattle.asking.specs.Asking.{mustAsk, asksFor, inquireRoom}
 
 -- ---- how many bytes
 
@@ -61,3 +65,32 @@ pub ask-tells : (recs ps : List (List ℕ)) (r : List ℕ) → mustAsk recs ps r
     → (anyOf (λ (q : List ℕ). same q r) recs ≡ false) × (anyOf (isInquiry (keyOf r)) ps ≡ false)
 unfolding mustAsk
 ask-tells recs ps r e = both-not (anyOf (λ (q : List ℕ). same q r) recs) (anyOf (isInquiry (keyOf r)) ps) e
+
+-- ---- of an entry that may be none
+
+three : (a b c : Bool) → not a && not b && c ≡ true → (a ≡ false) × (b ≡ false) × (c ≡ true)
+three false false true e = (refl, refl, refl)
+three false false false e = let z : _≡_ {A = ℕ} 0 1 = cc in absurd (omega arith)
+three false true c e = let z : _≡_ {A = ℕ} 0 1 = cc in absurd (omega arith)
+three true b c e = let z : _≡_ {A = ℕ} 0 1 = cc in absurd (omega arith)
+
+module _ (own : Own) (recs ps : List (List ℕ)) (v : List ℕ) where
+  pub asks-none : length v ≡ 0 → asksFor own recs ps v ≡ false
+  unfolding asksFor
+  asks-none e = rw (eq-eqb (length v) 0 e) refl
+
+  module _ (some : ¬ (length v ≡ 0)) where
+    pub asks-own : isOwn own (keyOf (recordOf v)) ≡ true → asksFor own recs ps v ≡ false
+    unfolding asksFor
+    asks-own e = rw (ne-eqb (length v) 0 some, e) refl
+
+    pub asks-other : isOwn own (keyOf (recordOf v)) ≡ false → asksFor own recs ps v ≡ mustAsk recs ps (recordOf v)
+    unfolding asksFor
+    asks-other e = rw (ne-eqb (length v) 0 some, e) refl
+
+  -- an entry that is asked for is there, has another key than ours, and must be inquired about
+  pub asks-tells : asksFor own recs ps v ≡ true → ¬ (length v ≡ 0) × ¬ (keyOf (recordOf v) ≡ own) × (mustAsk recs ps (recordOf v) ≡ true)
+  unfolding asksFor
+  asks-tells e =
+      let t = three (eqb (length v) 0) (isOwn own (keyOf (recordOf v))) (mustAsk recs ps (recordOf v)) e in
+      (eqb-false (length v) 0 (t .0), eqb-false (keyOf (recordOf v)) own (t .1), t .2)

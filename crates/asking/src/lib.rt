@@ -2,14 +2,15 @@
 ghost use mathlib.Core.Path.{_≡_};
 ghost use mathlib.Core.Bool.{true};
 ghost use mathlib.Core.List.{List};
-ghost use Prim.Native.Nat.{ℕ, _+_, _*_, _≤_};
+ghost use Prim.Native.Nat.{ℕ, _+_, _*_, _≤_, _<_};
 ghost use lib.ListN.{length};
 ghost use Rattle.octet.specs.Part.{part, same};
+ghost use Rattle.record.specs.Record.{keyOf};
 ghost use Rattle.record.specs.Entry.{entryForm, recordOf};
 ghost use Rattle.table.specs.Rows.{rows, anyOf};
 ghost use Rattle.kept.specs.Keys.{Rising, plain};
 ghost use Rattle.cache.specs.Form.{keysOf};
-ghost use Rattle.asking.specs.Asking.{inquireRoom, mustAsk};
+ghost use Rattle.asking.specs.Asking.{inquireRoom, mustAsk, asksFor};
 ghost use Rattle.asking.specs.Ids.{idAfter};
 
 // How many bytes an INQUIRE has.
@@ -66,4 +67,31 @@ pub fn must_ask(
         table::Found::At(_) => false,
         table::Found::Nothing => true,
     }
+}
+
+// Must the record be inquired about that the entry at a place names, of a message that may have none? None has no bytes; our
+// own key there is passed over.
+pub fn asks_for(
+    own: &[u8],
+    cache: &[u8],
+    held: usize,
+    waiting: &[u8],
+    used: usize,
+    d: &[u8],
+    start: usize,
+    len: usize,
+) -> bool
+    requires { ⌜ (32 ≤ length (now own)) × (100 * held ≤ length (now cache)) × (140 * used ≤ length (now waiting))
+        × (start + len ≤ length (now d)) × (0 < len → entryForm (part start len (now d)) ≡ true)
+        × Rising plain 0 (keysOf (rows 100 held (now cache))) ⌝ }
+    ensures { λ r. ⌜ r ≡ asksFor (keyOf (now (own .entry))) (rows 100 held (now (cache .entry)))
+        (rows 140 used (now (waiting .entry))) (part start len (now (d .entry))) ⌝ }
+{
+    if len == 0 {
+        return false;
+    }
+    if own::is_own(own, d, start) {
+        return false;
+    }
+    must_ask(cache, held, waiting, used, d, start, len)
 }

@@ -49,3 +49,8 @@ module _ {A : Type 0} (refuse : ℕ → A) (opens : Bool) (ps : List (List ℕ))
       let rows = openRows opens ps used id in
       let fails : AllFail rows = all-fail byNumber rows 0 (omega arith, omega arith, (omega arith, omega arith, tt)) (sym is ∙ z) in
       or-append refuse rows rest done ∙ all-pass refuse rows (orRefuse refuse rest done) fails
+
+-- of a row that fails where a place must be opened
+pub second-fails : (a b : Bool) → a && b ≡ false → a ≡ true → b ≡ false
+second-fails true b e h = e
+second-fails false b e h = let z : _≡_ {A = ℕ} 0 1 = cc in absurd (omega arith)

@@ -46,10 +46,17 @@ pub enum Plan {
     },
     // An INQUIRE for our key.
     Certify(u32),
-    // A LOOKUP for a target that stands at a place of the datagram.
+    // A LOOKUP for a target that stands at a place of the datagram, and where its path stands: whether an inquiry opens,
+    // and where the entry stands.
     Show {
         held: usize,
+        used: usize,
         acked: u32,
         target: usize,
+        path: usize,
+        size: usize,
+        opens: bool,
+        start: usize,
+        len: usize,
     },
 }

@@ -3,32 +3,38 @@
 use mathlib.Core.Path.{_≡_, refl, ap, _∙_}
 use mathlib.Core.Logic.{inl, inr}
 use mathlib.Core.Bool.{Bool, true, false, not, _||_}
-use mathlib.Core.List.{List, [], _∷_}
+use mathlib.Core.List.{List, [], _∷_, _++_}
 use Prim.Native.Nat.{ℕ, _+_, _*_, _≤_, _<_}
 use native.Mathlib.Omega.{arith}
 use lib.Dec.{eqb, ltb}
 use lib.ListN.{length, getD}
-use borrow.Author.Tests.{eq-eqb, ne-eqb, eqb-true, ltb-false, le-ltb, not-false}
+use borrow.Author.Tests.{eq-eqb, ne-eqb, eqb-true, eqb-false, ltb-false, le-ltb, not-false}
+use Rattle.octet.specs.Part.{part}
 use Rattle.octet.proofs.TestLaws.{both-true}
 use Rattle.key.specs.Number.{keyAt}
 use Rattle.record.specs.Record.{countOf, recordForm}
 use Rattle.record.proofs.EntryLaws.{few-addresses}
-use Rattle.own.specs.Own.{ownRecords}
-use Rattle.refusal.specs.Table.{when, orRefuse}
-use Rattle.refusal.proofs.CallLaws.{or-known}
-use Rattle.table.specs.Rows.{rows}
+use Rattle.own.specs.Own.{ownKeys, ownRecords}
+use Rattle.refusal.specs.Table.{when, orRefuse, Refusal, firstOf}
+use Rattle.refusal.proofs.CallLaws.{or-known, row-passes, no-row}
+use Rattle.table.specs.Rows.{rows, anyOf}
 use Rattle.table.proofs.RowLaws.{rows-length, row-at}
-use Rattle.neighbours.specs.Closest.{candidates, closestOf}
+use Rattle.neighbours.specs.Closest.{candidates, offPath, closestOf}
 use Rattle.cache.specs.Form.{HeldRecords}
 use Rattle.neighbours.proofs.ClosestLaws.{closest-formed}
+use Rattle.neighbours.proofs.SkipLaws.{off-held}
 use Rattle.waiting.specs.Place.{idOf, kindOf, placeKey}
 use Rattle.table.specs.Seek.{seek}
-use Rattle.waiting.specs.Seek.{isAt}
+use Rattle.waiting.specs.Seek.{isAt, hasId}
 use Rattle.table.specs.declared.Found.{Found}
 use Rattle.table.specs.declared.Found.the-variants.{At, Nothing}
 use Rattle.waiting.proofs.PlaceLaws.{key-at}
 use Rattle.table.proofs.SeekLaws.{found-within, found-passes}
 use Rattle.gauge_plan.specs.Found.{isNothing, placeOf}
+use Rattle.gauge_plan.specs.Opening.{openRows}
+use Rattle.gauge_plan.proofs.OpeningLaws.{open-refuses, open-passes, second-fails}
+use Rattle.asking.specs.Asking.{asksFor, inquireRoom}
+use Rattle.asking.specs.Ids.{idAfter}
 use Rattle.plan_answer.specs.Answering.{authorityPlan, ackPlan, inquirePlan, lookupPlan, authorityRefusals, ackRefusals, inquireRefusals, lookupRefusals}
 use Rattle.gauge_plan.proofs.FoundLaws.{some-found}
 use Rattle.gauge_plan.specs.declared.Plan.{Plan}
@@ -78,19 +84,43 @@ module _ (ps : List (List ℕ)) (held used acked : ℕ) (n : Bool) where
   unfolding ackPlan orRefuse
   ack-by e = rw e refl
 
-module _ (own : List ℕ) (recs : List (List ℕ)) (held room : ℕ) (d : List ℕ) (acked target : ℕ) where
-  pub lookup-by : {c : ℕ} → countOf (closestOf (keyAt target d) (candidates (ownRecords own) recs)) ≡ c
-      → lookupPlan own recs held room d acked target ≡ orRefuse Refuse (when 15 (ltb room (80 + 16 * c)) ∷ []) (Show held acked target)
-  unfolding lookupPlan
-  lookup-by e = rw e refl
+module _ (own : List ℕ) (recs ps : List (List ℕ)) (held used id room : ℕ) (d : List ℕ) (acked target path size start len : ℕ) where
+  -- the record shown
+  abbrev nearest : List ℕ
+  nearest = closestOf (keyAt target d) (candidates (ownRecords own) (offPath (part path size d) recs))
 
-  -- with room for any record
-  pub lookup-any : {k : ℕ} → 144 ≤ room → recordForm own ≡ true → HeldRecords k recs → lookupPlan own recs held room d acked target ≡ Show held acked target
-  unfolding orRefuse
-  lookup-any {k} r e f =
-      let t = keyAt target d in
-      let n = few-addresses (closestOf t (candidates (ownRecords own) recs)) (closest-formed t k own recs e f) in
-      lookup-by refl ∙ rw (le-ltb room (80 + 16 * countOf (closestOf t (candidates (ownRecords own) recs))) (omega arith)) refl
+  -- with opens for whether the entry's record must be inquired about, barred for the number that stands against its place
+  module _ {opens : Bool} {barred : ℕ} (eo : opens ≡ asksFor (ownKeys own) recs ps (part start len d))
+      (eb : barred ≡ firstOf (openRows opens ps used (idAfter id))) where
+    abbrev lookup-done : Plan
+    lookup-done = Show held used acked target path size opens start len
+
+    abbrev lookup-rest : List Refusal
+    lookup-rest = when 15 (ltb room (80 + 16 * countOf nearest + inquireRoom opens)) ∷ []
+
+    lookup-asked : lookupPlan own recs ps held used id room d acked target path size start len
+        ≡ orRefuse Refuse (openRows opens ps used (idAfter id) ++ lookup-rest) lookup-done
+    unfolding lookupPlan
+    lookup-asked = rw eo refl
+
+    pub lookup-barred : 0 < barred → lookupPlan own recs ps held used id room d acked target path size start len ≡ Refuse barred
+    lookup-barred p = lookup-asked ∙ open-refuses Refuse opens ps used (idAfter id) lookup-rest lookup-done eb p
+
+    module _ (free : barred ≡ 0) where
+      pub lookup-by : {c : ℕ} → countOf nearest ≡ c → lookupPlan own recs ps held used id room d acked target path size start len
+          ≡ orRefuse Refuse (when 15 (ltb room (80 + 16 * c + inquireRoom opens)) ∷ []) (Show held used acked target path size opens start len)
+      lookup-by e =
+          lookup-asked ∙ open-passes Refuse opens ps used (idAfter id) lookup-rest lookup-done eb free
+          ∙ ap (λ (n : ℕ). orRefuse Refuse (when 15 (ltb room (80 + 16 * n + inquireRoom opens)) ∷ []) lookup-done) e
+
+      -- with room for any record
+      pub lookup-any : {k : ℕ} → 144 + inquireRoom opens ≤ room → recordForm own ≡ true → HeldRecords k recs
+          → lookupPlan own recs ps held used id room d acked target path size start len ≡ Show held used acked target path size opens start len
+      lookup-any {k} r e f =
+          let n = few-addresses nearest (closest-formed (keyAt target d) k own (offPath (part path size d) recs) e (off-held (part path size d) k recs f)) in
+          lookup-by refl
+          ∙ row-passes Refuse 15 _ [] lookup-done (le-ltb room (80 + 16 * countOf nearest + inquireRoom opens) (omega (arith, n, r)))
+          ∙ no-row Refuse lookup-done
 
 -- ---- what is known of a plan
 
@@ -135,7 +165,7 @@ module _ (ps : List (List ℕ)) (held used verdict k acked : ℕ) (cpa : Bool) w
   KnownAuthority (Learn h u at) = Learning h u at
   KnownAuthority (Free h u at m) = ⊥
   KnownAuthority (Certify a) = ⊥
-  KnownAuthority (Show h a at) = ⊥
+  KnownAuthority (Show h u a t p m o at size) = ⊥
 
   pub known-authority : KnownAuthority (authorityPlan ps held used verdict k acked cpa)
   unfolding authorityPlan
@@ -167,7 +197,7 @@ module _ (ps : List (List ℕ)) (held used acked : ℕ) (n : Bool) where
   KnownAck (Learn h u at) = ⊥
   KnownAck (Free h u at m) = Freeing h u at m
   KnownAck (Certify a) = ⊥
-  KnownAck (Show h a at) = ⊥
+  KnownAck (Show h u a t p m o at size) = ⊥
 
   pub known-ack : KnownAck (ackPlan ps held used acked n)
   unfolding ackPlan
@@ -191,7 +221,7 @@ module _ (own size room : ℕ) (d : List ℕ) (acked validate : ℕ) where
   KnownInquire (Learn h u at) = ⊥
   KnownInquire (Free h u at m) = ⊥
   KnownInquire (Certify a) = Certifying a
-  KnownInquire (Show h a at) = ⊥
+  KnownInquire (Show h u a t p m o at size) = ⊥
 
   pub known-inquire : KnownInquire (inquirePlan own size room d acked validate)
   unfolding inquirePlan
@@ -204,13 +234,21 @@ module _ (own size room : ℕ) (d : List ℕ) (acked validate : ℕ) where
         fits-in = ltb-false room (40 + size) (w .1 .0);
       })
 
-module _ (own : List ℕ) (recs : List (List ℕ)) (held room : ℕ) (d : List ℕ) (acked target : ℕ) where
-  -- a LOOKUP is planned: the AUTHORITY with the closest record has room
-  pub record Showing (h a at : ℕ) : Type 0 where
+module _ (own : List ℕ) (recs ps : List (List ℕ)) (held used id room : ℕ) (d : List ℕ) (acked target path size start len : ℕ) where
+  -- a LOOKUP is planned: its numbers, and that nothing stands against the AUTHORITY with the closest record and the INQUIRE
+  pub record Showing (h u a t p m : ℕ) (opens : Bool) (at n : ℕ) : Type 0 where
     pub held-is : h ≡ held
+    pub used-is : u ≡ used
     pub acked-is : a ≡ acked
-    pub target-is : at ≡ target
-    pub fits-in : 80 + 16 * countOf (closestOf (keyAt target d) (candidates (ownRecords own) recs)) ≤ room
+    pub target-is : t ≡ target
+    pub path-is : p ≡ path
+    pub size-is : m ≡ size
+    pub opens-is : opens ≡ asksFor (ownKeys own) recs ps (part start len d)
+    pub start-is : at ≡ start
+    pub len-is : n ≡ len
+    pub new : opens ≡ true → anyOf (hasId (idAfter id)) ps ≡ false
+    pub free : opens ≡ true → u ≡ 16 → ⊥
+    pub fits-in : 80 + 16 * countOf (closestOf (keyAt target d) (candidates (ownRecords own) (offPath (part path size d) recs))) + inquireRoom opens ≤ room
 
   abbrev pub KnownLookup : Plan → Type 0
   KnownLookup (Refuse m) = Unit {0}
@@ -219,16 +257,26 @@ module _ (own : List ℕ) (recs : List (List ℕ)) (held room : ℕ) (d : List �
   KnownLookup (Learn h u at) = ⊥
   KnownLookup (Free h u at m) = ⊥
   KnownLookup (Certify a) = ⊥
-  KnownLookup (Show h a at) = Showing h a at
+  KnownLookup (Show h u a t p m opens at n) = Showing h u a t p m opens at n
 
-  pub known-lookup : KnownLookup (lookupPlan own recs held room d acked target)
+  pub known-lookup : KnownLookup (lookupPlan own recs ps held used id room d acked target path size start len)
   unfolding lookupPlan
   known-lookup =
-      or-known KnownLookup Refuse (lookupRefusals own recs room d target) (Show held acked target)
+      let r = closestOf (keyAt target d) (candidates (ownRecords own) (offPath (part path size d) recs)) in
+      let opens = asksFor (ownKeys own) recs ps (part start len d) in
+      or-known KnownLookup Refuse (lookupRefusals ps used id room opens r) (Show held used acked target path size opens start len)
       (λ m. tt)
       (λ w. record {
         held-is = refl;
+        used-is = refl;
         acked-is = refl;
         target-is = refl;
-        fits-in = ltb-false room (80 + 16 * countOf (closestOf (keyAt target d) (candidates (ownRecords own) recs))) (w .0);
+        path-is = refl;
+        size-is = refl;
+        opens-is = refl;
+        start-is = refl;
+        len-is = refl;
+        new = second-fails opens (anyOf (hasId (idAfter id)) ps) (w .0);
+        free = λ o. eqb-false used 16 (second-fails opens (eqb used 16) (w .1 .0) o);
+        fits-in = ltb-false room (80 + 16 * countOf r + inquireRoom opens) (w .1 .1 .0);
       })

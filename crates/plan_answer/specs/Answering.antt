@@ -4,18 +4,22 @@
 -- (sentences/Theorems). Assumes nothing.
 use Prim.Native.Nat.{ℕ, _+_, _*_}
 use mathlib.Core.Bool.{Bool, true, false, not, _||_}
-use mathlib.Core.List.{List, [], _∷_}
+use mathlib.Core.List.{List, [], _∷_, _++_}
 use lib.Dec.{eqb, ltb}
 use lib.ListN.{getD}
+use Rattle.octet.specs.Part.{part}
 use Rattle.key.specs.Number.{keyAt}
 use Rattle.record.specs.Record.{countOf}
-use Rattle.own.specs.Own.{ownRecords}
+use Rattle.own.specs.Own.{ownKeys, ownRecords}
 use Rattle.refusal.specs.Table.{Refusal, when, orRefuse}
-use Rattle.neighbours.specs.Closest.{candidates, closestOf}
+use Rattle.neighbours.specs.Closest.{candidates, offPath, closestOf}
 use Rattle.waiting.specs.Place.{placeKey}
 use Rattle.table.specs.Seek.{seek}
 use Rattle.waiting.specs.Seek.{isAt}
 use Rattle.gauge_plan.specs.Own.{notOurs}
+use Rattle.gauge_plan.specs.Opening.{openRows}
+use Rattle.asking.specs.Asking.{asksFor, inquireRoom}
+use Rattle.asking.specs.Ids.{idAfter}
 use Rattle.gauge_plan.specs.Found.{isNothing, placeOf}
 use Rattle.gauge_plan.specs.declared.Plan.{Plan}
 use Rattle.gauge_plan.specs.declared.Plan.the-variants.{Refuse, Learn, Free, Certify, Show}
@@ -46,9 +50,15 @@ inquireRefusals own size room d validate = when 12 (notOurs own validate d) ∷ 
 unfoldable pub inquirePlan : ℕ → ℕ → ℕ → List ℕ → ℕ → ℕ → Plan
 inquirePlan own size room d acked validate = orRefuse Refuse (inquireRefusals own size room d validate) (Certify acked)
 
--- a LOOKUP is answered with the record closest to its target
-abbrev pub lookupRefusals : List ℕ → List (List ℕ) → ℕ → List ℕ → ℕ → List Refusal
-lookupRefusals own recs room d target = when 15 (ltb room (80 + 16 * countOf (closestOf (keyAt target d) (candidates (ownRecords own) recs)))) ∷ []
+-- a LOOKUP is answered with the record closest to its target, those held that are on its path skipped; "it is inquired about as in a FLOOD": of its route entry, if
+-- it has one, the record is asked for. r is the record shown
+abbrev pub lookupRefusals : (ps : List (List ℕ)) (used id room : ℕ) (opens : Bool) (r : List ℕ) → List Refusal
+lookupRefusals ps used id room opens r =
+    openRows opens ps used (idAfter id) ++ (when 15 (ltb room (80 + 16 * countOf r + inquireRoom opens)) ∷ [])
 
-unfoldable pub lookupPlan : (own : List ℕ) (recs : List (List ℕ)) (held room : ℕ) (d : List ℕ) (acked target : ℕ) → Plan
-lookupPlan own recs held room d acked target = orRefuse Refuse (lookupRefusals own recs room d target) (Show held acked target)
+-- the path stands at `path`, `size` bytes long, the entry at `start`, `len` bytes long, none where there is no entry
+unfoldable pub lookupPlan : (own : List ℕ) (recs ps : List (List ℕ)) (held used id room : ℕ) (d : List ℕ) (acked target path size start len : ℕ) → Plan
+lookupPlan own recs ps held used id room d acked target path size start len =
+    let r = closestOf (keyAt target d) (candidates (ownRecords own) (offPath (part path size d) recs)) in
+    let opens = asksFor (ownKeys own) recs ps (part start len d) in
+    orRefuse Refuse (lookupRefusals ps used id room opens r) (Show held used acked target path size opens start len)

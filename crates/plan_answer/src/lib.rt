@@ -1,10 +1,12 @@
 // What is planned for an AUTHORITY, an ACK, an INQUIRE, a LOOKUP: every refusal is decided here.
 ghost use mathlib.Core.Path.{_≡_};
 ghost use mathlib.Core.Bool.{true};
-ghost use Prim.Native.Nat.{_+_, _*_, _≤_};
+ghost use Prim.Native.Nat.{_+_, _*_, _≤_, _<_};
 ghost use lib.ListN.{length};
+ghost use Rattle.octet.specs.Part.{part};
 ghost use Rattle.key.specs.Number.{keyAt};
 ghost use Rattle.record.specs.Record.{keyOf, recordForm};
+ghost use Rattle.record.specs.Entry.{entryForm};
 ghost use Rattle.table.specs.Rows.{rows};
 ghost use Rattle.cache.specs.Form.{Form};
 ghost use Rattle.plan_answer.specs.Answering.{authorityPlan, ackPlan, inquirePlan, lookupPlan};
@@ -73,37 +75,65 @@ pub fn plan_inquire(
     Plan::Certify(acked)
 }
 
-// The plan for a LOOKUP whose target stands at a place of the datagram. Where the output has room for any record, which
-// has four addresses at most, the closest need not be known yet: it is looked for once, when it is shown.
+// The plan for a LOOKUP whose target, path and route entry stand at places of the datagram; an entry that is not there has
+// no bytes. Where the output has room for any record, which has four addresses at most, the closest need not be known yet:
+// it is looked for once, when it is shown.
 pub fn plan_lookup<'a>(
     own: &'a [u8],
     cache: &'a [u8],
     held: usize,
+    waiting: &[u8],
+    used: usize,
+    id: u32,
     room: usize,
     d: &[u8],
     acked: u32,
     target: usize,
+    path: usize,
+    size: usize,
+    start: usize,
+    len: usize,
 ) -> Plan
     requires { ⌜ (recordForm (now own) ≡ true) × Form (keyOf (now own)) (now cache) (rows 100 held (now cache))
-        × (target + 32 ≤ length (now d)) ⌝ }
-    ensures { λ r. ⌜ r ≡ lookupPlan (now (own .entry)) (rows 100 held (now (cache .entry))) held room (now (d .entry))
-        acked target ⌝ }
+        × (140 * used ≤ length (now waiting)) × (target + 32 ≤ length (now d)) × (path + size ≤ length (now d))
+        × (start + len ≤ length (now d)) × (0 < len → entryForm (part start len (now d)) ≡ true) ⌝ }
+    ensures { λ r. ⌜ r ≡ lookupPlan (now (own .entry)) (rows 100 held (now (cache .entry)))
+        (rows 140 used (now (waiting .entry))) held used id room (now (d .entry)) acked target path size start len ⌝ }
 {
-    if 144 <= room {
+    let opens = asking::asks_for(own, cache, held, waiting, used, d, start, len);
+    let barred = gauge_plan::open_refusal(opens, waiting, used, asking::id_after(id));
+    if barred != 0 {
+        return Plan::Refuse(barred);
+    }
+    let asked = asking::inquire_room(opens);
+    if 144 + asked <= room {
         return Plan::Show {
             held,
+            used,
             acked,
             target,
+            path,
+            size,
+            opens,
+            start,
+            len,
         };
     }
-    let shown = neighbours::closest(own, cache, held, &d[target..target + 32]);
+    let end = path + size;
+    let shown = neighbours::closest(own, cache, held, &d[path..end], &d[target..target + 32]);
     let count = shown[34] as usize;
-    if room < 80 + 16 * count {
+    if room < 80 + 16 * count + asked {
         return Plan::Refuse(refusal::ROOM);
     }
     Plan::Show {
         held,
+        used,
         acked,
         target,
+        path,
+        size,
+        opens,
+        start,
+        len,
     }
 }

@@ -1,6 +1,6 @@
 -- Laws of the plans for a FLOOD: how many bytes the ACK has; each plan by the tests that the code makes; what is known of a plan. Assumes nothing.
 use mathlib.Core.Path.{_≡_, refl, _∙_}
-use mathlib.Core.Bool.{Bool, true, false, _&&_}
+use mathlib.Core.Bool.{Bool, true, false}
 use mathlib.Core.List.{List, [], _∷_}
 use Prim.Native.Nat.{ℕ, _+_, _≤_, _<_}
 use native.Mathlib.Omega.{arith}
@@ -20,7 +20,7 @@ use Rattle.plan_flood.specs.Rooms.{ackRoom}
 use Rattle.gauge_plan.specs.declared.Plan.{Plan}
 use Rattle.gauge_plan.specs.declared.Plan.the-variants.{Refuse, Flood, Revoke, Learn, Free, Certify, Show}
 use Rattle.gauge_plan.specs.Opening.{openRows}
-use Rattle.gauge_plan.proofs.OpeningLaws.{open-refuses, open-passes}
+use Rattle.gauge_plan.proofs.OpeningLaws.{open-refuses, open-passes, second-fails}
 use Rattle.asking.specs.Ids.{idAfter}
 use mathlib.Core.List.{_++_}
 
@@ -75,10 +75,6 @@ module _ (own held used verdict k room : ℕ) (d : List ℕ) (silent : Bool) (ac
 
 -- ---- what is known of a plan
 
-second-fails : (a b : Bool) → a && b ≡ false → a ≡ true → b ≡ false
-second-fails true b e h = e
-second-fails false b e h = let z : _≡_ {A = ℕ} 0 1 = cc in absurd (omega arith)
-
 module _ (own : ℕ) (recs ps : List (List ℕ)) (used id room : ℕ) (d : List ℕ) (silent : Bool) (acked validate start len : ℕ) where
   -- a FLOOD with a route entry is planned: its numbers, and that nothing stands against it
   pub record Flooding (u : ℕ) (s n : Bool) (a : ℕ) (opens : Bool) (at size : ℕ) : Type 0 where
@@ -101,7 +97,7 @@ module _ (own : ℕ) (recs ps : List (List ℕ)) (used id room : ℕ) (d : List 
   KnownFlood (Learn h u at) = ⊥
   KnownFlood (Free h u at m) = ⊥
   KnownFlood (Certify a) = ⊥
-  KnownFlood (Show h a at) = ⊥
+  KnownFlood (Show h u a t p m o at size) = ⊥
 
   pub known-flood : KnownFlood (floodPlan own recs ps used id room d silent acked validate start len)
   unfolding floodPlan
@@ -144,7 +140,7 @@ module _ (own held used verdict k room : ℕ) (d : List ℕ) (silent : Bool) (ac
   KnownRevoke (Learn h u at) = ⊥
   KnownRevoke (Free h u at m) = ⊥
   KnownRevoke (Certify a) = ⊥
-  KnownRevoke (Show h a at) = ⊥
+  KnownRevoke (Show h u a t p m o at size) = ⊥
 
   pub known-revoke : KnownRevoke (revokePlan own held used verdict k room d silent acked validate)
   unfolding revokePlan

@@ -7,16 +7,19 @@ ghost use lib.ListN.{length, getD};
 ghost use Rattle.octet.specs.Part.{part};
 ghost use Rattle.key.specs.Number.{keyAt};
 ghost use Rattle.record.specs.Record.{keyOf, countOf, recordForm};
-ghost use Rattle.own.specs.Own.{ownRecords};
+ghost use Rattle.record.specs.Entry.{entryForm, recordOf};
 ghost use Rattle.table.specs.Rows.{rows, bytesOf, Laid};
 ghost use Rattle.kept.specs.Plain.{NotOwn};
 ghost use Rattle.cache.specs.Form.{Form};
 ghost use Rattle.cache.specs.Bytes.{afterLearn, afterRemove};
-ghost use Rattle.neighbours.specs.Closest.{candidates, closestOf};
-ghost use Rattle.waiting.specs.Place.{placeKey, placeRecord};
-ghost use Rattle.waiting.specs.Open.{freed};
+ghost use Rattle.neighbours.specs.Closest.{closestPast};
+ghost use Rattle.waiting.specs.Place.{placeKey, placeRecord, inquiryPlace};
+ghost use Rattle.waiting.specs.Open.{opened, freed};
 ghost use Rattle.wire_write.specs.Making.{cpaMade, closestMade};
+ghost use Rattle.asking.specs.Asking.{inquireRoom};
+ghost use Rattle.asking.specs.Ids.{idAfter};
 ghost use Rattle.gauge_commit.specs.Sending.{lengths, sending};
+ghost use Rattle.gauge_commit.specs.Replies.{inquireWritten};
 use gauge_commit::Answer;
 
 // An AUTHORITY: the inquiry's record goes from its place into the cache, and the place is freed.
@@ -86,8 +89,8 @@ pub fn commit_cpa(
     gauge_commit::answer_of(0, wrote.length, 0)
 }
 
-// A LOOKUP: the AUTHORITY with the record closest to the target, written from where it lies.
-pub fn commit_show<'a>(
+// The AUTHORITY with the record closest to the target, written from where it lies. Answers how long it is.
+fn send_closest<'a>(
     own: &'a [u8],
     cache: &'a [u8],
     held: usize,
@@ -97,19 +100,96 @@ pub fn commit_show<'a>(
     acked: u32,
     d: &[u8],
     target: usize,
+    path: usize,
+    size: usize,
+    output: &mut [u8],
+) -> usize
+    requires { ⌜ (recordForm (now own) ≡ true) × Form (keyOf (now own)) (now cache) (rows 100 held (now cache))
+        × (target + 32 ≤ length (now d)) × (path + size ≤ length (now d))
+        × (80 + 16 * countOf (closestPast (now own) (rows 100 held (now cache)) (part path size (now d)) (keyAt target (now d)))
+        ≤ length (now output)) ⌝ }
+    ensures { λ r. ⌜ (r ≡ length (closestMade major minor id acked (closestPast (now (own .entry))
+        (rows 100 held (now (cache .entry))) (part path size (now (d .entry))) (keyAt target (now (d .entry)))) 0 .bytes))
+        × (r < 65536) ⌝ }
+    ensures { λ _. ⌜ now (output .exit)
+        ≡ sending (closestMade major minor id acked (closestPast (now (own .entry)) (rows 100 held (now (cache .entry)))
+        (part path size (now (d .entry))) (keyAt target (now (d .entry)))) 0 .bytes ∷ []) (now (output .entry)) ⌝ }
+{
+    let end = path + size;
+    let shown = neighbours::closest(own, cache, held, &d[path..end], &d[target..target + 32]);
+    let wrote = wire_sent::write_closest(output, major, minor, id, acked, shown, 0);
+    wrote.length
+}
+
+// A LOOKUP: the AUTHORITY with the closest record, and the INQUIRE where a place opens.
+pub fn commit_show<'a>(
+    own: &'a [u8],
+    cache: &'a [u8],
+    held: usize,
+    waiting: &mut [u8],
+    used: usize,
+    major: u8,
+    minor: u8,
+    id: u32,
+    nonce: &[u8],
+    acked: u32,
+    d: &[u8],
+    target: usize,
+    path: usize,
+    size: usize,
+    opens: bool,
+    start: usize,
+    len: usize,
     output: &mut [u8],
 ) -> Answer
+    requires { ⌜ (opens ≡ true → used < 16) × (length (now waiting) ≡ 2240) × Laid 140 used (now waiting)
+        × (length (now nonce) ≡ 16) × (start + len ≤ length (now d))
+        × (opens ≡ true → entryForm (part start len (now d)) ≡ true) ⌝ }
     requires { ⌜ (recordForm (now own) ≡ true) × Form (keyOf (now own)) (now cache) (rows 100 held (now cache))
-        × (target + 32 ≤ length (now d))
-        × (80 + 16 * countOf (closestOf (keyAt target (now d)) (candidates (ownRecords (now own)) (rows 100 held (now cache))))
-        ≤ length (now output)) ⌝ }
-    ensures { λ r. ⌜ r ≡ lengths (closestMade major minor id acked (closestOf (keyAt target (now (d .entry)))
-        (candidates (ownRecords (now (own .entry))) (rows 100 held (now (cache .entry))))) 0 .bytes ∷ []) ⌝ }
+        × (target + 32 ≤ length (now d)) × (path + size ≤ length (now d))
+        × (80 + 16 * countOf (closestPast (now own) (rows 100 held (now cache)) (part path size (now d)) (keyAt target (now d)))
+        + inquireRoom opens ≤ length (now output)) ⌝ }
+    ensures { λ r. ⌜ r ≡ lengths (closestMade major minor id acked (closestPast (now (own .entry))
+        (rows 100 held (now (cache .entry))) (part path size (now (d .entry))) (keyAt target (now (d .entry)))) 0 .bytes
+        ∷ inquireWritten major minor id opens (now (nonce .entry)) (recordOf (part start len (now (d .entry))))) ⌝ }
+    ensures { λ _. ⌜ now (waiting .exit) ≡ cond opens (bytesOf 2240 (opened (inquiryPlace (idAfter id)
+        (recordOf (part start len (now (d .entry))))) (rows 140 used (now (waiting .entry)))))
+        (now (waiting .entry)) ⌝ }
     ensures { λ _. ⌜ now (output .exit)
-        ≡ sending (closestMade major minor id acked (closestOf (keyAt target (now (d .entry)))
-        (candidates (ownRecords (now (own .entry))) (rows 100 held (now (cache .entry))))) 0 .bytes ∷ []) (now (output .entry)) ⌝ }
+        ≡ sending (closestMade major minor id acked (closestPast (now (own .entry)) (rows 100 held (now (cache .entry)))
+        (part path size (now (d .entry))) (keyAt target (now (d .entry)))) 0 .bytes
+        ∷ inquireWritten major minor id opens (now (nonce .entry)) (recordOf (part start len (now (d .entry)))))
+        (now (output .entry)) ⌝ }
 {
-    let shown = neighbours::closest(own, cache, held, &d[target..target + 32]);
-    let wrote = wire_sent::write_closest(output, major, minor, id, acked, shown, 0);
-    gauge_commit::answer_of(0, wrote.length, 0)
+    let first = send_closest(
+        own,
+        cache,
+        held,
+        major,
+        minor,
+        id,
+        acked,
+        d,
+        target,
+        path,
+        size,
+        output,
+    );
+    if !opens {
+        return gauge_commit::answer_of(0, first, 0);
+    }
+    commit_asking::ask(
+        waiting,
+        used,
+        major,
+        minor,
+        id,
+        nonce,
+        d,
+        start,
+        len,
+        output,
+        first,
+    );
+    gauge_commit::answer_of(0, first, asking::INQUIRE_LEN)
 }

@@ -160,6 +160,29 @@ module _ (major minor id acked : ℕ) (n : Bool) where
       pub alone-told : silent ≡ true → answer 0 76 0 ≡ lengths (ackWritten major minor id silent acked n ++ inquireWritten major minor id opens nonce r)
       alone-told s = rw (e, s) (ap (λ (l : ℕ). answer 0 l 0) (sym asked-long))
 
+-- ---- any datagram, and the INQUIRE behind it
+
+module _ (major minor id : ℕ) (b : List ℕ) (opens : Bool) (nonce r : List ℕ) where
+  pub none-behind : opens ≡ false → b ∷ inquireWritten major minor id opens nonce r ≡ b ∷ []
+  none-behind e = rw e refl
+
+  module _ (long : length r ≡ 100) (fresh : length nonce ≡ 16) (e : opens ≡ true) where
+    behind-long : length (asked major minor id nonce r) ≡ 76
+    behind-long = inquire-length major minor (idAfter id) (part 0 32 r) nonce (length-part 0 32 r (omega arith)) fresh
+
+    pub behind-sent : (k : ℕ) (old between : List ℕ) → length b + inquireRoom opens ≤ length old → k ≡ length b → between ≡ sending (b ∷ []) old
+        → splice k (asked major minor id nonce r) between ≡ sending (b ∷ inquireWritten major minor id opens nonce r) old
+    behind-sent k old between h is left =
+        let a = asked major minor id nonce r in
+        let room : length b + 76 ≤ length old = rw e at h in
+        rw e
+        (ap₂ (λ (p : ℕ) (o : List ℕ). splice p a o) (is ∙ sym (zero-add (length b))) left
+        ∙ splice-next 0 (length b) (joined (b ∷ [])) a old (ap length (joined-one b)) (omega (arith, behind-long))
+        ∙ ap (λ (y : List ℕ). splice 0 y old) (ap (λ (y : List ℕ). joined (b ∷ []) ++ y) (sym (joined-one a)) ∙ sym (joined-append (b ∷ []) (a ∷ []))))
+
+    pub behind-told : {k : ℕ} → k ≡ length b → answer 0 k 76 ≡ lengths (b ∷ inquireWritten major minor id opens nonce r)
+    behind-told is = rw e (ap₂ (answer 0) is (sym behind-long))
+
 -- ---- the AUTHORITY with a CPA
 
 module _ (major minor id acked : ℕ) (cpa : List ℕ) {old : List ℕ} {r : Written} {out : List ℕ} (short : length cpa ≤ 1024)
@@ -179,6 +202,13 @@ module _ (major minor id acked : ℕ) (cpa : List ℕ) {old : List ℕ} {r : Wri
 
 -- ---- the AUTHORITY with a record
 
+pub shown-closest : (major minor id acked : ℕ) (s : List ℕ) → recordForm s ≡ true
+    → length (closestMade major minor id acked s 0 .bytes) ≡ 80 + 16 * countOf s
+shown-closest major minor id acked s formed =
+    let long = form-length s formed in
+    let whole : part 0 100 s ≡ s = take-all 100 s (omega (arith, long)) in
+    closest-length major minor id s 0 (omega (arith, long)) (ap recordForm whole ∙ formed) acked ∙ ap (λ (l : List ℕ). 80 + 16 * countOf l) whole
+
 module _ (major minor id acked : ℕ) (s : List ℕ) {old : List ℕ} {r : Written} {out : List ℕ} (formed : recordForm s ≡ true)
     (room : 80 + 16 * countOf s ≤ length old) (w : Wrote (closestMade major minor id acked s 0) old r out) where
   shown-long : length s ≡ 100
@@ -195,7 +225,7 @@ module _ (major minor id acked : ℕ) (s : List ℕ) {old : List ℕ} {r : Writt
   shown = rw (le-leb (0 + 100) (length s) (omega (arith, shown-long)), formed-part)
 
   shown-size : length (closestMade major minor id acked s 0 .bytes) ≡ 80 + 16 * countOf s
-  shown-size = closest-length major minor id s 0 (omega (arith, shown-long)) formed-part acked ∙ ap (λ (l : List ℕ). 80 + 16 * countOf l) whole
+  shown-size = shown-closest major minor id acked s formed
 
   shown-few : countOf s ≤ 4
   shown-few = record-at 0 s (omega (arith, shown-long)) formed-part .1

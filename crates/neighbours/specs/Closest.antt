@@ -7,6 +7,7 @@ use mathlib.Core.Bool.{cond}
 use mathlib.Core.List.{List, [], _∷_, _++_}
 use Rattle.key.specs.Around.{closer}
 use Rattle.record.specs.Record.{keyOf}
+use Rattle.own.specs.Own.{ownRecords}
 use Rattle.path.specs.Path.{onPath}
 
 -- the records that may be shown: our own, and of those held the ones given
@@ -27,3 +28,7 @@ closestFrom t r (x ∷ xs) = closestFrom t (cond (closer t (keyOf x) (keyOf r)) 
 unfoldable pub closestOf : ℕ → List (List ℕ) → List ℕ
 closestOf t [] = []
 closestOf t (r ∷ rs) = closestFrom t r rs
+
+-- the record that is shown for a target t: the closest of our own and those held that are not on the path
+abbrev pub closestPast : (own : List ℕ) (recs : List (List ℕ)) (path : List ℕ) (t : ℕ) → List ℕ
+closestPast own recs path t = closestOf t (candidates (ownRecords own) (offPath path recs))

@@ -1,7 +1,7 @@
 -- Helps the code. What the leaf functions answer to C, on any input. Assumes nothing.
 use Prim.Native.Nat.{ℕ, _+_}
 use mathlib.Core.Bool.{Bool, cond, _&&_}
-use mathlib.Core.List.{List}
+use mathlib.Core.List.{List, []}
 use lib.Dec.{eqb, leb}
 use lib.ListN.{length}
 use Rattle.octet.specs.Number.{valueBE}
@@ -25,4 +25,4 @@ unfoldable pub heldOr257 : List ℕ → List ℕ → ℕ
 heldOr257 own cache = cond (leb 32 (length own) && cacheForm (keyOf own) cache) (heldIn (keyOf own) cache) 257
 
 abbrev pub closestWord : List ℕ → List ℕ → List ℕ → ℕ
-closestWord own cache target = wordOr0 24 (closestCall own cache target .bytes)
+closestWord own cache target = wordOr0 24 (closestCall own cache [] target .bytes)

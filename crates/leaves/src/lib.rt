@@ -72,13 +72,14 @@ pub extern "C" fn leaves_form(own: &[u8], cache: &[u8]) -> usize
     257
 }
 
-// The last eight bytes of the key of the record closest to a target, among our own and those of the cache; 0 where memory
-// is not in form or the target has not 32 bytes. The form is tested first: what closest alone executes is the difference.
+// The last eight bytes of the key of the record closest to a target, among our own and those of the cache, with no path; 0
+// where memory is not in form or the target has not 32 bytes. The form is tested first: what closest alone executes is the
+// difference.
 #[no_mangle]
 pub extern "C" fn leaves_closest(own: &[u8], cache: &[u8], target: &[u8]) -> u64
     ensures { λ r. ⌜ r ≡ closestWord (now (own .entry)) (now (cache .entry)) (now (target .entry)) ⌝ }
 {
-    match neighbours::closest_record(own, cache, target) {
+    match neighbours::closest_record(own, cache, &target[0..0], target) {
         Nearest::Refused(_) => 0,
         Nearest::Own => leaves_u64(own, 24),
         Nearest::Held(i) => {

@@ -63,8 +63,8 @@ fn say_record(record: &[u8]) {
     say::bytes(record);
 }
 
-fn closest(own: &[u8], cache: &[u8], target: &[u8]) {
-    match neighbours::closest_record(own, cache, target) {
+fn closest(own: &[u8], cache: &[u8], path: &[u8], target: &[u8]) {
+    match neighbours::closest_record(own, cache, path, target) {
         Nearest::Refused(number) => say::number(number as u64),
         Nearest::Own => say_record(own),
         Nearest::Held(i) => {
@@ -92,11 +92,11 @@ fn answer_change(text: &[u8], own: &[u8], cache: &mut [u8], third: &[u8]) -> boo
 }
 
 // Vectors that read it.
-fn answer_read(text: &[u8], own: &[u8], cache: &[u8], third: &[u8]) -> bool {
+fn answer_read(text: &[u8], own: &[u8], cache: &[u8], third: &[u8], fourth: &[u8]) -> bool {
     match line::which(text, b"cache-form neighbours closest searches") {
         0 => say_form(own, cache),
         1 => neighbours(own, cache),
-        2 => closest(own, cache, third),
+        2 => closest(own, cache, third, fourth),
         3 => searches(own, cache),
         _ => {
             return false;
@@ -106,12 +106,12 @@ fn answer_read(text: &[u8], own: &[u8], cache: &[u8], third: &[u8]) -> bool {
 }
 
 // The cache is the second operand.
-fn answer_on(text: &[u8], own: &[u8], third: &[u8], side: &mut [u8]) -> bool {
+fn answer_on(text: &[u8], own: &[u8], third: &[u8], fourth: &[u8], side: &mut [u8]) -> bool {
     let end = line::bytes(text, 2, side, 0);
     if side.len() < end {
         return false;
     }
-    if answer_read(text, own, line::part(side, 0, end), third) {
+    if answer_read(text, own, line::part(side, 0, end), third, fourth) {
         return true;
     }
     answer_change(text, own, &mut side[0..end], third)
@@ -120,10 +120,12 @@ fn answer_on(text: &[u8], own: &[u8], third: &[u8], side: &mut [u8]) -> bool {
 pub(crate) fn answer(text: &[u8], room: &mut [u8], side: &mut [u8]) -> bool {
     let first = line::bytes(text, 1, room, 0);
     let third = line::bytes(text, 3, room, first);
+    let fourth = line::bytes(text, 4, room, third);
     answer_on(
         text,
         line::part(room, 0, first),
         line::part(room, first, third),
+        line::part(room, third, fourth),
         side,
     )
 }

@@ -12,12 +12,12 @@ use Rattle.leaves.proofs.leaves_closest.Statement.{statement}
 use Rattle.leaves.proofs.leaves_closest.Tie as tie
 
 abbrev start : tie.After-closest-record → tie.Start
-start c = c .before .before .before .before
+start c = c .before .before .before .before .before
 
 -- the bytes that an answer shows
 shows : (c : tie.After-closest-record) (n : Nearest) → c .closest-record .result ≡ n
     → shownBy (start c .args .own .now) (start c .args .cache .now) n .bytes
-    ≡ closestCall (start c .args .own .now) (start c .args .cache .now) (start c .args .target .now) .bytes
+    ≡ closestCall (start c .args .own .now) (start c .args .cache .now) [] (start c .args .target .now) .bytes
 shows c n e =
     let a = start c .args in
     ap (λ (h : Shown). h .bytes) (ap (shownBy (a .own .now) (a .cache .now)) (sym e) ∙ c .closest-record .ensures .0)
@@ -25,6 +25,15 @@ shows c n e =
 no-word : wordOr0 24 [] ≡ 0
 unfolding wordOr0
 no-word = refl
+
+sub-closest-record : tie.Need-sub-closest-record
+sub-closest-record c = search needs
+
+part-closest-record-start : tie.Need-part-closest-record-start
+part-closest-record-start c = search needs
+
+part-closest-record-end : tie.Need-part-closest-record-end
+part-closest-record-end c = search needs
 
 closest-record-requires : tie.Need-closest-record-requires
 closest-record-requires c κs = search needs
@@ -85,6 +94,9 @@ pub leaves-closest-spec : {M : Type 1} → statement M
 leaves-closest-spec =
     tie.close
     (tie.spec
+    sub-closest-record
+    part-closest-record-start
+    part-closest-record-end
     closest-record-requires
     enum-told
     enum-told-2

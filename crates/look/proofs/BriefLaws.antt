@@ -62,8 +62,8 @@ unfolding kindsOf
 read-authority d major e q = ap (incomingOf d) (typed d major 8 authorityKinds e q refl)
 
 -- a brief by what is told
-pub brief-by : {s r : Look} {v : ℕ} {f : Bool} → s ≡ r → briefed s v f ≡ briefed r v f
-brief-by {v = v} {f = f} e = ap (λ (x : Look). briefed x v f) e
+pub brief-by : {s r : Look} {v : ℕ} {f : Bool} {p n : ℕ} → s ≡ r → briefed s v f p n ≡ briefed r v f p n
+brief-by {v = v} {f = f} {p = p} {n = n} e = ap (λ (x : Look). briefed x v f p n) e
 
 -- the brief has what is told
 pub brief-seen : (a : Incoming) → briefOf a .seen ≡ lookOf a

@@ -53,20 +53,20 @@ lookOf (M.Authority m) = seenAs 0 8 (m .head .id) (m .acked) (m .fields .cpa) Ab
 lookOf (M.Ack m) = seenAs 0 9 (m .head .id) (m .acked) Absent Absent Absent Absent
 lookOf (M.Lookup m) = seenAs 0 11 (m .head .id) 0 Absent Absent (m .entry) (Here (m .target) 32)
 
--- what calls want of a message besides: a validate key's place, and a flag
-abbrev pub briefed : Look → ℕ → Bool → Brief
-briefed seen validate flag = record { seen = seen; validate = validate; flag = flag }
+-- what calls want of a message besides: a validate key's place, a flag, place and length of a path
+abbrev pub briefed : Look → ℕ → Bool → ℕ → ℕ → Brief
+briefed seen validate flag path size = record { seen = seen; validate = validate; flag = flag; path = path; size = size }
 
 unfoldable pub briefOf : Incoming → Brief
-briefOf (M.Refused n) = briefed (lookOf (M.Refused n)) 0 false
-briefOf (M.Solicit m) = briefed (lookOf (M.Solicit m)) 0 false
-briefOf (M.Advertise m) = briefed (lookOf (M.Advertise m)) 0 false
-briefOf (M.Request m) = briefed (lookOf (M.Request m)) 0 false
-briefOf (M.Flood m) = briefed (lookOf (M.Flood m)) (m .validate) (m .d)
-briefOf (M.Inquire m) = briefed (lookOf (M.Inquire m)) (m .validate) false
-briefOf (M.Authority m) = briefed (lookOf (M.Authority m)) 0 (isHere (m .fields .cpa))
-briefOf (M.Ack m) = briefed (lookOf (M.Ack m)) 0 (m .n)
-briefOf (M.Lookup m) = briefed (lookOf (M.Lookup m)) 0 false
+briefOf (M.Refused n) = briefed (lookOf (M.Refused n)) 0 false 0 0
+briefOf (M.Solicit m) = briefed (lookOf (M.Solicit m)) 0 false 0 0
+briefOf (M.Advertise m) = briefed (lookOf (M.Advertise m)) 0 false 0 0
+briefOf (M.Request m) = briefed (lookOf (M.Request m)) 0 false 0 0
+briefOf (M.Flood m) = briefed (lookOf (M.Flood m)) (m .validate) (m .d) 0 0
+briefOf (M.Inquire m) = briefed (lookOf (M.Inquire m)) (m .validate) false 0 0
+briefOf (M.Authority m) = briefed (lookOf (M.Authority m)) 0 (isHere (m .fields .cpa)) 0 0
+briefOf (M.Ack m) = briefed (lookOf (M.Ack m)) 0 (m .n) 0 0
+briefOf (M.Lookup m) = briefed (lookOf (M.Lookup m)) 0 false (startOf (m .path)) (sizeOf (m .path))
 
 -- what the reader of a type gives, and that of an AUTHORITY
 abbrev pub readAs : ℕ → List Kind → List ℕ → Incoming

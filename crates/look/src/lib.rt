@@ -82,12 +82,33 @@ fn seen_as(
     }
 }
 
-// What calls want of a message besides: where the validate key of a FLOOD or INQUIRE stands, and one flag: a FLOOD's D, an
-// ACK's N, whether an AUTHORITY has a CPA.
+// What calls want of a message besides: where the validate key of a FLOOD or INQUIRE stands; one flag: a FLOOD's D, an ACK's
+// N, whether an AUTHORITY has a CPA; place and length of a LOOKUP's path.
 pub struct Brief {
     pub seen: Look,
     pub validate: usize,
     pub flag: bool,
+    pub path: usize,
+    pub size: usize,
+}
+
+// Where a field's contents start, and how many bytes they are; 0 for one not there.
+fn place_of(p: Part) -> usize
+    ensures { λ r. ⌜ r ≡ startOf p ⌝ }
+{
+    let Part::Here(start, _) = p else {
+        return 0;
+    };
+    start
+}
+
+fn bytes_of(p: Part) -> usize
+    ensures { λ r. ⌜ r ≡ sizeOf p ⌝ }
+{
+    let Part::Here(_, len) = p else {
+        return 0;
+    };
+    len
 }
 
 // What is told of a refusal.
@@ -100,6 +121,8 @@ fn refused(number: u8) -> Brief
         seen,
         validate: 0,
         flag: false,
+        path: 0,
+        size: 0,
     }
 }
 
@@ -139,6 +162,8 @@ fn brief_solicit(datagram: &[u8]) -> Brief
         seen,
         validate: 0,
         flag: false,
+        path: 0,
+        size: 0,
     }
 }
 
@@ -165,6 +190,8 @@ fn brief_advertise(datagram: &[u8]) -> Brief
         seen,
         validate: 0,
         flag: false,
+        path: 0,
+        size: 0,
     }
 }
 
@@ -191,6 +218,8 @@ fn brief_request(datagram: &[u8]) -> Brief
         seen,
         validate: 0,
         flag: false,
+        path: 0,
+        size: 0,
     }
 }
 
@@ -210,6 +239,8 @@ fn brief_flood(datagram: &[u8]) -> Brief
         seen,
         validate: m.validate,
         flag: m.d,
+        path: 0,
+        size: 0,
     }
 }
 
@@ -228,6 +259,8 @@ fn brief_inquire(datagram: &[u8]) -> Brief
         seen,
         validate: m.validate,
         flag: false,
+        path: 0,
+        size: 0,
     }
 }
 
@@ -251,6 +284,8 @@ fn brief_authority(datagram: &[u8]) -> Brief
         seen,
         validate: 0,
         flag: is_here(cpa),
+        path: 0,
+        size: 0,
     }
 }
 
@@ -268,6 +303,8 @@ fn brief_ack(datagram: &[u8]) -> Brief
         seen,
         validate: 0,
         flag: m.n,
+        path: 0,
+        size: 0,
     }
 }
 
@@ -281,6 +318,7 @@ fn brief_lookup(datagram: &[u8]) -> Brief
         return refused(6);
     };
     let entry = m.entry;
+    let path = m.path;
     let seen = seen_as(
         0,
         11,
@@ -295,6 +333,8 @@ fn brief_lookup(datagram: &[u8]) -> Brief
         seen,
         validate: 0,
         flag: false,
+        path: place_of(path),
+        size: bytes_of(path),
     }
 }
 

@@ -53,7 +53,7 @@ is-here-requires c κs = search needs
 returns-3 : tie.Need-returns-3
 unfolding briefOf lookOf
 returns-3 c =
-    ap₂ (λ (s : Look) (f : Bool). briefed s 0 f) (c .before .seen-as .ensures) (c .is-here .ensures)
+    ap₂ (λ (s : Look) (f : Bool). briefed s 0 f 0 0) (c .before .seen-as .ensures) (c .is-here .ensures)
     ∙ (let read = c .before .before .before .before in ap briefOf (sym (read .message .given .1) ∙ read .before .before .read-authority .ensures))
 
 pub brief-authority-spec : {M : Type 1} → statement M

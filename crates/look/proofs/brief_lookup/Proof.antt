@@ -1,11 +1,13 @@
 -- What is told of the message that its reader gives, or of its refusal. Assumes nothing.
-use mathlib.Core.Path.{refl, sym, ap, subst, _∙_}
+use mathlib.Core.Path.{refl, sym, ap, ap₂, subst, _∙_}
+use Prim.Native.Nat.{ℕ}
+use mathlib.Core.Bool.{false}
 use mathlib.Core.List.{[], _∷_}
 use denote.Ref.{now}
 use Rattle.wire_fields.specs.Kinds.{lookupKinds}
 use Rattle.wire_read.specs.Answers.{incomingOf}
 use Rattle.wire_read.specs.declared.Incoming.{Incoming}
-use Rattle.look.specs.Seen.{lookOf, briefOf, Small}
+use Rattle.look.specs.Seen.{lookOf, briefed, briefOf, Small}
 use Rattle.look.proofs.BriefLaws.{else-refused, brief-by}
 use borrow.Author.Needs.{needs}
 use Rattle.look.proofs.brief_lookup.Statement.{statement}
@@ -35,11 +37,19 @@ seen-as-requires c κs =
     let start = c .before .before .before .before .before in
     subst (λ (a : Incoming). Small (lookOf a)) (sym (c .before .before .before .read-lookup .ensures) ∙ c .before .message .given .1) (start .pre .1)
 
+place-of-requires : tie.Need-place-of-requires
+place-of-requires c κs = search needs
+
+bytes-of-requires : tie.Need-bytes-of-requires
+bytes-of-requires c κs = search needs
+
 returns-2 : tie.Need-returns-2
 unfolding briefOf lookOf
 returns-2 c =
-    brief-by (c .seen-as .ensures)
-    ∙ ap briefOf (sym (c .before .before .message .given .1) ∙ c .before .before .before .before .read-lookup .ensures)
+    let told = c .before .before in
+    let found = told .before .before in
+    ap₂ (λ (p n : ℕ). briefed (told .seen-as .result) 0 false p n) (c .before .place-of .ensures) (c .bytes-of .ensures)
+    ∙ brief-by (told .seen-as .ensures) ∙ ap briefOf (sym (found .message .given .1) ∙ found .before .before .read-lookup .ensures)
 
 pub brief-lookup-spec : {M : Type 1} → statement M
 brief-lookup-spec =
@@ -50,4 +60,6 @@ brief-lookup-spec =
     refused-requires
     returns
     seen-as-requires
+    place-of-requires
+    bytes-of-requires
     returns-2)

@@ -13,7 +13,7 @@ seen-as-requires c κs = search needs
 returns : tie.Need-returns
 unfolding briefOf lookOf
 returns c =
-    ap (λ (s : Look). briefed s 0 false) (c .seen-as .ensures)
+    ap (λ (s : Look). briefed s 0 false 0 0) (c .seen-as .ensures)
 
 pub refused-spec : {M : Type 1} → statement M
 refused-spec = tie.close (tie.spec seen-as-requires returns)

@@ -1,6 +1,6 @@
--- Laws of the plan by what is told of a message (look, Seen): its type, ID, acked ID and places, its validate key and its flag say all that a plan wants.
+-- Laws of the plan by what is told of a message (look, Seen): its type, ID, acked ID and places, its validate key, its flag and its path say all that a plan wants.
 -- Assumes nothing.
-use Prim.Native.Nat.{ℕ, _+_, _≤_}
+use Prim.Native.Nat.{ℕ, _+_, _-_, _≤_, _<_}
 use native.Mathlib.Omega.{arith}
 use mathlib.Core.Path.{_≡_, refl, sym, _∙_}
 use mathlib.Core.Bool.{Bool, true, false}
@@ -14,18 +14,19 @@ use Rattle.table.specs.Rows.{rows}
 use Rattle.wire_shapes.proofs.ShapeLaws.{entry-short}
 use Rattle.wire_fields.specs.declared.Part.{Part}
 use Rattle.wire_fields.specs.declared.Part.the-variants.{Here, Absent}
+use Rattle.wire_buffer.specs.Buffer.{startOf}
 use Rattle.wire_read.specs.declared.Incoming as T
 use Rattle.wire_read.specs.declared.Incoming.the-variants as M
 use Rattle.wire_read.specs.declared.messages.Flood as F
 use Rattle.wire.proofs.ShownLaws.{withEntry}
-use Rattle.look.specs.Seen.{lookOf, briefOf}
+use Rattle.look.specs.Seen.{sizeOf, lookOf, briefOf}
 use Rattle.look.specs.declared.Brief.{Brief}
 use Rattle.gauge_plan.specs.declared.Plan.the-variants.{Refuse}
 use Rattle.gauge_plan.specs.Lent.{Memory, Receive}
 use Rattle.plan_flood.specs.Flood.{floodPlan, revokePlan}
 use Rattle.plan_answer.specs.Answering.{authorityPlan, ackPlan, inquirePlan, lookupPlan}
 use Rattle.plan_message.specs.Planned.{planFor}
-use Rattle.plan_message.proofs.AnswerLaws.{KnownAnswer}
+use Rattle.plan_message.proofs.AnswerLaws.{EntryIn, PathIn, KnownAnswer}
 
 -- a route entry is not empty
 not-empty : (d : List ℕ) (s n : ℕ) → s + n ≤ length d → entryForm (part s n d) ≡ true → n ≡ 0 → ⊥
@@ -151,7 +152,8 @@ module _ (m : Memory) (l : Receive) (held used : ℕ) where
   abbrev pub LookupBy : T.Incoming → Brief → Type 0
   LookupBy a x =
       x .seen .kind ≡ 11
-      → planFor m l held used a ≡ lookupPlan (l .own) (rows 100 held (m .cache)) held (length (l .output)) (l .datagram) (x .seen .id) (x .seen .target)
+      → planFor m l held used a ≡ lookupPlan (l .own) (rows 100 held (m .cache)) (rows 140 used (m .waiting)) held used (l .id) (length (l .output)) (l .datagram)
+      (x .seen .id) (x .seen .target) (x .path + 8) (x .size - 8) (x .seen .entry) (x .seen .«entry_length»)
 
   pub lookup-by : (a : T.Incoming) → LookupBy a (briefOf a)
   unfolding planFor briefOf lookOf
@@ -241,7 +243,19 @@ module _ (d : List ℕ) where
 
   abbrev pub KnownLookup : T.Incoming → Brief → Type 0
   KnownLookup a x =
-      KnownAnswer d a → x .seen .kind ≡ 11 → x .seen .target + 32 ≤ length d
+      KnownAnswer d a → x .seen .kind ≡ 11
+      → (x .seen .target + 32 ≤ length d) × (8 ≤ x .size) × (x .path + x .size ≤ length d) × (x .seen .entry + x .seen .«entry_length» ≤ length d)
+      × (0 < x .seen .«entry_length» → entryForm (part (x .seen .entry) (x .seen .«entry_length») d) ≡ true)
+
+  -- an entry, and a path, by place and length
+  pub entry-told : (p : Part) → EntryIn d p
+      → (startOf p + sizeOf p ≤ length d) × (0 < sizeOf p → entryForm (part (startOf p) (sizeOf p) d) ≡ true)
+  entry-told (Here s n) w = (w .0, λ h. w .1)
+  entry-told Absent w = (omega arith, λ h. absurd (omega arith))
+
+  pub path-told : (p : Part) → PathIn d p → (8 ≤ sizeOf p) × (startOf p + sizeOf p ≤ length d)
+  path-told (Here s n) w = w
+  path-told Absent w = absurd w
 
   pub known-lookup : (a : T.Incoming) → KnownLookup a (briefOf a)
   unfolding briefOf lookOf
@@ -253,4 +267,7 @@ module _ (d : List ℕ) where
   known-lookup (M.Inquire x) w e = absurd (let z : _≡_ {A = ℕ} 7 11 = e in omega arith)
   known-lookup (M.Authority x) w e = absurd (let z : _≡_ {A = ℕ} 8 11 = e in omega arith)
   known-lookup (M.Ack x) w e = absurd (let z : _≡_ {A = ℕ} 9 11 = e in omega arith)
-  known-lookup (M.Lookup x) w e = w
+  known-lookup (M.Lookup x) w e =
+      let told = entry-told (x .entry) (w .1) in
+      let path = path-told (x .path) (w .2) in
+      (w .0, path .0, path .1, told .0, told .1)

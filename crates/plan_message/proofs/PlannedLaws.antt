@@ -2,16 +2,16 @@
 use mathlib.Core.Path.{_≡_, refl, sym, ap, subst, _∙_}
 use mathlib.Core.Bool.{Bool, true, false, not}
 use mathlib.Core.List.{List, [], _∷_}
-use Prim.Native.Nat.{ℕ, _+_, _*_, _≤_, _<_}
+use Prim.Native.Nat.{ℕ, _+_, _-_, _*_, _≤_, _<_}
 use native.Mathlib.Omega.{arith}
 use lib.ListN.{length}
 use borrow.Author.Tests.{not-false}
 use Rattle.octet.specs.Number.{valueBE}
 use Rattle.octet.specs.Part.{part}
+use Rattle.octet.proofs.PartLaws.{length-part}
 use Rattle.key.specs.Number.{keyAt}
 use Rattle.record.specs.Record.{keyOf, countOf, recordForm}
 use Rattle.record.specs.Entry.{entryForm, recordOf}
-use Rattle.own.specs.Own.{ownRecords}
 use Rattle.refusal.specs.Table.{when, orRefuse}
 use Rattle.refusal.proofs.CallLaws.{or-known}
 use Rattle.table.specs.Rows.{rows, Laid}
@@ -19,21 +19,24 @@ use Rattle.table.proofs.PieceLaws.{part-start}
 use Rattle.table.proofs.RowLaws.{rows-length}
 use Rattle.kept.specs.Plain.{NotOwn}
 use Rattle.cache.specs.Form.{Form}
-use Rattle.neighbours.specs.Closest.{candidates, closestOf}
+use Rattle.neighbours.specs.Closest.{closestPast}
 use Rattle.table.specs.Seek.{seek}
 use Rattle.waiting.specs.Seek.{isAt}
 use Rattle.table.specs.declared.Found.the-variants.{At}
 use Rattle.waiting.proofs.SeekLaws.{found-record, found-key, found-other}
 use Rattle.wire_fields.specs.declared.Part.{Part}
 use Rattle.wire_fields.specs.declared.Part.the-variants.{Here, Absent}
+use Rattle.wire_buffer.specs.Buffer.{startOf}
 use Rattle.wire_read.specs.Answers as R
 use Rattle.wire_read.specs.declared.Head.{Head}
 use Rattle.wire_read.specs.declared.Incoming as T
 use Rattle.wire_read.specs.declared.Incoming.the-variants as M
+use Rattle.look.specs.Seen.{sizeOf}
 use Rattle.gauge_plan.specs.Lent.{Memory, Receive}
 use Rattle.gauge_plan.specs.Memory.{memoryOf, handsFit}
 use Rattle.plan_flood.specs.Rooms.{ackRoom}
-use Rattle.asking.specs.Asking.{inquireRoom, mustAsk}
+use Rattle.asking.specs.Asking.{inquireRoom, mustAsk, asksFor}
+use Rattle.asking.proofs.AskingLaws.{asks-tells}
 use Rattle.gauge_plan.specs.Own.{notOurs}
 use Rattle.plan_flood.specs.Flood.{floodRefusals, revokeRefusals, floodPlan, revokePlan}
 use Rattle.gauge_plan.specs.Found.{placeOf}
@@ -47,6 +50,7 @@ use Rattle.plan_flood.proofs.FloodLaws as flood
 use Rattle.plan_answer.proofs.AnsweringLaws as answering
 use Rattle.plan_message.specs.Planned.{byEntry, planFor, planBy, planIn, receivePlan}
 use Rattle.plan_message.proofs.AnswerLaws.{EntryIn, KnownAnswer, known-answer}
+use Rattle.plan_message.proofs.BriefLaws.{entry-told, path-told}
 
 -- ---- the plan by the tests that the code makes
 
@@ -127,12 +131,15 @@ pub record Certified (m : Memory) (l : Receive) (a : ℕ) : Type 0 where
   pub plans : answering.Certifying (keyOf (l .own)) (length (l .cpa)) (length (l .output)) (l .datagram) a validate a
 
 -- a LOOKUP
-pub record Shown (m : Memory) (l : Receive) (h a target : ℕ) : Type 0 where
-  pub used : ℕ
-  pub ready : memory.Ready (l .own) m h used
+pub record Shown (m : Memory) (l : Receive) (h u a target path size : ℕ) (opens : Bool) (start len : ℕ) : Type 0 where
+  pub ready : memory.Ready (l .own) m h u
   pub hands : memory.Handed (l .cpa) (l .nonce) (l .key)
   pub within : target + 32 ≤ length (l .datagram)
-  pub plans : answering.Showing (l .own) (rows 100 h (m .cache)) h (length (l .output)) (l .datagram) a target h a target
+  pub path-within : path + size ≤ length (l .datagram)
+  pub entry-within : start + len ≤ length (l .datagram)
+  pub entry : 0 < len → entryForm (part start len (l .datagram)) ≡ true
+  pub plans : answering.Showing (l .own) (rows 100 h (m .cache)) (rows 140 u (m .waiting)) h u (l .id) (length (l .output)) (l .datagram) a target path size
+      start len h u a target path size opens start len
 
 abbrev pub Known : Memory → Receive → Plan → Type 0
 Known m l (Refuse n) = Unit {0}
@@ -141,7 +148,7 @@ Known m l (Revoke h u s n a) = Revoked m l h u s n a
 Known m l (Learn h u at) = Learned m l h u at
 Known m l (Free h u at n) = Freed m l h u at n
 Known m l (Certify a) = Certified m l a
-Known m l (Show h a target) = Shown m l h a target
+Known m l (Show h u a target path size opens start len) = Shown m l h u a target path size opens start len
 
 module _ (m : Memory) (l : Receive) (h u : ℕ) (ready : memory.Ready (l .own) m h u)
     (hands : memory.Handed (l .cpa) (l .nonce) (l .key)) where
@@ -208,16 +215,23 @@ module _ (m : Memory) (l : Receive) (h u : ℕ) (ready : memory.Ready (l .own) m
       (λ f k. record { held = h; used = u; validate = validate; ready = ready; hands = hands; plans = k })
       (answering.known-inquire own (length (l .cpa)) (length (l .output)) (l .datagram) a validate)
 
-  lookup-known : (a target : ℕ) → target + 32 ≤ length (l .datagram)
-      → Known m l (lookupPlan (l .own) (rows 100 h (m .cache)) h (length (l .output)) (l .datagram) a target)
+  lookup-known : (a target path size start len : ℕ) → target + 32 ≤ length (l .datagram) → path + size ≤ length (l .datagram)
+      → start + len ≤ length (l .datagram) → (0 < len → entryForm (part start len (l .datagram)) ≡ true)
+      → Known m l (lookupPlan (l .own) (rows 100 h (m .cache)) (rows 140 u (m .waiting)) h u (l .id) (length (l .output)) (l .datagram) a target path size start len)
   unfolding lookupPlan
-  lookup-known a target within =
+  lookup-known a target path size start len within path-within entry-within entry =
       let recs = rows 100 h (m .cache) in
-      let K : Plan → Type 0 = answering.KnownLookup (l .own) recs h (length (l .output)) (l .datagram) a target in
-      or-known (λ (p : Plan). K p → Known m l p) Refuse (lookupRefusals (l .own) recs (length (l .output)) (l .datagram) target) (Show h a target)
+      let ps = rows 140 u (m .waiting) in
+      let room = length (l .output) in
+      let r = closestPast (l .own) recs (part path size (l .datagram)) (keyAt target (l .datagram)) in
+      let opens = asksFor (keyOf (l .own)) recs ps (part start len (l .datagram)) in
+      let K : Plan → Type 0 = answering.KnownLookup (l .own) recs ps h u (l .id) room (l .datagram) a target path size start len in
+      or-known (λ (p : Plan). K p → Known m l p) Refuse (lookupRefusals ps u (l .id) room opens r) (Show h u a target path size opens start len)
       (λ i k. tt)
-      (λ f k. record { used = u; ready = ready; hands = hands; within = within; plans = k })
-      (answering.known-lookup (l .own) recs h (length (l .output)) (l .datagram) a target)
+      (λ f k. record {
+        ready = ready; hands = hands; within = within; path-within = path-within; entry-within = entry-within; entry = entry; plans = k;
+      })
+      (answering.known-lookup (l .own) recs ps h u (l .id) room (l .datagram) a target path size start len)
 
   entry-known : (head : Head) (s : Bool) (validate : ℕ) (entry : Part) → EntryIn (l .datagram) entry → Known m l (byEntry m l h u head s validate entry)
   entry-known head s validate (Here start len) w = flood-known s (head .id) validate start len (w .0) (w .1)
@@ -233,7 +247,11 @@ module _ (m : Memory) (l : Receive) (h u : ℕ) (ready : memory.Ready (l .own) m
   message-known (M.Inquire x) w = inquire-known (x .head .id) (x .validate)
   message-known (M.Authority x) w = authority-known (x .acked) (R.isHere (x .fields .cpa))
   message-known (M.Ack x) w = ack-known (x .acked) (x .n)
-  message-known (M.Lookup x) w = lookup-known (x .head .id) (x .target) w
+  message-known (M.Lookup x) w =
+      let told = entry-told (l .datagram) (x .entry) (w .1) in
+      let path = path-told (l .datagram) (x .path) (w .2) in
+      lookup-known (x .head .id) (x .target) (startOf (x .path) + 8) (sizeOf (x .path) - 8) (startOf (x .entry)) (sizeOf (x .entry)) (w .0)
+      (omega (arith, path .0, path .1)) (told .0) (told .1)
 
 memory-known : (m : Memory) (l : Receive) (f : Fitness) → memory.KnownMemory (l .own) m f → Known m l (planIn m l f)
 memory-known m l Unfit w = tt
@@ -316,7 +334,27 @@ module _ (m : Memory) (l : Receive) where
   pub cpa-needs : {a : ℕ} → receivePlan m l ≡ Certify a → (length (l .cpa) ≤ 1024) × (40 + length (l .cpa) ≤ length (l .output))
   cpa-needs {a} e = let k : Certified m l a = known-by e in (k .hands .most, k .plans .fits-in)
 
-  pub show-needs : {h a target : ℕ} → receivePlan m l ≡ Show h a target
-      → (recordForm (l .own) ≡ true) × Form (keyOf (l .own)) (m .cache) (rows 100 h (m .cache)) × (target + 32 ≤ length (l .datagram))
-      × (80 + 16 * countOf (closestOf (keyAt target (l .datagram)) (candidates (ownRecords (l .own)) (rows 100 h (m .cache)))) ≤ length (l .output))
-  show-needs {h} {a} {target} e = let k : Shown m l h a target = known-by e in (k .ready .owned, k .ready .form, k .within, k .plans .fits-in)
+  -- of the INQUIRE, and of the AUTHORITY
+  pub show-needs : {h u a target path size : ℕ} {opens : Bool} {start len : ℕ} → receivePlan m l ≡ Show h u a target path size opens start len
+      → ((opens ≡ true → u < 16) × (length (m .waiting) ≡ 2240) × Laid 140 u (m .waiting) × (length (l .nonce) ≡ 16)
+      × (start + len ≤ length (l .datagram)) × (opens ≡ true → entryForm (part start len (l .datagram)) ≡ true))
+      × ((recordForm (l .own) ≡ true) × Form (keyOf (l .own)) (m .cache) (rows 100 h (m .cache)) × (target + 32 ≤ length (l .datagram))
+      × (path + size ≤ length (l .datagram))
+      × (80 + 16 * countOf (closestPast (l .own) (rows 100 h (m .cache)) (part path size (l .datagram)) (keyAt target (l .datagram))) + inquireRoom opens
+      ≤ length (l .output)))
+  show-needs {h} {u} {a} {target} {path} {size} {opens} {start} {len} e =
+      let k : Shown m l h u a target path size opens start len = known-by e in
+      let v = part start len (l .datagram) in
+      let some : opens ≡ true → 0 < len =
+      λ o. (let t = asks-tells (keyOf (l .own)) (rows 100 h (m .cache)) (rows 140 u (m .waiting)) v (sym (k .plans .opens-is) ∙ o) .0 in
+      omega (arith, t, length-part start len (l .datagram) (k .entry-within))) in (
+        (
+          λ o. (let few = k .ready .few in let free = k .plans .free o in omega arith),
+          k .ready .size,
+          k .ready .laid,
+          k .hands .nonced,
+          k .entry-within,
+          λ o. k .entry (some o),
+        ),
+        (k .ready .owned, k .ready .form, k .within, k .path-within, k .plans .fits-in),
+      )

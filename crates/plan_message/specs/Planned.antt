@@ -1,6 +1,6 @@
 -- Helps the code. What is planned for a datagram received: memory and what is handed in are tested, then the message that it holds is planned. Nothing is done
 -- before the last refusal is decided. Tied to document 01 by `ours-meets` (sentences/Theorems). Assumes nothing.
-use Prim.Native.Nat.{ℕ}
+use Prim.Native.Nat.{ℕ, _+_, _-_}
 use mathlib.Core.Bool.{Bool, not}
 use mathlib.Core.List.{[], _∷_}
 use lib.ListN.{length}
@@ -10,10 +10,12 @@ use Rattle.refusal.specs.Table.{when, orRefuse}
 use Rattle.table.specs.Rows.{rows}
 use Rattle.wire_fields.specs.declared.Part.{Part}
 use Rattle.wire_fields.specs.declared.Part.the-variants.{Here, Absent}
+use Rattle.wire_buffer.specs.Buffer.{startOf}
 use Rattle.wire_read.specs.Answers as R
 use Rattle.wire_read.specs.declared.Head.{Head}
 use Rattle.wire_read.specs.declared.Incoming as T
 use Rattle.wire_read.specs.declared.Incoming.the-variants as M
+use Rattle.look.specs.Seen.{sizeOf}
 use Rattle.gauge_plan.specs.declared.Plan.{Plan}
 use Rattle.gauge_plan.specs.declared.Plan.the-variants.{Refuse}
 use Rattle.gauge_plan.specs.Lent.{Memory, Receive}
@@ -31,6 +33,7 @@ byEntry m l held used head d validate (Here start len) =
 byEntry m l held used head d validate Absent =
     revokePlan (ownKeys (l .own)) held used (l .verdict) (keyAt 0 (l .key)) (length (l .output)) (l .datagram) d (head .id) validate
 
+-- a LOOKUP's endpoints stand behind the 8 bytes of the array's header; no route entry has no bytes
 unfoldable pub planFor : Memory → Receive → ℕ → ℕ → T.Incoming → Plan
 planFor m l held used (M.Refused n) = Refuse n
 planFor m l held used (M.Solicit x) = Refuse 7
@@ -41,7 +44,9 @@ planFor m l held used (M.Inquire x) = inquirePlan (ownKeys (l .own)) (length (l 
 planFor m l held used (M.Authority x) =
     authorityPlan (rows 140 used (m .waiting)) held used (l .verdict) (keyAt 0 (l .key)) (x .acked) (R.isHere (x .fields .cpa))
 planFor m l held used (M.Ack x) = ackPlan (rows 140 used (m .waiting)) held used (x .acked) (x .n)
-planFor m l held used (M.Lookup x) = lookupPlan (l .own) (rows 100 held (m .cache)) held (length (l .output)) (l .datagram) (x .head .id) (x .target)
+planFor m l held used (M.Lookup x) =
+    lookupPlan (l .own) (rows 100 held (m .cache)) (rows 140 used (m .waiting)) held used (l .id) (length (l .output)) (l .datagram) (x .head .id) (x .target)
+    (startOf (x .path) + 8) (sizeOf (x .path) - 8) (startOf (x .entry)) (sizeOf (x .entry))
 
 -- where what is handed in with it is as it should be
 abbrev pub planBy : Memory → Receive → Fitness → Plan

@@ -1,7 +1,11 @@
 -- `plan_message::plan_message` meets its contract: each arm is the clause of its message, by what is told of it, and reading knows the places. Assumes nothing.
 use mathlib.Core.Path.{_≡_, sym, subst, _∙_}
+use mathlib.Core.Bool.{true}
+use Prim.Native.Nat.{_+_, _≤_, _<_}
 use native.Mathlib.Omega.{arith}
 use lib.ListN.{length}
+use Rattle.octet.specs.Part.{part}
+use Rattle.record.specs.Entry.{entryForm}
 use Rattle.record.proofs.EntryLaws.{form-length}
 use Rattle.wire_read.specs.Answers as R
 use Rattle.wire_read.specs.declared.Incoming as T
@@ -86,12 +90,37 @@ plan-ack-requires c κs = search needs
 cast-plan-lookup : tie.Need-cast-plan-lookup
 cast-plan-lookup c = search needs
 
-plan-lookup-requires : tie.Need-plan-lookup-requires
-plan-lookup-requires c κs =
-    let m = c .before .before .before in
+-- the places of a LOOKUP
+told-lookup : (c : tie.At-match-keys6)
+    → (let m = c .before .before in
+    let x = m .brief-at .result in
+    let d = start m .args .datagram .now in
+    (x .seen .target + 32 ≤ length d) × (8 ≤ x .size) × (x .path + x .size ≤ length d) × (x .seen .entry + x .seen .«entry_length» ≤ length d)
+    × (0 < x .seen .«entry_length» → entryForm (part (x .seen .entry) (x .seen .«entry_length») d) ≡ true))
+told-lookup c =
+    let m = c .before .before in
     let s = start m in
     let d = s .args .datagram .now in
-    (s .pre .0, s .pre .2, by m (KnownLookup d) (known-lookup d) (known-answer d (s .args .major)) (c .before .match .keys6))
+    by m (KnownLookup d) (known-lookup d) (known-answer d (s .args .major)) (c .match .keys6)
+
+add-plan-lookup : tie.Need-add-plan-lookup
+add-plan-lookup c = let p = c .before .before in omega (arith, told-lookup p .2, start (p .before .before) .good)
+
+sub-plan-lookup : tie.Need-sub-plan-lookup
+sub-plan-lookup c = omega (arith, told-lookup (c .before .before .before) .1)
+
+cast-plan-lookup-2 : tie.Need-cast-plan-lookup-2
+cast-plan-lookup-2 c = search needs
+
+cast-plan-lookup-3 : tie.Need-cast-plan-lookup-3
+cast-plan-lookup-3 c = let p = c .before .before .before .before .before in omega (arith, told-lookup p .3, start (p .before .before) .good)
+
+plan-lookup-requires : tie.Need-plan-lookup-requires
+plan-lookup-requires c κs =
+    let p = c .before .before .before .before .before in
+    let s = start (p .before .before) in
+    let t = told-lookup p in
+    (s .pre .0, s .pre .2, s .pre .3, t .0, omega (arith, t .1, t .2), t .3, t .4)
 
 returns-2 : tie.Need-returns-2
 returns-2 c o l =
@@ -129,10 +158,10 @@ returns-6 c o l =
 
 returns-7 : tie.Need-returns-7
 returns-7 c o l =
-    let m = c .before .before .before .before in
+    let m = c .before .before .before .before .before .before .before .before in
     let s = start m in
     c .plan-lookup .ensures
-    ∙ sym (by m (LookupBy (memory-at s o) (lent-at s l) (s .args .held) (s .args .used)) (lookup-by (memory-at s o) (lent-at s l) (s .args .held) (s .args .used)) (c .before .before .match .keys6))
+    ∙ sym (by m (LookupBy (memory-at s o) (lent-at s l) (s .args .held) (s .args .used)) (lookup-by (memory-at s o) (lent-at s l) (s .args .held) (s .args .used)) (c .before .before .before .before .before .before .match .keys6))
 
 returns-8 : tie.Need-returns-8
 returns-8 c o l =
@@ -155,6 +184,10 @@ plan-message-spec =
     plan-authority-requires
     plan-ack-requires
     cast-plan-lookup
+    add-plan-lookup
+    sub-plan-lookup
+    cast-plan-lookup-2
+    cast-plan-lookup-3
     plan-lookup-requires
     returns-2
     returns-3

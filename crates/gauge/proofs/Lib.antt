@@ -2,3 +2,4 @@
 pub mod ReceiveLaws
 pub mod SendLaws
 pub mod CountLaws
+pub mod NearestLaws

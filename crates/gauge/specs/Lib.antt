@@ -2,4 +2,5 @@ pub mod Words
 pub mod Receive
 pub mod Counts
 pub mod Send
+pub mod Nearest
 pub mod Ours

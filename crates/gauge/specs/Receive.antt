@@ -6,10 +6,10 @@ use lib.ListN.{length, getD}
 use Rattle.octet.specs.Part.{part}
 use Rattle.key.specs.Number.{keyAt}
 use Rattle.record.specs.Entry.{recordOf}
-use Rattle.own.specs.Own.{ownRecords, ownKeys}
+use Rattle.own.specs.Own.{ownKeys}
 use Rattle.table.specs.Rows.{rows, bytesOf}
 use Rattle.cache.specs.Bytes.{afterLearn, afterRemove}
-use Rattle.neighbours.specs.Closest.{candidates, closestOf}
+use Rattle.neighbours.specs.Closest.{closestPast}
 use Rattle.waiting.specs.Place.{placeKey, placeRecord, inquiryPlace}
 use Rattle.waiting.specs.Form.{isInquiry}
 use Rattle.table.specs.Seek.{seek}
@@ -53,10 +53,13 @@ carried m l (Free held used at n) =
 carried m l (Certify acked) =
     let ds = cpaMade (l .major) (l .minor) (l .id) acked (l .cpa) .bytes ∷ [] in
     handed (lengths ds) m (sending ds (l .output))
-carried m l (Show held acked target) =
-    let r = closestOf (keyAt target (l .datagram)) (candidates (ownRecords (l .own)) (rows 100 held (m .cache))) in
-    let ds = closestMade (l .major) (l .minor) (l .id) acked r 0 .bytes ∷ [] in
-    handed (lengths ds) m (sending ds (l .output))
+carried m l (Show held used acked target path size opens start len) =
+    let r = closestPast (l .own) (rows 100 held (m .cache)) (part path size (l .datagram)) (keyAt target (l .datagram)) in
+    let e = recordOf (part start len (l .datagram)) in
+    let ds = closestMade (l .major) (l .minor) (l .id) acked r 0 .bytes ∷ inquireWritten (l .major) (l .minor) (l .id) opens (l .nonce) e in
+    handed (lengths ds)
+    (withWaiting (cond opens (bytesOf 2240 (opened (inquiryPlace (idAfter (l .id)) e) (rows 140 used (m .waiting)))) (m .waiting)) m)
+    (sending ds (l .output))
 
 -- the whole call
 unfoldable pub receiveCall : Memory → Receive → Handed

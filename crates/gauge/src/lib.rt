@@ -5,7 +5,9 @@ ghost use Rattle.look.specs.Seen.{lookOf};
 ghost use Rattle.gauge_plan.specs.Lent.{Memory, memory, withCache, withWaiting, withTables, receive, send, tick, listing, receives, sends, ticks, lists};
 ghost use Rattle.gauge_commit.specs.Sending.{handed};
 ghost use Rattle.gauge.specs.Ours.{ours};
+ghost use Rattle.gauge.specs.Nearest.{gaugeClosest};
 use gauge_plan::Plan;
+use neighbours::Nearest;
 use plan_send::SendPlan;
 
 // A datagram received: everything is planned before a byte is written.
@@ -102,22 +104,34 @@ pub extern "C" fn gauge_receive(
         Plan::Certify(acked) => commit_answer::commit_cpa(major, minor, id, acked, cpa, output),
         Plan::Show {
             held,
+            used,
             acked,
             target,
-        } => {
-            commit_answer::commit_show(
-                own,
-                &cache[..],
-                held,
-                major,
-                minor,
-                id,
-                acked,
-                datagram,
-                target,
-                output,
-            )
-        }
+            path,
+            size,
+            opens,
+            start,
+            len,
+        } => commit_answer::commit_show(
+            own,
+            &cache[..],
+            held,
+            waiting,
+            used,
+            major,
+            minor,
+            id,
+            nonce,
+            acked,
+            datagram,
+            target,
+            path,
+            size,
+            opens,
+            start,
+            len,
+            output,
+        ),
     }
 }
 
@@ -188,6 +202,24 @@ pub extern "C" fn gauge_neighbours(
 {
     let done = neighbours::neighbour_list(own, cache, output);
     gauge_commit::answer_of(done.number, done.below, done.above)
+}
+
+// The record closest to a target, those held that are on the path skipped: 0 for our own, 4 more than its place for one of
+// the cache. The path is endpoints as on the wire.
+#[no_mangle]
+pub extern "C" fn gauge_closest(
+    own: &[u8],
+    cache: &[u8],
+    path: &[u8],
+    target: &[u8],
+) -> gauge_commit::Answer
+    ensures { λ r. ⌜ r ≡ gaugeClosest (now (own .entry)) (now (cache .entry)) (now (path .entry)) (now (target .entry)) ⌝ }
+{
+    match neighbours::closest_record(own, cache, path, target) {
+        Nearest::Refused(number) => gauge_commit::answer_of(number, 0, 0),
+        Nearest::Own => gauge_commit::answer_of(0, 0, 0),
+        Nearest::Held(i) => gauge_commit::answer_of(0, 4 + i, 0),
+    }
 }
 
 // A datagram read without acting on it: the numbers of its message, and where the fields stand that must be judged or

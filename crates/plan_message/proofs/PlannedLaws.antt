@@ -229,7 +229,13 @@ module _ (m : Memory) (l : Receive) (h u : ℕ) (ready : memory.Ready (l .own) m
       or-known (λ (p : Plan). K p → Known m l p) Refuse (lookupRefusals ps u (l .id) room opens r) (Show h u a target path size opens start len)
       (λ i k. tt)
       (λ f k. record {
-        ready = ready; hands = hands; within = within; path-within = path-within; entry-within = entry-within; entry = entry; plans = k;
+        ready = ready;
+        hands = hands;
+        within = within;
+        path-within = path-within;
+        entry-within = entry-within;
+        entry = entry;
+        plans = k;
       })
       (answering.known-lookup (l .own) recs ps h u (l .id) room (l .datagram) a target path size start len)
 

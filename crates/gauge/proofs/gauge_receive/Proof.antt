@@ -123,7 +123,7 @@ enum-known-plan-7 c = search needs
 
 commit-show-requires : tie.Need-commit-show-requires
 commit-show-requires c κs =
-    let k = c .before .before .before in
+    let k = c .before .before .before .before in
     let m = k .before .before in
     show-needs (memory-at m) (lent-at m) (planned m (k .plan7 .given .1))
 
@@ -240,10 +240,11 @@ same-length-21 c = search needs
 returns-8 : tie.Need-returns-8
 unfolding carried
 returns-8 c =
-    let d = c .before .before in
-    let k = c .before .before .before .before .before .before in
+    let d = c .before .before .before .before in
+    let w = d .commit-show .ensures in
+    let k = d .before .before .before .before .before in
     let m = k .before .before in
-    rw (d .commit-show .ensures .0, d .commit-show .ensures .1) (sym (call-by (memory-at m) (lent-at m) (planned m (k .plan7 .given .1))))
+    rw (w .0, w .1 .0, w .1 .1) (sym (call-by (memory-at m) (lent-at m) (planned m (k .plan7 .given .1))))
 
 pub gauge-receive-spec : {M : Type 1} → statement M
 gauge-receive-spec =

@@ -1,0 +1,36 @@
+-- Helps the code. The closest record as the radio program is told of it: which one it is, and no copy. Tied to what is believed of it by `nearest-shows` and
+-- `closest-fixed` (neighbours/CallLaws). Assumes nothing.
+use Prim.Native.Nat.{ℕ, _+_}
+use mathlib.Core.List.{List}
+use Rattle.octet.specs.Part.{same}
+use Rattle.key.specs.Number.{keyAt}
+use Rattle.refusal.specs.Table.{orRefuse}
+use Rattle.table.specs.Seek.{seek}
+use Rattle.table.specs.declared.Found.{Found}
+use Rattle.table.specs.declared.Found.the-variants.{At, Nothing}
+use Rattle.cache.specs.Calls.{heldBy}
+use Rattle.neighbours.specs.Closest.{closestPast}
+use Rattle.neighbours.specs.Calls.{closestWrong}
+use Rattle.neighbours.specs.declared.nearest.Nearest.{Nearest}
+use Rattle.neighbours.specs.declared.nearest.Nearest.the-variants.{Refused, Own, Held}
+use Rattle.gauge_commit.specs.declared.Answer.{Answer}
+use Rattle.gauge_commit.specs.Sending.{answer}
+
+-- the place of the cache whose record it is, or our own where it is none of them
+abbrev pub standing : Found → Nearest
+standing (At j) = Held j
+standing Nothing = Own
+
+unfoldable pub nearestCall : (own cache path target : List ℕ) → Nearest
+nearestCall own cache path target =
+    let r = closestPast own (heldBy own cache) path (keyAt 0 target) in
+    orRefuse Refused (closestWrong own cache path target) (standing (seek (λ (q : List ℕ). same q r) 0 (heldBy own cache)))
+
+-- 0 for our own record, 4 more than its place for one of the cache
+abbrev pub closestAnswered : Nearest → Answer
+closestAnswered (Refused n) = answer n 0 0
+closestAnswered Own = answer 0 0 0
+closestAnswered (Held j) = answer 0 (4 + j) 0
+
+abbrev pub gaugeClosest : (own cache path target : List ℕ) → Answer
+gaugeClosest own cache path target = closestAnswered (nearestCall own cache path target)

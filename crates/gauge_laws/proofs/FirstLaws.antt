@@ -17,7 +17,6 @@ use Rattle.key.specs.Number.{keyAt}
 use Rattle.record.specs.Record.{keyOf, countOf, recordForm}
 use Rattle.record.specs.Entry.{recordOf}
 use Rattle.record.proofs.EntryLaws.{form-length}
-use Rattle.own.specs.Own.{ownRecords}
 use Rattle.refusal.proofs.CallLaws.{or-known}
 use Rattle.table.specs.Rows.{rows, joined}
 use Rattle.table.proofs.RowLaws.{joined-append, rows-length}
@@ -27,7 +26,7 @@ use Rattle.cache.specs.Form.{keysOf}
 use Rattle.neighbours.specs.Listing.{countsOf, keyBytes, afterList}
 use Rattle.neighbours.specs.Calls.{Written, listWritten, listWrong, listCall}
 use Rattle.cache.specs.Calls.{heldBy}
-use Rattle.neighbours.specs.Closest.{candidates, closestOf}
+use Rattle.neighbours.specs.Closest.{offPath, closestPast}
 use Rattle.neighbours.proofs.ListLaws.{keys-length}
 use Rattle.waiting.specs.Form.{usedOf, placesOf}
 use Rattle.waiting.specs.Tick.{idBytes}
@@ -45,9 +44,10 @@ use Rattle.plan_send.specs.declared.SendPlan.{SendPlan}
 use Rattle.plan_send.specs.declared.SendPlan.the-variants as S
 use Rattle.gauge_commit.specs.Sending.{answer, lengths, sending, Handed, handed, OnlyFirst}
 use Rattle.gauge_commit.specs.Replies.{ackWritten, inquireWritten}
-use Rattle.gauge_commit.proofs.LengthLaws.{inquire-length, cpa-length, closest-length, flood-length}
-use Rattle.gauge_commit.proofs.SentLaws.{joined-one, asked, acks-room, record-long}
+use Rattle.gauge_commit.proofs.LengthLaws.{inquire-length, cpa-length, flood-length}
+use Rattle.gauge_commit.proofs.SentLaws.{joined-one, asked, acks-room, record-long, shown-closest}
 use Rattle.neighbours.proofs.ClosestLaws.{closest-formed}
+use Rattle.neighbours.proofs.SkipLaws.{off-held}
 use Rattle.gauge_plan.specs.Lent.{Memory, Receive, Send, Tick, Call, receives, sends, ticks, lists, outputOf}
 use Rattle.gauge.specs.Words.{returned}
 use Rattle.gauge.specs.Ours.{ours}
@@ -55,7 +55,7 @@ use Rattle.plan_message.specs.Planned.{receivePlan}
 use Rattle.gauge.specs.Receive.{carried, receiveCall}
 use Rattle.gauge.specs.Send.{sendPlan, sendCarried, sendCall}
 use Rattle.gauge.specs.Counts.{tickAnswered, tickTable, gaugeTick, gaugeList}
-use Rattle.plan_message.proofs.PlannedLaws.{Known, known}
+use Rattle.plan_message.proofs.PlannedLaws.{Known, known, shown-entry}
 use Rattle.gauge.proofs.SendLaws.{KnownSend, send-known}
 
 -- ---- bytes at its start
@@ -125,7 +125,7 @@ one-room d e h = omega (arith, ap length (joined-one d))
 pub whole-record : (r : List ℕ) → recordForm r ≡ true → part 0 100 r ≡ r
 whole-record r formed = let long = form-length r formed in take-all 100 r (omega arith)
 
--- of a record in form, the AUTHORITY that shows it, and the FLOOD that sends it
+-- of a record in form, the FLOOD that sends it
 module _ (major minor id : ℕ) (r : List ℕ) (formed : recordForm r ≡ true) where
   long : 0 + 100 ≤ length r
   long = omega (arith, form-length r formed)
@@ -133,16 +133,23 @@ module _ (major minor id : ℕ) (r : List ℕ) (formed : recordForm r ≡ true) 
   formed-part : recordForm (part 0 100 r) ≡ true
   formed-part = ap recordForm (whole-record r formed) ∙ formed
 
-  shown-room : (acked : ℕ) {room : ℕ} → 80 + 16 * countOf r ≤ room → length (joined (closestMade major minor id acked r 0 .bytes ∷ [])) ≤ room
-  shown-room acked h =
-      one-room (closestMade major minor id acked r 0 .bytes)
-      (closest-length major minor id r 0 long formed-part acked ∙ ap (λ (l : List ℕ). 80 + 16 * countOf l) (whole-record r formed)) h
-
   flood-room : (key : List ℕ) {room : ℕ} → length key ≡ 32 → floodRoom r ≤ room
       → length (joined (floodMade major minor id key r 0 .bytes ∷ [])) ≤ room
   flood-room key keyed h =
       one-room (floodMade major minor id key r 0 .bytes)
       (flood-length major minor id r 0 long formed-part key keyed ∙ ap floodRoom (whole-record r formed)) h
+
+-- the INQUIRE behind an AUTHORITY
+asked-size : (major minor id : ℕ) (nonce r : List ℕ) (opens : Bool) → (opens ≡ true → length r ≡ 100) → length nonce ≡ 16 → (b : Bool) → opens ≡ b
+    → (length (inquireWritten major minor id b nonce r) ≤ 1) × (length (joined (inquireWritten major minor id b nonce r)) ≤ inquireRoom b)
+unfolding joined
+asked-size major minor id nonce r opens long fresh true o =
+    (asks-few major minor id 0 true nonce r (long o) fresh true, omega (arith, asks-room major minor id 0 true nonce r (long o) fresh true))
+asked-size major minor id nonce r opens long fresh false o = (omega arith, omega arith)
+
+first-joined : (d : List ℕ) (ds : List (List ℕ)) → length (joined (d ∷ ds)) ≡ length d + length (joined ds)
+unfolding joined
+first-joined d ds = length-append d (joined ds)
 
 plan-first : (m : Memory) (l : Receive) (p : Plan) → Known m l p
     → OnlyFirst (carried m l p .answer .first + carried m l p .answer .second) (l .output) (carried m l p .output)
@@ -163,12 +170,20 @@ plan-first m l (Free h u at n) k = none-first (l .output)
 plan-first m l (Certify a) k =
     let d = cpaMade (l .major) (l .minor) (l .id) a (l .cpa) .bytes in
     sent-first (d ∷ []) (l .output) (omega arith) (one-room d (cpa-length (l .major) (l .minor) (l .id) a (l .cpa)) (k .plans .fits-in))
-plan-first m l (Show h a target) k =
-    let r = closestOf (keyAt target (l .datagram)) (candidates (ownRecords (l .own)) (rows 100 h (m .cache))) in
-    sent-first (closestMade (l .major) (l .minor) (l .id) a r 0 .bytes ∷ []) (l .output) (omega arith)
-    (shown-room (l .major) (l .minor) (l .id) r
-    (closest-formed (keyAt target (l .datagram)) (keyOf (l .own)) (l .own) (rows 100 h (m .cache)) (k .ready .owned) (k .ready .form .held))
-    a (k .plans .fits-in))
+plan-first m l (Show h u a target path size opens start len) k =
+    let recs = offPath (part path size (l .datagram)) (rows 100 h (m .cache)) in
+    let r = closestPast (l .own) (rows 100 h (m .cache)) (part path size (l .datagram)) (keyAt target (l .datagram)) in
+    let e = recordOf (part start len (l .datagram)) in
+    let d = closestMade (l .major) (l .minor) (l .id) a r 0 .bytes in
+    let formed = closest-formed (keyAt target (l .datagram)) (keyOf (l .own)) (l .own) recs (k .ready .owned)
+    (off-held (part path size (l .datagram)) (keyOf (l .own)) (rows 100 h (m .cache)) (k .ready .form .held)) in
+    let sent : (b : Bool) → opens ≡ b → (length (inquireWritten (l .major) (l .minor) (l .id) b (l .nonce) e) ≤ 1)
+    × (length (joined (inquireWritten (l .major) (l .minor) (l .id) b (l .nonce) e)) ≤ inquireRoom b) =
+    asked-size (l .major) (l .minor) (l .id) (l .nonce) e opens (λ o. record-long (part start len (l .datagram)) (shown-entry m l k o)) (k .hands .nonced) in
+    let asks = sent opens refl in
+    sent-first (d ∷ inquireWritten (l .major) (l .minor) (l .id) opens (l .nonce) e) (l .output) (omega (arith, asks .0))
+    (omega (arith, asks .1, k .plans .fits-in, shown-closest (l .major) (l .minor) (l .id) a r formed,
+    first-joined d (inquireWritten (l .major) (l .minor) (l .id) opens (l .nonce) e)))
 
 -- ---- a FLOOD sent
 

@@ -49,7 +49,7 @@ receive-by m l (Revoke h u s n a) = refl
 receive-by m l (Learn h u at) = refl
 receive-by m l (Free h u at n) = refl
 receive-by m l (Certify a) = refl
-receive-by m l (Show h a target) = refl
+receive-by m l (Show h u a t p z o at size) = refl
 
 pub receive-rest : (m : Memory) (l : Receive)
     → receiveCall m l .memory ≡ withTables (receiveCall m l .memory .cache) (receiveCall m l .memory .waiting) m
@@ -105,7 +105,7 @@ module _ (m : Memory) (l : Receive) where
       removed-true (keyOf (l .own)) (m .cache) (rows 100 h (m .cache)) (k .ready .form) (placeKey (getD (rows 140 u (m .waiting)) at []))
   plan-cache f (Free h u at false) e k = f
   plan-cache f (Certify a) e k = f
-  plan-cache f (Show h a target) e k = f
+  plan-cache f (Show h u a t p z o at size) e k = f
 
   receive-cache : receiveCall m l .answer .number ≡ 0 → cacheForm (keyOf (l .own)) (receiveCall m l .memory .cache) ≡ true
   unfolding receiveCall

@@ -13,7 +13,7 @@ use borrow.Author.Tests.{ne-eqb, eqb-false, not-false}
 use Rattle.octet.specs.Part.{part}
 use Rattle.key.specs.Number.{keyAt}
 use Rattle.record.specs.Record.{keyOf}
-use Rattle.record.specs.Entry.{recordOf}
+use Rattle.record.specs.Entry.{entryForm, recordOf}
 use Rattle.record.proofs.EntryLaws.{form-length, record-form}
 use Rattle.refusal.proofs.CallLaws.{all-pass}
 use Rattle.table.specs.Rows.{rows, bytesOf, anyOf}
@@ -29,6 +29,7 @@ use Rattle.table.specs.declared.Found.the-variants.{At, Nothing}
 use Rattle.waiting.proofs.NewLaws.{new-id, new-kind}
 use Rattle.waiting.proofs.FormLaws.{form-of, form-unique}
 use Rattle.waiting.proofs.KeptLaws.{free-kept, open-inquiry, open-flood}
+use Rattle.asking.specs.Asking.{mustAsk}
 use Rattle.asking.specs.Ids.{idAfter}
 use Rattle.plan_send.specs.Send.{sendDone, sendingPlan}
 use Rattle.gauge_plan.specs.declared.Plan.{Plan}
@@ -36,7 +37,7 @@ use Rattle.gauge_plan.specs.declared.Plan.the-variants.{Refuse, Flood, Revoke, 
 use Rattle.plan_send.specs.declared.SendPlan.{SendPlan}
 use Rattle.plan_send.specs.declared.SendPlan.the-variants as S
 use Rattle.gauge_plan.proofs.MemoryLaws.{Ready, ready}
-use Rattle.asking.proofs.AskingLaws.{ask-tells}
+use Rattle.asking.proofs.AskingLaws.{ask-tells, asks-tells}
 use Rattle.gauge_commit.specs.Replies.{freedAt}
 use Rattle.gauge_plan.specs.Lent.{Memory, Receive, Send, Call, receives, sends, ticks, lists}
 use Rattle.gauge_commit.specs.Sending.{Handed}
@@ -44,7 +45,7 @@ use Rattle.plan_message.specs.Planned.{receivePlan}
 use Rattle.gauge.specs.Receive.{carried, receiveCall}
 use Rattle.gauge.specs.Send.{sendPlan, sendCarried, sendCall}
 use Rattle.gauge.specs.Ours.{ours}
-use Rattle.plan_message.proofs.PlannedLaws.{Known, Flooded, known}
+use Rattle.plan_message.proofs.PlannedLaws.{Known, known, shown-entry}
 use Rattle.gauge.proofs.SendLaws.{KnownSend, send-known-by, send-by}
 use Rattle.gauge_laws.specs.Table.{tableOf}
 use Rattle.gauge_laws.proofs.TableLaws.{none-applies}
@@ -99,29 +100,30 @@ module _ (own : List ℕ) (m : Memory) {h u : ℕ} (ready : Ready own m h u) whe
 abbrev ReceiveLeft : Memory → Receive → List ℕ → Type 0
 ReceiveLeft m l t = Left (Opens (receives l)) (keyOf (l .own)) (m .waiting) t
 
--- a FLOOD with a route entry
-module _ (m : Memory) (l : Receive) (u : ℕ) (s n : Bool) (a : ℕ) (start len : ℕ) (k : Flooded m l u s n a true start len) where
-  flood-opens : ReceiveLeft m l
+-- the record of a route entry is inquired about
+module _ (m : Memory) (l : Receive) {h u : ℕ} (fit : Ready (l .own) m h u) (start len : ℕ) (entry : entryForm (part start len (l .datagram)) ≡ true)
+    (free : u ≡ 16 → ⊥) (new : anyOf (hasId (idAfter (l .id))) (rows 140 u (m .waiting)) ≡ false)
+    (other : keyOf (recordOf (part start len (l .datagram))) ≡ keyOf (l .own) → ⊥)
+    (asks : mustAsk (rows 100 h (m .cache)) (rows 140 u (m .waiting)) (recordOf (part start len (l .datagram))) ≡ true) where
+  entry-opens : ReceiveLeft m l
       (bytesOf 2240 (opened (inquiryPlace (idAfter (l .id)) (recordOf (part start len (l .datagram)))) (rows 140 u (m .waiting))))
-  flood-opens =
+  entry-opens =
       let t = m .waiting in
       let own = keyOf (l .own) in
       let r = recordOf (part start len (l .datagram)) in
       let p = inquiryPlace (idAfter (l .id)) r in
-      let is = ready-places (l .own) m (k .ready) in
-      let f : PlacesForm own t (rows 140 u t) = subst (PlacesForm own t) is (ready-form (l .own) m (k .ready)) in
-      let formed = record-form (part start len (l .datagram)) (k .entry) in
+      let is = ready-places (l .own) m fit in
+      let f : PlacesForm own t (rows 140 u t) = subst (PlacesForm own t) is (ready-form (l .own) m fit) in
+      let formed = record-form (part start len (l .datagram)) entry in
       let long = form-length r formed in
-      let few = k .ready .few in
-      let free = k .plans .free refl in
-      let new = k .plans .new refl in
+      let few = fit .few in
       let small : idAfter (l .id) < 2 ^ 32 = mod-lt _ (omega arith) in
-      let only = ask-tells _ _ r (sym (k .plans .opens-is)) .1 in
-      let g = open-inquiry own t (rows 140 u t) f (idAfter (l .id)) r (omega (arith, rows-length 140 u t)) small long formed
-      (ne-eqb (keyOf r) own (k .plans .other)) new only in
+      let only = ask-tells _ _ r asks .1 in
+      let g = open-inquiry own t (rows 140 u t) f (idAfter (l .id)) r (omega (arith, rows-length 140 u t, free)) small long formed
+      (ne-eqb (keyOf r) own other) new only in
       let id-is : idOf p ≡ idAfter (l .id) = new-id (idAfter (l .id)) 2 2 (part 0 32 r) r (length-take-le 32 r (omega arith)) long small in
       record {
-        entered = ready-form (l .own) m (k .ready);
+        entered = ready-form (l .own) m fit;
         places = opened p (rows 140 u t);
         form = g;
         moved = opens p (new-kind (idAfter (l .id)) 2 2 (part 0 32 r) r (length-take-le 32 r (omega arith)) long)
@@ -151,13 +153,18 @@ module _ (m : Memory) (l : Receive) where
   plan-left : {h u : ℕ} → Ready (l .own) m h u → (p : Plan) → Known m l p → ReceiveLeft m l (carried m l p .memory .waiting)
   unfolding carried
   plan-left r (Refuse n) k = same-left r
-  plan-left r (Flood u s n a true start len) k = flood-opens m l u s n a start len k
+  plan-left r (Flood u s n a true start len) k =
+      entry-opens m l (k .ready) start len (k .entry) (k .plans .free refl) (k .plans .new refl) (k .plans .other) (sym (k .plans .opens-is))
   plan-left r (Flood u s n a false start len) k = same-left r
   plan-left r (Revoke h u s n a) k = found-left (k .ready) (seek (isInquiry (keyAt 0 (l .key))) 0 (rows 140 u (m .waiting)))
   plan-left r (Learn h u at) k = found-left (k .ready) (At at)
   plan-left r (Free h u at n) k = found-left (k .ready) (At at)
   plan-left r (Certify a) k = same-left r
-  plan-left r (Show h a target) k = same-left r
+  plan-left r (Show h u a target path size true start len) k =
+      let v = part start len (l .datagram) in
+      let told = asks-tells (keyOf (l .own)) (rows 100 h (m .cache)) (rows 140 u (m .waiting)) v (sym (k .plans .opens-is)) in
+      entry-opens m l (k .ready) start len (shown-entry m l k refl) (k .plans .free refl) (k .plans .new refl) (told .1) (told .2)
+  plan-left r (Show h u a target path size false start len) k = same-left r
 
   pub receive-left : receiveCall m l .answer .number ≡ 0 → ReceiveLeft m l (receiveCall m l .memory .waiting)
   unfolding receiveCall

@@ -32,7 +32,7 @@ receive-by m l (Revoke held u s n a) h = absurd (omega arith)
 receive-by m l (Learn held u at) h = absurd (omega arith)
 receive-by m l (Free held u at n) h = absurd (omega arith)
 receive-by m l (Certify a) h = absurd (omega arith)
-receive-by m l (Show held a target) h = absurd (omega arith)
+receive-by m l (Show held u a t p z o at size) h = absurd (omega arith)
 
 pub receive-refused : (m : Memory) (l : Receive) → 0 < receiveCall m l .answer .number
     → receiveCall m l ≡ handed (answer (receiveCall m l .answer .number) 0 0) m (l .output)

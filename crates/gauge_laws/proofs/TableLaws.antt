@@ -95,7 +95,7 @@ numberOf (Revoke h u s n a) = 0
 numberOf (Learn h u at) = 0
 numberOf (Free h u at n) = 0
 numberOf (Certify a) = 0
-numberOf (Show h a at) = 0
+numberOf (Show h u a t p z o at size) = 0
 
 abbrev sendNumber : SendPlan → ℕ
 sendNumber (S.Refuse n) = n
@@ -109,7 +109,7 @@ carried-number m l (Revoke h u s n a) = refl
 carried-number m l (Learn h u at) = refl
 carried-number m l (Free h u at n) = refl
 carried-number m l (Certify a) = refl
-carried-number m l (Show h a at) = refl
+carried-number m l (Show h u a t p z o at size) = refl
 
 by-table : (rs : List Refusal) (done : Plan) → numberOf done ≡ 0 → numberOf (orRefuse Refuse rs done) ≡ firstOf rs
 by-table rs done e = number-is numberOf Refuse (λ n. refl) done e rs

@@ -141,6 +141,14 @@ pub record Shown (m : Memory) (l : Receive) (h u a target path size : ℕ) (open
   pub plans : answering.Showing (l .own) (rows 100 h (m .cache)) (rows 140 u (m .waiting)) h u (l .id) (length (l .output)) (l .datagram) a target path size
       start len h u a target path size opens start len
 
+-- an entry that is inquired about is there
+pub shown-entry : (m : Memory) (l : Receive) {h u a target path size : ℕ} {opens : Bool} {start len : ℕ} → Shown m l h u a target path size opens start len
+    → opens ≡ true → entryForm (part start len (l .datagram)) ≡ true
+shown-entry m l {h} {u} {a} {target} {path} {size} {opens} {start} {len} k o =
+    let v = part start len (l .datagram) in
+    let there = asks-tells (keyOf (l .own)) (rows 100 h (m .cache)) (rows 140 u (m .waiting)) v (sym (k .plans .opens-is) ∙ o) .0 in
+    k .entry (omega (arith, there, length-part start len (l .datagram) (k .entry-within)))
+
 abbrev pub Known : Memory → Receive → Plan → Type 0
 Known m l (Refuse n) = Unit {0}
 Known m l (Flood u s n a opens start len) = Flooded m l u s n a opens start len
@@ -349,18 +357,14 @@ module _ (m : Memory) (l : Receive) where
       × (80 + 16 * countOf (closestPast (l .own) (rows 100 h (m .cache)) (part path size (l .datagram)) (keyAt target (l .datagram))) + inquireRoom opens
       ≤ length (l .output)))
   show-needs {h} {u} {a} {target} {path} {size} {opens} {start} {len} e =
-      let k : Shown m l h u a target path size opens start len = known-by e in
-      let v = part start len (l .datagram) in
-      let some : opens ≡ true → 0 < len =
-      λ o. (let t = asks-tells (keyOf (l .own)) (rows 100 h (m .cache)) (rows 140 u (m .waiting)) v (sym (k .plans .opens-is) ∙ o) .0 in
-      omega (arith, t, length-part start len (l .datagram) (k .entry-within))) in (
+      let k : Shown m l h u a target path size opens start len = known-by e in (
         (
           λ o. (let few = k .ready .few in let free = k .plans .free o in omega arith),
           k .ready .size,
           k .ready .laid,
           k .hands .nonced,
           k .entry-within,
-          λ o. k .entry (some o),
+          shown-entry m l k,
         ),
         (k .ready .owned, k .ready .form, k .within, k .path-within, k .plans .fits-in),
       )

@@ -182,8 +182,13 @@ plan-first m l (Show h u a target path size opens start len) k =
     asked-size (l .major) (l .minor) (l .id) (l .nonce) e opens (λ o. record-long (part start len (l .datagram)) (shown-entry m l k o)) (k .hands .nonced) in
     let asks = sent opens refl in
     sent-first (d ∷ inquireWritten (l .major) (l .minor) (l .id) opens (l .nonce) e) (l .output) (omega (arith, asks .0))
-    (omega (arith, asks .1, k .plans .fits-in, shown-closest (l .major) (l .minor) (l .id) a r formed,
-    first-joined d (inquireWritten (l .major) (l .minor) (l .id) opens (l .nonce) e)))
+    (omega (
+      arith,
+      asks .1,
+      k .plans .fits-in,
+      shown-closest (l .major) (l .minor) (l .id) a r formed,
+      first-joined d (inquireWritten (l .major) (l .minor) (l .id) opens (l .nonce) e),
+    ))
 
 -- ---- a FLOOD sent
 

@@ -1,7 +1,8 @@
 -- Each datagram that a call sends reads back as the message meant. In this order: bytes of records; each message; what answers a datagram; a
 -- FLOOD sent. Assumes nothing.
 use mathlib.Core.Path.{_≡_, refl, sym, ap, subst, _∙_}
-use mathlib.Core.Logic.{inl, inr}
+use mathlib.Core.Logic.{_↔_, inl, inr}
+use mathlib.Core.Option as O
 use mathlib.Core.Bool.{Bool, true, false, cond}
 use mathlib.Core.List.{List, [], _∷_, _++_}
 use Prim.Native.Nat.{ℕ, zero, suc, _+_, _-_, _*_, _≤_, _<_}
@@ -37,7 +38,7 @@ use Rattle.sentences.specs.Heard.{Heard, entry, revoke, inquire, authori
 use Rattle.sentences.specs.Sentences as S
 use Rattle.sentences.specs.Numbers as Num
 use Rattle.sentences.specs.Back.{ReadsBack, Bytewise, BytewiseSend, SentReads, FloodReads}
-use Rattle.sentences.proofs.HeardLaws.{entry-heard}
+use Rattle.sentences.proofs.HeardLaws.{EntryHeard, entry-heard, lookup-entry-heard}
 
 -- ---- bytes of records
 
@@ -161,27 +162,40 @@ module _ (m : Memory) (l : Receive) (w : Bytewise m l) (ok : ReceiveLent m l) wh
   asks-back false r long b = tt
 
   -- our own record or one held
-  candidate-fine : (r : List ℕ) → S.Candidate m l r → (recordForm r ≡ true) × Bytes r
-  candidate-fine r (inl e) = rw e (ok .own, w .own)
-  candidate-fine r (inr i) =
-      (held-formed (keyOf (l .own)) (m .cache) r (ok .cache) i, held-bytes (keyOf (l .own)) (m .cache) r (w .cache) i)
+  candidate-fine : (path r : List ℕ) → S.Candidate m l path r → (recordForm r ≡ true) × Bytes r
+  candidate-fine path r (inl e) = rw e (ok .own, w .own)
+  candidate-fine path r (inr i) =
+      (held-formed (keyOf (l .own)) (m .cache) r (ok .cache) (i .0), held-bytes (keyOf (l .own)) (m .cache) r (w .cache) (i .0))
 
-  reply-back : (x : Heard) → Num.Says l x → (ds : List (List ℕ)) → S.Reply m l x ds → Every ReadsBack ds
-  reply-back (entry id silent validate r) h ds s =
-      let e = entry-heard (l .datagram) (w .datagram) (l .major) id silent validate r h in
+  -- the INQUIRE for the record of a route entry
+  heard-back : (ask : Bool) (r : List ℕ) → EntryHeard (l .datagram) r → Every ReadsBack (S.asks l ask r)
+  heard-back ask r e =
       let long = form-length r (ap recordForm (e .is) ∙ record-form (part (e .start) (e .len) (l .datagram)) (e .formed)) in
       let b : Bytes r = subst Bytes (sym (e .is))
       (record-bytes (part (e .start) (e .len) (l .datagram)) (part-digits 256 (e .start) (e .len) (l .datagram) (omega arith) (w .datagram))) in
+      asks-back ask r long b
+
+  -- none for no entry
+  lookup-back : (id t : ℕ) (path : List ℕ) (o : O.Option (List ℕ)) → Num.Says l (lookup id t path o) → (ask : Bool)
+      → ((ask ≡ true) ↔ S.EntryAsks (keyOf (l .own)) m o) → Every ReadsBack (S.asks l ask (S.entryRecord o))
+  lookup-back id t path O.none h true a = absurd (a .0 refl)
+  lookup-back id t path O.none h false a = tt
+  lookup-back id t path (O.some r) h ask a = heard-back ask r (lookup-entry-heard (l .datagram) (w .datagram) (l .major) id t path r h)
+
+  reply-back : (x : Heard) → Num.Says l x → (ds : List (List ℕ)) → S.Reply m l x ds → Every ReadsBack ds
+  reply-back (entry id silent validate r) h ds s =
       subst (Every ReadsBack) (sym (s .are))
-      (both-back (S.acks l id silent (s .n)) (S.asks l (s .ask) r) (acks-back id silent (s .n)) (asks-back (s .ask) r long b))
+      (both-back (S.acks l id silent (s .n)) (S.asks l (s .ask) r) (acks-back id silent (s .n))
+      (heard-back (s .ask) r (entry-heard (l .datagram) (w .datagram) (l .major) id silent validate r h)))
   reply-back (revoke id silent validate) h ds s = subst (Every ReadsBack) (sym (s .are)) (acks-back id silent (s .n))
   reply-back (inquire id validate) h ds s =
       subst (Every ReadsBack) (sym s) (cpa-back (l .major) (l .minor) (l .id) (w .numbers) id (l .cpa) (ok .cpa-most) (w .cpa), tt)
   reply-back (authority acked cpa) h ds s = subst (Every ReadsBack) (sym s) tt
   reply-back (ack acked n) h ds s = subst (Every ReadsBack) (sym s) tt
-  reply-back (lookup id target) h ds s =
-      let f = candidate-fine (s .r) (s .closest .candidate) in
-      subst (Every ReadsBack) (sym (s .are)) (closest-back (l .major) (l .minor) (l .id) (w .numbers) id (s .r) (f .0) (f .1), tt)
+  reply-back (lookup id target path e) h ds s =
+      let f = candidate-fine path (s .r) (s .closest .candidate) in
+      subst (Every ReadsBack) (sym (s .are))
+      (closest-back (l .major) (l .minor) (l .id) (w .numbers) id (s .r) (f .0) (f .1), lookup-back id target path e h (s .ask) (s .asked))
   reply-back other h ds s = absurd s
 
 pub sent-reads : SentReads

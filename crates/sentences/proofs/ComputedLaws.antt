@@ -13,7 +13,8 @@ use Rattle.kept.specs.Records.{putBy, withoutBy, learnBy}
 use Rattle.table.specs.Rows.{rows, joined, bytesOf, anyOf}
 use Rattle.cache.specs.Form.{follows, leading, heldIn, heldOf, cacheForm}
 use Rattle.neighbours.specs.Listing.{keyBytes}
-use Rattle.neighbours.specs.Closest.{closestFrom, closestOf}
+use Rattle.path.specs.Path.{standsIn, onPath}
+use Rattle.neighbours.specs.Closest.{offPath, closestFrom, closestOf}
 use Rattle.neighbours.specs.Calls.{listCall}
 use Rattle.waiting.specs.Place.{newPlace}
 use Rattle.waiting.specs.Form.{placeForm, placesForm, usedIn, usedOf, waitingForm}
@@ -30,7 +31,7 @@ use Rattle.wire_buffer.specs.Buffer.{flagAt}
 use Rattle.wire_read.specs.Answers.{headOf, precisionAt, incomingOf}
 use Rattle.wire_write.specs.Making.{ackMade, floodMade, inquireMade, cpaMade, closestMade}
 use Rattle.gauge_plan.specs.Memory.{tablesFit, memoryOf, handsFit, tickFit}
-use Rattle.asking.specs.Asking.{mustAsk}
+use Rattle.asking.specs.Asking.{mustAsk, asksFor}
 use Rattle.plan_flood.specs.Flood.{floodPlan, revokePlan}
 use Rattle.plan_answer.specs.Answering.{authorityPlan, lookupPlan}
 use Rattle.plan_message.specs.Planned.{planFor, receivePlan}
@@ -43,9 +44,9 @@ unfoldable pub computed : Unit {0}
 unfolding valueBE valueLE digitsBE digitsLE splice same allZero distance ring half areKeys up isAbove nearness apart isDown tie closer
     orRefuse recordForm entryForm recordOf entryOf
     put without among inOrder lastOr farthestOut trimmed learnWith happen after putBy withoutBy learnBy rows joined bytesOf
-    follows leading heldIn heldOf cacheForm keyBytes closestFrom closestOf listCall
+    follows leading heldIn heldOf cacheForm keyBytes standsIn onPath offPath closestFrom closestOf listCall
     newPlace placeForm anyOf placesForm usedIn usedOf waitingForm seek opened freed ticked listed idBytes tickDone
     arrayForm lookupForm splitForm hasShape kinds.kindsOf kinds.joinedFields kinds.sized spanAt needAt maybeAt placesAt fieldsAs wholeIn inPart foundIn
     flagAt headOf precisionAt incomingOf ackMade floodMade inquireMade cpaMade closestMade
-    tablesFit memoryOf handsFit tickFit mustAsk floodPlan revokePlan authorityPlan lookupPlan planFor receivePlan carried receiveCall gaugeTick gaugeList
+    tablesFit memoryOf handsFit tickFit mustAsk asksFor floodPlan revokePlan authorityPlan lookupPlan planFor receivePlan carried receiveCall gaugeTick gaugeList
 computed = tt

@@ -67,7 +67,12 @@ module _ (m : Memory) (k : ℕ) (form : waitingForm k (m .waiting) ≡ true) whe
   leaves-came l low (inquire i v) left h w p q wait y e = only p wait q (subst (λ (n : Memory). S.Waits n q) w y) e
   leaves-came l low (authority acked c) left h w p q wait y e = only p wait q (w .table .members q .0 y .0) e
   leaves-came l low (ack acked n) left h w p q wait y e = only p wait q (w .table .members q .0 y .0) e
-  leaves-came l low (lookup i t) left h w p q wait y e = only p wait q (subst (λ (n : Memory). S.Waits n q) w y) e
+  leaves-came l low (lookup i t path o) left h w p q wait y e =
+      elim (w .table .members q .0 y) [
+        | inl was ↦ only p wait q was e
+        | inr is ↦ absurd (low (Num.lookup-id-waits refl i t path o h (is .0) p wait
+            (sym e ∙ ap idOf (is .1) ∙ new-is (idAfter (l .id)) 2 2 (part 0 32 (S.entryRecord o)) (S.entryRecord o) (omega arith))))
+      ]
   leaves-came l low other left h w p q wait y e = absurd w
 
   leaves-few : (l : Receive) (x : Heard) (left : Memory) → S.Leaves m l x left → (q : List ℕ) → S.Waits left q → triesOf q ≤ 2
@@ -76,7 +81,7 @@ module _ (m : Memory) (k : ℕ) (form : waitingForm k (m .waiting) ≡ true) whe
   leaves-few l (inquire i v) left w q y = few-left k (m .waiting) form q (subst (λ (n : Memory). S.Waits n q) w y)
   leaves-few l (authority acked c) left w q y = few-left (keyOf (l .own)) (left .waiting) (w .table .form) q y
   leaves-few l (ack acked n) left w q y = few-left (keyOf (l .own)) (left .waiting) (w .table .form) q y
-  leaves-few l (lookup i t) left w q y = few-left k (m .waiting) form q (subst (λ (n : Memory). S.Waits n q) w y)
+  leaves-few l (lookup i t path o) left w q y = few-left (keyOf (l .own)) (left .waiting) (w .table .form) q y
   leaves-few l other left w q y = absurd w
 
 -- how many tries the call takes

@@ -4,7 +4,7 @@ use mathlib.Core.Path.{_≡_, refl, sym, ap, ap₂, subst, _∙_}
 use mathlib.Core.Bool.{Bool, true, false, cond}
 use mathlib.Core.List.{List, [], _∷_}
 use mathlib.Core.Option.{Option, some, none}
-use Prim.Native.Nat.{ℕ, _+_, _^_, _≤_, _<_}
+use Prim.Native.Nat.{ℕ, _+_, _-_, _^_, _≤_, _<_}
 use native.Mathlib.Omega.{arith}
 use lib.Dec.{eqb}
 use lib.ListN.{length, getD, drop}
@@ -13,6 +13,7 @@ use Rattle.octet.specs.Part.{part}
 use Rattle.octet.proofs.BigLaws.{valueBE-digitsBE}
 use Rattle.key.specs.Number.{keyAt}
 use Rattle.record.specs.Entry.{entryForm, recordOf}
+use Rattle.record.proofs.PlaceLaws.{drop-part}
 use Rattle.wire_shapes.specs.Field.{numberAt}
 use Rattle.wire_fields.specs.Kinds.{must, ackKinds, authorityKinds, present}
 use Rattle.wire_fields.specs.Message.{Message}
@@ -28,11 +29,13 @@ use Rattle.wire_read.specs.declared.Incoming as T
 use Rattle.wire_read.specs.declared.Incoming.the-variants as M
 use Rattle.wire_read.specs.declared.messages.Flood as F
 use Rattle.wire_read.specs.declared.messages.Ack as A
+use Rattle.wire_read.specs.declared.messages.Lookup as K
+use Rattle.look.specs.Seen.{sizeOf}
 use Rattle.wire.proofs.StandLaws.{Stand, needed, sized-length}
 use Rattle.wire.proofs.ShownLaws.{of-each, withEntry}
 use Rattle.wire.proofs.Theorems.{at-most-one, read-gives, read-accepts}
-use Rattle.plan_message.proofs.AnswerLaws.{KnownAnswer, known-answer}
-use Rattle.sentences.specs.Heard.{Heard, entry, revoke, inquire, authority, ack, lookup, other, heard, Hears}
+use Rattle.plan_message.proofs.AnswerLaws.{EntryIn, PathIn, KnownAnswer, known-answer}
+use Rattle.sentences.specs.Heard.{Heard, entry, revoke, inquire, authority, ack, lookup, other, contents, entryIn, heard, Hears}
 use Rattle.sentences.proofs.OneLaws.{hears-one}
 
 -- ---- what the code's reading says
@@ -50,7 +53,19 @@ heardBy d (M.Flood x) = saidBy d (x .head .id) (x .d) (x .validate) (x .entry)
 heardBy d (M.Inquire x) = inquire (x .head .id) (keyAt (x .validate) d)
 heardBy d (M.Authority x) = authority (x .acked) (R.isHere (x .fields .cpa))
 heardBy d (M.Ack x) = ack (x .acked) (x .n)
-heardBy d (M.Lookup x) = lookup (x .head .id) (keyAt (x .target) d)
+heardBy d (M.Lookup x) =
+    lookup (x .head .id) (keyAt (x .target) d) (drop 8 (contents (contentsIn d (x .path)))) (entryIn (contentsIn d (x .entry)))
+
+-- a LOOKUP's path, where its endpoints stand
+path-stands : (d : List ℕ) (p : Part) → PathIn d p → drop 8 (contents (contentsIn d p)) ≡ part (startOf p + 8) (sizeOf p - 8) d
+path-stands d (Here s l) w = drop-part s l 8 d (w .0)
+path-stands d Absent w = absurd w
+
+pub lookup-heard : (d : List ℕ) (x : K.Lookup) → KnownAnswer d (M.Lookup x)
+    → heardBy d (M.Lookup x)
+    ≡ lookup (x .head .id) (keyAt (x .target) d) (part (startOf (x .path) + 8) (sizeOf (x .path) - 8) d) (entryIn (contentsIn d (x .entry)))
+lookup-heard d x w =
+    ap (λ (q : List ℕ). lookup (x .head .id) (keyAt (x .target) d) q (entryIn (contentsIn d (x .entry)))) (path-stands d (x .path) (w .2))
 
 -- ---- an acked ID has 32 bits, and N is clear where the flags are absent
 
@@ -192,3 +207,28 @@ entry-of d i s v r (M.Lookup x) k e = let z : _≡_ {A = ℕ} 0 1 = cc in absurd
 pub entry-heard : (d : List ℕ) → Bytes d → (major i : ℕ) (s : Bool) (v : ℕ) (r : List ℕ) → Hears d major (entry i s v r) → EntryHeard d r
 entry-heard d b major i s v r h =
     entry-of d i s v r (R.readIn d major) (known-answer d major) (hears-answer d b major (entry i s v r) h .1)
+
+-- ---- and so is that of a LOOKUP
+
+some-entry : (d r : List ℕ) (p : Part) → EntryIn d p → some r ≡ entryIn (contentsIn d p) → EntryHeard d r
+some-entry d r (Here start len) k e = record { start = start; len = len; is = inj e; formed = k .1 }
+some-entry d r Absent k e = let z : _≡_ {A = ℕ} 0 1 = cc in absurd (omega arith)
+
+lookup-of : (d : List ℕ) (i t : ℕ) (q r : List ℕ) (a : T.Incoming) → KnownAnswer d a → lookup i t q (some r) ≡ heardBy d a → EntryHeard d r
+lookup-of d i t q r (M.Refused n) k e = let z : _≡_ {A = ℕ} 0 1 = cc in absurd (omega arith)
+lookup-of d i t q r (M.Solicit x) k e = let z : _≡_ {A = ℕ} 0 1 = cc in absurd (omega arith)
+lookup-of d i t q r (M.Advertise x) k e = let z : _≡_ {A = ℕ} 0 1 = cc in absurd (omega arith)
+lookup-of d i t q r (M.Request x) k e = let z : _≡_ {A = ℕ} 0 1 = cc in absurd (omega arith)
+lookup-of d i t q r (M.Flood x) k e = flood-not (x .entry) e
+  where
+    flood-not : (p : Part) → lookup i t q (some r) ≡ saidBy d (x .head .id) (x .d) (x .validate) p → EntryHeard d r
+    flood-not (Here start len) e = let z : _≡_ {A = ℕ} 0 1 = cc in absurd (omega arith)
+    flood-not Absent e = let z : _≡_ {A = ℕ} 0 1 = cc in absurd (omega arith)
+lookup-of d i t q r (M.Inquire x) k e = let z : _≡_ {A = ℕ} 0 1 = cc in absurd (omega arith)
+lookup-of d i t q r (M.Authority x) k e = let z : _≡_ {A = ℕ} 0 1 = cc in absurd (omega arith)
+lookup-of d i t q r (M.Ack x) k e = let z : _≡_ {A = ℕ} 0 1 = cc in absurd (omega arith)
+lookup-of d i t q r (M.Lookup x) k e = let is : some r ≡ entryIn (contentsIn d (x .entry)) = cc in some-entry d r (x .entry) (k .1) is
+
+pub lookup-entry-heard : (d : List ℕ) → Bytes d → (major i t : ℕ) (q r : List ℕ) → Hears d major (lookup i t q (some r)) → EntryHeard d r
+lookup-entry-heard d b major i t q r h =
+    lookup-of d i t q r (R.readIn d major) (known-answer d major) (hears-answer d b major (lookup i t q (some r)) h .1)

@@ -3,6 +3,7 @@ use Prim.Native.Nat.{ℕ, zero, suc}
 use mathlib.Core.Bool.{Bool, true, false}
 use mathlib.Core.List.{List, [], _∷_}
 use mathlib.Core.Logic.{inl, inr}
+use mathlib.Core.Option as O
 use mathlib.Core.Path.{_≡_, refl, sym, ap, subst, _∙_}
 use native.Mathlib.Omega.{arith}
 use lib.ListN.{length, replicate, length-replicate}
@@ -29,7 +30,7 @@ use Rattle.sentences.specs.Numbers as Num
 use Rattle.sentences.specs.Meets.{MeetsSentences}
 use Rattle.sentences.specs.Late as L
 use Rattle.sentences.proofs.OneLaws.{hears-one}
-use Rattle.sentences.proofs.HeardLaws.{entry-heard}
+use Rattle.sentences.proofs.HeardLaws.{EntryHeard, entry-heard, lookup-entry-heard}
 use Rattle.sentences.proofs.MembersLaws.{place-formed}
 use Rattle.sentences.proofs.SaidLaws as Said
 use Rattle.sentences.proofs.OtherLaws.{is-lent}
@@ -44,12 +45,15 @@ Out k u m = (r : List ℕ) → S.Holds k m r → ¬ (keyOf r ≡ u)
 
 -- ---- the record of a FLOOD is in form
 
-entry-key : (d : List ℕ) → Bytes d → (major i : ℕ) (s : Bool) (v : ℕ) (r : List ℕ) → Hears d major (entry i s v r)
-    → (id : ℕ) → placeKey (inquiryPlace id r) ≡ keyOf r
-entry-key d b major i s v r h id =
-    let e = entry-heard d b major i s v r h in
+-- the key of the place for the record of a route entry
+place-key : (d r : List ℕ) → EntryHeard d r → (id : ℕ) → placeKey (inquiryPlace id r) ≡ keyOf r
+place-key d r e id =
     let long = form-length r (ap recordForm (e .is) ∙ record-form (part (e .start) (e .len) d) (e .formed)) in
     ap (valueBE 256) (new-key id 2 2 (part 0 32 r) r (length-take-le 32 r (omega arith)) long)
+
+entry-key : (d : List ℕ) → Bytes d → (major i : ℕ) (s : Bool) (v : ℕ) (r : List ℕ) → Hears d major (entry i s v r)
+    → (id : ℕ) → placeKey (inquiryPlace id r) ≡ keyOf r
+entry-key d b major i s v r h id = place-key d r (entry-heard d b major i s v r h) id
 
 flood-kind : (id : ℕ) (key : List ℕ) → length key ≡ 32 → kindOf (floodPlace id key) ≡ 1
 flood-kind id key e = new-kind id 1 2 key (replicate 100 0) e (length-replicate {A = ℕ} 100 0)
@@ -59,23 +63,31 @@ flood-kind id key e = new-kind id 1 2 key (replicate 100 0) e (length-replicate 
 module _ (u : ℕ) (m : Memory) (quiet : Quiet u m) where
   leaves-quiet : (l : Receive) → Bytes (l .datagram) → (x : Heard) (left : Memory) → Hears (l .datagram) (l .major) x
       → ((i : ℕ) (s : Bool) (v : ℕ) (r : List ℕ) → Hears (l .datagram) (l .major) (entry i s v r) → keyOf r ≡ u → ¬ S.MustAsk (keyOf (l .own)) m r)
+      → ((i t : ℕ) (path r : List ℕ) → Hears (l .datagram) (l .major) (lookup i t path (O.some r)) → keyOf r ≡ u → ¬ S.MustAsk (keyOf (l .own)) m r)
       → S.Leaves m l x left → Quiet u left
-  leaves-quiet l b (entry i s v r) left h none w q =
+  leaves-quiet l b (entry i s v r) left h none neither w q =
       elim (w .table .members (q .0) .0 (q .1)) [
         | inl y ↦ quiet (q .0, y, q .2)
         | inr y ↦ none i s v r h (sym (ap placeKey (y .1) ∙ entry-key (l .datagram) b (l .major) i s v r h _) ∙ q .2 .1) (y .0)
       ]
-  leaves-quiet l b (revoke i s v) left h none w q = quiet (q .0, w .table .members (q .0) .0 (q .1) .0, q .2)
-  leaves-quiet l b (inquire i v) left h none w q = quiet (q .0, subst (λ (y : Memory). S.Waits y (q .0)) w (q .1), q .2)
-  leaves-quiet l b (authority acked c) left h none w q = quiet (q .0, w .table .members (q .0) .0 (q .1) .0, q .2)
-  leaves-quiet l b (ack acked n) left h none w q = quiet (q .0, w .table .members (q .0) .0 (q .1) .0, q .2)
-  leaves-quiet l b (lookup i t) left h none w q = quiet (q .0, subst (λ (y : Memory). S.Waits y (q .0)) w (q .1), q .2)
-  leaves-quiet l b other left h none w q = absurd w
+  leaves-quiet l b (revoke i s v) left h none neither w q = quiet (q .0, w .table .members (q .0) .0 (q .1) .0, q .2)
+  leaves-quiet l b (inquire i v) left h none neither w q = quiet (q .0, subst (λ (y : Memory). S.Waits y (q .0)) w (q .1), q .2)
+  leaves-quiet l b (authority acked c) left h none neither w q = quiet (q .0, w .table .members (q .0) .0 (q .1) .0, q .2)
+  leaves-quiet l b (ack acked n) left h none neither w q = quiet (q .0, w .table .members (q .0) .0 (q .1) .0, q .2)
+  leaves-quiet l b (lookup i t path O.none) left h none neither w q =
+      elim (w .table .members (q .0) .0 (q .1)) [ inl y ↦ quiet (q .0, y, q .2) | inr y ↦ absurd (y .0) ]
+  leaves-quiet l b (lookup i t path (O.some r)) left h none neither w q =
+      elim (w .table .members (q .0) .0 (q .1)) [
+        | inl y ↦ quiet (q .0, y, q .2)
+        | inr y ↦ neither i t path r h
+            (sym (ap placeKey (y .1) ∙ place-key (l .datagram) r (lookup-entry-heard (l .datagram) b (l .major) i t path r h) _) ∙ q .2 .1) (y .0 .1)
+      ]
+  leaves-quiet l b other left h none neither w q = absurd w
 
   does-quiet : (c : Call) (h : Handed) → Typed c → ¬ L.AsksFor u m c → ((i : ℕ) → ¬ Num.Applies m c i) → S.Does m c h → Quiet u (h .memory)
   does-quiet (receives l) h ty none low s q =
       leaves-quiet l (ty .0) (s .x) (h .memory) (s .hears)
-      (λ i t v r y e must. none (i, t, v, r, y, e, must)) (s .leaves) q
+      (λ i t v r y e must. none (inl (i, t, v, r, y, e, must))) (λ i t path r y e must. none (inr (i, t, path, r, y, e, must))) (s .leaves) q
   does-quiet (sends l) h ty none low s q =
       let g = is-lent m l (low 1) in
       elim (s .table .members (q .0) .0 (q .1)) [
@@ -110,7 +122,7 @@ module _ (u : ℕ) (m : Memory) (quiet : Quiet u m) where
       learns-out (keyOf (l .own)) (placeRecord (w .p)) (left .cache) (λ e. quiet (w .p, w .answers .0, (w .answers .2, sym key ∙ e)))
       (w .cache) out q y
   leaves-out l f (ack acked n) left w out q y = out q (w .cache .members q .0 y .0)
-  leaves-out l f (lookup i t) left w out q y = out q (subst (λ (n : Memory). S.Holds (keyOf (l .own)) n q) w y)
+  leaves-out l f (lookup i t path o) left w out q y = out q (subst (λ (c : List ℕ). q ∈ heldOf (keyOf (l .own)) c) (w .cache) y)
   leaves-out l f other left w out q y = absurd w
 
   does-out : (k : ℕ) (c : Call) (h : Handed) → OneKey k c → ((i : ℕ) → ¬ Num.Applies m c i) → S.Does m c h → Out k u m → Out k u (h .memory)

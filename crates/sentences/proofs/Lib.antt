@@ -7,6 +7,7 @@ pub mod HeardLaws
 pub mod DoesLaws
 pub mod WordLaws
 pub mod PlanLaws
+pub mod AskedLaws
 pub mod FloodDoesLaws
 pub mod MessageDoesLaws
 pub mod ReceiveLaws

@@ -111,7 +111,7 @@ module _ (p q : List ℕ) (same : Same p q) (m : Memory) (wait : S.Waits m q) wh
         λ e. k n (subst (λ (i : ℕ). Hears (l .datagram) (l .major) (ack i n))
             (sym (w .answers .1) ∙ ap idOf (sym e) ∙ same .id) h),
       )
-  leaves-on l (lookup i t) left h a k f w = subst (λ (y : Memory). S.Waits y q) (sym w) wait
+  leaves-on l (lookup i t path o) left h a k f w = w .table .members q .1 (inl wait)
   leaves-on l other left h a k f w = absurd w
 
   does-on : (c : Call) (h : Handed) → ¬ L.Concerns p c → S.Does m c h → S.Waits (h .memory) q
@@ -135,7 +135,11 @@ module _ (m : Memory) (fit : Fit m) where
   leaves-fit l (inquire i v) left w q y = fit q (subst (λ (n : Memory). S.Waits n q) w y)
   leaves-fit l (authority acked c) left w q y = fit q (w .table .members q .0 y .0)
   leaves-fit l (ack acked n) left w q y = fit q (w .table .members q .0 y .0)
-  leaves-fit l (lookup i t) left w q y = fit q (subst (λ (n : Memory). S.Waits n q) w y)
+  leaves-fit l (lookup i t path o) left w q y =
+      elim (w .table .members q .0 y) [
+        | inl was ↦ fit q was
+        | inr is ↦ subst (λ (x : List ℕ). idOf x < 2 ^ 32) (sym (is .1)) (new-fit _ 2 2 (part 0 32 (S.entryRecord o)) (S.entryRecord o))
+      ]
   leaves-fit l other left w q y = absurd w
 
   does-fit : (c : Call) (h : Handed) → S.Does m c h → Fit (h .memory)

@@ -1,42 +1,54 @@
 -- Ours does what the sentences say of an AUTHORITY, ACK, INQUIRE or LOOKUP received. Assumes nothing.
-use mathlib.Core.Path.{_≡_, refl, sym, ap, _∙_}
-use mathlib.Core.Bool.{Bool, true, false, cond}
+use mathlib.Core.Path.{_≡_, refl, sym, ap, ap₂, _∙_}
+use mathlib.Core.Bool.{Bool, true, false, cond, _&&_}
 use mathlib.Core.List.{List, [], _∷_}
 use Prim.Native.Nat.{ℕ}
+use lib.Dec.{eqb}
 use lib.ListN.{length, getD}
+use borrow.Author.Tests.{eqb-false}
+use Rattle.octet.specs.Part.{part}
 use Rattle.octet.proofs.PartLaws.{splice-nil}
 use Rattle.key.specs.Number.{keyAt}
 use Rattle.refusal.proofs.TableLaws.{both}
-use Rattle.record.specs.Record.{keyOf}
-use Rattle.own.specs.Own.{ownRecords}
-use Rattle.table.specs.Rows.{joined, bytesOf}
+use Rattle.record.specs.Record.{keyOf, recordForm}
+use Rattle.table.specs.Rows.{joined, bytesOf, anyOf}
 use Rattle.cache.specs.Form.{heldOf}
 use Rattle.cache.specs.Bytes.{afterRemove}
-use Rattle.neighbours.specs.Closest.{candidates, closestOf}
+use Rattle.neighbours.specs.Closest.{offPath, closestPast}
 use Rattle.neighbours.proofs.ClosestLaws.{closest-among, closest-least, closest-formed}
+use Rattle.neighbours.proofs.SkipLaws.{off-held}
 use Rattle.waiting.specs.Place.{placeKey, placeRecord}
 use Rattle.waiting.specs.Form.{placesOf}
 use Rattle.table.specs.Seek.{seek}
-use Rattle.waiting.specs.Seek.{isAt}
+use Rattle.waiting.specs.Seek.{isAt, hasId}
 use Rattle.waiting.specs.Open.{freed}
 use Rattle.table.specs.declared.Found.the-variants.{At}
 use Rattle.waiting.proofs.KeptLaws.{free-kept}
 use Rattle.table.proofs.SeekLaws.{found-within}
 use Rattle.waiting.proofs.PlaceLaws.{inquiry-record, inquiry-key, inquiry-other}
 use Rattle.wire_fields.specs.Kinds.{authorityKinds}
+use Rattle.wire_fields.specs.Reading.{contentsIn}
+use Rattle.wire_fields.specs.declared.Part.{Part}
+use Rattle.wire_buffer.specs.Buffer.{startOf}
+use Rattle.look.specs.Seen.{sizeOf}
+use Rattle.asking.specs.Ids.{idAfter}
 use Rattle.wire_write.specs.Sent.{closestSent}
 use Rattle.wire_write.specs.Making.{cpaMade, closestMade}
 use Rattle.gauge_plan.specs.Found.{isNothing, placeOf}
 use Rattle.gauge_plan.specs.declared.Plan.the-variants.{Learn, Free, Certify, Show}
 use Rattle.gauge_plan.specs.Lent.{Memory, Receive}
+use Rattle.gauge_plan.proofs.OpeningLaws.{second-fails}
+use Rattle.plan_message.proofs.AnswerLaws.{EntryIn}
 use Rattle.gauge.specs.Receive.{carried}
 use Rattle.gauge_laws.proofs.FirstLaws.{whole-record}
-use Rattle.sentences.specs.Heard.{inquire, authority, ack, lookup}
+use Rattle.sentences.specs.Heard.{inquire, authority, ack, lookup, entryIn}
 use Rattle.sentences.specs.Sentences as S
 use Rattle.sentences.proofs.MembersLaws.{place-formed}
 use Rattle.sentences.proofs.MoveLaws.{seek-some, freed-in}
 use Rattle.sentences.proofs.LearnLaws.{table-by, removes, learns}
 use Rattle.sentences.proofs.WordLaws.{found-waits}
+use Rattle.sentences.proofs.OneLaws.{candidate-to, candidate-from}
+use Rattle.sentences.proofs.AskedLaws.{opening, asks-iff, asks-written, route-table}
 use Rattle.sentences.proofs.PlanLaws.{held, used, Fine, Does, table-form, ids-rise}
 
 module _ (m : Memory) (l : Receive) (ok : Fine m l) where
@@ -128,22 +140,47 @@ module _ (m : Memory) (l : Receive) (ok : Fine m l) where
   }
 
   -- LOOKUP
-  pub lookup-does : (id target : ℕ) → Does m l (lookup id (keyAt target (l .datagram))) (Show (held m l) id target)
-  unfolding carried closestMade heldOf
-  lookup-does id target h =
-      let t = keyAt target (l .datagram) in
-      let r = closestOf t (candidates (ownRecords (l .own)) recs) in
-      let good = closest-formed t (keyOf (l .own)) (l .own) recs (ok .ready .owned) (ok .ready .form .held) in
-      record {
-        x = lookup id t;
-        hears = h;
-        ds = _;
-        reply = record {
-          r = r;
-          closest = record { candidate = closest-among t (l .own) recs; none-closer = λ q i. closest-least t (l .own) recs q i };
-          are = ap (λ (y : List ℕ). S.written authorityKinds (closestSent (l .major) (l .minor) (l .id) id y) ∷ []) (whole-record r good);
-        };
-        sent = record { counts = refl; bytes = refl };
-        leaves = refl;
-        rest = refl;
-      }
+  module _ (id target path size : ℕ) (route : Part) (w : EntryIn (l .datagram) route)
+      (waits : (opening m l route && anyOf (hasId (idAfter (l .id))) ps) ≡ false) (full : (opening m l route && eqb (used m l) 16) ≡ false) where
+    abbrev t : ℕ
+    t = keyAt target (l .datagram)
+
+    abbrev q : List ℕ
+    q = part path size (l .datagram)
+
+    abbrev r : List ℕ
+    r = closestPast (l .own) recs q t
+
+    -- the record shown is in form
+    shown-good : recordForm r ≡ true
+    unfolding heldOf
+    shown-good =
+        closest-formed t (keyOf (l .own)) (l .own) (offPath q recs) (ok .ready .owned) (off-held q (keyOf (l .own)) recs (ok .ready .form .held))
+
+    pub lookup-does : Does m l (lookup id t q (entryIn (contentsIn (l .datagram) route)))
+        (Show (held m l) (used m l) id target path size (opening m l route) (startOf route) (sizeOf route))
+    unfolding carried closestMade heldOf
+    lookup-does h =
+        record {
+          x = lookup id t q (entryIn (contentsIn (l .datagram) route));
+          hears = h;
+          ds = _;
+          reply = record {
+            r = r;
+            ask = opening m l route;
+            closest = record {
+              candidate = candidate-from (l .own) q recs r (closest-among t (l .own) (offPath q recs));
+              none-closer = λ y i. closest-least t (l .own) (offPath q recs) y (candidate-to (l .own) q recs y i);
+            };
+            asked = asks-iff m l route w;
+            are = ap₂ (λ (y : List ℕ) (ds : List (List ℕ)). S.written authorityKinds (closestSent (l .major) (l .minor) (l .id) id y) ∷ ds)
+                (whole-record r shown-good) (asks-written m l route);
+          };
+          sent = record { counts = refl; bytes = refl };
+          leaves = record {
+            cache = refl;
+            table = route-table m l ok route w (second-fails (opening m l route) (anyOf (hasId (idAfter (l .id))) ps) waits)
+                (λ o. eqb-false (used m l) 16 (second-fails (opening m l route) (eqb (used m l) 16) full o));
+          };
+          rest = refl;
+        }

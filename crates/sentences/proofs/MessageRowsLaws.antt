@@ -1,27 +1,43 @@
 -- An INQUIRE, AUTHORITY, ACK or LOOKUP received, or a message that is not taken, is refused when the clauses say so: the rows of their tables.
 -- Assumes nothing.
-use mathlib.Core.Path.{_≡_, refl, sym, ap, subst, _∙_}
+use mathlib.Core.Path.{_≡_, refl, sym, ap, ap₂, subst, _∙_}
 use mathlib.Core.Logic.{_⊎_, inl, inr}
 use mathlib.Core.Bool.{Bool, true, false, not, _||_}
 use mathlib.Core.List.{List, [], _∷_}
 use Prim.Native.Nat.{ℕ, _+_, _*_, _<_}
 use native.Mathlib.Omega.{arith}
 use lib.Dec.{eqb, ltb}
-use lib.ListN.{length, getD}
+use lib.ListN.{length, getD, length-append}
+use borrow.Author.Tests.{eq-eqb, eqb-true}
+use mathlib.Core.Option.{Option}
+use Rattle.octet.specs.Part.{part}
+use Rattle.octet.proofs.TestLaws.{both-true}
 use Rattle.key.specs.Number.{keyAt}
 use Rattle.record.specs.Record.{keyOf, countOf, recordForm}
 use Rattle.refusal.specs.Table.{Refusal, when, placeIn, Before}
 use Rattle.refusal.proofs.TableLaws.{both, sooner}
-use Rattle.table.specs.Rows.{joined}
+use Rattle.table.specs.Rows.{joined, anyOf}
+use Rattle.table.proofs.RowLaws.{rows-length}
 use Rattle.kept.proofs.WithoutLaws.{eq-or}
 use Rattle.cache.specs.Form.{heldOf}
-use Rattle.neighbours.specs.Closest.{candidates, closestOf}
+use Rattle.neighbours.specs.Closest.{offPath, closestPast}
 use Rattle.neighbours.proofs.ClosestLaws.{closest-among, closest-least, closest-formed}
+use Rattle.neighbours.proofs.SkipLaws.{off-held}
 use Rattle.waiting.specs.Place.{idOf, placeKey}
-use Rattle.waiting.specs.Form.{placesOf}
+use Rattle.waiting.specs.Form.{usedOf, placesOf}
 use Rattle.table.specs.Seek.{seek}
-use Rattle.waiting.specs.Seek.{isAt}
+use Rattle.waiting.specs.Seek.{isAt, hasId}
 use Rattle.wire_fields.specs.Kinds.{authorityKinds}
+use Rattle.wire_fields.specs.Reading.{contentsIn}
+use Rattle.wire_fields.specs.declared.Part.{Part}
+use Rattle.wire_buffer.specs.Buffer.{startOf}
+use Rattle.look.specs.Seen.{sizeOf}
+use Rattle.asking.specs.Asking.{inquireRoom}
+use Rattle.asking.specs.Ids.{idAfter}
+use Rattle.asking.proofs.AskingLaws.{inquire-most}
+use Rattle.plan_answer.specs.Answering.{lookupRefusals}
+use Rattle.plan_message.proofs.AnswerLaws.{EntryIn}
+use Rattle.gauge_laws.specs.Table.{lookupTable}
 use Rattle.wire_write.specs.Sent.{closestSent}
 use Rattle.wire_write.specs.Making.{cpaMade, closestMade}
 use Rattle.gauge_plan.specs.Own.{notOurs}
@@ -29,14 +45,16 @@ use Rattle.gauge_plan.specs.Found.{isNothing, placeOf}
 use Rattle.gauge_commit.proofs.LengthLaws.{cpa-length, closest-length}
 use Rattle.gauge_commit.proofs.SentLaws.{joined-one}
 use Rattle.record.proofs.EntryLaws.{form-length, few-addresses}
-use Rattle.own.specs.Own.{ownRecords}
 use Rattle.gauge_plan.specs.Lent.{Memory, Receive, ReceiveLent}
 use Rattle.gauge_laws.proofs.FirstLaws.{whole-record}
-use Rattle.sentences.specs.Heard.{inquire, authority, ack, lookup, other}
+use Rattle.sentences.specs.Heard.{Heard, inquire, authority, ack, lookup, other, entryIn}
 use Rattle.sentences.specs.Sentences as S
 use Rattle.sentences.specs.Numbers as Num
 use Rattle.sentences.proofs.MembersLaws.{rise-one, places-rise}
 use Rattle.sentences.proofs.WordLaws.{not-iff, found-waits, none-iff-not}
+use Rattle.sentences.proofs.MoveLaws.{any-in, in-any}
+use Rattle.sentences.proofs.OneLaws.{candidate-to, candidate-from}
+use Rattle.sentences.proofs.AskedLaws.{opening, asks-iff, asks-long}
 use Rattle.sentences.proofs.FirstLaws.{Row}
 use Rattle.gauge_plan.proofs.MemoryLaws.{lent-tables, ready}
 use Rattle.sentences.proofs.SaidLaws.{Said, short-to, short-from, none-short, First, Both, good}
@@ -145,20 +163,40 @@ module _ (m : Memory) (l : Receive) (n : ℕ) (low : First m l n) where
         from (inr (inr (inr w))) = absurd w
 
   -- LOOKUP
-  module _ (id target : ℕ) where
+  module _ (id target path size : ℕ) (route : Part) (we : EntryIn (l .datagram) route) where
     abbrev tk : ℕ
     tk = keyAt target (l .datagram)
 
+    abbrev pq : List ℕ
+    pq = part path size (l .datagram)
+
     abbrev cr : List ℕ
-    cr = closestOf tk (candidates (ownRecords (l .own)) recs)
+    cr = closestPast (l .own) recs pq tk
+
+    abbrev lo : Bool
+    lo = opening m l route
+
+    abbrev le : Option (List ℕ)
+    le = entryIn (contentsIn (l .datagram) route)
+
+    abbrev lx : Heard
+    lx = lookup id tk pq le
+
+    abbrev cb : List ℕ
+    cb = S.written authorityKinds (closestSent (l .major) (l .minor) (l .id) id cr)
 
     abbrev cds : List (List ℕ)
-    cds = S.written authorityKinds (closestSent (l .major) (l .minor) (l .id) id cr) ∷ []
+    cds = cb ∷ S.asks l lo (S.entryRecord le)
 
-    lookup-reply : S.Reply m l (lookup id tk) cds
+    lookup-reply : S.Reply m l lx cds
     lookup-reply = record {
       r = cr;
-      closest = record { candidate = closest-among tk (l .own) recs; none-closer = λ q i. closest-least tk (l .own) recs q i };
+      ask = lo;
+      closest = record {
+        candidate = candidate-from (l .own) pq recs cr (closest-among tk (l .own) (offPath pq recs));
+        none-closer = λ q i. closest-least tk (l .own) (offPath pq recs) q (candidate-to (l .own) pq recs q i);
+      };
+      asked = asks-iff m l route we;
       are = refl;
     }
 
@@ -166,29 +204,52 @@ module _ (m : Memory) (l : Receive) (n : ℕ) (low : First m l n) where
     unfolding heldOf
     lookup-formed g =
         let rd = ready (l .own) m (lent-tables m l g) in
-        closest-formed tk k (l .own) recs (rd .owned) (rd .form .held)
+        closest-formed tk k (l .own) (offPath pq recs) (rd .owned) (off-held pq k recs (rd .form .held))
 
-    lookup-room : ReceiveLent m l → length (joined cds) ≡ 80 + 16 * countOf cr
+    shown-long : ReceiveLent m l → length cb ≡ 80 + 16 * countOf cr
     unfolding closestMade heldOf
-    lookup-room g =
+    shown-long g =
         let fine = lookup-formed g in
         let whole = whole-record cr fine in
-        ap length (joined-one (S.written authorityKinds (closestSent (l .major) (l .minor) (l .id) id cr)))
-        ∙ ap (λ (y : List ℕ). length (S.written authorityKinds (closestSent (l .major) (l .minor) (l .id) id y))) (sym whole)
+        ap (λ (y : List ℕ). length (S.written authorityKinds (closestSent (l .major) (l .minor) (l .id) id y))) (sym whole)
         ∙ closest-length (l .major) (l .minor) (l .id) cr 0 (omega (arith, form-length cr fine)) (ap recordForm whole ∙ fine) id
         ∙ ap (λ (y : List ℕ). 80 + 16 * countOf y) whole
 
-    pub lookup-both : Both m l n (lookup id tk) (when 15 (ltb (length (l .output)) (80 + 16 * countOf cr)) ∷ [])
+    lookup-room : ReceiveLent m l → length (joined cds) ≡ 80 + 16 * countOf cr + inquireRoom lo
+    unfolding joined
+    lookup-room g =
+        length-append cb (joined (S.asks l lo (S.entryRecord le))) ∙ ap₂ _+_ (shown-long g) (asks-long m l route we (g .nonce))
+
+    abbrev lrows : List Refusal
+    lrows = lookupRefusals ps (usedOf (m .waiting)) (l .id) (length (l .output)) lo cr
+
+    pub lookup-both : Both m l n (lookup id (keyAt target (l .datagram)) (part path size (l .datagram)) (entryIn (contentsIn (l .datagram) route)))
+        (lookupTable m l target path size (startOf route) (sizeOf route))
     lookup-both = (to, from)
       where
-        to : Said m l (lookup id tk) n → Row n (when 15 (ltb (length (l .output)) (80 + 16 * countOf cr)) ∷ [])
-        to (inl w) = absurd w
-        to (inr w) = let g = good m l n low (sooner 1 15 (unfold placeIn in refl) (w .0)) in inl (short-from m l (lookup id tk) cds n _ (g .cache) lookup-reply (lookup-room g)
-            (omega (arith, few-addresses cr (lookup-formed g))) w)
+        full-is : length ps ≡ usedOf (m .waiting)
+        full-is = rows-length 140 (usedOf (m .waiting)) (m .waiting)
 
-        from : Row n (when 15 (ltb (length (l .output)) (80 + 16 * countOf cr)) ∷ []) → Said m l (lookup id tk) n
-        from (inl w) = inr (short-to m l (lookup id tk) cds n _ lookup-reply (lookup-room (good m l n low (sooner 1 15 (unfold placeIn in refl) (w .0)))) w)
-        from (inr w) = absurd w
+        to : Said m l lx n → Row n lrows
+        to (inl (inl w)) =
+            let there = any-in (hasId (idAfter (l .id))) (w .2) ps (w .3) (eq-eqb (idOf (w .2)) (idAfter (l .id)) (w .4)) in
+            inl (w .0, rw (asks-iff m l route we .1 (w .1), there) refl)
+        to (inl (inr w)) = inr (inl (w .0, rw (asks-iff m l route we .1 (w .1), eq-eqb (usedOf (m .waiting)) 16 (sym full-is ∙ w .2)) refl))
+        to (inr w) =
+            let g = good m l n low (sooner 1 15 (unfold placeIn in refl) (w .0)) in
+            inr (inr (inl (short-from m l lx cds n _ (g .cache) lookup-reply (lookup-room g)
+            (omega (arith, few-addresses cr (lookup-formed g), inquire-most lo)) w)))
+
+        from : Row n lrows → Said m l lx n
+        from (inl w) =
+            let v = both-true lo (anyOf (hasId (idAfter (l .id))) ps) (w .1) in
+            let p = in-any (hasId (idAfter (l .id))) ps (v .1) in
+            inl (inl (w .0, asks-iff m l route we .0 (v .0), p .0, p .1, eqb-true (idOf (p .0)) (idAfter (l .id)) (p .2)))
+        from (inr (inl w)) =
+            let v = both-true lo (eqb (usedOf (m .waiting)) 16) (w .1) in
+            inl (inr (w .0, asks-iff m l route we .0 (v .0), full-is ∙ eqb-true (usedOf (m .waiting)) 16 (v .1)))
+        from (inr (inr (inl w))) = inr (short-to m l lx cds n _ lookup-reply (lookup-room (good m l n low (sooner 1 15 (unfold placeIn in refl) (w .0)))) w)
+        from (inr (inr (inr w))) = absurd w
 
   -- SOLICIT, ADVERTISE, REQUEST
   pub seven-both : Both m l n other (when 7 true ∷ [])

@@ -1,10 +1,10 @@
 -- A datagram received is refused when the clauses say so: each clause and its row of the call's table. Assumes nothing.
-use mathlib.Core.Path.{_≡_, refl, ap, subst}
+use mathlib.Core.Path.{_≡_, refl, sym, ap, subst}
 use mathlib.Core.Logic.{inl, inr}
 use mathlib.Core.Bool.{true, false, not}
 use mathlib.Core.List.{List, _++_}
 use mathlib.Core.Option.{Option}
-use Prim.Native.Nat.{ℕ}
+use Prim.Native.Nat.{ℕ, _+_, _-_}
 use lib.ListN.{getD}
 use borrow.Author.Tests.{not-true}
 use Rattle.octet.specs.Number.{Bytes}
@@ -18,19 +18,21 @@ use Rattle.wire_fields.specs.Kinds.{present}
 use Rattle.wire_fields.specs.Message.{opening, typeOf}
 use Rattle.wire_fields.specs.Refusals as fields
 use Rattle.wire_fields.specs.Refusals.{inPart}
+use Rattle.wire_buffer.specs.Buffer.{startOf}
 use Rattle.wire_read.specs.Answers as R
 use Rattle.wire_read.specs.declared.Incoming as T
 use Rattle.wire_read.specs.declared.Incoming.the-variants as M
+use Rattle.look.specs.Seen.{sizeOf}
 use Rattle.gauge_plan.specs.Memory.{tablesFit, handsFit}
 use Rattle.gauge_plan.proofs.MemoryLaws.{fit-lent, lent-tables, lent-hands}
 use Rattle.gauge_plan.specs.Lent.{Memory, Receive, ReceiveLent}
 use Rattle.plan_message.proofs.AnswerLaws.{KnownAnswer, known-answer}
 use Rattle.gauge_laws.specs.Table.{messageRows, receiveTable}
 use Rattle.gauge_laws.proofs.TableLaws.{IsMessage}
-use Rattle.sentences.specs.Heard.{Heard, entry, revoke, inquire, authority, ack, other}
+use Rattle.sentences.specs.Heard.{Heard, entry, revoke, inquire, authority, ack, lookup, other}
 use Rattle.sentences.specs.Numbers as Num
 use Rattle.sentences.proofs.MoveLaws.{holds-not}
-use Rattle.sentences.proofs.HeardLaws.{heardBy, answer-hears, hears-answer}
+use Rattle.sentences.proofs.HeardLaws.{heardBy, lookup-heard, answer-hears, hears-answer}
 use Rattle.sentences.proofs.WordLaws.{not-iff, message-zero}
 use Rattle.sentences.proofs.PartLaws.{part-to, part-from}
 use Rattle.sentences.proofs.FirstLaws.{Row, row-front, row-behind, row-either, Agree}
@@ -51,7 +53,9 @@ module _ (m : Memory) (l : Receive) (n : ℕ) (low : First m l n) where
   any-both (M.Inquire x) i w says = inquire-both m l n low (x .head .id) (x .validate)
   any-both (M.Authority x) i w says = authority-both m l n low (x .acked) (R.isHere (x .fields .cpa)) says
   any-both (M.Ack x) i w says = ack-both m l n low (x .acked) (x .n)
-  any-both (M.Lookup x) i w says = lookup-both m l n low (x .head .id) (x .target)
+  any-both (M.Lookup x) i w says =
+      subst (λ (y : Heard). Both m l n y (messageRows m l (M.Lookup x))) (sym (lookup-heard (l .datagram) x w))
+      (lookup-both m l n low (x .head .id) (x .target) (startOf (x .path) + 8) (sizeOf (x .path) - 8) (x .entry) (w .1))
 
 module _ (m : Memory) (l : Receive) (bytes : Bytes (l .datagram)) where
   abbrev d : List ℕ
@@ -109,6 +113,8 @@ module _ (m : Memory) (l : Receive) (bytes : Bytes (l .datagram)) where
     to (Num.not-ours e id validate says h) = inr (inr (says-row (inquire id validate) says (inl (e, h))))
     to (Num.id-waits e id s validate r says must p w h) = inr (inr (says-row (entry id s validate r) says (inl (inr (inl (e, must, p, w, h))))))
     to (Num.all-used e id s validate r says must h) = inr (inr (says-row (entry id s validate r) says (inl (inr (inr (e, must, h))))))
+    to (Num.lookup-id-waits e id t q o says asks p w h) = inr (inr (says-row (lookup id t q o) says (inl (inl (e, asks, p, w, h)))))
+    to (Num.lookup-all-used e id t q o says asks h) = inr (inr (says-row (lookup id t q o) says (inl (inr (e, asks, h)))))
     to (Num.no-room e x says ds r h) = inr (inr (says-row x says (inr (e, ds, r, h))))
 
     from : Row n (receiveTable m l) → Clause m l n

@@ -10,6 +10,7 @@ use Rattle.octet.specs.Part.{splice}
 use Rattle.key.specs.Around.{Side, below, above, isAbove, sideOf, nearness, closer}
 use Rattle.key.specs.Number.{keyAt}
 use Rattle.record.specs.Record.{keyOf, recordForm}
+use Rattle.own.specs.Own.{ownRecords}
 use Rattle.kept.specs.Keys.{_∈_, Rising, plain}
 use Rattle.kept.proofs.PutLaws.{Tri, less, same, more, tri}
 use Rattle.kept.proofs.ListLaws.{Test, pass, fail, test, rising-ext}
@@ -18,9 +19,11 @@ use Rattle.refusal.specs.Table.{order, placeIn}
 use Rattle.refusal.proofs.TableLaws.{both, places-differ}
 use Rattle.neighbours.proofs.CallLaws.{list-only}
 use Rattle.cache.specs.Form.{keysOf, placesIn, heldOf, cacheForm}
-use Rattle.neighbours.specs.Closest.{candidates, closestOf}
+use Rattle.path.specs.Path.{onPath}
+use Rattle.neighbours.specs.Closest.{candidates, offPath, closestPast}
 use Rattle.cache.proofs.FormLaws.{true-form}
 use Rattle.neighbours.proofs.ClosestLaws.{closest-only}
+use Rattle.neighbours.proofs.SkipLaws.{off-has, has-off, off-held}
 use Rattle.waiting.specs.Place.{idOf, kindOf, triesOf, placeKey, placeRecord}
 use Rattle.waiting.specs.Form.{placesOf, waitingForm}
 use Rattle.waiting.specs.Tick.{oneLess}
@@ -121,13 +124,26 @@ bool-same false false p q = refl
 iff-same : (P : Type 0) (a b : Bool) → ((a ≡ true) ↔ P) → ((b ≡ true) ↔ P) → a ≡ b
 iff-same P a b p q = bool-same a b (λ e. q .1 (p .0 e)) (λ e. p .1 (q .0 e))
 
+-- a candidate is our own record or one held that is not on the path
+pub candidate-to : (own path : List ℕ) (held : List (List ℕ)) (r : List ℕ) → (r ≡ own) ⊎ ((r ∈ held) × (onPath r path ≡ false))
+    → r ∈ candidates (ownRecords own) (offPath path held)
+candidate-to own path held r (inl e) = inl e
+candidate-to own path held r (inr w) = inr (off-has path r held (w .0) (w .1))
+
+pub candidate-from : (own path : List ℕ) (held : List (List ℕ)) (r : List ℕ) → r ∈ candidates (ownRecords own) (offPath path held)
+    → (r ≡ own) ⊎ ((r ∈ held) × (onPath r path ≡ false))
+candidate-from own path held r (inl e) = inl e
+candidate-from own path held r (inr i) = inr (has-off path r held i)
+
 module _ (m : Memory) (l : Receive) (f : cacheForm (keyOf (l .own)) (m .cache) ≡ true) where
-  pub closest-one : (t : ℕ) (r r′ : List ℕ) → S.Closest m l t r → S.Closest m l t r′ → r ≡ r′
-  closest-one t r r′ a b =
-      let k = keyOf (l .own) in
-      let held = true-form k (m .cache) f .held in
-      closest-only t (l .own) (heldOf k (m .cache)) held r (a .candidate) (a .none-closer)
-      ∙ sym (closest-only t (l .own) (heldOf k (m .cache)) held r′ (b .candidate) (b .none-closer))
+  pub closest-one : (path : List ℕ) (t : ℕ) (r r′ : List ℕ) → S.Closest m l path t r → S.Closest m l path t r′ → r ≡ r′
+  closest-one path t r r′ a b = closest-is path t r a ∙ sym (closest-is path t r′ b)
+    where
+      closest-is : (path : List ℕ) (t : ℕ) (r : List ℕ) → S.Closest m l path t r → r ≡ closestPast (l .own) (heldOf (keyOf (l .own)) (m .cache)) path t
+      closest-is path t r c =
+          let held = heldOf (keyOf (l .own)) (m .cache) in
+          closest-only t (l .own) (offPath path held) (off-held path (keyOf (l .own)) held (true-form (keyOf (l .own)) (m .cache) f .held)) r
+          (candidate-to (l .own) path held r (c .candidate)) (λ q i. c .none-closer q (candidate-from (l .own) path held q i))
 
   pub reply-one : (x : Heard) (ds ds′ : List (List ℕ)) → S.Reply m l x ds → S.Reply m l x ds′ → ds ≡ ds′
   reply-one (entry id silent validate r) ds ds′ a b =
@@ -138,9 +154,9 @@ module _ (m : Memory) (l : Receive) (f : cacheForm (keyOf (l .own)) (m .cache) �
   reply-one (inquire id validate) ds ds′ a b = a ∙ sym b
   reply-one (authority acked cpa) ds ds′ a b = a ∙ sym b
   reply-one (ack acked n) ds ds′ a b = a ∙ sym b
-  reply-one (lookup id target) ds ds′ a b =
-      a .are ∙ ap (λ (r : List ℕ). S.written authorityKinds (closestSent (l .major) (l .minor) (l .id) id r) ∷ [])
-      (closest-one target (a .r) (b .r) (a .closest) (b .closest)) ∙ sym (b .are)
+  reply-one (lookup id target path e) ds ds′ a b =
+      a .are ∙ ap₂ (λ (r : List ℕ) (y : Bool). S.written authorityKinds (closestSent (l .major) (l .minor) (l .id) id r) ∷ S.asks l y (S.entryRecord e))
+      (closest-one path target (a .r) (b .r) (a .closest) (b .closest)) (iff-same _ (a .ask) (b .ask) (a .asked) (b .asked)) ∙ sym (b .are)
   reply-one other ds ds′ a b = absurd a
 
 -- ---- learning
@@ -246,7 +262,8 @@ module _ (m : Memory) (l : Receive) (f : cacheForm (keyOf (l .own)) (m .cache) �
   leaves-one (inquire id validate) a b s t = all-same a b (s ∙ sym t)
   leaves-one (authority acked cpa) a b s t = authority-one acked a b s t
   leaves-one (ack acked n) a b s t = ack-one acked n a b s t
-  leaves-one (lookup id target) a b s t = all-same a b (s ∙ sym t)
+  leaves-one (lookup id target path e) a b s t =
+      (s .cache ∙ sym (t .cache), table-same k (a .waiting) (b .waiting) _ _ (s .table) (t .table) (λ p w. w) (λ p w. w))
   leaves-one other a b s t = absurd s
 
   pub receives-one : (h h′ : Handed) → S.Receives m l h → S.Receives m l h′ → h ≡ h′

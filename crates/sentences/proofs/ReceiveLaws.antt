@@ -1,12 +1,15 @@
 -- Ours does what the sentences say of a datagram received, message by message. Assumes nothing.
 use mathlib.Core.Path.{_≡_, refl, sym, subst}
+use Prim.Native.Nat.{_+_, _-_}
 use Rattle.octet.specs.Number.{Bytes}
 use Rattle.refusal.proofs.TableLaws.{AllFail, both}
 use Rattle.cache.specs.Form.{heldOf}
+use Rattle.wire_buffer.specs.Buffer.{startOf}
 use Rattle.wire_read.specs.Answers as R
 use Rattle.wire_read.specs.declared.Incoming as T
 use Rattle.wire_read.specs.declared.Incoming.the-variants as M
 use Rattle.plan_answer.specs.Answering.{authorityPlan, ackPlan, inquirePlan, lookupPlan}
+use Rattle.look.specs.Seen.{sizeOf}
 use Rattle.gauge_plan.specs.Lent.{Memory, Receive}
 use Rattle.plan_message.specs.Planned.{planFor}
 use Rattle.gauge.specs.Receive.{receiveCall}
@@ -14,8 +17,9 @@ use Rattle.plan_message.proofs.AnswerLaws.{KnownAnswer, known-answer}
 use Rattle.gauge.proofs.ReceiveLaws.{call-by}
 use Rattle.gauge_laws.specs.Table.{messageRows}
 use Rattle.gauge_laws.proofs.TableLaws.{IsMessage}
+use Rattle.sentences.specs.Heard.{Heard}
 use Rattle.sentences.specs.Sentences as S
-use Rattle.sentences.proofs.HeardLaws.{heardBy, answer-hears}
+use Rattle.sentences.proofs.HeardLaws.{heardBy, lookup-heard, answer-hears}
 use Rattle.sentences.proofs.WordLaws.{message-zero}
 use Rattle.sentences.proofs.PlanLaws.{held, used, Fine, Does, fine, message-fails, plan-is, is-message, passed}
 use Rattle.sentences.proofs.FloodDoesLaws.{flood-does}
@@ -33,7 +37,9 @@ module _ (m : Memory) (l : Receive) where
   any-does ok (M.Inquire x) i w bars = passed m l _ _ _ bars (inquire-does m l ok (x .head .id) (x .validate))
   any-does ok (M.Authority x) i w bars = passed m l _ _ _ bars (authority-does m l ok (x .acked) (R.isHere (x .fields .cpa)) (bars .0))
   any-does ok (M.Ack x) i w bars = passed m l _ _ _ bars (ack-does m l ok (x .acked) (x .n) (bars .0))
-  any-does ok (M.Lookup x) i w bars = passed m l _ _ _ bars (lookup-does m l ok (x .head .id) (x .target))
+  any-does ok (M.Lookup x) i w bars =
+      subst (λ (y : Heard). Does m l y (planFor m l (held m l) (used m l) (M.Lookup x))) (sym (lookup-heard (l .datagram) x w))
+      (passed m l _ (messageRows m l (M.Lookup x)) _ bars (lookup-does m l ok (x .head .id) (x .target) (startOf (x .path) + 8) (sizeOf (x .path) - 8) (x .entry) (w .1) (bars .0) (bars .1 .0)))
 
   pub receives-does : Bytes (l .datagram) → receiveCall m l .answer .number ≡ 0 → S.Receives m l (receiveCall m l)
   receives-does b z =

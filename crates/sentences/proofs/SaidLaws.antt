@@ -42,7 +42,9 @@ Refused m l (authority acked cpa) n =
     ⊎ ((n ≡ 9) × ((cpa ≡ false) ⊎ (¬ (l .verdict ≡ 1))))
     ⊎ ((n ≡ 10) × (cpa ≡ true) × (l .verdict ≡ 1) × (p : List ℕ) × S.WaitsAs m 2 acked p × (¬ (placeKey p ≡ keyAt 0 (l .key))))
 Refused m l (ack acked b) n = (n ≡ 8) × (¬ ((p : List ℕ) × S.WaitsAs m 1 acked p))
-Refused m l (lookup id target) n = ⊥
+Refused m l (lookup id target path e) n =
+    ((n ≡ 13) × S.EntryAsks (keyOf (l .own)) m e × (p : List ℕ) × S.Waits m p × (idOf p ≡ idAfter (l .id)))
+    ⊎ ((n ≡ 14) × S.EntryAsks (keyOf (l .own)) m e × (length (placesOf (m .waiting)) ≡ 16))
 Refused m l other n = n ≡ 7
 
 module _ (m : Memory) (l : Receive) (n : ℕ) where
@@ -59,7 +61,8 @@ module _ (m : Memory) (l : Receive) (n : ℕ) where
   refused-applies (authority acked cpa) says (inr (inr w)) =
       Num.other-key (w .0) acked (subst (λ (b : Bool). Num.Says l (authority acked b)) (w .1) says) (w .2) (w .3) (w .4) (w .5)
   refused-applies (ack acked b) says w = Num.no-flood (w .0) acked b says (w .1)
-  refused-applies (lookup id target) says w = absurd w
+  refused-applies (lookup id target path e) says (inl w) = Num.lookup-id-waits (w .0) id target path e says (w .1) (w .2) (w .3) (w .4)
+  refused-applies (lookup id target path e) says (inr w) = Num.lookup-all-used (w .0) id target path e says (w .1) (w .2)
   refused-applies other says w = Num.not-taken w says
 
 -- a datagram is no longer than all of them

@@ -84,8 +84,13 @@ module _ (m : Memory) (c : Receive) (d d′ : List ℕ) (b : Bytes d) (x : Heard
   reply-too (inquire i validate) ds w = w
   reply-too (authority acked c) ds w = w
   reply-too (ack acked n) ds w = w
-  reply-too (lookup i target) ds w =
-      record { r = w .r; closest = record { candidate = w .closest .candidate; none-closer = w .closest .none-closer }; are = w .are }
+  reply-too (lookup i target path e) ds w = record {
+    r = w .r;
+    ask = w .ask;
+    closest = record { candidate = w .closest .candidate; none-closer = w .closest .none-closer };
+    asked = w .asked;
+    are = w .are;
+  }
   reply-too other ds w = absurd w
 
   leaves-too : (y : Heard) (left : Memory) → S.Leaves m l y left → S.Leaves m l′ y left
@@ -94,7 +99,7 @@ module _ (m : Memory) (c : Receive) (d d′ : List ℕ) (b : Bytes d) (x : Heard
   leaves-too (inquire i validate) left w = w
   leaves-too (authority acked c) left w = w
   leaves-too (ack acked n) left w = w
-  leaves-too (lookup i target) left w = w
+  leaves-too (lookup i target path e) left w = record { cache = w .cache; table = w .table }
   leaves-too other left w = absurd w
 
   does-too : (h : Handed) → S.Receives m l h → S.Receives m l′ h
@@ -137,6 +142,8 @@ module _ (m : Memory) (c : Receive) (d d′ : List ℕ) (b : Bytes d) (x : Heard
   applies-too n (Num.not-ours e i validate says h) = Num.not-ours e i validate (heard-too _ says) h
   applies-too n (Num.id-waits e i s validate r says must p w h) = Num.id-waits e i s validate r (heard-too _ says) must p w h
   applies-too n (Num.all-used e i s validate r says must h) = Num.all-used e i s validate r (heard-too _ says) must h
+  applies-too n (Num.lookup-id-waits e i t q o says asks p w h) = Num.lookup-id-waits e i t q o (heard-too _ says) asks p w h
+  applies-too n (Num.lookup-all-used e i t q o says asks h) = Num.lookup-all-used e i t q o (heard-too _ says) asks h
   applies-too n (Num.no-room e y says ds r h) = Num.no-room e y (heard-too y says) ds (reply-too y ds r) h
 
 -- ---- the number: the first that applies is one where the same apply

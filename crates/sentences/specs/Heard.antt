@@ -2,10 +2,10 @@
 use Prim.Native.Nat.{ℕ}
 use mathlib.Core.Bool.{Bool, cond}
 use mathlib.Core.List.{List, []}
-use mathlib.Core.Option.{some, none}
+use mathlib.Core.Option.{Option, some, none}
 use mathlib.Core.Path.{_≡_}
 use lib.Dec.{eqb}
-use lib.ListN.{getD}
+use lib.ListN.{getD, drop}
 use Rattle.octet.specs.Number.{valueBE}
 use Rattle.record.specs.Entry.{recordOf}
 use Rattle.wire_shapes.specs.Shapes.{Kind}
@@ -24,8 +24,8 @@ pub data Heard : Type 0 where
   authority : ℕ → Bool → Heard
   -- ACK: the acked ID, N
   ack : ℕ → Bool → Heard
-  -- LOOKUP: its ID, the target
-  lookup : ℕ → ℕ → Heard
+  -- LOOKUP: its ID, the target, the endpoints of its path, the record of its route entry if it has one
+  lookup : ℕ → ℕ → List ℕ → Option (List ℕ) → Heard
   -- SOLICIT, ADVERTISE, REQUEST
   other : Heard
 
@@ -47,6 +47,12 @@ numberIn i msg = valueBE 256 (inside i msg)
 abbrev pub flagIn : ℕ → Message → Bool
 flagIn i msg = eqb (getD (inside i msg) 1 0) 1
 
+-- the record that a route entry names
+abbrev pub entryIn : Contents → Option (List ℕ)
+entryIn none = none
+entryIn (some v) = some (recordOf v)
+
+-- an array's elements stand behind 8 bytes with their count, the array's length, their number and size
 unfoldable pub heard : Message → Heard
 heard msg =
     cond (eqb (msg .type) 4)
@@ -55,7 +61,7 @@ heard msg =
     (cond (eqb (msg .type) 7) (inquire (msg .id) (numberIn 1 msg))
     (cond (eqb (msg .type) 8) (authority (numberIn 0 msg) (present (field 8 msg)))
     (cond (eqb (msg .type) 9) (ack (numberIn 0 msg) (flagIn 1 msg))
-    (cond (eqb (msg .type) 11) (lookup (msg .id) (numberIn 1 msg))
+    (cond (eqb (msg .type) 11) (lookup (msg .id) (numberIn 1 msg) (drop 8 (inside 4 msg)) (entryIn (field 3 msg)))
     other))))
 
 -- the datagram d, in the major version, says x

@@ -3,7 +3,9 @@
 -- in proofs/LateLaws.antt. Assumes nothing.
 use Prim.Native.Nat.{ℕ}
 use mathlib.Core.Bool.{Bool}
+use mathlib.Core.Logic.{_⊎_}
 use mathlib.Core.List.{List, [], _∷_}
+use mathlib.Core.Option.{some}
 use mathlib.Core.Path.{_≡_}
 use Rattle.key.specs.Number.{keyAt}
 use Rattle.record.specs.Record.{keyOf}
@@ -11,7 +13,7 @@ use Rattle.own.specs.Own.{ownKeys}
 use Rattle.kept.specs.Keys.{Every}
 use Rattle.gauge_plan.specs.Lent.{Memory, Call, receives, sends, ticks, lists}
 use Rattle.gauge.specs.Words.{Gauge, left, Typed, OneKey}
-use Rattle.sentences.specs.Heard.{entry, revoke, authority, Hears}
+use Rattle.sentences.specs.Heard.{entry, revoke, authority, lookup, Hears}
 use Rattle.sentences.specs.Sentences.{Holds, MustAsk}
 use Rattle.sentences.specs.Meets.{MeetsSentences}
 
@@ -29,11 +31,13 @@ Answers u (sends l) = ⊥
 Answers u (ticks l) = ⊥
 Answers u (lists l) = ⊥
 
--- a FLOOD of a record of the key, which must be inquired about
+-- a FLOOD or LOOKUP with a record of the key, which must be inquired about
 abbrev pub AsksFor : ℕ → Memory → Call → Type 0
 AsksFor u m (receives l) =
-    (i : ℕ) × (silent : Bool) × (validate : ℕ) × (r : List ℕ) × Hears (l .datagram) (l .major) (entry i silent validate r) × (keyOf r ≡ u)
-    × MustAsk (ownKeys (l .own)) m r
+    ((i : ℕ) × (silent : Bool) × (validate : ℕ) × (r : List ℕ) × Hears (l .datagram) (l .major) (entry i silent validate r) × (keyOf r ≡ u)
+    × MustAsk (ownKeys (l .own)) m r)
+    ⊎ ((i target : ℕ) × (path r : List ℕ) × Hears (l .datagram) (l .major) (lookup i target path (some r)) × (keyOf r ≡ u)
+    × MustAsk (ownKeys (l .own)) m r)
 AsksFor u m (sends l) = ⊥
 AsksFor u m (ticks l) = ⊥
 AsksFor u m (lists l) = ⊥

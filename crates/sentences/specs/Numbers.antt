@@ -3,7 +3,7 @@ use Prim.Native.Nat.{ℕ, _-_, _≤_, _<_}
 use mathlib.Core.Bool.{Bool, true, false}
 use mathlib.Core.Logic.{_⊎_}
 use mathlib.Core.List.{List}
-use mathlib.Core.Option.{none}
+use mathlib.Core.Option.{Option, none}
 use mathlib.Core.Path.{_≡_}
 use lib.ListN.{length, getD}
 use Rattle.octet.specs.Part.{part}
@@ -21,8 +21,8 @@ use Rattle.wire_fields.specs.Message.{opening, typeOf}
 use Rattle.wire_shapes.specs.Field.{numberAt}
 use Rattle.asking.specs.Ids.{idAfter}
 use Rattle.gauge_plan.specs.Lent.{Memory, Receive, Send, Call, receives, sends, ticks, lists, ReceiveLent, SendLent, TickLent, ListLent}
-use Rattle.sentences.specs.Heard.{Heard, entry, revoke, inquire, authority, ack, other, Hears}
-use Rattle.sentences.specs.Sentences.{Holds, Waits, WaitsAs, MustAsk, Reply, Named, flooding}
+use Rattle.sentences.specs.Heard.{Heard, entry, revoke, inquire, authority, ack, lookup, other, Hears}
+use Rattle.sentences.specs.Sentences.{Holds, Waits, WaitsAs, MustAsk, EntryAsks, Reply, Named, flooding}
 
 abbrev pub Says : Receive → Heard → Type 0
 Says l x = Hears (l .datagram) (l .major) x
@@ -79,6 +79,11 @@ pub data ReceiveApplies (m : Memory) (l : Receive) (n : ℕ) : Type 0 where
   id-waits : n ≡ 13 → (id : ℕ) (silent : Bool) (validate : ℕ) (r : List ℕ) → Says l (entry id silent validate r) → MustAsk (ownKeys (l .own)) m r
       → (p : List ℕ) → Waits m p → idOf p ≡ idAfter (l .id) → ReceiveApplies m l n
   all-used : n ≡ 14 → (id : ℕ) (silent : Bool) (validate : ℕ) (r : List ℕ) → Says l (entry id silent validate r) → MustAsk (ownKeys (l .own)) m r
+      → length (placesOf (m .waiting)) ≡ 16 → ReceiveApplies m l n
+  -- "13 and 14 now apply to LOOKUP too" (02, Wish 2)
+  lookup-id-waits : n ≡ 13 → (id target : ℕ) (path : List ℕ) (e : Option (List ℕ)) → Says l (lookup id target path e) → EntryAsks (ownKeys (l .own)) m e
+      → (p : List ℕ) → Waits m p → idOf p ≡ idAfter (l .id) → ReceiveApplies m l n
+  lookup-all-used : n ≡ 14 → (id target : ℕ) (path : List ℕ) (e : Option (List ℕ)) → Says l (lookup id target path e) → EntryAsks (ownKeys (l .own)) m e
       → length (placesOf (m .waiting)) ≡ 16 → ReceiveApplies m l n
   -- 15 "output needs more bytes than lent, or a datagram over 1,232"
   no-room : n ≡ 15 → (x : Heard) → Says l x → (ds : List (List ℕ)) → Reply m l x ds → NoRoom (l .output) ds → ReceiveApplies m l n

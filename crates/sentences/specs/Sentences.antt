@@ -4,7 +4,7 @@ use Prim.Native.Nat.{ℕ, _-_, _≤_, _<_}
 use mathlib.Core.Bool.{Bool, true, false, cond}
 use mathlib.Core.Logic.{_⊎_, _↔_}
 use mathlib.Core.List.{List, [], _∷_, _++_}
-use mathlib.Core.Option.{none}
+use mathlib.Core.Option.{Option, some, none}
 use mathlib.Core.Path.{_≡_}
 use lib.Dec.{leb}
 use lib.ListN.{length}
@@ -16,6 +16,7 @@ use Rattle.own.specs.Own.{ownKeys, IsOwn}
 use Rattle.kept.specs.Keys.{_∈_, Rising, plain}
 use Rattle.kept.specs.Neighbours.{IsNeighbours, onSide}
 use Rattle.cache.specs.Form.{keysOf, placesIn, heldOf, cacheForm}
+use Rattle.path.specs.Path.{onPath}
 use Rattle.neighbours.specs.Listing.{keyBytes}
 use Rattle.waiting.specs.Place.{idOf, kindOf, triesOf, placeKey, placeRecord, inquiryPlace, floodPlace}
 use Rattle.waiting.specs.Form.{placesOf, waitingForm}
@@ -84,13 +85,24 @@ acks l id silent n = cond silent [] (written ackKinds (ackSent (l .major) (l .mi
 abbrev pub asks : Receive → Bool → List ℕ → List (List ℕ)
 asks l ask r = cond ask (written inquireKinds (inquireSent (l .major) (l .minor) (idAfter (l .id)) (part 0 32 r) (l .nonce)) ∷ []) []
 
--- "the record closest to the target, the own record included"; "the shorter way round; at equal distance .. the key reached by going down" (02, Wish 4)
-abbrev pub Candidate : Memory → Receive → List ℕ → Type 0
-Candidate m l r = (r ≡ l .own) ⊎ Holds (ownKeys (l .own)) m r
+-- "the record closest to the target, the own record included"; "the shorter way round; at equal distance .. the key reached by going down" (02, Wish 4); "must
+-- skip any held record whose port and one of whose addresses stand together as an endpoint on the LOOKUP's path" and "The own record is never skipped" (02, Wish 2)
+abbrev pub Candidate : Memory → Receive → List ℕ → List ℕ → Type 0
+Candidate m l path r = (r ≡ l .own) ⊎ (Holds (ownKeys (l .own)) m r × (onPath r path ≡ false))
 
-pub record Closest (m : Memory) (l : Receive) (target : ℕ) (r : List ℕ) : Type 0 where
-  pub candidate : Candidate m l r
-  pub none-closer : (q : List ℕ) → Candidate m l q → closer target (keyOf q) (keyOf r) ≡ false
+pub record Closest (m : Memory) (l : Receive) (path : List ℕ) (target : ℕ) (r : List ℕ) : Type 0 where
+  pub candidate : Candidate m l path r
+  pub none-closer : (q : List ℕ) → Candidate m l path q → closer target (keyOf q) (keyOf r) ≡ false
+
+-- "01 was wrong to leave the LOOKUP's route entry unlearned: it is inquired about as in a FLOOD .. our own key there is passed over" (02, Wish 2). The record that
+-- the entry names, nothing where there is none
+abbrev pub EntryAsks : ℕ → Memory → Option (List ℕ) → Type 0
+EntryAsks k m none = ⊥
+EntryAsks k m (some r) = (¬ IsOwn k (keyOf r)) × MustAsk k m r
+
+abbrev pub entryRecord : Option (List ℕ) → List ℕ
+entryRecord none = []
+entryRecord (some r) = r
 
 pub record EntryReply (m : Memory) (l : Receive) (id : ℕ) (silent : Bool) (validate : ℕ) (r : List ℕ) (ds : List (List ℕ)) : Type 0 where
   pub n : Bool
@@ -104,10 +116,13 @@ pub record RevokeReply (l : Receive) (id : ℕ) (silent : Bool) (validate : ℕ)
   pub set : NSet l validate n
   pub are : ds ≡ acks l id silent n
 
-pub record LookupReply (m : Memory) (l : Receive) (id target : ℕ) (ds : List (List ℕ)) : Type 0 where
+pub record LookupReply (m : Memory) (l : Receive) (id target : ℕ) (path : List ℕ) (e : Option (List ℕ)) (ds : List (List ℕ)) : Type 0 where
   pub r : List ℕ
-  pub closest : Closest m l target r
-  pub are : ds ≡ written authorityKinds (closestSent (l .major) (l .minor) (l .id) id r) ∷ []
+  pub ask : Bool
+  pub closest : Closest m l path target r
+  pub asked : (ask ≡ true) ↔ EntryAsks (ownKeys (l .own)) m e
+  -- the reply, and the INQUIRE "with the ID one more than the reply's"
+  pub are : ds ≡ written authorityKinds (closestSent (l .major) (l .minor) (l .id) id r) ∷ asks l ask (entryRecord e)
 
 -- the datagrams that answer what was heard; SOLICIT, ADVERTISE and REQUEST are never accepted (7)
 abbrev pub Reply : Memory → Receive → Heard → List (List ℕ) → Type 0
@@ -116,7 +131,7 @@ Reply m l (revoke id silent validate) ds = RevokeReply l id silent validate ds
 Reply m l (inquire id validate) ds = ds ≡ written authorityKinds (cpaSent (l .major) (l .minor) (l .id) id (l .cpa)) ∷ []
 Reply m l (authority acked cpa) ds = ds ≡ []
 Reply m l (ack acked n) ds = ds ≡ []
-Reply m l (lookup id target) ds = LookupReply m l id target ds
+Reply m l (lookup id target path e) ds = LookupReply m l id target path e ds
 Reply m l other ds = ⊥
 
 -- ---- what is held and what waits afterwards
@@ -149,6 +164,11 @@ pub record FloodEntry (k : ℕ) (m : Memory) (l : Receive) (r : List ℕ) (left 
   pub cache : left .cache ≡ m .cache
   pub table : WaitsExactly k (left .waiting) (λ (p : List ℕ). Waits m p ⊎ (MustAsk k m r × (p ≡ inquiryPlace (idAfter (l .id)) r)))
 
+-- LOOKUP: "it is inquired about as in a FLOOD" (02, Wish 2), and nothing is learned yet
+pub record LookupEntry (k : ℕ) (m : Memory) (l : Receive) (e : Option (List ℕ)) (left : Memory) : Type 0 where
+  pub cache : left .cache ≡ m .cache
+  pub table : WaitsExactly k (left .waiting) (λ (p : List ℕ). Waits m p ⊎ (EntryAsks k m e × (p ≡ inquiryPlace (idAfter (l .id)) (entryRecord e))))
+
 -- "FLOOD with a revocation. Verdict 1 names the key. It is removed if held, a waiting inquiry for it is freed"
 pub record FloodRevokes (k : ℕ) (m : Memory) (u : ℕ) (left : Memory) : Type 0 where
   pub cache : HoldsExactly k (m .cache) (left .cache) (λ (r : List ℕ). Holds k m r × (¬ (keyOf r ≡ u)))
@@ -168,14 +188,14 @@ pub record Ack (k : ℕ) (m : Memory) (acked : ℕ) (n : Bool) (left : Memory) :
   pub cache : HoldsExactly k (m .cache) (left .cache) (λ (r : List ℕ). Holds k m r × (¬ ((n ≡ true) × (keyOf r ≡ placeKey p))))
   pub table : WaitsExactly k (left .waiting) (λ (q : List ℕ). Waits m q × (¬ (q ≡ p)))
 
--- INQUIRE and LOOKUP leave memory as it was: "The route entry in a LOOKUP is not learned"
+-- INQUIRE leaves memory as it was
 abbrev pub Leaves : Memory → Receive → Heard → Memory → Type 0
 Leaves m l (entry id silent validate r) left = FloodEntry (ownKeys (l .own)) m l r left
 Leaves m l (revoke id silent validate) left = FloodRevokes (ownKeys (l .own)) m (keyAt 0 (l .key)) left
 Leaves m l (inquire id validate) left = left ≡ m
 Leaves m l (authority acked cpa) left = Authority (ownKeys (l .own)) m acked left
 Leaves m l (ack acked n) left = Ack (ownKeys (l .own)) m acked n left
-Leaves m l (lookup id target) left = left ≡ m
+Leaves m l (lookup id target path e) left = LookupEntry (ownKeys (l .own)) m l e left
 Leaves m l other left = ⊥
 
 -- ---- what each call does, accepted

@@ -15,9 +15,9 @@ use Rattle.octet.specs.Number.{digitsLE}
 use Rattle.octet.specs.Part.{part}
 use Rattle.key.specs.Number.{keyAt}
 use Rattle.record.specs.Record.{keyOf, recordForm}
-use Rattle.record.specs.Entry.{recordOf}
+use Rattle.record.specs.Entry.{entryForm, recordOf}
 use Rattle.record.proofs.EntryLaws.{form-length, record-form}
-use Rattle.table.specs.Rows.{rows, bytesOf}
+use Rattle.table.specs.Rows.{rows, bytesOf, anyOf}
 use Rattle.table.proofs.RowLaws.{rows-length}
 use Rattle.kept.specs.Keys.{_∈_, Every}
 use Rattle.kept.specs.Plain.{NotOwn, drops}
@@ -41,11 +41,17 @@ use Rattle.waiting.proofs.FormLaws.{form-unique}
 use Rattle.waiting.proofs.KeptLaws.{free-kept, open-inquiry}
 use Rattle.waiting.proofs.RoundLaws.{All, all-none, all-at, all-map, all-both, all-freed, all-opened, all-ticked}
 use Rattle.wire_read.specs.Answers as R
+use Rattle.asking.specs.Asking.{mustAsk}
 use Rattle.asking.specs.Ids.{idAfter}
+use Rattle.neighbours.specs.Closest.{offPath, closestPast}
+use Rattle.neighbours.proofs.ClosestLaws.{closest-formed}
+use Rattle.neighbours.proofs.SkipLaws.{off-held}
+use Rattle.wire_write.specs.Making.{closestMade}
+use Rattle.gauge_commit.proofs.SentLaws.{shown-closest}
 use Rattle.gauge_plan.specs.declared.Plan.{Plan}
 use Rattle.gauge_plan.specs.declared.Plan.the-variants.{Refuse, Flood, Revoke, Learn, Free, Certify, Show}
 use Rattle.gauge_plan.proofs.MemoryLaws.{Ready}
-use Rattle.asking.proofs.AskingLaws.{ask-tells}
+use Rattle.asking.proofs.AskingLaws.{ask-tells, asks-tells}
 use Rattle.gauge_commit.specs.Replies.{freedAt}
 use Rattle.gauge_commit.specs.declared.Answer.{Answer}
 use Rattle.gauge_commit.proofs.PlaceLaws.{record-place, record-key}
@@ -55,7 +61,7 @@ use Rattle.plan_message.specs.Planned.{receivePlan}
 use Rattle.gauge.specs.Receive.{carried, receiveCall}
 use Rattle.gauge.specs.Send.{sendCall}
 use Rattle.gauge.specs.Counts.{gaugeTick, gaugeList}
-use Rattle.plan_message.proofs.PlannedLaws.{Known, Flooded, known, learn-needs}
+use Rattle.plan_message.proofs.PlannedLaws.{Known, Flooded, Shown, known, shown-entry, learn-needs}
 use Rattle.gauge_laws.proofs.RefusedLaws.{refused-keeps}
 use Rattle.gauge_laws.proofs.MovedLaws.{ready-form, ready-places, receive-ready, send-moved}
 use Rattle.gauge_laws.proofs.TickLaws.{tick-round}
@@ -66,7 +72,7 @@ use Rattle.signed.specs.Answered.{AnswerTold, answerTold, toldFrom, inqu
 use Rattle.signed.proofs.ToldLaws.{happened, log-happened}
 use Rattle.signed.proofs.StepLaws.{moved-all, ran}
 use Rattle.signed.proofs.Theorems.{empty-cache, empty-table, start, typed-calls}
-use Rattle.signed.proofs.InquiryLaws.{Quiet, Floods, Heard, heard, asked-still, asked-none, asked-other, asked-here, answered-still, answered-one, inquires-is}
+use Rattle.signed.proofs.InquiryLaws.{Quiet, Floods, Looks, Heard, heard, asked-still, asked-none, asked-other, asked-here, answered-still, answered-one, inquires-is, inquires-behind}
 
 -- ---- what stands in the tables after an edit
 
@@ -131,61 +137,95 @@ pub record Holds (k : ℕ) (es : List AnswerTold) (m : Memory) : Type 0 where
 asked-later : (es es′ : List AnswerTold) → ((id : ℕ) → inquired id es′ ≡ inquired id es) → (ps : List (List ℕ)) → All (Asked es) ps → All (Asked es′) ps
 asked-later es es′ same ps a = all-map (Asked es) (Asked es′) (λ p h kind. same (idOf p) ∙ h kind) ps a
 
--- a FLOOD with a route entry
-module _ (m : Memory) (l : Receive) (es : List AnswerTold) (u : ℕ) (s n : Bool) (a start len : ℕ) where
+-- a route entry that is inquired about: the place that opens is that of the INQUIRE, and no other has its ID
+module _ (m : Memory) (l : Receive) (es : List AnswerTold) (g : Answer) {h u : ℕ} (fit : Ready (l .own) m h u) (start len : ℕ)
+    (entry : entryForm (part start len (l .datagram)) ≡ true) where
   abbrev Entry : List ℕ
   Entry = recordOf (part start len (l .datagram))
 
-  abbrev Given : Bool → Answer
-  Given opens = carried m l (Flood u s n a opens start len) .answer
+  entry-long : length Entry ≡ 100
+  entry-long = form-length Entry (record-form (part start len (l .datagram)) entry)
 
-  module _ (opens : Bool) (k : Flooded m l u s n a opens start len) where
-    entry-long : length Entry ≡ 100
-    entry-long = form-length Entry (record-form (part start len (l .datagram)) (k .entry))
-
-    asks-told : inquires (Given opens) ≡ opens
-    unfolding carried
-    asks-told = inquires-is (l .major) (l .minor) (l .id) a (l .nonce) Entry (k .hands .nonced) entry-long s n opens
-
-  -- the place that opens is that of the INQUIRE, and no other has its ID
-  opened-asked : (k : Flooded m l u s n a true start len) → Floods m l (R.readIn (l .datagram) (l .major)) start len
+  opened-asked : (u ≡ 16 → ⊥) → anyOf (hasId (idAfter (l .id))) (rows 140 u (m .waiting)) ≡ false → (keyOf Entry ≡ keyOf (l .own) → ⊥)
+      → mustAsk (rows 100 h (m .cache)) (rows 140 u (m .waiting)) Entry ≡ true
+      → inquired (idAfter (l .id)) (answerTold (receives l) g ∷ es) ≡ some Entry
       → All (Asked es) (placesOf (m .waiting))
-      → All (Asked (answerTold (receives l) (Given true) ∷ es))
+      → All (Asked (answerTold (receives l) g ∷ es))
       (placesOf (bytesOf 2240 (opened (inquiryPlace (idAfter (l .id)) Entry) (rows 140 u (m .waiting)))))
-  opened-asked k f asked =
+  opened-asked free new other asks told asked =
       let t = m .waiting in
       let own = keyOf (l .own) in
       let ps = rows 140 u t in
       let i = idAfter (l .id) in
       let p = inquiryPlace i Entry in
-      let later = answerTold (receives l) (Given true) ∷ es in
-      let is = ready-places (l .own) m (k .ready) in
-      let form : W.PlacesForm own t ps = subst (W.PlacesForm own t) is (ready-form (l .own) m (k .ready)) in
-      let few = k .ready .few in
-      let free = k .plans .free refl in
-      let new = k .plans .new refl in
-      let long = entry-long true k in
+      let later = answerTold (receives l) g ∷ es in
+      let is = ready-places (l .own) m fit in
+      let form : W.PlacesForm own t ps = subst (W.PlacesForm own t) is (ready-form (l .own) m fit) in
+      let few = fit .few in
+      let long = entry-long in
       let short = length-take-le 32 Entry (omega arith) in
       let small : i < 2 ^ 32 = mod-lt _ (omega arith) in
-      let formed = record-form (part start len (l .datagram)) (k .entry) in
-      let after = open-inquiry own t ps form i Entry (omega (arith, rows-length 140 u t)) small long formed
-      (ne-eqb (keyOf Entry) own (k .plans .other)) new (ask-tells _ _ Entry (sym (k .plans .opens-is)) .1) in
+      let formed = record-form (part start len (l .datagram)) entry in
+      let after = open-inquiry own t ps form i Entry (omega (arith, rows-length 140 u t, free)) small long formed
+      (ne-eqb (keyOf Entry) own other) new (ask-tells _ _ Entry asks .1) in
       let here : Asked later p =
       λ kind. ap (λ (j : ℕ). inquired j later) (new-id i 2 2 (part 0 32 Entry) Entry short long small)
-      ∙ asked-here m l (Given true) es start len f (asks-told true k)
+      ∙ told
       ∙ ap (λ (r : List ℕ). some r) (sym (new-record i 2 2 (part 0 32 Entry) Entry short long)) in
       let others : All (Asked later) ps =
-      all-both (λ (q : List ℕ). hasId i q ≡ false) (Asked es) (Asked later) (λ q other h kind. asked-other m l (Given true) es (idOf q) other ∙ h kind)
+      all-both (λ (q : List ℕ). hasId i q ≡ false) (Asked es) (Asked later) (λ q other h kind. asked-other m l g es (idOf q) other ∙ h kind)
       ps (all-none (hasId i) ps new) (subst (All (Asked es)) is asked) in
       subst (All (Asked later)) (form-unique own (bytesOf 2240 (opened p ps)) (opened p ps) after) (all-opened (Asked later) p ps here others)
+
+-- a FLOOD with a route entry
+module _ (m : Memory) (l : Receive) (es : List AnswerTold) (u : ℕ) (s n : Bool) (a start len : ℕ) where
+  abbrev Given : Bool → Answer
+  Given opens = carried m l (Flood u s n a opens start len) .answer
+
+  asks-told : (opens : Bool) → Flooded m l u s n a opens start len → inquires (Given opens) ≡ opens
+  unfolding carried
+  asks-told opens k =
+      inquires-is (l .major) (l .minor) (l .id) a (l .nonce) (recordOf (part start len (l .datagram))) (k .hands .nonced)
+      (entry-long m l es (Given opens) (k .ready) start len (k .entry)) s n opens
 
   flood-asked : (opens : Bool) → Flooded m l u s n a opens start len → Floods m l (R.readIn (l .datagram) (l .major)) start len
       → All (Asked es) (placesOf (m .waiting))
       → All (Asked (answerTold (receives l) (Given opens) ∷ es)) (placesOf (carried m l (Flood u s n a opens start len) .memory .waiting))
   unfolding carried
-  flood-asked true k f asked = opened-asked k f asked
+  flood-asked true k f asked =
+      opened-asked m l es (Given true) (k .ready) start len (k .entry) (k .plans .free refl) (k .plans .new refl) (k .plans .other) (sym (k .plans .opens-is))
+      (asked-here m l (Given true) es (recordOf (part start len (l .datagram))) (f .asked) (asks-told true k)) asked
   flood-asked false k f asked =
       asked-later es (answerTold (receives l) (Given false) ∷ es) (asked-none m l (Given false) es (asks-told false k)) (placesOf (m .waiting)) asked
+
+-- a LOOKUP
+module _ (m : Memory) (l : Receive) (es : List AnswerTold) (h u a target path size start len : ℕ) where
+  abbrev Reply : Bool → Answer
+  Reply opens = carried m l (Show h u a target path size opens start len) .answer
+
+  reply-told : (opens : Bool) → Shown m l h u a target path size opens start len → inquires (Reply opens) ≡ opens
+  unfolding carried
+  reply-told opens k =
+      let path-bytes = part path size (l .datagram) in
+      let recs = rows 100 h (m .cache) in
+      let r = closestPast (l .own) recs path-bytes (keyAt target (l .datagram)) in
+      let formed = closest-formed (keyAt target (l .datagram)) (keyOf (l .own)) (l .own) (offPath path-bytes recs) (k .ready .owned)
+      (off-held path-bytes (keyOf (l .own)) recs (k .ready .form .held)) in
+      inquires-behind (l .major) (l .minor) (l .id) (l .nonce) (recordOf (part start len (l .datagram)))
+      (closestMade (l .major) (l .minor) (l .id) a r 0 .bytes) opens
+      (λ e. omega (arith, e, shown-closest (l .major) (l .minor) (l .id) a r formed))
+      (λ o. (k .hands .nonced, entry-long m l es (Reply opens) (k .ready) start len (shown-entry m l k o)))
+
+  show-asked : (opens : Bool) → Shown m l h u a target path size opens start len → Looks m l (R.readIn (l .datagram) (l .major)) opens start len
+      → All (Asked es) (placesOf (m .waiting))
+      → All (Asked (answerTold (receives l) (Reply opens) ∷ es)) (placesOf (carried m l (Show h u a target path size opens start len) .memory .waiting))
+  unfolding carried
+  show-asked true k f asked =
+      let tells = asks-tells (keyOf (l .own)) (rows 100 h (m .cache)) (rows 140 u (m .waiting)) (part start len (l .datagram)) (sym (k .plans .opens-is)) in
+      opened-asked m l es (Reply true) (k .ready) start len (shown-entry m l k refl) (k .plans .free refl) (k .plans .new refl) (tells .1) (tells .2)
+      (asked-here m l (Reply true) es (recordOf (part start len (l .datagram))) (f .asked refl) (reply-told true k)) asked
+  show-asked false k f asked =
+      asked-later es (answerTold (receives l) (Reply false) ∷ es) (asked-none m l (Reply false) es (reply-told false k)) (placesOf (m .waiting)) asked
 
 module _ (m : Memory) (l : Receive) (es : List AnswerTold) (b : Holds (keyOf (l .own)) es m) where
   abbrev OwnKey : ℕ
@@ -254,7 +294,10 @@ module _ (m : Memory) (l : Receive) (es : List AnswerTold) (b : Holds (keyOf (l 
       quiet-holds _ _ q (asked-found (k .ready) (At at)) (last-without (k .ready) (placeKey (getD (rows 140 u (m .waiting)) at [])))
   plan-holds (Free h u at false) e k q = quiet-holds _ _ q (asked-found (k .ready) (At at)) (b .last)
   plan-holds (Certify a) e k q = quiet-holds _ _ q (b .asked) (b .last)
-  plan-holds (Show h a target) e k q = quiet-holds _ _ q (b .asked) (b .last)
+  plan-holds (Show h u a target path size opens start len) e k q = record {
+    asked = show-asked m l es h u a target path size start len opens k q (b .asked);
+    last = last-still (Reply m l es h u a target path size start len opens) (q .answers) (m .cache) (b .last);
+  }
 
   receive-holds : receiveCall m l .answer .number ≡ 0
       → Holds OwnKey (answerTold (receives l) (receiveCall m l .answer) ∷ es) (receiveCall m l .memory)

@@ -55,7 +55,7 @@ Told m l a (Revoke h u s n b) = (es : List Entry) → toldBy es (keyAt 0 (l .key
 Told m l a (Learn h u at) = (es : List Entry) → toldBy es (keyAt 0 (l .key)) (heardBy (l .datagram) a) ≡ learned (keyAt 0 (l .key)) ∷ []
 Told m l a (Free h u at n) = Acked m l a u at n
 Told m l a (Certify b) = (es : List Entry) → toldBy es (keyAt 0 (l .key)) (heardBy (l .datagram) a) ≡ []
-Told m l a (Show h b at) = (es : List Entry) → toldBy es (keyAt 0 (l .key)) (heardBy (l .datagram) a) ≡ []
+Told m l a (Show h u b t p z o start len) = (es : List Entry) → toldBy es (keyAt 0 (l .key)) (heardBy (l .datagram) a) ≡ []
 
 -- where no row of a table applies, what stands behind it
 behind : (m : Memory) (l : Receive) (a : T.Incoming) (rs : List Refusal) (done : Plan) → AllFail rs → Told m l a done → Told m l a (orRefuse Refuse rs done)

@@ -14,7 +14,7 @@ use Rattle.key.specs.Number.{keyAt}
 use Rattle.record.specs.Record.{keyOf}
 use Rattle.record.specs.Entry.{recordOf}
 use Rattle.refusal.specs.Table.{Refusal, orRefuse}
-use Rattle.refusal.proofs.TableLaws.{AllFail}
+use Rattle.refusal.proofs.TableLaws.{AllFail, both}
 use Rattle.refusal.proofs.CallLaws.{or-known}
 use Rattle.table.specs.Rows.{rows}
 use Rattle.cache.specs.Form.{heldIn}
@@ -23,13 +23,17 @@ use Rattle.table.specs.Seek.{seek}
 use Rattle.waiting.specs.Seek.{isAt}
 use Rattle.wire_fields.specs.declared.Part.{Part}
 use Rattle.wire_fields.specs.declared.Part.the-variants.{Here, Absent}
+use Rattle.wire_buffer.specs.Buffer.{startOf}
 use Rattle.wire_read.specs.Answers as R
 use Rattle.wire_read.specs.declared.Incoming as T
 use Rattle.wire_read.specs.declared.Incoming.the-variants as M
 use Rattle.wire_read.specs.declared.messages.Flood as F
 use Rattle.wire.proofs.ShownLaws.{withEntry}
 use Rattle.wire_write.specs.Making.{inquireMade}
+use Rattle.look.specs.Seen.{sizeOf}
+use Rattle.asking.specs.Asking.{asksFor}
 use Rattle.asking.specs.Ids.{idAfter}
+use Rattle.asking.proofs.AskingLaws.{asks-none}
 use Rattle.gauge_plan.specs.Memory.{tablesFit, memoryOf, handsFit}
 use Rattle.plan_flood.specs.Flood.{floodPlan, revokePlan}
 use Rattle.gauge_plan.specs.Found.{placeOf}
@@ -48,26 +52,31 @@ use Rattle.plan_message.specs.Planned.{byEntry, planFor, receivePlan}
 use Rattle.gauge.specs.Receive.{receiveCall}
 use Rattle.plan_message.proofs.PlannedLaws.{plan-message}
 use Rattle.gauge_laws.proofs.TableLaws.{none-applies}
-use Rattle.signed.specs.Answered.{AnswerTold, answerTold, inquires, floodedOr, inquired, thatOf, answeredBy, answered}
+use Rattle.signed.specs.Answered.{AnswerTold, answerTold, inquires, entryOr, namedOr, inquired, thatOf, answeredBy, answered}
 use Rattle.signed.proofs.EventLaws as event
 
 -- ---- what an accepted datagram tells of inquiries, by its plan
 
 -- neither that one is sent nor that one is answered
 pub record Quiet (m : Memory) (l : Receive) (a : T.Incoming) : Type 0 where
-  pub asked : (earlier : Option (List ℕ)) → floodedOr (l .datagram) a earlier ≡ earlier
+  pub asked : (earlier : Option (List ℕ)) → namedOr (l .datagram) a earlier ≡ earlier
   pub answers : (es : List AnswerTold) → answeredBy es a ≡ []
 
 -- a FLOOD with a route entry
 pub record Floods (m : Memory) (l : Receive) (a : T.Incoming) (start len : ℕ) : Type 0 where
-  pub asked : (earlier : Option (List ℕ)) → floodedOr (l .datagram) a earlier ≡ some (recordOf (part start len (l .datagram)))
+  pub asked : (earlier : Option (List ℕ)) → namedOr (l .datagram) a earlier ≡ some (recordOf (part start len (l .datagram)))
+  pub answers : (es : List AnswerTold) → answeredBy es a ≡ []
+
+-- a LOOKUP, whose route entry is inquired about or not
+pub record Looks (m : Memory) (l : Receive) (a : T.Incoming) (opens : Bool) (start len : ℕ) : Type 0 where
+  pub asked : opens ≡ true → (earlier : Option (List ℕ)) → namedOr (l .datagram) a earlier ≡ some (recordOf (part start len (l .datagram)))
   pub answers : (es : List AnswerTold) → answeredBy es a ≡ []
 
 -- an AUTHORITY: the inquiry that waits with the acked ID
 pub record Answers (m : Memory) (l : Receive) (a : T.Incoming) (u at : ℕ) : Type 0 where
   pub acked : ℕ
   pub waiting : Waits acked 2 at (rows 140 u (m .waiting))
-  pub asked : (earlier : Option (List ℕ)) → floodedOr (l .datagram) a earlier ≡ earlier
+  pub asked : (earlier : Option (List ℕ)) → namedOr (l .datagram) a earlier ≡ earlier
   pub answers : (es : List AnswerTold) → answeredBy es a ≡ thatOf (inquired acked es)
 
 abbrev pub Heard : Memory → Receive → T.Incoming → Plan → Type 0
@@ -77,7 +86,7 @@ Heard m l a (Revoke h u s n b) = Quiet m l a
 Heard m l a (Learn h u at) = Answers m l a u at
 Heard m l a (Free h u at n) = Quiet m l a
 Heard m l a (Certify b) = Quiet m l a
-Heard m l a (Show h b at) = Quiet m l a
+Heard m l a (Show h u b t p z o start len) = Looks m l a o start len
 
 module _ (m : Memory) (l : Receive) where
   -- behind a table: what is refused is not accepted, and the rest is known where no row applies
@@ -111,7 +120,13 @@ module _ (m : Memory) (l : Receive) where
         answers = λ es. refl;
       }) t
   heard-message h u (M.Ack x) t = behind _ _ _ (λ f. record { asked = λ earlier. refl; answers = λ es. refl }) t
-  heard-message h u (M.Lookup x) t = behind _ _ _ (λ f. record { asked = λ earlier. refl; answers = λ es. refl }) t
+  heard-message h u (M.Lookup x) t = behind _ _ _ (λ f. record { asked = entry-asked (x .entry); answers = λ es. refl }) t
+    where
+      entry-asked : (p : Part)
+          → asksFor (keyOf (l .own)) (rows 100 h (m .cache)) (rows 140 u (m .waiting)) (part (startOf p) (sizeOf p) (l .datagram)) ≡ true
+          → (earlier : Option (List ℕ)) → entryOr (l .datagram) p earlier ≡ some (recordOf (part (startOf p) (sizeOf p) (l .datagram)))
+      entry-asked (Here start len) e earlier = refl
+      entry-asked Absent e earlier = both e (asks-none (keyOf (l .own)) (rows 100 h (m .cache)) (rows 140 u (m .waiting)) [] refl)
 
   pub heard : receiveCall m l .answer .number ≡ 0 → Heard m l (R.readIn (l .datagram) (l .major)) (receivePlan m l)
   unfolding memoryOf
@@ -139,7 +154,7 @@ module _ (m : Memory) (l : Receive) (g : Answer) (es : List AnswerTold) where
   Message = R.readIn (l .datagram) (l .major)
 
   -- which inquiry an ID is that of
-  pub asked-still : ((earlier : Option (List ℕ)) → floodedOr (l .datagram) Message earlier ≡ earlier)
+  pub asked-still : ((earlier : Option (List ℕ)) → namedOr (l .datagram) Message earlier ≡ earlier)
       → (id : ℕ) → inquired id (answerTold (receives l) g ∷ es) ≡ inquired id es
   unfolding inquired
   asked-still q id = rw (q (inquired id es)) (cond-same (inquires g && eqb (idAfter (l .id)) id) (inquired id es))
@@ -152,12 +167,12 @@ module _ (m : Memory) (l : Receive) (g : Answer) (es : List AnswerTold) where
   unfolding inquired
   asked-other id e =
       rw (ne-eqb (idAfter (l .id)) id (λ is. eqb-false id (idAfter (l .id)) e (sym is)))
-      (cond-unless (inquires g) (floodedOr (l .datagram) Message (inquired id es)) (inquired id es))
+      (cond-unless (inquires g) (namedOr (l .datagram) Message (inquired id es)) (inquired id es))
 
-  pub asked-here : (start len : ℕ) → Floods m l Message start len → inquires g ≡ true
-      → inquired (idAfter (l .id)) (answerTold (receives l) g ∷ es) ≡ some (recordOf (part start len (l .datagram)))
+  pub asked-here : (r : List ℕ) → ((earlier : Option (List ℕ)) → namedOr (l .datagram) Message earlier ≡ some r) → inquires g ≡ true
+      → inquired (idAfter (l .id)) (answerTold (receives l) g ∷ es) ≡ some r
   unfolding inquired
-  asked-here start len f e = rw (e, eq-eqb (idAfter (l .id)) (idAfter (l .id)) refl) (f .asked (inquired (idAfter (l .id)) es))
+  asked-here r f e = rw (e, eq-eqb (idAfter (l .id)) (idAfter (l .id)) refl) (f (inquired (idAfter (l .id)) es))
 
   -- which were answered
   pub answered-still : ((fs : List AnswerTold) → answeredBy fs Message ≡ []) → answered (answerTold (receives l) g ∷ es) ≡ answered es
@@ -180,3 +195,11 @@ module _ (major minor id acked : ℕ) (nonce r : List ℕ) (fresh : length nonce
   inquires-is false false true = rw (ack-length major minor id acked false, asked-long) refl
   inquires-is false true false = rw (ack-length major minor id acked true) refl
   inquires-is false false false = rw (ack-length major minor id acked false) refl
+
+-- behind an AUTHORITY with a record, which is longer
+pub inquires-behind : (major minor id : ℕ) (nonce r shown : List ℕ) (opens : Bool) → ¬ (length shown ≡ 76) → (opens ≡ true → (length nonce ≡ 16) × (length r ≡ 100))
+    → inquires (lengths (shown ∷ inquireWritten major minor id opens nonce r)) ≡ opens
+inquires-behind major minor id nonce r shown true other sized =
+    let s = sized refl in
+    rw (ne-eqb (length shown) 76 other, inquire-length major minor (idAfter id) (part 0 32 r) nonce (length-take-le 32 r (omega (arith, s .1))) (s .0)) refl
+inquires-behind major minor id nonce r shown false other sized = rw (ne-eqb (length shown) 76 other) refl

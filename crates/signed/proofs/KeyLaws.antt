@@ -130,7 +130,7 @@ module _ (m : Memory) (l : Receive) (C : ℕ) (es : List Entry) (keys : List ℕ
       rw (t .told es, sent) (removed-keeps (keyOf (l .own)) C (m .cache) (rows 100 h (m .cache)) (k .ready .form) keys kept (placeKey p))
   plan-keeps (Free h u at false) e k t o = still _ (t .told es)
   plan-keeps (Certify a) e k t o = still _ (t es)
-  plan-keeps (Show h a target) e k t o = still _ (t es)
+  plan-keeps (Show h u a at path size opens start len) e k t o = still _ (t es)
 
   -- no learned key is our own
   nothing-learned : (ds : List Event) → ds ≡ [] → (j : ℕ) → Learns j ds → NotOwn (keyOf (l .own)) j
@@ -157,7 +157,7 @@ module _ (m : Memory) (l : Receive) (C : ℕ) (es : List Entry) (keys : List ℕ
   plan-fine (Free h u at true) e k t = removed-learned (sentTo (t .acked) es) _ (t .told es)
   plan-fine (Free h u at false) e k t = nothing-learned _ (t .told es)
   plan-fine (Certify a) e k t = nothing-learned _ (t es)
-  plan-fine (Show h a target) e k t = nothing-learned _ (t es)
+  plan-fine (Show h u a at path size opens start len) e k t = nothing-learned _ (t es)
 
   module _ (z : receiveCall m l .answer .number ≡ 0) where
     pub receive-keeps : All (Owed es) (placesOf (m .waiting))

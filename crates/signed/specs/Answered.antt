@@ -42,30 +42,30 @@ toldFrom g m earlier (c ∷ cs) = toldFrom g (g m c .memory) (answerTold c (g m 
 
 -- ---- the record that an inquiry is about
 
--- is there an INQUIRE to send? It has 76 bytes, the ACK before it 20 or 26
+-- is there an INQUIRE to send? It has 76 bytes, the ACK before it 20 or 26, the AUTHORITY with a record before it 96 or more
 abbrev pub inquires : Answer → Bool
 inquires a = eqb (a .number) 0 && (eqb (a .first) 76 || eqb (a .second) 76)
 
--- the record of a FLOOD's route entry; else what is known from before
+-- the record of a FLOOD's or a LOOKUP's route entry; else what is known from before
 abbrev pub entryOr : List ℕ → Part → Option (List ℕ) → Option (List ℕ)
 entryOr d (Here start len) earlier = some (recordOf (part start len d))
 entryOr d Absent earlier = earlier
 
-abbrev pub floodedOr : List ℕ → T.Incoming → Option (List ℕ) → Option (List ℕ)
-floodedOr d (M.Refused n) earlier = earlier
-floodedOr d (M.Solicit x) earlier = earlier
-floodedOr d (M.Advertise x) earlier = earlier
-floodedOr d (M.Request x) earlier = earlier
-floodedOr d (M.Flood x) earlier = entryOr d (x .entry) earlier
-floodedOr d (M.Inquire x) earlier = earlier
-floodedOr d (M.Authority x) earlier = earlier
-floodedOr d (M.Ack x) earlier = earlier
-floodedOr d (M.Lookup x) earlier = earlier
+abbrev pub namedOr : List ℕ → T.Incoming → Option (List ℕ) → Option (List ℕ)
+namedOr d (M.Refused n) earlier = earlier
+namedOr d (M.Solicit x) earlier = earlier
+namedOr d (M.Advertise x) earlier = earlier
+namedOr d (M.Request x) earlier = earlier
+namedOr d (M.Flood x) earlier = entryOr d (x .entry) earlier
+namedOr d (M.Inquire x) earlier = earlier
+namedOr d (M.Authority x) earlier = earlier
+namedOr d (M.Ack x) earlier = earlier
+namedOr d (M.Lookup x) earlier = entryOr d (x .entry) earlier
 
--- a FLOOD answered with an INQUIRE of the ID
+-- a FLOOD or LOOKUP answered with an INQUIRE of the ID
 abbrev pub inquiredBy : ℕ → Call → Answer → Option (List ℕ) → Option (List ℕ)
 inquiredBy id (receives l) a earlier =
-    cond (inquires a && eqb (idAfter (l .id)) id) (floodedOr (l .datagram) (R.readIn (l .datagram) (l .major)) earlier) earlier
+    cond (inquires a && eqb (idAfter (l .id)) id) (namedOr (l .datagram) (R.readIn (l .datagram) (l .major)) earlier) earlier
 inquiredBy id (sends l) a earlier = earlier
 inquiredBy id (ticks l) a earlier = earlier
 inquiredBy id (lists l) a earlier = earlier

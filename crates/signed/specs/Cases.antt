@@ -1,4 +1,4 @@
--- Worked cases. Document 01's cases 1 to 12, those marked P, and those of 02's Wish 4: rows of one list under one statement. Lists, learning, closest records
+-- Worked cases. Document 01's cases 1 to 12, those marked P, and those of 02's Wishes 4 and 2: rows of one list under one statement. Lists, learning, closest records
 -- and ticks are what our calls give on lent bytes; a difference and an ACK are by the definitions that the calls use. Assumes nothing.
 use Prim.Native.Nat.{ℕ, _+_, _-_, _*_, _^_}
 use mathlib.Core.Path.{_≡_}
@@ -9,13 +9,14 @@ use lib.ListN.{length, replicate}
 use Rattle.octet.specs.Number.{digitsBE}
 use Rattle.key.specs.Around as around
 use Rattle.kept.specs.Keys.{Every}
-use Rattle.table.specs.Rows.{bytesOf}
+use Rattle.record.specs.Entry.{entryOf}
+use Rattle.table.specs.Rows.{bytesOf, joined}
 use Rattle.neighbours.specs.Listing.{keyBytes}
 use Rattle.waiting.specs.Place.{newPlace, inquiryPlace}
 use Rattle.waiting.specs.Tick.{idBytes}
 use Rattle.wire_fields.specs.Kinds.{lookupKinds}
 use Rattle.wire_fields.specs.Message as message
-use Rattle.wire_write.specs.Making.{ackMade, cpaMade, closestMade}
+use Rattle.wire_write.specs.Making.{ackMade, inquireMade, cpaMade, closestMade}
 use Rattle.gauge_commit.specs.Sending.{answer, handed}
 use Rattle.gauge_plan.specs.Lent.{Memory, empty, withCache, withWaiting, receive, tick, listing, Call, receives, ticks, lists}
 use Rattle.gauge.specs.Ours.{ours}
@@ -47,19 +48,28 @@ inquiryFor k = inquiryPlace 8 (recordWith k)
 abbrev pub authority : List ℕ
 authority = cpaMade 6 101 5 8 (0 ∷ []) .bytes
 
--- a LOOKUP of the target, with one endpoint
-abbrev pub endpoint : List ℕ
-endpoint = (0x00 ∷ 0x01 ∷ 0x00 ∷ 0x1A ∷ 0x00 ∷ 0x9D ∷ 0x00 ∷ 0x12 ∷ []) ++ replicate 18 0
+-- an endpoint, and a record with the key k that has it as its one
+abbrev pub endpoint : ℕ → ℕ → List ℕ
+endpoint port address = digitsBE 256 2 port ++ digitsBE 256 16 address
 
-abbrev pub lookupOf : ℕ → List ℕ
-lookupOf target =
+abbrev pub recordAt : ℕ → ℕ → ℕ → List ℕ
+recordAt k port address = key k ++ digitsBE 256 2 port ++ (1 ∷ 0 ∷ []) ++ digitsBE 256 16 address ++ replicate 48 0
+
+-- a LOOKUP of the target, with a route entry or none, by the path of these endpoints
+abbrev pub lookupBy : message.Contents → List (List ℕ) → ℕ → List ℕ
+lookupBy entry path target =
+    let array = digitsBE 256 2 (length path) ++ digitsBE 256 2 (8 + 18 * length path) ++ (0x00 ∷ 0x9D ∷ 0x00 ∷ 0x12 ∷ []) ++ joined path in
     message.messageBytes (message.layoutOf lookupKinds (record {
       major = 6;
       minor = 101;
       type = 11;
       id = 5;
-      fields = some (replicate 8 0) ∷ some (key target) ∷ some (key 0) ∷ none ∷ some endpoint ∷ none ∷ none ∷ none ∷ [];
+      fields = some (replicate 8 0) ∷ some (key target) ∷ some (key 0) ∷ entry ∷ some array ∷ none ∷ none ∷ none ∷ [];
     }))
+
+-- by a path on which no record is
+abbrev pub lookupOf : ℕ → List ℕ
+lookupOf target = lookupBy none (endpoint 1 1 ∷ []) target
 
 -- one tick after the other lists these IDs, and then no place waits
 abbrev pub Ticking : Memory → List (List ℕ) → Type 0
@@ -77,6 +87,10 @@ pub data Case : Type 0 where
   learnt : ℕ → ℕ → List ℕ → ℕ → List ℕ → Case
   -- own key, held keys, target; the key of the closest record
   shown : ℕ → List ℕ → ℕ → ℕ → Case
+  -- own key, held records, endpoints of the path, target; the closest record
+  skipped : ℕ → List (List ℕ) → List (List ℕ) → ℕ → List ℕ → Case
+  -- own key, key of a LOOKUP's route entry: it is inquired about
+  asked : ℕ → ℕ → Case
   -- two keys; by how much they differ
   differ : ℕ → ℕ → ℕ → Case
   -- versions, own ID, acked ID, N; the ACK
@@ -94,6 +108,13 @@ Right (learnt C own held k then) =
 Right (shown own held target k) =
     ours (holding 10 held []) (hears own 0 (lookupOf target))
     ≡ handed (answer 0 96 0) (holding 10 held []) (closestMade 6 101 7 5 (recordWith k) 0 .bytes)
+Right (skipped own held path target r) =
+    let m = withCache (bytesOf 1000 held) (empty 10) in
+    ours m (hears own 0 (lookupBy none path target)) ≡ handed (answer 0 96 0) m (closestMade 6 101 7 5 r 0 .bytes)
+Right (asked own k) =
+    ours (holding 10 [] []) (hearsInto 172 own 0 (lookupBy (some (entryOf 6 101 (recordWith k))) (endpoint 1 1 ∷ []) k))
+    ≡ handed (answer 0 96 76) (holding 10 [] (inquiryFor k ∷ []))
+    (closestMade 6 101 7 5 (recordWith own) 0 .bytes ++ inquireMade 6 101 8 (key k) (replicate 16 0) .bytes)
 Right (differ j k d) = around.apart j k ≡ d
 Right (acks major minor id acked n bytes) = ackMade major minor id acked n .bytes ≡ bytes
 Right (waits id tries ids) = Ticking (holding 10 [] (newPlace id 1 tries (key 7) (replicate 100 0) ∷ [])) ids
@@ -103,8 +124,13 @@ abbrev pub lastNine : List ℕ
 lastNine =
     (2 ^ 256 - 9) ∷ (2 ^ 256 - 8) ∷ (2 ^ 256 - 7) ∷ (2 ^ 256 - 6) ∷ (2 ^ 256 - 5) ∷ (2 ^ 256 - 4) ∷ (2 ^ 256 - 3) ∷ (2 ^ 256 - 2) ∷ (2 ^ 256 - 1) ∷ []
 
+-- two records held, each with an endpoint of its own
+abbrev pub ponds : List (List ℕ)
+ponds = recordAt 99 5000 1 ∷ recordAt 101 5002 3 ∷ []
+
 -- 1 to 12, in order, "Case 9's answer becomes 0" (Wish 4); then Wish 4's own: pond 1 has the last pond as neighbour below; the opposite key is above; at equal
--- distance the key reached by going down; the key next to the opposite point is dropped
+-- distance the key reached by going down; the key next to the opposite point is dropped; then Wish 2's: a record on the path is skipped, and not for its address
+-- alone, its port alone, the two in different endpoints, an address that it does not use; our own record is not skipped; a LOOKUP's route entry is inquired about
 abbrev pub cases : List Case
 cases =
     listed 100 (60 ∷ 70 ∷ 80 ∷ 90 ∷ 95 ∷ 99 ∷ 101 ∷ 110 ∷ []) (99 ∷ 95 ∷ 90 ∷ 80 ∷ 70 ∷ 101 ∷ 110 ∷ []) 5 2
@@ -126,6 +152,12 @@ cases =
     ∷ listed 0 ((2 ^ 255) ∷ (2 ^ 255 + 1) ∷ []) ((2 ^ 255 + 1) ∷ (2 ^ 255) ∷ []) 1 1
     ∷ shown 7 (1 ∷ (2 ^ 256 - 1) ∷ []) 0 (2 ^ 256 - 1)
     ∷ learnt 10 1 ((2 ^ 256 - 10) ∷ lastNine) 5 (5 ∷ lastNine)
+    ∷ skipped 50 ponds (endpoint 5000 1 ∷ []) 100 (recordAt 101 5002 3)
+    ∷ skipped 50 ponds (endpoint 5001 1 ∷ []) 100 (recordAt 99 5000 1)
+    ∷ skipped 50 ponds (endpoint 5000 2 ∷ endpoint 5001 1 ∷ []) 100 (recordAt 99 5000 1)
+    ∷ skipped 50 ponds (endpoint 5000 0 ∷ []) 100 (recordAt 99 5000 1)
+    ∷ skipped 50 ponds (endpoint 5000 1 ∷ endpoint 5002 3 ∷ []) 100 (recordWith 50)
+    ∷ asked 50 40
     ∷ []
 
 abbrev pub AllRight : Type 0

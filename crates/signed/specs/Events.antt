@@ -36,7 +36,7 @@ toldBy earlier k (revoke id silent validate) = removed k ∷ []
 toldBy earlier k (inquire id validate) = []
 toldBy earlier k (authority acked cpa) = learned k ∷ []
 toldBy earlier k (ack acked n) = cond n (removedIf (sentTo acked earlier)) []
-toldBy earlier k (lookup id target) = []
+toldBy earlier k (lookup id target path e) = []
 toldBy earlier k other = []
 
 -- what a call does when it is accepted

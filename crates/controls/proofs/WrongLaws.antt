@@ -6,15 +6,17 @@ use mathlib.Core.Option.{some, none}
 use mathlib.Core.Path.{_≡_, refl}
 use native.Mathlib.Omega.{arith}
 use lib.ListN.{length, getD, replicate}
+use Rattle.record.specs.Entry.{entryOf}
+use Rattle.table.specs.Rows.{bytesOf}
 use Rattle.waiting.specs.Form.{usedOf}
 use Rattle.waiting.specs.Place.{newPlace}
 use Rattle.wire_fields.specs.Kinds.{floodKinds}
 use Rattle.wire_fields.specs.Message as message
 use Rattle.wire_write.specs.Making.{floodMade}
-use Rattle.gauge_plan.specs.Lent.{tick, Call, ticks}
+use Rattle.gauge_plan.specs.Lent.{empty, withCache, tick, Call, ticks}
 use Rattle.gauge_commit.specs.Sending.{Handed}
 use Rattle.sentences.proofs.ComputedLaws.{computed}
-use Rattle.signed.specs.Cases.{key, recordWith, holding, hearsInto, hears, inquiryFor, authority, lookupOf}
+use Rattle.signed.specs.Cases.{key, recordWith, recordOn, endpoint, holding, hearsInto, hears, inquiryFor, authority, lookupBy, lookupOf}
 use Rattle.controls.specs.Wrong as W
 use Rattle.controls.proofs.ShutLaws.{fits, fits-bytes, shut}
 
@@ -162,6 +164,26 @@ frees-then-refuses-shut =
     (λ (h : Handed). usedOf (h .memory .waiting)) (fits-bytes revocation refl, omega arith)
     (λ e. absurd (let z : _≡_ {A = ℕ} 0 1 = e in omega arith))
 
+-- 99 is held with port 5000 and address 1, and looked up by a LOOKUP that came from there
+abbrev cameBy : List ℕ
+cameBy = lookupBy none (endpoint 5000 1 ∷ []) 99
+
+sends-back-shut : W.Shut W.sendsBack
+unfolding computed W.sendsBack fits
+sends-back-shut =
+    shut W.sendsBack (withCache (bytesOf 1000 (recordOn 99 5000 1 ∷ [])) (empty 10)) (hears 100 0 cameBy) (λ (h : Handed). getD (h .output) 71 0)
+    (fits-bytes cameBy refl, omega arith) (λ e. absurd (let z : _≡_ {A = ℕ} 99 100 = e in omega arith))
+
+-- a LOOKUP with a route entry of 99's record
+abbrev namesAnother : List ℕ
+namesAnother = lookupBy (some (entryOf 6 101 (recordWith 99))) (endpoint 1 1 ∷ []) 50
+
+leaves-unasked-shut : W.Shut W.leavesUnasked
+unfolding computed W.leavesUnasked fits
+leaves-unasked-shut =
+    shut W.leavesUnasked (holding 10 [] []) (hearsInto 172 100 0 namesAnother) (λ (h : Handed). usedOf (h .memory .waiting))
+    (fits-bytes namesAnother refl, omega arith) (λ e. absurd (let z : _≡_ {A = ℕ} 0 1 = e in omega arith))
+
 pub all-shut : W.AllShut
 all-shut = (
   never-acks-shut,
@@ -193,7 +215,7 @@ all-shut = (
                             asks-again-shut,
                             (
                               resets-tries-shut,
-                              (keeps-tries-shut, (frees-all-shut, (wants-more-shut, tt))),
+                              (keeps-tries-shut, (frees-all-shut, (wants-more-shut, (sends-back-shut, (leaves-unasked-shut, tt))))),
                             ),
                           ),
                         ),

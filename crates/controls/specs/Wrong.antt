@@ -9,7 +9,7 @@ use Rattle.octet.specs.Part.{part, same, allZero}
 use Rattle.kept.specs.Keys.{Every}
 use Rattle.waiting.specs.Form.{usedOf}
 use Rattle.gauge_commit.specs.Sending.{answer, Handed, handed}
-use Rattle.gauge_plan.specs.Lent.{withCache, withWaiting, hearingAs, Call, receives, sends, ticks, lists, outputOf}
+use Rattle.gauge_plan.specs.Lent.{withCache, withWaiting, hearingAs, hearing, Call, receives, sends, ticks, lists, outputOf}
 use Rattle.gauge.specs.Words.{Gauge}
 use Rattle.gauge.specs.Ours.{ours}
 use Rattle.sentences.specs.Meets.{MeetsSentences}
@@ -96,6 +96,16 @@ fourBytes m c =
     let h = ours (withCache (replicate (length (m .cache)) 0) m) (heardBy r c) in
     cond (hearsType 11 c && same (part 28 4 r) (part 56 4 (datagramOf c))) (handed (h .answer) m (h .output)) (ours m c)
 
+-- a LOOKUP is sent back where it came from: its path is heard as if the first endpoint were another. Without a route entry its port stands at 108
+abbrev pub fromElsewhere : Call → Call
+fromElsewhere (receives l) = receives (hearing (set (l .datagram) 108 255) l)
+fromElsewhere (sends l) = sends l
+fromElsewhere (ticks l) = ticks l
+fromElsewhere (lists l) = lists l
+
+unfoldable pub sendsBack : Gauge
+sendsBack m c = cond (hearsType 11 c) (ours m (fromElsewhere c)) (ours m c)
+
 -- ---- what is held
 
 -- document 01's second slip: a record is learned from its FLOOD. The place that opens has it from byte 40 on
@@ -139,6 +149,13 @@ asksAgain m c =
     let h = ours (withCache (replicate (length (m .cache)) 0) m) c in
     cond (hearsType 4 c) (handed (h .answer) (withCache (m .cache) (h .memory)) (h .output)) (ours m c)
 
+-- a LOOKUP's route entry is not inquired about
+unfoldable pub leavesUnasked : Gauge
+leavesUnasked m c =
+    let h = ours m c in
+    cond (hearsType 11 c)
+    (handed (answer (h .answer .number) (h .answer .first) 0) m (take (h .answer .first) (h .output) ++ drop (h .answer .first) (outputOf c))) h
+
 -- a FLOOD gives the first place that waits its two tries back
 unfoldable pub resetsTries : Gauge
 resetsTries m c = let h = ours m c in cond (hearsType 4 c) (handed (h .answer) (withWaiting (set (h .memory .waiting) 5 2) (h .memory)) (h .output)) h
@@ -165,4 +182,4 @@ abbrev pub AllShut : Type 0
 AllShut =
     Every Shut
     (neverAcks ∷ neverN ∷ nByTheRecord ∷ movesSecond ∷ showsOwn ∷ showsHeld ∷ fourBytes ∷ learnsEarly ∷ dropsNewcomer ∷ dropsOldest ∷ revokesLate
-    ∷ freesThenRefuses ∷ keepsPlace ∷ asksAgain ∷ resetsTries ∷ keepsTries ∷ freesAll ∷ wantsMore ∷ [])
+    ∷ freesThenRefuses ∷ keepsPlace ∷ asksAgain ∷ resetsTries ∷ keepsTries ∷ freesAll ∷ wantsMore ∷ sendsBack ∷ leavesUnasked ∷ [])

@@ -52,8 +52,8 @@ authority = cpaMade 6 101 5 8 (0 ∷ []) .bytes
 abbrev pub endpoint : ℕ → ℕ → List ℕ
 endpoint port address = digitsBE 256 2 port ++ digitsBE 256 16 address
 
-abbrev pub recordAt : ℕ → ℕ → ℕ → List ℕ
-recordAt k port address = key k ++ digitsBE 256 2 port ++ (1 ∷ 0 ∷ []) ++ digitsBE 256 16 address ++ replicate 48 0
+abbrev pub recordOn : ℕ → ℕ → ℕ → List ℕ
+recordOn k port address = key k ++ digitsBE 256 2 port ++ (1 ∷ 0 ∷ []) ++ digitsBE 256 16 address ++ replicate 48 0
 
 -- a LOOKUP of the target, with a route entry or none, by the path of these endpoints
 abbrev pub lookupBy : message.Contents → List (List ℕ) → ℕ → List ℕ
@@ -90,7 +90,7 @@ pub data Case : Type 0 where
   -- own key, held records, endpoints of the path, target; the closest record
   skipped : ℕ → List (List ℕ) → List (List ℕ) → ℕ → List ℕ → Case
   -- own key, key of a LOOKUP's route entry: it is inquired about
-  asked : ℕ → ℕ → Case
+  inquiredOf : ℕ → ℕ → Case
   -- two keys; by how much they differ
   differ : ℕ → ℕ → ℕ → Case
   -- versions, own ID, acked ID, N; the ACK
@@ -111,7 +111,7 @@ Right (shown own held target k) =
 Right (skipped own held path target r) =
     let m = withCache (bytesOf 1000 held) (empty 10) in
     ours m (hears own 0 (lookupBy none path target)) ≡ handed (answer 0 96 0) m (closestMade 6 101 7 5 r 0 .bytes)
-Right (asked own k) =
+Right (inquiredOf own k) =
     ours (holding 10 [] []) (hearsInto 172 own 0 (lookupBy (some (entryOf 6 101 (recordWith k))) (endpoint 1 1 ∷ []) k))
     ≡ handed (answer 0 96 76) (holding 10 [] (inquiryFor k ∷ []))
     (closestMade 6 101 7 5 (recordWith own) 0 .bytes ++ inquireMade 6 101 8 (key k) (replicate 16 0) .bytes)
@@ -126,7 +126,7 @@ lastNine =
 
 -- two records held, each with an endpoint of its own
 abbrev pub ponds : List (List ℕ)
-ponds = recordAt 99 5000 1 ∷ recordAt 101 5002 3 ∷ []
+ponds = recordOn 99 5000 1 ∷ recordOn 101 5002 3 ∷ []
 
 -- 1 to 12, in order, "Case 9's answer becomes 0" (Wish 4); then Wish 4's own: pond 1 has the last pond as neighbour below; the opposite key is above; at equal
 -- distance the key reached by going down; the key next to the opposite point is dropped; then Wish 2's: a record on the path is skipped, and not for its address
@@ -152,12 +152,12 @@ cases =
     ∷ listed 0 ((2 ^ 255) ∷ (2 ^ 255 + 1) ∷ []) ((2 ^ 255 + 1) ∷ (2 ^ 255) ∷ []) 1 1
     ∷ shown 7 (1 ∷ (2 ^ 256 - 1) ∷ []) 0 (2 ^ 256 - 1)
     ∷ learnt 10 1 ((2 ^ 256 - 10) ∷ lastNine) 5 (5 ∷ lastNine)
-    ∷ skipped 50 ponds (endpoint 5000 1 ∷ []) 100 (recordAt 101 5002 3)
-    ∷ skipped 50 ponds (endpoint 5001 1 ∷ []) 100 (recordAt 99 5000 1)
-    ∷ skipped 50 ponds (endpoint 5000 2 ∷ endpoint 5001 1 ∷ []) 100 (recordAt 99 5000 1)
-    ∷ skipped 50 ponds (endpoint 5000 0 ∷ []) 100 (recordAt 99 5000 1)
+    ∷ skipped 50 ponds (endpoint 5000 1 ∷ []) 100 (recordOn 101 5002 3)
+    ∷ skipped 50 ponds (endpoint 5001 1 ∷ []) 100 (recordOn 99 5000 1)
+    ∷ skipped 50 ponds (endpoint 5000 2 ∷ endpoint 5001 1 ∷ []) 100 (recordOn 99 5000 1)
+    ∷ skipped 50 ponds (endpoint 5000 0 ∷ []) 100 (recordOn 99 5000 1)
     ∷ skipped 50 ponds (endpoint 5000 1 ∷ endpoint 5002 3 ∷ []) 100 (recordWith 50)
-    ∷ asked 50 40
+    ∷ inquiredOf 50 40
     ∷ []
 
 abbrev pub AllRight : Type 0

@@ -569,9 +569,21 @@ def is_down(target, key):
     return up(key, target) == apart(target, key)
 
 
-# 01: "the record closest to the target, the own record included".
-def closest(own, records, target):
-    return min([own] + records, key=lambda r: (apart(target, key_of(r)), not is_down(target, key_of(r))))
+# 02, Wish 2: "any held record whose port and one of whose addresses stand together as an endpoint on the LOOKUP's path". W2.2: of a record's places
+# for addresses those that it has count. A path is a list of endpoints, each a port and an address.
+def on_path(r, path):
+    return any(r[32:34] + r[36 + 16 * i:52 + 16 * i] in path for i in range(r[34]))
+
+
+# 01: "the record closest to the target, the own record included". 02: "The own record is never skipped."
+def closest(own, records, path, target):
+    candidates = [own] + [r for r in records if not on_path(r, path)]
+    return min(candidates, key=lambda r: (apart(target, key_of(r)), not is_down(target, key_of(r))))
+
+
+# 02: "endpoints as on the wire, none allowed, 1 if not whole ones". None where they are not whole ones.
+def path_of(s):
+    return [s[at:at + 18] for at in range(0, len(s), 18)] if len(s) % 18 == 0 else None
 
 
 # --- Lent memory: the waiting table ----------------------------------------------------------------------------------------
@@ -669,10 +681,11 @@ def over(written, output):
 
 
 class Lent:
-    """What is lent to a receive or a send beside the gauge's own: one more slice to read is one more attribute."""
+    """What is lent to a receive, a send or a closest beside the gauge's own: one more slice to read is one more attribute."""
 
-    def __init__(self, identity=0, nonce=bytes(16), verdict=0, key=bytes(32), neighbour=bytes(32), datagram=b""):
-        self.identity, self.nonce, self.verdict, self.key, self.neighbour, self.datagram = identity, nonce, verdict, key, neighbour, datagram
+    def __init__(self, identity=0, nonce=bytes(16), verdict=0, key=bytes(32), neighbour=bytes(32), path=b"", target=bytes(32), datagram=b""):
+        self.identity, self.nonce, self.verdict, self.key, self.neighbour = identity, nonce, verdict, key, neighbour
+        self.path, self.target, self.datagram = path, target, datagram
 
 
 class State:
@@ -746,11 +759,15 @@ class Gauge:
     # 01, "FLOOD with a route entry"; number 11.
     def on_route(self, state, m, lent):
         record = record_of(m["route"])
-        key = key_of(record)
-        if key == key_of(self.own):
+        if key_of(record) == key_of(self.own):
             return 11
         self.acks(state, m, lent)
-        if record in state.records or waiting_inquiry(state.places, key):
+        return self.asks(state, record, lent)
+
+    # 01: "If the very same record is held, or an inquiry for its key is waiting, no more. Otherwise an INQUIRE for its key follows and its place
+    # opens with two tries left." Numbers 13 and 14.
+    def asks(self, state, record, lent):
+        if record in state.records or waiting_inquiry(state.places, key_of(record)):
             return 0
         asked = next_id(lent.identity)
         number = no_place(state.places, asked)
@@ -803,11 +820,14 @@ class Gauge:
         self.sends(state, "authority", lent.identity, acked=m["id"], cpa=self.cpa)
         return 0
 
-    # 01, "LOOKUP": "One AUTHORITY with the record closest to the target, the own record included".
+    # 01, "LOOKUP": "One AUTHORITY with the record closest to the target, the own record included". 02, Wish 2, of its route entry: "it is inquired
+    # about as in a FLOOD, with the ID one more than the reply's; our own key there is passed over".
     def on_lookup(self, state, m, lent):
-        shown = entry_of(closest(self.own, state.records, value(m["target"])), self.major, self.minor)
+        shown = entry_of(closest(self.own, state.records, m["path"], value(m["target"])), self.major, self.minor)
         self.sends(state, "authority", lent.identity, acked=m["id"], route=shown)
-        return 0
+        if m["route"] is None or value(m["route"]["key"]) == key_of(self.own):
+            return 0
+        return self.asks(state, record_of(m["route"]), lent)
 
     # 01, "Sending a FLOOD": "D clear, validate key the neighbour's, one record, empty list of those already reached; a place with the neighbour's
     # key opens with two tries left." Number 12: "a FLOOD to send whose neighbour is not held, or whose record is neither ours nor held".
@@ -852,6 +872,15 @@ class Gauge:
             return 15, 0, 0, output
         below, above = nearest(self.own, state.records)
         return 0, len(below), len(above), over(b"".join(k.to_bytes(32, "big") for k in below + above), output)
+
+    # 02, Wish 2: "Whoever asks for the closest record now hands in the path". `first` tells the record: 0 our own, 4 and more those of the cache in
+    # their order. There is no output, and the one that is handed in stays.
+    def closest(self, lent, output=b""):
+        state, path = State(self), path_of(lent.path)
+        if not record_form(self.own) or state.records is None or path is None or len(lent.target) != 32:
+            return 1, 0, 0, output
+        shown = closest(self.own, state.records, path, value(lent.target))
+        return 0, 4 + state.records.index(shown) if shown in state.records else 0, 0, output
 
 
 # --- Looking ---------------------------------------------------------------------------------------------------------------
@@ -914,9 +943,9 @@ def check_cases():
     six = list(range(94, 100)) + list(range(101, 106))
     assert keys(learned(rec(100), recs(six), rec(106), 11)) == six
     # 6, 7; 9 by 02: "Case 9's answer becomes 0"
-    assert closest(rec(50), recs([99, 101]), 100) == rec(99)
-    assert closest(rec(9), recs([1, 4294967296]), 0) == rec(1)
-    assert closest(rec(5), recs([0]), 2 ** 256 - 1) == rec(0)
+    assert closest(rec(50), recs([99, 101]), [], 100) == rec(99)
+    assert closest(rec(9), recs([1, 4294967296]), [], 0) == rec(1)
+    assert closest(rec(5), recs([0]), [], 2 ** 256 - 1) == rec(0)
     # 8
     assert apart(value(k(4294967295)), value(k(4294967296))) == 1
     # 10 and 11
@@ -972,7 +1001,46 @@ def check_ring():
         assert learned(rec(own), held(range(90, 100)), held([89])[0], 10) == held(range(90, 100))
         six = list(range(94, 100)) + list(range(101, 106))
         assert learned(rec(own), held(six), held([106])[0], 11) == held(six)
-        assert key_of(closest(held([50])[0], held([99, 101]), own)) == turned([99])[0]
+        assert key_of(closest(held([50])[0], held([99, 101]), [], own)) == turned([99])[0]
+
+
+def check_path():
+    """Document 02, Wish 2: which records are skipped, and a LOOKUP's route entry."""
+    def rec(n, port, *addresses):
+        used = b"".join(bytes([a]) * 16 for a in addresses)
+        return n.to_bytes(32, "big") + two(port) + bytes([len(addresses), 0]) + used + bytes(64 - len(used))
+
+    def point(port, address):
+        return two(port) + bytes([address]) * 16
+
+    own, a, b = rec(50, 1, 1), rec(99, 5000, 0xA), rec(101, 6000, 0xB)
+    for path, shown in (([], a), ([point(5000, 0xA)], b), ([point(5001, 0xA)], a), ([point(5000, 0xB), point(5001, 0xA)], a),
+                        ([point(5000, 0xA), point(6000, 0xB)], own), ([point(1, 1)], a), ([point(5000, 0xA), point(6000, 0xB), point(1, 1)], own)):
+        assert closest(own, [a, b], path, 100) == shown
+        answer = Gauge(own, cache_of([a, b], 1000)).closest(Lent(path=b"".join(path), target=(100).to_bytes(32, "big")))
+        assert answer == (0, {own: 0, a: 4, b: 5}[shown], 0, b"")
+    for length, number in ((17, 1), (18, 0), (19, 1), (36, 0), (23 * 18, 0), (0, 0)):
+        assert Gauge(own).closest(Lent(path=bytes(length))) == (number, 0, 0, b"")
+    # unused places for addresses are zero and no addresses; each of those used counts
+    assert not on_path(a, [point(5000, 0)]) and on_path(rec(99, 5000, 1, 0, 2), [point(5000, 0)])
+    for address in (1, 2, 3, 4):
+        assert on_path(rec(99, 5000, 1, 2, 3, 4), [point(7, 7), point(5000, address)])
+    # a LOOKUP with the last ID and a new entry; then the same entry held, waiting, our own, with sixteen places used
+    def lookup(route):
+        return write(message("lookup", 6, 101, 500, target=bytes(32), validate=bytes(32), route=entry_of(route, 6, 101), path=[point(7, 7)]))
+
+    g, out = Gauge(own), b"\xEE" * 172
+    number, first, second, written = g.receive(Lent(2 ** 32 - 1, datagram=lookup(a)), out)
+    assert (number, first, second, len(written)) == (0, 96, 76, 172) and g.cache == bytes(1000)
+    assert read(written[:96], 6)[1]["id"] == 2 ** 32 - 1 and read(written[96:], 6)[1] == message("inquire", 6, 101, 0, a=True, validate=a[:32],
+                                                                                               nonce=bytes(16))
+    assert waits(own, g.waiting) == [place(0, 2, 2, a[:32], a)]
+    assert g.receive(Lent(2 ** 32 - 1, datagram=lookup(a)), out[:96])[:3] == (0, 96, 0)
+    assert g.receive(Lent(2 ** 32 - 1, datagram=lookup(b)), out) == (13, 0, 0, out)
+    assert g.receive(Lent(7, datagram=lookup(b)), out[:171]) == (15, 0, 0, out[:171])
+    g = Gauge(own, cache_of([a], 1000), waiting_of([place(i, 1, 2, a[:32]) for i in range(16)]))
+    for route, answer in ((a, (0, 96, 0)), (own, (0, 96, 0)), (b, (14, 0, 0)), (rec(99, 5001, 0xA), (14, 0, 0))):
+        assert g.receive(Lent(20, datagram=lookup(route)), out)[:3] == answer
 
 
 def check_lengths():
@@ -1058,6 +1126,7 @@ def check_round_trips(count):
 if __name__ == "__main__":
     check_cases()
     check_ring()
+    check_path()
     check_lengths()
     check_round_trips(8000)
-    print("model: cases 1 to 14, the ring, lengths and 8000 round trips as the documents have them")
+    print("model: cases 1 to 14, the ring, the path, lengths and 8000 round trips as the documents have them")

@@ -7,6 +7,7 @@
     send ID NEIGHBOUR KEY ROOM
     tick ROOM
     list ROOM
+    nearest PATH TARGET                              gauge_closest; PATH is endpoints as on the wire, port 2 and address 16
     held                                             the keys held
     waits                                            the places used, as ID:kind:tries:key
     look MAJOR DATAGRAM                              the twelve numbers of gauge_look (D23)
@@ -14,7 +15,8 @@
     vector_calls.py                                  checks the numbers, lengths and bytes that the documents give
 
 ROOM is the length of the output, two bytes; it is filled with EE before each call. A call's answer is number, first and second; the bytes that
-it has put at the start of the output (first + second, for a tick 4 x first, for a list 32 x (first + second)), - for none; `same` or `changed`
+it has put at the start of the output (first + second, for a tick 4 x first, for a list 32 x (first + second), for a nearest, which is lent no output,
+none), - for none; `same` or `changed`
 for the cache, then for the waiting table; `clean` where all of the output behind those bytes is still EE, else `dirty`. IDs are decimal, keys in
 hexadecimal without leading zeros.
 
@@ -36,7 +38,8 @@ Where to find what (each is a function below, and a heading of crates/vectors/st
     an ACK for an inquiry's ID, an AUTHORITY for a flood's    acked, authorities, at their start
     an ACK with its flags and N clear; N for a key not held   acked
     the very same record, other versions; another port        floods, "the very same record", "the same key with another port"
-    a LOOKUP whose route entry names us                       answered, "its route entry is not learned"
+    a LOOKUP whose route entry names us                       asked, "our own key is passed over"
+    a LOOKUP's path, and its route entry inquired about       paths, asked (and vector_memory, on_the_path, outwards)
     id + 1 is a waiting flood's ID; ID 4294967295 with D      identities
     a flood with the own key in the waiting table             memory, "in form"
     a second FLOOD for a waiting key                          floods, "an inquiry for the key is waiting"
@@ -49,7 +52,7 @@ if not __debug__:
 import with_models
 import model
 import vector_messages as laid
-from vector_memory import TOP, cache, flood as flood_place, inquiry, key, put, record, table
+from vector_memory import A, ANY, B, TOP, at, cache, flood as flood_place, inquiry, key, point, put, record, table
 
 MAJOR, MINOR = 6, 101
 OWN, CPA, NONCE, ZERO = record(100, 2, 5100), bytes([1, 2, 3, 4, 5]), bytes(range(0xA0, 0xB0)), bytes(32)
@@ -94,6 +97,10 @@ def opening_applies(places, identity):
     return ({13} if identity in [p["id"] for p in places] else set()) | ({14} if len(places) == 16 else set())
 
 
+def must_ask(records, places, r):
+    return r not in records and not any(p["kind"] == 2 and model.value(p["key"]) == model.key_of(r) for p in places)
+
+
 def receive_applies(g, lent, room):
     d, verdict = lent.datagram, lent.verdict
     numbers, kind, m = datagram_applies(d, g.major)
@@ -113,7 +120,7 @@ def receive_applies(g, lent, room):
     if kind == "flood" and m is not None:
         r = model.record_of(m["route"])
         numbers |= {11} if model.key_of(r) == own else set()
-        if r not in records and not any(p["kind"] == 2 and model.value(p["key"]) == model.key_of(r) for p in places):
+        if must_ask(records, places, r):
             numbers |= opening_applies(places, (lent.identity + 1) % 2 ** 32)
             need += 76
     if kind in ("flood", "revocation") and m is not None and not m["d"]:
@@ -122,7 +129,11 @@ def receive_applies(g, lent, room):
         numbers |= {12} if model.value(m["validate"]) != own else set()
         need = 40 + len(g.cpa)
     if kind == "lookup" and m is not None:
-        need = 80 + 16 * model.closest(g.own, records, model.value(m["target"]))[34]
+        need = 80 + 16 * model.closest(g.own, records, m["path"], model.value(m["target"]))[34]
+        r = model.record_of(m["route"]) if m["route"] is not None else g.own
+        if model.key_of(r) != own and must_ask(records, places, r):
+            numbers |= opening_applies(places, (lent.identity + 1) % 2 ** 32)
+            need += 76
     return numbers | ({15} if need > room else set()), kind
 
 
@@ -140,8 +151,8 @@ def send_applies(g, lent, room):
 
 # The numbers that each can give, in their order. Each is given at least once, and with each neighbour at once.
 TABLES = {"datagram": (1, 2, 3, 4, 5, 6), "solicit": (6, 7), "advertise": (6, 7), "request": (6, 7), "flood": (6, 11, 13, 14, 15),
-          "revocation": (6, 9, 11, 15), "inquire": (6, 12, 15), "authority": (6, 7, 8, 9, 10), "ack": (6, 8), "lookup": (6, 15),
-          "send": (1, 12, 13, 14, 15), "tick": (1, 15), "list": (1, 15), "look": (2, 3, 4, 5, 6), "look at authority": (6, 7)}
+          "revocation": (6, 9, 11, 15), "inquire": (6, 12, 15), "authority": (6, 7, 8, 9, 10), "ack": (6, 8), "lookup": (6, 13, 14, 15),
+          "send": (1, 12, 13, 14, 15), "tick": (1, 15), "list": (1, 15), "nearest": (1,), "look": (2, 3, 4, 5, 6), "look at authority": (6, 7)}
 
 
 class Gauge:
@@ -200,6 +211,12 @@ class Gauge:
         applies = ({1} if bad else set()) | ({15} if room < 320 else set())
         return self.answer(g.neighbours, ("list", model.two(room)), ("list",), applies, room, lambda a, b: 32 * (a + b), want, sends)
 
+    def nearest(self, path, target, want):
+        g, lent = self.now, model.Lent(path=path, target=target)
+        bad = not model.record_form(g.own) or model.State(g).records is None or len(path) % 18 != 0 or len(target) != 32
+        return self.answer(lambda output: g.closest(lent, output), ("nearest", path, target), ("nearest",), {1} if bad else set(), 0,
+                           lambda a, b: 0, want)
+
     def look(self, datagram, want, major=MAJOR):
         """`want` is the number, or all twelve."""
         result = model.look(major, datagram)
@@ -256,8 +273,8 @@ def inquire(n, identity=0x900, **fields):
     return message("inquire", identity, validate=key(n), **{"a": True, "nonce": bytes(range(16)), **fields})
 
 
-def lookup(target, identity=0xA00, validate=100, **fields):
-    return message("lookup", identity, target=key(target), validate=key(validate), path=[bytes(range(18))], **fields)
+def lookup(target, identity=0xA00, validate=100, path=(bytes(range(18)),), **fields):
+    return message("lookup", identity, target=key(target), validate=key(validate), path=list(path), **fields)
 
 
 SOLICIT = message("solicit", 0xB00, hashed_nonce=bytes(20))
@@ -704,21 +721,189 @@ def answered(g):
     yield "# ties go to the key below the target; the own record is a candidate; from the last key on it is not far to the first"
     for target, r in ((25, four[1]), (26, four[2]), (70, four[3]), (71, OWN), (100, OWN), (TOP, four[0]), (0, four[0])):
         yield g.receive(lookup(target), 0, sends=[shown_out(7, 0xA00, r)])
-    yield "# criteria, precision, reason, A, validate key, path and credentials are not acted on"
+    yield "# criteria, precision, reason, A, validate key and credentials are not acted on"
     for fields in ({"criteria": 8, "precision": 1}, {"criteria": 1, "reason": 3}, {"a": True}, {"validate": 7},
                    {"credential": b"c", "signature": b"", "key_identifier": b"k"}):
         yield g.receive(lookup(26, **fields), (0, 128, 0), sends=[shown_out(7, 0xA00, four[2])])
-    yield "# its route entry is not learned nor inquired about, also one that names us"
-    for r in (record(70), OWN, record(100, 4), record(26)):
-        yield g.receive(lookup(26, route=entry(r)), (0, 128, 0), sends=[shown_out(7, 0xA00, four[2])])
-    yield g.held([10, 20, 30, 40])
-    yield g.waits([])
     yield "# case 6 and 7 by a LOOKUP, and 9 as document 02 has it; then the ring's: the last key before 1, and before our own"
     for own, keys, target, want in ((50, [99, 101], 100, 99), (9, [1, 4294967296], 0, 1), (5, [0], TOP, 0), (7, [1, TOP], 0, TOP), (1, [TOP], 0, TOP),
                                     (TOP, [1], 0, TOP), (0, [2 ** 255], 2 ** 255 - 1, 2 ** 255), (2 ** 255, [2 ** 255 - 1], 0, 2 ** 255 - 1)):
         yield g.start(record(own))
         yield g.set_cache(cache([record(n) for n in keys]))
         yield g.receive(lookup(target), (0, 96, 0), sends=[shown_out(7, 0xA00, record(want))])
+
+
+def paths(g):
+    yield "# LOOKUP's path, and gauge_closest with the same: own 50, held 99 (port 5000, address A) and 101, target 100"
+    near, far, own = at(99, 5000, A), at(101, 6000, B, A), record(50)
+    shown = {0: own, 4: near, 5: far}
+
+    def both(path, which, target=100):
+        """By a LOOKUP, which has a path of one to 22, and by the call."""
+        r = shown[which]
+        if 1 <= len(path) <= 22:
+            yield g.receive(lookup(target, path=path), (0, 80 + 16 * r[34], 0), sends=[shown_out(7, 0xA00, r)])
+        yield g.nearest(b"".join(path), key(target), (0, which, 0))
+
+    yield g.start(own)
+    yield g.set_cache(cache([near, far]))
+    for path, which in (([], 4), ([point(5000, A)], 5), ([point(5001, A)], 4), ([point(5000, B), point(5001, A)], 4), ([point(6000, A)], 4),
+                        ([point(5000, A), point(6000, B)], 0), ([point(5000, A), point(6000, A)], 0), ([point(6000, A), point(5000, A)], 0),
+                        ([point(5000, A), point(6001, A), point(5000, B)], 5), ([point(5000, A)] * 22, 5),
+                        ([point(7, ANY)] * 21 + [point(5000, A)], 5), ([point(7, ANY)] * 22 + [point(5000, A)], 5)):
+        yield from both(path, which)
+    yield "# the room that it needs goes by the record that is left"
+    yield g.receive(lookup(100, path=[point(5000, A)]), 15, room=111)
+    yield g.receive(lookup(100, path=[point(5000, A)]), (0, 112, 0), room=112)
+    yield g.receive(lookup(100, path=[point(5000, A), point(6000, B)]), (0, 96, 0), room=96)
+    yield "# our own endpoint on the path does not matter; the sender's does"
+    ours = point(model.value(own[32:34]), own[36:52])
+    for path, which in (([ours], 4), ([ours, point(5000, A)], 5), ([ours, point(5000, A), point(6000, A)], 0)):
+        yield from both(path, which)
+    yield from both([ours], 0, 50)
+    yield "# two gauges that would send a LOOKUP to and fro: neither names the other, whose endpoint is on the path"
+    for mine, other in ((near, far), (far, near)):
+        yield g.start(mine)
+        yield g.set_cache(cache([other]))
+        yield g.receive(lookup(model.key_of(other), path=[point(5000, A), point(6000, A)]), 0, sends=[shown_out(7, 0xA00, mine)])
+    yield "# all held on the path; none held; the farthest left"
+    ten = [at(n, 5000, A) for n in range(90, 99)] + [at(99, 5001, A)]
+    yield g.start(record(2 ** 255))
+    yield g.set_cache(cache(ten))
+    for target in (0, 90, 94, 99, 150):
+        yield g.receive(lookup(target, path=[point(5000, A)]), (0, 96, 0), sends=[shown_out(7, 0xA00, ten[9])])
+        yield g.nearest(point(5000, A), key(target), (0, 13, 0))
+        yield g.nearest(point(5000, A) + point(5001, A), key(target), (0, 0, 0))
+    yield g.start()
+    yield g.nearest(b"", key(7), (0, 0, 0))
+    yield g.nearest(point(5000, A) * 3, key(7), (0, 0, 0))
+    yield "# the place told counts from 4: the last of a full cache of 256 has 259"
+    yield g.start(c=256)
+    yield g.set_cache(cache([at(1000 + n, 1, ANY) for n in range(256)], 256))
+    for n in (0, 1, 127, 128, 254, 255):
+        yield g.nearest(b"", key(1000 + n), (0, 4 + n, 0))
+    yield g.nearest(point(1, ANY), key(1000), (0, 0, 0))
+    yield "# 1: endpoints that are not whole, a target of another length, an own record and a cache not in form; the waiting table is not lent"
+    yield g.start(own)
+    yield g.set_cache(cache([near, far]))
+    for length in (1, 16, 17, 19, 35, 37, 53):
+        yield g.nearest((point(5000, A) * 3)[:length], key(100), 1)
+    for target in (b"", key(7)[:31], key(7) + b"\0"):
+        yield g.nearest(b"", target, 1)
+        yield g.nearest(point(5000, A), target, 1)
+    yield g.set_waiting(bytes(2239))
+    yield g.nearest(point(5000, A), key(100), (0, 5, 0))
+    for bad in (bytes(900), bytes(25700), cache([far, near]), cache([near, near]), cache([own]), put(cache([near]), 999, b"\1"), b""):
+        yield g.set_cache(bad)
+        yield g.nearest(point(5000, A), key(100), 1)
+    for bad in (b"", own[:99], own + b"\0", put(own, 34, b"\0"), put(own, 35, b"\1")):
+        yield g.start(bad)
+        yield g.nearest(point(5000, A), key(100), 1)
+
+
+def asked(g):
+    """Document 02, request 2: a LOOKUP's route entry "is inquired about as in a FLOOD, with the ID one more than the reply's"."""
+    last, r = 2 ** 32 - 1, record(70, 4)
+    reply = shown_out(7, 0xA00, OWN)
+
+    yield "# a LOOKUP's route entry is inquired about: AUTHORITY, then INQUIRE; it is learned when its AUTHORITY comes, and no candidate before"
+    yield g.start()
+    yield g.receive(lookup(70, route=entry(r)), (0, 112, 76), sends=[reply, inquire_out(8, 70)])
+    yield g.held([])
+    yield g.waits([(8, INQUIRY, 2, 70)])
+    yield g.receive(lookup(70), (0, 112, 0), 9, sends=[shown_out(9, 0xA00, OWN)])
+    yield g.receive(authority(8), (0, 0, 0), verdict=1, named=key(70))
+    yield g.held([70])
+    yield g.receive(lookup(70), (0, 144, 0), sends=[shown_out(7, 0xA00, r)])
+    yield "# the very same record is held: no more, whatever the versions and flags of the entry, and whether it is on the path or not"
+    for fields in ({}, {"path": [point(5000, r[36:52])]}, {"path": [point(5000, r[84:100])]}):
+        shown = r if not fields else OWN
+        yield g.receive(lookup(70, route=entry(r), **fields), (0, 80 + 16 * shown[34], 0), sends=[shown_out(7, 0xA00, shown)])
+        yield g.receive(lookup(70, route=entry(r, (9, 9), 0xFF), **fields), (0, 80 + 16 * shown[34], 0), sends=[shown_out(7, 0xA00, shown)])
+    yield g.waits([])
+    yield "# the same key with another port, address, count: an inquiry, and the old record is shown until it is answered"
+    for other in (record(70, 4, 5001), record(70, 4, 5000, 0x22), record(70, 3), put(r, 99, b"\xFF")):
+        yield g.start()
+        yield g.set_cache(cache([r]))
+        yield g.receive(lookup(70, route=entry(other)), (0, 144, 76), sends=[shown_out(7, 0xA00, r), inquire_out(8, 70)])
+        yield g.receive(lookup(70), (0, 144, 0), sends=[shown_out(7, 0xA00, r)])
+        yield g.receive(authority(8), (0, 0, 0), verdict=1, named=key(70))
+        yield g.receive(lookup(70), (0, 80 + 16 * other[34], 0), sends=[shown_out(7, 0xA00, other)])
+    yield "# an inquiry for the key is waiting, from a FLOOD or a LOOKUP: no second one, and its tries and record stay; a waiting flood is none"
+    yield g.start()
+    yield g.receive(lookup(60, route=entry(record(70, 1, 1))), (0, 112, 76))
+    yield g.tick((0, 1, 0))
+    yield g.receive(lookup(60, route=entry(record(70, 1, 2))), (0, 112, 0), 30, sends=[shown_out(30, 0xA00, OWN)])
+    yield g.receive(flood(record(70, 1, 2)), (0, 20, 0), 30)
+    yield g.waits([(8, INQUIRY, 1, 70)])
+    yield g.receive(authority(8), (0, 0, 0), verdict=1, named=key(70))
+    yield g.receive(lookup(70), (0, 96, 0), sends=[shown_out(7, 0xA00, record(70, 1, 1))])
+    yield g.start()
+    yield g.receive(flood(record(70, 1, 1)), (0, 20, 76))
+    yield g.receive(lookup(60, route=entry(record(70, 1, 2))), (0, 112, 0), 7)
+    yield g.set_waiting(table([flood_place(3, 70)]))
+    yield g.receive(lookup(60, route=entry(record(70))), (0, 112, 76))
+    yield g.waits([(3, FLOOD, 2, 70), (8, INQUIRY, 2, 70)])
+    yield "# our own key is passed over: no 11, no INQUIRE, no 13 and no 14, also with another port and other addresses"
+    full = table([flood_place(i, 7) for i in range(16)])
+    for waiting in (bytes(2240), table([flood_place(8, 7)]), full):
+        for ours in (OWN, record(100, 4), record(100, 1, 9)):
+            yield g.start()
+            yield g.set_waiting(waiting)
+            yield g.receive(lookup(60, route=entry(ours)), (0, 112, 0), sends=[reply])
+    yield "# message IDs: 4294967295 is followed by 0; the reply's ID may wait, the INQUIRE's gives 13, of either kind"
+    yield g.start()
+    yield g.set_waiting(table([flood_place(1, 7), flood_place(last, 7)]))
+    yield g.receive(lookup(60, route=entry(r)), (0, 112, 76), last, sends=[shown_out(last, 0xA00, OWN), inquire_out(0, 70)])
+    yield g.waits([(0, INQUIRY, 2, 70), (1, FLOOD, 2, 7), (last, FLOOD, 2, 7)])
+    yield g.receive(lookup(60, route=entry(record(71))), 13, last)
+    yield g.receive(lookup(60, route=entry(r)), (0, 112, 0), last)
+    both = table([flood_place(8, 7), inquiry(20, 60)])
+    for identity, want in ((7, 13), (19, 13), (8, 0), (20, 0), (9, 0)):
+        yield g.start()
+        yield g.set_waiting(both)
+        yield g.receive(lookup(50, route=entry(r)), want, identity)
+    yield "# sixteen used: 14 for a new entry, and the reply is refused with it; 0 for one that is held or waiting, or for none; fifteen used: 0"
+    yield g.start()
+    yield g.set_cache(cache([r]))
+    yield g.set_waiting(table([flood_place(i, 7) for i in range(15)] + [inquiry(20, 60)]))
+    for route, want in ((record(71), 14), (record(70, 4, 1), 14), (r, (0, 144, 0)), (record(60, 2), (0, 144, 0)), (OWN, (0, 144, 0))):
+        yield g.receive(lookup(70, route=entry(route)), want, 30)
+    yield g.receive(lookup(70), (0, 144, 0), 30)
+    yield g.receive(ack(3), (0, 0, 0))
+    yield g.receive(lookup(70, route=entry(record(71))), (0, 144, 76), 30, sends=[shown_out(30, 0xA00, r), inquire_out(31, 71)])
+    yield g.receive(lookup(70, route=entry(record(72))), 14, 32)
+    yield "# room: for both together; one byte less, and enough for either alone; with 15 nothing has changed"
+    for shown in (record(70, 1), record(70, 2), record(70, 3), record(70, 4)):
+        yield g.start()
+        yield g.set_cache(cache([shown]))
+        need = 80 + 16 * shown[34]
+        for less in (need + 75, need, 76, 75, 0):
+            yield g.receive(lookup(70, route=entry(record(71))), 15, room=less)
+        yield g.receive(lookup(70, route=entry(record(71))), (0, need, 76), room=need + 76, sends=[shown_out(7, 0xA00, shown), inquire_out(8, 71)])
+        yield g.receive(lookup(70, route=entry(record(71))), (0, need, 0), room=need)
+    yield "# two numbers: bytes left over and the ID waiting; the ID waiting and all used; all used and no room; the ID waiting and no room"
+    yield g.start()
+    yield g.set_waiting(both)
+    yield g.receive(lookup(50, route=entry(r)) + b"\0", 6, 7)
+    yield g.receive(lookup(50, route=entry(r)), 13, 7, room=0)
+    yield g.receive(lookup(50, route=entry(r)), 13, 7, room=187)
+    yield g.set_waiting(full)
+    yield g.receive(lookup(50, route=entry(r)), 13, 7)
+    yield g.receive(lookup(50, route=entry(r)), 13, 7, room=0)
+    yield g.receive(lookup(50, route=entry(r)), 14, 20, room=0)
+    yield g.receive(lookup(50, route=entry(r)), 14, 20, room=187)
+    yield g.receive(lookup(50, route=entry(r)) + b"\0", 6, 20)
+    yield "# the nonce and the versions of the INQUIRE are the given ones; the verdict is ignored; the longest LOOKUP"
+    yield g.start(major=255, minor=0)
+    yield g.receive(lookup(60, route=entry(r), major=255), (0, 112, 76), sends=[shown_out(7, 0xA00, OWN, "FF00"), inquire_out(8, 70, "FF00")])
+    for verdict in (0, 1, 257):
+        yield g.start()
+        yield g.receive(lookup(60, route=entry(r)), (0, 112, 76), verdict=verdict, named=key(100), sends=[reply, inquire_out(8, 70)])
+    yield g.start()
+    longest = lookup(60, route=entry(r), path=[point(n, A) for n in range(22)], key_identifier=bytes(1232 - 616))
+    assert len(longest) == 1232
+    yield g.receive(longest, (0, 112, 76), sends=[reply, inquire_out(8, 70)])
 
 
 def room(g):
@@ -1237,8 +1422,8 @@ def looking(g):
     yield g.look(put(plain, 5, b"\xFF"), 0, 255)
 
 
-SCENES = (story, floods, identities, revocations, authorities, across, acked, answered, room, sending, ticking, listing, case14, memory, limits,
-          malformed, refusals, pairs, bytewise, looking)
+SCENES = (story, floods, identities, revocations, authorities, across, acked, answered, paths, asked, room, sending, ticking, listing, case14, memory,
+          limits, malformed, refusals, pairs, bytewise, looking)
 
 
 def vectors(g=None):
@@ -1257,9 +1442,9 @@ def check():
     lines = [v for v in vectors(g) if not isinstance(v, str)]  # each `want` is compared on the way
     # Every number of every call is there, and no other.
     numbers = {name: {int(answer.split()[0]) for operands, answer in lines if operands[0] == name} for name in ("receive", "send", "tick", "list",
-                                                                                                              "look")}
+                                                                                                              "nearest", "look")}
     assert numbers == {"receive": {0, *ORDER}, "send": {0, 1, 12, 13, 14, 15}, "tick": {0, 1, 15}, "list": {0, 1, 15},
-                     "look": {0, 2, 3, 4, 5, 6, 7}}, numbers
+                     "nearest": {0, 1}, "look": {0, 2, 3, 4, 5, 6, 7}}, numbers
     # So are, for each kind of message, every number that it can be refused with, and every two neighbours at once.
     for kind, numbers in TABLES.items():
         for n in numbers:
@@ -1268,7 +1453,7 @@ def check():
             assert any(k == kind and number == a and b in applies for k, applies, number in g.seen), "no %s to which %d and %d apply" % (kind, a, b)
     # With a refusal nothing is told and nothing has changed.
     for operands, answer in lines:
-        if operands[0] in ("receive", "send", "tick", "list") and not answer.startswith("0 "):
+        if operands[0] in ("receive", "send", "tick", "list", "nearest") and not answer.startswith("0 "):
             assert answer.split()[1:] == ["0", "0", "-", "same", "same", "clean"], (operands, answer)
     # What a call writes is read as a message, and written again it is the same.
     for operands, answer in lines:
@@ -1282,7 +1467,7 @@ def check():
 
 if __name__ == "__main__":
     lines = check()
-    names = ("gauge", "set-cache", "set-waiting", "receive", "send", "tick", "list", "held", "waits", "look")
+    names = ("gauge", "set-cache", "set-waiting", "receive", "send", "tick", "list", "nearest", "held", "waits", "look")
     print("vector_calls: %d vectors, %s" % (len(lines), ", ".join("%d %s" % (sum(v[0][0] == name for v in lines), name) for name in names)))
     numbers = [int(answer.split()[0]) for operands, answer in lines if operands[0] == "receive"]
     print("answers of receive: " + ", ".join("%d %d times" % (n, numbers.count(n)) for n in (0, *ORDER)))

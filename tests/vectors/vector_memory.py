@@ -6,7 +6,7 @@
     learn OWN CACHE RECORD       the number, and with 0 the keys held afterwards
     remove-key OWN CACHE KEY     the same
     neighbours OWN CACHE         the number, and with 0 the counts below and above and the keys listed
-    closest OWN CACHE TARGET     the number, and with 0 the record
+    closest OWN CACHE PATH TARGET    the number, and with 0 the record; PATH is endpoints as on the wire, port 2 and address 16
     searches OWN CACHE           for each record held the place of the closest to its key with the last byte 0, to the key, and to it with the last byte 255
     ticks OWN TABLE ROUNDS       for each round number:IDs, then how many places are used at the end
 
@@ -104,14 +104,14 @@ def neighbours(own, s, want=None):
     return line("neighbours", (own, s), "0 %d %d %s" % (below, above, listed(keys)), want)
 
 
-def closest(own, s, target, want=None):
+def closest(own, s, target, want=None, path=b""):
     """`want` is the key of the record shown, or the number that the call is refused with, as text."""
-    records = model.held(own, s)
-    if not model.record_form(own) or records is None or len(target) != 32:
-        return line("closest", (own, s, target), "1", want)
-    shown = model.closest(own, records, model.value(target))
+    records, points = model.held(own, s), model.path_of(path)
+    if not model.record_form(own) or records is None or points is None or len(target) != 32:
+        return line("closest", (own, s, path, target), "1", want)
+    shown = model.closest(own, records, points, model.value(target))
     assert want is None or model.key_of(shown) == want, (model.key_of(shown), want)
-    return line("closest", (own, s, target), "0 " + shown.hex(), None)
+    return line("closest", (own, s, path, target), "0 " + shown.hex(), None)
 
 
 def searches(own, s):
@@ -120,7 +120,7 @@ def searches(own, s):
     place = {record: str(i) for i, record in enumerate(records)}
     answers = []
     for i, k in enumerate(map(model.key_of, records)):
-        low, here, high = (place.get(model.closest(own, records, target), "own") for target in (k - k % 256, k, k - k % 256 + 255))
+        low, here, high = (place.get(model.closest(own, records, [], target), "own") for target in (k - k % 256, k, k - k % 256 + 255))
         assert here == str(i)
         answers.append("%s,%s,%s" % (low, here, high))
     return line("searches", (own, s), " ".join(answers), None)
@@ -395,6 +395,96 @@ def near():
     yield closest(OWN[:99], cache([60]), key(7), "1")
 
 
+A, B, ANY = bytes(range(0xA0, 0xB0)), bytes(range(0xB0, 0xC0)), bytes(16)  # addresses
+
+
+def at(n, port, *addresses):
+    """A record with these addresses."""
+    used = b"".join(addresses)
+    return key(n) + port.to_bytes(2, "big") + bytes([len(addresses), 0]) + used + bytes(64 - len(used))
+
+
+def point(port, address):
+    """An endpoint of a path, as on the wire."""
+    return port.to_bytes(2, "big") + address
+
+
+# 02, request 2: "The closest record must skip any held record whose port and one of whose addresses stand together as an endpoint on the LOOKUP's
+# path".
+def on_the_path():
+    near, far = at(99, 5000, A), at(101, 6000, B)
+    both = cache([near, far])
+
+    def case(path, want):
+        return closest(record(50), both, key(100), want, path)
+
+    yield "# a path: own 50, held 99 (port 5000, address A) and 101, target 100. None, its endpoint, another port, another's port, both on the path"
+    yield case(b"", 99)
+    yield case(point(5000, A), 101)
+    yield case(point(5001, A), 99)
+    yield case(point(5000, B) + point(5001, A), 99)
+    yield case(point(5000, B) + point(6000, A), 99)
+    yield case(point(5000, A) + point(6000, B), 50)
+    yield case(point(6000, B) + point(5000, A), 50)
+    yield case(point(6000, B), 99)
+    yield "# endpoints that are not whole ones: 1; none is allowed, and so are more than a LOOKUP can have"
+    for length, want in ((1, "1"), (17, "1"), (19, "1"), (35, "1"), (36, 99), (37, "1")):
+        yield case((point(5001, A) * 3)[:length], want)
+    for length, want in ((17, "1"), (18, 101), (19, "1")):
+        yield case((point(5000, A) * 2)[:length], want)
+    for n in (22, 23, 30):
+        yield case(point(5000, A) + point(1, B) * (n - 1), 101)
+        yield case(point(1, B) * (n - 1) + point(5000, A), 101)
+        yield case(point(1, B) * (n // 2) + point(5000, A) + point(1, B) * (n - 1 - n // 2), 101)
+        yield case(point(5001, A) * n, 99)
+    yield "# every byte of an endpoint counts: each changed, and the port's two exchanged"
+    for i in range(18):
+        whole = point(5000, A)
+        yield case(put(whole, i, bytes([whole[i] ^ 1])), 99)
+    yield case(point(0x8813, A), 99)
+    yield case(point(5000, A[::-1]), 99)
+    yield "# the same endpoint twice; a match before and behind others, which change nothing more"
+    for path in (point(5000, A) * 2, point(5000, A) + point(5000, B), point(5000, B) + point(5000, A), point(5000, A) + point(5001, A)):
+        yield case(path, 101)
+    yield "# one to four addresses: each of them alone on the path, with the record's port and with another"
+    addresses = [bytes([0x31 + i]) * 16 for i in range(4)]
+    for count in (1, 2, 3, 4):
+        for i in range(count):
+            held = cache([at(99, 5000, *addresses[:count]), far])
+            yield closest(record(50), held, key(100), 101, point(7, B) + point(5000, addresses[i]))
+            yield closest(record(50), held, key(100), 99, point(5001, addresses[i]) + point(5000, B))
+    yield "# a place without an address is zero, and is no address: it matches nothing; an address that is used and zero does"
+    for count in (1, 2, 3):
+        yield closest(record(50), cache([at(99, 5000, *addresses[:count]), far]), key(100), 99, point(5000, ANY))
+        yield closest(record(50), cache([at(99, 5000, *addresses[:count], ANY), far]), key(100), 101, point(5000, ANY))
+    yield closest(record(50), cache([at(99, 0, ANY), far]), key(100), 101, bytes(18))
+    yield closest(record(50), cache([at(99, 0, A), far]), key(100), 99, bytes(18))
+    yield closest(record(50), cache([at(99, 0, A), far]), key(100), 99, bytes(36))
+    yield "# the own record is never skipped: alone, nearest, the only one left"
+    own = at(100, 5000, A)
+    for keys in ([], [at(99, 5001, A)], [at(99, 5000, A)], [at(99, 5000, A), at(101, 5000, B, A)]):
+        yield closest(own, cache(keys), key(99), 99 if keys[:1] == [at(99, 5001, A)] else 100, point(5000, A))
+    yield "# two records with one endpoint: both are skipped; one of them has another that does not matter"
+    shared = cache([at(97, 1, B), at(98, 5000, B, A), at(99, 5000, A), at(103, 1, A)])
+    yield closest(record(50), shared, key(100), 97, point(5000, A))
+    yield closest(record(50), shared, key(100), 99, point(5000, B))
+    yield closest(record(50), shared, key(100), 103, point(5000, A) + point(1, B))
+    yield "# ties among those that are left go down"
+    tied = [at(n, n, A) for n in (96, 97, 98, 102, 103, 104)]
+    for gone, want in (([], 98), ([98], 102), ([102], 98), ([98, 102], 97), ([97, 98, 102], 103), ([98, 102, 103], 97), ([97, 98, 102, 103], 96),
+                       ([96, 97, 98, 102, 103], 104), ([96, 97, 98, 102, 103, 104], 0)):
+        yield closest(record(0), cache(tied), key(100), want, b"".join(point(n, A) for n in gone))
+    for own, gone, want in ((98, [], 98), (98, [102], 98), (102, [], 98), (102, [98], 102), (103, [98], 102), (103, [98, 102], 97),
+                            (97, [98, 102], 97), (103, [97, 98, 102], 103)):
+        held = [r for r in tied if model.key_of(r) != own]
+        yield closest(at(own, own, A), cache(held), key(100), want, b"".join(point(n, A) for n in gone))
+    yield "# refused for its memory, with a path too"
+    yield closest(record(50), bytes(900), key(7), "1", point(5000, A))
+    yield closest(record(50), cache([70, 60]), key(7), "1", point(5000, A))
+    yield closest(record(50), both, key(7)[:31], "1", point(5000, A))
+    yield closest(put(OWN, 34, b"\5"), both, key(7), "1", point(5000, A))
+
+
 def slim(n):
     """A record whose one address is zero: its line is short, and where only keys matter it does."""
     return key(n) + b"\x13\x88\x01\x00" + bytes(64)
@@ -505,6 +595,35 @@ def halving():
         yield searches(slim(7), keys_cache([i * 2 ** 240 + 0x80 for i in range(n)]))
 
 
+# 02, request 2, with request 3: from the target's place outwards, past what is on the path. Every slim record has one endpoint: port 5000, zeros.
+def outwards():
+    path = point(5000, ANY)
+    yield "# all held on the path but one, in caches of 10 and of 256: that one, wherever it stands and whatever the target; or all: our own"
+    for c in (10, 256):
+        keys = [(2 * i + 1) * (HALF // c) for i in range(c)]
+        for left in (0, 1, c // 2, c - 2, c - 1):
+            held = cache([slim(n) if i != left else put(slim(n), 33, b"\x89") for i, n in enumerate(keys)], c)
+            own = (keys[left] + HALF + 1) % 2 ** 256  # just opposite stands a record; the next is farther from all of these targets
+            for steps in (0, HALF // 2, 2 - HALF // 2, 1, -1)[:5 if c == 10 else 3]:
+                yield closest(slim(own), held, key((keys[left] + steps) % 2 ** 256), keys[left], path)
+    keys = [(2 * i + 1) * (HALF // 256) for i in range(256)]
+    yield closest(slim(0), keys_cache(keys, 256), key(keys[100]), 0, path)
+    yield closest(slim(0), keys_cache(keys, 256), key(keys[100]), keys[100], point(5001, ANY))
+    yield "# the target between the last key and the first, round the end: the next ones on either side are on the path, or one of them is"
+    ends = [at(1, 1, A), at(5, 5, A), at(TOP - 4, 14, A), at(TOP - 1, 11, A)]
+    for target in (0, TOP):
+        for gone, want in (([], 1 if target == 0 else TOP - 1), ([1], TOP - 1), ([11], 1), ([1, 11], TOP - 4), ([1, 11, 5], TOP - 4),
+                           ([1, 11, 14], 5), ([1, 5, 11, 14], HALF), ([1, 5], TOP - 1), ([11, 14], 1)):
+            yield closest(record(HALF), cache(ends), key(target), want, b"".join(point(n, A) for n in gone))
+    yield "# below all, above all, on a key that is skipped; with every number of records up to ten, all but the farthest skipped"
+    for n in range(1, 11):
+        keys = [1000 + 10 * i for i in range(n)]
+        low, high = put(slim(keys[0]), 33, b"\x89"), put(slim(keys[-1]), 33, b"\x89")
+        for target in (0, keys[0], keys[-1], keys[-1] + 5):
+            yield closest(slim(HALF), cache([slim(k) for k in keys[:-1]] + [high]), key(target), keys[-1], path)
+            yield closest(slim(HALF), cache([low] + [slim(k) for k in keys[1:]]), key(target), keys[0], path)
+
+
 def ticks():
     yield "# the tick: case 12, a place with two tries: listed, listed, freed"
     yield tick(OWN, table([flood(3, 7)]), 3, "0:3 0:3 0:- 0")
@@ -530,7 +649,8 @@ def ticks():
 
 def vectors():
     """Headings as strings, vectors as (operands, answer)."""
-    for part in (cache_forms, waiting_forms, learning, removing, lists, near, ring_lists, ring_learning, ring_near, halving, ticks):
+    for part in (cache_forms, waiting_forms, learning, removing, lists, near, on_the_path, ring_lists, ring_learning, ring_near, halving,
+                 outwards, ticks):
         yield from part()
 
 

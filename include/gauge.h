@@ -1,12 +1,13 @@
 /* The gauge, as a radio program in C calls it. Link libgauge.a (`make lib`), for x86-64.
  *
  * The gauge has no memory, no socket and no clock of its own. The radio program lends it memory and numbers, and
- * sends what it writes. Its five calls:
+ * sends what it writes. Its six calls:
  *
  *   gauge_receive      a datagram has come: what is to be sent, and what changes in the memory
  *   gauge_send         a FLOOD of a record is to go to a neighbour
  *   gauge_tick         a second has passed: which datagrams are to be sent again
  *   gauge_neighbours   the five keys next to our own on either side
+ *   gauge_closest      the record closest to a target, past those that a LOOKUP has been at already
  *   gauge_look         what a datagram is, and where in it the CPA and the nonce stand; nothing is done
  *
  * Above the gauge stand three for a pond's reading, a depth or a fault with litres in and out, which an AUTHORITY may
@@ -90,8 +91,8 @@ extern "C" {
 
 /* The version of this header and of the archive, as gauge.pc has it; and as a number that rises. CHANGELOG.md tells
  * what changed. */
-#define GAUGE_VERSION "1.1"
-#define GAUGE_VERSION_NUMBER 101
+#define GAUGE_VERSION "1.2"
+#define GAUGE_VERSION_NUMBER 102
 
 /* The versions in the header of a message: those of the message that document 003 prints. Document 000 leaves them to
  * whoever builds on it. Every call that has a major and a minor takes any others too; all gauges that are to hear each
@@ -105,6 +106,7 @@ extern "C" {
 #define GAUGE_CPA_LEAST 1         /* the own CPA */
 #define GAUGE_CPA_MOST 1024
 #define GAUGE_RECORD_LEN 100      /* a record: own, or in the cache */
+#define GAUGE_ENDPOINT_LEN 18     /* an endpoint of a path: port (2) and address (16), as on the wire */
 #define GAUGE_PLACE_LEN 140       /* a place of the waiting table */
 #define GAUGE_PLACES 16
 #define GAUGE_WAITING_LEN 2240    /* the waiting table: 16 places */
@@ -142,8 +144,9 @@ extern "C" {
  * told by the list above. */
 enum gauge_number {
     GAUGE_OK = 0,          /* accepted */
-    GAUGE_MEMORY = 1,      /* what you have lent is not in form: own record, CPA, cache, waiting table, or a nonce or
-                              key of another length. Yours: mend it (gauge_host.h tells which). */
+    GAUGE_MEMORY = 1,      /* what you have lent is not in form: own record, CPA, cache, waiting table, or a nonce, key
+                              or target of another length, or a path of endpoints that are not whole. Yours: mend it
+                              (gauge_host.h tells which). */
     GAUGE_LENGTH = 2,      /* datagram shorter than 12 or longer than 1,232 bytes. The sender's, as up to 7: drop the
                               datagram. */
     GAUGE_HEADER = 3,      /* its first five bytes are not 00 10 00 0C 51 */
@@ -161,7 +164,8 @@ enum gauge_number {
     GAUGE_NOT_OURS = 12,   /* an INQUIRE for another key than ours: drop it. Or a FLOOD to send whose neighbour is not
                               held, or whose record is neither ours nor held. */
     GAUGE_ID_WAITING = 13, /* a place must be opened, and its ID is waiting already. Call again with another ID. */
-    GAUGE_FULL = 14,       /* a place must be opened, and all 16 are used. Try later: answers and ticks free them. */
+    GAUGE_FULL = 14,       /* a place must be opened, and all 16 are used. Try later: answers and ticks free them. A
+                              FLOOD or LOOKUP that comes with a route entry to inquire about is then not answered. */
     GAUGE_ROOM = 15        /* the output has too little room. Call again with more: GAUGE_OUTPUT_LEN is always
                               enough. */
 };
@@ -195,8 +199,12 @@ enum gauge_reading_number {
 /* The verdict on a CPA that is good. Any other number is not good. */
 #define GAUGE_GOOD 1
 
-/* What the first four calls answer. `first` and `second`: lengths of datagrams (receive, send), how many IDs (tick),
- * how many keys below and above (neighbours). */
+/* gauge_closest: what it tells of the cache's first record; the next ones have the numbers that follow. 0 is our own,
+ * and those between are for later versions. */
+#define GAUGE_CLOSEST_HELD 4
+
+/* What the first five calls answer. `first` and `second`: lengths of datagrams (receive, send), how many IDs (tick),
+ * how many keys below and above (neighbours), which record (closest). */
 struct gauge_answer {
     uint32_t number, first, second;
 };
@@ -269,9 +277,12 @@ struct gauge_reading {
  *                              are equally full; that may be the one just learned.
  *   ACK                        the flood's place is freed. If it says that the neighbour has not the key that we hold
  *                              it for, the key is removed.
- *   LOOKUP                     an AUTHORITY with the record closest to the target, to the sender: of those held and
- *                              our own, the one with the shortest way round to the target; of two equally close the
- *                              one reached by going down from the target.
+ *   LOOKUP                     an AUTHORITY with the record closest to the target, to the sender, as gauge_closest
+ *                              tells it for the LOOKUP's path: so nobody is sent back where the LOOKUP came from.
+ *                              Where it has a route entry, behind it an INQUIRE to an address of that (gauge_look),
+ *                              and a place that waits for its answer, unless that very record is held, an inquiry
+ *                              for its key waits already, or the key is our own. Nothing is learned yet. Where no
+ *                              place can be opened (GAUGE_ID_WAITING, GAUGE_FULL), nothing is answered either.
  *
  * Keep each FLOOD and INQUIRE that you send, with its ID and where it went: gauge_tick says when to send it again,
  * and when to forget it. A gauge that falls silent stays in the cache until it is revoked or such an ACK comes.
@@ -327,10 +338,29 @@ struct gauge_answer gauge_tick(const uint8_t *own, size_t own_len, uint8_t *wait
 struct gauge_answer gauge_neighbours(const uint8_t *own, size_t own_len, const uint8_t *cache, size_t cache_len,
                                      uint8_t *output, size_t output_len);
 
+/* Which record is closest to a target: of our own and those held that are not on the path, the one with the shortest
+ * way round to the target; of two equally close the one reached by going down from the target. A record is on the path
+ * where its port and one of the addresses that it has stand together in one endpoint of it. Our own is never passed
+ * over, so there is always an answer. All is lent for reading, and nothing is written.
+ *
+ *   own     as above.
+ *   cache   for reading.
+ *   path    endpoints, one behind the other, GAUGE_ENDPOINT_LEN bytes each: port (2, most significant byte first) and
+ *           address, as in a LOOKUP behind its path's first 12 bytes. How many does not matter. Length 0: no path.
+ *   target  32 bytes: the key.
+ *
+ * On GAUGE_OK `first` is 0 for our own record, and GAUGE_CLOSEST_HELD + j for record j of the cache, j from 0: the
+ * bytes from GAUGE_CACHE_LEN(j) on. `second` is 0.
+ *
+ * Gives GAUGE_OK or GAUGE_MEMORY. */
+struct gauge_answer gauge_closest(const uint8_t *own, size_t own_len, const uint8_t *cache, size_t cache_len,
+                                  const uint8_t *path, size_t path_len, const uint8_t *target, size_t target_len);
+
 /* What a datagram is. Nothing is done, and nothing is lent but the datagram, for reading.
  *
  * Look at an AUTHORITY, and at a FLOOD with a revoke CPA, before gauge_receive: the CPA there is yours to judge. Look
- * at an INQUIRE for the nonce that your CPA should hold, and at a FLOOD for the addresses to which an INQUIRE goes. */
+ * at an INQUIRE for the nonce that your CPA should hold, and at a FLOOD or LOOKUP for the addresses to which an INQUIRE
+ * goes. */
 struct gauge_look_answer gauge_look(uint8_t major, const uint8_t *datagram, size_t datagram_len);
 
 /* An AUTHORITY is to carry a reading of the pond: call this between gauge_receive, which writes the AUTHORITY, and

@@ -91,13 +91,20 @@
  *     }
  *
  * Asking which gauge is closest to a key, with a LOOKUP; its answer is an AUTHORITY with a route entry, which
- * gauge_lent_look tells (gauge_receive gives GAUGE_STRAY for it, as nothing waits for it). Telling that a key is
- * revoked, with the CPA that says so, to all gauges held:
+ * gauge_lent_look tells (gauge_receive gives GAUGE_STRAY for it, as nothing waits for it). Where that names another
+ * gauge than the one that was asked, ask that one, and so on until one names itself: each time with the endpoints of
+ * those that were asked already, so that nobody is named twice and the LOOKUP goes round no circle. Telling that a key
+ * is revoked, with the CPA that says so, to all gauges held:
  *
  *     void ask(struct gauge_lent *l, const uint8_t *address, const uint8_t *target)
  *     {
  *         uint8_t lookup[GAUGE_LOOKUP_LEN];
  *         radio_send(address, lookup, gauge_lookup(l, target, lookup));
+ *     }
+ *     void ask_on(struct gauge_lent *l, const uint8_t *address, const uint8_t *target, const uint8_t *asked, size_t n)
+ *     {
+ *         uint8_t lookup[GAUGE_LOOKUP_MOST];
+ *         radio_send(address, lookup, gauge_lookup_along(l, target, asked, n, lookup));
  *     }
  *     void revoke(struct gauge_lent *l, const uint8_t *revoke_cpa, size_t len)
  *     {
@@ -132,6 +139,8 @@
 #include <string.h>
 
 #define GAUGE_LOOKUP_LEN 126      /* what gauge_lookup writes */
+#define GAUGE_PATH_MOST 22        /* endpoints on a LOOKUP's path */
+#define GAUGE_LOOKUP_MOST 612     /* the longest that gauge_lookup_along writes */
 #define GAUGE_READING_MOST 16     /* a packed reading: 14 bytes for a fault, 16 for a depth */
 
 /* All that is lent to the calls of one gauge. What has one length is in it; the cache and the CPA, whose lengths are
@@ -220,6 +229,18 @@ static inline struct gauge_answer gauge_lent_tick(struct gauge_lent *l)
 static inline struct gauge_answer gauge_lent_neighbours(struct gauge_lent *l)
 {
     return gauge_neighbours(l->own, sizeof l->own, l->cache, l->cache_len, l->output, sizeof l->output);
+}
+
+/* Which record is closest to a target, past those on the path, of so many bytes; and that record, by `first`. */
+static inline struct gauge_answer gauge_lent_closest(const struct gauge_lent *l, const uint8_t *path, size_t path_len,
+                                                     const uint8_t *target)
+{
+    return gauge_closest(l->own, sizeof l->own, l->cache, l->cache_len, path, path_len, target, GAUGE_KEY_LEN);
+}
+
+static inline const uint8_t *gauge_lent_told(const struct gauge_lent *l, uint32_t first)
+{
+    return first < GAUGE_CLOSEST_HELD ? l->own : l->cache + GAUGE_CACHE_LEN(first - GAUGE_CLOSEST_HELD);
 }
 
 static inline struct gauge_look_answer gauge_lent_look(const struct gauge_lent *l, const uint8_t *datagram,
@@ -454,22 +475,28 @@ static inline struct gauge_writer gauge_put_flood(struct gauge_lent *l, uint8_t 
     return w;
 }
 
+/* Our own record as a route entry. */
+static inline void gauge_put_entry(struct gauge_writer *w, const struct gauge_lent *l)
+{
+    uint8_t count = l->own[GAUGE_RECORD_COUNT];
+    size_t used = GAUGE_TO(size_t, count > 4 ? 4 : count) * GAUGE_ADDRESS_LEN;
+    gauge_put_field(w, 0x009A, GAUGE_ENTRY_ADDRESSES + used);
+    gauge_put(w, l->own + GAUGE_RECORD_KEY, GAUGE_KEY_LEN);
+    gauge_put_number(w, l->major, 1);
+    gauge_put_number(w, l->minor, 1);
+    gauge_put(w, l->own + GAUGE_RECORD_PORT, 2);
+    gauge_put_number(w, 0, 1);
+    gauge_put_number(w, count, 1);
+    gauge_put(w, l->own + GAUGE_RECORD_ADDRESSES, used);
+    gauge_put_padding(w);
+}
+
 /* The first FLOOD of our own record, to a gauge that is not held, for which gauge_send would give GAUGE_NOT_OURS. The
  * own record is in form; output: GAUGE_SEND_LEN bytes. */
 static inline size_t gauge_first_flood(struct gauge_lent *l, uint8_t *output)
 {
     struct gauge_writer w = gauge_put_flood(l, output);
-    uint8_t count = l->own[GAUGE_RECORD_COUNT];
-    size_t used = GAUGE_TO(size_t, count > 4 ? 4 : count) * GAUGE_ADDRESS_LEN;
-    gauge_put_field(&w, 0x009A, GAUGE_ENTRY_ADDRESSES + used);
-    gauge_put(&w, l->own + GAUGE_RECORD_KEY, GAUGE_KEY_LEN);
-    gauge_put_number(&w, l->major, 1);
-    gauge_put_number(&w, l->minor, 1);
-    gauge_put(&w, l->own + GAUGE_RECORD_PORT, 2);
-    gauge_put_number(&w, 0, 1);
-    gauge_put_number(&w, count, 1);
-    gauge_put(&w, l->own + GAUGE_RECORD_ADDRESSES, used);
-    gauge_put_padding(&w);
+    gauge_put_entry(&w, l);
     return w.len;
 }
 
@@ -487,8 +514,8 @@ static inline size_t gauge_revocation(struct gauge_lent *l, const uint8_t *revok
     return w.len;
 }
 
-/* A LOOKUP for the gauge closest to a target; the path has our own endpoint. Output: GAUGE_LOOKUP_LEN bytes. */
-static inline size_t gauge_lookup(struct gauge_lent *l, const uint8_t *target, uint8_t *output)
+/* A LOOKUP up to its route entry: no flag, the target, and no key to validate. */
+static inline struct gauge_writer gauge_put_lookup(struct gauge_lent *l, const uint8_t *target, uint8_t *output)
 {
     struct gauge_writer w = gauge_put_header(l, GAUGE_LOOKUP, output);
     gauge_put_field(&w, 0x0045, 8);
@@ -497,13 +524,53 @@ static inline size_t gauge_lookup(struct gauge_lent *l, const uint8_t *target, u
     gauge_put(&w, target, GAUGE_KEY_LEN);
     gauge_put_field(&w, 0x0039, GAUGE_KEY_LEN);
     gauge_put_zeros(&w, GAUGE_KEY_LEN);
-    gauge_put_field(&w, 0x009E, 8 + 18);
-    gauge_put_number(&w, 1, 2);
-    gauge_put_number(&w, 8 + 18, 2);
-    gauge_put_field(&w, 0x009D, 14);
-    gauge_put(&w, l->own + GAUGE_RECORD_PORT, 2);
-    gauge_put(&w, l->own + GAUGE_RECORD_ADDRESSES, GAUGE_ADDRESS_LEN);
+    return w;
+}
+
+/* A path: our own endpoint, and behind it so many bytes of others. */
+static inline void gauge_put_path(struct gauge_writer *w, const struct gauge_lent *l, const uint8_t *path, size_t len)
+{
+    size_t all = GAUGE_ENDPOINT_LEN + len;
+    gauge_put_field(w, 0x009E, 8 + all);
+    gauge_put_number(w, GAUGE_TO(uint32_t, all / GAUGE_ENDPOINT_LEN), 2);
+    gauge_put_number(w, GAUGE_TO(uint32_t, 8 + all), 2);
+    gauge_put_number(w, 0x009D, 2);
+    gauge_put_number(w, GAUGE_ENDPOINT_LEN, 2);
+    gauge_put(w, l->own + GAUGE_RECORD_PORT, 2);
+    gauge_put(w, l->own + GAUGE_RECORD_ADDRESSES, GAUGE_ADDRESS_LEN);
+    gauge_put(w, path, len);
+}
+
+/* A LOOKUP for the gauge closest to a target; the path has our own endpoint. Output: GAUGE_LOOKUP_LEN bytes. */
+static inline size_t gauge_lookup(struct gauge_lent *l, const uint8_t *target, uint8_t *output)
+{
+    struct gauge_writer w = gauge_put_lookup(l, target, output);
+    gauge_put_path(&w, l, target, 0);
     return w.len;
+}
+
+/* A LOOKUP that goes on to another gauge: behind our own endpoint the path has those of the gauges that were asked
+ * already (gauge_endpoint), GAUGE_PATH_MOST - 1 of them at most; and our own record is its route entry, where it has an
+ * address, so that whoever is asked can learn of us. Output: GAUGE_LOOKUP_MOST bytes. 0, and nothing written, for
+ * endpoints that are not whole or too many: whoever is lost for so long begins anew. */
+static inline size_t gauge_lookup_along(struct gauge_lent *l, const uint8_t *target, const uint8_t *path,
+                                        size_t path_len, uint8_t *output)
+{
+    struct gauge_writer w;
+    if (path_len % GAUGE_ENDPOINT_LEN != 0 || path_len > GAUGE_ENDPOINT_LEN * (GAUGE_PATH_MOST - 1))
+        return 0;
+    w = gauge_put_lookup(l, target, output);
+    if (l->own[GAUGE_RECORD_COUNT] != 0)
+        gauge_put_entry(&w, l);
+    gauge_put_path(&w, l, path, path_len);
+    return w.len;
+}
+
+/* The endpoint of a record, its port and its first address, for a path: GAUGE_ENDPOINT_LEN bytes. */
+static inline void gauge_endpoint(const uint8_t *record, uint8_t *endpoint)
+{
+    memcpy(endpoint, record + GAUGE_RECORD_PORT, 2);
+    memcpy(endpoint + 2, record + GAUGE_RECORD_ADDRESSES, GAUGE_ADDRESS_LEN);
 }
 
 /* A reading as it is packed in an AUTHORITY, and in a file for the program `ponds` (docs/MEMORY.md): its bytes, least

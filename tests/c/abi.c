@@ -58,7 +58,7 @@ static void answers(void)
 /* The constants, as documents 01 and 02 have them. */
 static void constants(void)
 {
-    CHECK(GAUGE_KEY_LEN == 32 && GAUGE_NONCE_LEN == 16 && GAUGE_ADDRESS_LEN == 16);
+    CHECK(GAUGE_KEY_LEN == 32 && GAUGE_NONCE_LEN == 16 && GAUGE_ADDRESS_LEN == 16 && GAUGE_ENDPOINT_LEN == 2 + 16 && GAUGE_CLOSEST_HELD == 4);
     CHECK(GAUGE_RECORD_LEN == 100 && GAUGE_RECORD_KEY == 0 && GAUGE_RECORD_PORT == 32 && GAUGE_RECORD_COUNT == 34 && GAUGE_RECORD_ADDRESSES == 36);
     CHECK(GAUGE_ENTRY_KEY == 0 && GAUGE_ENTRY_MAJOR == 32 && GAUGE_ENTRY_MINOR == 33 && GAUGE_ENTRY_PORT == 34);
     CHECK(GAUGE_ENTRY_COUNT == 37 && GAUGE_ENTRY_ADDRESSES == 38);
@@ -164,6 +164,16 @@ static int wrote(const char *text)
 #define INQUIRE(key, id) HEADER("07", id) "0040 0006 0010 0000 0039 0024 " key "0093 0014 " NONCE
 #define AUTHORITY(acked) HEADER("08", "00000001") ACKED(acked) "0098 0008 0010 0000 0040 0006 0000 0000 009B 0008 F1F2F3F4"
 
+#define POINT(port, last) port " " ZEROS last " "
+#define LOOKUP(entry, point) \
+    HEADER("0B", "00000001") "0045 000C 0000 0000 00 00 0000 0038 0024 " KEY("11") "0039 0024 " KEY("00") entry "009E 001E 0001 001A 009D 0012 " point
+#define SHOWN(id, last) HEADER("08", id) ACKED("00000001") "0098 0008 0044 0000 0040 0006 0000 0000 " ENTRY(last)
+
+static int answer_is(struct gauge_answer a, uint32_t number, uint32_t first)
+{
+    return a.number == number && a.first == first && a.second == 0;
+}
+
 /* Each argument has something in it that shows in what is written, or in what is kept. */
 static void arguments(void)
 {
@@ -204,6 +214,28 @@ static void arguments(void)
     memset(output, 0xEE, sizeof output); /* below is the first count */
     a = gauge_neighbours(own, sizeof own, cache, sizeof cache, output, sizeof output);
     CHECK(a.number == GAUGE_OK && a.first == 1 && a.second == 0 && wrote(KEY("11")));
+
+    uint8_t path[2 * GAUGE_ENDPOINT_LEN]; /* own before cache, path before target: none of them is any other's length or form */
+    bytes(POINT("1388", "12") POINT("1388", "11"), path);
+    CHECK(answer_is(gauge_closest(own, sizeof own, cache, sizeof cache, path, 0, neighbour, sizeof neighbour), 0, 4));
+    CHECK(answer_is(gauge_closest(own, sizeof own, cache, sizeof cache, path, 0, key, sizeof key), 0, 0));
+    CHECK(answer_is(gauge_closest(own, sizeof own, cache, sizeof cache, path, GAUGE_ENDPOINT_LEN, neighbour, sizeof neighbour), 0, 4));
+    CHECK(answer_is(gauge_closest(own, sizeof own, cache, sizeof cache, path, sizeof path, neighbour, sizeof neighbour), 0, 0));
+    CHECK(answer_is(gauge_closest(own, sizeof own, cache, sizeof cache, path, sizeof path - 1, neighbour, sizeof neighbour), GAUGE_MEMORY, 0));
+    CHECK(answer_is(gauge_closest(own, sizeof own, cache, sizeof cache, path, 0, neighbour, sizeof neighbour - 1), GAUGE_MEMORY, 0));
+}
+
+/* A LOOKUP with a route entry: the AUTHORITY with the closest record, then the INQUIRE; and what its path passes over. */
+static void lookups(void)
+{
+    struct gauge_answer a = receive(20, 0, LOOKUP(ENTRY("14"), POINT("1388", "14")));
+    CHECK(a.number == GAUGE_OK && a.first == 96 && a.second == 76);
+    CHECK(wrote(SHOWN("00000014", "11") INQUIRE(KEY("14"), "00000015")));
+    a = receive(22, 0, LOOKUP(ENTRY("14"), POINT("1388", "11")));
+    CHECK(a.number == GAUGE_OK && a.first == 96 && a.second == 0);
+    CHECK(wrote(SHOWN("00000016", "12")));
+    a = receive(20, 0, LOOKUP(ENTRY("15"), POINT("1388", "11")));
+    CHECK(a.number == GAUGE_ID_WAITING && a.first == 0 && a.second == 0 && wrote(""));
 }
 
 /* Readings carried. An AUTHORITY of 42 bytes with our CPA becomes one of 62: the payload's field, length 4 + 16 or 4 + 14, stands before the CPA's,
@@ -291,7 +323,8 @@ static struct gauge_answer call(enum call_kind kind, const struct lent *l)
     case RECEIVE: return call_receive(gauge_receive, l);
     case SEND: return call_send(gauge_send, l);
     case TICK: return call_tick(gauge_tick, l);
-    default: return call_neighbours(gauge_neighbours, l);
+    case NEIGHBOURS: return call_neighbours(gauge_neighbours, l);
+    default: return call_closest(gauge_closest, l);
     }
 }
 
@@ -308,9 +341,9 @@ static void zero_lengths(uint8_t *nothing)
     memcpy(waiting_was, waiting, sizeof waiting);
     memset(output, 0xEE, sizeof output);
     datagram_len = bytes(INQUIRE(KEY("12"), "00000001"), datagram);
-    for (int c = RECEIVE; c <= NEIGHBOURS; c++)
+    for (int c = RECEIVE; c <= CLOSEST; c++)
         for (int empty = 0; empty < SLICES; empty++) {
-            if (!is_lent(empty, (enum call_kind)c))
+            if (!is_lent(empty, (enum call_kind)c) || empty == LENT_path)
                 continue;
             struct lent l = lend_all();
             *slice_in(&l, empty) = as_room(nothing, 0);
@@ -319,7 +352,10 @@ static void zero_lengths(uint8_t *nothing)
             CHECK(memcmp(cache, cache_was, sizeof cache) == 0 && memcmp(waiting, waiting_was, sizeof waiting) == 0 && output[0] == 0xEE);
         }
     CHECK(gauge_look(6, nothing, 0).number == GAUGE_LENGTH);
-    for (int c = RECEIVE; c <= NEIGHBOURS; c++) { /* and all is accepted where none is empty */
+    struct lent none = lend_all(); /* a path may be empty: key 11 is the closest to 0 */
+    none.path = as_room(nothing, 0);
+    CHECK(answer_is(call(CLOSEST, &none), GAUGE_OK, GAUGE_CLOSEST_HELD));
+    for (int c = RECEIVE; c <= CLOSEST; c++) { /* and all is accepted where none is empty */
         struct lent l = lend_all();
         CHECK(call((enum call_kind)c, &l).number == GAUGE_OK);
     }
@@ -334,6 +370,7 @@ int main(void)
     constants();
     looks();
     arguments();
+    lookups();
     zero_lengths(nothing);
     readings(nothing);
     printf("abi: %u facts, %u failed\n", tests, failed);

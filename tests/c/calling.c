@@ -25,6 +25,11 @@ struct gauge_answer call_neighbours(neighbours_call *by, const struct lent *l)
     return by(TAKEN(own), TAKEN(cache), TAKEN(output));
 }
 
+struct gauge_answer call_closest(closest_call *by, const struct lent *l)
+{
+    return by(TAKEN(own), TAKEN(cache), TAKEN(path), TAKEN(target));
+}
+
 struct gauge_look_answer call_look(look_call *by, const struct lent *l)
 {
     return by(l->major, TAKEN(datagram));

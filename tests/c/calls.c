@@ -242,6 +242,17 @@ static void list(void)
     after_call(a, GAUGE_KEY_LEN * ((size_t)a.first + a.second));
 }
 
+/* The cache is lent for reading here; a call that is lent no output has none to write to. */
+static void nearest(void)
+{
+    lend(LENT_path, 1);
+    lend(LENT_target, 2);
+    set(LENT_output, room, 0);
+    before_call();
+    struct gauge_answer a = call_closest(gauge_closest, &lent);
+    after_call(a, 0);
+}
+
 /* A look has its own major version, and leaves the gauge's as it is. */
 static void look(void)
 {
@@ -271,8 +282,8 @@ static const struct {
     void (*run)(void);
     bool sets; /* answers ok */
 } lines[] = {{"gauge", begin, true}, {"set-cache", set_cache, true}, {"set-waiting", set_waiting, true}, {"receive", receive, false},
-             {"send", send, false},  {"tick", tick, false},          {"list", list, false},              {"look", look, false},
-             {"held", held, false},  {"waits", waits, false}};
+             {"send", send, false},  {"tick", tick, false},          {"list", list, false},              {"nearest", nearest, false},
+             {"look", look, false},  {"held", held, false},          {"waits", waits, false}};
 
 int main(void)
 {

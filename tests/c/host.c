@@ -106,6 +106,20 @@ static struct gauge_answer list(struct gauge *g)
     return a;
 }
 
+/* The closest record, and that it is the one told. */
+static const uint8_t *closest(struct gauge *g, uint8_t *path, size_t path_len, uint8_t *target)
+{
+    struct lent l = plain(g, g->cpa, 0);
+    l.path = as_room(path, path_len);
+    l.target = as_room(target, GAUGE_KEY_LEN);
+    struct gauge_answer b = call_closest(gauge_closest, &l), a = gauge_lent_closest(&g->lent, path, path_len, target);
+    same(g, a, b);
+    CHECK(a.number == GAUGE_OK && a.second == 0);
+    const uint8_t *told = gauge_lent_told(&g->lent, a.first);
+    CHECK(told == (a.first == 0 ? g->lent.own : gauge_lent_record(&g->lent, a.first - GAUGE_CLOSEST_HELD)));
+    return told;
+}
+
 /* A datagram from one to the other, and every answer to it; an AUTHORITY goes on with a reading, and comes with it. */
 static void delivered(uint8_t to, const uint8_t *bytes, size_t len)
 {
@@ -152,6 +166,13 @@ static void find_each_other(void)
     delivered(1, flood, a.first);
     CHECK(list(one).second == 1 && list(two).first == 1);
     CHECK(tick(two).first == 0);
+    uint8_t path[GAUGE_ENDPOINT_LEN];
+    gauge_endpoint(one->lent.own, path);
+    CHECK(path[0] == 5000 >> 8 && path[1] == (5000 & 255) && path[2] == 0xFE && path[GAUGE_ENDPOINT_LEN - 1] == 1);
+    CHECK(closest(two, path, 0, one->cpa) == gauge_lent_record(&two->lent, 0));
+    CHECK(closest(two, path, sizeof path, one->cpa) == two->lent.own && closest(two, path, 0, two->cpa) == two->lent.own);
+    CHECK(closest(one, path, sizeof path, one->cpa) == one->lent.own);
+    CHECK(gauge_lent_closest(&two->lent, path, 17, one->cpa).number == GAUGE_MEMORY);
     a = send_record(two, two->cpa, two->cpa);
     CHECK(a.number == GAUGE_NOT_OURS);
     CHECK(receive(two, flood, 11).number == GAUGE_LENGTH);
@@ -197,7 +218,7 @@ static void texts(void)
     CHECK(strcmp(gauge_kind_text(5), gauge_kind_text(0)) == 0 && strcmp(gauge_kind_text(GAUGE_ACK), gauge_kind_text(0)) != 0);
     CHECK(strcmp(gauge_reading_text(3), gauge_reading_text(4)) != 0 && strcmp(gauge_reading_text(1), gauge_reading_text(2)) != 0);
     CHECK(strcmp(gauge_part_text(GAUGE_PART_CACHE), "the cache") == 0 && strcmp(gauge_part_text(GAUGE_PART_WAITING), "the waiting table") == 0);
-    CHECK(strcmp(GAUGE_VERSION, "1.1") == 0 && GAUGE_VERSION_NUMBER == 101);
+    CHECK(strcmp(GAUGE_VERSION, "1.2") == 0 && GAUGE_VERSION_NUMBER == 102);
 }
 
 static void hex(const uint8_t *bytes, size_t len)
@@ -237,6 +258,18 @@ static void messages(void)
         id = l->id;
         told("lookup", l, id, target, GAUGE_KEY_LEN, bytes, gauge_lookup(l, target, bytes));
     }
+    /* of a LOOKUP that goes on: the target, and the endpoints of those that were asked */
+    const size_t asked[] = {0, 1, 2, 21};
+    for (uint8_t count = 0; count <= 4; count++)
+        for (size_t i = 0; i < 4; i++) {
+            size_t len = GAUGE_ENDPOINT_LEN * asked[i];
+            gauge_lent_own(l, target, 0x1234, addresses, count);
+            uint32_t id = l->id;
+            told("lookup_along", l, id, target, GAUGE_KEY_LEN + len, bytes, gauge_lookup_along(l, target, target + GAUGE_KEY_LEN, len, bytes));
+            CHECK(l->id == id + 1);
+        }
+    CHECK(gauge_lookup_along(l, target, target, 17, bytes) == 0 && gauge_lookup_along(l, target, target, 22 * GAUGE_ENDPOINT_LEN, bytes) == 0);
+    CHECK(gauge_lookup_along(l, target, target, 21 * GAUGE_ENDPOINT_LEN, bytes) == GAUGE_LOOKUP_MOST);
     const size_t lengths[] = {0, 1, 2, 3, 4, 32, 1171, 1172};
     for (size_t i = 0; i < sizeof lengths / sizeof *lengths; i++) {
         uint32_t id = l->id;

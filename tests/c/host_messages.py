@@ -19,6 +19,10 @@ def wanted(what, identity, own, of):
     if what == "lookup":
         path = [own[32:34] + own[36:52]]  # our own endpoint: port and first address
         return model.write(model.message("lookup", MAJOR, MINOR, identity, target=of, validate=NO_KEY, path=path))
+    if what == "lookup_along":  # with our own record where it has an address, and behind our own endpoint those that were asked
+        path = [own[32:34] + own[36:52]] + model.path_of(of[32:])
+        route = model.entry_of(own, MAJOR, MINOR) if own[34] else None
+        return model.write(model.message("lookup", MAJOR, MINOR, identity, target=of[:32], validate=NO_KEY, route=route, path=path))
     told = {"route": model.entry_of(own, MAJOR, MINOR)} if what == "first_flood" else {"revoke": of}
     return model.write(model.message("flood", MAJOR, MINOR, identity, d=True, validate=NO_KEY, **told))
 
@@ -48,7 +52,7 @@ def main():
             seen += 1
     for text in wrong:
         print("host: " + text[:300])
-    if wrong or seen != 4 + 4 + 8 + 3:
+    if wrong or seen != 4 + 4 + 20 + 8 + 3:
         sys.exit("host: %d messages and readings looked at, %d wrong" % (seen, len(wrong)))
 
 

@@ -194,9 +194,11 @@ static void keys(struct place *p)
     array(p, 0x0060, 0x0030, 0x20, 0, 0x7FFF);
 }
 
-static void endpoints(struct place *p)
+/* Port and address of each, one behind the other. */
+static struct span endpoints(struct place *p)
 {
-    array(p, 0x009E, 0x009D, 0x12, 1, 22);
+    struct span s = array(p, 0x009E, 0x009D, 0x12, 1, 22), list = {s.at + 8, s.len - 8}, none = {0, 0};
+    return p->bad ? none : list;
 }
 
 static void solicit(struct place *p, struct message *m)
@@ -303,7 +305,7 @@ static void lookup(struct place *p, struct message *m)
     m->target = field_of(p, 0x0038, KEY_LEN);
     m->validate = field_of(p, 0x0039, KEY_LEN);
     m->entry = optional_entry(p);
-    endpoints(p);
+    m->path = endpoints(p);
     signatures(p);
 }
 
@@ -519,12 +521,25 @@ static void learn(struct work *w, const uint8_t *record)
     w->held = n;
 }
 
-static const uint8_t *closest(struct work *w, const uint8_t *target)
+/* Document 02, Wish 2: do the record's port and one of its addresses stand on the path, in one endpoint? Only the addresses that it has count. */
+static bool on_path(const uint8_t *record, struct bytes path)
+{
+    bool found = false;
+    for (const uint8_t *e = path.at; !found && e < path.at + path.len; e += ENDPOINT_LEN)
+        for (const uint8_t *a = record + ADDRESSES; !found && a < record + ADDRESSES + ADDRESS_LEN * record[34]; a += ADDRESS_LEN)
+            found = memcmp(e, record + PORT, 2) == 0 && memcmp(e + 2, a, ADDRESS_LEN) == 0;
+    return found;
+}
+
+/* "The own record is never skipped." */
+static const uint8_t *closest(struct work *w, struct bytes path, const uint8_t *target)
 {
     const uint8_t *best = w->own;
     uint8_t far[KEY_LEN], least[KEY_LEN];
     bool best_down = closeness(target, best, least);
     for (size_t i = 0; i < w->held; i++) {
+        if (on_path(record_at(w, i), path))
+            continue;
         bool down = closeness(target, record_at(w, i), far);
         if (order(far, least) < 0 || (order(far, least) == 0 && down && !best_down)) {
             best = record_at(w, i);
@@ -694,25 +709,38 @@ static void acknowledge(struct work *w, const struct message *m)
         send_ack(w, w->lent->id, m->id, order(d + m->validate.at, w->own) != 0);
 }
 
-static uint32_t take_entry(struct work *w, const struct message *m)
+/* The record that a message's route entry has. Its versions and flags are no part of it. */
+static void entry_record(const struct work *w, const struct message *m, uint8_t *record)
 {
     const uint8_t *entry = w->lent->datagram.at + m->entry.at;
-    uint32_t id = w->lent->id;
-    uint8_t record[RECORD_LEN] = {0};
+    memset(record, 0, RECORD_LEN);
     memcpy(record, entry, KEY_LEN);
     memcpy(record + PORT, entry + 34, 2);
     record[34] = entry[37];
-    memcpy(record + 36, entry + 38, 16 * (size_t)entry[37]);
-    if (order(record, w->own) == 0)
-        return OWN_KEY;
-    acknowledge(w, m);
+    memcpy(record + ADDRESSES, entry + 38, ADDRESS_LEN * (size_t)entry[37]);
+}
+
+/* "If the very same record is held, or an inquiry for its key is waiting, no more. Otherwise an INQUIRE for its key follows and its place opens." */
+static uint32_t ask_about(struct work *w, const uint8_t *record, uint32_t id)
+{
     const uint8_t *known = held(w, record);
     if (known != NULL && memcmp(known, record, RECORD_LEN) == 0)
         return 0;
     if (inquiry_for(w, record) != NULL)
         return 0;
-    send_inquire(w, id + 1, record, w->lent->nonce.at);
-    return open_place(w, id + 1, 2, record, record);
+    send_inquire(w, id, record, w->lent->nonce.at);
+    return open_place(w, id, 2, record, record);
+}
+
+static uint32_t take_entry(struct work *w, const struct message *m)
+{
+    uint32_t given = w->lent->id;
+    uint8_t record[RECORD_LEN];
+    entry_record(w, m, record);
+    if (order(record, w->own) == 0)
+        return OWN_KEY;
+    acknowledge(w, m);
+    return ask_about(w, record, given + 1);
 }
 
 static uint32_t take_revocation(struct work *w, const struct message *m)
@@ -768,12 +796,21 @@ static uint32_t answer_inquire(struct work *w, const struct message *m)
     return 0;
 }
 
+/* Document 02, Wish 2: a LOOKUP's route entry "is inquired about as in a FLOOD, with the ID one more than the reply's; our own key there is passed
+ * over". The reply stands before the INQUIRE. */
 static uint32_t answer_lookup(struct work *w, const struct message *m)
 {
-    const uint8_t *record = closest(w, w->lent->datagram.at + m->target.at);
-    send_authority(w, w->lent->id, m->id, 52 + 16 * (size_t)record[34]);
-    put_entry(w, record);
-    return 0;
+    const uint8_t *d = w->lent->datagram.at;
+    uint32_t reply = w->lent->id;
+    uint8_t record[RECORD_LEN];
+    struct bytes path = {d + m->path.at, m->path.len};
+    const uint8_t *shown = closest(w, path, d + m->target.at);
+    send_authority(w, reply, m->id, 52 + 16 * (size_t)shown[34]);
+    put_entry(w, shown);
+    if (m->entry.at == 0 || order(d + m->entry.at, w->own) == 0)
+        return 0;
+    entry_record(w, m, record);
+    return ask_about(w, record, reply + 1);
 }
 
 static uint32_t take(struct work *w, const struct message *m)
@@ -914,5 +951,21 @@ struct model_answer model_neighbours(const struct lent *l)
     struct model_answer a = {0, 0, 0};
     a.first = list_side(&w, false, l->output.at);
     a.second = list_side(&w, true, l->output.at + KEY_LEN * a.first);
+    return a;
+}
+
+/* Document 02, Wish 2: "Whoever asks for the closest record now hands in the path: endpoints as on the wire, none allowed, 1 if not whole ones."
+ * `first` tells the record: 0 our own, 4 and more those of the cache in their order. */
+struct model_answer model_closest(const struct lent *l)
+{
+    if (!own_form(l->own) || !cache_form(l->own.at, l->cache) || l->path.len % ENDPOINT_LEN != 0 || l->target.len != KEY_LEN)
+        return refuse(MEMORY);
+    struct work w;
+    begin(&w, l);
+    copy_cache(&w);
+    const uint8_t *shown = closest(&w, read_only(l->path), l->target.at);
+    struct model_answer a = {0, 0, 0};
+    if (shown != w.own)
+        a.first = 4 + (uint32_t)((size_t)(shown - w.cache) / RECORD_LEN);
     return a;
 }

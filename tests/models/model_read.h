@@ -9,7 +9,7 @@
 struct message {
     uint32_t number, type, id, acked;
     bool d, n;
-    struct span validate, cpa, nonce, entry, target;
+    struct span validate, cpa, nonce, entry, target, path; /* of a path the endpoints alone */
     unsigned flags; /* this and the next four: of an AUTHORITY's buffer */
     struct span chain, keytoken, classifier, payload;
 };

@@ -75,8 +75,10 @@ static struct result by_model(enum call_kind kind, const struct lent *l)
         a = model_send(l);
     else if (kind == TICK)
         a = model_tick(l);
-    else
+    else if (kind == NEIGHBOURS)
         a = model_neighbours(l);
+    else
+        a = model_closest(l);
     return three_numbers(a.number, a.first, a.second);
 }
 
@@ -98,8 +100,10 @@ static struct result by_archive(enum call_kind kind, const struct lent *l)
         a = call_send(gauge_send, l);
     else if (kind == TICK)
         a = call_tick(gauge_tick, l);
-    else
+    else if (kind == NEIGHBOURS)
         a = call_neighbours(gauge_neighbours, l);
+    else
+        a = call_closest(gauge_closest, l);
     return three_numbers(a.number, a.first, a.second);
 }
 #endif

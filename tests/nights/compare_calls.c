@@ -128,9 +128,11 @@ static void damage_call(struct call *c)
     }
     case 7: c->lent.cpa = kept(b, percent(40) ? 0 : GAUGE_CPA_MOST + under(3)); break;
     default:
-        small = !percent(50) ? &c->lent.key : c->kind == SEND ? &c->lent.neighbour : &c->lent.nonce;
+        small = c->kind == CLOSEST ? &c->lent.target : !percent(50) ? &c->lent.key : c->kind == SEND ? &c->lent.neighbour : &c->lent.nonce;
+        if (c->kind == CLOSEST && percent(60))
+            small = &c->lent.path;
         memcpy(b, small->at, small->len);
-        *small = kept(b, wrong_length(small->len));
+        *small = kept(b, wrong_length(small->len > 0 ? small->len : GAUGE_ENDPOINT_LEN));
     }
 }
 
@@ -159,7 +161,7 @@ void make_call(struct call *c)
     uint8_t b[GAUGE_CPA_MOST], key[GAUGE_KEY_LEN];
     uint32_t way = under(100);
     memset(c, 0, sizeof *c);
-    c->kind = way < 70 ? RECEIVE : way < 80 ? SEND : way < 80 + ticks ? TICK : way < 90 ? NEIGHBOURS : LOOK;
+    c->kind = way < 68 ? RECEIVE : way < 76 ? SEND : way < 76 + ticks ? TICK : way < 85 ? NEIGHBOURS : way < 92 ? CLOSEST : LOOK;
     c->lent = lend_gauge();
     c->lent.major = percent(3) ? any() : own_major;
     c->filled = any();
@@ -182,6 +184,11 @@ void make_call(struct call *c)
         draft_send(b, key);
         c->lent.neighbour = kept(b, GAUGE_KEY_LEN);
         c->lent.key = kept(key, GAUGE_KEY_LEN);
+    }
+    if (c->kind == CLOSEST) {
+        size_t len = draft_closest(b, key);
+        c->lent.path = kept(b, len);
+        c->lent.target = kept(key, GAUGE_KEY_LEN);
     }
     if (percent(6))
         damage_call(c);

@@ -26,20 +26,23 @@ static uint32_t possible(int kind, int message)
         return looked[message];
     if (message != NONE)
         return 0;
-    return kind == SEND ? SENDS : BIT(GAUGE_OK) | BIT(GAUGE_MEMORY) | BIT(GAUGE_ROOM);
+    return kind == SEND ? SENDS : BIT(GAUGE_OK) | BIT(GAUGE_MEMORY) | (kind == CLOSEST ? 0 : BIT(GAUGE_ROOM));
 }
 
 /* What an accepted call did, by what it left and wrote. */
 enum { JOINED, REPLACED, OTHER_DROPPED, SELF_DROPPED, BOTH, ACK_ONLY, INQUIRE_ONLY, QUIET, N_SET, WRAPPED, REVOKED, UNASKED, REVOKED_NOT, N_REMOVED,
        N_CLEAR, SHOWN_OWN, SHOWN_HELD, EXPIRED, SIXTEEN, FIVES, BETWEEN, LIST_END, LIST_OPPOSITE, SHOWN_END, TIE, TIE_END, FULL_255, FULL_256,
-       SHOWN_256, DONE };
+       SHOWN_256, ASKED, ASKED_WRAPPED, ENTRY_SAME, ENTRY_WAITS, ENTRY_OWN, PASSED, PASSED_MANY, PASSED_FOR_OWN, NEAREST_OWN, NEAREST_HELD,
+       NEAREST_BARE, NEAREST_256, DONE };
 static const char *const done_names[] = {
     "learned: joined", "learned: replaced", "learned: another dropped", "learned: newcomer dropped", "FLOOD: ACK and INQUIRE", "FLOOD: ACK alone",
     "FLOOD: INQUIRE alone", "FLOOD: nothing sent", "ACK sent with N", "INQUIRE with ID 0", "revoked: key removed", "revoked: inquiry freed",
     "revoked: nothing there", "ACK: N removed the key", "ACK: nothing removed", "LOOKUP: own record shown", "LOOKUP: held record shown",
     "tick: a place freed", "tick: sixteen listed", "list: five and five", "learned: dropped between", "list: across the end",
     "list: key just opposite", "LOOKUP: across the end", "LOOKUP: tie", "LOOKUP: tie, larger number", "learned: into a full 255",
-    "learned: into a full 256", "LOOKUP: 256th record shown"};
+    "learned: into a full 256", "LOOKUP: 256th record shown", "LOOKUP: entry inquired about", "LOOKUP: INQUIRE with ID 0",
+    "LOOKUP: entry held already", "LOOKUP: entry's key waits", "LOOKUP: entry has our key", "path: closest passed over", "path: ten passed over",
+    "path: all nearer passed over", "closest: own", "closest: held", "closest: no path", "closest: 256th record"};
 static unsigned long done[DONE];
 
 static size_t rows_used(const uint8_t *p, size_t len, size_t width, size_t mark)
@@ -98,6 +101,51 @@ static void count_shown(const uint8_t *own_key, const uint8_t *target, const uin
     done[TIE_END] += tie && memcmp(shown, other, GAUGE_KEY_LEN) > 0;
 }
 
+/* The record closest to a target, as gauge_closest tells it, if there were no path. */
+static uint32_t without_path(const struct call *c, const struct memory *before, uint8_t *target)
+{
+    static struct memory m;
+    struct lent l = c->lent;
+    m = *before;
+    l.cache = as_room(m.cache, m.cache_len);
+    l.path.len = 0;
+    l.target = as_room(target, GAUGE_KEY_LEN);
+    return model_closest(&l).first;
+}
+
+/* Which record is shown in place of the closest, `first`, that the path passes over: our own, or one so many places from it round the cache. */
+static void count_passed(uint32_t first, uint32_t shown, size_t was)
+{
+    size_t steps = shown > first ? shown - first : first - shown;
+    done[PASSED] += shown != first;
+    done[PASSED_MANY] += shown != 0 && first != 0 && steps >= 10 && was - steps >= 10;
+    done[PASSED_FOR_OWN] += shown == 0 && first != 0;
+}
+
+static uint32_t place_of(const uint8_t *key, const uint8_t *own_key, const struct memory *before)
+{
+    uint32_t at = 0;
+    if (memcmp(key, own_key, GAUGE_KEY_LEN) == 0)
+        return 0;
+    while (memcmp(before->cache + GAUGE_RECORD_LEN * at, key, GAUGE_KEY_LEN) != 0)
+        at++;
+    return GAUGE_CLOSEST_HELD + at;
+}
+
+/* What became of a LOOKUP's route entry. */
+static void count_asked(const struct call *c, const uint32_t *answer, const struct memory *before)
+{
+    uint32_t at = model_look(&c->lent).entry.at;
+    const uint8_t *key = c->lent.datagram.at + at;
+    bool waited = false;
+    if (at == 0)
+        return;
+    for (const uint8_t *p = before->waiting; p < before->waiting + before->waiting_len; p += GAUGE_PLACE_LEN)
+        waited = waited || (p[4] == 2 && memcmp(p + 8, key, GAUGE_KEY_LEN) == 0);
+    done[answer[2] != 0 ? ASKED : memcmp(key, c->lent.own.at, GAUGE_KEY_LEN) == 0 ? ENTRY_OWN : waited ? ENTRY_WAITS : ENTRY_SAME]++;
+    done[ASKED_WRAPPED] += answer[2] != 0 && c->lent.id == UINT32_MAX;
+}
+
 static void count_learned(const uint8_t *key, const struct memory *before, size_t was)
 {
     bool same = memcmp(before->cache, now.cache, now.cache_len) == 0, there = false;
@@ -131,6 +179,12 @@ static void count_done(const struct call *c, int message, const uint32_t *answer
         done[LIST_END] += across_end(c->lent.own.at, out, answer[1], answer[2]);
         done[LIST_OPPOSITE] += has_opposite(c->lent.own.at, out, answer[1] + answer[2]);
     }
+    if (c->kind == CLOSEST) {
+        done[answer[1] == 0 ? NEAREST_OWN : NEAREST_HELD]++;
+        done[NEAREST_BARE] += c->lent.path.len == 0;
+        done[NEAREST_256] += answer[1] == GAUGE_CLOSEST_HELD + GAUGE_CACHE_MOST - 1;
+        count_passed(without_path(c, before, c->lent.target.at), answer[1], was);
+    }
     if (c->kind != RECEIVE)
         return;
     done[N_SET] += (message == ENTRY || message == REVOKE) && answer[1] == 26;
@@ -145,8 +199,12 @@ static void count_done(const struct call *c, int message, const uint32_t *answer
     }
     if (message == ACK)
         done[is < was ? N_REMOVED : N_CLEAR]++;
-    if (message == LOOKUP)
-        count_shown(c->lent.own.at, c->lent.datagram.at + 28, out + 40, before, was);
+    if (message == LOOKUP) {
+        uint8_t *target = c->lent.datagram.at + 28;
+        count_shown(c->lent.own.at, target, out + 40, before, was);
+        count_passed(without_path(c, before, target), place_of(out + 40, c->lent.own.at, before), was);
+        count_asked(c, answer, before);
+    }
 }
 
 /* Was the call lent the present memory, and none that was damaged for it? */

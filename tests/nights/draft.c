@@ -117,6 +117,11 @@ void copy_memory(struct memory *to, struct memory *from)
 static uint8_t pool[32][GAUGE_KEY_LEN];
 static uint32_t next_id;
 
+/* Endpoints that gauges of a night share: so often of 100 a record has its port, and each of its addresses, of one of them. */
+static uint8_t points[4][GAUGE_ENDPOINT_LEN];
+static size_t shared;
+static unsigned sharing;
+
 size_t held(void)
 {
     size_t n = 0;
@@ -227,6 +232,20 @@ static void middle_key(uint8_t *key)
         key[0] ^= 0x80;
 }
 
+/* Points that differ in port or address alone, and one whose address is zero, as a place without an address is. */
+static void begin_points(void)
+{
+    for (size_t i = 0; i < 4; i++)
+        fill(points[i], GAUGE_ENDPOINT_LEN);
+    memcpy(points[1], points[0], 2);
+    memcpy(points[2] + 2, points[0] + 2, GAUGE_ADDRESS_LEN);
+    memset(points[3] + 2, 0, GAUGE_ADDRESS_LEN);
+    if (percent(30))
+        memset(points[3], 0, 2);
+    shared = percent(30) ? 1 : 2 + under(3);
+    sharing = percent(40) ? 0 : percent(50) ? 30 : 97;
+}
+
 /* All but the key. */
 void some_rest(uint8_t *record)
 {
@@ -238,6 +257,11 @@ void some_rest(uint8_t *record)
     for (size_t i = 0; i < 16 * (size_t)record[GAUGE_RECORD_COUNT]; i++)
         if (record[GAUGE_RECORD_ADDRESSES + i] < 80)
             record[GAUGE_RECORD_ADDRESSES + i] = 0;
+    if (percent(sharing))
+        memcpy(record + GAUGE_RECORD_PORT, points[under(shared)], 2);
+    for (size_t i = 0; i < record[GAUGE_RECORD_COUNT]; i++)
+        if (percent(sharing))
+            memcpy(record + GAUGE_RECORD_ADDRESSES + GAUGE_ADDRESS_LEN * i, points[under(shared)] + 2, GAUGE_ADDRESS_LEN);
 }
 
 uint32_t some_id(void)
@@ -273,6 +297,7 @@ void begin_gauge(void)
     fill(own, GAUGE_KEY_LEN);
     if (percent(60))
         edge_key(own);
+    begin_points();
     some_rest(own);
     for (size_t i = 0; i < 32; i++) {
         memcpy(pool[i], own, GAUGE_KEY_LEN);
@@ -426,6 +451,55 @@ static void add_endpoints(void)
     if (percent(3))
         n = 0;
     add_array(0x9E, 0x9D, 18, n);
+}
+
+/* A record that is held and near to a target: mostly one of the two beside it, round the end of the cache; now and then any, or our own. */
+static const uint8_t *some_near(const uint8_t *target)
+{
+    size_t h = held(), at = 0, steps = percent(80) ? under(2) : under(7);
+    if (h == 0 || percent(4))
+        return own;
+    while (at < h && memcmp(now.cache + GAUGE_RECORD_LEN * at, target, GAUGE_KEY_LEN) < 0)
+        at++;
+    at = percent(50) ? at + steps : at + 8 * h - 1 - steps; /* up from the target, or down */
+    if (percent(12))
+        at = under(h);
+    return now.cache + GAUGE_RECORD_LEN * (at % h);
+}
+
+/* An endpoint for a path: of such a record, by any of its addresses; and every other time wrong in one thing. */
+static void some_endpoint(const uint8_t *target, uint8_t *point)
+{
+    const uint8_t *r = some_near(target), *other = some_near(target);
+    unsigned count = r[GAUGE_RECORD_COUNT]; /* our own record may be out of form */
+    size_t which = count >= 1 && count <= 4 ? under(count) : 0;
+    memcpy(point, r + GAUGE_RECORD_PORT, 2);
+    memcpy(point + 2, r + GAUGE_RECORD_ADDRESSES + GAUGE_ADDRESS_LEN * which, GAUGE_ADDRESS_LEN);
+    switch (under(16)) {
+    case 0: point[1] = (uint8_t)(point[1] + 1); break; /* the port off by one */
+    case 1: point[1] = (uint8_t)(point[1] - 1); break;
+    case 2: flip_bit(point, 2); break;
+    case 3: flip_bit(point + 2, GAUGE_ADDRESS_LEN); break;
+    case 4: memcpy(point, other + GAUGE_RECORD_PORT, 2); break; /* another's port, or another's address */
+    case 5: memcpy(point + 2, other + GAUGE_RECORD_ADDRESSES, GAUGE_ADDRESS_LEN); break;
+    case 6: memset(point + 2, 0, GAUGE_ADDRESS_LEN); break; /* the address of a place that has none */
+    case 7:
+        if (percent(50))
+            fill(point, GAUGE_ENDPOINT_LEN);
+        else
+            memset(point, 0, GAUGE_ENDPOINT_LEN);
+        break;
+    default: break;
+    }
+}
+
+/* The endpoints of a LOOKUP's path: those of an array, as far as the draft has room for them. */
+static void add_path(const uint8_t *target)
+{
+    size_t before = draft.n + 12;
+    add_endpoints();
+    for (size_t at = before; at + GAUGE_ENDPOINT_LEN <= draft.n; at += GAUGE_ENDPOINT_LEN)
+        some_endpoint(target, draft.b + at);
 }
 
 static void add_keys(void)
@@ -663,10 +737,10 @@ static void draft_target(uint8_t *target)
 {
     size_t h = held();
     uint32_t way = under(20);
-    if (way < 5 && h > 0) {
+    if (way < 7 && h > 0) {
         memcpy(target, now.cache + GAUGE_RECORD_LEN * (h - 1), GAUGE_KEY_LEN);
         shift(target, little());
-    } else if (way < 12) {
+    } else if (way < 13) {
         some_key(target);
     } else {
         middle_key(target);
@@ -676,7 +750,7 @@ static void draft_target(uint8_t *target)
 static void draft_lookup(void)
 {
     static const uint8_t criteria[] = {0, 1, 2, 4, 8};
-    uint8_t target[GAUGE_KEY_LEN], validate[GAUGE_KEY_LEN];
+    uint8_t target[GAUGE_KEY_LEN], validate[GAUGE_KEY_LEN], record[GAUGE_RECORD_LEN];
     some_key(validate);
     draft_target(target);
     add_header(11);
@@ -687,10 +761,23 @@ static void draft_lookup(void)
     add_ignored(2);
     add_key(0x38, target);
     add_key(0x39, validate);
-    if (percent(30))
-        add_some_entry();
-    add_endpoints();
+    if (percent(65)) {
+        draft_flood_record(record);
+        if (percent(10))
+            memcpy(record, own, GAUGE_KEY_LEN);
+        add_entry(record);
+    }
+    add_path(target);
     add_signatures();
+}
+
+size_t draft_closest(uint8_t *path, uint8_t *target)
+{
+    size_t n = percent(10) ? 0 : percent(10) ? under(PATH_POINTS + 1) : 1 + under(4);
+    draft_target(target);
+    for (size_t i = 0; i < n; i++)
+        some_endpoint(target, path + GAUGE_ENDPOINT_LEN * i);
+    return GAUGE_ENDPOINT_LEN * n;
 }
 
 /* One damage: a byte, a bit, a cut, growth, or a field's number or length. */
@@ -742,7 +829,7 @@ void draft_message(uint8_t *key)
 {
     uint32_t to = waiting_id(2, 92);
     some_key(key);
-    switch (under(20)) {
+    switch (under(22)) {
     case 0: draft_solicit(); break;
     case 1: draft_advertise(); break;
     case 2: draft_request(); break;
@@ -777,9 +864,20 @@ void draft_message(uint8_t *key)
         add_header(12 + under(244));
 }
 
-void draft_learning(uint8_t *key)
+void draft_news(uint8_t *key)
 {
     uint8_t record[GAUGE_RECORD_LEN];
+    if (percent(25))
+        memcpy(record, pool[under(32)], GAUGE_KEY_LEN);
+    else
+        fill(record, GAUGE_KEY_LEN);
+    some_rest(record);
+    memcpy(key, record, GAUGE_KEY_LEN);
+    draft_flood_of(key, record, false);
+}
+
+void draft_learning(uint8_t *key)
+{
     for (size_t i = 0; i < waits(); i++) {
         const uint8_t *p = now.waiting + GAUGE_PLACE_LEN * i;
         if (p[4] == 2) {
@@ -788,13 +886,7 @@ void draft_learning(uint8_t *key)
             return;
         }
     }
-    if (percent(25))
-        memcpy(record, pool[under(32)], GAUGE_KEY_LEN);
-    else
-        fill(record, GAUGE_KEY_LEN);
-    some_rest(record);
-    memcpy(key, record, GAUGE_KEY_LEN);
-    draft_flood_of(key, record, false);
+    draft_news(key);
 }
 
 void draft_inquire_of(size_t n)

@@ -57,9 +57,14 @@ struct draft {
 extern struct draft draft;
 
 void draft_message(uint8_t *key);  /* and the key that the host names with its verdict */
-void draft_learning(uint8_t *key); /* an AUTHORITY for an inquiry that waits; where none does, a FLOOD of some gauge's record */
+void draft_news(uint8_t *key);     /* a FLOOD of some gauge's record, and its key */
+void draft_learning(uint8_t *key); /* an AUTHORITY for an inquiry that waits; where none does, such a FLOOD */
 void draft_inquire_of(size_t n);   /* an INQUIRE for our key, n bytes long, good but for that; n from 60 to 2048 */
 void draft_send(uint8_t *neighbour, uint8_t *key);
+
+/* What gauge_closest is handed: a target, and the bytes of a path of up to PATH_POINTS endpoints, which lean on the records held near to it. */
+#define PATH_POINTS 30
+size_t draft_closest(uint8_t *path, uint8_t *target); /* gives the path's length */
 
 /* An AUTHORITY with this payload, or none where it is NULL, and its other fields by chance. It is `whole` bytes long where its CPA can make it so,
  * and of any length where `whole` is 0. */

@@ -240,6 +240,18 @@ static void fill_cache(void)
     }
 }
 
+/* Calls until sixteen wait, which answers and ticks would seldom let happen. */
+static void fill_waiting(void)
+{
+    uint8_t key[GAUGE_KEY_LEN], nonce[GAUGE_NONCE_LEN];
+    for (int i = 0; i < 60 && waits() < GAUGE_PLACES; i++) {
+        uint32_t id = some_id();
+        draft_news(key);
+        fill(nonce, GAUGE_NONCE_LEN);
+        receive(id, 1, key, nonce, as_room(draft.b, draft.n));
+    }
+}
+
 /* Ways in which a record is bad: its kind and length as written, how many bytes there are of it (length and kind counted), and where: in place of the
  * first record, later, or both. 0 for the length of an unknown kind: any. */
 
@@ -392,6 +404,8 @@ static void make_night(unsigned long i)
         put_first();
         if (percent(6))
             fill_cache();
+        if (percent(6))
+            fill_waiting();
         size_t calls = bad && percent(20) ? 0 : some_length();
         for (size_t c = 0; c < calls; c++)
             some_call();

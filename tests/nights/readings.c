@@ -189,7 +189,7 @@ static const uint32_t unknown[] = {0, 3, 255, 256, 0x0101, 0x0200, 65535, 65536,
 
 static uint32_t some_litres(void)
 {
-    return percent(50) ? litres[under(COUNT(litres))] : (uint32_t)chance();
+    return percent(60) ? litres[under(COUNT(litres))] : (uint32_t)chance();
 }
 
 static uint32_t some_depth(void)

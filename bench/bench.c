@@ -34,12 +34,13 @@ struct side {
     send_call *send;
     tick_call *tick;
     neighbours_call *neighbours;
+    closest_call *closest;
     look_call *look;
 };
 
 /* A function under the signature of another (bench/empty.c). */
 #define AS(type, function) ((type *)(void (*)(void))(function))
-#define SIDE(name, halves) {#name, halves, name##_receive, name##_send, name##_tick, name##_neighbours, name##_look}
+#define SIDE(name, halves) {#name, halves, name##_receive, name##_send, name##_tick, name##_neighbours, name##_closest, name##_look}
 static const struct side sides[] = {
     SIDE(gauge, false),
     SIDE(gcc, false),
@@ -49,7 +50,7 @@ static const struct side sides[] = {
     SIDE(clang_halves, true),
 #endif
     {"empty", false, AS(receive_call, empty_answer), AS(send_call, empty_answer), AS(tick_call, empty_answer), AS(neighbours_call, empty_answer),
-     AS(look_call, empty_look)},
+     AS(closest_call, empty_answer), AS(look_call, empty_look)},
 };
 #define SIDES (sizeof sides / sizeof *sides)
 #define EMPTY (SIDES - 1)
@@ -122,9 +123,14 @@ static struct gauge_answer answered(const struct side *by)
         a = call_tick(by->tick, &lent);
         end();
         break;
-    default:
+    case NEIGHBOURS:
         begin();
         a = call_neighbours(by->neighbours, &lent);
+        end();
+        break;
+    default:
+        begin();
+        a = call_closest(by->closest, &lent);
         end();
         break;
     }

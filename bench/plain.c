@@ -1,6 +1,6 @@
-/* The five calls in plain C, written for speed: what the archive is measured against. It makes every test of document 01, with document 02's ring,
- * and gives the same numbers and bytes; nothing is written before the last refusal is decided. Numbers are loaded whole and swapped, keys compared by
- * words up to the first that differ, runs of bytes moved by the C library. For x86-64: words are read least significant byte first.
+/* The six calls in plain C, written for speed: what the archive is measured against. It makes every test of document 01, with document 02's ring and
+ * path, and gives the same numbers and bytes; nothing is written before the last refusal is decided. Numbers are loaded whole and swapped, keys
+ * compared by words up to the first that differ, runs of bytes moved by the C library. For x86-64: words are read least significant byte first.
  *
  *   PLAIN    begins the names of the calls
  *   HALVE    keys are searched by halving. Without it one record is looked at after the other up to the key's place, as the archive does. */
@@ -157,7 +157,7 @@ static size_t waiting_form(const uint8_t *own, const uint8_t *waiting, size_t le
 
 struct message {
     struct gauge_look_answer seen;
-    uint32_t validate_at;
+    uint32_t validate_at, path_at, path_len;
     bool d, n;
 };
 
@@ -235,13 +235,22 @@ static bool optional_entry(struct place *p, struct gauge_look_answer *m)
     return count >= 1 && count <= 4 && m->entry_len == 38 + 16 * count && padding(p);
 }
 
+/* The elements, in so many bytes. */
+static bool elements(struct place *p, unsigned number, uint32_t element, uint32_t size, uint32_t least, uint32_t most, uint32_t *at, uint32_t *len)
+{
+    if (!field(p, number, at, len) || *len < 8)
+        return false;
+    const uint8_t *head = p->d + *at;
+    uint32_t count = two(head), whole = *len;
+    *at += 8;
+    *len -= 8;
+    return count >= least && count <= most && *len == count * size && two(head + 2) == whole && four(head + 4) == (element << 16 | size);
+}
+
 static bool array(struct place *p, unsigned number, uint32_t element, uint32_t size, uint32_t least, uint32_t most)
 {
     uint32_t at, len;
-    if (!field(p, number, &at, &len) || len < 8)
-        return false;
-    uint32_t count = two(p->d + at);
-    return count >= least && count <= most && len == 8 + count * size && two(p->d + at + 2) == len && four(p->d + at + 4) == (element << 16 | size);
+    return elements(p, number, element, size, least, most, &at, &len);
 }
 
 static bool keys(struct place *p)
@@ -354,8 +363,8 @@ static bool lookup(struct place *p, struct message *m)
     if (criteria > 8 || (criteria & (criteria - 1)) != 0 || reason > 3)
         return false;
     m->seen.target_len = 32;
-    return fixed(p, 0x00380024, &m->seen.target_at) && fixed(p, 0x00390024, &m->validate_at) && optional_entry(p, &m->seen) && endpoints(p)
-           && signatures(p);
+    return fixed(p, 0x00380024, &m->seen.target_at) && fixed(p, 0x00390024, &m->validate_at) && optional_entry(p, &m->seen)
+           && elements(p, 0x009E, 0x009D, 0x12, 1, 22, &m->path_at, &m->path_len) && signatures(p);
 }
 
 static uint32_t fields(struct place *p, struct message *m)
@@ -490,17 +499,45 @@ static inline void try_record(struct nearest *best, const struct key *target, co
     }
 }
 
-/* Keys go round: of those held only the two next to the target can be the closest. */
-static const uint8_t *closest(const uint8_t *own, const uint8_t *cache, size_t held, const uint8_t *target)
+/* A path: endpoints of 18 bytes, a port and an address each. */
+struct path {
+    const uint8_t *at;
+    size_t len;
+};
+
+/* Do a record's port and one of its addresses stand together on the path? Most endpoints have another port or another first word. */
+static bool on_path(const struct path *path, const uint8_t *r)
+{
+    const uint8_t *end = path->at + path->len;
+    uint16_t port, other;
+    memcpy(&port, r + 32, 2);
+    for (const uint8_t *e = path->at; e < end; e += 18) {
+        memcpy(&other, e, 2);
+        if (other != port)
+            continue;
+        uint64_t a = word(e + 2), b = word(e + 10);
+        for (const uint8_t *address = r + 36; address < r + 36 + 16 * r[34]; address += 16)
+            if (word(address) == a && word(address + 8) == b)
+                return true;
+    }
+    return false;
+}
+
+/* Keys go round: of those held only the two next to the target can be the closest, and where those are on the path the next ones that are not. */
+static const uint8_t *closest(const uint8_t *own, const uint8_t *cache, size_t held, const struct path *path, const uint8_t *target)
 {
     struct key goal = key_at(target), ours = key_at(own);
     struct nearest best = {own, {0, 0, 0, 0}, false};
     best.up = apart(&goal, &ours, &best.far);
-    if (held > 0) {
-        size_t at = below(cache, held, target);
-        try_record(&best, &goal, cache + 100 * (at > 0 ? at - 1 : held - 1));
-        try_record(&best, &goal, cache + 100 * (at < held ? at : 0));
-    }
+    size_t at = below(cache, held, target), down = at, up = at, left = held;
+    while (left > 0 && (up = up < held ? up + 1 : 1, on_path(path, cache + 100 * (up - 1))))
+        left--;
+    if (left == 0)
+        return own;
+    while (down = down > 0 ? down - 1 : held - 1, on_path(path, cache + 100 * down))
+        continue;
+    try_record(&best, &goal, cache + 100 * down);
+    try_record(&best, &goal, cache + 100 * (up - 1));
     return best.record;
 }
 
@@ -727,26 +764,39 @@ static void put_record(uint8_t *record, const uint8_t *entry)
     memset(record + 36 + addresses, 0, 64 - addresses);
 }
 
+/* An INQUIRE about an entry behind `first` bytes: the number where it is refused; whether it opens a place, and where. */
+static inline uint32_t plan_asking(const struct receive *r, const uint8_t *entry, size_t first, bool *opens, size_t *at)
+{
+    *opens = !entry_held(r, entry) && find_inquiry(r->waiting, r->used, entry) == r->used;
+    if (*opens && find_id(r->waiting, r->used, r->h.id + 1, at))
+        return 13;
+    if (*opens && r->used == 16)
+        return 14;
+    return first + (*opens ? 76 : 0) > r->room ? 15 : 0;
+}
+
+static inline void ask(const struct receive *r, const uint8_t *entry, size_t first, size_t at)
+{
+    struct header next = {r->h.major, r->h.minor, r->h.id + 1};
+    put_inquire(r->output + first, next, entry, r->nonce);
+    put_record(open_place(r->waiting, r->used, at, next.id, 2, entry) + 40, entry);
+}
+
 static struct gauge_answer take_entry(const struct receive *r, const struct message *m)
 {
     const uint8_t *entry = r->d + m->seen.entry_at;
     if (same_key(entry, r->own))
         return answer(11, 0, 0);
-    bool n, opens = !entry_held(r, entry) && find_inquiry(r->waiting, r->used, entry) == r->used;
-    size_t at = 0, first = ack_room(r, m, &n), second = opens ? 76 : 0;
-    struct header next = {r->h.major, r->h.minor, r->h.id + 1};
-    if (opens && find_id(r->waiting, r->used, next.id, &at))
-        return answer(13, 0, 0);
-    if (opens && r->used == 16)
-        return answer(14, 0, 0);
-    if (first + second > r->room)
-        return answer(15, 0, 0);
+    bool n, opens;
+    size_t at = 0, first = ack_room(r, m, &n);
+    uint32_t number = plan_asking(r, entry, first, &opens, &at);
+    if (number != 0)
+        return answer(number, 0, 0);
     if (first != 0)
         put_ack(r->output, r->h, m->seen.id, n);
-    if (opens) {
-        put_inquire(r->output + first, next, entry, r->nonce);
-        put_record(open_place(r->waiting, r->used, at, next.id, 2, entry) + 40, entry);
-    }
+    if (opens)
+        ask(r, entry, first, at);
+    size_t second = opens ? 76 : 0;
     return first != 0 ? answer(0, first, second) : answer(0, second, 0);
 }
 
@@ -806,12 +856,19 @@ static struct gauge_answer answer_inquire(const struct receive *r, const struct 
 
 static struct gauge_answer answer_lookup(const struct receive *r, const struct message *m)
 {
-    const uint8_t *record = closest(r->own, r->cache, r->held, r->d + m->seen.target_at);
-    uint32_t entry = 52 + 16u * record[34];
-    if (28 + entry > r->room)
-        return answer(15, 0, 0);
-    put_entry(put_authority(r->output, r->h, m->seen.id, entry), r->h, record);
-    return answer(0, 28 + entry, 0);
+    struct path path = {r->d + m->path_at, m->path_len};
+    const uint8_t *record = closest(r->own, r->cache, r->held, &path, r->d + m->seen.target_at), *entry = r->d + m->seen.entry_at;
+    uint32_t size = 52 + 16u * record[34], first = 28 + size, number = first > r->room ? 15 : 0;
+    bool opens = false;
+    size_t at = 0;
+    if (m->seen.entry_at != 0 && !same_key(entry, r->own))
+        number = plan_asking(r, entry, first, &opens, &at);
+    if (number != 0)
+        return answer(number, 0, 0);
+    put_entry(put_authority(r->output, r->h, m->seen.id, size), r->h, record);
+    if (opens)
+        ask(r, entry, first, at);
+    return answer(0, first, opens ? 76 : 0);
 }
 
 struct gauge_answer CALL(receive)(const uint8_t *own, size_t own_len, const uint8_t *cpa, size_t cpa_len, uint8_t *cache, size_t cache_len,
@@ -916,6 +973,19 @@ struct gauge_answer CALL(neighbours)(const uint8_t *own, size_t own_len, const u
         output = put(output, cache + 100 * at, 32);
     }
     return answer(0, first, second);
+}
+
+struct gauge_answer CALL(closest)(const uint8_t *own, size_t own_len, const uint8_t *cache, size_t cache_len, const uint8_t *path, size_t path_len,
+                                  const uint8_t *target, size_t target_len)
+{
+    if (!own_formed(own, own_len) || path_len % 18 != 0 || target_len != 32)
+        return answer(1, 0, 0);
+    size_t held = cache_form(own, cache, cache_len);
+    if (held == NOT_IN_FORM)
+        return answer(1, 0, 0);
+    struct path points = {path, path_len};
+    const uint8_t *record = closest(own, cache, held, &points, target);
+    return answer(0, record == own ? 0 : 4 + (size_t)(record - cache) / 100, 0);
 }
 
 struct gauge_look_answer CALL(look)(uint8_t major, const uint8_t *datagram, size_t datagram_len)

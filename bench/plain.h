@@ -1,4 +1,4 @@
-/* The five calls of include/gauge.h in plain C (bench/plain.c), under a name for each way in which they are compiled. The arguments are the same. */
+/* The six calls of include/gauge.h in plain C (bench/plain.c), under a name for each way in which they are compiled. The arguments are the same. */
 #ifndef PLAIN_H
 #define PLAIN_H
 
@@ -9,6 +9,7 @@
     __typeof__(gauge_send) name##_send;             \
     __typeof__(gauge_tick) name##_tick;             \
     __typeof__(gauge_neighbours) name##_neighbours; \
+    __typeof__(gauge_closest) name##_closest;       \
     __typeof__(gauge_look) name##_look
 
 #endif

@@ -237,42 +237,122 @@ static void ack_n(struct scene *s)
     add(s, "\0\1", 2);
 }
 
-static void lookup_for(struct scene *s, const uint8_t *target)
+/* A LOOKUP with the scene's target and path, and perhaps with a route entry. */
+static void add_lookup(struct scene *s, const uint8_t *record)
 {
-    uint8_t endpoints[2 * 18];
     add_header(s, GAUGE_LOOKUP);
     add4(s, 0x0045000C);
     add4(s, 0);
     add4(s, 0);
     add4(s, 0x00380024);
-    add(s, target, GAUGE_KEY_LEN);
+    add(s, s->target, GAUGE_KEY_LEN);
     add4(s, 0x00390024);
     add(s, s->own, GAUGE_KEY_LEN);
-    fill(endpoints, sizeof endpoints);
-    add4(s, 0x009E0000 | (12 + sizeof endpoints));
-    add4(s, 2 << 16 | (8 + sizeof endpoints));
+    if (record != NULL)
+        add_entry(s, record);
+    add4(s, 0x009E0000 | (12 + sizeof s->path));
+    add4(s, SCENE_POINTS << 16 | (8 + sizeof s->path));
     add4(s, 0x009D0012);
-    add(s, endpoints, sizeof endpoints);
+    add(s, s->path, sizeof s->path);
 }
 
-/* The target lies one above a key held, whose record has so many addresses. */
+/* Endpoint i of the path is that of a record, by its last address. */
+static void set_point(struct scene *s, size_t i, const uint8_t *record)
+{
+    uint8_t *point = s->path + GAUGE_ENDPOINT_LEN * i;
+    memcpy(point, record + GAUGE_RECORD_PORT, 2);
+    memcpy(point + 2, record + GAUGE_RECORD_ADDRESSES + GAUGE_ADDRESS_LEN * (record[GAUGE_RECORD_COUNT] - 1u), GAUGE_ADDRESS_LEN);
+}
+
+/* The target lies one above the key of record i, which is then the closest. No endpoint of the path is known. */
+static const uint8_t *set_target(struct scene *s, size_t i)
+{
+    const uint8_t *record = s->cache + GAUGE_RECORD_LEN * i;
+    memcpy(s->target, record, GAUGE_KEY_LEN);
+    for (int k = GAUGE_KEY_LEN - 1; ++s->target[k] == 0; k--)
+        continue;
+    fill(s->path, sizeof s->path);
+    return record;
+}
+
+/* The AUTHORITY has the addresses of this record. */
+static void want_shown(struct scene *s, const uint8_t *record)
+{
+    s->wanted.first = 80 + 16u * record[GAUGE_RECORD_COUNT];
+}
+
 static void lookup(struct scene *s)
 {
-    uint8_t target[GAUGE_KEY_LEN];
-    const uint8_t *record = s->cache + GAUGE_RECORD_LEN * (s->held / 3);
-    memcpy(target, record, GAUGE_KEY_LEN);
-    for (int i = GAUGE_KEY_LEN - 1; ++target[i] == 0; i--)
-        continue;
-    lookup_for(s, target);
-    s->wanted.first = 80 + 16u * record[GAUGE_RECORD_COUNT];
+    want_shown(s, set_target(s, s->held / 3));
+    add_lookup(s, NULL);
 }
 
 /* The same where keys share 31 bytes: the target is held. */
 static void lookup_alike(struct scene *s)
 {
-    const uint8_t *record = s->cache + GAUGE_RECORD_LEN * (s->held / 3);
-    lookup_for(s, record);
-    s->wanted.first = 80 + 16u * record[GAUGE_RECORD_COUNT];
+    const uint8_t *record = set_target(s, s->held / 3);
+    memcpy(s->target, record, GAUGE_KEY_LEN);
+    want_shown(s, record);
+    add_lookup(s, NULL);
+}
+
+/* With a route entry that is new. */
+static void lookup_entry(struct scene *s)
+{
+    uint8_t record[GAUGE_RECORD_LEN];
+    key_between(s, s->held / 4, record);
+    fill_rest(record, 2);
+    want_shown(s, set_target(s, s->held / 3));
+    add_lookup(s, record);
+}
+
+static bool key_less(const uint8_t *x, const uint8_t *y)
+{
+    return memcmp(x, y, GAUGE_KEY_LEN) < 0;
+}
+
+/* x - y; x is not less. */
+static void minus(const uint8_t *x, const uint8_t *y, uint8_t *d)
+{
+    int borrow = 0;
+    for (int i = GAUGE_KEY_LEN - 1; i >= 0; i--) {
+        int digit = x[i] - y[i] - borrow;
+        borrow = digit < 0;
+        d[i] = (uint8_t)(digit + 256 * borrow);
+    }
+}
+
+/* The records on either side of the target are on the path: the nearer of the next two is the closest. The own key lies farther off. */
+static const uint8_t *pass_over(struct scene *s)
+{
+    const uint8_t *below = set_target(s, s->held / 5), *next[2] = {below - GAUGE_RECORD_LEN, below + 2 * GAUGE_RECORD_LEN};
+    uint8_t down[GAUGE_KEY_LEN], up[GAUGE_KEY_LEN];
+    set_point(s, 0, below);
+    set_point(s, 1, below + GAUGE_RECORD_LEN);
+    minus(s->target, next[0], down);
+    minus(next[1], s->target, up);
+    return key_less(up, down) ? next[1] : next[0];
+}
+
+static void lookup_past(struct scene *s)
+{
+    want_shown(s, pass_over(s));
+    add_lookup(s, NULL);
+}
+
+static void want_place(struct scene *s, const uint8_t *record)
+{
+    s->wanted.first = GAUGE_CLOSEST_HELD + (uint32_t)((size_t)(record - s->cache) / GAUGE_RECORD_LEN);
+}
+
+static void closest(struct scene *s)
+{
+    want_place(s, set_target(s, s->held / 3));
+}
+
+static void closest_past(struct scene *s)
+{
+    want_place(s, pass_over(s));
 }
 
 static void send_flood(struct scene *s)
@@ -334,9 +414,13 @@ static const struct kind kinds[] = {
     {"ACK with N: key removed", RECEIVE, false, ack_n, {0, 0, 0}},
     {"LOOKUP: AUTHORITY with closest", RECEIVE, false, lookup, {0, 0, 0}},
     {"the same, keys share 31 bytes", RECEIVE, true, lookup_alike, {0, 0, 0}},
+    {"LOOKUP, two next on its path", RECEIVE, false, lookup_past, {0, 0, 0}},
+    {"LOOKUP, new entry: INQUIRE too", RECEIVE, false, lookup_entry, {0, 0, 76}},
     {"send a FLOOD", SEND, false, send_flood, {0, 0, 0}},
     {"tick", TICK, false, tick, {0, 0, 0}},
     {"neighbours", NEIGHBOURS, false, nothing_more, {0, 5, 5}},
+    {"closest", CLOSEST, false, closest, {0, 0, 0}},
+    {"closest, two next on the path", CLOSEST, false, closest_past, {0, 0, 0}},
     {"look at a LOOKUP", LOOK, false, lookup, {0, GAUGE_LOOKUP, 0}},
     {"look at a FLOOD", LOOK, false, flood_new, {0, GAUGE_FLOOD, 0}},
     {"refused 1: own record", RECEIVE, false, own_unfit, {GAUGE_MEMORY, 0, 0}},
@@ -358,6 +442,8 @@ static void lend(struct scene *s)
     l->nonce = as_room(s->nonce, sizeof s->nonce);
     l->neighbour = as_room(s->neighbour, sizeof s->neighbour);
     l->key = as_room(s->key, sizeof s->key);
+    l->path = as_room(s->path, sizeof s->path);
+    l->target = as_room(s->target, sizeof s->target);
     l->datagram = as_room(s->datagram, s->datagram_len);
     l->output.len = s->room;
     l->major = SCENE_MAJOR;

@@ -5,6 +5,7 @@
  * Each gauge knows where one other is, and no more. Its radio program (all of them are this one) floods the gauge's own record to that other for some
  * seconds; and from the start, each second, it floods its own record or one that it holds to gauges that it holds. When every neighbour list is the true
  * one, three things happen: a gauge falls silent, another is revoked, and the address of a third, which has fallen silent too, is given to a new gauge.
+ * Before that is known everywhere, the office asks on from gauge to gauge: without a path, which leads it round a circle, and with one.
  *
  * Each AUTHORITY carries a reading of the pond that sends it: gauge_carry puts it in, and gauge_carried tells it where the AUTHORITY is accepted. Readings
  * are made up here. Pond n is n / 4 metres deep, or has fault 700 + n where n ends with 5; 40 n litres came in, and 35 n went out, or 80 n where n leaves
@@ -38,6 +39,7 @@
 #define SIDE 5      /* neighbours on either side */
 #define APART 4     /* a pond's key begins with so many times its number: so the ponds stand all round the ring, and pond 1 comes after the last */
 #define HOUR 3600
+#define ON 12       /* so many are asked at most, one after the other */
 
 /* A datagram with the addresses that it goes from and to. An address is FE80:: and a number, and that number stands for it here. */
 struct datagram {
@@ -68,7 +70,8 @@ static struct datagram air[AIR];
 static size_t under_way;
 static unsigned long seconds, datagrams, lost;
 static unsigned told;      /* how often an ACK with N has taken a key out */
-static unsigned closest;   /* the pond that the last answer to the office named, 0 for none */
+static unsigned closest;   /* the pond that the last answer to the office named, 0 for none, .. */
+static unsigned closest_at; /* .. and the address that it named with it */
 static struct gauge_reading last[NEW + 1]; /* the last reading that came from a pond; its kind is 0 where none came */
 static unsigned long readings;             /* how many came */
 static const uint8_t cpa[GAUGE_TRACE_CPA_LEN] = {0};
@@ -162,10 +165,11 @@ static void send_revocation(struct pond *p, unsigned to, const uint8_t *key)
     send(p, to, revocation, gauge_revocation(&p->lent, key, GAUGE_KEY_LEN, revocation));
 }
 
-static void send_lookup(struct pond *p, unsigned to, const uint8_t *target)
+/* The path are the endpoints of those that were asked already. Our own record goes with it, where we have one. */
+static void send_lookup(struct pond *p, unsigned to, const uint8_t *target, const uint8_t *path, size_t path_len)
 {
-    uint8_t lookup[GAUGE_LOOKUP_LEN];
-    send(p, to, lookup, gauge_lookup(&p->lent, target, lookup));
+    uint8_t lookup[GAUGE_LOOKUP_MOST];
+    send(p, to, lookup, gauge_lookup_along(&p->lent, target, path, path_len, lookup));
 }
 
 static const uint8_t *record(const struct pond *p, size_t i)
@@ -250,7 +254,7 @@ static uint32_t judge(const struct datagram *d, const struct gauge_look_answer *
     return GAUGE_GOOD;
 }
 
-/* ACK and AUTHORITY go to the sender; an INQUIRE goes to the gauge that the FLOOD told of, and is kept. */
+/* ACK and AUTHORITY go to the sender; an INQUIRE goes to the gauge that the FLOOD or LOOKUP told of, and is kept. */
 static void send_answer(struct pond *p, const struct datagram *d, const struct gauge_look_answer *seen, const uint8_t *bytes, size_t len)
 {
     uint32_t kind = len == 0 ? 0 : gauge_look(MAJOR, bytes, len).kind;
@@ -292,7 +296,7 @@ static void arrives(struct pond *p, const struct datagram *d)
         send_answer(p, d, &seen, l->output, a.first);
         send_answer(p, d, &seen, l->output + a.first, a.second);
         break;
-    case GAUGE_STRAY:    /* an answer for the second time, or too late */
+    case GAUGE_STRAY:    /* an answer for the second time, or too late; or to a LOOKUP, for which nothing waits */
     case GAUGE_NOT_OURS: /* somebody inquires about the gauge that had our address */
     case GAUGE_FULL:     /* too much waits: the sender will try again */
         break;
@@ -307,13 +311,14 @@ static void arrives_at_office(const struct datagram *d)
     if (seen.number != GAUGE_OK || seen.kind != GAUGE_AUTHORITY || seen.entry_len == 0)
         stop("the office gets something else than it asked for\n");
     closest = d->bytes[seen.entry_at + GAUGE_ENTRY_KEY] / APART;
+    closest_at = address_at(d->bytes + seen.entry_at + GAUGE_ENTRY_ADDRESSES);
     take_reading(d);
 }
 
-/* What is under way arrives in no order, and some of it not at all. The answers to it go the same way. */
-static void radio(void)
+/* What is under way arrives in no order, up to so many that are left, and some of it not at all. The answers to it go the same way. */
+static void radio(size_t left)
 {
-    while (under_way > LATE) {
+    while (under_way > left) {
         size_t i = dice((uint32_t)under_way);
         struct datagram d = air[i];
         air[i] = air[--under_way];
@@ -373,7 +378,7 @@ static void second(void)
         for (int i = 0; held(p) > 0 && i < FLOODS; i++)
             flood(p);
     }
-    radio();
+    radio(LATE);
 }
 
 /* What a keeper looks at. */
@@ -466,8 +471,77 @@ static void tell(unsigned number, const char *what)
 static void ask(unsigned whom, const uint8_t *target)
 {
     for (closest = 0; closest == 0; second())
-        send_lookup(OFFICE, ponds[whom].address, target);
+        send_lookup(OFFICE, ponds[whom].address, target, target, 0);
     printf("  pond %u says: pond %u\n", whom, closest);
+}
+
+/* The pond at the address that a pond names. While it is asked, nothing arrives but what is under way and the answers to it. */
+static unsigned named_by(unsigned whom, const uint8_t *target, const uint8_t *path, size_t path_len)
+{
+    int tries = HOUR;
+    for (closest = 0; closest == 0; radio(0)) {
+        if (tries-- == 0)
+            stop("pond %u does not answer\n", whom);
+        send_lookup(OFFICE, ponds[whom].address, target, path, path_len);
+    }
+    return at[closest_at];
+}
+
+/* The office asks a pond, then the one that it names, and so on until one names itself. Gives how often one was asked again. With the path of those
+ * that were asked nobody is: they are not named. */
+static unsigned ask_on(unsigned whom, const uint8_t *target, bool with_path)
+{
+    uint8_t path[ON * GAUGE_ENDPOINT_LEN];
+    bool asked[NEW + 1] = {false};
+    unsigned now = 0, again = 0;
+    printf("  it asks ponds");
+    for (size_t n = 0; n < ON && whom != now; n++) {
+        now = whom;
+        printf(" %u", now);
+        again += asked[now];
+        asked[now] = true;
+        whom = named_by(now, target, path, with_path ? n * GAUGE_ENDPOINT_LEN : 0);
+        gauge_endpoint(ponds[now].lent.own, path + n * GAUGE_ENDPOINT_LEN);
+    }
+    printf("%s\n", whom == now ? ", which names itself" : " and so on");
+    return again;
+}
+
+static bool holds(unsigned number, const uint8_t *key)
+{
+    const struct gauge_lent *l = &ponds[number].lent;
+    return gauge_lent_find(l, key) < gauge_lent_held(l);
+}
+
+/* Pond 33's record names an address where another gauge is now. Whoever still holds it sends the office there, and that gauge sends it back. */
+static void round_circle(void)
+{
+    const uint8_t *target = ponds[33].lent.own + GAUGE_RECORD_KEY;
+    unsigned first = 1;
+    while (held(&ponds[NEW]) == 0)
+        second();
+    while (!holds(first, target))
+        first++;
+    printf("The office asks on for pond 33's key, and does not say whom it has asked:\n");
+    if (ask_on(first, target, false) == 0)
+        stop("nobody was asked again\n");
+    printf("The same with the path of those that it has asked:\n");
+    if (ask_on(first, target, true) > 0)
+        stop("somebody was asked again\n");
+}
+
+/* A gauge asks one that does not hold it; its own record stands in the LOOKUP, and is inquired about. */
+static void introduce(unsigned number, unsigned to)
+{
+    const uint8_t *key = ponds[number].lent.own + GAUGE_RECORD_KEY;
+    if (holds(to, key))
+        stop("pond %u holds pond %u already\n", to, number);
+    for (int tries = HOUR; !holds(to, key); radio(0)) {
+        if (tries-- == 0)
+            stop("pond %u does not hold pond %u\n", to, number);
+        send_lookup(&ponds[number], ponds[to].address, key, key, 0);
+    }
+    printf("  pond %u has inquired, and holds pond %u\n", to, number);
 }
 
 /* What the readings say of the ponds that are on the hill: how deep, which have a fault, which lose water. */
@@ -560,6 +634,10 @@ static void hill(void)
     printf("Its address is given to pond %d's gauge, which is new. Whoever floods to pond 33 now gets an ACK with N: no such key here.\n", NEW);
     ponds[33].listed = false;
     begin(NEW, 33, 32);
+    round_circle();
+    printf("Pond %d's gauge asks pond 10, which does not hold it, with its own record in the LOOKUP.\n", NEW);
+    introduce(NEW, 10);
+    printf("Some time later:\n");
     until_right();
     printf("  %u gauges were told so, and took it out\n", told);
     tell(33, "replaced,");

@@ -54,8 +54,14 @@ def authority(identity, acked, cpa=b"C"):
     return message("authority", identity, acked=acked, cpa=cpa)
 
 
-def lookup(identity, target):
-    return message("lookup", identity, target=key(target), validate=key(0), path=[bytes(18)])
+# A record's endpoint on a path: its port and its first address.
+def endpoint(record):
+    return record[32:34] + record[36:52]
+
+
+def lookup(identity, target, told=None, path=(bytes(18),)):
+    route = None if told is None else model.entry_of(told, 6, 101)
+    return message("lookup", identity, target=key(target), validate=key(0), route=route, path=list(path))
 
 
 # The FLOOD of a record, and the AUTHORITY to the INQUIRE that it brings about: the record is learned.
@@ -158,6 +164,26 @@ def round_trace():
     return data
 
 
+# Document 02, request 2: LOOKUPs whose path passes over the closest, and over all; whose route entry is new, waiting, held, another, ours; 13 and 14.
+def path_trace():
+    near, far, new, own = gauge_record(99, 5099), gauge_record(101, 5101, 4), gauge_record(50, 5050, 2), gauge_record(100)
+    calls = learn(10, near) + learn(20, far)
+    calls += [(receive(1, lookup(2, 100, path=path)), 0) for path in ([endpoint(near)], [endpoint(near), endpoint(far)], [bytes(18)] * 22)]
+    calls += [(receive(30, lookup(3, 51, new)), 0), (receive(40, lookup(3, 51, gauge_record(50))), 0)]
+    calls += [(receive(30, lookup(3, 51, gauge_record(52))), 13), (receive(1, authority(4, 31), 1, key(50)), 0)]
+    calls += [(receive(30, lookup(3, 51, new, [endpoint(new)])), 0)]
+    calls += [(receive(30, lookup(3, 51, gauge_record(50))), 0), (receive(30, lookup(3, 51, own)), 0)]
+    calls += [(send(300 + i, 99, 100), 0) for i in range(15)]
+    calls += [(receive(60, lookup(5, 51, gauge_record(52))), 14), (receive(60, lookup(5, 51, new)), 0), (receive(60, lookup(5, 51, own)), 0)]
+    calls += [(receive(1, message("ack", 6, acked=307)), 0), (receive(4294967295, lookup(5, 51, gauge_record(52))), 0)]
+    data = opening(own) + b"".join(record for record, _ in calls)
+    lines, night = model_night.replay(data)
+    assert lines == ["%d %d" % (n, answer) for n, (_, answer) in enumerate(calls, 1)], lines
+    assert [model.key_of(r) for r in model.State(night).records] == [50, 99, 101]
+    assert [p["id"] for p in model.State(night).places if p["kind"] == 2] == [0, 31]
+    return data
+
+
 def round_names():
     return b"".join(b"%s %s\n" % (key(n % 2 ** 256).hex().encode(), name)
                     for n, name in ((1, b"First Pond"), (-1, b"Last Pond"), (0, b"Pond Nought"), (2, b"Second")))
@@ -202,6 +228,7 @@ def random_datagram(chance, pool):
     datagram = chance.choice([
         lambda: flood(identity, other, chance.choice(pool)), lambda: flood(identity, other), lambda: flood(identity, other),
         lambda: revocation(identity), lambda: lookup(identity, chance.choice(pool)),
+        lambda: lookup(identity, chance.choice(pool), other, [endpoint(gauge_record(0, chance.randrange(9))) for _ in range(chance.randint(1, 3))]),
         lambda: message("inquire", identity, a=True, validate=key(chance.choice(pool[:2]))),
         lambda: message("authority", identity, acked=chance.randrange(2 ** 32), route=model.entry_of(other, 6, 101))])()
     if chance.random() < 0.1:
@@ -255,6 +282,7 @@ def traces():
     yield "names_to_the_brim", worked_trace(), b"#" * 65000 + b"\n" + worked_names() + b"\n" + b"x" * 9000
     yield "full", full_trace(), None
     yield "round", round_trace(), round_names()
+    yield "path", path_trace(), worked_names()
     for name, data in {**bad_traces(), **formless_traces()}.items():
         yield name, data, None
     for seed in range(8):

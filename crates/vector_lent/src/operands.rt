@@ -3,7 +3,7 @@
 use vector_text::line;
 
 // The numbers of a call; where each part ends that it is lent for reading; how long its output is. In a send the neighbour's
-// key stands in the nonce's place.
+// key stands in the nonce's place; of the closest record the path stands there, and the target in the key's.
 pub struct Given {
     pub call: usize,
     pub own: usize,
@@ -18,33 +18,43 @@ pub struct Given {
     pub room: usize,
 }
 
-// Which call a line is: 0 to receive, 1 to send, 2 to tick, 3 to list the neighbours; 4 where it is none.
+// Which call a line is: 0 to receive, 1 to send, 2 to tick, 3 to list the neighbours, 4 for the closest record; 5 where it is
+// none.
 pub fn call_of(text: &[u8]) -> usize {
-    line::which(text, b"receive send tick list")
+    line::which(text, b"receive send tick list nearest")
 }
 
-// The length of the output is a line's last operand.
-fn last_of(call: usize) -> usize {
+// The length of the output is a line's last operand, where it has one.
+fn room_of(text: &[u8], call: usize) -> usize {
     match call {
-        0 => 6,
-        1 => 4,
-        _ => 1,
+        0 => line::place(text, 6),
+        1 => line::place(text, 4),
+        4 => 0,
+        _ => line::place(text, 1),
     }
 }
 
-// Which operand the key is.
+// Which operands the nonce and the key are.
+fn nonce_of(call: usize) -> usize {
+    if call == 4 { 1 } else { 2 }
+}
+
 fn key_of(call: usize) -> usize {
-    if call == 1 { 3 } else { 4 }
+    match call {
+        1 => 3,
+        4 => 2,
+        _ => 4,
+    }
 }
 
 fn word(text: &[u8], i: usize) -> u32 {
     (line::number(text, i) % 4294967296) as u32
 }
 
-// `receive ID NONCE VERDICT KEY DATAGRAM ROOM`, `send ID NEIGHBOUR KEY ROOM`, `tick ROOM`, `list ROOM`
+// `receive ID NONCE VERDICT KEY DATAGRAM ROOM`, `send ID NEIGHBOUR KEY ROOM`, `tick ROOM`, `list ROOM`, `nearest PATH TARGET`
 pub fn read(text: &[u8], call: usize, lent: &mut [u8], sizes: &[usize; 6]) -> Given {
     let cpa = sizes[1];
-    let nonce = line::bytes(text, 2, lent, cpa);
+    let nonce = line::bytes(text, nonce_of(call), lent, cpa);
     let key = line::bytes(text, key_of(call), lent, nonce);
     let datagram = line::bytes(text, 5, lent, key);
     Given {
@@ -58,6 +68,6 @@ pub fn read(text: &[u8], call: usize, lent: &mut [u8], sizes: &[usize; 6]) -> Gi
         verdict: word(text, 3),
         key,
         datagram,
-        room: line::place(text, last_of(call)),
+        room: room_of(text, call),
     }
 }

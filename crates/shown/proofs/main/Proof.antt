@@ -7,12 +7,11 @@ use Rattle.shown.proofs.main.Statement.{statement}
 use Rattle.shown.proofs.main.Tie as tie
 
 abbrev Inv-loop : tie.InvT-loop
-Inv-loop line₀ names room₀ opening₀ cache₀ waiting₀ counts₀ len at₀ line room opening cache waiting counts at =
-    (512 ≡ length line) × (65537 ≡ length room) × (102 ≡ length opening) × (6400 ≡ length cache) × (2240 ≡ length waiting)
+Inv-loop line₀ names room₀ state₀ counts₀ len at₀ line room state counts at =
+    (512 ≡ length line) × (65537 ≡ length room) × (8742 ≡ length state)
 
 abbrev μ-loop : tie.MeasureT-loop
-μ-loop line₀ names room₀ opening₀ cache₀ waiting₀ counts₀ len at₀ line room opening cache waiting counts at =
-    2 ^ 64 - at
+μ-loop line₀ names room₀ state₀ counts₀ len at₀ line room state counts at = 2 ^ 64 - at
 
 slice-aggregate-read-full : tie.Need-slice-aggregate-read-full Inv-loop μ-loop
 slice-aggregate-read-full c = search needs
@@ -38,12 +37,6 @@ slice-aggregate-one-2 c = search needs
 slice-aggregate-one-3 : tie.Need-slice-aggregate-one-3 Inv-loop μ-loop
 slice-aggregate-one-3 c = search needs
 
-slice-aggregate-one-4 : tie.Need-slice-aggregate-one-4 Inv-loop μ-loop
-slice-aggregate-one-4 c = search needs
-
-slice-aggregate-one-5 : tie.Need-slice-aggregate-one-5 Inv-loop μ-loop
-slice-aggregate-one-5 c = search needs
-
 one-requires : tie.Need-one-requires Inv-loop μ-loop
 one-requires c κs = tt
 
@@ -58,12 +51,6 @@ part-requires-2 c κs = tt
 
 slice-aggregate-say-end-2 : tie.Need-slice-aggregate-say-end-2 Inv-loop μ-loop
 slice-aggregate-say-end-2 c = search needs
-
-slice-aggregate-say-end-3 : tie.Need-slice-aggregate-say-end-3 Inv-loop μ-loop
-slice-aggregate-say-end-3 c = search needs
-
-slice-aggregate-say-end-4 : tie.Need-slice-aggregate-say-end-4 Inv-loop μ-loop
-slice-aggregate-say-end-4 c = search needs
 
 say-end-requires : tie.Need-say-end-requires Inv-loop μ-loop
 say-end-requires c κs = tt
@@ -97,15 +84,11 @@ main-spec =
     part-requires
     slice-aggregate-one-2
     slice-aggregate-one-3
-    slice-aggregate-one-4
-    slice-aggregate-one-5
     one-requires
     slice-aggregate-say-end
     slice-aggregate-part-2
     part-requires-2
     slice-aggregate-say-end-2
-    slice-aggregate-say-end-3
-    slice-aggregate-say-end-4
     say-end-requires
     returns
     add-at

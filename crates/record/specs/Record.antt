@@ -1,9 +1,10 @@
 -- To believe. "A record is 100 bytes: key 32, port 2 (big-endian), address count 1 (1 to 4), one zero byte, four addresses of 16 bytes, the unused
--- ones zero." A record is its bytes; its fields are parts of them. Assumes nothing.
-use Prim.Native.Nat.{ℕ, _+_, _*_}
+-- ones zero", and of the addresses (document 02, request 13) the first only: "the count 1 and the other addresses zero". A record is its bytes; its
+-- fields are parts of them. Assumes nothing.
+use Prim.Native.Nat.{ℕ, _*_}
 use mathlib.Core.Bool.{Bool, _&&_}
 use mathlib.Core.List.{List}
-use lib.Dec.{eqb, leb}
+use lib.Dec.{eqb}
 use lib.ListN.{length, getD, drop}
 use Rattle.octet.specs.Number.{valueBE}
 use Rattle.octet.specs.Part.{part, allZero}
@@ -26,7 +27,6 @@ addressesOf r = part 36 (16 * countOf r) r
 unfoldable pub recordForm : List ℕ → Bool
 recordForm r =
     eqb (length r) 100
-    && leb 1 (countOf r)
-    && leb (countOf r) 4
+    && eqb (countOf r) 1
     && eqb (getD r 35 0) 0
-    && allZero (drop (36 + 16 * countOf r) r)
+    && allZero (drop 52 r)

@@ -9,50 +9,45 @@ ghost use Rattle.octet.specs.Part.{part, same, splice};
 ghost use Rattle.record.specs.Entry.{entryForm, recordOf, entryOf};
 ghost use Rattle.record.specs.Record.{recordForm};
 
-// Are the 100 bytes at a place the very record that a route entry names? Most differ in the first word of their keys.
+// Are the 100 bytes at a place the very record that a route entry names, by its first address? Most differ in the first
+// word of their keys.
 pub fn same_as_entry(s: &[u8], at: usize, d: &[u8], start: usize, len: usize) -> bool
     requires { ⌜ at + 100 ≤ length (now s) ⌝ }
     requires { ⌜ start + len ≤ length (now d) ⌝ }
     requires { ⌜ entryForm (part start len (now d)) ≡ true ⌝ }
     ensures { λ r. ⌜ r ≡ same (part at 100 (now (s .entry))) (recordOf (part start len (now (d .entry)))) ⌝ }
 {
-    let count = d[start + 37];
-    let size = 16 * (count as usize);
     if !octet::equal_words(s, at, d, start, 4) {
         return false;
     }
     if !same_piece(s, at + 32, d, start + 34, 2) {
         return false;
     }
-    if s[at + 34] != count {
+    if s[at + 34] != 1 {
         return false;
     }
     if s[at + 35] != 0 {
         return false;
     }
-    if !same_piece(s, at + 36, d, start + 38, size) {
+    if !octet::equal_words(s, at + 36, d, start + 38, 2) {
         return false;
     }
-    let unused = at + 36 + size;
-    octet::zero_words(s, unused, 8 - 2 * (count as usize))
+    octet::zero_words(s, at + 52, 6)
 }
 
-// Writes the record that a route entry names.
+// Writes the record that a route entry names: of its addresses the first.
 pub fn put_record(dst: &mut [u8], at: usize, d: &[u8], start: usize, len: usize)
     requires { ⌜ at + 100 ≤ length (now dst) ⌝ }
     requires { ⌜ start + len ≤ length (now d) ⌝ }
     requires { ⌜ entryForm (part start len (now d)) ≡ true ⌝ }
     ensures { λ _. ⌜ now (dst .exit) ≡ splice at (recordOf (part start len (now (d .entry)))) (now (dst .entry)) ⌝ }
 {
-    let count = d[start + 37];
-    let size = 16 * (count as usize);
     runs::copy_32(dst, at, d, start);
     copy_piece(dst, at + 32, d, start + 34, 2);
-    let two = [count, 0];
+    let two = [1, 0];
     runs::copy_to(dst, at + 34, &two);
-    copy_piece(dst, at + 36, d, start + 38, size);
-    let unused = at + 36 + size;
-    runs::clear(dst, unused, 64 - size);
+    copy_piece(dst, at + 36, d, start + 38, 16);
+    runs::clear(dst, at + 52, 48);
 }
 
 // Writes the route entry of the given versions that carries the record at a place.

@@ -1,5 +1,5 @@
-// The record of document 01, 100 bytes: key 32, port 2, address count 1, one zero byte, four addresses of 16, the unused
-// ones zero; and the route entry that names it on the wire. A place is one that its caller has tested to lie within.
+// The record of document 01, 100 bytes: key 32, port 2, address count 1, one zero byte, four addresses of 16, of which all
+// but the first are zero (document 02, request 13); and the route entry that names it on the wire, with one to four. A place is one that its caller has tested to lie within.
 mod entry;
 mod piece;
 
@@ -27,36 +27,14 @@ pub fn is_record(r: &[u8]) -> bool
     is_formed(r, 0)
 }
 
-// Are the 100 bytes at a place a record in form? Count and zero byte are one number. What is unused is looked at from the
-// end on, so that each count shares the tests of the next.
+// Are the 100 bytes at a place a record in form? Count and zero byte are one number.
 pub fn is_formed(s: &[u8], at: usize) -> bool
     requires { ⌜ at + 100 ≤ length (now s) ⌝ }
     ensures { λ r. ⌜ r ≡ recordForm (part at 100 (now (s .entry))) ⌝ }
 {
     let count = octet::read_u16_le(s, at + 34);
-    if 4 < count {
+    if count != 1 {
         return false;
     }
-    if count == 4 {
-        return true;
-    }
-    if !octet::zero_pair(s, at + 84) {
-        return false;
-    }
-    if count == 3 {
-        return true;
-    }
-    if !octet::zero_pair(s, at + 68) {
-        return false;
-    }
-    if count == 2 {
-        return true;
-    }
-    if !octet::zero_pair(s, at + 52) {
-        return false;
-    }
-    if count == 1 {
-        return true;
-    }
-    false
+    octet::zero_words(s, at + 52, 6)
 }

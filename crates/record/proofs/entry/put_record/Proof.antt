@@ -1,10 +1,10 @@
 -- `record::entry::put_record` meets its contract: the five pieces, put one after the other, are the record (put-pieces, record-in). Assumes nothing.
-use Prim.Native.Nat.{ℕ, _+_, _-_, _*_}
+use Prim.Native.Nat.{ℕ, _+_}
 use native.Mathlib.Omega.{arith}
 use mathlib.Core.List.{List, [], _∷_}
 use mathlib.Core.Path.{refl, sym, ap, _∙_}
 use denote.Ref.{now}
-use lib.ListN.{getD, replicate, length-replicate}
+use lib.ListN.{replicate, length-replicate}
 use Rattle.octet.specs.Part.{part, splice}
 use Rattle.octet.proofs.PartLaws.{length-part}
 use Rattle.record.proofs.PlaceLaws.{Entry-at, entry-at, record-in, put-pieces}
@@ -14,7 +14,7 @@ use Rattle.record.proofs.entry.put_record.Tie as tie
 
 -- the first place, from behind each piece
 abbrev first : tie.After-copy-32 → tie.Start
-first c = c .before .before .before .before .before
+first c = c .before .before .before .before
 
 abbrev second : tie.After-copy-piece → tie.Start
 second c = first (c .before .before .before .before)
@@ -29,28 +29,10 @@ fourth c = third (c .before .before .before .before)
 whole : (b : tie.Start) → Entry-at (b .args .start) (b .args .len) (now (b .args .d))
 whole b = entry-at (b .args .start) (b .args .len) (now (b .args .d)) (b .pre .1 .0) (b .pre .1 .1)
 
-add-count : tie.Need-add-count
-add-count c = search needs
-
-shared-slice-read-count : tie.Need-shared-slice-read-count
-shared-slice-read-count c =
-    let w = whole (c .before .before .before) in
-    omega (arith, w .most, w .long)
-
-cast-size : tie.Need-cast-size
-cast-size c =
-    let w = whole (c .before .before .before) in
-    omega (arith, w .most, w .long)
-
-mul-size : tie.Need-mul-size
-mul-size c =
-    let w = whole (c .before .before .before) in
-    omega (arith, w .most, w .long)
-
 copy-32-requires : tie.Need-copy-32-requires
 copy-32-requires c κs =
-    let w = whole (c .before .before .before .before) in
-    (omega (arith, w .most), omega (arith, w .most, w .long))
+    let w = whole (c .before .before .before) in
+    (omega arith, omega (arith, w .long))
 
 add-copy-piece : tie.Need-add-copy-piece
 add-copy-piece c = search needs
@@ -61,7 +43,7 @@ add-copy-piece-2 c = search needs
 copy-piece-requires : tie.Need-copy-piece-requires
 copy-piece-requires c κs =
     let w = whole (first (c .before .before .before)) in
-    (omega (arith, w .most), omega (arith, w .most, w .long))
+    (omega arith, omega (arith, w .least, w .long))
 
 add-copy-to : tie.Need-add-copy-to
 add-copy-to c = search needs
@@ -81,25 +63,13 @@ add-copy-piece-4 c = search needs
 copy-piece-requires-2 : tie.Need-copy-piece-requires-2
 copy-piece-requires-2 c κs =
     let w = whole (third (c .before .before .before)) in
-    (omega (arith, w .most), omega (arith, w .most, w .long))
+    (omega arith, omega (arith, w .least, w .long))
 
-add-unused : tie.Need-add-unused
-add-unused c = search needs
-
-add-unused-2 : tie.Need-add-unused-2
-add-unused-2 c =
-    let w = whole (fourth (c .before .before)) in
-    omega (arith, w .most, w .long)
-
-sub-clear : tie.Need-sub-clear
-sub-clear c =
-    let w = whole (fourth (c .before .before .before)) in
-    omega (arith, w .most, w .long)
+add-clear : tie.Need-add-clear
+add-clear c = search needs
 
 clear-requires : tie.Need-clear-requires
-clear-requires c κs =
-    let w = whole (fourth (c .before .before .before)) in
-    omega (arith, w .most, w .long)
+clear-requires c κs = search needs
 
 same-length : tie.Need-same-length
 same-length c = search needs
@@ -117,24 +87,19 @@ returns c =
     let at = b .args .at in
     let start = b .args .start in
     let w = whole b in
-    let n = getD d (start + 37) 0 in
-    let m = w .most in
+    let f = w .least in
     let l = w .long in
-    let z = length-replicate {A = ℕ} (64 - 16 * n) 0 in
+    let z = length-replicate {A = ℕ} 48 0 in
     rw (cleared .clear .ensures, addresses .copy-piece2 .ensures, two .copy-to .ensures, port .copy-piece .ensures, key .copy-32 .ensures)
-    (put-pieces at (16 * n) (64 - 16 * n) (part start 32 d) (part (start + 34) 2 d) (n ∷ 0 ∷ []) (part (start + 38) (16 * n) d)
-    (replicate (64 - 16 * n) 0) s (length-part start 32 d (omega arith)) (length-part (start + 34) 2 d (omega arith)) refl
-    (length-part (start + 38) (16 * n) d (omega arith)) z (omega arith)
+    (put-pieces at (part start 32 d) (part (start + 34) 2 d) (1 ∷ 0 ∷ []) (part (start + 38) 16 d)
+    (replicate 48 0) s (length-part start 32 d (omega arith)) (length-part (start + 34) 2 d (omega arith)) refl
+    (length-part (start + 38) 16 d (omega arith)) z (omega arith)
     ∙ ap (λ (r : List ℕ). splice at r s) (sym (record-in start (b .args .len) d (b .pre .1 .0) (b .pre .1 .1))))
 
 pub put-record-spec : {M : Type 1} → statement M
 put-record-spec =
     tie.close
     (tie.spec
-    add-count
-    shared-slice-read-count
-    cast-size
-    mul-size
     copy-32-requires
     add-copy-piece
     add-copy-piece-2
@@ -145,9 +110,7 @@ put-record-spec =
     add-copy-piece-3
     add-copy-piece-4
     copy-piece-requires-2
-    add-unused
-    add-unused-2
-    sub-clear
+    add-clear
     clear-requires
     same-length
     returns)

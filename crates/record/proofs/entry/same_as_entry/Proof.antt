@@ -1,9 +1,9 @@
 -- `record::entry::same_as_entry` meets its contract: the test goes by its pieces (same-pieces). Assumes nothing.
-use Prim.Native.Nat.{ℕ, _+_, _-_, _*_}
+use Prim.Native.Nat.{_+_}
 use native.Mathlib.Omega.{arith}
 use borrow.Author.Tests.{eq-eqb, ne-eqb, not-true, not-false}
 use mathlib.Core.Bool.{Bool, true, false, _&&_}
-use mathlib.Core.Path.{_≡_, sym, ap, _∙_}
+use mathlib.Core.Path.{_≡_, sym, _∙_}
 use denote.Ref.{now}
 use lib.Dec.{eqb}
 use lib.ListN.{getD}
@@ -15,9 +15,6 @@ use Rattle.record.proofs.entry.same_as_entry.Statement.{statement}
 use Rattle.record.proofs.entry.same_as_entry.Tie as tie
 
 -- the six tests, in words of what was lent
-abbrev count : tie.Start → ℕ
-count b = getD (now (b .args .d)) (b .args .start + 37) 0
-
 abbrev keys : tie.Start → Bool
 keys b = same (part (b .args .at) 32 (now (b .args .s))) (part (b .args .start) 32 (now (b .args .d)))
 
@@ -25,20 +22,20 @@ abbrev ports : tie.Start → Bool
 ports b = same (part (b .args .at + 32) 2 (now (b .args .s))) (part (b .args .start + 34) 2 (now (b .args .d)))
 
 abbrev counts : tie.Start → Bool
-counts b = eqb (getD (now (b .args .s)) (b .args .at + 34) 0) (count b)
+counts b = eqb (getD (now (b .args .s)) (b .args .at + 34) 0) 1
 
 abbrev closed : tie.Start → Bool
 closed b = eqb (getD (now (b .args .s)) (b .args .at + 35) 0) 0
 
 abbrev used : tie.Start → Bool
-used b = same (part (b .args .at + 36) (16 * count b) (now (b .args .s))) (part (b .args .start + 38) (16 * count b) (now (b .args .d)))
+used b = same (part (b .args .at + 36) 16 (now (b .args .s))) (part (b .args .start + 38) 16 (now (b .args .d)))
 
-abbrev unused : tie.Start → ℕ → Bool
-unused b n = allZero (part (b .args .at + 36 + 16 * count b) n (now (b .args .s)))
+abbrev unused : tie.Start → Bool
+unused b = allZero (part (b .args .at + 52) 48 (now (b .args .s)))
 
 pieces : (b : tie.Start)
     → same (part (b .args .at) 100 (now (b .args .s))) (recordOf (part (b .args .start) (b .args .len) (now (b .args .d))))
-    ≡ keys b && ports b && (counts b && closed b) && used b && unused b (64 - 16 * count b)
+    ≡ keys b && ports b && (counts b && closed b) && used b && unused b
 pieces b =
     let a = b .args in
     same-pieces (a .at) (a .start) (a .len) (now (a .s)) (now (a .d)) (b .pre .0) (b .pre .1 .0) (b .pre .1 .1)
@@ -49,7 +46,7 @@ whole b = entry-at (b .args .start) (b .args .len) (now (b .args .d)) (b .pre .1
 
 -- each place from that of the next test
 abbrev start : tie.After-equal-words → tie.Start
-start c = c .before .before .before .before
+start c = c .before .before .before
 
 abbrev first : tie.Else1 → tie.Start
 first c = start (c .before)
@@ -80,22 +77,10 @@ is-closed : (c : tie.Else4) → closed (fourth c) ≡ true
 is-closed c = eq-eqb _ _ (c .if4 .left)
 
 same-used : (c : tie.Else5) → used (fifth c) ≡ true
-same-used c = sym (c .before .same-piece2 .ensures) ∙ not-false _ (c .if5 .left)
-
-add-count : tie.Need-add-count
-add-count c = search needs
-
-shared-slice-read-count : tie.Need-shared-slice-read-count
-shared-slice-read-count c = let w = whole (c .before .before .before) in omega (arith, w .most, w .long)
-
-cast-size : tie.Need-cast-size
-cast-size c = let w = whole (c .before .before .before) in omega (arith, w .most, w .long)
-
-mul-size : tie.Need-mul-size
-mul-size c = let w = whole (c .before .before .before) in omega (arith, w .most, w .long)
+same-used c = sym (c .before .equal-words2 .ensures) ∙ not-false _ (c .if5 .left)
 
 equal-words-requires : tie.Need-equal-words-requires
-equal-words-requires c κs = let w = whole (c .before .before .before) in (omega arith, omega (arith, w .most, w .long))
+equal-words-requires c κs = let w = whole (c .before .before) in (omega arith, omega (arith, w .most, w .long))
 
 returns : tie.Need-returns
 returns c =
@@ -143,40 +128,28 @@ returns-4 c =
     let f : closed (third e₃) ≡ false = ne-eqb _ _ (c .if4 .taken) in
     rw (pieces (third e₃), same-keys (e₂ .before .before), same-ports e₂, same-counts e₃, f)
 
-add-same-piece-3 : tie.Need-add-same-piece-3
-add-same-piece-3 c = search needs
+add-equal-words : tie.Need-add-equal-words
+add-equal-words c = search needs
 
-add-same-piece-4 : tie.Need-add-same-piece-4
-add-same-piece-4 c = search needs
+add-equal-words-2 : tie.Need-add-equal-words-2
+add-equal-words-2 c = let w = whole (fourth c) in omega (arith, w .least, w .long)
 
-same-piece-requires-2 : tie.Need-same-piece-requires-2
-same-piece-requires-2 c κs = let w = whole (fourth c) in (omega arith, omega (arith, w .most, w .long))
+equal-words-requires-2 : tie.Need-equal-words-requires-2
+equal-words-requires-2 c κs = let w = whole (fourth c) in (omega arith, omega (arith, w .least, w .long))
 
 returns-5 : tie.Need-returns-5
 returns-5 c =
     let e₄ = c .before .before in
     let e₃ = e₄ .before .before in
     let e₂ = e₃ .before .before in
-    let f : used (fourth e₄) ≡ false = sym (c .before .same-piece2 .ensures) ∙ not-true _ (c .if5 .taken) in
+    let f : used (fourth e₄) ≡ false = sym (c .before .equal-words2 .ensures) ∙ not-true _ (c .if5 .taken) in
     rw (pieces (fourth e₄), same-keys (e₂ .before .before), same-ports e₂, same-counts e₃, is-closed e₄, f)
 
-add-unused : tie.Need-add-unused
-add-unused c = search needs
-
-add-unused-2 : tie.Need-add-unused-2
-add-unused-2 c = let w = whole (fifth c) in omega (arith, w .most, w .long)
-
-cast-zero-words : tie.Need-cast-zero-words
-cast-zero-words c = let w = whole (fifth c) in omega (arith, w .most, w .long)
-
-mul-zero-words : tie.Need-mul-zero-words
-mul-zero-words c = let w = whole (fifth c) in omega (arith, w .most, w .long)
-
-sub-zero-words : tie.Need-sub-zero-words
-sub-zero-words c = let w = whole (fifth c) in omega (arith, w .most, w .long)
+add-zero-words : tie.Need-add-zero-words
+add-zero-words c = search needs
 
 zero-words-requires : tie.Need-zero-words-requires
-zero-words-requires c κs = let w = whole (fifth c) in omega (arith, w .most, w .long)
+zero-words-requires c κs = search needs
 
 returns-6 : tie.Need-returns-6
 returns-6 c =
@@ -184,20 +157,13 @@ returns-6 c =
     let e₄ = e₅ .before .before in
     let e₃ = e₄ .before .before in
     let e₂ = e₃ .before .before in
-    let b = fifth e₅ in
-    let w = whole b in
-    let e : 8 * (8 - 2 * count b) ≡ 64 - 16 * count b = omega (arith, w .most) in
-    rw (pieces b, same-keys (e₂ .before .before), same-ports e₂, same-counts e₃, is-closed e₄, same-used e₅)
-    (c .zero-words .ensures ∙ ap (unused b) e)
+    rw (pieces (fifth e₅), same-keys (e₂ .before .before), same-ports e₂, same-counts e₃, is-closed e₄, same-used e₅)
+    (c .zero-words .ensures)
 
 pub same-as-entry-spec : {M : Type 1} → statement M
 same-as-entry-spec =
     tie.close
     (tie.spec
-    add-count
-    shared-slice-read-count
-    cast-size
-    mul-size
     equal-words-requires
     returns
     add-same-piece
@@ -210,14 +176,10 @@ same-as-entry-spec =
     add-if4
     shared-slice-read-if4
     returns-4
-    add-same-piece-3
-    add-same-piece-4
-    same-piece-requires-2
+    add-equal-words
+    add-equal-words-2
+    equal-words-requires-2
     returns-5
-    add-unused
-    add-unused-2
-    cast-zero-words
-    mul-zero-words
-    sub-zero-words
+    add-zero-words
     zero-words-requires
     returns-6)

@@ -10,7 +10,7 @@ use native.Mathlib.Omega.{arith}
 use lib.Dec.{leb, eqb}
 use lib.ListN.{length, take, drop, getD, replicate, length-append, length-drop, length-replicate}
 use lib.Seq.{take-take, getD-drop}
-use borrow.Author.Tests.{eq-eqb, ne-eqb, le-leb, lt-leb, leb-true, eqb-true, eqb-false, not-true}
+use borrow.Author.Tests.{eq-eqb, ne-eqb, le-leb, leb-true, eqb-true, eqb-false, not-true}
 use Rattle.octet.specs.Number.{Bytes, valueBE}
 use Rattle.octet.specs.Part.{part, allZero}
 use Rattle.octet.proofs.TestLaws.{both-true, zeros-all}
@@ -43,47 +43,47 @@ pub formed-sized : (recs : List (List ℕ)) → Every (λ (r : List ℕ). record
 formed-sized [] h = tt
 formed-sized (r ∷ recs) h = (form-length r (h .0), formed-sized recs (h .1))
 
--- what `follows` tells
-pub record Follows (own low : ℕ) (r : List ℕ) : Type 0 where
-  pub formed : recordForm r ≡ true
+-- what `follows` tells, of records by whatever test
+pub record Follows (good : List ℕ → Bool) (own low : ℕ) (r : List ℕ) : Type 0 where
+  pub formed : good r ≡ true
   pub least : low ≤ keyOf r
   pub other : NotOwn own (keyOf r)
 
-pub follows-tells : (own low : ℕ) (r : List ℕ) → follows own low r ≡ true → Follows own low r
+pub follows-tells : (good : List ℕ → Bool) (own low : ℕ) (r : List ℕ) → follows good own low r ≡ true → Follows good own low r
 unfolding follows
-follows-tells own low r e =
-    let p = both-true (recordForm r && leb low (keyOf r)) (not (eqb (keyOf r) own)) e in
-    let q = both-true (recordForm r) (leb low (keyOf r)) (p .0) in
+follows-tells good own low r e =
+    let p = both-true (good r && leb low (keyOf r)) (not (eqb (keyOf r) own)) e in
+    let q = both-true (good r) (leb low (keyOf r)) (p .0) in
     record { formed = q .0; least = leb-true low (keyOf r) (q .1); other = eqb-false (keyOf r) own (not-true (eqb (keyOf r) own) (p .1)) }
 
-pub follows-told : (own low : ℕ) (r : List ℕ) → Follows own low r → follows own low r ≡ true
+pub follows-told : (good : List ℕ → Bool) (own low : ℕ) (r : List ℕ) → Follows good own low r → follows good own low r ≡ true
 unfolding follows
-follows-told own low r h = rw (h .formed, le-leb low (keyOf r) (h .least), ne-eqb (keyOf r) own (h .other)) refl
+follows-told good own low r h = rw (h .formed, le-leb low (keyOf r) (h .least), ne-eqb (keyOf r) own (h .other)) refl
 
 -- ---- what is counted has the form of records held
 
 -- the same as `Held`, where the first key is at least low
-pub record From (own low : ℕ) (recs : List (List ℕ)) : Type 0 where
-  pub formed : Every (λ (r : List ℕ). recordForm r ≡ true) recs
+pub record From (good : List ℕ → Bool) (own low : ℕ) (recs : List (List ℕ)) : Type 0 where
+  pub formed : Every (λ (r : List ℕ). good r ≡ true) recs
   pub rising : Rising plain low (keysOf recs)
   pub others : Every (NotOwn own) (keysOf recs)
 
-counted : (own low : ℕ) (rs : List (List ℕ)) → From own low (take (leading own low rs) rs)
+pub counted : (good : List ℕ → Bool) (own low : ℕ) (rs : List (List ℕ)) → From good own low (take (leading good own low rs) rs)
 unfolding leading
-counted own low [] = record { formed = tt; rising = tt; others = tt }
-counted own low (r ∷ rs) = go (follows own low r) refl (counted own (suc (keyOf r)) rs)
+counted good own low [] = record { formed = tt; rising = tt; others = tt }
+counted good own low (r ∷ rs) = go (follows good own low r) refl (counted good own (suc (keyOf r)) rs)
   where
-    go : (b : Bool) → follows own low r ≡ b → From own (suc (keyOf r)) (take (leading own (suc (keyOf r)) rs) rs)
-        → From own low (take (cond b (suc (leading own (suc (keyOf r)) rs)) 0) (r ∷ rs))
+    go : (b : Bool) → follows good own low r ≡ b → From good own (suc (keyOf r)) (take (leading good own (suc (keyOf r)) rs) rs)
+        → From good own low (take (cond b (suc (leading good own (suc (keyOf r)) rs)) 0) (r ∷ rs))
     go true e t =
-        let f = follows-tells own low r e in
+        let f = follows-tells good own low r e in
         record { formed = (f .formed, t .formed); rising = (f .least, t .rising); others = (f .other, t .others) }
     go false e t = record { formed = tt; rising = tt; others = tt }
 
-leading-most : (own low : ℕ) (rs : List (List ℕ)) → leading own low rs ≤ length rs
+pub leading-most : (good : List ℕ → Bool) (own low : ℕ) (rs : List (List ℕ)) → leading good own low rs ≤ length rs
 unfolding leading
-leading-most own low [] = omega arith
-leading-most own low (r ∷ rs) = go (follows own low r) (leading-most own (suc (keyOf r)) rs)
+leading-most good own low [] = omega arith
+leading-most good own low (r ∷ rs) = go (follows good own low r) (leading-most good own (suc (keyOf r)) rs)
   where
     go : (b : Bool) {n m : ℕ} → n ≤ m → cond b (suc n) 0 ≤ suc m
     go true h = omega arith
@@ -91,25 +91,25 @@ leading-most own low (r ∷ rs) = go (follows own low r) (leading-most own (suc 
 
 pub held-most : (own : ℕ) (s : List ℕ) → heldIn own s ≤ placesIn (length s)
 unfolding heldIn
-held-most own s = omega (arith, leading-most own 0 (rows 100 (placesIn (length s)) s), rows-length 100 (placesIn (length s)) s)
+held-most own s = omega (arith, leading-most recordForm own 0 (rows 100 (placesIn (length s)) s), rows-length 100 (placesIn (length s)) s)
 
 -- ---- records in form are counted
 
 -- no record stands at the front
-abbrev Stops : List (List ℕ) → Type 0
-Stops [] = Unit {0}
-Stops (z ∷ zs) = recordForm z ≡ false
+abbrev pub Stops : (List ℕ → Bool) → List (List ℕ) → Type 0
+Stops good [] = Unit {0}
+Stops good (z ∷ zs) = good z ≡ false
 
-counts : (own low : ℕ) (recs zs : List (List ℕ)) → From own low recs → Stops zs → leading own low (recs ++ zs) ≡ length recs
+pub counts : (good : List ℕ → Bool) (own low : ℕ) (recs zs : List (List ℕ)) → From good own low recs → Stops good zs → leading good own low (recs ++ zs) ≡ length recs
 unfolding leading follows
-counts own low [] [] h st = refl
-counts own low [] (z ∷ zs) h st = rw st refl
-counts own low (r ∷ recs) zs h st =
-    ap (λ (b : Bool). cond b (suc (leading own (suc (keyOf r)) (recs ++ zs))) 0)
-    (follows-told own low r (record { formed = h .formed .0; least = h .rising .0; other = h .others .0 }))
-    ∙ ap suc (counts own (suc (keyOf r)) recs zs (record { formed = h .formed .1; rising = h .rising .1; others = h .others .1 }) st)
+counts good own low [] [] h st = refl
+counts good own low [] (z ∷ zs) h st = rw st refl
+counts good own low (r ∷ recs) zs h st =
+    ap (λ (b : Bool). cond b (suc (leading good own (suc (keyOf r)) (recs ++ zs))) 0)
+    (follows-told good own low r (record { formed = h .formed .0; least = h .rising .0; other = h .others .0 }))
+    ∙ ap suc (counts good own (suc (keyOf r)) recs zs (record { formed = h .formed .1; rising = h .rising .1; others = h .others .1 }) st)
 
-getD-zeros : (k m i : ℕ) → getD {A = ℕ} (take k (replicate m 0)) i 0 ≡ 0
+pub getD-zeros : (k m i : ℕ) → getD {A = ℕ} (take k (replicate m 0)) i 0 ≡ 0
 getD-zeros zero m i = refl
 getD-zeros (suc k) zero i = refl
 getD-zeros (suc k) (suc m) zero = refl
@@ -120,13 +120,13 @@ zeros-bad : (m : ℕ) → recordForm (take 100 (replicate m 0)) ≡ false
 unfolding recordForm
 zeros-bad m =
     let r : List ℕ = take 100 (replicate m 0) in
-    go (eqb (length r) 100) _ _ _ _ (lt-leb 1 (countOf r) (omega (arith, getD-zeros 100 m 34)))
+    go (eqb (length r) 100) _ _ _ (ne-eqb (countOf r) 1 (λ e. omega (arith, e, getD-zeros 100 m 34)))
   where
-    go : (a b c d e : Bool) → b ≡ false → a && b && c && d && e ≡ false
-    go true b c d e h = rw h refl
-    go false b c d e h = refl
+    go : (a b c d : Bool) → b ≡ false → a && b && c && d ≡ false
+    go true b c d h = rw h refl
+    go false b c d h = refl
 
-zeros-stop : (k m : ℕ) → Stops (rows 100 k (replicate m 0))
+zeros-stop : (k m : ℕ) → Stops recordForm (rows 100 k (replicate m 0))
 unfolding rows
 zeros-stop zero m = tt
 zeros-stop (suc k) m = zeros-bad m
@@ -138,9 +138,9 @@ pub form-of : (own : ℕ) (s : List ℕ) (used : ℕ) → Places (length s) → 
 unfolding heldIn
 form-of own s used pl e laid =
     let n : ℕ = placesIn (length s) in
-    let c : From own 0 (rows 100 used s) =
-    subst (λ (l : List (List ℕ)). From own 0 l)
-    (ap (λ (k : ℕ). take k (rows 100 n s)) (sym e) ∙ rows-take 100 used n s (omega (arith, laid .room))) (counted own 0 (rows 100 n s)) in
+    let c : From recordForm own 0 (rows 100 used s) =
+    subst (λ (l : List (List ℕ)). From recordForm own 0 l)
+    (ap (λ (k : ℕ). take k (rows 100 n s)) (sym e) ∙ rows-take 100 used n s (omega (arith, laid .room))) (counted recordForm own 0 (rows 100 n s)) in
     record {
       places = pl;
       bytes = laid-bytes 100 used s laid;
@@ -176,8 +176,8 @@ module _ (own : ℕ) (s : List ℕ) (recs : List (List ℕ)) (f : Form own s rec
       let m : ℕ = length s - length (joined recs) in
       let k : ℕ = placesIn (length s) - length recs in
       let e : placesIn (length s) ≡ length recs + k = omega (arith, form-room) in
-      ap (leading own 0) (ap₂ (rows 100) e (f .bytes) ∙ rows-append 100 recs k (replicate m 0) sized)
-      ∙ counts own 0 recs (rows 100 k (replicate m 0))
+      ap (leading recordForm own 0) (ap₂ (rows 100) e (f .bytes) ∙ rows-append 100 recs k (replicate m 0) sized)
+      ∙ counts recordForm own 0 recs (rows 100 k (replicate m 0))
       (record { formed = f .held .formed; rising = f .held .rising; others = f .held .others }) (zeros-stop k m)
 
   pub form-held : heldOf own s ≡ recs

@@ -14,7 +14,7 @@ use Rattle.octet.specs.Number.{Digits, valueBE}
 use Rattle.octet.specs.Part.{part, allZero}
 use Rattle.key.proofs.OrderLaws.{test-less}
 use Rattle.key.specs.Number.{keyAt}
-use Rattle.record.specs.Record.{keyOf}
+use Rattle.record.specs.Record.{keyOf, recordForm}
 use Rattle.table.specs.Rows.{rows}
 use Rattle.table.proofs.RowLaws.{rows-next, rows-end}
 use Rattle.cache.specs.declared.shape.Formed.the-variants.{Bad, Good}
@@ -60,29 +60,29 @@ carried-next s i last e = subst (λ (n : ℕ). Carried s n last) (sym (add-one i
 
 -- ---- the loop that counts the places in order
 
-module _ (own n : ℕ) (s : List ℕ) (i : ℕ) where
-  step : (b : Bool) → i < n → follows own (lowAt s i) (part (100 * i) 100 s) ≡ b
-      → leading own (lowAt s i) (drop i (rows 100 n s)) ≡ cond b (suc (leading own (lowAt s (i + 1)) (drop (i + 1) (rows 100 n s)))) 0
+module _ (good : List ℕ → Bool) (own n : ℕ) (s : List ℕ) (i : ℕ) where
+  step : (b : Bool) → i < n → follows good own (lowAt s i) (part (100 * i) 100 s) ≡ b
+      → leading good own (lowAt s i) (drop i (rows 100 n s)) ≡ cond b (suc (leading good own (lowAt s (i + 1)) (drop (i + 1) (rows 100 n s)))) 0
   unfolding leading lowAt
   step b h f =
       let row : List ℕ = part (100 * i) 100 s in
       let rest : List (List ℕ) = drop (i + 1) (rows 100 n s) in
       let low : suc (keyOf row) ≡ lowAt s (i + 1) = ap suc (key-of-row (100 * i) s) ∙ ap (lowAt s) (sym (add-one i)) in
-      ap (leading own (lowAt s i)) (rows-next 100 n s i h)
-      ∙ ap (λ (t : Bool). cond t (suc (leading own (suc (keyOf row)) rest)) 0) f
-      ∙ ap (λ (l : ℕ). cond b (suc (leading own l rest)) 0) low
+      ap (leading good own (lowAt s i)) (rows-next 100 n s i h)
+      ∙ ap (λ (t : Bool). cond t (suc (leading good own (suc (keyOf row)) rest)) 0) f
+      ∙ ap (λ (l : ℕ). cond b (suc (leading good own l rest)) 0) low
 
-  pub count-more : i < n → follows own (lowAt s i) (part (100 * i) 100 s) ≡ true
-      → i + leading own (lowAt s i) (drop i (rows 100 n s)) ≡ i + 1 + leading own (lowAt s (i + 1)) (drop (i + 1) (rows 100 n s))
+  pub count-more : i < n → follows good own (lowAt s i) (part (100 * i) 100 s) ≡ true
+      → i + leading good own (lowAt s i) (drop i (rows 100 n s)) ≡ i + 1 + leading good own (lowAt s (i + 1)) (drop (i + 1) (rows 100 n s))
   count-more h f = omega (arith, step true h f)
 
-  pub count-stop : i < n → follows own (lowAt s i) (part (100 * i) 100 s) ≡ false → i + leading own (lowAt s i) (drop i (rows 100 n s)) ≡ i
+  pub count-stop : i < n → follows good own (lowAt s i) (part (100 * i) 100 s) ≡ false → i + leading good own (lowAt s i) (drop i (rows 100 n s)) ≡ i
   count-stop h f = omega (arith, step false h f)
 
-  pub count-end : n ≤ i → i + leading own (lowAt s i) (drop i (rows 100 n s)) ≡ i
+  pub count-end : n ≤ i → i + leading good own (lowAt s i) (drop i (rows 100 n s)) ≡ i
   unfolding leading
   count-end h =
-      let a : leading own (lowAt s i) (drop i (rows 100 n s)) ≡ 0 = ap (leading own (lowAt s i)) (rows-end 100 n s i h) in
+      let a : leading good own (lowAt s i) (drop i (rows 100 n s)) ≡ 0 = ap (leading good own (lowAt s i)) (rows-end 100 n s i h) in
       omega arith
 
 -- ---- the answer
@@ -102,7 +102,7 @@ module _ (own : ℕ) (s : List ℕ) where
       unfolding cacheFormed cacheForm
       too-large h = rw (eq-eqb (length s % 100) 0 whole, le-leb 1000 (length s) least, lt-leb (length s) 25600 h) refl
 
-      pub by-rest : (used : ℕ) (b : Bool) → length s ≤ 25600 → used ≡ leading own 0 (rows 100 (placesIn (length s)) s)
+      pub by-rest : (used : ℕ) (b : Bool) → length s ≤ 25600 → used ≡ leading recordForm own 0 (rows 100 (placesIn (length s)) s)
           → b ≡ allZero (drop (100 * used) s) → cacheFormed own s ≡ cond b (Good used) Bad
       unfolding cacheFormed cacheForm heldIn
       by-rest used b most is z =

@@ -40,26 +40,30 @@ pub record Form (own : Own) (cache : List ℕ) (recs : List (List ℕ)) : Type 0
 
 -- ---- the test
 
--- may the row r stand after keys below low?
-unfoldable pub follows : Own → ℕ → List ℕ → Bool
-follows own low r = recordForm r && leb low (keyOf r) && not (isOwn own (keyOf r))
+-- may the row r stand after keys below low? What a record in form is, `recordForm`, is handed in: the conversion asks the same of old records
+unfoldable pub follows : (List ℕ → Bool) → Own → ℕ → List ℕ → Bool
+follows formed own low r = formed r && leb low (keyOf r) && not (isOwn own (keyOf r))
 
 -- how many rows, from the first, may stand so one after the other
-unfoldable pub leading : Own → ℕ → List (List ℕ) → ℕ
-leading own low [] = 0
-leading own low (r ∷ rs) = cond (follows own low r) (suc (leading own (suc (keyOf r)) rs)) 0
+unfoldable pub leading : (List ℕ → Bool) → Own → ℕ → List (List ℕ) → ℕ
+leading formed own low [] = 0
+leading formed own low (r ∷ rs) = cond (follows formed own low r) (suc (leading formed own (suc (keyOf r)) rs)) 0
 
 -- how many records the cache holds, and which
 unfoldable pub heldIn : Own → List ℕ → ℕ
-heldIn own cache = leading own 0 (rows 100 (placesIn (length cache)) cache)
+heldIn own cache = leading recordForm own 0 (rows 100 (placesIn (length cache)) cache)
 
 unfoldable pub heldOf : Own → List ℕ → List (List ℕ)
 heldOf own cache = rows 100 (heldIn own cache) cache
 
--- is the cache in form?
-unfoldable pub cacheForm : Own → List ℕ → Bool
-cacheForm own cache =
+-- has a cache C places, and nothing behind the first n records?
+abbrev pub holds : ℕ → List ℕ → Bool
+holds n cache =
     eqb (length cache % 100) 0
     && leb 1000 (length cache)
     && leb (length cache) 25600
-    && allZero (drop (100 * heldIn own cache) cache)
+    && allZero (drop (100 * n) cache)
+
+-- is the cache in form?
+unfoldable pub cacheForm : Own → List ℕ → Bool
+cacheForm own cache = holds (heldIn own cache) cache

@@ -6,7 +6,7 @@ ghost use lib.ListN.{length};
 ghost use Rattle.octet.specs.Number.{valueBE};
 ghost use Rattle.octet.specs.Part.{part};
 ghost use Rattle.key.specs.Number.{keyAt};
-ghost use Rattle.record.specs.Record.{keyOf};
+ghost use Rattle.record.specs.Record.{keyOf, recordForm};
 ghost use Rattle.table.specs.Rows.{rows};
 ghost use Rattle.cache.specs.Form.{follows, leading};
 ghost use Rattle.cache.specs.Place.{cacheFormed, lowAt, Carried};
@@ -55,7 +55,7 @@ fn place_follows(own: &[u8], cache: &[u8], i: usize, last: u64) -> bool
     requires { ⌜ 32 ≤ length (now own) ⌝ }
     requires { ⌜ 100 * i + 100 ≤ length (now cache) ⌝ }
     requires { ⌜ Carried (now cache) i last ⌝ }
-    ensures { λ r. ⌜ r ≡ follows (keyOf (now (own .entry))) (lowAt (now (cache .entry)) i)
+    ensures { λ r. ⌜ r ≡ follows recordForm (keyOf (now (own .entry))) (lowAt (now (cache .entry)) i)
         (part (100 * i) 100 (now (cache .entry))) ⌝ }
 {
     let at = record::RECORD_LEN * i;
@@ -73,7 +73,7 @@ fn place_follows(own: &[u8], cache: &[u8], i: usize, last: u64) -> bool
 fn count_held(own: &[u8], cache: &[u8]) -> usize
     requires { ⌜ 32 ≤ length (now own) ⌝ }
     ensures { λ r. ⌜ r
-        ≡ leading (keyOf (now (own .entry))) 0 (rows 100 (length (now (cache .entry)) / 100) (now (cache .entry))) ⌝ }
+        ≡ leading recordForm (keyOf (now (own .entry))) 0 (rows 100 (length (now (cache .entry)) / 100) (now (cache .entry))) ⌝ }
 {
     let n = cache.len() / record::RECORD_LEN;
     let mut last = 0;

@@ -17,7 +17,7 @@ use Rattle.octet.proofs.TestLaws.{both-true}
 use Rattle.table.specs.Rows.{rows, joined, bytesOf, Sized, Laid, anyOf}
 use Rattle.table.proofs.RowLaws.{rows-length, rows-sized, laid-bytes, bytes-length, bytes-rows, bytes-laid}
 use Rattle.waiting.specs.Place.{idOf, kindOf, placeKey}
-use Rattle.waiting.specs.Form.{isInquiry, again, placeForm, placesForm, usedIn, usedOf, placesOf, waitingForm, PlacesForm}
+use Rattle.waiting.specs.Form.{isInquiry, again, placeForm, placesBy, placesForm, usedIn, usedOf, placesOf, waitingForm, PlacesForm}
 use Rattle.waiting.proofs.PlaceLaws.{form-used}
 
 -- ---- the used places, as a type: each in form, above those before it, and alone with its key where it is an inquiry
@@ -36,7 +36,7 @@ alone-not true y h = rw (h refl) refl
 alone-not false y h = refl
 
 pub placed : (own low : ℕ) (ps : List (List ℕ)) → placesForm own low ps ≡ true → Placed own low ps
-unfolding placesForm
+unfolding placesBy
 placed own low [] e = tt
 placed own low (p ∷ ps) e =
     let last = both-true (placeForm own p && leb low (idOf p) && not (again p ps)) (placesForm own (suc (idOf p)) ps) e in
@@ -49,7 +49,7 @@ placed own low (p ∷ ps) e =
     )
 
 pub placed-form : (own low : ℕ) (ps : List (List ℕ)) → Placed own low ps → placesForm own low ps ≡ true
-unfolding placesForm
+unfolding placesBy
 placed-form own low [] h = refl
 placed-form own low (p ∷ ps) h =
     let only : not (again p ps) ≡ true =

@@ -18,7 +18,7 @@ use Rattle.record.specs.Record.{keyOf, recordForm}
 use Rattle.record.proofs.PlaceLaws.{part-part}
 use Rattle.table.proofs.PieceLaws.{part-start}
 use Rattle.waiting.specs.Place.{idOf, kindOf, triesOf, placeKey, placeRecord}
-use Rattle.waiting.specs.Form.{placeForm, isInquiry}
+use Rattle.waiting.specs.Form.{placeBy, placeForm, isInquiry}
 use Rattle.waiting.specs.Tick.{oneLess}
 
 -- ---- where the place lies
@@ -52,28 +52,28 @@ fieldsForm own tries six seven kind key held =
 
 pub by-fields : (own : ℕ) (p : List ℕ)
     → placeForm own p ≡ fieldsForm own (triesOf p) (getD p 6 0) (getD p 7 0) (kindOf p) (placeKey p) (placeRecord p)
-unfolding placeForm
+unfolding placeBy
 by-fields own p = refl
 
 -- the tests of a flood's place, of an inquiry's, and of one that is neither
-pub flood-is : (own : ℕ) (p : List ℕ) (z : Bool) → kindOf p ≡ 1 → z ≡ allZero (part 40 100 p)
-    → (leb (triesOf p) 2 && eqb (getD p 6 0) 0 && eqb (getD p 7 0) 0 && z) ≡ placeForm own p
-unfolding placeForm
-flood-is own p z e hz = rw (e, sym hz) (ap (λ (t : Bool). leb (triesOf p) 2 && eqb (getD p 6 0) 0 && eqb (getD p 7 0) 0 && t) (alone z))
+pub flood-is : (good : List ℕ → Bool) (own : ℕ) (p : List ℕ) (z : Bool) → kindOf p ≡ 1 → z ≡ allZero (part 40 100 p)
+    → (leb (triesOf p) 2 && eqb (getD p 6 0) 0 && eqb (getD p 7 0) 0 && z) ≡ placeBy good own p
+unfolding placeBy
+flood-is good own p z e hz = rw (e, sym hz) (ap (λ (t : Bool). leb (triesOf p) 2 && eqb (getD p 6 0) 0 && eqb (getD p 7 0) 0 && t) (alone z))
   where
     alone : (z : Bool) → z ≡ z || false
     alone true = refl
     alone false = refl
 
-pub inquiry-is : (own : ℕ) (p : List ℕ) {f k o : Bool} → kindOf p ≡ 2 → f ≡ recordForm (part 40 100 p) → k ≡ eqb (keyAt 40 p) (keyAt 8 p)
+pub inquiry-is : (good : List ℕ → Bool) (own : ℕ) (p : List ℕ) {f k o : Bool} → kindOf p ≡ 2 → f ≡ good (part 40 100 p) → k ≡ eqb (keyAt 40 p) (keyAt 8 p)
     → o ≡ eqb (keyAt 8 p) own
-    → (leb (triesOf p) 2 && eqb (getD p 6 0) 0 && eqb (getD p 7 0) 0 && (f && k && not o)) ≡ placeForm own p
-unfolding placeForm
-inquiry-is own p e hf hk ho = rw (e, hf, hk, ho, record-key p) refl
+    → (leb (triesOf p) 2 && eqb (getD p 6 0) 0 && eqb (getD p 7 0) 0 && (f && k && not o)) ≡ placeBy good own p
+unfolding placeBy
+inquiry-is good own p e hf hk ho = rw (e, hf, hk, ho, record-key p) refl
 
-pub neither-is : (own : ℕ) (p : List ℕ) → eqb (kindOf p) 1 ≡ false → eqb (kindOf p) 2 ≡ false → false ≡ placeForm own p
-unfolding placeForm
-neither-is own p e g = rw (e, g) (none (leb (triesOf p) 2 && eqb (getD p 6 0) 0 && eqb (getD p 7 0) 0))
+pub neither-is : (good : List ℕ → Bool) (own : ℕ) (p : List ℕ) → eqb (kindOf p) 1 ≡ false → eqb (kindOf p) 2 ≡ false → false ≡ placeBy good own p
+unfolding placeBy
+neither-is good own p e g = rw (e, g) (none (leb (triesOf p) 2 && eqb (getD p 6 0) 0 && eqb (getD p 7 0) 0))
   where
     none : (t : Bool) → false ≡ t && false
     none true = refl
@@ -89,7 +89,7 @@ other-first false a′ b c d e h = let z : _≡_ {A = ℕ} 0 1 = cc in absurd (o
 
 -- a place in form has at most two tries left, and is not free
 pub form-tries : (own : ℕ) (p : List ℕ) → placeForm own p ≡ true → triesOf p ≤ 2
-unfolding placeForm
+unfolding placeBy
 form-tries own p e = leb-true (triesOf p) 2 (first-true (leb (triesOf p) 2) (eqb (getD p 6 0) 0) (eqb (getD p 7 0) 0) _ e)
 
 pub form-used : (own : ℕ) (p : List ℕ) → placeForm own p ≡ true → kindOf p ≡ 0 → ⊥

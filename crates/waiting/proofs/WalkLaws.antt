@@ -19,7 +19,7 @@ use Rattle.table.proofs.PieceLaws.{part-lent}
 use Rattle.table.proofs.SeekLaws.{isFound, any-found}
 use Rattle.table.specs.declared.Found.{Found}
 use Rattle.waiting.specs.Place.{idOf, kindOf}
-use Rattle.waiting.specs.Form.{isInquiry, again, placeForm, placesForm, usedIn}
+use Rattle.waiting.specs.Form.{isInquiry, again, placeBy, placesBy, usedIn}
 use Rattle.table.specs.Seek.{seek}
 use Rattle.waiting.specs.Seek.{isAt}
 use Rattle.waiting.specs.Slot.{slotIn}
@@ -97,26 +97,26 @@ module _ (used : ℕ) (t : List ℕ) (at : ℕ) where
       (ap (λ (k : ℕ). anyOf (isInquiry k) later) (key-at (140 * at) t) ∙ any-found (isInquiry (keyAt (140 * at + 8) t)) (at + 1) later
       ∙ ap isFound (sym d))
 
-  module _ (own low : ℕ) where
+  module _ (good : List ℕ → Bool) (own low : ℕ) where
     -- the three tests of a place
     abbrev pub tests : Bool
-    tests = placeForm own place && leb low (idOf place) && not (again place later)
+    tests = placeBy good own place && leb low (idOf place) && not (again place later)
 
-    pub tests-are : {f a : Bool} {id : ℕ} → f ≡ placeForm own (take ((140 * at + 140) - 140 * at) (drop (140 * at) t))
+    pub tests-are : {f a : Bool} {id : ℕ} → f ≡ placeBy good own (take ((140 * at + 140) - 140 * at) (drop (140 * at) t))
         → id ≡ valueLE 256 (part (140 * at) 4 t) → a ≡ again place later → tests ≡ (f && leb low id && not a)
     tests-are {f} {a} {id} ef ei ea =
         ap₂ (λ (x : Bool) (n : ℕ). x && leb low n && not (again place later))
-        (ap (placeForm own) (sym (part-lent (140 * at) 140 t)) ∙ sym ef) (id-at (140 * at) t ∙ sym ei)
+        (ap (placeBy good own) (sym (part-lent (140 * at) 140 t)) ∙ sym ef) (id-at (140 * at) t ∙ sym ei)
         ∙ ap (λ (x : Bool). f && leb low id && not x) (sym ea)
 
-    pub form-not : at < used → tests ≡ false → placesForm own low left ≡ false
-    unfolding placesForm
-    form-not h e = ap (placesForm own low) (next h) ∙ rw e refl
+    pub form-not : at < used → tests ≡ false → placesBy good own low left ≡ false
+    unfolding placesBy
+    form-not h e = ap (placesBy good own low) (next h) ∙ rw e refl
 
-    pub form-on : at < used → tests ≡ true → placesForm own low left ≡ placesForm own (idOf place + 1) later
-    unfolding placesForm
-    form-on h e = ap (placesForm own low) (next h) ∙ rw (e, add-one (idOf place)) refl
+    pub form-on : at < used → tests ≡ true → placesBy good own low left ≡ placesBy good own (idOf place + 1) later
+    unfolding placesBy
+    form-on h e = ap (placesBy good own low) (next h) ∙ rw (e, add-one (idOf place)) refl
 
-    pub form-end : used ≤ at → placesForm own low left ≡ true
-    unfolding placesForm
-    form-end h = ap (placesForm own low) (none h)
+    pub form-end : used ≤ at → placesBy good own low left ≡ true
+    unfolding placesBy
+    form-end h = ap (placesBy good own low) (none h)

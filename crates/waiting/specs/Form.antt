@@ -17,13 +17,17 @@ use Rattle.waiting.specs.Place.{idOf, kindOf, triesOf, placeKey, placeRe
 abbrev pub floodForm : List ℕ → Bool
 floodForm p = eqb (kindOf p) 1 && allZero (placeRecord p)
 
-abbrev pub inquiryForm : Own → List ℕ → Bool
-inquiryForm own p =
-    eqb (kindOf p) 2 && recordForm (placeRecord p) && eqb (keyOf (placeRecord p)) (placeKey p) && not (isOwn own (placeKey p))
+-- what a record in form is, `recordForm`, is handed in: the conversion asks the same of old records
+abbrev pub inquiryForm : (List ℕ → Bool) → Own → List ℕ → Bool
+inquiryForm formed own p =
+    eqb (kindOf p) 2 && formed (placeRecord p) && eqb (keyOf (placeRecord p)) (placeKey p) && not (isOwn own (placeKey p))
 
-unfoldable pub placeForm : Own → List ℕ → Bool
-placeForm own p =
-    leb (triesOf p) 2 && eqb (getD p 6 0) 0 && eqb (getD p 7 0) 0 && (floodForm p || inquiryForm own p)
+unfoldable pub placeBy : (List ℕ → Bool) → Own → List ℕ → Bool
+placeBy formed own p =
+    leb (triesOf p) 2 && eqb (getD p 6 0) 0 && eqb (getD p 7 0) 0 && (floodForm p || inquiryForm formed own p)
+
+abbrev pub placeForm : Own → List ℕ → Bool
+placeForm own p = placeBy recordForm own p
 
 -- ---- the used places
 
@@ -36,9 +40,12 @@ abbrev pub again : List ℕ → List (List ℕ) → Bool
 again p ps = eqb (kindOf p) 2 && anyOf (isInquiry (placeKey p)) ps
 
 -- is each in form, with an ID above those before it, the first's at least low, and no inquiry's key that of a later one?
-unfoldable pub placesForm : ℕ → ℕ → List (List ℕ) → Bool
-placesForm own low [] = true
-placesForm own low (p ∷ ps) = placeForm own p && leb low (idOf p) && not (again p ps) && placesForm own (suc (idOf p)) ps
+unfoldable pub placesBy : (List ℕ → Bool) → Own → ℕ → List (List ℕ) → Bool
+placesBy formed own low [] = true
+placesBy formed own low (p ∷ ps) = placeBy formed own p && leb low (idOf p) && not (again p ps) && placesBy formed own (suc (idOf p)) ps
+
+abbrev pub placesForm : Own → ℕ → List (List ℕ) → Bool
+placesForm own low ps = placesBy recordForm own low ps
 
 -- ---- the table
 

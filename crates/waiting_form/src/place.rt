@@ -10,7 +10,7 @@ ghost use Rattle.waiting.specs.Form.{placeForm};
 ghost use Rattle.waiting.specs.Place.{triesOf, placeRecord};
 
 // Is the record of a place all zero?
-fn zero_record(place: &[u8]) -> bool
+pub fn zero_record(place: &[u8]) -> bool
     requires { ⌜ length (now place) ≡ 140 ⌝ }
     ensures { λ r. ⌜ r ≡ allZero (placeRecord (now (place .entry))) ⌝ }
 {
@@ -22,7 +22,7 @@ fn zero_record(place: &[u8]) -> bool
 }
 
 // Has a place at most two tries left, and are the two bytes behind them zero? As one number with the kind below it.
-fn is_fresh(place: &[u8]) -> bool
+pub fn is_fresh(place: &[u8]) -> bool
     requires { ⌜ length (now place) ≡ 140 ⌝ }
     ensures { λ r. ⌜ r ≡ leb (triesOf (now (place .entry))) 2 && eqb (getD (now (place .entry)) 6 0) 0
         && eqb (getD (now (place .entry)) 7 0) 0 ⌝ }

@@ -17,7 +17,7 @@ pub enum Formed {
 }
 
 // How many places stand before the first free one.
-fn count_used(table: &[u8]) -> usize
+pub fn count_used(table: &[u8]) -> usize
     requires { ⌜ length (now table) ≡ 2240 ⌝ }
     ensures { λ r. ⌜ r ≡ usedOf (now (table .entry)) ⌝ }
 {
@@ -32,7 +32,7 @@ fn count_used(table: &[u8]) -> usize
 }
 
 // Is the place an inquiry, and one after it an inquiry for the same key?
-fn key_again(table: &[u8], used: usize, at: usize) -> bool
+pub fn key_again(table: &[u8], used: usize, at: usize) -> bool
     requires { ⌜ (at < used) × (140 * used ≤ length (now table)) ⌝ }
     ensures { λ r. ⌜ r
         ≡ again (part (140 * at) 140 (now (table .entry))) (drop (at + 1) (rows 140 used (now (table .entry)))) ⌝ }

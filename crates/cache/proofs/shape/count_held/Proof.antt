@@ -6,7 +6,7 @@ use lib.ListN.{length, drop}
 use borrow.Author.Tests.{not-true, not-false}
 use Rattle.octet.specs.Number.{valueBE}
 use Rattle.octet.specs.Part.{part}
-use Rattle.record.specs.Record.{keyOf}
+use Rattle.record.specs.Record.{keyOf, recordForm}
 use Rattle.table.specs.Rows.{rows}
 use Rattle.cache.specs.Form.{leading}
 use Rattle.cache.specs.Place.{lowAt, Carried}
@@ -19,7 +19,7 @@ abbrev Inv-loop : tie.InvT-loop
 Inv-loop own cache n last₀ i₀ last i =
     (n ≡ length cache / 100)
     × (i ≤ n)
-    × (leading (keyOf own) 0 (rows 100 n cache) ≡ i + leading (keyOf own) (lowAt cache i) (drop i (rows 100 n cache)))
+    × (leading recordForm (keyOf own) 0 (rows 100 n cache) ≡ i + leading recordForm (keyOf own) (lowAt cache i) (drop i (rows 100 n cache)))
     × Carried cache i last
 
 abbrev μ-loop : tie.MeasureT-loop
@@ -31,7 +31,7 @@ loop-holds c =
     let a = c .before .before .args in (
       omega arith,
       omega arith,
-      sym (zero-add (leading (keyOf (a .own .now)) 0 (rows 100 (length (a .cache .now) / 100) (a .cache .now)))),
+      sym (zero-add (leading recordForm (keyOf (a .own .now)) 0 (rows 100 (length (a .cache .now) / 100) (a .cache .now)))),
       tt,
     )
 
@@ -44,7 +44,7 @@ returns : tie.Need-returns Inv-loop μ-loop
 returns c =
     let l = c .before .before .before in
     let a = l .before .before .before .args in
-    sym (l .loop .inv .2 ∙ count-stop (keyOf (a .own .now)) (length (a .cache .now) / 100) (a .cache .now) (l .loop .i) (omega arith)
+    sym (l .loop .inv .2 ∙ count-stop recordForm (keyOf (a .own .now)) (length (a .cache .now) / 100) (a .cache .now) (l .loop .i) (omega arith)
     (sym (c .before .place-follows .ensures) ∙ not-true _ (c .if1 .taken)))
 
 mul-read-u64 : tie.Need-mul-read-u64 Inv-loop μ-loop
@@ -66,7 +66,7 @@ loop-again c =
     let a = l .before .before .before .args in (
       omega arith,
       omega arith,
-      l .loop .inv .2 ∙ count-more (keyOf (a .own .now)) (length (a .cache .now) / 100) (a .cache .now) (l .loop .i) (omega arith)
+      l .loop .inv .2 ∙ count-more recordForm (keyOf (a .own .now)) (length (a .cache .now) / 100) (a .cache .now) (l .loop .i) (omega arith)
           (sym (tested .before .place-follows .ensures) ∙ not-false _ (tested .if1 .left)),
       carried-next (a .cache .now) (l .loop .i) (c .read-u64 .result) (c .read-u64 .ensures),
     )
@@ -75,7 +75,7 @@ returns-2 : tie.Need-returns-2 Inv-loop μ-loop
 returns-2 c =
     let l = c .before in
     let a = l .before .before .before .args in
-    let e = count-end (keyOf (a .own .now)) (length (a .cache .now) / 100) (a .cache .now) (l .loop .i) (omega arith) in
+    let e = count-end recordForm (keyOf (a .own .now)) (length (a .cache .now) / 100) (a .cache .now) (l .loop .i) (omega arith) in
     omega (arith, e, l .loop .inv .2)
 
 pub count-held-spec : {M : Type 1} → statement M

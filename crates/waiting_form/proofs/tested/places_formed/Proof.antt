@@ -6,7 +6,7 @@ use Prim.Native.Nat.{ℕ, _+_, _*_, _-_, _≤_}
 use native.Mathlib.Omega.{arith}
 use lib.ListN.{drop, length-take, length-drop}
 use borrow.Author.Tests.{not-true, not-false}
-use Rattle.record.specs.Record.{keyOf}
+use Rattle.record.specs.Record.{keyOf, recordForm}
 use Rattle.table.specs.Rows.{rows}
 use Rattle.waiting.specs.Form.{placesForm}
 use Rattle.waiting.proofs.PlaceLaws.{id-at}
@@ -31,13 +31,13 @@ from c = c .before .before .before .before .before .before .before .before
 
 -- the three tests of a turn are the place's
 turned : (c : tie.After-key-again Inv-loop μ-loop)
-    → tests (from c .args .used) (from c .args .table .now) (at-loop c .loop .at) (keyOf (from c .args .own .now)) (at-loop c .loop .low)
+    → tests (from c .args .used) (from c .args .table .now) (at-loop c .loop .at) recordForm (keyOf (from c .args .own .now)) (at-loop c .loop .low)
     ≡ (c .before .place-formed .result && leb (at-loop c .loop .low) (c .before .before .before .read-u32-le .result) && not (c .key-again .result))
 turned c =
     let a = c .before .before .before .before .before .before .before .before .args in
     let l = c .before .before .before .before .before .loop in
     let id = c .before .before .before .read-u32-le .ensures in
-    tests-are (a .used) (a .table .now) (l .at) (keyOf (a .own .now)) (l .low) (c .before .place-formed .ensures) id (c .key-again .ensures)
+    tests-are (a .used) (a .table .now) (l .at) recordForm (keyOf (a .own .now)) (l .low) (c .before .place-formed .ensures) id (c .key-again .ensures)
 
 loop-holds : tie.Need-loop-holds Inv-loop μ-loop
 loop-holds c = (omega arith, omega arith, refl)
@@ -74,7 +74,7 @@ returns c =
     let at-loop = c .before .before .before .before .before .before in
     let a = at-loop .before .before .before .args in
     let l = at-loop .loop in
-    sym (l .inv .2 ∙ form-not (a .used) (a .table .now) (l .at) (keyOf (a .own .now)) (l .low) (omega arith)
+    sym (l .inv .2 ∙ form-not (a .used) (a .table .now) (l .at) recordForm (keyOf (a .own .now)) (l .low) (omega arith)
     (turned (c .before) ∙ not-true _ (c .if1 .taken)))
 
 add-low : tie.Need-add-low Inv-loop μ-loop
@@ -94,7 +94,7 @@ loop-again c =
     let id = id-at (140 * l .at) (a .table .now) ∙ sym (c .before .before .before .before .read-u32-le .ensures) in (
       omega arith,
       omega arith,
-      l .inv .2 ∙ form-on (a .used) (a .table .now) (l .at) own (l .low) (omega arith) (turned (c .before) ∙ not-false _ (c .if1 .left))
+      l .inv .2 ∙ form-on (a .used) (a .table .now) (l .at) recordForm own (l .low) (omega arith) (turned (c .before) ∙ not-false _ (c .if1 .left))
           ∙ ap (λ (n : ℕ). placesForm own (n + 1) (drop (l .at + 1) (rows 140 (a .used) (a .table .now)))) id,
     )
 
@@ -102,7 +102,7 @@ returns-2 : tie.Need-returns-2 Inv-loop μ-loop
 returns-2 c =
     let a = c .before .before .before .before .args in
     let l = c .before .loop in
-    sym (l .inv .2 ∙ form-end (a .used) (a .table .now) (l .at) (keyOf (a .own .now)) (l .low) (omega arith))
+    sym (l .inv .2 ∙ form-end (a .used) (a .table .now) (l .at) recordForm (keyOf (a .own .now)) (l .low) (omega arith))
 
 pub places-formed-spec : {M : Type 1} → statement M
 places-formed-spec =

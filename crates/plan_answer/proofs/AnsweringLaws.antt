@@ -13,7 +13,7 @@ use Rattle.octet.specs.Part.{part}
 use Rattle.octet.proofs.TestLaws.{both-true}
 use Rattle.key.specs.Number.{keyAt}
 use Rattle.record.specs.Record.{countOf, recordForm}
-use Rattle.record.proofs.EntryLaws.{few-addresses}
+use Rattle.record.proofs.EntryLaws.{one-address}
 use Rattle.own.specs.Own.{ownKeys, ownRecords}
 use Rattle.refusal.specs.Table.{when, orRefuse, Refusal, firstOf}
 use Rattle.refusal.proofs.CallLaws.{or-known, row-passes, no-row}
@@ -117,7 +117,7 @@ module _ (own : List ℕ) (recs ps : List (List ℕ)) (held used id room : ℕ) 
       pub lookup-any : {k : ℕ} → 144 + inquireRoom opens ≤ room → recordForm own ≡ true → HeldRecords k recs
           → lookupPlan own recs ps held used id room d acked target path size start len ≡ Show held used acked target path size opens start len
       lookup-any {k} r e f =
-          let n = few-addresses nearest (closest-formed (keyAt target d) k own (offPath (part path size d) recs) e (off-held (part path size d) k recs f)) in
+          let n = one-address nearest (closest-formed (keyAt target d) k own (offPath (part path size d) recs) e (off-held (part path size d) k recs f)) in
           lookup-by refl
           ∙ row-passes Refuse 15 _ [] lookup-done (le-ltb room (80 + 16 * countOf nearest + inquireRoom opens) (omega (arith, n, r)))
           ∙ no-row Refuse lookup-done

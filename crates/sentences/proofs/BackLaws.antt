@@ -16,7 +16,7 @@ use Rattle.octet.specs.Part.{part}
 use Rattle.octet.proofs.PartLaws.{length-part, part-digits}
 use Rattle.octet.proofs.BytesLaws.{bytes-nil, bytes-cons, bytes-append, bytes-zeros}
 use Rattle.record.specs.Record.{keyOf, countOf, recordForm}
-use Rattle.record.specs.Entry.{entryCount, recordOf}
+use Rattle.record.specs.Entry.{recordOf}
 use Rattle.record.proofs.EntryLaws.{form-length, record-form}
 use Rattle.record.proofs.PlaceLaws.{record-at}
 use Rattle.table.specs.Rows.{rows}
@@ -67,15 +67,14 @@ held-formed k cache r f m = each-of (λ (q : List ℕ). recordForm q ≡ true) r
 record-bytes : (v : List ℕ) → Bytes v → Bytes (recordOf v)
 unfolding recordOf
 record-bytes v b =
-    let c = entryCount v in
-    let two : List ℕ = c ∷ 0 ∷ [] in
-    bytes-append (part 0 32 v ++ part 34 2 v ++ two ++ part 38 (16 * c) v) (replicate (64 - 16 * c) 0)
-    (bytes-append (part 0 32 v ++ part 34 2 v ++ two) (part 38 (16 * c) v)
+    let two : List ℕ = 1 ∷ 0 ∷ [] in
+    bytes-append (part 0 32 v ++ part 34 2 v ++ two ++ part 38 16 v) (replicate 48 0)
+    (bytes-append (part 0 32 v ++ part 34 2 v ++ two) (part 38 16 v)
     (bytes-append (part 0 32 v ++ part 34 2 v) two
     (bytes-append (part 0 32 v) (part 34 2 v) (part-digits 256 0 32 v (omega arith) b) (part-digits 256 34 2 v (omega arith) b))
-    (bytes-cons c (0 ∷ []) (b 37) (bytes-cons 0 [] (omega arith) bytes-nil)))
-    (part-digits 256 38 (16 * c) v (omega arith) b))
-    (bytes-zeros (64 - 16 * c))
+    (bytes-cons 1 (0 ∷ []) (omega arith) (bytes-cons 0 [] (omega arith) bytes-nil)))
+    (part-digits 256 38 16 v (omega arith) b))
+    (bytes-zeros 48)
 
 -- ---- each message
 

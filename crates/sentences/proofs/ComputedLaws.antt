@@ -17,7 +17,7 @@ use Rattle.path.specs.Path.{standsIn, onPath}
 use Rattle.neighbours.specs.Closest.{offPath, closestFrom, closestOf}
 use Rattle.neighbours.specs.Calls.{listCall}
 use Rattle.waiting.specs.Place.{newPlace}
-use Rattle.waiting.specs.Form.{placeForm, placesForm, usedIn, usedOf, waitingForm}
+use Rattle.waiting.specs.Form.{placeBy, placesBy, usedIn, usedOf, waitingForm}
 use Rattle.table.specs.Seek.{seek}
 use Rattle.waiting.specs.Open.{opened, freed}
 use Rattle.waiting.specs.Tick.{idBytes}
@@ -45,7 +45,7 @@ unfolding valueBE valueLE digitsBE digitsLE splice same allZero distance ring ha
     orRefuse recordForm entryForm recordOf entryOf
     put without among inOrder lastOr farthestOut trimmed learnWith happen after putBy withoutBy learnBy rows joined bytesOf
     follows leading heldIn heldOf cacheForm keyBytes standsIn onPath offPath closestFrom closestOf listCall
-    newPlace placeForm anyOf placesForm usedIn usedOf waitingForm seek opened freed ticked listed idBytes tickDone
+    newPlace placeBy anyOf placesBy usedIn usedOf waitingForm seek opened freed ticked listed idBytes tickDone
     arrayForm lookupForm splitForm hasShape kinds.kindsOf kinds.joinedFields kinds.sized spanAt needAt maybeAt placesAt fieldsAs wholeIn inPart foundIn
     flagAt headOf precisionAt incomingOf ackMade floodMade inquireMade cpaMade closestMade
     tablesFit memoryOf handsFit tickFit mustAsk asksFor floodPlan revokePlan authorityPlan lookupPlan planFor receivePlan carried receiveCall gaugeTick gaugeList

@@ -44,7 +44,7 @@ use Rattle.gauge_plan.specs.Own.{notOurs}
 use Rattle.gauge_plan.specs.Found.{isNothing, placeOf}
 use Rattle.gauge_commit.proofs.LengthLaws.{cpa-length, closest-length}
 use Rattle.gauge_commit.proofs.SentLaws.{joined-one}
-use Rattle.record.proofs.EntryLaws.{form-length, few-addresses}
+use Rattle.record.proofs.EntryLaws.{form-length, one-address}
 use Rattle.gauge_plan.specs.Lent.{Memory, Receive, ReceiveLent}
 use Rattle.gauge_laws.proofs.FirstLaws.{whole-record}
 use Rattle.sentences.specs.Heard.{Heard, inquire, authority, ack, lookup, other, entryIn}
@@ -238,7 +238,7 @@ module _ (m : Memory) (l : Receive) (n : ℕ) (low : First m l n) where
         to (inr w) =
             let g = good m l n low (sooner 1 15 (unfold placeIn in refl) (w .0)) in
             inr (inr (inl (short-from m l lx cds n _ (g .cache) lookup-reply (lookup-room g)
-            (omega (arith, few-addresses cr (lookup-formed g), inquire-most lo)) w)))
+            (omega (arith, one-address cr (lookup-formed g), inquire-most lo)) w)))
 
         from : Row n lrows → Said m l lx n
         from (inl w) =

@@ -13,7 +13,7 @@ use Rattle.key.specs.Number.{keyAt}
 use Rattle.refusal.specs.Table.{placeIn, Before}
 use Rattle.refusal.proofs.TableLaws.{both, sooner}
 use Rattle.record.specs.Record.{keyOf, recordForm}
-use Rattle.record.proofs.EntryLaws.{form-length, few-addresses}
+use Rattle.record.proofs.EntryLaws.{form-length, one-address}
 use Rattle.table.specs.Rows.{joined}
 use Rattle.table.proofs.RowLaws.{rows-length}
 use Rattle.kept.specs.Keys.{_∈_, Every}
@@ -216,7 +216,7 @@ module _ (m : Memory) (l : Send) where
         let g = good (sooner 1 15 (unfold placeIn in refl) e) in
         let bar = barred (sooner 12 15 (unfold placeIn in refl) e) in
         let full = room g bar in
-        let few = few-addresses r (formed-by g bar r (is-named g bar)) in
+        let few = one-address r (formed-by g bar r (is-named g bar)) in
         let want = no-room-by (l .output) (S.flooding l r) (omega arith)
         (subst (λ (y : List ℕ). Num.NoRoom (l .output) (S.flooding l y)) (named-one m l (g .cache) q r w (is-named g bar)) h) in
         inr (inr (inr (inr (inr (inr (inl (e, lt-ltb (length (l .output)) (floodRoom r) (omega (arith, room g bar)))))))))

@@ -4,3 +4,4 @@ pub mod Counts
 pub mod Send
 pub mod Nearest
 pub mod Ours
+pub mod Converting

@@ -6,6 +6,7 @@ ghost use Rattle.gauge_plan.specs.Lent.{Memory, memory, withCache, withWaiting,
 ghost use Rattle.gauge_commit.specs.Sending.{handed};
 ghost use Rattle.gauge.specs.Ours.{ours};
 ghost use Rattle.gauge.specs.Nearest.{gaugeClosest};
+ghost use Rattle.gauge.specs.Converting.{conversion, conversionOf};
 use gauge_plan::Plan;
 use neighbours::Nearest;
 use plan_send::SendPlan;
@@ -229,4 +230,17 @@ pub extern "C" fn gauge_look(major: u8, datagram: &[u8]) -> look::Look
     ensures { λ r. ⌜ r ≡ lookOf (readIn (now (datagram .entry)) major) ⌝ }
 {
     look::look_at(major, datagram)
+}
+
+// Memory of the time when a record could have four addresses, turned into the form of today: each record keeps its first.
+#[no_mangle]
+pub extern "C" fn gauge_convert(
+    own: &[u8],
+    cache: &mut [u8],
+    waiting: &mut [u8],
+) -> gauge_commit::Answer
+    ensures { λ r. ⌜ conversion r (now (cache .exit)) (now (waiting .exit))
+        ≡ conversionOf (now (own .entry)) (now (cache .entry)) (now (waiting .entry)) ⌝ }
+{
+    gauge_commit::answer_of(convert::convert(own, cache, waiting), 0, 0)
 }

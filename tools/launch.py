@@ -1,15 +1,16 @@
-"""Runs a program of the house as a keeper does: bin/replay, bin/shown and bin/ponds all come here.
+"""Runs a program of the house as a keeper does: bin/replay, bin/shown, bin/ponds and bin/convert all come here.
 
     launch NAME [WORDS..]
 
 The program is proved and built first where what it is made of has changed (tools/prove tells how far that is). Its input and output go through this
 launcher, which so sees what can't be read or written, and gives a status, as a program itself has none:
 
-    0  a whole night; readings that were all taken
-    1  a night that is damaged, cut short, or refused from its first call on; a reading that was refused
+    0  a whole night; readings that were all taken; memory that was converted
+    1  a night that is damaged, cut short, or refused from its first call on; a reading that was refused; memory that is not in the old form
     2  a file that can't be read, an output that can't be written, a wrong use
 
-It goes by the lines that the program writes (WATCHERS) and by what comes on descriptor 2. Names are made ready here (tools/names.py).
+It goes by the lines that the program writes (WATCHERS) and by what comes on descriptor 2. Names are made ready here (tools/names.py). A conversion of
+saved memory changes files, which tools/conversion.py does.
 """
 import hashlib
 import os
@@ -22,6 +23,7 @@ import sys
 import threading
 
 sys.dont_write_bytecode = True
+import conversion
 import layers
 import names
 
@@ -62,8 +64,19 @@ READINGS   readings packed as in document 02's request 7 (docs/MEMORY.md), one b
 
 %s
 """ % (NAMES, STATUS % ("for readings that were all taken", "where one was refused or cut short")),
+    "convert": """bin/convert OWN CACHE [WAITING]
+
+Turns saved memory of the time when a record could have four addresses into the form of one (docs/MEMORY.md): each record keeps its first. A file is
+written over only when all is converted. Done twice it changes nothing more. A line tells how many records had more than one address.
+
+OWN       the own record, 100 bytes
+CACHE     the cache, 100 bytes for each place
+WAITING   the waiting table, 2,240 bytes; an empty one where it is left out
+
+%s
+""" % (STATUS % ("where all was converted", "for memory that is not in the old form, which stays as it is")),
 }
-MOST_WORDS = {"replay": 1, "shown": 2, "ponds": 2}
+MOST_WORDS = {"replay": 1, "shown": 2, "ponds": 2, "convert": 3}
 
 
 class Fault(Exception):
@@ -285,6 +298,26 @@ def put(piece):
         piece = piece[os.write(1, piece):]
 
 
+def converted(words):
+    """Files of saved memory, by tools/conversion.py."""
+    if len(words) < 2:
+        raise Fault("give the files of the own record and of the cache\n%s" % HELP["convert"].split("\n")[0])
+
+    def made():
+        os.chdir(ROOT)
+        build("conversion")
+
+    try:
+        status, said = conversion.convert(words, ROOT, made)
+    except conversion.Wrong as wrong:
+        raise Fault(wrong)
+    if status:
+        sys.stderr.write("convert: %s\n" % said)
+    else:
+        put((said + "\n").encode())
+    return status
+
+
 def main(name, words):
     readable = set_up()
     if name not in HELP:
@@ -298,6 +331,8 @@ def main(name, words):
         raise Fault("%s is no option\n%s" % (words[0], HELP[name].split("\n")[0]))
     if len(words) > MOST_WORDS[name]:
         raise Fault("too many words\n%s" % HELP[name].split("\n")[0])
+    if name == "convert":
+        return converted(words)
     source = input_of(name, words, readable)
     text = None
     if len(words) > 1:

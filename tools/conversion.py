@@ -74,7 +74,7 @@ def convert(paths, root, build):
     waiting = read(paths[2], WAITING, "waiting table") if len(paths) > 2 else bytes(WAITING)
     if len({os.path.realpath(path) for path in paths}) < len(paths):
         raise Wrong("one file is given twice")
-    places = [os.path.abspath(path) for path in paths]
+    places = [os.path.realpath(path) for path in paths]
     build()
     left, said = run(root, own + waiting + cache)
     if not left:

@@ -459,8 +459,13 @@ def message(kind, major, minor, identity, **named):
 # --- Lent memory: records --------------------------------------------------------------------------------------------------
 
 # 01: "A record is 100 bytes: key 32, port 2 (big-endian), address count 1 (1 to 4), one zero byte, four addresses of 16 bytes, the unused ones
-# zero." R1 to R4.
+# zero." 02, Wish 13: "Records, the own one too, keep the first only", with "the count 1 and the other addresses zero". R1 to R4.
 def record_form(r):
+    return len(r) == 100 and r[34] == 1 and r[35] == 0 and not any(r[52:])
+
+
+# The form that 01 gave a record before Wish 13, for the conversion alone.
+def old_record_form(r):
     return len(r) == 100 and 1 <= r[34] <= 4 and r[35] == 0 and not any(r[36 + 16 * r[34]:])
 
 
@@ -469,13 +474,19 @@ def key_of(r):
     return value(r[:32])
 
 
-# 01: "A route entry's own versions and flags are part of the message read, but not of the record."
+# 01: "A route entry's own versions and flags are part of the message read, but not of the record." 02, Wish 13, of two to four addresses: "the first
+# kept".
 def record_of(entry):
-    used = b"".join(entry["addresses"])
-    return entry["key"] + two(entry["port"]) + bytes([len(entry["addresses"]), 0]) + used + bytes(64 - len(used))
+    return entry["key"] + two(entry["port"]) + bytes([1, 0]) + entry["addresses"][0] + bytes(48)
 
 
-# 01: "versions, a route entry's too, are the given ones"; a flag that no rule names is clear.
+# 02, Wish 13: "the count 1 and the other addresses zero"; key, port and first address are those of the old record.
+def converted(r):
+    return r[:34] + bytes([1]) + r[35:52] + bytes(48)
+
+
+# 01: "versions, a route entry's too, are the given ones"; a flag that no rule names is clear. A record in form has one address; an old one may have
+# more, and they are all in the entry made of it.
 def entry_of(r, major, minor):
     return {"key": r[:32], "major": major, "minor": minor, "port": value(r[32:34]), "flags": 0,
             "addresses": [r[36 + 16 * i:52 + 16 * i] for i in range(r[34])]}
@@ -499,10 +510,10 @@ def rising(numbers):
 
 # 01: "The cache: C records, C from 10 to 256, length exactly 100 x C. Used records first, keys strictly increasing, none equal to the own key;
 # the rest all zero." C1 to C4. The records held, or None where the cache is out of form.
-def held(own, cache):
+def held(own, cache, in_form=record_form):
     if len(cache) % 100 != 0 or len(cache) < 1000 or len(cache) > 25600:
         return None
-    used = used_rows(cache, 100, record_form)
+    used = used_rows(cache, 100, in_form)
     if used is None:
         return None
     keys = [key_of(row) for row in used]
@@ -603,21 +614,21 @@ def place_bytes(p):
 
 
 # 01: "An inquiry's record is well formed and has the place's key .. A flood's record is all zero." W3, W5, W6.
-def place_form(s):
+def place_form(s, in_form):
     p = place_of(s)
     if p["tries"] > 2 or s[6] != 0 or s[7] != 0:
         return False
     if p["kind"] == 1:
         return not any(p["record"])
-    return p["kind"] == 2 and record_form(p["record"]) and key_of(p["record"]) == value(p["key"])
+    return p["kind"] == 2 and in_form(p["record"]) and key_of(p["record"]) == value(p["key"])
 
 
 # 01: "Used places first, IDs strictly increasing; free places all zero. .. no two inquiries have the same key, and none has the own key." W1,
 # W2, W4, W7, W8. The places used, or None where the table is out of form.
-def waits(own, waiting):
+def waits(own, waiting, in_form=record_form):
     if len(waiting) != 2240:
         return None
-    used = used_rows(waiting, 140, place_form)
+    used = used_rows(waiting, 140, lambda row: place_form(row, in_form))
     if used is None:
         return None
     places = [place_of(row) for row in used]
@@ -882,6 +893,17 @@ class Gauge:
         shown = closest(self.own, state.records, path, value(lent.target))
         return 0, 4 + state.records.index(shown) if shown in state.records else 0, 0, output
 
+    # 02, Wish 13: "A conversion turns an old cache and waiting table into the new form, the count 1 and the other addresses zero, keys and order the
+    # same .. Refusals: 1 .. to the conversion, not in the old." W13.1: the own record is lent for reading, in the old form too. A flood's record is
+    # all zero, and stays so. There is no output, and the one that is handed in stays.
+    def convert(self, output=b""):
+        records, places = held(self.own, self.cache, old_record_form), waits(self.own, self.waiting, old_record_form)
+        if not old_record_form(self.own) or records is None or places is None:
+            return 1, 0, 0, output
+        self.cache = cache_of([converted(r) for r in records], len(self.cache))
+        self.waiting = waiting_of([{**p, "record": converted(p["record"])} if p["kind"] == 2 else p for p in places])
+        return 0, 0, 0, output
+
 
 # --- Looking ---------------------------------------------------------------------------------------------------------------
 
@@ -1021,10 +1043,8 @@ def check_path():
         assert answer == (0, {own: 0, a: 4, b: 5}[shown], 0, b"")
     for length, number in ((17, 1), (18, 0), (19, 1), (36, 0), (23 * 18, 0), (0, 0)):
         assert Gauge(own).closest(Lent(path=bytes(length))) == (number, 0, 0, b"")
-    # unused places for addresses are zero and no addresses; each of those used counts
-    assert not on_path(a, [point(5000, 0)]) and on_path(rec(99, 5000, 1, 0, 2), [point(5000, 0)])
-    for address in (1, 2, 3, 4):
-        assert on_path(rec(99, 5000, 1, 2, 3, 4), [point(7, 7), point(5000, address)])
+    # places without an address are zero and no addresses; one that is used and zero is
+    assert not on_path(a, [point(5000, 0)]) and on_path(rec(99, 5000, 0), [point(5000, 0)])
     # a LOOKUP with the last ID and a new entry; then the same entry held, waiting, our own, with sixteen places used
     def lookup(route):
         return write(message("lookup", 6, 101, 500, target=bytes(32), validate=bytes(32), route=entry_of(route, 6, 101), path=[point(7, 7)]))
@@ -1043,6 +1063,49 @@ def check_path():
         assert g.receive(Lent(20, datagram=lookup(route)), out)[:3] == answer
 
 
+def check_address():
+    """Document 02, Wish 13: what is kept of two to four addresses, and the conversion."""
+    def rec(n, *addresses, port=5000):
+        used = b"".join(bytes([a]) * 16 for a in addresses)
+        return n.to_bytes(32, "big") + two(port) + bytes([len(addresses), 0]) + used + bytes(64 - len(used))
+
+    def flood(r):
+        return write(message("flood", 6, 101, 500, validate=rec(100)[:32], route=entry_of(r, 6, 101)))
+
+    own, out = rec(100, 1), b"\xEE" * 200
+    # a FLOOD with four of a new key: ACK 20, INQUIRE 76; its AUTHORITY learns the first; then the same with that one is held, whatever else it has
+    four, authority = rec(70, 1, 2, 3, 4), write(message("authority", 6, 101, 9, acked=8, cpa=b"C"))
+    g = Gauge(own)
+    assert g.receive(Lent(7, datagram=flood(four)), out)[:3] == (0, 20, 76)
+    assert g.receive(Lent(7, verdict=1, key=four[:32], datagram=authority), out)[:3] == (0, 0, 0)
+    assert held(own, g.cache) == [rec(70, 1)]
+    for same in (rec(70, 1), four, rec(70, 1, 9), rec(70, 1, 1)):
+        assert g.receive(Lent(7, datagram=flood(same)), out)[:3] == (0, 20, 0)
+    for other in (rec(70, 2, 1), rec(70, 2), rec(70, 2, 1, 3, 4), rec(70, 1, port=5001)):
+        h = Gauge(own, g.cache)
+        assert h.receive(Lent(7, datagram=flood(other)), out)[:3] == (0, 20, 76)
+    # the LOOKUP's answer: 96 bytes, and at byte 77 the count
+    ask = write(message("lookup", 6, 101, 500, target=four[:32], validate=bytes(32), path=[bytes(18)]))
+    assert g.receive(Lent(7, datagram=ask), out)[:3] == (0, 96, 0) and g.receive(Lent(7, datagram=ask), out)[3][77] == 1
+    # a held record, one that waits, or our own with two: 1; to the conversion they are welcome
+    two_of = cache_of([rec(70, 1, 2)], 1000)
+    asked = waiting_of([place(5, 2, 1, rec(60)[:32], rec(60, 3, 2, 1)), place(6, 1, 0, rec(70)[:32])])
+    for bad in (Gauge(own, two_of), Gauge(own, waiting=asked), Gauge(rec(100, 1, 2))):
+        assert bad.receive(Lent(7, datagram=ask), out) == (1, 0, 0, out)
+        assert bad.convert() == (0, 0, 0, b"")
+    # three addresses become one, floods stay, twice changes nothing more
+    g = Gauge(rec(100, 1, 2), cache_of([rec(70, 1, 2, 3), rec(80, 9), rec(90, 4, 4, 4, 4)], 1000), asked)
+    assert g.convert() == (0, 0, 0, b"") and g.cache == cache_of([rec(70, 1), rec(80, 9), rec(90, 4)], 1000)
+    assert g.waiting == waiting_of([place(5, 2, 1, rec(60)[:32], rec(60, 3)), place(6, 1, 0, rec(70)[:32])])
+    once = g.memory()
+    assert g.convert() == (0, 0, 0, b"") and g.memory() == once
+    for bad in (Gauge(rec(100)), Gauge(rec(100, 1)[:99]), Gauge(rec(70, 1), two_of), Gauge(rec(60, 1), waiting=asked), Gauge(own, bytes(900)),
+                Gauge(own, cache_of([rec(80, 1, 2), rec(70, 1, 2)], 1000)), Gauge(own, cache_of([rec(70, 1, 2), rec(70, 1)], 1000)),
+                Gauge(own, cache_of([rec(70)], 1000)), Gauge(own, two_of[:99] + b"\1" + two_of[100:]), Gauge(own, waiting=b"")):
+        before = bad.memory()
+        assert bad.convert() == (1, 0, 0, b"") and bad.memory() == before
+
+
 def check_lengths():
     """docs/DECISIONS.md, "What the calls write"."""
     key, zero = b"K" * 32, bytes(32)
@@ -1052,7 +1115,7 @@ def check_lengths():
     for count in (1, 2, 3, 4):
         r = key + two(5000) + bytes([count, 0]) + b"A" * (16 * count) + bytes(64 - 16 * count)
         entry = entry_of(r, 6, 101)
-        assert record_form(r) and record_of(entry) == r
+        assert old_record_form(r) and record_form(r) == (count == 1) and record_of(entry) == converted(r)
         assert len(write(message("flood", 6, 101, 1, validate=zero, route=entry))) == 100 + 16 * count
         shown = write(message("authority", 6, 101, 1, acked=2, route=entry))
         assert len(shown) == 80 + 16 * count and value(shown[24:26]) == 52 + 16 * count
@@ -1127,6 +1190,7 @@ if __name__ == "__main__":
     check_cases()
     check_ring()
     check_path()
+    check_address()
     check_lengths()
     check_round_trips(8000)
-    print("model: cases 1 to 14, the ring, the path, lengths and 8000 round trips as the documents have them")
+    print("model: cases 1 to 14, the ring, the path, one address, lengths and 8000 round trips as the documents have them")

@@ -96,7 +96,8 @@ def cases():
             ("one byte left", first + tick + b"\2", ["1 0", "2 16"]),
             ("length 1", first + b"\1\0\3", ["1 16"]),
             ("cut short in its body", first[:-1], ["0 16"]),
-            ("own record out of form", record(4, bytes([6, 101]) + bytes(100)) + tick + tick, ["1 1", "2 1"])]
+            ("own record out of form", record(4, bytes([6, 101]) + bytes(100)) + tick + tick, ["1 1", "2 1"]),
+            ("own record with two addresses (request 13)", record(4, bytes([6, 101]) + own[:34] + b"\2" + own[35:]) + tick + tick, ["1 1", "2 1"])]
 
 
 def check():

@@ -8,6 +8,7 @@
     tick ROOM
     list ROOM
     nearest PATH TARGET                              gauge_closest; PATH is endpoints as on the wire, port 2 and address 16
+    convert                                          gauge_convert; the own record may be of the time before request 13 too
     held                                             the keys held
     waits                                            the places used, as ID:kind:tries:key
     look MAJOR DATAGRAM                              the twelve numbers of gauge_look (D23)
@@ -15,10 +16,9 @@
     vector_calls.py                                  checks the numbers, lengths and bytes that the documents give
 
 ROOM is the length of the output, two bytes; it is filled with EE before each call. A call's answer is number, first and second; the bytes that
-it has put at the start of the output (first + second, for a tick 4 x first, for a list 32 x (first + second), for a nearest, which is lent no output,
-none), - for none; `same` or `changed`
-for the cache, then for the waiting table; `clean` where all of the output behind those bytes is still EE, else `dirty`. IDs are decimal, keys in
-hexadecimal without leading zeros.
+it has put at the start of the output (first + second, for a tick 4 x first, for a list 32 x (first + second), for a nearest and a convert, which are
+lent no output, none), - for none; `same` or `changed` for the cache, then for the waiting table; `clean` where all of the output behind
+those bytes is still EE, else `dirty`. IDs are decimal, keys in hexadecimal without leading zeros.
 
 A `want` is what the documents give: the number, or number, first and second, or the whole list; it is compared with the model's answer.
 `sends` are the datagrams, laid out by hand.
@@ -40,6 +40,7 @@ Where to find what (each is a function below, and a heading of crates/vectors/st
     the very same record, other versions; another port        floods, "the very same record", "the same key with another port"
     a LOOKUP whose route entry names us                       asked, "our own key is passed over"
     a LOOKUP's path, and its route entry inquired about       paths, asked (and vector_memory, on_the_path, outwards)
+    two to four addresses: the first kept; the conversion     addresses, converting (and vector_memory, cache_forms, waiting_forms)
     id + 1 is a waiting flood's ID; ID 4294967295 with D      identities
     a flood with the own key in the waiting table             memory, "in form"
     a second FLOOD for a waiting key                          floods, "an inquiry for the key is waiting"
@@ -52,10 +53,10 @@ if not __debug__:
 import with_models
 import model
 import vector_messages as laid
-from vector_memory import A, ANY, B, TOP, at, cache, flood as flood_place, inquiry, key, point, put, record, table
+from vector_memory import A, ANY, B, TOP, at, cache, flood as flood_place, inquiry, kept, key, point, put, record, some, table
 
 MAJOR, MINOR = 6, 101
-OWN, CPA, NONCE, ZERO = record(100, 2, 5100), bytes([1, 2, 3, 4, 5]), bytes(range(0xA0, 0xB0)), bytes(32)
+OWN, CPA, NONCE, ZERO = record(100, 1, 5100), bytes([1, 2, 3, 4, 5]), bytes(range(0xA0, 0xB0)), bytes(32)
 ROOM = 2464  # docs/MEMORY.md: always enough
 
 
@@ -152,7 +153,8 @@ def send_applies(g, lent, room):
 # The numbers that each can give, in their order. Each is given at least once, and with each neighbour at once.
 TABLES = {"datagram": (1, 2, 3, 4, 5, 6), "solicit": (6, 7), "advertise": (6, 7), "request": (6, 7), "flood": (6, 11, 13, 14, 15),
           "revocation": (6, 9, 11, 15), "inquire": (6, 12, 15), "authority": (6, 7, 8, 9, 10), "ack": (6, 8), "lookup": (6, 13, 14, 15),
-          "send": (1, 12, 13, 14, 15), "tick": (1, 15), "list": (1, 15), "nearest": (1,), "look": (2, 3, 4, 5, 6), "look at authority": (6, 7)}
+          "send": (1, 12, 13, 14, 15), "tick": (1, 15), "list": (1, 15), "nearest": (1,), "convert": (1,), "look": (2, 3, 4, 5, 6),
+          "look at authority": (6, 7)}
 
 
 class Gauge:
@@ -217,6 +219,15 @@ class Gauge:
         return self.answer(lambda output: g.closest(lent, output), ("nearest", path, target), ("nearest",), {1} if bad else set(), 0,
                            lambda a, b: 0, want)
 
+    def convert(self, want):
+        g = self.now
+        records, places = model.held(g.own, g.cache, model.old_record_form), model.waits(g.own, g.waiting, model.old_record_form)
+        bad = not model.old_record_form(g.own) or records is None or places is None
+        now = g.memory() if bad else [cut(g.cache, 100, 0, 34), cut(g.waiting, 140, 40, 74)]
+        line = self.answer(g.convert, ("convert",), ("convert",), {1} if bad else set(), 0, lambda a, b: 0, want)
+        assert g.memory() == now
+        return line
+
     def look(self, datagram, want, major=MAJOR):
         """`want` is the number, or all twelve."""
         result = model.look(major, datagram)
@@ -241,6 +252,12 @@ class Gauge:
 
 
 FLOOD, INQUIRY = 1, 2
+
+
+# 02, request 13, byte by byte: in rows of a memory a record begins at `start` where its count at `count` is not zero.
+def cut(memory, width, start, count):
+    rows = [memory[at:at + width] for at in range(0, len(memory), width)]
+    return b"".join(put(row, start, kept(row[start:start + 100])) if row[count] else row for row in rows)
 
 
 # Datagrams that come in.
@@ -329,14 +346,14 @@ def story(g):
     yield g.receive(flood(seventy, 0xD8859CF5), (0, 20, 76), 7, sends=[ack_out(7, 0xD8859CF5, False), inquire_out(8, 70)])
     yield g.held([])
     yield g.waits([(8, INQUIRY, 2, 70)])
-    yield g.receive(lookup(71), (0, 112, 0), 9, sends=[shown_out(9, 0xA00, OWN)])
+    yield g.receive(lookup(71), (0, 96, 0), 9, sends=[shown_out(9, 0xA00, OWN)])
     yield g.receive(authority(8), (0, 0, 0), 10, verdict=1, named=key(70))
     yield g.held([70])
     yield g.waits([])
     yield g.list((0, 1, 0), sends=[key(70)])
     yield g.receive(lookup(71), (0, 96, 0), 11, sends=[shown_out(11, 0xA00, seventy)])
     yield g.receive(inquire(100), (0, 45, 0), 12, sends=[cpa_out(12, 0x900, CPA)])
-    yield g.send(key(70), key(100), (0, 132, 0), 13, sends=[flood_out(13, 70, OWN)])
+    yield g.send(key(70), key(100), (0, 116, 0), 13, sends=[flood_out(13, 70, OWN)])
     yield g.waits([(13, FLOOD, 2, 70)])
     yield g.tick((0, 1, 0), sends=[bytes.fromhex("0D000000")])
     yield g.waits([(13, FLOOD, 1, 70)])
@@ -347,7 +364,7 @@ def story(g):
     yield g.receive(authority(21), (0, 0, 0), verdict=1, named=key(130))
     yield g.list((0, 1, 1), sends=[key(70), key(130)])
     yield g.send(key(130), key(70), (0, 116, 0), 30, sends=[flood_out(30, 130, seventy)])
-    yield g.send(key(70), key(130), (0, 148, 0), 31, sends=[flood_out(31, 70, record(130, 3))])
+    yield g.send(key(70), key(130), (0, 116, 0), 31, sends=[flood_out(31, 70, record(130))])
     yield g.receive(ack(30, True), (0, 0, 0))
     yield g.held([70])
     yield g.waits([(31, FLOOD, 2, 70)])
@@ -394,26 +411,26 @@ def floods(g):
         yield g.receive(flood(r), (0, 20, 76), verdict=verdict, named=key(100))
     yield "# the very same record is held: no inquiry, whatever the versions and flags of the route entry"
     yield g.start()
-    yield g.set_cache(cache([r]))
+    yield g.set_cache(cache([kept(r)]))
     yield g.receive(flood(r), (0, 20, 0), sends=[ack_out(7, 0x500, False)])
     yield g.receive(flood(r, versions=(9, 9), flags=0xFF), (0, 20, 0), sends=[ack_out(7, 0x500, False)])
     yield g.receive(flood(r, validate=1), (0, 26, 0), sends=[ack_out(7, 0x500, True)])
     yield g.receive(flood(r, d=True), (0, 0, 0), room=0)
     yield g.waits([])
     yield g.held([70])
-    yield "# the same key with another port, another address, another count: an inquiry, and the old record is held until it is answered"
-    for other in (record(70, 4, 5001), record(70, 4, 5000, 0x22), record(70, 3), put(r, 99, b"\xFF"), put(r, 36, r[52:68] + r[36:52])):
+    yield "# the same key with another port, another address: an inquiry, and the old record is held until it is answered"
+    for other in (record(70, 4, 5001), record(70, 4, 5000, 0x22), record(70, 1, 5001), put(record(70), 51, b"\xFF"), put(r, 36, r[52:68] + r[36:52])):
         yield g.start()
-        yield g.set_cache(cache([r]))
+        yield g.set_cache(cache([kept(r)]))
         yield g.receive(flood(other), (0, 20, 76), sends=[ack_out(7, 0x500, False), inquire_out(8, 70)])
-        yield g.receive(lookup(70), (0, 144, 0), sends=[shown_out(7, 0xA00, r)])
+        yield g.receive(lookup(70), (0, 96, 0), sends=[shown_out(7, 0xA00, kept(r))])
         yield g.receive(authority(8), (0, 0, 0), verdict=1, named=key(70))
-        yield g.receive(lookup(70), (0, 80 + 16 * other[34], 0), sends=[shown_out(7, 0xA00, other)])
+        yield g.receive(lookup(70), (0, 96, 0), sends=[shown_out(7, 0xA00, kept(other))])
     yield "# the record learned is the FLOOD's; versions and flags of its route entry are forgotten"
     yield g.start()
     yield g.receive(flood(record(70, 2, 1), versions=(9, 8), flags=0xFF), (0, 20, 76))
     yield g.receive(authority(8), (0, 0, 0), verdict=1, named=key(70))
-    yield g.receive(lookup(70), (0, 112, 0), sends=[shown_out(7, 0xA00, record(70, 2, 1))])
+    yield g.receive(lookup(70), (0, 96, 0), sends=[shown_out(7, 0xA00, record(70, 1, 1))])
     yield "# an inquiry for the key is waiting: no second one, and its tries and record stay"
     yield g.start()
     yield g.receive(flood(record(70, 1, 1)), (0, 20, 76))
@@ -462,7 +479,7 @@ def identities(g):
     yield g.set_cache(cache([70]))
     yield g.receive(flood(record(71), 0), (0, 20, 76), 0, sends=[ack_out(0, 0, False), inquire_out(1, 71)])
     yield g.receive(inquire(100, 0), (0, 45, 0), 0, sends=[cpa_out(0, 0, CPA)])
-    yield g.send(key(70), key(100), (0, 132, 0), 0, sends=[flood_out(0, 70, OWN)])
+    yield g.send(key(70), key(100), (0, 116, 0), 0, sends=[flood_out(0, 70, OWN)])
     yield g.waits([(0, FLOOD, 2, 70), (1, INQUIRY, 2, 71)])
     yield g.receive(ack(0), (0, 0, 0))
     yield g.waits([(1, INQUIRY, 2, 71)])
@@ -470,7 +487,7 @@ def identities(g):
     yield g.start()
     yield g.set_cache(cache([70]))
     for identity in (256, 1, 65536, 255, 2 ** 31, 2 ** 24):
-        yield g.send(key(70), key(70), (0, 148, 0), identity)
+        yield g.send(key(70), key(70), (0, 116, 0), identity)
     yield g.receive(flood(record(71)), (0, 20, 76), 299)
     yield g.waits([(i, 2 if i == 300 else 1, 2, 71 if i == 300 else 70) for i in (1, 255, 256, 300, 65536, 2 ** 24, 2 ** 31)])
     yield g.tick((0, 7, 0), sends=[i.to_bytes(4, "little") for i in (1, 255, 256, 300, 65536, 2 ** 24, 2 ** 31)])
@@ -591,10 +608,10 @@ def authorities(g):
     yield g.list((0, 5, 1), sends=[key(n) for n in (99, 98, 97, 96, 95, 101)])
     yield "# the records that moved are whole"
     for n in list(range(91, 100)) + [101]:
-        yield g.receive(lookup(n), 0, sends=[shown_out(7, 0xA00, record(n, 1 + n % 4, 4000 + n % 1000) if n != 101 else record(101))])
+        yield g.receive(lookup(n), 0, sends=[shown_out(7, 0xA00, some(n) if n != 101 else record(101))])
     yield g.receive(revocation(), (0, 20, 0), verdict=1, named=key(95))
     for n in (91, 94, 96, 99):
-        yield g.receive(lookup(n), 0, sends=[shown_out(7, 0xA00, record(n, 1 + n % 4, 4000 + n % 1000))])
+        yield g.receive(lookup(n), 0, sends=[shown_out(7, 0xA00, some(n))])
     yield "# and so are the records of places that moved"
     yield g.start()
     for identity, n in ((50, 74), (30, 72), (70, 76), (40, 73), (60, 75), (20, 71)):
@@ -604,20 +621,20 @@ def authorities(g):
     yield g.tick((0, 5, 0))
     for identity, n in ((50, 74), (20, 71), (70, 76), (30, 72), (60, 75)):
         yield g.receive(authority(identity), (0, 0, 0), verdict=1, named=key(n))
-        yield g.receive(lookup(n), 0, sends=[shown_out(7, 0xA00, record(n, 1 + n % 4, n))])
+        yield g.receive(lookup(n), 0, sends=[shown_out(7, 0xA00, record(n, 1, n))])
     yield g.held([71, 72, 74, 75, 76])
     yield "# case 5, and the same with a newcomer below, and with a held key"
     six = list(range(94, 100)) + list(range(101, 106))
     yield g.start(c=11)
     yield g.set_cache(cache(six, 11))
-    yield g.set_waiting(table([inquiry(2, 106, 2, 2), inquiry(3, 93), inquiry(4, 98, 1, 3)]))
+    yield g.set_waiting(table([inquiry(2, 106), inquiry(3, 93), inquiry(4, 98, 1)]))
     yield g.receive(authority(2), (0, 0, 0), verdict=1, named=key(106))
     yield g.held(six)
     yield g.receive(authority(3), (0, 0, 0), verdict=1, named=key(93))
     yield g.held(six)
     yield g.receive(authority(4), (0, 0, 0), verdict=1, named=key(98))
     yield g.held(six)
-    yield g.receive(lookup(98), (0, 128, 0), sends=[shown_out(7, 0xA00, record(98, 3))])
+    yield g.receive(lookup(98), (0, 96, 0), sends=[shown_out(7, 0xA00, record(98))])
     yield "# from an empty cache to one that is full and drops, keys coming in no order"
     yield g.start()
     kept = []
@@ -688,7 +705,7 @@ def acked(g):
     yield "# the key removed is the neighbour's, not that of the record sent"
     yield g.start()
     yield g.set_cache(cache([60, 70]))
-    yield g.send(key(60), key(70), (0, 148, 0), 9, sends=[flood_out(9, 60, record(70, 3, 4070))])
+    yield g.send(key(60), key(70), (0, 116, 0), 9, sends=[flood_out(9, 60, some(70))])
     yield g.receive(ack(9, True), (0, 0, 0))
     yield g.held([70])
 
@@ -710,21 +727,20 @@ def answered(g):
     yield g.set_cache(cache([70]))
     for n in (70, 71, 0, 101, 2 ** 255 + 100, 2 ** 32 + 100):
         yield g.receive(inquire(n), 12)
-    yield "# LOOKUP: the closest record, one to four addresses, in just enough room and in one byte less"
-    four = [record(10, 1, 1), record(20, 2, 2), record(30, 3, 3), record(40, 4, 4)]
+    yield "# LOOKUP: the closest record, in just enough room and in one byte less"
+    four = [record(10, 1, 1), record(20, 1, 2), record(30, 1, 3, 0), record(40, 1, 4, 0xF0)]
     yield g.start()
     yield g.set_cache(cache(four))
     for r in four:
-        room = 80 + 16 * r[34]
-        yield g.receive(lookup(model.key_of(r)), (0, room, 0), room=room, sends=[shown_out(7, 0xA00, r)])
-        yield g.receive(lookup(model.key_of(r)), 15, room=room - 1)
+        yield g.receive(lookup(model.key_of(r)), (0, 96, 0), room=96, sends=[shown_out(7, 0xA00, r)])
+        yield g.receive(lookup(model.key_of(r)), 15, room=95)
     yield "# ties go to the key below the target; the own record is a candidate; from the last key on it is not far to the first"
     for target, r in ((25, four[1]), (26, four[2]), (70, four[3]), (71, OWN), (100, OWN), (TOP, four[0]), (0, four[0])):
         yield g.receive(lookup(target), 0, sends=[shown_out(7, 0xA00, r)])
     yield "# criteria, precision, reason, A, validate key and credentials are not acted on"
     for fields in ({"criteria": 8, "precision": 1}, {"criteria": 1, "reason": 3}, {"a": True}, {"validate": 7},
                    {"credential": b"c", "signature": b"", "key_identifier": b"k"}):
-        yield g.receive(lookup(26, **fields), (0, 128, 0), sends=[shown_out(7, 0xA00, four[2])])
+        yield g.receive(lookup(26, **fields), (0, 96, 0), sends=[shown_out(7, 0xA00, four[2])])
     yield "# case 6 and 7 by a LOOKUP, and 9 as document 02 has it; then the ring's: the last key before 1, and before our own"
     for own, keys, target, want in ((50, [99, 101], 100, 99), (9, [1, 4294967296], 0, 1), (5, [0], TOP, 0), (7, [1, TOP], 0, TOP), (1, [TOP], 0, TOP),
                                     (TOP, [1], 0, TOP), (0, [2 ** 255], 2 ** 255 - 1, 2 ** 255), (2 ** 255, [2 ** 255 - 1], 0, 2 ** 255 - 1)):
@@ -735,37 +751,37 @@ def answered(g):
 
 def paths(g):
     yield "# LOOKUP's path, and gauge_closest with the same: own 50, held 99 (port 5000, address A) and 101, target 100"
-    near, far, own = at(99, 5000, A), at(101, 6000, B, A), record(50)
+    near, far, own = at(99, 5000, A), at(101, 6000, B), record(50)
     shown = {0: own, 4: near, 5: far}
 
     def both(path, which, target=100):
         """By a LOOKUP, which has a path of one to 22, and by the call."""
         r = shown[which]
         if 1 <= len(path) <= 22:
-            yield g.receive(lookup(target, path=path), (0, 80 + 16 * r[34], 0), sends=[shown_out(7, 0xA00, r)])
+            yield g.receive(lookup(target, path=path), (0, 96, 0), sends=[shown_out(7, 0xA00, r)])
         yield g.nearest(b"".join(path), key(target), (0, which, 0))
 
     yield g.start(own)
     yield g.set_cache(cache([near, far]))
     for path, which in (([], 4), ([point(5000, A)], 5), ([point(5001, A)], 4), ([point(5000, B), point(5001, A)], 4), ([point(6000, A)], 4),
-                        ([point(5000, A), point(6000, B)], 0), ([point(5000, A), point(6000, A)], 0), ([point(6000, A), point(5000, A)], 0),
+                        ([point(5000, A), point(6000, B)], 0), ([point(5000, A), point(6000, A)], 5), ([point(6000, B), point(5000, A)], 0),
                         ([point(5000, A), point(6001, A), point(5000, B)], 5), ([point(5000, A)] * 22, 5),
                         ([point(7, ANY)] * 21 + [point(5000, A)], 5), ([point(7, ANY)] * 22 + [point(5000, A)], 5)):
         yield from both(path, which)
-    yield "# the room that it needs goes by the record that is left"
-    yield g.receive(lookup(100, path=[point(5000, A)]), 15, room=111)
-    yield g.receive(lookup(100, path=[point(5000, A)]), (0, 112, 0), room=112)
-    yield g.receive(lookup(100, path=[point(5000, A), point(6000, B)]), (0, 96, 0), room=96)
+    yield "# the room that it needs is the same whichever record is left"
+    for path in ([point(7, ANY)], [point(5000, A)], [point(5000, A), point(6000, B)]):
+        yield g.receive(lookup(100, path=path), 15, room=95)
+        yield g.receive(lookup(100, path=path), (0, 96, 0), room=96)
     yield "# our own endpoint on the path does not matter; the sender's does"
     ours = point(model.value(own[32:34]), own[36:52])
-    for path, which in (([ours], 4), ([ours, point(5000, A)], 5), ([ours, point(5000, A), point(6000, A)], 0)):
+    for path, which in (([ours], 4), ([ours, point(5000, A)], 5), ([ours, point(5000, A), point(6000, B)], 0)):
         yield from both(path, which)
     yield from both([ours], 0, 50)
     yield "# two gauges that would send a LOOKUP to and fro: neither names the other, whose endpoint is on the path"
     for mine, other in ((near, far), (far, near)):
         yield g.start(mine)
         yield g.set_cache(cache([other]))
-        yield g.receive(lookup(model.key_of(other), path=[point(5000, A), point(6000, A)]), 0, sends=[shown_out(7, 0xA00, mine)])
+        yield g.receive(lookup(model.key_of(other), path=[point(5000, A), point(6000, B)]), 0, sends=[shown_out(7, 0xA00, mine)])
     yield "# all held on the path; none held; the farthest left"
     ten = [at(n, 5000, A) for n in range(90, 99)] + [at(99, 5001, A)]
     yield g.start(record(2 ** 255))
@@ -796,7 +812,7 @@ def paths(g):
     for bad in (bytes(900), bytes(25700), cache([far, near]), cache([near, near]), cache([own]), put(cache([near]), 999, b"\1"), b""):
         yield g.set_cache(bad)
         yield g.nearest(point(5000, A), key(100), 1)
-    for bad in (b"", own[:99], own + b"\0", put(own, 34, b"\0"), put(own, 35, b"\1")):
+    for bad in (b"", own[:99], own + b"\0", put(own, 34, b"\0"), put(own, 34, b"\2"), put(own, 35, b"\1"), record(50, 4)):
         yield g.start(bad)
         yield g.nearest(point(5000, A), key(100), 1)
 
@@ -808,41 +824,41 @@ def asked(g):
 
     yield "# a LOOKUP's route entry is inquired about: AUTHORITY, then INQUIRE; it is learned when its AUTHORITY comes, and no candidate before"
     yield g.start()
-    yield g.receive(lookup(70, route=entry(r)), (0, 112, 76), sends=[reply, inquire_out(8, 70)])
+    yield g.receive(lookup(70, route=entry(r)), (0, 96, 76), sends=[reply, inquire_out(8, 70)])
     yield g.held([])
     yield g.waits([(8, INQUIRY, 2, 70)])
-    yield g.receive(lookup(70), (0, 112, 0), 9, sends=[shown_out(9, 0xA00, OWN)])
+    yield g.receive(lookup(70), (0, 96, 0), 9, sends=[shown_out(9, 0xA00, OWN)])
     yield g.receive(authority(8), (0, 0, 0), verdict=1, named=key(70))
     yield g.held([70])
-    yield g.receive(lookup(70), (0, 144, 0), sends=[shown_out(7, 0xA00, r)])
-    yield "# the very same record is held: no more, whatever the versions and flags of the entry, and whether it is on the path or not"
-    for fields in ({}, {"path": [point(5000, r[36:52])]}, {"path": [point(5000, r[84:100])]}):
-        shown = r if not fields else OWN
-        yield g.receive(lookup(70, route=entry(r), **fields), (0, 80 + 16 * shown[34], 0), sends=[shown_out(7, 0xA00, shown)])
-        yield g.receive(lookup(70, route=entry(r, (9, 9), 0xFF), **fields), (0, 80 + 16 * shown[34], 0), sends=[shown_out(7, 0xA00, shown)])
+    yield g.receive(lookup(70), (0, 96, 0), sends=[shown_out(7, 0xA00, kept(r))])
+    yield "# the very same record is held: no more, whatever the versions, flags and other addresses of the entry, on the path or not"
+    for path, shown in (([bytes(range(18))], kept(r)), ([point(5000, r[36:52])], OWN), ([point(5000, r[52:68])], kept(r)),
+                        ([point(5000, r[84:100])], kept(r))):
+        for route in (entry(r), entry(r, (9, 9), 0xFF), entry(kept(r)), entry(record(70, 3)), entry(put(r, 99, b"\xFF"))):
+            yield g.receive(lookup(70, route=route, path=path), (0, 96, 0), sends=[shown_out(7, 0xA00, shown)])
     yield g.waits([])
-    yield "# the same key with another port, address, count: an inquiry, and the old record is shown until it is answered"
-    for other in (record(70, 4, 5001), record(70, 4, 5000, 0x22), record(70, 3), put(r, 99, b"\xFF")):
+    yield "# the same key with another port, another first address: an inquiry, and the old record is shown until it is answered"
+    for other in (record(70, 4, 5001), record(70, 4, 5000, 0x22), put(r, 36, r[52:68] + r[36:52]), put(record(70), 51, b"\xFF")):
         yield g.start()
-        yield g.set_cache(cache([r]))
-        yield g.receive(lookup(70, route=entry(other)), (0, 144, 76), sends=[shown_out(7, 0xA00, r), inquire_out(8, 70)])
-        yield g.receive(lookup(70), (0, 144, 0), sends=[shown_out(7, 0xA00, r)])
+        yield g.set_cache(cache([kept(r)]))
+        yield g.receive(lookup(70, route=entry(other)), (0, 96, 76), sends=[shown_out(7, 0xA00, kept(r)), inquire_out(8, 70)])
+        yield g.receive(lookup(70), (0, 96, 0), sends=[shown_out(7, 0xA00, kept(r))])
         yield g.receive(authority(8), (0, 0, 0), verdict=1, named=key(70))
-        yield g.receive(lookup(70), (0, 80 + 16 * other[34], 0), sends=[shown_out(7, 0xA00, other)])
+        yield g.receive(lookup(70), (0, 96, 0), sends=[shown_out(7, 0xA00, kept(other))])
     yield "# an inquiry for the key is waiting, from a FLOOD or a LOOKUP: no second one, and its tries and record stay; a waiting flood is none"
     yield g.start()
-    yield g.receive(lookup(60, route=entry(record(70, 1, 1))), (0, 112, 76))
+    yield g.receive(lookup(60, route=entry(record(70, 1, 1))), (0, 96, 76))
     yield g.tick((0, 1, 0))
-    yield g.receive(lookup(60, route=entry(record(70, 1, 2))), (0, 112, 0), 30, sends=[shown_out(30, 0xA00, OWN)])
+    yield g.receive(lookup(60, route=entry(record(70, 1, 2))), (0, 96, 0), 30, sends=[shown_out(30, 0xA00, OWN)])
     yield g.receive(flood(record(70, 1, 2)), (0, 20, 0), 30)
     yield g.waits([(8, INQUIRY, 1, 70)])
     yield g.receive(authority(8), (0, 0, 0), verdict=1, named=key(70))
     yield g.receive(lookup(70), (0, 96, 0), sends=[shown_out(7, 0xA00, record(70, 1, 1))])
     yield g.start()
     yield g.receive(flood(record(70, 1, 1)), (0, 20, 76))
-    yield g.receive(lookup(60, route=entry(record(70, 1, 2))), (0, 112, 0), 7)
+    yield g.receive(lookup(60, route=entry(record(70, 1, 2))), (0, 96, 0), 7)
     yield g.set_waiting(table([flood_place(3, 70)]))
-    yield g.receive(lookup(60, route=entry(record(70))), (0, 112, 76))
+    yield g.receive(lookup(60, route=entry(record(70))), (0, 96, 76))
     yield g.waits([(3, FLOOD, 2, 70), (8, INQUIRY, 2, 70)])
     yield "# our own key is passed over: no 11, no INQUIRE, no 13 and no 14, also with another port and other addresses"
     full = table([flood_place(i, 7) for i in range(16)])
@@ -850,14 +866,14 @@ def asked(g):
         for ours in (OWN, record(100, 4), record(100, 1, 9)):
             yield g.start()
             yield g.set_waiting(waiting)
-            yield g.receive(lookup(60, route=entry(ours)), (0, 112, 0), sends=[reply])
+            yield g.receive(lookup(60, route=entry(ours)), (0, 96, 0), sends=[reply])
     yield "# message IDs: 4294967295 is followed by 0; the reply's ID may wait, the INQUIRE's gives 13, of either kind"
     yield g.start()
     yield g.set_waiting(table([flood_place(1, 7), flood_place(last, 7)]))
-    yield g.receive(lookup(60, route=entry(r)), (0, 112, 76), last, sends=[shown_out(last, 0xA00, OWN), inquire_out(0, 70)])
+    yield g.receive(lookup(60, route=entry(r)), (0, 96, 76), last, sends=[shown_out(last, 0xA00, OWN), inquire_out(0, 70)])
     yield g.waits([(0, INQUIRY, 2, 70), (1, FLOOD, 2, 7), (last, FLOOD, 2, 7)])
     yield g.receive(lookup(60, route=entry(record(71))), 13, last)
-    yield g.receive(lookup(60, route=entry(r)), (0, 112, 0), last)
+    yield g.receive(lookup(60, route=entry(r)), (0, 96, 0), last)
     both = table([flood_place(8, 7), inquiry(20, 60)])
     for identity, want in ((7, 13), (19, 13), (8, 0), (20, 0), (9, 0)):
         yield g.start()
@@ -865,45 +881,197 @@ def asked(g):
         yield g.receive(lookup(50, route=entry(r)), want, identity)
     yield "# sixteen used: 14 for a new entry, and the reply is refused with it; 0 for one that is held or waiting, or for none; fifteen used: 0"
     yield g.start()
-    yield g.set_cache(cache([r]))
+    yield g.set_cache(cache([kept(r)]))
     yield g.set_waiting(table([flood_place(i, 7) for i in range(15)] + [inquiry(20, 60)]))
-    for route, want in ((record(71), 14), (record(70, 4, 1), 14), (r, (0, 144, 0)), (record(60, 2), (0, 144, 0)), (OWN, (0, 144, 0))):
+    for route, want in ((record(71), 14), (record(70, 4, 1), 14), (r, (0, 96, 0)), (record(60, 2), (0, 96, 0)), (OWN, (0, 96, 0))):
         yield g.receive(lookup(70, route=entry(route)), want, 30)
-    yield g.receive(lookup(70), (0, 144, 0), 30)
+    yield g.receive(lookup(70), (0, 96, 0), 30)
     yield g.receive(ack(3), (0, 0, 0))
-    yield g.receive(lookup(70, route=entry(record(71))), (0, 144, 76), 30, sends=[shown_out(30, 0xA00, r), inquire_out(31, 71)])
+    yield g.receive(lookup(70, route=entry(record(71))), (0, 96, 76), 30, sends=[shown_out(30, 0xA00, kept(r)), inquire_out(31, 71)])
     yield g.receive(lookup(70, route=entry(record(72))), 14, 32)
     yield "# room: for both together; one byte less, and enough for either alone; with 15 nothing has changed"
-    for shown in (record(70, 1), record(70, 2), record(70, 3), record(70, 4)):
+    shown = record(70)
+    for route in (record(71), record(71, 2), record(71, 4)):
         yield g.start()
         yield g.set_cache(cache([shown]))
-        need = 80 + 16 * shown[34]
-        for less in (need + 75, need, 76, 75, 0):
-            yield g.receive(lookup(70, route=entry(record(71))), 15, room=less)
-        yield g.receive(lookup(70, route=entry(record(71))), (0, need, 76), room=need + 76, sends=[shown_out(7, 0xA00, shown), inquire_out(8, 71)])
-        yield g.receive(lookup(70, route=entry(record(71))), (0, need, 0), room=need)
+        for less in (171, 96, 76, 75, 0):
+            yield g.receive(lookup(70, route=entry(route)), 15, room=less)
+        yield g.receive(lookup(70, route=entry(route)), (0, 96, 76), room=172, sends=[shown_out(7, 0xA00, shown), inquire_out(8, 71)])
+        yield g.receive(lookup(70, route=entry(route)), (0, 96, 0), room=96)
     yield "# two numbers: bytes left over and the ID waiting; the ID waiting and all used; all used and no room; the ID waiting and no room"
     yield g.start()
     yield g.set_waiting(both)
     yield g.receive(lookup(50, route=entry(r)) + b"\0", 6, 7)
     yield g.receive(lookup(50, route=entry(r)), 13, 7, room=0)
-    yield g.receive(lookup(50, route=entry(r)), 13, 7, room=187)
+    yield g.receive(lookup(50, route=entry(r)), 13, 7, room=171)
     yield g.set_waiting(full)
     yield g.receive(lookup(50, route=entry(r)), 13, 7)
     yield g.receive(lookup(50, route=entry(r)), 13, 7, room=0)
     yield g.receive(lookup(50, route=entry(r)), 14, 20, room=0)
-    yield g.receive(lookup(50, route=entry(r)), 14, 20, room=187)
+    yield g.receive(lookup(50, route=entry(r)), 14, 20, room=171)
     yield g.receive(lookup(50, route=entry(r)) + b"\0", 6, 20)
     yield "# the nonce and the versions of the INQUIRE are the given ones; the verdict is ignored; the longest LOOKUP"
     yield g.start(major=255, minor=0)
-    yield g.receive(lookup(60, route=entry(r), major=255), (0, 112, 76), sends=[shown_out(7, 0xA00, OWN, "FF00"), inquire_out(8, 70, "FF00")])
+    yield g.receive(lookup(60, route=entry(r), major=255), (0, 96, 76), sends=[shown_out(7, 0xA00, OWN, "FF00"), inquire_out(8, 70, "FF00")])
     for verdict in (0, 1, 257):
         yield g.start()
-        yield g.receive(lookup(60, route=entry(r)), (0, 112, 76), verdict=verdict, named=key(100), sends=[reply, inquire_out(8, 70)])
+        yield g.receive(lookup(60, route=entry(r)), (0, 96, 76), verdict=verdict, named=key(100), sends=[reply, inquire_out(8, 70)])
     yield g.start()
     longest = lookup(60, route=entry(r), path=[point(n, A) for n in range(22)], key_identifier=bytes(1232 - 616))
     assert len(longest) == 1232
-    yield g.receive(longest, (0, 112, 76), sends=[reply, inquire_out(8, 70)])
+    yield g.receive(longest, (0, 96, 76), sends=[reply, inquire_out(8, 70)])
+
+
+def addresses(g):
+    """Document 02, request 13: "A FLOOD or LOOKUP with two to four is still taken, and the first kept"."""
+    four = record(70, 4, 4070)
+    yield "# a FLOOD with four addresses of a new key: ACK and INQUIRE; its AUTHORITY learns the first; then the same with one: only the ACK"
+    yield g.start()
+    yield g.receive(flood(four), (0, 20, 76), sends=[ack_out(7, 0x500, False), inquire_out(8, 70)])
+    yield g.receive(authority(8), (0, 0, 0), verdict=1, named=key(70))
+    shown = bytes.fromhex("0010000C51066508" + "00000007" + "0018000800000A00" + "0098000800440000" + "0040000600000000" + "009A003A"
+                          + "00" * 31 + "46" + "0665" + "0FE6" + "00" + "01" + "2122232425262728292A2B2C2D2E2F30" + "0000")
+    assert len(shown) == 96 and shown[77] == 1
+    yield g.receive(lookup(70), (0, 96, 0), sends=[shown])
+    yield g.receive(flood(kept(four)), (0, 20, 0), sends=[ack_out(7, 0x500, False)])
+    yield "# the very same record speaks of what is kept: the same first address and port, and whatever else behind it"
+    for same in (four, record(70, 2, 4070), record(70, 3, 4070), put(four, 52, bytes(48)), put(four, 52, four[36:52]), put(four, 99, b"\xFF")):
+        yield g.receive(flood(same), (0, 20, 0), sends=[ack_out(7, 0x500, False)])
+        yield g.receive(flood(same, d=True), (0, 0, 0), room=0)
+        yield g.receive(lookup(60, route=entry(same)), (0, 96, 0), sends=[shown])
+    yield g.waits([])
+    yield "# the first address moved to another place, or another first before it: another record, and its first is kept"
+    for other in (put(four, 36, four[52:68] + four[36:52]), put(four, 36, four[84:100] + four[52:84] + four[36:52]), at(70, 4070, A, four[36:52]),
+                  at(70, 4070, ANY, four[36:52]), at(70, 4071, four[36:52], B)):
+        for asks, replies in ((flood(other), [ack_out(7, 0x500, False)]), (lookup(60, route=entry(other)), [shown])):
+            yield g.start()
+            yield g.set_cache(cache([kept(four)]))
+            yield g.receive(asks, (0, len(replies[0]), 76), sends=replies + [inquire_out(8, 70)])
+            yield g.receive(authority(8), (0, 0, 0), verdict=1, named=key(70))
+            yield g.receive(lookup(70), (0, 96, 0), sends=[shown_out(7, 0xA00, kept(other))])
+            yield g.receive(flood(other), (0, 20, 0))
+            yield g.receive(flood(four), (0, 20, 76))
+    yield "# one to four addresses, by a FLOOD and by a LOOKUP: learned with one, sent on with one"
+    for count in (1, 2, 3, 4):
+        r = record(80 + count, count, count)
+        for asks in (flood(r), lookup(60, route=entry(r))):
+            yield g.start()
+            yield g.receive(asks, 0)
+            yield g.waits([(8, INQUIRY, 2, 80 + count)])
+            yield g.receive(authority(8), (0, 0, 0), verdict=1, named=key(80 + count))
+            yield g.receive(lookup(80), (0, 96, 0), sends=[shown_out(7, 0xA00, kept(r))])
+            yield g.send(key(80 + count), key(80 + count), (0, 116, 0), sends=[flood_out(7, 80 + count, kept(r))])
+    yield "# a count of 0 or 5 stays 6; four of our own key stay 11, and in a LOOKUP they are passed over"
+    yield g.start()
+    for count in (0, 5):
+        yield g.receive(put(flood(four), 97, bytes([count])), 6)
+    yield g.receive(flood(record(100, 4)), 11)
+    yield g.receive(lookup(60, route=entry(record(100, 4))), (0, 96, 0))
+    yield "# a path: of a gauge that had four addresses the first alone is matched"
+    yield g.set_cache(cache([kept(four)]))
+    for i in range(4):
+        r = four if i else OWN
+        yield g.receive(lookup(70, path=[point(4070, four[36 + 16 * i:52 + 16 * i])]), (0, 96, 0), sends=[shown_out(7, 0xA00, kept(r))])
+        yield g.nearest(point(4070, four[36 + 16 * i:52 + 16 * i]), key(70), (0, 4 if i else 0, 0))
+    yield "# memory of the time before: 1, to every call that is lent it"
+    for own, held, waiting in ((OWN, [record(70, 2)], []), (OWN, [], [inquiry(3, 71, 2, 2)]), (record(100, 2), [], []), (record(100, 4), [], [])):
+        yield g.start(own)
+        yield g.set_cache(cache(held))
+        yield g.set_waiting(table(waiting))
+        yield g.receive(flood(record(60)), 1)
+        yield g.receive(lookup(60), 1)
+        yield g.send(key(70), key(100), 1)
+        yield g.tick(1 if waiting or own != OWN else (0, 0, 0))
+        yield g.list(1 if held or own != OWN else (0, 0, 0))
+        yield g.nearest(b"", key(60), 1 if held or own != OWN else (0, 0, 0))
+
+
+def converting(g):
+    """Document 02, request 13: "A conversion turns an old cache and waiting table into the new form"."""
+    three, one, four = record(70, 3, 4070), record(80, 1, 4080), record(110, 4, 4110)
+    old = cache([three, one, four])
+    waiting = table([flood_place(3, 70, 0), inquiry(5, 60, 1, 2), inquiry(9, 61, 2, 4), inquiry(11, 62, 0), flood_place(12, 100)])
+    places = [(3, FLOOD, 0, 70), (5, INQUIRY, 1, 60), (9, INQUIRY, 2, 61), (11, INQUIRY, 0, 62), (12, FLOOD, 2, 100)]
+
+    def lent(own, held, table_bytes):
+        yield g.start(own, len(held) // 100)
+        yield g.set_cache(held)
+        yield g.set_waiting(table_bytes)
+
+    yield "# an old cache and waiting table: 0, keys and order the same; then calls take them, and each record has its first address and its port"
+    yield from lent(OWN, old, waiting)
+    yield g.receive(lookup(70), 1)
+    yield g.convert((0, 0, 0))
+    yield g.held([70, 80, 110])
+    yield g.waits(places)
+    for r in (three, one, four):
+        yield g.receive(lookup(model.key_of(r)), (0, 96, 0), sends=[shown_out(7, 0xA00, kept(r))])
+    yield "# twice: nothing more changes"
+    yield g.convert((0, 0, 0))
+    yield "# an AUTHORITY that answers a converted inquiry learns the converted record; one for a flood is as ever"
+    for identity, r in ((9, record(61, 4)), (5, record(60, 2)), (11, record(62))):
+        yield g.receive(authority(identity), (0, 0, 0), verdict=1, named=r[:32])
+        yield g.receive(lookup(model.key_of(r)), (0, 96, 0), sends=[shown_out(7, 0xA00, kept(r))])
+        yield g.receive(flood(r), (0, 20, 0))
+    yield g.receive(ack(3, True), (0, 0, 0))
+    yield g.held([60, 61, 62, 80, 110])
+    yield g.tick((0, 1, 0), sends=[bytes.fromhex("0C000000")])
+    yield g.convert((0, 0, 0))
+    yield "# the own record may be an old one, and stays as lent: so the calls still give 1"
+    for own in (record(100, 2, 5100), record(100, 3, 5100), record(100, 4, 5100), OWN):
+        yield from lent(own, old, waiting)
+        yield g.convert((0, 0, 0))
+        yield g.convert((0, 0, 0))
+        yield g.receive(lookup(70), 1 if own != OWN else (0, 96, 0))
+    yield "# nothing to turn: empty memory, records of one address, floods alone; part of it: the cache alone, the waiting table alone"
+    for held, table_bytes in ((bytes(1000), bytes(2240)), (bytes(25600), bytes(2240)), (cache([60, 70]), table([inquiry(2, 90)])),
+                              (cache([60, 70]), table([flood_place(i, 100) for i in range(16)])), (old, table([inquiry(2, 90)])),
+                              (cache([60, 70]), waiting)):
+        yield from lent(OWN, held, table_bytes)
+        yield g.convert((0, 0, 0))
+        yield g.list(0)
+        yield g.tick(0)
+    yield "# full: 10 and 256 records, sixteen inquiries, each with other addresses"
+    for c in (10, 256):
+        sixteen = table([inquiry(n, 200 + n, n % 3, 1 + n % 4) for n in range(16)])
+        yield from lent(OWN, cache([record(1000 + n, 1 + n % 4, n) for n in range(c)], c), sixteen)
+        yield g.convert((0, 0, 0))
+        yield g.waits([(n, INQUIRY, n % 3, 200 + n) for n in range(16)])
+        for n in (0, 1, 2, 3, c - 2, c - 1):
+            yield g.receive(lookup(1000 + n), (0, 96, 0), sends=[shown_out(7, 0xA00, record(1000 + n, 1, n))])
+        yield g.convert((0, 0, 0))
+    yield "# used addresses may be zero, and stand twice: a count of two to four with zeros behind the first becomes 1 alone"
+    for r in (at(70, 1, ANY, ANY), at(70, 1, A, ANY, ANY), at(70, 1, A, A, A, A), at(70, 0, ANY, ANY, ANY, ANY), put(record(70), 34, b"\4")):
+        yield from lent(OWN, cache([r]), table([inquiry(2, 90)]))
+        yield g.convert((0, 0, 0))
+        yield g.receive(lookup(70), (0, 96, 0), sends=[shown_out(7, 0xA00, kept(r))])
+    yield "# 1: the own record not in the old form either"
+    for own in (b"", OWN[:99], OWN + b"\0", bytes(100), put(OWN, 34, b"\0"), put(OWN, 34, b"\5"), put(OWN, 35, b"\1"), put(OWN, 52, b"\1"),
+                put(record(100, 4), 34, b"\3"), put(record(100, 3), 99, b"\1")):
+        yield from lent(own, old, waiting)
+        yield g.convert(1)
+    yield "# 1: the cache; its length, order, equal keys, the own key, count, zero byte, an address that is not used, a free record that is not zero"
+    yield from lent(OWN, old, waiting)
+    for bad in (b"", bytes(900), old[:-1], old + b"\0", bytes(25700), cache([one, three]), cache([three, three]), cache([three, record(100, 2)]),
+                put(old, 34, b"\0"), put(old, 34, b"\5"), put(old, 134, b"\0"), put(old, 234, b"\xFF"), put(old, 35, b"\1"), put(old, 235, b"\1"),
+                put(old, 34, b"\2"), put(old, 99, b"\1"), put(old, 152, b"\1"), put(old, 234, b"\3"), put(old, 300, b"\1"), put(old, 999, b"\1"),
+                cache([three, bytes(100), four])):
+        yield g.set_cache(bad)
+        yield g.convert(1)
+    yield "# 1: the waiting table; its length, order, kind, tries, zero bytes, a flood with a record, an inquiry's record and keys, a free place"
+    yield g.set_cache(old)
+    for bad in (b"", waiting[:-1], waiting + b"\0", table([flood_place(5, 70), inquiry(5, 60, 1, 2)]),
+                table([inquiry(6, 60, 1, 2), flood_place(5, 70)]), table([inquiry(1, 60, 2, 2), inquiry(2, 60, 2, 3)]),
+                table([inquiry(1, 100, 2, 2)]), put(waiting, 4, b"\3"), put(waiting, 144, b"\0"), put(waiting, 145, b"\3"), put(waiting, 146, b"\1"),
+                put(waiting, 74, b"\1"), put(waiting, 139, b"\1"), put(waiting, 40, record(70, 2)), put(waiting, 214, b"\0"),
+                put(waiting, 214, b"\5"), put(waiting, 215, b"\1"), put(waiting, 214, b"\1"), put(waiting, 279, b"\1"), put(waiting, 179, b"\x3D"),
+                put(waiting, 180, b"\1"), put(waiting, 2239, b"\1"), table([bytes(140), inquiry(2, 60, 2, 2)])):
+        yield g.set_waiting(bad)
+        yield g.convert(1)
+    yield "# and as it was: 0"
+    yield g.set_waiting(waiting)
+    yield g.convert((0, 0, 0))
+    yield g.waits(places)
 
 
 def room(g):
@@ -930,13 +1098,13 @@ def room(g):
     yield g.receive(flood(record(70), d=True), (0, 0, 0), room=0)
     yield g.receive(revocation(d=True), (0, 0, 0), verdict=1, named=key(70), room=0)
     yield g.held([])
-    yield "# send: 116, 132, 148, 164 bytes"
-    for count in (1, 2, 3, 4):
+    yield "# send: 116 bytes"
+    for named in (key(70), key(100)):
         yield g.start()
-        yield g.set_cache(cache([record(70, count)]))
-        yield g.send(key(70), key(70), 15, room=99 + 16 * count)
-        yield g.send(key(70), key(70), 15, room=0)
-        yield g.send(key(70), key(70), (0, 100 + 16 * count, 0), room=100 + 16 * count, sends=[flood_out(7, 70, record(70, count))])
+        yield g.set_cache(cache([record(70)]))
+        yield g.send(key(70), named, 15, room=115)
+        yield g.send(key(70), named, 15, room=0)
+        yield g.send(key(70), named, (0, 116, 0), room=116, sends=[flood_out(7, 70, record(70) if named == key(70) else OWN)])
     yield "# tick and list ask for the same room however little there is to tell"
     yield g.start()
     for less in (63, 4, 0):
@@ -958,10 +1126,10 @@ def room(g):
 def sending(g):
     yield "# sending a FLOOD: our own record or a held one, to a held neighbour; the neighbour's own too"
     yield g.start()
-    yield g.set_cache(cache([record(70, 1), record(110, 4)]))
-    yield g.send(key(70), key(100), (0, 132, 0), 1, sends=[flood_out(1, 70, OWN)])
-    yield g.send(key(70), key(110), (0, 164, 0), 2, sends=[flood_out(2, 70, record(110, 4))])
-    yield g.send(key(110), key(110), (0, 164, 0), 3, sends=[flood_out(3, 110, record(110, 4))])
+    yield g.set_cache(cache([record(70, 1), record(110, 1, 9, 0)]))
+    yield g.send(key(70), key(100), (0, 116, 0), 1, sends=[flood_out(1, 70, OWN)])
+    yield g.send(key(70), key(110), (0, 116, 0), 2, sends=[flood_out(2, 70, record(110, 1, 9, 0))])
+    yield g.send(key(110), key(110), (0, 116, 0), 3, sends=[flood_out(3, 110, record(110, 1, 9, 0))])
     yield g.send(key(110), key(70), (0, 116, 0), 2 ** 32 - 1, sends=[flood_out(2 ** 32 - 1, 110, record(70, 1))])
     yield g.waits([(1, FLOOD, 2, 70), (2, FLOOD, 2, 70), (3, FLOOD, 2, 110), (2 ** 32 - 1, FLOOD, 2, 110)])
     yield g.held([70, 110])
@@ -976,7 +1144,7 @@ def sending(g):
     yield g.set_waiting(table([flood_place(1, 70), inquiry(2, 60)]))
     yield g.send(key(70), key(100), 13, 1)
     yield g.send(key(70), key(100), 13, 2)
-    yield g.send(key(70), key(100), (0, 132, 0), 3)
+    yield g.send(key(70), key(100), (0, 116, 0), 3)
     yield g.set_waiting(table([inquiry(i, 200 + i) for i in range(16)]))
     yield g.send(key(70), key(100), 14, 16)
     yield "# an inquiry's key is not held by that"
@@ -988,7 +1156,7 @@ def ticking(g):
     yield "# a place is listed at two ticks and gone at the third, whatever calls come between"
     yield g.start()
     yield g.set_cache(cache([70]))
-    yield g.send(key(70), key(100), (0, 132, 0), 1)
+    yield g.send(key(70), key(100), (0, 116, 0), 1)
     yield g.receive(flood(record(60)), (0, 20, 76), 1)
     yield g.tick((0, 2, 0), sends=[bytes.fromhex("0100000002000000")])
     yield g.receive(flood(record(60)), (0, 20, 0), 8)
@@ -1054,7 +1222,7 @@ def case14(g):
     yield "# case 14: sixteen places used, a FLOOD of a new key: 14; one freed by an ACK, the same FLOOD: 0"
     yield g.start()
     yield g.set_cache(cache([70]))
-    yield g.send(key(70), key(100), (0, 132, 0), 1000)
+    yield g.send(key(70), key(100), (0, 116, 0), 1000)
     for i in range(15):
         yield g.receive(flood(record(200 + i), d=True), (0, 76, 0), 2 * i)
     yield g.waits([(2 * i + 1, INQUIRY, 2, 200 + i) for i in range(15)] + [(1000, FLOOD, 2, 70)])
@@ -1088,8 +1256,8 @@ def memory(g):
         yield g.list(listed)
 
     yield "# 1: the own record"
-    for own in (b"", OWN[:99], OWN + b"\0", bytes(100), put(OWN, 34, b"\0"), put(OWN, 34, b"\5"), put(OWN, 35, b"\1"), put(OWN, 68, b"\1"),
-                put(OWN, 99, b"\1")):
+    for own in (b"", OWN[:99], OWN + b"\0", bytes(100), put(OWN, 34, b"\0"), put(OWN, 34, b"\5"), put(OWN, 35, b"\1"), put(OWN, 52, b"\1"),
+                put(OWN, 99, b"\1"), put(OWN, 34, b"\2"), record(100, 2), record(100, 3), record(100, 4)):
         yield g.start(own)
         yield from calls(1, 1, 1, 1)
     yield "# 1: the own CPA, lent to a receive alone"
@@ -1108,7 +1276,8 @@ def memory(g):
     yield g.start()
     filled = cache([70, 80])
     for bad in (filled[:-1], filled + b"\0", cache([80, 70]), cache([70, 70]), cache([70, 100]), put(filled, 134, b"\0"), put(filled, 35, b"\1"),
-                put(filled, 999, b"\1"), cache([70, bytes(100), 80])):
+                put(filled, 999, b"\1"), cache([70, bytes(100), 80]), put(filled, 34, b"\2"), put(filled, 152, b"\1"), cache([70, record(80, 2)]),
+                cache([record(70, 3), 80]), cache([record(70, 4), record(80, 4)])):
         yield g.set_cache(bad)
         yield from calls(1, 1, None, 1)
     yield g.tick(0)
@@ -1118,7 +1287,8 @@ def memory(g):
     two = table([flood_place(1, 70), inquiry(2, 90)])
     for bad in (two[:-1], two + b"\0", b"", table([flood_place(2, 70), inquiry(2, 90)]), table([flood_place(3, 70), inquiry(2, 90)]),
                 table([inquiry(1, 90), inquiry(2, 90)]), table([inquiry(1, 100)]), put(two, 4, b"\3"), put(two, 5, b"\3"), put(two, 147, b"\1"),
-                put(two, 139, b"\1"), put(two, 211, b"\x5B"), put(two, 2239, b"\1"), table([bytes(140), inquiry(2, 90)])):
+                put(two, 139, b"\1"), put(two, 211, b"\x5B"), put(two, 2239, b"\1"), table([bytes(140), inquiry(2, 90)]),
+                put(two, 214, b"\2"), put(two, 232, b"\1"), table([inquiry(1, 90, 2, 2)]), table([flood_place(1, 70), inquiry(2, 90, 1, 4)])):
         yield g.set_waiting(bad)
         yield g.receive(good, 1)
         yield g.send(key(70), key(100), 1, 9)
@@ -1236,9 +1406,9 @@ def refusals(g):
     yield g.send(key(70), key(100), 13, 20, room=0)
     yield g.send(key(70), key(100), 14, 30, room=0)
     yield g.set_waiting(start)
-    yield g.send(key(70), key(100), 13, 2, room=131)
-    yield g.send(key(70), key(100), 15, 3, room=131)
-    yield g.send(key(61), key(100), 12, 3, room=131)
+    yield g.send(key(70), key(100), 13, 2, room=115)
+    yield g.send(key(70), key(100), 15, 3, room=115)
+    yield g.send(key(61), key(100), 12, 3, room=115)
     yield g.set_waiting(bytes(2239))
     yield g.send(key(61), key(100), 1, 3)
     yield g.tick(1, room=63)
@@ -1260,7 +1430,7 @@ def refusals(g):
 
 def bytewise(g):
     yield "# what goes out, byte by byte: ACK with N clear and INQUIRE; ACK with N set; AUTHORITY for an INQUIRE and for a LOOKUP; FLOOD"
-    ours = "009A004A" + "00" * 31 + "64" + "0665" + "13EC" + "00" + "02" + "2122232425262728292A2B2C2D2E2F303132333435363738393A3B3C3D3E3F40" + "0000"
+    ours = "009A003A" + "00" * 31 + "64" + "0665" + "13EC" + "00" + "01" + "2122232425262728292A2B2C2D2E2F30" + "0000"
     ask = "0010000C51066507" + "00000008" + "0040000600100000" + "00390024" + "00" * 31 + "46" + "00930014" + "A0A1A2A3A4A5A6A7A8A9AAABACADAEAF"
     yield g.start()
     yield g.receive(flood(record(70)), (0, 20, 76), sends=[bytes.fromhex("0010000C51066509" + "00000007" + "0018000800000500"), bytes.fromhex(ask)])
@@ -1269,9 +1439,9 @@ def bytewise(g):
     before = "0010000C51066508" + "00000007"
     yield g.receive(inquire(100), (0, 45, 0), sends=[bytes.fromhex(before + "0018000800000900" + "0098000800110000" + "0040000600000000"
                                                                    + "009B0009" + "0102030405")])
-    yield g.receive(lookup(100), (0, 112, 0), sends=[bytes.fromhex(before + "0018000800000A00" + "0098000800540000" + "0040000600000000" + ours)])
+    yield g.receive(lookup(100), (0, 96, 0), sends=[bytes.fromhex(before + "0018000800000A00" + "0098000800440000" + "0040000600000000" + ours)])
     yield g.receive(authority(8), (0, 0, 0), verdict=1, named=key(70))
-    yield g.send(key(70), key(100), (0, 132, 0), sends=[bytes.fromhex("0010000C51066504" + "00000007" + "0043000700000000"
+    yield g.send(key(70), key(100), (0, 116, 0), sends=[bytes.fromhex("0010000C51066504" + "00000007" + "0043000700000000"
                                                                       + "00390024" + "00" * 31 + "46" + ours)])
 
 
@@ -1290,7 +1460,7 @@ def limits(g):
         yield g.start()
         yield g.set_waiting(asked)
         yield g.receive(flood(record(60, count)), (0, 20, 76))
-        yield g.receive(lookup(100, route=entry(record(60, count))), (0, 112, 0))
+        yield g.receive(lookup(100, route=entry(record(60, count))), (0, 96, 0))
         yield g.receive(authority(2, route=entry(record(60, count))), (0, 0, 0), verdict=1, named=key(70))
     yield g.start()
     yield g.set_waiting(asked)
@@ -1407,8 +1577,8 @@ def looking(g):
     yield g.look(ack_out(7, 5, True), (0, 9, 7, 5) + (0,) * 8)
     yield g.look(inquire_out(8, 70), (0, 7, 8, 0, 0, 0, 60, 16, 0, 0, 0, 0))
     yield g.look(cpa_out(7, 8, CPA), (0, 8, 7, 8, 40, 5, 0, 0, 0, 0, 0, 0))
-    yield g.look(shown_out(7, 8, OWN), (0, 8, 7, 8, 0, 0, 0, 0, 40, 70, 0, 0))
-    yield g.look(flood_out(7, 70, OWN), (0, 4, 7, 0, 0, 0, 0, 0, 60, 70, 0, 0))
+    yield g.look(shown_out(7, 8, OWN), (0, 8, 7, 8, 0, 0, 0, 0, 40, 54, 0, 0))
+    yield g.look(flood_out(7, 70, OWN), (0, 4, 7, 0, 0, 0, 0, 0, 60, 54, 0, 0))
     yield "# refusals 2 to 7, the rest 0; two neighbours at once"
     plain, whole = laid.ack(1).s, laid.authority(cpa=b"CPA").s
     for d, want in ((b"", 2), (plain[:11], 2), (plain + bytes(1207), 2), (bytes(12), 3), (put(plain, 4, b"\x50"), 3), (put(plain, 0, b"\x01"), 3),
@@ -1422,8 +1592,8 @@ def looking(g):
     yield g.look(put(plain, 5, b"\xFF"), 0, 255)
 
 
-SCENES = (story, floods, identities, revocations, authorities, across, acked, answered, paths, asked, room, sending, ticking, listing, case14, memory,
-          limits, malformed, refusals, pairs, bytewise, looking)
+SCENES = (story, floods, identities, revocations, authorities, across, acked, answered, paths, asked, addresses, converting, room, sending, ticking,
+          listing, case14, memory, limits, malformed, refusals, pairs, bytewise, looking)
 
 
 def vectors(g=None):
@@ -1437,14 +1607,14 @@ def check():
     assert ack_out(7, 0xD8859CF5, False) == bytes.fromhex("0010000C510665090000000700180008D8859CF5")  # case 10
     assert ack_out(7, 0xD8859CF5, True) == bytes.fromhex("0010000C510665090000000700180008D8859CF5004000060001")  # case 11
     assert len(inquire_out(1, 2)) == 76 and len(cpa_out(1, 2, b"C" * 1024)) == 1064
-    assert len(shown_out(1, 2, record(7, 4))) == 144 and len(flood_out(1, 2, record(7, 4))) == 164
+    assert len(shown_out(1, 2, record(7))) == 96 and len(flood_out(1, 2, record(7))) == 116
     g = Gauge()
     lines = [v for v in vectors(g) if not isinstance(v, str)]  # each `want` is compared on the way
     # Every number of every call is there, and no other.
     numbers = {name: {int(answer.split()[0]) for operands, answer in lines if operands[0] == name} for name in ("receive", "send", "tick", "list",
-                                                                                                              "nearest", "look")}
+                                                                                                              "nearest", "convert", "look")}
     assert numbers == {"receive": {0, *ORDER}, "send": {0, 1, 12, 13, 14, 15}, "tick": {0, 1, 15}, "list": {0, 1, 15},
-                     "nearest": {0, 1}, "look": {0, 2, 3, 4, 5, 6, 7}}, numbers
+                     "nearest": {0, 1}, "convert": {0, 1}, "look": {0, 2, 3, 4, 5, 6, 7}}, numbers
     # So are, for each kind of message, every number that it can be refused with, and every two neighbours at once.
     for kind, numbers in TABLES.items():
         for n in numbers:
@@ -1453,7 +1623,7 @@ def check():
             assert any(k == kind and number == a and b in applies for k, applies, number in g.seen), "no %s to which %d and %d apply" % (kind, a, b)
     # With a refusal nothing is told and nothing has changed.
     for operands, answer in lines:
-        if operands[0] in ("receive", "send", "tick", "list", "nearest") and not answer.startswith("0 "):
+        if operands[0] in ("receive", "send", "tick", "list", "nearest", "convert") and not answer.startswith("0 "):
             assert answer.split()[1:] == ["0", "0", "-", "same", "same", "clean"], (operands, answer)
     # What a call writes is read as a message, and written again it is the same.
     for operands, answer in lines:
@@ -1467,7 +1637,7 @@ def check():
 
 if __name__ == "__main__":
     lines = check()
-    names = ("gauge", "set-cache", "set-waiting", "receive", "send", "tick", "list", "nearest", "held", "waits", "look")
+    names = ("gauge", "set-cache", "set-waiting", "receive", "send", "tick", "list", "nearest", "convert", "held", "waits", "look")
     print("vector_calls: %d vectors, %s" % (len(lines), ", ".join("%d %s" % (sum(v[0][0] == name for v in lines), name) for name in names)))
     numbers = [int(answer.split()[0]) for operands, answer in lines if operands[0] == "receive"]
     print("answers of receive: " + ", ".join("%d %d times" % (n, numbers.count(n)) for n in (0, *ORDER)))

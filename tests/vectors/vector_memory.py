@@ -7,7 +7,8 @@
     remove-key OWN CACHE KEY     the same
     neighbours OWN CACHE         the number, and with 0 the counts below and above and the keys listed
     closest OWN CACHE PATH TARGET    the number, and with 0 the record; PATH is endpoints as on the wire, port 2 and address 16
-    searches OWN CACHE           for each record held the place of the closest to its key with the last byte 0, to the key, and to it with the last byte 255
+    searches OWN CACHE           for each record held the place of the closest to its key with the last byte 0, to the key, and to it with the last
+                                 byte 255
     ticks OWN TABLE ROUNDS       for each round number:IDs, then how many places are used at the end
 
     vector_memory.py             checks the answers that documents 01 and 02 and docs/MEMORY.md state
@@ -30,14 +31,24 @@ def key(n):
 
 
 def record(n, count=1, port=5000, first=0x21):
-    """Key n, `count` addresses that tell their place."""
+    """Key n, `count` addresses that tell their place. With two to four it is a record of the time before request 13, or what a route entry shows."""
     used = bytes((first + i) % 256 for i in range(16 * count))
     return key(n) + port.to_bytes(2, "big") + bytes([count, 0]) + used + bytes(64 - len(used))
 
 
+def kept(r):
+    """What is kept of a record with more addresses: the first of them, with the port (02, request 13)."""
+    return r[:34] + b"\1\0" + r[36:52] + bytes(48)
+
+
+def some(k):
+    """The record that a cache below has of a key, where nothing is said of it."""
+    return record(k, 1, 4000 + k % 1000, 0x21 + k % 4)
+
+
 def cache(keys, c=10):
     """A cache of C records; a key may be given as a record."""
-    rows = [record(k, 1 + k % 4, 4000 + k % 1000) if isinstance(k, int) else k for k in keys]
+    rows = [some(k) if isinstance(k, int) else k for k in keys]
     return b"".join(rows) + bytes(100 * (c - len(rows)))
 
 
@@ -57,7 +68,7 @@ def put(s, at, new):
     return s[:at] + new + s[at + len(new):]
 
 
-OWN = record(100, 2, 5100)
+OWN = record(100, 1, 5100)
 
 
 # Answers.
@@ -136,8 +147,8 @@ def tick(own, s, rounds, want=None):
 
 
 def cache_forms():
-    some = [60, 70, 80, 101, 110]
-    good = cache(some)
+    five = [60, 70, 80, 101, 110]
+    good = cache(five)
     yield "# the cache: in form, and how many are held"
     yield cache_form(OWN, bytes(1000), "0")
     yield cache_form(OWN, cache([7]), "1")
@@ -146,16 +157,14 @@ def cache_forms():
     yield cache_form(OWN, cache(range(90, 100)), "10")
     yield cache_form(OWN, cache(range(89, 100), 11), "11")
     yield cache_form(OWN, cache(range(1000, 1256), 256), "256")
-    yield "# accepted: key 0 and the greatest key, port 0, an address of zeros, one that stands twice, one to four addresses"
+    yield "# accepted: key 0 and the greatest key, port 0, an address of zeros"
     yield cache_form(OWN, cache([0]), "1")
     yield cache_form(OWN, cache([0, TOP]), "2")
     yield cache_form(OWN, cache([record(7, 1, 0), record(8, 1, 65535)]), "2")
     yield cache_form(OWN, cache([key(7) + b"\x13\x88\x01\x00" + bytes(64)]), "1")
     yield cache_form(OWN, cache([key(0) + b"\x00\x00\x01\x00" + bytes(64)]), "1")
-    yield cache_form(OWN, cache([key(7) + b"\x13\x88\x02\x00" + b"\xFE" * 32 + bytes(32)]), "1")
-    yield cache_form(OWN, cache([record(n, n) for n in (1, 2, 3, 4)]), "4")
     yield cache_form(OWN, cache([99, 101]), "2")
-    yield cache_form(OWN, put(cache(list(range(90, 99)) + [record(99, 4)]), 999, b"\x01"), "10")
+    yield cache_form(OWN, put(cache(range(90, 100)), 951, b"\x01"), "10")
     yield cache_form(record(0), cache([1, 2]), "2")
     yield cache_form(record(TOP), cache([0, TOP - 1]), "2")
     yield "# accepted: an order that is seen only in the first byte, in the last, at a word's end"
@@ -166,30 +175,37 @@ def cache_forms():
     yield "# refused: the length"
     for length in (0, 1, 99, 100, 900, 999, 1001, 1099):
         yield cache_form(OWN, bytes(length), "bad")
-    yield cache_form(OWN, cache(some, 9), "bad")
-    yield cache_form(OWN, cache(some, 257), "bad")
+    yield cache_form(OWN, cache(five, 9), "bad")
+    yield cache_form(OWN, cache(five, 257), "bad")
     yield "# refused: the order, equal keys, the own key"
     yield cache_form(OWN, cache([70, 60]), "bad")
     yield cache_form(OWN, cache([60, 70, 80, 110, 101]), "bad")
     yield cache_form(OWN, cache([60, 60]), "bad")
-    yield cache_form(OWN, cache([60, 70, 80, record(110, 1), record(110, 2)]), "bad")
+    yield cache_form(OWN, cache([60, 70, 80, record(110, 1), record(110, 1, 9)]), "bad")
     yield cache_form(OWN, cache([100]), "bad")
     yield cache_form(OWN, cache([60, 100, 110]), "bad")
-    yield cache_form(OWN, cache([record(100, 3, 1)]), "bad")
+    yield cache_form(OWN, cache([record(100, 1, 1)]), "bad")
     yield cache_form(record(0), cache([0, 7]), "bad")
     yield cache_form(record(TOP), cache([7, TOP]), "bad")
     yield cache_form(OWN, cache(list(range(91, 100)) + [99]), "bad")
     yield "# refused: the address count, the zero byte"
     for row in (0, 2, 4):
-        for count in (0, 5, 255):
+        for count in (0, 2, 3, 4, 5, 255):
             yield cache_form(OWN, put(good, 100 * row + 34, bytes([count])), "bad")
         yield cache_form(OWN, put(good, 100 * row + 35, b"\x01"), "bad")
     yield cache_form(OWN, put(good, 135, b"\x80"), "bad")
-    yield "# refused: an address that is not used and not zero, its first byte and its last"
-    for count in (1, 2, 3):
-        for at in sorted({36 + 16 * count, 51 + 16 * count, 99}):
-            yield cache_form(OWN, put(cache([record(7, count)]), at, b"\x01"), "bad")
-    yield cache_form(OWN, put(cache([record(7, 4)]), 34, b"\x03"), "bad")
+    yield "# refused: bytes behind the one address that are not zero, the first and the last of each address that there was before request 13"
+    for at in (52, 67, 68, 83, 84, 99):
+        yield cache_form(OWN, put(cache([7]), at, b"\x01"), "bad")
+        yield cache_form(OWN, put(cache([60, 70, 80]), 200 + at, b"\x80"), "bad")
+    yield "# refused: records of two to four addresses, as they were before request 13; among others in form, and with counts that say less"
+    for count in (2, 3, 4):
+        yield cache_form(OWN, cache([record(7, count)]), "bad")
+        yield cache_form(OWN, cache([60, record(70, count), 80]), "bad")
+        yield cache_form(OWN, cache(list(range(90, 99)) + [record(99, count)]), "bad")
+        yield cache_form(OWN, put(cache([record(7, count)]), 34, bytes([count - 1])), "bad")
+    yield cache_form(OWN, cache([key(7) + b"\x13\x88\x02\x00" + b"\xFE" * 32 + bytes(32)]), "bad")
+    yield cache_form(OWN, cache([record(n, n) for n in (1, 2, 3, 4)]), "bad")
     yield "# refused: a used record behind a free one, a free one that is not all zero"
     yield cache_form(OWN, cache([60, bytes(100), 70]), "bad")
     yield cache_form(OWN, cache([bytes(100), 70]), "bad")
@@ -199,7 +215,7 @@ def cache_forms():
 
 
 def waiting_forms():
-    good = table([flood(1, 60), inquiry(2, 70), inquiry(5, 80, 1, 4), flood(9, 60, 0)])
+    good = table([flood(1, 60), inquiry(2, 70), inquiry(5, 80, 1), flood(9, 60, 0)])
     yield "# the waiting table: in form, and how many are used"
     yield waiting_form(OWN, bytes(2240), "0")
     yield waiting_form(OWN, good, "4")
@@ -213,7 +229,7 @@ def waiting_forms():
     yield waiting_form(OWN, table([flood(0, 0, 0)]), "1")
     yield waiting_form(OWN, table([inquiry(0, 0, 0)]), "1")
     yield waiting_form(OWN, table([inquiry(1, 7, 0), inquiry(2, 8, 1), inquiry(3, 9, 2)]), "3")
-    yield waiting_form(OWN, table([inquiry(1, TOP, 2, 4), flood(2, TOP)]), "2")
+    yield waiting_form(OWN, table([inquiry(1, TOP), flood(2, TOP)]), "2")
     yield waiting_form(OWN, table([inquiry(3, 80), inquiry(4, 70)]), "2")
     yield "# IDs are little-endian numbers: in their order, and in the order of their bytes"
     for low, high in ((1, 256), (255, 256), (65535, 65536), (2 ** 24 - 1, 2 ** 24), (2 ** 31 - 1, 2 ** 31), (0x01020304, 0x04030201)):
@@ -242,8 +258,11 @@ def waiting_forms():
     yield waiting_form(OWN, put(good, 4, b"\x02"), "bad")
     yield waiting_form(OWN, put(good, 144, b"\x01"), "bad")
     yield "# refused: an inquiry whose record is out of form, or has another key"
-    for at, byte in ((74, 0), (74, 5), (75, 1), (92, 1), (139, 1)):
+    for at, byte in ((74, 0), (74, 2), (74, 3), (74, 4), (74, 5), (75, 1), (92, 1), (107, 1), (108, 1), (123, 1), (124, 1), (139, 1)):
         yield waiting_form(OWN, put(good, 140 + at, bytes([byte])), "bad")
+    for count in (2, 3, 4):
+        yield waiting_form(OWN, table([inquiry(1, 7, 2, count)]), "bad")
+        yield waiting_form(OWN, table([flood(1, 7), inquiry(2, 8), inquiry(3, 7, 2, count)]), "bad")
     yield waiting_form(OWN, put(good, 180, bytes(100)), "bad")
     yield waiting_form(OWN, put(good, 180, record(71)), "bad")
     yield waiting_form(OWN, put(good, 180, b"\x80"), "bad")
@@ -251,7 +270,7 @@ def waiting_forms():
     yield waiting_form(OWN, put(good, 179, b"\x47"), "bad")
     yield "# refused: two inquiries of one key, side by side and apart; an inquiry of the own key"
     yield waiting_form(OWN, table([inquiry(1, 7), inquiry(2, 7)]), "bad")
-    yield waiting_form(OWN, table([inquiry(1, 7, 2, 1), inquiry(2, 7, 1, 3)]), "bad")
+    yield waiting_form(OWN, table([inquiry(1, 7, 2), put(inquiry(2, 7, 1), 72, b"\x99")]), "bad")
     yield waiting_form(OWN, table([inquiry(1, 7), flood(2, 7), inquiry(3, 8), inquiry(4, 7)]), "bad")
     yield waiting_form(OWN, table([inquiry(i, 200 + i % 15) for i in range(1, 17)]), "bad")
     yield waiting_form(OWN, table([inquiry(1, 100)]), "bad")
@@ -292,9 +311,9 @@ def learning():
     yield learn(OWN, bytes(1000), record(7), "0 7")
     yield learn(OWN, cache(ten[1:]), record(90), "0 5a,5b,5c,5d,5e,5f,60,61,62,63")
     yield "# a held key: its record is replaced, nothing is dropped, also when full"
-    yield learn(OWN, cache(ten), record(95, 4, 1), "0 5a,5b,5c,5d,5e,5f,60,61,62,63")
-    yield learn(OWN, cache(ten), record(90, 4, 1), "0 5a,5b,5c,5d,5e,5f,60,61,62,63")
-    yield learn(OWN, cache([60, 70]), record(70, 3, 9), "0 3c,46")
+    yield learn(OWN, cache(ten), record(95, 1, 1), "0 5a,5b,5c,5d,5e,5f,60,61,62,63")
+    yield learn(OWN, cache(ten), record(90, 1, 1), "0 5a,5b,5c,5d,5e,5f,60,61,62,63")
+    yield learn(OWN, cache([60, 70]), record(70, 1, 9), "0 3c,46")
     yield "# the own key at an end: all keys are above it, over the end too"
     yield learn(record(0), cache(range(1, 11)), record(11), "0 " + listed(range(1, 11)))
     yield learn(record(0), cache(range(2, 12)), record(1), "0 " + listed(range(1, 11)))
@@ -305,9 +324,11 @@ def learning():
     yield learn(OWN, cache([70, 60]), record(7), "1")
     yield learn(OWN, cache([100]), record(7), "1")
     new = record(7)
-    for bad in (b"", bytes(100), new[:99], new + b"\0", put(new, 34, b"\0"), put(new, 34, b"\5"), put(new, 35, b"\1"), put(new, 99, b"\1")):
+    for bad in (b"", bytes(100), new[:99], new + b"\0", put(new, 34, b"\0"), put(new, 34, b"\5"), put(new, 35, b"\1"), put(new, 99, b"\1"),
+                put(new, 34, b"\2"), put(new, 52, b"\1"), record(7, 2), record(7, 3), record(7, 4)):
         yield learn(OWN, cache([60]), bad, "1")
-    for bad in (bytes(100), OWN[:99], put(OWN, 34, b"\5"), put(OWN, 35, b"\1"), put(OWN, 99, b"\1")):
+    for bad in (bytes(100), OWN[:99], put(OWN, 34, b"\5"), put(OWN, 35, b"\1"), put(OWN, 99, b"\1"), put(OWN, 34, b"\2"), record(100, 2),
+                record(100, 4)):
         yield learn(bad, cache([60]), record(7), "1")
 
 
@@ -382,10 +403,13 @@ def near():
         yield closest(record(2 ** 255), cache([5, 2 ** bits + 5]), key(2 ** bits), 2 ** bits + 5)
     yield closest(record(2 ** 255), cache([3, TOP - 1]), key(0), TOP - 1)
     yield closest(record(2 ** 255), cache([0, 2 ** 254]), key(TOP), 0)
-    yield "# the record shown is whole: one to four addresses, its port"
-    for count in (1, 2, 3, 4):
-        yield closest(OWN, cache([record(7, count, 1000 + count)]), key(7), 7)
-    yield closest(record(100, 4, 65535), cache([7]), key(99), 100)
+    yield "# the record shown is whole: its address, its port; one of two to four addresses is no record"
+    for first in (0x21, 0, 0xF0):
+        yield closest(OWN, cache([record(7, 1, 1000 + first, first)]), key(7), 7)
+    yield closest(record(100, 1, 65535), cache([7]), key(99), 100)
+    for count in (2, 3, 4):
+        yield closest(OWN, cache([record(7, count, 1000 + count)]), key(7), "1")
+        yield closest(record(100, count, 65535), cache([7]), key(99), "1")
     yield "# refused"
     yield closest(OWN, bytes(900), key(7), "1")
     yield closest(OWN, cache([70, 60]), key(7), "1")
@@ -399,7 +423,7 @@ A, B, ANY = bytes(range(0xA0, 0xB0)), bytes(range(0xB0, 0xC0)), bytes(16)  # add
 
 
 def at(n, port, *addresses):
-    """A record with these addresses."""
+    """A record with these addresses: one, or more as before request 13."""
     used = b"".join(addresses)
     return key(n) + port.to_bytes(2, "big") + bytes([len(addresses), 0]) + used + bytes(64 - len(used))
 
@@ -446,26 +470,27 @@ def on_the_path():
     yield "# the same endpoint twice; a match before and behind others, which change nothing more"
     for path in (point(5000, A) * 2, point(5000, A) + point(5000, B), point(5000, B) + point(5000, A), point(5000, A) + point(5001, A)):
         yield case(path, 101)
-    yield "# one to four addresses: each of them alone on the path, with the record's port and with another"
+    yield "# one address is kept (request 13): of those that a gauge once had the first alone is matched; with all of them the record is out of form"
     addresses = [bytes([0x31 + i]) * 16 for i in range(4)]
     for count in (1, 2, 3, 4):
+        old = at(99, 5000, *addresses[:count])
         for i in range(count):
-            held = cache([at(99, 5000, *addresses[:count]), far])
-            yield closest(record(50), held, key(100), 101, point(7, B) + point(5000, addresses[i]))
-            yield closest(record(50), held, key(100), 99, point(5001, addresses[i]) + point(5000, B))
-    yield "# a place without an address is zero, and is no address: it matches nothing; an address that is used and zero does"
-    for count in (1, 2, 3):
-        yield closest(record(50), cache([at(99, 5000, *addresses[:count]), far]), key(100), 99, point(5000, ANY))
-        yield closest(record(50), cache([at(99, 5000, *addresses[:count], ANY), far]), key(100), 101, point(5000, ANY))
+            path = point(7, B) + point(5000, addresses[i])
+            yield closest(record(50), cache([kept(old), far]), key(100), 99 if i else 101, path)
+            yield closest(record(50), cache([old, far]), key(100), "1" if count > 1 else 101, path)
+            yield closest(record(50), cache([kept(old), far]), key(100), 99, point(5001, addresses[i]) + point(5000, B))
+    yield "# the places behind the address are zero, and no addresses: they match nothing; an address that is zero does"
+    yield closest(record(50), cache([at(99, 5000, addresses[0]), far]), key(100), 99, point(5000, ANY))
+    yield closest(record(50), cache([at(99, 5000, ANY), far]), key(100), 101, point(5000, ANY))
     yield closest(record(50), cache([at(99, 0, ANY), far]), key(100), 101, bytes(18))
     yield closest(record(50), cache([at(99, 0, A), far]), key(100), 99, bytes(18))
     yield closest(record(50), cache([at(99, 0, A), far]), key(100), 99, bytes(36))
     yield "# the own record is never skipped: alone, nearest, the only one left"
     own = at(100, 5000, A)
-    for keys in ([], [at(99, 5001, A)], [at(99, 5000, A)], [at(99, 5000, A), at(101, 5000, B, A)]):
+    for keys in ([], [at(99, 5001, A)], [at(99, 5000, A)], [at(99, 5000, A), at(101, 5000, A)]):
         yield closest(own, cache(keys), key(99), 99 if keys[:1] == [at(99, 5001, A)] else 100, point(5000, A))
-    yield "# two records with one endpoint: both are skipped; one of them has another that does not matter"
-    shared = cache([at(97, 1, B), at(98, 5000, B, A), at(99, 5000, A), at(103, 1, A)])
+    yield "# two records with one endpoint: both are skipped"
+    shared = cache([at(97, 1, B), at(98, 5000, A), at(99, 5000, A), at(103, 1, A)])
     yield closest(record(50), shared, key(100), 97, point(5000, A))
     yield closest(record(50), shared, key(100), 99, point(5000, B))
     yield closest(record(50), shared, key(100), 103, point(5000, A) + point(1, B))
@@ -635,7 +660,7 @@ def ticks():
     yield tick(OWN, table([inquiry(3, 7, 0)]), 1, "0:- 0")
     yield tick(OWN, bytes(2240), 2, "0:- 0:- 0")
     yield "# places with other tries among them: those left close up and keep their order"
-    mixed = [flood(0, 7, 0), inquiry(1, 8, 2), flood(2, 9, 1), inquiry(256, 9, 0), flood(257, 100, 2), inquiry(2 ** 32 - 1, 6, 1, 4)]
+    mixed = [flood(0, 7, 0), inquiry(1, 8, 2), flood(2, 9, 1), inquiry(256, 9, 0), flood(257, 100, 2), inquiry(2 ** 32 - 1, 6, 1)]
     for rounds, want in ((1, "0:1,2,257,4294967295 4"), (2, "0:1,2,257,4294967295 0:1,257 2"), (3, "0:1,2,257,4294967295 0:1,257 0:- 0")):
         yield tick(OWN, table(mixed), rounds, want)
     yield tick(OWN, table([flood(1, 7, 0), flood(2, 7, 2)]), 3, "0:2 0:2 0:- 0")
@@ -643,7 +668,7 @@ def ticks():
     yield "# all sixteen"
     all_ids = ",".join(str(1000 * i) for i in range(16))
     yield tick(OWN, table([flood(1000 * i, i) for i in range(16)]), 3, "0:%s 0:%s 0:- 0" % (all_ids, all_ids))
-    yield tick(OWN, table([inquiry(i, 500 + i, i % 3, 1 + i % 4) for i in range(1, 17)]), 2, "0:1,2,4,5,7,8,10,11,13,14,16 0:2,5,8,11,14 5")
+    yield tick(OWN, table([inquiry(i, 500 + i, i % 3) for i in range(1, 17)]), 2, "0:1,2,4,5,7,8,10,11,13,14,16 0:2,5,8,11,14 5")
     yield tick(OWN, table([flood(i, 7, 0) for i in range(16)]), 1, "0:- 0")
 
 
@@ -657,7 +682,8 @@ def vectors():
 def check():
     assert record(100, 1, 5000)[:36] == key(100) + b"\x13\x88\x01\x00"  # docs/MEMORY.md, the record shown there
     assert inquiry(8, 7)[:8] == bytes.fromhex("0800000002020000")  # docs/MEMORY.md, the waiting table
-    assert all(model.record_form(record(n, count)) for n in (0, 7, TOP) for count in (1, 2, 3, 4))
+    assert all(model.record_form(record(n)) and model.old_record_form(record(n)) for n in (0, 7, TOP))
+    assert all(model.old_record_form(record(7, n)) and not model.record_form(record(7, n)) and kept(record(7, n)) == record(7) for n in (2, 3, 4))
     assert model.waiting_of(model.waits(OWN, table([flood(1, 7), inquiry(2, 8)]))) == table([flood(1, 7), inquiry(2, 8)])
     assert model.cache_of(model.held(OWN, cache([60, 70])), 1000) == cache([60, 70])
     # Learning is settled by its result: of the old keys and the new one at most C are left, and what is missing is the farthest of the longer side.

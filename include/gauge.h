@@ -1,13 +1,14 @@
 /* The gauge, as a radio program in C calls it. Link libgauge.a (`make lib`), for x86-64.
  *
  * The gauge has no memory, no socket and no clock of its own. The radio program lends it memory and numbers, and
- * sends what it writes. Its six calls:
+ * sends what it writes. Its seven calls:
  *
  *   gauge_receive      a datagram has come: what is to be sent, and what changes in the memory
  *   gauge_send         a FLOOD of a record is to go to a neighbour
  *   gauge_tick         a second has passed: which datagrams are to be sent again
  *   gauge_neighbours   the five keys next to our own on either side
  *   gauge_closest      the record closest to a target, past those that a LOOKUP has been at already
+ *   gauge_convert      memory of a version before 1.3 is to be used: each record in it keeps its first address
  *   gauge_look         what a datagram is, and where in it the CPA and the nonce stand; nothing is done
  *
  * Above the gauge stand three for a pond's reading, a depth or a fault with litres in and out, which an AUTHORITY may
@@ -91,8 +92,8 @@ extern "C" {
 
 /* The version of this header and of the archive, as gauge.pc has it; and as a number that rises. CHANGELOG.md tells
  * what changed. */
-#define GAUGE_VERSION "1.2"
-#define GAUGE_VERSION_NUMBER 102
+#define GAUGE_VERSION "1.3"
+#define GAUGE_VERSION_NUMBER 103
 
 /* The versions in the header of a message: those of the message that document 003 prints. Document 000 leaves them to
  * whoever builds on it. Every call that has a major and a minor takes any others too; all gauges that are to hear each
@@ -117,14 +118,16 @@ extern "C" {
 #define GAUGE_DATAGRAM_LEAST 12
 #define GAUGE_DATAGRAM_MOST 1232
 #define GAUGE_OUTPUT_LEN 2464     /* an output that is enough for each of the calls */
-#define GAUGE_SEND_LEN 164        /* enough for gauge_send */
+#define GAUGE_SEND_LEN 116        /* what gauge_send writes, always */
 #define GAUGE_TICK_LEN 64         /* what gauge_tick asks for, always */
 #define GAUGE_LIST_LEN 320        /* what gauge_neighbours asks for, always */
 #define GAUGE_CARRY_LEN 20        /* what a reading adds to an AUTHORITY that has no payload, whatever its kind */
 #define GAUGE_STACK_MOST 2048     /* no call takes more stack than this */
 
-/* A record, by place: key (32), port (2, most significant byte first), how many addresses (1, from 1 to 4), a zero
- * byte, four addresses of 16 bytes as they stand on the wire. Those not used are zero. */
+/* A record, by place: key (32), port (2, most significant byte first), how many addresses (1, always 1), a zero byte,
+ * the address of 16 bytes as it stands on the wire, and 48 zero bytes. A record has one address since version 1.3; of a
+ * gauge that tells of two to four in a FLOOD or LOOKUP the first is kept. Before, the count was 1 to 4, and the 48
+ * bytes were three more addresses, zero where they were not used: the old form, which gauge_convert alone takes. */
 #define GAUGE_RECORD_KEY 0
 #define GAUGE_RECORD_PORT 32
 #define GAUGE_RECORD_COUNT 34
@@ -146,7 +149,7 @@ enum gauge_number {
     GAUGE_OK = 0,          /* accepted */
     GAUGE_MEMORY = 1,      /* what you have lent is not in form: own record, CPA, cache, waiting table, or a nonce, key
                               or target of another length, or a path of endpoints that are not whole. Yours: mend it
-                              (gauge_host.h tells which). */
+                              (gauge_host.h tells which; records of a version before 1.3 need gauge_convert). */
     GAUGE_LENGTH = 2,      /* datagram shorter than 12 or longer than 1,232 bytes. The sender's, as up to 7: drop the
                               datagram. */
     GAUGE_HEADER = 3,      /* its first five bytes are not 00 10 00 0C 51 */
@@ -203,8 +206,8 @@ enum gauge_reading_number {
  * and those between are for later versions. */
 #define GAUGE_CLOSEST_HELD 4
 
-/* What the first five calls answer. `first` and `second`: lengths of datagrams (receive, send), how many IDs (tick),
- * how many keys below and above (neighbours), which record (closest). */
+/* What the first six calls answer. `first` and `second`: lengths of datagrams (receive, send), how many IDs (tick), how
+ * many keys below and above (neighbours), which record (closest); 0 where a call has nothing to tell. */
 struct gauge_answer {
     uint32_t number, first, second;
 };
@@ -244,8 +247,8 @@ struct gauge_reading {
 
 /* A datagram has come.
  *
- *   own       our own record: 100 bytes. Its port and addresses may change from call to call; its key may not, as
- *             long as cache and waiting table are in use (for another key begin with both all zero).
+ *   own       our own record: 100 bytes. Its port and address may change from call to call; its key may not, as long
+ *             as cache and waiting table are in use (for another key begin with both all zero).
  *   cpa       our own CPA: 1 to 1,024 bytes, which go into the AUTHORITY that answers an INQUIRE. Where that INQUIRE
  *             has a nonce (gauge_look), the CPA should hold it: only you can see to that.
  *   cache     for writing: GAUGE_CACHE_LEN(C) bytes. All zero is the empty cache.
@@ -267,22 +270,25 @@ struct gauge_reading {
  *
  *   FLOOD with a route entry   an ACK to the sender, unless the FLOOD asks for none; an INQUIRE to an address of the
  *                              route entry (gauge_look), and a place that waits for its answer, unless that very
- *                              record is held or an inquiry for its key waits already. Nothing is learned yet. Where
- *                              both are written the ACK is the first; an INQUIRE alone is the first.
+ *                              record is held (the same port and first address; others do not count) or an inquiry
+ *                              for its key waits already. Nothing is learned yet. Where both are written the ACK is
+ *                              the first; an INQUIRE alone is the first.
  *   FLOOD with a revocation    the key of the verdict is removed from the cache, and a waiting inquiry for it freed;
  *                              an ACK to the sender, as above.
  *   INQUIRE for our key        an AUTHORITY with our CPA, to the sender.
- *   AUTHORITY                  the record that was inquired about is learned, and its place freed. Nothing is sent. A
- *                              full cache drops the key that lies farthest out along the fuller side, above if both
- *                              are equally full; that may be the one just learned.
+ *   AUTHORITY                  the record that was inquired about is learned, with the first address that its FLOOD
+ *                              or LOOKUP told of, and its place freed. Nothing is sent. A full cache drops the key
+ *                              that lies farthest out along the fuller side, above if both are equally full; that may
+ *                              be the one just learned.
  *   ACK                        the flood's place is freed. If it says that the neighbour has not the key that we hold
  *                              it for, the key is removed.
- *   LOOKUP                     an AUTHORITY with the record closest to the target, to the sender, as gauge_closest
- *                              tells it for the LOOKUP's path: so nobody is sent back where the LOOKUP came from.
- *                              Where it has a route entry, behind it an INQUIRE to an address of that (gauge_look),
- *                              and a place that waits for its answer, unless that very record is held, an inquiry
- *                              for its key waits already, or the key is our own. Nothing is learned yet. Where no
- *                              place can be opened (GAUGE_ID_WAITING, GAUGE_FULL), nothing is answered either.
+ *   LOOKUP                     an AUTHORITY with the record closest to the target, 96 bytes, to the sender, as
+ *                              gauge_closest tells it for the LOOKUP's path: so nobody is sent back where the LOOKUP
+ *                              came from. Where it has a route entry, behind it an INQUIRE to an address of that
+ *                              (gauge_look), and a place that waits for its answer, unless that very record is held,
+ *                              an inquiry for its key waits already, or the key is our own. Nothing is learned yet.
+ *                              Where no place can be opened (GAUGE_ID_WAITING, GAUGE_FULL), nothing is answered
+ *                              either.
  *
  * Keep each FLOOD and INQUIRE that you send, with its ID and where it went: gauge_tick says when to send it again,
  * and when to forget it. A gauge that falls silent stays in the cache until it is revoked or such an ACK comes.
@@ -301,8 +307,7 @@ struct gauge_answer gauge_receive(const uint8_t *own, size_t own_len, const uint
  *   neighbour  32 bytes: the key of the neighbour, which must be held.
  *   key        32 bytes: the key of the record to send, which must be our own or held.
  *   output     for writing: on GAUGE_OK the first `first` bytes are the FLOOD, to be sent to an address of the
- *              neighbour's record in the cache. 116 bytes for a record of one address, 16 more for each other.
- *              `second` is 0.
+ *              neighbour's record in the cache. `first` is 116 (GAUGE_SEND_LEN), and `second` is 0.
  *
  * A first FLOOD to a gauge that is not held yet is written by gauge_first_flood of gauge_host.h.
  *
@@ -340,8 +345,9 @@ struct gauge_answer gauge_neighbours(const uint8_t *own, size_t own_len, const u
 
 /* Which record is closest to a target: of our own and those held that are not on the path, the one with the shortest
  * way round to the target; of two equally close the one reached by going down from the target. A record is on the path
- * where its port and one of the addresses that it has stand together in one endpoint of it. Our own is never passed
- * over, so there is always an answer. All is lent for reading, and nothing is written.
+ * where its port and its address stand together in one endpoint of it: the one address that is kept, so that a gauge
+ * which the LOOKUP passed by another of its addresses is not known by it. Our own is never passed over, so there is
+ * always an answer. All is lent for reading, and nothing is written.
  *
  *   own     as above.
  *   cache   for reading.
@@ -355,6 +361,26 @@ struct gauge_answer gauge_neighbours(const uint8_t *own, size_t own_len, const u
  * Gives GAUGE_OK or GAUGE_MEMORY. */
 struct gauge_answer gauge_closest(const uint8_t *own, size_t own_len, const uint8_t *cache, size_t cache_len,
                                   const uint8_t *path, size_t path_len, const uint8_t *target, size_t target_len);
+
+/* Memory of a version before 1.3, where a record could have up to four addresses, is to be used: each record in it,
+ * those of waiting inquiries too, keeps the first with its port. The count becomes 1, the 48 bytes behind the address
+ * zero, and nothing else changes: keys and order stay, and so do IDs, tries, floods and what is free.
+ *
+ *   own      for reading: our own record, in the old form or in that of today. It is not changed. Cut it yourself
+ *            before the other calls: byte GAUGE_RECORD_COUNT (34) becomes 1, bytes 52 to 99 zero.
+ *   cache    for writing, in the old form.
+ *   waiting  for writing, in the old form.
+ *
+ * The form of today is an old one too: to convert what is converted already, or in part, changes nothing more.
+ * Inquiries may wait meanwhile: the AUTHORITY that answers one then learns the record that it was cut to.
+ *
+ * Convert all gauges of a valley at once. What a gauge passes on since 1.3 has one address, and one before 1.3 that
+ * holds that record with all four sees another record in it, and inquires again, to and fro while both are about.
+ *
+ * Gives GAUGE_OK; or GAUGE_MEMORY where own record, cache or waiting table are not in the old form. `first` and
+ * `second` are 0. */
+struct gauge_answer gauge_convert(const uint8_t *own, size_t own_len, uint8_t *cache, size_t cache_len,
+                                  uint8_t *waiting, size_t waiting_len);
 
 /* What a datagram is. Nothing is done, and nothing is lent but the datagram, for reading.
  *

@@ -115,10 +115,11 @@
  *     }
  *
  * Saving and restoring. The cache is worth it, the waiting table is not: who waits is gone. Begin as above with the
- * same own key, read the cache, and see whether it is in form; if not, the file was damaged, and the cache begins
- * empty. What then holds is the statement Demand3From (docs/STATEMENTS.md, crates/signed/specs/From.antt): from any
- * cache in form and an empty waiting table, the neighbour list after any calls is the one that the keys kept
- * and those learned and removed since make, as if all had come in one night.
+ * same own key, read the cache, and convert it: one that a version before 1.3 saved, with up to four addresses in a
+ * record, is then in the form of today, and one that was so already stays as it is. Where that is refused the file was
+ * damaged, and the cache begins empty. What then holds is the statement Demand3From (docs/STATEMENTS.md,
+ * crates/signed/specs/From.antt): from any cache in form and an empty waiting table, the neighbour list after any calls
+ * is the one that the keys kept and those learned and removed since make, as if all had come in one night.
  *
  *     int save(const struct gauge_lent *l, FILE *f)
  *     {
@@ -127,11 +128,13 @@
  *     int restore(struct gauge_lent *l, FILE *f)
  *     {
  *         int whole = fread(l->cache, 1, l->cache_len, f) == l->cache_len;
- *         if (!whole || gauge_lent_not_in_form(l) != GAUGE_PART_NONE)
+ *         if (!whole || gauge_lent_convert(l).number != GAUGE_OK)
  *             memset(l->cache, 0, l->cache_len);
  *         return whole;
  *     }
- */
+ *
+ * An own record that was kept as 100 bytes by a version before 1.3 is cut to its first address by gauge_record_cut.
+ * Take all gauges of a valley to 1.3 at once (gauge_convert). */
 #ifndef GAUGE_HOST_H
 #define GAUGE_HOST_H
 
@@ -140,7 +143,7 @@
 
 #define GAUGE_LOOKUP_LEN 126      /* what gauge_lookup writes */
 #define GAUGE_PATH_MOST 22        /* endpoints on a LOOKUP's path */
-#define GAUGE_LOOKUP_MOST 612     /* the longest that gauge_lookup_along writes */
+#define GAUGE_LOOKUP_MOST 564     /* the longest that gauge_lookup_along writes */
 #define GAUGE_READING_MOST 16     /* a packed reading: 14 bytes for a fault, 16 for a depth */
 
 /* All that is lent to the calls of one gauge. What has one length is in it; the cache and the CPA, whose lengths are
@@ -175,18 +178,28 @@ static inline void gauge_lent_begin(struct gauge_lent *l, uint8_t *cache, size_t
     l->cpa_len = cpa_len;
 }
 
-/* The own record: key, port, and 1 to 4 addresses of 16 bytes, one behind the other. Its key stays as long as the
- * memory is in use; port and addresses may be set again. */
+/* The own record: key, port, and an address of 16 bytes. More than one may be handed in, one behind the other, as
+ * before 1.3: the first is kept; none, with count 0, is no record in form. Its key stays as long as the memory is in
+ * use; port and address may be set again. */
 static inline void gauge_lent_own(struct gauge_lent *l, const uint8_t *key, uint16_t port, const uint8_t *addresses,
                                   uint8_t count)
 {
-    uint8_t used = count > 4 ? 4 : count;
+    uint8_t used = count > 1 ? 1 : count;
     memset(l->own, 0, sizeof l->own);
     memcpy(l->own + GAUGE_RECORD_KEY, key, GAUGE_KEY_LEN);
     l->own[GAUGE_RECORD_PORT] = GAUGE_TO(uint8_t, port >> 8);
     l->own[GAUGE_RECORD_PORT + 1] = GAUGE_TO(uint8_t, port & 255);
     l->own[GAUGE_RECORD_COUNT] = used;
     memcpy(l->own + GAUGE_RECORD_ADDRESSES, addresses, GAUGE_TO(size_t, used) * GAUGE_ADDRESS_LEN);
+}
+
+/* A record of a version before 1.3 keeps the first of its addresses, as gauge_convert does it in cache and waiting
+ * table: for an own record that was kept as it was. */
+static inline void gauge_record_cut(uint8_t *record)
+{
+    size_t kept = GAUGE_RECORD_ADDRESSES + GAUGE_ADDRESS_LEN;
+    record[GAUGE_RECORD_COUNT] = 1;
+    memset(record + kept, 0, GAUGE_RECORD_LEN - kept);
 }
 
 /* Your verdict on the CPA of the next datagram, and the key that it is good for. Without it a receive has none. */
@@ -241,6 +254,11 @@ static inline struct gauge_answer gauge_lent_closest(const struct gauge_lent *l,
 static inline const uint8_t *gauge_lent_told(const struct gauge_lent *l, uint32_t first)
 {
     return first < GAUGE_CLOSEST_HELD ? l->own : l->cache + GAUGE_CACHE_LEN(first - GAUGE_CLOSEST_HELD);
+}
+
+static inline struct gauge_answer gauge_lent_convert(struct gauge_lent *l)
+{
+    return gauge_convert(l->own, sizeof l->own, l->cache, l->cache_len, l->waiting, sizeof l->waiting);
 }
 
 static inline struct gauge_look_answer gauge_lent_look(const struct gauge_lent *l, const uint8_t *datagram,
@@ -475,19 +493,17 @@ static inline struct gauge_writer gauge_put_flood(struct gauge_lent *l, uint8_t 
     return w;
 }
 
-/* Our own record as a route entry. */
+/* Our own record as a route entry, with its one address. */
 static inline void gauge_put_entry(struct gauge_writer *w, const struct gauge_lent *l)
 {
-    uint8_t count = l->own[GAUGE_RECORD_COUNT];
-    size_t used = GAUGE_TO(size_t, count > 4 ? 4 : count) * GAUGE_ADDRESS_LEN;
-    gauge_put_field(w, 0x009A, GAUGE_ENTRY_ADDRESSES + used);
+    gauge_put_field(w, 0x009A, GAUGE_ENTRY_ADDRESSES + GAUGE_ADDRESS_LEN);
     gauge_put(w, l->own + GAUGE_RECORD_KEY, GAUGE_KEY_LEN);
     gauge_put_number(w, l->major, 1);
     gauge_put_number(w, l->minor, 1);
     gauge_put(w, l->own + GAUGE_RECORD_PORT, 2);
     gauge_put_number(w, 0, 1);
-    gauge_put_number(w, count, 1);
-    gauge_put(w, l->own + GAUGE_RECORD_ADDRESSES, used);
+    gauge_put_number(w, 1, 1);
+    gauge_put(w, l->own + GAUGE_RECORD_ADDRESSES, GAUGE_ADDRESS_LEN);
     gauge_put_padding(w);
 }
 
@@ -566,7 +582,7 @@ static inline size_t gauge_lookup_along(struct gauge_lent *l, const uint8_t *tar
     return w.len;
 }
 
-/* The endpoint of a record, its port and its first address, for a path: GAUGE_ENDPOINT_LEN bytes. */
+/* The endpoint of a record, its port and its address, for a path: GAUGE_ENDPOINT_LEN bytes. */
 static inline void gauge_endpoint(const uint8_t *record, uint8_t *endpoint)
 {
     memcpy(endpoint, record + GAUGE_RECORD_PORT, 2);

@@ -1,16 +1,18 @@
 /* A gauge's night, recorded: the calls of one gauge written to a file, from which they can be made again at the
  * office. C99, this file is all of it.
  *
- * Record each gauge_receive, gauge_send and gauge_tick behind the call, in the order of the calls, with the number
- * that the call gave; the calls that were refused too. gauge_neighbours, gauge_closest and gauge_look change nothing
- * and are not recorded. The night begins with cache and waiting table all zero. What a trace does not hold is fixed for
- * whoever makes the calls again: a cache of 64 records, an output of GAUGE_OUTPUT_LEN bytes, and an own CPA of one zero
- * byte. A gauge that is recorded must have the same.
+ * Record each gauge_receive, gauge_send and gauge_tick behind the call, in the order of the calls, with the number that
+ * the call gave; the calls that were refused too. gauge_neighbours, gauge_closest and gauge_look change nothing and are
+ * not recorded. The night begins with cache and waiting table all zero, so that there is nothing for gauge_convert,
+ * which is not recorded either. What a trace does not hold is fixed for whoever makes the calls again: a cache of 64
+ * records, an output of GAUGE_OUTPUT_LEN bytes, and an own CPA of one zero byte. A gauge that is recorded must have the
+ * same.
  *
  * A trace is records: length (2 bytes, counting what follows it), kind (2), body. Lengths, kinds and IDs are least
  * significant byte first.
  *
- *   kind 4, once and first   major version 1, minor version 1, own record 100
+ *   kind 4, once and first   major version 1, minor version 1, own record 100; one of two to four addresses, of a
+ *                            version before 1.3, is not in form, and every later record then answers GAUGE_MEMORY
  *   kind 1, gauge_receive    message ID 4, verdict 1, key 32, nonce 16, the datagram
  *   kind 2, gauge_send       message ID 4, neighbour's key 32, record's key 32
  *   kind 3, gauge_tick       nothing

@@ -65,7 +65,7 @@ static void constants(void)
     CHECK(GAUGE_CPA_LEAST == 1 && GAUGE_CPA_MOST == 1024 && GAUGE_DATAGRAM_LEAST == 12 && GAUGE_DATAGRAM_MOST == 1232);
     CHECK(GAUGE_CACHE_LEAST == 10 && GAUGE_CACHE_MOST == 256 && GAUGE_CACHE_LEN(256) == 25600);
     CHECK(GAUGE_PLACES == 16 && GAUGE_PLACE_LEN == 140 && GAUGE_WAITING_LEN == 16 * 140);
-    CHECK(GAUGE_OUTPUT_LEN == 2 * 1232 && GAUGE_SEND_LEN == 100 + 4 * 16 && GAUGE_TICK_LEN == 16 * 4 && GAUGE_LIST_LEN == 10 * 32);
+    CHECK(GAUGE_OUTPUT_LEN == 2 * 1232 && GAUGE_SEND_LEN == 100 + 16 && GAUGE_TICK_LEN == 16 * 4 && GAUGE_LIST_LEN == 10 * 32);
     CHECK(GAUGE_SOLICIT == 1 && GAUGE_ADVERTISE == 2 && GAUGE_REQUEST == 3 && GAUGE_FLOOD == 4);
     CHECK(GAUGE_INQUIRE == 7 && GAUGE_AUTHORITY == 8 && GAUGE_ACK == 9 && GAUGE_LOOKUP == 11);
     CHECK(GAUGE_OK == 0 && GAUGE_MEMORY == 1 && GAUGE_LENGTH == 2 && GAUGE_HEADER == 3 && GAUGE_MAJOR == 4 && GAUGE_TYPE == 5 && GAUGE_FIELD == 6);
@@ -225,6 +225,35 @@ static void arguments(void)
     CHECK(answer_is(gauge_closest(own, sizeof own, cache, sizeof cache, path, 0, neighbour, sizeof neighbour - 1), GAUGE_MEMORY, 0));
 }
 
+/* Memory of the time when a record had up to four addresses. Own before cache before waiting table: each has its own length. */
+static void converted(void)
+{
+    uint8_t old[GAUGE_RECORD_LEN], was[GAUGE_RECORD_LEN], eleven[GAUGE_RECORD_LEN], held[GAUGE_CACHE_LEN(10)] = {0}, waits[GAUGE_WAITING_LEN] = {0};
+    uint8_t held_new[sizeof held] = {0}, waits_new[sizeof waits] = {0};
+    bytes(KEY("12") "1388 04 00", old);
+    memset(old + GAUGE_RECORD_ADDRESSES, 0xA1, 4 * GAUGE_ADDRESS_LEN);
+    memcpy(was, old, sizeof was);
+    bytes(KEY("11") "1389 03 00 " NONCE NONCE NONCE, held);
+    bytes(KEY("11") "1389 01 00 " NONCE, held_new);
+    bytes("07000000 01 02 0000 " KEY("11"), waits); /* a flood has no record, and keeps it so */
+    bytes("09000000 02 01 0000 " KEY("14") KEY("14") "138A 02 00 " NONCE NONCE, waits + GAUGE_PLACE_LEN);
+    bytes("07000000 01 02 0000 " KEY("11"), waits_new);
+    bytes("09000000 02 01 0000 " KEY("14") KEY("14") "138A 01 00 " NONCE, waits_new + GAUGE_PLACE_LEN);
+
+    memcpy(eleven, held, sizeof eleven); /* as our own record it would be held */
+    CHECK(answer_is(gauge_convert(eleven, sizeof eleven, held, sizeof held, waits, sizeof waits), GAUGE_MEMORY, 0));
+    CHECK(answer_is(gauge_convert(old, sizeof old, waits, sizeof waits, held, sizeof held), GAUGE_MEMORY, 0));
+    CHECK(answer_is(gauge_tick(own, sizeof own, waits, sizeof waits, output, sizeof output), GAUGE_MEMORY, 0));
+    CHECK(answer_is(gauge_neighbours(own, sizeof own, held, sizeof held, output, sizeof output), GAUGE_MEMORY, 0));
+    for (int times = 0; times < 2; times++) {
+        CHECK(answer_is(gauge_convert(old, sizeof old, held, sizeof held, waits, sizeof waits), GAUGE_OK, 0));
+        CHECK(memcmp(held, held_new, sizeof held) == 0 && memcmp(waits, waits_new, sizeof waits) == 0 && memcmp(old, was, sizeof old) == 0);
+    }
+    CHECK(answer_is(gauge_neighbours(old, sizeof old, held, sizeof held, output, sizeof output), GAUGE_MEMORY, 0));
+    CHECK(answer_is(gauge_neighbours(own, sizeof own, held, sizeof held, output, sizeof output), GAUGE_OK, 1));
+    CHECK(answer_is(gauge_tick(own, sizeof own, waits, sizeof waits, output, sizeof output), GAUGE_OK, 2));
+}
+
 /* A LOOKUP with a route entry: the AUTHORITY with the closest record, then the INQUIRE; and what its path passes over. */
 static void lookups(void)
 {
@@ -324,7 +353,8 @@ static struct gauge_answer call(enum call_kind kind, const struct lent *l)
     case SEND: return call_send(gauge_send, l);
     case TICK: return call_tick(gauge_tick, l);
     case NEIGHBOURS: return call_neighbours(gauge_neighbours, l);
-    default: return call_closest(gauge_closest, l);
+    case CLOSEST: return call_closest(gauge_closest, l);
+    default: return call_convert(gauge_convert, l);
     }
 }
 
@@ -341,7 +371,7 @@ static void zero_lengths(uint8_t *nothing)
     memcpy(waiting_was, waiting, sizeof waiting);
     memset(output, 0xEE, sizeof output);
     datagram_len = bytes(INQUIRE(KEY("12"), "00000001"), datagram);
-    for (int c = RECEIVE; c <= CLOSEST; c++)
+    for (int c = RECEIVE; c <= CONVERT; c++)
         for (int empty = 0; empty < SLICES; empty++) {
             if (!is_lent(empty, (enum call_kind)c) || empty == LENT_path)
                 continue;
@@ -355,7 +385,7 @@ static void zero_lengths(uint8_t *nothing)
     struct lent none = lend_all(); /* a path may be empty: key 11 is the closest to 0 */
     none.path = as_room(nothing, 0);
     CHECK(answer_is(call(CLOSEST, &none), GAUGE_OK, GAUGE_CLOSEST_HELD));
-    for (int c = RECEIVE; c <= CLOSEST; c++) { /* and all is accepted where none is empty */
+    for (int c = RECEIVE; c <= CONVERT; c++) { /* and all is accepted where none is empty */
         struct lent l = lend_all();
         CHECK(call((enum call_kind)c, &l).number == GAUGE_OK);
     }
@@ -370,6 +400,7 @@ int main(void)
     constants();
     looks();
     arguments();
+    converted();
     lookups();
     zero_lengths(nothing);
     readings(nothing);

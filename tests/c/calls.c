@@ -253,6 +253,15 @@ static void nearest(void)
     after_call(a, 0);
 }
 
+/* The memory is turned where it stands. */
+static void convert(void)
+{
+    set(LENT_output, room, 0);
+    before_call();
+    struct gauge_answer a = call_convert(gauge_convert, &lent);
+    after_call(a, 0);
+}
+
 /* A look has its own major version, and leaves the gauge's as it is. */
 static void look(void)
 {
@@ -283,7 +292,7 @@ static const struct {
     bool sets; /* answers ok */
 } lines[] = {{"gauge", begin, true}, {"set-cache", set_cache, true}, {"set-waiting", set_waiting, true}, {"receive", receive, false},
              {"send", send, false},  {"tick", tick, false},          {"list", list, false},              {"nearest", nearest, false},
-             {"look", look, false},  {"held", held, false},          {"waits", waits, false}};
+             {"look", look, false},  {"held", held, false},          {"waits", waits, false},            {"convert", convert, false}};
 
 int main(void)
 {

@@ -39,8 +39,7 @@ static bool all_zero(const uint8_t *s, size_t n)
 
 static bool record_form(const uint8_t *r)
 {
-    unsigned count = r[34];
-    return count >= 1 && count <= 4 && r[35] == 0 && all_zero(r + 36 + 16 * count, 64 - 16 * count);
+    return r[34] == 1 && r[35] == 0 && all_zero(r + 52, 48);
 }
 
 __attribute__((noinline)) static size_t plain_form(const uint8_t *o, const uint8_t *s, size_t len)
@@ -143,8 +142,8 @@ static void fill(bool alike)
         uint8_t *r = cache + 100 * i;
         for (size_t j = 0; j < 32; j++)
             r[j] = (uint8_t)(alike ? (j == 31 ? i : 7) : j == 0 ? i : next());
-        r[34] = (uint8_t)(1 + i % 4);
-        for (size_t j = 36; j < 36 + 16u * r[34]; j++)
+        r[34] = 1;
+        for (size_t j = 36; j < 52; j++)
             r[j] = next();
     }
     memcpy(own, cache + 100 * (C / 2), 100);

@@ -206,6 +206,39 @@ static void parts(void)
     CHECK(gauge_not_in_form(own, sizeof own, 1, cache, sizeof cache, waiting, 2239) == GAUGE_PART_WAITING);
 }
 
+/* Memory of a version before 1.3: the own record is cut by the header, the rest by the call. An own record has the first of the addresses given. */
+static void converted(void)
+{
+    struct gauge *g = &gauges[1];
+    uint8_t addresses[4 * GAUGE_ADDRESS_LEN], one[GAUGE_RECORD_LEN], *r = g->cache;
+    begin(1);
+    for (size_t i = 0; i < sizeof addresses; i++)
+        addresses[i] = (uint8_t)(i + 1);
+    for (uint8_t count = 1; count <= 5; count++) {
+        gauge_lent_own(&g->lent, g->cpa, 5000, addresses, count);
+        CHECK(gauge_lent_not_in_form(&g->lent) == GAUGE_PART_NONE && g->lent.own[GAUGE_RECORD_COUNT] == 1);
+        CHECK(memcmp(g->lent.own + GAUGE_RECORD_ADDRESSES, addresses, GAUGE_ADDRESS_LEN) == 0);
+    }
+    memcpy(one, g->lent.own, sizeof one);
+    memcpy(r, one, sizeof one);
+    r[0] = 9; /* another key */
+    r[GAUGE_RECORD_COUNT] = g->lent.own[GAUGE_RECORD_COUNT] = 4;
+    memcpy(r + GAUGE_RECORD_ADDRESSES, addresses, sizeof addresses);
+    memcpy(g->lent.own + GAUGE_RECORD_ADDRESSES, addresses, sizeof addresses);
+    memcpy(g->plain_cache, g->cache, sizeof g->cache);
+    CHECK(gauge_lent_not_in_form(&g->lent) == GAUGE_PART_OWN);
+    struct lent l = plain(g, g->cpa, 0);
+    struct gauge_answer b = call_convert(gauge_convert, &l), a = gauge_lent_convert(&g->lent);
+    same(g, a, b);
+    CHECK(a.number == GAUGE_OK && gauge_lent_not_in_form(&g->lent) == GAUGE_PART_OWN);
+    gauge_record_cut(g->lent.own);
+    CHECK(memcmp(g->lent.own, one, sizeof one) == 0 && gauge_lent_not_in_form(&g->lent) == GAUGE_PART_NONE);
+    one[0] = 9;
+    CHECK(memcmp(r, one, sizeof one) == 0 && gauge_lent_held(&g->lent) == 1);
+    r[GAUGE_RECORD_COUNT] = 5;
+    CHECK(gauge_lent_convert(&g->lent).number == GAUGE_MEMORY && r[GAUGE_RECORD_COUNT] == 5);
+}
+
 /* A text for each number, no two the same; another for what is none. Which are the sender's: gauge.h says it of 2 to 12. */
 static void texts(void)
 {
@@ -218,7 +251,7 @@ static void texts(void)
     CHECK(strcmp(gauge_kind_text(5), gauge_kind_text(0)) == 0 && strcmp(gauge_kind_text(GAUGE_ACK), gauge_kind_text(0)) != 0);
     CHECK(strcmp(gauge_reading_text(3), gauge_reading_text(4)) != 0 && strcmp(gauge_reading_text(1), gauge_reading_text(2)) != 0);
     CHECK(strcmp(gauge_part_text(GAUGE_PART_CACHE), "the cache") == 0 && strcmp(gauge_part_text(GAUGE_PART_WAITING), "the waiting table") == 0);
-    CHECK(strcmp(GAUGE_VERSION, "1.2") == 0 && GAUGE_VERSION_NUMBER == 102);
+    CHECK(strcmp(GAUGE_VERSION, "1.3") == 0 && GAUGE_VERSION_NUMBER == 103);
 }
 
 static void hex(const uint8_t *bytes, size_t len)
@@ -290,6 +323,7 @@ int main(void)
 {
     find_each_other();
     parts();
+    converted();
     texts();
     messages();
     printf("%u things hold, %u do not\n", tests - failed, failed);

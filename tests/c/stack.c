@@ -8,8 +8,8 @@
 #define PAINTED 16384
 #define PAINT 0x5C
 
-enum { RECEIVE, SEND, TICK, NEIGHBOURS, CLOSEST, LOOK, CARRY, CARRIED, BALANCE, CALLS };
-static const char *const names[CALLS] = {"receive", "send", "tick", "neighbours", "closest", "look", "carry", "carried", "balance"};
+enum { RECEIVE, SEND, TICK, NEIGHBOURS, CLOSEST, CONVERT, LOOK, CARRY, CARRIED, BALANCE, CALLS };
+static const char *const names[CALLS] = {"receive", "send", "tick", "neighbours", "closest", "convert", "look", "carry", "carried", "balance"};
 static size_t most[CALLS];
 
 __attribute__((destructor)) static void tell(void)
@@ -57,6 +57,9 @@ PAINTED_CALL(CLOSEST, struct gauge_answer, gauge_closest,
              (const uint8_t *own, size_t own_len, const uint8_t *cache, size_t cache_len, const uint8_t *path, size_t path_len, const uint8_t *target,
               size_t target_len),
              (own, own_len, cache, cache_len, path, path_len, target, target_len))
+PAINTED_CALL(CONVERT, struct gauge_answer, gauge_convert,
+             (const uint8_t *own, size_t own_len, uint8_t *cache, size_t cache_len, uint8_t *waiting, size_t waiting_len),
+             (own, own_len, cache, cache_len, waiting, waiting_len))
 PAINTED_CALL(LOOK, struct gauge_look_answer, gauge_look, (uint8_t major, const uint8_t *datagram, size_t datagram_len), (major, datagram, datagram_len))
 PAINTED_CALL(CARRY, struct gauge_carry_answer, gauge_carry,
              (uint8_t major, const uint8_t *authority, size_t authority_len, uint32_t kind, uint32_t measure, uint32_t litres_in, uint32_t litres_out,

@@ -356,20 +356,23 @@ struct model_look model_look(const struct lent *l)
     return seen;
 }
 
-/* Lent memory (document 01 "Lent memory"). */
+/* Lent memory (document 01 "Lent memory"). A record has at most so many addresses: one, by document 02, Wish 13; up to four in memory of the time
+ * before it, which the conversion alone is lent. */
 
-static bool record_form(const uint8_t *r)
+enum form { ONE_ADDRESS = 1, OLD = 4 };
+
+static bool record_form(const uint8_t *r, enum form most)
 {
-    unsigned count = r[34];
-    return count >= 1 && count <= 4 && r[35] == 0 && zero(r + 36 + 16 * count, 64 - 16 * count);
+    unsigned count = r[COUNT];
+    return count >= 1 && count <= most && r[35] == 0 && zero(r + ADDRESSES + ADDRESS_LEN * count, ADDRESS_LEN * (4 - count));
 }
 
-static bool own_form(struct room own)
+static bool own_form(struct room own, enum form most)
 {
-    return own.len == RECORD_LEN && record_form(own.at);
+    return own.len == RECORD_LEN && record_form(own.at, most);
 }
 
-static bool cache_form(const uint8_t *own, struct room cache)
+static bool cache_form(const uint8_t *own, struct room cache, enum form most)
 {
     if (cache.len % RECORD_LEN != 0 || cache.len < CACHE_LEAST || cache.len > CACHE_MOST)
         return false;
@@ -377,7 +380,7 @@ static bool cache_form(const uint8_t *own, struct room cache)
         const uint8_t *r = cache.at + i;
         if (zero(r, RECORD_LEN))
             return zero(r, cache.len - i);
-        if (!record_form(r) || order(r, own) == 0)
+        if (!record_form(r, most) || order(r, own) == 0)
             return false;
         if (i > 0 && order(r - RECORD_LEN, r) >= 0)
             return false;
@@ -385,9 +388,9 @@ static bool cache_form(const uint8_t *own, struct room cache)
     return true;
 }
 
-static bool inquiry_form(const uint8_t *own, const uint8_t *table, const uint8_t *p)
+static bool inquiry_form(const uint8_t *own, const uint8_t *table, const uint8_t *p, enum form most)
 {
-    if (!record_form(p + 40) || order(p + 8, p + 40) != 0 || order(p + 8, own) == 0)
+    if (!record_form(p + 40, most) || order(p + 8, p + 40) != 0 || order(p + 8, own) == 0)
         return false;
     for (const uint8_t *before = table; before < p; before += PLACE_LEN)
         if (before[4] == 2 && order(before + 8, p + 8) == 0)
@@ -395,7 +398,7 @@ static bool inquiry_form(const uint8_t *own, const uint8_t *table, const uint8_t
     return true;
 }
 
-static bool waiting_form(const uint8_t *own, struct room waiting)
+static bool waiting_form(const uint8_t *own, struct room waiting, enum form most)
 {
     if (waiting.len != WAITING_LEN)
         return false;
@@ -405,7 +408,7 @@ static bool waiting_form(const uint8_t *own, struct room waiting)
             return zero(p, WAITING_LEN - i);
         if (p[5] > 2 || p[6] != 0 || p[7] != 0)
             return false;
-        if (p[4] == 1 ? !zero(p + 40, RECORD_LEN) : p[4] == 2 ? !inquiry_form(own, waiting.at, p) : true)
+        if (p[4] == 1 ? !zero(p + 40, RECORD_LEN) : p[4] == 2 ? !inquiry_form(own, waiting.at, p, most) : true)
             return false;
         if (i > 0 && four_little(p - PLACE_LEN) >= four_little(p))
             return false;
@@ -435,7 +438,7 @@ static void copy_cache(struct work *w)
 {
     memcpy(w->cache, w->lent->cache.at, w->lent->cache.len);
     w->most = w->lent->cache.len / RECORD_LEN;
-    while (w->held < w->most && w->cache[RECORD_LEN * w->held + 34] != 0)
+    while (w->held < w->most && w->cache[RECORD_LEN * w->held + COUNT] != 0)
         w->held++;
 }
 
@@ -526,7 +529,7 @@ static bool on_path(const uint8_t *record, struct bytes path)
 {
     bool found = false;
     for (const uint8_t *e = path.at; !found && e < path.at + path.len; e += ENDPOINT_LEN)
-        for (const uint8_t *a = record + ADDRESSES; !found && a < record + ADDRESSES + ADDRESS_LEN * record[34]; a += ADDRESS_LEN)
+        for (const uint8_t *a = record + ADDRESSES; !found && a < record + ADDRESSES + ADDRESS_LEN * record[COUNT]; a += ADDRESS_LEN)
             found = memcmp(e, record + PORT, 2) == 0 && memcmp(e + 2, a, ADDRESS_LEN) == 0;
     return found;
 }
@@ -659,7 +662,7 @@ static void put_flags(struct work *w, unsigned flags)
 
 static void put_entry(struct work *w, const uint8_t *record)
 {
-    unsigned count = record[34];
+    unsigned count = record[COUNT];
     put2(w, 0x009A);
     put2(w, 42 + 16 * count);
     put(w, record, KEY_LEN);
@@ -668,7 +671,7 @@ static void put_entry(struct work *w, const uint8_t *record)
     put(w, record + PORT, 2);
     put1(w, 0);
     put1(w, count);
-    put(w, record + 36, 16 * count);
+    put(w, record + ADDRESSES, ADDRESS_LEN * count);
     put2(w, 0);
 }
 
@@ -709,15 +712,16 @@ static void acknowledge(struct work *w, const struct message *m)
         send_ack(w, w->lent->id, m->id, order(d + m->validate.at, w->own) != 0);
 }
 
-/* The record that a message's route entry has. Its versions and flags are no part of it. */
+/* The record that a message's route entry has. Its versions and flags are no part of it; of two to four addresses "the first" is "kept" (document 02,
+ * Wish 13). */
 static void entry_record(const struct work *w, const struct message *m, uint8_t *record)
 {
     const uint8_t *entry = w->lent->datagram.at + m->entry.at;
     memset(record, 0, RECORD_LEN);
     memcpy(record, entry, KEY_LEN);
     memcpy(record + PORT, entry + 34, 2);
-    record[34] = entry[37];
-    memcpy(record + ADDRESSES, entry + 38, ADDRESS_LEN * (size_t)entry[37]);
+    record[COUNT] = 1;
+    memcpy(record + ADDRESSES, entry + 38, ADDRESS_LEN);
 }
 
 /* "If the very same record is held, or an inquiry for its key is waiting, no more. Otherwise an INQUIRE for its key follows and its place opens." */
@@ -805,7 +809,7 @@ static uint32_t answer_lookup(struct work *w, const struct message *m)
     uint8_t record[RECORD_LEN];
     struct bytes path = {d + m->path.at, m->path.len};
     const uint8_t *shown = closest(w, path, d + m->target.at);
-    send_authority(w, reply, m->id, 52 + 16 * (size_t)shown[34]);
+    send_authority(w, reply, m->id, 52 + 16 * (size_t)shown[COUNT]);
     put_entry(w, shown);
     if (m->entry.at == 0 || order(d + m->entry.at, w->own) == 0)
         return 0;
@@ -841,9 +845,9 @@ static uint32_t room_for(const struct work *w, uint32_t number)
 
 struct model_answer model_receive(const struct lent *l)
 {
-    if (!own_form(l->own) || l->cpa.len < 1 || l->cpa.len > CPA_MOST || l->nonce.len != NONCE_LEN || l->key.len != KEY_LEN)
+    if (!own_form(l->own, ONE_ADDRESS) || l->cpa.len < 1 || l->cpa.len > CPA_MOST || l->nonce.len != NONCE_LEN || l->key.len != KEY_LEN)
         return refuse(MEMORY);
-    if (!cache_form(l->own.at, l->cache) || !waiting_form(l->own.at, l->waiting))
+    if (!cache_form(l->own.at, l->cache, ONE_ADDRESS) || !waiting_form(l->own.at, l->waiting, ONE_ADDRESS))
         return refuse(MEMORY);
     struct message m = read_message(l->major, read_only(l->datagram));
     if (m.number != 0)
@@ -864,9 +868,9 @@ struct model_answer model_receive(const struct lent *l)
 
 struct model_answer model_send(const struct lent *l)
 {
-    if (!own_form(l->own) || l->neighbour.len != KEY_LEN || l->key.len != KEY_LEN)
+    if (!own_form(l->own, ONE_ADDRESS) || l->neighbour.len != KEY_LEN || l->key.len != KEY_LEN)
         return refuse(MEMORY);
-    if (!cache_form(l->own.at, l->cache) || !waiting_form(l->own.at, l->waiting))
+    if (!cache_form(l->own.at, l->cache, ONE_ADDRESS) || !waiting_form(l->own.at, l->waiting, ONE_ADDRESS))
         return refuse(MEMORY);
     struct work w;
     begin(&w, l);
@@ -893,7 +897,7 @@ struct model_answer model_send(const struct lent *l)
 
 struct model_answer model_tick(const struct lent *l)
 {
-    if (!own_form(l->own) || !waiting_form(l->own.at, l->waiting))
+    if (!own_form(l->own, ONE_ADDRESS) || !waiting_form(l->own.at, l->waiting, ONE_ADDRESS))
         return refuse(MEMORY);
     if (l->output.len < TICK_LEN)
         return refuse(ROOM);
@@ -941,7 +945,7 @@ static uint32_t list_side(struct work *w, bool side, uint8_t *to)
 
 struct model_answer model_neighbours(const struct lent *l)
 {
-    if (!own_form(l->own) || !cache_form(l->own.at, l->cache))
+    if (!own_form(l->own, ONE_ADDRESS) || !cache_form(l->own.at, l->cache, ONE_ADDRESS))
         return refuse(MEMORY);
     if (l->output.len < LIST_LEN)
         return refuse(ROOM);
@@ -958,7 +962,9 @@ struct model_answer model_neighbours(const struct lent *l)
  * `first` tells the record: 0 our own, 4 and more those of the cache in their order. */
 struct model_answer model_closest(const struct lent *l)
 {
-    if (!own_form(l->own) || !cache_form(l->own.at, l->cache) || l->path.len % ENDPOINT_LEN != 0 || l->target.len != KEY_LEN)
+    if (!own_form(l->own, ONE_ADDRESS) || l->path.len % ENDPOINT_LEN != 0 || l->target.len != KEY_LEN)
+        return refuse(MEMORY);
+    if (!cache_form(l->own.at, l->cache, ONE_ADDRESS))
         return refuse(MEMORY);
     struct work w;
     begin(&w, l);
@@ -967,5 +973,27 @@ struct model_answer model_closest(const struct lent *l)
     struct model_answer a = {0, 0, 0};
     if (shown != w.own)
         a.first = 4 + (uint32_t)((size_t)(shown - w.cache) / RECORD_LEN);
+    return a;
+}
+
+/* Document 02, Wish 13: "the count 1 and the other addresses zero". */
+static void convert_record(uint8_t *r)
+{
+    r[COUNT] = 1;
+    memset(r + ADDRESSES + ADDRESS_LEN, 0, 3 * ADDRESS_LEN);
+}
+
+/* "A conversion turns an old cache and waiting table into the new form .. keys and order the same", with 1 for memory "not in the old". The own
+ * record is lent for reading; a flood's record is all zero, and no record to convert. */
+struct model_answer model_convert(const struct lent *l)
+{
+    struct model_answer a = {0, 0, 0};
+    if (!own_form(l->own, OLD) || !cache_form(l->own.at, l->cache, OLD) || !waiting_form(l->own.at, l->waiting, OLD))
+        return refuse(MEMORY);
+    for (size_t i = 0; i < l->cache.len && l->cache.at[i + COUNT] != 0; i += RECORD_LEN)
+        convert_record(l->cache.at + i);
+    for (size_t i = 0; i < WAITING_LEN; i += PLACE_LEN)
+        if (l->waiting.at[i + 4] == 2)
+            convert_record(l->waiting.at + i + 40);
     return a;
 }

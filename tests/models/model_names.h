@@ -2,13 +2,14 @@
 #ifndef MODEL_NAMES_H
 #define MODEL_NAMES_H
 
-/* Document 01: "Lent memory", in bytes, and where in a record port and addresses stand; an endpoint of a path; the datagram; what a tick and
+/* Document 01: "Lent memory", in bytes, and where in a record port, count and addresses stand; an endpoint of a path; the datagram; what a tick and
  * a list need. */
 enum {
     KEY_LEN = 32,
     NONCE_LEN = 16,
     RECORD_LEN = 100,
     PORT = 32,
+    COUNT = 34,
     ADDRESSES = 36,
     ADDRESS_LEN = 16,
     ENDPOINT_LEN = 18,

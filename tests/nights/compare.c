@@ -5,9 +5,9 @@
  *
  * A night is one gauge: an own key, a cache of C records, and calls one after the other on the memory that the calls before have left. Datagrams lean
  * on that memory (IDs that wait, keys held, the own key) and are damaged by byte, bit, cut and growth; the memory itself is damaged for one call in
- * every field; each slice is lent with wrong lengths, and ends or begins at a page that may not be touched. At the end a table tells how often each
- * number was reached by each call and message: one that is possible and was reached too seldom fails (tests/nights/reached.h), and so does one that
- * is not possible and was reached.
+ * every field, or is of the time before request 13, which only the conversion takes; each slice is lent with wrong lengths, and ends or begins at a
+ * page that may not be touched. At the end a table tells how often each number was reached by each call and message: one that is possible and was
+ * reached too seldom fails (tests/nights/reached.h), and so does one that is not possible and was reached.
  *
  * With ALONE the model stands in for the archive too: so the sanitizers see it on a machine that can't link the archive. */
 #define _DEFAULT_SOURCE
@@ -77,8 +77,10 @@ static struct result by_model(enum call_kind kind, const struct lent *l)
         a = model_tick(l);
     else if (kind == NEIGHBOURS)
         a = model_neighbours(l);
-    else
+    else if (kind == CLOSEST)
         a = model_closest(l);
+    else
+        a = model_convert(l);
     return three_numbers(a.number, a.first, a.second);
 }
 
@@ -102,8 +104,10 @@ static struct result by_archive(enum call_kind kind, const struct lent *l)
         a = call_tick(gauge_tick, l);
     else if (kind == NEIGHBOURS)
         a = call_neighbours(gauge_neighbours, l);
-    else
+    else if (kind == CLOSEST)
         a = call_closest(gauge_closest, l);
+    else
+        a = call_convert(gauge_convert, l);
     return three_numbers(a.number, a.first, a.second);
 }
 #endif

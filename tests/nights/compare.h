@@ -11,6 +11,7 @@ struct call {
     uint8_t filled;
     bool front; /* slices begin where a page that may not be touched ends; otherwise they end where one begins */
     bool sound; /* nothing that is tested for form was damaged */
+    bool aged;  /* what it is lent may be of the time before request 13 */
     struct lent lent; /* memory without a place means: the present one */
 };
 

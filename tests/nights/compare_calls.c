@@ -15,16 +15,17 @@ static uint8_t spoiled[MEMORY_ROOM];
 static const uint8_t cache_fields[] = {0, 31, 32, 33, 34, 35, 36, 51, 52, 67, 68, 83, 84, 99};
 static const uint8_t waiting_fields[] = {0, 3, 4, 4, 5, 5, 5, 6, 7, 8, 39, 40, 71, 72, 74, 75, 76, 91, 92, 107, 108, 123, 124, 139};
 
-/* Memory of rows, of which the first are used. A row's key stands at `key_at`, and in an inquiry's record once more, at `again_at`. */
+/* Memory of rows, of which the first are used. A row's key stands at `key_at`, and in an inquiry's record once more, at `again_at`; how many
+ * addresses its record has, at `count_at`. */
 struct rows {
-    size_t len, width, used, key_at, again_at;
+    size_t len, width, used, key_at, again_at, count_at;
 };
 
 /* A byte, a bit or a field, anywhere or in a row that is used or just behind. */
 static void spoil_byte(const struct rows *r, uint8_t *row)
 {
     size_t field;
-    switch (under(7)) {
+    switch (under(8)) {
     case 0: set_byte(spoiled, r->len); break;
     case 1: set_byte(row, r->width); break;
     case 2: flip_bit(row, r->width); break;
@@ -32,6 +33,7 @@ static void spoil_byte(const struct rows *r, uint8_t *row)
         field = r->width * r->used < r->len && percent(50) ? r->width * r->used : r->len - 1;
         spoiled[field] = (uint8_t)(1 + under(255));
         break;
+    case 4: row[r->count_at] = (uint8_t)under(6); break;
     default:
         field = r->width == GAUGE_RECORD_LEN ? cache_fields[under(sizeof cache_fields)] : waiting_fields[under(sizeof waiting_fields)];
         row[field] = (uint8_t)under(6);
@@ -108,25 +110,83 @@ static size_t wrong_length(size_t right)
     }
 }
 
+/* Memory of the time when a record had up to four addresses (document 02, request 13): the present one, and behind the address of some records, or of
+ * all, others. */
+
+static uint8_t aged[MEMORY_ROOM];
+
+static unsigned some_aged(void)
+{
+    return percent(15) ? 0 : percent(50) ? 40 : 100;
+}
+
+static struct room aged_cache(void)
+{
+    unsigned often = some_aged();
+    memcpy(aged, now.cache, now.cache_len);
+    for (size_t i = 0; i < held(); i++)
+        if (percent(often))
+            more_addresses(aged + GAUGE_RECORD_LEN * i);
+    return kept(aged, now.cache_len);
+}
+
+static struct room aged_waiting(void)
+{
+    unsigned often = some_aged();
+    memcpy(aged, now.waiting, now.waiting_len);
+    for (size_t i = 0; i < waits(); i++)
+        if (aged[GAUGE_PLACE_LEN * i + 4] == 2 && percent(often))
+            more_addresses(aged + GAUGE_PLACE_LEN * i + 40);
+    return kept(aged, now.waiting_len);
+}
+
+static struct room aged_own(void)
+{
+    memcpy(aged, own, GAUGE_RECORD_LEN);
+    if (percent(60))
+        more_addresses(aged);
+    return kept(aged, GAUGE_RECORD_LEN);
+}
+
+/* All that a conversion is lent; to another call one of them, which is then refused if it is what it seems. */
+static void age_call(struct call *c)
+{
+    uint32_t which = under(3);
+    c->aged = true;
+    if (c->kind == CONVERT || which == 0)
+        c->lent.cache = aged_cache();
+    if (c->kind == CONVERT || which == 1)
+        c->lent.waiting = aged_waiting();
+    if (c->kind == CONVERT || which == 2)
+        c->lent.own = aged_own();
+}
+
+static const uint8_t *lent_or(struct room lent, const uint8_t *present)
+{
+    return lent.at != NULL ? lent.at : present;
+}
+
 static void damage_call(struct call *c)
 {
     static uint8_t b[4096];
     struct room *small;
-    struct rows records = {now.cache_len, GAUGE_RECORD_LEN, held(), 0, 0}, places = {now.waiting_len, GAUGE_PLACE_LEN, waits(), 8, 40};
+    struct rows records = {now.cache_len, GAUGE_RECORD_LEN, held(), 0, 0, GAUGE_RECORD_COUNT};
+    struct rows places = {now.waiting_len, GAUGE_PLACE_LEN, waits(), 8, 40, 40 + GAUGE_RECORD_COUNT};
     memset(b, 0, sizeof b);
     c->sound = false;
-    switch (under(9)) {
-    case 0: case 1: case 2: c->lent.cache = spoil(now.cache, &records); break;
-    case 3: case 4: case 5: c->lent.waiting = spoil(now.waiting, &places); break;
+    switch (under(c->kind == CONVERT ? 7 : 11)) {
+    case 0: case 1: case 2: c->lent.cache = spoil(lent_or(c->lent.cache, now.cache), &records); break;
+    case 3: case 4: case 5: c->lent.waiting = spoil(lent_or(c->lent.waiting, now.waiting), &places); break;
     case 6: {
         static const uint8_t fields[] = {34, 35, 52, 68, 84, 99, 0, 31};
-        memcpy(b, own, GAUGE_RECORD_LEN);
+        memcpy(b, c->lent.own.at, GAUGE_RECORD_LEN);
         size_t at = percent(50) ? fields[under(sizeof fields)] : under(GAUGE_RECORD_LEN);
         b[at] = (uint8_t)under(6);
         c->lent.own = kept(b, percent(70) ? GAUGE_RECORD_LEN : wrong_length(GAUGE_RECORD_LEN));
         break;
     }
     case 7: c->lent.cpa = kept(b, percent(40) ? 0 : GAUGE_CPA_MOST + under(3)); break;
+    case 8: case 9: age_call(c); break;
     default:
         small = c->kind == CLOSEST ? &c->lent.target : !percent(50) ? &c->lent.key : c->kind == SEND ? &c->lent.neighbour : &c->lent.nonce;
         if (c->kind == CLOSEST && percent(60))
@@ -161,7 +221,7 @@ void make_call(struct call *c)
     uint8_t b[GAUGE_CPA_MOST], key[GAUGE_KEY_LEN];
     uint32_t way = under(100);
     memset(c, 0, sizeof *c);
-    c->kind = way < 68 ? RECEIVE : way < 76 ? SEND : way < 76 + ticks ? TICK : way < 85 ? NEIGHBOURS : way < 92 ? CLOSEST : LOOK;
+    c->kind = way < 68 ? RECEIVE : way < 76 ? SEND : way < 76 + ticks ? TICK : way < 85 ? NEIGHBOURS : way < 90 ? CLOSEST : way < 94 ? CONVERT : LOOK;
     c->lent = lend_gauge();
     c->lent.major = percent(3) ? any() : own_major;
     c->filled = any();
@@ -190,7 +250,9 @@ void make_call(struct call *c)
         c->lent.path = kept(b, len);
         c->lent.target = kept(key, GAUGE_KEY_LEN);
     }
-    if (percent(6))
+    if (c->kind == CONVERT)
+        age_call(c);
+    if (percent(c->kind == CONVERT ? 45 : 6))
         damage_call(c);
     c->lent.output.len = some_room(c);
 }

@@ -26,14 +26,15 @@ static uint32_t possible(int kind, int message)
         return looked[message];
     if (message != NONE)
         return 0;
-    return kind == SEND ? SENDS : BIT(GAUGE_OK) | BIT(GAUGE_MEMORY) | (kind == CLOSEST ? 0 : BIT(GAUGE_ROOM));
+    return kind == SEND ? SENDS : BIT(GAUGE_OK) | BIT(GAUGE_MEMORY) | (kind == CLOSEST || kind == CONVERT ? 0 : BIT(GAUGE_ROOM));
 }
 
 /* What an accepted call did, by what it left and wrote. */
 enum { JOINED, REPLACED, OTHER_DROPPED, SELF_DROPPED, BOTH, ACK_ONLY, INQUIRE_ONLY, QUIET, N_SET, WRAPPED, REVOKED, UNASKED, REVOKED_NOT, N_REMOVED,
        N_CLEAR, SHOWN_OWN, SHOWN_HELD, EXPIRED, SIXTEEN, FIVES, BETWEEN, LIST_END, LIST_OPPOSITE, SHOWN_END, TIE, TIE_END, FULL_255, FULL_256,
        SHOWN_256, ASKED, ASKED_WRAPPED, ENTRY_SAME, ENTRY_WAITS, ENTRY_OWN, PASSED, PASSED_MANY, PASSED_FOR_OWN, NEAREST_OWN, NEAREST_HELD,
-       NEAREST_BARE, NEAREST_256, DONE };
+       NEAREST_BARE, NEAREST_256, MORE_SAME, MORE_SAME_LOOKUP, MORE_ASKED, MORE_ASKED_LOOKUP, MOVED, MOVED_LOOKUP, OLD_REFUSED,
+       CONVERTED, CONVERTED_SOME, CONVERTED_NONE, CONVERTED_INQUIRY, CONVERTED_FLOOD, CONVERTED_OWN, CONVERTED_256, NOT_CONVERTED, DONE };
 static const char *const done_names[] = {
     "learned: joined", "learned: replaced", "learned: another dropped", "learned: newcomer dropped", "FLOOD: ACK and INQUIRE", "FLOOD: ACK alone",
     "FLOOD: INQUIRE alone", "FLOOD: nothing sent", "ACK sent with N", "INQUIRE with ID 0", "revoked: key removed", "revoked: inquiry freed",
@@ -42,7 +43,11 @@ static const char *const done_names[] = {
     "list: key just opposite", "LOOKUP: across the end", "LOOKUP: tie", "LOOKUP: tie, larger number", "learned: into a full 255",
     "learned: into a full 256", "LOOKUP: 256th record shown", "LOOKUP: entry inquired about", "LOOKUP: INQUIRE with ID 0",
     "LOOKUP: entry held already", "LOOKUP: entry's key waits", "LOOKUP: entry has our key", "path: closest passed over", "path: ten passed over",
-    "path: all nearer passed over", "closest: own", "closest: held", "closest: no path", "closest: 256th record"};
+    "path: all nearer passed over", "closest: own", "closest: held", "closest: no path", "closest: 256th record",
+    "FLOOD: held, more behind it", "LOOKUP: held, more behind it", "FLOOD: two to four, asked", "LOOKUP: two to four, asked",
+    "FLOOD: address moved, asked", "LOOKUP: address moved, asked", "old memory refused", "convert: all records old",
+    "convert: some records old", "convert: nothing to turn", "convert: old inquiry", "convert: flood beside one", "convert: own record old",
+    "convert: 256 records", "convert: refused when old"};
 static unsigned long done[DONE];
 
 static size_t rows_used(const uint8_t *p, size_t len, size_t width, size_t mark)
@@ -146,6 +151,63 @@ static void count_asked(const struct call *c, const uint32_t *answer, const stru
     done[ASKED_WRAPPED] += answer[2] != 0 && c->lent.id == UINT32_MAX;
 }
 
+/* What became of a route entry by its addresses: held already, whatever stands behind the first; inquired about; with the one held behind another. */
+static void count_addresses(const struct call *c, int message, const uint32_t *answer, const struct memory *before, size_t was)
+{
+    int by = message == LOOKUP; /* of a FLOOD, and behind it of a LOOKUP */
+    const uint8_t *entry = c->lent.datagram.at + model_look(&c->lent).entry.at, *r = before->cache, *end = r + GAUGE_RECORD_LEN * was;
+    bool asked = answer[1] == 76 || answer[2] == 76, moved = false;
+    if ((message != ENTRY && message != LOOKUP) || model_look(&c->lent).entry.at == 0 || entry[GAUGE_ENTRY_COUNT] < 2)
+        return;
+    while (r < end && memcmp(r, entry, GAUGE_KEY_LEN) != 0)
+        r += GAUGE_RECORD_LEN;
+    done[MORE_ASKED + by] += asked;
+    if (r == end || memcmp(r + GAUGE_RECORD_PORT, entry + GAUGE_ENTRY_PORT, 2) != 0)
+        return;
+    for (unsigned i = 1; i < entry[GAUGE_ENTRY_COUNT]; i++)
+        moved = moved || memcmp(r + GAUGE_RECORD_ADDRESSES, entry + GAUGE_ENTRY_ADDRESSES + GAUGE_ADDRESS_LEN * i, GAUGE_ADDRESS_LEN) == 0;
+    done[MORE_SAME + by] += !asked && memcmp(r + GAUGE_RECORD_ADDRESSES, entry + GAUGE_ENTRY_ADDRESSES, GAUGE_ADDRESS_LEN) == 0;
+    done[MOVED + by] += asked && moved;
+}
+
+/* How many records of a memory, of those that are used, have more than one address. */
+static size_t old_in(struct room memory, size_t width, size_t count_at)
+{
+    size_t n = 0;
+    for (size_t i = 0; i + width <= memory.len; i += width)
+        n += memory.at[i + count_at] > 1;
+    return n;
+}
+
+static bool has_old(const struct call *c, const struct memory *before)
+{
+    struct lent l = c->lent;
+    static struct memory m;
+    m = *before;
+    lend_memory(&l, &m);
+    return (is_lent(LENT_cache, c->kind) && old_in(l.cache, GAUGE_RECORD_LEN, GAUGE_RECORD_COUNT) > 0)
+           || (is_lent(LENT_waiting, c->kind) && old_in(l.waiting, GAUGE_PLACE_LEN, 40 + GAUGE_RECORD_COUNT) > 0)
+           || (l.own.len == GAUGE_RECORD_LEN && l.own.at[GAUGE_RECORD_COUNT] > 1);
+}
+
+/* A conversion, by what it was lent. */
+static void count_converted(const struct call *c)
+{
+    size_t records = rows_used(c->lent.cache.at, c->lent.cache.len, GAUGE_RECORD_LEN, GAUGE_RECORD_COUNT);
+    size_t old = old_in(c->lent.cache, GAUGE_RECORD_LEN, GAUGE_RECORD_COUNT);
+    size_t inquiries = old_in(c->lent.waiting, GAUGE_PLACE_LEN, 40 + GAUGE_RECORD_COUNT);
+    bool flood = false;
+    for (size_t i = 0; i < c->lent.waiting.len; i += GAUGE_PLACE_LEN)
+        flood = flood || c->lent.waiting.at[i + 4] == 1;
+    done[CONVERTED] += old > 0 && old == records;
+    done[CONVERTED_SOME] += old > 0 && old < records;
+    done[CONVERTED_NONE] += old == 0 && inquiries == 0 && records > 0;
+    done[CONVERTED_INQUIRY] += inquiries > 0;
+    done[CONVERTED_FLOOD] += inquiries > 0 && flood;
+    done[CONVERTED_OWN] += c->lent.own.at[GAUGE_RECORD_COUNT] > 1;
+    done[CONVERTED_256] += records == GAUGE_CACHE_MOST && old > 0;
+}
+
 static void count_learned(const uint8_t *key, const struct memory *before, size_t was)
 {
     bool same = memcmp(before->cache, now.cache, now.cache_len) == 0, there = false;
@@ -221,6 +283,12 @@ void count_call(const struct call *c, const uint32_t *answer, const uint8_t *out
 {
     int message = message_in(c);
     count_number(&reached[c->kind][message], answer[0]);
+    if (answer[0] == GAUGE_MEMORY && c->aged && has_old(c, before))
+        done[c->kind == CONVERT ? NOT_CONVERTED : OLD_REFUSED]++;
+    if (answer[0] == 0 && c->kind == CONVERT)
+        count_converted(c);
+    if (answer[0] == 0 && c->kind == RECEIVE && on_present(c))
+        count_addresses(c, message, answer, before, rows_used(before->cache, before->cache_len, GAUGE_RECORD_LEN, GAUGE_RECORD_COUNT));
     if (answer[0] == 0 && on_present(c))
         count_done(c, message, answer, output, before);
 }

@@ -117,7 +117,7 @@ void copy_memory(struct memory *to, struct memory *from)
 static uint8_t pool[32][GAUGE_KEY_LEN];
 static uint32_t next_id;
 
-/* Endpoints that gauges of a night share: so often of 100 a record has its port, and each of its addresses, of one of them. */
+/* Endpoints that gauges of a night share: so often of 100 a record has its port, and an address is that, of one of them. */
 static uint8_t points[4][GAUGE_ENDPOINT_LEN];
 static size_t shared;
 static unsigned sharing;
@@ -242,26 +242,44 @@ static void begin_points(void)
     memset(points[3] + 2, 0, GAUGE_ADDRESS_LEN);
     if (percent(30))
         memset(points[3], 0, 2);
-    shared = percent(30) ? 1 : 2 + under(3);
-    sharing = percent(40) ? 0 : percent(50) ? 30 : 97;
+    shared = percent(45) ? 1 : 2 + under(3);
+    sharing = percent(35) ? 0 : percent(40) ? 30 : 97;
 }
 
-/* All but the key. */
+static void some_address(uint8_t *address)
+{
+    fill(address, GAUGE_ADDRESS_LEN);
+    for (size_t i = 0; i < GAUGE_ADDRESS_LEN; i++)
+        if (address[i] < 80)
+            address[i] = 0;
+    if (percent(sharing))
+        memcpy(address, points[under(shared)] + 2, GAUGE_ADDRESS_LEN);
+}
+
 void some_rest(uint8_t *record)
 {
     memset(record + GAUGE_RECORD_PORT, 0, GAUGE_RECORD_LEN - GAUGE_RECORD_PORT);
     record[GAUGE_RECORD_PORT] = percent(20) ? 0 : any();
     record[33] = any();
-    record[GAUGE_RECORD_COUNT] = (uint8_t)(1 + under(4));
-    fill(record + GAUGE_RECORD_ADDRESSES, 16 * (size_t)record[GAUGE_RECORD_COUNT]);
-    for (size_t i = 0; i < 16 * (size_t)record[GAUGE_RECORD_COUNT]; i++)
-        if (record[GAUGE_RECORD_ADDRESSES + i] < 80)
-            record[GAUGE_RECORD_ADDRESSES + i] = 0;
+    record[GAUGE_RECORD_COUNT] = 1;
     if (percent(sharing))
         memcpy(record + GAUGE_RECORD_PORT, points[under(shared)], 2);
-    for (size_t i = 0; i < record[GAUGE_RECORD_COUNT]; i++)
-        if (percent(sharing))
-            memcpy(record + GAUGE_RECORD_ADDRESSES + GAUGE_ADDRESS_LEN * i, points[under(shared)] + 2, GAUGE_ADDRESS_LEN);
+    some_address(record + GAUGE_RECORD_ADDRESSES);
+}
+
+void more_addresses(uint8_t *record)
+{
+    unsigned count = 1 + under(4);
+    record[GAUGE_RECORD_COUNT] = (uint8_t)count;
+    for (unsigned i = 1; i < count; i++) {
+        uint8_t *address = record + GAUGE_RECORD_ADDRESSES + GAUGE_ADDRESS_LEN * i;
+        uint32_t way = under(8);
+        some_address(address);
+        if (way == 0) /* one that is used and zero, or stands twice */
+            memset(address, 0, GAUGE_ADDRESS_LEN);
+        else if (way == 1)
+            memcpy(address, record + GAUGE_RECORD_ADDRESSES, GAUGE_ADDRESS_LEN);
+    }
 }
 
 uint32_t some_id(void)
@@ -428,6 +446,7 @@ static void add_some_entry(void)
     uint8_t record[GAUGE_RECORD_LEN];
     some_key(record);
     some_rest(record);
+    more_addresses(record);
     add_entry(record);
 }
 
@@ -467,14 +486,12 @@ static const uint8_t *some_near(const uint8_t *target)
     return now.cache + GAUGE_RECORD_LEN * (at % h);
 }
 
-/* An endpoint for a path: of such a record, by any of its addresses; and every other time wrong in one thing. */
+/* An endpoint for a path: of such a record; and every other time wrong in one thing. */
 static void some_endpoint(const uint8_t *target, uint8_t *point)
 {
     const uint8_t *r = some_near(target), *other = some_near(target);
-    unsigned count = r[GAUGE_RECORD_COUNT]; /* our own record may be out of form */
-    size_t which = count >= 1 && count <= 4 ? under(count) : 0;
     memcpy(point, r + GAUGE_RECORD_PORT, 2);
-    memcpy(point + 2, r + GAUGE_RECORD_ADDRESSES + GAUGE_ADDRESS_LEN * which, GAUGE_ADDRESS_LEN);
+    memcpy(point + 2, r + GAUGE_RECORD_ADDRESSES, GAUGE_ADDRESS_LEN);
     switch (under(16)) {
     case 0: point[1] = (uint8_t)(point[1] + 1); break; /* the port off by one */
     case 1: point[1] = (uint8_t)(point[1] - 1); break;
@@ -575,7 +592,27 @@ static void draft_request(void)
         set2(split + 6, percent(50) ? 1188 : under(3));
 }
 
-/* The very same record, the same key with another, a key that is asked about, our own, or another. */
+/* Of a record that is held, another that is like it in all but one thing: a bit of the port or of the address; the address behind another one. */
+static void change_record(uint8_t *record)
+{
+    uint8_t *first = record + GAUGE_RECORD_ADDRESSES;
+    unsigned place = 1 + under(3);
+    switch (under(4)) {
+    case 0: flip_bit(record + GAUGE_RECORD_PORT, 2); break;
+    case 1: flip_bit(first + GAUGE_ADDRESS_LEN - 1, 1); break;
+    case 2: flip_bit(first, GAUGE_ADDRESS_LEN); break;
+    default:
+        more_addresses(record);
+        memcpy(first + GAUGE_ADDRESS_LEN * place, first, GAUGE_ADDRESS_LEN);
+        some_address(first);
+        if (record[GAUGE_RECORD_COUNT] <= place)
+            record[GAUGE_RECORD_COUNT] = (uint8_t)(place + 1);
+        break;
+    }
+}
+
+/* What a route entry tells: the very same record, with others behind its address too; the same key with another; a key that is asked about, our own,
+ * or another. Its addresses may be one to four. */
 static void draft_flood_record(uint8_t *record)
 {
     size_t h = held();
@@ -586,10 +623,10 @@ static void draft_flood_record(uint8_t *record)
         memcpy(record, now.cache + GAUGE_RECORD_LEN * under(h), way < 2 ? GAUGE_RECORD_LEN : GAUGE_KEY_LEN);
     else if (way < 8)
         memcpy(record, pool[under(32)], GAUGE_KEY_LEN);
-    if (way == 0 && h > 0 && percent(50)) { /* all the same but a bit of the port, or of the last address */
-        size_t last = GAUGE_RECORD_ADDRESSES + 16 * (size_t)record[GAUGE_RECORD_COUNT] - 1;
-        flip_bit(record + (percent(50) ? GAUGE_RECORD_PORT + under(2) : last), 1);
-    }
+    if (way == 0 && h > 0 && percent(60))
+        change_record(record);
+    else if (percent(60))
+        more_addresses(record);
 }
 
 static void draft_flood_of(const uint8_t *key, const uint8_t *record, bool revoke)
@@ -872,6 +909,7 @@ void draft_news(uint8_t *key)
     else
         fill(record, GAUGE_KEY_LEN);
     some_rest(record);
+    more_addresses(record);
     memcpy(key, record, GAUGE_KEY_LEN);
     draft_flood_of(key, record, false);
 }

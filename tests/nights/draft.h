@@ -46,7 +46,8 @@ size_t held(void);      /* records in the cache */
 size_t waits(void);     /* places in use */
 
 void some_key(uint8_t *key);
-void some_rest(uint8_t *record); /* all but the key */
+void some_rest(uint8_t *record); /* all but the key, with one address */
+void more_addresses(uint8_t *record); /* one to four of them, the first as it is: what a route entry has, and a record had before request 13 */
 uint32_t some_id(void);
 
 /* A datagram; where its fields begin is remembered for damage. */

@@ -73,11 +73,12 @@ static void want(uint32_t number, uint32_t answer)
 static struct times reached[TICK + 1][MESSAGES];
 
 enum { EMPTY_NIGHT, LONG_NIGHT, SHAPELESS, FULL_CACHE, DROPPED, SIXTEEN, ID_LAST, ID_ORDER, SIZE_0, SIZE_1232, SIZE_1233, SIZE_65480, FOLLOWED,
-       AT_ONCE, DONE };
+       AT_ONCE, OLD_OWN, DONE };
 static const char *const done_names[] = {
     "nights without a call", "nights of 400 calls or more", "nights with an own record out of form", "calls with 64 held", "one dropped of 65",
     "calls with sixteen waiting", "ID 4294967295", "ID accepted that is another backwards", "datagram of 0 bytes", "datagram of 1,232 bytes accepted",
-    "datagram of 1,233 bytes", "datagram of 65,480 bytes", "nights with records behind a bad one", "nights bad just behind kind 4"};
+    "datagram of 1,233 bytes", "datagram of 65,480 bytes", "nights with records behind a bad one", "nights bad just behind kind 4",
+    "nights with an own record of two to four addresses"};
 static unsigned long done[DONE];
 
 static void count_call(int kind, int message, uint32_t answer, uint32_t id)
@@ -370,7 +371,7 @@ static void end_badly(const struct way *w, bool first)
 /* An own record out of form is taken, and each call then answers 1. */
 static void spoil_own(void)
 {
-    switch (under(5)) {
+    switch (under(9)) {
     case 0: own[GAUGE_RECORD_COUNT] = 0; break;
     case 1: own[GAUGE_RECORD_COUNT] = (uint8_t)(5 + under(251)); break;
     case 2: own[35] = (uint8_t)(1 + under(255)); break;
@@ -378,7 +379,12 @@ static void spoil_own(void)
         own[GAUGE_RECORD_COUNT] = (uint8_t)(1 + under(3));
         own[99] = (uint8_t)(1 + under(255));
         break;
-    default: memset(own, 0, GAUGE_RECORD_LEN); break;
+    case 4: memset(own, 0, GAUGE_RECORD_LEN); break;
+    default: /* two to four addresses, of the time before request 13 */
+        while (own[GAUGE_RECORD_COUNT] == 1)
+            more_addresses(own);
+        done[OLD_OWN]++;
+        break;
     }
     done[SHAPELESS]++;
 }
@@ -398,7 +404,7 @@ static void make_night(unsigned long i)
     trace_len = lines = 0;
     any_dropped = false;
     begin_gauge();
-    if (percent(8))
+    if (percent(12))
         spoil_own();
     if (!first) {
         put_first();

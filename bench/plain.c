@@ -1,5 +1,5 @@
-/* The six calls in plain C, written for speed: what the archive is measured against. It makes every test of document 01, with document 02's ring and
- * path, and gives the same numbers and bytes; nothing is written before the last refusal is decided. Numbers are loaded whole and swapped, keys
+/* The seven calls in plain C, written for speed: what the archive is measured against. It makes every test of document 01, with document 02's ring,
+ * path and one address, and gives the same numbers and bytes; nothing is written before the last refusal is decided. Numbers are loaded whole and swapped, keys
  * compared by words up to the first that differ, runs of bytes moved by the C library. For x86-64: words are read least significant byte first.
  *
  *   PLAIN    begins the names of the calls
@@ -90,7 +90,15 @@ static bool all_zero(const uint8_t *p, size_t n)
 
 /* Form. */
 
+/* One address: the count 1, a zero byte, and 48 of them behind the address. */
 static inline bool record_formed(const uint8_t *r)
+{
+    uint64_t rest = word(r + 52) | word(r + 60) | word(r + 68) | word(r + 76) | word(r + 84) | word(r + 92);
+    return two(r + 34) == 0x0100 && rest == 0;
+}
+
+/* One to four, as before request 13. */
+static inline bool old_formed(const uint8_t *r)
 {
     uint64_t rest = r[35];
     switch (r[34]) {
@@ -107,14 +115,20 @@ static bool own_formed(const uint8_t *own, size_t len)
     return len == 100 && record_formed(own);
 }
 
+/* `old` is known where each is called, and the other form's test is not in the code. */
+static inline bool formed(const uint8_t *r, bool old)
+{
+    return old ? old_formed(r) : record_formed(r);
+}
+
 /* How many records are held. The first word of the key before is carried along. */
-static size_t cache_form(const uint8_t *own, const uint8_t *cache, size_t len)
+static inline size_t cache_rows(const uint8_t *own, const uint8_t *cache, size_t len, bool old)
 {
     if (len < 1000 || len > 25600 || len % 100 != 0)
         return NOT_IN_FORM;
     const uint8_t *r = cache, *end = cache + len;
     uint64_t before = 0, ours = big(own);
-    for (; r < end && record_formed(r); r += 100) {
+    for (; r < end && formed(r, old); r += 100) {
         uint64_t top = big(r);
         if (top <= before && r != cache && !less(before, r - 100, top, r))
             return NOT_IN_FORM;
@@ -125,9 +139,14 @@ static size_t cache_form(const uint8_t *own, const uint8_t *cache, size_t len)
     return all_zero(r, (size_t)(end - r)) ? (size_t)(r - cache) / 100 : NOT_IN_FORM;
 }
 
-static bool inquiry_formed(const uint8_t *own, const uint8_t *waiting, const uint8_t *p)
+static size_t cache_form(const uint8_t *own, const uint8_t *cache, size_t len)
 {
-    if (!record_formed(p + 40) || !same_key(p + 8, p + 40) || same_key(p + 8, own))
+    return cache_rows(own, cache, len, false);
+}
+
+static inline bool inquiry_formed(const uint8_t *own, const uint8_t *waiting, const uint8_t *p, bool old)
+{
+    if (!formed(p + 40, old) || !same_key(p + 8, p + 40) || same_key(p + 8, own))
         return false;
     for (const uint8_t *q = waiting; q < p; q += 140)
         if (word(q + 8) == word(p + 8) && q[4] == 2 && same_rest(q + 8, p + 8))
@@ -136,7 +155,7 @@ static bool inquiry_formed(const uint8_t *own, const uint8_t *waiting, const uin
 }
 
 /* How many places are used. The first eight bytes of a place are one word: ID, kind, tries and two that are zero. */
-static size_t waiting_form(const uint8_t *own, const uint8_t *waiting, size_t len)
+static inline size_t waiting_rows(const uint8_t *own, const uint8_t *waiting, size_t len, bool old)
 {
     if (len != 2240)
         return NOT_IN_FORM;
@@ -146,11 +165,16 @@ static size_t waiting_form(const uint8_t *own, const uint8_t *waiting, size_t le
         uint64_t head = word(p), id = head & 0xFFFFFFFF;
         if (head >> 40 > 2 || id < least)
             return NOT_IN_FORM;
-        if (p[4] == 2 ? !inquiry_formed(own, waiting, p) : p[4] != 1 || !all_zero(p + 40, 100))
+        if (p[4] == 2 ? !inquiry_formed(own, waiting, p, old) : p[4] != 1 || !all_zero(p + 40, 100))
             return NOT_IN_FORM;
         least = id + 1;
     }
     return all_zero(p, (size_t)(end - p)) ? (size_t)(p - waiting) / 140 : NOT_IN_FORM;
+}
+
+static size_t waiting_form(const uint8_t *own, const uint8_t *waiting, size_t len)
+{
+    return waiting_rows(own, waiting, len, false);
 }
 
 /* Reading. A field of known length is told by its first four bytes at once. */
@@ -505,20 +529,17 @@ struct path {
     size_t len;
 };
 
-/* Do a record's port and one of its addresses stand together on the path? Most endpoints have another port or another first word. */
+/* Do a record's port and its address stand together on the path? Most endpoints have another port or another first word. */
 static bool on_path(const struct path *path, const uint8_t *r)
 {
     const uint8_t *end = path->at + path->len;
+    uint64_t a = word(r + 36), b = word(r + 44);
     uint16_t port, other;
     memcpy(&port, r + 32, 2);
     for (const uint8_t *e = path->at; e < end; e += 18) {
         memcpy(&other, e, 2);
-        if (other != port)
-            continue;
-        uint64_t a = word(e + 2), b = word(e + 10);
-        for (const uint8_t *address = r + 36; address < r + 36 + 16 * r[34]; address += 16)
-            if (word(address) == a && word(address + 8) == b)
-                return true;
+        if (other == port && word(e + 2) == a && word(e + 10) == b)
+            return true;
     }
     return false;
 }
@@ -708,15 +729,13 @@ static uint8_t *put_authority(uint8_t *o, struct header h, uint32_t to, uint32_t
 
 static void put_entry(uint8_t *o, struct header h, const uint8_t *record)
 {
-    uint32_t count = record[34];
-    o = put4(o, 0x009A0000 | (42 + 16 * count));
+    o = put4(o, 0x009A003A);
     o = put(o, record, 32);
     *o++ = h.major;
     *o++ = h.minor;
     o = put(o, record + 32, 2);
-    o = put2(o, count);
-    for (uint32_t i = 0; i < count; i++)
-        o = put(o, record + 36 + 16 * i, 16);
+    o = put2(o, 1);
+    o = put(o, record + 36, 16);
     put2(o, 0);
 }
 
@@ -743,25 +762,24 @@ static size_t ack_room(const struct receive *r, const struct message *m, bool *n
     return m->d ? 0 : *n ? 26 : 20;
 }
 
-/* Is the very record of an entry held? */
+/* Is the very record of an entry held, as far as it is kept: with its first address? */
 static bool entry_held(const struct receive *r, const uint8_t *entry)
 {
     size_t at;
     if (!find(r->cache, r->held, entry, &at))
         return false;
     const uint8_t *held = r->cache + 100 * at;
-    return held[34] == entry[37] && memcmp(held + 32, entry + 34, 2) == 0 && memcmp(held + 36, entry + 38, (size_t)16 * entry[37]) == 0;
+    return memcmp(held + 32, entry + 34, 2) == 0 && memcmp(held + 36, entry + 38, 16) == 0;
 }
 
 static void put_record(uint8_t *record, const uint8_t *entry)
 {
-    size_t addresses = (size_t)16 * entry[37];
     memcpy(record, entry, 32);
     memcpy(record + 32, entry + 34, 2);
-    record[34] = entry[37];
+    record[34] = 1;
     record[35] = 0;
-    memcpy(record + 36, entry + 38, addresses);
-    memset(record + 36 + addresses, 0, 64 - addresses);
+    memcpy(record + 36, entry + 38, 16);
+    memset(record + 52, 0, 48);
 }
 
 /* An INQUIRE about an entry behind `first` bytes: the number where it is refused; whether it opens a place, and where. */
@@ -858,7 +876,7 @@ static struct gauge_answer answer_lookup(const struct receive *r, const struct m
 {
     struct path path = {r->d + m->path_at, m->path_len};
     const uint8_t *record = closest(r->own, r->cache, r->held, &path, r->d + m->seen.target_at), *entry = r->d + m->seen.entry_at;
-    uint32_t size = 52 + 16u * record[34], first = 28 + size, number = first > r->room ? 15 : 0;
+    uint32_t size = 68, first = 28 + size, number = first > r->room ? 15 : 0;
     bool opens = false;
     size_t at = 0;
     if (m->seen.entry_at != 0 && !same_key(entry, r->own))
@@ -918,8 +936,7 @@ struct gauge_answer CALL(send)(const uint8_t *own, size_t own_len, const uint8_t
         return answer(13, 0, 0);
     if (used == 16)
         return answer(14, 0, 0);
-    size_t length = 100 + (size_t)16 * record[34];
-    if (length > output_len)
+    if (output_len < 116)
         return answer(15, 0, 0);
     struct header h = {major, minor, id};
     uint8_t *o = put_header(output, h, GAUGE_FLOOD);
@@ -927,7 +944,7 @@ struct gauge_answer CALL(send)(const uint8_t *own, size_t own_len, const uint8_t
     o = put(put4(o, 0x00390024), neighbour, 32);
     put_entry(o, h, record);
     memset(open_place(waiting, used, at, id, 1, neighbour) + 40, 0, 100);
-    return answer(0, length, 0);
+    return answer(0, 116, 0);
 }
 
 struct gauge_answer CALL(tick)(const uint8_t *own, size_t own_len, uint8_t *waiting, size_t waiting_len, uint8_t *output, size_t output_len)
@@ -986,6 +1003,27 @@ struct gauge_answer CALL(closest)(const uint8_t *own, size_t own_len, const uint
     struct path points = {path, path_len};
     const uint8_t *record = closest(own, cache, held, &points, target);
     return answer(0, record == own ? 0 : 4 + (size_t)(record - cache) / 100, 0);
+}
+
+static void cut(uint8_t *record)
+{
+    record[34] = 1;
+    memset(record + 52, 0, 48);
+}
+
+struct gauge_answer CALL(convert)(const uint8_t *own, size_t own_len, uint8_t *cache, size_t cache_len, uint8_t *waiting, size_t waiting_len)
+{
+    if (own_len != 100 || !old_formed(own))
+        return answer(1, 0, 0);
+    size_t held = cache_rows(own, cache, cache_len, true), used = waiting_rows(own, waiting, waiting_len, true);
+    if (held == NOT_IN_FORM || used == NOT_IN_FORM)
+        return answer(1, 0, 0);
+    for (uint8_t *r = cache; r < cache + 100 * held; r += 100)
+        cut(r);
+    for (uint8_t *p = waiting; p < waiting + 140 * used; p += 140)
+        if (p[4] == 2)
+            cut(p + 40);
+    return answer(0, 0, 0);
 }
 
 struct gauge_look_answer CALL(look)(uint8_t major, const uint8_t *datagram, size_t datagram_len)

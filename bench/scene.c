@@ -28,7 +28,7 @@ static void fill(uint8_t *p, size_t n)
 
 /* Memory. */
 
-/* Port and addresses behind a key, count of them. */
+/* Port and addresses behind a key, count of them: one in memory, and up to four where a route entry is made of it. */
 static void fill_rest(uint8_t *record, size_t count)
 {
     memset(record + GAUGE_RECORD_PORT, 0, GAUGE_RECORD_LEN - GAUGE_RECORD_PORT);
@@ -73,13 +73,13 @@ static void set_cache(struct scene *s, size_t c, bool alike)
             memset(r, 7, GAUGE_KEY_LEN);
             r[GAUGE_KEY_LEN - 1] = (uint8_t)i;
         }
-        fill_rest(r, 1 + i % 4);
+        fill_rest(r, 1);
     }
     if (alike)
         memset(s->own, 7, GAUGE_KEY_LEN - 2);
     else
         key_between(s, c / 2, s->own);
-    fill_rest(s->own, 2);
+    fill_rest(s->own, 1);
 }
 
 /* Floods to records held, and inquiries about keys that are not. */
@@ -96,7 +96,7 @@ static void set_waiting(struct scene *s)
         } else {
             fill(p + 8, GAUGE_KEY_LEN);
             memcpy(p + 40, p + 8, GAUGE_KEY_LEN);
-            fill_rest(p + 40, 1 + i % 4);
+            fill_rest(p + 40, 1);
         }
     }
 }
@@ -256,12 +256,12 @@ static void add_lookup(struct scene *s, const uint8_t *record)
     add(s, s->path, sizeof s->path);
 }
 
-/* Endpoint i of the path is that of a record, by its last address. */
+/* Endpoint i of the path is that of a record. */
 static void set_point(struct scene *s, size_t i, const uint8_t *record)
 {
     uint8_t *point = s->path + GAUGE_ENDPOINT_LEN * i;
     memcpy(point, record + GAUGE_RECORD_PORT, 2);
-    memcpy(point + 2, record + GAUGE_RECORD_ADDRESSES + GAUGE_ADDRESS_LEN * (record[GAUGE_RECORD_COUNT] - 1u), GAUGE_ADDRESS_LEN);
+    memcpy(point + 2, record + GAUGE_RECORD_ADDRESSES, GAUGE_ADDRESS_LEN);
 }
 
 /* The target lies one above the key of record i, which is then the closest. No endpoint of the path is known. */
@@ -275,15 +275,9 @@ static const uint8_t *set_target(struct scene *s, size_t i)
     return record;
 }
 
-/* The AUTHORITY has the addresses of this record. */
-static void want_shown(struct scene *s, const uint8_t *record)
-{
-    s->wanted.first = 80 + 16u * record[GAUGE_RECORD_COUNT];
-}
-
 static void lookup(struct scene *s)
 {
-    want_shown(s, set_target(s, s->held / 3));
+    set_target(s, s->held / 3);
     add_lookup(s, NULL);
 }
 
@@ -292,7 +286,6 @@ static void lookup_alike(struct scene *s)
 {
     const uint8_t *record = set_target(s, s->held / 3);
     memcpy(s->target, record, GAUGE_KEY_LEN);
-    want_shown(s, record);
     add_lookup(s, NULL);
 }
 
@@ -302,7 +295,7 @@ static void lookup_entry(struct scene *s)
     uint8_t record[GAUGE_RECORD_LEN];
     key_between(s, s->held / 4, record);
     fill_rest(record, 2);
-    want_shown(s, set_target(s, s->held / 3));
+    set_target(s, s->held / 3);
     add_lookup(s, record);
 }
 
@@ -336,7 +329,7 @@ static const uint8_t *pass_over(struct scene *s)
 
 static void lookup_past(struct scene *s)
 {
-    want_shown(s, pass_over(s));
+    pass_over(s);
     add_lookup(s, NULL);
 }
 
@@ -360,7 +353,6 @@ static void send_flood(struct scene *s)
     const uint8_t *record = s->cache + GAUGE_RECORD_LEN * (s->held / 2);
     memcpy(s->neighbour, s->cache + GAUGE_RECORD_LEN * (s->held / 3), GAUGE_KEY_LEN);
     memcpy(s->key, record, GAUGE_KEY_LEN);
-    s->wanted.first = 100 + 16u * record[GAUGE_RECORD_COUNT];
 }
 
 /* A place without tries is gone, the others are listed. */
@@ -379,14 +371,12 @@ static void own_unfit(struct scene *s)
 {
     lookup(s);
     s->own[GAUGE_RECORD_COUNT] = 5;
-    s->wanted.first = 0;
 }
 
 static void bad_header(struct scene *s)
 {
     lookup(s);
     s->datagram[4] = 0x52;
-    s->wanted.first = 0;
 }
 
 static void no_room(struct scene *s)
@@ -400,7 +390,7 @@ struct kind {
     enum call_kind call;
     bool alike;
     void (*set)(struct scene *);
-    struct gauge_answer wanted; /* `first` of some depends on a record */
+    struct gauge_answer wanted; /* `first` of a tick and of a closest goes by the memory */
 };
 
 static const struct kind kinds[] = {
@@ -412,11 +402,11 @@ static const struct kind kinds[] = {
     {"AUTHORITY: joins, another dropped", RECEIVE, false, authority, {0, 0, 0}},
     {"ACK: place freed", RECEIVE, false, ack, {0, 0, 0}},
     {"ACK with N: key removed", RECEIVE, false, ack_n, {0, 0, 0}},
-    {"LOOKUP: AUTHORITY with closest", RECEIVE, false, lookup, {0, 0, 0}},
-    {"the same, keys share 31 bytes", RECEIVE, true, lookup_alike, {0, 0, 0}},
-    {"LOOKUP, two next on its path", RECEIVE, false, lookup_past, {0, 0, 0}},
-    {"LOOKUP, new entry: INQUIRE too", RECEIVE, false, lookup_entry, {0, 0, 76}},
-    {"send a FLOOD", SEND, false, send_flood, {0, 0, 0}},
+    {"LOOKUP: AUTHORITY with closest", RECEIVE, false, lookup, {0, 96, 0}},
+    {"the same, keys share 31 bytes", RECEIVE, true, lookup_alike, {0, 96, 0}},
+    {"LOOKUP, two next on its path", RECEIVE, false, lookup_past, {0, 96, 0}},
+    {"LOOKUP, new entry: INQUIRE too", RECEIVE, false, lookup_entry, {0, 96, 76}},
+    {"send a FLOOD", SEND, false, send_flood, {0, 116, 0}},
     {"tick", TICK, false, tick, {0, 0, 0}},
     {"neighbours", NEIGHBOURS, false, nothing_more, {0, 5, 5}},
     {"closest", CLOSEST, false, closest, {0, 0, 0}},
@@ -469,7 +459,5 @@ void set_scene(struct scene *s, size_t i, size_t c)
     set_cache(s, c, k->alike);
     set_waiting(s);
     k->set(s);
-    if (s->call == LOOK)
-        s->wanted = k->wanted;
     lend(s);
 }

@@ -134,11 +134,13 @@ def bad_traces():
     return traces
 
 
-# Own records out of form: count 0 and 5, the zero byte, an address that is not used. Each call gives 1, a tick too.
+# Own records out of form: count 0 and 5, the zero byte, bytes behind the address; two to four addresses, as before request 13. Each call gives 1, a
+# tick too.
 def formless_traces():
     good, calls = gauge_record(100), TICK + receive(1, flood(5, gauge_record(99))) + send(2, 99, 100) + receive(1, b"")
     own = {"count_0": good[:34] + b"\0" + good[35:], "count_5": good[:34] + b"\5" + good[35:], "zero": good[:35] + b"\1" + good[36:],
-           "unused": good[:99] + b"\1", "nothing": bytes(100)}
+           "unused": good[:99] + b"\1", "nothing": bytes(100), "count_2": good[:34] + b"\2" + good[35:], "two": gauge_record(100, count=2),
+           "four": gauge_record(100, count=4)}
     traces = {"own_" + name: opening(record) + calls for name, record in own.items()}
     for data in traces.values():
         assert model_night.replay(data)[0] == ["1 1", "2 1", "3 1", "4 1"]
@@ -184,6 +186,23 @@ def path_trace():
     return data
 
 
+# Document 02, request 13: a FLOOD and a LOOKUP with four addresses, of which the first is kept; then with others behind it, or before it.
+def address_trace():
+    four, own = gauge_record(50, 5050, 4), gauge_record(100)
+    moved = four[:36] + four[52:68] + four[36:52] + four[68:]
+    calls = learn(10, four)
+    calls += [(receive(30, flood(31, gauge_record(50, 5050, count))), 0) for count in (1, 2, 3, 4)]
+    calls += [(receive(30, lookup(32, 51, gauge_record(50, 5050, count))), 0) for count in (1, 4)]
+    calls += [(receive(1, authority(33, 31), 1, key(50)), 8), (receive(40, lookup(34, 51, moved)), 0), (receive(1, authority(35, 41), 1, key(50)), 0)]
+    calls += [(receive(50, flood(36, four)), 0), (receive(60, lookup(37, 51, path=[endpoint(moved)])), 0), (send(70, 50, 50), 0)]
+    data = opening(own) + b"".join(record for record, _ in calls)
+    lines, night = model_night.replay(data)
+    assert lines == ["%d %d" % (n, answer) for n, (_, answer) in enumerate(calls, 1)], lines
+    assert model.State(night).records == [moved[:34] + b"\1\0" + moved[36:52] + bytes(48)]
+    assert [(p["id"], p["kind"]) for p in model.State(night).places] == [(51, 2), (70, 1)]
+    return data
+
+
 def round_names():
     return b"".join(b"%s %s\n" % (key(n % 2 ** 256).hex().encode(), name)
                     for n, name in ((1, b"First Pond"), (-1, b"Last Pond"), (0, b"Pond Nought"), (2, b"Second")))
@@ -196,7 +215,7 @@ def random_trace(seed, count):
     chance = random.Random(seed)
     ends = [lambda: chance.randrange(2 ** 256), lambda: chance.randrange(300), lambda: 2 ** 256 - 1 - chance.randrange(9)]
     pool = [chance.choice(ends)() for _ in range(chance.choice([8, 90]))]
-    own = gauge_record(pool[0], chance.randrange(65536), chance.randint(1, 4))
+    own = gauge_record(pool[0], chance.randrange(65536))
     data = opening(own)
     night = model_night.Night(bytes([6, 101]) + own)
     for _ in range(count):
@@ -283,6 +302,7 @@ def traces():
     yield "full", full_trace(), None
     yield "round", round_trace(), round_names()
     yield "path", path_trace(), worked_names()
+    yield "address", address_trace(), worked_names()
     for name, data in {**bad_traces(), **formless_traces()}.items():
         yield name, data, None
     for seed in range(8):

@@ -71,7 +71,8 @@ fn call(
         1 => send(given, lent, cache, waiting, output),
         2 => gauge::gauge_tick(line::part(lent, 0, given.own), waiting, output),
         3 => gauge::gauge_neighbours(line::part(lent, 0, given.own), cache, output),
-        _ => nearest(given, lent, cache),
+        4 => nearest(given, lent, cache),
+        _ => gauge::gauge_convert(line::part(lent, 0, given.own), cache, waiting),
     }
 }
 
@@ -79,8 +80,8 @@ fn wide(n: u32) -> usize {
     n as usize
 }
 
-// How many bytes of the output a call that gave this has written: datagrams, IDs of 4, keys of 32. Of the closest record
-// the number is told and nothing written.
+// How many bytes of the output a call that gave this has written: datagrams, IDs of 4, keys of 32. The closest
+// record and a conversion write nothing there.
 fn written(call: usize, answer: Answer) -> usize {
     let first = wide(answer.first) % 65536;
     let second = wide(answer.second) % 65536;
@@ -88,6 +89,7 @@ fn written(call: usize, answer: Answer) -> usize {
         2 => 4 * first,
         3 => 32 * (first + second),
         4 => 0,
+        5 => 0,
         _ => first + second,
     }
 }

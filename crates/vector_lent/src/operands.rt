@@ -18,10 +18,10 @@ pub struct Given {
     pub room: usize,
 }
 
-// Which call a line is: 0 to receive, 1 to send, 2 to tick, 3 to list the neighbours, 4 for the closest record; 5 where it is
-// none.
+// Which call a line is: 0 to receive, 1 to send, 2 to tick, 3 to list the neighbours, 4 for the closest record, 5 to convert; 6
+// where it is none.
 pub fn call_of(text: &[u8]) -> usize {
-    line::which(text, b"receive send tick list nearest")
+    line::which(text, b"receive send tick list nearest convert")
 }
 
 // The length of the output is a line's last operand, where it has one.
@@ -30,6 +30,7 @@ fn room_of(text: &[u8], call: usize) -> usize {
         0 => line::place(text, 6),
         1 => line::place(text, 4),
         4 => 0,
+        5 => 0,
         _ => line::place(text, 1),
     }
 }
@@ -51,7 +52,8 @@ fn word(text: &[u8], i: usize) -> u32 {
     (line::number(text, i) % 4294967296) as u32
 }
 
-// `receive ID NONCE VERDICT KEY DATAGRAM ROOM`, `send ID NEIGHBOUR KEY ROOM`, `tick ROOM`, `list ROOM`, `nearest PATH TARGET`
+// `receive ID NONCE VERDICT KEY DATAGRAM ROOM`, `send ID NEIGHBOUR KEY ROOM`, `tick ROOM`, `list ROOM`, `nearest PATH TARGET`,
+// `convert`
 pub fn read(text: &[u8], call: usize, lent: &mut [u8], sizes: &[usize; 6]) -> Given {
     let cpa = sizes[1];
     let nonce = line::bytes(text, nonce_of(call), lent, cpa);

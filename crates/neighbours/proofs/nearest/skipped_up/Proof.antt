@@ -7,7 +7,7 @@ use lib.ListN.{length, getD}
 use borrow.Author.Tests.{not-true, not-false}
 use Rattle.octet.specs.Part.{part}
 use Rattle.octet.proofs.PartLaws.{part-at}
-use Rattle.record.proofs.EntryLaws.{few-addresses}
+use Rattle.record.proofs.EntryLaws.{one-address}
 use Rattle.path.specs.Path.{onPath}
 use Rattle.table.specs.Rows.{rows}
 use Rattle.neighbours.specs.Where.{passOver, stepsUp, skipsAt}
@@ -62,7 +62,7 @@ on-path-requires c κs =
     let a = s .args in
     let i = c .wrap .result in
     let formed = in-form (part (100 * i) 100 (a .cache .now)) (rows 100 (a .used) (a .cache .now)) (s .pre .2) (row-in (a .used) i (a .cache .now) (c .wrap .ensures .1)) in
-    let few : getD (part (100 * i) 100 (a .cache .now)) 34 0 ≤ 4 = few-addresses (part (100 * i) 100 (a .cache .now)) formed in
+    let few : getD (part (100 * i) 100 (a .cache .now)) 34 0 ≡ 1 = one-address (part (100 * i) 100 (a .cache .now)) formed in
     (omega (arith, c .wrap .ensures .1), omega (arith, few, part-at (100 * i) 100 34 (a .cache .now) (omega arith)))
 
 returns : tie.Need-returns Inv-loop μ-loop

@@ -62,6 +62,17 @@ count-word at s h =
     rw (part-two (at + 34) s (omega arith)) (omega arith) in
     omega (arith, both, next)
 
+-- the three addresses behind the first, each by itself
+pub zero-three : (at : ℕ) (s : List ℕ)
+    → allZero (part (at + 52) 16 s) && (allZero (part (at + 68) 16 s) && allZero (part (at + 84) 16 s)) ≡ allZero (part (at + 52) 48 s)
+zero-three at s =
+    let p : at + 52 + 16 ≡ at + 68 = omega arith in
+    let q : at + 68 + 16 ≡ at + 84 = omega arith in
+    sym (zero-two (at + 52) 16 32 s
+    ∙ ap (λ (n : ℕ). allZero (part (at + 52) 16 s) && allZero (part n 32 s)) p
+    ∙ ap (λ (b : Bool). allZero (part (at + 52) 16 s) && b)
+    (zero-two (at + 68) 16 16 s ∙ ap (λ (n : ℕ). allZero (part (at + 68) 16 s) && allZero (part n 16 s)) q))
+
 -- so the form is that the number is 1 and what follows the first address is zero
 pub form-one : (at : ℕ) (s : List ℕ) → at + 100 ≤ length s → getD s (at + 35) 0 * 256 + getD s (at + 34) 0 ≡ 1
     → allZero (part (at + 52) 48 s) ≡ recordForm (part at 100 s)

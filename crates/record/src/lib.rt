@@ -27,7 +27,8 @@ pub fn is_record(r: &[u8]) -> bool
     is_formed(r, 0)
 }
 
-// Are the 100 bytes at a place a record in form? Count and zero byte are one number.
+// Are the 100 bytes at a place a record in form? Count and zero byte are one number, and the three addresses that there
+// are no more are looked at together, with one branch.
 pub fn is_formed(s: &[u8], at: usize) -> bool
     requires { ⌜ at + 100 ≤ length (now s) ⌝ }
     ensures { λ r. ⌜ r ≡ recordForm (part at 100 (now (s .entry))) ⌝ }
@@ -36,5 +37,8 @@ pub fn is_formed(s: &[u8], at: usize) -> bool
     if count != 1 {
         return false;
     }
-    octet::zero_words(s, at + 52, 6)
+    let second = octet::zero_pair(s, at + 52);
+    let third = octet::zero_pair(s, at + 68);
+    let fourth = octet::zero_pair(s, at + 84);
+    second & (third & fourth)
 }

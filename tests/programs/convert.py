@@ -1,5 +1,5 @@
 #!/usr/bin/env python3
-"""Old and new memory of a gauge, and what a conversion makes of it, written from documents 01 ("Lent memory") and 02 (request 13) alone.
+"""Old and new memory of a gauge, what a conversion makes of it by tests/models/model.py, and the line that is said of it.
 
     convert.py --check          crates/conversion has the worked memory that is made here, and what becomes of it
     convert.py --write          writes it there
@@ -12,69 +12,24 @@ import os
 import random
 import sys
 
-HERE = os.path.join(os.path.dirname(os.path.realpath(__file__)), "..", "..", "crates", "conversion")
+import with_models
+import model
+import stored
+
 REFUSED = "refused: 1 the own record, the waiting table or the cache is not in the old form\n"
 ZERO = bytes(100)
 
 
-# --- The old form, and the new one ------------------------------------------------------------------------------------------
-
-def is_old(record):
-    """Key 32, port 2, address count 1 (1 to 4), one zero byte, four addresses of 16 bytes, the unused ones zero."""
-    return len(record) == 100 and 1 <= record[34] <= 4 and record[35] == 0 and not any(record[36 + 16 * record[34]:])
-
-
-def cut(record):
-    """The count 1 and the other addresses zero."""
-    return record[:34] + b"\1" + record[35:52] + bytes(48)
-
+# --- What must come of it ---------------------------------------------------------------------------------------------------
 
 def rows(memory, width):
     return [memory[at:at + width] for at in range(0, len(memory), width)]
 
 
-def used(all_rows, free):
-    """Those in front of the free ones; None where something stands behind a free one."""
-    count = next((i for i, row in enumerate(all_rows) if not any(row[free:free + 1])), len(all_rows))
-    return None if any(any(row) for row in all_rows[count:]) else all_rows[:count]
-
-
-def rises(numbers):
-    return all(a < b for a, b in zip(numbers, numbers[1:]))
-
-
-def is_old_cache(own, cache):
-    if len(cache) % 100 or not 1000 <= len(cache) <= 25600:
-        return False
-    held = used(rows(cache, 100), 34)
-    return held is not None and all(is_old(r) and r[:32] != own[:32] for r in held) and rises([r[:32] for r in held])
-
-
-def is_old_place(own, place):
-    tries, key, record = place[5], place[8:40], place[40:]
-    if tries > 2 or any(place[6:8]) or place[4] not in (1, 2):
-        return False
-    if place[4] == 1:
-        return record == ZERO
-    return is_old(record) and record[:32] == key and key != own[:32]
-
-
-def is_old_table(own, table):
-    if len(table) != 2240:
-        return False
-    waits = used(rows(table, 140), 4)
-    if waits is None or not all(is_old_place(own, p) for p in waits):
-        return False
-    asked = [p[8:40] for p in waits if p[4] == 2]
-    return rises([int.from_bytes(p[:4], "little") for p in waits]) and len(set(asked)) == len(asked)
-
-
 def converted(own, table, cache):
-    """The three with one address in each record; None where one is not in the old form."""
-    if not (is_old(own) and is_old_cache(own, cache) and is_old_table(own, table)):
-        return None
-    places = [p[:40] + cut(p[40:]) if p[4] == 2 else p for p in rows(table, 140)]
-    return cut(own), b"".join(places), b"".join(cut(r) if any(r) else r for r in rows(cache, 100))
+    """The three with one address in each record, as the model converts them, and our own cut in the same way; None where it refuses them."""
+    gauge = model.Gauge(own, cache, table)
+    return None if gauge.convert()[0] else (model.converted(own), gauge.waiting, gauge.cache)
 
 
 def said(own, table, cache):
@@ -196,14 +151,9 @@ def main():
     if words[:1] == ["--inputs"]:
         write_inputs(words[1])
     elif words == ["--write"]:
-        for name, content in files().items():
-            with open(os.path.join(HERE, name), "wb") as file:
-                file.write(content)
+        stored.write("conversion", files())
     elif words == ["--check"]:
-        for name, content in files().items():
-            with open(os.path.join(HERE, name), "rb") as file:
-                if file.read() != content:
-                    sys.exit("convert: crates/conversion/%s is not what is said here: tests/programs/convert.py --write" % name)
+        sys.exit("\n".join(stored.faults("conversion", files(), "convert.py")) or 0)
     else:
         sys.exit(__doc__)
 

@@ -17,7 +17,7 @@ import random
 import struct
 import sys
 
-HERE = os.path.join(os.path.dirname(os.path.abspath(__file__)), "..", "..", "crates", "ponds")
+import stored
 
 # 02, request 7: "Refusals of this layer"; no room is a refusal of writing.
 MEANING = {1: "of wrong length, or cut short", 2: "of an unknown kind", 3: "its depth is not from 0 to 20 metres"}
@@ -242,9 +242,7 @@ BY_HAND = (
 
 
 def faults():
-    for name, content in files().items():
-        if open(os.path.join(HERE, name), "rb").read() != content:
-            yield "crates/ponds/%s is not what is said here: tests/programs/ponds.py --write" % name
+    yield from stored.faults("ponds", files(), "ponds.py")
     for data, wanted in BY_HAND:
         if shown(data).split("\n")[1] + "\n" != wanted:
             yield "of %s it is said here %r, by hand %r" % (data.hex(), shown(data).split("\n")[1], wanted)
@@ -270,8 +268,7 @@ def main():
     if words[:1] == ["--inputs"]:
         write_inputs(words[1])
     elif words == ["--write"]:
-        for name, content in files().items():
-            open(os.path.join(HERE, name), "wb").write(content)
+        stored.write("ponds", files())
     elif words == ["--check"]:
         found = list(faults())
         for fault_text in found:

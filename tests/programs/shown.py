@@ -17,8 +17,7 @@ import with_models
 import model
 import model_night
 import shown_traces
-
-HERE = os.path.join(os.path.dirname(os.path.abspath(__file__)), "..", "..", "crates", "shown")
+import stored
 
 # 01, "What comes back", and 02, request 1, in the keeper's words.
 MEANING = {
@@ -233,13 +232,9 @@ def main():
     elif words == ["--hill-names"]:
         sys.stdout.buffer.write(shown_traces.hill_names())
     elif words == ["--write"]:
-        for name, content in files().items():
-            open(os.path.join(HERE, name), "wb").write(content)
+        stored.write("shown", files())
     elif words == ["--check"]:
-        faults = [name for name, content in files().items() if open(os.path.join(HERE, name), "rb").read() != content]
-        for name in faults:
-            print("shown: crates/shown/%s is not what is said here: tests/programs/shown.py --write" % name)
-        sys.exit(1 if faults else 0)
+        sys.exit("\n".join(stored.faults("shown", files(), "shown.py")) or 0)
     else:
         names = open(words[1], "rb").read() if len(words) > 1 else b""
         sys.stdout.buffer.write(shown(open(words[0], "rb").read(), names).encode())

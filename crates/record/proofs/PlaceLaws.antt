@@ -11,7 +11,7 @@ use borrow.Author.Tests.{le-leb, lt-leb, leb-true, eq-eqb, ne-eqb, eqb-true}
 use Rattle.octet.specs.Part.{part, same, allZero, splice}
 use Rattle.octet.proofs.PartLaws.{part-add, part-at, part-two, length-part, splice-next}
 use Rattle.octet.specs.Number.{valueLE}
-use Rattle.octet.proofs.TestLaws.{both-true, and-true, same-append, zero-two}
+use Rattle.octet.proofs.TestLaws.{both-true, and-true, same-append, zero-two, zero-value, zero-words-two}
 use Rattle.record.specs.Record.{countOf, recordForm}
 use Rattle.record.specs.Entry.{entryForm, entryCount, recordOf, entryOf}
 
@@ -62,16 +62,19 @@ count-word at s h =
     rw (part-two (at + 34) s (omega arith)) (omega arith) in
     omega (arith, both, next)
 
--- the three addresses behind the first, each by itself
-pub zero-three : (at : ℕ) (s : List ℕ)
-    → allZero (part (at + 52) 16 s) && (allZero (part (at + 68) 16 s) && allZero (part (at + 84) 16 s)) ≡ allZero (part (at + 52) 48 s)
-zero-three at s =
-    let p : at + 52 + 16 ≡ at + 68 = omega arith in
-    let q : at + 68 + 16 ≡ at + 84 = omega arith in
-    sym (zero-two (at + 52) 16 32 s
-    ∙ ap (λ (n : ℕ). allZero (part (at + 52) 16 s) && allZero (part n 32 s)) p
-    ∙ ap (λ (b : Bool). allZero (part (at + 52) 16 s) && b)
-    (zero-two (at + 68) 16 16 s ∙ ap (λ (n : ℕ). allZero (part (at + 68) 16 s) && allZero (part n 16 s)) q))
+-- three words
+pub zero-words-three : (at : ℕ) (s : List ℕ)
+    → (eqb (valueLE 256 (part at 8 s)) 0 && eqb (valueLE 256 (part (at + 8) 8 s)) 0) && eqb (valueLE 256 (part (at + 16) 8 s)) 0
+    ≡ allZero (part at 24 s)
+zero-words-three at s =
+    sym (zero-two at 16 8 s ∙ ap₂ _&&_ (zero-words-two at s) (sym (zero-value 256 (part (at + 16) 8 s) (omega arith))))
+
+-- the three addresses behind the first, in two halves
+pub zero-halves : (at : ℕ) (s : List ℕ)
+    → allZero (part (at + 52) 24 s) && allZero (part (at + 76) 24 s) ≡ allZero (part (at + 52) 48 s)
+zero-halves at s =
+    let p : at + 52 + 24 ≡ at + 76 = omega arith in
+    sym (zero-two (at + 52) 24 24 s ∙ ap (λ (n : ℕ). allZero (part (at + 52) 24 s) && allZero (part n 24 s)) p)
 
 -- so the form is that the number is 1 and what follows the first address is zero
 pub form-one : (at : ℕ) (s : List ℕ) → at + 100 ≤ length s → getD s (at + 35) 0 * 256 + getD s (at + 34) 0 ≡ 1

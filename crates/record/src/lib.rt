@@ -11,7 +11,7 @@ pub use piece::same_piece;
 ghost use mathlib.Core.Path.{_≡_};
 ghost use Prim.Native.Nat.{_+_, _≤_};
 ghost use lib.ListN.{length};
-ghost use Rattle.octet.specs.Part.{part};
+ghost use Rattle.octet.specs.Part.{part, allZero};
 ghost use Rattle.record.specs.Record.{recordForm};
 
 // How many bytes a record has.
@@ -27,8 +27,19 @@ pub fn is_record(r: &[u8]) -> bool
     is_formed(r, 0)
 }
 
-// Are the 100 bytes at a place a record in form? Count and zero byte are one number, and the three addresses that there
-// are no more are looked at together, with one branch.
+// Are the 24 bytes from a place on all zero? Three words: more of them the compiler would join in wide registers and fold.
+fn zero_three(s: &[u8], at: usize) -> bool
+    requires { ⌜ at + 24 ≤ length (now s) ⌝ }
+    ensures { λ r. ⌜ r ≡ allZero (part at 24 (now (s .entry))) ⌝ }
+{
+    let x = octet::read_u64_le(s, at);
+    let y = octet::read_u64_le(s, at + 8);
+    let z = octet::read_u64_le(s, at + 16);
+    (x == 0) & (y == 0) & (z == 0)
+}
+
+// Are the 100 bytes at a place a record in form? Count and zero byte are one number; the three addresses that there are
+// no more are looked at in two halves.
 pub fn is_formed(s: &[u8], at: usize) -> bool
     requires { ⌜ at + 100 ≤ length (now s) ⌝ }
     ensures { λ r. ⌜ r ≡ recordForm (part at 100 (now (s .entry))) ⌝ }
@@ -37,8 +48,8 @@ pub fn is_formed(s: &[u8], at: usize) -> bool
     if count != 1 {
         return false;
     }
-    let second = octet::zero_pair(s, at + 52);
-    let third = octet::zero_pair(s, at + 68);
-    let fourth = octet::zero_pair(s, at + 84);
-    second & (third & fourth)
+    if !zero_three(s, at + 52) {
+        return false;
+    }
+    zero_three(s, at + 76)
 }

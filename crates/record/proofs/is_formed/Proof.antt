@@ -1,11 +1,14 @@
 -- `record::is_formed` meets its contract: count and zero byte are one number, and that is 1. Assumes nothing.
-use mathlib.Core.Path.{_≡_, ap₂, _∙_}
-use mathlib.Core.Bool.{_&&_}
+use mathlib.Core.Path.{_≡_, sym, ap, _∙_}
+use mathlib.Core.Bool.{Bool, true, false, _&&_}
 use mathlib.Core.List.{List}
 use Prim.Native.Nat.{ℕ, _+_, _*_}
 use native.Mathlib.Omega.{arith}
 use lib.ListN.{getD}
-use Rattle.record.proofs.PlaceLaws.{form-one, form-not, count-word, zero-three}
+use borrow.Author.Tests.{not-true, not-false}
+use Rattle.octet.specs.Part.{part, allZero}
+use Rattle.record.specs.Record.{recordForm}
+use Rattle.record.proofs.PlaceLaws.{form-one, form-not, count-word, zero-halves}
 use borrow.Author.Needs.{needs}
 use Rattle.record.proofs.is_formed.Statement.{statement}
 use Rattle.record.proofs.is_formed.Tie as tie
@@ -31,31 +34,50 @@ returns c =
     let r = c .before in
     form-not (place r) (bytes r) (r .before .before .pre) (λ e. c .if1 .taken (omega (arith, counted r, e)))
 
-add-zero-pair : tie.Need-add-zero-pair
-add-zero-pair c = search needs
+add-zero-three : tie.Need-add-zero-three
+add-zero-three c = search needs
 
-zero-pair-requires : tie.Need-zero-pair-requires
-zero-pair-requires c κs = search needs
+zero-three-requires : tie.Need-zero-three-requires
+zero-three-requires c κs = search needs
 
-add-zero-pair-2 : tie.Need-add-zero-pair-2
-add-zero-pair-2 c = search needs
-
-zero-pair-requires-2 : tie.Need-zero-pair-requires-2
-zero-pair-requires-2 c κs = search needs
-
-add-zero-pair-3 : tie.Need-add-zero-pair-3
-add-zero-pair-3 c = search needs
-
-zero-pair-requires-3 : tie.Need-zero-pair-requires-3
-zero-pair-requires-3 c κs = search needs
+-- the number is 1, so the form is that what follows the first address is zero, in two halves
+left-is : (l : tie.After-zero-three) → let r = l .before .before in
+    allZero (part (place r + 52) 24 (bytes r)) && allZero (part (place r + 76) 24 (bytes r)) ≡ recordForm (part (place r) 100 (bytes r))
+left-is l =
+    let r = l .before .before in
+    zero-halves (place r) (bytes r)
+    ∙ form-one (place r) (bytes r) (r .before .before .pre) (omega (arith, counted r, l .before .if1 .left))
 
 returns-2 : tie.Need-returns-2
 returns-2 c =
-    let left = c .before .before .before in
-    let r = left .before in
-    ap₂ _&&_ (c .before .before .zero-pair .ensures) (ap₂ _&&_ (c .before .zero-pair2 .ensures) (c .zero-pair3 .ensures))
-    ∙ zero-three (place r) (bytes r)
-    ∙ form-one (place r) (bytes r) (r .before .before .pre) (omega (arith, counted r, left .if1 .left))
+    let l = c .before in
+    let r = l .before .before in
+    let z : allZero (part (place r + 52) 24 (bytes r)) ≡ false = sym (l .zero-three .ensures) ∙ not-true _ (c .if2 .taken) in
+    ap (λ (b : Bool). b && allZero (part (place r + 76) 24 (bytes r))) (sym z) ∙ left-is l
+
+add-zero-three-2 : tie.Need-add-zero-three-2
+add-zero-three-2 c = search needs
+
+zero-three-requires-2 : tie.Need-zero-three-requires-2
+zero-three-requires-2 c κs = search needs
+
+returns-3 : tie.Need-returns-3
+returns-3 c =
+    let l = c .before .before in
+    let r = l .before .before in
+    let z : allZero (part (place r + 52) 24 (bytes r)) ≡ true = sym (l .zero-three .ensures) ∙ not-false _ (c .before .if2 .left) in
+    c .zero-three2 .ensures ∙ ap (λ (b : Bool). b && allZero (part (place r + 76) 24 (bytes r))) (sym z) ∙ left-is l
 
 pub is-formed-spec : {M : Type 1} → statement M
-is-formed-spec = tie.close (tie.spec add-read-u16-le read-u16-le-requires returns add-zero-pair zero-pair-requires add-zero-pair-2 zero-pair-requires-2 add-zero-pair-3 zero-pair-requires-3 returns-2)
+is-formed-spec =
+    tie.close
+    (tie.spec
+    add-read-u16-le
+    read-u16-le-requires
+    returns
+    add-zero-three
+    zero-three-requires
+    returns-2
+    add-zero-three-2
+    zero-three-requires-2
+    returns-3)

@@ -1,5 +1,6 @@
 pub mod FormLaws
 pub mod ShapeLaws
+pub mod OrderedLaws
 pub mod SeekLaws
 pub mod FindLaws
 pub mod LearnLaws

@@ -1,13 +1,14 @@
 -- Helps the code. Where a key stands among rising keys, or would; and the answers of the searches, by enum. Assumes nothing.
 use Prim.Native.Nat.{ℕ, zero, suc, _-_, _*_, _<_}
 use mathlib.Core.Path.{_≡_}
-use mathlib.Core.Bool.{Bool, true, false, cond}
+use mathlib.Core.Bool.{Bool, true, false, cond, _&&_}
 use mathlib.Core.List.{List, [], _∷_}
-use lib.Dec.{ltb, eqb}
+use lib.Dec.{leb, ltb, eqb}
 use lib.ListN.{length, getD}
 use Rattle.octet.specs.Number.{valueBE}
 use Rattle.octet.specs.Part.{part}
 use Rattle.key.specs.Number.{keyAt}
+use Rattle.record.specs.Record.{keyOf, recordForm}
 use Rattle.kept.specs.Plain.{drops}
 use Rattle.cache.specs.Form.{heldIn, cacheForm}
 use Rattle.cache.specs.declared.shape.Formed.{Formed}
@@ -18,6 +19,15 @@ use Rattle.cache.specs.declared.place.Found.the-variants.{At, Before}
 -- the test of the form, with how many records are held
 unfoldable pub cacheFormed : ℕ → List ℕ → Formed
 cacheFormed own cache = cond (cacheForm own cache) (Good (heldIn own cache)) Bad
+
+-- is the row r a record whose key is at least low, whosever it is?
+unfoldable pub rises : ℕ → List ℕ → Bool
+rises low r = recordForm r && leb low (keyOf r)
+
+-- how many rows, from the first, are records with rising keys
+unfoldable pub ordered : ℕ → List (List ℕ) → ℕ
+ordered low [] = 0
+ordered low (r ∷ rs) = cond (rises low r) (suc (ordered (suc (keyOf r)) rs)) 0
 
 -- what the key of place i has to be at least: above the one before it
 unfoldable pub lowAt : List ℕ → ℕ → ℕ

@@ -6,10 +6,13 @@ ghost use lib.ListN.{length};
 ghost use Rattle.octet.specs.Number.{valueBE};
 ghost use Rattle.octet.specs.Part.{part};
 ghost use Rattle.key.specs.Number.{keyAt};
-ghost use Rattle.record.specs.Record.{keyOf, recordForm};
+ghost use Rattle.record.specs.Record.{keyOf};
 ghost use Rattle.table.specs.Rows.{rows};
-ghost use Rattle.cache.specs.Form.{follows, leading};
-ghost use Rattle.cache.specs.Place.{cacheFormed, lowAt, Carried};
+ghost use Rattle.kept.specs.Keys.{Rising, plain, has};
+ghost use Rattle.cache.specs.Form.{keysOf};
+ghost use Rattle.cache.specs.Place.{cacheFormed, rises, ordered, lowAt, Carried};
+use crate::place::Found;
+use crate::place::find;
 
 // Whether the cache is in form, and then how many records it holds.
 pub enum Formed {
@@ -50,42 +53,48 @@ fn above_before(cache: &[u8], i: usize, word: u64, last: u64) -> bool
     i == 0
 }
 
-// Has place i a record that may stand after those before it? The key before it began with the last word.
-fn place_follows(own: &[u8], cache: &[u8], i: usize, last: u64) -> bool
-    requires { ⌜ 32 ≤ length (now own) ⌝ }
+// Has place i a record that stands in order after those before it? The key before it began with the last word.
+fn place_follows(cache: &[u8], i: usize, last: u64) -> bool
     requires { ⌜ 100 * i + 100 ≤ length (now cache) ⌝ }
     requires { ⌜ Carried (now cache) i last ⌝ }
-    ensures { λ r. ⌜ r ≡ follows recordForm (keyOf (now (own .entry))) (lowAt (now (cache .entry)) i)
-        (part (100 * i) 100 (now (cache .entry))) ⌝ }
+    ensures { λ r. ⌜ r ≡ rises (lowAt (now (cache .entry)) i) (part (100 * i) 100 (now (cache .entry))) ⌝ }
 {
     let at = record::RECORD_LEN * i;
     if !record::is_formed(cache, at) {
         return false;
     }
     let word = octet::read_u64(cache, at);
-    if !above_before(cache, i, word, last) {
-        return false;
-    }
-    !own::is_own(own, cache, at)
+    above_before(cache, i, word, last)
 }
 
 // How many places, from the first, have records in order. The first word of each key is carried to the next place.
-fn count_held(own: &[u8], cache: &[u8]) -> usize
-    requires { ⌜ 32 ≤ length (now own) ⌝ }
-    ensures { λ r. ⌜ r
-        ≡ leading recordForm (keyOf (now (own .entry))) 0 (rows 100 (length (now (cache .entry)) / 100) (now (cache .entry))) ⌝ }
+fn count_held(cache: &[u8]) -> usize
+    ensures { λ r. ⌜ r ≡ ordered 0 (rows 100 (length (now (cache .entry)) / 100) (now (cache .entry))) ⌝ }
 {
     let n = cache.len() / record::RECORD_LEN;
     let mut last = 0;
     let mut i = 0;
     while i < n {
-        if !place_follows(own, cache, i, last) {
+        if !place_follows(cache, i, last) {
             return i;
         }
         last = octet::read_u64(cache, record::RECORD_LEN * i);
         i += 1;
     }
     n
+}
+
+// Is our own key among those held? It is looked for once they are known to be in order, and not compared with each.
+fn holds_own(own: &[u8], cache: &[u8], used: usize) -> bool
+    requires { ⌜ 32 ≤ length (now own) ⌝ }
+    requires { ⌜ 100 * used ≤ length (now cache) ⌝ }
+    requires { ⌜ Rising plain 0 (keysOf (rows 100 used (now cache))) ⌝ }
+    ensures { λ r. ⌜ r ≡ has (keyOf (now (own .entry))) (keysOf (rows 100 used (now (cache .entry)))) ⌝ }
+{
+    match find(cache, used, own) {
+        Found::At(_) => true,
+        Found::Before(_) => false,
+    }
 }
 
 // The test of the form, under the own key, which stands at the own record's start.
@@ -103,10 +112,13 @@ pub fn form(own: &[u8], cache: &[u8]) -> Formed
     if 25600 < size {
         return Formed::Bad;
     }
-    let used = count_held(own, cache);
+    let used = count_held(cache);
     let end = record::RECORD_LEN * used;
-    if octet::is_zero(&cache[end..]) {
-        return Formed::Good(used);
+    if !octet::is_zero(&cache[end..]) {
+        return Formed::Bad;
     }
-    Formed::Bad
+    if holds_own(own, cache, used) {
+        return Formed::Bad;
+    }
+    Formed::Good(used)
 }

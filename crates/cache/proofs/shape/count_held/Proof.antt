@@ -6,45 +6,43 @@ use lib.ListN.{length, drop}
 use borrow.Author.Tests.{not-true, not-false}
 use Rattle.octet.specs.Number.{valueBE}
 use Rattle.octet.specs.Part.{part}
-use Rattle.record.specs.Record.{keyOf, recordForm}
 use Rattle.table.specs.Rows.{rows}
-use Rattle.cache.specs.Form.{leading}
-use Rattle.cache.specs.Place.{lowAt, Carried}
-use Rattle.cache.proofs.ShapeLaws.{carried-next, count-more, count-stop, count-end}
+use Rattle.cache.specs.Place.{ordered, lowAt, Carried}
+use Rattle.cache.proofs.ShapeLaws.{carried-next}
+use Rattle.cache.proofs.OrderedLaws.{ordered-more, ordered-stop, ordered-end}
 use native.Mathlib.Omega.{arith}
 use Rattle.cache.proofs.shape.count_held.Statement.{statement}
 use Rattle.cache.proofs.shape.count_held.Tie as tie
 
 abbrev Inv-loop : tie.InvT-loop
-Inv-loop own cache n last₀ i₀ last i =
+Inv-loop cache n last₀ i₀ last i =
     (n ≡ length cache / 100)
     × (i ≤ n)
-    × (leading recordForm (keyOf own) 0 (rows 100 n cache) ≡ i + leading recordForm (keyOf own) (lowAt cache i) (drop i (rows 100 n cache)))
+    × (ordered 0 (rows 100 n cache) ≡ i + ordered (lowAt cache i) (drop i (rows 100 n cache)))
     × Carried cache i last
 
 abbrev μ-loop : tie.MeasureT-loop
-μ-loop own cache n last₀ i₀ last i = n - i
+μ-loop cache n last₀ i₀ last i = n - i
 
 loop-holds : tie.Need-loop-holds Inv-loop μ-loop
 unfolding lowAt
 loop-holds c =
-    let a = c .before .before .args in (
+    let a = c .before .args in (
       omega arith,
       omega arith,
-      sym (zero-add (leading recordForm (keyOf (a .own .now)) 0 (rows 100 (length (a .cache .now) / 100) (a .cache .now)))),
+      sym (zero-add (ordered 0 (rows 100 (length (a .cache .now) / 100) (a .cache .now)))),
       tt,
     )
 
 place-follows-requires : tie.Need-place-follows-requires Inv-loop μ-loop
 place-follows-requires c κs =
-    let l = c .before in
-    let s = l .before .before .before in (omega (arith, s .pre), (omega arith, l .loop .inv .3))
+    let l = c .before in (omega arith, l .loop .inv .3)
 
 returns : tie.Need-returns Inv-loop μ-loop
 returns c =
     let l = c .before .before .before in
-    let a = l .before .before .before .args in
-    sym (l .loop .inv .2 ∙ count-stop recordForm (keyOf (a .own .now)) (length (a .cache .now) / 100) (a .cache .now) (l .loop .i) (omega arith)
+    let a = l .before .before .args in
+    sym (l .loop .inv .2 ∙ ordered-stop (length (a .cache .now) / 100) (a .cache .now) (l .loop .i) (omega arith)
     (sym (c .before .place-follows .ensures) ∙ not-true _ (c .if1 .taken)))
 
 mul-read-u64 : tie.Need-mul-read-u64 Inv-loop μ-loop
@@ -63,10 +61,10 @@ loop-again : tie.Need-loop-again Inv-loop μ-loop
 loop-again c =
     let tested = c .before in
     let l = tested .before .before .before in
-    let a = l .before .before .before .args in (
+    let a = l .before .before .args in (
       omega arith,
       omega arith,
-      l .loop .inv .2 ∙ count-more recordForm (keyOf (a .own .now)) (length (a .cache .now) / 100) (a .cache .now) (l .loop .i) (omega arith)
+      l .loop .inv .2 ∙ ordered-more (length (a .cache .now) / 100) (a .cache .now) (l .loop .i) (omega arith)
           (sym (tested .before .place-follows .ensures) ∙ not-false _ (tested .if1 .left)),
       carried-next (a .cache .now) (l .loop .i) (c .read-u64 .result) (c .read-u64 .ensures),
     )
@@ -74,8 +72,8 @@ loop-again c =
 returns-2 : tie.Need-returns-2 Inv-loop μ-loop
 returns-2 c =
     let l = c .before in
-    let a = l .before .before .before .args in
-    let e = count-end recordForm (keyOf (a .own .now)) (length (a .cache .now) / 100) (a .cache .now) (l .loop .i) (omega arith) in
+    let a = l .before .before .args in
+    let e = ordered-end (length (a .cache .now) / 100) (a .cache .now) (l .loop .i) (omega arith) in
     omega (arith, e, l .loop .inv .2)
 
 pub count-held-spec : {M : Type 1} → statement M

@@ -1,28 +1,29 @@
--- `cache::shape::form` meets its contract: each test of the size refuses; then so many places are counted and the rest is zero or not. Assumes nothing.
-use mathlib.Core.Path.{_≡_, refl, sym, ap, _∙_}
+-- `cache::shape::form` meets its contract: each test of the size refuses; then so many places are counted, the rest is zero or not, and our own key among theirs or not. Assumes nothing.
+use mathlib.Core.Path.{_≡_, sym, ap, _∙_}
+use mathlib.Core.Bool.{Bool, cond}
 use mathlib.Core.List.{List}
 use Prim.Native.Nat.{ℕ, _-_, _*_, _/_, _≤_}
 use lib.ListN.{length, take, drop, length-drop}
 use lib.Seq.{take-all}
 use Rattle.octet.specs.Part.{allZero}
 use Rattle.record.specs.Record.{keyOf}
-use Rattle.cache.specs.Form.{heldIn}
-use Rattle.cache.proofs.FormLaws.{held-most}
-use Rattle.cache.proofs.ShapeLaws.{not-whole, too-small, too-large, by-rest}
+use borrow.Author.Tests.{not-true, not-false}
+use Rattle.cache.specs.declared.shape.Formed.the-variants.{Bad, Good}
+use Rattle.cache.proofs.ShapeLaws.{not-whole, too-small, too-large}
+use Rattle.cache.proofs.OrderedLaws.{used-most, used-rising, own-bad, free-by, rest-bad}
 use native.Mathlib.Omega.{arith}
 use borrow.Author.Needs.{needs}
 use Rattle.cache.proofs.shape.form.Statement.{statement}
 use Rattle.cache.proofs.shape.form.Tie as tie
 
--- no more are held than there are places
-few : (c : tie.After-count-held) → c .count-held .result ≤ length (c .before .before .before .before .before .before .args .cache .now) / 100
-unfolding heldIn
-few c = let a = c .before .before .before .before .before .before .args in omega (
-  arith,
-  held-most (keyOf (a .own .now))
-      (a .cache .now),
-  c .count-held .ensures,
-)
+-- the places counted, in a cache that may have so many bytes
+abbrev start : tie.After-count-held → tie.Start
+start c = c .before .before .before .before .before .before
+
+few : (c : tie.After-count-held) → c .count-held .result ≤ length (start c .args .cache .now) / 100
+few c =
+    used-most (keyOf (start c .args .own .now)) (start c .args .cache .now) (c .before .before .before .if1 .left) (omega arith) (omega arith)
+    (c .count-held .result) (c .count-held .ensures)
 
 -- the part that is lent to the test
 rest : (n : ℕ) (s : List ℕ) → take (length s - n) (drop n s) ≡ drop n s
@@ -61,27 +62,48 @@ part-is-zero-end c = search needs
 is-zero-requires : tie.Need-is-zero-requires
 is-zero-requires c κs = search needs
 
+-- what is said of the rest
+clear : (z : tie.After-is-zero) → z .is-zero .result ≡ allZero (drop (100 * z .before .before .count-held .result) (start (z .before .before) .args .cache .now))
+clear z =
+    let g = z .before .before in
+    z .is-zero .ensures ∙ ap allZero (rest (100 * g .count-held .result) (start g .args .cache .now))
+
 returns-4 : tie.Need-returns-4
 returns-4 c =
-    let c3 = c .before .before .before in
-    let c6 = c3 .before .before .before in
-    let c9 = c6 .before .before .before in
-    let a = c9 .args in
-    let g = c3 .count-held in
-    sym (by-rest (keyOf (a .own .now)) (a .cache .now) (c6 .if1 .left) (omega arith) (g .result) (c .before .is-zero .result) (omega arith)
-    (g .ensures)
-    (c .before .is-zero .ensures ∙ ap allZero (rest (100 * g .result) (a .cache .now))) ∙ rw (c .if4 .taken) refl)
+    let z = c .before in
+    let g = z .before .before in
+    let a = start g .args in
+    sym (rest-bad (keyOf (a .own .now)) (a .cache .now) (g .before .before .before .if1 .left) (omega arith) (omega arith)
+    (g .count-held .result) (g .count-held .ensures) (sym (clear z) ∙ not-true _ (c .if4 .taken)))
+
+holds-own-requires : tie.Need-holds-own-requires
+holds-own-requires c κs =
+    let g = c .before .before .before in
+    let a = start g .args in (
+      omega (arith, start g .pre),
+      (
+        omega (arith, few g),
+        used-rising (keyOf (a .own .now)) (a .cache .now) (g .before .before .before .if1 .left) (omega arith) (omega arith) (g .count-held .result)
+            (g .count-held .ensures),
+      ),
+    )
 
 returns-5 : tie.Need-returns-5
 returns-5 c =
-    let c3 = c .before .before .before in
-    let c6 = c3 .before .before .before in
-    let c9 = c6 .before .before .before in
-    let a = c9 .args in
-    let g = c3 .count-held in
-    sym (by-rest (keyOf (a .own .now)) (a .cache .now) (c6 .if1 .left) (omega arith) (g .result) (c .before .is-zero .result) (omega arith)
-    (g .ensures)
-    (c .before .is-zero .ensures ∙ ap allZero (rest (100 * g .result) (a .cache .now))) ∙ rw (c .if4 .left) refl)
+    let g = c .before .before .before .before .before in
+    let a = start g .args in
+    sym (own-bad (keyOf (a .own .now)) (a .cache .now) (g .before .before .before .if1 .left) (omega arith) (omega arith)
+    (g .count-held .result) (g .count-held .ensures) (sym (c .before .holds-own .ensures) ∙ c .if5 .taken))
+
+returns-6 : tie.Need-returns-6
+returns-6 c =
+    let tested = c .before .before in
+    let z = tested .before in
+    let g = z .before .before in
+    let a = start g .args in
+    sym (free-by (keyOf (a .own .now)) (a .cache .now) (g .before .before .before .if1 .left) (omega arith) (omega arith)
+    (g .count-held .result) (g .count-held .ensures) (sym (c .before .holds-own .ensures) ∙ c .if5 .left)
+    ∙ ap (λ (b : Bool). cond b (Good (g .count-held .result)) Bad) (sym (clear z) ∙ not-false _ (tested .if4 .left)))
 
 pub form-spec : {M : Type 1} → statement M
 form-spec =
@@ -97,4 +119,6 @@ form-spec =
     part-is-zero-end
     is-zero-requires
     returns-4
-    returns-5)
+    holds-own-requires
+    returns-5
+    returns-6)

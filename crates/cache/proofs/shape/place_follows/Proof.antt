@@ -1,15 +1,14 @@
--- `cache::shape::place_follows` meets its contract: each test decides a part of `follows`. Assumes nothing.
+-- `cache::shape::place_follows` meets its contract: each test decides a part of `rises`. Assumes nothing.
 use mathlib.Core.Path.{_≡_, refl, sym, ap, _∙_}
-use mathlib.Core.Bool.{true, false, not}
+use mathlib.Core.Bool.{true, false}
 use mathlib.Core.List.{List}
 use Prim.Native.Nat.{ℕ, _*_}
-use lib.Dec.{leb, eqb}
+use lib.Dec.{leb}
 use borrow.Author.Tests.{not-true, not-false}
 use Rattle.octet.specs.Part.{part}
 use Rattle.key.specs.Number.{keyAt}
 use Rattle.record.specs.Record.{keyOf, recordForm}
-use Rattle.cache.specs.Form.{follows}
-use Rattle.cache.specs.Place.{lowAt}
+use Rattle.cache.specs.Place.{rises, lowAt}
 use Rattle.cache.proofs.FormLaws.{key-of-row}
 use native.Mathlib.Omega.{arith}
 use borrow.Author.Needs.{needs}
@@ -33,9 +32,9 @@ is-formed-requires : tie.Need-is-formed-requires
 is-formed-requires c κs = search needs
 
 returns : tie.Need-returns
-unfolding follows
+unfolding rises
 returns c =
-    let s = c .before .before .before .before in
+    let s = c .before .before .before in
     let f : recordForm (row s) ≡ false = sym (c .before .is-formed .ensures) ∙ not-true _ (c .if1 .taken) in
     sym (rw f refl)
 
@@ -44,43 +43,15 @@ read-u64-requires c κs = search needs
 
 above-before-requires : tie.Need-above-before-requires
 above-before-requires c κs =
-    let s = c .before .before .before .before .before in (omega (arith, s .pre .1 .0), (c .read-u64 .ensures, s .pre .1 .1))
-
--- the record is in form
-formed : (m : tie.After-read-u64) → recordForm (row (m .before .before .before .before .before)) ≡ true
-formed m = sym (m .before .before .is-formed .ensures) ∙ not-false _ (m .before .if1 .left)
+    let s = c .before .before .before .before in (omega (arith, s .pre .0), (c .read-u64 .ensures, s .pre .1))
 
 returns-2 : tie.Need-returns-2
-unfolding follows
+unfolding rises
 returns-2 c =
-    let read = c .before .before in
-    let s = read .before .before .before .before .before in
-    let l : leb (low s) (keyOf (row s)) ≡ false = ap (leb (low s)) (row-key s) ∙ sym (c .before .above-before .ensures)
-    ∙ not-true _ (c .if2 .taken) in
-    sym (rw (formed read, l) refl)
-
-is-own-requires : tie.Need-is-own-requires
-is-own-requires c κs = search needs
-
-returns-3 : tie.Need-returns-3
-unfolding follows
-returns-3 c =
     let tested = c .before .before in
-    let read = tested .before in
-    let s = read .before .before .before .before .before in
-    let l : leb (low s) (keyOf (row s)) ≡ true = ap (leb (low s)) (row-key s) ∙ sym (tested .above-before .ensures)
-    ∙ not-false _ (c .before .if2 .left) in
-    ap not (c .is-own .ensures) ∙ sym (rw (formed read, l, row-key s) refl)
+    let s = tested .before .before .before in
+    let f : recordForm (row s) ≡ true = sym (tested .before .is-formed .ensures) ∙ not-false _ (tested .if1 .left) in
+    c .above-before .ensures ∙ sym (ap (leb (low s)) (row-key s)) ∙ sym (rw f refl)
 
 pub place-follows-spec : {M : Type 1} → statement M
-place-follows-spec =
-    tie.close
-    (tie.spec
-    mul-at
-    is-formed-requires
-    returns
-    read-u64-requires
-    above-before-requires
-    returns-2
-    is-own-requires
-    returns-3)
+place-follows-spec = tie.close (tie.spec mul-at is-formed-requires returns read-u64-requires above-before-requires returns-2)

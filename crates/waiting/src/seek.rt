@@ -2,6 +2,7 @@
 ghost use mathlib.Core.Path.{_≡_};
 ghost use Prim.Native.Nat.{_+_, _*_, _≤_};
 ghost use lib.ListN.{length, drop};
+ghost use Rattle.octet.specs.Part.{part};
 ghost use Rattle.key.specs.Number.{keyAt};
 ghost use Rattle.table.specs.Rows.{rows, anyOf};
 ghost use Rattle.table.specs.Seek.{seek};
@@ -43,6 +44,17 @@ pub fn has_id(table: &[u8], used: usize, id: u32) -> bool
     false
 }
 
+// Is the place that begins there an inquiry for the key at a place of a slice? Most differ in the first word of the key.
+fn is_inquiry(table: &[u8], from: usize, key: &[u8], place: usize) -> bool
+    requires { ⌜ (from + 140 ≤ length (now table)) × (place + 32 ≤ length (now key)) ⌝ }
+    ensures { λ r. ⌜ r ≡ isInquiry (keyAt place (now (key .entry))) (part from 140 (now (table .entry))) ⌝ }
+{
+    if !key::same_at(table, from + 8, key, place) {
+        return false;
+    }
+    table[from + 4] == 2
+}
+
 // From place number `start` on, the inquiry for the key at a place of a slice.
 pub fn find_inquiry(table: &[u8], start: usize, used: usize, key: &[u8], place: usize) -> Found
     requires { ⌜ (start ≤ used) × (140 * used ≤ length (now table)) × (place + 32 ≤ length (now key)) ⌝ }
@@ -51,9 +63,7 @@ pub fn find_inquiry(table: &[u8], start: usize, used: usize, key: &[u8], place: 
 {
     let mut at = start;
     while at < used {
-        let from = crate::PLACE_LEN * at;
-        let same = key::same_at(table, from + 8, key, place);
-        if (table[from + 4] == 2) & same {
+        if is_inquiry(table, crate::PLACE_LEN * at, key, place) {
             return Found::At(at);
         }
         at += 1;

@@ -8,7 +8,6 @@ use Rattle.table.specs.Rows.{rows}
 use Rattle.waiting.specs.Form.{isInquiry}
 use Rattle.table.specs.Seek.{seek}
 use Rattle.table.proofs.SeekLaws.{seek-here, seek-on, seek-end}
-use Rattle.waiting.proofs.WalkLaws.{inquiry-is}
 use Rattle.waiting.proofs.seek.find_inquiry.Statement.{statement}
 use Rattle.waiting.proofs.seek.find_inquiry.Tie as tie
 
@@ -24,28 +23,19 @@ abbrev μ-loop : tie.MeasureT-loop
 loop-holds : tie.Need-loop-holds Inv-loop μ-loop
 loop-holds c = (omega arith, refl)
 
-mul-from : tie.Need-mul-from Inv-loop μ-loop
-mul-from c = omega arith
+mul-is-inquiry : tie.Need-mul-is-inquiry Inv-loop μ-loop
+mul-is-inquiry c = omega arith
 
-add-same-at : tie.Need-add-same-at Inv-loop μ-loop
-add-same-at c = omega arith
-
-same-at-requires : tie.Need-same-at-requires Inv-loop μ-loop
-same-at-requires c κs = (omega arith, omega arith)
-
-add-if1 : tie.Need-add-if1 Inv-loop μ-loop
-add-if1 c = omega arith
-
-shared-slice-read-if1 : tie.Need-shared-slice-read-if1 Inv-loop μ-loop
-shared-slice-read-if1 c = omega arith
+is-inquiry-requires : tie.Need-is-inquiry-requires Inv-loop μ-loop
+is-inquiry-requires c κs = (omega arith, omega arith)
 
 returns : tie.Need-returns Inv-loop μ-loop
 returns c =
-    let a = c .before .before .before .before .before .before .before .args in
-    let l = c .before .before .before .before .loop in
+    let l = c .before .before .before in
+    let a = l .before .before .before .args in
     let k = keyAt (a .place) (a .key .now) in
-    sym (l .inv .1 ∙ seek-here 140 (a .used) (a .table .now) (l .at) (isInquiry k) (omega arith)
-    (inquiry-is k (140 * l .at) (a .table .now) (c .before .before .same-at .ensures) ∙ c .if1 .taken))
+    sym (l .loop .inv .1 ∙ seek-here 140 (a .used) (a .table .now) (l .loop .at) (isInquiry k) (omega arith)
+    (sym (c .before .is-inquiry .ensures) ∙ c .if1 .taken))
 
 add-at : tie.Need-add-at Inv-loop μ-loop
 add-at c = omega arith
@@ -55,12 +45,12 @@ loop-less c = omega arith
 
 loop-again : tie.Need-loop-again Inv-loop μ-loop
 loop-again c =
-    let a = c .before .before .before .before .before .before .before .args in
-    let l = c .before .before .before .before .loop in
+    let l = c .before .before .before in
+    let a = l .before .before .before .args in
     let k = keyAt (a .place) (a .key .now) in (
       omega arith,
-      l .inv .1 ∙ seek-on 140 (a .used) (a .table .now) (l .at) (isInquiry k) (omega arith)
-          (inquiry-is k (140 * l .at) (a .table .now) (c .before .before .same-at .ensures) ∙ c .if1 .left),
+      l .loop .inv .1 ∙ seek-on 140 (a .used) (a .table .now) (l .loop .at) (isInquiry k) (omega arith)
+          (sym (c .before .is-inquiry .ensures) ∙ c .if1 .left),
     )
 
 returns-2 : tie.Need-returns-2 Inv-loop μ-loop
@@ -76,11 +66,8 @@ find-inquiry-spec =
     Inv-loop
     μ-loop
     loop-holds
-    mul-from
-    add-same-at
-    same-at-requires
-    add-if1
-    shared-slice-read-if1
+    mul-is-inquiry
+    is-inquiry-requires
     returns
     add-at
     loop-less

@@ -6,7 +6,7 @@ ghost use Prim.Native.Nat.{_+_, _-_, _≤_};
 ghost use lib.Dec.{leb, ltb};
 ghost use lib.ListN.{length};
 ghost use Rattle.key.specs.Number.{number, keyAt};
-ghost use Rattle.key.specs.Around.{half, isAbove, apart, isDown, tie, closer};
+ghost use Rattle.key.specs.Around.{half, isAbove, apart, tie, closer};
 ghost use Rattle.key.specs.Across.{across};
 use key::Key;
 
@@ -78,26 +78,20 @@ pub fn is_closer(target: Key, k: Key, d: Key, j: Key, e: Key) -> bool
     if key::is_less(e, d) {
         return false;
     }
-    wins_tie(target, k, d, j, e)
+    wins_tie(target, k, j)
 }
 
-// Is the key k, d from the target, reached by going down from it? It is where the steps down are d.
-fn is_down(target: Key, k: Key, d: Key) -> bool
-    requires { ⌜ number d ≡ apart (number target) (number k) ⌝ }
-    ensures { λ r. ⌜ r ≡ isDown (number target) (number k) ⌝ }
-{
-    key::is_same(key::minus(target, k), d)
-}
-
-// Of two keys equally far from the target, is k, d from it, the one that is taken before j, e from it?
-fn wins_tie(target: Key, k: Key, d: Key, j: Key, e: Key) -> bool
-    requires { ⌜ number d ≡ apart (number target) (number k) ⌝ }
-    requires { ⌜ number e ≡ apart (number target) (number j) ⌝ }
+// Of two keys equally far from the target, is k the one that is taken? If they are two, one is reached by going down and one
+// by going up: k by going down where the steps down are less than half the ring.
+fn wins_tie(target: Key, k: Key, j: Key) -> bool
+    requires { ⌜ apart (number target) (number k) ≡ apart (number target) (number j) ⌝ }
     ensures { λ r. ⌜ r ≡ tie (number target) (number k) (number j) ⌝ }
 {
-    let first = is_down(target, k, d);
-    let second = is_down(target, j, e);
-    first & !second
+    if key::is_same(k, j) {
+        return false;
+    }
+    let down = key::minus(target, k);
+    down.a < 9223372036854775808
 }
 
 // A byte with its top bit flipped.

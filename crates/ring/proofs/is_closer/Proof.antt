@@ -1,9 +1,10 @@
 -- `ring::is_closer` meets its contract: the two differences decide, and where neither is less the tie. Assumes nothing.
-use mathlib.Core.Path.{sym, _∙_}
+use mathlib.Core.Path.{_≡_, sym, _∙_}
 use native.Mathlib.Omega.{arith}
 use Prim.Native.Nat.{_≤_, _<_}
 use borrow.Author.Tests.{ltb-true, ltb-false}
 use Rattle.key.specs.Number.{number}
+use Rattle.key.specs.Around.{apart}
 use Rattle.key.proofs.AroundLaws.{closer-less, closer-same, closer-more}
 use borrow.Author.Needs.{needs}
 use Rattle.ring.proofs.is_closer.Statement.{statement}
@@ -27,16 +28,25 @@ returns-2 c =
     let h : number (a .e) < number (a .d) = ltb-true (number (a .e)) (number (a .d)) (sym (c .before .is-less2 .ensures) ∙ c .if2 .taken) in
     sym (closer-more (number (a .target)) (number (a .k)) (number (a .j)) (omega arith))
 
+-- where neither is less, the keys are equally far
+equally : (c : tie.Else2) → let a = c .before .before .before .before .args in
+    apart (number (a .target)) (number (a .k)) ≡ apart (number (a .target)) (number (a .j))
+equally c =
+    let m = c .before .before .before in
+    let s = m .before in
+    let a = s .args in
+    let h : number (a .e) ≤ number (a .d) = ltb-false (number (a .d)) (number (a .e)) (sym (m .is-less .ensures) ∙ c .before .before .if1 .left) in
+    let g : number (a .d) ≤ number (a .e) = ltb-false (number (a .e)) (number (a .d)) (sym (c .before .is-less2 .ensures) ∙ c .if2 .left) in
+    let e : number (a .d) ≡ number (a .e) = omega arith in
+    sym (s .pre .0) ∙ e ∙ s .pre .1
+
 wins-tie-requires : tie.Need-wins-tie-requires
-wins-tie-requires c κs = search needs
+wins-tie-requires c κs = equally c
 
 returns-3 : tie.Need-returns-3
 returns-3 c =
-    let m = c .before .before .before .before in
-    let a = m .before .args in
-    let h : number (a .e) ≤ number (a .d) = ltb-false (number (a .d)) (number (a .e)) (sym (m .is-less .ensures) ∙ c .before .before .before .if1 .left) in
-    let g : number (a .d) ≤ number (a .e) = ltb-false (number (a .e)) (number (a .d)) (sym (c .before .before .is-less2 .ensures) ∙ c .before .if2 .left) in
-    c .wins-tie .ensures ∙ sym (closer-same (number (a .target)) (number (a .k)) (number (a .j)) (omega arith))
+    let a = c .before .before .before .before .before .args in
+    c .wins-tie .ensures ∙ sym (closer-same (number (a .target)) (number (a .k)) (number (a .j)) (equally (c .before)))
 
 pub is-closer-spec : {M : Type 1} → statement M
 is-closer-spec =

@@ -17,14 +17,14 @@ pub fn is_path(path: &[u8]) -> bool
     path.len() % ENDPOINT_LEN == 0
 }
 
-// Has the endpoint at a place of the path the port of the record at a place?
+// Has the endpoint at a place of the path the port of the record at a place? Both as the machine reads them.
 fn same_port(s: &[u8], at: usize, path: &[u8], start: usize) -> bool
     requires { ⌜ (at + 100 ≤ length (now s)) × (start + 18 ≤ length (now path)) ⌝ }
     ensures { λ r. ⌜ r
         ≡ eqb (endpointPort (part start 18 (now (path .entry)))) (portOf (part at 100 (now (s .entry)))) ⌝ }
 {
-    let port = octet::read_u16(s, at + 32);
-    octet::read_u16(path, start) == port
+    let port = octet::read_u16_le(s, at + 32);
+    octet::read_u16_le(path, start) == port
 }
 
 // Do the port of the record at a place and one of its addresses stand together as an endpoint on the path? It stops at the

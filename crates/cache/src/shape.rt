@@ -2,9 +2,9 @@
 ghost use mathlib.Core.Path.{_≡_};
 ghost use Prim.Native.Nat.{_+_, _-_, _*_, _/_, _≤_};
 ghost use lib.Dec.{leb};
-ghost use lib.ListN.{length};
+ghost use lib.ListN.{length, drop};
 ghost use Rattle.octet.specs.Number.{valueBE};
-ghost use Rattle.octet.specs.Part.{part};
+ghost use Rattle.octet.specs.Part.{part, allZero};
 ghost use Rattle.key.specs.Number.{keyAt};
 ghost use Rattle.record.specs.Record.{keyOf};
 ghost use Rattle.table.specs.Rows.{rows};
@@ -97,6 +97,17 @@ fn holds_own(own: &[u8], cache: &[u8], used: usize) -> bool
     }
 }
 
+// Is each byte from a place on zero? Behind the records of a full cache there is none.
+fn rest_clear(cache: &[u8], end: usize) -> bool
+    requires { ⌜ end ≤ length (now cache) ⌝ }
+    ensures { λ r. ⌜ r ≡ allZero (drop end (now (cache .entry))) ⌝ }
+{
+    if end == cache.len() {
+        return true;
+    }
+    octet::is_zero(&cache[end..])
+}
+
 // The test of the form, under the own key, which stands at the own record's start.
 pub fn form(own: &[u8], cache: &[u8]) -> Formed
     requires { ⌜ 32 ≤ length (now own) ⌝ }
@@ -114,7 +125,7 @@ pub fn form(own: &[u8], cache: &[u8]) -> Formed
     }
     let used = count_held(cache);
     let end = record::RECORD_LEN * used;
-    if !octet::is_zero(&cache[end..]) {
+    if !rest_clear(cache, end) {
         return Formed::Bad;
     }
     if holds_own(own, cache, used) {

@@ -1,11 +1,8 @@
 -- `cache::shape::form` meets its contract: each test of the size refuses; then so many places are counted, the rest is zero or not, and our own key among theirs or not. Assumes nothing.
 use mathlib.Core.Path.{_≡_, sym, ap, _∙_}
 use mathlib.Core.Bool.{Bool, cond}
-use mathlib.Core.List.{List}
-use Prim.Native.Nat.{ℕ, _-_, _*_, _/_, _≤_}
-use lib.ListN.{length, take, drop, length-drop}
-use lib.Seq.{take-all}
-use Rattle.octet.specs.Part.{allZero}
+use Prim.Native.Nat.{_/_, _≤_}
+use lib.ListN.{length}
 use Rattle.record.specs.Record.{keyOf}
 use borrow.Author.Tests.{not-true, not-false}
 use Rattle.cache.specs.declared.shape.Formed.the-variants.{Bad, Good}
@@ -24,10 +21,6 @@ few : (c : tie.After-count-held) → c .count-held .result ≤ length (start c .
 few c =
     used-most (keyOf (start c .args .own .now)) (start c .args .cache .now) (c .before .before .before .if1 .left) (omega arith) (omega arith)
     (c .count-held .result) (c .count-held .ensures)
-
--- the part that is lent to the test
-rest : (n : ℕ) (s : List ℕ) → take (length s - n) (drop n s) ≡ drop n s
-rest n s = take-all (length s - n) (drop n s) (simp length-drop (omega arith))
 
 returns : tie.Need-returns
 returns c =
@@ -50,35 +43,19 @@ count-held-requires c κs = search needs
 mul-end : tie.Need-mul-end
 mul-end c = omega (arith, few c)
 
-sub-is-zero : tie.Need-sub-is-zero
-sub-is-zero c = omega (arith, few c)
-
-part-is-zero-start : tie.Need-part-is-zero-start
-part-is-zero-start c = omega (arith, few c)
-
-part-is-zero-end : tie.Need-part-is-zero-end
-part-is-zero-end c = search needs
-
-is-zero-requires : tie.Need-is-zero-requires
-is-zero-requires c κs = search needs
-
--- what is said of the rest
-clear : (z : tie.After-is-zero) → z .is-zero .result ≡ allZero (drop (100 * z .before .before .count-held .result) (start (z .before .before) .args .cache .now))
-clear z =
-    let g = z .before .before in
-    z .is-zero .ensures ∙ ap allZero (rest (100 * g .count-held .result) (start g .args .cache .now))
+rest-clear-requires : tie.Need-rest-clear-requires
+rest-clear-requires c κs = omega (arith, few c)
 
 returns-4 : tie.Need-returns-4
 returns-4 c =
-    let z = c .before in
-    let g = z .before .before in
+    let g = c .before .before in
     let a = start g .args in
     sym (rest-bad (keyOf (a .own .now)) (a .cache .now) (g .before .before .before .if1 .left) (omega arith) (omega arith)
-    (g .count-held .result) (g .count-held .ensures) (sym (clear z) ∙ not-true _ (c .if4 .taken)))
+    (g .count-held .result) (g .count-held .ensures) (sym (c .before .rest-clear .ensures) ∙ not-true _ (c .if4 .taken)))
 
 holds-own-requires : tie.Need-holds-own-requires
 holds-own-requires c κs =
-    let g = c .before .before .before in
+    let g = c .before .before in
     let a = start g .args in (
       omega (arith, start g .pre),
       (
@@ -90,7 +67,7 @@ holds-own-requires c κs =
 
 returns-5 : tie.Need-returns-5
 returns-5 c =
-    let g = c .before .before .before .before .before in
+    let g = c .before .before .before .before in
     let a = start g .args in
     sym (own-bad (keyOf (a .own .now)) (a .cache .now) (g .before .before .before .if1 .left) (omega arith) (omega arith)
     (g .count-held .result) (g .count-held .ensures) (sym (c .before .holds-own .ensures) ∙ c .if5 .taken))
@@ -98,12 +75,11 @@ returns-5 c =
 returns-6 : tie.Need-returns-6
 returns-6 c =
     let tested = c .before .before in
-    let z = tested .before in
-    let g = z .before .before in
+    let g = tested .before .before in
     let a = start g .args in
     sym (free-by (keyOf (a .own .now)) (a .cache .now) (g .before .before .before .if1 .left) (omega arith) (omega arith)
     (g .count-held .result) (g .count-held .ensures) (sym (c .before .holds-own .ensures) ∙ c .if5 .left)
-    ∙ ap (λ (b : Bool). cond b (Good (g .count-held .result)) Bad) (sym (clear z) ∙ not-false _ (tested .if4 .left)))
+    ∙ ap (λ (b : Bool). cond b (Good (g .count-held .result)) Bad) (sym (tested .before .rest-clear .ensures) ∙ not-false _ (tested .if4 .left)))
 
 pub form-spec : {M : Type 1} → statement M
 form-spec =
@@ -114,10 +90,7 @@ form-spec =
     returns-3
     count-held-requires
     mul-end
-    sub-is-zero
-    part-is-zero-start
-    part-is-zero-end
-    is-zero-requires
+    rest-clear-requires
     returns-4
     holds-own-requires
     returns-5

@@ -6,7 +6,7 @@ use mathlib.Core.Bool.{Bool, true, false, cond}
 use Prim.Native.Nat.{ℕ, zero, suc, _+_, _-_, _*_, _%_, _≤_, _<_}
 use native.Mathlib.Numerals.{add-one}
 use native.Mathlib.Omega.{arith}
-use lib.Dec.{leb, ltb, eqb}
+use lib.Dec.{leb, ltb}
 use lib.ListN.{length, drop}
 use borrow.Author.Tests.{eq-eqb, ne-eqb, le-leb, lt-leb}
 use mathlib.Core.Path.{sym}
@@ -35,14 +35,10 @@ low-next s i k d =
     let p : i ≡ suc (i - 1) = omega arith in
     ap (λ (j : ℕ). leb (lowAt s j) k) p
 
--- by the key before it, and where it is not above
+-- by the key before it
 pub low-by : (s : List ℕ) (i k : ℕ) → ltb (keyAt (100 * (i - 1)) s) k ≡ true → true ≡ leb (lowAt s i) k
 low-by s zero k t = sym (low-first s 0 k refl)
 low-by s (suc i) k t = sym (low-next s (suc i) k (λ e. omega arith) ∙ t)
-
-pub low-not : (s : List ℕ) (i k : ℕ) → ltb (keyAt (100 * (i - 1)) s) k ≡ false → eqb i 0 ≡ leb (lowAt s i) k
-low-not s zero k t = sym (low-first s 0 k refl)
-low-not s (suc i) k t = ne-eqb (suc i) 0 (λ e. omega arith) ∙ sym (low-next s (suc i) k (λ e. omega arith) ∙ t)
 
 -- by the first words
 pub low-words : (s : List ℕ) (i last : ℕ) → Digits 256 s → 100 * i + 100 ≤ length s → Carried s i last → last < valueBE 256 (part (100 * i) 8 s)

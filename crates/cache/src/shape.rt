@@ -1,7 +1,7 @@
 // The form of the cache: used records first, keys strictly increasing, none the own key; the rest all zero.
 ghost use mathlib.Core.Path.{_≡_};
-ghost use Prim.Native.Nat.{_+_, _-_, _*_, _/_, _≤_};
-ghost use lib.Dec.{leb};
+ghost use Prim.Native.Nat.{_+_, _-_, _*_, _/_, _≤_, _<_};
+ghost use lib.Dec.{leb, ltb};
 ghost use lib.ListN.{length, drop};
 ghost use Rattle.octet.specs.Number.{valueBE};
 ghost use Rattle.octet.specs.Part.{part, allZero};
@@ -20,14 +20,24 @@ pub enum Formed {
     Good(usize),
 }
 
-// The place before place i; the first is before itself.
-fn place_before(i: usize) -> usize
-    ensures { λ r. ⌜ r ≡ i - 1 ⌝ }
+// Is the key at place i above the one before it, which begins with the same word? The other words say it.
+fn rest_above(cache: &[u8], i: usize) -> bool
+    requires { ⌜ (0 < i) × (100 * i + 100 ≤ length (now cache)) ⌝ }
+    requires { ⌜ valueBE 256 (part (100 * (i - 1)) 8 (now cache)) ≡ valueBE 256 (part (100 * i) 8 (now cache)) ⌝ }
+    ensures { λ r. ⌜ r ≡ ltb (keyAt (100 * (i - 1)) (now (cache .entry))) (keyAt (100 * i) (now (cache .entry))) ⌝ }
 {
-    if i == 0 {
-        return 0;
+    let before = record::RECORD_LEN * (i - 1);
+    let at = record::RECORD_LEN * i;
+    let mut word = 1;
+    while word < 4 {
+        let x = octet::read_u64(cache, before + 8 * word);
+        let y = octet::read_u64(cache, at + 8 * word);
+        if x != y {
+            return x < y;
+        }
+        word += 1;
     }
-    i - 1
+    false
 }
 
 // Is the key at place i, which begins with a word, above the one before it, which began with the last? Mostly the words
@@ -41,16 +51,13 @@ fn above_before(cache: &[u8], i: usize, word: u64, last: u64) -> bool
     if last < word {
         return true;
     }
-    let before = place_before(i);
-    if key::less_at(
-        cache,
-        record::RECORD_LEN * before,
-        cache,
-        record::RECORD_LEN * i,
-    ) {
+    if i == 0 {
         return true;
     }
-    i == 0
+    if word < last {
+        return false;
+    }
+    rest_above(cache, i)
 }
 
 // Has place i a record that stands in order after those before it? The key before it began with the last word.

@@ -1,22 +1,25 @@
--- `cache::shape::above_before` meets its contract: by the first words, or by the key before. Assumes nothing.
+-- `cache::shape::above_before` meets its contract: by the first words, or where they are the same by the others. Assumes nothing.
 use mathlib.Core.Path.{_≡_, sym, ap, _∙_}
 use mathlib.Core.List.{List}
-use Prim.Native.Nat.{ℕ, _-_, _*_}
+use Prim.Native.Nat.{ℕ, zero, suc, _-_, _*_}
 use native.Mathlib.Omega.{arith}
-use lib.Dec.{ltb}
+use Rattle.octet.specs.Number.{valueBE}
+use Rattle.octet.specs.Part.{part}
 use Rattle.key.specs.Number.{keyAt}
-use Rattle.cache.proofs.ShapeLaws.{low-by, low-not, low-words}
+use Rattle.key.proofs.OrderLaws.{test-more}
+use Rattle.cache.specs.Place.{Carried}
+use Rattle.cache.proofs.SeekLaws.{first-more}
+use Rattle.cache.proofs.ShapeLaws.{low-first, low-next, low-words}
 use borrow.Author.Needs.{needs}
 use Rattle.cache.proofs.shape.above_before.Statement.{statement}
 use Rattle.cache.proofs.shape.above_before.Tie as tie
 
--- what the comparison with the key before says
-compared : (m : tie.After-less-at) → let a = m .before .before .before .before .args in
-    m .less-at .result ≡ ltb (keyAt (100 * (a .i - 1)) (a .cache .now)) (keyAt (100 * a .i) (a .cache .now))
-compared m =
-    let a = m .before .before .before .before .args in
-    m .less-at .ensures
-    ∙ ap (λ (n : ℕ). ltb (keyAt (100 * n) (a .cache .now)) (keyAt (100 * a .i) (a .cache .now))) (m .before .place-before .ensures)
+-- what is carried, by the place before
+carried-at : (s : List ℕ) (i last : ℕ) → Carried s i last → ¬ (i ≡ 0) → last ≡ valueBE 256 (part (100 * (i - 1)) 8 s)
+carried-at s zero last is d = absurd (d (omega arith))
+carried-at s (suc i) last is d =
+    let p : 100 * i ≡ 100 * (suc i - 1) = omega arith in
+    is ∙ ap (λ (n : ℕ). valueBE 256 (part n 8 s)) p
 
 returns : tie.Need-returns
 returns c =
@@ -26,36 +29,36 @@ returns c =
     low-words (a .cache .now) (a .i) (a .last) (λ i. omega (arith, known .shared-slice-known .given i)) (start .pre .0) (start .pre .1 .1)
     (omega (arith, c .if1 .taken, start .pre .1 .0))
 
-place-before-requires : tie.Need-place-before-requires
-place-before-requires c κs = search needs
-
-mul-less-at : tie.Need-mul-less-at
-mul-less-at c = search needs
-
-mul-less-at-2 : tie.Need-mul-less-at-2
-mul-less-at-2 c = search needs
-
-less-at-requires : tie.Need-less-at-requires
-less-at-requires c κs = search needs
-
 returns-2 : tie.Need-returns-2
 returns-2 c =
-    let a = c .before .before .before .before .before .args in
-    low-by (a .cache .now) (a .i) (keyAt (100 * a .i) (a .cache .now)) (sym (compared (c .before)) ∙ c .if2 .taken)
+    let a = c .before .before .before .args in
+    sym (low-first (a .cache .now) (a .i) (keyAt (100 * a .i) (a .cache .now)) (c .if2 .taken))
 
 returns-3 : tie.Need-returns-3
 returns-3 c =
+    let known = c .before .before .before in
+    let start = known .before in
+    let a = start .args in
+    let s = a .cache .now in
+    let room = start .pre .0 in
+    let last = carried-at s (a .i) (a .last) (start .pre .1 .1) (c .before .if2 .left) in
+    sym (low-next s (a .i) (keyAt (100 * a .i) s) (c .before .if2 .left)
+    ∙ test-more (keyAt (100 * (a .i - 1)) s) (keyAt (100 * a .i) s)
+    (first-more (100 * (a .i - 1)) (100 * a .i) s s (λ i. omega (arith, known .shared-slice-known .given i))
+    (λ i. omega (arith, known .shared-slice-known .given i)) (omega (arith, room)) (omega (arith, room))
+    (omega (arith, c .if3 .taken, last, start .pre .1 .0))) .0)
+
+rest-above-requires : tie.Need-rest-above-requires
+rest-above-requires c κs =
+    let start = c .before .before .before .before in
+    let a = start .args in
+    let last = carried-at (a .cache .now) (a .i) (a .last) (start .pre .1 .1) (c .before .if2 .left) in
+    ((omega (arith, c .before .if2 .left), omega (arith, start .pre .0)), omega (arith, c .if3 .left, c .before .before .if1 .left, last, start .pre .1 .0))
+
+returns-4 : tie.Need-returns-4
+returns-4 c =
     let a = c .before .before .before .before .before .args in
-    low-not (a .cache .now) (a .i) (keyAt (100 * a .i) (a .cache .now)) (sym (compared (c .before)) ∙ c .if2 .left)
+    c .rest-above .ensures ∙ sym (low-next (a .cache .now) (a .i) (keyAt (100 * a .i) (a .cache .now)) (c .before .before .if2 .left))
 
 pub above-before-spec : {M : Type 1} → statement M
-above-before-spec =
-    tie.close
-    (tie.spec
-    returns
-    place-before-requires
-    mul-less-at
-    mul-less-at-2
-    less-at-requires
-    returns-2
-    returns-3)
+above-before-spec = tie.close (tie.spec returns returns-2 returns-3 rest-above-requires returns-4)

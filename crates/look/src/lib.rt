@@ -379,10 +379,24 @@ pub fn brief_at(major: u8, datagram: &[u8]) -> Brief
     }
 }
 
-// What the radio program is told of it.
+// What the radio program is told of it; field by field, as the compiler would copy a whole struct twice.
 pub fn look_at(major: u8, datagram: &[u8]) -> Look
     ensures { λ r. ⌜ r ≡ lookOf (readIn (now (datagram .entry)) major) ⌝ }
 {
     let told = brief_at(major, datagram);
-    told.seen
+    let seen = told.seen;
+    Look {
+        number: seen.number,
+        kind: seen.kind,
+        id: seen.id,
+        acked: seen.acked,
+        cpa: seen.cpa,
+        cpa_length: seen.cpa_length,
+        nonce: seen.nonce,
+        nonce_length: seen.nonce_length,
+        entry: seen.entry,
+        entry_length: seen.entry_length,
+        target: seen.target,
+        target_length: seen.target_length,
+    }
 }

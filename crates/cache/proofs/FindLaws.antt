@@ -1,9 +1,9 @@
 -- What the place found for a key says of the records: where one joins, which one goes, whether the key is held, how many are smaller.
--- First of any rising keys, then of the records in a cache. Elsewhere: the search's loop, in SeekLaws. Assumes nothing.
+-- First of any rising keys, then of the records in a cache. Elsewhere: the search's loop, in crate search. Assumes nothing.
 use mathlib.Core.Path.{_≡_, refl, sym, ap, _∙_, subst}
 use mathlib.Core.Logic.{_⊎_, inl, inr}
 use mathlib.Core.List.{List, [], _∷_}
-use mathlib.Core.Bool.{true, false}
+use mathlib.Core.Bool.{Bool, true, false, cond}
 use Prim.Native.Nat.{ℕ, suc, _≤_, _<_}
 use native.Mathlib.Omega.{arith}
 use lib.ListN.{length, getD, set, length-map}
@@ -178,6 +178,14 @@ place-under own low (j ∷ ks) r = go (stand j own) (place-under own (suc j) ks 
     go (below h) ih = rw (lt-ltb j own h) (place-further (findKey own ks) ∙ ap suc ih)
     go (equal h) ih = rw (le-ltb j own (omega arith), eq-eqb j own h) (sym (none-under own (suc j) ks (omega arith) (r .1)))
     go (above h) ih = rw (le-ltb j own (omega arith), ne-eqb j own (omega arith)) (sym (none-under own (suc j) ks (omega arith) (r .1)))
+
+-- it is what the search tells: whether k is there, and how many are smaller
+pub found-sought : (k low : ℕ) (ks : List ℕ) → Rising plain low ks → {b : Bool} → has k ks ≡ b → findKey k ks ≡ cond b (At (countUnder k ks)) (Before (countUnder k ks))
+found-sought k low ks r {b} e = go (findKey k ks) (sym (found-has k low ks r) ∙ e) (place-under k low ks r)
+  where
+    go : (f : Found) → isFound f ≡ b → placeOf f ≡ countUnder k ks → f ≡ cond b (At (countUnder k ks)) (Before (countUnder k ks))
+    go (At i) h p = rw (sym h) (ap At p)
+    go (Before i) h p = rw (sym h) (ap Before p)
 
 -- so many are at most k
 past-further : (f : Found) → pastOf (further f) ≡ suc (pastOf f)

@@ -1,7 +1,6 @@
 pub mod FormLaws
 pub mod ShapeLaws
 pub mod OrderedLaws
-pub mod SeekLaws
 pub mod FindLaws
 pub mod LearnLaws
 pub mod GoesLaws
@@ -9,3 +8,4 @@ pub mod KeepLaws
 pub mod SideLaws
 pub mod LentLaws
 pub mod CallLaws
+pub mod SearchLaws

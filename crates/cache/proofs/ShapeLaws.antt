@@ -17,11 +17,11 @@ use Rattle.key.specs.Number.{keyAt}
 use Rattle.record.specs.Record.{keyOf, recordForm}
 use Rattle.table.specs.Rows.{rows}
 use Rattle.table.proofs.RowLaws.{rows-next, rows-end}
+use Rattle.search.proofs.SeekLaws.{first-less}
 use Rattle.cache.specs.declared.shape.Formed.the-variants.{Bad, Good}
 use Rattle.cache.specs.Form.{Form, follows, leading, heldIn, heldOf, cacheForm, placesIn}
 use Rattle.cache.specs.Place.{cacheFormed, lowAt, Carried}
 use Rattle.cache.proofs.FormLaws.{key-of-row, true-form}
-use Rattle.cache.proofs.SeekLaws.{first-less}
 
 -- ---- what the key of a place has to be at least
 

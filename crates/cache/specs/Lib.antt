@@ -3,3 +3,4 @@ pub mod Place
 pub mod Bytes
 pub mod Change
 pub mod Calls
+pub mod Searching

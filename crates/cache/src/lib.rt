@@ -5,9 +5,11 @@ mod learning;
 mod place;
 mod shape;
 
+pub use calls::Searched;
 pub use calls::learn_record;
 pub use calls::memory;
 pub use calls::remove_key;
+pub use calls::search_key;
 pub use learning::Change;
 pub use learning::learn;
 pub use learning::remove;

@@ -1,14 +1,14 @@
--- `cache::place::order_of` meets its contract: by the first words, or by all of the two keys. Assumes nothing.
+-- `search::order_of` meets its contract: by the first words, or by all of the two keys. Assumes nothing.
 use mathlib.Core.List.{List}
 use Prim.Native.Nat.{ℕ, _+_, _*_, _≤_}
 use native.Mathlib.Omega.{arith}
 use lib.ListN.{length}
 use mathlib.Core.Path.{sym}
 use Rattle.octet.specs.Number.{Digits}
-use Rattle.cache.proofs.SeekLaws.{first-less, first-more}
+use Rattle.search.proofs.SeekLaws.{first-less, first-more}
 use borrow.Author.Needs.{needs}
-use Rattle.cache.proofs.place.order_of.Statement.{statement}
-use Rattle.cache.proofs.place.order_of.Tie as tie
+use Rattle.search.proofs.order_of.Statement.{statement}
+use Rattle.search.proofs.order_of.Tie as tie
 
 -- the first place, the bytes lent, and the key's place, from where the word is read
 abbrev start : tie.After-read-u64 → tie.Start

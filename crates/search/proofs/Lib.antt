@@ -1,0 +1,3 @@
+pub mod HalvingLaws
+pub mod SeekLaws
+pub mod CaseLaws

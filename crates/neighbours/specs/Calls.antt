@@ -11,6 +11,8 @@ use Rattle.refusal.specs.Table.{Refusal, when, orRefuse}
 use Rattle.key.specs.Number.{keyAt}
 use Rattle.own.specs.Own.{ownKeys, ownRecords}
 use Rattle.path.specs.Path.{pathForm}
+use Rattle.search.specs.Halving.{halvings}
+use Rattle.cache.specs.Form.{keysOf}
 use Rattle.cache.specs.Calls.{memoryWrong, keyWrong, heldBy}
 use Rattle.neighbours.specs.Listing.{afterList, countsOf}
 use Rattle.neighbours.specs.Closest.{candidates, offPath, closestOf}
@@ -66,3 +68,8 @@ unfoldable pub closestCall : (own cache path target : List ℕ) → Shown
 closestCall own cache path target =
     orRefuse (λ (n : ℕ). shown n []) (closestWrong own cache path target)
     (shown 0 (closestOf (keyAt 0 target) (candidates (ownRecords own) (offPath path (heldBy own cache)))))
+
+-- how many of the keys held were compared with the target, those on the path too; none where it is refused (02, Wish 8)
+unfoldable pub closestCompared : (own cache path target : List ℕ) → ℕ
+closestCompared own cache path target =
+    orRefuse (λ (n : ℕ). 0) (closestWrong own cache path target) (halvings (keysOf (heldBy own cache)) (keyAt 0 target))

@@ -9,5 +9,6 @@ pub use listing::Listed;
 pub use listing::neighbour_list;
 pub use listing::neighbours;
 pub use nearest::Nearest;
+pub use nearest::Sighted;
 pub use nearest::closest;
 pub use nearest::closest_record;

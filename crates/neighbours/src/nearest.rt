@@ -9,10 +9,11 @@ ghost use Rattle.record.specs.Record.{keyOf, recordForm};
 ghost use Rattle.own.specs.Own.{ownRecords};
 ghost use Rattle.table.specs.Rows.{rows};
 ghost use Rattle.kept.specs.Keys.{Every};
-ghost use Rattle.cache.specs.Form.{Form};
+ghost use Rattle.kept.specs.Turned.{countUnder};
+ghost use Rattle.cache.specs.Form.{keysOf, Form};
 ghost use Rattle.neighbours.specs.Closest.{candidates, offPath, closestOf};
 ghost use Rattle.neighbours.specs.Where.{skippedUp, skippedDown, recordAt, nearestOf, Within};
-ghost use Rattle.neighbours.specs.Calls.{Inside, shownBy, closestCall};
+ghost use Rattle.neighbours.specs.Calls.{Inside, shownBy, closestCall, closestCompared};
 use cache::Formed;
 use key::Key;
 
@@ -27,6 +28,12 @@ pub enum Nearest {
     Refused(u32),
     Own,
     Held(usize),
+}
+
+// The closest record, and how many of the keys held were compared to find the target's place: those on the path too.
+pub struct Sighted {
+    pub nearest: Nearest,
+    pub compared: usize,
 }
 
 // Which of our own record and those of two places is the closest to the target?
@@ -87,17 +94,24 @@ fn skipped_down(cache: &[u8], used: usize, at: usize, path: &[u8]) -> usize
     i
 }
 
-// Where the closest record stands, those on the path left out. Keys go round, so of those held it can only be the first
-// that is reached by going up from the target or the first by going down.
-fn place_of_closest(own: &[u8], cache: &[u8], used: usize, path: &[u8], target: &[u8]) -> Where
+// Where the closest record stands, those on the path left out. `at` is the target's place among all that are held. Keys go
+// round, so of those held it can only be the first that is reached by going up from the target or the first by going down.
+fn place_of_closest(
+    own: &[u8],
+    cache: &[u8],
+    used: usize,
+    at: usize,
+    path: &[u8],
+    target: &[u8],
+) -> Where
     requires { ⌜ (32 ≤ length (now own)) × (32 ≤ length (now target)) ⌝ }
     requires { ⌜ Form (keyOf (now own)) (now cache) (rows 100 used (now cache)) ⌝ }
+    requires { ⌜ at ≡ countUnder (keyAt 0 (now target)) (keysOf (rows 100 used (now cache))) ⌝ }
     ensures { λ r. ⌜ recordAt (now (own .entry)) (now (cache .entry)) r
         ≡ closestOf (keyAt 0 (now (target .entry))) (candidates (ownRecords (now (own .entry)))
         (offPath (now (path .entry)) (rows 100 used (now (cache .entry))))) ⌝ }
     ensures { λ r. ⌜ Within used r ⌝ }
 {
-    let at = cache::count_under(target, cache, used);
     let over = skipped_up(cache, used, at, path);
     if over == used {
         return Where::Own;
@@ -122,7 +136,8 @@ pub fn closest<'a>(
     ensures { λ r. ⌜ now r ≡ closestOf (keyAt 0 (now (target .entry))) (candidates (ownRecords (now (own .entry)))
         (offPath (now (path .entry)) (rows 100 used (now (cache .entry))))) ⌝ }
 {
-    match place_of_closest(own, cache, used, path, target) {
+    let place = cache::count_under(target, cache, used);
+    match place_of_closest(own, cache, used, place, path, target) {
         Where::Own => own,
         Where::Held(i) => {
             let at = record::RECORD_LEN * i;
@@ -133,23 +148,41 @@ pub fn closest<'a>(
 
 // Which record is the closest to the target, on memory that nobody has tested: refused with 1 where it is not in form, the
 // path is not whole endpoints or the target has not 32 bytes.
-pub fn closest_record(own: &[u8], cache: &[u8], path: &[u8], target: &[u8]) -> Nearest
-    ensures { λ r. ⌜ shownBy (now (own .entry)) (now (cache .entry)) r
+pub fn closest_record(own: &[u8], cache: &[u8], path: &[u8], target: &[u8]) -> Sighted
+    ensures { λ r. ⌜ shownBy (now (own .entry)) (now (cache .entry)) (r .nearest)
         ≡ closestCall (now (own .entry)) (now (cache .entry)) (now (path .entry)) (now (target .entry)) ⌝ }
-    ensures { λ r. ⌜ Inside (now (own .entry)) (now (cache .entry)) r ⌝ }
+    ensures { λ r. ⌜ Inside (now (own .entry)) (now (cache .entry)) (r .nearest) ⌝ }
+    ensures { λ r. ⌜ r .compared
+        ≡ closestCompared (now (own .entry)) (now (cache .entry)) (now (path .entry)) (now (target .entry)) ⌝ }
 {
     let found = cache::memory(own, cache);
     let Formed::Good(used) = found else {
-        return Nearest::Refused(refusal::MEMORY);
+        return Sighted {
+            nearest: Nearest::Refused(refusal::MEMORY),
+            compared: 0,
+        };
     };
     if !path::is_path(path) {
-        return Nearest::Refused(refusal::MEMORY);
+        return Sighted {
+            nearest: Nearest::Refused(refusal::MEMORY),
+            compared: 0,
+        };
     }
     if target.len() != 32 {
-        return Nearest::Refused(refusal::MEMORY);
+        return Sighted {
+            nearest: Nearest::Refused(refusal::MEMORY),
+            compared: 0,
+        };
     }
-    match place_of_closest(own, cache, used, path, target) {
-        Where::Own => Nearest::Own,
-        Where::Held(i) => Nearest::Held(i),
+    let sought = search::find_key(cache, used, target);
+    match place_of_closest(own, cache, used, sought.at, path, target) {
+        Where::Own => Sighted {
+            nearest: Nearest::Own,
+            compared: sought.compared,
+        },
+        Where::Held(i) => Sighted {
+            nearest: Nearest::Held(i),
+            compared: sought.compared,
+        },
     }
 }

@@ -11,7 +11,7 @@ use Rattle.neighbours.proofs.nearest.closest.Statement.{statement}
 use Rattle.neighbours.proofs.nearest.closest.Tie as tie
 
 abbrev start : tie.After-place-of-closest → tie.Start
-start c = c .before .before .before .before .before
+start c = c .before .before .before .before .before .before
 
 room : (s : tie.Start) → 100 * s .args .used ≤ length (s .args .cache .now)
 room s = form-laid (keyOf (s .args .own .now)) (s .args .used) (s .args .cache .now) (s .pre .1) .room
@@ -21,6 +21,11 @@ inside : (c : tie.After-known-told) → c .before .i .given .0 .0 < start (c .be
 inside c =
     let found = c .before .before .before in
     subst (Within (start found .args .used)) (c .before .i .given .1) (found .place-of-closest .ensures .1)
+
+count-under-requires : tie.Need-count-under-requires
+count-under-requires c κs =
+    let s = c .before .before .before .before in
+    (s .pre .0 .1, (room s, s .pre .1 .held .rising))
 
 place-of-closest-requires : tie.Need-place-of-closest-requires
 place-of-closest-requires c κs = search needs
@@ -66,6 +71,7 @@ pub closest-spec : {M : Type 1} → statement M
 closest-spec =
     tie.close
     (tie.spec
+    count-under-requires
     place-of-closest-requires
     enum-told
     enum-known-i

@@ -26,10 +26,10 @@ use Rattle.neighbours.proofs.SidesLaws.{place-most, none-left, under-le
 use Rattle.neighbours.proofs.nearest.place_of_closest.Statement.{statement}
 use Rattle.neighbours.proofs.nearest.place_of_closest.Tie as tie
 
--- behind the search for the target's place
-module _ (n : tie.After-count-under) where
+-- where the slices are known
+module _ (n : tie.After-shared-slice-known4) where
   abbrev s : tie.Start
-  s = n .before .before .before .before .before
+  s = n .before .before .before .before
 
   abbrev own : List ℕ
   own = s .args .own .now
@@ -51,23 +51,23 @@ module _ (n : tie.After-count-under) where
   at = countUnder t (keysOf (rows 100 used cache))
 
   room : 100 * used ≤ length cache
-  room = form-laid (keyOf own) used cache (s .pre .1) .room
+  room = form-laid (keyOf own) used cache (s .pre .1 .0) .room
 
   small : Every (λ (k : ℕ). k < ring) (keysOf (rows 100 used cache))
-  small = keys-small used cache (λ i. omega (arith, n .before .before .before .shared-slice-known2 .given i)) room
+  small = keys-small used cache (λ i. omega (arith, n .before .before .shared-slice-known2 .given i)) room
 
   o : t < ring
-  o = key-lt 0 (s .args .target .now) (λ i. omega (arith, n .before .shared-slice-known4 .given i)) (s .pre .0 .1)
+  o = key-lt 0 (s .args .target .now) (λ i. omega (arith, n .shared-slice-known4 .given i)) (s .pre .0 .1)
 
-  at-most : n .count-under .result ≤ used
-  at-most = omega (arith, n .count-under .ensures, place-most t own path cache used (s .pre .1 .held) o small)
+  at-most : s .args .at ≤ used
+  at-most = omega (arith, s .pre .1 .1, place-most t own path cache used (s .pre .1 .0 .held) o small)
 
 -- how many are passed over on each side
 over-is : (c : tie.After-skipped-up) → (let n = c .before in c .skipped-up .result ≡ skippedUp (path n) (cache n) (used n) (at n))
-over-is c = let n = c .before in c .skipped-up .ensures ∙ ap (skippedUp (path n) (cache n) (used n)) (n .count-under .ensures)
+over-is c = let n = c .before in c .skipped-up .ensures ∙ ap (skippedUp (path n) (cache n) (used n)) (s n .pre .1 .1)
 
 under-is : (c : tie.After-skipped-down) → (let n = c .before .before .before in c .skipped-down .result ≡ skippedDown (path n) (cache n) (used n) (at n))
-under-is c = let n = c .before .before .before in c .skipped-down .ensures ∙ ap (skippedDown (path n) (cache n) (used n)) (n .count-under .ensures)
+under-is c = let n = c .before .before .before in c .skipped-down .ensures ∙ ap (skippedDown (path n) (cache n) (used n)) (s n .pre .1 .1)
 
 -- not all of them
 some : (c : tie.After-skipped-down) → (let n = c .before .before .before in skippedUp (path n) (cache n) (used n) (at n) < used n)
@@ -79,29 +79,23 @@ some c =
 under-most : (c : tie.After-skipped-down) → (let n = c .before .before .before in c .skipped-down .result < used n)
 under-most c =
     let n = c .before .before .before in
-    omega (arith, under-is c, under-less (t n) (own n) (path n) (cache n) (used n) (s n .pre .1 .held) (o n) (small n) (some c))
+    omega (arith, under-is c, under-less (t n) (own n) (path n) (cache n) (used n) (s n .pre .1 .0 .held) (o n) (small n) (some c))
 
 over-most : (c : tie.After-skipped-down) → (let n = c .before .before .before in c .before .before .skipped-up .result < used n)
 over-most c = omega (arith, some c, over-is (c .before .before))
 
-count-under-requires : tie.Need-count-under-requires
-count-under-requires c κs =
-    let s = c .before .before .before .before in
-    let a = s .args in
-    (s .pre .0 .1, (form-laid (keyOf (a .own .now)) (a .used) (a .cache .now) (s .pre .1) .room, s .pre .1 .held .rising))
-
 skipped-up-requires : tie.Need-skipped-up-requires
-skipped-up-requires c κs = (room c, at-most c, s c .pre .1 .held .formed)
+skipped-up-requires c κs = (room c, at-most c, s c .pre .1 .0 .held .formed)
 
 returns : tie.Need-returns
 unfolding closestOf closestFrom
 returns c =
     let n = c .before .before in
-    let none = none-left (t n) (own n) (path n) (cache n) (used n) (s n .pre .1 .held) (o n) (small n) (sym (over-is (c .before)) ∙ c .if1 .taken) in
+    let none = none-left (t n) (own n) (path n) (cache n) (used n) (s n .pre .1 .0 .held) (o n) (small n) (sym (over-is (c .before)) ∙ c .if1 .taken) in
     (sym (ap (λ (l : List (List ℕ)). closestOf (t n) (candidates (ownRecords (own n)) l)) none), tt)
 
 skipped-down-requires : tie.Need-skipped-down-requires
-skipped-down-requires c κs = let n = c .before .before in (room n, at-most n, s n .pre .1 .held .formed)
+skipped-down-requires c κs = let n = c .before .before in (room n, at-most n, s n .pre .1 .0 .held .formed)
 
 add-wrap : tie.Need-add-wrap
 add-wrap c = let n = c .before .before .before in omega (arith, at-most n, over-most c, room n)
@@ -139,13 +133,13 @@ returns-2 c =
     let stop = up .before in
     let n = stop .before .before .before in
     let eu : up .wrap .result ≡ stepsUp (used n) (at n) (skippedUp (path n) (cache n) (used n) (at n)) =
-    up .wrap .ensures .0 ∙ ap₂ (stepsUp (used n)) (n .count-under .ensures) (over-is (stop .before .before)) in
+    up .wrap .ensures .0 ∙ ap₂ (stepsUp (used n)) (s n .pre .1 .1) (over-is (stop .before .before)) in
     let ed : down .wrap2 .result ≡ stepsDown (used n) (at n) (skippedDown (path n) (cache n) (used n) (at n)) =
-    down .wrap2 .ensures .0 ∙ ap₂ (stepsDown (used n)) (n .count-under .ensures) (under-is stop) in
+    down .wrap2 .ensures .0 ∙ ap₂ (stepsDown (used n)) (s n .pre .1 .1) (under-is stop) in
     let is : c .nearest-of .result ≡ nearestOf (t n) (own n) (cache n) (up .wrap .result) (down .wrap2 .result) =
     c .nearest-of .ensures ∙ ap (λ (m : ℕ). nearestOf m (own n) (cache n) (up .wrap .result) (down .wrap2 .result)) (k .key-at .ensures) in (
       ap (recordAt (own n) (cache n)) is
-          ∙ sides-closest (t n) (own n) (path n) (cache n) (used n) (s n .pre .1 .held) (o n) (small n) (some stop) (up .wrap .result) (down .wrap2 .result) eu ed,
+          ∙ sides-closest (t n) (own n) (path n) (cache n) (used n) (s n .pre .1 .0 .held) (o n) (small n) (some stop) (up .wrap .result) (down .wrap2 .result) eu ed,
       rw is (nearest-within (t n) (own n) (cache n) (used n) (up .wrap .result) (down .wrap2 .result) (up .wrap .ensures .1) (down .wrap2 .ensures .1)),
     )
 
@@ -153,7 +147,6 @@ pub place-of-closest-spec : {M : Type 1} → statement M
 place-of-closest-spec =
     tie.close
     (tie.spec
-    count-under-requires
     skipped-up-requires
     returns
     skipped-down-requires

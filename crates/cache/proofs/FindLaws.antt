@@ -180,7 +180,8 @@ place-under own low (j ∷ ks) r = go (stand j own) (place-under own (suc j) ks 
     go (above h) ih = rw (le-ltb j own (omega arith), ne-eqb j own (omega arith)) (sym (none-under own (suc j) ks (omega arith) (r .1)))
 
 -- it is what the search tells: whether k is there, and how many are smaller
-pub found-sought : (k low : ℕ) (ks : List ℕ) → Rising plain low ks → {b : Bool} → has k ks ≡ b → findKey k ks ≡ cond b (At (countUnder k ks)) (Before (countUnder k ks))
+pub found-sought : (k low : ℕ) (ks : List ℕ) → Rising plain low ks → {b : Bool} → has k ks ≡ b
+    → findKey k ks ≡ cond b (At (countUnder k ks)) (Before (countUnder k ks))
 found-sought k low ks r {b} e = go (findKey k ks) (sym (found-has k low ks r) ∙ e) (place-under k low ks r)
   where
     go : (f : Found) → isFound f ≡ b → placeOf f ≡ countUnder k ks → f ≡ cond b (At (countUnder k ks)) (Before (countUnder k ks))

@@ -1,4 +1,4 @@
--- Laws of the search for a key as a call: what it answers by what the search tells, where it is refused, and how few keys it compares. Assumes nothing.
+-- Laws of the search for a key as a call: what it answers by what the search tells, and how few keys it compares. Assumes nothing.
 use mathlib.Core.Path.{_≡_, refl, sym, ap, ap₂, _∙_}
 use mathlib.Core.Bool.{Bool, true, false, cond}
 use mathlib.Core.List.{List}

@@ -1,5 +1,5 @@
--- To believe. The search for a key: "return, beside each search, the number of keys compared" (02, Wish 8); refused with 1 where "lent memory is not as above" or
--- the key has not 32 bytes. Our own key is searched for like any other: it is not held. Assumes nothing.
+-- To believe. The search for a key: "return, beside each search, the number of keys compared" (02, Wish 8); refused with 1 where "lent memory is
+-- not as above" or the key has not 32 bytes. Our own key is searched for like any other: it is not held. Assumes nothing.
 use Prim.Native.Nat.{ℕ, suc}
 use mathlib.Core.Bool.{cond}
 use mathlib.Core.List.{List, [], _∷_}

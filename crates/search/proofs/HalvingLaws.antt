@@ -1,5 +1,5 @@
--- Laws of the steps of halving and of binary digits. In this order: their steps one by one, with as many as may be needed; the bound, and that it is met;
--- numbers. Assumes nothing.
+-- Laws of the steps of halving and of binary digits. In this order: their steps one by one, with as many as may be needed; the bound, and that it
+-- is met; numbers. Assumes nothing.
 use mathlib.Core.Path.{_≡_, refl, sym, ap, ap₂, _∙_}
 use mathlib.Core.Bool.{Bool, true, false, cond}
 use mathlib.Core.List.{List, [], _∷_}

@@ -1,5 +1,5 @@
--- The search for a key by halving: all before one place are below it, all from another on above, and the keys compared with those that the rest will take are
--- those that the whole takes. In this order: first words; rising keys by their places; the loop; what it tells. Assumes nothing.
+-- The search for a key by halving: all before one place are below it, all from another on above, and the keys compared with those that the rest
+-- will take are those that the whole takes. In this order: first words; rising keys by their places; the loop; what it tells. Assumes nothing.
 use mathlib.Core.Path.{_≡_, refl, sym, ap, _∙_}
 use mathlib.Core.Bool.{Bool, true, false, _||_}
 use mathlib.Core.List.{List, [], _∷_, map}
@@ -120,12 +120,12 @@ module _ (k : ℕ) (ks : List ℕ) (rising : Rising plain 0 ks) where
   halved-all used e =
       let whole : used - 0 ≡ length ks = omega arith in
       record {
-    within = omega arith;
-    lower = omega arith;
-    below = (λ j h. absurd (omega arith));
-    above = (λ j h l. absurd (omega arith));
-    counted = omega (arith, ap (λ (l : List ℕ). halvings l k) (ap (λ (n : ℕ). take n ks) whole ∙ take-length ks));
-  }
+        within = omega arith;
+        lower = omega arith;
+        below = (λ j h. absurd (omega arith));
+        above = (λ j h l. absurd (omega arith));
+        counted = omega (arith, ap (λ (l : List ℕ). halvings l k) (ap (λ (n : ℕ). take n ks) whole ∙ take-length ks));
+      }
 
   module _ (low high compared : ℕ) (h : Halved k ks low high compared) (some : low < high) where
     abbrev half : ℕ
@@ -164,10 +164,13 @@ module _ (k : ℕ) (ks : List ℕ) (rising : Rising plain 0 ks) where
       lower = omega arith;
       below = (λ j b. go j (decLt j middle) b);
       above = h .above;
-      counted = omega
-          (arith, h .counted, halvings-back (between ks low high) k (omega (arith, long)) (omega (arith, here, t)), ap (λ (l : List ℕ). halvings l k) back);
+      counted = omega (arith, h .counted, turn t, ap (λ (l : List ℕ). halvings l k) back);
     }
       where
+        turn : getD ks middle 0 < k
+            → halvings (between ks low high) k ≡ suc (halvings (drop (length (between ks low high) / 2 + 1) (between ks low high)) k)
+        turn u = halvings-back (between ks low high) k (omega (arith, long)) (omega (arith, here, u))
+
         go : (j : ℕ) → Dec (j < middle) → j < middle + 1 → getD ks j 0 < k
         go j (yes b) c = omega (arith, t, rising-getD 0 ks j middle rising b (omega (arith, h .within)))
         go j (no b) c = let e : j ≡ middle = omega arith in omega (arith, t, ap (λ (n : ℕ). getD ks n 0) e)
@@ -182,10 +185,13 @@ module _ (k : ℕ) (ks : List ℕ) (rising : Rising plain 0 ks) where
       lower = omega arith;
       below = h .below;
       above = (λ j a b. go j (decLt middle j) a b);
-      counted = omega
-          (arith, h .counted, halvings-front (between ks low high) k (omega (arith, long)) (omega (arith, here, t)), ap (λ (l : List ℕ). halvings l k) front);
+      counted = omega (arith, h .counted, turn t, ap (λ (l : List ℕ). halvings l k) front);
     }
       where
+        turn : k < getD ks middle 0
+            → halvings (between ks low high) k ≡ suc (halvings (take (length (between ks low high) / 2) (between ks low high)) k)
+        turn u = halvings-front (between ks low high) k (omega (arith, long)) (omega (arith, here, u))
+
         go : (j : ℕ) → Dec (middle < j) → middle ≤ j → j < length ks → k < getD ks j 0
         go j (yes a) c b = on (omega arith) j a b
         go j (no a) c b = let e : j ≡ middle = omega arith in omega (arith, t, ap (λ (n : ℕ). getD ks n 0) e)

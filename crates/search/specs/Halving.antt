@@ -1,5 +1,5 @@
--- To believe. "The number of keys compared: it equals the steps of halving as defined on the key list (of n keys the one at n/2 rounded down, from 0,
--- three-way), and is at most the number of binary digits of the records used: 0 for none, 9 for 256" (02, Wish 8). Assumes nothing.
+-- To believe. "The number of keys compared: it equals the steps of halving as defined on the key list (of n keys the one at n/2 rounded down,
+-- from 0, three-way), and is at most the number of binary digits of the records used: 0 for none, 9 for 256" (02, Wish 8). Assumes nothing.
 use mathlib.Core.Path.{_≡_}
 use Prim.Native.Nat.{ℕ, zero, suc, _+_, _/_, _≤_, _<_}
 use mathlib.Core.Bool.{cond}
@@ -7,8 +7,8 @@ use mathlib.Core.List.{List, [], _∷_}
 use lib.Dec.{ltb, eqb}
 use lib.ListN.{length, take, drop, getD}
 
--- How many keys a search for k compares: of none, none; else the one in the middle, and, unless that is k, those of the half where k would stand. `most` is a
--- number of steps that is never used up.
+-- how many keys a search for k compares: of none, none; else the one in the middle, and, unless that is k, those of the half where k would stand.
+-- `most` only makes the recursion end, and is never used up: `halvings-some` (HalvingLaws) is the same without it
 unfoldable pub halving : ℕ → List ℕ → ℕ → ℕ
 halving zero keys k = 0
 halving (suc most) [] k = 0

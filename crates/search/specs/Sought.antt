@@ -1,4 +1,5 @@
--- Helps the code. What a search for k among rising keys tells: whether it is one of them, how many of them are smaller, how many were compared. Assumes nothing.
+-- Helps the code. What a search for k among rising keys tells: whether it is one of them, how many of them are smaller, how many were compared.
+-- Assumes nothing.
 use Prim.Native.Nat.{ℕ}
 use mathlib.Core.List.{List}
 use Rattle.kept.specs.Keys.{has}

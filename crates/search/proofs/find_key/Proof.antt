@@ -1,5 +1,5 @@
--- `search::find_key` meets its contract: the places before low are below the key and those from high on above; the keys compared with those that are between
--- make the whole count. Assumes nothing.
+-- `search::find_key` meets its contract: the places before low are below the key and those from high on above; the keys compared, with those that
+-- the part between will take, make the whole count. Assumes nothing.
 use mathlib.Core.Path.{_≡_, sym, _∙_}
 use mathlib.Core.List.{List, map}
 use Prim.Native.Nat.{ℕ, _+_, _-_, _*_, _/_, _<_}
@@ -47,7 +47,8 @@ many : (l : tie.At-loop Inv-loop μ-loop) → length (keys l) ≡ start l .args 
 many l = keys-many (start l .args .used) (start l .args .cache .now)
 
 -- the key in the middle, among the keys
-here : (l : tie.At-loop Inv-loop μ-loop) → l .loop .low < l .loop .high → getD (keys l) (middle l) 0 ≡ keyAt (100 * middle l) (start l .args .cache .now)
+here : (l : tie.At-loop Inv-loop μ-loop) → l .loop .low < l .loop .high
+    → getD (keys l) (middle l) 0 ≡ keyAt (100 * middle l) (start l .args .cache .now)
 here l some = key-among (start l .args .used) (start l .args .cache .now) (middle l) (omega (arith, many l, l .loop .inv .within))
 
 read-u64-requires : tie.Need-read-u64-requires Inv-loop μ-loop
@@ -57,7 +58,8 @@ loop-holds : tie.Need-loop-holds Inv-loop μ-loop
 loop-holds c =
     let s = c .before .before .before in
     let a = s .args in
-    halved-all (keyAt 0 (a .key .now)) (map keyOf (rows 100 (a .used) (a .cache .now))) (s .pre .1 .1) (a .used) (keys-many (a .used) (a .cache .now))
+    halved-all (keyAt 0 (a .key .now)) (map keyOf (rows 100 (a .used) (a .cache .now))) (s .pre .1 .1) (a .used)
+    (keys-many (a .used) (a .cache .now))
 
 sub-middle : tie.Need-sub-middle Inv-loop μ-loop
 sub-middle c = omega arith

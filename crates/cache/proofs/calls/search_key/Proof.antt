@@ -1,4 +1,5 @@
--- `cache::calls::search_key` meets its contract: each test that fails is the first row that applies; where none does, what the search tells. Assumes nothing.
+-- `cache::calls::search_key` meets its contract: each test that fails is the first row that applies; where none does, what the search tells.
+-- Assumes nothing.
 use mathlib.Core.Path.{_≡_, sym, ap, _∙_}
 use mathlib.Core.Bool.{not}
 use mathlib.Core.List.{List, []}
@@ -104,8 +105,14 @@ add-place c =
     let f = c .before .before in
     let e = f .before in
     let ks = keysOf (rows 100 (used e) (cache e)) in
-    omega (arith, ap (λ (q : Sought). q .at) (f .find-key .ensures), among-le (λ (j : ℕ). ltb j (keyAt 0 (start (tested e) .args .key .now))) ks,
-    keys-many (used e) (cache e), room e, form e .places .most)
+    omega (
+      arith,
+      ap (λ (q : Sought). q .at) (f .find-key .ensures),
+      among-le (λ (j : ℕ). ltb j (keyAt 0 (start (tested e) .args .key .now))) ks,
+      keys-many (used e) (cache e),
+      room e,
+      form e .places .most,
+    )
 
 returns-3 : tie.Need-returns-3
 returns-3 c =

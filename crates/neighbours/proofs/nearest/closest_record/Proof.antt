@@ -92,7 +92,8 @@ wrong-path c refuse done =
 
 whole-path : (e : tie.Else1) {A : Type 0} (refuse : ℕ → A) (done : A)
     → (let s = start (e .before .before .before .before .before) in let a = s .args in
-    orRefuse refuse (closestWrong (a .own .now) (a .cache .now) (a .path .now) (a .target .now)) done ≡ orRefuse refuse (keyWrong (a .target .now) ∷ []) done)
+    orRefuse refuse (closestWrong (a .own .now) (a .cache .now) (a .path .now) (a .target .now)) done
+    ≡ orRefuse refuse (keyWrong (a .target .now) ∷ []) done)
 whole-path e refuse done =
     let p = e .before in
     let s = start (p .before .before .before .before) in
@@ -179,8 +180,8 @@ module _ (f : tie.After-find-key) where
 place-of-closest-requires : tie.Need-place-of-closest-requires
 place-of-closest-requires c κs =
     let e = c .before in
-    ((omega (arith, memory-own (own e) (cache e) (tested e .memory .ensures) (e .before .before .before .before .found .given .1)), omega (arith, e .if2 .left)),
-    (form e, place c))
+    let long = memory-own (own e) (cache e) (tested e .memory .ensures) (e .before .before .before .before .found .given .1) in
+    ((omega (arith, long), omega (arith, e .if2 .left)), (form e, place c))
 
 enum-told-2 : tie.Need-enum-told-2
 enum-told-2 c = search needs

@@ -8,21 +8,17 @@ use Prim.Native.Nat.{ℕ, _+_, _*_, _≤_, _<_}
 use native.Mathlib.Omega.{arith}
 use lib.Dec.{eqb, ltb}
 use lib.ListN.{length, getD}
-use borrow.Author.Tests.{eq-eqb, ne-eqb, eqb-true, eqb-false, ltb-false, le-ltb, not-false}
+use borrow.Author.Tests.{eq-eqb, ne-eqb, eqb-true, eqb-false, ltb-false, not-false}
 use Rattle.octet.specs.Part.{part}
 use Rattle.octet.proofs.TestLaws.{both-true}
 use Rattle.key.specs.Number.{keyAt}
-use Rattle.record.specs.Record.{countOf, recordForm}
-use Rattle.record.proofs.EntryLaws.{one-address}
+use Rattle.record.specs.Record.{countOf}
 use Rattle.own.specs.Own.{ownKeys, ownRecords}
 use Rattle.refusal.specs.Table.{when, orRefuse, Refusal, firstOf}
-use Rattle.refusal.proofs.CallLaws.{or-known, row-passes, no-row}
+use Rattle.refusal.proofs.CallLaws.{or-known}
 use Rattle.table.specs.Rows.{rows, anyOf}
 use Rattle.table.proofs.RowLaws.{rows-length, row-at}
 use Rattle.neighbours.specs.Closest.{candidates, offPath, closestOf}
-use Rattle.cache.specs.Form.{HeldRecords}
-use Rattle.neighbours.proofs.ClosestLaws.{closest-formed}
-use Rattle.neighbours.proofs.SkipLaws.{off-held}
 use Rattle.waiting.specs.Place.{idOf, kindOf, placeKey}
 use Rattle.table.specs.Seek.{seek}
 use Rattle.waiting.specs.Seek.{isAt, hasId}
@@ -112,15 +108,6 @@ module _ (own : List ℕ) (recs ps : List (List ℕ)) (held used id room : ℕ) 
       lookup-by e =
           lookup-asked ∙ open-passes Refuse opens ps used (idAfter id) lookup-rest lookup-done eb free
           ∙ ap (λ (n : ℕ). orRefuse Refuse (when 15 (ltb room (80 + 16 * n + inquireRoom opens)) ∷ []) lookup-done) e
-
-      -- with room for any record
-      pub lookup-any : {k : ℕ} → 144 + inquireRoom opens ≤ room → recordForm own ≡ true → HeldRecords k recs
-          → lookupPlan own recs ps held used id room d acked target path size start len ≡ Show held used acked target path size opens start len
-      lookup-any {k} r e f =
-          let n = one-address nearest (closest-formed (keyAt target d) k own (offPath (part path size d) recs) e (off-held (part path size d) k recs f)) in
-          lookup-by refl
-          ∙ row-passes Refuse 15 _ [] lookup-done (le-ltb room (80 + 16 * countOf nearest + inquireRoom opens) (omega (arith, n, r)))
-          ∙ no-row Refuse lookup-done
 
 -- ---- what is known of a plan
 

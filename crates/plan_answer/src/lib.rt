@@ -12,6 +12,9 @@ ghost use Rattle.cache.specs.Form.{Form};
 ghost use Rattle.plan_answer.specs.Answering.{authorityPlan, ackPlan, inquirePlan, lookupPlan};
 use gauge_plan::Plan;
 
+// How many bytes an AUTHORITY with a record has.
+const SHOWN_LEN: usize = 96;
+
 // The plan for an AUTHORITY, with a CPA or without.
 pub fn plan_authority(
     waiting: &[u8],
@@ -76,11 +79,11 @@ pub fn plan_inquire(
 }
 
 // The plan for a LOOKUP whose target, path and route entry stand at places of the datagram; an entry that is not there has
-// no bytes. Where the output has room for any record, which has four addresses at most, the closest need not be known yet:
-// it is looked for once, when it is shown.
-pub fn plan_lookup<'a>(
-    own: &'a [u8],
-    cache: &'a [u8],
+// no bytes. The closest record need not be known yet: whichever it is, it has one address, and is looked for when it is
+// shown.
+pub fn plan_lookup(
+    own: &[u8],
+    cache: &[u8],
     held: usize,
     waiting: &[u8],
     used: usize,
@@ -106,23 +109,7 @@ pub fn plan_lookup<'a>(
         return Plan::Refuse(barred);
     }
     let asked = asking::inquire_room(opens);
-    if 144 + asked <= room {
-        return Plan::Show {
-            held,
-            used,
-            acked,
-            target,
-            path,
-            size,
-            opens,
-            start,
-            len,
-        };
-    }
-    let end = path + size;
-    let shown = neighbours::closest(own, cache, held, &d[path..end], &d[target..target + 32]);
-    let count = shown[34] as usize;
-    if room < 80 + 16 * count + asked {
+    if room < SHOWN_LEN + asked {
         return Plan::Refuse(refusal::ROOM);
     }
     Plan::Show {

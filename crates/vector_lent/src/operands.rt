@@ -18,10 +18,10 @@ pub struct Given {
     pub room: usize,
 }
 
-// Which call a line is: 0 to receive, 1 to send, 2 to tick, 3 to list the neighbours, 4 for the closest record, 5 to convert; 6
-// where it is none.
+// Which call a line is: 0 to receive, 1 to send, 2 to tick, 3 to list the neighbours, 4 for the closest record, 5 to convert, 6
+// to search for a key; 7 where it is none.
 pub fn call_of(text: &[u8]) -> usize {
-    line::which(text, b"receive send tick list nearest convert")
+    line::which(text, b"receive send tick list nearest convert find")
 }
 
 // The length of the output is a line's last operand, where it has one.
@@ -31,6 +31,7 @@ fn room_of(text: &[u8], call: usize) -> usize {
         1 => line::place(text, 4),
         4 => 0,
         5 => 0,
+        6 => 0,
         _ => line::place(text, 1),
     }
 }
@@ -44,6 +45,7 @@ fn key_of(call: usize) -> usize {
     match call {
         1 => 3,
         4 => 2,
+        6 => 1,
         _ => 4,
     }
 }
@@ -53,7 +55,7 @@ fn word(text: &[u8], i: usize) -> u32 {
 }
 
 // `receive ID NONCE VERDICT KEY DATAGRAM ROOM`, `send ID NEIGHBOUR KEY ROOM`, `tick ROOM`, `list ROOM`, `nearest PATH TARGET`,
-// `convert`
+// `convert`, `find KEY`
 pub fn read(text: &[u8], call: usize, lent: &mut [u8], sizes: &[usize; 6]) -> Given {
     let cpa = sizes[1];
     let nonce = line::bytes(text, nonce_of(call), lent, cpa);

@@ -57,23 +57,39 @@ fn neighbours(own: &[u8], cache: &[u8]) {
     say::keys(&out, listed.below % 16 + listed.above % 16, 32);
 }
 
-// The number, and with 0 the record.
-fn say_record(record: &[u8]) {
+// The number, and with 0 the record and how many keys were compared.
+fn say_record(record: &[u8], compared: usize) {
     say::field(0);
     say::bytes(record);
+    say::text(b" ");
+    say::number(compared as u64);
 }
 
 fn closest(own: &[u8], cache: &[u8], path: &[u8], target: &[u8]) {
-    match neighbours::closest_record(own, cache, path, target) {
+    let sighted = neighbours::closest_record(own, cache, path, target);
+    let nearest = sighted.nearest;
+    match nearest {
         Nearest::Refused(number) => say::number(number as u64),
-        Nearest::Own => say_record(own),
+        Nearest::Own => say_record(own, sighted.compared),
         Nearest::Held(i) => {
             let at = 100 * (i % 256);
             if at + 100 <= cache.len() {
-                say_record(&cache[at..at + 100]);
+                say_record(&cache[at..at + 100], sighted.compared);
             }
         }
     }
+}
+
+// The number, and with 0 the place, from 1 and 0 where it is not held, and how many keys were compared.
+fn search(own: &[u8], cache: &[u8], key: &[u8]) {
+    let searched = cache::search_key(own, cache, key);
+    say::number(searched.number as u64);
+    if searched.number != 0 {
+        return;
+    }
+    say::text(b" ");
+    say::field(searched.place as u64);
+    say::number(searched.compared as u64);
 }
 
 // Vectors that change the cache.
@@ -93,11 +109,12 @@ fn answer_change(text: &[u8], own: &[u8], cache: &mut [u8], third: &[u8]) -> boo
 
 // Vectors that read it.
 fn answer_read(text: &[u8], own: &[u8], cache: &[u8], third: &[u8], fourth: &[u8]) -> bool {
-    match line::which(text, b"cache-form neighbours closest searches") {
+    match line::which(text, b"cache-form neighbours closest searches search") {
         0 => say_form(own, cache),
         1 => neighbours(own, cache),
         2 => closest(own, cache, third, fourth),
         3 => searches(own, cache),
+        4 => search(own, cache, third),
         _ => {
             return false;
         }

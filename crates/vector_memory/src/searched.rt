@@ -5,7 +5,9 @@ use vector_text::say;
 
 // Where the record closest to a target stands, with no path: its place, or `own`.
 fn say_place(own: &[u8], cache: &[u8], target: &[u8]) {
-    match neighbours::closest_record(own, cache, &target[0..0], target) {
+    let sighted = neighbours::closest_record(own, cache, &target[0..0], target);
+    let nearest = sighted.nearest;
+    match nearest {
         Nearest::Refused(_) => say::text(b"-"),
         Nearest::Own => say::text(b"own"),
         Nearest::Held(i) => say::number(i as u64),

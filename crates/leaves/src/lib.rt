@@ -79,7 +79,9 @@ pub extern "C" fn leaves_form(own: &[u8], cache: &[u8]) -> usize
 pub extern "C" fn leaves_closest(own: &[u8], cache: &[u8], target: &[u8]) -> u64
     ensures { λ r. ⌜ r ≡ closestWord (now (own .entry)) (now (cache .entry)) (now (target .entry)) ⌝ }
 {
-    match neighbours::closest_record(own, cache, &target[0..0], target) {
+    let sighted = neighbours::closest_record(own, cache, &target[0..0], target);
+    let nearest = sighted.nearest;
+    match nearest {
         Nearest::Refused(_) => 0,
         Nearest::Own => leaves_u64(own, 24),
         Nearest::Held(i) => {

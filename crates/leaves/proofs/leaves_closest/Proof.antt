@@ -15,7 +15,7 @@ abbrev start : tie.After-closest-record → tie.Start
 start c = c .before .before .before .before .before
 
 -- the bytes that an answer shows
-shows : (c : tie.After-closest-record) (n : Nearest) → c .closest-record .result ≡ n
+shows : (c : tie.After-closest-record) (n : Nearest) → c .closest-record .result .nearest ≡ n
     → shownBy (start c .args .own .now) (start c .args .cache .now) n .bytes
     ≡ closestCall (start c .args .own .now) (start c .args .cache .now) [] (start c .args .target .now) .bytes
 shows c n e =
@@ -47,15 +47,15 @@ enum-told-2 c = search needs
 leaves-u64-requires : tie.Need-leaves-u64-requires
 leaves-u64-requires c κs = search needs
 
-enum-known-i : tie.Need-enum-known-i
-enum-known-i c = search needs
+enum-known-nearest : tie.Need-enum-known-nearest
+enum-known-nearest c = search needs
 
 -- the place lies within the cache
 inside : (c : tie.After-known-told)
-    → 100 * c .before .i .given .0 .0 + 100 ≤ length (start (c .before .before .before) .args .cache .now)
+    → 100 * c .before .nearest .given .0 .0 + 100 ≤ length (start (c .before .before .before) .args .cache .now)
 inside c =
     let r = c .before .before .before in
-    subst (Inside (start r .args .own .now) (start r .args .cache .now)) (c .before .i .given .1) (r .closest-record .ensures .1) .1
+    subst (Inside (start r .args .own .now) (start r .args .cache .now)) (c .before .nearest .given .1) (r .closest-record .ensures .1 .0) .1
 
 mul-at : tie.Need-mul-at
 mul-at c = omega (arith, inside c)
@@ -85,10 +85,10 @@ returns-3 : tie.Need-returns-3
 returns-3 c =
     let place = c .before .before .before in
     let found = place .before .before in
-    let i = place .i .given .0 .0 in
+    let i = place .nearest .given .0 .0 in
     let n : 100 * i + 100 - 100 * i ≡ 100 = omega arith in
     c .leaves-u642 .ensures ∙ ap (λ (k : ℕ). wordOr0 24 (take k (drop (100 * i) (start found .args .cache .now)))) n
-    ∙ ap (wordOr0 24) (shows found _ (place .i .given .1))
+    ∙ ap (wordOr0 24) (shows found _ (place .nearest .given .1))
 
 pub leaves-closest-spec : {M : Type 1} → statement M
 leaves-closest-spec =
@@ -101,7 +101,7 @@ leaves-closest-spec =
     enum-told
     enum-told-2
     leaves-u64-requires
-    enum-known-i
+    enum-known-nearest
     mul-at
     add-leaves-u64
     sub-leaves-u64

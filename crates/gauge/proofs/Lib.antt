@@ -3,3 +3,4 @@ pub mod ReceiveLaws
 pub mod SendLaws
 pub mod CountLaws
 pub mod NearestLaws
+pub mod SearchLaws

@@ -3,5 +3,6 @@ pub mod Receive
 pub mod Counts
 pub mod Send
 pub mod Nearest
+pub mod Searching
 pub mod Ours
 pub mod Converting

@@ -10,7 +10,7 @@ use Rattle.table.specs.declared.Found.{Found}
 use Rattle.table.specs.declared.Found.the-variants.{At, Nothing}
 use Rattle.cache.specs.Calls.{heldBy}
 use Rattle.neighbours.specs.Closest.{closestPast}
-use Rattle.neighbours.specs.Calls.{closestWrong}
+use Rattle.neighbours.specs.Calls.{closestWrong, closestCompared}
 use Rattle.neighbours.specs.declared.nearest.Nearest.{Nearest}
 use Rattle.neighbours.specs.declared.nearest.Nearest.the-variants.{Refused, Own, Held}
 use Rattle.gauge_commit.specs.declared.Answer.{Answer}
@@ -26,11 +26,11 @@ nearestCall own cache path target =
     let r = closestPast own (heldBy own cache) path (keyAt 0 target) in
     orRefuse Refused (closestWrong own cache path target) (standing (seek (λ (q : List ℕ). same q r) 0 (heldBy own cache)))
 
--- 0 for our own record, 4 more than its place for one of the cache
-abbrev pub closestAnswered : Nearest → Answer
-closestAnswered (Refused n) = answer n 0 0
-closestAnswered Own = answer 0 0 0
-closestAnswered (Held j) = answer 0 (4 + j) 0
+-- 0 for our own record, 4 more than its place for one of the cache; and how many keys were compared
+abbrev pub closestAnswered : ℕ → Nearest → Answer
+closestAnswered compared (Refused n) = answer n 0 0
+closestAnswered compared Own = answer 0 0 compared
+closestAnswered compared (Held j) = answer 0 (4 + j) compared
 
 abbrev pub gaugeClosest : (own cache path target : List ℕ) → Answer
-gaugeClosest own cache path target = closestAnswered (nearestCall own cache path target)
+gaugeClosest own cache path target = closestAnswered (closestCompared own cache path target) (nearestCall own cache path target)

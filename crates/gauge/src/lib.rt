@@ -6,6 +6,7 @@ ghost use Rattle.gauge_plan.specs.Lent.{Memory, memory, withCache, withWaiting,
 ghost use Rattle.gauge_commit.specs.Sending.{handed};
 ghost use Rattle.gauge.specs.Ours.{ours};
 ghost use Rattle.gauge.specs.Nearest.{gaugeClosest};
+ghost use Rattle.gauge.specs.Searching.{gaugeSearch};
 ghost use Rattle.gauge.specs.Converting.{conversion, conversionOf};
 use gauge_plan::Plan;
 use neighbours::Nearest;
@@ -206,7 +207,7 @@ pub extern "C" fn gauge_neighbours(
 }
 
 // The record closest to a target, those held that are on the path skipped: 0 for our own, 4 more than its place for one of
-// the cache. The path is endpoints as on the wire.
+// the cache; and how many keys were compared to find the target's place. The path is endpoints as on the wire.
 #[no_mangle]
 pub extern "C" fn gauge_closest(
     own: &[u8],
@@ -216,11 +217,22 @@ pub extern "C" fn gauge_closest(
 ) -> gauge_commit::Answer
     ensures { λ r. ⌜ r ≡ gaugeClosest (now (own .entry)) (now (cache .entry)) (now (path .entry)) (now (target .entry)) ⌝ }
 {
-    match neighbours::closest_record(own, cache, path, target) {
+    let sighted = neighbours::closest_record(own, cache, path, target);
+    let nearest = sighted.nearest;
+    match nearest {
         Nearest::Refused(number) => gauge_commit::answer_of(number, 0, 0),
-        Nearest::Own => gauge_commit::answer_of(0, 0, 0),
-        Nearest::Held(i) => gauge_commit::answer_of(0, 4 + i, 0),
+        Nearest::Own => gauge_commit::answer_of(0, 0, sighted.compared),
+        Nearest::Held(i) => gauge_commit::answer_of(0, 4 + i, sighted.compared),
     }
+}
+
+// Whether a key is held: 0 where it is not, one more than its place where it is; and how many keys were compared.
+#[no_mangle]
+pub extern "C" fn gauge_search(own: &[u8], cache: &[u8], key: &[u8]) -> gauge_commit::Answer
+    ensures { λ r. ⌜ r ≡ gaugeSearch (now (own .entry)) (now (cache .entry)) (now (key .entry)) ⌝ }
+{
+    let done = cache::search_key(own, cache, key);
+    gauge_commit::answer_of(done.number, done.place, done.compared)
 }
 
 // A datagram read without acting on it: the numbers of its message, and where the fields stand that must be judged or

@@ -58,6 +58,14 @@ fn nearest(given: Given, lent: &[u8], cache: &[u8]) -> Answer {
     )
 }
 
+fn search(given: Given, lent: &[u8], cache: &[u8]) -> Answer {
+    gauge::gauge_search(
+        line::part(lent, 0, given.own),
+        cache,
+        line::part(lent, given.nonce, given.key),
+    )
+}
+
 fn call(
     given: Given,
     lent: &[u8],
@@ -72,6 +80,7 @@ fn call(
         2 => gauge::gauge_tick(line::part(lent, 0, given.own), waiting, output),
         3 => gauge::gauge_neighbours(line::part(lent, 0, given.own), cache, output),
         4 => nearest(given, lent, cache),
+        6 => search(given, lent, cache),
         _ => gauge::gauge_convert(line::part(lent, 0, given.own), cache, waiting),
     }
 }
@@ -81,7 +90,7 @@ fn wide(n: u32) -> usize {
 }
 
 // How many bytes of the output a call that gave this has written: datagrams, IDs of 4, keys of 32. The closest
-// record and a conversion write nothing there.
+// record, a search and a conversion write nothing there.
 fn written(call: usize, answer: Answer) -> usize {
     let first = wide(answer.first) % 65536;
     let second = wide(answer.second) % 65536;
@@ -90,6 +99,7 @@ fn written(call: usize, answer: Answer) -> usize {
         3 => 32 * (first + second),
         4 => 0,
         5 => 0,
+        6 => 0,
         _ => first + second,
     }
 }

@@ -14,7 +14,7 @@ pub fn answer(
     sizes: &[usize; 6],
 ) -> bool {
     let call = operands::call_of(text);
-    if 5 < call {
+    if 6 < call {
         return looked::answer(text, lent, sizes[1]);
     }
     let held = sizes[2];

@@ -1,13 +1,14 @@
 /* The gauge, as a radio program in C calls it. Link libgauge.a (`make lib`), for x86-64.
  *
  * The gauge has no memory, no socket and no clock of its own. The radio program lends it memory and numbers, and
- * sends what it writes. Its seven calls:
+ * sends what it writes. Its eight calls:
  *
  *   gauge_receive      a datagram has come: what is to be sent, and what changes in the memory
  *   gauge_send         a FLOOD of a record is to go to a neighbour
  *   gauge_tick         a second has passed: which datagrams are to be sent again
  *   gauge_neighbours   the five keys next to our own on either side
  *   gauge_closest      the record closest to a target, past those that a LOOKUP has been at already
+ *   gauge_search       whether a key is held, where, and how many keys are compared to find that
  *   gauge_convert      memory of a version before 1.3 is to be used: each record in it keeps its first address
  *   gauge_look         what a datagram is, and where in it the CPA and the nonce stand; nothing is done
  *
@@ -92,8 +93,8 @@ extern "C" {
 
 /* The version of this header and of the archive, as gauge.pc has it; and as a number that rises. CHANGELOG.md tells
  * what changed. */
-#define GAUGE_VERSION "1.3"
-#define GAUGE_VERSION_NUMBER 103
+#define GAUGE_VERSION "1.4"
+#define GAUGE_VERSION_NUMBER 104
 
 /* The versions in the header of a message: those of the message that document 003 prints. Document 000 leaves them to
  * whoever builds on it. Every call that has a major and a minor takes any others too; all gauges that are to hear each
@@ -206,8 +207,12 @@ enum gauge_reading_number {
  * and those between are for later versions. */
 #define GAUGE_CLOSEST_HELD 4
 
-/* What the first six calls answer. `first` and `second`: lengths of datagrams (receive, send), how many IDs (tick), how
- * many keys below and above (neighbours), which record (closest); 0 where a call has nothing to tell. */
+/* gauge_closest, gauge_search: the most keys that are compared, as 256, the most that are held, has 9 binary digits. */
+#define GAUGE_COMPARED_MOST 9
+
+/* What the first seven calls answer. `first` and `second`: lengths of datagrams (receive, send), how many IDs (tick),
+ * how many keys below and above (neighbours), which record and how many keys were compared (closest, search); 0 where a
+ * call has nothing to tell. */
 struct gauge_answer {
     uint32_t number, first, second;
 };
@@ -356,11 +361,36 @@ struct gauge_answer gauge_neighbours(const uint8_t *own, size_t own_len, const u
  *   target  32 bytes: the key.
  *
  * On GAUGE_OK `first` is 0 for our own record, and GAUGE_CLOSEST_HELD + j for record j of the cache, j from 0: the
- * bytes from GAUGE_CACHE_LEN(j) on. `second` is 0.
+ * bytes from GAUGE_CACHE_LEN(j) on. `second` is how many keys were compared to find the target's place among those
+ * held, what gauge_search tells of it, whatever the path is. What is done from that place on does not count: records
+ * passed over, and those beside it and our own weighed against each other.
  *
  * Gives GAUGE_OK or GAUGE_MEMORY. */
 struct gauge_answer gauge_closest(const uint8_t *own, size_t own_len, const uint8_t *cache, size_t cache_len,
                                   const uint8_t *path, size_t path_len, const uint8_t *target, size_t target_len);
+
+/* Is a key held, where, and how many keys are compared to find that? A battery is planned by the last. All is lent for
+ * reading, and nothing is written.
+ *
+ *   own    as above.
+ *   cache  for reading.
+ *   key    32 bytes. Our own is not held: it never stands in the cache.
+ *
+ * On GAUGE_OK `first` is 0 where the key is not held, and j + 1 where record j of the cache has it, j from 0: the bytes
+ * from GAUGE_CACHE_LEN(j) on. `second` is how many keys were compared.
+ *
+ * Keys are found by halving. Of n keys the one at place n / 2 is compared, from 0 and rounded down: where it is the
+ * key, the search ends; where the key is less it goes on among those before that place, where it is more among those
+ * behind it; where none is left the key is not held. A comparison tells which of the three it is and counts as one, the
+ * last with the key found too. So of 10 20 30 40 50 the search for 30 compares 1 key, for 20 and 50 it compares 2, for
+ * 10 and 40 3. Of no key at all it is 0, of one 1, and of n at most as many as n has binary digits: 8 for 255, 9
+ * (GAUGE_COMPARED_MOST) for 256.
+ *
+ * The other calls search the cache in the same way, and do not tell how many keys they compared.
+ *
+ * Gives GAUGE_OK or GAUGE_MEMORY. */
+struct gauge_answer gauge_search(const uint8_t *own, size_t own_len, const uint8_t *cache, size_t cache_len,
+                                 const uint8_t *key, size_t key_len);
 
 /* Memory of a version before 1.3, where a record could have up to four addresses, is to be used: each record in it,
  * those of waiting inquiries too, keeps the first with its port. The count becomes 1, the 48 bytes behind the address

@@ -256,6 +256,12 @@ static inline const uint8_t *gauge_lent_told(const struct gauge_lent *l, uint32_
     return first < GAUGE_CLOSEST_HELD ? l->own : l->cache + GAUGE_CACHE_LEN(first - GAUGE_CLOSEST_HELD);
 }
 
+/* Whether a key is held, where, and how many keys are compared to find that. */
+static inline struct gauge_answer gauge_lent_search(const struct gauge_lent *l, const uint8_t *key)
+{
+    return gauge_search(l->own, sizeof l->own, l->cache, l->cache_len, key, GAUGE_KEY_LEN);
+}
+
 static inline struct gauge_answer gauge_lent_convert(struct gauge_lent *l)
 {
     return gauge_convert(l->own, sizeof l->own, l->cache, l->cache_len, l->waiting, sizeof l->waiting);

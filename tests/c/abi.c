@@ -1,8 +1,8 @@
 /* How the calls cross to C: sizes and places in the answers, and the constants; each argument in its place; slices of length 0; every type of message
  * looked at. What is wanted is worked out by hand from the layout of the messages (documents 000 and 01) and from include/gauge.h.
  *
- * `arguments`, `readings` and the looks write the calls out, as a radio program does: that each argument stands where the header has it is what they
- * test, and through tests/c/calling.h an exchange of two would be one in their own hands. The rest calls through it. */
+ * `arguments`, `searched`, `readings` and the looks write the calls out, as a radio program does: that each argument stands where the header has it
+ * is what they test, and through tests/c/calling.h an exchange of two would be one in their own hands. The rest calls through it. */
 #define _DEFAULT_SOURCE
 #include "calling.h"
 #include <stdio.h>
@@ -58,7 +58,8 @@ static void answers(void)
 /* The constants, as documents 01 and 02 have them. */
 static void constants(void)
 {
-    CHECK(GAUGE_KEY_LEN == 32 && GAUGE_NONCE_LEN == 16 && GAUGE_ADDRESS_LEN == 16 && GAUGE_ENDPOINT_LEN == 2 + 16 && GAUGE_CLOSEST_HELD == 4);
+    CHECK(GAUGE_KEY_LEN == 32 && GAUGE_NONCE_LEN == 16 && GAUGE_ADDRESS_LEN == 16 && GAUGE_ENDPOINT_LEN == 2 + 16);
+    CHECK(GAUGE_CLOSEST_HELD == 4 && GAUGE_COMPARED_MOST == 9);
     CHECK(GAUGE_RECORD_LEN == 100 && GAUGE_RECORD_KEY == 0 && GAUGE_RECORD_PORT == 32 && GAUGE_RECORD_COUNT == 34 && GAUGE_RECORD_ADDRESSES == 36);
     CHECK(GAUGE_ENTRY_KEY == 0 && GAUGE_ENTRY_MAJOR == 32 && GAUGE_ENTRY_MINOR == 33 && GAUGE_ENTRY_PORT == 34);
     CHECK(GAUGE_ENTRY_COUNT == 37 && GAUGE_ENTRY_ADDRESSES == 38);
@@ -174,6 +175,12 @@ static int answer_is(struct gauge_answer a, uint32_t number, uint32_t first)
     return a.number == number && a.first == first && a.second == 0;
 }
 
+/* Of a search: which record, and how many keys were compared. */
+static int found_is(struct gauge_answer a, uint32_t first, uint32_t compared)
+{
+    return a.number == GAUGE_OK && a.first == first && a.second == compared;
+}
+
 /* Each argument has something in it that shows in what is written, or in what is kept. */
 static void arguments(void)
 {
@@ -217,12 +224,38 @@ static void arguments(void)
 
     uint8_t path[2 * GAUGE_ENDPOINT_LEN]; /* own before cache, path before target: none of them is any other's length or form */
     bytes(POINT("1388", "12") POINT("1388", "11"), path);
-    CHECK(answer_is(gauge_closest(own, sizeof own, cache, sizeof cache, path, 0, neighbour, sizeof neighbour), 0, 4));
-    CHECK(answer_is(gauge_closest(own, sizeof own, cache, sizeof cache, path, 0, key, sizeof key), 0, 0));
-    CHECK(answer_is(gauge_closest(own, sizeof own, cache, sizeof cache, path, GAUGE_ENDPOINT_LEN, neighbour, sizeof neighbour), 0, 4));
-    CHECK(answer_is(gauge_closest(own, sizeof own, cache, sizeof cache, path, sizeof path, neighbour, sizeof neighbour), 0, 0));
+    CHECK(found_is(gauge_closest(own, sizeof own, cache, sizeof cache, path, 0, neighbour, sizeof neighbour), 4, 1));
+    CHECK(found_is(gauge_closest(own, sizeof own, cache, sizeof cache, path, 0, key, sizeof key), 0, 1));
+    CHECK(found_is(gauge_closest(own, sizeof own, cache, sizeof cache, path, GAUGE_ENDPOINT_LEN, neighbour, sizeof neighbour), 4, 1));
+    CHECK(found_is(gauge_closest(own, sizeof own, cache, sizeof cache, path, sizeof path, neighbour, sizeof neighbour), 0, 1));
     CHECK(answer_is(gauge_closest(own, sizeof own, cache, sizeof cache, path, sizeof path - 1, neighbour, sizeof neighbour), GAUGE_MEMORY, 0));
     CHECK(answer_is(gauge_closest(own, sizeof own, cache, sizeof cache, path, 0, neighbour, sizeof neighbour - 1), GAUGE_MEMORY, 0));
+}
+
+/* Document 02, request 8: keys 10 20 30 40 50, and how many of them are compared. Own before cache before key: each has its own length. */
+static void searched(void)
+{
+    static const struct {
+        uint8_t key;
+        uint32_t first, compared;
+    } cases[] = {{30, 3, 1}, {20, 2, 2}, {50, 5, 2}, {10, 1, 3}, {40, 4, 3}, {5, 0, 3}, {15, 0, 3}, {25, 0, 2}, {35, 0, 3}, {45, 0, 3}, {55, 0, 2}};
+    uint8_t ours[GAUGE_RECORD_LEN] = {0}, held[GAUGE_CACHE_LEN(10)] = {0}, wanted[GAUGE_KEY_LEN] = {0}, path[GAUGE_ENDPOINT_LEN] = {0};
+    ours[GAUGE_KEY_LEN - 1] = 25;
+    ours[GAUGE_RECORD_COUNT] = 1;
+    CHECK(found_is(gauge_search(ours, sizeof ours, held, sizeof held, wanted, sizeof wanted), 0, 0));
+    for (uint8_t i = 0; i < 5; i++) {
+        held[GAUGE_CACHE_LEN(i) + GAUGE_KEY_LEN - 1] = (uint8_t)(10 * (i + 1));
+        held[GAUGE_CACHE_LEN(i) + GAUGE_RECORD_COUNT] = 1;
+    }
+    for (size_t i = 0; i < sizeof cases / sizeof *cases; i++) {
+        wanted[GAUGE_KEY_LEN - 1] = cases[i].key;
+        CHECK(found_is(gauge_search(ours, sizeof ours, held, sizeof held, wanted, sizeof wanted), cases[i].first, cases[i].compared));
+        CHECK(gauge_closest(ours, sizeof ours, held, sizeof held, path, 0, wanted, sizeof wanted).second == cases[i].compared);
+        CHECK(gauge_closest(ours, sizeof ours, held, sizeof held, path, sizeof path, wanted, sizeof wanted).second == cases[i].compared);
+    }
+    CHECK(answer_is(gauge_search(held, GAUGE_RECORD_LEN, held, sizeof held, wanted, sizeof wanted), GAUGE_MEMORY, 0)); /* our own key is held */
+    CHECK(answer_is(gauge_search(ours, sizeof ours, held, sizeof held - 1, wanted, sizeof wanted), GAUGE_MEMORY, 0));
+    CHECK(answer_is(gauge_search(ours, sizeof ours, held, sizeof held, wanted, sizeof wanted - 1), GAUGE_MEMORY, 0));
 }
 
 /* Memory of the time when a record had up to four addresses. Own before cache before waiting table: each has its own length. */
@@ -354,6 +387,7 @@ static struct gauge_answer call(enum call_kind kind, const struct lent *l)
     case TICK: return call_tick(gauge_tick, l);
     case NEIGHBOURS: return call_neighbours(gauge_neighbours, l);
     case CLOSEST: return call_closest(gauge_closest, l);
+    case SEARCH: return call_search(gauge_search, l);
     default: return call_convert(gauge_convert, l);
     }
 }
@@ -384,7 +418,7 @@ static void zero_lengths(uint8_t *nothing)
     CHECK(gauge_look(6, nothing, 0).number == GAUGE_LENGTH);
     struct lent none = lend_all(); /* a path may be empty: key 11 is the closest to 0 */
     none.path = as_room(nothing, 0);
-    CHECK(answer_is(call(CLOSEST, &none), GAUGE_OK, GAUGE_CLOSEST_HELD));
+    CHECK(found_is(call(CLOSEST, &none), GAUGE_CLOSEST_HELD, 1));
     for (int c = RECEIVE; c <= CONVERT; c++) { /* and all is accepted where none is empty */
         struct lent l = lend_all();
         CHECK(call((enum call_kind)c, &l).number == GAUGE_OK);
@@ -400,6 +434,7 @@ int main(void)
     constants();
     looks();
     arguments();
+    searched();
     converted();
     lookups();
     zero_lengths(nothing);

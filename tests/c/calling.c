@@ -30,6 +30,11 @@ struct gauge_answer call_closest(closest_call *by, const struct lent *l)
     return by(TAKEN(own), TAKEN(cache), TAKEN(path), TAKEN(target));
 }
 
+struct gauge_answer call_search(search_call *by, const struct lent *l)
+{
+    return by(TAKEN(own), TAKEN(cache), TAKEN(key));
+}
+
 struct gauge_answer call_convert(convert_call *by, const struct lent *l)
 {
     return by(TAKEN(own), TAKEN(cache), TAKEN(waiting));

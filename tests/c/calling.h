@@ -12,6 +12,7 @@ typedef __typeof__(gauge_send) send_call;
 typedef __typeof__(gauge_tick) tick_call;
 typedef __typeof__(gauge_neighbours) neighbours_call;
 typedef __typeof__(gauge_closest) closest_call;
+typedef __typeof__(gauge_search) search_call;
 typedef __typeof__(gauge_convert) convert_call;
 typedef __typeof__(gauge_look) look_call;
 typedef __typeof__(gauge_carry) carry_call;
@@ -23,6 +24,7 @@ struct gauge_answer call_send(send_call *by, const struct lent *l);
 struct gauge_answer call_tick(tick_call *by, const struct lent *l);
 struct gauge_answer call_neighbours(neighbours_call *by, const struct lent *l);
 struct gauge_answer call_closest(closest_call *by, const struct lent *l);
+struct gauge_answer call_search(search_call *by, const struct lent *l);
 struct gauge_answer call_convert(convert_call *by, const struct lent *l);
 struct gauge_look_answer call_look(look_call *by, const struct lent *l);
 struct gauge_carry_answer call_carry(carry_call *by, const struct lent *l); /* the AUTHORITY is the datagram */

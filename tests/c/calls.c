@@ -253,6 +253,16 @@ static void nearest(void)
     after_call(a, 0);
 }
 
+/* Here too. */
+static void find(void)
+{
+    lend(LENT_key, 1);
+    set(LENT_output, room, 0);
+    before_call();
+    struct gauge_answer a = call_search(gauge_search, &lent);
+    after_call(a, 0);
+}
+
 /* The memory is turned where it stands. */
 static void convert(void)
 {
@@ -292,7 +302,8 @@ static const struct {
     bool sets; /* answers ok */
 } lines[] = {{"gauge", begin, true}, {"set-cache", set_cache, true}, {"set-waiting", set_waiting, true}, {"receive", receive, false},
              {"send", send, false},  {"tick", tick, false},          {"list", list, false},              {"nearest", nearest, false},
-             {"look", look, false},  {"held", held, false},          {"waits", waits, false},            {"convert", convert, false}};
+             {"look", look, false},  {"held", held, false},          {"waits", waits, false},            {"convert", convert, false},
+             {"find", find, false}};
 
 int main(void)
 {

@@ -114,10 +114,19 @@ static const uint8_t *closest(struct gauge *g, uint8_t *path, size_t path_len, u
     l.target = as_room(target, GAUGE_KEY_LEN);
     struct gauge_answer b = call_closest(gauge_closest, &l), a = gauge_lent_closest(&g->lent, path, path_len, target);
     same(g, a, b);
-    CHECK(a.number == GAUGE_OK && a.second == 0);
+    CHECK(a.number == GAUGE_OK && a.second == (gauge_lent_held(&g->lent) > 0)); /* one key at most is held */
     const uint8_t *told = gauge_lent_told(&g->lent, a.first);
     CHECK(told == (a.first == 0 ? g->lent.own : gauge_lent_record(&g->lent, a.first - GAUGE_CLOSEST_HELD)));
     return told;
+}
+
+static struct gauge_answer search(struct gauge *g, uint8_t *key)
+{
+    struct lent l = plain(g, g->cpa, 0);
+    l.key = as_room(key, GAUGE_KEY_LEN);
+    struct gauge_answer b = call_search(gauge_search, &l), a = gauge_lent_search(&g->lent, key);
+    same(g, a, b);
+    return a;
 }
 
 /* A datagram from one to the other, and every answer to it; an AUTHORITY goes on with a reading, and comes with it. */
@@ -173,6 +182,10 @@ static void find_each_other(void)
     CHECK(closest(two, path, sizeof path, one->cpa) == two->lent.own && closest(two, path, 0, two->cpa) == two->lent.own);
     CHECK(closest(one, path, sizeof path, one->cpa) == one->lent.own);
     CHECK(gauge_lent_closest(&two->lent, path, 17, one->cpa).number == GAUGE_MEMORY);
+    a = search(two, one->cpa);
+    CHECK(a.number == GAUGE_OK && a.first == 1 && a.second == 1);
+    a = search(two, two->cpa);
+    CHECK(a.number == GAUGE_OK && a.first == 0 && a.second == 1);
     a = send_record(two, two->cpa, two->cpa);
     CHECK(a.number == GAUGE_NOT_OURS);
     CHECK(receive(two, flood, 11).number == GAUGE_LENGTH);
@@ -251,7 +264,7 @@ static void texts(void)
     CHECK(strcmp(gauge_kind_text(5), gauge_kind_text(0)) == 0 && strcmp(gauge_kind_text(GAUGE_ACK), gauge_kind_text(0)) != 0);
     CHECK(strcmp(gauge_reading_text(3), gauge_reading_text(4)) != 0 && strcmp(gauge_reading_text(1), gauge_reading_text(2)) != 0);
     CHECK(strcmp(gauge_part_text(GAUGE_PART_CACHE), "the cache") == 0 && strcmp(gauge_part_text(GAUGE_PART_WAITING), "the waiting table") == 0);
-    CHECK(strcmp(GAUGE_VERSION, "1.3") == 0 && GAUGE_VERSION_NUMBER == 103);
+    CHECK(strcmp(GAUGE_VERSION, "1.4") == 0 && GAUGE_VERSION_NUMBER == 104);
 }
 
 static void hex(const uint8_t *bytes, size_t len)

@@ -8,8 +8,9 @@
 #define PAINTED 16384
 #define PAINT 0x5C
 
-enum { RECEIVE, SEND, TICK, NEIGHBOURS, CLOSEST, CONVERT, LOOK, CARRY, CARRIED, BALANCE, CALLS };
-static const char *const names[CALLS] = {"receive", "send", "tick", "neighbours", "closest", "convert", "look", "carry", "carried", "balance"};
+enum { RECEIVE, SEND, TICK, NEIGHBOURS, CLOSEST, SEARCH, CONVERT, LOOK, CARRY, CARRIED, BALANCE, CALLS };
+static const char *const names[CALLS] = {"receive", "send", "tick", "neighbours", "closest", "search",
+                                         "convert", "look", "carry", "carried", "balance"};
 static size_t most[CALLS];
 
 __attribute__((destructor)) static void tell(void)
@@ -57,6 +58,9 @@ PAINTED_CALL(CLOSEST, struct gauge_answer, gauge_closest,
              (const uint8_t *own, size_t own_len, const uint8_t *cache, size_t cache_len, const uint8_t *path, size_t path_len, const uint8_t *target,
               size_t target_len),
              (own, own_len, cache, cache_len, path, path_len, target, target_len))
+PAINTED_CALL(SEARCH, struct gauge_answer, gauge_search,
+             (const uint8_t *own, size_t own_len, const uint8_t *cache, size_t cache_len, const uint8_t *key, size_t key_len),
+             (own, own_len, cache, cache_len, key, key_len))
 PAINTED_CALL(CONVERT, struct gauge_answer, gauge_convert,
              (const uint8_t *own, size_t own_len, uint8_t *cache, size_t cache_len, uint8_t *waiting, size_t waiting_len),
              (own, own_len, cache, cache_len, waiting, waiting_len))

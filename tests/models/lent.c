@@ -1,7 +1,8 @@
 /* What is lent to a call (tests/models/lent.h), slice by slice. */
 #include "lent.h"
 
-const char *const call_names[CALLS] = {"receive", "send", "tick", "neighbours", "closest", "convert", "look", "carry", "carried", "balance"};
+const char *const call_names[CALLS] = {"receive", "send", "tick", "neighbours", "closest", "search",
+                                        "convert", "look", "carry", "carried", "balance"};
 
 #define LENT_ROW(name, use, usual, calls) {#name, offsetof(struct lent, name), use, usual, calls},
 const struct slice slices[SLICES] = {LENT_SLICES(LENT_ROW)};

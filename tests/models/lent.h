@@ -7,7 +7,7 @@
 #include <stddef.h>
 #include <stdint.h>
 
-enum call_kind { RECEIVE, SEND, TICK, NEIGHBOURS, CLOSEST, CONVERT, LOOK, CARRY, CARRIED, BALANCE, CALLS };
+enum call_kind { RECEIVE, SEND, TICK, NEIGHBOURS, CLOSEST, SEARCH, CONVERT, LOOK, CARRY, CARRIED, BALANCE, CALLS };
 extern const char *const call_names[CALLS];
 
 /* A number that a call gives is below this. Document 01 has 0 to 15, document 02 16 and 17 for a trace and 18 to 25 for its later requests. */
@@ -20,15 +20,15 @@ enum use { TO_READ, TO_KEEP, TO_FILL };
  * and the calls that are lent it. Memory that a host keeps stands in a list of its own, of which tests/nights/draft.h makes a night's memory too. */
 #define IN(call) (1u << (call))
 #define LENT_MEMORIES(slice) \
-    slice(cache, TO_KEEP, 1000, IN(RECEIVE) | IN(SEND) | IN(NEIGHBOURS) | IN(CLOSEST) | IN(CONVERT)) \
+    slice(cache, TO_KEEP, 1000, IN(RECEIVE) | IN(SEND) | IN(NEIGHBOURS) | IN(CLOSEST) | IN(SEARCH) | IN(CONVERT)) \
     slice(waiting, TO_KEEP, 2240, IN(RECEIVE) | IN(SEND) | IN(TICK) | IN(CONVERT))
 #define LENT_SLICES(slice) \
-    slice(own, TO_READ, 100, IN(RECEIVE) | IN(SEND) | IN(TICK) | IN(NEIGHBOURS) | IN(CLOSEST) | IN(CONVERT)) \
+    slice(own, TO_READ, 100, IN(RECEIVE) | IN(SEND) | IN(TICK) | IN(NEIGHBOURS) | IN(CLOSEST) | IN(SEARCH) | IN(CONVERT)) \
     slice(cpa, TO_READ, 1, IN(RECEIVE)) \
     LENT_MEMORIES(slice) \
     slice(nonce, TO_READ, 16, IN(RECEIVE)) \
     slice(neighbour, TO_READ, 32, IN(SEND)) \
-    slice(key, TO_READ, 32, IN(RECEIVE) | IN(SEND)) \
+    slice(key, TO_READ, 32, IN(RECEIVE) | IN(SEND) | IN(SEARCH)) \
     slice(path, TO_READ, 0, IN(CLOSEST)) \
     slice(target, TO_READ, 32, IN(CLOSEST)) \
     slice(datagram, TO_READ, 0, IN(RECEIVE) | IN(LOOK) | IN(CARRY) | IN(CARRIED)) \

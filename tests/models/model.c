@@ -553,6 +553,28 @@ static const uint8_t *closest(struct work *w, struct bytes path, const uint8_t *
     return best;
 }
 
+/* Document 02, Wish 8, "the steps of halving as defined on the key list": of n keys "the one at n/2 rounded down, from 0, three-way". How many of
+ * them are compared with a key. */
+static uint32_t halvings(uint8_t (*list)[KEY_LEN], size_t n, const uint8_t *key)
+{
+    size_t middle = n / 2;
+    if (n == 0)
+        return 0;
+    int way = order(key, list[middle]);
+    if (way == 0)
+        return 1;
+    return 1 + (way < 0 ? halvings(list, middle, key) : halvings(list + middle + 1, n - middle - 1, key));
+}
+
+/* The key list is that of all records held. */
+static uint32_t compared(struct work *w, const uint8_t *key)
+{
+    uint8_t list[256][KEY_LEN];
+    for (size_t i = 0; i < w->held; i++)
+        memcpy(list[i], record_at(w, i), KEY_LEN);
+    return halvings(list, w->held, key);
+}
+
 /* The place with this ID, of any kind; the inquiry for this key; or NULL. */
 static uint8_t *place_of_id(struct work *w, uint32_t id)
 {
@@ -959,7 +981,7 @@ struct model_answer model_neighbours(const struct lent *l)
 }
 
 /* Document 02, Wish 2: "Whoever asks for the closest record now hands in the path: endpoints as on the wire, none allowed, 1 if not whole ones."
- * `first` tells the record: 0 our own, 4 and more those of the cache in their order. */
+ * `first` tells the record: 0 our own, 4 and more those of the cache in their order; `second`, by Wish 8, the keys compared for the target. */
 struct model_answer model_closest(const struct lent *l)
 {
     if (!own_form(l->own, ONE_ADDRESS) || l->path.len % ENDPOINT_LEN != 0 || l->target.len != KEY_LEN)
@@ -973,6 +995,23 @@ struct model_answer model_closest(const struct lent *l)
     struct model_answer a = {0, 0, 0};
     if (shown != w.own)
         a.first = 4 + (uint32_t)((size_t)(shown - w.cache) / RECORD_LEN);
+    a.second = compared(&w, l->target.at);
+    return a;
+}
+
+/* Wish 8: "Return, beside each search, the number of keys compared". `first` tells the record: 0 for none, 1 and more those of the cache in their
+ * order. */
+struct model_answer model_search(const struct lent *l)
+{
+    if (!own_form(l->own, ONE_ADDRESS) || l->key.len != KEY_LEN || !cache_form(l->own.at, l->cache, ONE_ADDRESS))
+        return refuse(MEMORY);
+    struct work w;
+    begin(&w, l);
+    copy_cache(&w);
+    const uint8_t *there = held(&w, l->key.at);
+    struct model_answer a = {0, 0, compared(&w, l->key.at)};
+    if (there != NULL)
+        a.first = 1 + (uint32_t)((size_t)(there - w.cache) / RECORD_LEN);
     return a;
 }
 

@@ -79,6 +79,8 @@ static struct result by_model(enum call_kind kind, const struct lent *l)
         a = model_neighbours(l);
     else if (kind == CLOSEST)
         a = model_closest(l);
+    else if (kind == SEARCH)
+        a = model_search(l);
     else
         a = model_convert(l);
     return three_numbers(a.number, a.first, a.second);
@@ -106,6 +108,8 @@ static struct result by_archive(enum call_kind kind, const struct lent *l)
         a = call_neighbours(gauge_neighbours, l);
     else if (kind == CLOSEST)
         a = call_closest(gauge_closest, l);
+    else if (kind == SEARCH)
+        a = call_search(gauge_search, l);
     else
         a = call_convert(gauge_convert, l);
     return three_numbers(a.number, a.first, a.second);

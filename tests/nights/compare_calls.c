@@ -191,6 +191,8 @@ static void damage_call(struct call *c)
         small = c->kind == CLOSEST ? &c->lent.target : !percent(50) ? &c->lent.key : c->kind == SEND ? &c->lent.neighbour : &c->lent.nonce;
         if (c->kind == CLOSEST && percent(60))
             small = &c->lent.path;
+        if (c->kind == SEARCH)
+            small = &c->lent.key;
         memcpy(b, small->at, small->len);
         *small = kept(b, wrong_length(small->len > 0 ? small->len : GAUGE_ENDPOINT_LEN));
     }
@@ -216,12 +218,25 @@ static size_t some_room(struct call *c)
     return way == 18 || percent(50) ? need - 1 : under(need);
 }
 
+/* By a draw of 100. */
+static enum call_kind some_kind(uint32_t way)
+{
+    const struct {
+        uint32_t below;
+        enum call_kind kind;
+    } kinds[] = {{64, RECEIVE}, {72, SEND}, {72 + ticks, TICK}, {80, NEIGHBOURS}, {85, CLOSEST}, {90, SEARCH}, {94, CONVERT}, {100, LOOK}};
+    size_t i = 0;
+    while (way >= kinds[i].below)
+        i++;
+    return kinds[i].kind;
+}
+
 void make_call(struct call *c)
 {
     uint8_t b[GAUGE_CPA_MOST], key[GAUGE_KEY_LEN];
     uint32_t way = under(100);
     memset(c, 0, sizeof *c);
-    c->kind = way < 68 ? RECEIVE : way < 76 ? SEND : way < 76 + ticks ? TICK : way < 85 ? NEIGHBOURS : way < 90 ? CLOSEST : way < 94 ? CONVERT : LOOK;
+    c->kind = some_kind(way);
     c->lent = lend_gauge();
     c->lent.major = percent(3) ? any() : own_major;
     c->filled = any();
@@ -249,6 +264,10 @@ void make_call(struct call *c)
         size_t len = draft_closest(b, key);
         c->lent.path = kept(b, len);
         c->lent.target = kept(key, GAUGE_KEY_LEN);
+    }
+    if (c->kind == SEARCH) {
+        draft_search(key);
+        c->lent.key = kept(key, GAUGE_KEY_LEN);
     }
     if (c->kind == CONVERT)
         age_call(c);

@@ -26,7 +26,7 @@ static uint32_t possible(int kind, int message)
         return looked[message];
     if (message != NONE)
         return 0;
-    return kind == SEND ? SENDS : BIT(GAUGE_OK) | BIT(GAUGE_MEMORY) | (kind == CLOSEST || kind == CONVERT ? 0 : BIT(GAUGE_ROOM));
+    return kind == SEND ? SENDS : BIT(GAUGE_OK) | BIT(GAUGE_MEMORY) | (kind == CLOSEST || kind == SEARCH || kind == CONVERT ? 0 : BIT(GAUGE_ROOM));
 }
 
 /* What an accepted call did, by what it left and wrote. */
@@ -34,7 +34,9 @@ enum { JOINED, REPLACED, OTHER_DROPPED, SELF_DROPPED, BOTH, ACK_ONLY, INQUIRE_ON
        N_CLEAR, SHOWN_OWN, SHOWN_HELD, EXPIRED, SIXTEEN, FIVES, BETWEEN, LIST_END, LIST_OPPOSITE, SHOWN_END, TIE, TIE_END, FULL_255, FULL_256,
        SHOWN_256, ASKED, ASKED_WRAPPED, ENTRY_SAME, ENTRY_WAITS, ENTRY_OWN, PASSED, PASSED_MANY, PASSED_FOR_OWN, NEAREST_OWN, NEAREST_HELD,
        NEAREST_BARE, NEAREST_256, MORE_SAME, MORE_SAME_LOOKUP, MORE_ASKED, MORE_ASKED_LOOKUP, MOVED, MOVED_LOOKUP, OLD_REFUSED,
-       CONVERTED, CONVERTED_SOME, CONVERTED_NONE, CONVERTED_INQUIRY, CONVERTED_FLOOD, CONVERTED_OWN, CONVERTED_256, NOT_CONVERTED, DONE };
+       CONVERTED, CONVERTED_SOME, CONVERTED_NONE, CONVERTED_INQUIRY, CONVERTED_FLOOD, CONVERTED_OWN, CONVERTED_256, NOT_CONVERTED,
+       SOUGHT_HELD, SOUGHT_GAP, SOUGHT_OWN, SOUGHT_EMPTY, SOUGHT_BELOW, SOUGHT_ABOVE, SOUGHT_AT_ONCE, SOUGHT_LAST, SOUGHT_256, SOUGHT_NINE,
+       NEAREST_NONE, NEAREST_NINE, DONE };
 static const char *const done_names[] = {
     "learned: joined", "learned: replaced", "learned: another dropped", "learned: newcomer dropped", "FLOOD: ACK and INQUIRE", "FLOOD: ACK alone",
     "FLOOD: INQUIRE alone", "FLOOD: nothing sent", "ACK sent with N", "INQUIRE with ID 0", "revoked: key removed", "revoked: inquiry freed",
@@ -47,7 +49,9 @@ static const char *const done_names[] = {
     "FLOOD: held, more behind it", "LOOKUP: held, more behind it", "FLOOD: two to four, asked", "LOOKUP: two to four, asked",
     "FLOOD: address moved, asked", "LOOKUP: address moved, asked", "old memory refused", "convert: all records old",
     "convert: some records old", "convert: nothing to turn", "convert: old inquiry", "convert: flood beside one", "convert: own record old",
-    "convert: 256 records", "convert: refused when old"};
+    "convert: 256 records", "convert: refused when old", "search: held", "search: between two", "search: our own key", "search: none held",
+    "search: below all", "search: above all", "search: held, found at once", "search: held, found last", "search: 256th record",
+    "search: held, nine compared", "closest: none compared", "closest: nine compared"};
 static unsigned long done[DONE];
 
 static size_t rows_used(const uint8_t *p, size_t len, size_t width, size_t mark)
@@ -208,6 +212,28 @@ static void count_converted(const struct call *c)
     done[CONVERTED_256] += records == GAUGE_CACHE_MOST && old > 0;
 }
 
+static uint32_t digits(size_t n)
+{
+    return n == 0 ? 0 : 1 + digits(n / 2);
+}
+
+/* A search among so many keys: for which key, and how soon it was found. */
+static void count_sought(const struct call *c, const uint32_t *answer, const struct memory *before, size_t was)
+{
+    const uint8_t *key = c->lent.key.at, *last = before->cache + GAUGE_RECORD_LEN * (was > 0 ? was - 1 : 0);
+    done[SOUGHT_OWN] += memcmp(key, c->lent.own.at, GAUGE_KEY_LEN) == 0;
+    if (answer[1] != 0) {
+        done[SOUGHT_HELD]++;
+        done[SOUGHT_AT_ONCE] += answer[2] == 1 && was > 1;
+        done[SOUGHT_LAST] += answer[2] == digits(was) && was > 1;
+        done[SOUGHT_256] += answer[1] == GAUGE_CACHE_MOST;
+        done[SOUGHT_NINE] += answer[2] == GAUGE_COMPARED_MOST;
+        return;
+    }
+    bool below = memcmp(key, before->cache, GAUGE_KEY_LEN) < 0, above = memcmp(key, last, GAUGE_KEY_LEN) > 0;
+    done[was == 0 ? SOUGHT_EMPTY : below ? SOUGHT_BELOW : above ? SOUGHT_ABOVE : SOUGHT_GAP]++;
+}
+
 static void count_learned(const uint8_t *key, const struct memory *before, size_t was)
 {
     bool same = memcmp(before->cache, now.cache, now.cache_len) == 0, there = false;
@@ -246,7 +272,11 @@ static void count_done(const struct call *c, int message, const uint32_t *answer
         done[NEAREST_BARE] += c->lent.path.len == 0;
         done[NEAREST_256] += answer[1] == GAUGE_CLOSEST_HELD + GAUGE_CACHE_MOST - 1;
         count_passed(without_path(c, before, c->lent.target.at), answer[1], was);
+        done[NEAREST_NONE] += answer[2] == 0;
+        done[NEAREST_NINE] += answer[2] == GAUGE_COMPARED_MOST;
     }
+    if (c->kind == SEARCH)
+        count_sought(c, answer, before, was);
     if (c->kind != RECEIVE)
         return;
     done[N_SET] += (message == ENTRY || message == REVOKE) && answer[1] == 26;

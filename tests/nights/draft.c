@@ -812,9 +812,29 @@ size_t draft_closest(uint8_t *path, uint8_t *target)
 {
     size_t n = percent(10) ? 0 : percent(10) ? under(PATH_POINTS + 1) : 1 + under(4);
     draft_target(target);
+    if (held() == GAUGE_CACHE_MOST && percent(15)) /* the most keys are compared for the first */
+        memcpy(target, now.cache, GAUGE_KEY_LEN);
     for (size_t i = 0; i < n; i++)
         some_endpoint(target, path + GAUGE_ENDPOINT_LEN * i);
     return GAUGE_ENDPOINT_LEN * n;
+}
+
+/* Of the keys held the last, the middle one, any, or the first, for which the most are compared; and every other time one beside it. */
+void draft_search(uint8_t *key)
+{
+    size_t h = held(), at = 0;
+    uint32_t way = under(16);
+    if (h == 0 || way < 4) {
+        some_key(key);
+        return;
+    }
+    at = way < 9 ? h - 1 : way < 10 ? h / 2 : way < 12 ? under(h) : 0;
+    memcpy(key, now.cache + GAUGE_RECORD_LEN * at, GAUGE_KEY_LEN);
+    switch (under(4)) {
+    case 0: shift(key, little()); break;
+    case 1: flip_bit(key + GAUGE_KEY_LEN / 2, GAUGE_KEY_LEN / 2); break;
+    default: break;
+    }
 }
 
 /* One damage: a byte, a bit, a cut, growth, or a field's number or length. */

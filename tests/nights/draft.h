@@ -67,6 +67,9 @@ void draft_send(uint8_t *neighbour, uint8_t *key);
 #define PATH_POINTS 30
 size_t draft_closest(uint8_t *path, uint8_t *target); /* gives the path's length */
 
+/* A key to search for: held, in a gap beside one that is, our own or any. */
+void draft_search(uint8_t *key);
+
 /* An AUTHORITY with this payload, or none where it is NULL, and its other fields by chance. It is `whole` bytes long where its CPA can make it so,
  * and of any length where `whole` is 0. */
 void draft_authority_with(const uint8_t *payload, size_t len, size_t whole);

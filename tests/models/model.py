@@ -597,6 +597,24 @@ def path_of(s):
     return [s[at:at + 18] for at in range(0, len(s), 18)] if len(s) % 18 == 0 else None
 
 
+# 02, Wish 8: "the steps of halving as defined on the key list (of n keys the one at n/2 rounded down, from 0, three-way)". How many of the keys are
+# compared with one.
+def halvings(keys, key):
+    if not keys:
+        return 0
+    middle = len(keys) // 2
+    if key == keys[middle]:
+        return 1
+    return 1 + halvings(keys[:middle] if key < keys[middle] else keys[middle + 1:], key)
+
+
+# "and is at most the number of binary digits of the records used: 0 for none, 9 for 256".
+def compared(records, key):
+    steps = halvings([key_of(r) for r in records], key)
+    assert steps <= len(records).bit_length()
+    return steps
+
+
 # --- Lent memory: the waiting table ----------------------------------------------------------------------------------------
 
 # 01: "16 places of 140 bytes: message ID 4 (little-endian), kind 1 (1 flood, 2 inquiry, 0 free), tries left 1 (0 to 2), two zero bytes, key
@@ -692,7 +710,7 @@ def over(written, output):
 
 
 class Lent:
-    """What is lent to a receive, a send or a closest beside the gauge's own: one more slice to read is one more attribute."""
+    """What is lent to a receive, a send, a closest or a search beside the gauge's own: one more slice to read is one more attribute."""
 
     def __init__(self, identity=0, nonce=bytes(16), verdict=0, key=bytes(32), neighbour=bytes(32), path=b"", target=bytes(32), datagram=b""):
         self.identity, self.nonce, self.verdict, self.key, self.neighbour = identity, nonce, verdict, key, neighbour
@@ -885,13 +903,25 @@ class Gauge:
         return 0, len(below), len(above), over(b"".join(k.to_bytes(32, "big") for k in below + above), output)
 
     # 02, Wish 2: "Whoever asks for the closest record now hands in the path". `first` tells the record: 0 our own, 4 and more those of the cache in
-    # their order. There is no output, and the one that is handed in stays.
+    # their order; `second`, by Wish 8, the keys compared for the target, among all held (W8.9). There is no output, and the one that is handed in
+    # stays.
     def closest(self, lent, output=b""):
         state, path = State(self), path_of(lent.path)
         if not record_form(self.own) or state.records is None or path is None or len(lent.target) != 32:
             return 1, 0, 0, output
         shown = closest(self.own, state.records, path, value(lent.target))
-        return 0, 4 + state.records.index(shown) if shown in state.records else 0, 0, output
+        first = 4 + state.records.index(shown) if shown in state.records else 0
+        return 0, first, compared(state.records, value(lent.target)), output
+
+    # 02, Wish 8: "Return, beside each search, the number of keys compared". `first` tells the record: 0 for a key that is not held, our own too
+    # (W8.5), 1 and more those of the cache in their order. There is no output here either.
+    def search(self, lent, output=b""):
+        state = State(self)
+        if not record_form(self.own) or state.records is None or len(lent.key) != 32:
+            return 1, 0, 0, output
+        keys = [key_of(r) for r in state.records]
+        first = 1 + keys.index(value(lent.key)) if value(lent.key) in keys else 0
+        return 0, first, compared(state.records, value(lent.key)), output
 
     # 02, Wish 13: "A conversion turns an old cache and waiting table into the new form, the count 1 and the other addresses zero, keys and order the
     # same .. Refusals: 1 .. to the conversion, not in the old." W13.1: the own record is lent for reading, in the old form too. A flood's record is
@@ -1040,7 +1070,7 @@ def check_path():
                         ([point(5000, 0xA), point(6000, 0xB)], own), ([point(1, 1)], a), ([point(5000, 0xA), point(6000, 0xB), point(1, 1)], own)):
         assert closest(own, [a, b], path, 100) == shown
         answer = Gauge(own, cache_of([a, b], 1000)).closest(Lent(path=b"".join(path), target=(100).to_bytes(32, "big")))
-        assert answer == (0, {own: 0, a: 4, b: 5}[shown], 0, b"")
+        assert answer == (0, {own: 0, a: 4, b: 5}[shown], 2, b"")
     for length, number in ((17, 1), (18, 0), (19, 1), (36, 0), (23 * 18, 0), (0, 0)):
         assert Gauge(own).closest(Lent(path=bytes(length))) == (number, 0, 0, b"")
     # places without an address are zero and no addresses; one that is used and zero is
@@ -1104,6 +1134,42 @@ def check_address():
                 Gauge(own, cache_of([rec(70)], 1000)), Gauge(own, two_of[:99] + b"\1" + two_of[100:]), Gauge(own, waiting=b"")):
         before = bad.memory()
         assert bad.convert() == (1, 0, 0, b"") and bad.memory() == before
+
+
+def check_count():
+    """Document 02, Wish 8: keys 10 20 30 40 50; none, one, 256; every key held and every gap, by the places that halving goes through."""
+    def key(n):
+        return n.to_bytes(32, "big")
+
+    def rec(n):
+        return key(n) + two(5000) + bytes([1, 0]) + bytes(64)
+
+    five = Gauge(rec(7), cache_of([rec(n) for n in (10, 20, 30, 40, 50)], 1000))
+    for n, first, steps in ((30, 3, 1), (20, 2, 2), (50, 5, 2), (10, 1, 3), (40, 4, 3), (5, 0, 3), (15, 0, 3), (25, 0, 2), (35, 0, 3), (45, 0, 3),
+                            (55, 0, 2), (7, 0, 3)):
+        assert five.search(Lent(key=key(n))) == (0, first, steps, b"")
+        assert five.closest(Lent(target=key(n)))[2] == five.closest(Lent(path=two(5000) + bytes(16), target=key(n)))[2] == steps
+    assert Gauge(rec(7)).search(Lent(key=key(9))) == (0, 0, 0, b"")
+    for n in (8, 9, 10):
+        assert Gauge(rec(7), cache_of([rec(9)], 1000)).search(Lent(key=key(n))) == (0, int(n == 9), 1, b"")
+    for bad in (Gauge(rec(7)[:99]), Gauge(rec(7), cache_of([rec(7)], 1000)), Gauge(rec(7), bytes(900))):
+        assert bad.search(Lent(key=key(9))) == (1, 0, 0, b"")
+    assert Gauge(rec(7)).search(Lent(key=key(9)[:31])) == Gauge(rec(7)).search(Lent(key=key(9) + b"\0")) == (1, 0, 0, b"")
+    # A loop over places does the same, wherever there are so many keys; the most is the number of binary digits, and it is met.
+    for n in list(range(1, 40)) + [64, 127, 128, 255, 256]:
+        keys, most = list(range(0, 2 * n, 2)), 0
+        for k in range(-1, 2 * n):
+            low, high, steps = 0, n, 0
+            while low < high:
+                middle, steps = low + (high - low) // 2, steps + 1
+                if keys[middle] == k:
+                    break
+                low, high = (low, middle) if k < keys[middle] else (middle + 1, high)
+            assert halvings(keys, k) == steps
+            most = max(most, steps)
+        assert most == halvings(keys, 0) == len(format(n, "b"))
+    keys = list(range(256))
+    assert [k for k in keys if halvings(keys, k) == 9] == [0] and [k for k in keys if halvings(keys, k) == 1] == [128]
 
 
 def check_lengths():
@@ -1191,6 +1257,7 @@ if __name__ == "__main__":
     check_ring()
     check_path()
     check_address()
+    check_count()
     check_lengths()
     check_round_trips(8000)
-    print("model: cases 1 to 14, the ring, the path, one address, lengths and 8000 round trips as the documents have them")
+    print("model: cases 1 to 14, the ring, the path, one address, keys compared, lengths and 8000 round trips as the documents have them")

@@ -8,6 +8,7 @@
     tick ROOM
     list ROOM
     nearest PATH TARGET                              gauge_closest; PATH is endpoints as on the wire, port 2 and address 16
+    find KEY                                         gauge_search
     convert                                          gauge_convert; the own record may be of the time before request 13 too
     held                                             the keys held
     waits                                            the places used, as ID:kind:tries:key
@@ -16,8 +17,8 @@
     vector_calls.py                                  checks the numbers, lengths and bytes that the documents give
 
 ROOM is the length of the output, two bytes; it is filled with EE before each call. A call's answer is number, first and second; the bytes that
-it has put at the start of the output (first + second, for a tick 4 x first, for a list 32 x (first + second), for a nearest and a convert, which are
-lent no output, none), - for none; `same` or `changed` for the cache, then for the waiting table; `clean` where all of the output behind
+it has put at the start of the output (first + second, for a tick 4 x first, for a list 32 x (first + second), for a nearest, a find and a convert,
+which are lent no output, none), - for none; `same` or `changed` for the cache, then for the waiting table; `clean` where all of the output behind
 those bytes is still EE, else `dirty`. IDs are decimal, keys in hexadecimal without leading zeros.
 
 A `want` is what the documents give: the number, or number, first and second, or the whole list; it is compared with the model's answer.
@@ -40,6 +41,7 @@ Where to find what (each is a function below, and a heading of crates/vectors/st
     the very same record, other versions; another port        floods, "the very same record", "the same key with another port"
     a LOOKUP whose route entry names us                       asked, "our own key is passed over"
     a LOOKUP's path, and its route entry inquired about       paths, asked (and vector_memory, on_the_path, outwards)
+    how many keys a search compares                           searching (and vector_memory, comparing)
     two to four addresses: the first kept; the conversion     addresses, converting (and vector_memory, cache_forms, waiting_forms)
     id + 1 is a waiting flood's ID; ID 4294967295 with D      identities
     a flood with the own key in the waiting table             memory, "in form"
@@ -153,8 +155,8 @@ def send_applies(g, lent, room):
 # The numbers that each can give, in their order. Each is given at least once, and with each neighbour at once.
 TABLES = {"datagram": (1, 2, 3, 4, 5, 6), "solicit": (6, 7), "advertise": (6, 7), "request": (6, 7), "flood": (6, 11, 13, 14, 15),
           "revocation": (6, 9, 11, 15), "inquire": (6, 12, 15), "authority": (6, 7, 8, 9, 10), "ack": (6, 8), "lookup": (6, 13, 14, 15),
-          "send": (1, 12, 13, 14, 15), "tick": (1, 15), "list": (1, 15), "nearest": (1,), "convert": (1,), "look": (2, 3, 4, 5, 6),
-          "look at authority": (6, 7)}
+          "send": (1, 12, 13, 14, 15), "tick": (1, 15), "list": (1, 15), "nearest": (1,), "find": (1,), "convert": (1,),
+          "look": (2, 3, 4, 5, 6), "look at authority": (6, 7)}
 
 
 class Gauge:
@@ -218,6 +220,11 @@ class Gauge:
         bad = not model.record_form(g.own) or model.State(g).records is None or len(path) % 18 != 0 or len(target) != 32
         return self.answer(lambda output: g.closest(lent, output), ("nearest", path, target), ("nearest",), {1} if bad else set(), 0,
                            lambda a, b: 0, want)
+
+    def find(self, named, want):
+        g, lent = self.now, model.Lent(key=named)
+        bad = not model.record_form(g.own) or model.State(g).records is None or len(named) != 32
+        return self.answer(lambda output: g.search(lent, output), ("find", named), ("find",), {1} if bad else set(), 0, lambda a, b: 0, want)
 
     def convert(self, want):
         g = self.now
@@ -759,7 +766,7 @@ def paths(g):
         r = shown[which]
         if 1 <= len(path) <= 22:
             yield g.receive(lookup(target, path=path), (0, 96, 0), sends=[shown_out(7, 0xA00, r)])
-        yield g.nearest(b"".join(path), key(target), (0, which, 0))
+        yield g.nearest(b"".join(path), key(target), (0, which, 2))
 
     yield g.start(own)
     yield g.set_cache(cache([near, far]))
@@ -786,19 +793,19 @@ def paths(g):
     ten = [at(n, 5000, A) for n in range(90, 99)] + [at(99, 5001, A)]
     yield g.start(record(2 ** 255))
     yield g.set_cache(cache(ten))
-    for target in (0, 90, 94, 99, 150):
+    for target, steps in ((0, 4), (90, 4), (94, 3), (99, 3), (150, 3)):
         yield g.receive(lookup(target, path=[point(5000, A)]), (0, 96, 0), sends=[shown_out(7, 0xA00, ten[9])])
-        yield g.nearest(point(5000, A), key(target), (0, 13, 0))
-        yield g.nearest(point(5000, A) + point(5001, A), key(target), (0, 0, 0))
+        yield g.nearest(point(5000, A), key(target), (0, 13, steps))
+        yield g.nearest(point(5000, A) + point(5001, A), key(target), (0, 0, steps))
     yield g.start()
     yield g.nearest(b"", key(7), (0, 0, 0))
     yield g.nearest(point(5000, A) * 3, key(7), (0, 0, 0))
     yield "# the place told counts from 4: the last of a full cache of 256 has 259"
     yield g.start(c=256)
     yield g.set_cache(cache([at(1000 + n, 1, ANY) for n in range(256)], 256))
-    for n in (0, 1, 127, 128, 254, 255):
-        yield g.nearest(b"", key(1000 + n), (0, 4 + n, 0))
-    yield g.nearest(point(1, ANY), key(1000), (0, 0, 0))
+    for n, steps in ((0, 9), (1, 8), (127, 8), (128, 1), (254, 7), (255, 8)):
+        yield g.nearest(b"", key(1000 + n), (0, 4 + n, steps))
+    yield g.nearest(point(1, ANY), key(1000), (0, 0, 9))
     yield "# 1: endpoints that are not whole, a target of another length, an own record and a cache not in form; the waiting table is not lent"
     yield g.start(own)
     yield g.set_cache(cache([near, far]))
@@ -808,13 +815,69 @@ def paths(g):
         yield g.nearest(b"", target, 1)
         yield g.nearest(point(5000, A), target, 1)
     yield g.set_waiting(bytes(2239))
-    yield g.nearest(point(5000, A), key(100), (0, 5, 0))
+    yield g.nearest(point(5000, A), key(100), (0, 5, 2))
     for bad in (bytes(900), bytes(25700), cache([far, near]), cache([near, near]), cache([own]), put(cache([near]), 999, b"\1"), b""):
         yield g.set_cache(bad)
         yield g.nearest(point(5000, A), key(100), 1)
     for bad in (b"", own[:99], own + b"\0", put(own, 34, b"\0"), put(own, 34, b"\2"), put(own, 35, b"\1"), record(50, 4)):
         yield g.start(bad)
         yield g.nearest(point(5000, A), key(100), 1)
+
+
+def searching(g):
+    """Document 02, request 8: "Return, beside each search, the number of keys compared"."""
+    yield "# keys 10 20 30 40 50, own 7: where a key stands and how many are compared; the closest record compares as many, whatever is on the path"
+    yield g.start(record(7))
+    for n in (0, 7, 9, TOP):
+        yield g.find(key(n), (0, 0, 0))
+    yield g.set_cache(cache([at(n, 5000, A) for n in (10, 20, 30, 40, 50)]))
+    for n, first, which, steps in ((30, 3, 6, 1), (20, 2, 5, 2), (50, 5, 8, 2), (10, 1, 4, 3), (40, 4, 7, 3), (5, 0, 0, 3), (15, 0, 4, 3),
+                                   (25, 0, 5, 2), (35, 0, 6, 3), (45, 0, 7, 3), (55, 0, 8, 2), (7, 0, 0, 3), (0, 0, 0, 3), (2 ** 255, 0, 8, 2),
+                                   (2 ** 32 + 30, 0, 8, 2)):
+        yield g.find(key(n), (0, first, steps))
+        yield g.nearest(b"", key(n), (0, which, steps))
+        yield g.nearest(point(5000, A), key(n), (0, 0, steps))
+    yield "# a key that is learned or removed: the list is halved anew"
+    yield g.set_waiting(table([inquiry(8, 35)]))
+    yield g.receive(authority(8), (0, 0, 0), verdict=1, named=key(35))
+    for n, first, steps in ((10, 1, 3), (20, 2, 2), (30, 3, 3), (35, 4, 1), (40, 5, 3), (50, 6, 2), (36, 0, 3)):
+        yield g.find(key(n), (0, first, steps))
+    yield g.receive(revocation(), 0, verdict=1, named=key(10))
+    for n, first, steps in ((10, 0, 3), (20, 1, 3), (30, 2, 2), (35, 3, 1), (40, 4, 3), (50, 5, 2)):
+        yield g.find(key(n), (0, first, steps))
+    yield "# one key: 1, held or not"
+    yield g.set_cache(cache([9]))
+    for n in (8, 9, 10):
+        yield g.find(key(n), (0, int(n == 9), 1))
+    yield "# a full cache of 256, every key held and every gap: 9 for the first key and beside it, 1 for the one at 128, 8 for every other gap"
+    yield g.start(c=256)
+    yield g.set_cache(cache([at(1000 + 2 * n, 1, ANY) for n in range(256)], 256))
+    for n in range(256):
+        halved = (n & -n).bit_length()  # 128 is 8, 64 and 192 are 7, .. and every odd one 1
+        yield g.find(key(1000 + 2 * n), (0, n + 1, 9 - halved))
+    for n in range(257):
+        yield g.find(key(999 + 2 * n), (0, 0, 9 if n < 2 else 8))
+    yield "# keys all over the ring, of 255: 8 for every gap"
+    keys = [(n + 1) * 2 ** 248 for n in range(255)]
+    yield g.start(record(7), c=256)
+    yield g.set_cache(cache([at(n, 1, ANY) for n in keys], 256))
+    for n, steps in ((0, 8), (1, 7), (2, 8), (63, 2), (126, 8), (127, 1), (128, 8), (191, 2), (253, 7), (254, 8)):
+        yield g.find(key(keys[n]), (0, n + 1, steps))
+        yield g.find(key(keys[n] - 1), (0, 0, 8))
+        yield g.find(key(keys[n] + 1), (0, 0, 8))
+    yield "# 1: a key of another length, an own record and a cache not in form; the waiting table is not lent"
+    yield g.start(record(7))
+    yield g.set_cache(cache([10, 20]))
+    for named in (b"", key(10)[:31], key(10) + b"\0"):
+        yield g.find(named, 1)
+    yield g.set_waiting(bytes(2239))
+    yield g.find(key(10), (0, 1, 2))
+    for bad in (bytes(900), bytes(25700), cache([20, 10]), cache([10, 10]), cache([7]), put(cache([10]), 999, b"\1"), b""):
+        yield g.set_cache(bad)
+        yield g.find(key(10), 1)
+    for bad in (b"", OWN[:99], OWN + b"\0", put(OWN, 34, b"\0"), put(OWN, 34, b"\2"), put(OWN, 35, b"\1"), record(100, 4)):
+        yield g.start(bad)
+        yield g.find(key(10), 1)
 
 
 def asked(g):
@@ -972,7 +1035,7 @@ def addresses(g):
     for i in range(4):
         r = four if i else OWN
         yield g.receive(lookup(70, path=[point(4070, four[36 + 16 * i:52 + 16 * i])]), (0, 96, 0), sends=[shown_out(7, 0xA00, kept(r))])
-        yield g.nearest(point(4070, four[36 + 16 * i:52 + 16 * i]), key(70), (0, 4 if i else 0, 0))
+        yield g.nearest(point(4070, four[36 + 16 * i:52 + 16 * i]), key(70), (0, 4 if i else 0, 1))
     yield "# memory of the time before: 1, to every call that is lent it"
     for own, held, waiting in ((OWN, [record(70, 2)], []), (OWN, [], [inquiry(3, 71, 2, 2)]), (record(100, 2), [], []), (record(100, 4), [], [])):
         yield g.start(own)
@@ -984,6 +1047,7 @@ def addresses(g):
         yield g.tick(1 if waiting or own != OWN else (0, 0, 0))
         yield g.list(1 if held or own != OWN else (0, 0, 0))
         yield g.nearest(b"", key(60), 1 if held or own != OWN else (0, 0, 0))
+        yield g.find(key(70), 1 if held or own != OWN else (0, 0, 0))
 
 
 def converting(g):
@@ -1592,8 +1656,8 @@ def looking(g):
     yield g.look(put(plain, 5, b"\xFF"), 0, 255)
 
 
-SCENES = (story, floods, identities, revocations, authorities, across, acked, answered, paths, asked, addresses, converting, room, sending, ticking,
-          listing, case14, memory, limits, malformed, refusals, pairs, bytewise, looking)
+SCENES = (story, floods, identities, revocations, authorities, across, acked, answered, paths, searching, asked, addresses, converting, room,
+          sending, ticking, listing, case14, memory, limits, malformed, refusals, pairs, bytewise, looking)
 
 
 def vectors(g=None):
@@ -1611,10 +1675,10 @@ def check():
     g = Gauge()
     lines = [v for v in vectors(g) if not isinstance(v, str)]  # each `want` is compared on the way
     # Every number of every call is there, and no other.
-    numbers = {name: {int(answer.split()[0]) for operands, answer in lines if operands[0] == name} for name in ("receive", "send", "tick", "list",
-                                                                                                              "nearest", "convert", "look")}
+    numbers = {name: {int(answer.split()[0]) for operands, answer in lines if operands[0] == name}
+               for name in ("receive", "send", "tick", "list", "nearest", "find", "convert", "look")}
     assert numbers == {"receive": {0, *ORDER}, "send": {0, 1, 12, 13, 14, 15}, "tick": {0, 1, 15}, "list": {0, 1, 15},
-                     "nearest": {0, 1}, "convert": {0, 1}, "look": {0, 2, 3, 4, 5, 6, 7}}, numbers
+                     "nearest": {0, 1}, "find": {0, 1}, "convert": {0, 1}, "look": {0, 2, 3, 4, 5, 6, 7}}, numbers
     # So are, for each kind of message, every number that it can be refused with, and every two neighbours at once.
     for kind, numbers in TABLES.items():
         for n in numbers:
@@ -1623,7 +1687,7 @@ def check():
             assert any(k == kind and number == a and b in applies for k, applies, number in g.seen), "no %s to which %d and %d apply" % (kind, a, b)
     # With a refusal nothing is told and nothing has changed.
     for operands, answer in lines:
-        if operands[0] in ("receive", "send", "tick", "list", "nearest", "convert") and not answer.startswith("0 "):
+        if operands[0] in ("receive", "send", "tick", "list", "nearest", "find", "convert") and not answer.startswith("0 "):
             assert answer.split()[1:] == ["0", "0", "-", "same", "same", "clean"], (operands, answer)
     # What a call writes is read as a message, and written again it is the same.
     for operands, answer in lines:
@@ -1637,7 +1701,7 @@ def check():
 
 if __name__ == "__main__":
     lines = check()
-    names = ("gauge", "set-cache", "set-waiting", "receive", "send", "tick", "list", "nearest", "convert", "held", "waits", "look")
+    names = ("gauge", "set-cache", "set-waiting", "receive", "send", "tick", "list", "nearest", "find", "convert", "held", "waits", "look")
     print("vector_calls: %d vectors, %s" % (len(lines), ", ".join("%d %s" % (sum(v[0][0] == name for v in lines), name) for name in names)))
     numbers = [int(answer.split()[0]) for operands, answer in lines if operands[0] == "receive"]
     print("answers of receive: " + ", ".join("%d %d times" % (n, numbers.count(n)) for n in (0, *ORDER)))

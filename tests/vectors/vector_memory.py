@@ -1,12 +1,14 @@
 #!/usr/bin/env python3
-"""Vectors for the lent memory: the forms, learning, removing, the neighbour list, the closest record, the tick's work on places.
+"""Vectors for the lent memory: the forms, learning, removing, the neighbour list, the closest record, a key searched, the tick's work on places.
 
     cache-form OWN CACHE         bad, or how many records are held
     waiting-form OWN TABLE       bad, or how many places are used
     learn OWN CACHE RECORD       the number, and with 0 the keys held afterwards
     remove-key OWN CACHE KEY     the same
     neighbours OWN CACHE         the number, and with 0 the counts below and above and the keys listed
-    closest OWN CACHE PATH TARGET    the number, and with 0 the record; PATH is endpoints as on the wire, port 2 and address 16
+    closest OWN CACHE PATH TARGET    the number, and with 0 the record and how many keys were compared; PATH is endpoints as on the wire, port 2 and
+                                 address 16
+    search OWN CACHE KEY         the number, and with 0 the place from 1, or 0 for a key that is not held, and how many keys were compared
     searches OWN CACHE           for each record held the place of the closest to its key with the last byte 0, to the key, and to it with the last
                                  byte 255
     ticks OWN TABLE ROUNDS       for each round number:IDs, then how many places are used at the end
@@ -115,14 +117,21 @@ def neighbours(own, s, want=None):
     return line("neighbours", (own, s), "0 %d %d %s" % (below, above, listed(keys)), want)
 
 
-def closest(own, s, target, want=None, path=b""):
-    """`want` is the key of the record shown, or the number that the call is refused with, as text."""
+def closest(own, s, target, want=None, path=b"", steps=None):
+    """`want` is the key of the record shown, or the number that the call is refused with, as text; `steps` how many keys are compared."""
     records, points = model.held(own, s), model.path_of(path)
     if not model.record_form(own) or records is None or points is None or len(target) != 32:
         return line("closest", (own, s, path, target), "1", want)
     shown = model.closest(own, records, points, model.value(target))
+    compared = model.compared(records, model.value(target))
     assert want is None or model.key_of(shown) == want, (model.key_of(shown), want)
-    return line("closest", (own, s, path, target), "0 " + shown.hex(), None)
+    assert steps is None or compared == steps, (compared, steps)
+    return line("closest", (own, s, path, target), "0 %s %d" % (shown.hex(), compared), None)
+
+
+def search(own, s, k, want=None):
+    number, first, second, _ = model.Gauge(own, cache=s).search(model.Lent(key=k))
+    return line("search", (own, s, k), "0 %d %d" % (first, second) if number == 0 else str(number), want)
 
 
 def searches(own, s):
@@ -620,6 +629,56 @@ def halving():
         yield searches(slim(7), keys_cache([i * 2 ** 240 + 0x80 for i in range(n)]))
 
 
+# 02, request 8: how many keys are compared. Of so many keys, 10 20 30 .., for each of them, and for each gap from below the first to above the last,
+# worked out by hand from "the one at n/2 rounded down, from 0".
+COMPARED = {1: ("1", "11"), 2: ("21", "221"), 3: ("212", "2222"), 4: ("3212", "33222"), 5: ("32132", "332332"), 6: ("323132", "3333332"),
+            7: ("3231323", "33333333"), 8: ("43231323", "443333333"), 9: ("432314323", "4433344333"), 10: ("4324314323", "44344344333")}
+
+
+def comparing():
+    yield "# how many keys are compared: none of none, and of one to ten each held key and each gap; our own key is one that is not held"
+    for n in (0, 7, TOP):
+        yield search(slim(7), bytes(1000), key(n), "0 0 0")
+    for n, (held, gaps) in COMPARED.items():
+        keys = keys_cache([10 * (i + 1) for i in range(n)])
+        for i in range(n):
+            yield search(slim(7), keys, key(10 * (i + 1)), "0 %d %s" % (i + 1, held[i]))
+        for i in range(n + 1):
+            yield search(slim(7), keys, key(10 * i + 5), "0 0 " + gaps[i])
+        yield search(slim(7), keys, key(7), "0 0 " + gaps[0])
+    yield "# keys 10 20 30 40 50, with the closest record: the same count, whatever is on the path, and whichever record is shown"
+    five = keys_cache([10, 20, 30, 40, 50])
+    two_of = cache([slim(10), put(slim(20), 33, b"\x89"), slim(30), put(slim(40), 33, b"\x89"), slim(50)])
+    for n, steps, shown, left in ((30, 1, 30, 30), (20, 2, 20, 10), (50, 2, 50, 50), (10, 3, 10, 10), (40, 3, 40, 30), (5, 3, 7, 7), (25, 2, 20, 30),
+                                  (35, 3, 30, 30), (45, 3, 40, 50), (55, 2, 50, 50)):
+        yield closest(slim(7), five, key(n), shown, steps=steps)
+        yield closest(slim(7), five, key(n), 7, point(5000, ANY), steps=steps)
+        yield closest(slim(7), two_of, key(n), left, point(5001, ANY), steps=steps)
+    yield closest(slim(7), bytes(1000), key(9), 7, steps=0)
+    yield closest(slim(7), bytes(1000), key(9), 7, point(5000, ANY), steps=0)
+    yield "# as many as there may be, and one less: the digits of 255 are 8, those of 256 are 9"
+    for n, low, high in ((15, 4, 4), (16, 5, 4), (255, 8, 8), (256, 9, 8)):
+        keys = [(i + 1) * 2 ** 246 for i in range(n)]
+        for place, steps in ((0, low), (n // 2, 1), (n - 1, high)):
+            yield search(slim(7), keys_cache(keys, max(n, 10)), key(keys[place]), "0 %d %d" % (place + 1, steps))
+        yield search(slim(7), keys_cache(keys, max(n, 10)), key(7), "0 0 %d" % low)
+        yield search(slim(7), keys_cache(keys, max(n, 10)), key(TOP), "0 0 %d" % high)
+    yield "# keys that differ in their first byte, in their last, at a word's end: less, same and more by the whole key"
+    for bits in (0, 63, 64, 127, 128, 191, 192, 248, 255):
+        low, high = 2 ** 200, 2 ** 200 ^ 2 ** bits
+        three = sorted([low, high])
+        for i, k in enumerate(three):
+            yield search(slim(7), keys_cache(three), key(k), "0 %d %d" % (i + 1, 2 - i))
+            yield search(slim(7), keys_cache([three[1 - i]]), key(k), "0 0 1")
+    yield "# refused: own record, cache, a key that has not 32 bytes"
+    for bad in (bytes(900), cache([70, 60]), cache([100]), cache([record(60, 2)]), b"", put(cache([60]), 999, b"\1")):
+        yield search(OWN, bad, key(60), "1")
+    for bad in (b"", key(60)[:31], key(60) + b"\0"):
+        yield search(OWN, cache([60]), bad, "1")
+    for bad in (b"", OWN[:99], OWN + b"\0", put(OWN, 34, b"\0"), put(OWN, 34, b"\5"), put(OWN, 35, b"\1"), record(100, 2)):
+        yield search(bad, cache([60]), key(60), "1")
+
+
 # 02, request 2, with request 3: from the target's place outwards, past what is on the path. Every slim record has one endpoint: port 5000, zeros.
 def outwards():
     path = point(5000, ANY)
@@ -675,7 +734,7 @@ def ticks():
 def vectors():
     """Headings as strings, vectors as (operands, answer)."""
     for part in (cache_forms, waiting_forms, learning, removing, lists, near, on_the_path, ring_lists, ring_learning, ring_near, halving,
-                 outwards, ticks):
+                 comparing, outwards, ticks):
         yield from part()
 
 
@@ -712,5 +771,5 @@ def check():
 if __name__ == "__main__":
     check()
     lines = [v for v in vectors() if not isinstance(v, str)]
-    names = ("cache-form", "waiting-form", "learn", "remove-key", "neighbours", "closest", "searches", "ticks")
+    names = ("cache-form", "waiting-form", "learn", "remove-key", "neighbours", "closest", "search", "searches", "ticks")
     print("vector_memory: %d vectors, %s" % (len(lines), ", ".join("%d %s" % (sum(v[0][0] == name for v in lines), name) for name in names)))

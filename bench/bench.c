@@ -35,12 +35,13 @@ struct side {
     tick_call *tick;
     neighbours_call *neighbours;
     closest_call *closest;
+    search_call *search;
     look_call *look;
 };
 
 /* A function under the signature of another (bench/empty.c). */
 #define AS(type, function) ((type *)(void (*)(void))(function))
-#define SIDE(name, halves) {#name, halves, name##_receive, name##_send, name##_tick, name##_neighbours, name##_closest, name##_look}
+#define SIDE(name, halves) {#name, halves, name##_receive, name##_send, name##_tick, name##_neighbours, name##_closest, name##_search, name##_look}
 static const struct side sides[] = {
     SIDE(gauge, false),
     SIDE(gcc, false),
@@ -50,7 +51,7 @@ static const struct side sides[] = {
     SIDE(clang_halves, true),
 #endif
     {"empty", false, AS(receive_call, empty_answer), AS(send_call, empty_answer), AS(tick_call, empty_answer), AS(neighbours_call, empty_answer),
-     AS(closest_call, empty_answer), AS(look_call, empty_look)},
+     AS(closest_call, empty_answer), AS(search_call, empty_answer), AS(look_call, empty_look)},
 };
 #define SIDES (sizeof sides / sizeof *sides)
 #define EMPTY (SIDES - 1)
@@ -128,9 +129,14 @@ static struct gauge_answer answered(const struct side *by)
         a = call_neighbours(by->neighbours, &lent);
         end();
         break;
-    default:
+    case CLOSEST:
         begin();
         a = call_closest(by->closest, &lent);
+        end();
+        break;
+    default:
+        begin();
+        a = call_search(by->search, &lent);
         end();
         break;
     }

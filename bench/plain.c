@@ -1,9 +1,11 @@
-/* The seven calls in plain C, written for speed: what the archive is measured against. It makes every test of document 01, with document 02's ring,
- * path and one address, and gives the same numbers and bytes; nothing is written before the last refusal is decided. Numbers are loaded whole and swapped, keys
- * compared by words up to the first that differ, runs of bytes moved by the C library. For x86-64: words are read least significant byte first.
+/* The eight calls in plain C, written for speed: what the archive is measured against. It makes every test of document 01, with document 02's ring,
+ * path, one address and count of keys compared, and gives the same numbers and bytes; nothing is written before the last refusal is decided. Numbers
+ * are loaded whole and swapped, keys compared by words up to the first that differ, runs of bytes moved by the C library. For x86-64: words are read
+ * least significant byte first.
  *
  *   PLAIN    begins the names of the calls
- *   HALVE    keys are searched by halving. Without it one record is looked at after the other up to the key's place, as the archive does. */
+ *   HALVE    keys are searched by halving. Without it one record is looked at after the other up to the key's place, but in the two calls that tell
+ *            how many keys halving compares. */
 #include "plain.h"
 #include <stdbool.h>
 #include <string.h>
@@ -459,6 +461,35 @@ static bool find(const uint8_t *cache, size_t held, const uint8_t *key, size_t *
     return *at < held && same_key(cache + 100 * *at, key);
 }
 
+/* By halving either way: whether the key is held, and where; otherwise where it would stand; and how many keys were compared. */
+struct sought {
+    bool held;
+    size_t at, compared;
+};
+
+static struct sought seek(const uint8_t *cache, size_t held, const uint8_t *key)
+{
+    uint64_t top = big(key);
+    struct sought s = {false, 0, 0};
+    size_t high = held;
+    while (s.at < high) {
+        size_t middle = (s.at + high) / 2;
+        const uint8_t *r = cache + 100 * middle;
+        uint64_t first = big(r);
+        s.compared++;
+        if (first == top && same_rest(r, key)) {
+            s.held = true;
+            s.at = middle;
+            break;
+        }
+        if (less(first, r, top, key))
+            s.at = middle + 1;
+        else
+            high = middle;
+    }
+    return s;
+}
+
 struct key {
     uint64_t a, b, c, d;
 };
@@ -544,13 +575,14 @@ static bool on_path(const struct path *path, const uint8_t *r)
     return false;
 }
 
-/* Keys go round: of those held only the two next to the target can be the closest, and where those are on the path the next ones that are not. */
-static const uint8_t *closest(const uint8_t *own, const uint8_t *cache, size_t held, const struct path *path, const uint8_t *target)
+/* Keys go round: of those held only the two next to the target's place can be the closest, and where those are on the path the next ones that are
+ * not. */
+static const uint8_t *closest(const uint8_t *own, const uint8_t *cache, size_t held, const struct path *path, const uint8_t *target, size_t at)
 {
     struct key goal = key_at(target), ours = key_at(own);
     struct nearest best = {own, {0, 0, 0, 0}, false};
     best.up = apart(&goal, &ours, &best.far);
-    size_t at = below(cache, held, target), down = at, up = at, left = held;
+    size_t down = at, up = at, left = held;
     while (left > 0 && (up = up < held ? up + 1 : 1, on_path(path, cache + 100 * (up - 1))))
         left--;
     if (left == 0)
@@ -875,7 +907,8 @@ static struct gauge_answer answer_inquire(const struct receive *r, const struct 
 static struct gauge_answer answer_lookup(const struct receive *r, const struct message *m)
 {
     struct path path = {r->d + m->path_at, m->path_len};
-    const uint8_t *record = closest(r->own, r->cache, r->held, &path, r->d + m->seen.target_at), *entry = r->d + m->seen.entry_at;
+    const uint8_t *target = r->d + m->seen.target_at, *entry = r->d + m->seen.entry_at;
+    const uint8_t *record = closest(r->own, r->cache, r->held, &path, target, below(r->cache, r->held, target));
     uint32_t size = 68, first = 28 + size, number = first > r->room ? 15 : 0;
     bool opens = false;
     size_t at = 0;
@@ -1001,8 +1034,20 @@ struct gauge_answer CALL(closest)(const uint8_t *own, size_t own_len, const uint
     if (held == NOT_IN_FORM)
         return answer(1, 0, 0);
     struct path points = {path, path_len};
-    const uint8_t *record = closest(own, cache, held, &points, target);
-    return answer(0, record == own ? 0 : 4 + (size_t)(record - cache) / 100, 0);
+    struct sought s = seek(cache, held, target);
+    const uint8_t *record = closest(own, cache, held, &points, target, s.at);
+    return answer(0, record == own ? 0 : 4 + (size_t)(record - cache) / 100, s.compared);
+}
+
+struct gauge_answer CALL(search)(const uint8_t *own, size_t own_len, const uint8_t *cache, size_t cache_len, const uint8_t *key, size_t key_len)
+{
+    if (!own_formed(own, own_len) || key_len != 32)
+        return answer(1, 0, 0);
+    size_t held = cache_form(own, cache, cache_len);
+    if (held == NOT_IN_FORM)
+        return answer(1, 0, 0);
+    struct sought s = seek(cache, held, key);
+    return answer(0, s.held ? s.at + 1 : 0, s.compared);
 }
 
 static void cut(uint8_t *record)

@@ -333,9 +333,21 @@ static void lookup_past(struct scene *s)
     add_lookup(s, NULL);
 }
 
+/* How many of so many records' keys halving compares with a key (document 02, request 8). */
+static uint32_t halvings(const uint8_t *records, size_t n, const uint8_t *key)
+{
+    const uint8_t *middle = records + GAUGE_RECORD_LEN * (n / 2);
+    if (n == 0)
+        return 0;
+    if (key_less(key, middle))
+        return 1 + halvings(records, n / 2, key);
+    return key_less(middle, key) ? 1 + halvings(middle + GAUGE_RECORD_LEN, n - n / 2 - 1, key) : 1;
+}
+
 static void want_place(struct scene *s, const uint8_t *record)
 {
     s->wanted.first = GAUGE_CLOSEST_HELD + (uint32_t)((size_t)(record - s->cache) / GAUGE_RECORD_LEN);
+    s->wanted.second = halvings(s->cache, s->held, s->target);
 }
 
 static void closest(struct scene *s)
@@ -346,6 +358,19 @@ static void closest(struct scene *s)
 static void closest_past(struct scene *s)
 {
     want_place(s, pass_over(s));
+}
+
+static void search(struct scene *s)
+{
+    memcpy(s->key, s->cache + GAUGE_RECORD_LEN * (s->held / 3), GAUGE_KEY_LEN);
+    s->wanted.first = (uint32_t)(s->held / 3) + 1;
+    s->wanted.second = halvings(s->cache, s->held, s->key);
+}
+
+static void search_between(struct scene *s)
+{
+    key_between(s, s->held / 3, s->key);
+    s->wanted.second = halvings(s->cache, s->held, s->key);
 }
 
 static void send_flood(struct scene *s)
@@ -390,7 +415,7 @@ struct kind {
     enum call_kind call;
     bool alike;
     void (*set)(struct scene *);
-    struct gauge_answer wanted; /* `first` of a tick and of a closest goes by the memory */
+    struct gauge_answer wanted; /* `first` of a tick, and both of a closest and of a search, go by the memory */
 };
 
 static const struct kind kinds[] = {
@@ -411,6 +436,8 @@ static const struct kind kinds[] = {
     {"neighbours", NEIGHBOURS, false, nothing_more, {0, 5, 5}},
     {"closest", CLOSEST, false, closest, {0, 0, 0}},
     {"closest, two next on the path", CLOSEST, false, closest_past, {0, 0, 0}},
+    {"search, key held", SEARCH, false, search, {0, 0, 0}},
+    {"search, key between two", SEARCH, false, search_between, {0, 0, 0}},
     {"look at a LOOKUP", LOOK, false, lookup, {0, GAUGE_LOOKUP, 0}},
     {"look at a FLOOD", LOOK, false, flood_new, {0, GAUGE_FLOOD, 0}},
     {"refused 1: own record", RECEIVE, false, own_unfit, {GAUGE_MEMORY, 0, 0}},

@@ -218,13 +218,14 @@ static size_t some_room(struct call *c)
     return way == 18 || percent(50) ? need - 1 : under(need);
 }
 
-/* By a draw of 100. */
-static enum call_kind some_kind(uint32_t way)
+/* How often each call is drawn, of 100: up to the number beside it, from that of the one before. */
+static enum call_kind some_kind(void)
 {
     const struct {
         uint32_t below;
         enum call_kind kind;
     } kinds[] = {{64, RECEIVE}, {72, SEND}, {72 + ticks, TICK}, {80, NEIGHBOURS}, {85, CLOSEST}, {90, SEARCH}, {94, CONVERT}, {100, LOOK}};
+    uint32_t way = under(100);
     size_t i = 0;
     while (way >= kinds[i].below)
         i++;
@@ -234,9 +235,8 @@ static enum call_kind some_kind(uint32_t way)
 void make_call(struct call *c)
 {
     uint8_t b[GAUGE_CPA_MOST], key[GAUGE_KEY_LEN];
-    uint32_t way = under(100);
     memset(c, 0, sizeof *c);
-    c->kind = some_kind(way);
+    c->kind = some_kind();
     c->lent = lend_gauge();
     c->lent.major = percent(3) ? any() : own_major;
     c->filled = any();

@@ -386,7 +386,8 @@ struct gauge_answer gauge_closest(const uint8_t *own, size_t own_len, const uint
  * 10 and 40 3. Of no key at all it is 0, of one 1, and of n at most as many as n has binary digits: 8 for 255, 9
  * (GAUGE_COMPARED_MOST) for 256.
  *
- * The other calls search the cache in the same way, and do not tell how many keys they compared.
+ * gauge_closest tells the same of its target. The other calls search the cache in the same way, and do not tell how
+ * many keys they compared.
  *
  * Gives GAUGE_OK or GAUGE_MEMORY. */
 struct gauge_answer gauge_search(const uint8_t *own, size_t own_len, const uint8_t *cache, size_t cache_len,

@@ -8,7 +8,7 @@ use Rattle.octet.specs.Part.{part}
 use Rattle.key.specs.Number.{keyAt}
 use Rattle.key.proofs.OrderLaws.{test-more}
 use Rattle.cache.specs.Place.{Carried}
-use Rattle.cache.proofs.SeekLaws.{first-more}
+use Rattle.search.proofs.SeekLaws.{first-more}
 use Rattle.cache.proofs.ShapeLaws.{low-first, low-next, low-words}
 use borrow.Author.Needs.{needs}
 use Rattle.cache.proofs.shape.above_before.Statement.{statement}

@@ -10,7 +10,6 @@ use Rattle.key.proofs.OrderLaws.{test-more}
 use Rattle.cache.specs.Place.{Carried}
 use Rattle.search.proofs.SeekLaws.{first-more}
 use Rattle.cache.proofs.ShapeLaws.{low-first, low-next, low-words}
-use borrow.Author.Needs.{needs}
 use Rattle.cache.proofs.shape.above_before.Statement.{statement}
 use Rattle.cache.proofs.shape.above_before.Tie as tie
 

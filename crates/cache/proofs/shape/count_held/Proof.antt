@@ -4,8 +4,6 @@ use Prim.Native.Nat.{_+_, _-_, _/_, _≤_}
 use native.Mathlib.Nat.{zero-add}
 use lib.ListN.{length, drop}
 use borrow.Author.Tests.{not-true, not-false}
-use Rattle.octet.specs.Number.{valueBE}
-use Rattle.octet.specs.Part.{part}
 use Rattle.table.specs.Rows.{rows}
 use Rattle.cache.specs.Place.{ordered, lowAt, Carried}
 use Rattle.cache.proofs.ShapeLaws.{carried-next}

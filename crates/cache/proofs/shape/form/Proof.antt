@@ -1,5 +1,5 @@
 -- `cache::shape::form` meets its contract: each test of the size refuses; then so many places are counted, the rest is zero or not, and our own key among theirs or not. Assumes nothing.
-use mathlib.Core.Path.{_≡_, sym, ap, _∙_}
+use mathlib.Core.Path.{sym, ap, _∙_}
 use mathlib.Core.Bool.{Bool, cond}
 use Prim.Native.Nat.{_/_, _≤_}
 use lib.ListN.{length}

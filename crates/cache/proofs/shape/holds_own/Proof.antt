@@ -1,7 +1,5 @@
 -- `cache::shape::holds_own` meets its contract: the search by halving finds it or not. Assumes nothing.
 use mathlib.Core.Path.{_≡_, sym, ap, _∙_}
-use mathlib.Core.List.{List}
-use Prim.Native.Nat.{ℕ, _*_}
 use Rattle.record.specs.Record.{keyOf}
 use Rattle.table.specs.Rows.{rows}
 use Rattle.kept.specs.Keys.{has}

@@ -1,6 +1,6 @@
 -- `waiting::seek::find_inquiry` meets its contract: the answer is always the answer for what is left. Assumes nothing.
 use mathlib.Core.Path.{_≡_, refl, sym, _∙_}
-use Prim.Native.Nat.{_*_, _-_, _≤_}
+use Prim.Native.Nat.{_-_, _≤_}
 use native.Mathlib.Omega.{arith}
 use lib.ListN.{drop}
 use Rattle.key.specs.Number.{keyAt}

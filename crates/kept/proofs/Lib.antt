@@ -11,3 +11,7 @@ pub mod SplitLaws
 pub mod TurnLaws
 pub mod PlaceLaws
 pub mod CallLaws
+pub mod PondLaws
+pub mod PondRuleLaws
+pub mod PondPlaceLaws
+pub mod PondCaseLaws

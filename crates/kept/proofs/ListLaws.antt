@@ -7,7 +7,7 @@ use mathlib.Core.List.{List, [], _∷_}
 use Prim.Native.Nat.{ℕ, zero, suc, _≤_, _<_}
 use native.Mathlib.Omega.{arith}
 use lib.Dec.{eqb}
-use lib.ListN.{length, take}
+use lib.ListN.{length, take, getD}
 use borrow.Author.Tests.{eq-eqb, ne-eqb, eqb-true}
 use Rattle.kept.specs.Keys.{_∈_, has, Every, Rising, put, among, lastOr}
 use Rattle.kept.proofs.PutLaws.{Tri, less, same, more, tri, put-nil, put-less, put-more, put-same}
@@ -37,6 +37,11 @@ mem-take zero k l m = absurd m
 mem-take (suc n) k [] m = absurd m
 mem-take (suc n) k (j ∷ l) (inl e) = inl e
 mem-take (suc n) k (j ∷ l) (inr m) = inr (mem-take n k l m)
+
+pub in-getD : (l : List ℕ) (i : ℕ) → i < length l → getD l i 0 ∈ l
+in-getD [] i h = absurd (omega arith)
+in-getD (x ∷ l) zero h = inl refl
+in-getD (x ∷ l) (suc i) h = inr (in-getD l i (omega arith))
 
 -- the test decides it
 pub has-in : (k : ℕ) (l : List ℕ) → k ∈ l → has k l ≡ true

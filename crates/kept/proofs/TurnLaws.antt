@@ -24,7 +24,7 @@ use Rattle.kept.proofs.PutLaws.{Tri, less, same, more, tri}
 use Rattle.kept.proofs.RankedLaws.{ranked, mem-inOrder, mem-ranked, ranked-mem, ranked-rises}
 use Rattle.kept.proofs.HistoryLaws.{is-side, on, apart}
 use Rattle.kept.proofs.Demand3Laws.{plain-order}
-use Rattle.kept.proofs.ListLaws.{Test, pass, fail, test, every-at, every-of, rising-at, rising-ext, mem-take, mem-among, among-pass, among-fail}
+use Rattle.kept.proofs.ListLaws.{Test, pass, fail, test, every-at, every-of, in-getD, rising-at, rising-ext, mem-take, mem-among, among-pass, among-fail}
 use Rattle.kept.proofs.SplitLaws.{put-last, inOrder-rising, rising-among, among-none, among-all, among-append, rising-raise, last-getD, last-reverse}
 
 -- ---- members of two lists after each other
@@ -221,6 +221,9 @@ module _ (own : ℕ) (o : own < ring) (keys : List ℕ) (rises : Rising plain 0 
   pub going-has : (k : ℕ) → k ∈ keys → k ∈ goingUp own keys
   going-has k i = rw turned-is (round-has k i)
 
+  pub has-going : (k : ℕ) → k ∈ goingUp own keys → k ∈ keys
+  has-going k i = has-round k (rw turned-is at i)
+
   -- the first that is reached by going up is at the start, the first by going down at the end
   pub next-up : (k : ℕ) → k ∈ keys → up own (getD (goingUp own keys) 0 0) ≤ up own k
   next-up k i = first-least (up own) 0 k (goingUp own keys) going-rises (going-has k i)
@@ -349,6 +352,30 @@ module _ (own : ℕ) (o : own < ring) (keys : List ℕ) (rises : Rising plain 0 
     drop-above =
         ap (drop (length keys - countBelow own keys)) (turned-is ∙ sym sides)
         ∙ drop-at (onSide (sideOf own) above round) (onSide (sideOf own) below round) (length keys - countBelow own keys) many-above
+
+    -- by place: the first of them are above our own key, the others below
+    pub place-above : (i : ℕ) → i < length keys - countBelow own keys → isAbove own (getD (goingUp own keys) i 0) ≡ true
+    place-above i h =
+        let l : List ℕ = onSide (sideOf own) above round in
+        let e : getD (goingUp own keys) i 0 ≡ getD l i 0 =
+        sym (getD-take (length keys - countBelow own keys) (goingUp own keys) i 0 h) ∙ ap (λ (t : List ℕ). getD t i 0) take-above in
+        rw e (sym (on-above (getD l i 0)) ∙ mem-among (on (sideOf own) above) (getD l i 0) round (in-getD l i (omega (arith, many-above))) .1)
+
+    pub place-below : (i : ℕ) → length keys - countBelow own keys ≤ i → i < length keys → isAbove own (getD (goingUp own keys) i 0) ≡ false
+    place-below i h g =
+        let a : ℕ = length keys - countBelow own keys in
+        let l : List ℕ = onSide (sideOf own) below round in
+        let n : a + (i - a) ≡ i = omega arith in
+        let e : getD (goingUp own keys) i 0 ≡ getD l (i - a) 0 =
+        ap (λ (j : ℕ). getD (goingUp own keys) j 0) (sym n) ∙ sym (getD-drop a (goingUp own keys) (i - a) 0)
+        ∙ ap (λ (t : List ℕ). getD t (i - a) 0) drop-above in
+        let m = mem-among (on (sideOf own) below) (getD l (i - a) 0) round
+        (in-getD l (i - a) (omega (arith, count-round (on (sideOf own) below), all-of-them))) in
+        rw e (sym (on-above (getD l (i - a) 0)) ∙ flip (on (sideOf own) above (getD l (i - a) 0)) (sym (on-below (getD l (i - a) 0)) ∙ m .1))
+      where
+        flip : (b : Bool) → not b ≡ true → b ≡ false
+        flip true e = sym e
+        flip false e = refl
 
     -- how many are below, by plain order: one search for our own key, and one for the point opposite among those over it or those under it
     over-are : drop (countUnder own keys) keys ≡ high

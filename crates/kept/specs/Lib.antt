@@ -3,6 +3,7 @@ pub mod Neighbours
 pub mod History
 pub mod Rules
 pub mod Plain
+pub mod Ponds
 pub mod Turned
 pub mod Records
 pub mod Calls

@@ -1,6 +1,6 @@
 -- Helps the code. The cache keeps plain key order; the keys read round the ring, from the first above our own number on. Assumes nothing.
-use Prim.Native.Nat.{ℕ, _-_}
-use mathlib.Core.Bool.{cond}
+use Prim.Native.Nat.{ℕ, _+_, _-_}
+use mathlib.Core.Bool.{Bool, cond}
 use mathlib.Core.List.{List, _++_}
 use lib.Dec.{leb, ltb}
 use lib.ListN.{length, take, drop}
@@ -25,3 +25,9 @@ goingUp own keys = turned (countUnder own keys) keys
 -- place i of n, counted on round: i is less than 2 n
 unfoldable pub wrapped : ℕ → ℕ → ℕ
 wrapped n i = cond (ltb i n) i (i - n)
+
+-- is place x of n among the five from a place on or the five before it, counted round, where so many are before it? At most those are that there are
+abbrev pub inRun : ℕ → ℕ → ℕ → ℕ → Bool
+inRun n x first before =
+    let i = wrapped n (x + (n - first)) in
+    cond (ltb i (n - before)) (ltb i 5) (ltb ((n - 1) - i) 5)

@@ -25,10 +25,12 @@ use Rattle.path.specs.Path.{onPath}
 use Rattle.cache.specs.Form.{keysOf, HeldRecords}
 use Rattle.cache.proofs.FormLaws.{key-of-row}
 use Rattle.neighbours.specs.Closest.{candidates, offPath, closestOf}
-use Rattle.neighbours.specs.Where.{passOver, stepsUp, stepsDown, skipsAt, skippedUp, skippedDown, recordAt, nearestOf}
+use Rattle.round.specs.Over.{passOver}
+use Rattle.neighbours.specs.Where.{stepsUp, stepsDown, skipsAt, skippedUp, skippedDown, recordAt, nearestOf}
 use Rattle.neighbours.proofs.ListLaws.{key-round}
 use Rattle.neighbours.proofs.ClosestLaws.{held-key, one-held}
-use Rattle.neighbours.proofs.SkipLaws.{over-before, over-at, off-has, has-off, off-held, keys-off, off-none}
+use Rattle.round.proofs.OverLaws.{over-before, over-at}
+use Rattle.neighbours.proofs.SkipLaws.{off-has, has-off, off-held, keys-off, off-none}
 use Rattle.neighbours.proofs.BesideLaws.{getD-in, row-in, nearest-closest}
 
 -- ---- places in a list that rises

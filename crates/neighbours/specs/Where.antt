@@ -1,6 +1,6 @@
 -- Helps the code. Where the closest record stands: the first places on the two sides of the target whose records are not on the path, and which of our own and those
 -- of two places it is. Assumes nothing.
-use Prim.Native.Nat.{ℕ, zero, suc, _+_, _-_, _*_, _<_}
+use Prim.Native.Nat.{ℕ, _+_, _-_, _*_, _<_}
 use mathlib.Core.Bool.{Bool, cond}
 use mathlib.Core.List.{List}
 use Rattle.octet.specs.Part.{part}
@@ -8,13 +8,9 @@ use Rattle.key.specs.Number.{keyAt}
 use Rattle.key.specs.Around.{closer}
 use Rattle.kept.specs.Turned.{wrapped}
 use Rattle.path.specs.Path.{onPath}
+use Rattle.round.specs.Over.{passOver}
 use Rattle.neighbours.specs.declared.nearest.Where.{Where}
 use Rattle.neighbours.specs.declared.nearest.Where.the-variants.{Own, Held}
-
--- of n numbers from i on, the first at which the test fails; the one behind them where it holds at all
-unfoldable pub passOver : (ℕ → Bool) → ℕ → ℕ → ℕ
-passOver f i zero = i
-passOver f i (suc n) = cond (f i) (passOver f (suc i) n) i
 
 -- of n places, the one i steps up from a place, counted round, and i steps down from before it
 abbrev pub stepsUp : ℕ → ℕ → ℕ → ℕ

@@ -1,1 +1,2 @@
 pub mod Farthest
+pub mod Over

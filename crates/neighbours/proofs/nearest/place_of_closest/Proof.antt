@@ -19,8 +19,9 @@ use Rattle.kept.specs.Turned.{countUnder}
 use Rattle.cache.specs.Form.{keysOf}
 use Rattle.cache.proofs.FormLaws.{form-laid, keys-small}
 use Rattle.neighbours.specs.Closest.{candidates, closestFrom, closestOf}
-use Rattle.neighbours.specs.Where.{passOver, stepsUp, stepsDown, skipsAt, skippedUp, skippedDown, recordAt, nearestOf}
-use Rattle.neighbours.proofs.SkipLaws.{over-le}
+use Rattle.round.specs.Over.{passOver}
+use Rattle.neighbours.specs.Where.{stepsUp, stepsDown, skipsAt, skippedUp, skippedDown, recordAt, nearestOf}
+use Rattle.round.proofs.OverLaws.{over-le}
 use Rattle.neighbours.proofs.BesideLaws.{nearest-within}
 use Rattle.neighbours.proofs.SidesLaws.{place-most, none-left, under-less, sides-closest}
 use Rattle.neighbours.proofs.nearest.place_of_closest.Statement.{statement}

@@ -1,4 +1,4 @@
--- Demand 3, proved: in general, and for plain number order with document 01's drop rule.
+-- Demand 3, proved in general, and that the order around a key is one. Elsewhere: for our own keys and the rule by which we drop, in PondRuleLaws.
 -- Assumes nothing.
 use mathlib.Core.Path.{_≡_, refl, sym, _∙_, ap}
 use mathlib.Core.List.{List, []}
@@ -8,12 +8,9 @@ use Rattle.key.proofs.AroundLaws.{side-near}
 use Rattle.kept.specs.Neighbours.{neighboursBy}
 use Rattle.kept.specs.History.{Event, keptBy, learnedAll, Learns, NoRemoval}
 use Rattle.kept.specs.Rules.{Order, DropRule}
-use Rattle.kept.specs.Plain as Plain
-use Rattle.kept.specs.Plain.{NotOwn}
-use Rattle.kept.specs.Demand3.{Demand3-holds, Same-keys-same-neighbours, Plain-demand3, Plain-same-keys-same-neighbours}
+use Rattle.kept.specs.Demand3.{Demand3-holds, Same-keys-same-neighbours}
 use Rattle.kept.proofs.ListLaws.{Test, pass, fail, test}
 use Rattle.kept.proofs.HistoryLaws.{Fine, nothing-fine, neighbours-right, neighbours-only, after-fine, after-length, after-same, learned-has, learned-from, learned-fine, learned-same}
-use Rattle.kept.proofs.FarthestLaws.{farthest-rule}
 
 -- the neighbours among the kept keys are those among all the keys learned
 kept-same : (ok : ℕ → Type 0) (side : ℕ → Side) (near : ℕ → ℕ) → Order ok side near → (drops : List ℕ → ℕ) (C : ℕ) → DropRule ok side near drops C
@@ -46,23 +43,11 @@ same-keys-same-neighbours ok side near order drops drops′ C C′ rule rule′ 
 
 -- the order around our own key ----------------------------------------------------------------------------------------------------
 
-pub plain-order : (own : ℕ) → Order (NotOwn own) (sideOf own) (nearness own)
-plain-order own = record { apart = λ a b u v e d. side-near own a b (go a b (test (isAbove own a)) (test (isAbove own b)) e) d }
+pub plain-order : (ok : ℕ → Type 0) (own : ℕ) → Order ok (sideOf own) (nearness own)
+plain-order ok own = record { apart = λ a b u v e d. side-near own a b (go a b (test (isAbove own a)) (test (isAbove own b)) e) d }
   where
     go : (a b : ℕ) → Test (isAbove own a) → Test (isAbove own b) → sideOf own a ≡ sideOf own b → isAbove own a ≡ isAbove own b
     go a b (pass x) (pass y) e = x ∙ sym y
     go a b (fail x) (fail y) e = x ∙ sym y
     go a b (pass x) (fail y) e = let z : _≡_ {A = Side} above below = rw (x, y) at e in cc
     go a b (fail x) (pass y) e = let z : _≡_ {A = Side} below above = rw (x, y) at e in cc
-
-pub plain-demand3 : Plain-demand3
-plain-demand3 own C c events o =
-    demand3 (NotOwn own) (sideOf own) (nearness own) (Plain.drops own) C (plain-order own)
-    (farthest-rule (NotOwn own) (sideOf own) (nearness own) (plain-order own) C c) events o
-
-pub plain-same-keys-same-neighbours : Plain-same-keys-same-neighbours
-plain-same-keys-same-neighbours own C C′ c c′ es ds o same calm calm′ s =
-    same-keys-same-neighbours (NotOwn own) (sideOf own) (nearness own) (plain-order own) (Plain.drops own) (Plain.drops own) C C′
-    (farthest-rule (NotOwn own) (sideOf own) (nearness own) (plain-order own) C c)
-    (farthest-rule (NotOwn own) (sideOf own) (nearness own) (plain-order own) C′ c′)
-    es ds o same calm calm′ s

@@ -4,7 +4,6 @@ pub mod WithoutLaws
 pub mod RankedLaws
 pub mod RemovalLaws
 pub mod HistoryLaws
-pub mod FarthestLaws
 pub mod Demand3Laws
 pub mod RecordLaws
 pub mod SplitLaws

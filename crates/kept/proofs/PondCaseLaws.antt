@@ -1,7 +1,7 @@
 -- The drop rule of several own keys on worked cases, computed: cases 3, 4 and 5 of document 01, and two more. Assumes nothing.
 use mathlib.Core.Path.{_≡_, refl}
-use mathlib.Core.List.{[], _∷_}
-use Prim.Native.Nat.{_-_, _^_}
+use mathlib.Core.List.{List, [], _∷_}
+use Prim.Native.Nat.{ℕ, _-_, _^_}
 use Rattle.key.specs.Number.{distance}
 use Rattle.key.specs.Around.{ring, half, areKeys, up, isAbove, nearness, apart}
 use Rattle.kept.specs.Keys.{has, put, among, inOrder}

@@ -1,8 +1,8 @@
 -- Which keys are in a neighbour list, by their places round the ring; and the farthest of a list.
 -- In this order: lists whose places differ; the neighbour list of one own key, by places; the farthest of a list. Assumes nothing.
-use mathlib.Core.Path.{_≡_, refl, sym, ap, ap₂, _∙_}
+use mathlib.Core.Path.{_≡_, refl, sym, ap, ap₂, _∙_, subst}
 use mathlib.Core.Logic.{_⊎_, inl, inr}
-use mathlib.Core.Bool.{Bool, true, false, cond, _||_}
+use mathlib.Core.Bool.{Bool, true, false, not, cond, _||_}
 use mathlib.Core.List.{List, [], _∷_, _++_, reverse}
 use Prim.Native.Nat.{ℕ, zero, suc, _+_, _-_, _≤_, _<_, min}
 use native.Mathlib.Omega.{arith}
@@ -12,8 +12,8 @@ use lib.ListN.{length, take, getD, length-reverse}
 use borrow.Author.Tests.{lt-ltb, le-ltb, ltb-true, ltb-false, eq-eqb, ne-eqb}
 use Rattle.key.specs.Around.{below, above, ring, up, apart}
 use Rattle.kept.specs.Keys.{_∈_, has, Every, Rising, plain, among}
-use Rattle.kept.specs.Plain.{NotOwn, countBelow, neighbours, neighbourList}
-use Rattle.kept.specs.Turned.{wrapped, countUnder, goingUp, inRun}
+use Rattle.kept.specs.Plain.{countBelow, neighbours, neighbourList}
+use Rattle.kept.specs.Turned.{NotKey, turned, wrapped, countUnder, goingUp, inRun}
 use Rattle.kept.specs.Ponds.{farthestFrom}
 use Rattle.kept.proofs.PutLaws.{Tri, less, same, more, tri}
 use Rattle.kept.proofs.ListLaws.{Test, pass, fail, test, in-getD, rising-at}
@@ -114,7 +114,7 @@ five-each n i b h g = go (decLt i (n - b))
         (or-none (ltb ((n - 1) - i) (min 5 b)) ∙ least ((n - 1) - i) (min 5 b) 5 (λ m. omega arith) (λ m. omega arith))
 
 module _ (own : ℕ) (o : own < ring) (keys : List ℕ) (rises : Rising plain 0 keys) (small : Every (λ (k : ℕ). k < ring) keys)
-    (others : Every (NotOwn own) keys) where
+    (others : Every (NotKey own) keys) where
   pub in-run : (x : ℕ) → x < length keys
       → has (getD keys x 0) (neighbourList own keys)
       ≡ inRun (length keys) x (countUnder own keys) (countBelow own keys)

@@ -1,18 +1,18 @@
 -- Which place goes under several own keys. Those farthest from the first of them stand beside the point opposite it: it is the first that is in
 -- no list on one of the two ways out from there. In this order: lists by place; how far the keys are; the key that goes; its place. Assumes nothing.
-use mathlib.Core.Path.{_≡_, refl, sym, ap, _∙_}
+use mathlib.Core.Path.{_≡_, refl, sym, ap, _∙_, subst}
 use mathlib.Core.Logic.{_⊎_, inl, inr}
 use mathlib.Core.Bool.{Bool, true, false, not}
 use mathlib.Core.List.{List, [], _∷_}
 use Prim.Native.Nat.{ℕ, zero, suc, _+_, _-_, _*_, _≤_, _<_}
 use native.Mathlib.Omega.{arith}
 use lib.ListN.{length, getD}
-use Rattle.key.specs.Around.{ring, up, apart}
+use Rattle.key.specs.Around.{ring, up, isAbove, nearness, apart}
 use Rattle.key.proofs.RingLaws.{up-back}
 use Rattle.key.proofs.AroundLaws.{near-up, near-down, near-apart}
 use Rattle.kept.specs.Keys.{_∈_, Every, Rising, plain, among}
-use Rattle.kept.specs.Plain.{NotOwn, countBelow}
-use Rattle.kept.specs.Turned.{goingUp, countUnder}
+use Rattle.kept.specs.Plain.{countBelow}
+use Rattle.kept.specs.Turned.{NotKey, goingUp, countUnder}
 use Rattle.kept.specs.Ponds.{isListed, spare, farthestFrom, dropsOf}
 use Rattle.kept.proofs.PutLaws.{Tri, less, same, more, tri}
 use Rattle.kept.proofs.ListLaws.{every-at, every-of, in-getD, rising-at, mem-among, among-pass, among-fail, Test, pass, fail, test}
@@ -60,7 +60,7 @@ abbrev pub keyUp : ℕ → List ℕ → ℕ → ℕ
 keyUp own keys i = getD (goingUp own keys) i 0
 
 module _ (own : ℕ) (o : own < ring) (keys : List ℕ) (rises : Rising plain 0 keys) (small : Every (λ (k : ℕ). k < ring) keys)
-    (others : Every (NotOwn own) keys) where
+    (others : Every (NotKey own) keys) where
   key-in : (i : ℕ) → i < length keys → keyUp own keys i ∈ keys
   key-in i h =
       has-going own o keys rises small (keyUp own keys i) (in-getD (goingUp own keys) i (omega (arith, turned-length (countUnder own keys) keys)))
@@ -89,7 +89,7 @@ module _ (own : ℕ) (o : own < ring) (keys : List ℕ) (rises : Rising plain 0 
   back i h =
       let m = key-in i h in
       up-back own (keyUp own keys i) o (every-at _ (keyUp own keys i) keys small m)
-      (λ e. every-at (NotOwn own) (keyUp own keys i) keys others m (sym e)) .0
+      (λ e. every-at (NotKey own) (keyUp own keys i) keys others m (sym e)) .0
 
   farther-below : (i j : ℕ) → length keys - countBelow own keys ≤ i → i < j → j < length keys
       → apart own (keyUp own keys j) < apart own (keyUp own keys i)
@@ -133,7 +133,7 @@ module _ (first : ℕ) (owns keys : List ℕ) (ours : first ∈ owns) (rises : R
       pub listed : (i : ℕ) → u ≤ i → i < v → isListed owns keys (keyUp first keys i) ≡ true
 
     -- no key is our first own
-    apart-all : Every (NotOwn first) keys
+    apart-all : Every (NotKey first) keys
     apart-all = every-of _ keys (λ k m. not-first k m)
 
     spare-place : (i : ℕ) → i < length keys → isListed owns keys (keyUp first keys i) ≡ false → keyUp first keys i ∈ spare owns keys

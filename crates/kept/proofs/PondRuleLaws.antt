@@ -3,11 +3,11 @@
 use mathlib.Core.Path.{_≡_, refl, sym, ap, _∙_}
 use mathlib.Core.Logic.{_⊎_, inl, inr}
 use mathlib.Core.Bool.{Bool, true, false, not, cond, _||_}
-use mathlib.Core.List.{List, [], _∷_}
+use mathlib.Core.List.{List, [], _∷_, _++_}
 use Prim.Native.Nat.{ℕ, suc, _+_, _*_, _≤_, _<_}
 use native.Mathlib.Omega.{arith}
 use lib.Dec.{eqb}
-use lib.ListN.{length, length-append, length-take}
+use lib.ListN.{length, take, length-append, length-take}
 use borrow.Author.Tests.{eqb-true, ne-eqb}
 use Rattle.key.specs.Around.{Side, below, above, ring, sideOf, nearness, apart}
 use Rattle.key.specs.Number.{distance}
@@ -17,14 +17,13 @@ use Rattle.key.proofs.RingLaws.Stands.{round, line}
 use Rattle.key.proofs.AroundLaws.{apart-round}
 use Rattle.kept.specs.Keys.{_∈_, has, Every, Rising, plain, among}
 use Rattle.kept.specs.Neighbours.{nearestFirst}
-use Rattle.kept.specs.Plain.{neighbours, neighbourList}
-use Rattle.kept.specs.History.{Event, Learns}
-use Rattle.kept.specs.Rules.{DropRule}
-use Rattle.kept.specs.Demand3.{KeysDemand3}
+use Rattle.kept.specs.Plain.{NotOwn, firstOf, neighbours, neighbourList, drops}
+use Rattle.kept.specs.Rules.{Order, DropRule}
+use Rattle.kept.specs.Demand3.{Plain-demand3, Plain-same-keys-same-neighbours}
 use Rattle.kept.specs.Ponds.{isListed, spare, farthestFrom, dropsOf}
 use Rattle.kept.proofs.ListLaws.{Test, pass, fail, test, every-at, every-of, rising-at, has-in, mem-among, among-pass, among-fail}
 use Rattle.kept.proofs.SplitLaws.{among-none}
-use Rattle.kept.proofs.Demand3Laws.{demand3, plain-order}
+use Rattle.kept.proofs.Demand3Laws.{demand3, same-keys-same-neighbours, plain-order}
 use Rattle.kept.proofs.TurnLaws.{append-left, append-right, among-both}
 use Rattle.kept.proofs.PondLaws.{farthest-in, farthest-all}
 
@@ -168,10 +167,18 @@ ponds-rule first owns C f c own w =
 
 -- ---- demand 3 for each own key
 
-pub ponds-demand3 : (first : ℕ) (owns : List ℕ) (C : ℕ) → first ∈ owns → 10 * length owns ≤ C
-    → (events : List Event) → ((k : ℕ) → Learns k events → ¬ (k ∈ owns)) → (own : ℕ) → own ∈ owns
-    → KeysDemand3 (λ (k : ℕ). ¬ (k ∈ owns)) (sideOf own) (nearness own) (dropsOf first owns) C events
-ponds-demand3 first owns C f c events o own w =
-    demand3 (λ (k : ℕ). ¬ (k ∈ owns)) (sideOf own) (nearness own) (dropsOf first owns) C
-    (record { apart = λ a b u v e d. plain-order own .apart a b (λ q. u (rw q w)) (λ q. v (rw q w)) e d })
-    (ponds-rule first owns C f c own w) events o
+first-in : (own : List ℕ) (k : ℕ) → k ∈ own → firstOf own ∈ own
+first-in [] k m = absurd m
+first-in (j ∷ own) k m = inl refl
+
+pub plain-rule : (own : List ℕ) (C : ℕ) → 10 * length own ≤ C → (k : ℕ) → k ∈ own → DropRule (NotOwn own) (sideOf k) (nearness k) (drops own) C
+plain-rule own C c k w = ponds-rule (firstOf own) own C (first-in own k w) c k w
+
+pub plain-demand3 : Plain-demand3
+plain-demand3 own C c events o k w =
+    demand3 (NotOwn own) (sideOf k) (nearness k) (drops own) C (plain-order (NotOwn own) k) (plain-rule own C c k w) events o
+
+pub plain-same-keys-same-neighbours : Plain-same-keys-same-neighbours
+plain-same-keys-same-neighbours own C C′ c c′ es ds o same calm calm′ k w s =
+    same-keys-same-neighbours (NotOwn own) (sideOf k) (nearness k) (plain-order (NotOwn own) k) (drops own) (drops own) C C′
+    (plain-rule own C c k w) (plain-rule own C′ c′ k w) es ds o same calm calm′ s

@@ -1,22 +1,21 @@
 -- The definitions in the form in which code meets them, round the ring. Keys that strictly increase, read from the first number above our own on and then from
--- the start, rise by the steps up from our own key: so the first of them are above it, and the others, from the last back, below. What is dropped is the last
--- above or the first below. In this order: lists that rise by two measures; a rising list in two parts; the keys read round the ring. Assumes nothing.
+-- the start, rise by the steps up from our own key: so the first of them are above it, and the others, from the last back, below. In this
+-- order: lists that rise by two measures; a rising list in two parts; the keys read round the ring. Assumes nothing.
 use mathlib.Core.Path.{_≡_, refl, sym, _∙_, ap, ap₂, subst}
 use mathlib.Core.Logic.{_⊎_, inl, inr}
 use mathlib.Core.Bool.{Bool, true, false, not, cond}
-use mathlib.Core.List.{List, [], _∷_, _++_, reverse, reverse-cons, reverse-append, append-nil}
+use mathlib.Core.List.{List, [], _∷_, _++_, reverse, reverse-cons, reverse-append}
 use Prim.Native.Nat.{ℕ, zero, suc, _+_, _-_, _≤_, _<_, min, zero-le}
-use native.Mathlib.Nat.{add-zero}
 use native.Mathlib.Omega.{arith}
 use lib.Dec.{leb, ltb}
 use lib.ListN.{length, take, drop, getD, length-append, length-take, length-reverse}
 use lib.Seq.{take-at, drop-at, getD-take, getD-drop, take-nil, take-append-le}
-use borrow.Author.Tests.{le-leb, lt-leb, leb-true, leb-false, ltb-true, ltb-false, lt-ltb, le-ltb}
-use Rattle.kept.specs.Keys.{_∈_, Every, Rising, plain, among, inOrder, lastOr}
+use borrow.Author.Tests.{lt-leb, leb-false, ltb-true, ltb-false, le-ltb}
+use Rattle.kept.specs.Keys.{_∈_, Every, Rising, plain, among, inOrder}
 use Rattle.key.specs.Around.{Side, below, above, ring, half, up, isAbove, sideOf, nearness}
-use Rattle.kept.specs.Neighbours.{onSide, farthestOut}
-use Rattle.kept.specs.Plain.{NotOwn, drops, countBelow, neighbours}
-use Rattle.kept.specs.Turned.{turned, countUnder, countUpto, goingUp}
+use Rattle.kept.specs.Neighbours.{onSide}
+use Rattle.kept.specs.Plain.{countBelow, neighbours}
+use Rattle.kept.specs.Turned.{NotKey, turned, countUnder, countUpto, goingUp}
 use Rattle.key.proofs.RingLaws.{up-straight, up-over, up-back}
 use Rattle.key.specs.Across.{across}
 use Rattle.key.proofs.AroundLaws.{above-half, near-up, near-down, low-over, low-under, high-over, high-under}
@@ -25,7 +24,7 @@ use Rattle.kept.proofs.RankedLaws.{ranked, mem-inOrder, mem-ranked, ran
 use Rattle.kept.proofs.HistoryLaws.{is-side, on, apart}
 use Rattle.kept.proofs.Demand3Laws.{plain-order}
 use Rattle.kept.proofs.ListLaws.{Test, pass, fail, test, every-at, every-of, in-getD, rising-at, rising-ext, mem-take, mem-among, among-pass, among-fail}
-use Rattle.kept.proofs.SplitLaws.{put-last, inOrder-rising, rising-among, among-none, among-all, among-append, rising-raise, last-getD, last-reverse}
+use Rattle.kept.proofs.SplitLaws.{put-last, inOrder-rising, rising-among, among-none, among-all, among-append, rising-raise}
 
 -- ---- members of two lists after each other
 
@@ -233,11 +232,11 @@ module _ (own : ℕ) (o : own < ring) (keys : List ℕ) (rises : Rising plain 0 
 
   -- ---- where our own key is not among them: the two sides
 
-  module _ (others : Every (NotOwn own) keys) where
+  module _ (others : Every (NotKey own) keys) where
     other : (k : ℕ) → k ∈ round → ¬ (k ≡ own)
-    other k i = every-at (NotOwn own) k keys others (has-round k i)
+    other k i = every-at (NotKey own) k keys others (has-round k i)
 
-    round-others : Every (NotOwn own) round
+    round-others : Every (NotKey own) round
     round-others = every-of _ round other
 
     is-over : (k : ℕ) → k ∈ high → (own < k) × (k < ring)
@@ -276,13 +275,13 @@ module _ (own : ℕ) (o : own < ring) (keys : List ℕ) (rises : Rising plain 0 
     ranked-round : (s : Side) → ranked (on (sideOf own) s) (nearness own) keys ≡ ranked (on (sideOf own) s) (nearness own) round
     ranked-round s =
         let p = on (sideOf own) s in
-        let d = apart (NotOwn own) (sideOf own) (nearness own) (plain-order own) s in
+        let d = apart (NotKey own) (sideOf own) (nearness own) (plain-order (NotKey own) own) s in
         rising-ext (nearness own) 0 0 (ranked p (nearness own) keys) (ranked p (nearness own) round)
-        (ranked-rises (NotOwn own) p (nearness own) d keys) (ranked-rises (NotOwn own) p (nearness own) d round)
-        (λ k i. let m = mem-ranked (NotOwn own) p (nearness own) d k keys i in
-        ranked-mem (NotOwn own) p (nearness own) d k round round-others (round-has k (m .0)) (m .1))
-        (λ k i. let m = mem-ranked (NotOwn own) p (nearness own) d k round i in
-        ranked-mem (NotOwn own) p (nearness own) d k keys others (has-round k (m .0)) (m .1))
+        (ranked-rises (NotKey own) p (nearness own) d keys) (ranked-rises (NotKey own) p (nearness own) d round)
+        (λ k i. let m = mem-ranked (NotKey own) p (nearness own) d k keys i in
+        ranked-mem (NotKey own) p (nearness own) d k round round-others (round-has k (m .0)) (m .1))
+        (λ k i. let m = mem-ranked (NotKey own) p (nearness own) d k round i in
+        ranked-mem (NotKey own) p (nearness own) d k keys others (has-round k (m .0)) (m .1))
 
     nearest-above : ranked (on (sideOf own) above) (nearness own) keys ≡ onSide (sideOf own) above round
     nearest-above =
@@ -459,32 +458,6 @@ module _ (own : ℕ) (o : own < ring) (keys : List ℕ) (rises : Rising plain 0 
     below-length =
         let b : List ℕ = onSide (sideOf own) below round in
         ap length (ap (take 5) nearest-below) ∙ length-take 5 (reverse b) ∙ ap (min 5) (length-reverse b ∙ count-round (on (sideOf own) below))
-
-    -- what is dropped: the last above where those below are no more, else the first below
-    pub drops-above : 0 < length keys → countBelow own keys + countBelow own keys ≤ length keys
-        → drops own keys ≡ getD (goingUp own keys) ((length keys - countBelow own keys) - 1) 0
-    unfolding farthestOut
-    drops-above h g =
-        let a : ℕ = length keys - countBelow own keys in
-        let l : List ℕ = onSide (sideOf own) above round in
-        rw (le-leb (countBelow own keys) (length (onSide (sideOf own) above keys)) (omega (arith, many-above, count-round (on (sideOf own) above))))
-        (ap (lastOr 0) nearest-above
-        ∙ (last-getD 0 l (omega (arith, many-above))
-        ∙ (ap (λ (n : ℕ). getD l (n - 1) 0) many-above
-        ∙ (ap (λ (t : List ℕ). getD t (a - 1) 0) (sym take-above) ∙ getD-take a (goingUp own keys) (a - 1) 0 (omega arith)))))
-
-    pub drops-below : length keys < countBelow own keys + countBelow own keys
-        → drops own keys ≡ getD (goingUp own keys) (length keys - countBelow own keys) 0
-    unfolding farthestOut
-    drops-below g =
-        let a : ℕ = length keys - countBelow own keys in
-        let b : List ℕ = onSide (sideOf own) below round in
-        rw (lt-leb (countBelow own keys) (length (onSide (sideOf own) above keys)) (omega (arith, many-above, count-round (on (sideOf own) above))))
-        (ap (lastOr 0) nearest-below
-        ∙ (last-reverse b [] (omega (arith, count-round (on (sideOf own) below)))
-        ∙ (ap (λ (t : List ℕ). getD t 0 0) (append-nil b)
-        ∙ (ap (λ (t : List ℕ). getD t 0 0) (sym drop-above)
-        ∙ (getD-drop a (goingUp own keys) 0 0 ∙ ap (λ (n : ℕ). getD (goingUp own keys) n 0) (add-zero a))))))
 
 -- the two sides are apart: no key is listed on both
 pub one-side : (own k : ℕ) (keys : List ℕ) → k ∈ neighbours own below keys → k ∈ neighbours own above keys → ⊥

@@ -1,10 +1,11 @@
 -- Beside the demands. Demand 3 on lists of keys, as statements, by which signed's is proved. proofs/Demand3Laws.antt proves them.
 -- Everything that is handed in stands in front: `ok` (which numbers may be kept), `side` and `near` (the order round our own key), `drops`
--- (the drop rule) and C. The last two statements hand in ours: the order round the ring (02, Wish 4), the farthest out dropped, C at least 10.
+-- (the drop rule) and C. The last two statements hand in ours: the order round the ring (02, Wish 4) from one of our own keys, the key in none of their lists
+-- that is the farthest from the first (02, Wish 11), C at least ten times their number.
 -- Assumes nothing.
 use mathlib.Core.Path.{_≡_}
 use mathlib.Core.List.{List, []}
-use Prim.Native.Nat.{ℕ, _≤_}
+use Prim.Native.Nat.{ℕ, _*_, _≤_}
 use lib.ListN.{length}
 use Rattle.kept.specs.Keys.{_∈_, Every, Rising, plain}
 use Rattle.key.specs.Around.{Side, sideOf, nearness}
@@ -52,11 +53,12 @@ Same-keys-same-neighbours =
 
 abbrev pub Plain-demand3 : Type 0
 Plain-demand3 =
-    (own C : ℕ) → 10 ≤ C → (events : List Event) → ((k : ℕ) → Learns k events → NotOwn own k)
-    → KeysDemand3 (NotOwn own) (sideOf own) (nearness own) (Plain.drops own) C events
+    (own : List ℕ) (C : ℕ) → 10 * length own ≤ C → (events : List Event) → ((k : ℕ) → Learns k events → NotOwn own k)
+    → (k : ℕ) → k ∈ own → KeysDemand3 (NotOwn own) (sideOf k) (nearness k) (Plain.drops own) C events
 
 abbrev pub Plain-same-keys-same-neighbours : Type 0
 Plain-same-keys-same-neighbours =
-    (own C C′ : ℕ) → 10 ≤ C → 10 ≤ C′ → (es ds : List Event) → ((k : ℕ) → Learns k es → NotOwn own k) → SameKeys es ds
+    (own : List ℕ) (C C′ : ℕ) → 10 * length own ≤ C → 10 * length own ≤ C′
+    → (es ds : List Event) → ((k : ℕ) → Learns k es → NotOwn own k) → SameKeys es ds
     → NoRemoval (Plain.drops own) C [] es → NoRemoval (Plain.drops own) C′ [] ds
-    → (s : Side) → Plain.neighbours own s (Plain.kept own C es) ≡ Plain.neighbours own s (Plain.kept own C′ ds)
+    → (k : ℕ) → k ∈ own → (s : Side) → Plain.neighbours k s (Plain.kept own C es) ≡ Plain.neighbours k s (Plain.kept own C′ ds)

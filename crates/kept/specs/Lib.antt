@@ -2,8 +2,9 @@ pub mod Keys
 pub mod Neighbours
 pub mod History
 pub mod Rules
-pub mod Plain
+pub mod Listed
 pub mod Ponds
+pub mod Plain
 pub mod Turned
 pub mod Records
 pub mod Calls

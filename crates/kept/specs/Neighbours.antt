@@ -1,15 +1,13 @@
--- To believe. "Up to five keys below, then up to five above, nearest first", as a definition and as a property; and what is dropped of too many: "take the
--- side of the own key (below, above) with more keys, above if equal, and drop the key farthest out on it". Which side a key is on and how near it is there
--- are handed in: ours are in Plain.
+-- To believe. "Up to five keys below, then up to five above, nearest first", as a definition and as a property. Which side a key is on and how near it is
+-- there are handed in: ours are in Listed.
 -- Assumes nothing.
 use mathlib.Core.Path.{_≡_}
-use mathlib.Core.Bool.{Bool, true, false, cond}
+use mathlib.Core.Bool.{Bool, true, false}
 use mathlib.Core.List.{List}
 use Prim.Native.Nat.{ℕ, min, _<_}
-use lib.Dec.{leb}
 use lib.ListN.{length, take}
 use Rattle.key.specs.Around.{Side, below, above}
-use Rattle.kept.specs.Keys.{_∈_, Rising, among, inOrder, lastOr}
+use Rattle.kept.specs.Keys.{_∈_, Rising, among, inOrder}
 
 abbrev pub is : Side → Side → Bool
 is below below = true
@@ -28,13 +26,6 @@ nearestFirst side near s keys = inOrder near (onSide side s keys)
 -- the neighbour list of side s: the first five of them
 abbrev pub neighboursBy : (ℕ → Side) → (ℕ → ℕ) → Side → List ℕ → List ℕ
 neighboursBy side near s keys = take 5 (nearestFirst side near s keys)
-
--- what document 01 drops of too many keys: the farthest out on the side with more, above if equal
-unfoldable pub farthestOut : (ℕ → Side) → (ℕ → ℕ) → List ℕ → ℕ
-farthestOut side near keys =
-    cond (leb (length (onSide side below keys)) (length (onSide side above keys)))
-    (lastOr 0 (nearestFirst side near above keys))
-    (lastOr 0 (nearestFirst side near below keys))
 
 -- what a list must be, to be the neighbour list of side s among the keys
 pub record IsNeighbours (side : ℕ → Side) (near : ℕ → ℕ) (s : Side) (keys list : List ℕ) : Type 0 where

@@ -1,34 +1,27 @@
--- To believe. What we go by: the order around our own key that key's Around gives, with the farthest out dropped. "Dropping and the neighbour list follow this"
--- (02, Wish 4). Assumes nothing.
-use mathlib.Core.List.{List, _++_}
+-- To believe. What we go by: the neighbour list of each of our own keys, and the key that is dropped in favour of all these lists. Our keys are a list, the
+-- first of them first (02, Wish 11). Assumes nothing.
+use mathlib.Core.List.{List}
 use Prim.Native.Nat.{ℕ}
-use lib.ListN.{length}
-use Rattle.key.specs.Around.{Side, below, above, sideOf, nearness}
-use Rattle.own.specs.Own.{Own, IsOwn}
-use Rattle.kept.specs.Neighbours as N
+use lib.ListN.{getD}
+use Rattle.kept.specs.Keys.{_∈_}
 use Rattle.kept.specs.History as H
 use Rattle.kept.specs.History.{Event}
+use Rattle.kept.specs.Ponds.{dropsOf}
+pub use Rattle.kept.specs.Listed.{countBelow, neighbours, neighbourList}
 
--- which numbers may be kept: our own key is never learned
-abbrev pub NotOwn : Own → ℕ → Type 0
-NotOwn own k = ¬ IsOwn own k
+-- which numbers may be kept: none of our own keys is ever learned
+abbrev pub NotOwn : List ℕ → ℕ → Type 0
+NotOwn own k = ¬ (k ∈ own)
 
--- how many of the keys are below our own
-abbrev pub countBelow : ℕ → List ℕ → ℕ
-countBelow own keys = length (N.onSide (sideOf own) below keys)
+-- the first of our keys
+abbrev pub firstOf : List ℕ → ℕ
+firstOf own = getD own 0 0
 
-abbrev pub neighbours : ℕ → Side → List ℕ → List ℕ
-neighbours own s keys = N.neighboursBy (sideOf own) (nearness own) s keys
+abbrev pub drops : List ℕ → List ℕ → ℕ
+drops own keys = dropsOf (firstOf own) own keys
 
--- the list that document 01 asks for: those below, then those above. Its two counts are the lengths of the two
-abbrev pub neighbourList : ℕ → List ℕ → List ℕ
-neighbourList own keys = neighbours own below keys ++ neighbours own above keys
-
-abbrev pub drops : ℕ → List ℕ → ℕ
-drops own keys = N.farthestOut (sideOf own) (nearness own) keys
-
-abbrev pub learn : ℕ → ℕ → List ℕ → ℕ → List ℕ
+abbrev pub learn : List ℕ → ℕ → List ℕ → ℕ → List ℕ
 learn own C keys k = H.learnWith (drops own) C keys k
 
-abbrev pub kept : ℕ → ℕ → List Event → List ℕ
+abbrev pub kept : List ℕ → ℕ → List Event → List ℕ
 kept own C events = H.keptBy (drops own) C events

@@ -7,7 +7,7 @@ use Prim.Native.Nat.{ℕ}
 use lib.Dec.{ltb}
 use Rattle.key.specs.Around.{apart}
 use Rattle.kept.specs.Keys.{has, among}
-use Rattle.kept.specs.Plain.{neighbourList}
+use Rattle.kept.specs.Listed.{neighbourList}
 
 -- is the key k in the neighbour list of one of our own keys?
 unfoldable pub isListed : List ℕ → List ℕ → ℕ → Bool

@@ -1,5 +1,6 @@
 -- Helps the code. The cache keeps plain key order; the keys read round the ring, from the first above our own number on. Assumes nothing.
 use Prim.Native.Nat.{ℕ, _+_, _-_}
+use mathlib.Core.Path.{_≡_}
 use mathlib.Core.Bool.{Bool, cond}
 use mathlib.Core.List.{List, _++_}
 use lib.Dec.{leb, ltb}
@@ -9,6 +10,10 @@ use Rattle.kept.specs.Keys.{among}
 -- a list read from place n to its end and then from its start
 unfoldable pub turned : {A : Type 0} → ℕ → List A → List A
 turned n l = drop n l ++ take n l
+
+-- another key than the one
+abbrev pub NotKey : ℕ → ℕ → Type 0
+NotKey own k = ¬ (k ≡ own)
 
 -- how many of the keys are smaller numbers than our own
 abbrev pub countUnder : ℕ → List ℕ → ℕ

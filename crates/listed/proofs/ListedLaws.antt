@@ -24,7 +24,8 @@ use Rattle.kept.proofs.PondLaws.{in-run}
 use Rattle.search.proofs.SeekLaws.{key-among, keys-many}
 use Rattle.sides.proofs.SideLaws.{key-of-row}
 use Rattle.listed.specs.declared.Runs.{Runs}
-use Rattle.listed.specs.Runs.{ownKeys, runOf, runsOf, inOne, inRuns, Fits}
+use Rattle.own.specs.Own.{ownKeys}
+use Rattle.listed.specs.Runs.{runOf, runsOf, inOne, inRuns, Fits}
 
 -- ---- the counts
 

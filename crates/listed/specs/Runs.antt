@@ -12,10 +12,6 @@ use Rattle.kept.specs.Turned.{countUnder, inRun}
 use Rattle.listed.specs.declared.Run.{Run}
 use Rattle.listed.specs.declared.Runs.{Runs}
 
--- our own keys, of so many records one after the other
-abbrev pub ownKeys : List ℕ → List ℕ
-ownKeys own = map keyOf (rows 100 (length own / 100) own)
-
 -- an own key among the keys
 abbrev pub runOf : ℕ → List ℕ → Run
 runOf own keys = record { first = countUnder own keys; below = countBelow own keys }

@@ -8,7 +8,8 @@ ghost use lib.ListN.{length, getD};
 ghost use Rattle.record.specs.Record.{keyOf};
 ghost use Rattle.table.specs.Rows.{rows};
 ghost use Rattle.kept.specs.Keys.{_∈_, Every, Rising, plain};
-ghost use Rattle.listed.specs.Runs.{ownKeys, runOf, runAt, runsOf, inOne, inRuns, Fits};
+ghost use Rattle.own.specs.Own.{ownKeys};
+ghost use Rattle.listed.specs.Runs.{runOf, runAt, runsOf, inOne, inRuns, Fits};
 use key::Order;
 
 // An own key among those in plain order: so many keys are smaller numbers, and so many are below it.

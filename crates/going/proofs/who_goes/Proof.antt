@@ -16,7 +16,8 @@ use Rattle.kept.specs.Turned.{wrapped}
 use Rattle.search.proofs.SeekLaws.{keys-many}
 use Rattle.sides.proofs.SideLaws.{keys-small}
 use Rattle.listed.specs.declared.Runs.{Runs}
-use Rattle.listed.specs.Runs.{ownKeys, runsOf, Fits}
+use Rattle.own.specs.Own.{ownKeys}
+use Rattle.listed.specs.Runs.{runsOf, Fits}
 use Rattle.listed.proofs.ListedLaws.{runs-insert, runs-fit, first-is, own-in}
 use Rattle.going.specs.Going.{fartherOf, Goes}
 use Rattle.going.proofs.GoingLaws.{Known, firstOf, endOf, upOf, downOf, underOf, overOf, insert-length, every-insert, insert-every}

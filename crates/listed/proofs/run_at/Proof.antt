@@ -7,7 +7,8 @@ use lib.ListN.{length, take, drop, getD, length-take, length-drop}
 use Rattle.record.specs.Record.{keyOf}
 use Rattle.table.specs.Rows.{rows}
 use Rattle.kept.specs.Keys.{Every}
-use Rattle.listed.specs.Runs.{ownKeys, runOf}
+use Rattle.own.specs.Own.{ownKeys}
+use Rattle.listed.specs.Runs.{runOf}
 use Rattle.listed.proofs.ListedLaws.{own-key, no-key, own-in, others-one}
 use borrow.Author.Needs.{needs}
 use Rattle.listed.proofs.run_at.Statement.{statement}

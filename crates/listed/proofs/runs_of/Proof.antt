@@ -8,7 +8,8 @@ use Rattle.record.specs.Record.{keyOf}
 use Rattle.table.specs.Rows.{rows}
 use Rattle.kept.specs.Keys.{Every}
 use Rattle.search.proofs.SeekLaws.{keys-many}
-use Rattle.listed.specs.Runs.{ownKeys, runOf, runAt}
+use Rattle.own.specs.Own.{ownKeys}
+use Rattle.listed.specs.Runs.{runOf, runAt}
 use Rattle.listed.proofs.ListedLaws.{own-key, own-in, others-one}
 use borrow.Author.Needs.{needs}
 use Rattle.listed.proofs.runs_of.Statement.{statement}

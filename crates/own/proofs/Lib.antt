@@ -1,0 +1,3 @@
+pub mod LowLaws
+pub mod FormLaws
+pub mod PlaceLaws

@@ -14,6 +14,7 @@ use lib.Seq.{take-at, drop-at, getD-take}
 use borrow.Author.Tests.{eq-eqb, ne-eqb, eqb-true, le-leb, leb-true, not-true}
 use Rattle.octet.specs.Part.{allZero}
 use Rattle.octet.proofs.TestLaws.{both-true}
+use Rattle.own.specs.Own.{Own}
 use Rattle.table.specs.Rows.{rows, joined, bytesOf, Sized, Laid, anyOf}
 use Rattle.table.proofs.RowLaws.{rows-length, rows-sized, laid-bytes, bytes-length, bytes-rows, bytes-laid}
 use Rattle.waiting.specs.Place.{idOf, kindOf, placeKey}
@@ -22,7 +23,7 @@ use Rattle.waiting.proofs.PlaceLaws.{form-used}
 
 -- ---- the used places, as a type: each in form, above those before it, and alone with its key where it is an inquiry
 
-abbrev pub Placed : ℕ → ℕ → List (List ℕ) → Type 0
+abbrev pub Placed : Own → ℕ → List (List ℕ) → Type 0
 Placed own low [] = Unit {0}
 Placed own low (p ∷ ps) =
     (placeForm own p ≡ true) × (low ≤ idOf p) × (kindOf p ≡ 2 → anyOf (isInquiry (placeKey p)) ps ≡ false) × Placed own (suc (idOf p)) ps
@@ -35,7 +36,7 @@ alone-not : (b y : Bool) → (b ≡ true → y ≡ false) → not (b && y) ≡ t
 alone-not true y h = rw (h refl) refl
 alone-not false y h = refl
 
-pub placed : (own low : ℕ) (ps : List (List ℕ)) → placesForm own low ps ≡ true → Placed own low ps
+pub placed : (own : Own) (low : ℕ) (ps : List (List ℕ)) → placesForm own low ps ≡ true → Placed own low ps
 unfolding placesBy
 placed own low [] e = tt
 placed own low (p ∷ ps) e =
@@ -48,7 +49,7 @@ placed own low (p ∷ ps) e =
       placed own (suc (idOf p)) ps (last .1),
     )
 
-pub placed-form : (own low : ℕ) (ps : List (List ℕ)) → Placed own low ps → placesForm own low ps ≡ true
+pub placed-form : (own : Own) (low : ℕ) (ps : List (List ℕ)) → Placed own low ps → placesForm own low ps ≡ true
 unfolding placesBy
 placed-form own low [] h = refl
 placed-form own low (p ∷ ps) h =
@@ -77,7 +78,7 @@ zeros-at (suc z) zero = refl
 zeros-at (suc z) (suc i) = zeros-at z i
 
 -- of the bytes of places in form, so many as there are
-used-bytes : (own low : ℕ) (ps : List (List ℕ)) (n z : ℕ) → Sized 140 ps → Placed own low ps → length ps ≤ n
+used-bytes : (own : Own) (low : ℕ) (ps : List (List ℕ)) (n z : ℕ) → Sized 140 ps → Placed own low ps → length ps ≤ n
     → usedIn (rows 140 n (joined ps ++ replicate z 0)) ≡ length ps
 unfolding usedIn rows joined
 used-bytes own low [] zero z s h few = refl
@@ -94,7 +95,7 @@ used-bytes own low (p ∷ ps) (suc n) z s h few =
 
 -- ---- what the test says
 
-module _ (own : ℕ) (t : List ℕ) (e : waitingForm own t ≡ true) where
+module _ (own : Own) (t : List ℕ) (e : waitingForm own t ≡ true) where
   outer : (eqb (length t) 2240 && allZero (drop (140 * usedOf t) t) ≡ true) × (placesForm own 0 (placesOf t) ≡ true)
   unfolding waitingForm
   outer = both-true (eqb (length t) 2240 && allZero (drop (140 * usedOf t) t)) (placesForm own 0 (placesOf t)) e
@@ -122,7 +123,7 @@ module _ (own : ℕ) (t : List ℕ) (e : waitingForm own t ≡ true) where
 
 -- ---- a list of places in form, laid out: the table is in form, and read back it gives the list
 
-module _ (own : ℕ) (ps : List (List ℕ)) (sized : Sized 140 ps) (few : length ps ≤ 16) (h : Placed own 0 ps) where
+module _ (own : Own) (ps : List (List ℕ)) (sized : Sized 140 ps) (few : length ps ≤ 16) (h : Placed own 0 ps) where
   fits : 140 * length ps ≤ 2240
   fits = omega arith
 
@@ -144,12 +145,12 @@ module _ (own : ℕ) (ps : List (List ℕ)) (sized : Sized 140 ps) (few : length
 
 -- ---- so the test holds exactly where the bytes are those of a list of places in form, and this list is unique
 
-pub form-unique : (own : ℕ) (t : List ℕ) (ps : List (List ℕ)) → PlacesForm own t ps → ps ≡ placesOf t
+pub form-unique : (own : Own) (t : List ℕ) (ps : List (List ℕ)) → PlacesForm own t ps → ps ≡ placesOf t
 form-unique own t ps f =
     sym (ap placesOf (f .bytes) ∙ made-places own ps (f .sized) (f .few) (placed own 0 ps (f .places)))
 
-pub form-test : (own : ℕ) (t : List ℕ) (ps : List (List ℕ)) → PlacesForm own t ps → waitingForm own t ≡ true
+pub form-test : (own : Own) (t : List ℕ) (ps : List (List ℕ)) → PlacesForm own t ps → waitingForm own t ≡ true
 form-test own t ps f = ap (waitingForm own) (f .bytes) ∙ made-form own ps (f .sized) (f .few) (placed own 0 ps (f .places))
 
-pub form-exactly : (own : ℕ) (t : List ℕ) → (waitingForm own t ≡ true) ↔ PlacesForm own t (placesOf t)
+pub form-exactly : (own : Own) (t : List ℕ) → (waitingForm own t ≡ true) ↔ PlacesForm own t (placesOf t)
 form-exactly own t = (form-of own t, form-test own t (placesOf t))

@@ -12,6 +12,7 @@ use borrow.Author.Tests.{eq-eqb, ne-eqb, eqb-true, eqb-false, leb-true, leb-fals
 use Rattle.octet.specs.Number.{valueBE}
 use Rattle.octet.specs.Part.{part}
 use Rattle.record.specs.Record.{keyOf, recordForm}
+use Rattle.own.specs.Own.{Own, isOwn}
 use Rattle.table.specs.Rows.{bytesOf, Sized, anyOf}
 use Rattle.waiting.specs.Place.{idOf, kindOf, placeKey, inquiryPlace, floodPlace}
 use Rattle.waiting.specs.Form.{isInquiry, placeForm, PlacesForm}
@@ -35,7 +36,7 @@ pub neither : {a b : Bool} → a ≡ false → b ≡ false → (a || b) ≡ fals
 neither e f = rw (e, f) refl
 
 -- places above an ID are above a lower one
-placed-weak : (own low high : ℕ) (ps : List (List ℕ)) → low ≤ high → Placed own high ps → Placed own low ps
+placed-weak : (own : Own) (low high : ℕ) (ps : List (List ℕ)) → low ≤ high → Placed own high ps → Placed own low ps
 placed-weak own low high [] l h = tt
 placed-weak own low high (p ∷ ps) l h = (h .0, omega (arith, h .1), h .2, h .3)
 
@@ -72,7 +73,7 @@ unfolding ticked
 ticked-few [] = omega arith
 ticked-few (p ∷ ps) = few-by (spent p) p (ticked ps) (length ps) (ticked-few ps)
 
-placed-by : (own low : ℕ) (b : Bool) (p : List ℕ) (ps : List (List ℕ)) → length p ≡ 140 → Placed own low (p ∷ ps)
+placed-by : (own : Own) (low : ℕ) (b : Bool) (p : List ℕ) (ps : List (List ℕ)) → length p ≡ 140 → Placed own low (p ∷ ps)
     → Placed own (suc (idOf p)) (ticked ps) → Placed own low (cond b (ticked ps) (oneLess p ∷ ticked ps))
 placed-by own low true p ps long h ih = placed-weak own low (suc (idOf p)) (ticked ps) (omega (arith, h .1)) ih
 placed-by own low false p ps long h ih = (
@@ -82,7 +83,7 @@ placed-by own low false p ps long h ih = (
   subst (λ (n : ℕ). Placed own (suc n) (ticked ps)) (sym (less-id p)) ih,
 )
 
-pub ticked-placed : (own low : ℕ) (ps : List (List ℕ)) → Sized 140 ps → Placed own low ps → Placed own low (ticked ps)
+pub ticked-placed : (own : Own) (low : ℕ) (ps : List (List ℕ)) → Sized 140 ps → Placed own low ps → Placed own low (ticked ps)
 unfolding ticked
 ticked-placed own low [] s h = tt
 ticked-placed own low (p ∷ ps) s h = placed-by own low (spent p) p ps (s .0) h (ticked-placed own (suc (idOf p)) ps (s .1) (h .3))
@@ -107,7 +108,7 @@ freed-few at [] = omega arith
 freed-few zero (p ∷ ps) = omega arith
 freed-few (suc at) (p ∷ ps) = omega (arith, freed-few at ps)
 
-pub freed-placed : (own low at : ℕ) (ps : List (List ℕ)) → Placed own low ps → Placed own low (freed at ps)
+pub freed-placed : (own : Own) (low at : ℕ) (ps : List (List ℕ)) → Placed own low ps → Placed own low (freed at ps)
 unfolding freed
 freed-placed own low at [] h = tt
 freed-placed own low zero (p ∷ ps) h = placed-weak own low (suc (idOf p)) ps (omega (arith, h .1)) (h .3)
@@ -155,7 +156,7 @@ module _ (p : List ℕ) where
           rw (e, ne-eqb (placeKey p) (placeKey q) (λ d. eqb-false (placeKey q) (placeKey p) apart (sym d))) refl
       go false e = rw e refl
 
-  pub opened-placed : (own low : ℕ) (ps : List (List ℕ)) → placeForm own p ≡ true → low ≤ idOf p → anyOf (hasId (idOf p)) ps ≡ false
+  pub opened-placed : (own : Own) (low : ℕ) (ps : List (List ℕ)) → placeForm own p ≡ true → low ≤ idOf p → anyOf (hasId (idOf p)) ps ≡ false
       → (kindOf p ≡ 2 → anyOf (isInquiry (placeKey p)) ps ≡ false) → Placed own low ps → Placed own low (opened p ps)
   unfolding opened anyOf
   opened-placed own low [] ok l new only h = (ok, l, (λ k. refl), tt)
@@ -181,10 +182,10 @@ module _ (p : List ℕ) where
 -- ---- the table in form
 
 -- the table made of a list of places in form, as a property
-pub made-of : (own : ℕ) (ps : List (List ℕ)) → Sized 140 ps → length ps ≤ 16 → Placed own 0 ps → PlacesForm own (bytesOf 2240 ps) ps
+pub made-of : (own : Own) (ps : List (List ℕ)) → Sized 140 ps → length ps ≤ 16 → Placed own 0 ps → PlacesForm own (bytesOf 2240 ps) ps
 made-of own ps s few h = record { bytes = refl; sized = s; few = few; places = placed-form own 0 ps h }
 
-module _ (own : ℕ) (t : List ℕ) (ps : List (List ℕ)) (f : PlacesForm own t ps) where
+module _ (own : Own) (t : List ℕ) (ps : List (List ℕ)) (f : PlacesForm own t ps) where
   here : Placed own 0 ps
   here = placed own 0 ps (f .places)
 
@@ -203,7 +204,7 @@ module _ (own : ℕ) (t : List ℕ) (ps : List (List ℕ)) (f : PlacesForm own t
       (opened-placed p own 0 ps ok (omega arith) new only here)
 
   -- an inquiry for a record in form of another, and a flood, whose IDs do not wait
-  pub open-inquiry : (id : ℕ) (r : List ℕ) → length ps < 16 → id < 2 ^ 32 → length r ≡ 100 → recordForm r ≡ true → eqb (keyOf r) own ≡ false
+  pub open-inquiry : (id : ℕ) (r : List ℕ) → length ps < 16 → id < 2 ^ 32 → length r ≡ 100 → recordForm r ≡ true → isOwn own (keyOf r) ≡ false
       → anyOf (hasId id) ps ≡ false → anyOf (isInquiry (keyOf r)) ps ≡ false
       → PlacesForm own (bytesOf 2240 (opened (inquiryPlace id r) ps)) (opened (inquiryPlace id r) ps)
   open-inquiry id r free small long ok others new only =

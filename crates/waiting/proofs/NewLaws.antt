@@ -14,6 +14,7 @@ use Rattle.octet.proofs.PartLaws.{splice-next, splice-whole}
 use Rattle.octet.proofs.TestLaws.{zeros-all}
 use Rattle.octet.proofs.LittleLaws.{length-digitsLE, valueLE-digitsLE}
 use Rattle.record.specs.Record.{keyOf, recordForm}
+use Rattle.own.specs.Own.{Own, isOwn}
 use Rattle.waiting.specs.Place.{idOf, kindOf, triesOf, placeKey, placeRecord, newPlace, inquiryPlace, floodPlace}
 use Rattle.waiting.specs.Form.{placeForm}
 use Rattle.waiting.proofs.PlaceLaws.{fieldsForm, by-fields}
@@ -79,7 +80,7 @@ module _ (id kind tries : ℕ) (key held : List ℕ) (short : length key ≡ 32)
   new-seven = refl
 
   -- its form
-  pub new-form : (own : ℕ) → placeForm own (newPlace id kind tries key held) ≡ fieldsForm own tries 0 0 kind (valueBE 256 key) held
+  pub new-form : (own : Own) → placeForm own (newPlace id kind tries key held) ≡ fieldsForm own tries 0 0 kind (valueBE 256 key) held
   unfolding place
   new-form own =
       by-fields own place
@@ -104,13 +105,13 @@ module _ (id kind tries : ℕ) (key held : List ℕ) (short : length key ≡ 32)
       ∙ splice-whole (d ++ k ++ key ++ held) p all
 
 -- an inquiry's place for a record in form with another key than ours, and a flood's place, are in form
-pub inquiry-form : (own id : ℕ) (r : List ℕ) → length r ≡ 100 → recordForm r ≡ true → eqb (keyOf r) own ≡ false
+pub inquiry-form : (own : Own) (id : ℕ) (r : List ℕ) → length r ≡ 100 → recordForm r ≡ true → isOwn own (keyOf r) ≡ false
     → placeForm own (inquiryPlace id r) ≡ true
 inquiry-form own id r long ok others =
     new-form id 2 2 (part 0 32 r) r (length-take-le 32 r (omega arith)) long own
     ∙ rw (ok, others, eq-eqb (keyOf r) (keyOf r) refl) refl
 
-pub flood-form : (own id : ℕ) (key : List ℕ) → length key ≡ 32 → placeForm own (floodPlace id key) ≡ true
+pub flood-form : (own : Own) (id : ℕ) (key : List ℕ) → length key ≡ 32 → placeForm own (floodPlace id key) ≡ true
 flood-form own id key short =
     new-form id 1 2 key (replicate 100 0) short (length-replicate {A = ℕ} 100 0) own
     ∙ rw (zeros-all 100) refl

@@ -8,7 +8,7 @@ use native.Mathlib.Omega.{arith}
 use lib.Dec.{eqb, leb}
 use lib.ListN.{length, take, getD, length-set}
 use lib.Seq.{take-set-le, drop-set-lt, getD-set-same, getD-set-other}
-use borrow.Author.Tests.{eqb-true, eqb-false, leb-true, le-leb, not-true}
+use borrow.Author.Tests.{eqb-true, leb-true, le-leb, not-true}
 use Rattle.octet.specs.Number.{valueBE, valueLE}
 use Rattle.octet.specs.Part.{part, allZero}
 use Rattle.octet.proofs.PartLaws.{part-at}
@@ -16,6 +16,8 @@ use Rattle.octet.proofs.TestLaws.{both-true}
 use Rattle.key.specs.Number.{keyAt}
 use Rattle.record.specs.Record.{keyOf, recordForm}
 use Rattle.record.proofs.PlaceLaws.{part-part}
+use Rattle.own.specs.Own.{isOwn, Own, IsOwn}
+use Rattle.own.proofs.PlaceLaws.{not-own}
 use Rattle.table.proofs.PieceLaws.{part-start}
 use Rattle.waiting.specs.Place.{idOf, kindOf, triesOf, placeKey, placeRecord}
 use Rattle.waiting.specs.Form.{placeBy, placeForm, isInquiry}
@@ -45,18 +47,18 @@ record-key p = ap (valueBE 256) (part-start 40 100 32 p (omega arith))
 
 -- ---- the form of a place, by its fields
 
-abbrev pub fieldsForm : ℕ → ℕ → ℕ → ℕ → ℕ → ℕ → List ℕ → Bool
+abbrev pub fieldsForm : Own → ℕ → ℕ → ℕ → ℕ → ℕ → List ℕ → Bool
 fieldsForm own tries six seven kind key held =
     leb tries 2 && eqb six 0 && eqb seven 0
-    && (eqb kind 1 && allZero held || eqb kind 2 && recordForm held && eqb (keyOf held) key && not (eqb key own))
+    && (eqb kind 1 && allZero held || eqb kind 2 && recordForm held && eqb (keyOf held) key && not (isOwn own key))
 
-pub by-fields : (own : ℕ) (p : List ℕ)
+pub by-fields : (own : Own) (p : List ℕ)
     → placeForm own p ≡ fieldsForm own (triesOf p) (getD p 6 0) (getD p 7 0) (kindOf p) (placeKey p) (placeRecord p)
 unfolding placeBy
 by-fields own p = refl
 
 -- the tests of a flood's place, of an inquiry's, and of one that is neither
-pub flood-is : (good : List ℕ → Bool) (own : ℕ) (p : List ℕ) (z : Bool) → kindOf p ≡ 1 → z ≡ allZero (part 40 100 p)
+pub flood-is : (good : List ℕ → Bool) (own : Own) (p : List ℕ) (z : Bool) → kindOf p ≡ 1 → z ≡ allZero (part 40 100 p)
     → (leb (triesOf p) 2 && eqb (getD p 6 0) 0 && eqb (getD p 7 0) 0 && z) ≡ placeBy good own p
 unfolding placeBy
 flood-is good own p z e hz = rw (e, sym hz) (ap (λ (t : Bool). leb (triesOf p) 2 && eqb (getD p 6 0) 0 && eqb (getD p 7 0) 0 && t) (alone z))
@@ -65,13 +67,13 @@ flood-is good own p z e hz = rw (e, sym hz) (ap (λ (t : Bool). leb (triesOf p) 
     alone true = refl
     alone false = refl
 
-pub inquiry-is : (good : List ℕ → Bool) (own : ℕ) (p : List ℕ) {f k o : Bool} → kindOf p ≡ 2 → f ≡ good (part 40 100 p) → k ≡ eqb (keyAt 40 p) (keyAt 8 p)
-    → o ≡ eqb (keyAt 8 p) own
+pub inquiry-is : (good : List ℕ → Bool) (own : Own) (p : List ℕ) {f k o : Bool} → kindOf p ≡ 2 → f ≡ good (part 40 100 p) → k ≡ eqb (keyAt 40 p) (keyAt 8 p)
+    → o ≡ isOwn own (keyAt 8 p)
     → (leb (triesOf p) 2 && eqb (getD p 6 0) 0 && eqb (getD p 7 0) 0 && (f && k && not o)) ≡ placeBy good own p
 unfolding placeBy
 inquiry-is good own p e hf hk ho = rw (e, hf, hk, ho, record-key p) refl
 
-pub neither-is : (good : List ℕ → Bool) (own : ℕ) (p : List ℕ) → eqb (kindOf p) 1 ≡ false → eqb (kindOf p) 2 ≡ false → false ≡ placeBy good own p
+pub neither-is : (good : List ℕ → Bool) (own : Own) (p : List ℕ) → eqb (kindOf p) 1 ≡ false → eqb (kindOf p) 2 ≡ false → false ≡ placeBy good own p
 unfolding placeBy
 neither-is good own p e g = rw (e, g) (none (leb (triesOf p) 2 && eqb (getD p 6 0) 0 && eqb (getD p 7 0) 0))
   where
@@ -88,11 +90,11 @@ other-first true a′ b c d e h = rw h e
 other-first false a′ b c d e h = let z : _≡_ {A = ℕ} 0 1 = cc in absurd (omega arith)
 
 -- a place in form has at most two tries left, and is not free
-pub form-tries : (own : ℕ) (p : List ℕ) → placeForm own p ≡ true → triesOf p ≤ 2
+pub form-tries : (own : Own) (p : List ℕ) → placeForm own p ≡ true → triesOf p ≤ 2
 unfolding placeBy
 form-tries own p e = leb-true (triesOf p) 2 (first-true (leb (triesOf p) 2) (eqb (getD p 6 0) 0) (eqb (getD p 7 0) 0) _ e)
 
-pub form-used : (own : ℕ) (p : List ℕ) → placeForm own p ≡ true → kindOf p ≡ 0 → ⊥
+pub form-used : (own : Own) (p : List ℕ) → placeForm own p ≡ true → kindOf p ≡ 0 → ⊥
 form-used own p ok e =
     let by-kind : ℕ → Bool = λ k. fieldsForm own (triesOf p) (getD p 6 0) (getD p 7 0) k (placeKey p) (placeRecord p) in
     let is : by-kind 0 ≡ true = sym (ap by-kind e) ∙ sym (by-fields own p) ∙ ok in
@@ -101,18 +103,18 @@ form-used own p ok e =
     omega arith
 
 -- an inquiry in form has a record in form, of its own key, which is not ours
-module _ (own : ℕ) (p : List ℕ) (ok : placeForm own p ≡ true) (inquiry : kindOf p ≡ 2) where
-  inquiry-tests : recordForm (placeRecord p) && eqb (keyOf (placeRecord p)) (placeKey p) && not (eqb (placeKey p) own) ≡ true
+module _ (own : Own) (p : List ℕ) (ok : placeForm own p ≡ true) (inquiry : kindOf p ≡ 2) where
+  inquiry-tests : recordForm (placeRecord p) && eqb (keyOf (placeRecord p)) (placeKey p) && not (isOwn own (placeKey p)) ≡ true
   inquiry-tests =
       let by-kind : ℕ → Bool = λ k. fieldsForm own (triesOf p) (getD p 6 0) (getD p 7 0) k (placeKey p) (placeRecord p) in
       let is : by-kind 2 ≡ true = sym (ap by-kind inquiry) ∙ sym (by-fields own p) ∙ ok in
       both-true (leb (triesOf p) 2 && eqb (getD p 6 0) 0 && eqb (getD p 7 0) 0)
-      (recordForm (placeRecord p) && eqb (keyOf (placeRecord p)) (placeKey p) && not (eqb (placeKey p) own)) is .1
+      (recordForm (placeRecord p) && eqb (keyOf (placeRecord p)) (placeKey p) && not (isOwn own (placeKey p))) is .1
 
   keyed : (recordForm (placeRecord p) ≡ true) × (eqb (keyOf (placeRecord p)) (placeKey p) ≡ true)
   keyed =
       both-true (recordForm (placeRecord p)) (eqb (keyOf (placeRecord p)) (placeKey p))
-      (both-true (recordForm (placeRecord p) && eqb (keyOf (placeRecord p)) (placeKey p)) (not (eqb (placeKey p) own)) inquiry-tests .0)
+      (both-true (recordForm (placeRecord p) && eqb (keyOf (placeRecord p)) (placeKey p)) (not (isOwn own (placeKey p))) inquiry-tests .0)
 
   pub inquiry-record : recordForm (placeRecord p) ≡ true
   inquiry-record = keyed .0
@@ -120,10 +122,10 @@ module _ (own : ℕ) (p : List ℕ) (ok : placeForm own p ≡ true) (inquiry : k
   pub inquiry-key : keyOf (placeRecord p) ≡ placeKey p
   inquiry-key = eqb-true (keyOf (placeRecord p)) (placeKey p) (keyed .1)
 
-  pub inquiry-other : placeKey p ≡ own → ⊥
+  pub inquiry-other : ¬ IsOwn own (placeKey p)
   inquiry-other =
-      eqb-false (placeKey p) own (not-true (eqb (placeKey p) own)
-      (both-true (recordForm (placeRecord p) && eqb (keyOf (placeRecord p)) (placeKey p)) (not (eqb (placeKey p) own)) inquiry-tests .1))
+      not-own own (placeKey p) (not-true (isOwn own (placeKey p))
+      (both-true (recordForm (placeRecord p) && eqb (keyOf (placeRecord p)) (placeKey p)) (not (isOwn own (placeKey p))) inquiry-tests .1))
 
 -- ---- one try less changes the tries alone
 
@@ -153,7 +155,7 @@ module _ (p : List ℕ) where
   less-tries long = getD-set-same p 5 (triesOf p - 1) 0 (omega arith)
 
   -- so a place stays in form
-  pub less-form : (own : ℕ) → length p ≡ 140 → placeForm own p ≡ true → placeForm own (oneLess p) ≡ true
+  pub less-form : (own : Own) → length p ≡ 140 → placeForm own p ≡ true → placeForm own (oneLess p) ≡ true
   less-form own long ok =
       let low = form-tries own p ok in
       let x : ℕ = triesOf p - 1 in

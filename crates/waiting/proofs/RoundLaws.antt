@@ -9,6 +9,7 @@ use native.Mathlib.Omega.{arith}
 use lib.Dec.{eqb, leb}
 use lib.ListN.{length, getD}
 use borrow.Author.Tests.{eqb-false}
+use Rattle.own.specs.Own.{Own}
 use Rattle.table.specs.Rows.{Sized, anyOf}
 use Rattle.waiting.specs.Place.{idOf, triesOf}
 use Rattle.waiting.specs.Form.{PlacesForm}
@@ -87,7 +88,7 @@ id-steady id p = ap (λ (n : ℕ). eqb n id) (less-id p)
 
 module _ (test : List ℕ → Bool) where
   -- of a table in form, and of places of which none passes
-  pub tried-form : (own low : ℕ) (ps : List (List ℕ)) → Placed own low ps → All (Tried test 2) ps
+  pub tried-form : (own : Own) (low : ℕ) (ps : List (List ℕ)) → Placed own low ps → All (Tried test 2) ps
   tried-form own low [] h = tt
   tried-form own low (p ∷ ps) h = ((λ e. form-tries own p (h .0)), tried-form own (suc (idOf p)) ps (h .3))
 
@@ -146,7 +147,7 @@ nothing : (ids : List ℕ) → length ids ≡ 0 → ids ≡ []
 nothing [] e = refl
 nothing (id ∷ ids) e = absurd (omega arith)
 
-pub three-ticks : (own : ℕ) (t : List ℕ) (ps : List (List ℕ)) → PlacesForm own t ps
+pub three-ticks : (own : Own) (t : List ℕ) (ps : List (List ℕ)) → PlacesForm own t ps
     → (listed (ticked (ticked ps)) ≡ []) × (ticked (ticked (ticked ps)) ≡ [])
 three-ticks own t ps f =
     let two = tried-form every own 0 ps (placed own 0 ps (f .places)) in
@@ -168,7 +169,7 @@ rising-by : (low : ℕ) (b : Bool) (x : ℕ) (ids : List ℕ) → low ≤ x → 
 rising-by low true x ids l h = rising-weak low (suc x) ids (omega arith) h
 rising-by low false x ids l h = (l, h)
 
-pub listed-rising : (own low : ℕ) (ps : List (List ℕ)) → Placed own low ps → Rising low (listed ps)
+pub listed-rising : (own : Own) (low : ℕ) (ps : List (List ℕ)) → Placed own low ps → Rising low (listed ps)
 unfolding listed
 listed-rising own low [] h = tt
 listed-rising own low (p ∷ ps) h = rising-by low (spent p) (idOf p) (listed ps) (h .1) (listed-rising own (suc (idOf p)) ps (h .3))

@@ -13,6 +13,7 @@ use borrow.Author.Tests.{eq-eqb, ne-eqb, le-leb, lt-leb}
 use Rattle.octet.specs.Number.{valueLE}
 use Rattle.octet.specs.Part.{part}
 use Rattle.key.specs.Number.{keyAt}
+use Rattle.own.specs.Own.{Own}
 use Rattle.table.specs.Rows.{rows, anyOf}
 use Rattle.table.proofs.RowLaws.{rows-next, rows-end}
 use Rattle.table.proofs.PieceLaws.{part-lent}
@@ -97,7 +98,7 @@ module _ (used : ℕ) (t : List ℕ) (at : ℕ) where
       (ap (λ (k : ℕ). anyOf (isInquiry k) later) (key-at (140 * at) t) ∙ any-found (isInquiry (keyAt (140 * at + 8) t)) (at + 1) later
       ∙ ap isFound (sym d))
 
-  module _ (good : List ℕ → Bool) (own low : ℕ) where
+  module _ (good : List ℕ → Bool) (own : Own) (low : ℕ) where
     -- the three tests of a place
     abbrev pub tests : Bool
     tests = placeBy good own place && leb low (idOf place) && not (again place later)

@@ -21,7 +21,7 @@ flood id k = floodPlace id (caseKey k)
 abbrev pub inquiry : ℕ → ℕ → List ℕ
 inquiry id k = inquiryPlace id (recordBytes k)
 
--- a row: the first places of the table of a gauge with key 9, and whether the table is in form
+-- a row: the first places of the table of a gauge with keys 9 and 11, and whether the table is in form
 pub record FormRow : Type 0 where
   pub places : List (List ℕ)
   pub formed : Bool
@@ -30,7 +30,7 @@ abbrev pub row : List (List ℕ) → Bool → FormRow
 row ps b = record { places = ps; formed = b }
 
 -- in form: an empty table; ID 0, a flood to the own key, one to an inquiry's key. Out of form: equal IDs, falling IDs, three tries, kind 3, a byte that
--- is not zero, an inquiry whose record has another key, two inquiries for one key, one for the own key, a flood with a record, a used place after a free one
+-- is not zero, an inquiry whose record has another key, two inquiries for one key, one for each own key, a flood with a record, a used place after a free one
 abbrev pub formRows : List FormRow
 formRows =
     row [] true
@@ -43,13 +43,14 @@ formRows =
     ∷ row (newPlace 1 2 2 (caseKey 7) (recordBytes 8) ∷ []) false
     ∷ row (inquiry 1 7 ∷ inquiry 2 7 ∷ []) false
     ∷ row (inquiry 1 9 ∷ []) false
+    ∷ row (inquiry 1 11 ∷ []) false
     ∷ row (newPlace 1 1 2 (caseKey 7) (recordBytes 7) ∷ []) false
     ∷ row (replicate 140 0 ∷ flood 1 7 ∷ []) false
     ∷ []
 
 abbrev pub Hold : List FormRow → Type 0
 Hold [] = Unit {0}
-Hold (r ∷ rs) = (waitingForm 9 (bytesOf 2240 (r .places)) ≡ r .formed) × Hold rs
+Hold (r ∷ rs) = (waitingForm (9 ∷ 11 ∷ []) (bytesOf 2240 (r .places)) ≡ r .formed) × Hold rs
 
 abbrev pub FormCases : Type 0
 FormCases = Hold formRows

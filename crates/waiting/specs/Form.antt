@@ -1,5 +1,6 @@
 -- To believe. When the waiting table is in form: "Used places first, IDs strictly increasing; free places all zero. An inquiry's record is well formed
--- and has the place's key; no two inquiries have the same key, and none has the own key. A flood's record is all zero." Assumes nothing.
+-- and has the place's key; no two inquiries have the same key, and none has the own key. A flood's record is all zero." No inquiry has any of our own keys
+-- (02, Wish 11). Assumes nothing.
 use Prim.Native.Nat.{ℕ, suc, _*_, _≤_}
 use mathlib.Core.Path.{_≡_}
 use mathlib.Core.Bool.{Bool, true, not, _&&_, _||_, cond}
@@ -12,7 +13,7 @@ use Rattle.own.specs.Own.{Own, isOwn}
 use Rattle.table.specs.Rows.{rows, bytesOf, Sized, anyOf}
 use Rattle.waiting.specs.Place.{idOf, kindOf, triesOf, placeKey, placeRecord}
 
--- ---- a used place, for a gauge with the own key
+-- ---- a used place, for a gauge with our keys
 
 abbrev pub floodForm : List ℕ → Bool
 floodForm p = eqb (kindOf p) 1 && allZero (placeRecord p)
@@ -65,7 +66,7 @@ unfoldable pub waitingForm : Own → List ℕ → Bool
 waitingForm own t = eqb (length t) 2240 && allZero (drop (140 * usedOf t) t) && placesForm own 0 (placesOf t)
 
 -- the same as a property of a list of places: the table is this list, and then zeros
-pub record PlacesForm (own : ℕ) (t : List ℕ) (ps : List (List ℕ)) : Type 0 where
+pub record PlacesForm (own : Own) (t : List ℕ) (ps : List (List ℕ)) : Type 0 where
   pub bytes : t ≡ bytesOf 2240 ps
   pub sized : Sized 140 ps
   pub few : length ps ≤ 16

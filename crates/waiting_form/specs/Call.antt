@@ -1,4 +1,4 @@
--- Helps the code. A tick on memory that nobody has tested: 1 where the own record or the table is out of form, 15 where the list has no room for 16 numbers of
+-- Helps the code. A tick on memory that nobody has tested: 1 where the own records or the table are out of form, 15 where the list has no room for 16 numbers of
 -- 32 bits; refused, it counts nothing and leaves each byte. Tied to document 01 by `ours-meets` (sentences/Theorems). Assumes nothing.
 use Prim.Native.Nat.{ℕ}
 use mathlib.Core.Bool.{not, _&&_}

@@ -10,8 +10,8 @@ pub struct Answer {
     pub count: usize,
 }
 
-// The waiting table after one second, and the list of IDs in the first bytes of the output. 1 where the own record or
-// the table is out of form, 15 where the output is shorter than 64 bytes; then nothing changes.
+// The waiting table after one second, and the list of IDs in the first bytes of the output. 1 where the own records or
+// the table are out of form, 15 where the output is shorter than 64 bytes; then nothing changes.
 pub fn tick(own: &[u8], table: &mut [u8], output: &mut [u8]) -> Answer
     ensures { λ r. ⌜ tickHanded (r .number) (r .count) (now (table .exit)) (now (output .exit))
         ≡ tickCall (now (own .entry)) (now (table .entry)) (now (output .entry)) ⌝ }

@@ -1,11 +1,10 @@
 // The test of one place.
 ghost use mathlib.Core.Path.{_≡_};
 ghost use mathlib.Core.Bool.{_&&_};
-ghost use Prim.Native.Nat.{_≤_};
 ghost use lib.Dec.{leb, eqb};
 ghost use lib.ListN.{length, getD};
 ghost use Rattle.octet.specs.Part.{allZero};
-ghost use Rattle.record.specs.Record.{keyOf};
+ghost use Rattle.own.specs.Own.{ownKeys};
 ghost use Rattle.waiting.specs.Form.{placeForm};
 ghost use Rattle.waiting.specs.Place.{triesOf, placeRecord};
 
@@ -32,8 +31,8 @@ pub fn is_fresh(place: &[u8]) -> bool
 
 // Is a used place in form?
 pub(crate) fn place_formed(own: &[u8], place: &[u8]) -> bool
-    requires { ⌜ (32 ≤ length (now own)) × (length (now place) ≡ 140) ⌝ }
-    ensures { λ r. ⌜ r ≡ placeForm (keyOf (now (own .entry))) (now (place .entry)) ⌝ }
+    requires { ⌜ length (now place) ≡ 140 ⌝ }
+    ensures { λ r. ⌜ r ≡ placeForm (ownKeys (now (own .entry))) (now (place .entry)) ⌝ }
 {
     let head = is_fresh(place);
     if place[4] == 1 {

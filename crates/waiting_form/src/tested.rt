@@ -4,7 +4,7 @@ ghost use mathlib.Core.Path.{_≡_};
 ghost use Prim.Native.Nat.{_+_, _*_, _≤_, _<_};
 ghost use lib.ListN.{length, drop};
 ghost use Rattle.octet.specs.Part.{part};
-ghost use Rattle.record.specs.Record.{keyOf};
+ghost use Rattle.own.specs.Own.{ownKeys};
 ghost use Rattle.table.specs.Rows.{rows};
 ghost use Rattle.waiting.specs.Form.{again, placesForm, usedOf};
 ghost use Rattle.waiting_form.specs.Formed.{waitingFormed};
@@ -49,8 +49,8 @@ pub fn key_again(table: &[u8], used: usize, at: usize) -> bool
 
 // Are the used places in form, the IDs rising and the inquiries' keys different?
 fn places_formed(own: &[u8], table: &[u8], used: usize) -> bool
-    requires { ⌜ (32 ≤ length (now own)) × (140 * used ≤ length (now table)) ⌝ }
-    ensures { λ r. ⌜ r ≡ placesForm (keyOf (now (own .entry))) 0 (rows 140 used (now (table .entry))) ⌝ }
+    requires { ⌜ 140 * used ≤ length (now table) ⌝ }
+    ensures { λ r. ⌜ r ≡ placesForm (ownKeys (now (own .entry))) 0 (rows 140 used (now (table .entry))) ⌝ }
 {
     let mut low: u64 = 0;
     let mut at = 0;
@@ -68,10 +68,9 @@ fn places_formed(own: &[u8], table: &[u8], used: usize) -> bool
     true
 }
 
-// Is the table in form, for a gauge with the own record?
+// Is the table in form, for a gauge with these own records?
 pub fn form(own: &[u8], table: &[u8]) -> Formed
-    requires { ⌜ 32 ≤ length (now own) ⌝ }
-    ensures { λ r. ⌜ r ≡ waitingFormed (keyOf (now (own .entry))) (now (table .entry)) ⌝ }
+    ensures { λ r. ⌜ r ≡ waitingFormed (ownKeys (now (own .entry))) (now (table .entry)) ⌝ }
 {
     if table.len() != waiting::WAITING_LEN {
         return Formed::Bad;

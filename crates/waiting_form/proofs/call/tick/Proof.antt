@@ -6,8 +6,7 @@ use Rattle.table.specs.Rows.{Laid}
 use mathlib.Core.Bool.{true}
 use native.Mathlib.Omega.{arith}
 use borrow.Author.Tests.{not-true, not-false}
-use Rattle.record.specs.Record.{keyOf, recordForm}
-use Rattle.record.proofs.EntryLaws.{form-length}
+use Rattle.own.specs.Own.{ownKeys, ownForm}
 use Rattle.waiting_form.specs.Call.{tickDone}
 use Rattle.waiting.proofs.FormLaws.{form-size, form-laid, used-few}
 use Rattle.waiting_form.proofs.FormedLaws.{bad-form, good-form}
@@ -22,14 +21,14 @@ from c = c .before .before .before .before .before .before .before .before .befo
 
 -- the table is in form where the form test said so, and its count is the table's
 counted : (c : tie.After-known-told)
-    → (waitingForm (keyOf (from c .args .own .now)) (from c .args .table .now) ≡ true)
+    → (waitingForm (ownKeys (from c .args .own .now)) (from c .args .table .now) ≡ true)
     × (c .before .answer .given .0 .0 ≡ usedOf (from c .args .table .now))
 counted c =
     let a = c .before .before .before .before .before .before .before .before .before .before .args in
-    good-form (keyOf (a .own .now)) (a .table .now) (sym (c .before .before .before .form .ensures) ∙ c .before .answer .given .1)
+    good-form (ownKeys (a .own .now)) (a .table .now) (sym (c .before .before .before .form .ensures) ∙ c .before .answer .given .1)
 
 -- the own record is in form where the test let it pass
-whole : (c : tie.Else1) → recordForm (c .before .before .before .before .before .args .own .now) ≡ true
+whole : (c : tie.Else1) → ownForm (c .before .before .before .before .before .args .own .now) ≡ true
 whole c = sym (c .before .own-form .ensures) ∙ not-false _ (c .if1 .left)
 
 own-form-requires : tie.Need-own-form-requires
@@ -41,7 +40,7 @@ returns c =
     sym (own-bad (a .own .now) (a .table .now) (a .output .now) (sym (c .before .own-form .ensures) ∙ not-true _ (c .if1 .taken)))
 
 form-requires : tie.Need-form-requires
-form-requires c κs = omega (arith, form-length (c .before .before .before .before .before .before .args .own .now) (whole (c .before)))
+form-requires c κs = search needs
 
 enum-known-answer : tie.Need-enum-known-answer
 enum-known-answer c = search needs
@@ -56,7 +55,7 @@ returns-2 : tie.Need-returns-2
 returns-2 c =
     let a = c .before .before .before .before .before .before .before .before .before .args in
     sym (table-bad (a .own .now) (a .table .now) (a .output .now) (whole (c .before .before .before .before))
-    (bad-form (keyOf (a .own .now)) (a .table .now) (sym (c .before .before .form .ensures) ∙ c .enum-told .given .1)))
+    (bad-form (ownKeys (a .own .now)) (a .table .now) (sym (c .before .before .form .ensures) ∙ c .enum-told .given .1)))
 
 same-length-2 : tie.Need-same-length-2
 same-length-2 c = search needs
@@ -73,9 +72,9 @@ tick-places-requires c κs =
     let a = c .before .before .before .before .before .before .before .before .before .before .before .before .before .args in
     let good = counted (c .before .before .before) in (
       omega (arith, good .1, used-few (a .table .now)),
-      form-size (keyOf (a .own .now)) (a .table .now) (good .0),
+      form-size (ownKeys (a .own .now)) (a .table .now) (good .0),
       omega arith,
-      subst (λ (n : ℕ). Laid 140 n (a .table .now)) (sym (good .1)) (form-laid (keyOf (a .own .now)) (a .table .now) (good .0)),
+      subst (λ (n : ℕ). Laid 140 n (a .table .now)) (sym (good .1)) (form-laid (ownKeys (a .own .now)) (a .table .now) (good .0)),
     )
 
 same-length-3 : tie.Need-same-length-3

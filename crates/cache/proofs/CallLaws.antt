@@ -7,12 +7,15 @@ use mathlib.Core.List.{List}
 use Prim.Native.Nat.{ℕ, _<_}
 use native.Mathlib.Omega.{arith}
 use lib.ListN.{length}
-use borrow.Author.Tests.{eqb-false, not-false}
+use borrow.Author.Tests.{not-false}
 use Rattle.refusal.specs.Table.{Refusal, appliesIn, orRefuse, InOrder, byNumber}
 use Rattle.refusal.proofs.TableLaws.{AllFail, all-fail}
 use Rattle.refusal.proofs.CallLaws.{all-pass, number-is, refusal-keeps, call-exactly}
 use Rattle.key.specs.Number.{keyAt}
 use Rattle.record.specs.Record.{keyOf}
+use Rattle.own.specs.Own.{ownKeys}
+use Rattle.own.proofs.FormLaws.{own-some}
+use Rattle.own.proofs.PlaceLaws.{not-own}
 use Rattle.table.specs.Rows.{bytesOf}
 use Rattle.kept.specs.Keys.{without}
 use Rattle.kept.specs.Plain as Plain
@@ -49,37 +52,37 @@ module _ (cache : List ℕ) (rs : List Refusal) (o : InOrder byNumber 0 rs) (aft
 
 -- what a call has done that is accepted: memory is in form, and holds these records
 pub record Holds (own cache : List ℕ) (recs : List (List ℕ)) : Type 0 where
-  pub form : cacheForm (keyOf own) cache ≡ true
+  pub form : cacheForm (ownKeys own) cache ≡ true
   pub held : heldBy own cache ≡ recs
 
-holds : (own cache : List ℕ) (recs : List (List ℕ)) → Form (keyOf own) cache recs → Holds own cache recs
-holds own cache recs f = record { form = form-true (keyOf own) cache recs f; held = form-held (keyOf own) cache recs f }
+holds : (own cache : List ℕ) (recs : List (List ℕ)) → Form (ownKeys own) cache recs → Holds own cache recs
+holds own cache recs f = record { form = form-true (ownKeys own) cache recs f; held = form-held (ownKeys own) cache recs f }
 
 -- ---- learning
 
 module _ (own cache r : List ℕ) where
   learn-bytes : List ℕ
-  learn-bytes = bytesOf (length cache) (afterLearn (keyOf own) (length cache) (heldBy own cache) r)
+  learn-bytes = bytesOf (length cache) (afterLearn (ownKeys own) (length cache) (heldBy own cache) r)
 
   learn-order : InOrder byNumber 0 (learnWrong own cache r)
   learn-order = (omega arith, omega arith, (omega arith, omega arith, (omega arith, omega arith, (omega arith, omega arith, tt))))
 
-  learn-holds : AllFail (learnWrong own cache r) → Holds own learn-bytes (afterLearn (keyOf own) (length cache) (heldBy own cache) r)
+  learn-holds : AllFail (learnWrong own cache r) → Holds own learn-bytes (afterLearn (ownKeys own) (length cache) (heldBy own cache) r)
   unfolding learn-bytes
   learn-holds a =
-      holds own _ _ (learnt-form (keyOf own) cache (heldBy own cache) r (true-form (keyOf own) cache (not-false _ (a .1 .0)))
-      (not-false _ (a .1 .1 .0)) (eqb-false (keyOf r) (keyOf own) (a .1 .1 .1 .0)))
+      holds own _ _ (learnt-form (ownKeys own) cache (heldBy own cache) r (own-some own (not-false _ (a .0)))
+      (true-form (ownKeys own) cache (not-false _ (a .1 .0))) (not-false _ (a .1 .1 .0)) (not-own (ownKeys own) (keyOf r) (a .1 .1 .1 .0)))
 
   -- accepted: the record is learned, by its key as kept has it
-  pub learn-does : learnCall own cache r .number ≡ 0 → Holds own (learnCall own cache r .cache) (afterLearn (keyOf own) (length cache) (heldBy own cache) r)
+  pub learn-does : learnCall own cache r .number ≡ 0 → Holds own (learnCall own cache r .cache) (afterLearn (ownKeys own) (length cache) (heldBy own cache) r)
   unfolding learnCall learn-bytes
   learn-does e =
       let a = call-passes cache (learnWrong own cache r) learn-order learn-bytes e in
       rw (call-does cache (learnWrong own cache r) learn-order learn-bytes a) (learn-holds a)
 
   pub learn-keys : learnCall own cache r .number ≡ 0
-      → keysOf (heldBy own (learnCall own cache r .cache)) ≡ Plain.learn (keyOf own) (placesIn (length cache)) (keysOf (heldBy own cache)) (keyOf r)
-  learn-keys e = ap keysOf (learn-does e .held) ∙ learnt-keys (keyOf own) (length cache) (heldBy own cache) r
+      → keysOf (heldBy own (learnCall own cache r .cache)) ≡ Plain.learn (ownKeys own) (placesIn (length cache)) (keysOf (heldBy own cache)) (keyOf r)
+  learn-keys e = ap keysOf (learn-does e .held) ∙ learnt-keys (ownKeys own) (length cache) (heldBy own cache) r
 
   -- refused: nothing changes
   pub learn-keeps : 0 < learnCall own cache r .number → learnCall own cache r .cache ≡ cache
@@ -104,7 +107,7 @@ module _ (own cache key : List ℕ) where
 
   remove-holds : AllFail (removeWrong own cache key) → Holds own remove-bytes (afterRemove (keyAt 0 key) (heldBy own cache))
   unfolding remove-bytes
-  remove-holds a = holds own _ _ (removed-form (keyOf own) (keyAt 0 key) cache (heldBy own cache) (true-form (keyOf own) cache (not-false _ (a .1 .0))))
+  remove-holds a = holds own _ _ (removed-form (ownKeys own) (keyAt 0 key) cache (heldBy own cache) (true-form (ownKeys own) cache (not-false _ (a .1 .0))))
 
   pub remove-does : removeCall own cache key .number ≡ 0 → Holds own (removeCall own cache key .cache) (afterRemove (keyAt 0 key) (heldBy own cache))
   unfolding removeCall remove-bytes

@@ -23,6 +23,8 @@ use Rattle.table.specs.Rows.{rows, joined, bytesOf, Sized, Laid}
 use Rattle.table.proofs.RowLaws.{rows-length, rows-take, rows-append, rows-of-joined, joined-length, bytes-clear, laid-bytes}
 use Rattle.kept.specs.Keys.{Every, Rising, plain}
 use Rattle.kept.specs.Plain.{NotOwn}
+use Rattle.own.specs.Own.{Own, isOwn}
+use Rattle.own.proofs.PlaceLaws.{not-own, own-not}
 use Rattle.cache.specs.Form.{keysOf, placesIn, Places, Form, follows, leading, heldIn, heldOf, cacheForm}
 
 -- ---- a row
@@ -44,31 +46,31 @@ formed-sized [] h = tt
 formed-sized (r ∷ recs) h = (form-length r (h .0), formed-sized recs (h .1))
 
 -- what `follows` tells, of records by whatever test
-pub record Follows (good : List ℕ → Bool) (own low : ℕ) (r : List ℕ) : Type 0 where
+pub record Follows (good : List ℕ → Bool) (own : Own) (low : ℕ) (r : List ℕ) : Type 0 where
   pub formed : good r ≡ true
   pub least : low ≤ keyOf r
   pub other : NotOwn own (keyOf r)
 
-pub follows-tells : (good : List ℕ → Bool) (own low : ℕ) (r : List ℕ) → follows good own low r ≡ true → Follows good own low r
+pub follows-tells : (good : List ℕ → Bool) (own : Own) (low : ℕ) (r : List ℕ) → follows good own low r ≡ true → Follows good own low r
 unfolding follows
 follows-tells good own low r e =
-    let p = both-true (good r && leb low (keyOf r)) (not (eqb (keyOf r) own)) e in
+    let p = both-true (good r && leb low (keyOf r)) (not (isOwn own (keyOf r))) e in
     let q = both-true (good r) (leb low (keyOf r)) (p .0) in
-    record { formed = q .0; least = leb-true low (keyOf r) (q .1); other = eqb-false (keyOf r) own (not-true (eqb (keyOf r) own) (p .1)) }
+    record { formed = q .0; least = leb-true low (keyOf r) (q .1); other = not-own own (keyOf r) (not-true (isOwn own (keyOf r)) (p .1)) }
 
-pub follows-told : (good : List ℕ → Bool) (own low : ℕ) (r : List ℕ) → Follows good own low r → follows good own low r ≡ true
+pub follows-told : (good : List ℕ → Bool) (own : Own) (low : ℕ) (r : List ℕ) → Follows good own low r → follows good own low r ≡ true
 unfolding follows
-follows-told good own low r h = rw (h .formed, le-leb low (keyOf r) (h .least), ne-eqb (keyOf r) own (h .other)) refl
+follows-told good own low r h = rw (h .formed, le-leb low (keyOf r) (h .least), own-not own (keyOf r) (h .other)) refl
 
 -- ---- what is counted has the form of records held
 
 -- the same as `Held`, where the first key is at least low
-pub record From (good : List ℕ → Bool) (own low : ℕ) (recs : List (List ℕ)) : Type 0 where
+pub record From (good : List ℕ → Bool) (own : Own) (low : ℕ) (recs : List (List ℕ)) : Type 0 where
   pub formed : Every (λ (r : List ℕ). good r ≡ true) recs
   pub rising : Rising plain low (keysOf recs)
   pub others : Every (NotOwn own) (keysOf recs)
 
-pub counted : (good : List ℕ → Bool) (own low : ℕ) (rs : List (List ℕ)) → From good own low (take (leading good own low rs) rs)
+pub counted : (good : List ℕ → Bool) (own : Own) (low : ℕ) (rs : List (List ℕ)) → From good own low (take (leading good own low rs) rs)
 unfolding leading
 counted good own low [] = record { formed = tt; rising = tt; others = tt }
 counted good own low (r ∷ rs) = go (follows good own low r) refl (counted good own (suc (keyOf r)) rs)
@@ -80,7 +82,7 @@ counted good own low (r ∷ rs) = go (follows good own low r) refl (counted good
         record { formed = (f .formed, t .formed); rising = (f .least, t .rising); others = (f .other, t .others) }
     go false e t = record { formed = tt; rising = tt; others = tt }
 
-pub leading-most : (good : List ℕ → Bool) (own low : ℕ) (rs : List (List ℕ)) → leading good own low rs ≤ length rs
+pub leading-most : (good : List ℕ → Bool) (own : Own) (low : ℕ) (rs : List (List ℕ)) → leading good own low rs ≤ length rs
 unfolding leading
 leading-most good own low [] = omega arith
 leading-most good own low (r ∷ rs) = go (follows good own low r) (leading-most good own (suc (keyOf r)) rs)
@@ -89,7 +91,7 @@ leading-most good own low (r ∷ rs) = go (follows good own low r) (leading-most
     go true h = omega arith
     go false h = omega arith
 
-pub held-most : (own : ℕ) (s : List ℕ) → heldIn own s ≤ placesIn (length s)
+pub held-most : (own : Own) (s : List ℕ) → heldIn own s ≤ placesIn (length s)
 unfolding heldIn
 held-most own s = omega (arith, leading-most recordForm own 0 (rows 100 (placesIn (length s)) s), rows-length 100 (placesIn (length s)) s)
 
@@ -100,7 +102,7 @@ abbrev pub Stops : (List ℕ → Bool) → List (List ℕ) → Type 0
 Stops good [] = Unit {0}
 Stops good (z ∷ zs) = good z ≡ false
 
-pub counts : (good : List ℕ → Bool) (own low : ℕ) (recs zs : List (List ℕ)) → From good own low recs → Stops good zs → leading good own low (recs ++ zs) ≡ length recs
+pub counts : (good : List ℕ → Bool) (own : Own) (low : ℕ) (recs zs : List (List ℕ)) → From good own low recs → Stops good zs → leading good own low (recs ++ zs) ≡ length recs
 unfolding leading follows
 counts good own low [] [] h st = refl
 counts good own low [] (z ∷ zs) h st = rw st refl
@@ -134,7 +136,7 @@ zeros-stop (suc k) m = zeros-bad m
 -- ---- the form
 
 -- memory laid out in rows that may stand one after the other is in form
-pub form-of : (own : ℕ) (s : List ℕ) (used : ℕ) → Places (length s) → used ≡ heldIn own s → Laid 100 used s → Form own s (rows 100 used s)
+pub form-of : (own : Own) (s : List ℕ) (used : ℕ) → Places own (length s) → used ≡ heldIn own s → Laid 100 used s → Form own s (rows 100 used s)
 unfolding heldIn
 form-of own s used pl e laid =
     let n : ℕ = placesIn (length s) in
@@ -147,7 +149,7 @@ form-of own s used pl e laid =
       held = record { formed = c .formed; rising = c .rising; others = c .others };
     }
 
-module _ (own : ℕ) (s : List ℕ) (recs : List (List ℕ)) (f : Form own s recs) where
+module _ (own : Own) (s : List ℕ) (recs : List (List ℕ)) (f : Form own s recs) where
   sized : Sized 100 recs
   sized = formed-sized recs (f .held .formed)
 
@@ -188,18 +190,24 @@ module _ (own : ℕ) (s : List ℕ) (recs : List (List ℕ)) (f : Form own s rec
   pub form-true : cacheForm own s ≡ true
   unfolding cacheForm
   form-true =
-      rw (eq-eqb (length s % 100) 0 (f .places .whole), le-leb 1000 (length s) (f .places .least), le-leb (length s) 25600 (f .places .most), form-counts)
+      rw (
+        eq-eqb (length s % 100) 0 (f .places .whole),
+        le-leb 1000 (length s) (f .places .least),
+        le-leb (length s) 25600 (f .places .most),
+        le-leb (1000 * length own) (length s) (f .places .enough),
+        form-counts,
+      )
       form-clear
 
 -- there is one list of records that a cache in form holds
-pub form-unique : (own : ℕ) (s : List ℕ) (a b : List (List ℕ)) → Form own s a → Form own s b → a ≡ b
+pub form-unique : (own : Own) (s : List ℕ) (a b : List (List ℕ)) → Form own s a → Form own s b → a ≡ b
 form-unique own s a b f g = sym (form-held own s a f) ∙ form-held own s b g
 
 -- where the first rows are the records, so many are counted, and memory is laid out in them
-pub form-used : (own used : ℕ) (s : List ℕ) → Form own s (rows 100 used s) → heldIn own s ≡ used
+pub form-used : (own : Own) (used : ℕ) (s : List ℕ) → Form own s (rows 100 used s) → heldIn own s ≡ used
 form-used own used s f = form-counts own s (rows 100 used s) f ∙ rows-length 100 used s
 
-pub form-laid : (own used : ℕ) (s : List ℕ) → Form own s (rows 100 used s) → Laid 100 used s
+pub form-laid : (own : Own) (used : ℕ) (s : List ℕ) → Form own s (rows 100 used s) → Laid 100 used s
 form-laid own used s f =
     let n = rows-length 100 used s in record {
       room = omega (arith, form-room own s (rows 100 used s) f, n);
@@ -208,19 +216,21 @@ form-laid own used s f =
 
 -- ---- the test
 
-pub true-form : (own : ℕ) (s : List ℕ) → cacheForm own s ≡ true → Form own s (heldOf own s)
+pub true-form : (own : Own) (s : List ℕ) → cacheForm own s ≡ true → Form own s (heldOf own s)
 unfolding cacheForm heldOf
 true-form own s e =
-    let a = both-true (eqb (length s % 100) 0 && leb 1000 (length s) && leb (length s) 25600) _ e in
-    let b = both-true (eqb (length s % 100) 0 && leb 1000 (length s)) _ (a .0) in
+    let a = both-true (eqb (length s % 100) 0 && leb 1000 (length s) && leb (length s) 25600 && leb (1000 * length own) (length s)) _ e in
+    let d = both-true (eqb (length s % 100) 0 && leb 1000 (length s) && leb (length s) 25600) _ (a .0) in
+    let b = both-true (eqb (length s % 100) 0 && leb 1000 (length s)) _ (d .0) in
     let c = both-true (eqb (length s % 100) 0) _ (b .0) in
-    let pl : Places (length s) = record {
+    let pl : Places own (length s) = record {
       whole = eqb-true (length s % 100) 0 (c .0);
       least = leb-true 1000 (length s) (c .1);
       most = leb-true (length s) 25600 (b .1);
+      enough = leb-true (1000 * length own) (length s) (d .1);
     } in
     form-of own s (heldIn own s) pl refl (record { room = omega (arith, held-most own s, pl .whole); clear = a .1 })
 
 -- it holds exactly where the cache holds some records; `form-held` says which
-pub cache-form : (own : ℕ) (s : List ℕ) → (cacheForm own s ≡ true) ↔ Form own s (heldOf own s)
+pub cache-form : (own : Own) (s : List ℕ) → (cacheForm own s ≡ true) ↔ Form own s (heldOf own s)
 cache-form own s = (true-form own s, form-true own s (heldOf own s))

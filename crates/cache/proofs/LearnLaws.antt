@@ -1,6 +1,6 @@
 -- Learning and removing on the list of records, as code meets them: a row inserted, and one taken out.
 -- In this order: a place taken out; inserting and taking out, in either order; a key not held is learned.
--- Elsewhere: which place goes, in GoesLaws; a row exchanged on the bytes, in crate table. Assumes nothing.
+-- Elsewhere: which place goes, in crate going; a row exchanged on the bytes, in crate table. Assumes nothing.
 use mathlib.Core.Path.{_≡_, refl, sym, ap, _∙_}
 use mathlib.Core.Bool.{true, false, cond}
 use mathlib.Core.List.{List, [], _∷_}
@@ -14,13 +14,15 @@ use Rattle.record.specs.Record.{keyOf}
 use Rattle.table.specs.Rows.{rows, insertAt, removeAt}
 use Rattle.table.proofs.RowLaws.{rows-length, row-at}
 use Rattle.kept.specs.Keys.{Every, has, Rising, plain, put}
-use Rattle.kept.specs.Plain.{NotOwn, drops}
+use Rattle.kept.specs.Plain.{NotOwn, firstOf, drops}
+use Rattle.own.specs.Own.{Own}
 use Rattle.kept.specs.Records.{putBy, withoutBy, learnBy}
 use Rattle.kept.proofs.ListLaws.{rising-put, every-put}
 use Rattle.kept.proofs.RecordLaws.{keys-put}
+use Rattle.going.specs.Going.{Goes}
 use Rattle.cache.specs.declared.place.Found.the-variants.{Before}
 use Rattle.cache.specs.Form.{keysOf, placesIn, Form}
-use Rattle.cache.specs.Place.{findKey, Goes}
+use Rattle.cache.specs.Place.{findKey}
 use Rattle.cache.specs.Bytes.{afterLearn}
 use Rattle.cache.specs.Change.{changes, learned, removed}
 use Rattle.cache.proofs.FormLaws.{form-laid, key-of-row}
@@ -117,7 +119,7 @@ out-after (suc i) (suc (suc g)) r (x ∷ xs) h l =
 
 -- ---- a record whose key is not held is learned
 
-module _ (own used at : ℕ) (s r : List ℕ) (f : Form own s (rows 100 used s)) (found : findKey (keyOf r) (keysOf (rows 100 used s)) ≡ Before at) where
+module _ (own : Own) (used at : ℕ) (s r : List ℕ) (f : Form own s (rows 100 used s)) (found : findKey (keyOf r) (keysOf (rows 100 used s)) ≡ Before at) where
   recs : List (List ℕ)
   recs = rows 100 used s
 
@@ -181,7 +183,7 @@ module _ (own used at : ℕ) (s r : List ℕ) (f : Form own s (rows 100 used s))
     more-some = omega (arith, size)
 
     -- one is too many: the row that goes is any that the rule names
-    module _ (full : length s ≤ 100 * used) (g : ℕ) (goes : Goes own (keysOf (insertAt at r (rows 100 used s))) g) where
+    module _ (full : length s ≤ 100 * used) (g : ℕ) (goes : Goes (firstOf own) own (keysOf (insertAt at r (rows 100 used s))) g) where
       over : afterLearn own (length s) (rows 100 used s) r ≡ withoutBy keyOf (drops own (keysOf more)) more
       unfolding learnBy recs more
       over = rw (put-is, lt-ltb (placesIn (length s)) (length more) (omega (arith, more-length, f .places .whole))) refl
@@ -246,7 +248,7 @@ module _ (own used at : ℕ) (s r : List ℕ) (f : Form own s (rows 100 used s))
           sym (told-full ∙ rw (eq-eqb (drops own (keysOf more)) (keyOf r) n) refl)
 
 -- a held key has its record replaced
-pub told-held : (own size : ℕ) (recs : List (List ℕ)) (r : List ℕ) → has (keyOf r) (keysOf recs) ≡ true → changes false false 0 ≡ learned own size recs r
+pub told-held : (own : Own) (size : ℕ) (recs : List (List ℕ)) (r : List ℕ) → has (keyOf r) (keysOf recs) ≡ true → changes false false 0 ≡ learned own size recs r
 unfolding learned
 told-held own size recs r h = sym (rw h refl)
 
@@ -259,7 +261,7 @@ pub told-kept : (k : ℕ) (recs : List (List ℕ)) → has k (keysOf recs) ≡ f
 unfolding removed
 told-kept k recs h = sym (rw h refl)
 
-pub held-room : (own used : ℕ) (s r : List ℕ) → Form own s (rows 100 used s) → length (putBy keyOf r (rows 100 used s)) ≤ used
+pub held-room : (own : Own) (used : ℕ) (s r : List ℕ) → Form own s (rows 100 used s) → length (putBy keyOf r (rows 100 used s)) ≤ used
     → putBy keyOf r (rows 100 used s) ≡ afterLearn own (length s) (rows 100 used s) r
 unfolding learnBy
 held-room own used s r f h =

@@ -4,11 +4,9 @@ use mathlib.Core.Bool.{Bool, true, false, not, cond}
 use mathlib.Core.List.{List}
 use Prim.Native.Nat.{ℕ}
 use native.Mathlib.Omega.{arith}
-use lib.ListN.{length}
 use Rattle.refusal.specs.Table.{Refusal, orRefuse}
 use Rattle.refusal.proofs.CallLaws.{row-applies, row-passes}
-use Rattle.record.specs.Record.{keyOf, recordForm}
-use Rattle.record.proofs.EntryLaws.{form-length}
+use Rattle.own.specs.Own.{ownForm, ownKeys}
 use Rattle.table.specs.Rows.{rows}
 use Rattle.cache.specs.declared.shape.Formed.{Formed}
 use Rattle.cache.specs.declared.shape.Formed.the-variants.{Bad, Good}
@@ -25,41 +23,41 @@ not-isn't {b} e = rw e refl
 
 -- what the test of memory tells where it is good
 record Good-memory (own cache : List ℕ) (used : ℕ) : Type 0 where
-  pub formed : recordForm own ≡ true
-  pub form : cacheFormed (keyOf own) cache ≡ Good used
+  pub formed : ownForm own ≡ true
+  pub form : cacheFormed (ownKeys own) cache ≡ Good used
 
-tells : (own cache : List ℕ) (used : ℕ) (b : Bool) → recordForm own ≡ b → cond b (cacheFormed (keyOf own) cache) Bad ≡ Good used → Good-memory own cache used
+tells : (own cache : List ℕ) (used : ℕ) (b : Bool) → ownForm own ≡ b → cond b (cacheFormed (ownKeys own) cache) Bad ≡ Good used → Good-memory own cache used
 tells own cache used true e g = record { formed = e; form = g }
 tells own cache used false e g = let z : _≡_ {A = ℕ} 0 1 = cc in absurd (omega arith)
 
-module _ (own cache : List ℕ) {m : Formed} (is : m ≡ cond (recordForm own) (cacheFormed (keyOf own) cache) Bad) where
+module _ (own cache : List ℕ) {m : Formed} (is : m ≡ cond (ownForm own) (cacheFormed (ownKeys own) cache) Bad) where
   module _ {used : ℕ} (good : m ≡ Good used) where
     both : Good-memory own cache used
-    both = tells own cache used (recordForm own) refl (sym is ∙ good)
+    both = tells own cache used (ownForm own) refl (sym is ∙ good)
 
-    pub memory-own : length own ≡ 100
-    memory-own = form-length own (both .formed)
+    pub memory-own : ownForm own ≡ true
+    memory-own = both .formed
 
-    pub memory-form : Form (keyOf own) cache (rows 100 used cache)
-    memory-form = good-form (keyOf own) cache (both .form)
+    pub memory-form : Form (ownKeys own) cache (rows 100 used cache)
+    memory-form = good-form (ownKeys own) cache (both .form)
 
     pub memory-held : heldBy own cache ≡ rows 100 used cache
-    memory-held = good-held (keyOf own) cache (both .form)
+    memory-held = good-held (ownKeys own) cache (both .form)
 
     pub memory-passes : {A : Type 0} (refuse : ℕ → A) (more : List Refusal) (done : A)
         → orRefuse refuse (memoryWrong own cache more) done ≡ orRefuse refuse more done
     memory-passes refuse more done =
-        row-passes refuse 1 (not (recordForm own)) _ done (not-is (both .formed))
-        ∙ row-passes refuse 1 (not (cacheForm (keyOf own) cache)) more done (not-is (good-is (keyOf own) cache (both .form) .0))
+        row-passes refuse 1 (not (ownForm own)) _ done (not-is (both .formed))
+        ∙ row-passes refuse 1 (not (cacheForm (ownKeys own) cache)) more done (not-is (good-is (ownKeys own) cache (both .form) .0))
 
   pub memory-refuses : m ≡ Bad → {A : Type 0} (refuse : ℕ → A) (more : List Refusal) (done : A) → orRefuse refuse (memoryWrong own cache more) done ≡ refuse 1
-  memory-refuses bad refuse more done = by-case (recordForm own) refl
+  memory-refuses bad refuse more done = by-case (ownForm own) refl
     where
-      later : recordForm own ≡ true → cacheForm (keyOf own) cache ≡ false
-      later e = bad-is (keyOf own) cache (sym (rw e refl) ∙ sym is ∙ bad)
+      later : ownForm own ≡ true → cacheForm (ownKeys own) cache ≡ false
+      later e = bad-is (ownKeys own) cache (sym (rw e refl) ∙ sym is ∙ bad)
 
-      by-case : (b : Bool) → recordForm own ≡ b → orRefuse refuse (memoryWrong own cache more) done ≡ refuse 1
-      by-case false e = row-applies refuse 1 (not (recordForm own)) _ done (not-isn't e)
+      by-case : (b : Bool) → ownForm own ≡ b → orRefuse refuse (memoryWrong own cache more) done ≡ refuse 1
+      by-case false e = row-applies refuse 1 (not (ownForm own)) _ done (not-isn't e)
       by-case true e =
-          row-passes refuse 1 (not (recordForm own)) _ done (not-is e)
-          ∙ row-applies refuse 1 (not (cacheForm (keyOf own) cache)) more done (not-isn't (later e))
+          row-passes refuse 1 (not (ownForm own)) _ done (not-is e)
+          ∙ row-applies refuse 1 (not (cacheForm (ownKeys own) cache)) more done (not-isn't (later e))

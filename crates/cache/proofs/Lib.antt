@@ -3,9 +3,7 @@ pub mod ShapeLaws
 pub mod OrderedLaws
 pub mod FindLaws
 pub mod LearnLaws
-pub mod GoesLaws
 pub mod KeepLaws
-pub mod SideLaws
 pub mod LentLaws
 pub mod CallLaws
 pub mod SearchLaws

@@ -10,6 +10,7 @@ use borrow.Author.Tests.{not-false}
 use Rattle.key.specs.Number.{keyAt}
 use Rattle.record.specs.Record.{keyOf}
 use Rattle.refusal.proofs.CallLaws.{or-known}
+use Rattle.own.specs.Own.{ownKeys}
 use Rattle.table.proofs.RowLaws.{rows-length}
 use Rattle.kept.specs.Turned.{countUnder}
 use Rattle.kept.specs.Keys.{has}
@@ -43,19 +44,19 @@ module _ (k : ℕ) (ks : List ℕ) {q : Sought} (is : q ≡ soughtIn k ks) where
 -- ---- how few
 
 -- at most 256 records are held
-pub held-most : (own cache : List ℕ) → cacheForm (keyOf own) cache ≡ true → length (heldBy own cache) ≤ 256
+pub held-most : (own cache : List ℕ) → cacheForm (ownKeys own) cache ≡ true → length (heldBy own cache) ≤ 256
 unfolding heldOf
 held-most own cache e =
-    let f = true-form (keyOf own) cache e in
-    let n = heldIn (keyOf own) cache in
-    omega (arith, rows-length 100 n cache, form-laid (keyOf own) n cache f .room, f .places .most)
+    let f = true-form (ownKeys own) cache e in
+    let n = heldIn (ownKeys own) cache in
+    omega (arith, rows-length 100 n cache, form-laid (ownKeys own) n cache f .room, f .places .most)
 
 -- the keys held are as many as the records, and a search compares at most as many as that number has binary digits
 pub keys-bound : (own cache : List ℕ) (k : ℕ) → halvings (keysOf (heldBy own cache)) k ≤ digits (length (heldBy own cache))
 keys-bound own cache k =
     omega (arith, at-most-digits (keysOf (heldBy own cache)) k, ap digits (length-map (heldBy own cache) keyOf))
 
-pub keys-few : (own cache : List ℕ) (k : ℕ) → cacheForm (keyOf own) cache ≡ true → halvings (keysOf (heldBy own cache)) k ≤ 9
+pub keys-few : (own cache : List ℕ) (k : ℕ) → cacheForm (ownKeys own) cache ≡ true → halvings (keysOf (heldBy own cache)) k ≤ 9
 keys-few own cache k e =
     omega (arith, keys-bound own cache k, digits-le (length (heldBy own cache)) 256 (held-most own cache e), digits-256)
 

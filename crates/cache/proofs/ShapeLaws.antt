@@ -15,25 +15,18 @@ use Rattle.octet.specs.Part.{part, allZero}
 use Rattle.key.proofs.OrderLaws.{test-less}
 use Rattle.key.specs.Number.{keyAt}
 use Rattle.record.specs.Record.{keyOf, recordForm}
+use Rattle.own.specs.Own.{Own}
+use Rattle.own.specs.Low.{lowAt}
+use Rattle.own.proofs.LowLaws.{low-first, low-next}
 use Rattle.table.specs.Rows.{rows}
 use Rattle.table.proofs.RowLaws.{rows-next, rows-end}
 use Rattle.search.proofs.SeekLaws.{first-less}
 use Rattle.cache.specs.declared.shape.Formed.the-variants.{Bad, Good}
 use Rattle.cache.specs.Form.{Form, follows, leading, heldIn, heldOf, cacheForm, placesIn}
-use Rattle.cache.specs.Place.{cacheFormed, lowAt, Carried}
+use Rattle.cache.specs.Place.{cacheFormed, Carried}
 use Rattle.cache.proofs.FormLaws.{key-of-row, true-form}
 
 -- ---- what the key of a place has to be at least
-
-pub low-first : (s : List ℕ) (i k : ℕ) → i ≡ 0 → leb (lowAt s i) k ≡ true
-unfolding lowAt
-low-first s i k e = ap (λ (j : ℕ). leb (lowAt s j) k) e ∙ le-leb 0 k (omega arith)
-
-pub low-next : (s : List ℕ) (i k : ℕ) → (i ≡ 0 → ⊥) → leb (lowAt s i) k ≡ ltb (keyAt (100 * (i - 1)) s) k
-unfolding lowAt
-low-next s i k d =
-    let p : i ≡ suc (i - 1) = omega arith in
-    ap (λ (j : ℕ). leb (lowAt s j) k) p
 
 -- by the key before it
 pub low-by : (s : List ℕ) (i k : ℕ) → ltb (keyAt (100 * (i - 1)) s) k ≡ true → true ≡ leb (lowAt s i) k
@@ -56,7 +49,7 @@ carried-next s i last e = subst (λ (n : ℕ). Carried s n last) (sym (add-one i
 
 -- ---- the loop that counts the places in order
 
-module _ (good : List ℕ → Bool) (own n : ℕ) (s : List ℕ) (i : ℕ) where
+module _ (good : List ℕ → Bool) (own : Own) (n : ℕ) (s : List ℕ) (i : ℕ) where
   step : (b : Bool) → i < n → follows good own (lowAt s i) (part (100 * i) 100 s) ≡ b
       → leading good own (lowAt s i) (drop i (rows 100 n s)) ≡ cond b (suc (leading good own (lowAt s (i + 1)) (drop (i + 1) (rows 100 n s)))) 0
   unfolding leading lowAt
@@ -83,7 +76,7 @@ module _ (good : List ℕ → Bool) (own n : ℕ) (s : List ℕ) (i : ℕ) where
 
 -- ---- the answer
 
-module _ (own : ℕ) (s : List ℕ) where
+module _ (own : Own) (s : List ℕ) where
   pub not-whole : (length s % 100 ≡ 0 → ⊥) → cacheFormed own s ≡ Bad
   unfolding cacheFormed cacheForm
   not-whole d = rw (ne-eqb (length s % 100) 0 d) refl
@@ -98,11 +91,23 @@ module _ (own : ℕ) (s : List ℕ) where
       unfolding cacheFormed cacheForm
       too-large h = rw (eq-eqb (length s % 100) 0 whole, le-leb 1000 (length s) least, lt-leb (length s) 25600 h) refl
 
-      pub by-rest : (used : ℕ) (b : Bool) → length s ≤ 25600 → used ≡ leading recordForm own 0 (rows 100 (placesIn (length s)) s)
+      pub too-few : length s ≤ 25600 → length s < 1000 * length own → cacheFormed own s ≡ Bad
+      unfolding cacheFormed cacheForm
+      too-few m h =
+          rw (eq-eqb (length s % 100) 0 whole, le-leb 1000 (length s) least, le-leb (length s) 25600 m, lt-leb (1000 * length own) (length s) h) refl
+
+      pub by-rest : (used : ℕ) (b : Bool) → length s ≤ 25600 → 1000 * length own ≤ length s → used ≡ leading recordForm own 0 (rows 100 (placesIn (length s)) s)
           → b ≡ allZero (drop (100 * used) s) → cacheFormed own s ≡ cond b (Good used) Bad
       unfolding cacheFormed cacheForm heldIn
-      by-rest used b most is z =
-          rw (eq-eqb (length s % 100) 0 whole, le-leb 1000 (length s) least, le-leb (length s) 25600 most, z, is) refl
+      by-rest used b most enough is z =
+          rw (
+            eq-eqb (length s % 100) 0 whole,
+            le-leb 1000 (length s) least,
+            le-leb (length s) 25600 most,
+            le-leb (1000 * length own) (length s) enough,
+            z,
+            is,
+          ) refl
 
   tells : (b : Bool) (n m : ℕ) → cond b (Good n) Bad ≡ Good m → (b ≡ true) × (n ≡ m)
   tells true n m e = (refl, cc)

@@ -6,6 +6,7 @@ use lib.Dec.{ltb, eqb}
 use lib.ListN.{length}
 use Rattle.key.specs.Number.{number}
 use Rattle.record.specs.Record.{keyOf}
+use Rattle.own.specs.Own.{Own}
 use Rattle.kept.specs.Keys.{has}
 use Rattle.kept.specs.Records.{putBy}
 use Rattle.kept.specs.Plain.{drops}
@@ -25,7 +26,7 @@ abbrev pub changesOf : Change → Changes
 changesOf c = changes (c .joined) (c .left) (number (c .gone))
 
 -- a held key has its record replaced; another joins, and where that is one too many the one dropped leaves, which may be the newcomer itself
-unfoldable pub learned : ℕ → ℕ → List (List ℕ) → List ℕ → Changes
+unfoldable pub learned : Own → ℕ → List (List ℕ) → List ℕ → Changes
 learned own size recs r =
     let more = putBy keyOf r recs in
     let k = drops own (keysOf more) in

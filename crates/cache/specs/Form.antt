@@ -1,5 +1,6 @@
 -- To believe. "The cache: C records, C from 10 to 256, length exactly 100 x C. Used records first, keys strictly increasing, none equal to the own key; the
--- rest all zero." As a property of the cache with a list of records, and as the test that refusal 1 asks. Assumes nothing.
+-- rest all zero." Own keys are several, and C is at least ten times their number (02, Wish 11). As a property of the cache with a list of records, and as the
+-- test that refusal 1 asks. Assumes nothing.
 use Prim.Native.Nat.{ℕ, suc, _*_, _/_, _%_, _≤_}
 use mathlib.Core.Path.{_≡_}
 use mathlib.Core.Bool.{Bool, true, not, cond, _&&_}
@@ -20,13 +21,14 @@ keysOf recs = map keyOf recs
 abbrev pub placesIn : ℕ → ℕ
 placesIn size = size / 100
 
--- a cache may have so many bytes
-pub record Places (size : ℕ) : Type 0 where
+-- a cache under our keys may have so many bytes
+pub record Places (own : Own) (size : ℕ) : Type 0 where
   pub whole : size % 100 ≡ 0
   pub least : 1000 ≤ size
   pub most : size ≤ 25600
+  pub enough : 1000 * length own ≤ size
 
--- records that a cache under the own key may hold
+-- records that it may hold
 pub record HeldRecords (own : Own) (recs : List (List ℕ)) : Type 0 where
   pub formed : Every (λ (r : List ℕ). recordForm r ≡ true) recs
   pub rising : Rising plain 0 (keysOf recs)
@@ -34,7 +36,7 @@ pub record HeldRecords (own : Own) (recs : List (List ℕ)) : Type 0 where
 
 -- the cache holds these records
 pub record Form (own : Own) (cache : List ℕ) (recs : List (List ℕ)) : Type 0 where
-  pub places : Places (length cache)
+  pub places : Places own (length cache)
   pub bytes : cache ≡ bytesOf (length cache) recs
   pub held : HeldRecords own recs
 
@@ -57,13 +59,14 @@ unfoldable pub heldOf : Own → List ℕ → List (List ℕ)
 heldOf own cache = rows 100 (heldIn own cache) cache
 
 -- has a cache C places, and nothing behind the first n records?
-abbrev pub holds : ℕ → List ℕ → Bool
-holds n cache =
+abbrev pub holds : Own → ℕ → List ℕ → Bool
+holds own n cache =
     eqb (length cache % 100) 0
     && leb 1000 (length cache)
     && leb (length cache) 25600
+    && leb (1000 * length own) (length cache)
     && allZero (drop (100 * n) cache)
 
 -- is the cache in form?
 unfoldable pub cacheForm : Own → List ℕ → Bool
-cacheForm own cache = holds (heldIn own cache) cache
+cacheForm own cache = holds own (heldIn own cache) cache

@@ -1,15 +1,13 @@
 -- Helps the code. Where a key stands among rising keys, or would; and the answers of the searches, by enum. Assumes nothing.
-use Prim.Native.Nat.{ℕ, zero, suc, _-_, _*_, _<_}
+use Prim.Native.Nat.{ℕ, zero, suc, _*_}
 use mathlib.Core.Path.{_≡_}
-use mathlib.Core.Bool.{Bool, true, false, cond, _&&_}
+use mathlib.Core.Bool.{Bool, true, false, cond, _&&_, _||_}
 use mathlib.Core.List.{List, [], _∷_}
 use lib.Dec.{leb, ltb, eqb}
-use lib.ListN.{length, getD}
 use Rattle.octet.specs.Number.{valueBE}
 use Rattle.octet.specs.Part.{part}
-use Rattle.key.specs.Number.{keyAt}
 use Rattle.record.specs.Record.{keyOf, recordForm}
-use Rattle.kept.specs.Plain.{drops}
+use Rattle.own.specs.Own.{Own, isOwn}
 use Rattle.cache.specs.Form.{heldIn, cacheForm}
 use Rattle.cache.specs.declared.shape.Formed.{Formed}
 use Rattle.cache.specs.declared.shape.Formed.the-variants.{Bad, Good}
@@ -17,7 +15,7 @@ use Rattle.cache.specs.declared.place.Found.{Found}
 use Rattle.cache.specs.declared.place.Found.the-variants.{At, Before}
 
 -- the test of the form, with how many records are held
-unfoldable pub cacheFormed : ℕ → List ℕ → Formed
+unfoldable pub cacheFormed : Own → List ℕ → Formed
 cacheFormed own cache = cond (cacheForm own cache) (Good (heldIn own cache)) Bad
 
 -- is the row r a record whose key is at least low, whosever it is?
@@ -29,10 +27,10 @@ unfoldable pub ordered : ℕ → List (List ℕ) → ℕ
 ordered low [] = 0
 ordered low (r ∷ rs) = cond (rises low r) (suc (ordered (suc (keyOf r)) rs)) 0
 
--- what the key of place i has to be at least: above the one before it
-unfoldable pub lowAt : List ℕ → ℕ → ℕ
-lowAt cache zero = 0
-lowAt cache (suc i) = suc (keyAt (100 * i) cache)
+-- is one of the keys ours?
+unfoldable pub anyOwn : Own → List ℕ → Bool
+anyOwn own [] = false
+anyOwn own (k ∷ ks) = isOwn own k || anyOwn own ks
 
 -- the first word of the key before place i, which the loop over the places carries along; anything before the first
 abbrev pub Carried : List ℕ → ℕ → ℕ → Type 0
@@ -53,8 +51,3 @@ findKey k (j ∷ ks) = cond (ltb j k) (further (findKey k ks)) (cond (eqb j k) (
 abbrev pub isFound : Found → Bool
 isFound (At i) = true
 isFound (Before i) = false
-
--- the key at place i is the one that the drop rule names
-pub record Goes (own : ℕ) (keys : List ℕ) (i : ℕ) : Type 0 where
-  pub inside : i < length keys
-  pub named : drops own keys ≡ getD keys i 0

@@ -1,7 +1,7 @@
 // Calls on memory that nobody has tested: refused with the number of document 01, nothing changed, or done.
 ghost use mathlib.Core.Path.{_≡_};
 ghost use mathlib.Core.Bool.{cond};
-ghost use Rattle.record.specs.Record.{keyOf, recordForm};
+ghost use Rattle.own.specs.Own.{ownForm, ownKeys};
 ghost use Rattle.cache.specs.Place.{cacheFormed};
 ghost use Rattle.cache.specs.Calls.{cacheChanged, learnCall, removeCall};
 ghost use Rattle.cache.specs.Searching.{searchCall};
@@ -19,10 +19,10 @@ pub struct Searched {
     pub compared: usize,
 }
 
-// Are our own record and the cache in form, and how many records are held?
+// Are our own records and the cache in form, and how many records are held?
 pub fn memory(own: &[u8], cache: &[u8]) -> Formed
     ensures { λ r. ⌜ r
-        ≡ cond (recordForm (now (own .entry))) (cacheFormed (keyOf (now (own .entry))) (now (cache .entry))) Bad ⌝ }
+        ≡ cond (ownForm (now (own .entry))) (cacheFormed (ownKeys (now (own .entry))) (now (cache .entry))) Bad ⌝ }
 {
     if !own::own_form(own) {
         return Formed::Bad;

@@ -1,24 +1,21 @@
 // Learning a record, and removing a key, in a cache that is in form.
 ghost use mathlib.Core.Path.{_≡_};
-ghost use mathlib.Core.Bool.{true, false, cond};
-ghost use Prim.Native.Nat.{suc, _+_, _*_, _≤_, _<_};
-ghost use lib.Dec.{ltb};
+ghost use mathlib.Core.Bool.{true, false};
+ghost use Prim.Native.Nat.{_≤_};
 ghost use lib.ListN.{length};
 ghost use Rattle.key.specs.Number.{number, keyAt};
 ghost use Rattle.record.specs.Record.{keyOf, recordForm};
-ghost use Rattle.table.specs.Rows.{rows, bytesOf, insertAt};
+ghost use Rattle.own.specs.Own.{ownForm, ownKeys};
+ghost use Rattle.table.specs.Rows.{rows, bytesOf};
 ghost use Rattle.kept.specs.Plain.{NotOwn};
 ghost use Rattle.cache.specs.Form.{keysOf, Form};
-ghost use Rattle.cache.specs.Place.{findKey, Goes};
+ghost use Rattle.cache.specs.Place.{findKey};
 ghost use Rattle.cache.specs.Bytes.{afterLearn, afterRemove};
 ghost use Rattle.cache.specs.Change.{changes, changesOf, learned, removed};
 ghost use Rattle.cache.specs.declared.place.Found.the-variants.{Before};
 use crate::place::Found;
-use crate::place::count_below;
-use crate::place::count_under;
 use crate::place::find;
 use key::Key;
-use key::Order;
 
 // What a change did to the keys held: did one join them, did one leave, and which? The key is 0 where none left.
 pub struct Change {
@@ -50,56 +47,17 @@ fn unmoved() -> Change
     }
 }
 
-// One more, or as many.
-fn one_more(n: usize, more: bool) -> usize
-    requires { ⌜ n < 1000 ⌝ }
-    ensures { λ r. ⌜ r ≡ cond more (suc n) n ⌝ }
-{
-    if more {
-        return n + 1;
-    }
-    n
-}
-
-// Is the record's key a smaller number than our own?
-fn is_smaller(own: &[u8], record: &[u8]) -> bool
-    requires { ⌜ (32 ≤ length (now own)) × (32 ≤ length (now «record»)) ⌝ }
-    ensures { λ r. ⌜ r ≡ ltb (keyOf (now («record» .entry))) (keyOf (now (own .entry))) ⌝ }
-{
-    match key::order_at(record, 0, own, 0) {
-        Order::Less => true,
-        Order::Same => false,
-        Order::More => false,
-    }
-}
-
-// Which place goes of those held and the record, whose key is not held and which would stand before a place?
-fn who_goes(own: &[u8], cache: &[u8], used: usize, at: usize, record: &[u8]) -> usize
-    requires { ⌜ (32 ≤ length (now own)) × (32 ≤ length (now «record»)) ⌝ }
-    requires { ⌜ Form (keyOf (now own)) (now cache) (rows 100 used (now cache)) ⌝ }
-    requires { ⌜ NotOwn (keyOf (now own)) (keyOf (now «record»)) ⌝ }
-    requires { ⌜ findKey (keyOf (now «record»)) (keysOf (rows 100 used (now cache))) ≡ Before at ⌝ }
-    ensures { λ r. ⌜ Goes (keyOf (now (own .entry)))
-        (keysOf (insertAt at (now («record» .entry)) (rows 100 used (now (cache .entry))))) r ⌝ }
-{
-    let under = count_under(own, cache, used);
-    let held = count_below(own, cache, used, under);
-    let first = one_more(under, is_smaller(own, record));
-    let below = one_more(held, !ring::is_above(own, record, 0));
-    round::farthest(used + 1, first, below)
-}
-
 // A record whose key is not held is learned; it would stand before a place. Where all places are used, one goes, or the
 // newcomer itself.
 fn learn_new(own: &[u8], cache: &mut [u8], used: usize, at: usize, record: &[u8]) -> Change
-    requires { ⌜ (32 ≤ length (now own)) × (recordForm (now «record») ≡ true) ⌝ }
-    requires { ⌜ Form (keyOf (now own)) (now cache) (rows 100 used (now cache)) ⌝ }
-    requires { ⌜ NotOwn (keyOf (now own)) (keyOf (now «record»)) ⌝ }
+    requires { ⌜ (ownForm (now own) ≡ true) × (recordForm (now «record») ≡ true) ⌝ }
+    requires { ⌜ Form (ownKeys (now own)) (now cache) (rows 100 used (now cache)) ⌝ }
+    requires { ⌜ NotOwn (ownKeys (now own)) (keyOf (now «record»)) ⌝ }
     requires { ⌜ findKey (keyOf (now «record»)) (keysOf (rows 100 used (now cache))) ≡ Before at ⌝ }
     ensures { λ _. ⌜ now (cache .exit) ≡ bytesOf (length (now (cache .entry)))
-        (afterLearn (keyOf (now (own .entry))) (length (now (cache .entry)))
+        (afterLearn (ownKeys (now (own .entry))) (length (now (cache .entry)))
         (rows 100 used (now (cache .entry))) (now («record» .entry))) ⌝ }
-    ensures { λ r. ⌜ changesOf r ≡ learned (keyOf (now (own .entry))) (length (now (cache .entry)))
+    ensures { λ r. ⌜ changesOf r ≡ learned (ownKeys (now (own .entry))) (length (now (cache .entry)))
         (rows 100 used (now (cache .entry))) (now («record» .entry)) ⌝ }
 {
     if record::RECORD_LEN * used < cache.len() {
@@ -110,7 +68,7 @@ fn learn_new(own: &[u8], cache: &mut [u8], used: usize, at: usize, record: &[u8]
             gone: no_key(),
         };
     }
-    let goes = who_goes(own, cache, used, at, record);
+    let goes = going::who_goes(own, cache, used, at, record);
     if goes < at {
         let gone = key::key_at(cache, record::RECORD_LEN * goes);
         table::exchange_up(cache, used, goes, at - 1, record);
@@ -134,13 +92,13 @@ fn learn_new(own: &[u8], cache: &mut [u8], used: usize, at: usize, record: &[u8]
 
 // The record is learned, as document 01 has it under "Learning". `used` records are held.
 pub fn learn(own: &[u8], cache: &mut [u8], used: usize, record: &[u8]) -> Change
-    requires { ⌜ (32 ≤ length (now own)) × (recordForm (now «record») ≡ true) ⌝ }
-    requires { ⌜ Form (keyOf (now own)) (now cache) (rows 100 used (now cache)) ⌝ }
-    requires { ⌜ NotOwn (keyOf (now own)) (keyOf (now «record»)) ⌝ }
+    requires { ⌜ (ownForm (now own) ≡ true) × (recordForm (now «record») ≡ true) ⌝ }
+    requires { ⌜ Form (ownKeys (now own)) (now cache) (rows 100 used (now cache)) ⌝ }
+    requires { ⌜ NotOwn (ownKeys (now own)) (keyOf (now «record»)) ⌝ }
     ensures { λ _. ⌜ now (cache .exit) ≡ bytesOf (length (now (cache .entry)))
-        (afterLearn (keyOf (now (own .entry))) (length (now (cache .entry)))
+        (afterLearn (ownKeys (now (own .entry))) (length (now (cache .entry)))
         (rows 100 used (now (cache .entry))) (now («record» .entry))) ⌝ }
-    ensures { λ r. ⌜ changesOf r ≡ learned (keyOf (now (own .entry))) (length (now (cache .entry)))
+    ensures { λ r. ⌜ changesOf r ≡ learned (ownKeys (now (own .entry))) (length (now (cache .entry)))
         (rows 100 used (now (cache .entry))) (now («record» .entry)) ⌝ }
 {
     let found = find(cache, used, record);
@@ -155,8 +113,8 @@ pub fn learn(own: &[u8], cache: &mut [u8], used: usize, record: &[u8]) -> Change
 
 // The key, whose 32 bytes begin the slice, is removed if held.
 pub fn remove(own: &[u8], cache: &mut [u8], used: usize, key: &[u8]) -> Change
-    requires { ⌜ (32 ≤ length (now own)) × (32 ≤ length (now key)) ⌝ }
-    requires { ⌜ Form (keyOf (now own)) (now cache) (rows 100 used (now cache)) ⌝ }
+    requires { ⌜ 32 ≤ length (now key) ⌝ }
+    requires { ⌜ Form (ownKeys (now own)) (now cache) (rows 100 used (now cache)) ⌝ }
     ensures { λ _. ⌜ now (cache .exit) ≡ bytesOf (length (now (cache .entry)))
         (afterRemove (keyAt 0 (now (key .entry))) (rows 100 used (now (cache .entry)))) ⌝ }
     ensures { λ r. ⌜ changesOf r ≡ removed (keyAt 0 (now (key .entry))) (rows 100 used (now (cache .entry))) ⌝ }

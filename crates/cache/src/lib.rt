@@ -14,8 +14,6 @@ pub use learning::Change;
 pub use learning::learn;
 pub use learning::remove;
 pub use place::Found;
-pub use place::count_below;
-pub use place::count_under;
 pub use place::find;
 pub use shape::Formed;
 pub use shape::form;

@@ -1,4 +1,4 @@
-// The form of the cache: used records first, keys strictly increasing, none the own key; the rest all zero.
+// The form of the cache: used records first, keys strictly increasing, none an own key; the rest all zero.
 ghost use mathlib.Core.Path.{_≡_};
 ghost use Prim.Native.Nat.{_+_, _-_, _*_, _/_, _≤_, _<_};
 ghost use lib.Dec.{leb, ltb};
@@ -6,13 +6,12 @@ ghost use lib.ListN.{length, drop};
 ghost use Rattle.octet.specs.Number.{valueBE};
 ghost use Rattle.octet.specs.Part.{part, allZero};
 ghost use Rattle.key.specs.Number.{keyAt};
-ghost use Rattle.record.specs.Record.{keyOf};
+ghost use Rattle.own.specs.Own.{ownKeys};
+ghost use Rattle.own.specs.Low.{lowAt};
 ghost use Rattle.table.specs.Rows.{rows};
-ghost use Rattle.kept.specs.Keys.{Rising, plain, has};
+ghost use Rattle.kept.specs.Keys.{Rising, plain};
 ghost use Rattle.cache.specs.Form.{keysOf};
-ghost use Rattle.cache.specs.Place.{cacheFormed, rises, ordered, lowAt, Carried};
-use crate::place::Found;
-use crate::place::find;
+ghost use Rattle.cache.specs.Place.{cacheFormed, rises, ordered, anyOwn, Carried};
 
 // Whether the cache is in form, and then how many records it holds.
 pub enum Formed {
@@ -91,17 +90,24 @@ fn count_held(cache: &[u8]) -> usize
     n
 }
 
-// Is our own key among those held? It is looked for once they are known to be in order, and not compared with each.
+// Is one of our own keys among those held? Each is looked for once they are known to be in order, and not compared with
+// each.
 fn holds_own(own: &[u8], cache: &[u8], used: usize) -> bool
-    requires { ⌜ 32 ≤ length (now own) ⌝ }
     requires { ⌜ 100 * used ≤ length (now cache) ⌝ }
     requires { ⌜ Rising plain 0 (keysOf (rows 100 used (now cache))) ⌝ }
-    ensures { λ r. ⌜ r ≡ has (keyOf (now (own .entry))) (keysOf (rows 100 used (now (cache .entry)))) ⌝ }
+    ensures { λ r. ⌜ r ≡ anyOwn (ownKeys (now (own .entry))) (keysOf (rows 100 used (now (cache .entry)))) ⌝ }
 {
-    match find(cache, used, own) {
-        Found::At(_) => true,
-        Found::Before(_) => false,
+    let n = own.len() / record::RECORD_LEN;
+    let mut i = 0;
+    while i < n {
+        let at = record::RECORD_LEN * i;
+        let sought = search::find_key(cache, used, &own[at..at + record::RECORD_LEN]);
+        if sought.held {
+            return true;
+        }
+        i += 1;
     }
+    false
 }
 
 // Is each byte from a place on zero? Behind the records of a full cache there is none.
@@ -115,10 +121,9 @@ fn rest_clear(cache: &[u8], end: usize) -> bool
     octet::is_zero(&cache[end..])
 }
 
-// The test of the form, under the own key, which stands at the own record's start.
+// The test of the form, under our own keys. C is at least ten times their number.
 pub fn form(own: &[u8], cache: &[u8]) -> Formed
-    requires { ⌜ 32 ≤ length (now own) ⌝ }
-    ensures { λ r. ⌜ r ≡ cacheFormed (keyOf (now (own .entry))) (now (cache .entry)) ⌝ }
+    ensures { λ r. ⌜ r ≡ cacheFormed (ownKeys (now (own .entry))) (now (cache .entry)) ⌝ }
 {
     let size = cache.len();
     if size % record::RECORD_LEN != 0 {
@@ -128,6 +133,9 @@ pub fn form(own: &[u8], cache: &[u8]) -> Formed
         return Formed::Bad;
     }
     if 25600 < size {
+        return Formed::Bad;
+    }
+    if size / 1000 < own::count(own) {
         return Formed::Bad;
     }
     let used = count_held(cache);

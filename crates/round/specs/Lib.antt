@@ -1,2 +1,1 @@
-pub mod Farthest
 pub mod Over

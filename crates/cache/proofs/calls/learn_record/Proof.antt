@@ -4,10 +4,11 @@ use mathlib.Core.Path.{sym, ap, _∙_}
 use mathlib.Core.Bool.{not}
 use mathlib.Core.List.{List, []}
 use Prim.Native.Nat.{ℕ}
-use lib.Dec.{eqb}
 use lib.ListN.{length}
-use borrow.Author.Tests.{not-true, not-false, eqb-false}
+use borrow.Author.Tests.{not-true, not-false}
 use Rattle.record.specs.Record.{keyOf, recordForm}
+use Rattle.own.specs.Own.{ownKeys, isOwn}
+use Rattle.own.proofs.PlaceLaws.{not-own}
 use Rattle.record.proofs.EntryLaws.{form-length}
 use Rattle.table.specs.Rows.{bytesOf}
 use Rattle.cache.specs.Bytes.{afterLearn}
@@ -26,7 +27,7 @@ refuse s n = cacheChanged n (s .args .cache .now)
 abbrev done : tie.Start → Changed
 done s =
     let n = length (s .args .cache .now) in
-    cacheChanged 0 (bytesOf n (afterLearn (keyOf (s .args .own .now)) n (heldBy (s .args .own .now) (s .args .cache .now)) (s .args .«record» .now)))
+    cacheChanged 0 (bytesOf n (afterLearn (ownKeys (s .args .own .now)) n (heldBy (s .args .own .now) (s .args .cache .now)) (s .args .«record» .now)))
 
 memory-requires : tie.Need-memory-requires
 memory-requires c κs = search needs
@@ -71,7 +72,7 @@ is-own-requires c κs =
     let c10 = c5 .before .before .before .before .before in
     let s = c10 in
     let long = form-length (s .args .«record» .now) (sym (c .before .is-record .ensures) ∙ not-false _ (c .if1 .left)) in
-    (omega (arith, memory-own (s .args .own .now) (s .args .cache .now) (c5 .memory .ensures) (c3 .found .given .1)), omega (arith, long))
+    omega (arith, long)
 
 same-length-3 : tie.Need-same-length-3
 same-length-3 c = search needs
@@ -87,7 +88,7 @@ returns-3 c =
     sym (memory-passes (s .args .own .now) (s .args .cache .now) (c7 .memory .ensures) (c5 .found .given .1) (refuse s) _ (done s)
     ∙ row-passes (refuse s) 1 (not (recordForm (s .args .«record» .now))) _ (done s) (not-is (sym (c3 .is-record .ensures) ∙ not-false _
     (c .before .before .if1 .left)))
-    ∙ row-applies (refuse s) 1 (eqb (keyOf (s .args .«record» .now)) (keyOf (s .args .own .now))) [] (done s) (sym (c .before .is-own .ensures)
+    ∙ row-applies (refuse s) 1 (isOwn (ownKeys (s .args .own .now)) (keyOf (s .args .«record» .now))) [] (done s) (sym (c .before .is-own .ensures)
     ∙ c .if2 .taken))
 
 learn-requires : tie.Need-learn-requires
@@ -99,14 +100,14 @@ learn-requires c κs =
     let c13 = c8 .before .before .before .before .before in
     let s = c13 in (
       (
-        omega (arith, memory-own (s .args .own .now) (s .args .cache .now) (c8 .memory .ensures) (c6 .found .given .1)),
+        memory-own (s .args .own .now) (s .args .cache .now) (c8 .memory .ensures) (c6 .found .given .1),
         sym (c4 .is-record .ensures)
             ∙ not-false _ (c3 .if1 .left),
       ),
       (
         memory-form (s .args .own .now) (s .args .cache .now) (c8 .memory .ensures) (c6 .found .given .1),
-        eqb-false (keyOf (s .args .«record» .now))
-            (keyOf (s .args .own .now)) (sym (c .before .before .is-own .ensures) ∙ c .before .if2 .left),
+        not-own (ownKeys (s .args .own .now)) (keyOf (s .args .«record» .now))
+            (sym (c .before .before .is-own .ensures) ∙ c .before .if2 .left),
       ),
     )
 
@@ -126,12 +127,12 @@ returns-4 c =
     let s = c16 in
     let n = length (s .args .cache .now) in
     let held = memory-held (s .args .own .now) (s .args .cache .now) (c11 .memory .ensures) (c9 .found .given .1) in
-    ap (cacheChanged 0) (c .before .before .learn .ensures .0 ∙ ap (λ (l : List (List ℕ)). bytesOf n (afterLearn (keyOf (s .args .own .now)) n l
+    ap (cacheChanged 0) (c .before .before .learn .ensures .0 ∙ ap (λ (l : List (List ℕ)). bytesOf n (afterLearn (ownKeys (s .args .own .now)) n l
     (s .args .«record» .now))) (sym held))
     ∙ sym (memory-passes (s .args .own .now) (s .args .cache .now) (c11 .memory .ensures) (c9 .found .given .1) (refuse s) _ (done s)
     ∙ row-passes (refuse s) 1 (not (recordForm (s .args .«record» .now))) _ (done s) (not-is (sym (c7 .is-record .ensures) ∙ not-false _
     (c6 .if1 .left)))
-    ∙ row-passes (refuse s) 1 (eqb (keyOf (s .args .«record» .now)) (keyOf (s .args .own .now))) [] (done s) (sym (c5 .is-own .ensures)
+    ∙ row-passes (refuse s) 1 (isOwn (ownKeys (s .args .own .now)) (keyOf (s .args .«record» .now))) [] (done s) (sym (c5 .is-own .ensures)
     ∙ c4 .if2 .left)
     ∙ no-row (refuse s) (done s))
 

@@ -1,8 +1,6 @@
--- `cache::calls::memory` meets its contract: the own record first, then the cache. Assumes nothing.
+-- `cache::calls::memory` meets its contract: the own records first, then the cache. Assumes nothing.
 use mathlib.Core.Path.{refl, sym, _∙_}
 use borrow.Author.Tests.{not-true, not-false}
-use Rattle.record.proofs.EntryLaws.{form-length}
-use native.Mathlib.Omega.{arith}
 use borrow.Author.Needs.{needs}
 use Rattle.cache.proofs.calls.memory.Statement.{statement}
 use Rattle.cache.proofs.calls.memory.Tie as tie
@@ -14,9 +12,7 @@ returns : tie.Need-returns
 returns c = sym (rw (sym (c .before .own-form .ensures) ∙ not-true _ (c .if1 .taken)) refl)
 
 form-requires : tie.Need-form-requires
-form-requires c κs =
-    let c4 = c .before .before .before .before in
-    omega (arith, form-length (c4 .args .own .now) (sym (c .before .own-form .ensures) ∙ not-false _ (c .if1 .left)))
+form-requires c κs = search needs
 
 returns-2 : tie.Need-returns-2
 returns-2 c = c .form .ensures ∙ sym (rw (sym (c .before .before .own-form .ensures) ∙ not-false _ (c .before .if1 .left)) refl)

@@ -12,7 +12,7 @@ use Rattle.table.specs.Rows.{bytesOf}
 use Rattle.cache.specs.Bytes.{afterRemove}
 use Rattle.cache.specs.Calls.{Changed, cacheChanged, removeCall, heldBy}
 use Rattle.refusal.proofs.CallLaws.{row-applies, row-passes, no-row}
-use Rattle.cache.proofs.LentLaws.{not-is, not-isn't, memory-own, memory-form, memory-held, memory-passes, memory-refuses}
+use Rattle.cache.proofs.LentLaws.{not-is, not-isn't, memory-form, memory-held, memory-passes, memory-refuses}
 use native.Mathlib.Omega.{arith}
 use borrow.Author.Needs.{needs}
 use Rattle.cache.proofs.calls.remove_key.Statement.{statement}
@@ -65,11 +65,7 @@ remove-requires c κs =
     let c5 = c3 .before .before in
     let c10 = c5 .before .before .before .before .before in
     let s = c10 in (
-      (
-        omega (arith, memory-own (s .args .own .now) (s .args .cache .now) (c5 .memory .ensures) (c3 .found .given .1)),
-        omega
-            (arith, c .before .if1 .left),
-      ),
+      omega (arith, c .before .if1 .left),
       memory-form (s .args .own .now) (s .args .cache .now) (c5 .memory .ensures) (c3 .found .given .1),
     )
 

@@ -10,8 +10,8 @@ use lib.ListN.{length}
 use borrow.Author.Tests.{eq-eqb, ne-eqb}
 use borrow.Author.Needs.{needs}
 use Rattle.key.specs.Number.{keyAt}
-use Rattle.record.specs.Record.{keyOf}
 use Rattle.refusal.proofs.CallLaws.{row-applies, row-passes, no-row}
+use Rattle.own.specs.Own.{ownKeys}
 use Rattle.table.specs.Rows.{rows}
 use Rattle.kept.proofs.TurnLaws.{among-le}
 use Rattle.search.specs.Halving.{halvings}
@@ -22,7 +22,7 @@ use Rattle.cache.specs.Form.{keysOf, Form}
 use Rattle.cache.specs.Calls.{heldBy}
 use Rattle.cache.specs.Searching.{searched, placeAmong, searchCall}
 use Rattle.cache.proofs.FormLaws.{form-laid}
-use Rattle.cache.proofs.LentLaws.{not-is, not-isn't, memory-own, memory-form, memory-held, memory-passes, memory-refuses}
+use Rattle.cache.proofs.LentLaws.{not-is, not-isn't, memory-form, memory-held, memory-passes, memory-refuses}
 use Rattle.cache.proofs.SearchLaws.{told-held, told-none}
 use Rattle.cache.proofs.calls.search_key.Statement.{statement}
 use Rattle.cache.proofs.calls.search_key.Tie as tie
@@ -80,11 +80,11 @@ module _ (e : tie.Else1) where
   abbrev cache : List ℕ
   cache = start tested .args .cache .now
 
-  form : Form (keyOf own) cache (rows 100 used cache)
+  form : Form (ownKeys own) cache (rows 100 used cache)
   form = memory-form own cache (tested .memory .ensures) (e .before .before .found .given .1)
 
   room : 100 * used ≤ length cache
-  room = form-laid (keyOf own) used cache form .room
+  room = form-laid (ownKeys own) used cache form .room
 
   accepted : searchCall own cache (start tested .args .key .now) ≡ told (start tested) (rows 100 used cache)
   unfolding searchCall

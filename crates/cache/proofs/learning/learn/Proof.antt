@@ -2,6 +2,7 @@
 use mathlib.Core.Path.{_≡_, sym, ap, _∙_}
 use lib.ListN.{length, length-set}
 use Rattle.record.specs.Record.{keyOf}
+use Rattle.own.specs.Own.{ownKeys}
 use Rattle.table.specs.Rows.{rows, bytesOf, Laid}
 use Rattle.table.proofs.RowLaws.{rows-length}
 use Rattle.kept.specs.Records.{putBy}
@@ -15,7 +16,7 @@ use Rattle.cache.proofs.learning.learn.Statement.{statement}
 use Rattle.cache.proofs.learning.learn.Tie as tie
 
 laid : (s : tie.Start) → Laid 100 (s .args .used) (s .args .cache .now)
-laid s = form-laid (keyOf (s .args .own .now)) (s .args .used) (s .args .cache .now) (s .pre .1 .0)
+laid s = form-laid (ownKeys (s .args .own .now)) (s .args .used) (s .args .cache .now) (s .pre .1 .0)
 
 long : (s : tie.Start) → length (s .args .«record» .now) ≡ 100
 long s = form-length (s .args .«record» .now) (s .pre .0 .1)
@@ -62,10 +63,10 @@ returns c =
     let e = found-puts (a .«record» .now) (a .used) (a .cache .now) (at-find .find .ensures) (at-found .found .given .1) in
     let n : length (putBy keyOf (a .«record» .now) rs) ≡ a .used = ap length (sym e) ∙ simp length-set (rows-length 100 (a .used) (a .cache .now)) in (
       c .before .before .before .replace-row .ensures
-          ∙ ap (bytesOf (length (a .cache .now))) (e ∙ held-room (keyOf (a .own .now)) (a .used) (a .cache .now) (a .«record» .now) (s .pre .1 .0)
+          ∙ ap (bytesOf (length (a .cache .now))) (e ∙ held-room (ownKeys (a .own .now)) (a .used) (a .cache .now) (a .«record» .now) (s .pre .1 .0)
           (omega arith)),
       c .unmoved .ensures
-          ∙ told-held (keyOf (a .own .now)) (length (a .cache .now)) rs (a .«record» .now)
+          ∙ told-held (ownKeys (a .own .now)) (length (a .cache .now)) rs (a .«record» .now)
           (found-held (keyOf (a .«record» .now)) (a .used) (a .cache .now) (at-find .find .ensures) (at-found .found .given .1)
           (s .pre .1 .0 .held .rising)),
     )

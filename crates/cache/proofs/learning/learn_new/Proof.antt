@@ -1,17 +1,23 @@
 -- `cache::learning::learn_new` meets its contract: with room the record is inserted; else the place that goes is before it, after it, or its own.
 -- Assumes nothing.
-use mathlib.Core.Path.{_≡_, sym, ap, _∙_}
+use mathlib.Core.Path.{_≡_, sym, ap, _∙_, subst}
 use mathlib.Core.Bool.{true, false}
 use Prim.Native.Nat.{ℕ, _-_, _≤_, _<_}
 use lib.ListN.{length}
-use Rattle.record.specs.Record.{keyOf}
-use Rattle.table.specs.Rows.{bytesOf, Laid}
+use Rattle.own.specs.Own.{ownKeys, firstOwn}
+use Rattle.own.proofs.FormLaws.{own-formed, keys-many}
+use Rattle.own.proofs.PlaceLaws.{first-key}
+use Rattle.table.specs.Rows.{rows, bytesOf, insertAt, Laid}
 use Rattle.table.proofs.RowLaws.{laid-bytes}
 use Rattle.record.proofs.EntryLaws.{form-length}
+use Rattle.going.specs.Going.{Goes}
+use Rattle.cache.specs.Form.{keysOf}
 use Rattle.cache.specs.Change.{changes}
 use Rattle.cache.proofs.FormLaws.{form-laid}
 use Rattle.cache.proofs.LearnLaws.{
   place-most,
+  more-rises,
+  more-others,
   goes-most,
   new-room,
   new-before,
@@ -28,24 +34,33 @@ use Rattle.cache.proofs.learning.learn_new.Statement.{statement}
 use Rattle.cache.proofs.learning.learn_new.Tie as tie
 
 laid : (s : tie.Start) → Laid 100 (s .args .used) (s .args .cache .now)
-laid s = form-laid (keyOf (s .args .own .now)) (s .args .used) (s .args .cache .now) (s .pre .1 .0)
+laid s = form-laid (ownKeys (s .args .own .now)) (s .args .used) (s .args .cache .now) (s .pre .1 .0)
 
 long : (s : tie.Start) → length (s .args .«record» .now) ≡ 100
 long s = form-length (s .args .«record» .now) (s .pre .0 .1)
 
 -- the newcomer's place, and the one that goes
 most : (s : tie.Start) → s .args .at ≤ s .args .used
-most s = let a = s .args in place-most (keyOf (a .own .now)) (a .used) (a .at) (a .cache .now) (a .«record» .now) (s .pre .1 .0) (s .pre .1 .1 .1)
+most s = let a = s .args in place-most (ownKeys (a .own .now)) (a .used) (a .at) (a .cache .now) (a .«record» .now) (s .pre .1 .0) (s .pre .1 .1 .1)
 
 abbrev start : tie.After-who-goes → tie.Start
 start c = c .before .before .before .before .before .before
+
+-- the place that goes, by the first of our keys
+goes : (c : tie.After-who-goes) → (let a = start c .args in Goes (firstOwn (ownKeys (a .own .now))) (ownKeys (a .own .now))
+    (keysOf (insertAt (a .at) (a .«record» .now) (rows 100 (a .used) (a .cache .now)))) (c .who-goes .result))
+goes c =
+    let s = start c in
+    let a = s .args in
+    subst (λ (k : ℕ). Goes k (ownKeys (a .own .now)) (keysOf (insertAt (a .at) (a .«record» .now) (rows 100 (a .used) (a .cache .now)))) (c .who-goes .result))
+    (sym (first-key (a .own .now) (own-formed (a .own .now) (s .pre .0 .0) .least))) (c .who-goes .ensures)
 
 gone-most : (c : tie.After-who-goes) → c .who-goes .result ≤ start c .args .used
 gone-most c =
     let s = start c in
     let a = s .args in
-    goes-most (keyOf (a .own .now)) (a .used) (a .at) (a .cache .now) (a .«record» .now) (s .pre .1 .0) (s .pre .1 .1 .1)
-    (s .pre .1 .1 .0) (c .before .before .if1 .left) (c .who-goes .result) (c .who-goes .ensures)
+    goes-most (ownKeys (a .own .now)) (a .used) (a .at) (a .cache .now) (a .«record» .now) (s .pre .1 .0) (s .pre .1 .1 .1)
+    (s .pre .1 .1 .0) (c .before .before .if1 .left) (c .who-goes .result) (goes c)
 
 mul-if1 : tie.Need-mul-if1
 mul-if1 c = omega (arith, laid (c .before .before .before) .room)
@@ -68,15 +83,36 @@ returns c =
     let a = s .args in (
       c .before .before .before .insert-row .ensures
           ∙ ap (bytesOf (length (a .cache .now)))
-          (new-room (keyOf (a .own .now)) (a .used) (a .at) (a .cache .now) (a .«record» .now) (s .pre .1 .0) (s .pre .1 .1 .1) (at-if .if1 .taken)),
+          (new-room (ownKeys (a .own .now)) (a .used) (a .at) (a .cache .now) (a .«record» .now) (s .pre .1 .0) (s .pre .1 .1 .1) (at-if .if1 .taken)),
       ap (changes true false) (c .no-key .ensures)
-          ∙ told-room (keyOf (a .own .now)) (a .used) (a .at) (a .cache .now) (a .«record» .now) (s .pre .1 .0) (s .pre .1 .1 .1) (at-if .if1 .taken),
+          ∙ told-room (ownKeys (a .own .now)) (a .used) (a .at) (a .cache .now) (a .«record» .now) (s .pre .1 .0) (s .pre .1 .1 .1) (at-if .if1 .taken),
     )
 
 who-goes-requires : tie.Need-who-goes-requires
 who-goes-requires c κs =
     let s = c .before .before .before .before .before in
-    ((s .pre .0 .0, omega (arith, long s)), (s .pre .1 .0, (s .pre .1 .1 .0, s .pre .1 .1 .1)))
+    let a = s .args in
+    let f = own-formed (a .own .now) (s .pre .0 .0) in
+    let keys = keys-many (a .own .now) in
+    let full = c .before .if1 .left in (
+      (omega (arith, f .many), omega (arith, f .many, f .least), omega (arith, f .many, f .most)),
+      (
+        (
+          laid s .room,
+          omega (arith, laid s .room, s .pre .1 .0 .places .most),
+          omega (arith, full, keys, f .many, s .pre .1 .0 .places .enough),
+          most s,
+          omega (arith, long s),
+        ),
+        (
+          s .pre .1 .0 .held .rising,
+          (
+            more-rises (ownKeys (a .own .now)) (a .used) (a .at) (a .cache .now) (a .«record» .now) (s .pre .1 .0) (s .pre .1 .1 .1) (s .pre .1 .1 .0),
+            more-others (ownKeys (a .own .now)) (a .used) (a .at) (a .cache .now) (a .«record» .now) (s .pre .1 .0) (s .pre .1 .1 .1) (s .pre .1 .1 .0),
+          ),
+        ),
+      ),
+    )
 
 mul-key-at : tie.Need-mul-key-at
 mul-key-at c =
@@ -112,11 +148,11 @@ returns-2 c =
     let a = s .args in (
       c .before .before .exchange-up .ensures
           ∙ ap (bytesOf (length (a .cache .now)))
-          (new-before (keyOf (a .own .now)) (a .used) (a .at) (a .cache .now) (a .«record» .now) (s .pre .1 .0) (s .pre .1 .1 .1) (s .pre .1 .1 .0)
-          (w .before .before .if1 .left) (w .who-goes .result) (w .who-goes .ensures) (at-if .if2 .taken)),
+          (new-before (ownKeys (a .own .now)) (a .used) (a .at) (a .cache .now) (a .«record» .now) (s .pre .1 .0) (s .pre .1 .1 .1) (s .pre .1 .1 .0)
+          (w .before .before .if1 .left) (w .who-goes .result) (goes w) (at-if .if2 .taken)),
       ap (changes true true) (at-key .key-at .ensures)
-          ∙ told-before (keyOf (a .own .now)) (a .used) (a .at) (a .cache .now) (a .«record» .now) (s .pre .1 .0) (s .pre .1 .1 .1) (s .pre .1 .1 .0)
-          (w .before .before .if1 .left) (w .who-goes .result) (w .who-goes .ensures) (at-if .if2 .taken),
+          ∙ told-before (ownKeys (a .own .now)) (a .used) (a .at) (a .cache .now) (a .«record» .now) (s .pre .1 .0) (s .pre .1 .1 .1) (s .pre .1 .1 .0)
+          (w .before .before .if1 .left) (w .who-goes .result) (goes w) (at-if .if2 .taken),
     )
 
 sub-key-at : tie.Need-sub-key-at
@@ -158,11 +194,11 @@ returns-3 c =
     let a = s .args in (
       c .before .before .exchange-down .ensures
           ∙ ap (bytesOf (length (a .cache .now)))
-          (new-after (keyOf (a .own .now)) (a .used) (a .at) (a .cache .now) (a .«record» .now) (s .pre .1 .0) (s .pre .1 .1 .1) (s .pre .1 .1 .0)
-          (w .before .before .if1 .left) (w .who-goes .result) (w .who-goes .ensures) (at-if .if3 .taken)),
+          (new-after (ownKeys (a .own .now)) (a .used) (a .at) (a .cache .now) (a .«record» .now) (s .pre .1 .0) (s .pre .1 .1 .1) (s .pre .1 .1 .0)
+          (w .before .before .if1 .left) (w .who-goes .result) (goes w) (at-if .if3 .taken)),
       ap (changes true true) (at-key .key-at2 .ensures)
-          ∙ told-after (keyOf (a .own .now)) (a .used) (a .at) (a .cache .now) (a .«record» .now) (s .pre .1 .0) (s .pre .1 .1 .1) (s .pre .1 .1 .0)
-          (w .before .before .if1 .left) (w .who-goes .result) (w .who-goes .ensures) (at-if .if3 .taken),
+          ∙ told-after (ownKeys (a .own .now)) (a .used) (a .at) (a .cache .now) (a .«record» .now) (s .pre .1 .0) (s .pre .1 .1 .1) (s .pre .1 .1 .0)
+          (w .before .before .if1 .left) (w .who-goes .result) (goes w) (at-if .if3 .taken),
     )
 
 unmoved-requires : tie.Need-unmoved-requires
@@ -179,11 +215,11 @@ returns-4 c =
     let e : a .at ≡ w .who-goes .result = omega (arith, c .before .if3 .left, c .before .before .if2 .left) in (
       laid-bytes 100 (a .used) (a .cache .now) (laid s)
           ∙ ap (bytesOf (length (a .cache .now)))
-          (new-goes (keyOf (a .own .now)) (a .used) (a .at) (a .cache .now) (a .«record» .now) (s .pre .1 .0) (s .pre .1 .1 .1) (s .pre .1 .1 .0)
-          (w .before .before .if1 .left) (w .who-goes .result) (w .who-goes .ensures) e),
+          (new-goes (ownKeys (a .own .now)) (a .used) (a .at) (a .cache .now) (a .«record» .now) (s .pre .1 .0) (s .pre .1 .1 .1) (s .pre .1 .1 .0)
+          (w .before .before .if1 .left) (w .who-goes .result) (goes w) e),
       c .unmoved .ensures
-          ∙ told-goes (keyOf (a .own .now)) (a .used) (a .at) (a .cache .now) (a .«record» .now) (s .pre .1 .0) (s .pre .1 .1 .1) (s .pre .1 .1 .0)
-          (w .before .before .if1 .left) (w .who-goes .result) (w .who-goes .ensures) e,
+          ∙ told-goes (ownKeys (a .own .now)) (a .used) (a .at) (a .cache .now) (a .«record» .now) (s .pre .1 .0) (s .pre .1 .1 .1) (s .pre .1 .1 .0)
+          (w .before .before .if1 .left) (w .who-goes .result) (goes w) e,
     )
 
 pub learn-new-spec : {M : Type 1} → statement M

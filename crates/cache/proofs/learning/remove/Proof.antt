@@ -3,7 +3,7 @@ use mathlib.Core.Path.{ap, _∙_}
 use mathlib.Core.Bool.{true, false}
 use lib.ListN.{length}
 use Rattle.key.specs.Number.{keyAt}
-use Rattle.record.specs.Record.{keyOf}
+use Rattle.own.specs.Own.{ownKeys}
 use Rattle.table.specs.Rows.{rows, bytesOf, Laid}
 use Rattle.table.proofs.RowLaws.{laid-bytes}
 use Rattle.cache.specs.Change.{changes}
@@ -15,12 +15,12 @@ use Rattle.cache.proofs.learning.remove.Statement.{statement}
 use Rattle.cache.proofs.learning.remove.Tie as tie
 
 laid : (s : tie.Start) → Laid 100 (s .args .used) (s .args .cache .now)
-laid s = form-laid (keyOf (s .args .own .now)) (s .args .used) (s .args .cache .now) (s .pre .1)
+laid s = form-laid (ownKeys (s .args .own .now)) (s .args .used) (s .args .cache .now) (s .pre .1)
 
 find-requires : tie.Need-find-requires
 find-requires c κs =
     let c4 = c .before .before .before .before in
-    let s = c4 in (laid s .room, (s .pre .0 .1, s .pre .1 .held .rising))
+    let s = c4 in (laid s .room, (s .pre .0, s .pre .1 .held .rising))
 
 enum-known-found : tie.Need-enum-known-found
 enum-known-found c = search needs
@@ -57,7 +57,7 @@ remove-row-requires c κs =
     (found-place (keyAt 0 (a .key .now)) (a .used) (a .cache .now) (c4 .find .ensures) (c .before .before .found .given .1), laid s)
 
 key-at-requires : tie.Need-key-at-requires
-key-at-requires c κs = let at-find = c .before .before .before .before .before .before .before in at-find .before .before .before .before .before .pre .0 .1
+key-at-requires c κs = let at-find = c .before .before .before .before .before .before .before in at-find .before .before .before .before .before .pre .0
 
 same-length-2 : tie.Need-same-length-2
 same-length-2 c = search needs

@@ -9,7 +9,9 @@ use Rattle.key.specs.Number.{keyAt}
 use Rattle.key.proofs.OrderLaws.{test-more}
 use Rattle.cache.specs.Place.{Carried}
 use Rattle.search.proofs.SeekLaws.{first-more}
-use Rattle.cache.proofs.ShapeLaws.{low-first, low-next, low-words}
+use Rattle.own.proofs.LowLaws.{low-first, low-next}
+use Rattle.cache.proofs.ShapeLaws.{low-words}
+use borrow.Author.Needs.{needs}
 use Rattle.cache.proofs.shape.above_before.Statement.{statement}
 use Rattle.cache.proofs.shape.above_before.Tie as tie
 

@@ -5,7 +5,8 @@ use native.Mathlib.Nat.{zero-add}
 use lib.ListN.{length, drop}
 use borrow.Author.Tests.{not-true, not-false}
 use Rattle.table.specs.Rows.{rows}
-use Rattle.cache.specs.Place.{ordered, lowAt, Carried}
+use Rattle.cache.specs.Place.{ordered, Carried}
+use Rattle.own.specs.Low.{lowAt}
 use Rattle.cache.proofs.ShapeLaws.{carried-next}
 use Rattle.cache.proofs.OrderedLaws.{ordered-more, ordered-stop, ordered-end}
 use native.Mathlib.Omega.{arith}

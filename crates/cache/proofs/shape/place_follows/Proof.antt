@@ -8,7 +8,8 @@ use borrow.Author.Tests.{not-true, not-false}
 use Rattle.octet.specs.Part.{part}
 use Rattle.key.specs.Number.{keyAt}
 use Rattle.record.specs.Record.{keyOf, recordForm}
-use Rattle.cache.specs.Place.{rises, lowAt}
+use Rattle.cache.specs.Place.{rises}
+use Rattle.own.specs.Low.{lowAt}
 use Rattle.cache.proofs.FormLaws.{key-of-row}
 use native.Mathlib.Omega.{arith}
 use borrow.Author.Needs.{needs}

@@ -17,7 +17,7 @@ use Rattle.refusal.proofs.CallLaws.{all-pass, number-is, refusal-keeps, call-ex
 use Rattle.key.specs.Number.{keyAt}
 use Rattle.key.specs.Around.{Side, below, above, sideOf, nearness, closer}
 use Rattle.record.specs.Record.{keyOf}
-use Rattle.own.specs.Own.{ownRecords}
+use Rattle.own.specs.Own.{ownKeys, ownRecords}
 use Rattle.kept.specs.Keys.{_∈_}
 use Rattle.kept.specs.Neighbours.{IsNeighbours, nearestFirst}
 use Rattle.kept.specs.Plain.{NotOwn, neighbours, neighbourList}
@@ -36,30 +36,31 @@ use Rattle.neighbours.proofs.SkipLaws.{off-held, off-empty}
 
 -- ---- one result
 
-pub list-coincides : (own cache out : List ℕ) (a b : Listed) (s t : List ℕ) → listWritten a s ≡ listCall own cache out → listWritten b t ≡ listCall own cache out
-    → (a ≡ b) × (s ≡ t)
-list-coincides own cache out a b s t p q =
+pub list-coincides : (own cache key out : List ℕ) (a b : Listed) (s t : List ℕ) → listWritten a s ≡ listCall own cache key out
+    → listWritten b t ≡ listCall own cache key out → (a ≡ b) × (s ≡ t)
+list-coincides own cache key out a b s t p q =
     let e : listWritten a s ≡ listWritten b t = p ∙ sym q in (ap (λ (h : Written). h .answer) e, ap (λ (h : Written). h .output) e)
 
 -- ---- the neighbour list
 
--- of memory in form each side's list has the property of neighbours among the keys held, and no other list has it
-pub list-right : (own cache : List ℕ) → cacheForm (keyOf own) cache ≡ true → (s : Side)
-    → IsNeighbours (sideOf (keyOf own)) (nearness (keyOf own)) s (keysOf (heldBy own cache)) (neighbours (keyOf own) s (keysOf (heldBy own cache)))
-list-right own cache e s =
-    let f = true-form (keyOf own) cache e in
-    neighbours-right (NotOwn (keyOf own)) (sideOf (keyOf own)) (nearness (keyOf own)) (plain-order (keyOf own)) (keysOf (heldBy own cache))
+-- of memory in form each side's list round a key has the property of neighbours among the keys held, and no other list has it
+pub list-right : (own cache : List ℕ) (k : ℕ) → cacheForm (ownKeys own) cache ≡ true → (s : Side)
+    → IsNeighbours (sideOf k) (nearness k) s (keysOf (heldBy own cache)) (neighbours k s (keysOf (heldBy own cache)))
+list-right own cache k e s =
+    let f = true-form (ownKeys own) cache e in
+    neighbours-right (NotOwn (ownKeys own)) (sideOf k) (nearness k) (plain-order (NotOwn (ownKeys own)) k) (keysOf (heldBy own cache))
     (record { rises = f .held .rising; oks = f .held .others }) s
 
-pub list-only : (own cache : List ℕ) → cacheForm (keyOf own) cache ≡ true → (s : Side) (l : List ℕ)
-    → IsNeighbours (sideOf (keyOf own)) (nearness (keyOf own)) s (keysOf (heldBy own cache)) l → l ≡ neighbours (keyOf own) s (keysOf (heldBy own cache))
-list-only own cache e s l h =
-    neighbours-only (NotOwn (keyOf own)) (sideOf (keyOf own)) (nearness (keyOf own)) (plain-order (keyOf own)) (keysOf (heldBy own cache))
-    (true-form (keyOf own) cache e .held .others) s l (neighbours (keyOf own) s (keysOf (heldBy own cache))) h (list-right own cache e s)
+pub list-only : (own cache : List ℕ) (k : ℕ) → cacheForm (ownKeys own) cache ≡ true → (s : Side) (l : List ℕ)
+    → IsNeighbours (sideOf k) (nearness k) s (keysOf (heldBy own cache)) l → l ≡ neighbours k s (keysOf (heldBy own cache))
+list-only own cache k e s l h =
+    neighbours-only (NotOwn (ownKeys own)) (sideOf k) (nearness k) (plain-order (NotOwn (ownKeys own)) k) (keysOf (heldBy own cache))
+    (true-form (ownKeys own) cache e .held .others) s l (neighbours k s (keysOf (heldBy own cache))) h (list-right own cache k e s)
 
-module _ (own cache out : List ℕ) where
-  list-order : InOrder byNumber 0 (listWrong own cache out)
-  list-order = (omega arith, omega arith, (omega arith, omega arith, (omega arith, omega arith, tt)))
+module _ (own cache key out : List ℕ) where
+  list-order : InOrder byNumber 0 (listWrong own cache key out)
+  list-order =
+      (omega arith, omega arith, (omega arith, omega arith, (omega arith, omega arith, (omega arith, omega arith, (omega arith, omega arith, tt)))))
 
   -- what an accepted list hands back
   list-done : Written
@@ -67,34 +68,34 @@ module _ (own cache out : List ℕ) where
       listWritten
       (record {
         number = 0;
-        below = length (neighbours (keyOf own) below (keysOf (heldBy own cache)));
-        above = length (neighbours (keyOf own) above (keysOf (heldBy own cache)));
+        below = length (neighbours (keyAt 0 key) below (keysOf (heldBy own cache)));
+        above = length (neighbours (keyAt 0 key) above (keysOf (heldBy own cache)));
       })
-      (afterList (keyOf own) (heldBy own cache) out)
+      (afterList (keyAt 0 key) (heldBy own cache) out)
 
   list-refused : ℕ → Written
   list-refused n = listWritten (record { number = n; below = 0; above = 0 }) out
 
-  pub list-does : listCall own cache out .answer .number ≡ 0
-      → (listCall own cache out .output ≡ afterList (keyOf own) (heldBy own cache) out)
-      × (listCall own cache out .answer .below ≡ length (neighbours (keyOf own) below (keysOf (heldBy own cache))))
-      × (listCall own cache out .answer .above ≡ length (neighbours (keyOf own) above (keysOf (heldBy own cache))))
+  pub list-does : listCall own cache key out .answer .number ≡ 0
+      → (listCall own cache key out .output ≡ afterList (keyAt 0 key) (heldBy own cache) out)
+      × (listCall own cache key out .answer .below ≡ length (neighbours (keyAt 0 key) below (keysOf (heldBy own cache))))
+      × (listCall own cache key out .answer .above ≡ length (neighbours (keyAt 0 key) above (keysOf (heldBy own cache))))
   unfolding listCall list-done list-refused
   list-does e =
-      let a = all-fail byNumber (listWrong own cache out) 0 list-order
-      (sym (number-is (λ (h : Written). h .answer .number) list-refused (λ n. refl) list-done refl (listWrong own cache out)) ∙ e) in
-      let d : listCall own cache out ≡ list-done = all-pass list-refused (listWrong own cache out) list-done a in
+      let a = all-fail byNumber (listWrong own cache key out) 0 list-order
+      (sym (number-is (λ (h : Written). h .answer .number) list-refused (λ n. refl) list-done refl (listWrong own cache key out)) ∙ e) in
+      let d : listCall own cache key out ≡ list-done = all-pass list-refused (listWrong own cache key out) list-done a in
       (ap (λ (h : Written). h .output) d, ap (λ (h : Written). h .answer .below) d, ap (λ (h : Written). h .answer .above) d)
 
-  list-lent : {W : Type 0} (w : Written → W) (lent : W) → ((n : ℕ) → w (list-refused n) ≡ lent) → 0 < listCall own cache out .answer .number
-      → w (listCall own cache out) ≡ lent
+  list-lent : {W : Type 0} (w : Written → W) (lent : W) → ((n : ℕ) → w (list-refused n) ≡ lent) → 0 < listCall own cache key out .answer .number
+      → w (listCall own cache key out) ≡ lent
   unfolding listCall list-done list-refused
   list-lent w lent e p =
-      refusal-keeps (λ (h : Written). h .answer .number) list-refused (λ n. refl) list-done refl w lent e (listWrong own cache out) p
+      refusal-keeps (λ (h : Written). h .answer .number) list-refused (λ n. refl) list-done refl w lent e (listWrong own cache key out) p
 
   -- refused: nothing changes, and the counts are 0
-  pub list-keeps : 0 < listCall own cache out .answer .number
-      → (listCall own cache out .output ≡ out) × (listCall own cache out .answer .below ≡ 0) × (listCall own cache out .answer .above ≡ 0)
+  pub list-keeps : 0 < listCall own cache key out .answer .number
+      → (listCall own cache key out .output ≡ out) × (listCall own cache key out .answer .below ≡ 0) × (listCall own cache key out .answer .above ≡ 0)
   unfolding list-refused
   list-keeps p = (
     list-lent (λ (h : Written). h .output) out (λ n. refl) p,
@@ -103,11 +104,11 @@ module _ (own cache out : List ℕ) where
   )
 
   pub list-exactly : (n : ℕ) → 0 < n
-      → (listCall own cache out .answer .number ≡ n)
-      ↔ ((appliesIn n (listWrong own cache out) ≡ true) × ((m : ℕ) → m < n → appliesIn m (listWrong own cache out) ≡ false))
+      → (listCall own cache key out .answer .number ≡ n)
+      ↔ ((appliesIn n (listWrong own cache key out) ≡ true) × ((m : ℕ) → m < n → appliesIn m (listWrong own cache key out) ≡ false))
   unfolding listCall list-done list-refused
   list-exactly n p =
-      call-exactly (λ (h : Written). h .answer .number) list-refused (λ n. refl) list-done refl (listWrong own cache out) 0 list-order n p
+      call-exactly (λ (h : Written). h .answer .number) list-refused (λ n. refl) list-done refl (listWrong own cache key out) 0 list-order n p
 
 -- the output changes in its first bytes only, 32 for each key listed
 pub list-rest : (own : ℕ) (recs : List (List ℕ)) (out : List ℕ) → 320 ≤ length out
@@ -137,7 +138,7 @@ module _ (own cache path target : List ℕ) (a : AllFail (closestWrong own cache
   closest-bytes = ap (λ (h : Shown). h .bytes) closest-does
 
   pub closest-candidate : closestCall own cache path target .bytes ∈ candidates (ownRecords own) (offPath path (heldBy own cache))
-  closest-candidate = rw closest-bytes (closest-among (keyAt 0 target) own (offPath path (heldBy own cache)))
+  closest-candidate = rw closest-bytes (closest-among (keyAt 0 target) own (offPath path (heldBy own cache)) (not-false _ (a .0)))
 
   pub closest-none-closer : (y : List ℕ) → y ∈ candidates (ownRecords own) (offPath path (heldBy own cache))
       → closer (keyAt 0 target) (keyOf y) (keyOf (closestCall own cache path target .bytes)) ≡ false
@@ -147,8 +148,8 @@ module _ (own cache path target : List ℕ) (a : AllFail (closestWrong own cache
       → ((y : List ℕ) → y ∈ candidates (ownRecords own) (offPath path (heldBy own cache)) → closer (keyAt 0 target) (keyOf y) (keyOf z) ≡ false)
       → z ≡ closestCall own cache path target .bytes
   closest-fixed z m h =
-      closest-only (keyAt 0 target) own (offPath path (heldBy own cache))
-      (off-held path (keyOf own) (heldBy own cache) (true-form (keyOf own) cache (not-false _ (a .1 .0)) .held)) z m h ∙ sym closest-bytes
+      closest-only (keyAt 0 target) own (offPath path (heldBy own cache)) (not-false _ (a .0))
+      (off-held path (ownKeys own) (heldBy own cache) (true-form (ownKeys own) cache (not-false _ (a .1 .0)) .held)) z m h ∙ sym closest-bytes
 
 module _ (own cache path target : List ℕ) where
   closest-order : InOrder byNumber 0 (closestWrong own cache path target)

@@ -14,7 +14,8 @@ use Rattle.octet.proofs.BigLaws.{length-digitsBE, digitsBE-valueBE}
 use Rattle.octet.proofs.PartLaws.{length-part, part-digits, splice-next}
 use Rattle.key.specs.Number.{keyAt}
 use Rattle.key.specs.Around.{below, above, ring}
-use Rattle.kept.specs.Turned.{turned, wrapped, countUnder}
+use Rattle.kept.specs.Keys.{Every, Rising, plain}
+use Rattle.kept.specs.Turned.{NotKey, turned, wrapped, countUnder}
 use Rattle.record.specs.Record.{keyOf}
 use Rattle.table.specs.Rows.{rows}
 use Rattle.table.proofs.RowLaws.{rows-length, row-at}
@@ -22,7 +23,7 @@ use Rattle.kept.specs.Plain.{countBelow, neighbours}
 use Rattle.kept.proofs.TurnLaws.{count-le, list-above, list-below, below-length, above-length}
 use Rattle.kept.proofs.PlaceLaws.{reverse-getD, turned-at, turned-length, wrapped-lt}
 use Rattle.neighbours.specs.declared.listing.Counts.{Counts}
-use Rattle.cache.specs.Form.{keysOf, Form}
+use Rattle.cache.specs.Form.{keysOf}
 use Rattle.neighbours.specs.Listing.{keyBytes, afterList, countsOf}
 use Rattle.cache.proofs.FormLaws.{key-of-row, keys-small}
 
@@ -131,7 +132,8 @@ module _ (used : ℕ) (s : List ℕ) where
 
 -- ---- the two lists
 
-module _ (own used : ℕ) (s : List ℕ) (f : Form own s (rows 100 used s)) (o : own < ring) (b : Bytes s) (room : 100 * used ≤ length s) where
+module _ (own used : ℕ) (s : List ℕ) (rises : Rising plain 0 (keysOf (rows 100 used s))) (others : Every (NotKey own) (keysOf (rows 100 used s)))
+    (o : own < ring) (b : Bytes s) (room : 100 * used ≤ length s) where
   held : List ℕ
   held = keysOf (rows 100 used s)
 
@@ -144,22 +146,22 @@ module _ (own used : ℕ) (s : List ℕ) (f : Form own s (rows 100 used s)) (o :
     pub near-below : neighbours own below (keysOf (rows 100 used s)) ≡ take p (reverse (turned first (keysOf (rows 100 used s))))
     unfolding held
     near-below =
-        list-below own o held (f .held .rising) (keys-small used s b room) (f .held .others)
+        list-below own o held rises (keys-small used s b room) others
         ∙ ap₂ (λ (n m : ℕ). take n (reverse (turned m held))) (ap (min 5) (sym eu) ∙ sym ep) (sym ef)
 
     pub near-above : neighbours own above (keysOf (rows 100 used s)) ≡ take q (turned first (keysOf (rows 100 used s)))
     unfolding held
     near-above =
-        list-above own o held (f .held .rising) (keys-small used s b room) (f .held .others)
+        list-above own o held rises (keys-small used s b room) others
         ∙ ap₂ (λ (n m : ℕ). take n (turned m held)) (ap₂ (λ (m n : ℕ). min 5 (m - n)) held-count (sym eu) ∙ sym eq) (sym ef)
 
     pub near-counts : _≡_ {A = Counts} (record { below = p; above = q }) (countsOf own (rows 100 used s))
     unfolding held
     near-counts =
         let z = keys-small used s b room in
-        let l : length (neighbours own below held) ≡ p = below-length own o held (f .held .rising) z (f .held .others) ∙ ap (min 5) (sym eu) ∙ sym ep in
+        let l : length (neighbours own below held) ≡ p = below-length own o held rises z others ∙ ap (min 5) (sym eu) ∙ sym ep in
         let a : length (neighbours own above held) ≡ q =
-        above-length own o held (f .held .rising) z (f .held .others) ∙ ap₂ (λ (m n : ℕ). min 5 (m - n)) held-count (sym eu) ∙ sym eq in
+        above-length own o held rises z others ∙ ap₂ (λ (m n : ℕ). min 5 (m - n)) held-count (sym eu) ∙ sym eq in
         λ k. record { below = sym l k; above = sym a k }
 
     -- the keys below and then those above, written one after the other

@@ -1,8 +1,9 @@
 -- Any two answers that the contract of `closest_record` allows are one: the number where it is refused, else no two places have the same record.
 -- Assumes nothing.
-use mathlib.Core.Path.{_≡_, refl, sym, ap, _∙_}
+use mathlib.Core.Path.{_≡_, refl, sym, ap, _∙_, subst}
+use mathlib.Core.Bool.{true}
 use mathlib.Core.List.{List, [], _∷_}
-use Prim.Native.Nat.{ℕ, zero, suc, _+_, _*_, _≤_, _<_}
+use Prim.Native.Nat.{ℕ, zero, suc, _+_, _*_, _/_, _≤_, _<_}
 use native.Mathlib.Omega.{arith}
 use lib.ListN.{length, getD, length-map}
 use borrow.Author.Tests.{not-false}
@@ -10,7 +11,9 @@ use Rattle.octet.specs.Part.{part}
 use Rattle.octet.proofs.PartLaws.{length-part}
 use Rattle.refusal.proofs.TableLaws.{AllFail}
 use Rattle.record.specs.Record.{keyOf}
-use Rattle.record.proofs.EntryLaws.{form-length}
+use Rattle.own.specs.Own.{ownForm, ownKeys, ownRecords, ownRecord}
+use Rattle.own.proofs.FormLaws.{own-formed}
+use Rattle.own.proofs.PlaceLaws as own-laws
 use Rattle.table.proofs.RowLaws.{rows-length}
 use Rattle.kept.specs.Keys.{_∈_, Rising, plain}
 use Rattle.kept.specs.Plain.{NotOwn}
@@ -41,26 +44,46 @@ module _ (own cache path target : List ℕ) where
     passes : AllFail (closestWrong own cache path target)
     passes = closest-passes own cache path target (sym (ap (λ (h : Shown). h .number) e))
 
-    own-long : length own ≡ 100
-    own-long = form-length own (not-false _ (passes .0))
+    own-good : ownForm own ≡ true
+    own-good = not-false _ (passes .0)
 
-    holds : Form (keyOf own) cache (heldBy own cache)
-    holds = true-form (keyOf own) cache (not-false _ (passes .1 .0))
+    holds : Form (ownKeys own) cache (heldBy own cache)
+    holds = true-form (ownKeys own) cache (not-false _ (passes .1 .0))
 
     held-row : (i : ℕ) → i < length (heldBy own cache) → part (100 * i) 100 cache ∈ heldBy own cache
     unfolding heldOf
-    held-row i l = row-in (heldIn (keyOf own) cache) i cache (omega (arith, l, rows-length 100 (heldIn (keyOf own) cache) cache))
+    held-row i l = row-in (heldIn (ownKeys own) cache) i cache (omega (arith, l, rows-length 100 (heldIn (ownKeys own) cache) cache))
 
     held-key-at : (i : ℕ) → i < length (heldBy own cache) → getD (keysOf (heldBy own cache)) i 0 ≡ keyOf (part (100 * i) 100 cache)
     unfolding heldOf
     held-key-at i l =
-        key-of-place (heldIn (keyOf own) cache) cache i (omega (arith, l, rows-length 100 (heldIn (keyOf own) cache) cache))
+        key-of-place (heldIn (ownKeys own) cache) cache i (omega (arith, l, rows-length 100 (heldIn (ownKeys own) cache) cache))
         ∙ sym (key-of-row (100 * i) cache)
 
-    not-held : (i : ℕ) → i < length (heldBy own cache) → own ≡ part (100 * i) 100 cache → ⊥
-    not-held i l d =
-        every-at (NotOwn (keyOf own)) (keyOf (part (100 * i) 100 cache)) (keysOf (heldBy own cache)) (holds .held .others)
-        (held-key (part (100 * i) 100 cache) (heldBy own cache) (held-row i l)) (sym (ap keyOf d))
+    -- an own record is none of those held
+    not-held : (k i : ℕ) → k < length (ownRecords own) → i < length (heldBy own cache) → ownRecord own k ≡ part (100 * i) 100 cache → ⊥
+    not-held k i w l d =
+        every-at (NotOwn (ownKeys own)) (keyOf (part (100 * i) 100 cache)) (keysOf (heldBy own cache)) (holds .held .others)
+        (held-key (part (100 * i) 100 cache) (heldBy own cache) (held-row i l))
+        (subst (λ (k : ℕ). k ∈ ownKeys own) (ap keyOf d) (held-key (ownRecord own k) (ownRecords own) (own-row k w)))
+      where
+        own-row : (k : ℕ) → k < length (ownRecords own) → ownRecord own k ∈ ownRecords own
+        own-row k w = row-in (length own / 100) k own (omega (arith, w, rows-length 100 (length own / 100) own))
+
+    -- two own records are told apart by their places
+    own-place : (k l : ℕ) → k < length (ownRecords own) → l < length (ownRecords own) → ownRecord own k ≡ ownRecord own l → k ≡ l
+    own-place k l v w d =
+        let n = rows-length 100 (length own / 100) own in
+        let m = length-map (ownRecords own) keyOf in
+        rise-one 0 (ownKeys own) k l (own-formed own own-good .rising) (omega (arith, v, m)) (omega (arith, w, m))
+        (sym (own-laws.key-of-place own k (omega (arith, v, n))) ∙ ap keyOf d ∙ own-laws.key-of-place own l (omega (arith, w, n)))
+
+    -- and they have bytes
+    own-some : (k : ℕ) → k < length (ownRecords own) → ownRecord own k ≡ [] → ⊥
+    own-some k w d =
+        let m = own-formed own own-good .many in
+        let n : _≡_ {A = ℕ} 0 100 = sym (ap length d) ∙ length-part (100 * k) 100 own (omega (arith, w, m, rows-length 100 (length own / 100) own)) in
+        omega (arith, n)
 
     one-place : (i j : ℕ) → i < length (heldBy own cache) → j < length (heldBy own cache)
         → part (100 * i) 100 cache ≡ part (100 * j) 100 cache → i ≡ j
@@ -78,11 +101,11 @@ module _ (own cache path target : List ℕ) where
   pub nearest-one : (a b : Nearest) → shownBy own cache a ≡ closestCall own cache path target → Inside own cache a
       → shownBy own cache b ≡ closestCall own cache path target → Inside own cache b → a ≡ b
   nearest-one (Refused m) (Refused n) p f q g = ap Refused (ap (λ (h : Shown). h .number) (p ∙ sym q))
-  nearest-one (Refused m) Own p f q g = let n : _≡_ {A = ℕ} 0 100 = ap length (bytes-of p q) ∙ own-long own q in absurd (omega (arith, n))
+  nearest-one (Refused m) (Own j) p f q g = absurd (own-some (ownRecord own j) q j g (bytes-of q p))
   nearest-one (Refused m) (Held i) p f q g = absurd (some i (g .1) (bytes-of q p))
-  nearest-one Own (Refused n) p f q g = let z : _≡_ {A = ℕ} 0 100 = ap length (bytes-of q p) ∙ own-long own p in absurd (omega (arith, z))
-  nearest-one Own Own p f q g = refl
-  nearest-one Own (Held i) p f q g = absurd (not-held own p i (g .0) (bytes-of p q))
+  nearest-one (Own k) (Refused n) p f q g = absurd (own-some (ownRecord own k) p k f (bytes-of p q))
+  nearest-one (Own k) (Own j) p f q g = ap Own (own-place (ownRecord own k) p k j f g (bytes-of p q))
+  nearest-one (Own k) (Held i) p f q g = absurd (not-held (ownRecord own k) p k i f (g .0) (bytes-of p q))
   nearest-one (Held i) (Refused n) p f q g = absurd (some i (f .1) (bytes-of p q))
-  nearest-one (Held i) Own p f q g = absurd (not-held own q i (f .0) (bytes-of q p))
+  nearest-one (Held i) (Own k) p f q g = absurd (not-held (ownRecord own k) q k i g (f .0) (bytes-of q p))
   nearest-one (Held i) (Held j) p f q g = ap Held (one-place (part (100 * i) 100 cache) p i j (f .0) (g .0) (bytes-of p q))

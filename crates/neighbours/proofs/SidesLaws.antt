@@ -1,4 +1,4 @@
--- The closest record is our own or one of two: the first that is not on the path going up from the target's place, and the first going down. In this order: places
+-- The closest record is the closest of our own or one of two: the first that is not on the path going up from the target's place, and the first going down. In this order: places
 -- in a list that rises; the records not on the path by their steps from the target; the two, and that one of them or our own is the closest. Assumes nothing.
 use mathlib.Core.Path.{_≡_, refl, sym, ap, ap₂, _∙_}
 use mathlib.Core.Logic.{inl, inr}
@@ -13,7 +13,7 @@ use Rattle.octet.specs.Part.{part}
 use Rattle.key.specs.Number.{keyAt}
 use Rattle.key.specs.Around.{ring, up}
 use Rattle.record.specs.Record.{keyOf}
-use Rattle.own.specs.Own.{ownRecords}
+use Rattle.own.specs.Own.{ownForm, ownKeys, ownRecords, ownRecord}
 use Rattle.table.specs.Rows.{rows}
 use Rattle.table.proofs.RowLaws.{rows-length}
 use Rattle.kept.specs.Keys.{_∈_, Every, Rising}
@@ -57,7 +57,7 @@ rising-places f b (k ∷ l) (suc i) (suc j) r h g = rising-places f (suc (f k)) 
 
 -- ---- the records not on the path by their steps from the target
 
-module _ (t : ℕ) (own path s : List ℕ) (used : ℕ) (f : HeldRecords (keyOf own) (rows 100 used s)) (o : t < ring)
+module _ (t : ℕ) (own path s : List ℕ) (used : ℕ) (f : HeldRecords (ownKeys own) (rows 100 used s)) (o : t < ring)
     (small : Every (λ (k : ℕ). k < ring) (keysOf (rows 100 used s))) where
   abbrev keys : List ℕ
   keys = keysOf (rows 100 used s)
@@ -173,13 +173,14 @@ module _ (t : ℕ) (own path s : List ℕ) (used : ℕ) (f : HeldRecords (keyOf 
             let b = rising-places (up t) 0 (goingUp t keys) i last rises high (omega (arith, size, under-less)) in
             (rw (key-up over some, e) at a, rw (e, key-up last (omega (arith, under-less))) at b)
 
-    pub sides-closest : (u d : ℕ) → u ≡ stepsUp used (countUnder t (keysOf (rows 100 used s))) (skippedUp path s used (countUnder t (keysOf (rows 100 used s))))
+    pub sides-closest : (i : ℕ) → ownForm own ≡ true → ownRecord own i ≡ closestOf t (ownRecords own) → (u d : ℕ)
+        → u ≡ stepsUp used (countUnder t (keysOf (rows 100 used s))) (skippedUp path s used (countUnder t (keysOf (rows 100 used s))))
         → d ≡ stepsDown used (countUnder t (keysOf (rows 100 used s))) (skippedDown path s used (countUnder t (keysOf (rows 100 used s))))
-        → recordAt own s (nearestOf t own s u d) ≡ closestOf t (candidates (ownRecords own) (offPath path (rows 100 used s)))
-    sides-closest u d eu ed =
-        ap₂ (λ (i j : ℕ). recordAt own s (nearestOf t own s i j)) eu ed
-        ∙ nearest-closest t own s left (off-held path (keyOf own) (rows 100 used s) f) o (keys-off path _ (rows 100 used s) small)
+        → recordAt own s (nearestOf t own i s u d) ≡ closestOf t (candidates (ownRecords own) (offPath path (rows 100 used s)))
+    sides-closest i formed mine u d eu ed =
+        ap₂ (λ (k j : ℕ). recordAt own s (nearestOf t own i s k j)) eu ed
+        ∙ nearest-closest t own s left formed (off-held path (ownKeys own) (rows 100 used s) f) o (keys-off path _ (rows 100 used s) small)
         (stepsUp used at over) (stepsDown used at under)
         (off-has path _ (rows 100 used s) (row-in used (stepsUp used at over) s (within over some)) stops)
         (off-has path _ (rows 100 used s) (row-in used (stepsUp used at last) s (within last (omega (arith, under-less)))) stops-down)
-        between
+        between i mine

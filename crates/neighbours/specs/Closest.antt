@@ -1,14 +1,11 @@
 -- Helps the code. "The record closest to the target, the own record included"; "The closest record must skip any held record" on the LOOKUP's path, "The own
--- record is never skipped" (02, Wish 2); "Closeness to a target is the shorter way round; at equal distance take the key
--- reached by going down from the target" (02, Wish 4): key's Around has which of two keys is closer. Tied to document 01 by
--- `ours-meets` (sentences/Theorems). Assumes nothing.
+-- record is never skipped" (02, Wish 2). Own records are several (02, Wish 11). Tied to document 01 by `ours-meets` (sentences/Theorems). Assumes nothing.
 use Prim.Native.Nat.{ℕ}
 use mathlib.Core.Bool.{cond}
 use mathlib.Core.List.{List, [], _∷_, _++_}
-use Rattle.key.specs.Around.{closer}
-use Rattle.record.specs.Record.{keyOf}
 use Rattle.own.specs.Own.{ownRecords}
 use Rattle.path.specs.Path.{onPath}
+unfoldable pub use Rattle.closest_row.specs.Closest.{closestFrom, closestOf}
 
 -- the records that may be shown: our own, and of those held the ones given
 abbrev pub candidates : List (List ℕ) → List (List ℕ) → List (List ℕ)
@@ -18,16 +15,6 @@ candidates own held = own ++ held
 unfoldable pub offPath : List ℕ → List (List ℕ) → List (List ℕ)
 offPath path [] = []
 offPath path (r ∷ rs) = cond (onPath r path) (offPath path rs) (r ∷ offPath path rs)
-
--- the closest to t of r and the records of the list
-unfoldable pub closestFrom : ℕ → List ℕ → List (List ℕ) → List ℕ
-closestFrom t r [] = r
-closestFrom t r (x ∷ xs) = closestFrom t (cond (closer t (keyOf x) (keyOf r)) x r) xs
-
--- the closest to t of the records, and nothing where there are none
-unfoldable pub closestOf : ℕ → List (List ℕ) → List ℕ
-closestOf t [] = []
-closestOf t (r ∷ rs) = closestFrom t r rs
 
 -- the record that is shown for a target t: the closest of our own and those held that are not on the path
 abbrev pub closestPast : (own : List ℕ) (recs : List (List ℕ)) (path : List ℕ) (t : ℕ) → List ℕ

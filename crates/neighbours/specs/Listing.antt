@@ -15,7 +15,7 @@ unfoldable pub keyBytes : List ℕ → List ℕ
 keyBytes [] = []
 keyBytes (k ∷ ks) = digitsBE 256 32 k ++ keyBytes ks
 
--- the neighbour list at the output's start, and its two counts
+-- the neighbour list of an own key at the output's start, and its two counts
 abbrev pub afterList : ℕ → List (List ℕ) → List ℕ → List ℕ
 afterList own recs out = splice 0 (keyBytes (neighbourList own (keysOf recs))) out
 

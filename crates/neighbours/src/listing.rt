@@ -1,13 +1,14 @@
-// The neighbour list: up to five keys below our own, then up to five above, nearest first.
+// The neighbour list of an own key: up to five keys below it, then up to five above, nearest first.
 ghost use mathlib.Core.Path.{_≡_};
 ghost use mathlib.Core.List.{reverse};
 ghost use Prim.Native.Nat.{_+_, _*_, _≤_, min};
 ghost use lib.ListN.{length, take};
 ghost use Rattle.octet.specs.Part.{splice};
-ghost use Rattle.record.specs.Record.{keyOf};
+ghost use Rattle.key.specs.Number.{keyAt};
 ghost use Rattle.table.specs.Rows.{rows};
-ghost use Rattle.kept.specs.Turned.{turned};
-ghost use Rattle.cache.specs.Form.{keysOf, Form};
+ghost use Rattle.kept.specs.Keys.{Every, Rising, plain};
+ghost use Rattle.kept.specs.Turned.{NotKey, turned};
+ghost use Rattle.cache.specs.Form.{keysOf};
 ghost use Rattle.neighbours.specs.Listing.{keyBytes, afterList, countsOf};
 ghost use Rattle.neighbours.specs.Calls.{listWritten, listCall};
 use cache::Formed;
@@ -59,16 +60,18 @@ fn keys_up(cache: &[u8], used: usize, from: usize, n: usize, out: &mut [u8], at:
     }
 }
 
-// The neighbour list is written to the output's start. `used` records are held.
-pub fn neighbours(own: &[u8], cache: &[u8], used: usize, out: &mut [u8]) -> Counts
-    requires { ⌜ (32 ≤ length (now own)) × (320 ≤ length (now out)) ⌝ }
-    requires { ⌜ Form (keyOf (now own)) (now cache) (rows 100 used (now cache)) ⌝ }
-    ensures { λ r. ⌜ r ≡ countsOf (keyOf (now (own .entry))) (rows 100 used (now (cache .entry))) ⌝ }
+// The neighbour list of a key that is not held, whose 32 bytes begin the slice, is written to the output's start. `used`
+// records are held.
+pub fn neighbours(key: &[u8], cache: &[u8], used: usize, out: &mut [u8]) -> Counts
+    requires { ⌜ (32 ≤ length (now key)) × (320 ≤ length (now out)) × (100 * used ≤ length (now cache)) ⌝ }
+    requires { ⌜ Rising plain 0 (keysOf (rows 100 used (now cache))) ⌝ }
+    requires { ⌜ Every (NotKey (keyAt 0 (now key))) (keysOf (rows 100 used (now cache))) ⌝ }
+    ensures { λ r. ⌜ r ≡ countsOf (keyAt 0 (now (key .entry))) (rows 100 used (now (cache .entry))) ⌝ }
     ensures { λ _. ⌜ now (out .exit)
-        ≡ afterList (keyOf (now (own .entry))) (rows 100 used (now (cache .entry))) (now (out .entry)) ⌝ }
+        ≡ afterList (keyAt 0 (now (key .entry))) (rows 100 used (now (cache .entry))) (now (out .entry)) ⌝ }
 {
-    let first = cache::count_under(own, cache, used);
-    let under = cache::count_below(own, cache, used, first);
+    let first = sides::count_under(key, cache, used);
+    let under = sides::count_below(key, cache, used, first);
     let below = lesser(5, under);
     let above = lesser(5, used - under);
     keys_down(cache, used, first, below, out);
@@ -76,10 +79,11 @@ pub fn neighbours(own: &[u8], cache: &[u8], used: usize, out: &mut [u8]) -> Coun
     Counts { below, above }
 }
 
-// The same on memory that nobody has tested. Gives 0, 1 or 15, and the two counts; refused, it changes nothing.
-pub fn neighbour_list(own: &[u8], cache: &[u8], out: &mut [u8]) -> Listed
+// The same for one of our own keys, on memory that nobody has tested. Gives 0, 1, 12 or 15, and the two counts; refused, it
+// changes nothing.
+pub fn neighbour_list(own: &[u8], cache: &[u8], key: &[u8], out: &mut [u8]) -> Listed
     ensures { λ r. ⌜ listWritten r (now (out .exit))
-        ≡ listCall (now (own .entry)) (now (cache .entry)) (now (out .entry)) ⌝ }
+        ≡ listCall (now (own .entry)) (now (cache .entry)) (now (key .entry)) (now (out .entry)) ⌝ }
 {
     let found = cache::memory(own, cache);
     let Formed::Good(used) = found else {
@@ -89,6 +93,20 @@ pub fn neighbour_list(own: &[u8], cache: &[u8], out: &mut [u8]) -> Listed
             above: 0,
         };
     };
+    if key.len() != 32 {
+        return Listed {
+            number: refusal::MEMORY,
+            below: 0,
+            above: 0,
+        };
+    }
+    if !own::is_own(own, key, 0) {
+        return Listed {
+            number: refusal::NOT_OURS,
+            below: 0,
+            above: 0,
+        };
+    }
     if out.len() < 320 {
         return Listed {
             number: refusal::ROOM,
@@ -96,7 +114,7 @@ pub fn neighbour_list(own: &[u8], cache: &[u8], out: &mut [u8]) -> Listed
             above: 0,
         };
     }
-    let counts = neighbours(own, cache, used, out);
+    let counts = neighbours(key, cache, used, out);
     Listed {
         number: 0,
         below: counts.below,

@@ -5,8 +5,8 @@ ghost use mathlib.Core.List.{List};
 ghost use Prim.Native.Nat.{ℕ, _+_, _*_, _≤_};
 ghost use lib.ListN.{length};
 ghost use Rattle.key.specs.Number.{number, keyAt};
-ghost use Rattle.record.specs.Record.{keyOf, recordForm};
-ghost use Rattle.own.specs.Own.{ownRecords};
+ghost use Rattle.record.specs.Record.{recordForm};
+ghost use Rattle.own.specs.Own.{ownForm, ownKeys, ownRecords};
 ghost use Rattle.table.specs.Rows.{rows};
 ghost use Rattle.kept.specs.Keys.{Every};
 ghost use Rattle.kept.specs.Turned.{countUnder};
@@ -17,16 +17,17 @@ ghost use Rattle.neighbours.specs.Calls.{Inside, shownBy, closestCall, c
 use cache::Formed;
 use key::Key;
 
-// Where a record stands: it is our own, or that of a place of the cache.
+// Where a record stands: it is one of our own, or that of a place of the cache.
 pub(crate) enum Where {
-    Own,
+    Own(usize),
     Held(usize),
 }
 
-// The number that a call for the closest record is refused with, or the record: our own, or that of a place of the cache.
+// The number that a call for the closest record is refused with, or the record: one of our own, or that of a place of the
+// cache.
 pub enum Nearest {
     Refused(u32),
-    Own,
+    Own(usize),
     Held(usize),
 }
 
@@ -36,12 +37,12 @@ pub struct Sighted {
     pub compared: usize,
 }
 
-// Which of our own record and those of two places is the closest to the target?
-fn nearest_of(own: &[u8], cache: &[u8], up: usize, down: usize, target: Key) -> Where
-    requires { ⌜ (32 ≤ length (now own)) × (100 * up + 32 ≤ length (now cache)) × (100 * down + 32 ≤ length (now cache)) ⌝ }
-    ensures { λ r. ⌜ r ≡ nearestOf (number target) (now (own .entry)) (now (cache .entry)) up down ⌝ }
+// Which of our own record of place i and those of two places is the closest to the target?
+fn nearest_of(own: &[u8], i: usize, cache: &[u8], up: usize, down: usize, target: Key) -> Where
+    requires { ⌜ (100 * i + 32 ≤ length (now own)) × (100 * up + 32 ≤ length (now cache)) × (100 * down + 32 ≤ length (now cache)) ⌝ }
+    ensures { λ r. ⌜ r ≡ nearestOf (number target) (now (own .entry)) i (now (cache .entry)) up down ⌝ }
 {
-    let ours = key::key_at(own, 0);
+    let ours = key::key_at(own, record::RECORD_LEN * i);
     let over = key::key_at(cache, record::RECORD_LEN * up);
     let under = key::key_at(cache, record::RECORD_LEN * down);
     let far = ring::how_far(target, ours);
@@ -51,12 +52,12 @@ fn nearest_of(own: &[u8], cache: &[u8], up: usize, down: usize, target: Key) -> 
         if ring::is_closer(target, over, far_up, ours, far) {
             return Where::Held(up);
         }
-        return Where::Own;
+        return Where::Own(i);
     }
     if ring::is_closer(target, under, far_down, ours, far) {
         return Where::Held(down);
     }
-    Where::Own
+    Where::Own(i)
 }
 
 // How many records are on the path, from a place up and counted round, before the first that is not; all of them where
@@ -94,8 +95,9 @@ fn skipped_down(cache: &[u8], used: usize, at: usize, path: &[u8]) -> usize
     i
 }
 
-// Where the closest record stands, those on the path left out. `at` is the target's place among all that are held. Keys go
-// round, so of those held it can only be the first that is reached by going up from the target or the first by going down.
+// Where the closest record stands, those on the path left out. `at` is the target's place among all that are held. Of our
+// own it can only be the closest of them. Keys go round, so of those held it can only be the first that is reached by going
+// up from the target or the first by going down.
 fn place_of_closest(
     own: &[u8],
     cache: &[u8],
@@ -104,25 +106,26 @@ fn place_of_closest(
     path: &[u8],
     target: &[u8],
 ) -> Where
-    requires { ⌜ (32 ≤ length (now own)) × (32 ≤ length (now target)) ⌝ }
-    requires { ⌜ Form (keyOf (now own)) (now cache) (rows 100 used (now cache)) ⌝ }
+    requires { ⌜ (ownForm (now own) ≡ true) × (32 ≤ length (now target)) ⌝ }
+    requires { ⌜ Form (ownKeys (now own)) (now cache) (rows 100 used (now cache)) ⌝ }
     requires { ⌜ at ≡ countUnder (keyAt 0 (now target)) (keysOf (rows 100 used (now cache))) ⌝ }
     ensures { λ r. ⌜ recordAt (now (own .entry)) (now (cache .entry)) r
         ≡ closestOf (keyAt 0 (now (target .entry))) (candidates (ownRecords (now (own .entry)))
         (offPath (now (path .entry)) (rows 100 used (now (cache .entry))))) ⌝ }
-    ensures { λ r. ⌜ Within used r ⌝ }
+    ensures { λ r. ⌜ Within (length (ownRecords (now (own .entry)))) used r ⌝ }
 {
+    let ours = closest_row::place_of(own, own::count(own), key::key_at(target, 0));
     let over = skipped_up(cache, used, at, path);
     if over == used {
-        return Where::Own;
+        return Where::Own(ours);
     }
     let under = skipped_down(cache, used, at, path);
     let up = round::wrap(used, at + over);
     let down = round::wrap(used, at + (used - (under + 1)));
-    nearest_of(own, cache, up, down, key::key_at(target, 0))
+    nearest_of(own, ours, cache, up, down, key::key_at(target, 0))
 }
 
-// The record closest to the target, whose 32 bytes begin its slice, among our own record and those that are held, so
+// The record closest to the target, whose 32 bytes begin its slice, among our own records and those that are held, so
 // many as `used` says, and not on the path.
 pub fn closest<'a>(
     own: &'a [u8],
@@ -131,14 +134,17 @@ pub fn closest<'a>(
     path: &[u8],
     target: &[u8],
 ) -> &'a [u8]
-    requires { ⌜ (32 ≤ length (now own)) × (32 ≤ length (now target)) ⌝ }
-    requires { ⌜ Form (keyOf (now own)) (now cache) (rows 100 used (now cache)) ⌝ }
+    requires { ⌜ (ownForm (now own) ≡ true) × (32 ≤ length (now target)) ⌝ }
+    requires { ⌜ Form (ownKeys (now own)) (now cache) (rows 100 used (now cache)) ⌝ }
     ensures { λ r. ⌜ now r ≡ closestOf (keyAt 0 (now (target .entry))) (candidates (ownRecords (now (own .entry)))
         (offPath (now (path .entry)) (rows 100 used (now (cache .entry))))) ⌝ }
 {
-    let place = cache::count_under(target, cache, used);
+    let place = sides::count_under(target, cache, used);
     match place_of_closest(own, cache, used, place, path, target) {
-        Where::Own => own,
+        Where::Own(i) => {
+            let at = record::RECORD_LEN * i;
+            &own[at..at + record::RECORD_LEN]
+        }
         Where::Held(i) => {
             let at = record::RECORD_LEN * i;
             &cache[at..at + record::RECORD_LEN]
@@ -176,8 +182,8 @@ pub fn closest_record(own: &[u8], cache: &[u8], path: &[u8], target: &[u8]) -> S
     }
     let sought = search::find_key(cache, used, target);
     match place_of_closest(own, cache, used, sought.at, path, target) {
-        Where::Own => Sighted {
-            nearest: Nearest::Own,
+        Where::Own(i) => Sighted {
+            nearest: Nearest::Own(i),
             compared: sought.compared,
         },
         Where::Held(i) => Sighted {

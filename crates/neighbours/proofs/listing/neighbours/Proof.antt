@@ -1,8 +1,9 @@
--- `neighbours::listing::neighbours` meets its contract: the keys round the ring, from our own down, and from it up. Assumes nothing.
+-- `neighbours::listing::neighbours` meets its contract: the keys round the ring, from the key down, and from it up. Assumes nothing.
 use mathlib.Core.Path.{_≡_, _∙_}
 use Prim.Native.Nat.{ℕ, _*_, _≤_, _<_}
 use lib.ListN.{length, length-map}
 use Rattle.octet.specs.Number.{Bytes}
+use Rattle.key.specs.Number.{keyAt}
 use Rattle.key.specs.Around.{ring}
 use Rattle.key.proofs.KeyLaws.{key-lt}
 use Rattle.record.specs.Record.{keyOf}
@@ -10,7 +11,6 @@ use Rattle.table.specs.Rows.{rows}
 use Rattle.table.proofs.RowLaws.{rows-length}
 use Rattle.kept.proofs.TurnLaws.{count-le, under-le}
 use Rattle.cache.specs.Form.{keysOf}
-use Rattle.cache.proofs.FormLaws.{form-laid}
 use Rattle.neighbours.proofs.ListLaws.{near-counts, near-out}
 use native.Mathlib.Omega.{arith}
 use borrow.Author.Needs.{needs}
@@ -18,7 +18,7 @@ use Rattle.neighbours.proofs.listing.neighbours.Statement.{statement}
 use Rattle.neighbours.proofs.listing.neighbours.Tie as tie
 
 room : (s : tie.Start) → 100 * s .args .used ≤ length (s .args .cache .now)
-room s = form-laid (keyOf (s .args .own .now)) (s .args .used) (s .args .cache .now) (s .pre .1) .room
+room s = s .pre .0 .2
 
 many : (s : tie.Start) → length (keysOf (rows 100 (s .args .used) (s .args .cache .now))) ≡ s .args .used
 many s = length-map (rows 100 (s .args .used) (s .args .cache .now)) keyOf ∙ rows-length 100 (s .args .used) (s .args .cache .now)
@@ -29,22 +29,22 @@ start m = m .before .before .before .before
 first-most : (m : tie.After-count-under) → m .count-under .result ≤ start m .args .used
 first-most m =
     let s = start m in
-    omega (arith, m .count-under .ensures, many s, under-le (keyOf (s .args .own .now)) (keysOf (rows 100 (s .args .used) (s .args .cache .now))))
+    omega (arith, m .count-under .ensures, many s, under-le (keyAt 0 (s .args .key .now)) (keysOf (rows 100 (s .args .used) (s .args .cache .now))))
 
 under-most : (m : tie.After-count-below) → m .count-below .result ≤ start (m .before) .args .used
 under-most m =
     let s = start (m .before) in
-    omega (arith, m .count-below .ensures, many s, count-le (keyOf (s .args .own .now)) (keysOf (rows 100 (s .args .used) (s .args .cache .now))))
+    omega (arith, m .count-below .ensures, many s, count-le (keyAt 0 (s .args .key .now)) (keysOf (rows 100 (s .args .used) (s .args .cache .now))))
 
 count-under-requires : tie.Need-count-under-requires
 count-under-requires c κs =
     let s = c .before .before .before in
-    (s .pre .0 .0, (room s, s .pre .1 .held .rising))
+    (s .pre .0 .0, (room s, s .pre .1 .0))
 
 count-below-requires : tie.Need-count-below-requires
 count-below-requires c κs =
     let s = start c in
-    (s .pre .0 .0, (s .pre .1, c .count-under .ensures))
+    ((s .pre .0 .0, room s), (s .pre .1 .0, (s .pre .1 .1, c .count-under .ensures)))
 
 lesser-requires : tie.Need-lesser-requires
 lesser-requires c κs = search needs
@@ -97,11 +97,11 @@ returns c =
     let a = s .args in
     let known2 = n .before .before in
     let bytes : Bytes (a .cache .now) = λ i. omega (arith, known2 .shared-slice-known2 .given i) in
-    let own-bytes : Bytes (a .own .now) = λ i. omega (arith, known2 .before .shared-slice-known .given i) in
-    let o : keyOf (a .own .now) < ring = key-lt 0 (a .own .now) own-bytes (s .pre .0 .0) in (
-      near-counts (keyOf (a .own .now)) (a .used) (a .cache .now) (s .pre .1) o bytes (room s) (n .count-under .result) (m .count-below .result)
+    let key-bytes : Bytes (a .key .now) = λ i. omega (arith, known2 .before .shared-slice-known .given i) in
+    let o : keyAt 0 (a .key .now) < ring = key-lt 0 (a .key .now) key-bytes (s .pre .0 .0) in (
+      near-counts (keyAt 0 (a .key .now)) (a .used) (a .cache .now) (s .pre .1 .0) (s .pre .1 .1) o bytes (room s) (n .count-under .result) (m .count-below .result)
           (l1 .lesser .result) (l2 .lesser2 .result) (n .count-under .ensures) (m .count-below .ensures) (l1 .lesser .ensures) (l2 .lesser2 .ensures),
-      near-out (keyOf (a .own .now)) (a .used) (a .cache .now) (s .pre .1) o bytes (room s) (n .count-under .result) (m .count-below .result)
+      near-out (keyAt 0 (a .key .now)) (a .used) (a .cache .now) (s .pre .1 .0) (s .pre .1 .1) o bytes (room s) (n .count-under .result) (m .count-below .result)
           (l1 .lesser .result) (l2 .lesser2 .result) (n .count-under .ensures) (m .count-below .ensures) (l1 .lesser .ensures) (l2 .lesser2 .ensures)
           (a .out .now) (kd .keys-down .last .1 .1 .1 .1 .0) (ku .keys-up .last .1 .1 .1 .1 .0) (s .pre .0 .1) (kd .keys-down .ensures)
           (ku .keys-up .ensures),

@@ -9,8 +9,7 @@ use lib.ListN.{length}
 use borrow.Author.Tests.{eq-eqb, ne-eqb, not-true, not-false}
 use borrow.Author.Needs.{needs}
 use Rattle.key.specs.Number.{keyAt}
-use Rattle.record.specs.Record.{keyOf}
-use Rattle.own.specs.Own.{ownRecords}
+use Rattle.own.specs.Own.{ownKeys, ownRecords}
 use Rattle.path.specs.Path.{pathForm}
 use Rattle.refusal.specs.Table.{Refusal, orRefuse}
 use Rattle.refusal.proofs.CallLaws.{row-applies, row-passes, no-row}
@@ -140,11 +139,11 @@ module _ (e : tie.Else2) where
   held : heldBy own cache ≡ rows 100 used cache
   held = memory-held own cache (tested .memory .ensures) (e .before .before .before .before .found .given .1)
 
-  form : Form (keyOf own) cache (rows 100 used cache)
+  form : Form (ownKeys own) cache (rows 100 used cache)
   form = memory-form own cache (tested .memory .ensures) (e .before .before .before .before .found .given .1)
 
   room : 100 * used ≤ length cache
-  room = form-laid (keyOf own) used cache form .room
+  room = form-laid (ownKeys own) used cache form .room
 
   -- no row applies
   no-rows : {A : Type 0} (refuse : ℕ → A) (done : A) → orRefuse refuse (closestWrong own cache path target) done ≡ done
@@ -180,21 +179,25 @@ module _ (f : tie.After-find-key) where
 place-of-closest-requires : tie.Need-place-of-closest-requires
 place-of-closest-requires c κs =
     let e = c .before in
-    let long = memory-own (own e) (cache e) (tested e .memory .ensures) (e .before .before .before .before .found .given .1) in
-    ((omega (arith, long), omega (arith, e .if2 .left)), (form e, place c))
-
-enum-told-2 : tie.Need-enum-told-2
-enum-told-2 c = search needs
+    let good = memory-own (own e) (cache e) (tested e .memory .ensures) (e .before .before .before .before .found .given .1) in
+    ((good, omega (arith, e .if2 .left)), (form e, place c))
 
 enum-known-i : tie.Need-enum-known-i
 enum-known-i c = search needs
 
+enum-known-i-2 : tie.Need-enum-known-i-2
+enum-known-i-2 c = search needs
+
 returns-4 : tie.Need-returns-4
 returns-4 c =
-    let p = c .before .before in
+    let place = c .before in
+    let p = place .before .before in
     let e = p .before .before in (
-      sym (accepted e ∙ ap (shown 0) (sym (p .place-of-closest .ensures .0) ∙ ap (recordAt (own e) (cache e)) (c .enum-told2 .given .1))),
-      (tt, counted-all (p .before) ∙ sym (count e)),
+      sym (accepted e ∙ ap (shown 0) (sym (p .place-of-closest .ensures .0) ∙ ap (recordAt (own e) (cache e)) (place .i .given .1))),
+      (
+        subst (Within (length (ownRecords (own e))) (used e)) (place .i .given .1) (p .place-of-closest .ensures .1),
+        counted-all (p .before) ∙ sym (count e),
+      ),
     )
 
 returns-5 : tie.Need-returns-5
@@ -202,8 +205,9 @@ returns-5 c =
     let place = c .before in
     let p = place .before .before in
     let e = p .before .before in
-    let inside : place .i .given .0 .0 < used e = subst (Within (used e)) (place .i .given .1) (p .place-of-closest .ensures .1) in (
-      sym (accepted e ∙ ap (shown 0) (sym (p .place-of-closest .ensures .0) ∙ ap (recordAt (own e) (cache e)) (place .i .given .1))),
+    let inside : place .i2 .given .0 .0 < used e =
+    subst (Within (length (ownRecords (own e))) (used e)) (place .i2 .given .1) (p .place-of-closest .ensures .1) in (
+      sym (accepted e ∙ ap (shown 0) (sym (p .place-of-closest .ensures .0) ∙ ap (recordAt (own e) (cache e)) (place .i2 .given .1))),
       (
         (omega (arith, inside, ap length (held e), rows-length 100 (used e) (cache e)), omega (arith, inside, room e)),
         counted-all (p .before) ∙ sym (count e),
@@ -223,7 +227,7 @@ closest-record-spec =
     returns-3
     find-key-requires
     place-of-closest-requires
-    enum-told-2
     enum-known-i
+    enum-known-i-2
     returns-4
     returns-5)

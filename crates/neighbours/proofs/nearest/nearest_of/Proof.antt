@@ -22,7 +22,7 @@ module _ (c : tie.After-is-closer) where
   t = number (start far .args .target)
 
   abbrev ours : ℕ
-  ours = keyAt 0 (start far .args .own .now)
+  ours = keyAt (100 * start far .args .i) (start far .args .own .now)
 
   abbrev over : ℕ
   over = keyAt (100 * start far .args .up) (start far .args .cache .now)
@@ -50,17 +50,20 @@ down-or-own : (c : tie.After-is-closer3)
     → closer (t (c .before .before)) (under (c .before .before)) (ours (c .before .before)) ≡ c .is-closer3 .result
 down-or-own c = let m = c .before .before in sym (c .is-closer3 .ensures ∙ ap₂ (closer (t m)) (read-under m) (read-ours m))
 
-key-at-requires : tie.Need-key-at-requires
-key-at-requires c κs = search needs
-
 mul-key-at : tie.Need-mul-key-at
 mul-key-at c = omega arith
+
+key-at-requires : tie.Need-key-at-requires
+key-at-requires c κs = omega arith
+
+mul-key-at-2 : tie.Need-mul-key-at-2
+mul-key-at-2 c = omega arith
 
 key-at-requires-2 : tie.Need-key-at-requires-2
 key-at-requires-2 c κs = omega arith
 
-mul-key-at-2 : tie.Need-mul-key-at-2
-mul-key-at-2 c = omega arith
+mul-key-at-3 : tie.Need-mul-key-at-3
+mul-key-at-3 c = omega arith
 
 key-at-requires-3 : tie.Need-key-at-requires-3
 key-at-requires-3 c κs = omega arith
@@ -103,10 +106,11 @@ pub nearest-of-spec : {M : Type 1} → statement M
 nearest-of-spec =
     tie.close
     (tie.spec
-    key-at-requires
     mul-key-at
-    key-at-requires-2
+    key-at-requires
     mul-key-at-2
+    key-at-requires-2
+    mul-key-at-3
     key-at-requires-3
     how-far-requires
     how-far-requires-2

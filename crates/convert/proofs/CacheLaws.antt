@@ -9,13 +9,14 @@ use lib.Dec.{eqb, leb}
 use lib.ListN.{length, take, drop, getD, replicate, length-map}
 use borrow.Author.Tests.{lt-leb, eq-eqb, le-leb}
 use Rattle.octet.specs.Part.{allZero}
-use Rattle.record.specs.Record.{keyOf, countOf, recordForm}
+use Rattle.record.specs.Record.{countOf, recordForm}
+use Rattle.own.specs.Own.{Own}
 use Rattle.table.specs.Rows.{rows, joined, bytesOf, Sized, Laid}
 use Rattle.table.proofs.RowLaws.{rows-length, rows-take, rows-append, rows-sized, bytes-length}
 use Rattle.kept.specs.Keys.{Every, Rising, plain}
 use Rattle.kept.specs.Plain.{NotOwn}
-use Rattle.cache.specs.Form.{keysOf, placesIn, Places, Form, leading, heldIn, heldOf, cacheForm}
-use Rattle.cache.proofs.FormLaws.{From, counted, counts, Stops, getD-zeros, formed-sized, true-form, form-true, form-held, form-room, form-rows, form-clear}
+use Rattle.cache.specs.Form.{keysOf, placesIn, Places, Form, leading, heldOf, cacheForm}
+use Rattle.cache.proofs.FormLaws.{From, counted, counts, Stops, getD-zeros, formed-sized, true-form, form-room, form-rows, form-clear}
 use Rattle.convert.specs.Old.{oldRecordForm, oldHeldIn, oldHeldOf, oldCacheForm}
 use Rattle.cut.specs.Cut.{converted}
 use Rattle.convert.proofs.OldLaws.{old-length, new-old}
@@ -50,7 +51,7 @@ all-stay (r ∷ recs) h = ap₂ (λ (q : List ℕ) (qs : List (List ℕ)). q ∷
 
 -- ---- a cache in the old form
 
-module _ (own : ℕ) (s : List ℕ) (e : oldCacheForm own s ≡ true) where
+module _ (own : Own) (s : List ℕ) (e : oldCacheForm own s ≡ true) where
   old-from : From oldRecordForm own 0 (oldHeldOf own s)
   unfolding oldHeldIn
   old-from =
@@ -69,7 +70,7 @@ module _ (own : ℕ) (s : List ℕ) (e : oldCacheForm own s ≡ true) where
       let long : length (bytesOf (length s) (map converted recs)) ≡ length s = bytes-length 100 (length s) (map converted recs) sized few in
       let same = keys-stay recs (old-from .formed) in
       record {
-        places = subst Places (sym long) (cache-places own s e);
+        places = subst (Places own) (sym long) (cache-places own s e);
         bytes = ap (λ (n : ℕ). bytesOf n (map converted recs)) (sym long);
         held = record {
           formed = news;
@@ -99,7 +100,7 @@ unfolding rows
 zeros-stop zero m = tt
 zeros-stop (suc k) m = zeros-bad m
 
-module _ (own : ℕ) (s : List ℕ) (e : cacheForm own s ≡ true) where
+module _ (own : Own) (s : List ℕ) (e : cacheForm own s ≡ true) where
   now-form : Form own s (heldOf own s)
   now-form = true-form own s e
 
@@ -123,7 +124,13 @@ module _ (own : ℕ) (s : List ℕ) (e : cacheForm own s ≡ true) where
   unfolding oldCacheForm
   now-old =
       let p = now-form .places in
-      rw (eq-eqb (length s % 100) 0 (p .whole), le-leb 1000 (length s) (p .least), le-leb (length s) 25600 (p .most), same-count)
+      rw (
+        eq-eqb (length s % 100) 0 (p .whole),
+        le-leb 1000 (length s) (p .least),
+        le-leb (length s) 25600 (p .most),
+        le-leb (1000 * length own) (length s) (p .enough),
+        same-count,
+      )
       (form-clear own s (heldOf own s) now-form)
 
   -- nothing changes in it

@@ -6,13 +6,13 @@ use mathlib.Core.Bool.{Bool, true, false}
 use mathlib.Core.List.{List, map}
 use Prim.Native.Nat.{ℕ}
 use native.Mathlib.Omega.{arith}
-use Rattle.record.specs.Record.{keyOf}
+use Rattle.own.specs.Own.{ownKeys}
 use Rattle.cache.specs.Form.{keysOf, heldOf, cacheForm}
 use Rattle.cache.proofs.FormLaws.{form-true, form-held}
 use Rattle.waiting.specs.Place.{idOf, kindOf, triesOf, placeKey}
 use Rattle.waiting.specs.Form.{placesOf, waitingForm}
 use Rattle.waiting.proofs.FormLaws.{form-test, form-unique}
-use Rattle.convert.specs.Old.{oldRecordForm, oldHeldOf, oldCacheForm, oldWaitingForm}
+use Rattle.convert.specs.Old.{oldOwnForm, oldHeldOf, oldCacheForm, oldWaitingForm}
 use Rattle.cut.specs.Cut.{converted, convertedPlace}
 use Rattle.convert.specs.Convert.{Converted, convertHanded, convertDone, convertCall}
 use Rattle.convert.proofs.CallLaws.{own-bad, cache-bad, table-bad, converts}
@@ -21,9 +21,9 @@ use Rattle.convert.proofs.TableLaws.{converted-table, table-sized, same
 
 -- memory in the old form
 pub record Old (own cache t : List ℕ) : Type 0 where
-  pub own-record : oldRecordForm own ≡ true
-  pub held : oldCacheForm (keyOf own) cache ≡ true
-  pub waits : oldWaitingForm (keyOf own) t ≡ true
+  pub own-record : oldOwnForm own ≡ true
+  pub held : oldCacheForm (ownKeys own) cache ≡ true
+  pub waits : oldWaitingForm (ownKeys own) t ≡ true
 
 module _ (own cache t : List ℕ) where
   taken : Old own cache t → convertCall own cache t ≡ convertDone own cache t
@@ -31,28 +31,28 @@ module _ (own cache t : List ℕ) where
 
   -- a number other than 0 is 1, and nothing changes
   either : (Old own cache t → ⊥) → convertCall own cache t ≡ convertHanded 1 cache t
-  either never = first (oldRecordForm own) refl
+  either never = first (oldOwnForm own) refl
     where
-      third : oldRecordForm own ≡ true → oldCacheForm (keyOf own) cache ≡ true → (b : Bool) → oldWaitingForm (keyOf own) t ≡ b
+      third : oldOwnForm own ≡ true → oldCacheForm (ownKeys own) cache ≡ true → (b : Bool) → oldWaitingForm (ownKeys own) t ≡ b
           → convertCall own cache t ≡ convertHanded 1 cache t
       third o h true e = absurd (never (record { own-record = o; held = h; waits = e }))
       third o h false e = table-bad own cache t o h e
 
-      second : oldRecordForm own ≡ true → (b : Bool) → oldCacheForm (keyOf own) cache ≡ b → convertCall own cache t ≡ convertHanded 1 cache t
-      second o true e = third o e (oldWaitingForm (keyOf own) t) refl
+      second : oldOwnForm own ≡ true → (b : Bool) → oldCacheForm (ownKeys own) cache ≡ b → convertCall own cache t ≡ convertHanded 1 cache t
+      second o true e = third o e (oldWaitingForm (ownKeys own) t) refl
       second o false e = cache-bad own cache t o e
 
-      first : (b : Bool) → oldRecordForm own ≡ b → convertCall own cache t ≡ convertHanded 1 cache t
-      first true e = second e (oldCacheForm (keyOf own) cache) refl
+      first : (b : Bool) → oldOwnForm own ≡ b → convertCall own cache t ≡ convertHanded 1 cache t
+      first true e = second e (oldCacheForm (ownKeys own) cache) refl
       first false e = own-bad own cache t e
 
   was-old : convertCall own cache t .number ≡ 0 → Old own cache t
-  was-old z = by-case (oldRecordForm own) (oldCacheForm (keyOf own) cache) (oldWaitingForm (keyOf own) t) refl refl refl
+  was-old z = by-case (oldOwnForm own) (oldCacheForm (ownKeys own) cache) (oldWaitingForm (ownKeys own) t) refl refl refl
     where
       refused : convertCall own cache t ≡ convertHanded 1 cache t → Old own cache t
       refused e = let w : _≡_ {A = ℕ} 1 0 = sym (ap (λ (c : Converted). c .number) e) ∙ z in absurd (omega arith)
 
-      by-case : (a b c : Bool) → oldRecordForm own ≡ a → oldCacheForm (keyOf own) cache ≡ b → oldWaitingForm (keyOf own) t ≡ c → Old own cache t
+      by-case : (a b c : Bool) → oldOwnForm own ≡ a → oldCacheForm (ownKeys own) cache ≡ b → oldWaitingForm (ownKeys own) t ≡ c → Old own cache t
       by-case true true true o h w = record { own-record = o; held = h; waits = w }
       by-case true true false o h w = refused (table-bad own cache t o h w)
       by-case true false c o h w = refused (cache-bad own cache t o h)
@@ -70,38 +70,38 @@ module _ (own cache t : List ℕ) where
 
   module _ (z : convertCall own cache t .number ≡ 0) where
     -- taken it leaves memory in the form of today
-    pub convert-form : (cacheForm (keyOf own) (convertCall own cache t .cache) ≡ true) × (waitingForm (keyOf own) (convertCall own cache t .waiting) ≡ true)
+    pub convert-form : (cacheForm (ownKeys own) (convertCall own cache t .cache) ≡ true) × (waitingForm (ownKeys own) (convertCall own cache t .waiting) ≡ true)
     unfolding convertDone
     convert-form =
         let o = was-old z in (
-          ap (λ (c : Converted). cacheForm (keyOf own) (c .cache)) (taken o) ∙ form-true (keyOf own) _ _ (converted-cache (keyOf own) cache (o .held)),
-          ap (λ (c : Converted). waitingForm (keyOf own) (c .waiting)) (taken o)
-              ∙ form-test (keyOf own) _ _ (converted-table (keyOf own) t (o .waits)),
+          ap (λ (c : Converted). cacheForm (ownKeys own) (c .cache)) (taken o) ∙ form-true (ownKeys own) _ _ (converted-cache (ownKeys own) cache (o .held)),
+          ap (λ (c : Converted). waitingForm (ownKeys own) (c .waiting)) (taken o)
+              ∙ form-test (ownKeys own) _ _ (converted-table (ownKeys own) t (o .waits)),
         )
 
     -- with the records it held, each with its first address: the same keys in the same order
-    pub convert-records : heldOf (keyOf own) (convertCall own cache t .cache) ≡ map converted (oldHeldOf (keyOf own) cache)
+    pub convert-records : heldOf (ownKeys own) (convertCall own cache t .cache) ≡ map converted (oldHeldOf (ownKeys own) cache)
     unfolding convertDone
     convert-records =
         let o = was-old z in
-        ap (λ (c : Converted). heldOf (keyOf own) (c .cache)) (taken o) ∙ form-held (keyOf own) _ _ (converted-cache (keyOf own) cache (o .held))
+        ap (λ (c : Converted). heldOf (ownKeys own) (c .cache)) (taken o) ∙ form-held (ownKeys own) _ _ (converted-cache (ownKeys own) cache (o .held))
 
-    pub convert-keys : keysOf (heldOf (keyOf own) (convertCall own cache t .cache)) ≡ keysOf (oldHeldOf (keyOf own) cache)
-    convert-keys = ap keysOf convert-records ∙ old-keys-stay (keyOf own) cache (was-old z .held)
+    pub convert-keys : keysOf (heldOf (ownKeys own) (convertCall own cache t .cache)) ≡ keysOf (oldHeldOf (ownKeys own) cache)
+    convert-keys = ap keysOf convert-records ∙ old-keys-stay (ownKeys own) cache (was-old z .held)
 
     -- and the places that waited, with the IDs, kinds, tries and keys they had
     pub convert-places : placesOf (convertCall own cache t .waiting) ≡ map convertedPlace (placesOf t)
     unfolding convertDone
     convert-places =
         let o = was-old z in
-        ap (λ (c : Converted). placesOf (c .waiting)) (taken o) ∙ sym (form-unique (keyOf own) _ _ (converted-table (keyOf own) t (o .waits)))
+        ap (λ (c : Converted). placesOf (c .waiting)) (taken o) ∙ sym (form-unique (ownKeys own) _ _ (converted-table (ownKeys own) t (o .waits)))
 
     pub convert-waiting : (map idOf (placesOf (convertCall own cache t .waiting)) ≡ map idOf (placesOf t))
         × (map kindOf (placesOf (convertCall own cache t .waiting)) ≡ map kindOf (placesOf t))
         × (map triesOf (placesOf (convertCall own cache t .waiting)) ≡ map triesOf (placesOf t))
         × (map placeKey (placesOf (convertCall own cache t .waiting)) ≡ map placeKey (placesOf t))
     convert-waiting =
-        let sized = table-sized (keyOf own) t (was-old z .waits) in (
+        let sized = table-sized (ownKeys own) t (was-old z .waits) in (
           ap (map idOf) convert-places ∙ each-stays idOf same-id (placesOf t) sized,
           ap (map kindOf) convert-places ∙ each-stays kindOf same-kind (placesOf t) sized,
           ap (map triesOf) convert-places ∙ each-stays triesOf same-tries (placesOf t) sized,
@@ -115,14 +115,14 @@ module _ (own cache t : List ℕ) where
         let c = convertCall own cache t in
         let o = was-old z in
         let f = convert-form in
-        converts own (c .cache) (c .waiting) (o .own-record) (now-old (keyOf own) (c .cache) (f .0)) (table-now-old (keyOf own) (c .waiting) (f .1))
-        ∙ ap₂ (convertHanded 0) (now-stays (keyOf own) (c .cache) (f .0)) (table-stays (keyOf own) (c .waiting) (f .1))
+        converts own (c .cache) (c .waiting) (o .own-record) (now-old (ownKeys own) (c .cache) (f .0)) (table-now-old (ownKeys own) (c .waiting) (f .1))
+        ∙ ap₂ (convertHanded 0) (now-stays (ownKeys own) (c .cache) (f .0)) (table-stays (ownKeys own) (c .waiting) (f .1))
         ∙ ap (λ (n : ℕ). convertHanded n (c .cache) (c .waiting)) (sym z)
 
 -- memory of today is taken, and nothing changes
-pub convert-now : (own cache t : List ℕ) → oldRecordForm own ≡ true → cacheForm (keyOf own) cache ≡ true → waitingForm (keyOf own) t ≡ true
+pub convert-now : (own cache t : List ℕ) → oldOwnForm own ≡ true → cacheForm (ownKeys own) cache ≡ true → waitingForm (ownKeys own) t ≡ true
     → convertCall own cache t ≡ convertHanded 0 cache t
 unfolding convertDone
 convert-now own cache t o f g =
-    converts own cache t o (now-old (keyOf own) cache f) (table-now-old (keyOf own) t g)
-    ∙ ap₂ (convertHanded 0) (now-stays (keyOf own) cache f) (table-stays (keyOf own) t g)
+    converts own cache t o (now-old (ownKeys own) cache f) (table-now-old (ownKeys own) t g)
+    ∙ ap₂ (convertHanded 0) (now-stays (ownKeys own) cache f) (table-stays (ownKeys own) t g)

@@ -8,6 +8,7 @@ use native.Mathlib.Omega.{arith}
 use lib.ListN.{length, drop}
 use borrow.Author.Tests.{eq-eqb, ne-eqb, le-leb, lt-leb}
 use Rattle.octet.specs.Part.{allZero}
+use Rattle.own.specs.Own.{Own}
 use Rattle.table.specs.Rows.{rows}
 use Rattle.table.proofs.RowLaws.{rows-length}
 use Rattle.cache.specs.declared.shape.Formed.the-variants.{Bad, Good}
@@ -16,12 +17,12 @@ use Rattle.cache.proofs.FormLaws.{leading-most}
 use Rattle.convert.specs.Old.{oldRecordForm, oldHeldIn, oldCacheForm}
 use Rattle.convert.specs.Formed.{oldCacheFormed}
 
-pub held-most : (own : ℕ) (s : List ℕ) → oldHeldIn own s ≤ placesIn (length s)
+pub held-most : (own : Own) (s : List ℕ) → oldHeldIn own s ≤ placesIn (length s)
 unfolding oldHeldIn
 held-most own s =
     omega (arith, leading-most oldRecordForm own 0 (rows 100 (placesIn (length s)) s), rows-length 100 (placesIn (length s)) s)
 
-module _ (own : ℕ) (s : List ℕ) where
+module _ (own : Own) (s : List ℕ) where
   pub not-whole : (length s % 100 ≡ 0 → ⊥) → oldCacheFormed own s ≡ Bad
   unfolding oldCacheFormed oldCacheForm
   not-whole d = rw (ne-eqb (length s % 100) 0 d) refl
@@ -36,11 +37,23 @@ module _ (own : ℕ) (s : List ℕ) where
       unfolding oldCacheFormed oldCacheForm
       too-large h = rw (eq-eqb (length s % 100) 0 whole, le-leb 1000 (length s) least, lt-leb (length s) 25600 h) refl
 
-      pub by-rest : (used : ℕ) (b : Bool) → length s ≤ 25600 → used ≡ leading oldRecordForm own 0 (rows 100 (placesIn (length s)) s)
+      pub too-few : length s ≤ 25600 → length s < 1000 * length own → oldCacheFormed own s ≡ Bad
+      unfolding oldCacheFormed oldCacheForm
+      too-few m h =
+          rw (eq-eqb (length s % 100) 0 whole, le-leb 1000 (length s) least, le-leb (length s) 25600 m, lt-leb (1000 * length own) (length s) h) refl
+
+      pub by-rest : (used : ℕ) (b : Bool) → length s ≤ 25600 → 1000 * length own ≤ length s → used ≡ leading oldRecordForm own 0 (rows 100 (placesIn (length s)) s)
           → b ≡ allZero (drop (100 * used) s) → oldCacheFormed own s ≡ cond b (Good used) Bad
       unfolding oldCacheFormed oldCacheForm oldHeldIn
-      by-rest used b most is z =
-          rw (eq-eqb (length s % 100) 0 whole, le-leb 1000 (length s) least, le-leb (length s) 25600 most, z, is) refl
+      by-rest used b most enough is z =
+          rw (
+            eq-eqb (length s % 100) 0 whole,
+            le-leb 1000 (length s) least,
+            le-leb (length s) 25600 most,
+            le-leb (1000 * length own) (length s) enough,
+            z,
+            is,
+          ) refl
 
   tells : (b : Bool) (n m : ℕ) → cond b (Good n) Bad ≡ Good m → (b ≡ true) × (n ≡ m)
   tells true n m e = (refl, cc)

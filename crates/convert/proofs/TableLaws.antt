@@ -15,6 +15,7 @@ use Rattle.octet.proofs.PartLaws.{length-part, part-splice}
 use Rattle.octet.proofs.TestLaws.{both-true}
 use Rattle.record.specs.Record.{keyOf, recordForm}
 use Rattle.record.proofs.PlaceLaws.{part-part}
+use Rattle.own.specs.Own.{isOwn, Own}
 use Rattle.table.specs.Rows.{bytesOf, Sized, anyOf, rows}
 use Rattle.table.proofs.RowLaws.{rows-sized, rows-length}
 use Rattle.waiting.specs.Place.{idOf, kindOf, triesOf, placeKey, placeRecord}
@@ -80,31 +81,31 @@ module _ (p : List ℕ) (long : length p ≡ 140) where
 abbrev Head : List ℕ → Bool
 Head p = leb (triesOf p) 2 && eqb (getD p 6 0) 0 && eqb (getD p 7 0) 0
 
-record Inquiry (good : List ℕ → Bool) (own : ℕ) (p : List ℕ) : Type 0 where
+record Inquiry (good : List ℕ → Bool) (own : Own) (p : List ℕ) : Type 0 where
   head : Head p ≡ true
   formed : good (placeRecord p) ≡ true
   keyed : eqb (keyOf (placeRecord p)) (placeKey p) ≡ true
-  other : not (eqb (placeKey p) own) ≡ true
+  other : not (isOwn own (placeKey p)) ≡ true
 
-inquiry-tells : (good : List ℕ → Bool) (own : ℕ) (p : List ℕ) → eqb (kindOf p) 2 ≡ true → placeBy good own p ≡ true → Inquiry good own p
+inquiry-tells : (good : List ℕ → Bool) (own : Own) (p : List ℕ) → eqb (kindOf p) 2 ≡ true → placeBy good own p ≡ true → Inquiry good own p
 inquiry-tells good own p k e =
     let is = inquiry-is good own p (eqb-true (kindOf p) 2 k) refl (ap (λ (n : ℕ). eqb n (placeKey p)) (record-key p)) refl in
-    let a = both-true (Head p) (good (placeRecord p) && eqb (keyOf (placeRecord p)) (placeKey p) && not (eqb (placeKey p) own)) (is ∙ e) in
-    let b = both-true (good (placeRecord p) && eqb (keyOf (placeRecord p)) (placeKey p)) (not (eqb (placeKey p) own)) (a .1) in
+    let a = both-true (Head p) (good (placeRecord p) && eqb (keyOf (placeRecord p)) (placeKey p) && not (isOwn own (placeKey p))) (is ∙ e) in
+    let b = both-true (good (placeRecord p) && eqb (keyOf (placeRecord p)) (placeKey p)) (not (isOwn own (placeKey p))) (a .1) in
     let c = both-true (good (placeRecord p)) (eqb (keyOf (placeRecord p)) (placeKey p)) (b .0) in
     record { head = a .0; formed = c .0; keyed = c .1; other = b .1 }
 
-inquiry-told : (good : List ℕ → Bool) (own : ℕ) (p : List ℕ) → eqb (kindOf p) 2 ≡ true → Inquiry good own p → placeBy good own p ≡ true
+inquiry-told : (good : List ℕ → Bool) (own : Own) (p : List ℕ) → eqb (kindOf p) 2 ≡ true → Inquiry good own p → placeBy good own p ≡ true
 inquiry-told good own p k h =
     let is = inquiry-is good own p (eqb-true (kindOf p) 2 k) refl (ap (λ (n : ℕ). eqb n (placeKey p)) (record-key p)) refl in
     sym is ∙ rw (h .head, h .formed, h .keyed, h .other) refl
 
 -- of another place no record is asked
-other-same : (good better : List ℕ → Bool) (own : ℕ) (p : List ℕ) → eqb (kindOf p) 2 ≡ false → placeBy good own p ≡ placeBy better own p
+other-same : (good better : List ℕ → Bool) (own : Own) (p : List ℕ) → eqb (kindOf p) 2 ≡ false → placeBy good own p ≡ placeBy better own p
 unfolding placeBy
 other-same good better own p e = rw e refl
 
-place-new : (own : ℕ) (p : List ℕ) → length p ≡ 140 → placeBy oldRecordForm own p ≡ true → placeForm own (convertedPlace p) ≡ true
+place-new : (own : Own) (p : List ℕ) → length p ≡ 140 → placeBy oldRecordForm own p ≡ true → placeForm own (convertedPlace p) ≡ true
 place-new own p long e = by-case (eqb (kindOf p) 2) refl
   where
     by-case : (b : Bool) → eqb (kindOf p) 2 ≡ b → placeForm own (convertedPlace p) ≡ true
@@ -120,10 +121,10 @@ place-new own p long e = by-case (eqb (kindOf p) 2) refl
               (ap₂ (λ (m n : ℕ). leb m 2 && eqb n 0) (same-tries p long) (byte p long 6 (omega arith))) (byte p long 7 (omega arith)) ∙ h .head;
           formed = ap recordForm r ∙ converted-form (placeRecord p) (h .formed);
           keyed = ap₂ eqb key (same-key p long) ∙ h .keyed;
-          other = ap (λ (n : ℕ). not (eqb n own)) (same-key p long) ∙ h .other;
+          other = ap (λ (n : ℕ). not (isOwn own n)) (same-key p long) ∙ h .other;
         })
 
-place-old : (own : ℕ) (p : List ℕ) → placeForm own p ≡ true → placeBy oldRecordForm own p ≡ true
+place-old : (own : Own) (p : List ℕ) → placeForm own p ≡ true → placeBy oldRecordForm own p ≡ true
 place-old own p e = by-case (eqb (kindOf p) 2) refl
   where
     by-case : (b : Bool) → eqb (kindOf p) 2 ≡ b → placeBy oldRecordForm own p ≡ true
@@ -133,7 +134,7 @@ place-old own p e = by-case (eqb (kindOf p) 2) refl
         inquiry-told oldRecordForm own p k
         (record { head = h .head; formed = new-old (placeRecord p) (h .formed); keyed = h .keyed; other = h .other })
 
-place-stays : (own : ℕ) (p : List ℕ) → length p ≡ 140 → placeForm own p ≡ true → convertedPlace p ≡ p
+place-stays : (own : Own) (p : List ℕ) → length p ≡ 140 → placeForm own p ≡ true → convertedPlace p ≡ p
 place-stays own p long e = by-case (eqb (kindOf p) 2) refl
   where
     by-case : (b : Bool) → eqb (kindOf p) 2 ≡ b → convertedPlace p ≡ p
@@ -156,7 +157,7 @@ again-same p ps long h =
     ap₂ (λ (m n : ℕ). eqb m 2 && anyOf (isInquiry n) (map convertedPlace ps)) (same-kind p long) (same-key p long)
     ∙ ap (λ (b : Bool). eqb (kindOf p) 2 && b) (any-same (placeKey p) ps h)
 
-places-new : (own low : ℕ) (ps : List (List ℕ)) → Sized 140 ps → placesBy oldRecordForm own low ps ≡ true → placesForm own low (map convertedPlace ps) ≡ true
+places-new : (own : Own) (low : ℕ) (ps : List (List ℕ)) → Sized 140 ps → placesBy oldRecordForm own low ps ≡ true → placesForm own low (map convertedPlace ps) ≡ true
 unfolding placesBy
 places-new own low [] h e = refl
 places-new own low (p ∷ ps) h e =
@@ -171,7 +172,7 @@ places-new own low (p ∷ ps) h e =
       third .1,
     ) (places-new own (suc (idOf p)) ps (h .1) (last .1))
 
-places-old : (own low : ℕ) (ps : List (List ℕ)) → placesForm own low ps ≡ true → placesBy oldRecordForm own low ps ≡ true
+places-old : (own : Own) (low : ℕ) (ps : List (List ℕ)) → placesForm own low ps ≡ true → placesBy oldRecordForm own low ps ≡ true
 unfolding placesBy
 places-old own low [] e = refl
 places-old own low (p ∷ ps) e =
@@ -180,7 +181,7 @@ places-old own low (p ∷ ps) e =
     let first = both-true (placeForm own p) (leb low (idOf p)) (third .0) in
     rw (place-old own p (first .0), first .1, third .1) (places-old own (suc (idOf p)) ps (last .1))
 
-places-stay : (own low : ℕ) (ps : List (List ℕ)) → Sized 140 ps → placesForm own low ps ≡ true → map convertedPlace ps ≡ ps
+places-stay : (own : Own) (low : ℕ) (ps : List (List ℕ)) → Sized 140 ps → placesForm own low ps ≡ true → map convertedPlace ps ≡ ps
 unfolding placesBy
 places-stay own low [] h e = refl
 places-stay own low (p ∷ ps) h e =
@@ -197,7 +198,7 @@ each-stays f same (p ∷ ps) h = ap₂ (λ (n : ℕ) (ns : List ℕ). n ∷ ns) 
 
 -- ---- the table
 
-module _ (own : ℕ) (t : List ℕ) (e : oldWaitingForm own t ≡ true) where
+module _ (own : Own) (t : List ℕ) (e : oldWaitingForm own t ≡ true) where
   pub table-sized : Sized 140 (placesOf t)
   table-sized = rows-sized 140 (usedOf t) t (table-laid own t e .room)
 
@@ -213,7 +214,7 @@ module _ (own : ℕ) (t : List ℕ) (e : oldWaitingForm own t ≡ true) where
   pub converted-table : PlacesForm own (bytesOf (length t) (map convertedPlace (placesOf t))) (map convertedPlace (placesOf t))
   converted-table = rw (table-size own t e) converted-places
 
-module _ (own : ℕ) (t : List ℕ) (e : waitingForm own t ≡ true) where
+module _ (own : Own) (t : List ℕ) (e : waitingForm own t ≡ true) where
   pub table-now-old : oldWaitingForm own t ≡ true
   unfolding oldWaitingForm waitingForm
   table-now-old =

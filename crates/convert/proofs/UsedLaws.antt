@@ -9,17 +9,18 @@ use lib.ListN.{length, take, drop, length-drop}
 use lib.Seq.{take-all}
 use borrow.Author.Tests.{eq-eqb, ne-eqb}
 use Rattle.octet.specs.Part.{allZero}
+use Rattle.own.specs.Own.{Own}
 use Rattle.table.specs.Rows.{rows}
 use Rattle.waiting_form.specs.declared.tested.Formed.the-variants.{Bad, Good}
 use Rattle.waiting.specs.Form.{placesBy, usedOf}
 use Rattle.convert.specs.Old.{oldRecordForm, oldWaitingForm}
 use Rattle.convert.specs.Formed.{oldWaitingFormed}
 
-pub not-long : (own : ℕ) (t : List ℕ) → (length t ≡ 2240 → ⊥) → oldWaitingFormed own t ≡ Bad
+pub not-long : (own : Own) (t : List ℕ) → (length t ≡ 2240 → ⊥) → oldWaitingFormed own t ≡ Bad
 unfolding oldWaitingFormed oldWaitingForm
 not-long own t h = rw (ne-eqb (length t) 2240 h) refl
 
-module _ (own : ℕ) (t : List ℕ) (size : length t ≡ 2240) {u : ℕ} {z p : Bool} (hu : u ≡ usedOf t)
+module _ (own : Own) (t : List ℕ) (size : length t ≡ 2240) {u : ℕ} {z p : Bool} (hu : u ≡ usedOf t)
     (hz : z ≡ allZero (take (2240 - 140 * u) (drop (140 * u) t))) (hp : p ≡ placesBy oldRecordForm own 0 (rows 140 u t)) where
   form-tests : oldWaitingForm own t ≡ (z && p)
   unfolding oldWaitingForm
@@ -46,10 +47,10 @@ good-by : (b : Bool) (u v : ℕ) → cond b (Good u) Bad ≡ Good v → (b ≡ t
 good-by true u v e = (refl, cc)
 good-by false u v e = let z : _≡_ {A = ℕ} 0 1 = cc in absurd (omega arith)
 
-pub bad-form : (own : ℕ) (t : List ℕ) → oldWaitingFormed own t ≡ Bad → oldWaitingForm own t ≡ false
+pub bad-form : (own : Own) (t : List ℕ) → oldWaitingFormed own t ≡ Bad → oldWaitingForm own t ≡ false
 unfolding oldWaitingFormed
 bad-form own t e = bad-by (oldWaitingForm own t) (usedOf t) e
 
-pub good-form : (own : ℕ) (t : List ℕ) {u : ℕ} → oldWaitingFormed own t ≡ Good u → (oldWaitingForm own t ≡ true) × (u ≡ usedOf t)
+pub good-form : (own : Own) (t : List ℕ) {u : ℕ} → oldWaitingFormed own t ≡ Good u → (oldWaitingForm own t ≡ true) × (u ≡ usedOf t)
 unfolding oldWaitingFormed
 good-form own t {u} e = good-by (oldWaitingForm own t) (usedOf t) u e

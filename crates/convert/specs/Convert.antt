@@ -9,7 +9,7 @@ use Rattle.refusal.specs.Table.{Refusal, when, orRefuse}
 use Rattle.table.specs.Rows.{bytesOf}
 use Rattle.waiting.specs.Form.{placesOf}
 use Rattle.cut.specs.Cut.{converted, convertedPlace}
-use Rattle.convert.specs.Old.{oldRecordForm, oldHeldOf, oldCacheForm, oldWaitingForm}
+use Rattle.convert.specs.Old.{oldOwnForm, oldHeldOf, oldCacheForm, oldWaitingForm}
 
 -- what a conversion hands back: the number, the cache and the waiting table
 pub record Converted : Type 0 where
@@ -22,7 +22,7 @@ convertHanded n cache t = record { number = n; cache = cache; waiting = t }
 
 unfoldable pub convertWrong : List ℕ → List ℕ → List ℕ → List Refusal
 convertWrong own cache t =
-    when 1 (not (oldRecordForm own)) ∷ when 1 (not (oldCacheForm (ownKeys own) cache)) ∷ when 1 (not (oldWaitingForm (ownKeys own) t)) ∷ []
+    when 1 (not (oldOwnForm own)) ∷ when 1 (not (oldCacheForm (ownKeys own) cache)) ∷ when 1 (not (oldWaitingForm (ownKeys own) t)) ∷ []
 
 unfoldable pub convertDone : List ℕ → List ℕ → List ℕ → Converted
 convertDone own cache t =

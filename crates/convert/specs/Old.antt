@@ -1,5 +1,5 @@
 -- To believe. The form that memory had while a record could have four addresses (document 01), which a conversion takes. Only what a record in form is
--- differs: places, order and keys are asked for as in the form of today. Assumes nothing.
+-- differs: places, order and keys are asked for as in the form of today, of own records too. Assumes nothing.
 use Prim.Native.Nat.{ℕ, _+_, _*_}
 use mathlib.Core.Bool.{Bool, _&&_}
 use mathlib.Core.List.{List}
@@ -7,7 +7,7 @@ use lib.Dec.{eqb, leb}
 use lib.ListN.{length, drop, getD}
 use Rattle.octet.specs.Part.{allZero}
 use Rattle.record.specs.Record.{countOf}
-use Rattle.own.specs.Own.{Own}
+use Rattle.own.specs.Own.{Own, ownBy}
 use Rattle.table.specs.Rows.{rows}
 use Rattle.cache.specs.Form.{placesIn, leading, holds}
 use Rattle.waiting.specs.Form.{usedOf, placesOf, placesBy}
@@ -21,6 +21,10 @@ oldRecordForm r =
     && eqb (getD r 35 0) 0
     && allZero (drop (36 + 16 * countOf r) r)
 
+-- are the own records such records?
+abbrev pub oldOwnForm : List ℕ → Bool
+oldOwnForm own = ownBy oldRecordForm own
+
 -- how many such records a cache holds, and which; is it in form?
 unfoldable pub oldHeldIn : Own → List ℕ → ℕ
 oldHeldIn own cache = leading oldRecordForm own 0 (rows 100 (placesIn (length cache)) cache)
@@ -29,7 +33,7 @@ abbrev pub oldHeldOf : Own → List ℕ → List (List ℕ)
 oldHeldOf own cache = rows 100 (oldHeldIn own cache) cache
 
 unfoldable pub oldCacheForm : Own → List ℕ → Bool
-oldCacheForm own cache = holds (oldHeldIn own cache) cache
+oldCacheForm own cache = holds own (oldHeldIn own cache) cache
 
 -- is the waiting table?
 unfoldable pub oldWaitingForm : Own → List ℕ → Bool

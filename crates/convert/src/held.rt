@@ -3,45 +3,26 @@ use crate::old::is_formed;
 use cache::Formed;
 ghost use mathlib.Core.Path.{_≡_};
 ghost use Prim.Native.Nat.{_+_, _*_, _/_, _≤_};
-ghost use lib.Dec.{leb};
 ghost use lib.ListN.{length};
 ghost use Rattle.octet.specs.Part.{part};
-ghost use Rattle.key.specs.Number.{keyAt};
-ghost use Rattle.record.specs.Record.{keyOf};
+ghost use Rattle.own.specs.Own.{ownKeys};
+ghost use Rattle.own.specs.Low.{lowAt};
 ghost use Rattle.table.specs.Rows.{rows};
 ghost use Rattle.cache.specs.Form.{follows, leading};
-ghost use Rattle.cache.specs.Place.{lowAt};
 ghost use Rattle.convert.specs.Old.{oldRecordForm};
 ghost use Rattle.convert.specs.Formed.{oldCacheFormed};
 
-// Is the key at place i above the one before it?
-fn above_before(cache: &[u8], i: usize) -> bool
-    requires { ⌜ 100 * i + 100 ≤ length (now cache) ⌝ }
-    ensures { λ r. ⌜ r ≡ leb (lowAt (now (cache .entry)) i) (keyAt (100 * i) (now (cache .entry))) ⌝ }
-{
-    if i == 0 {
-        return true;
-    }
-    key::less_at(
-        cache,
-        record::RECORD_LEN * (i - 1),
-        cache,
-        record::RECORD_LEN * i,
-    )
-}
-
 // Has place i an old record that may stand after those before it?
 fn place_follows(own: &[u8], cache: &[u8], i: usize) -> bool
-    requires { ⌜ 32 ≤ length (now own) ⌝ }
     requires { ⌜ 100 * i + 100 ≤ length (now cache) ⌝ }
-    ensures { λ r. ⌜ r ≡ follows oldRecordForm (keyOf (now (own .entry))) (lowAt (now (cache .entry)) i)
+    ensures { λ r. ⌜ r ≡ follows oldRecordForm (ownKeys (now (own .entry))) (lowAt (now (cache .entry)) i)
         (part (100 * i) 100 (now (cache .entry))) ⌝ }
 {
     let at = record::RECORD_LEN * i;
     if !is_formed(cache, at) {
         return false;
     }
-    if !above_before(cache, i) {
+    if !own::above_before(cache, i) {
         return false;
     }
     !own::is_own(own, cache, at)
@@ -49,8 +30,7 @@ fn place_follows(own: &[u8], cache: &[u8], i: usize) -> bool
 
 // How many places, from the first, have old records in order.
 fn count_held(own: &[u8], cache: &[u8]) -> usize
-    requires { ⌜ 32 ≤ length (now own) ⌝ }
-    ensures { λ r. ⌜ r ≡ leading oldRecordForm (keyOf (now (own .entry))) 0
+    ensures { λ r. ⌜ r ≡ leading oldRecordForm (ownKeys (now (own .entry))) 0
         (rows 100 (length (now (cache .entry)) / 100) (now (cache .entry))) ⌝ }
 {
     let n = cache.len() / record::RECORD_LEN;
@@ -64,10 +44,9 @@ fn count_held(own: &[u8], cache: &[u8]) -> usize
     n
 }
 
-// The test of the old form, under the own key, which stands at the own record's start.
+// The test of the old form, under our own keys. C is at least ten times their number.
 pub(crate) fn form(own: &[u8], cache: &[u8]) -> Formed
-    requires { ⌜ 32 ≤ length (now own) ⌝ }
-    ensures { λ r. ⌜ r ≡ oldCacheFormed (keyOf (now (own .entry))) (now (cache .entry)) ⌝ }
+    ensures { λ r. ⌜ r ≡ oldCacheFormed (ownKeys (now (own .entry))) (now (cache .entry)) ⌝ }
 {
     let size = cache.len();
     if size % record::RECORD_LEN != 0 {
@@ -77,6 +56,9 @@ pub(crate) fn form(own: &[u8], cache: &[u8]) -> Formed
         return Formed::Bad;
     }
     if 25600 < size {
+        return Formed::Bad;
+    }
+    if size / 1000 < own::count(own) {
         return Formed::Bad;
     }
     let used = count_held(own, cache);

@@ -5,17 +5,7 @@ ghost use lib.ListN.{length};
 ghost use Rattle.octet.specs.Part.{part};
 ghost use Rattle.convert.specs.Old.{oldRecordForm};
 
-// Is the slice a record in the old form?
-pub(crate) fn is_record(r: &[u8]) -> bool
-    ensures { λ b. ⌜ b ≡ oldRecordForm (now (r .entry)) ⌝ }
-{
-    if r.len() != record::RECORD_LEN {
-        return false;
-    }
-    is_formed(r, 0)
-}
-
-// Are the 100 bytes at a place one? Count and zero byte are one number. What is unused is looked at from the end on, so
+// Are the 100 bytes at a place a record in the old form? Count and zero byte are one number. What is unused is looked at from the end on, so
 // that each count shares the tests of the next.
 pub(crate) fn is_formed(s: &[u8], at: usize) -> bool
     requires { ⌜ at + 100 ≤ length (now s) ⌝ }

@@ -4,7 +4,7 @@ use waiting_form::Formed;
 ghost use mathlib.Core.Path.{_≡_};
 ghost use Prim.Native.Nat.{_*_, _≤_};
 ghost use lib.ListN.{length};
-ghost use Rattle.record.specs.Record.{keyOf};
+ghost use Rattle.own.specs.Own.{ownKeys};
 ghost use Rattle.table.specs.Rows.{rows};
 ghost use Rattle.waiting.specs.Form.{placeBy, placesBy};
 ghost use Rattle.convert.specs.Old.{oldRecordForm};
@@ -12,8 +12,8 @@ ghost use Rattle.convert.specs.Formed.{oldWaitingFormed};
 
 // Is a used place in the old form?
 fn place_formed(own: &[u8], place: &[u8]) -> bool
-    requires { ⌜ (32 ≤ length (now own)) × (length (now place) ≡ 140) ⌝ }
-    ensures { λ r. ⌜ r ≡ placeBy oldRecordForm (keyOf (now (own .entry))) (now (place .entry)) ⌝ }
+    requires { ⌜ length (now place) ≡ 140 ⌝ }
+    ensures { λ r. ⌜ r ≡ placeBy oldRecordForm (ownKeys (now (own .entry))) (now (place .entry)) ⌝ }
 {
     let head = waiting_form::is_fresh(place);
     if place[4] == 1 {
@@ -30,9 +30,9 @@ fn place_formed(own: &[u8], place: &[u8]) -> bool
 
 // Are the used places in the old form, the IDs rising and the inquiries' keys different?
 fn places_formed(own: &[u8], table: &[u8], used: usize) -> bool
-    requires { ⌜ (32 ≤ length (now own)) × (140 * used ≤ length (now table)) ⌝ }
+    requires { ⌜ 140 * used ≤ length (now table) ⌝ }
     ensures { λ r. ⌜ r
-        ≡ placesBy oldRecordForm (keyOf (now (own .entry))) 0 (rows 140 used (now (table .entry))) ⌝ }
+        ≡ placesBy oldRecordForm (ownKeys (now (own .entry))) 0 (rows 140 used (now (table .entry))) ⌝ }
 {
     let mut low: u64 = 0;
     let mut at = 0;
@@ -50,10 +50,9 @@ fn places_formed(own: &[u8], table: &[u8], used: usize) -> bool
     true
 }
 
-// Is the table in the old form, for a gauge with the own record?
+// Is the table in the old form, for a gauge with these own records?
 pub(crate) fn form(own: &[u8], table: &[u8]) -> Formed
-    requires { ⌜ 32 ≤ length (now own) ⌝ }
-    ensures { λ r. ⌜ r ≡ oldWaitingFormed (keyOf (now (own .entry))) (now (table .entry)) ⌝ }
+    ensures { λ r. ⌜ r ≡ oldWaitingFormed (ownKeys (now (own .entry))) (now (table .entry)) ⌝ }
 {
     if table.len() != waiting::WAITING_LEN {
         return Formed::Bad;

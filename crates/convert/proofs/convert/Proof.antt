@@ -3,16 +3,14 @@ use mathlib.Core.Path.{_≡_, sym, ap, ap₂, subst, _∙_}
 use mathlib.Core.Bool.{true}
 use mathlib.Core.List.{List, map}
 use Prim.Native.Nat.{ℕ}
-use native.Mathlib.Omega.{arith}
 use lib.ListN.{length}
 use borrow.Author.Tests.{not-true, not-false}
-use Rattle.record.specs.Record.{keyOf}
+use Rattle.own.specs.Own.{ownKeys}
 use Rattle.table.specs.Rows.{rows, bytesOf, Laid}
 use Rattle.waiting.specs.Form.{usedOf}
-use Rattle.convert.specs.Old.{oldRecordForm, oldHeldIn, oldCacheForm, oldWaitingForm}
+use Rattle.convert.specs.Old.{oldOwnForm, oldHeldIn, oldCacheForm, oldWaitingForm}
 use Rattle.cut.specs.Cut.{converted, convertedPlace}
 use Rattle.convert.specs.Convert.{convertHanded, convertDone}
-use Rattle.convert.proofs.OldLaws.{old-length}
 use Rattle.convert.proofs.HeldLaws.{good-is, bad-is}
 use Rattle.convert.proofs.UsedLaws.{good-form, bad-form}
 use Rattle.convert.proofs.CallLaws.{own-bad, cache-bad, table-bad, converts, cache-laid, table-laid}
@@ -31,33 +29,33 @@ abbrev third : tie.After-known-told2 → tie.After-known-told
 third k = k .before .before .before .before .before
 
 -- what each test that was passed says
-whole : (c : tie.Else1) → oldRecordForm (first c .args .own .now) ≡ true
-whole c = sym (c .before .is-record .ensures) ∙ not-false _ (c .if1 .left)
+whole : (c : tie.Else1) → oldOwnForm (first c .args .own .now) ≡ true
+whole c = sym (c .before .form .ensures) ∙ not-false _ (c .if1 .left)
 
 holding : (k : tie.After-known-told)
-    → (oldCacheForm (keyOf (second k .args .own .now)) (second k .args .cache .now) ≡ true)
-    × (oldHeldIn (keyOf (second k .args .own .now)) (second k .args .cache .now) ≡ k .before .records .given .0 .0)
+    → (oldCacheForm (ownKeys (second k .args .own .now)) (second k .args .cache .now) ≡ true)
+    × (oldHeldIn (ownKeys (second k .args .own .now)) (second k .args .cache .now) ≡ k .before .records .given .0 .0)
 holding k =
     let a = second k .args in
-    good-is (keyOf (a .own .now)) (a .cache .now) (sym (k .before .before .before .form .ensures) ∙ k .before .records .given .1)
+    good-is (ownKeys (a .own .now)) (a .cache .now) (sym (k .before .before .before .form2 .ensures) ∙ k .before .records .given .1)
 
 waits : (k : tie.After-known-told2)
-    → (oldWaitingForm (keyOf (second (third k) .args .own .now)) (second (third k) .args .waiting .now) ≡ true)
+    → (oldWaitingForm (ownKeys (second (third k) .args .own .now)) (second (third k) .args .waiting .now) ≡ true)
     × (k .before .places .given .0 .0 ≡ usedOf (second (third k) .args .waiting .now))
 waits k =
     let a = second (third k) .args in
-    good-form (keyOf (a .own .now)) (a .waiting .now) (sym (k .before .before .before .form2 .ensures) ∙ k .before .places .given .1)
+    good-form (ownKeys (a .own .now)) (a .waiting .now) (sym (k .before .before .before .form3 .ensures) ∙ k .before .places .given .1)
 
-is-record-requires : tie.Need-is-record-requires
-is-record-requires c κs = search needs
+form-requires : tie.Need-form-requires
+form-requires c κs = search needs
 
 returns : tie.Need-returns
 returns c =
     let a = c .before .before .before .before .before .args in
-    sym (own-bad (a .own .now) (a .cache .now) (a .waiting .now) (sym (c .before .is-record .ensures) ∙ not-true _ (c .if1 .taken)))
+    sym (own-bad (a .own .now) (a .cache .now) (a .waiting .now) (sym (c .before .form .ensures) ∙ not-true _ (c .if1 .taken)))
 
-form-requires : tie.Need-form-requires
-form-requires c κs = omega (arith, old-length (first (c .before) .args .own .now) (whole (c .before)))
+form-requires-2 : tie.Need-form-requires-2
+form-requires-2 c κs = search needs
 
 enum-known-records : tie.Need-enum-known-records
 enum-known-records c = search needs
@@ -74,12 +72,10 @@ returns-2 c =
     let left = tested .before .before in
     let a = first left .args in
     sym (cache-bad (a .own .now) (a .cache .now) (a .waiting .now) (whole left)
-    (bad-is (keyOf (a .own .now)) (a .cache .now) (sym (tested .form .ensures) ∙ c .enum-told .given .1)))
+    (bad-is (ownKeys (a .own .now)) (a .cache .now) (sym (tested .form2 .ensures) ∙ c .enum-told .given .1)))
 
-form-requires-2 : tie.Need-form-requires-2
-form-requires-2 c κs =
-    let k = c .before in
-    omega (arith, old-length (second k .args .own .now) (whole (k .before .before .before .before .before)))
+form-requires-3 : tie.Need-form-requires-3
+form-requires-3 c κs = search needs
 
 enum-known-places : tie.Need-enum-known-places
 enum-known-places c = search needs
@@ -99,19 +95,19 @@ returns-3 c =
     let k = tested .before .before in
     let a = second k .args in
     sym (table-bad (a .own .now) (a .cache .now) (a .waiting .now) (whole (k .before .before .before .before .before)) (holding k .0)
-    (bad-form (keyOf (a .own .now)) (a .waiting .now) (sym (tested .form2 .ensures) ∙ c .enum-told2 .given .1)))
+    (bad-form (ownKeys (a .own .now)) (a .waiting .now) (sym (tested .form3 .ensures) ∙ c .enum-told2 .given .1)))
 
 cut-records-requires : tie.Need-cut-records-requires
 cut-records-requires c κs =
     let k = third (c .before) in
     let a = second k .args in
-    subst (λ (n : ℕ). Laid 100 n (a .cache .now)) (holding k .1) (cache-laid (keyOf (a .own .now)) (a .cache .now) (holding k .0))
+    subst (λ (n : ℕ). Laid 100 n (a .cache .now)) (holding k .1) (cache-laid (ownKeys (a .own .now)) (a .cache .now) (holding k .0))
 
 cut-places-requires : tie.Need-cut-places-requires
 cut-places-requires c κs =
     let k = c .before .before .before .before .before in
     let a = second (third k) .args in
-    subst (λ (n : ℕ). Laid 140 n (a .waiting .now)) (sym (waits k .1)) (table-laid (keyOf (a .own .now)) (a .waiting .now) (waits k .0))
+    subst (λ (n : ℕ). Laid 140 n (a .waiting .now)) (sym (waits k .1)) (table-laid (ownKeys (a .own .now)) (a .waiting .now) (waits k .0))
 
 same-length-4 : tie.Need-same-length-4
 same-length-4 c = search needs
@@ -139,14 +135,14 @@ pub convert-spec : {M : Type 1} → statement M
 convert-spec =
     tie.close
     (tie.spec
-    is-record-requires
-    returns
     form-requires
+    returns
+    form-requires-2
     enum-known-records
     enum-told
     same-length
     returns-2
-    form-requires-2
+    form-requires-3
     enum-known-places
     enum-told-2
     same-length-2

@@ -9,7 +9,7 @@ use Rattle.octet.specs.Part.{part}
 use Rattle.key.specs.Number.{keyAt}
 use Rattle.record.specs.Record.{keyOf}
 use Rattle.cache.specs.Form.{follows}
-use Rattle.cache.specs.Place.{lowAt}
+use Rattle.own.specs.Low.{lowAt}
 use Rattle.cache.proofs.FormLaws.{key-of-row}
 use Rattle.convert.specs.Old.{oldRecordForm}
 use borrow.Author.Needs.{needs}

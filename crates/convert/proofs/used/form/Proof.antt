@@ -2,7 +2,7 @@
 use Prim.Native.Nat.{_*_, _≤_}
 use mathlib.Core.Path.{sym}
 use native.Mathlib.Omega.{arith}
-use Rattle.record.specs.Record.{keyOf}
+use Rattle.own.specs.Own.{ownKeys}
 use Rattle.waiting.proofs.FormLaws.{used-few}
 use Rattle.convert.proofs.UsedLaws.{not-long, is-good, is-bad}
 use borrow.Author.Needs.{needs}
@@ -14,7 +14,7 @@ within : (c : tie.After-count-used) → 140 * c .count-used .result ≤ 2240
 within c = omega (arith, c .count-used .ensures, used-few (c .before .before .before .before .args .table .now))
 
 returns : tie.Need-returns
-returns c = sym (not-long (keyOf (c .before .before .before .args .own .now)) (c .before .before .before .args .table .now) (c .if1 .taken))
+returns c = sym (not-long (ownKeys (c .before .before .before .args .own .now)) (c .before .before .before .args .table .now) (c .if1 .taken))
 
 count-used-requires : tie.Need-count-used-requires
 count-used-requires c κs = search needs
@@ -35,20 +35,20 @@ is-zero-requires : tie.Need-is-zero-requires
 is-zero-requires c κs = search needs
 
 places-formed-requires : tie.Need-places-formed-requires
-places-formed-requires c κs = (omega arith, omega (arith, within (c .before .before)))
+places-formed-requires c κs = omega (arith, within (c .before .before))
 
 returns-2 : tie.Need-returns-2
 returns-2 c =
     let counted = c .before .before .before .before in
     let a = counted .before .before .before .before .args in
-    sym (is-good (keyOf (a .own .now)) (a .table .now) (omega arith) (counted .count-used .ensures) (c .before .before .is-zero .ensures)
+    sym (is-good (ownKeys (a .own .now)) (a .table .now) (omega arith) (counted .count-used .ensures) (c .before .before .is-zero .ensures)
     (c .before .places-formed .ensures) (c .if2 .taken))
 
 returns-3 : tie.Need-returns-3
 returns-3 c =
     let counted = c .before .before .before .before in
     let a = counted .before .before .before .before .args in
-    sym (is-bad (keyOf (a .own .now)) (a .table .now) (omega arith) (counted .count-used .ensures) (c .before .before .is-zero .ensures)
+    sym (is-bad (ownKeys (a .own .now)) (a .table .now) (omega arith) (counted .count-used .ensures) (c .before .before .is-zero .ensures)
     (c .before .places-formed .ensures) (c .if2 .left))
 
 pub form-spec : {M : Type 1} → statement M

@@ -2,7 +2,7 @@
 use mathlib.Core.Path.{ap, _∙_}
 use mathlib.Core.Bool.{Bool, not, _&&_}
 use borrow.Author.Tests.{ne-eqb}
-use Rattle.record.specs.Record.{keyOf}
+use Rattle.own.specs.Own.{ownKeys}
 use Rattle.waiting.specs.Place.{kindOf}
 use Rattle.waiting.proofs.PlaceLaws.{flood-is, inquiry-is, neither-is}
 use Rattle.convert.specs.Old.{oldRecordForm}
@@ -27,7 +27,7 @@ returns c =
     let h = c .before .before .before in
     let a = start h .args in
     ap (λ (t : Bool). t && c .zero-record .result) (h .is-fresh .ensures)
-    ∙ flood-is oldRecordForm (keyOf (a .own .now)) (a .place .now) _ (c .before .if1 .taken) (c .zero-record .ensures)
+    ∙ flood-is oldRecordForm (ownKeys (a .own .now)) (a .place .now) _ (c .before .if1 .taken) (c .zero-record .ensures)
 
 shared-slice-read-if2 : tie.Need-shared-slice-read-if2
 shared-slice-read-if2 c = search needs
@@ -36,7 +36,7 @@ returns-2 : tie.Need-returns-2
 returns-2 c =
     let a = start (c .before .before .before .before) .args in
     let kind = kindOf (a .place .now) in
-    neither-is oldRecordForm (keyOf (a .own .now)) (a .place .now) (ne-eqb kind 1 (c .before .before .if1 .left)) (ne-eqb kind 2 (c .if2 .taken))
+    neither-is oldRecordForm (ownKeys (a .own .now)) (a .place .now) (ne-eqb kind 1 (c .before .before .if1 .left)) (ne-eqb kind 2 (c .if2 .taken))
 
 is-formed-requires : tie.Need-is-formed-requires
 is-formed-requires c κs = search needs
@@ -53,7 +53,7 @@ returns-3 c =
     let h = kind .before .before .before .before in
     let a = start h .args in
     ap (λ (t : Bool). t && (c .before .before .is-formed .result && c .before .same-at .result && not (c .is-own .result))) (h .is-fresh .ensures)
-    ∙ inquiry-is oldRecordForm (keyOf (a .own .now)) (a .place .now) (kind .if2 .left) (c .before .before .is-formed .ensures) (c .before .same-at .ensures)
+    ∙ inquiry-is oldRecordForm (ownKeys (a .own .now)) (a .place .now) (kind .if2 .left) (c .before .before .is-formed .ensures) (c .before .same-at .ensures)
     (c .is-own .ensures)
 
 pub place-formed-spec : {M : Type 1} → statement M

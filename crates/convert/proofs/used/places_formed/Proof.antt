@@ -6,7 +6,7 @@ use Prim.Native.Nat.{ℕ, _+_, _*_, _-_, _≤_}
 use native.Mathlib.Omega.{arith}
 use lib.ListN.{drop, length-take, length-drop}
 use borrow.Author.Tests.{not-true, not-false}
-use Rattle.record.specs.Record.{keyOf}
+use Rattle.own.specs.Own.{ownKeys}
 use Rattle.table.specs.Rows.{rows}
 use Rattle.waiting.specs.Form.{placesBy}
 use Rattle.waiting.proofs.PlaceLaws.{id-at}
@@ -18,7 +18,7 @@ use Rattle.convert.proofs.used.places_formed.Tie as tie
 abbrev Inv-loop : tie.InvT-loop
 Inv-loop own table used low₀ at₀ low at =
     (at ≤ used) × (low ≤ 4294967296)
-    × (placesBy oldRecordForm (keyOf own) 0 (rows 140 used table) ≡ placesBy oldRecordForm (keyOf own) low (drop at (rows 140 used table)))
+    × (placesBy oldRecordForm (ownKeys own) 0 (rows 140 used table) ≡ placesBy oldRecordForm (ownKeys own) low (drop at (rows 140 used table)))
 
 abbrev μ-loop : tie.MeasureT-loop
 μ-loop own table used low₀ at₀ low at = used - at
@@ -32,13 +32,13 @@ from c = c .before .before .before .before .before .before .before .before
 
 -- the three tests of a turn are the place's
 turned : (c : tie.After-key-again Inv-loop μ-loop)
-    → tests (from c .args .used) (from c .args .table .now) (at-loop c .loop .at) oldRecordForm (keyOf (from c .args .own .now)) (at-loop c .loop .low)
+    → tests (from c .args .used) (from c .args .table .now) (at-loop c .loop .at) oldRecordForm (ownKeys (from c .args .own .now)) (at-loop c .loop .low)
     ≡ (c .before .place-formed .result && leb (at-loop c .loop .low) (c .before .before .before .read-u32-le .result) && not (c .key-again .result))
 turned c =
     let a = c .before .before .before .before .before .before .before .before .args in
     let l = c .before .before .before .before .before .loop in
     let id = c .before .before .before .read-u32-le .ensures in
-    tests-are (a .used) (a .table .now) (l .at) oldRecordForm (keyOf (a .own .now)) (l .low) (c .before .place-formed .ensures) id (c .key-again .ensures)
+    tests-are (a .used) (a .table .now) (l .at) oldRecordForm (ownKeys (a .own .now)) (l .low) (c .before .place-formed .ensures) id (c .key-again .ensures)
 
 loop-holds : tie.Need-loop-holds Inv-loop μ-loop
 loop-holds c = (omega arith, omega arith, refl)
@@ -65,7 +65,7 @@ part-place-formed-end : tie.Need-part-place-formed-end Inv-loop μ-loop
 part-place-formed-end c = omega arith
 
 place-formed-requires : tie.Need-place-formed-requires Inv-loop μ-loop
-place-formed-requires c κs = (omega arith, simp (length-take, length-drop) (omega arith))
+place-formed-requires c κs = simp (length-take, length-drop) (omega arith)
 
 key-again-requires : tie.Need-key-again-requires Inv-loop μ-loop
 key-again-requires c κs = (omega arith, omega arith)
@@ -75,7 +75,7 @@ returns c =
     let at-loop = c .before .before .before .before .before .before in
     let a = at-loop .before .before .before .args in
     let l = at-loop .loop in
-    sym (l .inv .2 ∙ form-not (a .used) (a .table .now) (l .at) oldRecordForm (keyOf (a .own .now)) (l .low) (omega arith)
+    sym (l .inv .2 ∙ form-not (a .used) (a .table .now) (l .at) oldRecordForm (ownKeys (a .own .now)) (l .low) (omega arith)
     (turned (c .before) ∙ not-true _ (c .if1 .taken)))
 
 add-low : tie.Need-add-low Inv-loop μ-loop
@@ -91,7 +91,7 @@ loop-again : tie.Need-loop-again Inv-loop μ-loop
 loop-again c =
     let a = c .before .before .before .before .before .before .before .before .before .args in
     let l = c .before .before .before .before .before .before .loop in
-    let own = keyOf (a .own .now) in
+    let own = ownKeys (a .own .now) in
     let id = id-at (140 * l .at) (a .table .now) ∙ sym (c .before .before .before .before .read-u32-le .ensures) in (
       omega arith,
       omega arith,
@@ -103,7 +103,7 @@ returns-2 : tie.Need-returns-2 Inv-loop μ-loop
 returns-2 c =
     let a = c .before .before .before .before .args in
     let l = c .before .loop in
-    sym (l .inv .2 ∙ form-end (a .used) (a .table .now) (l .at) oldRecordForm (keyOf (a .own .now)) (l .low) (omega arith))
+    sym (l .inv .2 ∙ form-end (a .used) (a .table .now) (l .at) oldRecordForm (ownKeys (a .own .now)) (l .low) (omega arith))
 
 pub places-formed-spec : {M : Type 1} → statement M
 places-formed-spec =

@@ -8,7 +8,7 @@ use Rattle.octet.specs.Number.{valueBE}
 use Rattle.octet.specs.Part.{part}
 use Rattle.key.specs.Number.{keyAt}
 use Rattle.key.specs.Around.{closer}
-use Rattle.record.specs.Record.{keyOf}
+use Rattle.own.specs.Own.{ownKeys}
 use Rattle.cache.specs.Form.{cacheForm, heldIn}
 use Rattle.neighbours.specs.Calls.{closestCall}
 
@@ -22,7 +22,7 @@ closerOr2 target k j =
     2
 
 unfoldable pub heldOr257 : List ℕ → List ℕ → ℕ
-heldOr257 own cache = cond (leb 32 (length own) && cacheForm (keyOf own) cache) (heldIn (keyOf own) cache) 257
+heldOr257 own cache = cond (leb 32 (length own) && cacheForm (ownKeys own) cache) (heldIn (ownKeys own) cache) 257
 
 abbrev pub closestWord : List ℕ → List ℕ → List ℕ → ℕ
 closestWord own cache target = wordOr0 24 (closestCall own cache [] target .bytes)

@@ -83,7 +83,10 @@ pub extern "C" fn leaves_closest(own: &[u8], cache: &[u8], target: &[u8]) -> u64
     let nearest = sighted.nearest;
     match nearest {
         Nearest::Refused(_) => 0,
-        Nearest::Own => leaves_u64(own, 24),
+        Nearest::Own(i) => {
+            let at = 100 * i;
+            leaves_u64(&own[at..at + 100], 24)
+        }
         Nearest::Held(i) => {
             let at = 100 * i;
             leaves_u64(&cache[at..at + 100], 24)

@@ -44,9 +44,9 @@ fn remove(own: &[u8], cache: &mut [u8], key: &[u8]) {
 }
 
 // The number, and with 0 the two counts and the keys.
-fn neighbours(own: &[u8], cache: &[u8]) {
+fn neighbours(own: &[u8], cache: &[u8], key: &[u8]) {
     let mut out = [0u8; 320];
-    let listed = neighbours::neighbour_list(own, cache, &mut out);
+    let listed = neighbours::neighbour_list(own, cache, key, &mut out);
     say::number(listed.number as u64);
     if listed.number != 0 {
         return;
@@ -70,7 +70,12 @@ fn closest(own: &[u8], cache: &[u8], path: &[u8], target: &[u8]) {
     let nearest = sighted.nearest;
     match nearest {
         Nearest::Refused(number) => say::number(number as u64),
-        Nearest::Own => say_record(own, sighted.compared),
+        Nearest::Own(i) => {
+            let at = 100 * (i % 4);
+            if at + 100 <= own.len() {
+                say_record(&own[at..at + 100], sighted.compared);
+            }
+        }
         Nearest::Held(i) => {
             let at = 100 * (i % 256);
             if at + 100 <= cache.len() {
@@ -111,7 +116,7 @@ fn answer_change(text: &[u8], own: &[u8], cache: &mut [u8], third: &[u8]) -> boo
 fn answer_read(text: &[u8], own: &[u8], cache: &[u8], third: &[u8], fourth: &[u8]) -> bool {
     match line::which(text, b"cache-form neighbours closest searches search") {
         0 => say_form(own, cache),
-        1 => neighbours(own, cache),
+        1 => neighbours(own, cache, third),
         2 => closest(own, cache, third, fourth),
         3 => searches(own, cache),
         4 => search(own, cache, third),

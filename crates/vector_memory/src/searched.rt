@@ -9,7 +9,7 @@ fn say_place(own: &[u8], cache: &[u8], target: &[u8]) {
     let nearest = sighted.nearest;
     match nearest {
         Nearest::Refused(_) => say::text(b"-"),
-        Nearest::Own => say::text(b"own"),
+        Nearest::Own(_) => say::text(b"own"),
         Nearest::Held(i) => say::number(i as u64),
     }
 }

@@ -1,7 +1,7 @@
 -- `leaves::leaves_form` meets its contract: what the form test answers says both whether and how many. Assumes nothing.
 use mathlib.Core.Path.{sym, _∙_}
 use borrow.Author.Tests.{le-leb, lt-leb}
-use Rattle.record.specs.Record.{keyOf}
+use Rattle.own.specs.Own.{ownKeys}
 use Rattle.cache.proofs.ShapeLaws.{good-is, bad-is}
 use Rattle.leaves.specs.Leaves.{heldOr257}
 use borrow.Author.Needs.{needs}
@@ -23,7 +23,7 @@ unfolding heldOr257
 returns-2 c =
     let if1 = c .before .before .before .before in
     let args = if1 .before .before .before .args in
-    let told = good-is (keyOf (args .own .now)) (args .cache .now) (sym (c .before .before .before .form .ensures) ∙ c .before .formed .given .1) in
+    let told = good-is (ownKeys (args .own .now)) (args .cache .now) (sym (c .before .before .before .form .ensures) ∙ c .before .formed .given .1) in
     simp (le-leb _ _ (if1 .if1 .left), told .0) (sym (told .1))
 
 enum-told : tie.Need-enum-told
@@ -34,7 +34,7 @@ unfolding heldOr257
 returns-3 c =
     let if1 = c .before .before .before in
     let args = if1 .before .before .before .args in
-    let told = bad-is (keyOf (args .own .now)) (args .cache .now) (sym (c .before .before .form .ensures) ∙ c .enum-told .given .1) in
+    let told = bad-is (ownKeys (args .own .now)) (args .cache .now) (sym (c .before .before .form .ensures) ∙ c .enum-told .given .1) in
     simp (le-leb _ _ (if1 .if1 .left), told)
 
 pub leaves-form-spec : {M : Type 1} → statement M

@@ -16,7 +16,8 @@ use Rattle.record.specs.Record.{keyOf}
 use Rattle.record.specs.Entry.{entryForm, recordOf}
 use Rattle.record.proofs.EntryLaws.{record-key}
 use Rattle.record.proofs.PlaceLaws.{entry-at}
-use Rattle.own.specs.Own.{Own, isOwn}
+use Rattle.own.specs.Own.{Own, isOwn, IsOwn}
+use Rattle.own.proofs.PlaceLaws.{not-own}
 use Rattle.table.specs.Rows.{anyOf}
 use Rattle.table.proofs.PieceLaws.{part-start}
 use Rattle.waiting.specs.Form.{isInquiry}
@@ -89,8 +90,8 @@ module _ (own : Own) (recs ps : List (List ℕ)) (v : List ℕ) where
     asks-other e = rw (ne-eqb (length v) 0 some, e) refl
 
   -- an entry that is asked for is there, has another key than ours, and must be inquired about
-  pub asks-tells : asksFor own recs ps v ≡ true → ¬ (length v ≡ 0) × ¬ (keyOf (recordOf v) ≡ own) × (mustAsk recs ps (recordOf v) ≡ true)
+  pub asks-tells : asksFor own recs ps v ≡ true → ¬ (length v ≡ 0) × ¬ IsOwn own (keyOf (recordOf v)) × (mustAsk recs ps (recordOf v) ≡ true)
   unfolding asksFor
   asks-tells e =
       let t = three (eqb (length v) 0) (isOwn own (keyOf (recordOf v))) (mustAsk recs ps (recordOf v)) e in
-      (eqb-false (length v) 0 (t .0), eqb-false (keyOf (recordOf v)) own (t .1), t .2)
+      (eqb-false (length v) 0 (t .0), not-own own (keyOf (recordOf v)) (t .1), t .2)

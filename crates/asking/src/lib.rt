@@ -5,8 +5,8 @@ ghost use mathlib.Core.List.{List};
 ghost use Prim.Native.Nat.{ℕ, _+_, _*_, _≤_, _<_};
 ghost use lib.ListN.{length};
 ghost use Rattle.octet.specs.Part.{part, same};
-ghost use Rattle.record.specs.Record.{keyOf};
 ghost use Rattle.record.specs.Entry.{entryForm, recordOf};
+ghost use Rattle.own.specs.Own.{ownForm, ownKeys};
 ghost use Rattle.table.specs.Rows.{rows, anyOf};
 ghost use Rattle.kept.specs.Keys.{Rising, plain};
 ghost use Rattle.cache.specs.Form.{keysOf};
@@ -81,10 +81,10 @@ pub fn asks_for(
     start: usize,
     len: usize,
 ) -> bool
-    requires { ⌜ (32 ≤ length (now own)) × (100 * held ≤ length (now cache)) × (140 * used ≤ length (now waiting))
+    requires { ⌜ (ownForm (now own) ≡ true) × (100 * held ≤ length (now cache)) × (140 * used ≤ length (now waiting))
         × (start + len ≤ length (now d)) × (0 < len → entryForm (part start len (now d)) ≡ true)
         × Rising plain 0 (keysOf (rows 100 held (now cache))) ⌝ }
-    ensures { λ r. ⌜ r ≡ asksFor (keyOf (now (own .entry))) (rows 100 held (now (cache .entry)))
+    ensures { λ r. ⌜ r ≡ asksFor (ownKeys (now (own .entry))) (rows 100 held (now (cache .entry)))
         (rows 140 used (now (waiting .entry))) (part start len (now (d .entry))) ⌝ }
 {
     if len == 0 {

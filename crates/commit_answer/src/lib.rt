@@ -2,12 +2,13 @@
 ghost use mathlib.Core.Path.{_≡_};
 ghost use mathlib.Core.Bool.{true, cond};
 ghost use mathlib.Core.List.{[], _∷_};
-ghost use Prim.Native.Nat.{_+_, _*_, _≤_, _<_};
+ghost use Prim.Native.Nat.{ℕ, _+_, _*_, _≤_, _<_};
 ghost use lib.ListN.{length, getD};
 ghost use Rattle.octet.specs.Part.{part};
 ghost use Rattle.key.specs.Number.{keyAt};
-ghost use Rattle.record.specs.Record.{keyOf, countOf, recordForm};
+ghost use Rattle.record.specs.Record.{countOf, recordForm};
 ghost use Rattle.record.specs.Entry.{entryForm, recordOf};
+ghost use Rattle.own.specs.Own.{ownForm, ownKeys};
 ghost use Rattle.table.specs.Rows.{rows, bytesOf, Laid};
 ghost use Rattle.kept.specs.Plain.{NotOwn};
 ghost use Rattle.cache.specs.Form.{Form};
@@ -16,6 +17,7 @@ ghost use Rattle.neighbours.specs.Closest.{closestPast};
 ghost use Rattle.waiting.specs.Place.{placeKey, placeRecord, inquiryPlace};
 ghost use Rattle.waiting.specs.Open.{opened, freed};
 ghost use Rattle.wire_write.specs.Making.{cpaMade, closestMade};
+ghost use Rattle.cpas.specs.Cpas.{cpasForm, cpaOf};
 ghost use Rattle.asking.specs.Asking.{inquireRoom};
 ghost use Rattle.asking.specs.Ids.{idAfter};
 ghost use Rattle.gauge_commit.specs.Sending.{lengths, sending};
@@ -31,11 +33,11 @@ pub fn commit_learn(
     used: usize,
     at: usize,
 )
-    requires { ⌜ (length (now own) ≡ 100) × Form (keyOf (now own)) (now cache) (rows 100 held (now cache))
+    requires { ⌜ (ownForm (now own) ≡ true) × Form (ownKeys (now own)) (now cache) (rows 100 held (now cache))
         × (length (now waiting) ≡ 2240) × Laid 140 used (now waiting) × (used ≤ 16) × (at < used)
         × (recordForm (part (140 * at + 40) 100 (now waiting)) ≡ true)
-        × NotOwn (keyOf (now own)) (keyAt (140 * at + 40) (now waiting)) ⌝ }
-    ensures { λ _. ⌜ now (cache .exit) ≡ bytesOf (length (now (cache .entry))) (afterLearn (keyOf (now (own .entry)))
+        × NotOwn (ownKeys (now own)) (keyAt (140 * at + 40) (now waiting)) ⌝ }
+    ensures { λ _. ⌜ now (cache .exit) ≡ bytesOf (length (now (cache .entry))) (afterLearn (ownKeys (now (own .entry)))
         (length (now (cache .entry))) (rows 100 held (now (cache .entry)))
         (placeRecord (getD (rows 140 used (now (waiting .entry))) at []))) ⌝ }
     ensures { λ _. ⌜ now (waiting .exit) ≡ bytesOf 2240 (freed at (rows 140 used (now (waiting .entry)))) ⌝ }
@@ -55,7 +57,7 @@ pub fn commit_free(
     at: usize,
     n: bool,
 )
-    requires { ⌜ (length (now own) ≡ 100) × Form (keyOf (now own)) (now cache) (rows 100 held (now cache))
+    requires { ⌜ (ownForm (now own) ≡ true) × Form (ownKeys (now own)) (now cache) (rows 100 held (now cache))
         × (length (now waiting) ≡ 2240) × Laid 140 used (now waiting) × (used ≤ 16) × (at < used) ⌝ }
     ensures { λ _. ⌜ now (cache .exit) ≡ cond n (bytesOf (length (now (cache .entry)))
         (afterRemove (placeKey (getD (rows 140 used (now (waiting .entry))) at []))
@@ -71,20 +73,23 @@ pub fn commit_free(
     waiting::free(waiting, used, at);
 }
 
-// An INQUIRE: the AUTHORITY with the own CPA.
+// An INQUIRE: the AUTHORITY with the CPA of a place.
 pub fn commit_cpa(
     major: u8,
     minor: u8,
     id: u32,
     acked: u32,
-    cpa: &[u8],
+    cpas: &[u8],
+    at: usize,
     output: &mut [u8],
 ) -> Answer
-    requires { ⌜ (length (now cpa) ≤ 1024) × (40 + length (now cpa) ≤ length (now output)) ⌝ }
-    ensures { λ r. ⌜ r ≡ lengths (cpaMade major minor id acked (now (cpa .entry)) .bytes ∷ []) ⌝ }
+    requires { ⌜ ((n : ℕ) × (at < n) × (cpasForm n (now cpas) ≡ true)) ⌝ }
+    requires { ⌜ 40 + length (cpaOf at (now cpas)) ≤ length (now output) ⌝ }
+    ensures { λ r. ⌜ r ≡ lengths (cpaMade major minor id acked (cpaOf at (now (cpas .entry))) .bytes ∷ []) ⌝ }
     ensures { λ _. ⌜ now (output .exit)
-        ≡ sending (cpaMade major minor id acked (now (cpa .entry)) .bytes ∷ []) (now (output .entry)) ⌝ }
+        ≡ sending (cpaMade major minor id acked (cpaOf at (now (cpas .entry))) .bytes ∷ []) (now (output .entry)) ⌝ }
 {
+    let cpa = cpas::cpa_at(cpas, at);
     let wrote = wire_sent::write_cpa(output, major, minor, id, acked, cpa);
     gauge_commit::answer_of(0, wrote.length, 0)
 }
@@ -104,7 +109,7 @@ fn send_closest<'a>(
     size: usize,
     output: &mut [u8],
 ) -> usize
-    requires { ⌜ (recordForm (now own) ≡ true) × Form (keyOf (now own)) (now cache) (rows 100 held (now cache))
+    requires { ⌜ (ownForm (now own) ≡ true) × Form (ownKeys (now own)) (now cache) (rows 100 held (now cache))
         × (target + 32 ≤ length (now d)) × (path + size ≤ length (now d))
         × (80 + 16 * countOf (closestPast (now own) (rows 100 held (now cache)) (part path size (now d)) (keyAt target (now d)))
         ≤ length (now output)) ⌝ }
@@ -145,7 +150,7 @@ pub fn commit_show<'a>(
     requires { ⌜ (opens ≡ true → used < 16) × (length (now waiting) ≡ 2240) × Laid 140 used (now waiting)
         × (length (now nonce) ≡ 16) × (start + len ≤ length (now d))
         × (opens ≡ true → entryForm (part start len (now d)) ≡ true) ⌝ }
-    requires { ⌜ (recordForm (now own) ≡ true) × Form (keyOf (now own)) (now cache) (rows 100 held (now cache))
+    requires { ⌜ (ownForm (now own) ≡ true) × Form (ownKeys (now own)) (now cache) (rows 100 held (now cache))
         × (target + 32 ≤ length (now d)) × (path + size ≤ length (now d))
         × (80 + 16 * countOf (closestPast (now own) (rows 100 held (now cache)) (part path size (now d)) (keyAt target (now d)))
         + inquireRoom opens ≤ length (now output)) ⌝ }

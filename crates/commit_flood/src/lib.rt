@@ -6,8 +6,8 @@ ghost use Prim.Native.Nat.{_+_, _≤_, _<_};
 ghost use lib.ListN.{length};
 ghost use Rattle.octet.specs.Part.{part};
 ghost use Rattle.key.specs.Number.{keyAt};
-ghost use Rattle.record.specs.Record.{keyOf};
 ghost use Rattle.record.specs.Entry.{entryForm, recordOf};
+ghost use Rattle.own.specs.Own.{ownForm, ownKeys};
 ghost use Rattle.table.specs.Rows.{rows, bytesOf, Laid};
 ghost use Rattle.cache.specs.Form.{Form};
 ghost use Rattle.cache.specs.Bytes.{afterRemove};
@@ -123,8 +123,8 @@ pub fn commit_revoke(
     acked: u32,
     output: &mut [u8],
 ) -> Answer
-    requires { ⌜ (length (now own) ≡ 100) × (length (now key) ≡ 32)
-        × Form (keyOf (now own)) (now cache) (rows 100 held (now cache)) × (length (now waiting) ≡ 2240)
+    requires { ⌜ (ownForm (now own) ≡ true) × (length (now key) ≡ 32)
+        × Form (ownKeys (now own)) (now cache) (rows 100 held (now cache)) × (length (now waiting) ≡ 2240)
         × Laid 140 used (now waiting) × (used ≤ 16) × (ackRoom silent n ≤ length (now output)) ⌝ }
     ensures { λ r. ⌜ r ≡ lengths (ackWritten major minor id silent acked n) ⌝ }
     ensures { λ _. ⌜ now (cache .exit) ≡ bytesOf (length (now (cache .entry)))

@@ -54,7 +54,7 @@ fn send_flood(
     gauge_commit::answer_of(0, wrote.length, 0)
 }
 
-// A FLOOD to send: our own record, or the one held at a place, to a neighbour; a place waits for its ACK.
+// A FLOOD to send: the record at a place of our own, or of those held, to a neighbour; a place waits for its ACK.
 pub fn commit_send(
     own: &[u8],
     cache: &[u8],
@@ -69,7 +69,8 @@ pub fn commit_send(
     output: &mut [u8],
 ) -> Answer
     requires { ⌜ (used < 16) × (length (now waiting) ≡ 2240) × Laid 140 used (now waiting)
-        × (length (now neighbour) ≡ 32) × (ours ≡ false → 100 * at + 100 ≤ length (now cache))
+        × (length (now neighbour) ≡ 32) × (ours ≡ true → 100 * at + 100 ≤ length (now own))
+        × (ours ≡ false → 100 * at + 100 ≤ length (now cache))
         × (recordForm (recordSent (now own) (now cache) ours at) ≡ true)
         × (floodRoom (recordSent (now own) (now cache) ours at) ≤ length (now output)) ⌝ }
     ensures { λ r. ⌜ r ≡ lengths (floodMade major minor id (now (neighbour .entry))
@@ -81,7 +82,15 @@ pub fn commit_send(
 {
     open_flood(waiting, used, id, neighbour);
     if ours {
-        return send_flood(output, major, minor, id, neighbour, own, 0);
+        return send_flood(
+            output,
+            major,
+            minor,
+            id,
+            neighbour,
+            own,
+            record::RECORD_LEN * at,
+        );
     }
     send_flood(
         output,

@@ -4,8 +4,8 @@ use Prim.Native.Nat.{ℕ, _≤_}
 use native.Mathlib.Omega.{arith}
 use mathlib.Core.List.{List}
 use lib.ListN.{length-take}
+use Rattle.key.specs.Number.{keyAt}
 use Rattle.key.specs.Around.{below, above, sideOf, nearness}
-use Rattle.record.specs.Record.{keyOf}
 use Rattle.refusal.proofs.CallLaws.{or-known, or-under}
 use Rattle.table.proofs.RowLaws.{rows-length}
 use Rattle.kept.specs.Neighbours.{nearestFirst}
@@ -37,14 +37,14 @@ tick-few own t o =
     (λ f. omega (arith, listed-few (placesOf t), rows-length 140 (usedOf t) t, used-few t))
 
 -- at most five keys of each side
-pub list-few : (own cache out : List ℕ) → (listCall own cache out .answer .below ≤ 5) × (listCall own cache out .answer .above ≤ 5)
+pub list-few : (own cache key out : List ℕ) → (listCall own cache key out .answer .below ≤ 5) × (listCall own cache key out .answer .above ≤ 5)
 unfolding listCall
-list-few own cache out =
-    let k = keyOf own in
+list-few own cache key out =
+    let k = keyAt 0 key in
     let recs = heldBy own cache in
     let counts = countsOf k recs in
     or-known (λ (w : Written). (w .answer .below ≤ 5) × (w .answer .above ≤ 5)) (λ (n : ℕ). listWritten (record { number = n; below = 0; above = 0 }) out)
-    (listWrong own cache out) (listWritten (record { number = 0; below = counts .below; above = counts .above }) (afterList k recs out))
+    (listWrong own cache key out) (listWritten (record { number = 0; below = counts .below; above = counts .above }) (afterList k recs out))
     (λ n. (omega arith, omega arith))
     (λ f. (
       omega (arith, length-take 5 (nearestFirst (sideOf k) (nearness k) below (keysOf recs))),

@@ -154,5 +154,5 @@ closest-compares-few own cache path target = by (nearestCall own cache path targ
     by : (r : Nearest) → Few own cache (closestCompared own cache path target)
         → Few own cache (closestAnswered (closestCompared own cache path target) r .second)
     by (Refused n) f = (omega arith, omega arith)
-    by Own f = f
+    by (Own i) f = f
     by (Held j) f = f

@@ -34,10 +34,11 @@ module _ (m : Memory) (l : Send) where
 
   pub send-needs : {u : ℕ} {ours : Bool} {at : ℕ} → sendPlan m l ≡ Flood u ours at
       → (u < 16) × (length (m .waiting) ≡ 2240) × Laid 140 u (m .waiting) × (length (l .neighbour) ≡ 32)
-      × (ours ≡ false → 100 * at + 100 ≤ length (m .cache)) × (recordForm (recordSent (l .own) (m .cache) ours at) ≡ true)
+      × (ours ≡ true → 100 * at + 100 ≤ length (l .own)) × (ours ≡ false → 100 * at + 100 ≤ length (m .cache))
+      × (recordForm (recordSent (l .own) (m .cache) ours at) ≡ true)
       × (floodRoom (recordSent (l .own) (m .cache) ours at) ≤ length (l .output)) × (length (l .key) ≡ 32)
   send-needs {u} {ours} {at} e =
-      let k = send-known-by e in (k .free, k .ready .size, k .ready .laid, k .addressed, k .within, k .formed, k .fits-in, k .keyed)
+      let k = send-known-by e in (k .free, k .ready .size, k .ready .laid, k .addressed, k .own-within, k .within, k .formed, k .fits-in, k .keyed)
 
   -- ---- the call, by its plan
 

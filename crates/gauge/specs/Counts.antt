@@ -28,4 +28,4 @@ abbrev pub listAnswered : Memory → Written → Handed
 listAnswered m w = handed (answer (w .answer .number) (w .answer .below) (w .answer .above)) m (w .output)
 
 unfoldable pub gaugeList : Memory → Listing → Handed
-gaugeList m l = listAnswered m (listCall (l .own) (m .cache) (l .output))
+gaugeList m l = listAnswered m (listCall (l .own) (m .cache) (l .key) (l .output))

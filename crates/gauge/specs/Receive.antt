@@ -15,6 +15,7 @@ use Rattle.waiting.specs.Form.{isInquiry}
 use Rattle.table.specs.Seek.{seek}
 use Rattle.waiting.specs.Open.{opened, freed}
 use Rattle.wire_write.specs.Making.{cpaMade, closestMade}
+use Rattle.cpas.specs.Cpas.{cpaOf}
 use Rattle.gauge_plan.specs.declared.Plan.{Plan}
 use Rattle.gauge_plan.specs.declared.Plan.the-variants.{Refuse, Flood, Revoke, Learn, Free, Certify, Show}
 use Rattle.gauge_plan.specs.Lent.{Memory, withCache, withWaiting, Receive}
@@ -50,8 +51,8 @@ carried m l (Free held used at n) =
     (withCache (cond n (bytesOf (length (m .cache)) (afterRemove (placeKey (getD ps at [])) (rows 100 held (m .cache)))) (m .cache))
     (withWaiting (bytesOf 2240 (freed at ps)) m))
     (l .output)
-carried m l (Certify acked) =
-    let ds = cpaMade (l .major) (l .minor) (l .id) acked (l .cpa) .bytes ∷ [] in
+carried m l (Certify acked at) =
+    let ds = cpaMade (l .major) (l .minor) (l .id) acked (cpaOf at (l .cpas)) .bytes ∷ [] in
     handed (lengths ds) m (sending ds (l .output))
 carried m l (Show held used acked target path size opens start len) =
     let r = closestPast (l .own) (rows 100 held (m .cache)) (part path size (l .datagram)) (keyAt target (l .datagram)) in

@@ -4,7 +4,7 @@ use mathlib.Core.List.{List, [], _∷_}
 use mathlib.Core.Path.{_≡_}
 use mathlib.Core.Bool.{true}
 use Rattle.octet.specs.Number.{Bytes}
-use Rattle.own.specs.Own.{ownKeys, ownForm}
+use Rattle.own.specs.Own.{Own, ownForm, ownKeys}
 use Rattle.kept.specs.Keys.{Every}
 use Rattle.gauge_plan.specs.Lent.{Memory, Call, receives, sends, ticks, lists, ownOf}
 use Rattle.gauge_commit.specs.declared.Answer.{Answer}
@@ -46,9 +46,9 @@ unfoldable pub log : Gauge → Memory → List Call → List Entry
 log g m [] = []
 log g m (c ∷ cs) = entry c (g m c .answer .number) ∷ log g (g m c .memory) cs
 
--- calls as their types say, with one own key: a record in form that is handed in as ours has it, its port and addresses may change
-abbrev pub OneKey : ℕ → Call → Type 0
-OneKey k c = ownForm (ownOf c) ≡ true → ownKeys (ownOf c) ≡ k
+-- calls as their types say, with the same own keys: records in form that are handed in as ours have them, ports and addresses may change
+abbrev pub OneKey : Own → Call → Type 0
+OneKey own c = ownForm (ownOf c) ≡ true → ownKeys (ownOf c) ≡ own
 
-abbrev pub Proper : ℕ → List Call → Type 0
-Proper k calls = Every (λ (c : Call). OneKey k c × Typed c) calls
+abbrev pub Proper : Own → List Call → Type 0
+Proper own calls = Every (λ (c : Call). OneKey own c × Typed c) calls

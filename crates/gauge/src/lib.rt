@@ -16,7 +16,7 @@ use plan_send::SendPlan;
 #[no_mangle]
 pub extern "C" fn gauge_receive(
     own: &[u8],
-    cpa: &[u8],
+    cpas: &[u8],
     cache: &mut [u8],
     waiting: &mut [u8],
     major: u8,
@@ -30,15 +30,15 @@ pub extern "C" fn gauge_receive(
 ) -> gauge_commit::Answer
     ensures { λ r. ⌜ handed r (memory (now (cache .exit)) (now (waiting .exit))) (now (output .exit))
         ≡ ours (memory (now (cache .entry)) (now (waiting .entry))) (receives (receive (now (own .entry))
-        (now (cpa .entry)) major minor id (now (nonce .entry)) verdict (now (key .entry)) (now (datagram .entry))
+        (now (cpas .entry)) major minor id (now (nonce .entry)) verdict (now (key .entry)) (now (datagram .entry))
         (now (output .entry)))) ⌝ }
 {
-    if !gauge_plan::hands_fit(cpa, nonce, key) {
+    if !gauge_plan::hands_fit(own, cpas, nonce, key) {
         return gauge_commit::answer_of(refusal::MEMORY, 0, 0);
     }
     let plan = plan_message::plan_receive(
         own,
-        cpa,
+        cpas,
         cache,
         waiting,
         major,
@@ -103,7 +103,9 @@ pub extern "C" fn gauge_receive(
             commit_answer::commit_free(own, cache, held, waiting, used, at, n);
             gauge_commit::answer_of(0, 0, 0)
         }
-        Plan::Certify(acked) => commit_answer::commit_cpa(major, minor, id, acked, cpa, output),
+        Plan::Certify { acked, at } => {
+            commit_answer::commit_cpa(major, minor, id, acked, cpas, at, output)
+        }
         Plan::Show {
             held,
             used,
@@ -137,7 +139,7 @@ pub extern "C" fn gauge_receive(
     }
 }
 
-// A FLOOD sent to a held neighbour, of our own record or of one held: everything is planned before a byte is written.
+// A FLOOD sent to a held neighbour, of a record of our own or of one held: everything is planned before a byte is written.
 // Memory that is not lent may be any.
 #[no_mangle]
 pub extern "C" fn gauge_send(
@@ -191,22 +193,24 @@ pub extern "C" fn gauge_tick(
     gauge_commit::answer_of(done.number, done.count, 0)
 }
 
-// The neighbour list: how many keys below our own, then how many above, stand in the output, nearest first. Memory that
-// is not lent may be any.
+// The neighbour list of one of our keys: how many keys below it, then how many above, stand in the output, nearest first.
+// Memory that is not lent may be any.
 #[no_mangle]
 pub extern "C" fn gauge_neighbours(
     own: &[u8],
     cache: &[u8],
+    key: &[u8],
     output: &mut [u8],
 ) -> gauge_commit::Answer
     ensures { λ r. ⌜ ((m : Memory) → handed r (withCache (now (cache .entry)) m) (now (output .exit))
-        ≡ ours (withCache (now (cache .entry)) m) (lists (listing (now (own .entry)) (now (output .entry))))) ⌝ }
+        ≡ ours (withCache (now (cache .entry)) m)
+        (lists (listing (now (own .entry)) (now (key .entry)) (now (output .entry))))) ⌝ }
 {
-    let done = neighbours::neighbour_list(own, cache, output);
+    let done = neighbours::neighbour_list(own, cache, key, output);
     gauge_commit::answer_of(done.number, done.below, done.above)
 }
 
-// The record closest to a target, those held that are on the path skipped: 0 for our own, 4 more than its place for one of
+// The record closest to a target, those held that are on the path skipped: its place for one of our own, 4 more than that for one of
 // the cache; and how many keys were compared to find the target's place. The path is endpoints as on the wire.
 #[no_mangle]
 pub extern "C" fn gauge_closest(
@@ -221,7 +225,7 @@ pub extern "C" fn gauge_closest(
     let nearest = sighted.nearest;
     match nearest {
         Nearest::Refused(number) => gauge_commit::answer_of(number, 0, 0),
-        Nearest::Own => gauge_commit::answer_of(0, 0, sighted.compared),
+        Nearest::Own(i) => gauge_commit::answer_of(0, i, sighted.compared),
         Nearest::Held(i) => gauge_commit::answer_of(0, 4 + i, sighted.compared),
     }
 }

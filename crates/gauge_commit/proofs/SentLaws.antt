@@ -275,13 +275,9 @@ module _ (major minor id : ℕ) (key s : List ℕ) (at : ℕ) {old : List ℕ} {
       ∙ ap (λ (b : List ℕ). sending (b ∷ []) old) (flood-bytes major minor id key s at)
 
 -- the record sent stands where it is written from
-module _ (own cache : List ℕ) (ours : Bool) (at : ℕ) (formed : recordForm (recordSent own cache ours at) ≡ true) where
-  module _ (is : ours ≡ true) where
-    pub ours-long : length own ≡ 100
-    ours-long = form-length own (rw is at formed)
-
-    pub ours-sent : part 0 100 own ≡ recordSent own cache ours at
-    ours-sent = take-all 100 own (omega (arith, ours-long)) ∙ rw is refl
+module _ (own cache : List ℕ) (ours : Bool) (at : ℕ) where
+  pub ours-sent : ours ≡ true → part (100 * at) 100 own ≡ recordSent own cache ours at
+  ours-sent is = rw is refl
 
   pub held-sent : ours ≡ false → part (100 * at) 100 cache ≡ recordSent own cache ours at
   held-sent is = rw is refl

@@ -1,4 +1,5 @@
 -- The laws of specs/, for the proofs of this crate and of those above it.
+pub mod OwnLaws
 pub mod MemoryLaws
 pub mod FoundLaws
 pub mod OpeningLaws

@@ -5,10 +5,9 @@ use mathlib.Core.Bool.{Bool, true, false, _&&_, cond}
 use mathlib.Core.List.{List}
 use Prim.Native.Nat.{ℕ, _*_, _≤_}
 use lib.ListN.{length}
-use borrow.Author.Tests.{eq-eqb, eqb-true, le-leb, leb-true}
+use borrow.Author.Tests.{eq-eqb, eqb-true}
 use Rattle.octet.proofs.TestLaws.{both-true}
-use Rattle.record.specs.Record.{keyOf, recordForm}
-use Rattle.record.proofs.EntryLaws.{form-length}
+use Rattle.own.specs.Own.{Own, ownForm, ownKeys, ownRecords}
 use Rattle.table.specs.Rows.{rows, Laid}
 use Rattle.cache.specs.Form.{Form, cacheForm, heldIn, heldOf}
 use Rattle.cache.specs.Place as cached
@@ -16,6 +15,7 @@ use Rattle.cache.specs.declared.shape.Formed.the-variants as held-is
 use Rattle.cache.proofs.ShapeLaws as shape
 use Rattle.cache.proofs.FormLaws.{true-form, form-laid}
 use Rattle.waiting.specs.Form.{waitingForm, usedOf}
+use Rattle.cpas.specs.Cpas.{cpasForm}
 use Rattle.waiting_form.specs.Formed as waited
 use Rattle.waiting_form.specs.declared.tested.Formed.the-variants as used-is
 use Rattle.waiting.proofs.FormLaws as waits
@@ -28,40 +28,39 @@ use Rattle.gauge_plan.specs.declared.memory.Fitness.the-variants.{Unfit,
 -- ---- what the tests make of it
 
 module _ (own : List ℕ) (m : Memory) where
-  pub no-record : recordForm own ≡ false → memoryOf own m ≡ Unfit
+  pub no-record : ownForm own ≡ false → memoryOf own m ≡ Unfit
   unfolding memoryOf tablesFit
   no-record e = rw e refl
 
-  module _ (well : recordForm own ≡ true) where
-    pub no-cache : cached.cacheFormed (keyOf own) (m .cache) ≡ held-is.Bad → memoryOf own m ≡ Unfit
+  module _ (well : ownForm own ≡ true) where
+    pub no-cache : cached.cacheFormed (ownKeys own) (m .cache) ≡ held-is.Bad → memoryOf own m ≡ Unfit
     unfolding memoryOf tablesFit
-    no-cache e = rw (well, shape.bad-is (keyOf own) (m .cache) e) refl
+    no-cache e = rw (well, shape.bad-is (ownKeys own) (m .cache) e) refl
 
-    module _ {h : ℕ} (held : cached.cacheFormed (keyOf own) (m .cache) ≡ held-is.Good h) where
-      pub no-table : waited.waitingFormed (keyOf own) (m .waiting) ≡ used-is.Bad → memoryOf own m ≡ Unfit
+    module _ {h : ℕ} (held : cached.cacheFormed (ownKeys own) (m .cache) ≡ held-is.Good h) where
+      pub no-table : waited.waitingFormed (ownKeys own) (m .waiting) ≡ used-is.Bad → memoryOf own m ≡ Unfit
       unfolding memoryOf tablesFit
-      no-table e = rw (well, shape.good-is (keyOf own) (m .cache) held .0, tested.bad-form (keyOf own) (m .waiting) e) refl
+      no-table e = rw (well, shape.good-is (ownKeys own) (m .cache) held .0, tested.bad-form (ownKeys own) (m .waiting) e) refl
 
-      pub all-fit : {u : ℕ} → waited.waitingFormed (keyOf own) (m .waiting) ≡ used-is.Good u → memoryOf own m ≡ Fit h u
+      pub all-fit : {u : ℕ} → waited.waitingFormed (ownKeys own) (m .waiting) ≡ used-is.Good u → memoryOf own m ≡ Fit h u
       unfolding memoryOf tablesFit
       all-fit e =
-          let a = shape.good-is (keyOf own) (m .cache) held in
-          let b = tested.good-form (keyOf own) (m .waiting) e in
+          let a = shape.good-is (ownKeys own) (m .cache) held in
+          let b = tested.good-form (ownKeys own) (m .waiting) e in
           rw (well, a .0, b .0, a .1, sym (b .1)) refl
 
 -- ---- what is known of it
 
 -- memory in form, with so many records held and so many places used
 pub record Ready (own : List ℕ) (m : Memory) (h u : ℕ) : Type 0 where
-  pub owned : recordForm own ≡ true
-  pub long : length own ≡ 100
-  pub held : h ≡ heldIn (keyOf own) (m .cache)
-  pub cached : cacheForm (keyOf own) (m .cache) ≡ true
-  pub form : Form (keyOf own) (m .cache) (rows 100 h (m .cache))
+  pub owned : ownForm own ≡ true
+  pub held : h ≡ heldIn (ownKeys own) (m .cache)
+  pub cached : cacheForm (ownKeys own) (m .cache) ≡ true
+  pub form : Form (ownKeys own) (m .cache) (rows 100 h (m .cache))
   pub room : 100 * h ≤ length (m .cache)
   pub used : u ≡ usedOf (m .waiting)
   pub few : u ≤ 16
-  pub tabled : waitingForm (keyOf own) (m .waiting) ≡ true
+  pub tabled : waitingForm (ownKeys own) (m .waiting) ≡ true
   pub size : length (m .waiting) ≡ 2240
   pub laid : Laid 140 u (m .waiting)
 
@@ -69,28 +68,27 @@ abbrev pub KnownMemory : List ℕ → Memory → Fitness → Type 0
 KnownMemory own m Unfit = tablesFit own m ≡ false
 KnownMemory own m (Fit h u) = Ready own m h u
 
-pub ready : (own : List ℕ) (m : Memory) → tablesFit own m ≡ true → Ready own m (heldIn (keyOf own) (m .cache)) (usedOf (m .waiting))
+pub ready : (own : List ℕ) (m : Memory) → tablesFit own m ≡ true → Ready own m (heldIn (ownKeys own) (m .cache)) (usedOf (m .waiting))
 unfolding tablesFit heldOf
 ready own m e =
-    let front = both-true (recordForm own && cacheForm (keyOf own) (m .cache)) (waitingForm (keyOf own) (m .waiting)) e in
-    let both = both-true (recordForm own) (cacheForm (keyOf own) (m .cache)) (front .0) in
-    let form = true-form (keyOf own) (m .cache) (both .1) in
+    let front = both-true (ownForm own && cacheForm (ownKeys own) (m .cache)) (waitingForm (ownKeys own) (m .waiting)) e in
+    let both = both-true (ownForm own) (cacheForm (ownKeys own) (m .cache)) (front .0) in
+    let form = true-form (ownKeys own) (m .cache) (both .1) in
     record {
       owned = both .0;
-      long = form-length own (both .0);
       held = refl;
       cached = both .1;
       form = form;
-      room = form-laid (keyOf own) (heldIn (keyOf own) (m .cache)) (m .cache) form .room;
+      room = form-laid (ownKeys own) (heldIn (ownKeys own) (m .cache)) (m .cache) form .room;
       used = refl;
       few = waits.used-few (m .waiting);
       tabled = front .1;
-      size = waits.form-size (keyOf own) (m .waiting) (front .1);
-      laid = waits.form-laid (keyOf own) (m .waiting) (front .1);
+      size = waits.form-size (ownKeys own) (m .waiting) (front .1);
+      laid = waits.form-laid (ownKeys own) (m .waiting) (front .1);
     }
 
 known-by : (own : List ℕ) (m : Memory) (b : Bool) → tablesFit own m ≡ b
-    → KnownMemory own m (cond b (Fit (heldIn (keyOf own) (m .cache)) (usedOf (m .waiting))) Unfit)
+    → KnownMemory own m (cond b (Fit (heldIn (ownKeys own) (m .cache)) (usedOf (m .waiting))) Unfit)
 known-by own m true e = ready own m e
 known-by own m false e = e
 
@@ -99,29 +97,26 @@ unfolding memoryOf
 known-memory own m = known-by own m (tablesFit own m) refl
 
 -- what is handed in besides
-pub record Handed (cpa nonce key : List ℕ) : Type 0 where
-  pub least : 1 ≤ length cpa
-  pub most : length cpa ≤ 1024
+pub record Handed (own cpas nonce key : List ℕ) : Type 0 where
+  pub certified : cpasForm (length (ownRecords own)) cpas ≡ true
   pub nonced : length nonce ≡ 16
   pub keyed : length key ≡ 32
 
-pub known-hands : (m : Memory) (l : Receive) → handsFit m l ≡ true → Handed (l .cpa) (l .nonce) (l .key)
+pub known-hands : (m : Memory) (l : Receive) → handsFit m l ≡ true → Handed (l .own) (l .cpas) (l .nonce) (l .key)
 unfolding handsFit
 known-hands m l e =
     let w = both-true _ _ e in
     let v = both-true _ _ (w .0) in
-    let u = both-true _ _ (v .0) in
     record {
-      least = leb-true 1 (length (l .cpa)) (u .0);
-      most = leb-true (length (l .cpa)) 1024 (u .1);
+      certified = v .0;
       nonced = eqb-true (length (l .nonce)) 16 (v .1);
       keyed = eqb-true (length (l .key)) 32 (w .1);
     }
 
 -- the tables with another cache and another waiting table, both in form
-pub in-form-with : (k : ℕ) (m : Memory) (cache waiting : List ℕ) → InForm k m → cacheForm k cache ≡ true → waitingForm k waiting ≡ true
-    → InForm k (withTables cache waiting m)
-in-form-with k m cache waiting f c w = (c, w)
+pub in-form-with : (own : Own) (m : Memory) (cache waiting : List ℕ) → InForm own m → cacheForm own cache ≡ true → waitingForm own waiting ≡ true
+    → InForm own (withTables cache waiting m)
+in-form-with own m cache waiting f c w = (c, w)
 
 -- ---- the tests are what it says of memory lent as it should be
 
@@ -134,8 +129,7 @@ module _ (m : Memory) (l : Receive) where
         own = r .owned;
         cache = r .cached;
         waiting = r .tabled;
-        cpa-least = w .least;
-        cpa-most = w .most;
+        cpas = w .certified;
         nonce = w .nonced;
         key = w .keyed;
       }
@@ -148,8 +142,7 @@ module _ (m : Memory) (l : Receive) where
   unfolding handsFit
   lent-hands w =
       rw (
-        le-leb 1 (length (l .cpa)) (w .cpa-least),
-        le-leb (length (l .cpa)) 1024 (w .cpa-most),
+        w .cpas,
         eq-eqb (length (l .nonce)) 16 (w .nonce),
         eq-eqb (length (l .key)) 32 (w .key),
       ) refl
@@ -165,7 +158,7 @@ lent-hearing m l d w = fit-lent m (hearing d l) (lent-tables m l w) (hands-heari
 pub tick-fit-lent : (m : Memory) (l : Tick) → tickFit (l .own) m ≡ true → TickLent m l
 unfolding tickFit
 tick-fit-lent m l e =
-    let w = both-true (recordForm (l .own)) (waitingForm (keyOf (l .own)) (m .waiting)) e in
+    let w = both-true (ownForm (l .own)) (waitingForm (ownKeys (l .own)) (m .waiting)) e in
     record { own = w .0; waiting = w .1 }
 
 pub lent-tick-fit : (m : Memory) (l : Tick) → TickLent m l → tickFit (l .own) m ≡ true

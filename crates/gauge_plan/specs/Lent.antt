@@ -1,13 +1,14 @@
 -- To believe. All that a call is lent and handed in: the memory that only calls change, and for each of the four calls all else, the output as lent among
 -- it; and when it is as it should be. Assumes nothing.
-use Prim.Native.Nat.{ℕ, _*_, _≤_}
+use Prim.Native.Nat.{ℕ, _*_}
 use mathlib.Core.Path.{_≡_}
 use mathlib.Core.Bool.{true}
 use mathlib.Core.List.{List}
 use lib.ListN.{length, replicate}
-use Rattle.own.specs.Own.{ownKeys, ownForm}
+use Rattle.own.specs.Own.{Own, ownForm, ownKeys, ownRecords, ownPlace}
 use Rattle.cache.specs.Form.{cacheForm}
 use Rattle.waiting.specs.Form.{waitingForm}
+use Rattle.cpas.specs.Cpas.{cpasForm, cpaOf}
 
 -- what is lent to each call as the one before left it
 pub record Memory : Type 0 where
@@ -32,14 +33,14 @@ withWaiting waiting m = memory (m .cache) waiting
 abbrev pub withTables : List ℕ → List ℕ → Memory → Memory
 withTables cache waiting m = withCache cache (withWaiting waiting m)
 
--- memory is in form, for the own key k
-abbrev pub InForm : ℕ → Memory → Type 0
-InForm k m = (cacheForm k (m .cache) ≡ true) × (waitingForm k (m .waiting) ≡ true)
+-- memory is in form, for our own keys
+abbrev pub InForm : Own → Memory → Type 0
+InForm own m = (cacheForm own (m .cache) ≡ true) × (waitingForm own (m .waiting) ≡ true)
 
 -- what a received datagram comes with
 pub record Receive : Type 0 where
   pub own : List ℕ
-  pub cpa : List ℕ
+  pub cpas : List ℕ
   pub major : ℕ
   pub minor : ℕ
   pub id : ℕ
@@ -49,11 +50,11 @@ pub record Receive : Type 0 where
   pub datagram : List ℕ
   pub output : List ℕ
 
-abbrev pub receive : (own cpa : List ℕ) (major minor id : ℕ) (nonce : List ℕ) (verdict : ℕ) (key datagram output : List ℕ) → Receive
-receive own cpa major minor id nonce verdict key datagram output =
+abbrev pub receive : (own cpas : List ℕ) (major minor id : ℕ) (nonce : List ℕ) (verdict : ℕ) (key datagram output : List ℕ) → Receive
+receive own cpas major minor id nonce verdict key datagram output =
     record {
       own = own;
-      cpa = cpa;
+      cpas = cpas;
       major = major;
       minor = minor;
       id = id;
@@ -64,19 +65,23 @@ receive own cpa major minor id nonce verdict key datagram output =
       output = output;
     }
 
--- the same with another datagram; by a gauge with another own record
+-- the same with another datagram; by a gauge with other own records
 abbrev pub hearing : List ℕ → Receive → Receive
-hearing d l = receive (l .own) (l .cpa) (l .major) (l .minor) (l .id) (l .nonce) (l .verdict) (l .key) d (l .output)
+hearing d l = receive (l .own) (l .cpas) (l .major) (l .minor) (l .id) (l .nonce) (l .verdict) (l .key) d (l .output)
 
 abbrev pub hearingAs : List ℕ → Receive → Receive
-hearingAs own l = receive own (l .cpa) (l .major) (l .minor) (l .id) (l .nonce) (l .verdict) (l .key) (l .datagram) (l .output)
+hearingAs own l = receive own (l .cpas) (l .major) (l .minor) (l .id) (l .nonce) (l .verdict) (l .key) (l .datagram) (l .output)
 
 -- with these, and whatever it comes with besides: what a function leaves open that gets these alone. What is handed in with a datagram; what a plan is made of
-abbrev pub handing : (cpa nonce key : List ℕ) → Receive → Receive
-handing cpa nonce key l = receive (l .own) cpa (l .major) (l .minor) (l .id) nonce (l .verdict) key (l .datagram) (l .output)
+abbrev pub handing : (own cpas nonce key : List ℕ) → Receive → Receive
+handing own cpas nonce key l = receive own cpas (l .major) (l .minor) (l .id) nonce (l .verdict) key (l .datagram) (l .output)
 
-abbrev pub planning : (own cpa : List ℕ) (major id verdict : ℕ) (key datagram output : List ℕ) → Receive → Receive
-planning own cpa major id verdict key datagram output l = receive own cpa major (l .minor) id (l .nonce) verdict key datagram output
+abbrev pub planning : (own cpas : List ℕ) (major id verdict : ℕ) (key datagram output : List ℕ) → Receive → Receive
+planning own cpas major id verdict key datagram output l = receive own cpas major (l .minor) id (l .nonce) verdict key datagram output
+
+-- our CPA for a key of ours: that of the own record with it
+abbrev pub cpaFor : Receive → ℕ → List ℕ
+cpaFor l k = cpaOf (ownPlace (ownKeys (l .own)) k) (l .cpas)
 
 -- what a FLOOD is sent from
 pub record Send : Type 0 where
@@ -102,10 +107,11 @@ tick own output = record { own = own; output = output }
 
 pub record Listing : Type 0 where
   pub own : List ℕ
+  pub key : List ℕ
   pub output : List ℕ
 
-abbrev pub listing : List ℕ → List ℕ → Listing
-listing own output = record { own = own; output = output }
+abbrev pub listing : (own key output : List ℕ) → Listing
+listing own key output = record { own = own; key = key; output = output }
 
 -- one call, whichever it is
 pub data Call : Type 0 where
@@ -114,15 +120,14 @@ pub data Call : Type 0 where
   ticks : Tick → Call
   lists : Listing → Call
 
--- ---- lent as it should be: "Each call on the cache or the waiting table is lent the own record too"; "Own CPA: 1 to 1,024 bytes"; "a 16-byte nonce"; "A key handed
--- in has 32 bytes"
+-- ---- lent as it should be: "Each call on the cache or the waiting table is lent the own record too"; a CPA for each own record (02, Wish 11); "a 16-byte nonce"; "A key
+-- handed in has 32 bytes"
 
 pub record ReceiveLent (m : Memory) (l : Receive) : Type 0 where
   pub own : ownForm (l .own) ≡ true
   pub cache : cacheForm (ownKeys (l .own)) (m .cache) ≡ true
   pub waiting : waitingForm (ownKeys (l .own)) (m .waiting) ≡ true
-  pub cpa-least : 1 ≤ length (l .cpa)
-  pub cpa-most : length (l .cpa) ≤ 1024
+  pub cpas : cpasForm (length (ownRecords (l .own))) (l .cpas) ≡ true
   pub nonce : length (l .nonce) ≡ 16
   pub key : length (l .key) ≡ 32
 
@@ -140,10 +145,11 @@ pub record TickLent (m : Memory) (l : Tick) : Type 0 where
 pub record ListLent (m : Memory) (l : Listing) : Type 0 where
   pub own : ownForm (l .own) ≡ true
   pub cache : cacheForm (ownKeys (l .own)) (m .cache) ≡ true
+  pub key : length (l .key) ≡ 32
 
 -- ---- one call, of any of the four
 
--- of any of them, the own record and the output as lent
+-- of any of them, the own records and the output as lent
 abbrev pub ownOf : Call → List ℕ
 ownOf (receives l) = l .own
 ownOf (sends l) = l .own

@@ -3,16 +3,17 @@
 use Prim.Native.Nat.{ℕ}
 use mathlib.Core.Bool.{Bool, _&&_, cond}
 use mathlib.Core.List.{List}
-use lib.Dec.{eqb, leb}
+use lib.Dec.{eqb}
 use lib.ListN.{length}
-use Rattle.own.specs.Own.{ownForm, ownKeys}
+use Rattle.own.specs.Own.{ownForm, ownKeys, ownRecords}
 use Rattle.cache.specs.Form.{cacheForm, heldIn}
 use Rattle.waiting.specs.Form.{waitingForm, usedOf}
+use Rattle.cpas.specs.Cpas.{cpasForm}
 use Rattle.gauge_plan.specs.Lent.{Memory, Receive}
 use Rattle.gauge_plan.specs.declared.memory.Fitness.{Fitness}
 use Rattle.gauge_plan.specs.declared.memory.Fitness.the-variants.{Unfit, Fit}
 
--- own record, cache and waiting table in form
+-- own records, cache and waiting table in form
 unfoldable pub tablesFit : List ℕ → Memory → Bool
 tablesFit own m = ownForm own && cacheForm (ownKeys own) (m .cache) && waitingForm (ownKeys own) (m .waiting)
 
@@ -20,11 +21,11 @@ tablesFit own m = ownForm own && cacheForm (ownKeys own) (m .cache) && waitingFo
 unfoldable pub memoryOf : List ℕ → Memory → Fitness
 memoryOf own m = cond (tablesFit own m) (Fit (heldIn (ownKeys own) (m .cache)) (usedOf (m .waiting))) Unfit
 
--- what comes with a datagram: "Own CPA: 1 to 1,024 bytes"; "a 16-byte nonce .. (other lengths give 1)"; "A key handed in has 32 bytes, else 1"; and memory that
--- stands beside those two tables, today none
+-- what comes with a datagram: a CPA for each own record (02, Wish 11); "a 16-byte nonce .. (other lengths give 1)"; "A key handed in has 32 bytes, else 1"; and
+-- memory that stands beside those two tables, today none
 unfoldable pub handsFit : Memory → Receive → Bool
-handsFit m l = leb 1 (length (l .cpa)) && leb (length (l .cpa)) 1024 && eqb (length (l .nonce)) 16 && eqb (length (l .key)) 32
+handsFit m l = cpasForm (length (ownRecords (l .own))) (l .cpas) && eqb (length (l .nonce)) 16 && eqb (length (l .key)) 32
 
--- of a tick: own record and waiting table in form
+-- of a tick: own records and waiting table in form
 unfoldable pub tickFit : List ℕ → Memory → Bool
 tickFit own m = ownForm own && waitingForm (ownKeys own) (m .waiting)

@@ -9,7 +9,7 @@ pub enum Fitness {
     Fit { held: usize, used: usize },
 }
 
-// Are own record, cache and waiting table in form? Memory that is not lent may be any.
+// Are own records, cache and waiting table in form? Memory that is not lent may be any.
 pub fn survey(own: &[u8], cache: &[u8], waiting: &[u8]) -> Fitness
     ensures { λ r. ⌜ ((m : Memory) → r
         ≡ memoryOf (now (own .entry)) (withTables (now (cache .entry)) (now (waiting .entry)) m)) ⌝ }
@@ -28,11 +28,12 @@ pub fn survey(own: &[u8], cache: &[u8], waiting: &[u8]) -> Fitness
     Fitness::Fit { held, used }
 }
 
-// Have own CPA, nonce and key the lengths that document 01 gives them? Memory that is not lent may be any, and so may
-// all else that a datagram comes with.
-pub fn hands_fit(cpa: &[u8], nonce: &[u8], key: &[u8]) -> bool
+// Is there a CPA for each own record, and have nonce and key the lengths that document 01 gives them? Memory that is not
+// lent may be any, and so may all else that a datagram comes with.
+pub fn hands_fit(own: &[u8], cpas: &[u8], nonce: &[u8], key: &[u8]) -> bool
     ensures { λ r. ⌜ ((m : Memory) (l : Receive) → r
-        ≡ handsFit m (handing (now (cpa .entry)) (now (nonce .entry)) (now (key .entry)) l)) ⌝ }
+        ≡ handsFit m (handing (now (own .entry)) (now (cpas .entry)) (now (nonce .entry)) (now (key .entry)) l)) ⌝ }
 {
-    (1 <= cpa.len()) & (cpa.len() <= 1024) & (nonce.len() == 16) & (key.len() == 32)
+    let certified = cpas::cpas_form(cpas, own::count(own));
+    certified & (nonce.len() == 16) & (key.len() == 32)
 }

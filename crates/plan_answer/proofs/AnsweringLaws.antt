@@ -13,8 +13,10 @@ use Rattle.octet.specs.Part.{part}
 use Rattle.octet.proofs.TestLaws.{both-true}
 use Rattle.key.specs.Number.{keyAt}
 use Rattle.record.specs.Record.{countOf}
-use Rattle.own.specs.Own.{ownKeys, ownRecords}
+use Rattle.own.specs.Own.{Own, ownKeys, ownRecords, ownPlace, isOwn, IsOwn}
+use Rattle.own.proofs.PlaceLaws.{own-in}
 use Rattle.refusal.specs.Table.{when, orRefuse, Refusal, firstOf}
+use Rattle.cpas.specs.Cpas.{cpaOf}
 use Rattle.refusal.proofs.CallLaws.{or-known}
 use Rattle.table.specs.Rows.{rows, anyOf}
 use Rattle.table.proofs.RowLaws.{rows-length, row-at}
@@ -151,7 +153,7 @@ module _ (ps : List (List ℕ)) (held used verdict k acked : ℕ) (cpa : Bool) w
   KnownAuthority (Revoke h u s n a) = ⊥
   KnownAuthority (Learn h u at) = Learning h u at
   KnownAuthority (Free h u at m) = ⊥
-  KnownAuthority (Certify a) = ⊥
+  KnownAuthority (Certify a i) = ⊥
   KnownAuthority (Show h u a t p m o at size) = ⊥
 
   pub known-authority : KnownAuthority (authorityPlan ps held used verdict k acked cpa)
@@ -183,7 +185,7 @@ module _ (ps : List (List ℕ)) (held used acked : ℕ) (n : Bool) where
   KnownAck (Revoke h u s n a) = ⊥
   KnownAck (Learn h u at) = ⊥
   KnownAck (Free h u at m) = Freeing h u at m
-  KnownAck (Certify a) = ⊥
+  KnownAck (Certify a i) = ⊥
   KnownAck (Show h u a t p m o at size) = ⊥
 
   pub known-ack : KnownAck (ackPlan ps held used acked n)
@@ -194,12 +196,13 @@ module _ (ps : List (List ℕ)) (held used acked : ℕ) (n : Bool) where
       (λ m. tt)
       (λ w. record { held-is = refl; used-is = refl; n-is = refl; waiting = waits acked 1 (placeOf f) ps (some-found f (w .0)) })
 
-module _ (own size room : ℕ) (d : List ℕ) (acked validate : ℕ) where
-  -- an INQUIRE is planned: it is for our key, and the AUTHORITY has room
-  pub record Certifying (a : ℕ) : Type 0 where
+module _ (own : Own) (cpas : List ℕ) (room : ℕ) (d : List ℕ) (acked validate : ℕ) where
+  -- an INQUIRE is planned: it is for one of our keys, and the AUTHORITY has room
+  pub record Certifying (a at : ℕ) : Type 0 where
     pub acked-is : a ≡ acked
-    pub ours : keyAt validate d ≡ own
-    pub fits-in : 40 + size ≤ room
+    pub at-is : at ≡ ownPlace own (keyAt validate d)
+    pub ours : IsOwn own (keyAt validate d)
+    pub fits-in : 40 + length (cpaOf at cpas) ≤ room
 
   abbrev pub KnownInquire : Plan → Type 0
   KnownInquire (Refuse m) = Unit {0}
@@ -207,18 +210,19 @@ module _ (own size room : ℕ) (d : List ℕ) (acked validate : ℕ) where
   KnownInquire (Revoke h u s n a) = ⊥
   KnownInquire (Learn h u at) = ⊥
   KnownInquire (Free h u at m) = ⊥
-  KnownInquire (Certify a) = Certifying a
+  KnownInquire (Certify a i) = Certifying a i
   KnownInquire (Show h u a t p m o at size) = ⊥
 
-  pub known-inquire : KnownInquire (inquirePlan own size room d acked validate)
+  pub known-inquire : KnownInquire (inquirePlan own cpas room d acked validate)
   unfolding inquirePlan
   known-inquire =
-      or-known KnownInquire Refuse (inquireRefusals own size room d validate) (Certify acked)
+      or-known KnownInquire Refuse (inquireRefusals own cpas room d validate) (Certify acked (ownPlace own (keyAt validate d)))
       (λ m. tt)
       (λ w. record {
         acked-is = refl;
-        ours = eqb-true (keyAt validate d) own (not-false (eqb (keyAt validate d) own) (w .0));
-        fits-in = ltb-false room (40 + size) (w .1 .0);
+        at-is = refl;
+        ours = own-in own (keyAt validate d) (not-false (isOwn own (keyAt validate d)) (w .0));
+        fits-in = ltb-false room (40 + length (cpaOf (ownPlace own (keyAt validate d)) cpas)) (w .1 .0);
       })
 
 module _ (own : List ℕ) (recs ps : List (List ℕ)) (held used id room : ℕ) (d : List ℕ) (acked target path size start len : ℕ) where
@@ -243,7 +247,7 @@ module _ (own : List ℕ) (recs ps : List (List ℕ)) (held used id room : ℕ) 
   KnownLookup (Revoke h u s n a) = ⊥
   KnownLookup (Learn h u at) = ⊥
   KnownLookup (Free h u at m) = ⊥
-  KnownLookup (Certify a) = ⊥
+  KnownLookup (Certify a i) = ⊥
   KnownLookup (Show h u a t p m opens at n) = Showing h u a t p m opens at n
 
   pub known-lookup : KnownLookup (lookupPlan own recs ps held used id room d acked target path size start len)

@@ -6,12 +6,13 @@ use Prim.Native.Nat.{ℕ, _+_, _*_}
 use mathlib.Core.Bool.{Bool, true, false, not, _||_}
 use mathlib.Core.List.{List, [], _∷_, _++_}
 use lib.Dec.{eqb, ltb}
-use lib.ListN.{getD}
+use lib.ListN.{length, getD}
 use Rattle.octet.specs.Part.{part}
 use Rattle.key.specs.Number.{keyAt}
 use Rattle.record.specs.Record.{countOf}
-use Rattle.own.specs.Own.{ownKeys, ownRecords}
+use Rattle.own.specs.Own.{Own, ownKeys, ownRecords, ownPlace}
 use Rattle.refusal.specs.Table.{Refusal, when, orRefuse}
+use Rattle.cpas.specs.Cpas.{cpaOf}
 use Rattle.neighbours.specs.Closest.{candidates, offPath, closestOf}
 use Rattle.waiting.specs.Place.{placeKey}
 use Rattle.table.specs.Seek.{seek}
@@ -43,12 +44,14 @@ ackRefusals ps acked = when 8 (isNothing (seek (isAt acked 1) 0 ps)) ∷ []
 unfoldable pub ackPlan : List (List ℕ) → ℕ → ℕ → ℕ → Bool → Plan
 ackPlan ps held used acked n = orRefuse Refuse (ackRefusals ps acked) (Free held used (placeOf (seek (isAt acked 1) 0 ps)) n)
 
--- an INQUIRE for our key is answered with the own CPA, of so many bytes
-abbrev pub inquireRefusals : ℕ → ℕ → ℕ → List ℕ → ℕ → List Refusal
-inquireRefusals own size room d validate = when 12 (notOurs own validate d) ∷ when 15 (ltb room (40 + size)) ∷ []
+-- an INQUIRE for one of our keys is answered with the CPA of its own record
+abbrev pub inquireRefusals : (own : Own) (cpas : List ℕ) (room : ℕ) (d : List ℕ) (validate : ℕ) → List Refusal
+inquireRefusals own cpas room d validate =
+    when 12 (notOurs own validate d) ∷ when 15 (ltb room (40 + length (cpaOf (ownPlace own (keyAt validate d)) cpas))) ∷ []
 
-unfoldable pub inquirePlan : ℕ → ℕ → ℕ → List ℕ → ℕ → ℕ → Plan
-inquirePlan own size room d acked validate = orRefuse Refuse (inquireRefusals own size room d validate) (Certify acked)
+unfoldable pub inquirePlan : (own : Own) (cpas : List ℕ) (room : ℕ) (d : List ℕ) (acked validate : ℕ) → Plan
+inquirePlan own cpas room d acked validate =
+    orRefuse Refuse (inquireRefusals own cpas room d validate) (Certify acked (ownPlace own (keyAt validate d)))
 
 -- a LOOKUP is answered with the record closest to its target, those held that are on its path skipped; "it is inquired about as in a FLOOD": of its route entry, if
 -- it has one, the record is asked for. r is the record shown

@@ -5,10 +5,11 @@ ghost use Prim.Native.Nat.{_+_, _*_, _≤_, _<_};
 ghost use lib.ListN.{length};
 ghost use Rattle.octet.specs.Part.{part};
 ghost use Rattle.key.specs.Number.{keyAt};
-ghost use Rattle.record.specs.Record.{keyOf, recordForm};
 ghost use Rattle.record.specs.Entry.{entryForm};
+ghost use Rattle.own.specs.Own.{ownForm, ownKeys, ownRecords};
 ghost use Rattle.table.specs.Rows.{rows};
 ghost use Rattle.cache.specs.Form.{Form};
+ghost use Rattle.cpas.specs.Cpas.{cpasForm};
 ghost use Rattle.plan_answer.specs.Answering.{authorityPlan, ackPlan, inquirePlan, lookupPlan};
 use gauge_plan::Plan;
 
@@ -57,25 +58,29 @@ pub fn plan_ack(waiting: &[u8], held: usize, used: usize, acked: u32, n: bool) -
     Plan::Free { held, used, at, n }
 }
 
-// The plan for an INQUIRE. `size` is the own CPA's length, `room` the output's.
+// The plan for an INQUIRE. `room` is the output's length.
 pub fn plan_inquire(
     own: &[u8],
-    size: usize,
+    cpas: &[u8],
     room: usize,
     d: &[u8],
     acked: u32,
     validate: usize,
 ) -> Plan
-    requires { ⌜ (32 ≤ length (now own)) × (validate + 32 ≤ length (now d)) × (size ≤ 1024) ⌝ }
-    ensures { λ r. ⌜ r ≡ inquirePlan (keyOf (now (own .entry))) size room (now (d .entry)) acked validate ⌝ }
+    requires { ⌜ (ownForm (now own) ≡ true) × (cpasForm (length (ownRecords (now own))) (now cpas) ≡ true)
+        × (validate + 32 ≤ length (now d)) ⌝ }
+    ensures { λ r. ⌜ r
+        ≡ inquirePlan (ownKeys (now (own .entry))) (now (cpas .entry)) room (now (d .entry)) acked validate ⌝ }
 {
     if !own::is_own(own, d, validate) {
         return Plan::Refuse(refusal::NOT_OURS);
     }
-    if room < 40 + size {
+    let at = own::place_of(own, d, validate);
+    let cpa = cpas::cpa_at(cpas, at);
+    if room < 40 + cpa.len() {
         return Plan::Refuse(refusal::ROOM);
     }
-    Plan::Certify(acked)
+    Plan::Certify { acked, at }
 }
 
 // The plan for a LOOKUP whose target, path and route entry stand at places of the datagram; an entry that is not there has
@@ -97,7 +102,7 @@ pub fn plan_lookup(
     start: usize,
     len: usize,
 ) -> Plan
-    requires { ⌜ (recordForm (now own) ≡ true) × Form (keyOf (now own)) (now cache) (rows 100 held (now cache))
+    requires { ⌜ (ownForm (now own) ≡ true) × Form (ownKeys (now own)) (now cache) (rows 100 held (now cache))
         × (140 * used ≤ length (now waiting)) × (target + 32 ≤ length (now d)) × (path + size ≤ length (now d))
         × (start + len ≤ length (now d)) × (0 < len → entryForm (part start len (now d)) ≡ true) ⌝ }
     ensures { λ r. ⌜ r ≡ lookupPlan (now (own .entry)) (rows 100 held (now (cache .entry)))

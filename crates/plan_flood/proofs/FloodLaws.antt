@@ -9,6 +9,8 @@ use borrow.Author.Tests.{eq-eqb, ne-eqb, eqb-true, eqb-false, ltb-false, not-fal
 use Rattle.octet.specs.Part.{part}
 use Rattle.record.specs.Record.{keyOf}
 use Rattle.record.specs.Entry.{recordOf}
+use Rattle.own.specs.Own.{Own, isOwn, IsOwn}
+use Rattle.own.proofs.PlaceLaws.{not-own}
 use Rattle.refusal.specs.Table.{when, orRefuse, Refusal, firstOf}
 use Rattle.refusal.proofs.CallLaws.{or-known, row-passes}
 use Rattle.table.specs.Rows.{anyOf}
@@ -33,14 +35,14 @@ ack-most false false = omega arith
 
 -- ---- each plan by the tests that the code makes
 
-module _ (own : ℕ) (recs ps : List (List ℕ)) (used id room : ℕ) (d : List ℕ) (silent : Bool) (acked validate start len : ℕ) where
-  pub flood-own : eqb (keyOf (recordOf (part start len d))) own ≡ true
+module _ (own : Own) (recs ps : List (List ℕ)) (used id room : ℕ) (d : List ℕ) (silent : Bool) (acked validate start len : ℕ) where
+  pub flood-own : isOwn own (keyOf (recordOf (part start len d))) ≡ true
       → floodPlan own recs ps used id room d silent acked validate start len ≡ Refuse 11
   unfolding floodPlan orRefuse
   flood-own e = rw e refl
 
   -- with n for N, opens for whether the record must be inquired about, barred for the number that stands against its place
-  module _ (other : eqb (keyOf (recordOf (part start len d))) own ≡ false) {n opens : Bool} {barred : ℕ} (en : n ≡ notOurs own validate d)
+  module _ (other : isOwn own (keyOf (recordOf (part start len d))) ≡ false) {n opens : Bool} {barred : ℕ} (en : n ≡ notOurs own validate d)
       (eo : opens ≡ mustAsk recs ps (recordOf (part start len d))) (eb : barred ≡ firstOf (openRows opens ps used (idAfter id))) where
     abbrev rest : List Refusal
     rest = when 15 (ltb room (ackRoom silent n + inquireRoom opens)) ∷ []
@@ -57,17 +59,17 @@ module _ (own : ℕ) (recs ps : List (List ℕ)) (used id room : ℕ) (d : List 
         ≡ orRefuse Refuse rest (Flood used silent n acked opens start len)
     flood-by z = flood-other ∙ open-passes Refuse opens ps used (idAfter id) rest _ eb z
 
-module _ (own held used verdict k room : ℕ) (d : List ℕ) (silent : Bool) (acked validate : ℕ) where
+module _ (own : Own) (held used verdict k room : ℕ) (d : List ℕ) (silent : Bool) (acked validate : ℕ) where
   pub revoke-bad : (verdict ≡ 1 → ⊥) → revokePlan own held used verdict k room d silent acked validate ≡ Refuse 9
   unfolding revokePlan orRefuse
   revoke-bad e = rw (ne-eqb verdict 1 e) refl
 
   module _ (good : verdict ≡ 1) where
-    pub revoke-own : eqb k own ≡ true → revokePlan own held used verdict k room d silent acked validate ≡ Refuse 11
+    pub revoke-own : isOwn own k ≡ true → revokePlan own held used verdict k room d silent acked validate ≡ Refuse 11
     unfolding revokePlan orRefuse
     revoke-own e = rw (eq-eqb verdict 1 good, e) refl
 
-    pub revoke-by : eqb k own ≡ false → {n : Bool} {a : ℕ} → n ≡ notOurs own validate d → a ≡ ackRoom silent n
+    pub revoke-by : isOwn own k ≡ false → {n : Bool} {a : ℕ} → n ≡ notOurs own validate d → a ≡ ackRoom silent n
         → revokePlan own held used verdict k room d silent acked validate
         ≡ orRefuse Refuse (when 15 (ltb room a) ∷ []) (Revoke held used silent n acked)
     unfolding revokePlan orRefuse
@@ -75,7 +77,7 @@ module _ (own held used verdict k room : ℕ) (d : List ℕ) (silent : Bool) (ac
 
 -- ---- what is known of a plan
 
-module _ (own : ℕ) (recs ps : List (List ℕ)) (used id room : ℕ) (d : List ℕ) (silent : Bool) (acked validate start len : ℕ) where
+module _ (own : Own) (recs ps : List (List ℕ)) (used id room : ℕ) (d : List ℕ) (silent : Bool) (acked validate start len : ℕ) where
   -- a FLOOD with a route entry is planned: its numbers, and that nothing stands against it
   pub record Flooding (u : ℕ) (s n : Bool) (a : ℕ) (opens : Bool) (at size : ℕ) : Type 0 where
     pub used-is : u ≡ used
@@ -85,7 +87,7 @@ module _ (own : ℕ) (recs ps : List (List ℕ)) (used id room : ℕ) (d : List 
     pub opens-is : opens ≡ mustAsk recs ps (recordOf (part start len d))
     pub start-is : at ≡ start
     pub len-is : size ≡ len
-    pub other : keyOf (recordOf (part start len d)) ≡ own → ⊥
+    pub other : ¬ IsOwn own (keyOf (recordOf (part start len d)))
     pub new : opens ≡ true → anyOf (hasId (idAfter id)) ps ≡ false
     pub free : opens ≡ true → u ≡ 16 → ⊥
     pub fits-in : ackRoom s n + inquireRoom opens ≤ room
@@ -96,7 +98,7 @@ module _ (own : ℕ) (recs ps : List (List ℕ)) (used id room : ℕ) (d : List 
   KnownFlood (Revoke h u s n a) = ⊥
   KnownFlood (Learn h u at) = ⊥
   KnownFlood (Free h u at m) = ⊥
-  KnownFlood (Certify a) = ⊥
+  KnownFlood (Certify a i) = ⊥
   KnownFlood (Show h u a t p m o at size) = ⊥
 
   pub known-flood : KnownFlood (floodPlan own recs ps used id room d silent acked validate start len)
@@ -115,13 +117,13 @@ module _ (own : ℕ) (recs ps : List (List ℕ)) (used id room : ℕ) (d : List 
         opens-is = refl;
         start-is = refl;
         len-is = refl;
-        other = eqb-false (keyOf r) own (f .0);
+        other = not-own own (keyOf r) (f .0);
         new = second-fails opens (anyOf (hasId (idAfter id)) ps) (f .1 .0);
         free = λ o. eqb-false used 16 (second-fails opens (eqb used 16) (f .1 .1 .0) o);
         fits-in = ltb-false room (ackRoom silent n + inquireRoom opens) (f .1 .1 .1 .0);
       })
 
-module _ (own held used verdict k room : ℕ) (d : List ℕ) (silent : Bool) (acked validate : ℕ) where
+module _ (own : Own) (held used verdict k room : ℕ) (d : List ℕ) (silent : Bool) (acked validate : ℕ) where
   -- a FLOOD with a revocation is planned
   pub record Revoking (h u : ℕ) (s n : Bool) (a : ℕ) : Type 0 where
     pub held-is : h ≡ held
@@ -130,7 +132,7 @@ module _ (own held used verdict k room : ℕ) (d : List ℕ) (silent : Bool) (ac
     pub n-is : n ≡ notOurs own validate d
     pub acked-is : a ≡ acked
     pub verdict-is : verdict ≡ 1
-    pub other : k ≡ own → ⊥
+    pub other : ¬ IsOwn own k
     pub fits-in : ackRoom s n ≤ room
 
   abbrev pub KnownRevoke : Plan → Type 0
@@ -139,7 +141,7 @@ module _ (own held used verdict k room : ℕ) (d : List ℕ) (silent : Bool) (ac
   KnownRevoke (Revoke h u s n a) = Revoking h u s n a
   KnownRevoke (Learn h u at) = ⊥
   KnownRevoke (Free h u at m) = ⊥
-  KnownRevoke (Certify a) = ⊥
+  KnownRevoke (Certify a i) = ⊥
   KnownRevoke (Show h u a t p m o at size) = ⊥
 
   pub known-revoke : KnownRevoke (revokePlan own held used verdict k room d silent acked validate)
@@ -155,6 +157,6 @@ module _ (own held used verdict k room : ℕ) (d : List ℕ) (silent : Bool) (ac
         n-is = refl;
         acked-is = refl;
         verdict-is = eqb-true verdict 1 (not-false (eqb verdict 1) (f .0));
-        other = eqb-false k own (f .1 .0);
+        other = not-own own k (f .1 .0);
         fits-in = ltb-false room (ackRoom silent n) (f .1 .1 .0);
       })

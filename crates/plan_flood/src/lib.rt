@@ -5,8 +5,8 @@ ghost use Prim.Native.Nat.{_+_, _*_, _≤_};
 ghost use lib.ListN.{length};
 ghost use Rattle.octet.specs.Part.{part};
 ghost use Rattle.key.specs.Number.{keyAt};
-ghost use Rattle.record.specs.Record.{keyOf};
 ghost use Rattle.record.specs.Entry.{entryForm};
+ghost use Rattle.own.specs.Own.{ownForm, ownKeys};
 ghost use Rattle.table.specs.Rows.{rows};
 ghost use Rattle.cache.specs.Form.{Form};
 ghost use Rattle.gauge_plan.specs.Own.{notOurs};
@@ -26,8 +26,8 @@ fn ack_room(silent: bool, n: bool) -> usize
 
 // Is the key at a place another than ours?
 fn not_ours(own: &[u8], d: &[u8], at: usize) -> bool
-    requires { ⌜ (32 ≤ length (now own)) × (at + 32 ≤ length (now d)) ⌝ }
-    ensures { λ r. ⌜ r ≡ notOurs (keyOf (now (own .entry))) at (now (d .entry)) ⌝ }
+    requires { ⌜ (ownForm (now own) ≡ true) × (at + 32 ≤ length (now d)) ⌝ }
+    ensures { λ r. ⌜ r ≡ notOurs (ownKeys (now (own .entry))) at (now (d .entry)) ⌝ }
 {
     !own::is_own(own, d, at)
 }
@@ -48,10 +48,10 @@ pub fn plan_flood(
     start: usize,
     len: usize,
 ) -> Plan
-    requires { ⌜ (32 ≤ length (now own)) × Form (keyOf (now own)) (now cache) (rows 100 held (now cache)) × (140 * used ≤ length (now waiting))
+    requires { ⌜ (ownForm (now own) ≡ true) × Form (ownKeys (now own)) (now cache) (rows 100 held (now cache)) × (140 * used ≤ length (now waiting))
         × (validate + 32 ≤ length (now d)) × (start + len ≤ length (now d))
         × (entryForm (part start len (now d)) ≡ true) ⌝ }
-    ensures { λ r. ⌜ r ≡ floodPlan (keyOf (now (own .entry))) (rows 100 held (now (cache .entry)))
+    ensures { λ r. ⌜ r ≡ floodPlan (ownKeys (now (own .entry))) (rows 100 held (now (cache .entry)))
         (rows 140 used (now (waiting .entry))) used id room (now (d .entry)) silent acked validate start len ⌝ }
 {
     if own::is_own(own, d, start) {
@@ -90,8 +90,8 @@ pub fn plan_revoke(
     acked: u32,
     validate: usize,
 ) -> Plan
-    requires { ⌜ (32 ≤ length (now own)) × (32 ≤ length (now key)) × (validate + 32 ≤ length (now d)) ⌝ }
-    ensures { λ r. ⌜ r ≡ revokePlan (keyOf (now (own .entry))) held used verdict (keyAt 0 (now (key .entry))) room
+    requires { ⌜ (ownForm (now own) ≡ true) × (32 ≤ length (now key)) × (validate + 32 ≤ length (now d)) ⌝ }
+    ensures { λ r. ⌜ r ≡ revokePlan (ownKeys (now (own .entry))) held used verdict (keyAt 0 (now (key .entry))) room
         (now (d .entry)) silent acked validate ⌝ }
 {
     if verdict != 1 {

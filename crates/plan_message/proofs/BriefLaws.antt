@@ -101,7 +101,7 @@ module _ (m : Memory) (l : Receive) (held used : ℕ) where
   abbrev pub InquireBy : T.Incoming → Brief → Type 0
   InquireBy a x =
       x .seen .kind ≡ 7
-      → planFor m l held used a ≡ inquirePlan (ownKeys (l .own)) (length (l .cpa)) (length (l .output)) (l .datagram) (x .seen .id) (x .validate)
+      → planFor m l held used a ≡ inquirePlan (ownKeys (l .own)) (l .cpas) (length (l .output)) (l .datagram) (x .seen .id) (x .validate)
 
   pub inquire-by : (a : T.Incoming) → InquireBy a (briefOf a)
   unfolding planFor briefOf lookOf

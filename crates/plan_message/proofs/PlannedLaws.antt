@@ -10,8 +10,9 @@ use Rattle.octet.specs.Number.{valueBE}
 use Rattle.octet.specs.Part.{part}
 use Rattle.octet.proofs.PartLaws.{length-part}
 use Rattle.key.specs.Number.{keyAt}
-use Rattle.record.specs.Record.{keyOf, countOf, recordForm}
+use Rattle.record.specs.Record.{countOf, recordForm}
 use Rattle.record.specs.Entry.{entryForm, recordOf}
+use Rattle.own.specs.Own.{ownForm, ownKeys, ownRecords, ownPlace, IsOwn}
 use Rattle.refusal.specs.Table.{when, orRefuse}
 use Rattle.refusal.proofs.CallLaws.{or-known}
 use Rattle.table.specs.Rows.{rows, Laid}
@@ -45,6 +46,8 @@ use Rattle.gauge_plan.specs.declared.Plan.{Plan}
 use Rattle.gauge_plan.specs.declared.Plan.the-variants.{Refuse, Flood, Revoke, Learn, Free, Certify, Show}
 use Rattle.gauge_plan.specs.declared.memory.Fitness.{Fitness}
 use Rattle.gauge_plan.specs.declared.memory.Fitness.the-variants.{Unfit, Fit}
+use Rattle.cpas.specs.Cpas.{cpasForm, cpaOf}
+use Rattle.gauge_plan.proofs.OwnLaws.{place-within}
 use Rattle.gauge_plan.proofs.MemoryLaws as memory
 use Rattle.plan_flood.proofs.FloodLaws as flood
 use Rattle.plan_answer.proofs.AnsweringLaws as answering
@@ -81,7 +84,7 @@ module _ (m : Memory) (l : Receive) where
 
 -- what the plan of a message requires of memory
 pub message-needs : (own : List ℕ) (m : Memory) {h u : ℕ} → memoryOf own m ≡ Fit h u
-    → (recordForm own ≡ true) × Form (keyOf own) (m .cache) (rows 100 h (m .cache)) × (140 * u ≤ length (m .waiting))
+    → (ownForm own ≡ true) × Form (ownKeys own) (m .cache) (rows 100 h (m .cache)) × (140 * u ≤ length (m .waiting))
 message-needs own m fit =
     let r = subst (memory.KnownMemory own m) fit (memory.known-memory own m) in
     (r .owned, r .form, r .laid .room)
@@ -93,47 +96,47 @@ pub record Flooded (m : Memory) (l : Receive) (u : ℕ) (s n : Bool) (a : ℕ) (
   pub held : ℕ
   pub validate : ℕ
   pub ready : memory.Ready (l .own) m held u
-  pub hands : memory.Handed (l .cpa) (l .nonce) (l .key)
+  pub hands : memory.Handed (l .own) (l .cpas) (l .nonce) (l .key)
   pub within : start + len ≤ length (l .datagram)
   pub entry : entryForm (part start len (l .datagram)) ≡ true
-  pub plans : flood.Flooding (keyOf (l .own)) (rows 100 held (m .cache)) (rows 140 u (m .waiting)) u (l .id) (length (l .output))
+  pub plans : flood.Flooding (ownKeys (l .own)) (rows 100 held (m .cache)) (rows 140 u (m .waiting)) u (l .id) (length (l .output))
       (l .datagram) s a validate start len u s n a opens start len
 
 -- a FLOOD with a revocation
 pub record Revoked (m : Memory) (l : Receive) (h u : ℕ) (s n : Bool) (a : ℕ) : Type 0 where
   pub validate : ℕ
   pub ready : memory.Ready (l .own) m h u
-  pub hands : memory.Handed (l .cpa) (l .nonce) (l .key)
-  pub plans : flood.Revoking (keyOf (l .own)) h u (l .verdict) (keyAt 0 (l .key)) (length (l .output)) (l .datagram) s a validate h u s n a
+  pub hands : memory.Handed (l .own) (l .cpas) (l .nonce) (l .key)
+  pub plans : flood.Revoking (ownKeys (l .own)) h u (l .verdict) (keyAt 0 (l .key)) (length (l .output)) (l .datagram) s a validate h u s n a
 
 -- an AUTHORITY
 pub record Learned (m : Memory) (l : Receive) (h u at : ℕ) : Type 0 where
   pub acked : ℕ
   pub cpa : Bool
   pub ready : memory.Ready (l .own) m h u
-  pub hands : memory.Handed (l .cpa) (l .nonce) (l .key)
+  pub hands : memory.Handed (l .own) (l .cpas) (l .nonce) (l .key)
   pub plans : answering.Learning (rows 140 u (m .waiting)) h u (l .verdict) (keyAt 0 (l .key)) acked cpa h u at
 
 -- an ACK
 pub record Freed (m : Memory) (l : Receive) (h u at : ℕ) (n : Bool) : Type 0 where
   pub acked : ℕ
   pub ready : memory.Ready (l .own) m h u
-  pub hands : memory.Handed (l .cpa) (l .nonce) (l .key)
+  pub hands : memory.Handed (l .own) (l .cpas) (l .nonce) (l .key)
   pub plans : answering.Freeing (rows 140 u (m .waiting)) h u acked n h u at n
 
 -- an INQUIRE
-pub record Certified (m : Memory) (l : Receive) (a : ℕ) : Type 0 where
+pub record Certified (m : Memory) (l : Receive) (a at : ℕ) : Type 0 where
   pub held : ℕ
   pub used : ℕ
   pub validate : ℕ
   pub ready : memory.Ready (l .own) m held used
-  pub hands : memory.Handed (l .cpa) (l .nonce) (l .key)
-  pub plans : answering.Certifying (keyOf (l .own)) (length (l .cpa)) (length (l .output)) (l .datagram) a validate a
+  pub hands : memory.Handed (l .own) (l .cpas) (l .nonce) (l .key)
+  pub plans : answering.Certifying (ownKeys (l .own)) (l .cpas) (length (l .output)) (l .datagram) a validate a at
 
 -- a LOOKUP
 pub record Shown (m : Memory) (l : Receive) (h u a target path size : ℕ) (opens : Bool) (start len : ℕ) : Type 0 where
   pub ready : memory.Ready (l .own) m h u
-  pub hands : memory.Handed (l .cpa) (l .nonce) (l .key)
+  pub hands : memory.Handed (l .own) (l .cpas) (l .nonce) (l .key)
   pub within : target + 32 ≤ length (l .datagram)
   pub path-within : path + size ≤ length (l .datagram)
   pub entry-within : start + len ≤ length (l .datagram)
@@ -146,7 +149,7 @@ pub shown-entry : (m : Memory) (l : Receive) {h u a target path size : ℕ} {ope
     → opens ≡ true → entryForm (part start len (l .datagram)) ≡ true
 shown-entry m l {h} {u} {a} {target} {path} {size} {opens} {start} {len} k o =
     let v = part start len (l .datagram) in
-    let there = asks-tells (keyOf (l .own)) (rows 100 h (m .cache)) (rows 140 u (m .waiting)) v (sym (k .plans .opens-is) ∙ o) .0 in
+    let there = asks-tells (ownKeys (l .own)) (rows 100 h (m .cache)) (rows 140 u (m .waiting)) v (sym (k .plans .opens-is) ∙ o) .0 in
     k .entry (omega (arith, there, length-part start len (l .datagram) (k .entry-within)))
 
 abbrev pub Known : Memory → Receive → Plan → Type 0
@@ -155,17 +158,17 @@ Known m l (Flood u s n a opens start len) = Flooded m l u s n a opens start len
 Known m l (Revoke h u s n a) = Revoked m l h u s n a
 Known m l (Learn h u at) = Learned m l h u at
 Known m l (Free h u at n) = Freed m l h u at n
-Known m l (Certify a) = Certified m l a
+Known m l (Certify a at) = Certified m l a at
 Known m l (Show h u a target path size opens start len) = Shown m l h u a target path size opens start len
 
 module _ (m : Memory) (l : Receive) (h u : ℕ) (ready : memory.Ready (l .own) m h u)
-    (hands : memory.Handed (l .cpa) (l .nonce) (l .key)) where
+    (hands : memory.Handed (l .own) (l .cpas) (l .nonce) (l .key)) where
   flood-known : (s : Bool) (a validate start len : ℕ) → start + len ≤ length (l .datagram) → entryForm (part start len (l .datagram)) ≡ true
-      → Known m l (floodPlan (keyOf (l .own)) (rows 100 h (m .cache)) (rows 140 u (m .waiting)) u (l .id) (length (l .output))
+      → Known m l (floodPlan (ownKeys (l .own)) (rows 100 h (m .cache)) (rows 140 u (m .waiting)) u (l .id) (length (l .output))
       (l .datagram) s a validate start len)
   unfolding floodPlan
   flood-known s a validate start len within entry =
-      let own = keyOf (l .own) in
+      let own = ownKeys (l .own) in
       let recs = rows 100 h (m .cache) in
       let ps = rows 140 u (m .waiting) in
       let room = length (l .output) in
@@ -179,10 +182,10 @@ module _ (m : Memory) (l : Receive) (h u : ℕ) (ready : memory.Ready (l .own) m
       (flood.known-flood own recs ps u (l .id) room (l .datagram) s a validate start len)
 
   revoke-known : (s : Bool) (a validate : ℕ)
-      → Known m l (revokePlan (keyOf (l .own)) h u (l .verdict) (keyAt 0 (l .key)) (length (l .output)) (l .datagram) s a validate)
+      → Known m l (revokePlan (ownKeys (l .own)) h u (l .verdict) (keyAt 0 (l .key)) (length (l .output)) (l .datagram) s a validate)
   unfolding revokePlan
   revoke-known s a validate =
-      let own = keyOf (l .own) in
+      let own = ownKeys (l .own) in
       let k = keyAt 0 (l .key) in
       let room = length (l .output) in
       let n = notOurs own validate (l .datagram) in
@@ -213,15 +216,15 @@ module _ (m : Memory) (l : Receive) (h u : ℕ) (ready : memory.Ready (l .own) m
       (λ f k. record { acked = acked; ready = ready; hands = hands; plans = k })
       (answering.known-ack ps h u acked n)
 
-  inquire-known : (a validate : ℕ) → Known m l (inquirePlan (keyOf (l .own)) (length (l .cpa)) (length (l .output)) (l .datagram) a validate)
+  inquire-known : (a validate : ℕ) → Known m l (inquirePlan (ownKeys (l .own)) (l .cpas) (length (l .output)) (l .datagram) a validate)
   unfolding inquirePlan
   inquire-known a validate =
-      let own = keyOf (l .own) in
-      let K : Plan → Type 0 = answering.KnownInquire own (length (l .cpa)) (length (l .output)) (l .datagram) a validate in
-      or-known (λ (p : Plan). K p → Known m l p) Refuse (inquireRefusals own (length (l .cpa)) (length (l .output)) (l .datagram) validate) (Certify a)
+      let own = ownKeys (l .own) in
+      let K : Plan → Type 0 = answering.KnownInquire own (l .cpas) (length (l .output)) (l .datagram) a validate in
+      or-known (λ (p : Plan). K p → Known m l p) Refuse (inquireRefusals own (l .cpas) (length (l .output)) (l .datagram) validate) (Certify a (ownPlace own (keyAt validate (l .datagram))))
       (λ i k. tt)
       (λ f k. record { held = h; used = u; validate = validate; ready = ready; hands = hands; plans = k })
-      (answering.known-inquire own (length (l .cpa)) (length (l .output)) (l .datagram) a validate)
+      (answering.known-inquire own (l .cpas) (length (l .output)) (l .datagram) a validate)
 
   lookup-known : (a target path size start len : ℕ) → target + 32 ≤ length (l .datagram) → path + size ≤ length (l .datagram)
       → start + len ≤ length (l .datagram) → (0 < len → entryForm (part start len (l .datagram)) ≡ true)
@@ -232,7 +235,7 @@ module _ (m : Memory) (l : Receive) (h u : ℕ) (ready : memory.Ready (l .own) m
       let ps = rows 140 u (m .waiting) in
       let room = length (l .output) in
       let r = closestPast (l .own) recs (part path size (l .datagram)) (keyAt target (l .datagram)) in
-      let opens = asksFor (keyOf (l .own)) recs ps (part start len (l .datagram)) in
+      let opens = asksFor (ownKeys (l .own)) recs ps (part start len (l .datagram)) in
       let K : Plan → Type 0 = answering.KnownLookup (l .own) recs ps h u (l .id) room (l .datagram) a target path size start len in
       or-known (λ (p : Plan). K p → Known m l p) Refuse (lookupRefusals ps u (l .id) room opens r) (Show h u a target path size opens start len)
       (λ i k. tt)
@@ -283,8 +286,8 @@ known m l = memory-known m l (memoryOf (l .own) m) (memory.known-memory (l .own)
 -- ---- what the commits require
 
 module _ (m : Memory) (l : Receive) where
-  pub plan-needs : handsFit m l ≡ true → (length (l .cpa) ≤ 1024) × (length (l .key) ≡ 32)
-  plan-needs e = let w = memory.known-hands m l e in (w .most, w .keyed)
+  pub plan-needs : handsFit m l ≡ true → (cpasForm (length (ownRecords (l .own))) (l .cpas) ≡ true) × (length (l .key) ≡ 32)
+  plan-needs e = let w = memory.known-hands m l e in (w .certified, w .keyed)
 
   pub known-by : {p : Plan} → receivePlan m l ≡ p → Known m l p
   known-by e = subst (Known m l) e (known m l)
@@ -305,39 +308,39 @@ module _ (m : Memory) (l : Receive) where
       )
 
   pub revoke-needs : {h u : ℕ} {s n : Bool} {a : ℕ} → receivePlan m l ≡ Revoke h u s n a
-      → (length (l .own) ≡ 100) × (length (l .key) ≡ 32) × Form (keyOf (l .own)) (m .cache) (rows 100 h (m .cache)) × (length (m .waiting) ≡ 2240)
+      → (ownForm (l .own) ≡ true) × (length (l .key) ≡ 32) × Form (ownKeys (l .own)) (m .cache) (rows 100 h (m .cache)) × (length (m .waiting) ≡ 2240)
       × Laid 140 u (m .waiting) × (u ≤ 16) × (ackRoom s n ≤ length (l .output))
   revoke-needs {h} {u} {s} {n} {a} e =
       let k : Revoked m l h u s n a = known-by e in
-      (k .ready .long, k .hands .keyed, k .ready .form, k .ready .size, k .ready .laid, k .ready .few, k .plans .fits-in)
+      (k .ready .owned, k .hands .keyed, k .ready .form, k .ready .size, k .ready .laid, k .ready .few, k .plans .fits-in)
 
   pub learn-needs : {h u at : ℕ} → receivePlan m l ≡ Learn h u at
-      → (length (l .own) ≡ 100) × Form (keyOf (l .own)) (m .cache) (rows 100 h (m .cache)) × (length (m .waiting) ≡ 2240)
+      → (ownForm (l .own) ≡ true) × Form (ownKeys (l .own)) (m .cache) (rows 100 h (m .cache)) × (length (m .waiting) ≡ 2240)
       × Laid 140 u (m .waiting) × (u ≤ 16) × (at < u) × (recordForm (part (140 * at + 40) 100 (m .waiting)) ≡ true)
-      × NotOwn (keyOf (l .own)) (keyAt (140 * at + 40) (m .waiting))
+      × NotOwn (ownKeys (l .own)) (keyAt (140 * at + 40) (m .waiting))
   learn-needs {h} {u} {at} e =
       let k : Learned m l h u at = known-by e in
       let t = m .waiting in
-      let own = keyOf (l .own) in
+      let own = ownKeys (l .own) in
       let found = subst (λ (v : ℕ). seek (isAt (k .acked) 2) 0 (rows 140 v t) ≡ At at) (k .ready .used) (k .plans .waiting .found) in
       let key : keyAt (140 * at + 40) t ≡ keyAt (140 * at + 8) t =
       sym (ap (valueBE 256) (part-start (140 * at + 40) 100 32 t (omega arith))) ∙ found-key own t (k .ready .tabled) (k .acked) at found in (
-        k .ready .long,
+        k .ready .owned,
         k .ready .form,
         k .ready .size,
         k .ready .laid,
         k .ready .few,
         omega (arith, k .plans .waiting .within, rows-length 140 u t),
         found-record own t (k .ready .tabled) (k .acked) at found,
-        λ o. found-other own t (k .ready .tabled) (k .acked) at found (sym key ∙ o),
+        λ o. found-other own t (k .ready .tabled) (k .acked) at found (subst (IsOwn own) key o),
       )
 
   pub free-needs : {h u at : ℕ} {n : Bool} → receivePlan m l ≡ Free h u at n
-      → (length (l .own) ≡ 100) × Form (keyOf (l .own)) (m .cache) (rows 100 h (m .cache)) × (length (m .waiting) ≡ 2240)
+      → (ownForm (l .own) ≡ true) × Form (ownKeys (l .own)) (m .cache) (rows 100 h (m .cache)) × (length (m .waiting) ≡ 2240)
       × Laid 140 u (m .waiting) × (u ≤ 16) × (at < u)
   free-needs {h} {u} {at} {n} e =
       let k : Freed m l h u at n = known-by e in (
-        k .ready .long,
+        k .ready .owned,
         k .ready .form,
         k .ready .size,
         k .ready .laid,
@@ -345,14 +348,19 @@ module _ (m : Memory) (l : Receive) where
         omega (arith, k .plans .waiting .within, rows-length 140 u (m .waiting)),
       )
 
-  pub cpa-needs : {a : ℕ} → receivePlan m l ≡ Certify a → (length (l .cpa) ≤ 1024) × (40 + length (l .cpa) ≤ length (l .output))
-  cpa-needs {a} e = let k : Certified m l a = known-by e in (k .hands .most, k .plans .fits-in)
+  -- of the CPA, and of the AUTHORITY with it
+  pub cpa-needs : {a at : ℕ} → receivePlan m l ≡ Certify a at
+      → ((n : ℕ) × (at < n) × (cpasForm n (l .cpas) ≡ true)) × (40 + length (cpaOf at (l .cpas)) ≤ length (l .output))
+  cpa-needs {a} {at} e =
+      let k : Certified m l a at = known-by e in
+      let n = length (ownRecords (l .own)) in
+      ((n, omega (arith, k .plans .at-is, place-within (l .own) (keyAt (k .validate) (l .datagram)) (k .plans .ours)), k .hands .certified), k .plans .fits-in)
 
   -- of the INQUIRE, and of the AUTHORITY
   pub show-needs : {h u a target path size : ℕ} {opens : Bool} {start len : ℕ} → receivePlan m l ≡ Show h u a target path size opens start len
       → ((opens ≡ true → u < 16) × (length (m .waiting) ≡ 2240) × Laid 140 u (m .waiting) × (length (l .nonce) ≡ 16)
       × (start + len ≤ length (l .datagram)) × (opens ≡ true → entryForm (part start len (l .datagram)) ≡ true))
-      × ((recordForm (l .own) ≡ true) × Form (keyOf (l .own)) (m .cache) (rows 100 h (m .cache)) × (target + 32 ≤ length (l .datagram))
+      × ((ownForm (l .own) ≡ true) × Form (ownKeys (l .own)) (m .cache) (rows 100 h (m .cache)) × (target + 32 ≤ length (l .datagram))
       × (path + size ≤ length (l .datagram))
       × (80 + 16 * countOf (closestPast (l .own) (rows 100 h (m .cache)) (part path size (l .datagram)) (keyAt target (l .datagram))) + inquireRoom opens
       ≤ length (l .output)))

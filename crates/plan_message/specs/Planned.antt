@@ -40,7 +40,7 @@ planFor m l held used (M.Solicit x) = Refuse 7
 planFor m l held used (M.Advertise x) = Refuse 7
 planFor m l held used (M.Request x) = Refuse 7
 planFor m l held used (M.Flood x) = byEntry m l held used (x .head) (x .d) (x .validate) (x .entry)
-planFor m l held used (M.Inquire x) = inquirePlan (ownKeys (l .own)) (length (l .cpa)) (length (l .output)) (l .datagram) (x .head .id) (x .validate)
+planFor m l held used (M.Inquire x) = inquirePlan (ownKeys (l .own)) (l .cpas) (length (l .output)) (l .datagram) (x .head .id) (x .validate)
 planFor m l held used (M.Authority x) =
     authorityPlan (rows 140 used (m .waiting)) held used (l .verdict) (keyAt 0 (l .key)) (x .acked) (R.isHere (x .fields .cpa))
 planFor m l held used (M.Ack x) = ackPlan (rows 140 used (m .waiting)) held used (x .acked) (x .n)

@@ -3,9 +3,10 @@ ghost use mathlib.Core.Path.{_≡_};
 ghost use mathlib.Core.Bool.{true};
 ghost use Prim.Native.Nat.{_*_, _≤_};
 ghost use lib.ListN.{length};
-ghost use Rattle.record.specs.Record.{keyOf, recordForm};
+ghost use Rattle.own.specs.Own.{ownForm, ownKeys, ownRecords};
 ghost use Rattle.table.specs.Rows.{rows};
 ghost use Rattle.cache.specs.Form.{Form};
+ghost use Rattle.cpas.specs.Cpas.{cpasForm};
 ghost use Rattle.wire_read.specs.Answers.{readIn};
 ghost use Rattle.gauge_plan.specs.Lent.{Memory, withTables, Receive, planning};
 ghost use Rattle.gauge_plan.specs.Memory.{memoryOf};
@@ -17,7 +18,7 @@ use gauge_plan::Plan;
 // memory that is not lent.
 fn plan_message<'a>(
     own: &'a [u8],
-    cpa: &[u8],
+    cpas: &[u8],
     cache: &'a [u8],
     held: usize,
     waiting: &[u8],
@@ -29,12 +30,12 @@ fn plan_message<'a>(
     datagram: &[u8],
     output: &[u8],
 ) -> Plan
-    requires { ⌜ (recordForm (now own) ≡ true) × (length (now cpa) ≤ 1024)
-        × Form (keyOf (now own)) (now cache) (rows 100 held (now cache))
+    requires { ⌜ (ownForm (now own) ≡ true) × (cpasForm (length (ownRecords (now own))) (now cpas) ≡ true)
+        × Form (ownKeys (now own)) (now cache) (rows 100 held (now cache))
         × (140 * used ≤ length (now waiting)) × (length (now key) ≡ 32) ⌝ }
     ensures { λ r. ⌜ ((m : Memory) (l : Receive) → r
         ≡ planFor (withTables (now (cache .entry)) (now (waiting .entry)) m)
-        (planning (now (own .entry)) (now (cpa .entry)) major id verdict (now (key .entry)) (now (datagram .entry))
+        (planning (now (own .entry)) (now (cpas .entry)) major id verdict (now (key .entry)) (now (datagram .entry))
         (now (output .entry)) l) held used (readIn (now (datagram .entry)) major)) ⌝ }
 {
     let room = output.len();
@@ -74,7 +75,7 @@ fn plan_message<'a>(
                 seen.entry_length as usize,
             )
         }
-        7 => plan_answer::plan_inquire(own, cpa.len(), room, datagram, seen.id, told.validate),
+        7 => plan_answer::plan_inquire(own, cpas, room, datagram, seen.id, told.validate),
         8 => plan_answer::plan_authority(waiting, held, used, verdict, key, seen.acked, told.flag),
         9 => plan_answer::plan_ack(waiting, held, used, seen.acked, told.flag),
         11 => plan_answer::plan_lookup(
@@ -101,7 +102,7 @@ fn plan_message<'a>(
 // message made. Nothing else that it comes with counts, nor memory that is not lent.
 pub fn plan_receive<'a>(
     own: &'a [u8],
-    cpa: &[u8],
+    cpas: &[u8],
     cache: &'a [u8],
     waiting: &[u8],
     major: u8,
@@ -111,10 +112,10 @@ pub fn plan_receive<'a>(
     datagram: &[u8],
     output: &[u8],
 ) -> Plan
-    requires { ⌜ (length (now cpa) ≤ 1024) × (length (now key) ≡ 32) ⌝ }
+    requires { ⌜ (cpasForm (length (ownRecords (now own))) (now cpas) ≡ true) × (length (now key) ≡ 32) ⌝ }
     ensures { λ r. ⌜ ((m : Memory) (l : Receive) → r
         ≡ planBy (withTables (now (cache .entry)) (now (waiting .entry)) m)
-        (planning (now (own .entry)) (now (cpa .entry)) major id verdict (now (key .entry)) (now (datagram .entry))
+        (planning (now (own .entry)) (now (cpas .entry)) major id verdict (now (key .entry)) (now (datagram .entry))
         (now (output .entry)) l)
         (memoryOf (now (own .entry)) (withTables (now (cache .entry)) (now (waiting .entry)) m))) ⌝ }
 {
@@ -124,7 +125,7 @@ pub fn plan_receive<'a>(
     };
     plan_message(
         own,
-        cpa,
+        cpas,
         cache,
         held,
         waiting,

@@ -15,6 +15,8 @@ use Rattle.key.specs.Number.{keyAt}
 use Rattle.key.proofs.OrderLaws.{Stand, stand}
 use Rattle.key.proofs.OrderLaws.Stand.{below, equal, above}
 use Rattle.record.specs.Record.{keyOf, countOf, recordForm}
+use Rattle.own.specs.Own.{ownForm, ownKeys, ownRecord, ownPlace, isOwn}
+use Rattle.own.proofs.PlaceLaws.{own-in, place-key}
 use Rattle.refusal.specs.Table.{Refusal, when, firstOf, orRefuse}
 use Rattle.refusal.proofs.CallLaws.{or-known, row-applies, row-passes, no-row}
 use Rattle.table.specs.Rows.{rows, anyOf}
@@ -35,7 +37,8 @@ use Rattle.gauge_plan.specs.Lent.{Memory}
 use Rattle.gauge_plan.specs.Memory.{tablesFit, memoryOf}
 use Rattle.gauge_plan.specs.Found.{isNothing, placeOf}
 use Rattle.gauge_plan.specs.Opening.{openRows}
-use Rattle.plan_send.specs.Send.{keysFit, heldAt, recordSent, floodRoom, sendTable, sendDone, sendRefusals, sendingPlan}
+use Rattle.gauge_plan.proofs.OwnLaws.{place-within, record-room, record-formed}
+use Rattle.plan_send.specs.Send.{sentAt, keysFit, heldAt, recordSent, floodRoom, sendTable, sendDone, sendRefusals, sendingPlan}
 use Rattle.plan_send.specs.declared.SendPlan.{SendPlan}
 use Rattle.plan_send.specs.declared.SendPlan.the-variants.{Refuse, Flood}
 use Rattle.gauge_plan.specs.declared.memory.Fitness.the-variants.{Unfit, Fit}
@@ -114,7 +117,7 @@ module _ (own cache : List ℕ) (recs ps : List (List ℕ)) (used id room neighb
   unfolding orRefuse
   send-nobody e = rw e refl
 
-  module _ (to : isNothing (heldAt neighbour recs) ≡ false) {ours missing : Bool} (o : ours ≡ eqb k (keyOf own))
+  module _ (to : isNothing (heldAt neighbour recs) ≡ false) {ours missing : Bool} (o : ours ≡ isOwn (ownKeys own) k)
       (m : missing ≡ isNothing (heldAt k recs)) where
     pub send-missing : not ours && missing ≡ true → planned ≡ Refuse 12
     unfolding orRefuse
@@ -123,15 +126,15 @@ module _ (own cache : List ℕ) (recs ps : List (List ℕ)) (used id room neighb
     -- with what stands against the place to open
     module _ (some : not ours && missing ≡ false) {barred : ℕ} (eb : barred ≡ firstOf (openRows true ps used id)) where
       abbrev rest : List Refusal
-      rest = when 15 (ltb room (floodRoom (recordSent own cache ours (placeOf (heldAt k recs))))) ∷ []
+      rest = when 15 (ltb room (floodRoom (recordSent own cache ours (sentAt own recs k)))) ∷ []
 
-      send-known-to : planned ≡ orRefuse Refuse (openRows true ps used id ++ rest) (Flood used ours (placeOf (heldAt k recs)))
+      send-known-to : planned ≡ orRefuse Refuse (openRows true ps used id ++ rest) (Flood used ours (sentAt own recs k))
       send-known-to = row-passes Refuse 12 _ _ _ to ∙ rw (sym o, sym m) (row-passes Refuse 12 _ _ _ some)
 
       pub send-barred : 0 < barred → planned ≡ Refuse barred
       send-barred p = send-known-to ∙ open-refuses Refuse true ps used id rest _ eb p
 
-      module _ (clear : barred ≡ 0) {at count : ℕ} (p : at ≡ placeOf (heldAt k recs)) (n : count ≡ countOf (recordSent own cache ours at)) where
+      module _ (clear : barred ≡ 0) {at count : ℕ} (p : at ≡ sentAt own recs k) (n : count ≡ countOf (recordSent own cache ours at)) where
         send-room : planned ≡ orRefuse Refuse (when 15 (ltb room (100 + 16 * count)) ∷ []) (Flood used ours at)
         send-room = send-known-to ∙ open-passes Refuse true ps used id rest _ eb clear ∙ rw (sym p, sym n) refl
 
@@ -168,10 +171,10 @@ module _ (own : List ℕ) (m : Memory) (id : ℕ) (neighbour key : List ℕ) (ro
         (sym (send-ready .held)) (sym (send-ready .used))
 
     pub send-needs : keysFit neighbour key ≡ true
-        → (length own ≡ 100) × Form (keyOf own) (m .cache) (rows 100 h (m .cache)) × (140 * u ≤ length (m .waiting)) × (length neighbour ≡ 32) × (length key ≡ 32)
+        → (ownForm own ≡ true) × Form (ownKeys own) (m .cache) (rows 100 h (m .cache)) × (140 * u ≤ length (m .waiting)) × (length neighbour ≡ 32) × (length key ≡ 32)
     send-needs e =
         let w = both-true (eqb (length neighbour) 32) (eqb (length key) 32) e in (
-          send-ready .long,
+          send-ready .owned,
           send-ready .form,
           send-ready .laid .room,
           eqb-true (length neighbour) 32 (w .0),
@@ -188,11 +191,13 @@ formed-at (suc i) (r ∷ recs) w h = formed-at i recs (w .1) (omega arith)
 -- a FLOOD is planned: the neighbour is held, the record is ours or held and has the key given, the ID does not wait, a place is free, and there
 -- is room
 pub record Sent (own : List ℕ) (m : Memory) (id : ℕ) (neighbour key : List ℕ) (room u : ℕ) (ours : Bool) (at : ℕ) : Type 0 where
-  pub ready : Ready own m (heldIn (keyOf own) (m .cache)) u
+  pub ready : Ready own m (heldIn (ownKeys own) (m .cache)) u
   pub addressed : length neighbour ≡ 32
   pub keyed : length key ≡ 32
-  pub reached : isNothing (heldAt (keyAt 0 neighbour) (heldOf (keyOf own) (m .cache))) ≡ false
-  pub ours-is : ours ≡ eqb (keyAt 0 key) (keyOf own)
+  pub reached : isNothing (heldAt (keyAt 0 neighbour) (heldOf (ownKeys own) (m .cache))) ≡ false
+  pub ours-is : ours ≡ isOwn (ownKeys own) (keyAt 0 key)
+  pub at-is : at ≡ sentAt own (heldOf (ownKeys own) (m .cache)) (keyAt 0 key)
+  pub own-within : ours ≡ true → 100 * at + 100 ≤ length own
   pub within : ours ≡ false → 100 * at + 100 ≤ length (m .cache)
   pub formed : recordForm (recordSent own (m .cache) ours at) ≡ true
   pub key-is : keyOf (recordSent own (m .cache) ours at) ≡ keyAt 0 key
@@ -200,12 +205,26 @@ pub record Sent (own : List ℕ) (m : Memory) (id : ℕ) (neighbour key : List �
   pub free : u < 16
   pub fits-in : floodRoom (recordSent own (m .cache) ours at) ≤ room
 
+-- where it stands
+pub other-at : (own : List ℕ) (recs : List (List ℕ)) (k : ℕ) → isOwn (ownKeys own) k ≡ false → sentAt own recs k ≡ placeOf (heldAt k recs)
+other-at own recs k o = rw o refl
+
+own-at : (own : List ℕ) (recs : List (List ℕ)) (k : ℕ) → isOwn (ownKeys own) k ≡ true → sentAt own recs k ≡ ownPlace (ownKeys own) k
+own-at own recs k o = rw o refl
+
+pub own-room : (own : List ℕ) (recs : List (List ℕ)) (k : ℕ) → ownForm own ≡ true → isOwn (ownKeys own) k ≡ true → 100 * sentAt own recs k + 100 ≤ length own
+own-room own recs k owned o =
+    omega (arith, own-at own recs k o, record-room own owned (ownPlace (ownKeys own) k) (place-within own k (own-in (ownKeys own) k o)))
+
 -- the record sent is in form and has the key
-module _ (own cache : List ℕ) (k held : ℕ) (owned : recordForm own ≡ true) (form : Form (keyOf own) cache (rows 100 held cache)) where
-  sent-formed : (ours : Bool) (at : ℕ) → ours ≡ eqb k (keyOf own) → (ours ≡ false → heldAt k (rows 100 held cache) ≡ W.At at)
-      → (recordForm (recordSent own cache ours at) ≡ true) × (keyOf (recordSent own cache ours at) ≡ k)
-  sent-formed true at is found = (owned, sym (eqb-true k (keyOf own) (sym is)))
-  sent-formed false at is found =
+module _ (own cache : List ℕ) (k held : ℕ) (owned : ownForm own ≡ true) (form : Form (ownKeys own) cache (rows 100 held cache)) where
+  sent-formed : (ours : Bool) (at : ℕ) → ours ≡ isOwn (ownKeys own) k → (ours ≡ true → at ≡ ownPlace (ownKeys own) k)
+      → (ours ≡ false → heldAt k (rows 100 held cache) ≡ W.At at) → (recordForm (recordSent own cache ours at) ≡ true) × (keyOf (recordSent own cache ours at) ≡ k)
+  sent-formed true at is place found =
+      let o = own-in (ownKeys own) k (sym is) in
+      let e : ownRecord own (ownPlace (ownKeys own) k) ≡ ownRecord own at = ap (ownRecord own) (sym (place refl)) in
+      (sym (ap recordForm e) ∙ record-formed own owned (ownPlace (ownKeys own) k) (place-within own k o), sym (ap keyOf e) ∙ place-key own k o)
+  sent-formed false at is place found =
       let recs = rows 100 held cache in
       let n = found-within (hasKey k) at recs (found refl) in
       let here : getD recs at [] ≡ part (100 * at) 100 cache = row-at 100 held cache at (omega (arith, n, rows-length 100 held cache)) in (
@@ -221,26 +240,29 @@ module _ (own : List ℕ) (m : Memory) (id : ℕ) (neighbour key : List ℕ) (ro
   pub known-send : KnownSend (sendingPlan own m id neighbour key room)
   unfolding sendingPlan heldOf
   known-send =
-      let held = heldIn (keyOf own) (m .cache) in
+      let held = heldIn (ownKeys own) (m .cache) in
       let used = usedOf (m .waiting) in
       let recs = rows 100 held (m .cache) in
       let k = keyAt 0 key in
-      let ours = eqb k (keyOf own) in
-      let at = placeOf (heldAt k recs) in
+      let ours = isOwn (ownKeys own) k in
+      let at = sentAt own recs k in
       or-known KnownSend Refuse (sendRefusals own m id neighbour key room) (sendDone own recs used k)
       (λ n. tt)
       (λ f.
       let fit = ready own m (not-false (tablesFit own m) (f .0)) in
       let keys = both-true (eqb (length neighbour) 32) (eqb (length key) 32) (not-false (keysFit neighbour key) (f .1 .0)) in
       let rest = f .1 .1 .1 in
-      let sent = sent-formed own (m .cache) k held (fit .owned) (fit .form) ours at refl (sent-held k held (m .cache) refl (rest .0)) in
+      let sent = sent-formed own (m .cache) k held (fit .owned) (fit .form) ours at refl (own-at own recs k)
+      (λ o. sent-held k held (m .cache) refl (rest .0) o ∙ ap W.At (sym (other-at own recs k o))) in
       record {
         ready = fit;
         addressed = eqb-true (length neighbour) 32 (keys .0);
         keyed = eqb-true (length key) 32 (keys .1);
         reached = f .1 .1 .0;
         ours-is = refl;
-        within = λ o. sent-room k held (m .cache) refl (rest .0) o (fit .room) refl;
+        at-is = refl;
+        own-within = own-room own recs k (fit .owned);
+        within = λ o. sent-room k held (m .cache) refl (rest .0) o (fit .room) (other-at own recs k o);
         formed = sent .0;
         key-is = sent .1;
         new = rest .1 .0;

@@ -9,7 +9,7 @@ use lib.ListN.{length}
 use Rattle.octet.specs.Part.{part}
 use Rattle.key.specs.Number.{keyAt}
 use Rattle.record.specs.Record.{keyOf, countOf}
-use Rattle.own.specs.Own.{ownKeys, isOwn}
+use Rattle.own.specs.Own.{ownKeys, ownRecord, ownPlace, isOwn}
 use Rattle.refusal.specs.Table.{Refusal, when, orRefuse}
 use Rattle.cache.specs.Form.{heldOf}
 use Rattle.waiting.specs.Form.{usedOf, placesOf}
@@ -30,9 +30,13 @@ keysFit neighbour key = eqb (length neighbour) 32 && eqb (length key) 32
 abbrev pub heldAt : ℕ → List (List ℕ) → Found
 heldAt k recs = seek (λ (r : List ℕ). eqb (keyOf r) k) 0 recs
 
--- the record sent: our own, or the one at a place of the cache
+-- where the record with a key stands: among our own, or among those held
+abbrev pub sentAt : List ℕ → List (List ℕ) → ℕ → ℕ
+sentAt own recs k = cond (isOwn (ownKeys own) k) (ownPlace (ownKeys own) k) (placeOf (heldAt k recs))
+
+-- the record sent: the one at a place of our own, or of the cache
 abbrev pub recordSent : List ℕ → List ℕ → Bool → ℕ → List ℕ
-recordSent own cache ours at = cond ours own (part (100 * at) 100 cache)
+recordSent own cache ours at = cond ours (ownRecord own at) (part (100 * at) 100 cache)
 
 -- how many bytes the FLOOD of a record has
 abbrev pub floodRoom : List ℕ → ℕ
@@ -44,10 +48,10 @@ sendTable own cache recs ps used id room neighbour k =
     let ours = isOwn (ownKeys own) k in
     when 12 (isNothing (heldAt neighbour recs))
     ∷ when 12 (not ours && isNothing (heldAt k recs))
-    ∷ (openRows true ps used id ++ (when 15 (ltb room (floodRoom (recordSent own cache ours (placeOf (heldAt k recs))))) ∷ []))
+    ∷ (openRows true ps used id ++ (when 15 (ltb room (floodRoom (recordSent own cache ours (sentAt own recs k)))) ∷ []))
 
 abbrev pub sendDone : List ℕ → List (List ℕ) → ℕ → ℕ → SendPlan
-sendDone own recs used k = Flood used (isOwn (ownKeys own) k) (placeOf (heldAt k recs))
+sendDone own recs used k = Flood used (isOwn (ownKeys own) k) (sentAt own recs k)
 
 -- of all that is lent, the room of the output last
 abbrev pub sendRefusals : (own : List ℕ) (m : Memory) (id : ℕ) (neighbour key : List ℕ) (room : ℕ) → List Refusal

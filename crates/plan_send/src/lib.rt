@@ -1,10 +1,11 @@
 // What is planned for a FLOOD to send: every refusal is decided here.
 ghost use mathlib.Core.Path.{_≡_};
-ghost use mathlib.Core.Bool.{false};
+ghost use mathlib.Core.Bool.{true, false, cond};
 ghost use Prim.Native.Nat.{_+_, _*_, _≤_, _<_};
 ghost use lib.ListN.{length};
 ghost use Rattle.key.specs.Number.{keyAt};
-ghost use Rattle.record.specs.Record.{keyOf, countOf};
+ghost use Rattle.record.specs.Record.{countOf};
+ghost use Rattle.own.specs.Own.{ownForm, ownKeys, ownPlace, isOwn};
 ghost use Rattle.refusal.specs.Table.{orRefuse};
 ghost use Rattle.table.specs.Rows.{rows};
 ghost use Rattle.kept.specs.Keys.{Rising, plain};
@@ -19,7 +20,7 @@ use gauge_plan::Fitness;
 pub enum SendPlan {
     // Refused with the number.
     Refuse(u32),
-    // The FLOOD of our own record, or of the one held at a place.
+    // The FLOOD of the record at a place of our own, or of those held.
     Flood { used: usize, ours: bool, at: usize },
 }
 
@@ -55,13 +56,24 @@ fn place_of(found: table::Found) -> usize
     }
 }
 
+// Where the record sent stands: that with our key, or the one found among those held.
+fn sent_at(own: &[u8], key: &[u8], ours: bool, found: table::Found) -> usize
+    requires { ⌜ (32 ≤ length (now key)) × (ours ≡ isOwn (ownKeys (now own)) (keyAt 0 (now key))) ⌝ }
+    ensures { λ r. ⌜ r ≡ cond ours (ownPlace (ownKeys (now (own .entry))) (keyAt 0 (now (key .entry)))) (placeOf found) ⌝ }
+{
+    if ours {
+        return own::place_of(own, key, 0);
+    }
+    place_of(found)
+}
+
 // How many addresses the record sent has.
 fn count_sent(own: &[u8], cache: &[u8], ours: bool, at: usize) -> usize
-    requires { ⌜ (length (now own) ≡ 100) × (ours ≡ false → 100 * at + 100 ≤ length (now cache)) ⌝ }
+    requires { ⌜ (ours ≡ true → 100 * at + 100 ≤ length (now own)) × (ours ≡ false → 100 * at + 100 ≤ length (now cache)) ⌝ }
     ensures { λ r. ⌜ (r ≡ countOf (recordSent (now (own .entry)) (now (cache .entry)) ours at)) × (r < 256) ⌝ }
 {
     if ours {
-        return own[34] as usize;
+        return own[record::RECORD_LEN * at + 34] as usize;
     }
     cache[record::RECORD_LEN * at + 34] as usize
 }
@@ -78,7 +90,7 @@ fn plan_flood_to(
     key: &[u8],
     room: usize,
 ) -> SendPlan
-    requires { ⌜ (length (now own) ≡ 100) × Form (keyOf (now own)) (now cache) (rows 100 held (now cache))
+    requires { ⌜ (ownForm (now own) ≡ true) × Form (ownKeys (now own)) (now cache) (rows 100 held (now cache))
         × (140 * used ≤ length (now waiting)) × (length (now neighbour) ≡ 32) × (length (now key) ≡ 32) ⌝ }
     ensures { λ r. ⌜ r ≡ orRefuse P.Refuse (sendTable (now (own .entry)) (now (cache .entry))
         (rows 100 held (now (cache .entry))) (rows 140 used (now (waiting .entry))) used id room
@@ -99,7 +111,7 @@ fn plan_flood_to(
     if barred != 0 {
         return SendPlan::Refuse(barred);
     }
-    let at = place_of(found);
+    let at = sent_at(own, key, ours, found);
     let count = count_sent(own, cache, ours, at);
     if room < 100 + 16 * count {
         return SendPlan::Refuse(refusal::ROOM);

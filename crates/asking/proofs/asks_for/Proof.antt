@@ -4,13 +4,12 @@ use mathlib.Core.Bool.{true}
 use mathlib.Core.List.{List}
 use Prim.Native.Nat.{ℕ, _<_}
 use native.Mathlib.Omega.{arith}
-use lib.Dec.{eqb}
 use lib.ListN.{length}
-use borrow.Author.Needs.{needs}
 use Rattle.octet.specs.Part.{part}
 use Rattle.octet.proofs.PartLaws.{length-part}
 use Rattle.record.specs.Record.{keyOf}
 use Rattle.record.specs.Entry.{entryForm, recordOf}
+use Rattle.own.specs.Own.{ownKeys, isOwn}
 use Rattle.table.specs.Rows.{rows}
 use Rattle.asking.proofs.AskingLaws.{entry-room, key-in, asks-none, asks-own, asks-other}
 use Rattle.asking.proofs.asks_for.Statement.{statement}
@@ -34,26 +33,26 @@ module _ (c : tie.Else1) where
   there : ¬ (length (entry s) ≡ 0)
   there e = c .if1 .left (sym (long s) ∙ e)
 
-own-key : (c : tie.After-is-own) → eqb (keyOf (recordOf (entry (s (c .before))))) (keyOf (s (c .before) .args .own .now)) ≡ c .is-own .result
+own-key : (c : tie.After-is-own) → isOwn (ownKeys (s (c .before) .args .own .now)) (keyOf (recordOf (entry (s (c .before))))) ≡ c .is-own .result
 own-key c =
     let e = c .before in
     let a = s e .args in
-    ap (λ (k : ℕ). eqb k (keyOf (a .own .now))) (key-in (a .start) (a .len) (a .d .now) (s e .pre .3) (formed e)) ∙ sym (c .is-own .ensures)
+    ap (isOwn (ownKeys (a .own .now))) (key-in (a .start) (a .len) (a .d .now) (s e .pre .3) (formed e)) ∙ sym (c .is-own .ensures)
 
 returns : tie.Need-returns
 returns c =
     let s = c .before .before .before .before .before in
     let a = s .args in
-    sym (asks-none (keyOf (a .own .now)) (rows 100 (a .held) (a .cache .now)) (rows 140 (a .used) (a .waiting .now)) (entry s) (long s ∙ c .if1 .taken))
+    sym (asks-none (ownKeys (a .own .now)) (rows 100 (a .held) (a .cache .now)) (rows 140 (a .used) (a .waiting .now)) (entry s) (long s ∙ c .if1 .taken))
 
 is-own-requires : tie.Need-is-own-requires
-is-own-requires c κs = let a = s c .args in (s c .pre .0, entry-room (a .start) (a .len) (a .d .now) (s c .pre .3) (formed c))
+is-own-requires c κs = let a = s c .args in entry-room (a .start) (a .len) (a .d .now) (s c .pre .3) (formed c)
 
 returns-2 : tie.Need-returns-2
 returns-2 c =
     let e = c .before .before in
     let a = s e .args in
-    sym (asks-own (keyOf (a .own .now)) (rows 100 (a .held) (a .cache .now)) (rows 140 (a .used) (a .waiting .now)) (entry (s e)) (there e)
+    sym (asks-own (ownKeys (a .own .now)) (rows 100 (a .held) (a .cache .now)) (rows 140 (a .used) (a .waiting .now)) (entry (s e)) (there e)
     (own-key (c .before) ∙ c .if2 .taken))
 
 must-ask-requires : tie.Need-must-ask-requires
@@ -65,7 +64,7 @@ returns-3 c =
     let e = o .before .before in
     let a = s e .args in
     c .must-ask .ensures
-    ∙ sym (asks-other (keyOf (a .own .now)) (rows 100 (a .held) (a .cache .now)) (rows 140 (a .used) (a .waiting .now)) (entry (s e)) (there e)
+    ∙ sym (asks-other (ownKeys (a .own .now)) (rows 100 (a .held) (a .cache .now)) (rows 140 (a .used) (a .waiting .now)) (entry (s e)) (there e)
     (own-key (o .before) ∙ o .if2 .left))
 
 pub asks-for-spec : {M : Type 1} → statement M

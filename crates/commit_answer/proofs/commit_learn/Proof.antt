@@ -1,10 +1,11 @@
 -- `commit_learn` meets its contract: what is lent of the table is the place's record; then the place is freed. Assumes nothing.
 use native.Mathlib.Omega.{arith}
-use mathlib.Core.Path.{sym, ap, _∙_}
+use mathlib.Core.Path.{ap, subst, _∙_}
 use mathlib.Core.List.{List}
 use lib.ListN.{length}
 use Prim.Native.Nat.{ℕ}
 use Rattle.record.specs.Record.{keyOf, recordForm}
+use Rattle.own.specs.Own.{ownKeys, IsOwn}
 use Rattle.table.specs.Rows.{rows, bytesOf}
 use Rattle.cache.specs.Bytes.{afterLearn}
 use Rattle.gauge_commit.proofs.PlaceLaws.{record-lent, record-place, record-key}
@@ -36,10 +37,10 @@ learn-requires c κs =
     let a = s .args in
     let p = s .pre in
     let lent = record-lent (a .used) (a .waiting .now) (a .at) in (
-      (omega arith, ap recordForm lent ∙ p .6),
+      (p .0, ap recordForm lent ∙ p .6),
       (
         p .1,
-        λ e. p .7 (sym (ap keyOf lent ∙ record-key (a .used) (a .waiting .now) (a .at)) ∙ e),
+        λ o. p .7 (subst (IsOwn (ownKeys (a .own .now))) (ap keyOf lent ∙ record-key (a .used) (a .waiting .now) (a .at)) o),
       ),
     )
 
@@ -59,7 +60,7 @@ returns c =
     let a = s .args in
     let m = a .cache .now in (
       at-learn .learn .ensures .0
-          ∙ ap (λ (r : List ℕ). bytesOf (length m) (afterLearn (keyOf (a .own .now)) (length m) (rows 100 (a .held) m) r))
+          ∙ ap (λ (r : List ℕ). bytesOf (length m) (afterLearn (ownKeys (a .own .now)) (length m) (rows 100 (a .held) m) r))
           (record-lent (a .used) (a .waiting .now) (a .at) ∙ record-place (a .used) (a .waiting .now) (a .at) (s .pre .5)),
       c .before .before .free .ensures,
     )

@@ -8,8 +8,9 @@ use mathlib.Core.List.{List}
 use borrow.Author.Tests.{not-true, not-false}
 use Rattle.octet.specs.Part.{part}
 use Rattle.key.specs.Number.{keyAt}
-use Rattle.record.specs.Record.{countOf, keyOf, recordForm}
+use Rattle.record.specs.Record.{countOf, recordForm}
 use Rattle.record.specs.Entry.{recordOf}
+use Rattle.own.specs.Own.{ownKeys}
 use Rattle.table.specs.Rows.{rows}
 use Rattle.neighbours.specs.Closest.{offPath, closestPast}
 use Rattle.neighbours.proofs.ClosestLaws.{closest-formed}
@@ -43,8 +44,8 @@ module _ (c : tie.After-send-closest) where
   formed : recordForm nearest ≡ true
   formed =
       let a = s .args in
-      closest-formed (keyAt (a .target) (a .d .now)) (keyOf (a .own .now)) (a .own .now) (offPath path recs) (s .pre .1 .0)
-      (off-held path (keyOf (a .own .now)) recs (s .pre .1 .1 .held))
+      closest-formed (keyAt (a .target) (a .d .now)) (ownKeys (a .own .now)) (a .own .now) (offPath path recs) (s .pre .1 .0)
+      (off-held path (ownKeys (a .own .now)) recs (s .pre .1 .1 .held))
 
   size : length shown ≡ 80 + 16 * countOf nearest
   size = let a = s .args in shown-closest (a .major) (a .minor) (a .id) (a .acked) nearest formed

@@ -7,8 +7,8 @@ use mathlib.Core.List.{List}
 use denote.Ref.{now}
 use Rattle.octet.specs.Part.{part}
 use Rattle.key.specs.Number.{keyAt}
-use Rattle.record.specs.Record.{keyOf, recordForm}
-use Rattle.record.proofs.EntryLaws.{form-length}
+use Rattle.record.specs.Record.{recordForm}
+use Rattle.own.specs.Own.{ownKeys}
 use Rattle.table.specs.Rows.{rows}
 use Rattle.table.proofs.PieceLaws.{part-lent}
 use Rattle.neighbours.specs.Closest.{offPath, closestPast}
@@ -44,8 +44,8 @@ module _ (c : tie.After-closest) where
   formed : recordForm nearest ≡ true
   formed =
       let a = s .args in
-      closest-formed (keyAt (a .target) (a .d .now)) (keyOf (a .own .now)) (a .own .now) (offPath path recs) (s .pre .0)
-      (off-held path (keyOf (a .own .now)) recs (s .pre .1 .held))
+      closest-formed (keyAt (a .target) (a .d .now)) (ownKeys (a .own .now)) (a .own .now) (offPath path recs) (s .pre .0)
+      (off-held path (ownKeys (a .own .now)) recs (s .pre .1 .held))
 
 add-end : tie.Need-add-end
 add-end c = search needs
@@ -76,7 +76,7 @@ closest-requires c κs =
     let s = c .before .before .before .before .before .before in
     let a = s .args in
     let p = s .pre in
-    ((omega (arith, form-length (a .own .now) (p .0)), omega (arith, target-long (a .target) (a .d .now) (p .2))), p .1)
+    ((p .0, omega (arith, target-long (a .target) (a .d .now) (p .2))), p .1)
 
 write-closest-requires : tie.Need-write-closest-requires
 write-closest-requires c κs = search needs

@@ -8,7 +8,7 @@ use Rattle.record.specs.Record.{recordForm}
 use Rattle.wire_write.specs.Making.{floodMade}
 use Rattle.plan_send.specs.Send.{recordSent, floodRoom}
 use Rattle.gauge_commit.specs.Sending.{lengths, sending}
-use Rattle.gauge_commit.proofs.SentLaws.{ours-long, ours-sent, held-sent}
+use Rattle.gauge_commit.proofs.SentLaws.{ours-sent, held-sent}
 use borrow.Author.Needs.{needs}
 use Rattle.commit_send.proofs.commit_send.Statement.{statement}
 use Rattle.commit_send.proofs.commit_send.Tie as tie
@@ -20,29 +20,31 @@ start o = o .before .before .before .before .before .before .before
 abbrev sent : tie.Start → List ℕ
 sent s = let a = s .args in recordSent (a .own .now) (a .cache .now) (a .ours) (a .at)
 
-ours-is : (c : tie.Then1) → (let s = start (c .before .before .before) in part 0 100 (s .args .own .now) ≡ sent s)
+ours-is : (c : tie.Then1) → (let s = start (c .before .before .before) in part (100 * s .args .at) 100 (s .args .own .now) ≡ sent s)
 ours-is c =
     let s = start (c .before .before .before) in
     let a = s .args in
-    ours-sent (a .own .now) (a .cache .now) (a .ours) (a .at) (s .pre .5) (c .if1 .taken)
+    ours-sent (a .own .now) (a .cache .now) (a .ours) (a .at) (c .if1 .taken)
 
 held-is : (c : tie.Else1) → (let s = start (c .before .before .before) in part (100 * s .args .at) 100 (s .args .cache .now) ≡ sent s)
 held-is c =
     let s = start (c .before .before .before) in
     let a = s .args in
-    held-sent (a .own .now) (a .cache .now) (a .ours) (a .at) (s .pre .5) (c .if1 .left)
+    held-sent (a .own .now) (a .cache .now) (a .ours) (a .at) (c .if1 .left)
 
 open-flood-requires : tie.Need-open-flood-requires
 open-flood-requires c κs = search needs
 
+mul-send-flood : tie.Need-mul-send-flood
+mul-send-flood c =
+    let i = c .before in
+    omega (arith, start (i .before .before .before) .pre .4 (i .if1 .taken))
+
 send-flood-requires : tie.Need-send-flood-requires
 send-flood-requires c κs =
     let i = c .before in
-    let s = start (i .before .before .before) in
-    let a = s .args in
-    let p = s .pre in
-    let long = ours-long (a .own .now) (a .cache .now) (a .ours) (a .at) (p .5) (i .if1 .taken) in
-    (p .3, omega arith, ap recordForm (ours-is i) ∙ p .5, omega (arith, ap floodRoom (ours-is i), p .6))
+    let p = start (i .before .before .before) .pre in
+    (p .3, p .4 (i .if1 .taken), ap recordForm (ours-is i) ∙ p .6, omega (arith, ap floodRoom (ours-is i), p .7))
 
 same-length : tie.Need-same-length
 same-length c = search needs
@@ -61,16 +63,16 @@ returns c =
       (o .open-flood .ensures, f .send-flood .ensures .1 ∙ ap (λ (r : List ℕ). sending (made r) (a .output .now)) (ours-is i)),
     )
 
-mul-send-flood : tie.Need-mul-send-flood
-mul-send-flood c =
+mul-send-flood-2 : tie.Need-mul-send-flood-2
+mul-send-flood-2 c =
     let i = c .before in
-    omega (arith, start (i .before .before .before) .pre .4 (i .if1 .left))
+    omega (arith, start (i .before .before .before) .pre .5 (i .if1 .left))
 
 send-flood-requires-2 : tie.Need-send-flood-requires-2
 send-flood-requires-2 c κs =
     let i = c .before in
     let p = start (i .before .before .before) .pre in
-    (p .3, p .4 (i .if1 .left), ap recordForm (held-is i) ∙ p .5, omega (arith, ap floodRoom (held-is i), p .6))
+    (p .3, p .5 (i .if1 .left), ap recordForm (held-is i) ∙ p .6, omega (arith, ap floodRoom (held-is i), p .7))
 
 same-length-3 : tie.Need-same-length-3
 same-length-3 c = search needs
@@ -94,11 +96,12 @@ commit-send-spec =
     tie.close
     (tie.spec
     open-flood-requires
+    mul-send-flood
     send-flood-requires
     same-length
     same-length-2
     returns
-    mul-send-flood
+    mul-send-flood-2
     send-flood-requires-2
     same-length-3
     same-length-4

@@ -1,12 +1,14 @@
 -- `gauge_closest` meets its contract: what the search answers, with its place in 32 bits. Assumes nothing.
 use mathlib.Core.Path.{_≡_, sym, ap, ap₂, _∙_, subst}
 use mathlib.Core.Bool.{true}
-use Prim.Native.Nat.{ℕ, _+_, _≤_, _<_}
+use Prim.Native.Nat.{ℕ, _+_, _/_, _≤_, _<_}
 use native.Mathlib.Omega.{arith}
 use lib.ListN.{length}
 use borrow.Author.Tests.{not-false}
 use borrow.Author.Needs.{needs}
-use Rattle.record.specs.Record.{keyOf}
+use Rattle.own.specs.Own.{ownKeys}
+use Rattle.own.proofs.FormLaws.{own-formed}
+use Rattle.table.proofs.RowLaws.{rows-length}
 use Rattle.cache.proofs.FormLaws.{true-form}
 use Rattle.neighbours.specs.Calls.{Shown, shownBy, Inside, closestCall}
 use Rattle.neighbours.specs.declared.nearest.Nearest.{Nearest}
@@ -37,16 +39,28 @@ counted c =
     let a = start c .args in
     omega (arith, c .closest-record .ensures .1 .1, closest-few (a .own .now) (a .cache .now) (a .path .now) (a .target .now) .1)
 
--- a place of the cache is one of 256
-few : (c : tie.After-known-told2) → c .before .nearest2 .given .0 .0 < 256
-few c =
+-- a place of our own is one of four
+few-own : (c : tie.After-known-told2) → c .before .nearest2 .given .0 .0 < 4
+few-own c =
     let r = c .before .before .before in
     let a = start r .args in
     let e = c .before .nearest2 .given .1 in
     let inside = subst (Inside (a .own .now) (a .cache .now)) e (r .closest-record .ensures .1 .0) in
     let accepted = ap (λ (h : Shown). h .number) (sym (r .closest-record .ensures .0) ∙ ap (shownBy (a .own .now) (a .cache .now)) e) in
     let passes = closest-passes (a .own .now) (a .cache .now) (a .path .now) (a .target .now) accepted in
-    let most = true-form (keyOf (a .own .now)) (a .cache .now) (not-false _ (passes .1 .0)) .places .most in
+    let most = own-formed (a .own .now) (not-false _ (passes .0)) .most in
+    omega (arith, inside, most, rows-length 100 (length (a .own .now) / 100) (a .own .now))
+
+-- a place of the cache is one of 256
+few : (c : tie.After-known-told3) → c .before .nearest3 .given .0 .0 < 256
+few c =
+    let r = c .before .before .before in
+    let a = start r .args in
+    let e = c .before .nearest3 .given .1 in
+    let inside = subst (Inside (a .own .now) (a .cache .now)) e (r .closest-record .ensures .1 .0) in
+    let accepted = ap (λ (h : Shown). h .number) (sym (r .closest-record .ensures .0) ∙ ap (shownBy (a .own .now) (a .cache .now)) e) in
+    let passes = closest-passes (a .own .now) (a .cache .now) (a .path .now) (a .target .now) accepted in
+    let most = true-form (ownKeys (a .own .now)) (a .cache .now) (not-false _ (passes .1 .0)) .places .most in
     omega (arith, inside .1, most)
 
 closest-record-requires : tie.Need-closest-record-requires
@@ -58,14 +72,14 @@ enum-known-nearest c = search needs
 answer-of-requires : tie.Need-answer-of-requires
 answer-of-requires c κs = search needs
 
-enum-told : tie.Need-enum-told
-enum-told c = search needs
-
-answer-of-requires-2 : tie.Need-answer-of-requires-2
-answer-of-requires-2 c κs = (omega arith, omega (arith, counted (c .before .before)))
-
 enum-known-nearest-2 : tie.Need-enum-known-nearest-2
 enum-known-nearest-2 c = search needs
+
+answer-of-requires-2 : tie.Need-answer-of-requires-2
+answer-of-requires-2 c κs = (omega (arith, few-own c), omega (arith, counted (c .before .before .before)))
+
+enum-known-nearest-3 : tie.Need-enum-known-nearest-3
+enum-known-nearest-3 c = search needs
 
 add-answer-of : tie.Need-add-answer-of
 add-answer-of c = omega (arith, few c)
@@ -77,10 +91,10 @@ returns : tie.Need-returns
 returns c = c .answer-of .ensures ∙ found (c .before .before .before .before) (c .before .before .nearest .given .1)
 
 returns-2 : tie.Need-returns-2
-returns-2 c = c .answer-of2 .ensures ∙ found (c .before .before .before) (c .before .enum-told .given .1)
+returns-2 c = c .answer-of2 .ensures ∙ found (c .before .before .before .before) (c .before .before .nearest2 .given .1)
 
 returns-3 : tie.Need-returns-3
-returns-3 c = c .answer-of3 .ensures ∙ found (c .before .before .before .before) (c .before .before .nearest2 .given .1)
+returns-3 c = c .answer-of3 .ensures ∙ found (c .before .before .before .before) (c .before .before .nearest3 .given .1)
 
 pub gauge-closest-spec : {M : Type 1} → statement M
 gauge-closest-spec =
@@ -89,9 +103,9 @@ gauge-closest-spec =
     closest-record-requires
     enum-known-nearest
     answer-of-requires
-    enum-told
-    answer-of-requires-2
     enum-known-nearest-2
+    answer-of-requires-2
+    enum-known-nearest-3
     add-answer-of
     answer-of-requires-3
     returns

@@ -16,8 +16,8 @@ neighbour-list-requires c κs = search needs
 answer-of-requires : tie.Need-answer-of-requires
 answer-of-requires c κs =
     let l = c .before .before in
-    let a = l .before .before .before .before .before .args in
-    let few = list-few (a .own .now) (a .cache .now) (a .output .now) in
+    let a = l .before .before .before .before .before .before .args in
+    let few = list-few (a .own .now) (a .cache .now) (a .key .now) (a .output .now) in
     let e = l .neighbour-list .ensures in
     (omega (arith, ap (λ (w : Written). w .answer .below) e, few .0), omega (arith, ap (λ (w : Written). w .answer .above) e, few .1))
 
@@ -28,7 +28,7 @@ returns : tie.Need-returns
 unfolding gaugeList
 returns c o =
     let l = c .before .before .before in
-    let m = withCache (l .before .before .before .before .before .args .cache .now) o in
+    let m = withCache (l .before .before .before .before .before .before .args .cache .now) o in
     rw (c .answer-of .ensures) (ap (listAnswered m) (l .neighbour-list .ensures))
 
 pub gauge-neighbours-spec : {M : Type 1} → statement M

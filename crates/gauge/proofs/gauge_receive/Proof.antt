@@ -21,7 +21,7 @@ memory-of s = memory (s .args .cache .now) (s .args .waiting .now)
 abbrev lent-of : tie.Start → Receive
 lent-of s =
     let a = s .args in
-    receive (a .own .now) (a .cpa .now) (a .major) (a .minor) (a .id) (a .nonce .now) (a .verdict) (a .key .now) (a .datagram .now) (a .output .now)
+    receive (a .own .now) (a .cpas .now) (a .major) (a .minor) (a .id) (a .nonce .now) (a .verdict) (a .key .now) (a .datagram .now) (a .output .now)
 
 -- behind the test of what is handed in
 abbrev tested : tie.Else1 → tie.Start
@@ -116,7 +116,8 @@ commit-cpa-requires : tie.Need-commit-cpa-requires
 commit-cpa-requires c κs =
     let k = c .before .before in
     let m = k .before .before in
-    cpa-needs (memory-at m) (lent-at m) (planned m (k .plan6 .given .1))
+    let p = planned m (k .plan6 .given .1) in
+    cpa-needs (memory-at m) (lent-at m) p
 
 enum-known-plan-7 : tie.Need-enum-known-plan-7
 enum-known-plan-7 c = search needs

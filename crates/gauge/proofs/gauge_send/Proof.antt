@@ -43,7 +43,7 @@ commit-send-requires c κs =
     let k = c .before .before .before in
     let m = k .before .before in
     let w = send-needs (memory-at m (empty 0)) (lent-at m) (planned m (k .plan2 .given .1) (empty 0)) in
-    (w .0, w .1, w .2, omega (arith, w .3, w .7), w .4, w .5, w .6)
+    (w .0, w .1, w .2, omega (arith, w .3, w .8), w .4, w .5, w .6, w .7)
 
 same-length : tie.Need-same-length
 same-length c = search needs

@@ -10,9 +10,9 @@ use borrow.Author.Needs.{needs}
 use borrow.Author.Tests.{lt-ltb, le-ltb}
 use Rattle.octet.specs.Part.{part}
 use Rattle.key.specs.Number.{keyAt}
-use Rattle.record.specs.Record.{keyOf, countOf}
-use Rattle.record.proofs.EntryLaws.{form-length, one-address}
-use Rattle.own.specs.Own.{ownRecords}
+use Rattle.record.specs.Record.{countOf}
+use Rattle.record.proofs.EntryLaws.{one-address}
+use Rattle.own.specs.Own.{ownKeys, ownRecords}
 use Rattle.refusal.specs.Table.{when, orRefuse, firstOf}
 use Rattle.refusal.proofs.CallLaws.{row-applies, row-passes, no-row}
 use Rattle.table.specs.Rows.{rows}
@@ -67,8 +67,8 @@ module _ (h : tie.After-open-refusal) where
       let a = s .args in
       let path = part (a .path) (a .size) (a .d .now) in
       one-address nearest
-      (closest-formed (keyAt (a .target) (a .d .now)) (keyOf (a .own .now)) (a .own .now) (offPath path recs) (s .pre .0)
-      (off-held path (keyOf (a .own .now)) recs (s .pre .1 .held)))
+      (closest-formed (keyAt (a .target) (a .d .now)) (ownKeys (a .own .now)) (a .own .now) (offPath path recs) (s .pre .0)
+      (off-held path (ownKeys (a .own .now)) recs (s .pre .1 .held)))
 
 abbrev at-open : tie.After-inquire-room → tie.After-open-refusal
 at-open c = c .before .before
@@ -93,8 +93,8 @@ asks-for-requires : tie.Need-asks-for-requires
 asks-for-requires c κs =
     let s = c .before .before .before .before in
     let a = s .args in
-    let laid = form-laid (keyOf (a .own .now)) (a .held) (a .cache .now) (s .pre .1) in
-    (omega (arith, form-length (a .own .now) (s .pre .0)), laid .room, s .pre .2, s .pre .5, s .pre .6, s .pre .1 .held .rising)
+    let laid = form-laid (ownKeys (a .own .now)) (a .held) (a .cache .now) (s .pre .1) in
+    (s .pre .0, laid .room, s .pre .2, s .pre .5, s .pre .6, s .pre .1 .held .rising)
 
 id-after-requires : tie.Need-id-after-requires
 id-after-requires c κs = search needs

@@ -4,12 +4,13 @@ use mathlib.Core.Bool.{Bool, false}
 use mathlib.Core.List.{[], _∷_}
 use Prim.Native.Nat.{ℕ, _+_}
 use native.Mathlib.Omega.{arith}
-use lib.Dec.{eqb, ltb}
+use lib.Dec.{ltb}
 use borrow.Author.Needs.{needs}
 use borrow.Author.Tests.{lt-ltb, le-ltb}
 use Rattle.octet.specs.Part.{part}
 use Rattle.record.specs.Record.{keyOf}
 use Rattle.record.specs.Entry.{recordOf}
+use Rattle.own.specs.Own.{ownKeys, isOwn}
 use Rattle.refusal.specs.Table.{when, firstOf, orRefuse}
 use Rattle.refusal.proofs.CallLaws.{row-applies, row-passes, no-row}
 use Rattle.table.specs.Rows.{rows}
@@ -28,12 +29,12 @@ use Rattle.plan_flood.proofs.plan_flood.Tie as tie
 
 -- whether the entry names the own key
 own-key : (c : tie.After-is-own)
-    → (let a = c .before .before .before .before .before .args in eqb (keyOf (recordOf (part (a .start) (a .len) (a .d .now)))) (keyOf (a .own .now)))
+    → (let a = c .before .before .before .before .before .args in isOwn (ownKeys (a .own .now)) (keyOf (recordOf (part (a .start) (a .len) (a .d .now)))))
     ≡ c .is-own .result
 own-key c =
     let s = c .before .before .before .before .before in
     let a = s .args in
-    ap (λ (k : ℕ). eqb k (keyOf (a .own .now))) (key-in (a .start) (a .len) (a .d .now) (s .pre .4) (s .pre .5)) ∙ sym (c .is-own .ensures)
+    ap (isOwn (ownKeys (a .own .now))) (key-in (a .start) (a .len) (a .d .now) (s .pre .4) (s .pre .5)) ∙ sym (c .is-own .ensures)
 
 -- what the code asks once it does not: N, whether an inquiry opens, and what stands against its place
 abbrev start : tie.After-open-refusal → tie.Start
@@ -48,11 +49,11 @@ opens c = c .before .before .must-ask .result
 abbrev plan : tie.After-open-refusal → Plan
 plan c =
     let a = start c .args in
-    floodPlan (keyOf (a .own .now)) (rows 100 (a .held) (a .cache .now)) (rows 140 (a .used) (a .waiting .now)) (a .used) (a .id) (a .room) (a .d .now)
+    floodPlan (ownKeys (a .own .now)) (rows 100 (a .held) (a .cache .now)) (rows 140 (a .used) (a .waiting .now)) (a .used) (a .id) (a .room) (a .d .now)
     (a .silent) (a .acked) (a .validate) (a .start) (a .len)
 
 other-key : (c : tie.After-open-refusal)
-    → (let a = start c .args in eqb (keyOf (recordOf (part (a .start) (a .len) (a .d .now)))) (keyOf (a .own .now))) ≡ false
+    → (let a = start c .args in isOwn (ownKeys (a .own .now)) (keyOf (recordOf (part (a .start) (a .len) (a .d .now))))) ≡ false
 other-key c = let e = c .before .before .before .before in own-key (e .before) ∙ e .if1 .left
 
 stands-against : (c : tie.After-open-refusal)
@@ -67,12 +68,12 @@ is-own-requires : tie.Need-is-own-requires
 is-own-requires c κs =
     let s = c .before .before .before .before in
     let a = s .args in
-    (s .pre .0, entry-room (a .start) (a .len) (a .d .now) (s .pre .4) (s .pre .5))
+    entry-room (a .start) (a .len) (a .d .now) (s .pre .4) (s .pre .5)
 
 returns : tie.Need-returns
 returns c =
     let a = c .before .before .before .before .before .before .args in
-    sym (flood-own (keyOf (a .own .now)) (rows 100 (a .held) (a .cache .now)) (rows 140 (a .used) (a .waiting .now)) (a .used)
+    sym (flood-own (ownKeys (a .own .now)) (rows 100 (a .held) (a .cache .now)) (rows 140 (a .used) (a .waiting .now)) (a .used)
     (a .id) (a .room) (a .d .now) (a .silent) (a .acked) (a .validate) (a .start) (a .len) (own-key (c .before) ∙ c .if1 .taken))
 
 not-ours-requires : tie.Need-not-ours-requires
@@ -83,7 +84,7 @@ must-ask-requires : tie.Need-must-ask-requires
 must-ask-requires c κs =
     let s = c .before .before .before .before .before .before .before in
     let a = s .args in
-    let laid = form-laid (keyOf (a .own .now)) (a .held) (a .cache .now) (s .pre .1) in
+    let laid = form-laid (ownKeys (a .own .now)) (a .held) (a .cache .now) (s .pre .1) in
     (laid .room, s .pre .2, s .pre .4, s .pre .5, s .pre .1 .held .rising)
 
 id-after-requires : tie.Need-id-after-requires
@@ -96,7 +97,7 @@ returns-2 : tie.Need-returns-2
 returns-2 c =
     let h = c .before in
     let a = start h .args in
-    sym (flood-barred (keyOf (a .own .now)) (rows 100 (a .held) (a .cache .now)) (rows 140 (a .used) (a .waiting .now)) (a .used) (a .id) (a .room)
+    sym (flood-barred (ownKeys (a .own .now)) (rows 100 (a .held) (a .cache .now)) (rows 140 (a .used) (a .waiting .now)) (a .used) (a .id) (a .room)
     (a .d .now) (a .silent) (a .acked) (a .validate) (a .start) (a .len) (other-key h) (h .before .before .before .not-ours .ensures)
     (h .before .before .must-ask .ensures) (stands-against h) (omega (arith, c .if2 .taken)))
 
@@ -122,7 +123,7 @@ by-room : (c : tie.After-inquire-room)
 by-room c =
     let h = c .before .before .before in
     let a = start h .args in
-    flood-by (keyOf (a .own .now)) (rows 100 (a .held) (a .cache .now)) (rows 140 (a .used) (a .waiting .now)) (a .used) (a .id) (a .room)
+    flood-by (ownKeys (a .own .now)) (rows 100 (a .held) (a .cache .now)) (rows 140 (a .used) (a .waiting .now)) (a .used) (a .id) (a .room)
     (a .d .now) (a .silent) (a .acked) (a .validate) (a .start) (a .len) (other-key h) (h .before .before .before .not-ours .ensures)
     (h .before .before .must-ask .ensures) (stands-against h) (c .before .before .if2 .left)
 

@@ -6,7 +6,6 @@ use native.Mathlib.Omega.{arith}
 use lib.ListN.{length}
 use Rattle.octet.specs.Part.{part}
 use Rattle.record.specs.Entry.{entryForm}
-use Rattle.record.proofs.EntryLaws.{form-length}
 use Rattle.wire_read.specs.Answers as R
 use Rattle.wire_read.specs.declared.Incoming as T
 use Rattle.look.specs.Seen.{briefOf}
@@ -29,11 +28,7 @@ memory-at s o = withTables (s .args .cache .now) (s .args .waiting .now) o
 abbrev lent-at : tie.Start → Receive → Receive
 lent-at s l =
     let a = s .args in
-    planning (a .own .now) (a .cpa .now) (a .major) (a .id) (a .verdict) (a .key .now) (a .datagram .now) (a .output .now) l
-
--- what memory in form is known by
-long : (s : tie.Start) → length (s .args .own .now) ≡ 100
-long s = form-length (s .args .own .now) (s .pre .0)
+    planning (a .own .now) (a .cpas .now) (a .major) (a .id) (a .verdict) (a .key .now) (a .datagram .now) (a .output .now) l
 
 -- what holds of every answer and what is told of it holds here
 by : (m : tie.After-brief-at) (P : T.Incoming → Brief → Type 0) → ((a : T.Incoming) → P a (briefOf a))
@@ -50,7 +45,7 @@ plan-revoke-requires c κs =
     let m = c .before .before .before .before in
     let s = start m in
     let d = s .args .datagram .now in
-    (omega (arith, long s), omega (arith, s .pre .4), by m (KnownFlood d) (known-flood d) (known-answer d (s .args .major)) (c .before .before .match .keys2))
+    (s .pre .0, omega (arith, s .pre .4), by m (KnownFlood d) (known-flood d) (known-answer d (s .args .major)) (c .before .before .match .keys2))
 
 returns : tie.Need-returns
 returns c o l =
@@ -72,14 +67,14 @@ plan-flood-requires c κs =
     let d = s .args .datagram .now in
     let k = c .before .before .before .before .match .keys2 in
     let e = by m (KnownEntry d) (known-entry d) (known-answer d (s .args .major)) k (c .before .before .if1 .left) in
-    (omega (arith, long s), s .pre .2, s .pre .3, by m (KnownFlood d) (known-flood d) (known-answer d (s .args .major)) k, e .0, e .1)
+    (s .pre .0, s .pre .2, s .pre .3, by m (KnownFlood d) (known-flood d) (known-answer d (s .args .major)) k, e .0, e .1)
 
 plan-inquire-requires : tie.Need-plan-inquire-requires
 plan-inquire-requires c κs =
     let m = c .before .before in
     let s = start m in
     let d = s .args .datagram .now in
-    (omega (arith, long s), by m (KnownInquire d) (known-inquire d) (known-answer d (s .args .major)) (c .match .keys3), s .pre .1)
+    (s .pre .0, s .pre .1, by m (KnownInquire d) (known-inquire d) (known-answer d (s .args .major)) (c .match .keys3))
 
 plan-authority-requires : tie.Need-plan-authority-requires
 plan-authority-requires c κs = search needs

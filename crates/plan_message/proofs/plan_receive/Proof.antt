@@ -19,7 +19,7 @@ memory-at s o = withTables (s .args .cache .now) (s .args .waiting .now) o
 abbrev lent-at : tie.Start → Receive → Receive
 lent-at s l =
     let a = s .args in
-    planning (a .own .now) (a .cpa .now) (a .major) (a .id) (a .verdict) (a .key .now) (a .datagram .now) (a .output .now) l
+    planning (a .own .now) (a .cpas .now) (a .major) (a .id) (a .verdict) (a .key .now) (a .datagram .now) (a .output .now) l
 
 surveyed : (m : tie.After-survey) {r : Fitness} → m .survey .result ≡ r → (o : Memory)
     → memoryOf (start m .args .own .now) (memory-at (start m) o) ≡ r

@@ -1,21 +1,23 @@
 -- `plan_send::plan_flood_to` meets its contract: row by row, each test is the code's. Assumes nothing.
-use mathlib.Core.Path.{_≡_, sym, ap, _∙_}
+use mathlib.Core.Path.{_≡_, sym, ap, ap₂, _∙_}
+use mathlib.Core.Bool.{Bool, cond}
 use mathlib.Core.List.{List}
 use Prim.Native.Nat.{ℕ}
 use native.Mathlib.Omega.{arith}
 use borrow.Author.Needs.{needs}
 use Rattle.key.specs.Number.{keyAt}
-use Rattle.record.specs.Record.{keyOf}
+use Rattle.own.specs.Own.{ownKeys, ownPlace}
 use Rattle.table.specs.Rows.{rows, Laid}
 use Rattle.cache.proofs.FormLaws.{form-laid}
 use Rattle.gauge_plan.specs.Found.{isNothing, placeOf}
-use Rattle.plan_send.specs.Send.{heldAt}
-use Rattle.plan_send.proofs.SendLaws.{sent-room, send-nobody, send-missing, send-barred, send-long, send-fits}
+use Rattle.table.specs.declared.Found.{Found}
+use Rattle.plan_send.specs.Send.{heldAt, sentAt}
+use Rattle.plan_send.proofs.SendLaws.{other-at, own-room, sent-room, send-nobody, send-missing, send-barred, send-long, send-fits}
 use Rattle.plan_send.proofs.plan_flood_to.Statement.{statement}
 use Rattle.plan_send.proofs.plan_flood_to.Tie as tie
 
 laid : (s : tie.Start) → Laid 100 (s .args .held) (s .args .cache .now)
-laid s = form-laid (keyOf (s .args .own .now)) (s .args .held) (s .args .cache .now) (s .pre .1)
+laid s = form-laid (ownKeys (s .args .own .now)) (s .args .held) (s .args .cache .now) (s .pre .1)
 
 abbrev recs : tie.Start → List (List ℕ)
 recs s = rows 100 (s .args .held) (s .args .cache .now)
@@ -53,7 +55,9 @@ returns c =
     (keyAt 0 (a .key .now)) (nobody (c .before) ∙ c .if1 .taken))
 
 is-own-requires : tie.Need-is-own-requires
-is-own-requires c κs = search needs
+is-own-requires c κs =
+    let s = first (c .before) in
+    omega (arith, s .pre .4)
 
 held-at-requires-2 : tie.Need-held-at-requires-2
 held-at-requires-2 c κs =
@@ -86,13 +90,20 @@ returns-3 c =
     (keyAt 0 (a .key .now)) (nobody (e .before) ∙ e .if1 .left) (n .before .before .is-own .ensures) (missing n) (i .if2 .left)
     (c .before .open-refusal .ensures) (omega (arith, c .if3 .taken)))
 
-place-of-requires : tie.Need-place-of-requires
-place-of-requires c κs = search needs
+sent-at-requires : tie.Need-sent-at-requires
+sent-at-requires c κs =
+    let n = c .before .before .before in
+    (omega (arith, start n .pre .4), n .before .before .is-own .ensures)
 
--- where the record stands that is not ours
-placed : (c : tie.After-place-of) → (let n = c .before .before .before .before in
-    c .place-of .result ≡ placeOf (heldAt (keyAt 0 (start n .args .key .now)) (recs (start n))))
-placed c = c .place-of .ensures ∙ ap placeOf (c .before .before .before .before .before .held-at2 .ensures)
+-- where the record stands
+placed : (c : tie.After-sent-at) → (let n = c .before .before .before .before in
+    c .sent-at .result ≡ sentAt (start n .args .own .now) (recs (start n)) (keyAt 0 (start n .args .key .now)))
+placed c =
+    let n = c .before .before .before .before in
+    let a = start n .args in
+    c .sent-at .ensures
+    ∙ ap₂ (λ (ours : Bool) (f : Found). cond ours (ownPlace (ownKeys (a .own .now)) (keyAt 0 (a .key .now))) (placeOf f))
+    (n .before .before .is-own .ensures) (n .before .held-at2 .ensures)
 
 count-sent-requires : tie.Need-count-sent-requires
 count-sent-requires c κs =
@@ -100,7 +111,11 @@ count-sent-requires c κs =
     let n = i .before in
     let s = start n in
     let a = s .args in
-    (s .pre .0, λ o. sent-room (keyAt 0 (a .key .now)) (a .held) (a .cache .now) (missing n) (i .if2 .left) o (laid s .room) (placed c))
+    let k = keyAt 0 (a .key .now) in
+    let is = n .before .before .is-own .ensures in (
+      λ o. omega (arith, placed c, own-room (a .own .now) (recs s) k (s .pre .0) (sym is ∙ o)),
+      λ o. sent-room k (a .held) (a .cache .now) (missing n) (i .if2 .left) o (laid s .room) (placed c ∙ other-at (a .own .now) (recs s) k (sym is ∙ o)),
+    )
 
 mul-if4 : tie.Need-mul-if4
 mul-if4 c = search needs
@@ -147,7 +162,7 @@ plan-flood-to-spec =
     returns-2
     open-refusal-requires
     returns-3
-    place-of-requires
+    sent-at-requires
     count-sent-requires
     mul-if4
     add-if4

@@ -1,21 +1,18 @@
 -- `gauge_plan::memory::survey` meets its contract: own record, cache and waiting table, each by its own test. Assumes nothing.
 use mathlib.Core.Path.{_≡_, sym, _∙_}
 use mathlib.Core.Bool.{true}
+use Prim.Native.Nat.{_≤_}
 use native.Mathlib.Omega.{arith}
 use lib.ListN.{length}
 use borrow.Author.Tests.{not-true, not-false}
 use borrow.Author.Needs.{needs}
-use Rattle.record.specs.Record.{recordForm}
-use Rattle.record.proofs.EntryLaws.{form-length}
+use Rattle.own.specs.Own.{ownForm}
 use Rattle.gauge_plan.proofs.MemoryLaws.{no-record, no-cache, no-table, all-fit}
 use Rattle.gauge_plan.proofs.memory.survey.Statement.{statement}
 use Rattle.gauge_plan.proofs.memory.survey.Tie as tie
 
-well : (c : tie.Else1) → recordForm (c .before .before .before .before .before .args .own .now) ≡ true
+well : (c : tie.Else1) → ownForm (c .before .before .before .before .before .args .own .now) ≡ true
 well c = sym (c .before .own-form .ensures) ∙ not-false _ (c .if1 .left)
-
-long : (c : tie.Else1) → length (c .before .before .before .before .before .args .own .now) ≡ 100
-long c = form-length (c .before .before .before .before .before .args .own .now) (well c)
 
 own-form-requires : tie.Need-own-form-requires
 own-form-requires c κs = search needs
@@ -26,7 +23,7 @@ returns c m =
     sym (no-record (a .own .now) _ (sym (c .before .own-form .ensures) ∙ not-true _ (c .if1 .taken)))
 
 form-requires : tie.Need-form-requires
-form-requires c κs = omega (arith, long c)
+form-requires c κs = search needs
 
 enum-known-held : tie.Need-enum-known-held
 enum-known-held c = search needs
@@ -41,7 +38,7 @@ returns-2 c m =
     sym (no-cache (a .own .now) _ (well e) (sym (c .before .before .form .ensures) ∙ c .enum-told .given .1))
 
 form-requires-2 : tie.Need-form-requires-2
-form-requires-2 c κs = omega (arith, long (c .before .before .before .before))
+form-requires-2 c κs = search needs
 
 enum-known-used : tie.Need-enum-known-used
 enum-known-used c = search needs

@@ -14,9 +14,10 @@ use Rattle.octet.specs.Part.{part, splice}
 use Rattle.octet.proofs.PartLaws.{length-part, length-splice, drop-splice}
 use Rattle.key.specs.Around.{below, above, sideOf, nearness}
 use Rattle.key.specs.Number.{keyAt}
-use Rattle.record.specs.Record.{keyOf, countOf, recordForm}
+use Rattle.record.specs.Record.{recordForm}
 use Rattle.record.specs.Entry.{recordOf}
 use Rattle.record.proofs.EntryLaws.{form-length}
+use Rattle.own.specs.Own.{ownKeys}
 use Rattle.refusal.proofs.CallLaws.{or-known}
 use Rattle.table.specs.Rows.{rows, joined}
 use Rattle.table.proofs.RowLaws.{joined-append, rows-length}
@@ -39,6 +40,7 @@ use Rattle.asking.specs.Asking.{inquireRoom}
 use Rattle.asking.specs.Ids.{idAfter}
 use Rattle.gauge_plan.specs.declared.Plan.{Plan}
 use Rattle.gauge_plan.specs.declared.Plan.the-variants.{Refuse, Flood, Revoke, Learn, Free, Certify, Show}
+use Rattle.cpas.specs.Cpas.{cpaOf}
 use Rattle.plan_send.specs.Send.{recordSent, floodRoom}
 use Rattle.plan_send.specs.declared.SendPlan.{SendPlan}
 use Rattle.plan_send.specs.declared.SendPlan.the-variants as S
@@ -167,16 +169,16 @@ plan-first m l (Revoke h u s n a) k =
     (omega (arith, acks-room (l .major) (l .minor) (l .id) a n s, k .plans .fits-in))
 plan-first m l (Learn h u at) k = none-first (l .output)
 plan-first m l (Free h u at n) k = none-first (l .output)
-plan-first m l (Certify a) k =
-    let d = cpaMade (l .major) (l .minor) (l .id) a (l .cpa) .bytes in
-    sent-first (d ∷ []) (l .output) (omega arith) (one-room d (cpa-length (l .major) (l .minor) (l .id) a (l .cpa)) (k .plans .fits-in))
+plan-first m l (Certify a at) k =
+    let d = cpaMade (l .major) (l .minor) (l .id) a (cpaOf at (l .cpas)) .bytes in
+    sent-first (d ∷ []) (l .output) (omega arith) (one-room d (cpa-length (l .major) (l .minor) (l .id) a (cpaOf at (l .cpas))) (k .plans .fits-in))
 plan-first m l (Show h u a target path size opens start len) k =
     let recs = offPath (part path size (l .datagram)) (rows 100 h (m .cache)) in
     let r = closestPast (l .own) (rows 100 h (m .cache)) (part path size (l .datagram)) (keyAt target (l .datagram)) in
     let e = recordOf (part start len (l .datagram)) in
     let d = closestMade (l .major) (l .minor) (l .id) a r 0 .bytes in
-    let formed = closest-formed (keyAt target (l .datagram)) (keyOf (l .own)) (l .own) recs (k .ready .owned)
-    (off-held (part path size (l .datagram)) (keyOf (l .own)) (rows 100 h (m .cache)) (k .ready .form .held)) in
+    let formed = closest-formed (keyAt target (l .datagram)) (ownKeys (l .own)) (l .own) recs (k .ready .owned)
+    (off-held (part path size (l .datagram)) (ownKeys (l .own)) (rows 100 h (m .cache)) (k .ready .form .held)) in
     let sent : (b : Bool) → opens ≡ b → (length (inquireWritten (l .major) (l .minor) (l .id) b (l .nonce) e) ≤ 1)
     × (length (joined (inquireWritten (l .major) (l .minor) (l .id) b (l .nonce) e)) ≤ inquireRoom b) =
     asked-size (l .major) (l .minor) (l .id) (l .nonce) e opens (λ o. record-long (part start len (l .datagram)) (shown-entry m l k o)) (k .hands .nonced) in
@@ -217,20 +219,20 @@ tick-first m l =
     start-first (4 * length ids) (idBytes ids) output (ids-length ids)
     (omega (arith, listed-few (placesOf waiting), rows-length 140 (usedOf waiting) waiting, used-few waiting)))
 
-list-first : (own cache output : List ℕ)
-    → OnlyFirst (32 * (listCall own cache output .answer .below + listCall own cache output .answer .above)) output
-    (listCall own cache output .output)
+list-first : (own cache key output : List ℕ)
+    → OnlyFirst (32 * (listCall own cache key output .answer .below + listCall own cache key output .answer .above)) output
+    (listCall own cache key output .output)
 unfolding listCall
-list-first own cache output =
-    let k = keyOf own in
+list-first own cache key output =
+    let k = keyAt 0 key in
     let keys = keysOf (heldBy own cache) in
     let counts = countsOf k (heldBy own cache) in
     or-known (λ (w : Written). OnlyFirst (32 * (w .answer .below + w .answer .above)) output (w .output))
-    (λ (n : ℕ). listWritten (record { number = n; below = 0; above = 0 }) output) (listWrong own cache output)
+    (λ (n : ℕ). listWritten (record { number = n; below = 0; above = 0 }) output) (listWrong own cache key output)
     (listWritten (record { number = 0; below = counts .below; above = counts .above }) (afterList k (heldBy own cache) output))
     (λ n. none-first output)
     (λ f.
-    let room = ltb-false (length output) 320 (f .1 .1 .0) in
+    let room = ltb-false (length output) 320 (f .1 .1 .1 .1 .0) in
     start-first (32 * (counts .below + counts .above)) (keyBytes (neighbourList k keys)) output
     (keys-length (neighbourList k keys) ∙ ap (λ (n : ℕ). 32 * n) (length-append (neighbours k below keys) (neighbours k above keys)))
     (omega (arith, length-take 5 (nearestFirst (sideOf k) (nearness k) below keys), length-take 5 (nearestFirst (sideOf k) (nearness k) above keys))))
@@ -241,4 +243,4 @@ unfolding receiveCall sendCall gaugeList
 first-bytes m (receives l) = plan-first m l (receivePlan m l) (known m l)
 first-bytes m (sends l) = send-first m l (sendPlan m l) (send-known m l)
 first-bytes m (ticks l) = tick-first m l
-first-bytes m (lists l) = list-first (l .own) (m .cache) (l .output)
+first-bytes m (lists l) = list-first (l .own) (m .cache) (l .key) (l .output)

@@ -6,3 +6,4 @@ pub mod MovedLaws
 pub mod FormLaws
 pub mod TickLaws
 pub mod Coincide
+pub mod OneOwnLaws

@@ -9,12 +9,14 @@ use native.Mathlib.Nat.{mod-lt}
 use native.Mathlib.Omega.{arith}
 use lib.ListN.{replicate, length-replicate}
 use lib.Seq.{length-take-le}
-use borrow.Author.Tests.{ne-eqb, eqb-false, not-false}
+use borrow.Author.Tests.{not-false}
 use Rattle.octet.specs.Part.{part}
 use Rattle.key.specs.Number.{keyAt}
 use Rattle.record.specs.Record.{keyOf}
 use Rattle.record.specs.Entry.{entryForm, recordOf}
 use Rattle.record.proofs.EntryLaws.{form-length, record-form}
+use Rattle.own.specs.Own.{Own, ownKeys, IsOwn}
+use Rattle.own.proofs.PlaceLaws.{own-not}
 use Rattle.refusal.proofs.CallLaws.{all-pass}
 use Rattle.table.specs.Rows.{rows, bytesOf, anyOf}
 use Rattle.table.proofs.RowLaws.{rows-length}
@@ -67,16 +69,16 @@ Opens (ticks l) p = ⊥
 Opens (lists l) p = ⊥
 
 -- from the table t to t′, both in form
-pub record Left (New : List ℕ → Type 0) (own : ℕ) (t t′ : List ℕ) : Type 0 where
+pub record Left (New : List ℕ → Type 0) (own : Own) (t t′ : List ℕ) : Type 0 where
   pub entered : PlacesForm own t (placesOf t)
   pub places : List (List ℕ)
   pub form : PlacesForm own t′ places
   pub moved : Moved New (placesOf t) places
 
-left-moved : (New : List ℕ → Type 0) (own : ℕ) (t t′ : List ℕ) → Left New own t t′ → Moved New (placesOf t) (placesOf t′)
+left-moved : (New : List ℕ → Type 0) (own : Own) (t t′ : List ℕ) → Left New own t t′ → Moved New (placesOf t) (placesOf t′)
 left-moved New own t t′ left = subst (Moved New (placesOf t)) (form-unique own t′ (left .places) (left .form)) (left .moved)
 
-module _ (New : List ℕ → Type 0) (own : ℕ) (t : List ℕ) (f : PlacesForm own t (placesOf t)) where
+module _ (New : List ℕ → Type 0) (own : Own) (t : List ℕ) (f : PlacesForm own t (placesOf t)) where
   left-same : Left New own t t
   left-same = record { entered = f; places = placesOf t; form = f; moved = stays refl }
 
@@ -89,8 +91,8 @@ module _ (New : List ℕ → Type 0) (own : ℕ) (t : List ℕ) (f : PlacesForm 
 
 -- the places that the plan counts are those of the table
 module _ (own : List ℕ) (m : Memory) {h u : ℕ} (ready : Ready own m h u) where
-  pub ready-form : PlacesForm (keyOf own) (m .waiting) (placesOf (m .waiting))
-  ready-form = form-of (keyOf own) (m .waiting) (ready .tabled)
+  pub ready-form : PlacesForm (ownKeys own) (m .waiting) (placesOf (m .waiting))
+  ready-form = form-of (ownKeys own) (m .waiting) (ready .tabled)
 
   pub ready-places : placesOf (m .waiting) ≡ rows 140 u (m .waiting)
   ready-places = ap (λ (n : ℕ). rows 140 n (m .waiting)) (sym (ready .used))
@@ -98,18 +100,18 @@ module _ (own : List ℕ) (m : Memory) {h u : ℕ} (ready : Ready own m h u) whe
 -- ---- a datagram received, by its plan
 
 abbrev ReceiveLeft : Memory → Receive → List ℕ → Type 0
-ReceiveLeft m l t = Left (Opens (receives l)) (keyOf (l .own)) (m .waiting) t
+ReceiveLeft m l t = Left (Opens (receives l)) (ownKeys (l .own)) (m .waiting) t
 
 -- the record of a route entry is inquired about
 module _ (m : Memory) (l : Receive) {h u : ℕ} (fit : Ready (l .own) m h u) (start len : ℕ) (entry : entryForm (part start len (l .datagram)) ≡ true)
     (free : u ≡ 16 → ⊥) (new : anyOf (hasId (idAfter (l .id))) (rows 140 u (m .waiting)) ≡ false)
-    (other : keyOf (recordOf (part start len (l .datagram))) ≡ keyOf (l .own) → ⊥)
+    (other : ¬ IsOwn (ownKeys (l .own)) (keyOf (recordOf (part start len (l .datagram)))))
     (asks : mustAsk (rows 100 h (m .cache)) (rows 140 u (m .waiting)) (recordOf (part start len (l .datagram))) ≡ true) where
   entry-opens : ReceiveLeft m l
       (bytesOf 2240 (opened (inquiryPlace (idAfter (l .id)) (recordOf (part start len (l .datagram)))) (rows 140 u (m .waiting))))
   entry-opens =
       let t = m .waiting in
-      let own = keyOf (l .own) in
+      let own = ownKeys (l .own) in
       let r = recordOf (part start len (l .datagram)) in
       let p = inquiryPlace (idAfter (l .id)) r in
       let is = ready-places (l .own) m fit in
@@ -120,7 +122,7 @@ module _ (m : Memory) (l : Receive) {h u : ℕ} (fit : Ready (l .own) m h u) (st
       let small : idAfter (l .id) < 2 ^ 32 = mod-lt _ (omega arith) in
       let only = ask-tells _ _ r asks .1 in
       let g = open-inquiry own t (rows 140 u t) f (idAfter (l .id)) r (omega (arith, rows-length 140 u t, free)) small long formed
-      (ne-eqb (keyOf r) own other) new only in
+      (own-not own (keyOf r) other) new only in
       let id-is : idOf p ≡ idAfter (l .id) = new-id (idAfter (l .id)) 2 2 (part 0 32 r) r (length-take-le 32 r (omega arith)) long small in
       record {
         entered = ready-form (l .own) m fit;
@@ -137,18 +139,18 @@ module _ (m : Memory) (l : Receive) where
 
   -- an accepted one was lent memory in form
   pub receive-ready : receiveCall m l .answer .number ≡ 0
-      → Ready (l .own) m (heldIn (keyOf (l .own)) (m .cache)) (usedOf (m .waiting))
+      → Ready (l .own) m (heldIn (ownKeys (l .own)) (m .cache)) (usedOf (m .waiting))
   unfolding receiveCall
   receive-ready z = ready (l .own) m (not-false _ (none-applies m (receives l) z .0))
 
   same-left : {h u : ℕ} → Ready (l .own) m h u → ReceiveLeft m l (m .waiting)
-  same-left r = left-same Opening (keyOf (l .own)) (m .waiting) (ready-form (l .own) m r)
+  same-left r = left-same Opening (ownKeys (l .own)) (m .waiting) (ready-form (l .own) m r)
 
   found-left : {h u : ℕ} → Ready (l .own) m h u → (found : Found)
       → ReceiveLeft m l (bytesOf 2240 (freedAt found (rows 140 u (m .waiting))))
   found-left r found =
       subst (λ (ps : List (List ℕ)). ReceiveLeft m l (bytesOf 2240 (freedAt found ps))) (ready-places (l .own) m r)
-      (left-found Opening (keyOf (l .own)) (m .waiting) (ready-form (l .own) m r) found)
+      (left-found Opening (ownKeys (l .own)) (m .waiting) (ready-form (l .own) m r) found)
 
   plan-left : {h u : ℕ} → Ready (l .own) m h u → (p : Plan) → Known m l p → ReceiveLeft m l (carried m l p .memory .waiting)
   unfolding carried
@@ -159,10 +161,10 @@ module _ (m : Memory) (l : Receive) where
   plan-left r (Revoke h u s n a) k = found-left (k .ready) (seek (isInquiry (keyAt 0 (l .key))) 0 (rows 140 u (m .waiting)))
   plan-left r (Learn h u at) k = found-left (k .ready) (At at)
   plan-left r (Free h u at n) k = found-left (k .ready) (At at)
-  plan-left r (Certify a) k = same-left r
+  plan-left r (Certify a i) k = same-left r
   plan-left r (Show h u a target path size true start len) k =
       let v = part start len (l .datagram) in
-      let told = asks-tells (keyOf (l .own)) (rows 100 h (m .cache)) (rows 140 u (m .waiting)) v (sym (k .plans .opens-is)) in
+      let told = asks-tells (ownKeys (l .own)) (rows 100 h (m .cache)) (rows 140 u (m .waiting)) v (sym (k .plans .opens-is)) in
       entry-opens m l (k .ready) start len (shown-entry m l k refl) (k .plans .free refl) (k .plans .new refl) (told .1) (told .2)
   plan-left r (Show h u a target path size false start len) k = same-left r
 
@@ -174,7 +176,7 @@ module _ (m : Memory) (l : Receive) where
   receive-moved = go (receiveCall m l .answer .number) refl
     where
       go : (n : ℕ) → receiveCall m l .answer .number ≡ n → Moved (Opens (receives l)) (placesOf (m .waiting)) (placesOf (receiveCall m l .memory .waiting))
-      go zero e = left-moved (Opens (receives l)) (keyOf (l .own)) (m .waiting) (receiveCall m l .memory .waiting) (receive-left e)
+      go zero e = left-moved (Opens (receives l)) (ownKeys (l .own)) (m .waiting) (receiveCall m l .memory .waiting) (receive-left e)
       go (suc n) e = stays (ap (λ (h : Handed). placesOf (h .memory .waiting)) (receive-refused m l (omega arith)))
 
 -- ---- a FLOOD sent
@@ -182,7 +184,7 @@ module _ (m : Memory) (l : Receive) where
 module _ (m : Memory) (l : Send) where
   -- what is planned where nothing stands against it, and known of it
   abbrev done : SendPlan
-  done = sendDone (l .own) (heldOf (keyOf (l .own)) (m .cache)) (usedOf (m .waiting)) (keyAt 0 (l .key))
+  done = sendDone (l .own) (heldOf (ownKeys (l .own)) (m .cache)) (usedOf (m .waiting)) (keyAt 0 (l .key))
 
   module _ (z : sendCall m l .answer .number ≡ 0) where
     pub send-planned : sendPlan m l ≡ done
@@ -201,21 +203,21 @@ module _ (m : Memory) (l : Send) where
     send-opens = ap (λ (h : Handed). h .memory .waiting) (send-by m l send-planned)
 
     module _ (small : l .id < 2 ^ 32) where
-      send-form : PlacesForm (keyOf (l .own)) (sendCall m l .memory .waiting) (opened (floodPlace (l .id) (l .neighbour)) (placesOf (m .waiting)))
+      send-form : PlacesForm (ownKeys (l .own)) (sendCall m l .memory .waiting) (opened (floodPlace (l .id) (l .neighbour)) (placesOf (m .waiting)))
       send-form =
           let ps = placesOf (m .waiting) in
           let free = send-told .free in
-          subst (λ (t : List ℕ). PlacesForm (keyOf (l .own)) t (opened (floodPlace (l .id) (l .neighbour)) ps)) (sym send-opens)
-          (open-flood (keyOf (l .own)) (m .waiting) ps (ready-form (l .own) m (send-told .ready)) (l .id) (l .neighbour)
+          subst (λ (t : List ℕ). PlacesForm (ownKeys (l .own)) t (opened (floodPlace (l .id) (l .neighbour)) ps)) (sym send-opens)
+          (open-flood (ownKeys (l .own)) (m .waiting) ps (ready-form (l .own) m (send-told .ready)) (l .id) (l .neighbour)
           (omega (arith, rows-length 140 (usedOf (m .waiting)) (m .waiting))) small (send-told .addressed) send-new)
 
       pub send-places : placesOf (sendCall m l .memory .waiting) ≡ opened (floodPlace (l .id) (l .neighbour)) (placesOf (m .waiting))
-      send-places = sym (form-unique (keyOf (l .own)) (sendCall m l .memory .waiting) _ send-form)
+      send-places = sym (form-unique (ownKeys (l .own)) (sendCall m l .memory .waiting) _ send-form)
 
       pub send-id : idOf (floodPlace (l .id) (l .neighbour)) ≡ l .id
       send-id = new-id (l .id) 1 2 (l .neighbour) (replicate 100 0) (send-told .addressed) (length-replicate {A = ℕ} 100 0) small
 
-      pub send-left : Left (Opens (sends l)) (keyOf (l .own)) (m .waiting) (sendCall m l .memory .waiting)
+      pub send-left : Left (Opens (sends l)) (ownKeys (l .own)) (m .waiting) (sendCall m l .memory .waiting)
       send-left =
           let ps = placesOf (m .waiting) in
           let p = floodPlace (l .id) (l .neighbour) in
@@ -230,5 +232,5 @@ module _ (m : Memory) (l : Send) where
   send-moved small = go (sendCall m l .answer .number) refl
     where
       go : (n : ℕ) → sendCall m l .answer .number ≡ n → Moved (Opens (sends l)) (placesOf (m .waiting)) (placesOf (sendCall m l .memory .waiting))
-      go zero e = left-moved (Opens (sends l)) (keyOf (l .own)) (m .waiting) (sendCall m l .memory .waiting) (send-left e small)
+      go zero e = left-moved (Opens (sends l)) (ownKeys (l .own)) (m .waiting) (sendCall m l .memory .waiting) (send-left e small)
       go (suc n) e = stays (ap (λ (h : Handed). placesOf (h .memory .waiting)) (send-refused m l (omega arith)))

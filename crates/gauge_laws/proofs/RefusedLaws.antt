@@ -3,9 +3,9 @@ use mathlib.Core.Path.{_≡_, refl, sym, ap, _∙_}
 use mathlib.Core.List.{List}
 use Prim.Native.Nat.{ℕ, _<_}
 use native.Mathlib.Omega.{arith}
+use Rattle.key.specs.Number.{keyAt}
 use Rattle.refusal.specs.Table.{Refusal, orRefuse}
 use Rattle.refusal.proofs.CallLaws.{or-refuses, number-is}
-use Rattle.record.specs.Record.{keyOf}
 use Rattle.neighbours.specs.Listing.{countsOf, afterList}
 use Rattle.neighbours.specs.Calls.{Written, listWritten, listWrong, listCall}
 use Rattle.cache.specs.Calls.{heldBy}
@@ -31,7 +31,7 @@ receive-by m l (Flood u s n a opens start len) h = absurd (omega arith)
 receive-by m l (Revoke held u s n a) h = absurd (omega arith)
 receive-by m l (Learn held u at) h = absurd (omega arith)
 receive-by m l (Free held u at n) h = absurd (omega arith)
-receive-by m l (Certify a) h = absurd (omega arith)
+receive-by m l (Certify a i) h = absurd (omega arith)
 receive-by m l (Show held u a t p z o at size) h = absurd (omega arith)
 
 pub receive-refused : (m : Memory) (l : Receive) → 0 < receiveCall m l .answer .number
@@ -71,10 +71,10 @@ unfolding gaugeList listCall
 list-refused m l h =
     let own = l .own in
     let cache = m .cache in
-    let counts = countsOf (keyOf own) (heldBy own cache) in
+    let counts = countsOf (keyAt 0 (l .key)) (heldBy own cache) in
     ap (listAnswered m) (by-table (λ (w : Written). w .answer .number) (λ (n : ℕ). listWritten (record { number = n; below = 0; above = 0 }) (l .output))
-    (λ n. refl) (listWrong own cache (l .output))
-    (listWritten (record { number = 0; below = counts .below; above = counts .above }) (afterList (keyOf own) (heldBy own cache) (l .output))) refl h)
+    (λ n. refl) (listWrong own cache (l .key) (l .output))
+    (listWritten (record { number = 0; below = counts .below; above = counts .above }) (afterList (keyAt 0 (l .key)) (heldBy own cache) (l .output))) refl h)
 
 -- "With any refusal the counts returned are 0 .. and every writable byte stays as lent."
 pub refused-keeps : (m : Memory) (c : Call) → 0 < ours m c .answer .number

@@ -12,7 +12,8 @@ use lib.ListN.{length}
 use mathlib.Core.Logic.{_↔_, inl, inr}
 use borrow.Author.Tests.{eqb-true, ltb-true, leb-true}
 use Rattle.octet.proofs.TestLaws.{both-true}
-use Rattle.record.specs.Record.{keyOf}
+use Rattle.key.specs.Number.{keyAt}
+use Rattle.own.specs.Own.{ownKeys}
 use Rattle.refusal.specs.Table.{Refusal, when, firstOf, appliesIn, orRefuse, order, placeIn, Before, InOrder}
 use Rattle.refusal.proofs.TableLaws.{AllFail, all-fail, listed-some, order-exactly, none-exactly}
 use Rattle.refusal.proofs.CallLaws.{number-is, or-refuses, all-pass}
@@ -94,7 +95,7 @@ numberOf (Flood u s n a o at size) = 0
 numberOf (Revoke h u s n a) = 0
 numberOf (Learn h u at) = 0
 numberOf (Free h u at n) = 0
-numberOf (Certify a) = 0
+numberOf (Certify a i) = 0
 numberOf (Show h u a t p z o at size) = 0
 
 abbrev sendNumber : SendPlan → ℕ
@@ -108,7 +109,7 @@ carried-number m l (Flood u s n a o at size) = refl
 carried-number m l (Revoke h u s n a) = refl
 carried-number m l (Learn h u at) = refl
 carried-number m l (Free h u at n) = refl
-carried-number m l (Certify a) = refl
+carried-number m l (Certify a i) = refl
 carried-number m l (Show h u a t p z o at size) = refl
 
 by-table : (rs : List Refusal) (done : Plan) → numberOf done ≡ 0 → numberOf (orRefuse Refuse rs done) ≡ firstOf rs
@@ -169,7 +170,7 @@ abbrev used : Memory → ℕ
 used m = usedOf (m .waiting)
 
 abbrev held : Memory → Receive → ℕ
-held m l = heldIn (keyOf (l .own)) (m .cache)
+held m l = heldIn (ownKeys (l .own)) (m .cache)
 
 entry-number : (m : Memory) (l : Receive) (head : Head) (s : Bool) (validate : ℕ) (entry : Part)
     → numberOf (byEntry m l (held m l) (used m) head s validate entry) ≡ firstOf (floodTable m l s validate entry)
@@ -277,10 +278,10 @@ call-number m (ticks l) =
 call-number m (lists l) =
     let own = l .own in
     let cache = m .cache in
-    let counts = countsOf (keyOf own) (heldBy own cache) in
+    let counts = countsOf (keyAt 0 (l .key)) (heldBy own cache) in
     number-is (λ (w : Written). w .answer .number) (λ (n : ℕ). listWritten (record { number = n; below = 0; above = 0 }) (l .output)) (λ n. refl)
-    (listWritten (record { number = 0; below = counts .below; above = counts .above }) (afterList (keyOf own) (heldBy own cache) (l .output))) refl
-    (listWrong own cache (l .output))
+    (listWritten (record { number = 0; below = counts .below; above = counts .above }) (afterList (keyAt 0 (l .key)) (heldBy own cache) (l .output))) refl
+    (listWrong own cache (l .key) (l .output))
 
 call-rises : (m : Memory) (c : Call) → rises 0 (tableOf m c) ≡ true
 unfolding placeIn

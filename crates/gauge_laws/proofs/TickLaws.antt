@@ -4,7 +4,7 @@ use mathlib.Core.Bool.{true}
 use mathlib.Core.List.{List}
 use Prim.Native.Nat.{ℕ}
 use borrow.Author.Tests.{not-false}
-use Rattle.record.specs.Record.{keyOf}
+use Rattle.own.specs.Own.{Own, ownKeys}
 use Rattle.refusal.proofs.CallLaws.{all-pass}
 use Rattle.table.specs.Rows.{bytesOf}
 use Rattle.waiting.specs.Form.{PlacesForm, waitingForm, placesOf}
@@ -21,12 +21,12 @@ use Rattle.gauge_laws.proofs.TableLaws.{none-applies}
 
 -- the table was in form, and its places are those ticked
 pub record Round (t t′ : List ℕ) : Type 0 where
-  pub own : ℕ
+  pub own : Own
   pub form : PlacesForm own t (placesOf t)
   pub places : placesOf t′ ≡ ticked (placesOf t)
 
 pub tick-done : (m : Memory) (l : Tick) → gaugeTick m l .answer .number ≡ 0
-    → (waitingForm (keyOf (l .own)) (m .waiting) ≡ true) × (gaugeTick m l .memory .waiting ≡ bytesOf 2240 (ticked (placesOf (m .waiting))))
+    → (waitingForm (ownKeys (l .own)) (m .waiting) ≡ true) × (gaugeTick m l .memory .waiting ≡ bytesOf 2240 (ticked (placesOf (m .waiting))))
 unfolding gaugeTick tickDone
 tick-done m l z =
     let none = none-applies m (ticks l) z in (
@@ -37,7 +37,7 @@ tick-done m l z =
 
 pub tick-round : (m : Memory) (l : Tick) → gaugeTick m l .answer .number ≡ 0 → Round (m .waiting) (gaugeTick m l .memory .waiting)
 tick-round m l z =
-    let k = keyOf (l .own) in
+    let k = ownKeys (l .own) in
     let t = m .waiting in
     let done = tick-done m l z in
     let f = form-of k t (done .0) in

@@ -54,7 +54,7 @@ messageRows m l (M.Solicit x) = when 7 true ∷ []
 messageRows m l (M.Advertise x) = when 7 true ∷ []
 messageRows m l (M.Request x) = when 7 true ∷ []
 messageRows m l (M.Flood x) = floodTable m l (x .d) (x .validate) (x .entry)
-messageRows m l (M.Inquire x) = inquireRefusals (ownKeys (l .own)) (length (l .cpa)) (length (l .output)) (l .datagram) (x .validate)
+messageRows m l (M.Inquire x) = inquireRefusals (ownKeys (l .own)) (l .cpas) (length (l .output)) (l .datagram) (x .validate)
 messageRows m l (M.Authority x) = authorityRefusals (placesOf (m .waiting)) (l .verdict) (keyAt 0 (l .key)) (x .acked) (R.isHere (x .fields .cpa))
 messageRows m l (M.Ack x) = ackRefusals (placesOf (m .waiting)) (x .acked)
 messageRows m l (M.Lookup x) = lookupTable m l (x .target) (startOf (x .path) + 8) (sizeOf (x .path) - 8) (startOf (x .entry)) (sizeOf (x .entry))
@@ -69,4 +69,4 @@ abbrev pub tableOf : Memory → Call → List Refusal
 tableOf m (receives l) = receiveTable m l
 tableOf m (sends l) = sendRefusals (l .own) m (l .id) (l .neighbour) (l .key) (length (l .output))
 tableOf m (ticks l) = tickTable m l
-tableOf m (lists l) = listWrong (l .own) (m .cache) (l .output)
+tableOf m (lists l) = listWrong (l .own) (m .cache) (l .key) (l .output)

@@ -7,15 +7,15 @@ use mathlib.Core.List.{List, []}
 use Prim.Native.Nat.{ℕ, _+_, _*_}
 use native.Mathlib.Nat.{mod-lt}
 use native.Mathlib.Omega.{arith}
-use lib.Dec.{eqb}
 use lib.ListN.{length}
-use borrow.Author.Tests.{ne-eqb}
 use Rattle.octet.specs.Part.{part}
 use Rattle.octet.proofs.PartLaws.{length-part}
 use Rattle.record.specs.Record.{keyOf}
 use Rattle.record.specs.Entry.{entryForm, recordOf}
 use Rattle.record.proofs.EntryLaws.{form-length, record-form}
 use Rattle.record.proofs.PlaceLaws.{entry-at}
+use Rattle.own.specs.Own.{Own, ownKeys, IsOwn}
+use Rattle.own.proofs.PlaceLaws.{own-not}
 use Rattle.refusal.proofs.TableLaws.{both}
 use Rattle.table.specs.Rows.{joined, bytesOf, anyOf}
 use Rattle.table.proofs.RowLaws.{rows-length}
@@ -48,11 +48,11 @@ use Rattle.sentences.proofs.WordLaws.{must-iff, none-asked}
 use Rattle.sentences.proofs.PlanLaws.{used, Fine, table-form}
 
 module _ (m : Memory) (l : Receive) where
-  abbrev k : ℕ
-  k = keyOf (l .own)
+  abbrev k : Own
+  k = ownKeys (l .own)
 
   abbrev recs : List (List ℕ)
-  recs = heldOf (keyOf (l .own)) (m .cache)
+  recs = heldOf (ownKeys (l .own)) (m .cache)
 
   abbrev ps : List (List ℕ)
   ps = placesOf (m .waiting)
@@ -77,7 +77,7 @@ module _ (m : Memory) (l : Receive) where
   asks-iff (Here s n) w =
       let v = part s n (l .datagram) in (
         λ e. (let t = asks-tells k recs ps v e in (t .1, must-iff k m (recordOf v) .0 (t .2))),
-        λ a. asks-other k recs ps v (has-bytes s n w) (ne-eqb (keyOf (recordOf v)) k (a .0)) ∙ must-iff k m (recordOf v) .1 (a .1),
+        λ a. asks-other k recs ps v (has-bytes s n w) (own-not k (keyOf (recordOf v)) (a .0)) ∙ must-iff k m (recordOf v) .1 (a .1),
       )
   asks-iff Absent w = (λ e. both e none-opens, λ a. absurd a)
 
@@ -110,7 +110,7 @@ module _ (m : Memory) (l : Receive) where
         → (b : Bool) → opening (Here s n) ≡ b
         → (let r = recordOf (part s n (l .datagram)) in
         S.WaitsExactly k (cond b (bytesOf 2240 (opened (inquiryPlace (idAfter (l .id)) r) ps)) (m .waiting))
-        (λ (p : List ℕ). S.Waits m p ⊎ (((¬ (keyOf r ≡ k)) × S.MustAsk k m r) × (p ≡ inquiryPlace (idAfter (l .id)) r))))
+        (λ (p : List ℕ). S.Waits m p ⊎ (((¬ IsOwn k (keyOf r)) × S.MustAsk k m r) × (p ≡ inquiryPlace (idAfter (l .id)) r))))
     entry-table s n w new free true e =
         let v = part s n (l .datagram) in
         let r = recordOf v in
@@ -118,7 +118,7 @@ module _ (m : Memory) (l : Receive) where
         let good = record-form v (w .1) in
         let g = open-inquiry k (m .waiting) ps (table-form m l ok) (idAfter (l .id)) r
         (omega (arith, rows-length 140 (used m l) (m .waiting), ok .ready .few, free e))
-        (mod-lt _ (omega arith)) (form-length r good) good (ne-eqb (keyOf r) k (asks .0)) (new e) (none-asked k m r (asks .1)) in
+        (mod-lt _ (omega arith)) (form-length r good) good (own-not k (keyOf r) (asks .0)) (new e) (none-asked k m r (asks .1)) in
         table-by k _ (opened (inquiryPlace (idAfter (l .id)) r) ps) _ g
         (λ q. (
           λ i. elim (opened-in (inquiryPlace (idAfter (l .id)) r) q ps .0 i) [ inl x ↦ inl x | inr x ↦ inr (asks, x) ],

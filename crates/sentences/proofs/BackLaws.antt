@@ -15,10 +15,12 @@ use Rattle.octet.specs.Number.{Bytes}
 use Rattle.octet.specs.Part.{part}
 use Rattle.octet.proofs.PartLaws.{length-part, part-digits}
 use Rattle.octet.proofs.BytesLaws.{bytes-nil, bytes-cons, bytes-append, bytes-zeros}
-use Rattle.record.specs.Record.{keyOf, countOf, recordForm}
+use Rattle.key.specs.Number.{keyAt}
+use Rattle.record.specs.Record.{countOf, recordForm}
 use Rattle.record.specs.Entry.{recordOf}
 use Rattle.record.proofs.EntryLaws.{form-length, record-form}
 use Rattle.record.proofs.PlaceLaws.{record-at}
+use Rattle.own.specs.Own.{Own, ownKeys, ownRecords, ownPlace}
 use Rattle.table.specs.Rows.{rows}
 use Rattle.kept.specs.Keys.{Every, _∈_}
 use Rattle.cache.specs.Form.{cacheForm, heldIn, heldOf}
@@ -33,7 +35,9 @@ use Rattle.wire.proofs.Theorems.{written-back}
 use Rattle.asking.specs.Ids.{idAfter}
 use Rattle.gauge_commit.proofs.LengthLaws.{cpa-length, flood-length}
 use Rattle.gauge_laws.proofs.FirstLaws.{whole-record}
-use Rattle.gauge_plan.specs.Lent.{Memory, Receive, ReceiveLent}
+use Rattle.gauge_plan.specs.Lent.{Memory, Receive, cpaFor, ReceiveLent}
+use Rattle.gauge_plan.proofs.OwnLaws.{place-within, record-formed}
+use Rattle.sentences.proofs.OursLaws.{own-formed, own-bytes, cpa-most, cpa-bytes}
 use Rattle.sentences.specs.Heard.{Heard, entry, revoke, inquire, authority, ack, lookup, other}
 use Rattle.sentences.specs.Sentences as S
 use Rattle.sentences.specs.Numbers as Num
@@ -56,11 +60,11 @@ each-of P r [] a m = absurd m
 each-of P r (q ∷ recs) a (inl e) = rw e (a .0)
 each-of P r (q ∷ recs) a (inr m) = each-of P r recs (a .1) m
 
-held-bytes : (k : ℕ) (cache r : List ℕ) → Bytes cache → r ∈ heldOf k cache → Bytes r
+held-bytes : (k : Own) (cache r : List ℕ) → Bytes cache → r ∈ heldOf k cache → Bytes r
 unfolding heldOf
 held-bytes k cache r b m = each-of Bytes r (rows 100 (heldIn k cache) cache) (rows-bytes 100 (heldIn k cache) cache b) m
 
-held-formed : (k : ℕ) (cache r : List ℕ) → cacheForm k cache ≡ true → r ∈ heldOf k cache → recordForm r ≡ true
+held-formed : (k : Own) (cache r : List ℕ) → cacheForm k cache ≡ true → r ∈ heldOf k cache → recordForm r ≡ true
 held-formed k cache r f m = each-of (λ (q : List ℕ). recordForm q ≡ true) r (heldOf k cache) (true-form k cache f .held .formed) m
 
 -- the record that an entry names
@@ -160,11 +164,11 @@ module _ (m : Memory) (l : Receive) (w : Bytewise m l) (ok : ReceiveLent m l) wh
       )
   asks-back false r long b = tt
 
-  -- our own record or one held
+  -- a record of our own or one held
   candidate-fine : (path r : List ℕ) → S.Candidate m l path r → (recordForm r ≡ true) × Bytes r
-  candidate-fine path r (inl e) = rw e (ok .own, w .own)
+  candidate-fine path r (inl i) = (own-formed (l .own) (ok .own) r i, own-bytes (l .own) (w .own) r i)
   candidate-fine path r (inr i) =
-      (held-formed (keyOf (l .own)) (m .cache) r (ok .cache) (i .0), held-bytes (keyOf (l .own)) (m .cache) r (w .cache) (i .0))
+      (held-formed (ownKeys (l .own)) (m .cache) r (ok .cache) (i .0), held-bytes (ownKeys (l .own)) (m .cache) r (w .cache) (i .0))
 
   -- the INQUIRE for the record of a route entry
   heard-back : (ask : Bool) (r : List ℕ) → EntryHeard (l .datagram) r → Every ReadsBack (S.asks l ask r)
@@ -176,7 +180,7 @@ module _ (m : Memory) (l : Receive) (w : Bytewise m l) (ok : ReceiveLent m l) wh
 
   -- none for no entry
   lookup-back : (id t : ℕ) (path : List ℕ) (o : O.Option (List ℕ)) → Num.Says l (lookup id t path o) → (ask : Bool)
-      → ((ask ≡ true) ↔ S.EntryAsks (keyOf (l .own)) m o) → Every ReadsBack (S.asks l ask (S.entryRecord o))
+      → ((ask ≡ true) ↔ S.EntryAsks (ownKeys (l .own)) m o) → Every ReadsBack (S.asks l ask (S.entryRecord o))
   lookup-back id t path O.none h true a = absurd (a .0 refl)
   lookup-back id t path O.none h false a = tt
   lookup-back id t path (O.some r) h ask a = heard-back ask r (lookup-entry-heard (l .datagram) (w .datagram) (l .major) id t path r h)
@@ -188,7 +192,9 @@ module _ (m : Memory) (l : Receive) (w : Bytewise m l) (ok : ReceiveLent m l) wh
       (heard-back (s .ask) r (entry-heard (l .datagram) (w .datagram) (l .major) id silent validate r h)))
   reply-back (revoke id silent validate) h ds s = subst (Every ReadsBack) (sym (s .are)) (acks-back id silent (s .n))
   reply-back (inquire id validate) h ds s =
-      subst (Every ReadsBack) (sym s) (cpa-back (l .major) (l .minor) (l .id) (w .numbers) id (l .cpa) (ok .cpa-most) (w .cpa), tt)
+      subst (Every ReadsBack) (sym s) (cpa-back (l .major) (l .minor) (l .id) (w .numbers) id (cpaFor l validate)
+      (cpa-most (length (ownRecords (l .own))) (ownPlace (ownKeys (l .own)) validate) (l .cpas) (ok .cpas))
+      (cpa-bytes (ownPlace (ownKeys (l .own)) validate) (l .cpas) (w .cpas)), tt)
   reply-back (authority acked cpa) h ds s = subst (Every ReadsBack) (sym s) tt
   reply-back (ack acked n) h ds s = subst (Every ReadsBack) (sym s) tt
   reply-back (lookup id target path e) h ds s =
@@ -204,12 +210,14 @@ sent-reads m l w ok x h ds s = reply-back m l w ok x h ds s
 
 pub flood-reads : FloodReads
 flood-reads m l w ok r (inl n) = (
-  flood-back (l .major) (l .minor) (l .id) (w .numbers) (l .neighbour) r (ok .neighbour) (w .neighbour) (ap recordForm (n .1) ∙ ok .own)
-      (subst Bytes (sym (n .1)) (w .own)),
+  (let at = ownPlace (ownKeys (l .own)) (keyAt 0 (l .key)) in
+      flood-back (l .major) (l .minor) (l .id) (w .numbers) (l .neighbour) r (ok .neighbour) (w .neighbour)
+      (ap recordForm (n .1) ∙ record-formed (l .own) (ok .own) at (place-within (l .own) (keyAt 0 (l .key)) (n .0)))
+      (subst Bytes (sym (n .1)) (part-digits 256 (100 * at) 100 (l .own) (omega arith) (w .own)))),
   tt,
 )
 flood-reads m l w ok r (inr n) = (
   flood-back (l .major) (l .minor) (l .id) (w .numbers) (l .neighbour) r (ok .neighbour) (w .neighbour)
-      (held-formed (keyOf (l .own)) (m .cache) r (ok .cache) (n .1)) (held-bytes (keyOf (l .own)) (m .cache) r (w .cache) (n .1)),
+      (held-formed (ownKeys (l .own)) (m .cache) r (ok .cache) (n .1)) (held-bytes (ownKeys (l .own)) (m .cache) r (w .cache) (n .1)),
   tt,
 )

@@ -6,8 +6,7 @@ use Rattle.key.specs.Around.{ring, half, areKeys, up, isAbove, nearness, apart,
 use Rattle.refusal.specs.Table.{orRefuse}
 use Rattle.record.specs.Record.{recordForm}
 use Rattle.record.specs.Entry.{entryForm, recordOf, entryOf}
-use Rattle.kept.specs.Keys.{put, without, among, inOrder, lastOr}
-use Rattle.kept.specs.Neighbours.{farthestOut}
+use Rattle.kept.specs.Keys.{has, put, without, among, inOrder, lastOr}
 use Rattle.kept.specs.History.{trimmed, learnWith, happen, after}
 use Rattle.kept.specs.Records.{putBy, withoutBy, learnBy}
 use Rattle.table.specs.Rows.{rows, joined, bytesOf, anyOf}
@@ -16,6 +15,9 @@ use Rattle.neighbours.specs.Listing.{keyBytes}
 use Rattle.path.specs.Path.{standsIn, onPath}
 use Rattle.neighbours.specs.Closest.{offPath, closestFrom, closestOf}
 use Rattle.neighbours.specs.Calls.{listCall}
+use Rattle.kept.specs.Ponds.{isListed, farthestFrom, dropsOf}
+use Rattle.own.specs.Own.{risingBy, ownBy, ownPlace}
+use Rattle.cpas.specs.Cpas.{cpaForm, cpasForm, cpaOf}
 use Rattle.waiting.specs.Place.{newPlace}
 use Rattle.waiting.specs.Form.{placeBy, placesBy, usedIn, usedOf, waitingForm}
 use Rattle.table.specs.Seek.{seek}
@@ -33,7 +35,7 @@ use Rattle.wire_write.specs.Making.{ackMade, floodMade, inquireMade, cpaMade, c
 use Rattle.gauge_plan.specs.Memory.{tablesFit, memoryOf, handsFit, tickFit}
 use Rattle.asking.specs.Asking.{mustAsk, asksFor}
 use Rattle.plan_flood.specs.Flood.{floodPlan, revokePlan}
-use Rattle.plan_answer.specs.Answering.{authorityPlan, lookupPlan}
+use Rattle.plan_answer.specs.Answering.{authorityPlan, inquirePlan, lookupPlan}
 use Rattle.plan_message.specs.Planned.{planFor, receivePlan}
 use Rattle.gauge.specs.Receive.{carried, receiveCall}
 use Rattle.gauge.specs.Counts.{gaugeTick, gaugeList}
@@ -43,10 +45,10 @@ use Rattle.gauge.specs.Ours.{ours}
 unfoldable pub computed : Unit {0}
 unfolding valueBE valueLE digitsBE digitsLE splice same allZero distance ring half areKeys up isAbove nearness apart isDown tie closer
     orRefuse recordForm entryForm recordOf entryOf
-    put without among inOrder lastOr farthestOut trimmed learnWith happen after putBy withoutBy learnBy rows joined bytesOf
+    put without among inOrder lastOr has isListed farthestFrom dropsOf risingBy ownBy ownPlace trimmed learnWith happen after putBy withoutBy learnBy rows joined bytesOf
     follows leading heldIn heldOf cacheForm keyBytes standsIn onPath offPath closestFrom closestOf listCall
     newPlace placeBy anyOf placesBy usedIn usedOf waitingForm seek opened freed ticked listed idBytes tickDone
     arrayForm lookupForm splitForm hasShape kinds.kindsOf kinds.joinedFields kinds.sized spanAt needAt maybeAt placesAt fieldsAs wholeIn inPart foundIn
-    flagAt headOf precisionAt incomingOf ackMade floodMade inquireMade cpaMade closestMade
-    tablesFit memoryOf handsFit tickFit mustAsk asksFor floodPlan revokePlan authorityPlan lookupPlan planFor receivePlan carried receiveCall gaugeTick gaugeList
+    cpaForm cpasForm cpaOf flagAt headOf precisionAt incomingOf ackMade floodMade inquireMade cpaMade closestMade
+    tablesFit memoryOf handsFit tickFit mustAsk asksFor floodPlan revokePlan authorityPlan inquirePlan lookupPlan planFor receivePlan carried receiveCall gaugeTick gaugeList
 computed = tt

@@ -7,12 +7,14 @@ use Prim.Native.Nat.{ℕ, zero, suc, _+_, _*_, _^_, _≤_, _<_}
 use native.Mathlib.Omega.{arith}
 use lib.Dec.{eqb, ltb}
 use lib.ListN.{length, getD}
-use borrow.Author.Tests.{eqb-true, eqb-false, ltb-false, not-false}
+use borrow.Author.Tests.{eqb-true, ltb-false, not-false}
 use Rattle.octet.specs.Part.{part, splice}
 use Rattle.octet.proofs.TestLaws.{both-true}
 use Rattle.key.specs.Around.{below, above}
 use Rattle.key.specs.Number.{keyAt}
-use Rattle.record.specs.Record.{keyOf, recordForm}
+use Rattle.record.specs.Record.{keyOf}
+use Rattle.own.specs.Own.{ownKeys, isOwn, IsOwn}
+use Rattle.own.proofs.PlaceLaws.{own-in, not-own}
 use Rattle.refusal.proofs.CallLaws.{all-pass}
 use Rattle.refusal.proofs.TableLaws.{both}
 use Rattle.table.specs.Rows.{rows, joined}
@@ -23,7 +25,6 @@ use Rattle.cache.specs.Form.{keysOf, heldIn, heldOf, cacheForm}
 use Rattle.neighbours.specs.Listing.{keyBytes, countsOf, afterList}
 use Rattle.neighbours.specs.Calls.{Written, listWritten, listWrong, listCall}
 use Rattle.cache.specs.Calls.{heldBy}
-use Rattle.neighbours.proofs.CallLaws.{list-right}
 use Rattle.waiting.specs.Place.{idOf, triesOf, floodPlace}
 use Rattle.waiting.specs.Form.{usedOf, placesOf, waitingForm}
 use Rattle.waiting.specs.Tick.{oneLess, idBytes}
@@ -39,7 +40,7 @@ use Rattle.table.proofs.SeekLaws.{found-within}
 use Rattle.wire_fields.specs.Kinds.{floodKinds}
 use Rattle.wire_write.specs.Sent.{floodSent}
 use Rattle.wire_write.specs.Making.{floodMade}
-use Rattle.plan_send.specs.Send.{recordSent, heldAt, sendDone}
+use Rattle.plan_send.specs.Send.{recordSent, sentAt, heldAt, sendDone}
 use Rattle.gauge_plan.specs.Found.{isNothing, placeOf}
 use Rattle.gauge_commit.specs.Sending.{answer, lengths, sending, Handed, handed}
 use Rattle.gauge_commit.proofs.SentLaws.{joined-one}
@@ -55,6 +56,7 @@ use Rattle.gauge_laws.proofs.MovedLaws.{send-planned, send-told, send-places}
 use Rattle.gauge.specs.Ours.{ours}
 use Rattle.sentences.specs.Sentences as S
 use Rattle.sentences.proofs.MoveLaws.{found-in, seek-some, opened-in, ticked-in, listed-in}
+use Rattle.sentences.proofs.OursLaws.{right-of}
 use Rattle.sentences.proofs.LearnLaws.{table-by}
 
 pub start-one : (b output : List ℕ) → splice 0 b output ≡ sending (b ∷ []) output
@@ -74,10 +76,10 @@ module _ (m : Memory) (l : Tick) (z : gaugeTick m l .answer .number ≡ 0) where
   unfolding gaugeTick
   tick-is = all-pass _ (tickTable m l) _ (none-applies m (ticks l) z)
 
-  pub ticks-does : S.Ticks (keyOf (l .own)) m (l .output) (gaugeTick m l)
+  pub ticks-does : S.Ticks (ownKeys (l .own)) m (l .output) (gaugeTick m l)
   unfolding W.tickDone
   ticks-does =
-      let k = keyOf (l .own) in
+      let k = ownKeys (l .own) in
       let t = m .waiting in
       let ps = placesOf t in
       let f = form-of k t (tick-lent .waiting) in
@@ -96,26 +98,29 @@ module _ (m : Memory) (l : Tick) (z : gaugeTick m l .answer .number ≡ 0) where
 module _ (m : Memory) (l : Listing) (z : gaugeList m l .answer .number ≡ 0) where
   abbrev listDone : Written
   listDone =
-      let counts = countsOf (keyOf (l .own)) (heldBy (l .own) (m .cache)) in
-      listWritten (record { number = 0; below = counts .below; above = counts .above }) (afterList (keyOf (l .own)) (heldBy (l .own) (m .cache)) (l .output))
+      let counts = countsOf (keyAt 0 (l .key)) (heldBy (l .own) (m .cache)) in
+      listWritten (record { number = 0; below = counts .below; above = counts .above }) (afterList (keyAt 0 (l .key)) (heldBy (l .own) (m .cache)) (l .output))
 
   list-is : gaugeList m l ≡ listAnswered m listDone
   unfolding gaugeList listCall
-  list-is = ap (listAnswered m) (all-pass _ (listWrong (l .own) (m .cache) (l .output)) listDone (none-applies m (lists l) z))
+  list-is = ap (listAnswered m) (all-pass _ (listWrong (l .own) (m .cache) (l .key) (l .output)) listDone (none-applies m (lists l) z))
 
-  list-form : cacheForm (keyOf (l .own)) (m .cache) ≡ true
+  list-form : cacheForm (ownKeys (l .own)) (m .cache) ≡ true
   list-form = not-false _ (none-applies m (lists l) z .1 .0)
 
-  pub lists-does : S.Lists (keyOf (l .own)) m (l .output) (gaugeList m l)
+  list-ours : IsOwn (ownKeys (l .own)) (keyAt 0 (l .key))
+  list-ours = own-in (ownKeys (l .own)) (keyAt 0 (l .key)) (not-false _ (none-applies m (lists l) z .1 .1 .1 .0))
+
+  pub lists-does : S.Lists (ownKeys (l .own)) (keyAt 0 (l .key)) m (l .output) (gaugeList m l)
   lists-does =
-      let k = keyOf (l .own) in
-      let keys = keysOf (heldOf k (m .cache)) in
-      subst (S.Lists k m (l .output)) (sym list-is) (record {
+      let k = keyAt 0 (l .key) in
+      let keys = keysOf (heldOf (ownKeys (l .own)) (m .cache)) in
+      subst (S.Lists (ownKeys (l .own)) k m (l .output)) (sym list-is) (record {
         listed = record {
           low = neighbours k below keys;
           high = neighbours k above keys;
-          nearest-below = list-right (l .own) (m .cache) list-form below;
-          nearest-above = list-right (l .own) (m .cache) list-form above;
+          nearest-below = right-of (l .own) (m .cache) k list-ours list-form below;
+          nearest-above = right-of (l .own) (m .cache) k list-ours list-form above;
           counts = refl;
           bytes = start-one (keyBytes (neighbourList k keys)) (l .output);
         };
@@ -133,35 +138,35 @@ module _ (m : Memory) (l : Send) where
   named = keyAt 0 (l .key)
 
   abbrev recs : List (List ℕ)
-  recs = heldOf (keyOf (l .own)) (m .cache)
+  recs = heldOf (ownKeys (l .own)) (m .cache)
 
   -- the record that is sent: ours, or one held
   abbrev pub sentBy : Bool → List ℕ
-  sentBy b = recordSent (l .own) (m .cache) b (placeOf (heldAt named recs))
+  sentBy b = recordSent (l .own) (m .cache) b (sentAt (l .own) recs named)
 
-  module _ (bar : not (eqb named (keyOf (l .own))) && isNothing (heldAt named recs) ≡ false) where
-    held-one : eqb named (keyOf (l .own)) ≡ false → (part (100 * placeOf (heldAt named recs)) 100 (m .cache) ∈ recs)
+  module _ (bar : not (isOwn (ownKeys (l .own)) named) && isNothing (heldAt named recs) ≡ false) where
+    held-one : isOwn (ownKeys (l .own)) named ≡ false → (part (100 * placeOf (heldAt named recs)) 100 (m .cache) ∈ recs)
         × (keyOf (part (100 * placeOf (heldAt named recs)) 100 (m .cache)) ≡ named)
     unfolding heldOf
     held-one e =
         let t : List ℕ → Bool = λ (q : List ℕ). eqb (keyOf q) named in
         let at = placeOf (heldAt named recs) in
-        let some = second-false (eqb named (keyOf (l .own))) (isNothing (heldAt named recs)) bar e in
+        let some = second-false (isOwn (ownKeys (l .own)) named) (isNothing (heldAt named recs)) bar e in
         let found = seek-some t recs some in
         let w = found-in t at recs found in
         let n = found-within t at recs found in
         let here : getD recs at [] ≡ part (100 * at) 100 (m .cache) =
-        row-at 100 (heldIn (keyOf (l .own)) (m .cache)) (m .cache) at
-        (omega (arith, n, rows-length 100 (heldIn (keyOf (l .own)) (m .cache)) (m .cache))) in
+        row-at 100 (heldIn (ownKeys (l .own)) (m .cache)) (m .cache) at
+        (omega (arith, n, rows-length 100 (heldIn (ownKeys (l .own)) (m .cache)) (m .cache))) in
         (subst (λ (q : List ℕ). q ∈ recs) here (w .0), sym (ap keyOf here) ∙ eqb-true (keyOf (getD recs at [])) named (w .1))
 
-    pub named-by : (b : Bool) → eqb named (keyOf (l .own)) ≡ b → S.Named m l (sentBy b)
-    named-by true e = inl (eqb-true named (keyOf (l .own)) e, refl)
-    named-by false e = inr (eqb-false named (keyOf (l .own)) e, held-one e .0, held-one e .1)
+    pub named-by : (b : Bool) → isOwn (ownKeys (l .own)) named ≡ b → S.Named m l (sentBy b)
+    named-by true e = inl (own-in (ownKeys (l .own)) named e, rw e refl)
+    named-by false e = inr (not-own (ownKeys (l .own)) named e, rw e (held-one e .0), rw e (held-one e .1))
 
 module _ (m : Memory) (l : Send) (small : l .id < 2 ^ 32) (z : sendCall m l .answer .number ≡ 0) where
   abbrev r : List ℕ
-  r = sentBy m l (eqb (named m l) (keyOf (l .own)))
+  r = sentBy m l (isOwn (ownKeys (l .own)) (named m l))
 
   sent-is : floodMade (l .major) (l .minor) (l .id) (l .neighbour) r 0 .bytes ∷ [] ≡ S.flooding l r
   unfolding floodMade
@@ -176,7 +181,7 @@ module _ (m : Memory) (l : Send) (small : l .id < 2 ^ 32) (z : sendCall m l .ans
   unfolding sendCarried
   sends-does = record {
     r = r;
-    named = named-by m l (none-applies m (sends l) z .1 .1 .1 .0) (eqb (named m l) (keyOf (l .own))) refl;
+    named = named-by m l (none-applies m (sends l) z .1 .1 .1 .0) (isOwn (ownKeys (l .own)) (named m l)) refl;
     sent = record {
       counts = ap (λ (h : Handed). h .answer) send-is ∙ ap lengths sent-is;
       bytes = ap (λ (h : Handed). h .output) send-is ∙ ap (λ (ds : List (List ℕ)). sending ds (l .output)) sent-is;

@@ -10,9 +10,9 @@ use lib.Dec.{eqb}
 use borrow.Author.Tests.{eqb-false}
 use Rattle.octet.specs.Part.{part}
 use Rattle.key.specs.Number.{keyAt}
-use Rattle.record.specs.Record.{keyOf}
 use Rattle.record.specs.Entry.{entryForm, recordOf}
 use Rattle.record.proofs.EntryLaws.{form-length, record-form}
+use Rattle.own.specs.Own.{ownKeys}
 use Rattle.refusal.proofs.TableLaws.{AllFail, both}
 use Rattle.table.specs.Rows.{bytesOf, anyOf}
 use Rattle.table.proofs.RowLaws.{rows-length}
@@ -47,7 +47,8 @@ use Rattle.sentences.specs.Sentences as S
 use Rattle.sentences.proofs.MoveLaws.{opened-in, none-inquires}
 use Rattle.sentences.proofs.LearnLaws.{table-by, removes}
 use Rattle.sentences.proofs.HeardLaws.{saidBy}
-use Rattle.sentences.proofs.WordLaws.{not-iff, must-iff, none-asked}
+use Rattle.sentences.proofs.WordLaws.{must-iff, none-asked}
+use Rattle.sentences.proofs.OursLaws.{ours-iff}
 use Rattle.sentences.proofs.PlanLaws.{held, used, Fine, Does, table-form, ids-rise, passed}
 
 -- of two tests that do not hold together, where the first does the second does not
@@ -57,7 +58,7 @@ second-fails false b e h = both h refl
 
 module _ (m : Memory) (l : Receive) (ok : Fine m l) where
   abbrev recs : List (List ℕ)
-  recs = heldOf (keyOf (l .own)) (m .cache)
+  recs = heldOf (ownKeys (l .own)) (m .cache)
 
   abbrev ps : List (List ℕ)
   ps = placesOf (m .waiting)
@@ -69,27 +70,27 @@ module _ (m : Memory) (l : Receive) (ok : Fine m l) where
     r = recordOf (part start len (l .datagram))
 
     abbrev n : Bool
-    n = notOurs (keyOf (l .own)) validate (l .datagram)
+    n = notOurs (ownKeys (l .own)) validate (l .datagram)
 
     entry-table : (b : Bool) → mustAsk recs ps r ≡ b
-        → S.WaitsExactly (keyOf (l .own)) (cond b (bytesOf 2240 (opened (inquiryPlace (idAfter (l .id)) r) ps)) (m .waiting))
-        (λ (p : List ℕ). S.Waits m p ⊎ (S.MustAsk (keyOf (l .own)) m r × (p ≡ inquiryPlace (idAfter (l .id)) r)))
+        → S.WaitsExactly (ownKeys (l .own)) (cond b (bytesOf 2240 (opened (inquiryPlace (idAfter (l .id)) r) ps)) (m .waiting))
+        (λ (p : List ℕ). S.Waits m p ⊎ (S.MustAsk (ownKeys (l .own)) m r × (p ≡ inquiryPlace (idAfter (l .id)) r)))
     entry-table true e =
-        let must = must-iff (keyOf (l .own)) m r .0 e in
+        let must = must-iff (ownKeys (l .own)) m r .0 e in
         let good = record-form (part start len (l .datagram)) formed in
         let full = eqb-false (used m l) 16 (second-fails (mustAsk recs ps r) (eqb (used m l) 16) (bars .1 .1 .0) e) in
-        let g = open-inquiry (keyOf (l .own)) (m .waiting) ps (table-form m l ok) (idAfter (l .id)) r
+        let g = open-inquiry (ownKeys (l .own)) (m .waiting) ps (table-form m l ok) (idAfter (l .id)) r
         (omega (arith, rows-length 140 (used m l) (m .waiting), ok .ready .few, full))
         (mod-lt _ (omega arith)) (form-length r good) good (bars .0)
         (second-fails (mustAsk recs ps r) (anyOf (hasId (idAfter (l .id))) ps) (bars .1 .0) e)
-        (none-asked (keyOf (l .own)) m r must) in
-        table-by (keyOf (l .own)) _ (opened (inquiryPlace (idAfter (l .id)) r) ps) _ g
+        (none-asked (ownKeys (l .own)) m r must) in
+        table-by (ownKeys (l .own)) _ (opened (inquiryPlace (idAfter (l .id)) r) ps) _ g
         (λ q. (
           λ i. elim (opened-in (inquiryPlace (idAfter (l .id)) r) q ps .0 i) [ inl w ↦ inl w | inr w ↦ inr (must, w) ],
           λ i. opened-in (inquiryPlace (idAfter (l .id)) r) q ps .1 (elim i [ inl w ↦ inl w | inr w ↦ inr (w .1) ]),
         ))
-    entry-table false e = table-by (keyOf (l .own)) (m .waiting) ps _ (table-form m l ok)
-        (λ q. (λ i. inl i, λ i. elim i [ inl w ↦ w | inr w ↦ both (must-iff (keyOf (l .own)) m r .1 (w .0)) e ]))
+    entry-table false e = table-by (ownKeys (l .own)) (m .waiting) ps _ (table-form m l ok)
+        (λ q. (λ i. inl i, λ i. elim i [ inl w ↦ w | inr w ↦ both (must-iff (ownKeys (l .own)) m r .1 (w .0)) e ]))
 
     entry-does : Does m l (entry id s (keyAt validate (l .datagram)) r) (Flood (used m l) s n id (mustAsk recs ps r) start len)
     unfolding carried ackMade inquireMade
@@ -100,8 +101,8 @@ module _ (m : Memory) (l : Receive) (ok : Fine m l) where
       reply = record {
         n = n;
         ask = mustAsk recs ps r;
-        set = not-iff (keyAt validate (l .datagram)) (keyOf (l .own));
-        asked = must-iff (keyOf (l .own)) m r;
+        set = ours-iff (ownKeys (l .own)) (keyAt validate (l .datagram));
+        asked = must-iff (ownKeys (l .own)) m r;
         are = refl;
       };
       sent = record { counts = refl; bytes = refl };
@@ -111,7 +112,7 @@ module _ (m : Memory) (l : Receive) (ok : Fine m l) where
 
   -- FLOOD with a revocation
   revoke-does : (id : ℕ) (s : Bool) (validate : ℕ)
-      → Does m l (revoke id s (keyAt validate (l .datagram))) (Revoke (held m l) (used m l) s (notOurs (keyOf (l .own)) validate (l .datagram)) id)
+      → Does m l (revoke id s (keyAt validate (l .datagram))) (Revoke (held m l) (used m l) s (notOurs (ownKeys (l .own)) validate (l .datagram)) id)
   unfolding carried ackMade heldOf
   revoke-does id s validate h =
       let u = keyAt 0 (l .key) in
@@ -120,22 +121,22 @@ module _ (m : Memory) (l : Receive) (ok : Fine m l) where
         hears = h;
         ds = _;
         reply = record {
-          n = notOurs (keyOf (l .own)) validate (l .datagram);
-          set = not-iff (keyAt validate (l .datagram)) (keyOf (l .own));
+          n = notOurs (ownKeys (l .own)) validate (l .datagram);
+          set = ours-iff (ownKeys (l .own)) (keyAt validate (l .datagram));
           are = refl;
         };
         sent = record { counts = refl; bytes = refl };
         leaves = record {
-          cache = removes (keyOf (l .own)) m (ok .ready .cached) u;
-          table = table-by (keyOf (l .own)) _ (freedAt (seek (isInquiry u) 0 ps) ps) _ (freed-form (seek (isInquiry u) 0 ps))
-              (λ q. none-inquires (keyOf (l .own)) u q ps (form-placed (keyOf (l .own)) (m .waiting) (ok .ready .tabled)) (ids-rise m l ok));
+          cache = removes (ownKeys (l .own)) m (ok .ready .cached) u;
+          table = table-by (ownKeys (l .own)) _ (freedAt (seek (isInquiry u) 0 ps) ps) _ (freed-form (seek (isInquiry u) 0 ps))
+              (λ q. none-inquires (ownKeys (l .own)) u q ps (form-placed (ownKeys (l .own)) (m .waiting) (ok .ready .tabled)) (ids-rise m l ok));
         };
         rest = refl;
       }
     where
-      freed-form : (found : Found) → W.PlacesForm (keyOf (l .own)) (bytesOf 2240 (freedAt found ps)) (freedAt found ps)
-      freed-form (At i) = free-kept (keyOf (l .own)) (m .waiting) ps (table-form m l ok) i
-      freed-form Nothing = subst (λ (t : List ℕ). W.PlacesForm (keyOf (l .own)) t ps) (table-form m l ok .bytes) (table-form m l ok)
+      freed-form : (found : Found) → W.PlacesForm (ownKeys (l .own)) (bytesOf 2240 (freedAt found ps)) (freedAt found ps)
+      freed-form (At i) = free-kept (ownKeys (l .own)) (m .waiting) ps (table-form m l ok) i
+      freed-form Nothing = subst (λ (t : List ℕ). W.PlacesForm (ownKeys (l .own)) t ps) (table-form m l ok .bytes) (table-form m l ok)
 
   -- any FLOOD
   pub flood-does : (head : Head) (s : Bool) (validate : ℕ) (route : Part) → EntryIn (l .datagram) route → AllFail (floodTable m l s validate route)

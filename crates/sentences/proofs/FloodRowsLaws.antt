@@ -14,6 +14,8 @@ use Rattle.octet.proofs.TestLaws.{both-true}
 use Rattle.key.specs.Number.{keyAt}
 use Rattle.record.specs.Record.{keyOf}
 use Rattle.record.specs.Entry.{entryForm, recordOf}
+use Rattle.own.specs.Own.{Own, ownKeys}
+use Rattle.own.proofs.PlaceLaws.{own-in, in-own}
 use Rattle.refusal.specs.Table.{placeIn, Before}
 use Rattle.refusal.proofs.TableLaws.{sooner}
 use Rattle.table.specs.Rows.{joined, anyOf}
@@ -41,17 +43,18 @@ use Rattle.sentences.specs.Numbers as Num
 use Rattle.sentences.proofs.MoveLaws.{any-in, in-any}
 use Rattle.sentences.proofs.HeardLaws.{saidBy}
 use Rattle.sentences.proofs.WordLaws.{not-iff, must-iff}
+use Rattle.sentences.proofs.OursLaws.{ours-iff}
 use Rattle.plan_flood.proofs.FloodLaws.{ack-most}
 use Rattle.asking.proofs.AskingLaws.{inquire-most}
 use Rattle.sentences.proofs.FirstLaws.{Row}
 use Rattle.sentences.proofs.SaidLaws.{Said, short-to, short-from, First, Both, good}
 
 module _ (m : Memory) (l : Receive) (n : ℕ) (low : First m l n) where
-  abbrev k : ℕ
-  k = keyOf (l .own)
+  abbrev k : Own
+  k = ownKeys (l .own)
 
   abbrev recs : List (List ℕ)
-  recs = heldOf (keyOf (l .own)) (m .cache)
+  recs = heldOf (ownKeys (l .own)) (m .cache)
 
   abbrev ps : List (List ℕ)
   ps = placesOf (m .waiting)
@@ -74,7 +77,7 @@ module _ (m : Memory) (l : Receive) (n : ℕ) (low : First m l n) where
     ds = S.acks l id s b ++ S.asks l o r
 
     entry-reply : S.Reply m l x ds
-    entry-reply = record { n = b; ask = o; set = not-iff (keyAt validate (l .datagram)) k; asked = must-iff k m r; are = refl }
+    entry-reply = record { n = b; ask = o; set = ours-iff k (keyAt validate (l .datagram)); asked = must-iff k m r; are = refl }
 
     asks-room : length (l .nonce) ≡ 16 → (y : Bool) → length (joined (S.asks l y r)) ≡ inquireRoom y
     unfolding joined inquireMade
@@ -97,7 +100,7 @@ module _ (m : Memory) (l : Receive) (n : ℕ) (low : First m l n) where
         full-is = rows-length 140 (usedOf (m .waiting)) (m .waiting)
 
         to : Said m l x n → Row n (floodTable m l s validate (Here start len))
-        to (inl (inl w)) = inl (w .0, eq-eqb (keyOf r) k (w .1))
+        to (inl (inl w)) = inl (w .0, in-own k (keyOf r) (w .1))
         to (inl (inr (inl w))) =
             let there = any-in (hasId (idAfter (l .id))) (w .2) ps (w .3) (eq-eqb (idOf (w .2)) (idAfter (l .id)) (w .4)) in
             inr (inl (w .0, rw (must-iff k m r .1 (w .1), there) refl))
@@ -105,11 +108,11 @@ module _ (m : Memory) (l : Receive) (n : ℕ) (low : First m l n) where
             inr (inr (inl (w .0, rw (must-iff k m r .1 (w .1), eq-eqb (usedOf (m .waiting)) 16 (sym full-is ∙ w .2)) refl)))
         to (inr w) =
             let g = good m l n low (sooner 1 15 (unfold placeIn in refl) (w .0)) in
-            inr (inr (inr (inl (short-from m l x ds n _ (g .cache) entry-reply (entry-room (g .nonce))
+            inr (inr (inr (inl (short-from m l x ds n _ g entry-reply (entry-room (g .nonce))
             (omega (arith, ack-most s b, inquire-most o)) w))))
 
         from : Row n (floodTable m l s validate (Here start len)) → Said m l x n
-        from (inl w) = inl (inl (w .0, eqb-true (keyOf r) k (w .1)))
+        from (inl w) = inl (inl (w .0, own-in k (keyOf r) (w .1)))
         from (inr (inl w)) =
             let v = both-true o (anyOf (hasId (idAfter (l .id))) ps) (w .1) in
             let p = in-any (hasId (idAfter (l .id))) ps (v .1) in
@@ -129,7 +132,7 @@ module _ (m : Memory) (l : Receive) (n : ℕ) (low : First m l n) where
     rb = notOurs k validate (l .datagram)
 
     revoke-reply : S.Reply m l rx (S.acks l id s rb)
-    revoke-reply = record { n = rb; set = not-iff (keyAt validate (l .datagram)) k; are = refl }
+    revoke-reply = record { n = rb; set = ours-iff k (keyAt validate (l .datagram)); are = refl }
 
     revoke-room : length (joined (S.acks l id s rb)) ≡ ackRoom s rb
     unfolding ackMade
@@ -143,14 +146,14 @@ module _ (m : Memory) (l : Receive) (n : ℕ) (low : First m l n) where
 
         to : Said m l rx n → Row n (floodTable m l s validate Absent)
         to (inl (inl w)) = inl (w .0, not-iff (l .verdict) 1 .1 (w .1))
-        to (inl (inr w)) = inr (inl (w .0, eq-eqb (keyAt 0 (l .key)) k (w .2)))
+        to (inl (inr w)) = inr (inl (w .0, in-own k (keyAt 0 (l .key)) (w .2)))
         to (inr w) =
             let g = good m l n low (sooner 1 15 (unfold placeIn in refl) (w .0)) in
-            inr (inr (inl (short-from m l rx (S.acks l id s rb) n _ (g .cache) revoke-reply revoke-room (omega (arith, ack-most s rb)) w)))
+            inr (inr (inl (short-from m l rx (S.acks l id s rb) n _ g revoke-reply revoke-room (omega (arith, ack-most s rb)) w)))
 
         from : Row n (floodTable m l s validate Absent) → Said m l rx n
         from (inl w) = inl (inl (w .0, not-iff (l .verdict) 1 .0 (w .1)))
-        from (inr (inl w)) = inl (inr (w .0, is-good (sooner 9 11 (unfold placeIn in refl) (w .0)), eqb-true (keyAt 0 (l .key)) k (w .1)))
+        from (inr (inl w)) = inl (inr (w .0, is-good (sooner 9 11 (unfold placeIn in refl) (w .0)), own-in k (keyAt 0 (l .key)) (w .1)))
         from (inr (inr (inl w))) = inr (short-to m l rx (S.acks l id s rb) n _ revoke-reply revoke-room w)
         from (inr (inr (inr w))) = absurd w
 

@@ -12,7 +12,7 @@ use Rattle.octet.specs.Number.{digitsLE}
 use Rattle.octet.specs.Part.{part}
 use Rattle.octet.proofs.LittleLaws.{valueLE-digitsLE}
 use Rattle.refusal.proofs.TableLaws.{both}
-use Rattle.record.specs.Record.{keyOf}
+use Rattle.own.specs.Own.{Own, ownKeys}
 use Rattle.kept.specs.Keys.{_∈_, Every}
 use Rattle.kept.proofs.WithoutLaws.{eq-or}
 use Rattle.waiting.specs.Place.{idOf, triesOf, newPlace}
@@ -47,11 +47,11 @@ new-is : (id kind tries : ℕ) (key held : List ℕ) → id < 2 ^ 32 → idOf (n
 unfolding newPlace digitsLE
 new-is id kind tries key held small = valueLE-digitsLE 256 4 id (omega arith) small
 
-few-left : (k : ℕ) (t : List ℕ) → waitingForm k t ≡ true → (q : List ℕ) → q ∈ placesOf t → triesOf q ≤ 2
+few-left : (k : Own) (t : List ℕ) → waitingForm k t ≡ true → (q : List ℕ) → q ∈ placesOf t → triesOf q ≤ 2
 few-left k t f q i = form-tries k q (place-formed k t f q i)
 
 -- what waits with the ID of p after an accepted call is p, and a tick takes a try from it
-module _ (m : Memory) (k : ℕ) (form : waitingForm k (m .waiting) ≡ true) where
+module _ (m : Memory) (k : Own) (form : waitingForm k (m .waiting) ≡ true) where
   only : (p : List ℕ) → S.Waits m p → (r : List ℕ) → S.Waits m r → idOf r ≡ idOf p → r ≡ p
   only p wait r w e = rise-one idOf 0 r p (placesOf (m .waiting)) (places-rise k (m .waiting) form) w wait e
 
@@ -76,12 +76,12 @@ module _ (m : Memory) (k : ℕ) (form : waitingForm k (m .waiting) ≡ true) whe
   leaves-came l low other left h w p q wait y e = absurd w
 
   leaves-few : (l : Receive) (x : Heard) (left : Memory) → S.Leaves m l x left → (q : List ℕ) → S.Waits left q → triesOf q ≤ 2
-  leaves-few l (entry i s v r) left w q y = few-left (keyOf (l .own)) (left .waiting) (w .table .form) q y
-  leaves-few l (revoke i s v) left w q y = few-left (keyOf (l .own)) (left .waiting) (w .table .form) q y
+  leaves-few l (entry i s v r) left w q y = few-left (ownKeys (l .own)) (left .waiting) (w .table .form) q y
+  leaves-few l (revoke i s v) left w q y = few-left (ownKeys (l .own)) (left .waiting) (w .table .form) q y
   leaves-few l (inquire i v) left w q y = few-left k (m .waiting) form q (subst (λ (n : Memory). S.Waits n q) w y)
-  leaves-few l (authority acked c) left w q y = few-left (keyOf (l .own)) (left .waiting) (w .table .form) q y
-  leaves-few l (ack acked n) left w q y = few-left (keyOf (l .own)) (left .waiting) (w .table .form) q y
-  leaves-few l (lookup i t path o) left w q y = few-left (keyOf (l .own)) (left .waiting) (w .table .form) q y
+  leaves-few l (authority acked c) left w q y = few-left (ownKeys (l .own)) (left .waiting) (w .table .form) q y
+  leaves-few l (ack acked n) left w q y = few-left (ownKeys (l .own)) (left .waiting) (w .table .form) q y
+  leaves-few l (lookup i t path o) left w q y = few-left (ownKeys (l .own)) (left .waiting) (w .table .form) q y
   leaves-few l other left w q y = absurd w
 
 -- how many tries the call takes
@@ -100,32 +100,32 @@ does-came m (receives l) h ty low s =
     let form = true-by _ (λ e. low 1 (Num.out-of-form refl (λ w. both (w .waiting) e))) in
     inr (
       λ p q wait y e.
-          let is = ap triesOf (leaves-came m (keyOf (l .own)) form l (low 13) (s .x) (h .memory) (s .hears) (s .leaves) p q wait y e) in
+          let is = ap triesOf (leaves-came m (ownKeys (l .own)) form l (low 13) (s .x) (h .memory) (s .hears) (s .leaves) p q wait y e) in
           omega arith,
-      λ q y. let few = leaves-few m (keyOf (l .own)) form l (s .x) (h .memory) (s .leaves) q y in omega arith,
+      λ q y. let few = leaves-few m (ownKeys (l .own)) form l (s .x) (h .memory) (s .leaves) q y in omega arith,
     )
 does-came m (sends l) h ty low s =
     let form = true-by _ (λ e. low 1 (Num.send-out-of-form refl (λ w. both (w .waiting) e))) in
     inr (
       λ p q wait y e. elim (s .table .members q .0 y) [
-        | inl was ↦ let is = ap triesOf (only m (keyOf (l .own)) form p wait q was e) in omega arith
+        | inl was ↦ let is = ap triesOf (only m (ownKeys (l .own)) form p wait q was e) in omega arith
         | inr is ↦ absurd (low 13 (Num.send-id-waits refl p wait (sym e ∙ ap idOf is ∙ new-is (l .id) 1 2 (l .neighbour) _ ty)))
       ],
-      λ q y. let few = few-left (keyOf (l .own)) (h .memory .waiting) (s .table .form) q y in omega arith,
+      λ q y. let few = few-left (ownKeys (l .own)) (h .memory .waiting) (s .table .form) q y in omega arith,
     )
 does-came m (ticks l) h ty low s =
     let form = true-by _ (λ e. low 1 (inl (refl, λ w. both (w .waiting) e))) in
-    let sized = form-of (keyOf (l .own)) (m .waiting) form .sized in
+    let sized = form-of (ownKeys (l .own)) (m .waiting) form .sized in
     inr (
       λ p q wait y e.
           let w = s .table .members q .0 y in
-          let is : w .0 ≡ p = only m (keyOf (l .own)) form p wait (w .0) (w .1) (sym (ap idOf (w .3) ∙ less-id (w .0)) ∙ e) in
+          let is : w .0 ≡ p = only m (ownKeys (l .own)) form p wait (w .0) (w .1) (sym (ap idOf (w .3) ∙ less-id (w .0)) ∙ e) in
           let less = ap triesOf (w .3) ∙ less-tries (w .0) (sized-in 140 (placesOf (m .waiting)) sized (w .0) (w .1)) in
           omega (arith, less, w .2, ap triesOf is),
       λ q y.
           let w = s .table .members q .0 y in
           let less = ap triesOf (w .3) ∙ less-tries (w .0) (sized-in 140 (placesOf (m .waiting)) sized (w .0) (w .1)) in
-          omega (arith, less, w .2, few-left (keyOf (l .own)) (m .waiting) form (w .0) (w .1)),
+          omega (arith, less, w .2, few-left (ownKeys (l .own)) (m .waiting) form (w .0) (w .1)),
     )
 does-came m (lists l) h ty low s = inl (s .same, refl)
 

@@ -13,6 +13,7 @@ use Rattle.octet.specs.Part.{part}
 use Rattle.key.specs.Number.{keyAt}
 use Rattle.record.specs.Record.{keyOf, recordForm}
 use Rattle.record.proofs.EntryLaws.{form-length, record-form}
+use Rattle.own.specs.Own.{Own, ownForm, ownKeys}
 use Rattle.kept.proofs.WithoutLaws.{eq-or}
 use Rattle.kept.specs.Keys.{Every, _∈_}
 use Rattle.kept.proofs.PutLaws.{Tri, less, same, more, tri}
@@ -40,7 +41,7 @@ abbrev Quiet : ℕ → Memory → Type 0
 Quiet u m = ¬ ((p : List ℕ) × S.Waits m p × S.Inquiry u p)
 
 -- no record of the key is held, for the own key k
-abbrev Out : ℕ → ℕ → Memory → Type 0
+abbrev Out : Own → ℕ → Memory → Type 0
 Out k u m = (r : List ℕ) → S.Holds k m r → ¬ (keyOf r ≡ u)
 
 -- ---- the record of a FLOOD is in form
@@ -62,8 +63,8 @@ flood-kind id key e = new-kind id 1 2 key (replicate 100 0) e (length-replicate 
 
 module _ (u : ℕ) (m : Memory) (quiet : Quiet u m) where
   leaves-quiet : (l : Receive) → Bytes (l .datagram) → (x : Heard) (left : Memory) → Hears (l .datagram) (l .major) x
-      → ((i : ℕ) (s : Bool) (v : ℕ) (r : List ℕ) → Hears (l .datagram) (l .major) (entry i s v r) → keyOf r ≡ u → ¬ S.MustAsk (keyOf (l .own)) m r)
-      → ((i t : ℕ) (path r : List ℕ) → Hears (l .datagram) (l .major) (lookup i t path (O.some r)) → keyOf r ≡ u → ¬ S.MustAsk (keyOf (l .own)) m r)
+      → ((i : ℕ) (s : Bool) (v : ℕ) (r : List ℕ) → Hears (l .datagram) (l .major) (entry i s v r) → keyOf r ≡ u → ¬ S.MustAsk (ownKeys (l .own)) m r)
+      → ((i t : ℕ) (path r : List ℕ) → Hears (l .datagram) (l .major) (lookup i t path (O.some r)) → keyOf r ≡ u → ¬ S.MustAsk (ownKeys (l .own)) m r)
       → S.Leaves m l x left → Quiet u left
   leaves-quiet l b (entry i s v r) left h none neither w q =
       elim (w .table .members (q .0) .0 (q .1)) [
@@ -100,7 +101,7 @@ module _ (u : ℕ) (m : Memory) (quiet : Quiet u m) where
   does-quiet (lists l) h ty none low s q = quiet (q .0, subst (λ (y : Memory). S.Waits y (q .0)) (s .same) (q .1), q .2)
 
   -- what is learned is the record of an inquiry that waited, and none for the key did
-  learns-out : (k : ℕ) (r cache : List ℕ) → ¬ (keyOf r ≡ u) → S.Learns k m r cache → Out k u m → (q : List ℕ) → q ∈ heldOf k cache → ¬ (keyOf q ≡ u)
+  learns-out : (k : Own) (r cache : List ℕ) → ¬ (keyOf r ≡ u) → S.Learns k m r cache → Out k u m → (q : List ℕ) → q ∈ heldOf k cache → ¬ (keyOf q ≡ u)
   learns-out k r cache not-u s out q i e = go (tri (placesIn (length (m .cache))) (length (s .more)))
     where
       there : q ∈ s .more → ⊥
@@ -111,26 +112,26 @@ module _ (u : ℕ) (m : Memory) (quiet : Quiet u m) where
       go (same h) = there (s .fits (omega arith) .members q .0 i)
       go (more h) = there (s .fits (omega arith) .members q .0 i)
 
-  leaves-out : (l : Receive) → waitingForm (keyOf (l .own)) (m .waiting) ≡ true → (x : Heard) (left : Memory) → S.Leaves m l x left
-      → Out (keyOf (l .own)) u m → Out (keyOf (l .own)) u left
-  leaves-out l f (entry i s v r) left w out q y = out q (subst (λ (c : List ℕ). q ∈ heldOf (keyOf (l .own)) c) (w .cache) y)
+  leaves-out : (l : Receive) → waitingForm (ownKeys (l .own)) (m .waiting) ≡ true → (x : Heard) (left : Memory) → S.Leaves m l x left
+      → Out (ownKeys (l .own)) u m → Out (ownKeys (l .own)) u left
+  leaves-out l f (entry i s v r) left w out q y = out q (subst (λ (c : List ℕ). q ∈ heldOf (ownKeys (l .own)) c) (w .cache) y)
   leaves-out l f (revoke i s v) left w out q y = out q (w .cache .members q .0 y .0)
-  leaves-out l f (inquire i v) left w out q y = out q (subst (λ (n : Memory). S.Holds (keyOf (l .own)) n q) w y)
+  leaves-out l f (inquire i v) left w out q y = out q (subst (λ (n : Memory). S.Holds (ownKeys (l .own)) n q) w y)
   leaves-out l f (authority acked c) left w out q y =
-      let formed = place-formed (keyOf (l .own)) (m .waiting) f (w .p) (w .answers .0) in
-      let key = inquiry-key (keyOf (l .own)) (w .p) formed (w .answers .2) in
-      learns-out (keyOf (l .own)) (placeRecord (w .p)) (left .cache) (λ e. quiet (w .p, w .answers .0, (w .answers .2, sym key ∙ e)))
+      let formed = place-formed (ownKeys (l .own)) (m .waiting) f (w .p) (w .answers .0) in
+      let key = inquiry-key (ownKeys (l .own)) (w .p) formed (w .answers .2) in
+      learns-out (ownKeys (l .own)) (placeRecord (w .p)) (left .cache) (λ e. quiet (w .p, w .answers .0, (w .answers .2, sym key ∙ e)))
       (w .cache) out q y
   leaves-out l f (ack acked n) left w out q y = out q (w .cache .members q .0 y .0)
-  leaves-out l f (lookup i t path o) left w out q y = out q (subst (λ (c : List ℕ). q ∈ heldOf (keyOf (l .own)) c) (w .cache) y)
+  leaves-out l f (lookup i t path o) left w out q y = out q (subst (λ (c : List ℕ). q ∈ heldOf (ownKeys (l .own)) c) (w .cache) y)
   leaves-out l f other left w out q y = absurd w
 
-  does-out : (k : ℕ) (c : Call) (h : Handed) → OneKey k c → ((i : ℕ) → ¬ Num.Applies m c i) → S.Does m c h → Out k u m → Out k u (h .memory)
+  does-out : (k : Own) (c : Call) (h : Handed) → OneKey k c → ((i : ℕ) → ¬ Num.Applies m c i) → S.Does m c h → Out k u m → Out k u (h .memory)
   does-out k (receives l) h one low s out q y =
       let g = Said.is-lent m l (low 1) in
-      let e : keyOf (l .own) ≡ k = one (g .own) in
-      subst (λ (j : ℕ). Out j u (h .memory)) e
-      (leaves-out l (g .waiting) (s .x) (h .memory) (s .leaves) (subst (λ (j : ℕ). Out j u m) (sym e) out)) q y
+      let e : ownKeys (l .own) ≡ k = one (g .own) in
+      subst (λ (j : Own). Out j u (h .memory)) e
+      (leaves-out l (g .waiting) (s .x) (h .memory) (s .leaves) (subst (λ (j : Own). Out j u m) (sym e) out)) q y
   does-out k (sends l) h one low s out q y = out q (subst (λ (x : Memory). q ∈ heldOf k (x .cache)) (s .rest) y)
   does-out k (ticks l) h one low s out q y = out q (subst (λ (x : Memory). q ∈ heldOf k (x .cache)) (s .rest) y)
   does-out k (lists l) h one low s out q y = out q (subst (λ (n : Memory). S.Holds k n q) (s .same) y)
@@ -150,14 +151,14 @@ module _ (g : Gauge) (p : MeetsSentences g) (u : ℕ) where
   left-quiet m [] none quiet = quiet
   left-quiet m (c ∷ cs) none quiet = left-quiet (g m c .memory) cs (none .2) (step-quiet m c (none .0) (none .1) quiet)
 
-  step-out : (k : ℕ) (m : Memory) (c : Call) → Typed c → OneKey k c → Quiet u m → Out k u m → Out k u (g m c .memory)
+  step-out : (k : Own) (m : Memory) (c : Call) → Typed c → OneKey k c → Quiet u m → Out k u m → Out k u (g m c .memory)
   step-out k m c ty one quiet out = go (g m c .answer .number) refl
     where
       go : (n : ℕ) → g m c .answer .number ≡ n → Out k u (g m c .memory)
       go zero e = does-out u m quiet k c (g m c) one (p .table .accepted m c ty .0 e) (p .does m c ty e) out
       go (suc n) e = subst (λ (h : Handed). Out k u (h .memory)) (sym (p .table .keeps m c (omega arith))) out
 
-  left-out : (k : ℕ) (m : Memory) (cs : List Call) → Every (OneKey k) cs → L.NoneAsks g u m cs → Quiet u m → Out k u m → Out k u (left g m cs)
+  left-out : (k : Own) (m : Memory) (cs : List Call) → Every (OneKey k) cs → L.NoneAsks g u m cs → Quiet u m → Out k u m → Out k u (left g m cs)
   unfolding left
   left-out k m [] one none quiet out = out
   left-out k m (c ∷ cs) one none quiet out =
@@ -165,13 +166,13 @@ module _ (g : Gauge) (p : MeetsSentences g) (u : ℕ) where
 
   -- what an accepted revocation leaves, with an own record in form
   revoked-leaves : (m : Memory) (c : Call) → Typed c → L.Revokes u c → g m c .answer .number ≡ 0
-      → (recordForm (ownOf c) ≡ true) × S.FloodRevokes (keyOf (ownOf c)) m u (g m c .memory)
+      → (ownForm (ownOf c) ≡ true) × S.FloodRevokes (ownKeys (ownOf c)) m u (g m c .memory)
   revoked-leaves m (receives l) ty w z =
       let c = receives l in
       let s = p .does m c ty z in
       let e = hears-one (l .datagram) (l .major) (s .x) (revoke (w .0) (w .1) (w .2)) (s .hears) (w .3) in
-      let v : S.FloodRevokes (keyOf (l .own)) m (keyAt 0 (l .key)) (g m c .memory) = subst (λ (x : Heard). S.Leaves m l x (g m c .memory)) e (s .leaves) in
-      (Said.is-lent m l (p .table .accepted m c ty .0 z 1) .own, subst (λ (j : ℕ). S.FloodRevokes (keyOf (l .own)) m j (g m c .memory)) (w .4) v)
+      let v : S.FloodRevokes (ownKeys (l .own)) m (keyAt 0 (l .key)) (g m c .memory) = subst (λ (x : Heard). S.Leaves m l x (g m c .memory)) e (s .leaves) in
+      (Said.is-lent m l (p .table .accepted m c ty .0 z 1) .own, subst (λ (j : ℕ). S.FloodRevokes (ownKeys (l .own)) m j (g m c .memory)) (w .4) v)
   revoked-leaves m (sends l) ty w z = absurd w
   revoked-leaves m (ticks l) ty w z = absurd w
   revoked-leaves m (lists l) ty w z = absurd w
@@ -181,9 +182,9 @@ module _ (g : Gauge) (p : MeetsSentences g) (u : ℕ) where
   revoked-quiet m c ty w z q = revoked-leaves m c ty w z .1 .table .members (q .0) .0 (q .1) .1 (q .2)
 
   -- and no record of it held
-  revoked-out : (k : ℕ) (m : Memory) (c : Call) → Typed c → OneKey k c → L.Revokes u c → g m c .answer .number ≡ 0 → Out k u (g m c .memory)
+  revoked-out : (k : Own) (m : Memory) (c : Call) → Typed c → OneKey k c → L.Revokes u c → g m c .answer .number ≡ 0 → Out k u (g m c .memory)
   revoked-out k m c ty one w z =
-      subst (λ (j : ℕ). Out j u (g m c .memory)) (one (revoked-leaves m c ty w z .0)) (λ r i. revoked-leaves m c ty w z .1 .cache .members r .0 i .1)
+      subst (λ (j : Own). Out j u (g m c .memory)) (one (revoked-leaves m c ty w z .0)) (λ r i. revoked-leaves m c ty w z .1 .cache .members r .0 i .1)
 
   -- an AUTHORITY for another key than the inquiry's is refused, as one without a CPA or with a bad verdict is
   other-refused : (m : Memory) (l : Receive) (acked : ℕ) (cpa : Bool) → Num.Says l (authority acked cpa) → ((i : ℕ) → ¬ Num.ReceiveApplies m l i)
@@ -201,7 +202,7 @@ module _ (g : Gauge) (p : MeetsSentences g) (u : ℕ) where
       let c = receives l in
       let s = p .does m c ty z in
       let e = hears-one (l .datagram) (l .major) (s .x) (authority (w .0) (w .1)) (s .hears) (w .2) in
-      let v : S.Authority (keyOf (l .own)) m (w .0) (g m c .memory) = subst (λ (x : Heard). S.Leaves m l x (g m c .memory)) e (s .leaves) in
+      let v : S.Authority (ownKeys (l .own)) m (w .0) (g m c .memory) = subst (λ (x : Heard). S.Leaves m l x (g m c .memory)) e (s .leaves) in
       elim (eq-or (placeKey (v .p)) (keyAt 0 (l .key))) [
         | inl is ↦ quiet (v .p, v .answers .0, (v .answers .2, is ∙ w .3))
         | inr not ↦ other-refused m l (w .0) (w .1) (w .2) (p .table .accepted m c ty .0 z) (v .p) (v .answers) not

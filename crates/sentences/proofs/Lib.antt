@@ -1,4 +1,6 @@
 -- The laws of specs/.
+pub mod OursLaws
+pub mod GoesLaws
 pub mod MembersLaws
 pub mod OneLaws
 pub mod MoveLaws

@@ -13,7 +13,7 @@ use Rattle.octet.proofs.PartLaws.{part-digits}
 use Rattle.octet.proofs.LittleLaws.{valueLE-digitsLE, digitsLE-lt}
 use Rattle.key.specs.Number.{keyAt}
 use Rattle.refusal.proofs.TableLaws.{both}
-use Rattle.record.specs.Record.{keyOf}
+use Rattle.own.specs.Own.{ownKeys}
 use Rattle.table.specs.Rows.{rows, joined, Sized}
 use Rattle.kept.specs.Keys.{_∈_}
 use Rattle.waiting.specs.Place.{idOf, kindOf, triesOf, placeKey, newPlace}
@@ -170,10 +170,10 @@ module _ (g : Gauge) (meets : MeetsSentences g) (m : Memory) (fit : Fit m) (l : 
   abbrev h : Handed
   h = g m (ticks l)
 
-  done : S.Ticks (keyOf (l .own)) m (l .output) h
+  done : S.Ticks (ownKeys (l .own)) m (l .output) h
   done = meets .does m (ticks l) tt ok
 
-  form : waitingForm (keyOf (l .own)) (m .waiting) ≡ true
+  form : waitingForm (ownKeys (l .own)) (m .waiting) ≡ true
   form = true-by _ (λ e. meets .table .accepted m (ticks l) tt .0 ok 1 (inl (refl, λ w. both (w .waiting) e)))
 
   small : (i : ℕ) → i ∈ done .ids → i < 2 ^ 32
@@ -191,10 +191,10 @@ module _ (g : Gauge) (meets : MeetsSentences g) (m : Memory) (fit : Fit m) (l : 
 
   module _ (q : List ℕ) (wait : S.Waits m q) where
     one : (r : List ℕ) → S.Waits m r → idOf r ≡ idOf q → r ≡ q
-    one r w e = rise-one idOf 0 r q (placesOf (m .waiting)) (places-rise (keyOf (l .own)) (m .waiting) form) w wait e
+    one r w e = rise-one idOf 0 r q (placesOf (m .waiting)) (places-rise (ownKeys (l .own)) (m .waiting) form) w wait e
 
     long : length q ≡ 140
-    long = sized-in 140 (placesOf (m .waiting)) (form-of (keyOf (l .own)) (m .waiting) form .sized) q wait
+    long = sized-in 140 (placesOf (m .waiting)) (form-of (ownKeys (l .own)) (m .waiting) form .sized) q wait
 
     tick-lists : 0 < triesOf q → L.Listed (idOf q) h
     tick-lists some =

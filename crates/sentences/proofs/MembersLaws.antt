@@ -8,6 +8,7 @@ use Prim.Native.Nat.{ℕ, suc, _≤_}
 use native.Mathlib.Omega.{arith}
 use lib.ListN.{length}
 use Rattle.record.specs.Record.{keyOf}
+use Rattle.own.specs.Own.{Own}
 use Rattle.table.specs.Rows.{bytesOf}
 use Rattle.kept.specs.Keys.{_∈_, Rising, plain}
 use Rattle.cache.specs.Form.{keysOf, heldOf, cacheForm}
@@ -59,10 +60,10 @@ module _ {A : Type 0} (f : A → ℕ) where
 
 -- ---- the cache
 
-pub held-rises : (k : ℕ) (s : List ℕ) → cacheForm k s ≡ true → Rising plain 0 (keysOf (heldOf k s))
+pub held-rises : (k : Own) (s : List ℕ) → cacheForm k s ≡ true → Rising plain 0 (keysOf (heldOf k s))
 held-rises k s f = true-form k s f .held .rising
 
-pub cache-ext : (k : ℕ) (a b : List ℕ) → cacheForm k a ≡ true → cacheForm k b ≡ true → length a ≡ length b
+pub cache-ext : (k : Own) (a b : List ℕ) → cacheForm k a ≡ true → cacheForm k b ≡ true → length a ≡ length b
     → ((r : List ℕ) → r ∈ heldOf k a → r ∈ heldOf k b) → ((r : List ℕ) → r ∈ heldOf k b → r ∈ heldOf k a) → a ≡ b
 cache-ext k a b fa fb e to from =
     true-form k a fa .bytes
@@ -70,7 +71,7 @@ cache-ext k a b fa fb e to from =
     ∙ sym (true-form k b fb .bytes)
 
 -- so what is said of the records held fixes the cache
-pub cache-same : (k : ℕ) (lent a b : List ℕ) (P Q : List ℕ → Type 0) → HoldsExactly k lent a P → HoldsExactly k lent b Q
+pub cache-same : (k : Own) (lent a b : List ℕ) (P Q : List ℕ → Type 0) → HoldsExactly k lent a P → HoldsExactly k lent b Q
     → ((r : List ℕ) → P r → Q r) → ((r : List ℕ) → Q r → P r) → a ≡ b
 cache-same k lent a b P Q c d to from =
     cache-ext k a b (c .form) (d .form) (c .size ∙ sym (d .size)) (λ r m. d .members r .1 (to r (c .members r .0 m)))
@@ -78,30 +79,30 @@ cache-same k lent a b P Q c d to from =
 
 -- ---- the waiting table
 
-placed-rises : (own low : ℕ) (ps : List (List ℕ)) → Placed own low ps → Rising plain low (map idOf ps)
+placed-rises : (own : Own) (low : ℕ) (ps : List (List ℕ)) → Placed own low ps → Rising plain low (map idOf ps)
 placed-rises own low [] h = tt
 placed-rises own low (p ∷ ps) h = (h .1, placed-rises own (suc (idOf p)) ps (h .3))
 
-pub places-rise : (k : ℕ) (t : List ℕ) → waitingForm k t ≡ true → Rising plain 0 (map idOf (placesOf t))
+pub places-rise : (k : Own) (t : List ℕ) → waitingForm k t ≡ true → Rising plain 0 (map idOf (placesOf t))
 places-rise k t f = placed-rises k 0 (placesOf t) (form-placed k t f)
 
 -- each place that waits is in form
-placed-in : (own low : ℕ) (ps : List (List ℕ)) → Placed own low ps → (p : List ℕ) → p ∈ ps → placeForm own p ≡ true
+placed-in : (own : Own) (low : ℕ) (ps : List (List ℕ)) → Placed own low ps → (p : List ℕ) → p ∈ ps → placeForm own p ≡ true
 placed-in own low [] h p m = absurd m
 placed-in own low (q ∷ ps) h p (inl e) = ap (placeForm own) e ∙ h .0
 placed-in own low (q ∷ ps) h p (inr m) = placed-in own (suc (idOf q)) ps (h .3) p m
 
-pub place-formed : (k : ℕ) (t : List ℕ) → waitingForm k t ≡ true → (p : List ℕ) → p ∈ placesOf t → placeForm k p ≡ true
+pub place-formed : (k : Own) (t : List ℕ) → waitingForm k t ≡ true → (p : List ℕ) → p ∈ placesOf t → placeForm k p ≡ true
 place-formed k t f p m = placed-in k 0 (placesOf t) (form-placed k t f) p m
 
-pub table-ext : (k : ℕ) (a b : List ℕ) → waitingForm k a ≡ true → waitingForm k b ≡ true
+pub table-ext : (k : Own) (a b : List ℕ) → waitingForm k a ≡ true → waitingForm k b ≡ true
     → ((p : List ℕ) → p ∈ placesOf a → p ∈ placesOf b) → ((p : List ℕ) → p ∈ placesOf b → p ∈ placesOf a) → a ≡ b
 table-ext k a b fa fb to from =
     form-of k a fa .bytes
     ∙ ap (bytesOf 2240) (rise-ext idOf 0 0 (placesOf a) (placesOf b) (places-rise k a fa) (places-rise k b fb) to from)
     ∙ sym (form-of k b fb .bytes)
 
-pub table-same : (k : ℕ) (a b : List ℕ) (P Q : List ℕ → Type 0) → WaitsExactly k a P → WaitsExactly k b Q
+pub table-same : (k : Own) (a b : List ℕ) (P Q : List ℕ → Type 0) → WaitsExactly k a P → WaitsExactly k b Q
     → ((p : List ℕ) → P p → Q p) → ((p : List ℕ) → Q p → P p) → a ≡ b
 table-same k a b P Q c d to from =
     table-ext k a b (c .form) (d .form) (λ p m. d .members p .1 (to p (c .members p .0 m))) (λ p m. c .members p .1 (from p (d .members p .0 m)))

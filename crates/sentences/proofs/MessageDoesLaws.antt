@@ -1,5 +1,5 @@
 -- Ours does what the sentences say of an AUTHORITY, ACK, INQUIRE or LOOKUP received. Assumes nothing.
-use mathlib.Core.Path.{_≡_, refl, sym, ap, ap₂, _∙_}
+use mathlib.Core.Path.{_≡_, refl, sym, ap, ap₂, subst, _∙_}
 use mathlib.Core.Bool.{Bool, true, false, cond, _&&_}
 use mathlib.Core.List.{List, [], _∷_}
 use Prim.Native.Nat.{ℕ}
@@ -11,10 +11,12 @@ use Rattle.octet.proofs.PartLaws.{splice-nil}
 use Rattle.key.specs.Number.{keyAt}
 use Rattle.refusal.proofs.TableLaws.{both}
 use Rattle.record.specs.Record.{keyOf, recordForm}
+use Rattle.own.specs.Own.{ownKeys, ownPlace, IsOwn}
 use Rattle.table.specs.Rows.{joined, bytesOf, anyOf}
 use Rattle.cache.specs.Form.{heldOf}
 use Rattle.cache.specs.Bytes.{afterRemove}
 use Rattle.neighbours.specs.Closest.{offPath, closestPast}
+use Rattle.own.proofs.FormLaws.{own-some}
 use Rattle.neighbours.proofs.ClosestLaws.{closest-among, closest-least, closest-formed}
 use Rattle.neighbours.proofs.SkipLaws.{off-held}
 use Rattle.waiting.specs.Place.{placeKey, placeRecord}
@@ -53,7 +55,7 @@ use Rattle.sentences.proofs.PlanLaws.{held, used, Fine, Does, table-for
 
 module _ (m : Memory) (l : Receive) (ok : Fine m l) where
   abbrev recs : List (List ℕ)
-  recs = heldOf (keyOf (l .own)) (m .cache)
+  recs = heldOf (ownKeys (l .own)) (m .cache)
 
   abbrev ps : List (List ℕ)
   ps = placesOf (m .waiting)
@@ -66,8 +68,8 @@ module _ (m : Memory) (l : Receive) (ok : Fine m l) where
     found : seek (isAt acked kind) 0 ps ≡ At at
     found = seek-some (isAt acked kind) ps bars
 
-    freed-table : S.WaitsExactly (keyOf (l .own)) (bytesOf 2240 (freed at ps)) (λ (q : List ℕ). S.Waits m q × (¬ (q ≡ getD ps at [])))
-    freed-table = table-by (keyOf (l .own)) _ (freed at ps) _ (free-kept (keyOf (l .own)) (m .waiting) ps (table-form m l ok) at)
+    freed-table : S.WaitsExactly (ownKeys (l .own)) (bytesOf 2240 (freed at ps)) (λ (q : List ℕ). S.Waits m q × (¬ (q ≡ getD ps at [])))
+    freed-table = table-by (ownKeys (l .own)) _ (freed at ps) _ (free-kept (ownKeys (l .own)) (m .waiting) ps (table-form m l ok) at)
         (λ q. freed-in q at ps (ids-rise m l ok) (found-within (isAt acked kind) at ps found))
 
   -- AUTHORITY
@@ -78,7 +80,7 @@ module _ (m : Memory) (l : Receive) (ok : Fine m l) where
       let i = at acked 2 bars in
       let p = getD ps i [] in
       let w = found-waits m 2 acked bars in
-      let good = place-formed (keyOf (l .own)) (m .waiting) (ok .ready .tabled) p (w .0) in
+      let good = place-formed (ownKeys (l .own)) (m .waiting) (ok .ready .tabled) p (w .0) in
       record {
         x = authority acked cpa;
         hears = h;
@@ -88,8 +90,8 @@ module _ (m : Memory) (l : Receive) (ok : Fine m l) where
         leaves = record {
           p = p;
           answers = w;
-          cache = learns (keyOf (l .own)) m (ok .ready .cached) (placeRecord p) (inquiry-record (keyOf (l .own)) p good (w .2))
-              (λ e. inquiry-other (keyOf (l .own)) p good (w .2) (sym (inquiry-key (keyOf (l .own)) p good (w .2)) ∙ e));
+          cache = learns (ownKeys (l .own)) (own-some (l .own) (ok .ready .owned)) m (ok .ready .cached) (placeRecord p) (inquiry-record (ownKeys (l .own)) p good (w .2))
+              (λ o. inquiry-other (ownKeys (l .own)) p good (w .2) (subst (IsOwn (ownKeys (l .own))) (inquiry-key (ownKeys (l .own)) p good (w .2)) o));
           table = freed-table acked 2 bars;
         };
         rest = refl;
@@ -97,10 +99,10 @@ module _ (m : Memory) (l : Receive) (ok : Fine m l) where
 
   -- ACK
   ack-cache : (acked : ℕ) (b : Bool) (p : List ℕ)
-      → S.HoldsExactly (keyOf (l .own)) (m .cache) (cond b (bytesOf (length (m .cache)) (afterRemove (placeKey p) recs)) (m .cache))
-      (λ (r : List ℕ). S.Holds (keyOf (l .own)) m r × (¬ ((b ≡ true) × (keyOf r ≡ placeKey p))))
+      → S.HoldsExactly (ownKeys (l .own)) (m .cache) (cond b (bytesOf (length (m .cache)) (afterRemove (placeKey p) recs)) (m .cache))
+      (λ (r : List ℕ). S.Holds (ownKeys (l .own)) m r × (¬ ((b ≡ true) × (keyOf r ≡ placeKey p))))
   ack-cache acked true p =
-      let c = removes (keyOf (l .own)) m (ok .ready .cached) (placeKey p) in
+      let c = removes (ownKeys (l .own)) m (ok .ready .cached) (placeKey p) in
       record {
         form = c .form;
         size = c .size;
@@ -127,7 +129,8 @@ module _ (m : Memory) (l : Receive) (ok : Fine m l) where
   }
 
   -- INQUIRE
-  pub inquire-does : (id validate : ℕ) → Does m l (inquire id (keyAt validate (l .datagram))) (Certify id)
+  pub inquire-does : (id validate : ℕ) → Does m l (inquire id (keyAt validate (l .datagram)))
+      (Certify id (ownPlace (ownKeys (l .own)) (keyAt validate (l .datagram))))
   unfolding carried cpaMade
   inquire-does id validate h = record {
     x = inquire id (keyAt validate (l .datagram));
@@ -155,7 +158,7 @@ module _ (m : Memory) (l : Receive) (ok : Fine m l) where
     shown-good : recordForm r ≡ true
     unfolding heldOf
     shown-good =
-        closest-formed t (keyOf (l .own)) (l .own) (offPath q recs) (ok .ready .owned) (off-held q (keyOf (l .own)) recs (ok .ready .form .held))
+        closest-formed t (ownKeys (l .own)) (l .own) (offPath q recs) (ok .ready .owned) (off-held q (ownKeys (l .own)) recs (ok .ready .form .held))
 
     pub lookup-does : Does m l (lookup id t q (entryIn (contentsIn (l .datagram) route)))
         (Show (held m l) (used m l) id target path size (opening m l route) (startOf route) (sizeOf route))
@@ -169,7 +172,7 @@ module _ (m : Memory) (l : Receive) (ok : Fine m l) where
             r = r;
             ask = opening m l route;
             closest = record {
-              candidate = candidate-from (l .own) q recs r (closest-among t (l .own) (offPath q recs));
+              candidate = candidate-from (l .own) q recs r (closest-among t (l .own) (offPath q recs) (ok .ready .owned));
               none-closer = λ y i. closest-least t (l .own) (offPath q recs) y (candidate-to (l .own) q recs y i);
             };
             asked = asks-iff m l route w;

@@ -4,7 +4,7 @@ use mathlib.Core.Path.{_≡_, refl, sym, ap, ap₂, subst, _∙_}
 use mathlib.Core.Logic.{_⊎_, inl, inr}
 use mathlib.Core.Bool.{Bool, true, false, not, _||_}
 use mathlib.Core.List.{List, [], _∷_}
-use Prim.Native.Nat.{ℕ, _+_, _*_, _<_}
+use Prim.Native.Nat.{ℕ, _+_, _*_, _≤_, _<_}
 use native.Mathlib.Omega.{arith}
 use lib.Dec.{eqb, ltb}
 use lib.ListN.{length, getD, length-append}
@@ -13,7 +13,7 @@ use mathlib.Core.Option.{Option}
 use Rattle.octet.specs.Part.{part}
 use Rattle.octet.proofs.TestLaws.{both-true}
 use Rattle.key.specs.Number.{keyAt}
-use Rattle.record.specs.Record.{keyOf, countOf, recordForm}
+use Rattle.record.specs.Record.{countOf, recordForm}
 use Rattle.refusal.specs.Table.{Refusal, when, placeIn, Before}
 use Rattle.refusal.proofs.TableLaws.{both, sooner}
 use Rattle.table.specs.Rows.{joined, anyOf}
@@ -45,13 +45,15 @@ use Rattle.gauge_plan.specs.Found.{isNothing, placeOf}
 use Rattle.gauge_commit.proofs.LengthLaws.{cpa-length, closest-length}
 use Rattle.gauge_commit.proofs.SentLaws.{joined-one}
 use Rattle.record.proofs.EntryLaws.{form-length, one-address}
-use Rattle.gauge_plan.specs.Lent.{Memory, Receive, ReceiveLent}
+use Rattle.own.specs.Own.{Own, ownKeys, ownRecords, ownPlace}
+use Rattle.gauge_plan.specs.Lent.{Memory, Receive, cpaFor, ReceiveLent}
 use Rattle.gauge_laws.proofs.FirstLaws.{whole-record}
 use Rattle.sentences.specs.Heard.{Heard, inquire, authority, ack, lookup, other, entryIn}
 use Rattle.sentences.specs.Sentences as S
 use Rattle.sentences.specs.Numbers as Num
 use Rattle.sentences.proofs.MembersLaws.{rise-one, places-rise}
 use Rattle.sentences.proofs.WordLaws.{not-iff, found-waits, none-iff-not}
+use Rattle.sentences.proofs.OursLaws.{ours-iff, cpa-most}
 use Rattle.sentences.proofs.MoveLaws.{any-in, in-any}
 use Rattle.sentences.proofs.OneLaws.{candidate-to, candidate-from}
 use Rattle.sentences.proofs.AskedLaws.{opening, asks-iff, asks-long}
@@ -60,11 +62,11 @@ use Rattle.gauge_plan.proofs.MemoryLaws.{lent-tables, ready}
 use Rattle.sentences.proofs.SaidLaws.{Said, short-to, short-from, none-short, First, Both, good}
 
 module _ (m : Memory) (l : Receive) (n : ℕ) (low : First m l n) where
-  abbrev k : ℕ
-  k = keyOf (l .own)
+  abbrev k : Own
+  k = ownKeys (l .own)
 
   abbrev recs : List (List ℕ)
-  recs = heldOf (keyOf (l .own)) (m .cache)
+  recs = heldOf (ownKeys (l .own)) (m .cache)
 
   abbrev ps : List (List ℕ)
   ps = placesOf (m .waiting)
@@ -72,25 +74,32 @@ module _ (m : Memory) (l : Receive) (n : ℕ) (low : First m l n) where
   -- INQUIRE
   pub inquire-both : (id validate : ℕ)
       → Both m l n (inquire id (keyAt validate (l .datagram)))
-      (when 12 (notOurs k validate (l .datagram)) ∷ when 15 (ltb (length (l .output)) (40 + length (l .cpa))) ∷ [])
+      (when 12 (notOurs k validate (l .datagram)) ∷ when 15 (ltb (length (l .output)) (40 + length (cpaFor l (keyAt validate (l .datagram))))) ∷ [])
   unfolding cpaMade
   inquire-both id validate = (to, from)
     where
-      room : length (joined (cpaMade (l .major) (l .minor) (l .id) id (l .cpa) .bytes ∷ [])) ≡ 40 + length (l .cpa)
-      room = ap length (joined-one (cpaMade (l .major) (l .minor) (l .id) id (l .cpa) .bytes)) ∙ cpa-length (l .major) (l .minor) (l .id) id (l .cpa)
+      x : Heard
+      x = inquire id (keyAt validate (l .datagram))
 
-      to : Said m l (inquire id (keyAt validate (l .datagram))) n
-          → Row n (when 12 (notOurs k validate (l .datagram)) ∷ when 15 (ltb (length (l .output)) (40 + length (l .cpa))) ∷ [])
-      to (inl w) = inl (w .0, not-iff (keyAt validate (l .datagram)) k .1 (w .1))
+      cpa : List ℕ
+      cpa = cpaFor l (keyAt validate (l .datagram))
+
+      ds : List (List ℕ)
+      ds = cpaMade (l .major) (l .minor) (l .id) id cpa .bytes ∷ []
+
+      room : length (joined ds) ≡ 40 + length cpa
+      room = ap length (joined-one (cpaMade (l .major) (l .minor) (l .id) id cpa .bytes)) ∙ cpa-length (l .major) (l .minor) (l .id) id cpa
+
+      to : Said m l x n → Row n (when 12 (notOurs k validate (l .datagram)) ∷ when 15 (ltb (length (l .output)) (40 + length cpa)) ∷ [])
+      to (inl w) = inl (w .0, ours-iff k (keyAt validate (l .datagram)) .1 (w .1))
       to (inr w) =
-          inr (inl (short-from m l (inquire id (keyAt validate (l .datagram))) (cpaMade (l .major) (l .minor) (l .id) id (l .cpa) .bytes ∷ []) n _
-          (good m l n low (sooner 1 15 (unfold placeIn in refl) (w .0)) .cache) refl room (let h = good m l n low (sooner 1 15 (unfold placeIn in refl) (w .0)) .cpa-most in omega arith) w))
+          let g = good m l n low (sooner 1 15 (unfold placeIn in refl) (w .0)) in
+          let few : length cpa ≤ 1024 = cpa-most (length (ownRecords (l .own))) (ownPlace k (keyAt validate (l .datagram))) (l .cpas) (g .cpas) in
+          inr (inl (short-from m l x ds n _ g refl room (omega (arith, few)) w))
 
-      from : Row n (when 12 (notOurs k validate (l .datagram)) ∷ when 15 (ltb (length (l .output)) (40 + length (l .cpa))) ∷ [])
-          → Said m l (inquire id (keyAt validate (l .datagram))) n
-      from (inl w) = inl (w .0, not-iff (keyAt validate (l .datagram)) k .0 (w .1))
-      from (inr (inl w)) =
-          inr (short-to m l (inquire id (keyAt validate (l .datagram))) (cpaMade (l .major) (l .minor) (l .id) id (l .cpa) .bytes ∷ []) n _ refl room w)
+      from : Row n (when 12 (notOurs k validate (l .datagram)) ∷ when 15 (ltb (length (l .output)) (40 + length cpa)) ∷ []) → Said m l x n
+      from (inl w) = inl (w .0, ours-iff k (keyAt validate (l .datagram)) .0 (w .1))
+      from (inr (inl w)) = inr (short-to m l x ds n _ refl room w)
       from (inr (inr w)) = absurd w
 
   -- ACK
@@ -188,12 +197,12 @@ module _ (m : Memory) (l : Receive) (n : ℕ) (low : First m l n) where
     abbrev cds : List (List ℕ)
     cds = cb ∷ S.asks l lo (S.entryRecord le)
 
-    lookup-reply : S.Reply m l lx cds
-    lookup-reply = record {
+    lookup-reply : ReceiveLent m l → S.Reply m l lx cds
+    lookup-reply g = record {
       r = cr;
       ask = lo;
       closest = record {
-        candidate = candidate-from (l .own) pq recs cr (closest-among tk (l .own) (offPath pq recs));
+        candidate = candidate-from (l .own) pq recs cr (closest-among tk (l .own) (offPath pq recs) (g .own));
         none-closer = λ q i. closest-least tk (l .own) (offPath pq recs) q (candidate-to (l .own) pq recs q i);
       };
       asked = asks-iff m l route we;
@@ -237,7 +246,7 @@ module _ (m : Memory) (l : Receive) (n : ℕ) (low : First m l n) where
         to (inl (inr w)) = inr (inl (w .0, rw (asks-iff m l route we .1 (w .1), eq-eqb (usedOf (m .waiting)) 16 (sym full-is ∙ w .2)) refl))
         to (inr w) =
             let g = good m l n low (sooner 1 15 (unfold placeIn in refl) (w .0)) in
-            inr (inr (inl (short-from m l lx cds n _ (g .cache) lookup-reply (lookup-room g)
+            inr (inr (inl (short-from m l lx cds n _ g (lookup-reply g) (lookup-room g)
             (omega (arith, one-address cr (lookup-formed g), inquire-most lo)) w)))
 
         from : Row n lrows → Said m l lx n
@@ -248,7 +257,9 @@ module _ (m : Memory) (l : Receive) (n : ℕ) (low : First m l n) where
         from (inr (inl w)) =
             let v = both-true lo (eqb (usedOf (m .waiting)) 16) (w .1) in
             inl (inr (w .0, asks-iff m l route we .0 (v .0), full-is ∙ eqb-true (usedOf (m .waiting)) 16 (v .1)))
-        from (inr (inr (inl w))) = inr (short-to m l lx cds n _ lookup-reply (lookup-room (good m l n low (sooner 1 15 (unfold placeIn in refl) (w .0)))) w)
+        from (inr (inr (inl w))) =
+            let g = good m l n low (sooner 1 15 (unfold placeIn in refl) (w .0)) in
+            inr (short-to m l lx cds n _ (lookup-reply g) (lookup-room g) w)
         from (inr (inr (inr w))) = absurd w
 
   -- SOLICIT, ADVERTISE, REQUEST

@@ -7,17 +7,17 @@ use Prim.Native.Nat.{ℕ, zero, suc, _≤_, _<_}
 use native.Mathlib.Omega.{arith}
 use lib.ListN.{length}
 use Rattle.octet.specs.Part.{splice}
-use Rattle.key.specs.Around.{Side, below, above, isAbove, sideOf, nearness, closer}
+use Rattle.key.specs.Around.{Side, below, above, isAbove, sideOf, nearness, closer, apart}
 use Rattle.key.specs.Number.{keyAt}
-use Rattle.record.specs.Record.{keyOf, recordForm}
-use Rattle.own.specs.Own.{ownRecords}
+use Rattle.record.specs.Record.{keyOf}
+use Rattle.own.specs.Own.{Own, ownForm, ownKeys, ownRecords, firstOwn, isOwn, IsOwn}
 use Rattle.kept.specs.Keys.{_∈_, Rising, plain}
 use Rattle.kept.proofs.PutLaws.{Tri, less, same, more, tri}
 use Rattle.kept.proofs.ListLaws.{Test, pass, fail, test, rising-ext}
 use Rattle.key.proofs.AroundLaws.{side-near}
+use Rattle.own.proofs.PlaceLaws.{own-in, not-own}
 use Rattle.refusal.specs.Table.{order, placeIn}
 use Rattle.refusal.proofs.TableLaws.{both, places-differ}
-use Rattle.neighbours.proofs.CallLaws.{list-only}
 use Rattle.cache.specs.Form.{keysOf, placesIn, heldOf, cacheForm}
 use Rattle.path.specs.Path.{onPath}
 use Rattle.neighbours.specs.Closest.{candidates, offPath, closestPast}
@@ -38,6 +38,7 @@ use Rattle.sentences.specs.Heard.{Heard, entry, revoke, inquire, authori
 use Rattle.sentences.specs.Sentences as S
 use Rattle.sentences.specs.Numbers as Num
 use Rattle.sentences.specs.Meets as Meets
+use Rattle.sentences.proofs.OursLaws.{only-of}
 use Rattle.sentences.proofs.MembersLaws.{rise-one, rise-ext, cache-same, table-same, places-rise, held-rises}
 
 handed-same : (h h′ : Handed) → h .answer ≡ h′ .answer → h .memory ≡ h′ .memory → h .output ≡ h′ .output → h ≡ h′
@@ -56,7 +57,7 @@ tables-alone m a b p q w = p ∙ ap₂ (λ (x y : List ℕ). withTables x y m) (
 
 -- ---- the tick
 
-module _ (k : ℕ) (m : Memory) (output : List ℕ) (h h′ : Handed) (s : S.Ticks k m output h) (t : S.Ticks k m output h′) where
+module _ (k : Own) (m : Memory) (output : List ℕ) (h h′ : Handed) (s : S.Ticks k m output h) (t : S.Ticks k m output h′) where
   ids-same : s .ids ≡ t .ids
   ids-same =
       rising-ext plain 0 0 (s .ids) (t .ids) (s .rising) (t .rising) (λ i m. t .listed i .1 (s .listed i .0 m))
@@ -70,17 +71,17 @@ module _ (k : ℕ) (m : Memory) (output : List ℕ) (h h′ : Handed) (s : S.Tic
 
 -- ---- the neighbour list
 
-module _ (own : List ℕ) (m : Memory) (output : List ℕ) (f : cacheForm (keyOf own) (m .cache) ≡ true) (h h′ : Handed)
-    (s : S.Lists (keyOf own) m output h) (t : S.Lists (keyOf own) m output h′) where
+module _ (own : List ℕ) (k : ℕ) (m : Memory) (output : List ℕ) (ours : IsOwn (ownKeys own) k) (f : cacheForm (ownKeys own) (m .cache) ≡ true)
+    (h h′ : Handed) (s : S.Lists (ownKeys own) k m output h) (t : S.Lists (ownKeys own) k m output h′) where
   low-same : s .listed .low ≡ t .listed .low
   low-same =
-      list-only own (m .cache) f below (s .listed .low) (s .listed .nearest-below)
-      ∙ sym (list-only own (m .cache) f below (t .listed .low) (t .listed .nearest-below))
+      only-of own (m .cache) k ours f below (s .listed .low) (s .listed .nearest-below)
+      ∙ sym (only-of own (m .cache) k ours f below (t .listed .low) (t .listed .nearest-below))
 
   high-same : s .listed .high ≡ t .listed .high
   high-same =
-      list-only own (m .cache) f above (s .listed .high) (s .listed .nearest-above)
-      ∙ sym (list-only own (m .cache) f above (t .listed .high) (t .listed .nearest-above))
+      only-of own (m .cache) k ours f above (s .listed .high) (s .listed .nearest-above)
+      ∙ sym (only-of own (m .cache) k ours f above (t .listed .high) (t .listed .nearest-above))
 
   pub lists-one : h ≡ h′
   lists-one = handed-same h h′ (rw (s .listed .counts, t .listed .counts, low-same, high-same) refl)
@@ -94,13 +95,13 @@ sent-same : (output : List ℕ) (ds ds′ : List (List ℕ)) (h h′ : Handed) �
 sent-same output ds ds′ h h′ s t e =
     (s .counts ∙ ap lengths e ∙ sym (t .counts), s .bytes ∙ ap (λ (x : List (List ℕ)). sending x output) e ∙ sym (t .bytes))
 
-module _ (m : Memory) (l : Send) (f : cacheForm (keyOf (l .own)) (m .cache) ≡ true) where
+module _ (m : Memory) (l : Send) (f : cacheForm (ownKeys (l .own)) (m .cache) ≡ true) where
   pub named-one : (r r′ : List ℕ) → S.Named m l r → S.Named m l r′ → r ≡ r′
   named-one r r′ (inl a) (inl b) = a .1 ∙ sym (b .1)
   named-one r r′ (inl a) (inr b) = absurd (b .0 (a .0))
   named-one r r′ (inr a) (inl b) = absurd (a .0 (b .0))
   named-one r r′ (inr a) (inr b) =
-      rise-one keyOf 0 r r′ (heldOf (keyOf (l .own)) (m .cache)) (held-rises (keyOf (l .own)) (m .cache) f) (a .1) (b .1) (a .2 ∙ sym (b .2))
+      rise-one keyOf 0 r r′ (heldOf (ownKeys (l .own)) (m .cache)) (held-rises (ownKeys (l .own)) (m .cache) f) (a .1) (b .1) (a .2 ∙ sym (b .2))
 
   pub sends-one : (h h′ : Handed) → S.Sends m l h → S.Sends m l h′ → h ≡ h′
   sends-one h h′ s t =
@@ -108,7 +109,7 @@ module _ (m : Memory) (l : Send) (f : cacheForm (keyOf (l .own)) (m .cache) ≡ 
       let d = sent-same (l .output) (S.flooding l (s .r)) (S.flooding l (t .r)) h h′ (s .sent) (t .sent) (ap (S.flooding l) e) in
       handed-same h h′ (d .0)
       (table-alone m (h .memory) (h′ .memory) (s .rest) (t .rest)
-      (table-same (keyOf (l .own)) (h .memory .waiting) (h′ .memory .waiting) _ _ (s .table) (t .table) (λ p w. w) (λ p w. w))) (d .1)
+      (table-same (ownKeys (l .own)) (h .memory .waiting) (h′ .memory .waiting) _ _ (s .table) (t .table) (λ p w. w) (λ p w. w))) (d .1)
 
 -- ---- a datagram received: what it says, and what answers it
 
@@ -124,25 +125,40 @@ bool-same false false p q = refl
 iff-same : (P : Type 0) (a b : Bool) → ((a ≡ true) ↔ P) → ((b ≡ true) ↔ P) → a ≡ b
 iff-same P a b p q = bool-same a b (λ e. q .1 (p .0 e)) (λ e. p .1 (q .0 e))
 
--- a candidate is our own record or one held that is not on the path
-pub candidate-to : (own path : List ℕ) (held : List (List ℕ)) (r : List ℕ) → (r ≡ own) ⊎ ((r ∈ held) × (onPath r path ≡ false))
+-- in one list or in the other
+in-first : (r : List ℕ) (xs ys : List (List ℕ)) → r ∈ xs → r ∈ (xs ++ ys)
+in-first r [] ys i = absurd i
+in-first r (x ∷ xs) ys (inl e) = inl e
+in-first r (x ∷ xs) ys (inr i) = inr (in-first r xs ys i)
+
+in-second : (r : List ℕ) (xs ys : List (List ℕ)) → r ∈ ys → r ∈ (xs ++ ys)
+in-second r [] ys i = i
+in-second r (x ∷ xs) ys i = inr (in-second r xs ys i)
+
+in-either : (r : List ℕ) (xs ys : List (List ℕ)) → r ∈ (xs ++ ys) → (r ∈ xs) ⊎ (r ∈ ys)
+in-either r [] ys i = inr i
+in-either r (x ∷ xs) ys (inl e) = inl (inl e)
+in-either r (x ∷ xs) ys (inr i) = elim (in-either r xs ys i) [ inl j ↦ inl (inr j) | inr j ↦ inr j ]
+
+-- a candidate is a record of our own or one held that is not on the path
+pub candidate-to : (own path : List ℕ) (held : List (List ℕ)) (r : List ℕ) → (r ∈ ownRecords own) ⊎ ((r ∈ held) × (onPath r path ≡ false))
     → r ∈ candidates (ownRecords own) (offPath path held)
-candidate-to own path held r (inl e) = inl e
-candidate-to own path held r (inr w) = inr (off-has path r held (w .0) (w .1))
+candidate-to own path held r (inl i) = in-first r (ownRecords own) (offPath path held) i
+candidate-to own path held r (inr w) = in-second r (ownRecords own) (offPath path held) (off-has path r held (w .0) (w .1))
 
 pub candidate-from : (own path : List ℕ) (held : List (List ℕ)) (r : List ℕ) → r ∈ candidates (ownRecords own) (offPath path held)
-    → (r ≡ own) ⊎ ((r ∈ held) × (onPath r path ≡ false))
-candidate-from own path held r (inl e) = inl e
-candidate-from own path held r (inr i) = inr (has-off path r held i)
+    → (r ∈ ownRecords own) ⊎ ((r ∈ held) × (onPath r path ≡ false))
+candidate-from own path held r i =
+    elim (in-either r (ownRecords own) (offPath path held) i) [ inl j ↦ inl j | inr j ↦ inr (has-off path r held j) ]
 
-module _ (m : Memory) (l : Receive) (f : cacheForm (keyOf (l .own)) (m .cache) ≡ true) where
+module _ (m : Memory) (l : Receive) (o : ownForm (l .own) ≡ true) (f : cacheForm (ownKeys (l .own)) (m .cache) ≡ true) where
   pub closest-one : (path : List ℕ) (t : ℕ) (r r′ : List ℕ) → S.Closest m l path t r → S.Closest m l path t r′ → r ≡ r′
   closest-one path t r r′ a b = closest-is path t r a ∙ sym (closest-is path t r′ b)
     where
-      closest-is : (path : List ℕ) (t : ℕ) (r : List ℕ) → S.Closest m l path t r → r ≡ closestPast (l .own) (heldOf (keyOf (l .own)) (m .cache)) path t
+      closest-is : (path : List ℕ) (t : ℕ) (r : List ℕ) → S.Closest m l path t r → r ≡ closestPast (l .own) (heldOf (ownKeys (l .own)) (m .cache)) path t
       closest-is path t r c =
-          let held = heldOf (keyOf (l .own)) (m .cache) in
-          closest-only t (l .own) (offPath path held) (off-held path (keyOf (l .own)) held (true-form (keyOf (l .own)) (m .cache) f .held)) r
+          let held = heldOf (ownKeys (l .own)) (m .cache) in
+          closest-only t (l .own) (offPath path held) o (off-held path (ownKeys (l .own)) held (true-form (ownKeys (l .own)) (m .cache) f .held)) r
           (candidate-to (l .own) path held r (c .candidate)) (λ q i. c .none-closer q (candidate-from (l .own) path held q i))
 
   pub reply-one : (x : Heard) (ds ds′ : List (List ℕ)) → S.Reply m l x ds → S.Reply m l x ds′ → ds ≡ ds′
@@ -161,26 +177,17 @@ module _ (m : Memory) (l : Receive) (f : cacheForm (keyOf (l .own)) (m .cache) �
 
 -- ---- learning
 
--- two keys on one side and equally far out are one
-key-one : (k a b : ℕ) → sideOf k a ≡ sideOf k b → nearness k a ≡ nearness k b → a ≡ b
-key-one k a b s n = side-near k a b (go (isAbove k a) refl (isAbove k b) refl) n
-  where
-    mixed : (u v : Bool) → u ≡ true → v ≡ false → _≡_ {A = Side} (cond u above below) (cond v above below) → ⊥
-    mixed u v p q e = let z : _≡_ {A = Side} above below = rw (p, q) at e in let y : _≡_ {A = ℕ} 0 1 = cc in absurd (omega arith)
-
-    go : (u : Bool) → isAbove k a ≡ u → (v : Bool) → isAbove k b ≡ v → isAbove k a ≡ isAbove k b
-    go true p true q = p ∙ sym q
-    go false p false q = p ∙ sym q
-    go true p false q = absurd (mixed (isAbove k a) (isAbove k b) p q s)
-    go false p true q = absurd (mixed (isAbove k b) (isAbove k a) q p (sym s))
-
-drops-one : (k : ℕ) (all : List (List ℕ)) (d e : List ℕ) → Rising plain 0 (keysOf all) → S.Drops k all d → S.Drops k all e → d ≡ e
+drops-one : (k : Own) (all : List (List ℕ)) (d e : List ℕ) → Rising plain 0 (keysOf all) → S.Drops k all d → S.Drops k all e → d ≡ e
 drops-one k all d e r a b =
-    rise-one keyOf 0 d e all r (a .there) (b .there)
-    (key-one k (keyOf d) (keyOf e) (a .sided ∙ sym (b .sided))
-    (let x = a .farthest e (b .there) (b .sided) in let y = b .farthest d (a .there) (a .sided) in omega arith))
+    rise-one keyOf 0 d e all r (a .unlisted .0) (b .unlisted .0)
+    (let x = a .farthest e (b .unlisted) in
+    let y = b .farthest d (a .unlisted) in
+    let same : apart (firstOwn k) (keyOf d) ≡ apart (firstOwn k) (keyOf e) = omega arith in
+    let u = a .lower e (b .unlisted) (sym same) in
+    let v = b .lower d (a .unlisted) same in
+    omega arith)
 
-module _ (k : ℕ) (m : Memory) (r left left′ : List ℕ) (s : S.Learns k m r left) (t : S.Learns k m r left′) where
+module _ (k : Own) (m : Memory) (r left left′ : List ℕ) (s : S.Learns k m r left) (t : S.Learns k m r left′) where
   to : (q : List ℕ) → q ∈ s .more → q ∈ t .more
   to q i = t .are q .1 (s .are q .0 i)
 
@@ -221,9 +228,9 @@ SameTables a b = (a .cache ≡ b .cache) × (a .waiting ≡ b .waiting)
 all-same : (a b : Memory) → a ≡ b → SameTables a b
 all-same a b e = (ap (λ (x : Memory). x .cache) e, ap (λ (x : Memory). x .waiting) e)
 
-module _ (m : Memory) (l : Receive) (f : cacheForm (keyOf (l .own)) (m .cache) ≡ true) (g : waitingForm (keyOf (l .own)) (m .waiting) ≡ true) where
-  abbrev k : ℕ
-  k = keyOf (l .own)
+module _ (m : Memory) (l : Receive) (o : ownForm (l .own) ≡ true) (f : cacheForm (ownKeys (l .own)) (m .cache) ≡ true) (g : waitingForm (ownKeys (l .own)) (m .waiting) ≡ true) where
+  abbrev k : Own
+  k = ownKeys (l .own)
 
   -- one place waits with an ID
   place-one : (kind id : ℕ) (p q : List ℕ) → S.WaitsAs m kind id p → S.WaitsAs m kind id q → p ≡ q
@@ -270,7 +277,7 @@ module _ (m : Memory) (l : Receive) (f : cacheForm (keyOf (l .own)) (m .cache) �
   receives-one h h′ s t =
       let e = hears-one (l .datagram) (l .major) (s .x) (t .x) (s .hears) (t .hears) in
       let d = sent-same (l .output) (s .ds) (t .ds) h h′ (s .sent) (t .sent)
-      (reply-one m l f (t .x) (s .ds) (t .ds) (subst (λ (x : Heard). S.Reply m l x (s .ds)) e (s .reply)) (t .reply)) in
+      (reply-one m l o f (t .x) (s .ds) (t .ds) (subst (λ (x : Heard). S.Reply m l x (s .ds)) e (s .reply)) (t .reply)) in
       let z = leaves-one (t .x) (h .memory) (h′ .memory) (subst (λ (x : Heard). S.Leaves m l x (h .memory)) e (s .leaves)) (t .leaves) in
       handed-same h h′ (d .0) (tables-alone m (h .memory) (h′ .memory) (s .rest) (t .rest) z) (d .1)
 
@@ -298,11 +305,16 @@ holds false h = absurd (h refl)
 
 does-one : (m : Memory) (c : Call) → ((i : ℕ) → ¬ Num.Applies m c i) → (h h′ : Handed) → S.Does m c h → S.Does m c h′ → h ≡ h′
 does-one m (receives l) none h h′ s t =
-    receives-one m l (holds _ (λ e. none 1 (Num.out-of-form refl (λ w. both (w .cache) e))))
+    receives-one m l (holds _ (λ e. none 1 (Num.out-of-form refl (λ w. both (w .own) e))))
+    (holds _ (λ e. none 1 (Num.out-of-form refl (λ w. both (w .cache) e))))
     (holds _ (λ e. none 1 (Num.out-of-form refl (λ w. both (w .waiting) e)))) h h′ s t
 does-one m (sends l) none h h′ s t = sends-one m l (holds _ (λ e. none 1 (Num.send-out-of-form refl (λ w. both (w .cache) e)))) h h′ s t
-does-one m (ticks l) none h h′ s t = ticks-one (keyOf (l .own)) m (l .output) h h′ s t
-does-one m (lists l) none h h′ s t = lists-one (l .own) m (l .output) (holds _ (λ e. none 1 (inl (refl, λ w. both (w .cache) e)))) h h′ s t
+does-one m (ticks l) none h h′ s t = ticks-one (ownKeys (l .own)) m (l .output) h h′ s t
+does-one m (lists l) none h h′ s t =
+    let own = ownKeys (l .own) in
+    let k = keyAt 0 (l .key) in
+    lists-one (l .own) k m (l .output) (own-in own k (holds (isOwn own k) (λ e. none 12 (inr (inl (refl, not-own own k e))))))
+    (holds _ (λ e. none 1 (inl (refl, λ w. both (w .cache) e)))) h h′ s t
 
 pub one-gauge : Meets.OneGauge
 one-gauge g h p q m c ty = go (g m c .answer .number) refl

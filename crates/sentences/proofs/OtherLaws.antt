@@ -7,13 +7,15 @@ use Prim.Native.Nat.{ℕ, _<_}
 use native.Mathlib.Omega.{arith}
 use lib.Dec.{eqb}
 use lib.ListN.{length, getD}
-use borrow.Author.Tests.{eq-eqb, eqb-true, eqb-false, lt-ltb, ltb-true, not-true}
+use borrow.Author.Tests.{eq-eqb, eqb-true, lt-ltb, ltb-true, not-true}
 use Rattle.octet.proofs.TestLaws.{both-true}
 use Rattle.key.specs.Number.{keyAt}
 use Rattle.refusal.specs.Table.{placeIn, Before}
 use Rattle.refusal.proofs.TableLaws.{both, sooner}
 use Rattle.record.specs.Record.{keyOf, recordForm}
 use Rattle.record.proofs.EntryLaws.{form-length, one-address}
+use Rattle.own.specs.Own.{Own, ownForm, ownKeys, ownRecord, ownPlace, isOwn}
+use Rattle.own.proofs.PlaceLaws.{own-in, not-own}
 use Rattle.table.specs.Rows.{joined}
 use Rattle.table.proofs.RowLaws.{rows-length}
 use Rattle.kept.specs.Keys.{_∈_, Every}
@@ -36,13 +38,14 @@ use Rattle.gauge_plan.proofs.MemoryLaws.{ready, tick-fit-lent, lent-tick-fit}
 use Rattle.gauge_commit.proofs.LengthLaws.{flood-length}
 use Rattle.gauge_commit.proofs.SentLaws.{joined-one}
 use Rattle.gauge_plan.specs.Lent.{Memory, Send, Tick, Listing, sends, ticks, lists, SendLent}
+use Rattle.gauge_plan.proofs.OwnLaws.{place-within, record-formed}
 use Rattle.gauge_laws.specs.Table.{tableOf}
 use Rattle.gauge_laws.proofs.FirstLaws.{whole-record}
 use Rattle.sentences.specs.Sentences as S
 use Rattle.sentences.specs.Numbers as Num
 use Rattle.sentences.proofs.OneLaws.{named-one}
 use Rattle.sentences.proofs.MoveLaws.{holds-not, any-in, in-any, none-in, found-in, seek-some, seek-none}
-use Rattle.sentences.proofs.WordLaws.{not-iff}
+use Rattle.sentences.proofs.OursLaws.{ours-iff}
 use Rattle.sentences.proofs.DoesLaws.{sentBy, named-by}
 use Rattle.sentences.proofs.SaidLaws.{no-room-by}
 use Rattle.sentences.proofs.FirstLaws.{Row, Agree}
@@ -64,20 +67,25 @@ tick-agree m l n low = (to, from)
 pub list-agree : (m : Memory) (l : Listing) → Agree (Num.Applies m (lists l)) (tableOf m (lists l))
 list-agree m l n low = (to, from)
   where
-    to : Num.Applies m (lists l) n → Row n (listWrong (l .own) (m .cache) (l .output))
-    to (inl w) = go (test (recordForm (l .own))) (test (cacheForm (keyOf (l .own)) (m .cache)))
+    to : Num.Applies m (lists l) n → Row n (listWrong (l .own) (m .cache) (l .key) (l .output))
+    to (inl w) = go (test (ownForm (l .own))) (test (cacheForm (ownKeys (l .own)) (m .cache))) (test (eqb (length (l .key)) 32))
       where
-        go : Test (recordForm (l .own)) → Test (cacheForm (keyOf (l .own)) (m .cache)) → Row n (listWrong (l .own) (m .cache) (l .output))
-        go (fail e) d = inl (w .0, ap not e)
-        go (pass e) (fail d) = inr (inl (w .0, ap not d))
-        go (pass e) (pass d) = absurd (w .1 (record { own = e; cache = d }))
-    to (inr w) = inr (inr (inl (w .0, lt-ltb (length (l .output)) 320 (w .1))))
+        go : Test (ownForm (l .own)) → Test (cacheForm (ownKeys (l .own)) (m .cache)) → Test (eqb (length (l .key)) 32)
+            → Row n (listWrong (l .own) (m .cache) (l .key) (l .output))
+        go (fail e) d c = inl (w .0, ap not e)
+        go (pass e) (fail d) c = inr (inl (w .0, ap not d))
+        go (pass e) (pass d) (fail c) = inr (inr (inl (w .0, ap not c)))
+        go (pass e) (pass d) (pass c) = absurd (w .1 (record { own = e; cache = d; key = eqb-true (length (l .key)) 32 c }))
+    to (inr (inl w)) = inr (inr (inr (inl (w .0, ours-iff (ownKeys (l .own)) (keyAt 0 (l .key)) .1 (w .1)))))
+    to (inr (inr w)) = inr (inr (inr (inr (inl (w .0, lt-ltb (length (l .output)) 320 (w .1))))))
 
-    from : Row n (listWrong (l .own) (m .cache) (l .output)) → Num.Applies m (lists l) n
-    from (inl w) = inl (w .0, λ v. both (v .own) (not-true (recordForm (l .own)) (w .1)))
-    from (inr (inl w)) = inl (w .0, λ v. both (v .cache) (not-true (cacheForm (keyOf (l .own)) (m .cache)) (w .1)))
-    from (inr (inr (inl w))) = inr (w .0, ltb-true (length (l .output)) 320 (w .1))
-    from (inr (inr (inr w))) = absurd w
+    from : Row n (listWrong (l .own) (m .cache) (l .key) (l .output)) → Num.Applies m (lists l) n
+    from (inl w) = inl (w .0, λ v. both (v .own) (not-true (ownForm (l .own)) (w .1)))
+    from (inr (inl w)) = inl (w .0, λ v. both (v .cache) (not-true (cacheForm (ownKeys (l .own)) (m .cache)) (w .1)))
+    from (inr (inr (inl w))) = inl (w .0, λ v. both (eq-eqb (length (l .key)) 32 (v .key)) (not-true (eqb (length (l .key)) 32) (w .1)))
+    from (inr (inr (inr (inl w)))) = inr (inl (w .0, ours-iff (ownKeys (l .own)) (keyAt 0 (l .key)) .0 (w .1)))
+    from (inr (inr (inr (inr (inl w))))) = inr (inr (w .0, ltb-true (length (l .output)) 320 (w .1)))
+    from (inr (inr (inr (inr (inr w))))) = absurd w
 
 -- ---- a FLOOD to send
 
@@ -87,11 +95,11 @@ every-in P x (y ∷ xs) a (inl e) = subst P (sym e) (a .0)
 every-in P x (y ∷ xs) a (inr m) = every-in P x xs (a .1) m
 
 module _ (m : Memory) (l : Send) where
-  abbrev k : ℕ
-  k = keyOf (l .own)
+  abbrev k : Own
+  k = ownKeys (l .own)
 
   abbrev recs : List (List ℕ)
-  recs = heldOf (keyOf (l .own)) (m .cache)
+  recs = heldOf (ownKeys (l .own)) (m .cache)
 
   abbrev ps : List (List ℕ)
   ps = placesOf (m .waiting)
@@ -147,34 +155,34 @@ module _ (m : Memory) (l : Send) where
       go true e = e
       go false e = absurd (h (held-some u e))
 
-  named-to : not (eqb named k) && isNothing (heldAt named recs) ≡ true → ¬ ((r : List ℕ) × S.Named m l r)
+  named-to : not (isOwn k named) && isNothing (heldAt named recs) ≡ true → ¬ ((r : List ℕ) × S.Named m l r)
   named-to e w = go (w .1)
     where
-      v : (not (eqb named k) ≡ true) × (isNothing (heldAt named recs) ≡ true)
-      v = both-true (not (eqb named k)) (isNothing (heldAt named recs)) e
+      v : (not (isOwn k named) ≡ true) × (isNothing (heldAt named recs) ≡ true)
+      v = both-true (not (isOwn k named)) (isNothing (heldAt named recs)) e
 
       go : S.Named m l (w .0) → ⊥
-      go (inl y) = not-iff named k .0 (v .0) (y .0)
+      go (inl y) = ours-iff k named .0 (v .0) (y .0)
       go (inr y) = held-to named (v .1) (w .0, y .1, y .2)
 
-  named-from : ¬ ((r : List ℕ) × S.Named m l r) → not (eqb named k) && isNothing (heldAt named recs) ≡ true
-  named-from h = go (test (eqb named k)) (test (isNothing (heldAt named recs)))
+  named-from : ¬ ((r : List ℕ) × S.Named m l r) → not (isOwn k named) && isNothing (heldAt named recs) ≡ true
+  named-from h = go (test (isOwn k named)) (test (isNothing (heldAt named recs)))
     where
-      go : Test (eqb named k) → Test (isNothing (heldAt named recs)) → not (eqb named k) && isNothing (heldAt named recs) ≡ true
-      go (pass e) d = absurd (h (l .own, inl (eqb-true named k e, refl)))
+      go : Test (isOwn k named) → Test (isNothing (heldAt named recs)) → not (isOwn k named) && isNothing (heldAt named recs) ≡ true
+      go (pass e) d = absurd (h (ownRecord (l .own) (ownPlace k named), inl (own-in k named e, refl)))
       go (fail e) (pass d) = rw (e, d) refl
-      go (fail e) (fail d) = let w = held-some named d in absurd (h (w .0, inr (eqb-false named k e, w .1, w .2)))
+      go (fail e) (fail d) = let w = held-some named d in absurd (h (w .0, inr (not-own k named e, w .1, w .2)))
 
   -- what is sent, where the record is known
   abbrev r : List ℕ
-  r = sentBy m l (eqb named k)
+  r = sentBy m l (isOwn k named)
 
-  module _ (g : SendLent m l) (bar : not (eqb named k) && isNothing (heldAt named recs) ≡ false) where
+  module _ (g : SendLent m l) (bar : not (isOwn k named) && isNothing (heldAt named recs) ≡ false) where
     is-named : S.Named m l r
-    is-named = named-by m l bar (eqb named k) refl
+    is-named = named-by m l bar (isOwn k named) refl
 
     formed-by : (q : List ℕ) → S.Named m l q → recordForm q ≡ true
-    formed-by q (inl w) = ap recordForm (w .1) ∙ g .own
+    formed-by q (inl w) = ap recordForm (w .1) ∙ record-formed (l .own) (g .own) (ownPlace k named) (place-within (l .own) named (w .0))
     formed-by q (inr w) = every-in (λ (x : List ℕ). recordForm x ≡ true) q recs (true-form k (m .cache) (g .cache) .held .formed) (w .1)
 
     room : length (joined (S.flooding l r)) ≡ floodRoom r
@@ -192,7 +200,7 @@ module _ (m : Memory) (l : Send) where
     good : Before 1 n → SendLent m l
     good h = is-lent (low 1 h)
 
-    barred : Before 12 n → not (eqb named k) && isNothing (heldAt named recs) ≡ false
+    barred : Before 12 n → not (isOwn k named) && isNothing (heldAt named recs) ≡ false
     barred h = holds-not _ (λ e. low 12 h (Num.not-named refl (named-to e)))
 
     full-is : length ps ≡ usedOf (m .waiting)

@@ -4,7 +4,7 @@ use mathlib.Core.Bool.{true}
 use mathlib.Core.List.{List, [], _∷_, _++_, map}
 use Prim.Native.Nat.{ℕ}
 use borrow.Author.Tests.{not-false}
-use Rattle.record.specs.Record.{keyOf}
+use Rattle.own.specs.Own.{ownKeys}
 use Rattle.refusal.specs.Table.{Refusal, orRefuse}
 use Rattle.refusal.proofs.TableLaws.{AllFail}
 use Rattle.refusal.proofs.CallLaws.{all-pass}
@@ -43,7 +43,7 @@ fails-front (r ∷ rs) ss a = (a .0, fails-front rs ss (a .1))
 
 module _ (m : Memory) (l : Receive) where
   abbrev pub held : ℕ
-  held = heldIn (keyOf (l .own)) (m .cache)
+  held = heldIn (ownKeys (l .own)) (m .cache)
 
   abbrev pub used : ℕ
   used = usedOf (m .waiting)
@@ -51,7 +51,7 @@ module _ (m : Memory) (l : Receive) where
   -- what is known of an accepted call
   pub record Fine : Type 0 where
     pub ready : Ready (l .own) m held used
-    pub hands : Handed (l .cpa) (l .nonce) (l .key)
+    pub hands : Handed (l .own) (l .cpas) (l .nonce) (l .key)
 
   -- by the message: what a plan does is what the sentence says
   abbrev pub Does : Heard → Plan → Type 0
@@ -84,11 +84,11 @@ module _ (m : Memory) (l : Receive) where
     is-message = subst (λ (x : fields.Found). IsMessage (R.incomingOf (l .datagram) x)) (sym reads-it) (shown-message (l .datagram) _ _)
 
   module _ (ok : Fine) where
-    pub table-form : W.PlacesForm (keyOf (l .own)) (m .waiting) (placesOf (m .waiting))
-    table-form = form-of (keyOf (l .own)) (m .waiting) (ok .ready .tabled)
+    pub table-form : W.PlacesForm (ownKeys (l .own)) (m .waiting) (placesOf (m .waiting))
+    table-form = form-of (ownKeys (l .own)) (m .waiting) (ok .ready .tabled)
 
     pub ids-rise : Rising plain 0 (map idOf (placesOf (m .waiting)))
-    ids-rise = places-rise (keyOf (l .own)) (m .waiting) (ok .ready .tabled)
+    ids-rise = places-rise (ownKeys (l .own)) (m .waiting) (ok .ready .tabled)
 
 -- the plan behind a table none of whose tests holds
 pub passed : (m : Memory) (l : Receive) (x : Heard) (rs : List Refusal) (p : Plan) → AllFail rs → Does m l x p → Does m l x (orRefuse Refuse rs p)

@@ -10,7 +10,8 @@ use lib.Dec.{ltb}
 use lib.ListN.{length, length-append}
 use borrow.Author.Tests.{lt-ltb, ltb-true}
 use Rattle.key.specs.Number.{keyAt}
-use Rattle.record.specs.Record.{keyOf, recordForm}
+use Rattle.record.specs.Record.{keyOf}
+use Rattle.own.specs.Own.{ownKeys, IsOwn}
 use Rattle.refusal.specs.Table.{Refusal, Before}
 use Rattle.refusal.proofs.TableLaws.{both}
 use Rattle.table.specs.Rows.{joined}
@@ -32,19 +33,19 @@ use Rattle.sentences.proofs.FirstLaws.{Row}
 -- 7 to 14, by what was heard
 abbrev pub Refused : Memory → Receive → Heard → ℕ → Type 0
 Refused m l (entry id silent validate r) n =
-    ((n ≡ 11) × (keyOf r ≡ keyOf (l .own)))
-    ⊎ ((n ≡ 13) × S.MustAsk (keyOf (l .own)) m r × (p : List ℕ) × S.Waits m p × (idOf p ≡ idAfter (l .id)))
-    ⊎ ((n ≡ 14) × S.MustAsk (keyOf (l .own)) m r × (length (placesOf (m .waiting)) ≡ 16))
-Refused m l (revoke id silent validate) n = ((n ≡ 9) × (¬ (l .verdict ≡ 1))) ⊎ ((n ≡ 11) × (l .verdict ≡ 1) × (keyAt 0 (l .key) ≡ keyOf (l .own)))
-Refused m l (inquire id validate) n = (n ≡ 12) × (¬ (validate ≡ keyOf (l .own)))
+    ((n ≡ 11) × IsOwn (ownKeys (l .own)) (keyOf r))
+    ⊎ ((n ≡ 13) × S.MustAsk (ownKeys (l .own)) m r × (p : List ℕ) × S.Waits m p × (idOf p ≡ idAfter (l .id)))
+    ⊎ ((n ≡ 14) × S.MustAsk (ownKeys (l .own)) m r × (length (placesOf (m .waiting)) ≡ 16))
+Refused m l (revoke id silent validate) n = ((n ≡ 9) × (¬ (l .verdict ≡ 1))) ⊎ ((n ≡ 11) × (l .verdict ≡ 1) × IsOwn (ownKeys (l .own)) (keyAt 0 (l .key)))
+Refused m l (inquire id validate) n = (n ≡ 12) × (¬ IsOwn (ownKeys (l .own)) validate)
 Refused m l (authority acked cpa) n =
     ((n ≡ 8) × (¬ ((p : List ℕ) × S.WaitsAs m 2 acked p)))
     ⊎ ((n ≡ 9) × ((cpa ≡ false) ⊎ (¬ (l .verdict ≡ 1))))
     ⊎ ((n ≡ 10) × (cpa ≡ true) × (l .verdict ≡ 1) × (p : List ℕ) × S.WaitsAs m 2 acked p × (¬ (placeKey p ≡ keyAt 0 (l .key))))
 Refused m l (ack acked b) n = (n ≡ 8) × (¬ ((p : List ℕ) × S.WaitsAs m 1 acked p))
 Refused m l (lookup id target path e) n =
-    ((n ≡ 13) × S.EntryAsks (keyOf (l .own)) m e × (p : List ℕ) × S.Waits m p × (idOf p ≡ idAfter (l .id)))
-    ⊎ ((n ≡ 14) × S.EntryAsks (keyOf (l .own)) m e × (length (placesOf (m .waiting)) ≡ 16))
+    ((n ≡ 13) × S.EntryAsks (ownKeys (l .own)) m e × (p : List ℕ) × S.Waits m p × (idOf p ≡ idAfter (l .id)))
+    ⊎ ((n ≡ 14) × S.EntryAsks (ownKeys (l .own)) m e × (length (placesOf (m .waiting)) ≡ 16))
 Refused m l other n = n ≡ 7
 
 module _ (m : Memory) (l : Receive) (n : ℕ) where
@@ -104,10 +105,10 @@ module _ (m : Memory) (l : Receive) where
       → (n ≡ 15) × (ltb (length (l .output)) need ≡ true) → Short x n
   short-to x ds n need r e w = (w .0, ds, r, inl (let h = ltb-true (length (l .output)) need (w .1) in omega arith))
 
-  pub short-from : (x : Heard) (ds : List (List ℕ)) (n need : ℕ) → cacheForm (keyOf (l .own)) (m .cache) ≡ true → S.Reply m l x ds
+  pub short-from : (x : Heard) (ds : List (List ℕ)) (n need : ℕ) → ReceiveLent m l → S.Reply m l x ds
       → length (joined ds) ≡ need → need ≤ 1232 → Short x n → (n ≡ 15) × (ltb (length (l .output)) need ≡ true)
-  short-from x ds n need f r e few w =
-      let h = no-room-by (l .output) ds (omega arith) (subst (Num.NoRoom (l .output)) (reply-one m l f x (w .1) ds (w .2) r) (w .3)) in
+  short-from x ds n need g r e few w =
+      let h = no-room-by (l .output) ds (omega arith) (subst (Num.NoRoom (l .output)) (reply-one m l (g .own) (g .cache) x (w .1) ds (w .2) r) (w .3)) in
       (w .0, lt-ltb (length (l .output)) need (omega arith))
 
   -- nothing is sent: no room is needed

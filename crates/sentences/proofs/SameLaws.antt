@@ -188,6 +188,7 @@ module _ (g : Gauge) (p : MeetsSentences g) (m : Memory) (l : Receive) (d d′ :
   whole-same zero e =
       let none = p .table .accepted m c′ (b′, small) .0 (sym number-same ∙ e) in
       receives-one m (hearing d′ l)
+      (holds _ (λ f. none 1 (Num.out-of-form refl (λ w. both (w .own) f))))
       (holds _ (λ f. none 1 (Num.out-of-form refl (λ w. both (w .cache) f))))
       (holds _ (λ f. none 1 (Num.out-of-form refl (λ w. both (w .waiting) f))))
       (g m c) (g m c′)

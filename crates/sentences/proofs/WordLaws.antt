@@ -11,6 +11,7 @@ use Rattle.octet.specs.Part.{same}
 use Rattle.octet.proofs.TestLaws.{both-true, same-refl, same-eq}
 use Rattle.refusal.proofs.TableLaws.{both}
 use Rattle.record.specs.Record.{keyOf}
+use Rattle.own.specs.Own.{Own}
 use Rattle.kept.specs.Keys.{_∈_}
 use Rattle.cache.specs.Form.{heldOf}
 use Rattle.waiting.specs.Place.{idOf, kindOf}
@@ -35,7 +36,7 @@ pub not-iff : (a b : ℕ) → (not (eqb a b) ≡ true) ↔ (¬ (a ≡ b))
 not-iff a b = (λ e d. both (sym (ap not (eq-eqb a b d)) ∙ e) refl, λ h. ap not (ne-eqb a b h))
 
 -- no inquiry for its key waits, by the test
-pub none-asked : (k : ℕ) (m : Memory) (r : List ℕ) → S.MustAsk k m r → anyOf (isInquiry (keyOf r)) (placesOf (m .waiting)) ≡ false
+pub none-asked : (k : Own) (m : Memory) (r : List ℕ) → S.MustAsk k m r → anyOf (isInquiry (keyOf r)) (placesOf (m .waiting)) ≡ false
 none-asked k m r h =
     in-none (isInquiry (keyOf r)) (placesOf (m .waiting)) (λ q i. holds-not (isInquiry (keyOf r) q) (λ e. h .1 (q, i, inquiry-is (keyOf r) q e)))
 
@@ -45,7 +46,7 @@ ask-by false false e = (refl, refl)
 ask-by false true e = both e refl
 ask-by true y e = both e refl
 
-pub must-iff : (k : ℕ) (m : Memory) (r : List ℕ) → (mustAsk (heldOf k (m .cache)) (placesOf (m .waiting)) r ≡ true) ↔ S.MustAsk k m r
+pub must-iff : (k : Own) (m : Memory) (r : List ℕ) → (mustAsk (heldOf k (m .cache)) (placesOf (m .waiting)) r ≡ true) ↔ S.MustAsk k m r
 unfolding mustAsk
 must-iff k m r = (to, from)
   where

@@ -19,7 +19,7 @@ ReadsBack d = (ks : List Kind) × (msg : Message) × (d ≡ written ks msg) × R
 pub record Bytewise (m : Memory) (l : Receive) : Type 0 where
   pub numbers : (l .major < 256) × (l .minor < 256) × (l .id < 2 ^ 32)
   pub own : Bytes (l .own)
-  pub cpa : Bytes (l .cpa)
+  pub cpas : Bytes (l .cpas)
   pub cache : Bytes (m .cache)
   pub nonce : Bytes (l .nonce)
   pub datagram : Bytes (l .datagram)

@@ -9,7 +9,7 @@ use mathlib.Core.Option.{some}
 use mathlib.Core.Path.{_≡_}
 use Rattle.key.specs.Number.{keyAt}
 use Rattle.record.specs.Record.{keyOf}
-use Rattle.own.specs.Own.{ownKeys}
+use Rattle.own.specs.Own.{Own, ownKeys}
 use Rattle.kept.specs.Keys.{Every}
 use Rattle.gauge_plan.specs.Lent.{Memory, Call, receives, sends, ticks, lists}
 use Rattle.gauge.specs.Words.{Gauge, left, Typed, OneKey}
@@ -47,9 +47,9 @@ abbrev pub NoneAsks : Gauge → ℕ → Memory → List Call → Type 0
 NoneAsks g u m [] = Unit {0}
 NoneAsks g u m (c ∷ cs) = Typed c × (g m c .answer .number ≡ 0 → ¬ AsksFor u m c) × NoneAsks g u (g m c .memory) cs
 
--- the memory m that these calls leave, where they have one own key k, holds no record of the key u; and no AUTHORITY for u is accepted on it
+-- the memory m that these calls leave, where they have the same own keys, holds no record of the key u; and no AUTHORITY for u is accepted on it
 pub record StaysOut (g : Gauge) (u : ℕ) (calls : List Call) (m : Memory) : Type 0 where
-  pub not-held : (k : ℕ) → Every (OneKey k) calls → (r : List ℕ) → Holds k m r → ¬ (keyOf r ≡ u)
+  pub not-held : (own : Own) → Every (OneKey own) calls → (r : List ℕ) → Holds own m r → ¬ (keyOf r ≡ u)
   pub refused : (late : Call) → Typed late → Answers u late → ¬ (g m late .answer .number ≡ 0)
 
 -- c is the revocation, cs any calls after it

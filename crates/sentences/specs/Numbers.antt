@@ -68,7 +68,7 @@ pub data ReceiveApplies (m : Memory) (l : Receive) (n : ℕ) : Type 0 where
   -- 10 "AUTHORITY's verdict is good for another key than the one inquired"
   other-key : n ≡ 10 → (acked : ℕ) → Says l (authority acked true) → l .verdict ≡ 1 → (p : List ℕ) → WaitsAs m 2 acked p
       → ¬ (placeKey p ≡ keyAt 0 (l .key)) → ReceiveApplies m l n
-  -- 11 "route entry or revocation in a FLOOD names the own key": a revocation names the key that the verdict is good for
+  -- 11 "route entry or revocation in a FLOOD names the own key", any of ours: a revocation names the key that the verdict is good for
   own-entry : n ≡ 11 → (id : ℕ) (silent : Bool) (validate : ℕ) (r : List ℕ) → Says l (entry id silent validate r) → IsOwn (ownKeys (l .own)) (keyOf r)
       → ReceiveApplies m l n
   own-revocation : n ≡ 11 → (id : ℕ) (silent : Bool) (validate : ℕ) → Says l (revoke id silent validate) → l .verdict ≡ 1
@@ -100,9 +100,10 @@ pub data SendApplies (m : Memory) (l : Send) (n : ℕ) : Type 0 where
   send-all-used : n ≡ 14 → length (placesOf (m .waiting)) ≡ 16 → SendApplies m l n
   send-no-room : n ≡ 15 → (r : List ℕ) → Named m l r → NoRoom (l .output) (flooding l r) → SendApplies m l n
 
--- "The list needs room for 16 numbers of 32 bits, else 15"; "Output shorter than 320 bytes: 15"
+-- "The list needs room for 16 numbers of 32 bits, else 15"; "Output shorter than 320 bytes: 15"; 12 for a list round a key that is not ours (02, Wish 11)
 abbrev pub Applies : Memory → Call → ℕ → Type 0
 Applies m (receives l) n = ReceiveApplies m l n
 Applies m (sends l) n = SendApplies m l n
 Applies m (ticks l) n = ((n ≡ 1) × (¬ TickLent m l)) ⊎ ((n ≡ 15) × (length (l .output) < 64))
-Applies m (lists l) n = ((n ≡ 1) × (¬ ListLent m l)) ⊎ ((n ≡ 15) × (length (l .output) < 320))
+Applies m (lists l) n =
+    ((n ≡ 1) × (¬ ListLent m l)) ⊎ ((n ≡ 12) × (¬ IsOwn (ownKeys (l .own)) (keyAt 0 (l .key)))) ⊎ ((n ≡ 15) × (length (l .output) < 320))

@@ -7,6 +7,8 @@ use mathlib.Core.Path.{_≡_, refl, ap, _∙_}
 use native.Mathlib.Omega.{arith}
 use lib.ListN.{length, getD, replicate}
 use Rattle.key.specs.Around.{Side, below, above, sideOf}
+use Rattle.own.specs.Own.{Own, ownKeys}
+use Rattle.own.proofs.PlaceLaws.{own-in}
 use Rattle.kept.specs.History.{Event}
 use Rattle.kept.specs.Neighbours.{onSide}
 use Rattle.kept.specs.Plain.{kept}
@@ -27,9 +29,16 @@ use Rattle.signed.proofs.Theorems.{typed-calls}
 use Rattle.controls.specs.Lists as W
 use Rattle.controls.proofs.ShutLaws.{fits, fits-bytes, shut}
 
--- the neighbour list, of key 100
+-- our keys, of which 100 is the only one; its neighbour list
+abbrev own : Own
+own = ownKeys (recordWith 100)
+
+one : length own ≡ 1
+unfolding computed
+one = refl
+
 abbrev asked : Call
-asked = lists (listing (recordWith 100) (replicate 320 0))
+asked = lists (listing (recordWith 100) (key 100) (replicate 320 0))
 
 -- ---- the histories of a gauge with the key 100
 
@@ -44,7 +53,7 @@ floodOf k port = floodMade 6 101 5 (key 100) (recordAt k port) 0 .bytes
 abbrev learning : ℕ → ℕ → List Call → List Call
 learning k port cs = hears 100 k (floodOf k port) ∷ hears 100 k authority ∷ cs
 
-proper : (k port : ℕ) (cs : List Call) → fits (floodOf k port) ≡ true → Proper 100 cs → Proper 100 (learning k port cs)
+proper : (k port : ℕ) (cs : List Call) → fits (floodOf k port) ≡ true → Proper own cs → Proper own (learning k port cs)
 unfolding computed fits
 proper k port cs f p =
     ((λ o. refl, (fits-bytes (floodOf k port) f, omega arith)), ((λ o. refl, (fits-bytes authority refl, omega arith)), p))
@@ -56,18 +65,18 @@ counted g cs = g (left g (empty 10) cs) asked .answer
 
 -- as many keys of a side as are kept there, and five at most
 abbrev wanted : Side → List Event → ℕ
-wanted s history = min 5 (length (onSide (sideOf 100) s (kept 100 10 history)))
+wanted s history = min 5 (length (onSide (sideOf 100) s (kept own 10 history)))
 
-module _ (g : Gauge) (cs : List Call) (p : Proper 100 cs) (m : MeetsDemand3 g) where
-  met : Demand3 g 100 10 cs
-  met = m 100 10 (omega arith) (omega arith) cs p
+module _ (g : Gauge) (cs : List Call) (p : Proper own cs) (m : MeetsDemand3 g) where
+  met : Demand3 g own 10 cs
+  met = m own 10 (omega arith, omega (arith, one)) (omega arith) cs p
 
-  list : NeighbourList 100 (kept 100 10 (met .history)) (replicate 320 0) (g (left g (empty 10) cs) asked)
+  list : NeighbourList 100 (kept own 10 (met .history)) (replicate 320 0) (g (left g (empty 10) cs) asked)
   unfolding computed
-  list = met .listed (listing (recordWith 100) (replicate 320 0)) refl refl (omega arith)
+  list = met .listed 100 (own-in own 100 refl) (listing (recordWith 100) (key 100) (replicate 320 0)) refl refl refl refl (omega arith)
 
   told : met .history ≡ happened g 10 cs
-  told = happened-events [] (log g (empty 10) cs) (log-typed g (empty 10) cs (typed-calls 100 cs p)) (met .history) (met .happened)
+  told = happened-events [] (log g (empty 10) cs) (log-typed g (empty 10) cs (typed-calls own cs p)) (met .history) (met .happened)
 
   below-met : counted g cs .first ≡ wanted below (happened g 10 cs)
   below-met = ap (λ (a : Answer). a .first) (list .counts) ∙ list .nearest-below .many ∙ ap (wanted below) told
@@ -133,6 +142,6 @@ pub mixes-shut : W.MixesShut
 unfolding computed left toldFrom inquired answered firstTold W.mixes fits
 mixes-shut m =
     let both =
-    m 100 10 (omega arith) (omega arith) (learning 99 1 (learning 101 2 [])) (proper 99 1 (learning 101 2 []) refl (proper 101 2 [] refl tt)) .last in
+    m own 10 (omega arith, omega (arith, one)) (omega arith) (learning 99 1 (learning 101 2 [])) (proper 99 1 (learning 101 2 []) refl (proper 101 2 [] refl tt)) .last in
     let z : _≡_ {A = ℕ} 2 1 = ap portOf (both .1 .0) in
     absurd (omega arith)

@@ -12,11 +12,11 @@ use Rattle.waiting.specs.Form.{usedOf}
 use Rattle.waiting.specs.Place.{newPlace}
 use Rattle.wire_fields.specs.Kinds.{floodKinds}
 use Rattle.wire_fields.specs.Message as message
-use Rattle.wire_write.specs.Making.{floodMade}
-use Rattle.gauge_plan.specs.Lent.{empty, withCache, tick, Call, ticks}
+use Rattle.wire_write.specs.Making.{floodMade, inquireMade}
+use Rattle.gauge_plan.specs.Lent.{empty, withCache, tick, listing, Call, ticks, lists}
 use Rattle.gauge_commit.specs.Sending.{Handed}
 use Rattle.sentences.proofs.ComputedLaws.{computed}
-use Rattle.signed.specs.Cases.{key, recordWith, recordOn, endpoint, holding, hearsInto, hears, inquiryFor, authority, lookupBy, lookupOf}
+use Rattle.signed.specs.Cases.{key, recordWith, recordOn, endpoint, holding, hearsInto, hearsTwo, hears, inquiryFor, authority, lookupBy, lookupOf}
 use Rattle.controls.specs.Wrong as W
 use Rattle.controls.proofs.ShutLaws.{fits, fits-bytes, shut}
 
@@ -184,6 +184,33 @@ leaves-unasked-shut =
     shut W.leavesUnasked (holding 10 [] []) (hearsInto 172 100 0 namesAnother) (λ (h : Handed). usedOf (h .memory .waiting))
     (fits-bytes namesAnother refl, omega arith) (λ e. absurd (let z : _≡_ {A = ℕ} 0 1 = e in omega arith))
 
+-- own keys 100 and 200: a FLOOD to the second, of a record that is held, so that only the ACK is sent
+abbrev floodToSecond : List ℕ
+floodToSecond = floodMade 6 101 5 (key 200) (recordWith 99) 0 .bytes
+
+n-by-the-first-shut : W.Shut W.nByTheFirst
+unfolding computed W.nByTheFirst fits
+n-by-the-first-shut =
+    shut W.nByTheFirst (holding 20 (99 ∷ []) []) (hearsTwo 96 100 200 0 floodToSecond) (λ (h : Handed). h .answer .first)
+    (fits-bytes floodToSecond refl, omega arith) (λ e. absurd (let z : _≡_ {A = ℕ} 26 20 = e in omega arith))
+
+-- an INQUIRE for the second, whose CPA is the byte 8
+abbrev inquirySecond : List ℕ
+inquirySecond = inquireMade 6 101 5 (key 200) (replicate 16 0) .bytes
+
+first-cpa-shut : W.Shut W.firstCpa
+unfolding computed W.firstCpa fits
+first-cpa-shut =
+    shut W.firstCpa (holding 20 [] []) (hearsTwo 41 100 200 0 inquirySecond) (λ (h : Handed). getD (h .output) 40 0)
+    (fits-bytes inquirySecond refl, omega arith) (λ e. absurd (let z : _≡_ {A = ℕ} 7 8 = e in omega arith))
+
+-- 150 is above 100, and below 200
+first-list-shut : W.Shut W.firstList
+unfolding computed W.firstList
+first-list-shut =
+    shut W.firstList (holding 20 (150 ∷ []) []) (lists (listing (recordWith 100 ++ recordWith 200) (key 200) (replicate 320 0))) (λ (h : Handed). h .answer .first) tt
+    (λ e. absurd (let z : _≡_ {A = ℕ} 0 1 = e in omega arith))
+
 pub all-shut : W.AllShut
 all-shut = (
   never-acks-shut,
@@ -215,7 +242,7 @@ all-shut = (
                             asks-again-shut,
                             (
                               resets-tries-shut,
-                              (keeps-tries-shut, (frees-all-shut, (wants-more-shut, (sends-back-shut, (leaves-unasked-shut, tt))))),
+                              (keeps-tries-shut, (frees-all-shut, (wants-more-shut, (sends-back-shut, (leaves-unasked-shut, (n-by-the-first-shut, (first-cpa-shut, (first-list-shut, tt)))))))),
                             ),
                           ),
                         ),

@@ -5,7 +5,7 @@ use mathlib.Core.Bool.{Bool, true, false, cond}
 use mathlib.Core.List.{List, _++_, map}
 use lib.ListN.{length}
 use Rattle.octet.specs.Part.{part, allZero}
-use Rattle.record.specs.Record.{keyOf}
+use Rattle.own.specs.Own.{ownKeys}
 use Rattle.table.specs.Rows.{bytesOf}
 use Rattle.cache.specs.Form.{heldOf}
 use Rattle.gauge_commit.specs.Sending.{answer, handed}
@@ -53,7 +53,7 @@ unfoldable pub mixes : Gauge
 mixes m c =
     let h = ours m c in
     let s = h .memory .cache in
-    let mixed = map (λ (r : List ℕ). part 0 32 r ++ part 32 68 s) (heldOf (keyOf (ownOf c)) s) in
+    let mixed = map (λ (r : List ℕ). part 0 32 r ++ part 32 68 s) (heldOf (ownKeys (ownOf c)) s) in
     handed (h .answer) (withCache (bytesOf (length s) mixed) (h .memory)) (h .output)
 
 -- ---- each is shut out

@@ -6,10 +6,13 @@ use mathlib.Core.List.{List, [], _∷_, _++_}
 use lib.Dec.{eqb, leb, ltb}
 use lib.ListN.{length, getD, replicate, set, take, drop}
 use Rattle.octet.specs.Part.{part, same, allZero}
+use Rattle.own.specs.Own.{ownRecords}
+use Rattle.table.specs.Rows.{joined}
+use Rattle.cpas.specs.Cpas.{cpaSize}
 use Rattle.kept.specs.Keys.{Every}
 use Rattle.waiting.specs.Form.{usedOf}
 use Rattle.gauge_commit.specs.Sending.{answer, Handed, handed}
-use Rattle.gauge_plan.specs.Lent.{withCache, withWaiting, hearingAs, hearing, Call, receives, sends, ticks, lists, outputOf}
+use Rattle.gauge_plan.specs.Lent.{withCache, withWaiting, hearingAs, hearing, handing, listing, Call, receives, sends, ticks, lists, ownOf, outputOf}
 use Rattle.gauge.specs.Words.{Gauge}
 use Rattle.gauge.specs.Ours.{ours}
 use Rattle.sentences.specs.Meets.{MeetsSentences}
@@ -69,6 +72,35 @@ nByTheRecord m c =
     let h = ours m c in
     cond (hearsType 4 c && eqb (h .answer .first) 20 && eqb (h .answer .second) 0 && not (same (part 24 32 (datagramOf c)) (part 60 32 (datagramOf c))))
     (handed (answer 0 26 0) (h .memory) (take 20 (h .output) ++ (0 ∷ 0x40 ∷ 0 ∷ 6 ∷ 0 ∷ 1 ∷ []) ++ drop 26 (h .output))) h
+
+-- N is set when the validate key is not the first of our keys, where it should be none of them
+unfoldable pub nByTheFirst : Gauge
+nByTheFirst m c =
+    let h = ours m c in
+    cond (hearsType 4 c && eqb (h .answer .first) 20 && eqb (h .answer .second) 0 && not (same (part 24 32 (datagramOf c)) (part 0 32 (ownOf c))))
+    (handed (answer 0 26 0) (h .memory) (take 20 (h .output) ++ (0 ∷ 0x40 ∷ 0 ∷ 6 ∷ 0 ∷ 1 ∷ []) ++ drop 26 (h .output))) h
+
+-- an INQUIRE is answered with the CPA of the first own record, whichever key it is for: so each is lent as if it were that one
+abbrev pub withFirst : Call → Call
+withFirst (receives l) =
+    let first = take (2 + cpaSize (l .cpas)) (l .cpas) in
+    receives (handing (l .own) (joined (replicate (length (ownRecords (l .own))) first)) (l .nonce) (l .key) l)
+withFirst (sends l) = sends l
+withFirst (ticks l) = ticks l
+withFirst (lists l) = lists l
+
+unfoldable pub firstCpa : Gauge
+firstCpa m c = ours m (withFirst c)
+
+-- the list is always that of the first own key
+abbrev pub roundFirst : Call → Call
+roundFirst (receives l) = receives l
+roundFirst (sends l) = sends l
+roundFirst (ticks l) = ticks l
+roundFirst (lists l) = lists (listing (l .own) (part 0 32 (l .own)) (l .output))
+
+unfoldable pub firstList : Gauge
+firstList m c = ours m (roundFirst c)
 
 -- the second datagram stands a byte further
 unfoldable pub movesSecond : Gauge
@@ -182,4 +214,4 @@ abbrev pub AllShut : Type 0
 AllShut =
     Every Shut
     (neverAcks ∷ neverN ∷ nByTheRecord ∷ movesSecond ∷ showsOwn ∷ showsHeld ∷ fourBytes ∷ learnsEarly ∷ dropsNewcomer ∷ dropsOldest ∷ revokesLate
-    ∷ freesThenRefuses ∷ keepsPlace ∷ asksAgain ∷ resetsTries ∷ keepsTries ∷ freesAll ∷ wantsMore ∷ sendsBack ∷ leavesUnasked ∷ [])
+    ∷ freesThenRefuses ∷ keepsPlace ∷ asksAgain ∷ resetsTries ∷ keepsTries ∷ freesAll ∷ wantsMore ∷ sendsBack ∷ leavesUnasked ∷ nByTheFirst ∷ firstCpa ∷ firstList ∷ [])

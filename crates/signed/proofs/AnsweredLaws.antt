@@ -17,6 +17,9 @@ use Rattle.key.specs.Number.{keyAt}
 use Rattle.record.specs.Record.{keyOf, recordForm}
 use Rattle.record.specs.Entry.{entryForm, recordOf}
 use Rattle.record.proofs.EntryLaws.{form-length, record-form}
+use Rattle.own.proofs.FormLaws.{own-some}
+use Rattle.own.specs.Own.{Own, ownKeys, IsOwn}
+use Rattle.own.proofs.PlaceLaws.{own-not}
 use Rattle.table.specs.Rows.{rows, bytesOf, anyOf}
 use Rattle.table.proofs.RowLaws.{rows-length}
 use Rattle.kept.specs.Keys.{_∈_, Every}
@@ -103,18 +106,18 @@ last-there : (q r : List ℕ) (rs : List (List ℕ)) → ¬ (keyOf q ≡ keyOf r
 unfolding firstTold
 last-there q r rs other e = rw (ne-eqb (keyOf q) (keyOf r) other) e
 
-module _ (own : ℕ) (cache : List ℕ) (recs : List (List ℕ)) (f : Form own cache recs) (rs : List (List ℕ)) (a : Every (Last rs) recs) where
+module _ (own : Own) (cache : List ℕ) (recs : List (List ℕ)) (f : Form own cache recs) (rs : List (List ℕ)) (a : Every (Last rs) recs) where
   last-removed : (k : ℕ) → Every (Last rs) (heldOf own (bytesOf (length cache) (afterRemove k recs)))
   last-removed k =
       subst (Every (Last rs)) (sym (form-held own (bytesOf (length cache) (afterRemove k recs)) (afterRemove k recs)
       (removed-form own k cache recs f)))
       (every-by (Last rs) (afterRemove k recs) (λ q m. every-in (Last rs) q recs a (mem-without-by keyOf k q recs m .0)))
 
-  last-learnt : (r : List ℕ) → recordForm r ≡ true → NotOwn own (keyOf r)
+  last-learnt : (r : List ℕ) → 0 < length own → recordForm r ≡ true → NotOwn own (keyOf r)
       → Every (Last (r ∷ rs)) (heldOf own (bytesOf (length cache) (afterLearn own (length cache) recs r)))
-  last-learnt r formed other =
+  last-learnt r any formed other =
       let after = afterLearn own (length cache) recs r in
-      subst (Every (Last (r ∷ rs))) (sym (form-held own (bytesOf (length cache) after) after (learnt-form own cache recs r f formed other)))
+      subst (Every (Last (r ∷ rs))) (sym (form-held own (bytesOf (length cache) after) after (learnt-form own cache recs r any f formed other)))
       (every-by (Last (r ∷ rs)) after (λ q m. by q (mem-learn-by keyOf (drops own) (placesIn (length cache)) r q recs (f .held .rising) m)))
     where
       by : (q : List ℕ) → (q ≡ r) ⊎ ((q ∈ recs) × (¬ (keyOf q ≡ keyOf r))) → Last (r ∷ rs) q
@@ -122,7 +125,7 @@ module _ (own : ℕ) (cache : List ℕ) (recs : List (List ℕ)) (f : Form own c
       by q (inr m) = last-there q r rs (m .1) (every-in (Last rs) q recs a (m .0))
 
 -- what holds of the places holds of those without one
-module _ (own : ℕ) (t : List ℕ) (ps : List (List ℕ)) (f : W.PlacesForm own t ps) (P : List ℕ → Type 0) (a : All P ps) where
+module _ (own : Own) (t : List ℕ) (ps : List (List ℕ)) (f : W.PlacesForm own t ps) (P : List ℕ → Type 0) (a : All P ps) where
   all-found : (found : Found) → All P (placesOf (bytesOf 2240 (freedAt found ps)))
   all-found (At i) = subst (All P) (form-unique own (bytesOf 2240 (freed i ps)) (freed i ps) (free-kept own t ps f i)) (all-freed P i ps a)
   all-found Nothing = subst (λ (s : List ℕ). All P (placesOf s)) (f .bytes) (subst (All P) (form-unique own t ps f) a)
@@ -130,7 +133,7 @@ module _ (own : ℕ) (t : List ℕ) (ps : List (List ℕ)) (f : W.PlacesForm own
 -- ---- an accepted datagram
 
 -- what holds between two calls
-pub record Holds (k : ℕ) (es : List AnswerTold) (m : Memory) : Type 0 where
+pub record Holds (k : Own) (es : List AnswerTold) (m : Memory) : Type 0 where
   pub asked : All (Asked es) (placesOf (m .waiting))
   pub last : Every (Last (answered es)) (heldOf k (m .cache))
 
@@ -146,7 +149,7 @@ module _ (m : Memory) (l : Receive) (es : List AnswerTold) (g : Answer) {h u : �
   entry-long : length Entry ≡ 100
   entry-long = form-length Entry (record-form (part start len (l .datagram)) entry)
 
-  opened-asked : (u ≡ 16 → ⊥) → anyOf (hasId (idAfter (l .id))) (rows 140 u (m .waiting)) ≡ false → (keyOf Entry ≡ keyOf (l .own) → ⊥)
+  opened-asked : (u ≡ 16 → ⊥) → anyOf (hasId (idAfter (l .id))) (rows 140 u (m .waiting)) ≡ false → ¬ IsOwn (ownKeys (l .own)) (keyOf Entry)
       → mustAsk (rows 100 h (m .cache)) (rows 140 u (m .waiting)) Entry ≡ true
       → inquired (idAfter (l .id)) (answerTold (receives l) g ∷ es) ≡ some Entry
       → All (Asked es) (placesOf (m .waiting))
@@ -154,7 +157,7 @@ module _ (m : Memory) (l : Receive) (es : List AnswerTold) (g : Answer) {h u : �
       (placesOf (bytesOf 2240 (opened (inquiryPlace (idAfter (l .id)) Entry) (rows 140 u (m .waiting)))))
   opened-asked free new other asks told asked =
       let t = m .waiting in
-      let own = keyOf (l .own) in
+      let own = ownKeys (l .own) in
       let ps = rows 140 u t in
       let i = idAfter (l .id) in
       let p = inquiryPlace i Entry in
@@ -167,7 +170,7 @@ module _ (m : Memory) (l : Receive) (es : List AnswerTold) (g : Answer) {h u : �
       let small : i < 2 ^ 32 = mod-lt _ (omega arith) in
       let formed = record-form (part start len (l .datagram)) entry in
       let after = open-inquiry own t ps form i Entry (omega (arith, rows-length 140 u t, free)) small long formed
-      (ne-eqb (keyOf Entry) own other) new (ask-tells _ _ Entry asks .1) in
+      (own-not own (keyOf Entry) other) new (ask-tells _ _ Entry asks .1) in
       let here : Asked later p =
       λ kind. ap (λ (j : ℕ). inquired j later) (new-id i 2 2 (part 0 32 Entry) Entry short long small)
       ∙ told
@@ -209,8 +212,8 @@ module _ (m : Memory) (l : Receive) (es : List AnswerTold) (h u a target path si
       let path-bytes = part path size (l .datagram) in
       let recs = rows 100 h (m .cache) in
       let r = closestPast (l .own) recs path-bytes (keyAt target (l .datagram)) in
-      let formed = closest-formed (keyAt target (l .datagram)) (keyOf (l .own)) (l .own) (offPath path-bytes recs) (k .ready .owned)
-      (off-held path-bytes (keyOf (l .own)) recs (k .ready .form .held)) in
+      let formed = closest-formed (keyAt target (l .datagram)) (ownKeys (l .own)) (l .own) (offPath path-bytes recs) (k .ready .owned)
+      (off-held path-bytes (ownKeys (l .own)) recs (k .ready .form .held)) in
       inquires-behind (l .major) (l .minor) (l .id) (l .nonce) (recordOf (part start len (l .datagram)))
       (closestMade (l .major) (l .minor) (l .id) a r 0 .bytes) opens
       (λ e. omega (arith, e, shown-closest (l .major) (l .minor) (l .id) a r formed))
@@ -221,15 +224,15 @@ module _ (m : Memory) (l : Receive) (es : List AnswerTold) (h u a target path si
       → All (Asked (answerTold (receives l) (Reply opens) ∷ es)) (placesOf (carried m l (Show h u a target path size opens start len) .memory .waiting))
   unfolding carried
   show-asked true k f asked =
-      let tells = asks-tells (keyOf (l .own)) (rows 100 h (m .cache)) (rows 140 u (m .waiting)) (part start len (l .datagram)) (sym (k .plans .opens-is)) in
+      let tells = asks-tells (ownKeys (l .own)) (rows 100 h (m .cache)) (rows 140 u (m .waiting)) (part start len (l .datagram)) (sym (k .plans .opens-is)) in
       opened-asked m l es (Reply true) (k .ready) start len (shown-entry m l k refl) (k .plans .free refl) (k .plans .new refl) (tells .1) (tells .2)
       (asked-here m l (Reply true) es (recordOf (part start len (l .datagram))) (f .asked refl) (reply-told true k)) asked
   show-asked false k f asked =
       asked-later es (answerTold (receives l) (Reply false) ∷ es) (asked-none m l (Reply false) es (reply-told false k)) (placesOf (m .waiting)) asked
 
-module _ (m : Memory) (l : Receive) (es : List AnswerTold) (b : Holds (keyOf (l .own)) es m) where
-  abbrev OwnKey : ℕ
-  OwnKey = keyOf (l .own)
+module _ (m : Memory) (l : Receive) (es : List AnswerTold) (b : Holds (ownKeys (l .own)) es m) where
+  abbrev OwnKey : Own
+  OwnKey = ownKeys (l .own)
 
   -- where nothing is answered, and nothing asked
   last-still : (g : Answer) → ((fs : List AnswerTold) → answeredBy fs (R.readIn (l .datagram) (l .major)) ≡ []) → (cache : List ℕ)
@@ -287,13 +290,13 @@ module _ (m : Memory) (l : Receive) (es : List AnswerTold) (b : Holds (keyOf (l 
         asked = asked-later es (answerTold (receives l) g ∷ es) (asked-still m l g es (q .asked)) (placesOf (carried m l (Learn h u at) .memory .waiting))
             (asked-found (k .ready) (At at));
         last = subst (λ (rs : List (List ℕ)). Every (Last rs) (heldOf OwnKey (carried m l (Learn h u at) .memory .cache))) (sym now)
-            (last-learnt OwnKey (m .cache) (rows 100 h (m .cache)) (k .ready .form) (answered es) (last-rows (k .ready)) r
-            (sym (ap recordForm is) ∙ needs .6) (λ o. needs .7 (sym (record-key u (m .waiting) at) ∙ ap keyOf is ∙ o)));
+            (last-learnt OwnKey (m .cache) (rows 100 h (m .cache)) (k .ready .form) (answered es) (last-rows (k .ready)) r (own-some (l .own) (k .ready .owned))
+            (sym (ap recordForm is) ∙ needs .6) (λ o. needs .7 (subst (IsOwn OwnKey) (sym (sym (record-key u (m .waiting) at) ∙ ap keyOf is)) o)));
       }
   plan-holds (Free h u at true) e k q =
       quiet-holds _ _ q (asked-found (k .ready) (At at)) (last-without (k .ready) (placeKey (getD (rows 140 u (m .waiting)) at [])))
   plan-holds (Free h u at false) e k q = quiet-holds _ _ q (asked-found (k .ready) (At at)) (b .last)
-  plan-holds (Certify a) e k q = quiet-holds _ _ q (b .asked) (b .last)
+  plan-holds (Certify a i) e k q = quiet-holds _ _ q (b .asked) (b .last)
   plan-holds (Show h u a target path size opens start len) e k q = record {
     asked = show-asked m l es h u a target path size start len opens k q (b .asked);
     last = last-still (Reply m l es h u a target path size start len opens) (q .answers) (m .cache) (b .last);
@@ -330,13 +333,13 @@ asked-ticked : (es : List AnswerTold) (p : List ℕ) → length p ≡ 140 → As
 asked-ticked es p long h kind =
     ap (λ (i : ℕ). inquired i es) (less-id p) ∙ h (sym (less-kind p) ∙ kind) ∙ ap (λ (r : List ℕ). some r) (sym (less-record p))
 
-module _ (k : ℕ) (es : List AnswerTold) (m : Memory) (b : Holds k es m) where
+module _ (k : Own) (es : List AnswerTold) (m : Memory) (b : Holds k es m) where
   accepted-step : (c : Call) → OneKey k c → Typed c → ours m c .answer .number ≡ 0 → Holds k (answerTold c (ours m c .answer) ∷ es) (ours m c .memory)
   unfolding inquired answered gaugeTick gaugeList
   accepted-step (receives l) one ty z =
       let is = one (receive-ready m l z .owned) in
-      subst (λ (j : ℕ). Holds j (answerTold (receives l) (receiveCall m l .answer) ∷ es) (receiveCall m l .memory)) is
-      (receive-holds m l es (subst (λ (j : ℕ). Holds j es m) (sym is) b) z)
+      subst (λ (j : Own). Holds j (answerTold (receives l) (receiveCall m l .answer) ∷ es) (receiveCall m l .memory)) is
+      (receive-holds m l es (subst (λ (j : Own). Holds j es m) (sym is) b) z)
   -- the others tell nothing of inquiries
   accepted-step (sends l) one ty z = record {
     asked = moved-all (Asked es) (λ (p : List ℕ). p ≡ floodPlace (l .id) (l .neighbour)) (placesOf (m .waiting))
@@ -367,7 +370,7 @@ module _ (k : ℕ) (es : List AnswerTold) (m : Memory) (b : Holds k es m) where
 
 -- ---- any sequence of calls
 
-all-hold : (k : ℕ) (es : List AnswerTold) (m : Memory) → Holds k es m → (calls : List Call) → Proper k calls
+all-hold : (k : Own) (es : List AnswerTold) (m : Memory) → Holds k es m → (calls : List Call) → Proper k calls
     → Holds k (toldFrom ours m es calls) (left ours m calls)
 unfolding toldFrom left
 all-hold k es m b [] proper = b

@@ -29,7 +29,7 @@ all-right = (
                       refl,
                       (
                         (refl, refl, (refl, refl, (refl, refl, refl))),
-                        (refl, (refl, (refl, (refl, (refl, (refl, (refl, (refl, (refl, (refl, tt)))))))))),
+                        (refl, (refl, (refl, (refl, (refl, (refl, (refl, (refl, (refl, (refl, (refl, (refl, (refl, tt))))))))))))),
                       ),
                     ),
                   ),

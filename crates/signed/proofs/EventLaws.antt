@@ -5,7 +5,7 @@ use borrow.Author.Tests.{not-false}
 use mathlib.Core.List.{List, [], _∷_}
 use Prim.Native.Nat.{ℕ}
 use Rattle.key.specs.Number.{keyAt}
-use Rattle.record.specs.Record.{keyOf}
+use Rattle.own.specs.Own.{ownKeys}
 use Rattle.refusal.specs.Table.{Refusal, orRefuse}
 use Rattle.refusal.proofs.TableLaws.{AllFail, both}
 use Rattle.refusal.proofs.CallLaws.{all-pass}
@@ -54,7 +54,7 @@ Told m l a (Flood u s n b o at size) = (es : List Entry) → toldBy es (keyAt 0 
 Told m l a (Revoke h u s n b) = (es : List Entry) → toldBy es (keyAt 0 (l .key)) (heardBy (l .datagram) a) ≡ removed (keyAt 0 (l .key)) ∷ []
 Told m l a (Learn h u at) = (es : List Entry) → toldBy es (keyAt 0 (l .key)) (heardBy (l .datagram) a) ≡ learned (keyAt 0 (l .key)) ∷ []
 Told m l a (Free h u at n) = Acked m l a u at n
-Told m l a (Certify b) = (es : List Entry) → toldBy es (keyAt 0 (l .key)) (heardBy (l .datagram) a) ≡ []
+Told m l a (Certify b i) = (es : List Entry) → toldBy es (keyAt 0 (l .key)) (heardBy (l .datagram) a) ≡ []
 Told m l a (Show h u b t p z o start len) = (es : List Entry) → toldBy es (keyAt 0 (l .key)) (heardBy (l .datagram) a) ≡ []
 
 -- where no row of a table applies, what stands behind it
@@ -64,13 +64,13 @@ behind m l a rs done f t = subst (Told m l a) (sym (all-pass Refuse rs done f)) 
 module _ (m : Memory) (l : Receive) where
   told-flood : (x : F.Flood) (p : Part) → AllFail (floodTable m l (x .d) (x .validate) p)
       → Told m l (M.Flood (withEntry x p))
-      (byEntry m l (heldIn (keyOf (l .own)) (m .cache)) (usedOf (m .waiting)) (x .head) (x .d) (x .validate) p)
+      (byEntry m l (heldIn (ownKeys (l .own)) (m .cache)) (usedOf (m .waiting)) (x .head) (x .d) (x .validate) p)
   unfolding floodPlan revokePlan heldOf
   told-flood x (Here start len) f = behind m l _ _ _ f (λ es. refl)
   told-flood x Absent f = behind m l _ _ _ f (λ es. refl)
 
   told-message : (a : T.Incoming) → IsMessage a → AllFail (messageRows m l a)
-      → Told m l a (planFor m l (heldIn (keyOf (l .own)) (m .cache)) (usedOf (m .waiting)) a)
+      → Told m l a (planFor m l (heldIn (ownKeys (l .own)) (m .cache)) (usedOf (m .waiting)) a)
   unfolding planFor authorityPlan ackPlan inquirePlan lookupPlan heldOf
   told-message (M.Refused n) w f = w
   told-message (M.Solicit x) w f = both refl (f .0)
@@ -82,7 +82,7 @@ module _ (m : Memory) (l : Receive) where
   told-message (M.Ack x) w f =
       let ps = placesOf (m .waiting) in
       let found = seek (isAt (x .acked) 1) 0 ps in
-      behind m l (M.Ack x) (ackRefusals ps (x .acked)) (Free (heldIn (keyOf (l .own)) (m .cache)) (usedOf (m .waiting)) (placeOf found) (x .n)) f
+      behind m l (M.Ack x) (ackRefusals ps (x .acked)) (Free (heldIn (ownKeys (l .own)) (m .cache)) (usedOf (m .waiting)) (placeOf found) (x .n)) f
       (record { acked = x .acked; waiting = waits (x .acked) 1 (placeOf found) ps (some-found found (f .0)); told = λ es. refl })
   told-message (M.Lookup x) w f = behind m l _ _ _ f (λ es. refl)
 
@@ -96,7 +96,7 @@ module _ (m : Memory) (l : Receive) where
       (shown-message (l .datagram) _ _)
 
   planned : AllFail (receiveTable m l)
-      → receivePlan m l ≡ planFor m l (heldIn (keyOf (l .own)) (m .cache)) (usedOf (m .waiting)) (R.readIn (l .datagram) (l .major))
+      → receivePlan m l ≡ planFor m l (heldIn (ownKeys (l .own)) (m .cache)) (usedOf (m .waiting)) (R.readIn (l .datagram) (l .major))
   unfolding receivePlan memoryOf orRefuse
   planned f = rw (not-false (tablesFit (l .own) m) (f .0), not-false (handsFit m l) (f .1 .0)) refl
 

@@ -10,6 +10,7 @@ use lib.ListN.{length, replicate, length-append, length-map}
 use borrow.Author.Tests.{le-ltb}
 use Rattle.key.specs.Around.{Side, sideOf, nearness}
 use Rattle.record.specs.Record.{keyOf}
+use Rattle.own.specs.Own.{Own, ownKeys}
 use Rattle.kept.specs.Keys.{_∈_, Every, Rising, plain, put}
 use Rattle.kept.specs.History.{Event, learned, trimmed, learnWith, happen, after, Learns, NoRemoval, learnedAll}
 use Rattle.kept.specs.Neighbours.{IsNeighbours}
@@ -17,7 +18,6 @@ use Rattle.kept.specs.Plain.{NotOwn, neighbours, drops, kept}
 use Rattle.kept.proofs.PutLaws.{put-nil, put-more}
 use Rattle.kept.proofs.ListLaws.{every-at}
 use Rattle.kept.proofs.CallLaws.{after-append, learns-or}
-use Rattle.kept.proofs.Demand3Laws.{plain-demand3}
 use Rattle.cache.specs.Form.{cacheForm, keysOf, heldOf}
 use Rattle.cache.proofs.FormLaws.{true-form, form-room}
 use Rattle.waiting.proofs.FormLaws as WF
@@ -35,7 +35,7 @@ use Rattle.signed.specs.From as F
 use Rattle.signed.proofs.ToldLaws.{events, log-happened}
 use Rattle.signed.proofs.KeyLaws.{Owed}
 use Rattle.signed.proofs.StepLaws.{Inv, ran}
-use Rattle.signed.proofs.Theorems.{start, empty-table, typed-calls, lists-these, meets-demand1, meets-demand2, meets-demand3}
+use Rattle.signed.proofs.Theorems.{start, empty-table, typed-calls, lists-these, each-own, meets-demand1, meets-demand2, meets-demand3}
 
 -- ---- keys learned in their order
 
@@ -49,7 +49,7 @@ put-last b x [] more r = put-nil plain x
 put-last b x (j ∷ l) more r =
     put-more plain x j l (rising-past (suc j) x l more (r .1)) ∙ ap (λ (t : List ℕ). j ∷ t) (put-last (suc j) x l more (r .1))
 
-module _ (k C : ℕ) where
+module _ (k : Own) (C : ℕ) where
   learn-last : (x : ℕ) (front rest : List ℕ) → Rising plain 0 (front ++ (x ∷ rest)) → length (front ++ (x ∷ rest)) ≤ C
       → learnWith (drops k) C front x ≡ front ++ (x ∷ [])
   unfolding learnWith trimmed
@@ -74,15 +74,18 @@ module _ (k C : ℕ) where
 
 -- ---- the start
 
-module _ (k C : ℕ) (cache : List ℕ) (form : cacheForm k cache ≡ true) (size : length cache ≡ 100 * C) where
+module _ (k : Own) (C : ℕ) (cache : List ℕ) (form : cacheForm k cache ≡ true) (size : length cache ≡ 100 * C) where
   few : length (keysOf (heldOf k cache)) ≤ C
   few = omega (arith, length-map (heldOf k cache) keyOf, form-room k cache (heldOf k cache) (true-form k cache form), size)
 
   held-kept : kept k C (F.heldBefore k cache) ≡ keysOf (heldOf k cache)
   held-kept = learned-all k C [] (keysOf (heldOf k cache)) (true-form k cache form .held .rising) few
 
-  least : 10 ≤ C
-  least = let p = true-form k cache form .places .least in omega (arith, p, size)
+  least : (10 ≤ C) × (10 * length k ≤ C)
+  least =
+      let p = true-form k cache form .places .least in
+      let q = true-form k cache form .places .enough in
+      (omega (arith, p, size), omega (arith, q, size))
 
   most : C ≤ 256
   most = let p = true-form k cache form .places .most in omega (arith, p, size)
@@ -115,12 +118,12 @@ meets-demand3-from k C cache form size calls proper =
     let all = F.heldBefore k cache ++ evs in
     let now = left ours (F.restarted cache) calls in
     let held : keysOf (heldOf k (now .cache)) ≡ kept k C all = r .inv .keeps .held ∙ sym (kept-from k C cache form size evs) in
-    let d = plain-demand3 k C (least k C cache form size) all (none-own k C cache form size evs (r .fine)) in
+    let d = each-own k C (least k C cache form size .1) all (none-own k C cache form size evs (r .fine)) in
     record {
       later = evs;
       happened = log-happened [] (F.restarted cache) calls (typed-calls k calls proper);
-      listed = lists-these k (kept k C all) now (r .inv .cached) held (kept k C all) (d .right);
-      among-all = λ none. lists-these k (kept k C all) now (r .inv .cached) held (learnedAll all) (d .among-all none);
+      listed = λ j mine. lists-these k (kept k C all) now (r .inv .cached) held j mine (kept k C all) (d j mine .right);
+      among-all = λ none j mine. lists-these k (kept k C all) now (r .inv .cached) held j mine (learnedAll all) (d j mine .among-all none);
     }
 
 -- ---- with an empty cache it is demand 3, of any gauge
@@ -133,9 +136,9 @@ from-empty g meets k C least most calls proper =
     record {
       history = r .later;
       happened = r .happened;
-      listed = subst (λ (evs : List Event). ListsThese g (left g (empty C) calls) k (kept k C evs)) e (r .listed);
-      among-all = subst (λ (evs : List Event). NoRemoval (drops k) C [] evs → ListsThese g (left g (empty C) calls) k (learnedAll evs)) e
-          (r .among-all);
+      listed = λ j mine. subst (λ (evs : List Event). ListsThese g (left g (empty C) calls) k j (kept k C evs)) e (r .listed j mine);
+      among-all = λ none j mine. subst (λ (evs : List Event). NoRemoval (drops k) C [] evs → ListsThese g (left g (empty C) calls) k j (learnedAll evs)) e
+          (λ calm. r .among-all calm j mine) none;
     }
 
 -- ---- a gauge that meets the sentences does what ours does
@@ -153,9 +156,9 @@ module _ (g : Gauge) (p : MeetsSentences g) where
       ap (λ (h : Handed). entry c (h .answer .number) ∷ log g (h .memory) cs) (acts g p m c (t .0))
       ∙ ap (λ (es : List Entry). entry c (ours m c .answer .number) ∷ es) (log-same (ours m c .memory) cs (t .1))
 
-  lists-same : (m n : Memory) → m ≡ n → (k : ℕ) (keys : List ℕ) → ListsThese ours n k keys → ListsThese g m k keys
-  lists-same m n e k keys h l owned one room =
-      subst (NeighbourList k keys (l .output)) (sym (acts g p m (lists l) tt ∙ ap (λ (x : Memory). ours x (lists l)) e)) (h l owned one room)
+  lists-same : (m n : Memory) → m ≡ n → (own : Own) (k : ℕ) (keys : List ℕ) → ListsThese ours n own k keys → ListsThese g m own k keys
+  lists-same m n e own k keys h l owned one keyed is room =
+      subst (NeighbourList k keys (l .output)) (sym (acts g p m (lists l) tt ∙ ap (λ (x : Memory). ours x (lists l)) e)) (h l owned one keyed is room)
 
 pub restarts : F.Restarts
 restarts g p k C cache form size calls proper =
@@ -165,8 +168,8 @@ restarts g p k C cache form size calls proper =
     record {
       later = o .later;
       happened = subst (λ (es : List Entry). Happened [] es (o .later)) (sym (log-same g p (F.restarted cache) calls ty)) (o .happened);
-      listed = lists-same g p _ _ same k _ (o .listed);
-      among-all = λ none. lists-same g p _ _ same k _ (o .among-all none);
+      listed = λ j mine. lists-same g p _ _ same k j _ (o .listed j mine);
+      among-all = λ none j mine. lists-same g p _ _ same k j _ (o .among-all none j mine);
     }
 
 pub enough : F.Enough
@@ -175,7 +178,7 @@ enough g p = record {
     table = p .table;
     first = λ m c ty. subst (λ (h : Handed). OnlyFirst (returned c (h .answer)) (outputOf c) (h .output)) (sym (acts g p m c ty))
         (meets-demand1 .first m c ty);
-    form = λ m c ty f. subst (λ (h : Handed). InForm (keyOf (ownOf c)) (h .memory)) (sym (acts g p m c ty)) (meets-demand1 .form m c ty f);
+    form = λ m c ty f. subst (λ (h : Handed). InForm (ownKeys (ownOf c)) (h .memory)) (sym (acts g p m c ty)) (meets-demand1 .form m c ty f);
   };
   demand2 = record {
     one-message = meets-demand2 .one-message;

@@ -11,8 +11,8 @@ use lib.Seq.{length-take-le}
 use borrow.Author.Tests.{eq-eqb, ne-eqb, eqb-false, not-false}
 use Rattle.octet.specs.Part.{part}
 use Rattle.key.specs.Number.{keyAt}
-use Rattle.record.specs.Record.{keyOf}
 use Rattle.record.specs.Entry.{recordOf}
+use Rattle.own.specs.Own.{ownKeys}
 use Rattle.refusal.specs.Table.{Refusal, orRefuse}
 use Rattle.refusal.proofs.TableLaws.{AllFail, both}
 use Rattle.refusal.proofs.CallLaws.{or-known}
@@ -85,7 +85,7 @@ Heard m l a (Flood u s n b o start len) = Floods m l a start len
 Heard m l a (Revoke h u s n b) = Quiet m l a
 Heard m l a (Learn h u at) = Answers m l a u at
 Heard m l a (Free h u at n) = Quiet m l a
-Heard m l a (Certify b) = Quiet m l a
+Heard m l a (Certify b i) = Quiet m l a
 Heard m l a (Show h u b t p z o start len) = Looks m l a o start len
 
 module _ (m : Memory) (l : Receive) where
@@ -123,17 +123,17 @@ module _ (m : Memory) (l : Receive) where
   heard-message h u (M.Lookup x) t = behind _ _ _ (λ f. record { asked = entry-asked (x .entry); answers = λ es. refl }) t
     where
       entry-asked : (p : Part)
-          → asksFor (keyOf (l .own)) (rows 100 h (m .cache)) (rows 140 u (m .waiting)) (part (startOf p) (sizeOf p) (l .datagram)) ≡ true
+          → asksFor (ownKeys (l .own)) (rows 100 h (m .cache)) (rows 140 u (m .waiting)) (part (startOf p) (sizeOf p) (l .datagram)) ≡ true
           → (earlier : Option (List ℕ)) → entryOr (l .datagram) p earlier ≡ some (recordOf (part (startOf p) (sizeOf p) (l .datagram)))
       entry-asked (Here start len) e earlier = refl
-      entry-asked Absent e earlier = both e (asks-none (keyOf (l .own)) (rows 100 h (m .cache)) (rows 140 u (m .waiting)) [] refl)
+      entry-asked Absent e earlier = both e (asks-none (ownKeys (l .own)) (rows 100 h (m .cache)) (rows 140 u (m .waiting)) [] refl)
 
   pub heard : receiveCall m l .answer .number ≡ 0 → Heard m l (R.readIn (l .datagram) (l .major)) (receivePlan m l)
   unfolding memoryOf
   heard z =
       let a = R.readIn (l .datagram) (l .major) in
       let f = none-applies m (receives l) z in
-      let h = heldIn (keyOf (l .own)) (m .cache) in
+      let h = heldIn (ownKeys (l .own)) (m .cache) in
       let u = usedOf (m .waiting) in
       let fit : memoryOf (l .own) m ≡ Fit h u = rw (not-false (tablesFit (l .own) m) (f .0)) refl in
       let is = plan-message m l fit (not-false (handsFit m l) (f .1 .0)) in

@@ -6,7 +6,7 @@ use lib.Dec.{eqb}
 use lib.ListN.{length}
 use borrow.Author.Tests.{eqb-true, not-false}
 use Rattle.octet.proofs.TestLaws.{both-true}
-use Rattle.record.specs.Record.{recordForm}
+use Rattle.own.specs.Own.{ownForm}
 use Rattle.table.specs.Rows.{anyOf}
 use Rattle.waiting.specs.Form.{placesOf}
 use Rattle.waiting.specs.Seek.{hasId}
@@ -19,7 +19,7 @@ use Rattle.gauge_laws.proofs.TableLaws.{none-applies}
 
 -- an accepted one
 pub record Sent (m : Memory) (l : Send) : Type 0 where
-  pub owned : recordForm (l .own) ≡ true
+  pub owned : ownForm (l .own) ≡ true
   pub short : length (l .neighbour) ≡ 32
   pub new : anyOf (hasId (l .id)) (placesOf (m .waiting)) ≡ false
 

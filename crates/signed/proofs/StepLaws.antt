@@ -12,7 +12,7 @@ use lib.ListN.{length, replicate, length-replicate}
 use Rattle.octet.specs.Number.{valueBE}
 use borrow.Author.Tests.{eq-eqb, ne-eqb, eqb-false, not-false}
 use Rattle.key.specs.Number.{keyAt}
-use Rattle.record.specs.Record.{keyOf, recordForm}
+use Rattle.own.specs.Own.{Own, ownForm, ownKeys}
 use Rattle.kept.specs.History.{Event, after, Learns}
 use Rattle.kept.specs.Plain.{NotOwn, drops}
 use Rattle.kept.proofs.CallLaws.{after-append, learns-or}
@@ -43,7 +43,7 @@ use Rattle.signed.proofs.SendLaws.{Sent, sent}
 use Rattle.signed.proofs.KeyLaws.{Owed, Keeps, receive-keeps, receive-fine}
 
 -- what holds between two calls: memory in form, the keys held, and whom the waiting floods were sent to
-pub record Inv (k C : ℕ) (es : List Entry) (keys : List ℕ) (m : Memory) : Type 0 where
+pub record Inv (k : Own) (C : ℕ) (es : List Entry) (keys : List ℕ) (m : Memory) : Type 0 where
   pub cached : cacheForm k (m .cache) ≡ true
   pub tabled : waitingForm k (m .waiting) ≡ true
   pub keeps : Keeps k C keys (m .cache)
@@ -70,7 +70,7 @@ owed-ticked es p long h kind =
 
 -- ---- a refused call
 
-module _ (k C : ℕ) (es : List Entry) (keys : List ℕ) (m : Memory) (inv : Inv k C es keys m) where
+module _ (k : Own) (C : ℕ) (es : List Entry) (keys : List ℕ) (m : Memory) (inv : Inv k C es keys m) where
   refused-inv : (c : Call) (n : ℕ) → 0 < n → Inv k C (entry c n ∷ es) keys m
   refused-inv c n p = record {
     cached = inv .cached;
@@ -80,11 +80,11 @@ module _ (k C : ℕ) (es : List Entry) (keys : List ℕ) (m : Memory) (inv : Inv
   }
 
 -- what a call leaves: the same of the log with it, the keys after its events, and no own key learned
-pub record Stepped (k C : ℕ) (es : List Entry) (keys : List ℕ) (c : Call) (n : ℕ) (m : Memory) : Type 0 where
+pub record Stepped (k : Own) (C : ℕ) (es : List Entry) (keys : List ℕ) (c : Call) (n : ℕ) (m : Memory) : Type 0 where
   pub inv : Inv k C (entry c n ∷ es) (after (drops k) C keys (cond (eqb n 0) (does es c) [])) m
   pub fine : (j : ℕ) → Learns j (cond (eqb n 0) (does es c) []) → NotOwn k j
 
-module _ (k C : ℕ) (es : List Entry) (keys : List ℕ) (m : Memory) (inv : Inv k C es keys m) where
+module _ (k : Own) (C : ℕ) (es : List Entry) (keys : List ℕ) (m : Memory) (inv : Inv k C es keys m) where
   refused-step : (c : Call) (n : ℕ) (m′ : Memory) → 0 < n → m′ ≡ m → Stepped k C es keys c n m′
   unfolding after
   refused-step c n m′ p e = rw e (record {
@@ -115,19 +115,19 @@ moved-all P New ps qs f (opens p h new e) a = rw e (all-opened P p ps (f p h) a)
 -- ---- each accepted call, with the own record's key
 
 -- an accepted tick was lent an own record in form
-tick-owned : (m : Memory) (l : Tick) → gaugeTick m l .answer .number ≡ 0 → recordForm (l .own) ≡ true
+tick-owned : (m : Memory) (l : Tick) → gaugeTick m l .answer .number ≡ 0 → ownForm (l .own) ≡ true
 tick-owned m l z = tick-fit-lent m l (not-false _ (none-applies m (ticks l) z .0)) .own
 
 module _ (C : ℕ) (es : List Entry) (keys : List ℕ) (m : Memory) where
-  tick-step : (l : Tick) → Inv (keyOf (l .own)) C es keys m → gaugeTick m l .answer .number ≡ 0
-      → Stepped (keyOf (l .own)) C es keys (ticks l) 0 (gaugeTick m l .memory)
+  tick-step : (l : Tick) → Inv (ownKeys (l .own)) C es keys m → gaugeTick m l .answer .number ≡ 0
+      → Stepped (ownKeys (l .own)) C es keys (ticks l) 0 (gaugeTick m l .memory)
   unfolding gaugeTick
   tick-step l inv z =
       let r = tick-round m l z in
       let t = gaugeTick m l .memory .waiting in
       let owed : All (Owed es) (placesOf t) =
       rw (r .places) (all-ticked (Owed es) (Owed es) (owed-ticked es) (placesOf (m .waiting)) (r .form .sized) (inv .owed)) in
-      quiet-step (keyOf (l .own)) C es keys m inv (ticks l) (gaugeTick m l .memory) refl (tick-cache m l) (tick-form m l z)
+      quiet-step (ownKeys (l .own)) C es keys m inv (ticks l) (gaugeTick m l .memory) refl (tick-cache m l) (tick-form m l z)
       (owed-later es (entry (ticks l) 0 ∷ es) (λ id. unfold sentTo in refl) (placesOf t) owed)
 
   -- a log with the send in front: its ID went to its neighbour, another where it went before
@@ -157,14 +157,14 @@ module _ (C : ℕ) (es : List Entry) (keys : List ℕ) (m : Memory) where
       (all-both (λ (q : List ℕ). hasId id q ≡ false) (Owed es) (Owed (entry c 0 ∷ es)) (λ q other h kind. sent-there (idOf q) l other ∙ h kind)
       (placesOf (m .waiting)) (all-none (hasId id) (placesOf (m .waiting)) (s .new)) a)
 
-  send-step : (l : Send) → l .id < 2 ^ 32 → Inv (keyOf (l .own)) C es keys m → sendCall m l .answer .number ≡ 0
-      → Stepped (keyOf (l .own)) C es keys (sends l) 0 (sendCall m l .memory)
+  send-step : (l : Send) → l .id < 2 ^ 32 → Inv (ownKeys (l .own)) C es keys m → sendCall m l .answer .number ≡ 0
+      → Stepped (ownKeys (l .own)) C es keys (sends l) 0 (sendCall m l .memory)
   send-step l small inv z =
-      quiet-step (keyOf (l .own)) C es keys m inv (sends l) (sendCall m l .memory) refl (send-cache m l) (send-form m l small z)
+      quiet-step (ownKeys (l .own)) C es keys m inv (sends l) (sendCall m l .memory) refl (send-cache m l) (send-form m l small z)
       (sent-owed l small (sent m l z) (inv .owed))
 
-  receive-step : (l : Receive) → Inv (keyOf (l .own)) C es keys m → receiveCall m l .answer .number ≡ 0
-      → Stepped (keyOf (l .own)) C es keys (receives l) 0 (receiveCall m l .memory)
+  receive-step : (l : Receive) → Inv (ownKeys (l .own)) C es keys m → receiveCall m l .answer .number ≡ 0
+      → Stepped (ownKeys (l .own)) C es keys (receives l) 0 (receiveCall m l .memory)
   receive-step l inv z =
       let form = receive-form m l z in
       let t = receiveCall m l .memory .waiting in
@@ -183,10 +183,10 @@ module _ (C : ℕ) (es : List Entry) (keys : List ℕ) (m : Memory) where
 
 -- ---- any call with the one own key, and any sequence of calls
 
-module _ (k C : ℕ) (es : List Entry) (keys : List ℕ) (m : Memory) (inv : Inv k C es keys m) where
+module _ (k : Own) (C : ℕ) (es : List Entry) (keys : List ℕ) (m : Memory) (inv : Inv k C es keys m) where
   -- from the own record's key to the one own key
-  of-key : {j : ℕ} {c : Call} {left : Memory} → j ≡ k → (Inv j C es keys m → Stepped j C es keys c 0 left) → Stepped k C es keys c 0 left
-  of-key {j} {c} {left} is step = subst (λ (i : ℕ). Stepped i C es keys c 0 left) is (step (subst (λ (i : ℕ). Inv i C es keys m) (sym is) inv))
+  of-key : {j : Own} {c : Call} {left : Memory} → j ≡ k → (Inv j C es keys m → Stepped j C es keys c 0 left) → Stepped k C es keys c 0 left
+  of-key {j} {c} {left} is step = subst (λ (i : Own). Stepped i C es keys c 0 left) is (step (subst (λ (i : Own). Inv i C es keys m) (sym is) inv))
 
   accepted-step : (c : Call) → OneKey k c → Typed c → ours m c .answer .number ≡ 0 → Stepped k C es keys c 0 (ours m c .memory)
   unfolding gaugeList
@@ -207,12 +207,12 @@ module _ (k C : ℕ) (es : List Entry) (keys : List ℕ) (m : Memory) (inv : Inv
           (ap (λ (h : Handed). h .memory) (refused-keeps m c (omega (arith, z))))
 
 -- what holds after a sequence of calls
-pub record Ran (k C : ℕ) (es : List Entry) (keys : List ℕ) (m : Memory) (calls : List Call) : Type 0 where
+pub record Ran (k : Own) (C : ℕ) (es : List Entry) (keys : List ℕ) (m : Memory) (calls : List Call) : Type 0 where
   pub entries : List Entry
   pub inv : Inv k C entries (after (drops k) C keys (eventsFrom es (log ours m calls))) (left ours m calls)
   pub fine : (j : ℕ) → Learns j (eventsFrom es (log ours m calls)) → NotOwn k j
 
-pub ran : (k C : ℕ) (es : List Entry) (keys : List ℕ) (m : Memory) → Inv k C es keys m → (calls : List Call) → Proper k calls
+pub ran : (k : Own) (C : ℕ) (es : List Entry) (keys : List ℕ) (m : Memory) → Inv k C es keys m → (calls : List Call) → Proper k calls
     → Ran k C es keys m calls
 unfolding log left eventsFrom after
 ran k C es keys m inv [] proper = record { entries = es; inv = inv; fine = λ j none. absurd none }

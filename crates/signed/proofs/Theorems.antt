@@ -1,24 +1,27 @@
 -- The demands, of our gauge. Assumes nothing.
 use mathlib.Core.Path.{_≡_, refl, sym, ap, subst, _∙_}
-use mathlib.Core.Bool.{true, false}
+use mathlib.Core.Bool.{true, false, not}
 use mathlib.Core.Logic.{_↔_}
 use mathlib.Core.List.{List, [], _∷_, _++_}
 use Prim.Native.Nat.{ℕ, zero, suc, _+_, _-_, _*_, _≤_, _<_}
 use native.Mathlib.Omega.{arith}
-use lib.Dec.{eqb, ltb}
+use lib.Dec.{ltb}
 use lib.ListN.{length, replicate, length-append, length-replicate, length-take}
-use borrow.Author.Tests.{le-ltb}
+use borrow.Author.Tests.{le-ltb, eq-eqb}
 use Rattle.octet.specs.Part.{part, splice}
 use Rattle.octet.proofs.PartLaws.{part-splice}
+use Rattle.key.specs.Number.{keyAt}
 use Rattle.key.specs.Around.{Side, below, above, sideOf, nearness}
-use Rattle.record.specs.Record.{keyOf, recordForm}
+use Rattle.own.specs.Own.{Own, ownForm, ownKeys, IsOwn}
+use Rattle.own.proofs.PlaceLaws.{in-own}
 use Rattle.refusal.proofs.CallLaws.{all-pass}
 use Rattle.table.specs.Rows.{bytesOf, joined}
 use Rattle.kept.specs.Keys.{Every}
-use Rattle.kept.specs.Plain.{neighbours, neighbourList, kept}
+use Rattle.kept.specs.Plain.{NotOwn, neighbours, neighbourList, drops, kept}
 use Rattle.kept.specs.Neighbours.{IsNeighbours}
-use Rattle.kept.specs.History.{learnedAll}
-use Rattle.kept.proofs.Demand3Laws.{plain-demand3}
+use Rattle.kept.specs.History.{Event, Learns, learnedAll}
+use Rattle.kept.specs.Demand3.{KeysDemand3}
+use Rattle.kept.proofs.PondRuleLaws.{plain-demand3}
 use Rattle.cache.specs.Form.{Places, Form, cacheForm, keysOf, heldOf}
 use Rattle.neighbours.specs.Listing.{keyBytes}
 use Rattle.neighbours.specs.Calls.{listCall, listWrong}
@@ -70,10 +73,10 @@ unfolding bytesOf joined
 zeros size = let e : size - 0 ≡ size = omega arith in ap (λ (n : ℕ). replicate n 0) e
 
 -- a cache of zeros holds nothing, and a table of zeros has no place
-module _ (k C : ℕ) (least : 10 ≤ C) (most : C ≤ 256) where
+module _ (k : Own) (C : ℕ) (least : (10 ≤ C) × (10 * length k ≤ C)) (most : C ≤ 256) where
   pub empty-cache : Form k (replicate (100 * C) 0) []
   empty-cache = subst (λ (s : List ℕ). Form k s []) (zeros (100 * C))
-      (form-anew k (100 * C) [] (record { whole = omega arith; least = omega arith; most = omega arith })
+      (form-anew k (100 * C) [] (record { whole = omega arith; least = omega (arith, least .0); most = omega arith; enough = omega (arith, least .1) })
       (record { formed = tt; rising = tt; others = tt }) (omega arith))
 
   pub empty-table : W.PlacesForm k (replicate 2240 0) []
@@ -89,25 +92,30 @@ module _ (k C : ℕ) (least : 10 ≤ C) (most : C ≤ 256) where
 
 -- ---- the neighbour list of memory in form
 
-module _ (m : Memory) (l : Listing) (owned : recordForm (l .own) ≡ true) (form : cacheForm (keyOf (l .own)) (m .cache) ≡ true)
-    (room : 320 ≤ length (l .output)) where
+module _ (m : Memory) (l : Listing) (owned : ownForm (l .own) ≡ true) (form : cacheForm (ownKeys (l .own)) (m .cache) ≡ true)
+    (keyed : length (l .key) ≡ 32) (mine : IsOwn (ownKeys (l .own)) (keyAt 0 (l .key))) (room : 320 ≤ length (l .output)) where
+  abbrev asked : ℕ
+  asked = keyAt 0 (l .key)
+
   -- the list of these keys, where they are the keys held
   abbrev listOf : List ℕ → Handed
   listOf keys =
-      let k = keyOf (l .own) in
-      handed (answer 0 (length (neighbours k below keys)) (length (neighbours k above keys))) m (splice 0 (keyBytes (neighbourList k keys)) (l .output))
+      handed (answer 0 (length (neighbours asked below keys)) (length (neighbours asked above keys))) m
+      (splice 0 (keyBytes (neighbourList asked keys)) (l .output))
 
-  list-done : gaugeList m l ≡ listOf (keysOf (heldOf (keyOf (l .own)) (m .cache)))
+  list-done : gaugeList m l ≡ listOf (keysOf (heldOf (ownKeys (l .own)) (m .cache)))
   unfolding gaugeList listCall
   list-done =
-      ap (listAnswered m) (all-pass _ (listWrong (l .own) (m .cache) (l .output)) _ (rw owned refl, (rw form refl, (le-ltb (length (l .output)) 320 room, tt))))
+      ap (listAnswered m) (all-pass _ (listWrong (l .own) (m .cache) (l .key) (l .output)) _
+      (rw owned refl, (rw form refl, (ap not (eq-eqb (length (l .key)) 32 keyed), (ap not (in-own (ownKeys (l .own)) asked mine),
+      (le-ltb (length (l .output)) 320 room, tt))))))
 
   -- the list of the keys held is right among others too, where the same keys are the nearest of them
-  lists-keys : (keys : List ℕ) → keysOf (heldOf (keyOf (l .own)) (m .cache)) ≡ keys → (among : List ℕ)
-      → ((s : Side) → IsNeighbours (sideOf (keyOf (l .own))) (nearness (keyOf (l .own))) s among (neighbours (keyOf (l .own)) s keys))
-      → NeighbourList (keyOf (l .own)) among (l .output) (ours m (lists l))
+  lists-keys : (keys : List ℕ) → keysOf (heldOf (ownKeys (l .own)) (m .cache)) ≡ keys → (among : List ℕ)
+      → ((s : Side) → IsNeighbours (sideOf asked) (nearness asked) s among (neighbours asked s keys))
+      → NeighbourList asked among (l .output) (ours m (lists l))
   lists-keys keys is among near =
-      let k = keyOf (l .own) in
+      let k = asked in
       let g : gaugeList m l ≡ listOf keys = subst (λ (ks : List ℕ). gaugeList m l ≡ listOf ks) is list-done in
       record {
         low = neighbours k below keys;
@@ -120,31 +128,38 @@ module _ (m : Memory) (l : Listing) (owned : recordForm (l .own) ≡ true) (form
 
 -- ---- demand 3
 
-pub typed-calls : (k : ℕ) (calls : List Call) → Proper k calls → Every Typed calls
+pub typed-calls : (k : Own) (calls : List Call) → Proper k calls → Every Typed calls
 typed-calls k [] p = tt
 typed-calls k (c ∷ cs) p = (p .0 .1, typed-calls k cs (p .1))
 
 -- after any calls the list is that of the keys kept, and of any among which these are the nearest
-module _ (k : ℕ) (keys : List ℕ) (m : Memory) (formed : cacheForm k (m .cache) ≡ true) (held : keysOf (heldOf k (m .cache)) ≡ keys) where
-  pub lists-these : (among : List ℕ) → ((s : Side) → IsNeighbours (sideOf k) (nearness k) s among (neighbours k s keys)) → ListsThese ours m k among
-  lists-these among near l owned one room =
-      subst (λ (j : ℕ). NeighbourList j among (l .output) (ours m (lists l))) one
-      (lists-keys m l owned (subst (λ (j : ℕ). cacheForm j (m .cache) ≡ true) (sym one) formed) room keys
-      (subst (λ (j : ℕ). keysOf (heldOf j (m .cache)) ≡ keys) (sym one) held) among
-      (subst (λ (j : ℕ). (s : Side) → IsNeighbours (sideOf j) (nearness j) s among (neighbours j s keys)) (sym one) near))
+module _ (own : Own) (keys : List ℕ) (m : Memory) (formed : cacheForm own (m .cache) ≡ true) (held : keysOf (heldOf own (m .cache)) ≡ keys)
+    (k : ℕ) (mine : IsOwn own k) where
+  pub lists-these : (among : List ℕ) → ((s : Side) → IsNeighbours (sideOf k) (nearness k) s among (neighbours k s keys)) → ListsThese ours m own k among
+  lists-these among near l owned one keyed is room =
+      subst (λ (j : ℕ). NeighbourList j among (l .output) (ours m (lists l))) is
+      (lists-keys m l owned (subst (λ (o : Own). cacheForm o (m .cache) ≡ true) (sym one) formed) keyed
+      (subst (λ (o : Own). IsOwn o (keyAt 0 (l .key))) (sym one) (subst (IsOwn own) (sym is) mine)) room keys
+      (subst (λ (o : Own). keysOf (heldOf o (m .cache)) ≡ keys) (sym one) held) among
+      (subst (λ (j : ℕ). (s : Side) → IsNeighbours (sideOf j) (nearness j) s among (neighbours j s keys)) (sym is) near))
+
+-- of each own key
+pub each-own : (own : Own) (C : ℕ) → 10 * length own ≤ C → (events : List Event) → ((j : ℕ) → Learns j events → NotOwn own j) → (k : ℕ) → IsOwn own k
+    → KeysDemand3 (NotOwn own) (sideOf k) (nearness k) (drops own) C events
+each-own own C least events fine k mine = plain-demand3 own C least events fine k mine
 
 pub meets-demand3 : MeetsDemand3 ours
 meets-demand3 k C least most calls proper =
     let r = ran k C [] [] (empty C) (start k C least most) calls proper in
-    let d = plain-demand3 k C least (happened ours C calls) (r .fine) in
+    let d = each-own k C (least .1) (happened ours C calls) (r .fine) in
     let m = left ours (empty C) calls in
     record {
       history = happened ours C calls;
       happened = log-happened [] (empty C) calls (typed-calls k calls proper);
-      listed = lists-these k (kept k C (happened ours C calls)) m (r .inv .cached) (r .inv .keeps .held) (kept k C (happened ours C calls))
-          (d .right);
-      among-all = λ none. lists-these k (kept k C (happened ours C calls)) m (r .inv .cached) (r .inv .keeps .held)
-          (learnedAll (happened ours C calls)) (d .among-all none);
+      listed = λ j mine. lists-these k (kept k C (happened ours C calls)) m (r .inv .cached) (r .inv .keeps .held) j mine
+          (kept k C (happened ours C calls)) (d j mine .right);
+      among-all = λ none j mine. lists-these k (kept k C (happened ours C calls)) m (r .inv .cached) (r .inv .keeps .held) j mine
+          (learnedAll (happened ours C calls)) (d j mine .among-all none);
     }
 
 -- ---- all three

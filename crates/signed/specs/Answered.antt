@@ -1,7 +1,7 @@
 -- Beside the demands. "The inquiry's record is learned"; "A held key has its record replaced": the record held for a kept key is that of the inquiry last answered for it,
 -- told by the calls with their answers and never by memory. Demand 3 speaks of keys alone; a key kept with another's addresses is shut out here. A theorem of
 -- the name stands in proofs/AnsweredLaws.antt. Assumes nothing.
-use Prim.Native.Nat.{ℕ, _≤_}
+use Prim.Native.Nat.{ℕ, _*_, _≤_}
 use mathlib.Core.Path.{_≡_}
 use mathlib.Core.Bool.{Bool, cond, _&&_, _||_}
 use mathlib.Core.List.{List, [], _∷_, _++_, map}
@@ -11,6 +11,7 @@ use lib.ListN.{length}
 use Rattle.octet.specs.Part.{part}
 use Rattle.record.specs.Record.{keyOf}
 use Rattle.record.specs.Entry.{recordOf}
+use Rattle.own.specs.Own.{Own}
 use Rattle.table.specs.Rows.{bytesOf}
 use Rattle.kept.specs.Keys.{Every}
 use Rattle.kept.specs.History.{Event}
@@ -112,11 +113,12 @@ firstTold k (r ∷ rs) = cond (eqb k (keyOf r)) (some r) (firstTold k rs)
 -- ---- the statement
 
 -- `keys`: the records held after the calls have the kept keys. `last`: each is that of the inquiry last answered for its key.
-pub record LastAnswered (g : Gauge) (k C : ℕ) (calls : List Call) : Type 0 where
+pub record LastAnswered (g : Gauge) (own : Own) (C : ℕ) (calls : List Call) : Type 0 where
   pub history : List Event
   pub happened : Happened [] (log g (empty C) calls) history
-  pub keys : keysOf (heldOf k (left g (empty C) calls .cache)) ≡ kept k C history
-  pub last : Every (λ (r : List ℕ). firstTold (keyOf r) (answered (toldFrom g (empty C) [] calls)) ≡ some r) (heldOf k (left g (empty C) calls .cache))
+  pub keys : keysOf (heldOf own (left g (empty C) calls .cache)) ≡ kept own C history
+  pub last : Every (λ (r : List ℕ). firstTold (keyOf r) (answered (toldFrom g (empty C) [] calls)) ≡ some r) (heldOf own (left g (empty C) calls .cache))
 
 abbrev pub HoldsLastAnswered : Gauge → Type 0
-HoldsLastAnswered g = (k C : ℕ) → 10 ≤ C → C ≤ 256 → (calls : List Call) → Proper k calls → LastAnswered g k C calls
+HoldsLastAnswered g =
+    (own : Own) (C : ℕ) → (10 ≤ C) × (10 * length own ≤ C) → C ≤ 256 → (calls : List Call) → Proper own calls → LastAnswered g own C calls

@@ -34,9 +34,14 @@ recordWith k = key k ++ (0 ∷ 0 ∷ 1 ∷ 0 ∷ []) ++ replicate 64 0
 abbrev pub holding : ℕ → List ℕ → List (List ℕ) → Memory
 holding C keys ps = withCache (bytesOf (100 * C) (map recordWith keys)) (withWaiting (bytesOf 2240 ps) (empty C))
 
--- a datagram received by the gauge with the own key, with ID 7 and verdict 1 for the key k, and so many bytes of output
+-- a datagram received by the gauge with the own key, whose CPA is one zero byte, with ID 7 and verdict 1 for the key k, and so many bytes of output
 abbrev pub hearsInto : ℕ → ℕ → ℕ → List ℕ → Call
-hearsInto room own k datagram = receives (receive (recordWith own) (0 ∷ []) 6 101 7 (replicate 16 0) 1 (key k) datagram (replicate room 0))
+hearsInto room own k datagram = receives (receive (recordWith own) (1 ∷ 0 ∷ 0 ∷ []) 6 101 7 (replicate 16 0) 1 (key k) datagram (replicate room 0))
+
+-- the same with two own keys, whose CPAs are the bytes 7 and 8
+abbrev pub hearsTwo : ℕ → ℕ → ℕ → ℕ → List ℕ → Call
+hearsTwo room first second k datagram =
+    receives (receive (recordWith first ++ recordWith second) (1 ∷ 0 ∷ 7 ∷ 1 ∷ 0 ∷ 8 ∷ []) 6 101 7 (replicate 16 0) 1 (key k) datagram (replicate room 0))
 
 abbrev pub hears : ℕ → ℕ → List ℕ → Call
 hears own k datagram = hearsInto 96 own k datagram
@@ -85,6 +90,10 @@ pub data Case : Type 0 where
   listed : ℕ → List ℕ → List ℕ → ℕ → ℕ → Case
   -- C, own key, held keys, key learned; keys held then
   learnt : ℕ → ℕ → List ℕ → ℕ → List ℕ → Case
+  -- C, two own keys, held keys, key learned; keys held then
+  learntBy : ℕ → ℕ → ℕ → List ℕ → ℕ → List ℕ → Case
+  -- two own keys, the one inquired about; its CPA
+  certified : ℕ → ℕ → ℕ → List ℕ → Case
   -- own key, held keys, target; the key of the closest record
   shown : ℕ → List ℕ → ℕ → ℕ → Case
   -- own key, held records, endpoints of the path, target; the closest record
@@ -101,10 +110,15 @@ pub data Case : Type 0 where
 -- a key is learned by the AUTHORITY that answers its inquiry; the closest record is what a LOOKUP is answered with
 abbrev pub Right : Case → Type 0
 Right (listed own held list low high) =
-    ours (holding 10 held []) (lists (listing (recordWith own) (replicate 320 0)))
+    ours (holding 10 held []) (lists (listing (recordWith own) (key own) (replicate 320 0)))
     ≡ handed (answer 0 low high) (holding 10 held []) (keyBytes list ++ replicate (320 - 32 * length list) 0)
 Right (learnt C own held k then) =
     ours (holding C held (inquiryFor k ∷ [])) (hears own k authority) ≡ handed (answer 0 0 0) (holding C then []) (replicate 96 0)
+Right (learntBy C first second held k then) =
+    ours (holding C held (inquiryFor k ∷ [])) (hearsTwo 96 first second k authority) ≡ handed (answer 0 0 0) (holding C then []) (replicate 96 0)
+Right (certified first second k cpa) =
+    ours (holding 20 [] []) (hearsTwo 41 first second 0 (inquireMade 6 101 5 (key k) (replicate 16 0) .bytes))
+    ≡ handed (answer 0 41 0) (holding 20 [] []) (cpaMade 6 101 7 5 cpa .bytes)
 Right (shown own held target k) =
     ours (holding 10 held []) (hears own 0 (lookupOf target))
     ≡ handed (answer 0 96 0) (holding 10 held []) (closestMade 6 101 7 5 (recordWith k) 0 .bytes)
@@ -124,20 +138,26 @@ abbrev pub lastNine : List ℕ
 lastNine =
     (2 ^ 256 - 9) ∷ (2 ^ 256 - 8) ∷ (2 ^ 256 - 7) ∷ (2 ^ 256 - 6) ∷ (2 ^ 256 - 5) ∷ (2 ^ 256 - 4) ∷ (2 ^ 256 - 3) ∷ (2 ^ 256 - 2) ∷ (2 ^ 256 - 1) ∷ []
 
+-- the five keys on both sides of 100 and of 200
+abbrev pub twoLists : List ℕ
+twoLists =
+    95 ∷ 96 ∷ 97 ∷ 98 ∷ 99 ∷ 101 ∷ 102 ∷ 103 ∷ 104 ∷ 105 ∷ 195 ∷ 196 ∷ 197 ∷ 198 ∷ 199 ∷ 201 ∷ 202 ∷ 203 ∷ 204 ∷ 205 ∷ []
+
 -- two records held, each with an endpoint of its own
 abbrev pub ponds : List (List ℕ)
 ponds = recordOn 99 5000 1 ∷ recordOn 101 5002 3 ∷ []
 
 -- 1 to 12, in order, "Case 9's answer becomes 0" (Wish 4); then Wish 4's own: pond 1 has the last pond as neighbour below; the opposite key is above; at equal
 -- distance the key reached by going down; the key next to the opposite point is dropped; then Wish 2's: a record on the path is skipped, and not for its address
--- alone, its port alone, the two in different endpoints, an address that it does not use; our own record is not skipped; a LOOKUP's route entry is inquired about
+-- alone, its port alone, the two in different endpoints, an address that it does not use; our own record is not skipped; a LOOKUP's route entry is inquired about; then Wish 11's:
+-- with two own keys a key in neither list is dropped, and an INQUIRE is answered with the CPA of its key's record
 abbrev pub cases : List Case
 cases =
     listed 100 (60 ∷ 70 ∷ 80 ∷ 90 ∷ 95 ∷ 99 ∷ 101 ∷ 110 ∷ []) (99 ∷ 95 ∷ 90 ∷ 80 ∷ 70 ∷ 101 ∷ 110 ∷ []) 5 2
     ∷ listed 100 [] [] 0 0
     ∷ learnt 10 100 (90 ∷ 91 ∷ 92 ∷ 93 ∷ 94 ∷ 95 ∷ 96 ∷ 97 ∷ 98 ∷ 99 ∷ []) 101 (91 ∷ 92 ∷ 93 ∷ 94 ∷ 95 ∷ 96 ∷ 97 ∷ 98 ∷ 99 ∷ 101 ∷ [])
     ∷ learnt 10 100 (90 ∷ 91 ∷ 92 ∷ 93 ∷ 94 ∷ 95 ∷ 96 ∷ 97 ∷ 98 ∷ 99 ∷ []) 89 (90 ∷ 91 ∷ 92 ∷ 93 ∷ 94 ∷ 95 ∷ 96 ∷ 97 ∷ 98 ∷ 99 ∷ [])
-    ∷ learnt 11 100 (94 ∷ 95 ∷ 96 ∷ 97 ∷ 98 ∷ 99 ∷ 101 ∷ 102 ∷ 103 ∷ 104 ∷ 105 ∷ []) 106 (94 ∷ 95 ∷ 96 ∷ 97 ∷ 98 ∷ 99 ∷ 101 ∷ 102 ∷ 103 ∷ 104 ∷ 105 ∷ [])
+    ∷ learnt 11 100 (94 ∷ 95 ∷ 96 ∷ 97 ∷ 98 ∷ 99 ∷ 101 ∷ 102 ∷ 103 ∷ 104 ∷ 105 ∷ []) 106 (95 ∷ 96 ∷ 97 ∷ 98 ∷ 99 ∷ 101 ∷ 102 ∷ 103 ∷ 104 ∷ 105 ∷ 106 ∷ [])
     ∷ shown 50 (99 ∷ 101 ∷ []) 100 99
     ∷ shown 9 (1 ∷ 4294967296 ∷ []) 0 1
     ∷ differ 4294967295 4294967296 1
@@ -158,6 +178,9 @@ cases =
     ∷ skipped 50 ponds (endpoint 5000 0 ∷ []) 100 (recordOn 99 5000 1)
     ∷ skipped 50 ponds (endpoint 5000 1 ∷ endpoint 5002 3 ∷ []) 100 (recordWith 50)
     ∷ inquiredOf 50 40
+    ∷ learntBy 20 100 200 twoLists 150 twoLists
+    ∷ certified 100 200 100 (7 ∷ [])
+    ∷ certified 100 200 200 (8 ∷ [])
     ∷ []
 
 abbrev pub AllRight : Type 0

@@ -5,6 +5,7 @@ use mathlib.Core.Bool.{true}
 use mathlib.Core.List.{List, [], _++_, map}
 use mathlib.Core.Path.{_≡_}
 use lib.ListN.{length}
+use Rattle.own.specs.Own.{Own, IsOwn}
 use Rattle.kept.specs.History.{Event, learned, NoRemoval, learnedAll}
 use Rattle.kept.specs.Plain.{drops, kept}
 use Rattle.cache.specs.Form.{keysOf, heldOf, cacheForm}
@@ -19,24 +20,27 @@ abbrev pub restarted : List ℕ → Memory
 restarted cache = withCache cache (empty 0)
 
 -- the keys held at the start count as learned before the first call, one after the other
-abbrev pub heldBefore : ℕ → List ℕ → List Event
-heldBefore k cache = map learned (keysOf (heldOf k cache))
+abbrev pub heldBefore : Own → List ℕ → List Event
+heldBefore own cache = map learned (keysOf (heldOf own cache))
 
 -- that drops none of them: the keys kept at the start are those held
 abbrev pub HeldKept : Type 0
-HeldKept = (k C : ℕ) (cache : List ℕ) → cacheForm k cache ≡ true → length cache ≡ 100 * C → kept k C (heldBefore k cache) ≡ keysOf (heldOf k cache)
+HeldKept =
+    (own : Own) (C : ℕ) (cache : List ℕ) → cacheForm own cache ≡ true → length cache ≡ 100 * C
+    → kept own C (heldBefore own cache) ≡ keysOf (heldOf own cache)
 
 -- as Demand3 (Statements), with the keys that were held in front of what happened
-pub record Demand3From (g : Gauge) (k C : ℕ) (cache : List ℕ) (calls : List Call) : Type 0 where
+pub record Demand3From (g : Gauge) (own : Own) (C : ℕ) (cache : List ℕ) (calls : List Call) : Type 0 where
   pub later : List Event
   pub happened : Happened [] (log g (restarted cache) calls) later
-  pub listed : ListsThese g (left g (restarted cache) calls) k (kept k C (heldBefore k cache ++ later))
-  pub among-all : NoRemoval (drops k) C [] (heldBefore k cache ++ later)
-      → ListsThese g (left g (restarted cache) calls) k (learnedAll (heldBefore k cache ++ later))
+  pub listed : (k : ℕ) → IsOwn own k → ListsThese g (left g (restarted cache) calls) own k (kept own C (heldBefore own cache ++ later))
+  pub among-all : NoRemoval (drops own) C [] (heldBefore own cache ++ later)
+      → (k : ℕ) → IsOwn own k → ListsThese g (left g (restarted cache) calls) own k (learnedAll (heldBefore own cache ++ later))
 
 abbrev pub MeetsDemand3From : Gauge → Type 0
 MeetsDemand3From g =
-    (k C : ℕ) (cache : List ℕ) → cacheForm k cache ≡ true → length cache ≡ 100 * C → (calls : List Call) → Proper k calls → Demand3From g k C cache calls
+    (own : Own) (C : ℕ) (cache : List ℕ) → cacheForm own cache ≡ true → length cache ≡ 100 * C → (calls : List Call) → Proper own calls
+    → Demand3From g own C cache calls
 
 -- with an empty cache it is demand 3
 abbrev pub FromEmpty : Type 0

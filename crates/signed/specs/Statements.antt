@@ -1,10 +1,11 @@
 -- To believe. The demands, of any gauge, and the three together. A theorem of each name, of ours, stands in proofs/Theorems.antt. Assumes nothing.
-use Prim.Native.Nat.{ℕ, _≤_}
+use Prim.Native.Nat.{ℕ, _*_, _≤_}
 use mathlib.Core.Bool.{true}
 use mathlib.Core.List.{List, []}
 use mathlib.Core.Path.{_≡_}
 use lib.ListN.{length}
-use Rattle.own.specs.Own.{ownKeys, ownForm}
+use Rattle.key.specs.Number.{keyAt}
+use Rattle.own.specs.Own.{Own, ownForm, ownKeys, IsOwn}
 use Rattle.kept.specs.History.{Event, NoRemoval, learnedAll}
 use Rattle.kept.specs.Plain.{drops, kept}
 use Rattle.wire.specs.Statements.{AtMostOne, WrittenReads, ReadWritten}
@@ -44,23 +45,25 @@ pub record MeetsDemand2 (g : Gauge) : Type 0 where
 
 -- ---- demand 3
 
--- the neighbour call, with any own record of the key and any output of 320 bytes or more, is given 0 and the list of these keys
-abbrev pub ListsThese : Gauge → Memory → ℕ → List ℕ → Type 0
-ListsThese g m k keys =
-    (l : Listing) → ownForm (l .own) ≡ true → ownKeys (l .own) ≡ k → 320 ≤ length (l .output) → NeighbourList k keys (l .output) (g m (lists l))
+-- the neighbour call for the key k, with any own records of our keys and any output of 320 bytes or more, is given 0 and the list of these keys
+abbrev pub ListsThese : Gauge → Memory → Own → ℕ → List ℕ → Type 0
+ListsThese g m own k keys =
+    (l : Listing) → ownForm (l .own) ≡ true → ownKeys (l .own) ≡ own → length (l .key) ≡ 32 → keyAt 0 (l .key) ≡ k → 320 ≤ length (l .output)
+    → NeighbourList k keys (l .output) (g m (lists l))
 
 -- "From an empty cache and waiting table .., with one own key, one C and memory that only our calls change: after any sequence of calls the neighbour list is
 -- exactly the five nearest kept keys below our own and the five nearest above, all of them where a side has fewer, each once, nearest first. The kept keys
 -- follow from the accepted calls alone. Until the first removal the same list is right among all keys ever learned, dropped ones included."
--- `happened`: what was learned and removed, by the log alone.
-pub record Demand3 (g : Gauge) (k C : ℕ) (calls : List Call) : Type 0 where
+-- `happened`: what was learned and removed, by the log alone. With several own keys it holds of each (02, Wish 11): k is any of them, and the kept keys are those
+-- of all their lists.
+pub record Demand3 (g : Gauge) (own : Own) (C : ℕ) (calls : List Call) : Type 0 where
   pub history : List Event
   pub happened : Happened [] (log g (empty C) calls) history
-  pub listed : ListsThese g (left g (empty C) calls) k (kept k C history)
-  pub among-all : NoRemoval (drops k) C [] history → ListsThese g (left g (empty C) calls) k (learnedAll history)
+  pub listed : (k : ℕ) → IsOwn own k → ListsThese g (left g (empty C) calls) own k (kept own C history)
+  pub among-all : NoRemoval (drops own) C [] history → (k : ℕ) → IsOwn own k → ListsThese g (left g (empty C) calls) own k (learnedAll history)
 
 abbrev pub MeetsDemand3 : Gauge → Type 0
-MeetsDemand3 g = (k C : ℕ) → 10 ≤ C → C ≤ 256 → (calls : List Call) → Proper k calls → Demand3 g k C calls
+MeetsDemand3 g = (own : Own) (C : ℕ) → (10 ≤ C) × (10 * length own ≤ C) → C ≤ 256 → (calls : List Call) → Proper own calls → Demand3 g own C calls
 
 -- ---- all three
 

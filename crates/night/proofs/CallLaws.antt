@@ -150,7 +150,7 @@ module _ (s : List ℕ) (fit : length s ≡ 8742) (a : Answer) (out own w w′ a
     pub receive-called : (c c′ : List ℕ) (verdict : ℕ) (datagram : List ℕ) → verdict ≡ getD body 4 0 → datagram ≡ drop 53 body
         → c ≡ part 0 6400 s → length c′ ≡ length c → after ≡ splice 6400 w′ (splice 0 c′ s)
         → handed a (memory c′ w′) out
-        ≡ ours (memory c w) (receives (receive own (0 ∷ []) major minor id (part 37 16 body) verdict (part 5 32 body) datagram output))
+        ≡ ours (memory c w) (receives (receive own (1 ∷ 0 ∷ 0 ∷ []) major minor id (part 37 16 body) verdict (part 5 32 body) datagram output))
         → stepped (a .number) (nightIn after) ≡ called (nightIn s) (received (nightIn s .opening) body)
     receive-called c c′ verdict datagram judged heard cached kept back e =
         ap (λ (x : List ℕ). stepped (a .number) (nightIn x)) back

@@ -1,5 +1,5 @@
 -- To believe. One record of a night: it opens the night, or is one call. "Start empty with C 64 and an output of 2,464 bytes. Versions and own record stand in
--- a first record of kind 4, body 102 bytes: major, minor, record; the own CPA is one zero byte." Assumes nothing.
+-- a first record of kind 4, body 102 bytes: major, minor, record; the own CPA is one zero byte", lent behind its length. Assumes nothing.
 use Prim.Native.Nat.{ℕ}
 use mathlib.Core.Bool.{not, cond}
 use mathlib.Core.List.{List, [], _∷_}
@@ -30,7 +30,7 @@ output = replicate 2464 0
 
 abbrev pub received : List ℕ → List ℕ → Call
 received opening body =
-    receives (receive (nightOwn opening) (0 ∷ []) (majorOf opening) (minorOf opening) (valueLE 256 (part 0 4 body)) (part 37 16 body) (getD body 4 0)
+    receives (receive (nightOwn opening) (1 ∷ 0 ∷ 0 ∷ []) (majorOf opening) (minorOf opening) (valueLE 256 (part 0 4 body)) (part 37 16 body) (getD body 4 0)
     (part 5 32 body) (drop 53 body) output)
 
 abbrev pub sent : List ℕ → List ℕ → Call

@@ -1,4 +1,4 @@
-// The calls of a night. Each is lent an output of 2,464 zero bytes; the own CPA is one zero byte. Cache and waiting table are
+// The calls of a night. Each is lent an output of 2,464 zero bytes; the own CPA is one zero byte, lent behind its length. Cache and waiting table are
 // taken out of the night's one slice for a call that may write them, and put back behind it.
 use crate::CACHE;
 use crate::OPENING;
@@ -31,7 +31,7 @@ fn receive(state: &mut [u8], body: &[u8]) -> u32
     ensures { λ r. ⌜ stepped r (nightIn (now (state .exit))) ≡ called (nightIn (now (state .entry)))
         (received (nightIn (now (state .entry)) .opening) (now (body .entry))) ⌝ }
 {
-    let cpa = [0u8; 1];
+    let cpas = [1u8, 0, 0];
     let mut own = [0u8; record::RECORD_LEN];
     let mut cache = [0u8; CACHE];
     let mut waiting = [0u8; WAITING];
@@ -45,7 +45,7 @@ fn receive(state: &mut [u8], body: &[u8]) -> u32
     let verdict = wide(body[4]);
     let answer = gauge::gauge_receive(
         &own,
-        &cpa,
+        &cpas,
         &mut cache,
         &mut waiting,
         major,

@@ -61,7 +61,7 @@ fn say_side(line: &mut [u8], what: &[u8], names: &[u8], list: &[u8], from: usize
 // The neighbours, of which a gauge has five on either side at most.
 fn say_neighbours(line: &mut [u8], names: &[u8], own: &[u8], cache: &[u8]) {
     let mut list = [0u8; 320];
-    let listed = neighbours::neighbour_list(own, cache, &mut list);
+    let listed = neighbours::neighbour_list(own, cache, text::part(own, 0, 32), &mut list);
     let below = listed.below;
     say_side(
         line,

@@ -21,13 +21,13 @@ fn receive(
 ) -> Answer {
     gauge::gauge_receive(
         line::part(lent, 0, given.own),
-        line::part(lent, given.own, given.cpa),
+        line::part(lent, given.own, given.cpas),
         cache,
         waiting,
         given.major,
         given.minor,
         given.id,
-        line::part(lent, given.cpa, given.nonce),
+        line::part(lent, given.cpas, given.nonce),
         given.verdict,
         line::part(lent, given.nonce, given.key),
         line::part(lent, given.key, given.datagram),
@@ -43,8 +43,17 @@ fn send(given: Given, lent: &[u8], cache: &[u8], waiting: &mut [u8], output: &mu
         given.major,
         given.minor,
         given.id,
-        line::part(lent, given.cpa, given.nonce),
+        line::part(lent, given.cpas, given.nonce),
         line::part(lent, given.nonce, given.key),
+        output,
+    )
+}
+
+fn list(given: Given, lent: &[u8], cache: &[u8], output: &mut [u8]) -> Answer {
+    gauge::gauge_neighbours(
+        line::part(lent, 0, given.own),
+        cache,
+        line::part(lent, given.cpas, given.nonce),
         output,
     )
 }
@@ -53,7 +62,7 @@ fn nearest(given: Given, lent: &[u8], cache: &[u8]) -> Answer {
     gauge::gauge_closest(
         line::part(lent, 0, given.own),
         cache,
-        line::part(lent, given.cpa, given.nonce),
+        line::part(lent, given.cpas, given.nonce),
         line::part(lent, given.nonce, given.key),
     )
 }
@@ -78,7 +87,7 @@ fn call(
         0 => receive(given, lent, cache, waiting, output),
         1 => send(given, lent, cache, waiting, output),
         2 => gauge::gauge_tick(line::part(lent, 0, given.own), waiting, output),
-        3 => gauge::gauge_neighbours(line::part(lent, 0, given.own), cache, output),
+        3 => list(given, lent, cache, output),
         4 => nearest(given, lent, cache),
         6 => search(given, lent, cache),
         _ => gauge::gauge_convert(line::part(lent, 0, given.own), cache, waiting),

@@ -12,7 +12,8 @@
 
 struct host {
     struct gauge_lent lent;
-    uint8_t cache[GAUGE_CACHE_LEN(HELD)], cpa[GAUGE_KEY_LEN]; /* a CPA here is the key itself; a real one is signed */
+    uint8_t cache[GAUGE_CACHE_LEN(HELD)];
+    uint8_t cpas[GAUGE_CPAS_LEN(GAUGE_KEY_LEN)]; /* a CPA here is the key itself; a real one is signed */
 };
 
 struct datagram {
@@ -40,11 +41,11 @@ static void send_to(uint8_t to, uint8_t from, const uint8_t *bytes, size_t len)
 static void begin(uint8_t number)
 {
     struct host *h = &hosts[number];
-    uint8_t address[GAUGE_ADDRESS_LEN] = {0xFE, 0x80};
-    memset(h->cpa, number, sizeof h->cpa);
+    uint8_t address[GAUGE_ADDRESS_LEN] = {0xFE, 0x80}, key[GAUGE_KEY_LEN];
+    memset(key, number, sizeof key);
     address[GAUGE_ADDRESS_LEN - 1] = number;
-    gauge_lent_begin(&h->lent, h->cache, sizeof h->cache, h->cpa, sizeof h->cpa);
-    gauge_lent_own(&h->lent, h->cpa, 5000, address, 1);
+    gauge_lent_begin(&h->lent, h->cache, sizeof h->cache, h->cpas, gauge_cpas_put(h->cpas, 0, key, sizeof key));
+    gauge_lent_own(&h->lent, key, 5000, address, 1);
     h->lent.id = 1000U * number;
 }
 
@@ -80,7 +81,8 @@ static void radio(void)
 
 static void tell(uint8_t number)
 {
-    struct gauge_answer a = gauge_lent_neighbours(&hosts[number].lent);
+    struct gauge_lent *l = &hosts[number].lent;
+    struct gauge_answer a = gauge_lent_neighbours(l, l->own + GAUGE_RECORD_KEY);
     printf("host %d: %s, %u below, %u above\n", number, gauge_number_text(a.number), a.first, a.second);
 }
 

@@ -86,20 +86,20 @@ static uint32_t judged(const struct pond *p, const struct gauge_look_answer *see
 /* A datagram has reached a pond. What its gauge writes in answer is sent at once. */
 static void arrives(struct pond *p, const uint8_t *datagram, size_t len)
 {
-    uint8_t output[GAUGE_OUTPUT_LEN], cpa[CPA_LEN] = {0}, key[GAUGE_KEY_LEN];
+    uint8_t output[GAUGE_OUTPUT_LEN], cpas[GAUGE_CPAS_LEN(CPA_LEN)] = {CPA_LEN}, *cpa = cpas + 2, key[GAUGE_KEY_LEN];
     struct gauge_look_answer seen = gauge_look(MAJOR, datagram, len);
     if (seen.number != GAUGE_OK) {
         refused(p, "gauge_look", seen.number);
         return;
     }
 
-    /* Our own CPA holds the nonce of the one who asks. */
+    /* Our own CPA, behind its length, holds the nonce of the one who asks. */
     memcpy(cpa, p->own + GAUGE_RECORD_KEY, GAUGE_KEY_LEN);
     if (seen.kind == GAUGE_INQUIRE && seen.nonce_len == GAUGE_NONCE_LEN)
         memcpy(cpa + GAUGE_KEY_LEN, datagram + seen.nonce_at, GAUGE_NONCE_LEN);
 
     uint32_t verdict = judged(p, &seen, datagram, key);
-    struct gauge_answer a = gauge_receive(p->own, sizeof p->own, cpa, sizeof cpa, p->cache, sizeof p->cache, p->waiting, sizeof p->waiting,
+    struct gauge_answer a = gauge_receive(p->own, sizeof p->own, cpas, sizeof cpas, p->cache, sizeof p->cache, p->waiting, sizeof p->waiting,
                                           MAJOR, MINOR, p->id, p->nonce, sizeof p->nonce, verdict, key, sizeof key, datagram, len, output,
                                           sizeof output);
     p->id += 2; /* a receive may use up two */
@@ -128,7 +128,7 @@ static size_t first_flood(struct pond *p, uint8_t *out)
     struct gauge_lent l;
     uint8_t none[1] = {0};
     gauge_lent_begin(&l, none, sizeof none, none, sizeof none); /* no memory is needed for it */
-    memcpy(l.own, p->own, sizeof l.own);
+    memcpy(l.own, p->own, sizeof p->own);
     l.id = p->id++;
     return gauge_first_flood(&l, out);
 }
@@ -161,7 +161,8 @@ static void second(struct pond *p)
 static void neighbours(struct pond *p)
 {
     uint8_t keys[GAUGE_LIST_LEN];
-    struct gauge_answer a = gauge_neighbours(p->own, sizeof p->own, p->cache, sizeof p->cache, keys, sizeof keys);
+    struct gauge_answer a = gauge_neighbours(p->own, sizeof p->own, p->cache, sizeof p->cache, p->own + GAUGE_RECORD_KEY, GAUGE_KEY_LEN, keys,
+                                             sizeof keys);
     if (a.number != GAUGE_OK)
         wrong(p, "gauge_neighbours", a.number);
     printf("pond %u has %u below and %u above:", p->name, a.first, a.second);

@@ -6,7 +6,7 @@
  *   gauge_receive      a datagram has come: what is to be sent, and what changes in the memory
  *   gauge_send         a FLOOD of a record is to go to a neighbour
  *   gauge_tick         a second has passed: which datagrams are to be sent again
- *   gauge_neighbours   the five keys next to our own on either side
+ *   gauge_neighbours   the five keys next to one of our own on either side
  *   gauge_closest      the record closest to a target, past those that a LOOKUP has been at already
  *   gauge_search       whether a key is held, where, and how many keys are compared to find that
  *   gauge_convert      memory of a version before 1.3 is to be used: each record in it keeps its first address
@@ -44,9 +44,12 @@
  *   passed there, the return address and all below it, with 256 bytes for a memcpy, memmove or memset of your C
  *   library. A loader that looks these up at their first call takes more then: link with -z now, or statically. No
  *   call allots memory, and none calls anything of yours.
- * - Keys go round, modulo 2^256. A key is above ours if 1 to 2^255 steps up from ours lead to it, so the one just
- *   opposite too, and else below; how near it is counts along that side. So the gauge with the smallest key has the
- *   one with the largest as its neighbour below. In the cache records stand in plain order all the same.
+ * - Keys go round, modulo 2^256. A key is above one of ours if 1 to 2^255 steps up from that lead to it, so the one
+ *   just opposite too, and else below; how near it is counts along that side. So the gauge with the smallest key has
+ *   the one with the largest as its neighbour below. In the cache records stand in plain order all the same.
+ * - A gauge may stand for several ponds, one to GAUGE_OWN_MOST (4): it then has an own record for each, with a key of
+ *   its own, and what is said of our key below is said of any of them, but for the first where that is named. Each has
+ *   a neighbour list and a CPA; cache and waiting table are the gauge's.
  * - How floating-point numbers are rounded, and whether they trap, does not matter to any call: a depth is looked at
  *   by its bits.
  *
@@ -58,14 +61,15 @@
  *
  *     #include "gauge.h"
  *     #include <stdio.h>
- *     static uint8_t own[GAUGE_RECORD_LEN], cpa[1], cache[GAUGE_CACHE_LEN(64)], waiting[GAUGE_WAITING_LEN],
- *         nonce[GAUGE_NONCE_LEN], key[GAUGE_KEY_LEN], datagram[GAUGE_DATAGRAM_MOST], output[GAUGE_OUTPUT_LEN];
+ *     static uint8_t own[GAUGE_RECORD_LEN], cpas[GAUGE_CPAS_LEN(1)] = {1}, cache[GAUGE_CACHE_LEN(64)],
+ *         waiting[GAUGE_WAITING_LEN], nonce[GAUGE_NONCE_LEN], key[GAUGE_KEY_LEN], datagram[GAUGE_DATAGRAM_MOST],
+ *         output[GAUGE_OUTPUT_LEN];
  *     int main(void)
  *     {
  *         own[GAUGE_RECORD_KEY + GAUGE_KEY_LEN - 1] = 12;
  *         own[GAUGE_RECORD_COUNT] = 1;
  *         size_t len = fread(datagram, 1, sizeof datagram, stdin);
- *         struct gauge_answer a = gauge_receive(own, sizeof own, cpa, sizeof cpa, cache, sizeof cache, waiting,
+ *         struct gauge_answer a = gauge_receive(own, sizeof own, cpas, sizeof cpas, cache, sizeof cache, waiting,
  *                                               sizeof waiting, GAUGE_DRT_MAJOR, GAUGE_DRT_MINOR, 7, nonce,
  *                                               sizeof nonce, 0, key, sizeof key, datagram, len, output,
  *                                               sizeof output);
@@ -93,8 +97,8 @@ extern "C" {
 
 /* The version of this header and of the archive, as gauge.pc has it; and as a number that rises. CHANGELOG.md tells
  * what changed. */
-#define GAUGE_VERSION "1.4"
-#define GAUGE_VERSION_NUMBER 104
+#define GAUGE_VERSION "1.5"
+#define GAUGE_VERSION_NUMBER 105
 
 /* The versions in the header of a message: those of the message that document 003 prints. Document 000 leaves them to
  * whoever builds on it. Every call that has a major and a minor takes any others too; all gauges that are to hear each
@@ -105,14 +109,17 @@ extern "C" {
 /* Lengths in bytes. */
 #define GAUGE_KEY_LEN 32          /* a key: a number of 256 bits, most significant byte first */
 #define GAUGE_NONCE_LEN 16
-#define GAUGE_CPA_LEAST 1         /* the own CPA */
-#define GAUGE_CPA_MOST 1024
 #define GAUGE_RECORD_LEN 100      /* a record: own, or in the cache */
+#define GAUGE_OWN_MOST 4          /* own records; at least one */
+#define GAUGE_CPA_LEAST 1         /* the CPA of an own record */
+#define GAUGE_CPA_MOST 1024
+/* A CPA of n bytes as it is lent in `cpas`: its length in 2 bytes, the least significant first, and the bytes. */
+#define GAUGE_CPAS_LEN(n) (2 + GAUGE_TO(size_t, n))
 #define GAUGE_ENDPOINT_LEN 18     /* an endpoint of a path: port (2) and address (16), as on the wire */
 #define GAUGE_PLACE_LEN 140       /* a place of the waiting table */
 #define GAUGE_PLACES 16
 #define GAUGE_WAITING_LEN 2240    /* the waiting table: 16 places */
-#define GAUGE_CACHE_LEAST 10      /* the cache has C records, C from 10 to 256, .. */
+#define GAUGE_CACHE_LEAST 10      /* the cache has C records, C from 10 for each own record to 256, .. */
 #define GAUGE_CACHE_MOST 256
 /* .. and this length. C stays as long as the memory is in use. */
 #define GAUGE_CACHE_LEN(c) (GAUGE_TO(size_t, GAUGE_RECORD_LEN) * GAUGE_TO(size_t, c))
@@ -148,9 +155,9 @@ extern "C" {
  * told by the list above. */
 enum gauge_number {
     GAUGE_OK = 0,          /* accepted */
-    GAUGE_MEMORY = 1,      /* what you have lent is not in form: own record, CPA, cache, waiting table, or a nonce, key
-                              or target of another length, or a path of endpoints that are not whole. Yours: mend it
-                              (gauge_host.h tells which; records of a version before 1.3 need gauge_convert). */
+    GAUGE_MEMORY = 1,      /* what you have lent is not in form: own records, CPAs, cache, waiting table, or a nonce,
+                              key or target of another length, or a path of endpoints that are not whole. Yours: mend
+                              it (gauge_host.h tells which; records of a version before 1.3 need gauge_convert). */
     GAUGE_LENGTH = 2,      /* datagram shorter than 12 or longer than 1,232 bytes. The sender's, as up to 7: drop the
                               datagram. */
     GAUGE_HEADER = 3,      /* its first five bytes are not 00 10 00 0C 51 */
@@ -164,9 +171,11 @@ enum gauge_number {
                               trusted: drop it. */
     GAUGE_OTHER_KEY = 10,  /* the AUTHORITY's CPA is good for another key than the one inquired about. Not trusted:
                               drop it. */
-    GAUGE_OWN_KEY = 11,    /* a route entry or revocation in a FLOOD names our own key. Drop it. */
-    GAUGE_NOT_OURS = 12,   /* an INQUIRE for another key than ours: drop it. Or a FLOOD to send whose neighbour is not
-                              held, or whose record is neither ours nor held. */
+    GAUGE_OWN_KEY = 11,    /* a route entry or revocation in a FLOOD names a key of ours: of several ponds one may be
+                              told of another. Drop it. */
+    GAUGE_NOT_OURS = 12,   /* an INQUIRE for a key that is none of ours: drop it. A neighbour list asked for by such a
+                              key. Or a FLOOD to send whose neighbour is not held, or whose record is neither ours nor
+                              held. */
     GAUGE_ID_WAITING = 13, /* a place must be opened, and its ID is waiting already. Call again with another ID. */
     GAUGE_FULL = 14,       /* a place must be opened, and all 16 are used. Try later: answers and ticks free them. A
                               FLOOD or LOOKUP that comes with a route entry to inquire about is then not answered. */
@@ -203,8 +212,8 @@ enum gauge_reading_number {
 /* The verdict on a CPA that is good. Any other number is not good. */
 #define GAUGE_GOOD 1
 
-/* gauge_closest: what it tells of the cache's first record; the next ones have the numbers that follow. 0 is our own,
- * and those between are for later versions. */
+/* gauge_closest: what it tells of the cache's first record; the next ones have the numbers that follow. Those below it
+ * are our own, in their order from 0. */
 #define GAUGE_CLOSEST_HELD 4
 
 /* gauge_closest, gauge_search: the most keys that are compared, as 256, the most that are held, has 9 binary digits. */
@@ -252,12 +261,19 @@ struct gauge_reading {
 
 /* A datagram has come.
  *
- *   own       our own record: 100 bytes. Its port and address may change from call to call; its key may not, as long
- *             as cache and waiting table are in use (for another key begin with both all zero).
- *   cpa       our own CPA: 1 to 1,024 bytes, which go into the AUTHORITY that answers an INQUIRE. Where that INQUIRE
- *             has a nonce (gauge_look), the CPA should hold it: only you can see to that.
- *   cache     for writing: GAUGE_CACHE_LEN(C) bytes. All zero is the empty cache.
- *   waiting   for writing: 2,240 bytes. All zero is the empty table.
+ *   own       our own records, one behind the other: 100 bytes each, one to GAUGE_OWN_MOST of them, their keys strictly
+ *             increasing. Ports and addresses may change from call to call. Keys and their number may not, as long as
+ *             cache and waiting table are in use: for others begin with both all zero. That is yours to see to, as no
+ *             call can see such a change: an own key that is held or inquired about gives GAUGE_MEMORY, and any other
+ *             is taken, with a cache that was kept for other keys: neighbours of the new one may have been dropped.
+ *   cpas      the CPAs of our own records, in the same order: for each its length in 2 bytes, the least significant
+ *             first, 1 to 1,024, then so many bytes; nothing behind the last. Read only; it is no memory that begins
+ *             all zero. The AUTHORITY that answers an INQUIRE has the one of the record with the key that it is for.
+ *             Where that INQUIRE has a nonce (gauge_look), the CPA should hold it, of several each: only you can see
+ *             to that.
+ *   cache     for writing: GAUGE_CACHE_LEN(C) bytes, C at least ten times the number of own records. All zero is the
+ *             empty cache. None of our keys is held.
+ *   waiting   for writing: 2,240 bytes. All zero is the empty table. None of our keys is inquired about.
  *   major     our major version. A datagram with another one gives GAUGE_MAJOR. It stands in what is sent.
  *   minor     our minor version, which stands in what is sent.
  *   id        a message ID that you have not used of late. The ACK or AUTHORITY that is sent has it; an INQUIRE has
@@ -280,18 +296,19 @@ struct gauge_reading {
  *                              the first; an INQUIRE alone is the first.
  *   FLOOD with a revocation    the key of the verdict is removed from the cache, and a waiting inquiry for it freed;
  *                              an ACK to the sender, as above.
- *   INQUIRE for our key        an AUTHORITY with our CPA, to the sender.
+ *   INQUIRE for a key of ours  an AUTHORITY with the CPA of that own record, to the sender.
  *   AUTHORITY                  the record that was inquired about is learned, with the first address that its FLOOD
- *                              or LOOKUP told of, and its place freed. Nothing is sent. A full cache drops the key
- *                              that lies farthest out along the fuller side, above if both are equally full; that may
- *                              be the one just learned.
+ *                              or LOOKUP told of, and its place freed. Nothing is sent. A full cache drops, of the
+ *                              keys that are then in no neighbour list of ours, the one farthest round the ring from
+ *                              our first key, of two equally far the lower number; that may be the one just learned.
  *   ACK                        the flood's place is freed. If it says that the neighbour has not the key that we hold
- *                              it for, the key is removed.
+ *                              it for, the key is removed. (Our ACK says so for a key that is none of ours.)
  *   LOOKUP                     an AUTHORITY with the record closest to the target, 96 bytes, to the sender, as
  *                              gauge_closest tells it for the LOOKUP's path: so nobody is sent back where the LOOKUP
  *                              came from. Where it has a route entry, behind it an INQUIRE to an address of that
  *                              (gauge_look), and a place that waits for its answer, unless that very record is held,
- *                              an inquiry for its key waits already, or the key is our own. Nothing is learned yet.
+ *                              an inquiry for its key waits already, or the key is one of ours. Nothing is learned
+ *                              yet.
  *                              Where no place can be opened (GAUGE_ID_WAITING, GAUGE_FULL), nothing is answered
  *                              either.
  *
@@ -299,7 +316,7 @@ struct gauge_reading {
  * and when to forget it. A gauge that falls silent stays in the cache until it is revoked or such an ACK comes.
  *
  * Gives GAUGE_OK or any number from GAUGE_MEMORY to GAUGE_ROOM. */
-struct gauge_answer gauge_receive(const uint8_t *own, size_t own_len, const uint8_t *cpa, size_t cpa_len,
+struct gauge_answer gauge_receive(const uint8_t *own, size_t own_len, const uint8_t *cpas, size_t cpas_len,
                                   uint8_t *cache, size_t cache_len, uint8_t *waiting, size_t waiting_len,
                                   uint8_t major, uint8_t minor, uint32_t id, const uint8_t *nonce, size_t nonce_len,
                                   uint32_t verdict, const uint8_t *key, size_t key_len, const uint8_t *datagram,
@@ -310,7 +327,7 @@ struct gauge_answer gauge_receive(const uint8_t *own, size_t own_len, const uint
  *   own, major, minor  as above. cache: for reading. waiting: for writing.
  *   id         the FLOOD's message ID.
  *   neighbour  32 bytes: the key of the neighbour, which must be held.
- *   key        32 bytes: the key of the record to send, which must be our own or held.
+ *   key        32 bytes: the key of the record to send, which must be one of our own or held.
  *   output     for writing: on GAUGE_OK the first `first` bytes are the FLOOD, to be sent to an address of the
  *              neighbour's record in the cache. `first` is 116 (GAUGE_SEND_LEN), and `second` is 0.
  *
@@ -336,23 +353,24 @@ struct gauge_answer gauge_send(const uint8_t *own, size_t own_len, const uint8_t
 struct gauge_answer gauge_tick(const uint8_t *own, size_t own_len, uint8_t *waiting, size_t waiting_len,
                                uint8_t *output, size_t output_len);
 
-/* The keys next to our own round the ring: up to five below, then up to five above, nearest first. No key is listed
- * twice.
+/* The keys held next to one of our own round the ring: up to five below, then up to five above, nearest first. No key
+ * is listed twice in it, and none of ours, which are not held; one may be in the lists of several of ours.
  *
  *   own     as above.
  *   cache   for reading.
+ *   key     32 bytes: which of our keys.
  *   output  for writing: GAUGE_LIST_LEN bytes or more. On GAUGE_OK the first 32 * `first` bytes are the keys below,
  *           and the next 32 * `second` bytes the keys above.
  *
- * Gives GAUGE_OK, GAUGE_MEMORY or GAUGE_ROOM. */
+ * Gives GAUGE_OK, GAUGE_MEMORY, GAUGE_NOT_OURS or GAUGE_ROOM. */
 struct gauge_answer gauge_neighbours(const uint8_t *own, size_t own_len, const uint8_t *cache, size_t cache_len,
-                                     uint8_t *output, size_t output_len);
+                                     const uint8_t *key, size_t key_len, uint8_t *output, size_t output_len);
 
-/* Which record is closest to a target: of our own and those held that are not on the path, the one with the shortest
- * way round to the target; of two equally close the one reached by going down from the target. A record is on the path
- * where its port and its address stand together in one endpoint of it: the one address that is kept, so that a gauge
- * which the LOOKUP passed by another of its addresses is not known by it. Our own is never passed over, so there is
- * always an answer. All is lent for reading, and nothing is written.
+/* Which record is closest to a target: of all our own and those held that are not on the path, the one with the
+ * shortest way round to the target; of two equally close the one reached by going down from the target. A record is on
+ * the path where its port and its address stand together in one endpoint of it: the one address that is kept, so that a
+ * gauge which the LOOKUP passed by another of its addresses is not known by it. Our own are never passed over, so there
+ * is always an answer. All is lent for reading, and nothing is written.
  *
  *   own     as above.
  *   cache   for reading.
@@ -360,10 +378,10 @@ struct gauge_answer gauge_neighbours(const uint8_t *own, size_t own_len, const u
  *           address, as in a LOOKUP behind its path's first 12 bytes. How many does not matter. Length 0: no path.
  *   target  32 bytes: the key.
  *
- * On GAUGE_OK `first` is 0 for our own record, and GAUGE_CLOSEST_HELD + j for record j of the cache, j from 0: the
- * bytes from GAUGE_CACHE_LEN(j) on. `second` is how many keys were compared to find the target's place among those
- * held, what gauge_search tells of it, whatever the path is. What is done from that place on does not count: records
- * passed over, and those beside it and our own weighed against each other.
+ * On GAUGE_OK `first` is i for own record i, i from 0 to 3, and GAUGE_CLOSEST_HELD + j for record j of the cache, j
+ * from 0: the bytes from GAUGE_CACHE_LEN(j) on. `second` is how many keys were compared to find the target's place
+ * among those held, what gauge_search tells of it, whatever the path is. What is done from that place on does not
+ * count: records passed over, and those beside it and our own weighed against each other.
  *
  * Gives GAUGE_OK or GAUGE_MEMORY. */
 struct gauge_answer gauge_closest(const uint8_t *own, size_t own_len, const uint8_t *cache, size_t cache_len,
@@ -374,7 +392,7 @@ struct gauge_answer gauge_closest(const uint8_t *own, size_t own_len, const uint
  *
  *   own    as above.
  *   cache  for reading.
- *   key    32 bytes. Our own is not held: it never stands in the cache.
+ *   key    32 bytes. One of ours is not held: it never stands in the cache.
  *
  * On GAUGE_OK `first` is 0 where the key is not held, and j + 1 where record j of the cache has it, j from 0: the bytes
  * from GAUGE_CACHE_LEN(j) on. `second` is how many keys were compared.
@@ -397,8 +415,9 @@ struct gauge_answer gauge_search(const uint8_t *own, size_t own_len, const uint8
  * those of waiting inquiries too, keeps the first with its port. The count becomes 1, the 48 bytes behind the address
  * zero, and nothing else changes: keys and order stay, and so do IDs, tries, floods and what is free.
  *
- *   own      for reading: our own record, in the old form or in that of today. It is not changed. Cut it yourself
- *            before the other calls: byte GAUGE_RECORD_COUNT (34) becomes 1, bytes 52 to 99 zero.
+ *   own      for reading: our own records, in the old form or in that of today, one to four of them as above. They are
+ *            not changed. Cut them yourself before the other calls: of each byte GAUGE_RECORD_COUNT (34) becomes 1,
+ *            bytes 52 to 99 zero. Memory of before 1.5 was kept for one own key: convert it with that one.
  *   cache    for writing, in the old form.
  *   waiting  for writing, in the old form.
  *
@@ -408,7 +427,7 @@ struct gauge_answer gauge_search(const uint8_t *own, size_t own_len, const uint8
  * Convert all gauges of a valley at once. What a gauge passes on since 1.3 has one address, and one before 1.3 that
  * holds that record with all four sees another record in it, and inquires again, to and fro while both are about.
  *
- * Gives GAUGE_OK; or GAUGE_MEMORY where own record, cache or waiting table are not in the old form. `first` and
+ * Gives GAUGE_OK; or GAUGE_MEMORY where own records, cache or waiting table are not in the old form. `first` and
  * `second` are 0. */
 struct gauge_answer gauge_convert(const uint8_t *own, size_t own_len, uint8_t *cache, size_t cache_len,
                                   uint8_t *waiting, size_t waiting_len);

@@ -13,13 +13,27 @@
  *     void forget_all_but(const struct gauge_lent *l, uint32_t ids);
  *
  * Beginning. All memory is empty, and nobody is known. The CPA is yours to make: a real one is signed, and holds the
- * nonce of the INQUIRE that it answers.
+ * nonce of the INQUIRE that it answers. It is lent with its length before it.
  *
- *     static uint8_t cache[GAUGE_CACHE_LEN(64)], cpa[1];
+ *     static uint8_t cache[GAUGE_CACHE_LEN(64)], cpa[1], cpas[GAUGE_CPAS_LEN(sizeof cpa)];
  *     void begin(struct gauge_lent *l, const uint8_t *key, const uint8_t *address)
  *     {
- *         gauge_lent_begin(l, cache, sizeof cache, cpa, sizeof cpa);
+ *         gauge_lent_begin(l, cache, sizeof cache, cpas, gauge_cpas_put(cpas, 0, cpa, sizeof cpa));
  *         gauge_lent_own(l, key, 5000, address, 1);
+ *         random_bytes((uint8_t *)&l->id, sizeof l->id);
+ *     }
+ *
+ * One gauge for two ponds, the keys rising and the CPAs in their order; the cache has ten records or more for each. Ask
+ * for the list of each by its key (gauge_lent_neighbours). Whoever changes its ponds begins anew: cache and waiting
+ * table are then empty.
+ *
+ *     static uint8_t both[2 * GAUGE_CPAS_LEN(sizeof cpa)];
+ *     void begin_two(struct gauge_lent *l, const uint8_t *key, const uint8_t *above, const uint8_t *address)
+ *     {
+ *         size_t len = gauge_cpas_put(both, gauge_cpas_put(both, 0, cpa, sizeof cpa), cpa, sizeof cpa);
+ *         gauge_lent_begin(l, cache, sizeof cache, both, len);
+ *         gauge_lent_own(l, key, 5000, address, 1);
+ *         gauge_lent_pond(l, above, 5000, address);
  *         random_bytes((uint8_t *)&l->id, sizeof l->id);
  *     }
  *
@@ -68,9 +82,10 @@
  * (The verdict there believes everybody, and takes the CPA's first bytes for the key: judge the CPA instead.)
  *
  * Each second: a tick, then FLOODs. What is listed is sent again, what was kept and is not listed is forgotten. When to
- * flood what to whom: each second, to one or two of the gauges held, our own record or one that is held with a key near
- * to that gauge's; and at once to all gauges held when our own address has changed. So each gauge hears of its
- * neighbours, and nothing is sent to all. GAUGE_FULL is no fault: too much waits, and the next second will do.
+ * flood what to whom: each second, to one or two of the gauges held, our own record (of several each in its turn) or
+ * one that is held with a key near to that gauge's; and at once to all gauges held when our own address has changed. So
+ * each gauge hears of its neighbours, and nothing is sent to all. GAUGE_FULL is no fault: too much waits, and the next
+ * second will do.
  *
  *     void each_second(struct gauge_lent *l, uint32_t which, uint32_t what)
  *     {
@@ -115,7 +130,7 @@
  *     }
  *
  * Saving and restoring. The cache is worth it, the waiting table is not: who waits is gone. Begin as above with the
- * same own key, read the cache, and convert it: one that a version before 1.3 saved, with up to four addresses in a
+ * same own keys, read the cache, and convert it: one that a version before 1.3 saved, with up to four addresses in a
  * record, is then in the form of today, and one that was so already stays as it is. Where that is refused the file was
  * damaged, and the cache begins empty. What then holds is the statement Demand3From (docs/STATEMENTS.md,
  * crates/signed/specs/From.antt): from any cache in form and an empty waiting table, the neighbour list after any calls
@@ -146,10 +161,11 @@
 #define GAUGE_LOOKUP_MOST 564     /* the longest that gauge_lookup_along writes */
 #define GAUGE_READING_MOST 16     /* a packed reading: 14 bytes for a fault, 16 for a depth */
 
-/* All that is lent to the calls of one gauge. What has one length is in it; the cache and the CPA, whose lengths are
- * yours to choose, are yours too, and are in use as long as the struct is. */
+/* All that is lent to the calls of one gauge. What has one length is in it, and the own records; the cache and the
+ * CPAs, whose lengths are yours to choose, are yours too, and are in use as long as the struct is. */
 struct gauge_lent {
-    uint8_t own[GAUGE_RECORD_LEN];
+    uint8_t own[GAUGE_OWN_MOST * GAUGE_RECORD_LEN];
+    size_t own_len;                   /* GAUGE_RECORD_LEN for each own record */
     uint8_t waiting[GAUGE_WAITING_LEN];
     uint8_t output[GAUGE_OUTPUT_LEN]; /* what the last call wrote */
     uint8_t nonce[GAUGE_NONCE_LEN];   /* random, and another before each receive: it goes into an INQUIRE */
@@ -159,13 +175,23 @@ struct gauge_lent {
     uint32_t id;                      /* the next message ID: a receive takes two, a send and a message here one */
     uint8_t *cache;
     size_t cache_len;
-    const uint8_t *cpa;
-    size_t cpa_len;
+    const uint8_t *cpas;
+    size_t cpas_len;
 };
 
+/* A CPA as it is lent, its length before it, put behind so many bytes of others, of which `cpas` has the room: 0 of
+ * them, and GAUGE_CPAS_LEN(len) bytes, for one own record alone. Gives how many bytes there are now. */
+static inline size_t gauge_cpas_put(uint8_t *cpas, size_t behind, const uint8_t *cpa, size_t len)
+{
+    cpas[behind] = GAUGE_TO(uint8_t, len & 255);
+    cpas[behind + 1] = GAUGE_TO(uint8_t, len >> 8 & 255);
+    memcpy(cpas + behind + 2, cpa, len);
+    return behind + GAUGE_CPAS_LEN(len);
+}
+
 /* All empty, the cache with it; versions and the first ID, 1. The own record is still to be set. */
-static inline void gauge_lent_begin(struct gauge_lent *l, uint8_t *cache, size_t cache_len, const uint8_t *cpa,
-                                    size_t cpa_len)
+static inline void gauge_lent_begin(struct gauge_lent *l, uint8_t *cache, size_t cache_len, const uint8_t *cpas,
+                                    size_t cpas_len)
 {
     memset(l, 0, sizeof *l);
     memset(cache, 0, cache_len);
@@ -174,23 +200,43 @@ static inline void gauge_lent_begin(struct gauge_lent *l, uint8_t *cache, size_t
     l->id = 1;
     l->cache = cache;
     l->cache_len = cache_len;
-    l->cpa = cpa;
-    l->cpa_len = cpa_len;
+    l->cpas = cpas;
+    l->cpas_len = cpas_len;
+}
+
+/* A record of 100 bytes: key, port, and an address of 16 bytes; without an address, where count is 0, it is none in
+ * form. */
+static inline void gauge_record_put(uint8_t *record, const uint8_t *key, uint16_t port, const uint8_t *address,
+                                    uint8_t count)
+{
+    memset(record, 0, GAUGE_RECORD_LEN);
+    memcpy(record + GAUGE_RECORD_KEY, key, GAUGE_KEY_LEN);
+    record[GAUGE_RECORD_PORT] = GAUGE_TO(uint8_t, port >> 8);
+    record[GAUGE_RECORD_PORT + 1] = GAUGE_TO(uint8_t, port & 255);
+    record[GAUGE_RECORD_COUNT] = count;
+    memcpy(record + GAUGE_RECORD_ADDRESSES, address, GAUGE_TO(size_t, count) * GAUGE_ADDRESS_LEN);
 }
 
 /* The own record: key, port, and an address of 16 bytes. More than one may be handed in, one behind the other, as
  * before 1.3: the first is kept; none, with count 0, is no record in form. Its key stays as long as the memory is in
- * use; port and address may be set again. */
+ * use; port and address may be set again. It is then the only one. */
 static inline void gauge_lent_own(struct gauge_lent *l, const uint8_t *key, uint16_t port, const uint8_t *addresses,
                                   uint8_t count)
 {
-    uint8_t used = count > 1 ? 1 : count;
     memset(l->own, 0, sizeof l->own);
-    memcpy(l->own + GAUGE_RECORD_KEY, key, GAUGE_KEY_LEN);
-    l->own[GAUGE_RECORD_PORT] = GAUGE_TO(uint8_t, port >> 8);
-    l->own[GAUGE_RECORD_PORT + 1] = GAUGE_TO(uint8_t, port & 255);
-    l->own[GAUGE_RECORD_COUNT] = used;
-    memcpy(l->own + GAUGE_RECORD_ADDRESSES, addresses, GAUGE_TO(size_t, used) * GAUGE_ADDRESS_LEN);
+    gauge_record_put(l->own, key, port, addresses, count > 1 ? 1 : count);
+    l->own_len = GAUGE_RECORD_LEN;
+}
+
+/* One pond more: an own record behind those there are, whose keys are lower, as long as there are fewer than
+ * GAUGE_OWN_MOST. Gives how many there are now. */
+static inline size_t gauge_lent_pond(struct gauge_lent *l, const uint8_t *key, uint16_t port, const uint8_t *address)
+{
+    if (l->own_len + GAUGE_RECORD_LEN <= sizeof l->own) {
+        gauge_record_put(l->own + l->own_len, key, port, address, 1);
+        l->own_len += GAUGE_RECORD_LEN;
+    }
+    return l->own_len / GAUGE_RECORD_LEN;
 }
 
 /* A record of a version before 1.3 keeps the first of its addresses, as gauge_convert does it in cache and waiting
@@ -216,7 +262,7 @@ static inline struct gauge_answer gauge_lent_receive(struct gauge_lent *l, const
                                                      size_t datagram_len)
 {
     struct gauge_answer a =
-        gauge_receive(l->own, sizeof l->own, l->cpa, l->cpa_len, l->cache, l->cache_len, l->waiting,
+        gauge_receive(l->own, l->own_len, l->cpas, l->cpas_len, l->cache, l->cache_len, l->waiting,
                       sizeof l->waiting, l->major, l->minor, l->id, l->nonce, sizeof l->nonce, l->verdict, l->key,
                       sizeof l->key, datagram, datagram_len, l->output, sizeof l->output);
     l->id += 2;
@@ -228,7 +274,7 @@ static inline struct gauge_answer gauge_lent_receive(struct gauge_lent *l, const
 static inline struct gauge_answer gauge_lent_send(struct gauge_lent *l, const uint8_t *neighbour, const uint8_t *key)
 {
     struct gauge_answer a =
-        gauge_send(l->own, sizeof l->own, l->cache, l->cache_len, l->waiting, sizeof l->waiting, l->major, l->minor,
+        gauge_send(l->own, l->own_len, l->cache, l->cache_len, l->waiting, sizeof l->waiting, l->major, l->minor,
                    l->id, neighbour, GAUGE_KEY_LEN, key, GAUGE_KEY_LEN, l->output, sizeof l->output);
     l->id += 1;
     return a;
@@ -236,35 +282,38 @@ static inline struct gauge_answer gauge_lent_send(struct gauge_lent *l, const ui
 
 static inline struct gauge_answer gauge_lent_tick(struct gauge_lent *l)
 {
-    return gauge_tick(l->own, sizeof l->own, l->waiting, sizeof l->waiting, l->output, sizeof l->output);
+    return gauge_tick(l->own, l->own_len, l->waiting, sizeof l->waiting, l->output, sizeof l->output);
 }
 
-static inline struct gauge_answer gauge_lent_neighbours(struct gauge_lent *l)
+/* The list of one of our keys; of the first, or the only one: l->own + GAUGE_RECORD_KEY. */
+static inline struct gauge_answer gauge_lent_neighbours(struct gauge_lent *l, const uint8_t *key)
 {
-    return gauge_neighbours(l->own, sizeof l->own, l->cache, l->cache_len, l->output, sizeof l->output);
+    return gauge_neighbours(l->own, l->own_len, l->cache, l->cache_len, key, GAUGE_KEY_LEN, l->output,
+                            sizeof l->output);
 }
 
 /* Which record is closest to a target, past those on the path, of so many bytes; and that record, by `first`. */
 static inline struct gauge_answer gauge_lent_closest(const struct gauge_lent *l, const uint8_t *path, size_t path_len,
                                                      const uint8_t *target)
 {
-    return gauge_closest(l->own, sizeof l->own, l->cache, l->cache_len, path, path_len, target, GAUGE_KEY_LEN);
+    return gauge_closest(l->own, l->own_len, l->cache, l->cache_len, path, path_len, target, GAUGE_KEY_LEN);
 }
 
 static inline const uint8_t *gauge_lent_told(const struct gauge_lent *l, uint32_t first)
 {
-    return first < GAUGE_CLOSEST_HELD ? l->own : l->cache + GAUGE_CACHE_LEN(first - GAUGE_CLOSEST_HELD);
+    return first < GAUGE_CLOSEST_HELD ? l->own + GAUGE_CACHE_LEN(first)
+                                      : l->cache + GAUGE_CACHE_LEN(first - GAUGE_CLOSEST_HELD);
 }
 
 /* Whether a key is held, where, and how many keys are compared to find that. */
 static inline struct gauge_answer gauge_lent_search(const struct gauge_lent *l, const uint8_t *key)
 {
-    return gauge_search(l->own, sizeof l->own, l->cache, l->cache_len, key, GAUGE_KEY_LEN);
+    return gauge_search(l->own, l->own_len, l->cache, l->cache_len, key, GAUGE_KEY_LEN);
 }
 
 static inline struct gauge_answer gauge_lent_convert(struct gauge_lent *l)
 {
-    return gauge_convert(l->own, sizeof l->own, l->cache, l->cache_len, l->waiting, sizeof l->waiting);
+    return gauge_convert(l->own, l->own_len, l->cache, l->cache_len, l->waiting, sizeof l->waiting);
 }
 
 static inline struct gauge_look_answer gauge_lent_look(const struct gauge_lent *l, const uint8_t *datagram,
@@ -346,7 +395,7 @@ static inline const char *gauge_number_text(uint32_t number)
     case GAUGE_STRAY: return "late or stray: nothing waits for it";
     case GAUGE_UNTRUSTED: return "not trusted: no CPA, or none that is good";
     case GAUGE_OTHER_KEY: return "not trusted: the CPA is good for another key";
-    case GAUGE_OWN_KEY: return "it names our own key";
+    case GAUGE_OWN_KEY: return "it names a key of ours";
     case GAUGE_NOT_OURS: return "a key that is not ours, or not held";
     case GAUGE_ID_WAITING: return "the message ID is waiting already";
     case GAUGE_FULL: return "no place is free: 16 wait";
@@ -387,9 +436,9 @@ static inline const char *gauge_reading_text(uint32_t reading)
     }
 }
 
-/* GAUGE_MEMORY: which of the lent things is not in form? Each is tried by a call that refuses it before anything else
- * and, as it is lent no output, changes nothing. The first that is not in form is told; cache and waiting table are
- * held against the own record, so with an own record that is not in form nothing is said of them. */
+/* GAUGE_MEMORY: which of the lent things is not in form? Each but the CPAs is tried by a call that refuses it before
+ * anything else and, as it is lent no output, changes nothing. The first that is not in form is told; CPAs, cache and
+ * waiting table are held against the own records, so with own records that are not in form nothing is said of them. */
 enum gauge_part {
     GAUGE_PART_NONE = 0,
     GAUGE_PART_OWN = 1,
@@ -398,17 +447,30 @@ enum gauge_part {
     GAUGE_PART_WAITING = 4
 };
 
-static inline enum gauge_part gauge_not_in_form(const uint8_t *own, size_t own_len, size_t cpa_len,
-                                                const uint8_t *cache, size_t cache_len, uint8_t *waiting,
-                                                size_t waiting_len)
+/* Are these the CPAs of so many own records, and nothing behind them? */
+static inline int gauge_cpas_in_form(const uint8_t *cpas, size_t cpas_len, size_t ponds)
+{
+    for (; ponds > 0 && cpas_len >= GAUGE_CPAS_LEN(GAUGE_CPA_LEAST); ponds--) {
+        size_t len = cpas[0] + GAUGE_TO(size_t, cpas[1]) * 256;
+        if (len < GAUGE_CPA_LEAST || len > GAUGE_CPA_MOST || GAUGE_CPAS_LEN(len) > cpas_len)
+            return 0;
+        cpas += GAUGE_CPAS_LEN(len);
+        cpas_len -= GAUGE_CPAS_LEN(len);
+    }
+    return ponds == 0 && cpas_len == 0;
+}
+
+static inline enum gauge_part gauge_not_in_form(const uint8_t *own, size_t own_len, const uint8_t *cpas,
+                                                size_t cpas_len, const uint8_t *cache, size_t cache_len,
+                                                uint8_t *waiting, size_t waiting_len)
 {
     uint8_t none[1] = {0}, empty[GAUGE_WAITING_LEN];
     memset(empty, 0, sizeof empty);
     if (gauge_tick(own, own_len, empty, sizeof empty, none, 0).number == GAUGE_MEMORY)
         return GAUGE_PART_OWN;
-    if (cpa_len < GAUGE_CPA_LEAST || cpa_len > GAUGE_CPA_MOST)
+    if (!gauge_cpas_in_form(cpas, cpas_len, own_len / GAUGE_RECORD_LEN))
         return GAUGE_PART_CPA;
-    if (gauge_neighbours(own, own_len, cache, cache_len, none, 0).number == GAUGE_MEMORY)
+    if (gauge_neighbours(own, own_len, cache, cache_len, own, GAUGE_KEY_LEN, none, 0).number == GAUGE_MEMORY)
         return GAUGE_PART_CACHE;
     if (gauge_tick(own, own_len, waiting, waiting_len, none, 0).number == GAUGE_MEMORY)
         return GAUGE_PART_WAITING;
@@ -417,7 +479,7 @@ static inline enum gauge_part gauge_not_in_form(const uint8_t *own, size_t own_l
 
 static inline enum gauge_part gauge_lent_not_in_form(struct gauge_lent *l)
 {
-    return gauge_not_in_form(l->own, sizeof l->own, l->cpa_len, l->cache, l->cache_len, l->waiting,
+    return gauge_not_in_form(l->own, l->own_len, l->cpas, l->cpas_len, l->cache, l->cache_len, l->waiting,
                              sizeof l->waiting);
 }
 
@@ -425,8 +487,8 @@ static inline const char *gauge_part_text(uint32_t part)
 {
     switch (part) {
     case GAUGE_PART_NONE: return "all is in form";
-    case GAUGE_PART_OWN: return "the own record";
-    case GAUGE_PART_CPA: return "the own CPA";
+    case GAUGE_PART_OWN: return "the own records";
+    case GAUGE_PART_CPA: return "the CPAs";
     case GAUGE_PART_CACHE: return "the cache";
     case GAUGE_PART_WAITING: return "the waiting table";
     default: return "no part";
@@ -499,7 +561,7 @@ static inline struct gauge_writer gauge_put_flood(struct gauge_lent *l, uint8_t 
     return w;
 }
 
-/* Our own record as a route entry, with its one address. */
+/* Our own record as a route entry, with its one address: of several the first. */
 static inline void gauge_put_entry(struct gauge_writer *w, const struct gauge_lent *l)
 {
     gauge_put_field(w, 0x009A, GAUGE_ENTRY_ADDRESSES + GAUGE_ADDRESS_LEN);
@@ -513,8 +575,8 @@ static inline void gauge_put_entry(struct gauge_writer *w, const struct gauge_le
     gauge_put_padding(w);
 }
 
-/* The first FLOOD of our own record, to a gauge that is not held, for which gauge_send would give GAUGE_NOT_OURS. The
- * own record is in form; output: GAUGE_SEND_LEN bytes. */
+/* The first FLOOD of our own record, of several the first, to a gauge that is not held, for which gauge_send would give
+ * GAUGE_NOT_OURS. The own record is in form; output: GAUGE_SEND_LEN bytes. */
 static inline size_t gauge_first_flood(struct gauge_lent *l, uint8_t *output)
 {
     struct gauge_writer w = gauge_put_flood(l, output);

@@ -5,8 +5,8 @@
  * the call gave; the calls that were refused too. gauge_neighbours, gauge_closest, gauge_search and gauge_look change
  * nothing and are not recorded. The night begins with cache and waiting table all zero, so that there is nothing for
  * gauge_convert, which is not recorded either. What a trace does not hold is fixed for whoever makes the calls again: a
- * cache of 64 records, an output of GAUGE_OUTPUT_LEN bytes, and an own CPA of one zero byte. A gauge that is recorded
- * must have the same.
+ * cache of 64 records, an output of GAUGE_OUTPUT_LEN bytes, one own record, and a CPA of one zero byte. A gauge that is
+ * recorded must have the same; one that stands for several ponds is not recorded.
  *
  * A trace is records: length (2 bytes, counting what follows it), kind (2), body. Lengths, kinds and IDs are least
  * significant byte first.
@@ -26,7 +26,7 @@
 #include <stdio.h>
 
 #define GAUGE_TRACE_HELD 64 /* records in the cache of a gauge that is recorded */
-#define GAUGE_TRACE_CPA_LEN 1
+#define GAUGE_TRACE_CPAS_LEN 3 /* the CPA, as it is lent: 01 00 00 */
 
 /* The files are opened and closed by the radio program; `answers` may be NULL. */
 struct gauge_trace {

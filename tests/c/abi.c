@@ -63,7 +63,8 @@ static void constants(void)
     CHECK(GAUGE_RECORD_LEN == 100 && GAUGE_RECORD_KEY == 0 && GAUGE_RECORD_PORT == 32 && GAUGE_RECORD_COUNT == 34 && GAUGE_RECORD_ADDRESSES == 36);
     CHECK(GAUGE_ENTRY_KEY == 0 && GAUGE_ENTRY_MAJOR == 32 && GAUGE_ENTRY_MINOR == 33 && GAUGE_ENTRY_PORT == 34);
     CHECK(GAUGE_ENTRY_COUNT == 37 && GAUGE_ENTRY_ADDRESSES == 38);
-    CHECK(GAUGE_CPA_LEAST == 1 && GAUGE_CPA_MOST == 1024 && GAUGE_DATAGRAM_LEAST == 12 && GAUGE_DATAGRAM_MOST == 1232);
+    CHECK(GAUGE_CPA_LEAST == 1 && GAUGE_CPA_MOST == 1024 && GAUGE_CPAS_LEN(1024) == 2 + 1024 && GAUGE_OWN_MOST == 4);
+    CHECK(GAUGE_DATAGRAM_LEAST == 12 && GAUGE_DATAGRAM_MOST == 1232);
     CHECK(GAUGE_CACHE_LEAST == 10 && GAUGE_CACHE_MOST == 256 && GAUGE_CACHE_LEN(256) == 25600);
     CHECK(GAUGE_PLACES == 16 && GAUGE_PLACE_LEN == 140 && GAUGE_WAITING_LEN == 16 * 140);
     CHECK(GAUGE_OUTPUT_LEN == 2 * 1232 && GAUGE_SEND_LEN == 100 + 16 && GAUGE_TICK_LEN == 16 * 4 && GAUGE_LIST_LEN == 10 * 32);
@@ -143,7 +144,7 @@ static void looks(void)
 
 /* A gauge with key 12 (hex), versions 6 and 101. */
 
-static uint8_t own[GAUGE_RECORD_LEN], cpa[2] = {0xE1, 0xE2}, cache[GAUGE_CACHE_LEN(10)], waiting[GAUGE_WAITING_LEN], nonce[GAUGE_NONCE_LEN],
+static uint8_t own[GAUGE_RECORD_LEN], cpas[4] = {2, 0, 0xE1, 0xE2}, cache[GAUGE_CACHE_LEN(10)], waiting[GAUGE_WAITING_LEN], nonce[GAUGE_NONCE_LEN],
     key[GAUGE_KEY_LEN], neighbour[GAUGE_KEY_LEN], output[GAUGE_OUTPUT_LEN], datagram[GAUGE_DATAGRAM_MOST];
 static size_t datagram_len;
 
@@ -151,7 +152,7 @@ static struct gauge_answer receive(uint32_t id, uint32_t verdict, const char *te
 {
     datagram_len = bytes(text, datagram);
     memset(output, 0xEE, sizeof output);
-    return gauge_receive(own, sizeof own, cpa, sizeof cpa, cache, sizeof cache, waiting, sizeof waiting, 6, 101, id, nonce, sizeof nonce, verdict,
+    return gauge_receive(own, sizeof own, cpas, sizeof cpas, cache, sizeof cache, waiting, sizeof waiting, 6, 101, id, nonce, sizeof nonce, verdict,
                          key, sizeof key, datagram, datagram_len, output, sizeof output);
 }
 
@@ -188,7 +189,7 @@ static void arguments(void)
     bytes(KEY("12") "1388 01 00 " ZEROS "12", own);
     bytes(NONCE, nonce);
 
-    struct gauge_answer a = receive(7, 0, INQUIRE(KEY("12"), "D8859CF5")); /* own, cpa, major, minor, id, datagram, output */
+    struct gauge_answer a = receive(7, 0, INQUIRE(KEY("12"), "D8859CF5")); /* own, cpas, major, minor, id, datagram, output */
     CHECK(a.number == GAUGE_OK && a.first == 42 && a.second == 0);
     CHECK(wrote(HEADER("08", "00000007") ACKED("D8859CF5") "0098 0008 000E 0000 0040 0006 0000 0000 009B 0006 E1E2"));
 
@@ -218,9 +219,12 @@ static void arguments(void)
     a = gauge_tick(own, sizeof own, waiting, sizeof waiting, output, sizeof output);
     CHECK(a.number == GAUGE_OK && a.first == 1 && a.second == 0 && wrote("0C000000"));
 
-    memset(output, 0xEE, sizeof output); /* below is the first count */
-    a = gauge_neighbours(own, sizeof own, cache, sizeof cache, output, sizeof output);
+    memset(output, 0xEE, sizeof output); /* the key comes behind the cache, and below is the first count */
+    a = gauge_neighbours(own, sizeof own, cache, sizeof cache, key, sizeof key, output, sizeof output);
     CHECK(a.number == GAUGE_OK && a.first == 1 && a.second == 0 && wrote(KEY("11")));
+    a = gauge_neighbours(own, sizeof own, cache, sizeof cache, neighbour, sizeof neighbour, output, sizeof output);
+    CHECK(answer_is(a, GAUGE_NOT_OURS, 0) && wrote(KEY("11")));
+    CHECK(answer_is(gauge_neighbours(own, sizeof own, cache, sizeof cache, key, sizeof key - 1, output, sizeof output), GAUGE_MEMORY, 0));
 
     uint8_t path[2 * GAUGE_ENDPOINT_LEN]; /* own before cache, path before target: none of them is any other's length or form */
     bytes(POINT("1388", "12") POINT("1388", "11"), path);
@@ -277,13 +281,13 @@ static void converted(void)
     CHECK(answer_is(gauge_convert(eleven, sizeof eleven, held, sizeof held, waits, sizeof waits), GAUGE_MEMORY, 0));
     CHECK(answer_is(gauge_convert(old, sizeof old, waits, sizeof waits, held, sizeof held), GAUGE_MEMORY, 0));
     CHECK(answer_is(gauge_tick(own, sizeof own, waits, sizeof waits, output, sizeof output), GAUGE_MEMORY, 0));
-    CHECK(answer_is(gauge_neighbours(own, sizeof own, held, sizeof held, output, sizeof output), GAUGE_MEMORY, 0));
+    CHECK(answer_is(gauge_neighbours(own, sizeof own, held, sizeof held, key, sizeof key, output, sizeof output), GAUGE_MEMORY, 0));
     for (int times = 0; times < 2; times++) {
         CHECK(answer_is(gauge_convert(old, sizeof old, held, sizeof held, waits, sizeof waits), GAUGE_OK, 0));
         CHECK(memcmp(held, held_new, sizeof held) == 0 && memcmp(waits, waits_new, sizeof waits) == 0 && memcmp(old, was, sizeof old) == 0);
     }
-    CHECK(answer_is(gauge_neighbours(old, sizeof old, held, sizeof held, output, sizeof output), GAUGE_MEMORY, 0));
-    CHECK(answer_is(gauge_neighbours(own, sizeof own, held, sizeof held, output, sizeof output), GAUGE_OK, 1));
+    CHECK(answer_is(gauge_neighbours(old, sizeof old, held, sizeof held, key, sizeof key, output, sizeof output), GAUGE_MEMORY, 0));
+    CHECK(answer_is(gauge_neighbours(own, sizeof own, held, sizeof held, key, sizeof key, output, sizeof output), GAUGE_OK, 1));
     CHECK(answer_is(gauge_tick(own, sizeof own, waits, sizeof waits, output, sizeof output), GAUGE_OK, 2));
 }
 
@@ -365,7 +369,7 @@ static struct lent lend_all(void)
     for (int i = 0; i < SLICES; i++) /* what is not said below is all zero */
         *slice_in(&l, i) = as_room(zeros[i], slices[i].usual);
     l.own = as_room(own, sizeof own);
-    l.cpa = as_room(cpa, sizeof cpa);
+    l.cpas = as_room(cpas, sizeof cpas);
     l.cache = as_room(cache, sizeof cache);
     l.waiting = as_room(waiting, sizeof waiting);
     l.nonce = as_room(nonce, sizeof nonce);

@@ -6,7 +6,7 @@
 
 struct gauge_answer call_receive(receive_call *by, const struct lent *l)
 {
-    return by(TAKEN(own), TAKEN(cpa), TAKEN(cache), TAKEN(waiting), l->major, l->minor, l->id, TAKEN(nonce), l->verdict, TAKEN(key), TAKEN(datagram),
+    return by(TAKEN(own), TAKEN(cpas), TAKEN(cache), TAKEN(waiting), l->major, l->minor, l->id, TAKEN(nonce), l->verdict, TAKEN(key), TAKEN(datagram),
               TAKEN(output));
 }
 
@@ -22,7 +22,7 @@ struct gauge_answer call_tick(tick_call *by, const struct lent *l)
 
 struct gauge_answer call_neighbours(neighbours_call *by, const struct lent *l)
 {
-    return by(TAKEN(own), TAKEN(cache), TAKEN(output));
+    return by(TAKEN(own), TAKEN(cache), TAKEN(key), TAKEN(output));
 }
 
 struct gauge_answer call_closest(closest_call *by, const struct lent *l)

@@ -131,7 +131,7 @@ static void begin(void)
         if (slices[i].use == TO_KEEP)
             set(i, room, i == LENT_cache ? GAUGE_CACHE_LEN(number(2)) : slices[i].usual);
     lend(LENT_own, 1);
-    lend(LENT_cpa, 3);
+    lend(LENT_cpas, 3);
     lent.major = (uint8_t)number(4);
     lent.minor = (uint8_t)number(5);
 }
@@ -236,7 +236,8 @@ static void tick(void)
 
 static void list(void)
 {
-    fresh_output(1);
+    lend(LENT_key, 1);
+    fresh_output(2);
     before_call();
     struct gauge_answer a = call_neighbours(gauge_neighbours, &lent);
     after_call(a, GAUGE_KEY_LEN * ((size_t)a.first + a.second));

@@ -21,7 +21,7 @@ static void check(int holds, const char *what, unsigned line)
 /* A gauge twice: by the struct of the header, and by memory that the plain calls are lent. */
 struct gauge {
     struct gauge_lent lent;
-    uint8_t cache[GAUGE_CACHE_LEN(HELD)], cpa[GAUGE_KEY_LEN];
+    uint8_t cache[GAUGE_CACHE_LEN(HELD)], cpa[GAUGE_KEY_LEN], cpas[GAUGE_CPAS_LEN(GAUGE_KEY_LEN)];
     uint8_t plain_cache[GAUGE_CACHE_LEN(HELD)], plain_waiting[GAUGE_WAITING_LEN], plain_output[GAUGE_OUTPUT_LEN];
 };
 
@@ -36,7 +36,7 @@ static void begin(uint8_t number)
     memset(g->plain_cache, 0, sizeof g->plain_cache);
     memset(g->plain_waiting, 0, sizeof g->plain_waiting);
     address[GAUGE_ADDRESS_LEN - 1] = number;
-    gauge_lent_begin(&g->lent, g->cache, sizeof g->cache, g->cpa, sizeof g->cpa);
+    gauge_lent_begin(&g->lent, g->cache, sizeof g->cache, g->cpas, gauge_cpas_put(g->cpas, 0, g->cpa, sizeof g->cpa));
     gauge_lent_own(&g->lent, g->cpa, 5000, address, 1);
     memcpy(g->plain_output, g->lent.output, sizeof g->plain_output);
 }
@@ -46,7 +46,7 @@ static struct lent plain(struct gauge *g, const uint8_t *datagram, size_t len)
 {
     struct lent l = {0};
     l.own = as_room(g->lent.own, GAUGE_RECORD_LEN);
-    l.cpa = as_room(g->cpa, sizeof g->cpa);
+    l.cpas = as_room(g->cpas, sizeof g->cpas);
     l.cache = as_room(g->plain_cache, sizeof g->plain_cache);
     l.waiting = as_room(g->plain_waiting, sizeof g->plain_waiting);
     l.nonce = as_room(g->lent.nonce, GAUGE_NONCE_LEN);
@@ -101,7 +101,9 @@ static struct gauge_answer tick(struct gauge *g)
 static struct gauge_answer list(struct gauge *g)
 {
     struct lent l = plain(g, g->cpa, 0);
-    struct gauge_answer b = call_neighbours(gauge_neighbours, &l), a = gauge_lent_neighbours(&g->lent);
+    l.key = l.own;
+    l.key.len = GAUGE_KEY_LEN;
+    struct gauge_answer b = call_neighbours(gauge_neighbours, &l), a = gauge_lent_neighbours(&g->lent, g->lent.own);
     same(g, a, b);
     return a;
 }
@@ -204,19 +206,80 @@ static void parts(void)
     CHECK(gauge_lent_not_in_form(l) == GAUGE_PART_WAITING && l->waiting[4] == 3);
     gauges[1].cache[GAUGE_RECORD_COUNT] = 5;
     CHECK(gauge_lent_not_in_form(l) == GAUGE_PART_CACHE);
-    l->cpa_len = 1025;
+    l->cpas_len--;
     CHECK(gauge_lent_not_in_form(l) == GAUGE_PART_CPA);
-    l->cpa_len = 0;
+    l->cpas_len = 0;
     CHECK(gauge_lent_not_in_form(l) == GAUGE_PART_CPA);
     l->own[GAUGE_RECORD_COUNT] = 0;
     CHECK(gauge_lent_not_in_form(l) == GAUGE_PART_OWN);
     CHECK(gauge_lent_receive(l, l->own, 0).number == GAUGE_MEMORY);
-    uint8_t own[GAUGE_RECORD_LEN] = {0}, waiting[GAUGE_WAITING_LEN] = {0}, cache[GAUGE_CACHE_LEN(HELD)] = {0};
+    uint8_t own[GAUGE_RECORD_LEN] = {0}, cpas[3] = {1}, waiting[GAUGE_WAITING_LEN] = {0}, cache[GAUGE_CACHE_LEN(HELD)] = {0};
     own[GAUGE_RECORD_COUNT] = 1;
-    CHECK(gauge_not_in_form(own, sizeof own, 1, cache, sizeof cache, waiting, sizeof waiting) == GAUGE_PART_NONE);
-    CHECK(gauge_not_in_form(own, 99, 1, cache, sizeof cache, waiting, sizeof waiting) == GAUGE_PART_OWN);
-    CHECK(gauge_not_in_form(own, sizeof own, 1, cache, 900, waiting, sizeof waiting) == GAUGE_PART_CACHE);
-    CHECK(gauge_not_in_form(own, sizeof own, 1, cache, sizeof cache, waiting, 2239) == GAUGE_PART_WAITING);
+    CHECK(gauge_not_in_form(own, sizeof own, cpas, 3, cache, sizeof cache, waiting, sizeof waiting) == GAUGE_PART_NONE);
+    CHECK(gauge_not_in_form(own, 99, cpas, 3, cache, sizeof cache, waiting, sizeof waiting) == GAUGE_PART_OWN);
+    CHECK(gauge_not_in_form(own, sizeof own, cpas, 2, cache, sizeof cache, waiting, sizeof waiting) == GAUGE_PART_CPA);
+    CHECK(gauge_not_in_form(own, sizeof own, cpas, 3, cache, 900, waiting, sizeof waiting) == GAUGE_PART_CACHE);
+    CHECK(gauge_not_in_form(own, sizeof own, cpas, 3, cache, sizeof cache, waiting, 2239) == GAUGE_PART_WAITING);
+}
+
+/* CPAs one behind the other, in form and out of it; the gauge takes those in form, and no other. */
+static void several_cpas(void)
+{
+    static uint8_t cpas[4 * GAUGE_CPAS_LEN(GAUGE_CPA_MOST) + 1], cpa[GAUGE_CPA_MOST + 1];
+    CHECK(gauge_cpas_put(cpas, 0, cpa, 1) == 3 && cpas[0] == 1 && cpas[1] == 0 && gauge_cpas_in_form(cpas, 3, 1));
+    size_t len = 0;
+    for (size_t ponds = 1; ponds <= 4; ponds++) {
+        size_t before = len;
+        len = gauge_cpas_put(cpas, len, cpa, GAUGE_CPA_MOST);
+        CHECK(len == before + 1026 && cpas[before] == 0 && cpas[before + 1] == 4 && gauge_cpas_in_form(cpas, len, ponds));
+        CHECK(!gauge_cpas_in_form(cpas, len + 1, ponds) && !gauge_cpas_in_form(cpas, len - 1, ponds));
+        CHECK(!gauge_cpas_in_form(cpas, len, ponds - 1) && !gauge_cpas_in_form(cpas, len, ponds + 1));
+    }
+    CHECK(!gauge_cpas_in_form(cpas, gauge_cpas_put(cpas, 0, cpa, GAUGE_CPA_MOST + 1), 1));
+    CHECK(!gauge_cpas_in_form(cpas, gauge_cpas_put(cpas, 0, cpa, 0), 1));
+    CHECK(!gauge_cpas_in_form(cpas, gauge_cpas_put(cpas, gauge_cpas_put(cpas, 0, cpa, 5), cpa, 0), 2));
+}
+
+/* One gauge for several ponds: each has its CPA, its list and its place among the own records. */
+static void ponds(void)
+{
+    static uint8_t cache[GAUGE_CACHE_LEN(GAUGE_OWN_MOST * HELD)], cpas[GAUGE_OWN_MOST * GAUGE_CPAS_LEN(2)];
+    struct gauge_lent *l = &gauges[1].lent;
+    uint8_t key[GAUGE_KEY_LEN] = {0}, address[GAUGE_ADDRESS_LEN] = {0xFE, 0x80}, cpa[2] = {0xC0, 0};
+    size_t len = 0;
+    for (cpa[1] = 1; cpa[1] <= GAUGE_OWN_MOST; cpa[1]++)
+        len = gauge_cpas_put(cpas, len, cpa, sizeof cpa);
+    gauge_lent_begin(l, cache, sizeof cache, cpas, 0);
+    for (uint8_t n = 1; n <= GAUGE_OWN_MOST + 1; n++) {
+        key[0] = (uint8_t)(32 * n);
+        address[GAUGE_ADDRESS_LEN - 1] = n;
+        if (n == 1)
+            gauge_lent_own(l, key, 5000, address, 1);
+        else
+            CHECK(gauge_lent_pond(l, key, 5000, address) == (n <= GAUGE_OWN_MOST ? n : GAUGE_OWN_MOST));
+        size_t there = n <= GAUGE_OWN_MOST ? n : GAUGE_OWN_MOST;
+        l->cpas_len = there * GAUGE_CPAS_LEN(2);
+        CHECK(l->own_len == there * GAUGE_RECORD_LEN && gauge_lent_not_in_form(l) == GAUGE_PART_NONE);
+        l->cache_len = GAUGE_CACHE_LEN(HELD * there - 1);
+        CHECK(gauge_lent_not_in_form(l) == GAUGE_PART_CACHE);
+        l->cache_len = sizeof cache;
+    }
+    CHECK(len == sizeof cpas);
+    key[0] = 65; /* held, above the second own key and below the third */
+    gauge_record_put(cache, key, 5001, address, 1);
+    CHECK(gauge_lent_neighbours(l, key).number == GAUGE_NOT_OURS);
+    for (uint32_t i = 0; i < GAUGE_OWN_MOST; i++) {
+        const uint8_t *ours = l->own + GAUGE_CACHE_LEN(i);
+        struct gauge_answer a = gauge_lent_neighbours(l, ours);
+        CHECK(a.number == GAUGE_OK && a.first == (i > 1) && a.second == (i <= 1) && l->output[0] == 65);
+        a = gauge_lent_closest(l, key, 0, ours);
+        CHECK(a.number == GAUGE_OK && a.first == i && gauge_lent_told(l, a.first) == ours);
+        CHECK(gauge_lent_send(l, key, ours).number == GAUGE_OK && memcmp(l->output + 60, ours, GAUGE_KEY_LEN) == 0);
+    }
+    CHECK(gauge_lent_told(l, gauge_lent_closest(l, key, 0, key).first) == cache);
+    gauge_lent_own(l, key, 5000, address, 1); /* an own key that is held */
+    l->cpas_len = GAUGE_CPAS_LEN(2);
+    CHECK(l->own_len == GAUGE_RECORD_LEN && gauge_lent_not_in_form(l) == GAUGE_PART_CACHE);
 }
 
 /* Memory of a version before 1.3: the own record is cut by the header, the rest by the call. An own record has the first of the addresses given. */
@@ -264,7 +327,7 @@ static void texts(void)
     CHECK(strcmp(gauge_kind_text(5), gauge_kind_text(0)) == 0 && strcmp(gauge_kind_text(GAUGE_ACK), gauge_kind_text(0)) != 0);
     CHECK(strcmp(gauge_reading_text(3), gauge_reading_text(4)) != 0 && strcmp(gauge_reading_text(1), gauge_reading_text(2)) != 0);
     CHECK(strcmp(gauge_part_text(GAUGE_PART_CACHE), "the cache") == 0 && strcmp(gauge_part_text(GAUGE_PART_WAITING), "the waiting table") == 0);
-    CHECK(strcmp(GAUGE_VERSION, "1.4") == 0 && GAUGE_VERSION_NUMBER == 104);
+    CHECK(strcmp(GAUGE_VERSION, "1.5") == 0 && GAUGE_VERSION_NUMBER == 105);
 }
 
 static void hex(const uint8_t *bytes, size_t len)
@@ -277,7 +340,7 @@ static void hex(const uint8_t *bytes, size_t len)
 static void told(const char *what, const struct gauge_lent *l, uint32_t id, const uint8_t *of, size_t of_len, const uint8_t *bytes, size_t len)
 {
     printf("message %s %lu ", what, (unsigned long)id);
-    hex(l->own, sizeof l->own);
+    hex(l->own, l->own_len);
     printf(" ");
     hex(of, of_len);
     printf("- ");
@@ -336,6 +399,8 @@ int main(void)
 {
     find_each_other();
     parts();
+    several_cpas();
+    ponds();
     converted();
     texts();
     messages();

@@ -16,19 +16,19 @@ extern const char *const call_names[CALLS];
 /* What a slice is lent for: to be read; as memory that a host keeps from call to call; as the output. All but the first may be written. */
 enum use { TO_READ, TO_KEEP, TO_FILL };
 
-/* The slices: the name, its use, how many bytes it has where nothing else is said (by document 01; so many zeros are in form, but for an own record),
- * and the calls that are lent it. Memory that a host keeps stands in a list of its own, of which tests/nights/draft.h makes a night's memory too. */
+/* The slices: the name, its use, how many bytes it has where nothing else is said (by document 01; so many zeros are in form, but for an own record
+ * and the CPAs), and the calls that are lent it. Memory that a host keeps stands in a list of its own, of which tests/nights/draft.h makes a night's memory too. */
 #define IN(call) (1u << (call))
 #define LENT_MEMORIES(slice) \
     slice(cache, TO_KEEP, 1000, IN(RECEIVE) | IN(SEND) | IN(NEIGHBOURS) | IN(CLOSEST) | IN(SEARCH) | IN(CONVERT)) \
     slice(waiting, TO_KEEP, 2240, IN(RECEIVE) | IN(SEND) | IN(TICK) | IN(CONVERT))
 #define LENT_SLICES(slice) \
     slice(own, TO_READ, 100, IN(RECEIVE) | IN(SEND) | IN(TICK) | IN(NEIGHBOURS) | IN(CLOSEST) | IN(SEARCH) | IN(CONVERT)) \
-    slice(cpa, TO_READ, 1, IN(RECEIVE)) \
+    slice(cpas, TO_READ, 3, IN(RECEIVE)) \
     LENT_MEMORIES(slice) \
     slice(nonce, TO_READ, 16, IN(RECEIVE)) \
     slice(neighbour, TO_READ, 32, IN(SEND)) \
-    slice(key, TO_READ, 32, IN(RECEIVE) | IN(SEND) | IN(SEARCH)) \
+    slice(key, TO_READ, 32, IN(RECEIVE) | IN(SEND) | IN(NEIGHBOURS) | IN(SEARCH)) \
     slice(path, TO_READ, 0, IN(CLOSEST)) \
     slice(target, TO_READ, 32, IN(CLOSEST)) \
     slice(datagram, TO_READ, 0, IN(RECEIVE) | IN(LOOK) | IN(CARRY) | IN(CARRIED)) \

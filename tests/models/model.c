@@ -367,20 +367,57 @@ static bool record_form(const uint8_t *r, enum form most)
     return count >= 1 && count <= most && r[35] == 0 && zero(r + ADDRESSES + ADDRESS_LEN * count, ADDRESS_LEN * (4 - count));
 }
 
+/* "The own record becomes one to four, keys strictly increasing" (document 02, Wish 11). */
 static bool own_form(struct room own, enum form most)
 {
-    return own.len == RECORD_LEN && record_form(own.at, most);
+    if (own.len % RECORD_LEN != 0 || own.len < RECORD_LEN || own.len > OWN_MOST * RECORD_LEN)
+        return false;
+    for (size_t i = 0; i < own.len; i += RECORD_LEN)
+        if (!record_form(own.at + i, most) || (i > 0 && order(own.at + i - RECORD_LEN, own.at + i) >= 0))
+            return false;
+    return true;
 }
 
-static bool cache_form(const uint8_t *own, struct room cache, enum form most)
+/* The own record with this key, or NULL. */
+static const uint8_t *own_with(struct room own, const uint8_t *key)
 {
-    if (cache.len % RECORD_LEN != 0 || cache.len < CACHE_LEAST || cache.len > CACHE_MOST)
+    for (size_t i = 0; i < own.len; i += RECORD_LEN)
+        if (order(own.at + i, key) == 0)
+            return own.at + i;
+    return NULL;
+}
+
+/* "The host lends one for each": of the own records in order, each with its length before it, in two bytes, the least significant first. Where the
+ * CPA of the own record with this number begins, from 0; at the number of all of them, where the last one ends. NULL where one is out of form. */
+static const uint8_t *cpa_at(struct room cpas, size_t number)
+{
+    const uint8_t *p = cpas.at, *end = cpas.at + cpas.len;
+    for (; number > 0; number--) {
+        if (end - p < 2)
+            return NULL;
+        size_t length = p[0] + 256u * p[1];
+        if (length < 1 || length > CPA_MOST || (size_t)(end - p) - 2 < length)
+            return NULL;
+        p += 2 + length;
+    }
+    return p;
+}
+
+static bool cpas_form(struct room own, struct room cpas)
+{
+    return cpa_at(cpas, own.len / RECORD_LEN) == cpas.at + cpas.len;
+}
+
+/* "C is at least ten times their number; no cache key or inquiry is an own key." */
+static bool cache_form(struct room own, struct room cache, enum form most)
+{
+    if (cache.len % RECORD_LEN != 0 || cache.len < 10 * own.len || cache.len > CACHE_MOST)
         return false;
     for (size_t i = 0; i < cache.len; i += RECORD_LEN) {
         const uint8_t *r = cache.at + i;
         if (zero(r, RECORD_LEN))
             return zero(r, cache.len - i);
-        if (!record_form(r, most) || order(r, own) == 0)
+        if (!record_form(r, most) || own_with(own, r) != NULL)
             return false;
         if (i > 0 && order(r - RECORD_LEN, r) >= 0)
             return false;
@@ -388,9 +425,9 @@ static bool cache_form(const uint8_t *own, struct room cache, enum form most)
     return true;
 }
 
-static bool inquiry_form(const uint8_t *own, const uint8_t *table, const uint8_t *p, enum form most)
+static bool inquiry_form(struct room own, const uint8_t *table, const uint8_t *p, enum form most)
 {
-    if (!record_form(p + 40, most) || order(p + 8, p + 40) != 0 || order(p + 8, own) == 0)
+    if (!record_form(p + 40, most) || order(p + 8, p + 40) != 0 || own_with(own, p + 8) != NULL)
         return false;
     for (const uint8_t *before = table; before < p; before += PLACE_LEN)
         if (before[4] == 2 && order(before + 8, p + 8) == 0)
@@ -398,7 +435,7 @@ static bool inquiry_form(const uint8_t *own, const uint8_t *table, const uint8_t
     return true;
 }
 
-static bool waiting_form(const uint8_t *own, struct room waiting, enum form most)
+static bool waiting_form(struct room own, struct room waiting, enum form most)
 {
     if (waiting.len != WAITING_LEN)
         return false;
@@ -420,7 +457,6 @@ static bool waiting_form(const uint8_t *own, struct room waiting, enum form most
 
 struct work {
     const struct lent *lent;
-    const uint8_t *own;
     uint8_t cache[CACHE_MOST], waiting[WAITING_LEN], out[OUTPUT_LEN];
     size_t most, held, waits, written;
     uint32_t lengths[2];
@@ -431,7 +467,6 @@ static void begin(struct work *w, const struct lent *l)
 {
     memset(w, 0, sizeof *w);
     w->lent = l;
-    w->own = l->own.at;
 }
 
 static void copy_cache(struct work *w)
@@ -482,14 +517,51 @@ static void remove_key(struct work *w, const uint8_t *key)
         take_out(w, (size_t)(r - w->cache) / RECORD_LEN);
 }
 
-/* Of so many records, the place of the one farthest out on a side of our own key. */
-static size_t farthest(const uint8_t *own, uint8_t (*list)[RECORD_LEN], size_t n, bool side)
+/* The neighbour list of one of our keys, by the places of its keys among so many records: a side's, nearest first. Each is the nearest of those
+ * farther out than the one before. Gives how many, up to five. */
+static uint32_t list_side(const uint8_t *ours, const uint8_t *records, size_t n, bool side, size_t *places)
 {
+    uint8_t last[KEY_LEN] = {0}, far[KEY_LEN], least[KEY_LEN];
+    uint32_t listed = 0;
+    for (; listed < 5; listed++) {
+        bool any = false;
+        for (size_t i = 0; i < n; i++) {
+            const uint8_t *key = records + RECORD_LEN * i;
+            nearness(ours, key, far);
+            if (above(ours, key) != side || order(far, last) <= 0 || (any && order(far, least) >= 0))
+                continue;
+            any = true;
+            places[listed] = i;
+            memcpy(least, far, KEY_LEN);
+        }
+        if (!any)
+            break;
+        memcpy(last, least, KEY_LEN);
+    }
+    return listed;
+}
+
+/* Which of so many records stand in a neighbour list, of any of our keys. */
+static void mark_listed(struct room own, const uint8_t *records, size_t n, bool *listed)
+{
+    size_t places[5];
+    for (size_t i = 0; i < own.len; i += RECORD_LEN)
+        for (int side = 0; side < 2; side++)
+            for (uint32_t left = list_side(own.at + i, records, n, side, places); left > 0; left--)
+                listed[places[left - 1]] = true;
+}
+
+/* "Of the keys in no neighbour list, drop the one farthest round the ring from the first own key, the lower on a tie": its place. The records are in
+ * the order of their keys, so that the first of two equally far is the lower. */
+static size_t dropped(struct room own, const uint8_t *records, size_t n)
+{
+    bool listed[257] = {false};
     uint8_t far[KEY_LEN], most[KEY_LEN] = {0};
     size_t place = 0;
+    mark_listed(own, records, n, listed);
     for (size_t i = 0; i < n; i++) {
-        nearness(own, list[i], far);
-        if (above(own, list[i]) == side && order(far, most) > 0) {
+        closeness(own.at, records + RECORD_LEN * i, far);
+        if (!listed[i] && order(far, most) > 0) {
             place = i;
             memcpy(most, far, KEY_LEN);
         }
@@ -506,17 +578,14 @@ static void learn(struct work *w, const uint8_t *record)
         memcpy(same, record, RECORD_LEN);
         return;
     }
-    size_t n = 0, below = 0;
+    size_t n = 0;
     for (size_t i = 0; i < w->held && order(record_at(w, i), record) < 0; i++)
         memcpy(list[n++], record_at(w, i), RECORD_LEN);
     memcpy(list[n++], record, RECORD_LEN);
     for (size_t i = n - 1; i < w->held; i++)
         memcpy(list[n++], record_at(w, i), RECORD_LEN);
-    for (size_t i = 0; i < n; i++)
-        if (!above(w->own, list[i]))
-            below++;
     if (n > w->most) {
-        size_t gone = farthest(w->own, list, n, below <= n - below);
+        size_t gone = dropped(w->lent->own, list[0], n);
         n--;
         memmove(list[gone], list[gone + 1], RECORD_LEN * (n - gone));
     }
@@ -534,22 +603,26 @@ static bool on_path(const uint8_t *record, struct bytes path)
     return found;
 }
 
-/* "The own record is never skipped." */
+/* Of the record that is the closest so far, NULL for none, and another: the one to take. */
+static const uint8_t *closer(const uint8_t *target, const uint8_t *best, const uint8_t *other)
+{
+    uint8_t far[KEY_LEN], least[KEY_LEN];
+    if (best == NULL)
+        return other;
+    bool best_down = closeness(target, best, least), down = closeness(target, other, far);
+    return order(far, least) < 0 || (order(far, least) == 0 && down && !best_down) ? other : best;
+}
+
+/* "The own record is never skipped", and "every own record is a candidate". */
 static const uint8_t *closest(struct work *w, struct bytes path, const uint8_t *target)
 {
-    const uint8_t *best = w->own;
-    uint8_t far[KEY_LEN], least[KEY_LEN];
-    bool best_down = closeness(target, best, least);
-    for (size_t i = 0; i < w->held; i++) {
-        if (on_path(record_at(w, i), path))
-            continue;
-        bool down = closeness(target, record_at(w, i), far);
-        if (order(far, least) < 0 || (order(far, least) == 0 && down && !best_down)) {
-            best = record_at(w, i);
-            best_down = down;
-            memcpy(least, far, KEY_LEN);
-        }
-    }
+    struct room own = w->lent->own;
+    const uint8_t *best = NULL;
+    for (size_t i = 0; i < own.len; i += RECORD_LEN)
+        best = closer(target, best, own.at + i);
+    for (size_t i = 0; i < w->held; i++)
+        if (!on_path(record_at(w, i), path))
+            best = closer(target, best, record_at(w, i));
     return best;
 }
 
@@ -727,11 +800,12 @@ static void send_authority(struct work *w, uint32_t id, uint32_t to, size_t size
 
 /* What each message does: the number, with what it changes left in the copy. 15 is tested behind them, as the last in order. */
 
+/* "N is clear where the validate key is any of ours." */
 static void acknowledge(struct work *w, const struct message *m)
 {
     const uint8_t *d = w->lent->datagram.at;
     if (!m->d)
-        send_ack(w, w->lent->id, m->id, order(d + m->validate.at, w->own) != 0);
+        send_ack(w, w->lent->id, m->id, own_with(w->lent->own, d + m->validate.at) == NULL);
 }
 
 /* The record that a message's route entry has. Its versions and flags are no part of it; of two to four addresses "the first" is "kept" (document 02,
@@ -763,7 +837,7 @@ static uint32_t take_entry(struct work *w, const struct message *m)
     uint32_t given = w->lent->id;
     uint8_t record[RECORD_LEN];
     entry_record(w, m, record);
-    if (order(record, w->own) == 0)
+    if (own_with(w->lent->own, record) != NULL)
         return OWN_KEY;
     acknowledge(w, m);
     return ask_about(w, record, given + 1);
@@ -775,7 +849,7 @@ static uint32_t take_revocation(struct work *w, const struct message *m)
     const uint8_t *key = w->lent->key.at;
     if (verdict != 1)
         return UNTRUSTED;
-    if (order(key, w->own) == 0)
+    if (own_with(w->lent->own, key) != NULL)
         return OWN_KEY;
     remove_key(w, key);
     uint8_t *inquiry = inquiry_for(w, key);
@@ -812,13 +886,17 @@ static uint32_t take_ack(struct work *w, const struct message *m)
     return 0;
 }
 
+/* "INQUIRE says which CPA": that of the own record with the validate key. */
 static uint32_t answer_inquire(struct work *w, const struct message *m)
 {
-    struct room cpa = w->lent->cpa;
-    if (order(w->lent->datagram.at + m->validate.at, w->own) != 0)
+    struct room own = w->lent->own;
+    const uint8_t *ours = own_with(own, w->lent->datagram.at + m->validate.at);
+    if (ours == NULL)
         return NOT_OURS;
-    send_authority(w, w->lent->id, m->id, 12 + cpa.len);
-    put_field(w, 0x009B, cpa.at, cpa.len);
+    const uint8_t *cpa = cpa_at(w->lent->cpas, (size_t)(ours - own.at) / RECORD_LEN);
+    size_t length = cpa[0] + 256u * cpa[1];
+    send_authority(w, w->lent->id, m->id, 12 + length);
+    put_field(w, 0x009B, cpa + 2, length);
     return 0;
 }
 
@@ -833,7 +911,7 @@ static uint32_t answer_lookup(struct work *w, const struct message *m)
     const uint8_t *shown = closest(w, path, d + m->target.at);
     send_authority(w, reply, m->id, 52 + 16 * (size_t)shown[COUNT]);
     put_entry(w, shown);
-    if (m->entry.at == 0 || order(d + m->entry.at, w->own) == 0)
+    if (m->entry.at == 0 || own_with(w->lent->own, d + m->entry.at) != NULL)
         return 0;
     entry_record(w, m, record);
     return ask_about(w, record, reply + 1);
@@ -867,9 +945,9 @@ static uint32_t room_for(const struct work *w, uint32_t number)
 
 struct model_answer model_receive(const struct lent *l)
 {
-    if (!own_form(l->own, ONE_ADDRESS) || l->cpa.len < 1 || l->cpa.len > CPA_MOST || l->nonce.len != NONCE_LEN || l->key.len != KEY_LEN)
+    if (!own_form(l->own, ONE_ADDRESS) || !cpas_form(l->own, l->cpas) || l->nonce.len != NONCE_LEN || l->key.len != KEY_LEN)
         return refuse(MEMORY);
-    if (!cache_form(l->own.at, l->cache, ONE_ADDRESS) || !waiting_form(l->own.at, l->waiting, ONE_ADDRESS))
+    if (!cache_form(l->own, l->cache, ONE_ADDRESS) || !waiting_form(l->own, l->waiting, ONE_ADDRESS))
         return refuse(MEMORY);
     struct message m = read_message(l->major, read_only(l->datagram));
     if (m.number != 0)
@@ -892,14 +970,15 @@ struct model_answer model_send(const struct lent *l)
 {
     if (!own_form(l->own, ONE_ADDRESS) || l->neighbour.len != KEY_LEN || l->key.len != KEY_LEN)
         return refuse(MEMORY);
-    if (!cache_form(l->own.at, l->cache, ONE_ADDRESS) || !waiting_form(l->own.at, l->waiting, ONE_ADDRESS))
+    if (!cache_form(l->own, l->cache, ONE_ADDRESS) || !waiting_form(l->own, l->waiting, ONE_ADDRESS))
         return refuse(MEMORY);
     struct work w;
     begin(&w, l);
     copy_cache(&w);
     copy_waiting(&w);
-    const uint8_t *neighbour = l->neighbour.at;
-    const uint8_t *record = order(l->key.at, l->own.at) == 0 ? l->own.at : held(&w, l->key.at);
+    const uint8_t *neighbour = l->neighbour.at, *record = own_with(l->own, l->key.at);
+    if (record == NULL)
+        record = held(&w, l->key.at);
     if (held(&w, neighbour) == NULL || record == NULL)
         return refuse(NOT_OURS);
     uint32_t number = open_place(&w, l->id, 1, neighbour, NULL);
@@ -919,7 +998,7 @@ struct model_answer model_send(const struct lent *l)
 
 struct model_answer model_tick(const struct lent *l)
 {
-    if (!own_form(l->own, ONE_ADDRESS) || !waiting_form(l->own.at, l->waiting, ONE_ADDRESS))
+    if (!own_form(l->own, ONE_ADDRESS) || !waiting_form(l->own, l->waiting, ONE_ADDRESS))
         return refuse(MEMORY);
     if (l->output.len < TICK_LEN)
         return refuse(ROOM);
@@ -943,58 +1022,41 @@ struct model_answer model_tick(const struct lent *l)
     return a;
 }
 
-/* Up to five keys of a side, nearest first: each the nearest of those farther out than the one before. Gives how many. */
-static uint32_t list_side(struct work *w, bool side, uint8_t *to)
-{
-    uint8_t last[KEY_LEN] = {0}, far[KEY_LEN], least[KEY_LEN];
-    uint32_t n = 0;
-    for (; n < 5; n++) {
-        const uint8_t *next = NULL;
-        for (size_t i = 0; i < w->held; i++) {
-            nearness(w->own, record_at(w, i), far);
-            if (above(w->own, record_at(w, i)) != side || order(far, last) <= 0 || (next != NULL && order(far, least) >= 0))
-                continue;
-            next = record_at(w, i);
-            memcpy(least, far, KEY_LEN);
-        }
-        if (next == NULL)
-            break;
-        memcpy(to + KEY_LEN * n, next, KEY_LEN);
-        memcpy(last, least, KEY_LEN);
-    }
-    return n;
-}
-
+/* "Each has a neighbour list, asked for by its key (12 if not ours)." */
 struct model_answer model_neighbours(const struct lent *l)
 {
-    if (!own_form(l->own, ONE_ADDRESS) || !cache_form(l->own.at, l->cache, ONE_ADDRESS))
+    if (!own_form(l->own, ONE_ADDRESS) || !cache_form(l->own, l->cache, ONE_ADDRESS) || l->key.len != KEY_LEN)
         return refuse(MEMORY);
+    if (own_with(l->own, l->key.at) == NULL)
+        return refuse(NOT_OURS);
     if (l->output.len < LIST_LEN)
         return refuse(ROOM);
     struct work w;
+    size_t places[10];
     begin(&w, l);
     copy_cache(&w);
     struct model_answer a = {0, 0, 0};
-    a.first = list_side(&w, false, l->output.at);
-    a.second = list_side(&w, true, l->output.at + KEY_LEN * a.first);
+    a.first = list_side(l->key.at, w.cache, w.held, false, places);
+    a.second = list_side(l->key.at, w.cache, w.held, true, places + a.first);
+    for (size_t i = 0; i < a.first + a.second; i++)
+        memcpy(l->output.at + KEY_LEN * i, record_at(&w, places[i]), KEY_LEN);
     return a;
 }
 
 /* Document 02, Wish 2: "Whoever asks for the closest record now hands in the path: endpoints as on the wire, none allowed, 1 if not whole ones."
- * `first` tells the record: 0 our own, 4 and more those of the cache in their order; `second`, by Wish 8, the keys compared for the target. */
+ * `first` tells the record: 0 to 3 our own, 4 and more those of the cache, in their order; `second`, by Wish 8, the keys compared for the target. */
 struct model_answer model_closest(const struct lent *l)
 {
     if (!own_form(l->own, ONE_ADDRESS) || l->path.len % ENDPOINT_LEN != 0 || l->target.len != KEY_LEN)
         return refuse(MEMORY);
-    if (!cache_form(l->own.at, l->cache, ONE_ADDRESS))
+    if (!cache_form(l->own, l->cache, ONE_ADDRESS))
         return refuse(MEMORY);
     struct work w;
     begin(&w, l);
     copy_cache(&w);
-    const uint8_t *shown = closest(&w, read_only(l->path), l->target.at);
+    const uint8_t *shown = closest(&w, read_only(l->path), l->target.at), *ours = own_with(l->own, shown);
     struct model_answer a = {0, 0, 0};
-    if (shown != w.own)
-        a.first = 4 + (uint32_t)((size_t)(shown - w.cache) / RECORD_LEN);
+    a.first = (uint32_t)((size_t)(ours != NULL ? ours - l->own.at : shown - w.cache) / RECORD_LEN) + (ours != NULL ? 0 : 4);
     a.second = compared(&w, l->target.at);
     return a;
 }
@@ -1003,7 +1065,7 @@ struct model_answer model_closest(const struct lent *l)
  * order. */
 struct model_answer model_search(const struct lent *l)
 {
-    if (!own_form(l->own, ONE_ADDRESS) || l->key.len != KEY_LEN || !cache_form(l->own.at, l->cache, ONE_ADDRESS))
+    if (!own_form(l->own, ONE_ADDRESS) || l->key.len != KEY_LEN || !cache_form(l->own, l->cache, ONE_ADDRESS))
         return refuse(MEMORY);
     struct work w;
     begin(&w, l);
@@ -1023,11 +1085,11 @@ static void convert_record(uint8_t *r)
 }
 
 /* "A conversion turns an old cache and waiting table into the new form .. keys and order the same", with 1 for memory "not in the old". The own
- * record is lent for reading; a flood's record is all zero, and no record to convert. */
+ * records are lent for reading; a flood's record is all zero, and no record to convert. */
 struct model_answer model_convert(const struct lent *l)
 {
     struct model_answer a = {0, 0, 0};
-    if (!own_form(l->own, OLD) || !cache_form(l->own.at, l->cache, OLD) || !waiting_form(l->own.at, l->waiting, OLD))
+    if (!own_form(l->own, OLD) || !cache_form(l->own, l->cache, OLD) || !waiting_form(l->own, l->waiting, OLD))
         return refuse(MEMORY);
     for (size_t i = 0; i < l->cache.len && l->cache.at[i + COUNT] != 0; i += RECORD_LEN)
         convert_record(l->cache.at + i);

@@ -2,8 +2,8 @@
 #ifndef MODEL_NAMES_H
 #define MODEL_NAMES_H
 
-/* Document 01: "Lent memory", in bytes, and where in a record port, count and addresses stand; an endpoint of a path; the datagram; what a tick and
- * a list need. */
+/* Document 01: "Lent memory", in bytes, and where in a record port, count and addresses stand; an endpoint of a path; how many own records there may
+ * be (document 02, Wish 11); the datagram; what a tick and a list need. */
 enum {
     KEY_LEN = 32,
     NONCE_LEN = 16,
@@ -13,8 +13,8 @@ enum {
     ADDRESSES = 36,
     ADDRESS_LEN = 16,
     ENDPOINT_LEN = 18,
+    OWN_MOST = 4,
     CPA_MOST = 1024,
-    CACHE_LEAST = 1000,
     CACHE_MOST = 25600,
     PLACE_LEN = 140,
     PLACES = 16,

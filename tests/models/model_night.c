@@ -5,10 +5,11 @@
 #include <stdbool.h>
 #include <string.h>
 
-/* 02: "Start empty with C 64 and an output of 2,464 bytes"; "the own CPA is one zero byte". What a record says is lent from a copy of its body. */
+/* 02: "Start empty with C 64 and an output of 2,464 bytes"; "the own CPA is one zero byte", lent with its length before it; "a trace still has one
+ * own record". What a record says is lent from a copy of its body. */
 struct night {
     bool begun;
-    uint8_t own[RECORD_LEN], cpa[1], cache[64 * RECORD_LEN], waiting[WAITING_LEN], output[OUTPUT_LEN], body[65536];
+    uint8_t own[RECORD_LEN], cpas[3], cache[64 * RECORD_LEN], waiting[WAITING_LEN], output[OUTPUT_LEN], body[65536];
     struct lent lent;
 };
 
@@ -69,7 +70,8 @@ static void begin(struct night *n, const uint8_t *body)
     n->lent.major = body[0];
     n->lent.minor = body[1];
     n->lent.own = as_room(n->own, sizeof n->own);
-    n->lent.cpa = as_room(n->cpa, sizeof n->cpa);
+    n->cpas[0] = 1;
+    n->lent.cpas = as_room(n->cpas, sizeof n->cpas);
     n->lent.cache = as_room(n->cache, sizeof n->cache);
     n->lent.waiting = as_room(n->waiting, sizeof n->waiting);
     n->lent.output = as_room(n->output, sizeof n->output);

@@ -3,11 +3,11 @@
  *
  *   compare [plain] [CALLS [SEED]]     plain: a difference is told in one line, and not made shorter; without numbers, the nights of the gate
  *
- * A night is one gauge: an own key, a cache of C records, and calls one after the other on the memory that the calls before have left. Datagrams lean
- * on that memory (IDs that wait, keys held, the own key) and are damaged by byte, bit, cut and growth; the memory itself is damaged for one call in
- * every field, or is of the time before request 13, which only the conversion takes; each slice is lent with wrong lengths, and ends or begins at a
- * page that may not be touched. At the end a table tells how often each number was reached by each call and message: one that is possible and was
- * reached too seldom fails (tests/nights/reached.h), and so does one that is not possible and was reached.
+ * A night is one gauge: one to four own keys, a cache of C records, and calls one after the other on the memory that the calls before have left.
+ * Datagrams lean on that memory (IDs that wait, keys held, the own keys) and are damaged by byte, bit, cut and growth; the memory itself is damaged
+ * for one call in every field, or is of the time before request 13, which only the conversion takes; each slice is lent with wrong lengths, and ends
+ * or begins at a page that may not be touched. At the end a table tells how often each number was reached by each call and message: one that is
+ * possible and was reached too seldom fails (tests/nights/reached.h), and so does one that is not possible and was reached.
  *
  * With ALONE the model stands in for the archive too: so the sanitizers see it on a machine that can't link the archive. */
 #define _DEFAULT_SOURCE
@@ -173,12 +173,21 @@ static const char *differs_in(int i, const struct call *c, struct memory *m)
     return NULL;
 }
 
+/* Was the call lent the night's own keys? */
+static bool same_keys(const struct call *c)
+{
+    bool same = c->lent.own.len == own_len;
+    for (size_t i = 0; same && i < own_len; i += GAUGE_RECORD_LEN)
+        same = memcmp(c->lent.own.at + i, own + i, GAUGE_KEY_LEN) == 0;
+    return same;
+}
+
 /* The memory that an accepted call was lent stays as it left it; what was damaged for a refused one is as before, and so is all after a call with
- * another own key. */
+ * other own keys. */
 static void keep(const struct call *c, struct memory *m)
 {
     struct lent left = lent[ARCHIVE];
-    if (c->kind == LOOK || memcmp(c->lent.own.at, own, GAUGE_KEY_LEN) != 0)
+    if (c->kind == LOOK || !same_keys(c))
         return;
     for (int i = 0; i < SLICES; i++)
         if (!is_lent(i, c->kind))

@@ -6,8 +6,13 @@
 
 #define KINDS (LOOK + 1) /* those after it have their nights in tests/nights/readings.c */
 
+/* What of several own records was spoiled for a call, of which nothing else may be wrong: their order, their number so that C is below ten times it,
+ * or the CPAs. */
+enum hurt { UNHURT, HURT_ORDER, HURT_NUMBER, HURT_CPAS, HURTS };
+
 struct call {
     enum call_kind kind;
+    enum hurt hurt;
     uint8_t filled;
     bool front; /* slices begin where a page that may not be touched ends; otherwise they end where one begins */
     bool sound; /* nothing that is tested for form was damaged */

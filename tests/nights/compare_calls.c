@@ -4,7 +4,6 @@
 
 /* A cache of so many records or more begins full in most nights, as calls alone would not fill it, and the night ends before it is empty. */
 #define GREAT 255u
-#define LEAST_CACHE (GAUGE_RECORD_LEN * GAUGE_CACHE_LEAST)
 #define MOST_CACHE (GAUGE_RECORD_LEN * GAUGE_CACHE_MOST)
 
 /* Memory damaged, for one call. */
@@ -41,10 +40,11 @@ static void spoil_byte(const struct rows *r, uint8_t *row)
     }
 }
 
-/* A row exchanged with the next, or twice, or cleared, or with our own key, or with the key and record of another. */
+/* A row exchanged with the next, or twice, or cleared, or with a key of ours, or with the key and record of another. */
 static void spoil_row(const struct rows *r, uint8_t *row)
 {
     uint8_t other[GAUGE_PLACE_LEN];
+    const uint8_t *ours = some_own();
     bool last = (size_t)(row - spoiled) + r->width == r->len;
     size_t from = r->width * under(r->width * (r->used + 1) < r->len ? r->used + 1 : r->len / r->width);
     switch (under(5)) {
@@ -61,9 +61,9 @@ static void spoil_row(const struct rows *r, uint8_t *row)
         break;
     case 2: memset(row, 0, r->width); break;
     case 3:
-        memcpy(row + r->key_at, own, GAUGE_KEY_LEN);
+        memcpy(row + r->key_at, ours, GAUGE_KEY_LEN);
         if (r->again_at != 0 && row[4] == 2)
-            memcpy(row + r->again_at, own, GAUGE_KEY_LEN);
+            memcpy(row + r->again_at, ours, GAUGE_KEY_LEN);
         break;
     default: memmove(row + r->key_at, spoiled + from + r->key_at, r->width - r->key_at); break; /* its ID and kind kept */
     }
@@ -72,8 +72,8 @@ static void spoil_row(const struct rows *r, uint8_t *row)
 /* Another length, with the bytes as they are and zeros behind. */
 static size_t spoil_length(const struct rows *r)
 {
-    static const uint16_t lengths[] = {0, LEAST_CACHE - 100, LEAST_CACHE - 1, LEAST_CACHE, LEAST_CACHE + 1, LEAST_CACHE + 100, MOST_CACHE,
-                                       MOST_CACHE + 1, MOST_CACHE + 100};
+    const size_t least = GAUGE_CACHE_LEAST * own_len;
+    const size_t lengths[] = {0, least - 100, least - 1, least, least + 1, least + 100, MOST_CACHE, MOST_CACHE + 1, MOST_CACHE + 100};
     size_t rows = r->len / r->width;
     switch (under(3)) {
     case 0: return r->width == GAUGE_RECORD_LEN ? lengths[under(sizeof lengths / sizeof *lengths)] : r->len - r->width * under(rows);
@@ -142,10 +142,91 @@ static struct room aged_waiting(void)
 
 static struct room aged_own(void)
 {
-    memcpy(aged, own, GAUGE_RECORD_LEN);
-    if (percent(60))
-        more_addresses(aged);
-    return kept(aged, GAUGE_RECORD_LEN);
+    memcpy(aged, own, own_len);
+    for (size_t i = 0; i < own_len; i += GAUGE_RECORD_LEN)
+        if (percent(60))
+            more_addresses(aged + i);
+    return kept(aged, own_len);
+}
+
+/* Own records that are not as they were: a byte or a length; two exchanged, or the same twice; one more than there are, in its place or behind them;
+ * one less. */
+static void spoil_own(struct call *c)
+{
+    static const uint8_t fields[] = {34, 35, 52, 68, 84, 99, 0, 31};
+    uint8_t b[8 * GAUGE_RECORD_LEN] = {0}, *last = b + own_len - GAUGE_RECORD_LEN;
+    size_t len = own_len, from = GAUGE_RECORD_LEN * under(own_len / GAUGE_RECORD_LEN);
+    memcpy(b, c->lent.own.at, own_len);
+    switch (own_len == sizeof own && percent(25) ? 0 : under(own_len > GAUGE_RECORD_LEN ? 8 : 5)) {
+    case 0:
+        memcpy(b + own_len, b + from, GAUGE_RECORD_LEN); /* behind them, and perhaps in order; then there may be five, or too few held */
+        if (percent(70))
+            memset(b + own_len, 0xFF, GAUGE_KEY_LEN - 1);
+        len += GAUGE_RECORD_LEN;
+        c->hurt = own_len < sizeof own && now.cache_len < GAUGE_CACHE_LEAST * len && c->kind != RECEIVE ? HURT_NUMBER : UNHURT;
+        break;
+    case 1: len = wrong_length(own_len); break;
+    case 5:
+        memcpy(b, last, GAUGE_RECORD_LEN);
+        memcpy(last, c->lent.own.at, GAUGE_RECORD_LEN);
+        c->hurt = HURT_ORDER;
+        break;
+    case 6:
+        memcpy(last, last - GAUGE_RECORD_LEN, GAUGE_KEY_LEN);
+        c->hurt = HURT_ORDER;
+        break;
+    case 7: len -= GAUGE_RECORD_LEN; break;
+    default: {
+        size_t at = percent(50) ? fields[under(sizeof fields)] : under(GAUGE_RECORD_LEN);
+        b[from + at] = (uint8_t)under(6);
+    }
+    }
+    c->lent.own = kept(b, len);
+}
+
+/* CPAs out of form: none, one of a length that is too great or 0, cut short, with bytes behind, or one more or less than there are own records. */
+static void spoil_cpas(struct call *c)
+{
+    static uint8_t b[CPAS_MOST + 2 * GAUGE_CPAS_LEN(GAUGE_CPA_MOST)];
+    size_t len = c->lent.cpas.len, at = 0, which = under(own_len / GAUGE_RECORD_LEN);
+    memset(b, 0, sizeof b);
+    memcpy(b, c->lent.cpas.at, len);
+    for (size_t i = 0; i < which; i++)
+        at += GAUGE_CPAS_LEN(b[at] + 256u * b[at + 1]);
+    size_t whole = GAUGE_CPAS_LEN(b[at] + 256u * b[at + 1]);
+    c->hurt = HURT_CPAS;
+    switch (under(8)) {
+    case 0: len = 0; break;
+    case 1: len -= 1 + under(2); break;
+    case 2: len += 1 + under(3); break;
+    case 3: /* an empty one */
+        memmove(b + at + 2, b + at + whole, len - at - whole);
+        len -= whole - 2;
+        b[at] = b[at + 1] = 0;
+        break;
+    case 4: /* over 1,024, and so many bytes, with the others behind */
+        memmove(b + at + GAUGE_CPAS_LEN(GAUGE_CPA_MOST + 1), b + at + whole, len - at - whole);
+        len += GAUGE_CPAS_LEN(GAUGE_CPA_MOST + 1) - whole;
+        b[at] = 1;
+        b[at + 1] = 4;
+        break;
+    case 5: len = at; break; /* the ones before it */
+    case 6:
+        b[len] = 1;
+        len += GAUGE_CPAS_LEN(1); /* one more */
+        break;
+    default: /* its length the other way round, or one more or less */
+        if (percent(50)) {
+            uint8_t first = b[at];
+            b[at] = b[at + 1];
+            b[at + 1] = first;
+        } else {
+            b[at] = (uint8_t)(b[at] + 1 + 254 * under(2));
+        }
+        c->hurt = UNHURT;
+        break;
+    }
+    c->lent.cpas = kept(b, len);
 }
 
 /* All that a conversion is lent; to another call one of them, which is then refused if it is what it seems. */
@@ -174,19 +255,12 @@ static void damage_call(struct call *c)
     struct rows places = {now.waiting_len, GAUGE_PLACE_LEN, waits(), 8, 40, 40 + GAUGE_RECORD_COUNT};
     memset(b, 0, sizeof b);
     c->sound = false;
-    switch (under(c->kind == CONVERT ? 7 : 11)) {
+    switch (under(c->kind == CONVERT ? 8 : 12)) {
     case 0: case 1: case 2: c->lent.cache = spoil(lent_or(c->lent.cache, now.cache), &records); break;
     case 3: case 4: case 5: c->lent.waiting = spoil(lent_or(c->lent.waiting, now.waiting), &places); break;
-    case 6: {
-        static const uint8_t fields[] = {34, 35, 52, 68, 84, 99, 0, 31};
-        memcpy(b, c->lent.own.at, GAUGE_RECORD_LEN);
-        size_t at = percent(50) ? fields[under(sizeof fields)] : under(GAUGE_RECORD_LEN);
-        b[at] = (uint8_t)under(6);
-        c->lent.own = kept(b, percent(70) ? GAUGE_RECORD_LEN : wrong_length(GAUGE_RECORD_LEN));
-        break;
-    }
-    case 7: c->lent.cpa = kept(b, percent(40) ? 0 : GAUGE_CPA_MOST + under(3)); break;
-    case 8: case 9: age_call(c); break;
+    case 6: case 7: spoil_own(c); break;
+    case 8: spoil_cpas(c); break;
+    case 9: case 10: age_call(c); break;
     default:
         small = c->kind == CLOSEST ? &c->lent.target : !percent(50) ? &c->lent.key : c->kind == SEND ? &c->lent.neighbour : &c->lent.nonce;
         if (c->kind == CLOSEST && percent(60))
@@ -234,7 +308,8 @@ static enum call_kind some_kind(void)
 
 void make_call(struct call *c)
 {
-    uint8_t b[GAUGE_CPA_MOST], key[GAUGE_KEY_LEN];
+    static uint8_t b[CPAS_MOST];
+    uint8_t key[GAUGE_KEY_LEN];
     memset(c, 0, sizeof *c);
     c->kind = some_kind();
     c->lent = lend_gauge();
@@ -245,10 +320,11 @@ void make_call(struct call *c)
     c->lent.id = some_id();
     c->lent.verdict = percent(90) ? 1 : percent(50) ? under(4) : percent(50) ? 257 : (uint32_t)chance();
     if (percent(10))
-        some_rest(own);
-    c->lent.own = kept(own, sizeof own);
-    fill(b, sizeof b);
-    c->lent.cpa = kept(b, percent(90) ? own_cpa : percent(30) ? GAUGE_CPA_MOST : percent(30) ? 1 : 1 + under(GAUGE_CPA_MOST));
+        some_rest(own + GAUGE_RECORD_LEN * under(own_len / GAUGE_RECORD_LEN));
+    c->lent.own = kept(own, own_len);
+    size_t cpas_len = some_cpas(b);
+    c->lent.cpas = kept(b, cpas_len);
+    fill(b, GAUGE_NONCE_LEN);
     c->lent.nonce = kept(b, GAUGE_NONCE_LEN);
     draft_message(key);
     if (c->kind == LOOK && percent(20))
@@ -260,6 +336,8 @@ void make_call(struct call *c)
         c->lent.neighbour = kept(b, GAUGE_KEY_LEN);
         c->lent.key = kept(key, GAUGE_KEY_LEN);
     }
+    if (c->kind == NEIGHBOURS && percent(80))
+        c->lent.key = kept(some_own(), GAUGE_KEY_LEN);
     if (c->kind == CLOSEST) {
         size_t len = draft_closest(b, key);
         c->lent.path = kept(b, len);
@@ -291,7 +369,7 @@ static void begin_cache(size_t most)
         uint8_t *row = now.cache, *end = now.cache + now.cache_len;
         while (row < end && row[GAUGE_RECORD_COUNT] != 0 && memcmp(row, record, GAUGE_KEY_LEN) < 0)
             row += GAUGE_RECORD_LEN;
-        if (memcmp(record, own, GAUGE_KEY_LEN) == 0 || (row[GAUGE_RECORD_COUNT] != 0 && memcmp(row, record, GAUGE_KEY_LEN) == 0))
+        if (is_own(record) || (row[GAUGE_RECORD_COUNT] != 0 && memcmp(row, record, GAUGE_KEY_LEN) == 0))
             continue;
         memmove(row + GAUGE_RECORD_LEN, row, GAUGE_RECORD_LEN * held() - (size_t)(row - now.cache));
         memcpy(row, record, GAUGE_RECORD_LEN);
@@ -310,7 +388,7 @@ static void begin_waiting(void)
         for (size_t i = 0; i < n; i++)
             if (now.waiting[GAUGE_PLACE_LEN * i + 4] == 2 && memcmp(now.waiting + GAUGE_PLACE_LEN * i + 8, place + 8, GAUGE_KEY_LEN) == 0)
                 inquiry = false;
-        if (memcmp(place + 8, own, GAUGE_KEY_LEN) == 0)
+        if (is_own(place + 8))
             inquiry = false;
         for (int k = 0; k < 4; k++)
             place[k] = (uint8_t)(id >> 8 * k);
@@ -325,12 +403,16 @@ static void begin_waiting(void)
     }
 }
 
+/* One own record in half of the nights, and often as few records in the cache as their number allows. */
 size_t begin_night(void)
 {
     static const uint16_t sizes[] = {20, 31, 64};
-    size_t most = percent(25) ? GREAT + under(2) : percent(10) ? sizes[under(3)] : 10 + under(8);
+    size_t ponds = percent(50) ? 1 : 2 + under(GAUGE_OWN_MOST - 1), least = GAUGE_CACHE_LEAST * ponds;
+    size_t most = percent(25) ? GREAT + under(2) : percent(10) ? sizes[under(3)] : least + under(8);
+    if (most < least)
+        most = least;
     begin_memory(most);
-    begin_gauge();
+    begin_gauge(ponds);
     if (most >= GREAT || percent(50))
         begin_cache(most);
     if (percent(60))

@@ -26,7 +26,12 @@ static uint32_t possible(int kind, int message)
         return looked[message];
     if (message != NONE)
         return 0;
-    return kind == SEND ? SENDS : BIT(GAUGE_OK) | BIT(GAUGE_MEMORY) | (kind == CLOSEST || kind == SEARCH || kind == CONVERT ? 0 : BIT(GAUGE_ROOM));
+    if (kind == SEND)
+        return SENDS;
+    uint32_t always = BIT(GAUGE_OK) | BIT(GAUGE_MEMORY);
+    if (kind == CLOSEST || kind == SEARCH || kind == CONVERT)
+        return always;
+    return kind == TICK ? always | BIT(GAUGE_ROOM) : always | BIT(GAUGE_NOT_OURS) | BIT(GAUGE_ROOM);
 }
 
 /* What an accepted call did, by what it left and wrote. */
@@ -36,7 +41,9 @@ enum { JOINED, REPLACED, OTHER_DROPPED, SELF_DROPPED, BOTH, ACK_ONLY, INQUIRE_ON
        NEAREST_BARE, NEAREST_256, MORE_SAME, MORE_SAME_LOOKUP, MORE_ASKED, MORE_ASKED_LOOKUP, MOVED, MOVED_LOOKUP, OLD_REFUSED,
        CONVERTED, CONVERTED_SOME, CONVERTED_NONE, CONVERTED_INQUIRY, CONVERTED_FLOOD, CONVERTED_OWN, CONVERTED_256, NOT_CONVERTED,
        SOUGHT_HELD, SOUGHT_GAP, SOUGHT_OWN, SOUGHT_EMPTY, SOUGHT_BELOW, SOUGHT_ABOVE, SOUGHT_AT_ONCE, SOUGHT_LAST, SOUGHT_256, SOUGHT_NINE,
-       NEAREST_NONE, NEAREST_NINE, DONE };
+       NEAREST_NONE, NEAREST_NINE,
+       OWN_TWO, OWN_THREE, OWN_FOUR, LATER_CPA, LATER_N, LATER_FLOODED, LATER_REVOKED, LATER_ENTRY, LATER_SENT, LATER_LIST, LATER_SHOWN,
+       LATER_NEAREST, LIST_SHARED, DROPPED_NEARER, DROPPED_TIE, DROPPED_LEAST, ORDER_REFUSED, NUMBER_REFUSED, CPAS_REFUSED, DONE };
 static const char *const done_names[] = {
     "learned: joined", "learned: replaced", "learned: another dropped", "learned: newcomer dropped", "FLOOD: ACK and INQUIRE", "FLOOD: ACK alone",
     "FLOOD: INQUIRE alone", "FLOOD: nothing sent", "ACK sent with N", "INQUIRE with ID 0", "revoked: key removed", "revoked: inquiry freed",
@@ -51,7 +58,11 @@ static const char *const done_names[] = {
     "convert: some records old", "convert: nothing to turn", "convert: old inquiry", "convert: flood beside one", "convert: own record old",
     "convert: 256 records", "convert: refused when old", "search: held", "search: between two", "search: our own key", "search: none held",
     "search: below all", "search: above all", "search: held, found at once", "search: held, found last", "search: 256th record",
-    "search: held, nine compared", "closest: none compared", "closest: nine compared"};
+    "search: held, nine compared", "closest: none compared", "closest: nine compared",
+    "two own records", "three own records", "four own records", "INQUIRE: a later CPA", "ACK sent, a later key", "FLOOD: a later own key",
+    "revoked: a later own key", "LOOKUP: entry, later own key", "send: a later own record", "list: of a later own key", "LOOKUP: later own record",
+    "closest: later own record", "list: a key in two of ours", "learned: farthest is listed", "learned: tie of the farthest",
+    "learned: into ten for each", "own records out of order", "C below ten for each", "CPAs out of form"};
 static unsigned long done[DONE];
 
 static size_t rows_used(const uint8_t *p, size_t len, size_t width, size_t mark)
@@ -88,22 +99,49 @@ static bool dropped_between(const struct memory *before, size_t was, const uint8
     return first_stays && last_stays;
 }
 
-/* A LOOKUP's answer: whose record is shown; is its key nearer across the end; does a key as far from the target on its other side stand in the cache,
- * or is our own? */
-static void count_shown(const uint8_t *own_key, const uint8_t *target, const uint8_t *shown, const struct memory *before, size_t was)
+/* Which of the own records that a call was lent has this key, from 0; as many as there are where none has. */
+static size_t own_place(const struct call *c, const uint8_t *key)
 {
-    uint8_t other[GAUGE_KEY_LEN];
+    size_t i = 0;
+    while (GAUGE_RECORD_LEN * i < c->lent.own.len && memcmp(c->lent.own.at + GAUGE_RECORD_LEN * i, key, GAUGE_KEY_LEN) != 0)
+        i++;
+    return i;
+}
+
+static bool is_lent_own(const struct call *c, const uint8_t *key)
+{
+    return GAUGE_RECORD_LEN * own_place(c, key) < c->lent.own.len;
+}
+
+/* Is it the key of an own record, and not of the first? */
+static bool is_later(const struct call *c, const uint8_t *key)
+{
+    return is_lent_own(c, key) && own_place(c, key) > 0;
+}
+
+/* As far from a point as a key, on its other side. */
+static void other_side(const uint8_t *point, const uint8_t *key, uint8_t *other)
+{
     int sum = 0;
     for (int i = 31; i >= 0; i--) {
-        sum += 2 * target[i] - shown[i];
+        sum += 2 * point[i] - key[i];
         other[i] = (uint8_t)(sum & 0xFF);
         sum = (sum - other[i]) / 256;
     }
-    bool tie = memcmp(other, own_key, GAUGE_KEY_LEN) == 0;
+}
+
+/* A LOOKUP's answer: whose record is shown; is its key nearer across the end; does a key as far from the target on its other side stand in the cache,
+ * or is one of ours? */
+static void count_shown(const struct call *c, const uint8_t *target, const uint8_t *shown, const struct memory *before, size_t was)
+{
+    uint8_t other[GAUGE_KEY_LEN];
+    other_side(target, shown, other);
+    bool tie = is_lent_own(c, other);
     for (size_t i = 0; i < was; i++)
         tie = tie || memcmp(other, before->cache + GAUGE_RECORD_LEN * i, GAUGE_KEY_LEN) == 0;
     tie = tie && memcmp(other, shown, GAUGE_KEY_LEN) != 0;
-    done[memcmp(shown, own_key, GAUGE_KEY_LEN) == 0 ? SHOWN_OWN : SHOWN_HELD]++;
+    done[is_lent_own(c, shown) ? SHOWN_OWN : SHOWN_HELD]++;
+    done[LATER_SHOWN] += is_later(c, shown);
     done[SHOWN_256] += was == GAUGE_CACHE_MOST && memcmp(shown, before->cache + GAUGE_RECORD_LEN * (GAUGE_CACHE_MOST - 1), GAUGE_KEY_LEN) == 0;
     done[SHOWN_END] += (target[0] < shown[0] ? shown[0] - target[0] : target[0] - shown[0]) > 128;
     done[TIE] += tie;
@@ -126,16 +164,17 @@ static uint32_t without_path(const struct call *c, const struct memory *before, 
 static void count_passed(uint32_t first, uint32_t shown, size_t was)
 {
     size_t steps = shown > first ? shown - first : first - shown;
+    bool own_shown = shown < GAUGE_CLOSEST_HELD, own_first = first < GAUGE_CLOSEST_HELD;
     done[PASSED] += shown != first;
-    done[PASSED_MANY] += shown != 0 && first != 0 && steps >= 10 && was - steps >= 10;
-    done[PASSED_FOR_OWN] += shown == 0 && first != 0;
+    done[PASSED_MANY] += !own_shown && !own_first && steps >= 10 && was - steps >= 10;
+    done[PASSED_FOR_OWN] += own_shown && !own_first;
 }
 
-static uint32_t place_of(const uint8_t *key, const uint8_t *own_key, const struct memory *before)
+static uint32_t place_of(const uint8_t *key, const struct call *c, const struct memory *before)
 {
     uint32_t at = 0;
-    if (memcmp(key, own_key, GAUGE_KEY_LEN) == 0)
-        return 0;
+    if (is_lent_own(c, key))
+        return (uint32_t)own_place(c, key);
     while (memcmp(before->cache + GAUGE_RECORD_LEN * at, key, GAUGE_KEY_LEN) != 0)
         at++;
     return GAUGE_CLOSEST_HELD + at;
@@ -151,7 +190,8 @@ static void count_asked(const struct call *c, const uint32_t *answer, const stru
         return;
     for (const uint8_t *p = before->waiting; p < before->waiting + before->waiting_len; p += GAUGE_PLACE_LEN)
         waited = waited || (p[4] == 2 && memcmp(p + 8, key, GAUGE_KEY_LEN) == 0);
-    done[answer[2] != 0 ? ASKED : memcmp(key, c->lent.own.at, GAUGE_KEY_LEN) == 0 ? ENTRY_OWN : waited ? ENTRY_WAITS : ENTRY_SAME]++;
+    done[answer[2] != 0 ? ASKED : is_lent_own(c, key) ? ENTRY_OWN : waited ? ENTRY_WAITS : ENTRY_SAME]++;
+    done[LATER_ENTRY] += is_later(c, key);
     done[ASKED_WRAPPED] += answer[2] != 0 && c->lent.id == UINT32_MAX;
 }
 
@@ -191,7 +231,7 @@ static bool has_old(const struct call *c, const struct memory *before)
     lend_memory(&l, &m);
     return (is_lent(LENT_cache, c->kind) && old_in(l.cache, GAUGE_RECORD_LEN, GAUGE_RECORD_COUNT) > 0)
            || (is_lent(LENT_waiting, c->kind) && old_in(l.waiting, GAUGE_PLACE_LEN, 40 + GAUGE_RECORD_COUNT) > 0)
-           || (l.own.len == GAUGE_RECORD_LEN && l.own.at[GAUGE_RECORD_COUNT] > 1);
+           || old_in(l.own, GAUGE_RECORD_LEN, GAUGE_RECORD_COUNT) > 0;
 }
 
 /* A conversion, by what it was lent. */
@@ -208,7 +248,7 @@ static void count_converted(const struct call *c)
     done[CONVERTED_NONE] += old == 0 && inquiries == 0 && records > 0;
     done[CONVERTED_INQUIRY] += inquiries > 0;
     done[CONVERTED_FLOOD] += inquiries > 0 && flood;
-    done[CONVERTED_OWN] += c->lent.own.at[GAUGE_RECORD_COUNT] > 1;
+    done[CONVERTED_OWN] += old_in(c->lent.own, GAUGE_RECORD_LEN, GAUGE_RECORD_COUNT) > 0;
     done[CONVERTED_256] += records == GAUGE_CACHE_MOST && old > 0;
 }
 
@@ -221,7 +261,7 @@ static uint32_t digits(size_t n)
 static void count_sought(const struct call *c, const uint32_t *answer, const struct memory *before, size_t was)
 {
     const uint8_t *key = c->lent.key.at, *last = before->cache + GAUGE_RECORD_LEN * (was > 0 ? was - 1 : 0);
-    done[SOUGHT_OWN] += memcmp(key, c->lent.own.at, GAUGE_KEY_LEN) == 0;
+    done[SOUGHT_OWN] += is_lent_own(c, key);
     if (answer[1] != 0) {
         done[SOUGHT_HELD]++;
         done[SOUGHT_AT_ONCE] += answer[2] == 1 && was > 1;
@@ -234,8 +274,76 @@ static void count_sought(const struct call *c, const uint32_t *answer, const str
     done[was == 0 ? SOUGHT_EMPTY : below ? SOUGHT_BELOW : above ? SOUGHT_ABOVE : SOUGHT_GAP]++;
 }
 
-static void count_learned(const uint8_t *key, const struct memory *before, size_t was)
+static bool in_cache(const uint8_t *key, const uint8_t *cache, size_t records)
 {
+    for (size_t i = 0; i < records; i++)
+        if (memcmp(cache + GAUGE_RECORD_LEN * i, key, GAUGE_KEY_LEN) == 0)
+            return true;
+    return false;
+}
+
+static void minus(const uint8_t *a, const uint8_t *b, uint8_t *result)
+{
+    int borrow = 0;
+    for (int i = 31; i >= 0; i--) {
+        int digit = a[i] - b[i] - borrow;
+        borrow = digit < 0;
+        result[i] = (uint8_t)(digit + 256 * borrow);
+    }
+}
+
+/* How far a key is from our first, the shorter way round. */
+static void from_first(const struct call *c, const uint8_t *key, uint8_t *far)
+{
+    uint8_t up[GAUGE_KEY_LEN], down[GAUGE_KEY_LEN];
+    minus(key, c->lent.own.at, up);
+    minus(c->lent.own.at, key, down);
+    memcpy(far, memcmp(up, down, GAUGE_KEY_LEN) < 0 ? up : down, GAUGE_KEY_LEN);
+}
+
+/* Does a key stand in a neighbour list, of any of our keys or of all but one (NULL for none)? By the model, on the memory of now. */
+static bool is_listed(const struct call *c, const uint8_t *but, const uint8_t *key)
+{
+    static struct memory m;
+    uint8_t output[GAUGE_LIST_LEN];
+    struct lent l = c->lent;
+    bool listed = false;
+    copy_memory(&m, &now);
+    l.cache = as_room(m.cache, m.cache_len);
+    l.output = as_room(output, sizeof output);
+    for (size_t i = 0; i < c->lent.own.len; i += GAUGE_RECORD_LEN) {
+        l.key = as_room(c->lent.own.at + i, GAUGE_KEY_LEN);
+        struct model_answer a = model_neighbours(&l);
+        bool other = but == NULL || memcmp(c->lent.own.at + i, but, GAUGE_KEY_LEN) != 0;
+        for (size_t k = 0; other && k < a.first + a.second; k++)
+            listed = listed || memcmp(key, output + GAUGE_KEY_LEN * k, GAUGE_KEY_LEN) == 0;
+    }
+    return listed;
+}
+
+/* A key was dropped for a newcomer: does one stay that is farther from our first, as it stands in a list; one that is as far and stands in none? */
+static void count_dropped(const struct call *c, const uint8_t *newcomer, const struct memory *before, size_t was)
+{
+    const uint8_t *gone = newcomer;
+    uint8_t far[GAUGE_KEY_LEN], other[GAUGE_KEY_LEN];
+    bool nearer = false;
+    for (size_t i = 0; i < was; i++)
+        if (!in_cache(before->cache + GAUGE_RECORD_LEN * i, now.cache, was))
+            gone = before->cache + GAUGE_RECORD_LEN * i;
+    from_first(c, gone, far);
+    for (size_t i = 0; i < was; i++) {
+        from_first(c, now.cache + GAUGE_RECORD_LEN * i, other);
+        nearer = nearer || memcmp(other, far, GAUGE_KEY_LEN) > 0;
+    }
+    other_side(c->lent.own.at, gone, other);
+    done[DROPPED_NEARER] += nearer;
+    done[DROPPED_TIE] += memcmp(other, gone, GAUGE_KEY_LEN) != 0 && in_cache(other, now.cache, was) && !is_listed(c, NULL, other);
+    done[DROPPED_LEAST] += before->cache_len == GAUGE_CACHE_LEAST * c->lent.own.len;
+}
+
+static void count_learned(const struct call *c, const struct memory *before, size_t was)
+{
+    const uint8_t *key = c->lent.key.at;
     bool same = memcmp(before->cache, now.cache, now.cache_len) == 0, there = false;
     size_t most = before->cache_len / GAUGE_RECORD_LEN;
     for (size_t i = 0; i < was; i++)
@@ -244,6 +352,14 @@ static void count_learned(const uint8_t *key, const struct memory *before, size_
     done[FULL_255] += !there && was == most && most == GAUGE_CACHE_MOST - 1;
     done[FULL_256] += !there && was == most && most == GAUGE_CACHE_MOST;
     done[BETWEEN] += !there && held() == was && !same && dropped_between(before, was, key);
+    if (!there && held() == was)
+        count_dropped(c, key, before, was);
+}
+
+/* A neighbour list of one of several: is its first key in that of another too? */
+static bool is_shared(const struct call *c, const uint8_t *keys, size_t n)
+{
+    return n > 0 && is_listed(c, c->lent.key.at, keys);
 }
 
 /* A FLOOD with a route entry: an ACK has 20 or 26 bytes, an INQUIRE 76. */
@@ -264,11 +380,15 @@ static void count_done(const struct call *c, int message, const uint32_t *answer
     }
     if (c->kind == NEIGHBOURS) {
         done[FIVES] += answer[1] == 5 && answer[2] == 5;
-        done[LIST_END] += across_end(c->lent.own.at, out, answer[1], answer[2]);
-        done[LIST_OPPOSITE] += has_opposite(c->lent.own.at, out, answer[1] + answer[2]);
+        done[LIST_END] += across_end(c->lent.key.at, out, answer[1], answer[2]);
+        done[LIST_OPPOSITE] += has_opposite(c->lent.key.at, out, answer[1] + answer[2]);
+        done[LATER_LIST] += is_later(c, c->lent.key.at);
+        done[LIST_SHARED] += is_shared(c, out, answer[1] + answer[2]);
     }
+    done[LATER_SENT] += c->kind == SEND && is_later(c, c->lent.key.at);
     if (c->kind == CLOSEST) {
-        done[answer[1] == 0 ? NEAREST_OWN : NEAREST_HELD]++;
+        done[answer[1] < GAUGE_CLOSEST_HELD ? NEAREST_OWN : NEAREST_HELD]++;
+        done[LATER_NEAREST] += answer[1] > 0 && answer[1] < GAUGE_CLOSEST_HELD;
         done[NEAREST_BARE] += c->lent.path.len == 0;
         done[NEAREST_256] += answer[1] == GAUGE_CLOSEST_HELD + GAUGE_CACHE_MOST - 1;
         count_passed(without_path(c, before, c->lent.target.at), answer[1], was);
@@ -279,9 +399,13 @@ static void count_done(const struct call *c, int message, const uint32_t *answer
         count_sought(c, answer, before, was);
     if (c->kind != RECEIVE)
         return;
+    for (size_t n = 2; n <= GAUGE_OWN_MOST; n++)
+        done[OWN_TWO + n - 2] += c->lent.own.len == GAUGE_RECORD_LEN * n;
     done[N_SET] += (message == ENTRY || message == REVOKE) && answer[1] == 26;
+    done[LATER_N] += (message == ENTRY || message == REVOKE) && answer[1] == 20 && is_later(c, c->lent.datagram.at + 24);
+    done[LATER_CPA] += message == INQUIRE && is_later(c, c->lent.datagram.at + 24);
     if (message == AUTHORITY)
-        count_learned(c->lent.key.at, before, was);
+        count_learned(c, before, was);
     if (message == ENTRY)
         count_entry(c, answer);
     if (message == REVOKE) {
@@ -293,10 +417,19 @@ static void count_done(const struct call *c, int message, const uint32_t *answer
         done[is < was ? N_REMOVED : N_CLEAR]++;
     if (message == LOOKUP) {
         uint8_t *target = c->lent.datagram.at + 28;
-        count_shown(c->lent.own.at, target, out + 40, before, was);
-        count_passed(without_path(c, before, target), place_of(out + 40, c->lent.own.at, before), was);
+        count_shown(c, target, out + 40, before, was);
+        count_passed(without_path(c, before, target), place_of(out + 40, c, before), was);
         count_asked(c, answer, before);
     }
+}
+
+/* What was refused for several own records: a later one's key, or what was spoiled of them. */
+static void count_refused(const struct call *c, int message, uint32_t number)
+{
+    done[LATER_FLOODED] += number == GAUGE_OWN_KEY && message == ENTRY && is_later(c, c->lent.datagram.at + model_look(&c->lent).entry.at);
+    done[LATER_REVOKED] += number == GAUGE_OWN_KEY && message == REVOKE && is_later(c, c->lent.key.at);
+    if (number == GAUGE_MEMORY && c->hurt != UNHURT)
+        done[ORDER_REFUSED + (int)c->hurt - HURT_ORDER]++;
 }
 
 /* Was the call lent the present memory, and none that was damaged for it? */
@@ -313,6 +446,7 @@ void count_call(const struct call *c, const uint32_t *answer, const uint8_t *out
 {
     int message = message_in(c);
     count_number(&reached[c->kind][message], answer[0]);
+    count_refused(c, message, answer[0]);
     if (answer[0] == GAUGE_MEMORY && c->aged && has_old(c, before))
         done[c->kind == CONVERT ? NOT_CONVERTED : OLD_REFUSED]++;
     if (answer[0] == 0 && c->kind == CONVERT)

@@ -53,9 +53,9 @@ void flip_bit(uint8_t *p, size_t n)
 
 /* The night's gauge, and keys that are worth a try. */
 
-uint8_t own[GAUGE_RECORD_LEN];
+uint8_t own[GAUGE_OWN_MOST * GAUGE_RECORD_LEN];
+size_t own_len;
 struct memory now;
-size_t own_cpa;
 uint8_t own_major, own_minor;
 unsigned ticks, answers;
 
@@ -67,15 +67,44 @@ void begin_memory(size_t records)
     now.cache_len = GAUGE_CACHE_LEN(records);
 }
 
+const uint8_t *some_own(void)
+{
+    return own + GAUGE_RECORD_LEN * under(own_len / GAUGE_RECORD_LEN);
+}
+
+bool is_own(const uint8_t *key)
+{
+    bool ours = false;
+    for (size_t i = 0; i < own_len; i += GAUGE_RECORD_LEN)
+        ours = ours || memcmp(own + i, key, GAUGE_KEY_LEN) == 0;
+    return ours;
+}
+
+static size_t own_cpa; /* how long one mostly is in this night */
+
+size_t some_cpas(uint8_t *cpas)
+{
+    size_t len = 0;
+    for (size_t i = 0; i < own_len; i += GAUGE_RECORD_LEN) {
+        size_t n = percent(90) ? own_cpa : percent(30) ? GAUGE_CPA_MOST : percent(30) ? 1 : 1 + under(GAUGE_CPA_MOST);
+        cpas[len] = (uint8_t)(n & 255);
+        cpas[len + 1] = (uint8_t)(n >> 8);
+        fill(cpas + len + 2, n);
+        len += GAUGE_CPAS_LEN(n);
+    }
+    return len;
+}
+
 struct lent lend_gauge(void)
 {
-    static uint8_t zeros[GAUGE_CPA_MOST];
+    static uint8_t zeros[GAUGE_CPA_MOST], cpas[] = {1, 0, 0, 1, 0, 0, 1, 0, 0, 1, 0, 0};
     struct lent l;
     memset(&l, 0, sizeof l);
     for (int i = 0; i < SLICES; i++)
         if (slices[i].use == TO_READ)
             *slice_in(&l, i) = as_room(zeros, slices[i].usual);
-    l.own = as_room(own, sizeof own);
+    l.own = as_room(own, own_len);
+    l.cpas = as_room(cpas, GAUGE_CPAS_LEN(1) * (own_len / GAUGE_RECORD_LEN));
     l.major = own_major;
     l.minor = own_minor;
     return l;
@@ -165,10 +194,10 @@ static void edge_key(uint8_t *key)
     shift(key, little());
 }
 
-/* A key near to the point just opposite of our own. */
+/* A key near to the point just opposite of one of our own. */
 static void opposite_key(uint8_t *key)
 {
-    memcpy(key, own, GAUGE_KEY_LEN);
+    memcpy(key, some_own(), GAUGE_KEY_LEN);
     key[0] ^= 0x80;
     shift(key, little());
 }
@@ -176,7 +205,7 @@ static void opposite_key(uint8_t *key)
 void some_key(uint8_t *key)
 {
     size_t h = held(), w = waits();
-    memcpy(key, own, GAUGE_KEY_LEN);
+    memcpy(key, some_own(), GAUGE_KEY_LEN);
     switch (under(13)) {
     case 0: break;
     case 1: shift(key, little()); break;
@@ -208,8 +237,9 @@ static void middle_key(uint8_t *key)
 {
     size_t h = held();
     size_t at = h > 0 ? under(h) : 0;
-    const uint8_t *a = h > 0 ? now.cache + GAUGE_RECORD_LEN * at : own;
-    const uint8_t *b = h > at + 1 && percent(60) ? a + GAUGE_RECORD_LEN : own;
+    const uint8_t *ours = some_own(), *other = some_own();
+    const uint8_t *a = h > 0 && !(ours != other && percent(30)) ? now.cache + GAUGE_RECORD_LEN * at : other;
+    const uint8_t *b = a != other && h > at + 1 && percent(60) ? a + GAUGE_RECORD_LEN : ours;
     bool ends = h > 1 && percent(30);
     if (ends) {
         a = now.cache;
@@ -309,16 +339,55 @@ static uint32_t waiting_id(unsigned kind, unsigned often)
     return some_id();
 }
 
-/* A gauge for a night. */
-void begin_gauge(void)
+/* As far from our first key as another, on its other side: of two such keys that may be dropped one is the lower. */
+static void other_side(const uint8_t *key, uint8_t *other)
 {
+    int sum = 0;
+    for (int i = 31; i >= 0; i--) {
+        sum += 2 * own[i] - key[i];
+        other[i] = (uint8_t)(sum & 0xFF);
+        sum = (sum - other[i]) / 256;
+    }
+}
+
+/* One own key more, in its place among those there are: near to one of them, on a side of an end, just opposite of one, or anywhere. */
+static void add_own(void)
+{
+    uint8_t key[GAUGE_KEY_LEN];
+    size_t at = 0;
+    do {
+        uint32_t way = under(10);
+        memcpy(key, some_own(), GAUGE_KEY_LEN);
+        if (way < 5)
+            shift(key, (int)under(41) - 20);
+        else if (way < 7)
+            edge_key(key);
+        else if (way < 9)
+            opposite_key(key);
+        else
+            fill(key, GAUGE_KEY_LEN);
+    } while (is_own(key));
+    while (at < own_len && memcmp(own + at, key, GAUGE_KEY_LEN) < 0)
+        at += GAUGE_RECORD_LEN;
+    memmove(own + at + GAUGE_RECORD_LEN, own + at, own_len - at);
+    memcpy(own + at, key, GAUGE_KEY_LEN);
+    some_rest(own + at);
+    own_len += GAUGE_RECORD_LEN;
+}
+
+/* A gauge for a night. */
+void begin_gauge(size_t ponds)
+{
+    own_len = GAUGE_RECORD_LEN;
     fill(own, GAUGE_KEY_LEN);
     if (percent(60))
         edge_key(own);
     begin_points();
     some_rest(own);
+    while (own_len < GAUGE_RECORD_LEN * ponds)
+        add_own();
     for (size_t i = 0; i < 32; i++) {
-        memcpy(pool[i], own, GAUGE_KEY_LEN);
+        memcpy(pool[i], some_own(), GAUGE_KEY_LEN);
         if (percent(60))
             shift(pool[i], (int)under(41) - 20);
         else if (percent(40))
@@ -327,6 +396,8 @@ void begin_gauge(void)
             opposite_key(pool[i]);
         else
             edge_key(pool[i]);
+        if (i % 2 == 1 && percent(40))
+            other_side(pool[i - 1], pool[i]);
     }
     own_major = percent(70) ? 6 : any();
     own_minor = percent(70) ? 101 : any();
@@ -472,12 +543,12 @@ static void add_endpoints(void)
     add_array(0x9E, 0x9D, 18, n);
 }
 
-/* A record that is held and near to a target: mostly one of the two beside it, round the end of the cache; now and then any, or our own. */
+/* A record that is held and near to a target: mostly one of the two beside it, round the end of the cache; now and then any, or one of our own. */
 static const uint8_t *some_near(const uint8_t *target)
 {
     size_t h = held(), at = 0, steps = percent(80) ? under(2) : under(7);
     if (h == 0 || percent(4))
-        return own;
+        return some_own();
     while (at < h && memcmp(now.cache + GAUGE_RECORD_LEN * at, target, GAUGE_KEY_LEN) < 0)
         at++;
     at = percent(50) ? at + steps : at + 8 * h - 1 - steps; /* up from the target, or down */
@@ -636,7 +707,7 @@ static void draft_flood_of(const uint8_t *key, const uint8_t *record, bool revok
     add1(percent(50) ? 0 : any());
     add_last_bit(35);
     add_ignored(2);
-    add_key(0x39, percent(50) ? own : key);
+    add_key(0x39, percent(50) ? some_own() : key);
     if (percent(8)) {
         add_opaque(0x9F);
         add_padding();
@@ -666,7 +737,7 @@ static void draft_inquire(void)
     add_header(7);
     add_field(0x40, 2);
     add_ignored(4);
-    add_key(0x39, percent(75) ? own : key);
+    add_key(0x39, percent(75) ? some_own() : key);
     if (percent(65)) {
         add_field(0x93, 16);
         add_any(16);
@@ -801,7 +872,7 @@ static void draft_lookup(void)
     if (percent(65)) {
         draft_flood_record(record);
         if (percent(10))
-            memcpy(record, own, GAUGE_KEY_LEN);
+            memcpy(record, some_own(), GAUGE_KEY_LEN);
         add_entry(record);
     }
     add_path(target);
@@ -952,7 +1023,7 @@ void draft_inquire_of(size_t n)
     add_header(7);
     add_field(0x40, 2);
     add_ignored(4);
-    add_key(0x39, own);
+    add_key(0x39, some_own());
     size_t rest = n - draft.n - 4;
     add_field(0xA6, rest);
     add_any(rest);
@@ -966,7 +1037,7 @@ void draft_send(uint8_t *neighbour, uint8_t *key)
     if (h > 0 && percent(75))
         memcpy(neighbour, now.cache + GAUGE_RECORD_LEN * under(h), GAUGE_KEY_LEN);
     if (percent(35))
-        memcpy(key, own, GAUGE_KEY_LEN);
+        memcpy(key, some_own(), GAUGE_KEY_LEN);
     else if (h > 0 && percent(70))
         memcpy(key, now.cache + GAUGE_RECORD_LEN * under(h), GAUGE_KEY_LEN);
 }

@@ -1,4 +1,4 @@
-/* Messages of a random night, drafted by chance so that they lean on what the gauge has in memory: IDs that wait, keys held, the own key. Used by
+/* Messages of a random night, drafted by chance so that they lean on what the gauge has in memory: IDs that wait, keys held, our own keys. Used by
  * tests/nights/compare.c, tests/nights/nights.c and tests/nights/readings.c. The same seed gives the same nights on every machine. */
 #ifndef DRAFT_H
 #define DRAFT_H
@@ -27,15 +27,20 @@ struct memory {
 };
 #undef MEMORY
 extern struct memory now;
-extern uint8_t own[GAUGE_RECORD_LEN];
+extern uint8_t own[GAUGE_OWN_MOST * GAUGE_RECORD_LEN];
+extern size_t own_len; /* of so many bytes: GAUGE_RECORD_LEN for each own record */
 extern uint8_t own_major, own_minor;
-extern size_t own_cpa;          /* its length, where it may have any */
 extern unsigned ticks, answers; /* how often in this night, of 100 */
 
-void begin_gauge(void);           /* all but `now`, anew */
+void begin_gauge(size_t ponds);    /* all but `now`, anew, with so many own records */
 void begin_memory(size_t records); /* `now`, all zero, with a cache of so many records */
 
-/* What is lent, as far as the gauge has it by itself: the own record, a CPA of one zero byte, the versions, and all zero what else is to be read.
+const uint8_t *some_own(void);        /* one of the own records */
+bool is_own(const uint8_t *key);
+size_t some_cpas(uint8_t *cpas);      /* CPAs in form, of any length; gives how many bytes, CPAS_MOST at most */
+#define CPAS_MOST (GAUGE_OWN_MOST * GAUGE_CPAS_LEN(GAUGE_CPA_MOST))
+
+/* What is lent, as far as the gauge has it by itself: the own records, CPAs of one zero byte, the versions, and all zero what else is to be read.
  * Memory that has no place yet is then that of `m`; and what was lent, where it has a place, is kept there. */
 struct lent lend_gauge(void);
 void lend_memory(struct lent *l, struct memory *m);

@@ -403,7 +403,7 @@ static void make_night(unsigned long i)
     begin_memory(FULL);
     trace_len = lines = 0;
     any_dropped = false;
-    begin_gauge();
+    begin_gauge(1); /* "a trace still has one own record" */
     if (percent(12))
         spoil_own();
     if (!first) {

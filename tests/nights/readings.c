@@ -328,7 +328,7 @@ static void make_call(struct call *c)
 {
     uint32_t way = under(100);
     if (calls_run % 100 == 0)
-        begin_gauge();
+        begin_gauge(1);
     c->kind = way < 60 ? CARRY : way < 96 ? CARRIED : BALANCE;
     c->filled = any();
     c->front = percent(30);

@@ -10,16 +10,16 @@
 #include <string.h>
 
 static char line[200000];
-static uint8_t own[GAUGE_RECORD_LEN], nonce[GAUGE_NONCE_LEN];
+static uint8_t own[GAUGE_RECORD_LEN], cpas[GAUGE_TRACE_CPAS_LEN] = {1}, nonce[GAUGE_NONCE_LEN];
 static struct lent lent;
 
-/* The gauge at a trace's beginning: what is not said is all zero, the CPA too. */
+/* The gauge at a trace's beginning: what is not said is all zero, the CPA's one byte too. */
 static void begin(void)
 {
     static uint8_t zeros[SLICES][GAUGE_CACHE_LEN(GAUGE_CACHE_MOST)]; /* as long as any */
     for (int i = 0; i < SLICES; i++)
         *slice_in(&lent, i) = as_room(zeros[i], slices[i].usual);
-    lent.cpa.len = GAUGE_TRACE_CPA_LEN;
+    lent.cpas = as_room(cpas, sizeof cpas);
     lent.cache.len = GAUGE_CACHE_LEN(GAUGE_TRACE_HELD);
     for (size_t i = 0; i < sizeof nonce; i++)
         nonce[i] = (uint8_t)i;

@@ -485,6 +485,17 @@ def converted(r):
     return r[:34] + bytes([1]) + r[35:52] + bytes(48)
 
 
+# 02, Wish 11: "the own record becomes one to four, keys strictly increasing". The own records, or None where they are out of form.
+def own_records(own, in_form=record_form):
+    ours = [own[at:at + 100] for at in range(0, len(own), 100)]
+    return ours if 1 <= len(ours) <= 4 and all(in_form(r) for r in ours) and rising([key_of(r) for r in ours]) else None
+
+
+# Our keys, in their order, whose first is "the first own key".
+def own_keys(own, in_form=record_form):
+    return [key_of(r) for r in own_records(own, in_form)]
+
+
 # 01: "versions, a route entry's too, are the given ones"; a flag that no rule names is clear. A record in form has one address; an old one may have
 # more, and they are all in the entry made of it.
 def entry_of(r, major, minor):
@@ -509,15 +520,17 @@ def rising(numbers):
 # --- Lent memory: the cache ------------------------------------------------------------------------------------------------
 
 # 01: "The cache: C records, C from 10 to 256, length exactly 100 x C. Used records first, keys strictly increasing, none equal to the own key;
-# the rest all zero." C1 to C4. The records held, or None where the cache is out of form.
+# the rest all zero." 02, Wish 11: "C is at least ten times their number; no cache key or inquiry is an own key." C1 to C4. The records held, or None
+# where the cache is out of form, or the own records are.
 def held(own, cache, in_form=record_form):
-    if len(cache) % 100 != 0 or len(cache) < 1000 or len(cache) > 25600:
+    ours = own_records(own, in_form)
+    if ours is None or len(cache) % 100 != 0 or len(cache) // 100 < 10 * len(ours) or len(cache) > 25600:
         return None
     used = used_rows(cache, 100, in_form)
     if used is None:
         return None
     keys = [key_of(row) for row in used]
-    return used if rising(keys) and key_of(own) not in keys else None
+    return used if rising(keys) and not set(own_keys(own, in_form)) & set(keys) else None
 
 
 def cache_of(records, length):
@@ -540,39 +553,42 @@ def nearness(own, key):
     return up(own, key) if is_above(own, key) else up(key, own)
 
 
-# The records on one side of our own, nearest first.
-def side(own, records, above):
-    there = [r for r in records if is_above(key_of(own), key_of(r)) == above]
-    return sorted(there, key=lambda r: nearness(key_of(own), key_of(r)))
+# The records on one side of one of our keys, nearest first.
+def side(ours, records, above):
+    there = [r for r in records if is_above(ours, key_of(r)) == above]
+    return sorted(there, key=lambda r: nearness(ours, key_of(r)))
 
 
-# 01: "A held key has its record replaced. A new key joins. If there are now C + 1, take the side of the own key (below, above) with more keys,
-# above if equal, and drop the key farthest out on it, even the newcomer." 02: "Dropping and the neighbour list follow this; the cache keeps plain
-# key order."
-def learned(own, records, record, c):
-    others = [r for r in records if key_of(r) != key_of(record)]
-    joined = sorted(others + [record], key=key_of)
-    if len(joined) <= c:
-        return joined
-    below, above = side(own, joined, False), side(own, joined, True)
-    dropped = below[-1] if len(below) > len(above) else above[-1]
-    return [r for r in joined if r != dropped]
-
-
-# 01: "It is removed if held".
-def removed(records, key):
-    return [r for r in records if key_of(r) != key]
-
-
-# 01: "Up to five keys below, then up to five above, nearest first", by 02's sides.
-def nearest(own, records):
-    below, above = side(own, records, False), side(own, records, True)
+# 01: "Up to five keys below, then up to five above, nearest first", by 02's sides. 02, Wish 11: "Each has a neighbour list".
+def nearest(ours, records):
+    below, above = side(ours, records, False), side(ours, records, True)
     return [key_of(r) for r in below[:5]], [key_of(r) for r in above[:5]]
 
 
 # 02: "Closeness to a target is the shorter way round".
 def apart(target, key):
     return min(up(target, key), up(key, target))
+
+
+# 02, Wish 11: "of the keys in no neighbour list, drop the one farthest round the ring from the first own key, the lower on a tie". The lists are
+# those of all our keys among the C + 1, the newcomer counted (W11.3); the lower is the lower number (W11.2).
+def dropped(own, records):
+    lists = [nearest(ours, records) for ours in own_keys(own)]
+    in_no_list = [key_of(r) for r in records if not any(key_of(r) in below + above for below, above in lists)]
+    farthest = max(apart(own_keys(own)[0], k) for k in in_no_list)
+    return min(k for k in in_no_list if apart(own_keys(own)[0], k) == farthest)
+
+
+# 01: "A held key has its record replaced. A new key joins. If there are now C + 1", one is dropped, "even the newcomer". 02: "the cache keeps plain
+# key order".
+def learned(own, records, record, c):
+    joined = sorted(removed(records, key_of(record)) + [record], key=key_of)
+    return joined if len(joined) <= c else removed(joined, dropped(own, joined))
+
+
+# 01: "It is removed if held".
+def removed(records, key):
+    return [r for r in records if key_of(r) != key]
 
 
 # 02: "at equal distance take the key reached by going down from the target" (W4.2).
@@ -586,9 +602,10 @@ def on_path(r, path):
     return any(r[32:34] + r[36 + 16 * i:52 + 16 * i] in path for i in range(r[34]))
 
 
-# 01: "the record closest to the target, the own record included". 02: "The own record is never skipped."
+# 01: "the record closest to the target, the own record included". 02: "The own record is never skipped"; "For closeness every own record is a
+# candidate."
 def closest(own, records, path, target):
-    candidates = [own] + [r for r in records if not on_path(r, path)]
+    candidates = own_records(own) + [r for r in records if not on_path(r, path)]
     return min(candidates, key=lambda r: (apart(target, key_of(r)), not is_down(target, key_of(r))))
 
 
@@ -641,10 +658,10 @@ def place_form(s, in_form):
     return p["kind"] == 2 and in_form(p["record"]) and key_of(p["record"]) == value(p["key"])
 
 
-# 01: "Used places first, IDs strictly increasing; free places all zero. .. no two inquiries have the same key, and none has the own key." W1,
-# W2, W4, W7, W8. The places used, or None where the table is out of form.
+# 01: "Used places first, IDs strictly increasing; free places all zero. .. no two inquiries have the same key, and none has the own key", nor any of
+# ours (02, Wish 11). W1, W2, W4, W7, W8. The places used, or None where the table is out of form, or the own records are.
 def waits(own, waiting, in_form=record_form):
-    if len(waiting) != 2240:
+    if own_records(own, in_form) is None or len(waiting) != 2240:
         return None
     used = used_rows(waiting, 140, lambda row: place_form(row, in_form))
     if used is None:
@@ -652,7 +669,7 @@ def waits(own, waiting, in_form=record_form):
     places = [place_of(row) for row in used]
     asked = [value(p["key"]) for p in places if p["kind"] == 2]
     once = len(set(asked)) == len(asked)
-    return places if rising([p["id"] for p in places]) and once and key_of(own) not in asked else None
+    return places if rising([p["id"] for p in places]) and once and not set(own_keys(own, in_form)) & set(asked) else None
 
 
 def waiting_of(places):
@@ -681,6 +698,25 @@ def waiting_inquiry(places, key):
 def ticked(places):
     left = [{**p, "tries": p["tries"] - 1} for p in places if p["tries"] > 0]
     return [p["id"] for p in left], left
+
+
+# --- Lent memory: the CPAs -------------------------------------------------------------------------------------------------
+
+# 01: "Own CPA: 1 to 1,024 bytes". 02, Wish 11: "the host lends one for each": for each own record in order a length of 2 bytes, little-endian, and so
+# many bytes, with nothing after the last (docs/MEMORY.md). The CPAs of so many own records, or None where they are out of form.
+def cpas_of(s, count):
+    cpas, at = [], 0
+    while at < len(s):
+        length, end = int.from_bytes(s[at:at + 2], "little"), at + 2
+        if end > len(s) or not 1 <= length <= 1024 or end + length > len(s):
+            return None
+        cpas.append(s[end:end + length])
+        at = end + length
+    return cpas if len(cpas) == count else None
+
+
+def cpas_bytes(cpas):
+    return b"".join(len(cpa).to_bytes(2, "little") + cpa for cpa in cpas)
 
 
 # --- The calls -------------------------------------------------------------------------------------------------------------
@@ -725,17 +761,21 @@ class State:
 
 
 class Gauge:
-    """A gauge: its own record and CPA, its versions, and the memory that a host keeps for it. One more memory is one more attribute, here and in
-    State, and a name in MEMORIES.
+    """A gauge: its own records and their CPAs, its versions, and the memory that a host keeps for it. One more memory is one more attribute, here and
+    in State, and a name in MEMORIES.
 
     Each call hands back number, first, second and the output after it. 01: "With any refusal the counts returned are 0, .. and every writable byte
     stays as lent": only what was accepted is kept."""
 
     MEMORIES = ("cache", "waiting")
 
-    def __init__(self, own, cache=bytes(1000), waiting=bytes(2240), cpa=bytes(1), major=6, minor=101):
-        self.own, self.cpa, self.major, self.minor = own, cpa, major, minor
+    def __init__(self, own, cache=bytes(1000), waiting=bytes(2240), cpas=bytes([1, 0, 0]), major=6, minor=101):
+        self.own, self.cpas, self.major, self.minor = own, cpas, major, minor
         self.cache, self.waiting = cache, waiting
+
+    # 02, Wish 11: our keys, whichever: "N is clear where the validate key is any of ours".
+    def is_ours(self, key):
+        return value(key) in own_keys(self.own)
 
     def memory(self):
         return [getattr(self, name) for name in self.MEMORIES]
@@ -748,7 +788,8 @@ class Gauge:
 
     # 01, number 1: "lent memory is not as above".
     def receive_form(self, state, lent):
-        return (record_form(self.own) and 1 <= len(self.cpa) <= 1024 and state.records is not None and state.places is not None
+        ours = own_records(self.own)
+        return (ours is not None and cpas_of(self.cpas, len(ours)) is not None and state.records is not None and state.places is not None
                 and len(lent.nonce) == 16 and len(lent.key) == 32)
 
     # 01: "The lowest number that applies is given."
@@ -782,13 +823,13 @@ class Gauge:
     # N is set."
     def acks(self, state, m, lent):
         if not m["d"]:
-            n = True if value(m["validate"]) != key_of(self.own) else None
+            n = None if self.is_ours(m["validate"]) else True
             self.sends(state, "ack", lent.identity, acked=m["id"], n=n)
 
     # 01, "FLOOD with a route entry"; number 11.
     def on_route(self, state, m, lent):
         record = record_of(m["route"])
-        if key_of(record) == key_of(self.own):
+        if self.is_ours(record[:32]):
             return 11
         self.acks(state, m, lent)
         return self.asks(state, record, lent)
@@ -811,7 +852,7 @@ class Gauge:
     def on_revoke(self, state, m, lent):
         if lent.verdict != 1:
             return 9
-        if value(lent.key) == key_of(self.own):
+        if self.is_ours(lent.key):
             return 11
         for p in waiting_inquiry(state.places, value(lent.key)):
             state.places = freed(state.places, p["id"])
@@ -842,11 +883,13 @@ class Gauge:
         state.places = freed(state.places, m["acked"])
         return 0
 
-    # 01, "INQUIRE": "One AUTHORITY with the own CPA." Number 12.
+    # 01, "INQUIRE": "One AUTHORITY with the own CPA." 02, Wish 11: "INQUIRE says which CPA": that of the own record with the validate key. Number 12.
     def on_inquire(self, state, m, lent):
-        if value(m["validate"]) != key_of(self.own):
+        if not self.is_ours(m["validate"]):
             return 12
-        self.sends(state, "authority", lent.identity, acked=m["id"], cpa=self.cpa)
+        keys = own_keys(self.own)
+        cpa = cpas_of(self.cpas, len(keys))[keys.index(value(m["validate"]))]
+        self.sends(state, "authority", lent.identity, acked=m["id"], cpa=cpa)
         return 0
 
     # 01, "LOOKUP": "One AUTHORITY with the record closest to the target, the own record included". 02, Wish 2, of its route entry: "it is inquired
@@ -854,7 +897,7 @@ class Gauge:
     def on_lookup(self, state, m, lent):
         shown = entry_of(closest(self.own, state.records, m["path"], value(m["target"])), self.major, self.minor)
         self.sends(state, "authority", lent.identity, acked=m["id"], route=shown)
-        if m["route"] is None or value(m["route"]["key"]) == key_of(self.own):
+        if m["route"] is None or self.is_ours(m["route"]["key"]):
             return 0
         return self.asks(state, record_of(m["route"]), lent)
 
@@ -863,9 +906,9 @@ class Gauge:
     def send(self, lent, output):
         state = State(self)
         bad = len(lent.neighbour) != 32 or len(lent.key) != 32
-        if not record_form(self.own) or state.records is None or state.places is None or bad:
+        if own_records(self.own) is None or state.records is None or state.places is None or bad:
             return 1, 0, 0, output
-        named = [r for r in [self.own] + state.records if key_of(r) == value(lent.key)]
+        named = [r for r in own_records(self.own) + state.records if key_of(r) == value(lent.key)]
         if value(lent.neighbour) not in [key_of(r) for r in state.records] or not named:
             return 12, 0, 0, output
         number = no_place(state.places, lent.identity)
@@ -883,7 +926,7 @@ class Gauge:
     def tick(self, output):
         state = State(self)
         state.records = None
-        if not record_form(self.own) or state.places is None:
+        if own_records(self.own) is None or state.places is None:
             return 1, 0, 0, output
         if len(output) < 64:
             return 15, 0, 0, output
@@ -892,43 +935,46 @@ class Gauge:
         return 0, len(ids), 0, over(b"".join(i.to_bytes(4, "little") for i in ids), output)
 
     # 01, "Neighbour list": "Up to five keys below, then up to five above, nearest first, 32 bytes each; both counts returned. .. Output shorter
-    # than 320 bytes: 15."
-    def neighbours(self, output):
+    # than 320 bytes: 15." 02, Wish 11: "Each has a neighbour list, asked for by its key (12 if not ours)".
+    def neighbours(self, key, output):
         state = State(self)
-        if not record_form(self.own) or state.records is None:
+        if own_records(self.own) is None or state.records is None or len(key) != 32:
             return 1, 0, 0, output
+        if not self.is_ours(key):
+            return 12, 0, 0, output
         if len(output) < 320:
             return 15, 0, 0, output
-        below, above = nearest(self.own, state.records)
+        below, above = nearest(value(key), state.records)
         return 0, len(below), len(above), over(b"".join(k.to_bytes(32, "big") for k in below + above), output)
 
-    # 02, Wish 2: "Whoever asks for the closest record now hands in the path". `first` tells the record: 0 our own, 4 and more those of the cache in
-    # their order; `second`, by Wish 8, the keys compared for the target, among all held (W8.9). There is no output, and the one that is handed in
-    # stays.
+    # 02, Wish 2: "Whoever asks for the closest record now hands in the path". `first` tells the record: 0 to 3 our own, 4 and more those of the
+    # cache, in their order; `second`, by Wish 8, the keys compared for the target, among all held (W8.9). There is no output, and the one that is
+    # handed in stays.
     def closest(self, lent, output=b""):
         state, path = State(self), path_of(lent.path)
-        if not record_form(self.own) or state.records is None or path is None or len(lent.target) != 32:
+        ours = own_records(self.own)
+        if ours is None or state.records is None or path is None or len(lent.target) != 32:
             return 1, 0, 0, output
         shown = closest(self.own, state.records, path, value(lent.target))
-        first = 4 + state.records.index(shown) if shown in state.records else 0
+        first = 4 + state.records.index(shown) if shown in state.records else ours.index(shown)
         return 0, first, compared(state.records, value(lent.target)), output
 
-    # 02, Wish 8: "Return, beside each search, the number of keys compared". `first` tells the record: 0 for a key that is not held, our own too
+    # 02, Wish 8: "Return, beside each search, the number of keys compared". `first` tells the record: 0 for a key that is not held, one of ours too
     # (W8.5), 1 and more those of the cache in their order. There is no output here either.
     def search(self, lent, output=b""):
         state = State(self)
-        if not record_form(self.own) or state.records is None or len(lent.key) != 32:
+        if own_records(self.own) is None or state.records is None or len(lent.key) != 32:
             return 1, 0, 0, output
         keys = [key_of(r) for r in state.records]
         first = 1 + keys.index(value(lent.key)) if value(lent.key) in keys else 0
         return 0, first, compared(state.records, value(lent.key)), output
 
     # 02, Wish 13: "A conversion turns an old cache and waiting table into the new form, the count 1 and the other addresses zero, keys and order the
-    # same .. Refusals: 1 .. to the conversion, not in the old." W13.1: the own record is lent for reading, in the old form too. A flood's record is
+    # same .. Refusals: 1 .. to the conversion, not in the old." W13.1: the own records are lent for reading, in the old form too. A flood's record is
     # all zero, and stays so. There is no output, and the one that is handed in stays.
     def convert(self, output=b""):
         records, places = held(self.own, self.cache, old_record_form), waits(self.own, self.waiting, old_record_form)
-        if not old_record_form(self.own) or records is None or places is None:
+        if own_records(self.own, old_record_form) is None or records is None or places is None:
             return 1, 0, 0, output
         self.cache = cache_of([converted(r) for r in records], len(self.cache))
         self.waiting = waiting_of([{**p, "record": converted(p["record"])} if p["kind"] == 2 else p for p in places])
@@ -986,14 +1032,14 @@ def check_cases():
     for r in recs([0, 100, 2 ** 256 - 1]):
         assert record_form(r) and record_of(entry_of(r, 6, 101)) == r
     # 1 and 2
-    assert nearest(rec(100), recs([60, 70, 80, 90, 95, 99, 101, 110])) == ([99, 95, 90, 80, 70], [101, 110])
-    assert nearest(rec(100), []) == ([], [])
-    assert Gauge(rec(100)).neighbours(bytes(320)) == (0, 0, 0, bytes(320))
-    # 3, 4, 5
+    assert nearest(100, recs([60, 70, 80, 90, 95, 99, 101, 110])) == ([99, 95, 90, 80, 70], [101, 110])
+    assert nearest(100, []) == ([], [])
+    assert Gauge(rec(100)).neighbours(k(100), bytes(320)) == (0, 0, 0, bytes(320))
+    # 3, 4; 5 by 02: "Case 5 now drops 94"
     assert keys(learned(rec(100), recs(range(90, 100)), rec(101), 10)) == list(range(91, 100)) + [101]
     assert keys(learned(rec(100), recs(range(90, 100)), rec(89), 10)) == list(range(90, 100))
     six = list(range(94, 100)) + list(range(101, 106))
-    assert keys(learned(rec(100), recs(six), rec(106), 11)) == six
+    assert keys(learned(rec(100), recs(six), rec(106), 11)) == six[1:] + [106]
     # 6, 7; 9 by 02: "Case 9's answer becomes 0"
     assert closest(rec(50), recs([99, 101]), [], 100) == rec(99)
     assert closest(rec(9), recs([1, 4294967296]), [], 0) == rec(1)
@@ -1021,7 +1067,7 @@ def check_cases():
     flood = Lent(600, datagram=write(message("flood", 6, 101, 500, validate=k(100), route=entry_of(rec(70), 6, 101))))
     ack = Lent(600, datagram=write(message("ack", 6, 101, 9, acked=5)))
     out = b"\xEE" * 200
-    g = Gauge(rec(100), waiting=full, cpa=b"C")
+    g = Gauge(rec(100), waiting=full, cpas=cpas_bytes([b"C"]))
     assert g.receive(flood, out) == (14, 0, 0, out) and (g.cache, g.waiting) == (bytes(1000), full)
     assert g.receive(ack, out) == (0, 0, 0, out) and g.cache == bytes(1000) and len(waits(g.own, g.waiting)) == 15
     assert g.receive(flood, out)[:3] == (0, 20, 76) and g.cache == bytes(1000) and len(waits(g.own, g.waiting)) == 16
@@ -1039,7 +1085,7 @@ def check_ring():
             assert nearness(own, (own + steps) % 2 ** 256) == (steps if above else 2 ** 256 - steps)
             assert apart(own, (own + steps) % 2 ** 256) == apart((own + steps) % 2 ** 256, own) == min(steps, 2 ** 256 - steps)
     # "pond 1 must be able to have the last pond as neighbour below"
-    assert nearest(rec(1), [rec(5), rec(top)]) == ([top], [5])
+    assert nearest(1, [rec(5), rec(top)]) == ([top], [5])
     # Wherever our own key lies, the keys around it are listed, dropped and chosen as around 100 (cases 1 to 6), and the cache keeps plain order.
     for own in (0, 1, 5, half - 1, half, top - 1, top):
         def turned(keys):
@@ -1048,11 +1094,14 @@ def check_ring():
         def held(keys):
             return sorted((rec(n) for n in turned(keys)), key=key_of)
 
-        assert nearest(rec(own), held([60, 70, 80, 90, 95, 99, 101, 110])) == (turned([99, 95, 90, 80, 70]), turned([101, 110]))
+        assert nearest(own, held([60, 70, 80, 90, 95, 99, 101, 110])) == (turned([99, 95, 90, 80, 70]), turned([101, 110]))
         assert learned(rec(own), held(range(90, 100)), held([101])[0], 10) == held(list(range(91, 100)) + [101])
         assert learned(rec(own), held(range(90, 100)), held([89])[0], 10) == held(range(90, 100))
         six = list(range(94, 100)) + list(range(101, 106))
-        assert learned(rec(own), held(six), held([106])[0], 11) == held(six)
+        # six each: 94 and 106 are as far, and the lower number is dropped (case 5): 106, where that lies beyond the end
+        left = held(six + [106])
+        left.remove(min(held([94]) + held([106]), key=key_of))
+        assert learned(rec(own), held(six), held([106])[0], 11) == left
         assert key_of(closest(held([50])[0], held([99, 101]), [], own)) == turned([99])[0]
 
 
@@ -1172,6 +1221,76 @@ def check_count():
     assert [k for k in keys if halvings(keys, k) == 9] == [0] and [k for k in keys if halvings(keys, k) == 1] == [128]
 
 
+def check_ponds():
+    """Document 02, Wish 11: several own records, their CPAs and lists, and which key is dropped."""
+    def k(n):
+        return (n % 2 ** 256).to_bytes(32, "big")
+
+    def rec(n, port=5000):
+        return k(n) + two(port) + bytes([1, 0]) + bytes(64)
+
+    def recs(keys):
+        return [rec(n) for n in keys]
+
+    def ours(*keys):
+        return b"".join(recs(keys))
+
+    def keys(records):
+        return [key_of(r) for r in records]
+
+    top, out = 2 ** 256 - 1, b"\xEE" * 320
+    # own 100 and 200, C 20, both lists full: what is learned between them is dropped; and one nearer to the second takes its list's last out
+    twenty = [95, 96, 97, 98, 99, 101, 102, 103, 104, 105, 195, 196, 197, 198, 199, 201, 202, 203, 204, 205]
+    for new, gone in ((150, 150), (94, 94), (206, 206), (0, 0), (top, top)):
+        assert keys(learned(ours(100, 200), recs(twenty), rec(new), 20)) == sorted(n for n in twenty + [new] if n != gone)
+    wide = [n for n in twenty if n not in (195, 105)] + [190, 110]
+    assert keys(learned(ours(100, 200), recs(sorted(wide)), rec(195), 20)) == sorted(n for n in wide + [195] if n != 190)
+    # the first own key alone says how far, whatever is near to another; at equal distance the lower number goes, also across the end
+    many = list(range(80, 100)) + list(range(1000, 1010))
+    assert dropped(ours(100, 1000000), recs(many + [1000000 - n for n in range(1, 7)])) == 1000000 - 6
+    assert dropped(ours(0), recs([n % 2 ** 256 for n in range(-6, 7) if n])) == 6
+    assert dropped(ours(top), recs([(top + n) % 2 ** 256 for n in range(-6, 7) if n])) == 5
+    assert dropped(ours(100), recs([n for n in range(94, 107) if n != 100])) == 94
+    # own keys are not held: one of ours is in nobody's list
+    assert nearest(100, recs([99, 201])) == ([99], [201])
+    # INQUIRE says which CPA; N; 11 and 12; each list by its key; every own record a candidate
+    g = Gauge(ours(100, 200), cache_of(recs([99, 101, 199]), 2000), cpas=cpas_bytes([b"first", b"2"]))
+
+    def gets(kind, **fields):
+        lent = Lent(7, verdict=1, key=fields.pop("named", k(0)), datagram=write(message(kind, 6, 101, 5, **fields)))
+        number, first, second, written = g.receive(lent, out)
+        return number, first, second, written[:first]
+
+    for n, cpa in ((100, b"first"), (200, b"2")):
+        assert read(gets("inquire", validate=k(n))[3], 6)[1]["cpa"] == cpa
+        assert gets("flood", validate=k(n), route=entry_of(rec(7), 6, 101))[0:2] == (0, 20)
+        assert gets("flood", validate=k(n), route=entry_of(rec(n, 1), 6, 101))[0] == 11 == gets("flood", validate=k(7), revoke=b"", named=k(n))[0]
+        ask = {"target": k(n), "validate": k(7), "path": [bytes(18)]}
+        assert read(gets("lookup", route=entry_of(rec(n, 1), 6, 101), **ask)[3], 6)[1]["route"]["key"] == k(n)
+        assert g.send(Lent(n, neighbour=k(99), key=k(n)), out)[:2] == (0, 116)
+        assert g.closest(Lent(target=k(n + 1 if n == 200 else n)))[:2] == (0, n // 100 - 1)
+    assert gets("inquire", validate=k(150))[0] == 12 and gets("flood", validate=k(150), revoke=b"")[1] == 26
+    assert g.neighbours(k(100), out)[:3] == (0, 1, 2) and g.neighbours(k(200), out)[:3] == (0, 3, 0)
+    for asked, room, number in ((k(150), 320, 12), (k(99), 319, 12), (k(100)[:31], 0, 1), (k(200), 319, 15)):
+        assert g.neighbours(asked, out[:room])[0] == number
+    # forms: C below ten times their number, keys out of order or twice, five of them, an own key held or inquired about, CPAs
+    for own, cache, cpas, good in ((ours(100, 200), bytes(1900), [b"a", b"b"], False), (ours(100, 200), bytes(2000), [b"a", b"b"], True),
+                                   (ours(1, 2, 3, 4), bytes(3900), [b"c"] * 4, False), (ours(1, 2, 3, 4), bytes(4000), [b"c"] * 4, True),
+                                   (ours(1, 2, 3, 4, 5), bytes(5000), [b"c"] * 5, False), (ours(200, 100), bytes(2000), [b"a", b"b"], False),
+                                   (ours(100, 100), bytes(2000), [b"a", b"b"], False), (ours(100)[:50], bytes(2000), [b"a"], False),
+                                   (ours(1, 2)[:150], bytes(2000), [b"a", b"b"], False), (b"", bytes(2000), [], False),
+                                   (ours(1, 2), cache_of(recs([2, 3]), 2000), [b"a", b"b"], False), (ours(100), bytes(1000), [b"a", b"b"], False),
+                                   (ours(1, 2), bytes(2000), [b"a"], False), (ours(1, 2), bytes(2000), [b"a", b""], False),
+                                   (ours(1, 2), bytes(2000), [b"a", bytes(1025)], False), (ours(1, 2), bytes(2000), [b"a", bytes(1024)], True)):
+        given = Gauge(own, cache, cpas=cpas_bytes(cpas)).receive(Lent(7, datagram=write(message("inquire", 6, 101, 5, validate=own[:32].ljust(32)))),
+                                                                  bytes(2464))[0]
+        assert (given == 0) == good and given in (0, 1)
+    for cpas in (b"\1", b"\1\0", b"\1\0a\1", b"\1\0a\0\0", b"\1\0ab", b"\2\0a", b"\0\1a", b"\0\0", b"\1\4" + bytes(1025)):
+        assert cpas_of(cpas, 1) is None and cpas_of(cpas, 2) is None
+    assert Gauge(ours(1, 2), waiting=waiting_of([place(1, 2, 2, k(2), rec(2))])).tick(out)[0] == 1
+    assert Gauge(ours(1, 3), waiting=waiting_of([place(1, 2, 2, k(2), rec(2))])).tick(out)[0] == 0
+
+
 def check_lengths():
     """docs/DECISIONS.md, "What the calls write"."""
     key, zero = b"K" * 32, bytes(32)
@@ -1258,6 +1377,7 @@ if __name__ == "__main__":
     check_path()
     check_address()
     check_count()
+    check_ponds()
     check_lengths()
     check_round_trips(8000)
-    print("model: cases 1 to 14, the ring, the path, one address, keys compared, lengths and 8000 round trips as the documents have them")
+    print("model: cases 1 to 14, the ring, the path, one address, keys compared, ponds, lengths and 8000 round trips as the documents have them")

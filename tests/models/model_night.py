@@ -14,7 +14,7 @@ import sys
 
 import model
 
-C, OUTPUT, CPA = 64, 2464, bytes(1)
+C, OUTPUT, CPAS = 64, 2464, model.cpas_bytes([bytes(1)])  # a trace has one own record (request 11), and "the own CPA is one zero byte"
 
 
 # 02: "Refusals: 16 for a record cut short or of wrong length, 17 for an unknown kind or a kind 4 missing or repeated". The bodies are those of
@@ -40,7 +40,7 @@ def taken(trace, at):
 
 class Night(model.Gauge):
     def __init__(self, body):
-        super().__init__(body[2:], bytes(100 * C), cpa=CPA, major=body[0], minor=body[1])
+        super().__init__(body[2:], bytes(100 * C), cpas=CPAS, major=body[0], minor=body[1])
 
     def call(self, kind, body):
         identity, output = int.from_bytes(body[:4], "little"), bytes(OUTPUT)
@@ -140,7 +140,7 @@ def main():
         return
     lines, night = replay(open(sys.argv[-1], "rb").read())
     if sys.argv[1] == "--list":
-        below, above = model.nearest(night.own, model.State(night).records)
+        below, above = model.nearest(model.key_of(night.own), model.State(night).records)
         print(" ".join(str((k >> 248) // 4) for k in below + above))  # examples/hill.c: a key begins with 4 times the pond's number
     else:
         sys.stdout.write(text(lines))

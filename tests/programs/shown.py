@@ -174,9 +174,10 @@ def waiting_text(names, places):
     return text
 
 
+# Where the own record is out of form each call was refused, and nothing is held.
 def state_text(names, night):
-    records, places = model.State(night).records, model.State(night).places
-    below, above = model.nearest(night.own, records)
+    records, places = model.State(night).records or [], model.State(night).places or []
+    below, above = model.nearest(model.key_of(night.own), records)
     return ("\nAt the end of the night\n" + held_text(names, records) + side_text(names, "below, the next keys down", below)
             + side_text(names, "above, the next keys up", above) + waiting_text(names, places))
 

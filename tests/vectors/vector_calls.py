@@ -1,12 +1,13 @@
 #!/usr/bin/env python3
 """Vectors for the calls. They act on what the calls before them left, so the lines are read in their order.
 
-    gauge OWN C CPA MAJOR MINOR                      a gauge with an empty cache of C records and an empty waiting table
+    gauge OWN C CPAS MAJOR MINOR                     a gauge with an empty cache of C records and an empty waiting table; OWN is its own records, CPAS
+                                                     their CPAs as they are lent, each behind its length
     set-cache BYTES, set-waiting BYTES               other bytes for one of them; these three answer ok
     receive ID NONCE VERDICT KEY DATAGRAM ROOM
     send ID NEIGHBOUR KEY ROOM
     tick ROOM
-    list ROOM
+    list KEY ROOM
     nearest PATH TARGET                              gauge_closest; PATH is endpoints as on the wire, port 2 and address 16
     find KEY                                         gauge_search
     convert                                          gauge_convert; the own record may be of the time before request 13 too
@@ -42,6 +43,7 @@ Where to find what (each is a function below, and a heading of crates/vectors/st
     a LOOKUP whose route entry names us                       asked, "our own key is passed over"
     a LOOKUP's path, and its route entry inquired about       paths, asked (and vector_memory, on_the_path, outwards)
     how many keys a search compares                           searching (and vector_memory, comparing)
+    several own records, their CPAs and lists; the drop       several, lent_cpas (and vector_memory, ponds)
     two to four addresses: the first kept; the conversion     addresses, converting (and vector_memory, cache_forms, waiting_forms)
     id + 1 is a waiting flood's ID; ID 4294967295 with D      identities
     a flood with the own key in the waiting table             memory, "in form"
@@ -55,11 +57,16 @@ if not __debug__:
 import with_models
 import model
 import vector_messages as laid
-from vector_memory import A, ANY, B, TOP, at, cache, flood as flood_place, inquiry, kept, key, point, put, record, some, table
+from vector_memory import A, ANY, B, TOP, at, cache, flood as flood_place, inquiry, kept, key, ours, point, put, record, some, table
 
 MAJOR, MINOR = 6, 101
 OWN, CPA, NONCE, ZERO = record(100, 1, 5100), bytes([1, 2, 3, 4, 5]), bytes(range(0xA0, 0xB0)), bytes(32)
 ROOM = 2464  # docs/MEMORY.md: always enough
+
+
+def lent_as(*cpas):
+    """CPAs as they are lent (docs/MEMORY.md): each behind its length, two bytes, the least significant first."""
+    return b"".join(bytes([len(cpa) % 256, len(cpa) // 256]) + cpa for cpa in cpas)
 
 
 # What is given when several apply: the first of this list that does. Document 01: "The lowest number that applies is given"; document 02 puts its
@@ -107,11 +114,13 @@ def must_ask(records, places, r):
 def receive_applies(g, lent, room):
     d, verdict = lent.datagram, lent.verdict
     numbers, kind, m = datagram_applies(d, g.major)
-    records, places = model.State(g).records, model.State(g).places
-    lengths = 1 <= len(g.cpa) <= 1024 and len(lent.nonce) == 16 and len(lent.key) == 32
-    if not model.record_form(g.own) or records is None or places is None or not lengths:
+    records, places, own_records = model.State(g).records, model.State(g).places, model.own_records(g.own)
+    if own_records is None or records is None or places is None or len(lent.nonce) != 16 or len(lent.key) != 32:
         return numbers | {1}, kind
-    own, key_named, need = model.key_of(g.own), model.value(lent.key), 0
+    cpas = model.cpas_of(g.cpas, len(own_records))
+    if cpas is None:
+        return numbers | {1}, kind
+    own, key_named, need = [model.key_of(r) for r in own_records], model.value(lent.key), 0
     if kind in ("ack", "authority") and d[12:16] == bytes.fromhex("00180008"):
         waiting = [p for p in places if p["id"] == model.value(d[16:20]) and p["kind"] == (1 if kind == "ack" else 2)]
         numbers |= {8} if not waiting else set()
@@ -119,22 +128,23 @@ def receive_applies(g, lent, room):
             numbers |= {9} if verdict != 1 or (m is not None and m["cpa"] is None) else set()
             numbers |= {10} if verdict == 1 and waiting and model.value(waiting[0]["key"]) != key_named else set()
     if kind == "revocation":
-        numbers |= ({9} if verdict != 1 else set()) | ({11} if key_named == own else set())
+        numbers |= ({9} if verdict != 1 else set()) | ({11} if key_named in own else set())
     if kind == "flood" and m is not None:
         r = model.record_of(m["route"])
-        numbers |= {11} if model.key_of(r) == own else set()
+        numbers |= {11} if model.key_of(r) in own else set()
         if must_ask(records, places, r):
             numbers |= opening_applies(places, (lent.identity + 1) % 2 ** 32)
             need += 76
     if kind in ("flood", "revocation") and m is not None and not m["d"]:
-        need += 20 if model.value(m["validate"]) == own else 26
+        need += 20 if model.value(m["validate"]) in own else 26
     if kind == "inquire" and m is not None:
-        numbers |= {12} if model.value(m["validate"]) != own else set()
-        need = 40 + len(g.cpa)
+        named = [cpa for k, cpa in zip(own, cpas) if k == model.value(m["validate"])]
+        numbers |= {12} if not named else set()
+        need = 40 + len(named[0] if named else cpas[0])  # of a key that is not ours as if it were the first
     if kind == "lookup" and m is not None:
         need = 80 + 16 * model.closest(g.own, records, m["path"], model.value(m["target"]))[34]
-        r = model.record_of(m["route"]) if m["route"] is not None else g.own
-        if model.key_of(r) != own and must_ask(records, places, r):
+        r = model.record_of(m["route"]) if m["route"] is not None else own_records[0]
+        if model.key_of(r) not in own and must_ask(records, places, r):
             numbers |= opening_applies(places, (lent.identity + 1) % 2 ** 32)
             need += 76
     return numbers | ({15} if need > room else set()), kind
@@ -143,9 +153,9 @@ def receive_applies(g, lent, room):
 def send_applies(g, lent, room):
     neighbour, named = lent.neighbour, lent.key
     records, places = model.State(g).records, model.State(g).places
-    if not model.record_form(g.own) or records is None or places is None:
+    if model.own_records(g.own) is None or records is None or places is None:
         return {1}
-    shown = [r for r in [g.own] + records if r[:32] == named]
+    shown = [r for r in model.own_records(g.own) + records if r[:32] == named]
     bad = len(neighbour) != 32 or len(named) != 32
     numbers = ({1} if bad else set()) | ({12} if neighbour not in [r[:32] for r in records] or not shown else set())
     need = 100 + 16 * (shown[0][34] if shown else 1)
@@ -155,7 +165,7 @@ def send_applies(g, lent, room):
 # The numbers that each can give, in their order. Each is given at least once, and with each neighbour at once.
 TABLES = {"datagram": (1, 2, 3, 4, 5, 6), "solicit": (6, 7), "advertise": (6, 7), "request": (6, 7), "flood": (6, 11, 13, 14, 15),
           "revocation": (6, 9, 11, 15), "inquire": (6, 12, 15), "authority": (6, 7, 8, 9, 10), "ack": (6, 8), "lookup": (6, 13, 14, 15),
-          "send": (1, 12, 13, 14, 15), "tick": (1, 15), "list": (1, 15), "nearest": (1,), "find": (1,), "convert": (1,),
+          "send": (1, 12, 13, 14, 15), "tick": (1, 15), "list": (1, 12, 15), "nearest": (1,), "find": (1,), "convert": (1,),
           "look": (2, 3, 4, 5, 6), "look at authority": (6, 7)}
 
 
@@ -165,9 +175,9 @@ class Gauge:
     def __init__(self):
         self.seen, self.now = [], None
 
-    def start(self, own=OWN, c=10, cpa=CPA, major=MAJOR, minor=MINOR):
-        self.now = model.Gauge(own, bytes(100 * c), cpa=cpa, major=major, minor=minor)
-        return ("gauge", own, c, cpa, major, minor), "ok"
+    def start(self, own=OWN, c=10, cpas=lent_as(CPA), major=MAJOR, minor=MINOR):
+        self.now = model.Gauge(own, bytes(100 * c), cpas=cpas, major=major, minor=minor)
+        return ("gauge", own, c, cpas, major, minor), "ok"
 
     def set_cache(self, s):
         self.now.cache = s
@@ -205,31 +215,35 @@ class Gauge:
 
     def tick(self, want, room=64, sends=None):
         g = self.now
-        bad = not model.record_form(g.own) or model.State(g).places is None
+        bad = model.own_records(g.own) is None or model.State(g).places is None
         applies = ({1} if bad else set()) | ({15} if room < 64 else set())
         return self.answer(g.tick, ("tick", model.two(room)), ("tick",), applies, room, lambda a, b: 4 * a, want, sends)
 
-    def list(self, want, room=320, sends=None):
+    def list(self, want, room=320, sends=None, named=None):
+        """Of the first own key, where none is named."""
         g = self.now
-        bad = not model.record_form(g.own) or model.State(g).records is None
+        k, own_records = g.own[:32] if named is None else named, model.own_records(g.own)
+        bad = own_records is None or model.State(g).records is None or len(k) != 32
         applies = ({1} if bad else set()) | ({15} if room < 320 else set())
-        return self.answer(g.neighbours, ("list", model.two(room)), ("list",), applies, room, lambda a, b: 32 * (a + b), want, sends)
+        applies |= {12} if own_records is not None and k not in [r[:32] for r in own_records] else set()
+        return self.answer(lambda output: g.neighbours(k, output), ("list", k, model.two(room)), ("list",), applies, room, lambda a, b: 32 * (a + b),
+                           want, sends)
 
     def nearest(self, path, target, want):
         g, lent = self.now, model.Lent(path=path, target=target)
-        bad = not model.record_form(g.own) or model.State(g).records is None or len(path) % 18 != 0 or len(target) != 32
+        bad = model.own_records(g.own) is None or model.State(g).records is None or len(path) % 18 != 0 or len(target) != 32
         return self.answer(lambda output: g.closest(lent, output), ("nearest", path, target), ("nearest",), {1} if bad else set(), 0,
                            lambda a, b: 0, want)
 
     def find(self, named, want):
         g, lent = self.now, model.Lent(key=named)
-        bad = not model.record_form(g.own) or model.State(g).records is None or len(named) != 32
+        bad = model.own_records(g.own) is None or model.State(g).records is None or len(named) != 32
         return self.answer(lambda output: g.search(lent, output), ("find", named), ("find",), {1} if bad else set(), 0, lambda a, b: 0, want)
 
     def convert(self, want):
         g = self.now
         records, places = model.held(g.own, g.cache, model.old_record_form), model.waits(g.own, g.waiting, model.old_record_form)
-        bad = not model.old_record_form(g.own) or records is None or places is None
+        bad = model.own_records(g.own, model.old_record_form) is None or records is None or places is None
         now = g.memory() if bad else [cut(g.cache, 100, 0, 34), cut(g.waiting, 140, 40, 74)]
         line = self.answer(g.convert, ("convert",), ("convert",), {1} if bad else set(), 0, lambda a, b: 0, want)
         assert g.memory() == now
@@ -630,10 +644,11 @@ def authorities(g):
         yield g.receive(authority(identity), (0, 0, 0), verdict=1, named=key(n))
         yield g.receive(lookup(n), 0, sends=[shown_out(7, 0xA00, record(n, 1, n))])
     yield g.held([71, 72, 74, 75, 76])
-    yield "# case 5, and the same with a newcomer below, and with a held key"
+    yield "# case 5 as document 02 has it, and the same with a newcomer below, and with a held key"
     six = list(range(94, 100)) + list(range(101, 106))
     yield g.start(c=11)
     yield g.set_cache(cache(six, 11))
+    six = six[1:] + [106]
     yield g.set_waiting(table([inquiry(2, 106), inquiry(3, 93), inquiry(4, 98, 1)]))
     yield g.receive(authority(2), (0, 0, 0), verdict=1, named=key(106))
     yield g.held(six)
@@ -651,7 +666,7 @@ def authorities(g):
         kept = sorted(kept + [n])
         if len(kept) == 11:
             below, above = [k for k in kept if k < 100], [k for k in kept if k > 100]
-            kept.remove(below[0] if len(below) > len(above) else above[-1])
+            kept.remove(max(below[:-5] + above[5:], key=lambda k: (abs(k - 100), -k)))
         yield g.held(kept)
     yield g.list((0, 5, 5), sends=[key(n) for n in (99, 95, 90, 80, 70, 101, 105, 110, 120, 130)])
 
@@ -674,7 +689,8 @@ def across(g):
         yield g.receive(authority(8), (0, 0, 0), verdict=1, named=key(n))
         kept.append(steps if steps <= 2 ** 255 else steps - 2 ** 256)
         if len(kept) == 11:
-            kept.remove(min(kept) if len([k for k in kept if k < 0]) > 5 else max(kept))
+            below, above = sorted(k for k in kept if k < 0), sorted(k for k in kept if k > 0)
+            kept.remove(max(below[:-5] + above[5:], key=lambda k: (abs(k), -((TOP + k) % 2 ** 256))))
         yield g.held(sorted((TOP + k) % 2 ** 256 for k in kept))
     yield g.list((0, 5, 5), sends=[key((TOP + n) % 2 ** 256) for n in (-1, -5, -10, -20, -30, 1, 5, 10, 20, 30)])
 
@@ -721,7 +737,7 @@ def answered(g):
     yield "# INQUIRE: the own CPA, 1 and 1,024 bytes of it, in just enough room and in one byte less"
     for n in (1, 2, 3, 4, 1024):
         cpa = bytes(i % 251 for i in range(n))
-        yield g.start(cpa=cpa)
+        yield g.start(cpas=lent_as(cpa))
         yield g.receive(inquire(100), (0, 40 + n, 0), room=40 + n, sends=[cpa_out(7, 0x900, cpa)])
         yield g.receive(inquire(100), 15, room=39 + n)
     yield "# its flags, nonce and credentials are not obeyed; the verdict is ignored"
@@ -1308,6 +1324,206 @@ def case14(g):
     yield g.waits([(57, INQUIRY, 2, 303)])
 
 
+# 02, request 11: "One gauge, several ponds."
+ONE, SECOND, BOTH = record(100, 1, 5100), record(200, 1, 5200), record(100, 1, 5100) + record(200, 1, 5200)
+CPAS = lent_as(b"first", b"the second")
+
+
+def several(g):
+    """ "INQUIRE says which CPA; the host lends one for each. N is clear where the validate key is any of ours. For closeness every own record is a
+    candidate." """
+    full = table([flood_place(i, 7) for i in range(16)])
+    yield "# own 100 and 200: an INQUIRE for each is answered with its CPA, for another key it is 12"
+    yield g.start(BOTH, 20, CPAS)
+    yield g.receive(inquire(100), (0, 45, 0), sends=[cpa_out(7, 0x900, b"first")])
+    yield g.receive(inquire(200), (0, 50, 0), sends=[cpa_out(7, 0x900, b"the second")])
+    for n in (150, 99, 101, 201, 0, 2 ** 255 + 200, 2 ** 32 + 100):
+        yield g.receive(inquire(n), 12)
+    yield g.receive(inquire(100), (0, 45, 0), room=45)
+    yield g.receive(inquire(200), 15, room=49)
+    yield g.receive(inquire(150), 12, room=0)
+    yield "# FLOODs with the validate key of either: N clear; with another it is set"
+    for validate, n in ((100, 20), (200, 20), (150, 26), (0, 26)):
+        yield g.receive(flood(record(70), validate=validate, d=False), 0)
+        yield g.receive(flood(record(70), validate=validate), (0, n, 0), sends=[ack_out(7, 0x500, n == 26)])
+        yield g.receive(revocation(validate=validate), (0, n, 0), verdict=1, named=key(70), sends=[ack_out(7, 0x600, n == 26)])
+    yield "# 11: either of our keys in a route entry or a revocation; nothing is opened"
+    for n in (100, 200):
+        yield g.receive(flood(record(n)), 11)
+        yield g.receive(flood(record(n, 4), d=True, validate=7), 11)
+        yield g.receive(revocation(), 11, verdict=1, named=key(n))
+        yield g.receive(revocation(), 9, verdict=0, named=key(n))
+    yield g.waits([])
+    yield "# a LOOKUP is answered with the closest of all, and an entry with either of our keys is passed over"
+    for n, shown in ((100, ONE), (150, ONE), (151, SECOND), (200, SECOND), (300, SECOND), (0, ONE)):
+        yield g.receive(lookup(n), (0, 96, 0), sends=[shown_out(7, 0xA00, shown)])
+        yield g.nearest(b"", key(n), (0, 0 if shown == ONE else 1, 0))
+    for waiting in (bytes(2240), full):
+        yield g.set_waiting(waiting)
+        for r in (ONE, SECOND, record(100, 4, 9), record(200, 4, 9)):
+            yield g.receive(lookup(200, route=entry(r)), (0, 96, 0), sends=[shown_out(7, 0xA00, SECOND)])
+        yield g.receive(lookup(200, route=entry(record(150))), 14 if waiting == full else (0, 96, 76), 30)
+    yield "# held 99, 150 and 199: each by its place from 4; the path passes over these, and over none of ours"
+    yield g.set_waiting(bytes(2240))
+    yield g.set_cache(cache([at(99, 1, A), at(150, 2, A), at(199, 3, A)], 20))
+    for n, want in ((99, 4), (100, 0), (149, 5), (174, 5), (175, 6), (199, 6), (200, 1), (125, 0), (126, 5)):
+        yield g.nearest(b"", key(n), (0, want, 2))
+        yield g.receive(lookup(n), 0, sends=[shown_out(7, 0xA00, (ONE, SECOND, b"", b"", at(99, 1, A), at(150, 2, A), at(199, 3, A))[want])])
+    own_points = point(5100, ONE[36:52]) + point(5200, SECOND[36:52])
+    for n, want in ((99, 0), (150, 0), (151, 1), (199, 1), (200, 1)):
+        yield g.nearest(own_points + point(1, A) + point(2, A) + point(3, A), key(n), (0, want, 1 if n == 150 else 2))
+        yield g.receive(lookup(n, path=[own_points[:18], own_points[18:], point(1, A), point(2, A), point(3, A)]), 0,
+                        sends=[shown_out(7, 0xA00, (ONE, SECOND)[want])])
+    yield "# a key of ours is not held, however it is searched"
+    for n, want in ((99, (0, 1, 2)), (100, (0, 0, 2)), (150, (0, 2, 1)), (200, (0, 0, 2))):
+        yield g.find(key(n), want)
+    yield "# a FLOOD of either own record; neither is a neighbour"
+    yield g.send(key(99), key(100), (0, 116, 0), 1, sends=[flood_out(1, 99, ONE)])
+    yield g.send(key(99), key(200), (0, 116, 0), 2, sends=[flood_out(2, 99, SECOND)])
+    yield g.send(key(150), key(199), (0, 116, 0), 3, sends=[flood_out(3, 150, at(199, 3, A))])
+    for neighbour, named in ((100, 200), (200, 100), (200, 200), (99, 300), (99, 201)):
+        yield g.send(key(neighbour), key(named), 12, 4)
+    yield g.waits([(1, FLOOD, 2, 99), (2, FLOOD, 2, 99), (3, FLOOD, 2, 150)])
+    yield "# a list for each of our keys; 12 for another, before 15; 1 before both"
+    yield g.list((0, 1, 2), sends=[key(n) for n in (99, 150, 199)], named=key(100))
+    yield g.list((0, 3, 0), sends=[key(n) for n in (199, 150, 99)], named=key(200))
+    for n in (150, 99, 0, TOP, 2 ** 32 + 200):
+        yield g.list(12, named=key(n))
+    yield g.list(12, room=319, named=key(150))
+    yield g.list(15, room=319, named=key(200))
+    for named in (b"", key(200)[:31], key(200) + b"\0"):
+        yield g.list(1, named=named)
+        yield g.list(1, room=0, named=named)
+
+
+def several_learn(g):
+    """ "Of the keys in no neighbour list, drop the one farthest round the ring from the first own key, the lower on a tie." """
+    twenty = [n + i for n in (100, 200) for i in (-5, -4, -3, -2, -1, 1, 2, 3, 4, 5)]
+    yield "# own 100 and 200, C 20, both lists full: 150 comes by FLOOD and AUTHORITY, and is dropped"
+    yield g.start(BOTH, 20, CPAS)
+    yield g.set_cache(cache(twenty, 20))
+    for n in (150, 206, 94):
+        yield g.receive(flood(record(n), validate=200), (0, 20, 76))
+        yield g.receive(authority(8), (0, 0, 0), verdict=1, named=key(n))
+        yield g.held(twenty)
+    yield "# one of the second's neighbours is revoked, another comes: both lists as defined"
+    yield g.receive(revocation(validate=200), (0, 20, 0), verdict=1, named=key(198))
+    yield g.receive(flood(record(180)), (0, 20, 76))
+    yield g.receive(authority(8), (0, 0, 0), verdict=1, named=key(180))
+    yield g.list((0, 5, 5), sends=[key(n) for n in (199, 197, 196, 195, 180, 201, 202, 203, 204, 205)], named=key(200))
+    yield g.receive(flood(record(198)), (0, 20, 76))
+    yield g.receive(authority(8), (0, 0, 0), verdict=1, named=key(198))
+    yield g.held(twenty)
+    yield g.list((0, 5, 5), sends=[key(n) for n in (99, 98, 97, 96, 95, 101, 102, 103, 104, 105)], named=key(100))
+    yield "# from an empty cache, keys coming in no order: each list is that of all that came"
+    yield g.start(BOTH, 20, CPAS)
+    came = []
+    for n in (50, 250, 150, 99, 201, 120, 180, 90, 210, 130, 170, 95, 205, 140, 160, 80, 220, 70, 230, 60, 240, 110, 190, 149, 151, 101, 199):
+        yield g.receive(flood(record(n), d=True), (0, 76, 0), 2 * n)
+        yield g.receive(authority(2 * n + 1), (0, 0, 0), verdict=1, named=key(n))
+        came.append(n)
+    for own in (100, 200):
+        below, above = sorted(n for n in came if n < own)[::-1][:5], sorted(n for n in came if n > own)[:5]
+        yield g.list((0, 5, 5), sends=[key(n) for n in below + above], named=key(own))
+
+
+def several_forms(g):
+    """ "C is at least ten times their number; no cache key or inquiry is an own key." Every call that is lent the memory gives 1."""
+    def calls(received, sent, ticked, listed):
+        yield g.receive(flood(record(60)), received)
+        yield g.send(key(70), key(100), sent)
+        yield g.tick(ticked)
+        yield g.list(listed)
+        yield g.nearest(b"", key(60), listed)
+        yield g.find(key(60), listed)
+        yield g.convert(1 if 1 in (sent, listed) else 0)
+
+    four = ours(100, 200, 300, TOP)
+    named = {1: lent_as(b"a"), 2: CPAS, 3: lent_as(b"a", b"b", b"c"), 4: lent_as(b"a", b"b", b"c", b"d"), 5: lent_as(b"a", b"b", b"c", b"d", b"e")}
+    yield "# C 19 with two own records: 1; C 20: taken; 29 and 30 with three, 39 and 40 with four; the tick is not lent the cache"
+    for own, n in ((BOTH, 2), (four[:300], 3), (four, 4)):
+        for c in (10 * n - 1, 10 * n, 10):
+            yield g.start(own, c, named[n])
+            yield from calls(0 if c == 10 * n else 1, 12 if c == 10 * n else 1, 0, 0 if c == 10 * n else 1)
+    yield "# own records out of order, twice, five, not whole, or one of them out of form: 1"
+    for own, n in ((SECOND + ONE, 2), (ONE + ONE, 2), (ours(1, 2, 3, 4, 5), 5), (BOTH[:199], 2), (BOTH[:101], 1), (BOTH + b"\0", 2), (b"", 1),
+                   (put(BOTH, 134, b"\0"), 2), (put(BOTH, 135, b"\1"), 2), (put(BOTH, 199, b"\1"), 2), (ONE + bytes(100), 2), (four[:200] + ONE, 3)):
+        yield g.start(own, 60, named[n])
+        yield from calls(1, 1, 1, 1)
+    yield "# two addresses in one of them: 1, but to the conversion"
+    yield g.start(ONE + record(200, 2), 20, CPAS)
+    yield g.receive(inquire(100), 1)
+    yield g.list(1)
+    yield g.convert((0, 0, 0))
+    yield "# an own key held, an own key inquired about: 1"
+    for n, bad in ((100, True), (200, True), (150, False)):
+        yield g.start(BOTH, 20, CPAS)
+        yield g.set_cache(cache([n], 20))
+        yield g.receive(inquire(200), 1 if bad else 0)
+        yield g.list(1 if bad else 0)
+        yield g.tick(0)
+        yield g.convert(1 if bad else 0)
+        yield g.set_cache(bytes(2000))
+        yield g.set_waiting(table([flood_place(1, 200), inquiry(2, n)]))
+        yield g.receive(inquire(200), 1 if bad else 0)
+        yield g.list(0)
+        yield g.tick(1 if bad else 0)
+        yield g.convert(1 if bad else 0)
+    yield "# four ponds: each CPA, each list, each own record sent and shown"
+    yield g.start(four, 40, lent_as(b"1", b"22", bytes(1024), b"4444"))
+    yield g.set_cache(cache([99, 250], 40))
+    for i, (n, cpa) in enumerate(((100, b"1"), (200, b"22"), (300, bytes(1024)), (TOP, b"4444"))):
+        yield g.receive(inquire(n), (0, 40 + len(cpa), 0), sends=[cpa_out(7, 0x900, cpa)])
+        yield g.nearest(b"", key(n), (0, i, 2 if n < 250 else 1))
+        yield g.send(key(250), key(n), (0, 116, 0), 50 + i, sends=[flood_out(50 + i, 250, four[100 * i:100 * i + 100])])
+        yield g.list((0, (1, 1, 2, 0)[i], (1, 1, 0, 2)[i]), named=key(n))
+    yield "# an old cache with two own records is converted, old ones or not"
+    for own in (record(100, 2) + record(200, 2), ONE + record(200, 4), BOTH):
+        yield g.start(own, 20, CPAS)
+        yield g.set_cache(cache([record(70, 3, 4070), record(150, 1, 4150)], 20))
+        yield g.set_waiting(table([inquiry(5, 60, 1, 2)]))
+        yield g.convert((0, 0, 0))
+        yield g.convert((0, 0, 0))
+    yield g.held([70, 150])
+    yield g.waits([(5, INQUIRY, 1, 60)])
+    yield g.list((0, 2, 0), sends=[key(150), key(70)], named=key(200))
+
+
+def lent_cpas(g):
+    """docs/MEMORY.md, P1 and P2: for each own record a length of 2 bytes, little-endian, 1 to 1,024, and so many bytes; nothing behind the last."""
+    yield "# CPAs out of form: 1, whatever the message; the other calls are not lent them"
+    full, two = lent_as(bytes(1024), bytes(1024)), lent_as(b"first", b"the second")
+    for cpas in (b"", two[:-1], two + b"\0", two + two, two[:7], two[:8], two[:9], lent_as(b"first"), lent_as(b"a", b"b", b"c"), lent_as(b"", b"a"),
+                 lent_as(b"a", b""), lent_as(b"a", bytes(1025)), lent_as(bytes(1025), b"a"), full[:-1], full + b"\0", lent_as(b"a") + b"\0\1b",
+                 lent_as(b"a") + b"\2\0b", lent_as(b"a") + b"\0\0", lent_as(b"a") + b"\xFF\xFF" + bytes(1024), bytes(4), b"first" + b"second"):
+        yield g.start(BOTH, 20, cpas)
+        yield g.receive(inquire(200), 1)
+    for datagram in (flood(record(70)), lookup(7), ack(9), revocation(), authority(9), SOLICIT, b""):
+        yield g.receive(datagram, 1)
+    yield g.list(0)
+    yield g.tick(0)
+    yield g.send(key(70), key(100), 12)
+    yield g.nearest(b"", key(7), (0, 0, 0))
+    yield g.find(key(7), (0, 0, 0))
+    yield g.convert(0)
+    yield "# in form: lengths at both ends, the same twice; bytes that look like lengths"
+    for first, second in ((bytes(1), bytes(1)), (bytes(1024), b"\1"), (b"\1", bytes(1024)), (bytes(1024), bytes(1024)), (b"x", b"x"),
+                          (b"\1\0\1", b"\0\4\0\0"), (bytes(256), bytes(255)), (b"\xFF" * 257, b"\xFF" * 3)):
+        yield g.start(BOTH, 20, lent_as(first, second))
+        yield g.receive(inquire(100), (0, 40 + len(first), 0), room=40 + len(first), sends=[cpa_out(7, 0x900, first)])
+        yield g.receive(inquire(200), (0, 40 + len(second), 0), room=40 + len(second), sends=[cpa_out(7, 0x900, second)])
+    yield "# four of the greatest length, and one byte more or less"
+    longest = lent_as(*[bytes([n]) * 1024 for n in (1, 2, 3, 4)])
+    for cpas, want in ((longest, (0, 1064, 0)), (longest + b"\0", 1), (longest[:-1], 1)):
+        yield g.start(ours(100, 200, 300, 400), 40, cpas)
+        yield g.receive(inquire(400), want, sends=[cpa_out(7, 0x900, b"\4" * 1024)] if want != 1 else None)
+    yield "# three own records with the CPAs of two, one with that of two"
+    yield g.start(ours(100, 200, 300), 30, two)
+    yield g.receive(inquire(100), 1)
+    yield g.start(ONE, 20, two)
+    yield g.receive(inquire(100), 1)
+
+
 def memory(g):
     good = flood(record(60))
 
@@ -1325,8 +1541,9 @@ def memory(g):
         yield g.start(own)
         yield from calls(1, 1, 1, 1)
     yield "# 1: the own CPA, lent to a receive alone"
-    for cpa, want in ((b"", 1), (bytes(1025), 1), (bytes(1), 0), (bytes(1024), 0)):
-        yield g.start(cpa=cpa)
+    for cpas, want in ((lent_as(b""), 1), (lent_as(bytes(1025)), 1), (lent_as(bytes(1)), 0), (lent_as(bytes(1024)), 0), (b"", 1), (b"\1", 1),
+                       (b"\1\0", 1), (b"\0\1\7", 1), (b"\2\0\7", 1), (b"\1\0\7\0", 1), (lent_as(b"\7", b"\7"), 1), (lent_as(b"\7"), 0)):
+        yield g.start(cpas=cpas)
         yield g.set_cache(cache([70]))
         yield g.receive(good, want)
         yield g.receive(inquire(100), want)
@@ -1657,7 +1874,8 @@ def looking(g):
 
 
 SCENES = (story, floods, identities, revocations, authorities, across, acked, answered, paths, searching, asked, addresses, converting, room,
-          sending, ticking, listing, case14, memory, limits, malformed, refusals, pairs, bytewise, looking)
+          sending, ticking, listing, case14, several, several_learn, several_forms, lent_cpas, memory, limits, malformed, refusals, pairs, bytewise,
+          looking)
 
 
 def vectors(g=None):
@@ -1677,7 +1895,7 @@ def check():
     # Every number of every call is there, and no other.
     numbers = {name: {int(answer.split()[0]) for operands, answer in lines if operands[0] == name}
                for name in ("receive", "send", "tick", "list", "nearest", "find", "convert", "look")}
-    assert numbers == {"receive": {0, *ORDER}, "send": {0, 1, 12, 13, 14, 15}, "tick": {0, 1, 15}, "list": {0, 1, 15},
+    assert numbers == {"receive": {0, *ORDER}, "send": {0, 1, 12, 13, 14, 15}, "tick": {0, 1, 15}, "list": {0, 1, 12, 15},
                      "nearest": {0, 1}, "find": {0, 1}, "convert": {0, 1}, "look": {0, 2, 3, 4, 5, 6, 7}}, numbers
     # So are, for each kind of message, every number that it can be refused with, and every two neighbours at once.
     for kind, numbers in TABLES.items():

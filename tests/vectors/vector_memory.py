@@ -5,7 +5,7 @@
     waiting-form OWN TABLE       bad, or how many places are used
     learn OWN CACHE RECORD       the number, and with 0 the keys held afterwards
     remove-key OWN CACHE KEY     the same
-    neighbours OWN CACHE         the number, and with 0 the counts below and above and the keys listed
+    neighbours OWN CACHE KEY     the number, and with 0 the counts below and above and the keys listed
     closest OWN CACHE PATH TARGET    the number, and with 0 the record and how many keys were compared; PATH is endpoints as on the wire, port 2 and
                                  address 16
     search OWN CACHE KEY         the number, and with 0 the place from 1, or 0 for a key that is not held, and how many keys were compared
@@ -15,8 +15,9 @@
 
     vector_memory.py             checks the answers that documents 01 and 02 and docs/MEMORY.md state
 
-Keys in answers are in hexadecimal without leading zeros, IDs are decimal; both apart by commas, - for none. The bytes are laid out here by
-docs/MEMORY.md and not by the model. A `want` is the answer that the documents give, and is compared with the model's.
+OWN is one to four records, one behind the other. Keys in answers are in hexadecimal without leading zeros, IDs are decimal; both apart by commas,
+- for none. The bytes are laid out here by docs/MEMORY.md and not by the model. A `want` is the answer that the documents give, and is compared with
+the model's.
 """
 if not __debug__:
     raise SystemExit("vector_memory.py: run it without -O and PYTHONOPTIMIZE, which leave its asserts out")
@@ -70,6 +71,11 @@ def put(s, at, new):
     return s[:at] + new + s[at + len(new):]
 
 
+def ours(*keys):
+    """Own records, each with a port of its own."""
+    return b"".join(record(k, 1, 5000 + k % 1000) for k in keys)
+
+
 OWN = record(100, 1, 5100)
 
 
@@ -97,30 +103,32 @@ def waiting_form(own, s, want=None):
 # 01, number 1: "lent memory is not as above", the own record and the record or key handed in too.
 def learn(own, s, new, want=None):
     records = model.held(own, s)
-    if not model.record_form(own) or records is None or not model.record_form(new):
+    if model.own_records(own) is None or records is None or not model.record_form(new):
         return line("learn", (own, s, new), "1", want)
     return line("learn", (own, s, new), "0 " + listed(map(model.key_of, model.learned(own, records, new, len(s) // 100))), want)
 
 
 def remove(own, s, k, want=None):
     records = model.held(own, s)
-    if not model.record_form(own) or records is None or len(k) != 32:
+    if model.own_records(own) is None or records is None or len(k) != 32:
         return line("remove-key", (own, s, k), "1", want)
     return line("remove-key", (own, s, k), "0 " + listed(map(model.key_of, model.removed(records, model.value(k)))), want)
 
 
-def neighbours(own, s, want=None):
-    number, below, above, output = model.Gauge(own, cache=s).neighbours(bytes(320))
+def neighbours(own, s, want=None, k=None):
+    """Of the first own key, where none is named."""
+    k = own[:32] if k is None else k
+    number, below, above, output = model.Gauge(own, cache=s).neighbours(k, bytes(320))
     if number != 0:
-        return line("neighbours", (own, s), str(number), want)
+        return line("neighbours", (own, s, k), str(number), want)
     keys = [model.value(output[32 * i:32 * i + 32]) for i in range(below + above)]
-    return line("neighbours", (own, s), "0 %d %d %s" % (below, above, listed(keys)), want)
+    return line("neighbours", (own, s, k), "0 %d %d %s" % (below, above, listed(keys)), want)
 
 
 def closest(own, s, target, want=None, path=b"", steps=None):
     """`want` is the key of the record shown, or the number that the call is refused with, as text; `steps` how many keys are compared."""
     records, points = model.held(own, s), model.path_of(path)
-    if not model.record_form(own) or records is None or points is None or len(target) != 32:
+    if model.own_records(own) is None or records is None or points is None or len(target) != 32:
         return line("closest", (own, s, path, target), "1", want)
     shown = model.closest(own, records, points, model.value(target))
     compared = model.compared(records, model.value(target))
@@ -295,15 +303,20 @@ def waiting_forms():
 
 def learning():
     ten = list(range(90, 100))
-    yield "# learning: case 3 (90 is dropped), case 4 (89 itself), case 5 (six each: 106)"
+    yield "# learning: case 3 (90 is dropped), case 4 (89 itself), case 5 as document 02 has it (94)"
     yield learn(OWN, cache(ten), record(101), "0 5b,5c,5d,5e,5f,60,61,62,63,65")
     yield learn(OWN, cache(ten), record(89), "0 5a,5b,5c,5d,5e,5f,60,61,62,63")
     six = list(range(94, 100)) + list(range(101, 106))
-    yield learn(OWN, cache(six, 11), record(106), "0 5e,5f,60,61,62,63,65,66,67,68,69")
-    yield "# with equal sides the side above loses its farthest, whoever is new"
-    yield learn(OWN, cache([94, 95, 96, 97, 98, 99, 101, 102, 103, 104, 106], 11), record(105), "0 5e,5f,60,61,62,63,65,66,67,68,69")
-    yield learn(OWN, cache([95, 96, 97, 98, 99, 101, 102, 103, 104, 105, 106], 11), record(94), "0 5e,5f,60,61,62,63,65,66,67,68,69")
-    yield "# with more above than below the farthest above goes, with more below the farthest below"
+    yield learn(OWN, cache(six, 11), record(106), "0 5f,60,61,62,63,65,66,67,68,69,6a")
+    yield "# of two equally far the lower goes, whoever is new; else the farther, with fewer on its side too; what is in the list stays"
+    yield learn(OWN, cache([94, 95, 96, 97, 98, 99, 101, 102, 103, 104, 106], 11), record(105), "0 5f,60,61,62,63,65,66,67,68,69,6a")
+    yield learn(OWN, cache([95, 96, 97, 98, 99, 101, 102, 103, 104, 105, 106], 11), record(94), "0 5f,60,61,62,63,65,66,67,68,69,6a")
+    yield learn(OWN, cache([95, 96, 97, 98, 99, 101, 102, 103, 104, 105, 107], 11), record(94), "0 5e,5f,60,61,62,63,65,66,67,68,69")
+    yield learn(OWN, cache([93, 95, 96, 97, 98, 99, 101, 102, 103, 104, 105], 11), record(106), "0 5f,60,61,62,63,65,66,67,68,69,6a")
+    yield learn(OWN, cache([0, 95, 96, 97, 98, 99, 101, 102, 103, 104, 105, 106, 107], 13), record(108), "0 5f,60,61,62,63,65,66,67,68,69,6a,6b,6c")
+    yield learn(OWN, cache([0, 1, 2, 101, 102, 103, 104, 105, 106, 107]), record(108), "0 0,1,2,65,66,67,68,69,6a,6b")
+    yield learn(OWN, cache([93, 94, 95, 96, 97, 98, 99, 300, 400, 500]), record(92), "0 5d,5e,5f,60,61,62,63,12c,190,1f4")
+    yield "# with none on the other side, or few, the farthest out goes"
     yield learn(OWN, cache(range(101, 111)), record(99), "0 63,65,66,67,68,69,6a,6b,6c,6d")
     yield learn(OWN, cache(range(101, 111)), record(111), "0 65,66,67,68,69,6a,6b,6c,6d,6e")
     yield learn(OWN, cache(range(102, 112)), record(101), "0 65,66,67,68,69,6a,6b,6c,6d,6e")
@@ -561,21 +574,27 @@ def ring_lists():
             yield neighbours(slim(middle), keys_cache(keys, 12), "0 5 5 " + listed(order))
 
 
-# W4.4: "the farthest along its side, .. and not the largest or the smallest number". A row is the steps held, the step learned and the one dropped.
+# 02, request 11: "of the keys in no neighbour list, drop the one farthest round the ring from the first own key, the lower on a tie". A row is the
+# steps held, the step learned and the one dropped; where two are equally far, both, of which the one goes that is the lower number.
 FIVES = [-5, -4, -3, -2, -1, 1, 2, 3, 4, 5]
 DROPS = ((range(-10, 0), 1, -10), (range(-10, 0), -11, -11), (range(1, 11), -1, 10), (range(1, 11), 11, 11), (range(2, 12), 1, 11),
          (FIVES, 6, 6), (FIVES, -6, -6), (FIVES, HALF, HALF), (FIVES, HALF - 1, HALF - 1), (FIVES, 1 - HALF, 1 - HALF),
          ([-9] + FIVES[1:], -5, -9), (FIVES[:-1] + [9], 5, 9), (FIVES[1:] + [HALF], 6, HALF), (FIVES[1:] + [HALF], HALF - 1, HALF),
          ([1 - HALF] + FIVES[:-1], 5, 1 - HALF), ([1 - HALF] + FIVES[1:], 2 - HALF, 1 - HALF),
-         ([-6] + FIVES, 6, 6), (FIVES + [6], -6, 6), ([1 - HALF] + FIVES, HALF, HALF), (FIVES + [HALF], 1 - HALF, HALF), (FIVES + [6], 1 - HALF, 6))
+         ([-6] + FIVES, 6, (-6, 6)), (FIVES + [6], -6, (-6, 6)), ([1 - HALF] + FIVES, HALF, HALF), (FIVES + [HALF], 1 - HALF, HALF),
+         (FIVES + [6], 1 - HALF, 1 - HALF), ([-7] + FIVES, 6, -7), (FIVES + [7], -6, 7), ([1 - HALF] + FIVES, HALF - 1, (1 - HALF, HALF - 1)),
+         ([1 - HALF, -6] + FIVES + [6, 7], HALF - 1, (1 - HALF, HALF - 1)), ([-7, -6] + FIVES + [6], 7, (-7, 7)),
+         ([-1, 1, 2, 3, 4, 5, 6, 7, 8, 9], HALF, HALF), ([1 - HALF, 1, 2, 3, 4, 5, 6, 7, 8, 9], 10, 10))
 
 
 def ring_learning():
     yield "# the ring: own 1, held the last ten, 5 comes: the first of them is dropped"
     yield learn(slim(1), keys_cache(range(2 ** 256 - 10, 2 ** 256)), slim(5), "0 " + listed([5] + list(range(2 ** 256 - 9, 2 ** 256))))
-    yield "# wherever our own key lies: the farthest along its side goes, and the cache keeps plain order"
+    yield "# wherever our own key lies: the farthest in no list goes, of two the lower number, and the cache keeps plain order"
     for own in ENDS:
         for held, new, gone in DROPS:
+            if isinstance(gone, tuple):
+                gone = min(gone, key=lambda n: (own + n) % 2 ** 256)
             left = [n for n in list(held) + [new] if n != gone]
             yield learn(slim(own), keys_cache(around(own, held), len(held)), slim((own + new) % 2 ** 256), "0 " + listed(around(own, left)))
     yield "# room left: a new key joins in plain order, across the end too"
@@ -708,6 +727,144 @@ def outwards():
             yield closest(slim(HALF), cache([low] + [slim(k) for k in keys[1:]]), key(target), keys[0], path)
 
 
+# 02, request 11: "In the lower valley the own record becomes one to four, keys strictly increasing; C is at least ten times their number; no cache
+# key or inquiry is an own key. Each has a neighbour list, asked for by its key (12 if not ours)."
+TWO = ours(100, 200)
+TWENTY = [95, 96, 97, 98, 99, 101, 102, 103, 104, 105, 195, 196, 197, 198, 199, 201, 202, 203, 204, 205]
+
+
+def ponds():
+    four = ours(100, 200, 300, TOP)
+    yield "# several own records: C at least ten times their number; none of their keys in the cache"
+    for own, n in ((TWO, 2), (ours(0, 1, TOP), 3), (four, 4)):
+        for c in (10 * n - 1, 10 * n, 10 * n + 1, 256, 257):
+            yield cache_form(own, cache([60, 70], c), "2" if 10 * n <= c <= 256 else "bad")
+        for k in map(model.key_of, model.own_records(own)):
+            yield cache_form(own, keys_cache({60, k}, 40), "bad")
+            yield cache_form(own, keys_cache({60, 400, (k + 50) % 2 ** 256}, 40), "3")
+    yield cache_form(TWO, keys_cache([99, 101, 199, 201], 20), "4")
+    yield cache_form(TWO, keys_cache(range(101, 121), 20), "20")
+    yield cache_form(TWO, keys_cache([100, 101, 199], 20), "bad")
+    yield cache_form(TWO, keys_cache(range(181, 201), 20), "bad")
+    yield "# none of their keys inquired about; a flood may have any"
+    for k, want in ((100, "bad"), (200, "bad"), (150, "1")):
+        yield waiting_form(TWO, table([inquiry(1, k)]), want)
+        yield waiting_form(TWO, table([flood(1, 100), inquiry(2, k), flood(3, 200)]), "3" if want == "1" else want)
+    for k, want in ((100, "bad"), (200, "bad"), (300, "bad"), (TOP, "bad"), (0, "1"), (TOP - 1, "1")):
+        yield waiting_form(four, table([inquiry(1, k)]), want)
+    yield tick(TWO, table([flood(3, 100), inquiry(4, 150), flood(5, 200, 0)]), 3, "0:3,4 0:3,4 0:- 0")
+    yield from ponds_learning()
+    yield from ponds_lists()
+    yield from ponds_near()
+    yield from ponds_refused()
+
+
+# Own keys, keys held, the key learned and the one dropped, of C as many as are held.
+def drop(own, held, new, gone):
+    held, gone = [n % 2 ** 256 for n in held], gone % 2 ** 256
+    left = sorted(n for n in held + [new] if n != gone)
+    return learn(ours(*own), keys_cache(held, len(held)), slim(new), "0 " + listed(left))
+
+
+def ponds_learning():
+    yield "# own 100 and 200, C 20, both lists full: 150 is dropped, and whatever else comes that is in neither"
+    for new in (150, 94, 206, 0, 106, 194, TOP, HALF):
+        yield drop((100, 200), TWENTY, new, new)
+    yield "# a newcomer that is in a list takes its last out, which is dropped where it is in no other"
+    between = [n for n in TWENTY if n not in (105, 195)]
+    yield drop((100, 200), [106] + [n for n in TWENTY if n != 105], 105, 106)
+    yield drop((100, 200), [194] + [n for n in TWENTY if n != 195], 195, 194)
+    yield drop((100, 200), [94] + TWENTY[1:], 95, 94)
+    yield drop((100, 200), TWENTY[:-1] + [206], 205, 206)
+    for new, gone in ((195, 190), (105, 110), (150, 150)):
+        yield drop((100, 200), between + [110, 190], new, gone)
+    for new in (105, 195, 152):
+        yield drop((100, 200), between + [150, 151], new, 150 if new == 105 else 151)
+    yield "# the farthest from the first goes, though it is near to the second; one in the second's list stays, however far from the first"
+    near_both = [n for i in (100, 1000) for n in range(i - 5, i + 6) if n != i]
+    yield drop((100, 1000), near_both + [120, 121], 1006, 1006)
+    yield drop((100, 1000), near_both + [120, 121], 122, 122)
+    yield drop((100, 1000), near_both + [120, 994], 121, 994)
+    yield drop((100, 1000), list(range(90, 100)) + list(range(101, 106)) + list(range(995, 1000)), 100000, 90)
+    yield drop((100, 100 + HALF), list(range(90, 100)) + list(range(101, 111)), 100 + HALF // 2, 106)
+    yield "# equally far from the first: the lower number; where that is in the second's list, the other"
+    yield drop((100, 1000), near_both + list(range(88, 95)) + list(range(106, 112)), 112, 88)
+    yield drop((100, 1000), near_both + list(range(89, 95)) + list(range(106, 113)), 88, 88)
+    yield drop((100, 100 + HALF), list(range(88, 100)) + list(range(101, 112)) + [HALF + n for n in range(95, 100)], 112, 112)
+    yield drop((0, 1000), [n for n in range(-9, 9) if n] + list(range(995, 1000)) + list(range(1001, 1006)), 9, 9)
+    yield drop((TOP - 1000, TOP), [TOP - 1000 + n for n in range(-9, 9) if n] + list(range(TOP - 5, TOP)) + [0, 1, 2, 3, 4], TOP - 991, TOP - 1009)
+    yield "# own keys on either side of 0, and just opposite"
+    yield drop((2, TOP - 1), [-12, -11, -10, -9, -8, -7, -6, -5, -4, -3, -1, 0, 1, 3, 4, 5, 6, 7, 8, 9], 10, -12)
+    yield drop((0, HALF), [n for n in range(-7, 8) if n] + [HALF + n for n in (-3, -2, -1, 1, 2, 3)], HALF - 4, 6)
+    yield drop((1, HALF + 1), list(range(-9, 1)) + list(range(2, 7)) + [HALF + n for n in (-2, -1, 0, 2, 3)], HALF + 4, -7)
+    yield "# four of them, C 40: each list full, and one more; beside each other, with one list for all"
+    forty = sorted(1000 * i + n for i in (1, 2, 3, 4) for n in FIVES)
+    for new in (0, 500, 1500, 2500, 3500, 4500, 1006, 3994):
+        yield drop((1000, 2000, 3000, 4000), forty, new, new)
+    yield drop((1000, 2000, 3000, 4000), [n for n in forty if n != 2003] + [2010], 2003, 2010)
+    yield drop((100, 101, 102, 103), list(range(80, 100)) + list(range(104, 124)), 124, 124)
+    yield drop((100, 101, 102, 103), list(range(81, 100)) + list(range(104, 125)), 80, 124)
+    yield "# room left, a held key, a removal: as with one"
+    yield learn(TWO, keys_cache(TWENTY[:-1], 20), slim(150), "0 " + listed(sorted(TWENTY[:-1] + [150])))
+    yield learn(TWO, keys_cache(TWENTY, 20), record(197), "0 " + listed(TWENTY))
+    yield remove(TWO, keys_cache(TWENTY, 20), key(195), "0 " + listed(n for n in TWENTY if n != 195))
+    yield remove(TWO, keys_cache(TWENTY, 20), key(200), "0 " + listed(TWENTY))
+
+
+def ponds_lists():
+    yield "# a list for each own key; of a key that is not ours: 12"
+    held = keys_cache(TWENTY, 20)
+    yield neighbours(TWO, held, "0 5 5 63,62,61,60,5f,65,66,67,68,69", key(100))
+    yield neighbours(TWO, held, "0 5 5 c7,c6,c5,c4,c3,c9,ca,cb,cc,cd", key(200))
+    for k in (150, 99, 0, 2 ** 255 + 100, 2 ** 32 + 200, TOP):
+        yield neighbours(TWO, held, "12", key(k))
+    yield "# one key in the lists of two; own keys themselves are in none; own keys beside each other, and just opposite"
+    yield neighbours(TWO, keys_cache([150], 20), "0 0 1 96", key(100))
+    yield neighbours(TWO, keys_cache([150], 20), "0 1 0 96", key(200))
+    for k, want in ((100, "0 1 1 63,67"), (101, "0 1 1 63,67"), (102, "0 1 1 63,67")):
+        yield neighbours(ours(100, 101, 102), keys_cache([99, 103], 30), want, key(k))
+    for k, below, above in ((0, [TOP], [1, HALF]), (HALF - 1, [1], [HALF, TOP]), (TOP - 1, [HALF], [TOP, 1])):
+        yield neighbours(ours(0, HALF - 1, TOP - 1), keys_cache([1, HALF, TOP], 30), "0 1 2 " + listed(below + above), key(k))
+    yield neighbours(ours(0, HALF), keys_cache([], 20), "0 0 0 -", key(HALF))
+    yield "# 1 before 12: a key of another length, a cache of 19, own records out of order"
+    for k in (b"", key(100)[:31], key(100) + b"\0"):
+        yield neighbours(TWO, held, "1", k)
+    yield neighbours(TWO, keys_cache(TWENTY[:19], 19), "1", key(150))
+    yield neighbours(ours(200, 100), held, "1", key(150))
+
+
+def ponds_near():
+    yield "# every own record is a candidate, and none is passed over"
+    for own, held, target, want in ((TWO, [], 0, 100), (TWO, [], 150, 100), (TWO, [], 151, 200), (TWO, [], 200, 200), (TWO, [], HALF + 149, 200),
+                                    (TWO, [], HALF + 150, 200), (TWO, [], HALF + 151, 100), (TWO, [160], 170, 160), (TWO, [160], 180, 160),
+                                    (TWO, [160], 181, 200), (TWO, [199, 201], 200, 200), (TWO, [140], 171, 200), (TWO, [140], 170, 140),
+                                    (ours(0, HALF, TOP), [], HALF - 1, HALF), (ours(0, HALF, TOP), [5], TOP - 1, TOP), (ours(1, TOP), [], 0, TOP),
+                                    (ours(98, 102), [96, 104], 100, 98), (ours(96, 104), [98, 102], 100, 98), (ours(96, 102), [104], 100, 102)):
+        yield closest(own, keys_cache(held, 40), key(target), want)
+    path = point(5000, ANY)
+    yield closest(TWO, keys_cache([150, 199], 20), key(199), 200, path)
+    yield closest(TWO, keys_cache([150, 101], 20), key(149), 100, path)
+    yield closest(at(100, 5000, ANY) + at(200, 5000, ANY), keys_cache([150, 199], 20), key(199), 200, path)
+
+
+def ponds_refused():
+    yield "# own records out of form: none, not whole, five, keys equal or falling, one of them out of form"
+    good, held = ours(100, 200, 300), keys_cache([60], 60)
+    for own in (b"", good[:99], good[:101], good[:199], good + b"\0", ours(1, 2, 3, 4, 5), ours(100, 100), ours(200, 100), ours(100, 300, 200),
+                ours(200, 100, 300), ours(100, 200, 200), put(good, 34, b"\0"), put(good, 134, b"\0"), put(good, 234, b"\2"), put(good, 135, b"\1"),
+                put(good, 152, b"\1"), put(good, 299, b"\1"), good[:100] + bytes(100), bytes(200)):
+        yield learn(own, held, slim(7), "1")
+        yield remove(own, held, key(60), "1")
+        yield neighbours(own, held, "1", key(100))
+        yield closest(own, held, key(7), "1")
+        yield search(own, held, key(60), "1")
+    yield "# and one to four in form, of which the first may be 0 and the last the greatest"
+    for own in (ours(0), ours(0, TOP), ours(0, 1, 2), ours(0, 1, HALF, TOP)):
+        yield learn(own, held, slim(7), "0 7,3c")
+        yield search(own, held, key(60), "0 1 1")
+        yield search(own, held, own[-100:-68], "0 0 1")
+
+
 def ticks():
     yield "# the tick: case 12, a place with two tries: listed, listed, freed"
     yield tick(OWN, table([flood(3, 7)]), 3, "0:3 0:3 0:- 0")
@@ -733,7 +890,7 @@ def ticks():
 
 def vectors():
     """Headings as strings, vectors as (operands, answer)."""
-    for part in (cache_forms, waiting_forms, learning, removing, lists, near, on_the_path, ring_lists, ring_learning, ring_near, halving,
+    for part in (cache_forms, waiting_forms, learning, removing, lists, near, on_the_path, ring_lists, ring_learning, ring_near, ponds, halving,
                  comparing, outwards, ticks):
         yield from part()
 
@@ -745,26 +902,34 @@ def check():
     assert all(model.old_record_form(record(7, n)) and not model.record_form(record(7, n)) and kept(record(7, n)) == record(7) for n in (2, 3, 4))
     assert model.waiting_of(model.waits(OWN, table([flood(1, 7), inquiry(2, 8)]))) == table([flood(1, 7), inquiry(2, 8)])
     assert model.cache_of(model.held(OWN, cache([60, 70])), 1000) == cache([60, 70])
-    # Learning is settled by its result: of the old keys and the new one at most C are left, and what is missing is the farthest of the longer side.
-    # Sides by steps from our own, from 1 - 2^255 to 2^255: above where it is positive, and the farther the greater without its sign.
+    # Learning is settled by its result: of the old keys and the new one at most C are left; what is missing has five keys or more before it on its
+    # side of each own key, and of all such keys it is the farthest from the first, of two the lower. Sides by steps from an own key, from 1 - 2^255
+    # to 2^255: above where they are positive, and the farther the greater without their sign.
     import random
     chance = random.Random(140)
     near_own, opposite = list(range(-20, 21)), list(range(HALF - 20, HALF + 21))
-    for _ in range(4000):
-        c, own = chance.randint(10, 14), chance.choice([chance.randrange(1, 40), HALF + chance.randrange(-20, 21), -chance.randrange(1, 20),
-                                                        chance.randrange(2 ** 256)]) % 2 ** 256
-        ring = sorted({(own + n) % 2 ** 256 for n in chance.choice([near_own, opposite, near_own + opposite])} - {own})
-        keys, new = sorted(chance.sample(ring, chance.randrange(c + 1))), chance.choice(ring)
-        after = [model.key_of(r) for r in model.learned(record(own), [record(k) for k in keys], record(new), c)]
+
+    def steps(start, k):
+        return (k - start + HALF - 1) % 2 ** 256 - (HALF - 1)
+
+    def before(start, k, keys):
+        return [x for x in keys if (steps(start, x) > 0) == (steps(start, k) > 0) and abs(steps(start, x)) < abs(steps(start, k))]
+
+    for turn in range(4000):
+        n, start = 1 if turn % 2 else chance.randint(2, 4), chance.choice([chance.randrange(1, 40), HALF + chance.randrange(-20, 21),
+                                                                           -chance.randrange(1, 20), chance.randrange(2 ** 256)])
+        around_it = sorted({(start + n) % 2 ** 256 for n in chance.choice([near_own, opposite, near_own + opposite])})
+        own, c = sorted(chance.sample(around_it, n)), 10 * n + chance.randint(0, 4)
+        ring = [k for k in around_it if k not in own]
+        keys = sorted(chance.sample(ring, min(len(ring) - 1, c if chance.random() < 0.6 else chance.randrange(c + 1))))
+        new = chance.choice(ring)
+        after = [model.key_of(r) for r in model.learned(ours(*own), [record(k) for k in keys], record(new), c)]
         all_keys = sorted(set(keys) | {new})
         gone = [k for k in all_keys if k not in after]
         assert after == [k for k in all_keys if k not in gone] and len(gone) == max(0, len(all_keys) - c)
-        steps = {k: (k - own + HALF - 1) % 2 ** 256 - (HALF - 1) for k in all_keys}
+        free = [k for k in all_keys if all(len(before(o, k, all_keys)) >= 5 for o in own)]
         for k in gone:
-            side = [x for x in all_keys if (steps[x] > 0) == (steps[k] > 0)]
-            other = [x for x in all_keys if (steps[x] > 0) != (steps[k] > 0)]
-            assert len(side) > len(other) or (len(side) == len(other) and steps[k] > 0)
-            assert all(abs(steps[x]) <= abs(steps[k]) for x in side)
+            assert k in free and all((abs(steps(own[0], x)), -x) <= (abs(steps(own[0], k)), -k) for x in free)
     assert list(vectors())  # each `want` is compared on the way
 
 

@@ -1,7 +1,7 @@
 /* The eight calls in plain C, written for speed: what the archive is measured against. It makes every test of document 01, with document 02's ring,
- * path, one address and count of keys compared, and gives the same numbers and bytes; nothing is written before the last refusal is decided. Numbers
- * are loaded whole and swapped, keys compared by words up to the first that differ, runs of bytes moved by the C library. For x86-64: words are read
- * least significant byte first.
+ * path, one address, count of keys compared and several own records, and gives the same numbers and bytes; nothing is written before the last refusal
+ * is decided. Numbers are loaded whole and swapped, keys compared by words up to the first that differ, runs of bytes moved by the C library. For
+ * x86-64: words are read least significant byte first.
  *
  *   PLAIN    begins the names of the calls
  *   HALVE    keys are searched by halving. Without it one record is looked at after the other up to the key's place, but in the two calls that tell
@@ -112,43 +112,134 @@ static inline bool old_formed(const uint8_t *r)
     }
 }
 
-static bool own_formed(const uint8_t *own, size_t len)
-{
-    return len == 100 && record_formed(own);
-}
-
 /* `old` is known where each is called, and the other form's test is not in the code. */
 static inline bool formed(const uint8_t *r, bool old)
 {
     return old ? old_formed(r) : record_formed(r);
 }
 
-/* How many records are held. The first word of the key before is carried along. */
-static inline size_t cache_rows(const uint8_t *own, const uint8_t *cache, size_t len, bool old)
+/* Our own records, one to four. Most gauges have one: it is looked at first, and what is done for the others is in functions of its own. */
+struct own {
+    const uint8_t *at, *end;
+};
+
+static inline bool is_one(struct own own)
 {
-    if (len < 1000 || len > 25600 || len % 100 != 0)
+    return __builtin_expect(own.end - own.at == 100, 1);
+}
+
+__attribute__((noinline)) static bool later_rows(struct own own, bool old)
+{
+    size_t len = (size_t)(own.end - own.at);
+    if (len % 100 != 0 || len - 100 > 300)
+        return false;
+    for (const uint8_t *r = own.at + 100; r < own.end; r += 100)
+        if (!formed(r, old) || !less(big(r - 100), r - 100, big(r), r))
+            return false;
+    return true;
+}
+
+static inline bool own_rows(struct own own, bool old)
+{
+    return (is_one(own) || later_rows(own, old)) && formed(own.at, old);
+}
+
+static bool own_formed(struct own own)
+{
+    return own_rows(own, false);
+}
+
+__attribute__((noinline)) static const uint8_t *later_with(struct own own, const uint8_t *key)
+{
+    for (const uint8_t *r = own.at + 100; r < own.end; r += 100)
+        if (same_key(r, key))
+            return r;
+    return NULL;
+}
+
+/* The own record with this key; or NULL. */
+static inline const uint8_t *own_with(struct own own, const uint8_t *key)
+{
+    return same_key(own.at, key) ? own.at : is_one(own) ? NULL : later_with(own, key);
+}
+
+#ifdef HALVE
+/* Our own keys are looked for behind the walk over the records: a search is short. */
+static bool find(const uint8_t *cache, size_t held, const uint8_t *key, size_t *at);
+
+static bool own_held(struct own own, const uint8_t *cache, size_t held)
+{
+    size_t at;
+    const uint8_t *r = own.at;
+    do
+        if (find(cache, held, r, &at))
+            return true;
+    while ((r += 100) < own.end);
+    return false;
+}
+#define MEETS_OWN(top, r) false
+#define OWN_HELD(held) own_held(own, cache, held)
+#else
+/* Our own keys are compared on the way, as both go up. Is a record whose first word is not below that of the next own key that key? Else the own key
+ * that is next from here on. */
+__attribute__((noinline)) static bool meets_own(struct own *next, uint64_t *ours, uint64_t top, const uint8_t *r)
+{
+    while (next->at < next->end && less(big(next->at), next->at, top, r))
+        next->at += 100;
+    *ours = next->at < next->end ? big(next->at) : UINT64_MAX;
+    return next->at < next->end && same_key(next->at, r);
+}
+#define MEETS_OWN(top, r) (top >= ours && meets_own(&next, &ours, top, r))
+#define OWN_HELD(held) false
+#endif
+
+/* How many records are held. The first word of the key before is carried along. */
+static inline size_t cache_rows(struct own own, const uint8_t *cache, size_t len, bool old)
+{
+    if (len < 10 * (size_t)(own.end - own.at) || len > 25600 || len % 100 != 0)
         return NOT_IN_FORM;
     const uint8_t *r = cache, *end = cache + len;
-    uint64_t before = 0, ours = big(own);
+    uint64_t before = 0;
+#ifndef HALVE
+    struct own next = own;
+    uint64_t ours = big(own.at);
+#endif
     for (; r < end && formed(r, old); r += 100) {
         uint64_t top = big(r);
         if (top <= before && r != cache && !less(before, r - 100, top, r))
             return NOT_IN_FORM;
-        if (top == ours && same_rest(r, own))
+        if (MEETS_OWN(top, r))
             return NOT_IN_FORM;
         before = top;
     }
-    return all_zero(r, (size_t)(end - r)) ? (size_t)(r - cache) / 100 : NOT_IN_FORM;
+    size_t held = (size_t)(r - cache) / 100;
+    return all_zero(r, (size_t)(end - r)) && !OWN_HELD(held) ? held : NOT_IN_FORM;
 }
 
-static size_t cache_form(const uint8_t *own, const uint8_t *cache, size_t len)
+static size_t cache_form(struct own own, const uint8_t *cache, size_t len)
 {
     return cache_rows(own, cache, len, false);
 }
 
-static inline bool inquiry_formed(const uint8_t *own, const uint8_t *waiting, const uint8_t *p, bool old)
+/* So many CPAs, each behind its length, and nothing more. */
+static inline bool cpas_formed(struct own own, const uint8_t *cpas, size_t len)
 {
-    if (!formed(p + 40, old) || !same_key(p + 8, p + 40) || same_key(p + 8, own))
+    for (const uint8_t *r = own.at; r < own.end; r += 100) {
+        uint16_t one;
+        if (len < 2)
+            return false;
+        memcpy(&one, cpas, 2);
+        if (one - 1u > 1023 || len - 2 < one)
+            return false;
+        cpas += 2 + one;
+        len -= 2 + (size_t)one;
+    }
+    return len == 0;
+}
+
+static inline bool inquiry_formed(struct own own, const uint8_t *waiting, const uint8_t *p, bool old)
+{
+    if (!formed(p + 40, old) || !same_key(p + 8, p + 40) || own_with(own, p + 8) != NULL)
         return false;
     for (const uint8_t *q = waiting; q < p; q += 140)
         if (word(q + 8) == word(p + 8) && q[4] == 2 && same_rest(q + 8, p + 8))
@@ -157,7 +248,7 @@ static inline bool inquiry_formed(const uint8_t *own, const uint8_t *waiting, co
 }
 
 /* How many places are used. The first eight bytes of a place are one word: ID, kind, tries and two that are zero. */
-static inline size_t waiting_rows(const uint8_t *own, const uint8_t *waiting, size_t len, bool old)
+static inline size_t waiting_rows(struct own own, const uint8_t *waiting, size_t len, bool old)
 {
     if (len != 2240)
         return NOT_IN_FORM;
@@ -174,7 +265,7 @@ static inline size_t waiting_rows(const uint8_t *own, const uint8_t *waiting, si
     return all_zero(p, (size_t)(end - p)) ? (size_t)(p - waiting) / 140 : NOT_IN_FORM;
 }
 
-static size_t waiting_form(const uint8_t *own, const uint8_t *waiting, size_t len)
+static size_t waiting_form(struct own own, const uint8_t *waiting, size_t len)
 {
     return waiting_rows(own, waiting, len, false);
 }
@@ -537,18 +628,19 @@ static inline bool apart(const struct key *target, const struct key *k, struct k
     return true;
 }
 
+/* A record by its place: our own from 0, those held from 4. */
 struct nearest {
-    const uint8_t *record;
+    size_t place;
     struct key far;
     bool up;
 };
 
-static inline void try_record(struct nearest *best, const struct key *target, const uint8_t *r)
+static inline void try_record(struct nearest *best, const struct key *target, size_t place, const uint8_t *r)
 {
     struct key k = key_at(r), far;
     bool up = apart(target, &k, &far);
     if (key_less(&far, &best->far) || (best->up && !up && !key_less(&best->far, &far))) {
-        best->record = r;
+        best->place = place;
         best->far = far;
         best->up = up;
     }
@@ -577,47 +669,139 @@ static bool on_path(const struct path *path, const uint8_t *r)
 
 /* Keys go round: of those held only the two next to the target's place can be the closest, and where those are on the path the next ones that are
  * not. */
-static const uint8_t *closest(const uint8_t *own, const uint8_t *cache, size_t held, const struct path *path, const uint8_t *target, size_t at)
+static size_t closest(struct own own, const uint8_t *cache, size_t held, const struct path *path, const uint8_t *target, size_t at)
 {
-    struct key goal = key_at(target), ours = key_at(own);
-    struct nearest best = {own, {0, 0, 0, 0}, false};
+    struct key goal = key_at(target), ours = key_at(own.at);
+    struct nearest best = {0, {0, 0, 0, 0}, false};
     best.up = apart(&goal, &ours, &best.far);
+    for (const uint8_t *r = own.at + 100; r < own.end; r += 100)
+        try_record(&best, &goal, (size_t)(r - own.at) / 100, r);
     size_t down = at, up = at, left = held;
     while (left > 0 && (up = up < held ? up + 1 : 1, on_path(path, cache + 100 * (up - 1))))
         left--;
     if (left == 0)
-        return own;
+        return best.place;
     while (down = down > 0 ? down - 1 : held - 1, on_path(path, cache + 100 * down))
         continue;
-    try_record(&best, &goal, cache + 100 * down);
-    try_record(&best, &goal, cache + 100 * (up - 1));
-    return best.record;
+    try_record(&best, &goal, 4 + down, cache + 100 * down);
+    try_record(&best, &goal, 4 + up - 1, cache + 100 * (up - 1));
+    return best.place;
 }
 
-/* Where the keys above our own begin in the cache, and how many there are: up to the key just opposite, which is above too, round the end of the
+/* Where the keys above one of ours begin in the cache, and how many there are: up to the key just opposite, which is above too, round the end of the
  * cache. */
 struct sides {
     size_t from, above;
 };
 
-static struct sides sides_of(const uint8_t *own, const uint8_t *cache, size_t held)
+static struct sides sides_of(const uint8_t *ours, const uint8_t *cache, size_t held)
 {
     uint8_t opposite[32];
     size_t end;
-    memcpy(opposite, own, 32);
+    memcpy(opposite, ours, 32);
     opposite[0] ^= 0x80;
-    struct sides s = {below(cache, held, own), 0};
+    struct sides s = {below(cache, held, ours), 0};
     end = below(cache, held, opposite);
     if (end < held && same_key(cache + 100 * end, opposite))
         end++;
-    s.above = own[0] < 0x80 ? end - s.from : held - s.from + end;
+    s.above = ours[0] < 0x80 ? end - s.from : held - s.from + end;
     return s;
 }
 
-static bool is_above(const uint8_t *own, const uint8_t *key)
+static bool is_above(const uint8_t *ours, const uint8_t *key)
 {
-    struct key k = key_at(key), o = key_at(own), up = minus(&k, &o);
+    struct key k = key_at(key), o = key_at(ours), up = minus(&k, &o);
     return up.a >> 63 == 0 || (up.a == (uint64_t)1 << 63 && (up.b | up.c | up.d) == 0);
+}
+
+static inline size_t least(size_t a, size_t b)
+{
+    return a < b ? a : b;
+}
+
+/* The records of a full cache and one more, which would stand at a place: all by their places, in the order of their keys. */
+struct more {
+    const uint8_t *cache, *record;
+    size_t at, all;
+};
+
+static inline const uint8_t *one_of(const struct more *m, size_t i)
+{
+    return i == m->at ? m->record : m->cache + 100 * (i - (i > m->at));
+}
+
+static inline size_t place_down(const struct more *m, size_t i)
+{
+    return i > 0 ? i - 1 : m->all - 1;
+}
+
+static struct sides sides_among(const struct more *m, const uint8_t *ours)
+{
+    struct sides s = sides_of(ours, m->cache, m->all - 1);
+    s.from += less(big(m->record), m->record, big(ours), ours);
+    s.above += is_above(ours, m->record);
+    return s;
+}
+
+/* Of two places the one whose key is farther from our first; of two equally far the lower. */
+static size_t farther(const struct more *m, const uint8_t *first, size_t i, size_t k)
+{
+    struct key ours = key_at(first), a = key_at(one_of(m, i)), b = key_at(one_of(m, k)), a_far, b_far;
+    apart(&ours, &a, &a_far);
+    apart(&ours, &b, &b_far);
+    if (key_less(&a_far, &b_far))
+        return k;
+    return key_less(&b_far, &a_far) ? i : least(i, k);
+}
+
+/* A neighbour list by places: so many from the first on, round the end. */
+struct run {
+    size_t first, many;
+};
+
+static struct run list_among(const struct more *m, struct sides s)
+{
+    size_t under = least(m->all - s.above, 5);
+    struct run list = {s.from < under ? s.from + m->all - under : s.from - under, under + least(s.above, 5)};
+    return list;
+}
+
+static inline bool listed(const struct run *lists, size_t many, size_t all, size_t i)
+{
+    for (size_t k = 0; k < many; k++) {
+        size_t steps = i < lists[k].first ? i + all - lists[k].first : i - lists[k].first;
+        if (steps < lists[k].many)
+            return true;
+    }
+    return false;
+}
+
+/* Which goes where there are several own keys: from the place opposite of the first outwards, the first on either way that is in no list; of these
+ * two the farther. */
+static size_t dropped_of_lists(struct own own, const struct more *m, struct sides first, size_t opposite)
+{
+    struct run lists[4] = {list_among(m, first)};
+    size_t many = 1, up = opposite, down = place_down(m, opposite);
+    for (const uint8_t *r = own.at + 100; r < own.end; r += 100)
+        lists[many++] = list_among(m, sides_among(m, r));
+    while (listed(lists, many, m->all, up))
+        up = up + 1 < m->all ? up + 1 : 0;
+    while (listed(lists, many, m->all, down))
+        down = place_down(m, down);
+    return farther(m, own.at, up, down);
+}
+
+/* Which goes: of those in no list the farthest from our first key. With one own key the two farthest out are on either side of the place opposite,
+ * and one of them is in the list only where its side has no more than five. */
+static size_t dropped(struct own own, const struct more *m)
+{
+    struct sides s = sides_among(m, own.at);
+    size_t end = s.from + s.above, opposite = end < m->all ? end : end - m->all;
+    if (!is_one(own))
+        return dropped_of_lists(own, m, s, opposite);
+    if (m->all - s.above <= 5)
+        return place_down(m, opposite);
+    return s.above <= 5 ? opposite : farther(m, own.at, opposite, place_down(m, opposite));
 }
 
 /* The place before which an ID would stand; whether it waits. */
@@ -655,7 +839,7 @@ static void remove_key(uint8_t *cache, size_t held, const uint8_t *key)
         take_out(cache, 100, held, at);
 }
 
-static void learn(const uint8_t *own, uint8_t *cache, size_t len, size_t held, const uint8_t *record)
+static void learn(struct own own, uint8_t *cache, size_t len, size_t held, const uint8_t *record)
 {
     size_t at;
     uint8_t *to;
@@ -669,12 +853,8 @@ static void learn(const uint8_t *own, uint8_t *cache, size_t len, size_t held, c
         memcpy(to, record, 100);
         return;
     }
-    struct sides s = sides_of(own, cache, held);
-    s.from += less(big(record), record, big(own), own);
-    s.above += is_above(own, record);
-    size_t gone = s.from + s.above - (2 * s.above >= held + 1); /* of held and newcomer; more below: the first past those above */
-    if (gone > held)
-        gone -= held + 1;
+    struct more m = {cache, record, at, held + 1};
+    size_t gone = dropped(own, &m);
     if (gone == at)
         return;
     if (gone < at) {
@@ -781,16 +961,17 @@ static inline struct gauge_answer answer(uint32_t number, size_t first, size_t s
 
 /* What a receive hands on, once its memory is in form and its message read. */
 struct receive {
-    const uint8_t *own, *cpa, *nonce, *key, *d;
+    struct own own;
+    const uint8_t *cpas, *nonce, *key, *d;
     uint8_t *cache, *waiting, *output;
-    size_t cpa_len, cache_len, room, held, used;
+    size_t cache_len, room, held, used;
     struct header h;
     uint32_t verdict;
 };
 
 static size_t ack_room(const struct receive *r, const struct message *m, bool *n)
 {
-    *n = !same_key(r->d + m->validate_at, r->own);
+    *n = own_with(r->own, r->d + m->validate_at) == NULL;
     return m->d ? 0 : *n ? 26 : 20;
 }
 
@@ -835,7 +1016,7 @@ static inline void ask(const struct receive *r, const uint8_t *entry, size_t fir
 static struct gauge_answer take_entry(const struct receive *r, const struct message *m)
 {
     const uint8_t *entry = r->d + m->seen.entry_at;
-    if (same_key(entry, r->own))
+    if (own_with(r->own, entry) != NULL)
         return answer(11, 0, 0);
     bool n, opens;
     size_t at = 0, first = ack_room(r, m, &n);
@@ -854,7 +1035,7 @@ static struct gauge_answer take_revocation(const struct receive *r, const struct
 {
     if (r->verdict != 1)
         return answer(9, 0, 0);
-    if (same_key(r->key, r->own))
+    if (own_with(r->own, r->key) != NULL)
         return answer(11, 0, 0);
     bool n;
     size_t first = ack_room(r, m, &n), at = find_inquiry(r->waiting, r->used, r->key);
@@ -895,24 +1076,32 @@ static struct gauge_answer take_ack(const struct receive *r, const struct messag
 
 static struct gauge_answer answer_inquire(const struct receive *r, const struct message *m)
 {
-    if (!same_key(r->d + m->validate_at, r->own))
+    const uint8_t *ours = own_with(r->own, r->d + m->validate_at), *cpa = r->cpas;
+    uint16_t len;
+    if (ours == NULL)
         return answer(12, 0, 0);
-    if (40 + r->cpa_len > r->room)
+    memcpy(&len, cpa, 2);
+    for (const uint8_t *before = r->own.at; before < ours; before += 100) {
+        cpa += 2 + len;
+        memcpy(&len, cpa, 2);
+    }
+    if (40 + (size_t)len > r->room)
         return answer(15, 0, 0);
-    uint8_t *o = put_authority(r->output, r->h, m->seen.id, (uint32_t)(12 + r->cpa_len));
-    put(put4(o, (uint32_t)(0x009B0004 + r->cpa_len)), r->cpa, r->cpa_len);
-    return answer(0, 40 + r->cpa_len, 0);
+    uint8_t *o = put_authority(r->output, r->h, m->seen.id, 12u + len);
+    put(put4(o, 0x009B0004u + len), cpa + 2, len);
+    return answer(0, 40 + (size_t)len, 0);
 }
 
 static struct gauge_answer answer_lookup(const struct receive *r, const struct message *m)
 {
     struct path path = {r->d + m->path_at, m->path_len};
     const uint8_t *target = r->d + m->seen.target_at, *entry = r->d + m->seen.entry_at;
-    const uint8_t *record = closest(r->own, r->cache, r->held, &path, target, below(r->cache, r->held, target));
+    size_t shown = closest(r->own, r->cache, r->held, &path, target, below(r->cache, r->held, target));
+    const uint8_t *record = shown < 4 ? r->own.at + 100 * shown : r->cache + 100 * (shown - 4);
     uint32_t size = 68, first = 28 + size, number = first > r->room ? 15 : 0;
     bool opens = false;
     size_t at = 0;
-    if (m->seen.entry_at != 0 && !same_key(entry, r->own))
+    if (m->seen.entry_at != 0 && own_with(r->own, entry) == NULL)
         number = plan_asking(r, entry, first, &opens, &at);
     if (number != 0)
         return answer(number, 0, 0);
@@ -922,22 +1111,23 @@ static struct gauge_answer answer_lookup(const struct receive *r, const struct m
     return answer(0, first, opens ? 76 : 0);
 }
 
-struct gauge_answer CALL(receive)(const uint8_t *own, size_t own_len, const uint8_t *cpa, size_t cpa_len, uint8_t *cache, size_t cache_len,
+struct gauge_answer CALL(receive)(const uint8_t *own, size_t own_len, const uint8_t *cpas, size_t cpas_len, uint8_t *cache, size_t cache_len,
                                   uint8_t *waiting, size_t waiting_len, uint8_t major, uint8_t minor, uint32_t id, const uint8_t *nonce_bytes,
                                   size_t nonce_len, uint32_t verdict, const uint8_t *key, size_t key_len, const uint8_t *datagram,
                                   size_t datagram_len, uint8_t *output, size_t output_len)
 {
-    if (!own_formed(own, own_len) || cpa_len < 1 || cpa_len > 1024 || nonce_len != 16 || key_len != 32)
+    struct own ours = {own, own + own_len};
+    if (!own_formed(ours) || !cpas_formed(ours, cpas, cpas_len) || nonce_len != 16 || key_len != 32)
         return answer(1, 0, 0);
-    size_t held = cache_form(own, cache, cache_len), used = waiting_form(own, waiting, waiting_len);
+    size_t held = cache_form(ours, cache, cache_len), used = waiting_form(ours, waiting, waiting_len);
     if (held == NOT_IN_FORM || used == NOT_IN_FORM)
         return answer(1, 0, 0);
     struct message m;
     uint32_t number = read_message(major, datagram, datagram_len, &m);
     if (number != 0)
         return answer(number, 0, 0);
-    struct receive r = {own,   cpa,        nonce_bytes, key,  datagram, cache, waiting, output, cpa_len, cache_len, output_len, held, used,
-                        {major, minor, id}, verdict};
+    struct header h = {major, minor, id};
+    struct receive r = {ours, cpas, nonce_bytes, key, datagram, cache, waiting, output, cache_len, output_len, held, used, h, verdict};
     switch (m.seen.kind) {
     case GAUGE_FLOOD: return m.seen.entry_at != 0 ? take_entry(&r, &m) : take_revocation(&r, &m);
     case GAUGE_INQUIRE: return answer_inquire(&r, &m);
@@ -952,15 +1142,16 @@ struct gauge_answer CALL(send)(const uint8_t *own, size_t own_len, const uint8_t
                                uint8_t major, uint8_t minor, uint32_t id, const uint8_t *neighbour, size_t neighbour_len, const uint8_t *key,
                                size_t key_len, uint8_t *output, size_t output_len)
 {
-    if (!own_formed(own, own_len) || neighbour_len != 32 || key_len != 32)
+    struct own ours = {own, own + own_len};
+    if (!own_formed(ours) || neighbour_len != 32 || key_len != 32)
         return answer(1, 0, 0);
-    size_t held = cache_form(own, cache, cache_len), used = waiting_form(own, waiting, waiting_len), at;
+    size_t held = cache_form(ours, cache, cache_len), used = waiting_form(ours, waiting, waiting_len), at;
     if (held == NOT_IN_FORM || used == NOT_IN_FORM)
         return answer(1, 0, 0);
     if (!find(cache, held, neighbour, &at))
         return answer(12, 0, 0);
-    const uint8_t *record = own;
-    if (!same_key(key, own)) {
+    const uint8_t *record = own_with(ours, key);
+    if (record == NULL) {
         if (!find(cache, held, key, &at))
             return answer(12, 0, 0);
         record = cache + 100 * at;
@@ -982,9 +1173,10 @@ struct gauge_answer CALL(send)(const uint8_t *own, size_t own_len, const uint8_t
 
 struct gauge_answer CALL(tick)(const uint8_t *own, size_t own_len, uint8_t *waiting, size_t waiting_len, uint8_t *output, size_t output_len)
 {
-    if (!own_formed(own, own_len))
+    struct own ours = {own, own + own_len};
+    if (!own_formed(ours))
         return answer(1, 0, 0);
-    size_t used = waiting_form(own, waiting, waiting_len), left = 0;
+    size_t used = waiting_form(ours, waiting, waiting_len), left = 0;
     if (used == NOT_IN_FORM)
         return answer(1, 0, 0);
     if (output_len < 64)
@@ -1003,17 +1195,21 @@ struct gauge_answer CALL(tick)(const uint8_t *own, size_t own_len, uint8_t *wait
     return answer(0, left, 0);
 }
 
-struct gauge_answer CALL(neighbours)(const uint8_t *own, size_t own_len, const uint8_t *cache, size_t cache_len, uint8_t *output, size_t output_len)
+struct gauge_answer CALL(neighbours)(const uint8_t *own, size_t own_len, const uint8_t *cache, size_t cache_len, const uint8_t *key, size_t key_len,
+                                     uint8_t *output, size_t output_len)
 {
-    if (!own_formed(own, own_len))
+    struct own ours = {own, own + own_len};
+    if (!own_formed(ours) || key_len != 32)
         return answer(1, 0, 0);
-    size_t held = cache_form(own, cache, cache_len);
+    size_t held = cache_form(ours, cache, cache_len);
     if (held == NOT_IN_FORM)
         return answer(1, 0, 0);
+    if (own_with(ours, key) == NULL)
+        return answer(12, 0, 0);
     if (output_len < 320)
         return answer(15, 0, 0);
-    struct sides s = sides_of(own, cache, held);
-    size_t first = held - s.above < 5 ? held - s.above : 5, second = s.above < 5 ? s.above : 5, i, at;
+    struct sides s = sides_of(key, cache, held);
+    size_t first = least(held - s.above, 5), second = least(s.above, 5), i, at;
     for (i = 0, at = s.from; i < first; i++) {
         at = at > 0 ? at - 1 : held - 1;
         output = put(output, cache + 100 * at, 32);
@@ -1028,22 +1224,23 @@ struct gauge_answer CALL(neighbours)(const uint8_t *own, size_t own_len, const u
 struct gauge_answer CALL(closest)(const uint8_t *own, size_t own_len, const uint8_t *cache, size_t cache_len, const uint8_t *path, size_t path_len,
                                   const uint8_t *target, size_t target_len)
 {
-    if (!own_formed(own, own_len) || path_len % 18 != 0 || target_len != 32)
+    struct own ours = {own, own + own_len};
+    if (!own_formed(ours) || path_len % 18 != 0 || target_len != 32)
         return answer(1, 0, 0);
-    size_t held = cache_form(own, cache, cache_len);
+    size_t held = cache_form(ours, cache, cache_len);
     if (held == NOT_IN_FORM)
         return answer(1, 0, 0);
     struct path points = {path, path_len};
     struct sought s = seek(cache, held, target);
-    const uint8_t *record = closest(own, cache, held, &points, target, s.at);
-    return answer(0, record == own ? 0 : 4 + (size_t)(record - cache) / 100, s.compared);
+    return answer(0, closest(ours, cache, held, &points, target, s.at), s.compared);
 }
 
 struct gauge_answer CALL(search)(const uint8_t *own, size_t own_len, const uint8_t *cache, size_t cache_len, const uint8_t *key, size_t key_len)
 {
-    if (!own_formed(own, own_len) || key_len != 32)
+    struct own ours = {own, own + own_len};
+    if (!own_formed(ours) || key_len != 32)
         return answer(1, 0, 0);
-    size_t held = cache_form(own, cache, cache_len);
+    size_t held = cache_form(ours, cache, cache_len);
     if (held == NOT_IN_FORM)
         return answer(1, 0, 0);
     struct sought s = seek(cache, held, key);
@@ -1058,9 +1255,10 @@ static void cut(uint8_t *record)
 
 struct gauge_answer CALL(convert)(const uint8_t *own, size_t own_len, uint8_t *cache, size_t cache_len, uint8_t *waiting, size_t waiting_len)
 {
-    if (own_len != 100 || !old_formed(own))
+    struct own ours = {own, own + own_len};
+    if (!own_rows(ours, true))
         return answer(1, 0, 0);
-    size_t held = cache_rows(own, cache, cache_len, true), used = waiting_rows(own, waiting, waiting_len, true);
+    size_t held = cache_rows(ours, cache, cache_len, true), used = waiting_rows(ours, waiting, waiting_len, true);
     if (held == NOT_IN_FORM || used == NOT_IN_FORM)
         return answer(1, 0, 0);
     for (uint8_t *r = cache; r < cache + 100 * held; r += 100)

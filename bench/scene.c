@@ -1,5 +1,5 @@
-/* The scenes of bench/scene.h. Keys, addresses and the rest are at random from a fixed seed. The own key lies in the middle of the keys held, and
- * half of the places wait: floods and inquiries in turn. */
+/* The scenes of bench/scene.h. Keys, addresses and the rest are at random from a fixed seed. The own key lies in the middle of the keys held, that of
+ * a second pond, where there is one, at three quarters; and half of the places wait: floods and inquiries in turn. */
 #include "scene.h"
 #include <stdbool.h>
 #include <string.h>
@@ -60,6 +60,20 @@ static void key_between(const struct scene *s, size_t i, uint8_t *key)
     fill_key(key, low + (high - low) / 2);
 }
 
+/* One own record more, with its CPA. */
+static void add_own(struct scene *s, const uint8_t *key)
+{
+    uint8_t *own = s->own + s->own_len, *cpa = s->cpas + s->cpas_len;
+    if (key != NULL)
+        memcpy(own, key, GAUGE_KEY_LEN);
+    fill_rest(own, 1);
+    cpa[0] = SCENE_CPA & 255;
+    cpa[1] = SCENE_CPA >> 8;
+    fill(cpa + 2, SCENE_CPA);
+    s->own_len += GAUGE_RECORD_LEN;
+    s->cpas_len += GAUGE_CPAS_LEN(SCENE_CPA);
+}
+
 /* C keys, of which each lies anywhere in its C-th part of all; or keys that differ in their last byte alone. */
 static void set_cache(struct scene *s, size_t c, bool alike)
 {
@@ -79,7 +93,17 @@ static void set_cache(struct scene *s, size_t c, bool alike)
         memset(s->own, 7, GAUGE_KEY_LEN - 2);
     else
         key_between(s, c / 2, s->own);
-    fill_rest(s->own, 1);
+    add_own(s, NULL);
+}
+
+/* A second pond, where the cache is large enough for two. */
+static void add_pond(struct scene *s)
+{
+    uint8_t key[GAUGE_KEY_LEN];
+    if (s->cache_len < SCENE_OWN * GAUGE_CACHE_LEN(GAUGE_CACHE_LEAST))
+        return;
+    key_between(s, 3 * s->held / 4, key);
+    add_own(s, key);
 }
 
 /* Floods to records held, and inquiries about keys that are not. */
@@ -387,9 +411,22 @@ static void tick(struct scene *s)
         s->wanted.first += s->waiting[GAUGE_PLACE_LEN * i + 5] != 0;
 }
 
-static void nothing_more(struct scene *s)
+static void neighbours(struct scene *s)
 {
-    (void)s;
+    memcpy(s->key, s->own, GAUGE_KEY_LEN);
+}
+
+/* With two ponds: a record learned into a full cache; the list of the second. */
+static void authority_ponds(struct scene *s)
+{
+    authority(s);
+    add_pond(s);
+}
+
+static void neighbours_ponds(struct scene *s)
+{
+    add_pond(s);
+    memcpy(s->key, s->own + s->own_len - GAUGE_RECORD_LEN, GAUGE_KEY_LEN);
 }
 
 static void own_unfit(struct scene *s)
@@ -425,6 +462,7 @@ static const struct kind kinds[] = {
     {"INQUIRE: AUTHORITY with CPA", RECEIVE, false, inquire, {0, 40 + SCENE_CPA, 0}},
     {"AUTHORITY: record joins", RECEIVE, false, authority_room, {0, 0, 0}},
     {"AUTHORITY: joins, another dropped", RECEIVE, false, authority, {0, 0, 0}},
+    {"AUTHORITY, two ponds: one dropped", RECEIVE, false, authority_ponds, {0, 0, 0}},
     {"ACK: place freed", RECEIVE, false, ack, {0, 0, 0}},
     {"ACK with N: key removed", RECEIVE, false, ack_n, {0, 0, 0}},
     {"LOOKUP: AUTHORITY with closest", RECEIVE, false, lookup, {0, 96, 0}},
@@ -433,7 +471,8 @@ static const struct kind kinds[] = {
     {"LOOKUP, new entry: INQUIRE too", RECEIVE, false, lookup_entry, {0, 96, 76}},
     {"send a FLOOD", SEND, false, send_flood, {0, 116, 0}},
     {"tick", TICK, false, tick, {0, 0, 0}},
-    {"neighbours", NEIGHBOURS, false, nothing_more, {0, 5, 5}},
+    {"neighbours", NEIGHBOURS, false, neighbours, {0, 5, 5}},
+    {"neighbours, two ponds: of the second", NEIGHBOURS, false, neighbours_ponds, {0, 5, 5}},
     {"closest", CLOSEST, false, closest, {0, 0, 0}},
     {"closest, two next on the path", CLOSEST, false, closest_past, {0, 0, 0}},
     {"search, key held", SEARCH, false, search, {0, 0, 0}},
@@ -452,8 +491,8 @@ static void lend(struct scene *s)
     struct lent *l = &s->lent;
     for (int i = 0; i < SLICES; i++)
         *slice_in(l, i) = as_room(zeros[i], slices[i].usual);
-    l->own = as_room(s->own, sizeof s->own);
-    l->cpa = as_room(s->cpa, sizeof s->cpa);
+    l->own = as_room(s->own, s->own_len);
+    l->cpas = as_room(s->cpas, s->cpas_len);
     l->cache = as_room(s->cache, s->cache_len);
     l->waiting = as_room(s->waiting, sizeof s->waiting);
     l->nonce = as_room(s->nonce, sizeof s->nonce);
@@ -481,7 +520,6 @@ void set_scene(struct scene *s, size_t i, size_t c)
     s->wanted = k->wanted;
     s->room = GAUGE_OUTPUT_LEN;
     s->id = 70000;
-    fill(s->cpa, sizeof s->cpa);
     fill(s->nonce, sizeof s->nonce);
     set_cache(s, c, k->alike);
     set_waiting(s);

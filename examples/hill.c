@@ -1,11 +1,13 @@
-/* The hill: 61 gauges in one process, and a radio between them that loses one datagram in ten and brings the others in no order.
+/* The hill: 61 ponds, their gauges in one process, and a radio between them that loses one datagram in ten and brings the others in no order. One
+ * gauge stands for two ponds, all others for one.
  *
  *     make hill
  *
  * Each gauge knows where one other is, and no more. Its radio program (all of them are this one) floods the gauge's own record to that other for some
- * seconds; and from the start, each second, it floods its own record or one that it holds to gauges that it holds. When every neighbour list is the true
- * one, three things happen: a gauge falls silent, another is revoked, and the address of a third, which has fallen silent too, is given to a new gauge.
- * Before that is known everywhere, the office asks on from gauge to gauge: without a path, which leads it round a circle, and with one.
+ * seconds; and from the start, each second, it floods its own record, of two each in its turn, or one that it holds to gauges that it holds. When
+ * every neighbour list is the true one, three things happen: a gauge falls silent, another is revoked, and the address of a third, which has fallen
+ * silent too, is given to a new gauge. Before that is known everywhere, the office asks on from gauge to gauge: without a path, which leads it round a
+ * circle, and with one.
  *
  * Each AUTHORITY carries a reading of the pond that sends it: gauge_carry puts it in, and gauge_carried tells it where the AUTHORITY is accepted. Readings
  * are made up here. Pond n is n / 4 metres deep, or has fault 700 + n where n ends with 5; 40 n litres came in, and 35 n went out, or 80 n where n leaves
@@ -16,8 +18,9 @@
  * (gauge_trace.h); the ponds' names, for bin/shown, to target/hill.names; the last reading of each pond on the hill, for bin/ponds, to target/hill.readings,
  * and the names in the same order to target/hill.readings.names.
  *
- * What a CPA is made of is no matter of the gauge. Here it is one zero byte, and a revoke CPA is the key; both are believed. Real ones are signed, and
- * hold the nonce of the INQUIRE. Random numbers here come in the same order at each run, so that each run is the same. */
+ * What a CPA is made of is no matter of the gauge. Here it is one byte, which tells for which of its gauge's ponds it is, 0 for the first, and a
+ * revoke CPA is the key; both are believed. Real ones are signed, and hold the nonce of the INQUIRE. Random numbers here come in the same order at
+ * each run, so that each run is the same. */
 #include "gauge_host.h"
 #include "gauge_trace.h"
 #include <stdarg.h>
@@ -30,7 +33,9 @@
 #define MINOR GAUGE_DRT_MINOR
 #define PONDS 61
 #define NEW 62      /* the gauge that gets another's address */
-#define RECORDED 34 /* the gauge whose calls are recorded */
+#define RECORDED 34 /* the gauge whose calls are recorded; it stands for one pond, as a trace has one own record */
+#define SECOND 44   /* this pond has no gauge of its own: .. */
+#define FIRST_OF 13 /* .. that of this one stands for both. In the cache are more than ten records for each. */
 #define FIRST 10    /* seconds in which a gauge floods its record to the one that it knows */
 #define FLOODS 2    /* to gauges held, each second */
 #define SENT 32     /* datagrams kept until they are answered: 16 at most wait, and some are not yet forgotten */
@@ -74,7 +79,8 @@ static unsigned closest;   /* the pond that the last answer to the office named,
 static unsigned closest_at; /* .. and the address that it named with it */
 static struct gauge_reading last[NEW + 1]; /* the last reading that came from a pond; its kind is 0 where none came */
 static unsigned long readings;             /* how many came */
-static const uint8_t cpa[GAUGE_TRACE_CPA_LEN] = {0};
+/* CPAs as they are lent, each behind its length: of the first pond of a gauge alone, as a trace wants it, or of both. */
+static const uint8_t cpas[] = {1, 0, 0, 1, 0, 1};
 #define OFFICE (&ponds[0]) /* it asks, and has no gauge */
 
 static void stop(const char *format, ...)
@@ -182,10 +188,18 @@ static uint32_t held(const struct pond *p)
     return gauge_lent_held(&p->lent);
 }
 
-/* The neighbour list. */
+/* The gauge that stands for a pond. */
+static const struct pond *gauge_of(const struct pond *p)
+{
+    return p == &ponds[SECOND] ? &ponds[FIRST_OF] : p;
+}
+
+/* The neighbour list of a pond, asked for by its key. */
 static struct gauge_answer neighbours(const struct pond *p, uint8_t *keys)
 {
-    struct gauge_answer a = gauge_neighbours(p->lent.own, sizeof p->lent.own, p->cache, sizeof p->cache, keys, GAUGE_LIST_LEN);
+    const struct gauge_lent *l = &gauge_of(p)->lent;
+    struct gauge_answer a = gauge_neighbours(l->own, l->own_len, l->cache, l->cache_len, p->lent.own + GAUGE_RECORD_KEY, GAUGE_KEY_LEN, keys,
+                                             GAUGE_LIST_LEN);
     if (a.number != GAUGE_OK)
         stop("pond %u: gauge_neighbours gave %u\n", number_of(p), a.number);
     return a;
@@ -217,11 +231,18 @@ static struct gauge_reading reading_of(unsigned number)
     return r;
 }
 
+/* The pond that an AUTHORITY of a gauge is for: where its CPA says so the second, else the first. */
+static unsigned pond_told(unsigned number, const uint8_t *bytes, size_t len)
+{
+    struct gauge_look_answer seen = gauge_look(MAJOR, bytes, len);
+    return number == FIRST_OF && seen.cpa_len > 0 && bytes[seen.cpa_at] == 1 ? SECOND : number;
+}
+
 /* An AUTHORITY of the gauge goes out with the pond's reading. */
 static void send_authority(const struct pond *p, unsigned to, const uint8_t *bytes, size_t len)
 {
     uint8_t output[GAUGE_DATAGRAM_MOST];
-    struct gauge_reading r = reading_of(number_of(p));
+    struct gauge_reading r = reading_of(pond_told(number_of(p), bytes, len));
     struct gauge_carry_answer c = gauge_lent_carry(&p->lent, bytes, len, &r, output, sizeof output);
     if (c.number != GAUGE_OK || c.reading != GAUGE_READING_OK)
         stop("pond %u: gauge_carry gave %u and %u\n", number_of(p), c.number, c.reading);
@@ -231,7 +252,7 @@ static void send_authority(const struct pond *p, unsigned to, const uint8_t *byt
 /* An AUTHORITY that is believed has come: its reading must be the one that was sent. */
 static void take_reading(const struct datagram *d)
 {
-    unsigned number = at[d->from];
+    unsigned number = pond_told(at[d->from], d->bytes, d->len);
     struct gauge_reading came = gauge_carried(MAJOR, d->bytes, d->len), sent = reading_of(number);
     if (memcmp(&came, &sent, sizeof came) != 0)
         stop("pond %u's reading came as another one\n", number);
@@ -241,12 +262,12 @@ static void take_reading(const struct datagram *d)
 
 /* A datagram arrives. */
 
-/* The verdict on its CPA, and the key that it is good for: of an AUTHORITY that of the sender, of a revocation the one in it. */
+/* The verdict on its CPA, and the key that it is good for: of an AUTHORITY that of the sender's pond, of a revocation the one in it. */
 static uint32_t judge(const struct datagram *d, const struct gauge_look_answer *seen, uint8_t *key)
 {
     memset(key, 0, GAUGE_KEY_LEN);
-    if (seen->kind == GAUGE_AUTHORITY && seen->cpa_len == sizeof cpa && d->bytes[seen->cpa_at] == cpa[0])
-        memcpy(key, ponds[at[d->from]].lent.own + GAUGE_RECORD_KEY, GAUGE_KEY_LEN);
+    if (seen->kind == GAUGE_AUTHORITY && seen->cpa_len == 1 && d->bytes[seen->cpa_at] <= 1)
+        memcpy(key, ponds[pond_told(at[d->from], d->bytes, d->len)].lent.own + GAUGE_RECORD_KEY, GAUGE_KEY_LEN);
     else if (seen->kind == GAUGE_FLOOD && seen->cpa_len == GAUGE_KEY_LEN)
         memcpy(key, d->bytes + seen->cpa_at, GAUGE_KEY_LEN);
     else
@@ -297,6 +318,7 @@ static void arrives(struct pond *p, const struct datagram *d)
         send_answer(p, d, &seen, l->output + a.first, a.second);
         break;
     case GAUGE_STRAY:    /* an answer for the second time, or too late; or to a LOOKUP, for which nothing waits */
+    case GAUGE_OWN_KEY:  /* somebody tells one of our two ponds of the other */
     case GAUGE_NOT_OURS: /* somebody inquires about the gauge that had our address */
     case GAUGE_FULL:     /* too much waits: the sender will try again */
         break;
@@ -351,11 +373,17 @@ static void tick(struct pond *p)
     }
 }
 
+/* Our own record; of two each in its turn. */
+static const uint8_t *own_record(const struct pond *p)
+{
+    return p->lent.own + GAUGE_CACHE_LEN(p->lent.id % (p->lent.own_len / GAUGE_RECORD_LEN));
+}
+
 /* A record goes to a gauge that we hold: one that we hold with a key near to that gauge's, round the ring, or else our own. */
 static void flood(struct pond *p)
 {
     uint32_t n = held(p), to = dice(n), near = (to + dice(2 * SIDE + 1) + SIDE * (n - 1)) % n; /* SIDE less, modulo n */
-    const uint8_t *neighbour = record(p, to), *what = near == to ? p->lent.own : record(p, near);
+    const uint8_t *neighbour = record(p, to), *what = near == to ? own_record(p) : record(p, near);
     uint32_t id = p->lent.id;
     struct gauge_answer a = gauge_lent_send(&p->lent, neighbour + GAUGE_RECORD_KEY, what + GAUGE_RECORD_KEY);
     if (p->trace != NULL)
@@ -396,7 +424,7 @@ static const struct pond *next(const struct pond *p, int step)
     return p;
 }
 
-/* Whether the list of a gauge is the true one: the five next ponds on either side, nearest first. */
+/* Whether the list of a pond is the true one: the five next ponds on either side, nearest first. */
 static bool is_right(const struct pond *p)
 {
     uint8_t keys[GAUGE_LIST_LEN], truth[GAUGE_LIST_LEN];
@@ -411,12 +439,12 @@ static bool is_right(const struct pond *p)
     return a.first == SIDE && a.second == SIDE && memcmp(keys, truth, sizeof truth) == 0;
 }
 
-/* How many gauges work, and how many of them have the true list. */
+/* How many ponds have a gauge that works, and how many of them the true list. */
 static unsigned working(void)
 {
     unsigned n = 0;
     for (const struct pond *p = ponds + 1; p <= ponds + NEW; p++)
-        n += p->on;
+        n += gauge_of(p)->on;
     return n;
 }
 
@@ -424,7 +452,7 @@ static unsigned right(void)
 {
     unsigned n = 0;
     for (const struct pond *p = ponds + 1; p <= ponds + NEW; p++)
-        n += p->on && is_right(p);
+        n += gauge_of(p)->on && is_right(p);
     return n;
 }
 
@@ -456,7 +484,7 @@ static void tell(unsigned number, const char *what)
     for (const struct pond *p = ponds + 1; p <= ponds + NEW; p++) {
         uint8_t keys[GAUGE_LIST_LEN];
         uint32_t listed = 0;
-        if (p->on) {
+        if (gauge_of(p)->on) {
             struct gauge_answer a = neighbours(p, keys);
             listed = a.first + a.second;
         }
@@ -593,27 +621,49 @@ static void tell_readings(void)
     tell_balance();
 }
 
-/* A gauge with nothing in its memory. The first byte of its key tells its number, the rest is random; it has one address, and port 5000. */
-static void begin(unsigned number, unsigned address, unsigned known)
+/* A pond's own record, and with it nothing in memory. The first byte of its key tells its number, the rest is random; it has one address, and port
+ * 5000. */
+static void set_own(unsigned number, unsigned address)
 {
     struct pond *p = &ponds[number];
-    p->on = p->listed = true;
-    p->address = address;
-    p->known = known;
     uint8_t key[GAUGE_KEY_LEN] = {(uint8_t)(APART * number)}, place[GAUGE_ADDRESS_LEN] = {0xFE, 0x80};
     random_bytes(key + 1, sizeof key - 1);
     place[GAUGE_ADDRESS_LEN - 1] = (uint8_t)address;
-    gauge_lent_begin(&p->lent, p->cache, sizeof p->cache, cpa, sizeof cpa);
+    p->listed = true;
+    p->address = address;
+    gauge_lent_begin(&p->lent, p->cache, sizeof p->cache, cpas, sizeof cpas / 2);
     gauge_lent_own(&p->lent, key, 5000, place, 1);
+}
+
+static void begin(unsigned number, unsigned address, unsigned known)
+{
+    struct pond *p = &ponds[number];
+    set_own(number, address);
+    p->on = true;
+    p->known = known;
     p->lent.id = 1000000 * number;
     at[address] = number;
 }
 
+/* One gauge stands for a second pond too, at the same address: it has two own records, and lends two CPAs. */
+static void begin_second(void)
+{
+    struct gauge_lent *l = &ponds[FIRST_OF].lent;
+    set_own(SECOND, ponds[FIRST_OF].address);
+    const uint8_t *own = ponds[SECOND].lent.own;
+    if (gauge_lent_pond(l, own + GAUGE_RECORD_KEY, 5000, own + GAUGE_RECORD_ADDRESSES) != 2)
+        stop("pond %d's gauge stands for no second pond\n", FIRST_OF);
+    l->cpas_len = sizeof cpas;
+}
+
 static void hill(void)
 {
-    printf("%d gauges, each of which knows where one other is. The radio loses one datagram in ten, and brings the others in no order.\n", PONDS);
+    printf("%d ponds and %d gauges, each of which knows where one other is; pond %d's stands for pond %d too. The radio loses one datagram in ten, and "
+           "brings the others in no order.\n", PONDS, PONDS - 1, FIRST_OF, SECOND);
     until_right();
     tell(1, "after the last one round the ring,");
+    tell(FIRST_OF, "the first of its gauge,");
+    tell(SECOND, "the second of that gauge,");
 
     printf("Pond 7's gauge falls silent. A minute later:\n");
     ponds[7].on = false;
@@ -648,6 +698,9 @@ static void hill(void)
     ask(34, (const uint8_t[GAUGE_KEY_LEN]){APART * 33}); /* pond 32's key is less than 4 steps of the first byte away, pond 34's more */
     printf("The office asks for the gauge next to the key that begins with FF and is zero behind it.\n");
     ask(60, (const uint8_t[GAUGE_KEY_LEN]){0xFF}); /* pond 1's key is less than 6 steps away, across the end, and the last pond's more */
+    printf("The office asks pond %d's gauge for the keys of both its ponds.\n", FIRST_OF);
+    ask(FIRST_OF, ponds[FIRST_OF].lent.own + GAUGE_RECORD_KEY);
+    ask(FIRST_OF, ponds[SECOND].lent.own + GAUGE_RECORD_KEY);
     tell_readings();
 }
 
@@ -698,10 +751,15 @@ static void write_readings(void)
 
 int main(void)
 {
-    gauge_lent_begin(&OFFICE->lent, OFFICE->cache, sizeof OFFICE->cache, cpa, sizeof cpa);
+    gauge_lent_begin(&OFFICE->lent, OFFICE->cache, sizeof OFFICE->cache, cpas, sizeof cpas / 2);
     OFFICE->lent.id = 0;
-    for (unsigned n = 1; n <= PONDS; n++)
-        begin(n, n, n == 1 ? 2 : 1 + dice(n - 1));
+    for (unsigned n = 1; n <= PONDS; n++) {
+        unsigned known = n == 1 ? 2 : 1 + dice(n - 1);
+        if (n == SECOND)
+            begin_second();
+        else
+            begin(n, n, known == SECOND ? FIRST_OF : known);
+    }
     FILE *calls = opened("target/hill.trace"), *answers = opened("target/hill.answers");
     struct gauge_trace trace = gauge_trace_begin(calls, answers, MAJOR, MINOR, ponds[RECORDED].lent.own);
     ponds[RECORDED].trace = &trace;

@@ -166,6 +166,18 @@ def round_trace():
     return data
 
 
+# Document 02, request 11: of 64 held, and one more, the farthest in no list goes, and not one of the fuller side; of two equally far the lower.
+def dropped_trace():
+    keys = list(range(1001, 1041)) + list(range(900, 924)) + [1041, 960, 1100, 1099, 1098, 902]
+    calls = [record for i, n in enumerate(keys) for record, _ in learn(10 * i, gauge_record(n, i))]
+    data = opening(gauge_record(1000)) + b"".join(calls)
+    lines, night = model_night.replay(data)
+    assert [line.split()[1] for line in lines] == ["0"] * len(calls)
+    # 1041 takes out 900, 960 then 901; 1100 and 1099 are the farthest themselves; 1098 and 902 are as far, and 902 goes, and does not come back
+    assert [model.key_of(r) for r in model.State(night).records] == list(range(903, 924)) + [960] + list(range(1001, 1042)) + [1098]
+    return data
+
+
 # Document 02, request 2: LOOKUPs whose path passes over the closest, and over all; whose route entry is new, waiting, held, another, ours; 13 and 14.
 def path_trace():
     near, far, new, own = gauge_record(99, 5099), gauge_record(101, 5101, 4), gauge_record(50, 5050, 2), gauge_record(100)
@@ -301,6 +313,7 @@ def traces():
     yield "names_to_the_brim", worked_trace(), b"#" * 65000 + b"\n" + worked_names() + b"\n" + b"x" * 9000
     yield "full", full_trace(), None
     yield "round", round_trace(), round_names()
+    yield "dropped", dropped_trace(), None
     yield "path", path_trace(), worked_names()
     yield "address", address_trace(), worked_names()
     for name, data in {**bad_traces(), **formless_traces()}.items():

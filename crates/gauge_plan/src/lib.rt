@@ -45,7 +45,10 @@ pub enum Plan {
         n: bool,
     },
     // An INQUIRE for one of our keys: the ID it answers, and the place of the key's own record.
-    Certify { acked: u32, at: usize },
+    Certify {
+        acked: u32,
+        at: usize,
+    },
     // A LOOKUP for a target that stands at a place of the datagram, and where its path stands: whether an inquiry opens,
     // and where the entry stands.
     Show {

@@ -192,9 +192,12 @@ module _ (m : Memory) (l : Receive) (w : Bytewise m l) (ok : ReceiveLent m l) wh
       (heard-back (s .ask) r (entry-heard (l .datagram) (w .datagram) (l .major) id silent validate r h)))
   reply-back (revoke id silent validate) h ds s = subst (Every ReadsBack) (sym (s .are)) (acks-back id silent (s .n))
   reply-back (inquire id validate) h ds s =
-      subst (Every ReadsBack) (sym s) (cpa-back (l .major) (l .minor) (l .id) (w .numbers) id (cpaFor l validate)
-      (cpa-most (length (ownRecords (l .own))) (ownPlace (ownKeys (l .own)) validate) (l .cpas) (ok .cpas))
-      (cpa-bytes (ownPlace (ownKeys (l .own)) validate) (l .cpas) (w .cpas)), tt)
+      subst (Every ReadsBack) (sym s) (
+        cpa-back (l .major) (l .minor) (l .id) (w .numbers) id (cpaFor l validate)
+            (cpa-most (length (ownRecords (l .own))) (ownPlace (ownKeys (l .own)) validate) (l .cpas) (ok .cpas))
+            (cpa-bytes (ownPlace (ownKeys (l .own)) validate) (l .cpas) (w .cpas)),
+        tt,
+      )
   reply-back (authority acked cpa) h ds s = subst (Every ReadsBack) (sym s) tt
   reply-back (ack acked n) h ds s = subst (Every ReadsBack) (sym s) tt
   reply-back (lookup id target path e) h ds s =

@@ -106,9 +106,19 @@ module _ (m : Memory) (l : Listing) (owned : ownForm (l .own) ≡ true) (form : 
   list-done : gaugeList m l ≡ listOf (keysOf (heldOf (ownKeys (l .own)) (m .cache)))
   unfolding gaugeList listCall
   list-done =
-      ap (listAnswered m) (all-pass _ (listWrong (l .own) (m .cache) (l .key) (l .output)) _
-      (rw owned refl, (rw form refl, (ap not (eq-eqb (length (l .key)) 32 keyed), (ap not (in-own (ownKeys (l .own)) asked mine),
-      (le-ltb (length (l .output)) 320 room, tt))))))
+      ap (listAnswered m) (all-pass _ (listWrong (l .own) (m .cache) (l .key) (l .output)) _ (
+        rw owned refl,
+        (
+          rw form refl,
+          (
+            ap not (eq-eqb (length (l .key)) 32 keyed),
+            (
+              ap not (in-own (ownKeys (l .own)) asked mine),
+              (le-ltb (length (l .output)) 320 room, tt),
+            ),
+          ),
+        ),
+      ))
 
   -- the list of the keys held is right among others too, where the same keys are the nearest of them
   lists-keys : (keys : List ℕ) → keysOf (heldOf (ownKeys (l .own)) (m .cache)) ≡ keys → (among : List ℕ)

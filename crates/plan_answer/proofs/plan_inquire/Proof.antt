@@ -31,8 +31,12 @@ few : (c : tie.After-cpa-at) → length (c .cpa-at .result .now) ≤ 1024
 few c =
     let s = start c in
     let p = c .before in
-    omega (arith, ap length (c .cpa-at .ensures), cpa-length (length (ownRecords (s .args .own .now))) (p .place-of .result) (s .args .cpas .now)
-    (p .place-of .ensures .1) (s .pre .1) .1)
+    omega (
+      arith,
+      ap length (c .cpa-at .ensures),
+      cpa-length (length (ownRecords (s .args .own .now))) (p .place-of .result) (s .args .cpas .now)
+          (p .place-of .ensures .1) (s .pre .1) .1,
+    )
 
 is-own-requires : tie.Need-is-own-requires
 is-own-requires c κs =

@@ -39,8 +39,8 @@ fn follows(own: &[u8], i: usize) -> bool
     above_before(own, i)
 }
 
-// Are the own records in form?
-pub fn own_form(own: &[u8]) -> bool
+// Are own records in form, so many as they may be?
+fn all_formed(own: &[u8]) -> bool
     ensures { λ r. ⌜ r ≡ ownForm (now (own .entry)) ⌝ }
 {
     let size = own.len();
@@ -62,4 +62,14 @@ pub fn own_form(own: &[u8]) -> bool
         i += 1;
     }
     true
+}
+
+// Are the own records in form? Mostly it is one.
+pub fn own_form(own: &[u8]) -> bool
+    ensures { λ r. ⌜ r ≡ ownForm (now (own .entry)) ⌝ }
+{
+    if own.len() == record::RECORD_LEN {
+        return record::is_record(own);
+    }
+    all_formed(own)
 }

@@ -1,5 +1,4 @@
--- Helps the code, but for `Goes`, which is of the contract. The walk from the point opposite the first own key; which of two places goes.
--- Assumes nothing.
+-- Helps the code. The walk from the point opposite the first own key, which of two places goes, and what the one that goes must be (`Goes`). Assumes nothing.
 use Prim.Native.Nat.{ℕ, _+_, _-_, _<_, min}
 use mathlib.Core.Path.{_≡_}
 use mathlib.Core.Bool.{cond}

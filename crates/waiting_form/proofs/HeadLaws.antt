@@ -1,4 +1,4 @@
--- The bytes of a place between its kind and its key, as one number. Assumes nothing.
+-- The bytes of a place between its kind and its key: as one number; what they decide. Assumes nothing.
 use mathlib.Core.Path.{_≡_, refl, sym, ap, _∙_}
 use mathlib.Core.Bool.{Bool, true, false, _&&_}
 use mathlib.Core.List.{List}
@@ -11,6 +11,9 @@ use Rattle.octet.specs.Number.{Digits, valueLE}
 use Rattle.octet.specs.Part.{part}
 use Rattle.octet.proofs.LittleLaws.{four-bytes}
 use Rattle.octet.proofs.TestLaws.{and-true}
+use Rattle.own.specs.Own.{Own}
+use Rattle.waiting.specs.Place.{triesOf}
+use Rattle.waiting.specs.Form.{placeBy, placeForm}
 
 and-false : (t : Bool) → t && false ≡ false
 and-false true = refl
@@ -38,3 +41,11 @@ head-word p d h =
     let rest : valueLE 256 (part 4 4 p) / 256 ≡ getD p 5 0 + getD p 6 0 * 256 + getD p 7 0 * 65536 =
     above-kind (getD p 4 0) (getD p 5 0 + getD p 6 0 * 256 + getD p 7 0 * 65536) (valueLE 256 (part 4 4 p)) (d 4) (omega (arith, whole)) in
     ap (λ (n : ℕ). leb n 2) rest ∙ three-bytes (getD p 5 0) (getD p 6 0) (getD p 7 0)
+
+-- as the form of a place tests them first
+abbrev pub isFresh : List ℕ → Bool
+isFresh p = leb (triesOf p) 2 && eqb (getD p 6 0) 0 && eqb (getD p 7 0) 0
+
+pub stale-is : (own : Own) (p : List ℕ) → false ≡ isFresh p → false ≡ placeForm own p
+unfolding placeBy
+stale-is own p e = rw (sym e) refl

@@ -34,15 +34,21 @@ pub(crate) fn place_formed(own: &[u8], place: &[u8]) -> bool
     requires { ⌜ length (now place) ≡ 140 ⌝ }
     ensures { λ r. ⌜ r ≡ placeForm (ownKeys (now (own .entry))) (now (place .entry)) ⌝ }
 {
-    let head = is_fresh(place);
+    if !is_fresh(place) {
+        return false;
+    }
     if place[4] == 1 {
-        return head & zero_record(place);
+        return zero_record(place);
     }
     if place[4] != 2 {
         return false;
     }
-    let formed = record::is_formed(place, 40);
-    let keyed = key::same_at(place, 40, place, 8);
+    if !record::is_formed(place, 40) {
+        return false;
+    }
+    if !key::same_at(place, 40, place, 8) {
+        return false;
+    }
     let ours = own::is_own(own, place, 8);
-    head & (formed & keyed & !ours)
+    !ours
 }

@@ -57,9 +57,13 @@ fn places_formed(own: &[u8], table: &[u8], used: usize) -> bool
     while at < used {
         let from = waiting::PLACE_LEN * at;
         let id = octet::read_u32_le(table, from) as u64;
-        let formed = place_formed(own, &table[from..from + waiting::PLACE_LEN]);
-        let again = key_again(table, used, at);
-        if !(formed & (low <= id) & !again) {
+        if !place_formed(own, &table[from..from + waiting::PLACE_LEN]) {
+            return false;
+        }
+        if id < low {
+            return false;
+        }
+        if key_again(table, used, at) {
             return false;
         }
         low = id + 1;

@@ -1,17 +1,18 @@
 -- `waiting_form::tested::places_formed` meets its contract: the form of the places is always that of those left, from the ID passed on. Assumes nothing.
 use lib.Dec.{leb}
 use mathlib.Core.Path.{_≡_, refl, sym, ap, _∙_}
-use mathlib.Core.Bool.{_&&_, not}
+use mathlib.Core.Bool.{Bool, true, false, _&&_, not}
+use mathlib.Core.List.{List}
 use Prim.Native.Nat.{ℕ, _+_, _*_, _-_, _≤_}
 use native.Mathlib.Omega.{arith}
 use lib.ListN.{drop, length-take, length-drop}
-use borrow.Author.Tests.{not-true, not-false}
+use borrow.Author.Tests.{not-true, not-false, le-leb, lt-leb}
 use Rattle.record.specs.Record.{recordForm}
-use Rattle.own.specs.Own.{ownKeys}
+use Rattle.own.specs.Own.{Own, ownKeys}
 use Rattle.table.specs.Rows.{rows}
-use Rattle.waiting.specs.Form.{placesForm}
+use Rattle.waiting.specs.Form.{again, placesForm}
 use Rattle.waiting.proofs.PlaceLaws.{id-at}
-use Rattle.waiting.proofs.WalkLaws.{tests, tests-are, form-not, form-on, form-end}
+use Rattle.waiting.proofs.WalkLaws.{place, later, tests, tests-are, form-not, form-on, form-end}
 use Rattle.waiting_form.proofs.tested.places_formed.Statement.{statement}
 use Rattle.waiting_form.proofs.tested.places_formed.Tie as tie
 
@@ -23,22 +24,40 @@ Inv-loop own table used low₀ at₀ low at =
 abbrev μ-loop : tie.MeasureT-loop
 μ-loop own table used low₀ at₀ low at = used - at
 
--- where the turn and the function began
-abbrev at-loop : tie.After-key-again Inv-loop μ-loop → tie.At-loop Inv-loop μ-loop
-at-loop c = c .before .before .before .before .before
+-- the tests of a turn are the place's, by what is known of them: whether it is in form, and whether its key comes again
+module _ (c : tie.After-place-formed Inv-loop μ-loop) where
+  abbrev at-loop : tie.At-loop Inv-loop μ-loop
+  at-loop = c .before .before .before .before
 
-abbrev from : tie.After-key-again Inv-loop μ-loop → tie.Start Inv-loop μ-loop
-from c = c .before .before .before .before .before .before .before .before
+  abbrev from : tie.Start Inv-loop μ-loop
+  from = at-loop .before .before .before
 
--- the three tests of a turn are the place's
-turned : (c : tie.After-key-again Inv-loop μ-loop)
-    → tests (from c .args .used) (from c .args .table .now) (at-loop c .loop .at) recordForm (ownKeys (from c .args .own .now)) (at-loop c .loop .low)
-    ≡ (c .before .place-formed .result && leb (at-loop c .loop .low) (c .before .before .before .read-u32-le .result) && not (c .key-again .result))
-turned c =
-    let a = c .before .before .before .before .before .before .before .before .args in
-    let l = c .before .before .before .before .before .loop in
-    let id = c .before .before .before .read-u32-le .ensures in
-    tests-are (a .used) (a .table .now) (l .at) recordForm (ownKeys (a .own .now)) (l .low) (c .before .place-formed .ensures) id (c .key-again .ensures)
+  abbrev used : ℕ
+  used = from .args .used
+
+  abbrev table : List ℕ
+  table = from .args .table .now
+
+  abbrev own : Own
+  own = ownKeys (from .args .own .now)
+
+  abbrev turn : Bool
+  turn = tests used table (at-loop .loop .at) recordForm own (at-loop .loop .low)
+
+  abbrev comesAgain : Bool
+  comesAgain = again (place used table (at-loop .loop .at)) (later used table (at-loop .loop .at))
+
+  turned : (f a : Bool) → c .place-formed .result ≡ f → a ≡ comesAgain
+      → turn ≡ (f && leb (at-loop .loop .low) (c .before .before .read-u32-le .result) && not a)
+  turned f a e g =
+      tests-are used table (at-loop .loop .at) recordForm own (at-loop .loop .low) (sym e ∙ c .place-formed .ensures)
+      (c .before .before .read-u32-le .ensures) g
+
+  -- a turn whose tests fail
+  fails : turn ≡ false → false ≡ placesForm own 0 (rows 140 used table)
+  fails e =
+      let l = at-loop .loop in
+      sym (l .inv .2 ∙ form-not used table (l .at) recordForm own (l .low) (omega arith) e)
 
 loop-holds : tie.Need-loop-holds Inv-loop μ-loop
 loop-holds c = (omega arith, omega arith, refl)
@@ -67,16 +86,26 @@ part-place-formed-end c = omega arith
 place-formed-requires : tie.Need-place-formed-requires Inv-loop μ-loop
 place-formed-requires c κs = simp (length-take, length-drop) (omega arith)
 
+returns : tie.Need-returns Inv-loop μ-loop
+returns c = fails (c .before) (turned (c .before) false _ (not-true (c .before .place-formed .result) (c .if1 .taken)) refl)
+
+returns-2 : tie.Need-returns-2 Inv-loop μ-loop
+returns-2 c =
+    let p = c .before .before in
+    fails p
+    (turned p true _ (not-false (p .place-formed .result) (c .before .if1 .left)) refl
+    ∙ ap (λ (t : Bool). t && not (comesAgain p)) (lt-leb _ _ (c .if2 .taken)))
+
 key-again-requires : tie.Need-key-again-requires Inv-loop μ-loop
 key-again-requires c κs = (omega arith, omega arith)
 
-returns : tie.Need-returns Inv-loop μ-loop
-returns c =
-    let at-loop = c .before .before .before .before .before .before in
-    let a = at-loop .before .before .before .args in
-    let l = at-loop .loop in
-    sym (l .inv .2 ∙ form-not (a .used) (a .table .now) (l .at) recordForm (ownKeys (a .own .now)) (l .low) (omega arith)
-    (turned (c .before) ∙ not-true _ (c .if1 .taken)))
+returns-3 : tie.Need-returns-3 Inv-loop μ-loop
+returns-3 c =
+    let low = c .before .before in
+    let p = low .before .before in
+    fails p
+    (turned p true true (not-false (p .place-formed .result) (low .before .if1 .left)) (sym (c .if3 .taken) ∙ c .before .key-again .ensures)
+    ∙ ap (λ (t : Bool). t && false) (le-leb _ _ (low .if2 .left)))
 
 add-low : tie.Need-add-low Inv-loop μ-loop
 add-low c = omega arith
@@ -89,18 +118,23 @@ loop-less c = omega arith
 
 loop-again : tie.Need-loop-again Inv-loop μ-loop
 loop-again c =
-    let a = c .before .before .before .before .before .before .before .before .before .args in
-    let l = c .before .before .before .before .before .before .loop in
+    let low = c .before .before in
+    let p = low .before .before in
+    let a = p .before .before .before .before .before .before .before .args in
+    let l = p .before .before .before .before .loop in
     let own = ownKeys (a .own .now) in
-    let id = id-at (140 * l .at) (a .table .now) ∙ sym (c .before .before .before .before .read-u32-le .ensures) in (
+    let id = id-at (140 * l .at) (a .table .now) ∙ sym (p .before .before .read-u32-le .ensures) in
+    let passes =
+    turned p true false (not-false (p .place-formed .result) (low .before .if1 .left)) (sym (c .if3 .left) ∙ c .before .key-again .ensures)
+    ∙ ap (λ (t : Bool). t && true) (le-leb _ _ (low .if2 .left)) in (
       omega arith,
       omega arith,
-      l .inv .2 ∙ form-on (a .used) (a .table .now) (l .at) recordForm own (l .low) (omega arith) (turned (c .before) ∙ not-false _ (c .if1 .left))
+      l .inv .2 ∙ form-on (a .used) (a .table .now) (l .at) recordForm own (l .low) (omega arith) passes
           ∙ ap (λ (n : ℕ). placesForm own (n + 1) (drop (l .at + 1) (rows 140 (a .used) (a .table .now)))) id,
     )
 
-returns-2 : tie.Need-returns-2 Inv-loop μ-loop
-returns-2 c =
+returns-4 : tie.Need-returns-4 Inv-loop μ-loop
+returns-4 c =
     let a = c .before .before .before .before .args in
     let l = c .before .loop in
     sym (l .inv .2 ∙ form-end (a .used) (a .table .now) (l .at) recordForm (ownKeys (a .own .now)) (l .low) (omega arith))
@@ -120,10 +154,12 @@ places-formed-spec =
     part-place-formed-start
     part-place-formed-end
     place-formed-requires
-    key-again-requires
     returns
+    returns-2
+    key-again-requires
+    returns-3
     add-low
     add-at
     loop-less
     loop-again
-    returns-2)
+    returns-4)

@@ -33,6 +33,10 @@ pub extern "C" fn gauge_receive(
         (now (cpas .entry)) major minor id (now (nonce .entry)) verdict (now (key .entry)) (now (datagram .entry))
         (now (output .entry)))) ⌝ }
 {
+    // First, so that own records out of form cost nothing more: the plan tests them again.
+    if !own::own_form(own) {
+        return gauge_commit::answer_of(refusal::MEMORY, 0, 0);
+    }
     if !gauge_plan::hands_fit(own, cpas, nonce, key) {
         return gauge_commit::answer_of(refusal::MEMORY, 0, 0);
     }

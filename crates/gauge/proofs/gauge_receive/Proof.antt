@@ -9,7 +9,7 @@ use Rattle.plan_message.specs.Planned.{receivePlan}
 use Rattle.gauge.specs.Receive.{carried}
 use Rattle.gauge.specs.Ours.{ours}
 use Rattle.plan_message.proofs.PlannedLaws.{plan-hands, plan-by, plan-needs, flood-needs, revoke-needs, learn-needs, free-needs, cpa-needs, show-needs}
-use Rattle.gauge.proofs.ReceiveLaws.{call-by}
+use Rattle.gauge.proofs.ReceiveLaws.{call-by, plan-own}
 use borrow.Author.Needs.{needs}
 use Rattle.gauge.proofs.gauge_receive.Statement.{statement}
 use Rattle.gauge.proofs.gauge_receive.Tie as tie
@@ -23,12 +23,15 @@ lent-of s =
     let a = s .args in
     receive (a .own .now) (a .cpas .now) (a .major) (a .minor) (a .id) (a .nonce .now) (a .verdict) (a .key .now) (a .datagram .now) (a .output .now)
 
--- behind the test of what is handed in
-abbrev tested : tie.Else1 → tie.Start
-tested c = c .before .before .before .before .before .before .before .before .before .before
+-- at the test of the own records, and behind that of what is handed in
+abbrev entered : tie.After-own-form → tie.Start
+entered c = c .before .before .before .before .before .before .before .before .before
 
-handed-in : (c : tie.Else1) → handsFit (memory-of (tested c)) (lent-of (tested c)) ≡ true
-handed-in c = sym (c .before .hands-fit .ensures (memory-of (tested c)) (lent-of (tested c))) ∙ not-false _ (c .if1 .left)
+abbrev tested : tie.Else2 → tie.Start
+tested c = entered (c .before .before .before)
+
+handed-in : (c : tie.Else2) → handsFit (memory-of (tested c)) (lent-of (tested c)) ≡ true
+handed-in c = sym (c .before .hands-fit .ensures (memory-of (tested c)) (lent-of (tested c))) ∙ not-false _ (c .if2 .left)
 
 abbrev start : tie.After-plan-receive → tie.Start
 start c = tested (c .before .before .before .before)
@@ -43,8 +46,8 @@ lent-at c = lent-of (start c)
 planned : (c : tie.After-plan-receive) {p : Plan} → c .plan-receive .result ≡ p → receivePlan (memory-at c) (lent-at c) ≡ p
 planned c e = plan-by (memory-at c) (lent-at c) (handed-in (c .before .before .before .before)) ∙ sym (c .plan-receive .ensures (memory-at c) (lent-at c)) ∙ e
 
-hands-fit-requires : tie.Need-hands-fit-requires
-hands-fit-requires c κs = search needs
+own-form-requires : tie.Need-own-form-requires
+own-form-requires c κs = search needs
 
 answer-of-requires : tie.Need-answer-of-requires
 answer-of-requires c κs = search needs
@@ -52,9 +55,23 @@ answer-of-requires c κs = search needs
 returns : tie.Need-returns
 unfolding carried
 returns c =
-    let s = c .before .before .before .before .before .before .before .before .before .before .before in
-    rw (c .answer-of .ensures) (sym (call-by (memory-of s) (lent-of s) (plan-hands (memory-of s) (lent-of s)
-    (sym (c .before .before .hands-fit .ensures (memory-of s) (lent-of s)) ∙ not-true _ (c .before .if1 .taken)))))
+    let o = c .before .before in
+    let s = entered o in
+    rw (c .answer-of .ensures) (sym (call-by (memory-of s) (lent-of s) (plan-own (memory-of s) (lent-of s)
+    (sym (o .own-form .ensures) ∙ not-true _ (c .before .if1 .taken)))))
+
+hands-fit-requires : tie.Need-hands-fit-requires
+hands-fit-requires c κs = search needs
+
+answer-of-requires-2 : tie.Need-answer-of-requires-2
+answer-of-requires-2 c κs = search needs
+
+returns-2 : tie.Need-returns-2
+unfolding carried
+returns-2 c =
+    let s = entered (c .before .before .before .before) in
+    rw (c .answer-of2 .ensures) (sym (call-by (memory-of s) (lent-of s) (plan-hands (memory-of s) (lent-of s)
+    (sym (c .before .before .hands-fit .ensures (memory-of s) (lent-of s)) ∙ not-true _ (c .before .if2 .taken)))))
 
 plan-receive-requires : tie.Need-plan-receive-requires
 plan-receive-requires c κs =
@@ -64,8 +81,8 @@ plan-receive-requires c κs =
 enum-known-plan : tie.Need-enum-known-plan
 enum-known-plan c = search needs
 
-answer-of-requires-2 : tie.Need-answer-of-requires-2
-answer-of-requires-2 c κs = search needs
+answer-of-requires-3 : tie.Need-answer-of-requires-3
+answer-of-requires-3 c κs = search needs
 
 enum-known-plan-2 : tie.Need-enum-known-plan-2
 enum-known-plan-2 c = search needs
@@ -94,8 +111,8 @@ commit-learn-requires c κs =
     let m = k .before .before in
     learn-needs (memory-at m) (lent-at m) (planned m (k .plan4 .given .1))
 
-answer-of-requires-3 : tie.Need-answer-of-requires-3
-answer-of-requires-3 c κs = search needs
+answer-of-requires-4 : tie.Need-answer-of-requires-4
+answer-of-requires-4 c κs = search needs
 
 enum-known-plan-5 : tie.Need-enum-known-plan-5
 enum-known-plan-5 c = search needs
@@ -106,8 +123,8 @@ commit-free-requires c κs =
     let m = k .before .before in
     free-needs (memory-at m) (lent-at m) (planned m (k .plan5 .given .1))
 
-answer-of-requires-4 : tie.Need-answer-of-requires-4
-answer-of-requires-4 c κs = search needs
+answer-of-requires-5 : tie.Need-answer-of-requires-5
+answer-of-requires-5 c κs = search needs
 
 enum-known-plan-6 : tie.Need-enum-known-plan-6
 enum-known-plan-6 c = search needs
@@ -137,12 +154,12 @@ same-length-2 c = search needs
 same-length-3 : tie.Need-same-length-3
 same-length-3 c = search needs
 
-returns-2 : tie.Need-returns-2
+returns-3 : tie.Need-returns-3
 unfolding carried
-returns-2 c =
+returns-3 c =
     let k = c .before .before in
     let m = k .before .before in
-    rw (c .answer-of2 .ensures) (sym (call-by (memory-at m) (lent-at m) (planned m (k .plan .given .1))))
+    rw (c .answer-of3 .ensures) (sym (call-by (memory-at m) (lent-at m) (planned m (k .plan .given .1))))
 
 same-length-4 : tie.Need-same-length-4
 same-length-4 c = search needs
@@ -153,9 +170,9 @@ same-length-5 c = search needs
 same-length-6 : tie.Need-same-length-6
 same-length-6 c = search needs
 
-returns-3 : tie.Need-returns-3
+returns-4 : tie.Need-returns-4
 unfolding carried
-returns-3 c =
+returns-4 c =
     let w = c .before .before .before .before .commit-flood .ensures in
     let k = c .before .before .before .before .before .before .before .before in
     let m = k .before .before in
@@ -170,9 +187,9 @@ same-length-8 c = search needs
 same-length-9 : tie.Need-same-length-9
 same-length-9 c = search needs
 
-returns-4 : tie.Need-returns-4
+returns-5 : tie.Need-returns-5
 unfolding carried
-returns-4 c =
+returns-5 c =
     let w = c .before .before .before .before .before .before .commit-revoke .ensures in
     let k = c .before .before .before .before .before .before .before .before .before .before .before in
     let m = k .before .before in
@@ -187,13 +204,13 @@ same-length-11 c = search needs
 same-length-12 : tie.Need-same-length-12
 same-length-12 c = search needs
 
-returns-5 : tie.Need-returns-5
+returns-6 : tie.Need-returns-6
 unfolding carried
-returns-5 c =
+returns-6 c =
     let d = c .before .before .before .before .before in
     let k = c .before .before .before .before .before .before .before .before .before in
     let m = k .before .before in
-    rw (c .answer-of3 .ensures, d .commit-learn .ensures .0, d .commit-learn .ensures .1) (sym (call-by (memory-at m) (lent-at m) (planned m (k .plan4 .given .1))))
+    rw (c .answer-of4 .ensures, d .commit-learn .ensures .0, d .commit-learn .ensures .1) (sym (call-by (memory-at m) (lent-at m) (planned m (k .plan4 .given .1))))
 
 same-length-13 : tie.Need-same-length-13
 same-length-13 c = search needs
@@ -204,13 +221,13 @@ same-length-14 c = search needs
 same-length-15 : tie.Need-same-length-15
 same-length-15 c = search needs
 
-returns-6 : tie.Need-returns-6
+returns-7 : tie.Need-returns-7
 unfolding carried
-returns-6 c =
+returns-7 c =
     let d = c .before .before .before .before .before in
     let k = c .before .before .before .before .before .before .before .before .before in
     let m = k .before .before in
-    rw (c .answer-of4 .ensures, d .commit-free .ensures .0, d .commit-free .ensures .1) (sym (call-by (memory-at m) (lent-at m) (planned m (k .plan5 .given .1))))
+    rw (c .answer-of5 .ensures, d .commit-free .ensures .0, d .commit-free .ensures .1) (sym (call-by (memory-at m) (lent-at m) (planned m (k .plan5 .given .1))))
 
 same-length-16 : tie.Need-same-length-16
 same-length-16 c = search needs
@@ -221,9 +238,9 @@ same-length-17 c = search needs
 same-length-18 : tie.Need-same-length-18
 same-length-18 c = search needs
 
-returns-7 : tie.Need-returns-7
+returns-8 : tie.Need-returns-8
 unfolding carried
-returns-7 c =
+returns-8 c =
     let d = c .before .before in
     let k = c .before .before .before .before .before in
     let m = k .before .before in
@@ -238,9 +255,9 @@ same-length-20 c = search needs
 same-length-21 : tie.Need-same-length-21
 same-length-21 c = search needs
 
-returns-8 : tie.Need-returns-8
+returns-9 : tie.Need-returns-9
 unfolding carried
-returns-8 c =
+returns-9 c =
     let d = c .before .before .before .before in
     let w = d .commit-show .ensures in
     let k = d .before .before .before .before .before in
@@ -251,22 +268,25 @@ pub gauge-receive-spec : {M : Type 1} → statement M
 gauge-receive-spec =
     tie.close
     (tie.spec
-    hands-fit-requires
+    own-form-requires
     answer-of-requires
     returns
+    hands-fit-requires
+    answer-of-requires-2
+    returns-2
     plan-receive-requires
     enum-known-plan
-    answer-of-requires-2
+    answer-of-requires-3
     enum-known-plan-2
     commit-flood-requires
     enum-known-plan-3
     commit-revoke-requires
     enum-known-plan-4
     commit-learn-requires
-    answer-of-requires-3
+    answer-of-requires-4
     enum-known-plan-5
     commit-free-requires
-    answer-of-requires-4
+    answer-of-requires-5
     enum-known-plan-6
     commit-cpa-requires
     enum-known-plan-7
@@ -274,28 +294,28 @@ gauge-receive-spec =
     same-length
     same-length-2
     same-length-3
-    returns-2
+    returns-3
     same-length-4
     same-length-5
     same-length-6
-    returns-3
+    returns-4
     same-length-7
     same-length-8
     same-length-9
-    returns-4
+    returns-5
     same-length-10
     same-length-11
     same-length-12
-    returns-5
+    returns-6
     same-length-13
     same-length-14
     same-length-15
-    returns-6
+    returns-7
     same-length-16
     same-length-17
     same-length-18
-    returns-7
+    returns-8
     same-length-19
     same-length-20
     same-length-21
-    returns-8)
+    returns-9)

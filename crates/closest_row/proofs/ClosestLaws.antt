@@ -17,7 +17,7 @@ use Rattle.record.specs.Record.{keyOf}
 use Rattle.table.specs.Rows.{rows}
 use Rattle.table.proofs.RowLaws.{rows-next, rows-end}
 use Rattle.kept.specs.Keys.{_∈_}
-use Rattle.closest_row.specs.Closest.{closestFrom, closestOf}
+use Rattle.closest_row.specs.Closest.{closestFrom, closestOf, placeFrom, closestPlace}
 
 -- ---- it is one of the records
 
@@ -117,3 +117,35 @@ module _ (t n : ℕ) (s : List ℕ) where
   pub walk-ends : (best i : ℕ) → n ≤ i → closestFrom t (part (100 * best) 100 s) (drop i (rows 100 n s)) ≡ part (100 * best) 100 s
   unfolding closestFrom
   walk-ends best i h = ap (closestFrom t (part (100 * best) 100 s)) (rows-end 100 n s i h)
+
+  -- ---- the same of the place
+
+  pub place-starts : 0 < n → closestPlace t (rows 100 n s) ≡ placeFrom t 0 (part (100 * 0) 100 s) 1 (drop 1 (rows 100 n s))
+  unfolding closestPlace
+  place-starts h = ap (closestPlace t) (rows-next 100 n s 0 h)
+
+  module _ (best i : ℕ) (h : i < n) where
+    place-step : (b : Bool) → closer t (keyAt (100 * i) s) (keyAt (100 * best) s) ≡ b
+        → placeFrom t best (part (100 * best) 100 s) i (drop i (rows 100 n s))
+        ≡ placeFrom t (cond b i best) (cond b (part (100 * i) 100 s) (part (100 * best) 100 s)) (i + 1) (drop (i + 1) (rows 100 n s))
+    unfolding placeFrom
+    place-step b e =
+        let r : List ℕ = part (100 * best) 100 s in
+        let x : List ℕ = part (100 * i) 100 s in
+        let is : closer t (keyOf x) (keyOf r) ≡ b =
+        ap (λ (k : ℕ). closer t k (keyOf r)) (row-key (100 * i)) ∙ ap (closer t (keyAt (100 * i) s)) (row-key (100 * best)) ∙ e in
+        ap (placeFrom t best r i) (rows-next 100 n s i h)
+        ∙ ap (λ (c : Bool). placeFrom t (cond c i best) (cond c x r) (i + 1) (drop (i + 1) (rows 100 n s))) is
+
+    pub place-takes : closer t (keyAt (100 * i) s) (keyAt (100 * best) s) ≡ true
+        → placeFrom t best (part (100 * best) 100 s) i (drop i (rows 100 n s)) ≡ placeFrom t i (part (100 * i) 100 s) (i + 1) (drop (i + 1) (rows 100 n s))
+    place-takes e = place-step true e
+
+    pub place-leaves : closer t (keyAt (100 * i) s) (keyAt (100 * best) s) ≡ false
+        → placeFrom t best (part (100 * best) 100 s) i (drop i (rows 100 n s))
+        ≡ placeFrom t best (part (100 * best) 100 s) (i + 1) (drop (i + 1) (rows 100 n s))
+    place-leaves e = place-step false e
+
+  pub place-ends : (best i : ℕ) → n ≤ i → placeFrom t best (part (100 * best) 100 s) i (drop i (rows 100 n s)) ≡ best
+  unfolding placeFrom
+  place-ends best i h = ap (placeFrom t best (part (100 * best) 100 s) i) (rows-end 100 n s i h)

@@ -5,14 +5,14 @@ ghost use lib.ListN.{length};
 ghost use Rattle.octet.specs.Part.{part};
 ghost use Rattle.key.specs.Number.{number};
 ghost use Rattle.table.specs.Rows.{rows};
-ghost use Rattle.closest_row.specs.Closest.{closestOf};
+ghost use Rattle.closest_row.specs.Closest.{closestOf, closestPlace};
 use key::Key;
 
 // The place of the closest of the first n.
 pub fn place_of(s: &[u8], n: usize, target: Key) -> usize
     requires { ⌜ (0 < n) × (100 * n ≤ length (now s)) ⌝ }
     ensures { λ r. ⌜ part (100 * r) 100 (now (s .entry)) ≡ closestOf (number target) (rows 100 n (now (s .entry))) ⌝ }
-    ensures { λ r. ⌜ r < n ⌝ }
+    ensures { λ r. ⌜ (r < n) × (r ≡ closestPlace (number target) (rows 100 n (now (s .entry)))) ⌝ }
 {
     let mut best = 0;
     let mut i = 1;

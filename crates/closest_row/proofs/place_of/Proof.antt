@@ -8,8 +8,8 @@ use Rattle.octet.specs.Part.{part}
 use Rattle.key.specs.Number.{number, keyAt}
 use Rattle.key.specs.Around.{closer}
 use Rattle.table.specs.Rows.{rows}
-use Rattle.closest_row.specs.Closest.{closestFrom, closestOf}
-use Rattle.closest_row.proofs.ClosestLaws.{walk-starts, walk-takes, walk-leaves, walk-ends}
+use Rattle.closest_row.specs.Closest.{closestFrom, closestOf, placeFrom, closestPlace}
+use Rattle.closest_row.proofs.ClosestLaws.{walk-starts, walk-takes, walk-leaves, walk-ends, place-starts, place-takes, place-leaves, place-ends}
 use Rattle.closest_row.proofs.place_of.Statement.{statement}
 use Rattle.closest_row.proofs.place_of.Tie as tie
 
@@ -18,6 +18,7 @@ Inv-loop s n target best₀ i₀ best i =
     (best < n)
     × (i ≤ n)
     × (closestOf (number target) (rows 100 n s) ≡ closestFrom (number target) (part (100 * best) 100 s) (drop i (rows 100 n s)))
+    × (closestPlace (number target) (rows 100 n s) ≡ placeFrom (number target) best (part (100 * best) 100 s) i (drop i (rows 100 n s)))
 
 abbrev μ-loop : tie.MeasureT-loop
 μ-loop s n target best₀ i₀ best i = n - i
@@ -25,8 +26,12 @@ abbrev μ-loop : tie.MeasureT-loop
 loop-holds : tie.Need-loop-holds Inv-loop μ-loop
 loop-holds c =
     let s = c .before in
-    let a = s .args in
-    (s .pre .0, omega (arith, s .pre .0), walk-starts (number (a .target)) (a .n) (a .s .now) (s .pre .0))
+    let a = s .args in (
+      s .pre .0,
+      omega (arith, s .pre .0),
+      walk-starts (number (a .target)) (a .n) (a .s .now) (s .pre .0),
+      place-starts (number (a .target)) (a .n) (a .s .now) (s .pre .0),
+    )
 
 -- what the comparison says, of the keys where they lie
 module _ (c : tie.After-is-closer Inv-loop μ-loop) where
@@ -77,7 +82,12 @@ loop-again : tie.Need-loop-again Inv-loop μ-loop
 loop-again c =
     let m = c .before in
     let l = loop m .loop in
-    (omega arith, omega arith, l .inv .2 ∙ walk-takes (t m) (start m .args .n) (s m) (l .best) (l .i) (omega arith) (says m ∙ c .if1 .taken))
+    let n = start m .args .n in (
+      omega arith,
+      omega arith,
+      l .inv .2 ∙ walk-takes (t m) n (s m) (l .best) (l .i) (omega arith) (says m ∙ c .if1 .taken),
+      l .inv .3 ∙ place-takes (t m) n (s m) (l .best) (l .i) (omega arith) (says m ∙ c .if1 .taken),
+    )
 
 loop-less-2 : tie.Need-loop-less-2 Inv-loop μ-loop
 loop-less-2 c = omega arith
@@ -86,13 +96,21 @@ loop-again-2 : tie.Need-loop-again-2 Inv-loop μ-loop
 loop-again-2 c =
     let m = c .before in
     let l = loop m .loop in
-    (omega arith, omega arith, l .inv .2 ∙ walk-leaves (t m) (start m .args .n) (s m) (l .best) (l .i) (omega arith) (says m ∙ c .if1 .left))
+    let n = start m .args .n in (
+      omega arith,
+      omega arith,
+      l .inv .2 ∙ walk-leaves (t m) n (s m) (l .best) (l .i) (omega arith) (says m ∙ c .if1 .left),
+      l .inv .3 ∙ place-leaves (t m) n (s m) (l .best) (l .i) (omega arith) (says m ∙ c .if1 .left),
+    )
 
 returns : tie.Need-returns Inv-loop μ-loop
 returns c =
     let l = c .before in
     let a = l .before .before .args in
-    (sym (l .loop .inv .2 ∙ walk-ends (number (a .target)) (a .n) (a .s .now) (l .loop .best) (l .loop .i) (omega arith)), l .loop .inv .0)
+    let t = number (a .target) in (
+      sym (l .loop .inv .2 ∙ walk-ends t (a .n) (a .s .now) (l .loop .best) (l .loop .i) (omega arith)),
+      (l .loop .inv .0, sym (l .loop .inv .3 ∙ place-ends t (a .n) (a .s .now) (l .loop .best) (l .loop .i) (omega arith))),
+    )
 
 pub place-of-spec : {M : Type 1} → statement M
 place-of-spec =

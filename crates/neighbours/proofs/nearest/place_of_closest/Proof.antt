@@ -81,7 +81,7 @@ module _ (p : tie.After-place-of) where
   mine = p .place-of .ensures .0 ∙ ap₂ (λ (k m : ℕ). closestOf k (rows 100 m ours)) (p .before .key-at .ensures) own-many
 
   inside : p .place-of .result < length (ownRecords ours)
-  inside = omega (arith, p .place-of .ensures .1, p .before .before .count .ensures)
+  inside = omega (arith, p .place-of .ensures .1 .0, p .before .before .count .ensures)
 
 -- how many are passed over on each side
 over-is : (c : tie.After-skipped-up) → (let n = searched (c .before) in c .skipped-up .result ≡ skippedUp (path n) (cache n) (used n) (at n))
@@ -165,7 +165,7 @@ nearest-of-requires c κs =
     let up = down .before in
     let p = behind (up .before) in
     let n = searched p in (
-      omega (arith, p .place-of .ensures .1, own-many p, own-formed (own n) (s n .pre .0 .0) .many),
+      omega (arith, p .place-of .ensures .1 .0, own-many p, own-formed (own n) (s n .pre .0 .0) .many),
       omega (arith, room n, up .wrap .ensures .1),
       omega (arith, room n, down .wrap2 .ensures .1),
     )

@@ -319,3 +319,12 @@ pub insert-every : (P : ℕ → Type 0) (i : ℕ) (r : List ℕ) (recs : List (L
 insert-every P zero r recs a = a .1
 insert-every P (suc i) r [] a = a .1
 insert-every P (suc i) r (x ∷ xs) a = (a .0, insert-every P i r xs (a .1))
+
+-- ---- any two places that the contract of `who_goes` allows are one, as no two of the keys are equal
+
+not-before : (first : ℕ) (owns keys : List ℕ) (i j : ℕ) → Rising plain 0 keys → Goes first owns keys i → Goes first owns keys j → ¬ (i < j)
+not-before first owns keys i j r g h l =
+    let less : getD keys i 0 < getD keys j 0 = rising-less plain 0 keys i j r l (h .inside) in omega (arith, less, g .named, h .named)
+
+pub goes-one : (first : ℕ) (owns keys : List ℕ) (i j : ℕ) → Rising plain 0 keys → Goes first owns keys i → Goes first owns keys j → i ≡ j
+goes-one first owns keys i j r g h = omega (arith, not-before first owns keys i j r g h, not-before first owns keys j i r h g)

@@ -15,7 +15,7 @@ use Rattle.own.specs.Own.{Own}
 use Rattle.waiting.specs.Place.{triesOf}
 use Rattle.waiting.specs.Form.{placeBy, placeForm}
 
-and-false : (t : Bool) → t && false ≡ false
+pub and-false : (t : Bool) → t && false ≡ false
 and-false true = refl
 and-false false = refl
 

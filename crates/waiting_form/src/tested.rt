@@ -57,10 +57,10 @@ fn places_formed(own: &[u8], table: &[u8], used: usize) -> bool
     while at < used {
         let from = waiting::PLACE_LEN * at;
         let id = octet::read_u32_le(table, from) as u64;
-        if !place_formed(own, &table[from..from + waiting::PLACE_LEN]) {
+        if id < low {
             return false;
         }
-        if id < low {
+        if !place_formed(own, &table[from..from + waiting::PLACE_LEN]) {
             return false;
         }
         if key_again(table, used, at) {

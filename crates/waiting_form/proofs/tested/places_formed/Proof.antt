@@ -5,14 +5,15 @@ use mathlib.Core.Bool.{Bool, true, false, _&&_, not}
 use mathlib.Core.List.{List}
 use Prim.Native.Nat.{ℕ, _+_, _*_, _-_, _≤_}
 use native.Mathlib.Omega.{arith}
-use lib.ListN.{drop, length-take, length-drop}
+use lib.ListN.{take, drop, length-take, length-drop}
 use borrow.Author.Tests.{not-true, not-false, le-leb, lt-leb}
 use Rattle.record.specs.Record.{recordForm}
 use Rattle.own.specs.Own.{Own, ownKeys}
 use Rattle.table.specs.Rows.{rows}
-use Rattle.waiting.specs.Form.{again, placesForm}
+use Rattle.waiting.specs.Form.{again, placeForm, placesForm}
 use Rattle.waiting.proofs.PlaceLaws.{id-at}
 use Rattle.waiting.proofs.WalkLaws.{place, later, tests, tests-are, form-not, form-on, form-end}
+use Rattle.waiting_form.proofs.HeadLaws.{and-false}
 use Rattle.waiting_form.proofs.tested.places_formed.Statement.{statement}
 use Rattle.waiting_form.proofs.tested.places_formed.Tie as tie
 
@@ -25,9 +26,9 @@ abbrev μ-loop : tie.MeasureT-loop
 μ-loop own table used low₀ at₀ low at = used - at
 
 -- the tests of a turn are the place's, by what is known of them: whether it is in form, and whether its key comes again
-module _ (c : tie.After-place-formed Inv-loop μ-loop) where
+module _ (c : tie.After-read-u32-le Inv-loop μ-loop) where
   abbrev at-loop : tie.At-loop Inv-loop μ-loop
-  at-loop = c .before .before .before .before
+  at-loop = c .before .before
 
   abbrev from : tie.Start Inv-loop μ-loop
   from = at-loop .before .before .before
@@ -47,11 +48,11 @@ module _ (c : tie.After-place-formed Inv-loop μ-loop) where
   abbrev comesAgain : Bool
   comesAgain = again (place used table (at-loop .loop .at)) (later used table (at-loop .loop .at))
 
-  turned : (f a : Bool) → c .place-formed .result ≡ f → a ≡ comesAgain
-      → turn ≡ (f && leb (at-loop .loop .low) (c .before .before .read-u32-le .result) && not a)
-  turned f a e g =
-      tests-are used table (at-loop .loop .at) recordForm own (at-loop .loop .low) (sym e ∙ c .place-formed .ensures)
-      (c .before .before .read-u32-le .ensures) g
+  abbrev isFormed : Bool
+  isFormed = placeForm own (take ((140 * at-loop .loop .at + 140) - 140 * at-loop .loop .at) (drop (140 * at-loop .loop .at) table))
+
+  turned : (f a : Bool) → f ≡ isFormed → a ≡ comesAgain → turn ≡ (f && leb (at-loop .loop .low) (c .read-u32-le .result) && not a)
+  turned f a e g = tests-are used table (at-loop .loop .at) recordForm own (at-loop .loop .low) e (c .read-u32-le .ensures) g
 
   -- a turn whose tests fail
   fails : turn ≡ false → false ≡ placesForm own 0 (rows 140 used table)
@@ -71,6 +72,13 @@ read-u32-le-requires c κs = omega arith
 cast-id : tie.Need-cast-id Inv-loop μ-loop
 cast-id c = omega arith
 
+returns : tie.Need-returns Inv-loop μ-loop
+returns c =
+    let p = c .before in
+    fails p
+    (turned p (isFormed p) (comesAgain p) refl refl ∙ ap (λ (t : Bool). isFormed p && t && not (comesAgain p)) (lt-leb _ _ (c .if1 .taken))
+    ∙ ap (λ (t : Bool). t && not (comesAgain p)) (and-false (isFormed p)))
+
 add-place-formed : tie.Need-add-place-formed Inv-loop μ-loop
 add-place-formed c = omega arith
 
@@ -86,26 +94,22 @@ part-place-formed-end c = omega arith
 place-formed-requires : tie.Need-place-formed-requires Inv-loop μ-loop
 place-formed-requires c κs = simp (length-take, length-drop) (omega arith)
 
-returns : tie.Need-returns Inv-loop μ-loop
-returns c = fails (c .before) (turned (c .before) false _ (not-true (c .before .place-formed .result) (c .if1 .taken)) refl)
-
 returns-2 : tie.Need-returns-2 Inv-loop μ-loop
 returns-2 c =
-    let p = c .before .before in
-    fails p
-    (turned p true _ (not-false (p .place-formed .result) (c .before .if1 .left)) refl
-    ∙ ap (λ (t : Bool). t && not (comesAgain p)) (lt-leb _ _ (c .if2 .taken)))
+    let p = c .before .before .before .before in
+    fails p (turned p false _ (sym (not-true (c .before .place-formed .result) (c .if2 .taken)) ∙ c .before .place-formed .ensures) refl)
 
 key-again-requires : tie.Need-key-again-requires Inv-loop μ-loop
 key-again-requires c κs = (omega arith, omega arith)
 
 returns-3 : tie.Need-returns-3 Inv-loop μ-loop
 returns-3 c =
-    let low = c .before .before in
-    let p = low .before .before in
-    fails p
-    (turned p true true (not-false (p .place-formed .result) (low .before .if1 .left)) (sym (c .if3 .taken) ∙ c .before .key-again .ensures)
-    ∙ ap (λ (t : Bool). t && false) (le-leb _ _ (low .if2 .left)))
+    let formed = c .before .before in
+    let low = formed .before .before .before in
+    let place = sym (not-false (formed .before .place-formed .result) (formed .if2 .left)) ∙ formed .before .place-formed .ensures in
+    fails (low .before)
+    (turned (low .before) true true place (sym (c .if3 .taken) ∙ c .before .key-again .ensures)
+    ∙ ap (λ (t : Bool). t && false) (le-leb _ _ (low .if1 .left)))
 
 add-low : tie.Need-add-low Inv-loop μ-loop
 add-low c = omega arith
@@ -118,15 +122,16 @@ loop-less c = omega arith
 
 loop-again : tie.Need-loop-again Inv-loop μ-loop
 loop-again c =
-    let low = c .before .before in
-    let p = low .before .before in
-    let a = p .before .before .before .before .before .before .before .args in
-    let l = p .before .before .before .before .loop in
+    let formed = c .before .before in
+    let low = formed .before .before .before in
+    let p = low .before in
+    let a = p .before .before .before .before .before .args in
+    let l = p .before .before .loop in
     let own = ownKeys (a .own .now) in
-    let id = id-at (140 * l .at) (a .table .now) ∙ sym (p .before .before .read-u32-le .ensures) in
+    let id = id-at (140 * l .at) (a .table .now) ∙ sym (p .read-u32-le .ensures) in
+    let place = sym (not-false (formed .before .place-formed .result) (formed .if2 .left)) ∙ formed .before .place-formed .ensures in
     let passes =
-    turned p true false (not-false (p .place-formed .result) (low .before .if1 .left)) (sym (c .if3 .left) ∙ c .before .key-again .ensures)
-    ∙ ap (λ (t : Bool). t && true) (le-leb _ _ (low .if2 .left)) in (
+    turned p true false place (sym (c .if3 .left) ∙ c .before .key-again .ensures) ∙ ap (λ (t : Bool). t && true) (le-leb _ _ (low .if1 .left)) in (
       omega arith,
       omega arith,
       l .inv .2 ∙ form-on (a .used) (a .table .now) (l .at) recordForm own (l .low) (omega arith) passes
@@ -149,12 +154,12 @@ places-formed-spec =
     mul-from
     read-u32-le-requires
     cast-id
+    returns
     add-place-formed
     sub-place-formed
     part-place-formed-start
     part-place-formed-end
     place-formed-requires
-    returns
     returns-2
     key-again-requires
     returns-3

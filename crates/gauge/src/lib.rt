@@ -12,9 +12,8 @@ use gauge_plan::Plan;
 use neighbours::Nearest;
 use plan_send::SendPlan;
 
-// A datagram received: everything is planned before a byte is written.
-#[no_mangle]
-pub extern "C" fn gauge_receive(
+// What is done with a datagram received: everything is planned before a byte is written.
+fn plan_and_commit(
     own: &[u8],
     cpas: &[u8],
     cache: &mut [u8],
@@ -33,10 +32,6 @@ pub extern "C" fn gauge_receive(
         (now (cpas .entry)) major minor id (now (nonce .entry)) verdict (now (key .entry)) (now (datagram .entry))
         (now (output .entry)))) ⌝ }
 {
-    // First, so that own records out of form cost nothing more: the plan tests them again.
-    if !own::own_form(own) {
-        return gauge_commit::answer_of(refusal::MEMORY, 0, 0);
-    }
     if !gauge_plan::hands_fit(own, cpas, nonce, key) {
         return gauge_commit::answer_of(refusal::MEMORY, 0, 0);
     }
@@ -141,6 +136,46 @@ pub extern "C" fn gauge_receive(
             output,
         ),
     }
+}
+
+// A datagram received. Own records out of form are refused before the rest of what is lent is touched; the plan tests them again.
+#[no_mangle]
+pub extern "C" fn gauge_receive(
+    own: &[u8],
+    cpas: &[u8],
+    cache: &mut [u8],
+    waiting: &mut [u8],
+    major: u8,
+    minor: u8,
+    id: u32,
+    nonce: &[u8],
+    verdict: u32,
+    key: &[u8],
+    datagram: &[u8],
+    output: &mut [u8],
+) -> gauge_commit::Answer
+    ensures { λ r. ⌜ handed r (memory (now (cache .exit)) (now (waiting .exit))) (now (output .exit))
+        ≡ ours (memory (now (cache .entry)) (now (waiting .entry))) (receives (receive (now (own .entry))
+        (now (cpas .entry)) major minor id (now (nonce .entry)) verdict (now (key .entry)) (now (datagram .entry))
+        (now (output .entry)))) ⌝ }
+{
+    if !own::own_form(own) {
+        return gauge_commit::answer_of(refusal::MEMORY, 0, 0);
+    }
+    plan_and_commit(
+        own,
+        cpas,
+        cache,
+        waiting,
+        major,
+        minor,
+        id,
+        nonce,
+        verdict,
+        key,
+        datagram,
+        output,
+    )
 }
 
 // A FLOOD sent to a held neighbour, of a record of our own or of one held: everything is planned before a byte is written.

@@ -12,8 +12,8 @@ pub fn count(own: &[u8]) -> usize
     own.len() / record::RECORD_LEN
 }
 
-// Is the key at a place one of ours?
-pub fn is_own(own: &[u8], s: &[u8], at: usize) -> bool
+// Is the key at a place that of one of so many own records?
+fn is_any(own: &[u8], s: &[u8], at: usize) -> bool
     requires { ⌜ at + 32 ≤ length (now s) ⌝ }
     ensures { λ r. ⌜ r ≡ isOwn (ownKeys (now (own .entry))) (keyAt at (now (s .entry))) ⌝ }
 {
@@ -26,6 +26,17 @@ pub fn is_own(own: &[u8], s: &[u8], at: usize) -> bool
         i += 1;
     }
     false
+}
+
+// Is the key at a place one of ours? Mostly we have one.
+pub fn is_own(own: &[u8], s: &[u8], at: usize) -> bool
+    requires { ⌜ at + 32 ≤ length (now s) ⌝ }
+    ensures { λ r. ⌜ r ≡ isOwn (ownKeys (now (own .entry))) (keyAt at (now (s .entry))) ⌝ }
+{
+    if own.len() == record::RECORD_LEN {
+        return key::same_at(s, at, own, 0);
+    }
+    is_any(own, s, at)
 }
 
 // Which of ours the key at a place is.

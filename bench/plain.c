@@ -1195,13 +1195,17 @@ struct gauge_answer CALL(tick)(const uint8_t *own, size_t own_len, uint8_t *wait
     return answer(0, left, 0);
 }
 
+/* How many records are held, where own records and cache are in form and what is handed in beside them is as long as it should be. */
+static size_t lent_form(struct own ours, const uint8_t *cache, size_t cache_len, bool handed)
+{
+    return own_formed(ours) && handed ? cache_form(ours, cache, cache_len) : NOT_IN_FORM;
+}
+
 struct gauge_answer CALL(neighbours)(const uint8_t *own, size_t own_len, const uint8_t *cache, size_t cache_len, const uint8_t *key, size_t key_len,
                                      uint8_t *output, size_t output_len)
 {
     struct own ours = {own, own + own_len};
-    if (!own_formed(ours) || key_len != 32)
-        return answer(1, 0, 0);
-    size_t held = cache_form(ours, cache, cache_len);
+    size_t held = lent_form(ours, cache, cache_len, key_len == 32);
     if (held == NOT_IN_FORM)
         return answer(1, 0, 0);
     if (own_with(ours, key) == NULL)
@@ -1225,9 +1229,7 @@ struct gauge_answer CALL(closest)(const uint8_t *own, size_t own_len, const uint
                                   const uint8_t *target, size_t target_len)
 {
     struct own ours = {own, own + own_len};
-    if (!own_formed(ours) || path_len % 18 != 0 || target_len != 32)
-        return answer(1, 0, 0);
-    size_t held = cache_form(ours, cache, cache_len);
+    size_t held = lent_form(ours, cache, cache_len, path_len % 18 == 0 && target_len == 32);
     if (held == NOT_IN_FORM)
         return answer(1, 0, 0);
     struct path points = {path, path_len};
@@ -1238,9 +1240,7 @@ struct gauge_answer CALL(closest)(const uint8_t *own, size_t own_len, const uint
 struct gauge_answer CALL(search)(const uint8_t *own, size_t own_len, const uint8_t *cache, size_t cache_len, const uint8_t *key, size_t key_len)
 {
     struct own ours = {own, own + own_len};
-    if (!own_formed(ours) || key_len != 32)
-        return answer(1, 0, 0);
-    size_t held = cache_form(ours, cache, cache_len);
+    size_t held = lent_form(ours, cache, cache_len, key_len == 32);
     if (held == NOT_IN_FORM)
         return answer(1, 0, 0);
     struct sought s = seek(cache, held, key);

@@ -5,7 +5,7 @@ use mathlib.Core.Bool.{Bool, true, false, not, cond, _&&_}
 use mathlib.Core.List.{List, [], _∷_, _++_}
 use Prim.Native.Nat.{ℕ, _+_, _-_, _*_, _≤_, _<_}
 use native.Mathlib.Omega.{arith}
-use lib.Dec.{eqb, ltb}
+use lib.Dec.{eqb, leb, ltb}
 use lib.ListN.{length, take, drop, length-append}
 use lib.Seq.{take-all, take-at, drop-at, drop-length}
 use borrow.Author.Tests.{le-leb, eq-eqb, eqb-true}
@@ -20,11 +20,13 @@ use Rattle.refusal.specs.Table.{Refusal, when, orRefuse}
 use Rattle.refusal.proofs.CallLaws.{row-applies, row-passes}
 use Rattle.cpas.specs.Cpas.{cpaSize, behindCpa, cpaForm, cpasForm, cpaOf}
 use Rattle.cpas.proofs.CpaLaws.{cpa-tests, form-on, form-end}
-use Rattle.cache.specs.Form.{cacheForm}
+use Rattle.cache.specs.Form.{follows, cacheForm}
 use Rattle.cache.specs.Calls.{memoryWrong, heldBy}
 use Rattle.neighbours.specs.Listing.{afterList, countsOf}
 use Rattle.neighbours.specs.Closest.{candidates}
 use Rattle.neighbours.specs.Calls.{Written, listWritten, listCall}
+use Rattle.waiting.specs.Place.{kindOf, placeKey, placeRecord}
+use Rattle.waiting.specs.Form.{inquiryForm}
 use Rattle.gauge_plan.specs.Own.{notOurs}
 use Rattle.gauge_plan.specs.declared.Plan.the-variants.{Refuse, Certify}
 use Rattle.plan_answer.specs.Answering.{inquireRefusals, inquirePlan}
@@ -40,6 +42,17 @@ module _ (own : List ℕ) (one : length own ≡ 100) where
   -- N: set where the validate key is not that of the own record
   pub one-own-n : (at : ℕ) (d : List ℕ) → notOurs (ownKeys own) at d ≡ not (eqb (keyAt at d) (keyOf own))
   one-own-n at d = ap not (one-own-is own one (keyAt at d))
+
+  -- a row of the cache: in form, above those before it, not of the own key
+  pub one-own-row : (low : ℕ) (r : List ℕ) → follows recordForm (ownKeys own) low r ≡ recordForm r && leb low (keyOf r) && not (eqb (keyOf r) (keyOf own))
+  unfolding follows
+  one-own-row low r = ap (λ (b : Bool). recordForm r && leb low (keyOf r) && not b) (one-own-is own one (keyOf r))
+
+  -- an inquiry in the waiting table: for another key than the own one
+  pub one-own-inquiry : (p : List ℕ) → inquiryForm recordForm (ownKeys own) p
+      ≡ eqb (kindOf p) 2 && recordForm (placeRecord p) && eqb (keyOf (placeRecord p)) (placeKey p) && not (eqb (placeKey p) (keyOf own))
+  one-own-inquiry p =
+      ap (λ (b : Bool). eqb (kindOf p) 2 && recordForm (placeRecord p) && eqb (keyOf (placeRecord p)) (placeKey p) && not b) (one-own-is own one (placeKey p))
 
   -- the candidates of a LOOKUP
   pub one-own-candidates : (held : List (List ℕ)) → candidates (ownRecords own) held ≡ own ∷ held

@@ -1,6 +1,7 @@
 -- What is proved of a trace that arrives in pieces; the document's examples as text. Assumes nothing.
 use mathlib.Core.Path.{refl}
-use Rattle.replay.specs.Text.{decimalUpTo, textOf, textsOf}
+use Rattle.digits.specs.Digits.{decimalUpTo}
+use Rattle.replay.specs.Text.{textOf, textsOf}
 use Rattle.replay.specs.Statements.{Streams, Example}
 use Rattle.replay.proofs.StreamLaws as pieces
 

@@ -3,24 +3,10 @@ ghost use mathlib.Core.Path.{_≡_};
 ghost use mathlib.Core.List.{_++_};
 ghost use Prim.Native.Nat.{_+_, _≤_};
 ghost use lib.ListN.{length, take};
-ghost use Rattle.octet.specs.Part.{splice};
 ghost use Rattle.night.specs.Replay.{line, lineOf, atEnd};
-ghost use Rattle.replay.specs.Text.{decimal, textOf, textsOf};
+ghost use Rattle.replay.specs.Text.{textOf, textsOf};
 
 // The longest line has 42 bytes: two numbers of 20 digits at most, a space, the line's end.
-
-// Puts a number's digits at a place, and answers where they end.
-fn put_number(out: &mut [u8], at: usize, n: u64) -> usize
-    requires { ⌜ at + 20 ≤ length (now out) ⌝ }
-    ensures { λ r. ⌜ r ≡ at + length (decimal n) ⌝ }
-    ensures { λ r. ⌜ r ≤ at + 20 ⌝ }
-    ensures { λ r. ⌜ now (out .exit) ≡ splice at (decimal n) (now (out .entry)) ⌝ }
-{
-    let mut digits = [0u8; 20];
-    let k = io::decimal(n, &mut digits);
-    runs::copy_to(out, at, &digits[..k]);
-    at + k
-}
 
 // Puts the line of record number `at` at a place, and answers where it ends.
 fn put_line(out: &mut [u8], from: usize, at: u64, answer: u32) -> usize
@@ -28,9 +14,9 @@ fn put_line(out: &mut [u8], from: usize, at: u64, answer: u32) -> usize
     ensures { λ r. ⌜ r ≤ from + 42 ⌝ }
     ensures { λ r. ⌜ take r (now (out .exit)) ≡ take from (now (out .entry)) ++ textOf (line at answer) ⌝ }
 {
-    let space = put_number(out, from, at);
+    let space = digits::put_decimal(out, from, at);
     out[space] = b' ';
-    let end = put_number(out, space + 1, answer as u64);
+    let end = digits::put_decimal(out, space + 1, answer as u64);
     out[end] = b'\n';
     end + 1
 }

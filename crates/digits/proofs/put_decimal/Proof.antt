@@ -1,4 +1,4 @@
--- `replay::line::put_number` meets its contract. Assumes nothing.
+-- `digits::put_decimal` meets its contract. Assumes nothing.
 use mathlib.Core.Path.{_≡_, ap, _∙_}
 use mathlib.Core.List.{List}
 use Prim.Native.Nat.{ℕ, _+_, _≤_}
@@ -6,10 +6,10 @@ use native.Mathlib.Omega.{arith}
 use lib.ListN.{length, take}
 use borrow.Author.Needs.{needs}
 use Rattle.octet.specs.Part.{splice}
-use Rattle.replay.specs.Text.{decimal}
-use Rattle.replay.proofs.TextLaws.{decimal-is, length-decimal}
-use Rattle.replay.proofs.line.put_number.Statement.{statement}
-use Rattle.replay.proofs.line.put_number.Tie as tie
+use Rattle.digits.specs.Digits.{decimal}
+use Rattle.digits.proofs.DigitLaws.{decimal-is, length-decimal}
+use Rattle.digits.proofs.put_decimal.Statement.{statement}
+use Rattle.digits.proofs.put_decimal.Tie as tie
 
 -- what `io` puts there is the number in decimal
 text-is : (c : tie.After-decimal) → take (c .decimal .result) (c .decimal .last .1 .0) ≡ decimal (c .before .before .before .args .n)
@@ -49,8 +49,8 @@ returns c =
       (omega (arith, short d), c .before .before .copy-to .ensures ∙ ap (λ (l : List ℕ). splice (a .at) l (a .out .now)) (text-is d)),
     )
 
-pub put-number-spec : {M : Type 1} → statement M
-put-number-spec =
+pub put-decimal-spec : {M : Type 1} → statement M
+put-decimal-spec =
     tie.close
     (tie.spec
     decimal-requires

@@ -1,0 +1,5 @@
+pub mod NearLaws
+pub mod ReasonLaws
+pub mod WalkLaws
+pub mod Theorems
+pub mod CaseLaws

@@ -1,0 +1,4 @@
+pub mod OwnedLaws
+pub mod SpotLaws
+pub mod CallLaws
+pub mod Theorems

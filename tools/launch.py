@@ -1,12 +1,13 @@
-"""Runs a program of the house as a keeper does: bin/replay, bin/shown, bin/ponds and bin/convert all come here.
+"""Runs a program of the house as a keeper does: bin/replay, bin/shown, bin/ponds, bin/convert and bin/why all come here.
 
     launch NAME [WORDS..]
 
 The program is proved and built first where what it is made of has changed (tools/prove tells how far that is). Its input and output go through this
 launcher, which so sees what can't be read or written, and gives a status, as a program itself has none:
 
-    0  a whole night; readings that were all taken; memory that was converted
-    1  a night that is damaged, cut short, or refused from its first call on; a reading that was refused; memory that is not in the old form
+    0  a whole night; readings that were all taken; memory that was converted; a record that is named
+    1  a night that is damaged, cut short, or refused from its first call on; a reading that was refused; memory that is not in the old form; a
+       refusal where a record was to be named
     2  a file that can't be read, an output that can't be written, a wrong use
 
 It goes by the lines that the program writes (WATCHERS) and by what comes on descriptor 2. Names are made ready here (tools/names.py). A conversion of
@@ -75,8 +76,18 @@ WAITING   the waiting table, 2,240 bytes; an empty one where it is left out
 
 %s
 """ % (STATUS % ("where all was converted", "for memory that is not in the old form, which stays as it is")),
+    "why": """bin/why [INPUT]
+
+Tells why a gauge names a record for a LOOKUP. Writes the record, its key, port and address, and one reason: it is the only candidate, it has
+the target's key, another one is tied with it, or it is the nearest, before the next nearest. Where that can't be told, a number.
+
+INPUT   the gauge's own record as a trace begins with it (kind 4), the length of its cache in 2 bytes, little-endian, the cache, and the LOOKUP
+        as it came; standard input where it is left out or -
+
+%s
+""" % (STATUS % ("where a record is named", "where it is refused")),
 }
-MOST_WORDS = {"replay": 1, "shown": 2, "ponds": 2, "convert": 3}
+MOST_WORDS = {"replay": 1, "shown": 2, "ponds": 2, "convert": 3, "why": 1}
 
 
 class Fault(Exception):
@@ -135,7 +146,25 @@ class Ponds:
         return int(self.refused), None
 
 
-WATCHERS = {"replay": Replay, "shown": Shown, "ponds": Ponds}
+class Why:
+    """A record and a reason, or a number alone."""
+    REFUSED = {"1": "the own record or the cache is not in form", "2": "the datagram's length is not that of a message",
+               "3": "the datagram does not begin as a message does", "4": "the datagram is of another major version",
+               "5": "the datagram's type is unknown", "6": "the datagram is malformed", "7": "the message is no LOOKUP",
+               "16": "the first record or the cache is cut short, or of wrong length",
+               "17": "the input does not open with a gauge's own record"}
+
+    def __init__(self):
+        self.word = None
+
+    def line(self, text):
+        self.word = self.REFUSED.get(text, self.word)
+
+    def verdict(self):
+        return int(self.word is not None), self.word
+
+
+WATCHERS = {"replay": Replay, "shown": Shown, "ponds": Ponds, "why": Why}
 
 
 # --- The program -------------------------------------------------------------------------------------------------------------
@@ -206,7 +235,7 @@ def set_up():
 
 def input_of(name, words, readable):
     """The descriptor that is read: of a file, or standard input."""
-    what = "readings" if name == "ponds" else "a trace"
+    what = {"ponds": "readings", "why": "own record, cache and LOOKUP"}.get(name, "a trace")
     if words and words[0] != "-":
         return opened(words[0], what)
     if not readable:

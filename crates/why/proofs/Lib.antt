@@ -1,0 +1,3 @@
+pub mod PutsLaws
+pub mod ChoiceLaws
+pub mod InputLaws

@@ -19,7 +19,7 @@ use Rattle.neighbours.specs.Closest.{closestFrom, closestOf}
 use Rattle.reason.specs.Because.{Because, only, target, tied, nearest, rank, namedKey, Another, AnotherWith, Holds, First, Once, Candidates}
 use Rattle.reason.specs.Reason.{passing, differs, closestIn, becauseBy, reasonBy, reasonOf, givenBy, becauseOf}
 use Rattle.reason.specs.declared.Reason.the-variants.{Only, Target, Tied, Nearest}
-use Rattle.reason.proofs.NearLaws.{closest-in, none-closer}
+use Rattle.closest_row.proofs.ClosestLaws.{closest-in, none-closer}
 
 -- a test that holds and does not
 pub both : {A : Type 0} {b : Bool} → b ≡ true → b ≡ false → A

@@ -1,58 +1,49 @@
--- Our own records as rows, each in form; with those held that are not on a path they are candidates: one at least, and no key twice. Assumes nothing.
-use mathlib.Core.Path.{_≡_, refl, sym, ap, subst, _∙_}
-use mathlib.Core.Logic.{inl, inr}
-use mathlib.Core.Bool.{Bool, true, false, cond}
-use mathlib.Core.List.{List, [], _∷_}
-use Prim.Native.Nat.{ℕ, suc, _*_, _/_, _≤_, _<_}
+-- Our own records with those held that are not on a path are candidates: one at least, and no key twice. Assumes nothing.
+use mathlib.Core.Path.{_≡_, refl, sym, ap, subst}
+use mathlib.Core.Logic.{_⊎_, inl, inr}
+use mathlib.Core.Bool.{true}
+use mathlib.Core.List.{List, [], _∷_, _++_, map}
+use Prim.Native.Nat.{ℕ, suc}
 use native.Mathlib.Omega.{arith}
-use lib.ListN.{length}
-use lib.Seq.{take-all}
-use Rattle.record.specs.Record.{keyOf, recordForm}
-use Rattle.record.proofs.EntryLaws.{form-length}
+use lib.ListN.{length, length-append}
+use Rattle.record.specs.Record.{keyOf}
 use Rattle.own.specs.Own.{ownForm, ownKeys, ownRecords}
-use Rattle.table.specs.Rows.{rows}
-use Rattle.kept.specs.Keys.{_∈_, Every, Rising, plain}
+use Rattle.own.proofs.FormLaws.{own-formed}
+use Rattle.kept.specs.Keys.{_∈_, Rising, plain}
 use Rattle.kept.specs.Plain.{NotOwn}
 use Rattle.kept.proofs.ListLaws.{every-at, rising-at}
+use Rattle.kept.proofs.TurnLaws.{in-append}
 use Rattle.cache.specs.Form.{keysOf, HeldRecords}
-use Rattle.cache.specs.Place.{cacheFormed}
-use Rattle.cache.specs.declared.shape.Formed.{Formed}
-use Rattle.cache.specs.declared.shape.Formed.the-variants.{Bad, Good}
 use Rattle.neighbours.specs.Closest.{candidates, offPath}
+use Rattle.neighbours.proofs.ClosestLaws.{records-some}
 use Rattle.neighbours.proofs.SkipLaws.{off-held}
 use Rattle.reason.specs.Because.{Once, Candidates}
 
-module _ (own : List ℕ) (formed : ownForm own ≡ true) where
-  pub own-rows : rows 100 (length own / 100) own ≡ ownRecords own
-  unfolding rows
-  own-rows =
-      let l = form-length own formed in
-      ap (λ (n : ℕ). rows 100 (n / 100) own) l ∙ ap (λ (r : List ℕ). r ∷ []) (take-all 100 own (omega (arith, l)))
+rising-once : (low : ℕ) (ks : List ℕ) → Rising plain low ks → Once ks
+rising-once low [] r = tt
+rising-once low (k ∷ ks) r = (λ m. omega (arith, rising-at plain (suc k) k ks (r .1) m), rising-once (suc k) ks (r .1))
 
-  pub own-formed : Every (λ (r : List ℕ). recordForm r ≡ true) (rows 100 (length own / 100) own)
-  own-formed = subst (Every (λ (r : List ℕ). recordForm r ≡ true)) (sym own-rows) (formed, tt)
+-- keys that rise, and others of which none is among them
+once-append : (low : ℕ) (ks js : List ℕ) → Rising plain low ks → ((k : ℕ) → k ∈ js → ¬ (k ∈ ks)) → Once js → Once (ks ++ js)
+once-append low [] js r d o = o
+once-append low (k ∷ ks) js r d o = (λ m. apart (in-append k ks js m), once-append (suc k) ks js (r .1) (λ j m n. d j m (inr n)) o)
+  where
+    apart : (k ∈ ks) ⊎ (k ∈ js) → ⊥
+    apart (inl m) = omega (arith, rising-at plain (suc k) k ks (r .1) m)
+    apart (inr m) = d k m (inl refl)
 
-  rising-once : (low : ℕ) (ks : List ℕ) → Rising plain low ks → Once ks
-  rising-once low [] r = tt
-  rising-once low (k ∷ ks) r = (λ m. omega (arith, rising-at plain (suc k) k ks (r .1) m), rising-once (suc k) ks (r .1))
+keys-append : (xs ys : List (List ℕ)) → map keyOf (xs ++ ys) ≡ map keyOf xs ++ map keyOf ys
+keys-append [] ys = refl
+keys-append (x ∷ xs) ys = ap (λ (l : List ℕ). keyOf x ∷ l) (keys-append xs ys)
 
-  pub candidates-are : (held : List (List ℕ)) (path : List ℕ) → HeldRecords (ownKeys own) held
-      → Candidates (candidates (ownRecords own) (offPath path held))
-  candidates-are held path h =
-      let off = off-held path (ownKeys own) held h in (
-        omega arith,
-        (
-          λ m. every-at (NotOwn (keyOf own)) (keyOf own) (keysOf (offPath path held)) (off .others) m refl,
-          rising-once 0 (keysOf (offPath path held)) (off .rising),
-        ),
-      )
-
--- what the test of memory tells where it is good
-memory-tells : (own cache : List ℕ) (used : ℕ) (b : Bool) → ownForm own ≡ b → cond b (cacheFormed (ownKeys own) cache) Bad ≡ Good used
-    → ownForm own ≡ true
-memory-tells own cache used true e g = e
-memory-tells own cache used false e g = let z : _≡_ {A = ℕ} 0 1 = cc in absurd (omega arith)
-
-pub memory-owned : (own cache : List ℕ) {m : Formed} → m ≡ cond (ownForm own) (cacheFormed (ownKeys own) cache) Bad → {used : ℕ} → m ≡ Good used
-    → ownForm own ≡ true
-memory-owned own cache is {used} good = memory-tells own cache used (ownForm own) refl (sym is ∙ good)
+pub candidates-are : (own : List ℕ) → ownForm own ≡ true → (held : List (List ℕ)) (path : List ℕ) → HeldRecords (ownKeys own) held
+    → Candidates (candidates (ownRecords own) (offPath path held))
+candidates-are own formed held path h =
+    let off = off-held path (ownKeys own) held h in
+    let ours = own-formed own formed in (
+      omega (arith, records-some own formed, length-append (ownRecords own) (offPath path held)),
+      subst Once (sym (keys-append (ownRecords own) (offPath path held)))
+          (once-append 0 (ownKeys own) (keysOf (offPath path held)) (ours .rising)
+          (λ k m. every-at (NotOwn (ownKeys own)) k (keysOf (offPath path held)) (off .others) m)
+          (rising-once 0 (keysOf (offPath path held)) (off .rising))),
+    )

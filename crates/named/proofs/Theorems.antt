@@ -19,7 +19,7 @@ use Rattle.reason.specs.Because.{Because, only, First, Candidates}
 use Rattle.reason.specs.Reason.{reasonOf}
 use Rattle.named.specs.Call.{Told, refused, named, namedBy, nameCall}
 use Rattle.named.specs.Statements.{targetOf, candidatesOf, NamedFor, NamesTruly}
-use Rattle.reason.proofs.NearLaws.{closest-in}
+use Rattle.closest_row.proofs.ClosestLaws.{closest-in}
 use Rattle.reason.proofs.ReasonLaws.{reason-first}
 use Rattle.reason.proofs.Theorems.{one-reason}
 use Rattle.named.proofs.OwnedLaws.{candidates-are}

@@ -7,10 +7,9 @@ use borrow.Author.Needs.{needs}
 use Rattle.own.specs.Own.{ownForm, ownRecords}
 use Rattle.refusal.proofs.CallLaws.{no-row}
 use Rattle.cache.specs.Calls.{heldBy}
-use Rattle.cache.proofs.LentLaws.{memory-form, memory-held, memory-passes, memory-refuses}
+use Rattle.cache.proofs.LentLaws.{memory-own, memory-form, memory-held, memory-passes, memory-refuses}
 use Rattle.wire_read.specs.Answers.{readIn}
 use Rattle.named.specs.Call.{Told, refused, namedBy, nameCall}
-use Rattle.named.proofs.OwnedLaws.{memory-owned}
 use Rattle.named.proofs.name.Statement.{statement}
 use Rattle.named.proofs.name.Tie as tie
 
@@ -42,7 +41,7 @@ name-in-requires c κs =
     let k = c .before in
     let m = k .before .before in
     let s = start m in (
-      memory-owned (s .args .own .now) (s .args .cache .now) (m .memory .ensures) (k .found .given .1),
+      memory-own (s .args .own .now) (s .args .cache .now) (m .memory .ensures) (k .found .given .1),
       memory-form (s .args .own .now) (s .args .cache .now) (m .memory .ensures) (k .found .given .1),
     )
 

@@ -9,13 +9,13 @@ use borrow.Author.Needs.{needs}
 use Rattle.key.specs.Number.{number, keyAt}
 use Rattle.key.specs.Around.{closer}
 use Rattle.own.specs.Own.{ownKeys, ownRecords}
+use Rattle.own.proofs.FormLaws.{own-formed}
 use Rattle.table.specs.Rows.{rows}
 use Rattle.cache.proofs.FormLaws.{form-laid}
 use Rattle.neighbours.specs.Closest.{candidates, offPath}
 use Rattle.reason.specs.Reason.{passing, closestIn}
 use Rattle.reason.specs.Walk.{kept, rowAt, closerOf}
 use Rattle.reason.proofs.WalkLaws.{walks-closest}
-use Rattle.named.proofs.OwnedLaws.{own-rows, own-formed}
 use Rattle.named.proofs.SpotLaws.{joins-none, joins-held, joins-own, joins-closer, joins-nearer}
 use Rattle.named.proofs.choosing.spot_of.Statement.{statement}
 use Rattle.named.proofs.choosing.spot_of.Tie as tie
@@ -53,10 +53,6 @@ module _ (c : tie.After-row-of2) where
       ap₂ (closerOf t) (c .before .row-of .ensures .0) (c .row-of2 .ensures .0)
       ∙ walks-closest (start .args .leave) (number (start .args .k)) t (rows 100 ours own) (rows 100 (start .args .used) cache)
       (start .args .path .now)
-      ∙ ap (λ (l : List (List ℕ)). closestIn t
-      (passing (kept (start .args .leave) (number (start .args .k)))
-      (candidates l (offPath (start .args .path .now) (rows 100 (start .args .used) cache)))))
-      (own-rows own (start .pre .0))
 
   in-own : (i ≡ ours → ⊥) → 100 * i + 100 ≤ length own
   in-own d = omega (arith, c .before .row-of .ensures .1, d)
@@ -74,7 +70,7 @@ part-row-of-end : tie.Need-part-row-of-end
 part-row-of-end c = search needs
 
 row-of-requires : tie.Need-row-of-requires
-row-of-requires c κs = let s = c .before .before .before .before in (omega arith, own-formed (s .args .own .now) (s .pre .0))
+row-of-requires c κs = let s = c .before .before .before .before in (omega arith, own-formed (s .args .own .now) (s .pre .0) .formed)
 
 row-of-requires-2 : tie.Need-row-of-requires-2
 row-of-requires-2 c κs = let s = c .before .before .before .before .before in (room s, s .pre .1 .held .formed)

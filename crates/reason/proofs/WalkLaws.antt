@@ -1,10 +1,10 @@
--- Laws of the walk. In this order: a record of the walk, taken or not; a row of it; two walks, one after the other; what the two are for our own
--- records and those held. Assumes nothing.
-use mathlib.Core.Path.{_≡_, refl, sym, ap, ap₂, _∙_}
+-- Laws of the walk. In this order: a record of the walk, taken or not; a row of it, and its place; the row of the place that is found; two walks, one
+-- after the other; what the two are for our own records and those held. Assumes nothing.
+use mathlib.Core.Path.{_≡_, refl, sym, ap, ap₂, subst, _∙_}
 use mathlib.Core.Bool.{Bool, true, false, not, cond, _&&_, _||_}
 use mathlib.Core.List.{List, [], _∷_, _++_}
 use mathlib.Core.Option.{Option, some, none}
-use Prim.Native.Nat.{ℕ, _+_, _*_, _≤_, _<_}
+use Prim.Native.Nat.{ℕ, zero, suc, _+_, _*_, _≤_, _<_}
 use native.Mathlib.Omega.{arith}
 use lib.ListN.{drop}
 use borrow.Author.Tests.{eq-eqb, ne-eqb}
@@ -19,7 +19,7 @@ use Rattle.table.specs.Rows.{rows}
 use Rattle.table.proofs.RowLaws.{rows-next, rows-end}
 use Rattle.neighbours.specs.Closest.{candidates, offPath, closestFrom}
 use Rattle.reason.specs.Reason.{passing, closestIn, closestWith}
-use Rattle.reason.specs.Walk.{kept, wanted, rowAt, takesOver, closerOf}
+use Rattle.reason.specs.Walk.{kept, wanted, rowAt, takesOver, placeFrom, placeAmong, closerOf}
 use Rattle.reason.proofs.ReasonLaws.{both}
 
 -- ---- a record of the walk
@@ -47,39 +47,93 @@ module _ (t : ℕ) (f : List ℕ → Bool) where
   -- ---- a row of it
 
   module _ (n : ℕ) (s : List ℕ) where
-    pub walk-starts : closestIn t (passing f (rows 100 n s)) ≡ closestWith t (rowAt n s n) (passing f (drop 0 (rows 100 n s)))
-    walk-starts = rw (eq-eqb n n refl) refl
+    -- the closest, and the place, of what was found before and the rows from i on
+    abbrev closestAt : Option (List ℕ) → ℕ → Option (List ℕ)
+    closestAt o i = closestWith t o (passing f (drop i (rows 100 n s)))
+
+    abbrev pub placeAt : ℕ → Option (List ℕ) → ℕ → ℕ
+    placeAt b o i = placeFrom t f b o i (drop i (rows 100 n s))
+
+    none-there : rowAt n s n ≡ none
+    none-there = rw (eq-eqb n n refl) refl
+
+    pub place-starts : placeAmong t f n s ≡ placeAt n (rowAt n s n) 0
+    place-starts = ap (λ (o : Option (List ℕ)). placeAt n o 0) (sym none-there)
 
     module _ (best i : ℕ) (h : i < n) where
       abbrev row : List ℕ
       row = part (100 * i) 100 s
 
-      abbrev later : List (List ℕ)
-      later = drop (i + 1) (rows 100 n s)
-
-      next : (o : Option (List ℕ)) → closestWith t o (passing f (drop i (rows 100 n s))) ≡ closestWith t o (passing f (row ∷ later))
-      next o = ap (λ (l : List (List ℕ)). closestWith t o (passing f l)) (rows-next 100 n s i h)
-
       here : rowAt n s i ≡ some row
       here = rw (ne-eqb i n (λ e. omega arith)) refl
 
-      pub walk-takes : (f row && takesOver t row (rowAt n s best)) ≡ true
-          → closestWith t (rowAt n s best) (passing f (drop i (rows 100 n s))) ≡ closestWith t (rowAt n s i) (passing f later)
-      walk-takes e =
-          let w = both-true (f row) (takesOver t row (rowAt n s best)) e in
-          next (rowAt n s best) ∙ taken (rowAt n s best) row later (w .0) (w .1)
-          ∙ ap (λ (o : Option (List ℕ)). closestWith t o (passing f later)) (sym here)
+      next : (o : Option (List ℕ)) → closestAt o i ≡ closestWith t o (passing f (row ∷ drop (i + 1) (rows 100 n s)))
+      next o = ap (λ (l : List (List ℕ)). closestWith t o (passing f l)) (rows-next 100 n s i h)
 
-      pub walk-leaves : (f row && takesOver t row (rowAt n s best)) ≡ false
-          → closestWith t (rowAt n s best) (passing f (drop i (rows 100 n s))) ≡ closestWith t (rowAt n s best) (passing f later)
-      walk-leaves e = next (rowAt n s best) ∙ passed (rowAt n s best) row later e
+      place-next : (c : Bool) → (f row && takesOver t row (rowAt n s best)) ≡ c
+          → placeAt best (rowAt n s best) i ≡ placeAt (cond c i best) (cond c (some row) (rowAt n s best)) (i + 1)
+      unfolding placeFrom
+      place-next c e =
+          ap (placeFrom t f best (rowAt n s best) i) (rows-next 100 n s i h)
+          ∙ ap (λ (d : Bool). placeAt (cond d i best) (cond d (some row) (rowAt n s best)) (i + 1)) e
 
-    pub walk-ends : (o : Option (List ℕ)) (i : ℕ) → n ≤ i → closestWith t o (passing f (drop i (rows 100 n s))) ≡ o
-    walk-ends o i h = ap (λ (l : List (List ℕ)). closestWith t o (passing f l)) (rows-end 100 n s i h) ∙ none-left o
+      module _ (e : (f row && takesOver t row (rowAt n s best)) ≡ true) where
+        closest-takes : closestAt (rowAt n s best) i ≡ closestAt (rowAt n s i) (i + 1)
+        closest-takes =
+            let w = both-true (f row) (takesOver t row (rowAt n s best)) e in
+            next (rowAt n s best) ∙ taken (rowAt n s best) row (drop (i + 1) (rows 100 n s)) (w .0) (w .1)
+            ∙ ap (λ (o : Option (List ℕ)). closestAt o (i + 1)) (sym here)
+
+        pub place-takes : placeAt best (rowAt n s best) i ≡ placeAt i (rowAt n s i) (i + 1)
+        place-takes = place-next true e ∙ ap (λ (o : Option (List ℕ)). placeAt i o (i + 1)) (sym here)
+
+      module _ (e : (f row && takesOver t row (rowAt n s best)) ≡ false) where
+        closest-leaves : closestAt (rowAt n s best) i ≡ closestAt (rowAt n s best) (i + 1)
+        closest-leaves = next (rowAt n s best) ∙ passed (rowAt n s best) row (drop (i + 1) (rows 100 n s)) e
+
+        pub place-leaves : placeAt best (rowAt n s best) i ≡ placeAt best (rowAt n s best) (i + 1)
+        place-leaves = place-next false e
+
+    closest-ends : (o : Option (List ℕ)) (i : ℕ) → n ≤ i → closestAt o i ≡ o
+    closest-ends o i h = ap (λ (l : List (List ℕ)). closestWith t o (passing f l)) (rows-end 100 n s i h) ∙ none-left o
       where
         none-left : (o : Option (List ℕ)) → closestWith t o (passing f []) ≡ o
         none-left none = unfold passing in refl
         none-left (some r) = unfold passing closestFrom in refl
+
+    pub place-ends : (b : ℕ) (o : Option (List ℕ)) (i : ℕ) → n ≤ i → placeAt b o i ≡ b
+    unfolding placeFrom
+    place-ends b o i h = ap (placeFrom t f b o i) (rows-end 100 n s i h)
+
+    -- ---- the row of the place that is found
+
+    -- the place p is one of the rows, or n, and its row is o
+    abbrev Found : ℕ → Option (List ℕ) → Type 0
+    Found p o = (p ≤ n) × (rowAt n s p ≡ o)
+
+    found-back : {p q : ℕ} {o u : Option (List ℕ)} → p ≡ q → o ≡ u → Found q u → Found p o
+    found-back x y w = (subst (λ (z : ℕ). z ≤ n) (sym x) (w .0), ap (rowAt n s) x ∙ w .1 ∙ sym y)
+
+    -- from place i on, by whether its row is taken
+    abbrev FoundFrom : ℕ → ℕ → Type 0
+    FoundFrom best i = best ≤ n → Found (placeAt best (rowAt n s best) i) (closestAt (rowAt n s best) i)
+
+    found-step : (best i : ℕ) → i < n → (c : Bool) → (f (part (100 * i) 100 s) && takesOver t (part (100 * i) 100 s) (rowAt n s best)) ≡ c
+        → ((b : ℕ) → FoundFrom b (i + 1)) → FoundFrom best i
+    found-step best i h true e rest b = found-back (place-takes best i h e) (closest-takes best i h e) (rest i (omega arith))
+    found-step best i h false e rest b = found-back (place-leaves best i h e) (closest-leaves best i h e) (rest best b)
+
+    found-from : (m best i : ℕ) → i + m ≡ n → FoundFrom best i
+    found-from zero best i e b =
+        found-back (place-ends best (rowAt n s best) i (omega (arith, e))) (closest-ends (rowAt n s best) i (omega (arith, e))) (b, refl)
+    found-from (suc m) best i e b =
+        found-step best i (omega (arith, e)) (f (part (100 * i) 100 s) && takesOver t (part (100 * i) 100 s) (rowAt n s best)) refl
+        (λ p. found-from m p (i + 1) (omega (arith, e))) b
+
+    pub place-found : Found (placeAmong t f n s) (closestIn t (passing f (rows 100 n s)))
+    place-found =
+        found-back place-starts (ap (λ (o : Option (List ℕ)). closestWith t o (passing f (rows 100 n s))) (sym none-there))
+        (found-from n n 0 (omega arith) (omega arith))
 
 -- ---- two walks, one after the other
 

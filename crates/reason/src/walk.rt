@@ -9,8 +9,7 @@ ghost use Rattle.key.specs.Number.{number};
 ghost use Rattle.record.specs.Record.{recordForm};
 ghost use Rattle.table.specs.Rows.{rows};
 ghost use Rattle.kept.specs.Keys.{Every};
-ghost use Rattle.reason.specs.Reason.{passing, closestIn};
-ghost use Rattle.reason.specs.Walk.{wanted as wantedOf, rowAt, takesOver};
+ghost use Rattle.reason.specs.Walk.{wanted as wantedOf, rowAt, takesOver, placeAmong};
 use key::Key;
 
 // Is the record at a place looked for: not on the path, and, where one is to be left out, not of the key k?
@@ -60,9 +59,7 @@ fn is_taken(
 // The place of the closest to the target among those of n rows that are looked for; n where there is none.
 pub fn row_of(s: &[u8], n: usize, path: &[u8], target: Key, leave: bool, k: Key) -> usize
     requires { ⌜ (100 * n ≤ length (now s)) × Every (λ (q : List ℕ). recordForm q ≡ true) (rows 100 n (now s)) ⌝ }
-    ensures { λ r. ⌜ rowAt n (now (s .entry)) r
-        ≡ closestIn (number target) (passing (wantedOf (now (path .entry)) leave (number k)) (rows 100 n (now (s .entry)))) ⌝ }
-    ensures { λ r. ⌜ r ≤ n ⌝ }
+    ensures { λ r. ⌜ r ≡ placeAmong (number target) (wantedOf (now (path .entry)) leave (number k)) n (now (s .entry)) ⌝ }
 {
     let mut best = n;
     let mut i = 0;

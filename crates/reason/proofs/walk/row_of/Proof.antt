@@ -1,17 +1,12 @@
--- `reason::walk::row_of` meets its contract: the closest of all that are looked for is the closest of the best so far and those from row i on.
--- Assumes nothing.
+-- `reason::walk::row_of` meets its contract: the place among all rows is that of the best so far and the rows from i on. Assumes nothing.
 use mathlib.Core.Path.{_≡_, sym, _∙_}
 use mathlib.Core.Bool.{Bool}
 use mathlib.Core.List.{List}
 use Prim.Native.Nat.{ℕ, _-_, _*_, _≤_, _<_}
 use native.Mathlib.Omega.{arith}
-use lib.ListN.{drop}
-use Rattle.octet.specs.Part.{part}
 use Rattle.key.specs.Number.{number}
-use Rattle.table.specs.Rows.{rows}
-use Rattle.reason.specs.Reason.{passing, closestIn, closestWith}
-use Rattle.reason.specs.Walk.{wanted, rowAt}
-use Rattle.reason.proofs.WalkLaws.{walk-starts, walk-takes, walk-leaves, walk-ends}
+use Rattle.reason.specs.Walk.{wanted, rowAt, placeAmong}
+use Rattle.reason.proofs.WalkLaws.{placeAt, place-starts, place-takes, place-leaves, place-ends}
 use Rattle.reason.proofs.walk.row_of.Statement.{statement}
 use Rattle.reason.proofs.walk.row_of.Tie as tie
 
@@ -19,8 +14,8 @@ abbrev Inv-loop : tie.InvT-loop
 Inv-loop s n path target leave k best₀ i₀ best i =
     (best ≤ n)
     × (i ≤ n)
-    × (closestIn (number target) (passing (wanted path leave (number k)) (rows 100 n s))
-    ≡ closestWith (number target) (rowAt n s best) (passing (wanted path leave (number k)) (drop i (rows 100 n s))))
+    × (placeAmong (number target) (wanted path leave (number k)) n s
+    ≡ placeAt (number target) (wanted path leave (number k)) n s best (rowAt n s best) i)
 
 abbrev μ-loop : tie.MeasureT-loop
 μ-loop s n path target leave k best₀ i₀ best i = n - i
@@ -36,7 +31,7 @@ loop-holds : tie.Need-loop-holds Inv-loop μ-loop
 loop-holds c =
     let s = c .before .before in
     let a = s .args in
-    (omega arith, omega arith, walk-starts (number (a .target)) (test s) (a .n) (a .s .now))
+    (omega arith, omega arith, place-starts (number (a .target)) (test s) (a .n) (a .s .now))
 
 is-taken-requires : tie.Need-is-taken-requires Inv-loop μ-loop
 is-taken-requires c κs =
@@ -59,7 +54,7 @@ loop-again c =
       omega arith,
       omega arith,
       l .loop .inv .2
-          ∙ walk-takes (number (a .target)) (test s) (a .n) (a .s .now) (l .loop .best) (l .loop .i) (m .before .loop-test .taken)
+          ∙ place-takes (number (a .target)) (test s) (a .n) (a .s .now) (l .loop .best) (l .loop .i) (m .before .loop-test .taken)
           (sym (m .is-taken .ensures) ∙ c .if1 .taken),
     )
 
@@ -75,7 +70,7 @@ loop-again-2 c =
       omega arith,
       omega arith,
       l .loop .inv .2
-          ∙ walk-leaves (number (a .target)) (test s) (a .n) (a .s .now) (l .loop .best) (l .loop .i) (m .before .loop-test .taken)
+          ∙ place-leaves (number (a .target)) (test s) (a .n) (a .s .now) (l .loop .best) (l .loop .i) (m .before .loop-test .taken)
           (sym (m .is-taken .ensures) ∙ c .if1 .left),
     )
 
@@ -83,11 +78,10 @@ returns : tie.Need-returns Inv-loop μ-loop
 returns c =
     let l = c .before in
     let s = start l in
-    let a = s .args in (
-      sym (l .loop .inv .2
-          ∙ walk-ends (number (a .target)) (test s) (a .n) (a .s .now) (rowAt (a .n) (a .s .now) (l .loop .best)) (l .loop .i) (c .loop-test .left)),
-      l .loop .inv .0,
-    )
+    let a = s .args in
+    sym (l .loop .inv .2
+    ∙ place-ends (number (a .target)) (test s) (a .n) (a .s .now) (l .loop .best) (rowAt (a .n) (a .s .now) (l .loop .best)) (l .loop .i)
+    (c .loop-test .left))
 
 pub row-of-spec : {M : Type 1} → statement M
 row-of-spec =

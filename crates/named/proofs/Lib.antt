@@ -1,4 +1,5 @@
 pub mod OwnedLaws
 pub mod SpotLaws
 pub mod CallLaws
+pub mod NamedLaws
 pub mod Theorems

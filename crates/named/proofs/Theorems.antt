@@ -17,7 +17,7 @@ use Rattle.cache.proofs.FormLaws.{true-form}
 use Rattle.neighbours.specs.Closest.{closestOf}
 use Rattle.reason.specs.Because.{Because, only, First, Candidates}
 use Rattle.reason.specs.Reason.{reasonOf}
-use Rattle.named.specs.Call.{Told, refused, named, namedBy, nameCall}
+use Rattle.named.specs.Call.{Told, refused, named, namedPast, answerTo, nameCall}
 use Rattle.named.specs.Statements.{targetOf, candidatesOf, NamedFor, NamesTruly}
 use Rattle.closest_row.proofs.ClosestLaws.{closest-in}
 use Rattle.reason.proofs.ReasonLaws.{reason-first}
@@ -58,9 +58,9 @@ named-for t cands r b w e =
 module _ (own cache : List ℕ) (major : ℕ) (d r : List ℕ) (b : Because) where
   -- of memory in form, by the message
   by-message : (a : Incoming) → ownForm own ≡ true → cacheForm (ownKeys own) cache ≡ true
-      → namedBy (ownRecords own) (heldBy own cache) d a ≡ named r b
+      → answerTo refused (namedPast (ownRecords own) (heldBy own cache)) d a ≡ named r b
       → (x : L.Lookup) × (a ≡ M.Lookup x) × NamedFor (targetOf d x) (candidatesOf own cache d x) r b
-  unfolding namedBy
+  unfolding answerTo
   by-message (M.Refused n) o f e = not-named e
   by-message (M.Solicit x) o f e = not-named e
   by-message (M.Advertise x) o f e = not-named e
@@ -76,7 +76,8 @@ module _ (own cache : List ℕ) (major : ℕ) (d r : List ℕ) (b : Because) whe
   )
 
   by-memory : (o f : Bool) → ownForm own ≡ o → cacheForm (ownKeys own) cache ≡ f
-      → cond (not o) (refused 1) (cond (not f) (refused 1) (namedBy (ownRecords own) (heldBy own cache) d (readIn d major))) ≡ named r b
+      → cond (not o) (refused 1) (cond (not f) (refused 1) (answerTo refused (namedPast (ownRecords own) (heldBy own cache)) d (readIn d major)))
+      ≡ named r b
       → (x : L.Lookup) × (readIn d major ≡ M.Lookup x) × NamedFor (targetOf d x) (candidatesOf own cache d x) r b
   by-memory false f p q e = not-named e
   by-memory true false p q e = not-named e

@@ -30,17 +30,19 @@ namedOf t cands = named (closestOf t cands) (reasonOf t cands)
 abbrev pub namedPast : (ours held : List (List ℕ)) (path : List ℕ) (t : ℕ) → Told
 namedPast ours held path t = namedOf t (candidates ours (offPath path held))
 
--- a LOOKUP's endpoints stand behind the 8 bytes of the array's header
-unfoldable pub namedBy : (ours held : List (List ℕ)) (d : List ℕ) → Incoming → Told
-namedBy ours held d (M.Refused n) = refused n
-namedBy ours held d (M.Solicit x) = refused 7
-namedBy ours held d (M.Advertise x) = refused 7
-namedBy ours held d (M.Request x) = refused 7
-namedBy ours held d (M.Flood x) = refused 7
-namedBy ours held d (M.Inquire x) = refused 7
-namedBy ours held d (M.Authority x) = refused 7
-namedBy ours held d (M.Ack x) = refused 7
-namedBy ours held d (M.Lookup x) = namedPast ours held (part (startOf (x .path) + 8) (sizeOf (x .path) - 8) d) (keyAt (x .target) d)
+-- of a message: refused as reading refuses it, with 7 where it is another one, and by path and target where it is a LOOKUP, whose endpoints stand
+-- behind the 8 bytes of the array's header
+unfoldable pub answerTo : {A : Type 0} → (refuse : ℕ → A) → (lookup : List ℕ → ℕ → A) → (d : List ℕ) → Incoming → A
+answerTo refuse lookup d (M.Refused n) = refuse n
+answerTo refuse lookup d (M.Solicit x) = refuse 7
+answerTo refuse lookup d (M.Advertise x) = refuse 7
+answerTo refuse lookup d (M.Request x) = refuse 7
+answerTo refuse lookup d (M.Flood x) = refuse 7
+answerTo refuse lookup d (M.Inquire x) = refuse 7
+answerTo refuse lookup d (M.Authority x) = refuse 7
+answerTo refuse lookup d (M.Ack x) = refuse 7
+answerTo refuse lookup d (M.Lookup x) = lookup (part (startOf (x .path) + 8) (sizeOf (x .path) - 8) d) (keyAt (x .target) d)
 
 unfoldable pub nameCall : (own cache : List ℕ) (major : ℕ) (d : List ℕ) → Told
-nameCall own cache major d = orRefuse refused (memoryWrong own cache []) (namedBy (ownRecords own) (heldBy own cache) d (readIn d major))
+nameCall own cache major d =
+    orRefuse refused (memoryWrong own cache []) (answerTo refused (namedPast (ownRecords own) (heldBy own cache)) d (readIn d major))

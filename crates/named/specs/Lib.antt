@@ -1,3 +1,4 @@
 pub mod Call
 pub mod Spots
+pub mod Places
 pub mod Statements

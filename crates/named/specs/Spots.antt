@@ -1,4 +1,4 @@
--- Helps the code. What the code answers, as places among our own records and those of the cache, and what is told by it. Assumes nothing.
+-- Helps the code. What the code answers with, places among our own records and those of the cache, and what is told by it. Assumes nothing.
 use Prim.Native.Nat.{ℕ, _+_, _*_, _≤_}
 use mathlib.Core.Path.{_≡_}
 use mathlib.Core.Bool.{Bool, true, false}
@@ -39,6 +39,7 @@ Inside own cache Nowhere = Unit {0}
 Inside own cache (Own i) = 100 * i + 100 ≤ length own
 Inside own cache (Held i) = 100 * i + 100 ≤ length cache
 
+-- what is told by it
 abbrev pub choiceTold : List ℕ → List ℕ → Choice → Told
 choiceTold own cache c = named (recordAt own cache (c .chosen)) (becauseOf (c .reason) (keyOf (recordAt own cache (c .other))))
 

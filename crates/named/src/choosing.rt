@@ -4,14 +4,11 @@ ghost use mathlib.Core.Bool.{true};
 ghost use Prim.Native.Nat.{_*_, _≤_};
 ghost use Rattle.key.specs.Number.{number};
 ghost use Rattle.record.specs.Record.{keyOf};
-ghost use Rattle.own.specs.Own.{ownForm, ownKeys, ownRecords};
+ghost use Rattle.own.specs.Own.{ownForm, ownKeys};
 ghost use Rattle.table.specs.Rows.{rows};
 ghost use Rattle.cache.specs.Form.{Form};
-ghost use Rattle.neighbours.specs.Closest.{candidates, offPath};
-ghost use Rattle.reason.specs.Reason.{passing, closestIn};
-ghost use Rattle.reason.specs.Walk.{kept};
-ghost use Rattle.named.specs.Call.{namedPast};
-ghost use Rattle.named.specs.Spots.{recordAt, spotted, isNowhere, Inside, Placed, choiceTold};
+ghost use Rattle.named.specs.Spots.{recordAt, isNowhere, Inside};
+ghost use Rattle.named.specs.Places.{spotFor, choiceFor};
 use crate::Choice;
 use crate::Spot;
 use key::Key;
@@ -73,10 +70,7 @@ fn spot_of(
     k: Key,
 ) -> Spot
     requires { ⌜ (ownForm (now own) ≡ true) × Form (ownKeys (now own)) (now cache) (rows 100 used (now cache)) ⌝ }
-    ensures { λ r. ⌜ spotted (now (own .entry)) (now (cache .entry)) r
-        ≡ closestIn (number target) (passing (kept leave (number k)) (candidates (ownRecords (now (own .entry)))
-        (offPath (now (path .entry)) (rows 100 used (now (cache .entry)))))) ⌝ }
-    ensures { λ r. ⌜ Inside (now (own .entry)) (now (cache .entry)) r ⌝ }
+    ensures { λ r. ⌜ r ≡ spotFor (now (own .entry)) (now (cache .entry)) used (now (path .entry)) (number target) leave (number k) ⌝ }
 {
     let ours = own.len() / record::RECORD_LEN;
     let i = row_of(own, ours, &path[0..0], target, leave, k);
@@ -103,9 +97,7 @@ fn spot_of(
 // The record that is named, and why.
 pub(crate) fn choose(own: &[u8], cache: &[u8], used: usize, path: &[u8], target: Key) -> Choice
     requires { ⌜ (ownForm (now own) ≡ true) × Form (ownKeys (now own)) (now cache) (rows 100 used (now cache)) ⌝ }
-    ensures { λ r. ⌜ choiceTold (now (own .entry)) (now (cache .entry)) r
-        ≡ namedPast (ownRecords (now (own .entry))) (rows 100 used (now (cache .entry))) (now (path .entry)) (number target) ⌝ }
-    ensures { λ r. ⌜ Placed (now (own .entry)) (now (cache .entry)) r ⌝ }
+    ensures { λ r. ⌜ r ≡ choiceFor (now (own .entry)) (now (cache .entry)) used (now (path .entry)) (number target) ⌝ }
 {
     let chosen = spot_of(own, cache, used, path, target, false, target);
     let k = key_of(own, cache, chosen);

@@ -6,12 +6,13 @@ pub use choosing::record_at;
 ghost use mathlib.Core.Path.{_≡_};
 ghost use mathlib.Core.Bool.{true};
 ghost use Prim.Native.Nat.{_*_, _≤_};
-ghost use Rattle.own.specs.Own.{ownForm, ownKeys, ownRecords};
+ghost use Rattle.own.specs.Own.{ownForm, ownKeys};
 ghost use Rattle.table.specs.Rows.{rows};
 ghost use Rattle.cache.specs.Form.{Form};
 ghost use Rattle.wire_read.specs.Answers.{readIn};
-ghost use Rattle.named.specs.Call.{namedBy, nameCall};
+ghost use Rattle.named.specs.Call.{nameCall};
 ghost use Rattle.named.specs.Spots.{toldBy, Within};
+ghost use Rattle.named.specs.Places.{chosenBy, nameAt};
 use cache::Formed;
 use reason::Reason;
 
@@ -38,10 +39,8 @@ pub enum Named {
 // What is named for the datagram, on memory that has been tested.
 fn name_in(own: &[u8], cache: &[u8], used: usize, major: u8, datagram: &[u8]) -> Named
     requires { ⌜ (ownForm (now own) ≡ true) × Form (ownKeys (now own)) (now cache) (rows 100 used (now cache)) ⌝ }
-    ensures { λ r. ⌜ toldBy (now (own .entry)) (now (cache .entry)) r
-        ≡ namedBy (ownRecords (now (own .entry))) (rows 100 used (now (cache .entry))) (now (datagram .entry))
+    ensures { λ r. ⌜ r ≡ chosenBy (now (own .entry)) (now (cache .entry)) used (now (datagram .entry))
         (readIn (now (datagram .entry)) major) ⌝ }
-    ensures { λ r. ⌜ Within (now (own .entry)) (now (cache .entry)) r ⌝ }
 {
     let told = look::brief_at(major, datagram);
     let seen = told.seen;
@@ -63,6 +62,7 @@ pub fn name(own: &[u8], cache: &[u8], major: u8, datagram: &[u8]) -> Named
     ensures { λ r. ⌜ toldBy (now (own .entry)) (now (cache .entry)) r
         ≡ nameCall (now (own .entry)) (now (cache .entry)) major (now (datagram .entry)) ⌝ }
     ensures { λ r. ⌜ Within (now (own .entry)) (now (cache .entry)) r ⌝ }
+    ensures { λ r. ⌜ r ≡ nameAt (now (own .entry)) (now (cache .entry)) major (now (datagram .entry)) ⌝ }
 {
     let found = cache::memory(own, cache);
     let Formed::Good(used) = found else {

@@ -8,15 +8,15 @@ use lib.ListN.{length, take, drop}
 use borrow.Author.Needs.{needs}
 use Rattle.octet.specs.Part.{part}
 use Rattle.key.specs.Number.{number}
-use Rattle.own.specs.Own.{ownRecords}
-use Rattle.table.specs.Rows.{rows}
 use Rattle.wire_read.specs.Answers as R
 use Rattle.wire_read.specs.declared.Incoming as T
 use Rattle.look.specs.Seen.{briefOf}
 use Rattle.look.specs.declared.Brief.{Brief}
 use Rattle.plan_message.proofs.AnswerLaws.{known-answer}
 use Rattle.plan_message.proofs.BriefLaws.{KnownLookup, known-lookup}
-use Rattle.named.specs.Call.{namedPast}
+use Rattle.named.specs.declared.Named.{Named}
+use Rattle.named.specs.declared.Named.the-variants.{Refused, Chosen}
+use Rattle.named.specs.Places.{choiceFor}
 use Rattle.named.proofs.CallLaws.{RefusedBy, refused-by, OtherBy, other-by, LookupBy, lookup-by}
 use Rattle.named.proofs.name_in.Statement.{statement}
 use Rattle.named.proofs.name_in.Tie as tie
@@ -28,11 +28,8 @@ module _ (m : tie.After-brief-at) where
   abbrev d : List ℕ
   d = start .args .datagram .now
 
-  abbrev ours : List (List ℕ)
-  ours = ownRecords (start .args .own .now)
-
-  abbrev held : List (List ℕ)
-  held = rows 100 (start .args .used) (start .args .cache .now)
+  abbrev lookup : List ℕ → ℕ → Named
+  lookup path t = Chosen (choiceFor (start .args .own .now) (start .args .cache .now) (start .args .used) path t)
 
   abbrev told : Brief
   told = m .brief-at .result
@@ -55,14 +52,15 @@ brief-at-requires : tie.Need-brief-at-requires
 brief-at-requires c κs = search needs
 
 returns : tie.Need-returns
-returns c = let m = c .before .before .before in
-    (sym (by m (RefusedBy (ours m) (held m) (d m)) (refused-by (ours m) (held m) (d m)) (c .if1 .taken)), tt)
+returns c =
+    let m = c .before .before .before in
+    sym (by m (RefusedBy Refused (lookup m) (d m)) (refused-by Refused (lookup m) (d m)) (c .if1 .taken))
 
 returns-2 : tie.Need-returns-2
 returns-2 c =
     let e = c .before .before in
     let m = e .before .before .before in
-    (sym (by m (OtherBy (ours m) (held m) (d m)) (other-by (ours m) (held m) (d m)) (e .if1 .left) (c .if2 .taken)), tt)
+    sym (by m (OtherBy Refused (lookup m) (d m)) (other-by Refused (lookup m) (d m)) (e .if1 .left) (c .if2 .taken))
 
 cast-key-at : tie.Need-cast-key-at
 cast-key-at c = search needs
@@ -103,11 +101,9 @@ returns-3 c =
     let x = told m in
     let size : x .path + x .size - (x .path + 8) ≡ x .size - 8 = omega (arith, known m (e .if2 .left) .1) in
     let path : take (x .path + x .size - (x .path + 8)) (drop (x .path + 8) (d m)) ≡ part (x .path + 8) (x .size - 8) (d m) =
-    ap (λ (n : ℕ). take n (drop (x .path + 8) (d m))) size in (
-      c .choose .ensures .0 ∙ ap₂ (namedPast (ours m) (held m)) path (k .key-at .ensures)
-          ∙ sym (by m (LookupBy (ours m) (held m) (d m)) (lookup-by (ours m) (held m) (d m)) (e .if2 .left)),
-      c .choose .ensures .1,
-    )
+    ap (λ (n : ℕ). take n (drop (x .path + 8) (d m))) size in
+    ap Chosen (c .choose .ensures) ∙ ap₂ (lookup m) path (k .key-at .ensures)
+    ∙ sym (by m (LookupBy Refused (lookup m) (d m)) (lookup-by Refused (lookup m) (d m)) (e .if2 .left))
 
 pub name-in-spec : {M : Type 1} → statement M
 name-in-spec =

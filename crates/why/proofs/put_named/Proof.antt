@@ -34,7 +34,7 @@ put-choice-requires c κs =
     let k = c .before .before in
     let m = k .before .before in
     let s = start m in
-    (s .pre, subst (Within (s .args .own .now) (s .args .cache .now)) (k .choice .given .1) (m .name .ensures .1))
+    (s .pre, subst (Within (s .args .own .now) (s .args .cache .now)) (k .choice .given .1) (m .name .ensures .1 .0))
 
 same-length : tie.Need-same-length
 same-length c = search needs

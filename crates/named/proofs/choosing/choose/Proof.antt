@@ -1,56 +1,37 @@
 -- `named::choosing::choose` meets its contract: the closest of the candidates, the closest of the others, and the reason by the two. Assumes nothing.
-use mathlib.Core.Path.{_≡_, refl, sym, ap, ap₂, _∙_}
-use mathlib.Core.Bool.{Bool, cond}
+use mathlib.Core.Path.{_≡_, sym, ap, subst, _∙_}
+use mathlib.Core.Bool.{Bool, true, false}
 use mathlib.Core.List.{List}
-use Prim.Native.Nat.{ℕ, _<_}
-use lib.ListN.{length}
+use Prim.Native.Nat.{ℕ}
 use borrow.Author.Needs.{needs}
 use Rattle.key.specs.Number.{number}
-use Rattle.own.specs.Own.{ownRecords}
-use Rattle.record.specs.Record.{keyOf}
-use Rattle.table.specs.Rows.{rows}
-use Rattle.neighbours.specs.Closest.{candidates, offPath}
-use Rattle.reason.specs.Because.{only}
-use Rattle.reason.specs.Reason.{becauseBy, becauseOf}
-use Rattle.reason.specs.declared.Reason.{Reason}
-use Rattle.reason.proofs.ReasonLaws.{given-because}
-use Rattle.named.specs.Spots.{recordAt, isNowhere}
-use Rattle.named.proofs.OwnedLaws.{candidates-are}
-use Rattle.named.proofs.SpotLaws.{chosen-where, choice-tells, shows-other}
+use Rattle.named.specs.declared.Spot.{Spot}
+use Rattle.named.specs.Spots.{Inside}
+use Rattle.named.specs.Places.{spotFor}
+use Rattle.named.proofs.SpotLaws.{choice-is, finds-inside}
 use Rattle.named.proofs.choosing.choose.Statement.{statement}
 use Rattle.named.proofs.choosing.choose.Tie as tie
 
--- behind the two searches
-module _ (c : tie.After-spot-of2) where
-  abbrev start : tie.Start
-  start = c .before .before .before .before .before .before
-
-  abbrev own : List ℕ
-  own = start .args .own .now
-
-  abbrev cache : List ℕ
-  cache = start .args .cache .now
-
-  abbrev t : ℕ
-  t = number (start .args .target)
-
-  abbrev cands : List (List ℕ)
-  cands = candidates (ownRecords own) (offPath (start .args .path .now) (rows 100 (start .args .used) cache))
-
-  some-cand : 0 < length cands
-  some-cand = candidates-are own (start .pre .0) (rows 100 (start .args .used) cache) (start .args .path .now) (start .pre .1 .held) .0
+-- a place that the search answers lies within what is lent
+inside : (s : tie.Start) (leave : Bool) (k : ℕ) {x : Spot}
+    → x ≡ spotFor (s .args .own .now) (s .args .cache .now) (s .args .used) (s .args .path .now) (number (s .args .target)) leave k
+    → Inside (s .args .own .now) (s .args .cache .now) x
+inside s leave k e =
+    let a = s .args in
+    subst (Inside (a .own .now) (a .cache .now)) (sym e)
+    (finds-inside (a .own .now) (a .cache .now) (a .used) (a .path .now) (number (a .target)) (s .pre .0) (s .pre .1) leave k)
 
 spot-of-requires : tie.Need-spot-of-requires
 spot-of-requires c κs = search needs
 
 key-of-requires : tie.Need-key-of-requires
-key-of-requires c κs = search needs
+key-of-requires c κs = let s = c .before .before .before .before in inside s false (number (s .args .target)) (c .spot-of .ensures)
 
 spot-of-requires-2 : tie.Need-spot-of-requires-2
 spot-of-requires-2 c κs = search needs
 
 key-of-requires-2 : tie.Need-key-of-requires-2
-key-of-requires-2 c κs = search needs
+key-of-requires-2 c κs = inside (c .before .before .before .before .before .before) true (number (c .before .key-of .result)) (c .spot-of2 .ensures)
 
 is-nowhere-requires : tie.Need-is-nowhere-requires
 is-nowhere-requires c κs = search needs
@@ -61,24 +42,10 @@ reason-by-requires c κs = search needs
 returns : tie.Need-returns
 returns c =
     let w = c .before .before .before in
-    let first = w .before .before .spot-of in
-    let k = number (w .before .key-of .result) in
-    let next = c .before .before .key-of2 .ensures in
-    let other = keyOf (recordAt (own w) (cache w) (w .spot-of2 .result)) in
-    let is : becauseOf (c .reason-by .result) other ≡ cond (isNowhere (w .spot-of2 .result)) only (becauseBy (t w) k other) =
-    ap (becauseOf (c .reason-by .result)) (sym next)
-    ∙ ap (λ (r : Reason). becauseOf r (number (c .before .before .key-of2 .result))) (c .reason-by .ensures)
-    ∙ given-because (c .before .is-nowhere .result) (t w) k (number (c .before .before .key-of2 .result))
-    ∙ ap₂ (λ (b : Bool) (n : ℕ). cond b only (becauseBy (t w) k n)) (c .before .is-nowhere .ensures) next in (
-      choice-tells (own w) (cache w) (t w) (t w) (cands w) (some-cand w) (first .result) (first .ensures .0) (w .spot-of2 .result) k
-          (w .before .key-of .ensures) (w .spot-of2 .ensures .0) (becauseOf (c .reason-by .result) other) is,
-      record {
-        chosen = first .ensures .1;
-        somewhere = chosen-where (own w) (cache w) (t w) (t w) (cands w) (some-cand w) (first .result) (first .ensures .0);
-        other = w .spot-of2 .ensures .1;
-        shows = shows-other (c .reason-by .result) (w .spot-of2 .result) (isNowhere (w .spot-of2 .result)) other (t w) k refl is;
-      },
-    )
+    let a = w .before .before .before .before .before .before .args in
+    choice-is (a .own .now) (a .cache .now) (a .used) (a .path .now) (number (a .target)) (w .before .before .spot-of .ensures)
+    (w .before .key-of .ensures) (w .spot-of2 .ensures) (c .before .before .key-of2 .ensures) (c .before .is-nowhere .ensures)
+    (c .reason-by .ensures)
 
 pub choose-spec : {M : Type 1} → statement M
 choose-spec =

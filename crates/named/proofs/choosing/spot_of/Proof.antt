@@ -1,6 +1,7 @@
 -- `named::choosing::spot_of` meets its contract: a walk over our own records, none of which is passed over, one over those held, and the closer of
 -- the two. Assumes nothing.
 use mathlib.Core.Path.{_≡_, sym, ap, ap₂, _∙_}
+use mathlib.Core.Bool.{Bool}
 use mathlib.Core.List.{List, []}
 use Prim.Native.Nat.{ℕ, _+_, _*_, _/_, _≤_, _<_}
 use native.Mathlib.Omega.{arith}
@@ -8,15 +9,14 @@ use lib.ListN.{length}
 use borrow.Author.Needs.{needs}
 use Rattle.key.specs.Number.{number, keyAt}
 use Rattle.key.specs.Around.{closer}
-use Rattle.own.specs.Own.{ownKeys, ownRecords}
+use Rattle.own.specs.Own.{ownKeys}
 use Rattle.own.proofs.FormLaws.{own-formed}
-use Rattle.table.specs.Rows.{rows}
 use Rattle.cache.proofs.FormLaws.{form-laid}
-use Rattle.neighbours.specs.Closest.{candidates, offPath}
-use Rattle.reason.specs.Reason.{passing, closestIn}
-use Rattle.reason.specs.Walk.{kept, rowAt, closerOf}
-use Rattle.reason.proofs.WalkLaws.{walks-closest}
-use Rattle.named.proofs.SpotLaws.{joins-none, joins-held, joins-own, joins-closer, joins-nearer}
+use Rattle.reason.specs.Walk.{wanted}
+use Rattle.reason.proofs.WalkLaws.{place-found}
+use Rattle.named.specs.declared.Spot.{Spot}
+use Rattle.named.specs.Places.{closerSpot, spotFor}
+use Rattle.named.proofs.SpotLaws.{spot-none, spot-held, spot-own, spot-closer, spot-nearer}
 use Rattle.named.proofs.choosing.spot_of.Statement.{statement}
 use Rattle.named.proofs.choosing.spot_of.Tie as tie
 
@@ -46,19 +46,20 @@ module _ (c : tie.After-row-of2) where
   abbrev j : ℕ
   j = c .row-of2 .result
 
-  closest : closerOf t (rowAt ours own i) (rowAt (start .args .used) cache j)
-      ≡ closestIn t (passing (kept (start .args .leave) (number (start .args .k)))
-      (candidates (ownRecords own) (offPath (start .args .path .now) (rows 100 (start .args .used) cache))))
-  closest =
-      ap₂ (closerOf t) (c .before .row-of .ensures .0) (c .row-of2 .ensures .0)
-      ∙ walks-closest (start .args .leave) (number (start .args .k)) t (rows 100 ours own) (rows 100 (start .args .used) cache)
-      (start .args .path .now)
+  -- the places are those that the walks find
+  found : {x : Spot} → x ≡ closerSpot t own ours i cache (start .args .used) j
+      → x ≡ spotFor own cache (start .args .used) (start .args .path .now) t (start .args .leave) (number (start .args .k))
+  found e =
+      e ∙ ap₂ (λ (p q : ℕ). closerSpot t own ours p cache (start .args .used) q) (c .before .row-of .ensures) (c .row-of2 .ensures)
+
+  abbrev looked : List ℕ → List ℕ → Bool
+  looked path r = wanted path (start .args .leave) (number (start .args .k)) r
 
   in-own : (i ≡ ours → ⊥) → 100 * i + 100 ≤ length own
-  in-own d = omega (arith, c .before .row-of .ensures .1, d)
+  in-own d = omega (arith, c .before .row-of .ensures, place-found t (looked []) ours own .0, d)
 
   in-cache : (j ≡ start .args .used → ⊥) → 100 * j + 100 ≤ length cache
-  in-cache d = omega (arith, c .row-of2 .ensures .1, d, room start)
+  in-cache d = omega (arith, c .row-of2 .ensures, place-found t (looked (start .args .path .now)) (start .args .used) cache .0, d, room start)
 
 sub-row-of : tie.Need-sub-row-of
 sub-row-of c = search needs
@@ -79,25 +80,22 @@ returns : tie.Need-returns
 returns c =
     let w = c .before .before in
     let a = start w .args in
-    (joins-none (t w) (own w) (cache w) (ours w) (a .used) (i w) (j w) (c .before .if1 .taken) (c .if2 .taken) ∙ closest w, tt)
+    found w (spot-none (t w) (own w) (ours w) (i w) (cache w) (a .used) (j w) (c .before .if1 .taken) (c .if2 .taken))
 
 returns-2 : tie.Need-returns-2
 returns-2 c =
     let w = c .before .before in
     let a = start w .args in
-    (joins-held (t w) (own w) (cache w) (ours w) (a .used) (i w) (j w) (c .before .if1 .taken) (c .if2 .left) ∙ closest w, in-cache w (c .if2 .left))
+    found w (spot-held (t w) (own w) (ours w) (i w) (cache w) (a .used) (j w) (c .before .if1 .taken) (c .if2 .left))
 
 returns-3 : tie.Need-returns-3
 returns-3 c =
     let w = c .before .before in
-    let a = start w .args in (
-      joins-own (t w) (own w) (cache w) (ours w) (a .used) (i w) (j w) (c .before .if1 .left) (c .if3 .taken)
-          ∙ closest w,
-      in-own w (c .before .if1 .left),
-    )
+    let a = start w .args in
+    found w (spot-own (t w) (own w) (ours w) (i w) (cache w) (a .used) (j w) (c .before .if1 .left) (c .if3 .taken))
 
 mul-key-at : tie.Need-mul-key-at
-mul-key-at c = search needs
+mul-key-at c = let w = c .before .before in omega (arith, in-own w (c .before .if1 .left), start w .good)
 
 key-at-requires : tie.Need-key-at-requires
 key-at-requires c κs = let w = c .before .before in omega (arith, in-own w (c .before .if1 .left))
@@ -131,20 +129,16 @@ returns-4 c =
     let m = c .before in
     let e = m .before .before .before .before .before in
     let w = e .before .before in
-    let a = start w .args in (
-      joins-closer (t w) (own w) (cache w) (ours w) (a .used) (i w) (j w) (e .before .if1 .left) (e .if3 .left) (says m ∙ c .if4 .taken) ∙ closest w,
-      in-cache w (e .if3 .left),
-    )
+    let a = start w .args in
+    found w (spot-closer (t w) (own w) (ours w) (i w) (cache w) (a .used) (j w) (e .before .if1 .left) (e .if3 .left) (says m ∙ c .if4 .taken))
 
 returns-5 : tie.Need-returns-5
 returns-5 c =
     let m = c .before in
     let e = m .before .before .before .before .before in
     let w = e .before .before in
-    let a = start w .args in (
-      joins-nearer (t w) (own w) (cache w) (ours w) (a .used) (i w) (j w) (e .before .if1 .left) (e .if3 .left) (says m ∙ c .if4 .left) ∙ closest w,
-      in-own w (e .before .if1 .left),
-    )
+    let a = start w .args in
+    found w (spot-nearer (t w) (own w) (ours w) (i w) (cache w) (a .used) (j w) (e .before .if1 .left) (e .if3 .left) (says m ∙ c .if4 .left))
 
 pub spot-of-spec : {M : Type 1} → statement M
 spot-of-spec =

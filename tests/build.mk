@@ -12,6 +12,7 @@ vpath %.c tests/models tests/nights tests/c tests/programs examples $(OUT)
 compare = $(COMPARE) $(MODEL)
 carry = readings fence calling model_readings $(MODEL)
 nights = nights model_night $(MODEL)
+named = named model_named model lent
 settings = settings
 recorded = recorded calling lent
 abi = abi calling lent
@@ -22,7 +23,7 @@ hill = hill
 
 # for x86-64, with the archive; and by the model alone, for this machine: by gcc under the sanitizers, and by clang
 ON_ARCHIVE = compare carry settings recorded abi shortest host first hill
-ALONE = compare carry nights
+ALONE = compare carry nights named
 
 .SECONDARY:
 .SECONDEXPANSION:

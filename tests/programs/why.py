@@ -4,12 +4,15 @@
     why.py --check          crates/why has the worked input that is made here and what must come of it; the request's cases are as worked by hand
     why.py --write          writes the two files
     why.py --inputs FOLDER  inputs of every kind as NAME.input, and what must come of each: NAME.wanted
+    why.py --pairs FOLDER ENDING
+                            the inputs there and the files with this ending beside them, as tests/programs/named.c reads them: FOLDER/pairs
 
 An input is a record of kind 4 as a trace begins with, the cache's length (2 bytes, little-endian), the cache, and a datagram. That a datagram
 reads, and memory is in form, is said by tests/models/model.py.
 """
 if not __debug__:
     raise SystemExit("why.py: run it without -O and PYTHONOPTIMIZE, which leave its asserts out")
+import glob
 import os
 import random
 import struct
@@ -165,6 +168,8 @@ def bad():
     yield "kind-2", opening(own, 2) + good[106:]
     yield "tick", b"\2\0\3\0" + good[106:]
     yield "own-count", whole(own[:34] + b"\2" + own[35:], cache, ask)
+    yield "own-count-cut", whole(own[:34] + b"\2" + own[35:], cache, ask[:-1])  # 1 before 6
+    yield "own-count-kind", opening(own[:34] + b"\2" + own[35:], 9) + good[106:]  # 17 before 1
     yield "own-held", whole(held[0], cache, ask)
     yield "cache-order", whole(own, held[1] + held[0] + bytes(800), ask)
     yield "cache-part", whole(own, cache[:-1], ask)
@@ -215,10 +220,22 @@ def write_inputs(folder):
     assert {"1", "2", "3", "4", "5", "6", "7", "16", "17"} <= set(said), sorted(set(said))
 
 
+def write_pairs(folder, ending):
+    """Each file behind its length, least significant byte first."""
+    with open(os.path.join(folder, "pairs"), "wb") as pairs:
+        for path in sorted(glob.glob(os.path.join(folder, "*.input"))):
+            for name in (path, path[:-len("input")] + ending):
+                with open(name, "rb") as file:
+                    content = file.read()
+                pairs.write(struct.pack("<I", len(content)) + content)
+
+
 def main():
     words = sys.argv[1:]
     if words[:1] == ["--inputs"]:
         write_inputs(words[1])
+    elif words[:1] == ["--pairs"]:
+        write_pairs(*words[1:])
     elif words == ["--write"]:
         stored.write("why", files())
     elif words == ["--check"]:

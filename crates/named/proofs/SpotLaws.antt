@@ -26,12 +26,12 @@ use Rattle.reason.specs.Because.{Because, only, target, tied, nearest, namedKey
 use Rattle.reason.specs.Reason.{passing, closestIn, nextOf, becauseBy, givenBy, becauseOf, reasonBy, reasonOf}
 use Rattle.reason.specs.declared.Reason.{Reason}
 use Rattle.reason.specs.declared.Reason.the-variants.{Only, Target, Tied, Nearest}
-use Rattle.reason.specs.Walk.{kept, wanted, rowAt, closerOf, placeAmong}
+use Rattle.next_row.specs.Walk.{kept, wanted, rowAt, closerOf, placeAmong}
 use Rattle.named.specs.Call.{Told, named, namedOf, namedPast}
 use Rattle.named.specs.Spots.{recordAt, spotted, isNowhere, Inside, Shows, Placed, choiceTold}
 use Rattle.named.specs.Places.{closerSpot, spotFor, choiceBy, choiceFor}
 use Rattle.reason.proofs.ReasonLaws.{given-because}
-use Rattle.reason.proofs.WalkLaws.{pass-all, place-found, walks-closest}
+use Rattle.next_row.proofs.WalkLaws.{pass-all, place-found, walks-closest}
 use Rattle.named.proofs.OwnedLaws.{candidates-are}
 
 -- ---- a place and the record there

@@ -15,7 +15,7 @@ use Rattle.wire_read.specs.declared.Incoming.{Incoming}
 use Rattle.cache.specs.Form.{heldIn}
 use Rattle.cache.specs.Calls.{memoryWrong}
 use Rattle.reason.specs.Reason.{givenBy}
-use Rattle.reason.specs.Walk.{wanted, placeAmong}
+use Rattle.next_row.specs.Walk.{wanted, placeAmong}
 use Rattle.named.specs.Call.{answerTo}
 use Rattle.named.specs.Spots.{recordAt, isNowhere}
 use Rattle.named.specs.declared.Spot.{Spot}

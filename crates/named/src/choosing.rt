@@ -12,7 +12,7 @@ ghost use Rattle.named.specs.Places.{spotFor, choiceFor};
 use crate::Choice;
 use crate::Spot;
 use key::Key;
-use reason::row_of;
+use next_row::row_of;
 
 // The record that stands there: no byte where there is none.
 pub fn record_at<'a>(own: &'a [u8], cache: &'a [u8], spot: Spot) -> &'a [u8]

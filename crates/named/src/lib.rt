@@ -43,14 +43,13 @@ fn name_in(own: &[u8], cache: &[u8], used: usize, major: u8, datagram: &[u8]) ->
         (readIn (now (datagram .entry)) major) ⌝ }
 {
     let told = look::brief_at(major, datagram);
-    let seen = told.seen;
-    if seen.kind == 0 {
-        return Named::Refused(seen.number);
+    if told.seen.kind == 0 {
+        return Named::Refused(told.seen.number);
     }
-    if seen.kind != 11 {
+    if told.seen.kind != 11 {
         return Named::Refused(refusal::NOT_TAKEN);
     }
-    let target = key::key_at(datagram, seen.target as usize);
+    let target = key::key_at(datagram, told.seen.target as usize);
     let start = told.path + 8;
     let end = told.path + told.size;
     Named::Chosen(choosing::choose(own, cache, used, &datagram[start..end], target))

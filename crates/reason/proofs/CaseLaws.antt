@@ -2,7 +2,7 @@
 use mathlib.Core.Path.{refl}
 use Rattle.octet.specs.Number.{valueBE, digitsBE}
 use Rattle.key.specs.Around.{ring, areKeys, up, apart, isDown, tie, closer}
-use Rattle.neighbours.specs.Closest.{closestFrom, closestOf}
+use Rattle.closest_row.specs.Closest.{closestFrom, closestOf}
 use Rattle.reason.specs.Reason.{passing, reasonOf}
 use Rattle.reason.specs.Cases.{keyed, Cases}
 

@@ -1,4 +1,3 @@
 pub mod ReasonLaws
-pub mod WalkLaws
 pub mod Theorems
 pub mod CaseLaws

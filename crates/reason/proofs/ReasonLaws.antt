@@ -15,7 +15,7 @@ use Rattle.key.specs.Around.{apart, isDown, tie, closer}
 use Rattle.key.proofs.AroundLaws.{closer-less, closer-same, closer-both, down-far}
 use Rattle.record.specs.Record.{keyOf}
 use Rattle.kept.specs.Keys.{_∈_}
-use Rattle.neighbours.specs.Closest.{closestFrom, closestOf}
+use Rattle.closest_row.specs.Closest.{closestFrom, closestOf}
 use Rattle.reason.specs.Because.{Because, only, target, tied, nearest, rank, namedKey, Another, AnotherWith, Holds, First, Once, Candidates}
 use Rattle.reason.specs.Reason.{passing, differs, closestIn, becauseBy, reasonBy, reasonOf, givenBy, becauseOf}
 use Rattle.reason.specs.declared.Reason.the-variants.{Only, Target, Tied, Nearest}

@@ -10,7 +10,7 @@ use lib.ListN.{length}
 use Rattle.key.specs.Around.{apart, tie, closer}
 use Rattle.record.specs.Record.{keyOf}
 use Rattle.kept.specs.Keys.{_∈_}
-use Rattle.neighbours.specs.Closest.{closestOf}
+use Rattle.closest_row.specs.Closest.{closestOf}
 
 -- the reasons, in the order in which they are tried, with the key that is shown
 pub data Because : Type 0 where

@@ -7,7 +7,7 @@ use mathlib.Core.Option.{Option, some, none}
 use lib.Dec.{eqb}
 use Rattle.key.specs.Around.{apart, closer}
 use Rattle.record.specs.Record.{keyOf}
-use Rattle.neighbours.specs.Closest.{closestFrom, closestOf}
+use Rattle.closest_row.specs.Closest.{closestFrom, closestOf}
 use Rattle.reason.specs.Because.{Because, only, target, tied, nearest, namedKey}
 use Rattle.reason.specs.declared.Reason.{Reason}
 use Rattle.reason.specs.declared.Reason.the-variants.{Only, Target, Tied, Nearest}

@@ -1,8 +1,4 @@
-// Of records, one after the other, the closest to a target of those that are looked for; and why a record is named
-// (document 02, request 5), by its key and the next.
-mod walk;
-
-pub use walk::row_of;
+// Why a record is named for a target (document 02, request 5), by its key and the next.
 ghost use mathlib.Core.Path.{_≡_};
 ghost use Rattle.key.specs.Number.{number};
 ghost use Rattle.reason.specs.Reason.{givenBy};

@@ -46,24 +46,24 @@ module _ (m : tie.After-brief-at) where
 
 -- behind the tests: it is a LOOKUP
 abbrev looked : tie.Else2 → tie.After-brief-at
-looked e = e .before .before .before .before .before
+looked e = e .before .before .before .before
 
 brief-at-requires : tie.Need-brief-at-requires
 brief-at-requires c κs = search needs
 
 returns : tie.Need-returns
 returns c =
-    let m = c .before .before .before in
+    let m = c .before .before in
     sym (by m (RefusedBy Refused (lookup m) (d m)) (refused-by Refused (lookup m) (d m)) (c .if1 .taken))
 
 returns-2 : tie.Need-returns-2
 returns-2 c =
     let e = c .before .before in
-    let m = e .before .before .before in
+    let m = e .before .before in
     sym (by m (OtherBy Refused (lookup m) (d m)) (other-by Refused (lookup m) (d m)) (e .if1 .left) (c .if2 .taken))
 
 cast-key-at : tie.Need-cast-key-at
-cast-key-at c = search needs
+cast-key-at c = let e = c .before in let m = looked e in omega (arith, known m (e .if2 .left) .0, start m .good)
 
 key-at-requires : tie.Need-key-at-requires
 key-at-requires c κs = let e = c .before in omega (arith, known (looked e) (e .if2 .left) .0)

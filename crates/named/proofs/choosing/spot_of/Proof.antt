@@ -12,8 +12,8 @@ use Rattle.key.specs.Around.{closer}
 use Rattle.own.specs.Own.{ownKeys}
 use Rattle.own.proofs.FormLaws.{own-formed}
 use Rattle.cache.proofs.FormLaws.{form-laid}
-use Rattle.reason.specs.Walk.{wanted}
-use Rattle.reason.proofs.WalkLaws.{place-found}
+use Rattle.next_row.specs.Walk.{wanted}
+use Rattle.next_row.proofs.WalkLaws.{place-found}
 use Rattle.named.specs.declared.Spot.{Spot}
 use Rattle.named.specs.Places.{closerSpot, spotFor}
 use Rattle.named.proofs.SpotLaws.{spot-none, spot-held, spot-own, spot-closer, spot-nearer}

@@ -1,4 +1,4 @@
--- `reason::walk::is_wanted` meets its contract: the record's place on the path first, then its key. Assumes nothing.
+-- `next_row::is_wanted` meets its contract: the record's place on the path first, then its key. Assumes nothing.
 use mathlib.Core.Path.{_≡_, refl, sym, ap, _∙_}
 use mathlib.Core.Bool.{Bool, true, false, not, _&&_, _||_}
 use Prim.Native.Nat.{ℕ}
@@ -9,10 +9,10 @@ use Rattle.octet.specs.Part.{part}
 use Rattle.key.specs.Number.{number, keyAt}
 use Rattle.record.specs.Record.{keyOf}
 use Rattle.path.specs.Path.{onPath}
-use Rattle.reason.specs.Walk.{kept, wanted}
+use Rattle.next_row.specs.Walk.{kept, wanted}
 use Rattle.cache.proofs.FormLaws.{key-of-row}
-use Rattle.reason.proofs.walk.is_wanted.Statement.{statement}
-use Rattle.reason.proofs.walk.is_wanted.Tie as tie
+use Rattle.next_row.proofs.is_wanted.Statement.{statement}
+use Rattle.next_row.proofs.is_wanted.Tie as tie
 
 on-path-requires : tie.Need-on-path-requires
 on-path-requires c κs = search needs

@@ -18,9 +18,9 @@ use Rattle.path.proofs.OnPathLaws.{empty-path}
 use Rattle.table.specs.Rows.{rows}
 use Rattle.table.proofs.RowLaws.{rows-next, rows-end}
 use Rattle.neighbours.specs.Closest.{candidates, offPath, closestFrom}
 use Rattle.reason.specs.Reason.{passing, closestIn, closestWith}
-use Rattle.reason.specs.Walk.{kept, wanted, rowAt, takesOver, placeFrom, placeAmong, closerOf}
+use Rattle.next_row.specs.Walk.{kept, wanted, rowAt, takesOver, placeFrom, placeAmong, closerOf}
 use Rattle.reason.proofs.ReasonLaws.{both}
 
 -- ---- a record of the walk
 

@@ -1,4 +1,4 @@
--- `reason::walk::is_taken` meets its contract: a record that is looked for, where none was found before it or it is closer. Assumes nothing.
+-- `next_row::is_taken` meets its contract: a record that is looked for, where none was found before it or it is closer. Assumes nothing.
 use mathlib.Core.Path.{_≡_, refl, sym, ap, ap₂, _∙_}
 use mathlib.Core.Bool.{Bool, true, false, _&&_}
 use mathlib.Core.List.{List}
@@ -18,9 +18,9 @@ use Rattle.table.specs.Rows.{rows}
 use Rattle.cache.proofs.FormLaws.{key-of-row}
 use Rattle.neighbours.proofs.ClosestLaws.{in-form}
 use Rattle.neighbours.proofs.BesideLaws.{row-in}
-use Rattle.reason.specs.Walk.{wanted, rowAt, takesOver}
-use Rattle.reason.proofs.walk.is_taken.Statement.{statement}
-use Rattle.reason.proofs.walk.is_taken.Tie as tie
+use Rattle.next_row.specs.Walk.{wanted, rowAt, takesOver}
+use Rattle.next_row.proofs.is_taken.Statement.{statement}
+use Rattle.next_row.proofs.is_taken.Tie as tie
 
 abbrev start : tie.After-is-wanted → tie.Start
 start c = c .before .before .before

@@ -1,14 +1,14 @@
--- `reason::walk::row_of` meets its contract: the place among all rows is that of the best so far and the rows from i on. Assumes nothing.
+-- `next_row::row_of` meets its contract: the place among all rows is that of the best so far and the rows from i on. Assumes nothing.
 use mathlib.Core.Path.{_≡_, sym, _∙_}
 use mathlib.Core.Bool.{Bool}
 use mathlib.Core.List.{List}
 use Prim.Native.Nat.{ℕ, _-_, _*_, _≤_, _<_}
 use native.Mathlib.Omega.{arith}
 use Rattle.key.specs.Number.{number}
-use Rattle.reason.specs.Walk.{wanted, rowAt, placeAmong}
-use Rattle.reason.proofs.WalkLaws.{placeAt, place-starts, place-takes, place-leaves, place-ends}
-use Rattle.reason.proofs.walk.row_of.Statement.{statement}
-use Rattle.reason.proofs.walk.row_of.Tie as tie
+use Rattle.next_row.specs.Walk.{wanted, rowAt, placeAmong}
+use Rattle.next_row.proofs.WalkLaws.{placeAt, place-starts, place-takes, place-leaves, place-ends}
+use Rattle.next_row.proofs.row_of.Statement.{statement}
+use Rattle.next_row.proofs.row_of.Tie as tie
 
 abbrev Inv-loop : tie.InvT-loop
 Inv-loop s n path target leave k best₀ i₀ best i =

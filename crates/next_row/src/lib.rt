@@ -9,7 +9,7 @@ ghost use Rattle.key.specs.Number.{number};
 ghost use Rattle.record.specs.Record.{recordForm};
 ghost use Rattle.table.specs.Rows.{rows};
 ghost use Rattle.kept.specs.Keys.{Every};
-ghost use Rattle.reason.specs.Walk.{wanted as wantedOf, rowAt, takesOver, placeAmong};
+ghost use Rattle.next_row.specs.Walk.{wanted as wantedOf, rowAt, takesOver, placeAmong};
 use key::Key;
 
 // Is the record at a place looked for: not on the path, and, where one is to be left out, not of the key k?

@@ -10,6 +10,8 @@ use Rattle.wire_read.specs.Answers.{readIn}
 use Rattle.wire_read.specs.declared.Incoming.{Incoming}
 use Rattle.wire_read.specs.declared.Incoming.the-variants as M
 use Rattle.wire_read.specs.declared.messages.Lookup as L
+use Rattle.key.specs.Around.{closer}
+use Rattle.record.specs.Record.{keyOf}
 use Rattle.kept.specs.Keys.{_∈_}
 use Rattle.cache.specs.Form.{cacheForm}
 use Rattle.cache.specs.Calls.{heldBy}
@@ -19,7 +21,7 @@ use Rattle.reason.specs.Because.{Because, only, First, Candidates}
 use Rattle.reason.specs.Reason.{reasonOf}
 use Rattle.named.specs.Call.{Told, refused, named, namedPast, answerTo, nameCall}
 use Rattle.named.specs.Statements.{targetOf, candidatesOf, NamedFor, NamesTruly}
-use Rattle.closest_row.proofs.ClosestLaws.{closest-in}
+use Rattle.closest_row.proofs.ClosestLaws as Near
 use Rattle.reason.proofs.ReasonLaws.{reason-first}
 use Rattle.reason.proofs.Theorems.{one-reason}
 use Rattle.named.proofs.OwnedLaws.{candidates-are}
@@ -50,7 +52,8 @@ named-for t cands r b w e =
     let eb : reasonOf t cands ≡ b = ap shownReason e in
     record {
       closest = sym er;
-      candidate = subst (λ (z : List ℕ). z ∈ cands) er (closest-in t cands (w .0));
+      candidate = subst (λ (z : List ℕ). z ∈ cands) er (Near.closest-in t cands (w .0));
+      none-closer = λ q m. ap (λ (z : List ℕ). closer t (keyOf q) (keyOf z)) (sym er) ∙ Near.none-closer t cands q m;
       first = subst (First t cands) eb (reason-first t cands w);
       one = λ c f. one-reason t cands w .1 c f ∙ eb;
     }

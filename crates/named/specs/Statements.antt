@@ -1,9 +1,12 @@
 -- To believe. "The reason printed must be true of the definition, and exactly one is given" (02, Wish 5), of the call. Assumes nothing.
 use Prim.Native.Nat.{ℕ, _+_, _-_}
 use mathlib.Core.Path.{_≡_}
+use mathlib.Core.Bool.{false}
 use mathlib.Core.List.{List}
 use Rattle.octet.specs.Part.{part}
 use Rattle.key.specs.Number.{keyAt}
+use Rattle.key.specs.Around.{closer}
+use Rattle.record.specs.Record.{keyOf}
 use Rattle.own.specs.Own.{ownRecords}
 use Rattle.kept.specs.Keys.{_∈_}
 use Rattle.wire_buffer.specs.Buffer.{startOf}
@@ -23,10 +26,12 @@ targetOf d x = keyAt (x .target) d
 abbrev pub candidatesOf : (own cache d : List ℕ) → L.Lookup → List (List ℕ)
 candidatesOf own cache d x = candidates (ownRecords own) (offPath (part (startOf (x .path) + 8) (sizeOf (x .path) - 8) d) (heldBy own cache))
 
--- the record is the closest of the candidates, as wherever the closest is asked for, and the reason is the first that holds
+-- the record is the closest of the candidates, as wherever the closest is asked for: one of them, and none is closer; and the reason is the first that
+-- holds, and no other is
 pub record NamedFor (t : ℕ) (cands : List (List ℕ)) (r : List ℕ) (b : Because) : Type 0 where
   pub closest : r ≡ closestOf t cands
   pub candidate : r ∈ cands
+  pub none-closer : (q : List ℕ) → q ∈ cands → closer t (keyOf q) (keyOf r) ≡ false
   pub first : First t cands b
   pub one : (c : Because) → First t cands c → c ≡ b
 

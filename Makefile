@@ -34,8 +34,9 @@ install:
 C = tools/cc -std=c99 -O1 -Wall -Wextra -Wconversion -Wshadow -Werror -Itarget
 define example
 @tools/lib
-@$(C) examples/$@.c target/libgauge.a -o target/$@
-@tools/run target/$@
+@mkdir -p target/examples
+@$(C) examples/$@.c target/libgauge.a -o target/examples/$@
+@tools/run target/examples/$@
 endef
 first: tools
 	$(example)
@@ -43,7 +44,11 @@ first: tools
 two_ponds: tools
 	$(example)
 
+# It leaves the nights of its gauges in target/hill, and of one of them in target/hill.trace, with hours, answers, names and readings beside it. A file of
+# that name is a program that was built there.
 hill: tools
+	@[ -d target/hill ] || rm -f target/hill
+	@mkdir -p target/hill
 	$(example)
 
 fmt:

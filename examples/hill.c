@@ -14,9 +14,16 @@
  * 5 when divided by 8. The run ends with what the last reading of each pond says.
  *
  * The gauge reads all datagrams, by gauge_look too, and gauge_host.h writes those for which it has no call, the first FLOOD, the revocation and the
- * LOOKUP: no byte of one is laid out here. The calls of one gauge are written to target/hill.trace, and their answers to target/hill.answers
- * (gauge_trace.h); the ponds' names, for bin/shown, to target/hill.names; the last reading of each pond on the hill, for bin/ponds, to target/hill.readings,
- * and the names in the same order to target/hill.readings.names.
+ * LOOKUP: no byte of one is laid out here.
+ *
+ * The calls of each gauge are recorded (gauge_trace.h), but of the one that stands for two ponds: pond n's in target/hill/pond-n.trace, from when it begins,
+ * and beside it in pond-n.hours when each was made and whose datagram it was. `make hill` makes that folder. Pond 34's night is target/hill.trace and
+ * target/hill.hours too, with its answers in target/hill.answers; the ponds' names, for bin/shown, are in target/hill.names; the last reading of each pond
+ * on the hill, for bin/ponds, in target/hill.readings, and the names in the same order in target/hill.readings.names.
+ *
+ * The hours are made up, as there is no clock here. The hill begins at 22:00 of 1 November 2026, UTC. In each second behind that all gauges tick and flood
+ * first, and then every fourth datagram that the radio is done with moves the clock on by a millisecond, up to 999. Everybody is at port 5000 of his
+ * address, the office too, whose number is 0.
  *
  * What a CPA is made of is no matter of the gauge. Here it is one byte, which tells for which of its gauge's ponds it is, 0 for the first, and a
  * revoke CPA is the key; both are believed. Real ones are signed, and hold the nonce of the INQUIRE. Random numbers here come in the same order at
@@ -33,9 +40,9 @@
 #define MINOR GAUGE_DRT_MINOR
 #define PONDS 61
 #define NEW 62      /* the gauge that gets another's address */
-#define RECORDED 34 /* the gauge whose calls are recorded; it stands for one pond, as a trace has one own record */
+#define RECORDED 34 /* the gauge whose night stands in target/hill.trace too */
 #define SECOND 44   /* this pond has no gauge of its own: .. */
-#define FIRST_OF 13 /* .. that of this one stands for both. In the cache are more than ten records for each. */
+#define FIRST_OF 13 /* .. that of this one stands for both, and is not recorded: a trace has one own record. It has ten places and more for each. */
 #define FIRST 10    /* seconds in which a gauge floods its record to the one that it knows */
 #define FLOODS 2    /* to gauges held, each second */
 #define SENT 32     /* datagrams kept until they are answered: 16 at most wait, and some are not yet forgotten */
@@ -45,6 +52,9 @@
 #define APART 4     /* a pond's key begins with so many times its number: so the ponds stand all round the ring, and pond 1 comes after the last */
 #define HOUR 3600
 #define ON 12       /* so many are asked at most, one after the other */
+#define PORT 5000
+#define BEGINS 1793570400000 /* 2026-11-01 22:00 UTC, in milliseconds since 1970 */
+#define EACH 4      /* so many datagrams move the clock on by a millisecond */
 
 /* A datagram with the addresses that it goes from and to. An address is FE80:: and a number, and that number stands for it here. */
 struct datagram {
@@ -66,7 +76,8 @@ struct pond {
         struct datagram what;
     } sent[SENT];                   /* those with `len` 0 are free */
     uint8_t revoked[GAUGE_KEY_LEN]; /* the last key that it was told is revoked */
-    struct gauge_trace *trace;      /* NULL where it is not recorded */
+    bool recorded;                  /* .. in this trace */
+    struct gauge_trace trace;
 };
 
 static struct pond ponds[NEW + 1]; /* by number, from 1 */
@@ -74,6 +85,7 @@ static unsigned at[NEW + 1];       /* which pond has an address; address 0 is th
 static struct datagram air[AIR];
 static size_t under_way;
 static unsigned long seconds, datagrams, lost;
+static unsigned long done; /* datagrams that the radio is done with in this second */
 static unsigned told;      /* how often an ACK with N has taken a key out */
 static unsigned closest;   /* the pond that the last answer to the office named, 0 for none, .. */
 static unsigned closest_at; /* .. and the address that it named with it */
@@ -111,6 +123,83 @@ static void random_bytes(uint8_t *bytes, size_t len)
 {
     for (size_t i = 0; i < len; i++)
         bytes[i] = (uint8_t)dice(256);
+}
+
+static FILE *opened(const char *path)
+{
+    FILE *f = fopen(path, "wb");
+    if (f == NULL)
+        stop("%s can't be written\n", path);
+    return f;
+}
+
+static void closed(FILE *f, const char *path)
+{
+    if (ferror(f) != 0 || fclose(f) != 0)
+        stop("%s could not be written\n", path);
+}
+
+/* Where everybody is, and when. */
+
+static void set_address(unsigned address, uint8_t *bytes)
+{
+    memset(bytes, 0, GAUGE_ADDRESS_LEN);
+    bytes[0] = 0xFE;
+    bytes[1] = 0x80;
+    bytes[GAUGE_ADDRESS_LEN - 1] = (uint8_t)address;
+}
+
+static void set_endpoint(unsigned address, uint8_t *endpoint)
+{
+    endpoint[0] = PORT >> 8;
+    endpoint[1] = PORT & 255;
+    set_address(address, endpoint + 2);
+}
+
+static uint64_t hour(void)
+{
+    unsigned long within = done / EACH;
+    return BEGINS + 1000 * (uint64_t)seconds + (within < 999 ? within : 999);
+}
+
+/* A gauge's night. */
+
+static const char *night_path(unsigned number, const char *ending)
+{
+    static char path[64];
+    snprintf(path, sizeof path, "target/hill/pond-%u.%s", number, ending);
+    return path;
+}
+
+static void begin_night(struct pond *p)
+{
+    unsigned n = number_of(p);
+    FILE *calls = opened(night_path(n, "trace")), *hours = opened(night_path(n, "hours"));
+    FILE *answers = n == RECORDED ? opened("target/hill.answers") : NULL;
+    p->trace = gauge_trace_begin(calls, answers, hours, MAJOR, MINOR, p->lent.own, hour());
+    p->recorded = true;
+}
+
+static void end_night(struct pond *p)
+{
+    unsigned n = number_of(p);
+    if (p->trace.failed)
+        stop("pond %u's night could not be written\n", n);
+    closed(p->trace.calls, night_path(n, "trace"));
+    closed(p->trace.hours, night_path(n, "hours"));
+    if (p->trace.answers != NULL)
+        closed(p->trace.answers, "target/hill.answers");
+}
+
+static void copy(const char *from, const char *to)
+{
+    FILE *in = fopen(from, "rb"), *out = opened(to);
+    if (in == NULL)
+        stop("%s can't be read\n", from);
+    for (int c; (c = getc(in)) != EOF;)
+        putc(c, out);
+    closed(in, from);
+    closed(out, to);
 }
 
 /* The radio. */
@@ -309,8 +398,12 @@ static void arrives(struct pond *p, const struct datagram *d)
     random_bytes(l->nonce, sizeof l->nonce);
     gauge_lent_verdict(l, verdict, key);
     struct gauge_answer a = gauge_lent_receive(l, d->bytes, d->len);
-    if (p->trace != NULL)
-        gauge_trace_receive(p->trace, a.number, id, l->nonce, verdict, key, d->bytes, d->len);
+    if (p->recorded) {
+        uint8_t sender[GAUGE_ENDPOINT_LEN];
+        set_endpoint(d->from, sender);
+        gauge_trace_at(&p->trace, hour(), sender);
+        gauge_trace_receive(&p->trace, a, id, l->nonce, verdict, key, d->bytes, d->len);
+    }
     switch (a.number) {
     case GAUGE_OK:
         accepted(p, d, &seen, key, held_before);
@@ -344,6 +437,7 @@ static void radio(size_t left)
         size_t i = dice((uint32_t)under_way);
         struct datagram d = air[i];
         air[i] = air[--under_way];
+        done++;
         struct pond *p = &ponds[at[d.to]];
         if (dice(10) == 0)
             lost++;
@@ -360,8 +454,10 @@ static void radio(size_t left)
 static void tick(struct pond *p)
 {
     struct gauge_answer a = gauge_lent_tick(&p->lent);
-    if (p->trace != NULL)
-        gauge_trace_tick(p->trace, a.number);
+    if (p->recorded) {
+        gauge_trace_at(&p->trace, hour(), NULL);
+        gauge_trace_tick(&p->trace, a);
+    }
     if (a.number != GAUGE_OK)
         stop("pond %u: gauge_tick gave %u\n", number_of(p), a.number);
     for (size_t i = 0; i < SENT; i++) {
@@ -386,8 +482,12 @@ static void flood(struct pond *p)
     const uint8_t *neighbour = record(p, to), *what = near == to ? own_record(p) : record(p, near);
     uint32_t id = p->lent.id;
     struct gauge_answer a = gauge_lent_send(&p->lent, neighbour + GAUGE_RECORD_KEY, what + GAUGE_RECORD_KEY);
-    if (p->trace != NULL)
-        gauge_trace_send(p->trace, a.number, id, neighbour + GAUGE_RECORD_KEY, what + GAUGE_RECORD_KEY);
+    if (p->recorded) {
+        uint8_t receiver[GAUGE_ENDPOINT_LEN];
+        gauge_endpoint(neighbour, receiver);
+        gauge_trace_at(&p->trace, hour(), receiver);
+        gauge_trace_send(&p->trace, a, id, neighbour + GAUGE_RECORD_KEY, what + GAUGE_RECORD_KEY);
+    }
     if (a.number == GAUGE_OK)
         send_and_keep(p, address_at(neighbour + GAUGE_RECORD_ADDRESSES), p->lent.output, a.first);
     else if (a.number != GAUGE_FULL) /* too much waits: later */
@@ -397,6 +497,7 @@ static void flood(struct pond *p)
 static void second(void)
 {
     seconds++;
+    done = 0;
     for (struct pond *p = ponds + 1; p <= ponds + NEW; p++) {
         if (!p->on)
             continue;
@@ -621,18 +722,17 @@ static void tell_readings(void)
     tell_balance();
 }
 
-/* A pond's own record, and with it nothing in memory. The first byte of its key tells its number, the rest is random; it has one address, and port
- * 5000. */
+/* A pond's own record, and with it nothing in memory. The first byte of its key tells its number, the rest is random. */
 static void set_own(unsigned number, unsigned address)
 {
     struct pond *p = &ponds[number];
-    uint8_t key[GAUGE_KEY_LEN] = {(uint8_t)(APART * number)}, place[GAUGE_ADDRESS_LEN] = {0xFE, 0x80};
+    uint8_t key[GAUGE_KEY_LEN] = {(uint8_t)(APART * number)}, place[GAUGE_ADDRESS_LEN];
     random_bytes(key + 1, sizeof key - 1);
-    place[GAUGE_ADDRESS_LEN - 1] = (uint8_t)address;
+    set_address(address, place);
     p->listed = true;
     p->address = address;
     gauge_lent_begin(&p->lent, p->cache, sizeof p->cache, cpas, sizeof cpas / 2);
-    gauge_lent_own(&p->lent, key, 5000, place, 1);
+    gauge_lent_own(&p->lent, key, PORT, place, 1);
 }
 
 static void begin(unsigned number, unsigned address, unsigned known)
@@ -643,6 +743,8 @@ static void begin(unsigned number, unsigned address, unsigned known)
     p->known = known;
     p->lent.id = 1000000 * number;
     at[address] = number;
+    if (number != FIRST_OF)
+        begin_night(p);
 }
 
 /* One gauge stands for a second pond too, at the same address: it has two own records, and lends two CPAs. */
@@ -651,7 +753,7 @@ static void begin_second(void)
     struct gauge_lent *l = &ponds[FIRST_OF].lent;
     set_own(SECOND, ponds[FIRST_OF].address);
     const uint8_t *own = ponds[SECOND].lent.own;
-    if (gauge_lent_pond(l, own + GAUGE_RECORD_KEY, 5000, own + GAUGE_RECORD_ADDRESSES) != 2)
+    if (gauge_lent_pond(l, own + GAUGE_RECORD_KEY, PORT, own + GAUGE_RECORD_ADDRESSES) != 2)
         stop("pond %d's gauge stands for no second pond\n", FIRST_OF);
     l->cpas_len = sizeof cpas;
 }
@@ -704,20 +806,6 @@ static void hill(void)
     tell_readings();
 }
 
-static FILE *opened(const char *path)
-{
-    FILE *f = fopen(path, "wb");
-    if (f == NULL)
-        stop("%s can't be written\n", path);
-    return f;
-}
-
-static void closed(FILE *f, const char *path)
-{
-    if (ferror(f) != 0 || fclose(f) != 0)
-        stop("%s could not be written\n", path);
-}
-
 static void write_name(FILE *f, unsigned number)
 {
     for (size_t i = 0; i < GAUGE_KEY_LEN; i++)
@@ -749,6 +837,24 @@ static void write_readings(void)
     closed(of, "target/hill.readings.names");
 }
 
+/* The nights are whole; the one that stands in two places is copied. */
+static void write_nights(void)
+{
+    unsigned nights = 0;
+    unsigned long calls = 0;
+    for (struct pond *p = ponds + 1; p <= ponds + NEW; p++) {
+        if (!p->recorded)
+            continue;
+        end_night(p);
+        nights++;
+        calls += p->trace.count;
+    }
+    copy(night_path(RECORDED, "trace"), "target/hill.trace");
+    copy(night_path(RECORDED, "hours"), "target/hill.hours");
+    printf("target/hill has the nights of %u gauges, %lu calls, and their hours.\n", nights, calls);
+    printf("target/hill.trace has the %lu calls that pond %d's gauge took.\n", ponds[RECORDED].trace.count, RECORDED);
+}
+
 int main(void)
 {
     gauge_lent_begin(&OFFICE->lent, OFFICE->cache, sizeof OFFICE->cache, cpas, sizeof cpas / 2);
@@ -760,14 +866,9 @@ int main(void)
         else
             begin(n, n, known == SECOND ? FIRST_OF : known);
     }
-    FILE *calls = opened("target/hill.trace"), *answers = opened("target/hill.answers");
-    struct gauge_trace trace = gauge_trace_begin(calls, answers, MAJOR, MINOR, ponds[RECORDED].lent.own);
-    ponds[RECORDED].trace = &trace;
     hill();
-    if (trace.failed || fclose(calls) != 0 || fclose(answers) != 0)
-        stop("the trace could not be written\n");
+    write_nights();
     write_names();
     write_readings();
-    printf("target/hill.trace has the %lu calls that pond %d's gauge took.\n", trace.count, RECORDED);
     return 0;
 }

@@ -97,8 +97,8 @@ extern "C" {
 
 /* The version of this header and of the archive, as gauge.pc has it; and as a number that rises. CHANGELOG.md tells
  * what changed. */
-#define GAUGE_VERSION "1.5"
-#define GAUGE_VERSION_NUMBER 105
+#define GAUGE_VERSION "1.6"
+#define GAUGE_VERSION_NUMBER 106
 
 /* The versions in the header of a message: those of the message that document 003 prints. Document 000 leaves them to
  * whoever builds on it. Every call that has a major and a minor takes any others too; all gauges that are to hear each

@@ -36,10 +36,10 @@ same() { # WROTE WANTED WHAT
 }
 
 # The hill is run (examples/hill.c) in a folder of its own: what it writes is then in FOLDER/wrote, the calls of one gauge in
-# FOLDER/target/hill.trace, and what they gave in FOLDER/target/hill.answers.
+# FOLDER/target/hill.trace, and what they gave in FOLDER/target/hill.answers; those of the others in FOLDER/target/hill.
 hill_recorded() { # FOLDER
     local root=$PWD
     built hill
-    mkdir -p "$1/target"
+    mkdir -p "$1/target/hill"
     (cd "$1" && "$root/tools/run" "$root/target/tests/hill") >"$1/wrote" || { tail -n 1 "$1/wrote"; fault 'the run of the hill stopped'; }
 }

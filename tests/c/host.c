@@ -327,7 +327,7 @@ static void texts(void)
     CHECK(strcmp(gauge_kind_text(5), gauge_kind_text(0)) == 0 && strcmp(gauge_kind_text(GAUGE_ACK), gauge_kind_text(0)) != 0);
     CHECK(strcmp(gauge_reading_text(3), gauge_reading_text(4)) != 0 && strcmp(gauge_reading_text(1), gauge_reading_text(2)) != 0);
     CHECK(strcmp(gauge_part_text(GAUGE_PART_CACHE), "the cache") == 0 && strcmp(gauge_part_text(GAUGE_PART_WAITING), "the waiting table") == 0);
-    CHECK(strcmp(GAUGE_VERSION, "1.5") == 0 && GAUGE_VERSION_NUMBER == 105);
+    CHECK(strcmp(GAUGE_VERSION, "1.6") == 0 && GAUGE_VERSION_NUMBER == 106);
 }
 
 static void hex(const uint8_t *bytes, size_t len)

@@ -1,9 +1,11 @@
 /* Calls of one gauge, made by the archive and recorded by include/gauge_trace.h, as a radio program would.
  *
- * recorded CALLS [ANSWERS] <LINES    writes the trace to CALLS and the answers to ANSWERS, and says how many calls there were and whether one failed
+ * recorded CALLS [ANSWERS [HOURS]] <LINES    writes the trace to CALLS, the answers to ANSWERS and the hours to HOURS, - for none of the two, and says
+ *                                            how many calls there were and whether one failed
  *
- * The first line is `own RECORD`, and each other line a call: `receive ID VERDICT KEY DATAGRAM`, `send ID NEIGHBOUR KEY` or `tick`. Bytes have two
- * hexadecimal digits each, - for none; versions are 6 and 101, and the nonce is 0 to 15. */
+ * The first line is `own RECORD HOUR`, and each other line a call: `receive ID VERDICT KEY DATAGRAM`, `send ID NEIGHBOUR KEY` or `tick`; or what is told
+ * of the next one: `at HOUR ENDPOINT`, - for no endpoint. Bytes have two hexadecimal digits each, - for none; versions are 6 and 101, and the nonce is 0
+ * to 15. */
 #include "calling.h"
 #include "gauge_trace.h"
 #include <stdlib.h>
@@ -73,7 +75,7 @@ static void receive(struct gauge_trace *t)
     lent.key = as_room(key, sizeof key);
     lent.datagram = as_room(datagram, bytes(datagram, sizeof datagram));
     struct gauge_answer a = call_receive(gauge_receive, &lent);
-    gauge_trace_receive(t, a.number, lent.id, nonce, lent.verdict, key, datagram, lent.datagram.len);
+    gauge_trace_receive(t, a, lent.id, nonce, lent.verdict, key, datagram, lent.datagram.len);
 }
 
 static void send(struct gauge_trace *t)
@@ -85,13 +87,25 @@ static void send(struct gauge_trace *t)
     lent.neighbour = as_room(neighbour, sizeof neighbour);
     lent.key = as_room(key, sizeof key);
     struct gauge_answer a = call_send(gauge_send, &lent);
-    gauge_trace_send(t, a.number, lent.id, neighbour, key);
+    gauge_trace_send(t, a, lent.id, neighbour, key);
 }
 
 static void tick(struct gauge_trace *t)
 {
     struct gauge_answer a = call_tick(gauge_tick, &lent);
-    gauge_trace_tick(t, a.number);
+    gauge_trace_tick(t, a);
+}
+
+static uint64_t hour(void)
+{
+    return strtoull(word(), NULL, 10);
+}
+
+static void told(struct gauge_trace *t)
+{
+    uint8_t endpoint[GAUGE_ENDPOINT_LEN];
+    uint64_t when = hour();
+    gauge_trace_at(t, when, bytes(endpoint, sizeof endpoint) > 0 ? endpoint : NULL);
 }
 
 /* A file without a buffer: what can't be written is seen at once. */
@@ -103,13 +117,19 @@ static FILE *opened(const char *path)
     return f;
 }
 
+/* The file that a word names, where there is such a word. */
+static FILE *wanted(int argc, char **argv, int i)
+{
+    return argc > i && strcmp(argv[i], "-") != 0 ? opened(argv[i]) : NULL;
+}
+
 int main(int argc, char **argv)
 {
     if (argc < 2 || fgets(line, sizeof line, stdin) == NULL || strtok(line, " \n") == NULL)
         stop("give a file for the trace, and calls");
     bytes(own, sizeof own);
     begin();
-    struct gauge_trace t = gauge_trace_begin(opened(argv[1]), argc > 2 ? opened(argv[2]) : NULL, 6, 101, own);
+    struct gauge_trace t = gauge_trace_begin(opened(argv[1]), wanted(argc, argv, 2), wanted(argc, argv, 3), 6, 101, own, hour());
     while (fgets(line, sizeof line, stdin) != NULL) {
         const char *call = strtok(line, " \n");
         if (call == NULL)
@@ -118,6 +138,8 @@ int main(int argc, char **argv)
             receive(&t);
         else if (strcmp(call, "send") == 0)
             send(&t);
+        else if (strcmp(call, "at") == 0)
+            told(&t);
         else
             tick(&t);
     }

@@ -1,17 +1,17 @@
-"""Runs a program of the house as a keeper does: bin/replay, bin/shown, bin/ponds, bin/convert and bin/why all come here.
+"""Runs a program of the house as a keeper does: bin/replay, bin/shown, bin/ponds, bin/convert, bin/why and bin/nights all come here.
 
     launch NAME [WORDS..]
 
 The program is proved and built first where what it is made of has changed (tools/prove tells how far that is). Its input and output go through this
 launcher, which so sees what can't be read or written, and gives a status, as a program itself has none:
 
-    0  a whole night; readings that were all taken; memory that was converted; a record that is named
+    0  a whole night; readings that were all taken; memory that was converted; a record that is named; nights that were joined
     1  a night that is damaged, cut short, or refused from its first call on; a reading that was refused; memory that is not in the old form; a
-       refusal where a record was to be named
+       refusal where a record was to be named; nights that are not whole, or not of one gauge
     2  a file that can't be read, an output that can't be written, a wrong use
 
 It goes by the lines that the program writes (WATCHERS) and by what comes on descriptor 2. Names are made ready here (tools/names.py). A conversion of
-saved memory changes files, which tools/conversion.py does.
+saved memory changes files, which tools/conversion.py does. Nights are joined by tools/nights.py, without a program.
 """
 import hashlib
 import os
@@ -27,6 +27,7 @@ sys.dont_write_bytecode = True
 import conversion
 import layers
 import names
+import nights
 
 ROOT = os.path.join(os.path.dirname(os.path.realpath(__file__)), "..")
 PIECE = 65536
@@ -86,6 +87,21 @@ INPUT   the gauge's own record as a trace begins with it (kind 4), the length of
 
 %s
 """ % (STATUS % ("where a record is named", "where it is refused")),
+    "nights": """bin/nights [--to OUT] NIGHT..
+
+Joins the nights of one gauge, in the order in which they are given, into one trace, to be made again and shown as one night. The first record of each,
+which tells the gauge, must be the same, and is kept once. A night that is damaged or cut short is told, with the record (the first is record 0), and
+then nothing is written.
+
+This is right only where the gauge kept its cache and its waiting table from each night to the next, as they were, and no call between them is left out:
+a later night begins with what the earlier left. The nights themselves do not tell whether that is so.
+
+OUT     the file of the joined night; standard output where it is left out. Into the file beside it go the hours of the nights (NAME.hours beside
+        NAME.trace), where each night has them, a row for each record; else none are written, and that is said
+NIGHT   %s
+
+%s
+""" % (NIGHT, STATUS % ("where all were joined", "for a night that is damaged, cut short or another gauge's")),
 }
 MOST_WORDS = {"replay": 1, "shown": 2, "ponds": 2, "convert": 3, "why": 1}
 
@@ -347,6 +363,44 @@ def converted(words):
     return status
 
 
+def joined(words):
+    """The nights of one gauge as one, by tools/nights.py."""
+    try:
+        paths, to = nights.words_of(words)
+    except nights.Wrong as wrong:
+        raise Fault("%s\n%s" % (wrong, HELP["nights"].split("\n")[0]))
+    if to is None and os.isatty(1):
+        raise Fault("a trace is nothing for a terminal: give --to OUT")
+    try:
+        whole = nights.checked(paths)
+        if to is None:
+            put_pieces(nights.joined(whole))
+            return 0
+        told, others = nights.to_file(whole, to)
+    except nights.Wrong as wrong:
+        raise Fault(wrong)
+    except nights.Refused as refused:
+        sys.stderr.write("nights: %s; nothing was written\n" % refused)
+        return 1
+    put_pieces([(told + "\n").encode()])
+    for word in others:
+        sys.stderr.write("nights: %s\n" % word)
+    return 0
+
+
+def put_pieces(pieces):
+    """All to standard output."""
+    try:
+        for piece in pieces:
+            put(piece)
+        os.close(1)
+    except BrokenPipeError:  # whoever reads has read enough
+        signal.signal(signal.SIGPIPE, signal.SIG_DFL)
+        os.kill(os.getpid(), signal.SIGPIPE)
+    except OSError as error:
+        raise Fault("standard output can't be written (%s): this is not all" % error.strerror)
+
+
 def main(name, words):
     readable = set_up()
     if name not in HELP:
@@ -354,6 +408,8 @@ def main(name, words):
     if words and words[0] in ("--help", "-h"):
         sys.stdout.write(HELP[name])
         return 0
+    if name == "nights":
+        return joined(words)
     if words[:1] == ["--"]:
         words = words[1:]
     elif words and words[0].startswith("-") and words[0] != "-":

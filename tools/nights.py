@@ -195,21 +195,30 @@ def replace(contents):
                 os.unlink(beside)
 
 
-def to_file(nights, to):
-    """Writes the joined night, and its hours where each night has them. What is told of it: a line, and words on what is not as it might be."""
-    place, hours = os.path.realpath(to), [Hours(night) for night in nights]
+def places_for(to, nights):
+    """The files of the joined night and of its hours: links are followed. A night's trace may stand in the first place, and its hours in the second."""
+    place, beside = os.path.realpath(to), os.path.realpath(hours_of(to))
     if os.path.isdir(place):
         raise Wrong("%s is a folder; give the name of a file" % to)
+    if place in {os.path.realpath(hours_of(night.path)) for night in nights} or beside in {os.path.realpath(night.path) for night in nights}:
+        raise Wrong("%s would be written over one of the nights: give another name" % to)
+    return place, beside
+
+
+def to_file(nights, to):
+    """Writes the joined night, and its hours where each night has them. What is told of it: a line, and words on what is not as it might be."""
+    place, beside = places_for(to, nights)
+    hours = [Hours(night) for night in nights]
     told = "joined: nights %d, calls %d, in %s" % (len(nights), sum(night.records - 1 for night in nights), to)
     without = [rows.why for rows in hours if rows.why]
     if without:
-        if os.path.exists(hours_of(place)):
+        if os.path.exists(beside):
             raise Wrong("%s is there, and would not be the hours of these nights (%s): take it away, or give another name" % (hours_of(to), without[0]))
         replace([(place, joined(nights))])
         return told, ["no hours are written: " + without[0]]
     words = list(out_of_order(nights, hours))
     # the hours first: broken off between the two, they fit no trace and the same command is refused, where it would join a night for the second time
-    replace([(hours_of(place), joined_hours(hours)), (place, joined(nights))])
+    replace([(beside, joined_hours(hours)), (place, joined(nights))])
     return "%s, and their hours in %s" % (told, hours_of(to)), words
 
 

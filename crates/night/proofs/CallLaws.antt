@@ -1,5 +1,5 @@
--- A record's call is the gauge's. In this order: what is taken out of the night's slice and put back into it; what a call hands back is the step; the call of each
--- kind. Assumes nothing.
+-- A record's call is the gauge's. In this order: what is taken out of the night's slice and put back into it; what a call hands back is what its
+-- record tells; the call of each kind. Assumes nothing.
 use mathlib.Core.Path.{_≡_, refl, sym, ap, ap₂, _∙_}
 use mathlib.Core.List.{List, [], _∷_, _++_}
 use Prim.Native.Nat.{ℕ, _+_, _-_, _≤_}
@@ -14,7 +14,8 @@ use Rattle.gauge_plan.specs.Lent.{Memory, memory, withCache, withWaiting, withT
 use Rattle.gauge_commit.specs.declared.Answer.{Answer}
 use Rattle.gauge_commit.specs.Sending.{Handed, handed}
 use Rattle.gauge.specs.Ours.{ours}
-use Rattle.night.specs.Step.{nightIn, stateLen, majorOf, minorOf, nightOwn, output, received, sent, ticked, callOf, Night, night, Stepped, stepped, called}
+use Rattle.night.specs.Step.{nightIn, stateLen, majorOf, minorOf, nightOwn, output, received, sent, ticked, callOf, Night, night}
+use Rattle.night.specs.Told.{told, calledTold}
 
 -- ---- what stands before and behind a part that is written
 
@@ -117,46 +118,47 @@ tables-back s fit c w d e =
     waiting-back (splice 0 c s) (length-splice 0 c s (omega (arith, d, fit)) ∙ fit) w e
     ∙ ap (λ (n : Night). night (n .opening) (withWaiting w (n .memory))) (cache-back s fit c d)
 
--- ---- what each call hands back is the step
+-- ---- what each call hands back is what the record tells
 
-call-made : (n : Night) (h : Handed) (c : Call) → h ≡ ours (n .memory) c → stepped (h .answer .number) (night (n .opening) (h .memory)) ≡ called n c
-unfolding called
-call-made n h c e = ap (λ (x : Handed). stepped (x .answer .number) (night (n .opening) (x .memory))) e
+call-made : (n : Night) (h : Handed) (c : Call) → h ≡ ours (n .memory) c → told (h .answer) (night (n .opening) (h .memory)) (h .output) ≡ calledTold n c
+unfolding calledTold
+call-made n h c e = ap (λ (x : Handed). told (x .answer) (night (n .opening) (x .memory)) (x .output)) e
 
--- c, w and those with a stroke: cache and waiting table as lent and as left
-module _ (s : List ℕ) (fit : length s ≡ 8742) (a : Answer) (out own w w′ after : List ℕ) (owned : own ≡ nightOwn (nightIn s .opening))
-    (tabled : w ≡ part 6400 2240 s) (sized : length w′ ≡ length w) where
+-- c, w and those with a stroke: cache and waiting table as lent and as left; lent and out: the output
+module _ (s : List ℕ) (fit : length s ≡ 8742) (a : Answer) (lent out : List ℕ) (cleared : lent ≡ output) (own w w′ after : List ℕ)
+    (owned : own ≡ nightOwn (nightIn s .opening)) (tabled : w ≡ part 6400 2240 s) (sized : length w′ ≡ length w) where
   table-size : length w′ ≡ 2240
   table-size = sized ∙ ap length tabled ∙ length-part 6400 2240 s (omega (arith, fit))
 
   pub tick-called : after ≡ splice 6400 w′ s
-      → handed a (withWaiting w′ (nightIn s .memory)) out ≡ ours (withWaiting w (nightIn s .memory)) (ticks (tick own output))
-      → stepped (a .number) (nightIn after) ≡ called (nightIn s) (ticked (nightIn s .opening))
+      → handed a (withWaiting w′ (nightIn s .memory)) out ≡ ours (withWaiting w (nightIn s .memory)) (ticks (tick own lent))
+      → told a (nightIn after) out ≡ calledTold (nightIn s) (ticked (nightIn s .opening))
   tick-called back e =
-      ap (λ (x : List ℕ). stepped (a .number) (nightIn x)) back ∙ ap (stepped (a .number)) (waiting-back s fit w′ table-size)
-      ∙ call-made (nightIn s) (handed a (withWaiting w′ (nightIn s .memory)) out) (ticked (nightIn s .opening)) (rw (owned, tabled) at e)
+      ap (λ (x : List ℕ). told a (nightIn x) out) back ∙ ap (λ (n : Night). told a n out) (waiting-back s fit w′ table-size)
+      ∙ call-made (nightIn s) (handed a (withWaiting w′ (nightIn s .memory)) out) (ticked (nightIn s .opening)) (rw (owned, tabled, cleared) at e)
 
   module _ (body : List ℕ) (major minor id : ℕ) (first : major ≡ majorOf (nightIn s .opening)) (second : minor ≡ minorOf (nightIn s .opening))
       (ided : id ≡ valueLE 256 (part 0 4 body)) where
     pub send-called : after ≡ splice 6400 w′ s
         → handed a (withTables (part 0 6400 s) w′ (nightIn s .memory)) out
-        ≡ ours (withTables (part 0 6400 s) w (nightIn s .memory)) (sends (send own major minor id (part 4 32 body) (part 36 32 body) output))
-        → stepped (a .number) (nightIn after) ≡ called (nightIn s) (sent (nightIn s .opening) body)
+        ≡ ours (withTables (part 0 6400 s) w (nightIn s .memory)) (sends (send own major minor id (part 4 32 body) (part 36 32 body) lent))
+        → told a (nightIn after) out ≡ calledTold (nightIn s) (sent (nightIn s .opening) body)
     send-called back e =
-        ap (λ (x : List ℕ). stepped (a .number) (nightIn x)) back ∙ ap (stepped (a .number)) (waiting-back s fit w′ table-size)
+        ap (λ (x : List ℕ). told a (nightIn x) out) back ∙ ap (λ (n : Night). told a n out) (waiting-back s fit w′ table-size)
         ∙ call-made (nightIn s) (handed a (withWaiting w′ (nightIn s .memory)) out) (sent (nightIn s .opening) body)
-        (rw (owned, tabled, first, second, ided) at e)
+        (rw (owned, tabled, first, second, ided, cleared) at e)
 
     pub receive-called : (c c′ : List ℕ) (verdict : ℕ) (datagram : List ℕ) → verdict ≡ getD body 4 0 → datagram ≡ drop 53 body
         → c ≡ part 0 6400 s → length c′ ≡ length c → after ≡ splice 6400 w′ (splice 0 c′ s)
         → handed a (memory c′ w′) out
-        ≡ ours (memory c w) (receives (receive own (1 ∷ 0 ∷ 0 ∷ []) major minor id (part 37 16 body) verdict (part 5 32 body) datagram output))
-        → stepped (a .number) (nightIn after) ≡ called (nightIn s) (received (nightIn s .opening) body)
+        ≡ ours (memory c w) (receives (receive own (1 ∷ 0 ∷ 0 ∷ []) major minor id (part 37 16 body) verdict (part 5 32 body) datagram lent))
+        → told a (nightIn after) out ≡ calledTold (nightIn s) (received (nightIn s .opening) body)
     receive-called c c′ verdict datagram judged heard cached kept back e =
-        ap (λ (x : List ℕ). stepped (a .number) (nightIn x)) back
-        ∙ ap (stepped (a .number)) (tables-back s fit c′ w′ (kept ∙ ap length cached ∙ length-part 0 6400 s (omega (arith, fit))) table-size)
+        ap (λ (x : List ℕ). told a (nightIn x) out) back
+        ∙ ap (λ (n : Night). told a n out)
+        (tables-back s fit c′ w′ (kept ∙ ap length cached ∙ length-part 0 6400 s (omega (arith, fit))) table-size)
         ∙ call-made (nightIn s) (handed a (memory c′ w′) out) (received (nightIn s .opening) body)
-        (rw (owned, cached, tabled, first, second, ided, judged, heard) at e)
+        (rw (owned, cached, tabled, first, second, ided, judged, heard, cleared) at e)
 
 -- ---- by the kind
 

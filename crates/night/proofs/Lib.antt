@@ -1,5 +1,6 @@
 pub mod CallLaws
 pub mod StepLaws
+pub mod ToldLaws
 pub mod ReplayLaws
 pub mod MadeLaws
 pub mod TraceLaws

@@ -12,7 +12,8 @@ use Rattle.gauge.specs.Words.{Entry, left, log}
 use Rattle.gauge.specs.Ours.{ours}
 use Rattle.trace.specs.Trace.{kindOf, bodyOf, recordsOf, Piece, written, allWritten, traceOf, pieceOf}
 use Rattle.trace.specs.Fault.{faults, isGood}
-use Rattle.night.specs.Step.{night, start, callOf}
+use Rattle.night.specs.Step.{Night, night, start, callOf, stepped, stepOf}
+use Rattle.night.specs.Told.{stepTold}
 use Rattle.night.specs.Replay.{Line, line, replayed, replayFrom, replay, atEnd}
 
 -- ---- the calls of a trace: those of its records behind the first, up to the first that is bad
@@ -56,6 +57,10 @@ Stops =
     → replayFrom 0 start (good ++ (bad ∷ more))
     ≡ replayed (numbered 1 (log ours (empty 64) (callsOf good)) ++ (line (length good) (firstOf (faults (length good) bad)) ∷ []))
     (replayFrom 0 start good .night)
+
+-- a record told whole is the same step: its number and its night are those of the replay
+abbrev pub ToldSame : Type 0
+ToldSame = (at : ℕ) (n : Night) (r : List ℕ) → stepped (stepTold at n r 2464 .answer .number) (stepTold at n r 2464 .night) ≡ stepOf at n r
 
 -- "reading a written trace gives it back": kinds have 2 bytes, and so have lengths
 abbrev pub Writable : Piece → Type 0

@@ -33,11 +33,13 @@ slice-reshare-prefix-copy-to c = search needs
 
 slice-aggregate-copy-to-3 : tie.Need-slice-aggregate-copy-to-3
 slice-aggregate-copy-to-3 c =
-    let start = c .before .before .before .before .before .before .before .before .before in
+    let start = c .before .before .before .before .before .before .before .before .before .before in
     sym (length-take-le 6400 (start .args .state .now) (omega (arith, start .pre .0)))
 
 copy-to-requires-2 : tie.Need-copy-to-requires-2
-copy-to-requires-2 c κs = omega (arith, length-take-le 6400 (c .before .before .before .before .before .before .before .before .before .args .state .now) (omega (arith, c .before .before .before .before .before .before .before .before .before .pre .0)))
+copy-to-requires-2 c κs =
+    let start = c .before .before .before .before .before .before .before .before .before .before in
+    omega (arith, length-take-le 6400 (start .args .state .now) (omega (arith, start .pre .0)))
 
 slice-aggregate-copy-to-4 : tie.Need-slice-aggregate-copy-to-4
 slice-aggregate-copy-to-4 c = search needs
@@ -108,9 +110,6 @@ part-gauge-receive-start-3 c = search needs
 part-gauge-receive-end-3 : tie.Need-part-gauge-receive-end-3
 part-gauge-receive-end-3 c = search needs
 
-slice-aggregate-gauge-receive-5 : tie.Need-slice-aggregate-gauge-receive-5
-slice-aggregate-gauge-receive-5 c = search needs
-
 gauge-receive-requires : tie.Need-gauge-receive-requires
 gauge-receive-requires c κs = search needs
 
@@ -119,9 +118,10 @@ slice-aggregate-copy-to-5 c = search needs
 
 copy-to-requires-4 : tie.Need-copy-to-requires-4
 copy-to-requires-4 c κs =
-    let g = c .before .before .before .before .before in
+    let g = c .before .before .before .before .before .before in
     let copy-to2 = g .before .before .before .before .before .before .before .before .before .before .before .before .before .before .before .before .before .before .before .before in
-    omega (arith, g .gauge-receive .kept .1 .1 .0, copy-to2 .copy-to2 .kept .0, length-replicate {A = ℕ} 6400 0, copy-to2 .before .before .before .before .before .before .before .before .before .before .pre .0)
+    omega
+    (arith, g .gauge-receive .kept .1 .1 .0, copy-to2 .copy-to2 .kept .0, length-replicate {A = ℕ} 6400 0, copy-to2 .before .before .before .before .before .before .before .before .before .before .before .pre .0)
 
 slice-aggregate-copy-to-6 : tie.Need-slice-aggregate-copy-to-6
 slice-aggregate-copy-to-6 c = search needs
@@ -129,27 +129,31 @@ slice-aggregate-copy-to-6 c = search needs
 copy-to-requires-5 : tie.Need-copy-to-requires-5
 copy-to-requires-5 c κs =
     let copy-to4 = c .before .before .before .before in
-    let g = copy-to4 .before .before .before .before .before .before in
+    let g = copy-to4 .before .before .before .before .before .before .before in
     let copy-to3 = g .before .before .before .before .before .before .before .before .before .before .before .before .before .before .before in
-    omega (arith, g .gauge-receive .kept .1 .1 .1 .0, copy-to3 .copy-to3 .kept .0, length-replicate {A = ℕ} 2240 0, copy-to4 .copy-to4 .kept .0, copy-to3 .before .before .before .before .before .before .before .before .before .before .before .before .before .before .before .pre .0)
+    omega
+    (arith, g .gauge-receive .kept .1 .1 .1 .0, copy-to3 .copy-to3 .kept .0, length-replicate {A = ℕ} 2240 0, copy-to4 .copy-to4 .kept .0, copy-to3 .before .before .before .before .before .before .before .before .before .before .before .before .before .before .before .before .pre .0)
 
 same-length : tie.Need-same-length
 same-length c = search needs
 
+same-length-2 : tie.Need-same-length-2
+same-length-2 c = search needs
+
 returns : tie.Need-returns
 returns c =
     let copy-to4 = c .before .before .before .before .before .before .before in
-    let gauge-receive = copy-to4 .before .before .before .before .before .before in
+    let gauge-receive = copy-to4 .before .before .before .before .before .before .before in
     let wide = gauge-receive .before .before .before .before .before .before .before .before .before in
     let read = wide .before .before in
     let copy-to3 = read .before .before .before .before in
     let copy-to2 = copy-to3 .before .before .before .before .before in
     let copy-to = copy-to2 .before .before .before .before in
-    let start = copy-to .before .before .before .before .before .before in
+    let start = copy-to .before .before .before .before .before .before .before in
     let s = start .args .state .now in
     let body = start .args .body .now in
     let fit = start .pre .0 in
-    receive-called s fit _ _ _ _ _ _
+    receive-called s fit _ _ _ (start .pre .1 .1) _ _ _ _
     (copy-to .copy-to .ensures ∙ own-copied s fit)
     (copy-to3 .copy-to3 .ensures ∙ taken-out 6400 2240 s (omega (arith, fit))) (gauge-receive .gauge-receive .kept .1 .1 .1 .0)
     body _ _ _ (major-taken s fit) (minor-taken s fit) (read .read-u32-le .ensures) _ _ _ _ (wide .wide .ensures)
@@ -193,11 +197,11 @@ receive-spec =
     sub-gauge-receive-3
     part-gauge-receive-start-3
     part-gauge-receive-end-3
-    slice-aggregate-gauge-receive-5
     gauge-receive-requires
     slice-aggregate-copy-to-5
     copy-to-requires-4
     slice-aggregate-copy-to-6
     copy-to-requires-5
     same-length
+    same-length-2
     returns)

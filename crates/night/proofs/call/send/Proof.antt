@@ -55,7 +55,7 @@ slice-reshare-prefix-gauge-send c = search needs
 
 slice-aggregate-gauge-send-2 : tie.Need-slice-aggregate-gauge-send-2
 slice-aggregate-gauge-send-2 c =
-    let start = c .before .before .before .before .before .before .before .before .before .before .before .before .before .before .before .before .before in
+    let start = c .before .before .before .before .before .before .before .before .before .before .before .before .before .before .before .before .before .before in
     sym (length-take-le 6400 (start .args .state .now) (omega (arith, start .pre .0)))
 
 slice-aggregate-gauge-send-3 : tie.Need-slice-aggregate-gauge-send-3
@@ -79,9 +79,6 @@ part-gauge-send-start-2 c = search needs
 part-gauge-send-end-2 : tie.Need-part-gauge-send-end-2
 part-gauge-send-end-2 c = search needs
 
-slice-aggregate-gauge-send-4 : tie.Need-slice-aggregate-gauge-send-4
-slice-aggregate-gauge-send-4 c = search needs
-
 gauge-send-requires : tie.Need-gauge-send-requires
 gauge-send-requires c κs = search needs
 
@@ -94,16 +91,19 @@ copy-to-requires-3 c κs = search needs
 same-length : tie.Need-same-length
 same-length c = search needs
 
+same-length-2 : tie.Need-same-length-2
+same-length-2 c = search needs
+
 returns : tie.Need-returns
 returns c =
-    let gauge-send = c .before .before .before .before .before .before .before in
+    let gauge-send = c .before .before .before .before .before .before .before .before in
     let read = gauge-send .before .before .before .before .before .before .before in
     let copy-to2 = read .before .before .before .before in
     let copy-to = copy-to2 .before .before .before .before .before in
-    let start = copy-to .before .before .before .before .before .before in
+    let start = copy-to .before .before .before .before .before .before .before in
     let s = start .args .state .now in
     let fit = start .pre .0 in
-    send-called s fit _ _ _ _ _ _
+    send-called s fit _ _ _ (start .pre .1 .1) _ _ _ _
     (copy-to .copy-to .ensures ∙ own-copied s fit)
     (copy-to2 .copy-to2 .ensures ∙ taken-out 6400 2240 s (omega (arith, fit))) (gauge-send .gauge-send .kept .1 .1 .0)
     (start .args .body .now) _ _ _ (major-taken s fit) (minor-taken s fit) (read .read-u32-le .ensures)
@@ -136,9 +136,9 @@ send-spec =
     sub-gauge-send-2
     part-gauge-send-start-2
     part-gauge-send-end-2
-    slice-aggregate-gauge-send-4
     gauge-send-requires
     slice-aggregate-copy-to-3
     copy-to-requires-3
     same-length
+    same-length-2
     returns)

@@ -34,9 +34,6 @@ part-gauge-tick-end c = search needs
 slice-aggregate-gauge-tick : tie.Need-slice-aggregate-gauge-tick
 slice-aggregate-gauge-tick c = search needs
 
-slice-aggregate-gauge-tick-2 : tie.Need-slice-aggregate-gauge-tick-2
-slice-aggregate-gauge-tick-2 c = search needs
-
 gauge-tick-requires : tie.Need-gauge-tick-requires
 gauge-tick-requires c κs = search needs
 
@@ -49,14 +46,18 @@ copy-to-requires-2 c κs = search needs
 same-length : tie.Need-same-length
 same-length c = search needs
 
+same-length-2 : tie.Need-same-length-2
+same-length-2 c = search needs
+
 returns : tie.Need-returns
 returns c =
-    let gauge-tick = c .before .before .before .before .before .before .before in
+    let gauge-tick = c .before .before .before .before .before .before .before .before in
     let copy-to = gauge-tick .before .before .before .before .before .before in
-    let start = copy-to .before .before .before .before .before in
+    let start = copy-to .before .before .before .before .before .before in
     let s = start .args .state .now in
-    tick-called s (start .pre) _ _ _ _ _ _ (own-taken s (start .pre))
-    (copy-to .copy-to .ensures ∙ taken-out 6400 2240 s (omega (arith, start .pre))) (gauge-tick .gauge-tick .kept .1 .0)
+    let fit = start .pre .0 in
+    tick-called s fit _ _ _ (start .pre .1) _ _ _ _ (own-taken s fit)
+    (copy-to .copy-to .ensures ∙ taken-out 6400 2240 s (omega (arith, fit))) (gauge-tick .gauge-tick .kept .1 .0)
     (c .before .before .copy-to2 .ensures) (gauge-tick .gauge-tick .ensures (nightIn s .memory))
 
 pub tick-spec : {M : Type 1} → statement M
@@ -72,9 +73,9 @@ tick-spec =
     part-gauge-tick-start
     part-gauge-tick-end
     slice-aggregate-gauge-tick
-    slice-aggregate-gauge-tick-2
     gauge-tick-requires
     slice-aggregate-copy-to-2
     copy-to-requires-2
     same-length
+    same-length-2
     returns)

@@ -52,10 +52,6 @@ told-same at n r =
 
 -- ---- by its tests
 
--- an output cleared
-pub cleared : (s : List ℕ) → splice 0 (replicate (length s) 0) s ≡ replicate (length s) 0
-cleared s = splice-whole (replicate (length s) 0) s (length-replicate {A = ℕ} (length s) 0)
-
 module _ (at : ℕ) (n : Night) (r : List ℕ) (room : ℕ) where
   abbrev alone : ℕ → Told
   alone k = numberAlone room k n
@@ -105,29 +101,36 @@ module _ (at : ℕ) (r : List ℕ) (clean : firstOf (faults at r) ≡ 0) where
     pub opening-length : kind ≡ 4 → length (take (length r - 4) (drop 4 r)) ≡ 102
     opening-length e = fits-4 kind (length (take (length r - 4) (drop 4 r))) e body-fits
 
--- the number alone, into an output that was cleared
-module _ (at : ℕ) (n : Night) (r : List ℕ) (room : ℕ) (a : Answer) (out : List ℕ) (zero : out ≡ replicate room 0) where
-  said : (k : ℕ) (left : Night) → a ≡ answer k 0 0 → told a left out ≡ numberAlone room k left
-  said k left e = ap₂ (λ (x : Answer) (o : List ℕ). told x left o) e zero
+-- an output that was cleared, with the number alone or for a call
+module _ (lent out : List ℕ) (cleared : out ≡ splice 0 (replicate (length lent) 0) lent) where
+  zeros : out ≡ replicate (length lent) 0
+  zeros = cleared ∙ splice-whole (replicate (length lent) 0) lent (length-replicate {A = ℕ} (length lent) 0)
 
-  pub refuses-state : a ≡ answer 1 0 0 → (length (n .opening) ≡ 102 → ⊥) → told a n out ≡ stepTold at n r room
-  refuses-state e u = said 1 n e ∙ sym (told-unfit at n r room u)
+  pub zeros-enough : length lent ≡ 2464 → out ≡ replicate 2464 0
+  zeros-enough wide = zeros ∙ ap (λ (k : ℕ). replicate k 0) wide
 
-  module _ (fit : length (n .opening) ≡ 102) where
-    pub refuses-output : a ≡ answer 1 0 0 → (room ≡ 2464 → ⊥) → told a n out ≡ stepTold at n r room
-    refuses-output e u = said 1 n e ∙ sym (told-cramped at n r room fit u)
+  module _ (at : ℕ) (n : Night) (r : List ℕ) (a : Answer) where
+    said : (k : ℕ) (left : Night) → a ≡ answer k 0 0 → told a left out ≡ numberAlone (length lent) k left
+    said k left e = ap₂ (λ (x : Answer) (o : List ℕ). told x left o) e zeros
 
-    module _ (wide : room ≡ 2464) where
-      pub refuses-record : (k : ℕ) → a ≡ answer k 0 0 → k ≡ firstOf (faults at r) → (k ≡ 0 → ⊥) → told a n out ≡ stepTold at n r room
-      refuses-record k e f u =
-          said k n e ∙ ap (λ (j : ℕ). numberAlone room j n) f ∙ sym (told-bad at n r room fit wide (omega (arith, f, u)))
+    pub refuses-state : a ≡ answer 1 0 0 → (length (n .opening) ≡ 102 → ⊥) → told a n out ≡ stepTold at n r (length lent)
+    refuses-state e u = said 1 n e ∙ sym (told-unfit at n r (length lent) u)
 
-      module _ (clean : firstOf (faults at r) ≡ 0) (kind : ℕ) (known : kind ≡ kindOf r) where
-        pub opens : a ≡ answer 0 0 0 → kind ≡ 4 → (left : Night) → left ≡ night (take (length r - 4) (drop 4 r)) (n .memory)
-            → told a left out ≡ stepTold at n r room
-        opens e four left w =
-            said 0 left e ∙ ap (numberAlone room 0) (w ∙ ap (λ (o : List ℕ). night o (n .memory)) (body-is at r clean))
-            ∙ sym (told-opens at n r room fit wide clean (sym known ∙ four))
+    module _ (fit : length (n .opening) ≡ 102) where
+      pub refuses-output : a ≡ answer 1 0 0 → (length lent ≡ 2464 → ⊥) → told a n out ≡ stepTold at n r (length lent)
+      refuses-output e u = said 1 n e ∙ sym (told-cramped at n r (length lent) fit u)
+
+      module _ (wide : length lent ≡ 2464) where
+        pub refuses-record : (k : ℕ) → a ≡ answer k 0 0 → k ≡ firstOf (faults at r) → (k ≡ 0 → ⊥) → told a n out ≡ stepTold at n r (length lent)
+        refuses-record k e f u =
+            said k n e ∙ ap (λ (j : ℕ). numberAlone (length lent) j n) f ∙ sym (told-bad at n r (length lent) fit wide (omega (arith, f, u)))
+
+        module _ (clean : firstOf (faults at r) ≡ 0) (kind : ℕ) (known : kind ≡ kindOf r) where
+          pub opens : a ≡ answer 0 0 0 → kind ≡ 4 → (left : Night) → left ≡ night (take (length r - 4) (drop 4 r)) (n .memory)
+              → told a left out ≡ stepTold at n r (length lent)
+          opens e four left w =
+              said 0 left e ∙ ap (numberAlone (length lent) 0) (w ∙ ap (λ (o : List ℕ). night o (n .memory)) (body-is at r clean))
+              ∙ sym (told-opens at n r (length lent) fit wide clean (sym known ∙ four))
 
 -- a call
 module _ (at : ℕ) (n : Night) (r : List ℕ) (room : ℕ) (fit : length (n .opening) ≡ 102) (wide : room ≡ 2464)

@@ -2,13 +2,13 @@
 use mathlib.Core.Path.{_≡_, sym, ap, _∙_}
 use Prim.Native.Nat.{_≤_}
 use native.Mathlib.Omega.{arith}
-use lib.ListN.{length, replicate}
+use lib.ListN.{length}
 use Rattle.refusal.specs.Table.{firstOf}
 use Rattle.trace.specs.Fault.{faults}
 use Rattle.night.specs.Step.{nightIn, stateLen}
 use Rattle.trace.proofs.FaultLaws.{good-record}
 use Rattle.night.proofs.CallLaws.{opening-unfit, opening-fits, opening-back}
-use Rattle.night.proofs.ToldLaws.{cleared, refuses-state, refuses-output, refuses-record, body-fits, opening-length, opens, makes}
+use Rattle.night.proofs.ToldLaws.{zeros-enough, refuses-state, refuses-output, refuses-record, body-fits, opening-length, opens, makes}
 use borrow.Author.Needs.{needs}
 use Rattle.night.proofs.step_told.Statement.{statement}
 use Rattle.night.proofs.step_told.Tie as tie
@@ -45,7 +45,7 @@ returns : tie.Need-returns
 returns c =
     let clear = c .before .before .before .before in
     let a = clear .before .before .before .before .before .args in
-    refuses-state (a .at) (nightIn (a .state .now)) (a .piece .now) (length (a .output .now)) _ _ (clear .clear .ensures ∙ cleared (a .output .now))
+    refuses-state (a .output .now) _ (clear .clear .ensures) (a .at) (nightIn (a .state .now)) (a .piece .now) _
     (c .number-alone .ensures) (opening-unfit (a .state .now) (c .before .if1 .taken))
 
 number-alone-requires-2 : tie.Need-number-alone-requires-2
@@ -58,7 +58,7 @@ returns-2 : tie.Need-returns-2
 returns-2 c =
     let clear = c .before .before .before .before .before in
     let a = clear .before .before .before .before .before .args in
-    refuses-output (a .at) (nightIn (a .state .now)) (a .piece .now) (length (a .output .now)) _ _ (clear .clear .ensures ∙ cleared (a .output .now))
+    refuses-output (a .output .now) _ (clear .clear .ensures) (a .at) (nightIn (a .state .now)) (a .piece .now) _
     (opening-fits (a .state .now) (c .before .before .if1 .left)) (c .number-alone2 .ensures) (c .before .if2 .taken)
 
 fault-of-requires : tie.Need-fault-of-requires
@@ -74,7 +74,7 @@ returns-3 : tie.Need-returns-3
 returns-3 c =
     let clear = c .before .before .before .before .before .before .before in
     let a = clear .before .before .before .before .before .args in
-    refuses-record (a .at) (nightIn (a .state .now)) (a .piece .now) (length (a .output .now)) _ _ (clear .clear .ensures ∙ cleared (a .output .now))
+    refuses-record (a .output .now) _ (clear .clear .ensures) (a .at) (nightIn (a .state .now)) (a .piece .now) _
     (opening-fits (a .state .now) (c .before .before .before .before .if1 .left)) (c .before .before .before .if2 .left) _ (c .number-alone3 .ensures)
     (c .before .before .fault-of .ensures) (c .before .if3 .taken)
 
@@ -115,7 +115,7 @@ returns-4 c =
     let a = lent i .args in
     let n = nightIn (a .state .now) in
     let known = then4 .before .read-u16-le .ensures in
-    opens (a .at) n (a .piece .now) (length (a .output .now)) _ _ (clear .clear .ensures ∙ cleared (a .output .now)) (fits-so i) (wide i) (clean i) _ known
+    opens (a .output .now) _ (clear .clear .ensures) (a .at) n (a .piece .now) _ (fits-so i) (wide i) (clean i) _ known
     (c .number-alone4 .ensures) (then4 .if4 .taken) _
     (ap nightIn (c .before .before .before .copy-to .ensures)
     ∙ opening-back (a .state .now) (fit i) _ (opening-length (a .at) (a .piece .now) (clean i) _ known (then4 .if4 .taken)))
@@ -132,13 +132,10 @@ part-make-end c = search needs
 make-requires : tie.Need-make-requires
 make-requires c κs =
     let i = c .before .before .before .before .before in
-    let a = lent i .args in (
-      fit i,
-      (
-        body-fits (a .at) (a .piece .now) (clean i) _ (c .before .before .before .before .read-u16-le .ensures),
-        i .before .before .before .before .before .before .clear .ensures ∙ cleared (a .output .now) ∙ ap (λ k. replicate k 0) (wide i),
-      ),
-    )
+    let clear = i .before .before .before .before .before .before in
+    let a = lent i .args in
+    let whole = body-fits (a .at) (a .piece .now) (clean i) _ (c .before .before .before .before .read-u16-le .ensures) in
+    (fit i, (whole, zeros-enough (a .output .now) _ (clear .clear .ensures) (wide i)))
 
 same-length-6 : tie.Need-same-length-6
 same-length-6 c = search needs

@@ -13,6 +13,7 @@ compare = $(COMPARE) $(MODEL)
 carry = readings fence calling model_readings $(MODEL)
 nights = nights model_night $(MODEL)
 named = named model_named model lent
+model_asked = model_asked model_night model_readings model lent
 settings = settings
 recorded = recorded calling lent
 abi = abi calling lent
@@ -23,7 +24,7 @@ hill = hill
 
 # for x86-64, with the archive; and by the model alone, for this machine: by gcc under the sanitizers, and by clang
 ON_ARCHIVE = compare carry settings recorded abi shortest host first hill
-ALONE = compare carry nights named
+ALONE = compare carry nights named model_asked
 
 .SECONDARY:
 .SECONDEXPANSION:

@@ -9,6 +9,7 @@
  * own record". What a record says is lent from a copy of its body. */
 struct night {
     bool begun;
+    struct model_answer answer; /* of the last call */
     uint8_t own[RECORD_LEN], cpas[3], cache[64 * RECORD_LEN], waiting[WAITING_LEN], output[OUTPUT_LEN], body[65536];
     struct lent lent;
 };
@@ -77,6 +78,7 @@ static void begin(struct night *n, const uint8_t *body)
     n->lent.output = as_room(n->output, sizeof n->output);
 }
 
+/* Its number; the whole answer is kept. */
 static uint32_t call(struct night *n, unsigned kind, struct bytes body)
 {
     struct lent *l = &n->lent;
@@ -88,20 +90,36 @@ static uint32_t call(struct night *n, unsigned kind, struct bytes body)
         l->key = as_room(b + 5, KEY_LEN);
         l->nonce = as_room(b + 37, NONCE_LEN);
         l->datagram = as_room(b + 53, body.len - 53);
-        return model_receive(l).number;
+        n->answer = model_receive(l);
+        return n->answer.number;
     }
     if (kind == 2) {
         l->id = four(b);
         l->neighbour = as_room(b + 4, KEY_LEN);
         l->key = as_room(b + 36, KEY_LEN);
-        return model_send(l).number;
+        n->answer = model_send(l);
+        return n->answer.number;
     }
-    return model_tick(l).number;
+    n->answer = model_tick(l);
+    return n->answer.number;
+}
+
+/* Who only reads the lines watches nothing, and who watches reads no line. */
+static void show(model_watcher *watcher, void *to, const struct night *n, struct model_seen seen)
+{
+    seen.lent = &n->lent;
+    if (watcher != NULL)
+        watcher(to, &seen);
+}
+
+static void no_line(void *to, uint32_t number, uint32_t answer)
+{
+    (void)to, (void)number, (void)answer;
 }
 
 /* 02: "writes for each later record its number from 1, a space and the answer"; a refusal "is written as that record's line, the replay stops there
  * with the state so far, a bad first record has line number 0, an empty trace gives "0 17"". */
-void model_replay(struct bytes trace, model_line *line, void *to)
+static void replay(struct bytes trace, model_line *line, model_watcher *watcher, void *to)
 {
     struct night n;
     uint32_t number = 0;
@@ -112,6 +130,7 @@ void model_replay(struct bytes trace, model_line *line, void *to)
         uint32_t bad = fault(trace, n.begun);
         if (bad != 0) {
             line(to, number, bad);
+            show(watcher, to, &n, (struct model_seen){number, 0, {bad, 0, 0}, NULL});
             return;
         }
         struct bytes body = part(trace.at + 4, two(trace.at) - 2);
@@ -119,7 +138,18 @@ void model_replay(struct bytes trace, model_line *line, void *to)
             line(to, number, call(&n, two(trace.at + 2), body));
         else
             begin(&n, body.at);
+        show(watcher, to, &n, (struct model_seen){number, two(trace.at + 2), n.answer, NULL});
         number++;
         trace = part(body.at + body.len, trace.len - body.len - 4);
     }
+}
+
+void model_replay(struct bytes trace, model_line *line, void *to)
+{
+    replay(trace, line, NULL, to);
+}
+
+void model_watch(struct bytes trace, model_watcher *watcher, void *to)
+{
+    replay(trace, no_line, watcher, to);
 }

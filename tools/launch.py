@@ -1,4 +1,4 @@
-"""Runs a program of the house as a keeper does: bin/replay, bin/shown, bin/ponds, bin/convert, bin/why and bin/nights all come here.
+"""Runs a program of the house as a keeper does: bin/replay, bin/shown, bin/ponds, bin/convert, bin/why, bin/nights and bin/asked all come here.
 
     launch NAME [WORDS..]
 
@@ -11,7 +11,8 @@ launcher, which so sees what can't be read or written, and gives a status, as a 
     2  a file that can't be read, an output that can't be written, a wrong use
 
 It goes by the lines that the program writes (WATCHERS) and by what comes on descriptor 2. Names are made ready here (tools/names.py). A conversion of
-saved memory changes files, which tools/conversion.py does. Nights are joined by tools/nights.py, without a program.
+saved memory changes files, which tools/conversion.py does. Nights are joined by tools/nights.py, without a program. What the nights of several gauges have
+of one pond is put together by tools/asked.py.
 """
 import hashlib
 import os
@@ -24,6 +25,7 @@ import sys
 import threading
 
 sys.dont_write_bytecode = True
+import asked
 import conversion
 import layers
 import names
@@ -66,6 +68,23 @@ READINGS   readings packed as in document 02's request 7 (docs/MEMORY.md), one b
 
 %s
 """ % (NAMES, STATUS % ("for readings that were all taken", "where one was refused or cut short")),
+    "asked": """%s
+
+Answers the auditor's two questions for one pond, over the nights of one or several gauges: who answered for it, when, and after whose message; to whom
+was it named, and why? Or what was tried, where nobody answered; and what these nights can't tell. Each sentence has the night and the record that it
+rests on.
+
+POND    a pond's name, its key of 64 hexadecimal digits, or how its key begins, if no other among the names begins so
+%s;
+        - for none
+NIGHT   %s;
+        beside it, with .hours in place of .trace, the second file, if there is one
+
+--all     every item, and not the first and the last alone
+--plain   the facts, a line each, for programs (tools/asked.py has their form)
+
+%s
+""" % (asked.USE, NAMES, NIGHT, STATUS % ("where all nights are whole", "where one is damaged, cut short or refused, or its answers were others that night")),
     "convert": """bin/convert OWN CACHE [WAITING]
 
 Turns saved memory of the time when a record could have four addresses into the form of one (docs/MEMORY.md): each record keeps its first. A file is
@@ -225,7 +244,7 @@ def opened(path, what):
 
 def ready_names(path, name):
     try:
-        return names.ready(opened(path, "names"), path, name, keyed=name == "shown")
+        return names.ready(opened(path, "names"), path, name, keyed=name in ("shown", "asked"))
     except OSError as error:
         raise Fault("%s can't be read: %s" % (path, error.strerror))
 
@@ -401,6 +420,18 @@ def put_pieces(pieces):
         raise Fault("standard output can't be written (%s): this is not all" % error.strerror)
 
 
+def asked_of(words):
+    """One pond over several nights, by tools/asked.py."""
+    def made():
+        os.chdir(ROOT)
+        build("told")
+
+    try:
+        return asked.answer(words, os.path.realpath(ROOT), made, lambda path: ready_names(path, "asked"), put_pieces)
+    except asked.Wrong as wrong:
+        raise Fault(wrong)
+
+
 def main(name, words):
     readable = set_up()
     if name not in HELP:
@@ -410,6 +441,8 @@ def main(name, words):
         return 0
     if name == "nights":
         return joined(words)
+    if name == "asked":
+        return asked_of(words)
     if words[:1] == ["--"]:
         words = words[1:]
     elif words and words[0].startswith("-") and words[0] != "-":

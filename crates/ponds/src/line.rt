@@ -1,7 +1,7 @@
 // The line of a reading.
-use crate::balance;
-use crate::depth;
 use crate::names;
+use amounts::balance;
+use amounts::depth;
 use readings::Measured;
 use readings::Reading;
 use readings::Unpacked;
@@ -23,7 +23,7 @@ fn put_measured(line: &mut [u8], at: usize, measured: Measured) -> usize {
 
 fn put_cell(cell: &mut [u8], measured: Measured) -> usize {
     match measured {
-        Measured::Depth(depth) => depth::put(cell, 0, readings::bits_of(depth)),
+        Measured::Depth(depth) => depth::put(cell, 0, readings::bits_of(depth), 2),
         Measured::Fault(fault) => text::put_number(cell, 0, b"fault ", fault as u64),
     }
 }

@@ -3,8 +3,6 @@
 // descriptor 3 (names.rt), which need not be open.
 //
 // What a reading is, which are refused and what a balance is, is said by crate `readings`.
-mod balance;
-mod depth;
 mod input;
 mod line;
 mod names;

@@ -1,6 +1,6 @@
 // What the readings add up to.
-use crate::balance;
 use crate::line;
+use amounts::balance;
 use readings::Reading;
 use readings::Unpacked;
 

@@ -1,5 +1,5 @@
 // A line of text, put together in a slice and written at once. Each function that puts something answers where it
-// ends; what finds no room is left out. Used by the programs `shown` and `ponds`.
+// ends; what finds no room is left out. Used by the programs `shown`, `told` and `ponds`.
 
 // The part of a slice, empty where it does not lie within.
 pub fn part(s: &[u8], start: usize, end: usize) -> &[u8] {
@@ -75,9 +75,13 @@ fn row_end(rows: &[u8], start: usize) -> usize {
 }
 
 // A row of a table. One literal is far cheaper to prove than a `match` with one in each arm.
-pub fn put_row(line: &mut [u8], at: usize, rows: &[u8], number: u64) -> usize {
+pub fn row(rows: &[u8], number: u64) -> &[u8] {
     let start = row_start(rows, number);
-    put(line, at, part(rows, start, row_end(rows, start)))
+    part(rows, start, row_end(rows, start))
+}
+
+pub fn put_row(line: &mut [u8], at: usize, rows: &[u8], number: u64) -> usize {
+    put(line, at, row(rows, number))
 }
 
 pub fn number(line: &mut [u8], at: usize, n: u64) -> usize {
@@ -102,6 +106,20 @@ pub fn digits(line: &mut [u8], at: usize, n: u64) -> usize {
     let mut digits = [0u8; 16];
     let count = io::hex(n, 8, &mut digits);
     put(line, at, &digits[..count])
+}
+
+// Two digits for each of 32 bytes at most.
+pub fn hex(line: &mut [u8], at: usize, s: &[u8]) -> usize {
+    if 32 < s.len() {
+        return at;
+    }
+    if line.len() < 64 {
+        return at;
+    }
+    if line.len() - 64 < at {
+        return at;
+    }
+    digits::put_hex(line, at, s)
 }
 
 // How many characters: of a character's bytes in UTF-8 only the first counts.

@@ -22,24 +22,18 @@ fn put_signed(line: &mut [u8], at: usize, deficit: bool, litres: u64, width: usi
     end
 }
 
-pub(crate) fn is_deficit(inflow: u32, outflow: u32) -> bool {
+pub fn is_deficit(inflow: u32, outflow: u32) -> bool {
     readings::balance(inflow, outflow) < 0
 }
 
 // Of a reading.
-pub(crate) fn put(line: &mut [u8], at: usize, inflow: u32, outflow: u32, width: usize) -> usize {
+pub fn put(line: &mut [u8], at: usize, inflow: u32, outflow: u32, width: usize) -> usize {
     let litres = readings::magnitude(readings::balance(inflow, outflow));
     put_signed(line, at, is_deficit(inflow, outflow), litres, width)
 }
 
 // Of all readings: a difference of sums may have 65 bits with its sign.
-pub(crate) fn put_all(
-    line: &mut [u8],
-    at: usize,
-    inflow: u64,
-    outflow: u64,
-    width: usize,
-) -> usize {
+pub fn put_all(line: &mut [u8], at: usize, inflow: u64, outflow: u64, width: usize) -> usize {
     if inflow < outflow {
         return put_signed(line, at, true, outflow - inflow, width);
     }

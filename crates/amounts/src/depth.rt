@@ -38,10 +38,11 @@ fn put_three(line: &mut [u8], at: usize, n: u64) -> usize {
     text::put(line, at, text::part(&digits[..count], 1, 4))
 }
 
-// The depth of these bits, which are those of an allowed one. Negative zero is 0.000.
-pub(crate) fn put(line: &mut [u8], at: usize, bits: u32) -> usize {
+// The depth of these bits, which are those of an allowed one, with the whole metres at the right end of a column. Negative zero
+// is 0.000.
+pub fn put(line: &mut [u8], at: usize, bits: u32, width: usize) -> usize {
     let millimetres = nearest(parts(bits));
-    let a = text::column(line, at, millimetres / 1000, 2);
+    let a = text::column(line, at, millimetres / 1000, width);
     let b = text::put(line, a, b".");
     put_three(line, b, millimetres)
 }

@@ -42,14 +42,17 @@ class Night(model.Gauge):
     def __init__(self, body):
         super().__init__(body[2:], bytes(100 * C), cpas=CPAS, major=body[0], minor=body[1])
 
-    def call(self, kind, body):
+    def whole(self, kind, body):
+        """Number, first, second and what was written."""
         identity, output = int.from_bytes(body[:4], "little"), bytes(OUTPUT)
         if kind == 1:
-            lent = model.Lent(identity, nonce=body[37:53], verdict=body[4], key=body[5:37], datagram=body[53:])
-            return self.receive(lent, output)[0]
+            return self.receive(model.Lent(identity, nonce=body[37:53], verdict=body[4], key=body[5:37], datagram=body[53:]), output)
         if kind == 2:
-            return self.send(model.Lent(identity, neighbour=body[4:36], key=body[36:68]), output)[0]
-        return self.tick(output)[0]
+            return self.send(model.Lent(identity, neighbour=body[4:36], key=body[36:68]), output)
+        return self.tick(output)
+
+    def call(self, kind, body):
+        return self.whole(kind, body)[0]
 
 
 # 02: "each is written as that record's line, the replay stops there with the state so far, a bad first record has line number 0, an empty trace

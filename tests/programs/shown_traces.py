@@ -5,6 +5,7 @@ Each trace of known answers says them beside its records, and they are held agai
 if not __debug__:
     raise SystemExit("shown_traces.py: run it without -O and PYTHONOPTIMIZE, which leave its asserts out")
 import random
+import struct
 
 import with_models
 import model
@@ -44,6 +45,16 @@ def message(kind, identity, **named):
 
 def flood(identity, record, validate=100):
     return message("flood", identity, validate=key(validate), route=model.entry_of(record, 6, 101))
+
+
+def carrying(identity, acked, payload):
+    return message("authority", identity, acked=acked, cpa=b"C", payload=payload)
+
+
+# Document 02, request 7: a depth and a fault, packed; and three that are refused, of wrong length, of an unknown kind, deeper than 20 metres.
+PAYLOADS = [struct.pack("<HHfII", 14, 1, 1.25, 3, 4), struct.pack("<HHHII", 12, 2, 705, 400, 200), struct.pack("<HHfII", 14, 1, 20.0, 2 ** 32 - 1, 0),
+            struct.pack("<HHfII", 14, 1, 0.0005, 7, 7), struct.pack("<HHfII", 13, 1, 1.25, 3, 4), struct.pack("<HHfII", 14, 3, 1.25, 3, 4),
+            struct.pack("<HHfII", 14, 1, 20.5, 3, 4), b""]
 
 
 def revocation(identity):
@@ -306,8 +317,71 @@ def worked_names():
     return b"\n".join(lines)
 
 
-def traces():
-    """Name, trace and names, or None for no names at all."""
+# What the auditor asks after: LOOKUPs named for each reason; AUTHORITYs after a FLOOD and after a LOOKUP, with readings of every kind; inquiries that
+# nobody answered, one of them revoked; an ID that waits again; a neighbour that is not there any more.
+def auditor_trace():
+    own = gauge_record(100)
+    calls = [receive(1, lookup(2, 7))]  # only
+    for i, payload in enumerate(PAYLOADS):
+        told = gauge_record(90 + i, 5090 + i)
+        asks = flood(500 + i, told) if i % 2 else lookup(500 + i, 7, told)
+        calls += [receive(600 + 10 * i, asks), TICK, receive(5, carrying(700 + i, 601 + 10 * i, payload), 1, told[:32])]
+    calls += [receive(3, lookup(800 + n, target)) for n, target in enumerate((95, 99, 98, 200, 2 ** 255 + 98))]
+    calls += [receive(6, flood(10, gauge_record(120))), receive(8, flood(11, gauge_record(121))), TICK, receive(20, revocation(12), 1, key(121)), TICK, TICK, TICK]
+    calls += [receive(6, lookup(13, 1, gauge_record(122))), receive(9, authority(14, 7), 1, key(122)), send(30, 97, 100), send(31, 96, 95), TICK]
+    calls += [receive(1, message("ack", 15, acked=30, n=True)), receive(1, message("ack", 16, acked=31)), receive(1, revocation(17), 1, key(90))]
+    calls += [receive(40, flood(18, gauge_record(97 + n, 9))) for n in (0, 1)] + [receive(50, authority(19, 41), 1, key(97)), receive(50, authority(20, 41), 1, key(97))]
+    return opening(own) + b"".join(calls)
+
+
+# The second file: a row for each record, by the answers that the model gives.
+def hours_of(data, chance):
+    """An hour that goes on, an endpoint that is another each time, and the answer; zeros where a tick has no endpoint."""
+    rows, night, at, ms = [], None, 0, chance.randrange(4 * 10 ** 12)
+    while at < len(data):
+        record = model_night.taken(data, at)
+        good = record is not None and model_night.fault(record[0], record[1], night is not None) == 0
+        kind, body, at = record if good else (0, b"", len(data))
+        answer = (0, 0, 0) if kind == 4 else (16, 0, 0)
+        if kind == 4:
+            night = model_night.Night(body)
+        elif good:
+            answer = night.whole(kind, body)[:3]
+        ms += chance.choice([0, 1, 999, 1000, 86400000, 40 * 86400000])
+        endpoint = bytes(18) if kind == 3 or chance.random() < 0.1 else chance.randbytes(4) + bytes(12) + chance.randbytes(2)
+        rows.append(struct.pack("<Q", ms if chance.random() < 0.95 else 0) + endpoint + struct.pack("<III", *answer) + bytes(2))
+    return rows
+
+
+# Nights with a second file: it agrees, differs, is short, long, cut, odd, or there is no night.
+def hours_of_nights():
+    chance = random.Random(34)
+    yield "auditor", auditor_trace(), None
+    for seed in range(6):
+        data = auditor_trace() if seed == 0 else random_trace(100 + seed, 300)
+        rows = hours_of(data, chance)
+        yield "hours_%d" % seed, data, b"".join(rows)
+        other = [row[:26 + 4 * (n % 3)] + struct.pack("<I", chance.choice([0, 8, 20])) + row[30 + 4 * (n % 3):] if chance.random() < 0.3 else row
+                 for n, row in enumerate(rows)]
+        yield "hours_differ_%d" % seed, data, b"".join(other)
+    whole = b"".join(rows)
+    yield "hours_short", data, whole[:-40]
+    yield "hours_three", data, whole[:120]
+    yield "hours_long", data, whole + whole[:80]
+    yield "hours_cut", data, whole[:-1]
+    yield "hours_cut_behind", data, whole + whole[:7]
+    yield "hours_odd", data, whole[:158] + b"\1" + whole[159:]
+    yield "hours_odd_first", data, whole[:39] + b"\1" + whole[40:]
+    yield "hours_of_no_night", b"", whole[:40]
+    yield "hours_of_a_bad_night", put(9, b""), whole[:40]
+    yield "hours_of_the_opening", opening(gauge_record(100)), whole[:40]
+    for ms in (1, 951782399999, 951782400000, 951868800000, 1709164800000, 4107542399999, 4107542400000, 253402300799999, 253402300800000, 2 ** 64 - 1):
+        row = struct.pack("<Q", ms) + bytes(range(1, 19)) + bytes(14)
+        yield "hours_at_%d" % ms, opening(gauge_record(100)) + receive(1, b""), row + row
+
+
+def traces(nights=8):
+    """Name, trace and names, or None for no names at all; so many random nights among them."""
     yield "worked", worked_trace(), worked_names()
     yield "worked_without_names", worked_trace(), None
     yield "names_to_the_brim", worked_trace(), b"#" * 65000 + b"\n" + worked_names() + b"\n" + b"x" * 9000
@@ -318,5 +392,13 @@ def traces():
     yield "address", address_trace(), worked_names()
     for name, data in {**bad_traces(), **formless_traces()}.items():
         yield name, data, None
-    for seed in range(8):
+    for seed in range(nights):
         yield "random_%d" % seed, random_trace(seed, 500), worked_names()
+
+
+def all_traces():
+    """Name, trace, names or None, second file or None."""
+    for name, data, names in traces():
+        yield name, data, names, None
+    for name, data, hours in hours_of_nights():
+        yield name, data, worked_names(), hours

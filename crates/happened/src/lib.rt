@@ -16,14 +16,11 @@ use gauge_commit::Answer;
 use look::Look;
 pub use memory::SIZE;
 use memory::byte;
-pub use memory::gather;
 pub use walk::Rows;
 pub use walk::Walked;
 pub use walk::begun;
-pub use walk::behind;
 pub use walk::is_last;
-pub use walk::is_same;
-pub use walk::next_row;
+pub use walk::next;
 pub use walk::say_end;
 
 // The record that opens the night: versions and own record.

@@ -10,13 +10,21 @@ pub(crate) const RECORD: usize = 19886;
 
 pub const SIZE: usize = 85423;
 
-// All of it, put there: the record behind the rest, as its length may be any.
-pub fn gather(m: &mut [u8], before: &[u8], state: &[u8], output: &[u8], row: &[u8], record: &[u8]) {
+// All of it, put there: the record, of so many bytes of its room, behind the rest, as its length may be any.
+pub(crate) fn gather(
+    m: &mut [u8],
+    before: &[u8],
+    state: &[u8],
+    output: &[u8],
+    row: &[u8],
+    room: &[u8],
+    len: usize,
+) {
     text::put(m, 0, before);
     text::put(m, NOW, state);
     text::put(m, OUTPUT, output);
     text::put(m, ROW, row);
-    text::put(m, RECORD, record);
+    text::put(m, RECORD, text::part(room, 0, len));
 }
 
 pub(crate) fn wide(n: u32) -> usize {

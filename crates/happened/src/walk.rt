@@ -2,6 +2,7 @@
 // input, in the form of document 02's request 1; rows are read at file descriptor 4, 40 bytes for each record, of which the last
 // two are zero.
 use crate::kinds;
+use crate::memory;
 use facts::say_numbers;
 use gauge_commit::Answer;
 use std::num::wrapping_add_u64;
@@ -79,7 +80,7 @@ fn taken(rows: Rows, got: usize, last: u16) -> Rows {
 }
 
 // The next row, if there is one; beside a trace that has ended none is read.
-pub fn next_row(rows: Rows, len: usize, row: &mut [u8]) -> Rows {
+fn next_row(rows: Rows, len: usize, row: &mut [u8]) -> Rows {
     if rows.over | (len == 0) {
         return Rows {
             count: rows.count,
@@ -108,7 +109,7 @@ fn is_accepted(at: u64, number: u32) -> bool {
 }
 
 // Does a row of the second file tell this answer?
-pub fn is_same(row: &[u8], answer: Answer) -> bool {
+fn is_same(row: &[u8], answer: Answer) -> bool {
     if row.len() != 40 {
         return false;
     }
@@ -131,7 +132,7 @@ fn at_end(w: Walked, rows: Rows) -> Walked {
 }
 
 // What is known behind record number `at`, of so many bytes and of a kind, with its answer and its row.
-pub fn behind(
+fn behind(
     w: Walked,
     at: u64,
     len: usize,
@@ -153,6 +154,57 @@ pub fn behind(
         others: one_more(w.others, rows.here & !same & (at != 0)),
         rows,
     }
+}
+
+// The bytes of a record, and what its call has answered.
+struct Called {
+    len: usize,
+    answer: Answer,
+}
+
+// The next record, and the tables as they are before its call.
+fn load(room: &mut [u8], before: &mut [u8], state: &[u8]) -> usize {
+    text::put(before, 0, text::part(state, 0, night::TABLES));
+    trace::next_record(room)
+}
+
+// Its call is made.
+fn call(
+    at: u64,
+    room: &mut [u8],
+    state: &mut [u8],
+    before: &mut [u8],
+    output: &mut [u8],
+) -> Called {
+    let len = load(room, before, state);
+    let answer = night::step_told(at, state, text::part(room, 0, len), output);
+    Called { len, answer }
+}
+
+// What is known behind its call, with its row.
+fn came(w: Walked, at: u64, called: Called, kind: u8, row: &mut [u8]) -> Walked {
+    let so_far = w.rows;
+    let len = called.len;
+    let answer = called.answer;
+    let rows = next_row(so_far, len, row);
+    behind(w, at, len, kind, answer, rows, is_same(row, answer))
+}
+
+// Record number `at`, if there is one: its call is made, its row read, and all that is known then put into `m`.
+pub fn next(
+    w: Walked,
+    at: u64,
+    room: &mut [u8],
+    state: &mut [u8],
+    before: &mut [u8],
+    output: &mut [u8],
+    row: &mut [u8],
+    m: &mut [u8],
+) -> Walked {
+    let called = call(at, room, state, before, output);
+    let now = came(w, at, called, memory::byte(room, 2), row);
+    memory::gather(m, before, state, output, row, room, now.len);
+    now
 }
 
 // Was this the last, as the trace has ended or a record is bad?

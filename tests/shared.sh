@@ -21,10 +21,11 @@ run_alone() { # PROGRAM SEED
     fault 'the model by itself is stopped by a sanitizer'
 }
 
-# A program of the repository is proved and built, and writes what its file `stdout` has. Descriptor 3, at which `shown` reads names, is closed.
+# A program of the repository is proved and built, and writes what its file `stdout` has. Descriptors 3 and 4, at which `shown` reads names and hours,
+# are closed.
 proved() { # NAME
     mkdir -p target/tests
-    rt check "$1" 3<&- >"target/tests/$1.log" 2>&1 && return
+    rt check "$1" 3<&- 4<&- >"target/tests/$1.log" 2>&1 && return
     tail -n 20 "target/tests/$1.log"
     fault "$1 is not proved, or wrote something else than crates/$1/stdout"
 }

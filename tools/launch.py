@@ -5,9 +5,11 @@
 The program is proved and built first where what it is made of has changed (tools/prove tells how far that is). Its input and output go through this
 launcher, which so sees what can't be read or written, and gives a status, as a program itself has none:
 
-    0  a whole night; readings that were all taken; memory that was converted; a record that is named; nights that were joined
-    1  a night that is damaged, cut short, or refused from its first call on; a reading that was refused; memory that is not in the old form; a
-       refusal where a record was to be named; nights that are not whole, or not of one gauge
+    0  a whole night, whose answers are those of that night where they are known; readings that were all taken; memory that was converted; a record
+       that is named; nights that were joined
+    1  a night that is damaged, cut short, or refused from its first call on, or with an answer that is another than that night's, or whose second file
+       does not fit; a reading that was refused; memory that is not in the old form; a refusal where a record was to be named; nights that are not whole,
+       or not of one gauge
     2  a file that can't be read, an output that can't be written, a wrong use
 
 It goes by the lines that the program writes (WATCHERS) and by what comes on descriptor 2. Names are made ready here (tools/names.py). A conversion of
@@ -37,6 +39,8 @@ NIGHT = "a recorded night, a file in the form of document 02's request 1 (includ
 STATUS = """It ends with 0 %s, 1 %s,
 2 for a file that can't be read, an output that can't be written or a wrong use."""
 OF_NIGHT = STATUS % ("for a whole night", "for one that is damaged, cut short or refused from its first call on")
+HOURS = """HOURS   the second file of the night (include/gauge_trace.h writes it): a row of 40 bytes for each record, with hour, sender or receiver, and the answer
+        that was given; where it is left out, the file beside TRACE with the ending .hours for .trace, if there is one; none where it is -"""
 NAMES = """NAMES   a text file: each line a key of 64 hexadecimal digits, a space, tab or comma, and the name of its pond"""
 
 HELP = {
@@ -49,15 +53,18 @@ TRACE   %s; standard input where it is left out or -
 
 %s
 """ % (NIGHT, OF_NIGHT),
-    "shown": """bin/shown [TRACE [NAMES]]
+    "shown": """bin/shown [TRACE [NAMES [HOURS]]]
+bin/shown --plain [TRACE [HOURS]]
 
-Shows a recorded night in words: each call with its answer's meaning, what the gauge held at the end, how often each answer was given.
+Shows a recorded night in words: each call with its second and its answer's meaning, what it sent, whom it named and why, whom an AUTHORITY answered for,
+what the gauge held at the end, how often each answer was given. With --plain it writes plain lines for a program, one fact each.
 
 TRACE   %s; standard input where it is left out or -
+%s; none where it is -
 %s
 
 %s
-""" % (NIGHT, NAMES, OF_NIGHT),
+""" % (NIGHT, NAMES, HOURS, STATUS % ("for a whole night", "for one that is damaged, cut short or refused from its first call on, with an\nanswer that is another than that night's, or with a second file that does not fit")),
     "ponds": """bin/ponds [READINGS [NAMES]]
 
 Lists packed readings of ponds: each with its depth or fault, its litres in and out and the balance, or why it is refused; then the sums.
@@ -122,7 +129,7 @@ NIGHT   %s
 %s
 """ % (NIGHT, STATUS % ("where all were joined", "for a night that is damaged, cut short or another gauge's")),
 }
-MOST_WORDS = {"replay": 1, "shown": 2, "ponds": 2, "convert": 3, "why": 1}
+MOST_WORDS = {"replay": 1, "shown": 3, "ponds": 2, "convert": 3, "why": 1}
 
 
 class Fault(Exception):
@@ -154,17 +161,34 @@ class Replay:
 
 
 class Shown:
-    """Its last line says so where the night is not whole."""
+    """Its last line says so where the night is not whole; a line of its own, that an answer is another than that night's, or that the rows do not fit."""
     ENDS = ("This night ends in the middle", "This night has no call that was accepted", "The trace does not open with a gauge's own record")
+    OTHER = ("Answers that are not those of that night: ", "The second file does not fit")
 
     def __init__(self):
-        self.last = ""
+        self.last, self.other = "", False
 
     def line(self, text):
+        self.other = self.other or text.startswith(self.OTHER)
         self.last = text
 
     def verdict(self):
-        return int(self.last.startswith(self.ENDS)), None
+        return int(self.other or self.last.startswith(self.ENDS)), None
+
+
+class Told:
+    """Its last line says how the night ends; behind a record's line may stand the answer that was given."""
+
+    def __init__(self):
+        self.words, self.other = [], False
+
+    def line(self, text):
+        before, self.words = self.words, text.split(" ")
+        if self.words[0] == "hour" and before[:1] == ["record"]:
+            self.other = self.other or self.words[3:] != before[3:6]
+
+    def verdict(self):
+        return int(self.other or self.words != ["end", "whole"]), None
 
 
 class Ponds:
@@ -199,7 +223,7 @@ class Why:
         return int(self.word is not None), self.word
 
 
-WATCHERS = {"replay": Replay, "shown": Shown, "ponds": Ponds, "why": Why}
+WATCHERS = {"replay": Replay, "shown": Shown, "told": Told, "ponds": Ponds, "why": Why}
 
 
 # --- The program -------------------------------------------------------------------------------------------------------------
@@ -249,6 +273,18 @@ def ready_names(path, name):
         raise Fault("%s can't be read: %s" % (path, error.strerror))
 
 
+def hours_of(words):
+    """The second file of a night, whole: the third word, or beside the trace. None for none."""
+    path = words[2] if len(words) > 2 else re.sub(r"\.trace$", ".hours", words[0]) if words else "-"
+    if path == "-" or (len(words) < 3 and (path == words[0] or not os.path.exists(path))):
+        return None
+    try:
+        with os.fdopen(opened(path, "hours"), "rb") as file:
+            return file.read()
+    except OSError as error:
+        raise Fault("%s can't be read: %s" % (path, error.strerror))
+
+
 def is_open(descriptor):
     try:
         os.fstat(descriptor)
@@ -258,11 +294,12 @@ def is_open(descriptor):
 
 
 def set_up():
-    """Descriptors 0 to 3 are taken from the start on, so that no file gets one of these: 3 is for names."""
+    """Descriptors 0 to 4 are taken from the start on, so that no file gets one of these: 3 is for names, 4 for hours."""
     closed = [descriptor for descriptor in (0, 1, 2) if not is_open(descriptor)]
-    while os.open(os.devnull, os.O_RDWR) < 3:
+    while os.open(os.devnull, os.O_RDWR) < 4:
         pass
-    os.dup2(os.open(os.devnull, os.O_RDONLY), 3)
+    for descriptor in (3, 4):
+        os.dup2(os.open(os.devnull, os.O_RDONLY), descriptor)
     if 1 in closed:
         raise Fault("standard output can't be written: it is closed")
     return 0 not in closed
@@ -285,16 +322,15 @@ def input_of(name, words, readable):
 class Run:
     """The program, with what goes in and what comes out."""
 
-    def __init__(self, name, source, text):
+    def __init__(self, name, source, text, hours=None):
         self.name, self.source, self.watcher = name, source, WATCHERS[name]()
         self.unread = self.complained = None
-        keep = ()
-        if text is not None:
-            held = os.memfd_create("names")
-            os.write(held, text)
-            os.lseek(held, 0, os.SEEK_SET)
-            os.dup2(held, 3)
-            keep = (3,)
+        keep = [descriptor for descriptor, content in ((3, text), (4, hours)) if content is not None]
+        for descriptor, content in ((3, text), (4, hours)):
+            with os.fdopen(os.memfd_create("beside"), "w+b") as held:
+                held.write(content or b"")
+                held.seek(0)
+                os.dup2(held.fileno(), descriptor)
         self.child = subprocess.Popen(["tools/run", "target/bin/" + name], stdin=subprocess.PIPE, stdout=subprocess.PIPE, stderr=subprocess.PIPE,
                                       pass_fds=keep)
 
@@ -443,6 +479,9 @@ def main(name, words):
         return joined(words)
     if name == "asked":
         return asked_of(words)
+    program = name
+    if name == "shown" and words[:1] == ["--plain"]:  # its words are TRACE and HOURS: no names are told
+        program, words = "told", words[1:2] + (["-"] + words[2:] if len(words) > 2 else [])
     if words[:1] == ["--"]:
         words = words[1:]
     elif words and words[0].startswith("-") and words[0] != "-":
@@ -452,14 +491,20 @@ def main(name, words):
     if name == "convert":
         return converted(words)
     source = input_of(name, words, readable)
-    text = None
-    if len(words) > 1:
+    text = hours = None
+    if len(words) > 1 and (words[1] != "-" or name != "shown"):
         text = ready_names(words[1], name)
+    if name == "shown":
+        hours = hours_of(words)
     os.chdir(ROOT)
-    build(name)
+    build(program)
     if os.uname().machine != "x86_64" and not shutil.which("qemu-x86_64"):
         raise Fault("an emulator is missing: make tools installs it")
-    return Run(name, source, text).whole()
+    status = Run(program, source, text, hours).whole()
+    if hours == b"":
+        sys.stderr.write("shown: the second file is empty: it does not fit\n")
+        return max(status, 1)
+    return status
 
 
 if __name__ == "__main__":

@@ -46,7 +46,7 @@ fn put_call(
 
 pub(crate) fn say_heading() {
     text::tell(
-        b"Record  What it was                                                           Answer\n",
+        b"Record  Second  What it was                                                           Answer\n",
     );
 }
 
@@ -60,24 +60,30 @@ fn say_answer(line: &mut [u8], start: usize, end: usize, answer: u32) {
     text::say(line, c);
 }
 
-// The line of a record: its number, what it was, its answer.
+// The line of a record: its number, its second, what it was, its answer.
 pub(crate) fn say_call(
     line: &mut [u8],
     names: &[u8],
     at: u64,
+    second: u64,
     major: u8,
     answer: u32,
     call: &[u8],
 ) {
     let a = text::column(line, 0, at, 6);
-    let start = text::put(line, a, b"  ");
+    let b = text::column(line, a, second, 8);
+    let start = text::put(line, b, b"  ");
     let end = put_call(line, start, names, major, answer, call);
     say_answer(line, start, end, answer);
 }
 
-// The line of a trace without any record, in which the opening one is missing.
-pub(crate) fn say_none(line: &mut [u8]) {
-    let start = text::put(line, 0, b"     0  ");
-    let end = text::put(line, start, b"no record: the trace is empty");
-    say_answer(line, start, end, 17);
+// The line of an opening record that is bad, or missing, as there is no byte of it.
+pub(crate) fn say_bad(line: &mut [u8], answer: u32, len: usize) {
+    let start = text::put(line, 0, b"     0       0  ");
+    if len == 0 {
+        let none = text::put(line, start, b"no record: the trace is empty");
+        return say_answer(line, start, none, answer);
+    }
+    let end = text::put(line, start, b"a record that cannot be used");
+    say_answer(line, start, end, answer);
 }

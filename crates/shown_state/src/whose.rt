@@ -40,7 +40,11 @@ pub fn say_whose(line: &mut [u8], names: &[u8], opening: &[u8]) {
     let own = own_of(opening);
     say_own_key(line, names, own);
     say_versions(line, opening);
-    if record::is_record(own) {
+}
+
+// Whether its own record is as one must be.
+pub fn say_form(opening: &[u8]) {
+    if record::is_record(own_of(opening)) {
         return text::tell(b"\n");
     }
     text::tell(

@@ -7,11 +7,12 @@ use Rattle.shown.proofs.main.Statement.{statement}
 use Rattle.shown.proofs.main.Tie as tie
 
 abbrev Inv-loop : tie.InvT-loop
-Inv-loop line₀ names room₀ state₀ counts₀ len at₀ line room state counts at =
-    (512 ≡ length line) × (65537 ≡ length room) × (8742 ≡ length state)
+Inv-loop line₀ names room₀ state₀ before₀ output₀ row₀ m₀ counts₀ origins₀ len w₀ at₀ line room state before output row m counts origins w at =
+    (512 ≡ length line) × (65537 ≡ length room) × (8742 ≡ length state) × (8640 ≡ length before) × (2464 ≡ length output) × (40 ≡ length row)
+    × (85423 ≡ length m)
 
 abbrev μ-loop : tie.MeasureT-loop
-μ-loop line₀ names room₀ state₀ counts₀ len at₀ line room state counts at = 2 ^ 64 - at
+μ-loop line₀ names room₀ state₀ before₀ output₀ row₀ m₀ counts₀ origins₀ len w₀ at₀ line room state before output row m counts origins w at = 2 ^ 64 - at
 
 slice-aggregate-read-full : tie.Need-slice-aggregate-read-full Inv-loop μ-loop
 slice-aggregate-read-full c = search needs
@@ -19,8 +20,32 @@ slice-aggregate-read-full c = search needs
 read-full-requires : tie.Need-read-full-requires Inv-loop μ-loop
 read-full-requires c κs = search needs
 
+begun-requires : tie.Need-begun-requires Inv-loop μ-loop
+begun-requires c κs = tt
+
 loop-holds : tie.Need-loop-holds Inv-loop μ-loop
 loop-holds c = search needs
+
+slice-aggregate-next : tie.Need-slice-aggregate-next Inv-loop μ-loop
+slice-aggregate-next c = search needs
+
+slice-aggregate-next-2 : tie.Need-slice-aggregate-next-2 Inv-loop μ-loop
+slice-aggregate-next-2 c = search needs
+
+slice-aggregate-next-3 : tie.Need-slice-aggregate-next-3 Inv-loop μ-loop
+slice-aggregate-next-3 c = search needs
+
+slice-aggregate-next-4 : tie.Need-slice-aggregate-next-4 Inv-loop μ-loop
+slice-aggregate-next-4 c = search needs
+
+slice-aggregate-next-5 : tie.Need-slice-aggregate-next-5 Inv-loop μ-loop
+slice-aggregate-next-5 c = search needs
+
+slice-aggregate-next-6 : tie.Need-slice-aggregate-next-6 Inv-loop μ-loop
+slice-aggregate-next-6 c = search needs
+
+next-requires : tie.Need-next-requires Inv-loop μ-loop
+next-requires c κs = tt
 
 slice-aggregate-one : tie.Need-slice-aggregate-one Inv-loop μ-loop
 slice-aggregate-one c = search needs
@@ -34,26 +59,8 @@ part-requires c κs = tt
 slice-aggregate-one-2 : tie.Need-slice-aggregate-one-2 Inv-loop μ-loop
 slice-aggregate-one-2 c = search needs
 
-slice-aggregate-one-3 : tie.Need-slice-aggregate-one-3 Inv-loop μ-loop
-slice-aggregate-one-3 c = search needs
-
 one-requires : tie.Need-one-requires Inv-loop μ-loop
 one-requires c κs = tt
-
-slice-aggregate-say-end : tie.Need-slice-aggregate-say-end Inv-loop μ-loop
-slice-aggregate-say-end c = search needs
-
-slice-aggregate-part-2 : tie.Need-slice-aggregate-part-2 Inv-loop μ-loop
-slice-aggregate-part-2 c = search needs
-
-part-requires-2 : tie.Need-part-requires-2 Inv-loop μ-loop
-part-requires-2 c κs = tt
-
-slice-aggregate-say-end-2 : tie.Need-slice-aggregate-say-end-2 Inv-loop μ-loop
-slice-aggregate-say-end-2 c = search needs
-
-say-end-requires : tie.Need-say-end-requires Inv-loop μ-loop
-say-end-requires c κs = tt
 
 returns : tie.Need-returns Inv-loop μ-loop
 returns c = tt
@@ -78,18 +85,20 @@ main-spec =
     μ-loop
     slice-aggregate-read-full
     read-full-requires
+    begun-requires
     loop-holds
+    slice-aggregate-next
+    slice-aggregate-next-2
+    slice-aggregate-next-3
+    slice-aggregate-next-4
+    slice-aggregate-next-5
+    slice-aggregate-next-6
+    next-requires
     slice-aggregate-one
     slice-aggregate-part
     part-requires
     slice-aggregate-one-2
-    slice-aggregate-one-3
     one-requires
-    slice-aggregate-say-end
-    slice-aggregate-part-2
-    part-requires-2
-    slice-aggregate-say-end-2
-    say-end-requires
     returns
     add-at
     loop-less

@@ -11,8 +11,9 @@ ghost use Rattle.record.specs.Entry.{entryForm, recordOf};
 ghost use Rattle.own.specs.Own.{ownForm, ownKeys};
 ghost use Rattle.table.specs.Rows.{rows, bytesOf, Laid};
 ghost use Rattle.kept.specs.Plain.{NotOwn};
-ghost use Rattle.cache.specs.Form.{Form};
+ghost use Rattle.cache.specs.Form.{keysOf, Form};
 ghost use Rattle.cache.specs.Bytes.{afterLearn, afterRemove};
+ghost use Rattle.firsts.specs.Firsts.{firstsOf};
 ghost use Rattle.neighbours.specs.Closest.{closestPast};
 ghost use Rattle.waiting.specs.Place.{placeKey, placeRecord, inquiryPlace};
 ghost use Rattle.waiting.specs.Open.{opened, freed};
@@ -28,6 +29,7 @@ use gauge_commit::Answer;
 pub fn commit_learn(
     own: &[u8],
     cache: &mut [u8],
+    firsts: &mut [u8],
     held: usize,
     waiting: &mut [u8],
     used: usize,
@@ -36,14 +38,24 @@ pub fn commit_learn(
     requires { ⌜ (ownForm (now own) ≡ true) × Form (ownKeys (now own)) (now cache) (rows 100 held (now cache))
         × (length (now waiting) ≡ 2240) × Laid 140 used (now waiting) × (used ≤ 16) × (at < used)
         × (recordForm (part (140 * at + 40) 100 (now waiting)) ≡ true)
-        × NotOwn (ownKeys (now own)) (keyAt (140 * at + 40) (now waiting)) ⌝ }
+        × NotOwn (ownKeys (now own)) (keyAt (140 * at + 40) (now waiting))
+        × (now firsts ≡ firstsOf (keysOf (rows 100 held (now cache)))) ⌝ }
     ensures { λ _. ⌜ now (cache .exit) ≡ bytesOf (length (now (cache .entry))) (afterLearn (ownKeys (now (own .entry)))
         (length (now (cache .entry))) (rows 100 held (now (cache .entry)))
         (placeRecord (getD (rows 140 used (now (waiting .entry))) at []))) ⌝ }
+    ensures { λ _. ⌜ now (firsts .exit) ≡ firstsOf (keysOf (afterLearn (ownKeys (now (own .entry)))
+        (length (now (cache .entry))) (rows 100 held (now (cache .entry)))
+        (placeRecord (getD (rows 140 used (now (waiting .entry))) at [])))) ⌝ }
     ensures { λ _. ⌜ now (waiting .exit) ≡ bytesOf 2240 (freed at (rows 140 used (now (waiting .entry)))) ⌝ }
 {
     let from = waiting::PLACE_LEN * at + 40;
-    cache::learn(own, cache, held, &waiting[from..from + record::RECORD_LEN]);
+    firsts::learn(
+        own,
+        cache,
+        firsts,
+        held,
+        &waiting[from..from + record::RECORD_LEN],
+    );
     waiting::free(waiting, used, at);
 }
 
@@ -51,6 +63,7 @@ pub fn commit_learn(
 pub fn commit_free(
     own: &[u8],
     cache: &mut [u8],
+    firsts: &mut [u8],
     held: usize,
     waiting: &mut [u8],
     used: usize,
@@ -58,15 +71,19 @@ pub fn commit_free(
     n: bool,
 )
     requires { ⌜ (ownForm (now own) ≡ true) × Form (ownKeys (now own)) (now cache) (rows 100 held (now cache))
-        × (length (now waiting) ≡ 2240) × Laid 140 used (now waiting) × (used ≤ 16) × (at < used) ⌝ }
+        × (length (now waiting) ≡ 2240) × Laid 140 used (now waiting) × (used ≤ 16) × (at < used)
+        × (now firsts ≡ firstsOf (keysOf (rows 100 held (now cache)))) ⌝ }
     ensures { λ _. ⌜ now (cache .exit) ≡ cond n (bytesOf (length (now (cache .entry)))
         (afterRemove (placeKey (getD (rows 140 used (now (waiting .entry))) at []))
         (rows 100 held (now (cache .entry))))) (now (cache .entry)) ⌝ }
+    ensures { λ _. ⌜ now (firsts .exit) ≡ cond n (firstsOf (keysOf
+        (afterRemove (placeKey (getD (rows 140 used (now (waiting .entry))) at []))
+        (rows 100 held (now (cache .entry)))))) (now (firsts .entry)) ⌝ }
     ensures { λ _. ⌜ now (waiting .exit) ≡ bytesOf 2240 (freed at (rows 140 used (now (waiting .entry)))) ⌝ }
 {
     if n {
         let from = waiting::PLACE_LEN * at + 8;
-        cache::remove(own, cache, held, &waiting[from..from + 32]);
+        firsts::remove(own, cache, firsts, held, &waiting[from..from + 32]);
         waiting::free(waiting, used, at);
         return;
     }

@@ -9,8 +9,9 @@ ghost use Rattle.key.specs.Number.{keyAt};
 ghost use Rattle.record.specs.Entry.{entryForm, recordOf};
 ghost use Rattle.own.specs.Own.{ownForm, ownKeys};
 ghost use Rattle.table.specs.Rows.{rows, bytesOf, Laid};
-ghost use Rattle.cache.specs.Form.{Form};
+ghost use Rattle.cache.specs.Form.{keysOf, Form};
 ghost use Rattle.cache.specs.Bytes.{afterRemove};
+ghost use Rattle.firsts.specs.Firsts.{firstsOf};
 ghost use Rattle.waiting.specs.Place.{inquiryPlace};
 ghost use Rattle.waiting.specs.Form.{isInquiry};
 ghost use Rattle.table.specs.Seek.{seek};
@@ -111,6 +112,7 @@ fn free_inquiry(waiting: &mut [u8], used: usize, key: &[u8])
 pub fn commit_revoke(
     own: &[u8],
     cache: &mut [u8],
+    firsts: &mut [u8],
     held: usize,
     waiting: &mut [u8],
     used: usize,
@@ -125,15 +127,18 @@ pub fn commit_revoke(
 ) -> Answer
     requires { ⌜ (ownForm (now own) ≡ true) × (length (now key) ≡ 32)
         × Form (ownKeys (now own)) (now cache) (rows 100 held (now cache)) × (length (now waiting) ≡ 2240)
-        × Laid 140 used (now waiting) × (used ≤ 16) × (ackRoom silent n ≤ length (now output)) ⌝ }
+        × Laid 140 used (now waiting) × (used ≤ 16) × (ackRoom silent n ≤ length (now output))
+        × (now firsts ≡ firstsOf (keysOf (rows 100 held (now cache)))) ⌝ }
     ensures { λ r. ⌜ r ≡ lengths (ackWritten major minor id silent acked n) ⌝ }
     ensures { λ _. ⌜ now (cache .exit) ≡ bytesOf (length (now (cache .entry)))
         (afterRemove (keyAt 0 (now (key .entry))) (rows 100 held (now (cache .entry)))) ⌝ }
+    ensures { λ _. ⌜ now (firsts .exit) ≡ firstsOf (keysOf
+        (afterRemove (keyAt 0 (now (key .entry))) (rows 100 held (now (cache .entry))))) ⌝ }
     ensures { λ _. ⌜ now (waiting .exit) ≡ bytesOf 2240 (freedAt (seek (isInquiry (keyAt 0 (now (key .entry)))) 0
         (rows 140 used (now (waiting .entry)))) (rows 140 used (now (waiting .entry)))) ⌝ }
     ensures { λ _. ⌜ now (output .exit) ≡ sending (ackWritten major minor id silent acked n) (now (output .entry)) ⌝ }
 {
-    cache::remove(own, cache, held, key);
+    firsts::remove(own, cache, firsts, held, key);
     free_inquiry(waiting, used, key);
     let first = send_ack(output, major, minor, id, silent, acked, n);
     gauge_commit::answer_of(0, first, 0)

@@ -17,6 +17,7 @@ fn plan_and_commit(
     own: &[u8],
     cpas: &[u8],
     cache: &mut [u8],
+    firsts: &mut [u8],
     waiting: &mut [u8],
     major: u8,
     minor: u8,
@@ -27,10 +28,10 @@ fn plan_and_commit(
     datagram: &[u8],
     output: &mut [u8],
 ) -> gauge_commit::Answer
-    ensures { λ r. ⌜ handed r (memory (now (cache .exit)) (now (waiting .exit))) (now (output .exit))
-        ≡ ours (memory (now (cache .entry)) (now (waiting .entry))) (receives (receive (now (own .entry))
-        (now (cpas .entry)) major minor id (now (nonce .entry)) verdict (now (key .entry)) (now (datagram .entry))
-        (now (output .entry)))) ⌝ }
+    ensures { λ r. ⌜ handed r (memory (now (cache .exit)) (now (firsts .exit)) (now (waiting .exit))) (now (output .exit))
+        ≡ ours (memory (now (cache .entry)) (now (firsts .entry)) (now (waiting .entry))) (receives (receive
+        (now (own .entry)) (now (cpas .entry)) major minor id (now (nonce .entry)) verdict (now (key .entry))
+        (now (datagram .entry)) (now (output .entry)))) ⌝ }
 {
     if !gauge_plan::hands_fit(own, cpas, nonce, key) {
         return gauge_commit::answer_of(refusal::MEMORY, 0, 0);
@@ -39,6 +40,7 @@ fn plan_and_commit(
         own,
         cpas,
         cache,
+        firsts,
         waiting,
         major,
         id,
@@ -82,6 +84,7 @@ fn plan_and_commit(
         } => commit_flood::commit_revoke(
             own,
             cache,
+            firsts,
             held,
             waiting,
             used,
@@ -95,11 +98,11 @@ fn plan_and_commit(
             output,
         ),
         Plan::Learn { held, used, at } => {
-            commit_answer::commit_learn(own, cache, held, waiting, used, at);
+            commit_answer::commit_learn(own, cache, firsts, held, waiting, used, at);
             gauge_commit::answer_of(0, 0, 0)
         }
         Plan::Free { held, used, at, n } => {
-            commit_answer::commit_free(own, cache, held, waiting, used, at, n);
+            commit_answer::commit_free(own, cache, firsts, held, waiting, used, at, n);
             gauge_commit::answer_of(0, 0, 0)
         }
         Plan::Certify { acked, at } => {
@@ -144,6 +147,7 @@ pub extern "C" fn gauge_receive(
     own: &[u8],
     cpas: &[u8],
     cache: &mut [u8],
+    firsts: &mut [u8],
     waiting: &mut [u8],
     major: u8,
     minor: u8,
@@ -154,10 +158,10 @@ pub extern "C" fn gauge_receive(
     datagram: &[u8],
     output: &mut [u8],
 ) -> gauge_commit::Answer
-    ensures { λ r. ⌜ handed r (memory (now (cache .exit)) (now (waiting .exit))) (now (output .exit))
-        ≡ ours (memory (now (cache .entry)) (now (waiting .entry))) (receives (receive (now (own .entry))
-        (now (cpas .entry)) major minor id (now (nonce .entry)) verdict (now (key .entry)) (now (datagram .entry))
-        (now (output .entry)))) ⌝ }
+    ensures { λ r. ⌜ handed r (memory (now (cache .exit)) (now (firsts .exit)) (now (waiting .exit))) (now (output .exit))
+        ≡ ours (memory (now (cache .entry)) (now (firsts .entry)) (now (waiting .entry))) (receives (receive
+        (now (own .entry)) (now (cpas .entry)) major minor id (now (nonce .entry)) verdict (now (key .entry))
+        (now (datagram .entry)) (now (output .entry)))) ⌝ }
 {
     if !own::own_form(own) {
         return gauge_commit::answer_of(refusal::MEMORY, 0, 0);
@@ -166,6 +170,7 @@ pub extern "C" fn gauge_receive(
         own,
         cpas,
         cache,
+        firsts,
         waiting,
         major,
         minor,

@@ -1,27 +1,29 @@
 -- Laws of lent memory: what the tests of own record, cache and waiting table make of it, and what is known of memory in form.
 -- Assumes nothing.
-use mathlib.Core.Path.{_≡_, refl, sym, _∙_}
+use mathlib.Core.Path.{_≡_, refl, sym, ap, _∙_}
 use mathlib.Core.Bool.{Bool, true, false, _&&_, cond}
 use mathlib.Core.List.{List}
 use Prim.Native.Nat.{ℕ, _*_, _≤_}
 use lib.ListN.{length}
 use borrow.Author.Tests.{eq-eqb, eqb-true}
-use Rattle.octet.proofs.TestLaws.{both-true}
+use Rattle.octet.specs.Part.{same}
+use Rattle.octet.proofs.TestLaws.{both-true, same-refl, same-eq}
 use Rattle.own.specs.Own.{Own, ownForm, ownKeys, ownRecords}
 use Rattle.table.specs.Rows.{rows, Laid}
-use Rattle.cache.specs.Form.{Form, cacheForm, heldIn, heldOf}
+use Rattle.cache.specs.Form.{Form, keysOf, cacheForm, heldIn, heldOf}
 use Rattle.cache.specs.Place as cached
 use Rattle.cache.specs.declared.shape.Formed.the-variants as held-is
 use Rattle.cache.proofs.ShapeLaws as shape
 use Rattle.cache.proofs.FormLaws.{true-form, form-laid}
+use Rattle.firsts.specs.Firsts.{firstsOf}
 use Rattle.waiting.specs.Form.{waitingForm, usedOf}
 use Rattle.cpas.specs.Cpas.{cpasForm}
 use Rattle.waiting_form.specs.Formed as waited
 use Rattle.waiting_form.specs.declared.tested.Formed.the-variants as used-is
 use Rattle.waiting.proofs.FormLaws as waits
 use Rattle.waiting_form.proofs.FormedLaws as tested
-use Rattle.gauge_plan.specs.Lent.{Memory, withTables, InForm, Receive, hearing, Tick, ReceiveLent, TickLent}
-use Rattle.gauge_plan.specs.Memory.{tablesFit, memoryOf, handsFit, tickFit}
+use Rattle.gauge_plan.specs.Lent.{Memory, withFirsts, withTables, Counted, InForm, Receive, hearing, Tick, ReceiveLent, TickLent}
+use Rattle.gauge_plan.specs.Memory.{tablesFit, memoryOf, comesFit, countsFit, handsFit, tickFit}
 use Rattle.gauge_plan.specs.declared.memory.Fitness.{Fitness}
 use Rattle.gauge_plan.specs.declared.memory.Fitness.the-variants.{Unfit, Fit}
 
@@ -102,9 +104,9 @@ pub record Handed (own cpas nonce key : List ℕ) : Type 0 where
   pub nonced : length nonce ≡ 16
   pub keyed : length key ≡ 32
 
-pub known-hands : (m : Memory) (l : Receive) → handsFit m l ≡ true → Handed (l .own) (l .cpas) (l .nonce) (l .key)
-unfolding handsFit
-known-hands m l e =
+pub known-comes : (l : Receive) → comesFit l ≡ true → Handed (l .own) (l .cpas) (l .nonce) (l .key)
+unfolding comesFit
+known-comes l e =
     let w = both-true _ _ e in
     let v = both-true _ _ (w .0) in
     record {
@@ -113,10 +115,27 @@ known-hands m l e =
       keyed = eqb-true (length (l .key)) 32 (w .1);
     }
 
--- the tables with another cache and another waiting table, both in form
-pub in-form-with : (own : Own) (m : Memory) (cache waiting : List ℕ) → InForm own m → cacheForm own cache ≡ true → waitingForm own waiting ≡ true
-    → InForm own (withTables cache waiting m)
-in-form-with own m cache waiting f c w = (c, w)
+pub known-hands : (m : Memory) (l : Receive) → handsFit m l ≡ true → Handed (l .own) (l .cpas) (l .nonce) (l .key)
+unfolding handsFit
+known-hands m l e = known-comes l (both-true (comesFit l) (countsFit (l .own) m) e .0)
+
+-- the counts by first byte: as they should be, and by how many records are held
+pub known-counts : (m : Memory) (l : Receive) → handsFit m l ≡ true → Counted (ownKeys (l .own)) m
+unfolding handsFit countsFit
+known-counts m l e = same-eq (m .firsts) _ (both-true (comesFit l) (countsFit (l .own) m) e .1)
+
+pub counts-held : (own : List ℕ) (m : Memory) (h u : ℕ) → Ready own m h u → countsFit own m ≡ same (m .firsts) (firstsOf (keysOf (rows 100 h (m .cache))))
+unfolding countsFit heldOf
+counts-held own m h u r = ap (λ (n : ℕ). same (m .firsts) (firstsOf (keysOf (rows 100 n (m .cache))))) (sym (r .held))
+
+pub counted-held : (own : List ℕ) (m : Memory) (h u : ℕ) → Ready own m h u → Counted (ownKeys own) m → m .firsts ≡ firstsOf (keysOf (rows 100 h (m .cache)))
+unfolding heldOf
+counted-held own m h u r c = c ∙ ap (λ (n : ℕ). firstsOf (keysOf (rows 100 n (m .cache)))) (sym (r .held))
+
+-- memory with another cache and another waiting table, both in form, and counts that are those of the cache
+pub in-form-with : (own : Own) (m : Memory) (cache firsts waiting : List ℕ) → cacheForm own cache ≡ true → waitingForm own waiting ≡ true
+    → firsts ≡ firstsOf (keysOf (heldOf own cache)) → InForm own (withTables cache waiting (withFirsts firsts m))
+in-form-with own m cache firsts waiting c w f = (c, w, f)
 
 -- ---- the tests are what it says of memory lent as it should be
 
@@ -129,6 +148,7 @@ module _ (m : Memory) (l : Receive) where
         own = r .owned;
         cache = r .cached;
         waiting = r .tabled;
+        firsts = known-counts m l h;
         cpas = w .certified;
         nonce = w .nonced;
         key = w .keyed;
@@ -138,18 +158,26 @@ module _ (m : Memory) (l : Receive) where
   unfolding tablesFit
   lent-tables w = rw (w .own, w .cache, w .waiting) refl
 
-  pub lent-hands : ReceiveLent m l → handsFit m l ≡ true
-  unfolding handsFit
-  lent-hands w =
+  pub lent-comes : ReceiveLent m l → comesFit l ≡ true
+  unfolding comesFit
+  lent-comes w =
       rw (
         w .cpas,
         eq-eqb (length (l .nonce)) 16 (w .nonce),
         eq-eqb (length (l .key)) 32 (w .key),
       ) refl
 
+  pub lent-counts : ReceiveLent m l → countsFit (l .own) m ≡ true
+  unfolding countsFit
+  lent-counts w = ap (λ (s : List ℕ). same s (firstsOf (keysOf (heldOf (ownKeys (l .own)) (m .cache))))) (w .firsts) ∙ same-refl _
+
+  pub lent-hands : ReceiveLent m l → handsFit m l ≡ true
+  unfolding handsFit
+  lent-hands w = rw (lent-comes w, lent-counts w) refl
+
 -- none of it is the datagram
 hands-hearing : (m : Memory) (l : Receive) (d : List ℕ) → handsFit m (hearing d l) ≡ handsFit m l
-unfolding handsFit
+unfolding handsFit comesFit
 hands-hearing m l d = refl
 
 pub lent-hearing : (m : Memory) (l : Receive) (d : List ℕ) → ReceiveLent m l → ReceiveLent m (hearing d l)

@@ -6,36 +6,45 @@ use mathlib.Core.Bool.{true}
 use mathlib.Core.List.{List}
 use lib.ListN.{length, replicate}
 use Rattle.own.specs.Own.{Own, ownForm, ownKeys, ownRecords, ownPlace}
-use Rattle.cache.specs.Form.{cacheForm}
+use Rattle.cache.specs.Form.{keysOf, heldOf, cacheForm}
+use Rattle.firsts.specs.Firsts.{firstsOf}
 use Rattle.waiting.specs.Form.{waitingForm}
 use Rattle.cpas.specs.Cpas.{cpasForm, cpaOf}
 
 -- what is lent to each call as the one before left it
 pub record Memory : Type 0 where
   pub cache : List ℕ
+  pub firsts : List ℕ
   pub waiting : List ℕ
 
-abbrev pub memory : List ℕ → List ℕ → Memory
-memory cache waiting = record { cache = cache; waiting = waiting }
+abbrev pub memory : (cache firsts waiting : List ℕ) → Memory
+memory cache firsts waiting = record { cache = cache; firsts = firsts; waiting = waiting }
 
--- an empty cache of C records and an empty waiting table
+-- an empty cache of C records, no key counted, and an empty waiting table
 abbrev pub empty : ℕ → Memory
-empty C = memory (replicate (100 * C) 0) (replicate 2240 0)
+empty C = memory (replicate (100 * C) 0) (replicate 512 0) (replicate 2240 0)
 
--- the same memory with another cache; with another waiting table
+-- the same memory with another cache; with other counts by first byte; with another waiting table
 abbrev pub withCache : List ℕ → Memory → Memory
-withCache cache m = memory cache (m .waiting)
+withCache cache m = memory cache (m .firsts) (m .waiting)
+
+abbrev pub withFirsts : List ℕ → Memory → Memory
+withFirsts firsts m = memory (m .cache) firsts (m .waiting)
 
 abbrev pub withWaiting : List ℕ → Memory → Memory
-withWaiting waiting m = memory (m .cache) waiting
+withWaiting waiting m = memory (m .cache) (m .firsts) waiting
 
--- with both, and whatever memory there is besides: what a function leaves open that is lent these two alone
+-- with both tables, and whatever memory there is besides: what a function leaves open that is lent these two alone
 abbrev pub withTables : List ℕ → List ℕ → Memory → Memory
 withTables cache waiting m = withCache cache (withWaiting waiting m)
 
+-- the counts by first byte are those of the keys held, "those counted afresh" (02, Wish 12)
+abbrev pub Counted : Own → Memory → Type 0
+Counted own m = m .firsts ≡ firstsOf (keysOf (heldOf own (m .cache)))
+
 -- memory is in form, for our own keys
 abbrev pub InForm : Own → Memory → Type 0
-InForm own m = (cacheForm own (m .cache) ≡ true) × (waitingForm own (m .waiting) ≡ true)
+InForm own m = (cacheForm own (m .cache) ≡ true) × (waitingForm own (m .waiting) ≡ true) × Counted own m
 
 -- what a received datagram comes with
 pub record Receive : Type 0 where
@@ -121,12 +130,13 @@ pub data Call : Type 0 where
   lists : Listing → Call
 
 -- ---- lent as it should be: "Each call on the cache or the waiting table is lent the own record too"; a CPA for each own record (02, Wish 11); "a 16-byte nonce"; "A key
--- handed in has 32 bytes"
+-- handed in has 32 bytes"; "Counts lent that disagree with the cache are refused" (02, Wish 12)
 
 pub record ReceiveLent (m : Memory) (l : Receive) : Type 0 where
   pub own : ownForm (l .own) ≡ true
   pub cache : cacheForm (ownKeys (l .own)) (m .cache) ≡ true
   pub waiting : waitingForm (ownKeys (l .own)) (m .waiting) ≡ true
+  pub firsts : Counted (ownKeys (l .own)) m
   pub cpas : cpasForm (length (ownRecords (l .own))) (l .cpas) ≡ true
   pub nonce : length (l .nonce) ≡ 16
   pub key : length (l .key) ≡ 32

@@ -1,7 +1,7 @@
 // Whether the memory that every call is lent is in form.
 ghost use mathlib.Core.Path.{_≡_};
 ghost use Rattle.gauge_plan.specs.Lent.{Memory, withTables, Receive, handing};
-ghost use Rattle.gauge_plan.specs.Memory.{memoryOf, handsFit};
+ghost use Rattle.gauge_plan.specs.Memory.{memoryOf, comesFit};
 
 // How many records are held and how many places are used, where memory is in form.
 pub enum Fitness {
@@ -28,11 +28,11 @@ pub fn survey(own: &[u8], cache: &[u8], waiting: &[u8]) -> Fitness
     Fitness::Fit { held, used }
 }
 
-// Is there a CPA for each own record, and have nonce and key the lengths that document 01 gives them? Memory that is not
-// lent may be any, and so may all else that a datagram comes with.
+// Is there a CPA for each own record, and have nonce and key the lengths that document 01 gives them? All else that a
+// datagram comes with may be any.
 pub fn hands_fit(own: &[u8], cpas: &[u8], nonce: &[u8], key: &[u8]) -> bool
-    ensures { λ r. ⌜ ((m : Memory) (l : Receive) → r
-        ≡ handsFit m (handing (now (own .entry)) (now (cpas .entry)) (now (nonce .entry)) (now (key .entry)) l)) ⌝ }
+    ensures { λ r. ⌜ ((l : Receive) → r
+        ≡ comesFit (handing (now (own .entry)) (now (cpas .entry)) (now (nonce .entry)) (now (key .entry)) l)) ⌝ }
 {
     let certified = cpas::cpas_form(cpas, own::count(own));
     certified & (nonce.len() == 16) & (key.len() == 32)

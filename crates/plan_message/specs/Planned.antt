@@ -21,7 +21,7 @@ use Rattle.gauge_plan.specs.declared.Plan.the-variants.{Refuse}
 use Rattle.gauge_plan.specs.Lent.{Memory, Receive}
 use Rattle.gauge_plan.specs.declared.memory.Fitness.{Fitness}
 use Rattle.gauge_plan.specs.declared.memory.Fitness.the-variants.{Unfit, Fit}
-use Rattle.gauge_plan.specs.Memory.{memoryOf, handsFit}
+use Rattle.gauge_plan.specs.Memory.{memoryOf, countsFit, handsFit}
 use Rattle.plan_flood.specs.Flood.{floodPlan, revokePlan}
 use Rattle.plan_answer.specs.Answering.{authorityPlan, ackPlan, inquirePlan, lookupPlan}
 
@@ -48,10 +48,10 @@ planFor m l held used (M.Lookup x) =
     lookupPlan (l .own) (rows 100 held (m .cache)) (rows 140 used (m .waiting)) held used (l .id) (length (l .output)) (l .datagram) (x .head .id) (x .target)
     (startOf (x .path) + 8) (sizeOf (x .path) - 8) (startOf (x .entry)) (sizeOf (x .entry))
 
--- where what is handed in with it is as it should be
+-- where what comes with it is as it should be: the counts by first byte are tested once it is known how many records are held
 abbrev pub planBy : Memory → Receive → Fitness → Plan
 planBy m l Unfit = Refuse 1
-planBy m l (Fit held used) = planFor m l held used (R.readIn (l .datagram) (l .major))
+planBy m l (Fit held used) = orRefuse Refuse (when 1 (not (countsFit (l .own) m)) ∷ []) (planFor m l held used (R.readIn (l .datagram) (l .major)))
 
 abbrev pub planIn : Memory → Receive → Fitness → Plan
 planIn m l Unfit = Refuse 1

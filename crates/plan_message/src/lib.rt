@@ -8,7 +8,7 @@ ghost use Rattle.table.specs.Rows.{rows};
 ghost use Rattle.cache.specs.Form.{Form};
 ghost use Rattle.cpas.specs.Cpas.{cpasForm};
 ghost use Rattle.wire_read.specs.Answers.{readIn};
-ghost use Rattle.gauge_plan.specs.Lent.{Memory, withTables, Receive, planning};
+ghost use Rattle.gauge_plan.specs.Lent.{Memory, withFirsts, withTables, Receive, planning};
 ghost use Rattle.gauge_plan.specs.Memory.{memoryOf};
 ghost use Rattle.plan_message.specs.Planned.{planFor, planBy};
 use gauge_plan::Fitness;
@@ -104,6 +104,7 @@ pub fn plan_receive<'a>(
     own: &'a [u8],
     cpas: &[u8],
     cache: &'a [u8],
+    firsts: &[u8],
     waiting: &[u8],
     major: u8,
     id: u32,
@@ -114,15 +115,19 @@ pub fn plan_receive<'a>(
 ) -> Plan
     requires { ⌜ (cpasForm (length (ownRecords (now own))) (now cpas) ≡ true) × (length (now key) ≡ 32) ⌝ }
     ensures { λ r. ⌜ ((m : Memory) (l : Receive) → r
-        ≡ planBy (withTables (now (cache .entry)) (now (waiting .entry)) m)
+        ≡ planBy (withTables (now (cache .entry)) (now (waiting .entry)) (withFirsts (now (firsts .entry)) m))
         (planning (now (own .entry)) (now (cpas .entry)) major id verdict (now (key .entry)) (now (datagram .entry))
         (now (output .entry)) l)
-        (memoryOf (now (own .entry)) (withTables (now (cache .entry)) (now (waiting .entry)) m))) ⌝ }
+        (memoryOf (now (own .entry))
+        (withTables (now (cache .entry)) (now (waiting .entry)) (withFirsts (now (firsts .entry)) m)))) ⌝ }
 {
     let memory = gauge_plan::survey(own, cache, waiting);
     let Fitness::Fit { held, used } = memory else {
         return Plan::Refuse(refusal::MEMORY);
     };
+    if !firsts::agree(cache, held, firsts) {
+        return Plan::Refuse(refusal::MEMORY);
+    }
     plan_message(
         own,
         cpas,

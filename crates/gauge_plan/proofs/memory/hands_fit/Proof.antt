@@ -6,7 +6,7 @@ use lib.Dec.{eqb}
 use lib.ListN.{length}
 use borrow.Author.Needs.{needs}
 use Rattle.cpas.specs.Cpas.{cpasForm}
-use Rattle.gauge_plan.specs.Memory.{handsFit}
+use Rattle.gauge_plan.specs.Memory.{comesFit}
 use Rattle.gauge_plan.proofs.memory.hands_fit.Statement.{statement}
 use Rattle.gauge_plan.proofs.memory.hands_fit.Tie as tie
 
@@ -17,8 +17,8 @@ cpas-form-requires : tie.Need-cpas-form-requires
 cpas-form-requires c κs = search needs
 
 returns : tie.Need-returns
-unfolding handsFit
-returns c m l =
+unfolding comesFit
+returns c l =
     let a = c .before .before .before .before .before .before .args in
     ap (λ (b : Bool). b && eqb (length (a .nonce .now)) 16 && eqb (length (a .key .now)) 32)
     (c .cpas-form .ensures ∙ ap (λ (n : ℕ). cpasForm n (a .cpas .now)) (c .before .count .ensures))

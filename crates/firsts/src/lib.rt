@@ -2,6 +2,7 @@
 // follow what is learned and removed.
 ghost use mathlib.Core.Path.{_≡_};
 ghost use mathlib.Core.Bool.{true};
+ghost use mathlib.Core.List.{[]};
 ghost use Prim.Native.Nat.{_+_, _-_, _*_, _≤_, _<_};
 ghost use lib.ListN.{length};
 ghost use Rattle.octet.specs.Part.{same};
@@ -50,7 +51,7 @@ fn first_byte(key: Key) -> u8
 
 // The keys held are counted afresh, into counts that are zero.
 fn count_keys(cache: &[u8], used: usize, fresh: &mut [u8])
-    requires { ⌜ (100 * used ≤ length (now cache)) × (used ≤ 256) × (now fresh ≡ firstsOf (keysOf (rows 100 0 (now cache)))) ⌝ }
+    requires { ⌜ (100 * used ≤ length (now cache)) × (used ≤ 256) × (now fresh ≡ firstsOf []) ⌝ }
     ensures { λ _. ⌜ now (fresh .exit) ≡ firstsOf (keysOf (rows 100 used (now (cache .entry)))) ⌝ }
 {
     let mut i = 0;

@@ -1,0 +1,4 @@
+pub mod ByteLaws
+pub mod CountLaws
+pub mod FirstsLaws
+pub mod ChangeLaws

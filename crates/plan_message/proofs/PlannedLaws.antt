@@ -7,7 +7,7 @@ use native.Mathlib.Omega.{arith}
 use lib.ListN.{length}
 use borrow.Author.Tests.{not-false}
 use Rattle.octet.specs.Number.{valueBE}
-use Rattle.octet.specs.Part.{part}
+use Rattle.octet.specs.Part.{part, same}
 use Rattle.octet.proofs.PartLaws.{length-part}
 use Rattle.key.specs.Number.{keyAt}
 use Rattle.record.specs.Record.{countOf, recordForm}
@@ -19,7 +19,8 @@ use Rattle.table.specs.Rows.{rows, Laid}
 use Rattle.table.proofs.PieceLaws.{part-start}
 use Rattle.table.proofs.RowLaws.{rows-length}
 use Rattle.kept.specs.Plain.{NotOwn}
-use Rattle.cache.specs.Form.{Form}
+use Rattle.cache.specs.Form.{keysOf, Form}
+use Rattle.firsts.specs.Firsts.{firstsOf}
 use Rattle.neighbours.specs.Closest.{closestPast}
 use Rattle.table.specs.Seek.{seek}
 use Rattle.waiting.specs.Seek.{isAt}
@@ -34,7 +35,7 @@ use Rattle.wire_read.specs.declared.Incoming as T
 use Rattle.wire_read.specs.declared.Incoming.the-variants as M
 use Rattle.look.specs.Seen.{sizeOf}
 use Rattle.gauge_plan.specs.Lent.{Memory, Receive}
-use Rattle.gauge_plan.specs.Memory.{memoryOf, handsFit}
+use Rattle.gauge_plan.specs.Memory.{memoryOf, comesFit, countsFit, handsFit}
 use Rattle.plan_flood.specs.Rooms.{ackRoom}
 use Rattle.asking.specs.Asking.{inquireRoom, mustAsk, asksFor}
 use Rattle.asking.proofs.AskingLaws.{asks-tells}
@@ -59,21 +60,21 @@ use Rattle.plan_message.proofs.BriefLaws.{entry-told, path-told}
 
 module _ (m : Memory) (l : Receive) where
   -- what is handed in is tested whatever the tables are
-  no-hands : handsFit m l ≡ false → (f : Fitness) → planIn m l f ≡ Refuse 1
-  unfolding orRefuse
+  no-hands : comesFit l ≡ false → (f : Fitness) → planIn m l f ≡ Refuse 1
+  unfolding orRefuse handsFit
   no-hands e Unfit = refl
   no-hands e (Fit h u) = rw e refl
 
-  pub plan-hands : handsFit m l ≡ false → receivePlan m l ≡ Refuse 1
+  pub plan-hands : comesFit l ≡ false → receivePlan m l ≡ Refuse 1
   unfolding receivePlan
   plan-hands e = no-hands e (memoryOf (l .own) m)
 
-  hands : handsFit m l ≡ true → (f : Fitness) → planIn m l f ≡ planBy m l f
-  unfolding orRefuse
+  hands : comesFit l ≡ true → (f : Fitness) → planIn m l f ≡ planBy m l f
+  unfolding orRefuse handsFit
   hands e Unfit = refl
   hands e (Fit h u) = rw e refl
 
-  pub plan-by : handsFit m l ≡ true → receivePlan m l ≡ planBy m l (memoryOf (l .own) m)
+  pub plan-by : comesFit l ≡ true → receivePlan m l ≡ planBy m l (memoryOf (l .own) m)
   unfolding receivePlan
   plan-by e = hands e (memoryOf (l .own) m)
 
@@ -82,12 +83,32 @@ module _ (m : Memory) (l : Receive) where
     unfolding receivePlan orRefuse
     plan-message e = rw (fit, e) refl
 
+  -- the counts by first byte are tested where the tables are in form
+  module _ (h u : ℕ) where
+    pub plan-uncounted : countsFit (l .own) m ≡ false → planBy m l (Fit h u) ≡ Refuse 1
+    unfolding orRefuse
+    plan-uncounted e = rw e refl
+
+    pub plan-counted : countsFit (l .own) m ≡ true → planBy m l (Fit h u) ≡ planFor m l h u (R.readIn (l .datagram) (l .major))
+    unfolding orRefuse
+    plan-counted e = rw e refl
+
 -- what the plan of a message requires of memory
 pub message-needs : (own : List ℕ) (m : Memory) {h u : ℕ} → memoryOf own m ≡ Fit h u
     → (ownForm own ≡ true) × Form (ownKeys own) (m .cache) (rows 100 h (m .cache)) × (140 * u ≤ length (m .waiting))
 message-needs own m fit =
     let r = subst (memory.KnownMemory own m) fit (memory.known-memory own m) in
     (r .owned, r .form, r .laid .room)
+
+-- and what the test of the counts requires, and gives
+pub counts-need : (own : List ℕ) (m : Memory) {h u : ℕ} → memoryOf own m ≡ Fit h u → (100 * h ≤ length (m .cache)) × (h ≤ 256)
+counts-need own m fit =
+    let r = subst (memory.KnownMemory own m) fit (memory.known-memory own m) in
+    (r .room, omega (arith, r .room, r .form .places .most))
+
+pub counts-by : (own : List ℕ) (m : Memory) {h u : ℕ} → memoryOf own m ≡ Fit h u
+    → countsFit own m ≡ same (m .firsts) (firstsOf (keysOf (rows 100 h (m .cache))))
+counts-by own m {h} {u} fit = memory.counts-held own m h u (subst (memory.KnownMemory own m) fit (memory.known-memory own m))
 
 -- ---- what is known of a plan
 
@@ -107,6 +128,7 @@ pub record Revoked (m : Memory) (l : Receive) (h u : ℕ) (s n : Bool) (a : ℕ)
   pub validate : ℕ
   pub ready : memory.Ready (l .own) m h u
   pub hands : memory.Handed (l .own) (l .cpas) (l .nonce) (l .key)
+  pub counted : m .firsts ≡ firstsOf (keysOf (rows 100 h (m .cache)))
   pub plans : flood.Revoking (ownKeys (l .own)) h u (l .verdict) (keyAt 0 (l .key)) (length (l .output)) (l .datagram) s a validate h u s n a
 
 -- an AUTHORITY
@@ -115,6 +137,7 @@ pub record Learned (m : Memory) (l : Receive) (h u at : ℕ) : Type 0 where
   pub cpa : Bool
   pub ready : memory.Ready (l .own) m h u
   pub hands : memory.Handed (l .own) (l .cpas) (l .nonce) (l .key)
+  pub counted : m .firsts ≡ firstsOf (keysOf (rows 100 h (m .cache)))
   pub plans : answering.Learning (rows 140 u (m .waiting)) h u (l .verdict) (keyAt 0 (l .key)) acked cpa h u at
 
 -- an ACK
@@ -122,6 +145,7 @@ pub record Freed (m : Memory) (l : Receive) (h u at : ℕ) (n : Bool) : Type 0 w
   pub acked : ℕ
   pub ready : memory.Ready (l .own) m h u
   pub hands : memory.Handed (l .own) (l .cpas) (l .nonce) (l .key)
+  pub counted : m .firsts ≡ firstsOf (keysOf (rows 100 h (m .cache)))
   pub plans : answering.Freeing (rows 140 u (m .waiting)) h u acked n h u at n
 
 -- an INQUIRE
@@ -162,7 +186,7 @@ Known m l (Certify a at) = Certified m l a at
 Known m l (Show h u a target path size opens start len) = Shown m l h u a target path size opens start len
 
 module _ (m : Memory) (l : Receive) (h u : ℕ) (ready : memory.Ready (l .own) m h u)
-    (hands : memory.Handed (l .own) (l .cpas) (l .nonce) (l .key)) where
+    (hands : memory.Handed (l .own) (l .cpas) (l .nonce) (l .key)) (counted : m .firsts ≡ firstsOf (keysOf (rows 100 h (m .cache)))) where
   flood-known : (s : Bool) (a validate start len : ℕ) → start + len ≤ length (l .datagram) → entryForm (part start len (l .datagram)) ≡ true
       → Known m l (floodPlan (ownKeys (l .own)) (rows 100 h (m .cache)) (rows 140 u (m .waiting)) u (l .id) (length (l .output))
       (l .datagram) s a validate start len)
@@ -192,7 +216,7 @@ module _ (m : Memory) (l : Receive) (h u : ℕ) (ready : memory.Ready (l .own) m
       let K : Plan → Type 0 = flood.KnownRevoke own h u (l .verdict) k room (l .datagram) s a validate in
       or-known (λ (p : Plan). K p → Known m l p) Refuse (revokeRefusals own (l .verdict) k room s n) (Revoke h u s n a)
       (λ i k. tt)
-      (λ f k. record { validate = validate; ready = ready; hands = hands; plans = k })
+      (λ f k. record { validate = validate; ready = ready; hands = hands; counted = counted; plans = k })
       (flood.known-revoke own h u (l .verdict) k room (l .datagram) s a validate)
 
   authority-known : (acked : ℕ) (cpa : Bool) → Known m l (authorityPlan (rows 140 u (m .waiting)) h u (l .verdict) (keyAt 0 (l .key)) acked cpa)
@@ -203,7 +227,7 @@ module _ (m : Memory) (l : Receive) (h u : ℕ) (ready : memory.Ready (l .own) m
       let K : Plan → Type 0 = answering.KnownAuthority ps h u (l .verdict) k acked cpa in
       or-known (λ (p : Plan). K p → Known m l p) Refuse (authorityRefusals ps (l .verdict) k acked cpa) (Learn h u (placeOf (seek (isAt acked 2) 0 ps)))
       (λ i k. tt)
-      (λ f k. record { acked = acked; cpa = cpa; ready = ready; hands = hands; plans = k })
+      (λ f k. record { acked = acked; cpa = cpa; ready = ready; hands = hands; counted = counted; plans = k })
       (answering.known-authority ps h u (l .verdict) k acked cpa)
 
   ack-known : (acked : ℕ) (n : Bool) → Known m l (ackPlan (rows 140 u (m .waiting)) h u acked n)
@@ -213,7 +237,7 @@ module _ (m : Memory) (l : Receive) (h u : ℕ) (ready : memory.Ready (l .own) m
       let K : Plan → Type 0 = answering.KnownAck ps h u acked n in
       or-known (λ (p : Plan). K p → Known m l p) Refuse (ackRefusals ps acked) (Free h u (placeOf (seek (isAt acked 1) 0 ps)) n)
       (λ i k. tt)
-      (λ f k. record { acked = acked; ready = ready; hands = hands; plans = k })
+      (λ f k. record { acked = acked; ready = ready; hands = hands; counted = counted; plans = k })
       (answering.known-ack ps h u acked n)
 
   inquire-known : (a validate : ℕ) → Known m l (inquirePlan (ownKeys (l .own)) (l .cpas) (length (l .output)) (l .datagram) a validate)
@@ -277,6 +301,7 @@ memory-known m l (Fit h u) w =
     or-known (Known m l) Refuse (when 1 (not fit) ∷ []) (planFor m l h u (R.readIn (l .datagram) (l .major)))
     (λ i. tt)
     (λ f. message-known m l h u w (memory.known-hands m l (not-false fit (f .0)))
+    (memory.counted-held (l .own) m h u w (memory.known-counts m l (not-false fit (f .0))))
     (R.readIn (l .datagram) (l .major)) (known-answer (l .datagram) (l .major)))
 
 pub known : (m : Memory) (l : Receive) → Known m l (receivePlan m l)
@@ -286,8 +311,8 @@ known m l = memory-known m l (memoryOf (l .own) m) (memory.known-memory (l .own)
 -- ---- what the commits require
 
 module _ (m : Memory) (l : Receive) where
-  pub plan-needs : handsFit m l ≡ true → (cpasForm (length (ownRecords (l .own))) (l .cpas) ≡ true) × (length (l .key) ≡ 32)
-  plan-needs e = let w = memory.known-hands m l e in (w .certified, w .keyed)
+  pub plan-needs : comesFit l ≡ true → (cpasForm (length (ownRecords (l .own))) (l .cpas) ≡ true) × (length (l .key) ≡ 32)
+  plan-needs e = let w = memory.known-comes l e in (w .certified, w .keyed)
 
   pub known-by : {p : Plan} → receivePlan m l ≡ p → Known m l p
   known-by e = subst (Known m l) e (known m l)
@@ -309,15 +334,15 @@ module _ (m : Memory) (l : Receive) where
 
   pub revoke-needs : {h u : ℕ} {s n : Bool} {a : ℕ} → receivePlan m l ≡ Revoke h u s n a
       → (ownForm (l .own) ≡ true) × (length (l .key) ≡ 32) × Form (ownKeys (l .own)) (m .cache) (rows 100 h (m .cache)) × (length (m .waiting) ≡ 2240)
-      × Laid 140 u (m .waiting) × (u ≤ 16) × (ackRoom s n ≤ length (l .output))
+      × Laid 140 u (m .waiting) × (u ≤ 16) × (ackRoom s n ≤ length (l .output)) × (m .firsts ≡ firstsOf (keysOf (rows 100 h (m .cache))))
   revoke-needs {h} {u} {s} {n} {a} e =
       let k : Revoked m l h u s n a = known-by e in
-      (k .ready .owned, k .hands .keyed, k .ready .form, k .ready .size, k .ready .laid, k .ready .few, k .plans .fits-in)
+      (k .ready .owned, k .hands .keyed, k .ready .form, k .ready .size, k .ready .laid, k .ready .few, k .plans .fits-in, k .counted)
 
   pub learn-needs : {h u at : ℕ} → receivePlan m l ≡ Learn h u at
       → (ownForm (l .own) ≡ true) × Form (ownKeys (l .own)) (m .cache) (rows 100 h (m .cache)) × (length (m .waiting) ≡ 2240)
       × Laid 140 u (m .waiting) × (u ≤ 16) × (at < u) × (recordForm (part (140 * at + 40) 100 (m .waiting)) ≡ true)
-      × NotOwn (ownKeys (l .own)) (keyAt (140 * at + 40) (m .waiting))
+      × NotOwn (ownKeys (l .own)) (keyAt (140 * at + 40) (m .waiting)) × (m .firsts ≡ firstsOf (keysOf (rows 100 h (m .cache))))
   learn-needs {h} {u} {at} e =
       let k : Learned m l h u at = known-by e in
       let t = m .waiting in
@@ -333,11 +358,12 @@ module _ (m : Memory) (l : Receive) where
         omega (arith, k .plans .waiting .within, rows-length 140 u t),
         found-record own t (k .ready .tabled) (k .acked) at found,
         λ o. found-other own t (k .ready .tabled) (k .acked) at found (subst (IsOwn own) key o),
+        k .counted,
       )
 
   pub free-needs : {h u at : ℕ} {n : Bool} → receivePlan m l ≡ Free h u at n
       → (ownForm (l .own) ≡ true) × Form (ownKeys (l .own)) (m .cache) (rows 100 h (m .cache)) × (length (m .waiting) ≡ 2240)
-      × Laid 140 u (m .waiting) × (u ≤ 16) × (at < u)
+      × Laid 140 u (m .waiting) × (u ≤ 16) × (at < u) × (m .firsts ≡ firstsOf (keysOf (rows 100 h (m .cache))))
   free-needs {h} {u} {at} {n} e =
       let k : Freed m l h u at n = known-by e in (
         k .ready .owned,
@@ -346,6 +372,7 @@ module _ (m : Memory) (l : Receive) where
         k .ready .laid,
         k .ready .few,
         omega (arith, k .plans .waiting .within, rows-length 140 u (m .waiting)),
+        k .counted,
       )
 
   -- of the CPA, and of the AUTHORITY with it

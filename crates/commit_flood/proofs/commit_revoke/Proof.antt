@@ -17,8 +17,8 @@ send-ack-requires c κs = search needs
 
 answer-of-requires : tie.Need-answer-of-requires
 answer-of-requires c κs =
-    let at-remove = c .before .before .before .before .before .before .before .before .before .before in
-    let s = at-remove .before .before .before .before .before .before .before in
+    let at-remove = c .before .before .before .before .before .before .before .before .before .before .before .before in
+    let s = at-remove .before .before .before .before .before .before .before .before .before in
     (room-few (s .args .silent) (s .args .n) (c .before .before .send-ack .ensures .0), omega arith)
 
 same-length : tie.Need-same-length
@@ -30,14 +30,20 @@ same-length-2 c = search needs
 same-length-3 : tie.Need-same-length-3
 same-length-3 c = search needs
 
+same-length-4 : tie.Need-same-length-4
+same-length-4 c = search needs
+
 returns : tie.Need-returns
 returns c =
     let at-free-inquiry = c .before .before .before .before .before .before .before in
-    let at-remove = at-free-inquiry .before .before .before .before in
-    let s = at-remove .before .before .before .before .before .before .before in
+    let at-remove = at-free-inquiry .before .before .before .before .before .before in
+    let s = at-remove .before .before .before .before .before .before .before .before .before in
     let a = s .args in (
       c .answer-of .ensures ∙ acks-told (a .major) (a .minor) (a .id) (a .acked) (a .n) (a .silent) (c .before .before .before .send-ack .ensures .0),
-      (at-remove .remove .ensures .0, (at-free-inquiry .free-inquiry .ensures, c .before .before .before .send-ack .ensures .1)),
+      (
+        at-remove .remove .ensures .0,
+        (at-remove .remove .ensures .1, (at-free-inquiry .free-inquiry .ensures, c .before .before .before .send-ack .ensures .1)),
+      ),
     )
 
 pub commit-revoke-spec : {M : Type 1} → statement M
@@ -51,4 +57,5 @@ commit-revoke-spec =
     same-length
     same-length-2
     same-length-3
+    same-length-4
     returns)

@@ -7,7 +7,9 @@ use Prim.Native.Nat.{ℕ}
 use Rattle.record.specs.Record.{keyOf, recordForm}
 use Rattle.own.specs.Own.{ownKeys, IsOwn}
 use Rattle.table.specs.Rows.{rows, bytesOf}
+use Rattle.cache.specs.Form.{keysOf}
 use Rattle.cache.specs.Bytes.{afterLearn}
+use Rattle.firsts.specs.Firsts.{firstsOf}
 use Rattle.gauge_commit.proofs.PlaceLaws.{record-lent, record-place, record-key}
 use borrow.Author.Needs.{needs}
 use Rattle.commit_answer.proofs.commit_learn.Statement.{statement}
@@ -33,14 +35,14 @@ part-learn-end c = search needs
 
 learn-requires : tie.Need-learn-requires
 learn-requires c κs =
-    let s = c .before .before .before .before .before .before in
+    let s = c .before .before .before .before .before .before .before .before in
     let a = s .args in
     let p = s .pre in
     let lent = record-lent (a .used) (a .waiting .now) (a .at) in (
       (p .0, ap recordForm lent ∙ p .6),
       (
         p .1,
-        λ o. p .7 (subst (IsOwn (ownKeys (a .own .now))) (ap keyOf lent ∙ record-key (a .used) (a .waiting .now) (a .at)) o),
+        (λ o. p .7 (subst (IsOwn (ownKeys (a .own .now))) (ap keyOf lent ∙ record-key (a .used) (a .waiting .now) (a .at)) o), p .8),
       ),
     )
 
@@ -53,16 +55,23 @@ same-length c = search needs
 same-length-2 : tie.Need-same-length-2
 same-length-2 c = search needs
 
+same-length-3 : tie.Need-same-length-3
+same-length-3 c = search needs
+
 returns : tie.Need-returns
 returns c =
-    let at-learn = c .before .before .before .before .before .before in
-    let s = at-learn .before .before .before .before .before .before .before in
+    let at-learn = c .before .before .before .before .before .before .before .before in
+    let s = at-learn .before .before .before .before .before .before .before .before .before in
     let a = s .args in
-    let m = a .cache .now in (
+    let m = a .cache .now in
+    let e = record-lent (a .used) (a .waiting .now) (a .at) ∙ record-place (a .used) (a .waiting .now) (a .at) (s .pre .5) in (
       at-learn .learn .ensures .0
-          ∙ ap (λ (r : List ℕ). bytesOf (length m) (afterLearn (ownKeys (a .own .now)) (length m) (rows 100 (a .held) m) r))
-          (record-lent (a .used) (a .waiting .now) (a .at) ∙ record-place (a .used) (a .waiting .now) (a .at) (s .pre .5)),
-      c .before .before .free .ensures,
+          ∙ ap (λ (r : List ℕ). bytesOf (length m) (afterLearn (ownKeys (a .own .now)) (length m) (rows 100 (a .held) m) r)) e,
+      (
+        at-learn .learn .ensures .1
+            ∙ ap (λ (r : List ℕ). firstsOf (keysOf (afterLearn (ownKeys (a .own .now)) (length m) (rows 100 (a .held) m) r))) e,
+        c .before .before .free .ensures,
+      ),
     )
 
 pub commit-learn-spec : {M : Type 1} → statement M
@@ -79,4 +88,5 @@ commit-learn-spec =
     free-requires
     same-length
     same-length-2
+    same-length-3
     returns)

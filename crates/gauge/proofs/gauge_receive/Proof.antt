@@ -19,8 +19,8 @@ returns : tie.Need-returns
 unfolding carried
 returns c =
     let o = c .before .before in
-    let a = o .before .before .before .before .before .before .before .before .before .args in
-    let m = memory (a .cache .now) (a .waiting .now) in
+    let a = o .before .before .before .before .before .before .before .before .before .before .args in
+    let m = memory (a .cache .now) (a .firsts .now) (a .waiting .now) in
     let l = receive (a .own .now) (a .cpas .now) (a .major) (a .minor) (a .id) (a .nonce .now) (a .verdict) (a .key .now) (a .datagram .now) (a .output .now) in
     rw (c .answer-of .ensures) (sym (call-by m l (plan-own m l (sym (o .own-form .ensures) ∙ not-true _ (c .before .if1 .taken)))))
 
@@ -36,9 +36,12 @@ same-length-2 c = search needs
 same-length-3 : tie.Need-same-length-3
 same-length-3 c = search needs
 
+same-length-4 : tie.Need-same-length-4
+same-length-4 c = search needs
+
 returns-2 : tie.Need-returns-2
-returns-2 c = c .before .before .before .before .before .before .plan-and-commit .ensures
+returns-2 c = c .before .before .before .before .before .before .before .before .plan-and-commit .ensures
 
 pub gauge-receive-spec : {M : Type 1} → statement M
 gauge-receive-spec =
-    tie.close (tie.spec own-form-requires answer-of-requires returns plan-and-commit-requires same-length same-length-2 same-length-3 returns-2)
+    tie.close (tie.spec own-form-requires answer-of-requires returns plan-and-commit-requires same-length same-length-2 same-length-3 same-length-4 returns-2)

@@ -49,7 +49,7 @@ pub fn commit_learn(
     ensures { λ _. ⌜ now (waiting .exit) ≡ bytesOf 2240 (freed at (rows 140 used (now (waiting .entry)))) ⌝ }
 {
     let from = waiting::PLACE_LEN * at + 40;
-    firsts::learn(
+    counted::learn(
         own,
         cache,
         firsts,
@@ -83,7 +83,7 @@ pub fn commit_free(
 {
     if n {
         let from = waiting::PLACE_LEN * at + 8;
-        firsts::remove(own, cache, firsts, held, &waiting[from..from + 32]);
+        counted::remove(own, cache, firsts, held, &waiting[from..from + 32]);
         waiting::free(waiting, used, at);
         return;
     }

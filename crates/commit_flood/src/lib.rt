@@ -138,7 +138,7 @@ pub fn commit_revoke(
         (rows 140 used (now (waiting .entry)))) (rows 140 used (now (waiting .entry)))) ⌝ }
     ensures { λ _. ⌜ now (output .exit) ≡ sending (ackWritten major minor id silent acked n) (now (output .entry)) ⌝ }
 {
-    firsts::remove(own, cache, firsts, held, key);
+    counted::remove(own, cache, firsts, held, key);
     free_inquiry(waiting, used, key);
     let first = send_ack(output, major, minor, id, silent, acked, n);
     gauge_commit::answer_of(0, first, 0)

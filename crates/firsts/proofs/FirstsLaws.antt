@@ -1,10 +1,10 @@
 -- The counts of all bytes, one behind the other: how long they are, one of them read, one of them written; and the empty cache's. Assumes nothing.
 use mathlib.Core.Path.{_≡_, refl, sym, ap, ap₂, _∙_}
-use mathlib.Core.List.{List, [], _∷_, _++_, append-assoc}
+use mathlib.Core.List.{List, [], _∷_, _++_, map, append-assoc}
 use Prim.Native.Nat.{ℕ, zero, suc, _+_, _-_, _*_, _^_, _≤_, _<_}
 use native.Mathlib.Omega.{arith}
 use lib.ListN.{length, take, drop, getD, replicate, length-append, length-map}
-use lib.Seq.{take-at, drop-at, drop-append-add, drop-drop}
+use lib.Seq.{take-at, take-take, drop-at, drop-append-add, drop-drop}
 use Rattle.octet.specs.Number.{Digits, valueBE, valueLE, digitsLE}
 use Rattle.octet.specs.Part.{part, splice}
 use Rattle.octet.proofs.LittleLaws.{length-digitsLE, valueLE-digitsLE}
@@ -13,8 +13,6 @@ use Rattle.kept.specs.Keys.{among}
 use Rattle.record.specs.Record.{keyOf}
 use Rattle.table.specs.Rows.{rows}
 use Rattle.table.proofs.RowLaws.{rows-length}
-use Rattle.cache.specs.Form.{keysOf}
-use Rattle.cache.proofs.FormLaws.{key-of-row}
 use Rattle.firsts.specs.Firsts.{count, countsFrom, firstsOf}
 use Rattle.firsts.specs.Places.{countAt, withCount}
 use Rattle.firsts.proofs.ByteLaws.{key-begins}
@@ -138,28 +136,28 @@ firsts-none = counts-none 0 256
 
 -- ---- of the keys of the first records: a record more
 
-keys-next : (i : ℕ) (s : List ℕ) → keysOf (rows 100 (suc i) s) ≡ keysOf (rows 100 i s) ++ (keyAt (100 * i) s ∷ [])
+keys-next : (i : ℕ) (s : List ℕ) → map keyOf (rows 100 (suc i) s) ≡ map keyOf (rows 100 i s) ++ (keyAt (100 * i) s ∷ [])
 unfolding rows
-keys-next zero s = ap (λ (k : ℕ). k ∷ []) (key-of-row 0 s)
+keys-next zero s = ap (λ (l : List ℕ). valueBE 256 l ∷ []) (take-take 32 100 s (omega arith))
 keys-next (suc i) s =
     let p : 100 + 100 * i ≡ 100 * suc i = omega arith in
     let e : keyAt (100 * i) (drop 100 s) ≡ keyAt (100 * suc i) s =
     ap (λ (l : List ℕ). valueBE 256 (take 32 l)) (drop-drop (100 * i) 100 s ∙ ap (λ (k : ℕ). drop k s) p) in
-    ap (λ (t : List ℕ). keyOf (take 100 s) ∷ t) (keys-next i (drop 100 s) ∙ ap (λ (k : ℕ). keysOf (rows 100 i (drop 100 s)) ++ (k ∷ [])) e)
+    ap (λ (t : List ℕ). keyOf (take 100 s) ∷ t) (keys-next i (drop 100 s) ∙ ap (λ (k : ℕ). map keyOf (rows 100 i (drop 100 s)) ++ (k ∷ [])) e)
 
 module _ (i : ℕ) (s : List ℕ) (few : i ≤ 256) where
-  keys-few : length (keysOf (rows 100 i s)) ≤ 256
+  keys-few : length (map keyOf (rows 100 i s)) ≤ 256
   keys-few = omega (arith, length-map (rows 100 i s) keyOf, rows-length 100 i s)
 
-  pub row-room : (b : ℕ) → b < 256 → countAt b (firstsOf (keysOf (rows 100 i s))) < 65535
+  pub row-room : (b : ℕ) → b < 256 → countAt b (firstsOf (map keyOf (rows 100 i s))) < 65535
   row-room b byte =
-      omega (arith, count-there b byte (keysOf (rows 100 i s)) (omega (arith, keys-few)), count-few b (keysOf (rows 100 i s)), keys-few)
+      omega (arith, count-there b byte (map keyOf (rows 100 i s)) (omega (arith, keys-few)), count-few b (map keyOf (rows 100 i s)), keys-few)
 
   pub row-counted : Digits 256 s → 100 * i + 100 ≤ length s → (b : ℕ) → b < 256 → getD s (100 * i) 0 ≡ b
-      → withCount b (countAt b (firstsOf (keysOf (rows 100 i s))) + 1) (firstsOf (keysOf (rows 100 i s))) ≡ firstsOf (keysOf (rows 100 (i + 1) s))
+      → withCount b (countAt b (firstsOf (map keyOf (rows 100 i s))) + 1) (firstsOf (map keyOf (rows 100 i s))) ≡ firstsOf (map keyOf (rows 100 (i + 1) s))
   row-counted d h b byte e =
-      let l = keysOf (rows 100 i s) in
+      let l = map keyOf (rows 100 i s) in
       let k = keyAt (100 * i) s in
       let n : suc i ≡ i + 1 = omega arith in
       counted-up b byte l (l ++ (k ∷ [])) (more-snoc k b (key-begins (100 * i) s d (omega arith) ∙ e) l) (omega (arith, keys-few))
-      ∙ ap firstsOf (sym (keys-next i s) ∙ ap (λ (j : ℕ). keysOf (rows 100 j s)) n)
+      ∙ ap firstsOf (sym (keys-next i s) ∙ ap (λ (j : ℕ). map keyOf (rows 100 j s)) n)

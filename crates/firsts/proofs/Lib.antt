@@ -1,4 +1,3 @@
 pub mod ByteLaws
 pub mod CountLaws
 pub mod FirstsLaws
-pub mod ChangeLaws

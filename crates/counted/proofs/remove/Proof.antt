@@ -1,4 +1,4 @@
--- `firsts::remove` meets its contract: a key that leaves is one less for its byte. Assumes nothing.
+-- `counted::remove` meets its contract: a key that leaves is one less for its byte. Assumes nothing.
 use mathlib.Core.Path.{_≡_, sym, ap, subst, _∙_}
 use mathlib.Core.Bool.{true, false}
 use mathlib.Core.List.{List}
@@ -16,15 +16,15 @@ use Rattle.kept.specs.Keys.{without}
 use Rattle.cache.specs.Form.{keysOf}
 use Rattle.cache.specs.Change.{Changes, removed}
 use Rattle.cache.proofs.FormLaws.{form-laid}
 use Rattle.firsts.specs.Firsts.{firstsOf}
 use Rattle.firsts.specs.Places.{countAt, withCount}
 use Rattle.firsts.proofs.ByteLaws.{key-begins}
 use Rattle.firsts.proofs.CountLaws.{OneMore, less-without}
 use Rattle.firsts.proofs.FirstsLaws.{firsts-length, counted-down, some-there}
-use Rattle.firsts.proofs.ChangeLaws.{removed-keys, told-left, told-kept}
+use Rattle.counted.proofs.ChangeLaws.{removed-keys, told-left, told-kept}
 use borrow.Author.Needs.{needs}
-use Rattle.firsts.proofs.remove.Statement.{statement}
-use Rattle.firsts.proofs.remove.Tie as tie
+use Rattle.counted.proofs.remove.Statement.{statement}
+use Rattle.counted.proofs.remove.Tie as tie
 
 abbrev start : tie.After-remove → tie.Start
 start c = c .before .before .before .before .before .before

@@ -1,4 +1,4 @@
--- `firsts::learn` meets its contract: a key that joins is one more for its byte, then one that leaves is one less for its own. Assumes nothing.
+-- `counted::learn` meets its contract: a key that joins is one more for its byte, then one that leaves is one less for its own. Assumes nothing.
 use mathlib.Core.Path.{_≡_, sym, ap, subst, _∙_}
 use mathlib.Core.Bool.{true, false}
 use mathlib.Core.List.{List}
@@ -20,15 +20,15 @@ use Rattle.cache.specs.Form.{keysOf}
 use Rattle.cache.specs.Bytes.{afterLearn}
 use Rattle.cache.specs.Change.{changesOf}
 use Rattle.cache.proofs.FormLaws.{form-laid}
 use Rattle.firsts.specs.Firsts.{firstsOf}
 use Rattle.firsts.specs.Places.{countAt, withCount}
 use Rattle.firsts.proofs.ByteLaws.{key-begins}
 use Rattle.firsts.proofs.CountLaws.{OneMore, more-put, less-without}
 use Rattle.firsts.proofs.FirstsLaws.{firsts-length, row-room, counted-up, counted-down, some-there}
-use Rattle.firsts.proofs.ChangeLaws.{Learnt, learnt, told-stays, told-joins, told-alone, told-trades}
+use Rattle.counted.proofs.ChangeLaws.{Learnt, learnt, told-stays, told-joins, told-alone, told-trades}
 use borrow.Author.Needs.{needs}
-use Rattle.firsts.proofs.learn.Statement.{statement}
-use Rattle.firsts.proofs.learn.Tie as tie
+use Rattle.counted.proofs.learn.Statement.{statement}
+use Rattle.counted.proofs.learn.Tie as tie
 
 abbrev start : tie.After-learn → tie.Start
 start c = c .before .before .before .before .before .before
@@ -84,7 +84,7 @@ abbrev learning : tie.After-count-up → tie.After-learn
 learning c = c .before .before .before .before .before .before .before
 
 does-join : (c : tie.After-count-up) → learning c .learn .result .joined ≡ true
-does-join c = not-false _ (c .before .before .before .if1 .left)
+does-join c = not-false (learning c .learn .result .joined) (c .before .before .before .if1 .left)
 
 upped : (c : tie.After-count-up) → c .count-up .last .0 ≡ firstsOf (more (start (learning c)))
 upped c =
@@ -98,7 +98,7 @@ abbrev upping : tie.After-first-byte → tie.After-count-up
 upping c = c .before .before .before .before .before .before
 
 does-leave : (c : tie.After-first-byte) → learning (upping c) .learn .result .left ≡ true
-does-leave c = not-false _ (c .before .before .if2 .left)
+does-leave c = not-false (learning (upping c) .learn .result .left) (c .before .before .if2 .left)
 
 abbrev gone : tie.After-first-byte → ℕ
 gone c = number (learning (upping c) .learn .result .gone)
@@ -122,7 +122,7 @@ same-length c = search needs
 returns : tie.Need-returns
 returns c =
     let at = c .before .before .before .before in
-    (at .learn .ensures .0, start at .pre .1 .1 .1 ∙ sym (ap firstsOf (told-stays (told at) (not-true _ (c .if1 .taken)))))
+    (at .learn .ensures .0, start at .pre .1 .1 .1 ∙ sym (ap firstsOf (told-stays (told at) (not-true (at .learn .result .joined) (c .if1 .taken)))))
 
 shared-slice-read-count-up : tie.Need-shared-slice-read-count-up
 shared-slice-read-count-up c =
@@ -148,7 +148,7 @@ returns-2 : tie.Need-returns-2
 returns-2 c =
     let up = c .before .before .before .before in
     let at = learning up in
-    (at .learn .ensures .0, upped up ∙ sym (ap firstsOf (told-alone (told at) (does-join up) (not-true _ (c .if2 .taken)))))
+    (at .learn .ensures .0, upped up ∙ sym (ap firstsOf (told-alone (told at) (does-join up) (not-true (at .learn .result .left) (c .if2 .taken)))))
 
 first-byte-requires : tie.Need-first-byte-requires
 first-byte-requires c κs = search needs

@@ -1,20 +1,22 @@
--- An accepted call leaves memory in form: cache and waiting table, and what stands beside them as it was. Assumes nothing.
+-- An accepted call leaves memory in form: cache, counts by first byte and waiting table, and what stands beside them as it was. Assumes nothing.
 use mathlib.Core.Path.{_≡_, refl, sym, ap, subst, _∙_}
 use mathlib.Core.Bool.{true, false}
 use mathlib.Core.List.{List, []}
 use Prim.Native.Nat.{ℕ, zero, suc, _^_, _<_}
 use native.Mathlib.Omega.{arith}
 use lib.ListN.{length, getD}
+use borrow.Author.Tests.{not-false}
 use Rattle.key.specs.Number.{keyAt}
 use Rattle.record.specs.Record.{keyOf, recordForm}
 use Rattle.own.specs.Own.{Own, ownKeys, IsOwn}
 use Rattle.own.proofs.FormLaws.{own-some}
 use Rattle.kept.specs.Plain.{NotOwn}
 use Rattle.table.specs.Rows.{rows, bytesOf}
-use Rattle.cache.specs.Form.{Form, cacheForm}
+use Rattle.cache.specs.Form.{Form, keysOf, cacheForm, heldOf}
 use Rattle.cache.specs.Bytes.{afterLearn, afterRemove}
-use Rattle.cache.proofs.FormLaws.{form-true}
+use Rattle.cache.proofs.FormLaws.{form-true, form-held}
 use Rattle.cache.proofs.KeepLaws.{learnt-form, removed-form}
+use Rattle.firsts.specs.Firsts.{firstsOf}
 use Rattle.waiting.specs.Form.{waitingForm, placesOf}
 use Rattle.waiting.specs.Ticking.{ticked}
 use Rattle.waiting.specs.Place.{placeKey, placeRecord}
@@ -28,8 +30,8 @@ use Rattle.plan_send.specs.declared.SendPlan.{SendPlan}
 use Rattle.plan_send.specs.declared.SendPlan.the-variants as S
 use Rattle.gauge_commit.specs.Sending.{answer, Handed, handed}
 use Rattle.gauge_commit.proofs.PlaceLaws.{record-place, record-key}
-use Rattle.gauge_plan.specs.Lent.{Memory, withTables, withWaiting, InForm, Receive, Send, Tick, Call, receives, sends, ticks, lists, ownOf}
-use Rattle.gauge_plan.proofs.MemoryLaws.{in-form-with}
+use Rattle.gauge_plan.specs.Lent.{Memory, withFirsts, withTables, withWaiting, Counted, InForm, Receive, Send, Tick, Call, receives, sends, ticks, lists, ownOf}
+use Rattle.gauge_plan.proofs.MemoryLaws.{in-form-with, known-counts}
 use Rattle.gauge.specs.Words.{Typed}
 use Rattle.gauge.specs.Ours.{ours}
 use Rattle.plan_message.specs.Planned.{receivePlan}
@@ -37,27 +39,12 @@ use Rattle.gauge.specs.Receive.{carried, receiveCall}
 use Rattle.gauge.specs.Send.{sendPlan, sendCarried, sendCall}
 use Rattle.gauge.specs.Counts.{tickAnswered, tickTable, gaugeTick, gaugeList}
 use Rattle.plan_message.proofs.PlannedLaws.{Known, known, learn-needs}
+use Rattle.gauge_laws.proofs.TableLaws.{none-applies}
 use Rattle.gauge_laws.proofs.RefusedLaws.{refused-keeps}
 use Rattle.gauge_laws.proofs.MovedLaws.{receive-ready, receive-left, send-left}
 use Rattle.gauge_laws.proofs.TickLaws.{tick-done}
 
 -- ---- what stands beside the tables is as it was
-
-receive-by : (m : Memory) (l : Receive) (p : Plan)
-    → carried m l p .memory ≡ withTables (carried m l p .memory .cache) (carried m l p .memory .waiting) m
-unfolding carried
-receive-by m l (Refuse n) = refl
-receive-by m l (Flood u s n a opens start len) = refl
-receive-by m l (Revoke h u s n a) = refl
-receive-by m l (Learn h u at) = refl
-receive-by m l (Free h u at n) = refl
-receive-by m l (Certify a i) = refl
-receive-by m l (Show h u a t p z o at size) = refl
-
-pub receive-rest : (m : Memory) (l : Receive)
-    → receiveCall m l .memory ≡ withTables (receiveCall m l .memory .cache) (receiveCall m l .memory .waiting) m
-unfolding receiveCall
-receive-rest m l = receive-by m l (receivePlan m l)
 
 send-by : (m : Memory) (l : Send) (p : SendPlan) → sendCarried m l p .memory ≡ withWaiting (sendCarried m l p .memory .waiting) m
 unfolding sendCarried
@@ -81,38 +68,59 @@ send-cache m l = ap (λ (x : Memory). x .cache) (send-rest m l)
 pub tick-cache : (m : Memory) (l : Tick) → gaugeTick m l .memory .cache ≡ m .cache
 tick-cache m l = ap (λ (x : Memory). x .cache) (tick-rest m l)
 
--- ---- the cache
+-- ---- the cache, and the counts of the keys held
+
+abbrev Held : Own → Memory → Type 0
+Held own m = (cacheForm own (m .cache) ≡ true) × Counted own m
+
+abbrev HeldBy : Own → List ℕ → List (List ℕ) → Type 0
+HeldBy own cache recs = (cacheForm own cache ≡ true) × (firstsOf (keysOf recs) ≡ firstsOf (keysOf (heldOf own cache)))
+
+-- the counts of the records that a cache is written of
+held-by : (own : Own) (cache : List ℕ) (recs : List (List ℕ)) → Form own cache recs → HeldBy own cache recs
+held-by own cache recs f = (form-true own cache recs f, ap (λ (rs : List (List ℕ)). firstsOf (keysOf rs)) (sym (form-held own cache recs f)))
 
 module _ (own : Own) (s : List ℕ) (recs : List (List ℕ)) (f : Form own s recs) where
-  removed-true : (k : ℕ) → cacheForm own (bytesOf (length s) (afterRemove k recs)) ≡ true
-  removed-true k = form-true own _ (afterRemove k recs) (removed-form own k s recs f)
+  removed-held : (k : ℕ) → HeldBy own (bytesOf (length s) (afterRemove k recs)) (afterRemove k recs)
+  removed-held k = held-by own _ (afterRemove k recs) (removed-form own k s recs f)
 
-  learnt-true : (r : List ℕ) → 0 < length own → recordForm r ≡ true → NotOwn own (keyOf r)
-      → cacheForm own (bytesOf (length s) (afterLearn own (length s) recs r)) ≡ true
-  learnt-true r some formed other = form-true own _ (afterLearn own (length s) recs r) (learnt-form own s recs r some f formed other)
+  learnt-held : (r : List ℕ) → 0 < length own → recordForm r ≡ true → NotOwn own (keyOf r)
+      → HeldBy own (bytesOf (length s) (afterLearn own (length s) recs r)) (afterLearn own (length s) recs r)
+  learnt-held r some formed other = held-by own _ (afterLearn own (length s) recs r) (learnt-form own s recs r some f formed other)
 
 module _ (m : Memory) (l : Receive) where
-  plan-cache : cacheForm (ownKeys (l .own)) (m .cache) ≡ true → (p : Plan) → receivePlan m l ≡ p → Known m l p
-      → cacheForm (ownKeys (l .own)) (carried m l p .memory .cache) ≡ true
+  plan-held : Held (ownKeys (l .own)) m → (p : Plan) → receivePlan m l ≡ p → Known m l p → Held (ownKeys (l .own)) (carried m l p .memory)
   unfolding carried
-  plan-cache f (Refuse n) e k = f
-  plan-cache f (Flood u s n a opens start len) e k = f
-  plan-cache f (Revoke h u s n a) e k = removed-true (ownKeys (l .own)) (m .cache) (rows 100 h (m .cache)) (k .ready .form) (keyAt 0 (l .key))
-  plan-cache f (Learn h u at) e k =
+  plan-held f (Refuse n) e k = f
+  plan-held f (Flood u s n a opens start len) e k = f
+  plan-held f (Revoke h u s n a) e k = removed-held (ownKeys (l .own)) (m .cache) (rows 100 h (m .cache)) (k .ready .form) (keyAt 0 (l .key))
+  plan-held f (Learn h u at) e k =
       let t = m .waiting in
       let needs = learn-needs m l e in
       let is = record-place u t at (needs .5) in
-      learnt-true (ownKeys (l .own)) (m .cache) (rows 100 h (m .cache)) (k .ready .form) (placeRecord (getD (rows 140 u t) at [])) (own-some (l .own) (k .ready .owned))
+      learnt-held (ownKeys (l .own)) (m .cache) (rows 100 h (m .cache)) (k .ready .form) (placeRecord (getD (rows 140 u t) at [])) (own-some (l .own) (k .ready .owned))
       (sym (ap recordForm is) ∙ needs .6) (λ o. needs .7 (subst (IsOwn (ownKeys (l .own))) (sym (sym (record-key u t at) ∙ ap keyOf is)) o))
-  plan-cache f (Free h u at true) e k =
-      removed-true (ownKeys (l .own)) (m .cache) (rows 100 h (m .cache)) (k .ready .form) (placeKey (getD (rows 140 u (m .waiting)) at []))
-  plan-cache f (Free h u at false) e k = f
-  plan-cache f (Certify a i) e k = f
-  plan-cache f (Show h u a t p z o at size) e k = f
+  plan-held f (Free h u at true) e k =
+      removed-held (ownKeys (l .own)) (m .cache) (rows 100 h (m .cache)) (k .ready .form) (placeKey (getD (rows 140 u (m .waiting)) at []))
+  plan-held f (Free h u at false) e k = f
+  plan-held f (Certify a i) e k = f
+  plan-held f (Show h u a t p z o at size) e k = f
 
-  receive-cache : receiveCall m l .answer .number ≡ 0 → cacheForm (ownKeys (l .own)) (receiveCall m l .memory .cache) ≡ true
+  receive-held : receiveCall m l .answer .number ≡ 0 → Held (ownKeys (l .own)) (receiveCall m l .memory)
   unfolding receiveCall
-  receive-cache z = plan-cache (receive-ready m l z .cached) (receivePlan m l) refl (known m l)
+  receive-held z =
+      plan-held (receive-ready m l z .cached, known-counts m l (not-false _ (none-applies m (receives l) z .1 .0))) (receivePlan m l) refl (known m l)
+
+  -- "After any accepted call they equal those counted afresh" (02, Wish 12)
+  pub receive-counted : receiveCall m l .answer .number ≡ 0 → Counted (ownKeys (l .own)) (receiveCall m l .memory)
+  receive-counted z = receive-held z .1
+
+  -- and nothing else stands beside the tables
+  pub receive-rest : receiveCall m l .answer .number ≡ 0 → receiveCall m l .memory
+      ≡ withTables (receiveCall m l .memory .cache) (receiveCall m l .memory .waiting)
+      (withFirsts (firstsOf (keysOf (heldOf (ownKeys (l .own)) (receiveCall m l .memory .cache)))) m)
+  receive-rest z =
+      ap (λ (fs : List ℕ). withTables (receiveCall m l .memory .cache) (receiveCall m l .memory .waiting) (withFirsts fs m)) (receive-counted z)
 
 -- ---- every call: "An accepted call leaves the cache, the waiting table and such memory in form."
 
@@ -120,7 +128,7 @@ pub receive-form : (m : Memory) (l : Receive) → receiveCall m l .answer .numbe
     → (cacheForm (ownKeys (l .own)) (receiveCall m l .memory .cache) ≡ true) × (waitingForm (ownKeys (l .own)) (receiveCall m l .memory .waiting) ≡ true)
 receive-form m l z =
     let left = receive-left m l z in
-    (receive-cache m l z, form-test (ownKeys (l .own)) (receiveCall m l .memory .waiting) (left .places) (left .form))
+    (receive-held m l z .0, form-test (ownKeys (l .own)) (receiveCall m l .memory .waiting) (left .places) (left .form))
 
 pub send-form : (m : Memory) (l : Send) → l .id < 2 ^ 32 → sendCall m l .answer .number ≡ 0
     → waitingForm (ownKeys (l .own)) (sendCall m l .memory .waiting) ≡ true
@@ -142,13 +150,13 @@ unfolding gaugeList
 accepted-form m (receives l) i f z =
     let k = ownKeys (l .own) in
     let w = receive-form m l z in
-    subst (InForm k) (sym (receive-rest m l)) (in-form-with k m _ _ f (w .0) (w .1))
+    subst (InForm k) (sym (receive-rest m l z)) (in-form-with k m _ _ _ (w .0) (w .1) refl)
 accepted-form m (sends l) i f z =
     let k = ownKeys (l .own) in
-    subst (InForm k) (sym (send-rest m l)) (in-form-with k m (m .cache) _ f (f .0) (send-form m l i z))
+    subst (InForm k) (sym (send-rest m l)) (in-form-with k m (m .cache) (m .firsts) _ (f .0) (send-form m l i z) (f .2))
 accepted-form m (ticks l) i f z =
     let k = ownKeys (l .own) in
-    subst (InForm k) (sym (tick-rest m l)) (in-form-with k m (m .cache) _ f (f .0) (tick-form m l z))
+    subst (InForm k) (sym (tick-rest m l)) (in-form-with k m (m .cache) (m .firsts) _ (f .0) (tick-form m l z) (f .2))
 accepted-form m (lists l) i f z = f
 
 -- and a refused one leaves all

@@ -4,6 +4,7 @@ pub mod RefusedLaws
 pub mod FirstLaws
 pub mod MovedLaws
 pub mod FormLaws
+pub mod TouchedLaws
 pub mod TickLaws
 pub mod Coincide
 pub mod OneOwnLaws

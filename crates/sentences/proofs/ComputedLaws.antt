@@ -11,6 +11,7 @@ use Rattle.kept.specs.History.{trimmed, learnWith, happen, after}
 use Rattle.kept.specs.Records.{putBy, withoutBy, learnBy}
 use Rattle.table.specs.Rows.{rows, joined, bytesOf, anyOf}
 use Rattle.cache.specs.Form.{follows, leading, heldIn, heldOf, cacheForm}
+use Rattle.firsts.specs.Firsts.{firstByte, count, countsFrom, firstsOf}
 use Rattle.neighbours.specs.Listing.{keyBytes}
 use Rattle.path.specs.Path.{standsIn, onPath}
 use Rattle.neighbours.specs.Closest.{offPath, closestFrom, closestOf}
@@ -32,7 +33,7 @@ use Rattle.wire_fields.specs.Refusals.{inPart, foundIn}
 use Rattle.wire_buffer.specs.Buffer.{flagAt}
 use Rattle.wire_read.specs.Answers.{headOf, precisionAt, incomingOf}
 use Rattle.wire_write.specs.Making.{ackMade, floodMade, inquireMade, cpaMade, closestMade}
-use Rattle.gauge_plan.specs.Memory.{tablesFit, memoryOf, handsFit, tickFit}
+use Rattle.gauge_plan.specs.Memory.{tablesFit, memoryOf, comesFit, countsFit, handsFit, tickFit}
 use Rattle.asking.specs.Asking.{mustAsk, asksFor}
 use Rattle.plan_flood.specs.Flood.{floodPlan, revokePlan}
 use Rattle.plan_answer.specs.Answering.{authorityPlan, inquirePlan, lookupPlan}
@@ -46,9 +47,9 @@ unfoldable pub computed : Unit {0}
 unfolding valueBE valueLE digitsBE digitsLE splice same allZero distance ring half areKeys up isAbove nearness apart isDown tie closer
     orRefuse recordForm entryForm recordOf entryOf
     put without among inOrder lastOr has isListed farthestFrom dropsOf risingBy ownBy ownPlace trimmed learnWith happen after putBy withoutBy learnBy rows joined bytesOf
-    follows leading heldIn heldOf cacheForm keyBytes standsIn onPath offPath closestFrom closestOf listCall
+    follows leading heldIn heldOf cacheForm firstByte count countsFrom firstsOf keyBytes standsIn onPath offPath closestFrom closestOf listCall
     newPlace placeBy anyOf placesBy usedIn usedOf waitingForm seek opened freed ticked listed idBytes tickDone
     arrayForm lookupForm splitForm hasShape kinds.kindsOf kinds.joinedFields kinds.sized spanAt needAt maybeAt placesAt fieldsAs wholeIn inPart foundIn
     cpaForm cpasForm cpaOf flagAt headOf precisionAt incomingOf ackMade floodMade inquireMade cpaMade closestMade
-    tablesFit memoryOf handsFit tickFit mustAsk asksFor floodPlan revokePlan authorityPlan inquirePlan lookupPlan planFor receivePlan carried receiveCall gaugeTick gaugeList
+    tablesFit memoryOf comesFit countsFit handsFit tickFit mustAsk asksFor floodPlan revokePlan authorityPlan inquirePlan lookupPlan planFor receivePlan carried receiveCall gaugeTick gaugeList
 computed = tt

@@ -94,7 +94,7 @@ module _ (m : Memory) (l : Receive) (ok : Fine m l) where
 
     entry-does : Does m l (entry id s (keyAt validate (l .datagram)) r) (Flood (used m l) s n id (mustAsk recs ps r) start len)
     unfolding carried ackMade inquireMade
-    entry-does h = record {
+    entry-does h beside = record {
       x = entry id s (keyAt validate (l .datagram)) r;
       hears = h;
       ds = _;
@@ -107,14 +107,14 @@ module _ (m : Memory) (l : Receive) (ok : Fine m l) where
       };
       sent = record { counts = refl; bytes = refl };
       leaves = record { cache = refl; table = entry-table (mustAsk recs ps r) refl };
-      rest = refl;
+      rest = beside;
     }
 
   -- FLOOD with a revocation
   revoke-does : (id : ℕ) (s : Bool) (validate : ℕ)
       → Does m l (revoke id s (keyAt validate (l .datagram))) (Revoke (held m l) (used m l) s (notOurs (ownKeys (l .own)) validate (l .datagram)) id)
   unfolding carried ackMade heldOf
-  revoke-does id s validate h =
+  revoke-does id s validate h beside =
       let u = keyAt 0 (l .key) in
       record {
         x = revoke id s (keyAt validate (l .datagram));
@@ -131,7 +131,7 @@ module _ (m : Memory) (l : Receive) (ok : Fine m l) where
           table = table-by (ownKeys (l .own)) _ (freedAt (seek (isInquiry u) 0 ps) ps) _ (freed-form (seek (isInquiry u) 0 ps))
               (λ q. none-inquires (ownKeys (l .own)) u q ps (form-placed (ownKeys (l .own)) (m .waiting) (ok .ready .tabled)) (ids-rise m l ok));
         };
-        rest = refl;
+        rest = beside;
       }
     where
       freed-form : (found : Found) → W.PlacesForm (ownKeys (l .own)) (bytesOf 2240 (freedAt found ps)) (freedAt found ps)

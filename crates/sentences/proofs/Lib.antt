@@ -28,3 +28,4 @@ pub mod ComputedLaws
 pub mod ListedLaws
 pub mod GoneLaws
 pub mod SameLaws
+pub mod FirstsLaws

@@ -76,7 +76,7 @@ module _ (m : Memory) (l : Receive) (ok : Fine m l) where
   pub authority-does : (acked : ℕ) (cpa : Bool) → isNothing (seek (isAt acked 2) 0 ps) ≡ false
       → Does m l (authority acked cpa) (Learn (held m l) (used m l) (placeOf (seek (isAt acked 2) 0 ps)))
   unfolding carried heldOf joined
-  authority-does acked cpa bars h =
+  authority-does acked cpa bars h beside =
       let i = at acked 2 bars in
       let p = getD ps i [] in
       let w = found-waits m 2 acked bars in
@@ -94,7 +94,7 @@ module _ (m : Memory) (l : Receive) (ok : Fine m l) where
               (λ o. inquiry-other (ownKeys (l .own)) p good (w .2) (subst (IsOwn (ownKeys (l .own))) (inquiry-key (ownKeys (l .own)) p good (w .2)) o));
           table = freed-table acked 2 bars;
         };
-        rest = refl;
+        rest = beside;
       }
 
   -- ACK
@@ -113,7 +113,7 @@ module _ (m : Memory) (l : Receive) (ok : Fine m l) where
   pub ack-does : (acked : ℕ) (b : Bool) → isNothing (seek (isAt acked 1) 0 ps) ≡ false
       → Does m l (ack acked b) (Free (held m l) (used m l) (placeOf (seek (isAt acked 1) 0 ps)) b)
   unfolding carried heldOf joined
-  ack-does acked b bars h = record {
+  ack-does acked b bars h beside = record {
     x = ack acked b;
     hears = h;
     ds = [];
@@ -125,21 +125,21 @@ module _ (m : Memory) (l : Receive) (ok : Fine m l) where
       cache = ack-cache acked b (getD ps (at acked 1 bars) []);
       table = freed-table acked 1 bars;
     };
-    rest = refl;
+    rest = beside;
   }
 
   -- INQUIRE
   pub inquire-does : (id validate : ℕ) → Does m l (inquire id (keyAt validate (l .datagram)))
       (Certify id (ownPlace (ownKeys (l .own)) (keyAt validate (l .datagram))))
   unfolding carried cpaMade
-  inquire-does id validate h = record {
+  inquire-does id validate h beside = record {
     x = inquire id (keyAt validate (l .datagram));
     hears = h;
     ds = _;
     reply = refl;
     sent = record { counts = refl; bytes = refl };
     leaves = refl;
-    rest = refl;
+    rest = beside;
   }
 
   -- LOOKUP
@@ -163,7 +163,7 @@ module _ (m : Memory) (l : Receive) (ok : Fine m l) where
     pub lookup-does : Does m l (lookup id t q (entryIn (contentsIn (l .datagram) route)))
         (Show (held m l) (used m l) id target path size (opening m l route) (startOf route) (sizeOf route))
     unfolding carried closestMade heldOf
-    lookup-does h =
+    lookup-does h beside =
         record {
           x = lookup id t q (entryIn (contentsIn (l .datagram) route));
           hears = h;
@@ -185,5 +185,5 @@ module _ (m : Memory) (l : Receive) (ok : Fine m l) where
             table = route-table m l ok route w (second-fails (opening m l route) (anyOf (hasId (idAfter (l .id))) ps) waits)
                 (λ o. eqb-false (used m l) 16 (second-fails (opening m l route) (eqb (used m l) 16) full o));
           };
-          rest = refl;
+          rest = beside;
         }

@@ -22,6 +22,7 @@ use Rattle.cache.specs.Form.{keysOf, placesIn, heldOf, cacheForm}
 use Rattle.path.specs.Path.{onPath}
 use Rattle.neighbours.specs.Closest.{candidates, offPath, closestPast}
 use Rattle.cache.proofs.FormLaws.{true-form}
+use Rattle.firsts.specs.Firsts.{firstsOf}
 use Rattle.neighbours.proofs.ClosestLaws.{closest-only}
 use Rattle.neighbours.proofs.SkipLaws.{off-has, has-off, off-held}
 use Rattle.waiting.specs.Place.{idOf, kindOf, triesOf, placeKey, placeRecord}
@@ -32,7 +33,7 @@ use Rattle.gauge_commit.specs.declared.Answer.{Answer}
 use Rattle.gauge_commit.specs.Sending.{answer, lengths, sending, Handed, handed}
 use Rattle.wire_fields.specs.Kinds.{authorityKinds}
 use Rattle.wire_write.specs.Sent.{closestSent}
-use Rattle.gauge_plan.specs.Lent.{Memory, withWaiting, withTables, Receive, Send, Call, receives, sends, ticks, lists, outputOf}
+use Rattle.gauge_plan.specs.Lent.{Memory, withFirsts, withWaiting, withTables, Receive, Send, Call, receives, sends, ticks, lists, outputOf}
 use Rattle.gauge.specs.Words.{Gauge, Typed}
 use Rattle.sentences.specs.Heard.{Heard, entry, revoke, inquire, authority, ack, lookup, other, heard, Hears}
 use Rattle.sentences.specs.Sentences as S
@@ -47,13 +48,13 @@ handed-same h h′ a m o =
     ∙ ap (λ (x : Memory). handed (h′ .answer) x (h .output)) m
     ∙ ap (λ (x : List ℕ). handed (h′ .answer) (h′ .memory) x) o
 
--- two memories that are the lent one with another waiting table; with another cache too
+-- two memories that are the lent one with another waiting table; with another cache too, and the counts of its keys
 table-alone : (m a b : Memory) → a ≡ withWaiting (a .waiting) m → b ≡ withWaiting (b .waiting) m → a .waiting ≡ b .waiting → a ≡ b
 table-alone m a b p q w = p ∙ ap (λ (x : List ℕ). withWaiting x m) w ∙ sym q
 
-tables-alone : (m a b : Memory) → a ≡ withTables (a .cache) (a .waiting) m → b ≡ withTables (b .cache) (b .waiting) m
-    → (a .cache ≡ b .cache) × (a .waiting ≡ b .waiting) → a ≡ b
-tables-alone m a b p q w = p ∙ ap₂ (λ (x y : List ℕ). withTables x y m) (w .0) (w .1) ∙ sym q
+tables-alone : (own : Own) (m a b : Memory) → S.Beside own m a → S.Beside own m b → (a .cache ≡ b .cache) × (a .waiting ≡ b .waiting) → a ≡ b
+tables-alone own m a b p q w =
+    p ∙ ap₂ (λ (x y : List ℕ). withTables x y (withFirsts (firstsOf (keysOf (heldOf own x))) m)) (w .0) (w .1) ∙ sym q
 
 -- ---- the tick
 
@@ -279,7 +280,7 @@ module _ (m : Memory) (l : Receive) (o : ownForm (l .own) ≡ true) (f : cacheFo
       let d = sent-same (l .output) (s .ds) (t .ds) h h′ (s .sent) (t .sent)
       (reply-one m l o f (t .x) (s .ds) (t .ds) (subst (λ (x : Heard). S.Reply m l x (s .ds)) e (s .reply)) (t .reply)) in
       let z = leaves-one (t .x) (h .memory) (h′ .memory) (subst (λ (x : Heard). S.Leaves m l x (h .memory)) e (s .leaves)) (t .leaves) in
-      handed-same h h′ (d .0) (tables-alone m (h .memory) (h′ .memory) (s .rest) (t .rest) z) (d .1)
+      handed-same h h′ (d .0) (tables-alone (ownKeys (l .own)) m (h .memory) (h′ .memory) (s .rest) (t .rest) z) (d .1)
 
 -- ---- the number, and the whole
 

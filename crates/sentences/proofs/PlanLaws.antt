@@ -53,9 +53,9 @@ module _ (m : Memory) (l : Receive) where
     pub ready : Ready (l .own) m held used
     pub hands : Handed (l .own) (l .cpas) (l .nonce) (l .key)
 
-  -- by the message: what a plan does is what the sentence says
+  -- by the message: what a plan does is what the sentence says; of the counts by first byte it is known (receive-rest, gauge_laws)
   abbrev pub Does : Heard → Plan → Type 0
-  Does x p = Hears (l .datagram) (l .major) x → S.Receives m l (carried m l p)
+  Does x p = Hears (l .datagram) (l .major) x → S.Beside (ownKeys (l .own)) m (carried m l p .memory) → S.Receives m l (carried m l p)
 
   module _ (z : receiveCall m l .answer .number ≡ 0) where
     pub fine : Fine

@@ -2,6 +2,7 @@
 use mathlib.Core.Path.{_≡_, refl, sym, subst}
 use Prim.Native.Nat.{_+_, _-_}
 use Rattle.octet.specs.Number.{Bytes}
+use Rattle.own.specs.Own.{ownKeys}
 use Rattle.refusal.proofs.TableLaws.{AllFail, both}
 use Rattle.cache.specs.Form.{heldOf}
 use Rattle.wire_buffer.specs.Buffer.{startOf}
@@ -11,12 +12,14 @@ use Rattle.wire_read.specs.declared.Incoming.the-variants as M
 use Rattle.plan_answer.specs.Answering.{authorityPlan, ackPlan, inquirePlan, lookupPlan}
 use Rattle.look.specs.Seen.{sizeOf}
 use Rattle.gauge_plan.specs.Lent.{Memory, Receive}
+use Rattle.gauge_commit.specs.Sending.{Handed}
 use Rattle.plan_message.specs.Planned.{planFor}
 use Rattle.gauge.specs.Receive.{receiveCall}
 use Rattle.plan_message.proofs.AnswerLaws.{KnownAnswer, known-answer}
 use Rattle.gauge.proofs.ReceiveLaws.{call-by}
 use Rattle.gauge_laws.specs.Table.{messageRows}
 use Rattle.gauge_laws.proofs.TableLaws.{IsMessage}
+use Rattle.gauge_laws.proofs.FormLaws.{receive-rest}
 use Rattle.sentences.specs.Heard.{Heard}
 use Rattle.sentences.specs.Sentences as S
 use Rattle.sentences.proofs.HeardLaws.{heardBy, lookup-heard, answer-hears}
@@ -47,4 +50,5 @@ module _ (m : Memory) (l : Receive) where
       let i = is-message m l z in
       let d = any-does (fine m l z) a i (known-answer (l .datagram) (l .major)) (message-fails m l z)
       (answer-hears (l .datagram) b (l .major) (message-zero a i)) in
-      subst (S.Receives m l) (sym (call-by m l (plan-is m l z))) d
+      let is = call-by m l (plan-is m l z) in
+      subst (S.Receives m l) (sym is) (d (subst (λ (h : Handed). S.Beside (ownKeys (l .own)) m (h .memory)) is (receive-rest m l z)))

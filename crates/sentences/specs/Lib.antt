@@ -6,3 +6,4 @@ pub mod Back
 pub mod Late
 pub mod Listed
 pub mod Same
+pub mod Firsts

@@ -16,6 +16,7 @@ use Rattle.kept.specs.Keys.{_∈_, Rising, plain}
 use Rattle.kept.specs.Neighbours.{IsNeighbours}
 use Rattle.kept.specs.Plain.{neighbourList}
 use Rattle.cache.specs.Form.{keysOf, placesIn, heldOf, cacheForm}
+use Rattle.firsts.specs.Firsts.{firstsOf}
 use Rattle.path.specs.Path.{onPath}
 use Rattle.neighbours.specs.Listing.{keyBytes}
 use Rattle.waiting.specs.Place.{idOf, kindOf, triesOf, placeKey, placeRecord, inquiryPlace, floodPlace}
@@ -27,7 +28,7 @@ use Rattle.wire_fields.specs.Message.{Message, messageBytes, layoutOf}
 use Rattle.wire_write.specs.Sent.{ackSent, floodSent, inquireSent, cpaSent, closestSent}
 use Rattle.asking.specs.Ids.{idAfter}
 use Rattle.gauge_commit.specs.Sending.{answer, lengths, sending, Handed, handed}
-use Rattle.gauge_plan.specs.Lent.{Memory, Receive, cpaFor, Send, Call, receives, sends, ticks, lists, withWaiting, withTables}
+use Rattle.gauge_plan.specs.Lent.{Memory, Receive, cpaFor, Send, Call, receives, sends, ticks, lists, withFirsts, withWaiting, withTables}
 use Rattle.sentences.specs.Heard.{Heard, entry, revoke, inquire, authority, ack, lookup, other, Hears}
 
 -- ---- views: what is held and what waits, for our own keys
@@ -200,6 +201,11 @@ Leaves m l other left = ⊥
 
 -- ---- what each call does, accepted
 
+-- "keep beside the cache 256 counts: how many held keys begin with each byte. After any accepted call they equal those counted afresh" (02, Wish 12); whatever
+-- memory stands beside them and the two tables is as it was
+abbrev pub Beside : Own → Memory → Memory → Type 0
+Beside own m left = left ≡ withTables (left .cache) (left .waiting) (withFirsts (firstsOf (keysOf (heldOf own (left .cache)))) m)
+
 pub record Receives (m : Memory) (l : Receive) (h : Handed) : Type 0 where
   pub x : Heard
   pub hears : Hears (l .datagram) (l .major) x
@@ -207,8 +213,7 @@ pub record Receives (m : Memory) (l : Receive) (h : Handed) : Type 0 where
   pub reply : Reply m l x ds
   pub sent : Sent (l .output) ds h
   pub leaves : Leaves m l x (h .memory)
-  -- whatever memory stands beside cache and waiting table is as it was
-  pub rest : h .memory ≡ withTables (h .memory .cache) (h .memory .waiting) m
+  pub rest : Beside (ownKeys (l .own)) m (h .memory)
 
 -- "a FLOOD to send .. whose record is neither ours nor held": the record is the one of ours with the key, or the one held
 abbrev pub Named : Memory → Send → List ℕ → Type 0
@@ -224,7 +229,7 @@ pub record Sends (m : Memory) (l : Send) (h : Handed) : Type 0 where
   pub r : List ℕ
   pub named : Named m l r
   pub sent : Sent (l .output) (flooding l r) h
-  -- the cache is as it was, and whatever else stands beside the waiting table
+  -- the cache is as it was, with its counts, and whatever else stands beside the waiting table
   pub rest : h .memory ≡ withWaiting (h .memory .waiting) m
   pub table : WaitsExactly (ownKeys (l .own)) (h .memory .waiting) (λ (p : List ℕ). Waits m p ⊎ (p ≡ floodPlace (l .id) (l .neighbour)))
 

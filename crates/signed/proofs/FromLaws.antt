@@ -20,15 +20,18 @@ use Rattle.kept.proofs.ListLaws.{every-at}
 use Rattle.kept.proofs.CallLaws.{after-append, learns-or}
 use Rattle.cache.specs.Form.{cacheForm, keysOf, heldOf}
 use Rattle.cache.proofs.FormLaws.{true-form, form-room}
+use Rattle.firsts.specs.Firsts.{firstsOf}
+use Rattle.firsts.proofs.FirstsLaws.{firsts-none}
 use Rattle.waiting.proofs.FormLaws as WF
 use Rattle.waiting.proofs.RoundLaws.{All}
 use Rattle.gauge_commit.specs.Sending.{OnlyFirst, Handed}
-use Rattle.gauge_plan.specs.Lent.{Memory, InForm, empty, Call, lists, ownOf, outputOf}
+use Rattle.gauge_plan.specs.Lent.{Memory, memory, InForm, empty, Call, lists, ownOf, outputOf}
 use Rattle.gauge.specs.Words.{Gauge, left, Entry, entry, log, returned, Typed, Proper}
 use Rattle.gauge.specs.Ours.{ours}
 use Rattle.sentences.specs.Sentences.{NeighbourList}
 use Rattle.sentences.specs.Meets.{MeetsSentences}
 use Rattle.sentences.proofs.Theorems.{acts}
+use Rattle.sentences.proofs.FirstsLaws.{always-counted}
 use Rattle.signed.specs.Events.{Happened}
 use Rattle.signed.specs.Statements.{ListsThese, MeetsDemand1, MeetsDemand2, Demand3, MeetsDemand3}
 use Rattle.signed.specs.From as F
@@ -90,7 +93,7 @@ module _ (k : Own) (C : ℕ) (cache : List ℕ) (form : cacheForm k cache ≡ tr
   most : C ≤ 256
   most = let p = true-form k cache form .places .most in omega (arith, p, size)
 
-  restart : Inv k C [] (keysOf (heldOf k cache)) (F.restarted cache)
+  restart : Inv k C [] (keysOf (heldOf k cache)) (F.restarted k cache)
   restart = record {
     cached = form;
     tabled = WF.form-test k (replicate 2240 0) [] (empty-table k C least most);
@@ -113,32 +116,48 @@ held-are-kept = held-kept
 
 pub meets-demand3-from : F.MeetsDemand3From ours
 meets-demand3-from k C cache form size calls proper =
-    let r = ran k C [] (keysOf (heldOf k cache)) (F.restarted cache) (restart k C cache form size) calls proper in
-    let evs = events (log ours (F.restarted cache) calls) in
+    let r = ran k C [] (keysOf (heldOf k cache)) (F.restarted k cache) (restart k C cache form size) calls proper in
+    let evs = events (log ours (F.restarted k cache) calls) in
     let all = F.heldBefore k cache ++ evs in
-    let now = left ours (F.restarted cache) calls in
+    let now = left ours (F.restarted k cache) calls in
     let held : keysOf (heldOf k (now .cache)) ≡ kept k C all = r .inv .keeps .held ∙ sym (kept-from k C cache form size evs) in
     let d = each-own k C (least k C cache form size .1) all (none-own k C cache form size evs (r .fine)) in
     record {
       later = evs;
-      happened = log-happened [] (F.restarted cache) calls (typed-calls k calls proper);
+      happened = log-happened [] (F.restarted k cache) calls (typed-calls k calls proper);
       listed = λ j mine. lists-these k (kept k C all) now (r .inv .cached) held j mine (kept k C all) (d j mine .right);
       among-all = λ none j mine. lists-these k (kept k C all) now (r .inv .cached) held j mine (learnedAll all) (d j mine .among-all none);
     }
 
 -- ---- with an empty cache it is demand 3, of any gauge
 
+-- what is lent then is an empty cache, no key counted
+restarted-empty : (k : Own) (C : ℕ) → keysOf (heldOf k (replicate (100 * C) 0)) ≡ [] → F.restarted k (replicate (100 * C) 0) ≡ empty C
+restarted-empty k C none =
+    ap (λ (fs : List ℕ). memory (replicate (100 * C) 0) fs (replicate 2240 0)) (ap firstsOf none ∙ firsts-none)
+
+pub counted-from : F.CountedFrom
+counted-from g p k calls proper = (
+  λ C least most.
+      let none : keysOf (heldOf k (replicate (100 * C) 0)) ≡ [] = start k C least most .keeps .held in
+      always-counted g p k (empty C) (sym (ap firstsOf none ∙ firsts-none)) calls proper,
+  λ cache. always-counted g p k (F.restarted k cache) refl calls proper,
+)
+
 pub from-empty : F.FromEmpty
 from-empty g meets k C least most calls proper =
     let s = start k C least most in
     let r = meets k C (replicate (100 * C) 0) (s .cached) (s .keeps .size) calls proper in
+    let at : F.restarted k (replicate (100 * C) 0) ≡ empty C = restarted-empty k C (s .keeps .held) in
     let e : F.heldBefore k (replicate (100 * C) 0) ++ r .later ≡ r .later = ap (λ (ks : List ℕ). map learned ks ++ r .later) (s .keeps .held) in
     record {
       history = r .later;
-      happened = r .happened;
-      listed = λ j mine. subst (λ (evs : List Event). ListsThese g (left g (empty C) calls) k j (kept k C evs)) e (r .listed j mine);
+      happened = subst (λ (m : Memory). Happened [] (log g m calls) (r .later)) at (r .happened);
+      listed = λ j mine. subst (λ (evs : List Event). ListsThese g (left g (empty C) calls) k j (kept k C evs)) e
+          (subst (λ (m : Memory). ListsThese g (left g m calls) k j (kept k C (F.heldBefore k (replicate (100 * C) 0) ++ r .later))) at (r .listed j mine));
       among-all = λ none j mine. subst (λ (evs : List Event). NoRemoval (drops k) C [] evs → ListsThese g (left g (empty C) calls) k j (learnedAll evs)) e
-          (λ calm. r .among-all calm j mine) none;
+          (λ calm. subst (λ (m : Memory). ListsThese g (left g m calls) k j (learnedAll (F.heldBefore k (replicate (100 * C) 0) ++ r .later))) at
+          (r .among-all calm j mine)) none;
     }
 
 -- ---- a gauge that meets the sentences does what ours does
@@ -164,10 +183,10 @@ pub restarts : F.Restarts
 restarts g p k C cache form size calls proper =
     let o = meets-demand3-from k C cache form size calls proper in
     let ty = typed-calls k calls proper in
-    let same = left-same g p (F.restarted cache) calls ty in
+    let same = left-same g p (F.restarted k cache) calls ty in
     record {
       later = o .later;
-      happened = subst (λ (es : List Entry). Happened [] es (o .later)) (sym (log-same g p (F.restarted cache) calls ty)) (o .happened);
+      happened = subst (λ (es : List Entry). Happened [] es (o .later)) (sym (log-same g p (F.restarted k cache) calls ty)) (o .happened);
       listed = λ j mine. lists-same g p _ _ same k j _ (o .listed j mine);
       among-all = λ none j mine. lists-same g p _ _ same k j _ (o .among-all none j mine);
     }

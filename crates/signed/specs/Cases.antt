@@ -1,24 +1,27 @@
--- Worked cases. Document 01's cases 1 to 12, those marked P, and those of 02's Wishes 4 and 2: rows of one list under one statement. Lists, learning, closest records
+-- Worked cases. Document 01's cases 1 to 12, those marked P, and those of 02's Wishes 4, 2, 11 and 12: rows of one list under one statement. Lists, learning, closest records
 -- and ticks are what our calls give on lent bytes; a difference and an ACK are by the definitions that the calls use. Assumes nothing.
-use Prim.Native.Nat.{ℕ, _+_, _-_, _*_, _^_}
+use Prim.Native.Nat.{ℕ, zero, suc, _+_, _-_, _*_, _^_}
 use mathlib.Core.Path.{_≡_}
 use mathlib.Core.Bool.{Bool, true, false}
 use mathlib.Core.List.{List, [], _∷_, _++_, map}
 use mathlib.Core.Option.{some, none}
 use lib.ListN.{length, replicate}
 use Rattle.octet.specs.Number.{digitsBE}
+use Rattle.octet.specs.Part.{part}
 use Rattle.key.specs.Around as around
 use Rattle.kept.specs.Keys.{Every}
 use Rattle.record.specs.Entry.{entryOf}
 use Rattle.table.specs.Rows.{bytesOf, joined}
+use Rattle.cache.specs.Form.{keysOf}
+use Rattle.firsts.specs.Firsts.{firstsOf}
 use Rattle.neighbours.specs.Listing.{keyBytes}
 use Rattle.waiting.specs.Place.{newPlace, inquiryPlace}
 use Rattle.waiting.specs.Tick.{idBytes}
-use Rattle.wire_fields.specs.Kinds.{lookupKinds}
+use Rattle.wire_fields.specs.Kinds.{floodKinds, lookupKinds}
 use Rattle.wire_fields.specs.Message as message
 use Rattle.wire_write.specs.Making.{ackMade, inquireMade, cpaMade, closestMade}
 use Rattle.gauge_commit.specs.Sending.{answer, handed}
-use Rattle.gauge_plan.specs.Lent.{Memory, empty, withCache, withWaiting, receive, tick, listing, Call, receives, ticks, lists}
+use Rattle.gauge_plan.specs.Lent.{Memory, memory, withFirsts, receive, tick, listing, Call, receives, ticks, lists}
 use Rattle.gauge.specs.Ours.{ours}
 
 -- ---- on which bytes
@@ -30,9 +33,13 @@ key k = digitsBE 256 32 k
 abbrev pub recordWith : ℕ → List ℕ
 recordWith k = key k ++ (0 ∷ 0 ∷ 1 ∷ 0 ∷ []) ++ replicate 64 0
 
--- a cache of C places that holds records with these keys, and a waiting table with these places
+-- a cache of C places that holds these records, with the counts of their keys, and a waiting table with these places
+abbrev pub holdingRecords : ℕ → List (List ℕ) → List (List ℕ) → Memory
+holdingRecords C recs ps = memory (bytesOf (100 * C) recs) (firstsOf (keysOf recs)) (bytesOf 2240 ps)
+
+-- records with these keys
 abbrev pub holding : ℕ → List ℕ → List (List ℕ) → Memory
-holding C keys ps = withCache (bytesOf (100 * C) (map recordWith keys)) (withWaiting (bytesOf 2240 ps) (empty C))
+holding C keys ps = holdingRecords C (map recordWith keys) ps
 
 -- a datagram received by the gauge with the own key, whose CPA is one zero byte, with ID 7 and verdict 1 for the key k, and so many bytes of output
 abbrev pub hearsInto : ℕ → ℕ → ℕ → List ℕ → Call
@@ -52,6 +59,17 @@ inquiryFor k = inquiryPlace 8 (recordWith k)
 
 abbrev pub authority : List ℕ
 authority = cpaMade 6 101 5 8 (0 ∷ []) .bytes
+
+-- a FLOOD with a revocation, D clear, to another's validate key
+abbrev pub revocation : List ℕ
+revocation =
+    message.messageBytes (message.layoutOf floodKinds (record {
+      major = 6;
+      minor = 101;
+      type = 4;
+      id = 5;
+      fields = some (0 ∷ 0 ∷ 0 ∷ []) ∷ some (key 3) ∷ none ∷ some (1 ∷ []) ∷ none ∷ none ∷ [];
+    }))
 
 -- an endpoint, and a record with the key k that has it as its one
 abbrev pub endpoint : ℕ → ℕ → List ℕ
@@ -83,6 +101,18 @@ Ticking m (ids ∷ more) =
     let h = ours m (ticks (tick (recordWith 100) (replicate 64 0))) in
     (h .answer ≡ answer 0 (length ids) 0) × (h .output ≡ idBytes ids ++ replicate (64 - 4 * length ids) 0) × Ticking (h .memory) more
 
+-- n keys from k on, and the key that begins with the byte b, zero behind it
+unfoldable pub keysFrom : ℕ → ℕ → List ℕ
+keysFrom k zero = []
+keysFrom k (suc n) = k ∷ keysFrom (suc k) n
+
+abbrev pub begins : ℕ → ℕ
+begins b = b * 2 ^ 248
+
+-- the two bytes of a byte's count
+abbrev pub countOf : ℕ → List ℕ → List ℕ
+countOf b firsts = part (2 * b) 2 firsts
+
 -- ---- the rows
 
 pub data Case : Type 0 where
@@ -106,6 +136,14 @@ pub data Case : Type 0 where
   acks : ℕ → ℕ → ℕ → ℕ → Bool → List ℕ → Case
   -- the ID of a place and its tries; what each tick lists, the last of them frees it
   waits : ℕ → ℕ → List (List ℕ) → Case
+  -- held keys, key learned, a byte; the two bytes of its count then
+  counted : List ℕ → ℕ → ℕ → List ℕ → Case
+  -- held keys, key revoked, a byte; the two bytes of its count then
+  uncounted : List ℕ → ℕ → ℕ → List ℕ → Case
+  -- held keys, counts that are not theirs: 1
+  disagrees : List ℕ → List ℕ → Case
+  -- keys, a byte; the two bytes of its count
+  tallied : List ℕ → ℕ → List ℕ → Case
 
 -- a key is learned by the AUTHORITY that answers its inquiry; the closest record is what a LOOKUP is answered with
 abbrev pub Right : Case → Type 0
@@ -123,7 +161,7 @@ Right (shown own held target k) =
     ours (holding 10 held []) (hears own 0 (lookupOf target))
     ≡ handed (answer 0 96 0) (holding 10 held []) (closestMade 6 101 7 5 (recordWith k) 0 .bytes)
 Right (skipped own held path target r) =
-    let m = withCache (bytesOf 1000 held) (empty 10) in
+    let m = holdingRecords 10 held [] in
     ours m (hears own 0 (lookupBy none path target)) ≡ handed (answer 0 96 0) m (closestMade 6 101 7 5 r 0 .bytes)
 Right (inquiredOf own k) =
     ours (holding 10 [] []) (hearsInto 172 own 0 (lookupBy (some (entryOf 6 101 (recordWith k))) (endpoint 1 1 ∷ []) k))
@@ -132,6 +170,12 @@ Right (inquiredOf own k) =
 Right (differ j k d) = around.apart j k ≡ d
 Right (acks major minor id acked n bytes) = ackMade major minor id acked n .bytes ≡ bytes
 Right (waits id tries ids) = Ticking (holding 10 [] (newPlace id 1 tries (key 7) (replicate 100 0) ∷ [])) ids
+Right (counted held k b bytes) = countOf b (ours (holding 10 held (inquiryFor k ∷ [])) (hears 100 k authority) .memory .firsts) ≡ bytes
+Right (uncounted held k b bytes) = countOf b (ours (holding 10 held []) (hears 100 k revocation) .memory .firsts) ≡ bytes
+Right (disagrees held firsts) =
+    let m = withFirsts firsts (holding 10 held []) in
+    ours m (hears 100 0 (lookupOf 7)) ≡ handed (answer 1 0 0) m (replicate 96 0)
+Right (tallied keys b bytes) = countOf b (firstsOf keys) ≡ bytes
 
 -- the nine keys before the ring's first
 abbrev pub lastNine : List ℕ
@@ -150,7 +194,8 @@ ponds = recordOn 99 5000 1 ∷ recordOn 101 5002 3 ∷ []
 -- 1 to 12, in order, "Case 9's answer becomes 0" (Wish 4); then Wish 4's own: pond 1 has the last pond as neighbour below; the opposite key is above; at equal
 -- distance the key reached by going down; the key next to the opposite point is dropped; then Wish 2's: a record on the path is skipped, and not for its address
 -- alone, its port alone, the two in different endpoints, an address that it does not use; our own record is not skipped; a LOOKUP's route entry is inquired about; then Wish 11's:
--- with two own keys a key in neither list is dropped, and an INQUIRE is answered with the CPA of its key's record
+-- with two own keys a key in neither list is dropped, and an INQUIRE is answered with the CPA of its key's record; then Wish 12's: a key that begins with 5 is
+-- learned; case 3 once more, where ten begin with 0 and ten still do; a key that is held is revoked, and one that is not; counts off by one; 256 keys of one byte
 abbrev pub cases : List Case
 cases =
     listed 100 (60 ∷ 70 ∷ 80 ∷ 90 ∷ 95 ∷ 99 ∷ 101 ∷ 110 ∷ []) (99 ∷ 95 ∷ 90 ∷ 80 ∷ 70 ∷ 101 ∷ 110 ∷ []) 5 2
@@ -181,6 +226,12 @@ cases =
     ∷ learntBy 20 100 200 twoLists 150 twoLists
     ∷ certified 100 200 100 (7 ∷ [])
     ∷ certified 100 200 200 (8 ∷ [])
+    ∷ counted [] (begins 5) 5 (1 ∷ 0 ∷ [])
+    ∷ counted (keysFrom 90 10) 101 0 (10 ∷ 0 ∷ [])
+    ∷ uncounted (begins 5 ∷ []) (begins 5) 5 (0 ∷ 0 ∷ [])
+    ∷ uncounted (begins 5 ∷ []) (begins 6) 5 (1 ∷ 0 ∷ [])
+    ∷ disagrees (99 ∷ []) (replicate 512 0)
+    ∷ tallied (keysFrom 1000 256) 0 (0 ∷ 1 ∷ [])
     ∷ []
 
 abbrev pub AllRight : Type 0

@@ -7,29 +7,15 @@ use mathlib.Core.Path.{_≡_, refl}
 use native.Mathlib.Omega.{arith}
 use lib.ListN.{length, getD, replicate}
 use Rattle.record.specs.Entry.{entryOf}
-use Rattle.table.specs.Rows.{bytesOf}
 use Rattle.waiting.specs.Form.{usedOf}
 use Rattle.waiting.specs.Place.{newPlace}
-use Rattle.wire_fields.specs.Kinds.{floodKinds}
-use Rattle.wire_fields.specs.Message as message
 use Rattle.wire_write.specs.Making.{floodMade, inquireMade}
-use Rattle.gauge_plan.specs.Lent.{empty, withCache, tick, listing, Call, ticks, lists}
+use Rattle.gauge_plan.specs.Lent.{withFirsts, tick, listing, Call, ticks, lists}
 use Rattle.gauge_commit.specs.Sending.{Handed}
 use Rattle.sentences.proofs.ComputedLaws.{computed}
-use Rattle.signed.specs.Cases.{key, recordWith, recordOn, endpoint, holding, hearsInto, hearsTwo, hears, inquiryFor, authority, lookupBy, lookupOf}
+use Rattle.signed.specs.Cases.{key, recordWith, recordOn, endpoint, holdingRecords, holding, hearsInto, hearsTwo, hears, inquiryFor, authority, revocation, lookupBy, lookupOf}
 use Rattle.controls.specs.Wrong as W
 use Rattle.controls.proofs.ShutLaws.{fits, fits-bytes, shut}
-
--- a FLOOD with a revocation, D clear, to another's validate key
-abbrev revocation : List ℕ
-revocation =
-    message.messageBytes (message.layoutOf floodKinds (record {
-      major = 6;
-      minor = 101;
-      type = 4;
-      id = 5;
-      fields = some (0 ∷ 0 ∷ 0 ∷ []) ∷ some (key 3) ∷ none ∷ some (1 ∷ []) ∷ none ∷ none ∷ [];
-    }))
 
 -- an inquiry for 99 waits, and 99 is revoked
 revokes-late-shut : W.Shut W.revokesLate
@@ -171,7 +157,7 @@ cameBy = lookupBy none (endpoint 5000 1 ∷ []) 99
 sends-back-shut : W.Shut W.sendsBack
 unfolding computed W.sendsBack fits
 sends-back-shut =
-    shut W.sendsBack (withCache (bytesOf 1000 (recordOn 99 5000 1 ∷ [])) (empty 10)) (hears 100 0 cameBy) (λ (h : Handed). getD (h .output) 71 0)
+    shut W.sendsBack (holdingRecords 10 (recordOn 99 5000 1 ∷ []) []) (hears 100 0 cameBy) (λ (h : Handed). getD (h .output) 71 0)
     (fits-bytes cameBy refl, omega arith) (λ e. absurd (let z : _≡_ {A = ℕ} 99 100 = e in omega arith))
 
 -- a LOOKUP with a route entry of 99's record
@@ -211,6 +197,21 @@ first-list-shut =
     shut W.firstList (holding 20 (150 ∷ []) []) (lists (listing (recordWith 100 ++ recordWith 200) (key 200) (replicate 320 0))) (λ (h : Handed). h .answer .first) tt
     (λ e. absurd (let z : _≡_ {A = ℕ} 0 1 = e in omega arith))
 
+-- case 3 once more: 90 is dropped and 101 joins, and all of these begin with the byte 0
+counts-dropped-shut : W.Shut W.countsDropped
+unfolding computed W.countsDropped fits
+counts-dropped-shut =
+    shut W.countsDropped (holding 10 (90 ∷ 91 ∷ 92 ∷ 93 ∷ 94 ∷ 95 ∷ 96 ∷ 97 ∷ 98 ∷ 99 ∷ []) (inquiryFor 101 ∷ [])) (hears 100 101 authority)
+    (λ (h : Handed). getD (h .memory .firsts) 0 0) (fits-bytes authority refl, omega arith)
+    (λ e. absurd (let z : _≡_ {A = ℕ} 11 10 = e in omega arith))
+
+-- 99 is held, and no key counted
+recounts-shut : W.Shut W.recounts
+unfolding computed W.recounts fits
+recounts-shut =
+    shut W.recounts (withFirsts (replicate 512 0) (holding 10 (99 ∷ []) [])) (hears 100 0 (lookupOf 99)) (λ (h : Handed). h .answer .number)
+    (fits-bytes (lookupOf 99) refl, omega arith) (λ e. absurd (let z : _≡_ {A = ℕ} 0 1 = e in omega arith))
+
 pub all-shut : W.AllShut
 all-shut = (
   never-acks-shut,
@@ -242,7 +243,7 @@ all-shut = (
                             asks-again-shut,
                             (
                               resets-tries-shut,
-                              (keeps-tries-shut, (frees-all-shut, (wants-more-shut, (sends-back-shut, (leaves-unasked-shut, (n-by-the-first-shut, (first-cpa-shut, (first-list-shut, tt)))))))),
+                              (keeps-tries-shut, (frees-all-shut, (wants-more-shut, (sends-back-shut, (leaves-unasked-shut, (n-by-the-first-shut, (first-cpa-shut, (first-list-shut, (counts-dropped-shut, (recounts-shut, tt)))))))))),
                             ),
                           ),
                         ),

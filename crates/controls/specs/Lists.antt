@@ -9,7 +9,7 @@ use Rattle.own.specs.Own.{ownKeys}
 use Rattle.table.specs.Rows.{bytesOf}
 use Rattle.cache.specs.Form.{heldOf}
 use Rattle.gauge_commit.specs.Sending.{answer, handed}
-use Rattle.gauge_plan.specs.Lent.{withCache, Call, receives, sends, ticks, lists, ownOf, outputOf}
+use Rattle.gauge_plan.specs.Lent.{withCache, withFirsts, Call, receives, sends, ticks, lists, ownOf, outputOf}
 use Rattle.gauge.specs.Words.{Gauge}
 use Rattle.gauge.specs.Ours.{ours}
 use Rattle.sentences.specs.Meets.{MeetsTable, MeetsSentences}
@@ -32,11 +32,11 @@ refusesAll n m c = handed (answer n 0 0) m (outputOf c)
 unfoldable pub emptyList : Gauge
 emptyList m c = cond (isList c) (handed (answer 0 0 0) m (outputOf c)) (ours m c)
 
--- "one that learns nothing": as ours, but the cache stays as lent
+-- "one that learns nothing": as ours, but the cache stays as lent, and the counts of its keys
 unfoldable pub learnsNothing : Gauge
 learnsNothing m c =
     let h = ours m c in
-    handed (h .answer) (withCache (m .cache) (h .memory)) (h .output)
+    handed (h .answer) (withCache (m .cache) (withFirsts (m .firsts) (h .memory))) (h .output)
 
 -- "one that learns the first AUTHORITY and only says 0 to later ones": as ours while nothing is held, then the cache stays as lent
 unfoldable pub learnsOnce : Gauge

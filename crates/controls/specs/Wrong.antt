@@ -6,13 +6,16 @@ use mathlib.Core.List.{List, [], _∷_, _++_}
 use lib.Dec.{eqb, leb, ltb}
 use lib.ListN.{length, getD, replicate, set, take, drop}
 use Rattle.octet.specs.Part.{part, same, allZero}
-use Rattle.own.specs.Own.{ownRecords}
+use Rattle.own.specs.Own.{ownKeys, ownRecords}
 use Rattle.table.specs.Rows.{joined}
 use Rattle.cpas.specs.Cpas.{cpaSize}
 use Rattle.kept.specs.Keys.{Every}
+use Rattle.cache.specs.Form.{keysOf, heldOf}
+use Rattle.firsts.specs.Firsts.{firstsOf}
+use Rattle.firsts.specs.Places.{countAt, withCount}
 use Rattle.waiting.specs.Form.{usedOf}
 use Rattle.gauge_commit.specs.Sending.{answer, Handed, handed}
-use Rattle.gauge_plan.specs.Lent.{withCache, withWaiting, hearingAs, hearing, handing, listing, Call, receives, sends, ticks, lists, ownOf, outputOf}
+use Rattle.gauge_plan.specs.Lent.{Memory, withCache, withFirsts, withWaiting, hearingAs, hearing, handing, listing, Call, receives, sends, ticks, lists, ownOf, outputOf}
 use Rattle.gauge.specs.Words.{Gauge}
 use Rattle.gauge.specs.Ours.{ours}
 use Rattle.sentences.specs.Meets.{MeetsSentences}
@@ -46,6 +49,23 @@ heardBy r (lists l) = lists l
 -- a cache without its first record
 abbrev pub behindFirst : List ℕ → List ℕ
 behindFirst cache = drop 100 cache ++ replicate 100 0
+
+-- the counts by first byte with one more for the byte b, and with one less
+abbrev pub oneUp : ℕ → List ℕ → List ℕ
+oneUp b firsts = withCount b (countAt b firsts + 1) firsts
+
+abbrev pub oneDown : ℕ → List ℕ → List ℕ
+oneDown b firsts = withCount b (countAt b firsts - 1) firsts
+
+-- memory with an empty cache; without its first record; with cache and counts as they were lent
+abbrev pub forgetting : Memory → Memory
+forgetting m = withCache (replicate (length (m .cache)) 0) (withFirsts (replicate 512 0) m)
+
+abbrev pub forgettingFirst : Memory → Memory
+forgettingFirst m = withCache (behindFirst (m .cache)) (withFirsts (oneDown (getD (m .cache) 0 0) (m .firsts)) m)
+
+abbrev pub asHeld : Memory → Memory → Memory
+asHeld m left = withCache (m .cache) (withFirsts (m .firsts) left)
 
 -- is the last place of the cache used? Its count of addresses stands 66 bytes before the end
 abbrev pub isFull : List ℕ → Bool
@@ -112,12 +132,12 @@ movesSecond m c =
 -- a LOOKUP is always shown our own record, or always one held
 unfoldable pub showsOwn : Gauge
 showsOwn m c =
-    let h = ours (withCache (replicate (length (m .cache)) 0) m) c in
+    let h = ours (forgetting m) c in
     cond (hearsType 11 c) (handed (h .answer) m (h .output)) (ours m c)
 
 unfoldable pub showsHeld : Gauge
 showsHeld m c =
-    let h = ours (withCache (behindFirst (m .cache)) m) (heardBy (part 0 100 (m .cache)) c) in
+    let h = ours (forgettingFirst m) (heardBy (part 0 100 (m .cache)) c) in
     cond (hearsType 11 c && not (allZero (m .cache))) (handed (h .answer) m (h .output)) (ours m c)
 
 -- document 01's first slip, four bytes of a difference: a record that agrees with the target in its key's last four bytes is shown; here the second held.
@@ -125,7 +145,7 @@ showsHeld m c =
 unfoldable pub fourBytes : Gauge
 fourBytes m c =
     let r = part 100 100 (m .cache) in
-    let h = ours (withCache (replicate (length (m .cache)) 0) m) (heardBy r c) in
+    let h = ours (forgetting m) (heardBy r c) in
     cond (hearsType 11 c && same (part 28 4 r) (part 56 4 (datagramOf c))) (handed (h .answer) m (h .output)) (ours m c)
 
 -- a LOOKUP is sent back where it came from: its path is heard as if the first endpoint were another. Without a route entry its port stands at 108
@@ -145,16 +165,34 @@ unfoldable pub learnsEarly : Gauge
 learnsEarly m c =
     let h = ours m c in
     cond (hearsType 4 c && allZero (m .cache) && ltb 0 (usedOf (h .memory .waiting)))
-    (handed (h .answer) (withCache (part 40 100 (h .memory .waiting) ++ drop 100 (m .cache)) (h .memory)) (h .output)) h
+    (handed (h .answer) (withCache (part 40 100 (h .memory .waiting) ++ drop 100 (m .cache))
+    (withFirsts (oneUp (getD (h .memory .waiting) 40 0) (m .firsts)) (h .memory))) (h .output)) h
 
 -- document 01's fourth slip: where the cache is full, the newcomer is dropped always; or the record that has stood longest at its start, never the newcomer
 unfoldable pub dropsNewcomer : Gauge
 dropsNewcomer m c =
     let h = ours m c in
-    cond (hearsType 8 c && isFull (m .cache)) (handed (h .answer) (withCache (m .cache) (h .memory)) (h .output)) h
+    cond (hearsType 8 c && isFull (m .cache)) (handed (h .answer) (asHeld m (h .memory)) (h .output)) h
 
 unfoldable pub dropsOldest : Gauge
-dropsOldest m c = cond (hearsType 8 c && isFull (m .cache)) (ours (withCache (behindFirst (m .cache)) m) c) (ours m c)
+dropsOldest m c = cond (hearsType 8 c && isFull (m .cache)) (ours (forgettingFirst m) c) (ours m c)
+
+-- the key that is dropped is still counted by its first byte (02, Wish 12): the newcomer's count goes up, and none down
+abbrev pub keyIn : Call → List ℕ
+keyIn (receives l) = l .key
+keyIn (sends l) = l .key
+keyIn (ticks l) = []
+keyIn (lists l) = l .key
+
+unfoldable pub countsDropped : Gauge
+countsDropped m c =
+    let h = ours m c in
+    cond (hearsType 8 c && isFull (m .cache))
+    (handed (h .answer) (withFirsts (oneUp (getD (keyIn c) 0 0) (m .firsts)) (h .memory)) (h .output)) h
+
+-- counts that disagree with the cache are not refused, but counted afresh
+unfoldable pub recounts : Gauge
+recounts m c = ours (withFirsts (firstsOf (keysOf (heldOf (ownKeys (ownOf c)) (m .cache)))) m) c
 
 -- ---- what waits
 
@@ -178,8 +216,8 @@ keepsPlace m c = let h = ours m c in cond (hearsType 8 c) (handed (h .answer) (w
 -- a place opens though the very same record is held
 unfoldable pub asksAgain : Gauge
 asksAgain m c =
-    let h = ours (withCache (replicate (length (m .cache)) 0) m) c in
-    cond (hearsType 4 c) (handed (h .answer) (withCache (m .cache) (h .memory)) (h .output)) (ours m c)
+    let h = ours (forgetting m) c in
+    cond (hearsType 4 c) (handed (h .answer) (asHeld m (h .memory)) (h .output)) (ours m c)
 
 -- a LOOKUP's route entry is not inquired about
 unfoldable pub leavesUnasked : Gauge
@@ -214,4 +252,5 @@ abbrev pub AllShut : Type 0
 AllShut =
     Every Shut
     (neverAcks ∷ neverN ∷ nByTheRecord ∷ movesSecond ∷ showsOwn ∷ showsHeld ∷ fourBytes ∷ learnsEarly ∷ dropsNewcomer ∷ dropsOldest ∷ revokesLate
-    ∷ freesThenRefuses ∷ keepsPlace ∷ asksAgain ∷ resetsTries ∷ keepsTries ∷ freesAll ∷ wantsMore ∷ sendsBack ∷ leavesUnasked ∷ nByTheFirst ∷ firstCpa ∷ firstList ∷ [])
+    ∷ freesThenRefuses ∷ keepsPlace ∷ asksAgain ∷ resetsTries ∷ keepsTries ∷ freesAll ∷ wantsMore ∷ sendsBack ∷ leavesUnasked ∷ nByTheFirst ∷ firstCpa ∷ firstList
+    ∷ countsDropped ∷ recounts ∷ [])

@@ -1,14 +1,14 @@
 // All that is known at a record, in one slice: the tables as they were before its call, the night as it is now, what the call has
 // written, the row of the second file, and the record.
-pub(crate) const NOW: usize = 8640;
+pub(crate) const NOW: usize = 9152;
 
-pub(crate) const OUTPUT: usize = 17382;
+pub(crate) const OUTPUT: usize = 18406;
 
-pub(crate) const ROW: usize = 19846;
+pub(crate) const ROW: usize = 20870;
 
-pub(crate) const RECORD: usize = 19886;
+pub(crate) const RECORD: usize = 20910;
 
-pub const SIZE: usize = 85423;
+pub const SIZE: usize = 86447;
 
 // All of it, put there: the record, of so many bytes of its room, behind the rest, as its length may be any.
 pub(crate) fn gather(
@@ -47,7 +47,7 @@ pub(crate) fn cache(m: &[u8], at: usize) -> &[u8] {
 
 pub(crate) fn waiting(m: &[u8], at: usize) -> &[u8] {
     let start = at % 65536;
-    text::part(m, start + night::CACHE, start + night::TABLES)
+    text::part(m, start + night::WAITING_AT, start + night::TABLES)
 }
 
 pub(crate) fn own(m: &[u8]) -> &[u8] {

@@ -55,7 +55,7 @@ fn say_place(table: &[u8], row: u64, names: &[u8], place: &[u8], other: &[u8], w
 pub(crate) fn say_places(table: &[u8], row: u64, names: &[u8], m: &[u8], waits: bool) {
     let mut i = 0;
     while i < 16 {
-        let start = night::CACHE + 140 * i;
+        let start = night::WAITING_AT + 140 * i;
         let place = text::part(m, start, start + 140);
         say_place(table, row, names, place, memory::waiting(m, NOW), waits);
         i += 1;

@@ -10,7 +10,7 @@ use borrow.Author.Tests.{eq-eqb, ne-eqb}
 use Rattle.octet.specs.Number.{valueLE}
 use Rattle.octet.specs.Part.{part, splice}
 use Rattle.octet.proofs.PartLaws.{length-part, splice-whole, length-splice, part-splice, take-splice, drop-splice}
-use Rattle.gauge_plan.specs.Lent.{Memory, memory, withCache, withWaiting, withTables, receive, send, tick, Call, receives, sends, ticks}
+use Rattle.gauge_plan.specs.Lent.{Memory, memory, withCache, withFirsts, withWaiting, withTables, receive, send, tick, Call, receives, sends, ticks}
 use Rattle.gauge_commit.specs.declared.Answer.{Answer}
 use Rattle.gauge_commit.specs.Sending.{Handed, handed}
 use Rattle.gauge.specs.Ours.{ours}
@@ -49,6 +49,15 @@ kept-part a n at xs s w h =
     sym (part-take a n at (splice at xs s) w (omega (arith, length-splice at xs s h)))
     ∙ ap (λ (x : List ℕ). take n (drop a x)) (kept-front at xs s h) ∙ part-take a n at s w (omega arith)
 
+kept-from : (a at : ℕ) (xs s : List ℕ) → at + length xs ≤ a → at + length xs ≤ length s → drop a (splice at xs s) ≡ drop a s
+kept-from a at xs s w h =
+    let e : at + length xs + (a - (at + length xs)) ≡ a = omega arith in
+    ap (λ (j : ℕ). drop j (splice at xs s)) (sym e) ∙ kept-behind at xs s h (a - (at + length xs)) ∙ ap (λ (j : ℕ). drop j s) e
+
+-- what stands at a part, and what behind it
+piece : (at n : ℕ) (s : List ℕ) → part at n s ++ drop (at + n) s ≡ drop at s
+piece at n s = ap (λ (x : List ℕ). part at n s ++ x) (sym (drop-drop n at s)) ∙ take-append-drop n (drop at s)
+
 -- ---- the night's slice
 
 -- a part taken out into zeros of its length
@@ -57,66 +66,77 @@ taken-out at n s h = splice-whole (part at n s) (replicate n 0) (length-part at 
 
 -- another length, and the opening has another
 pub opening-unfit : (s : List ℕ) → (length s ≡ stateLen → ⊥) → length (nightIn s .opening) ≡ 102 → ⊥
-opening-unfit s u e = u (omega (arith, e, length-drop 8640 s))
+opening-unfit s u e = u (omega (arith, e, length-drop 9152 s))
 
-module _ (s : List ℕ) (fit : length s ≡ 8742) where
+same-night : {o o′ c c′ f f′ w w′ : List ℕ} → o ≡ o′ → c ≡ c′ → f ≡ f′ → w ≡ w′ → night o (memory c f w) ≡ night o′ (memory c′ f′ w′)
+same-night o c f w = λ i. night (o i) (memory (c i) (f i) (w i))
+
+module _ (s : List ℕ) (fit : length s ≡ 9254) where
   -- versions and own record as they stand there
-  pub own-taken : take (length s - 8642) (drop 8642 s) ≡ nightOwn (nightIn s .opening)
-  own-taken = ap₂ take (let e : length s - 8642 ≡ 100 = omega (arith, fit) in e) (sym (drop-drop 2 8640 s))
+  pub own-taken : take (length s - 9154) (drop 9154 s) ≡ nightOwn (nightIn s .opening)
+  own-taken = ap₂ take (let e : length s - 9154 ≡ 100 = omega (arith, fit) in e) (sym (drop-drop 2 9152 s))
 
-  pub own-copied : splice 0 (take (length s - 8642) (drop 8642 s)) (replicate 100 0) ≡ nightOwn (nightIn s .opening)
+  pub own-copied : splice 0 (take (length s - 9154) (drop 9154 s)) (replicate 100 0) ≡ nightOwn (nightIn s .opening)
   own-copied =
-      splice-whole (take (length s - 8642) (drop 8642 s)) (replicate 100 0)
-      (omega (arith, fit, length-take-le (length s - 8642) (drop 8642 s) (omega (arith, length-drop 8642 s)), length-replicate {A = ℕ} 100 0))
+      splice-whole (take (length s - 9154) (drop 9154 s)) (replicate 100 0)
+      (omega (arith, fit, length-take-le (length s - 9154) (drop 9154 s) (omega (arith, length-drop 9154 s)), length-replicate {A = ℕ} 100 0))
       ∙ own-taken
 
-  pub major-taken : getD s 8640 0 ≡ majorOf (nightIn s .opening)
-  major-taken = sym (getD-drop 8640 s 0 0)
+  pub major-taken : getD s 9152 0 ≡ majorOf (nightIn s .opening)
+  major-taken = sym (getD-drop 9152 s 0 0)
 
-  pub minor-taken : getD s 8641 0 ≡ minorOf (nightIn s .opening)
-  minor-taken = sym (getD-drop 8640 s 1 0)
+  pub minor-taken : getD s 9153 0 ≡ minorOf (nightIn s .opening)
+  minor-taken = sym (getD-drop 9152 s 1 0)
 
   pub opening-fits : length (nightIn s .opening) ≡ 102
-  opening-fits = omega (arith, fit, length-drop 8640 s)
+  opening-fits = omega (arith, fit, length-drop 9152 s)
 
-  -- what is written back: the cache; the waiting table; the opening
+  -- what is written back: the cache; the counts by first byte; the waiting table; the opening
   cache-back : (c : List ℕ) → length c ≡ 6400 → nightIn (splice 0 c s) ≡ night (nightIn s .opening) (withCache c (nightIn s .memory))
   cache-back c e =
       let h : 0 + length c ≤ length s = omega (arith, e, fit) in
       let here : part 0 6400 (splice 0 c s) ≡ c = rw e at (part-splice 0 c s h) in
-      let behind : drop 6400 (splice 0 c s) ≡ drop 6400 s = rw e at (drop-splice 0 c s h) in
-      let last : drop 8640 (splice 0 c s) ≡ drop 8640 s = rw e at (kept-behind 0 c s h 2240) in
-      ap (λ (o : List ℕ). night o (nightIn (splice 0 c s) .memory)) last
-      ∙ ap₂ (λ (x b : List ℕ). night (drop 8640 s) (memory x (take 2240 b))) here behind
+      let counts = ap (take 512) (kept-from 6400 0 c s (omega (arith, e)) h) in
+      let table = ap (take 2240) (kept-from 6912 0 c s (omega (arith, e)) h) in
+      same-night (kept-from 9152 0 c s (omega (arith, e)) h) here counts table
 
-  waiting-back : (w : List ℕ) → length w ≡ 2240 → nightIn (splice 6400 w s) ≡ night (nightIn s .opening) (withWaiting w (nightIn s .memory))
+  firsts-back : (f : List ℕ) → length f ≡ 512 → nightIn (splice 6400 f s) ≡ night (nightIn s .opening) (withFirsts f (nightIn s .memory))
+  firsts-back f e =
+      let h : 6400 + length f ≤ length s = omega (arith, e, fit) in
+      let here : part 6400 512 (splice 6400 f s) ≡ f = rw e at (part-splice 6400 f s h) in
+      let table = ap (take 2240) (kept-from 6912 6400 f s (omega (arith, e)) h) in
+      same-night (kept-from 9152 6400 f s (omega (arith, e)) h) (kept-part 0 6400 6400 f s (omega arith) h) here table
+
+  waiting-back : (w : List ℕ) → length w ≡ 2240 → nightIn (splice 6912 w s) ≡ night (nightIn s .opening) (withWaiting w (nightIn s .memory))
   waiting-back w e =
-      let h : 6400 + length w ≤ length s = omega (arith, e, fit) in
-      let here : part 6400 2240 (splice 6400 w s) ≡ w = rw e at (part-splice 6400 w s h) in
-      let last : drop 8640 (splice 6400 w s) ≡ drop 8640 s = rw e at (drop-splice 6400 w s h) in
-      ap (λ (o : List ℕ). night o (nightIn (splice 6400 w s) .memory)) last
-      ∙ ap₂ (λ (x t : List ℕ). night (drop 8640 s) (memory x t)) (kept-part 0 6400 6400 w s (omega arith) h) here
+      let h : 6912 + length w ≤ length s = omega (arith, e, fit) in
+      let here : part 6912 2240 (splice 6912 w s) ≡ w = rw e at (part-splice 6912 w s h) in
+      same-night (kept-from 9152 6912 w s (omega (arith, e)) h) (kept-part 0 6400 6912 w s (omega arith) h) (kept-part 6400 512 6912 w s (omega arith) h) here
 
-  pub opening-back : (o : List ℕ) → length o ≡ 102 → nightIn (splice 8640 o s) ≡ night o (nightIn s .memory)
+  pub opening-back : (o : List ℕ) → length o ≡ 102 → nightIn (splice 9152 o s) ≡ night o (nightIn s .memory)
   opening-back o e =
-      let h : 8640 + length o ≤ length s = omega (arith, e, fit) in
-      ap (λ (x : List ℕ). night x (nightIn (splice 8640 o s) .memory)) (written-last 8640 o s h (omega (arith, e, fit)))
-      ∙ ap₂ (λ (x t : List ℕ). night o (memory x t)) (kept-part 0 6400 8640 o s (omega arith) h) (kept-part 6400 2240 8640 o s (omega arith) h)
+      let h : 9152 + length o ≤ length s = omega (arith, e, fit) in
+      same-night (written-last 9152 o s h (omega (arith, e, fit))) (kept-part 0 6400 9152 o s (omega arith) h) (kept-part 6400 512 9152 o s (omega arith) h)
+      (kept-part 6912 2240 9152 o s (omega arith) h)
 
 -- slices of one night have the same bytes
-whole : (s : List ℕ) → part 0 6400 s ++ (part 6400 2240 s ++ drop 8640 s) ≡ s
+whole : (s : List ℕ) → part 0 6400 s ++ (part 6400 512 s ++ (part 6912 2240 s ++ drop 9152 s)) ≡ s
 whole s =
-    ap (λ (x : List ℕ). part 0 6400 s ++ (part 6400 2240 s ++ x)) (sym (drop-drop 2240 6400 s))
-    ∙ ap (λ (x : List ℕ). part 0 6400 s ++ x) (take-append-drop 2240 (drop 6400 s)) ∙ take-append-drop 6400 s
+    ap (λ (x : List ℕ). part 0 6400 s ++ (part 6400 512 s ++ x)) (piece 6912 2240 s)
+    ∙ ap (λ (x : List ℕ). part 0 6400 s ++ x) (piece 6400 512 s) ∙ take-append-drop 6400 s
 
 pub night-one : (s t : List ℕ) → nightIn s ≡ nightIn t → s ≡ t
-night-one s t e = sym (whole s) ∙ ap (λ (n : Night). n .memory .cache ++ (n .memory .waiting ++ n .opening)) e ∙ whole t
+night-one s t e =
+    sym (whole s) ∙ ap (λ (n : Night). n .memory .cache ++ (n .memory .firsts ++ (n .memory .waiting ++ n .opening))) e ∙ whole t
 
-tables-back : (s : List ℕ) → length s ≡ 8742 → (c w : List ℕ) → length c ≡ 6400 → length w ≡ 2240
-    → nightIn (splice 6400 w (splice 0 c s)) ≡ night (nightIn s .opening) (withTables c w (nightIn s .memory))
-tables-back s fit c w d e =
-    waiting-back (splice 0 c s) (length-splice 0 c s (omega (arith, d, fit)) ∙ fit) w e
-    ∙ ap (λ (n : Night). night (n .opening) (withWaiting w (n .memory))) (cache-back s fit c d)
+tables-back : (s : List ℕ) → length s ≡ 9254 → (c f w : List ℕ) → length c ≡ 6400 → length f ≡ 512 → length w ≡ 2240
+    → nightIn (splice 6912 w (splice 6400 f (splice 0 c s))) ≡ night (nightIn s .opening) (memory c f w)
+tables-back s fit c f w d e g =
+    let first : length (splice 0 c s) ≡ 9254 = length-splice 0 c s (omega (arith, d, fit)) ∙ fit in
+    let second : length (splice 6400 f (splice 0 c s)) ≡ 9254 = length-splice 6400 f (splice 0 c s) (omega (arith, e, first)) ∙ first in
+    waiting-back (splice 6400 f (splice 0 c s)) second w g
+    ∙ ap (λ (n : Night). night (n .opening) (withWaiting w (n .memory))) (firsts-back (splice 0 c s) first f e)
+    ∙ ap (λ (n : Night). night (n .opening) (withWaiting w (withFirsts f (n .memory)))) (cache-back s fit c d)
 
 -- ---- what each call hands back is what the record tells
 
@@ -124,13 +144,13 @@ call-made : (n : Night) (h : Handed) (c : Call) → h ≡ ours (n .memory) c →
 unfolding calledTold
 call-made n h c e = ap (λ (x : Handed). told (x .answer) (night (n .opening) (x .memory)) (x .output)) e
 
--- c, w and those with a stroke: cache and waiting table as lent and as left; lent and out: the output
-module _ (s : List ℕ) (fit : length s ≡ 8742) (a : Answer) (lent out : List ℕ) (cleared : lent ≡ output) (own w w′ after : List ℕ)
-    (owned : own ≡ nightOwn (nightIn s .opening)) (tabled : w ≡ part 6400 2240 s) (sized : length w′ ≡ length w) where
+-- c, f, w and those with a stroke: cache, counts and waiting table as lent and as left; lent and out: the output
+module _ (s : List ℕ) (fit : length s ≡ 9254) (a : Answer) (lent out : List ℕ) (cleared : lent ≡ output) (own w w′ after : List ℕ)
+    (owned : own ≡ nightOwn (nightIn s .opening)) (tabled : w ≡ part 6912 2240 s) (sized : length w′ ≡ length w) where
   table-size : length w′ ≡ 2240
-  table-size = sized ∙ ap length tabled ∙ length-part 6400 2240 s (omega (arith, fit))
+  table-size = sized ∙ ap length tabled ∙ length-part 6912 2240 s (omega (arith, fit))
 
-  pub tick-called : after ≡ splice 6400 w′ s
+  pub tick-called : after ≡ splice 6912 w′ s
       → handed a (withWaiting w′ (nightIn s .memory)) out ≡ ours (withWaiting w (nightIn s .memory)) (ticks (tick own lent))
       → told a (nightIn after) out ≡ calledTold (nightIn s) (ticked (nightIn s .opening))
   tick-called back e =
@@ -139,7 +159,7 @@ module _ (s : List ℕ) (fit : length s ≡ 8742) (a : Answer) (lent out : List 
 
   module _ (body : List ℕ) (major minor id : ℕ) (first : major ≡ majorOf (nightIn s .opening)) (second : minor ≡ minorOf (nightIn s .opening))
       (ided : id ≡ valueLE 256 (part 0 4 body)) where
-    pub send-called : after ≡ splice 6400 w′ s
+    pub send-called : after ≡ splice 6912 w′ s
         → handed a (withTables (part 0 6400 s) w′ (nightIn s .memory)) out
         ≡ ours (withTables (part 0 6400 s) w (nightIn s .memory)) (sends (send own major minor id (part 4 32 body) (part 36 32 body) lent))
         → told a (nightIn after) out ≡ calledTold (nightIn s) (sent (nightIn s .opening) body)
@@ -148,17 +168,18 @@ module _ (s : List ℕ) (fit : length s ≡ 8742) (a : Answer) (lent out : List 
         ∙ call-made (nightIn s) (handed a (withWaiting w′ (nightIn s .memory)) out) (sent (nightIn s .opening) body)
         (rw (owned, tabled, first, second, ided, cleared) at e)
 
-    pub receive-called : (c c′ : List ℕ) (verdict : ℕ) (datagram : List ℕ) → verdict ≡ getD body 4 0 → datagram ≡ drop 53 body
-        → c ≡ part 0 6400 s → length c′ ≡ length c → after ≡ splice 6400 w′ (splice 0 c′ s)
-        → handed a (memory c′ w′) out
-        ≡ ours (memory c w) (receives (receive own (1 ∷ 0 ∷ 0 ∷ []) major minor id (part 37 16 body) verdict (part 5 32 body) datagram lent))
+    pub receive-called : (c c′ f f′ : List ℕ) (verdict : ℕ) (datagram : List ℕ) → verdict ≡ getD body 4 0 → datagram ≡ drop 53 body
+        → c ≡ part 0 6400 s → length c′ ≡ length c → f ≡ part 6400 512 s → length f′ ≡ length f → after ≡ splice 6912 w′ (splice 6400 f′ (splice 0 c′ s))
+        → handed a (memory c′ f′ w′) out
+        ≡ ours (memory c f w) (receives (receive own (1 ∷ 0 ∷ 0 ∷ []) major minor id (part 37 16 body) verdict (part 5 32 body) datagram lent))
         → told a (nightIn after) out ≡ calledTold (nightIn s) (received (nightIn s .opening) body)
-    receive-called c c′ verdict datagram judged heard cached kept back e =
+    receive-called c c′ f f′ verdict datagram judged heard cached kept counted same back e =
         ap (λ (x : List ℕ). told a (nightIn x) out) back
         ∙ ap (λ (n : Night). told a n out)
-        (tables-back s fit c′ w′ (kept ∙ ap length cached ∙ length-part 0 6400 s (omega (arith, fit))) table-size)
-        ∙ call-made (nightIn s) (handed a (memory c′ w′) out) (received (nightIn s .opening) body)
-        (rw (owned, cached, tabled, first, second, ided, judged, heard, cleared) at e)
+        (tables-back s fit c′ f′ w′ (kept ∙ ap length cached ∙ length-part 0 6400 s (omega (arith, fit)))
+        (same ∙ ap length counted ∙ length-part 6400 512 s (omega (arith, fit))) table-size)
+        ∙ call-made (nightIn s) (handed a (memory c′ f′ w′) out) (received (nightIn s .opening) body)
+        (rw (owned, cached, counted, tabled, first, second, ided, judged, heard, cleared) at e)
 
 -- ---- by the kind
 

@@ -54,12 +54,12 @@ pub record Night : Type 0 where
 abbrev pub night : List ℕ → Memory → Night
 night opening memory = record { opening = opening; memory = memory }
 
--- the same as it lies in one slice of so many bytes: cache, waiting table and opening, one behind the other
+-- the same as it lies in one slice of so many bytes: cache, counts by first byte, waiting table and opening, one behind the other
 abbrev pub nightIn : List ℕ → Night
-nightIn s = night (drop 8640 s) (memory (part 0 6400 s) (part 6400 2240 s))
+nightIn s = night (drop 9152 s) (memory (part 0 6400 s) (part 6400 512 s) (part 6912 2240 s))
 
 abbrev pub stateLen : ℕ
-stateLen = 8742
+stateLen = 9254
 
 abbrev pub start : Night
 start = night (replicate 102 0) (empty 64)

@@ -1,9 +1,11 @@
-// The calls of a night. Each is handed an output of 2,464 zero bytes; the own CPA is one zero byte, lent behind its length. Cache and waiting table are
-// taken out of the night's one slice for a call that may write them, and put back behind it.
+// The calls of a night. Each is handed an output of 2,464 zero bytes; the own CPA is one zero byte, lent behind its length. Cache, counts and
+// waiting table are taken out of the night's one slice for a call that may write them, and put back behind it.
 use crate::CACHE;
+use crate::FIRSTS;
 use crate::OPENING;
 use crate::TABLES;
 use crate::WAITING;
+use crate::WAITING_AT;
 use gauge_commit::Answer;
 ghost use mathlib.Core.Path.{_≡_};
 ghost use mathlib.Core.Bool.{true};
@@ -14,9 +16,9 @@ ghost use Rattle.night.specs.Step.{stateLen, nightIn, received, sent, ti
 ghost use Rattle.night.specs.Told.{told, calledTold};
 
 // Behind the major version: the minor one, and the own record.
-const MINOR: usize = 8641;
+const MINOR: usize = 9153;
 
-const OWN: usize = 8642;
+const OWN: usize = 9154;
 
 fn wide(x: u8) -> u32
     ensures { λ r. ⌜ r ≡ x ⌝ }
@@ -35,10 +37,12 @@ fn receive(state: &mut [u8], body: &[u8], output: &mut [u8]) -> Answer
     let cpas = [1u8, 0, 0];
     let mut own = [0u8; record::RECORD_LEN];
     let mut cache = [0u8; CACHE];
+    let mut firsts = [0u8; FIRSTS];
     let mut waiting = [0u8; WAITING];
     runs::copy_to(&mut own, 0, &state[OWN..]);
     runs::copy_to(&mut cache, 0, &state[..CACHE]);
-    runs::copy_to(&mut waiting, 0, &state[CACHE..TABLES]);
+    runs::copy_to(&mut firsts, 0, &state[CACHE..WAITING_AT]);
+    runs::copy_to(&mut waiting, 0, &state[WAITING_AT..TABLES]);
     let major = state[OPENING];
     let minor = state[MINOR];
     let id = octet::read_u32_le(body, 0);
@@ -47,6 +51,7 @@ fn receive(state: &mut [u8], body: &[u8], output: &mut [u8]) -> Answer
         &own,
         &cpas,
         &mut cache,
+        &mut firsts,
         &mut waiting,
         major,
         minor,
@@ -58,7 +63,8 @@ fn receive(state: &mut [u8], body: &[u8], output: &mut [u8]) -> Answer
         output,
     );
     runs::copy_to(state, 0, &cache);
-    runs::copy_to(state, CACHE, &waiting);
+    runs::copy_to(state, CACHE, &firsts);
+    runs::copy_to(state, WAITING_AT, &waiting);
     answer
 }
 
@@ -73,7 +79,7 @@ fn send(state: &mut [u8], body: &[u8], output: &mut [u8]) -> Answer
     let mut own = [0u8; record::RECORD_LEN];
     let mut waiting = [0u8; WAITING];
     runs::copy_to(&mut own, 0, &state[OWN..]);
-    runs::copy_to(&mut waiting, 0, &state[CACHE..TABLES]);
+    runs::copy_to(&mut waiting, 0, &state[WAITING_AT..TABLES]);
     let major = state[OPENING];
     let minor = state[MINOR];
     let id = octet::read_u32_le(body, 0);
@@ -88,7 +94,7 @@ fn send(state: &mut [u8], body: &[u8], output: &mut [u8]) -> Answer
         &body[36..68],
         output,
     );
-    runs::copy_to(state, CACHE, &waiting);
+    runs::copy_to(state, WAITING_AT, &waiting);
     answer
 }
 
@@ -100,9 +106,9 @@ fn tick(state: &mut [u8], output: &mut [u8]) -> Answer
         (ticked (nightIn (now (state .entry)) .opening)) ⌝ }
 {
     let mut waiting = [0u8; WAITING];
-    runs::copy_to(&mut waiting, 0, &state[CACHE..TABLES]);
+    runs::copy_to(&mut waiting, 0, &state[WAITING_AT..TABLES]);
     let answer = gauge::gauge_tick(&state[OWN..], &mut waiting, output);
-    runs::copy_to(state, CACHE, &waiting);
+    runs::copy_to(state, WAITING_AT, &waiting);
     answer
 }
 

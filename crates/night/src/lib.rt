@@ -9,17 +9,21 @@ ghost use Rattle.night.specs.Told.{told, stepTold};
 use gauge_commit::Answer;
 
 // What is lent from one record to the next is one slice, so that nobody but the calls has to know of what memory is made:
-// a cache of 64 records, the waiting table behind it, which ends at TABLES; and behind all memory, at OPENING, versions and
-// own record as the first record has them.
+// a cache of 64 records; behind it the counts by first byte; the waiting table, which begins at WAITING_AT and ends at TABLES;
+// and behind all memory, at OPENING, versions and own record as the first record has them.
 pub const CACHE: usize = 6400;
+
+pub const FIRSTS: usize = 512;
 
 pub const WAITING: usize = 2240;
 
-pub const TABLES: usize = 8640;
+pub const WAITING_AT: usize = 6912;
 
-pub const OPENING: usize = 8640;
+pub const TABLES: usize = 9152;
 
-pub const STATE: usize = 8742;
+pub const OPENING: usize = 9152;
+
+pub const STATE: usize = 9254;
 
 // What a call may write into.
 pub const OUTPUT: usize = 2464;

@@ -8,8 +8,8 @@ use Rattle.shown.proofs.main.Tie as tie
 
 abbrev Inv-loop : tie.InvT-loop
 Inv-loop line₀ names room₀ state₀ before₀ output₀ row₀ m₀ counts₀ origins₀ len w₀ at₀ line room state before output row m counts origins w at =
-    (512 ≡ length line) × (65537 ≡ length room) × (8742 ≡ length state) × (8640 ≡ length before) × (2464 ≡ length output) × (40 ≡ length row)
-    × (85423 ≡ length m)
+    (512 ≡ length line) × (65537 ≡ length room) × (9254 ≡ length state) × (9152 ≡ length before) × (2464 ≡ length output) × (40 ≡ length row)
+    × (86447 ≡ length m)
 
 abbrev μ-loop : tie.MeasureT-loop
 μ-loop line₀ names room₀ state₀ before₀ output₀ row₀ m₀ counts₀ origins₀ len w₀ at₀ line room state before output row m counts origins w at = 2 ^ 64 - at

@@ -8,7 +8,7 @@ use Rattle.told.proofs.main.Tie as tie
 
 abbrev Inv-loop : tie.InvT-loop
 Inv-loop room₀ state₀ before₀ output₀ row₀ m₀ origins₀ w₀ at₀ room state before output row m origins w at =
-    (65537 ≡ length room) × (8742 ≡ length state) × (8640 ≡ length before) × (2464 ≡ length output) × (40 ≡ length row) × (85423 ≡ length m)
+    (65537 ≡ length room) × (9254 ≡ length state) × (9152 ≡ length before) × (2464 ≡ length output) × (40 ≡ length row) × (86447 ≡ length m)
 
 abbrev μ-loop : tie.MeasureT-loop
 μ-loop room₀ state₀ before₀ output₀ row₀ m₀ origins₀ w₀ at₀ room state before output row m origins w at = 2 ^ 64 - at

@@ -56,6 +56,21 @@ part-copy-to-end-2 c = search needs
 copy-to-requires-3 : tie.Need-copy-to-requires-3
 copy-to-requires-3 c κs = search needs
 
+slice-aggregate-copy-to-5 : tie.Need-slice-aggregate-copy-to-5
+slice-aggregate-copy-to-5 c = search needs
+
+sub-copy-to-3 : tie.Need-sub-copy-to-3
+sub-copy-to-3 c = search needs
+
+part-copy-to-start-3 : tie.Need-part-copy-to-start-3
+part-copy-to-start-3 c = search needs
+
+part-copy-to-end-3 : tie.Need-part-copy-to-end-3
+part-copy-to-end-3 c = search needs
+
+copy-to-requires-4 : tie.Need-copy-to-requires-4
+copy-to-requires-4 c κs = search needs
+
 slice-read-major : tie.Need-slice-read-major
 slice-read-major c = search needs
 
@@ -82,6 +97,9 @@ slice-aggregate-gauge-receive-3 c = search needs
 
 slice-aggregate-gauge-receive-4 : tie.Need-slice-aggregate-gauge-receive-4
 slice-aggregate-gauge-receive-4 c = search needs
+
+slice-aggregate-gauge-receive-5 : tie.Need-slice-aggregate-gauge-receive-5
+slice-aggregate-gauge-receive-5 c = search needs
 
 sub-gauge-receive : tie.Need-sub-gauge-receive
 sub-gauge-receive c = search needs
@@ -113,26 +131,46 @@ part-gauge-receive-end-3 c = search needs
 gauge-receive-requires : tie.Need-gauge-receive-requires
 gauge-receive-requires c κs = search needs
 
-slice-aggregate-copy-to-5 : tie.Need-slice-aggregate-copy-to-5
-slice-aggregate-copy-to-5 c = search needs
-
-copy-to-requires-4 : tie.Need-copy-to-requires-4
-copy-to-requires-4 c κs =
-    let g = c .before .before .before .before .before .before in
-    let copy-to2 = g .before .before .before .before .before .before .before .before .before .before .before .before .before .before .before .before .before .before .before .before in
-    omega
-    (arith, g .gauge-receive .kept .1 .1 .0, copy-to2 .copy-to2 .kept .0, length-replicate {A = ℕ} 6400 0, copy-to2 .before .before .before .before .before .before .before .before .before .before .before .pre .0)
-
 slice-aggregate-copy-to-6 : tie.Need-slice-aggregate-copy-to-6
 slice-aggregate-copy-to-6 c = search needs
 
 copy-to-requires-5 : tie.Need-copy-to-requires-5
 copy-to-requires-5 c κs =
-    let copy-to4 = c .before .before .before .before in
-    let g = copy-to4 .before .before .before .before .before .before .before in
-    let copy-to3 = g .before .before .before .before .before .before .before .before .before .before .before .before .before .before .before in
-    omega
-    (arith, g .gauge-receive .kept .1 .1 .1 .0, copy-to3 .copy-to3 .kept .0, length-replicate {A = ℕ} 2240 0, copy-to4 .copy-to4 .kept .0, copy-to3 .before .before .before .before .before .before .before .before .before .before .before .before .before .before .before .before .pre .0)
+    let gauge-receive = c .before .before .before .before .before .before .before in
+    let copy-to2 = gauge-receive .before .before .before .before .before .before .before .before .before .before .before .before .before .before .before .before .before .before .before .before .before .before .before .before .before .before in
+    let start = copy-to2 .before .before .before .before .before .before .before .before .before .before .before in
+    omega (arith, gauge-receive .gauge-receive .kept .1 .1 .0, copy-to2 .copy-to2 .kept .0, length-replicate {A = ℕ} 6400 0, start .pre .0)
+
+slice-aggregate-copy-to-7 : tie.Need-slice-aggregate-copy-to-7
+slice-aggregate-copy-to-7 c = search needs
+
+copy-to-requires-6 : tie.Need-copy-to-requires-6
+copy-to-requires-6 c κs =
+    let copy-to5 = c .before .before .before .before in
+    let gauge-receive = copy-to5 .before .before .before .before .before .before .before .before in
+    let copy-to3 = gauge-receive .before .before .before .before .before .before .before .before .before .before .before .before .before .before .before .before .before .before .before .before .before in
+    let start = copy-to3 .before .before .before .before .before .before .before .before .before .before .before .before .before .before .before .before in
+    omega (arith, gauge-receive .gauge-receive .kept .1 .1 .1 .0, copy-to3 .copy-to3 .kept .0, length-replicate {A = ℕ} 512 0, copy-to5 .copy-to5 .kept .0, start .pre .0)
+
+slice-aggregate-copy-to-8 : tie.Need-slice-aggregate-copy-to-8
+slice-aggregate-copy-to-8 c = search needs
+
+copy-to-requires-7 : tie.Need-copy-to-requires-7
+copy-to-requires-7 c κs =
+    let copy-to6 = c .before .before .before .before in
+    let copy-to5 = copy-to6 .before .before .before .before .before in
+    let gauge-receive = copy-to5 .before .before .before .before .before .before .before .before in
+    let copy-to4 = gauge-receive .before .before .before .before .before .before .before .before .before .before .before .before .before .before .before .before in
+    let start = copy-to4 .before .before .before .before .before .before .before .before .before .before .before .before .before .before .before .before .before .before .before .before .before in
+    omega (
+      arith,
+      gauge-receive .gauge-receive .kept .1 .1 .1 .1 .0,
+      copy-to4 .copy-to4 .kept .0,
+      length-replicate {A = ℕ} 2240 0,
+      copy-to6 .copy-to6 .kept .0,
+      copy-to5 .copy-to5 .kept .0,
+      start .pre .0,
+    )
 
 same-length : tie.Need-same-length
 same-length c = search needs
@@ -142,11 +180,14 @@ same-length-2 c = search needs
 
 returns : tie.Need-returns
 returns c =
-    let copy-to4 = c .before .before .before .before .before .before .before in
-    let gauge-receive = copy-to4 .before .before .before .before .before .before .before in
-    let wide = gauge-receive .before .before .before .before .before .before .before .before .before in
+    let copy-to7 = c .before .before in
+    let copy-to6 = copy-to7 .before .before .before .before .before in
+    let copy-to5 = copy-to6 .before .before .before .before .before in
+    let gauge-receive = copy-to5 .before .before .before .before .before .before .before .before in
+    let wide = gauge-receive .before .before .before .before .before .before .before .before .before .before in
     let read = wide .before .before in
-    let copy-to3 = read .before .before .before .before in
+    let copy-to4 = read .before .before .before .before in
+    let copy-to3 = copy-to4 .before .before .before .before .before in
     let copy-to2 = copy-to3 .before .before .before .before .before in
     let copy-to = copy-to2 .before .before .before .before in
     let start = copy-to .before .before .before .before .before .before .before in
@@ -155,11 +196,13 @@ returns c =
     let fit = start .pre .0 in
     receive-called s fit _ _ _ (start .pre .1 .1) _ _ _ _
     (copy-to .copy-to .ensures ∙ own-copied s fit)
-    (copy-to3 .copy-to3 .ensures ∙ taken-out 6400 2240 s (omega (arith, fit))) (gauge-receive .gauge-receive .kept .1 .1 .1 .0)
-    body _ _ _ (major-taken s fit) (minor-taken s fit) (read .read-u32-le .ensures) _ _ _ _ (wide .wide .ensures)
+    (copy-to4 .copy-to4 .ensures ∙ taken-out 6912 2240 s (omega (arith, fit))) (gauge-receive .gauge-receive .kept .1 .1 .1 .1 .0)
+    body _ _ _ (major-taken s fit) (minor-taken s fit) (read .read-u32-le .ensures) _ _ _ _ _ _ (wide .wide .ensures)
     (take-all (length body - 53) (drop 53 body) (omega (arith, length-drop 53 body)))
     (copy-to2 .copy-to2 .ensures ∙ taken-out 0 6400 s (omega (arith, fit))) (gauge-receive .gauge-receive .kept .1 .1 .0)
-    (c .before .before .copy-to5 .ensures ∙ ap (splice 6400 _) (copy-to4 .copy-to4 .ensures)) (gauge-receive .gauge-receive .ensures)
+    (copy-to3 .copy-to3 .ensures ∙ taken-out 6400 512 s (omega (arith, fit))) (gauge-receive .gauge-receive .kept .1 .1 .1 .0)
+    (copy-to7 .copy-to7 .ensures ∙ ap (splice 6912 _) (copy-to6 .copy-to6 .ensures ∙ ap (splice 6400 _) (copy-to5 .copy-to5 .ensures)))
+    (gauge-receive .gauge-receive .ensures)
 
 pub receive-spec : {M : Type 1} → statement M
 receive-spec =
@@ -179,6 +222,11 @@ receive-spec =
     part-copy-to-start-2
     part-copy-to-end-2
     copy-to-requires-3
+    slice-aggregate-copy-to-5
+    sub-copy-to-3
+    part-copy-to-start-3
+    part-copy-to-end-3
+    copy-to-requires-4
     slice-read-major
     slice-read-minor
     read-u32-le-requires
@@ -188,6 +236,7 @@ receive-spec =
     slice-aggregate-gauge-receive-2
     slice-aggregate-gauge-receive-3
     slice-aggregate-gauge-receive-4
+    slice-aggregate-gauge-receive-5
     sub-gauge-receive
     part-gauge-receive-start
     part-gauge-receive-end
@@ -198,10 +247,12 @@ receive-spec =
     part-gauge-receive-start-3
     part-gauge-receive-end-3
     gauge-receive-requires
-    slice-aggregate-copy-to-5
-    copy-to-requires-4
     slice-aggregate-copy-to-6
     copy-to-requires-5
+    slice-aggregate-copy-to-7
+    copy-to-requires-6
+    slice-aggregate-copy-to-8
+    copy-to-requires-7
     same-length
     same-length-2
     returns)

@@ -105,7 +105,7 @@ returns c =
     let fit = start .pre .0 in
     send-called s fit _ _ _ (start .pre .1 .1) _ _ _ _
     (copy-to .copy-to .ensures ∙ own-copied s fit)
-    (copy-to2 .copy-to2 .ensures ∙ taken-out 6400 2240 s (omega (arith, fit))) (gauge-send .gauge-send .kept .1 .1 .0)
+    (copy-to2 .copy-to2 .ensures ∙ taken-out 6912 2240 s (omega (arith, fit))) (gauge-send .gauge-send .kept .1 .1 .0)
     (start .args .body .now) _ _ _ (major-taken s fit) (minor-taken s fit) (read .read-u32-le .ensures)
     (c .before .before .copy-to3 .ensures) (gauge-send .gauge-send .ensures (nightIn s .memory))
 

@@ -57,7 +57,7 @@ returns c =
     let s = start .args .state .now in
     let fit = start .pre .0 in
     tick-called s fit _ _ _ (start .pre .1) _ _ _ _ (own-taken s fit)
-    (copy-to .copy-to .ensures ∙ taken-out 6400 2240 s (omega (arith, fit))) (gauge-tick .gauge-tick .kept .1 .0)
+    (copy-to .copy-to .ensures ∙ taken-out 6912 2240 s (omega (arith, fit))) (gauge-tick .gauge-tick .kept .1 .0)
     (c .before .before .copy-to2 .ensures) (gauge-tick .gauge-tick .ensures (nightIn s .memory))
 
 pub tick-spec : {M : Type 1} → statement M

@@ -8,6 +8,8 @@ use vector_text::say;
 // The largest of each that a line has.
 const CACHE: usize = 25700;
 
+const FIRSTS: usize = 1024;
+
 const WAITING: usize = 2400;
 
 const OUTPUT: usize = 4096;
@@ -16,6 +18,7 @@ fn receive(
     given: Given,
     lent: &[u8],
     cache: &mut [u8],
+    firsts: &mut [u8],
     waiting: &mut [u8],
     output: &mut [u8],
 ) -> Answer {
@@ -23,6 +26,7 @@ fn receive(
         line::part(lent, 0, given.own),
         line::part(lent, given.own, given.cpas),
         cache,
+        firsts,
         waiting,
         given.major,
         given.minor,
@@ -79,12 +83,13 @@ fn call(
     given: Given,
     lent: &[u8],
     cache: &mut [u8],
+    firsts: &mut [u8],
     waiting: &mut [u8],
     output: &mut [u8],
 ) -> Answer {
     let kind = given.call;
     match kind {
-        0 => receive(given, lent, cache, waiting, output),
+        0 => receive(given, lent, cache, firsts, waiting, output),
         1 => send(given, lent, cache, waiting, output),
         2 => gauge::gauge_tick(line::part(lent, 0, given.own), waiting, output),
         3 => list(given, lent, cache, output),
@@ -143,21 +148,30 @@ fn say_call(
     given: Given,
     lent: &[u8],
     cache: &mut [u8],
+    firsts: &mut [u8],
     waiting: &mut [u8],
     held: &[u8],
+    counts: &[u8],
     waits: &[u8],
     output: &mut [u8],
 ) {
-    let answer = call(given, lent, cache, waiting, output);
+    let answer = call(given, lent, cache, firsts, waiting, output);
     let end = written(given.call, answer);
     say_answer(answer, output, end);
     say_same(line::part(held, 0, cache.len()), cache);
+    say_same(line::part(counts, 0, firsts.len()), firsts);
     say_same(line::part(waits, 0, waiting.len()), waiting);
     say_rest(output, end);
 }
 
 // The call, with copies kept of what it may write.
-pub(crate) fn run(given: Given, lent: &[u8], cache: &mut [u8], waiting: &mut [u8]) {
+pub(crate) fn run(
+    given: Given,
+    lent: &[u8],
+    cache: &mut [u8],
+    firsts: &mut [u8],
+    waiting: &mut [u8],
+) {
     let room = given.room;
     if OUTPUT < room {
         return say::outside();
@@ -165,20 +179,27 @@ pub(crate) fn run(given: Given, lent: &[u8], cache: &mut [u8], waiting: &mut [u8
     if CACHE < cache.len() {
         return say::outside();
     }
+    if FIRSTS < firsts.len() {
+        return say::outside();
+    }
     if WAITING < waiting.len() {
         return say::outside();
     }
     let mut held = [0u8; CACHE];
+    let mut counts = [0u8; FIRSTS];
     let mut waits = [0u8; WAITING];
     let mut output = [0xEEu8; OUTPUT];
     runs::copy_to(&mut held, 0, cache);
+    runs::copy_to(&mut counts, 0, firsts);
     runs::copy_to(&mut waits, 0, waiting);
     say_call(
         given,
         lent,
         cache,
+        firsts,
         waiting,
         &held,
+        &counts,
         &waits,
         &mut output[0..room],
     );

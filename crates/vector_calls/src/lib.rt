@@ -10,22 +10,33 @@ pub fn answer(
     text: &[u8],
     lent: &mut [u8],
     cache: &mut [u8],
+    firsts: &mut [u8],
     waiting: &mut [u8],
-    sizes: &[usize; 6],
+    sizes: &[usize; 7],
 ) -> bool {
     let call = operands::call_of(text);
     if 6 < call {
         return looked::answer(text, lent, sizes[1]);
     }
     let held = sizes[2];
-    let waits = sizes[3];
+    let counts = sizes[3];
+    let waits = sizes[4];
     if cache.len() < held {
+        return false;
+    }
+    if firsts.len() < counts {
         return false;
     }
     if waiting.len() < waits {
         return false;
     }
     let given = operands::read(text, call, lent, sizes);
-    called::run(given, lent, &mut cache[0..held], &mut waiting[0..waits]);
+    called::run(
+        given,
+        lent,
+        &mut cache[0..held],
+        &mut firsts[0..counts],
+        &mut waiting[0..waits],
+    );
     true
 }

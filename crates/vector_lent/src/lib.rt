@@ -1,7 +1,7 @@
 // Lines beside the calls: the memory that they are lent is laid out and shown. It stays from line to line: own record and CPA, one
-// behind the other, in `lent`; the cache; the waiting table; and six numbers, `sizes`: where own record and CPA end, how long
-// cache and waiting table are, major and minor version. Of a line that is a call, `operands` reads what it hands over. Used by
-// the program `vectors` alone.
+// behind the other, in `lent`; the cache; the counts by first byte; the waiting table; and seven numbers, `sizes`: where own
+// record and CPA end, how long cache, counts and waiting table are, major and minor version. Of a line that is a call, `operands`
+// reads what it hands over. Used by the program `vectors` alone.
 pub mod operands;
 mod set;
 mod shown;
@@ -11,11 +11,12 @@ pub fn answer(
     text: &[u8],
     lent: &mut [u8],
     cache: &mut [u8],
+    firsts: &mut [u8],
     waiting: &mut [u8],
-    sizes: &mut [usize; 6],
+    sizes: &mut [usize; 7],
 ) -> bool {
-    if set::answer(text, lent, cache, waiting, sizes) {
+    if set::answer(text, lent, cache, firsts, waiting, sizes) {
         return true;
     }
-    shown::answer(text, lent, cache, waiting, sizes)
+    shown::answer(text, lent, cache, firsts, waiting, sizes)
 }

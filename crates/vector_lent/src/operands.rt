@@ -62,7 +62,7 @@ fn word(text: &[u8], i: usize) -> u32 {
 
 // `receive ID NONCE VERDICT KEY DATAGRAM ROOM`, `send ID NEIGHBOUR KEY ROOM`, `tick ROOM`, `list KEY ROOM`, `nearest PATH
 // TARGET`, `convert`, `find KEY`
-pub fn read(text: &[u8], call: usize, lent: &mut [u8], sizes: &[usize; 6]) -> Given {
+pub fn read(text: &[u8], call: usize, lent: &mut [u8], sizes: &[usize; 7]) -> Given {
     let cpas = sizes[1];
     let nonce = line::bytes(text, nonce_of(call), lent, cpas);
     let key = line::bytes(text, key_of(call), lent, nonce);
@@ -71,8 +71,8 @@ pub fn read(text: &[u8], call: usize, lent: &mut [u8], sizes: &[usize; 6]) -> Gi
         call,
         own: sizes[0],
         cpas,
-        major: (sizes[4] % 256) as u8,
-        minor: (sizes[5] % 256) as u8,
+        major: (sizes[5] % 256) as u8,
+        minor: (sizes[6] % 256) as u8,
         id: word(text, 1),
         nonce,
         verdict: word(text, 3),

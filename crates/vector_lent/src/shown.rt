@@ -1,4 +1,4 @@
-// Lines that show the memory: the keys held, the places used.
+// Lines that show the memory: the keys held, how many of them begin with each byte, the places used.
 use vector_text::line;
 use vector_text::say;
 
@@ -16,6 +16,45 @@ fn held(own: &[u8], cache: &[u8]) {
 
 fn wide(x: u8) -> u64 {
     x as u64
+}
+
+// How many keys begin with a byte, as the counts have it; 0 where they have another length.
+fn count_at(firsts: &[u8], byte: usize) -> u64 {
+    if firsts.len() != 512 {
+        return 0;
+    }
+    if 255 < byte {
+        return 0;
+    }
+    octet::read_u16_le(firsts, 2 * byte) as u64
+}
+
+// A count as byte:number, apart by a comma from one that was said before; one that is 0 is left out. Whether one has been said.
+fn say_count(firsts: &[u8], byte: usize, said: bool) -> bool {
+    let n = count_at(firsts, byte);
+    if n == 0 {
+        return said;
+    }
+    if said {
+        say::text(b",");
+    }
+    say::digits(byte as u64, 1);
+    say::text(b":");
+    say::number(n);
+    true
+}
+
+fn say_counts(firsts: &[u8]) {
+    let mut said = false;
+    let mut i = 0;
+    while i < 256 {
+        said = say_count(firsts, i, said);
+        i += 1;
+    }
+    if said {
+        return;
+    }
+    say::text(b"-");
 }
 
 // A place as ID:kind:tries:key.
@@ -67,13 +106,15 @@ pub(crate) fn answer(
     text: &[u8],
     lent: &[u8],
     cache: &[u8],
+    firsts: &[u8],
     waiting: &[u8],
-    sizes: &[usize; 6],
+    sizes: &[usize; 7],
 ) -> bool {
     let own = line::part(lent, 0, sizes[0]);
-    match line::which(text, b"held waits") {
+    match line::which(text, b"held firsts waits") {
         0 => held(own, line::part(cache, 0, sizes[2])),
-        1 => waits(own, line::part(waiting, 0, sizes[3])),
+        1 => say_counts(line::part(firsts, 0, sizes[3])),
+        2 => waits(own, line::part(waiting, 0, sizes[4])),
         _ => {
             return false;
         }

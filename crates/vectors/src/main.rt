@@ -10,11 +10,13 @@ const TEXT: usize = 131072;
 
 const ROOM: usize = 65536;
 
-// Room for the memory that the calls are lent, which the lines act on one after the other: own record and CPA, cache, waiting
-// table.
+// Room for the memory that the calls are lent, which the lines act on one after the other: own record and CPA, cache, counts
+// by first byte, waiting table.
 const LENT: usize = 8192;
 
 const CACHE: usize = 25700;
+
+const FIRSTS: usize = 1024;
 
 const WAITING: usize = 2400;
 
@@ -26,8 +28,9 @@ fn each_line(
     side: &mut [u8],
     lent: &mut [u8],
     cache: &mut [u8],
+    firsts: &mut [u8],
     waiting: &mut [u8],
-    sizes: &mut [usize; 6],
+    sizes: &mut [usize; 7],
 ) {
     let mut left = u64::MAX;
     while 0 < left {
@@ -42,6 +45,7 @@ fn each_line(
             side,
             lent,
             cache,
+            firsts,
             waiting,
             sizes,
         );
@@ -56,13 +60,14 @@ fn one_line(
     side: &mut [u8],
     lent: &mut [u8],
     cache: &mut [u8],
+    firsts: &mut [u8],
     waiting: &mut [u8],
-    sizes: &mut [usize; 6],
+    sizes: &mut [usize; 7],
 ) {
     say::text(text);
     if line::is_vector(text) {
         say::text(b" = ");
-        answer(text, room, side, lent, cache, waiting, sizes);
+        answer(text, room, side, lent, cache, firsts, waiting, sizes);
         return say::text(b"\n");
     }
     say::text(b"\n");
@@ -84,13 +89,14 @@ fn answer_call(
     text: &[u8],
     lent: &mut [u8],
     cache: &mut [u8],
+    firsts: &mut [u8],
     waiting: &mut [u8],
-    sizes: &mut [usize; 6],
+    sizes: &mut [usize; 7],
 ) -> bool {
-    if vector_lent::answer(text, lent, cache, waiting, sizes) {
+    if vector_lent::answer(text, lent, cache, firsts, waiting, sizes) {
         return true;
     }
-    vector_calls::answer(text, lent, cache, waiting, sizes)
+    vector_calls::answer(text, lent, cache, firsts, waiting, sizes)
 }
 
 fn answer(
@@ -99,13 +105,14 @@ fn answer(
     side: &mut [u8],
     lent: &mut [u8],
     cache: &mut [u8],
+    firsts: &mut [u8],
     waiting: &mut [u8],
-    sizes: &mut [usize; 6],
+    sizes: &mut [usize; 7],
 ) {
     if answer_alone(text, room, side) {
         return;
     }
-    if answer_call(text, lent, cache, waiting, sizes) {
+    if answer_call(text, lent, cache, firsts, waiting, sizes) {
         return;
     }
     say::text(b"no such vector");
@@ -117,14 +124,16 @@ fn main() {
     let mut side = [0u8; ROOM];
     let mut lent = [0u8; LENT];
     let mut cache = [0u8; CACHE];
+    let mut firsts = [0u8; FIRSTS];
     let mut waiting = [0u8; WAITING];
-    let mut sizes = [0usize; 6];
+    let mut sizes = [0usize; 7];
     each_line(
         &mut text,
         &mut room,
         &mut side,
         &mut lent,
         &mut cache,
+        &mut firsts,
         &mut waiting,
         &mut sizes,
     );

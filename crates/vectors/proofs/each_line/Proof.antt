@@ -6,12 +6,13 @@ use Rattle.vectors.proofs.each_line.Statement.{statement}
 use Rattle.vectors.proofs.each_line.Tie as tie
 
 abbrev Inv-loop : tie.InvT-loop
-Inv-loop text₀ room₀ side₀ lent₀ cache₀ waiting₀ sizes₀ left₀ text room side lent cache waiting sizes left =
+Inv-loop text₀ room₀ side₀ lent₀ cache₀ firsts₀ waiting₀ sizes₀ left₀ text room side lent cache firsts waiting sizes left =
     (length text ≡ length text₀) × (length room ≡ length room₀) × (length side ≡ length side₀)
-    × (length lent ≡ length lent₀) × (length cache ≡ length cache₀) × (length waiting ≡ length waiting₀)
+    × (length lent ≡ length lent₀) × (length cache ≡ length cache₀)
+    × (length firsts ≡ length firsts₀) × (length waiting ≡ length waiting₀)
 
 abbrev μ-loop : tie.MeasureT-loop
-μ-loop text₀ room₀ side₀ lent₀ cache₀ waiting₀ sizes₀ left₀ text room side lent cache waiting sizes left =
+μ-loop text₀ room₀ side₀ lent₀ cache₀ firsts₀ waiting₀ sizes₀ left₀ text room side lent cache firsts waiting sizes left =
     left
 
 loop-holds : tie.Need-loop-holds Inv-loop μ-loop
@@ -38,6 +39,9 @@ same-length-5 c = search needs
 same-length-6 : tie.Need-same-length-6 Inv-loop μ-loop
 same-length-6 c = search needs
 
+same-length-7 : tie.Need-same-length-7 Inv-loop μ-loop
+same-length-7 c = search needs
+
 returns : tie.Need-returns Inv-loop μ-loop
 returns c = search needs
 
@@ -56,9 +60,6 @@ loop-less c = search needs
 loop-again : tie.Need-loop-again Inv-loop μ-loop
 loop-again c = search needs
 
-same-length-7 : tie.Need-same-length-7 Inv-loop μ-loop
-same-length-7 c = search needs
-
 same-length-8 : tie.Need-same-length-8 Inv-loop μ-loop
 same-length-8 c = search needs
 
@@ -73,6 +74,12 @@ same-length-11 c = search needs
 
 same-length-12 : tie.Need-same-length-12 Inv-loop μ-loop
 same-length-12 c = search needs
+
+same-length-13 : tie.Need-same-length-13 Inv-loop μ-loop
+same-length-13 c = search needs
+
+same-length-14 : tie.Need-same-length-14 Inv-loop μ-loop
+same-length-14 c = search needs
 
 returns-2 : tie.Need-returns-2 Inv-loop μ-loop
 returns-2 c = search needs
@@ -91,16 +98,18 @@ each-line-spec =
     same-length-4
     same-length-5
     same-length-6
+    same-length-7
     returns
     part-requires
     one-line-requires
     sub-left
     loop-less
     loop-again
-    same-length-7
     same-length-8
     same-length-9
     same-length-10
     same-length-11
     same-length-12
+    same-length-13
+    same-length-14
     returns-2)

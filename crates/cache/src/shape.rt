@@ -1,6 +1,6 @@
 // The form of the cache: used records first, keys strictly increasing, none an own key; the rest all zero.
 ghost use mathlib.Core.Path.{_≡_};
-ghost use Prim.Native.Nat.{_+_, _-_, _*_, _/_, _≤_, _<_};
+ghost use Prim.Native.Nat.{_+_, _-_, _*_, _/_, _%_, _≤_, _<_};
 ghost use lib.Dec.{leb, ltb};
 ghost use lib.ListN.{length, drop};
 ghost use Rattle.octet.specs.Number.{valueBE};
@@ -39,55 +39,56 @@ fn rest_above(cache: &[u8], i: usize) -> bool
     false
 }
 
-// Is the key at place i, which begins with a word, above the one before it, which began with the last? Mostly the words
-// say it.
-fn above_before(cache: &[u8], i: usize, word: u64, last: u64) -> bool
-    requires { ⌜ 100 * i + 100 ≤ length (now cache) ⌝ }
-    requires { ⌜ word ≡ valueBE 256 (part (100 * i) 8 (now cache)) ⌝ }
-    requires { ⌜ Carried (now cache) i last ⌝ }
-    ensures { λ r. ⌜ r ≡ leb (lowAt (now (cache .entry)) i) (keyAt (100 * i) (now (cache .entry))) ⌝ }
+// Is the key of the place that begins at a byte, which begins with a word, above the one before it, which began with the
+// last? Mostly the words say it.
+fn above_before(cache: &[u8], at: usize, word: u64, last: u64) -> bool
+    requires { ⌜ (at + 100 ≤ length (now cache)) × (at % 100 ≡ 0) ⌝ }
+    requires { ⌜ word ≡ valueBE 256 (part (100 * (at / 100)) 8 (now cache)) ⌝ }
+    requires { ⌜ Carried (now cache) (at / 100) last ⌝ }
+    ensures { λ r. ⌜ r ≡ leb (lowAt (now (cache .entry)) (at / 100)) (keyAt (100 * (at / 100)) (now (cache .entry))) ⌝ }
 {
     if last < word {
         return true;
     }
-    if i == 0 {
+    if at == 0 {
         return true;
     }
     if word < last {
         return false;
     }
-    rest_above(cache, i)
+    rest_above(cache, at / record::RECORD_LEN)
 }
 
-// Has place i a record that stands in order after those before it? The key before it began with the last word.
-fn place_follows(cache: &[u8], i: usize, last: u64) -> bool
-    requires { ⌜ 100 * i + 100 ≤ length (now cache) ⌝ }
-    requires { ⌜ Carried (now cache) i last ⌝ }
-    ensures { λ r. ⌜ r ≡ rises (lowAt (now (cache .entry)) i) (part (100 * i) 100 (now (cache .entry))) ⌝ }
+// Has the place that begins at a byte a record that stands in order after those before it? The key before it began with the
+// last word.
+fn place_follows(cache: &[u8], at: usize, last: u64) -> bool
+    requires { ⌜ (at + 100 ≤ length (now cache)) × (at % 100 ≡ 0) ⌝ }
+    requires { ⌜ Carried (now cache) (at / 100) last ⌝ }
+    ensures { λ r. ⌜ r ≡ rises (lowAt (now (cache .entry)) (at / 100)) (part (100 * (at / 100)) 100 (now (cache .entry))) ⌝ }
 {
-    let at = record::RECORD_LEN * i;
     if !record::is_formed(cache, at) {
         return false;
     }
     let word = octet::read_u64(cache, at);
-    above_before(cache, i, word, last)
+    above_before(cache, at, word, last)
 }
 
-// How many places, from the first, have records in order. The first word of each key is carried to the next place.
+// How many places, from the first, have records in order. The first word of each key is carried to the next place. Bytes
+// are counted and not places, so that one number counts and points.
 fn count_held(cache: &[u8]) -> usize
     ensures { λ r. ⌜ r ≡ ordered 0 (rows 100 (length (now (cache .entry)) / 100) (now (cache .entry))) ⌝ }
 {
-    let n = cache.len() / record::RECORD_LEN;
+    let end = cache.len() / record::RECORD_LEN * record::RECORD_LEN;
     let mut last = 0;
-    let mut i = 0;
-    while i < n {
-        if !place_follows(cache, i, last) {
-            return i;
+    let mut at = 0;
+    while at < end {
+        if !place_follows(cache, at, last) {
+            return at / record::RECORD_LEN;
         }
-        last = octet::read_u64(cache, record::RECORD_LEN * i);
-        i += 1;
+        last = octet::read_u64(cache, at);
+        at += record::RECORD_LEN;
     }
-    n
+    at / record::RECORD_LEN
 }
 
 // Is one of our own keys among those held? Each is looked for once they are known to be in order, and not compared with

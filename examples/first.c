@@ -113,6 +113,7 @@ int main(void)
     rewind(saved);
     if (fread(hosts[1].cache, 1, sizeof hosts[1].cache, saved) != sizeof hosts[1].cache)
         return 1;
+    gauge_firsts_count(hosts[1].cache, sizeof hosts[1].cache, hosts[1].lent.firsts);
     printf("host 1, in its memory: %s\n", gauge_part_text(gauge_lent_not_in_form(&hosts[1].lent)));
     tell(1);
     return 0;

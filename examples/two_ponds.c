@@ -22,6 +22,7 @@ struct pond {
     struct pond *other; /* whom its radio reaches */
     uint8_t own[GAUGE_RECORD_LEN];
     uint8_t cache[GAUGE_CACHE_LEN(HELD)];
+    uint8_t firsts[GAUGE_FIRSTS_LEN]; /* of the keys in the cache */
     uint8_t waiting[GAUGE_WAITING_LEN];
     uint8_t nonce[GAUGE_NONCE_LEN]; /* a real one is random, and another for each INQUIRE */
     uint32_t id;
@@ -48,7 +49,7 @@ static void refused(const struct pond *p, const char *call, uint32_t number)
 static struct pond new_pond(unsigned name)
 {
     struct pond p;
-    memset(&p, 0, sizeof p); /* an empty cache, and nothing waits */
+    memset(&p, 0, sizeof p); /* an empty cache and its firsts, and nothing waits */
     p.name = name;
     p.id = 1000 * name;
     p.own[GAUGE_RECORD_KEY + GAUGE_KEY_LEN - 1] = (uint8_t)name;
@@ -99,9 +100,9 @@ static void arrives(struct pond *p, const uint8_t *datagram, size_t len)
         memcpy(cpa + GAUGE_KEY_LEN, datagram + seen.nonce_at, GAUGE_NONCE_LEN);
 
     uint32_t verdict = judged(p, &seen, datagram, key);
-    struct gauge_answer a = gauge_receive(p->own, sizeof p->own, cpas, sizeof cpas, p->cache, sizeof p->cache, p->waiting, sizeof p->waiting,
-                                          MAJOR, MINOR, p->id, p->nonce, sizeof p->nonce, verdict, key, sizeof key, datagram, len, output,
-                                          sizeof output);
+    struct gauge_answer a = gauge_receive(p->own, sizeof p->own, cpas, sizeof cpas, p->cache, sizeof p->cache, p->firsts, sizeof p->firsts,
+                                          p->waiting, sizeof p->waiting, MAJOR, MINOR, p->id, p->nonce, sizeof p->nonce, verdict, key, sizeof key,
+                                          datagram, len, output, sizeof output);
     p->id += 2; /* a receive may use up two */
     if (a.number != GAUGE_OK) {
         refused(p, "gauge_receive", a.number);

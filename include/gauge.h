@@ -37,8 +37,8 @@
  *   So where 9 and 15 both apply it is 9. Go by the list: so far it gives the lowest, but numbers of later versions
  *   will stand between these, and not at its end. gauge_balance has nothing to refuse: its answer is the balance.
  * - With any number but 0 nothing has changed: each byte is as it was lent, and the rest of the answer is 0.
- * - With 0 the output has changed in its first bytes only, as many as the call says; and cache and waiting table are
- *   in form again.
+ * - With 0 the output has changed in its first bytes only, as many as the call says; and cache, firsts and waiting
+ *   table are in form again.
  * - The calls on one gauge's memory come one after the other. Gauges that share no memory do not know of each other.
  * - A call takes at most GAUGE_STACK_MOST bytes of the stack that it is called on, whatever the bytes are: what is
  *   passed there, the return address and all below it, with 256 bytes for a memcpy, memmove or memset of your C
@@ -49,7 +49,7 @@
  *   the one with the largest as its neighbour below. In the cache records stand in plain order all the same.
  * - A gauge may stand for several ponds, one to GAUGE_OWN_MOST (4): it then has an own record for each, with a key of
  *   its own, and what is said of our key below is said of any of them, but for the first where that is named. Each has
- *   a neighbour list and a CPA; cache and waiting table are the gauge's.
+ *   a neighbour list and a CPA; cache, firsts and waiting table are the gauge's.
  * - How floating-point numbers are rounded, and whether they trap, does not matter to any call: a depth is looked at
  *   by its bits.
  *
@@ -62,22 +62,22 @@
  *     #include "gauge.h"
  *     #include <stdio.h>
  *     static uint8_t own[GAUGE_RECORD_LEN], cpas[GAUGE_CPAS_LEN(1)] = {1}, cache[GAUGE_CACHE_LEN(64)],
- *         waiting[GAUGE_WAITING_LEN], nonce[GAUGE_NONCE_LEN], key[GAUGE_KEY_LEN], datagram[GAUGE_DATAGRAM_MOST],
- *         output[GAUGE_OUTPUT_LEN];
+ *         firsts[GAUGE_FIRSTS_LEN], waiting[GAUGE_WAITING_LEN], nonce[GAUGE_NONCE_LEN], key[GAUGE_KEY_LEN],
+ *         datagram[GAUGE_DATAGRAM_MOST], output[GAUGE_OUTPUT_LEN];
  *     int main(void)
  *     {
  *         own[GAUGE_RECORD_KEY + GAUGE_KEY_LEN - 1] = 12;
  *         own[GAUGE_RECORD_COUNT] = 1;
  *         size_t len = fread(datagram, 1, sizeof datagram, stdin);
- *         struct gauge_answer a = gauge_receive(own, sizeof own, cpas, sizeof cpas, cache, sizeof cache, waiting,
- *                                               sizeof waiting, GAUGE_DRT_MAJOR, GAUGE_DRT_MINOR, 7, nonce,
- *                                               sizeof nonce, 0, key, sizeof key, datagram, len, output,
- *                                               sizeof output);
+ *         struct gauge_answer a = gauge_receive(own, sizeof own, cpas, sizeof cpas, cache, sizeof cache, firsts,
+ *                                               sizeof firsts, waiting, sizeof waiting, GAUGE_DRT_MAJOR,
+ *                                               GAUGE_DRT_MINOR, 7, nonce, sizeof nonce, 0, key, sizeof key,
+ *                                               datagram, len, output, sizeof output);
  *         fwrite(output, 1, (size_t)a.first + a.second, stdout);
  *         return (int)a.number;
  *     }
  *
- * Twenty arguments by hand are for who wants them: gauge_host.h has the same calls over one struct, the messages that a
+ * 22 arguments by hand are for who wants them: gauge_host.h has the same calls over one struct, the messages that a
  * host writes itself, texts for the numbers, and recipes for what a host does all day. To record a gauge's calls:
  * gauge_trace.h. The memory, byte by byte: docs/MEMORY.md. What was decided, and why: docs/DECISIONS.md. Examples:
  * examples/first.c, examples/two_ponds.c, and examples/hill.c with all that a radio program does. */
@@ -97,8 +97,8 @@ extern "C" {
 
 /* The version of this header and of the archive, as gauge.pc has it; and as a number that rises. CHANGELOG.md tells
  * what changed. */
-#define GAUGE_VERSION "1.6"
-#define GAUGE_VERSION_NUMBER 106
+#define GAUGE_VERSION "1.7"
+#define GAUGE_VERSION_NUMBER 107
 
 /* The versions in the header of a message: those of the message that document 003 prints. Document 000 leaves them to
  * whoever builds on it. Every call that has a major and a minor takes any others too; all gauges that are to hear each
@@ -123,6 +123,7 @@ extern "C" {
 #define GAUGE_CACHE_MOST 256
 /* .. and this length. C stays as long as the memory is in use. */
 #define GAUGE_CACHE_LEN(c) (GAUGE_TO(size_t, GAUGE_RECORD_LEN) * GAUGE_TO(size_t, c))
+#define GAUGE_FIRSTS_LEN 512      /* the firsts: how many keys held begin with each byte, 256 numbers of 2 bytes */
 #define GAUGE_DATAGRAM_LEAST 12
 #define GAUGE_DATAGRAM_MOST 1232
 #define GAUGE_OUTPUT_LEN 2464     /* an output that is enough for each of the calls */
@@ -155,9 +156,9 @@ extern "C" {
  * told by the list above. */
 enum gauge_number {
     GAUGE_OK = 0,          /* accepted */
-    GAUGE_MEMORY = 1,      /* what you have lent is not in form: own records, CPAs, cache, waiting table, or a nonce,
-                              key or target of another length, or a path of endpoints that are not whole. Yours: mend
-                              it (gauge_host.h tells which; records of a version before 1.3 need gauge_convert). */
+    GAUGE_MEMORY = 1,      /* what you have lent is not in form: own records, CPAs, cache, firsts, waiting table, or a
+                              nonce, key or target of another length, or a path of endpoints that are not whole. Yours:
+                              mend it (gauge_host.h tells which; records of a version before 1.3 need gauge_convert). */
     GAUGE_LENGTH = 2,      /* datagram shorter than 12 or longer than 1,232 bytes. The sender's, as up to 7: drop the
                               datagram. */
     GAUGE_HEADER = 3,      /* its first five bytes are not 00 10 00 0C 51 */
@@ -263,7 +264,7 @@ struct gauge_reading {
  *
  *   own       our own records, one behind the other: 100 bytes each, one to GAUGE_OWN_MOST of them, their keys strictly
  *             increasing. Ports and addresses may change from call to call. Keys and their number may not, as long as
- *             cache and waiting table are in use: for others begin with both all zero. That is yours to see to, as no
+ *             cache and waiting table are in use: for others begin with all zero. That is yours to see to, as no
  *             call can see such a change: an own key that is held or inquired about gives GAUGE_MEMORY, and any other
  *             is taken, with a cache that was kept for other keys: neighbours of the new one may have been dropped.
  *   cpas      the CPAs of our own records, in the same order: for each its length in 2 bytes, the least significant
@@ -273,6 +274,12 @@ struct gauge_reading {
  *             to that.
  *   cache     for writing: GAUGE_CACHE_LEN(C) bytes, C at least ten times the number of own records. All zero is the
  *             empty cache. None of our keys is held.
+ *   firsts    for writing: GAUGE_FIRSTS_LEN bytes. How many of the keys held, so none of ours, begin with each byte:
+ *             number b, of those that begin with b, stands at 2 * b in 2 bytes, the least significant first. All zero
+ *             belongs to the empty cache. It is kept beside the cache by this call alone, the only one that learns,
+ *             drops or removes a key, and changes then by one at the first byte of each such key. Numbers that are
+ *             not those of the cache lent with them are not in form: keep the two together, and count afresh for a
+ *             cache that was saved without them (gauge_firsts_count of gauge_host.h).
  *   waiting   for writing: 2,240 bytes. All zero is the empty table. None of our keys is inquired about.
  *   major     our major version. A datagram with another one gives GAUGE_MAJOR. It stands in what is sent.
  *   minor     our minor version, which stands in what is sent.
@@ -317,10 +324,11 @@ struct gauge_reading {
  *
  * Gives GAUGE_OK or any number from GAUGE_MEMORY to GAUGE_ROOM. */
 struct gauge_answer gauge_receive(const uint8_t *own, size_t own_len, const uint8_t *cpas, size_t cpas_len,
-                                  uint8_t *cache, size_t cache_len, uint8_t *waiting, size_t waiting_len,
-                                  uint8_t major, uint8_t minor, uint32_t id, const uint8_t *nonce, size_t nonce_len,
-                                  uint32_t verdict, const uint8_t *key, size_t key_len, const uint8_t *datagram,
-                                  size_t datagram_len, uint8_t *output, size_t output_len);
+                                  uint8_t *cache, size_t cache_len, uint8_t *firsts, size_t firsts_len,
+                                  uint8_t *waiting, size_t waiting_len, uint8_t major, uint8_t minor, uint32_t id,
+                                  const uint8_t *nonce, size_t nonce_len, uint32_t verdict, const uint8_t *key,
+                                  size_t key_len, const uint8_t *datagram, size_t datagram_len, uint8_t *output,
+                                  size_t output_len);
 
 /* A FLOOD of a record is to go to a neighbour. A place opens that waits for its ACK.
  *
@@ -421,7 +429,8 @@ struct gauge_answer gauge_search(const uint8_t *own, size_t own_len, const uint8
  *   cache    for writing, in the old form.
  *   waiting  for writing, in the old form.
  *
- * The form of today is an old one too: to convert what is converted already, or in part, changes nothing more.
+ * The form of today is an old one too: to convert what is converted already, or in part, changes nothing more. No key
+ * changes, so firsts that belong to the cache belong to it afterwards too; they are not lent here.
  * Inquiries may wait meanwhile: the AUTHORITY that answers one then learns the record that it was cut to.
  *
  * Convert all gauges of a valley at once. What a gauge passes on since 1.3 has one address, and one before 1.3 that

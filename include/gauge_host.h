@@ -24,8 +24,8 @@
  *     }
  *
  * One gauge for two ponds, the keys rising and the CPAs in their order; the cache has ten records or more for each. Ask
- * for the list of each by its key (gauge_lent_neighbours). Whoever changes its ponds begins anew: cache and waiting
- * table are then empty.
+ * for the list of each by its key (gauge_lent_neighbours). Whoever changes its ponds begins anew: cache, firsts and
+ * waiting table are then empty.
  *
  *     static uint8_t both[2 * GAUGE_CPAS_LEN(sizeof cpa)];
  *     void begin_two(struct gauge_lent *l, const uint8_t *key, const uint8_t *above, const uint8_t *address)
@@ -129,10 +129,11 @@
  *             radio_send(gauge_lent_record(l, i) + GAUGE_RECORD_ADDRESSES, flood, n);
  *     }
  *
- * Saving and restoring. The cache is worth it, the waiting table is not: who waits is gone. Begin as above with the
- * same own keys, read the cache, and convert it: one that a version before 1.3 saved, with up to four addresses in a
- * record, is then in the form of today, and one that was so already stays as it is. Where that is refused the file was
- * damaged, and the cache begins empty. What then holds is the statement Demand3From (docs/STATEMENTS.md,
+ * Saving and restoring. The cache is worth it, the waiting table is not: who waits is gone. Nor are the firsts, which
+ * are counted afresh. Begin as above with the same own keys, read the cache, and convert it: one that a version before
+ * 1.3 saved, with up to four addresses in a record, is then in the form of today, and one that was so already stays as
+ * it is. Where that is refused the file was damaged, and the cache begins empty. Then count, so that firsts and cache
+ * belong together. What then holds is the statement Demand3From (docs/STATEMENTS.md,
  * crates/signed/specs/From.antt): from any cache in form and an empty waiting table, the neighbour list after any calls
  * is the one that the keys kept and those learned and removed since make, as if all had come in one night.
  *
@@ -145,6 +146,7 @@
  *         int whole = fread(l->cache, 1, l->cache_len, f) == l->cache_len;
  *         if (!whole || gauge_lent_convert(l).number != GAUGE_OK)
  *             memset(l->cache, 0, l->cache_len);
+ *         gauge_firsts_count(l->cache, l->cache_len, l->firsts);
  *         return whole;
  *     }
  *
@@ -166,6 +168,7 @@
 struct gauge_lent {
     uint8_t own[GAUGE_OWN_MOST * GAUGE_RECORD_LEN];
     size_t own_len;                   /* GAUGE_RECORD_LEN for each own record */
+    uint8_t firsts[GAUGE_FIRSTS_LEN]; /* of the keys in the cache; who puts another there counts afresh */
     uint8_t waiting[GAUGE_WAITING_LEN];
     uint8_t output[GAUGE_OUTPUT_LEN]; /* what the last call wrote */
     uint8_t nonce[GAUGE_NONCE_LEN];   /* random, and another before each receive: it goes into an INQUIRE */
@@ -189,7 +192,7 @@ static inline size_t gauge_cpas_put(uint8_t *cpas, size_t behind, const uint8_t 
     return behind + GAUGE_CPAS_LEN(len);
 }
 
-/* All empty, the cache with it; versions and the first ID, 1. The own record is still to be set. */
+/* All empty, the cache and the firsts with it; versions and the first ID, 1. The own record is still to be set. */
 static inline void gauge_lent_begin(struct gauge_lent *l, uint8_t *cache, size_t cache_len, const uint8_t *cpas,
                                     size_t cpas_len)
 {
@@ -262,9 +265,9 @@ static inline struct gauge_answer gauge_lent_receive(struct gauge_lent *l, const
                                                      size_t datagram_len)
 {
     struct gauge_answer a =
-        gauge_receive(l->own, l->own_len, l->cpas, l->cpas_len, l->cache, l->cache_len, l->waiting,
-                      sizeof l->waiting, l->major, l->minor, l->id, l->nonce, sizeof l->nonce, l->verdict, l->key,
-                      sizeof l->key, datagram, datagram_len, l->output, sizeof l->output);
+        gauge_receive(l->own, l->own_len, l->cpas, l->cpas_len, l->cache, l->cache_len, l->firsts, sizeof l->firsts,
+                      l->waiting, sizeof l->waiting, l->major, l->minor, l->id, l->nonce, sizeof l->nonce, l->verdict,
+                      l->key, sizeof l->key, datagram, datagram_len, l->output, sizeof l->output);
     l->id += 2;
     l->verdict = 0;
     memset(l->key, 0, sizeof l->key);
@@ -380,6 +383,23 @@ static inline uint32_t gauge_lent_find(const struct gauge_lent *l, const uint8_t
     return i;
 }
 
+/* The firsts: how many keys held begin with a byte, and all of them counted afresh of a cache in form, for one that was
+ * saved without them, by a version before 1.7 too. */
+static inline uint32_t gauge_firsts_at(const uint8_t *firsts, uint8_t first)
+{
+    return firsts[2 * first] + GAUGE_TO(uint32_t, firsts[2 * first + 1]) * 256;
+}
+
+static inline void gauge_firsts_count(const uint8_t *cache, size_t cache_len, uint8_t *firsts)
+{
+    memset(firsts, 0, GAUGE_FIRSTS_LEN);
+    for (const uint8_t *r = cache; r < cache + cache_len && r[GAUGE_RECORD_COUNT] != 0; r += GAUGE_RECORD_LEN) {
+        uint32_t count = gauge_firsts_at(firsts, r[GAUGE_RECORD_KEY]) + 1;
+        firsts[2 * r[GAUGE_RECORD_KEY]] = GAUGE_TO(uint8_t, count & 255);
+        firsts[2 * r[GAUGE_RECORD_KEY] + 1] = GAUGE_TO(uint8_t, count >> 8);
+    }
+}
+
 /* What a number says, a few words without a full stop. */
 static inline const char *gauge_number_text(uint32_t number)
 {
@@ -437,14 +457,16 @@ static inline const char *gauge_reading_text(uint32_t reading)
 }
 
 /* GAUGE_MEMORY: which of the lent things is not in form? Each but the CPAs is tried by a call that refuses it before
- * anything else and, as it is lent no output, changes nothing. The first that is not in form is told; CPAs, cache and
- * waiting table are held against the own records, so with own records that are not in form nothing is said of them. */
+ * anything else and, as it is lent no output, or no datagram, changes nothing. The first that is not in form is told;
+ * CPAs, cache and waiting table are held against the own records, so with own records that are not in form nothing is
+ * said of them; and firsts against the cache. */
 enum gauge_part {
     GAUGE_PART_NONE = 0,
     GAUGE_PART_OWN = 1,
     GAUGE_PART_CPA = 2,
     GAUGE_PART_CACHE = 3,
-    GAUGE_PART_WAITING = 4
+    GAUGE_PART_WAITING = 4,
+    GAUGE_PART_FIRSTS = 5
 };
 
 /* Are these the CPAs of so many own records, and nothing behind them? */
@@ -461,10 +483,10 @@ static inline int gauge_cpas_in_form(const uint8_t *cpas, size_t cpas_len, size_
 }
 
 static inline enum gauge_part gauge_not_in_form(const uint8_t *own, size_t own_len, const uint8_t *cpas,
-                                                size_t cpas_len, const uint8_t *cache, size_t cache_len,
-                                                uint8_t *waiting, size_t waiting_len)
+                                                size_t cpas_len, uint8_t *cache, size_t cache_len, uint8_t *firsts,
+                                                size_t firsts_len, uint8_t *waiting, size_t waiting_len)
 {
-    uint8_t none[1] = {0}, empty[GAUGE_WAITING_LEN];
+    uint8_t none[1] = {0}, zeros[GAUGE_KEY_LEN] = {0}, empty[GAUGE_WAITING_LEN];
     memset(empty, 0, sizeof empty);
     if (gauge_tick(own, own_len, empty, sizeof empty, none, 0).number == GAUGE_MEMORY)
         return GAUGE_PART_OWN;
@@ -474,13 +496,16 @@ static inline enum gauge_part gauge_not_in_form(const uint8_t *own, size_t own_l
         return GAUGE_PART_CACHE;
     if (gauge_tick(own, own_len, waiting, waiting_len, none, 0).number == GAUGE_MEMORY)
         return GAUGE_PART_WAITING;
+    if (gauge_receive(own, own_len, cpas, cpas_len, cache, cache_len, firsts, firsts_len, waiting, waiting_len, 0, 0,
+                      0, zeros, GAUGE_NONCE_LEN, 0, zeros, GAUGE_KEY_LEN, zeros, 0, none, 0).number == GAUGE_MEMORY)
+        return GAUGE_PART_FIRSTS;
     return GAUGE_PART_NONE;
 }
 
 static inline enum gauge_part gauge_lent_not_in_form(struct gauge_lent *l)
 {
-    return gauge_not_in_form(l->own, l->own_len, l->cpas, l->cpas_len, l->cache, l->cache_len, l->waiting,
-                             sizeof l->waiting);
+    return gauge_not_in_form(l->own, l->own_len, l->cpas, l->cpas_len, l->cache, l->cache_len, l->firsts,
+                             sizeof l->firsts, l->waiting, sizeof l->waiting);
 }
 
 static inline const char *gauge_part_text(uint32_t part)
@@ -491,6 +516,7 @@ static inline const char *gauge_part_text(uint32_t part)
     case GAUGE_PART_CPA: return "the CPAs";
     case GAUGE_PART_CACHE: return "the cache";
     case GAUGE_PART_WAITING: return "the waiting table";
+    case GAUGE_PART_FIRSTS: return "the firsts";
     default: return "no part";
     }
 }

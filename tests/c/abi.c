@@ -1,8 +1,8 @@
 /* How the calls cross to C: sizes and places in the answers, and the constants; each argument in its place; slices of length 0; every type of message
  * looked at. What is wanted is worked out by hand from the layout of the messages (documents 000 and 01) and from include/gauge.h.
  *
- * `arguments`, `searched`, `readings` and the looks write the calls out, as a radio program does: that each argument stands where the header has it
- * is what they test, and through tests/c/calling.h an exchange of two would be one in their own hands. The rest calls through it. */
+ * `arguments`, `counted`, `searched`, `readings` and the looks write the calls out, as a radio program does: that each argument stands where the header
+ * has it is what they test, and through tests/c/calling.h an exchange of two would be one in their own hands. The rest calls through it. */
 #define _DEFAULT_SOURCE
 #include "calling.h"
 #include <stdio.h>
@@ -65,7 +65,7 @@ static void constants(void)
     CHECK(GAUGE_ENTRY_COUNT == 37 && GAUGE_ENTRY_ADDRESSES == 38);
     CHECK(GAUGE_CPA_LEAST == 1 && GAUGE_CPA_MOST == 1024 && GAUGE_CPAS_LEN(1024) == 2 + 1024 && GAUGE_OWN_MOST == 4);
     CHECK(GAUGE_DATAGRAM_LEAST == 12 && GAUGE_DATAGRAM_MOST == 1232);
-    CHECK(GAUGE_CACHE_LEAST == 10 && GAUGE_CACHE_MOST == 256 && GAUGE_CACHE_LEN(256) == 25600);
+    CHECK(GAUGE_CACHE_LEAST == 10 && GAUGE_CACHE_MOST == 256 && GAUGE_CACHE_LEN(256) == 25600 && GAUGE_FIRSTS_LEN == 256 * 2);
     CHECK(GAUGE_PLACES == 16 && GAUGE_PLACE_LEN == 140 && GAUGE_WAITING_LEN == 16 * 140);
     CHECK(GAUGE_OUTPUT_LEN == 2 * 1232 && GAUGE_SEND_LEN == 100 + 16 && GAUGE_TICK_LEN == 16 * 4 && GAUGE_LIST_LEN == 10 * 32);
     CHECK(GAUGE_SOLICIT == 1 && GAUGE_ADVERTISE == 2 && GAUGE_REQUEST == 3 && GAUGE_FLOOD == 4);
@@ -144,16 +144,16 @@ static void looks(void)
 
 /* A gauge with key 12 (hex), versions 6 and 101. */
 
-static uint8_t own[GAUGE_RECORD_LEN], cpas[4] = {2, 0, 0xE1, 0xE2}, cache[GAUGE_CACHE_LEN(10)], waiting[GAUGE_WAITING_LEN], nonce[GAUGE_NONCE_LEN],
-    key[GAUGE_KEY_LEN], neighbour[GAUGE_KEY_LEN], output[GAUGE_OUTPUT_LEN], datagram[GAUGE_DATAGRAM_MOST];
+static uint8_t own[GAUGE_RECORD_LEN], cpas[4] = {2, 0, 0xE1, 0xE2}, cache[GAUGE_CACHE_LEN(10)], firsts[GAUGE_FIRSTS_LEN], waiting[GAUGE_WAITING_LEN],
+    nonce[GAUGE_NONCE_LEN], key[GAUGE_KEY_LEN], neighbour[GAUGE_KEY_LEN], output[GAUGE_OUTPUT_LEN], datagram[GAUGE_DATAGRAM_MOST];
 static size_t datagram_len;
 
 static struct gauge_answer receive(uint32_t id, uint32_t verdict, const char *text)
 {
     datagram_len = bytes(text, datagram);
     memset(output, 0xEE, sizeof output);
-    return gauge_receive(own, sizeof own, cpas, sizeof cpas, cache, sizeof cache, waiting, sizeof waiting, 6, 101, id, nonce, sizeof nonce, verdict,
-                         key, sizeof key, datagram, datagram_len, output, sizeof output);
+    return gauge_receive(own, sizeof own, cpas, sizeof cpas, cache, sizeof cache, firsts, sizeof firsts, waiting, sizeof waiting, 6, 101, id, nonce,
+                         sizeof nonce, verdict, key, sizeof key, datagram, datagram_len, output, sizeof output);
 }
 
 static int wrote(const char *text)
@@ -205,7 +205,7 @@ static void arguments(void)
     CHECK(receive(10, GAUGE_GOOD, AUTHORITY("00000009")).number == GAUGE_OTHER_KEY);
     key[0] = 0;
     CHECK(receive(10, GAUGE_GOOD, AUTHORITY("00000009")).number == GAUGE_OK);
-    CHECK(cache[31] == 0x11 && waiting[4] == 0);
+    CHECK(cache[31] == 0x11 && waiting[4] == 0 && firsts[0] == 1 && firsts[1] == 0); /* its first byte is 00 */
 
     memset(output, 0xEE, sizeof output); /* the neighbour comes before the record's key */
     bytes(KEY("11"), neighbour);
@@ -234,6 +234,35 @@ static void arguments(void)
     CHECK(found_is(gauge_closest(own, sizeof own, cache, sizeof cache, path, sizeof path, neighbour, sizeof neighbour), 0, 1));
     CHECK(answer_is(gauge_closest(own, sizeof own, cache, sizeof cache, path, sizeof path - 1, neighbour, sizeof neighbour), GAUGE_MEMORY, 0));
     CHECK(answer_is(gauge_closest(own, sizeof own, cache, sizeof cache, path, 0, neighbour, sizeof neighbour - 1), GAUGE_MEMORY, 0));
+}
+
+/* Document 02, request 12: firsts behind the cache, before the waiting table, each with its own length; a number is two bytes at twice the first byte,
+ * least significant first. A key that begins with 05 is learned, and removed by a revocation; firsts that are not the cache's are refused. */
+static void counted(void)
+{
+    static uint8_t held[GAUGE_CACHE_LEN(10)], counts[GAUGE_FIRSTS_LEN], waits[GAUGE_WAITING_LEN], five[GAUGE_KEY_LEN] = {5}, wanted[GAUGE_FIRSTS_LEN];
+    bytes("09000000 02 01 0000 05" ZEROS ZEROS "00 05" ZEROS ZEROS "00 138A 01 00 " NONCE, waits);
+    size_t len = bytes(AUTHORITY("00000009"), datagram);
+#define RECEIVED(count_len)                                                                                                                       \
+    gauge_receive(own, sizeof own, cpas, sizeof cpas, held, sizeof held, counts, count_len, waits, sizeof waits, 6, 101, 1, nonce, sizeof nonce,   \
+                  GAUGE_GOOD, five, sizeof five, datagram, len, output, sizeof output)
+    CHECK(answer_is(RECEIVED(sizeof counts - 1), GAUGE_MEMORY, 0) && answer_is(RECEIVED(0), GAUGE_MEMORY, 0));
+    for (size_t off = 0; off < sizeof counts; off += off == 11 ? 500 : 1) { /* one number off by one, or by 256 */
+        counts[off] = 1;
+        CHECK(answer_is(RECEIVED(sizeof counts), GAUGE_MEMORY, 0) && counts[off] == 1 && held[0] == 0 && waits[4] == 2);
+        counts[off] = 0;
+    }
+    CHECK(answer_is(RECEIVED(sizeof counts), GAUGE_OK, 0) && held[0] == 5 && waits[4] == 0);
+    wanted[10] = 1;
+    CHECK(memcmp(counts, wanted, sizeof counts) == 0);
+    len = bytes(HEADER("04", "00000105") CONTROLS("01") KEY("12") "009C 0007 C1C2C3 00", datagram);
+    counts[10] = 0;
+    counts[12] = 1; /* the sum alone is right */
+    CHECK(answer_is(RECEIVED(sizeof counts), GAUGE_MEMORY, 0) && held[0] == 5 && counts[12] == 1);
+    memcpy(counts, wanted, sizeof counts);
+    CHECK(answer_is(RECEIVED(sizeof counts), GAUGE_OK, 0) && held[GAUGE_RECORD_COUNT] == 0 && counts[10] == 0);
+    CHECK(answer_is(RECEIVED(sizeof counts), GAUGE_OK, 0) && counts[10] == 0 && counts[11] == 0); /* it is not held any more */
+#undef RECEIVED
 }
 
 /* Document 02, request 8: keys 10 20 30 40 50, and how many of them are compared. Own before cache before key: each has its own length. */
@@ -371,6 +400,7 @@ static struct lent lend_all(void)
     l.own = as_room(own, sizeof own);
     l.cpas = as_room(cpas, sizeof cpas);
     l.cache = as_room(cache, sizeof cache);
+    l.firsts = as_room(firsts, sizeof firsts);
     l.waiting = as_room(waiting, sizeof waiting);
     l.nonce = as_room(nonce, sizeof nonce);
     l.neighbour = as_room(neighbour, sizeof neighbour);
@@ -404,8 +434,9 @@ static uint32_t number_of(int slice)
 
 static void zero_lengths(uint8_t *nothing)
 {
-    uint8_t cache_was[sizeof cache], waiting_was[sizeof waiting];
+    uint8_t cache_was[sizeof cache], firsts_was[sizeof firsts], waiting_was[sizeof waiting];
     memcpy(cache_was, cache, sizeof cache);
+    memcpy(firsts_was, firsts, sizeof firsts);
     memcpy(waiting_was, waiting, sizeof waiting);
     memset(output, 0xEE, sizeof output);
     datagram_len = bytes(INQUIRE(KEY("12"), "00000001"), datagram);
@@ -418,6 +449,7 @@ static void zero_lengths(uint8_t *nothing)
             struct gauge_answer a = call((enum call_kind)c, &l);
             CHECK(a.number == number_of(empty) && a.first == 0 && a.second == 0);
             CHECK(memcmp(cache, cache_was, sizeof cache) == 0 && memcmp(waiting, waiting_was, sizeof waiting) == 0 && output[0] == 0xEE);
+            CHECK(memcmp(firsts, firsts_was, sizeof firsts) == 0);
         }
     CHECK(gauge_look(6, nothing, 0).number == GAUGE_LENGTH);
     struct lent none = lend_all(); /* a path may be empty: key 11 is the closest to 0 */
@@ -438,6 +470,7 @@ int main(void)
     constants();
     looks();
     arguments();
+    counted();
     searched();
     converted();
     lookups();

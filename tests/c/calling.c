@@ -6,8 +6,8 @@
 
 struct gauge_answer call_receive(receive_call *by, const struct lent *l)
 {
-    return by(TAKEN(own), TAKEN(cpas), TAKEN(cache), TAKEN(waiting), l->major, l->minor, l->id, TAKEN(nonce), l->verdict, TAKEN(key), TAKEN(datagram),
-              TAKEN(output));
+    return by(TAKEN(own), TAKEN(cpas), TAKEN(cache), TAKEN(firsts), TAKEN(waiting), l->major, l->minor, l->id, TAKEN(nonce), l->verdict, TAKEN(key),
+              TAKEN(datagram), TAKEN(output));
 }
 
 struct gauge_answer call_send(send_call *by, const struct lent *l)

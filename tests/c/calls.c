@@ -157,6 +157,20 @@ static void held(void)
     printf("%s", i == 0 ? "-" : "");
 }
 
+/* How many keys held begin with each byte, as byte:number; those that are 0 are left out. */
+static void firsts(void)
+{
+    const char *between = "";
+    for (size_t i = 0; i + 2 <= lent.firsts.len; i += 2) {
+        unsigned count = lent.firsts.at[i] + 256u * lent.firsts.at[i + 1];
+        if (count == 0)
+            continue;
+        printf("%s%zx:%u", between, i / 2, count);
+        between = ",";
+    }
+    printf("%s", *between == '\0' ? "-" : "");
+}
+
 static void waits(void)
 {
     size_t i = 0;
@@ -292,6 +306,11 @@ static void set_cache(void)
     lend(LENT_cache, 1);
 }
 
+static void set_firsts(void)
+{
+    lend(LENT_firsts, 1);
+}
+
 static void set_waiting(void)
 {
     lend(LENT_waiting, 1);
@@ -301,10 +320,10 @@ static const struct {
     const char *name;
     void (*run)(void);
     bool sets; /* answers ok */
-} lines[] = {{"gauge", begin, true}, {"set-cache", set_cache, true}, {"set-waiting", set_waiting, true}, {"receive", receive, false},
-             {"send", send, false},  {"tick", tick, false},          {"list", list, false},              {"nearest", nearest, false},
-             {"look", look, false},  {"held", held, false},          {"waits", waits, false},            {"convert", convert, false},
-             {"find", find, false}};
+} lines[] = {{"gauge", begin, true},     {"set-cache", set_cache, true}, {"set-firsts", set_firsts, true}, {"set-waiting", set_waiting, true},
+             {"receive", receive, false}, {"send", send, false},          {"tick", tick, false},            {"list", list, false},
+             {"nearest", nearest, false}, {"find", find, false},          {"convert", convert, false},      {"look", look, false},
+             {"held", held, false},       {"firsts", firsts, false},      {"waits", waits, false}};
 
 int main(void)
 {

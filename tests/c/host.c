@@ -22,7 +22,7 @@ static void check(int holds, const char *what, unsigned line)
 struct gauge {
     struct gauge_lent lent;
     uint8_t cache[GAUGE_CACHE_LEN(HELD)], cpa[GAUGE_KEY_LEN], cpas[GAUGE_CPAS_LEN(GAUGE_KEY_LEN)];
-    uint8_t plain_cache[GAUGE_CACHE_LEN(HELD)], plain_waiting[GAUGE_WAITING_LEN], plain_output[GAUGE_OUTPUT_LEN];
+    uint8_t plain_cache[GAUGE_CACHE_LEN(HELD)], plain_firsts[GAUGE_FIRSTS_LEN], plain_waiting[GAUGE_WAITING_LEN], plain_output[GAUGE_OUTPUT_LEN];
 };
 
 static struct gauge gauges[3]; /* by number, from 1 */
@@ -34,6 +34,7 @@ static void begin(uint8_t number)
     memset(g, 0xA5, sizeof *g); /* what was there before does not matter */
     memset(g->cpa, number, sizeof g->cpa);
     memset(g->plain_cache, 0, sizeof g->plain_cache);
+    memset(g->plain_firsts, 0, sizeof g->plain_firsts);
     memset(g->plain_waiting, 0, sizeof g->plain_waiting);
     address[GAUGE_ADDRESS_LEN - 1] = number;
     gauge_lent_begin(&g->lent, g->cache, sizeof g->cache, g->cpas, gauge_cpas_put(g->cpas, 0, g->cpa, sizeof g->cpa));
@@ -48,6 +49,7 @@ static struct lent plain(struct gauge *g, const uint8_t *datagram, size_t len)
     l.own = as_room(g->lent.own, GAUGE_RECORD_LEN);
     l.cpas = as_room(g->cpas, sizeof g->cpas);
     l.cache = as_room(g->plain_cache, sizeof g->plain_cache);
+    l.firsts = as_room(g->plain_firsts, sizeof g->plain_firsts);
     l.waiting = as_room(g->plain_waiting, sizeof g->plain_waiting);
     l.nonce = as_room(g->lent.nonce, GAUGE_NONCE_LEN);
     l.key = as_room(g->lent.key, GAUGE_KEY_LEN);
@@ -64,6 +66,7 @@ static void same(const struct gauge *g, struct gauge_answer a, struct gauge_answ
 {
     CHECK(a.number == b.number && a.first == b.first && a.second == b.second);
     CHECK(memcmp(g->cache, g->plain_cache, sizeof g->cache) == 0);
+    CHECK(memcmp(g->lent.firsts, g->plain_firsts, sizeof g->plain_firsts) == 0);
     CHECK(memcmp(g->lent.waiting, g->plain_waiting, sizeof g->plain_waiting) == 0);
     CHECK(memcmp(g->lent.output, g->plain_output, sizeof g->plain_output) == 0);
 }
@@ -167,6 +170,7 @@ static void find_each_other(void)
     begin(2);
     CHECK(one->lent.major == 6 && one->lent.minor == 101 && gauge_lent_held(&one->lent) == 0);
     delivered(2, flood, gauge_first_flood(&one->lent, flood));
+    CHECK(gauge_firsts_at(two->lent.firsts, 1) == 1 && gauge_firsts_at(two->lent.firsts, 2) == 0 && gauge_firsts_at(one->lent.firsts, 1) == 0);
     CHECK(gauge_lent_held(&two->lent) == 1 && gauge_lent_find(&two->lent, one->cpa) == 0 && gauge_lent_find(&two->lent, two->cpa) == 1);
     CHECK(memcmp(gauge_lent_record(&two->lent, 0), one->lent.own, GAUGE_RECORD_LEN) == 0);
     uint32_t id = two->lent.id;
@@ -193,7 +197,7 @@ static void find_each_other(void)
     CHECK(receive(two, flood, 11).number == GAUGE_LENGTH);
     uint8_t revocation[GAUGE_DATAGRAM_MOST];
     delivered(2, revocation, gauge_revocation(&one->lent, one->cpa, sizeof one->cpa, revocation));
-    CHECK(gauge_lent_held(&two->lent) == 0);
+    CHECK(gauge_lent_held(&two->lent) == 0 && gauge_firsts_at(two->lent.firsts, 1) == 0 && gauge_firsts_at(one->lent.firsts, 2) == 1);
 }
 
 /* Each part out of form, by itself and with those behind it; nothing changes by asking. */
@@ -202,6 +206,8 @@ static void parts(void)
     struct gauge_lent *l = &gauges[1].lent;
     begin(1);
     CHECK(gauge_lent_not_in_form(l) == GAUGE_PART_NONE);
+    l->firsts[GAUGE_FIRSTS_LEN - 1] = 1;
+    CHECK(gauge_lent_not_in_form(l) == GAUGE_PART_FIRSTS && l->firsts[GAUGE_FIRSTS_LEN - 1] == 1);
     l->waiting[4] = 3;
     CHECK(gauge_lent_not_in_form(l) == GAUGE_PART_WAITING && l->waiting[4] == 3);
     gauges[1].cache[GAUGE_RECORD_COUNT] = 5;
@@ -213,13 +219,41 @@ static void parts(void)
     l->own[GAUGE_RECORD_COUNT] = 0;
     CHECK(gauge_lent_not_in_form(l) == GAUGE_PART_OWN);
     CHECK(gauge_lent_receive(l, l->own, 0).number == GAUGE_MEMORY);
-    uint8_t own[GAUGE_RECORD_LEN] = {0}, cpas[3] = {1}, waiting[GAUGE_WAITING_LEN] = {0}, cache[GAUGE_CACHE_LEN(HELD)] = {0};
+    uint8_t own[GAUGE_RECORD_LEN] = {0}, cpas[3] = {1}, cache[GAUGE_CACHE_LEN(HELD)] = {0}, firsts[GAUGE_FIRSTS_LEN] = {0};
+    uint8_t waiting[GAUGE_WAITING_LEN] = {0};
     own[GAUGE_RECORD_COUNT] = 1;
-    CHECK(gauge_not_in_form(own, sizeof own, cpas, 3, cache, sizeof cache, waiting, sizeof waiting) == GAUGE_PART_NONE);
-    CHECK(gauge_not_in_form(own, 99, cpas, 3, cache, sizeof cache, waiting, sizeof waiting) == GAUGE_PART_OWN);
-    CHECK(gauge_not_in_form(own, sizeof own, cpas, 2, cache, sizeof cache, waiting, sizeof waiting) == GAUGE_PART_CPA);
-    CHECK(gauge_not_in_form(own, sizeof own, cpas, 3, cache, 900, waiting, sizeof waiting) == GAUGE_PART_CACHE);
-    CHECK(gauge_not_in_form(own, sizeof own, cpas, 3, cache, sizeof cache, waiting, 2239) == GAUGE_PART_WAITING);
+    CHECK(gauge_not_in_form(own, sizeof own, cpas, 3, cache, sizeof cache, firsts, sizeof firsts, waiting, sizeof waiting) == GAUGE_PART_NONE);
+    CHECK(gauge_not_in_form(own, 99, cpas, 3, cache, sizeof cache, firsts, sizeof firsts, waiting, sizeof waiting) == GAUGE_PART_OWN);
+    CHECK(gauge_not_in_form(own, sizeof own, cpas, 2, cache, sizeof cache, firsts, sizeof firsts, waiting, sizeof waiting) == GAUGE_PART_CPA);
+    CHECK(gauge_not_in_form(own, sizeof own, cpas, 3, cache, 900, firsts, sizeof firsts, waiting, sizeof waiting) == GAUGE_PART_CACHE);
+    CHECK(gauge_not_in_form(own, sizeof own, cpas, 3, cache, sizeof cache, firsts, sizeof firsts, waiting, 2239) == GAUGE_PART_WAITING);
+    CHECK(gauge_not_in_form(own, sizeof own, cpas, 3, cache, sizeof cache, firsts, 511, waiting, sizeof waiting) == GAUGE_PART_FIRSTS);
+}
+
+/* The firsts of a cache counted afresh, up to 256 keys with one first byte; and that the gauge takes them with it. */
+static void counted(void)
+{
+    static uint8_t cache[GAUGE_CACHE_LEN(GAUGE_CACHE_MOST)], cpas[3] = {1};
+    struct gauge_lent *l = &gauges[1].lent;
+    uint8_t key[GAUGE_KEY_LEN] = {0}, address[GAUGE_ADDRESS_LEN] = {0xFE, 0x80};
+    gauge_lent_begin(l, cache, sizeof cache, cpas, sizeof cpas);
+    key[0] = 0x80;
+    gauge_lent_own(l, key, 5000, address, 1);
+    for (size_t held = 0; held <= GAUGE_CACHE_MOST; held++) {
+        memset(l->firsts, 0xA5, sizeof l->firsts);
+        gauge_firsts_count(cache, sizeof cache, l->firsts);
+        CHECK(l->firsts[0] == (held & 255) && l->firsts[1] == held >> 8 && gauge_firsts_at(l->firsts, 0) == held);
+        CHECK(gauge_firsts_at(l->firsts, 0x80) == 0 && gauge_firsts_at(l->firsts, 255) == 0 && gauge_lent_not_in_form(l) == GAUGE_PART_NONE);
+        l->firsts[0] ^= 1;
+        CHECK(gauge_lent_not_in_form(l) == GAUGE_PART_FIRSTS);
+        key[0] = 0;
+        key[GAUGE_KEY_LEN - 1] = (uint8_t)held;
+        if (held < GAUGE_CACHE_MOST)
+            gauge_record_put(cache + GAUGE_CACHE_LEN(held), key, 5000, address, 1);
+    }
+    cache[GAUGE_CACHE_LEN(GAUGE_CACHE_MOST - 1)] = 0xFF;
+    gauge_firsts_count(cache, sizeof cache, l->firsts);
+    CHECK(gauge_firsts_at(l->firsts, 0) == 255 && gauge_firsts_at(l->firsts, 255) == 1 && gauge_lent_not_in_form(l) == GAUGE_PART_NONE);
 }
 
 /* CPAs one behind the other, in form and out of it; the gauge takes those in form, and no other. */
@@ -298,6 +332,8 @@ static void converted(void)
     memcpy(one, g->lent.own, sizeof one);
     memcpy(r, one, sizeof one);
     r[0] = 9; /* another key */
+    gauge_firsts_count(g->cache, sizeof g->cache, g->lent.firsts);
+    gauge_firsts_count(g->cache, sizeof g->cache, g->plain_firsts);
     r[GAUGE_RECORD_COUNT] = g->lent.own[GAUGE_RECORD_COUNT] = 4;
     memcpy(r + GAUGE_RECORD_ADDRESSES, addresses, sizeof addresses);
     memcpy(g->lent.own + GAUGE_RECORD_ADDRESSES, addresses, sizeof addresses);
@@ -327,7 +363,7 @@ static void texts(void)
     CHECK(strcmp(gauge_kind_text(5), gauge_kind_text(0)) == 0 && strcmp(gauge_kind_text(GAUGE_ACK), gauge_kind_text(0)) != 0);
     CHECK(strcmp(gauge_reading_text(3), gauge_reading_text(4)) != 0 && strcmp(gauge_reading_text(1), gauge_reading_text(2)) != 0);
     CHECK(strcmp(gauge_part_text(GAUGE_PART_CACHE), "the cache") == 0 && strcmp(gauge_part_text(GAUGE_PART_WAITING), "the waiting table") == 0);
-    CHECK(strcmp(GAUGE_VERSION, "1.6") == 0 && GAUGE_VERSION_NUMBER == 106);
+    CHECK(strcmp(GAUGE_VERSION, "1.7") == 0 && GAUGE_VERSION_NUMBER == 107);
 }
 
 static void hex(const uint8_t *bytes, size_t len)
@@ -399,6 +435,7 @@ int main(void)
 {
     find_each_other();
     parts();
+    counted();
     several_cpas();
     ponds();
     converted();

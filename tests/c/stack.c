@@ -38,11 +38,11 @@ __attribute__((destructor)) static void tell(void)
 
 PAINTED_CALL(RECEIVE, struct gauge_answer, gauge_receive,
              (const uint8_t *own, size_t own_len, const uint8_t *cpas, size_t cpas_len, uint8_t *cache, size_t cache_len,
-              uint8_t *waiting, size_t waiting_len,
+              uint8_t *firsts, size_t firsts_len, uint8_t *waiting, size_t waiting_len,
               uint8_t major, uint8_t minor, uint32_t id, const uint8_t *nonce, size_t nonce_len, uint32_t verdict, const uint8_t *key, size_t key_len,
               const uint8_t *datagram, size_t datagram_len, uint8_t *output, size_t output_len),
-             (own, own_len, cpas, cpas_len, cache, cache_len, waiting, waiting_len, major, minor, id, nonce, nonce_len, verdict, key, key_len,
-              datagram, datagram_len, output, output_len))
+             (own, own_len, cpas, cpas_len, cache, cache_len, firsts, firsts_len, waiting, waiting_len, major, minor, id, nonce, nonce_len, verdict,
+              key, key_len, datagram, datagram_len, output, output_len))
 PAINTED_CALL(SEND, struct gauge_answer, gauge_send,
              (const uint8_t *own, size_t own_len, const uint8_t *cache, size_t cache_len, uint8_t *waiting, size_t waiting_len,
               uint8_t major, uint8_t minor,

@@ -21,6 +21,7 @@ enum use { TO_READ, TO_KEEP, TO_FILL };
 #define IN(call) (1u << (call))
 #define LENT_MEMORIES(slice) \
     slice(cache, TO_KEEP, 1000, IN(RECEIVE) | IN(SEND) | IN(NEIGHBOURS) | IN(CLOSEST) | IN(SEARCH) | IN(CONVERT)) \
+    slice(firsts, TO_KEEP, 512, IN(RECEIVE)) \
     slice(waiting, TO_KEEP, 2240, IN(RECEIVE) | IN(SEND) | IN(TICK) | IN(CONVERT))
 #define LENT_SLICES(slice) \
     slice(own, TO_READ, 100, IN(RECEIVE) | IN(SEND) | IN(TICK) | IN(NEIGHBOURS) | IN(CLOSEST) | IN(SEARCH) | IN(CONVERT)) \

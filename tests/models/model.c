@@ -425,6 +425,27 @@ static bool cache_form(struct room own, struct room cache, enum form most)
     return true;
 }
 
+/* Document 02, Wish 12: "256 counts: how many held keys begin with each byte", in two bytes each, the least significant first; "counted afresh". */
+static void count_firsts(const uint8_t *cache, size_t len, uint8_t *firsts)
+{
+    size_t counts[256] = {0};
+    for (const uint8_t *r = cache; r < cache + len; r += RECORD_LEN)
+        if (r[COUNT] != 0)
+            counts[r[0]]++;
+    for (size_t byte = 0; byte < 256; byte++) {
+        firsts[2 * byte] = (uint8_t)(counts[byte] % 256);
+        firsts[2 * byte + 1] = (uint8_t)(counts[byte] / 256);
+    }
+}
+
+/* "Counts lent that disagree with the cache are refused with 1." */
+static bool firsts_form(struct room cache, struct room firsts)
+{
+    uint8_t afresh[FIRSTS_LEN];
+    count_firsts(cache.at, cache.len, afresh);
+    return firsts.len == FIRSTS_LEN && memcmp(firsts.at, afresh, FIRSTS_LEN) == 0;
+}
+
 static bool inquiry_form(struct room own, const uint8_t *table, const uint8_t *p, enum form most)
 {
     if (!record_form(p + 40, most) || order(p + 8, p + 40) != 0 || own_with(own, p + 8) != NULL)
@@ -949,6 +970,8 @@ struct model_answer model_receive(const struct lent *l)
         return refuse(MEMORY);
     if (!cache_form(l->own, l->cache, ONE_ADDRESS) || !waiting_form(l->own, l->waiting, ONE_ADDRESS))
         return refuse(MEMORY);
+    if (!firsts_form(l->cache, l->firsts))
+        return refuse(MEMORY);
     struct message m = read_message(l->major, read_only(l->datagram));
     if (m.number != 0)
         return refuse(m.number);
@@ -960,6 +983,7 @@ struct model_answer model_receive(const struct lent *l)
     if (number != 0)
         return refuse(number);
     memcpy(l->cache.at, w.cache, l->cache.len);
+    count_firsts(w.cache, l->cache.len, l->firsts.at);
     memcpy(l->waiting.at, w.waiting, WAITING_LEN);
     memcpy(l->output.at, w.out, w.written);
     struct model_answer a = {0, w.lengths[0], w.lengths[1]};

@@ -538,6 +538,17 @@ def cache_of(records, length):
     return s + bytes(length - len(s))
 
 
+# 02, Wish 12: "256 counts: how many held keys begin with each byte", "counted afresh". W12.1: 16 bits each, little-endian.
+def firsts_of(records):
+    begins = [r[0] for r in records]
+    return b"".join(begins.count(byte).to_bytes(2, "little") for byte in range(256))
+
+
+# The records of a cache, in form or not: all that is not zero.
+def rows_in(cache):
+    return [cache[at:at + 100] for at in range(0, len(cache), 100) if any(cache[at:at + 100])]
+
+
 # 02, Wish 4: "Keys go round". The steps up from one key to another, "modulo 2^256".
 def up(start, key):
     return (key - start) % 2 ** 256
@@ -767,11 +778,12 @@ class Gauge:
     Each call hands back number, first, second and the output after it. 01: "With any refusal the counts returned are 0, .. and every writable byte
     stays as lent": only what was accepted is kept."""
 
-    MEMORIES = ("cache", "waiting")
+    MEMORIES = ("cache", "firsts", "waiting")
 
-    def __init__(self, own, cache=bytes(1000), waiting=bytes(2240), cpas=bytes([1, 0, 0]), major=6, minor=101):
+    def __init__(self, own, cache=bytes(1000), waiting=bytes(2240), cpas=bytes([1, 0, 0]), major=6, minor=101, firsts=None):
         self.own, self.cpas, self.major, self.minor = own, cpas, major, minor
         self.cache, self.waiting = cache, waiting
+        self.firsts = firsts_of(rows_in(cache)) if firsts is None else firsts  # where none are handed in, those of the cache
 
     # 02, Wish 11: our keys, whichever: "N is clear where the validate key is any of ours".
     def is_ours(self, key):
@@ -786,11 +798,11 @@ class Gauge:
         if state.places is not None:
             self.waiting = waiting_of(state.places)
 
-    # 01, number 1: "lent memory is not as above".
+    # 01, number 1: "lent memory is not as above". 02, Wish 12: "Counts lent that disagree with the cache are refused with 1."
     def receive_form(self, state, lent):
         ours = own_records(self.own)
         return (ours is not None and cpas_of(self.cpas, len(ours)) is not None and state.records is not None and state.places is not None
-                and len(lent.nonce) == 16 and len(lent.key) == 32)
+                and self.firsts == firsts_of(state.records) and len(lent.nonce) == 16 and len(lent.key) == 32)
 
     # 01: "The lowest number that applies is given."
     def receive(self, lent, output):
@@ -805,6 +817,7 @@ class Gauge:
         if number != 0:
             return number, 0, 0, output
         self.keep(state)
+        self.firsts = firsts_of(state.records)  # 02, Wish 12: "After any accepted call they equal those counted afresh"
         first, second = ([len(d) for d in state.sent] + [0, 0])[:2]
         return 0, first, second, over(b"".join(state.sent), output)
 
@@ -1291,6 +1304,58 @@ def check_ponds():
     assert Gauge(ours(1, 3), waiting=waiting_of([place(1, 2, 2, k(2), rec(2))])).tick(out)[0] == 0
 
 
+def check_firsts():
+    """Document 02, Wish 12: the counts of one night's calls, each change by its own byte; what is refused."""
+    def k(n, first=0):
+        return bytes([first]) + n.to_bytes(31, "big")
+
+    def rec(key):
+        return key + two(5000) + bytes([1, 0]) + bytes(64)
+
+    def changed(before, after):
+        """The bytes whose counts are others, with how much more they are."""
+        counts = [[int.from_bytes(f[at:at + 2], "little") for at in range(0, 512, 2)] for f in (before, after)]
+        return {byte: b - a for byte, (a, b) in enumerate(zip(*counts)) if a != b}
+
+    own, out = rec(k(100)), bytes(200)
+
+    def learns(g, key):
+        """What changes by an AUTHORITY for this key."""
+        g.waiting, before = waiting_of([place(5, 2, 1, key, rec(key))]), g.firsts
+        assert g.receive(Lent(7, verdict=1, key=key, datagram=write(message("authority", 6, 101, 9, acked=5, cpa=b"C"))), out)[0] == 0
+        return changed(before, g.firsts)
+
+    def revokes(g, key):
+        before = g.firsts
+        assert g.receive(Lent(7, verdict=1, key=key, datagram=write(message("flood", 6, 101, 9, validate=key, revoke=b""))), out)[0] == 0
+        return changed(before, g.firsts)
+
+    g = Gauge(own)
+    assert g.firsts == bytes(512) and learns(g, k(1, 5)) == {5: 1} and g.firsts[10:12] == b"\1\0" and sum(g.firsts) == 1
+    assert learns(g, k(1, 5)) == {} and revokes(g, k(2, 5)) == {} and revokes(g, k(1, 5)) == {5: -1} and g.firsts == bytes(512)
+    # case 3: all begin with 00, 101 joins and 90 goes; so it does for 05.., the only one above; FF.. is below and the farthest, and goes itself
+    for key, change in ((k(101), {}), (k(101, 5), {0: -1, 5: 1}), (k(101, 0xFF), {})):
+        g = Gauge(own, cache_of([rec(k(n)) for n in range(90, 100)], 1000))
+        assert g.firsts == b"\12\0" + bytes(510) and learns(g, key) == change
+    # one that begins with FF goes for one that begins with 00; 05.. is in the list, and 90 goes
+    for first, change in ((0xFF, {0: 1, 0xFF: -1}), (5, {})):
+        g = Gauge(own, cache_of([rec(k(n)) for n in range(90, 99)] + [rec(k(1, first))], 1000))
+        assert learns(g, k(99)) == change
+    # 256 of one byte: the second byte of the count
+    g = Gauge(own, cache_of([rec(k(n)) for n in range(101, 356)], 25600))
+    assert g.firsts[:2] == b"\xFF\0" and learns(g, k(99)) == {0: 1} and g.firsts[:2] == b"\0\1" and not any(g.firsts[2:])
+    assert learns(g, k(400)) == {} and revokes(g, k(99)) == {0: -1} and g.firsts[:2] == b"\xFF\0"
+    # refused: another length, one off, the sum alone right, the order of its two bytes; the other calls are not lent them
+    one, ask = cache_of([rec(k(1, 5))], 1000), Lent(7, datagram=write(message("inquire", 6, 101, 5, validate=own[:32])))
+    right = bytes(10) + b"\1" + bytes(501)
+    assert Gauge(own, one, firsts=right).receive(ask, out)[0] == 0
+    for firsts in (right[:511], right + b"\0", b"", bytes(512), bytes(10) + b"\2" + bytes(501), bytes(12) + b"\1" + bytes(499),
+                   bytes(11) + b"\1" + bytes(500), bytes(10) + b"\1\1" + bytes(500), right[:511] + b"\1"):
+        g = Gauge(own, one, firsts=firsts)
+        assert g.receive(ask, out) == (1, 0, 0, out) and g.memory() == [one, firsts, bytes(2240)]
+        assert g.tick(out)[0] == g.neighbours(own[:32], bytes(320))[0] == g.search(Lent())[0] == g.convert()[0] == 0 and g.firsts == firsts
+
+
 def check_lengths():
     """docs/DECISIONS.md, "What the calls write"."""
     key, zero = b"K" * 32, bytes(32)
@@ -1378,6 +1443,7 @@ if __name__ == "__main__":
     check_address()
     check_count()
     check_ponds()
+    check_firsts()
     check_lengths()
     check_round_trips(8000)
-    print("model: cases 1 to 14, the ring, the path, one address, keys compared, ponds, lengths and 8000 round trips as the documents have them")
+    print("model: cases 1 to 14, ring, path, one address, keys compared, ponds, firsts, lengths and 8000 round trips as the documents have them")

@@ -3,7 +3,7 @@
 #define MODEL_NAMES_H
 
 /* Document 01: "Lent memory", in bytes, and where in a record port, count and addresses stand; an endpoint of a path; how many own records there may
- * be (document 02, Wish 11); the datagram; what a tick and a list need. */
+ * be (document 02, Wish 11); the counts of Wish 12; the datagram; what a tick and a list need. */
 enum {
     KEY_LEN = 32,
     NONCE_LEN = 16,
@@ -16,6 +16,7 @@ enum {
     OWN_MOST = 4,
     CPA_MOST = 1024,
     CACHE_MOST = 25600,
+    FIRSTS_LEN = 512,
     PLACE_LEN = 140,
     PLACES = 16,
     WAITING_LEN = 2240,

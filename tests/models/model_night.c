@@ -10,7 +10,7 @@
 struct night {
     bool begun;
     struct model_answer answer; /* of the last call */
-    uint8_t own[RECORD_LEN], cpas[3], cache[64 * RECORD_LEN], waiting[WAITING_LEN], output[OUTPUT_LEN], body[65536];
+    uint8_t own[RECORD_LEN], cpas[3], cache[64 * RECORD_LEN], firsts[FIRSTS_LEN], waiting[WAITING_LEN], output[OUTPUT_LEN], body[65536];
     struct lent lent;
 };
 
@@ -74,6 +74,7 @@ static void begin(struct night *n, const uint8_t *body)
     n->cpas[0] = 1;
     n->lent.cpas = as_room(n->cpas, sizeof n->cpas);
     n->lent.cache = as_room(n->cache, sizeof n->cache);
+    n->lent.firsts = as_room(n->firsts, sizeof n->firsts);
     n->lent.waiting = as_room(n->waiting, sizeof n->waiting);
     n->lent.output = as_room(n->output, sizeof n->output);
 }

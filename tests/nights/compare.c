@@ -1,5 +1,5 @@
 /* Random nights, run through the archive (include/gauge.h) and through the model (tests/models/model.c): after each call the number, the counts and
- * every byte of cache, waiting table and output must be the same in both.
+ * every byte of cache, firsts, waiting table and output must be the same in both.
  *
  *   compare [plain] [CALLS [SEED]]     plain: a difference is told in one line, and not made shorter; without numbers, the nights of the gate
  *
@@ -182,6 +182,12 @@ static bool same_keys(const struct call *c)
     return same;
 }
 
+/* Is a slice kept with what a call was lent? The firsts are with the cache, to which they belong, where they are not lent too. */
+static bool is_kept(int i, enum call_kind kind)
+{
+    return is_lent(i == LENT_firsts ? LENT_cache : i, kind);
+}
+
 /* The memory that an accepted call was lent stays as it left it; what was damaged for a refused one is as before, and so is all after a call with
  * other own keys. */
 static void keep(const struct call *c, struct memory *m)
@@ -190,7 +196,7 @@ static void keep(const struct call *c, struct memory *m)
     if (c->kind == LOOK || !same_keys(c))
         return;
     for (int i = 0; i < SLICES; i++)
-        if (!is_lent(i, c->kind))
+        if (!is_kept(i, c->kind))
             slice_in(&left, i)->at = NULL;
     keep_memory(m, &left);
 }

@@ -6,9 +6,9 @@
 
 #define KINDS (LOOK + 1) /* those after it have their nights in tests/nights/readings.c */
 
-/* What of several own records was spoiled for a call, of which nothing else may be wrong: their order, their number so that C is below ten times it,
- * or the CPAs. */
-enum hurt { UNHURT, HURT_ORDER, HURT_NUMBER, HURT_CPAS, HURTS };
+/* What was spoiled for a call, of which nothing else may be wrong: of several own records their order, their number so that C is below ten times it,
+ * or the CPAs; of the firsts one number, two of them so that their sum is right, or their length. */
+enum hurt { UNHURT, HURT_ORDER, HURT_NUMBER, HURT_CPAS, HURT_COUNT, HURT_SUM, HURT_FIRSTS, HURTS };
 
 struct call {
     enum call_kind kind;

@@ -99,6 +99,14 @@ static struct room spoil(const uint8_t *bytes, const struct rows *r)
     return kept(spoiled, len);
 }
 
+/* The counts by first byte of the cache that a call is lent, which then is refused for the cache alone, if at all. */
+static void lend_counts(struct call *c)
+{
+    uint8_t firsts[GAUGE_FIRSTS_LEN];
+    count_firsts(c->lent.cache.at, c->lent.cache.len, firsts);
+    c->lent.firsts = kept(firsts, sizeof firsts);
+}
+
 static size_t wrong_length(size_t right)
 {
     switch (under(5)) {
@@ -229,6 +237,57 @@ static void spoil_cpas(struct call *c)
     c->lent.cpas = kept(b, len);
 }
 
+/* A first byte, mostly one with which a key begins that is held. */
+static size_t some_first(void)
+{
+    size_t h = held();
+    return h > 0 && percent(70) ? now.cache[GAUGE_RECORD_LEN * under(h)] : any();
+}
+
+/* Firsts that are not the cache's: one number more or less by one or by 256, or any; one taken from another, or the two exchanged; a number's bytes
+ * exchanged; none at all; another length. */
+static void spoil_firsts(struct call *c)
+{
+    uint8_t b[2 * GAUGE_FIRSTS_LEN] = {0}, was[GAUGE_FIRSTS_LEN];
+    size_t len = GAUGE_FIRSTS_LEN, at = 2 * some_first(), other = 2 * some_first();
+    memcpy(b, now.firsts, len);
+    memcpy(was, b, len);
+    switch (under(9)) {
+    case 0: b[at]++; break;
+    case 1: b[at]--; break;
+    case 2: b[at + 1] ^= 1; break;
+    case 3: set_byte(b, len); break;
+    case 4: /* where a key that begins so is held, and the other number can be one more */
+        if (b[at] > 0 && b[other] < 255) {
+            b[at]--;
+            b[other]++;
+        }
+        break;
+    case 5:
+        memcpy(b + at, was + other, 2);
+        memcpy(b + other, was + at, 2);
+        break;
+    case 6:
+        b[at] = was[at + 1];
+        b[at + 1] = was[at];
+        break;
+    case 7: memset(b, 0, len); break;
+    default:
+        len = percent(60) ? wrong_length(len) : len - 2 * under(4);
+        c->hurt = len != GAUGE_FIRSTS_LEN ? HURT_FIRSTS : UNHURT;
+        break;
+    }
+    size_t numbers = 0;
+    int sum = 0;
+    for (size_t i = 0; i < GAUGE_FIRSTS_LEN; i += 2) {
+        numbers += memcmp(b + i, was + i, 2) != 0;
+        sum += b[i] + 256 * b[i + 1] - was[i] - 256 * was[i + 1];
+    }
+    if (numbers > 0)
+        c->hurt = sum == 0 ? HURT_SUM : numbers == 1 ? HURT_COUNT : UNHURT;
+    c->lent.firsts = kept(b, len);
+}
+
 /* All that a conversion is lent; to another call one of them, which is then refused if it is what it seems. */
 static void age_call(struct call *c)
 {
@@ -255,8 +314,15 @@ static void damage_call(struct call *c)
     struct rows places = {now.waiting_len, GAUGE_PLACE_LEN, waits(), 8, 40, 40 + GAUGE_RECORD_COUNT};
     memset(b, 0, sizeof b);
     c->sound = false;
+    if (c->kind == RECEIVE && percent(25)) {
+        spoil_firsts(c);
+        return;
+    }
     switch (under(c->kind == CONVERT ? 8 : 12)) {
-    case 0: case 1: case 2: c->lent.cache = spoil(lent_or(c->lent.cache, now.cache), &records); break;
+    case 0: case 1: case 2:
+        c->lent.cache = spoil(lent_or(c->lent.cache, now.cache), &records);
+        lend_counts(c);
+        break;
     case 3: case 4: case 5: c->lent.waiting = spoil(lent_or(c->lent.waiting, now.waiting), &places); break;
     case 6: case 7: spoil_own(c); break;
     case 8: spoil_cpas(c); break;
@@ -360,11 +426,13 @@ static void begin_cache(size_t most)
 {
     bool brim = most >= GREAT && percent(80);
     size_t wanted = brim || percent(50) ? most : under(most + 1);
+    if (brim && all_alike() && percent(60)) /* one more is learned, and the count of its first byte passes 255 */
+        wanted--;
     for (size_t tries = 0; tries < 4 * most && held() < wanted; tries++) {
         uint8_t record[GAUGE_RECORD_LEN];
         some_key(record);
-        if (percent(30) || (brim && tries > most))
-            fill(record, GAUGE_KEY_LEN);
+        if (percent(30) || (brim && (tries > most || all_alike())))
+            fill_key(record);
         some_rest(record);
         uint8_t *row = now.cache, *end = now.cache + now.cache_len;
         while (row < end && row[GAUGE_RECORD_COUNT] != 0 && memcmp(row, record, GAUGE_KEY_LEN) < 0)
@@ -374,6 +442,7 @@ static void begin_cache(size_t most)
         memmove(row + GAUGE_RECORD_LEN, row, GAUGE_RECORD_LEN * held() - (size_t)(row - now.cache));
         memcpy(row, record, GAUGE_RECORD_LEN);
     }
+    count_firsts(now.cache, now.cache_len, now.firsts);
 }
 
 static void begin_waiting(void)
@@ -417,5 +486,5 @@ size_t begin_night(void)
         begin_cache(most);
     if (percent(60))
         begin_waiting();
-    return 20 + under(most >= GREAT ? 60 : NIGHT - 20);
+    return 20 + under(most < GREAT ? NIGHT - 20 : all_alike() ? 160 : 60);
 }

@@ -43,7 +43,8 @@ enum { JOINED, REPLACED, OTHER_DROPPED, SELF_DROPPED, BOTH, ACK_ONLY, INQUIRE_ON
        SOUGHT_HELD, SOUGHT_GAP, SOUGHT_OWN, SOUGHT_EMPTY, SOUGHT_BELOW, SOUGHT_ABOVE, SOUGHT_AT_ONCE, SOUGHT_LAST, SOUGHT_256, SOUGHT_NINE,
        NEAREST_NONE, NEAREST_NINE,
        OWN_TWO, OWN_THREE, OWN_FOUR, LATER_CPA, LATER_N, LATER_FLOODED, LATER_REVOKED, LATER_ENTRY, LATER_SENT, LATER_LIST, LATER_SHOWN,
-       LATER_NEAREST, LIST_SHARED, DROPPED_NEARER, DROPPED_TIE, DROPPED_LEAST, ORDER_REFUSED, NUMBER_REFUSED, CPAS_REFUSED, DONE };
+       LATER_NEAREST, LIST_SHARED, DROPPED_NEARER, DROPPED_TIE, DROPPED_LEAST, ORDER_REFUSED, NUMBER_REFUSED, CPAS_REFUSED, COUNT_REFUSED,
+       SUM_REFUSED, FIRSTS_REFUSED, COUNTED_UP, COUNTED_DOWN, COUNTED_BOTH, COUNTED_SAME, COUNTED_256, COUNTED_255, DONE };
 static const char *const done_names[] = {
     "learned: joined", "learned: replaced", "learned: another dropped", "learned: newcomer dropped", "FLOOD: ACK and INQUIRE", "FLOOD: ACK alone",
     "FLOOD: INQUIRE alone", "FLOOD: nothing sent", "ACK sent with N", "INQUIRE with ID 0", "revoked: key removed", "revoked: inquiry freed",
@@ -62,7 +63,9 @@ static const char *const done_names[] = {
     "two own records", "three own records", "four own records", "INQUIRE: a later CPA", "ACK sent, a later key", "FLOOD: a later own key",
     "revoked: a later own key", "LOOKUP: entry, later own key", "send: a later own record", "list: of a later own key", "LOOKUP: later own record",
     "closest: later own record", "list: a key in two of ours", "learned: farthest is listed", "learned: tie of the farthest",
-    "learned: into ten for each", "own records out of order", "C below ten for each", "CPAs out of form"};
+    "learned: into ten for each", "own records out of order", "C below ten for each", "CPAs out of form", "firsts: one number wrong",
+    "firsts: the sum alone right", "firsts: of another length", "firsts: one up", "firsts: one down", "firsts: one up, another down",
+    "firsts: dropped one alike", "firsts: from 255 to 256", "firsts: from 256 to 255"};
 static unsigned long done[DONE];
 
 static size_t rows_used(const uint8_t *p, size_t len, size_t width, size_t mark)
@@ -341,6 +344,26 @@ static void count_dropped(const struct call *c, const uint8_t *newcomer, const s
     done[DROPPED_LEAST] += before->cache_len == GAUGE_CACHE_LEAST * c->lent.own.len;
 }
 
+static unsigned first_at(const struct memory *m, size_t byte)
+{
+    return m->firsts[2 * byte] + 256u * m->firsts[2 * byte + 1];
+}
+
+/* Which counts by first byte have changed, and how. */
+static void count_counts(const struct memory *before)
+{
+    bool up = false, down = false;
+    for (size_t byte = 0; byte < 256; byte++) {
+        unsigned was = first_at(before, byte), is = first_at(&now, byte);
+        up = up || is > was;
+        down = down || is < was;
+        done[COUNTED_256] += was == 255 && is == 256;
+        done[COUNTED_255] += was == 256 && is == 255;
+    }
+    if (up || down)
+        done[up && down ? COUNTED_BOTH : up ? COUNTED_UP : COUNTED_DOWN]++;
+}
+
 static void count_learned(const struct call *c, const struct memory *before, size_t was)
 {
     const uint8_t *key = c->lent.key.at;
@@ -352,6 +375,7 @@ static void count_learned(const struct call *c, const struct memory *before, siz
     done[FULL_255] += !there && was == most && most == GAUGE_CACHE_MOST - 1;
     done[FULL_256] += !there && was == most && most == GAUGE_CACHE_MOST;
     done[BETWEEN] += !there && held() == was && !same && dropped_between(before, was, key);
+    done[COUNTED_SAME] += !there && held() == was && !same && memcmp(before->firsts, now.firsts, now.firsts_len) == 0;
     if (!there && held() == was)
         count_dropped(c, key, before, was);
 }
@@ -399,6 +423,7 @@ static void count_done(const struct call *c, int message, const uint32_t *answer
         count_sought(c, answer, before, was);
     if (c->kind != RECEIVE)
         return;
+    count_counts(before);
     for (size_t n = 2; n <= GAUGE_OWN_MOST; n++)
         done[OWN_TWO + n - 2] += c->lent.own.len == GAUGE_RECORD_LEN * n;
     done[N_SET] += (message == ENTRY || message == REVOKE) && answer[1] == 26;
@@ -423,7 +448,7 @@ static void count_done(const struct call *c, int message, const uint32_t *answer
     }
 }
 
-/* What was refused for several own records: a later one's key, or what was spoiled of them. */
+/* What was refused for several own records: a later one's key, or what was spoiled of them or of the firsts. */
 static void count_refused(const struct call *c, int message, uint32_t number)
 {
     done[LATER_FLOODED] += number == GAUGE_OWN_KEY && message == ENTRY && is_later(c, c->lent.datagram.at + model_look(&c->lent).entry.at);

@@ -80,6 +80,44 @@ bool is_own(const uint8_t *key)
     return ours;
 }
 
+/* First bytes that keys of this night begin with, so many of them; none of their own where there are none. */
+static uint8_t begin_with[3];
+static size_t beginnings;
+
+bool all_alike(void)
+{
+    return beginnings == 1;
+}
+
+void fill_key(uint8_t *key)
+{
+    fill(key, GAUGE_KEY_LEN);
+    if (beginnings > 0)
+        key[0] = begin_with[under(beginnings)];
+}
+
+static bool is_largest(void)
+{
+    return now.cache_len == GAUGE_CACHE_LEN(GAUGE_CACHE_MOST);
+}
+
+/* One alone more often where the cache is of the largest, so that 256 keys may begin alike; mostly that of our own. */
+static void some_beginnings(void)
+{
+    beginnings = is_largest() && percent(70) ? 1 : percent(25) ? 1 + under(3) : 0;
+    fill(begin_with, sizeof begin_with);
+    if (percent(80))
+        begin_with[0] = own[0];
+}
+
+void count_firsts(const uint8_t *cache, size_t cache_len, uint8_t *firsts)
+{
+    memset(firsts, 0, GAUGE_FIRSTS_LEN);
+    for (size_t i = 0; i + GAUGE_RECORD_LEN <= cache_len; i += GAUGE_RECORD_LEN)
+        if (cache[i + GAUGE_RECORD_COUNT] != 0 && ++firsts[2 * cache[i]] == 0)
+            firsts[2 * cache[i] + 1]++;
+}
+
 static size_t own_cpa; /* how long one mostly is in this night */
 
 size_t some_cpas(uint8_t *cpas)
@@ -202,18 +240,33 @@ static void opposite_key(uint8_t *key)
     shift(key, little());
 }
 
+/* As far from our first key as another, on its other side: of two such keys that may be dropped one is the lower. */
+static void other_side(const uint8_t *key, uint8_t *other)
+{
+    int sum = 0;
+    for (int i = 31; i >= 0; i--) {
+        sum += 2 * own[i] - key[i];
+        other[i] = (uint8_t)(sum & 0xFF);
+        sum = (sum - other[i]) / 256;
+    }
+}
+
 void some_key(uint8_t *key)
 {
     size_t h = held(), w = waits();
     memcpy(key, some_own(), GAUGE_KEY_LEN);
-    switch (under(13)) {
+    switch (under(14)) {
     case 0: break;
     case 1: shift(key, little()); break;
     case 12: opposite_key(key); break;
+    case 13:
+        if (h > 0)
+            other_side(now.cache + GAUGE_RECORD_LEN * under(h), key);
+        break;
     case 2: edge_key(key); break;
     case 3: set_byte(key, GAUGE_KEY_LEN); break;
     case 4: flip_bit(key, GAUGE_KEY_LEN); break;
-    case 5: fill(key, GAUGE_KEY_LEN); break;
+    case 5: fill_key(key); break;
     case 6: case 7:
         if (h > 0)
             memcpy(key, now.cache + GAUGE_RECORD_LEN * under(h), GAUGE_KEY_LEN);
@@ -339,17 +392,6 @@ static uint32_t waiting_id(unsigned kind, unsigned often)
     return some_id();
 }
 
-/* As far from our first key as another, on its other side: of two such keys that may be dropped one is the lower. */
-static void other_side(const uint8_t *key, uint8_t *other)
-{
-    int sum = 0;
-    for (int i = 31; i >= 0; i--) {
-        sum += 2 * own[i] - key[i];
-        other[i] = (uint8_t)(sum & 0xFF);
-        sum = (sum - other[i]) / 256;
-    }
-}
-
 /* One own key more, in its place among those there are: near to one of them, on a side of an end, just opposite of one, or anywhere. */
 static void add_own(void)
 {
@@ -386,18 +428,21 @@ void begin_gauge(size_t ponds)
     some_rest(own);
     while (own_len < GAUGE_RECORD_LEN * ponds)
         add_own();
+    some_beginnings();
     for (size_t i = 0; i < 32; i++) {
         memcpy(pool[i], some_own(), GAUGE_KEY_LEN);
         if (percent(60))
             shift(pool[i], (int)under(41) - 20);
         else if (percent(40))
-            fill(pool[i], GAUGE_KEY_LEN);
+            fill_key(pool[i]);
         else if (percent(50))
             opposite_key(pool[i]);
         else
             edge_key(pool[i]);
         if (i % 2 == 1 && percent(40))
             other_side(pool[i - 1], pool[i]);
+        if (all_alike() && is_largest() && percent(80))
+            pool[i][0] = begin_with[0];
     }
     own_major = percent(70) ? 6 : any();
     own_minor = percent(70) ? 101 : any();
@@ -998,7 +1043,7 @@ void draft_news(uint8_t *key)
     if (percent(25))
         memcpy(record, pool[under(32)], GAUGE_KEY_LEN);
     else
-        fill(record, GAUGE_KEY_LEN);
+        fill_key(record);
     some_rest(record);
     more_addresses(record);
     memcpy(key, record, GAUGE_KEY_LEN);

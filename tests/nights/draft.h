@@ -15,6 +15,7 @@ uint32_t under(size_t n);  /* 0 to n - 1 */
 bool percent(unsigned n); /* true n times of 100 */
 uint8_t any(void);
 void fill(uint8_t *p, size_t n);
+void fill_key(uint8_t *key); /* any key; in some nights with one of few first bytes, so that many of them begin alike */
 void set_byte(uint8_t *p, size_t n); /* one of n bytes, to any */
 void flip_bit(uint8_t *p, size_t n); /* one bit of n bytes */
 
@@ -34,6 +35,10 @@ extern unsigned ticks, answers; /* how often in this night, of 100 */
 
 void begin_gauge(size_t ponds);    /* all but `now`, anew, with so many own records */
 void begin_memory(size_t records); /* `now`, all zero, with a cache of so many records */
+bool all_alike(void);              /* do the keys of this night that are drawn anywhere begin with one byte? */
+
+/* The counts of a cache, in form or not, by first byte, into GAUGE_FIRSTS_LEN bytes. */
+void count_firsts(const uint8_t *cache, size_t cache_len, uint8_t *firsts);
 
 const uint8_t *some_own(void);        /* one of the own records */
 bool is_own(const uint8_t *key);

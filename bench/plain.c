@@ -1,7 +1,7 @@
 /* The eight calls in plain C, written for speed: what the archive is measured against. It makes every test of document 01, with document 02's ring,
- * path, one address, count of keys compared and several own records, and gives the same numbers and bytes; nothing is written before the last refusal
- * is decided. Numbers are loaded whole and swapped, keys compared by words up to the first that differ, runs of bytes moved by the C library. For
- * x86-64: words are read least significant byte first.
+ * path, one address, count of keys compared, several own records and counts by first byte, and gives the same numbers and bytes; nothing is written
+ * before the last refusal is decided. Numbers are loaded whole and swapped, keys compared by words up to the first that differ, runs of bytes moved by
+ * the C library. For x86-64: words are read least significant byte first.
  *
  *   PLAIN    begins the names of the calls
  *   HALVE    keys are searched by halving. Without it one record is looked at after the other up to the key's place, but in the two calls that tell
@@ -219,6 +219,15 @@ static inline size_t cache_rows(struct own own, const uint8_t *cache, size_t len
 static size_t cache_form(struct own own, const uint8_t *cache, size_t len)
 {
     return cache_rows(own, cache, len, false);
+}
+
+/* Are the firsts those of so many records? Numbers of 16 bits, as they are loaded. */
+static bool firsts_formed(const uint8_t *cache, size_t held, const uint8_t *firsts, size_t len)
+{
+    uint16_t counts[256] = {0};
+    for (const uint8_t *r = cache, *end = cache + 100 * held; r < end; r += 100)
+        counts[*r]++;
+    return len == sizeof counts && memcmp(firsts, counts, sizeof counts) == 0;
 }
 
 /* So many CPAs, each behind its length, and nothing more. */
@@ -832,14 +841,25 @@ static void take_out(uint8_t *rows, size_t width, size_t used, size_t at)
     memset(rows + width * (used - 1), 0, width);
 }
 
-static void remove_key(uint8_t *cache, size_t held, const uint8_t *key)
+/* The count of the keys that begin as this one. */
+static inline void count(uint8_t *firsts, const uint8_t *key, int more)
 {
-    size_t at;
-    if (find(cache, held, key, &at))
-        take_out(cache, 100, held, at);
+    uint16_t n;
+    memcpy(&n, firsts + 2 * key[0], 2);
+    n = (uint16_t)(n + more);
+    memcpy(firsts + 2 * key[0], &n, 2);
 }
 
-static void learn(struct own own, uint8_t *cache, size_t len, size_t held, const uint8_t *record)
+static void remove_key(uint8_t *cache, size_t held, uint8_t *firsts, const uint8_t *key)
+{
+    size_t at;
+    if (!find(cache, held, key, &at))
+        return;
+    take_out(cache, 100, held, at);
+    count(firsts, key, -1);
+}
+
+static void learn(struct own own, uint8_t *cache, size_t len, size_t held, uint8_t *firsts, const uint8_t *record)
 {
     size_t at;
     uint8_t *to;
@@ -851,12 +871,15 @@ static void learn(struct own own, uint8_t *cache, size_t len, size_t held, const
     if (100 * held < len) {
         memmove(to + 100, to, 100 * (held - at));
         memcpy(to, record, 100);
+        count(firsts, record, 1);
         return;
     }
     struct more m = {cache, record, at, held + 1};
     size_t gone = dropped(own, &m);
     if (gone == at)
         return;
+    count(firsts, record, 1);
+    count(firsts, one_of(&m, gone), -1);
     if (gone < at) {
         memmove(cache + 100 * gone, cache + 100 * gone + 100, 100 * (at - gone - 1));
         memcpy(to - 100, record, 100);
@@ -963,7 +986,7 @@ static inline struct gauge_answer answer(uint32_t number, size_t first, size_t s
 struct receive {
     struct own own;
     const uint8_t *cpas, *nonce, *key, *d;
-    uint8_t *cache, *waiting, *output;
+    uint8_t *cache, *firsts, *waiting, *output;
     size_t cache_len, room, held, used;
     struct header h;
     uint32_t verdict;
@@ -1041,7 +1064,7 @@ static struct gauge_answer take_revocation(const struct receive *r, const struct
     size_t first = ack_room(r, m, &n), at = find_inquiry(r->waiting, r->used, r->key);
     if (first > r->room)
         return answer(15, 0, 0);
-    remove_key(r->cache, r->held, r->key);
+    remove_key(r->cache, r->held, r->firsts, r->key);
     if (at < r->used)
         take_out(r->waiting, 140, r->used, at);
     if (first != 0)
@@ -1058,7 +1081,7 @@ static struct gauge_answer take_authority(const struct receive *r, const struct 
         return answer(9, 0, 0);
     if (!same_key(r->waiting + 140 * at + 8, r->key))
         return answer(10, 0, 0);
-    learn(r->own, r->cache, r->cache_len, r->held, r->waiting + 140 * at + 40);
+    learn(r->own, r->cache, r->cache_len, r->held, r->firsts, r->waiting + 140 * at + 40);
     take_out(r->waiting, 140, r->used, at);
     return answer(0, 0, 0);
 }
@@ -1069,7 +1092,7 @@ static struct gauge_answer take_ack(const struct receive *r, const struct messag
     if (!find_id(r->waiting, r->used, m->seen.acked, &at) || r->waiting[140 * at + 4] != 1)
         return answer(8, 0, 0);
     if (m->n)
-        remove_key(r->cache, r->held, r->waiting + 140 * at + 8);
+        remove_key(r->cache, r->held, r->firsts, r->waiting + 140 * at + 8);
     take_out(r->waiting, 140, r->used, at);
     return answer(0, 0, 0);
 }
@@ -1112,22 +1135,22 @@ static struct gauge_answer answer_lookup(const struct receive *r, const struct m
 }
 
 struct gauge_answer CALL(receive)(const uint8_t *own, size_t own_len, const uint8_t *cpas, size_t cpas_len, uint8_t *cache, size_t cache_len,
-                                  uint8_t *waiting, size_t waiting_len, uint8_t major, uint8_t minor, uint32_t id, const uint8_t *nonce_bytes,
-                                  size_t nonce_len, uint32_t verdict, const uint8_t *key, size_t key_len, const uint8_t *datagram,
-                                  size_t datagram_len, uint8_t *output, size_t output_len)
+                                  uint8_t *firsts, size_t firsts_len, uint8_t *waiting, size_t waiting_len, uint8_t major, uint8_t minor,
+                                  uint32_t id, const uint8_t *nonce_bytes, size_t nonce_len, uint32_t verdict, const uint8_t *key, size_t key_len,
+                                  const uint8_t *datagram, size_t datagram_len, uint8_t *output, size_t output_len)
 {
     struct own ours = {own, own + own_len};
     if (!own_formed(ours) || !cpas_formed(ours, cpas, cpas_len) || nonce_len != 16 || key_len != 32)
         return answer(1, 0, 0);
     size_t held = cache_form(ours, cache, cache_len), used = waiting_form(ours, waiting, waiting_len);
-    if (held == NOT_IN_FORM || used == NOT_IN_FORM)
+    if (held == NOT_IN_FORM || used == NOT_IN_FORM || !firsts_formed(cache, held, firsts, firsts_len))
         return answer(1, 0, 0);
     struct message m;
     uint32_t number = read_message(major, datagram, datagram_len, &m);
     if (number != 0)
         return answer(number, 0, 0);
     struct header h = {major, minor, id};
-    struct receive r = {ours, cpas, nonce_bytes, key, datagram, cache, waiting, output, cache_len, output_len, held, used, h, verdict};
+    struct receive r = {ours, cpas, nonce_bytes, key, datagram, cache, firsts, waiting, output, cache_len, output_len, held, used, h, verdict};
     switch (m.seen.kind) {
     case GAUGE_FLOOD: return m.seen.entry_at != 0 ? take_entry(&r, &m) : take_revocation(&r, &m);
     case GAUGE_INQUIRE: return answer_inquire(&r, &m);

@@ -484,6 +484,14 @@ static const struct kind kinds[] = {
     {"refused 15: no room for INQUIRE", RECEIVE, false, no_room, {GAUGE_ROOM, 0, 0}},
 };
 
+static void count_firsts(struct scene *s)
+{
+    for (size_t i = 0; i < s->held; i++) {
+        uint8_t *count = s->firsts + 2 * s->cache[GAUGE_RECORD_LEN * i];
+        count[1] = (uint8_t)(count[1] + (++count[0] == 0));
+    }
+}
+
 /* What is lent, when all of it is laid out. */
 static void lend(struct scene *s)
 {
@@ -494,6 +502,8 @@ static void lend(struct scene *s)
     l->own = as_room(s->own, s->own_len);
     l->cpas = as_room(s->cpas, s->cpas_len);
     l->cache = as_room(s->cache, s->cache_len);
+    count_firsts(s);
+    l->firsts = as_room(s->firsts, sizeof s->firsts);
     l->waiting = as_room(s->waiting, sizeof s->waiting);
     l->nonce = as_room(s->nonce, sizeof s->nonce);
     l->neighbour = as_room(s->neighbour, sizeof s->neighbour);

@@ -18,7 +18,7 @@ struct scene {
     struct lent lent; /* what it is made with: the bytes below, and all zero what is not among them */
     uint8_t own[SCENE_OWN * GAUGE_RECORD_LEN], cpas[SCENE_OWN * GAUGE_CPAS_LEN(SCENE_CPA)];
     uint8_t nonce[GAUGE_NONCE_LEN], key[GAUGE_KEY_LEN], neighbour[GAUGE_KEY_LEN];
-    uint8_t cache[GAUGE_CACHE_LEN(GAUGE_CACHE_MOST)], waiting[GAUGE_WAITING_LEN], datagram[GAUGE_DATAGRAM_MOST];
+    uint8_t cache[GAUGE_CACHE_LEN(GAUGE_CACHE_MOST)], firsts[GAUGE_FIRSTS_LEN], waiting[GAUGE_WAITING_LEN], datagram[GAUGE_DATAGRAM_MOST];
     uint8_t path[SCENE_POINTS * GAUGE_ENDPOINT_LEN], target[GAUGE_KEY_LEN];
     size_t own_len, cpas_len, cache_len, held, datagram_len, room;
     uint32_t id;

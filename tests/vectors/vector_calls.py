@@ -1,9 +1,10 @@
 #!/usr/bin/env python3
 """Vectors for the calls. They act on what the calls before them left, so the lines are read in their order.
 
-    gauge OWN C CPAS MAJOR MINOR                     a gauge with an empty cache of C records and an empty waiting table; OWN is its own records, CPAS
-                                                     their CPAs as they are lent, each behind its length
-    set-cache BYTES, set-waiting BYTES               other bytes for one of them; these three answer ok
+    gauge OWN C CPAS MAJOR MINOR                     a gauge with an empty cache of C records, its firsts, and an empty waiting table; OWN is its own
+                                                     records, CPAS their CPAs as they are lent, each behind its length
+    set-cache BYTES, set-firsts BYTES, set-waiting BYTES
+                                                     other bytes for one of them, and only for it; these four answer ok
     receive ID NONCE VERDICT KEY DATAGRAM ROOM
     send ID NEIGHBOUR KEY ROOM
     tick ROOM
@@ -12,6 +13,7 @@
     find KEY                                         gauge_search
     convert                                          gauge_convert; the own record may be of the time before request 13 too
     held                                             the keys held
+    firsts                                           how many keys begin with each byte, as byte:number, those left out that are 0
     waits                                            the places used, as ID:kind:tries:key
     look MAJOR DATAGRAM                              the twelve numbers of gauge_look (D23)
 
@@ -19,8 +21,9 @@
 
 ROOM is the length of the output, two bytes; it is filled with EE before each call. A call's answer is number, first and second; the bytes that
 it has put at the start of the output (first + second, for a tick 4 x first, for a list 32 x (first + second), for a nearest, a find and a convert,
-which are lent no output, none), - for none; `same` or `changed` for the cache, then for the waiting table; `clean` where all of the output behind
-those bytes is still EE, else `dirty`. IDs are decimal, keys in hexadecimal without leading zeros.
+which are lent no output, none), - for none; `same` or `changed` for the cache, then for the firsts, then for the waiting table, whether a call is
+lent it or not; `clean` where all of the output behind those bytes is still EE, else `dirty`. IDs and numbers are decimal, keys and bytes in
+hexadecimal without leading zeros.
 
 A `want` is what the documents give: the number, or number, first and second, or the whole list; it is compared with the model's answer.
 `sends` are the datagrams, laid out by hand.
@@ -44,6 +47,7 @@ Where to find what (each is a function below, and a heading of crates/vectors/st
     a LOOKUP's path, and its route entry inquired about       paths, asked (and vector_memory, on_the_path, outwards)
     how many keys a search compares                           searching (and vector_memory, comparing)
     several own records, their CPAs and lists; the drop       several, lent_cpas (and vector_memory, ponds)
+    how many keys begin with each byte                        counting, lent_firsts
     two to four addresses: the first kept; the conversion     addresses, converting (and vector_memory, cache_forms, waiting_forms)
     id + 1 is a waiting flood's ID; ID 4294967295 with D      identities
     a flood with the own key in the waiting table             memory, "in form"
@@ -77,6 +81,15 @@ ORDER = (1, 2, 3, 4, 5, 6, 7, 8, 9, 10, 11, 12, 13, 14, 15)
 def given(applies):
     assert applies <= set(ORDER), applies
     return next((n for n in ORDER if n in applies), 0)
+
+
+def counts(*firsts):
+    """How often each byte stands among these, as the firsts have it (docs/MEMORY.md): 256 numbers of two bytes, the least significant first."""
+    s = bytearray(512)
+    for first in firsts:
+        s[2 * first] = (s[2 * first] + 1) % 256
+        s[2 * first + 1] += s[2 * first] == 0
+    return bytes(s)
 
 
 # Which numbers of document 01's table apply, each judged by itself as far as what is lent can be read. The first in order must be the one given.
@@ -116,6 +129,8 @@ def receive_applies(g, lent, room):
     numbers, kind, m = datagram_applies(d, g.major)
     records, places, own_records = model.State(g).records, model.State(g).places, model.own_records(g.own)
     if own_records is None or records is None or places is None or len(lent.nonce) != 16 or len(lent.key) != 32:
+        return numbers | {1}, kind
+    if g.firsts != counts(*(r[0] for r in records)):
         return numbers | {1}, kind
     cpas = model.cpas_of(g.cpas, len(own_records))
     if cpas is None:
@@ -180,8 +195,13 @@ class Gauge:
         return ("gauge", own, c, cpas, major, minor), "ok"
 
     def set_cache(self, s):
+        """With the firsts that belong to it: of all its rows that are not zero, in form or not, so that a cache is refused for itself alone."""
         self.now.cache = s
-        return ("set-cache", s), "ok"
+        return [(("set-cache", s), "ok"), self.set_firsts(counts(*(r[0] for r in model.rows_in(s))))]
+
+    def set_firsts(self, s):
+        self.now.firsts = s
+        return ("set-firsts", s), "ok"
 
     def set_waiting(self, s):
         self.now.waiting = s
@@ -244,7 +264,7 @@ class Gauge:
         g = self.now
         records, places = model.held(g.own, g.cache, model.old_record_form), model.waits(g.own, g.waiting, model.old_record_form)
         bad = model.own_records(g.own, model.old_record_form) is None or records is None or places is None
-        now = g.memory() if bad else [cut(g.cache, 100, 0, 34), cut(g.waiting, 140, 40, 74)]
+        now = g.memory() if bad else [cut(g.cache, 100, 0, 34), g.firsts, cut(g.waiting, 140, 40, 74)]
         line = self.answer(g.convert, ("convert",), ("convert",), {1} if bad else set(), 0, lambda a, b: 0, want)
         assert g.memory() == now
         return line
@@ -264,6 +284,12 @@ class Gauge:
         keys = [model.key_of(r) for r in model.State(self.now).records]
         assert keys == list(want), (keys, want)
         return ("held",), ",".join("%x" % k for k in keys) or "-"
+
+    def firsts(self, want):
+        """`want` has the number of each byte with which a key begins."""
+        numbers = [int.from_bytes(self.now.firsts[at:at + 2], "little") for at in range(0, 512, 2)]
+        assert {byte: n for byte, n in enumerate(numbers) if n} == want, (numbers, want)
+        return ("firsts",), ",".join("%x:%d" % (byte, n) for byte, n in sorted(want.items())) or "-"
 
     def waits(self, want):
         """`want` has (ID, kind, tries, key) for each place."""
@@ -1524,6 +1550,124 @@ def lent_cpas(g):
     yield g.receive(inquire(100), 1)
 
 
+# 02, request 12: "A count kept by first byte." A key that begins with a byte.
+def begins(first, n=0):
+    return first * 2 ** 248 + n
+
+
+def learns(g, n, want=(0, 0, 0)):
+    """An inquiry for the key, and its AUTHORITY."""
+    yield g.set_waiting(table([inquiry(8, n)]))
+    yield g.receive(authority(8), want, verdict=1, named=key(n))
+
+
+def counting(g):
+    yield "# firsts: all zero belong to the empty cache, and our own key is not counted; a key that begins with 05 joins: bytes 10 and 11 are 01 00"
+    yield g.start(ours(begins(5, 7), begins(5, 9)), 20, lent_as(b"a", b"b"))
+    yield g.firsts({})
+    yield from learns(g, begins(5))
+    yield g.firsts({5: 1})
+    yield g.set_firsts(bytes(10) + b"\1\0" + bytes(500))
+    yield g.receive(lookup(7), 0)
+    yield "# others join, the first byte and the last; a record that is replaced counts no more than before; what is sent and asked counts nothing"
+    for n, want in ((begins(0), {0: 1, 5: 1}), (begins(255), {0: 1, 5: 1, 255: 1}), (TOP, {0: 1, 5: 1, 255: 2}),
+                    (begins(5, 1), {0: 1, 5: 2, 255: 2})):
+        yield from learns(g, n)
+        yield g.firsts(want)
+    yield g.set_waiting(table([put(inquiry(8, TOP), 72, b"\7\7")]))
+    yield g.receive(authority(8), (0, 0, 0), verdict=1, named=key(TOP))
+    yield g.receive(flood(record(begins(7))), (0, 26, 76))
+    yield g.receive(inquire(begins(5, 7)), 0)
+    yield g.receive(lookup(begins(9), route=entry(record(begins(9)))), (0, 96, 76), 20)
+    yield g.send(key(TOP), key(begins(5, 7)), 0, 30)
+    yield g.tick(0)
+    yield g.firsts({0: 1, 5: 2, 255: 2})
+    yield "# a revocation takes one, and of a key that is not held none; refused for room it takes none"
+    yield g.receive(revocation(), 15, verdict=1, named=key(begins(5)), room=25)
+    yield g.firsts({0: 1, 5: 2, 255: 2})
+    yield g.receive(revocation(), (0, 26, 0), verdict=1, named=key(begins(5)))
+    yield g.firsts({0: 1, 5: 1, 255: 2})
+    yield g.receive(revocation(), (0, 26, 0), verdict=1, named=key(begins(5)))
+    yield g.receive(revocation(), (0, 26, 0), verdict=1, named=key(begins(6)))
+    yield g.receive(revocation(), 9, verdict=0, named=key(begins(5, 1)))
+    yield g.firsts({0: 1, 5: 1, 255: 2})
+    yield "# so does an ACK with N set, and one with N clear none"
+    for identity, n, want in ((40, None, {0: 1, 5: 1, 255: 2}), (41, True, {0: 1, 5: 1, 255: 1}), (42, True, {0: 1, 5: 1, 255: 1})):
+        yield g.set_waiting(table([flood_place(identity, TOP)]))
+        yield g.receive(ack(identity, n), (0, 0, 0))
+        yield g.firsts(want)
+    for n in (begins(0), begins(5, 1), begins(255)):
+        yield g.receive(revocation(), (0, 26, 0), verdict=1, named=key(n))
+    yield g.firsts({})
+    yield from full_counts(g)
+
+
+def full_counts(g):
+    yield "# a full cache. Case 3, all begin with 00: 101 joins and 90 goes, and 10 stay. One that begins with 05 is the only one above: 90 goes too"
+    for new, want in ((101, {0: 10}), (begins(5), {0: 9, 5: 1}), (89, {0: 10})):
+        yield g.start()
+        yield g.set_cache(cache(range(90, 100)))
+        yield g.firsts({0: 10})
+        yield from learns(g, new)
+        yield g.firsts(want)
+    yield "# what goes begins with FF, and what joins with 00; then a newcomer that begins with FF goes at once"
+    yield g.start()
+    yield g.set_cache(cache([*range(90, 99), begins(255)]))
+    yield g.firsts({0: 9, 255: 1})
+    yield from learns(g, 99)
+    yield g.firsts({0: 10})
+    yield from learns(g, begins(255))
+    yield g.firsts({0: 10})
+    yield "# 256 keys of one first byte: the number's second byte; what joins then, and what goes, count one each"
+    for first in (0, 255):
+        many = [begins(first, n) for n in range(1000, 1255)]
+        yield g.start(c=256)
+        yield g.set_cache(cache(many, 256))
+        yield g.firsts({first: 255})
+        yield from learns(g, begins(first, 999))
+        yield g.firsts({first: 256})
+        yield g.set_firsts(bytes(2 * first) + b"\0\1" + bytes(510 - 2 * first))
+        yield from learns(g, begins(first, 2000))
+        yield g.firsts({first: 256})
+        yield from learns(g, 99)
+        yield g.firsts({0: 256} if first == 0 else {0: 1, 255: 255})
+        yield g.receive(revocation(), 0, verdict=1, named=key(99))
+        yield g.firsts({first: 255})
+
+
+def lent_firsts(g):
+    yield "# 1: firsts that are not those of the cache, each number one more, one less, or 256 more; the sum alone right; of other lengths"
+    held, good = [begins(0, 1), begins(0, 2), begins(5), begins(255)], counts(0, 0, 5, 255)
+    yield g.start()
+    yield g.set_cache(cache(held))
+    for bad in (counts(0, 5, 255), counts(0, 0, 0, 5, 255), counts(0, 0, 255), counts(0, 0, 5, 5, 255), counts(0, 0, 5), counts(0, 0, 5, 255, 255),
+                counts(0, 0, 1, 5, 255), counts(0, 0, 5, 254, 255), counts(0, 5, 5, 255), counts(0, 0, 5, 5), counts(0, 5, 255, 255),
+                counts(0, 0, 4, 255), bytes(512), put(good, 1, b"\1"), put(good, 11, b"\1"), put(good, 511, b"\1"), put(good, 13, b"\1"),
+                put(good, 0, b"\0\2"), put(good, 510, b"\0\1"), b"\xFF" * 512, b"", good[:511], good[:510], good[:2], good + b"\0",
+                good + bytes(2), good + good):
+        yield g.set_firsts(bad)
+        for datagram in (lookup(7), flood(record(60))[:11], b""):
+            yield g.receive(datagram, 1)
+    yield "# no other call is lent them, and they stay as they are"
+    yield g.set_firsts(counts(0))
+    yield g.send(key(begins(5)), key(100), 0)
+    yield g.tick(0)
+    yield g.list((0, 3, 1))
+    yield g.nearest(b"", key(7), (0, 5, 2))
+    yield g.find(key(begins(5)), (0, 3, 1))
+    yield g.convert(0)
+    yield g.firsts({0: 1})
+    yield "# in form again"
+    yield g.set_firsts(good)
+    yield g.receive(lookup(7), 0)
+    yield "# a conversion keeps the keys, and so the firsts belong to the cache it leaves"
+    yield g.set_cache(cache([record(begins(0, 1), 4), record(begins(5), 2)]))
+    yield g.receive(lookup(7), 1)
+    yield g.convert(0)
+    yield g.firsts({0: 1, 5: 1})
+    yield g.receive(lookup(7), 0)
+
+
 def memory(g):
     good = flood(record(60))
 
@@ -1874,15 +2018,16 @@ def looking(g):
 
 
 SCENES = (story, floods, identities, revocations, authorities, across, acked, answered, paths, searching, asked, addresses, converting, room,
-          sending, ticking, listing, case14, several, several_learn, several_forms, lent_cpas, memory, limits, malformed, refusals, pairs, bytewise,
-          looking)
+          sending, ticking, listing, case14, several, several_learn, several_forms, lent_cpas, counting, lent_firsts, memory, limits, malformed,
+          refusals, pairs, bytewise, looking)
 
 
 def vectors(g=None):
     """Headings as strings, vectors as (operands, answer)."""
     g = g or Gauge()
     for scene in SCENES:
-        yield from scene(g)
+        for v in scene(g):
+            yield from v if isinstance(v, list) else [v]
 
 
 def check():
@@ -1906,7 +2051,7 @@ def check():
     # With a refusal nothing is told and nothing has changed.
     for operands, answer in lines:
         if operands[0] in ("receive", "send", "tick", "list", "nearest", "find", "convert") and not answer.startswith("0 "):
-            assert answer.split()[1:] == ["0", "0", "-", "same", "same", "clean"], (operands, answer)
+            assert answer.split()[1:] == ["0", "0", "-", "same", "same", "same", "clean"], (operands, answer)
     # What a call writes is read as a message, and written again it is the same.
     for operands, answer in lines:
         if operands[0] in ("receive", "send") and answer.startswith("0 "):
@@ -1919,7 +2064,8 @@ def check():
 
 if __name__ == "__main__":
     lines = check()
-    names = ("gauge", "set-cache", "set-waiting", "receive", "send", "tick", "list", "nearest", "find", "convert", "held", "waits", "look")
+    names = ("gauge", "set-cache", "set-firsts", "set-waiting", "receive", "send", "tick", "list", "nearest", "find", "convert", "held", "firsts",
+             "waits", "look")
     print("vector_calls: %d vectors, %s" % (len(lines), ", ".join("%d %s" % (sum(v[0][0] == name for v in lines), name) for name in names)))
     numbers = [int(answer.split()[0]) for operands, answer in lines if operands[0] == "receive"]
     print("answers of receive: " + ", ".join("%d %d times" % (n, numbers.count(n)) for n in (0, *ORDER)))

@@ -1,0 +1,2 @@
+-- The laws of specs/, for those above.
+pub mod LentLaws

@@ -1,1 +1,3 @@
 pub mod Listed
+pub mod Statements
+pub mod Cases

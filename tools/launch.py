@@ -1,4 +1,5 @@
-"""Runs a program of the house as a keeper does: bin/replay, bin/shown, bin/ponds, bin/convert, bin/why, bin/nights and bin/asked all come here.
+"""Runs a program of the house as a keeper does: bin/replay, bin/shown, bin/ponds, bin/convert, bin/why, bin/nights, bin/asked and bin/changes all
+come here.
 
     launch NAME [WORDS..]
 
@@ -6,10 +7,10 @@ The program is proved and built first where what it is made of has changed (tool
 launcher, which so sees what can't be read or written, and gives a status, as a program itself has none:
 
     0  a whole night, whose answers are those of that night where they are known; readings that were all taken; memory that was converted; a record
-       that is named; nights that were joined
+       that is named; nights that were joined; caches that were compared
     1  a night that is damaged, cut short, or refused from its first call on, or with an answer that is another than that night's, or whose second file
        does not fit; a reading that was refused; memory that is not in the old form; a refusal where a record was to be named; nights that are not whole,
-       or not of one gauge
+       or not of one gauge; caches that are not in form, or of unequal length
     2  a file that can't be read, an output that can't be written, a wrong use
 
 It goes by the lines that the program writes (WATCHERS) and by what comes on descriptor 2. Names are made ready here (tools/names.py). A conversion of
@@ -128,8 +129,20 @@ NIGHT   %s
 
 %s
 """ % (NIGHT, STATUS % ("where all were joined", "for a night that is damaged, cut short or another gauge's")),
+    "changes": """bin/changes OWN BEFORE AFTER [NAMES]
+
+Tells what changed from one saved cache of a gauge to another: each key gone, new, or held with another port or address, in key order; then the sums.
+
+OWN      the own records, 100 bytes each
+BEFORE   the first cache, 100 bytes for each place
+AFTER    the second, of the same length
+%s
+
+%s
+""" % (NAMES, STATUS % ("where the two were compared", "for memory that is not in form, or caches of unequal length")),
 }
-MOST_WORDS = {"replay": 1, "shown": 3, "ponds": 2, "convert": 3, "why": 1}
+MOST_WORDS = {"replay": 1, "shown": 3, "ponds": 2, "convert": 3, "why": 1, "changes": 4}
+PROGRAMS = {"changes": "overnight"}  # what is run under another name
 
 
 class Fault(Exception):
@@ -223,7 +236,20 @@ class Why:
         return int(self.word is not None), self.word
 
 
-WATCHERS = {"replay": Replay, "shown": Shown, "told": Told, "ponds": Ponds, "why": Why}
+class Changes:
+    """One line says so where the caches are refused."""
+
+    def __init__(self):
+        self.refused = False
+
+    def line(self, text):
+        self.refused = self.refused or text.startswith("refused: ")
+
+    def verdict(self):
+        return int(self.refused), None
+
+
+WATCHERS = {"replay": Replay, "shown": Shown, "told": Told, "ponds": Ponds, "why": Why, "overnight": Changes}
 
 
 # --- The program -------------------------------------------------------------------------------------------------------------
@@ -268,7 +294,7 @@ def opened(path, what):
 
 def ready_names(path, name):
     try:
-        return names.ready(opened(path, "names"), path, name, keyed=name in ("shown", "asked"))
+        return names.ready(opened(path, "names"), path, name, keyed=name != "ponds")
     except OSError as error:
         raise Fault("%s can't be read: %s" % (path, error.strerror))
 
@@ -319,6 +345,15 @@ def input_of(name, words, readable):
     return 0
 
 
+def held(data):
+    """A descriptor from which these bytes are read."""
+    made = os.memfd_create("input")
+    with os.fdopen(os.dup(made), "wb") as file:
+        file.write(data)
+    os.lseek(made, 0, os.SEEK_SET)
+    return made
+
+
 class Run:
     """The program, with what goes in and what comes out."""
 
@@ -327,10 +362,7 @@ class Run:
         self.unread = self.complained = None
         keep = [descriptor for descriptor, content in ((3, text), (4, hours)) if content is not None]
         for descriptor, content in ((3, text), (4, hours)):
-            with os.fdopen(os.memfd_create("beside"), "w+b") as held:
-                held.write(content or b"")
-                held.seek(0)
-                os.dup2(held.fileno(), descriptor)
+            os.dup2(held(content or b""), descriptor)
         self.child = subprocess.Popen(["tools/run", "target/bin/" + name], stdin=subprocess.PIPE, stdout=subprocess.PIPE, stderr=subprocess.PIPE,
                                       pass_fds=keep)
 
@@ -396,6 +428,17 @@ class Run:
 def put(piece):
     while piece:
         piece = piece[os.write(1, piece):]
+
+
+def compared(words):
+    """The own records and two caches, as the program reads them: a length of two bytes in front of the first two."""
+    if len(words) < 3:
+        raise Fault("give the files of the own records and of the two caches\n%s" % HELP["changes"].split("\n")[0])
+    try:
+        own, before, after = (conversion.read(path, None, what) for path, what in zip(words, ("own records", "a cache", "a cache")))
+    except conversion.Wrong as wrong:
+        raise Fault(wrong)
+    return held(len(own).to_bytes(2, "little") + own + len(before).to_bytes(2, "little") + before + after)
 
 
 def converted(words):
@@ -479,7 +522,7 @@ def main(name, words):
         return joined(words)
     if name == "asked":
         return asked_of(words)
-    program = name
+    program = PROGRAMS.get(name, name)
     if name == "shown" and words[:1] == ["--plain"]:  # its words are TRACE and HOURS: no names are told
         program, words = "told", words[1:2] + (["-"] + words[2:] if len(words) > 2 else [])
     if words[:1] == ["--"]:
@@ -490,10 +533,10 @@ def main(name, words):
         raise Fault("too many words\n%s" % HELP[name].split("\n")[0])
     if name == "convert":
         return converted(words)
-    source = input_of(name, words, readable)
-    text = hours = None
-    if len(words) > 1 and (words[1] != "-" or name != "shown"):
-        text = ready_names(words[1], name)
+    source = compared(words) if name == "changes" else input_of(name, words, readable)
+    text, hours, place = None, None, 3 if name == "changes" else 1
+    if len(words) > place and (words[place] != "-" or name != "shown"):
+        text = ready_names(words[place], name)
     if name == "shown":
         hours = hours_of(words)
     os.chdir(ROOT)

@@ -1,4 +1,4 @@
-"""Names of ponds made ready for the programs `shown` and `ponds` (tools/launch): what a keeper's file has, as the plain text that they read.
+"""Names of ponds made ready for the programs `shown`, `ponds` and `changes` (tools/launch): what a keeper's file has, as the plain text that they read.
 
 A line of the file is a key of 64 hexadecimal digits, a space, a tab or a comma (or several), and the name. A byte order mark in front, and line ends of
 another system, are taken. An empty line and one that begins with # are passed over. Told on descriptor 2, with the line's number: a line that is no

@@ -1,4 +1,4 @@
-// What standard input holds.
+// What standard input holds: bytes with their length in front, two bytes, least significant first, and what is behind them.
 
 pub(crate) fn wide(n: u32) -> usize {
     n as usize
@@ -8,15 +8,19 @@ fn length(n: u16) -> usize {
     n as usize
 }
 
-// Reads a length of two bytes, and as many bytes to the start of a room, no more than it has. Answers how many came.
-pub(crate) fn read_sized(room: &mut [u8]) -> usize {
-    let mut told = [0u8; 2];
-    if io::read_full(0, &mut told) < 2 {
+// Where the bytes with a length in front end.
+fn end(s: &[u8]) -> usize {
+    if s.len() < 2 {
         return 0;
     }
-    let len = length(octet::read_u16_le(&told, 0));
-    if room.len() < len {
-        return io::read_full(0, room);
-    }
-    io::read_full(0, &mut room[0..len])
+    2 + length(octet::read_u16_le(s, 0)) % 65536
+}
+
+// They themselves; none where they are cut short.
+pub(crate) fn first(s: &[u8]) -> &[u8] {
+    text::part(s, 2, end(s))
+}
+
+pub(crate) fn behind(s: &[u8]) -> &[u8] {
+    text::part(s, end(s), s.len())
 }

@@ -14,10 +14,8 @@ const LINE: usize = 512;
 
 const NAMES: usize = 65536;
 
-// Own records and a cache have so many bytes at most; one more that came is seen by its length.
-const OWN: usize = 401;
-
-const CACHE: usize = 25601;
+// Two lengths, four own records and two full caches; one byte more that came is seen by the second cache's length.
+const INPUT: usize = 51605;
 
 // The longest list: each key of a full cache gone, and as many new.
 const LIST: usize = 51712;
@@ -33,27 +31,38 @@ fn say_entries(line: &mut [u8], names: &[u8], before: &[u8], list: &[u8]) {
     }
 }
 
-fn main() {
-    let mut line = [0u8; LINE];
-    let mut own = [0u8; OWN];
-    let mut before = [0u8; CACHE];
-    let mut after = [0u8; CACHE];
-    let mut list = [0u8; LIST];
-    let mut names = [0u8; NAMES];
-    let own_len = input::read_sized(&mut own);
-    let before_len = input::read_sized(&mut before);
-    let after_len = io::read_full(0, &mut after);
-    let named = io::read_full(3, &mut names);
-    let told = text::part(&names, 0, named);
-    let first = text::part(&before, 0, before_len);
-    let second = text::part(&after, 0, after_len);
-    let answer = changes::gauge_changes(text::part(&own, 0, own_len), first, second, &mut list);
+// What changed, and the sums.
+fn say_changes(line: &mut [u8], names: &[u8], before: &[u8], after: &[u8], list: &[u8]) {
+    say_entries(line, names, before, list);
+    sums::say_sums(line, before, after, list);
+}
+
+// The two caches of an input compared, with room for the longest list.
+fn compare(line: &mut [u8], names: &[u8], input: &[u8], room: &mut [u8]) {
+    let caches = input::behind(input);
+    let before = input::first(caches);
+    let after = input::behind(caches);
+    let answer = changes::gauge_changes(input::first(input), before, after, room);
     if answer.number != 0 {
         return text::tell(
             b"refused: 1 the own records or a cache are not in form, or the caches differ in length\n",
         );
     }
-    let entries = text::part(&list, 0, input::wide(answer.second));
-    say_entries(&mut line, told, first, entries);
-    sums::say_sums(&mut line, first, second, entries);
+    let list = text::part(room, 0, input::wide(answer.second));
+    say_changes(line, names, before, after, list)
+}
+
+fn main() {
+    let mut line = [0u8; LINE];
+    let mut input = [0u8; INPUT];
+    let mut list = [0u8; LIST];
+    let mut names = [0u8; NAMES];
+    let came = io::read_full(0, &mut input);
+    let named = io::read_full(3, &mut names);
+    compare(
+        &mut line,
+        text::part(&names, 0, named),
+        text::part(&input, 0, came),
+        &mut list,
+    );
 }

@@ -1,4 +1,4 @@
-// What the program `shown` has words for: messages, answers, keys. Used by it alone.
+// What the program `shown` has words for: messages, answers, keys. Of these `overnight` uses the names.
 pub mod message;
 pub mod names;
 pub mod words;

@@ -1,7 +1,7 @@
 /* The gauge, as a radio program in C calls it. Link libgauge.a (`make lib`), for x86-64.
  *
  * The gauge has no memory, no socket and no clock of its own. The radio program lends it memory and numbers, and
- * sends what it writes. Its eight calls:
+ * sends what it writes. Its nine calls:
  *
  *   gauge_receive      a datagram has come: what is to be sent, and what changes in the memory
  *   gauge_send         a FLOOD of a record is to go to a neighbour
@@ -10,6 +10,7 @@
  *   gauge_closest      the record closest to a target, past those that a LOOKUP has been at already
  *   gauge_search       whether a key is held, where, and how many keys are compared to find that
  *   gauge_convert      memory of a version before 1.3 is to be used: each record in it keeps its first address
+ *   gauge_changes      what changed between two saved caches: each key gone, new, or held with another record
  *   gauge_look         what a datagram is, and where in it the CPA and the nonce stand; nothing is done
  *
  * Above the gauge stand three for a pond's reading, a depth or a fault with litres in and out, which an AUTHORITY may
@@ -97,8 +98,8 @@ extern "C" {
 
 /* The version of this header and of the archive, as gauge.pc has it; and as a number that rises. CHANGELOG.md tells
  * what changed. */
-#define GAUGE_VERSION "1.7"
-#define GAUGE_VERSION_NUMBER 107
+#define GAUGE_VERSION "1.8"
+#define GAUGE_VERSION_NUMBER 108
 
 /* The versions in the header of a message: those of the message that document 003 prints. Document 000 leaves them to
  * whoever builds on it. Every call that has a major and a minor takes any others too; all gauges that are to hear each
@@ -126,10 +127,13 @@ extern "C" {
 #define GAUGE_FIRSTS_LEN 512      /* the firsts: how many keys held begin with each byte, 256 numbers of 2 bytes */
 #define GAUGE_DATAGRAM_LEAST 12
 #define GAUGE_DATAGRAM_MOST 1232
-#define GAUGE_OUTPUT_LEN 2464     /* an output that is enough for each of the calls */
+#define GAUGE_OUTPUT_LEN 2464     /* an output that is enough for each of the calls but gauge_changes */
 #define GAUGE_SEND_LEN 116        /* what gauge_send writes, always */
 #define GAUGE_TICK_LEN 64         /* what gauge_tick asks for, always */
 #define GAUGE_LIST_LEN 320        /* what gauge_neighbours asks for, always */
+#define GAUGE_CHANGE_LEN 101      /* an entry of gauge_changes: its kind, and a record */
+/* What is always enough for gauge_changes with caches of C records: all keys of one gone, all of the other new. */
+#define GAUGE_CHANGES_LEN(c) (2 * GAUGE_TO(size_t, GAUGE_CHANGE_LEN) * GAUGE_TO(size_t, c))
 #define GAUGE_CARRY_LEN 20        /* what a reading adds to an AUTHORITY that has no payload, whatever its kind */
 #define GAUGE_STACK_MOST 2048     /* no call takes more stack than this */
 
@@ -157,8 +161,9 @@ extern "C" {
 enum gauge_number {
     GAUGE_OK = 0,          /* accepted */
     GAUGE_MEMORY = 1,      /* what you have lent is not in form: own records, CPAs, cache, firsts, waiting table, or a
-                              nonce, key or target of another length, or a path of endpoints that are not whole. Yours:
-                              mend it (gauge_host.h tells which; records of a version before 1.3 need gauge_convert). */
+                              nonce, key or target of another length, or a path of endpoints that are not whole, or two
+                              caches of unequal length. Yours: mend it (gauge_host.h tells which; records of a version
+                              before 1.3 need gauge_convert). */
     GAUGE_LENGTH = 2,      /* datagram shorter than 12 or longer than 1,232 bytes. The sender's, as up to 7: drop the
                               datagram. */
     GAUGE_HEADER = 3,      /* its first five bytes are not 00 10 00 0C 51 */
@@ -181,7 +186,7 @@ enum gauge_number {
     GAUGE_FULL = 14,       /* a place must be opened, and all 16 are used. Try later: answers and ticks free them. A
                               FLOOD or LOOKUP that comes with a route entry to inquire about is then not answered. */
     GAUGE_ROOM = 15        /* the output has too little room. Call again with more: GAUGE_OUTPUT_LEN is always
-                              enough. */
+                              enough, GAUGE_CHANGES_LEN for gauge_changes. */
 };
 
 /* The types of messages, as gauge_look tells them. */
@@ -194,6 +199,13 @@ enum gauge_kind {
     GAUGE_AUTHORITY = 8,
     GAUGE_ACK = 9,
     GAUGE_LOOKUP = 11
+};
+
+/* The kinds of a change between two caches. */
+enum gauge_change {
+    GAUGE_CHANGE_GONE = 1, /* held in the first, and not in the second */
+    GAUGE_CHANGE_NEW = 2,  /* held in the second, and not in the first */
+    GAUGE_CHANGE_OTHER = 3 /* held in both, with another port or address in the second */
 };
 
 /* The kinds of a reading. */
@@ -220,9 +232,9 @@ enum gauge_reading_number {
 /* gauge_closest, gauge_search: the most keys that are compared, as 256, the most that are held, has 9 binary digits. */
 #define GAUGE_COMPARED_MOST 9
 
-/* What the first seven calls answer. `first` and `second`: lengths of datagrams (receive, send), how many IDs (tick),
- * how many keys below and above (neighbours), which record and how many keys were compared (closest, search); 0 where a
- * call has nothing to tell. */
+/* What the first eight calls answer. `first` and `second`: lengths of datagrams (receive, send), how many IDs (tick),
+ * how many keys below and above (neighbours), which record and how many keys were compared (closest, search), how many
+ * entries and how many bytes (changes); 0 where a call has nothing to tell. */
 struct gauge_answer {
     uint32_t number, first, second;
 };
@@ -440,6 +452,25 @@ struct gauge_answer gauge_search(const uint8_t *own, size_t own_len, const uint8
  * `second` are 0. */
 struct gauge_answer gauge_convert(const uint8_t *own, size_t own_len, uint8_t *cache, size_t cache_len,
                                   uint8_t *waiting, size_t waiting_len);
+
+/* What changed overnight: two caches of the same own keys and of the same C are compared, each saved at some time or
+ * just as it is. Each key that is held in one and not in the other, or with another record, is listed once, in the
+ * plain order of keys; and no other. Whoever takes the keys gone out of the first cache, puts the new ones in and
+ * replaces the others has the second.
+ *
+ *   own     our own records, as above: one to four, and one set for both caches. No call can see whose a cache was.
+ *   before  the first cache, for reading, in the form of today: convert one of a version before 1.3.
+ *   after   the second one, for reading, of the same length. Both may be the same memory: then nothing has changed.
+ *   output  for writing: on GAUGE_OK the first `second` bytes are `first` entries, one behind the other, each of
+ *           GAUGE_CHANGE_LEN bytes: its kind, one of enum gauge_change, and a record of 100 bytes. Of a key that is
+ *           new, or held with another record, it is the record of the second cache; of one gone it is the key and 68
+ *           zero bytes, which is no record in form. No other byte of it has changed. So much room as there are entries
+ *           is asked for, GAUGE_CHANGES_LEN(C) at most.
+ *
+ * Gives GAUGE_OK; GAUGE_MEMORY where own records or either cache are not in form, or the caches of unequal length; or
+ * GAUGE_ROOM. */
+struct gauge_answer gauge_changes(const uint8_t *own, size_t own_len, const uint8_t *before, size_t before_len,
+                                  const uint8_t *after, size_t after_len, uint8_t *output, size_t output_len);
 
 /* What a datagram is. Nothing is done, and nothing is lent but the datagram, for reading.
  *

@@ -150,6 +150,19 @@
  *         return whole;
  *     }
  *
+ * What changed overnight: the cache as it is, held against one that was saved before. bin/changes says the same of two
+ * saved files in words.
+ *
+ *     void overnight(const struct gauge_lent *l, const uint8_t *saved)
+ *     {
+ *         static uint8_t list[GAUGE_CHANGES_LEN(64)];
+ *         size_t n = l->cache_len;
+ *         struct gauge_answer a = gauge_lent_changes(l, saved, n, l->cache, n, list, sizeof list);
+ *         for (uint32_t i = 0; a.number == GAUGE_OK && i < a.first; i++)
+ *             printf("%02x..: %s\n", gauge_change_record(list, i)[GAUGE_RECORD_KEY],
+ *                    gauge_change_text(gauge_change_kind(list, i)));
+ *     }
+ *
  * An own record that was kept as 100 bytes by a version before 1.3 is cut to its first address by gauge_record_cut.
  * Take all gauges of a valley to 1.3 at once (gauge_convert). */
 #ifndef GAUGE_HOST_H
@@ -319,6 +332,14 @@ static inline struct gauge_answer gauge_lent_convert(struct gauge_lent *l)
     return gauge_convert(l->own, l->own_len, l->cache, l->cache_len, l->waiting, sizeof l->waiting);
 }
 
+/* Two caches of the same own records, of which one may be the struct's; an output of yours. */
+static inline struct gauge_answer gauge_lent_changes(const struct gauge_lent *l, const uint8_t *before,
+                                                     size_t before_len, const uint8_t *after, size_t after_len,
+                                                     uint8_t *output, size_t output_len)
+{
+    return gauge_changes(l->own, l->own_len, before, before_len, after, after_len, output, output_len);
+}
+
 static inline struct gauge_look_answer gauge_lent_look(const struct gauge_lent *l, const uint8_t *datagram,
                                                        size_t datagram_len)
 {
@@ -358,6 +379,18 @@ static inline int gauge_tick_lists(const uint8_t *output, uint32_t first, uint32
         if (gauge_tick_id(output, i) == id)
             return 1;
     return 0;
+}
+
+/* Behind gauge_changes: the kind of the i-th entry that it listed, i below `first`; and its record, of which the key
+ * alone is told where it is gone. */
+static inline uint32_t gauge_change_kind(const uint8_t *output, size_t i)
+{
+    return output[GAUGE_CHANGE_LEN * i];
+}
+
+static inline const uint8_t *gauge_change_record(const uint8_t *output, size_t i)
+{
+    return output + GAUGE_CHANGE_LEN * i + 1;
 }
 
 /* The records held: the i-th (100 bytes, in the order of keys), how many, and which one a key has, which is as many as
@@ -442,6 +475,16 @@ static inline const char *gauge_kind_text(uint32_t kind)
     case GAUGE_ACK: return "ACK";
     case GAUGE_LOOKUP: return "LOOKUP";
     default: return "no message";
+    }
+}
+
+static inline const char *gauge_change_text(uint32_t kind)
+{
+    switch (kind) {
+    case GAUGE_CHANGE_GONE: return "gone";
+    case GAUGE_CHANGE_NEW: return "new";
+    case GAUGE_CHANGE_OTHER: return "another port or address";
+    default: return "no change";
     }
 }
 

@@ -1,8 +1,8 @@
 /* How the calls cross to C: sizes and places in the answers, and the constants; each argument in its place; slices of length 0; every type of message
  * looked at. What is wanted is worked out by hand from the layout of the messages (documents 000 and 01) and from include/gauge.h.
  *
- * `arguments`, `counted`, `searched`, `readings` and the looks write the calls out, as a radio program does: that each argument stands where the header
- * has it is what they test, and through tests/c/calling.h an exchange of two would be one in their own hands. The rest calls through it. */
+ * `arguments`, `counted`, `searched`, `changed`, `readings` and the looks write the calls out, as a radio program does: that each argument stands where
+ * the header has it is what they test, and through tests/c/calling.h an exchange of two would be one in their own hands. The rest calls through it. */
 #define _DEFAULT_SOURCE
 #include "calling.h"
 #include <stdio.h>
@@ -68,6 +68,8 @@ static void constants(void)
     CHECK(GAUGE_CACHE_LEAST == 10 && GAUGE_CACHE_MOST == 256 && GAUGE_CACHE_LEN(256) == 25600 && GAUGE_FIRSTS_LEN == 256 * 2);
     CHECK(GAUGE_PLACES == 16 && GAUGE_PLACE_LEN == 140 && GAUGE_WAITING_LEN == 16 * 140);
     CHECK(GAUGE_OUTPUT_LEN == 2 * 1232 && GAUGE_SEND_LEN == 100 + 16 && GAUGE_TICK_LEN == 16 * 4 && GAUGE_LIST_LEN == 10 * 32);
+    CHECK(GAUGE_CHANGE_LEN == 1 + 100 && GAUGE_CHANGES_LEN(10) == 2 * 10 * 101 && GAUGE_CHANGES_LEN(256) == 51712);
+    CHECK(GAUGE_CHANGE_GONE == 1 && GAUGE_CHANGE_NEW == 2 && GAUGE_CHANGE_OTHER == 3);
     CHECK(GAUGE_SOLICIT == 1 && GAUGE_ADVERTISE == 2 && GAUGE_REQUEST == 3 && GAUGE_FLOOD == 4);
     CHECK(GAUGE_INQUIRE == 7 && GAUGE_AUTHORITY == 8 && GAUGE_ACK == 9 && GAUGE_LOOKUP == 11);
     CHECK(GAUGE_OK == 0 && GAUGE_MEMORY == 1 && GAUGE_LENGTH == 2 && GAUGE_HEADER == 3 && GAUGE_MAJOR == 4 && GAUGE_TYPE == 5 && GAUGE_FIELD == 6);
@@ -291,6 +293,35 @@ static void searched(void)
     CHECK(answer_is(gauge_search(ours, sizeof ours, held, sizeof held, wanted, sizeof wanted - 1), GAUGE_MEMORY, 0));
 }
 
+/* Document 02, request 10: keys 1 2 3 against 2 3 4, 3 with another port. Own before the first cache before the second. */
+static void changed(void)
+{
+    static uint8_t first[GAUGE_CACHE_LEN(10)], second[GAUGE_CACHE_LEN(11)], list[304];
+    const size_t len = sizeof first;
+    uint8_t ours[GAUGE_RECORD_LEN] = {0};
+    bytes(KEY("03") "1388 01", ours);
+    for (uint8_t i = 0; i < 3; i++) {
+        bytes(KEY("00") "1388 01", first + GAUGE_CACHE_LEN(i));
+        bytes(KEY("00") "1388 01", second + GAUGE_CACHE_LEN(i));
+        first[GAUGE_CACHE_LEN(i) + GAUGE_KEY_LEN - 1] = (uint8_t)(1 + i);
+        second[GAUGE_CACHE_LEN(i) + GAUGE_KEY_LEN - 1] = (uint8_t)(2 + i);
+    }
+    second[GAUGE_CACHE_LEN(1) + GAUGE_RECORD_PORT] = 0x14;
+    memset(list, 0xEE, sizeof list);
+    CHECK(answer_is(gauge_changes(own, sizeof own, first, len, second, len, list, 302), GAUGE_ROOM, 0) && list[0] == 0xEE);
+    CHECK(answer_is(gauge_changes(ours, sizeof ours, first, len, second, len, list, 303), GAUGE_MEMORY, 0));
+    CHECK(answer_is(gauge_changes(own, sizeof own, first, len, second, sizeof second, list, 303), GAUGE_MEMORY, 0));
+    CHECK(answer_is(gauge_changes(own, sizeof own, first, len - 100, second, len - 100, list, 303), GAUGE_MEMORY, 0) && list[0] == 0xEE);
+    CHECK(found_is(gauge_changes(own, sizeof own, first, len, second, len, list, 303), 3, 303) && list[303] == 0xEE);
+    CHECK(list[0] == GAUGE_CHANGE_GONE && list[32] == 1 && list[33] == 0 && list[35] == 0 && memcmp(list + 1, first, GAUGE_KEY_LEN) == 0);
+    CHECK(list[101] == GAUGE_CHANGE_OTHER && memcmp(list + 102, second + 100, 100) == 0);
+    CHECK(list[202] == GAUGE_CHANGE_NEW && memcmp(list + 203, second + 200, 100) == 0);
+    CHECK(found_is(gauge_changes(own, sizeof own, second, len, first, len, list, 303), 3, 303));
+    CHECK(list[0] == GAUGE_CHANGE_NEW && list[101] == GAUGE_CHANGE_OTHER && list[102 + 32] == 0x13 && list[202] == GAUGE_CHANGE_GONE);
+    memset(list, 0xEE, sizeof list);
+    CHECK(found_is(gauge_changes(own, sizeof own, first, len, first, len, list, 0), 0, 0) && list[0] == 0xEE); /* the same memory */
+}
+
 /* Memory of the time when a record had up to four addresses. Own before cache before waiting table: each has its own length. */
 static void converted(void)
 {
@@ -422,7 +453,8 @@ static struct gauge_answer call(enum call_kind kind, const struct lent *l)
     case NEIGHBOURS: return call_neighbours(gauge_neighbours, l);
     case CLOSEST: return call_closest(gauge_closest, l);
     case SEARCH: return call_search(gauge_search, l);
-    default: return call_convert(gauge_convert, l);
+    case CONVERT: return call_convert(gauge_convert, l);
+    default: return call_changes(gauge_changes, l);
     }
 }
 
@@ -440,9 +472,9 @@ static void zero_lengths(uint8_t *nothing)
     memcpy(waiting_was, waiting, sizeof waiting);
     memset(output, 0xEE, sizeof output);
     datagram_len = bytes(INQUIRE(KEY("12"), "00000001"), datagram);
-    for (int c = RECEIVE; c <= CONVERT; c++)
+    for (int c = RECEIVE; c <= CHANGES; c++)
         for (int empty = 0; empty < SLICES; empty++) {
-            if (!is_lent(empty, (enum call_kind)c) || empty == LENT_path)
+            if (!is_lent(empty, (enum call_kind)c) || empty == LENT_path || (c == CHANGES && empty == LENT_output)) /* which may be empty */
                 continue;
             struct lent l = lend_all();
             *slice_in(&l, empty) = as_room(nothing, 0);
@@ -455,7 +487,10 @@ static void zero_lengths(uint8_t *nothing)
     struct lent none = lend_all(); /* a path may be empty: key 11 is the closest to 0 */
     none.path = as_room(nothing, 0);
     CHECK(found_is(call(CLOSEST, &none), GAUGE_CLOSEST_HELD, 1));
-    for (int c = RECEIVE; c <= CONVERT; c++) { /* and all is accepted where none is empty */
+    none = lend_all(); /* nothing has changed, and nothing is written */
+    none.output = as_room(nothing, 0);
+    CHECK(answer_is(call(CHANGES, &none), GAUGE_OK, 0));
+    for (int c = RECEIVE; c <= CHANGES; c++) { /* and all is accepted where none is empty */
         struct lent l = lend_all();
         CHECK(call((enum call_kind)c, &l).number == GAUGE_OK);
     }
@@ -472,6 +507,7 @@ int main(void)
     arguments();
     counted();
     searched();
+    changed();
     converted();
     lookups();
     zero_lengths(nothing);

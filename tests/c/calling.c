@@ -40,6 +40,11 @@ struct gauge_answer call_convert(convert_call *by, const struct lent *l)
     return by(TAKEN(own), TAKEN(cache), TAKEN(waiting));
 }
 
+struct gauge_answer call_changes(changes_call *by, const struct lent *l)
+{
+    return by(TAKEN(own), TAKEN(before), TAKEN(after), TAKEN(output));
+}
+
 struct gauge_look_answer call_look(look_call *by, const struct lent *l)
 {
     return by(l->major, TAKEN(datagram));

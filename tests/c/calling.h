@@ -14,6 +14,7 @@ typedef __typeof__(gauge_neighbours) neighbours_call;
 typedef __typeof__(gauge_closest) closest_call;
 typedef __typeof__(gauge_search) search_call;
 typedef __typeof__(gauge_convert) convert_call;
+typedef __typeof__(gauge_changes) changes_call;
 typedef __typeof__(gauge_look) look_call;
 typedef __typeof__(gauge_carry) carry_call;
 typedef __typeof__(gauge_carried) carried_call;
@@ -26,6 +27,7 @@ struct gauge_answer call_neighbours(neighbours_call *by, const struct lent *l);
 struct gauge_answer call_closest(closest_call *by, const struct lent *l);
 struct gauge_answer call_search(search_call *by, const struct lent *l);
 struct gauge_answer call_convert(convert_call *by, const struct lent *l);
+struct gauge_answer call_changes(changes_call *by, const struct lent *l);
 struct gauge_look_answer call_look(look_call *by, const struct lent *l);
 struct gauge_carry_answer call_carry(carry_call *by, const struct lent *l); /* the AUTHORITY is the datagram */
 struct gauge_reading call_carried(carried_call *by, const struct lent *l);

@@ -316,6 +316,39 @@ static void ponds(void)
     CHECK(l->own_len == GAUGE_RECORD_LEN && gauge_lent_not_in_form(l) == GAUGE_PART_CACHE);
 }
 
+/* What changed between a saved cache and the present one, as the plain call tells it; each entry by the header. */
+static void changed(void)
+{
+    static uint8_t saved[GAUGE_CACHE_LEN(HELD)], list[GAUGE_CHANGES_LEN(HELD)], plain_list[GAUGE_CHANGES_LEN(HELD)];
+    struct gauge *g = &gauges[1];
+    uint8_t key[GAUGE_KEY_LEN] = {0}, address[GAUGE_ADDRESS_LEN] = {0xFE, 0x80};
+    begin(1);
+    for (uint8_t i = 0; i < 3; i++) {
+        key[0] = (uint8_t)(10 + i);
+        gauge_record_put(saved + GAUGE_CACHE_LEN(i), key, 5000, address, 1);
+        key[0]++;
+        gauge_record_put(g->cache + GAUGE_CACHE_LEN(i), key, (uint16_t)(5000 + i % 2), address, 1);
+    }
+    struct lent l = plain(g, g->cpa, 0);
+    l.before = as_room(saved, sizeof saved);
+    l.after = as_room(g->cache, sizeof g->cache);
+    l.output = as_room(plain_list, sizeof plain_list);
+    struct gauge_answer b = call_changes(gauge_changes, &l);
+    struct gauge_answer a = gauge_lent_changes(&g->lent, saved, sizeof saved, g->cache, sizeof g->cache, list, sizeof list);
+    CHECK(a.number == GAUGE_OK && a.first == 3 && a.second == 3 * GAUGE_CHANGE_LEN);
+    CHECK(b.number == a.number && b.first == a.first && b.second == a.second && memcmp(list, plain_list, sizeof list) == 0);
+    const uint32_t kinds[] = {GAUGE_CHANGE_GONE, GAUGE_CHANGE_OTHER, GAUGE_CHANGE_NEW};
+    const uint8_t keys[] = {10, 12, 13};
+    for (size_t i = 0; i < 3; i++) {
+        CHECK(gauge_change_kind(list, i) == kinds[i] && gauge_change_record(list, i)[GAUGE_RECORD_KEY] == keys[i]);
+        CHECK(i == 0 || memcmp(gauge_change_record(list, i), g->cache + GAUGE_CACHE_LEN(i), GAUGE_RECORD_LEN) == 0);
+    }
+    CHECK(strcmp(gauge_change_text(1), "gone") == 0 && strcmp(gauge_change_text(2), "new") == 0);
+    CHECK(strcmp(gauge_change_text(3), gauge_change_text(2)) != 0 && strcmp(gauge_change_text(0), gauge_change_text(4)) == 0);
+    CHECK(gauge_lent_changes(&g->lent, saved, sizeof saved, g->cache, sizeof g->cache, list, 302).number == GAUGE_ROOM);
+    CHECK(gauge_lent_changes(&g->lent, saved, sizeof saved - 100, g->cache, sizeof g->cache, list, sizeof list).number == GAUGE_MEMORY);
+}
+
 /* Memory of a version before 1.3: the own record is cut by the header, the rest by the call. An own record has the first of the addresses given. */
 static void converted(void)
 {
@@ -363,7 +396,7 @@ static void texts(void)
     CHECK(strcmp(gauge_kind_text(5), gauge_kind_text(0)) == 0 && strcmp(gauge_kind_text(GAUGE_ACK), gauge_kind_text(0)) != 0);
     CHECK(strcmp(gauge_reading_text(3), gauge_reading_text(4)) != 0 && strcmp(gauge_reading_text(1), gauge_reading_text(2)) != 0);
     CHECK(strcmp(gauge_part_text(GAUGE_PART_CACHE), "the cache") == 0 && strcmp(gauge_part_text(GAUGE_PART_WAITING), "the waiting table") == 0);
-    CHECK(strcmp(GAUGE_VERSION, "1.7") == 0 && GAUGE_VERSION_NUMBER == 107);
+    CHECK(strcmp(GAUGE_VERSION, "1.8") == 0 && GAUGE_VERSION_NUMBER == 108);
 }
 
 static void hex(const uint8_t *bytes, size_t len)
@@ -436,6 +469,7 @@ int main(void)
     find_each_other();
     parts();
     counted();
+    changed();
     several_cpas();
     ponds();
     converted();

@@ -8,9 +8,9 @@
 #define PAINTED 16384
 #define PAINT 0x5C
 
-enum { RECEIVE, SEND, TICK, NEIGHBOURS, CLOSEST, SEARCH, CONVERT, LOOK, CARRY, CARRIED, BALANCE, CALLS };
+enum { RECEIVE, SEND, TICK, NEIGHBOURS, CLOSEST, SEARCH, CONVERT, CHANGES, LOOK, CARRY, CARRIED, BALANCE, CALLS };
 static const char *const names[CALLS] = {"receive", "send", "tick", "neighbours", "closest", "search",
-                                         "convert", "look", "carry", "carried", "balance"};
+                                         "convert", "changes", "look", "carry", "carried", "balance"};
 static size_t most[CALLS];
 
 __attribute__((destructor)) static void tell(void)
@@ -65,6 +65,10 @@ PAINTED_CALL(SEARCH, struct gauge_answer, gauge_search,
 PAINTED_CALL(CONVERT, struct gauge_answer, gauge_convert,
              (const uint8_t *own, size_t own_len, uint8_t *cache, size_t cache_len, uint8_t *waiting, size_t waiting_len),
              (own, own_len, cache, cache_len, waiting, waiting_len))
+PAINTED_CALL(CHANGES, struct gauge_answer, gauge_changes,
+             (const uint8_t *own, size_t own_len, const uint8_t *before, size_t before_len, const uint8_t *after, size_t after_len, uint8_t *output,
+              size_t output_len),
+             (own, own_len, before, before_len, after, after_len, output, output_len))
 PAINTED_CALL(LOOK, struct gauge_look_answer, gauge_look, (uint8_t major, const uint8_t *datagram, size_t datagram_len), (major, datagram, datagram_len))
 PAINTED_CALL(CARRY, struct gauge_carry_answer, gauge_carry,
              (uint8_t major, const uint8_t *authority, size_t authority_len, uint32_t kind, uint32_t measure, uint32_t litres_in, uint32_t litres_out,

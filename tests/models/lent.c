@@ -2,7 +2,7 @@
 #include "lent.h"
 
 const char *const call_names[CALLS] = {"receive", "send", "tick", "neighbours", "closest", "search",
-                                        "convert", "look", "carry", "carried", "balance"};
+                                        "convert", "changes", "look", "carry", "carried", "balance"};
 
 #define LENT_ROW(name, use, usual, calls) {#name, offsetof(struct lent, name), use, usual, calls},
 const struct slice slices[SLICES] = {LENT_SLICES(LENT_ROW)};

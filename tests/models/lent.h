@@ -7,7 +7,7 @@
 #include <stddef.h>
 #include <stdint.h>
 
-enum call_kind { RECEIVE, SEND, TICK, NEIGHBOURS, CLOSEST, SEARCH, CONVERT, LOOK, CARRY, CARRIED, BALANCE, CALLS };
+enum call_kind { RECEIVE, SEND, TICK, NEIGHBOURS, CLOSEST, SEARCH, CONVERT, CHANGES, LOOK, CARRY, CARRIED, BALANCE, CALLS };
 extern const char *const call_names[CALLS];
 
 /* A number that a call gives is below this. Document 01 has 0 to 15, document 02 16 and 17 for a trace and 18 to 25 for its later requests. */
@@ -24,7 +24,7 @@ enum use { TO_READ, TO_KEEP, TO_FILL };
     slice(firsts, TO_KEEP, 512, IN(RECEIVE)) \
     slice(waiting, TO_KEEP, 2240, IN(RECEIVE) | IN(SEND) | IN(TICK) | IN(CONVERT))
 #define LENT_SLICES(slice) \
-    slice(own, TO_READ, 100, IN(RECEIVE) | IN(SEND) | IN(TICK) | IN(NEIGHBOURS) | IN(CLOSEST) | IN(SEARCH) | IN(CONVERT)) \
+    slice(own, TO_READ, 100, IN(RECEIVE) | IN(SEND) | IN(TICK) | IN(NEIGHBOURS) | IN(CLOSEST) | IN(SEARCH) | IN(CONVERT) | IN(CHANGES)) \
     slice(cpas, TO_READ, 3, IN(RECEIVE)) \
     LENT_MEMORIES(slice) \
     slice(nonce, TO_READ, 16, IN(RECEIVE)) \
@@ -32,8 +32,10 @@ enum use { TO_READ, TO_KEEP, TO_FILL };
     slice(key, TO_READ, 32, IN(RECEIVE) | IN(SEND) | IN(NEIGHBOURS) | IN(SEARCH)) \
     slice(path, TO_READ, 0, IN(CLOSEST)) \
     slice(target, TO_READ, 32, IN(CLOSEST)) \
+    slice(before, TO_READ, 1000, IN(CHANGES)) \
+    slice(after, TO_READ, 1000, IN(CHANGES)) \
     slice(datagram, TO_READ, 0, IN(RECEIVE) | IN(LOOK) | IN(CARRY) | IN(CARRIED)) \
-    slice(output, TO_FILL, 2464, IN(RECEIVE) | IN(SEND) | IN(TICK) | IN(NEIGHBOURS) | IN(CARRY))
+    slice(output, TO_FILL, 2464, IN(RECEIVE) | IN(SEND) | IN(TICK) | IN(NEIGHBOURS) | IN(CHANGES) | IN(CARRY))
 
 /* Lent for reading; lent for writing too. In the struct all are of the second kind, so that a test can lay them out and go over them. */
 struct bytes {

@@ -4,6 +4,7 @@
 #include "model.h"
 #include "model_names.h"
 #include "model_read.h"
+#include <stdlib.h>
 #include <string.h>
 
 /* Numbers and keys. A key's order as a number is the order of its bytes. */
@@ -1120,5 +1121,76 @@ struct model_answer model_convert(const struct lent *l)
     for (size_t i = 0; i < WAITING_LEN; i += PLACE_LEN)
         if (l->waiting.at[i + 4] == 2)
             convert_record(l->waiting.at + i + 40);
+    return a;
+}
+
+/* Document 02, Wish 10: "each key gone, new, or held with another record". All keys of both caches are put into one list and sorted, and each is
+ * looked for in either cache. */
+
+static int by_key(const void *a, const void *b)
+{
+    return order(*(const uint8_t *const *)a, *(const uint8_t *const *)b);
+}
+
+static int with_key(const void *key, const void *record)
+{
+    return order(key, record);
+}
+
+static size_t used_in(struct room cache)
+{
+    size_t n = 0;
+    while (n < cache.len / RECORD_LEN && cache.at[RECORD_LEN * n + COUNT] != 0)
+        n++;
+    return n;
+}
+
+static size_t add_keys(struct room cache, const uint8_t **list, size_t n)
+{
+    for (size_t i = 0; i < used_in(cache); i++)
+        list[n++] = cache.at + RECORD_LEN * i;
+    return n;
+}
+
+/* The keys of both, each once, in order; gives how many. */
+static size_t all_keys(struct room before, struct room after, const uint8_t **list)
+{
+    size_t all = add_keys(after, list, add_keys(before, list, 0)), n = 0;
+    qsort(list, all, sizeof *list, by_key);
+    for (size_t i = 0; i < all; i++)
+        if (n == 0 || order(list[n - 1], list[i]) != 0)
+            list[n++] = list[i];
+    return n;
+}
+
+/* The entry of a key: its kind, 1 gone, 2 new, 3 held with another record, and "the last two with the second cache's record"; of one gone the key and
+ * zeros. Whether it is one to list. */
+static bool change_of(struct room before, struct room after, const uint8_t *key, uint8_t *entry)
+{
+    const uint8_t *was = bsearch(key, before.at, used_in(before), RECORD_LEN, with_key);
+    const uint8_t *is = bsearch(key, after.at, used_in(after), RECORD_LEN, with_key);
+    memset(entry, 0, CHANGE_LEN);
+    entry[0] = is == NULL ? 1 : was == NULL ? 2 : 3;
+    memcpy(entry + 1, is == NULL ? key : is, is == NULL ? KEY_LEN : RECORD_LEN);
+    return was == NULL || is == NULL || memcmp(was, is, RECORD_LEN) != 0;
+}
+
+/* "Refusals: 1 for either cache malformed or unequal C, 15 if the list doesn't fit." */
+struct model_answer model_changes(const struct lent *l)
+{
+    static uint8_t list[CHANGES_MOST + 1][CHANGE_LEN];
+    const uint8_t *keys_of_both[CHANGES_MOST];
+    uint32_t entries = 0;
+    if (!own_form(l->own, ONE_ADDRESS) || l->before.len != l->after.len)
+        return refuse(MEMORY);
+    if (!cache_form(l->own, l->before, ONE_ADDRESS) || !cache_form(l->own, l->after, ONE_ADDRESS))
+        return refuse(MEMORY);
+    size_t n = all_keys(l->before, l->after, keys_of_both);
+    for (size_t i = 0; i < n; i++)
+        entries += change_of(l->before, l->after, keys_of_both[i], list[entries]);
+    if (l->output.len < CHANGE_LEN * entries)
+        return refuse(ROOM);
+    memcpy(l->output.at, list, CHANGE_LEN * entries);
+    struct model_answer a = {0, entries, CHANGE_LEN * entries};
     return a;
 }

@@ -26,6 +26,7 @@ struct model_answer model_neighbours(const struct lent *l);
 struct model_answer model_closest(const struct lent *l);
 struct model_answer model_search(const struct lent *l);
 struct model_answer model_convert(const struct lent *l);
+struct model_answer model_changes(const struct lent *l);
 struct model_look model_look(const struct lent *l);
 
 #endif

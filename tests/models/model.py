@@ -643,6 +643,31 @@ def compared(records, key):
     return steps
 
 
+# 02, Wish 10: "List, in key order, each key gone, new, or held with another record, the last two with the second cache's record, and no other". Each
+# with its kind, 1 gone, 2 new, 3 held with another record, and the record; of one gone the key and zeros (W10.2).
+def changes(before, after):
+    was, now = {key_of(r): r for r in before}, {key_of(r): r for r in after}
+    entries = []
+    for key in sorted(was.keys() | now.keys()):
+        if key not in now:
+            entries.append((1, was[key][:32] + bytes(68)))
+        elif was.get(key) != now[key]:
+            entries.append((3 if key in was else 2, now[key]))
+    return entries
+
+
+# "Changing the first cache by that list, a definition and no call, gives the second."
+def applied(entries, before):
+    records = {key_of(r): r for r in before}
+    for kind, record in entries:
+        assert (key_of(record) in records) == (kind != 2)
+        if kind == 1:
+            del records[key_of(record)]
+        else:
+            records[key_of(record)] = record
+    return [records[key] for key in sorted(records)]
+
+
 # --- Lent memory: the waiting table ----------------------------------------------------------------------------------------
 
 # 01: "16 places of 140 bytes: message ID 4 (little-endian), kind 1 (1 flood, 2 inquiry, 0 free), tries left 1 (0 to 2), two zero bytes, key
@@ -992,6 +1017,20 @@ class Gauge:
         self.cache = cache_of([converted(r) for r in records], len(self.cache))
         self.waiting = waiting_of([{**p, "record": converted(p["record"])} if p["kind"] == 2 else p for p in places])
         return 0, 0, 0, output
+
+
+# 02, Wish 10: "Compare two saved caches of the same own key and C. .. Refusals: 1 for either cache malformed or unequal C, 15 if the list doesn't
+# fit." W10.9: how many entries, and how many bytes. Of a gauge it needs the own records alone.
+def compare(own, before, after, output):
+    first, second = held(own, before), held(own, after)
+    if first is None or second is None or len(before) != len(after):
+        return 1, 0, 0, output
+    entries = changes(first, second)
+    assert applied(entries, first) == second
+    written = b"".join(bytes([kind]) + record for kind, record in entries)
+    if len(written) > len(output):
+        return 15, 0, 0, output
+    return 0, len(entries), len(written), over(written, output)
 
 
 # --- Looking ---------------------------------------------------------------------------------------------------------------
@@ -1356,6 +1395,43 @@ def check_firsts():
         assert g.tick(out)[0] == g.neighbours(own[:32], bytes(320))[0] == g.search(Lent())[0] == g.convert()[0] == 0 and g.firsts == firsts
 
 
+def check_changes():
+    """Document 02, Wish 10: gone, new and changed; equal, from empty, to empty; what is refused; and any two caches."""
+    import random
+    chance = random.Random(10)
+
+    def rec(n, port=5000):
+        return n.to_bytes(32, "big") + two(port) + bytes([1, 0]) + bytes(64)
+
+    def recs(*keys):
+        return [rec(n) for n in keys]
+
+    own, out = rec(100), b"\xEE" * 1100
+    first, second = cache_of(recs(1, 2, 3), 1000), cache_of([rec(2), rec(3, 5001), rec(4)], 1000)
+    wanted = b"\1" + rec(1)[:32] + bytes(68) + b"\3" + rec(3, 5001) + b"\2" + rec(4)
+    assert compare(own, first, second, out) == (0, 3, 303, wanted + out[303:])
+    assert compare(own, first, second, out[:303]) == (0, 3, 303, wanted) and compare(own, first, second, out[:302]) == (15, 0, 0, out[:302])
+    ten = cache_of(recs(*range(1, 11)), 1000)
+    assert compare(own, ten, ten, b"") == compare(own, bytes(1000), bytes(1000), b"") == (0, 0, 0, b"")
+    for before, after, kind in ((bytes(1000), ten, 2), (ten, bytes(1000), 1)):
+        number, entries, written, output = compare(own, before, after, out)
+        assert (number, entries, written) == (0, 10, 1010) and [output[101 * i] for i in range(10)] == [kind] * 10
+    for bad in (compare(own, ten, ten + bytes(100), out), compare(own[:99], ten, ten, out), compare(rec(5), ten, bytes(1000), out),
+                compare(rec(5), bytes(1000), ten, out), compare(rec(0) + rec(100), ten, ten, out), compare(own, cache_of(recs(2, 1), 1000), ten, out),
+                compare(own, ten, cache_of(recs(2, 1), 1000), out), compare(own, first[:900], second[:900], out)):
+        assert bad == (1, 0, 0, out)
+    for _ in range(200):
+        pool = [chance.randrange(101, 2 ** 256) for _ in range(40)]
+        before, after = (sorted((rec(n, 5000 + chance.randrange(2)) for n in chance.sample(pool, chance.randrange(31))), key=key_of) for _ in "ba")
+        entries = changes(before, after)
+        assert rising([key_of(r) for _, r in entries]) and applied(entries, before) == after and (entries == []) == (before == after)
+        told = {key_of(r): (kind, r) for kind, r in entries}
+        for n in pool:
+            was, now = ([r for r in records if key_of(r) == n] for records in (before, after))
+            kind = 0 if was == now else 1 if not now else 2 if not was else 3
+            assert told.get(n, (0, b""))[0] == kind and (kind < 2 or told[n][1] == now[0])
+
+
 def check_lengths():
     """docs/DECISIONS.md, "What the calls write"."""
     key, zero = b"K" * 32, bytes(32)
@@ -1444,6 +1520,7 @@ if __name__ == "__main__":
     check_count()
     check_ponds()
     check_firsts()
+    check_changes()
     check_lengths()
     check_round_trips(8000)
-    print("model: cases 1 to 14, ring, path, one address, keys compared, ponds, firsts, lengths and 8000 round trips as the documents have them")
+    print("model: cases 1 to 14, ring, path, one address, keys compared, ponds, firsts, changes, lengths and 8000 round trips as the documents have them")

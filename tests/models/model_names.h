@@ -3,7 +3,8 @@
 #define MODEL_NAMES_H
 
 /* Document 01: "Lent memory", in bytes, and where in a record port, count and addresses stand; an endpoint of a path; how many own records there may
- * be (document 02, Wish 11); the counts of Wish 12; the datagram; what a tick and a list need. */
+ * be (document 02, Wish 11); the counts of Wish 12; the datagram; what a tick and a list need; an entry
+ * of Wish 10's list, and the most of them. */
 enum {
     KEY_LEN = 32,
     NONCE_LEN = 16,
@@ -24,7 +25,9 @@ enum {
     DATAGRAM_MOST = 1232,
     OUTPUT_LEN = 2464,
     TICK_LEN = 64,
-    LIST_LEN = 320
+    LIST_LEN = 320,
+    CHANGE_LEN = 101,
+    CHANGES_MOST = 512
 };
 
 /* Document 01: "What comes back". */

@@ -81,8 +81,10 @@ static struct result by_model(enum call_kind kind, const struct lent *l)
         a = model_closest(l);
     else if (kind == SEARCH)
         a = model_search(l);
-    else
+    else if (kind == CONVERT)
         a = model_convert(l);
+    else
+        a = model_changes(l);
     return three_numbers(a.number, a.first, a.second);
 }
 
@@ -110,8 +112,10 @@ static struct result by_archive(enum call_kind kind, const struct lent *l)
         a = call_closest(gauge_closest, l);
     else if (kind == SEARCH)
         a = call_search(gauge_search, l);
-    else
+    else if (kind == CONVERT)
         a = call_convert(gauge_convert, l);
+    else
+        a = call_changes(gauge_changes, l);
     return three_numbers(a.number, a.first, a.second);
 }
 #endif
@@ -143,11 +147,11 @@ static void lend_all(int side, const struct call *c, struct memory *m)
 
 size_t needed(struct call *c)
 {
-    c->lent.output.len = GAUGE_OUTPUT_LEN;
+    c->lent.output.len = c->kind == CHANGES ? GAUGE_CHANGES_LEN(GAUGE_CACHE_MOST) : GAUGE_OUTPUT_LEN;
     lend_all(MODEL, c, &now);
     struct result r = by_model(c->kind, &lent[MODEL]);
     running = NULL;
-    return r.numbers[1] + r.numbers[2];
+    return c->kind == CHANGES ? r.numbers[2] : r.numbers[1] + r.numbers[2];
 }
 
 static char difference[80];
@@ -189,16 +193,47 @@ static bool is_kept(int i, enum call_kind kind)
 }
 
 /* The memory that an accepted call was lent stays as it left it; what was damaged for a refused one is as before, and so is all after a call with
- * other own keys. */
+ * other own keys. A look and a comparison are lent none. */
 static void keep(const struct call *c, struct memory *m)
 {
     struct lent left = lent[ARCHIVE];
-    if (c->kind == LOOK || !same_keys(c))
+    if (c->kind == LOOK || c->kind == CHANGES || !same_keys(c))
         return;
     for (int i = 0; i < SLICES; i++)
         if (!is_kept(i, c->kind))
             slice_in(&left, i)->at = NULL;
     keep_memory(m, &left);
+}
+
+/* Document 02, request 10: "changing the first cache by that list .. gives the second". One entry after the other, each at the place of its key; one
+ * that is gone or held with another record must be there, and one that is new must not. On the way there may be twice as many as either cache has. */
+static bool leads_to(struct room before, const uint8_t *list, size_t entries, struct room after)
+{
+    static uint8_t rows[2 * MEMORY_ROOM];
+    size_t end = 0;
+    memset(rows, 0, sizeof rows);
+    memcpy(rows, before.at, before.len);
+    while (end < before.len && rows[end + GAUGE_RECORD_COUNT] != 0)
+        end += GAUGE_RECORD_LEN;
+    for (; entries > 0; entries--, list += GAUGE_CHANGE_LEN) {
+        const uint8_t *record = list + 1;
+        size_t at = 0;
+        while (at < end && memcmp(rows + at, record, GAUGE_KEY_LEN) < 0)
+            at += GAUGE_RECORD_LEN;
+        uint8_t *row = rows + at, *next = row + GAUGE_RECORD_LEN;
+        bool there = at < end && memcmp(row, record, GAUGE_KEY_LEN) == 0;
+        if (there == (list[0] == GAUGE_CHANGE_NEW))
+            return false;
+        if (list[0] == GAUGE_CHANGE_GONE)
+            memmove(row, next, end - at);
+        else if (list[0] == GAUGE_CHANGE_NEW)
+            memmove(next, row, end - at);
+        if (list[0] != GAUGE_CHANGE_GONE)
+            memcpy(row, record, GAUGE_RECORD_LEN);
+        end += list[0] == GAUGE_CHANGE_NEW ? GAUGE_RECORD_LEN : 0;
+        end -= list[0] == GAUGE_CHANGE_GONE ? GAUGE_RECORD_LEN : 0;
+    }
+    return end <= after.len && memcmp(rows, after.at, after.len) == 0;
 }
 
 /* Runs a call on both sides. NULL, or what is different. */
@@ -221,6 +256,8 @@ static const char *run(const struct call *c, struct memory *m, struct result *an
     }
     if (c->sound && c->kind != LOOK && a.numbers[0] == GAUGE_MEMORY)
         return "memory that calls have left is not in form";
+    if (c->kind == CHANGES && a.numbers[0] == 0 && !leads_to(c->lent.before, lent[ARCHIVE].output.at, a.numbers[1], c->lent.after))
+        return "the first cache changed by the list is not the second";
     if (a.numbers[0] == 0)
         keep(c, m);
     return NULL;
@@ -358,7 +395,7 @@ int main(int argc, char **argv)
     size_t length = 0;
     set_least(wanted, GATE);
     for (int i = 0; i < SIDES * SLICES; i++)
-        fences[i / SLICES][i % SLICES] = fence_of(MEMORY_ROOM);
+        fences[i / SLICES][i % SLICES] = fence_of(slices[i % SLICES].use == TO_FILL ? OUTPUT_ROOM : MEMORY_ROOM);
     signal(SIGSEGV, stopped);
     signal(SIGBUS, stopped);
     while (calls_run < wanted) {

@@ -17,6 +17,7 @@ struct call {
     bool front; /* slices begin where a page that may not be touched ends; otherwise they end where one begins */
     bool sound; /* nothing that is tested for form was damaged */
     bool aged;  /* what it is lent may be of the time before request 13 */
+    enum { BOTH_WELL, BEFORE_HURT, AFTER_HURT, UNLIKE } pair; /* of two caches: what was spoiled of them, or that they are of unequal length */
     struct lent lent; /* memory without a place means: the present one */
 };
 

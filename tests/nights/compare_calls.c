@@ -288,6 +288,132 @@ static void spoil_firsts(struct call *c)
     c->lent.firsts = kept(b, len);
 }
 
+/* Two caches, each made of the present one by edits. */
+
+/* Where a key stands among so many records, or would. */
+static size_t place_in(const uint8_t *cache, size_t used, const uint8_t *key)
+{
+    size_t i = 0;
+    while (i < used && memcmp(cache + GAUGE_RECORD_LEN * i, key, GAUGE_KEY_LEN) < 0)
+        i++;
+    return i;
+}
+
+static size_t used_in(const uint8_t *cache, size_t len)
+{
+    size_t n = 0;
+    while (GAUGE_RECORD_LEN * n < len && cache[GAUGE_RECORD_LEN * n + GAUGE_RECORD_COUNT] != 0)
+        n++;
+    return n;
+}
+
+/* One record more, where there is room and its key is neither ours nor held; so often of 100 it leans on the memory. Gives how many there are. */
+static size_t add_record(uint8_t *cache, size_t len, size_t used, unsigned leaning)
+{
+    uint8_t record[GAUGE_RECORD_LEN];
+    if (percent(leaning))
+        some_key(record);
+    else
+        fill_key(record);
+    some_rest(record);
+    size_t i = place_in(cache, used, record);
+    uint8_t *row = cache + GAUGE_RECORD_LEN * i;
+    if (GAUGE_RECORD_LEN * used == len || is_own(record) || (i < used && memcmp(row, record, GAUGE_KEY_LEN) == 0))
+        return used;
+    memmove(row + GAUGE_RECORD_LEN, row, GAUGE_RECORD_LEN * (used - i));
+    memcpy(row, record, GAUGE_RECORD_LEN);
+    return used + 1;
+}
+
+static size_t take_record(uint8_t *cache, size_t used, size_t i)
+{
+    memmove(cache + GAUGE_RECORD_LEN * i, cache + GAUGE_RECORD_LEN * (i + 1), GAUGE_RECORD_LEN * (used - i - 1));
+    memset(cache + GAUGE_RECORD_LEN * (used - 1), 0, GAUGE_RECORD_LEN);
+    return used - 1;
+}
+
+/* The port, the address, or all behind the key. */
+static void change_rest(uint8_t *record)
+{
+    switch (under(4)) {
+    case 0: flip_bit(record + GAUGE_RECORD_PORT, 2); break;
+    case 1: flip_bit(record + GAUGE_RECORD_ADDRESSES, GAUGE_ADDRESS_LEN); break;
+    case 2: flip_bit(record + GAUGE_RECORD_ADDRESSES + GAUGE_ADDRESS_LEN - 1, 1); break;
+    default: some_rest(record); break;
+    }
+}
+
+/* The first record, the last, or any. */
+static size_t some_place(size_t used)
+{
+    return percent(20) ? 0 : percent(25) ? used - 1 : under(used);
+}
+
+static void edit_cache(uint8_t *cache, size_t len)
+{
+    size_t used = used_in(cache, len);
+    uint32_t way = under(20);
+    for (uint32_t edits = way < 3 ? 0 : way < 18 ? 1 + under(5) : 30; edits > 0; edits--)
+        switch (used > 0 ? under(4) : 0) {
+        case 0: case 1: used = add_record(cache, len, used, 60); break;
+        case 2: used = take_record(cache, used, some_place(used)); break;
+        default: change_rest(cache + GAUGE_RECORD_LEN * some_place(used)); break;
+        }
+}
+
+/* None at all, or all others: with as many as there is room for, now and then. */
+static void replace_cache(uint8_t *cache, size_t len)
+{
+    size_t used = 0;
+    unsigned leaning = percent(40) ? 40 : 0;
+    memset(cache, 0, len);
+    if (percent(30))
+        return;
+    for (size_t tries = 0; tries < 2 * len / GAUGE_RECORD_LEN; tries++)
+        used = add_record(cache, len, used, leaning);
+}
+
+static struct room edited(void)
+{
+    static uint8_t cache[MEMORY_ROOM];
+    memset(cache, 0, sizeof cache);
+    memcpy(cache, now.cache, now.cache_len);
+    if (percent(12))
+        replace_cache(cache, now.cache_len);
+    else
+        edit_cache(cache, now.cache_len);
+    return kept(cache, now.cache_len);
+}
+
+static void draw_pair(struct call *c)
+{
+    c->lent.before = edited();
+    c->lent.after = percent(8) ? c->lent.before : percent(40) ? kept(now.cache, now.cache_len) : edited();
+    if (percent(50)) {
+        struct room first = c->lent.before;
+        c->lent.before = c->lent.after;
+        c->lent.after = first;
+    }
+}
+
+/* One of the two spoiled, or both longer or shorter, or one alone. */
+static void spoil_pair(struct call *c)
+{
+    bool first = percent(50);
+    struct room *one = first ? &c->lent.before : &c->lent.after;
+    struct rows r = {one->len, GAUGE_RECORD_LEN, used_in(one->at, one->len), 0, 0, GAUGE_RECORD_COUNT};
+    if (percent(70)) {
+        size_t len = one->len;
+        *one = spoil(one->at, &r);
+        c->pair = one->len != len ? UNLIKE : first ? BEFORE_HURT : AFTER_HURT;
+        return;
+    }
+    memset(spoiled, 0, sizeof spoiled);
+    memcpy(spoiled, one->at, one->len);
+    *one = kept(spoiled, one->len + GAUGE_RECORD_LEN);
+    c->pair = UNLIKE;
+}
+
 /* All that a conversion is lent; to another call one of them, which is then refused if it is what it seems. */
 static void age_call(struct call *c)
 {
@@ -316,6 +442,13 @@ static void damage_call(struct call *c)
     c->sound = false;
     if (c->kind == RECEIVE && percent(25)) {
         spoil_firsts(c);
+        return;
+    }
+    if (c->kind == CHANGES) {
+        if (percent(75))
+            spoil_pair(c);
+        else
+            spoil_own(c);
         return;
     }
     switch (under(c->kind == CONVERT ? 8 : 12)) {
@@ -347,10 +480,10 @@ static size_t some_room(struct call *c)
                                      GAUGE_LIST_LEN + 1};
     uint32_t way = under(20);
     if (way < 13)
-        return GAUGE_OUTPUT_LEN;
+        return c->kind == CHANGES ? GAUGE_CHANGES_LEN(now.cache_len / GAUGE_RECORD_LEN) : GAUGE_OUTPUT_LEN;
     if (way < 15)
         return under(400);
-    if (way < 17 || (c->kind != RECEIVE && c->kind != SEND))
+    if (way < 17 || (c->kind != RECEIVE && c->kind != SEND && c->kind != CHANGES))
         return edges[under(sizeof edges / sizeof *edges)];
     size_t need = needed(c);
     if (need == 0 || way == 17)
@@ -364,7 +497,8 @@ static enum call_kind some_kind(void)
     const struct {
         uint32_t below;
         enum call_kind kind;
-    } kinds[] = {{64, RECEIVE}, {72, SEND}, {72 + ticks, TICK}, {80, NEIGHBOURS}, {85, CLOSEST}, {90, SEARCH}, {94, CONVERT}, {100, LOOK}};
+    } kinds[] = {{64, RECEIVE}, {72, SEND},   {72 + ticks, TICK}, {80, NEIGHBOURS}, {84, CLOSEST},
+                 {88, SEARCH},  {91, CONVERT}, {94, CHANGES},      {100, LOOK}};
     uint32_t way = under(100);
     size_t i = 0;
     while (way >= kinds[i].below)
@@ -415,7 +549,9 @@ void make_call(struct call *c)
     }
     if (c->kind == CONVERT)
         age_call(c);
-    if (percent(c->kind == CONVERT ? 45 : 6))
+    if (c->kind == CHANGES)
+        draw_pair(c);
+    if (percent(c->kind == CONVERT ? 45 : c->kind == CHANGES ? 15 : 6))
         damage_call(c);
     c->lent.output.len = some_room(c);
 }

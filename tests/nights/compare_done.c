@@ -31,7 +31,7 @@ static uint32_t possible(int kind, int message)
     uint32_t always = BIT(GAUGE_OK) | BIT(GAUGE_MEMORY);
     if (kind == CLOSEST || kind == SEARCH || kind == CONVERT)
         return always;
-    return kind == TICK ? always | BIT(GAUGE_ROOM) : always | BIT(GAUGE_NOT_OURS) | BIT(GAUGE_ROOM);
+    return kind == TICK || kind == CHANGES ? always | BIT(GAUGE_ROOM) : always | BIT(GAUGE_NOT_OURS) | BIT(GAUGE_ROOM);
 }
 
 /* What an accepted call did, by what it left and wrote. */
@@ -44,7 +44,9 @@ enum { JOINED, REPLACED, OTHER_DROPPED, SELF_DROPPED, BOTH, ACK_ONLY, INQUIRE_ON
        NEAREST_NONE, NEAREST_NINE,
        OWN_TWO, OWN_THREE, OWN_FOUR, LATER_CPA, LATER_N, LATER_FLOODED, LATER_REVOKED, LATER_ENTRY, LATER_SENT, LATER_LIST, LATER_SHOWN,
        LATER_NEAREST, LIST_SHARED, DROPPED_NEARER, DROPPED_TIE, DROPPED_LEAST, ORDER_REFUSED, NUMBER_REFUSED, CPAS_REFUSED, COUNT_REFUSED,
-       SUM_REFUSED, FIRSTS_REFUSED, COUNTED_UP, COUNTED_DOWN, COUNTED_BOTH, COUNTED_SAME, COUNTED_256, COUNTED_255, DONE };
+       SUM_REFUSED, FIRSTS_REFUSED, COUNTED_UP, COUNTED_DOWN, COUNTED_BOTH, COUNTED_SAME, COUNTED_256, COUNTED_255, ALL_EQUAL, ALL_KINDS, ONE_GONE,
+       ONE_NEW, ONE_OTHER, FROM_EMPTY, TO_EMPTY, LISTED_FIRST, LISTED_LAST, LISTED_500, LISTED_256, LISTED_WHOLLY, BEFORE_REFUSED, AFTER_REFUSED,
+       UNLIKE_REFUSED, DONE };
 static const char *const done_names[] = {
     "learned: joined", "learned: replaced", "learned: another dropped", "learned: newcomer dropped", "FLOOD: ACK and INQUIRE", "FLOOD: ACK alone",
     "FLOOD: INQUIRE alone", "FLOOD: nothing sent", "ACK sent with N", "INQUIRE with ID 0", "revoked: key removed", "revoked: inquiry freed",
@@ -65,7 +67,10 @@ static const char *const done_names[] = {
     "closest: later own record", "list: a key in two of ours", "learned: farthest is listed", "learned: tie of the farthest",
     "learned: into ten for each", "own records out of order", "C below ten for each", "CPAs out of form", "firsts: one number wrong",
     "firsts: the sum alone right", "firsts: of another length", "firsts: one up", "firsts: one down", "firsts: one up, another down",
-    "firsts: dropped one alike", "firsts: from 255 to 256", "firsts: from 256 to 255"};
+    "firsts: dropped one alike", "firsts: from 255 to 256", "firsts: from 256 to 255", "changes: none", "changes: of all three kinds",
+    "changes: one gone", "changes: one new", "changes: one with another", "changes: from an empty cache", "changes: to an empty cache",
+    "changes: the first record", "changes: the 256th record", "changes: 500 and more", "changes: caches of 256", "changes: no room left over",
+    "changes: first out of form", "changes: second out of form", "changes: of unequal length"};
 static unsigned long done[DONE];
 
 static size_t rows_used(const uint8_t *p, size_t len, size_t width, size_t mark)
@@ -394,6 +399,38 @@ static void count_entry(const struct call *c, const uint32_t *answer)
     done[WRAPPED] += asked && c->lent.id == UINT32_MAX;
 }
 
+static bool same_key(const uint8_t *entry, const uint8_t *record)
+{
+    return memcmp(entry + 1, record, GAUGE_KEY_LEN) == 0;
+}
+
+/* Two caches compared: which kinds of change there were, and where. */
+static void count_changed(const struct call *c, const uint32_t *answer, const uint8_t *list)
+{
+    size_t of[4] = {0}, entries = answer[1], most = c->lent.before.len / GAUGE_RECORD_LEN;
+    size_t was = rows_used(c->lent.before.at, c->lent.before.len, GAUGE_RECORD_LEN, GAUGE_RECORD_COUNT);
+    size_t is = rows_used(c->lent.after.at, c->lent.after.len, GAUGE_RECORD_LEN, GAUGE_RECORD_COUNT);
+    const uint8_t *last = list + GAUGE_CHANGE_LEN * (entries > 0 ? entries - 1 : 0);
+    size_t end = GAUGE_CACHE_LEN(most - 1);
+    for (size_t i = 0; i < entries; i++)
+        of[list[GAUGE_CHANGE_LEN * i] % 4]++;
+    done[ALL_EQUAL] += entries == 0 && was > 0;
+    done[ALL_KINDS] += of[GAUGE_CHANGE_GONE] > 0 && of[GAUGE_CHANGE_NEW] > 0 && of[GAUGE_CHANGE_OTHER] > 0;
+    if (entries == 1)
+        done[ONE_GONE + list[0] - GAUGE_CHANGE_GONE]++;
+    done[FROM_EMPTY] += was == 0 && is > 0;
+    done[TO_EMPTY] += was > 0 && is == 0;
+    done[LISTED_500] += entries >= 500;
+    done[LISTED_WHOLLY] += entries > 0 && c->lent.output.len == answer[2];
+    if (was == 0 || is == 0 || entries == 0)
+        return;
+    done[LISTED_FIRST] += same_key(list, c->lent.before.at) || same_key(list, c->lent.after.at);
+    if (most == GAUGE_CACHE_MOST && was == most && is == most) {
+        done[LISTED_256]++;
+        done[LISTED_LAST] += same_key(last, c->lent.before.at + end) || same_key(last, c->lent.after.at + end);
+    }
+}
+
 static void count_done(const struct call *c, int message, const uint32_t *answer, const uint8_t *out, const struct memory *before)
 {
     size_t was = rows_used(before->cache, before->cache_len, GAUGE_RECORD_LEN, GAUGE_RECORD_COUNT), is = held();
@@ -455,6 +492,8 @@ static void count_refused(const struct call *c, int message, uint32_t number)
     done[LATER_REVOKED] += number == GAUGE_OWN_KEY && message == REVOKE && is_later(c, c->lent.key.at);
     if (number == GAUGE_MEMORY && c->hurt != UNHURT)
         done[ORDER_REFUSED + (int)c->hurt - HURT_ORDER]++;
+    if (number == GAUGE_MEMORY && c->pair != BOTH_WELL)
+        done[BEFORE_REFUSED + (int)c->pair - BEFORE_HURT]++;
 }
 
 /* Was the call lent the present memory, and none that was damaged for it? */
@@ -476,6 +515,8 @@ void count_call(const struct call *c, const uint32_t *answer, const uint8_t *out
         done[c->kind == CONVERT ? NOT_CONVERTED : OLD_REFUSED]++;
     if (answer[0] == 0 && c->kind == CONVERT)
         count_converted(c);
+    if (answer[0] == 0 && c->kind == CHANGES)
+        count_changed(c, answer, output);
     if (answer[0] == 0 && c->kind == RECEIVE && on_present(c))
         count_addresses(c, message, answer, before, rows_used(before->cache, before->cache_len, GAUGE_RECORD_LEN, GAUGE_RECORD_COUNT));
     if (answer[0] == 0 && on_present(c))

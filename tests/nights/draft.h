@@ -7,6 +7,7 @@
 #include "lent.h"
 
 #define MEMORY_ROOM (8u * 4096u)
+#define OUTPUT_ROOM (14u * 4096u) /* for the longest list of changes */
 
 /* Each draw is a statement of its own, or stands behind ?, && or ||: where C leaves an order open, compilers take different ones. */
 extern uint64_t chance_state; /* set to the seed */

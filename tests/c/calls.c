@@ -198,8 +198,8 @@ static void before_call(void)
         memcpy(was[i], slice_in(&lent, i)->at, slice_in(&lent, i)->len);
 }
 
-/* The answer, the bytes written, what has changed in the memory. */
-static void after_call(struct gauge_answer a, size_t used)
+/* The answer, the bytes written, what has changed in the memory, of which a call that is lent none has nothing to say. */
+static void say_call(struct gauge_answer a, size_t used, bool memory)
 {
     struct room output = lent.output;
     all_read_same();
@@ -211,9 +211,14 @@ static void after_call(struct gauge_answer a, size_t used)
         printf("%02x", output.at[i]);
     printf("%s", used == 0 ? "-" : "");
     for (int i = 0; i < SLICES; i++)
-        if (slices[i].use == TO_KEEP)
+        if (memory && slices[i].use == TO_KEEP)
             printf(" %s", is_same(i) ? "same" : "changed");
     printf(" %s", memcmp(output.at + used, was[LENT_output] + used, output.len - used) == 0 ? "clean" : "dirty");
+}
+
+static void after_call(struct gauge_answer a, size_t used)
+{
+    say_call(a, used, true);
 }
 
 static void receive(void)
@@ -287,6 +292,22 @@ static void convert(void)
     after_call(a, 0);
 }
 
+/* Two caches, and own records that are not the gauge's, which has them again behind it. */
+static void changes(void)
+{
+    static uint8_t ours[PAGE];
+    size_t len = lent.own.len;
+    memcpy(ours, lent.own.at, len);
+    lend(LENT_own, 1);
+    lend(LENT_before, 2);
+    lend(LENT_after, 3);
+    fresh_output(4);
+    before_call();
+    struct gauge_answer a = call_changes(gauge_changes, &lent);
+    say_call(a, a.second, false);
+    set(LENT_own, ours, len);
+}
+
 /* A look has its own major version, and leaves the gauge's as it is. */
 static void look(void)
 {
@@ -322,13 +343,13 @@ static const struct {
     bool sets; /* answers ok */
 } lines[] = {{"gauge", begin, true},     {"set-cache", set_cache, true}, {"set-firsts", set_firsts, true}, {"set-waiting", set_waiting, true},
              {"receive", receive, false}, {"send", send, false},          {"tick", tick, false},            {"list", list, false},
-             {"nearest", nearest, false}, {"find", find, false},          {"convert", convert, false},      {"look", look, false},
-             {"held", held, false},       {"firsts", firsts, false},      {"waits", waits, false}};
+             {"nearest", nearest, false}, {"find", find, false},          {"convert", convert, false},      {"changes", changes, false},
+             {"look", look, false},       {"held", held, false},          {"firsts", firsts, false},        {"waits", waits, false}};
 
 int main(void)
 {
     for (int i = 0; i < SLICES; i++)
-        make(i, i == LENT_cache ? 8 : 3);
+        make(i, i == LENT_output ? 14 : i == LENT_cache || i == LENT_before || i == LENT_after ? 8 : 3);
     while (fgets(line, LINE, stdin) != NULL) {
         line[strcspn(line, "\n")] = '\0';
         for (size_t i = 0; i < sizeof lines / sizeof *lines; i++) {

@@ -13,6 +13,7 @@ import re
 import sys
 
 import vector_calls
+import vector_changes
 import vector_memory
 import vector_messages
 
@@ -66,6 +67,7 @@ def vectors():
     yield from vector_messages.vectors()
     yield from vector_memory.vectors()
     yield from vector_calls.vectors()
+    yield from vector_changes.vectors()
 
 
 def ground():
@@ -249,7 +251,7 @@ def text():
 def main():
     if sys.argv[1:] not in (["--write"], ["--check"]):
         sys.exit(__doc__)
-    for layer in (vector_messages, vector_memory, vector_calls):
+    for layer in (vector_messages, vector_memory, vector_calls, vector_changes):
         layer.check()  # by hand against the model, and nothing left out
     good = True
     for name, wanted in zip(("stdin", "stdout"), text()):

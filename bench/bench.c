@@ -36,12 +36,14 @@ struct side {
     neighbours_call *neighbours;
     closest_call *closest;
     search_call *search;
+    changes_call *changes;
     look_call *look;
 };
 
 /* A function under the signature of another (bench/empty.c). */
 #define AS(type, function) ((type *)(void (*)(void))(function))
-#define SIDE(name, halves) {#name, halves, name##_receive, name##_send, name##_tick, name##_neighbours, name##_closest, name##_search, name##_look}
+#define SIDE(name, halves) \
+    {#name, halves, name##_receive, name##_send, name##_tick, name##_neighbours, name##_closest, name##_search, name##_changes, name##_look}
 static const struct side sides[] = {
     SIDE(gauge, false),
     SIDE(gcc, false),
@@ -51,7 +53,7 @@ static const struct side sides[] = {
     SIDE(clang_halves, true),
 #endif
     {"empty", false, AS(receive_call, empty_answer), AS(send_call, empty_answer), AS(tick_call, empty_answer), AS(neighbours_call, empty_answer),
-     AS(closest_call, empty_answer), AS(search_call, empty_answer), AS(look_call, empty_look)},
+     AS(closest_call, empty_answer), AS(search_call, empty_answer), AS(changes_call, empty_answer), AS(look_call, empty_look)},
 };
 #define SIDES (sizeof sides / sizeof *sides)
 #define EMPTY (SIDES - 1)
@@ -134,9 +136,14 @@ static struct gauge_answer answered(const struct side *by)
         a = call_closest(by->closest, &lent);
         end();
         break;
-    default:
+    case SEARCH:
         begin();
         a = call_search(by->search, &lent);
+        end();
+        break;
+    default:
+        begin();
+        a = call_changes(by->changes, &lent);
         end();
         break;
     }

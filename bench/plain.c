@@ -1,4 +1,4 @@
-/* The eight calls in plain C, written for speed: what the archive is measured against. It makes every test of document 01, with document 02's ring,
+/* The nine calls in plain C, written for speed: what the archive is measured against. It makes every test of document 01, with document 02's ring,
  * path, one address, count of keys compared, several own records and counts by first byte, and gives the same numbers and bytes; nothing is written
  * before the last refusal is decided. Numbers are loaded whole and swapped, keys compared by words up to the first that differ, runs of bytes moved by
  * the C library. For x86-64: words are read least significant byte first.
@@ -1290,6 +1290,67 @@ struct gauge_answer CALL(convert)(const uint8_t *own, size_t own_len, uint8_t *c
         if (p[4] == 2)
             cut(p + 40);
     return answer(0, 0, 0);
+}
+
+/* Two records in form that have one key: is the rest the same, port and address? */
+static inline bool same_told(const uint8_t *a, const uint8_t *b)
+{
+    return ((word(a + 32) ^ word(b + 32)) | (word(a + 40) ^ word(b + 40)) | (word(a + 44) ^ word(b + 44))) == 0;
+}
+
+/* What changed, by one walk along both: of each entry its kind and the place of its record, in the first cache where it is gone, else in the second. */
+struct changed {
+    uint8_t kind;
+    uint16_t at;
+};
+
+static size_t merged(const uint8_t *before, size_t was, const uint8_t *after, size_t is, struct changed *list)
+{
+    const uint8_t *a = before, *a_end = before + 100 * was, *b = after, *b_end = after + 100 * is;
+    struct changed *to = list;
+    while (a < a_end && b < b_end) {
+        uint64_t x = big(a), y = big(b);
+        if (x == y && same_rest(a, b)) {
+            if (!same_told(a, b))
+                *to++ = (struct changed){GAUGE_CHANGE_OTHER, (uint16_t)((size_t)(b - after) / 100)};
+            a += 100;
+            b += 100;
+        } else if (less(x, a, y, b)) {
+            *to++ = (struct changed){GAUGE_CHANGE_GONE, (uint16_t)((size_t)(a - before) / 100)};
+            a += 100;
+        } else {
+            *to++ = (struct changed){GAUGE_CHANGE_NEW, (uint16_t)((size_t)(b - after) / 100)};
+            b += 100;
+        }
+    }
+    for (; a < a_end; a += 100)
+        *to++ = (struct changed){GAUGE_CHANGE_GONE, (uint16_t)((size_t)(a - before) / 100)};
+    for (; b < b_end; b += 100)
+        *to++ = (struct changed){GAUGE_CHANGE_NEW, (uint16_t)((size_t)(b - after) / 100)};
+    return (size_t)(to - list);
+}
+
+struct gauge_answer CALL(changes)(const uint8_t *own, size_t own_len, const uint8_t *before, size_t before_len, const uint8_t *after,
+                                  size_t after_len, uint8_t *output, size_t output_len)
+{
+    struct changed list[512];
+    struct own ours = {own, own + own_len};
+    size_t was = lent_form(ours, before, before_len, before_len == after_len), is;
+    if (was == NOT_IN_FORM || (is = cache_form(ours, after, after_len)) == NOT_IN_FORM)
+        return answer(1, 0, 0);
+    size_t entries = merged(before, was, after, is, list);
+    if (output_len < 101 * entries)
+        return answer(15, 0, 0);
+    for (const struct changed *c = list; c < list + entries; c++, output += 101) {
+        output[0] = c->kind;
+        if (c->kind == GAUGE_CHANGE_GONE) {
+            memcpy(output + 1, before + 100 * c->at, 32);
+            memset(output + 33, 0, 68);
+        } else {
+            memcpy(output + 1, after + 100 * c->at, 100);
+        }
+    }
+    return answer(0, entries, 101 * entries);
 }
 
 struct gauge_look_answer CALL(look)(uint8_t major, const uint8_t *datagram, size_t datagram_len)

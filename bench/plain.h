@@ -1,4 +1,4 @@
-/* The eight calls of include/gauge.h in plain C (bench/plain.c), under a name for each way in which they are compiled. The arguments are the same. */
+/* The nine calls of include/gauge.h in plain C (bench/plain.c), under a name for each way in which they are compiled. The arguments are the same. */
 #ifndef PLAIN_H
 #define PLAIN_H
 
@@ -12,6 +12,7 @@
     __typeof__(gauge_closest) name##_closest;       \
     __typeof__(gauge_search) name##_search;         \
     __typeof__(gauge_convert) name##_convert;       \
+    __typeof__(gauge_changes) name##_changes;       \
     __typeof__(gauge_look) name##_look
 
 #endif

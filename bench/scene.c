@@ -429,6 +429,22 @@ static void neighbours_ponds(struct scene *s)
     memcpy(s->key, s->own + s->own_len - GAUGE_RECORD_LEN, GAUGE_KEY_LEN);
 }
 
+static void take_record(uint8_t *cache, size_t held, size_t i)
+{
+    memmove(cache + GAUGE_RECORD_LEN * i, cache + GAUGE_RECORD_LEN * (i + 1), GAUGE_RECORD_LEN * (held - i - 1));
+    memset(cache + GAUGE_RECORD_LEN * (held - 1), 0, GAUGE_RECORD_LEN);
+}
+
+/* Two saved caches, both the scene's but for three keys: one is gone, one is new, one has another port. */
+static void changes(struct scene *s)
+{
+    memcpy(s->before, s->cache, s->cache_len);
+    memcpy(s->after, s->cache, s->cache_len);
+    s->after[GAUGE_RECORD_LEN * (3 * s->held / 4) + GAUGE_RECORD_PORT] ^= 1;
+    take_record(s->after, s->held, s->held / 4);
+    take_record(s->before, s->held, s->held / 2);
+}
+
 static void own_unfit(struct scene *s)
 {
     lookup(s);
@@ -477,6 +493,7 @@ static const struct kind kinds[] = {
     {"closest, two next on the path", CLOSEST, false, closest_past, {0, 0, 0}},
     {"search, key held", SEARCH, false, search, {0, 0, 0}},
     {"search, key between two", SEARCH, false, search_between, {0, 0, 0}},
+    {"changes: gone, new, other, one each", CHANGES, false, changes, {0, 3, 3 * GAUGE_CHANGE_LEN}},
     {"look at a LOOKUP", LOOK, false, lookup, {0, GAUGE_LOOKUP, 0}},
     {"look at a FLOOD", LOOK, false, flood_new, {0, GAUGE_FLOOD, 0}},
     {"refused 1: own record", RECEIVE, false, own_unfit, {GAUGE_MEMORY, 0, 0}},
@@ -510,6 +527,8 @@ static void lend(struct scene *s)
     l->key = as_room(s->key, sizeof s->key);
     l->path = as_room(s->path, sizeof s->path);
     l->target = as_room(s->target, sizeof s->target);
+    l->before = as_room(s->before, s->cache_len);
+    l->after = as_room(s->after, s->cache_len);
     l->datagram = as_room(s->datagram, s->datagram_len);
     l->output.len = s->room;
     l->major = SCENE_MAJOR;

@@ -20,6 +20,7 @@ struct scene {
     uint8_t nonce[GAUGE_NONCE_LEN], key[GAUGE_KEY_LEN], neighbour[GAUGE_KEY_LEN];
     uint8_t cache[GAUGE_CACHE_LEN(GAUGE_CACHE_MOST)], firsts[GAUGE_FIRSTS_LEN], waiting[GAUGE_WAITING_LEN], datagram[GAUGE_DATAGRAM_MOST];
     uint8_t path[SCENE_POINTS * GAUGE_ENDPOINT_LEN], target[GAUGE_KEY_LEN];
+    uint8_t before[GAUGE_CACHE_LEN(GAUGE_CACHE_MOST)], after[GAUGE_CACHE_LEN(GAUGE_CACHE_MOST)]; /* two saved caches */
     size_t own_len, cpas_len, cache_len, held, datagram_len, room;
     uint32_t id;
     struct gauge_answer wanted; /* of a look: the number and the kind */

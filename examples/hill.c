@@ -25,6 +25,9 @@
  * first, and then every fourth datagram that the radio is done with moves the clock on by a millisecond, up to 999. Everybody is at port 5000 of his
  * address, the office too, whose number is 0.
  *
+ * That gauge's cache is saved when every list is the true one for the first time, and at the end: target/hill.before.cache and
+ * target/hill.after.cache, for bin/changes, with its own record in target/hill.own. gauge_changes tells what changed between them.
+ *
  * What a CPA is made of is no matter of the gauge. Here it is one byte, which tells for which of its gauge's ponds it is, 0 for the first, and a
  * revoke CPA is the key; both are believed. Real ones are signed, and hold the nonce of the INQUIRE. Random numbers here come in the same order at
  * each run, so that each run is the same. */
@@ -93,6 +96,7 @@ static struct gauge_reading last[NEW + 1]; /* the last reading that came from a 
 static unsigned long readings;             /* how many came */
 /* CPAs as they are lent, each behind its length: of the first pond of a gauge alone, as a trace wants it, or of both. */
 static const uint8_t cpas[] = {1, 0, 0, 1, 0, 1};
+static uint8_t saved[GAUGE_CACHE_LEN(GAUGE_TRACE_HELD)]; /* the recorded gauge's cache, when every list was the true one for the first time */
 #define OFFICE (&ponds[0]) /* it asks, and has no gauge */
 
 static void stop(const char *format, ...)
@@ -673,6 +677,21 @@ static void introduce(unsigned number, unsigned to)
     printf("  pond %u has inquired, and holds pond %u\n", to, number);
 }
 
+/* What changed in the cache that was saved, up to now. A key's first byte tells its pond. */
+static void tell_changes(void)
+{
+    static uint8_t list[GAUGE_CHANGES_LEN(GAUGE_TRACE_HELD)];
+    const struct pond *p = &ponds[RECORDED];
+    struct gauge_answer a = gauge_lent_changes(&p->lent, saved, sizeof saved, p->cache, sizeof p->cache, list, sizeof list);
+    if (a.number != GAUGE_OK)
+        stop("pond %d: gauge_changes gave %u\n", RECORDED, a.number);
+    printf("What changed since every list was right for the first time, of what pond %d's gauge holds:\n ", RECORDED);
+    for (uint32_t i = 0; i < a.first; i++)
+        printf("%s pond %u %s", i > 0 ? "," : "", gauge_change_record(list, i)[GAUGE_RECORD_KEY] / APART,
+               gauge_change_text(gauge_change_kind(list, i)));
+    printf("\n");
+}
+
 /* What the readings say of the ponds that are on the hill: how deep, which have a fault, which lose water. */
 
 static float depth_in(const struct gauge_reading *r)
@@ -766,6 +785,7 @@ static void hill(void)
     tell(1, "after the last one round the ring,");
     tell(FIRST_OF, "the first of its gauge,");
     tell(SECOND, "the second of that gauge,");
+    memcpy(saved, ponds[RECORDED].cache, sizeof saved);
 
     printf("Pond 7's gauge falls silent. A minute later:\n");
     ponds[7].on = false;
@@ -803,6 +823,7 @@ static void hill(void)
     printf("The office asks pond %d's gauge for the keys of both its ponds.\n", FIRST_OF);
     ask(FIRST_OF, ponds[FIRST_OF].lent.own + GAUGE_RECORD_KEY);
     ask(FIRST_OF, ponds[SECOND].lent.own + GAUGE_RECORD_KEY);
+    tell_changes();
     tell_readings();
 }
 
@@ -820,6 +841,20 @@ static void write_names(void)
     for (unsigned n = 1; n <= NEW; n++)
         write_name(f, n);
     closed(f, "target/hill.names");
+}
+
+static void write_bytes(const char *path, const uint8_t *bytes, size_t len)
+{
+    FILE *f = opened(path);
+    fwrite(bytes, 1, len, f);
+    closed(f, path);
+}
+
+static void write_caches(void)
+{
+    write_bytes("target/hill.own", ponds[RECORDED].lent.own, ponds[RECORDED].lent.own_len);
+    write_bytes("target/hill.before.cache", saved, sizeof saved);
+    write_bytes("target/hill.after.cache", ponds[RECORDED].cache, sizeof saved);
 }
 
 /* The last reading of each pond that is on the hill, packed as bin/ponds takes them, and in the same order their names. */
@@ -869,6 +904,7 @@ int main(void)
     hill();
     write_nights();
     write_names();
+    write_caches();
     write_readings();
     return 0;
 }

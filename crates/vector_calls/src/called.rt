@@ -164,6 +164,14 @@ fn say_call(
     say_rest(output, end);
 }
 
+// A copy of what a call may write, where there is room for it.
+fn keep(copy: &mut [u8], of: &[u8]) {
+    if copy.len() < of.len() {
+        return;
+    }
+    runs::copy_to(copy, 0, of);
+}
+
 // The call, with copies kept of what it may write.
 pub(crate) fn run(
     given: Given,
@@ -176,22 +184,13 @@ pub(crate) fn run(
     if OUTPUT < room {
         return say::outside();
     }
-    if CACHE < cache.len() {
-        return say::outside();
-    }
-    if FIRSTS < firsts.len() {
-        return say::outside();
-    }
-    if WAITING < waiting.len() {
-        return say::outside();
-    }
     let mut held = [0u8; CACHE];
     let mut counts = [0u8; FIRSTS];
     let mut waits = [0u8; WAITING];
     let mut output = [0xEEu8; OUTPUT];
-    runs::copy_to(&mut held, 0, cache);
-    runs::copy_to(&mut counts, 0, firsts);
-    runs::copy_to(&mut waits, 0, waiting);
+    keep(&mut held, cache);
+    keep(&mut counts, firsts);
+    keep(&mut waits, waiting);
     say_call(
         given,
         lent,

@@ -10,6 +10,8 @@
 The answers and the state are those of tests/models/model_night.py and tests/models/model.py, which are made from the documents alone; what a datagram
 is, is read by the model too, and what its call did is told by told.py, from the same models. The words are said here and in the program, each on its own.
 """
+if not __debug__:
+    raise SystemExit("shown.py: it asserts: run it without -O")
 import datetime
 import os
 import sys

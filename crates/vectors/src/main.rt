@@ -81,7 +81,10 @@ fn answer_alone(text: &[u8], room: &mut [u8], side: &mut [u8]) -> bool {
     if vector_messages::answer(text, room) {
         return true;
     }
-    vector_memory::answer(text, room, side)
+    if vector_memory::answer(text, room, side) {
+        return true;
+    }
+    vector_changes::answer(text, room)
 }
 
 // .. and these act on what the lines before them left.

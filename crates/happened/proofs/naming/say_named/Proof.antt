@@ -19,7 +19,7 @@ say-choice-requires c κs =
     let k = c .before in
     let m = k .before .before in
     let s = m .before .before .before .before .before .before in
-    subst (Within (s .args .own .now) (s .args .cache .now)) (k .choice .given .1) (m .name .ensures .1)
+    subst (Within (s .args .own .now) (s .args .cache .now)) (k .choice .given .1) (m .name .ensures .1 .0)
 
 returns : tie.Need-returns
 returns c = search needs

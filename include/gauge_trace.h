@@ -2,13 +2,13 @@
  * office; and beside it, where that is wanted, when each was made and who had sent what came. C99, and this file is all
  * of it.
  *
- * Record each gauge_receive, gauge_send and gauge_tick behind the call, in the order of the calls, with the answer that
- * the call gave; the calls that were refused too. gauge_neighbours, gauge_closest, gauge_search, gauge_changes and
- * gauge_look change nothing and are not recorded. The night begins with cache, firsts and waiting table all zero, or
- * with what an earlier night left in them (see below), so that there is nothing for gauge_convert, which is not recorded
- * either. What a trace does not hold is fixed for whoever makes the calls again: a cache of 64 records, an output of
- * GAUGE_OUTPUT_LEN bytes, one own record, and a CPA of one zero byte. A gauge that is recorded must have the same; one
- * that stands for several ponds is not recorded.
+ * Record each gauge_receive, gauge_send and gauge_tick behind the call, in the order of the calls, with the answer
+ * that the call gave; the calls that were refused too. gauge_neighbours, gauge_closest, gauge_search, gauge_changes
+ * and gauge_look change nothing and are not recorded. The night begins with cache, firsts and waiting table all zero,
+ * or with what an earlier night left in them (see below), so that there is nothing for gauge_convert, which is not
+ * recorded either. What a trace does not hold is fixed for whoever makes the calls again: a cache of 64 records, an
+ * output of GAUGE_OUTPUT_LEN bytes, one own record, and a CPA of one zero byte. A gauge that is recorded must have the
+ * same; one that stands for several ponds is not recorded.
  *
  * A trace is records: length (2 bytes, counting what follows it), kind (2), body. Lengths, kinds and IDs are least
  * significant byte first.

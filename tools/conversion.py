@@ -4,11 +4,11 @@ A file is written over only when all is converted and whole: the new bytes stand
 take their names. Where it is broken off between two names, what stands there is old or new memory, and the same command does the rest.
 """
 import os
-import shutil
 import subprocess
 
+import replaced
+
 RECORD, WAITING, LONGEST = 100, 2240, 25600
-BESIDE = ".converting"
 
 
 class Wrong(Exception):
@@ -31,30 +31,11 @@ def read(path, length, what):
     return data
 
 
-def put_beside(path, data):
-    """A file beside the other, whole on its disk, with the same permissions."""
-    beside = path + BESIDE
-    with open(beside, "wb") as file:
-        file.write(data)
-        file.flush()
-        os.fsync(file.fileno())
-    shutil.copymode(path, beside)
-    return beside
-
-
 def replace(pairs):
-    """All new files stand before the first takes its name."""
-    made = []
+    """The new files take the places of the old ones."""
     try:
-        for path, data in pairs:
-            made.append((path + BESIDE, path))
-            put_beside(path, data)
-        for beside, path in made:
-            os.replace(beside, path)
+        replaced.replace([(path, [data]) for path, data in pairs], ".converting")
     except OSError as error:
-        for beside, _ in made:
-            if os.path.exists(beside):
-                os.unlink(beside)
         raise Wrong("%s can't be written: %s; what stands there is whole, and the same command does the rest" % (error.filename or "a file", error.strerror))
 
 

@@ -407,10 +407,7 @@ class Run:
             os.close(1)
         except OSError as error:
             self.child.kill()
-            if isinstance(error, BrokenPipeError):  # whoever reads has read enough
-                signal.signal(signal.SIGPIPE, signal.SIG_DFL)
-                os.kill(os.getpid(), signal.SIGPIPE)
-            raise Fault("standard output can't be written (%s): this is not all; make room and run it again" % error.strerror)
+            unwritten(error)
         status = self.child.wait()
         threads[1].join()
         if self.unread:
@@ -423,6 +420,14 @@ class Run:
         if word:
             sys.stderr.write("%s: %s\n" % (self.name, word))
         return answer
+
+
+def unwritten(error):
+    """Standard output takes no more: whoever reads has read enough, or the keeper is told."""
+    if isinstance(error, BrokenPipeError):
+        signal.signal(signal.SIGPIPE, signal.SIG_DFL)
+        os.kill(os.getpid(), signal.SIGPIPE)
+    raise Fault("standard output can't be written (%s): this is not all; make room and run it again" % error.strerror)
 
 
 def put(piece):
@@ -492,11 +497,8 @@ def put_pieces(pieces):
         for piece in pieces:
             put(piece)
         os.close(1)
-    except BrokenPipeError:  # whoever reads has read enough
-        signal.signal(signal.SIGPIPE, signal.SIG_DFL)
-        os.kill(os.getpid(), signal.SIGPIPE)
     except OSError as error:
-        raise Fault("standard output can't be written (%s): this is not all" % error.strerror)
+        unwritten(error)
 
 
 def asked_of(words):

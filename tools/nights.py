@@ -5,10 +5,10 @@ Every night is walked through to its end before a byte is written. What is writt
 whole: so a night may be joined to the file of those before it.
 """
 import os
-import shutil
 import stat
 
-BESIDE = ".joining"
+import replaced
+
 PIECE = 1 << 20
 ROW = 40                                    # bytes of the hours for each record
 OPENING, RECEIVE, SEND, TICK = 4, 1, 2, 3   # the kinds of records
@@ -167,32 +167,12 @@ def checked(paths):
     return nights
 
 
-def put_beside(path, content):
-    """A file beside the place, whole on its disk, with the permissions of the one that stands there."""
-    with open(path + BESIDE, "wb") as file:
-        for piece in content:
-            file.write(piece)
-        file.flush()
-        os.fsync(file.fileno())
-    if os.path.exists(path):
-        shutil.copymode(path, path + BESIDE)
-
-
 def replace(contents):
-    """All files stand before the first takes its name."""
-    made = []
+    """The files of a joined night take their places."""
     try:
-        for path, content in contents:
-            made.append((path + BESIDE, path))
-            put_beside(path, content)
-        for beside, path in made:
-            os.replace(beside, path)
+        replaced.replace(contents, ".joining")
     except OSError as error:
         raise Wrong("%s can't be written: %s" % (error.filename or contents[0][0], error.strerror))
-    finally:
-        for beside, _ in made:
-            if os.path.exists(beside):
-                os.unlink(beside)
 
 
 def places_for(to, nights):

@@ -1,6 +1,6 @@
 # Two commands: `make run` shows what happens on the hill, the night recorded there, and what the gauge's functions make of fixed vectors; `make test` is
 # all that the gate runs.
-.PHONY: run test check lib install first two_ponds hill fmt definitions vectors outside counted compare planted nights soak tools clean bench
+.PHONY: run test check lib install first two_ponds hill network fmt definitions vectors outside counted compare planted nights soak tools clean bench
 
 # What is not proved yet is proved first, and told crate by crate (tools/prove). The three programs of bin/ are then built too.
 run: tools
@@ -50,6 +50,14 @@ hill: tools
 	@[ -d target/hill ] || rm -f target/hill
 	@mkdir -p target/hill
 	$(example)
+
+# Gauges on real sockets: 61 processes of examples/radio.c, one gauge each, on ::1; 16 where an emulator runs them. What each kept and said is left in
+# target/network.
+network: tools
+	@tools/lib
+	@mkdir -p target/examples
+	@$(C) examples/radio.c target/libgauge.a -o target/examples/radio
+	@tools/network.py tools/run target/examples/radio
 
 fmt:
 	@rt fmt

@@ -21,9 +21,10 @@ shortest = shortest
 host = host calling lent
 first = first
 hill = hill
+radio = radio
 
 # for x86-64, with the archive; and by the model alone, for this machine: by gcc under the sanitizers, and by clang
-ON_ARCHIVE = compare carry settings recorded abi shortest host first hill
+ON_ARCHIVE = compare carry settings recorded abi shortest host first hill radio
 ALONE = compare carry nights named model_asked
 
 .SECONDARY:

@@ -46,14 +46,19 @@ def capture(datagrams, path):
             f.write(struct.pack("<IIII", i, 0, len(ip), len(ip)) + ip)
 
 
+def tshark_of(path, *words):
+    """What tshark prints of a capture."""
+    return subprocess.run(["tshark", "-r", path, *words], capture_output=True, text=True, check=True).stdout
+
+
 def tshark(datagrams, *words):
     """What tshark prints of packets with these datagrams."""
     fd, path = tempfile.mkstemp(suffix=".pcap")
     os.close(fd)
     capture(datagrams, path)
-    run = subprocess.run(["tshark", "-r", path, *words], capture_output=True, text=True, check=True)
+    text = tshark_of(path, *words)
     os.unlink(path)
-    return run.stdout
+    return text
 
 
 def dissected(datagram):
@@ -94,7 +99,8 @@ def expected(m):
     return lines
 
 
-OURS = ("-X", "lua_script:" + os.path.join(ROOT, "tools", "drt.lua"), "-d", "udp.port==3540,drt")
+LUA = ("-X", "lua_script:" + os.path.join(ROOT, "tools", "drt.lua"))
+OURS = (*LUA, "-d", "udp.port==3540,drt")
 
 
 def values_of(d):
@@ -103,9 +109,8 @@ def values_of(d):
     return words[:2] + words[4:]  # type and ID are shown in words of their own
 
 
-def shown_by_ours(datagrams):
-    """Of each packet the values that our dissector shows, and whether it is called malformed or in part."""
-    text = tshark(datagrams, *OURS, "-O", "drt")
+def shown_in(text):
+    """Of each packet in what tshark printed the values that our dissector shows, and whether it is called malformed or in part."""
     for packet in text.split("\nFrame "):
         layer = packet.split("Distributed Routing Table, ", 1)[-1].split("\n")
         lines = [line.strip().replace("[truncated]", "") for line in layer[1:] if ":" in line and not line.strip().startswith("[E")]
@@ -113,16 +118,25 @@ def shown_by_ours(datagrams):
         yield [str(int(v, 16)) if v.startswith("0x") else v for v in values], "(Error/Malformed)" in packet, "(Note/Reassemble)" in packet
 
 
+def shown_by_ours(datagrams):
+    return shown_in(tshark(datagrams, *OURS, "-O", "drt"))
+
+
 def as_shown(value, shown):
     """Is it the value, of which tshark shows the first 200 characters or so?"""
     return value == shown or (len(shown) > 150 and value.startswith(shown))
+
+
+def is_shown(d, values, malformed, part):
+    """Is a good datagram shown as the model reads it?"""
+    return not malformed and not part and len(values) == len(values_of(d)) and all(map(as_shown, values_of(d), values))
 
 
 def by_ours(whole):
     """The differences between our dissector under tshark and the model."""
     wrong = 0
     for d, (values, malformed, part) in zip(whole, shown_by_ours(whole)):
-        if malformed or part or len(values) != len(values_of(d)) or not all(map(as_shown, values_of(d), values)):
+        if not is_shown(d, values, malformed, part):
             wrong += 1
             print("outside: drt.lua shows %s of %s" % (values, d.hex()[:80]))
     chance = random.Random(30)

@@ -1,6 +1,6 @@
 # Two commands: `make run` shows what happens on the hill, the night recorded there, and what the gauge's functions make of fixed vectors; `make test` is
 # all that the gate runs.
-.PHONY: run test check lib install first two_ponds hill network fmt definitions vectors outside counted compare planted nights soak tools clean bench
+.PHONY: run test check lib install first two_ponds hill network page browser fmt definitions vectors outside counted compare planted nights soak tools clean bench
 
 # What is not proved yet is proved first, and told crate by crate (tools/prove). The three programs of bin/ are then built too.
 run: tools
@@ -58,6 +58,18 @@ network: tools
 	@mkdir -p target/examples
 	@$(C) examples/radio.c target/libgauge.a -o target/examples/radio
 	@tools/network.py tools/run target/examples/radio
+
+# The night that the hill leaves, as a page: target/hill.html.
+page: hill
+	@echo
+	@bin/page --to target/hill.html target/hill.trace target/hill.names
+	@echo 'target/hill.html is the page of pond 34'"'"'s night'
+
+# That page, and those of an empty, a bad and a very long night, opened and clicked in Debian's chromium; pictures are left in target/page. No test of the
+# gate.
+browser: page
+	@tools/install browser
+	@tests/outside/browser.py target/hill.html
 
 fmt:
 	@rt fmt

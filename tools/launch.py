@@ -1,5 +1,5 @@
-"""Runs a program of the house as a keeper does: bin/replay, bin/shown, bin/ponds, bin/convert, bin/why, bin/nights, bin/asked and bin/changes all
-come here.
+"""Runs a program of the house as a keeper does: bin/replay, bin/shown, bin/ponds, bin/convert, bin/why, bin/nights, bin/asked, bin/changes and
+bin/page all come here.
 
     launch NAME [WORDS..]
 
@@ -15,7 +15,7 @@ launcher, which so sees what can't be read or written, and gives a status, as a 
 
 It goes by the lines that the program writes (WATCHERS) and by what comes on descriptor 2. Names are made ready here (tools/names.py). A conversion of
 saved memory changes files, which tools/conversion.py does. Nights are joined by tools/nights.py, without a program. What the nights of several gauges have
-of one pond is put together by tools/asked.py.
+of one pond is put together by tools/asked.py. A page of a night is made by tools/page of the lines of bin/shown --plain.
 """
 import hashlib
 import os
@@ -33,6 +33,8 @@ import conversion
 import layers
 import names
 import nights
+import page
+import page.facts
 
 ROOT = os.path.join(os.path.dirname(os.path.realpath(__file__)), "..")
 PIECE = 65536
@@ -140,6 +142,18 @@ AFTER    the second, of the same length
 
 %s
 """ % (NAMES, STATUS % ("where the two were compared", "for memory that is not in form, or caches of unequal length")),
+    "page": """bin/page [--to PAGE] NIGHT [NAMES]
+
+Makes a page of a recorded night, one HTML file with nothing from elsewhere: the ring of keys with the ponds at their places, the line of time, each
+record with its answer, each LOOKUP with the record named and the reason, each pond with its story. Its numbers are those of bin/shown --plain.
+
+PAGE    the file of the page; standard output where it is left out
+NIGHT   %s; standard input where it is -. Hours are read from the file beside it,
+        as bin/shown does
+%s
+
+%s
+""" % (NIGHT, NAMES, STATUS % ("for a whole night", "for one of which bin/shown --plain tells that it is not: its page is made all the same")),
 }
 MOST_WORDS = {"replay": 1, "shown": 3, "ponds": 2, "convert": 3, "why": 1, "changes": 4}
 PROGRAMS = {"changes": "overnight"}  # what is run under another name
@@ -491,6 +505,31 @@ def joined(words):
     return 0
 
 
+def paged(words):
+    """A night as a page, by tools/page, of the lines that bin/shown --plain writes."""
+    try:
+        night, of_ponds, to = page.words_of(words)
+    except page.Wrong as wrong:
+        raise Fault("%s\n%s" % (wrong, HELP["page"].split("\n")[0]))
+    if to is None and os.isatty(1):
+        raise Fault("a page is nothing for a terminal: give --to PAGE")
+    text = ready_names(of_ponds, "page") if of_ponds else b""
+    shown = subprocess.Popen([sys.executable, os.path.realpath(__file__), "shown", "--plain", night], stdout=subprocess.PIPE)
+    try:
+        with page.kept(shown.stdout) as lines:
+            status = shown.wait()
+            if status not in (0, 1):  # it has told why
+                return 2
+            pieces = page.pieces(lines, page.names_of(text), night)
+            if to is None:
+                put_pieces(pieces)
+            else:
+                page.to_file(to, pieces)
+    except (page.Wrong, page.facts.Wrong) as wrong:
+        raise Fault(wrong)
+    return status
+
+
 def put_pieces(pieces):
     """All to standard output."""
     try:
@@ -524,6 +563,8 @@ def main(name, words):
         return joined(words)
     if name == "asked":
         return asked_of(words)
+    if name == "page":
+        return paged(words)
     program = PROGRAMS.get(name, name)
     if name == "shown" and words[:1] == ["--plain"]:  # its words are TRACE and HOURS: no names are told
         program, words = "told", words[1:2] + (["-"] + words[2:] if len(words) > 2 else [])

@@ -332,22 +332,29 @@ static bool is_good(const struct saved *s)
     return gauge_lent_convert(&lent).number == GAUGE_OK;
 }
 
-/* The saved cache is taken, where there is one and it is good; else nothing is held. */
-static void restore(void)
+/* What the file `cache` has, where that is all of it and good; else nothing is held. */
+static bool take_saved(void)
 {
     char path[PATH_MOST];
     struct saved s;
     path_of(path, "cache", "");
     FILE *f = fopen(path, "rb");
-    if (f == NULL && errno == ENOENT)
-        return;
-    bool whole = f != NULL && fread(&s, 1, sizeof s, f) == sizeof s && getc(f) == EOF;
-    if (f != NULL)
-        fclose(f);
+    if (f == NULL)
+        return errno == ENOENT;
+    bool whole = fread(&s, 1, sizeof s, f) == sizeof s && getc(f) == EOF;
+    fclose(f);
     if (whole && is_good(&s))
-        return;
-    printf("the saved cache is damaged, and is not used\n");
+        return true;
     memset(cache, 0, sizeof cache);
+    return false;
+}
+
+/* We go on with what was saved. The firsts are not: they are counted afresh, so that they belong to the cache. */
+static void restore(void)
+{
+    if (!take_saved())
+        printf("the saved cache is damaged, and is not used\n");
+    gauge_firsts_count(cache, sizeof cache, lent.firsts);
 }
 
 /* What comes in. */

@@ -39,10 +39,10 @@ import re
 import subprocess
 
 import asked_words
+import names
+import plain
 
 USE = "bin/asked [--all | --plain] POND NAMES NIGHT.."
-NOBODY = "0" * 36           # the endpoint of a tick
-LAST_HOUR = 253402300800000  # milliseconds up to the year 9999; what is not below it is no hour
 Moment = collections.namedtuple("Moment", "night record second ms endpoint")
 Fact = collections.namedtuple("Fact", "word moment values")
 Exchange = collections.namedtuple("Exchange", "night record inquiry authority")
@@ -53,28 +53,6 @@ class Wrong(Exception):
 
 
 # --- What the nights have ----------------------------------------------------------------------------------------------------
-
-class Record:
-    """A record of a night with the facts behind it, by their first words."""
-
-    def __init__(self, words):
-        self.number, self.second, self.answer, self.what = int(words[1]), int(words[2]), words[3:6], words[6:]
-        self.hour, self.facts = None, collections.defaultdict(list)
-
-    @property
-    def taken(self):
-        return self.answer[0] == "0"
-
-    def one(self, word):
-        return self.facts[word][0] if word in self.facts else None
-
-    def ms(self):
-        """The hour, or - where it is not known."""
-        return "-" if self.hour is None or not 0 < int(self.hour[0]) < LAST_HOUR else self.hour[0]
-
-    def endpoint(self):
-        return None if self.hour is None or self.hour[1] == NOBODY else self.hour[1]
-
 
 class Night:
     """One night: what it has of the pond, and who is where."""
@@ -90,32 +68,28 @@ class Night:
         self.inquiries, self.places, self.holding, self.held, self.sides = {}, {}, False, 0, {"below": [], "above": []}
 
     def read(self, lines):
-        record = None
-        for line in lines:
-            words = line.split(" ")
-            if words[0] == "record":
-                self.close(record)
-                record = Record(words)
-            elif words[0] == "opened":
-                self.own = words[3]
-                self.belongings.add(("%04x" % int(words[4]) + words[5], self.own))
-            elif words[0] == "end":
-                self.close(record)
-                self.end = words[1]
-                self.unfit = int(words[3]) if len(words) > 2 else None
-                self.rows = bool(self.rows) or self.unfit is not None
-            elif words[0] == "hour":
-                self.rows = True
-                if record is not None:
-                    record.hour = words[1:]
-            else:
-                record.facts[words[0]].append(words[1:])
-        if self.end is None:
-            raise Wrong("%s: what is told of it does not come to its end" % self.path)
+        try:
+            for item in plain.walked(lines):
+                self.take(item)
+        except plain.Wrong as wrong:
+            raise Wrong("%s: %s" % (self.path, wrong))
 
-    def close(self, record):
-        """A record is told to its end."""
-        if record is None or record.what[0] == "bad":
+    def take(self, item):
+        """A record with its facts, or the words of another line."""
+        if isinstance(item, plain.Record):
+            self.record(item)
+        elif item[0] == "opened":
+            self.own = item[3]
+            self.belongings.add(("%04x" % int(item[4]) + item[5], self.own))
+        elif item[0] == "hour":
+            self.rows = True
+        else:
+            self.end, self.unfit = item[1], plain.unfit_of(item)
+            self.rows = bool(self.rows) or self.unfit is not None
+
+    def record(self, record):
+        self.rows = self.rows or record.hour is not None
+        if record.is_bad():
             return
         self.calls += 1
         self.seconds = record.second
@@ -127,27 +101,28 @@ class Night:
     def compare(self, record):
         if record.hour is None:
             return
-        if record.ms() != "-":
+        if record.ms() is not None:
             self.hours.append(record.ms())
         self.compared += 1
-        if record.hour[2:] != record.answer:
+        if record.is_other():
             self.differing += 1
             self.first_differing = self.first_differing or record.number
 
     def move(self, record):
         """What the gauge holds, lists and waits for behind the record."""
-        self.holding = (self.holding or [self.pond] in record.facts["joined"]) and [self.pond] not in record.facts["left"]
+        self.holding = (self.holding or [self.pond] in record.of("joined")) and [self.pond] not in record.of("left")
         for side in self.sides:
-            self.sides[side] = record.one(side) if side in record.facts else self.sides[side]
-        if "held" in record.facts:
-            self.held = int(record.one("held")[0])
-        for kind, identity, *key in record.facts["sent"]:
+            changed = record.one(side)
+            self.sides[side] = self.sides[side] if changed is None else changed
+        for count, in record.of("held"):
+            self.held = int(count)
+        for kind, identity, *key in record.of("sent"):
             if kind in ("INQUIRE", "FLOOD") and key == [self.pond]:
                 self.places[identity] = kind
-        for identity, _, key in record.facts["gaveup"] + record.facts["freed"]:
+        for identity, _, key in record.of("gaveup") + record.of("freed"):
             if key == self.pond:
                 del self.places[identity]
-        for key, identity, *_ in record.facts["answered"]:
+        for key, identity, *_ in record.of("answered"):
             if key == self.pond:
                 del self.places[identity]
 
@@ -161,11 +136,11 @@ class Night:
         return [str(self.held), "none", "0"]
 
     def tell(self, record, word, *values):
-        moment = Moment(self.number, record.number, record.second, record.ms(), record.endpoint() or "-")
+        moment = Moment(self.number, record.number, record.second, record.ms() or "-", record.endpoint() or "-")
         self.facts.append(Fact(word, moment, [str(v) for v in values]))
 
     def left(self, record, *why):
-        if [self.pond] in record.facts["left"]:
+        if [self.pond] in record.of("left"):
             self.tell(record, "left", self.held, *why)
 
     def tell_receive(self, record, was_held):
@@ -175,7 +150,7 @@ class Night:
         tell = {"FLOOD": self.revocation, "INQUIRE": self.proof, "AUTHORITY": self.authority, "ACK": self.ack, "LOOKUP": self.lookup}
         if record.what[1] in tell:
             tell[record.what[1]](record, record.what[2], was_held)
-        for kind, identity, *key in record.facts["sent"]:
+        for kind, identity, *key in record.of("sent"):
             if kind == "INQUIRE":
                 self.inquiries[identity] = key[0]
                 if key == [self.pond]:
@@ -185,7 +160,7 @@ class Night:
         if record.one("revoking") != [self.pond]:
             return
         self.tell(record, "revoked", identity, record.answer[0])
-        for freed, kind, key in record.facts["freed"]:
+        for freed, kind, key in record.of("freed"):
             if (kind, key) == ("INQUIRE", self.pond):
                 self.tell(record, "freed", freed)
         self.left(record, "revoked")
@@ -209,13 +184,13 @@ class Night:
         self.left(record, "dropped", key)
 
     def ack(self, record, _, __):
-        for flood, kind, key in record.facts["freed"]:
+        for flood, kind, key in record.of("freed"):
             if (kind, key) == ("FLOOD", self.pond):
                 self.tell(record, "acked", flood)
                 self.left(record, "denied", flood)
 
     def lookup(self, record, identity, _):
-        if "named" not in record.facts:
+        if not record.of("named"):
             return
         key, port, address, *why = record.one("named")
         target = record.one("for")[0]
@@ -235,10 +210,10 @@ class Night:
             self.tell(record, "flooded", identity)
 
     def tell_tick(self, record, _):
-        for identity, kind, key in record.facts["again"]:
+        for identity, kind, key in record.of("again"):
             if (kind, key) == ("INQUIRE", self.pond):
                 self.tell(record, "again", identity, kind)
-        for identity, kind, key in record.facts["gaveup"]:
+        for identity, kind, key in record.of("gaveup"):
             if key == self.pond:
                 self.tell(record, "gaveup", identity, kind)
 
@@ -308,15 +283,10 @@ class Asked:
 
 # --- The question ------------------------------------------------------------------------------------------------------------
 
-def names_in(text):
-    """Keys and names: a line each, made ready by tools/names.py."""
-    return {line[:64]: line[65:] for line in text.decode().split("\n") if line}
-
-
-def pond_of(word, names):
+def pond_of(word, known):
     """The key that is meant: by a name, by a whole key, or by how one key among the names begins."""
     for fold in (str, str.casefold):
-        found = [key for key, name in names.items() if fold(name) == fold(word)]
+        found = [key for key, name in known.items() if fold(name) == fold(word)]
         if len(found) > 1:
             raise Wrong("%d ponds have the name %s: give the key, or how it begins" % (len(found), word))
         if found:
@@ -325,7 +295,7 @@ def pond_of(word, names):
         return word.lower()
     if not re.fullmatch("[0-9A-Fa-f]{1,63}", word):
         raise Wrong("no pond in the names is called %s" % word)
-    found = [key for key in names if key.startswith(word.lower())]
+    found = [key for key in known if key.startswith(word.lower())]
     if len(found) != 1:
         raise Wrong("%s is no pond's name, and %s among the names begins so: give the whole key" % (word, "no key" if not found else "more than one key"))
     return found[0]
@@ -345,7 +315,7 @@ def told(root, path):
         raise Wrong("%s can't be read: %s" % (path, error.strerror))
     if run.returncode or run.stderr:
         raise Wrong("%s is not told to its end: %s" % (path, run.stderr.decode(errors="replace").strip() or "status %d" % run.returncode))
-    return run.stdout.decode().splitlines()
+    return run.stdout.decode().splitlines(keepends=True)
 
 
 def nights_of(pond, paths, told_of):
@@ -377,11 +347,11 @@ def answer(words, root, made, ready, put):
     for path in paths:
         if path == "-" or [os.path.realpath(p) for p in paths].count(os.path.realpath(path)) > 1:
             raise Wrong("each night is a file of its own" if path == "-" else "%s is given twice" % path)
-    names = {} if named == "-" else names_in(ready(named))
-    pond = pond_of(word, names)
+    known = {} if named == "-" else names.by_key(ready(named))
+    pond = pond_of(word, known)
     whole = {path: os.path.abspath(path) for path in paths}
     made()
     asked = Asked(pond, nights_of(pond, paths, lambda path: told(root, whole[path])))
-    lines = asked.plain() if option == "--plain" else asked_words.Words(asked, names, option == "--all").lines()
+    lines = asked.plain() if option == "--plain" else asked_words.Words(asked, known, option == "--all").lines()
     put((line + "\n").encode() for line in lines)
     return int(not all(night.is_sound() for night in asked.nights))

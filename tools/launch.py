@@ -34,7 +34,7 @@ import layers
 import names
 import nights
 import page
-import page.facts
+import plain
 
 ROOT = os.path.join(os.path.dirname(os.path.realpath(__file__)), "..")
 PIECE = 65536
@@ -520,12 +520,12 @@ def paged(words):
             status = shown.wait()
             if status not in (0, 1):  # it has told why
                 return 2
-            pieces = page.pieces(lines, page.names_of(text), night)
+            pieces = page.pieces(lines, names.by_key(text), night)
             if to is None:
                 put_pieces(pieces)
             else:
                 page.to_file(to, pieces)
-    except (page.Wrong, page.facts.Wrong) as wrong:
+    except (page.Wrong, plain.Wrong) as wrong:
         raise Fault(wrong)
     return status
 

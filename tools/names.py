@@ -110,3 +110,8 @@ def ready(descriptor, path, program, keyed):
         lines.append(line)
     words.end()
     return b"".join(lines)
+
+
+def by_key(text):
+    """The names of a keyed text that is ready, by their keys."""
+    return {line[:64]: line[65:] for line in text.decode().split("\n") if line}

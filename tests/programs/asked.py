@@ -88,7 +88,7 @@ def names_in(folder):
 
 def keys_in(path):
     """Keys that a night has much to say of: the own one, those told of most often, and some that left the cache or never got into it."""
-    words = [line.split(" ") for line in lines_of(path)]
+    words = [line.rstrip("\n").split(" ") for line in lines_of(path)]
     often = collections.Counter(key for line in words for key in line if len(key) == 64)
     by_word = {word: [line[1] for line in words if line[0] == word] for word in ("left", "joined", "answered")}
     unkept = [key for key in by_word["answered"] if key not in by_word["joined"]]
@@ -203,7 +203,7 @@ BUGS = (
     ("asked", 'if (kind, key) == ("FLOOD", self.pond):', 'if kind == "FLOOD":'),
     ("asked", "        elif target == self.pond:\n", "        elif target == self.own:\n"),
     ("asked", 'if key == self.pond:\n            self.tell(record, "named"', 'if target == self.pond:\n            self.tell(record, "named"'),
-    ("asked", "if record.hour[2:] != record.answer:", "if record.hour[2] != record.answer[0]:"),
+    ("asked", "if record.is_other():", "if record.hour.answer[0] != record.answer[0]:"),
     ("asked", "self.first_differing = self.first_differing or record.number", "self.first_differing = record.number"),
     ("asked", 'self.left(record, "dropped", key)', 'self.left(record, "dropped", self.pond)'),
     ("asked", "self.belongings.add((record.endpoint(), neighbour))", "self.belongings.add((record.endpoint(), self.own))"),

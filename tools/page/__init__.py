@@ -10,13 +10,17 @@ import os
 import shutil
 import tempfile
 
+import plain
+import replaced
+
 from . import drawn, limits
 from .drawn import escaped
-from .facts import Night, walked
+from .facts import Night
 from .records import Records
 from .stories import Stories
 from .words import balance, count, measured, meaning, endpoint, place_of, reading, some, terms, utc
 
+DAY = "%Y-%m-%d %H:%M:%S"
 HERE = os.path.dirname(os.path.realpath(__file__))
 ENDS = {
     "whole": (False, "This night is whole."),
@@ -54,15 +58,15 @@ class Page(Records, Stories):
         return "<header><h1>%s</h1>%s%s%s%s</header>" % (escaped(self.title()), lead, self.verdict(), self.figures(), self.nav())
 
     def hours(self):
-        known = [ms for ms in self.night.hours if ms]
-        return "<br>%s to %s UTC" % (utc(known[0], "%Y-%m-%d %H:%M:%S"), utc(known[-1], "%Y-%m-%d %H:%M:%S")) if known else ""
+        first, last = self.night.first_hour, self.night.last_hour
+        return "<br>%s to %s UTC" % (utc(first, DAY), utc(last, DAY)) if first else ""
 
     def verdict(self):
         bad, words = ENDS[self.night.end]
         other = self.others()
-        bad = bad or other[0] or self.night.rows is not None
-        if self.night.rows is not None:
-            other = other[0], other[1] + " The second file does not fit: it has %s, which is not one for each record." % some(self.night.rows, "row")
+        bad = bad or other[0] or self.night.unfit is not None
+        if self.night.unfit is not None:
+            other = other[0], other[1] + " The second file does not fit: it has %s, which is not one for each record." % some(self.night.unfit, "row")
         return '<p class="verdict%s">%s%s</p>' % (" bad" if bad else "", words, other[1])
 
     def others(self):
@@ -74,7 +78,7 @@ class Page(Records, Stories):
             return False, " Each answer, made again, is the one that was given that night."
         shown = night.others.first + list(night.others.last)
         return True, " %s not the one that was given that night: record %s%s." % (
-            "One answer is" if night.others.count == 1 else "%s answers are" % count(night.others.count), ", ".join(str(n) for n, *_ in shown),
+            "One answer is" if night.others.count == 1 else "%s answers are" % count(night.others.count), ", ".join(map(str, shown)),
             " and %s more" % count(night.others.left_out()) if night.others.left_out() else "")
 
     def figures(self):
@@ -152,9 +156,8 @@ class Page(Records, Stories):
                 ("Its distance", '<span class="key">%s</span>' % escaped(l["distance"]))]
         if l["other"]:
             rows.append(("The other’s", '<span class="key">%s</span>' % escaped(l["other"][1])))
-        asker = endpoint(l["hour"][1]) if l["hour"] else ""
         return '<div class="lookup"><p><b>LOOKUP %s</b>, %s%s</p>%s</div>' % (
-            escaped(l["id"]), self.when(l["record"], l["second"]), " from " + asker if asker else "", terms(rows))
+            escaped(l["id"]), self.when(*l["when"]), " from " + endpoint(l["asker"]) if l["asker"] else "", terms(rows))
 
     def gone(self):
         lefts = self.night.lefts
@@ -218,11 +221,6 @@ def sum_of(text):
     return "sha256-" + base64.b64encode(hashlib.sha256(text.encode()).digest()).decode()
 
 
-def names_of(text):
-    """Names by keys, of the text that tools/names.py makes ready."""
-    return dict(line.split(" ", 1) for line in text.decode().split("\n") if line)
-
-
 def pieces(lines, names, title):
     """The page, by pieces, of plain lines: a file that can be read from its begin again. `title` is how the keeper calls the night."""
     lines.seek(0)
@@ -230,7 +228,7 @@ def pieces(lines, names, title):
 
     def again():
         lines.seek(0)
-        return walked(lines)
+        return plain.walked(lines)
 
     return (piece.encode() for piece in Page(night, again, names, title).pieces())
 
@@ -267,15 +265,7 @@ def words_of(words):
 
 def to_file(path, content):
     """Beside its place first: what stands there stays until the page is whole."""
-    place = os.path.realpath(path)
-    beside = place + ".making"
     try:
-        with open(beside, "wb") as file:
-            for piece in content:
-                file.write(piece)
-        os.replace(beside, place)
+        replaced.replace([(os.path.realpath(path), content)], ".making")
     except OSError as error:
         raise Wrong("%s can't be written: %s" % (path, error.strerror))
-    finally:
-        if os.path.exists(beside):
-            os.unlink(beside)

@@ -1,5 +1,7 @@
 """The line of time on a night's page: the drawing, and below it each record, in folds."""
-from . import drawn, facts, limits
+import plain
+
+from . import drawn, limits
 from .drawn import escaped
 from .words import Whose, count, endpoint, meaning, reading, some, utc
 
@@ -37,10 +39,10 @@ class Records(Whose):
             fold = folds.setdefault(second // unit, [0, 0])
             fold[0] += counts["records"]
             fold[1] += counts["refused"]
-        most = night.calls if night.calls <= limits.MOST_ROWS else max(1, limits.MOST_ROWS // max(1, len(folds)))
+        most = night.records if night.records <= limits.MOST_ROWS else max(1, limits.MOST_ROWS // max(1, len(folds)))
         at, written = None, 0
         for r in self.again():
-            if not isinstance(r, facts.Record):
+            if not isinstance(r, plain.Record):
                 continue
             if r.second // unit != at:
                 if at is not None:
@@ -48,7 +50,7 @@ class Records(Whose):
                 at, written = r.second // unit, 0
                 yield self.fold_begin(at, unit, *folds[at])
             elif written and written < most and written % limits.FOLD_ROWS == 0:
-                yield self.fold_end(0) + '<details class="fold on"><summary>.. from record %d on</summary>%s' % (r.n, self.table_begin())
+                yield self.fold_end(0) + '<details class="fold on"><summary>.. from record %d on</summary>%s' % (r.number, self.table_begin())
             if written < most:
                 written += 1
                 yield self.row(r)
@@ -70,14 +72,13 @@ class Records(Whose):
         return "</tbody></table>%s</div></details>" % self.more(left_out, "more record of this stretch", "more records of this stretch")
 
     def row(self, r):
-        hour, small = r.hour(), self.done(r)
-        when = utc(hour[0]) if hour and hour[0] else "%d s" % r.second
-        who = endpoint(hour[1]) if hour else ""
-        what = self.what(r) + (" %s %s" % ("to" if r.what[0] == "send" else "from", who) if who else "")
-        answer = "0 accepted" if r.number == 0 else '<span class="refusal">%d %s</span>' % (r.number, escaped(meaning(r.number)))
-        if hour and hour[2] != r.answer():
-            answer += "<small>another than that night’s, %d with %d and %d bytes</small>" % hour[2]
-        return '<tr><td class="no">%d<td class="no">%s<td>%s%s<td>%s' % (r.n, when, what, "<small>%s</small>" % small if small else "", answer)
+        small, who = self.done(r), r.endpoint()
+        when = utc(r.ms()) if r.ms() else "%d s" % r.second
+        what = self.what(r) + (" %s %s" % ("to" if r.what[0] == "send" else "from", endpoint(who)) if who else "")
+        answer = "0 accepted" if r.taken else '<span class="refusal">%s %s</span>' % (r.answer[0], escaped(meaning(int(r.answer[0]))))
+        if r.is_other():
+            answer += "<small>another than that night’s, %s with %s and %s bytes</small>" % tuple(map(escaped, r.hour.answer))
+        return '<tr><td class="no">%d<td class="no">%s<td>%s%s<td>%s' % (r.number, when, what, "<small>%s</small>" % small if small else "", answer)
 
     def what(self, r):
         kind = r.what[0]
@@ -86,7 +87,7 @@ class Records(Whose):
         if kind == "bad":
             return "a record that can’t be used"
         if kind == "send":
-            word = "FLOOD" if r.number == 0 else "not sent: FLOOD"
+            word = "FLOOD" if r.taken else "not sent: FLOOD"
             return "%s %s to %s about %s" % (word, escaped(r.what[1]), self.whose(r.what[2]), self.whose(r.what[3]))
         said = {"part": "a part of an AUTHORITY", "unread": "what can’t be read"}.get(r.what[1], "%s %s" % (escaped(r.what[1]), escaped(r.what[2])))
         of = {"about": lambda key: " about " + self.whose(key), "for": lambda key: " for " + self.whose(key),

@@ -37,15 +37,13 @@ def place_of(port, address):
 
 
 def endpoint(digits):
-    """Of 36 digits; empty for nobody."""
-    return place_of(int(digits[:4], 16), digits[4:]) if digits.strip("0") else ""
+    """Of 36 digits."""
+    return place_of(int(digits[:4], 16), digits[4:])
 
 
 def utc(ms, form="%H:%M:%S"):
-    try:
-        return (datetime.datetime(1970, 1, 1) + datetime.timedelta(milliseconds=ms)).strftime(form)
-    except OverflowError:
-        return "an hour beyond the calendar"
+    """Of an hour that is known (tools/plain.py)."""
+    return (datetime.datetime(1970, 1, 1) + datetime.timedelta(milliseconds=ms)).strftime(form)
 
 
 # --- Readings ----------------------------------------------------------------------------------------------------------------

@@ -84,12 +84,12 @@ class Page(Records, Stories):
     def figures(self):
         night = self.night
         rows = (("calls", night.calls), ("received", night.kinds["receive"]), ("FLOODs to send", night.kinds["send"]), ("ticks", night.kinds["tick"]),
-                ("accepted", night.answers[0]), ("refused", night.refused()), ("LOOKUPs", night.lookup_count),
+                ("accepted", night.answers[0]), ("refused", night.refusals.count), ("LOOKUPs", night.lookup_count),
                 ("ponds heard of", len(night.ponds) - 1 if night.own else 0), ("held at the end", night.held))
         return '<dl class="figures">%s</dl>' % "".join("<div><dt>%s</dt><dd>%s</dd></div>" % (word, count(n)) for word, n in rows)
 
     def nav(self):
-        parts = (("ring", "The ring"), ("time", "Line of time"), ("answers", "Answers"), ("lookups", "LOOKUPs"), ("gone", "Dropped or removed"),
+        parts = (("ring", "The ring"), ("time", "Line of time"), ("answers", "Answers and refusals"), ("lookups", "LOOKUPs"), ("gone", "Dropped or removed"),
                  ("water", "Water"), ("ponds", "Ponds"))
         there = [part for part in parts if self.told or part[0] not in ("ring", "ponds")]
         return "<nav>%s</nav>" % " ".join('<a href="#%s">%s</a>' % part for part in there)
@@ -131,7 +131,8 @@ class Page(Records, Stories):
         rows = "".join('<tr class="answer"><td class="r">%d<td>%s<td class="r">%s' % (number, escaped(meaning(number)), count(n))
                        for number, n in sorted(self.night.answers.items()))
         table = '<table class="numbers"><thead><tr><th class="r">Number<th>What it means<th class="r">How often</thead><tbody>%s</tbody></table>' % rows
-        return '<section id="answers"><h2>The answers</h2>%s</section>' % (table if rows else "<p>No call, no answer.</p>")
+        return '<section id="answers"><h2>The answers, and what was refused</h2>%s%s</section>' % (
+            table if rows else "<p>No call, no answer.</p>", self.refusals())
 
     def lookups(self):
         night = self.night

@@ -54,6 +54,7 @@ class Night:
         self.answers, self.kinds, self.ponds = collections.Counter(), collections.Counter(), {}
         self.below, self.above, self.changes, self.lefts = [], [], Events(limits.FEW_CHANGES), Events(limits.FEW_CHANGES)
         self.lookups, self.lookup_count = [], 0
+        self.refusals = Events(limits.FEW_REFUSED)
         self.first_hour = self.last_hour = None
         self.hour_at, self.with_rows, self.others = {}, 0, Events(limits.FEW_OTHERS)
         self.by_second = collections.defaultdict(collections.Counter)
@@ -89,7 +90,9 @@ class Night:
         second = self.by_second[r.second]
         second["records"] += 1
         second[{"receive": "received"}.get(r.what[0], r.what[0])] += 1
-        second["refused"] += not r.taken and not r.is_bad()
+        if not r.taken and not r.is_bad():
+            second["refused"] += 1
+            self.refusals.add(r)
         self.compared(r)
         if r.what[0] == "send":
             self.pond(r.what[2]).counts["to"] += r.taken
@@ -209,12 +212,6 @@ class Night:
                                  "distance": distance, "reason": reason, "other": other, "asker": r.endpoint()})
 
     # --- What it comes to ----------------------------------------------------------------------------------------------------
-
-    def refused(self):
-        return sum(n for number, n in self.answers.items() if number not in (0, 16, 17))
-
-    def total(self, word):
-        return sum(second[word] for second in self.by_second.values())
 
     def state(self, pond):
         """What a pond was at the end: a word for its mark, and which place it had on its side."""

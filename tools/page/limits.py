@@ -7,6 +7,7 @@ MOST_LOOKUPS = 500
 OPEN_LOOKUPS = 20     # of these so many are not folded
 FEW_EVENTS = 30       # events of a pond's story, at its begin and at its end
 FEW_CHANGES = 100     # of the neighbour lists, and ponds that were dropped or removed, likewise
+FEW_REFUSED = 100     # records that were refused, likewise
 FEW_OTHERS = 10       # answers that are others than that night's, likewise
 FOLDS = 24            # stretches of time at most
 FOLD_ROWS = 600       # records in a fold

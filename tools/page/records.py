@@ -64,12 +64,24 @@ class Records(Whose):
         return '<details class="fold"><summary>%s%s: %s%s</summary>%s' % (
             words, ", from %s" % hour if hour else "", some(records, "record"), ", %s refused" % count(refused) if refused else "", self.table_begin())
 
-    def table_begin(self):
-        return '<div class="in"><table class="records"><thead><tr><th>Record<th>%s<th>What it was<th>Answer</thead><tbody>' % (
-            "Hour" if self.night.with_rows else "Second")
+    def refusals(self):
+        """The records that were refused, by themselves, each with the reason."""
+        refused = self.night.refusals
+        if not refused.count:
+            return ""
+        return '<details class="printed"><summary>What was refused, each with its reason: %s</summary>%s%s%s' % (
+            some(refused.count, "record"), self.table_begin("refusals"), "".join(map(self.row, refused.first + list(refused.last))),
+            self.table_end(refused.left_out(), "refused record in the middle", "refused records in the middle"))
+
+    def table_begin(self, name="records"):
+        return '<div class="in"><table class="rows %s"><thead><tr><th>Record<th>%s<th>What it was<th>Answer</thead><tbody>' % (
+            name, "Hour" if self.night.with_rows else "Second")
+
+    def table_end(self, left_out, one, more):
+        return "</tbody></table>%s</div></details>" % self.more(left_out, one, more)
 
     def fold_end(self, left_out):
-        return "</tbody></table>%s</div></details>" % self.more(left_out, "more record of this stretch", "more records of this stretch")
+        return self.table_end(left_out, "more record of this stretch", "more records of this stretch")
 
     def row(self, r):
         small, who = self.done(r), r.endpoint()

@@ -1,7 +1,8 @@
 """What tools/asked.py has found out about a pond, in sentences for a keeper and an auditor. Each tells where it stands: night, record, second, hour."""
 import collections
 import datetime
-import struct
+
+import plain
 
 WHY_REFUSED = {"8": "it came too late: no inquiry waited for it any more", "9": "its proof was missing, or not judged good",
                "10": "its proof was judged good for another key"}
@@ -142,7 +143,7 @@ class Words:
             return "What it carries is no reading: %s." % NO_READING.get(values[0], "number " + values[0])
         measure = "fault " + values[0]
         if kind == "depth":  # to the millimetre, as bin/ponds has it
-            measure = "depth %.3f m" % abs(struct.unpack("<f", struct.pack("<I", int(values[0])))[0])
+            measure = "depth " + plain.metres(values[0])
         return "Its reading: %s, %s litres in, %s out." % (measure, values[1], values[2])
 
     def proof(self, fact):

@@ -1,6 +1,8 @@
 """The plain lines of a night, which the program `told` writes (bin/shown --plain), read record by record. bin/asked and bin/page read a night so, and no
 trace.
 """
+import struct
+
 # Each word that a line begins with, and how many stand behind it at least and at most.
 WORDS = {"opened": (5, 5), "record": (6, 9), "hour": (5, 5), "about": (1, 1), "for": (1, 1), "revoking": (1, 1), "answers": (1, 1), "named": (5, 7),
          "answered": (5, 5), "reading": (2, 4), "sent": (2, 3), "again": (3, 3), "gaveup": (3, 3), "freed": (3, 3), "joined": (1, 1), "left": (1, 1),
@@ -102,3 +104,8 @@ def walked(lines):
 def unfit_of(end):
     """Of the words of the last line: how many rows a second file has that does not fit; None where it fits, or there is none."""
     return int(end[3]) if len(end) > 3 else None
+
+
+def metres(bits):
+    """A depth, by the bits that a line has of it: to the millimetre, as bin/ponds shows it."""
+    return "%.3f m" % abs(struct.unpack("<f", struct.pack("<I", int(bits)))[0])

@@ -1,7 +1,8 @@
 """Words of a night's page for what has numbers there: answers, readings, hours, places; and whose a key is. All that is not ours is escaped here."""
 import datetime
 import ipaddress
-import struct
+
+import plain
 
 from .drawn import escaped
 
@@ -52,7 +53,7 @@ def measured(words):
     """Depth or fault."""
     if words[0] == "fault":
         return "fault %s" % words[1]
-    return "%.3f m" % abs(struct.unpack("<f", struct.pack("<I", int(words[1])))[0])
+    return plain.metres(words[1])
 
 
 def balance(words):

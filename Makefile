@@ -1,6 +1,6 @@
 # Two commands: `make run` shows what happens on the hill, the night recorded there, and what the gauge's functions make of fixed vectors; `make test` is
 # all that the gate runs.
-.PHONY: run test check lib install first two_ponds hill network page browser fmt definitions vectors outside counted compare planted nights soak tools clean bench
+.PHONY: run test check lib install first two_ponds hill network page browser fmt definitions vectors outside captured counted compare planted nights soak tools clean bench
 
 # What is not proved yet is proved first, and told crate by crate (tools/prove). The three programs of bin/ are then built too.
 run: tools
@@ -86,6 +86,11 @@ vectors:
 outside:
 	@tools/install outside
 	@tests/outside/wireshark.py
+
+# What a few gauges send one another on real sockets, captured and shown to Wireshark likewise; the capture is left. A test of the gate, where tshark is.
+captured: tools
+	@tools/install outside
+	@tests/outside/captured
 
 # Executed instructions of form and closest against plain C (docs/landings/03-memory.md). A test of the gate.
 counted:

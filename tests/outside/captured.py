@@ -16,6 +16,7 @@ import socket
 import struct
 import sys
 import threading
+import time
 
 sys.dont_write_bytecode = True
 HERE = os.path.dirname(os.path.abspath(__file__))
@@ -35,7 +36,7 @@ KINDS = {4: "FLOOD", 7: "INQUIRE", 8: "AUTHORITY", 9: "ACK"}  # what radio.c sen
 
 
 class Capture(threading.Thread):
-    """The packets with UDP for some ports, until it is ended."""
+    """The packets with UDP for some ports, until it is ended: of each the hour, in seconds, and its bytes."""
 
     def __init__(self):
         super().__init__(daemon=True)
@@ -50,13 +51,13 @@ class Capture(threading.Thread):
             with contextlib.suppress(TimeoutError):
                 packet, place = self.socket.recvfrom(65536)
                 if place[2] != OUTGOING and packet[6] == UDP:  # each packet is seen as it goes and as it comes
-                    self.packets.append(packet)
+                    self.packets.append((time.time(), packet))
 
     def ended(self, ports):
         self.going = False
         self.join()
         self.socket.close()
-        return [p for p in self.packets if struct.unpack_from(">H", p, 42)[0] in ports]
+        return [(hour, p) for hour, p in self.packets if struct.unpack_from(">H", p, 42)[0] in ports]
 
 
 def begun_capture():
@@ -69,7 +70,7 @@ def begun_capture():
 
 
 def night(folder):
-    """The datagrams that a gauge has recorded: each as a packet, as it must have come."""
+    """The datagrams that a gauge has recorded: of each the hour, and a packet, as it must have come."""
     (path,) = glob.glob(os.path.join(folder, "night-*.trace"))
     with open(path, "rb") as f, open(path[:-5] + "hours", "rb") as h, open(os.path.join(folder, "own"), encoding="ascii") as own:
         trace, hours, port = f.read(), h.read(), int(own.read().split()[2])
@@ -77,8 +78,9 @@ def night(folder):
     while (record := model_night.taken(trace, at)) is not None and ROW * (row + 1) <= len(hours):  # one that was killed may have a part of the last
         kind, body, at = record
         if kind == 1:
-            udp = hours[ROW * row + 8:ROW * row + 10] + struct.pack(">HHH", port, 8 + len(body) - 53, 0xFFFF) + body[53:]
-            yield struct.pack(">IHBB", 6 << 28, len(udp), UDP, 64) + hours[ROW * row + 10:ROW * row + 26] + ADDRESS + udp
+            milliseconds, sender = struct.unpack_from("<Q18s", hours, ROW * row)
+            udp = sender[:2] + struct.pack(">HHH", port, 8 + len(body) - 53, 0xFFFF) + body[53:]
+            yield milliseconds / 1000, struct.pack(">IHBB", 6 << 28, len(udp), UDP, 64) + sender[2:] + ADDRESS + udp
         row += 1
 
 
@@ -87,11 +89,12 @@ def ends(packet):
     return packet[8:44], packet[HEAD:]
 
 
-def written(packets, path):
+def written(timed, path):
+    """A file of packets as Wireshark reads it: microseconds, and IP packets without anything before them."""
     with open(path, "wb") as f:
         f.write(struct.pack("<IHHiIII", 0xA1B2C3D4, 2, 4, 0, 0, 65535, 101))
-        for i, p in enumerate(packets):
-            f.write(struct.pack("<IIII", i, 0, len(p), len(p)) + p)
+        for hour, p in timed:
+            f.write(struct.pack("<IIII", int(hour), int(hour % 1 * 1000000), len(p), len(p)) + p)
 
 
 def by_ours(packets, path, ports):
@@ -128,16 +131,17 @@ def main():
     finally:
         net.kill()
     ports = [g.port for g in net.gauges]
-    recorded = [p for g in net.gauges for p in night(g.folder)]
-    packets = capture.ended(ports) if capture else recorded
-    missed = collections.Counter(map(ends, recorded)) - collections.Counter(map(ends, packets))
+    recorded = sorted(timed for g in net.gauges for timed in night(g.folder))
+    timed = capture.ended(ports) if capture else recorded
+    packets = [p for _, p in timed]
+    missed = collections.Counter(ends(p) for _, p in recorded) - collections.Counter(map(ends, packets))
     if missed:
         sys.exit("captured: %d datagrams that the gauges have recorded were not captured" % sum(missed.values()))
     bad = [p[HEAD:] for p in packets if model.read(p[HEAD:], network.MAJOR)[0]]
     if bad:
         sys.exit("captured: the model refuses %s" % bad[0].hex())
     path = os.path.join(folder, "network.pcap")
-    written(packets, path)
+    written(timed, path)
     ours, theirs = by_ours(packets, path, ports), by_their_own(packets, path, ports)
     kinds = collections.Counter(p[HEAD + 7] for p in packets)
     if set(kinds) != set(KINDS):
@@ -148,6 +152,7 @@ def main():
     print("captured: %d datagrams of %d gauges (%s), %s: under tshark tools/drt.lua reads %d otherwise, Wireshark's own dissector header or type of %d"
           % (len(packets), GAUGES, ", ".join("%d %s" % (n, KINDS[k]) for k, n in sorted(kinds.items())),
              "captured on the loopback" if capture else "as the gauges recorded them, as there is no right to capture here", len(ours), len(theirs)))
+    print("captured: to look at them: wireshark -X lua_script:tools/drt.lua %s" % path)
     sys.exit(1 if ours or theirs else 0)
 
 

@@ -69,7 +69,7 @@ page: hill
 # gate.
 browser: page
 	@tools/install browser
-	@tests/outside/browser.py target/hill.html
+	@tests/outside/browser.py target/hill.html target/hill.trace
 
 fmt:
 	@rt fmt

@@ -1,7 +1,7 @@
 #!/usr/bin/env python3
 """Pages of nights in a real browser, Debian's chromium: `make browser` installs it and runs this; no test of the gate.
 
-    browser.py PAGE     the hill's page, made by bin/page
+    browser.py PAGE TRACE     the hill's page, made by bin/page, and the night that it was made of
 
 In light and dark, on a telephone and on a desk: nothing is wider than the screen, folded or unfolded; a click opens each pond's story, by the list and by
 the ring; the search finds by name and by key; without scripts a link still unfolds what it leads to; printed, all stories are there; the page asks for
@@ -15,7 +15,9 @@ import io
 import os
 import random
 import re
+import subprocess
 import sys
+import time
 
 sys.dont_write_bytecode = True
 HERE = os.path.dirname(os.path.abspath(__file__))
@@ -44,21 +46,6 @@ def key(i):
     return "%064x" % random.Random(i).getrandbits(256)
 
 
-def busy():
-    """Records of every kind about 40 ponds, a tick at each 25th."""
-    for n in range(1, RECORDS + 1):
-        second, pond = n // 25, key(n % 40)
-        if n % 25 == 0:
-            yield "record %d %d 0 1 0 tick\nagain %d INQUIRE %s\n" % (n, second, n, pond)
-        elif n % 25 < 15:
-            yield "record %d %d 0 20 76 receive FLOOD %d 116\nabout %s\nsent ACK %d\nsent INQUIRE %d %s\n" % (n, second, n, pond, n, n + 1, pond)
-        elif n <= 40:
-            yield "record %d %d 0 0 0 receive AUTHORITY %d 61\nanswers %d\nanswered %s %d %d FLOOD %d\n" % (n, second, n, n - 9, pond, n - 9, n - 10, n - 10)
-            yield "reading depth 1094975488 %d 1715\njoined %s\nheld %d\n" % (100 * n, pond, n)
-        else:
-            yield "record %d %d 8 0 0 receive ACK %d 20\nanswers %d\n" % (n, second, n, n)
-
-
 def of_strangers():
     """Each record tells of another pond."""
     for n in range(1, RECORDS + 1):
@@ -69,7 +56,6 @@ NIGHTS = {
     "empty": "record 0 0 17 0 0 bad\nend unopened\n",
     "opening": OWN + "end whole\n",
     "bad": OWN + "record 1 1 0 0 0 tick\nrecord 2 1 16 0 0 bad\nend middle\n",
-    "long": OWN + "".join(busy()) + "end whole\n",
     "strangers": OWN + "".join(of_strangers()) + "end whole\n",
 }
 
@@ -79,6 +65,23 @@ def written(name, lines):
     with page.kept(io.BytesIO(lines.encode())) as file:
         page.to_file(path, page.pieces(file, {key(1): "<b>a name that is as long as one may be &", key(2): "W" * 40}, name + ".trace"))
     return path
+
+
+def long_night(trace):
+    """The calls of a night behind one another, until they are so many: a page of a real trace, made as a keeper makes it."""
+    with open(trace, "rb") as file:
+        data = file.read()
+    opening, calls, at = 2 + int.from_bytes(data[:2], "little"), 0, 0
+    while at < len(data):
+        at, calls = at + 2 + int.from_bytes(data[at:at + 2], "little"), calls + 1
+    path = os.path.join(PICTURES, "long.trace")
+    with open(path, "wb") as file:
+        file.write(data[:opening] + data[opening:] * -(-RECORDS // (calls - 1)))
+    began = time.time()
+    made = subprocess.run(["bin/page", "--to", path + ".html", path, trace[:-5] + "names"], cwd=ROOT).returncode
+    same("the status of bin/page", made, 0)
+    print("browser: bin/page makes the page of a long night in %.1f s" % (time.time() - began))
+    return path + ".html"
 
 
 # --- What is seen --------------------------------------------------------------------------------------------------------------
@@ -114,6 +117,12 @@ def fits(browser, path, name):
         same("labels that are cut off", browser.value(CLIPPED), [])
         same("whether it is dark", browser.value("getComputedStyle(document.body).backgroundColor.match(/\\d+/)[0] < 128"), dark)
         print("browser: %-9s %-14s opens in %.1f s, %s elements" % (name, screen, took, browser.value("document.querySelectorAll('*').length")))
+
+
+def number_of(browser, word):
+    """A figure at the page's head."""
+    return int(browser.value("[...document.querySelectorAll('.figures div')].find(e => e.querySelector('dt').textContent === %r)"
+                             ".querySelector('dd').textContent" % word).replace(",", ""))
 
 
 def clicked(browser, path):
@@ -186,7 +195,7 @@ def printed(browser, path):
 
 def main():
     os.makedirs(PICTURES, exist_ok=True)
-    hill = sys.argv[1]
+    hill, trace = map(os.path.abspath, sys.argv[1:])
     with chromium.Browser() as browser:
         fits(browser, hill, "hill")
         clicked(browser, hill)
@@ -194,6 +203,8 @@ def main():
         without_scripts(browser, hill)
         printed(browser, hill)
         for_the_readme(browser, hill)
+        fits(browser, long_night(trace), "long")
+        same("whether the long night is as long", number_of(browser, "calls") >= RECORDS, True)
         for name, lines in NIGHTS.items():
             fits(browser, written(name, lines), name)
     print("browser: %d things are as they must be; pictures in target/page" % held)

@@ -513,8 +513,14 @@ def paged(words):
         raise Fault("%s\n%s" % (wrong, HELP["page"].split("\n")[0]))
     if to is None and os.isatty(1):
         raise Fault("a page is nothing for a terminal: give --to PAGE")
+    read = [path for path in (night, re.sub(r"\.trace$", ".hours", night), of_ponds) if path and path != "-"]
+    if to is not None and os.path.realpath(to) in map(os.path.realpath, read):
+        raise Fault("%s is read for the page: give another name for the page" % to)
+    if to is not None and os.path.exists(to) and not os.path.isfile(to):
+        raise Fault("%s can't be written: it is no file" % to)
     text = ready_names(of_ponds, "page") if of_ponds else b""
-    shown = subprocess.Popen([sys.executable, os.path.realpath(__file__), "shown", "--plain", night], stdout=subprocess.PIPE)
+    there = "./" + night if night.startswith("-") and night != "-" else night
+    shown = subprocess.Popen([sys.executable, os.path.realpath(__file__), "shown", "--plain", there], stdout=subprocess.PIPE)
     try:
         with page.kept(shown.stdout) as lines:
             status = shown.wait()

@@ -18,7 +18,7 @@ from .drawn import escaped
 from .facts import Night
 from .records import Records
 from .stories import Stories
-from .words import balance, count, measured, meaning, endpoint, place_of, reading, some, terms, utc
+from .words import balance, count, endpoint, litres, meaning, measured, place_of, reading, some, terms, utc
 
 DAY = "%Y-%m-%d %H:%M:%S"
 HERE = os.path.dirname(os.path.realpath(__file__))
@@ -59,7 +59,8 @@ class Page(Records, Stories):
 
     def hours(self):
         first, last = self.night.first_hour, self.night.last_hour
-        return "<br>%s to %s UTC" % (utc(first, DAY), utc(last, DAY)) if first else ""
+        back = "; the clock was set back %s" % some(self.night.set_back, "time") if self.night.set_back else ""
+        return "<br>%s to %s UTC%s" % (utc(first, DAY), utc(last, DAY), back) if first else ""
 
     def verdict(self):
         bad, words = ENDS[self.night.end]
@@ -75,6 +76,9 @@ class Page(Records, Stories):
         if not night.with_rows:
             return False, " The answers are made again; which were given that night is not recorded." if night.calls else ""
         if not night.others.count:
+            if night.with_rows < night.calls:
+                return False, " Of %s, %s could be compared: each of these is the one that was given that night." % (
+                    some(night.calls, "answer"), count(night.with_rows))
             return False, " Each answer, made again, is the one that was given that night."
         shown = night.others.first + list(night.others.last)
         return True, " %s not the one that was given that night: record %s%s." % (
@@ -84,13 +88,13 @@ class Page(Records, Stories):
     def figures(self):
         night = self.night
         rows = (("calls", night.calls), ("received", night.kinds["receive"]), ("FLOODs to send", night.kinds["send"]), ("ticks", night.kinds["tick"]),
-                ("accepted", night.answers[0]), ("refused", night.refusals.count), ("LOOKUPs", night.lookup_count),
+                ("accepted", night.answers[0]), ("refused", night.refusals.count), ("LOOKUPs answered", night.lookup_count),
                 ("ponds heard of", len(night.ponds) - 1 if night.own else 0), ("held at the end", night.held))
         return '<dl class="figures">%s</dl>' % "".join("<div><dt>%s</dt><dd>%s</dd></div>" % (word, count(n)) for word, n in rows)
 
     def nav(self):
         parts = (("ring", "The ring"), ("time", "Line of time"), ("answers", "Answers and refusals"), ("lookups", "LOOKUPs"), ("gone", "Dropped or removed"),
-                 ("water", "Water"), ("ponds", "Ponds"))
+                 ("waiting", "Still waiting"), ("water", "Water"), ("ponds", "Ponds"))
         there = [part for part in parts if self.told or part[0] not in ("ring", "ponds")]
         return "<nav>%s</nav>" % " ".join('<a href="#%s">%s</a>' % part for part in there)
 
@@ -169,28 +173,49 @@ class Page(Records, Stories):
         return '<section id="gone"><h2>Dropped or removed</h2>%s%s</section>' % (
             table if items else "<p>No pond was dropped or removed.</p>", self.more(lefts.left_out(), "more", "more"))
 
+        every = [pond for pond in self.ranked if pond.reading]
+    def waiting(self):
+        items = "".join('<li>%s %s %s %s, since %s</li>' % (kind, escaped(number), "to" if kind == "FLOOD" else "about", self.whose(key), self.when(*since))
+                        for number, (kind, key, since) in self.night.waiting.items())
+        return '<section id="waiting"><h2>Still waiting at the end</h2>%s</section>' % ("<ul>%s</ul>" % items if items else "<p>Nothing waited for an answer.</p>")
+
     def water(self):
-        ponds = [pond for pond in self.told if pond.reading]
-        taken = [pond.reading[2] for pond in ponds if pond.reading[2][0] != "refused"]
-        if not ponds:
+        every = [pond for pond in self.ranked if pond.reading or pond.unread]
+        if not every:
             return '<section id="water"><h2>Water</h2><p>No reading came.</p></section>'
-        losing = sum(int(words[2]) < int(words[3]) for words in taken)
-        inflow, outflow = sum(int(words[2]) for words in taken), sum(int(words[3]) for words in taken)
-        foot = '<tfoot><tr><td>%s<td><td class="r">%d<td class="r">%d<td class="r">%s</tfoot>' % (
-            some(len(taken), "pond"), inflow, outflow, balance(["", "", inflow, outflow]))
+        taken, told = [pond for pond in every if pond.reading], [pond for pond in self.told if pond.reading or pond.unread]
         head = '<thead><tr><th>Pond<th>Depth or fault<th class="r">Litres in<th class="r">Litres out<th class="r">Balance</thead>'
-        return '<section id="water"><h2>Water</h2><p>The last reading of each pond that sent one. %s of %s %s water.</p>' \
-               '<details class="printed" open><summary>%s</summary><div class="in"><table class="water">%s<tbody>%s</tbody>%s</table></div></details>' \
+        return '<section id="water"><h2>Water</h2><p>The last reading of each pond that sent one.</p>%s' \
+               '<details class="printed" open><summary>%s</summary><div class="in"><table class="water">%s<tbody>%s</tbody>%s</table>%s</div></details>' \
                "</section>" % (
-                   count(losing), count(len(taken)), "loses" if losing == 1 else "lose", some(len(ponds), "reading"), head,
-                   "".join(map(self.water_row, ponds)), foot if taken else "")
+                   self.deficits(taken), some(len(every), "pond"), head, "".join(map(self.water_row, told)), self.water_sums([pond.reading[2] for pond in taken]),
+                   self.more(len(every) - len(told), "more pond", "more ponds"))
+
+    def deficits(self, taken):
+        """Whoever loses water is named first, the most first."""
+        losing = sorted((pond for pond in taken if litres(pond.reading[2]) < 0), key=lambda pond: litres(pond.reading[2]))
+        items = "".join("<li>%s: %s</li>" % (self.whose(pond.key), balance(pond.reading[2])) for pond in losing[:limits.MOST_DEFICITS])
+        return "<p>%s of %s %s water%s</p>%s%s" % (
+            count(len(losing)), count(len(taken)), "loses" if len(losing) == 1 else "lose", ":" if losing else ".",
+            '<ul class="deficits">%s</ul>' % items if items else "", self.more(len(losing) - limits.MOST_DEFICITS, "more deficit", "more deficits"))
 
     def water_row(self, pond):
+        state = self.night.state(pond)[0]
+        who = self.whose(pond.key) + ("" if state in ("own", "below", "above", "held") else "<small>%s</small>" % escaped(self.state_words(pond)))
+        unread = "<small>%s</small>" % self.unread(pond) if pond.unread else ""
+        if not pond.reading:
+            return "<tr><td>%s<td colspan=4>%s" % (who, self.unread(pond))
         words = pond.reading[2]
-        if words[0] == "refused":
-            return "<tr><td>%s<td colspan=4>%s" % (self.whose(pond.key), reading(words))
-        return '<tr><td>%s<td>%s<td class="r">%s<td class="r">%s<td class="r">%s' % (
-            self.whose(pond.key), measured(words), words[2], words[3], balance(words))
+        return '<tr><td>%s<td>%s<small>%s</small>%s<td class="r">%s<td class="r">%s<td class="r">%s' % (
+            who, measured(words), self.clock(pond.reading[1]), unread, words[2], words[3], balance(words))
+
+    def unread(self, pond):
+        return "%s (%s)" % (reading(pond.unread[2]), self.when(*pond.unread[:2]))
+
+    def water_sums(self, taken):
+        inflow, outflow = sum(int(words[2]) for words in taken), sum(int(words[3]) for words in taken)
+        sums = '<tfoot><tr><td>%s<td><td class="r">%d<td class="r">%d<td class="r">%s</tfoot>'
+        return sums % (some(len(taken), "pond"), inflow, outflow, balance(["", "", inflow, outflow])) if taken else ""
 
     # --- All of it -----------------------------------------------------------------------------------------------------------
 
@@ -207,7 +232,7 @@ class Page(Records, Stories):
         yield begin
         yield from folds
         yield end
-        for part in (self.answers, self.lookups, self.gone, self.water, self.ponds):
+        for part in (self.answers, self.lookups, self.gone, self.waiting, self.water, self.ponds):
             yield part()
         yield "<footer><p>Made of the lines that <code>bin/shown --plain</code> writes of this night. A key without a name is shown by its first and " \
               "last eight digits; keys go round, from the largest to the smallest.</p></footer></main><script>%s</script></body></html>\n" % script

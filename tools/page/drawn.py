@@ -3,13 +3,14 @@ beside it; its colour only says it again.
 """
 import html
 import math
+import unicodedata
 
 from . import limits
 
 MIDDLE, RADIUS, LABEL = 360, 222, 244    # of the ring, and where its labels begin
 RING = 1 << 256                          # keys go round
 GAP = 2 * math.pi / 104                  # between two labels
-SHORT, WIDE = 13, 12                     # characters of a name on the ring, and how wide one is at most
+SHORT, LARGE = 13, 19                    # characters of a name on the ring, and how large its letters are at most (page.css)
 BINS = 120                               # columns of the line of time
 
 MARKS = {  # the mark of each state, drawn round 0 0, and the words of the legend
@@ -19,13 +20,13 @@ MARKS = {  # the mark of each state, drawn round 0 0, and the words of the legen
     "held": ('<circle r="5"/>', "held"),
     "left": ('<path d="M-5.5-5.5 5.5 5.5M5.5-5.5-5.5 5.5"/>', "dropped or removed"),
     "unkept": ('<path d="M-4.5-4.5H4.5V4.5H-4.5Z"/>', "answered, not kept"),
-    "silent": ('<circle r="5"/><path d="M-3.5 3.5 3.5-3.5"/>', "asked, never answered"),
+    "silent": ('<circle r="5"/><path d="M-3.5 3.5 3.5-3.5"/>', "asked, no answer taken"),
     "heard": ('<circle r="4.5"/>', "heard of, never asked"),
 }
 
 
 def escaped(text):
-    return html.escape(str(text), quote=True)
+    return html.escape(str(text).encode(errors="replace").decode(), quote=True)
 
 
 def mark(state):
@@ -60,12 +61,19 @@ def spread(angles):
     begins = [total / n for total, n in blocks for _ in range(n)]
     moved = [begin + i * GAP for i, begin in enumerate(begins)]
     if moved[-1] - moved[0] > 2 * math.pi - GAP:
-        moved = [unrolled[0] + i * 2 * math.pi / len(angles) for i in range(len(angles))]
+        step = 2 * math.pi / len(angles)
+        begin = sum(angle - i * step for i, angle in enumerate(unrolled)) / len(angles)
+        moved = [begin + i * step for i in range(len(angles))]
     return moved[-first:] + moved[:-first] if first else moved
 
 
 def short(name):
     return name if len(name) <= SHORT else name[:SHORT - 1] + "…"
+
+
+def wide(name):
+    """How wide a name is at most, in the size of its letters, whichever font there is."""
+    return sum(1.4 if unicodedata.east_asian_width(c) in "WF" else 1.1 if c in "mwMW@%…—" else .85 if c.isupper() else .7 for c in name)
 
 
 def arc(night, keys, side):
@@ -81,7 +89,7 @@ def arc(night, keys, side):
 def node(pond, state, words, link):
     x, y = at(turn(pond.place), RADIUS)
     drawn = '<g class="m %s" transform="translate(%.1f %.1f)"><title>%s</title>%s</g>' % (state, x, y, escaped(words), MARKS[state][0])
-    return '<a href="#%s">%s</a>' % (link, drawn)
+    return '<a href="#%s" tabindex="-1">%s</a>' % (link, drawn)
 
 
 def crowded(ponds):
@@ -120,8 +128,8 @@ def ring(night, drawn, name_of, words_of, link_of):
     nodes = "".join(node(pond, states[pond.key], "%s: %s" % (name_of(pond.key), words_of(pond)), link_of(pond.key)) for pond in reversed(drawn))
     middle = '<text class="big" x="360" y="345" text-anchor="middle">%s</text><text x="360" y="376" text-anchor="middle">holds %d</text>' \
              '<text class="way" x="360" y="412" text-anchor="middle">keys grow as a clock goes ↷</text>' % (escaped(short(name_of(night.own))), night.held)
-    reach = LABEL + 14 + WIDE * max(len(short(name_of(pond.key))) for pond in labelled)
-    return '<svg class="ring" viewBox="%d %d %d %d" role="img" aria-label="The ring of keys with %d ponds at their places">' \
+    reach = round(LABEL + 14 + LARGE * max(wide(short(name_of(pond.key))) for pond in labelled))
+    return '<svg class="ring" viewBox="%d %d %d %d" role="group" aria-label="The ring of keys with %d ponds at their places">' \
            '<circle class="line" cx="360" cy="360" r="%d"/>%s%s%s%s%s</svg>' % (
                MIDDLE - reach, MIDDLE - reach, 2 * reach, 2 * reach, len(drawn), RADIUS, middle, arc(night, night.below, "below"),
                arc(night, night.above, "above"), labels, nodes)

@@ -14,7 +14,8 @@ KEY = re.compile(r"[0-9a-f]{64}")
 
 
 def moment(record):
-    return record.number, record.second
+    """Its number, and when it was: the second, and its own hour where that is known."""
+    return record.number, (record.second, record.ms())
 
 
 # --- A pond ------------------------------------------------------------------------------------------------------------------
@@ -39,7 +40,8 @@ class Pond:
     def __init__(self, key):
         self.key, self.place = key, int(key, 16)
         self.story, self.counts = Events(limits.FEW_EVENTS), collections.Counter()
-        self.heard = self.answered = self.reading = self.joined = self.left = self.revoked = self.given_up = None
+        self.heard = self.answered = self.joined = self.left = self.revoked = None
+        self.reading = self.unread = None  # the last that was taken, and one behind it that was refused
 
     def tell(self, record, word, *more):
         self.story.add((*moment(record), word, *more))
@@ -56,7 +58,9 @@ class Night:
         self.lookups, self.lookup_count = [], 0
         self.refusals = Events(limits.FEW_REFUSED)
         self.first_hour = self.last_hour = None
+        self.set_back = 0  # how often an hour is before the one before it
         self.hour_at, self.with_rows, self.others = {}, 0, Events(limits.FEW_OTHERS)
+        self.inquiries, self.waiting = {}, {}  # whom each INQUIRE was about; of what waits, by its ID, what and whom
         self.by_second = collections.defaultdict(collections.Counter)
         for item in plain.walked(lines):
             self.take(item)
@@ -115,6 +119,7 @@ class Night:
     def at_hour(self, hour, second):
         """The hours that are known: the first and the last, and the first of each second."""
         if hour.is_known():
+            self.set_back += self.last_hour is not None and hour.ms < self.last_hour
             self.first_hour, self.last_hour = self.first_hour or hour.ms, hour.ms
             self.hour_at.setdefault(second, hour.ms)
 
@@ -128,7 +133,7 @@ class Night:
         pond = self.pond(key)
         if not pond.heard:
             pond.heard = moment(r)
-            pond.tell(r, "heard", *r.what[1:3])
+            pond.tell(r, "heard", *r.what[1:3], r.answer[0])
         return pond
 
     def fact_revoking(self, r, key):
@@ -138,7 +143,10 @@ class Night:
             pond.tell(r, "revoked", *r.what[1:3])
 
     def fact_sent(self, r, kind, number, key=None):
+        if kind in ("FLOOD", "INQUIRE") and key:
+            self.waiting[number] = (kind, key, moment(r))
         if kind == "INQUIRE" and key:
+            self.inquiries[number] = key
             self.pond(key).counts["asked"] += 1
             self.ponds[key].tell(r, "asked", number, *r.what[1:3])
 
@@ -151,20 +159,31 @@ class Night:
     def fact_gaveup(self, r, number, kind, key):
         pond = self.pond(key)
         pond.counts["gaveup " + kind] += 1
-        pond.given_up = moment(r)
         pond.tell(r, "gaveup", number, kind)
+        self.waiting.pop(number, None)
+
+    def fact_answers(self, r, number):
+        """An AUTHORITY to an INQUIRE of ours that was not taken."""
+        if r.what[1] == "AUTHORITY" and not r.taken and number in self.inquiries:
+            pond = self.pond(self.inquiries[number])
+            pond.counts["untaken"] += 1
+            pond.tell(r, "untaken", r.what[2], number, r.answer[0])
 
     def fact_freed(self, r, number, kind, key):
         self.pond(key).counts["freed " + kind] += 1
+        self.waiting.pop(number, None)
 
     def fact_answered(self, r, key, inquiry, at, kind, number):
         pond = self.pond(key)
         pond.counts["answered"] += 1
         pond.answered = moment(r)
         reading = r.one("reading")
-        if reading:
-            pond.reading = (*moment(r), reading)
+        if reading and reading[0] == "refused":
+            pond.unread = (*moment(r), reading)
+        elif reading:
+            pond.reading, pond.unread = (*moment(r), reading), None
         pond.tell(r, "answered", inquiry, at, kind, number, reading)
+        self.waiting.pop(inquiry, None)
 
     def fact_joined(self, r, key):
         pond = self.pond(key)

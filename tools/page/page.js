@@ -5,8 +5,8 @@
   root.classList.add("script");
   function open() { // what a link leads to is unfolded
     var at = location.hash.length > 1 && document.getElementById(location.hash.slice(1));
-    for (var e = at; e; e = e.parentElement) { if (e.tagName === "DETAILS") { e.open = true; } }
-    if (at) { at.hidden = false; at.scrollIntoView(); }
+    for (var e = at; e; e = e.parentElement) { if (e.tagName === "DETAILS") { e.open = true; e.hidden = false; } }
+    if (at) { at.scrollIntoView(); }
   }
   function search() {
     var words = field.value.toLowerCase().trim(), shown = 0;

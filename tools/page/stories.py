@@ -1,7 +1,7 @@
 """The ponds on a night's page, each with its story."""
 from . import drawn
 from .drawn import escaped
-from .words import Whose, balance, count, measured, reading, some, terms
+from .words import Whose, balance, count, meaning, measured, reading, some, terms
 
 
 class Stories(Whose):
@@ -12,9 +12,12 @@ class Stories(Whose):
         state, nth = self.night.state(pond)
         words = {"own": "our own", "below": "neighbour below, place %d" % nth, "above": "neighbour above, place %d" % nth, "held": "held",
                  "unkept": "answered, not kept", "silent": "asked, never answered", "heard": "heard of, never asked"}
+        if state == "silent" and pond.counts["untaken"]:
+            return "asked, no answer was taken" + (", revoked" if pond.revoked else "")
         if state == "left":
             return pond.left[2].split(":")[0] + (", revoked" if pond.revoked else "")
-        return words[state] + (", revoked" if pond.revoked else "")
+        before = pond.revoked and pond.joined and pond.revoked[0] < pond.joined[0]
+        return words[state] + (", revoked before" if before else ", revoked" if pond.revoked else "")
 
     def ponds(self):
         if not self.told:
@@ -27,7 +30,7 @@ class Stories(Whose):
     def pond(self, pond):
         state = self.night.state(pond)[0]
         last = ""
-        if pond.reading and pond.reading[2][0] != "refused":
+        if pond.reading:
             last = " · %s, %s" % (measured(pond.reading[2]), balance(pond.reading[2]))
         return '<details class="pond printed" data-key="%s"><summary><span class="who">%s%s</span><span class="is">%s%s</span></summary>' \
                '<div class="in" id="%s">%s%s</div></details>' % (
@@ -43,11 +46,13 @@ class Stories(Whose):
             more = [", %s %s" % (word, some(n[of], "time")) for word, of in (("listed again", "again INQUIRE"), ("given up", "gaveup INQUIRE")) if n[of]]
             rows.append(("Asked", some(n["asked"], "INQUIRE") + "".join(more)))
             answered = some(n["answered"], "time") + ", the last time with " + self.when(*pond.answered) if pond.answered else "never"
+            answered += ", %s refused" % some(n["untaken"], "answer was", "answers were") if n["untaken"] else ""
             rows.append(("Answered", answered))
         if n["to"]:
             rows.append(("FLOODs to it", "%s, acknowledged %s, given up %s" % (count(n["to"]), count(n["freed FLOOD"]), count(n["gaveup FLOOD"]))))
-        if pond.reading:
-            rows.append(("Last reading", "%s (%s)" % (reading(pond.reading[2]), self.when(*pond.reading[:2]))))
+        for word, told in (("Last reading", pond.reading), ("Behind it" if pond.reading else "Last reading", pond.unread)):
+            if told:
+                rows.append((word, "%s (%s)" % (reading(told[2]), self.when(*told[:2]))))
         if n["named"]:
             rows.append(("Named", "to %s" % some(n["named"], "LOOKUP")))
         return rows
@@ -65,8 +70,9 @@ class Stories(Whose):
     def event(self, event):
         return '<li><span class="when">%s</span><span>%s</span></li>' % (self.when(*event[:2]), getattr(self, "event_" + event[2])(*event[3:]))
 
-    def event_heard(self, kind, number):
-        return "first heard of, by %s %s" % (escaped(kind), escaped(number))
+    def event_heard(self, kind, number, answer):
+        refused = "" if answer == "0" else ", which is refused: %s %s" % (escaped(answer), escaped(meaning(int(answer))))
+        return "first heard of, by %s %s%s" % (escaped(kind), escaped(number), refused)
 
     def event_revoked(self, kind, number):
         return "<b>revoked</b> by %s %s" % (escaped(kind), escaped(number))
@@ -83,6 +89,9 @@ class Stories(Whose):
     def event_answered(self, inquiry, at, kind, number, words):
         return "<b>answered</b> INQUIRE %s, which came of %s %s, record %s%s" % (
             escaped(inquiry), escaped(kind), escaped(number), escaped(at), ": " + reading(words) if words else "")
+
+    def event_untaken(self, number, inquiry, answer):
+        return "<b>AUTHORITY %s</b> to INQUIRE %s is refused: %s %s" % (escaped(number), escaped(inquiry), escaped(answer), escaped(meaning(int(answer))))
 
     def event_joined(self):
         return "is held"

@@ -1,6 +1,7 @@
 """Words of a night's page for what has numbers there: answers, readings, hours, places; and whose a key is. All that is not ours is escaped here."""
 import datetime
 import ipaddress
+import shlex
 
 import plain
 
@@ -56,12 +57,17 @@ def measured(words):
     return plain.metres(words[1])
 
 
+def litres(words):
+    """Litres in without litres out."""
+    return int(words[2]) - int(words[3])
+
+
 def balance(words):
-    """Litres in without litres out: with its sign, and a word where it is a deficit."""
-    litres = int(words[2]) - int(words[3])
-    if litres < 0:
-        return '<span class="deficit">−%d litres, a deficit</span>' % -litres
-    return "%s%d litres" % ("+" if litres else "", litres)
+    """These litres with their sign, and a word where they are a deficit."""
+    n = litres(words)
+    if n < 0:
+        return '<span class="deficit">−%d litres, a deficit</span>' % -n
+    return "%s%d litres" % ("+" if n else "", n)
 
 
 def reading(words):
@@ -101,13 +107,18 @@ class Whose:
         ms = self.night.hour_at.get(second)
         return utc(ms) if ms else ""
 
-    def when(self, n, second):
-        hour = self.hour(second)
-        return "record %d, second %d%s" % (n, second, ", " + hour if hour else "")
+    def when(self, n, at):
+        second, ms = at
+        return "record %d, second %d%s" % (n, second, ", " + utc(ms) if ms else "")
+
+    def clock(self, at):
+        """The hour alone, or the second."""
+        second, ms = at
+        return utc(ms) if ms else "second %d" % second
 
     def more(self, n, one, more):
-        """How many are not written out, and how they are seen."""
-        if not n:
+        """How many are not written out, and how they are seen; nothing where there are none."""
+        if n <= 0:
             return ""
         return '<p class="soft more">%s not written out here: <code>bin/shown %s</code> shows all.</p>' % (
-            some(n, one + " is", more + " are"), escaped(self.file))
+            some(n, one + " is", more + " are"), escaped(shlex.quote(self.file)))

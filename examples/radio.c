@@ -4,20 +4,24 @@
  *
  *   OWN      a file with our own record, a line: key (64 hexadecimal digits), address, port. The socket is bound to that address and port.
  *   RECORDS  a file with the records that it begins with, a line each of the same form: gauges that it calls until it is known.
- *   FOLDER   what it keeps: `cache`, the records held, from which it goes on when it is started again; `list`, its neighbours, for whoever looks,
- *            written at each tick; night-HOUR.trace and .hours, its night, where it begins with nothing held (gauge_trace.h).
+ *   FOLDER   what it keeps, and nobody else writes there: `cache`, the records held and the last keys revoked, from which it goes on when it is
+ *            started again; `list`, its neighbours, for whoever looks, written at each tick; night-HOUR.trace and .hours, its night, where it
+ *            begins with nothing held (gauge_trace.h).
  *   -t       milliseconds from tick to tick; 1000 where nothing is said, as the gauge counts its ticks as seconds
  *   -s       ticks from one saving of the cache to the next; 60 where nothing is said
  *   -n       who is heard and sent to: the addresses that begin with the same bits; the first 64 of our own address where nothing is said
  *
  * SIGTERM and SIGINT end it in order: the cache is saved, the night closed, and what was counted is told on standard output. It ends with 0, with 1
- * where it could not go on, with 2 where it was called in another way. `make network` runs 61 of them on one machine (tools/network.py).
+ * where it could not go on or save its cache, with 2 where it was called in another way. `make network` runs 61 of them on one machine
+ * (tools/network.py).
  *
  * Two things stand in here for real ones: `judge`, which believes whoever answers, and `cpa`, the byte that it judges. */
 #define _DEFAULT_SOURCE /* sockets, poll, signals and getentropy, which are not C99's */
 #include "gauge_host.h"
 #include "gauge_trace.h"
+#include <arpa/inet.h>
 #include <errno.h>
+#include <fcntl.h>
 #include <netdb.h>
 #include <netinet/in.h>
 #include <poll.h>
@@ -25,6 +29,7 @@
 #include <stdarg.h>
 #include <stdbool.h>
 #include <stdlib.h>
+#include <sys/file.h>
 #include <sys/socket.h>
 #include <time.h>
 #include <unistd.h>
@@ -35,7 +40,7 @@
 #define FLOODS 2              /* to gauges held, each tick */
 #define SIDE 5                /* neighbours on either side */
 #define KEPT 32               /* datagrams kept until they are answered: 16 at most wait, and some are not yet forgotten */
-#define REVOKED 16            /* revocations remembered, and passed on from tick to tick at most */
+#define REVOKED 16            /* revocations remembered, and saved and passed on from tick to tick at most */
 #define BATCH 64              /* datagrams taken before the clock is looked at again, so that no flood of them stops the ticks */
 #define NIGHT_MOST 16000000   /* bytes of a night: whoever sends much should not fill the disk */
 #define NUMBERS 32            /* more than the gauge has, for later versions */
@@ -67,7 +72,7 @@ static struct kept kept[KEPT];
 static struct known called[CALLED_MOST];
 static size_t called_count;
 static uint8_t revoked[REVOKED][GAUGE_KEY_LEN]; /* the last keys of which we were told that they are revoked, .. */
-static size_t revoked_next, passed_on;          /* .. the place of the next one, and how many were passed on since the last tick */
+static size_t revoked_count, passed_on;         /* .. how many there were, and how many were passed on since the last tick */
 
 static int radio; /* the socket */
 static uint32_t scope; /* of a link-local address: on which link */
@@ -75,6 +80,7 @@ static uint8_t network[GAUGE_ADDRESS_LEN];
 static unsigned network_bits = 64;
 
 static const char *folder;
+static int folder_open; /* locked: no other gauge writes there */
 static unsigned long tick_ms = 1000, save_ticks = 60, ticks;
 static bool recorded;
 static struct gauge_trace night;
@@ -83,13 +89,14 @@ static volatile sig_atomic_t ended; /* a signal has told us to end */
 
 /* What is told at the end. */
 static struct {
-    unsigned long came, sent;                     /* datagrams, .. */
-    unsigned long too_long, elsewhere, malformed; /* .. those dropped before the gauge saw them, .. */
-    unsigned long refused[NUMBERS];               /* .. the calls that it refused, by its number, .. */
-    unsigned long overrun;                        /* .. those that came faster than they were taken, .. */
-    unsigned long not_sent;                       /* .. and those that the socket did not take, or that would have left our network */
+    unsigned long came, sent;                              /* datagrams, .. */
+    unsigned long too_long, elsewhere, malformed, strange; /* .. those dropped before the gauge saw them, .. */
+    unsigned long refused[NUMBERS];                        /* .. the calls that it refused, by its number, .. */
+    unsigned long overrun;                                 /* .. those that came faster than they were taken, .. */
+    unsigned long not_sent;                                /* .. and those that the socket did not take, or that would have left our network */
     bool overrun_known;
-    unsigned long not_written;                    /* files: how often the cache or the list could not be */
+    unsigned long not_passed_on; /* revocations: more came from one tick to the next than are passed on */
+    unsigned long not_written;   /* files: how often the cache or the list could not be */
 } counts;
 
 static void fail(const char *format, ...)
@@ -131,7 +138,8 @@ static void path_of(char *path, const char *name, const char *ending)
 }
 
 /* A file of the folder gets other contents: they are written beside it first, and take its place when they are whole. So whenever we are killed, the
- * file is the old one or the new one. `lasting`: the contents are on the disk before the name is, so that it is so too where the current fails. */
+ * file is the old one or the new one. `lasting`: the contents are on the disk before the name is, and the name before we go on, so that it is so too
+ * where the current fails. */
 static bool replace(const char *name, const void *bytes, size_t len, bool lasting)
 {
     char path[PATH_MOST], beside[PATH_MOST];
@@ -141,7 +149,14 @@ static bool replace(const char *name, const void *bytes, size_t len, bool lastin
     if (f == NULL)
         return false;
     bool whole = fwrite(bytes, 1, len, f) == len && fflush(f) == 0 && (!lasting || fsync(fileno(f)) == 0);
-    return fclose(f) == 0 && whole && rename(beside, path) == 0;
+    return fclose(f) == 0 && whole && rename(beside, path) == 0 && (!lasting || fsync(folder_open) == 0);
+}
+
+/* Told at once for the first time, as nobody knows when the end will be; then counted. */
+static void not_written(const char *name)
+{
+    if (counts.not_written++ == 0)
+        fprintf(stderr, "radio: %s/%s can't be written: %s\n", folder, name, strerror(errno));
 }
 
 /* Endpoints: in a socket's form, and as port and address stand in a record. */
@@ -182,6 +197,12 @@ static void tell_hour(const struct sockaddr_in6 *who)
     gauge_trace_at(&night, milliseconds(CLOCK_REALTIME), who != NULL ? endpoint : NULL);
 }
 
+/* A trace has this cache and this CPA (gauge_trace.h): whoever has another of either would record what can't be made again. */
+static bool can_be_recorded(void)
+{
+    return lent.cache_len == GAUGE_CACHE_LEN(GAUGE_TRACE_HELD) && lent.cpas_len == GAUGE_TRACE_CPAS_LEN && lent.cpas[GAUGE_TRACE_CPAS_LEN - 1] == 0;
+}
+
 static void begin_night(void)
 {
     char name[64], path[PATH_MOST];
@@ -192,7 +213,7 @@ static void begin_night(void)
     path_of(path, name, ".hours");
     FILE *hours = fopen(path, "wb");
     if (calls == NULL || hours == NULL)
-        fail("radio: no night can be written in %s\n", folder);
+        fail("radio: no night can be written in %s: %s\n", folder, strerror(errno));
     night = gauge_trace_begin(calls, NULL, hours, lent.major, lent.minor, lent.own, hour);
     recorded = true;
     printf("records %s\n", name);
@@ -212,13 +233,16 @@ static void end_night(const char *why)
 /* Each tick: whoever is killed loses little of his night. */
 static void flush_night(void)
 {
-    if (!recorded)
-        return;
-    if (fflush(night.calls) != 0 || fflush(night.hours) != 0)
+    if (recorded && (fflush(night.calls) != 0 || fflush(night.hours) != 0 || night.failed)) {
         night.failed = 1;
-    if (night.failed)
         end_night("");
-    else if (ftell(night.calls) > NIGHT_MOST)
+    }
+}
+
+/* Behind each batch of datagrams: whoever sends much fills no disk. */
+static void bound_night(void)
+{
+    if (recorded && (ftell(night.calls) > NIGHT_MOST || ftell(night.hours) > NIGHT_MOST))
         end_night(", and no more: it may not be longer");
 }
 
@@ -265,33 +289,18 @@ static struct sockaddr_in6 endpoint_held(const uint8_t *record)
 
 static bool is_known_revoked(const uint8_t *key)
 {
-    for (size_t i = 0; i < REVOKED; i++)
+    for (size_t i = 0; i < REVOKED && i < revoked_count; i++)
         if (memcmp(revoked[i], key, GAUGE_KEY_LEN) == 0)
             return true;
     return false;
 }
 
-/* A revocation goes on to all gauges held, once: many pass it on to us again. Where more come at a time than are remembered they could go round for
- * ever, so only so many are passed on from tick to tick. */
-static void pass_on(const uint8_t *key)
-{
-    uint8_t flood[GAUGE_DATAGRAM_MOST];
-    if (is_known_revoked(key) || passed_on == REVOKED)
-        return;
-    passed_on++;
-    memcpy(revoked[revoked_next++ % REVOKED], key, GAUGE_KEY_LEN);
-    size_t len = gauge_revocation(&lent, key, GAUGE_KEY_LEN, flood);
-    for (uint32_t i = 0; i < gauge_lent_held(&lent); i++) {
-        struct sockaddr_in6 to = endpoint_held(gauge_lent_record(&lent, i));
-        send_to(&to, flood, len);
-    }
-}
-
-/* The saved cache: the records held, our own key, for which they were kept, and a sum over both. The form that gauge_convert tests would not tell
- * that a byte of an address has changed on a bad disk; the sum does. Against whoever means harm it is no guard. */
+/* The saved cache: the records held, our own key, for which they were kept, the last keys revoked, the oldest first, and a sum over all of it. The
+ * form that gauge_convert tests would not tell that a byte of an address has changed on a bad disk; the sum does. Against whoever means harm it is
+ * no guard. */
 
 struct saved {
-    uint8_t held[sizeof cache], own[GAUGE_KEY_LEN], sum[SUM_LEN];
+    uint8_t held[sizeof cache], own[GAUGE_KEY_LEN], revoked_count[1], revoked[REVOKED][GAUGE_KEY_LEN], sum[SUM_LEN];
 };
 
 /* FNV-1a of 64 bits over all that stands before the sum. */
@@ -305,56 +314,106 @@ static void put_sum(const struct saved *s, uint8_t *sum)
         sum[i] = (uint8_t)(n >> 8 * i & 255);
 }
 
-/* A disk wears out by writing: what is saved already is not written again. */
-static void save(void)
+static struct saved to_be_saved(void)
 {
-    static struct saved last;
     struct saved s;
+    size_t count = revoked_count < REVOKED ? revoked_count : REVOKED;
+    memset(&s, 0, sizeof s);
     memcpy(s.held, cache, sizeof s.held);
     memcpy(s.own, lent.own + GAUGE_RECORD_KEY, sizeof s.own);
+    s.revoked_count[0] = (uint8_t)count;
+    for (size_t i = 0; i < count; i++)
+        memcpy(s.revoked[i], revoked[(revoked_count - count + i) % REVOKED], GAUGE_KEY_LEN);
     put_sum(&s, s.sum);
-    if (memcmp(&s, &last, sizeof s) == 0)
-        return;
-    if (replace("cache", &s, sizeof s, true))
-        last = s;
-    else
-        counts.not_written++;
+    return s;
 }
 
-/* Is this what we have saved, whole? gauge_convert also takes what a version before 1.3 has saved. */
-static bool is_good(const struct saved *s)
+/* A disk wears out by writing: what is saved already is not written again. Is it saved now? */
+static bool save(void)
+{
+    static struct saved last;
+    struct saved s = to_be_saved();
+    if (memcmp(&s, &last, sizeof s) == 0)
+        return true;
+    if (!replace("cache", &s, sizeof s, true)) {
+        not_written("cache");
+        return false;
+    }
+    last = s;
+    return true;
+}
+
+/* Is this what a gauge has saved, whole? */
+static bool is_whole(const struct saved *s)
 {
     uint8_t sum[SUM_LEN];
     put_sum(s, sum);
-    if (memcmp(s->sum, sum, SUM_LEN) != 0 || memcmp(s->own, lent.own + GAUGE_RECORD_KEY, sizeof s->own) != 0)
-        return false;
-    memcpy(cache, s->held, sizeof cache);
-    return gauge_lent_convert(&lent).number == GAUGE_OK;
+    return memcmp(s->sum, sum, SUM_LEN) == 0 && s->revoked_count[0] <= REVOKED;
 }
 
-/* What the file `cache` has, where that is all of it and good; else nothing is held. */
-static bool take_saved(void)
+/* It is taken, if it is in form: gauge_convert also takes what a version before 1.3 has saved. Else nothing is held. */
+static bool take(const struct saved *s)
 {
-    char path[PATH_MOST];
+    memcpy(cache, s->held, sizeof cache);
+    if (gauge_lent_convert(&lent).number != GAUGE_OK) {
+        memset(cache, 0, sizeof cache);
+        return false;
+    }
+    revoked_count = s->revoked_count[0];
+    memcpy(revoked, s->revoked, sizeof revoked);
+    return true;
+}
+
+/* What the file `cache` has is taken, where there is one. One that is damaged is told and not used, and stands aside for whoever wants to look at it;
+ * one that was kept for another key is another gauge's, and we do not write over it. */
+static void take_saved(void)
+{
+    char path[PATH_MOST], aside[PATH_MOST];
     struct saved s;
     path_of(path, "cache", "");
+    path_of(aside, "cache", ".damaged");
     FILE *f = fopen(path, "rb");
+    if (f == NULL && errno == ENOENT)
+        return;
     if (f == NULL)
-        return errno == ENOENT;
-    bool whole = fread(&s, 1, sizeof s, f) == sizeof s && getc(f) == EOF;
+        fail("radio: %s can't be read: %s\n", path, strerror(errno));
+    bool whole = fread(&s, 1, sizeof s, f) == sizeof s && getc(f) == EOF && is_whole(&s);
     fclose(f);
-    if (whole && is_good(&s))
-        return true;
-    memset(cache, 0, sizeof cache);
-    return false;
+    if (whole && memcmp(s.own, lent.own + GAUGE_RECORD_KEY, sizeof s.own) != 0)
+        fail("radio: %s was saved by a gauge with another key: give each gauge a folder of its own\n", path);
+    if (whole && take(&s))
+        return;
+    rename(path, aside);
+    printf("the saved cache is damaged, and is not used: it is now %s\n", aside);
 }
 
 /* We go on with what was saved. The firsts are not: they are counted afresh, so that they belong to the cache. */
 static void restore(void)
 {
-    if (!take_saved())
-        printf("the saved cache is damaged, and is not used\n");
+    take_saved();
     gauge_firsts_count(cache, sizeof cache, lent.firsts);
+}
+
+/* A revocation goes on to all gauges held, with the CPA that came, once: many pass it on to us again. What is remembered is saved at once: whoever
+ * goes on from an older cache would hold the key again, and nobody tells him a second time. Where more come at a time than are remembered they could
+ * go round for ever, so only so many are passed on from tick to tick. */
+static void pass_on(const uint8_t *key, const uint8_t *revoke_cpa, size_t cpa_len)
+{
+    uint8_t flood[GAUGE_DATAGRAM_MOST];
+    if (is_known_revoked(key))
+        return;
+    if (passed_on == REVOKED) {
+        counts.not_passed_on++;
+        return;
+    }
+    passed_on++;
+    memcpy(revoked[revoked_count++ % REVOKED], key, GAUGE_KEY_LEN);
+    save();
+    size_t len = gauge_revocation(&lent, revoke_cpa, cpa_len, flood);
+    for (uint32_t i = 0; len > 0 && i < gauge_lent_held(&lent); i++) {
+        struct sockaddr_in6 to = endpoint_held(gauge_lent_record(&lent, i));
+        send_to(&to, flood, len);
+    }
 }
 
 /* What comes in. */
@@ -363,13 +422,14 @@ static void restore(void)
  * of an AUTHORITY, that it holds the nonce of our INQUIRE, and gives GAUGE_GOOD with the key that the CPA is good for.
  *
  * This one verifies nothing. A CPA is good where the AUTHORITY comes from the very endpoint that we have sent the INQUIRE to, for the key that we
- * inquired about: so whoever answers at an address is believed whatever key he says is his. A revoke CPA is the key itself, and is believed too. */
+ * inquired about, if we know of no revocation of it: so whoever answers at an address is believed whatever key he says is his. A revoke CPA is the
+ * key itself, and is believed too. */
 static uint32_t judge(const struct sockaddr_in6 *from, const uint8_t *datagram, const struct gauge_look_answer *seen, uint8_t *key)
 {
     const struct kept *inquire = kept_with(seen->acked);
     memset(key, 0, GAUGE_KEY_LEN);
     if (seen->kind == GAUGE_AUTHORITY && seen->cpa_len == sizeof cpa && datagram[seen->cpa_at] == cpa[0] && inquire != NULL &&
-        same_endpoint(from, &inquire->to))
+        same_endpoint(from, &inquire->to) && !is_known_revoked(inquire->about))
         memcpy(key, inquire->about, GAUGE_KEY_LEN);
     else if (seen->kind == GAUGE_FLOOD && seen->cpa_len == GAUGE_KEY_LEN)
         memcpy(key, datagram + seen->cpa_at, GAUGE_KEY_LEN);
@@ -393,20 +453,16 @@ static void send_answer(const struct sockaddr_in6 *from, const uint8_t *datagram
     }
 }
 
-/* The gauge has accepted it: what was answered by it is forgotten, and a revocation passed on. A key that was removed by one is gone from the saved
- * cache at once: whoever goes on from an older one would hold it again, and nobody tells him a second time. */
-static void accepted(const struct gauge_look_answer *seen, const uint8_t *key, uint32_t held_before)
+/* The gauge has accepted it: what was answered by it is forgotten, and a revocation passed on. */
+static void accepted(const uint8_t *datagram, const struct gauge_look_answer *seen, const uint8_t *key)
 {
     if (seen->kind == GAUGE_ACK || seen->kind == GAUGE_AUTHORITY) {
         struct kept *answered = kept_with(seen->acked);
         if (answered != NULL)
             answered->len = 0;
     }
-    if (seen->kind == GAUGE_FLOOD && seen->entry_len == 0) {
-        if (gauge_lent_held(&lent) < held_before)
-            save();
-        pass_on(key);
-    }
+    if (seen->kind == GAUGE_FLOOD && seen->entry_len == 0)
+        pass_on(key, datagram + seen->cpa_at, seen->cpa_len);
 }
 
 /* A number that is not 0. The sender's is no matter of ours; memory that is not in form is, and nothing goes on with it. */
@@ -415,6 +471,14 @@ static void refused(uint32_t number)
     if (number == GAUGE_MEMORY)
         fail("radio: what is lent is not in form: %s\n", gauge_part_text(gauge_lent_not_in_form(&lent)));
     counts.refused[number < NUMBERS ? number : 0]++;
+}
+
+/* Is it an ACK from elsewhere than our FLOOD went to? One can remove a key, no judge is asked, and IDs rise by one, so that anybody can guess
+ * them. */
+static bool is_strange_ack(const struct sockaddr_in6 *from, const struct gauge_look_answer *seen)
+{
+    const struct kept *flood = kept_with(seen->acked);
+    return seen->kind == GAUGE_ACK && flood != NULL && !same_endpoint(from, &flood->to);
 }
 
 /* The radio's buffer is copied first: one that is filled by itself could change between the look, on which the verdict rests, and the receive. */
@@ -427,7 +491,11 @@ static void arrives(const struct sockaddr_in6 *from, const uint8_t *buffer, size
         counts.malformed++;
         return;
     }
-    uint32_t verdict = judge(from, datagram, &seen, key), held_before = gauge_lent_held(&lent), id = lent.id;
+    if (is_strange_ack(from, &seen)) {
+        counts.strange++;
+        return;
+    }
+    uint32_t verdict = judge(from, datagram, &seen, key), id = lent.id;
     random_bytes(lent.nonce, sizeof lent.nonce);
     gauge_lent_verdict(&lent, verdict, key);
     struct gauge_answer a = gauge_lent_receive(&lent, datagram, len);
@@ -439,7 +507,7 @@ static void arrives(const struct sockaddr_in6 *from, const uint8_t *buffer, size
         refused(a.number);
         return;
     }
-    accepted(&seen, key, held_before);
+    accepted(datagram, &seen, key);
     send_answer(from, datagram, &seen, lent.output, a.first);
     send_answer(from, datagram, &seen, lent.output + a.first, a.second);
 }
@@ -565,7 +633,7 @@ static void tell_list(void)
     for (uint32_t i = 0; i < a.first + a.second; i++)
         len += put_key(text + len, i < a.first ? "below" : "above", lent.output + GAUGE_KEY_LEN * i);
     if (!replace("list", text, len, false))
-        counts.not_written++;
+        not_written("list");
 }
 
 static void tick(void)
@@ -618,7 +686,7 @@ static bool read_endpoint(const char *address, const char *port, struct sockaddr
     hints.ai_family = AF_INET6;
     hints.ai_socktype = SOCK_DGRAM;
     hints.ai_flags = AI_NUMERICHOST | AI_NUMERICSERV;
-    if (getaddrinfo(address, port, &hints, &found) != 0)
+    if (strspn(port, "0123456789") != strlen(port) || strtoul(port, NULL, 10) > 65535 || getaddrinfo(address, port, &hints, &found) != 0)
         return false;
     memcpy(at, found->ai_addr, sizeof *at);
     freeaddrinfo(found);
@@ -633,14 +701,15 @@ static size_t read_records(const char *path, struct known *records, size_t most)
     int fields;
     FILE *f = fopen(path, "r");
     if (f == NULL)
-        fail("radio: %s can't be read\n", path);
+        fail("radio: %s can't be read: %s\n", path, strerror(errno));
     while ((fields = fscanf(f, "%65s %63s %7s", key, address, port)) == 3) {
         if (n == most || !read_key(key, records[n].key) || !read_endpoint(address, port, &records[n].at))
-            fail("radio: line %lu of %s is no record, or one too many\n", (unsigned long)n + 1, path);
+            fail("radio: record %lu of %s is none: key (64 hexadecimal digits), IPv6 address and port are wanted; or it is one too many\n",
+                 (unsigned long)n + 1, path);
         n++;
     }
-    if (fields != EOF)
-        fail("radio: the last line of %s is no record\n", path);
+    if (fields != EOF || ferror(f))
+        fail("radio: %s can't be read to its end, or ends with what is no record\n", path);
     fclose(f);
     return n;
 }
@@ -658,6 +727,13 @@ static void read_network(char *text)
     memcpy(network, &at.sin6_addr, sizeof network);
 }
 
+/* Others must reach us there. */
+static bool is_good_own(const struct sockaddr_in6 *at)
+{
+    return at->sin6_port != 0 && !IN6_IS_ADDR_UNSPECIFIED(&at->sin6_addr) && !IN6_IS_ADDR_MULTICAST(&at->sin6_addr) &&
+           !IN6_IS_ADDR_V4MAPPED(&at->sin6_addr);
+}
+
 static void begin_gauge(const struct known *own)
 {
     uint16_t port = ntohs(own->at.sin6_port);
@@ -669,13 +745,27 @@ static void begin_gauge(const struct known *own)
 
 static void open_radio(const struct sockaddr_in6 *at)
 {
+    char address[INET6_ADDRSTRLEN];
+    bool linkless = IN6_IS_ADDR_LINKLOCAL(&at->sin6_addr) && at->sin6_scope_id == 0;
+    inet_ntop(AF_INET6, &at->sin6_addr, address, sizeof address);
     radio = socket(AF_INET6, SOCK_DGRAM, 0);
     if (radio < 0 || bind(radio, (const struct sockaddr *)at, sizeof *at) != 0)
-        fail("radio: no socket at port %u: %s\n", (unsigned)ntohs(at->sin6_port), strerror(errno));
+        fail("radio: no socket at %s port %u: %s%s\n", address, (unsigned)ntohs(at->sin6_port), strerror(errno),
+             linkless ? "; a link-local address wants its link, as fe80::1%eth0" : "");
 #ifdef SO_RXQ_OVFL
     int on = 1;
     counts.overrun_known = setsockopt(radio, SOL_SOCKET, SO_RXQ_OVFL, &on, sizeof on) == 0;
 #endif
+}
+
+/* What we keep: two gauges in one folder would write over each other's. */
+static void open_folder(void)
+{
+    folder_open = open(folder, O_RDONLY | O_DIRECTORY);
+    if (folder_open < 0)
+        fail("radio: the folder %s can't be used: %s\n", folder, strerror(errno));
+    if (flock(folder_open, LOCK_EX | LOCK_NB) != 0)
+        fail("radio: the folder %s can't be used: another gauge keeps its files there\n", folder);
 }
 
 static void on_signal(int number)
@@ -691,6 +781,7 @@ static void heed_signals(void)
     act.sa_handler = on_signal; /* without SA_RESTART: poll comes back at once */
     sigaction(SIGTERM, &act, NULL);
     sigaction(SIGINT, &act, NULL);
+    signal(SIGPIPE, SIG_IGN); /* whoever read what we print is gone: no reason to end */
 }
 
 /* Datagrams as they come, a batch at a time, and between two batches the tick where its time has come. */
@@ -699,9 +790,11 @@ static void run(void)
     uint64_t next = milliseconds(CLOCK_MONOTONIC), now = next;
     while (!ended) {
         struct pollfd wait = {radio, POLLIN, 0};
-        if (poll(&wait, 1, next > now ? (int)(next - now) : 0) > 0)
+        uint64_t left = next > now ? next - now : 0;
+        if (poll(&wait, 1, left < 1000 ? (int)left : 1000) > 0) /* a signal just before it is heeded a second later */
             for (int i = 0; i < BATCH && take_datagram(); i++)
                 continue;
+        bound_night();
         now = milliseconds(CLOCK_MONOTONIC);
         if (now >= next) {
             tick();
@@ -713,7 +806,8 @@ static void run(void)
 static void tell_counts(void)
 {
     printf("%lu ticks, %lu datagrams sent, %lu came\n", ticks, counts.sent, counts.came);
-    printf("dropped: %lu too long, %lu from elsewhere, %lu malformed\n", counts.too_long, counts.elsewhere, counts.malformed);
+    printf("dropped: %lu too long, %lu from elsewhere, %lu malformed, %lu ACKs from another than the FLOOD went to\n", counts.too_long,
+           counts.elsewhere, counts.malformed, counts.strange);
     if (counts.overrun_known)
         printf("dropped: %lu that came faster than they were taken\n", counts.overrun);
     else
@@ -721,16 +815,17 @@ static void tell_counts(void)
     for (uint32_t i = 0; i < NUMBERS; i++)
         if (counts.refused[i] > 0)
             printf("refused: %lu, %s\n", counts.refused[i], gauge_number_text(i == 0 ? NUMBERS : i));
-    printf("%lu not sent\n", counts.not_sent);
+    printf("%lu not sent, %lu revocations not passed on\n", counts.not_sent, counts.not_passed_on);
     printf("%lu times the cache or the list could not be written\n", counts.not_written);
 }
 
-static void end(void)
+static bool end(void)
 {
-    save();
+    bool saved = save();
     tell_list();
     end_night("");
     tell_counts();
+    return saved;
 }
 
 int main(int argc, char **argv)
@@ -752,21 +847,27 @@ int main(int argc, char **argv)
     folder = argv[optind + 2];
     if (read_records(argv[optind], &own, 1) != 1)
         fail("radio: %s has no record\n", argv[optind]);
+    if (!is_good_own(&own.at))
+        fail("radio: %s: others must reach us at this address and port: an IPv6 address of this machine, and not port 0\n", argv[optind]);
     called_count = read_records(argv[optind + 1], called, CALLED_MOST);
     memcpy(network, &own.at.sin6_addr, sizeof network);
     if (network_told != NULL)
         read_network(network_told);
 
     setvbuf(stdout, NULL, _IOLBF, 0);
+    if (!is_of_our_network(&own.at))
+        printf("its own address is not of the network that it hears: others of that network may not reach it\n");
     begin_gauge(&own);
     heed_signals();
     open_radio(&own.at);
+    open_folder();
     restore();
     if (gauge_lent_held(&lent) > 0)
         printf("begins with %u records of its saved cache: no night is recorded, as one begins with nothing held\n", gauge_lent_held(&lent));
+    else if (!can_be_recorded())
+        printf("no night is recorded, as a trace has another cache or CPA\n");
     else
         begin_night();
     run();
-    end();
-    return 0;
+    return end() ? 0 : 1;
 }

@@ -2,14 +2,15 @@
 """network.py [--gauges N] [--tick MILLISECONDS] [--folder FOLDER] PROGRAM..
 
 Gauges on real sockets: N processes of examples/radio.c, which PROGRAM starts, each with a port of its own on ::1. They are started a few at a time, and
-each knows where one other is. When every neighbour list is the true one, a gauge is killed, another is revoked, and a third is killed and started anew
-from the cache that it had saved. What happened is told in a few lines. FOLDER gets a folder for each gauge, with what it keeps and what it said, and a
-file `names`, for bin/shown. It ends with 0 where all lists came to be right, and with 1 where not.
+each knows where one other is. When every neighbour list is the true one, a gauge is killed, another, which stays on, is revoked, and a third is killed
+and started anew from the cache that it had saved. What happened is told in a few lines. FOLDER gets a folder for each gauge, with what it keeps and what
+it said, and a file `names`, for bin/shown. It ends with 0 where all lists came to be right, and with 1 where not.
 
 `make network` runs it with 61 gauges, or with 16 where an emulator runs the archive. A gauge tells its list in a file, at each tick (the comment in
 examples/radio.c): so what is read here is up to a tick old.
 """
 import argparse
+import glob
 import os
 import platform
 import random
@@ -136,10 +137,9 @@ def revocation(key, identity):
 
 def cleared(folder):
     """What an earlier run has left there is removed, and nothing else."""
-    if os.path.exists(os.path.join(folder, "gauge-1")):
-        shutil.rmtree(folder)
-    if os.path.exists(folder) and os.listdir(folder):
-        sys.exit("network: %s has other files" % folder)
+    for path in glob.glob(os.path.join(glob.escape(folder), "gauge-*")):
+        shutil.rmtree(path)
+    os.makedirs(folder, exist_ok=True)
 
 
 class Network:
@@ -197,7 +197,7 @@ class Network:
                 sys.exit("network: the list of gauge %d has changed" % self.wrong()[0].number)
 
     def revoke(self, gauge, told):
-        """The gauge is taken away, and the office tells one other that its key is revoked."""
+        """The office tells one gauge that the key of another is revoked."""
         self.listed.remove(gauge)
         with socket.socket(socket.AF_INET6, socket.SOCK_DGRAM) as office:
             office.sendto(revocation(gauge.key, 1), (HOST, told.port))
@@ -249,12 +249,12 @@ def one_killed(net, gauge):
 
 
 def one_revoked(net, gauge, told):
-    gauge.stop(signal.SIGTERM)
     net.revoke(gauge, told)
     took, datagrams = net.until_right()
-    print("Gauge %d is taken away, and the office tells gauge %d that its key is revoked." % (gauge.number, told.number))
-    print("  %.1f s and %d datagrams later it is listed by %s, and all %d lists are right"
-          % (took, datagrams, numbers(net.listing(gauge)), len(net.working())), flush=True)
+    net.watched(SILENCE)
+    print("Gauge %d is revoked: the office tells gauge %d alone. %.1f s and %d datagrams later all %d lists are right." % (
+        gauge.number, told.number, took, datagrams, len(net.working())))
+    print("  %d ticks later, though it is still on, it is listed by gauges %s" % (SILENCE, numbers(net.listing(gauge))), flush=True)
 
 
 def one_anew(net, gauge):
@@ -263,6 +263,7 @@ def one_anew(net, gauge):
     os.unlink(gauge.path("list"))
     gauge.begin()
     took, _ = net.until_right()
+    net.watched(SILENCE)
     print("Gauge %d is killed at its tick %d, and started anew." % (gauge.number, ticks))
     print("  It says: %s" % gauge.said().strip().split("\n")[-1])
     print("  its list is right after %.1f s" % took, flush=True)

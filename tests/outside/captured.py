@@ -9,6 +9,7 @@ Capturing wants the right to (CAP_NET_RAW). Without it the datagrams are shown a
 """
 import collections
 import contextlib
+import ctypes
 import glob
 import io
 import os
@@ -29,6 +30,7 @@ import model_night
 
 GAUGES, TICK = 6, 50
 IPV6, OUTGOING, UDP = 0x86DD, 4, 17
+ATTACH_FILTER = 26  # of Linux, which Python does not name
 HEAD = 48        # bytes of an IPv6 packet before a datagram
 ROW = 40         # bytes of a row of the hours
 ADDRESS = socket.inet_pton(socket.AF_INET6, network.HOST)
@@ -38,31 +40,42 @@ KINDS = {4: "FLOOD", 7: "INQUIRE", 8: "AUTHORITY", 9: "ACK"}  # what radio.c sen
 class Capture(threading.Thread):
     """The packets with UDP for some ports, until it is ended: of each the hour, in seconds, and its bytes."""
 
-    def __init__(self):
+    def __init__(self, ports):
         super().__init__(daemon=True)
         self.socket = socket.socket(socket.AF_PACKET, socket.SOCK_DGRAM, socket.htons(IPV6))
         self.socket.setsockopt(socket.SOL_SOCKET, socket.SO_RCVBUF, 1 << 22)
+        self.only(ports)
         self.socket.bind(("lo", IPV6))
         self.socket.settimeout(0.2)
         self.packets, self.going = [], True
 
+    def only(self, ports):
+        """The kernel hands us what goes to these ports alone (a filter of BPF): others may use the loopback too."""
+        code = [(0x28, 0, 0, 42)] + [(0x15, len(ports) - i, 0, port) for i, port in enumerate(ports)] + [(0x06, 0, 0, 0), (0x06, 0, 0, 65535)]
+        filled = ctypes.create_string_buffer(b"".join(struct.pack("=HBBI", *step) for step in code))
+        self.socket.setsockopt(socket.SOL_SOCKET, ATTACH_FILTER, struct.pack("@HP", len(code), ctypes.addressof(filled)))
+
     def run(self):
-        while self.going:
-            with contextlib.suppress(TimeoutError):
+        while True:  # until it is told to end, and nothing is left
+            try:
                 packet, place = self.socket.recvfrom(65536)
+            except TimeoutError:
+                if not self.going:
+                    return
+            else:
                 if place[2] != OUTGOING and packet[6] == UDP:  # each packet is seen as it goes and as it comes
                     self.packets.append((time.time(), packet))
 
-    def ended(self, ports):
+    def ended(self):
         self.going = False
         self.join()
         self.socket.close()
-        return [(hour, p) for hour, p in self.packets if struct.unpack_from(">H", p, 42)[0] in ports]
+        return self.packets
 
 
-def begun_capture():
+def begun_capture(ports):
     try:
-        capture = Capture()
+        capture = Capture(ports)
     except PermissionError:
         return None
     capture.start()
@@ -122,17 +135,17 @@ def by_their_own(packets, path, ports):
 
 def main():
     folder, program = sys.argv[1], sys.argv[2:]
-    capture = begun_capture()
     net = network.Network(GAUGES, os.path.join(folder, "gauges"), program, TICK)
+    ports = [g.port for g in net.gauges]
+    capture = begun_capture(ports)
     said = io.StringIO()
     try:
         with contextlib.redirect_stdout(said):
             network.happens(net, 2, 3, 4)
     finally:
         net.kill()
-    ports = [g.port for g in net.gauges]
     recorded = sorted(timed for g in net.gauges for timed in night(g.folder))
-    timed = capture.ended(ports) if capture else recorded
+    timed = capture.ended() if capture else recorded
     packets = [p for _, p in timed]
     missed = collections.Counter(ends(p) for _, p in recorded) - collections.Counter(map(ends, packets))
     if missed:

@@ -1,7 +1,7 @@
 #!/usr/bin/env python3
 """network_flood.py FOLDER PROGRAM..: 100,000 random and damaged datagrams go to one gauge of examples/radio.c, which PROGRAM starts, as fast as they can
-be sent. All the while it answers a neighbour; its list stays, its memory does not grow, and each datagram is counted. A gauge of another network hears
-nobody.
+be sent. All the while it answers a neighbour; its list stays, its memory does not grow, and each datagram is counted. Where more comes than it can take, its
+ticks go on.
 """
 import multiprocessing
 import os
@@ -20,10 +20,14 @@ import network
 FLOOD = 100000
 FIRST = 5000     # of them until the memory is looked at for the first time
 KEYS = 12        # that the neighbour answers for
-EACH = 0.02      # seconds between two questions of the neighbour
+EACH = 0.02      # seconds between two questions of the neighbour, ..
+AGAIN = 0.1      # .. and until one that may be lost in the flood is asked again
 PATIENCE = 20    # seconds until the gauge must hold them
 SILENT = 2       # seconds without an answer that are too long
-LEAST = 10       # answers under the flood
+LEAST = 3        # answers under the flood
+BLAST = 1.5      # seconds for which more comes than can be taken, ..
+TICKS = 8        # .. and ticks that must be made in them at least: of TICK milliseconds each
+TICK = 50
 GROWS = 64 if platform.machine() == "x86_64" else 16384  # kB that are no growth; an emulator keeps what it has translated
 OWN = bytes([128]) + bytes(31)
 KINDS = (1, 2, 3, 4, 7, 8, 9, 11)
@@ -77,7 +81,7 @@ def kilobytes(gauge):
 def waited(gauge, neighbour):
     """Asks the gauge until it answers, and gives the seconds that it took."""
     began = time.monotonic()
-    while neighbour.answered(OWN, partner.ANSWERS) is None:
+    while neighbour.answered(OWN, AGAIN) is None:
         if time.monotonic() - began > SILENT or not gauge.works():
             sys.exit("network: under the flood the gauge has not answered for %d s" % SILENT)
     return time.monotonic() - began
@@ -181,26 +185,37 @@ def flooded(folder, program):
           % (FLOOD, came - neighbour.sent, len(took), max(took), grown))
 
 
-def of_another_network(folder, program):
-    """A gauge that hears fd00::/8 alone takes nothing from here, and answers nobody."""
-    gauge = network.Gauge(1, OWN, network.free_ports(1)[0], folder, program, 20, ("-n", "fd00::/8"))
-    neighbour = partner.Partner(gauge.port)
+def blast(port):
+    """One INQUIRE as fast as it can be sent."""
+    datagram, until = model.write(model.message("inquire", network.MAJOR, network.MINOR, 5, validate=OWN)), time.monotonic() + BLAST
+    with socket.socket(socket.AF_INET6, socket.SOCK_DGRAM) as s:
+        while time.monotonic() < until:
+            for _ in range(50):
+                s.sendto(datagram, (network.HOST, port))
+
+
+def ticks_go_on(folder, program):
+    """Where datagrams come faster than they can be taken, the ticks go on all the same."""
+    gauge = network.Gauge(1, OWN, network.free_ports(1)[0], folder, program, TICK)
     gauge.begin()
     try:
         begun(gauge)
-        for _ in range(3):
-            if neighbour.answered(OWN, partner.ANSWERS) is not None:
-                sys.exit("network: somebody from elsewhere is answered")
-        gauge.stop(signal.SIGTERM)
+        before, senders = gauge.number_told("ticks"), [multiprocessing.Process(target=blast, args=(gauge.port,)) for _ in range(2)]
+        for sender in senders:
+            sender.start()
+        time.sleep(BLAST)
+        made = gauge.number_told("ticks") - before
+        for sender in senders:
+            sender.join()
+        if gauge.stop(signal.SIGTERM) != 0 or made < TICKS:
+            sys.exit("network: under a blast of datagrams %d ticks of %d ms were made in %.1f s" % (made, TICK, BLAST))
     finally:
         gauge.process.kill()
-    if said_count(gauge, "from elsewhere") != 3:
-        sys.exit("network: 3 datagrams from elsewhere are not told: %s" % gauge.said())
 
 
 def main():
     folder, program = sys.argv[1], sys.argv[2:]
-    of_another_network(os.path.join(folder, "elsewhere"), program)
+    ticks_go_on(os.path.join(folder, "blasted"), program)
     flooded(os.path.join(folder, "flooded"), program)
 
 

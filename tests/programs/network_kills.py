@@ -90,15 +90,22 @@ def killed(gauge, neighbour):
     return counts
 
 
+def put_cache(gauge, content):
+    with open(gauge.path("cache"), "wb") as f:
+        f.write(content)
+
+
 def damaged(gauge):
-    """A cut one, a longer one, one with a byte changed, another's, and an empty file."""
+    """A cut one, a longer one, one with a byte changed, one out of form with a good sum, one with more keys revoked than there is room for, an empty file. It
+    stands aside then. Another gauge's is left as it is, and nothing is begun."""
     with open(gauge.path("cache"), "rb") as f:
         good = f.read()
-    other = good[:partner.CACHE] + bytes(32)
+    def summed(at, byte):
+        changed_there = good[:at] + bytes([byte]) + good[at + 1:partner.SUM_AT]
+        return changed_there + partner.sum_of(changed_there)
     changed_byte = good[:40] + bytes([good[40] ^ 1]) + good[41:]
-    for bad in (good[:-1], good + b"\0", changed_byte, other + partner.sum_of(other), b""):
-        with open(gauge.path("cache"), "wb") as f:
-            f.write(bad)
+    for bad in (good[:-1], good + b"\0", changed_byte, summed(35, 1), summed(partner.COUNT_AT, 17), b""):
+        put_cache(gauge, bad)
         gauge.begin()
         while not gauge.number_told("ticks") and gauge.works():
             pass
@@ -109,6 +116,15 @@ def damaged(gauge):
         if gauge.said().count("the saved cache is damaged, and is not used") != 1:
             sys.exit("network: a damaged cache is not told: %s" % gauge.said()[-300:])
         os.unlink(gauge.path("said"))
+        with open(gauge.path("cache.damaged"), "rb") as f:
+            if f.read() != bad:
+                sys.exit("network: a damaged cache does not stand aside as it was")
+    another = summed(partner.OWN_AT, good[partner.OWN_AT] ^ 1)
+    put_cache(gauge, another)
+    gauge.begin()
+    with open(gauge.path("cache"), "rb") as f:
+        if gauge.process.wait(timeout=60) != 1 or "another key" not in gauge.said() or f.read() != another:
+            sys.exit("network: the cache of another gauge is not left alone: %s" % gauge.said())
 
 
 def main():

@@ -52,10 +52,21 @@ def of_strangers():
         yield "record %d 0 0 20 76 receive FLOOD %d 116\nabout %s\nsent ACK %d\nsent INQUIRE %d %s\n" % (n, n, key(n), n, n + 1, key(n))
 
 
+def neighbours():
+    """Ten ponds at our sides, close together, which get the widest names."""
+    keys = ["%064x" % ((7 << 250) + i * 2**240) for i in (-5, -4, -3, -2, -1, 1, 2, 3, 4, 5)]
+    for n, key_there in enumerate(keys, 1):
+        yield "record %d 0 0 20 76 receive FLOOD %d 116\nabout %s\nsent ACK %d\nsent INQUIRE %d %s\n" % (2 * n - 1, n, key_there, n, n + 50, key_there)
+        yield "record %d 0 0 0 0 receive AUTHORITY %d 61\nanswers %d\nanswered %s %d %d FLOOD %d\n" % (2 * n, n, n + 50, key_there, n + 50, 2 * n - 1, n)
+        yield "reading depth 1065353216 0 4294967295\njoined %s\nheld %d\n" % (key_there, n)
+    yield "below %s\nabove %s\n" % (" ".join(keys[4::-1]), " ".join(keys[5:]))
+
+
 NIGHTS = {
     "empty": "record 0 0 17 0 0 bad\nend unopened\n",
     "opening": OWN + "end whole\n",
     "bad": OWN + "record 1 1 0 0 0 tick\nrecord 2 1 16 0 0 bad\nend middle\n",
+    "wide": OWN + "".join(neighbours()) + "end whole\n",
     "strangers": OWN + "".join(of_strangers()) + "end whole\n",
 }
 
@@ -63,7 +74,8 @@ NIGHTS = {
 def written(name, lines):
     path = os.path.join(PICTURES, name + ".html")
     with page.kept(io.BytesIO(lines.encode())) as file:
-        page.to_file(path, page.pieces(file, {key(1): "<b>a name that is as long as one may be &", key(2): "W" * 40}, name + ".trace"))
+        wide = dict.fromkeys(set(re.findall(r"\b[0-9a-f]{64}\b", lines)), "W" * 40) if name == "wide" else {}
+        page.to_file(path, page.pieces(file, {key(1): "<b>a name that is as long as one may be &", key(2): "W" * 40, **wide}, name + ".trace"))
     return path
 
 
@@ -143,8 +155,19 @@ def clicked(browser, path):
     for i, link in enumerate(marks[::6]):
         browser.open(path)
         browser.click("document.querySelectorAll('.ring a.l')[%d].querySelector('text')" % (6 * i))
-        same("whether the ring leads to %s" % link, browser.value("document.getElementById('%s').closest('details').open" % link), True)
+        is_shown(browser, link)
     quiet(browser, "the clicked page")
+
+
+def is_shown(browser, link):
+    """A link has led to a story: it is unfolded, and whose it is stands on the screen."""
+    told = "document.getElementById('%s').closest('details')" % link
+    same("whether the ring leads to " + link, browser.value(told + ".open"), True)
+    before = None
+    while before != (before := browser.value("new Promise(done => setTimeout(() => done(scrollY), 300))")):  # it scrolls softly
+        continue
+    same("whether it is seen whose story %s is" % link, browser.value(
+        "(b => b.height > 0 && b.top >= 0 && b.bottom <= innerHeight)(%s.querySelector('summary').getBoundingClientRect())" % told), True)
 
 
 def searched(browser, path):
@@ -153,8 +176,15 @@ def searched(browser, path):
     every = browser.value(visible)
     first = browser.value("document.querySelector('details.pond').dataset.key")
     for words, want in ((every[-1], [every[-1]]), (first[:12], every[:1]), ("no such pond", []), ("", every)):
-        browser.value("(e => { e.value = %r; e.dispatchEvent(new Event('input')); })(document.getElementById('search'))" % words)
+        typed(browser, words)
         same("what is found by %r" % words, browser.value(visible), want)
+    typed(browser, every[-1])
+    browser.click("document.querySelector('.ring a.l text')")  # to a story that the search has hidden
+    is_shown(browser, browser.value("document.querySelector('.ring a.l').getAttribute('href').slice(1)"))
+
+
+def typed(browser, words):
+    browser.value("(e => { e.value = %r; e.dispatchEvent(new Event('input')); })(document.getElementById('search'))" % words)
 
 
 def without_scripts(browser, path):

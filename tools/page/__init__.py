@@ -175,9 +175,11 @@ class Page(Records, Stories):
 
         every = [pond for pond in self.ranked if pond.reading]
     def waiting(self):
+        waits = list(self.night.waiting.items())
         items = "".join('<li>%s %s %s %s, since %s</li>' % (kind, escaped(number), "to" if kind == "FLOOD" else "about", self.whose(key), self.when(*since))
-                        for number, (kind, key, since) in self.night.waiting.items())
-        return '<section id="waiting"><h2>Still waiting at the end</h2>%s</section>' % ("<ul>%s</ul>" % items if items else "<p>Nothing waited for an answer.</p>")
+                        for number, (kind, key, since) in waits[:limits.MOST_WAITING])
+        return '<section id="waiting"><h2>Still waiting at the end</h2>%s%s</section>' % (
+            "<ul>%s</ul>" % items if items else "<p>Nothing waited for an answer.</p>", self.more(len(waits) - limits.MOST_WAITING, "more", "more"))
 
     def water(self):
         every = [pond for pond in self.ranked if pond.reading or pond.unread]

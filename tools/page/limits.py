@@ -5,6 +5,7 @@ MOST_DRAWN = 240      # ponds on the ring, ..
 MOST_LABELS = 96      # .. and names beside it: so many fit
 MOST_LOOKUPS = 500
 MOST_DEFICITS = 100   # ponds that lose water, named before all readings
+MOST_WAITING = 100    # messages that waited at the end; a gauge has room for 16
 OPEN_LOOKUPS = 20     # of these so many are not folded
 FEW_EVENTS = 30       # events of a pond's story, at its begin and at its end
 FEW_CHANGES = 100     # of the neighbour lists, and ponds that were dropped or removed, likewise

@@ -272,6 +272,7 @@ def main():
         fault("never reached: " + ", ".join(missing))
     planted()
     lines = sum(len(text) for *_, must in held for text in must)
+    print("count: planted %d" % len(BUGS))
     print("asked: %d questions, %d lines as the model has them; %d planted bugs are found" % (len(held), lines, len(BUGS)))
 
 

@@ -26,7 +26,7 @@ PATIENCE = 20    # seconds until the gauge must hold them
 SILENT = 2       # seconds without an answer that are too long
 LEAST = 3        # answers under the flood
 BLAST = 1.5      # seconds for which more comes than can be taken, ..
-TICKS = 8        # .. and ticks that must be made in them at least: of TICK milliseconds each
+TICKS = 12       # .. and ticks that must be made in them at least: of TICK milliseconds each
 TICK = 50
 GROWS = 64 if platform.machine() == "x86_64" else 16384  # kB that are no growth; an emulator keeps what it has translated
 OWN = bytes([128]) + bytes(31)
@@ -195,8 +195,9 @@ def blast(port):
 
 
 def ticks_go_on(folder, program):
-    """Where datagrams come faster than they can be taken, the ticks go on all the same."""
-    gauge = network.Gauge(1, OWN, network.free_ports(1)[0], folder, program, TICK)
+    """Where datagrams come faster than they can be taken, the ticks go on all the same. An emulator makes the gauge slow enough for that, here too."""
+    slow = ["qemu-x86_64", program[-1]] if platform.machine() == "x86_64" else program
+    gauge = network.Gauge(1, OWN, network.free_ports(1)[0], folder, slow, TICK)
     gauge.begin()
     try:
         begun(gauge)

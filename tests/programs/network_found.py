@@ -129,7 +129,8 @@ def refused(status, program, *words):
 
 
 def words_refused(folder, program):
-    own, records = os.path.join(folder, "own"), os.path.join(folder, "records")
+    own, records, fresh = os.path.join(folder, "own"), os.path.join(folder, "records"), os.path.join(folder, "fresh")
+    os.makedirs(fresh)
     for words in ((), (own, records), ("-t", "0", own, records, folder), ("-t", "1x", own, records, folder), ("-n", "::1", own, records, folder)):
         refused(2, program, *words)
     for words in ((own + ".", records, folder), (records + ".bad", records, folder), (own, records + ".bad", folder), (own, folder, folder),
@@ -140,7 +141,7 @@ def words_refused(folder, program):
     for where in (":: 5000", "ff02::1 5000", "::ffff:127.0.0.1 5000", "::1 0", "::1 70000", "::1 http", "fe80::1 5000", "localhost 5000"):
         with open(records + ".bad", "w", encoding="ascii") as f:
             f.write("%s %s\n" % ("00" * 32, where))
-        refused(1, program, records + ".bad", records, folder)
+        refused(1, program, records + ".bad", records, fresh)
 
 
 def main():

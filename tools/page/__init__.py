@@ -93,8 +93,8 @@ class Page(Records, Stories):
         return '<dl class="figures">%s</dl>' % "".join("<div><dt>%s</dt><dd>%s</dd></div>" % (word, count(n)) for word, n in rows)
 
     def nav(self):
-        parts = (("ring", "The ring"), ("time", "Line of time"), ("answers", "Answers and refusals"), ("lookups", "LOOKUPs"), ("gone", "Dropped or removed"),
-                 ("waiting", "Still waiting"), ("water", "Water"), ("ponds", "Ponds"))
+        parts = (("ring", "The ring"), ("time", "Line of time"), ("answers", "Answers"), ("lookups", "LOOKUPs"), ("gone", "Who left"),
+                 ("waiting", "Waiting"), ("water", "Water"), ("ponds", "Ponds"))
         there = [part for part in parts if self.told or part[0] not in ("ring", "ponds")]
         return "<nav>%s</nav>" % " ".join('<a href="#%s">%s</a>' % part for part in there)
 

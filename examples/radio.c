@@ -422,20 +422,26 @@ static void pass_on(const uint8_t *key, const uint8_t *revoke_cpa, size_t cpa_le
  * of an AUTHORITY, that it holds the nonce of our INQUIRE, and gives GAUGE_GOOD with the key that the CPA is good for.
  *
  * This one verifies nothing. A CPA is good where the AUTHORITY comes from the very endpoint that we have sent the INQUIRE to, for the key that we
- * inquired about, if we know of no revocation of it: so whoever answers at an address is believed whatever key he says is his. A revoke CPA is the
- * key itself, and is believed too. */
+ * inquired about: so whoever answers at an address is believed whatever key he says is his. A revoke CPA is the key itself, and is believed too. */
 static uint32_t judge(const struct sockaddr_in6 *from, const uint8_t *datagram, const struct gauge_look_answer *seen, uint8_t *key)
 {
     const struct kept *inquire = kept_with(seen->acked);
     memset(key, 0, GAUGE_KEY_LEN);
     if (seen->kind == GAUGE_AUTHORITY && seen->cpa_len == sizeof cpa && datagram[seen->cpa_at] == cpa[0] && inquire != NULL &&
-        same_endpoint(from, &inquire->to) && !is_known_revoked(inquire->about))
+        same_endpoint(from, &inquire->to))
         memcpy(key, inquire->about, GAUGE_KEY_LEN);
     else if (seen->kind == GAUGE_FLOOD && seen->cpa_len == GAUGE_KEY_LEN)
         memcpy(key, datagram + seen->cpa_at, GAUGE_KEY_LEN);
     else
         return 0;
     return GAUGE_GOOD;
+}
+
+/* The verdict of the judge, whoever that is; but no CPA is good for a key that we know to be revoked. */
+static uint32_t verdict_on(const struct sockaddr_in6 *from, const uint8_t *datagram, const struct gauge_look_answer *seen, uint8_t *key)
+{
+    uint32_t verdict = judge(from, datagram, seen, key);
+    return seen->kind == GAUGE_AUTHORITY && is_known_revoked(key) ? 0 : verdict;
 }
 
 /* ACK and AUTHORITY go to the sender; an INQUIRE goes to the gauge that the FLOOD or LOOKUP tells of, and is kept. */
@@ -495,7 +501,7 @@ static void arrives(const struct sockaddr_in6 *from, const uint8_t *buffer, size
         counts.strange++;
         return;
     }
-    uint32_t verdict = judge(from, datagram, &seen, key), id = lent.id;
+    uint32_t verdict = verdict_on(from, datagram, &seen, key), id = lent.id;
     random_bytes(lent.nonce, sizeof lent.nonce);
     gauge_lent_verdict(&lent, verdict, key);
     struct gauge_answer a = gauge_lent_receive(&lent, datagram, len);

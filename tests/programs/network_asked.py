@@ -4,6 +4,7 @@ again, the same bytes; nonces are random; whom its judge believes, and whose ACK
 it keeps is saved at its end, and where that fails it says so at once and ends with 1; nothing goes out of its network; its folder is its own.
 """
 import os
+import re
 import signal
 import subprocess
 import sys
@@ -14,7 +15,7 @@ import model
 import network
 
 OWN = bytes([128]) + bytes(31)
-TICK = 0.1       # seconds; four of them are enough for an INQUIRE that is sent three times
+TICK = 0.15      # seconds
 ANSWER = 5       # seconds within which a gauge answers
 FEW = 5          # FLOODs to a gauge that it was told of, at least
 KEY, OTHER, SEED = bytes([1]) * 32, bytes([2]) * 32, bytes([3]) * 32
@@ -49,6 +50,13 @@ class One(network.Gauge):
         """It has taken all that was sent to it before."""
         if by.answered(OWN, ANSWER) is None:
             fault("the gauge does not answer")
+
+    def taken_for(self, ticks):
+        """What it sends to its neighbour in so many ticks and more, however long these take on a busy machine."""
+        came, until = [], self.number_told("ticks") + ticks
+        while self.works() and self.number_told("ticks") < until:
+            came += self.neighbour.taken(TICK / 3)
+        return came
 
     def ends(self, status=0, by=signal.SIGINT):
         if self.stop(by) != status:
@@ -86,7 +94,7 @@ def repeated(gauge):
     one, nonces = gauge.neighbour, set()
     for key in (KEY, OTHER):
         one.flood(key)
-        came = of_kind(one.taken(6 * TICK), "inquire", key)
+        came = of_kind(gauge.taken_for(5), "inquire", key)
         if len(came) != 3 or len({d for d, _ in came}) != 1:
             fault("an INQUIRE came %d times, in %d forms" % (len(came), len({d for d, _ in came})))
         nonces.add(came[0][1]["nonce"])
@@ -98,7 +106,7 @@ def believed(gauge, stranger):
     """An AUTHORITY from another endpoint, or with another CPA, is not; then the right one is."""
     one = gauge.neighbour
     one.flood(KEY)
-    ((_, inquiry),) = of_kind(one.taken(TICK / 2), "inquire", KEY)[:1]
+    inquiry = of_kind(one.taken(TICK / 3) or gauge.taken_for(1), "inquire", KEY)[0][1]
     stranger.send("authority", acked=inquiry["id"], cpa=partner.CPA)
     gauge.asks_again(stranger)
     one.send("authority", acked=inquiry["id"], cpa=b"\1")
@@ -114,7 +122,7 @@ def believed(gauge, stranger):
 
 def flooded(gauge, by):
     """The neighbour is flooded to; whoever it is sends an ACK which says that its key is not there."""
-    floods = [m for m in (model.read(d, network.MAJOR)[1] for d in gauge.neighbour.taken(TICK / 2)) if m["type"] == "flood"]
+    floods = [m for m in (model.read(d, network.MAJOR)[1] for d in gauge.neighbour.taken(TICK / 3)) if m["type"] == "flood"]
     for flood in floods:
         by.send("ack", acked=flood["id"], n=True)
     gauge.asks_again(by)
@@ -122,7 +130,7 @@ def flooded(gauge, by):
 
 
 def acknowledged(gauge, stranger):
-    """A FLOOD is acknowledged by the one to whom it went, and by nobody else. Gives how many ACKs came from another."""
+    """A FLOOD is acknowledged by the one to whom it went, and by nobody else. Gives how many ACKs came from another; one may be too late to matter."""
     one, strange = gauge.neighbour, 0
     while strange < 3:
         strange += flooded(gauge, stranger)
@@ -147,9 +155,9 @@ def steps(folder, program):
         if not gauge.neighbour.taught(OWN, OTHER, is_on):
             fault("the gauge takes no record")
         said = gauge.ends()
-    for line in ("dropped: 3 too long, 0 from elsewhere, 7 malformed, %d ACKs" % strange, "refused: 2, not trusted"):
-        if line not in said:
-            fault("'%s' is not told: %s" % (line, said))
+    told = re.search(r"dropped: 3 too long, 0 from elsewhere, 7 malformed, (\d+) ACKs", said)
+    if not told or not 0 < int(told.group(1)) <= strange or "refused: 2, not trusted" not in said:
+        fault("what was dropped, with %d ACKs, and 2 that were not trusted are not told: %s" % (strange, said))
     if gauge.holds() != [OTHER]:
         fault("what was held at the end is not saved")
 
@@ -230,7 +238,7 @@ def called(folder, program):
     gauge = One(folder, program)
     gauge.knows([network.Gauge(2, SEED, gauge.neighbour.port, folder + "-seed", program, 1)])
     with gauge:
-        floods = [m for _, m in of_kind(gauge.neighbour.taken((FEW + 2) * TICK), "flood", bytes(32)) if m["route"]["key"] == OWN]
+        floods = [m for _, m in of_kind(gauge.taken_for(FEW), "flood", bytes(32)) if m["route"]["key"] == OWN]
         gauge.ends()
     if len(floods) < FEW:
         fault("a gauge that it was told of was called %d times" % len(floods))

@@ -218,8 +218,8 @@ class Network:
                 g.process.wait()
 
 
-def numbers(gauges):
-    return " ".join(map(str, gauges)) or "none"
+def by_whom(gauges):
+    return "gauges " + " ".join(map(str, gauges)) if gauges else "nobody"
 
 
 def dropped(gauges):
@@ -244,8 +244,8 @@ def all_found(net):
 def one_killed(net, gauge):
     gauge.stop(signal.SIGKILL)
     net.watched(SILENCE)
-    print("Gauge %d is killed. %d ticks later it is silent, still listed by gauges %s."
-          % (gauge.number, SILENCE, numbers(net.listing(gauge))), flush=True)
+    print("Gauge %d is killed. %d ticks later it is silent, still listed by %s."
+          % (gauge.number, SILENCE, by_whom(net.listing(gauge))), flush=True)
 
 
 def one_revoked(net, gauge, told):
@@ -254,7 +254,7 @@ def one_revoked(net, gauge, told):
     net.watched(SILENCE)
     print("Gauge %d is revoked: the office tells gauge %d alone. %.1f s and %d datagrams later all %d lists are right." % (
         gauge.number, told.number, took, datagrams, len(net.working())))
-    print("  %d ticks later, though it is still on, it is listed by gauges %s" % (SILENCE, numbers(net.listing(gauge))), flush=True)
+    print("  %d ticks later, though it is still on, it is listed by %s" % (SILENCE, by_whom(net.listing(gauge))), flush=True)
 
 
 def one_anew(net, gauge):

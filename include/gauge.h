@@ -81,7 +81,8 @@
  * 22 arguments by hand are for who wants them: gauge_host.h has the same calls over one struct, the messages that a
  * host writes itself, texts for the numbers, and recipes for what a host does all day. To record a gauge's calls:
  * gauge_trace.h. The memory, byte by byte: docs/MEMORY.md. What was decided, and why: docs/DECISIONS.md. Examples:
- * examples/first.c, examples/two_ponds.c, and examples/hill.c with all that a radio program does. */
+ * examples/first.c, examples/two_ponds.c, examples/hill.c with all that a radio program does, and examples/radio.c,
+ * one gauge on a real socket, to begin with. */
 #ifndef GAUGE_H
 #define GAUGE_H
 

@@ -131,9 +131,11 @@ def flooded(gauge, by):
 
 def acknowledged(gauge, stranger):
     """A FLOOD is acknowledged by the one to whom it went, and by nobody else. Gives how many ACKs came from another; one may be too late to matter."""
-    one, strange = gauge.neighbour, 0
+    one, strange, until = gauge.neighbour, 0, time.monotonic() + ANSWER
     while strange < 3:
         strange += flooded(gauge, stranger)
+        if time.monotonic() > until:
+            fault("the gauge floods no more to its neighbour, of whom another has said that its key is not there")
     time.sleep(2 * TICK)
     if not gauge.number_told("held"):
         fault("an ACK from another endpoint than the FLOOD went to removes a key")

@@ -5,6 +5,7 @@ whoever changes these tests or radio.c. `make lib` has made the archive before.
 """
 import os
 import shutil
+import signal
 import subprocess
 import sys
 
@@ -83,13 +84,16 @@ def finds(test, folder, program):
     commands = [["tests/programs/network_%s.py" % test, there, *program]]
     if test == "found":
         commands.insert(0, ["tools/network.py", "--gauges", "8", "--tick", "50", "--folder", there, *program])
-    try:
-        for command in commands:
-            run = subprocess.run(command, capture_output=True, text=True, timeout=LIMIT)
-            if run.returncode:
-                return (run.stderr or run.stdout).strip().split("\n")[-1]
-    except subprocess.TimeoutExpired:
-        return "it takes too long"
+    for command in commands:
+        run = subprocess.Popen(command, stdout=subprocess.PIPE, stderr=subprocess.STDOUT, text=True, start_new_session=True)
+        try:
+            said, _ = run.communicate(timeout=LIMIT)
+        except subprocess.TimeoutExpired:
+            os.killpg(run.pid, signal.SIGKILL)  # its gauges with it, which would go on writing there
+            run.wait()
+            return "it takes too long"
+        if run.returncode:
+            return said.strip().split("\n")[-1]
     return None
 
 

@@ -38,6 +38,14 @@ def taken(trace, at):
     return int.from_bytes(trace[at + 2:at + 4], "little"), trace[at + 4:at + 2 + length], at + 2 + length
 
 
+def records(trace):
+    """Kind and body of each record of a whole trace; one that can't be taken is a fault of whoever asks (TypeError)."""
+    at = 0
+    while at < len(trace):
+        kind, body, at = taken(trace, at)
+        yield kind, body
+
+
 class Night(model.Gauge):
     def __init__(self, body):
         super().__init__(body[2:], bytes(100 * C), cpas=CPAS, major=body[0], minor=body[1])

@@ -48,13 +48,6 @@ def place(key):
     return ENDPOINTS[{NEW: REPLACED, 44: SHARED}.get(pond, pond)]
 
 
-def records(trace):
-    at = 0
-    while at < len(trace):
-        kind, body, at = model_night.taken(trace, at)
-        yield kind, body
-
-
 def senders(body):
     """The endpoints that a datagram can have come from: those of all ponds, and less where its contents tell more."""
     verdict, key, kind = body[4], body[5:37], body[60]
@@ -87,7 +80,7 @@ def night(folder, pond, program):
     """How many calls it has."""
     name = os.path.join(folder, "pond-%d" % pond)
     trace, hours = open(name + ".trace", "rb").read(), open(name + ".hours", "rb").read()
-    calls = list(records(trace))
+    calls = list(model_night.records(trace))
     hold("how long the hours of %s are" % name, len(hours), 40 * len(calls))
     rows = list(struct.iter_unpack("<Q18sIIIH", hours))
     opened(name, pond, calls[0][1], rows[0])

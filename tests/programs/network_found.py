@@ -26,13 +26,6 @@ def fault(what):
     sys.exit("network: " + what)
 
 
-def records(trace):
-    at = 0
-    while at < len(trace):
-        kind, body, at = model_night.taken(trace, at)
-        yield kind, body
-
-
 def endpoints(folders):
     """Port and address of each gauge, as on the wire."""
     found = set()
@@ -44,7 +37,7 @@ def endpoints(folders):
 
 def endpoints_told(trace, hours, known):
     """Each datagram came from a gauge, and a FLOOD went to one; a revocation may have come from the office."""
-    for i, (kind, body) in enumerate(records(trace)):
+    for i, (kind, body) in enumerate(model_night.records(trace)):
         sender, datagram = hours[ROW * i + 8:ROW * i + 26], body[53:]
         if kind == RECEIVE and sender not in known and not (len(datagram) == REVOCATION and sender[2:] == partner.ADDRESS):
             fault("a datagram of a night came from %s" % sender.hex())
@@ -63,7 +56,7 @@ def hours_told(path, hours):
 def all_taken(path, trace, said):
     """Each datagram that came is in the night, but those that were dropped before."""
     (came,), (out,) = re.findall(r"(\d+) came", said), re.findall(r"dropped: (\d+) too long, (\d+) from elsewhere, (\d+) malformed, (\d+) ACKs", said)
-    there = sum(kind == RECEIVE for kind, _ in records(trace))
+    there = sum(kind == RECEIVE for kind, _ in model_night.records(trace))
     if there != int(came) - sum(map(int, out)):
         fault("%s has %d datagrams, and %s came" % (path, there, came))
 
@@ -102,7 +95,7 @@ def night_of(folder, known):
 
 
 def killed_night(folder):
-    """What a gauge had recorded when it was killed: all of its ticks but the last two, and a saved cache."""
+    """What a gauge had recorded when it was killed: all of its ticks but the last two; and a saved cache, where it came to save one."""
     gauge = Told(folder)
     with open(gauge.nights[0], "rb") as f:
         trace = f.read()
@@ -112,7 +105,8 @@ def killed_night(folder):
         ticks += kind == TICK
     if ticks < gauge.number_told("ticks") - 2:
         fault("a gauge was killed at tick %d, and its night has %d" % (gauge.number_told("ticks"), ticks))
-    partner.saved_cache(gauge.path("cache"), own_of(folder))
+    if gauge.number_told("ticks") >= network.SAVED_EACH:
+        partner.saved_cache(gauge.path("cache"), own_of(folder))
 
 
 class Told(network.Gauge):

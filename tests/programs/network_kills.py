@@ -50,11 +50,11 @@ def changed(states, neighbour, chance, lives):
 
 
 def life(gauge, states, neighbour, chance):
-    """From the start to the kill, at a random moment behind the first answer. By then something is saved: the gauge does so at each tick."""
+    """From the start to the kill, at a random moment behind the first answer. The very first cache is waited for, so that there is one before each kill."""
     def lives():
         return gauge.process.poll() is None
     gauge.begin()
-    while neighbour.answered(OWN, partner.ANSWERS) is None and lives():
+    while (neighbour.answered(OWN, partner.ANSWERS) is None or not os.path.exists(gauge.path("cache"))) and lives():
         pass
     killer = threading.Timer(chance.uniform(0, LONGEST), gauge.process.kill)
     killer.start()

@@ -3,6 +3,7 @@
 again, the same bytes; nonces are random; whom its judge believes, and whose ACKs are heard; a key that is revoked stays away, also after a start anew; what
 it keeps is saved at its end, and where that fails it says so at once and ends with 1; nothing goes out of its network; its folder is its own.
 """
+import glob
 import os
 import re
 import signal
@@ -12,6 +13,7 @@ import time
 
 import partner
 import model
+import model_night
 import network
 
 OWN = bytes([128]) + bytes(31)
@@ -235,6 +237,19 @@ def of_another_network(folder, program, network_told):
         fault("what comes from elsewhere, or would go there, is not told: %s" % said)
 
 
+def recorded_so_far(folder, program):
+    """Whoever is killed has its night up to the last tick or two: few ticks are less than a file's buffer."""
+    with One(folder, program) as gauge:
+        gauge.taken_for(FEW)
+        ticks = gauge.number_told("ticks")
+        gauge.stop(signal.SIGKILL)
+    (path,) = glob.glob(gauge.path("night-*.trace"))
+    with open(path, "rb") as f:
+        there = sum(kind == 3 for kind, _ in model_night.records(f.read()))
+    if there < ticks - 2:
+        fault("a gauge was killed at tick %d, and its night has %d" % (ticks, there))
+
+
 def called(folder, program):
     """A gauge that it was told of is called from tick to tick, as long as it is not held."""
     gauge = One(folder, program)
@@ -254,6 +269,7 @@ def main():
     in_use(os.path.join(folder, "in-use"), program)
     of_another_network(os.path.join(folder, "elsewhere"), program, "fd00::/8")
     of_another_network(os.path.join(folder, "elsewhere-by-a-bit"), program, "8000::/1")
+    recorded_so_far(os.path.join(folder, "so-far"), program)
     called(os.path.join(folder, "called"), program)
     print("network: one gauge, step by step: what is dropped, repeated, believed, saved and not sent is as it must be")
 

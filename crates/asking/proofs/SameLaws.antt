@@ -11,7 +11,7 @@ use Rattle.kept.specs.Keys.{Rising, plain}
 use Rattle.cache.specs.declared.place.Found.{Found}
 use Rattle.cache.specs.declared.place.Found.TheVariants.{At, Before}
 use Rattle.cache.specs.Form.{keys_of}
-use Rattle.cache.specs.Place.{further, findKey}
+use Rattle.cache.specs.Place.{further, find_key}
 
 -- a record with another key is another
 other_key : (q r : List ℕ) → (key_of q ≡ key_of r → ⊥) → same q r ≡ false
@@ -21,9 +21,9 @@ other_key q r ne = go (same q r) refl
     go true e = absurd (ne (ap key_of (same-eq q r e)))
     go false e = e
 
-or-false : (t : Bool) → t || false ≡ t
-or-false true = refl
-or-false false = refl
+or_false : (t : Bool) → t || false ≡ t
+or_false true = refl
+or_false false = refl
 
 none_above : (r : List ℕ) (low : ℕ) (recs : List (List ℕ)) → key_of r < low → Rising plain low (keys_of recs)
     → any_of (λ (q : List ℕ). same q r) recs ≡ false
@@ -34,44 +34,44 @@ none_above r low (x ∷ xs) h rise =
     (none_above r (suc (key_of x)) xs (omega (arith, rise.0)) rise.1)
 
 -- what a place found says of it
-abbrev sameAt : Found → List ℕ → List (List ℕ) → Bool
-sameAt (At i) r recs = same (get_or recs i []) r
-sameAt (Before i) r recs = false
+abbrev same_at : Found → List ℕ → List (List ℕ) → Bool
+same_at (At i) r recs = same (get_or recs i []) r
+same_at (Before i) r recs = false
 
-further_same : (f : Found) (r x : List ℕ) (xs : List (List ℕ)) → sameAt (further f) r (x ∷ xs) ≡ sameAt f r xs
+further_same : (f : Found) (r x : List ℕ) (xs : List (List ℕ)) → same_at (further f) r (x ∷ xs) ≡ same_at f r xs
 further_same (At i) r x xs = refl
 further_same (Before i) r x xs = refl
 
-same-found : (r : List ℕ) (low : ℕ) (recs : List (List ℕ)) → Rising plain low (keys_of recs)
-    → any_of (λ (q : List ℕ). same q r) recs ≡ sameAt (findKey (key_of r) (keys_of recs)) r recs
-unfolding any_of findKey
-same-found r low [] rise = refl
-same-found r low (x ∷ xs) rise = go (stand (key_of x) (key_of r)) (same-found r (suc (key_of x)) xs rise.1)
+same_found : (r : List ℕ) (low : ℕ) (recs : List (List ℕ)) → Rising plain low (keys_of recs)
+    → any_of (λ (q : List ℕ). same q r) recs ≡ same_at (find_key (key_of r) (keys_of recs)) r recs
+unfolding any_of find_key
+same_found r low [] rise = refl
+same_found r low (x ∷ xs) rise = go (stand (key_of x) (key_of r)) (same_found r (suc (key_of x)) xs rise.1)
   where
     go : Stand (key_of x) (key_of r)
-        → any_of (λ (q : List ℕ). same q r) xs ≡ sameAt (findKey (key_of r) (keys_of xs)) r xs
-        → any_of (λ (q : List ℕ). same q r) (x ∷ xs) ≡ sameAt (findKey (key_of r) (keys_of (x ∷ xs))) r (x ∷ xs)
+        → any_of (λ (q : List ℕ). same q r) xs ≡ same_at (find_key (key_of r) (keys_of xs)) r xs
+        → any_of (λ (q : List ℕ). same q r) (x ∷ xs) ≡ same_at (find_key (key_of r) (keys_of (x ∷ xs))) r (x ∷ xs)
     go (below h) ih =
         rw (lt-ltb (key_of x) (key_of r) h, other_key x r (λ (e : key_of x ≡ key_of r). omega arith))
-        (ih ∙ sym (further_same (findKey (key_of r) (keys_of xs)) r x xs))
+        (ih ∙ sym (further_same (find_key (key_of r) (keys_of xs)) r x xs))
     go (equal h) ih =
         rw (
           le-ltb (key_of x) (key_of r) (omega arith),
           eq-eqb (key_of x) (key_of r) h,
           none_above r (suc (key_of x)) xs (omega arith) rise.1,
         )
-        (or-false (same x r))
+        (or_false (same x r))
     go (above h) ih =
         rw (le-ltb (key_of x) (key_of r) (omega arith), ne_eqb (key_of x) (key_of r) (λ (e : key_of x ≡ key_of r). omega arith))
         (none_above r (key_of x) (x ∷ xs) h (omega arith, rise.1))
 
 -- of the records in a cache, by what was found
 module _ (r : List ℕ) (held : ℕ) (s : List ℕ) (rise : Rising plain 0 (keys_of (rows 100 held s)))
-    {f : Found} (is : f ≡ findKey (key_of r) (keys_of (rows 100 held s))) {i : ℕ} where
+    {f : Found} (is : f ≡ find_key (key_of r) (keys_of (rows 100 held s))) {i : ℕ} where
   pub same_here : f ≡ At i → i < held → any_of (λ (q : List ℕ). same q r) (rows 100 held s) ≡ same (part (100 * i) 100 s) r
   same_here e h =
-      same-found r 0 (rows 100 held s) rise ∙ ap (λ (g : Found). sameAt g r (rows 100 held s)) (sym is ∙ e)
+      same_found r 0 (rows 100 held s) rise ∙ ap (λ (g : Found). same_at g r (rows 100 held s)) (sym is ∙ e)
       ∙ ap (λ (q : List ℕ). same q r) (row_at 100 held s i h)
 
   pub same-nowhere : f ≡ Before i → any_of (λ (q : List ℕ). same q r) (rows 100 held s) ≡ false
-  same-nowhere e = same-found r 0 (rows 100 held s) rise ∙ ap (λ (g : Found). sameAt g r (rows 100 held s)) (sym is ∙ e)
+  same-nowhere e = same_found r 0 (rows 100 held s) rise ∙ ap (λ (g : Found). same_at g r (rows 100 held s)) (sym is ∙ e)

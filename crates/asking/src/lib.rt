@@ -1,27 +1,27 @@
 // Whether the record of a route entry must be inquired about, whatever message the entry stands in.
 ghost use Rattle.std.specs.Prelude.{◌≡◌, ℕ, ◌+◌, ◌*◌, ◌<◌, ◌≤◌, true, List, length};
 ghost use Rattle.octet.specs.Part.{part, same};
-ghost use Rattle.record.specs.Entry.{entryForm, recordOf};
-ghost use Rattle.own.specs.Own.{ownForm, ownKeys};
+ghost use Rattle.record.specs.Entry.{entry_form, record_of};
+ghost use Rattle.own.specs.Own.{own_form, own_keys};
 ghost use Rattle.table.specs.Rows.{rows, any_of};
 ghost use Rattle.kept.specs.Keys.{Rising, plain};
 ghost use Rattle.cache.specs.Form.{keys_of};
-ghost use Rattle.asking.specs.Asking.{inquireRoom, mustAsk, asksFor};
-ghost use Rattle.asking.specs.Ids.{idAfter};
+ghost use Rattle.asking.specs.Asking.{inquire_room, must_ask, asks_for};
+ghost use Rattle.asking.specs.Ids.{id_after};
 
 // How many bytes an INQUIRE has.
 pub const INQUIRE_LEN: usize = 76;
 
 // The ID of an INQUIRE is one more than the given one; the last is followed by 0.
 pub fn id_after(id: u32) -> u32
-    ensures { result ≡ idAfter id }
+    ensures { result ≡ id_after id }
 {
     std::num::wrapping_add_u32(id, 1)
 }
 
 // How many bytes the INQUIRE has, where one is sent.
 pub fn inquire_room(opens: bool) -> usize
-    ensures { result ≡ inquireRoom opens }
+    ensures { result ≡ inquire_room opens }
 {
     if opens { INQUIRE_LEN } else { 0 }
 }
@@ -29,8 +29,8 @@ pub fn inquire_room(opens: bool) -> usize
 // Is the very record that the entry at a place names held? Only one with its key can be it.
 fn holds_same(cache: &[u8], held: usize, d: &[u8], start: usize, len: usize) -> bool
     requires { (100 * held ≤ length cache.now) × (start + len ≤ length d.now)
-        × (entryForm (part start len d.now) ≡ true) × Rising plain 0 (keys_of (rows 100 held cache.now)) }
-    ensures { result ≡ any_of (λ (q : List ℕ). same q (recordOf (part start len d.now)))
+        × (entry_form (part start len d.now) ≡ true) × Rising plain 0 (keys_of (rows 100 held cache.now)) }
+    ensures { result ≡ any_of (λ (q : List ℕ). same q (record_of (part start len d.now)))
         (rows 100 held cache.now) }
 {
     let end = start + len;
@@ -51,10 +51,10 @@ pub fn must_ask(
     len: usize,
 ) -> bool
     requires { (100 * held ≤ length cache.now) × (140 * used ≤ length waiting.now)
-        × (start + len ≤ length d.now) × (entryForm (part start len d.now) ≡ true)
+        × (start + len ≤ length d.now) × (entry_form (part start len d.now) ≡ true)
         × Rising plain 0 (keys_of (rows 100 held cache.now)) }
-    ensures { result ≡ mustAsk (rows 100 held cache.now) (rows 140 used waiting.now)
-        (recordOf (part start len d.now)) }
+    ensures { result ≡ must_ask (rows 100 held cache.now) (rows 140 used waiting.now)
+        (record_of (part start len d.now)) }
 {
     if holds_same(cache, held, d, start, len) {
         return false;
@@ -77,10 +77,10 @@ pub fn asks_for(
     start: usize,
     len: usize,
 ) -> bool
-    requires { (ownForm own.now ≡ true) × (100 * held ≤ length cache.now) × (140 * used ≤ length waiting.now)
-        × (start + len ≤ length d.now) × (0 < len → entryForm (part start len d.now) ≡ true)
+    requires { (own_form own.now ≡ true) × (100 * held ≤ length cache.now) × (140 * used ≤ length waiting.now)
+        × (start + len ≤ length d.now) × (0 < len → entry_form (part start len d.now) ≡ true)
         × Rising plain 0 (keys_of (rows 100 held cache.now)) }
-    ensures { result ≡ asksFor (ownKeys own.now) (rows 100 held cache.now)
+    ensures { result ≡ asks_for (own_keys own.now) (rows 100 held cache.now)
         (rows 140 used waiting.now) (part start len d.now) }
 {
     if len == 0 {

@@ -9,34 +9,34 @@ use lib.ListN.{length, length-map}
 use borrow.Author.Tests.{not-false}
 use Rattle.key.specs.Number.{key_at}
 use Rattle.record.specs.Record.{key_of}
-use Rattle.refusal.proofs.CallLaws.{or-known}
-use Rattle.own.specs.Own.{ownKeys}
+use Rattle.refusal.proofs.CallLaws.{or_known}
+use Rattle.own.specs.Own.{own_keys}
 use Rattle.table.proofs.RowLaws.{rows-length}
-use Rattle.kept.specs.Turned.{countUnder}
+use Rattle.kept.specs.Turned.{count_under}
 use Rattle.kept.specs.Keys.{has}
 use Rattle.kept.proofs.TurnLaws.{among-le}
 use Rattle.search.specs.Halving.{halvings, digits}
-use Rattle.search.specs.Sought.{soughtIn}
+use Rattle.search.specs.Sought.{sought_in}
 use Rattle.search.specs.declared.Sought.{Sought}
-use Rattle.search.proofs.HalvingLaws.{at-most-digits, digits_le, digits-256}
+use Rattle.search.proofs.HalvingLaws.{at_most_digits, digits_le_lem, digits_256}
 use Rattle.cache.specs.declared.calls.Searched.{Searched}
-use Rattle.cache.specs.Form.{keys_of, heldIn, held_of, cacheForm}
-use Rattle.cache.specs.Calls.{heldBy}
-use Rattle.cache.specs.Searching.{searched, placeAmong, searchWrong, searchCall}
-use Rattle.cache.proofs.FormLaws.{true-form, form-laid}
+use Rattle.cache.specs.Form.{keys_of, held_in, held_of, cache_form}
+use Rattle.cache.specs.Calls.{held_by}
+use Rattle.cache.specs.Searching.{searched, place_among, search_wrong, search_call}
+use Rattle.cache.proofs.FormLaws.{true_form, form_laid}
 
 -- ---- by what the search tells
 
-module _ (k : ℕ) (ks : List ℕ) {q : Sought} (is : q ≡ soughtIn k ks) where
-  pub told-held : q.held ≡ true → searched 0 (q.at + 1) q.compared ≡ searched 0 (placeAmong k ks) (halvings ks k)
-  unfolding placeAmong
+module _ (k : ℕ) (ks : List ℕ) {q : Sought} (is : q ≡ sought_in k ks) where
+  pub told-held : q.held ≡ true → searched 0 (q.at + 1) q.compared ≡ searched 0 (place_among k ks) (halvings ks k)
+  unfolding place_among
   told-held h =
       let there : has k ks ≡ true = sym (ap (λ (s : Sought). s.held) is) ∙ h in
-      let next : q.at + 1 ≡ suc (countUnder k ks) = omega (arith, ap (λ (s : Sought). s.at) is) in
+      let next : q.at + 1 ≡ suc (count_under k ks) = omega (arith, ap (λ (s : Sought). s.at) is) in
       rw there (ap₂ (searched 0) next (ap (λ (s : Sought). s.compared) is))
 
-  pub told_none : q.held ≡ false → searched 0 0 q.compared ≡ searched 0 (placeAmong k ks) (halvings ks k)
-  unfolding placeAmong
+  pub told_none : q.held ≡ false → searched 0 0 q.compared ≡ searched 0 (place_among k ks) (halvings ks k)
+  unfolding place_among
   told_none h =
       let out : has k ks ≡ false = sym (ap (λ (s : Sought). s.held) is) ∙ h in
       rw out (ap (searched 0 0) (ap (λ (s : Sought). s.compared) is))
@@ -44,51 +44,51 @@ module _ (k : ℕ) (ks : List ℕ) {q : Sought} (is : q ≡ soughtIn k ks) where
 -- ---- how few
 
 -- at most 256 records are held
-pub held-most : (own cache : List ℕ) → cacheForm (ownKeys own) cache ≡ true → length (heldBy own cache) ≤ 256
+pub held_most : (own cache : List ℕ) → cache_form (own_keys own) cache ≡ true → length (held_by own cache) ≤ 256
 unfolding held_of
-held-most own cache e =
-    let f = true-form (ownKeys own) cache e in
-    let n = heldIn (ownKeys own) cache in
-    omega (arith, rows-length 100 n cache, (form-laid (ownKeys own) n cache f).room, f.places.most)
+held_most own cache e =
+    let f = true_form (own_keys own) cache e in
+    let n = held_in (own_keys own) cache in
+    omega (arith, rows-length 100 n cache, (form_laid (own_keys own) n cache f).room, f.places.most)
 
 -- the keys held are as many as the records, and a search compares at most as many as that number has binary digits
-pub keys-bound : (own cache : List ℕ) (k : ℕ) → halvings (keys_of (heldBy own cache)) k ≤ digits (length (heldBy own cache))
-keys-bound own cache k =
-    omega (arith, at-most-digits (keys_of (heldBy own cache)) k, ap digits (length-map (heldBy own cache) key_of))
+pub keys_bound : (own cache : List ℕ) (k : ℕ) → halvings (keys_of (held_by own cache)) k ≤ digits (length (held_by own cache))
+keys_bound own cache k =
+    omega (arith, at_most_digits (keys_of (held_by own cache)) k, ap digits (length-map (held_by own cache) key_of))
 
-pub keys-few : (own cache : List ℕ) (k : ℕ) → cacheForm (ownKeys own) cache ≡ true → halvings (keys_of (heldBy own cache)) k ≤ 9
-keys-few own cache k e =
-    omega (arith, keys-bound own cache k, digits_le (length (heldBy own cache)) 256 (held-most own cache e), digits-256)
+pub keys_few : (own cache : List ℕ) (k : ℕ) → cache_form (own_keys own) cache ≡ true → halvings (keys_of (held_by own cache)) k ≤ 9
+keys_few own cache k e =
+    omega (arith, keys_bound own cache k, digits_le_lem (length (held_by own cache)) 256 (held_most own cache e), digits_256)
 
-place-few : (k : ℕ) (ks : List ℕ) → placeAmong k ks ≤ length ks + 1
-unfolding placeAmong
-place-few k ks = by (has k ks)
+place_few : (k : ℕ) (ks : List ℕ) → place_among k ks ≤ length ks + 1
+unfolding place_among
+place_few k ks = by (has k ks)
   where
-    by : (b : Bool) → cond b (suc (countUnder k ks)) 0 ≤ length ks + 1
+    by : (b : Bool) → cond b (suc (count_under k ks)) 0 ≤ length ks + 1
     by true = omega (arith, among-le (λ (j : ℕ). ltb j k) ks)
     by false = omega arith
 
 module _ (own cache key : List ℕ) where
   abbrev place : ℕ
-  place = placeAmong (key_at 0 key) (keys_of (heldBy own cache))
+  place = place_among (key_at 0 key) (keys_of (held_by own cache))
 
   abbrev count : ℕ
-  count = halvings (keys_of (heldBy own cache)) (key_at 0 key)
+  count = halvings (keys_of (held_by own cache)) (key_at 0 key)
 
-  pub search-bound : (searchCall own cache key).compared ≤ digits (length (heldBy own cache))
-  unfolding searchCall
+  pub search-bound : (search_call own cache key).compared ≤ digits (length (held_by own cache))
+  unfolding search_call
   search-bound =
-      or-known (λ (r : Searched). r.compared ≤ digits (length (heldBy own cache))) (λ (n : ℕ). searched n 0 0) (searchWrong own cache key)
-      (searched 0 place count) (λ n. omega arith) (λ f. keys-bound own cache (key_at 0 key))
+      or_known (λ (r : Searched). r.compared ≤ digits (length (held_by own cache))) (λ (n : ℕ). searched n 0 0) (search_wrong own cache key)
+      (searched 0 place count) (λ n. omega arith) (λ f. keys_bound own cache (key_at 0 key))
 
-  pub search-few : ((searchCall own cache key).place ≤ 257) × ((searchCall own cache key).compared ≤ 9)
-  unfolding searchCall
+  pub search-few : ((search_call own cache key).place ≤ 257) × ((search_call own cache key).compared ≤ 9)
+  unfolding search_call
   search-few =
-      or-known (λ (r : Searched). (r.place ≤ 257) × (r.compared ≤ 9)) (λ (n : ℕ). searched n 0 0) (searchWrong own cache key)
+      or_known (λ (r : Searched). (r.place ≤ 257) × (r.compared ≤ 9)) (λ (n : ℕ). searched n 0 0) (search_wrong own cache key)
       (searched 0 place count)
       (λ n. (omega arith, omega arith))
       (λ f.
       let e = not-false _ f.1.0 in (
-        omega (arith, place-few (key_at 0 key) (keys_of (heldBy own cache)), length-map (heldBy own cache) key_of, held-most own cache e),
-        keys-few own cache (key_at 0 key) e,
+        omega (arith, place_few (key_at 0 key) (keys_of (held_by own cache)), length-map (held_by own cache) key_of, held_most own cache e),
+        keys_few own cache (key_at 0 key) e,
       ))

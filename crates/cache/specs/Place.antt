@@ -1,22 +1,22 @@
 -- Helps the code. Where a key stands among rising keys, or would; and the answers of the searches, by enum. Assumes nothing.
 use Rattle.std.specs.Prelude.{ℕ, zero, suc, ◌*◌, ◌≡◌, Bool, true, false, cond, ◌&&◌, ◌||◌, List, [], ◌∷◌, leb, ltb, eqb}
-use Rattle.octet.specs.Number.{valueBE}
+use Rattle.octet.specs.Number.{value_be}
 use Rattle.octet.specs.Part.{part}
-use Rattle.record.specs.Record.{key_of, recordForm}
-use Rattle.own.specs.Own.{Own, isOwn}
-use Rattle.cache.specs.Form.{heldIn, cacheForm}
+use Rattle.record.specs.Record.{key_of, record_form}
+use Rattle.own.specs.Own.{Own, is_own}
+use Rattle.cache.specs.Form.{held_in, cache_form}
 use Rattle.cache.specs.declared.shape.Formed.{Formed}
 use Rattle.cache.specs.declared.shape.Formed.TheVariants.{Bad, Good}
 use Rattle.cache.specs.declared.place.Found.{Found}
 use Rattle.cache.specs.declared.place.Found.TheVariants.{At, Before}
 
 -- the test of the form, with how many records are held
-unfoldable pub cacheFormed : Own → List ℕ → Formed
-cacheFormed own cache = cond (cacheForm own cache) (Good (heldIn own cache)) Bad
+unfoldable pub cache_formed : Own → List ℕ → Formed
+cache_formed own cache = cond (cache_form own cache) (Good (held_in own cache)) Bad
 
 -- is the row r a record whose key is at least low, whosever it is?
 unfoldable pub rises : ℕ → List ℕ → Bool
-rises low r = recordForm r && leb low (key_of r)
+rises low r = record_form r && leb low (key_of r)
 
 -- how many rows, from the first, are records with rising keys
 unfoldable pub ordered : ℕ → List (List ℕ) → ℕ
@@ -24,14 +24,14 @@ ordered low [] = 0
 ordered low (r ∷ rs) = cond (rises low r) (suc (ordered (suc (key_of r)) rs)) 0
 
 -- is one of the keys ours?
-unfoldable pub anyOwn : Own → List ℕ → Bool
-anyOwn own [] = false
-anyOwn own (k ∷ ks) = isOwn own k || anyOwn own ks
+unfoldable pub any_own : Own → List ℕ → Bool
+any_own own [] = false
+any_own own (k ∷ ks) = is_own own k || any_own own ks
 
 -- the first word of the key before place i, which the loop over the places carries along; anything before the first
 abbrev pub Carried : List ℕ → ℕ → ℕ → Type 0
 Carried cache zero last = Unit {0}
-Carried cache (suc i) last = last ≡ valueBE 256 (part (100 * i) 8 cache)
+Carried cache (suc i) last = last ≡ value_be 256 (part (100 * i) 8 cache)
 
 -- one place further
 abbrev pub further : Found → Found
@@ -39,11 +39,11 @@ further (At i) = At (suc i)
 further (Before i) = Before (suc i)
 
 -- at the place of k, or before that of the first key above it
-unfoldable pub findKey : ℕ → List ℕ → Found
-findKey k [] = Before 0
-findKey k (j ∷ ks) = cond (ltb j k) (further (findKey k ks)) (cond (eqb j k) (At 0) (Before 0))
+unfoldable pub find_key : ℕ → List ℕ → Found
+find_key k [] = Before 0
+find_key k (j ∷ ks) = cond (ltb j k) (further (find_key k ks)) (cond (eqb j k) (At 0) (Before 0))
 
 -- does it stand there?
-abbrev pub isFound : Found → Bool
-isFound (At i) = true
-isFound (Before i) = false
+abbrev pub is_found : Found → Bool
+is_found (At i) = true
+is_found (Before i) = false

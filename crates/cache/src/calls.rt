@@ -1,9 +1,9 @@
 // Calls on memory that nobody has tested: refused with the number of document 01, nothing changed, or done.
 ghost use Rattle.std.specs.Prelude.{◌≡◌, cond};
-ghost use Rattle.own.specs.Own.{ownForm, ownKeys};
-ghost use Rattle.cache.specs.Place.{cacheFormed};
-ghost use Rattle.cache.specs.Calls.{cacheChanged, learnCall, removeCall};
-ghost use Rattle.cache.specs.Searching.{searchCall};
+ghost use Rattle.own.specs.Own.{own_form, own_keys};
+ghost use Rattle.cache.specs.Place.{cache_formed};
+ghost use Rattle.cache.specs.Calls.{cache_changed, learn_call, remove_call};
+ghost use Rattle.cache.specs.Searching.{search_call};
 ghost use Rattle.cache.specs.declared.shape.Formed.TheVariants.{Bad};
 
 use crate::learning::{learn, remove};
@@ -21,7 +21,7 @@ pub struct Searched {
 // Are our own records and the cache in form, and how many records are held?
 pub fn memory(own: &[u8], cache: &[u8]) -> Formed
     ensures { result
-        ≡ cond (ownForm own.now) (cacheFormed (ownKeys own.now) cache.now) Bad }
+        ≡ cond (own_form own.now) (cache_formed (own_keys own.now) cache.now) Bad }
 {
     if !own::own_form(own) {
         return Formed::Bad;
@@ -31,8 +31,8 @@ pub fn memory(own: &[u8], cache: &[u8]) -> Formed
 
 // A record is learned. Gives 0 or 1.
 pub fn learn_record(own: &[u8], cache: &mut [u8], record: &[u8]) -> u32
-    ensures { cacheChanged result cache.new
-        ≡ learnCall own.now cache.old «record».now }
+    ensures { cache_changed result cache.new
+        ≡ learn_call own.now cache.old «record».now }
 {
     let found = memory(own, cache);
     let Formed::Good(used) = found else {
@@ -50,8 +50,8 @@ pub fn learn_record(own: &[u8], cache: &mut [u8], record: &[u8]) -> u32
 
 // A key is removed if held. Gives 0 or 1.
 pub fn remove_key(own: &[u8], cache: &mut [u8], key: &[u8]) -> u32
-    ensures { cacheChanged result cache.new
-        ≡ removeCall own.now cache.old key.now }
+    ensures { cache_changed result cache.new
+        ≡ remove_call own.now cache.old key.now }
 {
     let found = memory(own, cache);
     let Formed::Good(used) = found else {
@@ -66,7 +66,7 @@ pub fn remove_key(own: &[u8], cache: &mut [u8], key: &[u8]) -> u32
 
 // A key is searched for. Gives 0 or 1, whether it is held and where, and how many keys were compared.
 pub fn search_key(own: &[u8], cache: &[u8], key: &[u8]) -> Searched
-    ensures { result ≡ searchCall own.now cache.now key.now }
+    ensures { result ≡ search_call own.now cache.now key.now }
 {
     let found = memory(own, cache);
     let Formed::Good(used) = found else {

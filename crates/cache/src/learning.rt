@@ -1,14 +1,14 @@
 // Learning a record, and removing a key, in a cache that is in form.
 ghost use Rattle.std.specs.Prelude.{◌≡◌, true, false, ◌≤◌, length};
 ghost use Rattle.key.specs.Number.{number, key_at};
-ghost use Rattle.record.specs.Record.{key_of, recordForm};
-ghost use Rattle.own.specs.Own.{ownForm, ownKeys};
+ghost use Rattle.record.specs.Record.{key_of, record_form};
+ghost use Rattle.own.specs.Own.{own_form, own_keys};
 ghost use Rattle.table.specs.Rows.{rows, bytes_of};
 ghost use Rattle.kept.specs.Plain.{NotOwn};
 ghost use Rattle.cache.specs.Form.{keys_of, Form};
-ghost use Rattle.cache.specs.Place.{findKey};
-ghost use Rattle.cache.specs.Bytes.{afterLearn, afterRemove};
-ghost use Rattle.cache.specs.Change.{changes, changesOf, learned, removed};
+ghost use Rattle.cache.specs.Place.{find_key};
+ghost use Rattle.cache.specs.Bytes.{after_learn, after_remove};
+ghost use Rattle.cache.specs.Change.{changes, changes_of, learned, removed};
 ghost use Rattle.cache.specs.declared.place.Found.TheVariants.{Before};
 
 use crate::place::{Found, find};
@@ -36,7 +36,7 @@ fn no_key() -> Key
 
 // No key joined, and none left.
 fn unmoved() -> Change
-    ensures { changesOf result ≡ changes false false 0 }
+    ensures { changes_of result ≡ changes false false 0 }
 {
     Change {
         joined: false,
@@ -48,14 +48,14 @@ fn unmoved() -> Change
 // A record whose key is not held is learned; it would stand before a place. Where all places are used, one goes, or the
 // newcomer itself.
 fn learn_new(own: &[u8], cache: &mut [u8], used: usize, at: usize, record: &[u8]) -> Change
-    requires own_value { (ownForm own.now ≡ true) × (recordForm «record».now ≡ true) }
-    requires form { Form (ownKeys own.now) cache.old (rows 100 used cache.old) }
-    requires not_own { NotOwn (ownKeys own.now) (key_of «record».now) }
-    requires cache_value { findKey (key_of «record».now) (keys_of (rows 100 used cache.old)) ≡ Before at }
+    requires own_value { (own_form own.now ≡ true) × (record_form «record».now ≡ true) }
+    requires form { Form (own_keys own.now) cache.old (rows 100 used cache.old) }
+    requires not_own { NotOwn (own_keys own.now) (key_of «record».now) }
+    requires cache_value { find_key (key_of «record».now) (keys_of (rows 100 used cache.old)) ≡ Before at }
     ensures cache_after { cache.new ≡ bytes_of (length cache.old)
-        (afterLearn (ownKeys own.now) (length cache.old)
+        (after_learn (own_keys own.now) (length cache.old)
         (rows 100 used cache.old) «record».now) }
-    ensures result_value { changesOf result ≡ learned (ownKeys own.now) (length cache.old)
+    ensures result_value { changes_of result ≡ learned (own_keys own.now) (length cache.old)
         (rows 100 used cache.old) «record».now }
 {
     if record::RECORD_LEN * used < cache.len() {
@@ -90,13 +90,13 @@ fn learn_new(own: &[u8], cache: &mut [u8], used: usize, at: usize, record: &[u8]
 
 // The record is learned, as document 01 has it under "Learning". `used` records are held.
 pub fn learn(own: &[u8], cache: &mut [u8], used: usize, record: &[u8]) -> Change
-    requires own_value { (ownForm own.now ≡ true) × (recordForm «record».now ≡ true) }
-    requires form { Form (ownKeys own.now) cache.old (rows 100 used cache.old) }
-    requires not_own { NotOwn (ownKeys own.now) (key_of «record».now) }
+    requires own_value { (own_form own.now ≡ true) × (record_form «record».now ≡ true) }
+    requires form { Form (own_keys own.now) cache.old (rows 100 used cache.old) }
+    requires not_own { NotOwn (own_keys own.now) (key_of «record».now) }
     ensures cache_after { cache.new ≡ bytes_of (length cache.old)
-        (afterLearn (ownKeys own.now) (length cache.old)
+        (after_learn (own_keys own.now) (length cache.old)
         (rows 100 used cache.old) «record».now) }
-    ensures result_value { changesOf result ≡ learned (ownKeys own.now) (length cache.old)
+    ensures result_value { changes_of result ≡ learned (own_keys own.now) (length cache.old)
         (rows 100 used cache.old) «record».now }
 {
     let found = find(cache, used, record);
@@ -112,10 +112,10 @@ pub fn learn(own: &[u8], cache: &mut [u8], used: usize, record: &[u8]) -> Change
 // The key, whose 32 bytes begin the slice, is removed if held.
 pub fn remove(own: &[u8], cache: &mut [u8], used: usize, key: &[u8]) -> Change
     requires in_bounds { 32 ≤ length key.now }
-    requires form { Form (ownKeys own.now) cache.old (rows 100 used cache.old) }
+    requires form { Form (own_keys own.now) cache.old (rows 100 used cache.old) }
     ensures cache_after { cache.new ≡ bytes_of (length cache.old)
-        (afterRemove (key_at 0 key.now) (rows 100 used cache.old)) }
-    ensures result_value { changesOf result ≡ removed (key_at 0 key.now) (rows 100 used cache.old) }
+        (after_remove (key_at 0 key.now) (rows 100 used cache.old)) }
+    ensures result_value { changes_of result ≡ removed (key_at 0 key.now) (rows 100 used cache.old) }
 {
     let found = find(cache, used, key);
     let Found::At(i) = found else {

@@ -4,7 +4,7 @@ ghost use Rattle.key.specs.Number.{key_at};
 ghost use Rattle.table.specs.Rows.{rows};
 ghost use Rattle.kept.specs.Keys.{Rising, plain};
 ghost use Rattle.cache.specs.Form.{keys_of};
-ghost use Rattle.cache.specs.Place.{findKey};
+ghost use Rattle.cache.specs.Place.{find_key};
 
 // The place of a key, or that before which it would stand.
 #[derive(Drop)]
@@ -18,7 +18,7 @@ pub fn find(cache: &[u8], used: usize, key: &[u8]) -> Found
     requires used_in_bounds { 100 * used ≤ length cache.now }
     requires in_bounds { 32 ≤ length key.now }
     requires rising { Rising plain 0 (keys_of (rows 100 used cache.now)) }
-    ensures { result ≡ findKey (key_at 0 key.now) (keys_of (rows 100 used cache.now)) }
+    ensures { result ≡ find_key (key_at 0 key.now) (keys_of (rows 100 used cache.now)) }
 {
     let sought = search::find_key(cache, used, key);
     if sought.held {

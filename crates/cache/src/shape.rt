@@ -1,14 +1,14 @@
 // The form of the cache: used records first, keys strictly increasing, none an own key; the rest all zero.
 ghost use Rattle.std.specs.Prelude.{◌≡◌, ◌+◌, ◌-◌, ◌*◌, ◌/◌, ◌%◌, ◌≤◌, ◌<◌, leb, ltb, length, drop};
-ghost use Rattle.octet.specs.Number.{valueBE};
-ghost use Rattle.octet.specs.Part.{part, allZero};
+ghost use Rattle.octet.specs.Number.{value_be};
+ghost use Rattle.octet.specs.Part.{part, all_zero};
 ghost use Rattle.key.specs.Number.{key_at};
-ghost use Rattle.own.specs.Own.{ownKeys};
-ghost use Rattle.own.specs.Low.{lowAt};
+ghost use Rattle.own.specs.Own.{own_keys};
+ghost use Rattle.own.specs.Low.{low_at};
 ghost use Rattle.table.specs.Rows.{rows};
 ghost use Rattle.kept.specs.Keys.{Rising, plain};
 ghost use Rattle.cache.specs.Form.{keys_of};
-ghost use Rattle.cache.specs.Place.{cacheFormed, rises, ordered, anyOwn, Carried};
+ghost use Rattle.cache.specs.Place.{cache_formed, rises, ordered, any_own, Carried};
 
 // Whether the cache is in form, and then how many records it holds.
 #[derive(Drop)]
@@ -20,7 +20,7 @@ pub enum Formed {
 // Is the key at place i above the one before it, which begins with the same word? The other words say it.
 fn rest_above(cache: &[u8], i: usize) -> bool
     requires i_nonzero { (0 < i) × (100 * i + 100 ≤ length cache.now) }
-    requires cache_value { valueBE 256 (part (100 * (i - 1)) 8 cache.now) ≡ valueBE 256 (part (100 * i) 8 cache.now) }
+    requires cache_value { value_be 256 (part (100 * (i - 1)) 8 cache.now) ≡ value_be 256 (part (100 * i) 8 cache.now) }
     ensures { result ≡ ltb (key_at (100 * (i - 1)) cache.now) (key_at (100 * i) cache.now) }
 {
     let before = record::RECORD_LEN * (i - 1);
@@ -41,9 +41,9 @@ fn rest_above(cache: &[u8], i: usize) -> bool
 // last? Mostly the words say it.
 fn above_before(cache: &[u8], at: usize, word: u64, last: u64) -> bool
     requires at_in_bounds { (at + 100 ≤ length cache.now) × (at % 100 ≡ 0) }
-    requires word_value { word ≡ valueBE 256 (part (100 * (at / 100)) 8 cache.now) }
+    requires word_value { word ≡ value_be 256 (part (100 * (at / 100)) 8 cache.now) }
     requires carried { Carried cache.now (at / 100) last }
-    ensures { result ≡ leb (lowAt cache.now (at / 100)) (key_at (100 * (at / 100)) cache.now) }
+    ensures { result ≡ leb (low_at cache.now (at / 100)) (key_at (100 * (at / 100)) cache.now) }
 {
     if last < word {
         return true;
@@ -62,7 +62,7 @@ fn above_before(cache: &[u8], at: usize, word: u64, last: u64) -> bool
 fn place_follows(cache: &[u8], at: usize, last: u64) -> bool
     requires at_in_bounds { (at + 100 ≤ length cache.now) × (at % 100 ≡ 0) }
     requires carried { Carried cache.now (at / 100) last }
-    ensures { result ≡ rises (lowAt cache.now (at / 100)) (part (100 * (at / 100)) 100 cache.now) }
+    ensures { result ≡ rises (low_at cache.now (at / 100)) (part (100 * (at / 100)) 100 cache.now) }
 {
     if !record::is_formed(cache, at) {
         return false;
@@ -94,7 +94,7 @@ fn count_held(cache: &[u8]) -> usize
 fn holds_own(own: &[u8], cache: &[u8], used: usize) -> bool
     requires used_in_bounds { 100 * used ≤ length cache.now }
     requires rising { Rising plain 0 (keys_of (rows 100 used cache.now)) }
-    ensures { result ≡ anyOwn (ownKeys own.now) (keys_of (rows 100 used cache.now)) }
+    ensures { result ≡ any_own (own_keys own.now) (keys_of (rows 100 used cache.now)) }
 {
     let n = own.len() / record::RECORD_LEN;
     let mut i = 0;
@@ -112,7 +112,7 @@ fn holds_own(own: &[u8], cache: &[u8], used: usize) -> bool
 // Is each byte from a place on zero? Behind the records of a full cache there is none.
 fn rest_clear(cache: &[u8], end: usize) -> bool
     requires { end ≤ length cache.now }
-    ensures { result ≡ allZero (drop end cache.now) }
+    ensures { result ≡ all_zero (drop end cache.now) }
 {
     if end == cache.len() {
         return true;
@@ -122,7 +122,7 @@ fn rest_clear(cache: &[u8], end: usize) -> bool
 
 // The test of the form, under our own keys. C is at least ten times their number.
 pub fn form(own: &[u8], cache: &[u8]) -> Formed
-    ensures { result ≡ cacheFormed (ownKeys own.now) cache.now }
+    ensures { result ≡ cache_formed (own_keys own.now) cache.now }
 {
     let size = cache.len();
     if size % record::RECORD_LEN != 0 {

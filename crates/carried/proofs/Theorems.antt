@@ -1,24 +1,24 @@
 -- What is proved of readings carried. Assumes nothing.
 use Rattle.carried.specs.Statements.{TakenBack, CarryExactly, CarryKeeps, CarryWrites, CarryFirst, TakeExactly}
-use Rattle.carried.proofs.BackLaws.{carried-back}
+use Rattle.carried.proofs.BackLaws.{carried_back}
 use Rattle.carried.proofs.ExactLaws as exact
 
 pub taken_back : TakenBack
-taken_back = carried-back
+taken_back = carried_back
 
 -- ---- which number is given when, and what is written
 
-pub carry-exactly : CarryExactly
-carry-exactly = exact.carry-exactly
+pub carry_exactly : CarryExactly
+carry_exactly = exact.carry-exactly
 
-pub carry-keeps : CarryKeeps
-carry-keeps = exact.carry-keeps
+pub carry_keeps : CarryKeeps
+carry_keeps = exact.carry-keeps
 
-pub carry-writes : CarryWrites
-carry-writes = exact.carry-writes
+pub carry_writes : CarryWrites
+carry_writes = exact.carry-writes
 
-pub carry-first : CarryFirst
-carry-first = exact.carry-first
+pub carry_first : CarryFirst
+carry_first = exact.carry-first
 
-pub take-exactly : TakeExactly
-take-exactly = exact.take-exactly
+pub take_exactly : TakeExactly
+take_exactly = exact.take-exactly

@@ -3,17 +3,17 @@
 use Rattle.std.specs.Prelude.{ℕ, List, get_or}
 use Rattle.std.proofs.Math.Option.{Option, some, none}
 use Rattle.wire_fields.specs.Message.{Contents, Message}
-use Rattle.wire_read.specs.Answers.{readIn}
-use Rattle.wire_read.specs.Meaning.{messageOf}
+use Rattle.wire_read.specs.Answers.{read_in}
+use Rattle.wire_read.specs.Meaning.{message_of}
 use Rattle.wire_read.specs.declared.Incoming.TheVariants as M
-use Rattle.readings.specs.Reading.{kind_of, measureOf}
-use Rattle.readings.specs.Unpack.{unpackOf}
+use Rattle.readings.specs.Reading.{kind_of, measure_of}
+use Rattle.readings.specs.Unpack.{unpack_of}
 use Rattle.readings.specs.declared.Unpacked.{Unpacked}
 use Rattle.readings.specs.declared.Unpacked.TheVariants.{Read, Refused}
 use Rattle.carried.specs.declared.Taken.{Taken}
 use Rattle.carried.specs.declared.whole.Whole.{Whole}
 use Rattle.carried.specs.declared.whole.Whole.TheVariants.{Authority, Other}
-use Rattle.carried.specs.Whole.{wholeOf}
+use Rattle.carried.specs.Whole.{whole_of}
 
 abbrev pub taken : ℕ → ℕ → ℕ → ℕ → ℕ → ℕ → Taken
 taken number reading kind measure litresIn litresOut =
@@ -23,23 +23,23 @@ taken number reading kind measure litresIn litresOut =
 abbrev pub nothing : ℕ → ℕ → Taken
 nothing number reading = taken number reading 0 0 0 0
 
-abbrev pub takenBy : Unpacked → Taken
-takenBy (Read r) = taken 0 0 (kind_of r.measured) (measureOf r.measured) r.inflow r.outflow
-takenBy (Refused n) = nothing 0 n
+abbrev pub taken_by : Unpacked → Taken
+taken_by (Read r) = taken 0 0 (kind_of r.measured) (measure_of r.measured) r.inflow r.outflow
+taken_by (Refused n) = nothing 0 n
 
 -- kind 0 where there is no payload
-abbrev pub takenFrom : Contents → Taken
-takenFrom none = nothing 0 0
-takenFrom (some v) = takenBy (unpackOf v)
+abbrev pub taken_from : Contents → Taken
+taken_from none = nothing 0 0
+taken_from (some v) = taken_by (unpack_of v)
 
 -- of a message: its payload is field 6
-abbrev pub takenAs : Option Message → Taken
-takenAs (some m) = takenFrom (get_or m.fields 6 none)
-takenAs none = nothing 5 0
+abbrev pub taken_as : Option Message → Taken
+taken_as (some m) = taken_from (get_or m.fields 6 none)
+taken_as none = nothing 5 0
 
-abbrev pub takeBy : ℕ → List ℕ → Whole → Taken
-takeBy major d (Other n) = nothing n 0
-takeBy major d (Authority m) = takenAs (messageOf major d (M.Authority m))
+abbrev pub take_by : ℕ → List ℕ → Whole → Taken
+take_by major d (Other n) = nothing n 0
+take_by major d (Authority m) = taken_as (message_of major d (M.Authority m))
 
-unfoldable pub takeCall : ℕ → List ℕ → Taken
-takeCall major d = takeBy major d (wholeOf (readIn d major))
+unfoldable pub take_call : ℕ → List ℕ → Taken
+take_call major d = take_by major d (whole_of (read_in d major))

@@ -4,13 +4,13 @@ use Rattle.wire_read.specs.declared.Incoming.TheVariants as M
 use Rattle.carried.specs.declared.whole.Whole.{Whole}
 use Rattle.carried.specs.declared.whole.Whole.TheVariants.{Authority, Other}
 
-abbrev pub wholeOf : Incoming → Whole
-wholeOf (M.Refused n) = Other n
-wholeOf (M.Authority m) = Authority m
-wholeOf (M.Solicit m) = Other 5
-wholeOf (M.Advertise m) = Other 5
-wholeOf (M.Request m) = Other 5
-wholeOf (M.Flood m) = Other 5
-wholeOf (M.Inquire m) = Other 5
-wholeOf (M.Ack m) = Other 5
-wholeOf (M.Lookup m) = Other 5
+abbrev pub whole_of : Incoming → Whole
+whole_of (M.Refused n) = Other n
+whole_of (M.Authority m) = Authority m
+whole_of (M.Solicit m) = Other 5
+whole_of (M.Advertise m) = Other 5
+whole_of (M.Request m) = Other 5
+whole_of (M.Flood m) = Other 5
+whole_of (M.Inquire m) = Other 5
+whole_of (M.Ack m) = Other 5
+whole_of (M.Lookup m) = Other 5

@@ -5,9 +5,9 @@ mod whole;
 
 ghost use Rattle.std.specs.Prelude.{◌≡◌};
 ghost use Rattle.readings.specs.Numbers.{reading_of};
-ghost use Rattle.readings.specs.Balance.{balanceOf};
-ghost use Rattle.carried.specs.Carry.{carryHanded, carryCall};
-ghost use Rattle.carried.specs.Take.{takeCall};
+ghost use Rattle.readings.specs.Balance.{balance_of};
+ghost use Rattle.carried.specs.Carry.{carry_handed, carry_call};
+ghost use Rattle.carried.specs.Take.{take_call};
 
 use whole::Whole;
 
@@ -43,7 +43,7 @@ pub extern "C" fn gauge_carry(
     litres_out: u32,
     output: &mut [u8],
 ) -> Carry
-    ensures { carryHanded result output.new ≡ carryCall major authority.now
+    ensures { carry_handed result output.new ≡ carry_call major authority.now
         (reading_of kind measure litres_in litres_out) output.old }
 {
     let message = wire_read::read(authority, major);
@@ -63,7 +63,7 @@ pub extern "C" fn gauge_carry(
 // The reading that an AUTHORITY carries.
 #[unsafe(no_mangle)]
 pub extern "C" fn gauge_carried(major: u8, datagram: &[u8]) -> Taken
-    ensures { result ≡ takeCall major datagram.now }
+    ensures { result ≡ take_call major datagram.now }
 {
     let message = wire_read::read(datagram, major);
     let found = whole::whole_of(message);
@@ -76,7 +76,7 @@ pub extern "C" fn gauge_carried(major: u8, datagram: &[u8]) -> Taken
 // Litres in minus litres out.
 #[unsafe(no_mangle)]
 pub extern "C" fn gauge_balance(litres_in: u32, litres_out: u32) -> i64
-    ensures { result ≡ balanceOf litres_in litres_out }
+    ensures { result ≡ balance_of litres_in litres_out }
 {
     readings::balance(litres_in, litres_out)
 }

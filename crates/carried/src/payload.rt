@@ -1,13 +1,13 @@
 // An AUTHORITY that was read: a reading put in as its payload, and the one that it has taken out.
 ghost use Rattle.std.specs.Prelude.{◌≡◌, true, ◌≤◌};
-ghost use Rattle.wire_read.specs.Answers.{readIn};
-ghost use Rattle.wire_read.specs.Meaning.{messageOf};
+ghost use Rattle.wire_read.specs.Answers.{read_in};
+ghost use Rattle.wire_read.specs.Meaning.{message_of};
 ghost use Rattle.wire_read.specs.declared.Incoming.TheVariants.{Authority as TheAuthority};
 ghost use Rattle.readings.specs.Reading.{fine};
 ghost use Rattle.readings.specs.Numbers.{reading_of};
 ghost use Rattle.readings.specs.declared.Unpacked.TheVariants.{Read};
-ghost use Rattle.carried.specs.Carry.{carry, carryHanded, carryAs};
-ghost use Rattle.carried.specs.Take.{taken, takenAs, takenBy, nothing as nothingTaken};
+ghost use Rattle.carried.specs.Carry.{carry, carry_handed, carry_as};
+ghost use Rattle.carried.specs.Take.{taken, taken_as, taken_by, nothing as nothingTaken};
 
 use crate::{Carry, Taken};
 use readings::{Packed, Reading, Unpacked};
@@ -54,8 +54,8 @@ pub(crate) fn put_reading(
     outflow: u32,
     output: &mut [u8],
 ) -> Carry
-    requires { readIn d.now major ≡ TheAuthority m }
-    ensures { carryHanded result output.new ≡ carryAs (messageOf major d.now (TheAuthority m))
+    requires { read_in d.now major ≡ TheAuthority m }
+    ensures { carry_handed result output.new ≡ carry_as (message_of major d.now (TheAuthority m))
         (reading_of kind measure inflow outflow) output.old }
 {
     let made = readings::reading_of(kind, measure, inflow, outflow);
@@ -67,9 +67,9 @@ pub(crate) fn put_reading(
 
 // A reading that may be written has room in 16 bytes.
 fn put_packed(major: u8, d: &[u8], m: Authority, reading: Reading, output: &mut [u8]) -> Carry
-    requires major_value { readIn d.now major ≡ TheAuthority m }
+    requires major_value { read_in d.now major ≡ TheAuthority m }
     requires measured_value { fine reading.measured ≡ true }
-    ensures { carryHanded result output.new ≡ carryAs (messageOf major d.now (TheAuthority m))
+    ensures { carry_handed result output.new ≡ carry_as (message_of major d.now (TheAuthority m))
         (Read reading) output.old }
 {
     let mut image = [0u8; 16];
@@ -100,7 +100,7 @@ pub(crate) fn nothing(number: u32, reading: u32) -> Taken
 // A reading as C sees it. One that was read is one that may be written.
 fn shown(reading: Unpacked) -> Taken
     requires { (r : Reading) → reading ≡ Read r → fine r.measured ≡ true }
-    ensures { result ≡ takenBy reading }
+    ensures { result ≡ taken_by reading }
 {
     match reading {
         Unpacked::Refused(number) => nothing(0, number),
@@ -117,8 +117,8 @@ fn shown(reading: Unpacked) -> Taken
 
 // The reading that stands as the payload, or none.
 pub(crate) fn take_reading(major: u8, d: &[u8], m: Authority) -> Taken
-    requires { readIn d.now major ≡ TheAuthority m }
-    ensures { result ≡ takenAs (messageOf major d.now (TheAuthority m)) }
+    requires { read_in d.now major ≡ TheAuthority m }
+    ensures { result ≡ taken_as (message_of major d.now (TheAuthority m)) }
 {
     let fields = m.fields;
     let payload = fields.payload;

@@ -1,6 +1,6 @@
 // What was read, for whoever wants a whole AUTHORITY.
 ghost use Rattle.std.specs.Prelude.{◌≡◌};
-ghost use Rattle.carried.specs.Whole.{wholeOf};
+ghost use Rattle.carried.specs.Whole.{whole_of};
 
 use wire_read::Incoming;
 use wire_read::messages::Authority;
@@ -19,7 +19,7 @@ fn wide(n: u8) -> u32
 }
 
 pub(crate) fn whole_of(message: Incoming) -> Whole
-    ensures { result ≡ wholeOf message }
+    ensures { result ≡ whole_of message }
 {
     match message {
         Incoming::Refused(number) => Whole::Other(wide(number)),

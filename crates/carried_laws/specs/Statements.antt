@@ -2,7 +2,7 @@
 -- proofs/Theorems.antt. Assumes nothing.
 use Rattle.std.specs.Prelude.{ℕ, List, ◌≡◌, take}
 use Rattle.readings.specs.Numbers.{reading_of}
-use Rattle.carried.specs.Carry.{CarryHanded, carryCall}
+use Rattle.carried.specs.Carry.{CarryHanded, carry_call}
 use Rattle.gauge_plan.specs.Lent.{Memory, Receive, hearing, receives}
 use Rattle.gauge.specs.Words.{Gauge, Typed}
 use Rattle.gauge.specs.Ours.{ours}
@@ -17,7 +17,7 @@ written_by h = take h.given.length h.output
 abbrev pub ActsAlike : Gauge → Type 0
 ActsAlike g =
     (l : Receive) → Typed (receives l) → (kind measure litresIn litresOut : ℕ) (old : List ℕ)
-    → (let h = carryCall l.major l.datagram (reading_of kind measure litresIn litresOut) old in
+    → (let h = carry_call l.major l.datagram (reading_of kind measure litresIn litresOut) old in
     h.given.number ≡ 0 → h.given.reading ≡ 0 → (m : Memory) → g m (receives l) ≡ g m (receives (hearing (written_by h) l)))
 
 -- ours

@@ -16,17 +16,17 @@ use Rattle.changed.proofs.StepLaws.{Above}
 abbrev pub Exactly : List (List ℕ) → List (List ℕ) → List Change → Type 0
 Exactly a b l = (c : Change) → (c ∈ l) ↔ Differs a b c
 
-pub key_in : (r : List ℕ) (a : List (List ℕ)) → r ∈ a → key_of r ∈ keys_of a
-key_in r [] m = absurd m
-key_in r (x ∷ a) (inl e) = inl (ap key_of e)
-key_in r (x ∷ a) (inr m) = inr (key_in r a m)
+pub key_in_lem : (r : List ℕ) (a : List (List ℕ)) → r ∈ a → key_of r ∈ keys_of a
+key_in_lem r [] m = absurd m
+key_in_lem r (x ∷ a) (inl e) = inl (ap key_of e)
+key_in_lem r (x ∷ a) (inr m) = inr (key_in_lem r a m)
 
 -- a key that all others are above is none of them, and neither is a record that has it
 not_key : (j k : ℕ) (a : List (List ℕ)) → Above k a → j ≡ k → ¬ (j ∈ keys_of a)
 not_key j k a r e m = absurd (omega (arith, rising-at plain (suc k) j (keys_of a) r m))
 
-not-record : (r : List ℕ) (k : ℕ) (a : List (List ℕ)) → Above k a → key_of r ≡ k → ¬ (r ∈ a)
-not-record r k a up e m = not_key (key_of r) k a up e (key_in r a m)
+not_record : (r : List ℕ) (k : ℕ) (a : List (List ℕ)) → Above k a → key_of r ≡ k → ¬ (r ∈ a)
+not_record r k a up e m = not_key (key_of r) k a up e (key_in_lem r a m)
 
 -- ---- from the rests to the whole: one entry more, or none
 
@@ -52,12 +52,12 @@ module _ (p : List ℕ) (a b : List (List ℕ)) (ra : Above (key_of p) a) (rb : 
   gone-widen (new r) d = (d.0, out)
     where
       out : ¬ (key_of r ∈ keys_of (p ∷ a))
-      out (inl e) = not-record r (key_of p) b rb e d.0
+      out (inl e) = not_record r (key_of p) b rb e d.0
       out (inr m) = d.1 m
   gone-widen (other r) d = (d.0, inr d.1, out)
     where
       out : ¬ (r ∈ (p ∷ a))
-      out (inl e) = not-record r (key_of p) b rb (ap key_of e) d.0
+      out (inl e) = not_record r (key_of p) b rb (ap key_of e) d.0
       out (inr m) = d.2 m
 
   gone-narrow : (c : Change) → Differs (p ∷ a) b c → (c ≡ gone (key_of p)) ⊎ Differs a b c
@@ -70,7 +70,7 @@ module _ (p : List ℕ) (a b : List (List ℕ)) (ra : Above (key_of p) a) (rb : 
   gone-narrow (other r) d = go d.1
     where
       go : key_of r ∈ keys_of (p ∷ a) → (other r ≡ gone (key_of p)) ⊎ Differs a b (other r)
-      go (inl e) = absurd (not-record r (key_of p) b rb e d.0)
+      go (inl e) = absurd (not_record r (key_of p) b rb e d.0)
       go (inr m) = inr (d.0, m, λ n. d.2 (inr n))
 
   pub exactly-gone : (l : List Change) → Exactly a b l → Exactly (p ∷ a) b (gone (key_of p) ∷ l)
@@ -116,12 +116,12 @@ module _ (p q : List ℕ) (a b : List (List ℕ)) (e : key_of p ≡ key_of q) (r
   both-widen (new r) d = (inr d.0, out)
     where
       out : ¬ (key_of r ∈ keys_of (p ∷ a))
-      out (inl t) = not-record r (key_of q) b rb (t ∙ e) d.0
+      out (inl t) = not_record r (key_of q) b rb (t ∙ e) d.0
       out (inr m) = d.1 m
   both-widen (other r) d = (inr d.0, inr d.1, out)
     where
       out : ¬ (r ∈ (p ∷ a))
-      out (inl t) = not-record r (key_of q) b rb (ap key_of t ∙ e) d.0
+      out (inl t) = not_record r (key_of q) b rb (ap key_of t ∙ e) d.0
       out (inr m) = d.2 m
 
   both-narrow : (c : Change) → Differs (p ∷ a) (q ∷ b) c → (c ≡ other q) ⊎ Differs a b c
@@ -139,7 +139,7 @@ module _ (p q : List ℕ) (a b : List (List ℕ)) (e : key_of p ≡ key_of q) (r
     where
       go : r ∈ (q ∷ b) → key_of r ∈ keys_of (p ∷ a) → (other r ≡ other q) ⊎ Differs a b (other r)
       go (inl t) k = inl (ap other t)
-      go (inr m) (inl t) = absurd (not-record r (key_of q) b rb (t ∙ e) m)
+      go (inr m) (inl t) = absurd (not_record r (key_of q) b rb (t ∙ e) m)
       go (inr m) (inr k) = inr (m, k, λ n. d.2 (inr n))
 
   pub exactly-other : (l : List Change) → ¬ (p ≡ q) → Exactly a b l → Exactly (p ∷ a) (q ∷ b) (other q ∷ l)
@@ -147,7 +147,7 @@ module _ (p q : List ℕ) (a b : List (List ℕ)) (e : key_of p ≡ key_of q) (r
     where
       out : ¬ (q ∈ (p ∷ a))
       out (inl t) = differ (sym t)
-      out (inr m) = not-record q (key_of q) a ra refl m
+      out (inr m) = not_record q (key_of q) a ra refl m
 
 -- the very record in both is no difference
 module _ (p : List ℕ) (a b : List (List ℕ)) (ra : Above (key_of p) a) (rb : Above (key_of p) b) where

@@ -8,23 +8,23 @@ use Rattle.record.specs.Record.{key_of}
 use Rattle.kept.specs.Keys.{◌∈◌, Rising, plain}
 use Rattle.kept.proofs.ListLaws.{rising-from}
 use Rattle.cache.specs.Form.{keys_of}
-use Rattle.changed.specs.Changes.{Change, gone, new, other, keyIn}
+use Rattle.changed.specs.Changes.{Change, gone, new, other, key_in}
 use Rattle.changed.proofs.StepLaws.{Above}
 
 abbrev pub Rises : List (List ℕ) → List (List ℕ) → List Change → Type 0
-Rises a b l = (low : ℕ) → Rising plain low (keys_of a) → Rising plain low (keys_of b) → Rising plain low (map keyIn l)
+Rises a b l = (low : ℕ) → Rising plain low (keys_of a) → Rising plain low (keys_of b) → Rising plain low (map key_in l)
 
-pub rises-gone : (p : List ℕ) (a b : List (List ℕ)) (l : List Change) → Above (key_of p) a → Above (key_of p) b → Rises a b l → Rises (p ∷ a) b (gone (key_of p) ∷ l)
-rises-gone p a b l ra rb r low sa sb = (sa.0, r (suc (key_of p)) ra rb)
+pub rises_gone : (p : List ℕ) (a b : List (List ℕ)) (l : List Change) → Above (key_of p) a → Above (key_of p) b → Rises a b l → Rises (p ∷ a) b (gone (key_of p) ∷ l)
+rises_gone p a b l ra rb r low sa sb = (sa.0, r (suc (key_of p)) ra rb)
 
-pub rises-new : (q : List ℕ) (a b : List (List ℕ)) (l : List Change) → Above (key_of q) a → Above (key_of q) b → Rises a b l → Rises a (q ∷ b) (new q ∷ l)
-rises-new q a b l ra rb r low sa sb = (sb.0, r (suc (key_of q)) ra rb)
+pub rises_new : (q : List ℕ) (a b : List (List ℕ)) (l : List Change) → Above (key_of q) a → Above (key_of q) b → Rises a b l → Rises a (q ∷ b) (new q ∷ l)
+rises_new q a b l ra rb r low sa sb = (sb.0, r (suc (key_of q)) ra rb)
 
 pub rises-same : (p : List ℕ) (a b : List (List ℕ)) (l : List Change) → Above (key_of p) a → Above (key_of p) b → Rises a b l → Rises (p ∷ a) (p ∷ b) l
-rises-same p a b l ra rb r low sa sb = rising-from plain low (suc (key_of p)) (map keyIn l) (omega (arith, sa.0)) (r (suc (key_of p)) ra rb)
+rises-same p a b l ra rb r low sa sb = rising-from plain low (suc (key_of p)) (map key_in l) (omega (arith, sa.0)) (r (suc (key_of p)) ra rb)
 
-pub rises-other : (p q : List ℕ) (a b : List (List ℕ)) (l : List Change) → Above (key_of q) a → Above (key_of q) b → Rises a b l → Rises (p ∷ a) (q ∷ b) (other q ∷ l)
-rises-other p q a b l ra rb r low sa sb = (sb.0, r (suc (key_of q)) ra rb)
+pub rises_other : (p q : List ℕ) (a b : List (List ℕ)) (l : List Change) → Above (key_of q) a → Above (key_of q) b → Rises a b l → Rises (p ∷ a) (q ∷ b) (other q ∷ l)
+rises_other p q a b l ra rb r low sa sb = (sb.0, r (suc (key_of q)) ra rb)
 
 -- ---- two lists that rise by a measure and have the same members are equal
 

@@ -23,9 +23,9 @@ module _ (p q : List ℕ) (a b : List (List ℕ)) where
   unfolding changes
   first-new h = rw (le-ltb (key_of p) (key_of q) (omega arith), lt-ltb (key_of q) (key_of p) h) refl
 
-  pub first-same : key_of p ≡ key_of q → bytes.same p q ≡ true → changes (p ∷ a) (q ∷ b) ≡ changes a b
+  pub first_same : key_of p ≡ key_of q → bytes.same p q ≡ true → changes (p ∷ a) (q ∷ b) ≡ changes a b
   unfolding changes
-  first-same h e = rw (le-ltb (key_of p) (key_of q) (omega arith), le-ltb (key_of q) (key_of p) (omega arith), e) refl
+  first_same h e = rw (le-ltb (key_of p) (key_of q) (omega arith), le-ltb (key_of q) (key_of p) (omega arith), e) refl
 
   pub first-other : key_of p ≡ key_of q → bytes.same p q ≡ false → changes (p ∷ a) (q ∷ b) ≡ other q ∷ changes a b
   unfolding changes
@@ -57,19 +57,19 @@ module _
     Known a b = (low : ℕ) → Rising plain low (keys_of a) → Rising plain low (keys_of b) → P a b (changes a b)
 
     module _ (p q : List ℕ) (a b : List (List ℕ)) (low : ℕ) (ra : Rising plain low (keys_of (p ∷ a))) (rb : Rising plain low (keys_of (q ∷ b))) where
-      one_key : key_of p ≡ key_of q → Test (bytes.same p q) → Known a b → P (p ∷ a) (q ∷ b) (changes (p ∷ a) (q ∷ b))
-      one_key e (pass t) ih =
+      one_key_lem : key_of p ≡ key_of q → Test (bytes.same p q) → Known a b → P (p ∷ a) (q ∷ b) (changes (p ∷ a) (q ∷ b))
+      one_key_lem e (pass t) ih =
           let above : Above (key_of p) b = subst (λ (k : ℕ). Above k b) (sym e) rb.1 in
-          rw (first-same p q a b e t)
+          rw (first_same p q a b e t)
           (subst (λ (x : List ℕ). P (p ∷ a) (x ∷ b) (changes a b)) (same-eq p q t) (stays p a b _ ra.1 above (ih (suc (key_of p)) ra.1 above)))
-      one_key e (fail t) ih =
+      one_key_lem e (fail t) ih =
           let above : Above (key_of q) a = subst (λ (k : ℕ). Above k a) e ra.1 in
           rw (first-other p q a b e t) (turns p q a b _ e (not_same p q t) above rb.1 (ih (suc (key_of q)) above rb.1))
 
       by_first : Tri (key_of p) (key_of q) → Known a (q ∷ b) → Known (p ∷ a) b → Known a b → P (p ∷ a) (q ∷ b) (changes (p ∷ a) (q ∷ b))
       by_first (less h) ih jh kh = rw (first-gone p q a b h) (goes p a (q ∷ b) _ ra.1 (h, rb.1) (ih (suc (key_of p)) ra.1 (h, rb.1)))
       by_first (more h) ih jh kh = rw (first-new p q a b h) (comes q (p ∷ a) b _ (h, ra.1) rb.1 (jh (suc (key_of q)) (h, ra.1) rb.1))
-      by_first (same e) ih jh kh = one_key e (test (bytes.same p q)) kh
+      by_first (same e) ih jh kh = one_key_lem e (test (bytes.same p q)) kh
 
     pub by_order : (a b : List (List ℕ)) → Known a b
     unfolding changes

@@ -8,11 +8,11 @@ use Rattle.record.specs.Record.{key_of}
 use Rattle.kept.specs.Keys.{◌∈◌, Rising, plain}
 use Rattle.kept.proofs.ListLaws.{rising-from}
 use Rattle.cache.specs.Form.{keys_of}
-use Rattle.changed.specs.Changes.{Change, gone, new, other, keyIn, changes, apply}
+use Rattle.changed.specs.Changes.{Change, gone, new, other, key_in, changes, apply}
 use Rattle.changed.specs.Statements.{Differs, Lists, InOrder, ChangesLists, ListsOne, AppliesBack, EmptySame}
 use Rattle.changed.proofs.StepLaws.{Above, by_order}
-use Rattle.changed.proofs.OrderLaws.{Rises, rises-gone, rises-new, rises-same, rises-other, rise-ext}
-use Rattle.changed.proofs.MembersLaws.{key_in, Exactly, exactly-gone, exactly-new, exactly-same, exactly-other}
+use Rattle.changed.proofs.OrderLaws.{Rises, rises_gone, rises_new, rises-same, rises_other, rise-ext}
+use Rattle.changed.proofs.MembersLaws.{key_in_lem, Exactly, exactly-gone, exactly-new, exactly-same, exactly-other}
 use Rattle.changed.proofs.ApplyLaws.{apply-gone, apply-new, apply-same, apply-other}
 
 -- ---- all three, by what stands first
@@ -27,14 +27,14 @@ none_in (gone k) d = d.0
 none_in (new r) d = d.0
 none_in (other r) d = d.0
 
-right-none : Right [] [] []
+right_none : Right [] [] []
 unfolding apply
-right-none = record { rises = λ low ra rb. tt; exactly = λ c. (λ m. absurd m, none_in c); applies = refl }
+right_none = record { rises = λ low ra rb. tt; exactly = λ c. (λ m. absurd m, none_in c); applies = refl }
 
-right-gone : (p : List ℕ) (a b : List (List ℕ)) (l : List Change) → Above (key_of p) a → Above (key_of p) b → Right a b l → Right (p ∷ a) b (gone (key_of p) ∷ l)
-right-gone p a b l ra rb r =
+right_gone : (p : List ℕ) (a b : List (List ℕ)) (l : List Change) → Above (key_of p) a → Above (key_of p) b → Right a b l → Right (p ∷ a) b (gone (key_of p) ∷ l)
+right_gone p a b l ra rb r =
     record {
-      rises = rises-gone p a b l ra rb r.rises;
+      rises = rises_gone p a b l ra rb r.rises;
       exactly = exactly-gone p a b ra rb l r.exactly;
       applies = apply-gone l a b p ra r.applies;
     }
@@ -42,43 +42,43 @@ right-gone p a b l ra rb r =
 right_new : (q : List ℕ) (a b : List (List ℕ)) (l : List Change) → Above (key_of q) a → Above (key_of q) b → Right a b l → Right a (q ∷ b) (new q ∷ l)
 right_new q a b l ra rb r =
     record {
-      rises = rises-new q a b l ra rb r.rises;
+      rises = rises_new q a b l ra rb r.rises;
       exactly = exactly-new q a b ra rb l r.exactly;
       applies = apply-new l a b q (r.rises (suc (key_of q)) ra rb) r.applies ra;
     }
 
-right-same : (p : List ℕ) (a b : List (List ℕ)) (l : List Change) → Above (key_of p) a → Above (key_of p) b → Right a b l → Right (p ∷ a) (p ∷ b) l
-right-same p a b l ra rb r =
+right_same : (p : List ℕ) (a b : List (List ℕ)) (l : List Change) → Above (key_of p) a → Above (key_of p) b → Right a b l → Right (p ∷ a) (p ∷ b) l
+right_same p a b l ra rb r =
     record {
       rises = rises-same p a b l ra rb r.rises;
       exactly = exactly-same p a b ra rb l r.exactly;
       applies = apply-same l a b p (r.rises (suc (key_of p)) ra rb) r.applies;
     }
 
-right-other : (p q : List ℕ) (a b : List (List ℕ)) (l : List Change) → key_of p ≡ key_of q → ¬ (p ≡ q) → Above (key_of q) a → Above (key_of q) b → Right a b l
+right_other : (p q : List ℕ) (a b : List (List ℕ)) (l : List Change) → key_of p ≡ key_of q → ¬ (p ≡ q) → Above (key_of q) a → Above (key_of q) b → Right a b l
     → Right (p ∷ a) (q ∷ b) (other q ∷ l)
-right-other p q a b l e differ ra rb r =
+right_other p q a b l e differ ra rb r =
     record {
-      rises = rises-other p q a b l ra rb r.rises;
+      rises = rises_other p q a b l ra rb r.rises;
       exactly = exactly-other p q a b e ra rb l differ r.exactly;
       applies = apply-other l a b q (r.rises (suc (key_of q)) ra rb) r.applies p e;
     }
 
 right : (a b : List (List ℕ)) → InOrder a → InOrder b → Right a b (changes a b)
-right a b ra rb = by_order Right right-none right-gone right_new right-same right-other a b 0 ra rb
+right a b ra rb = by_order Right right_none right_gone right_new right_same right_other a b 0 ra rb
 
 -- ---- the theorems
 
-pub changes-lists : ChangesLists
-changes-lists a b ra rb = record { ordered = (right a b ra rb).rises 0 ra rb; exactly = (right a b ra rb).exactly }
+pub changes_lists : ChangesLists
+changes_lists a b ra rb = record { ordered = (right a b ra rb).rises 0 ra rb; exactly = (right a b ra rb).exactly }
 
-pub applies-back : AppliesBack
-applies-back a b ra rb = (right a b ra rb).applies
+pub applies_back : AppliesBack
+applies_back a b ra rb = (right a b ra rb).applies
 
-pub lists-one : ListsOne
-lists-one a b ra rb l lists =
-    let ours = changes-lists a b ra rb in
-    rise-ext keyIn 0 0 l (changes a b) lists.ordered ours.ordered
+pub lists_one : ListsOne
+lists_one a b ra rb l lists =
+    let ours = changes_lists a b ra rb in
+    rise-ext key_in 0 0 l (changes a b) lists.ordered ours.ordered
     (λ c m. (ours.exactly c).1 ((lists.exactly c).0 m)) (λ c m. (lists.exactly c).1 ((ours.exactly c).0 m))
 
 no_member : (l : List Change) → ((c : Change) → ¬ (c ∈ l)) → l ≡ []
@@ -87,7 +87,7 @@ no_member (c ∷ l) out = absurd (out c (inl refl))
 
 not_itself : (a : List (List ℕ)) (c : Change) → ¬ (Differs a a c)
 not_itself a (gone k) d = d.1 d.0
-not_itself a (new r) d = d.1 (key_in r a d.0)
+not_itself a (new r) d = d.1 (key_in_lem r a d.0)
 not_itself a (other r) d = d.2 d.0
 
 pub empty-same : EmptySame
@@ -95,7 +95,7 @@ unfolding apply
 empty-same a b ra rb = (same, empty)
   where
     same : changes a b ≡ [] → a ≡ b
-    same e = sym (ap (λ (l : List Change). apply l a) e) ∙ applies-back a b ra rb
+    same e = sym (ap (λ (l : List Change). apply l a) e) ∙ applies_back a b ra rb
 
     empty : a ≡ b → changes a b ≡ []
     empty e = no_member (changes a b) (λ c m. not_itself b c (subst (λ (x : List (List ℕ)). Differs x b c) e (((right a b ra rb).exactly c).0 m)))

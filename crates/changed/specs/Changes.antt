@@ -4,17 +4,17 @@
 use Rattle.std.specs.Prelude.{ℕ, cond, List, [], ◌∷◌, ltb}
 use Rattle.octet.specs.Part.{same}
 use Rattle.record.specs.Record.{key_of}
-use Rattle.kept.specs.Records.{putBy, withoutBy}
+use Rattle.kept.specs.Records.{put_by, without_by}
 
 -- a key is gone; a record's key is new; a key that was held has another record, this one
 pub data Change : Type 0 where
   gone : ℕ → Change
   new other : List ℕ → Change
 
-abbrev pub keyIn : Change → ℕ
-keyIn (gone k) = k
-keyIn (new r) = key_of r
-keyIn (other r) = key_of r
+abbrev pub key_in : Change → ℕ
+key_in (gone k) = k
+key_in (new r) = key_of r
+key_in (other r) = key_of r
 
 -- what changed from the first records to the second: the smaller of the two first keys stands in one of them only; of two with one key the bytes are compared
 unfoldable pub changes : List (List ℕ) → List (List ℕ) → List Change
@@ -27,12 +27,12 @@ changes (p ∷ a) (q ∷ b) =
     (cond (same p q) (changes a b) (other q ∷ changes a b)))
 
 -- records changed by one entry: a key is taken out; a record is put in by its key, in place of one that has the key
-unfoldable pub changedBy : Change → List (List ℕ) → List (List ℕ)
-changedBy (gone k) a = withoutBy key_of k a
-changedBy (new r) a = putBy key_of r a
-changedBy (other r) a = putBy key_of r a
+unfoldable pub changed_by : Change → List (List ℕ) → List (List ℕ)
+changed_by (gone k) a = without_by key_of k a
+changed_by (new r) a = put_by key_of r a
+changed_by (other r) a = put_by key_of r a
 
 -- and by a list of them, one after the other
 unfoldable pub apply : List Change → List (List ℕ) → List (List ℕ)
 apply [] a = a
-apply (c ∷ cs) a = apply cs (changedBy c a)
+apply (c ∷ cs) a = apply cs (changed_by c a)

@@ -3,7 +3,7 @@ use Rattle.std.specs.Prelude.{ℕ, ◌≡◌, ◌↔◌, List, [], map}
 use Rattle.record.specs.Record.{key_of}
 use Rattle.kept.specs.Keys.{◌∈◌, Rising, plain}
 use Rattle.cache.specs.Form.{keys_of}
-use Rattle.changed.specs.Changes.{Change, gone, new, other, keyIn, changes, apply}
+use Rattle.changed.specs.Changes.{Change, gone, new, other, key_in, changes, apply}
 
 -- what an entry says of the two caches' records: a key of the first only; a record of the second whose key is not in the first, or is there, but not the
 -- very record
@@ -14,7 +14,7 @@ Differs a b (other r) = (r ∈ b) × (key_of r ∈ keys_of a) × (¬ (r ∈ a))
 
 -- "List, in key order, each key .. and no other"
 pub record Lists (a b : List (List ℕ)) (l : List Change) : Type 0 where
-  pub ordered : Rising plain 0 (map keyIn l)
+  pub ordered : Rising plain 0 (map key_in l)
   pub exactly : (c : Change) → (c ∈ l) ↔ Differs a b c
 
 -- records with strictly increasing keys, as every cache in form holds them

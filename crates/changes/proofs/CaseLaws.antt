@@ -1,42 +1,42 @@
 -- The worked cases hold: antt computes each call. Assumes nothing.
 use mathlib.Core.Path.{refl}
-use Rattle.octet.specs.Number.{valueBE, digitsBE}
-use Rattle.octet.specs.Part.{splice, same, allZero}
-use Rattle.refusal.specs.Table.{orRefuse}
-use Rattle.record.specs.Record.{recordForm}
-use Rattle.own.specs.Own.{risingBy, ownBy}
+use Rattle.octet.specs.Number.{value_be, digits_be}
+use Rattle.octet.specs.Part.{splice, same, all_zero}
+use Rattle.refusal.specs.Table.{or_refuse}
+use Rattle.record.specs.Record.{record_form}
+use Rattle.own.specs.Own.{rising_by, own_by}
 use Rattle.kept.specs.Keys.{has}
 use Rattle.table.specs.Rows.{rows, joined, bytes_of}
-use Rattle.cache.specs.Form.{follows, leading, heldIn, held_of, cacheForm}
+use Rattle.cache.specs.Form.{follows, leading, held_in, held_of, cache_form}
 use Rattle.changed.specs.Changes.{changes}
-use Rattle.changes.specs.Listed.{listCall}
+use Rattle.changes.specs.Listed.{list_call}
 use Rattle.changes.specs.Cases.{ThreeChanges, ByteShort, NothingChanged, TenNew, TenGone, UnequalPlaces}
 
 -- all that a call is made of
 unfoldable computed : Unit {0}
-unfolding valueBE digitsBE splice same allZero orRefuse recordForm risingBy ownBy has rows joined bytes_of follows leading heldIn held_of cacheForm changes listCall
+unfolding value_be digits_be splice same all_zero or_refuse record_form rising_by own_by has rows joined bytes_of follows leading held_in held_of cache_form changes list_call
 computed = tt
 
 pub three-changes : ThreeChanges
 unfolding computed
 three-changes = refl
 
-pub byte-short : ByteShort
+pub byte_short : ByteShort
 unfolding computed
-byte-short = refl
+byte_short = refl
 
 pub nothing-changed : NothingChanged
 unfolding computed
 nothing-changed = refl
 
-pub ten-new : TenNew
+pub ten_new : TenNew
 unfolding computed
-ten-new = refl
+ten_new = refl
 
-pub ten-gone : TenGone
+pub ten_gone : TenGone
 unfolding computed
-ten-gone = refl
+ten_gone = refl
 
-pub unequal-places : UnequalPlaces
+pub unequal_places : UnequalPlaces
 unfolding computed
-unequal-places = refl
+unequal_places = refl

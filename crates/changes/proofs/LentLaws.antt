@@ -8,82 +8,82 @@ use lib.Dec.{eqb, ltb}
 use lib.ListN.{length}
 use borrow.Author.Tests.{eq-eqb, ne_eqb, lt-ltb, le-ltb}
 use Rattle.octet.specs.Part.{splice}
-use Rattle.refusal.specs.Table.{Refusal, when, orRefuse}
-use Rattle.refusal.proofs.CallLaws.{row-applies, row-passes, no_row}
-use Rattle.own.specs.Own.{ownForm, ownKeys}
+use Rattle.refusal.specs.Table.{Refusal, when, or_refuse}
+use Rattle.refusal.proofs.CallLaws.{row_applies, row_passes, no_row}
+use Rattle.own.specs.Own.{own_form, own_keys}
 use Rattle.table.specs.Rows.{rows}
-use Rattle.cache.specs.Form.{cacheForm, Form}
-use Rattle.cache.specs.Place.{cacheFormed}
+use Rattle.cache.specs.Form.{cache_form, Form}
+use Rattle.cache.specs.Place.{cache_formed}
 use Rattle.cache.specs.declared.shape.Formed.{Formed}
 use Rattle.cache.specs.declared.shape.Formed.TheVariants.{Bad, Good}
-use Rattle.cache.proofs.FormLaws.{form-laid}
-use Rattle.cache.proofs.ShapeLaws.{good-is, good-held, good-form, bad-is}
-use Rattle.cache.proofs.LentLaws.{not_is, not-isn't, memory-form, memory-held, memory-passes, memory-refuses}
+use Rattle.cache.proofs.FormLaws.{form_laid}
+use Rattle.cache.proofs.ShapeLaws.{good-is, good-held, good_form, bad-is}
+use Rattle.cache.proofs.LentLaws.{not_is, not_isn't, memory-form, memory-held, memory-passes, memory-refuses}
 use Rattle.changed.specs.Changes.{Change, changes}
-use Rattle.changed.specs.Entries.{listBytes}
+use Rattle.changed.specs.Entries.{list_bytes}
 use Rattle.gauge_commit.specs.Sending.{answer}
-use Rattle.changes.specs.Listed.{Listed, listed, changesOf, refusedWith, listDone, roomWrong, listOrRoom, listCall}
+use Rattle.changes.specs.Listed.{Listed, listed, changes_of, refused_with, list_done, room_wrong, list_or_room, list_call}
 
 -- ---- the room
 
 module _ (l : List Change) (out : List ℕ) (n : ℕ) (e : n ≡ length l) where
-  pub no_room : length out < 101 * n → refusedWith out 15 ≡ listOrRoom l out
-  unfolding listOrRoom
-  no_room h = sym (row-applies (refusedWith out) 15 (ltb (length out) (101 * length l)) [] (listDone l out) (lt-ltb (length out) (101 * length l) (omega arith)))
+  pub no_room : length out < 101 * n → refused_with out 15 ≡ list_or_room l out
+  unfolding list_or_room
+  no_room h = sym (row_applies (refused_with out) 15 (ltb (length out) (101 * length l)) [] (list_done l out) (lt-ltb (length out) (101 * length l) (omega arith)))
 
-  pub some-room : 101 * n ≤ length out → listed (answer 0 n (101 * n)) (splice 0 (listBytes l) out) ≡ listOrRoom l out
-  unfolding listOrRoom
+  pub some-room : 101 * n ≤ length out → listed (answer 0 n (101 * n)) (splice 0 (list_bytes l) out) ≡ list_or_room l out
+  unfolding list_or_room
   some-room h =
-      ap (λ (k : ℕ). listed (answer 0 k (101 * k)) (splice 0 (listBytes l) out)) e
-      ∙ sym (row-passes (refusedWith out) 15 (ltb (length out) (101 * length l)) [] (listDone l out) (le-ltb (length out) (101 * length l) (omega arith))
-      ∙ no_row (refusedWith out) (listDone l out))
+      ap (λ (k : ℕ). listed (answer 0 k (101 * k)) (splice 0 (list_bytes l) out)) e
+      ∙ sym (row_passes (refused_with out) 15 (ltb (length out) (101 * length l)) [] (list_done l out) (le-ltb (length out) (101 * length l) (omega arith))
+      ∙ no_row (refused_with out) (list_done l out))
 
 -- ---- what was lent
 
 module _ (own a b out : List ℕ) where
   abbrev done : Listed
-  done = listDone (changesOf own a b) out
+  done = list_done (changes_of own a b) out
 
-  module _ {m : Formed} (is : m ≡ cond (ownForm own) (cacheFormed (ownKeys own) a) Bad) where
-    pub first-wrong : m ≡ Bad → refusedWith out 1 ≡ listCall own a b out
-    unfolding listCall
-    first-wrong bad = sym (memory-refuses own a is bad (refusedWith out) _ done)
+  module _ {m : Formed} (is : m ≡ cond (own_form own) (cache_formed (own_keys own) a) Bad) where
+    pub first-wrong : m ≡ Bad → refused_with out 1 ≡ list_call own a b out
+    unfolding list_call
+    first-wrong bad = sym (memory-refuses own a is bad (refused_with out) _ done)
 
-    module _ {used : ℕ} (right : m ≡ Good used) {n : Formed} (also : n ≡ cacheFormed (ownKeys own) b) where
-      pub second-wrong : n ≡ Bad → refusedWith out 1 ≡ listCall own a b out
-      unfolding listCall
+    module _ {used : ℕ} (right : m ≡ Good used) {n : Formed} (also : n ≡ cache_formed (own_keys own) b) where
+      pub second-wrong : n ≡ Bad → refused_with out 1 ≡ list_call own a b out
+      unfolding list_call
       second-wrong bad =
-          sym (memory-passes own a is right (refusedWith out) _ done
-          ∙ row-applies (refusedWith out) 1 (not (cacheForm (ownKeys own) b)) _ done (not-isn't (bad-is (ownKeys own) b (sym also ∙ bad))))
+          sym (memory-passes own a is right (refused_with out) _ done
+          ∙ row_applies (refused_with out) 1 (not (cache_form (own_keys own) b)) _ done (not_isn't (bad-is (own_keys own) b (sym also ∙ bad))))
 
       module _ {held : ℕ} (well : n ≡ Good held) where
-        formed : cacheFormed (ownKeys own) b ≡ Good held
+        formed : cache_formed (own_keys own) b ≡ Good held
         formed = sym also ∙ well
 
         abbrev later : List Refusal
-        later = roomWrong (changesOf own a b) out
+        later = room_wrong (changes_of own a b) out
 
-        passes : (more : List Refusal) → orRefuse (refusedWith out) (when 1 (not (cacheForm (ownKeys own) b)) ∷ more) done
-            ≡ orRefuse (refusedWith out) more done
-        passes more = row-passes (refusedWith out) 1 (not (cacheForm (ownKeys own) b)) more done (not_is (good-is (ownKeys own) b formed).0)
+        passes : (more : List Refusal) → or_refuse (refused_with out) (when 1 (not (cache_form (own_keys own) b)) ∷ more) done
+            ≡ or_refuse (refused_with out) more done
+        passes more = row_passes (refused_with out) 1 (not (cache_form (own_keys own) b)) more done (not_is (good-is (own_keys own) b formed).0)
 
-        pub lengths-wrong : ¬ (length a ≡ length b) → refusedWith out 1 ≡ listCall own a b out
-        unfolding listCall
+        pub lengths-wrong : ¬ (length a ≡ length b) → refused_with out 1 ≡ list_call own a b out
+        unfolding list_call
         lengths-wrong differ =
-            sym (memory-passes own a is right (refusedWith out) _ done ∙ passes _
-            ∙ row-applies (refusedWith out) 1 (not (eqb (length a) (length b))) later done (not-isn't (ne_eqb (length a) (length b) differ)))
+            sym (memory-passes own a is right (refused_with out) _ done ∙ passes _
+            ∙ row_applies (refused_with out) 1 (not (eqb (length a) (length b))) later done (not_isn't (ne_eqb (length a) (length b) differ)))
 
-        pub all_right : length a ≡ length b → listOrRoom (changes (rows 100 used a) (rows 100 held b)) out ≡ listCall own a b out
-        unfolding listCall listOrRoom
+        pub all_right : length a ≡ length b → list_or_room (changes (rows 100 used a) (rows 100 held b)) out ≡ list_call own a b out
+        unfolding list_call list_or_room
         all_right e =
-            sym (memory-passes own a is right (refusedWith out) _ done ∙ passes _
-            ∙ row-passes (refusedWith out) 1 (not (eqb (length a) (length b))) later done (not_is (eq-eqb (length a) (length b) e))
-            ∙ ap (λ (l : List Change). listOrRoom l out) (ap₂ changes (memory-held own a is right) (good-held (ownKeys own) b formed)))
+            sym (memory-passes own a is right (refused_with out) _ done ∙ passes _
+            ∙ row_passes (refused_with out) 1 (not (eqb (length a) (length b))) later done (not_is (eq-eqb (length a) (length b) e))
+            ∙ ap (λ (l : List Change). list_or_room l out) (ap₂ changes (memory-held own a is right) (good-held (own_keys own) b formed)))
 
         pub within : (100 * used ≤ length a) × (100 * held ≤ length b) × (used ≤ 256) × (held ≤ 256)
         within =
             let f = memory-form own a is right in
-            let g = good-form (ownKeys own) b formed in
-            let h = (form-laid (ownKeys own) used a f).room in
-            let k = (form-laid (ownKeys own) held b g).room in
+            let g = good_form (own_keys own) b formed in
+            let h = (form_laid (own_keys own) used a f).room in
+            let k = (form_laid (own_keys own) held b g).room in
             (h, k, omega (arith, f.places.most), omega (arith, g.places.most))

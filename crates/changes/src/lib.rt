@@ -2,7 +2,7 @@
 ghost use Rattle.std.specs.Prelude.{◌≡◌, ◌*◌, ◌≤◌, length};
 ghost use Rattle.table.specs.Rows.{rows};
 ghost use Rattle.changed.specs.Changes.{changes};
-ghost use Rattle.changes.specs.Listed.{listed, listOrRoom, listCall};
+ghost use Rattle.changes.specs.Listed.{listed, list_or_room, list_call};
 
 use cache::Formed;
 
@@ -16,7 +16,7 @@ fn list(
     output: &mut [u8],
 ) -> gauge_commit::Answer
     requires { (100 * used ≤ length «before».now) × (100 * held ≤ length «after».now) × (used ≤ 256) × (held ≤ 256) }
-    ensures { listed result output.new ≡ listOrRoom
+    ensures { listed result output.new ≡ list_or_room
         (changes (rows 100 used «before».now) (rows 100 held «after».now)) output.old }
 {
     let entries = merged::count(before, used, after, held);
@@ -38,7 +38,7 @@ pub extern "C" fn gauge_changes(
     output: &mut [u8],
 ) -> gauge_commit::Answer
     ensures { listed result output.new
-        ≡ listCall own.now «before».now «after».now output.old }
+        ≡ list_call own.now «before».now «after».now output.old }
 {
     let first = cache::memory(own, before);
     let Formed::Good(used) = first else {

@@ -3,15 +3,15 @@ ghost use Rattle.std.specs.Prelude.{◌≡◌, ◌*◌, ◌≤◌, ◌<◌, leng
 ghost use Rattle.octet.specs.Part.{part};
 ghost use Rattle.key.specs.Number.{number};
 ghost use Rattle.table.specs.Rows.{rows};
-ghost use Rattle.closest_row.specs.Closest.{closestOf, closestPlace};
+ghost use Rattle.closest_row.specs.Closest.{closest_of, closest_place};
 
 use key::Key;
 
 // The place of the closest of the first n.
 pub fn place_of(s: &[u8], n: usize, target: Key) -> usize
     requires { (0 < n) × (100 * n ≤ length s.now) }
-    ensures s_value { part (100 * result) 100 s.now ≡ closestOf (number target) (rows 100 n s.now) }
-    ensures upper_bound { (result < n) × (result ≡ closestPlace (number target) (rows 100 n s.now)) }
+    ensures s_value { part (100 * result) 100 s.now ≡ closest_of (number target) (rows 100 n s.now) }
+    ensures upper_bound { (result < n) × (result ≡ closest_place (number target) (rows 100 n s.now)) }
 {
     let mut best = 0;
     let mut i = 1;

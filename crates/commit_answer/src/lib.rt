@@ -2,23 +2,23 @@
 ghost use Rattle.std.specs.Prelude.{◌≡◌, true, cond, [], ◌∷◌, ℕ, ◌+◌, ◌*◌, ◌≤◌, ◌<◌, length, get_or};
 ghost use Rattle.octet.specs.Part.{part};
 ghost use Rattle.key.specs.Number.{key_at};
-ghost use Rattle.record.specs.Record.{count_of, recordForm};
-ghost use Rattle.record.specs.Entry.{entryForm, recordOf};
-ghost use Rattle.own.specs.Own.{ownForm, ownKeys};
+ghost use Rattle.record.specs.Record.{count_of, record_form};
+ghost use Rattle.record.specs.Entry.{entry_form, record_of};
+ghost use Rattle.own.specs.Own.{own_form, own_keys};
 ghost use Rattle.table.specs.Rows.{rows, bytes_of, Laid};
 ghost use Rattle.kept.specs.Plain.{NotOwn};
 ghost use Rattle.cache.specs.Form.{keys_of, Form};
-ghost use Rattle.cache.specs.Bytes.{afterLearn, afterRemove};
-ghost use Rattle.firsts.specs.Firsts.{firstsOf};
-ghost use Rattle.neighbours.specs.Closest.{closestPast};
-ghost use Rattle.waiting.specs.Place.{placeKey, placeRecord, inquiryPlace};
+ghost use Rattle.cache.specs.Bytes.{after_learn, after_remove};
+ghost use Rattle.firsts.specs.Firsts.{firsts_of};
+ghost use Rattle.neighbours.specs.Closest.{closest_past};
+ghost use Rattle.waiting.specs.Place.{place_key, place_record, inquiry_place};
 ghost use Rattle.waiting.specs.Open.{opened, freed};
-ghost use Rattle.wire_write.specs.Making.{cpaMade, closestMade};
-ghost use Rattle.cpas.specs.Cpas.{cpasForm, cpaOf};
-ghost use Rattle.asking.specs.Asking.{inquireRoom};
-ghost use Rattle.asking.specs.Ids.{idAfter};
+ghost use Rattle.wire_write.specs.Making.{cpa_made, closest_made};
+ghost use Rattle.cpas.specs.Cpas.{cpas_form, cpa_of};
+ghost use Rattle.asking.specs.Asking.{inquire_room};
+ghost use Rattle.asking.specs.Ids.{id_after};
 ghost use Rattle.gauge_commit.specs.Sending.{lengths, sending};
-ghost use Rattle.gauge_commit.specs.Replies.{inquireWritten};
+ghost use Rattle.gauge_commit.specs.Replies.{inquire_written};
 
 use gauge_commit::Answer;
 
@@ -32,17 +32,17 @@ pub fn commit_learn(
     used: usize,
     at: usize,
 )
-    requires { (ownForm own.now ≡ true) × Form (ownKeys own.now) cache.old (rows 100 held cache.old)
+    requires { (own_form own.now ≡ true) × Form (own_keys own.now) cache.old (rows 100 held cache.old)
         × (length waiting.old ≡ 2240) × Laid 140 used waiting.old × (used ≤ 16) × (at < used)
-        × (recordForm (part (140 * at + 40) 100 waiting.old) ≡ true)
-        × NotOwn (ownKeys own.now) (key_at (140 * at + 40) waiting.old)
-        × (firsts.old ≡ firstsOf (keys_of (rows 100 held cache.old))) }
-    ensures cache_after { cache.new ≡ bytes_of (length cache.old) (afterLearn (ownKeys own.now)
+        × (record_form (part (140 * at + 40) 100 waiting.old) ≡ true)
+        × NotOwn (own_keys own.now) (key_at (140 * at + 40) waiting.old)
+        × (firsts.old ≡ firsts_of (keys_of (rows 100 held cache.old))) }
+    ensures cache_after { cache.new ≡ bytes_of (length cache.old) (after_learn (own_keys own.now)
         (length cache.old) (rows 100 held cache.old)
-        (placeRecord (get_or (rows 140 used waiting.old) at []))) }
-    ensures firsts_after { firsts.new ≡ firstsOf (keys_of (afterLearn (ownKeys own.now)
+        (place_record (get_or (rows 140 used waiting.old) at []))) }
+    ensures firsts_after { firsts.new ≡ firsts_of (keys_of (after_learn (own_keys own.now)
         (length cache.old) (rows 100 held cache.old)
-        (placeRecord (get_or (rows 140 used waiting.old) at [])))) }
+        (place_record (get_or (rows 140 used waiting.old) at [])))) }
     ensures waiting_after { waiting.new ≡ bytes_of 2240 (freed at (rows 140 used waiting.old)) }
 {
     let from = waiting::PLACE_LEN * at + 40;
@@ -67,14 +67,14 @@ pub fn commit_free(
     at: usize,
     n: bool,
 )
-    requires { (ownForm own.now ≡ true) × Form (ownKeys own.now) cache.old (rows 100 held cache.old)
+    requires { (own_form own.now ≡ true) × Form (own_keys own.now) cache.old (rows 100 held cache.old)
         × (length waiting.old ≡ 2240) × Laid 140 used waiting.old × (used ≤ 16) × (at < used)
-        × (firsts.old ≡ firstsOf (keys_of (rows 100 held cache.old))) }
+        × (firsts.old ≡ firsts_of (keys_of (rows 100 held cache.old))) }
     ensures cache_after { cache.new ≡ cond n (bytes_of (length cache.old)
-        (afterRemove (placeKey (get_or (rows 140 used waiting.old) at []))
+        (after_remove (place_key (get_or (rows 140 used waiting.old) at []))
         (rows 100 held cache.old))) cache.old }
-    ensures firsts_after { firsts.new ≡ cond n (firstsOf (keys_of
-        (afterRemove (placeKey (get_or (rows 140 used waiting.old) at []))
+    ensures firsts_after { firsts.new ≡ cond n (firsts_of (keys_of
+        (after_remove (place_key (get_or (rows 140 used waiting.old) at []))
         (rows 100 held cache.old)))) firsts.old }
     ensures waiting_after { waiting.new ≡ bytes_of 2240 (freed at (rows 140 used waiting.old)) }
 {
@@ -97,11 +97,11 @@ pub fn commit_cpa(
     at: usize,
     output: &mut [u8],
 ) -> Answer
-    requires by_index { (n : ℕ) × (at < n) × (cpasForm n cpas.now ≡ true) }
-    requires cpas_in_bounds { 40 + length (cpaOf at cpas.now) ≤ length output.old }
-    ensures value { result ≡ lengths ((cpaMade major minor id acked (cpaOf at cpas.now)).bytes ∷ []) }
+    requires by_index { (n : ℕ) × (at < n) × (cpas_form n cpas.now ≡ true) }
+    requires cpas_in_bounds { 40 + length (cpa_of at cpas.now) ≤ length output.old }
+    ensures value { result ≡ lengths ((cpa_made major minor id acked (cpa_of at cpas.now)).bytes ∷ []) }
     ensures output_after { output.new
-        ≡ sending ((cpaMade major minor id acked (cpaOf at cpas.now)).bytes ∷ []) output.old }
+        ≡ sending ((cpa_made major minor id acked (cpa_of at cpas.now)).bytes ∷ []) output.old }
 {
     let cpa = cpas::cpa_at(cpas, at);
     let wrote = wire_sent::write_cpa(output, major, minor, id, acked, cpa);
@@ -123,15 +123,15 @@ fn send_closest<'a>(
     size: usize,
     output: &mut [u8],
 ) -> usize
-    requires { (ownForm own.now ≡ true) × Form (ownKeys own.now) cache.now (rows 100 held cache.now)
+    requires { (own_form own.now ≡ true) × Form (own_keys own.now) cache.now (rows 100 held cache.now)
         × (target + 32 ≤ length d.now) × (path + size ≤ length d.now)
-        × (80 + 16 * count_of (closestPast own.now (rows 100 held cache.now) (part path size d.now) (key_at target d.now))
+        × (80 + 16 * count_of (closest_past own.now (rows 100 held cache.now) (part path size d.now) (key_at target d.now))
         ≤ length output.old) }
-    ensures value { (result ≡ length (closestMade major minor id acked (closestPast own.now
+    ensures value { (result ≡ length (closest_made major minor id acked (closest_past own.now
         (rows 100 held cache.now) (part path size d.now) (key_at target d.now)) 0).bytes)
         × (result < 65536) }
     ensures output_after { output.new
-        ≡ sending ((closestMade major minor id acked (closestPast own.now (rows 100 held cache.now)
+        ≡ sending ((closest_made major minor id acked (closest_past own.now (rows 100 held cache.now)
         (part path size d.now) (key_at target d.now)) 0).bytes ∷ []) output.old }
 {
     let end = path + size;
@@ -163,21 +163,21 @@ pub fn commit_show<'a>(
 ) -> Answer
     requires used_bound { (opens ≡ true → used < 16) × (length waiting.old ≡ 2240) × Laid 140 used waiting.old
         × (length nonce.now ≡ 16) × (start + len ≤ length d.now)
-        × (opens ≡ true → entryForm (part start len d.now) ≡ true) }
-    requires own_value { (ownForm own.now ≡ true) × Form (ownKeys own.now) cache.now (rows 100 held cache.now)
+        × (opens ≡ true → entry_form (part start len d.now) ≡ true) }
+    requires own_value { (own_form own.now ≡ true) × Form (own_keys own.now) cache.now (rows 100 held cache.now)
         × (target + 32 ≤ length d.now) × (path + size ≤ length d.now)
-        × (80 + 16 * count_of (closestPast own.now (rows 100 held cache.now) (part path size d.now) (key_at target d.now))
-        + inquireRoom opens ≤ length output.old) }
-    ensures value { result ≡ lengths ((closestMade major minor id acked (closestPast own.now
+        × (80 + 16 * count_of (closest_past own.now (rows 100 held cache.now) (part path size d.now) (key_at target d.now))
+        + inquire_room opens ≤ length output.old) }
+    ensures value { result ≡ lengths ((closest_made major minor id acked (closest_past own.now
         (rows 100 held cache.now) (part path size d.now) (key_at target d.now)) 0).bytes
-        ∷ inquireWritten major minor id opens nonce.now (recordOf (part start len d.now))) }
-    ensures waiting_after { waiting.new ≡ cond opens (bytes_of 2240 (opened (inquiryPlace (idAfter id)
-        (recordOf (part start len d.now))) (rows 140 used waiting.old)))
+        ∷ inquire_written major minor id opens nonce.now (record_of (part start len d.now))) }
+    ensures waiting_after { waiting.new ≡ cond opens (bytes_of 2240 (opened (inquiry_place (id_after id)
+        (record_of (part start len d.now))) (rows 140 used waiting.old)))
         waiting.old }
     ensures output_after { output.new
-        ≡ sending ((closestMade major minor id acked (closestPast own.now (rows 100 held cache.now)
+        ≡ sending ((closest_made major minor id acked (closest_past own.now (rows 100 held cache.now)
         (part path size d.now) (key_at target d.now)) 0).bytes
-        ∷ inquireWritten major minor id opens nonce.now (recordOf (part start len d.now)))
+        ∷ inquire_written major minor id opens nonce.now (record_of (part start len d.now)))
         output.old }
 {
     let first = send_closest(

@@ -1,18 +1,18 @@
 // The record of a route entry is inquired about, whatever message the entry stands in: the INQUIRE and its place.
 ghost use Rattle.std.specs.Prelude.{◌≡◌, true, ◌+◌, ◌≤◌, ◌<◌, length};
 ghost use Rattle.octet.specs.Part.{part, splice};
-ghost use Rattle.record.specs.Entry.{entryForm, recordOf};
+ghost use Rattle.record.specs.Entry.{entry_form, record_of};
 ghost use Rattle.table.specs.Rows.{rows, bytes_of, Laid};
-ghost use Rattle.waiting.specs.Place.{inquiryPlace};
+ghost use Rattle.waiting.specs.Place.{inquiry_place};
 ghost use Rattle.waiting.specs.Open.{opened};
-ghost use Rattle.wire_write.specs.Making.{inquireMade};
-ghost use Rattle.asking.specs.Ids.{idAfter};
+ghost use Rattle.wire_write.specs.Making.{inquire_made};
+ghost use Rattle.asking.specs.Ids.{id_after};
 
 // A place that waits for the answer about a record opens.
 fn open_inquiry(waiting: &mut [u8], used: usize, id: u32, r: &[u8])
     requires { (used < 16) × (length waiting.old ≡ 2240) × Laid 140 used waiting.old × (length r.now ≡ 100) }
     ensures { waiting.new
-        ≡ bytes_of 2240 (opened (inquiryPlace id r.now) (rows 140 used waiting.old)) }
+        ≡ bytes_of 2240 (opened (inquiry_place id r.now) (rows 140 used waiting.old)) }
 {
     waiting::open(
         waiting,
@@ -29,7 +29,7 @@ fn open_inquiry(waiting: &mut [u8], used: usize, id: u32, r: &[u8])
 fn send_inquire(output: &mut [u8], at: usize, major: u8, minor: u8, id: u32, r: &[u8], nonce: &[u8])
     requires { (at + 76 ≤ length output.old) × (length r.now ≡ 100) × (length nonce.now ≡ 16) }
     ensures { output.new
-        ≡ splice at (inquireMade major minor id (part 0 32 r.now) nonce.now).bytes
+        ≡ splice at (inquire_made major minor id (part 0 32 r.now) nonce.now).bytes
         output.old }
 {
     wire_sent::write_inquire(&mut output[at..], major, minor, id, &r[0..32], nonce);
@@ -51,13 +51,13 @@ pub fn ask(
     at: usize,
 )
     requires { (used < 16) × (length waiting.old ≡ 2240) × Laid 140 used waiting.old × (length nonce.now ≡ 16)
-        × (start + len ≤ length d.now) × (entryForm (part start len d.now) ≡ true)
+        × (start + len ≤ length d.now) × (entry_form (part start len d.now) ≡ true)
         × (at + 76 ≤ length output.old) }
     ensures waiting_after { waiting.new
-        ≡ bytes_of 2240 (opened (inquiryPlace (idAfter id) (recordOf (part start len d.now)))
+        ≡ bytes_of 2240 (opened (inquiry_place (id_after id) (record_of (part start len d.now)))
         (rows 140 used waiting.old)) }
-    ensures output_after { output.new ≡ splice at (inquireMade major minor (idAfter id)
-        (part 0 32 (recordOf (part start len d.now))) nonce.now).bytes output.old }
+    ensures output_after { output.new ≡ splice at (inquire_made major minor (id_after id)
+        (part 0 32 (record_of (part start len d.now))) nonce.now).bytes output.old }
 {
     let next = asking::id_after(id);
     let mut named = [0u8; record::RECORD_LEN];

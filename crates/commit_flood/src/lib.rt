@@ -2,21 +2,21 @@
 ghost use Rattle.std.specs.Prelude.{◌≡◌, true, cond, ◌++◌, ◌+◌, ◌≤◌, ◌<◌, length};
 ghost use Rattle.octet.specs.Part.{part};
 ghost use Rattle.key.specs.Number.{key_at};
-ghost use Rattle.record.specs.Entry.{entryForm, recordOf};
-ghost use Rattle.own.specs.Own.{ownForm, ownKeys};
+ghost use Rattle.record.specs.Entry.{entry_form, record_of};
+ghost use Rattle.own.specs.Own.{own_form, own_keys};
 ghost use Rattle.table.specs.Rows.{rows, bytes_of, Laid};
 ghost use Rattle.cache.specs.Form.{keys_of, Form};
-ghost use Rattle.cache.specs.Bytes.{afterRemove};
-ghost use Rattle.firsts.specs.Firsts.{firstsOf};
-ghost use Rattle.waiting.specs.Place.{inquiryPlace};
-ghost use Rattle.waiting.specs.Form.{isInquiry};
+ghost use Rattle.cache.specs.Bytes.{after_remove};
+ghost use Rattle.firsts.specs.Firsts.{firsts_of};
+ghost use Rattle.waiting.specs.Place.{inquiry_place};
+ghost use Rattle.waiting.specs.Form.{is_inquiry};
 ghost use Rattle.table.specs.Seek.{seek};
 ghost use Rattle.waiting.specs.Open.{opened, freed};
-ghost use Rattle.plan_flood.specs.Rooms.{ackRoom};
-ghost use Rattle.asking.specs.Asking.{inquireRoom};
-ghost use Rattle.asking.specs.Ids.{idAfter};
+ghost use Rattle.plan_flood.specs.Rooms.{ack_room};
+ghost use Rattle.asking.specs.Asking.{inquire_room};
+ghost use Rattle.asking.specs.Ids.{id_after};
 ghost use Rattle.gauge_commit.specs.Sending.{lengths, sending};
-ghost use Rattle.gauge_commit.specs.Replies.{ackWritten, inquireWritten, freedAt};
+ghost use Rattle.gauge_commit.specs.Replies.{ack_written, inquire_written, freed_at};
 
 use gauge_commit::Answer;
 
@@ -30,9 +30,9 @@ fn send_ack(
     acked: u32,
     n: bool,
 ) -> usize
-    requires { ackRoom silent n ≤ length output.old }
-    ensures value { result ≡ ackRoom silent n }
-    ensures output_after { output.new ≡ sending (ackWritten major minor id silent acked n) output.old }
+    requires { ack_room silent n ≤ length output.old }
+    ensures value { result ≡ ack_room silent n }
+    ensures output_after { output.new ≡ sending (ack_written major minor id silent acked n) output.old }
 {
     if silent {
         return 0;
@@ -59,15 +59,15 @@ pub fn commit_flood(
     output: &mut [u8],
 ) -> Answer
     requires { (opens ≡ true → used < 16) × (length waiting.old ≡ 2240) × Laid 140 used waiting.old
-        × (length nonce.now ≡ 16) × (start + len ≤ length d.now) × (entryForm (part start len d.now) ≡ true)
-        × (ackRoom silent n + inquireRoom opens ≤ length output.old) }
-    ensures value { result ≡ lengths (ackWritten major minor id silent acked n
-        ++ inquireWritten major minor id opens nonce.now (recordOf (part start len d.now))) }
-    ensures waiting_after { waiting.new ≡ cond opens (bytes_of 2240 (opened (inquiryPlace (idAfter id)
-        (recordOf (part start len d.now))) (rows 140 used waiting.old)))
+        × (length nonce.now ≡ 16) × (start + len ≤ length d.now) × (entry_form (part start len d.now) ≡ true)
+        × (ack_room silent n + inquire_room opens ≤ length output.old) }
+    ensures value { result ≡ lengths (ack_written major minor id silent acked n
+        ++ inquire_written major minor id opens nonce.now (record_of (part start len d.now))) }
+    ensures waiting_after { waiting.new ≡ cond opens (bytes_of 2240 (opened (inquiry_place (id_after id)
+        (record_of (part start len d.now))) (rows 140 used waiting.old)))
         waiting.old }
-    ensures output_after { output.new ≡ sending (ackWritten major minor id silent acked n
-        ++ inquireWritten major minor id opens nonce.now (recordOf (part start len d.now)))
+    ensures output_after { output.new ≡ sending (ack_written major minor id silent acked n
+        ++ inquire_written major minor id opens nonce.now (record_of (part start len d.now)))
         output.old }
 {
     let first = send_ack(output, major, minor, id, silent, acked, n);
@@ -86,7 +86,7 @@ pub fn commit_flood(
 // The inquiry for a key, if one is waiting, is freed.
 fn free_inquiry(waiting: &mut [u8], used: usize, key: &[u8])
     requires { (length waiting.old ≡ 2240) × Laid 140 used waiting.old × (length key.now ≡ 32) }
-    ensures { waiting.new ≡ bytes_of 2240 (freedAt (seek (isInquiry (key_at 0 key.now)) 0
+    ensures { waiting.new ≡ bytes_of 2240 (freed_at (seek (is_inquiry (key_at 0 key.now)) 0
         (rows 140 used waiting.old)) (rows 140 used waiting.old)) }
 {
     let found = waiting::find_inquiry(waiting, 0, used, key, 0);
@@ -112,18 +112,18 @@ pub fn commit_revoke(
     acked: u32,
     output: &mut [u8],
 ) -> Answer
-    requires { (ownForm own.now ≡ true) × (length key.now ≡ 32)
-        × Form (ownKeys own.now) cache.old (rows 100 held cache.old) × (length waiting.old ≡ 2240)
-        × Laid 140 used waiting.old × (used ≤ 16) × (ackRoom silent n ≤ length output.old)
-        × (firsts.old ≡ firstsOf (keys_of (rows 100 held cache.old))) }
-    ensures value { result ≡ lengths (ackWritten major minor id silent acked n) }
+    requires { (own_form own.now ≡ true) × (length key.now ≡ 32)
+        × Form (own_keys own.now) cache.old (rows 100 held cache.old) × (length waiting.old ≡ 2240)
+        × Laid 140 used waiting.old × (used ≤ 16) × (ack_room silent n ≤ length output.old)
+        × (firsts.old ≡ firsts_of (keys_of (rows 100 held cache.old))) }
+    ensures value { result ≡ lengths (ack_written major minor id silent acked n) }
     ensures cache_after { cache.new ≡ bytes_of (length cache.old)
-        (afterRemove (key_at 0 key.now) (rows 100 held cache.old)) }
-    ensures firsts_after { firsts.new ≡ firstsOf (keys_of
-        (afterRemove (key_at 0 key.now) (rows 100 held cache.old))) }
-    ensures waiting_after { waiting.new ≡ bytes_of 2240 (freedAt (seek (isInquiry (key_at 0 key.now)) 0
+        (after_remove (key_at 0 key.now) (rows 100 held cache.old)) }
+    ensures firsts_after { firsts.new ≡ firsts_of (keys_of
+        (after_remove (key_at 0 key.now) (rows 100 held cache.old))) }
+    ensures waiting_after { waiting.new ≡ bytes_of 2240 (freed_at (seek (is_inquiry (key_at 0 key.now)) 0
         (rows 140 used waiting.old)) (rows 140 used waiting.old)) }
-    ensures output_after { output.new ≡ sending (ackWritten major minor id silent acked n) output.old }
+    ensures output_after { output.new ≡ sending (ack_written major minor id silent acked n) output.old }
 {
     counted::remove(own, cache, firsts, held, key);
     free_inquiry(waiting, used, key);

@@ -1,12 +1,12 @@
 // What was planned for a FLOOD to send is done. Nothing here can refuse.
 ghost use Rattle.std.specs.Prelude.{◌≡◌, true, false, [], ◌∷◌, ◌+◌, ◌*◌, ◌≤◌, ◌<◌, length};
 ghost use Rattle.octet.specs.Part.{part};
-ghost use Rattle.record.specs.Record.{recordForm};
+ghost use Rattle.record.specs.Record.{record_form};
 ghost use Rattle.table.specs.Rows.{rows, bytes_of, Laid};
-ghost use Rattle.waiting.specs.Place.{floodPlace};
+ghost use Rattle.waiting.specs.Place.{flood_place};
 ghost use Rattle.waiting.specs.Open.{opened};
-ghost use Rattle.wire_write.specs.Making.{floodMade};
-ghost use Rattle.plan_send.specs.Send.{recordSent, floodRoom};
+ghost use Rattle.wire_write.specs.Making.{flood_made};
+ghost use Rattle.plan_send.specs.Send.{record_sent, flood_room};
 ghost use Rattle.gauge_commit.specs.Sending.{lengths, sending};
 
 use gauge_commit::Answer;
@@ -15,7 +15,7 @@ use gauge_commit::Answer;
 fn open_flood(waiting: &mut [u8], used: usize, id: u32, key: &[u8])
     requires { (used < 16) × (length waiting.old ≡ 2240) × Laid 140 used waiting.old × (length key.now ≡ 32) }
     ensures { waiting.new
-        ≡ bytes_of 2240 (opened (floodPlace id key.now) (rows 140 used waiting.old)) }
+        ≡ bytes_of 2240 (opened (flood_place id key.now) (rows 140 used waiting.old)) }
 {
     let no_record = [0u8; record::RECORD_LEN];
     waiting::open(
@@ -39,12 +39,12 @@ fn send_flood(
     s: &[u8],
     at: usize,
 ) -> Answer
-    requires { (length key.now ≡ 32) × (at + 100 ≤ length s.now) × (recordForm (part at 100 s.now) ≡ true)
-        × (floodRoom (part at 100 s.now) ≤ length output.old) }
+    requires { (length key.now ≡ 32) × (at + 100 ≤ length s.now) × (record_form (part at 100 s.now) ≡ true)
+        × (flood_room (part at 100 s.now) ≤ length output.old) }
     ensures value { result
-        ≡ lengths ((floodMade major minor id key.now (part at 100 s.now) 0).bytes ∷ []) }
+        ≡ lengths ((flood_made major minor id key.now (part at 100 s.now) 0).bytes ∷ []) }
     ensures output_after { output.new
-        ≡ sending ((floodMade major minor id key.now (part at 100 s.now) 0).bytes ∷ [])
+        ≡ sending ((flood_made major minor id key.now (part at 100 s.now) 0).bytes ∷ [])
         output.old }
 {
     let wrote = wire_sent::write_flood(output, major, minor, id, key, s, at);
@@ -68,14 +68,14 @@ pub fn commit_send(
     requires { (used < 16) × (length waiting.old ≡ 2240) × Laid 140 used waiting.old
         × (length neighbour.now ≡ 32) × (ours ≡ true → 100 * at + 100 ≤ length own.now)
         × (ours ≡ false → 100 * at + 100 ≤ length cache.now)
-        × (recordForm (recordSent own.now cache.now ours at) ≡ true)
-        × (floodRoom (recordSent own.now cache.now ours at) ≤ length output.old) }
-    ensures value { result ≡ lengths ((floodMade major minor id neighbour.now
-        (recordSent own.now cache.now ours at) 0).bytes ∷ []) }
+        × (record_form (record_sent own.now cache.now ours at) ≡ true)
+        × (flood_room (record_sent own.now cache.now ours at) ≤ length output.old) }
+    ensures value { result ≡ lengths ((flood_made major minor id neighbour.now
+        (record_sent own.now cache.now ours at) 0).bytes ∷ []) }
     ensures waiting_after { waiting.new
-        ≡ bytes_of 2240 (opened (floodPlace id neighbour.now) (rows 140 used waiting.old)) }
-    ensures output_after { output.new ≡ sending ((floodMade major minor id neighbour.now
-        (recordSent own.now cache.now ours at) 0).bytes ∷ []) output.old }
+        ≡ bytes_of 2240 (opened (flood_place id neighbour.now) (rows 140 used waiting.old)) }
+    ensures output_after { output.new ≡ sending ((flood_made major minor id neighbour.now
+        (record_sent own.now cache.now ours at) 0).bytes ∷ []) output.old }
 {
     open_flood(waiting, used, id, neighbour);
     if ours {

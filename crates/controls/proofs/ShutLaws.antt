@@ -21,11 +21,11 @@ unfoldable pub fits : List ℕ → Bool
 fits [] = true
 fits (x ∷ xs) = ltb x 256 && fits xs
 
-pub fits-bytes : (xs : List ℕ) → fits xs ≡ true → Bytes xs
+pub fits_bytes : (xs : List ℕ) → fits xs ≡ true → Bytes xs
 unfolding fits
-fits-bytes [] e i = omega arith
-fits-bytes (x ∷ xs) e zero = ltb-true x 256 (both_true (ltb x 256) (fits xs) e).0
-fits-bytes (x ∷ xs) e (suc i) = fits-bytes xs (both_true (ltb x 256) (fits xs) e).1 i
+fits_bytes [] e i = omega arith
+fits_bytes (x ∷ xs) e zero = ltb-true x 256 (both_true (ltb x 256) (fits xs) e).0
+fits_bytes (x ∷ xs) e (suc i) = fits_bytes xs (both_true (ltb x 256) (fits xs) e).1 i
 
 -- ---- a call in which it differs, by some number
 

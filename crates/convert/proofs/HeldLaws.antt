@@ -7,44 +7,44 @@ use Prim.Native.Nat.{ℕ, ◌*◌, ◌%◌, ◌≤◌, ◌<◌}
 use native.Mathlib.Omega.{arith}
 use lib.ListN.{length, drop}
 use borrow.Author.Tests.{eq-eqb, ne_eqb, le-leb, lt-leb}
-use Rattle.octet.specs.Part.{allZero}
+use Rattle.octet.specs.Part.{all_zero}
 use Rattle.own.specs.Own.{Own}
 use Rattle.table.specs.Rows.{rows}
 use Rattle.table.proofs.RowLaws.{rows-length}
 use Rattle.cache.specs.declared.shape.Formed.TheVariants.{Bad, Good}
-use Rattle.cache.specs.Form.{leading, placesIn}
-use Rattle.cache.proofs.FormLaws.{leading-most}
-use Rattle.convert.specs.Old.{oldRecordForm, oldHeldIn, oldCacheForm}
-use Rattle.convert.specs.Formed.{oldCacheFormed}
+use Rattle.cache.specs.Form.{leading, places_in}
+use Rattle.cache.proofs.FormLaws.{leading_most}
+use Rattle.convert.specs.Old.{old_record_form, old_held_in, old_cache_form}
+use Rattle.convert.specs.Formed.{old_cache_formed}
 
-pub held-most : (own : Own) (s : List ℕ) → oldHeldIn own s ≤ placesIn (length s)
-unfolding oldHeldIn
-held-most own s =
-    omega (arith, leading-most oldRecordForm own 0 (rows 100 (placesIn (length s)) s), rows-length 100 (placesIn (length s)) s)
+pub held_most : (own : Own) (s : List ℕ) → old_held_in own s ≤ places_in (length s)
+unfolding old_held_in
+held_most own s =
+    omega (arith, leading_most old_record_form own 0 (rows 100 (places_in (length s)) s), rows-length 100 (places_in (length s)) s)
 
 module _ (own : Own) (s : List ℕ) where
-  pub not-whole : (length s % 100 ≡ 0 → ⊥) → oldCacheFormed own s ≡ Bad
-  unfolding oldCacheFormed oldCacheForm
+  pub not-whole : (length s % 100 ≡ 0 → ⊥) → old_cache_formed own s ≡ Bad
+  unfolding old_cache_formed old_cache_form
   not-whole d = rw (ne_eqb (length s % 100) 0 d) refl
 
   module _ (whole : length s % 100 ≡ 0) where
-    pub too_small : length s < 1000 → oldCacheFormed own s ≡ Bad
-    unfolding oldCacheFormed oldCacheForm
+    pub too_small : length s < 1000 → old_cache_formed own s ≡ Bad
+    unfolding old_cache_formed old_cache_form
     too_small h = rw (eq-eqb (length s % 100) 0 whole, lt-leb 1000 (length s) h) refl
 
     module _ (least : 1000 ≤ length s) where
-      pub too_large : 25600 < length s → oldCacheFormed own s ≡ Bad
-      unfolding oldCacheFormed oldCacheForm
+      pub too_large : 25600 < length s → old_cache_formed own s ≡ Bad
+      unfolding old_cache_formed old_cache_form
       too_large h = rw (eq-eqb (length s % 100) 0 whole, le-leb 1000 (length s) least, lt-leb (length s) 25600 h) refl
 
-      pub too_few : length s ≤ 25600 → length s < 1000 * length own → oldCacheFormed own s ≡ Bad
-      unfolding oldCacheFormed oldCacheForm
+      pub too_few : length s ≤ 25600 → length s < 1000 * length own → old_cache_formed own s ≡ Bad
+      unfolding old_cache_formed old_cache_form
       too_few m h =
           rw (eq-eqb (length s % 100) 0 whole, le-leb 1000 (length s) least, le-leb (length s) 25600 m, lt-leb (1000 * length own) (length s) h) refl
 
-      pub by-rest : (used : ℕ) (b : Bool) → length s ≤ 25600 → 1000 * length own ≤ length s → used ≡ leading oldRecordForm own 0 (rows 100 (placesIn (length s)) s)
-          → b ≡ allZero (drop (100 * used) s) → oldCacheFormed own s ≡ cond b (Good used) Bad
-      unfolding oldCacheFormed oldCacheForm oldHeldIn
+      pub by-rest : (used : ℕ) (b : Bool) → length s ≤ 25600 → 1000 * length own ≤ length s → used ≡ leading old_record_form own 0 (rows 100 (places_in (length s)) s)
+          → b ≡ all_zero (drop (100 * used) s) → old_cache_formed own s ≡ cond b (Good used) Bad
+      unfolding old_cache_formed old_cache_form old_held_in
       by-rest used b most enough is z =
           rw (
             eq-eqb (length s % 100) 0 whole,
@@ -64,10 +64,10 @@ module _ (own : Own) (s : List ℕ) where
   tells-bad false n e = refl
 
   -- what it tells
-  pub good-is : {used : ℕ} → oldCacheFormed own s ≡ Good used → (oldCacheForm own s ≡ true) × (oldHeldIn own s ≡ used)
-  unfolding oldCacheFormed
-  good-is {used} e = tells (oldCacheForm own s) (oldHeldIn own s) used e
+  pub good-is : {used : ℕ} → old_cache_formed own s ≡ Good used → (old_cache_form own s ≡ true) × (old_held_in own s ≡ used)
+  unfolding old_cache_formed
+  good-is {used} e = tells (old_cache_form own s) (old_held_in own s) used e
 
-  pub bad-is : oldCacheFormed own s ≡ Bad → oldCacheForm own s ≡ false
-  unfolding oldCacheFormed
-  bad-is e = tells-bad (oldCacheForm own s) (oldHeldIn own s) e
+  pub bad-is : old_cache_formed own s ≡ Bad → old_cache_form own s ≡ false
+  unfolding old_cache_formed
+  bad-is e = tells-bad (old_cache_form own s) (old_held_in own s) e

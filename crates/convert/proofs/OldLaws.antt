@@ -7,21 +7,21 @@ use native.Mathlib.Omega.{arith}
 use lib.Dec.{leb, eqb}
 use lib.ListN.{length, drop, get_or}
 use borrow.Author.Tests.{le-leb, lt-leb, leb-true, eq-eqb, ne_eqb, eqb-true}
-use Rattle.octet.specs.Part.{part, allZero}
+use Rattle.octet.specs.Part.{part, all_zero}
 use Rattle.octet.proofs.PartLaws.{part_at, length_part}
-use Rattle.octet.proofs.TestLaws.{both_true, zero-two}
-use Rattle.record.specs.Record.{count_of, recordForm}
-use Rattle.record.proofs.EntryLaws.{form-length, form-told}
+use Rattle.octet.proofs.TestLaws.{both_true, zero_two}
+use Rattle.record.specs.Record.{count_of, record_form}
+use Rattle.record.proofs.EntryLaws.{form_length, form_told}
 use Rattle.record.proofs.PlaceLaws.{drop-part}
-use Rattle.convert.specs.Old.{oldRecordForm}
+use Rattle.convert.specs.Old.{old_record_form}
 
 -- a record at a place, tested in its place
-pub form-at : (at : ℕ) (s : List ℕ) → at + 100 ≤ length s → get_or s (at + 34) 0 ≤ 4
-    → oldRecordForm (part at 100 s)
+pub form_at : (at : ℕ) (s : List ℕ) → at + 100 ≤ length s → get_or s (at + 34) 0 ≤ 4
+    → old_record_form (part at 100 s)
     ≡ leb 1 (get_or s (at + 34) 0) && leb (get_or s (at + 34) 0) 4 && eqb (get_or s (at + 35) 0) 0
-    && allZero (part (at + 36 + 16 * get_or s (at + 34) 0) (8 * (8 - 2 * get_or s (at + 34) 0)) s)
-unfolding oldRecordForm
-form-at at s h m =
+    && all_zero (part (at + 36 + 16 * get_or s (at + 34) 0) (8 * (8 - 2 * get_or s (at + 34) 0)) s)
+unfolding old_record_form
+form_at at s h m =
     let c = get_or s (at + 34) 0 in
     let e : 100 - (36 + 16 * c) ≡ 8 * (8 - 2 * c) = omega arith in
     let f : at + (36 + 16 * c) ≡ at + 36 + 16 * c = omega arith in
@@ -35,21 +35,21 @@ form-at at s h m =
     )
 
 -- the same where what is left of it starts and ends at known places
-pub form-left : (at p n : ℕ) (s : List ℕ) → at + 100 ≤ length s → 1 ≤ get_or s (at + 34) 0 → get_or s (at + 34) 0 ≤ 4 → get_or s (at + 35) 0 ≡ 0
-    → p ≡ at + 36 + 16 * get_or s (at + 34) 0 → n ≡ 8 * (8 - 2 * get_or s (at + 34) 0) → allZero (part p n s) ≡ oldRecordForm (part at 100 s)
-form-left at p n s h l m z e w =
+pub form_left : (at p n : ℕ) (s : List ℕ) → at + 100 ≤ length s → 1 ≤ get_or s (at + 34) 0 → get_or s (at + 34) 0 ≤ 4 → get_or s (at + 35) 0 ≡ 0
+    → p ≡ at + 36 + 16 * get_or s (at + 34) 0 → n ≡ 8 * (8 - 2 * get_or s (at + 34) 0) → all_zero (part p n s) ≡ old_record_form (part at 100 s)
+form_left at p n s h l m z e w =
     let c = get_or s (at + 34) 0 in
-    let left : allZero (part p n s) ≡ allZero (part (at + 36 + 16 * c) (8 * (8 - 2 * c)) s) = ap₂ (λ (i k : ℕ). allZero (part i k s)) e w in
-    rw (form-at at s h m, le-leb 1 c l, le-leb c 4 m, eq-eqb (get_or s (at + 35) 0) 0 z) left
+    let left : all_zero (part p n s) ≡ all_zero (part (at + 36 + 16 * c) (8 * (8 - 2 * c)) s) = ap₂ (λ (i k : ℕ). all_zero (part i k s)) e w in
+    rw (form_at at s h m, le-leb 1 c l, le-leb c 4 m, eq-eqb (get_or s (at + 35) 0) 0 z) left
 
-pub zero-none : (p : ℕ) (s : List ℕ) → true ≡ allZero (part p 0 s)
-unfolding allZero
+pub zero-none : (p : ℕ) (s : List ℕ) → true ≡ all_zero (part p 0 s)
+unfolding all_zero
 zero-none p s = refl
 
 -- more than four addresses are too many
-pub form-many : (at : ℕ) (s : List ℕ) → 4 < get_or s (at + 34) 0 → false ≡ oldRecordForm (part at 100 s)
-unfolding oldRecordForm
-form-many at s m =
+pub form_many : (at : ℕ) (s : List ℕ) → 4 < get_or s (at + 34) 0 → false ≡ old_record_form (part at 100 s)
+unfolding old_record_form
+form_many at s m =
     let c = get_or s (at + 34) 0 in
     sym (rw (part_at at 100 34 s (omega arith), lt-leb c 4 m) (none (eqb (length (part at 100 s)) 100) (leb 1 c) _ _))
   where
@@ -59,9 +59,9 @@ form-many at s m =
     none false b c d = refl
 
 -- a number above four: too many addresses, or a zero byte that is none
-pub form-over : (at : ℕ) (s : List ℕ) → 4 < get_or s (at + 35) 0 * 256 + get_or s (at + 34) 0 → false ≡ oldRecordForm (part at 100 s)
-unfolding oldRecordForm
-form-over at s m = by-case (get_or s (at + 35) 0) refl
+pub form_over : (at : ℕ) (s : List ℕ) → 4 < get_or s (at + 35) 0 * 256 + get_or s (at + 34) 0 → false ≡ old_record_form (part at 100 s)
+unfolding old_record_form
+form_over at s m = by-case (get_or s (at + 35) 0) refl
   where
     none : (a b c d : Bool) → a && b && c && false && d ≡ false
     none true true true d = refl
@@ -69,19 +69,19 @@ form-over at s m = by-case (get_or s (at + 35) 0) refl
     none true false c d = refl
     none false b c d = refl
 
-    other : (get_or s (at + 35) 0 ≡ 0 → ⊥) → false ≡ oldRecordForm (part at 100 s)
+    other : (get_or s (at + 35) 0 ≡ 0 → ⊥) → false ≡ old_record_form (part at 100 s)
     other ne =
         sym (rw (part_at at 100 35 s (omega arith), ne_eqb (get_or s (at + 35) 0) 0 ne)
         (none (eqb (length (part at 100 s)) 100) (leb 1 (count_of (part at 100 s))) (leb (count_of (part at 100 s)) 4) _))
 
-    by-case : (z : ℕ) → get_or s (at + 35) 0 ≡ z → false ≡ oldRecordForm (part at 100 s)
-    by-case zero e = form-many at s (omega arith)
+    by-case : (z : ℕ) → get_or s (at + 35) 0 ≡ z → false ≡ old_record_form (part at 100 s)
+    by-case zero e = form_many at s (omega arith)
     by-case (suc z) e = other (λ (f : get_or s (at + 35) 0 ≡ 0). omega arith)
 
 -- bytes that are not zero where an unused address is
-pub form-spoilt : (at p : ℕ) (s : List ℕ) → at + 100 ≤ length s → get_or s (at + 34) 0 ≤ 4 → at + 36 + 16 * get_or s (at + 34) 0 ≤ p → p + 16 ≤ at + 100
-    → allZero (part p 16 s) ≡ false → false ≡ oldRecordForm (part at 100 s)
-form-spoilt at p s h m from to bad =
+pub form_spoilt : (at p : ℕ) (s : List ℕ) → at + 100 ≤ length s → get_or s (at + 34) 0 ≤ 4 → at + 36 + 16 * get_or s (at + 34) 0 ≤ p → p + 16 ≤ at + 100
+    → all_zero (part p 16 s) ≡ false → false ≡ old_record_form (part at 100 s)
+form_spoilt at p s h m from to bad =
     let c = get_or s (at + 34) 0 in
     let q : ℕ = at + 36 + 16 * c in
     let n : ℕ = 8 * (8 - 2 * c) in
@@ -89,17 +89,17 @@ form-spoilt at p s h m from to bad =
     let after : ℕ = n - (before + 16) in
     let width : n ≡ before + (16 + after) = omega arith in
     let place : q + before ≡ p = omega arith in
-    let left : allZero (part q n s) ≡ false =
-    ap (λ (k : ℕ). allZero (part q k s)) width ∙ zero-two q before (16 + after) s
-    ∙ ap (λ (k : ℕ). allZero (part q before s) && allZero (part k (16 + after) s)) place
-    ∙ ap (λ (t : Bool). allZero (part q before s) && t) (zero-two p 16 after s ∙ ap (λ (t : Bool). t && allZero (part (p + 16) after s)) bad)
-    ∙ and-false (allZero (part q before s)) in
-    sym (form-at at s h m ∙ ap (λ (t : Bool). leb 1 c && leb c 4 && eqb (get_or s (at + 35) 0) 0 && t) left
+    let left : all_zero (part q n s) ≡ false =
+    ap (λ (k : ℕ). all_zero (part q k s)) width ∙ zero_two q before (16 + after) s
+    ∙ ap (λ (k : ℕ). all_zero (part q before s) && all_zero (part k (16 + after) s)) place
+    ∙ ap (λ (t : Bool). all_zero (part q before s) && t) (zero_two p 16 after s ∙ ap (λ (t : Bool). t && all_zero (part (p + 16) after s)) bad)
+    ∙ and_false (all_zero (part q before s)) in
+    sym (form_at at s h m ∙ ap (λ (t : Bool). leb 1 c && leb c 4 && eqb (get_or s (at + 35) 0) 0 && t) left
     ∙ last (leb 1 c) (leb c 4) (eqb (get_or s (at + 35) 0) 0))
   where
-    and-false : (t : Bool) → t && false ≡ false
-    and-false true = refl
-    and-false false = refl
+    and_false : (t : Bool) → t && false ≡ false
+    and_false true = refl
+    and_false false = refl
 
     last : (a b c : Bool) → a && b && c && false ≡ false
     last true true true = refl
@@ -108,30 +108,30 @@ form-spoilt at p s h m from to bad =
     last false b c = refl
 
 -- 16 bytes and those after them
-pub zero-both : (p q m : ℕ) (s : List ℕ) → q ≡ p + 16 → allZero (part p 16 s) ≡ true → allZero (part q m s) ≡ true → allZero (part p (16 + m) s)
+pub zero_both : (p q m : ℕ) (s : List ℕ) → q ≡ p + 16 → all_zero (part p 16 s) ≡ true → all_zero (part q m s) ≡ true → all_zero (part p (16 + m) s)
     ≡ true
-zero-both p q m s e a b = zero-two p 16 m s ∙ ap₂ ◌&&◌ a (ap (λ (k : ℕ). allZero (part k m s)) (sym e) ∙ b)
+zero_both p q m s e a b = zero_two p 16 m s ∙ ap₂ ◌&&◌ a (ap (λ (k : ℕ). all_zero (part k m s)) (sym e) ∙ b)
 
 -- ---- what it says
 
-pub old-length : (r : List ℕ) → oldRecordForm r ≡ true → length r ≡ 100
-unfolding oldRecordForm
-old-length r e = eqb-true _ _ (both_true _ _ (both_true _ _ (both_true _ _ (both_true _ _ e).0).0).0).0
+pub old_length : (r : List ℕ) → old_record_form r ≡ true → length r ≡ 100
+unfolding old_record_form
+old_length r e = eqb-true _ _ (both_true _ _ (both_true _ _ (both_true _ _ (both_true _ _ e).0).0).0).0
 
-pub old-zero-byte : (r : List ℕ) → oldRecordForm r ≡ true → get_or r 35 0 ≡ 0
-unfolding oldRecordForm
-old-zero-byte r e =
+pub old_zero_byte : (r : List ℕ) → old_record_form r ≡ true → get_or r 35 0 ≡ 0
+unfolding old_record_form
+old_zero_byte r e =
     let front = eqb (length r) 100 && leb 1 (count_of r) && leb (count_of r) 4 in
     eqb-true (get_or r 35 0) 0 (both_true front (eqb (get_or r 35 0) 0) (both_true (front && eqb (get_or r 35 0) 0) _ e).0).1
 
 -- a record in the new form is one in the old, with one address
-pub new-old : (r : List ℕ) → recordForm r ≡ true → oldRecordForm r ≡ true
-unfolding oldRecordForm
-new-old r e =
-    let w = form-told r e in
+pub new_old : (r : List ℕ) → record_form r ≡ true → old_record_form r ≡ true
+unfolding old_record_form
+new_old r e =
+    let w = form_told r e in
     let place : 36 + 16 * count_of r ≡ 52 = omega (arith, w.0) in
     rw (
-      eq-eqb (length r) 100 (form-length r e),
+      eq-eqb (length r) 100 (form_length r e),
       le-leb 1 (count_of r) (omega (arith, w.0)),
       le-leb (count_of r) 4 (omega (arith, w.0)),
       eq-eqb (get_or r 35 0) 0 w.1,

@@ -1,12 +1,12 @@
 -- To believe. "A conversion turns an old cache and waiting table into the new form, the count 1 and the other addresses zero, keys and order the same";
 -- "Refusals: 1 for memory not in the new form, or, to the conversion, not in the old." Assumes nothing.
 use Rattle.std.specs.Prelude.{ℕ, not, List, [], ◌∷◌, map, length}
-use Rattle.own.specs.Own.{ownKeys}
-use Rattle.refusal.specs.Table.{Refusal, when, orRefuse}
+use Rattle.own.specs.Own.{own_keys}
+use Rattle.refusal.specs.Table.{Refusal, when, or_refuse}
 use Rattle.table.specs.Rows.{bytes_of}
 use Rattle.waiting.specs.Form.{places_of}
-use Rattle.cut.specs.Cut.{converted, convertedPlace}
-use Rattle.convert.specs.Old.{oldOwnForm, oldHeldOf, oldCacheForm, oldWaitingForm}
+use Rattle.cut.specs.Cut.{converted, converted_place}
+use Rattle.convert.specs.Old.{old_own_form, old_held_of, old_cache_form, old_waiting_form}
 
 -- what a conversion hands back: the number, the cache and the waiting table
 pub record Converted : Type 0 where
@@ -14,16 +14,16 @@ pub record Converted : Type 0 where
   pub cache : List ℕ
   pub waiting : List ℕ
 
-abbrev pub convertHanded : ℕ → List ℕ → List ℕ → Converted
-convertHanded n cache t = record { number = n; cache = cache; waiting = t }
+abbrev pub convert_handed : ℕ → List ℕ → List ℕ → Converted
+convert_handed n cache t = record { number = n; cache = cache; waiting = t }
 
-unfoldable pub convertWrong : List ℕ → List ℕ → List ℕ → List Refusal
-convertWrong own cache t =
-    when 1 (not (oldOwnForm own)) ∷ when 1 (not (oldCacheForm (ownKeys own) cache)) ∷ when 1 (not (oldWaitingForm (ownKeys own) t)) ∷ []
+unfoldable pub convert_wrong : List ℕ → List ℕ → List ℕ → List Refusal
+convert_wrong own cache t =
+    when 1 (not (old_own_form own)) ∷ when 1 (not (old_cache_form (own_keys own) cache)) ∷ when 1 (not (old_waiting_form (own_keys own) t)) ∷ []
 
-unfoldable pub convertDone : List ℕ → List ℕ → List ℕ → Converted
-convertDone own cache t =
-    convertHanded 0 (bytes_of (length cache) (map converted (oldHeldOf (ownKeys own) cache))) (bytes_of (length t) (map convertedPlace (places_of t)))
+unfoldable pub convert_done : List ℕ → List ℕ → List ℕ → Converted
+convert_done own cache t =
+    convert_handed 0 (bytes_of (length cache) (map converted (old_held_of (own_keys own) cache))) (bytes_of (length t) (map converted_place (places_of t)))
 
-unfoldable pub convertCall : List ℕ → List ℕ → List ℕ → Converted
-convertCall own cache t = orRefuse (λ (n : ℕ). convertHanded n cache t) (convertWrong own cache t) (convertDone own cache t)
+unfoldable pub convert_call : List ℕ → List ℕ → List ℕ → Converted
+convert_call own cache t = or_refuse (λ (n : ℕ). convert_handed n cache t) (convert_wrong own cache t) (convert_done own cache t)

@@ -1,12 +1,12 @@
 // The old form of the cache: as that of today, of old records.
 ghost use Rattle.std.specs.Prelude.{◌≡◌, ◌+◌, ◌*◌, ◌/◌, ◌≤◌, length};
 ghost use Rattle.octet.specs.Part.{part};
-ghost use Rattle.own.specs.Own.{ownKeys};
-ghost use Rattle.own.specs.Low.{lowAt};
+ghost use Rattle.own.specs.Own.{own_keys};
+ghost use Rattle.own.specs.Low.{low_at};
 ghost use Rattle.table.specs.Rows.{rows};
 ghost use Rattle.cache.specs.Form.{follows, leading};
-ghost use Rattle.convert.specs.Old.{oldRecordForm};
-ghost use Rattle.convert.specs.Formed.{oldCacheFormed};
+ghost use Rattle.convert.specs.Old.{old_record_form};
+ghost use Rattle.convert.specs.Formed.{old_cache_formed};
 
 use crate::old::is_formed;
 use cache::Formed;
@@ -14,7 +14,7 @@ use cache::Formed;
 // Has place i an old record that may stand after those before it?
 fn place_follows(own: &[u8], cache: &[u8], i: usize) -> bool
     requires { 100 * i + 100 ≤ length cache.now }
-    ensures { result ≡ follows oldRecordForm (ownKeys own.now) (lowAt cache.now i)
+    ensures { result ≡ follows old_record_form (own_keys own.now) (low_at cache.now i)
         (part (100 * i) 100 cache.now) }
 {
     let at = record::RECORD_LEN * i;
@@ -29,7 +29,7 @@ fn place_follows(own: &[u8], cache: &[u8], i: usize) -> bool
 
 // How many places, from the first, have old records in order.
 fn count_held(own: &[u8], cache: &[u8]) -> usize
-    ensures { result ≡ leading oldRecordForm (ownKeys own.now) 0
+    ensures { result ≡ leading old_record_form (own_keys own.now) 0
         (rows 100 (length cache.now / 100) cache.now) }
 {
     let n = cache.len() / record::RECORD_LEN;
@@ -45,7 +45,7 @@ fn count_held(own: &[u8], cache: &[u8]) -> usize
 
 // The test of the old form, under our own keys. C is at least ten times their number.
 pub(crate) fn form(own: &[u8], cache: &[u8]) -> Formed
-    ensures { result ≡ oldCacheFormed (ownKeys own.now) cache.now }
+    ensures { result ≡ old_cache_formed (own_keys own.now) cache.now }
 {
     let size = cache.len();
     if size % record::RECORD_LEN != 0 {

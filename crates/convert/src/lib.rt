@@ -5,13 +5,13 @@ mod ours;
 mod used;
 
 ghost use Rattle.std.specs.Prelude.{◌≡◌};
-ghost use Rattle.convert.specs.Convert.{convertHanded, convertCall};
+ghost use Rattle.convert.specs.Convert.{convert_handed, convert_call};
 
 // The cache and the waiting table with one address in each record. 1 where the own records, the cache or the table are not
 // in the old form, of which the new one is a part; then nothing changes.
 pub fn convert(own: &[u8], cache: &mut [u8], waiting: &mut [u8]) -> u32
-    ensures { convertHanded result cache.new waiting.new
-        ≡ convertCall own.now cache.old waiting.old }
+    ensures { convert_handed result cache.new waiting.new
+        ≡ convert_call own.now cache.old waiting.old }
 {
     if !ours::form(own) {
         return refusal::MEMORY;

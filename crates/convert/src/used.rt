@@ -1,10 +1,10 @@
 // The old form of the waiting table: as that of today, of inquiries with old records.
 ghost use Rattle.std.specs.Prelude.{◌≡◌, ◌*◌, ◌≤◌, length};
-ghost use Rattle.own.specs.Own.{ownKeys};
+ghost use Rattle.own.specs.Own.{own_keys};
 ghost use Rattle.table.specs.Rows.{rows};
-ghost use Rattle.waiting.specs.Form.{placeBy, places_by};
-ghost use Rattle.convert.specs.Old.{oldRecordForm};
-ghost use Rattle.convert.specs.Formed.{oldWaitingFormed};
+ghost use Rattle.waiting.specs.Form.{place_by, places_by};
+ghost use Rattle.convert.specs.Old.{old_record_form};
+ghost use Rattle.convert.specs.Formed.{old_waiting_formed};
 
 use crate::old::is_formed;
 use waiting_form::Formed;
@@ -12,7 +12,7 @@ use waiting_form::Formed;
 // Is a used place in the old form?
 fn place_formed(own: &[u8], place: &[u8]) -> bool
     requires { length place.now ≡ 140 }
-    ensures { result ≡ placeBy oldRecordForm (ownKeys own.now) place.now }
+    ensures { result ≡ place_by old_record_form (own_keys own.now) place.now }
 {
     let head = waiting_form::is_fresh(place);
     if place[4] == 1 {
@@ -31,7 +31,7 @@ fn place_formed(own: &[u8], place: &[u8]) -> bool
 fn places_formed(own: &[u8], table: &[u8], used: usize) -> bool
     requires { 140 * used ≤ length table.now }
     ensures { result
-        ≡ places_by oldRecordForm (ownKeys own.now) 0 (rows 140 used table.now) }
+        ≡ places_by old_record_form (own_keys own.now) 0 (rows 140 used table.now) }
 {
     let mut low: u64 = 0;
     let mut at = 0;
@@ -51,7 +51,7 @@ fn places_formed(own: &[u8], table: &[u8], used: usize) -> bool
 
 // Is the table in the old form, for a gauge with these own records?
 pub(crate) fn form(own: &[u8], table: &[u8]) -> Formed
-    ensures { result ≡ oldWaitingFormed (ownKeys own.now) table.now }
+    ensures { result ≡ old_waiting_formed (own_keys own.now) table.now }
 {
     if table.len() != waiting::WAITING_LEN {
         return Formed::Bad;

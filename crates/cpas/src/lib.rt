@@ -1,11 +1,11 @@
 // Our CPAs as they are lent, one for each own record: whether they are in form, and the one of a place.
 ghost use Rattle.std.specs.Prelude.{◌≡◌, true, ℕ, ◌+◌, ◌≤◌, ◌<◌, length, drop};
-ghost use Rattle.cpas.specs.Cpas.{cpaSize, cpaForm, cpasForm, cpaOf};
+ghost use Rattle.cpas.specs.Cpas.{cpa_size, cpa_form, cpas_form, cpa_of};
 
 // How long the CPA is whose length stands at a place.
 fn size_at(cpas: &[u8], at: usize) -> usize
     requires { at + 2 ≤ length cpas.now }
-    ensures { (result ≡ cpaSize (drop at cpas.now)) × (result < 65536) }
+    ensures { (result ≡ cpa_size (drop at cpas.now)) × (result < 65536) }
 {
     octet::read_u16_le(cpas, at) as usize
 }
@@ -13,7 +13,7 @@ fn size_at(cpas: &[u8], at: usize) -> usize
 // Does a CPA stand at the place, whole?
 fn is_cpa(cpas: &[u8], at: usize) -> bool
     requires { at ≤ length cpas.now }
-    ensures { result ≡ cpaForm (drop at cpas.now) }
+    ensures { result ≡ cpa_form (drop at cpas.now) }
 {
     let room = cpas.len() - at;
     if room < 2 {
@@ -25,7 +25,7 @@ fn is_cpa(cpas: &[u8], at: usize) -> bool
 
 // Are they n, one behind the other, and nothing after?
 pub fn cpas_form(cpas: &[u8], n: usize) -> bool
-    ensures { result ≡ cpasForm n cpas.now }
+    ensures { result ≡ cpas_form n cpas.now }
 {
     let mut at = 0;
     let mut i = 0;
@@ -41,8 +41,8 @@ pub fn cpas_form(cpas: &[u8], n: usize) -> bool
 
 // The CPA of a place, of so many in form that it has one.
 pub fn cpa_at<'a>(cpas: &'a [u8], place: usize) -> &'a [u8]
-    requires { (n : ℕ) × (place < n) × (cpasForm n cpas.now ≡ true) }
-    ensures { result.now ≡ cpaOf place cpas.now }
+    requires { (n : ℕ) × (place < n) × (cpas_form n cpas.now ≡ true) }
+    ensures { result.now ≡ cpa_of place cpas.now }
 {
     let mut at = 0;
     let mut i = 0;

@@ -9,21 +9,21 @@ use lib.Dec.{eqb}
 use lib.ListN.{length, take, drop, get_or, set, replicate, length-append, length-map, length-drop, length-replicate, take-append-drop}
 use lib.Seq.{take-add, take_at, drop_at, take-take, drop-drop, length-take-le}
 use borrow.Author.Tests.{eq-eqb, ne_eqb}
-use Rattle.octet.specs.Part.{part, splice, allZero}
-use Rattle.octet.proofs.PartLaws.{length_part, part_at, splice-nil, splice-one, splice-next, length-splice, take-splice, drop-splice, part-splice}
-use Rattle.octet.proofs.TestLaws.{all-zeros}
+use Rattle.octet.specs.Part.{part, splice, all_zero}
+use Rattle.octet.proofs.PartLaws.{length_part, part_at, splice_nil, splice_one, splice_next, length-splice, take-splice, drop-splice, part-splice}
+use Rattle.octet.proofs.TestLaws.{all_zeros}
 use Rattle.record.proofs.PlaceLaws.{part-part}
 use Rattle.table.specs.Rows.{rows, joined, bytes_of, Sized, Laid}
-use Rattle.table.proofs.RowLaws.{rows-length, rows-sized, rows_take, rows_next, rows_end, joined-append, joined_length}
-use Rattle.waiting.specs.Place.{kind_of, placeRecord}
-use Rattle.cut.specs.Cut.{converted, convertedPlace}
+use Rattle.table.proofs.RowLaws.{rows-length, rows-sized, rows_take, rows_next, rows_end, joined_append, joined_length}
+use Rattle.waiting.specs.Place.{kind_of, place_record}
+use Rattle.cut.specs.Cut.{converted, converted_place}
 
 -- ---- a part inside a replaced part
 
 -- a part put where it stands
-pub splice-self : (at n : ℕ) (s : List ℕ) → at + n ≤ length s → splice at (part at n s) s ≡ s
+pub splice_self : (at n : ℕ) (s : List ℕ) → at + n ≤ length s → splice at (part at n s) s ≡ s
 unfolding splice
-splice-self at n s h =
+splice_self at n s h =
     ap (λ (k : ℕ). take at s ++ part at n s ++ drop (at + k) s) (length_part at n s h)
     ∙ ap (λ (l : List ℕ). l ++ drop (at + n) s) (sym (take-add at n s)) ∙ take-append-drop (at + n) s
 
@@ -38,10 +38,10 @@ sides : (a b c d e : List ℕ) → (a ++ b) ++ c ++ (d ++ e) ≡ a ++ (b ++ c ++
 sides a b c d e = simp append_assoc
 
 -- a part put inside one that was put
-pub splice-in : (at j : ℕ) (ys xs s : List ℕ) → j + length ys ≤ length xs → at + length xs ≤ length s
+pub splice_in : (at j : ℕ) (ys xs s : List ℕ) → j + length ys ≤ length xs → at + length xs ≤ length s
     → splice (at + j) ys (splice at xs s) ≡ splice at (splice j ys xs) s
 unfolding splice
-splice-in at j ys xs s h k =
+splice_in at j ys xs s h k =
     let t = splice at xs s in
     let head : List ℕ = take at s in
     let long : length head ≡ at = length-take-le at s (omega arith) in
@@ -63,14 +63,14 @@ splice-in at j ys xs s h k =
 
 -- ---- one record, one place
 
-pub zeros-long : length (replicate {A = ℕ} 48 0) ≡ 48
-zeros-long = length-replicate {A = ℕ} 48 0
+pub zeros_long : length (replicate {A = ℕ} 48 0) ≡ 48
+zeros_long = length-replicate {A = ℕ} 48 0
 
 -- a converted record is as long as it was
 pub converted-length : (r : List ℕ) → length r ≡ 100 → length (converted r) ≡ 100
 unfolding converted
 converted-length r e =
-    let rest : length (splice 52 (replicate 48 0) r) ≡ length r = length-splice 52 (replicate 48 0) r (omega (arith, zeros-long)) in
+    let rest : length (splice 52 (replicate 48 0) r) ≡ length r = length-splice 52 (replicate 48 0) r (omega (arith, zeros_long)) in
     length-splice 34 (1 ∷ []) (splice 52 (replicate 48 0) r) (omega (arith, rest)) ∙ rest ∙ e
 
 -- where it lies
@@ -80,52 +80,52 @@ unfolding converted
 cut_at at s h =
     let r = part at 100 s in
     let long : length r ≡ 100 = length_part at 100 s h in
-    let rest : length (splice 52 (replicate 48 0) r) ≡ length r = length-splice 52 (replicate 48 0) r (omega (arith, zeros-long)) in
+    let rest : length (splice 52 (replicate 48 0) r) ≡ length r = length-splice 52 (replicate 48 0) r (omega (arith, zeros_long)) in
     let first : splice (at + 52) (replicate 48 0) s ≡ splice at (splice 52 (replicate 48 0) r) s =
-    ap (splice (at + 52) (replicate 48 0)) (sym (splice-self at 100 s h))
-    ∙ splice-in at 52 (replicate 48 0) r s (omega (arith, zeros-long)) (omega arith) in
+    ap (splice (at + 52) (replicate 48 0)) (sym (splice_self at 100 s h))
+    ∙ splice_in at 52 (replicate 48 0) r s (omega (arith, zeros_long)) (omega arith) in
     let same : length (splice at (splice 52 (replicate 48 0) r) s) ≡ length s = length-splice at (splice 52 (replicate 48 0) r) s (omega (arith, rest)) in
     ap (λ (l : List ℕ). set l (at + 34) 1) first
-    ∙ sym (splice-one (at + 34) 1 (splice at (splice 52 (replicate 48 0) r) s) (omega (arith, same)))
-    ∙ splice-in at 34 (1 ∷ []) (splice 52 (replicate 48 0) r) s (omega (arith, rest)) (omega (arith, rest))
+    ∙ sym (splice_one (at + 34) 1 (splice at (splice 52 (replicate 48 0) r) s) (omega (arith, same)))
+    ∙ splice_in at 34 (1 ∷ []) (splice 52 (replicate 48 0) r) s (omega (arith, rest)) (omega (arith, rest))
 
-pub place-length : (p : List ℕ) → length p ≡ 140 → length (convertedPlace p) ≡ 140
-unfolding convertedPlace
-place-length p e = by-case (eqb (kind_of p) 2)
+pub place_length : (p : List ℕ) → length p ≡ 140 → length (converted_place p) ≡ 140
+unfolding converted_place
+place_length p e = by-case (eqb (kind_of p) 2)
   where
-    by-case : (b : Bool) → length (cond b (splice 40 (converted (placeRecord p)) p) p) ≡ 140
+    by-case : (b : Bool) → length (cond b (splice 40 (converted (place_record p)) p) p) ≡ 140
     by-case true =
-        let r = converted-length (placeRecord p) (length_part 40 100 p (omega arith)) in
-        length-splice 40 (converted (placeRecord p)) p (omega arith) ∙ e
+        let r = converted-length (place_record p) (length_part 40 100 p (omega arith)) in
+        length-splice 40 (converted (place_record p)) p (omega arith) ∙ e
     by-case false = e
 
 -- an inquiry's place where it lies, and another
 pub place_at : (at : ℕ) (t : List ℕ) → at + 140 ≤ length t → get_or t (at + 4) 0 ≡ 2
-    → splice (at + 40) (converted (part (at + 40) 100 t)) t ≡ splice at (convertedPlace (part at 140 t)) t
-unfolding convertedPlace
+    → splice (at + 40) (converted (part (at + 40) 100 t)) t ≡ splice at (converted_place (part at 140 t)) t
+unfolding converted_place
 place_at at t h e =
     let p = part at 140 t in
     let long : length p ≡ 140 = length_part at 140 t h in
     let kind : kind_of p ≡ 2 = part_at at 140 4 t (omega arith) ∙ e in
-    let inner : part (at + 40) 100 t ≡ placeRecord p = sym (part-part at 140 40 100 t (omega arith)) in
-    let r = converted-length (placeRecord p) (length_part 40 100 p (omega arith)) in
-    ap₂ (λ (l m : List ℕ). splice (at + 40) (converted l) m) inner (sym (splice-self at 140 t h))
-    ∙ splice-in at 40 (converted (placeRecord p)) p t (omega arith) (omega arith)
-    ∙ ap (λ (b : Bool). splice at (cond b (splice 40 (converted (placeRecord p)) p) p) t) (sym (eq-eqb (kind_of p) 2 kind))
+    let inner : part (at + 40) 100 t ≡ place_record p = sym (part-part at 140 40 100 t (omega arith)) in
+    let r = converted-length (place_record p) (length_part 40 100 p (omega arith)) in
+    ap₂ (λ (l m : List ℕ). splice (at + 40) (converted l) m) inner (sym (splice_self at 140 t h))
+    ∙ splice_in at 40 (converted (place_record p)) p t (omega arith) (omega arith)
+    ∙ ap (λ (b : Bool). splice at (cond b (splice 40 (converted (place_record p)) p) p) t) (sym (eq-eqb (kind_of p) 2 kind))
 
-pub place-stays : (at : ℕ) (t : List ℕ) → at + 140 ≤ length t → (get_or t (at + 4) 0 ≡ 2 → ⊥) → t ≡ splice at (convertedPlace (part at 140 t)) t
-unfolding convertedPlace
-place-stays at t h ne =
+pub place_stays : (at : ℕ) (t : List ℕ) → at + 140 ≤ length t → (get_or t (at + 4) 0 ≡ 2 → ⊥) → t ≡ splice at (converted_place (part at 140 t)) t
+unfolding converted_place
+place_stays at t h ne =
     let p = part at 140 t in
     let kind : kind_of p ≡ get_or t (at + 4) 0 = part_at at 140 4 t (omega arith) in
-    sym (ap (λ (b : Bool). splice at (cond b (splice 40 (converted (placeRecord p)) p) p) t) (ne_eqb (kind_of p) 2 (λ e. ne (sym kind ∙ e)))
-    ∙ splice-self at 140 t h)
+    sym (ap (λ (b : Bool). splice at (cond b (splice 40 (converted (place_record p)) p) p) t) (ne_eqb (kind_of p) 2 (λ e. ne (sym kind ∙ e)))
+    ∙ splice_self at 140 t h)
 
 -- ---- the rows
 
-map-append : (f : List ℕ → List ℕ) (xs ys : List (List ℕ)) → map f (xs ++ ys) ≡ map f xs ++ map f ys
-map-append f [] ys = refl
-map-append f (x ∷ xs) ys = ap (λ (l : List (List ℕ)). f x ∷ l) (map-append f xs ys)
+map_append : (f : List ℕ → List ℕ) (xs ys : List (List ℕ)) → map f (xs ++ ys) ≡ map f xs ++ map f ys
+map_append f [] ys = refl
+map_append f (x ∷ xs) ys = ap (λ (l : List (List ℕ)). f x ∷ l) (map_append f xs ys)
 
 module _ (w : ℕ) where
   pub map-sized : (f : List ℕ → List ℕ) → ((r : List ℕ) → length r ≡ w → length (f r) ≡ w) → (rs : List (List ℕ)) → Sized w rs → Sized w (map f rs)
@@ -145,7 +145,7 @@ module _ (w : ℕ) (f : List ℕ → List ℕ) (long : (r : List ℕ) → length
 
   pub changed-none : s ≡ Changed 0
   unfolding rows joined
-  changed-none = sym (splice-nil 0 s)
+  changed-none = sym (splice_nil 0 s)
 
   module _ (n : ℕ) where
     changed-long : w * n ≤ length s → length (joined (map f (rows w n s))) ≡ w * n
@@ -174,11 +174,11 @@ module _ (w : ℕ) (f : List ℕ → List ℕ) (long : (r : List ℕ) → length
         let lx : length x ≡ w = long (part (w * n) w s) (length_part (w * n) w s h) in
         ap (λ (r : List ℕ). splice (w * n) (f r) (Changed n)) (changed_row h)
         ∙ ap (λ (k : ℕ). splice k x (Changed n)) (sym (zero-add (w * n)))
-        ∙ splice-next 0 (w * n) (joined (map f (rows w n s))) x s m (omega arith)
+        ∙ splice_next 0 (w * n) (joined (map f (rows w n s))) x s m (omega arith)
         ∙ ap (λ (l : List ℕ). splice 0 l s)
         (ap (λ (l : List ℕ). joined (map f (rows w n s)) ++ l) (sym (append-nil x))
-        ∙ sym (joined-append (map f (rows w n s)) (x ∷ []))
-        ∙ ap joined (sym (ap (map f) (rows_more w n s) ∙ map-append f (rows w n s) (part (w * n) w s ∷ []))))
+        ∙ sym (joined_append (map f (rows w n s)) (x ∷ []))
+        ∙ ap joined (sym (ap (map f) (rows_more w n s) ∙ map_append f (rows w n s) (part (w * n) w s ∷ []))))
 
     -- and where zeros follow the rows, these are all
     pub changed-all : Laid w n s → Changed n ≡ bytes_of (length s) (map f (rows w n s))
@@ -186,7 +186,7 @@ module _ (w : ℕ) (f : List ℕ → List ℕ) (long : (r : List ℕ) → length
     changed-all laid =
         let m = changed-long laid.room in
         let rest : drop (w * n) s ≡ replicate (length s - length (joined (map f (rows w n s)))) 0 =
-        all-zeros (drop (w * n) s) laid.clear
+        all_zeros (drop (w * n) s) laid.clear
         ∙ ap (λ (k : ℕ). replicate k 0) (length-drop (w * n) s ∙ ap (λ (k : ℕ). length s - k) (sym m)) in
         ap (λ (k : ℕ). joined (map f (rows w n s)) ++ drop k s) (zero-add (length (joined (map f (rows w n s)))) ∙ m)
         ∙ ap (λ (l : List ℕ). joined (map f (rows w n s)) ++ l) rest

@@ -2,7 +2,7 @@
 ghost use Rattle.std.specs.Prelude.{◌≡◌, map, ◌+◌, ◌≤◌, length};
 ghost use Rattle.octet.specs.Part.{part, splice};
 ghost use Rattle.table.specs.Rows.{rows, bytes_of, Laid};
-ghost use Rattle.cut.specs.Cut.{converted, convertedPlace};
+ghost use Rattle.cut.specs.Cut.{converted, converted_place};
 
 // The other addresses become zero and the count 1.
 pub fn cut_record(s: &mut [u8], at: usize)
@@ -17,7 +17,7 @@ pub fn cut_record(s: &mut [u8], at: usize)
 fn cut_place(table: &mut [u8], at: usize)
     requires { at + 140 ≤ length table.old }
     ensures { table.new
-        ≡ splice at (convertedPlace (part at 140 table.old)) table.old }
+        ≡ splice at (converted_place (part at 140 table.old)) table.old }
 {
     if table[at + 4] != 2 {
         return;
@@ -42,7 +42,7 @@ pub fn cut_records(cache: &mut [u8], held: usize)
 pub fn cut_places(table: &mut [u8], used: usize)
     requires { Laid 140 used table.old }
     ensures { table.new
-        ≡ bytes_of (length table.old) (map convertedPlace (rows 140 used table.old)) }
+        ≡ bytes_of (length table.old) (map converted_place (rows 140 used table.old)) }
 {
     let mut i = 0;
     while i < used {

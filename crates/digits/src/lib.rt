@@ -1,7 +1,7 @@
 // Numbers in decimal and bytes in hexadecimal, put at a place of a slice: each digit is promised.
 ghost use Rattle.std.specs.Prelude.{◌≡◌, ◌+◌, ◌*◌, ◌≤◌, ◌<◌, length};
 ghost use Rattle.octet.specs.Part.{splice};
-ghost use Rattle.digits.specs.Digits.{decimal, hexDigit, hexOf};
+ghost use Rattle.digits.specs.Digits.{decimal, hex_digit, hex_of};
 
 // Puts a number's digits at a place, and answers where they end.
 pub fn put_decimal(out: &mut [u8], at: usize, n: u64) -> usize
@@ -18,7 +18,7 @@ pub fn put_decimal(out: &mut [u8], at: usize, n: u64) -> usize
 
 fn hex_digit(n: u8) -> u8
     requires { n < 16 }
-    ensures { result ≡ hexDigit n }
+    ensures { result ≡ hex_digit n }
 {
     if n < 10 {
         return 48 + n;
@@ -30,7 +30,7 @@ fn hex_digit(n: u8) -> u8
 pub fn put_hex(out: &mut [u8], at: usize, s: &[u8]) -> usize
     requires { at + 2 * length s.now ≤ length out.old }
     ensures value { result ≡ at + 2 * length s.now }
-    ensures out_after { out.new ≡ splice at (hexOf s.now) out.old }
+    ensures out_after { out.new ≡ splice at (hex_of s.now) out.old }
 {
     let mut i = 0;
     while i < s.len() {

@@ -10,29 +10,29 @@ use lib.ListN.{length}
 use borrow.Author.Tests.{eq-eqb, ne_eqb}
 use Rattle.kept.specs.Keys.{◌∈◌, Rising, plain, put, without, among}
 use Rattle.kept.proofs.PutLaws.{Tri, less, same, more, tri, put-nil, put-less, put-more}
-use Rattle.kept.proofs.WithoutLaws.{eq-or, without-this, without_other, put-without}
-use Rattle.firsts.specs.Firsts.{firstByte, count}
+use Rattle.kept.proofs.WithoutLaws.{eq_or, without_this, without_other, put-without}
+use Rattle.firsts.specs.Firsts.{first_byte, count}
 
 -- of one key
 one : ℕ → ℕ → ℕ
-one b k = cond (eqb (firstByte k) b) 1 0
+one b k = cond (eqb (first_byte k) b) 1 0
 
 module _ (b : ℕ) where
   count-cons : (k : ℕ) (l : List ℕ) → count b (k ∷ l) ≡ one b k + count b l
   unfolding count one among
-  count-cons k l = go (eq-or (firstByte k) b)
+  count-cons k l = go (eq_or (first_byte k) b)
     where
-      go : (firstByte k ≡ b) ⊎ (¬ (firstByte k ≡ b)) → count b (k ∷ l) ≡ one b k + count b l
-      go (inl e) = rw (eq-eqb (firstByte k) b e) (omega arith)
-      go (inr h) = rw (ne_eqb (firstByte k) b h) (omega arith)
+      go : (first_byte k ≡ b) ⊎ (¬ (first_byte k ≡ b)) → count b (k ∷ l) ≡ one b k + count b l
+      go (inl e) = rw (eq-eqb (first_byte k) b e) (omega arith)
+      go (inr h) = rw (ne_eqb (first_byte k) b h) (omega arith)
 
   one-few : (k : ℕ) → one b k ≤ 1
   unfolding one
-  one-few k = go (eq-or (firstByte k) b)
+  one-few k = go (eq_or (first_byte k) b)
     where
-      go : (firstByte k ≡ b) ⊎ (¬ (firstByte k ≡ b)) → one b k ≤ 1
-      go (inl e) = rw (eq-eqb (firstByte k) b e) (omega arith)
-      go (inr h) = rw (ne_eqb (firstByte k) b h) (omega arith)
+      go : (first_byte k ≡ b) ⊎ (¬ (first_byte k ≡ b)) → one b k ≤ 1
+      go (inl e) = rw (eq-eqb (first_byte k) b e) (omega arith)
+      go (inr h) = rw (ne_eqb (first_byte k) b h) (omega arith)
 
   count-nil : count b [] ≡ 0
   unfolding count among
@@ -65,14 +65,14 @@ pub record OneMore (b : ℕ) (l m : List ℕ) : Type 0 where
   pub here : count b m ≡ count b l + 1
   pub elsewhere : (i : ℕ) → ¬ (i ≡ b) → count i m ≡ count i l
 
-module _ (k b : ℕ) (begins : firstByte k ≡ b) where
+module _ (k b : ℕ) (begins : first_byte k ≡ b) where
   one-here : one b k ≡ 1
   unfolding one
-  one-here = rw (eq-eqb (firstByte k) b begins) refl
+  one-here = rw (eq-eqb (first_byte k) b begins) refl
 
   one-else : (i : ℕ) → ¬ (i ≡ b) → one i k ≡ 0
   unfolding one
-  one-else i h = rw (ne_eqb (firstByte k) i (λ e. h (sym e ∙ begins))) refl
+  one-else i h = rw (ne_eqb (first_byte k) i (λ e. h (sym e ∙ begins))) refl
 
   more_by : (l m : List ℕ) → ((i : ℕ) → count i m ≡ one i k + count i l) → OneMore b l m
   more_by l m e = record {
@@ -89,14 +89,14 @@ module _ (k b : ℕ) (begins : firstByte k ≡ b) where
   absent : (l : List ℕ) → ¬ (k ∈ without k l)
   unfolding without
   absent [] m = m
-  absent (j ∷ l) m = go (eq-or k j) (absent l)
+  absent (j ∷ l) m = go (eq_or k j) (absent l)
     where
       nor : ¬ (k ≡ j) → ¬ (k ∈ without k l) → ¬ (k ∈ (j ∷ without k l))
       nor h ih (inl e) = h e
       nor h ih (inr n) = ih n
 
       go : (k ≡ j) ⊎ (¬ (k ≡ j)) → ¬ (k ∈ without k l) → ⊥
-      go (inl e) ih = ih (subst (λ (t : List ℕ). k ∈ t) (without-this k j l e) m)
+      go (inl e) ih = ih (subst (λ (t : List ℕ). k ∈ t) (without_this k j l e) m)
       go (inr h) ih = nor h ih (subst (λ (t : List ℕ). k ∈ t) (without_other k j l h) m)
 
   pub less-without : (low : ℕ) (l : List ℕ) → Rising plain low l → k ∈ l → OneMore b (without k l) l

@@ -1,19 +1,19 @@
 -- A datagram received: the call, by its plan. Assumes nothing.
 use mathlib.Core.Path.{◌≡◌, refl, ap}
 use mathlib.Core.Bool.{false}
-use Rattle.own.specs.Own.{ownForm}
+use Rattle.own.specs.Own.{own_form}
 use Rattle.gauge_plan.specs.Lent.{Memory, Receive}
 use Rattle.gauge_plan.specs.declared.Plan.{Plan}
 use Rattle.gauge_plan.specs.declared.Plan.TheVariants.{Refuse}
 use Rattle.gauge_plan.proofs.MemoryLaws.{no_record}
-use Rattle.gauge.specs.Receive.{carried, receiveCall}
-use Rattle.plan_message.specs.Planned.{receivePlan}
+use Rattle.gauge.specs.Receive.{carried, receive_call}
+use Rattle.plan_message.specs.Planned.{receive_plan}
 
-pub call_by : (m : Memory) (l : Receive) {p : Plan} → receivePlan m l ≡ p → receiveCall m l ≡ carried m l p
-unfolding receiveCall
+pub call_by : (m : Memory) (l : Receive) {p : Plan} → receive_plan m l ≡ p → receive_call m l ≡ carried m l p
+unfolding receive_call
 call_by m l e = ap (carried m l) e
 
 -- own records are tested before all else, and the plan refuses them whatever is handed in
-pub plan-own : (m : Memory) (l : Receive) → ownForm l.own ≡ false → receivePlan m l ≡ Refuse 1
-unfolding receivePlan
-plan-own m l e = rw (no_record l.own m e) refl
+pub plan_own : (m : Memory) (l : Receive) → own_form l.own ≡ false → receive_plan m l ≡ Refuse 1
+unfolding receive_plan
+plan_own m l e = rw (no_record l.own m e) refl

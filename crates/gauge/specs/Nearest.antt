@@ -4,14 +4,14 @@ use Rattle.std.specs.Prelude.{ℕ, ◌+◌, List}
 use Rattle.octet.specs.Part.{same}
 use Rattle.key.specs.Number.{key_at}
 use Rattle.record.specs.Record.{key_of}
-use Rattle.own.specs.Own.{ownKeys, ownPlace}
-use Rattle.refusal.specs.Table.{orRefuse}
+use Rattle.own.specs.Own.{own_keys, own_place}
+use Rattle.refusal.specs.Table.{or_refuse}
 use Rattle.table.specs.Seek.{seek}
 use Rattle.table.specs.declared.Found.{Found}
 use Rattle.table.specs.declared.Found.TheVariants.{At, Nothing}
-use Rattle.cache.specs.Calls.{heldBy}
-use Rattle.neighbours.specs.Closest.{closestPast}
-use Rattle.neighbours.specs.Calls.{closestWrong, closestCompared}
+use Rattle.cache.specs.Calls.{held_by}
+use Rattle.neighbours.specs.Closest.{closest_past}
+use Rattle.neighbours.specs.Calls.{closest_wrong, closest_compared}
 use Rattle.neighbours.specs.declared.nearest.Nearest.{Nearest}
 use Rattle.neighbours.specs.declared.nearest.Nearest.TheVariants.{Refused, Own, Held}
 use Rattle.gauge_commit.specs.declared.Answer.{Answer}
@@ -22,16 +22,16 @@ abbrev pub standing : ℕ → Found → Nearest
 standing i (At j) = Held j
 standing i Nothing = Own i
 
-unfoldable pub nearestCall : (own cache path target : List ℕ) → Nearest
-nearestCall own cache path target =
-    let r = closestPast own (heldBy own cache) path (key_at 0 target) in
-    orRefuse Refused (closestWrong own cache path target) (standing (ownPlace (ownKeys own) (key_of r)) (seek (λ (q : List ℕ). same q r) 0 (heldBy own cache)))
+unfoldable pub nearest_call : (own cache path target : List ℕ) → Nearest
+nearest_call own cache path target =
+    let r = closest_past own (held_by own cache) path (key_at 0 target) in
+    or_refuse Refused (closest_wrong own cache path target) (standing (own_place (own_keys own) (key_of r)) (seek (λ (q : List ℕ). same q r) 0 (held_by own cache)))
 
 -- its place, 0 to 3, for a record of our own, 4 more than its place for one of the cache; and how many keys were compared
-abbrev pub closestAnswered : ℕ → Nearest → Answer
-closestAnswered compared (Refused n) = answer n 0 0
-closestAnswered compared (Own i) = answer 0 i compared
-closestAnswered compared (Held j) = answer 0 (4 + j) compared
+abbrev pub closest_answered : ℕ → Nearest → Answer
+closest_answered compared (Refused n) = answer n 0 0
+closest_answered compared (Own i) = answer 0 i compared
+closest_answered compared (Held j) = answer 0 (4 + j) compared
 
-abbrev pub gaugeClosest : (own cache path target : List ℕ) → Answer
-gaugeClosest own cache path target = closestAnswered (closestCompared own cache path target) (nearestCall own cache path target)
+abbrev pub gauge_closest : (own cache path target : List ℕ) → Answer
+gauge_closest own cache path target = closest_answered (closest_compared own cache path target) (nearest_call own cache path target)

@@ -2,12 +2,12 @@
 -- no second gauge (`one-gauge`, sentences/Theorems). Assumes nothing.
 use Rattle.gauge_plan.specs.Lent.{receives, sends, ticks, lists}
 use Rattle.gauge.specs.Words.{Gauge}
-use Rattle.gauge.specs.Receive.{receiveCall}
-use Rattle.gauge.specs.Send.{sendCall}
-use Rattle.gauge.specs.Counts.{gaugeTick, gaugeList}
+use Rattle.gauge.specs.Receive.{receive_call}
+use Rattle.gauge.specs.Send.{send_call}
+use Rattle.gauge.specs.Counts.{gauge_tick, gauge_list}
 
 abbrev pub ours : Gauge
-ours m (receives l) = receiveCall m l
-ours m (sends l) = sendCall m l
-ours m (ticks l) = gaugeTick m l
-ours m (lists l) = gaugeList m l
+ours m (receives l) = receive_call m l
+ours m (sends l) = send_call m l
+ours m (ticks l) = gauge_tick m l
+ours m (lists l) = gauge_list m l

@@ -5,36 +5,36 @@ use Rattle.key.specs.Number.{key_at}
 use Rattle.kept.specs.Keys.{◌∈◌}
 use Rattle.search.specs.Halving.{digits}
 use Rattle.cache.specs.Form.{keys_of}
-use Rattle.cache.specs.Calls.{heldBy}
-use Rattle.cache.specs.Searching.{searchCall}
+use Rattle.cache.specs.Calls.{held_by}
+use Rattle.cache.specs.Searching.{search_call}
 use Rattle.cache.specs.declared.calls.Searched.{Searched}
 use Rattle.gauge_commit.specs.declared.Answer.{Answer}
 use Rattle.gauge_commit.specs.Sending.{answer}
-use Rattle.gauge.specs.Nearest.{gaugeClosest}
+use Rattle.gauge.specs.Nearest.{gauge_closest}
 
 -- 0 where the key is not held, one more than its place where it is; and how many keys were compared
-abbrev pub searchAnswered : Searched → Answer
-searchAnswered s = answer s.number s.place s.compared
+abbrev pub search_answered : Searched → Answer
+search_answered s = answer s.number s.place s.compared
 
-abbrev pub gaugeSearch : (own cache key : List ℕ) → Answer
-gaugeSearch own cache key = searchAnswered (searchCall own cache key)
+abbrev pub gauge_search : (own cache key : List ℕ) → Answer
+gauge_search own cache key = search_answered (search_call own cache key)
 
 -- ---- what is said of it
 
 -- of an accepted search: `first` is 0 exactly where the key is not held, and else the key stands at the place before
 pub record Tells (own cache key : List ℕ) : Type 0 where
-  pub none : ((gaugeSearch own cache key).first ≡ 0) ↔ (¬ (key_at 0 key ∈ keys_of (heldBy own cache)))
-  pub place : (i : ℕ) → (gaugeSearch own cache key).first ≡ suc i → get_or (keys_of (heldBy own cache)) i 0 ≡ key_at 0 key
+  pub none : ((gauge_search own cache key).first ≡ 0) ↔ (¬ (key_at 0 key ∈ keys_of (held_by own cache)))
+  pub place : (i : ℕ) → (gauge_search own cache key).first ≡ suc i → get_or (keys_of (held_by own cache)) i 0 ≡ key_at 0 key
 
 abbrev pub SearchTells : Type 0
-SearchTells = (own cache key : List ℕ) → (gaugeSearch own cache key).number ≡ 0 → Tells own cache key
+SearchTells = (own cache key : List ℕ) → (gauge_search own cache key).number ≡ 0 → Tells own cache key
 
 -- a count, by how many records are held; and whatever is lent
 abbrev pub Few : List ℕ → List ℕ → ℕ → Type 0
-Few own cache compared = (compared ≤ digits (length (heldBy own cache))) × (compared ≤ 9)
+Few own cache compared = (compared ≤ digits (length (held_by own cache))) × (compared ≤ 9)
 
 abbrev pub SearchComparesFew : Type 0
-SearchComparesFew = (own cache key : List ℕ) → Few own cache (gaugeSearch own cache key).second
+SearchComparesFew = (own cache key : List ℕ) → Few own cache (gauge_search own cache key).second
 
 abbrev pub ClosestComparesFew : Type 0
-ClosestComparesFew = (own cache path target : List ℕ) → Few own cache (gaugeClosest own cache path target).second
+ClosestComparesFew = (own cache path target : List ℕ) → Few own cache (gauge_closest own cache path target).second

@@ -1,7 +1,7 @@
 -- To believe. The words in which all that is signed speaks: a gauge, and calls one after the other with the numbers given. Assumes nothing.
 use Rattle.std.specs.Prelude.{ℕ, ◌+◌, ◌*◌, ◌^◌, ◌<◌, List, [], ◌∷◌, ◌≡◌, true}
 use Rattle.octet.specs.Number.{Bytes}
-use Rattle.own.specs.Own.{Own, ownForm, ownKeys}
+use Rattle.own.specs.Own.{Own, own_form, own_keys}
 use Rattle.kept.specs.Keys.{Every}
 use Rattle.gauge_plan.specs.Lent.{Memory, Call, receives, sends, ticks, lists, own_of}
 use Rattle.gauge_commit.specs.declared.Answer.{Answer}
@@ -45,7 +45,7 @@ log g m (c ∷ cs) = entry c (g m c).answer.number ∷ log g (g m c).memory cs
 
 -- calls as their types say, with the same own keys: records in form that are handed in as ours have them, ports and addresses may change
 abbrev pub OneKey : Own → Call → Type 0
-OneKey own c = ownForm (own_of c) ≡ true → ownKeys (own_of c) ≡ own
+OneKey own c = own_form (own_of c) ≡ true → own_keys (own_of c) ≡ own
 
 abbrev pub Proper : Own → List Call → Type 0
 Proper own calls = Every (λ (c : Call). OneKey own c × Typed c) calls

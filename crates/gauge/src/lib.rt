@@ -1,13 +1,13 @@
 // The gauge as the radio program calls it.
 ghost use Rattle.std.specs.Prelude.{◌≡◌};
-ghost use Rattle.wire_read.specs.Answers.{readIn};
+ghost use Rattle.wire_read.specs.Answers.{read_in};
 ghost use Rattle.look.specs.Seen.{look_of};
-ghost use Rattle.gauge_plan.specs.Lent.{Memory, memory, withCache, withWaiting, withTables, receive, send, tick, listing, receives, sends, ticks, lists};
+ghost use Rattle.gauge_plan.specs.Lent.{Memory, memory, with_cache, with_waiting, with_tables, receive, send, tick, listing, receives, sends, ticks, lists};
 ghost use Rattle.gauge_commit.specs.Sending.{handed};
 ghost use Rattle.gauge.specs.Ours.{ours};
-ghost use Rattle.gauge.specs.Nearest.{gaugeClosest};
-ghost use Rattle.gauge.specs.Searching.{gaugeSearch};
-ghost use Rattle.gauge.specs.Converting.{conversion, conversionOf};
+ghost use Rattle.gauge.specs.Nearest.{gauge_closest};
+ghost use Rattle.gauge.specs.Searching.{gauge_search};
+ghost use Rattle.gauge.specs.Converting.{conversion, conversion_of};
 
 use gauge_plan::Plan;
 use neighbours::Nearest;
@@ -153,8 +153,8 @@ pub extern "C" fn gauge_send(
     output: &mut [u8],
 ) -> gauge_commit::Answer
     ensures { (m : Memory)
-        → handed result (withTables cache.now waiting.new m) output.new
-        ≡ ours (withTables cache.now waiting.old m) (sends (send own.now major minor id
+        → handed result (with_tables cache.now waiting.new m) output.new
+        ≡ ours (with_tables cache.now waiting.old m) (sends (send own.now major minor id
         neighbour.now key.now output.old)) }
 {
     let room = output.len();
@@ -175,8 +175,8 @@ pub extern "C" fn gauge_tick(
     waiting: &mut [u8],
     output: &mut [u8],
 ) -> gauge_commit::Answer
-    ensures { (m : Memory) → handed result (withWaiting waiting.new m) output.new
-        ≡ ours (withWaiting waiting.old m) (ticks (tick own.now output.old)) }
+    ensures { (m : Memory) → handed result (with_waiting waiting.new m) output.new
+        ≡ ours (with_waiting waiting.old m) (ticks (tick own.now output.old)) }
 {
     let done = waiting_form::tick(own, waiting, output);
     gauge_commit::answer_of(done.number, done.count, 0)
@@ -191,8 +191,8 @@ pub extern "C" fn gauge_neighbours(
     key: &[u8],
     output: &mut [u8],
 ) -> gauge_commit::Answer
-    ensures { (m : Memory) → handed result (withCache cache.now m) output.new
-        ≡ ours (withCache cache.now m)
+    ensures { (m : Memory) → handed result (with_cache cache.now m) output.new
+        ≡ ours (with_cache cache.now m)
         (lists (listing own.now key.now output.old)) }
 {
     let done = neighbours::neighbour_list(own, cache, key, output);
@@ -208,7 +208,7 @@ pub extern "C" fn gauge_closest(
     path: &[u8],
     target: &[u8],
 ) -> gauge_commit::Answer
-    ensures { result ≡ gaugeClosest own.now cache.now path.now target.now }
+    ensures { result ≡ gauge_closest own.now cache.now path.now target.now }
 {
     let sighted = neighbours::closest_record(own, cache, path, target);
     let nearest = sighted.nearest;
@@ -222,7 +222,7 @@ pub extern "C" fn gauge_closest(
 // Whether a key is held: 0 where it is not, one more than its place where it is; and how many keys were compared.
 #[unsafe(no_mangle)]
 pub extern "C" fn gauge_search(own: &[u8], cache: &[u8], key: &[u8]) -> gauge_commit::Answer
-    ensures { result ≡ gaugeSearch own.now cache.now key.now }
+    ensures { result ≡ gauge_search own.now cache.now key.now }
 {
     let done = cache::search_key(own, cache, key);
     gauge_commit::answer_of(done.number, done.place, done.compared)
@@ -232,7 +232,7 @@ pub extern "C" fn gauge_search(own: &[u8], cache: &[u8], key: &[u8]) -> gauge_co
 // signed.
 #[unsafe(no_mangle)]
 pub extern "C" fn gauge_look(major: u8, datagram: &[u8]) -> look::Look
-    ensures { result ≡ look_of (readIn datagram.now major) }
+    ensures { result ≡ look_of (read_in datagram.now major) }
 {
     look::look_at(major, datagram)
 }
@@ -245,7 +245,7 @@ pub extern "C" fn gauge_convert(
     waiting: &mut [u8],
 ) -> gauge_commit::Answer
     ensures { conversion result cache.new waiting.new
-        ≡ conversionOf own.now cache.old waiting.old }
+        ≡ conversion_of own.now cache.old waiting.old }
 {
     gauge_commit::answer_of(convert::convert(own, cache, waiting), 0, 0)
 }

@@ -5,17 +5,17 @@ use Rattle.octet.specs.Part.{part}
 use Rattle.waiting.specs.Open.{freed}
 use Rattle.table.specs.declared.Found.{Found}
 use Rattle.table.specs.declared.Found.TheVariants.{At, Nothing}
-use Rattle.wire_write.specs.Making.{ackMade, inquireMade}
-use Rattle.asking.specs.Ids.{idAfter}
+use Rattle.wire_write.specs.Making.{ack_made, inquire_made}
+use Rattle.asking.specs.Ids.{id_after}
 
 -- the ACK, where D is clear; the INQUIRE for a record's key, where a place opens
-abbrev pub ackWritten : ℕ → ℕ → ℕ → Bool → ℕ → Bool → List (List ℕ)
-ackWritten major minor id silent acked n = cond silent [] ((ackMade major minor id acked n).bytes ∷ [])
+abbrev pub ack_written : ℕ → ℕ → ℕ → Bool → ℕ → Bool → List (List ℕ)
+ack_written major minor id silent acked n = cond silent [] ((ack_made major minor id acked n).bytes ∷ [])
 
-abbrev pub inquireWritten : ℕ → ℕ → ℕ → Bool → List ℕ → List ℕ → List (List ℕ)
-inquireWritten major minor id opens nonce r = cond opens ((inquireMade major minor (idAfter id) (part 0 32 r) nonce).bytes ∷ []) []
+abbrev pub inquire_written : ℕ → ℕ → ℕ → Bool → List ℕ → List ℕ → List (List ℕ)
+inquire_written major minor id opens nonce r = cond opens ((inquire_made major minor (id_after id) (part 0 32 r) nonce).bytes ∷ []) []
 
 -- the places without the one found
-abbrev pub freedAt : Found → List (List ℕ) → List (List ℕ)
-freedAt (At i) ps = freed i ps
-freedAt Nothing ps = ps
+abbrev pub freed_at : Found → List (List ℕ) → List (List ℕ)
+freed_at (At i) ps = freed i ps
+freed_at Nothing ps = ps

@@ -2,5 +2,5 @@
 use mathlib.Core.Path.{sym, ◌∙◌}
 use Rattle.gauge_laws.specs.Contracts.{OneResult}
 
-pub one-result : OneResult
-one-result R d r s p q = p ∙ sym q
+pub one_result : OneResult
+one_result R d r s p q = p ∙ sym q

@@ -13,16 +13,16 @@ use mathlib.Core.Logic.{◌↔◌, inl, inr}
 use borrow.Author.Tests.{eqb-true, ltb-true, leb-true}
 use Rattle.octet.proofs.TestLaws.{both_true}
 use Rattle.key.specs.Number.{key_at}
-use Rattle.own.specs.Own.{ownKeys}
-use Rattle.refusal.specs.Table.{Refusal, when, first_of, appliesIn, orRefuse, order, place_in, Before, InOrder}
-use Rattle.refusal.proofs.TableLaws.{AllFail, all-fail, listed-some, order-exactly, none-exactly}
-use Rattle.refusal.proofs.CallLaws.{number_is, or-refuses, all_pass}
+use Rattle.own.specs.Own.{own_keys}
+use Rattle.refusal.specs.Table.{Refusal, when, first_of, applies_in, or_refuse, order, place_in, Before, InOrder}
+use Rattle.refusal.proofs.TableLaws.{AllFail, all_fail, listed-some, order_exactly, none_exactly}
+use Rattle.refusal.proofs.CallLaws.{number_is, or_refuses, all_pass}
 use Rattle.kept.specs.Keys.{Every, ◌∈◌}
-use Rattle.cache.specs.Form.{heldIn, held_of}
-use Rattle.neighbours.specs.Listing.{countsOf, afterList}
-use Rattle.neighbours.specs.Calls.{Written, listWritten, listWrong, listCall}
-use Rattle.cache.specs.Calls.{heldBy}
-use Rattle.waiting.specs.Form.{usedOf}
+use Rattle.cache.specs.Form.{held_in, held_of}
+use Rattle.neighbours.specs.Listing.{counts_of, after_list}
+use Rattle.neighbours.specs.Calls.{Written, list_written, list_wrong, list_call}
+use Rattle.cache.specs.Calls.{held_by}
+use Rattle.waiting.specs.Form.{used_of}
 use Rattle.waiting_form.specs.Call as W
 use Rattle.wire_fields.specs.Refusals as fields
 use Rattle.wire_fields.specs.declared.Part.{Part}
@@ -31,23 +31,23 @@ use Rattle.wire_read.specs.Answers as R
 use Rattle.wire_read.specs.declared.Head.{Head}
 use Rattle.wire_read.specs.declared.Incoming as T
 use Rattle.wire_read.specs.declared.Incoming.TheVariants as M
-use Rattle.gauge_plan.specs.Memory.{tablesFit, memoryOf, handsFit}
-use Rattle.plan_flood.specs.Flood.{floodPlan, revokePlan}
-use Rattle.plan_answer.specs.Answering.{authorityPlan, ackPlan, inquirePlan, lookupPlan}
+use Rattle.gauge_plan.specs.Memory.{tables_fit, memory_of, hands_fit}
+use Rattle.plan_flood.specs.Flood.{flood_plan, revoke_plan}
+use Rattle.plan_answer.specs.Answering.{authority_plan, ack_plan, inquire_plan, lookup_plan}
 use Rattle.gauge_plan.specs.declared.Plan.{Plan}
 use Rattle.gauge_plan.specs.declared.Plan.TheVariants.{Refuse, Flood, Revoke, Learn, Free, Certify, Show}
 use Rattle.gauge_plan.specs.declared.memory.Fitness.TheVariants.{Unfit, Fit}
-use Rattle.plan_send.specs.Send.{sendingPlan}
+use Rattle.plan_send.specs.Send.{sending_plan}
 use Rattle.plan_send.specs.declared.SendPlan.{SendPlan}
 use Rattle.plan_send.specs.declared.SendPlan.TheVariants as S
 use Rattle.gauge_plan.specs.Lent.{Memory, Receive, Send, Call, receives, sends, ticks, lists}
-use Rattle.plan_message.specs.Planned.{byEntry, planFor, planIn, receivePlan}
-use Rattle.gauge.specs.Receive.{carried, receiveCall}
-use Rattle.gauge.specs.Send.{sendPlan, sendCarried, sendCall}
+use Rattle.plan_message.specs.Planned.{by_entry, plan_for, plan_in, receive_plan}
+use Rattle.gauge.specs.Receive.{carried, receive_call}
+use Rattle.gauge.specs.Send.{send_plan, send_carried, send_call}
 use Rattle.gauge_commit.specs.Sending.{answer, Handed, handed}
-use Rattle.gauge.specs.Counts.{tickAnswered, tickTable, gaugeTick, gaugeList}
+use Rattle.gauge.specs.Counts.{tick_answered, tick_table, gauge_tick, gauge_list}
 use Rattle.gauge.specs.Ours.{ours}
-use Rattle.gauge_laws.specs.Table.{floodTable, messageRows, receiveTable, table_of}
+use Rattle.gauge_laws.specs.Table.{flood_table, message_rows, receive_table, table_of}
 
 -- ---- the order of a table's rows: computed, as their numbers are written out
 
@@ -59,9 +59,9 @@ abbrev rises : ℕ → List Refusal → Bool
 rises low [] = true
 rises low (r ∷ rs) = leb low (place r.number) && ltb (place r.number) 15 && rises (place r.number) rs
 
-rises-first : (low : ℕ) (r : Refusal) (rs : List Refusal) → rises low (r ∷ rs) ≡ true
+rises_first : (low : ℕ) (r : Refusal) (rs : List Refusal) → rises low (r ∷ rs) ≡ true
     → (low ≤ place r.number) × (place r.number < 15) × (rises (place r.number) rs ≡ true)
-rises-first low r rs e =
+rises_first low r rs e =
     let w = both_true (leb low (place r.number) && ltb (place r.number) 15) (rises (place r.number) rs) e in
     let v = both_true (leb low (place r.number)) (ltb (place r.number) 15) w.0 in
     (leb-true low (place r.number) v.0, ltb-true (place r.number) 15 v.1, w.1)
@@ -69,13 +69,13 @@ rises-first low r rs e =
 rises-order : (low : ℕ) (rs : List Refusal) → rises low rs ≡ true → InOrder (place_in order) low rs
 rises-order low [] e = tt
 rises-order low (r ∷ rs) e =
-    let w = rises-first low r rs e in
+    let w = rises_first low r rs e in
     (listed-some r.number w.1, w.0, rises-order (place r.number) rs w.2)
 
-stands-in : (xs : List ℕ) (n : ℕ) → place_in xs n < length xs → n ∈ xs
+stands_in_lem : (xs : List ℕ) (n : ℕ) → place_in xs n < length xs → n ∈ xs
 unfolding place_in
-stands-in [] n h = absurd (omega arith)
-stands-in (x ∷ xs) n h = go (eqb x n) refl h (stands-in xs n)
+stands_in_lem [] n h = absurd (omega arith)
+stands_in_lem (x ∷ xs) n h = go (eqb x n) refl h (stands_in_lem xs n)
   where
     go : (b : Bool) → eqb x n ≡ b → cond b 0 (suc (place_in xs n)) < suc (length xs) → (place_in xs n < length xs → n ∈ xs) → n ∈ (x ∷ xs)
     go true e h ih = inl (sym (eqb-true x n e))
@@ -84,8 +84,8 @@ stands-in (x ∷ xs) n h = go (eqb x n) refl h (stands-in xs n)
 rises-listed : (low : ℕ) (rs : List Refusal) → rises low rs ≡ true → Every (λ (r : Refusal). r.number ∈ order) rs
 rises-listed low [] e = tt
 rises-listed low (r ∷ rs) e =
-    let w = rises-first low r rs e in
-    (stands-in order r.number w.1, rises-listed (place r.number) rs w.2)
+    let w = rises_first low r rs e in
+    (stands_in_lem order r.number w.1, rises-listed (place r.number) rs w.2)
 
 -- ---- the number of a plan
 
@@ -98,9 +98,9 @@ number_of (Free h u at n) = 0
 number_of (Certify a i) = 0
 number_of (Show h u a t p z o at size) = 0
 
-abbrev sendNumber : SendPlan → ℕ
-sendNumber (S.Refuse n) = n
-sendNumber (S.Flood u ours at) = 0
+abbrev send_number : SendPlan → ℕ
+send_number (S.Refuse n) = n
+send_number (S.Flood u ours at) = 0
 
 carried-number : (m : Memory) (l : Receive) (p : Plan) → (carried m l p).answer.number ≡ number_of p
 unfolding carried
@@ -112,35 +112,35 @@ carried-number m l (Free h u at n) = refl
 carried-number m l (Certify a i) = refl
 carried-number m l (Show h u a t p z o at size) = refl
 
-by-table : (rs : List Refusal) (done : Plan) → number_of done ≡ 0 → number_of (orRefuse Refuse rs done) ≡ first_of rs
-by-table rs done e = number_is number_of Refuse (λ n. refl) done e rs
+by_table : (rs : List Refusal) (done : Plan) → number_of done ≡ 0 → number_of (or_refuse Refuse rs done) ≡ first_of rs
+by_table rs done e = number_is number_of Refuse (λ n. refl) done e rs
 
 -- a FLOOD to send
-sent-number : (m : Memory) (l : Send) (p : SendPlan) → (sendCarried m l p).answer.number ≡ sendNumber p
-unfolding sendCarried
+sent-number : (m : Memory) (l : Send) (p : SendPlan) → (send_carried m l p).answer.number ≡ send_number p
+unfolding send_carried
 sent-number m l (S.Refuse n) = refl
 sent-number m l (S.Flood u ours at) = refl
 
-send-number : (m : Memory) (l : Send) → (sendCall m l).answer.number ≡ first_of (table_of m (sends l))
-unfolding sendCall sendingPlan
-send-number m l = sent-number m l (sendPlan m l) ∙ number_is sendNumber S.Refuse (λ n. refl) _ refl (table_of m (sends l))
+send-number : (m : Memory) (l : Send) → (send_call m l).answer.number ≡ first_of (table_of m (sends l))
+unfolding send_call sending_plan
+send-number m l = sent-number m l (send_plan m l) ∙ number_is send_number S.Refuse (λ n. refl) _ refl (table_of m (sends l))
 
 -- ---- two tables, one behind the other
 
-first-behind : (rs ss : List Refusal) → AllFail rs → first_of (rs ++ ss) ≡ first_of ss
+first_behind : (rs ss : List Refusal) → AllFail rs → first_of (rs ++ ss) ≡ first_of ss
 unfolding first_of
-first-behind [] ss a = refl
-first-behind (r ∷ rs) ss a = rw a.0 (first-behind rs ss a.1)
+first_behind [] ss a = refl
+first_behind (r ∷ rs) ss a = rw a.0 (first_behind rs ss a.1)
 
-before-by : (b : Bool) (n : ℕ) (rs ss : List Refusal) → (0 < first_of rs → first_of (rs ++ ss) ≡ first_of rs) → 0 < cond b n (first_of rs)
+before_by : (b : Bool) (n : ℕ) (rs ss : List Refusal) → (0 < first_of rs → first_of (rs ++ ss) ≡ first_of rs) → 0 < cond b n (first_of rs)
     → cond b n (first_of (rs ++ ss)) ≡ cond b n (first_of rs)
-before-by true n rs ss f p = refl
-before-by false n rs ss f p = f p
+before_by true n rs ss f p = refl
+before_by false n rs ss f p = f p
 
-first-before : (rs ss : List Refusal) → 0 < first_of rs → first_of (rs ++ ss) ≡ first_of rs
+first_before : (rs ss : List Refusal) → 0 < first_of rs → first_of (rs ++ ss) ≡ first_of rs
 unfolding first_of
-first-before [] ss p = absurd (omega arith)
-first-before (r ∷ rs) ss p = before-by r.applies r.number rs ss (first-before rs ss) p
+first_before [] ss p = absurd (omega arith)
+first_before (r ∷ rs) ss p = before_by r.applies r.number rs ss (first_before rs ss) p
 
 -- ---- by the message
 
@@ -159,67 +159,67 @@ either : {A : Type 0} (P : A → Type 0) (b : Bool) (x y : A) → P x → P y �
 either P true x y p q = p
 either P false x y p q = q
 
-pub shown-message : (d : List ℕ) (t : ℕ) (ps : List Part) → IsMessage (R.incomingOf d (fields.found t ps))
-unfolding R.incomingOf
+pub shown-message : (d : List ℕ) (t : ℕ) (ps : List Part) → IsMessage (R.incoming_of d (fields.found t ps))
+unfolding R.incoming_of
 shown-message d t ps =
     let P : T.Incoming → Type 0 = IsMessage in
     either P (eqb t 1) _ _ tt (either P (eqb t 2) _ _ tt (either P (eqb t 3) _ _ tt (either P (eqb t 4) _ _ tt (either P (eqb t 7) _ _ tt
     (either P (eqb t 8) _ _ tt (either P (eqb t 9) _ _ tt tt))))))
 
 abbrev used : Memory → ℕ
-used m = usedOf m.waiting
+used m = used_of m.waiting
 
 abbrev held : Memory → Receive → ℕ
-held m l = heldIn (ownKeys l.own) m.cache
+held m l = held_in (own_keys l.own) m.cache
 
 entry-number : (m : Memory) (l : Receive) (head : Head) (s : Bool) (validate : ℕ) (entry : Part)
-    → number_of (byEntry m l (held m l) (used m) head s validate entry) ≡ first_of (floodTable m l s validate entry)
-unfolding floodPlan revokePlan held_of
-entry-number m l head s validate (Here start len) = by-table _ _ refl
-entry-number m l head s validate Absent = by-table _ _ refl
+    → number_of (by_entry m l (held m l) (used m) head s validate entry) ≡ first_of (flood_table m l s validate entry)
+unfolding flood_plan revoke_plan held_of
+entry-number m l head s validate (Here start len) = by_table _ _ refl
+entry-number m l head s validate Absent = by_table _ _ refl
 
-message-number : (m : Memory) (l : Receive) (a : T.Incoming) → IsMessage a → number_of (planFor m l (held m l) (used m) a) ≡ first_of (messageRows m l a)
-unfolding planFor inquirePlan authorityPlan ackPlan lookupPlan held_of first_of
+message-number : (m : Memory) (l : Receive) (a : T.Incoming) → IsMessage a → number_of (plan_for m l (held m l) (used m) a) ≡ first_of (message_rows m l a)
+unfolding plan_for inquire_plan authority_plan ack_plan lookup_plan held_of first_of
 message-number m l (M.Refused n) w = absurd w
 message-number m l (M.Solicit x) w = refl
 message-number m l (M.Advertise x) w = refl
 message-number m l (M.Request x) w = refl
 message-number m l (M.Flood x) w = entry-number m l x.head x.d x.validate x.entry
-message-number m l (M.Inquire x) w = by-table _ _ refl
-message-number m l (M.Authority x) w = by-table _ _ refl
-message-number m l (M.Ack x) w = by-table _ _ refl
-message-number m l (M.Lookup x) w = by-table _ _ refl
+message-number m l (M.Inquire x) w = by_table _ _ refl
+message-number m l (M.Authority x) w = by_table _ _ refl
+message-number m l (M.Ack x) w = by_table _ _ refl
+message-number m l (M.Lookup x) w = by_table _ _ refl
 
 -- ---- reading, then the message
 
-abbrev foundNumber : fields.Found → ℕ
-foundNumber (fields.refused n) = n
-foundNumber (fields.found t ps) = 0
+abbrev found_number : fields.Found → ℕ
+found_number (fields.refused n) = n
+found_number (fields.found t ps) = 0
 
 -- what is found gives the number of the rows of reading and of the message
 abbrev Numbered : Memory → Receive → fields.Found → Type 0
 Numbered m l x =
-    number_of (planFor m l (held m l) (used m) (R.incomingOf l.datagram x))
-    ≡ first_of (fields.refusals l.datagram l.major ++ messageRows m l (R.incomingOf l.datagram x))
+    number_of (plan_for m l (held m l) (used m) (R.incoming_of l.datagram x))
+    ≡ first_of (fields.refusals l.datagram l.major ++ message_rows m l (R.incoming_of l.datagram x))
 
 module _ (m : Memory) (l : Receive) where
   refused-number : 0 < first_of (fields.refusals l.datagram l.major)
       → Numbered m l (fields.refused (first_of (fields.refusals l.datagram l.major)))
-  unfolding planFor R.incomingOf
-  refused-number p = sym (first-before (fields.refusals l.datagram l.major) _ p)
+  unfolding plan_for R.incoming_of
+  refused-number p = sym (first_before (fields.refusals l.datagram l.major) _ p)
 
   found_number : (t : ℕ) (ps : List Part) → AllFail (fields.refusals l.datagram l.major) → Numbered m l (fields.found t ps)
   found_number t ps a =
-      message-number m l (R.incomingOf l.datagram (fields.found t ps)) (shown-message l.datagram t ps)
-      ∙ sym (first-behind (fields.refusals l.datagram l.major) _ a)
+      message-number m l (R.incoming_of l.datagram (fields.found t ps)) (shown-message l.datagram t ps)
+      ∙ sym (first_behind (fields.refusals l.datagram l.major) _ a)
 
-  read_by : (rs : List Refusal) (done : fields.Found) → foundNumber done ≡ 0 → InOrder (place_in order) 0 rs
-      → (0 < first_of rs → Numbered m l (fields.refused (first_of rs))) → (AllFail rs → Numbered m l done) → Numbered m l (orRefuse fields.refused rs done)
+  read_by : (rs : List Refusal) (done : fields.Found) → found_number done ≡ 0 → InOrder (place_in order) 0 rs
+      → (0 < first_of rs → Numbered m l (fields.refused (first_of rs))) → (AllFail rs → Numbered m l done) → Numbered m l (or_refuse fields.refused rs done)
   read_by rs done z o p q = go (dec_le 1 (first_of rs))
     where
-      go : Dec (1 ≤ first_of rs) → Numbered m l (orRefuse fields.refused rs done)
-      go (yes h) = subst (Numbered m l) (sym (or-refuses fields.refused rs done h)) (p h)
-      go (no h) = let a = all-fail (place_in order) rs 0 o (omega arith) in subst (Numbered m l) (sym (all_pass fields.refused rs done a)) (q a)
+      go : Dec (1 ≤ first_of rs) → Numbered m l (or_refuse fields.refused rs done)
+      go (yes h) = subst (Numbered m l) (sym (or_refuses fields.refused rs done h)) (p h)
+      go (no h) = let a = all_fail (place_in order) rs 0 o (omega arith) in subst (Numbered m l) (sym (all_pass fields.refused rs done a)) (q a)
 
   read_number : Numbered m l (fields.foundIn l.datagram l.major)
   unfolding fields.foundIn place_in
@@ -229,32 +229,32 @@ module _ (m : Memory) (l : Receive) where
 
   -- ---- memory and what is handed in, then the datagram
 
-  hands-number : (b : Bool) → number_of (orRefuse Refuse (when 1 (not b) ∷ []) (planFor m l (held m l) (used m) (R.readIn l.datagram l.major)))
-      ≡ first_of (when 1 (not b) ∷ (fields.refusals l.datagram l.major ++ messageRows m l (R.readIn l.datagram l.major)))
-  unfolding orRefuse first_of
+  hands-number : (b : Bool) → number_of (or_refuse Refuse (when 1 (not b) ∷ []) (plan_for m l (held m l) (used m) (R.read_in l.datagram l.major)))
+      ≡ first_of (when 1 (not b) ∷ (fields.refusals l.datagram l.major ++ message_rows m l (R.read_in l.datagram l.major)))
+  unfolding or_refuse first_of
   hands-number true = read_number
   hands-number false = refl
 
-  memory-number : (b : Bool) → number_of (planIn m l (cond b (Fit (held m l) (used m)) Unfit))
-      ≡ first_of (when 1 (not b) ∷ when 1 (not (handsFit m l))
-      ∷ (fields.refusals l.datagram l.major ++ messageRows m l (R.readIn l.datagram l.major)))
+  memory-number : (b : Bool) → number_of (plan_in m l (cond b (Fit (held m l) (used m)) Unfit))
+      ≡ first_of (when 1 (not b) ∷ when 1 (not (hands_fit m l))
+      ∷ (fields.refusals l.datagram l.major ++ message_rows m l (R.read_in l.datagram l.major)))
   unfolding first_of
-  memory-number true = hands-number (handsFit m l)
+  memory-number true = hands-number (hands_fit m l)
   memory-number false = refl
 
-  pub receive-number : (receiveCall m l).answer.number ≡ first_of (receiveTable m l)
-  unfolding receiveCall receivePlan memoryOf
-  receive-number = carried-number m l (receivePlan m l) ∙ memory-number (tablesFit l.own m)
+  pub receive-number : (receive_call m l).answer.number ≡ first_of (receive_table m l)
+  unfolding receive_call receive_plan memory_of
+  receive-number = carried-number m l (receive_plan m l) ∙ memory-number (tables_fit l.own m)
 
   -- ---- the order of its rows
 
-  entry-rises : (s : Bool) (validate : ℕ) (entry : Part) → rises 6 (floodTable m l s validate entry) ≡ true
+  entry-rises : (s : Bool) (validate : ℕ) (entry : Part) → rises 6 (flood_table m l s validate entry) ≡ true
   unfolding place_in
   entry-rises s validate (Here start len) = refl
   entry-rises s validate Absent = refl
 
   -- behind reading, whose last number is 7
-  message-rises : (a : T.Incoming) → rises 6 (messageRows m l a) ≡ true
+  message-rises : (a : T.Incoming) → rises 6 (message_rows m l a) ≡ true
   unfolding place_in
   message-rises (M.Refused n) = refl
   message-rises (M.Solicit x) = refl
@@ -268,47 +268,47 @@ module _ (m : Memory) (l : Receive) where
 
 -- ---- any call
 
-pub call-number : (m : Memory) (c : Call) → (ours m c).answer.number ≡ first_of (table_of m c)
-unfolding gaugeTick W.tickDone gaugeList listCall
-call-number m (receives l) = receive-number m l
-call-number m (sends l) = send-number m l
-call-number m (ticks l) =
+pub call_number : (m : Memory) (c : Call) → (ours m c).answer.number ≡ first_of (table_of m c)
+unfolding gauge_tick W.tick_done gauge_list list_call
+call_number m (receives l) = receive-number m l
+call_number m (sends l) = send-number m l
+call_number m (ticks l) =
     number_is (λ (h : Handed). h.answer.number) (λ (n : ℕ). handed (answer n 0 0) m l.output) (λ n. refl)
-    (tickAnswered m (W.tickDone m.waiting l.output)) refl (tickTable m l)
-call-number m (lists l) =
+    (tick_answered m (W.tick_done m.waiting l.output)) refl (tick_table m l)
+call_number m (lists l) =
     let own = l.own in
     let cache = m.cache in
-    let counts = countsOf (key_at 0 l.key) (heldBy own cache) in
-    number_is (λ (w : Written). w.answer.number) (λ (n : ℕ). listWritten (record { number = n; below = 0; above = 0 }) l.output) (λ n. refl)
-    (listWritten (record { number = 0; below = counts.below; above = counts.above }) (afterList (key_at 0 l.key) (heldBy own cache) l.output)) refl
-    (listWrong own cache l.key l.output)
+    let counts = counts_of (key_at 0 l.key) (held_by own cache) in
+    number_is (λ (w : Written). w.answer.number) (λ (n : ℕ). list_written (record { number = n; below = 0; above = 0 }) l.output) (λ n. refl)
+    (list_written (record { number = 0; below = counts.below; above = counts.above }) (after_list (key_at 0 l.key) (held_by own cache) l.output)) refl
+    (list_wrong own cache l.key l.output)
 
-call-rises : (m : Memory) (c : Call) → rises 0 (table_of m c) ≡ true
+call_rises : (m : Memory) (c : Call) → rises 0 (table_of m c) ≡ true
 unfolding place_in
-call-rises m (receives l) = message-rises m l (R.readIn l.datagram l.major)
-call-rises m (sends l) = refl
-call-rises m (ticks l) = refl
-call-rises m (lists l) = refl
+call_rises m (receives l) = message-rises m l (R.read_in l.datagram l.major)
+call_rises m (sends l) = refl
+call_rises m (ticks l) = refl
+call_rises m (lists l) = refl
 
-pub call-order : (m : Memory) (c : Call) → InOrder (place_in order) 0 (table_of m c)
-call-order m c = rises-order 0 (table_of m c) (call-rises m c)
+pub call_order : (m : Memory) (c : Call) → InOrder (place_in order) 0 (table_of m c)
+call_order m c = rises-order 0 (table_of m c) (call_rises m c)
 
 -- where a call is accepted, each test of its table fails
-pub none-applies : (m : Memory) (c : Call) → (ours m c).answer.number ≡ 0 → AllFail (table_of m c)
-none-applies m c z = all-fail (place_in order) (table_of m c) 0 (call-order m c) (sym (call-number m c) ∙ z)
+pub none_applies : (m : Memory) (c : Call) → (ours m c).answer.number ≡ 0 → AllFail (table_of m c)
+none_applies m c z = all_fail (place_in order) (table_of m c) 0 (call_order m c) (sym (call_number m c) ∙ z)
 
 -- each row's number stands in the order, so that 0 is acceptance alone
-pub refusal-numbers : (m : Memory) (c : Call) → Every (λ (r : Refusal). r.number ∈ order) (table_of m c)
-refusal-numbers m c = rises-listed 0 (table_of m c) (call-rises m c)
+pub refusal_numbers : (m : Memory) (c : Call) → Every (λ (r : Refusal). r.number ∈ order) (table_of m c)
+refusal_numbers m c = rises-listed 0 (table_of m c) (call_rises m c)
 
 -- "Given exactly when": a number of the call's table is given exactly when it applies, in whichever of its rows, and none that stands before it in the order
 -- does; 0 when none applies
 pub exactly : (m : Memory) (c : Call) (n : ℕ) → 0 < n
-    → ((ours m c).answer.number ≡ n) ↔ ((appliesIn n (table_of m c) ≡ true) × ((i : ℕ) → Before i n → appliesIn i (table_of m c) ≡ false))
+    → ((ours m c).answer.number ≡ n) ↔ ((applies_in n (table_of m c) ≡ true) × ((i : ℕ) → Before i n → applies_in i (table_of m c) ≡ false))
 exactly m c n p = subst
-    (λ (x : ℕ). (x ≡ n) ↔ ((appliesIn n (table_of m c) ≡ true) × ((i : ℕ) → Before i n → appliesIn i (table_of m c) ≡ false)))
-    (sym (call-number m c)) (order-exactly (table_of m c) 0 n (call-order m c) p)
+    (λ (x : ℕ). (x ≡ n) ↔ ((applies_in n (table_of m c) ≡ true) × ((i : ℕ) → Before i n → applies_in i (table_of m c) ≡ false)))
+    (sym (call_number m c)) (order_exactly (table_of m c) 0 n (call_order m c) p)
 
-pub accepted : (m : Memory) (c : Call) → ((ours m c).answer.number ≡ 0) ↔ ((i : ℕ) → appliesIn i (table_of m c) ≡ false)
-accepted m c = subst (λ (x : ℕ). (x ≡ 0) ↔ ((i : ℕ) → appliesIn i (table_of m c) ≡ false)) (sym (call-number m c))
-    (none-exactly (place_in order) (table_of m c) 0 (call-order m c))
+pub accepted : (m : Memory) (c : Call) → ((ours m c).answer.number ≡ 0) ↔ ((i : ℕ) → applies_in i (table_of m c) ≡ false)
+accepted m c = subst (λ (x : ℕ). (x ≡ 0) ↔ ((i : ℕ) → applies_in i (table_of m c) ≡ false)) (sym (call_number m c))
+    (none_exactly (place_in order) (table_of m c) 0 (call_order m c))

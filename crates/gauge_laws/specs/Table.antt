@@ -3,13 +3,13 @@
 use Rattle.std.specs.Prelude.{ℕ, ◌+◌, ◌-◌, Bool, true, not, List, [], ◌∷◌, ◌++◌, length}
 use Rattle.octet.specs.Part.{part}
 use Rattle.key.specs.Number.{key_at}
-use Rattle.record.specs.Entry.{recordOf}
-use Rattle.own.specs.Own.{ownKeys}
+use Rattle.record.specs.Entry.{record_of}
+use Rattle.own.specs.Own.{own_keys}
 use Rattle.refusal.specs.Table.{Refusal, when}
 use Rattle.cache.specs.Form.{held_of}
-use Rattle.neighbours.specs.Closest.{closestPast}
-use Rattle.neighbours.specs.Calls.{listWrong}
-use Rattle.waiting.specs.Form.{usedOf, places_of}
+use Rattle.neighbours.specs.Closest.{closest_past}
+use Rattle.neighbours.specs.Calls.{list_wrong}
+use Rattle.waiting.specs.Form.{used_of, places_of}
 use Rattle.wire_fields.specs.Refusals.{refusals}
 use Rattle.wire_fields.specs.declared.Part.{Part}
 use Rattle.wire_fields.specs.declared.Part.TheVariants.{Here, Absent}
@@ -19,51 +19,51 @@ use Rattle.wire_read.specs.declared.Incoming as T
 use Rattle.wire_read.specs.declared.Incoming.TheVariants as M
 use Rattle.look.specs.Seen.{size_of}
 use Rattle.gauge_plan.specs.Lent.{Memory, Receive, Call, receives, sends, ticks, lists}
-use Rattle.gauge_plan.specs.Memory.{tablesFit, handsFit}
-use Rattle.gauge_plan.specs.Own.{notOurs}
-use Rattle.asking.specs.Asking.{mustAsk, asksFor}
-use Rattle.plan_flood.specs.Flood.{floodRefusals, revokeRefusals}
-use Rattle.plan_answer.specs.Answering.{authorityRefusals, ackRefusals, inquireRefusals, lookupRefusals}
-use Rattle.plan_send.specs.Send.{sendRefusals}
-use Rattle.gauge.specs.Counts.{tickTable}
+use Rattle.gauge_plan.specs.Memory.{tables_fit, hands_fit}
+use Rattle.gauge_plan.specs.Own.{not_ours}
+use Rattle.asking.specs.Asking.{must_ask, asks_for}
+use Rattle.plan_flood.specs.Flood.{flood_refusals, revoke_refusals}
+use Rattle.plan_answer.specs.Answering.{authority_refusals, ack_refusals, inquire_refusals, lookup_refusals}
+use Rattle.plan_send.specs.Send.{send_refusals}
+use Rattle.gauge.specs.Counts.{tick_table}
 
 -- a FLOOD with a route entry, or with a revocation
-abbrev pub floodTable : Memory → Receive → Bool → ℕ → Part → List Refusal
-floodTable m l silent validate (Here start len) =
-    let r = recordOf (part start len l.datagram) in
-    floodRefusals (ownKeys l.own) (places_of m.waiting) (usedOf m.waiting) l.id (length l.output) silent
-    (notOurs (ownKeys l.own) validate l.datagram) (mustAsk (held_of (ownKeys l.own) m.cache) (places_of m.waiting) r) r
-floodTable m l silent validate Absent =
-    revokeRefusals (ownKeys l.own) l.verdict (key_at 0 l.key) (length l.output) silent (notOurs (ownKeys l.own) validate l.datagram)
+abbrev pub flood_table : Memory → Receive → Bool → ℕ → Part → List Refusal
+flood_table m l silent validate (Here start len) =
+    let r = record_of (part start len l.datagram) in
+    flood_refusals (own_keys l.own) (places_of m.waiting) (used_of m.waiting) l.id (length l.output) silent
+    (not_ours (own_keys l.own) validate l.datagram) (must_ask (held_of (own_keys l.own) m.cache) (places_of m.waiting) r) r
+flood_table m l silent validate Absent =
+    revoke_refusals (own_keys l.own) l.verdict (key_at 0 l.key) (length l.output) silent (not_ours (own_keys l.own) validate l.datagram)
 
 -- a LOOKUP
-abbrev pub lookupTable : (m : Memory) (l : Receive) (target path size start len : ℕ) → List Refusal
-lookupTable m l target path size start len =
-    let recs = held_of (ownKeys l.own) m.cache in
-    lookupRefusals (places_of m.waiting) (usedOf m.waiting) l.id (length l.output)
-    (asksFor (ownKeys l.own) recs (places_of m.waiting) (part start len l.datagram))
-    (closestPast l.own recs (part path size l.datagram) (key_at target l.datagram))
+abbrev pub lookup_table : (m : Memory) (l : Receive) (target path size start len : ℕ) → List Refusal
+lookup_table m l target path size start len =
+    let recs = held_of (own_keys l.own) m.cache in
+    lookup_refusals (places_of m.waiting) (used_of m.waiting) l.id (length l.output)
+    (asks_for (own_keys l.own) recs (places_of m.waiting) (part start len l.datagram))
+    (closest_past l.own recs (part path size l.datagram) (key_at target l.datagram))
 
 -- the rows of a message; SOLICIT, ADVERTISE and REQUEST are refused with 7
-abbrev pub messageRows : Memory → Receive → T.Incoming → List Refusal
-messageRows m l (M.Refused n) = []
-messageRows m l (M.Solicit x) = when 7 true ∷ []
-messageRows m l (M.Advertise x) = when 7 true ∷ []
-messageRows m l (M.Request x) = when 7 true ∷ []
-messageRows m l (M.Flood x) = floodTable m l x.d x.validate x.entry
-messageRows m l (M.Inquire x) = inquireRefusals (ownKeys l.own) l.cpas (length l.output) l.datagram x.validate
-messageRows m l (M.Authority x) = authorityRefusals (places_of m.waiting) l.verdict (key_at 0 l.key) x.acked (R.isHere x.fields.cpa)
-messageRows m l (M.Ack x) = ackRefusals (places_of m.waiting) x.acked
-messageRows m l (M.Lookup x) = lookupTable m l x.target (start_of x.path + 8) (size_of x.path - 8) (start_of x.entry) (size_of x.entry)
+abbrev pub message_rows : Memory → Receive → T.Incoming → List Refusal
+message_rows m l (M.Refused n) = []
+message_rows m l (M.Solicit x) = when 7 true ∷ []
+message_rows m l (M.Advertise x) = when 7 true ∷ []
+message_rows m l (M.Request x) = when 7 true ∷ []
+message_rows m l (M.Flood x) = flood_table m l x.d x.validate x.entry
+message_rows m l (M.Inquire x) = inquire_refusals (own_keys l.own) l.cpas (length l.output) l.datagram x.validate
+message_rows m l (M.Authority x) = authority_refusals (places_of m.waiting) l.verdict (key_at 0 l.key) x.acked (R.is_here x.fields.cpa)
+message_rows m l (M.Ack x) = ack_refusals (places_of m.waiting) x.acked
+message_rows m l (M.Lookup x) = lookup_table m l x.target (start_of x.path + 8) (size_of x.path - 8) (start_of x.entry) (size_of x.entry)
 
-abbrev pub receiveTable : Memory → Receive → List Refusal
-receiveTable m l =
-    when 1 (not (tablesFit l.own m))
-    ∷ when 1 (not (handsFit m l))
-    ∷ (refusals l.datagram l.major ++ messageRows m l (R.readIn l.datagram l.major))
+abbrev pub receive_table : Memory → Receive → List Refusal
+receive_table m l =
+    when 1 (not (tables_fit l.own m))
+    ∷ when 1 (not (hands_fit m l))
+    ∷ (refusals l.datagram l.major ++ message_rows m l (R.read_in l.datagram l.major))
 
 abbrev pub table_of : Memory → Call → List Refusal
-table_of m (receives l) = receiveTable m l
-table_of m (sends l) = sendRefusals l.own m l.id l.neighbour l.key (length l.output)
-table_of m (ticks l) = tickTable m l
-table_of m (lists l) = listWrong l.own m.cache l.key l.output
+table_of m (receives l) = receive_table m l
+table_of m (sends l) = send_refusals l.own m l.id l.neighbour l.key (length l.output)
+table_of m (ticks l) = tick_table m l
+table_of m (lists l) = list_wrong l.own m.cache l.key l.output

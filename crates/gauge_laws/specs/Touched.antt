@@ -5,11 +5,11 @@ use Rattle.own.specs.Own.{Own}
 use Rattle.kept.specs.Keys.{◌∈◌}
 use Rattle.cache.specs.Form.{keys_of, held_of}
 use Rattle.firsts.specs.Firsts.{count}
-use Rattle.firsts.specs.Places.{countAt}
+use Rattle.firsts.specs.Places.{count_at}
 use Rattle.gauge_plan.specs.Lent.{Memory}
 
-abbrev pub keysHeld : Own → Memory → List ℕ
-keysHeld own m = keys_of (held_of own m.cache)
+abbrev pub keys_held : Own → Memory → List ℕ
+keys_held own m = keys_of (held_of own m.cache)
 
 -- at most one key came and at most one went; each byte's count is what it was, with one more where the key that came begins with it, and one less where the key
 -- that went does
@@ -17,6 +17,6 @@ pub record Touched (own : Own) (m left : Memory) : Type 0 where
   pub came : List ℕ
   pub went : List ℕ
   pub few : (length came ≤ 1) × (length went ≤ 1)
-  pub are-new : (k : ℕ) → (k ∈ came) ↔ ((k ∈ keysHeld own left) × (¬ (k ∈ keysHeld own m)))
-  pub are-gone : (k : ℕ) → (k ∈ went) ↔ ((k ∈ keysHeld own m) × (¬ (k ∈ keysHeld own left)))
-  pub counts : (b : ℕ) → b < 256 → countAt b left.firsts + count b went ≡ countAt b m.firsts + count b came
+  pub are-new : (k : ℕ) → (k ∈ came) ↔ ((k ∈ keys_held own left) × (¬ (k ∈ keys_held own m)))
+  pub are-gone : (k : ℕ) → (k ∈ went) ↔ ((k ∈ keys_held own m) × (¬ (k ∈ keys_held own left)))
+  pub counts : (b : ℕ) → b < 256 → count_at b left.firsts + count b went ≡ count_at b m.firsts + count b came

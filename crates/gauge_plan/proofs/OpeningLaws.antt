@@ -6,11 +6,11 @@ use Prim.Native.Nat.{ℕ, ◌<◌}
 use native.Mathlib.Omega.{arith}
 use lib.Dec.{eqb}
 use borrow.Author.Tests.{eq-eqb, ne_eqb}
-use Rattle.refusal.specs.Table.{Refusal, first_of, orRefuse, byNumber}
-use Rattle.refusal.proofs.TableLaws.{AllFail, all-fail}
-use Rattle.refusal.proofs.CallLaws.{or-refuses, or-append, all_pass}
+use Rattle.refusal.specs.Table.{Refusal, first_of, or_refuse, by_number}
+use Rattle.refusal.proofs.TableLaws.{AllFail, all_fail}
+use Rattle.refusal.proofs.CallLaws.{or_refuses, or_append, all_pass}
 use Rattle.table.specs.Rows.{any_of}
-use Rattle.waiting.specs.Seek.{hasId}
+use Rattle.waiting.specs.Seek.{has_id}
 use Rattle.gauge_plan.specs.Opening.{open_rows}
 
 -- ---- the number by the tests that the code makes
@@ -21,11 +21,11 @@ module _ (ps : List (List ℕ)) (used id : ℕ) where
   open_none opens e = rw e refl
 
   module _ (opens : Bool) (must : opens ≡ true) where
-    pub open-waits : any_of (hasId id) ps ≡ true → first_of (open_rows opens ps used id) ≡ 13
+    pub open-waits : any_of (has_id id) ps ≡ true → first_of (open_rows opens ps used id) ≡ 13
     unfolding first_of
     open-waits e = rw (must, e) refl
 
-    module _ (new : any_of (hasId id) ps ≡ false) where
+    module _ (new : any_of (has_id id) ps ≡ false) where
       pub open_full : used ≡ 16 → first_of (open_rows opens ps used id) ≡ 14
       unfolding first_of
       open_full e = rw (must, new, eq-eqb used 16 e) refl
@@ -38,19 +38,19 @@ module _ (ps : List (List ℕ)) (used id : ℕ) where
 
 module _ {A : Type 0} (refuse : ℕ → A) (opens : Bool) (ps : List (List ℕ)) (used id : ℕ) (rest : List Refusal) (done : A)
     {n : ℕ} (is : n ≡ first_of (open_rows opens ps used id)) where
-  pub open-refuses : 0 < n → orRefuse refuse (open_rows opens ps used id ++ rest) done ≡ refuse n
+  pub open-refuses : 0 < n → or_refuse refuse (open_rows opens ps used id ++ rest) done ≡ refuse n
   open-refuses p =
-      or-append refuse (open_rows opens ps used id) rest done
-      ∙ or-refuses refuse (open_rows opens ps used id) _ (omega (arith, is))
+      or_append refuse (open_rows opens ps used id) rest done
+      ∙ or_refuses refuse (open_rows opens ps used id) _ (omega (arith, is))
       ∙ subst (λ (k : ℕ). refuse k ≡ refuse n) is refl
 
-  pub open-passes : n ≡ 0 → orRefuse refuse (open_rows opens ps used id ++ rest) done ≡ orRefuse refuse rest done
+  pub open-passes : n ≡ 0 → or_refuse refuse (open_rows opens ps used id ++ rest) done ≡ or_refuse refuse rest done
   open-passes z =
       let rows = open_rows opens ps used id in
-      let fails : AllFail rows = all-fail byNumber rows 0 (omega arith, omega arith, (omega arith, omega arith, tt)) (sym is ∙ z) in
-      or-append refuse rows rest done ∙ all_pass refuse rows (orRefuse refuse rest done) fails
+      let fails : AllFail rows = all_fail by_number rows 0 (omega arith, omega arith, (omega arith, omega arith, tt)) (sym is ∙ z) in
+      or_append refuse rows rest done ∙ all_pass refuse rows (or_refuse refuse rest done) fails
 
 -- of a row that fails where a place must be opened
-pub second-fails : (a b : Bool) → a && b ≡ false → a ≡ true → b ≡ false
-second-fails true b e h = e
-second-fails false b e h = let z : ◌≡◌ {A = ℕ} 0 1 = cc in absurd (omega arith)
+pub second_fails : (a b : Bool) → a && b ≡ false → a ≡ true → b ≡ false
+second_fails true b e h = e
+second_fails false b e h = let z : ◌≡◌ {A = ℕ} 0 1 = cc in absurd (omega arith)

@@ -3,9 +3,9 @@ use Rattle.std.specs.Prelude.{ℕ, Bool, true, false}
 use Rattle.table.specs.declared.Found.{Found}
 use Rattle.table.specs.declared.Found.TheVariants.{At, Nothing}
 
-abbrev pub isNothing : Found → Bool
-isNothing (At i) = false
-isNothing Nothing = true
+abbrev pub is_nothing : Found → Bool
+is_nothing (At i) = false
+is_nothing Nothing = true
 
 -- the number of the place found
 abbrev pub place_of : Found → ℕ

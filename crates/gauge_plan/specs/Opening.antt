@@ -3,8 +3,8 @@
 use Rattle.std.specs.Prelude.{ℕ, Bool, ◌&&◌, List, [], ◌∷◌, eqb}
 use Rattle.refusal.specs.Table.{Refusal, when}
 use Rattle.table.specs.Rows.{any_of}
-use Rattle.waiting.specs.Seek.{hasId}
+use Rattle.waiting.specs.Seek.{has_id}
 
 -- the places that wait, how many they are, and the ID of the one to open, if one must be
 abbrev pub open_rows : Bool → List (List ℕ) → ℕ → ℕ → List Refusal
-open_rows opens ps used id = when 13 (opens && any_of (hasId id) ps) ∷ when 14 (opens && eqb used 16) ∷ []
+open_rows opens ps used id = when 13 (opens && any_of (has_id id) ps) ∷ when 14 (opens && eqb used 16) ∷ []

@@ -1,7 +1,7 @@
 // Whether the memory that every call is lent is in form.
 ghost use Rattle.std.specs.Prelude.{◌≡◌};
-ghost use Rattle.gauge_plan.specs.Lent.{Memory, withTables, Receive, handing};
-ghost use Rattle.gauge_plan.specs.Memory.{memoryOf, comesFit};
+ghost use Rattle.gauge_plan.specs.Lent.{Memory, with_tables, Receive, handing};
+ghost use Rattle.gauge_plan.specs.Memory.{memory_of, comes_fit};
 
 // How many records are held and how many places are used, where memory is in form.
 #[derive(Drop)]
@@ -13,7 +13,7 @@ pub enum Fitness {
 // Are own records, cache and waiting table in form? Memory that is not lent may be any.
 pub fn survey(own: &[u8], cache: &[u8], waiting: &[u8]) -> Fitness
     ensures { (m : Memory) → result
-        ≡ memoryOf own.now (withTables cache.now waiting.now m) }
+        ≡ memory_of own.now (with_tables cache.now waiting.now m) }
 {
     if !own::own_form(own) {
         return Fitness::Unfit;
@@ -33,7 +33,7 @@ pub fn survey(own: &[u8], cache: &[u8], waiting: &[u8]) -> Fitness
 // datagram comes with may be any.
 pub fn hands_fit(own: &[u8], cpas: &[u8], nonce: &[u8], key: &[u8]) -> bool
     ensures { (l : Receive) → result
-        ≡ comesFit (handing own.now cpas.now nonce.now key.now l) }
+        ≡ comes_fit (handing own.now cpas.now nonce.now key.now l) }
 {
     let certified = cpas::cpas_form(cpas, own::count(own));
     certified & (nonce.len() == 16) & (key.len() == 32)

@@ -3,11 +3,11 @@
 ghost use Rattle.std.specs.Prelude.{◌≡◌, map, ℕ, ◌+◌, ◌*◌, ◌/◌, ◌%◌, ◌≤◌, ◌<◌, length, get_or};
 ghost use Rattle.key.specs.Number.{number};
 ghost use Rattle.record.specs.Record.{key_of};
-ghost use Rattle.table.specs.Rows.{rows, insertAt};
+ghost use Rattle.table.specs.Rows.{rows, insert_at};
 ghost use Rattle.kept.specs.Keys.{◌∈◌, Every, Rising, plain};
-ghost use Rattle.own.specs.Own.{ownKeys};
+ghost use Rattle.own.specs.Own.{own_keys};
 ghost use Rattle.listed.specs.Runs.{Fits};
-ghost use Rattle.going.specs.Going.{listedFrom, listedBefore, fartherOf, Goes};
+ghost use Rattle.going.specs.Going.{listed_from, listed_before, farther_of, Goes};
 
 use key::Key;
 use listed::Runs;
@@ -15,7 +15,7 @@ use listed::Runs;
 // How many places, from one on and counted round, are in a list before the first that is not, of so many.
 fn listed_from(total: usize, end: usize, most: usize, runs: Runs) -> usize
     requires { (end + most ≤ total + total) × (total < 1000) × Fits total runs }
-    ensures { result ≡ listedFrom total end most runs }
+    ensures { result ≡ listed_from total end most runs }
 {
     let mut i = 0;
     while i < most {
@@ -30,7 +30,7 @@ fn listed_from(total: usize, end: usize, most: usize, runs: Runs) -> usize
 // The same from before the place down.
 fn listed_before(total: usize, end: usize, most: usize, runs: Runs) -> usize
     requires { (most ≤ end) × (end ≤ total + total) × (total < 1000) × Fits total runs }
-    ensures { result ≡ listedBefore total end most runs }
+    ensures { result ≡ listed_before total end most runs }
 {
     let mut i = 0;
     while i < most {
@@ -46,7 +46,7 @@ fn listed_before(total: usize, end: usize, most: usize, runs: Runs) -> usize
 fn key_there(cache: &[u8], used: usize, at: usize, record: &[u8], x: usize) -> Key
     requires { (100 * used ≤ length cache.now) × (32 ≤ length «record».now) × (at ≤ used) × (x ≤ used) }
     ensures { number result
-        ≡ get_or (map key_of (insertAt at «record».now (rows 100 used cache.now))) x 0 }
+        ≡ get_or (map key_of (insert_at at «record».now (rows 100 used cache.now))) x 0 }
 {
     if x < at {
         return key::key_at(cache, record::RECORD_LEN * x);
@@ -69,8 +69,8 @@ fn farther_of(
 ) -> usize
     requires in_bounds { (32 ≤ length own.now) × (32 ≤ length «record».now) × (100 * used ≤ length cache.now) }
     requires at_le_used { (at ≤ used) × (x ≤ used) × (y ≤ used) }
-    ensures { result ≡ fartherOf (key_of own.now)
-        (map key_of (insertAt at «record».now (rows 100 used cache.now))) x y }
+    ensures { result ≡ farther_of (key_of own.now)
+        (map key_of (insert_at at «record».now (rows 100 used cache.now))) x y }
 {
     let first = key::key_at(own, 0);
     let up = key::minus(key_there(cache, used, at, record, x), first);
@@ -95,10 +95,10 @@ pub fn who_goes(own: &[u8], cache: &[u8], used: usize, at: usize, record: &[u8])
     requires used_in_bounds { (100 * used ≤ length cache.now) × (used < 999) × (length own.now ≤ 10 * used) × (at ≤ used)
         × (32 ≤ length «record».now) }
     requires rising { Rising plain 0 (map key_of (rows 100 used cache.now)) }
-    requires rising_2 { Rising plain 0 (map key_of (insertAt at «record».now (rows 100 used cache.now))) }
-    requires every { Every (λ (k : ℕ). ¬ (k ∈ ownKeys own.now)) (map key_of (insertAt at «record».now (rows 100 used cache.now))) }
-    ensures { Goes (key_of own.now) (ownKeys own.now)
-        (map key_of (insertAt at «record».now (rows 100 used cache.now))) result }
+    requires rising_2 { Rising plain 0 (map key_of (insert_at at «record».now (rows 100 used cache.now))) }
+    requires every { Every (λ (k : ℕ). ¬ (k ∈ own_keys own.now)) (map key_of (insert_at at «record».now (rows 100 used cache.now))) }
+    ensures { Goes (key_of own.now) (own_keys own.now)
+        (map key_of (insert_at at «record».now (rows 100 used cache.now))) result }
 {
     let total = used + 1;
     let runs = listed::runs_of(own, cache, used, record);

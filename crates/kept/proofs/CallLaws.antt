@@ -6,44 +6,44 @@ use mathlib.Core.List.{List, [], ◌∷◌, ◌++◌}
 use Prim.Native.Nat.{ℕ}
 use mathlib.Core.Logic.{◌⊎◌, inl, inr, ⊎_elim}
 use Rattle.key.specs.Around.{Side}
-use Rattle.kept.specs.History.{Event, learned, removed, happen, after, keptBy, Learns}
+use Rattle.kept.specs.History.{Event, learned, removed, happen, after, kept_by, Learns}
 use Rattle.kept.specs.Rules.{Order, DropRule}
-use Rattle.kept.specs.Calls.{run, eventsOf}
+use Rattle.kept.specs.Calls.{run, events_of}
 use Rattle.kept.specs.Demand3.{KeysDemand3}
 use Rattle.kept.proofs.Demand3Laws.{demand3}
 
-pub after-append : (drops : List ℕ → ℕ) (C : ℕ) (keys : List ℕ) (es ds : List Event) → after drops C keys (es ++ ds) ≡ after drops C (after drops C keys es) ds
+pub after_append : (drops : List ℕ → ℕ) (C : ℕ) (keys : List ℕ) (es ds : List Event) → after drops C keys (es ++ ds) ≡ after drops C (after drops C keys es) ds
 unfolding after
-after-append drops C keys [] ds = refl
-after-append drops C keys (e ∷ es) ds = after-append drops C (happen drops C keys e) es ds
+after_append drops C keys [] ds = refl
+after_append drops C keys (e ∷ es) ds = after_append drops C (happen drops C keys e) es ds
 
 module _ {State Call : Type 0} (step : State → Call → State) (events : State → Call → List Event) (keys_of : State → List ℕ) (drops : List ℕ → ℕ) (C : ℕ)
     (InForm : State → Type 0) (stays : (state : State) (call : Call) → InForm state → InForm (step state call))
     (does : (state : State) (call : Call) → InForm state → keys_of (step state call) ≡ after drops C (keys_of state) (events state call)) where
-  pub in-form : (state : State) (calls : List Call) → InForm state → InForm (run step state calls)
+  pub in_form : (state : State) (calls : List Call) → InForm state → InForm (run step state calls)
   unfolding run
-  in-form state [] h = h
-  in-form state (call ∷ calls) h = in-form (step state call) calls (stays state call h)
+  in_form state [] h = h
+  in_form state (call ∷ calls) h = in_form (step state call) calls (stays state call h)
 
   pub keys-after : (state : State) (calls : List Call) → InForm state
-      → keys_of (run step state calls) ≡ after drops C (keys_of state) (eventsOf step events state calls)
-  unfolding run eventsOf
+      → keys_of (run step state calls) ≡ after drops C (keys_of state) (events_of step events state calls)
+  unfolding run events_of
   keys-after state [] h = unfold after in refl
   keys-after state (call ∷ calls) h =
       keys-after (step state call) calls (stays state call h)
-      ∙ (ap (λ (keys : List ℕ). after drops C keys (eventsOf step events (step state call) calls)) (does state call h)
-      ∙ sym (after-append drops C (keys_of state) (events state call) (eventsOf step events (step state call) calls)))
+      ∙ (ap (λ (keys : List ℕ). after drops C keys (events_of step events (step state call) calls)) (does state call h)
+      ∙ sym (after_append drops C (keys_of state) (events state call) (events_of step events (step state call) calls)))
 
   -- from an empty cache
   pub keys_kept : (state : State) (calls : List Call) → InForm state → keys_of state ≡ []
-      → keys_of (run step state calls) ≡ keptBy drops C (eventsOf step events state calls)
-  keys_kept state calls h e = keys-after state calls h ∙ ap (λ (keys : List ℕ). after drops C keys (eventsOf step events state calls)) e
+      → keys_of (run step state calls) ≡ kept_by drops C (events_of step events state calls)
+  keys_kept state calls h e = keys-after state calls h ∙ ap (λ (keys : List ℕ). after drops C keys (events_of step events state calls)) e
 
-pub learns-or : (k : ℕ) (es ds : List Event) → Learns k (es ++ ds) → Learns k es ⊎ Learns k ds
-learns-or k [] ds m = inr m
-learns-or k (learned j ∷ es) ds (inl e) = inl (inl e)
-learns-or k (learned j ∷ es) ds (inr m) = ⊎_elim (λ n. inl (inr n)) (λ n. inr n) (learns-or k es ds m)
-learns-or k (removed j ∷ es) ds m = learns-or k es ds m
+pub learns_or : (k : ℕ) (es ds : List Event) → Learns k (es ++ ds) → Learns k es ⊎ Learns k ds
+learns_or k [] ds m = inr m
+learns_or k (learned j ∷ es) ds (inl e) = inl (inl e)
+learns_or k (learned j ∷ es) ds (inr m) = ⊎_elim (λ n. inl (inr n)) (λ n. inr n) (learns_or k es ds m)
+learns_or k (removed j ∷ es) ds m = learns_or k es ds m
 
 -- demand 3 of any sequence of calls, from what holds of one call
 module _ {State Call : Type 0} (step : State → Call → State) (events : State → Call → List Event) (keys_of : State → List ℕ)
@@ -51,16 +51,16 @@ module _ {State Call : Type 0} (step : State → Call → State) (events : State
     (InForm : State → Type 0) (stays : (state : State) (call : Call) → InForm state → InForm (step state call))
     (does : (state : State) (call : Call) → InForm state → keys_of (step state call) ≡ after drops C (keys_of state) (events state call))
     (sound : (state : State) (call : Call) → InForm state → (k : ℕ) → Learns k (events state call) → ok k) where
-  all_sound : (state : State) (calls : List Call) → InForm state → (k : ℕ) → Learns k (eventsOf step events state calls) → ok k
-  unfolding eventsOf
+  all_sound : (state : State) (calls : List Call) → InForm state → (k : ℕ) → Learns k (events_of step events state calls) → ok k
+  unfolding events_of
   all_sound state [] h k m = absurd m
   all_sound state (call ∷ calls) h k m =
       ⊎_elim (λ n. sound state call h k n) (λ n. all_sound (step state call) calls (stays state call h) k n)
-      (learns-or k (events state call) (eventsOf step events (step state call) calls) m)
+      (learns_or k (events state call) (events_of step events (step state call) calls) m)
 
   pub calls-demand3 : (state : State) (calls : List Call) → InForm state → keys_of state ≡ []
-      → (keys_of (run step state calls) ≡ keptBy drops C (eventsOf step events state calls)) × KeysDemand3 ok side near drops C (eventsOf step events state calls)
+      → (keys_of (run step state calls) ≡ kept_by drops C (events_of step events state calls)) × KeysDemand3 ok side near drops C (events_of step events state calls)
   calls-demand3 state calls h e = (
     keys_kept step events keys_of drops C InForm stays does state calls h e,
-    demand3 ok side near drops C order rule (eventsOf step events state calls) (all_sound state calls h),
+    demand3 ok side near drops C order rule (events_of step events state calls) (all_sound state calls h),
   )

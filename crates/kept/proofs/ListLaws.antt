@@ -23,25 +23,25 @@ test false = fail refl
 
 -- membership -------------------------------------------------------------------------------------------------------------------
 
-pub every-at : (P : ℕ → Type 0) (k : ℕ) (l : List ℕ) → Every P l → k ∈ l → P k
-every-at P k [] a m = absurd m
-every-at P k (j ∷ l) a (inl e) = rw e a.0
-every-at P k (j ∷ l) a (inr m) = every-at P k l a.1 m
+pub every_at : (P : ℕ → Type 0) (k : ℕ) (l : List ℕ) → Every P l → k ∈ l → P k
+every_at P k [] a m = absurd m
+every_at P k (j ∷ l) a (inl e) = rw e a.0
+every_at P k (j ∷ l) a (inr m) = every_at P k l a.1 m
 
 pub every_of : (P : ℕ → Type 0) (l : List ℕ) → ((k : ℕ) → k ∈ l → P k) → Every P l
 every_of P [] h = tt
 every_of P (j ∷ l) h = (h j (inl refl), every_of P l (λ k m. h k (inr m)))
 
-pub mem-take : (n k : ℕ) (l : List ℕ) → k ∈ take n l → k ∈ l
-mem-take zero k l m = absurd m
-mem-take (suc n) k [] m = absurd m
-mem-take (suc n) k (j ∷ l) (inl e) = inl e
-mem-take (suc n) k (j ∷ l) (inr m) = inr (mem-take n k l m)
+pub mem_take : (n k : ℕ) (l : List ℕ) → k ∈ take n l → k ∈ l
+mem_take zero k l m = absurd m
+mem_take (suc n) k [] m = absurd m
+mem_take (suc n) k (j ∷ l) (inl e) = inl e
+mem_take (suc n) k (j ∷ l) (inr m) = inr (mem_take n k l m)
 
-pub in-getD : (l : List ℕ) (i : ℕ) → i < length l → get_or l i 0 ∈ l
-in-getD [] i h = absurd (omega arith)
-in-getD (x ∷ l) zero h = inl refl
-in-getD (x ∷ l) (suc i) h = inr (in-getD l i (omega arith))
+pub in_get_d : (l : List ℕ) (i : ℕ) → i < length l → get_or l i 0 ∈ l
+in_get_d [] i h = absurd (omega arith)
+in_get_d (x ∷ l) zero h = inl refl
+in_get_d (x ∷ l) (suc i) h = inr (in_get_d l i (omega arith))
 
 -- the test decides it
 pub has_in : (k : ℕ) (l : List ℕ) → k ∈ l → has k l ≡ true
@@ -54,15 +54,15 @@ has_in k (j ∷ l) (inr m) = go (eqb k j) (has_in k l m)
     go true e = refl
     go false e = e
 
-pub has-out : (k : ℕ) (l : List ℕ) → ¬ (k ∈ l) → has k l ≡ false
+pub has_out : (k : ℕ) (l : List ℕ) → ¬ (k ∈ l) → has k l ≡ false
 unfolding has
-has-out k [] out = refl
-has-out k (j ∷ l) out = rw (ne_eqb k j (λ e. out (inl e))) (has-out k l (λ m. out (inr m)))
+has_out k [] out = refl
+has_out k (j ∷ l) out = rw (ne_eqb k j (λ e. out (inl e))) (has_out k l (λ m. out (inr m)))
 
-pub in-has : (k : ℕ) (l : List ℕ) → has k l ≡ true → k ∈ l
+pub in_has : (k : ℕ) (l : List ℕ) → has k l ≡ true → k ∈ l
 unfolding has
-in-has k [] e = let z : ◌≡◌ {A = ℕ} 0 1 = cc in absurd (omega arith)
-in-has k (j ∷ l) e = go (test (eqb k j)) e (in-has k l)
+in_has k [] e = let z : ◌≡◌ {A = ℕ} 0 1 = cc in absurd (omega arith)
+in_has k (j ∷ l) e = go (test (eqb k j)) e (in_has k l)
   where
     go : Test (eqb k j) → eqb k j || has k l ≡ true → (has k l ≡ true → k ∈ l) → k ∈ (j ∷ l)
     go (pass d) h ih = inl (eqb-true k j d)
@@ -120,9 +120,9 @@ module _ (f : ℕ → ℕ) where
       go (more h) (inr n) ih = rw put-more (inr (ih n))
 
   -- what is put in is there, where no other key has its measure
-  pub put-there : (k : ℕ) (l : List ℕ) → Every (λ (j : ℕ). f k ≡ f j → k ≡ j) l → k ∈ put f k l
-  put-there k [] a = rw put-nil (inl refl)
-  put-there k (i ∷ l) a = go (tri (f k) (f i)) (put-there k l a.1)
+  pub put_there : (k : ℕ) (l : List ℕ) → Every (λ (j : ℕ). f k ≡ f j → k ≡ j) l → k ∈ put f k l
+  put_there k [] a = rw put-nil (inl refl)
+  put_there k (i ∷ l) a = go (tri (f k) (f i)) (put_there k l a.1)
     where
       go : Tri (f k) (f i) → k ∈ put f k l → k ∈ put f k (i ∷ l)
       go (less h) ih = rw put-less (inl refl)
@@ -227,20 +227,20 @@ module _ (f : ℕ → ℕ) where
       left k t e (inr s) = s
 
 -- the first so many of the keys that are as P says, in order of f: there is only one such list
-pub only-list : (f : ℕ → ℕ) (P : ℕ → Type 0) (b c : ℕ) (l m : List ℕ)
+pub only_list : (f : ℕ → ℕ) (P : ℕ → Type 0) (b c : ℕ) (l m : List ℕ)
     → ((x y : ℕ) → P x → P y → f x ≡ f y → x ≡ y)
     → Rising f b l → Rising f c m → length l ≡ length m
     → ((k : ℕ) → k ∈ l → P k) → ((k : ℕ) → k ∈ m → P k)
     → ((j k : ℕ) → j ∈ l → P k → ¬ (k ∈ l) → f j < f k)
     → ((j k : ℕ) → j ∈ m → P k → ¬ (k ∈ m) → f j < f k)
     → l ≡ m
-only-list f P b c [] [] apart r q n sl sm cl cm = refl
-only-list f P b c [] (j ∷ m) apart r q n sl sm cl cm = absurd (omega arith)
-only-list f P b c (i ∷ l) [] apart r q n sl sm cl cm = absurd (omega arith)
-only-list f P b c (i ∷ l) (j ∷ m) apart r q n sl sm cl cm =
+only_list f P b c [] [] apart r q n sl sm cl cm = refl
+only_list f P b c [] (j ∷ m) apart r q n sl sm cl cm = absurd (omega arith)
+only_list f P b c (i ∷ l) [] apart r q n sl sm cl cm = absurd (omega arith)
+only_list f P b c (i ∷ l) (j ∷ m) apart r q n sl sm cl cm =
     go (tri (f i) (f j))
     (λ e.
-    only-list f (λ (k : ℕ). P k × (f i < f k)) (suc (f i)) (suc (f j)) l m (λ x y u v g. apart x y u.0 v.0 g) r.1 q.1 (omega arith)
+    only_list f (λ (k : ℕ). P k × (f i < f k)) (suc (f i)) (suc (f j)) l m (λ x y u v g. apart x y u.0 v.0 g) r.1 q.1 (omega arith)
     (λ k u. (sl k (inr u), rising-at f (suc (f i)) k l r.1 u))
     (λ k u. (sm k (inr u), omega (arith, rising-at f (suc (f j)) k m q.1 u)))
     (tail i i refl l cl)

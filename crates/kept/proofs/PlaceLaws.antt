@@ -12,9 +12,9 @@ use Rattle.kept.specs.Turned.{turned, wrapped}
 use Rattle.kept.proofs.PutLaws.{Tri, less, same, more, tri}
 
 -- read downwards from the end of the first n
-pub reverse-getD : (l : List ℕ) (j : ℕ) → j < length l → get_or (reverse l) j 0 ≡ get_or l (length l - 1 - j) 0
-reverse-getD [] j h = absurd (omega arith)
-reverse-getD (k ∷ l) j h = go (tri j (length l)) (reverse-getD l j)
+pub reverse_get_d : (l : List ℕ) (j : ℕ) → j < length l → get_or (reverse l) j 0 ≡ get_or l (length l - 1 - j) 0
+reverse_get_d [] j h = absurd (omega arith)
+reverse_get_d (k ∷ l) j h = go (tri j (length l)) (reverse_get_d l j)
   where
     go : Tri j (length l) → (j < length l → get_or (reverse l) j 0 ≡ get_or l (length l - 1 - j) 0)
         → get_or (reverse (k ∷ l)) j 0 ≡ get_or (k ∷ l) (suc (length l) - 1 - j) 0
@@ -27,9 +27,9 @@ reverse-getD (k ∷ l) j h = go (tri j (length l)) (reverse-getD l j)
     go (more g) ih = absurd (omega arith)
 
 -- read round from place n on
-pub turned-at : (n : ℕ) (l : List ℕ) (i : ℕ) → n ≤ length l → i < length l → get_or (turned n l) i 0 ≡ get_or l (wrapped (length l) (n + i)) 0
+pub turned_at : (n : ℕ) (l : List ℕ) (i : ℕ) → n ≤ length l → i < length l → get_or (turned n l) i 0 ≡ get_or l (wrapped (length l) (n + i)) 0
 unfolding turned wrapped
-turned-at n l i h g = go (tri i (length (drop n l)))
+turned_at n l i h g = go (tri i (length (drop n l)))
   where
     size : length (drop n l) ≡ length l - n
     size = length-drop n l

@@ -12,34 +12,34 @@ use lib.ListN.{length, take, get_or, length-reverse}
 use borrow.Author.Tests.{lt-ltb, le-ltb, ltb-true, ltb-false, eq-eqb, ne_eqb}
 use Rattle.key.specs.Around.{below, above, ring, up, apart}
 use Rattle.kept.specs.Keys.{◌∈◌, has, Every, Rising, plain, among}
-use Rattle.kept.specs.Plain.{countBelow, neighbours, neighbourList}
-use Rattle.kept.specs.Turned.{NotKey, turned, wrapped, countUnder, goingUp, inRun}
-use Rattle.kept.specs.Ponds.{farthestFrom}
+use Rattle.kept.specs.Plain.{count_below, neighbours, neighbour_list}
+use Rattle.kept.specs.Turned.{NotKey, turned, wrapped, count_under, going_up, in_run}
+use Rattle.kept.specs.Ponds.{farthest_from}
 use Rattle.kept.proofs.PutLaws.{Tri, less, same, more, tri}
-use Rattle.kept.proofs.ListLaws.{Test, pass, fail, test, in-getD, rising-at}
-use Rattle.kept.proofs.TurnLaws.{going-rises, list-above, list-below, under-le, count-le}
-use Rattle.kept.proofs.PlaceLaws.{reverse-getD, turned-at, turned-length, wrapped-lt}
+use Rattle.kept.proofs.ListLaws.{Test, pass, fail, test, in_get_d, rising-at}
+use Rattle.kept.proofs.TurnLaws.{going-rises, list-above, list-below, under_le, count-le}
+use Rattle.kept.proofs.PlaceLaws.{reverse_get_d, turned_at, turned-length, wrapped-lt}
 
 -- ---- lists whose places differ
 
 abbrev pub Differ : List ℕ → Type 0
 Differ l = (i j : ℕ) → i < length l → j < length l → get_or l i 0 ≡ get_or l j 0 → i ≡ j
 
-pub rising-differ : (f : ℕ → ℕ) (b : ℕ) (l : List ℕ) → Rising f b l → Differ l
-rising-differ f b [] r i j h g e = absurd (omega arith)
-rising-differ f b (x ∷ l) r zero zero h g e = refl
-rising-differ f b (x ∷ l) r zero (suc j) h g e =
-    absurd (omega (arith, rising-at f (suc (f x)) (get_or l j 0) l r.1 (in-getD l j (omega arith)), ap f e))
-rising-differ f b (x ∷ l) r (suc i) zero h g e =
-    absurd (omega (arith, rising-at f (suc (f x)) (get_or l i 0) l r.1 (in-getD l i (omega arith)), ap f e))
-rising-differ f b (x ∷ l) r (suc i) (suc j) h g e = ap suc (rising-differ f (suc (f x)) l r.1 i j (omega arith) (omega arith) e)
+pub rising_differ : (f : ℕ → ℕ) (b : ℕ) (l : List ℕ) → Rising f b l → Differ l
+rising_differ f b [] r i j h g e = absurd (omega arith)
+rising_differ f b (x ∷ l) r zero zero h g e = refl
+rising_differ f b (x ∷ l) r zero (suc j) h g e =
+    absurd (omega (arith, rising-at f (suc (f x)) (get_or l j 0) l r.1 (in_get_d l j (omega arith)), ap f e))
+rising_differ f b (x ∷ l) r (suc i) zero h g e =
+    absurd (omega (arith, rising-at f (suc (f x)) (get_or l i 0) l r.1 (in_get_d l i (omega arith)), ap f e))
+rising_differ f b (x ∷ l) r (suc i) (suc j) h g e = ap suc (rising_differ f (suc (f x)) l r.1 i j (omega arith) (omega arith) e)
 
-pub reverse-differ : (l : List ℕ) → Differ l → Differ (reverse l)
-reverse-differ l d i j h g e =
+pub reverse_differ : (l : List ℕ) → Differ l → Differ (reverse l)
+reverse_differ l d i j h g e =
     let n = length-reverse l in
     let k : length l - 1 - i ≡ length l - 1 - j =
     d (length l - 1 - i) (length l - 1 - j) (omega arith) (omega arith)
-    (sym (reverse-getD l i (omega arith)) ∙ e ∙ reverse-getD l j (omega arith)) in
+    (sym (reverse_get_d l i (omega arith)) ∙ e ∙ reverse_get_d l j (omega arith)) in
     omega arith
 
 -- the entry of place i is among the first n exactly where i is less than n
@@ -57,10 +57,10 @@ has-take (suc n) (x ∷ l) (suc i) d h =
     step (same e) = le-ltb i n (omega arith) ∙ sym (le-ltb (suc i) (suc n) (omega arith))
     step (more g) = le-ltb i n (omega arith) ∙ sym (le-ltb (suc i) (suc n) (omega arith))
 
-pub has-append : (k : ℕ) (l m : List ℕ) → has k (l ++ m) ≡ has k l || has k m
+pub has_append : (k : ℕ) (l m : List ℕ) → has k (l ++ m) ≡ has k l || has k m
 unfolding has
-has-append k [] m = refl
-has-append k (j ∷ l) m = go (eqb k j) (has-append k l m)
+has_append k [] m = refl
+has_append k (j ∷ l) m = go (eqb k j) (has_append k l m)
   where
     go : (b : Bool) → has k (l ++ m) ≡ has k l || has k m → (b || has k (l ++ m)) ≡ ((b || has k l) || has k m)
     go true e = refl
@@ -69,9 +69,9 @@ has-append k (j ∷ l) m = go (eqb k j) (has-append k l m)
 -- ---- the neighbour list of one own key, by places
 
 -- there and back round n places
-wrapped-back : (n first x : ℕ) → first ≤ n → x < n → wrapped n (first + wrapped n (x + (n - first))) ≡ x
+wrapped_back : (n first x : ℕ) → first ≤ n → x < n → wrapped n (first + wrapped n (x + (n - first))) ≡ x
 unfolding wrapped
-wrapped-back n first x h g = go (tri x first)
+wrapped_back n first x h g = go (tri x first)
   where
     low : x < first → cond (ltb (first + (x + (n - first))) n) (first + (x + (n - first))) ((first + (x + (n - first))) - n) ≡ x
     low k = rw (le-ltb (first + (x + (n - first))) n (omega arith)) (omega arith)
@@ -88,8 +88,8 @@ wrapped-back n first x h g = go (tri x first)
     go (more k) = rw (le-ltb (x + (n - first)) n (omega arith)) (high (omega arith))
 
 -- at most five on each side
-five-each : (n i b : ℕ) → i < n → b ≤ n → (ltb ((n - 1) - i) (min 5 b) || ltb i (min 5 (n - b))) ≡ cond (ltb i (n - b)) (ltb i 5) (ltb ((n - 1) - i) 5)
-five-each n i b h g = go (dec_lt i (n - b))
+five_each : (n i b : ℕ) → i < n → b ≤ n → (ltb ((n - 1) - i) (min 5 b) || ltb i (min 5 (n - b))) ≡ cond (ltb i (n - b)) (ltb i 5) (ltb ((n - 1) - i) 5)
+five_each n i b h g = go (dec_lt i (n - b))
   where
     least : (m j k : ℕ) → (m < j → m < k) → (m < k → m < j) → ltb m j ≡ ltb m k
     least m j k to from = by (dec_lt m j)
@@ -102,113 +102,113 @@ five-each n i b h g = go (dec_lt i (n - b))
             not-less (yes l') = absurd (l (from l'))
             not-less (no l') = omega arith
 
-    or-none : (c : Bool) → (c || false) ≡ c
-    or-none true = refl
-    or-none false = refl
+    or_none : (c : Bool) → (c || false) ≡ c
+    or_none true = refl
+    or_none false = refl
 
     go : Dec (i < n - b) → (ltb ((n - 1) - i) (min 5 b) || ltb i (min 5 (n - b))) ≡ cond (ltb i (n - b)) (ltb i 5) (ltb ((n - 1) - i) 5)
     go (yes l) =
         rw (le-ltb ((n - 1) - i) (min 5 b) (omega arith), lt-ltb i (n - b) l) (least i (min 5 (n - b)) 5 (λ m. omega arith) (λ m. omega arith))
     go (no l) =
         rw (le-ltb i (n - b) (omega arith), le-ltb i (min 5 (n - b)) (omega arith))
-        (or-none (ltb ((n - 1) - i) (min 5 b)) ∙ least ((n - 1) - i) (min 5 b) 5 (λ m. omega arith) (λ m. omega arith))
+        (or_none (ltb ((n - 1) - i) (min 5 b)) ∙ least ((n - 1) - i) (min 5 b) 5 (λ m. omega arith) (λ m. omega arith))
 
 module _ (own : ℕ) (o : own < ring) (keys : List ℕ) (rises : Rising plain 0 keys) (small : Every (λ (k : ℕ). k < ring) keys)
     (others : Every (NotKey own) keys) where
   pub in-run : (x : ℕ) → x < length keys
-      → has (get_or keys x 0) (neighbourList own keys)
-      ≡ inRun (length keys) x (countUnder own keys) (countBelow own keys)
+      → has (get_or keys x 0) (neighbour_list own keys)
+      ≡ in_run (length keys) x (count_under own keys) (count_below own keys)
   in-run x h =
       let n : ℕ = length keys in
-      let first : ℕ = countUnder own keys in
-      let l : List ℕ = goingUp own keys in
+      let first : ℕ = count_under own keys in
+      let l : List ℕ = going_up own keys in
       let i : ℕ = wrapped n (x + (n - first)) in
       let size : length l ≡ n = turned-length first keys in
       let inside : i < n = wrapped-lt n (x + (n - first)) (omega arith) (omega arith) in
-      let differ : Differ l = rising-differ (up own) 0 l (going-rises own o keys rises small) in
+      let differ : Differ l = rising_differ (up own) 0 l (going-rises own o keys rises small) in
       let key : get_or keys x 0 ≡ get_or l i 0 =
-      ap (λ (j : ℕ). get_or keys j 0) (sym (wrapped-back n first x (under-le own keys) h)) ∙ sym (turned-at first keys i (under-le own keys) inside) in
+      ap (λ (j : ℕ). get_or keys j 0) (sym (wrapped_back n first x (under_le own keys) h)) ∙ sym (turned_at first keys i (under_le own keys) inside) in
       let e : (length l - 1) - ((n - 1) - i) ≡ i = omega arith in
       let last : get_or keys x 0 ≡ get_or (reverse l) ((n - 1) - i) 0 =
-      key ∙ ap (λ (j : ℕ). get_or l j 0) (sym e) ∙ sym (reverse-getD l ((n - 1) - i) (omega arith)) in
-      has-append (get_or keys x 0) (neighbours own below keys) (neighbours own above keys)
+      key ∙ ap (λ (j : ℕ). get_or l j 0) (sym e) ∙ sym (reverse_get_d l ((n - 1) - i) (omega arith)) in
+      has_append (get_or keys x 0) (neighbours own below keys) (neighbours own above keys)
       ∙ ap₂ ◌||◌
       (ap₂ has last (list-below own o keys rises small others)
-      ∙ has-take (min 5 (countBelow own keys)) (reverse l) ((n - 1) - i) (reverse-differ l differ) (omega (arith, length-reverse l)))
-      (ap₂ has key (list-above own o keys rises small others) ∙ has-take (min 5 (length keys - countBelow own keys)) l i differ (omega arith))
-      ∙ five-each n i (countBelow own keys) inside (count-le own keys)
+      ∙ has-take (min 5 (count_below own keys)) (reverse l) ((n - 1) - i) (reverse_differ l differ) (omega (arith, length-reverse l)))
+      (ap₂ has key (list-above own o keys rises small others) ∙ has-take (min 5 (length keys - count_below own keys)) l i differ (omega arith))
+      ∙ five_each n i (count_below own keys) inside (count-le own keys)
 
 -- ---- the farthest of a list
 
 -- j or one of the list
-pub farthest-in : (own j : ℕ) (l : List ℕ) → (farthestFrom own j l ≡ j) ⊎ (farthestFrom own j l ∈ l)
-unfolding farthestFrom
-farthest-in own j [] = inl refl
-farthest-in own j (k ∷ l) = go (ltb (apart own j) (apart own k)) (farthest-in own k l) (farthest-in own j l)
+pub farthest_in : (own j : ℕ) (l : List ℕ) → (farthest_from own j l ≡ j) ⊎ (farthest_from own j l ∈ l)
+unfolding farthest_from
+farthest_in own j [] = inl refl
+farthest_in own j (k ∷ l) = go (ltb (apart own j) (apart own k)) (farthest_in own k l) (farthest_in own j l)
   where
-    go : (b : Bool) → (farthestFrom own k l ≡ k) ⊎ (farthestFrom own k l ∈ l) → (farthestFrom own j l ≡ j) ⊎ (farthestFrom own j l ∈ l)
-        → (farthestFrom own (cond b k j) l ≡ j) ⊎ (farthestFrom own (cond b k j) l ∈ (k ∷ l))
+    go : (b : Bool) → (farthest_from own k l ≡ k) ⊎ (farthest_from own k l ∈ l) → (farthest_from own j l ≡ j) ⊎ (farthest_from own j l ∈ l)
+        → (farthest_from own (cond b k j) l ≡ j) ⊎ (farthest_from own (cond b k j) l ∈ (k ∷ l))
     go true (inl e) y = inr (inl e)
     go true (inr m) y = inr (inr m)
     go false x (inl e) = inl e
     go false x (inr m) = inr (inr m)
 
 -- none is farther
-pub farthest-most : (own j : ℕ) (l : List ℕ) → apart own j ≤ apart own (farthestFrom own j l)
-unfolding farthestFrom
-farthest-most own j [] = omega arith
-farthest-most own j (k ∷ l) = go (test (ltb (apart own j) (apart own k))) (farthest-most own k l) (farthest-most own j l)
+pub farthest_most : (own j : ℕ) (l : List ℕ) → apart own j ≤ apart own (farthest_from own j l)
+unfolding farthest_from
+farthest_most own j [] = omega arith
+farthest_most own j (k ∷ l) = go (test (ltb (apart own j) (apart own k))) (farthest_most own k l) (farthest_most own j l)
   where
-    go : Test (ltb (apart own j) (apart own k)) → apart own k ≤ apart own (farthestFrom own k l) → apart own j ≤ apart own (farthestFrom own j l)
-        → apart own j ≤ apart own (farthestFrom own (cond (ltb (apart own j) (apart own k)) k j) l)
+    go : Test (ltb (apart own j) (apart own k)) → apart own k ≤ apart own (farthest_from own k l) → apart own j ≤ apart own (farthest_from own j l)
+        → apart own j ≤ apart own (farthest_from own (cond (ltb (apart own j) (apart own k)) k j) l)
     go (pass e) x y = rw e (let h = ltb-true (apart own j) (apart own k) e in omega arith)
     go (fail e) x y = rw e y
 
-pub farthest-all : (own j : ℕ) (l : List ℕ) (k : ℕ) → k ∈ l → apart own k ≤ apart own (farthestFrom own j l)
-unfolding farthestFrom
-farthest-all own j [] k m = absurd m
-farthest-all own j (i ∷ l) k (inl d) = rw d (go (test (ltb (apart own j) (apart own i))))
+pub farthest_all : (own j : ℕ) (l : List ℕ) (k : ℕ) → k ∈ l → apart own k ≤ apart own (farthest_from own j l)
+unfolding farthest_from
+farthest_all own j [] k m = absurd m
+farthest_all own j (i ∷ l) k (inl d) = rw d (go (test (ltb (apart own j) (apart own i))))
   where
-    go : Test (ltb (apart own j) (apart own i)) → apart own i ≤ apart own (farthestFrom own (cond (ltb (apart own j) (apart own i)) i j) l)
-    go (pass e) = rw e (farthest-most own i l)
-    go (fail e) = rw e (let h = ltb-false (apart own j) (apart own i) e in let g = farthest-most own j l in omega arith)
-farthest-all own j (i ∷ l) k (inr m) = farthest-all own (cond (ltb (apart own j) (apart own i)) i j) l k m
+    go : Test (ltb (apart own j) (apart own i)) → apart own i ≤ apart own (farthest_from own (cond (ltb (apart own j) (apart own i)) i j) l)
+    go (pass e) = rw e (farthest_most own i l)
+    go (fail e) = rw e (let h = ltb-false (apart own j) (apart own i) e in let g = farthest_most own j l in omega arith)
+farthest_all own j (i ∷ l) k (inr m) = farthest_all own (cond (ltb (apart own j) (apart own i)) i j) l k m
 
 -- of those equally far it is the lowest number, in a list that rises from above j
-pub farthest-low : (own j : ℕ) (l : List ℕ) → Rising plain (suc j) l → (k : ℕ) → (k ≡ j) ⊎ (k ∈ l)
-    → apart own k ≡ apart own (farthestFrom own j l) → farthestFrom own j l ≤ k
-unfolding farthestFrom
-farthest-low own j [] r k (inl d) e = omega arith
-farthest-low own j [] r k (inr m) e = absurd m
-farthest-low own j (i ∷ l) r k m e =
-    go (ltb (apart own j) (apart own i)) refl (farthest-low own i l r.1) (farthest-low own j l (lower l r.1)) m e
+pub farthest_low : (own j : ℕ) (l : List ℕ) → Rising plain (suc j) l → (k : ℕ) → (k ≡ j) ⊎ (k ∈ l)
+    → apart own k ≡ apart own (farthest_from own j l) → farthest_from own j l ≤ k
+unfolding farthest_from
+farthest_low own j [] r k (inl d) e = omega arith
+farthest_low own j [] r k (inr m) e = absurd m
+farthest_low own j (i ∷ l) r k m e =
+    go (ltb (apart own j) (apart own i)) refl (farthest_low own i l r.1) (farthest_low own j l (lower l r.1)) m e
   where
     lower : (l : List ℕ) → Rising plain (suc i) l → Rising plain (suc j) l
     lower [] q = tt
     lower (x ∷ l) q = (omega (arith, q.0, r.0), q.1)
 
     go : (b : Bool) → ltb (apart own j) (apart own i) ≡ b
-        → ((k : ℕ) → (k ≡ i) ⊎ (k ∈ l) → apart own k ≡ apart own (farthestFrom own i l) → farthestFrom own i l ≤ k)
-        → ((k : ℕ) → (k ≡ j) ⊎ (k ∈ l) → apart own k ≡ apart own (farthestFrom own j l) → farthestFrom own j l ≤ k)
-        → (k ≡ j) ⊎ (k ∈ (i ∷ l)) → apart own k ≡ apart own (farthestFrom own (cond b i j) l) → farthestFrom own (cond b i j) l ≤ k
+        → ((k : ℕ) → (k ≡ i) ⊎ (k ∈ l) → apart own k ≡ apart own (farthest_from own i l) → farthest_from own i l ≤ k)
+        → ((k : ℕ) → (k ≡ j) ⊎ (k ∈ l) → apart own k ≡ apart own (farthest_from own j l) → farthest_from own j l ≤ k)
+        → (k ≡ j) ⊎ (k ∈ (i ∷ l)) → apart own k ≡ apart own (farthest_from own (cond b i j) l) → farthest_from own (cond b i j) l ≤ k
     go true p x y (inl d) e =
-        absurd (omega (arith, ltb-true (apart own j) (apart own i) p, farthest-most own i l, ap (apart own) d, e))
+        absurd (omega (arith, ltb-true (apart own j) (apart own i) p, farthest_most own i l, ap (apart own) d, e))
     go true p x y (inr m) e = x k m e
     go false p x y (inl d) e = y k (inl d) e
     go false p x y (inr (inr m)) e = y k (inr m) e
     go false p x y (inr (inl d)) e =
         let u = ltb-false (apart own j) (apart own i) p in
-        let v = farthest-most own j l in
+        let v = farthest_most own j l in
         let w = y j (inl refl) (omega (arith, ap (apart own) d, e)) in
         omega (arith, r.0)
 
 -- and where each of a rising list is farther than j
-pub farthest-lowest : (own j : ℕ) (l : List ℕ) → Rising plain 0 l → ((k : ℕ) → k ∈ l → apart own j < apart own k) → (k : ℕ) → k ∈ l
-    → apart own k ≡ apart own (farthestFrom own j l) → farthestFrom own j l ≤ k
-unfolding farthestFrom
-farthest-lowest own j [] r f k m e = absurd m
-farthest-lowest own j (i ∷ l) r f k m e = go (ltb (apart own j) (apart own i)) (lt-ltb (apart own j) (apart own i) (f i (inl refl))) e
+pub farthest_lowest : (own j : ℕ) (l : List ℕ) → Rising plain 0 l → ((k : ℕ) → k ∈ l → apart own j < apart own k) → (k : ℕ) → k ∈ l
+    → apart own k ≡ apart own (farthest_from own j l) → farthest_from own j l ≤ k
+unfolding farthest_from
+farthest_lowest own j [] r f k m e = absurd m
+farthest_lowest own j (i ∷ l) r f k m e = go (ltb (apart own j) (apart own i)) (lt-ltb (apart own j) (apart own i) (f i (inl refl))) e
   where
-    go : (b : Bool) → b ≡ true → apart own k ≡ apart own (farthestFrom own (cond b i j) l) → farthestFrom own (cond b i j) l ≤ k
-    go true d e = farthest-low own i l r.1 k m e
+    go : (b : Bool) → b ≡ true → apart own k ≡ apart own (farthest_from own (cond b i j) l) → farthest_from own (cond b i j) l ≤ k
+    go true d e = farthest_low own i l r.1 k m e
     go false d e = let z : ◌≡◌ {A = ℕ} 0 1 = cc in absurd (omega arith)

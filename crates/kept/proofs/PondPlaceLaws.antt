@@ -7,28 +7,28 @@ use mathlib.Core.List.{List, [], ◌∷◌}
 use Prim.Native.Nat.{ℕ, zero, suc, ◌+◌, ◌-◌, ◌*◌, ◌≤◌, ◌<◌}
 use native.Mathlib.Omega.{arith}
 use lib.ListN.{length, get_or}
-use Rattle.key.specs.Around.{ring, up, isAbove, nearness, apart}
-use Rattle.key.proofs.RingLaws.{up-back}
+use Rattle.key.specs.Around.{ring, up, is_above, nearness, apart}
+use Rattle.key.proofs.RingLaws.{up_back}
 use Rattle.key.proofs.AroundLaws.{near_up, near_down, near_apart}
 use Rattle.kept.specs.Keys.{◌∈◌, Every, Rising, plain, among}
-use Rattle.kept.specs.Plain.{countBelow}
-use Rattle.kept.specs.Turned.{NotKey, goingUp, countUnder}
-use Rattle.kept.specs.Ponds.{isListed, spare, farthestFrom, dropsOf}
+use Rattle.kept.specs.Plain.{count_below}
+use Rattle.kept.specs.Turned.{NotKey, going_up, count_under}
+use Rattle.kept.specs.Ponds.{is_listed, spare, farthest_from, drops_of}
 use Rattle.kept.proofs.PutLaws.{Tri, less, same, more, tri}
-use Rattle.kept.proofs.ListLaws.{every-at, every_of, in-getD, rising-at, mem-among, among-pass, among-fail, Test, pass, fail, test}
-use Rattle.kept.proofs.SplitLaws.{rising-among}
-use Rattle.kept.proofs.TurnLaws.{going-rises, going-has, place-above, place-below, has-going}
+use Rattle.kept.proofs.ListLaws.{every_at, every_of, in_get_d, rising-at, mem-among, among-pass, among-fail, Test, pass, fail, test}
+use Rattle.kept.proofs.SplitLaws.{rising_among}
+use Rattle.kept.proofs.TurnLaws.{going-rises, going-has, place-above, place_below, has-going}
 use Rattle.kept.proofs.PlaceLaws.{turned-length}
-use Rattle.kept.proofs.PondLaws.{farthest-all, farthest-lowest}
+use Rattle.kept.proofs.PondLaws.{farthest_all, farthest_lowest}
 use Rattle.kept.proofs.PondRuleLaws.{apart_more, drops-spare, spare-some}
 
 -- ---- lists by place
 
-pub rising-less : (f : ℕ → ℕ) (b : ℕ) (l : List ℕ) (i j : ℕ) → Rising f b l → i < j → j < length l → f (get_or l i 0) < f (get_or l j 0)
-rising-less f b [] i j r h g = absurd (omega arith)
-rising-less f b (x ∷ l) i zero r h g = absurd (omega arith)
-rising-less f b (x ∷ l) zero (suc j) r h g = rising-at f (suc (f x)) (get_or l j 0) l r.1 (in-getD l j (omega arith))
-rising-less f b (x ∷ l) (suc i) (suc j) r h g = rising-less f (suc (f x)) l i j r.1 (omega arith) (omega arith)
+pub rising_less : (f : ℕ → ℕ) (b : ℕ) (l : List ℕ) (i j : ℕ) → Rising f b l → i < j → j < length l → f (get_or l i 0) < f (get_or l j 0)
+rising_less f b [] i j r h g = absurd (omega arith)
+rising_less f b (x ∷ l) i zero r h g = absurd (omega arith)
+rising_less f b (x ∷ l) zero (suc j) r h g = rising-at f (suc (f x)) (get_or l j 0) l r.1 (in_get_d l j (omega arith))
+rising_less f b (x ∷ l) (suc i) (suc j) r h g = rising_less f (suc (f x)) l i j r.1 (omega arith) (omega arith)
 
 -- a member stands at a place
 pub record Placed (k : ℕ) (l : List ℕ) : Type 0 where
@@ -44,10 +44,10 @@ placed k (j ∷ l) (inr m) = next (placed k l m)
     next : Placed k l → Placed k (j ∷ l)
     next p = record { place = suc p.place; inside = omega (arith, p.inside); there = p.there }
 
-in-among : (p : ℕ → Bool) (k : ℕ) (l : List ℕ) → k ∈ l → p k ≡ true → k ∈ among p l
-in-among p k [] m e = absurd m
-in-among p k (j ∷ l) (inl d) e = rw (among-pass p j l (rw (sym d) e)) (inl d)
-in-among p k (j ∷ l) (inr m) e = go (test (p j)) (in-among p k l m e)
+in_among : (p : ℕ → Bool) (k : ℕ) (l : List ℕ) → k ∈ l → p k ≡ true → k ∈ among p l
+in_among p k [] m e = absurd m
+in_among p k (j ∷ l) (inl d) e = rw (among-pass p j l (rw (sym d) e)) (inl d)
+in_among p k (j ∷ l) (inr m) e = go (test (p j)) (in_among p k l m e)
   where
     go : Test (p j) → k ∈ among p l → k ∈ among p (j ∷ l)
     go (pass d) n = rw (among-pass p j l d) (inr n)
@@ -56,43 +56,43 @@ in-among p k (j ∷ l) (inr m) e = go (test (p j)) (in-among p k l m e)
 -- ---- how far the keys are
 
 -- the key at a place, read up from our own key
-abbrev pub keyUp : ℕ → List ℕ → ℕ → ℕ
-keyUp own keys i = get_or (goingUp own keys) i 0
+abbrev pub key_up : ℕ → List ℕ → ℕ → ℕ
+key_up own keys i = get_or (going_up own keys) i 0
 
 module _ (own : ℕ) (o : own < ring) (keys : List ℕ) (rises : Rising plain 0 keys) (small : Every (λ (k : ℕ). k < ring) keys)
     (others : Every (NotKey own) keys) where
-  key_in : (i : ℕ) → i < length keys → keyUp own keys i ∈ keys
-  key_in i h =
-      has-going own o keys rises small (keyUp own keys i) (in-getD (goingUp own keys) i (omega (arith, turned-length (countUnder own keys) keys)))
+  key_in_lem : (i : ℕ) → i < length keys → key_up own keys i ∈ keys
+  key_in_lem i h =
+      has-going own o keys rises small (key_up own keys i) (in_get_d (going_up own keys) i (omega (arith, turned-length (count_under own keys) keys)))
 
   -- up to the point opposite the steps up, from there on the steps down
-  pub far-above : (i : ℕ) → i < length keys - countBelow own keys → apart own (keyUp own keys i) ≡ up own (keyUp own keys i)
+  pub far-above : (i : ℕ) → i < length keys - count_below own keys → apart own (key_up own keys i) ≡ up own (key_up own keys i)
   far-above i h =
-      sym (near_apart own (keyUp own keys i))
-      ∙ near_up own (keyUp own keys i) o (every-at _ (keyUp own keys i) keys small (key_in i (omega arith)))
+      sym (near_apart own (key_up own keys i))
+      ∙ near_up own (key_up own keys i) o (every_at _ (key_up own keys i) keys small (key_in_lem i (omega arith)))
       (place-above own o keys rises small others i h)
 
-  pub far-below : (i : ℕ) → length keys - countBelow own keys ≤ i → i < length keys
-      → apart own (keyUp own keys i) ≡ up (keyUp own keys i) own
+  pub far-below : (i : ℕ) → length keys - count_below own keys ≤ i → i < length keys
+      → apart own (key_up own keys i) ≡ up (key_up own keys i) own
   far-below i h g =
-      sym (near_apart own (keyUp own keys i))
-      ∙ near_down own (keyUp own keys i) o (every-at _ (keyUp own keys i) keys small (key_in i g)) (place-below own o keys rises small others i h g)
+      sym (near_apart own (key_up own keys i))
+      ∙ near_down own (key_up own keys i) o (every_at _ (key_up own keys i) keys small (key_in_lem i g)) (place_below own o keys rises small others i h g)
 
-  steps-rise : (i j : ℕ) → i < j → j < length keys → up own (keyUp own keys i) < up own (keyUp own keys j)
+  steps-rise : (i j : ℕ) → i < j → j < length keys → up own (key_up own keys i) < up own (key_up own keys j)
   steps-rise i j h g =
-      rising-less (up own) 0 (goingUp own keys) i j (going-rises own o keys rises small) h (omega (arith, turned-length (countUnder own keys) keys))
+      rising_less (up own) 0 (going_up own keys) i j (going-rises own o keys rises small) h (omega (arith, turned-length (count_under own keys) keys))
 
-  farther-above : (i j : ℕ) → i < j → j < length keys - countBelow own keys → apart own (keyUp own keys i) < apart own (keyUp own keys j)
+  farther-above : (i j : ℕ) → i < j → j < length keys - count_below own keys → apart own (key_up own keys i) < apart own (key_up own keys j)
   farther-above i j h g = omega (arith, far-above i (omega arith), far-above j g, steps-rise i j h (omega arith))
 
-  back : (i : ℕ) → i < length keys → up own (keyUp own keys i) + up (keyUp own keys i) own ≡ ring
+  back : (i : ℕ) → i < length keys → up own (key_up own keys i) + up (key_up own keys i) own ≡ ring
   back i h =
-      let m = key_in i h in
-      (up-back own (keyUp own keys i) o (every-at _ (keyUp own keys i) keys small m)
-      (λ e. every-at (NotKey own) (keyUp own keys i) keys others m (sym e))).0
+      let m = key_in_lem i h in
+      (up_back own (key_up own keys i) o (every_at _ (key_up own keys i) keys small m)
+      (λ e. every_at (NotKey own) (key_up own keys i) keys others m (sym e))).0
 
-  farther-below : (i j : ℕ) → length keys - countBelow own keys ≤ i → i < j → j < length keys
-      → apart own (keyUp own keys j) < apart own (keyUp own keys i)
+  farther-below : (i j : ℕ) → length keys - count_below own keys ≤ i → i < j → j < length keys
+      → apart own (key_up own keys j) < apart own (key_up own keys i)
   farther-below i j l h g =
       omega (arith, far-below i l (omega arith), far-below j (omega arith) g, steps-rise i j h g, back i (omega arith), back j g)
 
@@ -103,23 +103,23 @@ abbrev pub Before : ℕ → ℕ → ℕ → Type 0
 Before own k j = (apart own j < apart own k) ⊎ ((apart own j ≡ apart own k) × (k ≤ j))
 
 -- and so before one that is nearer than j
-before-nearer : (own k j i : ℕ) → apart own i < apart own j → Before own k j → Before own k i
-before-nearer own k j i l (inl h) = inl (omega arith)
-before-nearer own k j i l (inr h) = inl (omega (arith, h.0))
+before_nearer : (own k j i : ℕ) → apart own i < apart own j → Before own k j → Before own k i
+before_nearer own k j i l (inl h) = inl (omega arith)
+before_nearer own k j i l (inr h) = inl (omega (arith, h.0))
 
 module _ (first : ℕ) (owns keys : List ℕ) (ours : first ∈ owns) (rises : Rising plain 0 keys) (others : Every (λ (k : ℕ). ¬ (k ∈ owns)) keys)
     (enough : 10 * length owns < length keys) where
   not_first : (k : ℕ) → k ∈ keys → ¬ (k ≡ first)
-  not_first k m e = every-at (λ (k : ℕ). ¬ (k ∈ owns)) k keys others m (rw e ours)
+  not_first k m e = every_at (λ (k : ℕ). ¬ (k ∈ owns)) k keys others m (rw e ours)
 
-  pub goes-only : (k : ℕ) → k ∈ spare owns keys → ((j : ℕ) → j ∈ spare owns keys → Before first k j) → dropsOf first owns keys ≡ k
-  unfolding dropsOf
-  goes-only k m all = go (all (farthestFrom first first (spare owns keys)) (drops-spare first owns keys ours others rises enough))
+  pub goes-only : (k : ℕ) → k ∈ spare owns keys → ((j : ℕ) → j ∈ spare owns keys → Before first k j) → drops_of first owns keys ≡ k
+  unfolding drops_of
+  goes-only k m all = go (all (farthest_from first first (spare owns keys)) (drops-spare first owns keys ours others rises enough))
     where
-      go : Before first k (farthestFrom first first (spare owns keys)) → farthestFrom first first (spare owns keys) ≡ k
-      go (inl h) = absurd (omega (arith, farthest-all first first (spare owns keys) k m))
+      go : Before first k (farthest_from first first (spare owns keys)) → farthest_from first first (spare owns keys) ≡ k
+      go (inl h) = absurd (omega (arith, farthest_all first first (spare owns keys) k m))
       go (inr h) =
-          let l = farthest-lowest first first (spare owns keys) (rising-among _ plain 0 keys rises)
+          let l = farthest_lowest first first (spare owns keys) (rising_among _ plain 0 keys rises)
           (λ j n. apart_more first j (not_first j (mem-among _ j keys n).0)) k m (sym h.0) in
           omega (arith, h.1)
 
@@ -127,17 +127,17 @@ module _ (first : ℕ) (owns keys : List ℕ) (ours : first ∈ owns) (rises : R
 
   module _ (o : first < ring) (small : Every (λ (k : ℕ). k < ring) keys) where
     pub record Passed (u v : ℕ) : Type 0 where
-      pub up_to : u ≤ length keys - countBelow first keys
-      pub from : length keys - countBelow first keys ≤ v
+      pub up_to : u ≤ length keys - count_below first keys
+      pub from : length keys - count_below first keys ≤ v
       pub end : v ≤ length keys
-      pub listed : (i : ℕ) → u ≤ i → i < v → isListed owns keys (keyUp first keys i) ≡ true
+      pub listed : (i : ℕ) → u ≤ i → i < v → is_listed owns keys (key_up first keys i) ≡ true
 
     -- no key is our first own
     apart-all : Every (NotKey first) keys
     apart-all = every_of _ keys (λ k m. not_first k m)
 
-    spare-place : (i : ℕ) → i < length keys → isListed owns keys (keyUp first keys i) ≡ false → keyUp first keys i ∈ spare owns keys
-    spare-place i h e = in-among _ (keyUp first keys i) keys (key_in first o keys rises small apart-all i h) (ap not e)
+    spare-place : (i : ℕ) → i < length keys → is_listed owns keys (key_up first keys i) ≡ false → key_up first keys i ∈ spare owns keys
+    spare-place i h e = in_among _ (key_up first keys i) keys (key_in_lem first o keys rises small apart-all i h) (ap not e)
 
     -- the places that are in no list: one before u, v, or one behind it
     data Where (u v i : ℕ) : Type 0 where
@@ -146,7 +146,7 @@ module _ (first : ℕ) (owns keys : List ℕ) (ours : first ∈ owns) (rises : R
       next : i ≡ v → Where u v i
       higher : v < i → Where u v i
 
-    where-is : (u v : ℕ) → Passed u v → (i : ℕ) → i < length keys → isListed owns keys (keyUp first keys i) ≡ false → Where u v i
+    where-is : (u v : ℕ) → Passed u v → (i : ℕ) → i < length keys → is_listed owns keys (key_up first keys i) ≡ false → Where u v i
     where-is u v p i h e = go (tri (suc i) u) (tri i v)
       where
         go : Tri (suc i) u → Tri i v → Where u v i
@@ -157,50 +157,50 @@ module _ (first : ℕ) (owns keys : List ℕ) (ours : first ∈ owns) (rises : R
         go (more a) (same b) = next b
         go (more a) (more b) = higher b
 
-    not_listed : (k : ℕ) → k ∈ spare owns keys → (k ∈ keys) × (isListed owns keys k ≡ false)
-    not_listed k m = let n = mem-among (λ (k : ℕ). not (isListed owns keys k)) k keys m in (n.0, flip (isListed owns keys k) n.1)
+    not_listed : (k : ℕ) → k ∈ spare owns keys → (k ∈ keys) × (is_listed owns keys k ≡ false)
+    not_listed k m = let n = mem-among (λ (k : ℕ). not (is_listed owns keys k)) k keys m in (n.0, flip (is_listed owns keys k) n.1)
       where
         flip : (b : Bool) → not b ≡ true → b ≡ false
         flip true e = sym e
         flip false e = refl
 
     -- what holds of each place that is in no list holds of each spare key
-    of_places : (P : ℕ → Type 0) → ((i : ℕ) → i < length keys → isListed owns keys (keyUp first keys i) ≡ false → P (keyUp first keys i))
+    of_places : (P : ℕ → Type 0) → ((i : ℕ) → i < length keys → is_listed owns keys (key_up first keys i) ≡ false → P (key_up first keys i))
         → (k : ℕ) → k ∈ spare owns keys → P k
     of_places P f k m =
         let n = not_listed k m in
-        let q = placed k (goingUp first keys) (going-has first o keys rises small k n.0) in
-        let e : k ≡ keyUp first keys q.place = q.there in
-        rw e (f q.place (omega (arith, q.inside, turned-length (countUnder first keys) keys)) (rw e at n.1))
+        let q = placed k (going_up first keys) (going-has first o keys rises small k n.0) in
+        let e : k ≡ key_up first keys q.place = q.there in
+        rw e (f q.place (omega (arith, q.inside, turned-length (count_under first keys) keys)) (rw e at n.1))
 
-    pub below-goes : (u v : ℕ) → Passed u v → v < length keys → isListed owns keys (keyUp first keys v) ≡ false
-        → (0 < u → Before first (keyUp first keys v) (keyUp first keys (u - 1))) → dropsOf first owns keys ≡ keyUp first keys v
+    pub below-goes : (u v : ℕ) → Passed u v → v < length keys → is_listed owns keys (key_up first keys v) ≡ false
+        → (0 < u → Before first (key_up first keys v) (key_up first keys (u - 1))) → drops_of first owns keys ≡ key_up first keys v
     below-goes u v p h e b =
-        goes-only (keyUp first keys v) (spare-place v h e)
-        (of_places (Before first (keyUp first keys v)) (λ i l d. go i l (where-is u v p i l d)))
+        goes-only (key_up first keys v) (spare-place v h e)
+        (of_places (Before first (key_up first keys v)) (λ i l d. go i l (where-is u v p i l d)))
       where
-        go : (i : ℕ) → i < length keys → Where u v i → Before first (keyUp first keys v) (keyUp first keys i)
+        go : (i : ℕ) → i < length keys → Where u v i → Before first (key_up first keys v) (key_up first keys i)
         go i l (lower a) =
-            before-nearer first (keyUp first keys v) (keyUp first keys (u - 1)) (keyUp first keys i)
+            before_nearer first (key_up first keys v) (key_up first keys (u - 1)) (key_up first keys i)
             (farther-above first o keys rises small apart-all i (u - 1) (omega arith) (omega (arith, p.up_to))) (b (omega arith))
         go i l (last a) = let j : u - 1 ≡ i = omega arith in rw j at (b (omega arith))
-        go i l (next a) = inr (ap (λ (j : ℕ). apart first (keyUp first keys j)) a, let j = ap (keyUp first keys) a in omega arith)
+        go i l (next a) = inr (ap (λ (j : ℕ). apart first (key_up first keys j)) a, let j = ap (key_up first keys) a in omega arith)
         go i l (higher a) = inl (farther-below first o keys rises small apart-all v i p.from a l)
 
-    pub above-goes : (u v : ℕ) → Passed u v → 0 < u → isListed owns keys (keyUp first keys (u - 1)) ≡ false
-        → (v < length keys → Before first (keyUp first keys (u - 1)) (keyUp first keys v)) → dropsOf first owns keys ≡ keyUp first keys (u - 1)
+    pub above-goes : (u v : ℕ) → Passed u v → 0 < u → is_listed owns keys (key_up first keys (u - 1)) ≡ false
+        → (v < length keys → Before first (key_up first keys (u - 1)) (key_up first keys v)) → drops_of first owns keys ≡ key_up first keys (u - 1)
     above-goes u v p h e b =
-        goes-only (keyUp first keys (u - 1)) (spare-place (u - 1) (omega (arith, p.up_to)) e)
-        (of_places (Before first (keyUp first keys (u - 1))) (λ i l d. go i l (where-is u v p i l d)))
+        goes-only (key_up first keys (u - 1)) (spare-place (u - 1) (omega (arith, p.up_to)) e)
+        (of_places (Before first (key_up first keys (u - 1))) (λ i l d. go i l (where-is u v p i l d)))
       where
-        go : (i : ℕ) → i < length keys → Where u v i → Before first (keyUp first keys (u - 1)) (keyUp first keys i)
+        go : (i : ℕ) → i < length keys → Where u v i → Before first (key_up first keys (u - 1)) (key_up first keys i)
         go i l (lower a) = inl (farther-above first o keys rises small apart-all i (u - 1) (omega arith) (omega (arith, p.up_to)))
         go i l (last a) =
             let j : i ≡ u - 1 = omega arith in
-            inr (ap (λ (n : ℕ). apart first (keyUp first keys n)) j, let q = ap (keyUp first keys) j in omega arith)
+            inr (ap (λ (n : ℕ). apart first (key_up first keys n)) j, let q = ap (key_up first keys) j in omega arith)
         go i l (next a) = rw a (b (omega arith))
         go i l (higher a) =
-            before-nearer first (keyUp first keys (u - 1)) (keyUp first keys v) (keyUp first keys i)
+            before_nearer first (key_up first keys (u - 1)) (key_up first keys v) (key_up first keys i)
             (farther-below first o keys rises small apart-all v i p.from a l) (b (omega arith))
 
     -- they are not all in a list

@@ -12,27 +12,27 @@ use borrow.Author.Tests.{eqb-true, ne_eqb}
 use Rattle.key.specs.Around.{Side, below, above, ring, side_of, nearness, apart}
 use Rattle.key.specs.Number.{distance}
 use Rattle.key.proofs.DifferenceLaws.{distance_self, distance-zero}
-use Rattle.key.proofs.RingLaws.{Stands, stands, keys-not, up_lt, up-self, up-back}
+use Rattle.key.proofs.RingLaws.{Stands, stands, keys_not, up_lt, up_self, up_back}
 use Rattle.key.proofs.RingLaws.Stands.{round, line}
-use Rattle.key.proofs.AroundLaws.{apart-round}
+use Rattle.key.proofs.AroundLaws.{apart_round}
 use Rattle.kept.specs.Keys.{◌∈◌, has, Every, Rising, plain, among}
-use Rattle.kept.specs.Neighbours.{nearestFirst}
-use Rattle.kept.specs.Plain.{NotOwn, first_of, neighbours, neighbourList, drops}
+use Rattle.kept.specs.Neighbours.{nearest_first}
+use Rattle.kept.specs.Plain.{NotOwn, first_of, neighbours, neighbour_list, drops}
 use Rattle.kept.specs.Rules.{Order, DropRule}
-use Rattle.kept.specs.Demand3.{Plain-demand3, Plain-same-keys-same-neighbours}
-use Rattle.kept.specs.Ponds.{isListed, spare, farthestFrom, dropsOf}
-use Rattle.kept.proofs.ListLaws.{Test, pass, fail, test, every-at, every_of, rising-at, has_in, mem-among, among-pass, among-fail}
+use Rattle.kept.specs.Demand3.{PlainDemand3, PlainSameKeysSameNeighbours}
+use Rattle.kept.specs.Ponds.{is_listed, spare, farthest_from, drops_of}
+use Rattle.kept.proofs.ListLaws.{Test, pass, fail, test, every_at, every_of, rising-at, has_in, mem-among, among-pass, among-fail}
 use Rattle.kept.proofs.SplitLaws.{among_none}
-use Rattle.kept.proofs.Demand3Laws.{demand3, same-keys-same-neighbours, plain-order}
-use Rattle.kept.proofs.TurnLaws.{append_left, append_right, among-both}
-use Rattle.kept.proofs.PondLaws.{farthest-in, farthest-all}
+use Rattle.kept.proofs.Demand3Laws.{demand3, same_keys_same-neighbours, plain-order}
+use Rattle.kept.proofs.TurnLaws.{append_left, append_right, among_both}
+use Rattle.kept.proofs.PondLaws.{farthest_in, farthest_all}
 
 -- ---- how many pass
 
-among-or : (p q : ℕ → Bool) (l : List ℕ) → length (among (λ (k : ℕ). p k || q k) l) ≤ length (among p l) + length (among q l)
+among_or : (p q : ℕ → Bool) (l : List ℕ) → length (among (λ (k : ℕ). p k || q k) l) ≤ length (among p l) + length (among q l)
 unfolding among
-among-or p q [] = omega arith
-among-or p q (j ∷ l) = go (p j) (q j) (among-or p q l)
+among_or p q [] = omega arith
+among_or p q (j ∷ l) = go (p j) (q j) (among_or p q l)
   where
     go : (a b : Bool) → length (among (λ (k : ℕ). p k || q k) l) ≤ length (among p l) + length (among q l)
         → length (cond (a || b) (j ∷ among (λ (k : ℕ). p k || q k) l) (among (λ (k : ℕ). p k || q k) l))
@@ -64,34 +64,34 @@ among-has : (l keys : List ℕ) → Rising plain 0 keys → length (among (λ (k
 unfolding has
 among-has [] keys r = omega (arith, none-false keys)
 among-has (j ∷ l) keys r =
-    omega (arith, among-or (λ (k : ℕ). eqb k j) (λ (k : ℕ). has k l) keys, among_one j 0 keys r, among-has l keys r)
+    omega (arith, among_or (λ (k : ℕ). eqb k j) (λ (k : ℕ). has k l) keys, among_one j 0 keys r, among-has l keys r)
 
-list-few : (own : ℕ) (keys : List ℕ) → length (neighbourList own keys) ≤ 10
-list-few own keys =
+list_few : (own : ℕ) (keys : List ℕ) → length (neighbour_list own keys) ≤ 10
+list_few own keys =
     omega (
       arith,
       length-append (neighbours own below keys) (neighbours own above keys),
-      length-take 5 (nearestFirst (side_of own) (nearness own) below keys),
-      length-take 5 (nearestFirst (side_of own) (nearness own) above keys),
+      length-take 5 (nearest_first (side_of own) (nearness own) below keys),
+      length-take 5 (nearest_first (side_of own) (nearness own) above keys),
     )
 
-listed-few : (owns all keys : List ℕ) → Rising plain 0 keys → length (among (isListed owns all) keys) ≤ 10 * length owns
-unfolding isListed
-listed-few [] all keys r = omega (arith, none-false keys)
-listed-few (own ∷ owns) all keys r =
+listed_few : (owns all keys : List ℕ) → Rising plain 0 keys → length (among (is_listed owns all) keys) ≤ 10 * length owns
+unfolding is_listed
+listed_few [] all keys r = omega (arith, none-false keys)
+listed_few (own ∷ owns) all keys r =
     omega (
       arith,
-      among-or (λ (k : ℕ). has k (neighbourList own all)) (isListed owns all) keys,
-      among-has (neighbourList own all) keys r,
-      list-few own all,
-      listed-few owns all keys r,
+      among_or (λ (k : ℕ). has k (neighbour_list own all)) (is_listed owns all) keys,
+      among-has (neighbour_list own all) keys r,
+      list_few own all,
+      listed_few owns all keys r,
     )
 
 -- ---- the key that goes
 
 apart-line : (j k : ℕ) → (ring ≤ j) ⊎ (ring ≤ k) → apart j k ≡ ring + distance j k
 unfolding apart
-apart-line j k h = rw (keys-not h)
+apart-line j k h = rw (keys_not h)
 
 -- each other number is farther than itself
 pub apart_more : (own k : ℕ) → ¬ (k ≡ own) → apart own own < apart own k
@@ -103,10 +103,10 @@ apart_more own k d = go (stands own own) (stands own k)
 
     go : Stands own own → Stands own k → apart own own < apart own k
     go (round o h) (round p q) =
-        let m = up-back own k o q (λ e. d (sym e)) in
-        let n = up-back k own q o d in
-        omega (arith, apart-round own own o o, up-self own o, apart-round own k o q)
-    go (round o h) (line q) = omega (arith, apart-round own own o o, up_lt own own, apart-line own k q)
+        let m = up_back own k o q (λ e. d (sym e)) in
+        let n = up_back k own q o d in
+        omega (arith, apart_round own own o o, up_self own o, apart_round own k o q)
+    go (round o h) (line q) = omega (arith, apart_round own own o o, up_lt own own, apart-line own k q)
     go (line h) (round p q) = absurd (beyond h p)
     go (line h) (line q) =
         let n : ¬ (distance own k ≡ 0) = λ e. d (sym (distance-zero own k e)) in
@@ -114,71 +114,71 @@ apart_more own k d = go (stands own own) (stands own k)
 
 pub spare-some : (owns keys : List ℕ) → Rising plain 0 keys → 10 * length owns < length keys → 0 < length (spare owns keys)
 spare-some owns keys r h =
-    omega (arith, among-both (isListed owns keys) (λ (k : ℕ). not (isListed owns keys k)) keys (λ k m. refl), listed-few owns keys keys r)
+    omega (arith, among_both (is_listed owns keys) (λ (k : ℕ). not (is_listed owns keys k)) keys (λ k m. refl), listed_few owns keys keys r)
 
-first-of : (l : List ℕ) → 0 < length l → (P : Type 0) → ((k : ℕ) → k ∈ l → P) → P
-first-of [] h P f = absurd (omega arith)
-first-of (k ∷ l) h P f = f k (inl refl)
+first_of_lem : (l : List ℕ) → 0 < length l → (P : Type 0) → ((k : ℕ) → k ∈ l → P) → P
+first_of_lem [] h P f = absurd (omega arith)
+first_of_lem (k ∷ l) h P f = f k (inl refl)
 
 pub drops-spare : (first : ℕ) (owns keys : List ℕ) → first ∈ owns → Every (λ (k : ℕ). ¬ (k ∈ owns)) keys → Rising plain 0 keys
-    → 10 * length owns < length keys → dropsOf first owns keys ∈ spare owns keys
-unfolding dropsOf
-drops-spare first owns keys w a r h = go (farthest-in first first (spare owns keys))
+    → 10 * length owns < length keys → drops_of first owns keys ∈ spare owns keys
+unfolding drops_of
+drops-spare first owns keys w a r h = go (farthest_in first first (spare owns keys))
   where
-    go : (farthestFrom first first (spare owns keys) ≡ first) ⊎ (farthestFrom first first (spare owns keys) ∈ spare owns keys)
-        → farthestFrom first first (spare owns keys) ∈ spare owns keys
+    go : (farthest_from first first (spare owns keys) ≡ first) ⊎ (farthest_from first first (spare owns keys) ∈ spare owns keys)
+        → farthest_from first first (spare owns keys) ∈ spare owns keys
     go (inr m) = m
     go (inl e) =
-        first-of (spare owns keys) (spare-some owns keys r h) _
+        first_of_lem (spare owns keys) (spare-some owns keys r h) _
         (λ k m.
-        let n = mem-among (λ (k : ℕ). not (isListed owns keys k)) k keys m in
-        let d : ¬ (k ≡ first) = λ q. every-at (λ (k : ℕ). ¬ (k ∈ owns)) k keys a n.0 (rw q w) in
-        absurd (omega (arith, apart_more first k d, farthest-all first first (spare owns keys) k m, ap (apart first) e)))
+        let n = mem-among (λ (k : ℕ). not (is_listed owns keys k)) k keys m in
+        let d : ¬ (k ≡ first) = λ q. every_at (λ (k : ℕ). ¬ (k ∈ owns)) k keys a n.0 (rw q w) in
+        absurd (omega (arith, apart_more first k d, farthest_all first first (spare owns keys) k m, ap (apart first) e)))
 
-listed_has : (k own : ℕ) (s : Side) (owns keys : List ℕ) → own ∈ owns → k ∈ neighbours own s keys → isListed owns keys k ≡ true
-unfolding isListed
+listed_has : (k own : ℕ) (s : Side) (owns keys : List ℕ) → own ∈ owns → k ∈ neighbours own s keys → is_listed owns keys k ≡ true
+unfolding is_listed
 listed_has k own s [] keys w m = absurd w
-listed_has k own s (o ∷ owns) keys (inl e) m = rw (has_in k (neighbourList o keys) (side s (rw e at m))) refl
+listed_has k own s (o ∷ owns) keys (inl e) m = rw (has_in k (neighbour_list o keys) (side s (rw e at m))) refl
   where
-    side : (s : Side) → k ∈ neighbours o s keys → k ∈ neighbourList o keys
+    side : (s : Side) → k ∈ neighbours o s keys → k ∈ neighbour_list o keys
     side below m = append_left k (neighbours o below keys) (neighbours o above keys) m
     side above m = append_right k (neighbours o below keys) (neighbours o above keys) m
-listed_has k own s (o ∷ owns) keys (inr w) m = later (has k (neighbourList o keys)) (listed_has k own s owns keys w m)
+listed_has k own s (o ∷ owns) keys (inr w) m = later (has k (neighbour_list o keys)) (listed_has k own s owns keys w m)
   where
-    later : (b : Bool) → isListed owns keys k ≡ true → (b || isListed owns keys k) ≡ true
+    later : (b : Bool) → is_listed owns keys k ≡ true → (b || is_listed owns keys k) ≡ true
     later true e = refl
     later false e = e
 
-pub ponds-rule : (first : ℕ) (owns : List ℕ) (C : ℕ) → first ∈ owns → 10 * length owns ≤ C → (own : ℕ) → own ∈ owns
-    → DropRule (λ (k : ℕ). ¬ (k ∈ owns)) (side_of own) (nearness own) (dropsOf first owns) C
-ponds-rule first owns C f c own w =
+pub ponds_rule : (first : ℕ) (owns : List ℕ) (C : ℕ) → first ∈ owns → 10 * length owns ≤ C → (own : ℕ) → own ∈ owns
+    → DropRule (λ (k : ℕ). ¬ (k ∈ owns)) (side_of own) (nearness own) (drops_of first owns) C
+ponds_rule first owns C f c own w =
     record {
       held = λ keys r a n. (chosen keys r a n).0;
-      spare = λ keys r a n s m. both (listed_has (dropsOf first owns keys) own s owns keys w m) (chosen keys r a n).1;
+      spare = λ keys r a n s m. both (listed_has (drops_of first owns keys) own s owns keys w m) (chosen keys r a n).1;
     }
   where
     chosen : (keys : List ℕ) → Rising plain 0 keys → Every (λ (k : ℕ). ¬ (k ∈ owns)) keys → C < length keys
-        → (dropsOf first owns keys ∈ keys) × (not (isListed owns keys (dropsOf first owns keys)) ≡ true)
+        → (drops_of first owns keys ∈ keys) × (not (is_listed owns keys (drops_of first owns keys)) ≡ true)
     chosen keys r a n =
-        mem-among (λ (k : ℕ). not (isListed owns keys k)) (dropsOf first owns keys) keys (drops-spare first owns keys f a r (omega arith))
+        mem-among (λ (k : ℕ). not (is_listed owns keys k)) (drops_of first owns keys) keys (drops-spare first owns keys f a r (omega arith))
 
     both : {b : Bool} → b ≡ true → not b ≡ true → ⊥
     both {b} e d = let z : ◌≡◌ {A = Bool} false true = ap not (sym e) ∙ d in let y : ◌≡◌ {A = ℕ} 0 1 = cc in omega arith
 
 -- ---- demand 3 for each own key
 
-first-in : (own : List ℕ) (k : ℕ) → k ∈ own → first_of own ∈ own
-first-in [] k m = absurd m
-first-in (j ∷ own) k m = inl refl
+first_in : (own : List ℕ) (k : ℕ) → k ∈ own → first_of own ∈ own
+first_in [] k m = absurd m
+first_in (j ∷ own) k m = inl refl
 
-pub plain-rule : (own : List ℕ) (C : ℕ) → 10 * length own ≤ C → (k : ℕ) → k ∈ own → DropRule (NotOwn own) (side_of k) (nearness k) (drops own) C
-plain-rule own C c k w = ponds-rule (first_of own) own C (first-in own k w) c k w
+pub plain_rule : (own : List ℕ) (C : ℕ) → 10 * length own ≤ C → (k : ℕ) → k ∈ own → DropRule (NotOwn own) (side_of k) (nearness k) (drops own) C
+plain_rule own C c k w = ponds_rule (first_of own) own C (first_in own k w) c k w
 
-pub plain-demand3 : Plain-demand3
-plain-demand3 own C c events o k w =
-    demand3 (NotOwn own) (side_of k) (nearness k) (drops own) C (plain-order (NotOwn own) k) (plain-rule own C c k w) events o
+pub plain_demand3 : PlainDemand3
+plain_demand3 own C c events o k w =
+    demand3 (NotOwn own) (side_of k) (nearness k) (drops own) C (plain-order (NotOwn own) k) (plain_rule own C c k w) events o
 
-pub plain-same-keys-same-neighbours : Plain-same-keys-same-neighbours
-plain-same-keys-same-neighbours own C C' c c' es ds o same calm calm' k w s =
-    same-keys-same-neighbours (NotOwn own) (side_of k) (nearness k) (plain-order (NotOwn own) k) (drops own) (drops own) C C'
-    (plain-rule own C c k w) (plain-rule own C' c' k w) es ds o same calm calm' s
+pub plain-same_keys_same-neighbours : PlainSameKeysSameNeighbours
+plain-same_keys_same-neighbours own C C' c c' es ds o same calm calm' k w s =
+    same_keys_same-neighbours (NotOwn own) (side_of k) (nearness k) (plain-order (NotOwn own) k) (drops own) (drops own) C C'
+    (plain_rule own C c k w) (plain_rule own C' c' k w) es ds o same calm calm' s

@@ -8,27 +8,27 @@ use mathlib.Core.List.{List, [], ◌∷◌}
 use Prim.Native.Nat.{ℕ, suc, zero-le}
 use native.Mathlib.Omega.{arith}
 use lib.ListN.{length, take}
-use Rattle.kept.specs.Keys.{◌∈◌, Every, Rising, plain, put, without, among, inOrder}
+use Rattle.kept.specs.Keys.{◌∈◌, Every, Rising, plain, put, without, among, in_order}
 use Rattle.kept.proofs.PutLaws.{Tri, less, same, more, tri, put-nil, put-less, put-more, put_same, put-twice, put-comm, take_put, take_beyond}
-use Rattle.kept.proofs.ListLaws.{Test, pass, fail, test, every-at, every_of, among-pass, among-fail, mem-among, mem-put, put_keeps, put-there, length-put-new, rising-at, rising-put}
-use Rattle.kept.proofs.WithoutLaws.{put-without, every-without}
+use Rattle.kept.proofs.ListLaws.{Test, pass, fail, test, every_at, every_of, among-pass, among-fail, mem-among, mem-put, put_keeps, put_there, length-put-new, rising-at, rising-put}
+use Rattle.kept.proofs.WithoutLaws.{put-without, every_without}
 
 abbrev pub ranked : (ℕ → Bool) → (ℕ → ℕ) → List ℕ → List ℕ
-ranked p f l = inOrder f (among p l)
+ranked p f l = in_order f (among p l)
 
 module _ (f : ℕ → ℕ) where
-  pub mem-inOrder : (k : ℕ) (l : List ℕ) → k ∈ inOrder f l → k ∈ l
-  unfolding inOrder
+  pub mem-inOrder : (k : ℕ) (l : List ℕ) → k ∈ in_order f l → k ∈ l
+  unfolding in_order
   mem-inOrder k [] m = m
-  mem-inOrder k (j ∷ l) m = go (mem-put f k j (inOrder f l) m) (mem-inOrder k l)
+  mem-inOrder k (j ∷ l) m = go (mem-put f k j (in_order f l) m) (mem-inOrder k l)
     where
-      go : (k ≡ j) ⊎ (k ∈ inOrder f l) → (k ∈ inOrder f l → k ∈ l) → k ∈ (j ∷ l)
+      go : (k ≡ j) ⊎ (k ∈ in_order f l) → (k ∈ in_order f l → k ∈ l) → k ∈ (j ∷ l)
       go (inl e) ih = inl e
       go (inr n) ih = inr (ih n)
 
 module _ (p : ℕ → Bool) (f : ℕ → ℕ) where
   ranked-on : (k : ℕ) (l : List ℕ) → p k ≡ true → ranked p f (k ∷ l) ≡ put f k (ranked p f l)
-  unfolding inOrder
+  unfolding in_order
   ranked-on k l e = rw (among-pass p k l e)
 
   ranked-off : (k : ℕ) (l : List ℕ) → p k ≡ false → ranked p f (k ∷ l) ≡ ranked p f l
@@ -64,20 +64,20 @@ module _ (ok : ℕ → Type 0) (p : ℕ → Bool) (f : ℕ → ℕ) (apart : (a 
   mem-ranked k l m = mem-among p k l (mem-inOrder f k (among p l) m)
 
   pub ranked-rises : (l : List ℕ) → Rising f 0 (ranked p f l)
-  unfolding inOrder
+  unfolding in_order
   ranked-rises l = go (among p l)
     where
-      go : (l : List ℕ) → Rising f 0 (inOrder f l)
+      go : (l : List ℕ) → Rising f 0 (in_order f l)
       go [] = tt
-      go (j ∷ l) = rising-put f 0 j (inOrder f l) zero-le (go l)
+      go (j ∷ l) = rising-put f 0 j (in_order f l) zero-le (go l)
 
   pub ranked-mem : (k : ℕ) (l : List ℕ) → Every ok l → k ∈ l → p k ≡ true → k ∈ ranked p f l
   ranked-mem k [] a m t = absurd m
   ranked-mem k (j ∷ l) a (inl d) t =
       let u : p j ≡ true = rw d at t in
       rw (ranked-on p f j l u, d)
-      (put-there f j (ranked p f l) (every_of _ (ranked p f l)
-      (λ i m. let n = mem-ranked i l m in apart j i a.0 (every-at ok i l a.1 n.0) u n.1)))
+      (put_there f j (ranked p f l) (every_of _ (ranked p f l)
+      (λ i m. let n = mem-ranked i l m in apart j i a.0 (every_at ok i l a.1 n.0) u n.1)))
   ranked-mem k (j ∷ l) a (inr m) t = go (test (p j)) (ranked-mem k l a.1 m t)
     where
       go : Test (p j) → k ∈ ranked p f l → k ∈ ranked p f (j ∷ l)
@@ -86,7 +86,7 @@ module _ (ok : ℕ → Type 0) (p : ℕ → Bool) (f : ℕ → ℕ) (apart : (a 
 
   -- none is lost
   pub length-ranked : (b : ℕ) (l : List ℕ) → Rising plain b l → Every ok l → length (ranked p f l) ≡ length (among p l)
-  unfolding inOrder among
+  unfolding in_order among
   length-ranked b [] r a = refl
   length-ranked b (j ∷ l) r a = go (test (p j)) (length-ranked (suc j) l r.1 a.1)
     where
@@ -95,7 +95,7 @@ module _ (ok : ℕ → Type 0) (p : ℕ → Bool) (f : ℕ → ℕ) (apart : (a 
           rw (ranked-on p f j l e, among-pass p j l e)
           (length-put-new f j (ranked p f l) (every_of _ (ranked p f l)
           (λ i m g. let n = mem-ranked i l m in
-          absurd (omega (arith, rising-at plain (suc j) i l r.1 n.0, apart j i a.0 (every-at ok i l a.1 n.0) e n.1 g))))
+          absurd (omega (arith, rising-at plain (suc j) i l r.1 n.0, apart j i a.0 (every_at ok i l a.1 n.0) e n.1 g))))
           ∙ ap suc ih)
       go (fail e) ih = rw (ranked-off p f j l e, among-fail p j l e) ih
 
@@ -124,7 +124,7 @@ module _ (ok : ℕ → Type 0) (p : ℕ → Bool) (f : ℕ → ℕ) (apart : (a 
         go : Test (p d) → take n (ranked p f (without d l)) ≡ take n (ranked p f l)
         go (pass t) =
             let e : ranked p f l ≡ put f d (ranked p f (without d l)) =
-            ap (λ (x : List ℕ). ranked p f x) (sym back) ∙ ranked-put d (without d l) (every-at ok d l a m) (every-without ok d l a) t
+            ap (λ (x : List ℕ). ranked p f x) (sym back) ∙ ranked-put d (without d l) (every_at ok d l a m) (every_without ok d l a) t
             in
             rw e (sym (take_beyond f n d (ranked p f (without d l)) (rw e at out)))
         go (fail t) = ap (take n) (sym (ranked-put-off p f d (without d l) t) ∙ ap (λ (x : List ℕ). ranked p f x) back)

@@ -7,10 +7,10 @@ use mathlib.Core.List.{List, [], ◌∷◌, ◌++◌, reverse, reverse-cons, app
 use Prim.Native.Nat.{ℕ, suc, ◌+◌, ◌-◌, ◌≤◌, ◌<◌}
 use native.Mathlib.Omega.{arith}
 use lib.ListN.{length, get_or}
-use Rattle.kept.specs.Keys.{◌∈◌, Every, Rising, plain, put, without, among, inOrder, last_or}
+use Rattle.kept.specs.Keys.{◌∈◌, Every, Rising, plain, put, without, among, in_order, last_or}
 use Rattle.kept.proofs.PutLaws.{put-nil, put-more, put_same, put_front}
 use Rattle.kept.proofs.ListLaws.{Test, pass, fail, test, every_of, rising-at, rising-from, among-pass, among-fail}
-use Rattle.kept.proofs.WithoutLaws.{without-this, without_other, without-absent}
+use Rattle.kept.proofs.WithoutLaws.{without_this, without_other, without_absent}
 
 -- put, without, in a list that is split at the place -----------------------------------------------------------------------------
 
@@ -31,31 +31,31 @@ module _ (f : ℕ → ℕ) where
   pub put-held : (k : ℕ) (low high : List ℕ) → Every (λ (j : ℕ). f j < f k) low → put f k (low ++ k ∷ high) ≡ low ++ k ∷ high
   put-held k low high a = put-past k low (k ∷ high) a ∙ ap (λ (t : List ℕ). low ++ t) (put_same f k k high refl)
 
-  pub inOrder-rising : (b : ℕ) (l : List ℕ) → Rising f b l → inOrder f l ≡ l
-  unfolding inOrder
+  pub inOrder-rising : (b : ℕ) (l : List ℕ) → Rising f b l → in_order f l ≡ l
+  unfolding in_order
   inOrder-rising b [] r = refl
   inOrder-rising b (j ∷ l) r = ap (put f j) (inOrder-rising (suc (f j)) l r.1) ∙ put_front f j l r.1
 
 pub without_at : (k : ℕ) (low high : List ℕ) → Every (λ (j : ℕ). ¬ (k ≡ j)) low → ¬ (k ∈ high) → without k (low ++ k ∷ high) ≡ low ++ high
-without_at k [] high a out = without-this k k high refl ∙ without-absent k high out
+without_at k [] high a out = without_this k k high refl ∙ without_absent k high out
 without_at k (j ∷ low) high a out = without_other k j (low ++ k ∷ high) a.0 ∙ ap (λ (t : List ℕ). j ∷ t) (without_at k low high a.1 out)
 
 -- the first or the last of a rising list taken out
-pub without-first : (b k : ℕ) (l : List ℕ) → Rising plain b (k ∷ l) → without k (k ∷ l) ≡ l
-without-first b k l r = without_at k [] l tt (λ m. absurd (omega (arith, rising-at plain (suc k) k l r.1 m)))
+pub without_first : (b k : ℕ) (l : List ℕ) → Rising plain b (k ∷ l) → without k (k ∷ l) ≡ l
+without_first b k l r = without_at k [] l tt (λ m. absurd (omega (arith, rising-at plain (suc k) k l r.1 m)))
 
-pub rising-before : (f : ℕ → ℕ) (b j k : ℕ) (l m : List ℕ) → Rising f b (l ++ k ∷ m) → j ∈ l → f j < f k
-rising-before f b j k [] m r n = absurd n
-rising-before f b j k (i ∷ l) m r (inl e) = rw e (rising-at f (suc (f i)) k (l ++ k ∷ m) r.1 (in-middle l))
+pub rising_before : (f : ℕ → ℕ) (b j k : ℕ) (l m : List ℕ) → Rising f b (l ++ k ∷ m) → j ∈ l → f j < f k
+rising_before f b j k [] m r n = absurd n
+rising_before f b j k (i ∷ l) m r (inl e) = rw e (rising-at f (suc (f i)) k (l ++ k ∷ m) r.1 (in-middle l))
   where
     in-middle : (l : List ℕ) → k ∈ (l ++ k ∷ m)
     in-middle [] = inl refl
     in-middle (i ∷ l) = inr (in-middle l)
-rising-before f b j k (i ∷ l) m r (inr n) = rising-before f (suc (f i)) j k l m r.1 n
+rising_before f b j k (i ∷ l) m r (inr n) = rising_before f (suc (f i)) j k l m r.1 n
 
-pub without-last : (b k : ℕ) (l : List ℕ) → Rising plain b (l ++ (k ∷ [])) → without k (l ++ (k ∷ [])) ≡ l
-without-last b k l r =
-    without_at k l [] (every_of _ l (λ j m e. absurd (omega (arith, rising-before plain b j k l [] r m, e)))) (λ m. m) ∙ append-nil l
+pub without_last : (b k : ℕ) (l : List ℕ) → Rising plain b (l ++ (k ∷ [])) → without k (l ++ (k ∷ [])) ≡ l
+without_last b k l r =
+    without_at k l [] (every_of _ l (λ j m e. absurd (omega (arith, rising_before plain b j k l [] r m, e)))) (λ m. m) ∙ append-nil l
 
 -- the sides ---------------------------------------------------------------------------------------------------------------------
 
@@ -79,38 +79,38 @@ module _ (p : ℕ → Bool) where
   among_none [] a = refl
   among_none (j ∷ l) a = among-fail p j l a.0 ∙ among_none l a.1
 
-pub rising-among : (p : ℕ → Bool) (f : ℕ → ℕ) (b : ℕ) (l : List ℕ) → Rising f b l → Rising f b (among p l)
+pub rising_among : (p : ℕ → Bool) (f : ℕ → ℕ) (b : ℕ) (l : List ℕ) → Rising f b l → Rising f b (among p l)
 unfolding among
-rising-among p f b [] r = tt
-rising-among p f b (j ∷ l) r = go (test (p j)) (rising-among p f (suc (f j)) l r.1)
+rising_among p f b [] r = tt
+rising_among p f b (j ∷ l) r = go (test (p j)) (rising_among p f (suc (f j)) l r.1)
   where
     go : Test (p j) → Rising f (suc (f j)) (among p l) → Rising f b (among p (j ∷ l))
     go (pass e) ih = rw (among-pass p j l e) (r.0, ih)
     go (fail e) ih = rw (among-fail p j l e) (rising-from f b (suc (f j)) (among p l) (omega (arith, r.0)) ih)
 
-pub last-getD : (d : ℕ) (l : List ℕ) → 0 < length l → last_or d l ≡ get_or l (length l - 1) 0
+pub last_get_d : (d : ℕ) (l : List ℕ) → 0 < length l → last_or d l ≡ get_or l (length l - 1) 0
 unfolding last_or
-last-getD d [] h = absurd (omega arith)
-last-getD d (j ∷ []) h = refl
-last-getD d (j ∷ i ∷ l) h =
+last_get_d d [] h = absurd (omega arith)
+last_get_d d (j ∷ []) h = refl
+last_get_d d (j ∷ i ∷ l) h =
     let e : suc (suc (length l)) - 1 ≡ suc (suc (length l) - 1) = omega arith in
-    rw e (last-getD j (i ∷ l) (omega arith))
+    rw e (last_get_d j (i ∷ l) (omega arith))
 
-pub rising-raise : (f : ℕ → ℕ) (b c : ℕ) (l : List ℕ) → Rising f b l → ((k : ℕ) → k ∈ l → c ≤ f k) → Rising f c l
-rising-raise f b c [] r h = tt
-rising-raise f b c (j ∷ l) r h = (h j (inl refl), r.1)
+pub rising_raise : (f : ℕ → ℕ) (b c : ℕ) (l : List ℕ) → Rising f b l → ((k : ℕ) → k ∈ l → c ≤ f k) → Rising f c l
+rising_raise f b c [] r h = tt
+rising_raise f b c (j ∷ l) r h = (h j (inl refl), r.1)
 
-pub last-append : (d : ℕ) (l m : List ℕ) → 0 < length m → last_or d (l ++ m) ≡ last_or 0 m
+pub last_append : (d : ℕ) (l m : List ℕ) → 0 < length m → last_or d (l ++ m) ≡ last_or 0 m
 unfolding last_or
-last-append d [] [] h = absurd (omega arith)
-last-append d [] (k ∷ m) h = refl
-last-append d (j ∷ l) m h = last-append j l m h
+last_append d [] [] h = absurd (omega arith)
+last_append d [] (k ∷ m) h = refl
+last_append d (j ∷ l) m h = last_append j l m h
 
 pub last_snoc : (d k : ℕ) (l : List ℕ) → last_or d (l ++ (k ∷ [])) ≡ k
 unfolding last_or
 last_snoc d k [] = refl
 last_snoc d k (j ∷ l) = last_snoc j k l
 
-pub last-reverse : (l m : List ℕ) → 0 < length l → last_or 0 (reverse l) ≡ get_or (l ++ m) 0 0
-last-reverse [] m h = absurd (omega arith)
-last-reverse (j ∷ l) m h = ap (last_or 0) (reverse-cons j l) ∙ last_snoc 0 j (reverse l)
+pub last_reverse : (l m : List ℕ) → 0 < length l → last_or 0 (reverse l) ≡ get_or (l ++ m) 0 0
+last_reverse [] m h = absurd (omega arith)
+last_reverse (j ∷ l) m h = ap (last_or 0) (reverse-cons j l) ∙ last_snoc 0 j (reverse l)

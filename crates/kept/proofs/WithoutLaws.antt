@@ -15,57 +15,57 @@ pub without_other : (d j : ℕ) (l : List ℕ) → ¬ (d ≡ j) → without d (j
 unfolding without
 without_other d j l h = rw (ne_eqb d j h)
 
-pub without-this : (d j : ℕ) (l : List ℕ) → d ≡ j → without d (j ∷ l) ≡ without d l
+pub without_this : (d j : ℕ) (l : List ℕ) → d ≡ j → without d (j ∷ l) ≡ without d l
 unfolding without
-without-this d j l e = rw (eq-eqb d j e)
+without_this d j l e = rw (eq-eqb d j e)
 
-pub eq-or : (a b : ℕ) → (a ≡ b) ⊎ (¬ (a ≡ b))
-eq-or a b = go (tri a b)
+pub eq_or : (a b : ℕ) → (a ≡ b) ⊎ (¬ (a ≡ b))
+eq_or a b = go (tri a b)
   where
     go : Tri a b → (a ≡ b) ⊎ (¬ (a ≡ b))
     go (less h) = inr (omega arith)
     go (same e) = inl e
     go (more h) = inr (omega arith)
 
-pub without-absent : (d : ℕ) (l : List ℕ) → ¬ (d ∈ l) → without d l ≡ l
+pub without_absent : (d : ℕ) (l : List ℕ) → ¬ (d ∈ l) → without d l ≡ l
 unfolding without
-without-absent d [] out = refl
-without-absent d (j ∷ l) out = without_other d j l (λ e. out (inl e)) ∙ ap (λ (t : List ℕ). j ∷ t) (without-absent d l (λ m. out (inr m)))
+without_absent d [] out = refl
+without_absent d (j ∷ l) out = without_other d j l (λ e. out (inl e)) ∙ ap (λ (t : List ℕ). j ∷ t) (without_absent d l (λ m. out (inr m)))
 
-pub every-without : (P : ℕ → Type 0) (d : ℕ) (l : List ℕ) → Every P l → Every P (without d l)
+pub every_without : (P : ℕ → Type 0) (d : ℕ) (l : List ℕ) → Every P l → Every P (without d l)
 unfolding without
-every-without P d [] a = tt
-every-without P d (j ∷ l) a = go (eq-or d j) (every-without P d l a.1)
+every_without P d [] a = tt
+every_without P d (j ∷ l) a = go (eq_or d j) (every_without P d l a.1)
   where
     go : (d ≡ j) ⊎ (¬ (d ≡ j)) → Every P (without d l) → Every P (without d (j ∷ l))
-    go (inl e) ih = rw without-this ih
+    go (inl e) ih = rw without_this ih
     go (inr h) ih = rw without_other (a.0, ih)
 
-pub rising-without : (f : ℕ → ℕ) (b d : ℕ) (l : List ℕ) → Rising f b l → Rising f b (without d l)
+pub rising_without : (f : ℕ → ℕ) (b d : ℕ) (l : List ℕ) → Rising f b l → Rising f b (without d l)
 unfolding without
-rising-without f b d [] r = tt
-rising-without f b d (j ∷ l) r = go (eq-or d j) (rising-without f (suc (f j)) d l r.1)
+rising_without f b d [] r = tt
+rising_without f b d (j ∷ l) r = go (eq_or d j) (rising_without f (suc (f j)) d l r.1)
   where
     go : (d ≡ j) ⊎ (¬ (d ≡ j)) → Rising f (suc (f j)) (without d l) → Rising f b (without d (j ∷ l))
-    go (inl e) ih = rw without-this (rising-from f b (suc (f j)) (without d l) (omega (arith, r.0)) ih)
+    go (inl e) ih = rw without_this (rising-from f b (suc (f j)) (without d l) (omega (arith, r.0)) ih)
     go (inr h) ih = rw without_other (r.0, ih)
 
 pub length_without : (d : ℕ) (l : List ℕ) → length (without d l) ≤ length l
 unfolding without
 length_without d [] = omega arith
-length_without d (j ∷ l) = go (eq-or d j) (length_without d l)
+length_without d (j ∷ l) = go (eq_or d j) (length_without d l)
   where
     go : (d ≡ j) ⊎ (¬ (d ≡ j)) → length (without d l) ≤ length l → length (without d (j ∷ l)) ≤ suc (length l)
-    go (inl e) ih = rw without-this (omega arith)
+    go (inl e) ih = rw without_this (omega arith)
     go (inr h) ih = rw without_other (omega arith)
 
-pub shorter-without : (d : ℕ) (l : List ℕ) → d ∈ l → length (without d l) < length l
-shorter-without d [] m = absurd m
-shorter-without d (j ∷ l) (inl e) = rw without-this (omega (arith, length_without d l))
-shorter-without d (j ∷ l) (inr m) = go (eq-or d j) (shorter-without d l m)
+pub shorter_without : (d : ℕ) (l : List ℕ) → d ∈ l → length (without d l) < length l
+shorter_without d [] m = absurd m
+shorter_without d (j ∷ l) (inl e) = rw without_this (omega (arith, length_without d l))
+shorter_without d (j ∷ l) (inr m) = go (eq_or d j) (shorter_without d l m)
   where
     go : (d ≡ j) ⊎ (¬ (d ≡ j)) → length (without d l) < length l → length (without d (j ∷ l)) < suc (length l)
-    go (inl e) ih = rw without-this (omega arith)
+    go (inl e) ih = rw without_this (omega arith)
     go (inr h) ih = rw without_other (omega arith)
 
 -- a key taken out of a rising list and put in again
@@ -73,7 +73,7 @@ pub put-without : (b d : ℕ) (l : List ℕ) → Rising plain b l → d ∈ l �
 put-without b d [] r m = absurd m
 put-without b d (j ∷ l) r (inl e) =
     let out : ¬ (d ∈ l) = λ m. absurd (omega (arith, rising-at plain (suc j) d l r.1 m, e)) in
-    rw (without-this d j l e, without-absent d l out) (put_front plain d l (rw (← e) at r.1) ∙ ap (λ (t : ℕ). t ∷ l) e)
+    rw (without_this d j l e, without_absent d l out) (put_front plain d l (rw (← e) at r.1) ∙ ap (λ (t : ℕ). t ∷ l) e)
 put-without b d (j ∷ l) r (inr m) =
     let h : j < d = rising-at plain (suc j) d l r.1 m in
     let n : ¬ (d ≡ j) = omega arith in

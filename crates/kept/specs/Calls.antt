@@ -8,6 +8,6 @@ unfoldable pub run : {State Call : Type 0} → (State → Call → State) → St
 run step state [] = state
 run step state (call ∷ calls) = run step (step state call) calls
 
-unfoldable pub eventsOf : {State Call : Type 0} → (State → Call → State) → (State → Call → List Event) → State → List Call → List Event
-eventsOf step events state [] = []
-eventsOf step events state (call ∷ calls) = events state call ++ eventsOf step events (step state call) calls
+unfoldable pub events_of : {State Call : Type 0} → (State → Call → State) → (State → Call → List Event) → State → List Call → List Event
+events_of step events state [] = []
+events_of step events state (call ∷ calls) = events state call ++ events_of step events (step state call) calls

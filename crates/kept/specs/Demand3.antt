@@ -6,8 +6,8 @@
 use Rattle.std.specs.Prelude.{◌≡◌, List, [], ℕ, ◌*◌, ◌≤◌, length}
 use Rattle.kept.specs.Keys.{◌∈◌, Every, Rising, plain}
 use Rattle.key.specs.Around.{Side, side_of, nearness}
-use Rattle.kept.specs.Neighbours.{neighboursBy, IsNeighbours}
-use Rattle.kept.specs.History.{Event, keptBy, learnedAll, Learns, NoRemoval}
+use Rattle.kept.specs.Neighbours.{neighbours_by, IsNeighbours}
+use Rattle.kept.specs.History.{Event, kept_by, learned_all, Learns, NoRemoval}
 use Rattle.kept.specs.Rules.{Order, DropRule}
 use Rattle.kept.specs.Plain as Plain
 use Rattle.kept.specs.Plain.{NotOwn}
@@ -15,17 +15,17 @@ use Rattle.kept.specs.Plain.{NotOwn}
 -- what holds after the events, from an empty cache
 pub record KeysDemand3 (ok : ℕ → Type 0) (side : ℕ → Side) (near : ℕ → ℕ) (drops : List ℕ → ℕ) (C : ℕ) (events : List Event) : Type 0 where
   -- the kept keys: strictly increasing, each one that may be kept, at most C
-  pub increasing : Rising plain 0 (keptBy drops C events)
-  pub allowed : Every ok (keptBy drops C events)
-  pub fit : length (keptBy drops C events) ≤ C
+  pub increasing : Rising plain 0 (kept_by drops C events)
+  pub allowed : Every ok (kept_by drops C events)
+  pub fit : length (kept_by drops C events) ≤ C
   -- the neighbour list of each side is the nearest five of the kept keys there, or all, nearest first, each once; and no other list is
-  pub right : (s : Side) → IsNeighbours side near s (keptBy drops C events) (neighboursBy side near s (keptBy drops C events))
-  pub only : (s : Side) (l : List ℕ) → IsNeighbours side near s (keptBy drops C events) l → l ≡ neighboursBy side near s (keptBy drops C events)
+  pub right : (s : Side) → IsNeighbours side near s (kept_by drops C events) (neighbours_by side near s (kept_by drops C events))
+  pub only : (s : Side) (l : List ℕ) → IsNeighbours side near s (kept_by drops C events) l → l ≡ neighbours_by side near s (kept_by drops C events)
   -- all the keys learned, dropped ones included
-  pub all-of-them : (k : ℕ) → Learns k events → k ∈ learnedAll events
-  pub no-others : (k : ℕ) → k ∈ learnedAll events → Learns k events
+  pub all-of-them : (k : ℕ) → Learns k events → k ∈ learned_all events
+  pub no-others : (k : ℕ) → k ∈ learned_all events → Learns k events
   -- until the first removal, the same list is right among all of them
-  pub among-all : NoRemoval drops C [] events → (s : Side) → IsNeighbours side near s (learnedAll events) (neighboursBy side near s (keptBy drops C events))
+  pub among-all : NoRemoval drops C [] events → (s : Side) → IsNeighbours side near s (learned_all events) (neighbours_by side near s (kept_by drops C events))
 
 -- two sequences learn the same set of keys
 pub record SameKeys (es ds : List Event) : Type 0 where
@@ -34,27 +34,27 @@ pub record SameKeys (es ds : List Event) : Type 0 where
 
 -- the general statements ----------------------------------------------------------------------------------------------------------
 
-abbrev pub Demand3-holds : Type 1
-Demand3-holds =
+abbrev pub Demand3Holds : Type 1
+Demand3Holds =
     (ok : ℕ → Type 0) (side : ℕ → Side) (near : ℕ → ℕ) (drops : List ℕ → ℕ) (C : ℕ) → Order ok side near → DropRule ok side near drops C
     → (events : List Event) → ((k : ℕ) → Learns k events → ok k) → KeysDemand3 ok side near drops C events
 
-abbrev pub Same-keys-same-neighbours : Type 1
-Same-keys-same-neighbours =
+abbrev pub SameKeysSameNeighbours : Type 1
+SameKeysSameNeighbours =
     (ok : ℕ → Type 0) (side : ℕ → Side) (near : ℕ → ℕ) → Order ok side near
     → (drops drops' : List ℕ → ℕ) (C C' : ℕ) → DropRule ok side near drops C → DropRule ok side near drops' C'
     → (es ds : List Event) → ((k : ℕ) → Learns k es → ok k) → SameKeys es ds → NoRemoval drops C [] es → NoRemoval drops' C' [] ds
-    → (s : Side) → neighboursBy side near s (keptBy drops C es) ≡ neighboursBy side near s (keptBy drops' C' ds)
+    → (s : Side) → neighbours_by side near s (kept_by drops C es) ≡ neighbours_by side near s (kept_by drops' C' ds)
 
 -- ours ------------------------------------------------------------------------------------------------------------------------------
 
-abbrev pub Plain-demand3 : Type 0
-Plain-demand3 =
+abbrev pub PlainDemand3 : Type 0
+PlainDemand3 =
     (own : List ℕ) (C : ℕ) → 10 * length own ≤ C → (events : List Event) → ((k : ℕ) → Learns k events → NotOwn own k)
     → (k : ℕ) → k ∈ own → KeysDemand3 (NotOwn own) (side_of k) (nearness k) (Plain.drops own) C events
 
-abbrev pub Plain-same-keys-same-neighbours : Type 0
-Plain-same-keys-same-neighbours =
+abbrev pub PlainSameKeysSameNeighbours : Type 0
+PlainSameKeysSameNeighbours =
     (own : List ℕ) (C C' : ℕ) → 10 * length own ≤ C → 10 * length own ≤ C'
     → (es ds : List Event) → ((k : ℕ) → Learns k es → NotOwn own k) → SameKeys es ds
     → NoRemoval (Plain.drops own) C [] es → NoRemoval (Plain.drops own) C' [] ds

@@ -13,11 +13,11 @@ unfoldable pub trimmed : (List ℕ → ℕ) → ℕ → List ℕ → List ℕ
 trimmed drops C keys = cond (ltb C (length keys)) (without (drops keys) keys) keys
 
 -- learning k: it joins, unless held, and if there are now C + 1, one is dropped, even k
-unfoldable pub learnWith : (List ℕ → ℕ) → ℕ → List ℕ → ℕ → List ℕ
-learnWith drops C keys k = trimmed drops C (put plain k keys)
+unfoldable pub learn_with : (List ℕ → ℕ) → ℕ → List ℕ → ℕ → List ℕ
+learn_with drops C keys k = trimmed drops C (put plain k keys)
 
 unfoldable pub happen : (List ℕ → ℕ) → ℕ → List ℕ → Event → List ℕ
-happen drops C keys (learned k) = learnWith drops C keys k
+happen drops C keys (learned k) = learn_with drops C keys k
 happen drops C keys (removed k) = without k keys
 
 -- the keys kept after the events, the first event first
@@ -26,8 +26,8 @@ after drops C keys [] = keys
 after drops C keys (e ∷ es) = after drops C (happen drops C keys e) es
 
 -- from an empty cache
-abbrev pub keptBy : (List ℕ → ℕ) → ℕ → List Event → List ℕ
-keptBy drops C events = after drops C [] events
+abbrev pub kept_by : (List ℕ → ℕ) → ℕ → List Event → List ℕ
+kept_by drops C events = after drops C [] events
 
 -- every key learned, with those that were there before
 unfoldable pub gathered : List ℕ → List Event → List ℕ
@@ -35,8 +35,8 @@ gathered keys [] = keys
 gathered keys (learned k ∷ es) = gathered (put plain k keys) es
 gathered keys (removed k ∷ es) = gathered keys es
 
-abbrev pub learnedAll : List Event → List ℕ
-learnedAll events = gathered [] events
+abbrev pub learned_all : List Event → List ℕ
+learned_all events = gathered [] events
 
 -- the events learn k
 abbrev pub Learns : ℕ → List Event → Type 0
@@ -47,5 +47,5 @@ Learns k (removed j ∷ es) = Learns k es
 -- no removal: a call that would take a key out finds it not held
 abbrev pub NoRemoval : (List ℕ → ℕ) → ℕ → List ℕ → List Event → Type 0
 NoRemoval drops C keys [] = Unit {0}
-NoRemoval drops C keys (learned k ∷ es) = NoRemoval drops C (learnWith drops C keys k) es
+NoRemoval drops C keys (learned k ∷ es) = NoRemoval drops C (learn_with drops C keys k) es
 NoRemoval drops C keys (removed k ∷ es) = (¬ (k ∈ keys)) × NoRemoval drops C keys es

@@ -44,9 +44,9 @@ among p [] = []
 among p (j ∷ l) = cond (p j) (j ∷ among p l) (among p l)
 
 -- the same keys, rising by f
-unfoldable pub inOrder : (ℕ → ℕ) → List ℕ → List ℕ
-inOrder f [] = []
-inOrder f (j ∷ l) = put f j (inOrder f l)
+unfoldable pub in_order : (ℕ → ℕ) → List ℕ → List ℕ
+in_order f [] = []
+in_order f (j ∷ l) = put f j (in_order f l)
 
 -- the last of d and then the list
 unfoldable pub last_or : ℕ → List ℕ → ℕ

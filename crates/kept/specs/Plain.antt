@@ -4,8 +4,8 @@ use Rattle.std.specs.Prelude.{List, ℕ, get_or}
 use Rattle.kept.specs.Keys.{◌∈◌}
 use Rattle.kept.specs.History as H
 use Rattle.kept.specs.History.{Event}
-use Rattle.kept.specs.Ponds.{dropsOf}
-pub use Rattle.kept.specs.Listed.{countBelow, neighbours, neighbourList}
+use Rattle.kept.specs.Ponds.{drops_of}
+pub use Rattle.kept.specs.Listed.{count_below, neighbours, neighbour_list}
 
 -- which numbers may be kept: none of our own keys is ever learned
 abbrev pub NotOwn : List ℕ → ℕ → Type 0
@@ -16,10 +16,10 @@ abbrev pub first_of : List ℕ → ℕ
 first_of own = get_or own 0 0
 
 abbrev pub drops : List ℕ → List ℕ → ℕ
-drops own keys = dropsOf (first_of own) own keys
+drops own keys = drops_of (first_of own) own keys
 
 abbrev pub learn : List ℕ → ℕ → List ℕ → ℕ → List ℕ
-learn own C keys k = H.learnWith (drops own) C keys k
+learn own C keys k = H.learn_with (drops own) C keys k
 
 abbrev pub kept : List ℕ → ℕ → List Event → List ℕ
-kept own C events = H.keptBy (drops own) C events
+kept own C events = H.kept_by (drops own) C events

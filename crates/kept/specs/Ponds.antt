@@ -4,22 +4,22 @@
 use Rattle.std.specs.Prelude.{Bool, false, not, cond, ◌||◌, List, [], ◌∷◌, ℕ, ltb}
 use Rattle.key.specs.Around.{apart}
 use Rattle.kept.specs.Keys.{has, among}
-use Rattle.kept.specs.Listed.{neighbourList}
+use Rattle.kept.specs.Listed.{neighbour_list}
 
 -- is the key k in the neighbour list of one of our own keys?
-unfoldable pub isListed : List ℕ → List ℕ → ℕ → Bool
-isListed [] keys k = false
-isListed (own ∷ owns) keys k = has k (neighbourList own keys) || isListed owns keys k
+unfoldable pub is_listed : List ℕ → List ℕ → ℕ → Bool
+is_listed [] keys k = false
+is_listed (own ∷ owns) keys k = has k (neighbour_list own keys) || is_listed owns keys k
 
 -- the keys in none
 abbrev pub spare : List ℕ → List ℕ → List ℕ
-spare owns keys = among (λ (k : ℕ). not (isListed owns keys k)) keys
+spare owns keys = among (λ (k : ℕ). not (is_listed owns keys k)) keys
 
 -- of j and the keys of the list the farthest from our own, the first of those equally far
-unfoldable pub farthestFrom : ℕ → ℕ → List ℕ → ℕ
-farthestFrom own j [] = j
-farthestFrom own j (k ∷ ks) = farthestFrom own (cond (ltb (apart own j) (apart own k)) k j) ks
+unfoldable pub farthest_from : ℕ → ℕ → List ℕ → ℕ
+farthest_from own j [] = j
+farthest_from own j (k ∷ ks) = farthest_from own (cond (ltb (apart own j) (apart own k)) k j) ks
 
 -- the key that goes; our own, than which each other is farther, where each is in a list
-unfoldable pub dropsOf : ℕ → List ℕ → List ℕ → ℕ
-dropsOf first owns keys = farthestFrom first first (spare owns keys)
+unfoldable pub drops_of : ℕ → List ℕ → List ℕ → ℕ
+drops_of first owns keys = farthest_from first first (spare owns keys)

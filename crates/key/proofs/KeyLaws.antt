@@ -1,12 +1,12 @@
 -- Laws of keys in hand: four words below 2 ^ 64. Assumes nothing.
 use Rattle.std.proofs.Common.{◌≡◌, ℕ, zero, suc, ◌+◌, ◌^◌, ◌<◌, ◌≤◌, ◌↔◌, List, length, refl, ap, ◌∙◌, arith}
 use Rattle.octet.specs.Number.{Digits}
-use Rattle.octet.proofs.BigLaws.{valueBE-lt, valueBE-inj}
+use Rattle.octet.proofs.BigLaws.{value_be-lt, value_be_inj}
 use Rattle.key.specs.declared.Key.{Key}
 use Rattle.key.specs.Number.{key_at, words, number, order_of, distance}
 use Rattle.key.specs.Around.{ring}
 use Rattle.key.proofs.PlaceLaws.{part-lt}
-use Rattle.key.proofs.OrderLaws.{orderOfLists, order-lists}
+use Rattle.key.proofs.OrderLaws.{order_of_lists, order_lists}
 use Rattle.key.proofs.DifferenceLaws.{distance_self, distance-zero}
 
 -- each word is a word: what owning a key tells
@@ -26,7 +26,7 @@ fit-digits f (suc (suc (suc (suc i)))) = omega arith
 -- a key is a number of 256 bits
 pub number_lt : (k : Key) → Fit k → number k < 2 ^ 256
 unfolding number
-number_lt k f = valueBE-lt (2 ^ 64) (words k) (fit-digits f)
+number_lt k f = value_be-lt (2 ^ 64) (words k) (fit-digits f)
 
 pub number-ring : (k : Key) → Fit k → number k < ring
 unfolding ring
@@ -38,15 +38,15 @@ unfolding ring
 key-lt at s d h = part-lt 256 at 32 s (omega arith) d h
 
 -- keys stand to each other as their lists of words
-pub by-words : (x y : Key) → Fit x → Fit y → orderOfLists (words x) (words y) ≡ order_of (number x) (number y)
+pub by_words : (x y : Key) → Fit x → Fit y → order_of_lists (words x) (words y) ≡ order_of (number x) (number y)
 unfolding number
-by-words x y p q = order-lists (2 ^ 64) (words x) (words y) (fit-digits p) (fit-digits q) refl
+by_words x y p q = order_lists (2 ^ 64) (words x) (words y) (fit-digits p) (fit-digits q) refl
 
 -- keys of one number are one key
-pub number-inj : (x y : Key) → Fit x → Fit y → number x ≡ number y → x ≡ y
+pub number_inj : (x y : Key) → Fit x → Fit y → number x ≡ number y → x ≡ y
 unfolding number
-number-inj x y p q e =
-    let w : words x ≡ words y = valueBE-inj (2 ^ 64) (words x) (words y) (fit-digits p) (fit-digits q) refl e in
+number_inj x y p q e =
+    let w : words x ≡ words y = value_be_inj (2 ^ 64) (words x) (words y) (fit-digits p) (fit-digits q) refl e in
     let a : x.a ≡ y.a = cc in
     let b : x.b ≡ y.b = cc in
     let c : x.c ≡ y.c = cc in
@@ -54,8 +54,8 @@ number-inj x y p q e =
     λ i. record { a = a i; b = b i; c = c i; d = d i }
 
 -- the difference is zero exactly for a key and itself
-pub difference-zero : (x y : Key) → Fit x → Fit y → (distance (number x) (number y) ≡ 0) ↔ (x ≡ y)
-difference-zero x y p q = (
-  λ e. number-inj x y p q (distance-zero (number x) (number y) e),
+pub difference_zero : (x y : Key) → Fit x → Fit y → (distance (number x) (number y) ≡ 0) ↔ (x ≡ y)
+difference_zero x y p q = (
+  λ e. number_inj x y p q (distance-zero (number x) (number y) e),
   λ e. ap (λ (k : Key). distance (number k) (number y)) e ∙ distance_self (number y),
 )

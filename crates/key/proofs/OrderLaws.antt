@@ -4,21 +4,21 @@ use Rattle.std.proofs.Common.{◌≡◌, ℕ, suc, ◌+◌, ◌*◌, ◌^◌, �
 use native.Mathlib.Decide.{dec_lt}
 use native.Mathlib.Nat.{suc_inj}
 use lib.Arith.{digits_lt}
-use Rattle.octet.specs.Number.{Digits, valueBE}
-use Rattle.octet.proofs.BigLaws.{valueBE-lt}
+use Rattle.octet.specs.Number.{Digits, value_be}
+use Rattle.octet.proofs.BigLaws.{value_be-lt}
 use Rattle.key.specs.declared.Order.{Order}
 use Rattle.key.specs.declared.Order.TheVariants.{Less, Same, More}
 use Rattle.key.specs.Number.{order_of}
 
 -- ---- the order of two numbers
 
-pub order-less : {m n : ℕ} → m < n → order_of m n ≡ Less
+pub order_less : {m n : ℕ} → m < n → order_of m n ≡ Less
 unfolding order_of
-order-less {m} {n} h = rw (lt-ltb m n h)
+order_less {m} {n} h = rw (lt-ltb m n h)
 
-pub order-more : {m n : ℕ} → n < m → order_of m n ≡ More
+pub order_more : {m n : ℕ} → n < m → order_of m n ≡ More
 unfolding order_of
-order-more {m} {n} h = rw (le-ltb m n (omega arith), lt-ltb n m h)
+order_more {m} {n} h = rw (le-ltb m n (omega arith), lt-ltb n m h)
 
 pub order_same : {m n : ℕ} → m ≡ n → order_of m n ≡ Same
 unfolding order_of
@@ -39,57 +39,57 @@ stand m n = first (dec_lt m n) (dec_lt n m)
     first (no h) (no k) = equal (omega arith)
 
 -- the answer tells which
-pub less-is : (m n : ℕ) → order_of m n ≡ Less → m < n
-less-is m n e = by-case (stand m n)
+pub less_is : (m n : ℕ) → order_of m n ≡ Less → m < n
+less_is m n e = by-case (stand m n)
   where
     by-case : Stand m n → m < n
     by-case (below h) = h
     by-case (equal h) = let s : order_of m n ≡ Same = order_same h in let z : ◌≡◌ {A = ℕ} 0 1 = cc in omega arith
-    by-case (above h) = let s : order_of m n ≡ More = order-more h in let z : ◌≡◌ {A = ℕ} 0 1 = cc in omega arith
+    by-case (above h) = let s : order_of m n ≡ More = order_more h in let z : ◌≡◌ {A = ℕ} 0 1 = cc in omega arith
 
 pub same-is : (m n : ℕ) → order_of m n ≡ Same → m ≡ n
 same-is m n e = by-case (stand m n)
   where
     by-case : Stand m n → m ≡ n
-    by-case (below h) = let s : order_of m n ≡ Less = order-less h in let z : ◌≡◌ {A = ℕ} 0 1 = cc in omega arith
+    by-case (below h) = let s : order_of m n ≡ Less = order_less h in let z : ◌≡◌ {A = ℕ} 0 1 = cc in omega arith
     by-case (equal h) = h
-    by-case (above h) = let s : order_of m n ≡ More = order-more h in let z : ◌≡◌ {A = ℕ} 0 1 = cc in omega arith
+    by-case (above h) = let s : order_of m n ≡ More = order_more h in let z : ◌≡◌ {A = ℕ} 0 1 = cc in omega arith
 
-pub more-is : (m n : ℕ) → order_of m n ≡ More → n < m
-more-is m n e = by-case (stand m n)
+pub more_is : (m n : ℕ) → order_of m n ≡ More → n < m
+more_is m n e = by-case (stand m n)
   where
     by-case : Stand m n → n < m
-    by-case (below h) = let s : order_of m n ≡ Less = order-less h in let z : ◌≡◌ {A = ℕ} 0 1 = cc in omega arith
+    by-case (below h) = let s : order_of m n ≡ Less = order_less h in let z : ◌≡◌ {A = ℕ} 0 1 = cc in omega arith
     by-case (equal h) = let s : order_of m n ≡ Same = order_same h in let z : ◌≡◌ {A = ℕ} 0 1 = cc in omega arith
     by-case (above h) = h
 
 -- the two tests that code makes of the answer: is the first less, are they the same?
-pub test-less : (m n : ℕ) → order_of m n ≡ Less → (ltb m n ≡ true) × (eqb m n ≡ false)
-test-less m n e = let h = less-is m n e in (lt-ltb m n h, ne_eqb m n (λ q. omega arith))
+pub test_less : (m n : ℕ) → order_of m n ≡ Less → (ltb m n ≡ true) × (eqb m n ≡ false)
+test_less m n e = let h = less_is m n e in (lt-ltb m n h, ne_eqb m n (λ q. omega arith))
 
-pub test-same : (m n : ℕ) → order_of m n ≡ Same → (ltb m n ≡ false) × (eqb m n ≡ true)
-test-same m n e = let h = same-is m n e in (le-ltb m n (omega arith), eq-eqb m n h)
+pub test_same : (m n : ℕ) → order_of m n ≡ Same → (ltb m n ≡ false) × (eqb m n ≡ true)
+test_same m n e = let h = same-is m n e in (le-ltb m n (omega arith), eq-eqb m n h)
 
-pub test-more : (m n : ℕ) → order_of m n ≡ More → (ltb m n ≡ false) × (eqb m n ≡ false)
-test-more m n e = let h = more-is m n e in (le-ltb m n (omega arith), ne_eqb m n (λ q. omega arith))
+pub test_more : (m n : ℕ) → order_of m n ≡ More → (ltb m n ≡ false) × (eqb m n ≡ false)
+test_more m n e = let h = more_is m n e in (le-ltb m n (omega arith), ne_eqb m n (λ q. omega arith))
 
 -- numbers that stand alike are less alike
-pub less-alike : (m n j k : ℕ) → order_of m n ≡ order_of j k → ltb m n ≡ ltb j k
-less-alike m n j k e = by-case (stand j k)
+pub less_alike : (m n j k : ℕ) → order_of m n ≡ order_of j k → ltb m n ≡ ltb j k
+less_alike m n j k e = by-case (stand j k)
   where
     by-case : Stand j k → ltb m n ≡ ltb j k
-    by-case (below h) = (test-less m n (e ∙ order-less h)).0 ∙ sym (lt-ltb j k h)
-    by-case (equal h) = (test-same m n (e ∙ order_same h)).0 ∙ sym (le-ltb j k (omega arith))
-    by-case (above h) = (test-more m n (e ∙ order-more h)).0 ∙ sym (le-ltb j k (omega arith))
+    by-case (below h) = (test_less m n (e ∙ order_less h)).0 ∙ sym (lt-ltb j k h)
+    by-case (equal h) = (test_same m n (e ∙ order_same h)).0 ∙ sym (le-ltb j k (omega arith))
+    by-case (above h) = (test_more m n (e ∙ order_more h)).0 ∙ sym (le-ltb j k (omega arith))
 
 -- a number added to both
-order-add : (k m n : ℕ) → order_of (k + m) (k + n) ≡ order_of m n
-order-add k m n = by-case (stand m n)
+order_add : (k m n : ℕ) → order_of (k + m) (k + n) ≡ order_of m n
+order_add k m n = by-case (stand m n)
   where
     by-case : Stand m n → order_of (k + m) (k + n) ≡ order_of m n
-    by-case (below h) = order-less {m = k + m} {n = k + n} (omega arith) ∙ sym (order-less h)
+    by-case (below h) = order_less {m = k + m} {n = k + n} (omega arith) ∙ sym (order_less h)
     by-case (equal h) = order_same (ap (λ (i : ℕ). k + i) h) ∙ sym (order_same h)
-    by-case (above h) = order-more {m = k + m} {n = k + n} (omega arith) ∙ sym (order-more h)
+    by-case (above h) = order_more {m = k + m} {n = k + n} (omega arith) ∙ sym (order_more h)
 
 -- ---- one order after another
 
@@ -99,18 +99,18 @@ then Less p = Less
 then Same p = p
 then More p = More
 
-pub then-end : (o : Order) → then o Same ≡ o
-then-end Less = refl
-then-end Same = refl
-then-end More = refl
+pub then_end : (o : Order) → then o Same ≡ o
+then_end Less = refl
+then_end Same = refl
+then_end More = refl
 
-pub then-differ : (m n : ℕ) (o : Order) → (m ≡ n → ⊥) → then (order_of m n) o ≡ order_of m n
-then-differ m n o h = by-case (stand m n)
+pub then_differ : (m n : ℕ) (o : Order) → (m ≡ n → ⊥) → then (order_of m n) o ≡ order_of m n
+then_differ m n o h = by-case (stand m n)
   where
     by-case : Stand m n → then (order_of m n) o ≡ order_of m n
-    by-case (below l) = rw (order-less l)
+    by-case (below l) = rw (order_less l)
     by-case (equal e) = absurd (h e)
-    by-case (above l) = rw (order-more l)
+    by-case (above l) = rw (order_more l)
 
 pub then_equal : (m n : ℕ) (o : Order) → m ≡ n → then (order_of m n) o ≡ o
 then_equal m n o e = rw (order_same e)
@@ -120,27 +120,27 @@ pub heads : (P x y : ℕ) {X Y : ℕ} (o : Order) → X < P → Y < P → o ≡ 
 heads P x y {X} {Y} o p q r = by-case (stand x y)
   where
     by-case : Stand x y → then (order_of x y) o ≡ order_of (x * P + X) (y * P + Y)
-    by-case (below s) = rw (order-less s) (sym (order-less {m = x * P + X} {n = y * P + Y} (omega (arith, digits_lt {c = P} s p))))
-    by-case (equal e) = rw (order_same e) (r ∙ sym (order-add (x * P) X Y) ∙ ap (λ (z : ℕ). order_of (x * P + X) (z * P + Y)) e)
-    by-case (above s) = rw (order-more s) (sym (order-more {m = x * P + X} {n = y * P + Y} (omega (arith, digits_lt {c = P} s q))))
+    by-case (below s) = rw (order_less s) (sym (order_less {m = x * P + X} {n = y * P + Y} (omega (arith, digits_lt {c = P} s p))))
+    by-case (equal e) = rw (order_same e) (r ∙ sym (order_add (x * P) X Y) ∙ ap (λ (z : ℕ). order_of (x * P + X) (z * P + Y)) e)
+    by-case (above s) = rw (order_more s) (sym (order_more {m = x * P + X} {n = y * P + Y} (omega (arith, digits_lt {c = P} s q))))
 
 -- ---- lists of digits
 
 -- how one list stands to another, by the first elements that differ
-unfoldable pub orderOfLists : List ℕ → List ℕ → Order
-orderOfLists [] [] = Same
-orderOfLists [] (y ∷ ys) = Less
-orderOfLists (x ∷ xs) [] = More
-orderOfLists (x ∷ xs) (y ∷ ys) = then (order_of x y) (orderOfLists xs ys)
+unfoldable pub order_of_lists : List ℕ → List ℕ → Order
+order_of_lists [] [] = Same
+order_of_lists [] (y ∷ ys) = Less
+order_of_lists (x ∷ xs) [] = More
+order_of_lists (x ∷ xs) (y ∷ ys) = then (order_of x y) (order_of_lists xs ys)
 
 -- byte order is number order, at any equal width
-pub order-lists : (b : ℕ) (xs ys : List ℕ) → Digits b xs → Digits b ys → length xs ≡ length ys → orderOfLists xs ys ≡ order_of (valueBE b xs) (valueBE b ys)
-unfolding orderOfLists valueBE
-order-lists b [] [] h k l = sym (order_same {m = 0} {n = 0} refl)
-order-lists b [] (y ∷ ys) h k l = absurd (omega arith)
-order-lists b (x ∷ xs) [] h k l = absurd (omega arith)
-order-lists b (x ∷ xs) (y ∷ ys) h k l =
+pub order_lists : (b : ℕ) (xs ys : List ℕ) → Digits b xs → Digits b ys → length xs ≡ length ys → order_of_lists xs ys ≡ order_of (value_be b xs) (value_be b ys)
+unfolding order_of_lists value_be
+order_lists b [] [] h k l = sym (order_same {m = 0} {n = 0} refl)
+order_lists b [] (y ∷ ys) h k l = absurd (omega arith)
+order_lists b (x ∷ xs) [] h k l = absurd (omega arith)
+order_lists b (x ∷ xs) (y ∷ ys) h k l =
     let n : length xs ≡ length ys = suc_inj l in
-    let Y-lt : valueBE b ys < b ^ length xs = rw n (valueBE-lt b ys (λ i. k (suc i))) in
-    rw (sym n) (heads (b ^ length xs) x y (orderOfLists xs ys) (valueBE-lt b xs (λ i. h (suc i))) Y-lt
-    (order-lists b xs ys (λ i. h (suc i)) (λ i. k (suc i)) n))
+    let Y-lt : value_be b ys < b ^ length xs = rw n (value_be-lt b ys (λ i. k (suc i))) in
+    rw (sym n) (heads (b ^ length xs) x y (order_of_lists xs ys) (value_be-lt b xs (λ i. h (suc i))) Y-lt
+    (order_lists b xs ys (λ i. h (suc i)) (λ i. k (suc i)) n))

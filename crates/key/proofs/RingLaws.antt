@@ -3,7 +3,7 @@
 use Rattle.std.proofs.Common.{◌≡◌, ℕ, ◌+◌, ◌-◌, ◌%◌, ◌<◌, ◌≤◌, Bool, true, false, ◌&&◌, ltb, ◌⊎◌, refl, ◌∙◌, inl, inr, mod-lt, mod-eq_of_lt, arith, pow_pos, le-ltb, lt-ltb}
 use native.Mathlib.Nat.{add-mod_right}
 use native.Mathlib.Decide.{dec_le, dec_lt}
-use Rattle.key.specs.Around.{ring, half, areKeys, up}
+use Rattle.key.specs.Around.{ring, half, are_keys, up}
 
 -- ---- the ring
 
@@ -17,14 +17,14 @@ half-some = pow_pos 255
 
 -- ---- which numbers are keys
 
-pub keys-are : {j k : ℕ} → j < ring → k < ring → areKeys j k ≡ true
-unfolding areKeys
-keys-are {j} {k} h g = rw (lt-ltb j ring h, lt-ltb k ring g)
+pub keys_are : {j k : ℕ} → j < ring → k < ring → are_keys j k ≡ true
+unfolding are_keys
+keys_are {j} {k} h g = rw (lt-ltb j ring h, lt-ltb k ring g)
 
-pub keys-not : {j k : ℕ} → (ring ≤ j) ⊎ (ring ≤ k) → areKeys j k ≡ false
-unfolding areKeys
-keys-not {j} {k} (inl h) = rw (le-ltb j ring h)
-keys-not {j} {k} (inr h) = rw (le-ltb k ring h) (go (ltb j ring))
+pub keys_not : {j k : ℕ} → (ring ≤ j) ⊎ (ring ≤ k) → are_keys j k ≡ false
+unfolding are_keys
+keys_not {j} {k} (inl h) = rw (le-ltb j ring h)
+keys_not {j} {k} (inr h) = rw (le-ltb k ring h) (go (ltb j ring))
   where
     go : (b : Bool) → (b && false) ≡ false
     go true = refl
@@ -67,23 +67,23 @@ pub up_lt : (j k : ℕ) → up j k < ring
 unfolding up
 up_lt j k = mod-lt ((k + ring) - j) (omega (arith, half_twice, half-some))
 
-pub up-straight : (j k : ℕ) → j ≤ k → k < ring → up j k ≡ k - j
-up-straight j k h g = go (steps j k (omega arith) g)
+pub up_straight : (j k : ℕ) → j ≤ k → k < ring → up j k ≡ k - j
+up_straight j k h g = go (steps j k (omega arith) g)
   where
     go : Steps j k (up j k) → up j k ≡ k - j
     go (straight l e) = omega arith
     go (over l e) = absurd (omega arith)
 
-pub up-over : (j k : ℕ) → k < j → j < ring → up j k ≡ (k + ring) - j
-up-over j k h g = go (steps j k g (omega arith))
+pub up_over : (j k : ℕ) → k < j → j < ring → up j k ≡ (k + ring) - j
+up_over j k h g = go (steps j k g (omega arith))
   where
     go : Steps j k (up j k) → up j k ≡ (k + ring) - j
     go (straight l e) = absurd (omega arith)
     go (over l e) = omega arith
 
 -- there and back is once round
-pub up-back : (j k : ℕ) → j < ring → k < ring → ¬ (j ≡ k) → (up j k + up k j ≡ ring) × (0 < up j k)
-up-back j k h g d = go (steps j k h g) (steps k j g h)
+pub up_back : (j k : ℕ) → j < ring → k < ring → ¬ (j ≡ k) → (up j k + up k j ≡ ring) × (0 < up j k)
+up_back j k h g d = go (steps j k h g) (steps k j g h)
   where
     go : Steps j k (up j k) → Steps k j (up k j) → (up j k + up k j ≡ ring) × (0 < up j k)
     go (straight l e) (straight m f) = absurd (d (omega arith))
@@ -94,9 +94,9 @@ up-back j k h g d = go (steps j k h g) (steps k j g h)
 -- on from there to the end of the round
 pub up_rest : (j k : ℕ) → j < ring → k < ring → 0 < up j k → up (up j k) 0 ≡ up k j
 up_rest j k h g p =
-    let d : ¬ (j ≡ k) = λ e. omega (arith, up-straight j k (omega arith) g) in
-    let b = up-back j k h g d in
-    omega (arith, up-over (up j k) 0 p (up_lt j k))
+    let d : ¬ (j ≡ k) = λ e. omega (arith, up_straight j k (omega arith) g) in
+    let b = up_back j k h g d in
+    omega (arith, up_over (up j k) 0 p (up_lt j k))
 
 -- no step, one key
 pub up-zero : (j k : ℕ) → j < ring → k < ring → up j k ≡ 0 → j ≡ k
@@ -106,8 +106,8 @@ up-zero j k h g e = go (steps j k h g)
     go (straight l f) = omega arith
     go (over l f) = absurd (omega arith)
 
-pub up-self : (k : ℕ) → k < ring → up k k ≡ 0
-up-self k h = omega (arith, up-straight k k (omega arith) h)
+pub up_self : (k : ℕ) → k < ring → up k k ≡ 0
+up_self k h = omega (arith, up_straight k k (omega arith) h)
 
 -- as many steps from one key, or to one key: one key
 pub up_from : (own j k : ℕ) → own < ring → j < ring → k < ring → up own j ≡ up own k → j ≡ k

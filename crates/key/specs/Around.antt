@@ -17,35 +17,35 @@ unfoldable pub half : ℕ
 half = 2 ^ 255
 
 -- are both numbers keys?
-unfoldable pub areKeys : ℕ → ℕ → Bool
-areKeys j k = nat_lt j ring && nat_lt k ring
+unfoldable pub are_keys : ℕ → ℕ → Bool
+are_keys j k = nat_lt j ring && nat_lt k ring
 
 -- the steps up from the key j to the key k: (k - j) modulo 2^256
 unfoldable pub up : ℕ → ℕ → ℕ
 up j k = ((k + ring) - j) % ring
 
 -- is the key k above our own? One that is not, and is not our own, is below
-unfoldable pub isAbove : ℕ → ℕ → Bool
-isAbove own k = cond (areKeys own k) (nat_le 1 (up own k) && nat_le (up own k) half) (nat_lt own k)
+unfoldable pub is_above : ℕ → ℕ → Bool
+is_above own k = cond (are_keys own k) (nat_le 1 (up own k) && nat_le (up own k) half) (nat_lt own k)
 
 abbrev pub side_of : ℕ → ℕ → Side
-side_of own k = cond (isAbove own k) above below
+side_of own k = cond (is_above own k) above below
 
 -- how far out on its side the key k is, counted along that side: the nearer, the less
 unfoldable pub nearness : ℕ → ℕ → ℕ
-nearness own k = cond (areKeys own k) (cond (isAbove own k) (up own k) (up k own)) (ring + distance own k)
+nearness own k = cond (are_keys own k) (cond (is_above own k) (up own k) (up k own)) (ring + distance own k)
 
 -- how far two keys are apart: the shorter way round
 unfoldable pub apart : ℕ → ℕ → ℕ
-apart j k = cond (areKeys j k) (min (up j k) (up k j)) (ring + distance j k)
+apart j k = cond (are_keys j k) (min (up j k) (up k j)) (ring + distance j k)
 
 -- is the key k reached by going down from the target, the shorter way?
-unfoldable pub isDown : ℕ → ℕ → Bool
-isDown target k = cond (areKeys target k) (nat_le (up k target) (up target k)) (nat_lt k target)
+unfoldable pub is_down : ℕ → ℕ → Bool
+is_down target k = cond (are_keys target k) (nat_le (up k target) (up target k)) (nat_lt k target)
 
 -- of two keys equally far from the target, is k the one that is taken?
 unfoldable pub tie : ℕ → ℕ → ℕ → Bool
-tie target k j = isDown target k && not (isDown target j)
+tie target k j = is_down target k && not (is_down target j)
 
 -- is the key k taken before the key j as the closest to the target?
 unfoldable pub closer : ℕ → ℕ → ℕ → Bool

@@ -1,6 +1,6 @@
 -- To believe. Keys as numbers: their order and their difference. Assumes nothing.
 use Rattle.std.specs.Prelude.{ℕ, ◌-◌, ◌^◌, min, max, cond, List, [], ◌∷◌, nat_lt}
-use Rattle.octet.specs.Number.{valueBE}
+use Rattle.octet.specs.Number.{value_be}
 use Rattle.octet.specs.Part.{part}
 use Rattle.key.specs.declared.Key.{Key}
 use Rattle.key.specs.declared.Order.{Order}
@@ -8,7 +8,7 @@ use Rattle.key.specs.declared.Order.TheVariants.{Less, Same, More}
 
 -- the key whose 32 bytes stand at a place, most significant first
 abbrev pub key_at : ℕ → List ℕ → ℕ
-key_at at s = valueBE 256 (part at 32 s)
+key_at at s = value_be 256 (part at 32 s)
 
 -- the key's four words, most significant first
 abbrev pub words : Key → List ℕ
@@ -16,7 +16,7 @@ words k = k.a ∷ k.b ∷ k.c ∷ k.d ∷ []
 
 -- the number that a key in hand is
 unfoldable pub number : Key → ℕ
-number k = valueBE (2 ^ 64) (words k)
+number k = value_be (2 ^ 64) (words k)
 
 -- how the number m stands to the number n
 unfoldable pub order_of : ℕ → ℕ → Order

@@ -1,15 +1,15 @@
 // Inner functions as C can call them, so that tests run them, look at the code that the compiler makes of them and count
 // its instructions. No part of the gauge.
 ghost use Rattle.std.specs.Prelude.{◌≡◌};
-ghost use Rattle.octet.specs.Part.{same, allZero};
-ghost use Rattle.leaves.specs.Leaves.{wordOr0, closerOr2, heldOr257, closestWord};
+ghost use Rattle.octet.specs.Part.{same, all_zero};
+ghost use Rattle.leaves.specs.Leaves.{word_or0, closer_or2, held_or257, closest_word};
 
 use neighbours::Nearest;
 
 // The number of the eight bytes at a place, most significant first; 0 where they do not lie within.
 #[unsafe(no_mangle)]
 pub extern "C" fn leaves_u64(s: &[u8], at: usize) -> u64
-    ensures { result ≡ wordOr0 at s.now }
+    ensures { result ≡ word_or0 at s.now }
 {
     if s.len() < 8 {
         return 0;
@@ -31,7 +31,7 @@ pub extern "C" fn leaves_equal(a: &[u8], b: &[u8]) -> bool
 // Is each byte zero?
 #[unsafe(no_mangle)]
 pub extern "C" fn leaves_zero(s: &[u8]) -> bool
-    ensures { result ≡ allZero s.now }
+    ensures { result ≡ all_zero s.now }
 {
     octet::is_zero(s)
 }
@@ -39,7 +39,7 @@ pub extern "C" fn leaves_zero(s: &[u8]) -> bool
 // Is the key k taken before the key j as the closest to the target? 1 or 0; 2 where one of them has not 32 bytes.
 #[unsafe(no_mangle)]
 pub extern "C" fn leaves_closer(target: &[u8], k: &[u8], j: &[u8]) -> u8
-    ensures { result ≡ closerOr2 target.now k.now j.now }
+    ensures { result ≡ closer_or2 target.now k.now j.now }
 {
     if target.len() != 32 {
         return 2;
@@ -61,7 +61,7 @@ pub extern "C" fn leaves_closer(target: &[u8], k: &[u8], j: &[u8]) -> u8
 // How many records a cache holds; 257 where it is not in form, or the own slice is too short for a key.
 #[unsafe(no_mangle)]
 pub extern "C" fn leaves_form(own: &[u8], cache: &[u8]) -> usize
-    ensures { result ≡ heldOr257 own.now cache.now }
+    ensures { result ≡ held_or257 own.now cache.now }
 {
     if own.len() < 32 {
         return 257;
@@ -78,7 +78,7 @@ pub extern "C" fn leaves_form(own: &[u8], cache: &[u8]) -> usize
 // difference.
 #[unsafe(no_mangle)]
 pub extern "C" fn leaves_closest(own: &[u8], cache: &[u8], target: &[u8]) -> u64
-    ensures { result ≡ closestWord own.now cache.now target.now }
+    ensures { result ≡ closest_word own.now cache.now target.now }
 {
     let sighted = neighbours::closest_record(own, cache, &target[0..0], target);
     let nearest = sighted.nearest;

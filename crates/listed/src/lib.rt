@@ -3,8 +3,8 @@ ghost use Rattle.std.specs.Prelude.{◌≡◌, cond, ◌∷◌, map, ℕ, suc, �
 ghost use Rattle.record.specs.Record.{key_of};
 ghost use Rattle.table.specs.Rows.{rows};
 ghost use Rattle.kept.specs.Keys.{◌∈◌, Every, Rising, plain};
-ghost use Rattle.own.specs.Own.{ownKeys};
-ghost use Rattle.listed.specs.Runs.{run_of, runAt, runsOf, inOne, inRuns, Fits};
+ghost use Rattle.own.specs.Own.{own_keys};
+ghost use Rattle.listed.specs.Runs.{run_of, run_at, runs_of, in_one, in_runs, Fits};
 
 use key::Order;
 
@@ -66,10 +66,10 @@ fn run_of(own: &[u8], cache: &[u8], used: usize, record: &[u8]) -> Run
 fn run_at(own: &[u8], i: usize, a: Run, cache: &[u8], used: usize, record: &[u8]) -> Run
     requires own_len { (length own.now % 100 ≡ 0) × (i < 4) × (32 ≤ length «record».now) × (100 * used ≤ length cache.now) × (used < 999) }
     requires rising { Rising plain 0 (map key_of (rows 100 used cache.now)) }
-    requires every { Every (λ (k : ℕ). ¬ (k ∈ ownKeys own.now)) (map key_of (rows 100 used cache.now)) }
-    requires a_value { a ≡ runAt (ownKeys own.now) (key_of «record».now ∷ map key_of (rows 100 used cache.now)) 0 }
+    requires every { Every (λ (k : ℕ). ¬ (k ∈ own_keys own.now)) (map key_of (rows 100 used cache.now)) }
+    requires a_value { a ≡ run_at (own_keys own.now) (key_of «record».now ∷ map key_of (rows 100 used cache.now)) 0 }
     ensures { result
-        ≡ runAt (ownKeys own.now) (key_of «record».now ∷ map key_of (rows 100 used cache.now)) i }
+        ≡ run_at (own_keys own.now) (key_of «record».now ∷ map key_of (rows 100 used cache.now)) i }
 {
     let start = record::RECORD_LEN * i;
     if start < own.len() {
@@ -83,9 +83,9 @@ pub fn runs_of(own: &[u8], cache: &[u8], used: usize, record: &[u8]) -> Runs
     requires own_len { (length own.now % 100 ≡ 0) × (100 ≤ length own.now) × (32 ≤ length «record».now) × (100 * used ≤ length cache.now)
         × (used < 999) }
     requires rising { Rising plain 0 (map key_of (rows 100 used cache.now)) }
-    requires every { Every (λ (k : ℕ). ¬ (k ∈ ownKeys own.now)) (map key_of (rows 100 used cache.now)) }
+    requires every { Every (λ (k : ℕ). ¬ (k ∈ own_keys own.now)) (map key_of (rows 100 used cache.now)) }
     ensures { result
-        ≡ runsOf (ownKeys own.now) (key_of «record».now ∷ map key_of (rows 100 used cache.now)) }
+        ≡ runs_of (own_keys own.now) (key_of «record».now ∷ map key_of (rows 100 used cache.now)) }
 {
     let count = own.len() / record::RECORD_LEN;
     let a = run_of(&own[0..record::RECORD_LEN], cache, used, record);
@@ -98,7 +98,7 @@ pub fn runs_of(own: &[u8], cache: &[u8], used: usize, record: &[u8]) -> Runs
 // Is place x, of so many, in the neighbour list of the run's own key?
 fn in_run(total: usize, x: usize, run: Run) -> bool
     requires { (x < total) × (total < 1000) × (run.first ≤ total) × (run.below ≤ total) }
-    ensures { result ≡ inOne total x run }
+    ensures { result ≡ in_one total x run }
 {
     let i = round::wrap(total, x + (total - run.first));
     if i < total - run.below {
@@ -110,7 +110,7 @@ fn in_run(total: usize, x: usize, run: Run) -> bool
 // Is it in one of the lists?
 pub fn is_listed(total: usize, x: usize, runs: Runs) -> bool
     requires { (x < total) × (total < 1000) × Fits total runs }
-    ensures { result ≡ inRuns total x runs }
+    ensures { result ≡ in_runs total x runs }
 {
     let a = runs.a;
     if in_run(total, x, a) {

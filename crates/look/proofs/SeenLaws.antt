@@ -15,22 +15,22 @@ use Rattle.wire_fields.specs.declared.Part.TheVariants.{Here, Absent}
 use Rattle.wire_shapes.specs.declared.Shape.TheVariants.{Sized}
 use Rattle.wire_read.specs.Answers as R
 use Rattle.wire_buffer.specs.Buffer.{start_of}
-use Rattle.wire_read.specs.Answers.{readIn}
+use Rattle.wire_read.specs.Answers.{read_in}
 use Rattle.wire_read.specs.declared.Incoming.{Incoming}
 use Rattle.wire.proofs.StandLaws.{Fact, Stand, after, sized-length}
 use Rattle.wire.proofs.ShownLaws.{of-each}
-use Rattle.look.specs.Seen.{size_of, seenAs, look_of}
+use Rattle.look.specs.Seen.{size_of, seen_as, look_of}
 use Rattle.look.specs.declared.Look.{Look}
 
 -- ---- of the places found
 
 -- the place of field number j
-fact-at : (j : ℕ) (k₀ : Kind) (ks : List Kind) (d : List ℕ) (i : ℕ) (ps : List Part) → j < length ks → Stand ks d i ps
+fact_at : (j : ℕ) (k₀ : Kind) (ks : List Kind) (d : List ℕ) (i : ℕ) (ps : List Part) → j < length ks → Stand ks d i ps
     → (m : ℕ) × Fact (get_or ks j k₀) d m (get_or ps j Absent)
-fact-at j k₀ [] d i ps h w = absurd (omega arith)
-fact-at j k₀ (k ∷ ks) d i [] h w = absurd w
-fact-at zero k₀ (k ∷ ks) d i (p ∷ ps) h w = (i, w.0)
-fact-at (suc j) k₀ (k ∷ ks) d i (p ∷ ps) h w = fact-at j k₀ ks d (after k i p) ps (omega arith) w.1
+fact_at j k₀ [] d i ps h w = absurd (omega arith)
+fact_at j k₀ (k ∷ ks) d i [] h w = absurd w
+fact_at zero k₀ (k ∷ ks) d i (p ∷ ps) h w = (i, w.0)
+fact_at (suc j) k₀ (k ∷ ks) d i (p ∷ ps) h w = fact_at j k₀ ks d (after k i p) ps (omega arith) w.1
 
 module _ (d : List ℕ) where
   abbrev Inside : Part → Type 0
@@ -42,8 +42,8 @@ module _ (d : List ℕ) where
 
   inside-at : (j : ℕ) (ks : List Kind) (ps : List Part) → j < length ks → Stand ks d 12 ps → Inside (get_or ps j Absent)
   inside-at j ks ps h w =
-      let (m, f) = fact-at j K.ackedKind ks d 12 ps h w in
-      fact-inside (get_or ks j K.ackedKind) m (get_or ps j Absent) f
+      let (m, f) = fact_at j K.acked_kind ks d 12 ps h w in
+      fact-inside (get_or ks j K.acked_kind) m (get_or ps j Absent) f
 
   -- a field of a fixed size, that must be there
   sized_inside : (n : ℕ) (padded : Bool) (size m : ℕ) (p : Part) → Fact (must n padded (Sized size) []) d m p → start_of p + size ≤ length d
@@ -62,60 +62,60 @@ module _ (d : List ℕ) (n : ℕ) (within : length d ≤ 1232 → length d ≤ n
   Tells a = Told n (look_of a)
 
   module _ (h : length d ≤ n) where
-    solicit-told : (ps : List Part) → Stand K.solicitKinds d 12 ps → Tells (R.solicitShown d ps)
+    solicit-told : (ps : List Part) → Stand K.solicit_kinds d 12 ps → Tells (R.solicit_shown d ps)
     unfolding look_of
     solicit-told ps w =
-        let a = inside-at d 0 K.solicitKinds ps (omega arith) w in
-        let (m, f) = fact-at 1 K.ackedKind K.solicitKinds d 12 ps (omega arith) w in
+        let a = inside-at d 0 K.solicit_kinds ps (omega arith) w in
+        let (m, f) = fact_at 1 K.acked_kind K.solicit_kinds d 12 ps (omega arith) w in
         let b = sized_inside d 0x92 false 20 m (get_or ps 1 Absent) f in
         (omega arith, omega arith, omega arith, omega arith)
 
-    advertise-told : (ps : List Part) → Stand K.advertiseKinds d 12 ps → Tells (R.advertiseShown d ps)
+    advertise-told : (ps : List Part) → Stand K.advertise_kinds d 12 ps → Tells (R.advertise_shown d ps)
     unfolding look_of
     advertise-told ps w =
-        let (m, f) = fact-at 2 K.ackedKind K.advertiseKinds d 12 ps (omega arith) w in
+        let (m, f) = fact_at 2 K.acked_kind K.advertise_kinds d 12 ps (omega arith) w in
         let b = sized_inside d 0x92 false 20 m (get_or ps 2 Absent) f in
         (omega arith, omega arith, omega arith, omega arith)
 
-    request-told : (ps : List Part) → Stand K.requestKinds d 12 ps → Tells (R.requestShown d ps)
+    request-told : (ps : List Part) → Stand K.request_kinds d 12 ps → Tells (R.request_shown d ps)
     unfolding look_of
     request-told ps w =
-        let (m, f) = fact-at 2 K.ackedKind K.requestKinds d 12 ps (omega arith) w in
+        let (m, f) = fact_at 2 K.acked_kind K.request_kinds d 12 ps (omega arith) w in
         let b = sized_inside d 0x93 false 16 m (get_or ps 2 Absent) f in
         (omega arith, omega arith, omega arith, omega arith)
 
-    flood-told : (ps : List Part) → Stand K.floodKinds d 12 ps → Tells (R.floodShown d ps)
+    flood-told : (ps : List Part) → Stand K.flood_kinds d 12 ps → Tells (R.flood_shown d ps)
     unfolding look_of
     flood-told ps w =
-        let a = inside-at d 3 K.floodKinds ps (omega arith) w in
-        let b = inside-at d 4 K.floodKinds ps (omega arith) w in
+        let a = inside-at d 3 K.flood_kinds ps (omega arith) w in
+        let b = inside-at d 4 K.flood_kinds ps (omega arith) w in
         (omega arith, omega arith, omega arith, omega arith)
 
-    inquire-told : (ps : List Part) → Stand K.inquireKinds d 12 ps → Tells (R.inquireShown d ps)
+    inquire-told : (ps : List Part) → Stand K.inquire_kinds d 12 ps → Tells (R.inquire_shown d ps)
     unfolding look_of
     inquire-told ps w =
-        let a = inside-at d 2 K.inquireKinds ps (omega arith) w in
+        let a = inside-at d 2 K.inquire_kinds ps (omega arith) w in
         (omega arith, omega arith, omega arith, omega arith)
 
-    authority-told : (ps : List Part) → Stand K.authorityKinds d 12 ps → Tells (R.authorityShown d ps)
+    authority-told : (ps : List Part) → Stand K.authority_kinds d 12 ps → Tells (R.authority_shown d ps)
     unfolding look_of
     authority-told ps w =
-        let a = subst (Inside d) (sym (get_or-drop 2 ps 5 Absent)) (inside-at d 7 K.authorityKinds ps (omega arith) w) in
-        let b = subst (Inside d) (sym (get_or-drop 2 ps 6 Absent)) (inside-at d 8 K.authorityKinds ps (omega arith) w) in
+        let a = subst (Inside d) (sym (get_or-drop 2 ps 5 Absent)) (inside-at d 7 K.authority_kinds ps (omega arith) w) in
+        let b = subst (Inside d) (sym (get_or-drop 2 ps 6 Absent)) (inside-at d 8 K.authority_kinds ps (omega arith) w) in
         (omega arith, omega arith, omega arith, omega arith)
 
-    lookup-told : (ps : List Part) → Stand K.lookupKinds d 12 ps → Tells (R.lookupShown d ps)
+    lookup-told : (ps : List Part) → Stand K.lookup_kinds d 12 ps → Tells (R.lookup_shown d ps)
     unfolding look_of
     lookup-told ps w =
-        let a = inside-at d 3 K.lookupKinds ps (omega arith) w in
-        let (m, f) = fact-at 1 K.ackedKind K.lookupKinds d 12 ps (omega arith) w in
+        let a = inside-at d 3 K.lookup_kinds ps (omega arith) w in
+        let (m, f) = fact_at 1 K.acked_kind K.lookup_kinds d 12 ps (omega arith) w in
         let b = sized_inside d 0x38 false 32 m (get_or ps 1 Absent) f in
         (omega arith, omega arith, omega arith, omega arith)
 
-  zeros : (m : ℕ) → Told n (seenAs m 0 0 0 Absent Absent Absent Absent)
+  zeros : (m : ℕ) → Told n (seen_as m 0 0 0 Absent Absent Absent Absent)
   zeros m = (omega arith, omega arith, omega arith, omega arith)
 
-  told : (major : ℕ) → Tells (readIn d major)
+  told : (major : ℕ) → Tells (read_in d major)
   unfolding look_of
   told major =
       of-each Tells d zeros
@@ -132,8 +132,8 @@ module _ (d : List ℕ) (n : ℕ) (within : length d ≤ 1232 → length d ≤ n
       major
 
 -- every field told stands within the datagram
-pub look-within : (d : List ℕ) (major : ℕ) → Told (length d) (look_of (readIn d major))
-look-within d major = told d (length d) (λ h. omega arith) major
+pub look_within : (d : List ℕ) (major : ℕ) → Told (length d) (look_of (read_in d major))
+look_within d major = told d (length d) (λ h. omega arith) major
 
-pub look-small : (d : List ℕ) (major : ℕ) → Told 1232 (look_of (readIn d major))
-look-small d major = told d 1232 (λ h. h) major
+pub look_small : (d : List ℕ) (major : ℕ) → Told 1232 (look_of (read_in d major))
+look_small d major = told d 1232 (λ h. h) major

@@ -8,11 +8,11 @@ use Rattle.wire_buffer.specs.Buffer.{start_of}
 use Rattle.wire_read.specs.declared.Incoming.{Incoming}
 use Rattle.wire_read.specs.declared.Incoming.TheVariants as M
 use Rattle.wire_shapes.specs.Shapes.{Kind}
-use Rattle.wire_fields.specs.Kinds.{authorityKinds}
-use Rattle.wire_fields.specs.Reading.{fieldsAs}
-use Rattle.wire_fields.specs.Refusals.{foundOf}
+use Rattle.wire_fields.specs.Kinds.{authority_kinds}
+use Rattle.wire_fields.specs.Reading.{fields_as}
+use Rattle.wire_fields.specs.Refusals.{found_of}
 use Rattle.wire_fields.proofs.RefusalLaws.{gated}
-use Rattle.wire_read.specs.Answers.{isHere, incomingOf}
+use Rattle.wire_read.specs.Answers.{is_here, incoming_of}
 use Rattle.look.specs.declared.Look.{Look}
 use Rattle.look.specs.declared.Brief.{Brief}
 
@@ -22,8 +22,8 @@ size_of (Here s l) = l
 size_of Absent = 0
 
 -- number; type, message ID, acked ID; place and length of the CPA or revoke CPA, of the nonce, of the route entry, of the target key
-abbrev pub seenAs : (number kind id acked : ℕ) (cpa nonce entry target : Part) → Look
-seenAs number kind id acked cpa nonce entry target =
+abbrev pub seen_as : (number kind id acked : ℕ) (cpa nonce entry target : Part) → Look
+seen_as number kind id acked cpa nonce entry target =
     record {
       number = number;
       kind = kind;
@@ -41,37 +41,37 @@ seenAs number kind id acked cpa nonce entry target =
 
 -- a hashed nonce has 20 bytes, a REQUEST's nonce 16, a key 32
 unfoldable pub look_of : Incoming → Look
-look_of (M.Refused n) = seenAs n 0 0 0 Absent Absent Absent Absent
-look_of (M.Solicit m) = seenAs 0 1 m.head.id 0 Absent (Here m.nonce 20) m.entry Absent
-look_of (M.Advertise m) = seenAs 0 2 m.head.id m.acked Absent (Here m.nonce 20) Absent Absent
-look_of (M.Request m) = seenAs 0 3 m.head.id 0 Absent (Here m.nonce 16) Absent Absent
-look_of (M.Flood m) = seenAs 0 4 m.head.id 0 m.revoke Absent m.entry Absent
-look_of (M.Inquire m) = seenAs 0 7 m.head.id 0 Absent m.nonce Absent Absent
-look_of (M.Authority m) = seenAs 0 8 m.head.id m.acked m.fields.cpa Absent m.fields.entry Absent
-look_of (M.Ack m) = seenAs 0 9 m.head.id m.acked Absent Absent Absent Absent
-look_of (M.Lookup m) = seenAs 0 11 m.head.id 0 Absent Absent m.entry (Here m.target 32)
+look_of (M.Refused n) = seen_as n 0 0 0 Absent Absent Absent Absent
+look_of (M.Solicit m) = seen_as 0 1 m.head.id 0 Absent (Here m.nonce 20) m.entry Absent
+look_of (M.Advertise m) = seen_as 0 2 m.head.id m.acked Absent (Here m.nonce 20) Absent Absent
+look_of (M.Request m) = seen_as 0 3 m.head.id 0 Absent (Here m.nonce 16) Absent Absent
+look_of (M.Flood m) = seen_as 0 4 m.head.id 0 m.revoke Absent m.entry Absent
+look_of (M.Inquire m) = seen_as 0 7 m.head.id 0 Absent m.nonce Absent Absent
+look_of (M.Authority m) = seen_as 0 8 m.head.id m.acked m.fields.cpa Absent m.fields.entry Absent
+look_of (M.Ack m) = seen_as 0 9 m.head.id m.acked Absent Absent Absent Absent
+look_of (M.Lookup m) = seen_as 0 11 m.head.id 0 Absent Absent m.entry (Here m.target 32)
 
 -- what calls want of a message besides: a validate key's place, a flag, place and length of a path
 abbrev pub briefed : Look → ℕ → Bool → ℕ → ℕ → Brief
 briefed seen validate flag path size = record { seen = seen; validate = validate; flag = flag; path = path; size = size }
 
-unfoldable pub briefOf : Incoming → Brief
-briefOf (M.Refused n) = briefed (look_of (M.Refused n)) 0 false 0 0
-briefOf (M.Solicit m) = briefed (look_of (M.Solicit m)) 0 false 0 0
-briefOf (M.Advertise m) = briefed (look_of (M.Advertise m)) 0 false 0 0
-briefOf (M.Request m) = briefed (look_of (M.Request m)) 0 false 0 0
-briefOf (M.Flood m) = briefed (look_of (M.Flood m)) m.validate m.d 0 0
-briefOf (M.Inquire m) = briefed (look_of (M.Inquire m)) m.validate false 0 0
-briefOf (M.Authority m) = briefed (look_of (M.Authority m)) 0 (isHere m.fields.cpa) 0 0
-briefOf (M.Ack m) = briefed (look_of (M.Ack m)) 0 m.n 0 0
-briefOf (M.Lookup m) = briefed (look_of (M.Lookup m)) 0 false (start_of m.path) (size_of m.path)
+unfoldable pub brief_of : Incoming → Brief
+brief_of (M.Refused n) = briefed (look_of (M.Refused n)) 0 false 0 0
+brief_of (M.Solicit m) = briefed (look_of (M.Solicit m)) 0 false 0 0
+brief_of (M.Advertise m) = briefed (look_of (M.Advertise m)) 0 false 0 0
+brief_of (M.Request m) = briefed (look_of (M.Request m)) 0 false 0 0
+brief_of (M.Flood m) = briefed (look_of (M.Flood m)) m.validate m.d 0 0
+brief_of (M.Inquire m) = briefed (look_of (M.Inquire m)) m.validate false 0 0
+brief_of (M.Authority m) = briefed (look_of (M.Authority m)) 0 (is_here m.fields.cpa) 0 0
+brief_of (M.Ack m) = briefed (look_of (M.Ack m)) 0 m.n 0 0
+brief_of (M.Lookup m) = briefed (look_of (M.Lookup m)) 0 false (start_of m.path) (size_of m.path)
 
 -- what the reader of a type gives, and that of an AUTHORITY
-abbrev pub readAs : ℕ → List Kind → List ℕ → Incoming
-readAs t ks d = incomingOf d (foundOf t (fieldsAs t ks d))
+abbrev pub read_as : ℕ → List Kind → List ℕ → Incoming
+read_as t ks d = incoming_of d (found_of t (fields_as t ks d))
 
-abbrev pub authorityRead : List ℕ → Incoming
-authorityRead d = incomingOf d (gated 8 d (foundOf 8 (fieldsAs 8 authorityKinds d)))
+abbrev pub authority_read : List ℕ → Incoming
+authority_read d = incoming_of d (gated 8 d (found_of 8 (fields_as 8 authority_kinds d)))
 
 -- the four fields told stand within 1,232 bytes
 abbrev pub Small : Look → Type 0

@@ -1,11 +1,11 @@
 // A message read without acting on it, as the radio program sees it: its numbers, and where in the datagram those
 // fields stand that the program must judge or sign.
 ghost use Rattle.std.specs.Prelude.{◌≡◌, ◌+◌, ◌≤◌, length};
-ghost use Rattle.wire_fields.specs.Kinds.{solicitKinds, advertiseKinds, requestKinds, floodKinds, inquireKinds, ackKinds, lookupKinds};
+ghost use Rattle.wire_fields.specs.Kinds.{solicit_kinds, advertise_kinds, request_kinds, flood_kinds, inquire_kinds, ack_kinds, lookup_kinds};
 ghost use Rattle.wire_buffer.specs.Buffer.{start_of};
-ghost use Rattle.wire_read.specs.Answers.{isHere, readIn};
+ghost use Rattle.wire_read.specs.Answers.{is_here, read_in};
 ghost use Rattle.wire_read.specs.declared.Incoming.TheVariants.{Refused};
-ghost use Rattle.look.specs.Seen.{size_of, seenAs, look_of, briefOf, readAs, authorityRead, Small};
+ghost use Rattle.look.specs.Seen.{size_of, seen_as, look_of, brief_of, read_as, authority_read, Small};
 
 use wire_fields::Part;
 use wire_read::Incoming;
@@ -64,7 +64,7 @@ fn seen_as(
 ) -> Look
     requires { (start_of cpa + size_of cpa ≤ 1232) × (start_of nonce + size_of nonce ≤ 1232)
         × (start_of entry + size_of entry ≤ 1232) × (start_of target + size_of target ≤ 1232) }
-    ensures { result ≡ seenAs number kind id acked cpa nonce entry target }
+    ensures { result ≡ seen_as number kind id acked cpa nonce entry target }
 {
     Look {
         number,
@@ -114,7 +114,7 @@ fn bytes_of(p: Part) -> usize
 
 // What is told of a refusal.
 fn refused(number: u8) -> Brief
-    ensures { result ≡ briefOf (Refused number) }
+    ensures { result ≡ brief_of (Refused number) }
 {
     let none = Part::Absent;
     let seen = seen_as(number as u32, 0, 0, 0, none, none, none, none);
@@ -129,7 +129,7 @@ fn refused(number: u8) -> Brief
 
 // Whether a field is there.
 fn is_here(p: Part) -> bool
-    ensures { result ≡ isHere p }
+    ensures { result ≡ is_here p }
 {
     if let Part::Here(_, _) = p {
         true
@@ -140,8 +140,8 @@ fn is_here(p: Part) -> bool
 
 // Of each message, where its fields are told within the datagram.
 fn brief_solicit(datagram: &[u8]) -> Brief
-    requires { (12 ≤ length datagram.now) × Small (look_of (readAs 1 solicitKinds datagram.now)) }
-    ensures { result ≡ briefOf (readAs 1 solicitKinds datagram.now) }
+    requires { (12 ≤ length datagram.now) × Small (look_of (read_as 1 solicit_kinds datagram.now)) }
+    ensures { result ≡ brief_of (read_as 1 solicit_kinds datagram.now) }
 {
     let none = Part::Absent;
     let message = wire_read::read_solicit(datagram);
@@ -169,8 +169,8 @@ fn brief_solicit(datagram: &[u8]) -> Brief
 }
 
 fn brief_advertise(datagram: &[u8]) -> Brief
-    requires { (12 ≤ length datagram.now) × Small (look_of (readAs 2 advertiseKinds datagram.now)) }
-    ensures { result ≡ briefOf (readAs 2 advertiseKinds datagram.now) }
+    requires { (12 ≤ length datagram.now) × Small (look_of (read_as 2 advertise_kinds datagram.now)) }
+    ensures { result ≡ brief_of (read_as 2 advertise_kinds datagram.now) }
 {
     let none = Part::Absent;
     let message = wire_read::read_advertise(datagram);
@@ -197,8 +197,8 @@ fn brief_advertise(datagram: &[u8]) -> Brief
 }
 
 fn brief_request(datagram: &[u8]) -> Brief
-    requires { (12 ≤ length datagram.now) × Small (look_of (readAs 3 requestKinds datagram.now)) }
-    ensures { result ≡ briefOf (readAs 3 requestKinds datagram.now) }
+    requires { (12 ≤ length datagram.now) × Small (look_of (read_as 3 request_kinds datagram.now)) }
+    ensures { result ≡ brief_of (read_as 3 request_kinds datagram.now) }
 {
     let none = Part::Absent;
     let message = wire_read::read_request(datagram);
@@ -225,8 +225,8 @@ fn brief_request(datagram: &[u8]) -> Brief
 }
 
 fn brief_flood(datagram: &[u8]) -> Brief
-    requires { (12 ≤ length datagram.now) × Small (look_of (readAs 4 floodKinds datagram.now)) }
-    ensures { result ≡ briefOf (readAs 4 floodKinds datagram.now) }
+    requires { (12 ≤ length datagram.now) × Small (look_of (read_as 4 flood_kinds datagram.now)) }
+    ensures { result ≡ brief_of (read_as 4 flood_kinds datagram.now) }
 {
     let none = Part::Absent;
     let message = wire_read::read_flood(datagram);
@@ -246,8 +246,8 @@ fn brief_flood(datagram: &[u8]) -> Brief
 }
 
 fn brief_inquire(datagram: &[u8]) -> Brief
-    requires { (12 ≤ length datagram.now) × Small (look_of (readAs 7 inquireKinds datagram.now)) }
-    ensures { result ≡ briefOf (readAs 7 inquireKinds datagram.now) }
+    requires { (12 ≤ length datagram.now) × Small (look_of (read_as 7 inquire_kinds datagram.now)) }
+    ensures { result ≡ brief_of (read_as 7 inquire_kinds datagram.now) }
 {
     let none = Part::Absent;
     let message = wire_read::read_inquire(datagram);
@@ -266,8 +266,8 @@ fn brief_inquire(datagram: &[u8]) -> Brief
 }
 
 fn brief_authority(datagram: &[u8]) -> Brief
-    requires { (12 ≤ length datagram.now) × Small (look_of (authorityRead datagram.now)) }
-    ensures { result ≡ briefOf (authorityRead datagram.now) }
+    requires { (12 ≤ length datagram.now) × Small (look_of (authority_read datagram.now)) }
+    ensures { result ≡ brief_of (authority_read datagram.now) }
 {
     let none = Part::Absent;
     let message = wire_read::read_authority(datagram);
@@ -291,8 +291,8 @@ fn brief_authority(datagram: &[u8]) -> Brief
 }
 
 fn brief_ack(datagram: &[u8]) -> Brief
-    requires { (12 ≤ length datagram.now) × Small (look_of (readAs 9 ackKinds datagram.now)) }
-    ensures { result ≡ briefOf (readAs 9 ackKinds datagram.now) }
+    requires { (12 ≤ length datagram.now) × Small (look_of (read_as 9 ack_kinds datagram.now)) }
+    ensures { result ≡ brief_of (read_as 9 ack_kinds datagram.now) }
 {
     let none = Part::Absent;
     let message = wire_read::read_ack(datagram);
@@ -310,8 +310,8 @@ fn brief_ack(datagram: &[u8]) -> Brief
 }
 
 fn brief_lookup(datagram: &[u8]) -> Brief
-    requires { (12 ≤ length datagram.now) × Small (look_of (readAs 11 lookupKinds datagram.now)) }
-    ensures { result ≡ briefOf (readAs 11 lookupKinds datagram.now) }
+    requires { (12 ≤ length datagram.now) × Small (look_of (read_as 11 lookup_kinds datagram.now)) }
+    ensures { result ≡ brief_of (read_as 11 lookup_kinds datagram.now) }
 {
     let none = Part::Absent;
     let message = wire_read::read_lookup(datagram);
@@ -342,7 +342,7 @@ fn brief_lookup(datagram: &[u8]) -> Brief
 // What the datagram's message is, for a gauge of the major version. Each message has its own way from its bytes to what is
 // told of it, so that the compiler keeps what was read where it is and writes down no answer in between.
 pub fn brief_at(major: u8, datagram: &[u8]) -> Brief
-    ensures { result ≡ briefOf (readIn datagram.now major) }
+    ensures { result ≡ brief_of (read_in datagram.now major) }
 {
     let number = wire_read::header(datagram, major);
     if number != 0 {
@@ -382,7 +382,7 @@ pub fn brief_at(major: u8, datagram: &[u8]) -> Brief
 
 // What the radio program is told of it; field by field, as the compiler would copy a whole struct twice.
 pub fn look_at(major: u8, datagram: &[u8]) -> Look
-    ensures { result ≡ look_of (readIn datagram.now major) }
+    ensures { result ≡ look_of (read_in datagram.now major) }
 {
     let told = brief_at(major, datagram);
     let seen = told.seen;

@@ -8,14 +8,14 @@ use Prim.Native.Nat.{ℕ, zero, suc, ◌+◌, ◌*◌, ◌≤◌, ◌<◌}
 use native.Mathlib.Nat.{eq-or-lt_of_le}
 use native.Mathlib.Omega.{arith}
 use lib.ListN.{length, drop, length-append, length-replicate, replicate}
-use Rattle.octet.specs.Number.{Bytes, valueBE, digitsBE}
+use Rattle.octet.specs.Number.{Bytes, value_be, digits_be}
 use Rattle.octet.specs.Part.{part}
 use Rattle.octet.specs.Part as bytes
 use Rattle.octet.proofs.PartLaws.{length_part, part-digits}
-use Rattle.octet.proofs.BigLaws.{digitsBE-valueBE}
+use Rattle.octet.proofs.BigLaws.{digits_be-value_be}
 use Rattle.key.specs.Number.{key_at, order_of}
 use Rattle.key.specs.declared.Order.{Order}
-use Rattle.key.proofs.OrderLaws.{order-less, order_same, order-more}
+use Rattle.key.proofs.OrderLaws.{order_less, order_same, order_more}
 use Rattle.record.specs.Record.{key_of}
 use Rattle.table.specs.Rows.{rows, joined}
 use Rattle.table.proofs.RowLaws.{rows_next, rows_end}
@@ -23,10 +23,10 @@ use Rattle.table.proofs.PieceLaws.{part-start}
 use Rattle.kept.proofs.PutLaws.{Tri, less, same, more, tri}
 use Rattle.kept.proofs.ListLaws.{Test, pass, fail, test}
 use Rattle.changed.specs.Changes.{Change, gone, new, other, changes}
-use Rattle.changed.proofs.StepLaws.{first-gone, first-new, first-same, first-other}
+use Rattle.changed.proofs.StepLaws.{first-gone, first-new, first_same, first-other}
 use Rattle.merged.specs.declared.merge.Next.{Next}
-use Rattle.changed.specs.Entries.{entryBytes, listBytes}
-use Rattle.merged.specs.Steps.{step, oneKey, by_order, step_of, stepBytes}
+use Rattle.changed.specs.Entries.{entry_bytes, list_bytes}
+use Rattle.merged.specs.Steps.{step, one_key, by_order, step_of, step_bytes}
 
 module _ (s : List ℕ) (used : ℕ) (t : List ℕ) (held : ℕ) where
   -- the records from a place on
@@ -50,8 +50,8 @@ module _ (s : List ℕ) (used : ℕ) (t : List ℕ) (held : ℕ) where
     pub old-read : n.kind ≡ 1 → i < used
     pub new-read : 2 ≤ n.kind → j < held
     pub one : 1 ≤ n.kind → n.entries ≡ 1
-    pub size : length (stepBytes n.kind s i t j) ≡ 101 * n.entries
-    pub written : listBytes (Rest i j) ≡ stepBytes n.kind s i t j ++ listBytes (Rest (i + n.old) (j + n.new))
+    pub size : length (step_bytes n.kind s i t j) ≡ 101 * n.entries
+    pub written : list_bytes (Rest i j) ≡ step_bytes n.kind s i t j ++ list_bytes (Rest (i + n.old) (j + n.new))
 
   module _ (sb : Bytes s) (sr : 100 * used ≤ length s) (tr : 100 * held ≤ length t) (i j : ℕ) where
     abbrev p : List ℕ
@@ -62,12 +62,12 @@ module _ (s : List ℕ) (used : ℕ) (t : List ℕ) (held : ℕ) where
 
     -- ---- the four steps
 
-    key-bytes : i < used → digitsBE 256 32 (key_of p) ≡ part (100 * i) 32 s
-    key-bytes h =
+    key_bytes_lem : i < used → digits_be 256 32 (key_of p) ≡ part (100 * i) 32 s
+    key_bytes_lem h =
         let long : length (part (100 * i) 32 s) ≡ 32 = length_part (100 * i) 32 s (omega arith) in
-        ap (λ (v : List ℕ). digitsBE 256 32 (valueBE 256 v)) (part-start (100 * i) 100 32 s (omega arith))
-        ∙ ap (λ (w : ℕ). digitsBE 256 w (valueBE 256 (part (100 * i) 32 s))) (sym long)
-        ∙ digitsBE-valueBE 256 (part (100 * i) 32 s) (part-digits 256 (100 * i) 32 s (omega arith) sb)
+        ap (λ (v : List ℕ). digits_be 256 32 (value_be 256 v)) (part-start (100 * i) 100 32 s (omega arith))
+        ∙ ap (λ (w : ℕ). digits_be 256 w (value_be 256 (part (100 * i) 32 s))) (sym long)
+        ∙ digits_be-value_be 256 (part (100 * i) 32 s) (part-digits 256 (100 * i) 32 s (omega arith) sb)
 
     goes : i < used → j ≤ held → Rest i j ≡ gone (key_of p) ∷ Rest (i + 1) j → Stepped i j (step 1 1 0 1)
     unfolding joined
@@ -86,8 +86,8 @@ module _ (s : List ℕ) (used : ℕ) (t : List ℕ) (held : ℕ) where
           new-read = λ d. absurd (omega arith);
           one = λ d. refl;
           size = simp (length-append, length-replicate) (omega (arith, long));
-          written = ap listBytes f
-              ∙ ap (λ (v : List ℕ). (1 ∷ (v ++ replicate 68 0)) ++ listBytes (Rest (i + 1) (j + 0))) (key-bytes h);
+          written = ap list_bytes f
+              ∙ ap (λ (v : List ℕ). (1 ∷ (v ++ replicate 68 0)) ++ list_bytes (Rest (i + 1) (j + 0))) (key_bytes_lem h);
         }
 
     comes : i ≤ used → j < held → Rest i j ≡ new q ∷ Rest i (j + 1) → Stepped i j (step 2 0 1 1)
@@ -106,7 +106,7 @@ module _ (s : List ℕ) (used : ℕ) (t : List ℕ) (held : ℕ) where
           new-read = λ d. k;
           one = λ d. refl;
           size = ap suc (length_part (100 * j) 100 t (omega arith));
-          written = ap listBytes f;
+          written = ap list_bytes f;
         }
 
     stays : i < used → j < held → Rest i j ≡ Rest (i + 1) (j + 1) → Stepped i j (step 0 1 1 0)
@@ -122,7 +122,7 @@ module _ (s : List ℕ) (used : ℕ) (t : List ℕ) (held : ℕ) where
           new-read = λ d. absurd (omega arith);
           one = λ d. absurd (omega arith);
           size = refl;
-          written = ap listBytes e;
+          written = ap list_bytes e;
         }
 
     turns : i < used → j < held → Rest i j ≡ other q ∷ Rest (i + 1) (j + 1) → Stepped i j (step 3 1 1 1)
@@ -139,7 +139,7 @@ module _ (s : List ℕ) (used : ℕ) (t : List ℕ) (held : ℕ) where
           new-read = λ d. k;
           one = λ d. refl;
           size = ap suc (length_part (100 * j) 100 t (omega arith));
-          written = ap listBytes e;
+          written = ap list_bytes e;
         }
 
     -- ---- which it is
@@ -176,24 +176,24 @@ module _ (s : List ℕ) (used : ℕ) (t : List ℕ) (held : ℕ) where
       both : (n : Next) → step_of (p ∷ olds (i + 1)) (q ∷ news (j + 1)) ≡ n → Stepped i j n → Right
       both n e r = subst (Stepped i j) (sym (ap₂ step_of next-old next-new ∙ e)) r
 
-      one_key : key_of p ≡ key_of q → Test (bytes.same p q) → Right
-      one_key e (pass d) =
+      one_key_lem : key_of p ≡ key_of q → Test (bytes.same p q) → Right
+      one_key_lem e (pass d) =
           both (step 0 1 1 0) (rw (order_same e, d) refl)
-          (stays h k (ap₂ changes next-old next-new ∙ first-same p q (olds (i + 1)) (news (j + 1)) e d))
-      one_key e (fail d) =
+          (stays h k (ap₂ changes next-old next-new ∙ first_same p q (olds (i + 1)) (news (j + 1)) e d))
+      one_key_lem e (fail d) =
           both (step 3 1 1 1) (rw (order_same e, d) refl)
           (turns h k (ap₂ changes next-old next-new ∙ first-other p q (olds (i + 1)) (news (j + 1)) e d))
 
       by-keys : Tri (key_of p) (key_of q) → Right
       by-keys (less d) =
-          both (step 1 1 0 1) (rw (order-less d) refl)
+          both (step 1 1 0 1) (rw (order_less d) refl)
           (goes h (omega arith) (ap₂ changes next-old next-new ∙ first-gone p q (olds (i + 1)) (news (j + 1)) d
           ∙ ap (λ (b : List (List ℕ)). gone (key_of p) ∷ changes (olds (i + 1)) b) (sym next-new)))
       by-keys (more d) =
-          both (step 2 0 1 1) (rw (order-more d) refl)
+          both (step 2 0 1 1) (rw (order_more d) refl)
           (comes (omega arith) k (ap₂ changes next-old next-new ∙ first-new p q (olds (i + 1)) (news (j + 1)) d
           ∙ ap (λ (a : List (List ℕ)). new q ∷ changes a (news (j + 1))) (sym next-old)))
-      by-keys (same d) = one_key d (test (bytes.same p q))
+      by-keys (same d) = one_key_lem d (test (bytes.same p q))
 
     by-ends : (i ≡ used) ⊎ (i < used) → (j ≡ held) ⊎ (j < held) → i + j < used + held → Right
     by-ends (inl h) (inl k) g = absurd (omega arith)
@@ -214,15 +214,15 @@ module _ (s : List ℕ) (used : ℕ) (t : List ℕ) (held : ℕ) where
 
 -- ---- which step it is, as the code finds it
 
-pub one_same : (p q : List ℕ) → bytes.same p q ≡ true → step 0 1 1 0 ≡ oneKey p q
+pub one_same : (p q : List ℕ) → bytes.same p q ≡ true → step 0 1 1 0 ≡ one_key p q
 one_same p q e = rw e refl
 
-pub one-other : (p q : List ℕ) → bytes.same p q ≡ false → step 3 1 1 1 ≡ oneKey p q
-one-other p q e = rw e refl
+pub one_other : (p q : List ℕ) → bytes.same p q ≡ false → step 3 1 1 1 ≡ one_key p q
+one_other p q e = rw e refl
 
 -- an end is reached, or both have a record there
-pub step-new : (s : List ℕ) (used i : ℕ) (b : List (List ℕ)) → used ≤ i → step 2 0 1 1 ≡ step_of (drop i (rows 100 used s)) b
-step-new s used i b h = sym (ap (λ (a : List (List ℕ)). step_of a b) (rows_end 100 used s i h))
+pub step_new : (s : List ℕ) (used i : ℕ) (b : List (List ℕ)) → used ≤ i → step 2 0 1 1 ≡ step_of (drop i (rows 100 used s)) b
+step_new s used i b h = sym (ap (λ (a : List (List ℕ)). step_of a b) (rows_end 100 used s i h))
 
 pub step_gone : (s : List ℕ) (used i : ℕ) (t : List ℕ) (held j : ℕ) → i < used → held ≤ j
     → step 1 1 0 1 ≡ step_of (drop i (rows 100 used s)) (drop j (rows 100 held t))
@@ -234,6 +234,6 @@ step_by s used i t held j h k o e =
     let p = part (100 * i) 100 s in
     let q = part (100 * j) 100 t in
     let keys : order_of (key_of p) (key_of q) ≡ o =
-    ap₂ (λ (x : List ℕ) (y : List ℕ). order_of (valueBE 256 x) (valueBE 256 y)) (part-start (100 * i) 100 32 s (omega arith))
+    ap₂ (λ (x : List ℕ) (y : List ℕ). order_of (value_be 256 x) (value_be 256 y)) (part-start (100 * i) 100 32 s (omega arith))
     (part-start (100 * j) 100 32 t (omega arith)) ∙ e in
     ap (λ (x : Order). by_order x p q) (sym keys) ∙ sym (ap₂ step_of (rows_next 100 used s i h) (rows_next 100 held t j k))

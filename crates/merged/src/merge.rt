@@ -3,7 +3,7 @@ ghost use Rattle.std.specs.Prelude.{◌≡◌, ◌+◌, ◌*◌, ◌≤◌, leng
 ghost use Rattle.octet.specs.Part.{part};
 ghost use Rattle.table.specs.Rows.{rows};
 ghost use Rattle.changed.specs.Changes.{changes};
-ghost use Rattle.merged.specs.Steps.{step_of, oneKey};
+ghost use Rattle.merged.specs.Steps.{step_of, one_key};
 
 use key::Order;
 
@@ -27,10 +27,10 @@ pub struct Next {
 }
 
 // Two records with one key: nothing, or another record.
-fn one_key(before: &[u8], i: usize, after: &[u8], j: usize) -> Next
+fn one_key_lem(before: &[u8], i: usize, after: &[u8], j: usize) -> Next
     requires i_in_bounds { 100 * i + 100 ≤ length «before».now }
     requires j_in_bounds { 100 * j + 100 ≤ length «after».now }
-    ensures { result ≡ oneKey (part (100 * i) 100 «before».now) (part (100 * j) 100 «after».now) }
+    ensures { result ≡ one_key (part (100 * i) 100 «before».now) (part (100 * j) 100 «after».now) }
 {
     let at = record::RECORD_LEN * i;
     let to = record::RECORD_LEN * j;
@@ -92,7 +92,7 @@ pub(crate) fn step(
             new: 0,
             entries: 1,
         },
-        Order::Same => one_key(before, i, after, j),
+        Order::Same => one_key_lem(before, i, after, j),
         Order::More => Next {
             kind: NEW,
             old: 0,

@@ -3,8 +3,8 @@ ghost use Rattle.std.specs.Prelude.{◌≡◌, ◌+◌, ◌*◌, ◌≤◌, leng
 ghost use Rattle.octet.specs.Part.{splice};
 ghost use Rattle.table.specs.Rows.{rows};
 ghost use Rattle.changed.specs.Changes.{changes};
-ghost use Rattle.changed.specs.Entries.{listBytes};
-ghost use Rattle.merged.specs.Steps.{goneBytes, heldBytes, stepBytes};
+ghost use Rattle.changed.specs.Entries.{list_bytes};
+ghost use Rattle.merged.specs.Steps.{gone_bytes, held_bytes, step_bytes};
 
 use crate::merge::step;
 
@@ -15,7 +15,7 @@ pub const CHANGE_LEN: usize = 101;
 fn put_gone(before: &[u8], i: usize, output: &mut [u8], at: usize)
     requires i_in_bounds { 100 * i + 100 ≤ length «before».now }
     requires at_in_bounds { at + 101 ≤ length output.old }
-    ensures { output.new ≡ splice at (goneBytes «before».now i) output.old }
+    ensures { output.new ≡ splice at (gone_bytes «before».now i) output.old }
 {
     let kind = [1];
     runs::copy_to(output, at, &kind);
@@ -27,7 +27,7 @@ fn put_gone(before: &[u8], i: usize, output: &mut [u8], at: usize)
 fn put_held(kind: u8, after: &[u8], j: usize, output: &mut [u8], at: usize)
     requires j_in_bounds { 100 * j + 100 ≤ length «after».now }
     requires at_in_bounds { at + 101 ≤ length output.old }
-    ensures { output.new ≡ splice at (heldBytes kind «after».now j) output.old }
+    ensures { output.new ≡ splice at (held_bytes kind «after».now j) output.old }
 {
     let mark = [kind];
     runs::copy_to(output, at, &mark);
@@ -45,7 +45,7 @@ fn put(kind: u8, before: &[u8], i: usize, after: &[u8], j: usize, output: &mut [
     requires { (kind ≡ 1 → 100 * i + 100 ≤ length «before».now) × (2 ≤ kind → 100 * j + 100 ≤ length «after».now)
         × (1 ≤ kind → at + 101 ≤ length output.old) }
     ensures { output.new
-        ≡ splice at (stepBytes kind «before».now i «after».now j) output.old }
+        ≡ splice at (step_bytes kind «before».now i «after».now j) output.old }
 {
     if kind == 0 {
         return;
@@ -62,7 +62,7 @@ pub fn write(before: &[u8], used: usize, after: &[u8], held: usize, output: &mut
     requires { (100 * used ≤ length «before».now) × (100 * held ≤ length «after».now) × (used ≤ 256) × (held ≤ 256)
         × (101 * length (changes (rows 100 used «before».now) (rows 100 held «after».now)) ≤ length output.old) }
     ensures { output.new ≡ splice 0
-        (listBytes (changes (rows 100 used «before».now) (rows 100 held «after».now)))
+        (list_bytes (changes (rows 100 used «before».now) (rows 100 held «after».now)))
         output.old }
 {
     let mut at = 0;

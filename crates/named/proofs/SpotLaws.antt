@@ -13,26 +13,26 @@ use Rattle.octet.specs.Part.{part}
 use Rattle.key.specs.Number.{key_at}
 use Rattle.key.specs.Around.{closer}
 use Rattle.record.specs.Record.{key_of}
-use Rattle.own.specs.Own.{ownForm, ownKeys, ownRecords}
-use Rattle.own.proofs.FormLaws.{own-formed}
+use Rattle.own.specs.Own.{own_form, own_keys, own_records}
+use Rattle.own.proofs.FormLaws.{own_formed}
 use Rattle.table.specs.Rows.{rows}
 use Rattle.cache.specs.Form.{Form}
-use Rattle.cache.proofs.FormLaws.{key-of-row, form-laid}
-use Rattle.neighbours.specs.Closest.{candidates, offPath, closestOf}
+use Rattle.cache.proofs.FormLaws.{key_of-row, form_laid}
+use Rattle.neighbours.specs.Closest.{candidates, off_path, closest_of}
 use Rattle.named.specs.declared.Spot.{Spot}
 use Rattle.named.specs.declared.Spot.TheVariants.{Nowhere, Own, Held}
 use Rattle.named.specs.declared.Choice.{Choice}
-use Rattle.reason.specs.Because.{Because, only, target, tied, nearest, namedKey}
-use Rattle.reason.specs.Reason.{passing, closestIn, next_of, becauseBy, givenBy, becauseOf, reasonBy, reasonOf}
+use Rattle.reason.specs.Because.{Because, only, target, tied, nearest, named_key}
+use Rattle.reason.specs.Reason.{passing, closest_in, next_of, because_by, given_by, because_of, reason_by, reason_of}
 use Rattle.reason.specs.declared.Reason.{Reason}
 use Rattle.reason.specs.declared.Reason.TheVariants.{Only, Target, Tied, Nearest}
-use Rattle.next_row.specs.Walk.{kept, wanted, row_at, closerOf, placeAmong}
-use Rattle.named.specs.Call.{Told, named, named_of, namedPast}
-use Rattle.named.specs.Spots.{recordAt, spotted, isNowhere, Inside, Shows, Placed, choiceTold}
-use Rattle.named.specs.Places.{closerSpot, spotFor, choiceBy, choiceFor}
-use Rattle.reason.proofs.ReasonLaws.{given-because}
+use Rattle.next_row.specs.Walk.{kept, wanted, row_at, closer_of, place_among}
+use Rattle.named.specs.Call.{Told, named, named_of, named_past}
+use Rattle.named.specs.Spots.{record_at, spotted, is_nowhere, Inside, Shows, Placed, choice_told}
+use Rattle.named.specs.Places.{closer_spot, spot_for, choice_by, choice_for}
+use Rattle.reason.proofs.ReasonLaws.{given_because}
 use Rattle.next_row.proofs.WalkLaws.{pass_all, place_found, walks-closest}
-use Rattle.named.proofs.OwnedLaws.{candidates-are}
+use Rattle.named.proofs.OwnedLaws.{candidates_are}
 
 -- ---- a place and the record there
 
@@ -40,31 +40,31 @@ there : Option (List ℕ) → List ℕ
 there none = []
 there (some r) = r
 
-isFound : Option (List ℕ) → ℕ
-isFound none = 0
-isFound (some r) = 1
+is_found : Option (List ℕ) → ℕ
+is_found none = 0
+is_found (some r) = 1
 
 module _ (own cache : List ℕ) where
-  spot-record : (x : Spot) → recordAt own cache x ≡ there (spotted own cache x)
+  spot-record : (x : Spot) → record_at own cache x ≡ there (spotted own cache x)
   unfolding there
   spot-record Nowhere = refl
   spot-record (Own i) = refl
   spot-record (Held i) = refl
 
-  some-where : (x : Spot) → isNowhere x ≡ false → spotted own cache x ≡ some (recordAt own cache x)
+  some-where : (x : Spot) → is_nowhere x ≡ false → spotted own cache x ≡ some (record_at own cache x)
   some-where Nowhere e = let z : ◌≡◌ {A = ℕ} 0 1 = cc in absurd (omega arith)
   some-where (Own i) e = refl
   some-where (Held i) e = refl
 
-  no-where : (x : Spot) → isNowhere x ≡ true → spotted own cache x ≡ none
+  no-where : (x : Spot) → is_nowhere x ≡ true → spotted own cache x ≡ none
   no-where Nowhere e = refl
   no-where (Own i) e = let z : ◌≡◌ {A = ℕ} 0 1 = cc in absurd (omega arith)
   no-where (Held i) e = let z : ◌≡◌ {A = ℕ} 0 1 = cc in absurd (omega arith)
 
   -- something was found: it stands somewhere
-  found-where : (x : Spot) {r : List ℕ} → spotted own cache x ≡ some r → isNowhere x ≡ false
-  unfolding isFound
-  found-where Nowhere e = let z : ◌≡◌ {A = ℕ} 0 1 = ap isFound e in absurd (omega arith)
+  found-where : (x : Spot) {r : List ℕ} → spotted own cache x ≡ some r → is_nowhere x ≡ false
+  unfolding is_found
+  found-where Nowhere e = let z : ◌≡◌ {A = ℕ} 0 1 = ap is_found e in absurd (omega arith)
   found-where (Own i) e = refl
   found-where (Held i) e = refl
 
@@ -72,32 +72,32 @@ module _ (own cache : List ℕ) where
 
 module _ (t : ℕ) (own : List ℕ) (m i : ℕ) (cache : List ℕ) (n j : ℕ) where
   abbrev Is : Spot → Type 0
-  Is x = x ≡ closerSpot t own m i cache n j
+  Is x = x ≡ closer_spot t own m i cache n j
 
   pub spot-none : i ≡ m → j ≡ n → Is Nowhere
-  unfolding closerSpot
+  unfolding closer_spot
   spot-none p q = rw (eq-eqb i m p, eq-eqb j n q) refl
 
   pub spot-held : i ≡ m → (j ≡ n → ⊥) → Is (Held j)
-  unfolding closerSpot
+  unfolding closer_spot
   spot-held p q = rw (eq-eqb i m p, ne_eqb j n q) refl
 
   pub spot-own : (i ≡ m → ⊥) → j ≡ n → Is (Own i)
-  unfolding closerSpot
+  unfolding closer_spot
   spot-own p q = rw (ne_eqb i m p, eq-eqb j n q) refl
 
   module _ (p : i ≡ m → ⊥) (q : j ≡ n → ⊥) where
     pub spot-closer : closer t (key_at (100 * j) cache) (key_at (100 * i) own) ≡ true → Is (Held j)
-    unfolding closerSpot
+    unfolding closer_spot
     spot-closer e = rw (ne_eqb i m p, ne_eqb j n q, e) refl
 
     pub spot-nearer : closer t (key_at (100 * j) cache) (key_at (100 * i) own) ≡ false → Is (Own i)
-    unfolding closerSpot
+    unfolding closer_spot
     spot-nearer e = rw (ne_eqb i m p, ne_eqb j n q, e) refl
 
   -- the record there is the closer of the two rows
-  spot-joins : spotted own cache (closerSpot t own m i cache n j) ≡ closerOf t (row_at m own i) (row_at n cache j)
-  unfolding closerSpot
+  spot-joins : spotted own cache (closer_spot t own m i cache n j) ≡ closer_of t (row_at m own i) (row_at n cache j)
+  unfolding closer_spot
   spot-joins = go (eqb i m) (eqb j n)
     where
       of_two : (c : Bool) → spotted own cache (cond c (Held j) (Own i)) ≡ some (cond c (part (100 * j) 100 cache) (part (100 * i) 100 own))
@@ -107,21 +107,21 @@ module _ (t : ℕ) (own : List ℕ) (m i : ℕ) (cache : List ℕ) (n j : ℕ) w
       go : (a b : Bool)
           → spotted own cache (cond a (cond b Nowhere (Held j))
           (cond b (Own i) (cond (closer t (key_at (100 * j) cache) (key_at (100 * i) own)) (Held j) (Own i))))
-          ≡ closerOf t (cond a none (some (part (100 * i) 100 own))) (cond b none (some (part (100 * j) 100 cache)))
+          ≡ closer_of t (cond a none (some (part (100 * i) 100 own))) (cond b none (some (part (100 * j) 100 cache)))
       go true true = refl
       go true false = refl
       go false true = refl
       go false false =
           of_two (closer t (key_at (100 * j) cache) (key_at (100 * i) own))
           ∙ ap (λ (c : Bool). some (cond c (part (100 * j) 100 cache) (part (100 * i) 100 own)))
-          (sym (ap₂ (closer t) (key-of-row (100 * j) cache) (key-of-row (100 * i) own)))
+          (sym (ap₂ (closer t) (key_of-row (100 * j) cache) (key_of-row (100 * i) own)))
 
-  spot-inside : 100 * m ≤ length own → 100 * n ≤ length cache → i ≤ m → j ≤ n → Inside own cache (closerSpot t own m i cache n j)
-  unfolding closerSpot
+  spot-inside : 100 * m ≤ length own → 100 * n ≤ length cache → i ≤ m → j ≤ n → Inside own cache (closer_spot t own m i cache n j)
+  unfolding closer_spot
   spot-inside ho hc hi hj = go (eqb i m) (eqb j n) (closer t (key_at (100 * j) cache) (key_at (100 * i) own)) refl refl
     where
-      in-own : eqb i m ≡ false → 100 * i + 100 ≤ length own
-      in-own p = omega (arith, eqb-false i m p)
+      in_own : eqb i m ≡ false → 100 * i + 100 ≤ length own
+      in_own p = omega (arith, eqb-false i m p)
 
       in-cache : eqb j n ≡ false → 100 * j + 100 ≤ length cache
       in-cache p = omega (arith, eqb-false j n p)
@@ -130,45 +130,45 @@ module _ (t : ℕ) (own : List ℕ) (m i : ℕ) (cache : List ℕ) (n j : ℕ) w
           → Inside own cache (cond a (cond b Nowhere (Held j)) (cond b (Own i) (cond c (Held j) (Own i))))
       go true true c p q = tt
       go true false c p q = in-cache q
-      go false true c p q = in-own p
+      go false true c p q = in_own p
       go false false true p q = in-cache q
-      go false false false p q = in-own p
+      go false false false p q = in_own p
 
 -- ---- what is told by the two places
 
-some-closest : (t : ℕ) (cands : List (List ℕ)) → 0 < length cands → closestIn t cands ≡ some (closestOf t cands)
-unfolding closestOf
-some-closest t [] p = absurd (omega arith)
-some-closest t (r ∷ rs) p = refl
+some_closest : (t : ℕ) (cands : List (List ℕ)) → 0 < length cands → closest_in t cands ≡ some (closest_of t cands)
+unfolding closest_of
+some_closest t [] p = absurd (omega arith)
+some_closest t (r ∷ rs) p = refl
 
 module _ (own cache : List ℕ) (t j : ℕ) (cands : List (List ℕ)) (p : 0 < length cands) (c : Spot)
-    (ec : spotted own cache c ≡ closestIn t (passing (kept false j) cands)) where
-  chosen_is : recordAt own cache c ≡ closestOf t cands
+    (ec : spotted own cache c ≡ closest_in t (passing (kept false j) cands)) where
+  chosen_is : record_at own cache c ≡ closest_of t cands
   unfolding there
-  chosen_is = spot-record own cache c ∙ ap there (ec ∙ ap (closestIn t) (pass_all (kept false j) cands (λ r. refl)) ∙ some-closest t cands p)
+  chosen_is = spot-record own cache c ∙ ap there (ec ∙ ap (closest_in t) (pass_all (kept false j) cands (λ r. refl)) ∙ some_closest t cands p)
 
-  chosen-where : isNowhere c ≡ false
-  chosen-where = found-where own cache c (ec ∙ ap (closestIn t) (pass_all (kept false j) cands (λ r. refl)) ∙ some-closest t cands p)
+  chosen-where : is_nowhere c ≡ false
+  chosen-where = found-where own cache c (ec ∙ ap (closest_in t) (pass_all (kept false j) cands (λ r. refl)) ∙ some_closest t cands p)
 
-  module _ (o : Spot) (k : ℕ) (ek : k ≡ key_of (recordAt own cache c)) (eo : spotted own cache o ≡ closestIn t (passing (kept true k) cands)) where
+  module _ (o : Spot) (k : ℕ) (ek : k ≡ key_of (record_at own cache c)) (eo : spotted own cache o ≡ closest_in t (passing (kept true k) cands)) where
     next-is : spotted own cache o ≡ next_of t cands
-    next-is = eo ∙ ap (λ (n : ℕ). closestIn t (passing (kept true n) cands)) (ek ∙ ap key_of chosen_is)
+    next-is = eo ∙ ap (λ (n : ℕ). closest_in t (passing (kept true n) cands)) (ek ∙ ap key_of chosen_is)
 
-    tells : (b : Because) → b ≡ reasonBy t (namedKey t cands) (spotted own cache o) → named (recordAt own cache c) b ≡ named_of t cands
-    unfolding reasonOf
-    tells b e = ap₂ named chosen_is (e ∙ ap (reasonBy t (namedKey t cands)) next-is)
+    tells : (b : Because) → b ≡ reason_by t (named_key t cands) (spotted own cache o) → named (record_at own cache c) b ≡ named_of t cands
+    unfolding reason_of
+    tells b e = ap₂ named chosen_is (e ∙ ap (reason_by t (named_key t cands)) next-is)
 
     -- by whether there is another
-    alone : (b : Bool) → isNowhere o ≡ b
-        → cond b only (becauseBy t (namedKey t cands) (key_of (recordAt own cache o))) ≡ reasonBy t (namedKey t cands) (spotted own cache o)
-    alone true e = sym (ap (reasonBy t (namedKey t cands)) (no-where own cache o e))
-    alone false e = sym (ap (reasonBy t (namedKey t cands)) (some-where own cache o e))
+    alone : (b : Bool) → is_nowhere o ≡ b
+        → cond b only (because_by t (named_key t cands) (key_of (record_at own cache o))) ≡ reason_by t (named_key t cands) (spotted own cache o)
+    alone true e = sym (ap (reason_by t (named_key t cands)) (no-where own cache o e))
+    alone false e = sym (ap (reason_by t (named_key t cands)) (some-where own cache o e))
 
-    choice-tells : (b : Because) → b ≡ cond (isNowhere o) only (becauseBy t k (key_of (recordAt own cache o)))
-        → named (recordAt own cache c) b ≡ named_of t cands
+    choice-tells : (b : Because) → b ≡ cond (is_nowhere o) only (because_by t k (key_of (record_at own cache o)))
+        → named (record_at own cache c) b ≡ named_of t cands
     choice-tells b is =
-        tells b (is ∙ ap (λ (n : ℕ). cond (isNowhere o) only (becauseBy t n (key_of (recordAt own cache o)))) (ek ∙ ap key_of chosen_is)
-        ∙ alone (isNowhere o) refl)
+        tells b (is ∙ ap (λ (n : ℕ). cond (is_nowhere o) only (because_by t n (key_of (record_at own cache o)))) (ek ∙ ap key_of chosen_is)
+        ∙ alone (is_nowhere o) refl)
 
 -- where a key goes with the reason there is another candidate
 given : Because → ℕ
@@ -177,72 +177,72 @@ given target = 1
 given (tied k) = 2
 given (nearest k) = 3
 
-shows-other : (r : Reason) (o : Spot) (b : Bool) (n t k : ℕ) → isNowhere o ≡ b → becauseOf r n ≡ cond b only (becauseBy t k n) → Shows r o
+shows_other : (r : Reason) (o : Spot) (b : Bool) (n t k : ℕ) → is_nowhere o ≡ b → because_of r n ≡ cond b only (because_by t k n) → Shows r o
 unfolding given
-shows-other Only o b n t k p e = tt
-shows-other Target o b n t k p e = tt
-shows-other Tied o false n t k p e = p
-shows-other Tied o true n t k p e = absurd (let z : ◌≡◌ {A = ℕ} 2 0 = ap given e in omega arith)
-shows-other Nearest o false n t k p e = p
-shows-other Nearest o true n t k p e = absurd (let z : ◌≡◌ {A = ℕ} 3 0 = ap given e in omega arith)
+shows_other Only o b n t k p e = tt
+shows_other Target o b n t k p e = tt
+shows_other Tied o false n t k p e = p
+shows_other Tied o true n t k p e = absurd (let z : ◌≡◌ {A = ℕ} 2 0 = ap given e in omega arith)
+shows_other Nearest o false n t k p e = p
+shows_other Nearest o true n t k p e = absurd (let z : ◌≡◌ {A = ℕ} 3 0 = ap given e in omega arith)
 
 -- ---- the places that the walks find
 
 module _ (own cache : List ℕ) (used : ℕ) (path : List ℕ) (t : ℕ) where
   abbrev findsFor : Bool → ℕ → Spot
-  findsFor leave k = spotFor own cache used path t leave k
+  findsFor leave k = spot_for own cache used path t leave k
 
   abbrev choice_of : Spot → Reason → Spot → Choice
   choice_of x r y = record { chosen = x; reason = r; other = y }
 
   -- made of what the two searches answer and of their keys
-  pub choice-is : {x y : Spot} {k next : ℕ} {b : Bool} {r : Reason} → x ≡ findsFor false t → k ≡ key_of (recordAt own cache x) → y ≡ findsFor true k
-      → next ≡ key_of (recordAt own cache y) → b ≡ isNowhere y → r ≡ givenBy b t k next
-      → choice_of x r y ≡ choiceFor own cache used path t
+  pub choice-is : {x y : Spot} {k next : ℕ} {b : Bool} {r : Reason} → x ≡ findsFor false t → k ≡ key_of (record_at own cache x) → y ≡ findsFor true k
+      → next ≡ key_of (record_at own cache y) → b ≡ is_nowhere y → r ≡ given_by b t k next
+      → choice_of x r y ≡ choice_for own cache used path t
   choice-is {x} {y} {k} {next} {b} {r} ex ek ey en eb er =
-      ap (λ (z : Reason). choice_of x z y) (er ∙ ap (λ (c : Bool). givenBy c t k next) eb ∙ ap₂ (givenBy (isNowhere y) t) ek en)
-      ∙ ap (choiceBy own cache t x) (ey ∙ ap (findsFor true) ek)
-      ∙ ap (λ (z : Spot). choiceBy own cache t z (findsFor true (key_of (recordAt own cache z)))) ex
+      ap (λ (z : Reason). choice_of x z y) (er ∙ ap (λ (c : Bool). given_by c t k next) eb ∙ ap₂ (given_by (is_nowhere y) t) ek en)
+      ∙ ap (choice_by own cache t x) (ey ∙ ap (findsFor true) ek)
+      ∙ ap (λ (z : Spot). choice_by own cache t z (findsFor true (key_of (record_at own cache z)))) ex
 
-  module _ (formed : ownForm own ≡ true) (form : Form (ownKeys own) cache (rows 100 used cache)) where
+  module _ (formed : own_form own ≡ true) (form : Form (own_keys own) cache (rows 100 used cache)) where
     abbrev ours : ℕ
     ours = length own / 100
 
     abbrev cands : List (List ℕ)
-    cands = candidates (ownRecords own) (offPath path (rows 100 used cache))
+    cands = candidates (own_records own) (off_path path (rows 100 used cache))
 
     some-cand : 0 < length cands
-    some-cand = (candidates-are own formed (rows 100 used cache) path form.held).0
+    some-cand = (candidates_are own formed (rows 100 used cache) path form.held).0
 
-    finds-closest : (leave : Bool) (k : ℕ) → spotted own cache (findsFor leave k) ≡ closestIn t (passing (kept leave k) cands)
+    finds-closest : (leave : Bool) (k : ℕ) → spotted own cache (findsFor leave k) ≡ closest_in t (passing (kept leave k) cands)
     finds-closest leave k =
-        spot-joins t own ours (placeAmong t (wanted [] leave k) ours own) cache used (placeAmong t (wanted path leave k) used cache)
-        ∙ ap₂ (closerOf t) (place_found t (wanted [] leave k) ours own).1 (place_found t (wanted path leave k) used cache).1
-        ∙ walks-closest leave k t (ownRecords own) (rows 100 used cache) path
+        spot-joins t own ours (place_among t (wanted [] leave k) ours own) cache used (place_among t (wanted path leave k) used cache)
+        ∙ ap₂ (closer_of t) (place_found t (wanted [] leave k) ours own).1 (place_found t (wanted path leave k) used cache).1
+        ∙ walks-closest leave k t (own_records own) (rows 100 used cache) path
 
     pub finds-inside : (leave : Bool) (k : ℕ) → Inside own cache (findsFor leave k)
     finds-inside leave k =
-        spot-inside t own ours (placeAmong t (wanted [] leave k) ours own) cache used (placeAmong t (wanted path leave k) used cache)
-        (omega (arith, (own-formed own formed).many)) (form-laid (ownKeys own) used cache form).room
+        spot-inside t own ours (place_among t (wanted [] leave k) ours own) cache used (place_among t (wanted path leave k) used cache)
+        (omega (arith, (own_formed own formed).many)) (form_laid (own_keys own) used cache form).room
         (place_found t (wanted [] leave k) ours own).0 (place_found t (wanted path leave k) used cache).0
 
     abbrev c : Choice
-    c = choiceFor own cache used path t
+    c = choice_for own cache used path t
 
-    because : becauseOf c.reason (key_of (recordAt own cache c.other))
-        ≡ cond (isNowhere c.other) only (becauseBy t (key_of (recordAt own cache c.chosen)) (key_of (recordAt own cache c.other)))
-    because = given-because (isNowhere c.other) t (key_of (recordAt own cache c.chosen)) (key_of (recordAt own cache c.other))
+    because : because_of c.reason (key_of (record_at own cache c.other))
+        ≡ cond (is_nowhere c.other) only (because_by t (key_of (record_at own cache c.chosen)) (key_of (record_at own cache c.other)))
+    because = given_because (is_nowhere c.other) t (key_of (record_at own cache c.chosen)) (key_of (record_at own cache c.other))
 
-    pub choice-told : choiceTold own cache c ≡ namedPast (ownRecords own) (rows 100 used cache) path t
+    pub choice-told : choice_told own cache c ≡ named_past (own_records own) (rows 100 used cache) path t
     choice-told =
-        choice-tells own cache t t cands some-cand c.chosen (finds-closest false t) c.other (key_of (recordAt own cache c.chosen)) refl
-        (finds-closest true (key_of (recordAt own cache c.chosen))) (becauseOf c.reason (key_of (recordAt own cache c.other))) because
+        choice-tells own cache t t cands some-cand c.chosen (finds-closest false t) c.other (key_of (record_at own cache c.chosen)) refl
+        (finds-closest true (key_of (record_at own cache c.chosen))) (because_of c.reason (key_of (record_at own cache c.other))) because
 
     pub choice-placed : Placed own cache c
     choice-placed = record {
       chosen = finds-inside false t;
       somewhere = chosen-where own cache t t cands some-cand c.chosen (finds-closest false t);
-      other = finds-inside true (key_of (recordAt own cache c.chosen));
-      shows = shows-other c.reason c.other (isNowhere c.other) (key_of (recordAt own cache c.other)) t
-          (key_of (recordAt own cache c.chosen)) refl because;
+      other = finds-inside true (key_of (record_at own cache c.chosen));
+      shows = shows_other c.reason c.other (is_nowhere c.other) (key_of (record_at own cache c.other)) t
+          (key_of (record_at own cache c.chosen)) refl because;
     }

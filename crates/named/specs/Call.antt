@@ -3,18 +3,18 @@
 -- is a good message of another type (W5.3). The message is looked at, and nothing is done. Assumes nothing.
 use Rattle.std.specs.Prelude.{ℕ, ◌+◌, ◌-◌, List, []}
 use Rattle.octet.specs.Part.{part}
-use Rattle.refusal.specs.Table.{orRefuse}
+use Rattle.refusal.specs.Table.{or_refuse}
 use Rattle.key.specs.Number.{key_at}
-use Rattle.own.specs.Own.{ownRecords}
+use Rattle.own.specs.Own.{own_records}
 use Rattle.wire_buffer.specs.Buffer.{start_of}
-use Rattle.wire_read.specs.Answers.{readIn}
+use Rattle.wire_read.specs.Answers.{read_in}
 use Rattle.wire_read.specs.declared.Incoming.{Incoming}
 use Rattle.wire_read.specs.declared.Incoming.TheVariants as M
 use Rattle.look.specs.Seen.{size_of}
-use Rattle.cache.specs.Calls.{memoryWrong, heldBy}
-use Rattle.neighbours.specs.Closest.{candidates, offPath, closestOf}
+use Rattle.cache.specs.Calls.{memory_wrong, held_by}
+use Rattle.neighbours.specs.Closest.{candidates, off_path, closest_of}
 use Rattle.reason.specs.Because.{Because}
-use Rattle.reason.specs.Reason.{reasonOf}
+use Rattle.reason.specs.Reason.{reason_of}
 
 -- a number of refusal, or the record with the reason
 pub data Told : Type 0 where
@@ -23,25 +23,25 @@ pub data Told : Type 0 where
 
 -- of some candidates
 abbrev pub named_of : ℕ → List (List ℕ) → Told
-named_of t cands = named (closestOf t cands) (reasonOf t cands)
+named_of t cands = named (closest_of t cands) (reason_of t cands)
 
 -- of our own records and those held, without those on a path
-abbrev pub namedPast : (ours held : List (List ℕ)) (path : List ℕ) (t : ℕ) → Told
-namedPast ours held path t = named_of t (candidates ours (offPath path held))
+abbrev pub named_past : (ours held : List (List ℕ)) (path : List ℕ) (t : ℕ) → Told
+named_past ours held path t = named_of t (candidates ours (off_path path held))
 
 -- of a message: refused as reading refuses it, with 7 where it is another one, and by path and target where it is a LOOKUP, whose endpoints stand
 -- behind the 8 bytes of the array's header
-unfoldable pub answerTo : {A : Type 0} → (refuse : ℕ → A) → (lookup : List ℕ → ℕ → A) → (d : List ℕ) → Incoming → A
-answerTo refuse lookup d (M.Refused n) = refuse n
-answerTo refuse lookup d (M.Solicit x) = refuse 7
-answerTo refuse lookup d (M.Advertise x) = refuse 7
-answerTo refuse lookup d (M.Request x) = refuse 7
-answerTo refuse lookup d (M.Flood x) = refuse 7
-answerTo refuse lookup d (M.Inquire x) = refuse 7
-answerTo refuse lookup d (M.Authority x) = refuse 7
-answerTo refuse lookup d (M.Ack x) = refuse 7
-answerTo refuse lookup d (M.Lookup x) = lookup (part (start_of x.path + 8) (size_of x.path - 8) d) (key_at x.target d)
+unfoldable pub answer_to : {A : Type 0} → (refuse : ℕ → A) → (lookup : List ℕ → ℕ → A) → (d : List ℕ) → Incoming → A
+answer_to refuse lookup d (M.Refused n) = refuse n
+answer_to refuse lookup d (M.Solicit x) = refuse 7
+answer_to refuse lookup d (M.Advertise x) = refuse 7
+answer_to refuse lookup d (M.Request x) = refuse 7
+answer_to refuse lookup d (M.Flood x) = refuse 7
+answer_to refuse lookup d (M.Inquire x) = refuse 7
+answer_to refuse lookup d (M.Authority x) = refuse 7
+answer_to refuse lookup d (M.Ack x) = refuse 7
+answer_to refuse lookup d (M.Lookup x) = lookup (part (start_of x.path + 8) (size_of x.path - 8) d) (key_at x.target d)
 
-unfoldable pub nameCall : (own cache : List ℕ) (major : ℕ) (d : List ℕ) → Told
-nameCall own cache major d =
-    orRefuse refused (memoryWrong own cache []) (answerTo refused (namedPast (ownRecords own) (heldBy own cache)) d (readIn d major))
+unfoldable pub name_call : (own cache : List ℕ) (major : ℕ) (d : List ℕ) → Told
+name_call own cache major d =
+    or_refuse refused (memory_wrong own cache []) (answer_to refused (named_past (own_records own) (held_by own cache)) d (read_in d major))

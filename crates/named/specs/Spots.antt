@@ -3,7 +3,7 @@ use Rattle.std.specs.Prelude.{ℕ, ◌+◌, ◌*◌, ◌≤◌, ◌≡◌, Bool,
 use Rattle.std.proofs.Math.Option.{Option, some, none}
 use Rattle.octet.specs.Part.{part}
 use Rattle.record.specs.Record.{key_of}
-use Rattle.reason.specs.Reason.{becauseOf}
+use Rattle.reason.specs.Reason.{because_of}
 use Rattle.reason.specs.declared.Reason.{Reason}
 use Rattle.reason.specs.declared.Reason.TheVariants.{Only, Target, Tied, Nearest}
 use Rattle.named.specs.Call.{Told, refused, named}
@@ -14,20 +14,20 @@ use Rattle.named.specs.declared.Named.{Named}
 use Rattle.named.specs.declared.Named.TheVariants.{Refused, Chosen}
 
 -- the record that stands there, and whether one does
-abbrev pub recordAt : List ℕ → List ℕ → Spot → List ℕ
-recordAt own cache Nowhere = []
-recordAt own cache (Own i) = part (100 * i) 100 own
-recordAt own cache (Held i) = part (100 * i) 100 cache
+abbrev pub record_at : List ℕ → List ℕ → Spot → List ℕ
+record_at own cache Nowhere = []
+record_at own cache (Own i) = part (100 * i) 100 own
+record_at own cache (Held i) = part (100 * i) 100 cache
 
 abbrev pub spotted : List ℕ → List ℕ → Spot → Option (List ℕ)
 spotted own cache Nowhere = none
 spotted own cache (Own i) = some (part (100 * i) 100 own)
 spotted own cache (Held i) = some (part (100 * i) 100 cache)
 
-abbrev pub isNowhere : Spot → Bool
-isNowhere Nowhere = true
-isNowhere (Own i) = false
-isNowhere (Held i) = false
+abbrev pub is_nowhere : Spot → Bool
+is_nowhere Nowhere = true
+is_nowhere (Own i) = false
+is_nowhere (Held i) = false
 
 -- it lies within what is lent
 abbrev pub Inside : List ℕ → List ℕ → Spot → Type 0
@@ -36,23 +36,23 @@ Inside own cache (Own i) = 100 * i + 100 ≤ length own
 Inside own cache (Held i) = 100 * i + 100 ≤ length cache
 
 -- what is told by it
-abbrev pub choiceTold : List ℕ → List ℕ → Choice → Told
-choiceTold own cache c = named (recordAt own cache c.chosen) (becauseOf c.reason (key_of (recordAt own cache c.other)))
+abbrev pub choice_told : List ℕ → List ℕ → Choice → Told
+choice_told own cache c = named (record_at own cache c.chosen) (because_of c.reason (key_of (record_at own cache c.other)))
 
-abbrev pub toldBy : List ℕ → List ℕ → Named → Told
-toldBy own cache (Refused n) = refused n
-toldBy own cache (Chosen c) = choiceTold own cache c
+abbrev pub told_by : List ℕ → List ℕ → Named → Told
+told_by own cache (Refused n) = refused n
+told_by own cache (Chosen c) = choice_told own cache c
 
 -- a record is named, and where a key goes with the reason there is another candidate; each lies within what is lent
 abbrev pub Shows : Reason → Spot → Type 0
 Shows Only o = Unit {0}
 Shows Target o = Unit {0}
-Shows Tied o = isNowhere o ≡ false
-Shows Nearest o = isNowhere o ≡ false
+Shows Tied o = is_nowhere o ≡ false
+Shows Nearest o = is_nowhere o ≡ false
 
 pub record Placed (own cache : List ℕ) (c : Choice) : Type 0 where
   pub chosen : Inside own cache c.chosen
-  pub somewhere : isNowhere c.chosen ≡ false
+  pub somewhere : is_nowhere c.chosen ≡ false
   pub other : Inside own cache c.other
   pub shows : Shows c.reason c.other
 

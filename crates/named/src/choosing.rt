@@ -2,11 +2,11 @@
 ghost use Rattle.std.specs.Prelude.{◌≡◌, true, ◌*◌, ◌≤◌};
 ghost use Rattle.key.specs.Number.{number};
 ghost use Rattle.record.specs.Record.{key_of};
-ghost use Rattle.own.specs.Own.{ownForm, ownKeys};
+ghost use Rattle.own.specs.Own.{own_form, own_keys};
 ghost use Rattle.table.specs.Rows.{rows};
 ghost use Rattle.cache.specs.Form.{Form};
-ghost use Rattle.named.specs.Spots.{recordAt, isNowhere, Inside};
-ghost use Rattle.named.specs.Places.{spotFor, choiceFor};
+ghost use Rattle.named.specs.Spots.{record_at, is_nowhere, Inside};
+ghost use Rattle.named.specs.Places.{spot_for, choice_for};
 
 use crate::{Choice, Spot};
 use key::Key;
@@ -15,7 +15,7 @@ use next_row::row_of;
 // The record that stands there: no byte where there is none.
 pub fn record_at<'a>(own: &'a [u8], cache: &'a [u8], spot: Spot) -> &'a [u8]
     requires { Inside own.now cache.now spot }
-    ensures { result.now ≡ recordAt own.now cache.now spot }
+    ensures { result.now ≡ record_at own.now cache.now spot }
 {
     match spot {
         Spot::Nowhere => &own[0..0],
@@ -33,7 +33,7 @@ pub fn record_at<'a>(own: &'a [u8], cache: &'a [u8], spot: Spot) -> &'a [u8]
 // Its key: 0 where there is none.
 fn key_of(own: &[u8], cache: &[u8], spot: Spot) -> Key
     requires { Inside own.now cache.now spot }
-    ensures { number result ≡ key_of (recordAt own.now cache.now spot) }
+    ensures { number result ≡ key_of (record_at own.now cache.now spot) }
 {
     match spot {
         Spot::Nowhere => Key {
@@ -48,7 +48,7 @@ fn key_of(own: &[u8], cache: &[u8], spot: Spot) -> Key
 }
 
 fn is_nowhere(spot: Spot) -> bool
-    ensures { result ≡ isNowhere spot }
+    ensures { result ≡ is_nowhere spot }
 {
     match spot {
         Spot::Nowhere => true,
@@ -67,8 +67,8 @@ fn spot_of(
     leave: bool,
     k: Key,
 ) -> Spot
-    requires { (ownForm own.now ≡ true) × Form (ownKeys own.now) cache.now (rows 100 used cache.now) }
-    ensures { result ≡ spotFor own.now cache.now used path.now (number target) leave (number k) }
+    requires { (own_form own.now ≡ true) × Form (own_keys own.now) cache.now (rows 100 used cache.now) }
+    ensures { result ≡ spot_for own.now cache.now used path.now (number target) leave (number k) }
 {
     let ours = own.len() / record::RECORD_LEN;
     let i = row_of(own, ours, &path[0..0], target, leave, k);
@@ -94,8 +94,8 @@ fn spot_of(
 
 // The record that is named, and why.
 pub(crate) fn choose(own: &[u8], cache: &[u8], used: usize, path: &[u8], target: Key) -> Choice
-    requires { (ownForm own.now ≡ true) × Form (ownKeys own.now) cache.now (rows 100 used cache.now) }
-    ensures { result ≡ choiceFor own.now cache.now used path.now (number target) }
+    requires { (own_form own.now ≡ true) × Form (own_keys own.now) cache.now (rows 100 used cache.now) }
+    ensures { result ≡ choice_for own.now cache.now used path.now (number target) }
 {
     let chosen = spot_of(own, cache, used, path, target, false, target);
     let k = key_of(own, cache, chosen);

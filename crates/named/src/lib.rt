@@ -3,13 +3,13 @@
 mod choosing;
 
 ghost use Rattle.std.specs.Prelude.{◌≡◌, true, ◌*◌, ◌≤◌};
-ghost use Rattle.own.specs.Own.{ownForm, ownKeys};
+ghost use Rattle.own.specs.Own.{own_form, own_keys};
 ghost use Rattle.table.specs.Rows.{rows};
 ghost use Rattle.cache.specs.Form.{Form};
-ghost use Rattle.wire_read.specs.Answers.{readIn};
-ghost use Rattle.named.specs.Call.{nameCall};
-ghost use Rattle.named.specs.Spots.{toldBy, Within};
-ghost use Rattle.named.specs.Places.{chosenBy, name_at};
+ghost use Rattle.wire_read.specs.Answers.{read_in};
+ghost use Rattle.named.specs.Call.{name_call};
+ghost use Rattle.named.specs.Spots.{told_by, Within};
+ghost use Rattle.named.specs.Places.{chosen_by, name_at};
 
 use cache::Formed;
 pub use choosing::record_at;
@@ -40,9 +40,9 @@ pub enum Named {
 
 // What is named for the datagram, on memory that has been tested.
 fn name_in(own: &[u8], cache: &[u8], used: usize, major: u8, datagram: &[u8]) -> Named
-    requires { (ownForm own.now ≡ true) × Form (ownKeys own.now) cache.now (rows 100 used cache.now) }
-    ensures { result ≡ chosenBy own.now cache.now used datagram.now
-        (readIn datagram.now major) }
+    requires { (own_form own.now ≡ true) × Form (own_keys own.now) cache.now (rows 100 used cache.now) }
+    ensures { result ≡ chosen_by own.now cache.now used datagram.now
+        (read_in datagram.now major) }
 {
     let told = look::brief_at(major, datagram);
     if told.seen.kind == 0 {
@@ -60,8 +60,8 @@ fn name_in(own: &[u8], cache: &[u8], used: usize, major: u8, datagram: &[u8]) ->
 // What is named for the datagram of a gauge of the major version, and why, on memory that nobody has tested: refused with 1
 // where it is not in form, with 2 to 6 as any datagram, with 7 where the message is no LOOKUP.
 pub fn name(own: &[u8], cache: &[u8], major: u8, datagram: &[u8]) -> Named
-    ensures result_value { toldBy own.now cache.now result
-        ≡ nameCall own.now cache.now major datagram.now }
+    ensures result_value { told_by own.now cache.now result
+        ≡ name_call own.now cache.now major datagram.now }
     ensures within { Within own.now cache.now result }
     ensures value { result ≡ name_at own.now cache.now major datagram.now }
 {

@@ -3,15 +3,15 @@
 -- 320 bytes"; then nothing changes, counts are 0 and no record is shown. Tied to document 01 by `ours-meets` (sentences/Theorems). Assumes nothing.
 use Rattle.std.specs.Prelude.{ℕ, ◌+◌, ◌*◌, ◌≤◌, ◌<◌, not, List, [], ◌∷◌, ltb, length}
 use Rattle.octet.specs.Part.{part}
-use Rattle.refusal.specs.Table.{Refusal, when, orRefuse}
+use Rattle.refusal.specs.Table.{Refusal, when, or_refuse}
 use Rattle.key.specs.Number.{key_at}
-use Rattle.own.specs.Own.{ownKeys, ownRecords, ownRecord, isOwn}
-use Rattle.path.specs.Path.{pathForm}
+use Rattle.own.specs.Own.{own_keys, own_records, own_record, is_own}
+use Rattle.path.specs.Path.{path_form}
 use Rattle.search.specs.Halving.{halvings}
 use Rattle.cache.specs.Form.{keys_of}
-use Rattle.cache.specs.Calls.{memoryWrong, keyWrong, heldBy}
-use Rattle.neighbours.specs.Listing.{afterList, countsOf}
-use Rattle.neighbours.specs.Closest.{candidates, offPath, closestOf}
+use Rattle.cache.specs.Calls.{memory_wrong, key_wrong, held_by}
+use Rattle.neighbours.specs.Listing.{after_list, counts_of}
+use Rattle.neighbours.specs.Closest.{candidates, off_path, closest_of}
 use Rattle.neighbours.specs.declared.listing.Listed.{Listed}
 use Rattle.neighbours.specs.declared.nearest.Nearest.{Nearest}
 use Rattle.neighbours.specs.declared.nearest.Nearest.TheVariants.{Refused, Own, Held}
@@ -21,18 +21,18 @@ pub record Written : Type 0 where
   pub answer : Listed
   pub output : List ℕ
 
-abbrev pub listWritten : Listed → List ℕ → Written
-listWritten a out = record { answer = a; output = out }
+abbrev pub list_written : Listed → List ℕ → Written
+list_written a out = record { answer = a; output = out }
 
-abbrev pub listWrong : (own cache key out : List ℕ) → List Refusal
-listWrong own cache key out =
-    memoryWrong own cache (keyWrong key ∷ when 12 (not (isOwn (ownKeys own) (key_at 0 key))) ∷ when 15 (ltb (length out) 320) ∷ [])
+abbrev pub list_wrong : (own cache key out : List ℕ) → List Refusal
+list_wrong own cache key out =
+    memory_wrong own cache (key_wrong key ∷ when 12 (not (is_own (own_keys own) (key_at 0 key))) ∷ when 15 (ltb (length out) 320) ∷ [])
 
-unfoldable pub listCall : (own cache key out : List ℕ) → Written
-listCall own cache key out =
-    let counts = countsOf (key_at 0 key) (heldBy own cache) in
-    orRefuse (λ (n : ℕ). listWritten (record { number = n; below = 0; above = 0 }) out) (listWrong own cache key out)
-    (listWritten (record { number = 0; below = counts.below; above = counts.above }) (afterList (key_at 0 key) (heldBy own cache) out))
+unfoldable pub list_call : (own cache key out : List ℕ) → Written
+list_call own cache key out =
+    let counts = counts_of (key_at 0 key) (held_by own cache) in
+    or_refuse (λ (n : ℕ). list_written (record { number = n; below = 0; above = 0 }) out) (list_wrong own cache key out)
+    (list_written (record { number = 0; below = counts.below; above = counts.above }) (after_list (key_at 0 key) (held_by own cache) out))
 
 -- what the call for the closest record hands back: the number, and the record that is shown
 pub record Shown : Type 0 where
@@ -43,30 +43,30 @@ abbrev pub shown : ℕ → List ℕ → Shown
 shown n r = record { number = n; bytes = r }
 
 -- an answer, with the bytes of the record that it names
-abbrev pub shownBy : List ℕ → List ℕ → Nearest → Shown
-shownBy own cache (Refused n) = shown n []
-shownBy own cache (Own i) = shown 0 (ownRecord own i)
-shownBy own cache (Held i) = shown 0 (part (100 * i) 100 cache)
+abbrev pub shown_by : List ℕ → List ℕ → Nearest → Shown
+shown_by own cache (Refused n) = shown n []
+shown_by own cache (Own i) = shown 0 (own_record own i)
+shown_by own cache (Held i) = shown 0 (part (100 * i) 100 cache)
 
 -- a place that it names is one of our records, or a used one, which lies within the cache
 abbrev pub Inside : List ℕ → List ℕ → Nearest → Type 0
 Inside own cache (Refused n) = Unit {0}
-Inside own cache (Own i) = i < length (ownRecords own)
-Inside own cache (Held i) = (i < length (heldBy own cache)) × (100 * i + 100 ≤ length cache)
+Inside own cache (Own i) = i < length (own_records own)
+Inside own cache (Held i) = (i < length (held_by own cache)) × (100 * i + 100 ≤ length cache)
 
 -- a path that is handed in
-abbrev pub pathWrong : List ℕ → Refusal
-pathWrong path = when 1 (not (pathForm path))
+abbrev pub path_wrong : List ℕ → Refusal
+path_wrong path = when 1 (not (path_form path))
 
-abbrev pub closestWrong : List ℕ → List ℕ → List ℕ → List ℕ → List Refusal
-closestWrong own cache path target = memoryWrong own cache (pathWrong path ∷ keyWrong target ∷ [])
+abbrev pub closest_wrong : List ℕ → List ℕ → List ℕ → List ℕ → List Refusal
+closest_wrong own cache path target = memory_wrong own cache (path_wrong path ∷ key_wrong target ∷ [])
 
-unfoldable pub closestCall : (own cache path target : List ℕ) → Shown
-closestCall own cache path target =
-    orRefuse (λ (n : ℕ). shown n []) (closestWrong own cache path target)
-    (shown 0 (closestOf (key_at 0 target) (candidates (ownRecords own) (offPath path (heldBy own cache)))))
+unfoldable pub closest_call : (own cache path target : List ℕ) → Shown
+closest_call own cache path target =
+    or_refuse (λ (n : ℕ). shown n []) (closest_wrong own cache path target)
+    (shown 0 (closest_of (key_at 0 target) (candidates (own_records own) (off_path path (held_by own cache)))))
 
 -- how many of the keys held were compared with the target, those on the path too; none where it is refused (02, Wish 8)
-unfoldable pub closestCompared : (own cache path target : List ℕ) → ℕ
-closestCompared own cache path target =
-    orRefuse (λ (n : ℕ). 0) (closestWrong own cache path target) (halvings (keys_of (heldBy own cache)) (key_at 0 target))
+unfoldable pub closest_compared : (own cache path target : List ℕ) → ℕ
+closest_compared own cache path target =
+    or_refuse (λ (n : ℕ). 0) (closest_wrong own cache path target) (halvings (keys_of (held_by own cache)) (key_at 0 target))

@@ -6,8 +6,8 @@ ghost use Rattle.table.specs.Rows.{rows};
 ghost use Rattle.kept.specs.Keys.{Every, Rising, plain};
 ghost use Rattle.kept.specs.Turned.{NotKey, turned};
 ghost use Rattle.cache.specs.Form.{keys_of};
-ghost use Rattle.neighbours.specs.Listing.{keyBytes, afterList, countsOf};
-ghost use Rattle.neighbours.specs.Calls.{listWritten, listCall};
+ghost use Rattle.neighbours.specs.Listing.{key_bytes, after_list, counts_of};
+ghost use Rattle.neighbours.specs.Calls.{list_written, list_call};
 
 use cache::Formed;
 
@@ -36,7 +36,7 @@ fn lesser(a: usize, b: usize) -> usize
 fn keys_down(cache: &[u8], used: usize, from: usize, n: usize, out: &mut [u8])
     requires { (100 * used ≤ length cache.now) × (from ≤ used) × (n ≤ used) × (32 * n ≤ length out.old) }
     ensures { out.new ≡ splice 0
-        (keyBytes (take n (reverse (turned from (keys_of (rows 100 used cache.now)))))) out.old }
+        (key_bytes (take n (reverse (turned from (keys_of (rows 100 used cache.now)))))) out.old }
 {
     let mut i = 0;
     while i < n {
@@ -50,7 +50,7 @@ fn keys_down(cache: &[u8], used: usize, from: usize, n: usize, out: &mut [u8])
 fn keys_up(cache: &[u8], used: usize, from: usize, n: usize, out: &mut [u8], at: usize)
     requires { (100 * used ≤ length cache.now) × (from ≤ used) × (n ≤ used) × (at + 32 * n ≤ length out.old) }
     ensures { out.new ≡ splice at
-        (keyBytes (take n (turned from (keys_of (rows 100 used cache.now))))) out.old }
+        (key_bytes (take n (turned from (keys_of (rows 100 used cache.now))))) out.old }
 {
     let mut i = 0;
     while i < n {
@@ -66,9 +66,9 @@ pub fn neighbours(key: &[u8], cache: &[u8], used: usize, out: &mut [u8]) -> Coun
     requires in_bounds { (32 ≤ length key.now) × (320 ≤ length out.old) × (100 * used ≤ length cache.now) }
     requires rising { Rising plain 0 (keys_of (rows 100 used cache.now)) }
     requires every { Every (NotKey (key_at 0 key.now)) (keys_of (rows 100 used cache.now)) }
-    ensures value { result ≡ countsOf (key_at 0 key.now) (rows 100 used cache.now) }
+    ensures value { result ≡ counts_of (key_at 0 key.now) (rows 100 used cache.now) }
     ensures out_after { out.new
-        ≡ afterList (key_at 0 key.now) (rows 100 used cache.now) out.old }
+        ≡ after_list (key_at 0 key.now) (rows 100 used cache.now) out.old }
 {
     let first = sides::count_under(key, cache, used);
     let under = sides::count_below(key, cache, used, first);
@@ -82,8 +82,8 @@ pub fn neighbours(key: &[u8], cache: &[u8], used: usize, out: &mut [u8]) -> Coun
 // The same for one of our own keys, on memory that nobody has tested. Gives 0, 1, 12 or 15, and the two counts; refused, it
 // changes nothing.
 pub fn neighbour_list(own: &[u8], cache: &[u8], key: &[u8], out: &mut [u8]) -> Listed
-    ensures { listWritten result out.new
-        ≡ listCall own.now cache.now key.now out.old }
+    ensures { list_written result out.new
+        ≡ list_call own.now cache.now key.now out.old }
 {
     let found = cache::memory(own, cache);
     let Formed::Good(used) = found else {

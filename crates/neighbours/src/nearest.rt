@@ -1,15 +1,15 @@
 // The record closest to a target key: a part of one of two lent slices, and no copy.
 ghost use Rattle.std.specs.Prelude.{◌≡◌, true, List, ℕ, ◌+◌, ◌*◌, ◌≤◌, length};
 ghost use Rattle.key.specs.Number.{number, key_at};
-ghost use Rattle.record.specs.Record.{recordForm};
-ghost use Rattle.own.specs.Own.{ownForm, ownKeys, ownRecords};
+ghost use Rattle.record.specs.Record.{record_form};
+ghost use Rattle.own.specs.Own.{own_form, own_keys, own_records};
 ghost use Rattle.table.specs.Rows.{rows};
 ghost use Rattle.kept.specs.Keys.{Every};
-ghost use Rattle.kept.specs.Turned.{countUnder};
+ghost use Rattle.kept.specs.Turned.{count_under};
 ghost use Rattle.cache.specs.Form.{keys_of, Form};
-ghost use Rattle.neighbours.specs.Closest.{candidates, offPath, closestOf};
-ghost use Rattle.neighbours.specs.Where.{skippedUp, skippedDown, recordAt, nearestOf, Within};
-ghost use Rattle.neighbours.specs.Calls.{Inside, shownBy, closestCall, closestCompared};
+ghost use Rattle.neighbours.specs.Closest.{candidates, off_path, closest_of};
+ghost use Rattle.neighbours.specs.Where.{skipped_up, skipped_down, record_at, nearest_of, Within};
+ghost use Rattle.neighbours.specs.Calls.{Inside, shown_by, closest_call, closest_compared};
 
 use cache::Formed;
 use key::Key;
@@ -40,7 +40,7 @@ pub struct Sighted {
 // Which of our own record of place i and those of two places is the closest to the target?
 fn nearest_of(own: &[u8], i: usize, cache: &[u8], up: usize, down: usize, target: Key) -> Where
     requires { (100 * i + 32 ≤ length own.now) × (100 * up + 32 ≤ length cache.now) × (100 * down + 32 ≤ length cache.now) }
-    ensures { result ≡ nearestOf (number target) own.now i cache.now up down }
+    ensures { result ≡ nearest_of (number target) own.now i cache.now up down }
 {
     let ours = key::key_at(own, record::RECORD_LEN * i);
     let over = key::key_at(cache, record::RECORD_LEN * up);
@@ -64,8 +64,8 @@ fn nearest_of(own: &[u8], i: usize, cache: &[u8], up: usize, down: usize, target
 // none is not.
 fn skipped_up(cache: &[u8], used: usize, at: usize, path: &[u8]) -> usize
     requires { (100 * used ≤ length cache.now) × (at ≤ used)
-        × Every (λ (q : List ℕ). recordForm q ≡ true) (rows 100 used cache.now) }
-    ensures { result ≡ skippedUp path.now cache.now used at }
+        × Every (λ (q : List ℕ). record_form q ≡ true) (rows 100 used cache.now) }
+    ensures { result ≡ skipped_up path.now cache.now used at }
 {
     let mut i = 0;
     while i < used {
@@ -81,8 +81,8 @@ fn skipped_up(cache: &[u8], used: usize, at: usize, path: &[u8]) -> usize
 // The same from before the place down.
 fn skipped_down(cache: &[u8], used: usize, at: usize, path: &[u8]) -> usize
     requires { (100 * used ≤ length cache.now) × (at ≤ used)
-        × Every (λ (q : List ℕ). recordForm q ≡ true) (rows 100 used cache.now) }
-    ensures { result ≡ skippedDown path.now cache.now used at }
+        × Every (λ (q : List ℕ). record_form q ≡ true) (rows 100 used cache.now) }
+    ensures { result ≡ skipped_down path.now cache.now used at }
 {
     let mut i = 0;
     while i < used {
@@ -106,13 +106,13 @@ fn place_of_closest(
     path: &[u8],
     target: &[u8],
 ) -> Where
-    requires own_value { (ownForm own.now ≡ true) × (32 ≤ length target.now) }
-    requires form { Form (ownKeys own.now) cache.now (rows 100 used cache.now) }
-    requires at_value { at ≡ countUnder (key_at 0 target.now) (keys_of (rows 100 used cache.now)) }
-    ensures result_value { recordAt own.now cache.now result
-        ≡ closestOf (key_at 0 target.now) (candidates (ownRecords own.now)
-        (offPath path.now (rows 100 used cache.now))) }
-    ensures within { Within (length (ownRecords own.now)) used result }
+    requires own_value { (own_form own.now ≡ true) × (32 ≤ length target.now) }
+    requires form { Form (own_keys own.now) cache.now (rows 100 used cache.now) }
+    requires at_value { at ≡ count_under (key_at 0 target.now) (keys_of (rows 100 used cache.now)) }
+    ensures result_value { record_at own.now cache.now result
+        ≡ closest_of (key_at 0 target.now) (candidates (own_records own.now)
+        (off_path path.now (rows 100 used cache.now))) }
+    ensures within { Within (length (own_records own.now)) used result }
 {
     let ours = closest_row::place_of(own, own::count(own), key::key_at(target, 0));
     let over = skipped_up(cache, used, at, path);
@@ -134,10 +134,10 @@ pub fn closest<'a>(
     path: &[u8],
     target: &[u8],
 ) -> &'a [u8]
-    requires own_value { (ownForm own.now ≡ true) × (32 ≤ length target.now) }
-    requires form { Form (ownKeys own.now) cache.now (rows 100 used cache.now) }
-    ensures { result.now ≡ closestOf (key_at 0 target.now) (candidates (ownRecords own.now)
-        (offPath path.now (rows 100 used cache.now))) }
+    requires own_value { (own_form own.now ≡ true) × (32 ≤ length target.now) }
+    requires form { Form (own_keys own.now) cache.now (rows 100 used cache.now) }
+    ensures { result.now ≡ closest_of (key_at 0 target.now) (candidates (own_records own.now)
+        (off_path path.now (rows 100 used cache.now))) }
 {
     let place = sides::count_under(target, cache, used);
     match place_of_closest(own, cache, used, place, path, target) {
@@ -155,11 +155,11 @@ pub fn closest<'a>(
 // Which record is the closest to the target, on memory that nobody has tested: refused with 1 where it is not in form, the
 // path is not whole endpoints or the target has not 32 bytes.
 pub fn closest_record(own: &[u8], cache: &[u8], path: &[u8], target: &[u8]) -> Sighted
-    ensures nearest_value { shownBy own.now cache.now result.nearest
-        ≡ closestCall own.now cache.now path.now target.now }
+    ensures nearest_value { shown_by own.now cache.now result.nearest
+        ≡ closest_call own.now cache.now path.now target.now }
     ensures inside { Inside own.now cache.now result.nearest }
     ensures compared_value { result.compared
-        ≡ closestCompared own.now cache.now path.now target.now }
+        ≡ closest_compared own.now cache.now path.now target.now }
 {
     let found = cache::memory(own, cache);
     let Formed::Good(used) = found else {

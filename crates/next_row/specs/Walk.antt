@@ -22,21 +22,21 @@ abbrev pub row_at : ℕ → List ℕ → ℕ → Option (List ℕ)
 row_at n s i = cond (eqb i n) none (some (part (100 * i) 100 s))
 
 -- is the record taken in place of what was found before it?
-abbrev pub takesOver : ℕ → List ℕ → Option (List ℕ) → Bool
-takesOver t r none = true
-takesOver t r (some x) = closer t (key_of r) (key_of x)
+abbrev pub takes_over : ℕ → List ℕ → Option (List ℕ) → Bool
+takes_over t r none = true
+takes_over t r (some x) = closer t (key_of r) (key_of x)
 
 -- the place of the closest of the records that pass a test: what was found before, o, stands at place b, and those of the list stand from place i on
-unfoldable pub placeFrom : ℕ → (List ℕ → Bool) → ℕ → Option (List ℕ) → ℕ → List (List ℕ) → ℕ
-placeFrom t f b o i [] = b
-placeFrom t f b o i (r ∷ rs) = let c = f r && takesOver t r o in placeFrom t f (cond c i b) (cond c (some r) o) (i + 1) rs
+unfoldable pub place_from : ℕ → (List ℕ → Bool) → ℕ → Option (List ℕ) → ℕ → List (List ℕ) → ℕ
+place_from t f b o i [] = b
+place_from t f b o i (r ∷ rs) = let c = f r && takes_over t r o in place_from t f (cond c i b) (cond c (some r) o) (i + 1) rs
 
 -- among the first n rows, the first of those equally close; n where none passes
-abbrev pub placeAmong : ℕ → (List ℕ → Bool) → ℕ → List ℕ → ℕ
-placeAmong t f n s = placeFrom t f n none 0 (rows 100 n s)
+abbrev pub place_among : ℕ → (List ℕ → Bool) → ℕ → List ℕ → ℕ
+place_among t f n s = place_from t f n none 0 (rows 100 n s)
 
 -- which of two that were found, the second only where it is closer
-abbrev pub closerOf : ℕ → Option (List ℕ) → Option (List ℕ) → Option (List ℕ)
-closerOf t none o = o
-closerOf t (some r) none = some r
-closerOf t (some r) (some x) = some (cond (closer t (key_of x) (key_of r)) x r)
+abbrev pub closer_of : ℕ → Option (List ℕ) → Option (List ℕ) → Option (List ℕ)
+closer_of t none o = o
+closer_of t (some r) none = some r
+closer_of t (some r) (some x) = some (cond (closer t (key_of x) (key_of r)) x r)

@@ -2,10 +2,10 @@
 ghost use Rattle.std.specs.Prelude.{◌≡◌, true, ◌&&◌, List, ℕ, ◌+◌, ◌*◌, ◌≤◌, ◌<◌, length, get_or};
 ghost use Rattle.octet.specs.Part.{part};
 ghost use Rattle.key.specs.Number.{number};
-ghost use Rattle.record.specs.Record.{recordForm};
+ghost use Rattle.record.specs.Record.{record_form};
 ghost use Rattle.table.specs.Rows.{rows};
 ghost use Rattle.kept.specs.Keys.{Every};
-ghost use Rattle.next_row.specs.Walk.{wanted as wantedOf, row_at, takesOver, placeAmong};
+ghost use Rattle.next_row.specs.Walk.{wanted as wantedOf, row_at, takes_over, place_among};
 
 use key::Key;
 
@@ -35,9 +35,9 @@ fn is_taken(
     k: Key,
 ) -> bool
     requires { (100 * n ≤ length s.now) × (best ≤ n) × (i < n)
-        × Every (λ (q : List ℕ). recordForm q ≡ true) (rows 100 n s.now) }
+        × Every (λ (q : List ℕ). record_form q ≡ true) (rows 100 n s.now) }
     ensures { result ≡ (wantedOf path.now leave (number k) (part (100 * i) 100 s.now)
-        && takesOver (number target) (part (100 * i) 100 s.now) (row_at n s.now best)) }
+        && takes_over (number target) (part (100 * i) 100 s.now) (row_at n s.now best)) }
 {
     let start = record::RECORD_LEN * i;
     if !is_wanted(s, start, path, leave, k) {
@@ -55,8 +55,8 @@ fn is_taken(
 
 // The place of the closest to the target among those of n rows that are looked for; n where there is none.
 pub fn row_of(s: &[u8], n: usize, path: &[u8], target: Key, leave: bool, k: Key) -> usize
-    requires { (100 * n ≤ length s.now) × Every (λ (q : List ℕ). recordForm q ≡ true) (rows 100 n s.now) }
-    ensures { result ≡ placeAmong (number target) (wantedOf path.now leave (number k)) n s.now }
+    requires { (100 * n ≤ length s.now) × Every (λ (q : List ℕ). record_form q ≡ true) (rows 100 n s.now) }
+    ensures { result ≡ place_among (number target) (wantedOf path.now leave (number k)) n s.now }
 {
     let mut best = n;
     let mut i = 0;

@@ -5,22 +5,22 @@ use mathlib.Core.List.{List, [], ◌∷◌}
 use Prim.Native.Nat.{ℕ, ◌+◌}
 use Rattle.trace.specs.Fault.{ends}
 use Rattle.night.specs.Step.{Night, step_of}
-use Rattle.night.specs.Replay.{line_of, replayed, behind, atEnd, replayFrom}
+use Rattle.night.specs.Replay.{line_of, replayed, behind, at_end, replay_from}
 
 module _ (at : ℕ) (n : Night) where
-  pub at-end : replayFrom at n [] ≡ replayed (atEnd at) n
-  unfolding replayFrom
-  at-end = refl
+  pub at_end_lem : replay_from at n [] ≡ replayed (at_end at) n
+  unfolding replay_from
+  at_end_lem = refl
 
   module _ (r : List ℕ) (rs : List (List ℕ)) where
     -- the replay goes on behind a record that is not bad ..
     pub goes_on : ends (step_of at n r).answer ≡ false
-        → replayFrom at n (r ∷ rs) ≡ behind (line_of at (step_of at n r).answer) (replayFrom (at + 1) (step_of at n r).night rs)
-    unfolding replayFrom
+        → replay_from at n (r ∷ rs) ≡ behind (line_of at (step_of at n r).answer) (replay_from (at + 1) (step_of at n r).night rs)
+    unfolding replay_from
     goes_on e = rw e refl
 
     -- .. and ends with one that is
     pub ends_there : ends (step_of at n r).answer ≡ true
-        → replayFrom at n (r ∷ rs) ≡ replayed (line_of at (step_of at n r).answer) (step_of at n r).night
-    unfolding replayFrom
+        → replay_from at n (r ∷ rs) ≡ replayed (line_of at (step_of at n r).answer) (step_of at n r).night
+    unfolding replay_from
     ends_there e = rw e refl

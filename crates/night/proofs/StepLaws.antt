@@ -5,9 +5,9 @@ use mathlib.Core.List.{List}
 use Prim.Native.Nat.{ℕ, ◌<◌}
 use lib.ListN.{length}
 use borrow.Author.Tests.{eq-eqb, ne_eqb}
-use Rattle.refusal.specs.Table.{first_of, orRefuse}
-use Rattle.refusal.proofs.TableLaws.{all-fail}
-use Rattle.refusal.proofs.CallLaws.{all_pass, row-passes, or-refuses}
+use Rattle.refusal.specs.Table.{first_of, or_refuse}
+use Rattle.refusal.proofs.TableLaws.{all_fail}
+use Rattle.refusal.proofs.CallLaws.{all_pass, row_passes, or_refuses}
 use Rattle.trace.specs.Trace.{kind_of, body_of}
 use Rattle.trace.specs.Fault.{faults}
 use Rattle.night.specs.Step.{Night, night, stepped, called, call_of, taken, step_of}
@@ -17,15 +17,15 @@ use Rattle.trace.proofs.FaultLaws.{in_order}
 
 module _ (at : ℕ) (n : Night) (r : List ℕ) where
   module _ (fit : length n.opening ≡ 102) where
-    passes : step_of at n r ≡ orRefuse (λ (k : ℕ). stepped k n) (faults at r) (taken n r)
+    passes : step_of at n r ≡ or_refuse (λ (k : ℕ). stepped k n) (faults at r) (taken n r)
     unfolding step_of
-    passes = row-passes (λ (k : ℕ). stepped k n) 1 _ (faults at r) (taken n r) (ap not (eq-eqb _ _ fit))
+    passes = row_passes (λ (k : ℕ). stepped k n) 1 _ (faults at r) (taken n r) (ap not (eq-eqb _ _ fit))
 
     pub step-bad : 0 < first_of (faults at r) → step_of at n r ≡ stepped (first_of (faults at r)) n
-    step-bad p = passes ∙ or-refuses (λ (k : ℕ). stepped k n) (faults at r) (taken n r) p
+    step-bad p = passes ∙ or_refuses (λ (k : ℕ). stepped k n) (faults at r) (taken n r) p
 
     pub step-good : first_of (faults at r) ≡ 0 → step_of at n r ≡ taken n r
-    step-good e = passes ∙ all_pass (λ (k : ℕ). stepped k n) (faults at r) (taken n r) (all-fail _ (faults at r) 16 (in_order at r) e)
+    step-good e = passes ∙ all_pass (λ (k : ℕ). stepped k n) (faults at r) (taken n r) (all_fail _ (faults at r) 16 (in_order at r) e)
 
   -- ---- taken
 

@@ -1,7 +1,7 @@
 -- To believe. The replay of a trace: "writes for each later record its number from 1, a space and the answer"; "each is written as that record's line, the
 -- replay stops there with the state so far, a bad first record has line number 0, an empty trace gives "0 17"". Assumes nothing.
 use Rattle.std.specs.Prelude.{ℕ, ◌+◌, cond, ◌&&◌, List, [], ◌∷◌, ◌++◌, eqb}
-use Rattle.trace.specs.Trace.{recordsOf}
+use Rattle.trace.specs.Trace.{records_of}
 use Rattle.trace.specs.Fault.{ends}
 use Rattle.night.specs.Step.{Night, Stepped, start, step_of}
 
@@ -27,14 +27,14 @@ abbrev pub behind : List Line → Replayed → Replayed
 behind lines r = replayed (lines ++ r.lines) r.night
 
 -- the end of the trace: nothing more, but for a trace of no record
-abbrev pub atEnd : ℕ → List Line
-atEnd at = cond (eqb at 0) (line 0 17 ∷ []) []
+abbrev pub at_end : ℕ → List Line
+at_end at = cond (eqb at 0) (line 0 17 ∷ []) []
 
-unfoldable pub replayFrom : ℕ → Night → List (List ℕ) → Replayed
-replayFrom at n [] = replayed (atEnd at) n
-replayFrom at n (r ∷ rs) =
+unfoldable pub replay_from : ℕ → Night → List (List ℕ) → Replayed
+replay_from at n [] = replayed (at_end at) n
+replay_from at n (r ∷ rs) =
     let s = step_of at n r in
-    cond (ends s.answer) (replayed (line_of at s.answer) s.night) (behind (line_of at s.answer) (replayFrom (at + 1) s.night rs))
+    cond (ends s.answer) (replayed (line_of at s.answer) s.night) (behind (line_of at s.answer) (replay_from (at + 1) s.night rs))
 
 abbrev pub replay : List ℕ → Replayed
-replay bytes = replayFrom 0 start (recordsOf bytes)
+replay bytes = replay_from 0 start (records_of bytes)

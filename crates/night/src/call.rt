@@ -1,9 +1,9 @@
 // The calls of a night. Each is handed an output of 2,464 zero bytes; the own CPA is one zero byte, lent behind its length. Cache, counts and
 // waiting table are taken out of the night's one slice for a call that may write them, and put back behind it.
 ghost use Rattle.std.specs.Prelude.{◌≡◌, true, ◌≤◌, length, replicate};
-ghost use Rattle.trace.specs.Trace.{bodyFits};
-ghost use Rattle.night.specs.Step.{stateLen, nightIn, received, sent, ticked, call_of};
-ghost use Rattle.night.specs.Told.{told, calledTold};
+ghost use Rattle.trace.specs.Trace.{body_fits};
+ghost use Rattle.night.specs.Step.{state_len, night_in, received, sent, ticked, call_of};
+ghost use Rattle.night.specs.Told.{told, called_told};
 
 use crate::{CACHE, FIRSTS, OPENING, TABLES, WAITING, WAITING_AT};
 use gauge_commit::Answer;
@@ -21,11 +21,11 @@ fn wide(x: u8) -> u32
 
 // Kind 1: message ID 4, verdict 1, key 32, nonce 16, datagram.
 fn receive(state: &mut [u8], body: &[u8], output: &mut [u8]) -> Answer
-    requires state_len { length state.old ≡ stateLen }
+    requires state_len { length state.old ≡ state_len }
     requires in_bounds { 53 ≤ length body.now }
     requires output_value { output.old ≡ replicate 2464 0 }
-    ensures { told result (nightIn state.new) output.new ≡ calledTold (nightIn state.old)
-        (received (nightIn state.old).opening body.now) }
+    ensures { told result (night_in state.new) output.new ≡ called_told (night_in state.old)
+        (received (night_in state.old).opening body.now) }
 {
     let cpas = [1u8, 0, 0];
     let mut own = [0u8; record::RECORD_LEN];
@@ -63,11 +63,11 @@ fn receive(state: &mut [u8], body: &[u8], output: &mut [u8]) -> Answer
 
 // Kind 2: message ID 4, neighbour key 32, record key 32.
 fn send(state: &mut [u8], body: &[u8], output: &mut [u8]) -> Answer
-    requires state_len { length state.old ≡ stateLen }
+    requires state_len { length state.old ≡ state_len }
     requires body_len { length body.now ≡ 68 }
     requires output_value { output.old ≡ replicate 2464 0 }
-    ensures { told result (nightIn state.new) output.new ≡ calledTold (nightIn state.old)
-        (sent (nightIn state.old).opening body.now) }
+    ensures { told result (night_in state.new) output.new ≡ called_told (night_in state.old)
+        (sent (night_in state.old).opening body.now) }
 {
     let mut own = [0u8; record::RECORD_LEN];
     let mut waiting = [0u8; WAITING];
@@ -93,10 +93,10 @@ fn send(state: &mut [u8], body: &[u8], output: &mut [u8]) -> Answer
 
 // Kind 3: no body.
 fn tick(state: &mut [u8], output: &mut [u8]) -> Answer
-    requires state_len { length state.old ≡ stateLen }
+    requires state_len { length state.old ≡ state_len }
     requires output_value { output.old ≡ replicate 2464 0 }
-    ensures { told result (nightIn state.new) output.new ≡ calledTold (nightIn state.old)
-        (ticked (nightIn state.old).opening) }
+    ensures { told result (night_in state.new) output.new ≡ called_told (night_in state.old)
+        (ticked (night_in state.old).opening) }
 {
     let mut waiting = [0u8; WAITING];
     runs::copy_to(&mut waiting, 0, &state[WAITING_AT..TABLES]);
@@ -107,11 +107,11 @@ fn tick(state: &mut [u8], output: &mut [u8]) -> Answer
 
 // The call that a record of kind 1, 2 or 3 is.
 pub(crate) fn make(kind: u16, state: &mut [u8], body: &[u8], output: &mut [u8]) -> Answer
-    requires state_len { length state.old ≡ stateLen }
-    requires body_value { bodyFits kind (length body.now) ≡ true }
+    requires state_len { length state.old ≡ state_len }
+    requires body_value { body_fits kind (length body.now) ≡ true }
     requires output_value { output.old ≡ replicate 2464 0 }
-    ensures { told result (nightIn state.new) output.new ≡ calledTold (nightIn state.old)
-        (call_of (nightIn state.old).opening kind body.now) }
+    ensures { told result (night_in state.new) output.new ≡ called_told (night_in state.old)
+        (call_of (night_in state.old).opening kind body.now) }
 {
     if kind == 1 {
         return receive(state, body, output);

@@ -3,8 +3,8 @@ mod call;
 
 ghost use Rattle.std.specs.Prelude.{◌≡◌, length};
 ghost use Rattle.gauge_commit.specs.Sending.{answer};
-ghost use Rattle.night.specs.Step.{nightIn, stepped, step_of};
-ghost use Rattle.night.specs.Told.{told, stepTold};
+ghost use Rattle.night.specs.Step.{night_in, stepped, step_of};
+ghost use Rattle.night.specs.Told.{told, step_told};
 
 use gauge_commit::Answer;
 
@@ -41,8 +41,8 @@ fn number_alone(number: u32) -> Answer
 // Record number `at` of a night, counted from 0: what its call answers, with what it writes at the start of an output that is zero
 // behind it. Of the record that opens the night the number is 0, and 16 or 17 where it is bad.
 pub fn step_told(at: u64, state: &mut [u8], piece: &[u8], output: &mut [u8]) -> Answer
-    ensures { told result (nightIn state.new) output.new
-        ≡ stepTold at (nightIn state.old) piece.now (length output.old) }
+    ensures { told result (night_in state.new) output.new
+        ≡ step_told at (night_in state.old) piece.now (length output.old) }
 {
     let room = output.len();
     runs::clear(output, 0, room);
@@ -66,8 +66,8 @@ pub fn step_told(at: u64, state: &mut [u8], piece: &[u8], output: &mut [u8]) -> 
 
 // The same for whoever asks for the number alone.
 pub fn step(at: u64, state: &mut [u8], piece: &[u8]) -> u32
-    ensures { stepped result (nightIn state.new)
-        ≡ step_of at (nightIn state.old) piece.now }
+    ensures { stepped result (night_in state.new)
+        ≡ step_of at (night_in state.old) piece.now }
 {
     let mut output = [0u8; OUTPUT];
     let answer = step_told(at, state, piece, &mut output);

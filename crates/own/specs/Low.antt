@@ -2,6 +2,6 @@
 use Rattle.std.specs.Prelude.{ℕ, zero, suc, ◌*◌, List}
 use Rattle.key.specs.Number.{key_at}
 
-unfoldable pub lowAt : List ℕ → ℕ → ℕ
-lowAt s zero = 0
-lowAt s (suc i) = suc (key_at (100 * i) s)
+unfoldable pub low_at : List ℕ → ℕ → ℕ
+low_at s zero = 0
+low_at s (suc i) = suc (key_at (100 * i) s)

@@ -2,16 +2,16 @@
 ghost use Rattle.std.specs.Prelude.{◌≡◌, ◌&&◌, ◌+◌, ◌*◌, ◌≤◌, leb, length};
 ghost use Rattle.octet.specs.Part.{part};
 ghost use Rattle.key.specs.Number.{key_at};
-ghost use Rattle.record.specs.Record.{key_of, recordForm};
-ghost use Rattle.own.specs.Own.{ownForm};
-ghost use Rattle.own.specs.Low.{lowAt};
+ghost use Rattle.record.specs.Record.{key_of, record_form};
+ghost use Rattle.own.specs.Own.{own_form};
+ghost use Rattle.own.specs.Low.{low_at};
 
 use key::Order;
 
 // Is the key at place i of records above the one before it?
 pub fn above_before(s: &[u8], i: usize) -> bool
     requires { 100 * i + 100 ≤ length s.now }
-    ensures { result ≡ leb (lowAt s.now i) (key_at (100 * i) s.now) }
+    ensures { result ≡ leb (low_at s.now i) (key_at (100 * i) s.now) }
 {
     if i == 0 {
         return true;
@@ -27,8 +27,8 @@ pub fn above_before(s: &[u8], i: usize) -> bool
 // Has place i a record in form with a key above the one before it?
 fn follows(own: &[u8], i: usize) -> bool
     requires { 100 * i + 100 ≤ length own.now }
-    ensures { result ≡ recordForm (part (100 * i) 100 own.now)
-        && leb (lowAt own.now i) (key_of (part (100 * i) 100 own.now)) }
+    ensures { result ≡ record_form (part (100 * i) 100 own.now)
+        && leb (low_at own.now i) (key_of (part (100 * i) 100 own.now)) }
 {
     if !record::is_formed(own, record::RECORD_LEN * i) {
         return false;
@@ -38,7 +38,7 @@ fn follows(own: &[u8], i: usize) -> bool
 
 // Are own records in form, so many as they may be?
 fn all_formed(own: &[u8]) -> bool
-    ensures { result ≡ ownForm own.now }
+    ensures { result ≡ own_form own.now }
 {
     let size = own.len();
     if size % record::RECORD_LEN != 0 {
@@ -63,7 +63,7 @@ fn all_formed(own: &[u8]) -> bool
 
 // Are the own records in form? Mostly it is one.
 pub fn own_form(own: &[u8]) -> bool
-    ensures { result ≡ ownForm own.now }
+    ensures { result ≡ own_form own.now }
 {
     if own.len() == record::RECORD_LEN {
         return record::is_record(own);

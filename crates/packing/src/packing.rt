@@ -1,17 +1,17 @@
 // A reading into bytes. Every refusal comes before the first byte.
 ghost use Rattle.std.specs.Prelude.{◌≡◌, true, ◌++◌, ◌+◌, ◌≤◌, length};
-ghost use Rattle.octet.specs.Number.{digitsLE};
+ghost use Rattle.octet.specs.Number.{digits_le};
 ghost use Rattle.octet.specs.Part.{splice};
 ghost use Rattle.readings.specs.Depth.{allowed};
-ghost use Rattle.readings.specs.Reading.{depth_of, faultOf, fine, Typed};
-ghost use Rattle.readings.specs.Pack.{packHanded, packOf, packNumber};
+ghost use Rattle.readings.specs.Reading.{depth_of, fault_of, fine, Typed};
+ghost use Rattle.readings.specs.Pack.{pack_handed, pack_of, pack_number};
 
 use readings::{Measured, Packed, Reading};
 
 // Writes the reading to the start of `out`; 1 where there is no room, 3 where the depth is outside. Every reading that a program
 // can hand in is one of those that the theorems speak of.
 pub fn pack(reading: Reading, out: &mut [u8]) -> Packed
-    ensures out_after { packHanded result out.new ≡ packOf reading out.old }
+    ensures out_after { pack_handed result out.new ≡ pack_of reading out.old }
     ensures typed { Typed reading }
 {
     let measured = reading.measured;
@@ -25,7 +25,7 @@ pub fn pack(reading: Reading, out: &mut [u8]) -> Packed
 // of its depth but the bits.
 pub fn pack_allowed(reading: Reading, out: &mut [u8]) -> Packed
     requires { fine reading.measured ≡ true }
-    ensures { packHanded result out.new ≡ packOf reading out.old }
+    ensures { pack_handed result out.new ≡ pack_of reading out.old }
 {
     let measured = reading.measured;
     match measured {
@@ -35,7 +35,7 @@ pub fn pack_allowed(reading: Reading, out: &mut [u8]) -> Packed
 }
 
 fn pack_depth(depth: f32, inflow: u32, outflow: u32, out: &mut [u8]) -> Packed
-    ensures out_after { packHanded result out.new ≡ packOf (depth_of depth inflow outflow) out.old }
+    ensures out_after { pack_handed result out.new ≡ pack_of (depth_of depth inflow outflow) out.old }
     ensures typed { Typed (depth_of depth inflow outflow) }
 {
     if out.len() < 16 {
@@ -50,7 +50,7 @@ fn pack_depth(depth: f32, inflow: u32, outflow: u32, out: &mut [u8]) -> Packed
 // Of a depth that is allowed; 1 where there is no room.
 fn put_depth(depth: f32, inflow: u32, outflow: u32, out: &mut [u8]) -> Packed
     requires { allowed depth ≡ true }
-    ensures { packHanded result out.new ≡ packOf (depth_of depth inflow outflow) out.old }
+    ensures { pack_handed result out.new ≡ pack_of (depth_of depth inflow outflow) out.old }
 {
     if out.len() < 16 {
         return Packed::Refused(1);
@@ -62,8 +62,8 @@ fn put_depth(depth: f32, inflow: u32, outflow: u32, out: &mut [u8]) -> Packed
 }
 
 fn pack_fault(fault: u16, inflow: u32, outflow: u32, out: &mut [u8]) -> Packed
-    ensures out_after { packHanded result out.new ≡ packOf (faultOf fault inflow outflow) out.old }
-    ensures typed { Typed (faultOf fault inflow outflow) }
+    ensures out_after { pack_handed result out.new ≡ pack_of (fault_of fault inflow outflow) out.old }
+    ensures typed { Typed (fault_of fault inflow outflow) }
 {
     if out.len() < 14 {
         return Packed::Refused(1);
@@ -77,7 +77,7 @@ fn pack_fault(fault: u16, inflow: u32, outflow: u32, out: &mut [u8]) -> Packed
 // The length of what follows it, and the kind.
 fn put_head(out: &mut [u8], size: u16, kind: u16)
     requires { 4 ≤ length out.old }
-    ensures { out.new ≡ splice 0 (digitsLE 256 2 size ++ digitsLE 256 2 kind) out.old }
+    ensures { out.new ≡ splice 0 (digits_le 256 2 size ++ digits_le 256 2 kind) out.old }
 {
     octet::write_u16_le(out, 0, size);
     octet::write_u16_le(out, 2, kind);
@@ -86,7 +86,7 @@ fn put_head(out: &mut [u8], size: u16, kind: u16)
 // Litres in, litres out.
 fn put_litres(out: &mut [u8], at: usize, inflow: u32, outflow: u32)
     requires { at + 8 ≤ length out.old }
-    ensures { out.new ≡ splice at (digitsLE 256 4 inflow ++ digitsLE 256 4 outflow) out.old }
+    ensures { out.new ≡ splice at (digits_le 256 4 inflow ++ digits_le 256 4 outflow) out.old }
 {
     octet::write_u32_le(out, at, inflow);
     octet::write_u32_le(out, at + 4, outflow);
@@ -94,7 +94,7 @@ fn put_litres(out: &mut [u8], at: usize, inflow: u32, outflow: u32)
 
 // 0 where it was written.
 pub fn pack_number(answer: Packed) -> u32
-    ensures { result ≡ packNumber answer }
+    ensures { result ≡ pack_number answer }
 {
     match answer {
         Packed::Written(_) => 0,

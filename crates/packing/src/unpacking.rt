@@ -1,13 +1,13 @@
 // A reading out of bytes.
 ghost use Rattle.std.specs.Prelude.{◌≡◌};
-ghost use Rattle.readings.specs.Unpack.{unpackOf, unpackNumber};
-ghost use Rattle.readings.specs.Kinds.{depthIn, faultIn};
+ghost use Rattle.readings.specs.Unpack.{unpack_of, unpack_number};
+ghost use Rattle.readings.specs.Kinds.{depth_in, fault_in};
 
 use readings::{Measured, Reading, Unpacked};
 
 // The reading that the whole slice is; 1 where its length is wrong, 2 for an unknown kind, 3 where the depth is outside.
 pub fn unpack(s: &[u8]) -> Unpacked
-    ensures { result ≡ unpackOf s.now }
+    ensures { result ≡ unpack_of s.now }
 {
     if s.len() < 4 {
         return Unpacked::Refused(1);
@@ -28,7 +28,7 @@ pub fn unpack(s: &[u8]) -> Unpacked
 
 // The same, once the kind is known to be 1, or 2.
 fn unpack_depth(s: &[u8]) -> Unpacked
-    ensures { result ≡ depthIn s.now }
+    ensures { result ≡ depth_in s.now }
 {
     if s.len() != 16 {
         return Unpacked::Refused(1);
@@ -40,7 +40,7 @@ fn unpack_depth(s: &[u8]) -> Unpacked
 }
 
 fn unpack_fault(s: &[u8]) -> Unpacked
-    ensures { result ≡ faultIn s.now }
+    ensures { result ≡ fault_in s.now }
 {
     if s.len() != 14 {
         return Unpacked::Refused(1);
@@ -57,7 +57,7 @@ fn unpack_fault(s: &[u8]) -> Unpacked
 
 // 0 with a reading.
 pub fn unpack_number(answer: Unpacked) -> u32
-    ensures { result ≡ unpackNumber answer }
+    ensures { result ≡ unpack_number answer }
 {
     match answer {
         Unpacked::Read(_) => 0,

@@ -1,15 +1,15 @@
 // Does a record stand on the path of a LOOKUP? A path is endpoints as on the wire, 18 bytes each: port 2, address 16.
 ghost use Rattle.std.specs.Prelude.{◌≡◌, ◌+◌, ◌≤◌, eqb, length, get_or};
 ghost use Rattle.octet.specs.Part.{part, same};
-ghost use Rattle.record.specs.Record.{portOf};
-ghost use Rattle.path.specs.Path.{pathForm, endpointPort, on_path};
+ghost use Rattle.record.specs.Record.{port_of};
+ghost use Rattle.path.specs.Path.{path_form, endpoint_port, on_path};
 
 // How many bytes an endpoint has.
 pub const ENDPOINT_LEN: usize = 18;
 
 // Is the path made of whole endpoints? None is allowed.
 pub fn is_path(path: &[u8]) -> bool
-    ensures { result ≡ pathForm path.now }
+    ensures { result ≡ path_form path.now }
 {
     path.len() % ENDPOINT_LEN == 0
 }
@@ -18,7 +18,7 @@ pub fn is_path(path: &[u8]) -> bool
 fn same_port(s: &[u8], at: usize, path: &[u8], start: usize) -> bool
     requires { (at + 100 ≤ length s.now) × (start + 18 ≤ length path.now) }
     ensures { result
-        ≡ eqb (endpointPort (part start 18 path.now)) (portOf (part at 100 s.now)) }
+        ≡ eqb (endpoint_port (part start 18 path.now)) (port_of (part at 100 s.now)) }
 {
     let port = octet::read_u16_le(s, at + 32);
     octet::read_u16_le(path, start) == port

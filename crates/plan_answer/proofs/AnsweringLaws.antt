@@ -13,103 +13,103 @@ use Rattle.octet.specs.Part.{part}
 use Rattle.octet.proofs.TestLaws.{both_true}
 use Rattle.key.specs.Number.{key_at}
 use Rattle.record.specs.Record.{count_of}
-use Rattle.own.specs.Own.{Own, ownKeys, ownRecords, ownPlace, isOwn, IsOwn}
+use Rattle.own.specs.Own.{Own, own_keys, own_records, own_place, is_own, IsOwn}
 use Rattle.own.proofs.PlaceLaws.{own_in}
-use Rattle.refusal.specs.Table.{when, orRefuse, Refusal, first_of}
-use Rattle.cpas.specs.Cpas.{cpaOf}
-use Rattle.refusal.proofs.CallLaws.{or-known}
+use Rattle.refusal.specs.Table.{when, or_refuse, Refusal, first_of}
+use Rattle.cpas.specs.Cpas.{cpa_of}
+use Rattle.refusal.proofs.CallLaws.{or_known}
 use Rattle.table.specs.Rows.{rows, any_of}
 use Rattle.table.proofs.RowLaws.{rows-length, row_at}
-use Rattle.neighbours.specs.Closest.{candidates, offPath, closestOf}
-use Rattle.waiting.specs.Place.{id_of, kind_of, placeKey}
+use Rattle.neighbours.specs.Closest.{candidates, off_path, closest_of}
+use Rattle.waiting.specs.Place.{id_of, kind_of, place_key}
 use Rattle.table.specs.Seek.{seek}
-use Rattle.waiting.specs.Seek.{is_at, hasId}
+use Rattle.waiting.specs.Seek.{is_at, has_id}
 use Rattle.table.specs.declared.Found.{Found}
 use Rattle.table.specs.declared.Found.TheVariants.{At, Nothing}
 use Rattle.waiting.proofs.PlaceLaws.{key-at}
-use Rattle.table.proofs.SeekLaws.{found_within, found-passes}
-use Rattle.gauge_plan.specs.Found.{isNothing, place_of}
+use Rattle.table.proofs.SeekLaws.{found_within, found_passes}
+use Rattle.gauge_plan.specs.Found.{is_nothing, place_of}
 use Rattle.gauge_plan.specs.Opening.{open_rows}
-use Rattle.gauge_plan.proofs.OpeningLaws.{open-refuses, open-passes, second-fails}
-use Rattle.asking.specs.Asking.{asksFor, inquireRoom}
-use Rattle.asking.specs.Ids.{idAfter}
-use Rattle.plan_answer.specs.Answering.{authorityPlan, ackPlan, inquirePlan, lookupPlan, authorityRefusals, ackRefusals, inquireRefusals, lookupRefusals}
-use Rattle.gauge_plan.proofs.FoundLaws.{some-found}
+use Rattle.gauge_plan.proofs.OpeningLaws.{open-refuses, open-passes, second_fails}
+use Rattle.asking.specs.Asking.{asks_for, inquire_room}
+use Rattle.asking.specs.Ids.{id_after}
+use Rattle.plan_answer.specs.Answering.{authority_plan, ack_plan, inquire_plan, lookup_plan, authority_refusals, ack_refusals, inquire_refusals, lookup_refusals}
+use Rattle.gauge_plan.proofs.FoundLaws.{some_found}
 use Rattle.gauge_plan.specs.declared.Plan.{Plan}
 use Rattle.gauge_plan.specs.declared.Plan.TheVariants.{Refuse, Flood, Revoke, Learn, Free, Certify, Show}
 
 -- ---- the place found
 
 module _ (test : List ℕ → Bool) (used i : ℕ) (t : List ℕ) (e : seek test 0 (rows 140 used t) ≡ At i) where
-  pub place-within : i < used
-  place-within = omega (arith, found_within test i (rows 140 used t) e, rows-length 140 used t)
+  pub place_within : i < used
+  place_within = omega (arith, found_within test i (rows 140 used t) e, rows-length 140 used t)
 
-  pub place-key : placeKey (get_or (rows 140 used t) i []) ≡ key_at (140 * i + 8) t
-  place-key = ap placeKey (row_at 140 used t i place-within) ∙ key-at (140 * i) t
+  pub place_key_lem : place_key (get_or (rows 140 used t) i []) ≡ key_at (140 * i + 8) t
+  place_key_lem = ap place_key (row_at 140 used t i place_within) ∙ key-at (140 * i) t
 
 -- ---- each plan by the tests that the code makes
 
 module _ (ps : List (List ℕ)) (held used verdict k acked : ℕ) (cpa : Bool) where
-  pub authority-none : seek (is_at acked 2) 0 ps ≡ Nothing → authorityPlan ps held used verdict k acked cpa ≡ Refuse 8
-  unfolding authorityPlan orRefuse
+  pub authority-none : seek (is_at acked 2) 0 ps ≡ Nothing → authority_plan ps held used verdict k acked cpa ≡ Refuse 8
+  unfolding authority_plan or_refuse
   authority-none e = rw e refl
 
   module _ {i : ℕ} (e : seek (is_at acked 2) 0 ps ≡ At i) where
-    pub authority-bare : not cpa ≡ true → authorityPlan ps held used verdict k acked cpa ≡ Refuse 9
-    unfolding authorityPlan orRefuse
+    pub authority-bare : not cpa ≡ true → authority_plan ps held used verdict k acked cpa ≡ Refuse 9
+    unfolding authority_plan or_refuse
     authority-bare b = rw (e, b) refl
 
     module _ (has : not cpa ≡ false) where
-      pub authority-bad : (verdict ≡ 1 → ⊥) → authorityPlan ps held used verdict k acked cpa ≡ Refuse 9
-      unfolding authorityPlan orRefuse
+      pub authority-bad : (verdict ≡ 1 → ⊥) → authority_plan ps held used verdict k acked cpa ≡ Refuse 9
+      unfolding authority_plan or_refuse
       authority-bad d = rw (e, has, ne_eqb verdict 1 d) refl
 
-      module _ (good : verdict ≡ 1) {j : ℕ} (is : placeKey (get_or ps i []) ≡ j) where
-        pub authority-other : eqb k j ≡ false → authorityPlan ps held used verdict k acked cpa ≡ Refuse 10
-        unfolding authorityPlan orRefuse
+      module _ (good : verdict ≡ 1) {j : ℕ} (is : place_key (get_or ps i []) ≡ j) where
+        pub authority-other : eqb k j ≡ false → authority_plan ps held used verdict k acked cpa ≡ Refuse 10
+        unfolding authority_plan or_refuse
         authority-other d = rw (e, has, eq-eqb verdict 1 good, is, d) refl
 
-        pub authority-right : eqb k j ≡ true → authorityPlan ps held used verdict k acked cpa ≡ Learn held used i
-        unfolding authorityPlan orRefuse
+        pub authority-right : eqb k j ≡ true → authority_plan ps held used verdict k acked cpa ≡ Learn held used i
+        unfolding authority_plan or_refuse
         authority-right d = rw (e, has, eq-eqb verdict 1 good, is, d) refl
 
 module _ (ps : List (List ℕ)) (held used acked : ℕ) (n : Bool) where
-  pub ack-none : seek (is_at acked 1) 0 ps ≡ Nothing → ackPlan ps held used acked n ≡ Refuse 8
-  unfolding ackPlan orRefuse
+  pub ack-none : seek (is_at acked 1) 0 ps ≡ Nothing → ack_plan ps held used acked n ≡ Refuse 8
+  unfolding ack_plan or_refuse
   ack-none e = rw e refl
 
-  pub ack-by : {i : ℕ} → seek (is_at acked 1) 0 ps ≡ At i → ackPlan ps held used acked n ≡ Free held used i n
-  unfolding ackPlan orRefuse
+  pub ack-by : {i : ℕ} → seek (is_at acked 1) 0 ps ≡ At i → ack_plan ps held used acked n ≡ Free held used i n
+  unfolding ack_plan or_refuse
   ack-by e = rw e refl
 
 module _ (own : List ℕ) (recs ps : List (List ℕ)) (held used id room : ℕ) (d : List ℕ) (acked target path size start len : ℕ) where
   -- the record shown
   abbrev nearest : List ℕ
-  nearest = closestOf (key_at target d) (candidates (ownRecords own) (offPath (part path size d) recs))
+  nearest = closest_of (key_at target d) (candidates (own_records own) (off_path (part path size d) recs))
 
   -- with opens for whether the entry's record must be inquired about, barred for the number that stands against its place
-  module _ {opens : Bool} {barred : ℕ} (eo : opens ≡ asksFor (ownKeys own) recs ps (part start len d))
-      (eb : barred ≡ first_of (open_rows opens ps used (idAfter id))) where
+  module _ {opens : Bool} {barred : ℕ} (eo : opens ≡ asks_for (own_keys own) recs ps (part start len d))
+      (eb : barred ≡ first_of (open_rows opens ps used (id_after id))) where
     abbrev lookup-done : Plan
     lookup-done = Show held used acked target path size opens start len
 
     abbrev lookup-rest : List Refusal
-    lookup-rest = when 15 (ltb room (80 + 16 * count_of nearest + inquireRoom opens)) ∷ []
+    lookup-rest = when 15 (ltb room (80 + 16 * count_of nearest + inquire_room opens)) ∷ []
 
-    lookup-asked : lookupPlan own recs ps held used id room d acked target path size start len
-        ≡ orRefuse Refuse (open_rows opens ps used (idAfter id) ++ lookup-rest) lookup-done
-    unfolding lookupPlan
+    lookup-asked : lookup_plan own recs ps held used id room d acked target path size start len
+        ≡ or_refuse Refuse (open_rows opens ps used (id_after id) ++ lookup-rest) lookup-done
+    unfolding lookup_plan
     lookup-asked = rw eo refl
 
-    pub lookup-barred : 0 < barred → lookupPlan own recs ps held used id room d acked target path size start len ≡ Refuse barred
-    lookup-barred p = lookup-asked ∙ open-refuses Refuse opens ps used (idAfter id) lookup-rest lookup-done eb p
+    pub lookup-barred : 0 < barred → lookup_plan own recs ps held used id room d acked target path size start len ≡ Refuse barred
+    lookup-barred p = lookup-asked ∙ open-refuses Refuse opens ps used (id_after id) lookup-rest lookup-done eb p
 
     module _ (free : barred ≡ 0) where
-      pub lookup-by : {c : ℕ} → count_of nearest ≡ c → lookupPlan own recs ps held used id room d acked target path size start len
-          ≡ orRefuse Refuse (when 15 (ltb room (80 + 16 * c + inquireRoom opens)) ∷ []) (Show held used acked target path size opens start len)
+      pub lookup-by : {c : ℕ} → count_of nearest ≡ c → lookup_plan own recs ps held used id room d acked target path size start len
+          ≡ or_refuse Refuse (when 15 (ltb room (80 + 16 * c + inquire_room opens)) ∷ []) (Show held used acked target path size opens start len)
       lookup-by e =
-          lookup-asked ∙ open-passes Refuse opens ps used (idAfter id) lookup-rest lookup-done eb free
-          ∙ ap (λ (n : ℕ). orRefuse Refuse (when 15 (ltb room (80 + 16 * n + inquireRoom opens)) ∷ []) lookup-done) e
+          lookup-asked ∙ open-passes Refuse opens ps used (id_after id) lookup-rest lookup-done eb free
+          ∙ ap (λ (n : ℕ). or_refuse Refuse (when 15 (ltb room (80 + 16 * n + inquire_room opens)) ∷ []) lookup-done) e
 
 -- ---- what is known of a plan
 
@@ -129,7 +129,7 @@ pub record Waits (id kind at : ℕ) (ps : List (List ℕ)) : Type 0 where
 pub waits : (id kind at : ℕ) (ps : List (List ℕ)) → seek (is_at id kind) 0 ps ≡ At at → Waits id kind at ps
 waits id kind at ps e =
     let p = get_or ps at [] in
-    let b = both_true (eqb (id_of p) id) (eqb (kind_of p) kind) (found-passes (is_at id kind) at ps e) in
+    let b = both_true (eqb (id_of p) id) (eqb (kind_of p) kind) (found_passes (is_at id kind) at ps e) in
     record {
       found = e;
       within = found_within (is_at id kind) at ps e;
@@ -145,7 +145,7 @@ module _ (ps : List (List ℕ)) (held used verdict k acked : ℕ) (cpa : Bool) w
     pub waiting : Waits acked 2 at ps
     pub cpa-is : cpa ≡ true
     pub verdict-is : verdict ≡ 1
-    pub key-is : k ≡ placeKey (get_or ps at [])
+    pub key-is : k ≡ place_key (get_or ps at [])
 
   abbrev pub KnownAuthority : Plan → Type 0
   KnownAuthority (Refuse m) = Unit {0}
@@ -156,19 +156,19 @@ module _ (ps : List (List ℕ)) (held used verdict k acked : ℕ) (cpa : Bool) w
   KnownAuthority (Certify a i) = ⊥
   KnownAuthority (Show h u a t p m o at size) = ⊥
 
-  pub known-authority : KnownAuthority (authorityPlan ps held used verdict k acked cpa)
-  unfolding authorityPlan
+  pub known-authority : KnownAuthority (authority_plan ps held used verdict k acked cpa)
+  unfolding authority_plan
   known-authority =
       let f = seek (is_at acked 2) 0 ps in
-      or-known KnownAuthority Refuse (authorityRefusals ps verdict k acked cpa) (Learn held used (place_of f))
+      or_known KnownAuthority Refuse (authority_refusals ps verdict k acked cpa) (Learn held used (place_of f))
       (λ m. tt)
       (λ w. let b = neither cpa (eqb verdict 1) w.1.0 in record {
         held-is = refl;
         used-is = refl;
-        waiting = waits acked 2 (place_of f) ps (some-found f w.0);
+        waiting = waits acked 2 (place_of f) ps (some_found f w.0);
         cpa-is = b.0;
         verdict-is = eqb-true verdict 1 b.1;
-        key-is = eqb-true k (placeKey (get_or ps (place_of f) [])) (not-false (eqb k (placeKey (get_or ps (place_of f) []))) w.1.1.0);
+        key-is = eqb-true k (place_key (get_or ps (place_of f) [])) (not-false (eqb k (place_key (get_or ps (place_of f) []))) w.1.1.0);
       })
 
 module _ (ps : List (List ℕ)) (held used acked : ℕ) (n : Bool) where
@@ -188,21 +188,21 @@ module _ (ps : List (List ℕ)) (held used acked : ℕ) (n : Bool) where
   KnownAck (Certify a i) = ⊥
   KnownAck (Show h u a t p m o at size) = ⊥
 
-  pub known-ack : KnownAck (ackPlan ps held used acked n)
-  unfolding ackPlan
+  pub known-ack : KnownAck (ack_plan ps held used acked n)
+  unfolding ack_plan
   known-ack =
       let f = seek (is_at acked 1) 0 ps in
-      or-known KnownAck Refuse (ackRefusals ps acked) (Free held used (place_of f) n)
+      or_known KnownAck Refuse (ack_refusals ps acked) (Free held used (place_of f) n)
       (λ m. tt)
-      (λ w. record { held-is = refl; used-is = refl; n-is = refl; waiting = waits acked 1 (place_of f) ps (some-found f w.0) })
+      (λ w. record { held-is = refl; used-is = refl; n-is = refl; waiting = waits acked 1 (place_of f) ps (some_found f w.0) })
 
 module _ (own : Own) (cpas : List ℕ) (room : ℕ) (d : List ℕ) (acked validate : ℕ) where
   -- an INQUIRE is planned: it is for one of our keys, and the AUTHORITY has room
   pub record Certifying (a at : ℕ) : Type 0 where
     pub acked-is : a ≡ acked
-    pub at-is : at ≡ ownPlace own (key_at validate d)
+    pub at_is : at ≡ own_place own (key_at validate d)
     pub ours : IsOwn own (key_at validate d)
-    pub fits_in : 40 + length (cpaOf at cpas) ≤ room
+    pub fits_in : 40 + length (cpa_of at cpas) ≤ room
 
   abbrev pub KnownInquire : Plan → Type 0
   KnownInquire (Refuse m) = Unit {0}
@@ -213,16 +213,16 @@ module _ (own : Own) (cpas : List ℕ) (room : ℕ) (d : List ℕ) (acked valida
   KnownInquire (Certify a i) = Certifying a i
   KnownInquire (Show h u a t p m o at size) = ⊥
 
-  pub known-inquire : KnownInquire (inquirePlan own cpas room d acked validate)
-  unfolding inquirePlan
+  pub known-inquire : KnownInquire (inquire_plan own cpas room d acked validate)
+  unfolding inquire_plan
   known-inquire =
-      or-known KnownInquire Refuse (inquireRefusals own cpas room d validate) (Certify acked (ownPlace own (key_at validate d)))
+      or_known KnownInquire Refuse (inquire_refusals own cpas room d validate) (Certify acked (own_place own (key_at validate d)))
       (λ m. tt)
       (λ w. record {
         acked-is = refl;
-        at-is = refl;
-        ours = own_in own (key_at validate d) (not-false (isOwn own (key_at validate d)) w.0);
-        fits_in = ltb-false room (40 + length (cpaOf (ownPlace own (key_at validate d)) cpas)) w.1.0;
+        at_is = refl;
+        ours = own_in own (key_at validate d) (not-false (is_own own (key_at validate d)) w.0);
+        fits_in = ltb-false room (40 + length (cpa_of (own_place own (key_at validate d)) cpas)) w.1.0;
       })
 
 module _ (own : List ℕ) (recs ps : List (List ℕ)) (held used id room : ℕ) (d : List ℕ) (acked target path size start len : ℕ) where
@@ -234,12 +234,12 @@ module _ (own : List ℕ) (recs ps : List (List ℕ)) (held used id room : ℕ) 
     pub target_is : t ≡ target
     pub path-is : p ≡ path
     pub size_is : m ≡ size
-    pub opens-is : opens ≡ asksFor (ownKeys own) recs ps (part start len d)
+    pub opens-is : opens ≡ asks_for (own_keys own) recs ps (part start len d)
     pub start_is : at ≡ start
     pub len_is : n ≡ len
-    pub new : opens ≡ true → any_of (hasId (idAfter id)) ps ≡ false
+    pub new : opens ≡ true → any_of (has_id (id_after id)) ps ≡ false
     pub free : opens ≡ true → u ≡ 16 → ⊥
-    pub fits_in : 80 + 16 * count_of (closestOf (key_at target d) (candidates (ownRecords own) (offPath (part path size d) recs))) + inquireRoom opens ≤ room
+    pub fits_in : 80 + 16 * count_of (closest_of (key_at target d) (candidates (own_records own) (off_path (part path size d) recs))) + inquire_room opens ≤ room
 
   abbrev pub KnownLookup : Plan → Type 0
   KnownLookup (Refuse m) = Unit {0}
@@ -250,12 +250,12 @@ module _ (own : List ℕ) (recs ps : List (List ℕ)) (held used id room : ℕ) 
   KnownLookup (Certify a i) = ⊥
   KnownLookup (Show h u a t p m opens at n) = Showing h u a t p m opens at n
 
-  pub known-lookup : KnownLookup (lookupPlan own recs ps held used id room d acked target path size start len)
-  unfolding lookupPlan
+  pub known-lookup : KnownLookup (lookup_plan own recs ps held used id room d acked target path size start len)
+  unfolding lookup_plan
   known-lookup =
-      let r = closestOf (key_at target d) (candidates (ownRecords own) (offPath (part path size d) recs)) in
-      let opens = asksFor (ownKeys own) recs ps (part start len d) in
-      or-known KnownLookup Refuse (lookupRefusals ps used id room opens r) (Show held used acked target path size opens start len)
+      let r = closest_of (key_at target d) (candidates (own_records own) (off_path (part path size d) recs)) in
+      let opens = asks_for (own_keys own) recs ps (part start len d) in
+      or_known KnownLookup Refuse (lookup_refusals ps used id room opens r) (Show held used acked target path size opens start len)
       (λ m. tt)
       (λ w. record {
         held-is = refl;
@@ -267,7 +267,7 @@ module _ (own : List ℕ) (recs ps : List (List ℕ)) (held used id room : ℕ) 
         opens-is = refl;
         start_is = refl;
         len_is = refl;
-        new = second-fails opens (any_of (hasId (idAfter id)) ps) w.0;
-        free = λ o. eqb-false used 16 (second-fails opens (eqb used 16) w.1.0 o);
-        fits_in = ltb-false room (80 + 16 * count_of r + inquireRoom opens) w.1.1.0;
+        new = second_fails opens (any_of (has_id (id_after id)) ps) w.0;
+        free = λ o. eqb-false used 16 (second_fails opens (eqb used 16) w.1.0 o);
+        fits_in = ltb-false room (80 + 16 * count_of r + inquire_room opens) w.1.1.0;
       })

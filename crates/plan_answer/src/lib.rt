@@ -2,12 +2,12 @@
 ghost use Rattle.std.specs.Prelude.{◌≡◌, true, ◌+◌, ◌*◌, ◌≤◌, ◌<◌, length};
 ghost use Rattle.octet.specs.Part.{part};
 ghost use Rattle.key.specs.Number.{key_at};
-ghost use Rattle.record.specs.Entry.{entryForm};
-ghost use Rattle.own.specs.Own.{ownForm, ownKeys, ownRecords};
+ghost use Rattle.record.specs.Entry.{entry_form};
+ghost use Rattle.own.specs.Own.{own_form, own_keys, own_records};
 ghost use Rattle.table.specs.Rows.{rows};
 ghost use Rattle.cache.specs.Form.{Form};
-ghost use Rattle.cpas.specs.Cpas.{cpasForm};
-ghost use Rattle.plan_answer.specs.Answering.{authorityPlan, ackPlan, inquirePlan, lookupPlan};
+ghost use Rattle.cpas.specs.Cpas.{cpas_form};
+ghost use Rattle.plan_answer.specs.Answering.{authority_plan, ack_plan, inquire_plan, lookup_plan};
 
 use gauge_plan::Plan;
 
@@ -25,7 +25,7 @@ pub fn plan_authority(
     cpa: bool,
 ) -> Plan
     requires { (140 * used ≤ length waiting.now) × (32 ≤ length key.now) }
-    ensures { result ≡ authorityPlan (rows 140 used waiting.now) held used verdict
+    ensures { result ≡ authority_plan (rows 140 used waiting.now) held used verdict
         (key_at 0 key.now) acked cpa }
 {
     let found = waiting::find(waiting, used, acked, waiting::INQUIRY);
@@ -47,7 +47,7 @@ pub fn plan_authority(
 // The plan for an ACK, with N or without.
 pub fn plan_ack(waiting: &[u8], held: usize, used: usize, acked: u32, n: bool) -> Plan
     requires { 140 * used ≤ length waiting.now }
-    ensures { result ≡ ackPlan (rows 140 used waiting.now) held used acked n }
+    ensures { result ≡ ack_plan (rows 140 used waiting.now) held used acked n }
 {
     let found = waiting::find(waiting, used, acked, waiting::FLOOD);
     let table::Found::At(at) = found else {
@@ -65,10 +65,10 @@ pub fn plan_inquire(
     acked: u32,
     validate: usize,
 ) -> Plan
-    requires { (ownForm own.now ≡ true) × (cpasForm (length (ownRecords own.now)) cpas.now ≡ true)
+    requires { (own_form own.now ≡ true) × (cpas_form (length (own_records own.now)) cpas.now ≡ true)
         × (validate + 32 ≤ length d.now) }
     ensures { result
-        ≡ inquirePlan (ownKeys own.now) cpas.now room d.now acked validate }
+        ≡ inquire_plan (own_keys own.now) cpas.now room d.now acked validate }
 {
     if !own::is_own(own, d, validate) {
         return Plan::Refuse(refusal::NOT_OURS);
@@ -100,10 +100,10 @@ pub fn plan_lookup(
     start: usize,
     len: usize,
 ) -> Plan
-    requires { (ownForm own.now ≡ true) × Form (ownKeys own.now) cache.now (rows 100 held cache.now)
+    requires { (own_form own.now ≡ true) × Form (own_keys own.now) cache.now (rows 100 held cache.now)
         × (140 * used ≤ length waiting.now) × (target + 32 ≤ length d.now) × (path + size ≤ length d.now)
-        × (start + len ≤ length d.now) × (0 < len → entryForm (part start len d.now) ≡ true) }
-    ensures { result ≡ lookupPlan own.now (rows 100 held cache.now)
+        × (start + len ≤ length d.now) × (0 < len → entry_form (part start len d.now) ≡ true) }
+    ensures { result ≡ lookup_plan own.now (rows 100 held cache.now)
         (rows 140 used waiting.now) held used id room d.now acked target path size start len }
 {
     let opens = asking::asks_for(own, cache, held, waiting, used, d, start, len);

@@ -2,19 +2,19 @@
 ghost use Rattle.std.specs.Prelude.{◌≡◌, true, ◌+◌, ◌*◌, ◌≤◌, length};
 ghost use Rattle.octet.specs.Part.{part};
 ghost use Rattle.key.specs.Number.{key_at};
-ghost use Rattle.record.specs.Entry.{entryForm};
-ghost use Rattle.own.specs.Own.{ownForm, ownKeys};
+ghost use Rattle.record.specs.Entry.{entry_form};
+ghost use Rattle.own.specs.Own.{own_form, own_keys};
 ghost use Rattle.table.specs.Rows.{rows};
 ghost use Rattle.cache.specs.Form.{Form};
-ghost use Rattle.gauge_plan.specs.Own.{notOurs};
-ghost use Rattle.plan_flood.specs.Flood.{floodPlan, revokePlan};
-ghost use Rattle.plan_flood.specs.Rooms.{ackRoom};
+ghost use Rattle.gauge_plan.specs.Own.{not_ours};
+ghost use Rattle.plan_flood.specs.Flood.{flood_plan, revoke_plan};
+ghost use Rattle.plan_flood.specs.Rooms.{ack_room};
 
 use gauge_plan::Plan;
 
 // How many bytes the ACK has.
 fn ack_room(silent: bool, n: bool) -> usize
-    ensures { result ≡ ackRoom silent n }
+    ensures { result ≡ ack_room silent n }
 {
     if silent {
         return 0;
@@ -24,8 +24,8 @@ fn ack_room(silent: bool, n: bool) -> usize
 
 // Is the key at a place another than ours?
 fn not_ours(own: &[u8], d: &[u8], at: usize) -> bool
-    requires { (ownForm own.now ≡ true) × (at + 32 ≤ length d.now) }
-    ensures { result ≡ notOurs (ownKeys own.now) at d.now }
+    requires { (own_form own.now ≡ true) × (at + 32 ≤ length d.now) }
+    ensures { result ≡ not_ours (own_keys own.now) at d.now }
 {
     !own::is_own(own, d, at)
 }
@@ -46,10 +46,10 @@ pub fn plan_flood(
     start: usize,
     len: usize,
 ) -> Plan
-    requires { (ownForm own.now ≡ true) × Form (ownKeys own.now) cache.now (rows 100 held cache.now) × (140 * used ≤ length waiting.now)
+    requires { (own_form own.now ≡ true) × Form (own_keys own.now) cache.now (rows 100 held cache.now) × (140 * used ≤ length waiting.now)
         × (validate + 32 ≤ length d.now) × (start + len ≤ length d.now)
-        × (entryForm (part start len d.now) ≡ true) }
-    ensures { result ≡ floodPlan (ownKeys own.now) (rows 100 held cache.now)
+        × (entry_form (part start len d.now) ≡ true) }
+    ensures { result ≡ flood_plan (own_keys own.now) (rows 100 held cache.now)
         (rows 140 used waiting.now) used id room d.now silent acked validate start len }
 {
     if own::is_own(own, d, start) {
@@ -88,8 +88,8 @@ pub fn plan_revoke(
     acked: u32,
     validate: usize,
 ) -> Plan
-    requires { (ownForm own.now ≡ true) × (32 ≤ length key.now) × (validate + 32 ≤ length d.now) }
-    ensures { result ≡ revokePlan (ownKeys own.now) held used verdict (key_at 0 key.now) room
+    requires { (own_form own.now ≡ true) × (32 ≤ length key.now) × (validate + 32 ≤ length d.now) }
+    ensures { result ≡ revoke_plan (own_keys own.now) held used verdict (key_at 0 key.now) room
         d.now silent acked validate }
 {
     if verdict != 1 {

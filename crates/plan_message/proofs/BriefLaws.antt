@@ -8,8 +8,8 @@ use mathlib.Core.List.{List}
 use lib.ListN.{length}
 use Rattle.octet.specs.Part.{part}
 use Rattle.key.specs.Number.{key_at}
-use Rattle.own.specs.Own.{ownKeys}
-use Rattle.record.specs.Entry.{entryForm}
+use Rattle.own.specs.Own.{own_keys}
+use Rattle.record.specs.Entry.{entry_form}
 use Rattle.table.specs.Rows.{rows}
 use Rattle.wire_shapes.proofs.ShapeLaws.{entry-short}
 use Rattle.wire_fields.specs.declared.Part.{Part}
@@ -18,18 +18,18 @@ use Rattle.wire_buffer.specs.Buffer.{start_of}
 use Rattle.wire_read.specs.declared.Incoming as T
 use Rattle.wire_read.specs.declared.Incoming.TheVariants as M
 use Rattle.wire_read.specs.declared.messages.Flood as F
-use Rattle.wire.proofs.ShownLaws.{withEntry}
-use Rattle.look.specs.Seen.{size_of, look_of, briefOf}
+use Rattle.wire.proofs.ShownLaws.{with_entry}
+use Rattle.look.specs.Seen.{size_of, look_of, brief_of}
 use Rattle.look.specs.declared.Brief.{Brief}
 use Rattle.gauge_plan.specs.declared.Plan.TheVariants.{Refuse}
 use Rattle.gauge_plan.specs.Lent.{Memory, Receive}
-use Rattle.plan_flood.specs.Flood.{floodPlan, revokePlan}
-use Rattle.plan_answer.specs.Answering.{authorityPlan, ackPlan, inquirePlan, lookupPlan}
-use Rattle.plan_message.specs.Planned.{planFor}
+use Rattle.plan_flood.specs.Flood.{flood_plan, revoke_plan}
+use Rattle.plan_answer.specs.Answering.{authority_plan, ack_plan, inquire_plan, lookup_plan}
+use Rattle.plan_message.specs.Planned.{plan_for}
 use Rattle.plan_message.proofs.AnswerLaws.{EntryIn, PathIn, KnownAnswer}
 
 -- a route entry is not empty
-not-empty : (d : List ℕ) (s n : ℕ) → s + n ≤ length d → entryForm (part s n d) ≡ true → n ≡ 0 → ⊥
+not-empty : (d : List ℕ) (s n : ℕ) → s + n ≤ length d → entry_form (part s n d) ≡ true → n ≡ 0 → ⊥
 not-empty d s n h f e =
     let z : ◌≡◌ {A = Bool} true false = sym f ∙ entry-short d s n h (omega arith) in
     let y : ◌≡◌ {A = ℕ} 0 1 = cc in
@@ -38,33 +38,33 @@ not-empty d s n h f e =
 module _ (m : Memory) (l : Receive) (held used : ℕ) where
   abbrev pub RefusedBy : T.Incoming → Brief → Type 0
   RefusedBy a x =
-      x.seen.kind ≡ 0 → planFor m l held used a ≡ Refuse x.seen.number
+      x.seen.kind ≡ 0 → plan_for m l held used a ≡ Refuse x.seen.number
 
-  pub refused-by : (a : T.Incoming) → RefusedBy a (briefOf a)
-  unfolding planFor briefOf look_of
-  refused-by (M.Refused n) e = refl
-  refused-by (M.Solicit x) e = absurd (let z : ◌≡◌ {A = ℕ} 1 0 = e in omega arith)
-  refused-by (M.Advertise x) e = absurd (let z : ◌≡◌ {A = ℕ} 2 0 = e in omega arith)
-  refused-by (M.Request x) e = absurd (let z : ◌≡◌ {A = ℕ} 3 0 = e in omega arith)
-  refused-by (M.Flood x) e = absurd (let z : ◌≡◌ {A = ℕ} 4 0 = e in omega arith)
-  refused-by (M.Inquire x) e = absurd (let z : ◌≡◌ {A = ℕ} 7 0 = e in omega arith)
-  refused-by (M.Authority x) e = absurd (let z : ◌≡◌ {A = ℕ} 8 0 = e in omega arith)
-  refused-by (M.Ack x) e = absurd (let z : ◌≡◌ {A = ℕ} 9 0 = e in omega arith)
-  refused-by (M.Lookup x) e = absurd (let z : ◌≡◌ {A = ℕ} 11 0 = e in omega arith)
+  pub refused_by : (a : T.Incoming) → RefusedBy a (brief_of a)
+  unfolding plan_for brief_of look_of
+  refused_by (M.Refused n) e = refl
+  refused_by (M.Solicit x) e = absurd (let z : ◌≡◌ {A = ℕ} 1 0 = e in omega arith)
+  refused_by (M.Advertise x) e = absurd (let z : ◌≡◌ {A = ℕ} 2 0 = e in omega arith)
+  refused_by (M.Request x) e = absurd (let z : ◌≡◌ {A = ℕ} 3 0 = e in omega arith)
+  refused_by (M.Flood x) e = absurd (let z : ◌≡◌ {A = ℕ} 4 0 = e in omega arith)
+  refused_by (M.Inquire x) e = absurd (let z : ◌≡◌ {A = ℕ} 7 0 = e in omega arith)
+  refused_by (M.Authority x) e = absurd (let z : ◌≡◌ {A = ℕ} 8 0 = e in omega arith)
+  refused_by (M.Ack x) e = absurd (let z : ◌≡◌ {A = ℕ} 9 0 = e in omega arith)
+  refused_by (M.Lookup x) e = absurd (let z : ◌≡◌ {A = ℕ} 11 0 = e in omega arith)
 
   abbrev pub FloodBy : T.Incoming → Brief → Type 0
   FloodBy a x =
       x.seen.kind ≡ 4 → (x.seen.entry_length ≡ 0 → ⊥)
-      → planFor m l held used a ≡ floodPlan (ownKeys l.own) (rows 100 held m.cache) (rows 140 used m.waiting) used l.id (length l.output) l.datagram x.flag x.seen.id
+      → plan_for m l held used a ≡ flood_plan (own_keys l.own) (rows 100 held m.cache) (rows 140 used m.waiting) used l.id (length l.output) l.datagram x.flag x.seen.id
       x.validate x.seen.entry x.seen.entry_length
 
-  flood-entry : (x : F.Flood) (p : Part) → FloodBy (M.Flood (withEntry x p)) (briefOf (M.Flood (withEntry x p)))
-  unfolding planFor briefOf look_of
+  flood-entry : (x : F.Flood) (p : Part) → FloodBy (M.Flood (with_entry x p)) (brief_of (M.Flood (with_entry x p)))
+  unfolding plan_for brief_of look_of
   flood-entry x (Here s n) e f = refl
   flood-entry x Absent e f = absurd (f refl)
 
-  pub flood-by : (a : T.Incoming) → FloodBy a (briefOf a)
-  unfolding planFor briefOf look_of
+  pub flood-by : (a : T.Incoming) → FloodBy a (brief_of a)
+  unfolding plan_for brief_of look_of
   flood-by (M.Refused n) e f = absurd (let z : ◌≡◌ {A = ℕ} 0 4 = e in omega arith)
   flood-by (M.Solicit x) e f = absurd (let z : ◌≡◌ {A = ℕ} 1 4 = e in omega arith)
   flood-by (M.Advertise x) e f = absurd (let z : ◌≡◌ {A = ℕ} 2 4 = e in omega arith)
@@ -78,16 +78,16 @@ module _ (m : Memory) (l : Receive) (held used : ℕ) where
   abbrev pub RevokeBy : T.Incoming → Brief → Type 0
   RevokeBy a x =
       KnownAnswer l.datagram a → x.seen.kind ≡ 4 → x.seen.entry_length ≡ 0
-      → planFor m l held used a ≡ revokePlan (ownKeys l.own) held used l.verdict (key_at 0 l.key) (length l.output) l.datagram x.flag x.seen.id
+      → plan_for m l held used a ≡ revoke_plan (own_keys l.own) held used l.verdict (key_at 0 l.key) (length l.output) l.datagram x.flag x.seen.id
       x.validate
 
-  revoke-entry : (x : F.Flood) (p : Part) → RevokeBy (M.Flood (withEntry x p)) (briefOf (M.Flood (withEntry x p)))
-  unfolding planFor briefOf look_of
+  revoke-entry : (x : F.Flood) (p : Part) → RevokeBy (M.Flood (with_entry x p)) (brief_of (M.Flood (with_entry x p)))
+  unfolding plan_for brief_of look_of
   revoke-entry x (Here s n) w e f = absurd (not-empty l.datagram s n w.1.0 w.1.1 f)
   revoke-entry x Absent w e f = refl
 
-  pub revoke-by : (a : T.Incoming) → RevokeBy a (briefOf a)
-  unfolding planFor briefOf look_of
+  pub revoke-by : (a : T.Incoming) → RevokeBy a (brief_of a)
+  unfolding plan_for brief_of look_of
   revoke-by (M.Refused n) w e f = absurd (let z : ◌≡◌ {A = ℕ} 0 4 = e in omega arith)
   revoke-by (M.Solicit x) w e f = absurd (let z : ◌≡◌ {A = ℕ} 1 4 = e in omega arith)
   revoke-by (M.Advertise x) w e f = absurd (let z : ◌≡◌ {A = ℕ} 2 4 = e in omega arith)
@@ -101,10 +101,10 @@ module _ (m : Memory) (l : Receive) (held used : ℕ) where
   abbrev pub InquireBy : T.Incoming → Brief → Type 0
   InquireBy a x =
       x.seen.kind ≡ 7
-      → planFor m l held used a ≡ inquirePlan (ownKeys l.own) l.cpas (length l.output) l.datagram x.seen.id x.validate
+      → plan_for m l held used a ≡ inquire_plan (own_keys l.own) l.cpas (length l.output) l.datagram x.seen.id x.validate
 
-  pub inquire-by : (a : T.Incoming) → InquireBy a (briefOf a)
-  unfolding planFor briefOf look_of
+  pub inquire-by : (a : T.Incoming) → InquireBy a (brief_of a)
+  unfolding plan_for brief_of look_of
   inquire-by (M.Refused n) e = absurd (let z : ◌≡◌ {A = ℕ} 0 7 = e in omega arith)
   inquire-by (M.Solicit x) e = absurd (let z : ◌≡◌ {A = ℕ} 1 7 = e in omega arith)
   inquire-by (M.Advertise x) e = absurd (let z : ◌≡◌ {A = ℕ} 2 7 = e in omega arith)
@@ -118,27 +118,27 @@ module _ (m : Memory) (l : Receive) (held used : ℕ) where
   abbrev pub AuthorityBy : T.Incoming → Brief → Type 0
   AuthorityBy a x =
       x.seen.kind ≡ 8
-      → planFor m l held used a ≡ authorityPlan (rows 140 used m.waiting) held used l.verdict (key_at 0 l.key) x.seen.acked x.flag
+      → plan_for m l held used a ≡ authority_plan (rows 140 used m.waiting) held used l.verdict (key_at 0 l.key) x.seen.acked x.flag
 
-  pub authority-by : (a : T.Incoming) → AuthorityBy a (briefOf a)
-  unfolding planFor briefOf look_of
-  authority-by (M.Refused n) e = absurd (let z : ◌≡◌ {A = ℕ} 0 8 = e in omega arith)
-  authority-by (M.Solicit x) e = absurd (let z : ◌≡◌ {A = ℕ} 1 8 = e in omega arith)
-  authority-by (M.Advertise x) e = absurd (let z : ◌≡◌ {A = ℕ} 2 8 = e in omega arith)
-  authority-by (M.Request x) e = absurd (let z : ◌≡◌ {A = ℕ} 3 8 = e in omega arith)
-  authority-by (M.Flood x) e = absurd (let z : ◌≡◌ {A = ℕ} 4 8 = e in omega arith)
-  authority-by (M.Inquire x) e = absurd (let z : ◌≡◌ {A = ℕ} 7 8 = e in omega arith)
-  authority-by (M.Authority x) e = refl
-  authority-by (M.Ack x) e = absurd (let z : ◌≡◌ {A = ℕ} 9 8 = e in omega arith)
-  authority-by (M.Lookup x) e = absurd (let z : ◌≡◌ {A = ℕ} 11 8 = e in omega arith)
+  pub authority_by : (a : T.Incoming) → AuthorityBy a (brief_of a)
+  unfolding plan_for brief_of look_of
+  authority_by (M.Refused n) e = absurd (let z : ◌≡◌ {A = ℕ} 0 8 = e in omega arith)
+  authority_by (M.Solicit x) e = absurd (let z : ◌≡◌ {A = ℕ} 1 8 = e in omega arith)
+  authority_by (M.Advertise x) e = absurd (let z : ◌≡◌ {A = ℕ} 2 8 = e in omega arith)
+  authority_by (M.Request x) e = absurd (let z : ◌≡◌ {A = ℕ} 3 8 = e in omega arith)
+  authority_by (M.Flood x) e = absurd (let z : ◌≡◌ {A = ℕ} 4 8 = e in omega arith)
+  authority_by (M.Inquire x) e = absurd (let z : ◌≡◌ {A = ℕ} 7 8 = e in omega arith)
+  authority_by (M.Authority x) e = refl
+  authority_by (M.Ack x) e = absurd (let z : ◌≡◌ {A = ℕ} 9 8 = e in omega arith)
+  authority_by (M.Lookup x) e = absurd (let z : ◌≡◌ {A = ℕ} 11 8 = e in omega arith)
 
   abbrev pub AckBy : T.Incoming → Brief → Type 0
   AckBy a x =
       x.seen.kind ≡ 9
-      → planFor m l held used a ≡ ackPlan (rows 140 used m.waiting) held used x.seen.acked x.flag
+      → plan_for m l held used a ≡ ack_plan (rows 140 used m.waiting) held used x.seen.acked x.flag
 
-  pub ack-by : (a : T.Incoming) → AckBy a (briefOf a)
-  unfolding planFor briefOf look_of
+  pub ack-by : (a : T.Incoming) → AckBy a (brief_of a)
+  unfolding plan_for brief_of look_of
   ack-by (M.Refused n) e = absurd (let z : ◌≡◌ {A = ℕ} 0 9 = e in omega arith)
   ack-by (M.Solicit x) e = absurd (let z : ◌≡◌ {A = ℕ} 1 9 = e in omega arith)
   ack-by (M.Advertise x) e = absurd (let z : ◌≡◌ {A = ℕ} 2 9 = e in omega arith)
@@ -152,11 +152,11 @@ module _ (m : Memory) (l : Receive) (held used : ℕ) where
   abbrev pub LookupBy : T.Incoming → Brief → Type 0
   LookupBy a x =
       x.seen.kind ≡ 11
-      → planFor m l held used a ≡ lookupPlan l.own (rows 100 held m.cache) (rows 140 used m.waiting) held used l.id (length l.output) l.datagram
+      → plan_for m l held used a ≡ lookup_plan l.own (rows 100 held m.cache) (rows 140 used m.waiting) held used l.id (length l.output) l.datagram
       x.seen.id x.seen.target (x.path + 8) (x.size - 8) x.seen.entry x.seen.entry_length
 
-  pub lookup-by : (a : T.Incoming) → LookupBy a (briefOf a)
-  unfolding planFor briefOf look_of
+  pub lookup-by : (a : T.Incoming) → LookupBy a (brief_of a)
+  unfolding plan_for brief_of look_of
   lookup-by (M.Refused n) e = absurd (let z : ◌≡◌ {A = ℕ} 0 11 = e in omega arith)
   lookup-by (M.Solicit x) e = absurd (let z : ◌≡◌ {A = ℕ} 1 11 = e in omega arith)
   lookup-by (M.Advertise x) e = absurd (let z : ◌≡◌ {A = ℕ} 2 11 = e in omega arith)
@@ -170,19 +170,19 @@ module _ (m : Memory) (l : Receive) (held used : ℕ) where
   abbrev pub OtherBy : T.Incoming → Brief → Type 0
   OtherBy a x =
       (x.seen.kind ≡ 0 → ⊥) → (x.seen.kind ≡ 4 → ⊥) → (x.seen.kind ≡ 7 → ⊥)
-      → (x.seen.kind ≡ 8 → ⊥) → (x.seen.kind ≡ 9 → ⊥) → (x.seen.kind ≡ 11 → ⊥) → planFor m l held used a ≡ Refuse 7
+      → (x.seen.kind ≡ 8 → ⊥) → (x.seen.kind ≡ 9 → ⊥) → (x.seen.kind ≡ 11 → ⊥) → plan_for m l held used a ≡ Refuse 7
 
-  pub other-by : (a : T.Incoming) → OtherBy a (briefOf a)
-  unfolding planFor briefOf look_of
-  other-by (M.Refused n) e₀ e₄ e₇ e₈ e₉ e₁₁ = absurd (e₀ refl)
-  other-by (M.Solicit x) e₀ e₄ e₇ e₈ e₉ e₁₁ = refl
-  other-by (M.Advertise x) e₀ e₄ e₇ e₈ e₉ e₁₁ = refl
-  other-by (M.Request x) e₀ e₄ e₇ e₈ e₉ e₁₁ = refl
-  other-by (M.Flood x) e₀ e₄ e₇ e₈ e₉ e₁₁ = absurd (e₄ refl)
-  other-by (M.Inquire x) e₀ e₄ e₇ e₈ e₉ e₁₁ = absurd (e₇ refl)
-  other-by (M.Authority x) e₀ e₄ e₇ e₈ e₉ e₁₁ = absurd (e₈ refl)
-  other-by (M.Ack x) e₀ e₄ e₇ e₈ e₉ e₁₁ = absurd (e₉ refl)
-  other-by (M.Lookup x) e₀ e₄ e₇ e₈ e₉ e₁₁ = absurd (e₁₁ refl)
+  pub other_by : (a : T.Incoming) → OtherBy a (brief_of a)
+  unfolding plan_for brief_of look_of
+  other_by (M.Refused n) e₀ e₄ e₇ e₈ e₉ e₁₁ = absurd (e₀ refl)
+  other_by (M.Solicit x) e₀ e₄ e₇ e₈ e₉ e₁₁ = refl
+  other_by (M.Advertise x) e₀ e₄ e₇ e₈ e₉ e₁₁ = refl
+  other_by (M.Request x) e₀ e₄ e₇ e₈ e₉ e₁₁ = refl
+  other_by (M.Flood x) e₀ e₄ e₇ e₈ e₉ e₁₁ = absurd (e₄ refl)
+  other_by (M.Inquire x) e₀ e₄ e₇ e₈ e₉ e₁₁ = absurd (e₇ refl)
+  other_by (M.Authority x) e₀ e₄ e₇ e₈ e₉ e₁₁ = absurd (e₈ refl)
+  other_by (M.Ack x) e₀ e₄ e₇ e₈ e₉ e₁₁ = absurd (e₉ refl)
+  other_by (M.Lookup x) e₀ e₄ e₇ e₈ e₉ e₁₁ = absurd (e₁₁ refl)
 
 -- what is known of the places told
 module _ (d : List ℕ) where
@@ -190,8 +190,8 @@ module _ (d : List ℕ) where
   KnownFlood a x =
       KnownAnswer d a → x.seen.kind ≡ 4 → x.validate + 32 ≤ length d
 
-  pub known-flood : (a : T.Incoming) → KnownFlood a (briefOf a)
-  unfolding briefOf look_of
+  pub known-flood : (a : T.Incoming) → KnownFlood a (brief_of a)
+  unfolding brief_of look_of
   known-flood (M.Refused n) w e = absurd (let z : ◌≡◌ {A = ℕ} 0 4 = e in omega arith)
   known-flood (M.Solicit x) w e = absurd (let z : ◌≡◌ {A = ℕ} 1 4 = e in omega arith)
   known-flood (M.Advertise x) w e = absurd (let z : ◌≡◌ {A = ℕ} 2 4 = e in omega arith)
@@ -206,15 +206,15 @@ module _ (d : List ℕ) where
   KnownEntry a x =
       KnownAnswer d a → x.seen.kind ≡ 4 → (x.seen.entry_length ≡ 0 → ⊥)
       → (x.seen.entry + x.seen.entry_length ≤ length d)
-      × (entryForm (part x.seen.entry x.seen.entry_length d) ≡ true)
+      × (entry_form (part x.seen.entry x.seen.entry_length d) ≡ true)
 
-  entry_known : (x : F.Flood) (p : Part) → KnownEntry (M.Flood (withEntry x p)) (briefOf (M.Flood (withEntry x p)))
-  unfolding briefOf look_of
+  entry_known : (x : F.Flood) (p : Part) → KnownEntry (M.Flood (with_entry x p)) (brief_of (M.Flood (with_entry x p)))
+  unfolding brief_of look_of
   entry_known x (Here s n) w e f = w.1
   entry_known x Absent w e f = absurd (f refl)
 
-  pub known-entry : (a : T.Incoming) → KnownEntry a (briefOf a)
-  unfolding briefOf look_of
+  pub known-entry : (a : T.Incoming) → KnownEntry a (brief_of a)
+  unfolding brief_of look_of
   known-entry (M.Refused n) w e f = absurd (let z : ◌≡◌ {A = ℕ} 0 4 = e in omega arith)
   known-entry (M.Solicit x) w e f = absurd (let z : ◌≡◌ {A = ℕ} 1 4 = e in omega arith)
   known-entry (M.Advertise x) w e f = absurd (let z : ◌≡◌ {A = ℕ} 2 4 = e in omega arith)
@@ -229,8 +229,8 @@ module _ (d : List ℕ) where
   KnownInquire a x =
       KnownAnswer d a → x.seen.kind ≡ 7 → x.validate + 32 ≤ length d
 
-  pub known-inquire : (a : T.Incoming) → KnownInquire a (briefOf a)
-  unfolding briefOf look_of
+  pub known-inquire : (a : T.Incoming) → KnownInquire a (brief_of a)
+  unfolding brief_of look_of
   known-inquire (M.Refused n) w e = absurd (let z : ◌≡◌ {A = ℕ} 0 7 = e in omega arith)
   known-inquire (M.Solicit x) w e = absurd (let z : ◌≡◌ {A = ℕ} 1 7 = e in omega arith)
   known-inquire (M.Advertise x) w e = absurd (let z : ◌≡◌ {A = ℕ} 2 7 = e in omega arith)
@@ -245,11 +245,11 @@ module _ (d : List ℕ) where
   KnownLookup a x =
       KnownAnswer d a → x.seen.kind ≡ 11
       → (x.seen.target + 32 ≤ length d) × (8 ≤ x.size) × (x.path + x.size ≤ length d) × (x.seen.entry + x.seen.entry_length ≤ length d)
-      × (0 < x.seen.entry_length → entryForm (part x.seen.entry x.seen.entry_length d) ≡ true)
+      × (0 < x.seen.entry_length → entry_form (part x.seen.entry x.seen.entry_length d) ≡ true)
 
   -- an entry, and a path, by place and length
   pub entry-told : (p : Part) → EntryIn d p
-      → (start_of p + size_of p ≤ length d) × (0 < size_of p → entryForm (part (start_of p) (size_of p) d) ≡ true)
+      → (start_of p + size_of p ≤ length d) × (0 < size_of p → entry_form (part (start_of p) (size_of p) d) ≡ true)
   entry-told (Here s n) w = (w.0, λ h. w.1)
   entry-told Absent w = (omega arith, λ h. absurd (omega arith))
 
@@ -257,8 +257,8 @@ module _ (d : List ℕ) where
   path-told (Here s n) w = w
   path-told Absent w = absurd w
 
-  pub known-lookup : (a : T.Incoming) → KnownLookup a (briefOf a)
-  unfolding briefOf look_of
+  pub known-lookup : (a : T.Incoming) → KnownLookup a (brief_of a)
+  unfolding brief_of look_of
   known-lookup (M.Refused n) w e = absurd (let z : ◌≡◌ {A = ℕ} 0 11 = e in omega arith)
   known-lookup (M.Solicit x) w e = absurd (let z : ◌≡◌ {A = ℕ} 1 11 = e in omega arith)
   known-lookup (M.Advertise x) w e = absurd (let z : ◌≡◌ {A = ℕ} 2 11 = e in omega arith)

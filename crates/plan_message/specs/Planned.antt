@@ -2,8 +2,8 @@
 -- before the last refusal is decided. Tied to document 01 by `ours-meets` (sentences/Theorems). Assumes nothing.
 use Rattle.std.specs.Prelude.{ℕ, ◌+◌, ◌-◌, Bool, not, [], ◌∷◌, length}
 use Rattle.key.specs.Number.{key_at}
-use Rattle.own.specs.Own.{ownKeys}
-use Rattle.refusal.specs.Table.{when, orRefuse}
+use Rattle.own.specs.Own.{own_keys}
+use Rattle.refusal.specs.Table.{when, or_refuse}
 use Rattle.table.specs.Rows.{rows}
 use Rattle.wire_fields.specs.declared.Part.{Part}
 use Rattle.wire_fields.specs.declared.Part.TheVariants.{Here, Absent}
@@ -18,41 +18,41 @@ use Rattle.gauge_plan.specs.declared.Plan.TheVariants.{Refuse}
 use Rattle.gauge_plan.specs.Lent.{Memory, Receive}
 use Rattle.gauge_plan.specs.declared.memory.Fitness.{Fitness}
 use Rattle.gauge_plan.specs.declared.memory.Fitness.TheVariants.{Unfit, Fit}
-use Rattle.gauge_plan.specs.Memory.{memoryOf, countsFit, handsFit}
-use Rattle.plan_flood.specs.Flood.{floodPlan, revokePlan}
-use Rattle.plan_answer.specs.Answering.{authorityPlan, ackPlan, inquirePlan, lookupPlan}
+use Rattle.gauge_plan.specs.Memory.{memory_of, counts_fit, hands_fit}
+use Rattle.plan_flood.specs.Flood.{flood_plan, revoke_plan}
+use Rattle.plan_answer.specs.Answering.{authority_plan, ack_plan, inquire_plan, lookup_plan}
 
 -- a FLOOD carries either a route entry or a revocation
-abbrev pub byEntry : (m : Memory) (l : Receive) (held used : ℕ) (head : Head) (d : Bool) (validate : ℕ) (entry : Part) → Plan
-byEntry m l held used head d validate (Here start len) =
-    floodPlan (ownKeys l.own) (rows 100 held m.cache) (rows 140 used m.waiting) used l.id (length l.output) l.datagram d head.id
+abbrev pub by_entry : (m : Memory) (l : Receive) (held used : ℕ) (head : Head) (d : Bool) (validate : ℕ) (entry : Part) → Plan
+by_entry m l held used head d validate (Here start len) =
+    flood_plan (own_keys l.own) (rows 100 held m.cache) (rows 140 used m.waiting) used l.id (length l.output) l.datagram d head.id
     validate start len
-byEntry m l held used head d validate Absent =
-    revokePlan (ownKeys l.own) held used l.verdict (key_at 0 l.key) (length l.output) l.datagram d head.id validate
+by_entry m l held used head d validate Absent =
+    revoke_plan (own_keys l.own) held used l.verdict (key_at 0 l.key) (length l.output) l.datagram d head.id validate
 
 -- a LOOKUP's endpoints stand behind the 8 bytes of the array's header; no route entry has no bytes
-unfoldable pub planFor : Memory → Receive → ℕ → ℕ → T.Incoming → Plan
-planFor m l held used (M.Refused n) = Refuse n
-planFor m l held used (M.Solicit x) = Refuse 7
-planFor m l held used (M.Advertise x) = Refuse 7
-planFor m l held used (M.Request x) = Refuse 7
-planFor m l held used (M.Flood x) = byEntry m l held used x.head x.d x.validate x.entry
-planFor m l held used (M.Inquire x) = inquirePlan (ownKeys l.own) l.cpas (length l.output) l.datagram x.head.id x.validate
-planFor m l held used (M.Authority x) =
-    authorityPlan (rows 140 used m.waiting) held used l.verdict (key_at 0 l.key) x.acked (R.isHere x.fields.cpa)
-planFor m l held used (M.Ack x) = ackPlan (rows 140 used m.waiting) held used x.acked x.n
-planFor m l held used (M.Lookup x) =
-    lookupPlan l.own (rows 100 held m.cache) (rows 140 used m.waiting) held used l.id (length l.output) l.datagram x.head.id x.target
+unfoldable pub plan_for : Memory → Receive → ℕ → ℕ → T.Incoming → Plan
+plan_for m l held used (M.Refused n) = Refuse n
+plan_for m l held used (M.Solicit x) = Refuse 7
+plan_for m l held used (M.Advertise x) = Refuse 7
+plan_for m l held used (M.Request x) = Refuse 7
+plan_for m l held used (M.Flood x) = by_entry m l held used x.head x.d x.validate x.entry
+plan_for m l held used (M.Inquire x) = inquire_plan (own_keys l.own) l.cpas (length l.output) l.datagram x.head.id x.validate
+plan_for m l held used (M.Authority x) =
+    authority_plan (rows 140 used m.waiting) held used l.verdict (key_at 0 l.key) x.acked (R.is_here x.fields.cpa)
+plan_for m l held used (M.Ack x) = ack_plan (rows 140 used m.waiting) held used x.acked x.n
+plan_for m l held used (M.Lookup x) =
+    lookup_plan l.own (rows 100 held m.cache) (rows 140 used m.waiting) held used l.id (length l.output) l.datagram x.head.id x.target
     (start_of x.path + 8) (size_of x.path - 8) (start_of x.entry) (size_of x.entry)
 
 -- where what comes with it is as it should be: the counts by first byte are tested once it is known how many records are held
-abbrev pub planBy : Memory → Receive → Fitness → Plan
-planBy m l Unfit = Refuse 1
-planBy m l (Fit held used) = orRefuse Refuse (when 1 (not (countsFit l.own m)) ∷ []) (planFor m l held used (R.readIn l.datagram l.major))
+abbrev pub plan_by : Memory → Receive → Fitness → Plan
+plan_by m l Unfit = Refuse 1
+plan_by m l (Fit held used) = or_refuse Refuse (when 1 (not (counts_fit l.own m)) ∷ []) (plan_for m l held used (R.read_in l.datagram l.major))
 
-abbrev pub planIn : Memory → Receive → Fitness → Plan
-planIn m l Unfit = Refuse 1
-planIn m l (Fit held used) = orRefuse Refuse (when 1 (not (handsFit m l)) ∷ []) (planFor m l held used (R.readIn l.datagram l.major))
+abbrev pub plan_in : Memory → Receive → Fitness → Plan
+plan_in m l Unfit = Refuse 1
+plan_in m l (Fit held used) = or_refuse Refuse (when 1 (not (hands_fit m l)) ∷ []) (plan_for m l held used (R.read_in l.datagram l.major))
 
-unfoldable pub receivePlan : Memory → Receive → Plan
-receivePlan m l = planIn m l (memoryOf l.own m)
+unfoldable pub receive_plan : Memory → Receive → Plan
+receive_plan m l = plan_in m l (memory_of l.own m)

@@ -1,13 +1,13 @@
 // What is planned for a datagram received. Lent everything for reading.
 ghost use Rattle.std.specs.Prelude.{◌≡◌, true, ◌*◌, ◌≤◌, length};
-ghost use Rattle.own.specs.Own.{ownForm, ownKeys, ownRecords};
+ghost use Rattle.own.specs.Own.{own_form, own_keys, own_records};
 ghost use Rattle.table.specs.Rows.{rows};
 ghost use Rattle.cache.specs.Form.{Form};
-ghost use Rattle.cpas.specs.Cpas.{cpasForm};
-ghost use Rattle.wire_read.specs.Answers.{readIn};
-ghost use Rattle.gauge_plan.specs.Lent.{Memory, withFirsts, withTables, Receive, planning};
-ghost use Rattle.gauge_plan.specs.Memory.{memoryOf};
-ghost use Rattle.plan_message.specs.Planned.{planFor, planBy};
+ghost use Rattle.cpas.specs.Cpas.{cpas_form};
+ghost use Rattle.wire_read.specs.Answers.{read_in};
+ghost use Rattle.gauge_plan.specs.Lent.{Memory, with_firsts, with_tables, Receive, planning};
+ghost use Rattle.gauge_plan.specs.Memory.{memory_of};
+ghost use Rattle.plan_message.specs.Planned.{plan_for, plan_by};
 
 use gauge_plan::{Fitness, Plan};
 
@@ -27,13 +27,13 @@ fn plan_message<'a>(
     datagram: &[u8],
     output: &[u8],
 ) -> Plan
-    requires { (ownForm own.now ≡ true) × (cpasForm (length (ownRecords own.now)) cpas.now ≡ true)
-        × Form (ownKeys own.now) cache.now (rows 100 held cache.now)
+    requires { (own_form own.now ≡ true) × (cpas_form (length (own_records own.now)) cpas.now ≡ true)
+        × Form (own_keys own.now) cache.now (rows 100 held cache.now)
         × (140 * used ≤ length waiting.now) × (length key.now ≡ 32) }
     ensures { (m : Memory) (l : Receive) → result
-        ≡ planFor (withTables cache.now waiting.now m)
+        ≡ plan_for (with_tables cache.now waiting.now m)
         (planning own.now cpas.now major id verdict key.now datagram.now
-        output.now l) held used (readIn datagram.now major) }
+        output.now l) held used (read_in datagram.now major) }
 {
     let room = output.len();
     let told = look::brief_at(major, datagram);
@@ -110,13 +110,13 @@ pub fn plan_receive<'a>(
     datagram: &[u8],
     output: &[u8],
 ) -> Plan
-    requires { (cpasForm (length (ownRecords own.now)) cpas.now ≡ true) × (length key.now ≡ 32) }
+    requires { (cpas_form (length (own_records own.now)) cpas.now ≡ true) × (length key.now ≡ 32) }
     ensures { (m : Memory) (l : Receive) → result
-        ≡ planBy (withTables cache.now waiting.now (withFirsts firsts.now m))
+        ≡ plan_by (with_tables cache.now waiting.now (with_firsts firsts.now m))
         (planning own.now cpas.now major id verdict key.now datagram.now
         output.now l)
-        (memoryOf own.now
-        (withTables cache.now waiting.now (withFirsts firsts.now m))) }
+        (memory_of own.now
+        (with_tables cache.now waiting.now (with_firsts firsts.now m))) }
 {
     let memory = gauge_plan::survey(own, cache, waiting);
     let Fitness::Fit { held, used } = memory else {

@@ -5,58 +5,58 @@ use Rattle.std.specs.Prelude.{ℕ, ◌+◌, ◌*◌, Bool, true, not, cond, ◌&
 use Rattle.octet.specs.Part.{part}
 use Rattle.key.specs.Number.{key_at}
 use Rattle.record.specs.Record.{key_of, count_of}
-use Rattle.own.specs.Own.{ownKeys, ownRecord, ownPlace, isOwn}
-use Rattle.refusal.specs.Table.{Refusal, when, orRefuse}
+use Rattle.own.specs.Own.{own_keys, own_record, own_place, is_own}
+use Rattle.refusal.specs.Table.{Refusal, when, or_refuse}
 use Rattle.cache.specs.Form.{held_of}
-use Rattle.waiting.specs.Form.{usedOf, places_of}
+use Rattle.waiting.specs.Form.{used_of, places_of}
 use Rattle.table.specs.Seek.{seek}
 use Rattle.table.specs.declared.Found.{Found}
 use Rattle.gauge_plan.specs.Lent.{Memory}
-use Rattle.gauge_plan.specs.Memory.{tablesFit}
-use Rattle.gauge_plan.specs.Found.{isNothing, place_of}
+use Rattle.gauge_plan.specs.Memory.{tables_fit}
+use Rattle.gauge_plan.specs.Found.{is_nothing, place_of}
 use Rattle.gauge_plan.specs.Opening.{open_rows}
 use Rattle.plan_send.specs.declared.SendPlan.{SendPlan}
 use Rattle.plan_send.specs.declared.SendPlan.TheVariants.{Refuse, Flood}
 
 -- "A key handed in has 32 bytes, else 1"
-abbrev pub keysFit : List ℕ → List ℕ → Bool
-keysFit neighbour key = eqb (length neighbour) 32 && eqb (length key) 32
+abbrev pub keys_fit : List ℕ → List ℕ → Bool
+keys_fit neighbour key = eqb (length neighbour) 32 && eqb (length key) 32
 
 -- where the record with a key stands among those held
-abbrev pub heldAt : ℕ → List (List ℕ) → Found
-heldAt k recs = seek (λ (r : List ℕ). eqb (key_of r) k) 0 recs
+abbrev pub held_at : ℕ → List (List ℕ) → Found
+held_at k recs = seek (λ (r : List ℕ). eqb (key_of r) k) 0 recs
 
 -- where the record with a key stands: among our own, or among those held
-abbrev pub sentAt : List ℕ → List (List ℕ) → ℕ → ℕ
-sentAt own recs k = cond (isOwn (ownKeys own) k) (ownPlace (ownKeys own) k) (place_of (heldAt k recs))
+abbrev pub sent_at : List ℕ → List (List ℕ) → ℕ → ℕ
+sent_at own recs k = cond (is_own (own_keys own) k) (own_place (own_keys own) k) (place_of (held_at k recs))
 
 -- the record sent: the one at a place of our own, or of the cache
-abbrev pub recordSent : List ℕ → List ℕ → Bool → ℕ → List ℕ
-recordSent own cache ours at = cond ours (ownRecord own at) (part (100 * at) 100 cache)
+abbrev pub record_sent : List ℕ → List ℕ → Bool → ℕ → List ℕ
+record_sent own cache ours at = cond ours (own_record own at) (part (100 * at) 100 cache)
 
 -- how many bytes the FLOOD of a record has
-abbrev pub floodRoom : List ℕ → ℕ
-floodRoom r = 100 + 16 * count_of r
+abbrev pub flood_room : List ℕ → ℕ
+flood_room r = 100 + 16 * count_of r
 
 -- the neighbour's key, and the key k of the record, where memory is in form: the records held, the places used and how many they are
-abbrev pub sendTable : (own cache : List ℕ) (recs ps : List (List ℕ)) (used id room neighbour k : ℕ) → List Refusal
-sendTable own cache recs ps used id room neighbour k =
-    let ours = isOwn (ownKeys own) k in
-    when 12 (isNothing (heldAt neighbour recs))
-    ∷ when 12 (not ours && isNothing (heldAt k recs))
-    ∷ (open_rows true ps used id ++ (when 15 (ltb room (floodRoom (recordSent own cache ours (sentAt own recs k)))) ∷ []))
+abbrev pub send_table : (own cache : List ℕ) (recs ps : List (List ℕ)) (used id room neighbour k : ℕ) → List Refusal
+send_table own cache recs ps used id room neighbour k =
+    let ours = is_own (own_keys own) k in
+    when 12 (is_nothing (held_at neighbour recs))
+    ∷ when 12 (not ours && is_nothing (held_at k recs))
+    ∷ (open_rows true ps used id ++ (when 15 (ltb room (flood_room (record_sent own cache ours (sent_at own recs k)))) ∷ []))
 
-abbrev pub sendDone : List ℕ → List (List ℕ) → ℕ → ℕ → SendPlan
-sendDone own recs used k = Flood used (isOwn (ownKeys own) k) (sentAt own recs k)
+abbrev pub send_done : List ℕ → List (List ℕ) → ℕ → ℕ → SendPlan
+send_done own recs used k = Flood used (is_own (own_keys own) k) (sent_at own recs k)
 
 -- of all that is lent, the room of the output last
-abbrev pub sendRefusals : (own : List ℕ) (m : Memory) (id : ℕ) (neighbour key : List ℕ) (room : ℕ) → List Refusal
-sendRefusals own m id neighbour key room =
-    when 1 (not (tablesFit own m))
-    ∷ when 1 (not (keysFit neighbour key))
-    ∷ sendTable own m.cache (held_of (ownKeys own) m.cache) (places_of m.waiting) (usedOf m.waiting) id room (key_at 0 neighbour) (key_at 0 key)
+abbrev pub send_refusals : (own : List ℕ) (m : Memory) (id : ℕ) (neighbour key : List ℕ) (room : ℕ) → List Refusal
+send_refusals own m id neighbour key room =
+    when 1 (not (tables_fit own m))
+    ∷ when 1 (not (keys_fit neighbour key))
+    ∷ send_table own m.cache (held_of (own_keys own) m.cache) (places_of m.waiting) (used_of m.waiting) id room (key_at 0 neighbour) (key_at 0 key)
 
-unfoldable pub sendingPlan : (own : List ℕ) (m : Memory) (id : ℕ) (neighbour key : List ℕ) (room : ℕ) → SendPlan
-sendingPlan own m id neighbour key room =
-    orRefuse Refuse (sendRefusals own m id neighbour key room)
-    (sendDone own (held_of (ownKeys own) m.cache) (usedOf m.waiting) (key_at 0 key))
+unfoldable pub sending_plan : (own : List ℕ) (m : Memory) (id : ℕ) (neighbour key : List ℕ) (room : ℕ) → SendPlan
+sending_plan own m id neighbour key room =
+    or_refuse Refuse (send_refusals own m id neighbour key room)
+    (send_done own (held_of (own_keys own) m.cache) (used_of m.waiting) (key_at 0 key))

@@ -2,14 +2,14 @@
 ghost use Rattle.std.specs.Prelude.{◌≡◌, true, false, cond, ◌+◌, ◌*◌, ◌≤◌, ◌<◌, length};
 ghost use Rattle.key.specs.Number.{key_at};
 ghost use Rattle.record.specs.Record.{count_of};
-ghost use Rattle.own.specs.Own.{ownForm, ownKeys, ownPlace, isOwn};
-ghost use Rattle.refusal.specs.Table.{orRefuse};
+ghost use Rattle.own.specs.Own.{own_form, own_keys, own_place, is_own};
+ghost use Rattle.refusal.specs.Table.{or_refuse};
 ghost use Rattle.table.specs.Rows.{rows};
 ghost use Rattle.kept.specs.Keys.{Rising, plain};
 ghost use Rattle.cache.specs.Form.{Form, keys_of};
-ghost use Rattle.gauge_plan.specs.Lent.{Memory, withTables};
-ghost use Rattle.gauge_plan.specs.Found.{isNothing, place_of};
-ghost use Rattle.plan_send.specs.Send.{heldAt, recordSent, sendTable, sendDone, sendingPlan};
+ghost use Rattle.gauge_plan.specs.Lent.{Memory, with_tables};
+ghost use Rattle.gauge_plan.specs.Found.{is_nothing, place_of};
+ghost use Rattle.plan_send.specs.Send.{held_at, record_sent, send_table, send_done, sending_plan};
 ghost use Rattle.plan_send.specs.declared.SendPlan.TheVariants as P;
 
 use gauge_plan::Fitness;
@@ -27,7 +27,7 @@ pub enum SendPlan {
 fn held_at(cache: &[u8], held: usize, key: &[u8]) -> table::Found
     requires { (100 * held ≤ length cache.now) × (32 ≤ length key.now)
         × Rising plain 0 (keys_of (rows 100 held cache.now)) }
-    ensures { result ≡ heldAt (key_at 0 key.now) (rows 100 held cache.now) }
+    ensures { result ≡ held_at (key_at 0 key.now) (rows 100 held cache.now) }
 {
     match cache::find(cache, held, key) {
         cache::Found::At(at) => table::Found::At(at),
@@ -37,7 +37,7 @@ fn held_at(cache: &[u8], held: usize, key: &[u8]) -> table::Found
 
 // Is there no such record?
 fn is_nothing(found: table::Found) -> bool
-    ensures { result ≡ isNothing found }
+    ensures { result ≡ is_nothing found }
 {
     match found {
         table::Found::At(_) => false,
@@ -57,8 +57,8 @@ fn place_of(found: table::Found) -> usize
 
 // Where the record sent stands: that with our key, or the one found among those held.
 fn sent_at(own: &[u8], key: &[u8], ours: bool, found: table::Found) -> usize
-    requires { (32 ≤ length key.now) × (ours ≡ isOwn (ownKeys own.now) (key_at 0 key.now)) }
-    ensures { result ≡ cond ours (ownPlace (ownKeys own.now) (key_at 0 key.now)) (place_of found) }
+    requires { (32 ≤ length key.now) × (ours ≡ is_own (own_keys own.now) (key_at 0 key.now)) }
+    ensures { result ≡ cond ours (own_place (own_keys own.now) (key_at 0 key.now)) (place_of found) }
 {
     if ours {
         return own::place_of(own, key, 0);
@@ -69,7 +69,7 @@ fn sent_at(own: &[u8], key: &[u8], ours: bool, found: table::Found) -> usize
 // How many addresses the record sent has.
 fn count_sent(own: &[u8], cache: &[u8], ours: bool, at: usize) -> usize
     requires { (ours ≡ true → 100 * at + 100 ≤ length own.now) × (ours ≡ false → 100 * at + 100 ≤ length cache.now) }
-    ensures { (result ≡ count_of (recordSent own.now cache.now ours at)) × (result < 256) }
+    ensures { (result ≡ count_of (record_sent own.now cache.now ours at)) × (result < 256) }
 {
     if ours {
         return own[record::RECORD_LEN * at + 34] as usize;
@@ -89,12 +89,12 @@ fn plan_flood_to(
     key: &[u8],
     room: usize,
 ) -> SendPlan
-    requires { (ownForm own.now ≡ true) × Form (ownKeys own.now) cache.now (rows 100 held cache.now)
+    requires { (own_form own.now ≡ true) × Form (own_keys own.now) cache.now (rows 100 held cache.now)
         × (140 * used ≤ length waiting.now) × (length neighbour.now ≡ 32) × (length key.now ≡ 32) }
-    ensures { result ≡ orRefuse P.Refuse (sendTable own.now cache.now
+    ensures { result ≡ or_refuse P.Refuse (send_table own.now cache.now
         (rows 100 held cache.now) (rows 140 used waiting.now) used id room
         (key_at 0 neighbour.now) (key_at 0 key.now))
-        (sendDone own.now (rows 100 held cache.now) used (key_at 0 key.now)) }
+        (send_done own.now (rows 100 held cache.now) used (key_at 0 key.now)) }
 {
     let to = held_at(cache, held, neighbour);
     if is_nothing(to) {
@@ -130,7 +130,7 @@ pub fn plan_send(
     room: usize,
 ) -> SendPlan
     ensures { (m : Memory) → result
-        ≡ sendingPlan own.now (withTables cache.now waiting.now m) id
+        ≡ sending_plan own.now (with_tables cache.now waiting.now m) id
         neighbour.now key.now room }
 {
     let memory = gauge_plan::survey(own, cache, waiting);

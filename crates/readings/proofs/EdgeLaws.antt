@@ -2,15 +2,15 @@
 -- for that. Assumes nothing.
 use mathlib.Core.Path.{refl}
 use lib.Ieee.{of_bits, to_bits, of_int, le, lt, eq}
-use Rattle.octet.specs.Number.{valueLE}
-use Rattle.refusal.specs.Table.{orRefuse}
+use Rattle.octet.specs.Number.{value_le}
+use Rattle.refusal.specs.Table.{or_refuse}
 use Rattle.readings.specs.Depth.{allowed}
-use Rattle.readings.specs.Unpack.{lengthFits, unpackRefusals, readingIn, unpackOf}
+use Rattle.readings.specs.Unpack.{length_fits, unpack_refusals, reading_in, unpack_of}
 use Rattle.readings.specs.Statements.{NegativeZero, Edges}
 
-pub negative-zero : NegativeZero
-unfolding allowed of_bits to_bits of_int le lt eq valueLE orRefuse lengthFits unpackRefusals readingIn unpackOf
-negative-zero = (refl, refl, refl, refl)
+pub negative_zero : NegativeZero
+unfolding allowed of_bits to_bits of_int le lt eq value_le or_refuse length_fits unpack_refusals reading_in unpack_of
+negative_zero = (refl, refl, refl, refl)
 
 pub edges : Edges
 unfolding allowed of_bits of_int le lt eq

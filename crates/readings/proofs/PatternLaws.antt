@@ -22,9 +22,9 @@ both_hold true true s t = refl
 both_hold true false s t = absurd t
 both_hold false b s t = absurd s
 
-not-second : (a b : Bool) → b ≡ false → (a && b) ≡ false
-not-second true b e = e
-not-second false b e = refl
+not_second : (a b : Bool) → b ≡ false → (a && b) ≡ false
+not_second true b e = e
+not_second false b e = refl
 
 -- ---- a finite value, a / c
 
@@ -39,7 +39,7 @@ module _ (c : ℕ) (C : 0 < c) where
   large-value : (x : Float) (a : ℕ) → HasValue x false a c → 20 * c < a → allowed x ≡ false
   unfolding allowed of_int
   large-value x a v h =
-      not-second (le (of_int binary32 (pos 0)) x) (le x (of_int binary32 (pos 20)))
+      not_second (le (of_int binary32 (pos 0)) x) (le x (of_int binary32 (pos 20)))
       (is_false (le x (of_int binary32 (pos 20)))
       (not_T (le x (of_int binary32 (pos 20)))
       (λ t.
@@ -65,49 +65,49 @@ special true false = refl
 special false true = refl
 special false false = refl
 
-low-exponent : (x t : ℕ) → t < 8388608 → x < 130 → (8388608 + t) * 2 ^ x ≤ 20 * 2 ^ 149
-low-exponent x t H X =
+low_exponent : (x t : ℕ) → t < 8388608 → x < 130 → (8388608 + t) * 2 ^ x ≤ 20 * 2 ^ 149
+low_exponent x t H X =
     le_trans (mul-le-mul {n₁ = 8388608 + t} {n₂ = 16777216} (omega arith) (pow_mono {i = x} {j = 129} (omega arith))) (lit≤ tt)
 
-high-exponent : (x t : ℕ) → 130 < x → 20 * 2 ^ 149 < (8388608 + t) * 2 ^ x
-high-exponent x t X =
+high_exponent : (x t : ℕ) → 130 < x → 20 * 2 ^ 149 < (8388608 + t) * 2 ^ x
+high_exponent x t X =
     lt_of_lt_of_le (lit< {m = 20 * 2 ^ 149} {n = 8388608 * 2 ^ 131} tt)
     (mul-le-mul {n₁ = 8388608} {n₂ = 8388608 + t} (omega arith) (pow_mono {i = 131} {j = x} (omega arith)))
 
 -- 131 * 2 ^ 23 + 2 ^ 21 is 0x41a00000, and (2 ^ 23 + 2 ^ 21) * 2 ^ 130 is 20 * 2 ^ 149
-at-twenty : (t : ℕ) → t ≤ 2097152 → (8388608 + t) * 2 ^ 130 ≤ 20 * 2 ^ 149
-at-twenty t h = mul-le-mul {n₁ = 8388608 + t} {m₁ = 2 ^ 130} {n₂ = 10485760} {m₂ = 2 ^ 130} (omega arith) (lit≤ tt)
+at_twenty : (t : ℕ) → t ≤ 2097152 → (8388608 + t) * 2 ^ 130 ≤ 20 * 2 ^ 149
+at_twenty t h = mul-le-mul {n₁ = 8388608 + t} {m₁ = 2 ^ 130} {n₂ = 10485760} {m₂ = 2 ^ 130} (omega arith) (lit≤ tt)
 
-past-twenty : (t : ℕ) → 2097152 < t → 20 * 2 ^ 149 < (8388608 + t) * 2 ^ 130
-past-twenty t h =
+past_twenty : (t : ℕ) → 2097152 < t → 20 * 2 ^ 149 < (8388608 + t) * 2 ^ 130
+past_twenty t h =
     lt_of_lt_of_le (lit< {m = 20 * 2 ^ 149} {n = 10485761 * 2 ^ 130} tt)
     (mul-le-mul {n₁ = 10485761} {m₁ = 2 ^ 130} {n₂ = 8388608 + t} {m₂ = 2 ^ 130} (omega arith) (lit≤ tt))
 
 normal : (x t : ℕ) → t < 8388608 → (a b c : Bool) → ltb x 130 ≡ a → ltb 130 x ≡ b → leb t 2097152 ≡ c
     → allowed (odd 24 false (8388608 + t) x 149) ≡ leb (suc x * 8388608 + t) 1101004800
 normal x t H true b c p q r =
-    good-value (2 ^ 149) (pow_pos 149) _ _ (odd_sign 24 false (8388608 + t) x 149) (low-exponent x t H (ltb-true x 130 p))
+    good-value (2 ^ 149) (pow_pos 149) _ _ (odd_sign 24 false (8388608 + t) x 149) (low_exponent x t H (ltb-true x 130 p))
     ∙ sym (le-leb (suc x * 8388608 + t) 1101004800 (omega (arith, ltb-true x 130 p)))
 normal x t H false true c p q r =
-    large-value (2 ^ 149) (pow_pos 149) _ _ (odd_sign 24 false (8388608 + t) x 149) (high-exponent x t (ltb-true 130 x q))
+    large-value (2 ^ 149) (pow_pos 149) _ _ (odd_sign 24 false (8388608 + t) x 149) (high_exponent x t (ltb-true 130 x q))
     ∙ sym (lt-leb (suc x * 8388608 + t) 1101004800 (omega (arith, ltb-true 130 x q)))
 normal x t H false false true p q r =
     let at : x ≡ 130 = omega (arith, ltb-false x 130 p, ltb-false 130 x q) in
     let few = leb-true t 2097152 r in
     rw at
-    (good-value (2 ^ 149) (pow_pos 149) _ _ (odd_sign 24 false (8388608 + t) 130 149) (at-twenty t few)
+    (good-value (2 ^ 149) (pow_pos 149) _ _ (odd_sign 24 false (8388608 + t) 130 149) (at_twenty t few)
     ∙ sym (le-leb (131 * 8388608 + t) 1101004800 (omega arith)))
 normal x t H false false false p q r =
     let at : x ≡ 130 = omega (arith, ltb-false x 130 p, ltb-false 130 x q) in
     let many = leb-false t 2097152 r in
     rw at
-    (large-value (2 ^ 149) (pow_pos 149) _ _ (odd_sign 24 false (8388608 + t) 130 149) (past-twenty t many)
+    (large-value (2 ^ 149) (pow_pos 149) _ _ (odd_sign 24 false (8388608 + t) 130 149) (past_twenty t many)
     ∙ sym (lt-leb (131 * 8388608 + t) 1101004800 (omega arith)))
 
-positive-field : (x t : ℕ) → t < 8388608 → (z : Bool) → eqb (suc x) 255 ≡ z
+positive_field : (x t : ℕ) → t < 8388608 → (z : Bool) → eqb (suc x) 255 ≡ z
     → allowed (cond z (cond (eqb t 0) (inf false) nan) (odd 24 false (8388608 + t) x 149)) ≡ leb (suc x * 8388608 + t) 1101004800
-positive-field x t H true e = special false (eqb t 0) ∙ sym (lt-leb (suc x * 8388608 + t) 1101004800 (omega (arith, eqb-true (suc x) 255 e)))
-positive-field x t H false e = normal x t H _ _ _ refl refl refl
+positive_field x t H true e = special false (eqb t 0) ∙ sym (lt-leb (suc x * 8388608 + t) 1101004800 (omega (arith, eqb-true (suc x) 255 e)))
+positive_field x t H false e = normal x t H _ _ _ refl refl refl
 
 positive : (x t : ℕ) → t < 8388608 → allowed (of_fields binary32 false x t) ≡ leb (x * 8388608 + t) 1101004800
 unfolding of_fields
@@ -115,11 +115,11 @@ positive zero t H =
     let small : t * 1 ≤ 8388608 = omega arith in
     good-value (2 ^ 149) (pow_pos 149) _ _ (odd_sign 24 false t 0 149) (le_trans small (lit≤ tt))
     ∙ sym (le-leb (0 * 8388608 + t) 1101004800 (omega arith))
-positive (suc x) t H = positive-field x t H (eqb (suc x) 255) refl
+positive (suc x) t H = positive_field x t H (eqb (suc x) 255) refl
 
-negative-field : (x t : ℕ) (z : Bool) → allowed (cond z (cond (eqb t 0) (inf true) nan) (odd 24 true (8388608 + t) x 149)) ≡ false
-negative-field x t true = special true (eqb t 0)
-negative-field x t false = negative-value (2 ^ 149) (pow_pos 149) _ _ (odd_sign 24 true (8388608 + t) x 149) (mul-pos (omega arith) (pow_pos x))
+negative_field : (x t : ℕ) (z : Bool) → allowed (cond z (cond (eqb t 0) (inf true) nan) (odd 24 true (8388608 + t) x 149)) ≡ false
+negative_field x t true = special true (eqb t 0)
+negative_field x t false = negative-value (2 ^ 149) (pow_pos 149) _ _ (odd_sign 24 true (8388608 + t) x 149) (mul-pos (omega arith) (pow_pos x))
 
 negative : (x t : ℕ) → allowed (of_fields binary32 true x t) ≡ eqb (x * 8388608 + t) 0
 unfolding of_fields odd allowed le lt eq of_int
@@ -128,7 +128,7 @@ negative zero (suc t) =
     negative-value (2 ^ 149) (pow_pos 149) (odd 24 true (suc t) 0 149) (suc t * 2 ^ 0) (odd_sign 24 true (suc t) 0 149)
     (mul-pos {m = suc t} (omega arith) (pow_pos 0))
     ∙ sym (ne_eqb (0 * 8388608 + suc t) 0 (λ z. omega arith))
-negative (suc x) t = negative-field x t (eqb (suc x) 255) ∙ sym (ne_eqb (suc x * 8388608 + t) 0 (λ z. omega arith))
+negative (suc x) t = negative_field x t (eqb (suc x) 255) ∙ sym (ne_eqb (suc x * 8388608 + t) 0 (λ z. omega arith))
 
 -- ---- a pattern
 

@@ -11,5 +11,5 @@ unfoldable pub allowed : Float → Bool
 allowed d = le (of_int binary32 (pos 0)) d && le d (of_int binary32 (pos 20))
 
 -- what any 32 bits are as a depth
-unfoldable pub metresOf : ℕ → Metres
-metresOf bits = cond (allowed (of_bits binary32 bits)) (Within (of_bits binary32 bits)) Outside
+unfoldable pub metres_of : ℕ → Metres
+metres_of bits = cond (allowed (of_bits binary32 bits)) (Within (of_bits binary32 bits)) Outside

@@ -3,24 +3,24 @@
 use Rattle.std.specs.Prelude.{ℕ, not, ◌&&◌, List, [], ◌∷◌, eqb, ltb}
 use Rattle.std.specs.Float.{binary32}
 use Rattle.std.specs.Float.Ieee.{of_bits}
-use Rattle.refusal.specs.Table.{Refusal, when, orRefuse}
+use Rattle.refusal.specs.Table.{Refusal, when, or_refuse}
 use Rattle.readings.specs.Depth.{allowed}
-use Rattle.readings.specs.Reading.{reading, depth_of, isKind, measuredAs}
+use Rattle.readings.specs.Reading.{reading, depth_of, is_kind, measured_as}
 use Rattle.readings.specs.declared.Unpacked.{Unpacked}
 use Rattle.readings.specs.declared.Unpacked.TheVariants.{Read, Refused}
 
-unfoldable pub numberRefusals : ℕ → ℕ → List Refusal
-numberRefusals kind measure =
+unfoldable pub number_refusals : ℕ → ℕ → List Refusal
+number_refusals kind measure =
     when 1 (eqb kind 2 && ltb 65535 measure)
-    ∷ when 2 (not (isKind kind))
+    ∷ when 2 (not (is_kind kind))
     ∷ when 3 (eqb kind 1 && not (allowed (of_bits binary32 measure)))
     ∷ []
 
 unfoldable pub reading_of : ℕ → ℕ → ℕ → ℕ → Unpacked
 reading_of kind measure inflow outflow =
-    orRefuse Refused (numberRefusals kind measure) (Read (reading (measuredAs kind measure) inflow outflow))
+    or_refuse Refused (number_refusals kind measure) (Read (reading (measured_as kind measure) inflow outflow))
 
 -- of kind 1
-unfoldable pub depthReading : ℕ → ℕ → ℕ → Unpacked
-depthReading bits inflow outflow =
-    orRefuse Refused (when 3 (not (allowed (of_bits binary32 bits))) ∷ []) (Read (depth_of (of_bits binary32 bits) inflow outflow))
+unfoldable pub depth_reading : ℕ → ℕ → ℕ → Unpacked
+depth_reading bits inflow outflow =
+    or_refuse Refused (when 3 (not (allowed (of_bits binary32 bits))) ∷ []) (Read (depth_of (of_bits binary32 bits) inflow outflow))

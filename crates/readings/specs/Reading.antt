@@ -3,7 +3,7 @@
 use Rattle.std.specs.Prelude.{ℕ, ◌<◌, Bool, true, ◌||◌, cond, List, ◌++◌, T, eqb, length, Float}
 use Rattle.std.specs.Float.{binary32}
 use Rattle.std.specs.Float.Ieee.{of_bits, to_bits, fits}
-use Rattle.octet.specs.Number.{digitsLE}
+use Rattle.octet.specs.Number.{digits_le}
 use Rattle.readings.specs.Depth.{allowed}
 use Rattle.readings.specs.declared.Measured.{Measured}
 use Rattle.readings.specs.declared.Measured.TheVariants.{Depth, Fault}
@@ -15,8 +15,8 @@ reading m inflow outflow = record { measured = m; inflow = inflow; outflow = out
 abbrev pub depth_of : Float → ℕ → ℕ → Reading
 depth_of d inflow outflow = reading (Depth d) inflow outflow
 
-abbrev pub faultOf : ℕ → ℕ → ℕ → Reading
-faultOf n inflow outflow = reading (Fault n) inflow outflow
+abbrev pub fault_of : ℕ → ℕ → ℕ → Reading
+fault_of n inflow outflow = reading (Fault n) inflow outflow
 
 -- ---- in numbers: the kind, and what is measured
 
@@ -24,15 +24,15 @@ abbrev pub kind_of : Measured → ℕ
 kind_of (Depth d) = 1
 kind_of (Fault n) = 2
 
-abbrev pub measureOf : Measured → ℕ
-measureOf (Depth d) = to_bits binary32 d
-measureOf (Fault n) = n
+abbrev pub measure_of : Measured → ℕ
+measure_of (Depth d) = to_bits binary32 d
+measure_of (Fault n) = n
 
-abbrev pub isKind : ℕ → Bool
-isKind kind = eqb kind 1 || eqb kind 2
+abbrev pub is_kind : ℕ → Bool
+is_kind kind = eqb kind 1 || eqb kind 2
 
-abbrev pub measuredAs : ℕ → ℕ → Measured
-measuredAs kind measure = cond (eqb kind 1) (Depth (of_bits binary32 measure)) (Fault measure)
+abbrev pub measured_as : ℕ → ℕ → Measured
+measured_as kind measure = cond (eqb kind 1) (Depth (of_bits binary32 measure)) (Fault measure)
 
 -- ---- in bytes
 
@@ -41,13 +41,13 @@ abbrev pub width_of : ℕ → ℕ
 width_of kind = cond (eqb kind 1) 4 2
 
 -- what follows the length
-unfoldable pub readingContents : Reading → List ℕ
-readingContents r =
+unfoldable pub reading_contents : Reading → List ℕ
+reading_contents r =
     let kind = kind_of r.measured in
-    digitsLE 256 2 kind ++ digitsLE 256 (width_of kind) (measureOf r.measured) ++ digitsLE 256 4 r.inflow ++ digitsLE 256 4 r.outflow
+    digits_le 256 2 kind ++ digits_le 256 (width_of kind) (measure_of r.measured) ++ digits_le 256 4 r.inflow ++ digits_le 256 4 r.outflow
 
 unfoldable pub image : Reading → List ℕ
-image r = digitsLE 256 2 (length (readingContents r)) ++ readingContents r
+image r = digits_le 256 2 (length (reading_contents r)) ++ reading_contents r
 
 -- ---- which readings there are
 

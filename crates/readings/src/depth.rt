@@ -2,7 +2,7 @@
 ghost use Rattle.std.specs.Prelude.{◌≡◌};
 ghost use Rattle.std.specs.Float.{binary32};
 ghost use Rattle.std.specs.Float.Ieee.{of_bits, to_bits};
-ghost use Rattle.readings.specs.Depth.{allowed, metresOf};
+ghost use Rattle.readings.specs.Depth.{allowed, metres_of};
 
 use crate::Metres;
 
@@ -31,7 +31,7 @@ pub fn is_allowed(depth: f32) -> bool
 
 // The depth of any 32 bits, where it is allowed.
 pub fn depth_of_bits(bits: u32) -> Metres
-    ensures { result ≡ metresOf bits }
+    ensures { result ≡ metres_of bits }
 {
     if !bits_allowed(bits) {
         return Metres::Outside;

@@ -1,10 +1,10 @@
 // The balance of a reading, signed.
 ghost use Rattle.std.specs.Prelude.{◌≡◌, nat_abs};
-ghost use Rattle.readings.specs.Balance.{balanceOf};
+ghost use Rattle.readings.specs.Balance.{balance_of};
 
 // Litres in minus litres out: from -4294967295 to 4294967295.
 pub fn balance(inflow: u32, outflow: u32) -> i64
-    ensures { result ≡ balanceOf inflow outflow }
+    ensures { result ≡ balance_of inflow outflow }
 {
     inflow as i64 - outflow as i64
 }

@@ -1,15 +1,15 @@
 // A reading as plain numbers, as a caller in C has it: kind, measure (the bits of a depth, or the number of a fault), litres
 // in, litres out.
 ghost use Rattle.std.specs.Prelude.{◌≡◌, true};
-ghost use Rattle.readings.specs.Reading.{kind_of, measureOf, fine};
-ghost use Rattle.readings.specs.Numbers.{depthReading, reading_of};
+ghost use Rattle.readings.specs.Reading.{kind_of, measure_of, fine};
+ghost use Rattle.readings.specs.Numbers.{depth_reading, reading_of};
 
 use crate::depth::{bits_of, depth_of_bits};
 use crate::{Measured, Metres, Reading, Unpacked};
 
 // A reading of kind 1, or 3 where the depth is outside.
 pub fn depth_reading(bits: u32, inflow: u32, outflow: u32) -> Unpacked
-    ensures { result ≡ depthReading bits inflow outflow }
+    ensures { result ≡ depth_reading bits inflow outflow }
 {
     let Metres::Within(depth) = depth_of_bits(bits) else {
         return Unpacked::Refused(3);
@@ -53,7 +53,7 @@ pub fn kind_of(reading: Reading) -> u32
 }
 
 pub fn measure_of(reading: Reading) -> u32
-    ensures { result ≡ measureOf reading.measured }
+    ensures { result ≡ measure_of reading.measured }
 {
     let measured = reading.measured;
     match measured {
@@ -65,7 +65,7 @@ pub fn measure_of(reading: Reading) -> u32
 // The same of a reading that may be written, whose depth is a number.
 pub fn measure_allowed(reading: Reading) -> u32
     requires { fine reading.measured ≡ true }
-    ensures { result ≡ measureOf reading.measured }
+    ensures { result ≡ measure_of reading.measured }
 {
     let measured = reading.measured;
     match measured {

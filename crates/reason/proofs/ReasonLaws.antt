@@ -11,26 +11,26 @@ use native.Mathlib.Decide.{dec_le}
 use lib.Dec.{eqb}
 use lib.ListN.{length}
 use borrow.Author.Tests.{ne_eqb, eqb-true, eqb-false, not-true, not-false}
-use Rattle.key.specs.Around.{apart, isDown, tie, closer}
-use Rattle.key.proofs.AroundLaws.{closer-less, closer-same, closer-both, down-far}
+use Rattle.key.specs.Around.{apart, is_down, tie, closer}
+use Rattle.key.proofs.AroundLaws.{closer_less, closer-same, closer_both, down_far}
 use Rattle.record.specs.Record.{key_of}
 use Rattle.kept.specs.Keys.{◌∈◌}
-use Rattle.closest_row.specs.Closest.{closestFrom, closestOf}
-use Rattle.reason.specs.Because.{Because, only, target, tied, nearest, rank, namedKey, Another, AnotherWith, Holds, First, Once, Candidates}
-use Rattle.reason.specs.Reason.{passing, differs, closestIn, becauseBy, reasonBy, reasonOf, givenBy, becauseOf}
+use Rattle.closest_row.specs.Closest.{closest_from, closest_of}
+use Rattle.reason.specs.Because.{Because, only, target, tied, nearest, rank, named_key, Another, AnotherWith, Holds, First, Once, Candidates}
+use Rattle.reason.specs.Reason.{passing, differs, closest_in, because_by, reason_by, reason_of, given_by, because_of}
 use Rattle.reason.specs.declared.Reason.TheVariants.{Only, Target, Tied, Nearest}
-use Rattle.closest_row.proofs.ClosestLaws.{closest-in, none-closer}
+use Rattle.closest_row.proofs.ClosestLaws.{closest_in_lem, none-closer}
 
 -- a test that holds and does not
 pub both : {A : Type 0} {b : Bool} → b ≡ true → b ≡ false → A
 both p q = let z : ◌≡◌ {A = ℕ} 0 1 = cc in absurd (omega arith)
 
 -- the code's answer is the reason
-pub given-because : (alone : Bool) (t k next : ℕ) → becauseOf (givenBy alone t k next) next ≡ cond alone only (becauseBy t k next)
-given-because alone t k next = go alone (eqb k t) (eqb (apart t next) (apart t k))
+pub given_because : (alone : Bool) (t k next : ℕ) → because_of (given_by alone t k next) next ≡ cond alone only (because_by t k next)
+given_because alone t k next = go alone (eqb k t) (eqb (apart t next) (apart t k))
   where
     go : (a b c : Bool)
-        → becauseOf (cond a Only (cond b Target (cond c Tied Nearest))) next ≡ cond a only (cond b target (cond c (tied next) (nearest next)))
+        → because_of (cond a Only (cond b Target (cond c Tied Nearest))) next ≡ cond a only (cond b target (cond c (tied next) (nearest next)))
     go true b c = refl
     go false true c = refl
     go false false true = refl
@@ -76,27 +76,27 @@ sole (r ∷ s ∷ more) x y e m n = absurd (omega (arith, e))
 
 -- ---- what closeness says of distance
 
-not-nearer : (t x y : ℕ) → closer t x y ≡ false → apart t y ≤ apart t x
-not-nearer t x y e = go (dec_le (apart t y) (apart t x))
+not_nearer : (t x y : ℕ) → closer t x y ≡ false → apart t y ≤ apart t x
+not_nearer t x y e = go (dec_le (apart t y) (apart t x))
   where
     go : Dec (apart t y ≤ apart t x) → apart t y ≤ apart t x
     go (yes h) = h
-    go (no h) = both (closer-less t x y (omega arith)) e
+    go (no h) = both (closer_less t x y (omega arith)) e
 
 -- of two keys equally near, the one before which the other is not taken is taken by the tie rule
-tie-chose : (t k j : ℕ) → ¬ (j ≡ k) → apart t j ≡ apart t k → closer t j k ≡ false → tie t k j ≡ true
-tie-chose t k j d h e = go (closer t k j) refl
+tie_chose : (t k j : ℕ) → ¬ (j ≡ k) → apart t j ≡ apart t k → closer t j k ≡ false → tie t k j ≡ true
+tie_chose t k j d h e = go (closer t k j) refl
   where
     go : (b : Bool) → closer t k j ≡ b → tie t k j ≡ true
     go true c = sym (closer-same t k j (sym h)) ∙ c
-    go false c = absurd (d (closer-both t j k e c))
+    go false c = absurd (d (closer_both t j k e c))
 
 -- and the other is not reached by going down
-tie_up : (t k j : ℕ) → tie t k j ≡ true → isDown t j ≡ false
+tie_up : (t k j : ℕ) → tie t k j ≡ true → is_down t j ≡ false
 unfolding tie
-tie_up t k j e = go (isDown t k) (isDown t j) refl e
+tie_up t k j e = go (is_down t k) (is_down t j) refl e
   where
-    go : (a b : Bool) → isDown t j ≡ b → (a && not b) ≡ true → isDown t j ≡ false
+    go : (a b : Bool) → is_down t j ≡ b → (a && not b) ≡ true → is_down t j ≡ false
     go a false p q = p
     go true true p q = both refl (sym q)
     go false true p q = both refl (sym q)
@@ -105,7 +105,7 @@ tie_up t k j e = go (isDown t k) (isDown t j) refl e
 
 module _ (t : ℕ) (cands : List (List ℕ)) (w : Candidates cands) where
   abbrev k : ℕ
-  k = namedKey t cands
+  k = named_key t cands
 
   abbrev others : List (List ℕ)
   others = passing (differs k) cands
@@ -118,14 +118,14 @@ module _ (t : ℕ) (cands : List (List ℕ)) (w : Candidates cands) where
 
   -- no candidate is nearer
   pub none-nearer : (r : List ℕ) → r ∈ cands → apart t k ≤ apart t (key_of r)
-  none-nearer r m = not-nearer t (key_of r) k (none-closer t cands r m)
+  none-nearer r m = not_nearer t (key_of r) k (none-closer t cands r m)
 
   -- two candidates of which one is named
   not-only : (r : List ℕ) → Another t cands r → ¬ (Holds t cands only)
-  not-only r a e = a.1 (ap key_of (sole cands r (closestOf t cands) e a.0 (closest-in t cands w.0)))
+  not-only r a e = a.1 (ap key_of (sole cands r (closest_of t cands) e a.0 (closest_in_lem t cands w.0)))
 
   pub tied-holds : (r : List ℕ) → Another t cands r → apart t (key_of r) ≡ apart t k → Holds t cands (tied (key_of r))
-  tied-holds r a e = ((r, a, refl), e, tie-chose t k (key_of r) a.1 e (none-closer t cands r a.0))
+  tied-holds r a e = ((r, a, refl), e, tie_chose t k (key_of r) a.1 e (none-closer t cands r a.0))
 
   -- where there are others, their closest is another, and none of them is closer
   module _ (n : List ℕ) (a : Another t cands n) (best : (r : List ℕ) → Another t cands r → closer t (key_of r) (key_of n) ≡ false) where
@@ -133,7 +133,7 @@ module _ (t : ℕ) (cands : List (List ℕ)) (w : Candidates cands) where
     nearest-holds d = (λ r b. strictly r b, (n, a, refl), best)
       where
         strictly : (r : List ℕ) → Another t cands r → apart t k < apart t (key_of r)
-        strictly r b = omega (arith, none-nearer n a.0, not-nearer t (key_of r) (key_of n) (best r b), d)
+        strictly r b = omega (arith, none-nearer n a.0, not_nearer t (key_of r) (key_of n) (best r b), d)
 
     by-distance : (b : Bool) → eqb (apart t (key_of n)) (apart t k) ≡ b → ¬ (k ≡ t) → First t cands (cond b (tied (key_of n)) (nearest (key_of n)))
     by-distance true e d = (tied-holds n a (eqb-true _ _ e), before)
@@ -165,8 +165,8 @@ module _ (t : ℕ) (cands : List (List ℕ)) (w : Candidates cands) where
         before (nearest j) p = absurd (omega (arith, p))
     by_key false e = by-distance (eqb (apart t (key_of n)) (apart t k)) refl (eqb-false k t e)
 
-  by-others : (os : List (List ℕ)) → others ≡ os → First t cands (reasonBy t k (closestIn t os))
-  unfolding closestOf
+  by-others : (os : List (List ℕ)) → others ≡ os → First t cands (reason_by t k (closest_in t os))
+  unfolding closest_of
   by-others [] e = (one_left k cands w same, λ c p. absurd (omega (arith, p)))
     where
       same : (y : List ℕ) → y ∈ cands → key_of y ≡ k
@@ -176,30 +176,30 @@ module _ (t : ℕ) (cands : List (List ℕ)) (w : Candidates cands) where
           go true p = eqb-true (key_of y) k p
           go false p = absurd (subst (λ (os : List (List ℕ)). y ∈ os) e (another-in y (m, eqb-false (key_of y) k p)))
   by-others (o ∷ os) e =
-      by_key (closestFrom t o os) (in-another _ (back (closest-in t (o ∷ os) (omega arith))))
+      by_key (closest_from t o os) (in-another _ (back (closest_in_lem t (o ∷ os) (omega arith))))
       (λ r b. none-closer t (o ∷ os) r (subst (λ (l : List (List ℕ)). r ∈ l) e (another-in r b)))
       (eqb k t) refl
     where
       back : {y : List ℕ} → y ∈ (o ∷ os) → y ∈ others
       back {y} m = subst (λ (l : List (List ℕ)). y ∈ l) (sym e) m
 
-  pub reason-first : First t cands (reasonOf t cands)
-  unfolding reasonOf
+  pub reason-first : First t cands (reason_of t cands)
+  unfolding reason_of
   reason-first = by-others others refl
 
   -- ---- no two are
 
   -- "another candidate is equally near": there is one at most
-  pub one-other : (i j : ℕ) → AnotherWith t cands i → AnotherWith t cands j → apart t i ≡ apart t k → apart t j ≡ apart t k → i ≡ j
-  one-other i j a b p q =
+  pub one_other : (i j : ℕ) → AnotherWith t cands i → AnotherWith t cands j → apart t i ≡ apart t k → apart t j ≡ apart t k → i ≡ j
+  one_other i j a b p q =
       let up = tied-holds a.0 a.1 (ap (apart t) a.2 ∙ p) in
       let on = tied-holds b.0 b.1 (ap (apart t) b.2 ∙ q) in
-      let down : isDown t i ≡ isDown t j = ap (isDown t) (sym a.2) ∙ tie_up t k _ up.2 ∙ sym (tie_up t k _ on.2) ∙ ap (isDown t) b.2 in
-      down-far t i j down (p ∙ sym q)
+      let down : is_down t i ≡ is_down t j = ap (is_down t) (sym a.2) ∙ tie_up t k _ up.2 ∙ sym (tie_up t k _ on.2) ∙ ap (is_down t) b.2 in
+      down_far t i j down (p ∙ sym q)
 
   one-next : (i j : ℕ) → Holds t cands (nearest i) → Holds t cands (nearest j) → i ≡ j
   one-next i j p q =
-      closer-both t i j (ap (λ (n : ℕ). closer t n j) (sym p.1.2) ∙ q.2 p.1.0 p.1.1)
+      closer_both t i j (ap (λ (n : ℕ). closer t n j) (sym p.1.2) ∙ q.2 p.1.0 p.1.1)
       (ap (λ (n : ℕ). closer t n i) (sym q.1.2) ∙ p.2 q.1.0 q.1.1)
 
   apart-rank : {A : Type 0} (b c : Because) → First t cands b → First t cands c → ¬ (rank b ≡ rank c) → A
@@ -212,7 +212,7 @@ module _ (t : ℕ) (cands : List (List ℕ)) (w : Candidates cands) where
   pub first_one : (b c : Because) → First t cands b → First t cands c → b ≡ c
   first_one only only f g = refl
   first_one target target f g = refl
-  first_one (tied i) (tied j) f g = ap tied (one-other i j f.0.0 g.0.0 f.0.1 g.0.1)
+  first_one (tied i) (tied j) f g = ap tied (one_other i j f.0.0 g.0.0 f.0.1 g.0.1)
   first_one (nearest i) (nearest j) f g = ap nearest (one-next i j f.0 g.0)
   first_one only target f g = apart-rank only target f g (λ e. omega (arith, e))
   first_one only (tied j) f g = apart-rank only (tied j) f g (λ e. omega (arith, e))

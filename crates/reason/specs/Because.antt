@@ -6,7 +6,7 @@ use Rattle.std.specs.Prelude.{ℕ, ◌<◌, ◌≡◌, true, false, List, [], �
 use Rattle.key.specs.Around.{apart, tie, closer}
 use Rattle.record.specs.Record.{key_of}
 use Rattle.kept.specs.Keys.{◌∈◌}
-use Rattle.closest_row.specs.Closest.{closestOf}
+use Rattle.closest_row.specs.Closest.{closest_of}
 
 -- the reasons, in the order in which they are tried, with the key that is shown
 pub data Because : Type 0 where
@@ -20,12 +20,12 @@ rank (tied k) = 2
 rank (nearest k) = 3
 
 -- the key of the record that is named
-abbrev pub namedKey : ℕ → List (List ℕ) → ℕ
-namedKey t cands = key_of (closestOf t cands)
+abbrev pub named_key : ℕ → List (List ℕ) → ℕ
+named_key t cands = key_of (closest_of t cands)
 
 -- another candidate, and one with the key k
 abbrev pub Another : ℕ → List (List ℕ) → List ℕ → Type 0
-Another t cands r = (r ∈ cands) × ¬ (key_of r ≡ namedKey t cands)
+Another t cands r = (r ∈ cands) × ¬ (key_of r ≡ named_key t cands)
 
 abbrev pub AnotherWith : ℕ → List (List ℕ) → ℕ → Type 0
 AnotherWith t cands k = (r : List ℕ) × Another t cands r × (key_of r ≡ k)
@@ -33,11 +33,11 @@ AnotherWith t cands k = (r : List ℕ) × Another t cands r × (key_of r ≡ k)
 -- what each reason says
 abbrev pub Holds : ℕ → List (List ℕ) → Because → Type 0
 Holds t cands only = length cands ≡ 1
-Holds t cands target = namedKey t cands ≡ t
+Holds t cands target = named_key t cands ≡ t
 Holds t cands (tied k) =
-    AnotherWith t cands k × (apart t k ≡ apart t (namedKey t cands)) × (tie t (namedKey t cands) k ≡ true)
+    AnotherWith t cands k × (apart t k ≡ apart t (named_key t cands)) × (tie t (named_key t cands) k ≡ true)
 Holds t cands (nearest k) =
-    ((r : List ℕ) → Another t cands r → apart t (namedKey t cands) < apart t (key_of r))
+    ((r : List ℕ) → Another t cands r → apart t (named_key t cands) < apart t (key_of r))
     × AnotherWith t cands k
     × ((r : List ℕ) → Another t cands r → closer t (key_of r) k ≡ false)
 

@@ -1,7 +1,7 @@
 // Why a record is named for a target (document 02, request 5), by its key and the next.
 ghost use Rattle.std.specs.Prelude.{◌≡◌};
 ghost use Rattle.key.specs.Number.{number};
-ghost use Rattle.reason.specs.Reason.{givenBy};
+ghost use Rattle.reason.specs.Reason.{given_by};
 
 use key::Key;
 
@@ -17,7 +17,7 @@ pub enum Reason {
 // The first reason that holds for the key k, which is named for the target: whether it is alone, and else by the key of the
 // next.
 pub fn reason_by(target: Key, k: Key, alone: bool, next: Key) -> Reason
-    ensures { result ≡ givenBy alone (number target) (number k) (number next) }
+    ensures { result ≡ given_by alone (number target) (number k) (number next) }
 {
     if alone {
         return Reason::Only;

@@ -4,22 +4,22 @@
 -- Assumes nothing.
 use Rattle.std.specs.Prelude.{ℕ, ◌+◌, ◌*◌, Bool, ◌&&◌, List, [], ◌∷◌, ◌++◌, eqb, leb, length, get_or, replicate}
 use Rattle.octet.specs.Part.{part}
-use Rattle.record.specs.Record.{count_of, addressesOf}
+use Rattle.record.specs.Record.{count_of, addresses_of}
 
 -- how many addresses an entry has
-abbrev pub entryCount : List ℕ → ℕ
-entryCount v = get_or v 37 0
+abbrev pub entry_count : List ℕ → ℕ
+entry_count v = get_or v 37 0
 
 -- are these the contents of a route entry?
-unfoldable pub entryForm : List ℕ → Bool
-entryForm v = leb 1 (entryCount v) && leb (entryCount v) 4 && eqb (length v) (38 + 16 * entryCount v)
+unfoldable pub entry_form : List ℕ → Bool
+entry_form v = leb 1 (entry_count v) && leb (entry_count v) 4 && eqb (length v) (38 + 16 * entry_count v)
 
 -- the record that an entry names: "keep the first only, with the port"
-unfoldable pub recordOf : List ℕ → List ℕ
-recordOf v =
+unfoldable pub record_of : List ℕ → List ℕ
+record_of v =
     part 0 32 v ++ part 34 2 v ++ (1 ∷ 0 ∷ []) ++ part 38 16 v ++ replicate 48 0
 
 -- the entry of the given versions that carries a record, its flags clear
 unfoldable pub entry_of : ℕ → ℕ → List ℕ → List ℕ
 entry_of major minor r =
-    part 0 32 r ++ (major ∷ minor ∷ []) ++ part 32 2 r ++ (0 ∷ count_of r ∷ []) ++ addressesOf r
+    part 0 32 r ++ (major ∷ minor ∷ []) ++ part 32 2 r ++ (0 ∷ count_of r ∷ []) ++ addresses_of r

@@ -2,27 +2,27 @@
 -- ones zero", and of the addresses (document 02, request 13) the first only: "the count 1 and the other addresses zero". A record is its bytes; its
 -- fields are parts of them. Assumes nothing.
 use Rattle.std.specs.Prelude.{ℕ, ◌*◌, Bool, ◌&&◌, List, eqb, length, get_or, drop}
-use Rattle.octet.specs.Number.{valueBE}
-use Rattle.octet.specs.Part.{part, allZero}
+use Rattle.octet.specs.Number.{value_be}
+use Rattle.octet.specs.Part.{part, all_zero}
 use Rattle.key.specs.Number.{key_at}
 
 -- the key, the port, how many addresses there are, and they themselves
 abbrev pub key_of : List ℕ → ℕ
 key_of r = key_at 0 r
 
-abbrev pub portOf : List ℕ → ℕ
-portOf r = valueBE 256 (part 32 2 r)
+abbrev pub port_of : List ℕ → ℕ
+port_of r = value_be 256 (part 32 2 r)
 
 abbrev pub count_of : List ℕ → ℕ
 count_of r = get_or r 34 0
 
-abbrev pub addressesOf : List ℕ → List ℕ
-addressesOf r = part 36 (16 * count_of r) r
+abbrev pub addresses_of : List ℕ → List ℕ
+addresses_of r = part 36 (16 * count_of r) r
 
 -- is the list a record in form?
-unfoldable pub recordForm : List ℕ → Bool
-recordForm r =
+unfoldable pub record_form : List ℕ → Bool
+record_form r =
     eqb (length r) 100
     && eqb (count_of r) 1
     && eqb (get_or r 35 0) 0
-    && allZero (drop 52 r)
+    && all_zero (drop 52 r)

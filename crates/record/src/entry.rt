@@ -1,8 +1,8 @@
 // A record beside the route entry that names it: compared and made, piece by piece.
 ghost use Rattle.std.specs.Prelude.{◌≡◌, true, ◌+◌, ◌*◌, ◌≤◌, length, get_or};
 ghost use Rattle.octet.specs.Part.{part, same, splice};
-ghost use Rattle.record.specs.Entry.{entryForm, recordOf, entry_of};
-ghost use Rattle.record.specs.Record.{recordForm};
+ghost use Rattle.record.specs.Entry.{entry_form, record_of, entry_of};
+ghost use Rattle.record.specs.Record.{record_form};
 
 use crate::piece::{copy_piece, same_piece};
 
@@ -11,8 +11,8 @@ use crate::piece::{copy_piece, same_piece};
 pub fn same_as_entry(s: &[u8], at: usize, d: &[u8], start: usize, len: usize) -> bool
     requires at_in_bounds { at + 100 ≤ length s.now }
     requires len_in_bounds { start + len ≤ length d.now }
-    requires d_value { entryForm (part start len d.now) ≡ true }
-    ensures { result ≡ same (part at 100 s.now) (recordOf (part start len d.now)) }
+    requires d_value { entry_form (part start len d.now) ≡ true }
+    ensures { result ≡ same (part at 100 s.now) (record_of (part start len d.now)) }
 {
     if !octet::equal_words(s, at, d, start, 4) {
         return false;
@@ -36,8 +36,8 @@ pub fn same_as_entry(s: &[u8], at: usize, d: &[u8], start: usize, len: usize) ->
 pub fn put_record(dst: &mut [u8], at: usize, d: &[u8], start: usize, len: usize)
     requires at_in_bounds { at + 100 ≤ length dst.old }
     requires len_in_bounds { start + len ≤ length d.now }
-    requires d_value { entryForm (part start len d.now) ≡ true }
-    ensures { dst.new ≡ splice at (recordOf (part start len d.now)) dst.old }
+    requires d_value { entry_form (part start len d.now) ≡ true }
+    ensures { dst.new ≡ splice at (record_of (part start len d.now)) dst.old }
 {
     runs::copy_32(dst, at, d, start);
     copy_piece(dst, at + 32, d, start + 34, 2);
@@ -50,7 +50,7 @@ pub fn put_record(dst: &mut [u8], at: usize, d: &[u8], start: usize, len: usize)
 // Writes the route entry of the given versions that carries the record at a place.
 pub fn put_entry(dst: &mut [u8], at: usize, major: u8, minor: u8, s: &[u8], start: usize)
     requires start_in_bounds { start + 100 ≤ length s.now }
-    requires s_value { recordForm (part start 100 s.now) ≡ true }
+    requires s_value { record_form (part start 100 s.now) ≡ true }
     requires start_in_bounds_2 { at + 38 + 16 * get_or s.now (start + 34) 0 ≤ length dst.old }
     ensures { dst.new ≡ splice at (entry_of major minor (part start 100 s.now)) dst.old }
 {

@@ -4,8 +4,8 @@ mod entry;
 mod piece;
 
 ghost use Rattle.std.specs.Prelude.{◌≡◌, ◌+◌, ◌≤◌, length};
-ghost use Rattle.octet.specs.Part.{part, allZero};
-ghost use Rattle.record.specs.Record.{recordForm};
+ghost use Rattle.octet.specs.Part.{part, all_zero};
+ghost use Rattle.record.specs.Record.{record_form};
 
 pub use entry::{put_entry, put_record, same_as_entry};
 pub use piece::{copy_piece, same_piece};
@@ -15,7 +15,7 @@ pub const RECORD_LEN: usize = 100;
 
 // Is the slice a record in form?
 pub fn is_record(r: &[u8]) -> bool
-    ensures { result ≡ recordForm r.now }
+    ensures { result ≡ record_form r.now }
 {
     if r.len() != RECORD_LEN {
         return false;
@@ -26,7 +26,7 @@ pub fn is_record(r: &[u8]) -> bool
 // Are the 24 bytes from a place on all zero? Three words: more of them the compiler would join in wide registers and fold.
 fn zero_three(s: &[u8], at: usize) -> bool
     requires { at + 24 ≤ length s.now }
-    ensures { result ≡ allZero (part at 24 s.now) }
+    ensures { result ≡ all_zero (part at 24 s.now) }
 {
     let x = octet::read_u64_le(s, at);
     let y = octet::read_u64_le(s, at + 8);
@@ -38,7 +38,7 @@ fn zero_three(s: &[u8], at: usize) -> bool
 // no more are looked at in two halves.
 pub fn is_formed(s: &[u8], at: usize) -> bool
     requires { at + 100 ≤ length s.now }
-    ensures { result ≡ recordForm (part at 100 s.now) }
+    ensures { result ≡ record_form (part at 100 s.now) }
 {
     let count = octet::read_u16_le(s, at + 34);
     if count != 1 {

@@ -10,16 +10,16 @@ use lib.Dec.{eqb}
 use lib.ListN.{length, take, drop, length-append, take-append-drop, drop_of_length-le, replicate, length-replicate}
 use lib.Seq.{length-take-le, take-take, drop-drop}
 use borrow.Author.Tests.{eq-eqb, ne_eqb}
-use Rattle.octet.specs.Number.{valueLE}
+use Rattle.octet.specs.Number.{value_le}
 use Rattle.octet.specs.Part.{part, splice}
 use Rattle.octet.proofs.PartLaws.{length_part, take-splice, length-splice}
 use Rattle.trace.specs.Fault.{ends}
 use Rattle.night.specs.Step.{Night, Stepped, stepped, step_of}
-use Rattle.night.specs.Replay.{line_of, atEnd}
-use Rattle.replay.specs.Text.{textsOf}
+use Rattle.night.specs.Replay.{line_of, at_end}
+use Rattle.replay.specs.Text.{texts_of}
 use Rattle.replay.specs.Stream.{Stream, stream, Fed, gives, after, wanted, is_whole, took, grown, fed, closing, closed}
 use Rattle.replay.specs.Room.{Begun}
-use Rattle.replay.proofs.StreamLaws.{wants-two, wants-told, wants-still, fed-over, fed-none, fed-run, fed-append, after-after}
+use Rattle.replay.proofs.StreamLaws.{wants-two, wants-told, wants_still, fed-over, fed-none, fed-run, fed_append, after-after}
 
 -- ---- what is wanted
 
@@ -30,14 +30,14 @@ module _ (room : List ℕ) (begun : ℕ) (inside : begun ≤ length room) where
   pub room-two : begun < 2 → 2 ≡ wanted (take begun room)
   room-two h = sym (wants-two (take begun room) (omega (arith, long)))
 
-  pub room-told : (begun < 2 → ⊥) → 2 + valueLE 256 (part 0 2 room) ≡ wanted (take begun room)
+  pub room-told : (begun < 2 → ⊥) → 2 + value_le 256 (part 0 2 room) ≡ wanted (take begun room)
   room-told h =
-      sym (wants-told (take begun room) (omega (arith, long)) ∙ ap (λ (l : List ℕ). 2 + valueLE 256 l) (take-take 2 begun room (omega arith)))
+      sym (wants-told (take begun room) (omega (arith, long)) ∙ ap (λ (l : List ℕ). 2 + value_le 256 l) (take-take 2 begun room (omega arith)))
 
-at-most-by : (r xs : List ℕ) → length r + length xs ≤ wanted r → Dec (length r < 2) → Dec (length (r ++ xs) < 2) → length (r ++ xs) ≤ wanted (r ++ xs)
-at-most-by r xs h e (yes q) = omega (arith, wants-two (r ++ xs) q)
-at-most-by r xs h (yes p) (no q) = omega (arith, length-append r xs, wants-two r p, wants-told (r ++ xs) (omega arith))
-at-most-by r xs h (no p) (no q) = omega (arith, length-append r xs, wants-still r xs (omega arith))
+at_most_by : (r xs : List ℕ) → length r + length xs ≤ wanted r → Dec (length r < 2) → Dec (length (r ++ xs) < 2) → length (r ++ xs) ≤ wanted (r ++ xs)
+at_most_by r xs h e (yes q) = omega (arith, wants-two (r ++ xs) q)
+at_most_by r xs h (yes p) (no q) = omega (arith, length-append r xs, wants-two r p, wants-told (r ++ xs) (omega arith))
+at_most_by r xs h (no p) (no q) = omega (arith, length-append r xs, wants_still r xs (omega arith))
 
 -- ---- bytes put behind those that are there
 
@@ -79,7 +79,7 @@ module _
       run-begun h =
           let same : length after-it ≡ length room = ap length e ∙ length-splice begun run room inside in
           let r = take begun room ++ run in
-          let most = at-most-by (take begun room) run (omega (arith, there)) (dec_lt (length (take begun room)) 2) (dec_lt (length r) 2) in
+          let most = at_most_by (take begun room) run (omega (arith, there)) (dec_lt (length (take begun room)) 2) (dec_lt (length r) 2) in
           record {
             roomy = omega (arith, same, h);
             inside = omega (arith, same, inside);
@@ -88,7 +88,7 @@ module _
 
     -- they make it whole: it is one step
     pub run-whole : want ≡ begun + length run → (answer : ℕ) (n' : Night) (over : Bool) (text : List ℕ)
-        → stepped answer n' ≡ step_of at n (take (begun + length run) after-it) → text ≡ front ++ textsOf (line_of at answer) → over ≡ ends answer
+        → stepped answer n' ≡ step_of at n (take (begun + length run) after-it) → text ≡ front ++ texts_of (line_of at answer) → over ≡ ends answer
         → gives text (stream (at + 1) n' [] over) ≡ after front (fed (stream at n (take begun room) false) run)
     unfolding took
     run-whole q answer n' over text step t o =
@@ -97,15 +97,15 @@ module _
         let whole : is_whole r ≡ true = eq-eqb (length r) (wanted r) (sized ∙ sym q ∙ whole_is) in
         let there = step ∙ ap (step_of at n) all in
         ap₂ (λ (u : List ℕ) (b : Bool). gives u (stream (at + 1) n' [] b)) t o
-        ∙ ap (λ (x : Stepped). gives (front ++ textsOf (line_of at x.answer)) (stream (at + 1) x.night [] (ends x.answer))) there
+        ∙ ap (λ (x : Stepped). gives (front ++ texts_of (line_of at x.answer)) (stream (at + 1) x.night [] (ends x.answer))) there
         ∙ ap (λ (b : Bool). after front (cond b (took s r) (gives [] (stream at n r false)))) (sym whole)
         ∙ ap (after front) (sym grew)
 
-pub none-begun : (room : List ℕ) → 65537 ≤ length room → Begun 0 room
-none-begun room h = record { roomy = h; inside = omega arith; partly = omega arith }
+pub none_begun : (room : List ℕ) → 65537 ≤ length room → Begun 0 room
+none_begun room h = record { roomy = h; inside = omega arith; partly = omega arith }
 
-pub begun-at-0 : (k : ℕ) (room : List ℕ) → k ≡ 0 → 65537 ≤ length room → Begun k room
-begun-at-0 k room z h = subst (λ (j : ℕ). Begun j room) (sym z) (none-begun room h)
+pub begun_at_0 : (k : ℕ) (room : List ℕ) → k ≡ 0 → 65537 ≤ length room → Begun k room
+begun_at_0 k room z h = subst (λ (j : ℕ). Begun j room) (sym z) (none_begun room h)
 
 -- ---- a piece, run by run
 
@@ -127,7 +127,7 @@ module _ (piece : List ℕ) (i next : ℕ) where
         let rest = drop next piece in
         let f = fed s run in
         e ∙ ap (λ (b : Bool). after front (fed (stream at n r b) (drop i piece))) o ∙ ap (λ (l : List ℕ). after front (fed s l)) (cut h)
-        ∙ ap (after front) (fed-append s run rest) ∙ after-after front f.text (fed f.left rest)
+        ∙ ap (after front) (fed_append s run rest) ∙ after-after front f.text (fed f.left rest)
         ∙ ap (λ (g : Fed). after g.text (fed g.left rest)) (sym q)
 
 module _ (piece : List ℕ) (i : ℕ) (all : Fed) (front : List ℕ) (at : ℕ) (n : Night) (r : List ℕ) (over : Bool)
@@ -154,19 +154,19 @@ module _ (at : ℕ) (n : Night) (over : Bool) where
   close-over r o = rw o refl
 
   module _ (room : List ℕ) (begun : ℕ) (inside : begun ≤ length room) (o : over ≡ false) where
-    pub close-none : (text : List ℕ) → begun ≡ 0 → text ≡ textsOf (atEnd at) → closing text n ≡ closed (stream at n (take begun room) over)
+    pub close-none : (text : List ℕ) → begun ≡ 0 → text ≡ texts_of (at_end at) → closing text n ≡ closed (stream at n (take begun room) over)
     unfolding closed
     close-none text z t =
         let none : eqb (length (take begun room)) 0 ≡ true = eq-eqb (length (take begun room)) 0 (length-take-le begun room inside ∙ z) in
         rw (o, none) (ap (λ (l : List ℕ). closing l n) t)
 
     pub close-some : (text : List ℕ) (answer : ℕ) (n' : Night) → (begun ≡ 0 → ⊥) → stepped answer n' ≡ step_of at n (take begun room)
-        → text ≡ textsOf (line_of at answer) → closing text n' ≡ closed (stream at n (take begun room) over)
+        → text ≡ texts_of (line_of at answer) → closing text n' ≡ closed (stream at n (take begun room) over)
     unfolding closed took
     close-some text answer n' z step t =
         let l = length-take-le begun room inside in
         let there : eqb (length (take begun room)) 0 ≡ false = ne_eqb (length (take begun room)) 0 (λ q. z (sym l ∙ q)) in
-        rw (o, there) (ap (λ (l : List ℕ). closing l n') t ∙ ap (λ (x : Stepped). closing (textsOf (line_of at x.answer)) x.night) step)
+        rw (o, there) (ap (λ (l : List ℕ). closing l n') t ∙ ap (λ (x : Stepped). closing (texts_of (line_of at x.answer)) x.night) step)
 
 -- ---- the numbers of a turn
 
@@ -178,8 +178,8 @@ module _ (room begun run : ℕ) (all : 65537 ≤ room) (some : begun + run ≤ 6
   pub in-new-room : (new : ℕ) → new ≡ room → begun + run ≤ new
   in-new-room new e = omega arith
 
-pub still-roomy : (room new : ℕ) → 65537 ≤ room → new ≡ room → 65537 ≤ new
-still-roomy room new h e = omega arith
+pub still_roomy : (room new : ℕ) → 65537 ≤ room → new ≡ room → 65537 ≤ new
+still_roomy room new h e = omega arith
 
 -- a run of k bytes from place i of a piece: there is one at least, and all are wanted
 pub record Run (i k long begun want : ℕ) : Type 0 where
@@ -188,9 +188,9 @@ pub record Run (i k long begun want : ℕ) : Type 0 where
   pub rest : i + k ≤ long
   pub few : begun + k ≤ want
 
-pub run-of : (i k long begun want want' : ℕ) → i < long → k ≤ want - begun → k ≤ long - i → want ≡ want' → begun < want'
+pub run_of_lem : (i k long begun want want' : ℕ) → i < long → k ≤ want - begun → k ≤ long - i → want ≡ want' → begun < want'
     → (0 < want - begun → 0 < long - i → 0 < k) → Run i k long begun want
-run-of i k long begun want want' p few rest w partly asked =
+run_of_lem i k long begun want want' p few rest w partly asked =
     record { inside = p; some = asked (omega arith) (omega arith); rest = omega arith; few = omega arith }
 
 module _ {i k long begun want : ℕ} (r : Run i k long begun want) where
@@ -222,24 +222,24 @@ up_to n k = omega arith
 pub le_refl : (n : ℕ) → n ≤ n
 le_refl n = omega arith
 
-pub at-piece-end : (i long end text text₀ : ℕ) → i ≤ long → end ≤ 42 * i → 42 * long ≤ text₀ → text ≡ text₀ → end ≤ text
-at-piece-end i long end text text₀ p q h e = omega arith
+pub at_piece_end : (i long end text text₀ : ℕ) → i ≤ long → end ≤ 42 * i → 42 * long ≤ text₀ → text ≡ text₀ → end ≤ text
+at_piece_end i long end text text₀ p q h e = omega arith
 
-pub up-to-end : (at at₀ i long : ℕ) → i ≤ long → at ≤ at₀ + i → at ≤ at₀ + long
-up-to-end at at₀ i long p q = omega arith
+pub up_to_end : (at at₀ i long : ℕ) → i ≤ long → at ≤ at₀ + i → at ≤ at₀ + long
+up_to_end at at₀ i long p q = omega arith
 
 -- the slices of the program
 pub zeros : (n : ℕ) → n ≡ length (replicate {A = ℕ} n 0)
 zeros n = sym (length-replicate {A = ℕ} n 0)
 
-pub start-at : (at : ℕ) → at ≡ 0 → at ≤ 4096 * 0
-start-at at e = omega arith
+pub start_at : (at : ℕ) → at ≡ 0 → at ≤ 4096 * 0
+start_at at e = omega arith
 
-pub roomy-by : (room : ℕ) → 65537 ≡ room → 65537 ≤ room
-roomy-by room e = omega arith
+pub roomy_by : (room : ℕ) → 65537 ≡ room → 65537 ≤ room
+roomy_by room e = omega arith
 
-pub line-by : (text : ℕ) → 172032 ≡ text → 42 ≤ text
-line-by text e = omega arith
+pub line_by : (text : ℕ) → 172032 ≡ text → 42 ≤ text
+line_by text e = omega arith
 
 -- n bytes of a piece that were read
 module _ (n got piece piece₀ : ℕ) (few : n ≤ piece) (all : n ≡ got) (same : piece ≡ piece₀) (size : 4096 ≡ piece₀) where
@@ -253,5 +253,5 @@ module _ (n got piece piece₀ : ℕ) (few : n ≤ piece) (all : n ≡ got) (sam
     pub read-numbers : (at' : ℕ) → at' ≤ at + got → at' ≤ 4096 * (reads + 1)
     read-numbers at' h = omega arith
 
-pub reads-closer : (reads : ℕ) → reads < 4503599627370495 → 4503599627370495 - (reads + 1) < 4503599627370495 - reads
-reads-closer reads h = omega arith
+pub reads_closer : (reads : ℕ) → reads < 4503599627370495 → 4503599627370495 - (reads + 1) < 4503599627370495 - reads
+reads_closer reads h = omega arith

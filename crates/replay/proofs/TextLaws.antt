@@ -9,29 +9,29 @@ use Rattle.octet.specs.Part.{splice}
 use Rattle.octet.proofs.PartLaws.{splice-snoc, splice-splice, take-splice}
 use Rattle.digits.specs.Digits.{decimal}
 use Rattle.digits.proofs.DigitLaws.{length-decimal}
-use Rattle.night.specs.Replay.{Line, line, line_of, atEnd}
-use Rattle.replay.specs.Text.{text_of, textsOf}
+use Rattle.night.specs.Replay.{Line, line, line_of, at_end}
+use Rattle.replay.specs.Text.{text_of, texts_of}
 
-pub one-text : (l : Line) → text_of l ≡ textsOf (l ∷ [])
-unfolding textsOf
-one-text l = sym (append-nil (text_of l))
+pub one_text : (l : Line) → text_of l ≡ texts_of (l ∷ [])
+unfolding texts_of
+one_text l = sym (append-nil (text_of l))
 
 module _ (at answer : ℕ) (front : List ℕ) where
-  pub no_line : at ≡ 0 → answer ≡ 0 → front ≡ front ++ textsOf (line_of at answer)
-  unfolding textsOf
+  pub no_line : at ≡ 0 → answer ≡ 0 → front ≡ front ++ texts_of (line_of at answer)
+  unfolding texts_of
   no_line a b = rw (eq-eqb _ _ a, eq-eqb _ _ b) (sym (append-nil front))
 
-  pub bad-first : at ≡ 0 → (answer ≡ 0 → ⊥) → front ++ text_of (line at answer) ≡ front ++ textsOf (line_of at answer)
-  bad-first a b = rw (eq-eqb _ _ a, ne_eqb _ _ b) (ap (λ (t : List ℕ). front ++ t) (one-text (line at answer)))
+  pub bad-first : at ≡ 0 → (answer ≡ 0 → ⊥) → front ++ text_of (line at answer) ≡ front ++ texts_of (line_of at answer)
+  bad-first a b = rw (eq-eqb _ _ a, ne_eqb _ _ b) (ap (λ (t : List ℕ). front ++ t) (one_text (line at answer)))
 
-  pub later-line : (at ≡ 0 → ⊥) → front ++ text_of (line at answer) ≡ front ++ textsOf (line_of at answer)
-  later-line a = rw (ne_eqb _ _ a) (ap (λ (t : List ℕ). front ++ t) (one-text (line at answer)))
+  pub later-line : (at ≡ 0 → ⊥) → front ++ text_of (line at answer) ≡ front ++ texts_of (line_of at answer)
+  later-line a = rw (ne_eqb _ _ a) (ap (λ (t : List ℕ). front ++ t) (one_text (line at answer)))
 
-pub empty-trace : (at : ℕ) → at ≡ 0 → text_of (line 0 17) ≡ textsOf (atEnd at)
-empty-trace at a = rw (eq-eqb _ _ a) (one-text (line 0 17))
+pub empty_trace : (at : ℕ) → at ≡ 0 → text_of (line 0 17) ≡ texts_of (at_end at)
+empty_trace at a = rw (eq-eqb _ _ a) (one_text (line 0 17))
 
-pub ended : (at : ℕ) → (at ≡ 0 → ⊥) → [] ≡ textsOf (atEnd at)
-unfolding textsOf
+pub ended : (at : ℕ) → (at ≡ 0 → ⊥) → [] ≡ texts_of (at_end at)
+unfolding texts_of
 ended at a = rw (ne_eqb _ _ a) refl
 
 -- a line put together in the code's order: the number, a space, the answer, the line's end

@@ -1,7 +1,7 @@
 -- What is proved of a trace that arrives in pieces; the document's examples as text. Assumes nothing.
 use mathlib.Core.Path.{refl}
-use Rattle.digits.specs.Digits.{decimalUpTo}
-use Rattle.replay.specs.Text.{text_of, textsOf}
+use Rattle.digits.specs.Digits.{decimal_up_to}
+use Rattle.replay.specs.Text.{text_of, texts_of}
 use Rattle.replay.specs.Statements.{Streams, Example}
 use Rattle.replay.proofs.StreamLaws as pieces
 
@@ -9,5 +9,5 @@ pub streams : Streams
 streams = pieces.streams
 
 pub example : Example
-unfolding decimalUpTo text_of textsOf
+unfolding decimal_up_to text_of texts_of
 example = (refl, refl)

@@ -4,8 +4,8 @@ use Rattle.std.specs.Prelude.{ℕ, ◌+◌, Bool, false, cond, List, [], ◌∷�
 use Rattle.trace.specs.Trace.{length_of}
 use Rattle.trace.specs.Fault.{ends}
 use Rattle.night.specs.Step.{Night, start, step_of}
-use Rattle.night.specs.Replay.{line_of, atEnd}
-use Rattle.replay.specs.Text.{textsOf}
+use Rattle.night.specs.Replay.{line_of, at_end}
+use Rattle.replay.specs.Text.{texts_of}
 
 -- ---- the stream so far
 
@@ -47,7 +47,7 @@ is_whole r = eqb (length r) (wanted r)
 unfoldable pub took : Stream → List ℕ → Fed
 took s r =
     let t = step_of s.at s.night r in
-    gives (textsOf (line_of s.at t.answer)) (stream (s.at + 1) t.night [] (ends t.answer))
+    gives (texts_of (line_of s.at t.answer)) (stream (s.at + 1) t.night [] (ends t.answer))
 
 -- one byte more of the record
 abbrev pub grown : Stream → List ℕ → Fed
@@ -61,9 +61,9 @@ fed s (b ∷ bs) =
     cond s.over (gives [] s) (after f.text (fed f.left bs))
 
 -- pieces, one after the other
-unfoldable pub fedAll : Stream → List (List ℕ) → Fed
-fedAll s [] = gives [] s
-fedAll s (c ∷ cs) = after (fed s c).text (fedAll (fed s c).left cs)
+unfoldable pub fed_all : Stream → List (List ℕ) → Fed
+fed_all s [] = gives [] s
+fed_all s (c ∷ cs) = after (fed s c).text (fed_all (fed s c).left cs)
 
 -- ---- the end of the input
 
@@ -79,4 +79,4 @@ unfoldable pub closed : Stream → Closed
 closed s =
     let t = took s s.begun in
     cond s.over (closing [] s.night)
-    (cond (eqb (length s.begun) 0) (closing (textsOf (atEnd s.at)) s.night) (closing t.text t.left.night))
+    (cond (eqb (length s.begun) 0) (closing (texts_of (at_end s.at)) s.night) (closing t.text t.left.night))

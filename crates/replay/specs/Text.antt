@@ -7,6 +7,6 @@ use Rattle.night.specs.Replay.{Line}
 unfoldable pub text_of : Line → List ℕ
 text_of l = decimal l.place ++ (32 ∷ []) ++ decimal l.answer ++ (10 ∷ [])
 
-unfoldable pub textsOf : List Line → List ℕ
-textsOf [] = []
-textsOf (l ∷ ls) = text_of l ++ textsOf ls
+unfoldable pub texts_of : List Line → List ℕ
+texts_of [] = []
+texts_of (l ∷ ls) = text_of l ++ texts_of ls

@@ -1,7 +1,7 @@
 // The lines that the replay writes.
 ghost use Rattle.std.specs.Prelude.{◌≡◌, ◌++◌, ◌+◌, ◌≤◌, length, take};
-ghost use Rattle.night.specs.Replay.{line, line_of, atEnd};
-ghost use Rattle.replay.specs.Text.{text_of, textsOf};
+ghost use Rattle.night.specs.Replay.{line, line_of, at_end};
+ghost use Rattle.replay.specs.Text.{text_of, texts_of};
 
 // The longest line has 42 bytes: two numbers of 20 digits at most, a space, the line's end.
 
@@ -22,7 +22,7 @@ fn put_line(out: &mut [u8], from: usize, at: u64, answer: u32) -> usize
 pub(crate) fn put(out: &mut [u8], from: usize, at: u64, answer: u32) -> usize
     requires { from + 42 ≤ length out.old }
     ensures upper_bound { result ≤ from + 42 }
-    ensures out_after { take result out.new ≡ take from out.old ++ textsOf (line_of at answer) }
+    ensures out_after { take result out.new ≡ take from out.old ++ texts_of (line_of at answer) }
 {
     if at == 0 {
         if answer == 0 {
@@ -37,7 +37,7 @@ pub(crate) fn put(out: &mut [u8], from: usize, at: u64, answer: u32) -> usize
 pub(crate) fn put_end(out: &mut [u8], at: u64) -> usize
     requires { 42 ≤ length out.old }
     ensures upper_bound { result ≤ 42 }
-    ensures out_after { take result out.new ≡ textsOf (atEnd at) }
+    ensures out_after { take result out.new ≡ texts_of (at_end at) }
 {
     if at == 0 {
         return put_line(out, 0, 0, 17);

@@ -1,6 +1,6 @@
 // A trace that arrives in pieces, cut anywhere.
 ghost use Rattle.std.specs.Prelude.{◌≡◌, false, ◌+◌, ◌*◌, ◌^◌, ◌≤◌, ◌<◌, length, take};
-ghost use Rattle.night.specs.Step.{nightIn};
+ghost use Rattle.night.specs.Step.{night_in};
 ghost use Rattle.replay.specs.Stream.{stream, gives, after, wanted, fed, closing, closed};
 ghost use Rattle.replay.specs.Room.{Begun};
 
@@ -76,10 +76,10 @@ fn take_run(
     requires end_in_bounds { end + 42 ≤ length text.old }
     requires at_bound { at + 1 < 2 ^ 64 }
     ensures over_after { gives (take result.end text.new) (stream result.at
-        (nightIn state.new)
+        (night_in state.new)
         (take result.begun room.new) result.over)
         ≡ after (take end text.old) (fed (stream at
-        (nightIn state.old)
+        (night_in state.old)
         (take begun room.old) false) run.now) }
     ensures at_bound_2 { result.at ≤ at + 1 }
     ensures end_bound { result.end ≤ end + 42 }
@@ -118,10 +118,10 @@ pub(crate) fn feed(
     requires piece_in_bounds { 42 * length piece.now ≤ length text.old }
     requires piece_bound { from.at + length piece.now < 2 ^ 64 }
     ensures over_after { gives (take result.end text.new) (stream result.at
-        (nightIn state.new)
+        (night_in state.new)
         (take result.begun room.new) result.over)
         ≡ fed (stream from.at
-        (nightIn state.old)
+        (night_in state.old)
         (take from.begun room.old) from.over) piece.now }
     ensures at_bound { result.at ≤ from.at + length piece.now }
     ensures end_in_bounds { result.end ≤ length text.new }
@@ -153,9 +153,9 @@ pub(crate) fn close(from: Held, state: &mut [u8], room: &[u8], text: &mut [u8]) 
     requires begun_in_bounds { from.begun ≤ length room.now }
     requires in_bounds { 42 ≤ length text.old }
     ensures state_after { closing (take result text.new)
-        (nightIn state.new)
+        (night_in state.new)
         ≡ closed (stream from.at
-        (nightIn state.old)
+        (night_in state.old)
         (take from.begun room.now) from.over) }
     ensures upper_bound { result ≤ 42 }
 {

@@ -2,7 +2,7 @@
 // What a change of that order changes is here.
 ghost use Rattle.std.specs.Prelude.{◌≡◌, cond, ◌&&◌, ◌+◌, ◌-◌, ◌≤◌, leb, ltb, length};
 ghost use Rattle.key.specs.Number.{number, key_at};
-ghost use Rattle.key.specs.Around.{half, isAbove, apart, tie, closer};
+ghost use Rattle.key.specs.Around.{half, is_above, apart, tie, closer};
 ghost use Rattle.key.specs.Across.{across};
 
 use key::Key;
@@ -11,7 +11,7 @@ use key::Key;
 pub fn is_above(own: &[u8], s: &[u8], at: usize) -> bool
     requires in_bounds { 32 ≤ length own.now }
     requires at_in_bounds { at + 32 ≤ length s.now }
-    ensures { result ≡ isAbove (key_at 0 own.now) (key_at at s.now) }
+    ensures { result ≡ is_above (key_at 0 own.now) (key_at at s.now) }
 {
     let up = key::minus(key::key_at(s, at), key::key_at(own, 0));
     is_up(up)

@@ -2,6 +2,6 @@
 use Rattle.std.specs.Prelude.{ℕ, zero, suc, Bool, cond}
 
 -- of n numbers from i on, the first at which the test fails; the one behind them where it holds at all
-unfoldable pub passOver : (ℕ → Bool) → ℕ → ℕ → ℕ
-passOver f i zero = i
-passOver f i (suc n) = cond (f i) (passOver f (suc i) n) i
+unfoldable pub pass_over : (ℕ → Bool) → ℕ → ℕ → ℕ
+pass_over f i zero = i
+pass_over f i (suc n) = cond (f i) (pass_over f (suc i) n) i

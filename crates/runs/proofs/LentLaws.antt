@@ -8,10 +8,10 @@ use lib.Seq.{take_all, take-add, drop-drop}
 use borrow.Rule.Slice.PartMut.{put_mid}
 use Rattle.octet.specs.Part.{part, splice}
 
-pub put-mid : (at j : ℕ) (b old new : List ℕ) → at + j + length b ≤ length old → new ≡ splice j b (take (length old - at) (drop at old))
+pub put_mid : (at j : ℕ) (b old new : List ℕ) → at + j + length b ≤ length old → new ≡ splice j b (take (length old - at) (drop at old))
     → put_mid at (length old - at) old new ≡ splice (at + j) b old
 unfolding splice
-put-mid at j b old new h e =
+put_mid at j b old new h e =
     let rest : List ℕ = drop at old in
     let all : take (length old - at) rest ≡ rest = take_all (length old - at) rest (omega (arith, length-drop at old)) in
     let none : drop (length old - at) rest ≡ [] = drop_of_length-le rest {i = length old - at} (omega (arith, length-drop at old)) in
@@ -24,7 +24,7 @@ put-mid at j b old new h e =
     ∙ sym (ap₂ (λ (x y : List ℕ). x ++ b ++ y) front behind ∙ simp append_assoc)
 
 -- a part of what is lent
-pub part-lent : (at j n : ℕ) (old : List ℕ) → at + j + n ≤ length old → part j n (take (length old - at) (drop at old)) ≡ part (at + j) n old
-part-lent at j n old h =
+pub part_lent : (at j n : ℕ) (old : List ℕ) → at + j + n ≤ length old → part j n (take (length old - at) (drop at old)) ≡ part (at + j) n old
+part_lent at j n old h =
     let all : take (length old - at) (drop at old) ≡ drop at old = take_all (length old - at) (drop at old) (omega (arith, length-drop at old)) in
     ap (part j n) all ∙ ap (take n) (drop-drop j at old)

@@ -1,7 +1,7 @@
 -- The worked cases hold: antt computes each row. Assumes nothing.
 use mathlib.Core.Path.{refl}
 use Rattle.search.specs.Halving.{halving, binary}
-use Rattle.search.specs.Cases.{keysFrom, FiveHeld, FiveNot, Few, Full, Digits}
+use Rattle.search.specs.Cases.{keys_from, FiveHeld, FiveNot, Few, Full, Digits}
 
 pub five-held : FiveHeld
 unfolding halving
@@ -16,9 +16,9 @@ unfolding halving
 few = (refl, refl)
 
 pub full : Full
-unfolding halving keysFrom
+unfolding halving keys_from
 full = refl
 
-pub digits-right : Digits
+pub digits_right : Digits
 unfolding binary
-digits-right = refl
+digits_right = refl

@@ -14,11 +14,11 @@ use Rattle.search.specs.Halving.{halving, halvings, binary, digits, AtMostDigits
 -- ---- step by step
 
 -- the two halves are shorter than the whole
-front-short : (j : ℕ) (js : List ℕ) → length (take (length (j ∷ js) / 2) (j ∷ js)) ≤ length js
-front-short j js = omega (arith, length-take-le (length (j ∷ js) / 2) (j ∷ js) (omega arith))
+front_short : (j : ℕ) (js : List ℕ) → length (take (length (j ∷ js) / 2) (j ∷ js)) ≤ length js
+front_short j js = omega (arith, length-take-le (length (j ∷ js) / 2) (j ∷ js) (omega arith))
 
-back-short : (j : ℕ) (js : List ℕ) → length (drop (length (j ∷ js) / 2 + 1) (j ∷ js)) ≤ length js
-back-short j js = omega (arith, length-drop (length (j ∷ js) / 2 + 1) (j ∷ js))
+back_short : (j : ℕ) (js : List ℕ) → length (drop (length (j ∷ js) / 2 + 1) (j ∷ js)) ≤ length js
+back_short j js = omega (arith, length-drop (length (j ∷ js) / 2 + 1) (j ∷ js))
 
 -- any number of steps that is not less than the keys does
 enough : (a b : ℕ) (keys : List ℕ) (k : ℕ) → length keys ≤ a → length keys ≤ b → halving a keys k ≡ halving b keys k
@@ -31,8 +31,8 @@ enough (suc a) zero (j ∷ js) k h l = absurd (omega arith)
 enough (suc a) (suc b) [] k h l = refl
 enough (suc a) (suc b) (j ∷ js) k h l =
     let m = length (j ∷ js) / 2 in
-    let f = front-short j js in
-    let g = back-short j js in
+    let f = front_short j js in
+    let g = back_short j js in
     ap₂ (λ (x y : ℕ). suc (cond (eqb k (get_or (j ∷ js) m 0)) 0 (cond (ltb k (get_or (j ∷ js) m 0)) x y)))
     (enough a b (take m (j ∷ js)) k (omega (arith, f)) (omega (arith, f)))
     (enough a b (drop (m + 1) (j ∷ js)) k (omega (arith, g)) (omega (arith, g)))
@@ -51,8 +51,8 @@ unfolding halving
 halvings-some [] k h = absurd (omega arith)
 halvings-some (j ∷ js) k h =
     let m = length (j ∷ js) / 2 in
-    let f = front-short j js in
-    let g = back-short j js in
+    let f = front_short j js in
+    let g = back_short j js in
     ap₂ (λ (x y : ℕ). suc (cond (eqb k (get_or (j ∷ js) m 0)) 0 (cond (ltb k (get_or (j ∷ js) m 0)) x y)))
     (enough (length js) (length (take m (j ∷ js))) (take m (j ∷ js)) k f (omega arith))
     (enough (length js) (length (drop (m + 1) (j ∷ js))) (drop (m + 1) (j ∷ js)) k g (omega arith))
@@ -118,38 +118,38 @@ halving-le (suc most) (j ∷ js) k =
     (omega (arith, halving-le most (take m (j ∷ js)) k, ap (binary most) front))
     (omega (arith, halving-le most (drop (m + 1) (j ∷ js)) k, binary-le most (length (drop (m + 1) (j ∷ js))) m back))
 
-pub at-most-digits : AtMostDigits
-at-most-digits keys k = halving-le (length keys) keys k
+pub at_most_digits : AtMostDigits
+at_most_digits keys k = halving-le (length keys) keys k
 
 -- a search for a key below all of them takes as many
-halving-met : (most : ℕ) (keys : List ℕ) (k : ℕ) → ((i : ℕ) → i < length keys → k < get_or keys i 0) → halving most keys k ≡ binary most (length keys)
+halving_met : (most : ℕ) (keys : List ℕ) (k : ℕ) → ((i : ℕ) → i < length keys → k < get_or keys i 0) → halving most keys k ≡ binary most (length keys)
 unfolding halving binary
-halving-met zero keys k h = refl
-halving-met (suc most) [] k h = refl
-halving-met (suc most) (j ∷ js) k h =
+halving_met zero keys k h = refl
+halving_met (suc most) [] k h = refl
+halving_met (suc most) (j ∷ js) k h =
     let m = length (j ∷ js) / 2 in
     let n : length (take m (j ∷ js)) ≡ m = length-take-le m (j ∷ js) (omega arith) in
     let l : k < get_or (j ∷ js) m 0 = h m (omega arith) in
     rw (ne_eqb k (get_or (j ∷ js) m 0) (λ e. omega (arith, e, l)), lt-ltb k (get_or (j ∷ js) m 0) l)
-    (ap suc (halving-met most (take m (j ∷ js)) k (λ i u. omega (arith, get_or-take m (j ∷ js) i 0 (omega arith), h i (omega arith)))
+    (ap suc (halving_met most (take m (j ∷ js)) k (λ i u. omega (arith, get_or-take m (j ∷ js) i 0 (omega arith), h i (omega arith)))
     ∙ ap (binary most) n))
 
-pub digits-met : DigitsMet
-digits-met keys k h = halving-met (length keys) keys k h
+pub digits_met : DigitsMet
+digits_met keys k h = halving_met (length keys) keys k h
 
-pub digits_le : (a b : ℕ) → a ≤ b → digits a ≤ digits b
-digits_le a b h = omega (arith, as_many a b a (omega arith) h, binary-le b a b h)
+pub digits_le_lem : (a b : ℕ) → a ≤ b → digits a ≤ digits b
+digits_le_lem a b h = omega (arith, as_many a b a (omega arith) h, binary-le b a b h)
 
-pub digits-256 : digits 256 ≡ 9
+pub digits_256 : digits 256 ≡ 9
 unfolding binary
-digits-256 = refl
+digits_256 = refl
 
 -- so never more than keys
-binary-few : (most n : ℕ) → binary most n ≤ most
+binary_few : (most n : ℕ) → binary most n ≤ most
 unfolding binary
-binary-few zero n = omega arith
-binary-few (suc most) zero = omega arith
-binary-few (suc most) (suc n) = omega (arith, binary-few most (suc n / 2))
+binary_few zero n = omega arith
+binary_few (suc most) zero = omega arith
+binary_few (suc most) (suc n) = omega (arith, binary_few most (suc n / 2))
 
-pub halvings-few : (keys : List ℕ) (k : ℕ) → halvings keys k ≤ length keys
-halvings-few keys k = omega (arith, at-most-digits keys k, binary-few (length keys) (length keys))
+pub halvings_few : (keys : List ℕ) (k : ℕ) → halvings keys k ≤ length keys
+halvings_few keys k = omega (arith, at_most_digits keys k, binary_few (length keys) (length keys))

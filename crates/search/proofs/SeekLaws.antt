@@ -10,19 +10,19 @@ use lib.Dec.{eqb}
 use lib.ListN.{length, take, drop, get_or, length-map}
 use lib.Seq.{drop-drop, drop_at, take-take, take-length}
 use borrow.Author.Tests.{lt-ltb, le-ltb, eq-eqb, ne_eqb}
-use Rattle.octet.specs.Number.{Digits, valueBE}
+use Rattle.octet.specs.Number.{Digits, value_be}
 use Rattle.octet.specs.Part.{part}
-use Rattle.octet.proofs.PartLaws.{part-add, length_part, part_at}
+use Rattle.octet.proofs.PartLaws.{part_add, length_part, part_at}
 use Rattle.key.specs.declared.Order.TheVariants.{Less, More}
 use Rattle.key.specs.Number.{key_at, order_of}
-use Rattle.key.proofs.PlaceLaws.{order-part, then_less, then-more}
+use Rattle.key.proofs.PlaceLaws.{order-part, then_less, then_more}
 use Rattle.record.specs.Record.{key_of}
 use Rattle.table.specs.Rows.{rows}
 use Rattle.table.proofs.RowLaws.{rows-length}
 use Rattle.kept.specs.Keys.{Rising, plain, has, among}
-use Rattle.kept.specs.Turned.{countUnder}
+use Rattle.kept.specs.Turned.{count_under}
 use Rattle.search.specs.Halving.{halvings}
-use Rattle.search.specs.Sought.{soughtIn}
+use Rattle.search.specs.Sought.{sought_in}
 use Rattle.search.specs.declared.Sought.{Sought}
 use Rattle.search.proofs.HalvingLaws.{halvings-none, halvings-same, halvings-front, halvings-back}
 
@@ -30,36 +30,36 @@ use Rattle.search.proofs.HalvingLaws.{halvings-none, halvings-same, halvings-fro
 
 -- a key whose first word is less is less, one whose first word is more is more
 module _ (i j : ℕ) (s t : List ℕ) (d : Digits 256 s) (e : Digits 256 t) (h : i + 32 ≤ length s) (k : j + 32 ≤ length t) where
-  pub first-less : valueBE 256 (part i 8 s) < valueBE 256 (part j 8 t) → order_of (key_at i s) (key_at j t) ≡ Less
+  pub first-less : value_be 256 (part i 8 s) < value_be 256 (part j 8 t) → order_of (key_at i s) (key_at j t) ≡ Less
   first-less l =
       order-part 256 8 24 i j s t (omega arith) d e (omega arith) (omega arith)
-      ∙ then_less (valueBE 256 (part i 8 s)) (valueBE 256 (part j 8 t))
-      (order_of (valueBE 256 (part (i + 8) 24 s)) (valueBE 256 (part (j + 8) 24 t))) l
+      ∙ then_less (value_be 256 (part i 8 s)) (value_be 256 (part j 8 t))
+      (order_of (value_be 256 (part (i + 8) 24 s)) (value_be 256 (part (j + 8) 24 t))) l
 
-  pub first_more : valueBE 256 (part j 8 t) < valueBE 256 (part i 8 s) → order_of (key_at i s) (key_at j t) ≡ More
+  pub first_more : value_be 256 (part j 8 t) < value_be 256 (part i 8 s) → order_of (key_at i s) (key_at j t) ≡ More
   first_more l =
       order-part 256 8 24 i j s t (omega arith) d e (omega arith) (omega arith)
-      ∙ then-more (valueBE 256 (part i 8 s)) (valueBE 256 (part j 8 t))
-      (order_of (valueBE 256 (part (i + 8) 24 s)) (valueBE 256 (part (j + 8) 24 t))) l
+      ∙ then_more (value_be 256 (part i 8 s)) (value_be 256 (part j 8 t))
+      (order_of (value_be 256 (part (i + 8) 24 s)) (value_be 256 (part (j + 8) 24 t))) l
 
 -- ---- rising keys by their places
 
-rising-least : (low : ℕ) (ks : List ℕ) (j : ℕ) → Rising plain low ks → j < length ks → low ≤ get_or ks j 0
-rising-least low [] j r h = absurd (omega arith)
-rising-least low (k ∷ ks) zero r h = r.0
-rising-least low (k ∷ ks) (suc j) r h = omega (arith, r.0, rising-least (suc k) ks j r.1 (omega arith))
+rising_least : (low : ℕ) (ks : List ℕ) (j : ℕ) → Rising plain low ks → j < length ks → low ≤ get_or ks j 0
+rising_least low [] j r h = absurd (omega arith)
+rising_least low (k ∷ ks) zero r h = r.0
+rising_least low (k ∷ ks) (suc j) r h = omega (arith, r.0, rising_least (suc k) ks j r.1 (omega arith))
 
-rising-getD : (low : ℕ) (ks : List ℕ) (i j : ℕ) → Rising plain low ks → i < j → j < length ks → get_or ks i 0 < get_or ks j 0
-rising-getD low [] i j r h l = absurd (omega arith)
-rising-getD low (k ∷ ks) zero zero r h l = absurd (omega arith)
-rising-getD low (k ∷ ks) zero (suc j) r h l = rising-least (suc k) ks j r.1 (omega arith)
-rising-getD low (k ∷ ks) (suc i) zero r h l = absurd (omega arith)
-rising-getD low (k ∷ ks) (suc i) (suc j) r h l = rising-getD (suc k) ks i j r.1 (omega arith) (omega arith)
+rising_get_d : (low : ℕ) (ks : List ℕ) (i j : ℕ) → Rising plain low ks → i < j → j < length ks → get_or ks i 0 < get_or ks j 0
+rising_get_d low [] i j r h l = absurd (omega arith)
+rising_get_d low (k ∷ ks) zero zero r h l = absurd (omega arith)
+rising_get_d low (k ∷ ks) zero (suc j) r h l = rising_least (suc k) ks j r.1 (omega arith)
+rising_get_d low (k ∷ ks) (suc i) zero r h l = absurd (omega arith)
+rising_get_d low (k ∷ ks) (suc i) (suc j) r h l = rising_get_d (suc k) ks i j r.1 (omega arith) (omega arith)
 
 -- so many keys are smaller, where those before a place are and those from it on are not
 under_at : (k : ℕ) (ks : List ℕ) (i : ℕ) → i ≤ length ks → ((j : ℕ) → j < i → get_or ks j 0 < k)
     → ((j : ℕ) → i ≤ j → j < length ks → k ≤ get_or ks j 0)
-    → countUnder k ks ≡ i
+    → count_under k ks ≡ i
 unfolding among
 under_at k [] i h b a = omega arith
 under_at k (m ∷ ms) zero h b a =
@@ -70,11 +70,11 @@ under_at k (m ∷ ms) (suc i) h b a =
     (ap suc (under_at k ms i (omega arith) (λ j l. b (suc j) (omega arith)) (λ j l n. a (suc j) (omega arith) (omega arith))))
 
 -- a key that stands at a place is one of them, and one that stands at none is not
-has-at : (k : ℕ) (ks : List ℕ) (i : ℕ) → i < length ks → get_or ks i 0 ≡ k → has k ks ≡ true
+has_at : (k : ℕ) (ks : List ℕ) (i : ℕ) → i < length ks → get_or ks i 0 ≡ k → has k ks ≡ true
 unfolding has
-has-at k [] i h e = absurd (omega arith)
-has-at k (m ∷ ms) zero h e = rw (eq-eqb k m (sym e)) refl
-has-at k (m ∷ ms) (suc i) h e = rw (has-at k ms i (omega arith) e) (either (eqb k m))
+has_at k [] i h e = absurd (omega arith)
+has_at k (m ∷ ms) zero h e = rw (eq-eqb k m (sym e)) refl
+has_at k (m ∷ ms) (suc i) h e = rw (has_at k ms i (omega arith) e) (either (eqb k m))
   where
     either : (b : Bool) → b || true ≡ true
     either true = refl
@@ -89,13 +89,13 @@ has-none k (m ∷ ms) n = rw (ne_eqb k m (λ e. n 0 (omega arith) (sym e))) (has
 pub key-among : (used : ℕ) (s : List ℕ) (i : ℕ) → i < used → get_or (map key_of (rows 100 used s)) i 0 ≡ key_at (100 * i) s
 unfolding rows
 key-among zero s i h = absurd (omega arith)
-key-among (suc n) s zero h = ap (valueBE 256) (take-take 32 100 s (omega arith))
+key-among (suc n) s zero h = ap (value_be 256) (take-take 32 100 s (omega arith))
 key-among (suc n) s (suc i) h =
     let e : 100 + 100 * i ≡ 100 * suc i = omega arith in
-    key-among n (drop 100 s) i (omega arith) ∙ ap (λ (l : List ℕ). valueBE 256 (take 32 l)) (drop-drop (100 * i) 100 s ∙ ap (λ (k : ℕ). drop k s) e)
+    key-among n (drop 100 s) i (omega arith) ∙ ap (λ (l : List ℕ). value_be 256 (take 32 l)) (drop-drop (100 * i) 100 s ∙ ap (λ (k : ℕ). drop k s) e)
 
-pub keys-many : (used : ℕ) (s : List ℕ) → length (map key_of (rows 100 used s)) ≡ used
-keys-many used s = length-map (rows 100 used s) key_of ∙ rows-length 100 used s
+pub keys_many : (used : ℕ) (s : List ℕ) → length (map key_of (rows 100 used s)) ≡ used
+keys_many used s = length-map (rows 100 used s) key_of ∙ rows-length 100 used s
 
 -- ---- the loop
 
@@ -111,8 +111,8 @@ pub record Halved (k : ℕ) (ks : List ℕ) (low high compared : ℕ) : Type 0 w
   pub above : (j : ℕ) → high ≤ j → j < length ks → k < get_or ks j 0
   pub counted : compared + halvings (between ks low high) k ≡ halvings ks k
 
-told : (k : ℕ) (ks : List ℕ) {b : Bool} {i n : ℕ} → has k ks ≡ b → countUnder k ks ≡ i → halvings ks k ≡ n
-    → soughtIn k ks ≡ record { held = b; at = i; compared = n }
+told : (k : ℕ) (ks : List ℕ) {b : Bool} {i n : ℕ} → has k ks ≡ b → count_under k ks ≡ i → halvings ks k ≡ n
+    → sought_in k ks ≡ record { held = b; at = i; compared = n }
 told k ks e f g = rw (e, f, g) refl
 
 module _ (k : ℕ) (ks : List ℕ) (rising : Rising plain 0 ks) where
@@ -153,7 +153,7 @@ module _ (k : ℕ) (ks : List ℕ) (rising : Rising plain 0 ks) where
         let f : low + (half + 1) ≡ middle + 1 = omega arith in
         ap (λ (n : ℕ). drop (n / 2 + 1) (between ks low high)) long
         ∙ ap (λ (n : ℕ). drop (half + 1) (part low n ks)) e
-        ∙ ap (drop (half + 1)) (part-add low (half + 1) (high - (middle + 1)) ks)
+        ∙ ap (drop (half + 1)) (part_add low (half + 1) (high - (middle + 1)) ks)
         ∙ drop_at (part low (half + 1) ks) (part (low + (half + 1)) (high - (middle + 1)) ks) (half + 1)
         (length_part low (half + 1) ks (omega (arith, h.within)))
         ∙ ap (λ (n : ℕ). part n (high - (middle + 1)) ks) f
@@ -172,12 +172,12 @@ module _ (k : ℕ) (ks : List ℕ) (rising : Rising plain 0 ks) where
         turn u = halvings-back (between ks low high) k (omega (arith, long)) (omega (arith, here, u))
 
         go : (j : ℕ) → Dec (j < middle) → j < middle + 1 → get_or ks j 0 < k
-        go j (yes b) c = omega (arith, t, rising-getD 0 ks j middle rising b (omega (arith, h.within)))
+        go j (yes b) c = omega (arith, t, rising_get_d 0 ks j middle rising b (omega (arith, h.within)))
         go j (no b) c = let e : j ≡ middle = omega arith in omega (arith, t, ap (λ (n : ℕ). get_or ks n 0) e)
 
     -- from the middle on none is less, where that one is not
     on : k ≤ get_or ks middle 0 → (j : ℕ) → middle < j → j < length ks → k < get_or ks j 0
-    on t j a b = omega (arith, t, rising-getD 0 ks middle j rising a b)
+    on t j a b = omega (arith, t, rising_get_d 0 ks middle j rising a b)
 
     pub halved-more : k < get_or ks middle 0 → Halved k ks low middle (compared + 1)
     halved-more t = record {
@@ -198,21 +198,21 @@ module _ (k : ℕ) (ks : List ℕ) (rising : Rising plain 0 ks) where
 
     -- ---- what it tells
 
-    pub halved-same : get_or ks middle 0 ≡ k → soughtIn k ks ≡ record { held = true; at = middle; compared = compared + 1 }
+    pub halved-same : get_or ks middle 0 ≡ k → sought_in k ks ≡ record { held = true; at = middle; compared = compared + 1 }
     halved-same t =
-        told k ks (has-at k ks middle (omega (arith, h.within)) t)
+        told k ks (has_at k ks middle (omega (arith, h.within)) t)
         (under_at k ks middle (omega (arith, h.within)) (λ j b. go j b) (λ j a b. from j (dec_lt middle j) a b))
         (omega (arith, h.counted, halvings-same (between ks low high) k (omega (arith, long)) (here ∙ t)))
       where
         go : (j : ℕ) → j < middle → get_or ks j 0 < k
-        go j b = omega (arith, t, rising-getD 0 ks j middle rising b (omega (arith, h.within)))
+        go j b = omega (arith, t, rising_get_d 0 ks j middle rising b (omega (arith, h.within)))
 
         from : (j : ℕ) → Dec (middle < j) → middle ≤ j → j < length ks → k ≤ get_or ks j 0
         from j (yes a) c b = omega (arith, on (omega (arith, t)) j a b)
         from j (no a) c b = let e : j ≡ middle = omega arith in omega (arith, t, ap (λ (n : ℕ). get_or ks n 0) e)
 
   pub halved-end : (low high compared : ℕ) → Halved k ks low high compared → high ≤ low
-      → soughtIn k ks ≡ record { held = false; at = low; compared = compared }
+      → sought_in k ks ≡ record { held = false; at = low; compared = compared }
   halved-end low high compared h e =
       told k ks (has-none k ks (λ j l. other j (dec_lt j low) l))
       (under_at k ks low (omega (arith, h.within, h.lower)) h.below (λ j a b. omega (arith, h.above j (omega arith) b)))

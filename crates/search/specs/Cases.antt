@@ -7,9 +7,9 @@ abbrev pub five : List ℕ
 five = 10 ∷ 20 ∷ 30 ∷ 40 ∷ 50 ∷ []
 
 -- n keys, each one more than the one before
-unfoldable pub keysFrom : ℕ → ℕ → List ℕ
-keysFrom first zero = []
-keysFrom first (suc n) = first ∷ keysFrom (suc first) n
+unfoldable pub keys_from : ℕ → ℕ → List ℕ
+keys_from first zero = []
+keys_from first (suc n) = first ∷ keys_from (suc first) n
 
 -- held: the one in the middle first
 abbrev pub FiveHeld : Type 0
@@ -23,7 +23,7 @@ Few = (halvings [] 7 ≡ 0) × (map (halvings (7 ∷ [])) (6 ∷ 7 ∷ 8 ∷ [])
 
 -- of 256 the one at 128 is compared first; 0, the first, is the ninth, and 255, the last, the eighth
 abbrev pub Full : Type 0
-Full = map (halvings (keysFrom 0 256)) (128 ∷ 64 ∷ 0 ∷ 255 ∷ 256 ∷ []) ≡ 1 ∷ 2 ∷ 9 ∷ 8 ∷ 8 ∷ []
+Full = map (halvings (keys_from 0 256)) (128 ∷ 64 ∷ 0 ∷ 255 ∷ 256 ∷ []) ≡ 1 ∷ 2 ∷ 9 ∷ 8 ∷ 8 ∷ []
 
 abbrev pub Digits : Type 0
 Digits = map digits (0 ∷ 1 ∷ 2 ∷ 3 ∷ 4 ∷ 255 ∷ 256 ∷ []) ≡ 0 ∷ 1 ∷ 2 ∷ 2 ∷ 3 ∷ 8 ∷ 9 ∷ []

@@ -2,9 +2,9 @@
 -- Assumes nothing.
 use Rattle.std.specs.Prelude.{ℕ, List}
 use Rattle.kept.specs.Keys.{has}
-use Rattle.kept.specs.Turned.{countUnder}
+use Rattle.kept.specs.Turned.{count_under}
 use Rattle.search.specs.Halving.{halvings}
 use Rattle.search.specs.declared.Sought.{Sought}
 
-abbrev pub soughtIn : ℕ → List ℕ → Sought
-soughtIn k keys = record { held = has k keys; at = countUnder k keys; compared = halvings keys k }
+abbrev pub sought_in : ℕ → List ℕ → Sought
+sought_in k keys = record { held = has k keys; at = count_under k keys; compared = halvings keys k }

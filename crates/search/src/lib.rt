@@ -1,12 +1,12 @@
 // The search for a key among records whose keys rise, by halving; how many keys it compares is counted.
 ghost use Rattle.std.specs.Prelude.{◌≡◌, map, ◌+◌, ◌*◌, ◌≤◌, length};
-ghost use Rattle.octet.specs.Number.{valueBE};
+ghost use Rattle.octet.specs.Number.{value_be};
 ghost use Rattle.octet.specs.Part.{part};
 ghost use Rattle.key.specs.Number.{key_at, order_of};
 ghost use Rattle.record.specs.Record.{key_of};
 ghost use Rattle.table.specs.Rows.{rows};
 ghost use Rattle.kept.specs.Keys.{Rising, plain};
-ghost use Rattle.search.specs.Sought.{soughtIn};
+ghost use Rattle.search.specs.Sought.{sought_in};
 
 use key::Order;
 
@@ -22,7 +22,7 @@ pub struct Sought {
 fn order_of(cache: &[u8], i: usize, key: &[u8], first: u64) -> Order
     requires i_in_bounds { 100 * i + 32 ≤ length cache.now }
     requires in_bounds { 32 ≤ length key.now }
-    requires first_value { first ≡ valueBE 256 (part 0 8 key.now) }
+    requires first_value { first ≡ value_be 256 (part 0 8 key.now) }
     ensures { result ≡ order_of (key_at (100 * i) cache.now) (key_at 0 key.now) }
 {
     let at = record::RECORD_LEN * i;
@@ -42,7 +42,7 @@ pub fn find_key(cache: &[u8], used: usize, key: &[u8]) -> Sought
     requires used_in_bounds { 100 * used ≤ length cache.now }
     requires in_bounds { 32 ≤ length key.now }
     requires rising { Rising plain 0 (map key_of (rows 100 used cache.now)) }
-    ensures { result ≡ soughtIn (key_at 0 key.now) (map key_of (rows 100 used cache.now)) }
+    ensures { result ≡ sought_in (key_at 0 key.now) (map key_of (rows 100 used cache.now)) }
 {
     let first = octet::read_u64(key, 0);
     let mut low = 0;

@@ -11,48 +11,48 @@ use lib.ListN.{length}
 use Rattle.octet.specs.Part.{part}
 use Rattle.octet.proofs.PartLaws.{length_part}
 use Rattle.record.specs.Record.{key_of}
-use Rattle.record.specs.Entry.{entryForm, recordOf}
-use Rattle.record.proofs.EntryLaws.{form-length, record-form}
+use Rattle.record.specs.Entry.{entry_form, record_of}
+use Rattle.record.proofs.EntryLaws.{form_length, record_form_lem}
 use Rattle.record.proofs.PlaceLaws.{entry_at}
-use Rattle.own.specs.Own.{Own, ownKeys, IsOwn}
-use Rattle.own.proofs.PlaceLaws.{own-not}
+use Rattle.own.specs.Own.{Own, own_keys, IsOwn}
+use Rattle.own.proofs.PlaceLaws.{own_not}
 use Rattle.refusal.proofs.TableLaws.{both}
 use Rattle.table.specs.Rows.{joined, bytes_of, any_of}
 use Rattle.table.proofs.RowLaws.{rows-length}
 use Rattle.cache.specs.Form.{held_of}
-use Rattle.waiting.specs.Place.{inquiryPlace}
+use Rattle.waiting.specs.Place.{inquiry_place}
 use Rattle.waiting.specs.Form.{places_of}
-use Rattle.waiting.specs.Seek.{hasId}
+use Rattle.waiting.specs.Seek.{has_id}
 use Rattle.waiting.specs.Open.{opened}
 use Rattle.waiting.proofs.KeptLaws.{open-inquiry}
-use Rattle.wire_fields.specs.Reading.{contentsIn}
+use Rattle.wire_fields.specs.Reading.{contents_in}
 use Rattle.wire_fields.specs.declared.Part.{Part}
 use Rattle.wire_fields.specs.declared.Part.TheVariants.{Here, Absent}
 use Rattle.wire_buffer.specs.Buffer.{start_of}
-use Rattle.wire_write.specs.Making.{inquireMade}
+use Rattle.wire_write.specs.Making.{inquire_made}
 use Rattle.look.specs.Seen.{size_of}
-use Rattle.asking.specs.Asking.{mustAsk, asksFor, inquireRoom}
-use Rattle.asking.specs.Ids.{idAfter}
+use Rattle.asking.specs.Asking.{must_ask, asks_for, inquire_room}
+use Rattle.asking.specs.Ids.{id_after}
 use Rattle.asking.proofs.AskingLaws.{asks_none, asks-other, asks-tells}
-use Rattle.gauge_commit.specs.Replies.{inquireWritten}
+use Rattle.gauge_commit.specs.Replies.{inquire_written}
 use Rattle.gauge_commit.proofs.LengthLaws.{inquire-length}
-use Rattle.gauge_commit.proofs.SentLaws.{joined-one, record-long}
+use Rattle.gauge_commit.proofs.SentLaws.{joined_one, record_long}
 use Rattle.gauge_plan.specs.Lent.{Memory, Receive}
-use Rattle.gauge_plan.proofs.OpeningLaws.{second-fails}
+use Rattle.gauge_plan.proofs.OpeningLaws.{second_fails}
 use Rattle.plan_message.proofs.AnswerLaws.{EntryIn}
-use Rattle.sentences.specs.Heard.{entryIn}
+use Rattle.sentences.specs.Heard.{entry_in}
 use Rattle.sentences.specs.Sentences as S
 use Rattle.sentences.proofs.MoveLaws.{opened_in}
-use Rattle.sentences.proofs.LearnLaws.{table-by}
-use Rattle.sentences.proofs.WordLaws.{must-iff, none-asked}
+use Rattle.sentences.proofs.LearnLaws.{table_by}
+use Rattle.sentences.proofs.WordLaws.{must_iff, none-asked}
 use Rattle.sentences.proofs.PlanLaws.{used, Fine, table-form}
 
 module _ (m : Memory) (l : Receive) where
   abbrev k : Own
-  k = ownKeys l.own
+  k = own_keys l.own
 
   abbrev recs : List (List ℕ)
-  recs = held_of (ownKeys l.own) m.cache
+  recs = held_of (own_keys l.own) m.cache
 
   abbrev ps : List (List ℕ)
   ps = places_of m.waiting
@@ -61,7 +61,7 @@ module _ (m : Memory) (l : Receive) where
   routed route = part (start_of route) (size_of route) l.datagram
 
   abbrev pub opening : Part → Bool
-  opening route = asksFor k recs ps (routed route)
+  opening route = asks_for k recs ps (routed route)
 
   -- an entry in form has bytes
   has-bytes : (s n : ℕ) → EntryIn l.datagram (Here s n) → ¬ (length (part s n l.datagram) ≡ 0)
@@ -73,65 +73,65 @@ module _ (m : Memory) (l : Receive) where
   pub none-opens : opening Absent ≡ false
   none-opens = asks_none k recs ps [] refl
 
-  pub asks-iff : (route : Part) → EntryIn l.datagram route → (opening route ≡ true) ↔ S.EntryAsks k m (entryIn (contentsIn l.datagram route))
+  pub asks-iff : (route : Part) → EntryIn l.datagram route → (opening route ≡ true) ↔ S.EntryAsks k m (entry_in (contents_in l.datagram route))
   asks-iff (Here s n) w =
       let v = part s n l.datagram in (
-        λ e. (let t = asks-tells k recs ps v e in (t.1, (must-iff k m (recordOf v)).0 t.2)),
-        λ a. asks-other k recs ps v (has-bytes s n w) (own-not k (key_of (recordOf v)) a.0) ∙ (must-iff k m (recordOf v)).1 a.1,
+        λ e. (let t = asks-tells k recs ps v e in (t.1, (must_iff k m (record_of v)).0 t.2)),
+        λ a. asks-other k recs ps v (has-bytes s n w) (own_not k (key_of (record_of v)) a.0) ∙ (must_iff k m (record_of v)).1 a.1,
       )
   asks-iff Absent w = (λ e. both e none-opens, λ a. absurd a)
 
   -- the INQUIRE as it is written, and how long it is
   pub asks-written : (route : Part)
-      → inquireWritten l.major l.minor l.id (opening route) l.nonce (recordOf (routed route))
-      ≡ S.asks l (opening route) (S.entryRecord (entryIn (contentsIn l.datagram route)))
-  unfolding inquireMade
+      → inquire_written l.major l.minor l.id (opening route) l.nonce (record_of (routed route))
+      ≡ S.asks l (opening route) (S.entry_record (entry_in (contents_in l.datagram route)))
+  unfolding inquire_made
   asks-written (Here s n) = refl
   asks-written Absent = rw none-opens refl
 
-  asked-long : (r : List ℕ) → length r ≡ 100 → length l.nonce ≡ 16 → (b : Bool) → length (joined (S.asks l b r)) ≡ inquireRoom b
-  unfolding joined inquireMade
+  asked-long : (r : List ℕ) → length r ≡ 100 → length l.nonce ≡ 16 → (b : Bool) → length (joined (S.asks l b r)) ≡ inquire_room b
+  unfolding joined inquire_made
   asked-long r long fresh true =
-      ap length (joined-one (inquireMade l.major l.minor (idAfter l.id) (part 0 32 r) l.nonce).bytes)
-      ∙ inquire-length l.major l.minor (idAfter l.id) (part 0 32 r) l.nonce (length_part 0 32 r (omega arith)) fresh
+      ap length (joined_one (inquire_made l.major l.minor (id_after l.id) (part 0 32 r) l.nonce).bytes)
+      ∙ inquire-length l.major l.minor (id_after l.id) (part 0 32 r) l.nonce (length_part 0 32 r (omega arith)) fresh
   asked-long r long fresh false = refl
 
   pub asks-long : (route : Part) → EntryIn l.datagram route → length l.nonce ≡ 16
-      → length (joined (S.asks l (opening route) (S.entryRecord (entryIn (contentsIn l.datagram route))))) ≡ inquireRoom (opening route)
+      → length (joined (S.asks l (opening route) (S.entry_record (entry_in (contents_in l.datagram route))))) ≡ inquire_room (opening route)
   unfolding joined
   asks-long (Here s n) w fresh =
-      asked-long (recordOf (part s n l.datagram)) (record-long (part s n l.datagram) w.1) fresh (opening (Here s n))
+      asked-long (record_of (part s n l.datagram)) (record_long (part s n l.datagram) w.1) fresh (opening (Here s n))
   asks-long Absent w fresh = rw none-opens refl
 
   -- the place that opens, where none of the rows stands against it
   module _ (ok : Fine m l) where
     entry-table : (s n : ℕ) → EntryIn l.datagram (Here s n)
-        → (opening (Here s n) ≡ true → any_of (hasId (idAfter l.id)) ps ≡ false) → (opening (Here s n) ≡ true → ¬ (used m l ≡ 16))
+        → (opening (Here s n) ≡ true → any_of (has_id (id_after l.id)) ps ≡ false) → (opening (Here s n) ≡ true → ¬ (used m l ≡ 16))
         → (b : Bool) → opening (Here s n) ≡ b
-        → (let r = recordOf (part s n l.datagram) in
-        S.WaitsExactly k (cond b (bytes_of 2240 (opened (inquiryPlace (idAfter l.id) r) ps)) m.waiting)
-        (λ (p : List ℕ). S.Waits m p ⊎ (((¬ IsOwn k (key_of r)) × S.MustAsk k m r) × (p ≡ inquiryPlace (idAfter l.id) r))))
+        → (let r = record_of (part s n l.datagram) in
+        S.WaitsExactly k (cond b (bytes_of 2240 (opened (inquiry_place (id_after l.id) r) ps)) m.waiting)
+        (λ (p : List ℕ). S.Waits m p ⊎ (((¬ IsOwn k (key_of r)) × S.MustAsk k m r) × (p ≡ inquiry_place (id_after l.id) r))))
     entry-table s n w new free true e =
         let v = part s n l.datagram in
-        let r = recordOf v in
+        let r = record_of v in
         let asks = (asks-iff (Here s n) w).0 e in
-        let good = record-form v w.1 in
-        let g = open-inquiry k m.waiting ps (table-form m l ok) (idAfter l.id) r
+        let good = record_form_lem v w.1 in
+        let g = open-inquiry k m.waiting ps (table-form m l ok) (id_after l.id) r
         (omega (arith, rows-length 140 (used m l) m.waiting, ok.ready.few, free e))
-        (mod-lt _ (omega arith)) (form-length r good) good (own-not k (key_of r) asks.0) (new e) (none-asked k m r asks.1) in
-        table-by k _ (opened (inquiryPlace (idAfter l.id) r) ps) _ g
+        (mod-lt _ (omega arith)) (form_length r good) good (own_not k (key_of r) asks.0) (new e) (none-asked k m r asks.1) in
+        table_by k _ (opened (inquiry_place (id_after l.id) r) ps) _ g
         (λ q. (
-          λ i. elim ((opened_in (inquiryPlace (idAfter l.id) r) q ps).0 i) [ inl x ↦ inl x | inr x ↦ inr (asks, x) ],
-          λ i. (opened_in (inquiryPlace (idAfter l.id) r) q ps).1 (elim i [ inl x ↦ inl x | inr x ↦ inr x.1 ]),
+          λ i. elim ((opened_in (inquiry_place (id_after l.id) r) q ps).0 i) [ inl x ↦ inl x | inr x ↦ inr (asks, x) ],
+          λ i. (opened_in (inquiry_place (id_after l.id) r) q ps).1 (elim i [ inl x ↦ inl x | inr x ↦ inr x.1 ]),
         ))
-    entry-table s n w new free false e = table-by k m.waiting ps _ (table-form m l ok)
+    entry-table s n w new free false e = table_by k m.waiting ps _ (table-form m l ok)
         (λ q. (λ i. inl i, λ i. elim i [ inl x ↦ x | inr x ↦ both ((asks-iff (Here s n) w).1 x.0) e ]))
 
     pub route-table : (route : Part) → EntryIn l.datagram route
-        → (opening route ≡ true → any_of (hasId (idAfter l.id)) ps ≡ false) → (opening route ≡ true → ¬ (used m l ≡ 16))
-        → (let e = entryIn (contentsIn l.datagram route) in
-        S.WaitsExactly k (cond (opening route) (bytes_of 2240 (opened (inquiryPlace (idAfter l.id) (recordOf (routed route))) ps)) m.waiting)
-        (λ (p : List ℕ). S.Waits m p ⊎ (S.EntryAsks k m e × (p ≡ inquiryPlace (idAfter l.id) (S.entryRecord e)))))
+        → (opening route ≡ true → any_of (has_id (id_after l.id)) ps ≡ false) → (opening route ≡ true → ¬ (used m l ≡ 16))
+        → (let e = entry_in (contents_in l.datagram route) in
+        S.WaitsExactly k (cond (opening route) (bytes_of 2240 (opened (inquiry_place (id_after l.id) (record_of (routed route))) ps)) m.waiting)
+        (λ (p : List ℕ). S.Waits m p ⊎ (S.EntryAsks k m e × (p ≡ inquiry_place (id_after l.id) (S.entry_record e)))))
     route-table (Here s n) w new free = entry-table s n w new free (opening (Here s n)) refl
-    route-table Absent w new free = rw none-opens (table-by k m.waiting ps _ (table-form m l ok)
+    route-table Absent w new free = rw none-opens (table_by k m.waiting ps _ (table-form m l ok)
         (λ q. (λ i. inl i, λ i. elim i [ inl x ↦ x | inr x ↦ absurd x.0 ])))

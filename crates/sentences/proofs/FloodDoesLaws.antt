@@ -10,17 +10,17 @@ use lib.Dec.{eqb}
 use borrow.Author.Tests.{eqb-false}
 use Rattle.octet.specs.Part.{part}
 use Rattle.key.specs.Number.{key_at}
-use Rattle.record.specs.Entry.{entryForm, recordOf}
-use Rattle.record.proofs.EntryLaws.{form-length, record-form}
-use Rattle.own.specs.Own.{ownKeys}
+use Rattle.record.specs.Entry.{entry_form, record_of}
+use Rattle.record.proofs.EntryLaws.{form_length, record_form_lem}
+use Rattle.own.specs.Own.{own_keys}
 use Rattle.refusal.proofs.TableLaws.{AllFail, both}
 use Rattle.table.specs.Rows.{bytes_of, any_of}
 use Rattle.table.proofs.RowLaws.{rows-length}
 use Rattle.cache.specs.Form.{held_of}
-use Rattle.waiting.specs.Place.{inquiryPlace}
-use Rattle.waiting.specs.Form.{isInquiry, places_of}
+use Rattle.waiting.specs.Place.{inquiry_place}
+use Rattle.waiting.specs.Form.{is_inquiry, places_of}
 use Rattle.table.specs.Seek.{seek}
-use Rattle.waiting.specs.Seek.{hasId}
+use Rattle.waiting.specs.Seek.{has_id}
 use Rattle.waiting.specs.Open.{opened}
 use Rattle.table.specs.declared.Found.{Found}
 use Rattle.table.specs.declared.Found.TheVariants.{At, Nothing}
@@ -30,90 +30,90 @@ use Rattle.waiting.specs.Form as W
 use Rattle.wire_fields.specs.declared.Part.{Part}
 use Rattle.wire_fields.specs.declared.Part.TheVariants.{Here, Absent}
 use Rattle.wire_read.specs.declared.Head.{Head}
-use Rattle.wire_write.specs.Making.{ackMade, inquireMade}
-use Rattle.asking.specs.Ids.{idAfter}
-use Rattle.gauge_plan.specs.Own.{notOurs}
-use Rattle.asking.specs.Asking.{mustAsk}
-use Rattle.plan_flood.specs.Flood.{floodPlan, revokePlan}
+use Rattle.wire_write.specs.Making.{ack_made, inquire_made}
+use Rattle.asking.specs.Ids.{id_after}
+use Rattle.gauge_plan.specs.Own.{not_ours}
+use Rattle.asking.specs.Asking.{must_ask}
+use Rattle.plan_flood.specs.Flood.{flood_plan, revoke_plan}
 use Rattle.gauge_plan.specs.declared.Plan.TheVariants.{Flood, Revoke}
-use Rattle.gauge_commit.specs.Replies.{freedAt}
+use Rattle.gauge_commit.specs.Replies.{freed_at}
 use Rattle.gauge_plan.specs.Lent.{Memory, Receive}
-use Rattle.plan_message.specs.Planned.{byEntry}
+use Rattle.plan_message.specs.Planned.{by_entry}
 use Rattle.gauge.specs.Receive.{carried}
 use Rattle.plan_message.proofs.AnswerLaws.{EntryIn}
-use Rattle.gauge_laws.specs.Table.{floodTable}
+use Rattle.gauge_laws.specs.Table.{flood_table}
 use Rattle.sentences.specs.Heard.{entry, revoke}
 use Rattle.sentences.specs.Sentences as S
 use Rattle.sentences.proofs.MoveLaws.{opened_in, none-inquires}
-use Rattle.sentences.proofs.LearnLaws.{table-by, removes}
-use Rattle.sentences.proofs.HeardLaws.{saidBy}
-use Rattle.sentences.proofs.WordLaws.{must-iff, none-asked}
-use Rattle.sentences.proofs.OursLaws.{ours-iff}
+use Rattle.sentences.proofs.LearnLaws.{table_by, removes}
+use Rattle.sentences.proofs.HeardLaws.{said_by}
+use Rattle.sentences.proofs.WordLaws.{must_iff, none-asked}
+use Rattle.sentences.proofs.OursLaws.{ours_iff}
 use Rattle.sentences.proofs.PlanLaws.{held, used, Fine, Does, table-form, ids-rise, passed}
 
 -- of two tests that do not hold together, where the first does the second does not
-second-fails : (a b : Bool) → a && b ≡ false → a ≡ true → b ≡ false
-second-fails true b e h = e
-second-fails false b e h = both h refl
+second_fails : (a b : Bool) → a && b ≡ false → a ≡ true → b ≡ false
+second_fails true b e h = e
+second_fails false b e h = both h refl
 
 module _ (m : Memory) (l : Receive) (ok : Fine m l) where
   abbrev recs : List (List ℕ)
-  recs = held_of (ownKeys l.own) m.cache
+  recs = held_of (own_keys l.own) m.cache
 
   abbrev ps : List (List ℕ)
   ps = places_of m.waiting
 
   -- FLOOD with a route entry
-  module _ (id : ℕ) (s : Bool) (validate start len : ℕ) (formed : entryForm (part start len l.datagram) ≡ true)
-      (bars : AllFail (floodTable m l s validate (Here start len))) where
+  module _ (id : ℕ) (s : Bool) (validate start len : ℕ) (formed : entry_form (part start len l.datagram) ≡ true)
+      (bars : AllFail (flood_table m l s validate (Here start len))) where
     abbrev r : List ℕ
-    r = recordOf (part start len l.datagram)
+    r = record_of (part start len l.datagram)
 
     abbrev n : Bool
-    n = notOurs (ownKeys l.own) validate l.datagram
+    n = not_ours (own_keys l.own) validate l.datagram
 
-    entry-table : (b : Bool) → mustAsk recs ps r ≡ b
-        → S.WaitsExactly (ownKeys l.own) (cond b (bytes_of 2240 (opened (inquiryPlace (idAfter l.id) r) ps)) m.waiting)
-        (λ (p : List ℕ). S.Waits m p ⊎ (S.MustAsk (ownKeys l.own) m r × (p ≡ inquiryPlace (idAfter l.id) r)))
+    entry-table : (b : Bool) → must_ask recs ps r ≡ b
+        → S.WaitsExactly (own_keys l.own) (cond b (bytes_of 2240 (opened (inquiry_place (id_after l.id) r) ps)) m.waiting)
+        (λ (p : List ℕ). S.Waits m p ⊎ (S.MustAsk (own_keys l.own) m r × (p ≡ inquiry_place (id_after l.id) r)))
     entry-table true e =
-        let must = (must-iff (ownKeys l.own) m r).0 e in
-        let good = record-form (part start len l.datagram) formed in
-        let full = eqb-false (used m l) 16 (second-fails (mustAsk recs ps r) (eqb (used m l) 16) bars.1.1.0 e) in
-        let g = open-inquiry (ownKeys l.own) m.waiting ps (table-form m l ok) (idAfter l.id) r
+        let must = (must_iff (own_keys l.own) m r).0 e in
+        let good = record_form_lem (part start len l.datagram) formed in
+        let full = eqb-false (used m l) 16 (second_fails (must_ask recs ps r) (eqb (used m l) 16) bars.1.1.0 e) in
+        let g = open-inquiry (own_keys l.own) m.waiting ps (table-form m l ok) (id_after l.id) r
         (omega (arith, rows-length 140 (used m l) m.waiting, ok.ready.few, full))
-        (mod-lt _ (omega arith)) (form-length r good) good bars.0
-        (second-fails (mustAsk recs ps r) (any_of (hasId (idAfter l.id)) ps) bars.1.0 e)
-        (none-asked (ownKeys l.own) m r must) in
-        table-by (ownKeys l.own) _ (opened (inquiryPlace (idAfter l.id) r) ps) _ g
+        (mod-lt _ (omega arith)) (form_length r good) good bars.0
+        (second_fails (must_ask recs ps r) (any_of (has_id (id_after l.id)) ps) bars.1.0 e)
+        (none-asked (own_keys l.own) m r must) in
+        table_by (own_keys l.own) _ (opened (inquiry_place (id_after l.id) r) ps) _ g
         (λ q. (
-          λ i. elim ((opened_in (inquiryPlace (idAfter l.id) r) q ps).0 i) [ inl w ↦ inl w | inr w ↦ inr (must, w) ],
-          λ i. (opened_in (inquiryPlace (idAfter l.id) r) q ps).1 (elim i [ inl w ↦ inl w | inr w ↦ inr w.1 ]),
+          λ i. elim ((opened_in (inquiry_place (id_after l.id) r) q ps).0 i) [ inl w ↦ inl w | inr w ↦ inr (must, w) ],
+          λ i. (opened_in (inquiry_place (id_after l.id) r) q ps).1 (elim i [ inl w ↦ inl w | inr w ↦ inr w.1 ]),
         ))
-    entry-table false e = table-by (ownKeys l.own) m.waiting ps _ (table-form m l ok)
-        (λ q. (λ i. inl i, λ i. elim i [ inl w ↦ w | inr w ↦ both ((must-iff (ownKeys l.own) m r).1 w.0) e ]))
+    entry-table false e = table_by (own_keys l.own) m.waiting ps _ (table-form m l ok)
+        (λ q. (λ i. inl i, λ i. elim i [ inl w ↦ w | inr w ↦ both ((must_iff (own_keys l.own) m r).1 w.0) e ]))
 
-    entry-does : Does m l (entry id s (key_at validate l.datagram) r) (Flood (used m l) s n id (mustAsk recs ps r) start len)
-    unfolding carried ackMade inquireMade
+    entry-does : Does m l (entry id s (key_at validate l.datagram) r) (Flood (used m l) s n id (must_ask recs ps r) start len)
+    unfolding carried ack_made inquire_made
     entry-does h beside = record {
       x = entry id s (key_at validate l.datagram) r;
       hears = h;
       ds = _;
       reply = record {
         n = n;
-        ask = mustAsk recs ps r;
-        set = ours-iff (ownKeys l.own) (key_at validate l.datagram);
-        asked = must-iff (ownKeys l.own) m r;
+        ask = must_ask recs ps r;
+        set = ours_iff (own_keys l.own) (key_at validate l.datagram);
+        asked = must_iff (own_keys l.own) m r;
         are = refl;
       };
       sent = record { counts = refl; bytes = refl };
-      leaves = record { cache = refl; table = entry-table (mustAsk recs ps r) refl };
+      leaves = record { cache = refl; table = entry-table (must_ask recs ps r) refl };
       rest = beside;
     }
 
   -- FLOOD with a revocation
   revoke-does : (id : ℕ) (s : Bool) (validate : ℕ)
-      → Does m l (revoke id s (key_at validate l.datagram)) (Revoke (held m l) (used m l) s (notOurs (ownKeys l.own) validate l.datagram) id)
-  unfolding carried ackMade held_of
+      → Does m l (revoke id s (key_at validate l.datagram)) (Revoke (held m l) (used m l) s (not_ours (own_keys l.own) validate l.datagram) id)
+  unfolding carried ack_made held_of
   revoke-does id s validate h beside =
       let u = key_at 0 l.key in
       record {
@@ -121,26 +121,26 @@ module _ (m : Memory) (l : Receive) (ok : Fine m l) where
         hears = h;
         ds = _;
         reply = record {
-          n = notOurs (ownKeys l.own) validate l.datagram;
-          set = ours-iff (ownKeys l.own) (key_at validate l.datagram);
+          n = not_ours (own_keys l.own) validate l.datagram;
+          set = ours_iff (own_keys l.own) (key_at validate l.datagram);
           are = refl;
         };
         sent = record { counts = refl; bytes = refl };
         leaves = record {
-          cache = removes (ownKeys l.own) m ok.ready.cached u;
-          table = table-by (ownKeys l.own) _ (freedAt (seek (isInquiry u) 0 ps) ps) _ (freed-form (seek (isInquiry u) 0 ps))
-              (λ q. none-inquires (ownKeys l.own) u q ps (form-placed (ownKeys l.own) m.waiting ok.ready.tabled) (ids-rise m l ok));
+          cache = removes (own_keys l.own) m ok.ready.cached u;
+          table = table_by (own_keys l.own) _ (freed_at (seek (is_inquiry u) 0 ps) ps) _ (freed-form (seek (is_inquiry u) 0 ps))
+              (λ q. none-inquires (own_keys l.own) u q ps (form-placed (own_keys l.own) m.waiting ok.ready.tabled) (ids-rise m l ok));
         };
         rest = beside;
       }
     where
-      freed-form : (found : Found) → W.PlacesForm (ownKeys l.own) (bytes_of 2240 (freedAt found ps)) (freedAt found ps)
-      freed-form (At i) = free-kept (ownKeys l.own) m.waiting ps (table-form m l ok) i
-      freed-form Nothing = subst (λ (t : List ℕ). W.PlacesForm (ownKeys l.own) t ps) (table-form m l ok).bytes (table-form m l ok)
+      freed-form : (found : Found) → W.PlacesForm (own_keys l.own) (bytes_of 2240 (freed_at found ps)) (freed_at found ps)
+      freed-form (At i) = free-kept (own_keys l.own) m.waiting ps (table-form m l ok) i
+      freed-form Nothing = subst (λ (t : List ℕ). W.PlacesForm (own_keys l.own) t ps) (table-form m l ok).bytes (table-form m l ok)
 
   -- any FLOOD
-  pub flood-does : (head : Head) (s : Bool) (validate : ℕ) (route : Part) → EntryIn l.datagram route → AllFail (floodTable m l s validate route)
-      → Does m l (saidBy l.datagram head.id s validate route) (byEntry m l (held m l) (used m l) head s validate route)
-  unfolding floodPlan revokePlan held_of
+  pub flood-does : (head : Head) (s : Bool) (validate : ℕ) (route : Part) → EntryIn l.datagram route → AllFail (flood_table m l s validate route)
+      → Does m l (said_by l.datagram head.id s validate route) (by_entry m l (held m l) (used m l) head s validate route)
+  unfolding flood_plan revoke_plan held_of
   flood-does head s validate (Here start len) w bars = passed m l _ _ _ bars (entry-does head.id s validate start len w.1 bars)
   flood-does head s validate Absent w bars = passed m l _ _ _ bars (revoke-does head.id s validate)

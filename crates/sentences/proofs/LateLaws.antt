@@ -8,18 +8,18 @@ use mathlib.Core.Path.{◌≡◌, refl, sym, ap, subst, ◌∙◌}
 use native.Mathlib.Omega.{arith}
 use lib.ListN.{length, replicate, length-replicate}
 use lib.Seq.{length-take-le}
-use Rattle.octet.specs.Number.{Bytes, valueBE}
+use Rattle.octet.specs.Number.{Bytes, value_be}
 use Rattle.octet.specs.Part.{part}
 use Rattle.key.specs.Number.{key_at}
-use Rattle.record.specs.Record.{key_of, recordForm}
-use Rattle.record.proofs.EntryLaws.{form-length, record-form}
-use Rattle.own.specs.Own.{Own, ownForm, ownKeys}
-use Rattle.kept.proofs.WithoutLaws.{eq-or}
+use Rattle.record.specs.Record.{key_of, record_form}
+use Rattle.record.proofs.EntryLaws.{form_length, record_form_lem}
+use Rattle.own.specs.Own.{Own, own_form, own_keys}
+use Rattle.kept.proofs.WithoutLaws.{eq_or}
 use Rattle.kept.specs.Keys.{Every, ◌∈◌}
 use Rattle.kept.proofs.PutLaws.{Tri, less, same, more, tri}
-use Rattle.cache.specs.Form.{placesIn, held_of}
-use Rattle.waiting.specs.Place.{kind_of, placeKey, placeRecord, inquiryPlace, floodPlace}
-use Rattle.waiting.specs.Form.{waitingForm}
+use Rattle.cache.specs.Form.{places_in, held_of}
+use Rattle.waiting.specs.Place.{kind_of, place_key, place_record, inquiry_place, flood_place}
+use Rattle.waiting.specs.Form.{waiting_form}
 use Rattle.waiting.proofs.NewLaws.{new-key, new-kind}
 use Rattle.waiting.proofs.PlaceLaws.{less-kind, less-key, inquiry-key}
 use Rattle.gauge_plan.specs.Lent.{Memory, Receive, Call, receives, sends, ticks, lists, own_of}
@@ -30,9 +30,9 @@ use Rattle.sentences.specs.Sentences as S
 use Rattle.sentences.specs.Numbers as Num
 use Rattle.sentences.specs.Meets.{MeetsSentences}
 use Rattle.sentences.specs.Late as L
-use Rattle.sentences.proofs.OneLaws.{hears-one}
-use Rattle.sentences.proofs.HeardLaws.{EntryHeard, entry-heard, lookup-entry-heard}
-use Rattle.sentences.proofs.MembersLaws.{place-formed}
+use Rattle.sentences.proofs.OneLaws.{hears_one}
+use Rattle.sentences.proofs.HeardLaws.{EntryHeard, entry-heard, lookup_entry-heard}
+use Rattle.sentences.proofs.MembersLaws.{place_formed}
 use Rattle.sentences.proofs.SaidLaws as Said
 use Rattle.sentences.proofs.OtherLaws.{is-lent}
 
@@ -47,29 +47,29 @@ Out k u m = (r : List ℕ) → S.Holds k m r → ¬ (key_of r ≡ u)
 -- ---- the record of a FLOOD is in form
 
 -- the key of the place for the record of a route entry
-place-key : (d r : List ℕ) → EntryHeard d r → (id : ℕ) → placeKey (inquiryPlace id r) ≡ key_of r
-place-key d r e id =
-    let long = form-length r (ap recordForm e.is ∙ record-form (part e.start e.len d) e.formed) in
-    ap (valueBE 256) (new-key id 2 2 (part 0 32 r) r (length-take-le 32 r (omega arith)) long)
+place_key_lem : (d r : List ℕ) → EntryHeard d r → (id : ℕ) → place_key (inquiry_place id r) ≡ key_of r
+place_key_lem d r e id =
+    let long = form_length r (ap record_form e.is ∙ record_form_lem (part e.start e.len d) e.formed) in
+    ap (value_be 256) (new-key id 2 2 (part 0 32 r) r (length-take-le 32 r (omega arith)) long)
 
 entry_key : (d : List ℕ) → Bytes d → (major i : ℕ) (s : Bool) (v : ℕ) (r : List ℕ) → Hears d major (entry i s v r)
-    → (id : ℕ) → placeKey (inquiryPlace id r) ≡ key_of r
-entry_key d b major i s v r h id = place-key d r (entry-heard d b major i s v r h) id
+    → (id : ℕ) → place_key (inquiry_place id r) ≡ key_of r
+entry_key d b major i s v r h id = place_key_lem d r (entry-heard d b major i s v r h) id
 
-flood-kind : (id : ℕ) (key : List ℕ) → length key ≡ 32 → kind_of (floodPlace id key) ≡ 1
-flood-kind id key e = new-kind id 1 2 key (replicate 100 0) e (length-replicate {A = ℕ} 100 0)
+flood_kind : (id : ℕ) (key : List ℕ) → length key ≡ 32 → kind_of (flood_place id key) ≡ 1
+flood_kind id key e = new-kind id 1 2 key (replicate 100 0) e (length-replicate {A = ℕ} 100 0)
 
 -- ---- one call
 
 module _ (u : ℕ) (m : Memory) (quiet : Quiet u m) where
   leaves_quiet : (l : Receive) → Bytes l.datagram → (x : Heard) (left : Memory) → Hears l.datagram l.major x
-      → ((i : ℕ) (s : Bool) (v : ℕ) (r : List ℕ) → Hears l.datagram l.major (entry i s v r) → key_of r ≡ u → ¬ S.MustAsk (ownKeys l.own) m r)
-      → ((i t : ℕ) (path r : List ℕ) → Hears l.datagram l.major (lookup i t path (O.some r)) → key_of r ≡ u → ¬ S.MustAsk (ownKeys l.own) m r)
+      → ((i : ℕ) (s : Bool) (v : ℕ) (r : List ℕ) → Hears l.datagram l.major (entry i s v r) → key_of r ≡ u → ¬ S.MustAsk (own_keys l.own) m r)
+      → ((i t : ℕ) (path r : List ℕ) → Hears l.datagram l.major (lookup i t path (O.some r)) → key_of r ≡ u → ¬ S.MustAsk (own_keys l.own) m r)
       → S.Leaves m l x left → Quiet u left
   leaves_quiet l b (entry i s v r) left h none neither w q =
       elim ((w.table.members q.0).0 q.1) [
         | inl y ↦ quiet (q.0, y, q.2)
-        | inr y ↦ none i s v r h (sym (ap placeKey y.1 ∙ entry_key l.datagram b l.major i s v r h _) ∙ q.2.1) y.0
+        | inr y ↦ none i s v r h (sym (ap place_key y.1 ∙ entry_key l.datagram b l.major i s v r h _) ∙ q.2.1) y.0
       ]
   leaves_quiet l b (revoke i s v) left h none neither w q = quiet (q.0, ((w.table.members q.0).0 q.1).0, q.2)
   leaves_quiet l b (inquire i v) left h none neither w q = quiet (q.0, subst (λ (y : Memory). S.Waits y q.0) w q.1, q.2)
@@ -81,7 +81,7 @@ module _ (u : ℕ) (m : Memory) (quiet : Quiet u m) where
       elim ((w.table.members q.0).0 q.1) [
         | inl y ↦ quiet (q.0, y, q.2)
         | inr y ↦ neither i t path r h
-            (sym (ap placeKey y.1 ∙ place-key l.datagram r (lookup-entry-heard l.datagram b l.major i t path r h) _) ∙ q.2.1) y.0.1
+            (sym (ap place_key y.1 ∙ place_key_lem l.datagram r (lookup_entry-heard l.datagram b l.major i t path r h) _) ∙ q.2.1) y.0.1
       ]
   leaves_quiet l b other left h none neither w q = absurd w
 
@@ -93,43 +93,43 @@ module _ (u : ℕ) (m : Memory) (quiet : Quiet u m) where
       let g = is-lent m l (low 1) in
       elim ((s.table.members q.0).0 q.1) [
         | inl y ↦ quiet (q.0, y, q.2)
-        | inr y ↦ absurd (let z : ◌≡◌ {A = ℕ} 1 2 = sym (ap kind_of y ∙ flood-kind l.id l.neighbour g.neighbour) ∙ q.2.0 in omega arith)
+        | inr y ↦ absurd (let z : ◌≡◌ {A = ℕ} 1 2 = sym (ap kind_of y ∙ flood_kind l.id l.neighbour g.neighbour) ∙ q.2.0 in omega arith)
       ]
   does-quiet (ticks l) h ty none low s q =
       let w = (s.table.members q.0).0 q.1 in
-      quiet (w.0, w.1, (sym (ap kind_of w.3 ∙ less-kind w.0) ∙ q.2.0, sym (ap placeKey w.3 ∙ less-key w.0) ∙ q.2.1))
+      quiet (w.0, w.1, (sym (ap kind_of w.3 ∙ less-kind w.0) ∙ q.2.0, sym (ap place_key w.3 ∙ less-key w.0) ∙ q.2.1))
   does-quiet (lists l) h ty none low s q = quiet (q.0, subst (λ (y : Memory). S.Waits y q.0) s.same q.1, q.2)
 
   -- what is learned is the record of an inquiry that waited, and none for the key did
   learns-out : (k : Own) (r cache : List ℕ) → ¬ (key_of r ≡ u) → S.Learns k m r cache → Out k u m → (q : List ℕ) → q ∈ held_of k cache → ¬ (key_of q ≡ u)
-  learns-out k r cache not-u s out q i e = go (tri (placesIn (length m.cache)) (length s.more))
+  learns-out k r cache not-u s out q i e = go (tri (places_in (length m.cache)) (length s.more))
     where
       there : q ∈ s.more → ⊥
       there j = elim ((s.are q).0 j) [ inl d ↦ not-u (sym (ap key_of d) ∙ e) | inr w ↦ out q w.0 e ]
 
-      go : Tri (placesIn (length m.cache)) (length s.more) → ⊥
+      go : Tri (places_in (length m.cache)) (length s.more) → ⊥
       go (less h) = there (((s.dropped h).2.members q).0 i).0
       go (same h) = there (((s.fits (omega arith)).members q).0 i)
       go (more h) = there (((s.fits (omega arith)).members q).0 i)
 
-  leaves-out : (l : Receive) → waitingForm (ownKeys l.own) m.waiting ≡ true → (x : Heard) (left : Memory) → S.Leaves m l x left
-      → Out (ownKeys l.own) u m → Out (ownKeys l.own) u left
-  leaves-out l f (entry i s v r) left w out q y = out q (subst (λ (c : List ℕ). q ∈ held_of (ownKeys l.own) c) w.cache y)
+  leaves-out : (l : Receive) → waiting_form (own_keys l.own) m.waiting ≡ true → (x : Heard) (left : Memory) → S.Leaves m l x left
+      → Out (own_keys l.own) u m → Out (own_keys l.own) u left
+  leaves-out l f (entry i s v r) left w out q y = out q (subst (λ (c : List ℕ). q ∈ held_of (own_keys l.own) c) w.cache y)
   leaves-out l f (revoke i s v) left w out q y = out q ((w.cache.members q).0 y).0
-  leaves-out l f (inquire i v) left w out q y = out q (subst (λ (n : Memory). S.Holds (ownKeys l.own) n q) w y)
+  leaves-out l f (inquire i v) left w out q y = out q (subst (λ (n : Memory). S.Holds (own_keys l.own) n q) w y)
   leaves-out l f (authority acked c) left w out q y =
-      let formed = place-formed (ownKeys l.own) m.waiting f w.p w.answers.0 in
-      let key = inquiry-key (ownKeys l.own) w.p formed w.answers.2 in
-      learns-out (ownKeys l.own) (placeRecord w.p) left.cache (λ e. quiet (w.p, w.answers.0, (w.answers.2, sym key ∙ e)))
+      let formed = place_formed (own_keys l.own) m.waiting f w.p w.answers.0 in
+      let key = inquiry-key (own_keys l.own) w.p formed w.answers.2 in
+      learns-out (own_keys l.own) (place_record w.p) left.cache (λ e. quiet (w.p, w.answers.0, (w.answers.2, sym key ∙ e)))
       w.cache out q y
   leaves-out l f (ack acked n) left w out q y = out q ((w.cache.members q).0 y).0
-  leaves-out l f (lookup i t path o) left w out q y = out q (subst (λ (c : List ℕ). q ∈ held_of (ownKeys l.own) c) w.cache y)
+  leaves-out l f (lookup i t path o) left w out q y = out q (subst (λ (c : List ℕ). q ∈ held_of (own_keys l.own) c) w.cache y)
   leaves-out l f other left w out q y = absurd w
 
   does-out : (k : Own) (c : Call) (h : Handed) → OneKey k c → ((i : ℕ) → ¬ Num.Applies m c i) → S.Does m c h → Out k u m → Out k u h.memory
   does-out k (receives l) h one low s out q y =
       let g = Said.is-lent m l (low 1) in
-      let e : ownKeys l.own ≡ k = one g.own in
+      let e : own_keys l.own ≡ k = one g.own in
       subst (λ (j : Own). Out j u h.memory) e
       (leaves-out l g.waiting s.x h.memory s.leaves (subst (λ (j : Own). Out j u m) (sym e) out)) q y
   does-out k (sends l) h one low s out q y = out q (subst (λ (x : Memory). q ∈ held_of k x.cache) s.rest y)
@@ -166,13 +166,13 @@ module _ (g : Gauge) (p : MeetsSentences g) (u : ℕ) where
 
   -- what an accepted revocation leaves, with an own record in form
   revoked-leaves : (m : Memory) (c : Call) → Typed c → L.Revokes u c → (g m c).answer.number ≡ 0
-      → (ownForm (own_of c) ≡ true) × S.FloodRevokes (ownKeys (own_of c)) m u (g m c).memory
+      → (own_form (own_of c) ≡ true) × S.FloodRevokes (own_keys (own_of c)) m u (g m c).memory
   revoked-leaves m (receives l) ty w z =
       let c = receives l in
       let s = p.does m c ty z in
-      let e = hears-one l.datagram l.major s.x (revoke w.0 w.1 w.2) s.hears w.3 in
-      let v : S.FloodRevokes (ownKeys l.own) m (key_at 0 l.key) (g m c).memory = subst (λ (x : Heard). S.Leaves m l x (g m c).memory) e s.leaves in
-      ((Said.is-lent m l ((p.table.accepted m c ty).0 z 1)).own, subst (λ (j : ℕ). S.FloodRevokes (ownKeys l.own) m j (g m c).memory) w.4 v)
+      let e = hears_one l.datagram l.major s.x (revoke w.0 w.1 w.2) s.hears w.3 in
+      let v : S.FloodRevokes (own_keys l.own) m (key_at 0 l.key) (g m c).memory = subst (λ (x : Heard). S.Leaves m l x (g m c).memory) e s.leaves in
+      ((Said.is-lent m l ((p.table.accepted m c ty).0 z 1)).own, subst (λ (j : ℕ). S.FloodRevokes (own_keys l.own) m j (g m c).memory) w.4 v)
   revoked-leaves m (sends l) ty w z = absurd w
   revoked-leaves m (ticks l) ty w z = absurd w
   revoked-leaves m (lists l) ty w z = absurd w
@@ -188,10 +188,10 @@ module _ (g : Gauge) (p : MeetsSentences g) (u : ℕ) where
 
   -- an AUTHORITY for another key than the inquiry's is refused, as one without a CPA or with a bad verdict is
   other-refused : (m : Memory) (l : Receive) (acked : ℕ) (cpa : Bool) → Num.Says l (authority acked cpa) → ((i : ℕ) → ¬ Num.ReceiveApplies m l i)
-      → (q : List ℕ) → S.WaitsAs m 2 acked q → ¬ (placeKey q ≡ key_at 0 l.key) → ⊥
-  other-refused m l acked false says none q w h = none 9 (Num.no-cpa refl acked says)
+      → (q : List ℕ) → S.WaitsAs m 2 acked q → ¬ (place_key q ≡ key_at 0 l.key) → ⊥
+  other-refused m l acked false says none q w h = none 9 (Num.no_cpa refl acked says)
   other-refused m l acked true says none q w h =
-      elim (eq-or l.verdict 1) [
+      elim (eq_or l.verdict 1) [
         | inl good ↦ none 10 (Num.other_key refl acked says good q w h)
         | inr bad ↦ none 9 (Num.bad-authority refl acked true says bad)
       ]
@@ -201,9 +201,9 @@ module _ (g : Gauge) (p : MeetsSentences g) (u : ℕ) where
   late-refused m (receives l) ty w quiet z =
       let c = receives l in
       let s = p.does m c ty z in
-      let e = hears-one l.datagram l.major s.x (authority w.0 w.1) s.hears w.2 in
-      let v : S.Authority (ownKeys l.own) m w.0 (g m c).memory = subst (λ (x : Heard). S.Leaves m l x (g m c).memory) e s.leaves in
-      elim (eq-or (placeKey v.p) (key_at 0 l.key)) [
+      let e = hears_one l.datagram l.major s.x (authority w.0 w.1) s.hears w.2 in
+      let v : S.Authority (own_keys l.own) m w.0 (g m c).memory = subst (λ (x : Heard). S.Leaves m l x (g m c).memory) e s.leaves in
+      elim (eq_or (place_key v.p) (key_at 0 l.key)) [
         | inl is ↦ quiet (v.p, v.answers.0, (v.answers.2, is ∙ w.3))
         | inr not ↦ other-refused m l w.0 w.1 w.2 ((p.table.accepted m c ty).0 z) v.p v.answers not
       ]
@@ -211,8 +211,8 @@ module _ (g : Gauge) (p : MeetsSentences g) (u : ℕ) where
   late-refused m (ticks l) ty w quiet z = absurd w
   late-refused m (lists l) ty w quiet z = absurd w
 
-pub revoked-stays-out : L.RevokedStaysOut
-revoked-stays-out g p u m c ty w z cs none =
+pub revoked_stays_out : L.RevokedStaysOut
+revoked_stays_out g p u m c ty w z cs none =
     let quiet = revoked-quiet g p u m c ty w z in
     record {
       not-held = λ k one. left_out g p u k (g m c).memory cs one.1 none quiet (revoked-out g p u k m c ty one.0 w z);

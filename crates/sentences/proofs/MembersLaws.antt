@@ -11,10 +11,10 @@ use Rattle.record.specs.Record.{key_of}
 use Rattle.own.specs.Own.{Own}
 use Rattle.table.specs.Rows.{bytes_of}
 use Rattle.kept.specs.Keys.{◌∈◌, Rising, plain}
-use Rattle.cache.specs.Form.{keys_of, held_of, cacheForm}
-use Rattle.cache.proofs.FormLaws.{true-form}
+use Rattle.cache.specs.Form.{keys_of, held_of, cache_form}
+use Rattle.cache.proofs.FormLaws.{true_form}
 use Rattle.waiting.specs.Place.{id_of}
-use Rattle.waiting.specs.Form.{places_of, placeForm, waitingForm}
+use Rattle.waiting.specs.Form.{places_of, place_form, waiting_form}
 use Rattle.waiting.proofs.FormLaws.{Placed, form_of, form-placed}
 use Rattle.sentences.specs.Sentences.{HoldsExactly, WaitsExactly}
 
@@ -60,49 +60,49 @@ module _ {A : Type 0} (f : A → ℕ) where
 
 -- ---- the cache
 
-pub held-rises : (k : Own) (s : List ℕ) → cacheForm k s ≡ true → Rising plain 0 (keys_of (held_of k s))
-held-rises k s f = (true-form k s f).held.rising
+pub held-rises : (k : Own) (s : List ℕ) → cache_form k s ≡ true → Rising plain 0 (keys_of (held_of k s))
+held-rises k s f = (true_form k s f).held.rising
 
-pub cache-ext : (k : Own) (a b : List ℕ) → cacheForm k a ≡ true → cacheForm k b ≡ true → length a ≡ length b
+pub cache_ext : (k : Own) (a b : List ℕ) → cache_form k a ≡ true → cache_form k b ≡ true → length a ≡ length b
     → ((r : List ℕ) → r ∈ held_of k a → r ∈ held_of k b) → ((r : List ℕ) → r ∈ held_of k b → r ∈ held_of k a) → a ≡ b
-cache-ext k a b fa fb e to from =
-    (true-form k a fa).bytes
+cache_ext k a b fa fb e to from =
+    (true_form k a fa).bytes
     ∙ ap₂ bytes_of e (rise-ext key_of 0 0 (held_of k a) (held_of k b) (held-rises k a fa) (held-rises k b fb) to from)
-    ∙ sym (true-form k b fb).bytes
+    ∙ sym (true_form k b fb).bytes
 
 -- so what is said of the records held fixes the cache
-pub cache-same : (k : Own) (lent a b : List ℕ) (P Q : List ℕ → Type 0) → HoldsExactly k lent a P → HoldsExactly k lent b Q
+pub cache_same : (k : Own) (lent a b : List ℕ) (P Q : List ℕ → Type 0) → HoldsExactly k lent a P → HoldsExactly k lent b Q
     → ((r : List ℕ) → P r → Q r) → ((r : List ℕ) → Q r → P r) → a ≡ b
-cache-same k lent a b P Q c d to from =
-    cache-ext k a b c.form d.form (c.size ∙ sym d.size) (λ r m. (d.members r).1 (to r ((c.members r).0 m)))
+cache_same k lent a b P Q c d to from =
+    cache_ext k a b c.form d.form (c.size ∙ sym d.size) (λ r m. (d.members r).1 (to r ((c.members r).0 m)))
     (λ r m. (c.members r).1 (from r ((d.members r).0 m)))
 
 -- ---- the waiting table
 
-placed-rises : (own : Own) (low : ℕ) (ps : List (List ℕ)) → Placed own low ps → Rising plain low (map id_of ps)
-placed-rises own low [] h = tt
-placed-rises own low (p ∷ ps) h = (h.1, placed-rises own (suc (id_of p)) ps h.3)
+placed_rises : (own : Own) (low : ℕ) (ps : List (List ℕ)) → Placed own low ps → Rising plain low (map id_of ps)
+placed_rises own low [] h = tt
+placed_rises own low (p ∷ ps) h = (h.1, placed_rises own (suc (id_of p)) ps h.3)
 
-pub places-rise : (k : Own) (t : List ℕ) → waitingForm k t ≡ true → Rising plain 0 (map id_of (places_of t))
-places-rise k t f = placed-rises k 0 (places_of t) (form-placed k t f)
+pub places_rise : (k : Own) (t : List ℕ) → waiting_form k t ≡ true → Rising plain 0 (map id_of (places_of t))
+places_rise k t f = placed_rises k 0 (places_of t) (form-placed k t f)
 
 -- each place that waits is in form
-placed-in : (own : Own) (low : ℕ) (ps : List (List ℕ)) → Placed own low ps → (p : List ℕ) → p ∈ ps → placeForm own p ≡ true
-placed-in own low [] h p m = absurd m
-placed-in own low (q ∷ ps) h p (inl e) = ap (placeForm own) e ∙ h.0
-placed-in own low (q ∷ ps) h p (inr m) = placed-in own (suc (id_of q)) ps h.3 p m
+placed_in : (own : Own) (low : ℕ) (ps : List (List ℕ)) → Placed own low ps → (p : List ℕ) → p ∈ ps → place_form own p ≡ true
+placed_in own low [] h p m = absurd m
+placed_in own low (q ∷ ps) h p (inl e) = ap (place_form own) e ∙ h.0
+placed_in own low (q ∷ ps) h p (inr m) = placed_in own (suc (id_of q)) ps h.3 p m
 
-pub place-formed : (k : Own) (t : List ℕ) → waitingForm k t ≡ true → (p : List ℕ) → p ∈ places_of t → placeForm k p ≡ true
-place-formed k t f p m = placed-in k 0 (places_of t) (form-placed k t f) p m
+pub place_formed : (k : Own) (t : List ℕ) → waiting_form k t ≡ true → (p : List ℕ) → p ∈ places_of t → place_form k p ≡ true
+place_formed k t f p m = placed_in k 0 (places_of t) (form-placed k t f) p m
 
-pub table-ext : (k : Own) (a b : List ℕ) → waitingForm k a ≡ true → waitingForm k b ≡ true
+pub table_ext : (k : Own) (a b : List ℕ) → waiting_form k a ≡ true → waiting_form k b ≡ true
     → ((p : List ℕ) → p ∈ places_of a → p ∈ places_of b) → ((p : List ℕ) → p ∈ places_of b → p ∈ places_of a) → a ≡ b
-table-ext k a b fa fb to from =
+table_ext k a b fa fb to from =
     (form_of k a fa).bytes
-    ∙ ap (bytes_of 2240) (rise-ext id_of 0 0 (places_of a) (places_of b) (places-rise k a fa) (places-rise k b fb) to from)
+    ∙ ap (bytes_of 2240) (rise-ext id_of 0 0 (places_of a) (places_of b) (places_rise k a fa) (places_rise k b fb) to from)
     ∙ sym (form_of k b fb).bytes
 
 pub table_same : (k : Own) (a b : List ℕ) (P Q : List ℕ → Type 0) → WaitsExactly k a P → WaitsExactly k b Q
     → ((p : List ℕ) → P p → Q p) → ((p : List ℕ) → Q p → P p) → a ≡ b
 table_same k a b P Q c d to from =
-    table-ext k a b c.form d.form (λ p m. (d.members p).1 (to p ((c.members p).0 m))) (λ p m. (c.members p).1 (from p ((d.members p).0 m)))
+    table_ext k a b c.form d.form (λ p m. (d.members p).1 (to p ((c.members p).0 m))) (λ p m. (c.members p).1 (from p ((d.members p).0 m)))

@@ -12,25 +12,25 @@ use borrow.Author.Tests.{le-leb, leb-true, not-true}
 use Rattle.octet.specs.Number.{Bytes}
 use Rattle.octet.specs.Part.{part, same}
 use Rattle.octet.proofs.TestLaws.{both_true, same_refl}
-use Rattle.refusal.specs.Table.{Refusal, first_of, place_in, InOrder, byNumber}
-use Rattle.refusal.proofs.TableLaws.{AllFail, all-fail, both, sooner}
+use Rattle.refusal.specs.Table.{Refusal, first_of, place_in, InOrder, by_number}
+use Rattle.refusal.proofs.TableLaws.{AllFail, all_fail, both, sooner}
 use Rattle.refusal.proofs.CallLaws.{number_is, all_pass}
 use Rattle.kept.proofs.ListLaws.{Test, pass, fail, test}
-use Rattle.wire_fields.specs.Kinds.{kindsOf, present}
+use Rattle.wire_fields.specs.Kinds.{kinds_of, present}
 use Rattle.wire_fields.specs.Message.{opening, type_of}
 use Rattle.wire_fields.specs.Refusals as fields
-use Rattle.wire_fields.specs.Refusals.{inPart, fieldsIn}
+use Rattle.wire_fields.specs.Refusals.{in_part, fields_in}
 use Rattle.wire_read.specs.Answers as R
 use Rattle.wire_read.specs.Meaning.{number_of}
 use Rattle.wire_read.specs.declared.Incoming as T
 use Rattle.wire_read.specs.declared.Incoming.TheVariants as M
 use Rattle.gauge_plan.specs.Lent.{Memory, Receive}
-use Rattle.gauge_laws.specs.Table.{messageRows}
+use Rattle.gauge_laws.specs.Table.{message_rows}
 use Rattle.gauge_laws.proofs.TableLaws.{IsMessage, shown-message}
 use Rattle.sentences.specs.Heard.{Heard}
 use Rattle.sentences.specs.Numbers as Num
 use Rattle.sentences.proofs.MoveLaws.{holds_not}
-use Rattle.sentences.proofs.HeardLaws.{heardBy, answer-hears, hears-answer}
+use Rattle.sentences.proofs.HeardLaws.{heard_by, answer-hears, hears-answer}
 use Rattle.sentences.proofs.WordLaws.{not_iff, message-zero}
 use Rattle.sentences.proofs.PartLaws.{part-to, part-from}
 use Rattle.sentences.proofs.FirstLaws.{Row}
@@ -41,12 +41,12 @@ module _ (m : Memory) (l : Receive) where
   d = l.datagram
 
   abbrev a : T.Incoming
-  a = R.readIn l.datagram l.major
+  a = R.read_in l.datagram l.major
 
   abbrev rs : List Refusal
   rs = fields.refusals l.datagram l.major
 
-  order : InOrder byNumber 1 rs
+  order : InOrder by_number 1 rs
   order = (
     omega arith,
     omega arith,
@@ -67,12 +67,12 @@ module _ (m : Memory) (l : Receive) where
 
   -- the number of reading is that of its rows
   read_number : number_of a ≡ first_of rs
-  unfolding fields.foundIn R.incomingOf
+  unfolding fields.foundIn R.incoming_of
   read_number =
-      number_is (λ (f : fields.Found). number_of (R.incomingOf d f)) fields.refused (λ m. refl)
-      (fields.found (type_of d) (fields.spansOf (fieldsIn d)))
-      (message-zero (R.incomingOf d (fields.found (type_of d) (fields.spansOf (fieldsIn d))))
-      (shown-message d (type_of d) (fields.spansOf (fieldsIn d)))) rs
+      number_is (λ (f : fields.Found). number_of (R.incoming_of d f)) fields.refused (λ m. refl)
+      (fields.found (type_of d) (fields.spansOf (fields_in d)))
+      (message-zero (R.incoming_of d (fields.found (type_of d) (fields.spansOf (fields_in d))))
+      (shown-message d (type_of d) (fields.spansOf (fields_in d)))) rs
 
   fails-first : (ts : List Refusal) → AllFail ts → first_of ts ≡ 0
   unfolding first_of
@@ -80,7 +80,7 @@ module _ (m : Memory) (l : Receive) where
   fails-first (r ∷ ts) f = rw f.0 (fails-first ts f.1)
 
   pub zero-fails : number_of a ≡ 0 → AllFail rs
-  zero-fails z = all-fail byNumber rs 1 order (sym read_number ∙ z)
+  zero-fails z = all_fail by_number rs 1 order (sym read_number ∙ z)
 
   fails-zero : AllFail rs → number_of a ≡ 0
   fails-zero f = read_number ∙ fails-first rs f
@@ -88,11 +88,11 @@ module _ (m : Memory) (l : Receive) where
   pub fails-message : AllFail rs → IsMessage a
   unfolding fields.foundIn
   fails-message f =
-      subst (λ (y : fields.Found). IsMessage (R.incomingOf d y))
-      (sym (all_pass fields.refused rs (fields.found (type_of d) (fields.spansOf (fieldsIn d))) f))
-      (shown-message d (type_of d) (fields.spansOf (fieldsIn d)))
+      subst (λ (y : fields.Found). IsMessage (R.incoming_of d y))
+      (sym (all_pass fields.refused rs (fields.found (type_of d) (fields.spansOf (fields_in d))) f))
+      (shown-message d (type_of d) (fields.spansOf (fields_in d)))
 
-  pub rows-message : (n : ℕ) (y : T.Incoming) → Row n (messageRows m l y) → IsMessage y
+  pub rows-message : (n : ℕ) (y : T.Incoming) → Row n (message_rows m l y) → IsMessage y
   rows-message n (M.Refused m) w = w
   rows-message n (M.Solicit x) w = tt
   rows-message n (M.Advertise x) w = tt
@@ -122,7 +122,7 @@ module _ (m : Memory) (l : Receive) where
 
   module _ (bytes : Bytes l.datagram) (n : ℕ) (low : First m l n) where
     -- nothing before 6 applies and the fields are there: a message is read
-    all_read : n ≡ 6 → inPart (type_of d) d ≡ false → present (fieldsIn d) ≡ true → AllFail rs
+    all_read : n ≡ 6 → in_part (type_of d) d ≡ false → present (fields_in d) ≡ true → AllFail rs
     all_read h p t = (
       holds_not (not (leb 12 (length d) && leb (length d) 1232))
           (λ e. low 2 (sooner 2 6 (unfold place_in in refl) h) (Num.wrong-length refl (λ w. both (long-is w) (not-true _ e)))),
@@ -131,7 +131,7 @@ module _ (m : Memory) (l : Receive) where
         (
           holds_not (not (eqb (get_or d 5 0) l.major)) (λ e. low 4 (sooner 4 6 (unfold place_in in refl) h) (Num.not-major refl ((not_iff (get_or d 5 0) l.major).0 e))),
           (
-            holds_not (not (present (kindsOf (type_of d)))) (λ e. low 5 (sooner 5 6 (unfold place_in in refl) h) (Num.not_known refl (unknown (kindsOf (type_of d)) e))),
+            holds_not (not (present (kinds_of (type_of d)))) (λ e. low 5 (sooner 5 6 (unfold place_in in refl) h) (Num.not_known refl (unknown (kinds_of (type_of d)) e))),
             (
               rw (p, t) refl,
               (p, tt),
@@ -142,20 +142,20 @@ module _ (m : Memory) (l : Receive) where
     )
 
     -- the rows of reading and the clauses 2 to 7
-    pub read-row : n ≡ 6 → inPart (type_of d) d ≡ false → ¬ ((x : Heard) × Num.Says l x) → Row n rs
-    read-row e p h = go (test (present (fieldsIn d)))
+    pub read-row : n ≡ 6 → in_part (type_of d) d ≡ false → ¬ ((x : Heard) × Num.Says l x) → Row n rs
+    read-row e p h = go (test (present (fields_in d)))
       where
-        go : Test (present (fieldsIn d)) → Row n rs
-        go (pass t) = absurd (h (heardBy d a, answer-hears d bytes l.major (fails-zero (all_read e p t))))
+        go : Test (present (fields_in d)) → Row n rs
+        go (pass t) = absurd (h (heard_by d a, answer-hears d bytes l.major (fails-zero (all_read e p t))))
         go (fail t) = inr (inr (inr (inr (inl (e, rw (p, t) refl)))))
 
     pub row_read : Row n rs → Clause m l n
     row_read (inl w) = Num.wrong-length w.0 (λ v. both (long-is v) (not-true _ w.1))
     row_read (inr (inl w)) = Num.not_opened w.0 (λ v. both (opened-is v) (not-true _ w.1))
     row_read (inr (inr (inl w))) = Num.not-major w.0 ((not_iff (get_or d 5 0) l.major).0 w.1)
-    row_read (inr (inr (inr (inl w)))) = Num.not_known w.0 (unknown (kindsOf (type_of d)) w.1)
+    row_read (inr (inr (inr (inl w)))) = Num.not_known w.0 (unknown (kinds_of (type_of d)) w.1)
     row_read (inr (inr (inr (inr (inl w))))) =
-        let v = both_true (not (inPart (type_of d) d)) (not (present (fieldsIn d))) w.1 in
+        let v = both_true (not (in_part (type_of d) d)) (not (present (fields_in d))) w.1 in
         Num.not-read w.0 (λ y. both (part-from d y) (not-true _ v.0))
         (λ x. both w.1 (zero-fails (hears-answer d bytes l.major x.0 x.1).0).1.1.1.1.0)
     row_read (inr (inr (inr (inr (inr (inl w)))))) = Num.in-part w.0 (part-to d w.1)

@@ -13,21 +13,21 @@ use borrow.Author.Tests.{eqb-true, leb-true, not-false}
 use Rattle.octet.specs.Number.{Bytes}
 use Rattle.octet.specs.Part.{part, same}
 use Rattle.octet.proofs.TestLaws.{both_true, same-eq}
-use Rattle.refusal.specs.Table.{first_of, order, place_in, Before, byNumber}
-use Rattle.refusal.proofs.TableLaws.{AllFail, all-fail, both, places-differ}
+use Rattle.refusal.specs.Table.{first_of, order, place_in, Before, by_number}
+use Rattle.refusal.proofs.TableLaws.{AllFail, all_fail, both, places_differ}
 use Rattle.refusal.proofs.CallLaws.{number_is}
 use Rattle.kept.proofs.PutLaws.{Tri, less, more, tri}
 use Rattle.kept.proofs.PutLaws as put
 use Rattle.wire_shapes.specs.Shapes.{Kind}
-use Rattle.wire_fields.specs.Kinds.{kindsOf, present}
+use Rattle.wire_fields.specs.Kinds.{kinds_of, present}
 use Rattle.wire_fields.specs.Message.{opening, type_of}
 use Rattle.wire_fields.specs.Refusals as fields
-use Rattle.wire_fields.specs.Refusals.{fieldsIn, refusals}
+use Rattle.wire_fields.specs.Refusals.{fields_in, refusals}
 use Rattle.wire_read.specs.Answers as R
 use Rattle.wire_read.specs.Meaning.{number_of}
 use Rattle.gauge_commit.specs.Sending.{answer, Handed, handed}
 use Rattle.gauge_plan.specs.Lent.{Memory, Receive, hearing, Call, receives, ReceiveLent}
-use Rattle.gauge_plan.proofs.MemoryLaws.{lent-hearing}
+use Rattle.gauge_plan.proofs.MemoryLaws.{lent_hearing}
 use Rattle.gauge_laws.proofs.TableLaws.{shown-message}
 use Rattle.gauge.specs.Words.{Gauge}
 use Rattle.sentences.specs.Heard.{Heard, entry, revoke, inquire, authority, ack, lookup, other, Hears}
@@ -35,7 +35,7 @@ use Rattle.sentences.specs.Sentences as S
 use Rattle.sentences.specs.Numbers as Num
 use Rattle.sentences.specs.Meets.{MeetsSentences}
 use Rattle.sentences.specs.Same.{SameHeard}
-use Rattle.sentences.proofs.OneLaws.{hears-one, receives-one, holds}
+use Rattle.sentences.proofs.OneLaws.{hears_one, receives-one, holds}
 use Rattle.sentences.proofs.HeardLaws.{hears-answer}
 use Rattle.sentences.proofs.WordLaws.{message-zero}
 use Rattle.sentences.proofs.PartLaws.{part-from}
@@ -43,16 +43,16 @@ use Rattle.sentences.proofs.PartLaws.{part-from}
 -- ---- what was heard was read: none of the numbers 2 to 7 applies
 
 module _ (l : Receive) where
-  read_number : number_of (R.readIn l.datagram l.major) ≡ first_of (refusals l.datagram l.major)
-  unfolding fields.foundIn R.incomingOf
+  read_number : number_of (R.read_in l.datagram l.major) ≡ first_of (refusals l.datagram l.major)
+  unfolding fields.foundIn R.incoming_of
   read_number =
       let d = l.datagram in
-      let found = fields.found (type_of d) (fields.spansOf (fieldsIn d)) in
-      number_is (λ (f : fields.Found). number_of (R.incomingOf d f)) fields.refused (λ m. refl) found
-      (message-zero (R.incomingOf d found) (shown-message d (type_of d) (fields.spansOf (fieldsIn d)))) (refusals d l.major)
+      let found = fields.found (type_of d) (fields.spansOf (fields_in d)) in
+      number_is (λ (f : fields.Found). number_of (R.incoming_of d f)) fields.refused (λ m. refl) found
+      (message-zero (R.incoming_of d found) (shown-message d (type_of d) (fields.spansOf (fields_in d)))) (refusals d l.major)
 
-  zero-fails : number_of (R.readIn l.datagram l.major) ≡ 0 → AllFail (refusals l.datagram l.major)
-  zero-fails z = all-fail byNumber (refusals l.datagram l.major) 1 (omega arith) (sym read_number ∙ z)
+  zero-fails : number_of (R.read_in l.datagram l.major) ≡ 0 → AllFail (refusals l.datagram l.major)
+  zero-fails z = all_fail by_number (refusals l.datagram l.major) 1 (omega arith) (sym read_number ∙ z)
 
 -- ---- from one datagram to the other
 
@@ -70,13 +70,13 @@ module _ (m : Memory) (c : Receive) (d d' : List ℕ) (b : Bytes d) (x : Heard) 
   fails = zero-fails l (hears-answer d b major x a).0
 
   heard-too : (y : Heard) → Hears d major y → Hears d' major y
-  heard-too y h = subst (Hears d' major) (hears-one d major x y a h) a'
+  heard-too y h = subst (Hears d' major) (hears_one d major x y a h) a'
 
   lent-too : ReceiveLent m l → ReceiveLent m l'
-  lent-too w = lent-hearing m l d' w
+  lent-too w = lent_hearing m l d' w
 
   lent_back : ReceiveLent m l' → ReceiveLent m l
-  lent_back w = lent-hearing m l' d w
+  lent_back w = lent_hearing m l' d w
 
   reply-too : (y : Heard) (ds : List (List ℕ)) → S.Reply m l y ds → S.Reply m l' y ds
   reply-too (entry i silent validate r) ds w = record { n = w.n; ask = w.ask; set = w.set; asked = w.asked; are = w.are }
@@ -119,7 +119,7 @@ module _ (m : Memory) (c : Receive) (d d' : List ℕ) (b : Bytes d) (x : Heard) 
       let w = both_true (leb 12 (length d)) (leb (length d) 1232) (not-false _ fails.0) in
       (leb-true 12 (length d) w.0, leb-true (length d) 1232 w.1)
 
-  is_known : kindsOf (type_of d) ≡ none → ⊥
+  is_known : kinds_of (type_of d) ≡ none → ⊥
   is_known e = both (ap (λ (o : Option (List Kind)). not (present o)) e) fails.1.1.1.0
 
   applies-too : (n : ℕ) → Num.ReceiveApplies m l n → Num.ReceiveApplies m l' n
@@ -133,7 +133,7 @@ module _ (m : Memory) (c : Receive) (d d' : List ℕ) (b : Bytes d) (x : Heard) 
   applies-too n (Num.in-part e p) = both (part-from d p) fails.1.1.1.1.1.0
   applies-too n (Num.no-flood e acked y says h) = Num.no-flood e acked y (heard-too _ says) h
   applies-too n (Num.no-inquiry e acked c says h) = Num.no-inquiry e acked c (heard-too _ says) h
-  applies-too n (Num.no-cpa e acked says) = Num.no-cpa e acked (heard-too _ says)
+  applies-too n (Num.no_cpa e acked says) = Num.no_cpa e acked (heard-too _ says)
   applies-too n (Num.bad-authority e acked c says h) = Num.bad-authority e acked c (heard-too _ says) h
   applies-too n (Num.bad-revocation e i s validate says h) = Num.bad-revocation e i s validate (heard-too _ says) h
   applies-too n (Num.other_key e acked says good p w h) = Num.other_key e acked (heard-too _ says) good p w h
@@ -164,7 +164,7 @@ module _ (A B : ℕ → Type 0) (to : (n : ℕ) → A n → B n) (from : (n : �
         where
           by : Tri (place_in order (suc i)) (place_in order (suc j)) → a ≡ b
           by (less k) = absurd (((r (suc j) (omega arith)).0 e).1 (suc i) k (to (suc i) ((p (suc i) (omega arith)).0 d).0))
-          by (put.same k) = d ∙ places-differ order (suc i) (suc j) k ∙ sym e
+          by (put.same k) = d ∙ places_differ order (suc i) (suc j) k ∙ sym e
           by (more k) = absurd (((p (suc i) (omega arith)).0 d).1 (suc j) k (from (suc j) ((r (suc j) (omega arith)).0 e).0))
 
 -- ---- the whole

@@ -16,19 +16,19 @@ use Rattle.kept.specs.Keys.{◌∈◌}
 use Rattle.cache.specs.Form.{held_of}
 use Rattle.waiting.specs.Place.{id_of, kind_of}
 use Rattle.table.specs.Rows.{any_of}
-use Rattle.waiting.specs.Form.{isInquiry, places_of}
+use Rattle.waiting.specs.Form.{is_inquiry, places_of}
 use Rattle.table.specs.Seek.{seek}
 use Rattle.waiting.specs.Seek.{is_at}
 use Rattle.table.specs.declared.Found.{Found}
 use Rattle.wire_read.specs.Meaning.{number_of}
 use Rattle.wire_read.specs.declared.Incoming as T
 use Rattle.wire_read.specs.declared.Incoming.TheVariants as M
-use Rattle.asking.specs.Asking.{mustAsk}
-use Rattle.gauge_plan.specs.Found.{isNothing, place_of}
+use Rattle.asking.specs.Asking.{must_ask}
+use Rattle.gauge_plan.specs.Found.{is_nothing, place_of}
 use Rattle.gauge_plan.specs.Lent.{Memory}
 use Rattle.gauge_laws.proofs.TableLaws.{IsMessage}
 use Rattle.sentences.specs.Sentences as S
-use Rattle.sentences.proofs.MoveLaws.{holds_not, none_in, in-none, found_in, seek-some, seek-none, is-inquiry, inquiry-is}
+use Rattle.sentences.proofs.MoveLaws.{holds_not, none_in, in_none, found_in, seek-some, seek-none, is_inquiry_lem, inquiry-is}
 
 -- ---- tests and what they say
 
@@ -36,34 +36,34 @@ pub not_iff : (a b : ℕ) → (not (eqb a b) ≡ true) ↔ (¬ (a ≡ b))
 not_iff a b = (λ e d. both (sym (ap not (eq-eqb a b d)) ∙ e) refl, λ h. ap not (ne_eqb a b h))
 
 -- no inquiry for its key waits, by the test
-pub none-asked : (k : Own) (m : Memory) (r : List ℕ) → S.MustAsk k m r → any_of (isInquiry (key_of r)) (places_of m.waiting) ≡ false
+pub none-asked : (k : Own) (m : Memory) (r : List ℕ) → S.MustAsk k m r → any_of (is_inquiry (key_of r)) (places_of m.waiting) ≡ false
 none-asked k m r h =
-    in-none (isInquiry (key_of r)) (places_of m.waiting) (λ q i. holds_not (isInquiry (key_of r) q) (λ e. h.1 (q, i, inquiry-is (key_of r) q e)))
+    in_none (is_inquiry (key_of r)) (places_of m.waiting) (λ q i. holds_not (is_inquiry (key_of r) q) (λ e. h.1 (q, i, inquiry-is (key_of r) q e)))
 
 -- whether the record must be inquired about
-ask-by : (x y : Bool) → not x && not y ≡ true → (x ≡ false) × (y ≡ false)
-ask-by false false e = (refl, refl)
-ask-by false true e = both e refl
-ask-by true y e = both e refl
+ask_by : (x y : Bool) → not x && not y ≡ true → (x ≡ false) × (y ≡ false)
+ask_by false false e = (refl, refl)
+ask_by false true e = both e refl
+ask_by true y e = both e refl
 
-pub must-iff : (k : Own) (m : Memory) (r : List ℕ) → (mustAsk (held_of k m.cache) (places_of m.waiting) r ≡ true) ↔ S.MustAsk k m r
-unfolding mustAsk
-must-iff k m r = (to, from)
+pub must_iff : (k : Own) (m : Memory) (r : List ℕ) → (must_ask (held_of k m.cache) (places_of m.waiting) r ≡ true) ↔ S.MustAsk k m r
+unfolding must_ask
+must_iff k m r = (to, from)
   where
-    to : not (any_of (λ (q : List ℕ). same q r) (held_of k m.cache)) && not (any_of (isInquiry (key_of r)) (places_of m.waiting)) ≡ true
+    to : not (any_of (λ (q : List ℕ). same q r) (held_of k m.cache)) && not (any_of (is_inquiry (key_of r)) (places_of m.waiting)) ≡ true
         → S.MustAsk k m r
     to e =
-        let w = ask-by _ _ e in (
+        let w = ask_by _ _ e in (
           λ h. both (same_refl r) (none_in (λ (q : List ℕ). same q r) (held_of k m.cache) w.0 r h),
-          λ p. both (is-inquiry (key_of r) p.0 p.2) (none_in (isInquiry (key_of r)) (places_of m.waiting) w.1 p.0 p.1),
+          λ p. both (is_inquiry_lem (key_of r) p.0 p.2) (none_in (is_inquiry (key_of r)) (places_of m.waiting) w.1 p.0 p.1),
         )
 
     not-held : S.MustAsk k m r → (q : List ℕ) → q ∈ held_of k m.cache → same q r ≡ false
     not-held h q i = holds_not (same q r) (λ e. h.0 (subst (λ (x : List ℕ). x ∈ held_of k m.cache) (same-eq q r e) i))
 
     from : S.MustAsk k m r → not (any_of (λ (q : List ℕ). same q r) (held_of k m.cache))
-        && not (any_of (isInquiry (key_of r)) (places_of m.waiting)) ≡ true
-    from h = rw (in-none (λ (q : List ℕ). same q r) (held_of k m.cache) (not-held h), none-asked k m r h) refl
+        && not (any_of (is_inquiry (key_of r)) (places_of m.waiting)) ≡ true
+    from h = rw (in_none (λ (q : List ℕ). same q r) (held_of k m.cache) (not-held h), none-asked k m r h) refl
 
 -- ---- the place that an AUTHORITY or an ACK answers
 
@@ -74,7 +74,7 @@ module _ (m : Memory) (kind acked : ℕ) where
   abbrev found : Found
   found = seek (is_at acked kind) 0 (places_of m.waiting)
 
-  pub found-waits : isNothing found ≡ false → S.WaitsAs m kind acked (get_or ps (place_of found) [])
+  pub found-waits : is_nothing found ≡ false → S.WaitsAs m kind acked (get_or ps (place_of found) [])
   found-waits e =
       let p = get_or ps (place_of found) [] in
       let w = found_in (is_at acked kind) (place_of found) ps (seek-some (is_at acked kind) ps e) in
@@ -84,16 +84,16 @@ module _ (m : Memory) (kind acked : ℕ) where
   waits-at : (p : List ℕ) → S.WaitsAs m kind acked p → is_at acked kind p ≡ true
   waits-at p w = rw (eq-eqb (id_of p) acked w.1, eq-eqb (kind_of p) kind w.2) refl
 
-  pub none-iff-not : (isNothing found ≡ true) ↔ (¬ ((p : List ℕ) × S.WaitsAs m kind acked p))
+  pub none-iff-not : (is_nothing found ≡ true) ↔ (¬ ((p : List ℕ) × S.WaitsAs m kind acked p))
   none-iff-not = (to, from)
     where
-      to : isNothing found ≡ true → ¬ ((p : List ℕ) × S.WaitsAs m kind acked p)
+      to : is_nothing found ≡ true → ¬ ((p : List ℕ) × S.WaitsAs m kind acked p)
       to e w = both (waits-at w.0 w.1) (none_in (is_at acked kind) ps (seek-none (is_at acked kind) ps e) w.0 w.1.0)
 
-      from : ¬ ((p : List ℕ) × S.WaitsAs m kind acked p) → isNothing found ≡ true
-      from h = go (isNothing found) refl
+      from : ¬ ((p : List ℕ) × S.WaitsAs m kind acked p) → is_nothing found ≡ true
+      from h = go (is_nothing found) refl
         where
-          go : (y : Bool) → isNothing found ≡ y → isNothing found ≡ true
+          go : (y : Bool) → is_nothing found ≡ y → is_nothing found ≡ true
           go true e = e
           go false e = absurd (h (get_or ps (place_of found) [], found-waits e))
 

@@ -1,8 +1,8 @@
 -- To believe. What a datagram says to a gauge: of the message that it reads as, what document 01's rules speak of. Assumes nothing.
 use Rattle.std.specs.Prelude.{ℕ, Bool, cond, List, [], ◌≡◌, eqb, get_or, drop}
 use Rattle.std.proofs.Math.Option.{Option, some, none}
-use Rattle.octet.specs.Number.{valueBE}
-use Rattle.record.specs.Entry.{recordOf}
+use Rattle.octet.specs.Number.{value_be}
+use Rattle.record.specs.Entry.{record_of}
 use Rattle.wire_shapes.specs.Shapes.{Kind}
 use Rattle.wire_fields.specs.Kinds.{present}
 use Rattle.wire_fields.specs.Message.{Contents, Message, Reads}
@@ -37,26 +37,26 @@ inside i msg = contents (field i msg)
 
 -- the number inside field i; the flag that is the last bit of its second byte, of which a message has no other bit, clear where the field is absent
 abbrev pub number_in : ℕ → Message → ℕ
-number_in i msg = valueBE 256 (inside i msg)
+number_in i msg = value_be 256 (inside i msg)
 
-abbrev pub flagIn : ℕ → Message → Bool
-flagIn i msg = eqb (get_or (inside i msg) 1 0) 1
+abbrev pub flag_in : ℕ → Message → Bool
+flag_in i msg = eqb (get_or (inside i msg) 1 0) 1
 
 -- the record that a route entry names
-abbrev pub entryIn : Contents → Option (List ℕ)
-entryIn none = none
-entryIn (some v) = some (recordOf v)
+abbrev pub entry_in : Contents → Option (List ℕ)
+entry_in none = none
+entry_in (some v) = some (record_of v)
 
 -- an array's elements stand behind 8 bytes with their count, the array's length, their number and size
 unfoldable pub heard : Message → Heard
 heard msg =
     cond (eqb msg.type 4)
-    (cond (present (field 4 msg)) (entry msg.id (flagIn 0 msg) (number_in 1 msg) (recordOf (inside 4 msg)))
-    (revoke msg.id (flagIn 0 msg) (number_in 1 msg)))
+    (cond (present (field 4 msg)) (entry msg.id (flag_in 0 msg) (number_in 1 msg) (record_of (inside 4 msg)))
+    (revoke msg.id (flag_in 0 msg) (number_in 1 msg)))
     (cond (eqb msg.type 7) (inquire msg.id (number_in 1 msg))
     (cond (eqb msg.type 8) (authority (number_in 0 msg) (present (field 8 msg)))
-    (cond (eqb msg.type 9) (ack (number_in 0 msg) (flagIn 1 msg))
-    (cond (eqb msg.type 11) (lookup msg.id (number_in 1 msg) (drop 8 (inside 4 msg)) (entryIn (field 3 msg)))
+    (cond (eqb msg.type 9) (ack (number_in 0 msg) (flag_in 1 msg))
+    (cond (eqb msg.type 11) (lookup msg.id (number_in 1 msg) (drop 8 (inside 4 msg)) (entry_in (field 3 msg)))
     other))))
 
 -- the datagram d, in the major version, says x

@@ -5,7 +5,7 @@ use Rattle.std.specs.Prelude.{ℕ, Bool, ◌⊎◌, List, [], ◌∷◌, ◌≡�
 use Rattle.std.proofs.Math.Option.{some}
 use Rattle.key.specs.Number.{key_at}
 use Rattle.record.specs.Record.{key_of}
-use Rattle.own.specs.Own.{Own, ownKeys}
+use Rattle.own.specs.Own.{Own, own_keys}
 use Rattle.kept.specs.Keys.{Every}
 use Rattle.gauge_plan.specs.Lent.{Memory, Call, receives, sends, ticks, lists}
 use Rattle.gauge.specs.Words.{Gauge, left, Typed, OneKey}
@@ -31,9 +31,9 @@ Answers u (lists l) = ⊥
 abbrev pub AsksFor : ℕ → Memory → Call → Type 0
 AsksFor u m (receives l) =
     ((i : ℕ) × (silent : Bool) × (validate : ℕ) × (r : List ℕ) × Hears l.datagram l.major (entry i silent validate r) × (key_of r ≡ u)
-    × MustAsk (ownKeys l.own) m r)
+    × MustAsk (own_keys l.own) m r)
     ⊎ ((i target : ℕ) × (path r : List ℕ) × Hears l.datagram l.major (lookup i target path (some r)) × (key_of r ≡ u)
-    × MustAsk (ownKeys l.own) m r)
+    × MustAsk (own_keys l.own) m r)
 AsksFor u m (sends l) = ⊥
 AsksFor u m (ticks l) = ⊥
 AsksFor u m (lists l) = ⊥

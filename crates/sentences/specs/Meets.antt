@@ -2,7 +2,7 @@
 use Rattle.std.specs.Prelude.{ℕ, ◌<◌, ◌↔◌, ◌≡◌}
 use Rattle.refusal.specs.Table.{Before}
 use Rattle.gauge_commit.specs.Sending.{answer, handed}
-use Rattle.gauge_plan.specs.Lent.{Memory, Call, outputOf}
+use Rattle.gauge_plan.specs.Lent.{Memory, Call, output_of}
 use Rattle.gauge.specs.Words.{Gauge, Typed}
 use Rattle.sentences.specs.Sentences.{Does}
 use Rattle.sentences.specs.Numbers.{Applies}
@@ -14,7 +14,7 @@ pub record MeetsTable (g : Gauge) : Type 0 where
       → ((g m c).answer.number ≡ n) ↔ (Applies m c n × ((i : ℕ) → Before i n → ¬ Applies m c i))
   pub accepted : (m : Memory) (c : Call) → Typed c → ((g m c).answer.number ≡ 0) ↔ ((i : ℕ) → ¬ Applies m c i)
   -- "With any refusal the counts returned are 0 .. and every writable byte stays as lent"
-  pub keeps : (m : Memory) (c : Call) → 0 < (g m c).answer.number → g m c ≡ handed (answer (g m c).answer.number 0 0) m (outputOf c)
+  pub keeps : (m : Memory) (c : Call) → 0 < (g m c).answer.number → g m c ≡ handed (answer (g m c).answer.number 0 0) m (output_of c)
 
 -- the table, and "What each call does": accepted, a call does what its sentence says
 pub record MeetsSentences (g : Gauge) : Type 0 where

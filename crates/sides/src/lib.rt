@@ -4,15 +4,15 @@ ghost use Rattle.key.specs.Number.{key_at};
 ghost use Rattle.record.specs.Record.{key_of};
 ghost use Rattle.table.specs.Rows.{rows};
 ghost use Rattle.kept.specs.Keys.{Every, Rising, plain};
-ghost use Rattle.kept.specs.Plain.{countBelow};
-ghost use Rattle.kept.specs.Turned.{countUnder, countUpto};
+ghost use Rattle.kept.specs.Plain.{count_below};
+ghost use Rattle.kept.specs.Turned.{count_under, count_upto};
 
 // How many of the keys held are smaller numbers than our own: so many places stand before the first that is above it.
 pub fn count_under(own: &[u8], cache: &[u8], used: usize) -> usize
     requires in_bounds { 32 ≤ length own.now }
     requires used_in_bounds { 100 * used ≤ length cache.now }
     requires rising { Rising plain 0 (map key_of (rows 100 used cache.now)) }
-    ensures { result ≡ countUnder (key_of own.now) (map key_of (rows 100 used cache.now)) }
+    ensures { result ≡ count_under (key_of own.now) (map key_of (rows 100 used cache.now)) }
 {
     let sought = search::find_key(cache, used, own);
     sought.at
@@ -23,7 +23,7 @@ fn count_upto(cache: &[u8], used: usize, key: &[u8]) -> usize
     requires used_in_bounds { 100 * used ≤ length cache.now }
     requires in_bounds { 32 ≤ length key.now }
     requires rising { Rising plain 0 (map key_of (rows 100 used cache.now)) }
-    ensures { result ≡ countUpto (key_at 0 key.now) (map key_of (rows 100 used cache.now)) }
+    ensures { result ≡ count_upto (key_at 0 key.now) (map key_of (rows 100 used cache.now)) }
 {
     let sought = search::find_key(cache, used, key);
     if sought.held {
@@ -38,8 +38,8 @@ pub fn count_below(own: &[u8], cache: &[u8], used: usize, first: usize) -> usize
     requires in_bounds { (32 ≤ length own.now) × (100 * used ≤ length cache.now) }
     requires rising { Rising plain 0 (map key_of (rows 100 used cache.now)) }
     requires every { Every (λ (k : ℕ). ¬ (k ≡ key_of own.now)) (map key_of (rows 100 used cache.now)) }
-    requires first_value { first ≡ countUnder (key_of own.now) (map key_of (rows 100 used cache.now)) }
-    ensures { result ≡ countBelow (key_of own.now) (map key_of (rows 100 used cache.now)) }
+    requires first_value { first ≡ count_under (key_of own.now) (map key_of (rows 100 used cache.now)) }
+    ensures { result ≡ count_below (key_of own.now) (map key_of (rows 100 used cache.now)) }
 {
     let opposite = ring::opposite(own);
     if own[0] < 128 {

@@ -10,52 +10,52 @@ use lib.ListN.{length, replicate, length-append, length-map}
 use borrow.Author.Tests.{le-ltb}
 use Rattle.key.specs.Around.{Side, side_of, nearness}
 use Rattle.record.specs.Record.{key_of}
-use Rattle.own.specs.Own.{Own, ownKeys}
+use Rattle.own.specs.Own.{Own, own_keys}
 use Rattle.kept.specs.Keys.{◌∈◌, Every, Rising, plain, put}
-use Rattle.kept.specs.History.{Event, learned, trimmed, learnWith, happen, after, Learns, NoRemoval, learnedAll}
+use Rattle.kept.specs.History.{Event, learned, trimmed, learn_with, happen, after, Learns, NoRemoval, learned_all}
 use Rattle.kept.specs.Neighbours.{IsNeighbours}
 use Rattle.kept.specs.Plain.{NotOwn, neighbours, drops, kept}
 use Rattle.kept.proofs.PutLaws.{put-nil, put-more}
-use Rattle.kept.proofs.ListLaws.{every-at}
-use Rattle.kept.proofs.CallLaws.{after-append, learns-or}
-use Rattle.cache.specs.Form.{cacheForm, keys_of, held_of}
-use Rattle.cache.proofs.FormLaws.{true-form, form-room}
-use Rattle.firsts.specs.Firsts.{firstsOf}
-use Rattle.firsts.proofs.FirstsLaws.{firsts-none}
+use Rattle.kept.proofs.ListLaws.{every_at}
+use Rattle.kept.proofs.CallLaws.{after_append, learns_or}
+use Rattle.cache.specs.Form.{cache_form, keys_of, held_of}
+use Rattle.cache.proofs.FormLaws.{true_form, form-room}
+use Rattle.firsts.specs.Firsts.{firsts_of}
+use Rattle.firsts.proofs.FirstsLaws.{firsts_none}
 use Rattle.waiting.proofs.FormLaws as WF
 use Rattle.waiting.proofs.RoundLaws.{All}
 use Rattle.gauge_commit.specs.Sending.{OnlyFirst, Handed}
-use Rattle.gauge_plan.specs.Lent.{Memory, memory, InForm, empty, Call, lists, own_of, outputOf}
+use Rattle.gauge_plan.specs.Lent.{Memory, memory, InForm, empty, Call, lists, own_of, output_of}
 use Rattle.gauge.specs.Words.{Gauge, left, Entry, entry, log, returned, Typed, Proper}
 use Rattle.gauge.specs.Ours.{ours}
 use Rattle.sentences.specs.Sentences.{NeighbourList}
 use Rattle.sentences.specs.Meets.{MeetsSentences}
 use Rattle.sentences.proofs.Theorems.{acts}
-use Rattle.sentences.proofs.FirstsLaws.{always-counted}
+use Rattle.sentences.proofs.FirstsLaws.{always_counted}
 use Rattle.signed.specs.Events.{Happened}
 use Rattle.signed.specs.Statements.{ListsThese, MeetsDemand1, MeetsDemand2, Demand3, MeetsDemand3}
 use Rattle.signed.specs.From as F
-use Rattle.signed.proofs.ToldLaws.{events, log-happened}
+use Rattle.signed.proofs.ToldLaws.{events, log_happened}
 use Rattle.signed.proofs.KeyLaws.{Owed}
 use Rattle.signed.proofs.StepLaws.{Inv, ran}
-use Rattle.signed.proofs.Theorems.{start, empty-table, typed-calls, lists-these, each-own, meets-demand1, meets-demand2, meets-demand3}
+use Rattle.signed.proofs.Theorems.{start, empty-table, typed_calls, lists-these, each_own, meets_demand1, meets_demand2, meets_demand3}
 
 -- ---- keys learned in their order
 
-rising-past : (b x : ℕ) (l more : List ℕ) → Rising plain b (l ++ (x ∷ more)) → b ≤ x
-rising-past b x [] more r = r.0
-rising-past b x (j ∷ l) more r = let h = rising-past (suc j) x l more r.1 in omega (arith, r.0, h)
+rising_past : (b x : ℕ) (l more : List ℕ) → Rising plain b (l ++ (x ∷ more)) → b ≤ x
+rising_past b x [] more r = r.0
+rising_past b x (j ∷ l) more r = let h = rising_past (suc j) x l more r.1 in omega (arith, r.0, h)
 
 -- one above the others stands last
 put_last : (b x : ℕ) (l more : List ℕ) → Rising plain b (l ++ (x ∷ more)) → put plain x l ≡ l ++ (x ∷ [])
 put_last b x [] more r = put-nil plain x
 put_last b x (j ∷ l) more r =
-    put-more plain x j l (rising-past (suc j) x l more r.1) ∙ ap (λ (t : List ℕ). j ∷ t) (put_last (suc j) x l more r.1)
+    put-more plain x j l (rising_past (suc j) x l more r.1) ∙ ap (λ (t : List ℕ). j ∷ t) (put_last (suc j) x l more r.1)
 
 module _ (k : Own) (C : ℕ) where
   learn-last : (x : ℕ) (front rest : List ℕ) → Rising plain 0 (front ++ (x ∷ rest)) → length (front ++ (x ∷ rest)) ≤ C
-      → learnWith (drops k) C front x ≡ front ++ (x ∷ [])
-  unfolding learnWith trimmed
+      → learn_with (drops k) C front x ≡ front ++ (x ∷ [])
+  unfolding learn_with trimmed
   learn-last x front rest r few =
       ap (trimmed (drops k) C) (put_last 0 x front rest r)
       ∙ rw (le-ltb C (length (front ++ (x ∷ []))) (omega (arith, few, length-append front (x ∷ rest), length-append front (x ∷ [])))) refl
@@ -77,56 +77,56 @@ module _ (k : Own) (C : ℕ) where
 
 -- ---- the start
 
-module _ (k : Own) (C : ℕ) (cache : List ℕ) (form : cacheForm k cache ≡ true) (size : length cache ≡ 100 * C) where
+module _ (k : Own) (C : ℕ) (cache : List ℕ) (form : cache_form k cache ≡ true) (size : length cache ≡ 100 * C) where
   few : length (keys_of (held_of k cache)) ≤ C
-  few = omega (arith, length-map (held_of k cache) key_of, form-room k cache (held_of k cache) (true-form k cache form), size)
+  few = omega (arith, length-map (held_of k cache) key_of, form-room k cache (held_of k cache) (true_form k cache form), size)
 
-  held_kept : kept k C (F.heldBefore k cache) ≡ keys_of (held_of k cache)
-  held_kept = learned-all k C [] (keys_of (held_of k cache)) (true-form k cache form).held.rising few
+  held_kept : kept k C (F.held_before k cache) ≡ keys_of (held_of k cache)
+  held_kept = learned-all k C [] (keys_of (held_of k cache)) (true_form k cache form).held.rising few
 
   least : (10 ≤ C) × (10 * length k ≤ C)
   least =
-      let p = (true-form k cache form).places.least in
-      let q = (true-form k cache form).places.enough in
+      let p = (true_form k cache form).places.least in
+      let q = (true_form k cache form).places.enough in
       (omega (arith, p, size), omega (arith, q, size))
 
   most : C ≤ 256
-  most = let p = (true-form k cache form).places.most in omega (arith, p, size)
+  most = let p = (true_form k cache form).places.most in omega (arith, p, size)
 
   restart : Inv k C [] (keys_of (held_of k cache)) (F.restarted k cache)
   restart = record {
     cached = form;
-    tabled = WF.form-test k (replicate 2240 0) [] (empty-table k C least most);
+    tabled = WF.form_test k (replicate 2240 0) [] (empty-table k C least most);
     keeps = record { size = size; held = refl };
-    owed = subst (All (Owed [])) (WF.form-unique k (replicate 2240 0) [] (empty-table k C least most)) tt;
+    owed = subst (All (Owed [])) (WF.form_unique k (replicate 2240 0) [] (empty-table k C least most)) tt;
   }
 
   module _ (evs : List Event) where
-    kept_from : kept k C (F.heldBefore k cache ++ evs) ≡ after (drops k) C (keys_of (held_of k cache)) evs
-    kept_from = after-append (drops k) C [] (F.heldBefore k cache) evs ∙ ap (λ (ks : List ℕ). after (drops k) C ks evs) held_kept
+    kept_from : kept k C (F.held_before k cache ++ evs) ≡ after (drops k) C (keys_of (held_of k cache)) evs
+    kept_from = after_append (drops k) C [] (F.held_before k cache) evs ∙ ap (λ (ks : List ℕ). after (drops k) C ks evs) held_kept
 
-    none-own : ((j : ℕ) → Learns j evs → NotOwn k j) → (j : ℕ) → Learns j (F.heldBefore k cache ++ evs) → NotOwn k j
+    none-own : ((j : ℕ) → Learns j evs → NotOwn k j) → (j : ℕ) → Learns j (F.held_before k cache ++ evs) → NotOwn k j
     none-own fine j l =
         let held = keys_of (held_of k cache) in
-        ⊎_elim (λ h. every-at (NotOwn k) j held (true-form k cache form).held.others (learns-held k C j held h)) (fine j)
-        (learns-or j (F.heldBefore k cache) evs l)
+        ⊎_elim (λ h. every_at (NotOwn k) j held (true_form k cache form).held.others (learns-held k C j held h)) (fine j)
+        (learns_or j (F.held_before k cache) evs l)
 
-pub held-are-kept : F.HeldKept
-held-are-kept = held_kept
+pub held_are_kept : F.HeldKept
+held_are_kept = held_kept
 
-pub meets-demand3-from : F.MeetsDemand3From ours
-meets-demand3-from k C cache form size calls proper =
+pub meets_demand3_from : F.MeetsDemand3From ours
+meets_demand3_from k C cache form size calls proper =
     let r = ran k C [] (keys_of (held_of k cache)) (F.restarted k cache) (restart k C cache form size) calls proper in
     let evs = events (log ours (F.restarted k cache) calls) in
-    let all = F.heldBefore k cache ++ evs in
+    let all = F.held_before k cache ++ evs in
     let now = left ours (F.restarted k cache) calls in
     let held : keys_of (held_of k now.cache) ≡ kept k C all = r.inv.keeps.held ∙ sym (kept_from k C cache form size evs) in
-    let d = each-own k C (least k C cache form size).1 all (none-own k C cache form size evs r.fine) in
+    let d = each_own k C (least k C cache form size).1 all (none-own k C cache form size evs r.fine) in
     record {
       later = evs;
-      happened = log-happened [] (F.restarted k cache) calls (typed-calls k calls proper);
+      happened = log_happened [] (F.restarted k cache) calls (typed_calls k calls proper);
       listed = λ j mine. lists-these k (kept k C all) now r.inv.cached held j mine (kept k C all) (d j mine).right;
-      among-all = λ none j mine. lists-these k (kept k C all) now r.inv.cached held j mine (learnedAll all) ((d j mine).among-all none);
+      among-all = λ none j mine. lists-these k (kept k C all) now r.inv.cached held j mine (learned_all all) ((d j mine).among-all none);
     }
 
 -- ---- with an empty cache it is demand 3, of any gauge
@@ -134,14 +134,14 @@ meets-demand3-from k C cache form size calls proper =
 -- what is lent then is an empty cache, no key counted
 restarted-empty : (k : Own) (C : ℕ) → keys_of (held_of k (replicate (100 * C) 0)) ≡ [] → F.restarted k (replicate (100 * C) 0) ≡ empty C
 restarted-empty k C none =
-    ap (λ (fs : List ℕ). memory (replicate (100 * C) 0) fs (replicate 2240 0)) (ap firstsOf none ∙ firsts-none)
+    ap (λ (fs : List ℕ). memory (replicate (100 * C) 0) fs (replicate 2240 0)) (ap firsts_of none ∙ firsts_none)
 
-pub counted-from : F.CountedFrom
-counted-from g p k calls proper = (
+pub counted_from : F.CountedFrom
+counted_from g p k calls proper = (
   λ C least most.
       let none : keys_of (held_of k (replicate (100 * C) 0)) ≡ [] = (start k C least most).keeps.held in
-      always-counted g p k (empty C) (sym (ap firstsOf none ∙ firsts-none)) calls proper,
-  λ cache. always-counted g p k (F.restarted k cache) refl calls proper,
+      always_counted g p k (empty C) (sym (ap firsts_of none ∙ firsts_none)) calls proper,
+  λ cache. always_counted g p k (F.restarted k cache) refl calls proper,
 )
 
 pub from_empty : F.FromEmpty
@@ -149,14 +149,14 @@ from_empty g meets k C least most calls proper =
     let s = start k C least most in
     let r = meets k C (replicate (100 * C) 0) s.cached s.keeps.size calls proper in
     let at : F.restarted k (replicate (100 * C) 0) ≡ empty C = restarted-empty k C s.keeps.held in
-    let e : F.heldBefore k (replicate (100 * C) 0) ++ r.later ≡ r.later = ap (λ (ks : List ℕ). map learned ks ++ r.later) s.keeps.held in
+    let e : F.held_before k (replicate (100 * C) 0) ++ r.later ≡ r.later = ap (λ (ks : List ℕ). map learned ks ++ r.later) s.keeps.held in
     record {
       history = r.later;
       happened = subst (λ (m : Memory). Happened [] (log g m calls) r.later) at r.happened;
       listed = λ j mine. subst (λ (evs : List Event). ListsThese g (left g (empty C) calls) k j (kept k C evs)) e
-          (subst (λ (m : Memory). ListsThese g (left g m calls) k j (kept k C (F.heldBefore k (replicate (100 * C) 0) ++ r.later))) at (r.listed j mine));
-      among-all = λ none j mine. subst (λ (evs : List Event). NoRemoval (drops k) C [] evs → ListsThese g (left g (empty C) calls) k j (learnedAll evs)) e
-          (λ calm. subst (λ (m : Memory). ListsThese g (left g m calls) k j (learnedAll (F.heldBefore k (replicate (100 * C) 0) ++ r.later))) at
+          (subst (λ (m : Memory). ListsThese g (left g m calls) k j (kept k C (F.held_before k (replicate (100 * C) 0) ++ r.later))) at (r.listed j mine));
+      among-all = λ none j mine. subst (λ (evs : List Event). NoRemoval (drops k) C [] evs → ListsThese g (left g (empty C) calls) k j (learned_all evs)) e
+          (λ calm. subst (λ (m : Memory). ListsThese g (left g m calls) k j (learned_all (F.held_before k (replicate (100 * C) 0) ++ r.later))) at
           (r.among-all calm j mine)) none;
     }
 
@@ -181,8 +181,8 @@ module _ (g : Gauge) (p : MeetsSentences g) where
 
 pub restarts : F.Restarts
 restarts g p k C cache form size calls proper =
-    let o = meets-demand3-from k C cache form size calls proper in
-    let ty = typed-calls k calls proper in
+    let o = meets_demand3_from k C cache form size calls proper in
+    let ty = typed_calls k calls proper in
     let same = left-same g p (F.restarted k cache) calls ty in
     record {
       later = o.later;
@@ -195,15 +195,15 @@ pub enough : F.Enough
 enough g p = record {
   demand1 = record {
     table = p.table;
-    first = λ m c ty. subst (λ (h : Handed). OnlyFirst (returned c h.answer) (outputOf c) h.output) (sym (acts g p m c ty))
-        (meets-demand1.first m c ty);
-    form = λ m c ty f. subst (λ (h : Handed). InForm (ownKeys (own_of c)) h.memory) (sym (acts g p m c ty)) (meets-demand1.form m c ty f);
+    first = λ m c ty. subst (λ (h : Handed). OnlyFirst (returned c h.answer) (output_of c) h.output) (sym (acts g p m c ty))
+        (meets_demand1.first m c ty);
+    form = λ m c ty f. subst (λ (h : Handed). InForm (own_keys (own_of c)) h.memory) (sym (acts g p m c ty)) (meets_demand1.form m c ty f);
   };
   demand2 = record {
-    one-message = meets-demand2.one-message;
-    written-reads = meets-demand2.written-reads;
-    read-written = meets-demand2.read-written;
-    sent-reads = meets-demand2.sent-reads;
+    one-message = meets_demand2.one-message;
+    written_reads = meets_demand2.written-reads;
+    read_written = meets_demand2.read-written;
+    sent_reads = meets_demand2.sent-reads;
     sentences = p;
   };
   demand3 = from_empty g (restarts g p);

@@ -9,64 +9,64 @@ use native.Mathlib.Omega.{arith}
 use lib.Dec.{eqb}
 use lib.Seq.{take_all}
 use lib.ListN.{length, replicate, length-replicate}
-use Rattle.octet.specs.Number.{valueBE}
+use Rattle.octet.specs.Number.{value_be}
 use borrow.Author.Tests.{eq-eqb, ne_eqb, eqb-false, not-false}
 use Rattle.key.specs.Number.{key_at}
-use Rattle.own.specs.Own.{Own, ownForm, ownKeys}
+use Rattle.own.specs.Own.{Own, own_form, own_keys}
 use Rattle.kept.specs.History.{Event, after, Learns}
 use Rattle.kept.specs.Plain.{NotOwn, drops}
-use Rattle.kept.proofs.CallLaws.{after-append, learns-or}
-use Rattle.cache.specs.Form.{cacheForm}
-use Rattle.waiting.specs.Place.{id_of, kind_of, placeKey, floodPlace}
-use Rattle.waiting.specs.Form.{waitingForm, places_of}
-use Rattle.waiting.specs.Tick.{oneLess}
-use Rattle.gauge_plan.proofs.MemoryLaws.{tick-fit-lent}
-use Rattle.gauge_laws.proofs.TableLaws.{none-applies}
+use Rattle.kept.proofs.CallLaws.{after_append, learns_or}
+use Rattle.cache.specs.Form.{cache_form}
+use Rattle.waiting.specs.Place.{id_of, kind_of, place_key, flood_place}
+use Rattle.waiting.specs.Form.{waiting_form, places_of}
+use Rattle.waiting.specs.Tick.{one_less}
+use Rattle.gauge_plan.proofs.MemoryLaws.{tick_fit_lent}
+use Rattle.gauge_laws.proofs.TableLaws.{none_applies}
 use Rattle.waiting.proofs.PlaceLaws.{less-id, less-key, less-kind}
-use Rattle.waiting.specs.Seek.{hasId}
+use Rattle.waiting.specs.Seek.{has_id}
 use Rattle.waiting.proofs.NewLaws.{new-id, new-key}
 use Rattle.waiting.proofs.RoundLaws.{All, all_none, all_map, all_both, all-freed, all-opened, all-ticked}
 use Rattle.gauge_plan.specs.Lent.{Memory, Receive, Send, Tick, Call, receives, sends, ticks, lists}
 use Rattle.gauge_commit.specs.Sending.{Handed}
-use Rattle.gauge.specs.Receive.{receiveCall}
-use Rattle.gauge.specs.Send.{sendCall}
-use Rattle.gauge.specs.Counts.{gaugeTick, gaugeList}
-use Rattle.gauge_laws.proofs.RefusedLaws.{refused-keeps}
+use Rattle.gauge.specs.Receive.{receive_call}
+use Rattle.gauge.specs.Send.{send_call}
+use Rattle.gauge.specs.Counts.{gauge_tick, gauge_list}
+use Rattle.gauge_laws.proofs.RefusedLaws.{refused_keeps}
 use Rattle.gauge_laws.proofs.MovedLaws.{Moved, stays, frees, opens, receive-ready, receive-moved, send-moved}
-use Rattle.gauge_laws.proofs.FormLaws.{receive-form, send-form, tick-form, send-cache, tick-cache}
-use Rattle.gauge_laws.proofs.TickLaws.{tick-round}
+use Rattle.gauge_laws.proofs.FormLaws.{receive_form, send_form, tick_form, send_cache, tick_cache}
+use Rattle.gauge_laws.proofs.TickLaws.{tick_round}
 use Rattle.gauge.specs.Words.{Entry, entry, left, log, OneKey, Typed, Proper}
 use Rattle.gauge.specs.Ours.{ours}
-use Rattle.signed.specs.Events.{sentTo}
-use Rattle.signed.proofs.ToldLaws.{does, eventsFrom}
+use Rattle.signed.specs.Events.{sent_to}
+use Rattle.signed.proofs.ToldLaws.{does, events_from}
 use Rattle.signed.proofs.SendLaws.{Sent, sent}
 use Rattle.signed.proofs.KeyLaws.{Owed, Keeps, receive-keeps, receive-fine}
 
 -- what holds between two calls: memory in form, the keys held, and whom the waiting floods were sent to
 pub record Inv (k : Own) (C : ℕ) (es : List Entry) (keys : List ℕ) (m : Memory) : Type 0 where
-  pub cached : cacheForm k m.cache ≡ true
-  pub tabled : waitingForm k m.waiting ≡ true
+  pub cached : cache_form k m.cache ≡ true
+  pub tabled : waiting_form k m.waiting ≡ true
   pub keeps : Keeps k C keys m.cache
   pub owed : All (Owed es) (places_of m.waiting)
 
 -- ---- the log grows
 
 -- a call that sent no FLOOD with the ID leaves it known whom the latest went to
-later-refused : (id n : ℕ) (c : Call) (es : List Entry) → 0 < n → sentTo id (entry c n ∷ es) ≡ sentTo id es
-unfolding sentTo
-later-refused id n (receives l) es p = refl
-later-refused id n (sends l) es p = rw (ne_eqb n 0 (omega arith)) refl
-later-refused id n (ticks l) es p = refl
-later-refused id n (lists l) es p = refl
+later_refused : (id n : ℕ) (c : Call) (es : List Entry) → 0 < n → sent_to id (entry c n ∷ es) ≡ sent_to id es
+unfolding sent_to
+later_refused id n (receives l) es p = refl
+later_refused id n (sends l) es p = rw (ne_eqb n 0 (omega arith)) refl
+later_refused id n (ticks l) es p = refl
+later_refused id n (lists l) es p = refl
 
-module _ (es es' : List Entry) (same : (id : ℕ) → sentTo id es' ≡ sentTo id es) where
+module _ (es es' : List Entry) (same : (id : ℕ) → sent_to id es' ≡ sent_to id es) where
   owed-later : (ps : List (List ℕ)) → All (Owed es) ps → All (Owed es') ps
   owed-later ps a = all_map (Owed es) (Owed es') (λ p h kind. same (id_of p) ∙ h kind) ps a
 
 -- a tick leaves ID, kind and key of each place
-owed-ticked : (es : List Entry) (p : List ℕ) → length p ≡ 140 → Owed es p → Owed es (oneLess p)
-owed-ticked es p long h kind =
-    ap (λ (i : ℕ). sentTo i es) (less-id p) ∙ h (sym (less-kind p) ∙ kind) ∙ ap (λ (n : ℕ). some n) (sym (less-key p))
+owed_ticked : (es : List Entry) (p : List ℕ) → length p ≡ 140 → Owed es p → Owed es (one_less p)
+owed_ticked es p long h kind =
+    ap (λ (i : ℕ). sent_to i es) (less-id p) ∙ h (sym (less-kind p) ∙ kind) ∙ ap (λ (n : ℕ). some n) (sym (less-key p))
 
 -- ---- a refused call
 
@@ -76,7 +76,7 @@ module _ (k : Own) (C : ℕ) (es : List Entry) (keys : List ℕ) (m : Memory) (i
     cached = inv.cached;
     tabled = inv.tabled;
     keeps = inv.keeps;
-    owed = owed-later es (entry c n ∷ es) (λ id. later-refused id n c es p) (places_of m.waiting) inv.owed;
+    owed = owed-later es (entry c n ∷ es) (λ id. later_refused id n c es p) (places_of m.waiting) inv.owed;
   }
 
 -- what a call leaves: the same of the log with it, the keys after its events, and no own key learned
@@ -93,12 +93,12 @@ module _ (k : Own) (C : ℕ) (es : List Entry) (keys : List ℕ) (m : Memory) (i
   })
 
   -- a call that tells nothing, leaves the cache and is accepted
-  quiet_step : (c : Call) (m' : Memory) → does es c ≡ [] → m'.cache ≡ m.cache → waitingForm k m'.waiting ≡ true
+  quiet_step : (c : Call) (m' : Memory) → does es c ≡ [] → m'.cache ≡ m.cache → waiting_form k m'.waiting ≡ true
       → All (Owed (entry c 0 ∷ es)) (places_of m'.waiting) → Stepped k C es keys c 0 m'
   unfolding after
   quiet_step c m' e same form owed = record {
     inv = rw e (record {
-      cached = ap (cacheForm k) same ∙ inv.cached;
+      cached = ap (cache_form k) same ∙ inv.cached;
       tabled = form;
       keeps = subst (Keeps k C keys) (sym same) inv.keeps;
       owed = owed;
@@ -115,59 +115,59 @@ moved_all P New ps qs f (opens p h new e) a = rw e (all-opened P p ps (f p h) a)
 -- ---- each accepted call, with the own record's key
 
 -- an accepted tick was lent an own record in form
-tick-owned : (m : Memory) (l : Tick) → (gaugeTick m l).answer.number ≡ 0 → ownForm l.own ≡ true
-tick-owned m l z = (tick-fit-lent m l (not-false _ (none-applies m (ticks l) z).0)).own
+tick_owned : (m : Memory) (l : Tick) → (gauge_tick m l).answer.number ≡ 0 → own_form l.own ≡ true
+tick_owned m l z = (tick_fit_lent m l (not-false _ (none_applies m (ticks l) z).0)).own
 
 module _ (C : ℕ) (es : List Entry) (keys : List ℕ) (m : Memory) where
-  tick-step : (l : Tick) → Inv (ownKeys l.own) C es keys m → (gaugeTick m l).answer.number ≡ 0
-      → Stepped (ownKeys l.own) C es keys (ticks l) 0 (gaugeTick m l).memory
-  unfolding gaugeTick
+  tick-step : (l : Tick) → Inv (own_keys l.own) C es keys m → (gauge_tick m l).answer.number ≡ 0
+      → Stepped (own_keys l.own) C es keys (ticks l) 0 (gauge_tick m l).memory
+  unfolding gauge_tick
   tick-step l inv z =
-      let r = tick-round m l z in
-      let t = (gaugeTick m l).memory.waiting in
+      let r = tick_round m l z in
+      let t = (gauge_tick m l).memory.waiting in
       let owed : All (Owed es) (places_of t) =
-      rw r.places (all-ticked (Owed es) (Owed es) (owed-ticked es) (places_of m.waiting) r.form.sized inv.owed) in
-      quiet_step (ownKeys l.own) C es keys m inv (ticks l) (gaugeTick m l).memory refl (tick-cache m l) (tick-form m l z)
-      (owed-later es (entry (ticks l) 0 ∷ es) (λ id. unfold sentTo in refl) (places_of t) owed)
+      rw r.places (all-ticked (Owed es) (Owed es) (owed_ticked es) (places_of m.waiting) r.form.sized inv.owed) in
+      quiet_step (own_keys l.own) C es keys m inv (ticks l) (gauge_tick m l).memory refl (tick_cache m l) (tick_form m l z)
+      (owed-later es (entry (ticks l) 0 ∷ es) (λ id. unfold sent_to in refl) (places_of t) owed)
 
   -- a log with the send in front: its ID went to its neighbour, another where it went before
-  sent-here : (l : Send) → sentTo l.id (entry (sends l) 0 ∷ es) ≡ some (key_at 0 l.neighbour)
-  unfolding sentTo
+  sent-here : (l : Send) → sent_to l.id (entry (sends l) 0 ∷ es) ≡ some (key_at 0 l.neighbour)
+  unfolding sent_to
   sent-here l = rw (eq-eqb l.id l.id refl) refl
 
-  sent-there : (i : ℕ) (l : Send) → eqb i l.id ≡ false → sentTo i (entry (sends l) 0 ∷ es) ≡ sentTo i es
-  unfolding sentTo
+  sent-there : (i : ℕ) (l : Send) → eqb i l.id ≡ false → sent_to i (entry (sends l) 0 ∷ es) ≡ sent_to i es
+  unfolding sent_to
   sent-there i l e = rw (ne_eqb l.id i (λ is. eqb-false i l.id e (sym is))) refl
 
   sent-owed : (l : Send) → l.id < 2 ^ 32 → Sent m l → All (Owed es) (places_of m.waiting)
-      → All (Owed (entry (sends l) 0 ∷ es)) (places_of (sendCall m l).memory.waiting)
+      → All (Owed (entry (sends l) 0 ∷ es)) (places_of (send_call m l).memory.waiting)
   sent-owed l small s a =
       let c = sends l in
       let id = l.id in
       let neighbour = l.neighbour in
       let zeros : List ℕ = replicate 100 0 in
       let long : length zeros ≡ 100 = length-replicate {A = ℕ} 100 0 in
-      let id-is : id_of (floodPlace id neighbour) ≡ id = new-id id 1 2 neighbour zeros s.short long small in
-      let key-is : placeKey (floodPlace id neighbour) ≡ key_at 0 neighbour =
-      ap (valueBE 256) (new-key id 1 2 neighbour zeros s.short long) ∙ ap (valueBE 256) (sym (take_all 32 neighbour (omega (arith, s.short)))) in
-      let opened-owed : Owed (entry c 0 ∷ es) (floodPlace id neighbour) =
-      λ kind. ap (λ (i : ℕ). sentTo i (entry c 0 ∷ es)) id-is ∙ sent-here l ∙ ap (λ (n : ℕ). some n) (sym key-is) in
-      moved_all (Owed (entry c 0 ∷ es)) (λ (p : List ℕ). p ≡ floodPlace id neighbour) (places_of m.waiting) (places_of (sendCall m l).memory.waiting)
+      let id-is : id_of (flood_place id neighbour) ≡ id = new-id id 1 2 neighbour zeros s.short long small in
+      let key-is : place_key (flood_place id neighbour) ≡ key_at 0 neighbour =
+      ap (value_be 256) (new-key id 1 2 neighbour zeros s.short long) ∙ ap (value_be 256) (sym (take_all 32 neighbour (omega (arith, s.short)))) in
+      let opened-owed : Owed (entry c 0 ∷ es) (flood_place id neighbour) =
+      λ kind. ap (λ (i : ℕ). sent_to i (entry c 0 ∷ es)) id-is ∙ sent-here l ∙ ap (λ (n : ℕ). some n) (sym key-is) in
+      moved_all (Owed (entry c 0 ∷ es)) (λ (p : List ℕ). p ≡ flood_place id neighbour) (places_of m.waiting) (places_of (send_call m l).memory.waiting)
       (λ p is. subst (Owed (entry c 0 ∷ es)) (sym is) opened-owed) (send-moved m l small)
-      (all_both (λ (q : List ℕ). hasId id q ≡ false) (Owed es) (Owed (entry c 0 ∷ es)) (λ q other h kind. sent-there (id_of q) l other ∙ h kind)
-      (places_of m.waiting) (all_none (hasId id) (places_of m.waiting) s.new) a)
+      (all_both (λ (q : List ℕ). has_id id q ≡ false) (Owed es) (Owed (entry c 0 ∷ es)) (λ q other h kind. sent-there (id_of q) l other ∙ h kind)
+      (places_of m.waiting) (all_none (has_id id) (places_of m.waiting) s.new) a)
 
-  send-step : (l : Send) → l.id < 2 ^ 32 → Inv (ownKeys l.own) C es keys m → (sendCall m l).answer.number ≡ 0
-      → Stepped (ownKeys l.own) C es keys (sends l) 0 (sendCall m l).memory
+  send-step : (l : Send) → l.id < 2 ^ 32 → Inv (own_keys l.own) C es keys m → (send_call m l).answer.number ≡ 0
+      → Stepped (own_keys l.own) C es keys (sends l) 0 (send_call m l).memory
   send-step l small inv z =
-      quiet_step (ownKeys l.own) C es keys m inv (sends l) (sendCall m l).memory refl (send-cache m l) (send-form m l small z)
+      quiet_step (own_keys l.own) C es keys m inv (sends l) (send_call m l).memory refl (send_cache m l) (send_form m l small z)
       (sent-owed l small (sent m l z) inv.owed)
 
-  receive-step : (l : Receive) → Inv (ownKeys l.own) C es keys m → (receiveCall m l).answer.number ≡ 0
-      → Stepped (ownKeys l.own) C es keys (receives l) 0 (receiveCall m l).memory
+  receive-step : (l : Receive) → Inv (own_keys l.own) C es keys m → (receive_call m l).answer.number ≡ 0
+      → Stepped (own_keys l.own) C es keys (receives l) 0 (receive_call m l).memory
   receive-step l inv z =
-      let form = receive-form m l z in
-      let t = (receiveCall m l).memory.waiting in
+      let form = receive_form m l z in
+      let t = (receive_call m l).memory.waiting in
       let owed : All (Owed es) (places_of t) =
       moved_all (Owed es) (λ (p : List ℕ). kind_of p ≡ 2) (places_of m.waiting) (places_of t) (λ p two one. let w = sym two ∙ one in
       absurd (omega arith)) (receive-moved m l) inv.owed in
@@ -176,7 +176,7 @@ module _ (C : ℕ) (es : List Entry) (keys : List ℕ) (m : Memory) where
           cached = form.0;
           tabled = form.1;
           keeps = receive-keeps m l C es keys inv.keeps z inv.owed;
-          owed = owed-later es (entry (receives l) 0 ∷ es) (λ i. unfold sentTo in refl) (places_of t) owed;
+          owed = owed-later es (entry (receives l) 0 ∷ es) (λ i. unfold sent_to in refl) (places_of t) owed;
         };
         fine = receive-fine m l C es keys inv.keeps z;
       }
@@ -189,13 +189,13 @@ module _ (k : Own) (C : ℕ) (es : List Entry) (keys : List ℕ) (m : Memory) (i
   of-key {j} {c} {left} is step = subst (λ (i : Own). Stepped i C es keys c 0 left) is (step (subst (λ (i : Own). Inv i C es keys m) (sym is) inv))
 
   accepted-step : (c : Call) → OneKey k c → Typed c → (ours m c).answer.number ≡ 0 → Stepped k C es keys c 0 (ours m c).memory
-  unfolding gaugeList
+  unfolding gauge_list
   accepted-step (receives l) one ty z = of-key (one (receive-ready m l z).owned) (λ i. receive-step C es keys m l i z)
   accepted-step (sends l) one ty z = of-key (one (sent m l z).owned) (λ i. send-step C es keys m l ty i z)
-  accepted-step (ticks l) one ty z = of-key (one (tick-owned m l z)) (λ i. tick-step C es keys m l i z)
+  accepted-step (ticks l) one ty z = of-key (one (tick_owned m l z)) (λ i. tick-step C es keys m l i z)
   accepted-step (lists l) one ty z =
       quiet_step k C es keys m inv (lists l) m refl refl inv.tabled
-      (owed-later es (entry (lists l) 0 ∷ es) (λ id. unfold sentTo in refl) (places_of m.waiting) inv.owed)
+      (owed-later es (entry (lists l) 0 ∷ es) (λ id. unfold sent_to in refl) (places_of m.waiting) inv.owed)
 
   call_step : (c : Call) → OneKey k c → Typed c → Stepped k C es keys c (ours m c).answer.number (ours m c).memory
   call_step c one ty = go (ours m c).answer.number refl
@@ -204,27 +204,27 @@ module _ (k : Own) (C : ℕ) (es : List Entry) (keys : List ℕ) (m : Memory) (i
       go zero z = accepted-step c one ty z
       go (suc n) z =
           refused-step k C es keys m inv c (suc n) (ours m c).memory (omega arith)
-          (ap (λ (h : Handed). h.memory) (refused-keeps m c (omega (arith, z))))
+          (ap (λ (h : Handed). h.memory) (refused_keeps m c (omega (arith, z))))
 
 -- what holds after a sequence of calls
 pub record Ran (k : Own) (C : ℕ) (es : List Entry) (keys : List ℕ) (m : Memory) (calls : List Call) : Type 0 where
   pub entries : List Entry
-  pub inv : Inv k C entries (after (drops k) C keys (eventsFrom es (log ours m calls))) (left ours m calls)
-  pub fine : (j : ℕ) → Learns j (eventsFrom es (log ours m calls)) → NotOwn k j
+  pub inv : Inv k C entries (after (drops k) C keys (events_from es (log ours m calls))) (left ours m calls)
+  pub fine : (j : ℕ) → Learns j (events_from es (log ours m calls)) → NotOwn k j
 
 pub ran : (k : Own) (C : ℕ) (es : List Entry) (keys : List ℕ) (m : Memory) → Inv k C es keys m → (calls : List Call) → Proper k calls
     → Ran k C es keys m calls
-unfolding log left eventsFrom after
+unfolding log left events_from after
 ran k C es keys m inv [] proper = record { entries = es; inv = inv; fine = λ j none. absurd none }
 ran k C es keys m inv (c ∷ calls) proper =
     let n = (ours m c).answer.number in
     let ds = cond (eqb n 0) (does es c) [] in
     let s = call_step k C es keys m inv c proper.0.0 proper.0.1 in
     let r = ran k C (entry c n ∷ es) (after (drops k) C keys ds) (ours m c).memory s.inv calls proper.1 in
-    let later = eventsFrom (entry c n ∷ es) (log ours (ours m c).memory calls) in
+    let later = events_from (entry c n ∷ es) (log ours (ours m c).memory calls) in
     record {
       entries = r.entries;
-      inv = subst (λ (ks : List ℕ). Inv k C r.entries ks (left ours (ours m c).memory calls)) (sym (after-append (drops k) C keys ds later))
+      inv = subst (λ (ks : List ℕ). Inv k C r.entries ks (left ours (ours m c).memory calls)) (sym (after_append (drops k) C keys ds later))
           r.inv;
-      fine = λ j learns. ⊎_elim (s.fine j) (r.fine j) (learns-or j ds later learns);
+      fine = λ j learns. ⊎_elim (s.fine j) (r.fine j) (learns_or j ds later learns);
     }

@@ -16,23 +16,23 @@ use Rattle.gauge_plan.specs.Lent.{Memory, empty, Call, receives, sends, ticks, l
 use Rattle.gauge.specs.Words.{Gauge, Entry, entry, log, Typed}
 use Rattle.gauge.specs.Ours.{ours}
 use Rattle.sentences.specs.Heard.{Heard}
-use Rattle.sentences.proofs.HeardLaws.{heardBy, hears-answer}
-use Rattle.sentences.proofs.Theorems.{ours-meets}
-use Rattle.signed.specs.Events.{toldBy, Tells, Happened}
+use Rattle.sentences.proofs.HeardLaws.{heard_by, hears-answer}
+use Rattle.sentences.proofs.Theorems.{ours_meets}
+use Rattle.signed.specs.Events.{told_by, Tells, Happened}
 
 -- what a call does when it is accepted
 abbrev pub does : List Entry → Call → List Event
-does earlier (receives l) = toldBy earlier (key_at 0 l.key) (heardBy l.datagram (R.readIn l.datagram l.major))
+does earlier (receives l) = told_by earlier (key_at 0 l.key) (heard_by l.datagram (R.read_in l.datagram l.major))
 does earlier (sends l) = []
 does earlier (ticks l) = []
 does earlier (lists l) = []
 
-unfoldable pub eventsFrom : List Entry → List Entry → List Event
-eventsFrom earlier [] = []
-eventsFrom earlier (e ∷ es) = cond (eqb e.number 0) (does earlier e.call) [] ++ eventsFrom (e ∷ earlier) es
+unfoldable pub events_from : List Entry → List Entry → List Event
+events_from earlier [] = []
+events_from earlier (e ∷ es) = cond (eqb e.number 0) (does earlier e.call) [] ++ events_from (e ∷ earlier) es
 
 abbrev pub events : List Entry → List Event
-events es = eventsFrom [] es
+events es = events_from [] es
 
 -- what happened to the keys in calls on an empty cache of C records and an empty waiting table
 abbrev pub happened : Gauge → ℕ → List Call → List Event
@@ -40,56 +40,56 @@ happened g C calls = events (log g (empty C) calls)
 
 -- ---- what a call tells is what is computed
 
-tells-does : (earlier : List Entry) (c : Call) → Typed c → (now : List Event) → Tells earlier c now → now ≡ does earlier c
-tells-does earlier (receives l) ty now t =
-    t.2 ∙ ap (toldBy earlier (key_at 0 l.key)) (hears-answer l.datagram ty.0 l.major t.0 t.1).1
-tells-does earlier (sends l) ty now t = t
-tells-does earlier (ticks l) ty now t = t
-tells-does earlier (lists l) ty now t = t
+tells_does : (earlier : List Entry) (c : Call) → Typed c → (now : List Event) → Tells earlier c now → now ≡ does earlier c
+tells_does earlier (receives l) ty now t =
+    t.2 ∙ ap (told_by earlier (key_at 0 l.key)) (hears-answer l.datagram ty.0 l.major t.0 t.1).1
+tells_does earlier (sends l) ty now t = t
+tells_does earlier (ticks l) ty now t = t
+tells_does earlier (lists l) ty now t = t
 
-pub happened-events : (earlier es : List Entry) → Every (λ (e : Entry). Typed e.call) es → (history : List Event) → Happened earlier es history
-    → history ≡ eventsFrom earlier es
-unfolding eventsFrom
-happened-events earlier [] ty history h = h
-happened-events earlier (e ∷ es) ty history h =
-    h.4 ∙ ap₂ ◌++◌ (now-is h.0 h.2) (happened-events (e ∷ earlier) es ty.1 h.1 h.3)
+pub happened_events : (earlier es : List Entry) → Every (λ (e : Entry). Typed e.call) es → (history : List Event) → Happened earlier es history
+    → history ≡ events_from earlier es
+unfolding events_from
+happened_events earlier [] ty history h = h
+happened_events earlier (e ∷ es) ty history h =
+    h.4 ∙ ap₂ ◌++◌ (now-is h.0 h.2) (happened_events (e ∷ earlier) es ty.1 h.1 h.3)
   where
     now-is : (now : List Event) → ((e.number ≡ 0) × Tells earlier e.call now) ⊎ ((¬ (e.number ≡ 0)) × (now ≡ []))
         → now ≡ cond (eqb e.number 0) (does earlier e.call) []
-    now-is now (inl t) = rw (eq-eqb e.number 0 t.0) (tells-does earlier e.call ty.0 now t.1)
+    now-is now (inl t) = rw (eq-eqb e.number 0 t.0) (tells_does earlier e.call ty.0 now t.1)
     now-is now (inr t) = rw (ne_eqb e.number 0 t.0) t.1
 
 -- ---- an accepted call of ours tells it
 
-accepted-tells : (earlier : List Entry) (m : Memory) (c : Call) → Typed c → (ours m c).answer.number ≡ 0 → Tells earlier c (does earlier c)
-accepted-tells earlier m (receives l) ty z =
-    let s = ours-meets.does m (receives l) ty z in
-    (s.x, s.hears, ap (toldBy earlier (key_at 0 l.key)) (sym (hears-answer l.datagram ty.0 l.major s.x s.hears).1))
-accepted-tells earlier m (sends l) ty z = refl
-accepted-tells earlier m (ticks l) ty z = refl
-accepted-tells earlier m (lists l) ty z = refl
+accepted_tells : (earlier : List Entry) (m : Memory) (c : Call) → Typed c → (ours m c).answer.number ≡ 0 → Tells earlier c (does earlier c)
+accepted_tells earlier m (receives l) ty z =
+    let s = ours_meets.does m (receives l) ty z in
+    (s.x, s.hears, ap (told_by earlier (key_at 0 l.key)) (sym (hears-answer l.datagram ty.0 l.major s.x s.hears).1))
+accepted_tells earlier m (sends l) ty z = refl
+accepted_tells earlier m (ticks l) ty z = refl
+accepted_tells earlier m (lists l) ty z = refl
 
-pub log-happened : (earlier : List Entry) (m : Memory) (cs : List Call) → Every Typed cs
-    → Happened earlier (log ours m cs) (eventsFrom earlier (log ours m cs))
-unfolding log eventsFrom
-log-happened earlier m [] ty = refl
-log-happened earlier m (c ∷ cs) ty =
+pub log_happened : (earlier : List Entry) (m : Memory) (cs : List Call) → Every Typed cs
+    → Happened earlier (log ours m cs) (events_from earlier (log ours m cs))
+unfolding log events_from
+log_happened earlier m [] ty = refl
+log_happened earlier m (c ∷ cs) ty =
     let n = (ours m c).answer.number in (
       cond (eqb n 0) (does earlier c) [],
-      eventsFrom (entry c n ∷ earlier) (log ours (ours m c).memory cs),
+      events_from (entry c n ∷ earlier) (log ours (ours m c).memory cs),
       told n refl,
-      log-happened (entry c n ∷ earlier) (ours m c).memory cs ty.1,
+      log_happened (entry c n ∷ earlier) (ours m c).memory cs ty.1,
       refl,
     )
   where
     told : (n : ℕ) → (ours m c).answer.number ≡ n
         → (((ours m c).answer.number ≡ 0) × Tells earlier c (cond (eqb (ours m c).answer.number 0) (does earlier c) []))
         ⊎ ((¬ ((ours m c).answer.number ≡ 0)) × (cond (eqb (ours m c).answer.number 0) (does earlier c) [] ≡ []))
-    told zero z = inl (z, rw z (accepted-tells earlier m c ty.0 z))
+    told zero z = inl (z, rw z (accepted_tells earlier m c ty.0 z))
     told (suc n) z = inr (λ y. omega (arith, y, z), rw (ne_eqb (ours m c).answer.number 0 (λ y. omega (arith, y, z))) refl)
 
 -- the entries of a log are the calls
-pub log-typed : (g : Gauge) (m : Memory) (cs : List Call) → Every Typed cs → Every (λ (e : Entry). Typed e.call) (log g m cs)
+pub log_typed : (g : Gauge) (m : Memory) (cs : List Call) → Every Typed cs → Every (λ (e : Entry). Typed e.call) (log g m cs)
 unfolding log
-log-typed g m [] ty = tt
-log-typed g m (c ∷ cs) ty = (ty.0, log-typed g (g m c).memory cs ty.1)
+log_typed g m [] ty = tt
+log_typed g m (c ∷ cs) ty = (ty.0, log_typed g (g m c).memory cs ty.1)

@@ -2,64 +2,64 @@
 -- and ticks are what our calls give on lent bytes; a difference and an ACK are by the definitions that the calls use. Assumes nothing.
 use Rattle.std.specs.Prelude.{ℕ, zero, suc, ◌+◌, ◌-◌, ◌*◌, ◌^◌, ◌≡◌, Bool, true, false, List, [], ◌∷◌, ◌++◌, map, length, replicate}
 use Rattle.std.proofs.Math.Option.{some, none}
-use Rattle.octet.specs.Number.{digitsBE}
+use Rattle.octet.specs.Number.{digits_be}
 use Rattle.octet.specs.Part.{part}
 use Rattle.key.specs.Around as around
 use Rattle.kept.specs.Keys.{Every}
 use Rattle.record.specs.Entry.{entry_of}
 use Rattle.table.specs.Rows.{bytes_of, joined}
 use Rattle.cache.specs.Form.{keys_of}
-use Rattle.firsts.specs.Firsts.{firstsOf}
-use Rattle.neighbours.specs.Listing.{keyBytes}
-use Rattle.waiting.specs.Place.{newPlace, inquiryPlace}
-use Rattle.waiting.specs.Tick.{idBytes}
-use Rattle.wire_fields.specs.Kinds.{floodKinds, lookupKinds}
+use Rattle.firsts.specs.Firsts.{firsts_of}
+use Rattle.neighbours.specs.Listing.{key_bytes}
+use Rattle.waiting.specs.Place.{new_place, inquiry_place}
+use Rattle.waiting.specs.Tick.{id_bytes}
+use Rattle.wire_fields.specs.Kinds.{flood_kinds, lookup_kinds}
 use Rattle.wire_fields.specs.Message as message
-use Rattle.wire_write.specs.Making.{ackMade, inquireMade, cpaMade, closestMade}
+use Rattle.wire_write.specs.Making.{ack_made, inquire_made, cpa_made, closest_made}
 use Rattle.gauge_commit.specs.Sending.{answer, handed}
-use Rattle.gauge_plan.specs.Lent.{Memory, memory, withFirsts, receive, tick, listing, Call, receives, ticks, lists}
+use Rattle.gauge_plan.specs.Lent.{Memory, memory, with_firsts, receive, tick, listing, Call, receives, ticks, lists}
 use Rattle.gauge.specs.Ours.{ours}
 
 -- ---- on which bytes
 
 abbrev pub key : ℕ → List ℕ
-key k = digitsBE 256 32 k
+key k = digits_be 256 32 k
 
 -- a record with the key k, port 0 and one address, all zero
-abbrev pub recordWith : ℕ → List ℕ
-recordWith k = key k ++ (0 ∷ 0 ∷ 1 ∷ 0 ∷ []) ++ replicate 64 0
+abbrev pub record_with : ℕ → List ℕ
+record_with k = key k ++ (0 ∷ 0 ∷ 1 ∷ 0 ∷ []) ++ replicate 64 0
 
 -- a cache of C places that holds these records, with the counts of their keys, and a waiting table with these places
-abbrev pub holdingRecords : ℕ → List (List ℕ) → List (List ℕ) → Memory
-holdingRecords C recs ps = memory (bytes_of (100 * C) recs) (firstsOf (keys_of recs)) (bytes_of 2240 ps)
+abbrev pub holding_records : ℕ → List (List ℕ) → List (List ℕ) → Memory
+holding_records C recs ps = memory (bytes_of (100 * C) recs) (firsts_of (keys_of recs)) (bytes_of 2240 ps)
 
 -- records with these keys
 abbrev pub holding : ℕ → List ℕ → List (List ℕ) → Memory
-holding C keys ps = holdingRecords C (map recordWith keys) ps
+holding C keys ps = holding_records C (map record_with keys) ps
 
 -- a datagram received by the gauge with the own key, whose CPA is one zero byte, with ID 7 and verdict 1 for the key k, and so many bytes of output
-abbrev pub hearsInto : ℕ → ℕ → ℕ → List ℕ → Call
-hearsInto room own k datagram = receives (receive (recordWith own) (1 ∷ 0 ∷ 0 ∷ []) 6 101 7 (replicate 16 0) 1 (key k) datagram (replicate room 0))
+abbrev pub hears_into : ℕ → ℕ → ℕ → List ℕ → Call
+hears_into room own k datagram = receives (receive (record_with own) (1 ∷ 0 ∷ 0 ∷ []) 6 101 7 (replicate 16 0) 1 (key k) datagram (replicate room 0))
 
 -- the same with two own keys, whose CPAs are the bytes 7 and 8
-abbrev pub hearsTwo : ℕ → ℕ → ℕ → ℕ → List ℕ → Call
-hearsTwo room first second k datagram =
-    receives (receive (recordWith first ++ recordWith second) (1 ∷ 0 ∷ 7 ∷ 1 ∷ 0 ∷ 8 ∷ []) 6 101 7 (replicate 16 0) 1 (key k) datagram (replicate room 0))
+abbrev pub hears_two : ℕ → ℕ → ℕ → ℕ → List ℕ → Call
+hears_two room first second k datagram =
+    receives (receive (record_with first ++ record_with second) (1 ∷ 0 ∷ 7 ∷ 1 ∷ 0 ∷ 8 ∷ []) 6 101 7 (replicate 16 0) 1 (key k) datagram (replicate room 0))
 
 abbrev pub hears : ℕ → ℕ → List ℕ → Call
-hears own k datagram = hearsInto 96 own k datagram
+hears own k datagram = hears_into 96 own k datagram
 
 -- the inquiry for the key k, with ID 8, and an AUTHORITY that answers it
-abbrev pub inquiryFor : ℕ → List ℕ
-inquiryFor k = inquiryPlace 8 (recordWith k)
+abbrev pub inquiry_for : ℕ → List ℕ
+inquiry_for k = inquiry_place 8 (record_with k)
 
 abbrev pub authority : List ℕ
-authority = (cpaMade 6 101 5 8 (0 ∷ [])).bytes
+authority = (cpa_made 6 101 5 8 (0 ∷ [])).bytes
 
 -- a FLOOD with a revocation, D clear, to another's validate key
 abbrev pub revocation : List ℕ
 revocation =
-    message.messageBytes (message.layout_of floodKinds (record {
+    message.messageBytes (message.layout_of flood_kinds (record {
       major = 6;
       minor = 101;
       type = 4;
@@ -69,16 +69,16 @@ revocation =
 
 -- an endpoint, and a record with the key k that has it as its one
 abbrev pub endpoint : ℕ → ℕ → List ℕ
-endpoint port address = digitsBE 256 2 port ++ digitsBE 256 16 address
+endpoint port address = digits_be 256 2 port ++ digits_be 256 16 address
 
-abbrev pub recordOn : ℕ → ℕ → ℕ → List ℕ
-recordOn k port address = key k ++ digitsBE 256 2 port ++ (1 ∷ 0 ∷ []) ++ digitsBE 256 16 address ++ replicate 48 0
+abbrev pub record_on : ℕ → ℕ → ℕ → List ℕ
+record_on k port address = key k ++ digits_be 256 2 port ++ (1 ∷ 0 ∷ []) ++ digits_be 256 16 address ++ replicate 48 0
 
 -- a LOOKUP of the target, with a route entry or none, by the path of these endpoints
-abbrev pub lookupBy : message.Contents → List (List ℕ) → ℕ → List ℕ
-lookupBy entry path target =
-    let array = digitsBE 256 2 (length path) ++ digitsBE 256 2 (8 + 18 * length path) ++ (0x00 ∷ 0x9D ∷ 0x00 ∷ 0x12 ∷ []) ++ joined path in
-    message.messageBytes (message.layout_of lookupKinds (record {
+abbrev pub lookup_by : message.Contents → List (List ℕ) → ℕ → List ℕ
+lookup_by entry path target =
+    let array = digits_be 256 2 (length path) ++ digits_be 256 2 (8 + 18 * length path) ++ (0x00 ∷ 0x9D ∷ 0x00 ∷ 0x12 ∷ []) ++ joined path in
+    message.messageBytes (message.layout_of lookup_kinds (record {
       major = 6;
       minor = 101;
       type = 11;
@@ -87,20 +87,20 @@ lookupBy entry path target =
     }))
 
 -- by a path on which no record is
-abbrev pub lookupOf : ℕ → List ℕ
-lookupOf target = lookupBy none (endpoint 1 1 ∷ []) target
+abbrev pub lookup_of : ℕ → List ℕ
+lookup_of target = lookup_by none (endpoint 1 1 ∷ []) target
 
 -- one tick after the other lists these IDs, and then no place waits
 abbrev pub Ticking : Memory → List (List ℕ) → Type 0
 Ticking m [] = m ≡ holding 10 [] []
 Ticking m (ids ∷ more) =
-    let h = ours m (ticks (tick (recordWith 100) (replicate 64 0))) in
-    (h.answer ≡ answer 0 (length ids) 0) × (h.output ≡ idBytes ids ++ replicate (64 - 4 * length ids) 0) × Ticking h.memory more
+    let h = ours m (ticks (tick (record_with 100) (replicate 64 0))) in
+    (h.answer ≡ answer 0 (length ids) 0) × (h.output ≡ id_bytes ids ++ replicate (64 - 4 * length ids) 0) × Ticking h.memory more
 
 -- n keys from k on, and the key that begins with the byte b, zero behind it
-unfoldable pub keysFrom : ℕ → ℕ → List ℕ
-keysFrom k zero = []
-keysFrom k (suc n) = k ∷ keysFrom (suc k) n
+unfoldable pub keys_from : ℕ → ℕ → List ℕ
+keys_from k zero = []
+keys_from k (suc n) = k ∷ keys_from (suc k) n
 
 abbrev pub begins : ℕ → ℕ
 begins b = b * 2 ^ 248
@@ -117,7 +117,7 @@ pub data Case : Type 0 where
   -- C, own key, held keys, key learned; keys held then
   learnt : ℕ → ℕ → List ℕ → ℕ → List ℕ → Case
   -- C, two own keys, held keys, key learned; keys held then
-  learntBy : ℕ → ℕ → ℕ → List ℕ → ℕ → List ℕ → Case
+  learnt_by : ℕ → ℕ → ℕ → List ℕ → ℕ → List ℕ → Case
   -- two own keys, the one inquired about; its CPA
   certified : ℕ → ℕ → ℕ → List ℕ → Case
   -- own key, held keys, target; the key of the closest record
@@ -125,7 +125,7 @@ pub data Case : Type 0 where
   -- own key, held records, endpoints of the path, target; the closest record
   skipped : ℕ → List (List ℕ) → List (List ℕ) → ℕ → List ℕ → Case
   -- own key, key of a LOOKUP's route entry: it is inquired about
-  inquiredOf : ℕ → ℕ → Case
+  inquired_of : ℕ → ℕ → Case
   -- two keys; by how much they differ
   differ : ℕ → ℕ → ℕ → Case
   -- versions, own ID, acked ID, N; the ACK
@@ -144,48 +144,48 @@ pub data Case : Type 0 where
 -- a key is learned by the AUTHORITY that answers its inquiry; the closest record is what a LOOKUP is answered with
 abbrev pub Right : Case → Type 0
 Right (listed own held list low high) =
-    ours (holding 10 held []) (lists (listing (recordWith own) (key own) (replicate 320 0)))
-    ≡ handed (answer 0 low high) (holding 10 held []) (keyBytes list ++ replicate (320 - 32 * length list) 0)
+    ours (holding 10 held []) (lists (listing (record_with own) (key own) (replicate 320 0)))
+    ≡ handed (answer 0 low high) (holding 10 held []) (key_bytes list ++ replicate (320 - 32 * length list) 0)
 Right (learnt C own held k then) =
-    ours (holding C held (inquiryFor k ∷ [])) (hears own k authority) ≡ handed (answer 0 0 0) (holding C then []) (replicate 96 0)
-Right (learntBy C first second held k then) =
-    ours (holding C held (inquiryFor k ∷ [])) (hearsTwo 96 first second k authority) ≡ handed (answer 0 0 0) (holding C then []) (replicate 96 0)
+    ours (holding C held (inquiry_for k ∷ [])) (hears own k authority) ≡ handed (answer 0 0 0) (holding C then []) (replicate 96 0)
+Right (learnt_by C first second held k then) =
+    ours (holding C held (inquiry_for k ∷ [])) (hears_two 96 first second k authority) ≡ handed (answer 0 0 0) (holding C then []) (replicate 96 0)
 Right (certified first second k cpa) =
-    ours (holding 20 [] []) (hearsTwo 41 first second 0 (inquireMade 6 101 5 (key k) (replicate 16 0)).bytes)
-    ≡ handed (answer 0 41 0) (holding 20 [] []) (cpaMade 6 101 7 5 cpa).bytes
+    ours (holding 20 [] []) (hears_two 41 first second 0 (inquire_made 6 101 5 (key k) (replicate 16 0)).bytes)
+    ≡ handed (answer 0 41 0) (holding 20 [] []) (cpa_made 6 101 7 5 cpa).bytes
 Right (shown own held target k) =
-    ours (holding 10 held []) (hears own 0 (lookupOf target))
-    ≡ handed (answer 0 96 0) (holding 10 held []) (closestMade 6 101 7 5 (recordWith k) 0).bytes
+    ours (holding 10 held []) (hears own 0 (lookup_of target))
+    ≡ handed (answer 0 96 0) (holding 10 held []) (closest_made 6 101 7 5 (record_with k) 0).bytes
 Right (skipped own held path target r) =
-    let m = holdingRecords 10 held [] in
-    ours m (hears own 0 (lookupBy none path target)) ≡ handed (answer 0 96 0) m (closestMade 6 101 7 5 r 0).bytes
-Right (inquiredOf own k) =
-    ours (holding 10 [] []) (hearsInto 172 own 0 (lookupBy (some (entry_of 6 101 (recordWith k))) (endpoint 1 1 ∷ []) k))
-    ≡ handed (answer 0 96 76) (holding 10 [] (inquiryFor k ∷ []))
-    ((closestMade 6 101 7 5 (recordWith own) 0).bytes ++ (inquireMade 6 101 8 (key k) (replicate 16 0)).bytes)
+    let m = holding_records 10 held [] in
+    ours m (hears own 0 (lookup_by none path target)) ≡ handed (answer 0 96 0) m (closest_made 6 101 7 5 r 0).bytes
+Right (inquired_of own k) =
+    ours (holding 10 [] []) (hears_into 172 own 0 (lookup_by (some (entry_of 6 101 (record_with k))) (endpoint 1 1 ∷ []) k))
+    ≡ handed (answer 0 96 76) (holding 10 [] (inquiry_for k ∷ []))
+    ((closest_made 6 101 7 5 (record_with own) 0).bytes ++ (inquire_made 6 101 8 (key k) (replicate 16 0)).bytes)
 Right (differ j k d) = around.apart j k ≡ d
-Right (acks major minor id acked n bytes) = (ackMade major minor id acked n).bytes ≡ bytes
-Right (waits id tries ids) = Ticking (holding 10 [] (newPlace id 1 tries (key 7) (replicate 100 0) ∷ [])) ids
-Right (counted held k b bytes) = count_of b (ours (holding 10 held (inquiryFor k ∷ [])) (hears 100 k authority)).memory.firsts ≡ bytes
+Right (acks major minor id acked n bytes) = (ack_made major minor id acked n).bytes ≡ bytes
+Right (waits id tries ids) = Ticking (holding 10 [] (new_place id 1 tries (key 7) (replicate 100 0) ∷ [])) ids
+Right (counted held k b bytes) = count_of b (ours (holding 10 held (inquiry_for k ∷ [])) (hears 100 k authority)).memory.firsts ≡ bytes
 Right (uncounted held k b bytes) = count_of b (ours (holding 10 held []) (hears 100 k revocation)).memory.firsts ≡ bytes
 Right (disagrees held firsts) =
-    let m = withFirsts firsts (holding 10 held []) in
-    ours m (hears 100 0 (lookupOf 7)) ≡ handed (answer 1 0 0) m (replicate 96 0)
-Right (tallied keys b bytes) = count_of b (firstsOf keys) ≡ bytes
+    let m = with_firsts firsts (holding 10 held []) in
+    ours m (hears 100 0 (lookup_of 7)) ≡ handed (answer 1 0 0) m (replicate 96 0)
+Right (tallied keys b bytes) = count_of b (firsts_of keys) ≡ bytes
 
 -- the nine keys before the ring's first
-abbrev pub lastNine : List ℕ
-lastNine =
+abbrev pub last_nine : List ℕ
+last_nine =
     (2 ^ 256 - 9) ∷ (2 ^ 256 - 8) ∷ (2 ^ 256 - 7) ∷ (2 ^ 256 - 6) ∷ (2 ^ 256 - 5) ∷ (2 ^ 256 - 4) ∷ (2 ^ 256 - 3) ∷ (2 ^ 256 - 2) ∷ (2 ^ 256 - 1) ∷ []
 
 -- the five keys on both sides of 100 and of 200
-abbrev pub twoLists : List ℕ
-twoLists =
+abbrev pub two_lists : List ℕ
+two_lists =
     95 ∷ 96 ∷ 97 ∷ 98 ∷ 99 ∷ 101 ∷ 102 ∷ 103 ∷ 104 ∷ 105 ∷ 195 ∷ 196 ∷ 197 ∷ 198 ∷ 199 ∷ 201 ∷ 202 ∷ 203 ∷ 204 ∷ 205 ∷ []
 
 -- two records held, each with an endpoint of its own
 abbrev pub ponds : List (List ℕ)
-ponds = recordOn 99 5000 1 ∷ recordOn 101 5002 3 ∷ []
+ponds = record_on 99 5000 1 ∷ record_on 101 5002 3 ∷ []
 
 -- 1 to 12, in order, "Case 9's answer becomes 0" (Wish 4); then Wish 4's own: pond 1 has the last pond as neighbour below; the opposite key is above; at equal
 -- distance the key reached by going down; the key next to the opposite point is dropped; then Wish 2's: a record on the path is skipped, and not for its address
@@ -212,22 +212,22 @@ cases =
     ∷ listed 1 (5 ∷ (2 ^ 256 - 1) ∷ []) ((2 ^ 256 - 1) ∷ 5 ∷ []) 1 1
     ∷ listed 0 ((2 ^ 255) ∷ (2 ^ 255 + 1) ∷ []) ((2 ^ 255 + 1) ∷ (2 ^ 255) ∷ []) 1 1
     ∷ shown 7 (1 ∷ (2 ^ 256 - 1) ∷ []) 0 (2 ^ 256 - 1)
-    ∷ learnt 10 1 ((2 ^ 256 - 10) ∷ lastNine) 5 (5 ∷ lastNine)
-    ∷ skipped 50 ponds (endpoint 5000 1 ∷ []) 100 (recordOn 101 5002 3)
-    ∷ skipped 50 ponds (endpoint 5001 1 ∷ []) 100 (recordOn 99 5000 1)
-    ∷ skipped 50 ponds (endpoint 5000 2 ∷ endpoint 5001 1 ∷ []) 100 (recordOn 99 5000 1)
-    ∷ skipped 50 ponds (endpoint 5000 0 ∷ []) 100 (recordOn 99 5000 1)
-    ∷ skipped 50 ponds (endpoint 5000 1 ∷ endpoint 5002 3 ∷ []) 100 (recordWith 50)
-    ∷ inquiredOf 50 40
-    ∷ learntBy 20 100 200 twoLists 150 twoLists
+    ∷ learnt 10 1 ((2 ^ 256 - 10) ∷ last_nine) 5 (5 ∷ last_nine)
+    ∷ skipped 50 ponds (endpoint 5000 1 ∷ []) 100 (record_on 101 5002 3)
+    ∷ skipped 50 ponds (endpoint 5001 1 ∷ []) 100 (record_on 99 5000 1)
+    ∷ skipped 50 ponds (endpoint 5000 2 ∷ endpoint 5001 1 ∷ []) 100 (record_on 99 5000 1)
+    ∷ skipped 50 ponds (endpoint 5000 0 ∷ []) 100 (record_on 99 5000 1)
+    ∷ skipped 50 ponds (endpoint 5000 1 ∷ endpoint 5002 3 ∷ []) 100 (record_with 50)
+    ∷ inquired_of 50 40
+    ∷ learnt_by 20 100 200 two_lists 150 two_lists
     ∷ certified 100 200 100 (7 ∷ [])
     ∷ certified 100 200 200 (8 ∷ [])
     ∷ counted [] (begins 5) 5 (1 ∷ 0 ∷ [])
-    ∷ counted (keysFrom 90 10) 101 0 (10 ∷ 0 ∷ [])
+    ∷ counted (keys_from 90 10) 101 0 (10 ∷ 0 ∷ [])
     ∷ uncounted (begins 5 ∷ []) (begins 5) 5 (0 ∷ 0 ∷ [])
     ∷ uncounted (begins 5 ∷ []) (begins 6) 5 (1 ∷ 0 ∷ [])
     ∷ disagrees (99 ∷ []) (replicate 512 0)
-    ∷ tallied (keysFrom 1000 256) 0 (0 ∷ 1 ∷ [])
+    ∷ tallied (keys_from 1000 256) 0 (0 ∷ 1 ∷ [])
     ∷ []
 
 abbrev pub AllRight : Type 0

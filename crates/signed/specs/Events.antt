@@ -8,35 +8,35 @@ use Rattle.gauge.specs.Words.{Entry}
 use Rattle.sentences.specs.Heard.{Heard, entry, revoke, inquire, authority, ack, lookup, other, Hears}
 
 -- whom a call sent a FLOOD with the ID to, if it did: the neighbour's key, not the record's; else what is known from before
-abbrev pub sentBy : ℕ → Call → ℕ → Option ℕ → Option ℕ
-sentBy id (receives l) n earlier = earlier
-sentBy id (sends l) n earlier = cond (eqb n 0 && eqb l.id id) (some (key_at 0 l.neighbour)) earlier
-sentBy id (ticks l) n earlier = earlier
-sentBy id (lists l) n earlier = earlier
+abbrev pub sent_by : ℕ → Call → ℕ → Option ℕ → Option ℕ
+sent_by id (receives l) n earlier = earlier
+sent_by id (sends l) n earlier = cond (eqb n 0 && eqb l.id id) (some (key_at 0 l.neighbour)) earlier
+sent_by id (ticks l) n earlier = earlier
+sent_by id (lists l) n earlier = earlier
 
 -- whom the latest such FLOOD went to, of a log with the latest call first
-unfoldable pub sentTo : ℕ → List Entry → Option ℕ
-sentTo id [] = none
-sentTo id (e ∷ es) = sentBy id e.call e.number (sentTo id es)
+unfoldable pub sent_to : ℕ → List Entry → Option ℕ
+sent_to id [] = none
+sent_to id (e ∷ es) = sent_by id e.call e.number (sent_to id es)
 
-abbrev pub removedIf : Option ℕ → List Event
-removedIf none = []
-removedIf (some k) = removed k ∷ []
+abbrev pub removed_if : Option ℕ → List Event
+removed_if none = []
+removed_if (some k) = removed k ∷ []
 
 -- what a message does when it is accepted; k is the verdict's key. An AUTHORITY learns it, a revocation removes it, and an ACK with N the key that the FLOOD
 -- went to
-abbrev pub toldBy : List Entry → ℕ → Heard → List Event
-toldBy earlier k (entry id silent validate r) = []
-toldBy earlier k (revoke id silent validate) = removed k ∷ []
-toldBy earlier k (inquire id validate) = []
-toldBy earlier k (authority acked cpa) = learned k ∷ []
-toldBy earlier k (ack acked n) = cond n (removedIf (sentTo acked earlier)) []
-toldBy earlier k (lookup id target path e) = []
-toldBy earlier k other = []
+abbrev pub told_by : List Entry → ℕ → Heard → List Event
+told_by earlier k (entry id silent validate r) = []
+told_by earlier k (revoke id silent validate) = removed k ∷ []
+told_by earlier k (inquire id validate) = []
+told_by earlier k (authority acked cpa) = learned k ∷ []
+told_by earlier k (ack acked n) = cond n (removed_if (sent_to acked earlier)) []
+told_by earlier k (lookup id target path e) = []
+told_by earlier k other = []
 
 -- what a call does when it is accepted
 abbrev pub Tells : List Entry → Call → List Event → Type 0
-Tells earlier (receives l) now = (x : Heard) × Hears l.datagram l.major x × (now ≡ toldBy earlier (key_at 0 l.key) x)
+Tells earlier (receives l) now = (x : Heard) × Hears l.datagram l.major x × (now ≡ told_by earlier (key_at 0 l.key) x)
 Tells earlier (sends l) now = now ≡ []
 Tells earlier (ticks l) now = now ≡ []
 Tells earlier (lists l) now = now ≡ []

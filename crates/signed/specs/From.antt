@@ -2,10 +2,10 @@
 -- meets it, and every gauge that meets the sentences, stands in proofs/FromLaws.antt. Assumes nothing.
 use Rattle.std.specs.Prelude.{ℕ, ◌*◌, ◌≤◌, true, List, [], ◌++◌, map, ◌≡◌, length, replicate}
 use Rattle.own.specs.Own.{Own, IsOwn}
-use Rattle.kept.specs.History.{Event, learned, NoRemoval, learnedAll}
+use Rattle.kept.specs.History.{Event, learned, NoRemoval, learned_all}
 use Rattle.kept.specs.Plain.{drops, kept}
-use Rattle.cache.specs.Form.{keys_of, held_of, cacheForm}
-use Rattle.firsts.specs.Firsts.{firstsOf}
+use Rattle.cache.specs.Form.{keys_of, held_of, cache_form}
+use Rattle.firsts.specs.Firsts.{firsts_of}
 use Rattle.gauge_plan.specs.Lent.{Memory, memory, empty, Counted, Call}
 use Rattle.gauge.specs.Words.{Gauge, left, log, Proper}
 use Rattle.sentences.specs.Meets.{MeetsSentences}
@@ -14,29 +14,29 @@ use Rattle.signed.specs.Statements.{ListsThese, MeetsDemand3, Signed}
 
 -- the cache as saved, the counts of its keys (02, Wish 12), and an empty waiting table
 abbrev pub restarted : Own → List ℕ → Memory
-restarted own cache = memory cache (firstsOf (keys_of (held_of own cache))) (replicate 2240 0)
+restarted own cache = memory cache (firsts_of (keys_of (held_of own cache))) (replicate 2240 0)
 
 -- the keys held at the start count as learned before the first call, one after the other
-abbrev pub heldBefore : Own → List ℕ → List Event
-heldBefore own cache = map learned (keys_of (held_of own cache))
+abbrev pub held_before : Own → List ℕ → List Event
+held_before own cache = map learned (keys_of (held_of own cache))
 
 -- that drops none of them: the keys kept at the start are those held
 abbrev pub HeldKept : Type 0
 HeldKept =
-    (own : Own) (C : ℕ) (cache : List ℕ) → cacheForm own cache ≡ true → length cache ≡ 100 * C
-    → kept own C (heldBefore own cache) ≡ keys_of (held_of own cache)
+    (own : Own) (C : ℕ) (cache : List ℕ) → cache_form own cache ≡ true → length cache ≡ 100 * C
+    → kept own C (held_before own cache) ≡ keys_of (held_of own cache)
 
 -- as Demand3 (Statements), with the keys that were held in front of what happened
 pub record Demand3From (g : Gauge) (own : Own) (C : ℕ) (cache : List ℕ) (calls : List Call) : Type 0 where
   pub later : List Event
   pub happened : Happened [] (log g (restarted own cache) calls) later
-  pub listed : (k : ℕ) → IsOwn own k → ListsThese g (left g (restarted own cache) calls) own k (kept own C (heldBefore own cache ++ later))
-  pub among-all : NoRemoval (drops own) C [] (heldBefore own cache ++ later)
-      → (k : ℕ) → IsOwn own k → ListsThese g (left g (restarted own cache) calls) own k (learnedAll (heldBefore own cache ++ later))
+  pub listed : (k : ℕ) → IsOwn own k → ListsThese g (left g (restarted own cache) calls) own k (kept own C (held_before own cache ++ later))
+  pub among-all : NoRemoval (drops own) C [] (held_before own cache ++ later)
+      → (k : ℕ) → IsOwn own k → ListsThese g (left g (restarted own cache) calls) own k (learned_all (held_before own cache ++ later))
 
 abbrev pub MeetsDemand3From : Gauge → Type 0
 MeetsDemand3From g =
-    (own : Own) (C : ℕ) (cache : List ℕ) → cacheForm own cache ≡ true → length cache ≡ 100 * C → (calls : List Call) → Proper own calls
+    (own : Own) (C : ℕ) (cache : List ℕ) → cache_form own cache ≡ true → length cache ≡ 100 * C → (calls : List Call) → Proper own calls
     → Demand3From g own C cache calls
 
 -- "After any accepted call they equal those counted afresh" (02, Wish 12), from an empty cache on and from one saved with its counts

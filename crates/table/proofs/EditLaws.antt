@@ -9,30 +9,30 @@ use lib.ListN.{length, take, drop, set, replicate, length-append, length-replica
 use lib.Seq.{take_at, drop_at, length-take-le, drop-append-add, split_at, set_split}
 use Rattle.octet.specs.Part.{part, splice}
 use Rattle.octet.proofs.PartLaws.{length_part}
-use Rattle.table.specs.Rows.{rows, joined, bytes_of, Laid, insertAt, removeAt}
-use Rattle.table.proofs.RowLaws.{joined-append, joined_length, rows-length, rows-sized, sized-take, row_at, laid-bytes}
+use Rattle.table.specs.Rows.{rows, joined, bytes_of, Laid, insert_at, remove_at}
+use Rattle.table.proofs.RowLaws.{joined_append, joined_length, rows-length, rows-sized, sized-take, row_at, laid-bytes}
 
 -- ---- on lists of any rows
 
 -- a part replaced, in a list whose pieces are known
-splice-piece : (p x z y : List ℕ) (at : ℕ) → length p ≡ at → length y ≡ length x → splice at y (p ++ (x ++ z)) ≡ p ++ (y ++ z)
+splice_piece : (p x z y : List ℕ) (at : ℕ) → length p ≡ at → length y ≡ length x → splice at y (p ++ (x ++ z)) ≡ p ++ (y ++ z)
 unfolding splice
-splice-piece p x z y at hp hy =
+splice_piece p x z y at hp hy =
     let e : at + length y ≡ length p + length x = omega arith in
     let rest : drop (at + length y) (p ++ (x ++ z)) ≡ z =
     ap (λ (k : ℕ). drop k (p ++ (x ++ z))) e ∙ drop-append-add p (x ++ z) (length x) ∙ drop_at x z (length x) refl in
     ap₂ (λ (l m : List ℕ). l ++ y ++ m) (take_at p (x ++ z) at hp) rest ∙ append_assoc p y z
 
 -- a piece cut out
-part-piece : (p x z : List ℕ) (at n : ℕ) → length p ≡ at → length x ≡ n → part at n (p ++ (x ++ z)) ≡ x
-part-piece p x z at n hp hx = ap (take n) (drop_at p (x ++ z) at hp) ∙ take_at x z n hx
+part_piece : (p x z : List ℕ) (at n : ℕ) → length p ≡ at → length x ≡ n → part at n (p ++ (x ++ z)) ≡ x
+part_piece p x z at n hp hx = ap (take n) (drop_at p (x ++ z) at hp) ∙ take_at x z n hx
 
 -- the pieces of the bytes of rows
 pieces : (size : ℕ) (a b : List (List ℕ))
     → bytes_of size (a ++ b) ≡ joined a ++ (joined b ++ replicate (size - (length (joined a) + length (joined b))) 0)
 unfolding bytes_of
 pieces size a b =
-    (λ k. joined-append a b k ++ replicate (size - length (joined-append a b k)) 0)
+    (λ k. joined_append a b k ++ replicate (size - length (joined_append a b k)) 0)
     ∙ ap (λ (m : ℕ). (joined a ++ joined b) ++ replicate (size - m) 0) (length-append (joined a) (joined b))
     ∙ append_assoc (joined a) (joined b) _
 
@@ -49,11 +49,11 @@ module _ (size : ℕ) (a b : List (List ℕ)) (at : ℕ) (starts : length (joine
       let whole : bytes_of size (a ++ b) ≡ p ++ (q ++ (replicate w 0 ++ replicate m 0)) =
       pieces size a b ∙ ap (λ (l : List ℕ). p ++ (q ++ l)) (ap (λ (k : ℕ). replicate k 0) count ∙ sym (replicate-append-replicate w m 0)) in
       let cut : part at n (bytes_of size (a ++ b)) ≡ q =
-      ap (part at n) whole ∙ part-piece p q (replicate w 0 ++ replicate m 0) at n starts hn in
+      ap (part at n) whole ∙ part_piece p q (replicate w 0 ++ replicate m 0) at n starts hn in
       let room : length (row ++ q) ≡ length (q ++ replicate w 0) =
       simp (length-append, length-replicate) (omega arith) in
       ap₂ (λ (l s : List ℕ). splice at (row ++ l) s) cut (whole ∙ ap (λ (l : List ℕ). p ++ l) (sym (append_assoc q (replicate w 0) (replicate m 0))))
-      ∙ splice-piece p (q ++ replicate w 0) (replicate m 0) (row ++ q) at starts room
+      ∙ splice_piece p (q ++ replicate w 0) (replicate m 0) (row ++ q) at starts room
       ∙ sym (pieces size a (row ∷ b))
 
   module _ (r : List ℕ) (fits : at + length r + length (joined b) ≤ size) where
@@ -72,11 +72,11 @@ module _ (size : ℕ) (a b : List (List ℕ)) (at : ℕ) (starts : length (joine
         let m : ℕ = size - (at + length r + length q) in
         let start : length (p ++ r) ≡ at + w = simp length-append (omega arith) in
         let cut : part (at + w) n (bytes_of size (a ++ (r ∷ b))) ≡ q =
-        ap (part (at + w) n) (whole ∙ sym (append_assoc p r (q ++ replicate m 0))) ∙ part-piece (p ++ r) q (replicate m 0) (at + w) n start hn in
+        ap (part (at + w) n) (whole ∙ sym (append_assoc p r (q ++ replicate m 0))) ∙ part_piece (p ++ r) q (replicate m 0) (at + w) n start hn in
         let turn : length (q ++ replicate w 0) ≡ length (r ++ q) = simp (length-append, length-replicate) (omega arith) in
         let count : w + m ≡ size - (length p + length q) = omega arith in
         ap₂ (λ (l s : List ℕ). splice at (l ++ replicate w 0) s) cut (whole ∙ ap (λ (l : List ℕ). p ++ l) (sym (append_assoc r q (replicate m 0))))
-        ∙ splice-piece p (r ++ q) (replicate m 0) (q ++ replicate w 0) at starts turn
+        ∙ splice_piece p (r ++ q) (replicate m 0) (q ++ replicate w 0) at starts turn
         ∙ ap (λ (l : List ℕ). p ++ l) (append_assoc q (replicate w 0) (replicate m 0))
         ∙ ap (λ (l : List ℕ). p ++ (q ++ l)) (replicate-append-replicate w m 0 ∙ ap (λ (k : ℕ). replicate k 0) count)
         ∙ sym (pieces size a b)
@@ -88,7 +88,7 @@ module _ (size : ℕ) (a b : List (List ℕ)) (at : ℕ) (starts : length (joine
         let q : List ℕ = joined b in
         let m : ℕ = size - (at + length r + length q) in
         let count : m ≡ size - (length p + length (row ++ q)) = simp length-append (omega arith) in
-        ap (splice at row) whole ∙ splice-piece p r (q ++ replicate m 0) row at starts h
+        ap (splice at row) whole ∙ splice_piece p r (q ++ replicate m 0) row at starts h
         ∙ ap (λ (l : List ℕ). p ++ l) (sym (append_assoc row q (replicate m 0)) ∙ ap (λ (k : ℕ). (row ++ q) ++ replicate k 0) count)
         ∙ sym (pieces size a (row ∷ b))
 
@@ -109,7 +109,7 @@ module _ (w n i : ℕ) (s : List ℕ) (laid : Laid w n s) where
       ∙ ap (λ (k : ℕ). w * k) (length-take-le i (rows w n s) (omega (arith, rows-length w n s)))
 
   pub insert-laid : i ≤ n → (row : List ℕ) → length row ≡ w → w * n + w ≤ length s
-      → splice (w * i) (row ++ part (w * i) (w * n - w * i) s) s ≡ bytes_of (length s) (insertAt i row (rows w n s))
+      → splice (w * i) (row ++ part (w * i) (w * n - w * i) s) s ≡ bytes_of (length s) (insert_at i row (rows w n s))
   unfolding rs
   insert-laid h row hr fits =
       let size : ℕ = length s in
@@ -117,7 +117,7 @@ module _ (w n i : ℕ) (s : List ℕ) (laid : Laid w n s) where
       let b : List (List ℕ) = drop i (rows w n s) in
       let whole : s ≡ bytes_of size (a ++ b) = laid-bytes w n s laid ∙ ap (bytes_of size) (sym (take-append-drop i (rows w n s))) in
       let both : length (joined a) + length (joined b) ≡ w * n =
-      sym (length-append (joined a) (joined b)) ∙ ap length (sym (joined-append a b) ∙ ap joined (take-append-drop i (rows w n s))) ∙ all-length in
+      sym (length-append (joined a) (joined b)) ∙ ap length (sym (joined_append a b) ∙ ap joined (take-append-drop i (rows w n s))) ∙ all-length in
       let rest : length (joined b) ≡ w * n - w * i = omega (arith, front_length h) in
       ap (λ (l : List ℕ). splice (w * i) (row ++ part (w * i) (w * n - w * i) l) l) whole
       ∙ insert-bytes size a b (w * i) (front_length h) row (w * n - w * i) rest (omega (arith, mul-le-mul_left w h))
@@ -147,13 +147,13 @@ module _ (w n i : ℕ) (s : List ℕ) (laid : Laid w n s) where
     unfolding joined
     back-length =
         let e : length (joined rs) ≡ length (joined (take i rs)) + (length gone + length (joined (drop (suc i) rs))) =
-        ap (λ (l : List (List ℕ)). length (joined l)) split ∙ ap length (joined-append (take i rs) (gone ∷ drop (suc i) rs)) ∙ simp length-append in
+        ap (λ (l : List (List ℕ)). length (joined l)) split ∙ ap length (joined_append (take i rs) (gone ∷ drop (suc i) rs)) ∙ simp length-append in
         omega (arith, all-length, front_length (omega arith), gone-length)
 
     room : w * i + length gone + length (joined (drop (suc i) rs)) ≤ length s
     room = omega (arith, gone-length, back-length, after, laid.room)
 
-    pub remove-laid : splice (w * i) (part (w * i + w) (w * n - (w * i + w)) s ++ replicate w 0) s ≡ bytes_of (length s) (removeAt i (rows w n s))
+    pub remove-laid : splice (w * i) (part (w * i + w) (w * n - (w * i + w)) s ++ replicate w 0) s ≡ bytes_of (length s) (remove_at i (rows w n s))
     unfolding rs
     remove-laid =
         ap (λ (l : List ℕ). splice (w * i) (part (w * i + w) (w * n - (w * i + w)) l ++ replicate w 0) l) whole_split

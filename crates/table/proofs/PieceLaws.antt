@@ -15,8 +15,8 @@ pub part-start : (at w n : ℕ) (s : List ℕ) → n ≤ w → part 0 n (part at
 part-start at w n s h = take-take n w (drop at s) h
 
 -- a part lent by its start and its end
-pub part-lent : (at w : ℕ) (s : List ℕ) → take ((at + w) - at) (drop at s) ≡ part at w s
-part-lent at w s = let e : (at + w) - at ≡ w = omega arith in ap (λ (k : ℕ). take k (drop at s)) e
+pub part_lent : (at w : ℕ) (s : List ℕ) → take ((at + w) - at) (drop at s) ≡ part at w s
+part_lent at w s = let e : (at + w) - at ≡ w = omega arith in ap (λ (k : ℕ). take k (drop at s)) e
 
 -- ---- around a replaced part
 

@@ -9,39 +9,39 @@ use native.Mathlib.Numerals.{add-one}
 use native.Mathlib.Omega.{arith}
 use lib.ListN.{length, take, drop, get_or, replicate, length-append, length-drop, length-replicate, take-append-drop, drop_of_length-le}
 use lib.Seq.{take-add, take_at, drop_at, drop-drop, length-take-le, drop-cons}
-use Rattle.octet.specs.Part.{part, allZero}
-use Rattle.octet.proofs.TestLaws.{all-zeros, zeros-all}
+use Rattle.octet.specs.Part.{part, all_zero}
+use Rattle.octet.proofs.TestLaws.{all_zeros, zeros_all}
 use Rattle.table.specs.Rows.{rows, joined, bytes_of, Sized, Laid}
 
 -- ---- zeros
 
-pub drop-zeros : (k n : ℕ) → drop {A = ℕ} k (replicate n 0) ≡ replicate (n - k) 0
-drop-zeros zero n =
+pub drop_zeros : (k n : ℕ) → drop {A = ℕ} k (replicate n 0) ≡ replicate (n - k) 0
+drop_zeros zero n =
     let p : n ≡ n - 0 = omega arith in
     ap (λ (m : ℕ). replicate m 0) p
-drop-zeros (suc k) zero =
+drop_zeros (suc k) zero =
     let p : 0 ≡ 0 - suc k = omega arith in
     ap (λ (m : ℕ). replicate m 0) p
-drop-zeros (suc k) (suc n) =
+drop_zeros (suc k) (suc n) =
     let p : n - k ≡ suc n - suc k = omega arith in
-    drop-zeros k n ∙ ap (λ (m : ℕ). replicate m 0) p
+    drop_zeros k n ∙ ap (λ (m : ℕ). replicate m 0) p
 
 -- ---- rows, one after the other
 
-pub joined-append : (a b : List (List ℕ)) → joined (a ++ b) ≡ joined a ++ joined b
+pub joined_append : (a b : List (List ℕ)) → joined (a ++ b) ≡ joined a ++ joined b
 unfolding joined
-joined-append [] b = refl
-joined-append (x ∷ a) b = ap (λ (l : List ℕ). x ++ l) (joined-append a b) ∙ sym (append_assoc x (joined a) (joined b))
+joined_append [] b = refl
+joined_append (x ∷ a) b = ap (λ (l : List ℕ). x ++ l) (joined_append a b) ∙ sym (append_assoc x (joined a) (joined b))
 
 -- rows that fit fill all the bytes
-pub length-bytes : (size : ℕ) (rs : List (List ℕ)) → length (joined rs) ≤ size → length (bytes_of size rs) ≡ size
+pub length_bytes : (size : ℕ) (rs : List (List ℕ)) → length (joined rs) ≤ size → length (bytes_of size rs) ≡ size
 unfolding bytes_of
-length-bytes size rs h = simp (length-append, length-replicate) (omega arith)
+length_bytes size rs h = simp (length-append, length-replicate) (omega arith)
 
 -- after the rows there are zeros
-pub bytes-clear : (size : ℕ) (rs : List (List ℕ)) → drop (length (joined rs)) (bytes_of size rs) ≡ replicate (size - length (joined rs)) 0
+pub bytes_clear : (size : ℕ) (rs : List (List ℕ)) → drop (length (joined rs)) (bytes_of size rs) ≡ replicate (size - length (joined rs)) 0
 unfolding bytes_of
-bytes-clear size rs = drop_at (joined rs) (replicate (size - length (joined rs)) 0) (length (joined rs)) refl
+bytes_clear size rs = drop_at (joined rs) (replicate (size - length (joined rs)) 0) (length (joined rs)) refl
 
 module _ (w : ℕ) where
   -- ---- how many and how long
@@ -164,14 +164,14 @@ module _ (w : ℕ) where
   laid-bytes n s laid =
       let long : length (joined (rows w n s)) ≡ w * n = ap length (rows-joined n s) ∙ length-take-le (w * n) s laid.room in
       let rest : drop (w * n) s ≡ replicate (length s - length (joined (rows w n s))) 0 =
-      all-zeros (drop (w * n) s) laid.clear
+      all_zeros (drop (w * n) s) laid.clear
       ∙ ap (λ (m : ℕ). replicate m 0) (length-drop (w * n) s ∙ ap (λ (m : ℕ). length s - m) (sym long)) in
       sym (take-append-drop (w * n) s) ∙ ap₂ ◌++◌ (sym (rows-joined n s)) rest
 
   -- rows that fit, laid out: the bytes are so many, read back they give the rows, and they are laid out
   module _ (size : ℕ) (rs : List (List ℕ)) (sized : Sized w rs) (fits : w * length rs ≤ size) where
     pub bytes-length : length (bytes_of size rs) ≡ size
-    bytes-length = length-bytes size rs (omega (arith, joined_length rs sized))
+    bytes-length = length_bytes size rs (omega (arith, joined_length rs sized))
 
     pub bytes-rows : rows w (length rs) (bytes_of size rs) ≡ rs
     unfolding bytes_of
@@ -181,8 +181,8 @@ module _ (w : ℕ) where
     bytes-laid = record {
       room = omega (arith, bytes-length);
       clear =
-          ap (λ (k : ℕ). allZero (drop k (bytes_of size rs))) (sym (joined_length rs sized)) ∙ ap allZero (bytes-clear size rs)
-          ∙ zeros-all (size - length (joined rs));
+          ap (λ (k : ℕ). all_zero (drop k (bytes_of size rs))) (sym (joined_length rs sized)) ∙ ap all_zero (bytes_clear size rs)
+          ∙ zeros_all (size - length (joined rs));
     }
 
   -- so two lists of as many rows with the same bytes are one list

@@ -23,16 +23,16 @@ pub data Here (test : List ℕ → Bool) (n i : ℕ) (ps : List (List ℕ)) : Ty
 further : (test : List ℕ → Bool) (n i : ℕ) (p : List ℕ) (ps : List (List ℕ)) → Here test (n + 1) i ps → Here test n i (p ∷ ps)
 further test n i p ps (here j e l t) = here (suc j) (omega arith) (omega arith) t
 
-found-by : (test : List ℕ → Bool) (n i : ℕ) (p : List ℕ) (ps : List (List ℕ)) (b : Bool) → test p ≡ b
+found_by : (test : List ℕ → Bool) (n i : ℕ) (p : List ℕ) (ps : List (List ℕ)) (b : Bool) → test p ≡ b
     → (seek test (n + 1) ps ≡ At i → Here test (n + 1) i ps) → cond b (At n) (seek test (n + 1) ps) ≡ At i → Here test n i (p ∷ ps)
-found-by test n i p ps true t later e = let is : n ≡ i = cc in here 0 (omega arith) (omega arith) t
-found-by test n i p ps false t later e = further test n i p ps (later e)
+found_by test n i p ps true t later e = let is : n ≡ i = cc in here 0 (omega arith) (omega arith) t
+found_by test n i p ps false t later e = further test n i p ps (later e)
 
 -- where the found row is, and that it passes the test
 pub seek_is : (test : List ℕ → Bool) (n i : ℕ) (ps : List (List ℕ)) → seek test n ps ≡ At i → Here test n i ps
 unfolding seek
 seek_is test n i [] e = let z : ◌≡◌ {A = ℕ} 0 1 = cc in absurd (omega arith)
-seek_is test n i (p ∷ ps) e = found-by test n i p ps (test p) refl (seek_is test (n + 1) i ps) e
+seek_is test n i (p ∷ ps) e = found_by test n i p ps (test p) refl (seek_is test (n + 1) i ps) e
 
 from_start : (test : List ℕ → Bool) (i : ℕ) (ps : List (List ℕ)) → Here test 0 i ps → (i < length ps) × (test (get_or ps i []) ≡ true)
 from_start test i ps (here j e l t) =
@@ -42,28 +42,28 @@ from_start test i ps (here j e l t) =
 pub found_within : (test : List ℕ → Bool) (i : ℕ) (ps : List (List ℕ)) → seek test 0 ps ≡ At i → i < length ps
 found_within test i ps e = (from_start test i ps (seek_is test 0 i ps e)).0
 
-pub found-passes : (test : List ℕ → Bool) (i : ℕ) (ps : List (List ℕ)) → seek test 0 ps ≡ At i → test (get_or ps i []) ≡ true
-found-passes test i ps e = (from_start test i ps (seek_is test 0 i ps e)).1
+pub found_passes : (test : List ℕ → Bool) (i : ℕ) (ps : List (List ℕ)) → seek test 0 ps ≡ At i → test (get_or ps i []) ≡ true
+found_passes test i ps e = (from_start test i ps (seek_is test 0 i ps e)).1
 
 -- ---- whether one does
 
 -- whether one passes a test is whether it is found
-abbrev pub isFound : Found → Bool
-isFound (At n) = true
-isFound Nothing = false
+abbrev pub is_found : Found → Bool
+is_found (At n) = true
+is_found Nothing = false
 
-is-found-by : (b : Bool) (n : ℕ) (f : Found) (r : Bool) → r ≡ isFound f → (b || r) ≡ isFound (cond b (At n) f)
-is-found-by true n f r e = refl
-is-found-by false n f r e = e
+is_found_by : (b : Bool) (n : ℕ) (f : Found) (r : Bool) → r ≡ is_found f → (b || r) ≡ is_found (cond b (At n) f)
+is_found_by true n f r e = refl
+is_found_by false n f r e = e
 
-pub any_found : (test : List ℕ → Bool) (n : ℕ) (ps : List (List ℕ)) → any_of test ps ≡ isFound (seek test n ps)
+pub any_found : (test : List ℕ → Bool) (n : ℕ) (ps : List (List ℕ)) → any_of test ps ≡ is_found (seek test n ps)
 unfolding any_of seek
 any_found test n [] = refl
-any_found test n (p ∷ ps) = is-found-by (test p) n (seek test (n + 1) ps) (any_of test ps) (any_found test (n + 1) ps)
+any_found test n (p ∷ ps) = is_found_by (test p) n (seek test (n + 1) ps) (any_of test ps) (any_found test (n + 1) ps)
 
 -- where none is found, none passes
 pub none_found : (test : List ℕ → Bool) (n : ℕ) (ps : List (List ℕ)) → seek test n ps ≡ Nothing → any_of test ps ≡ false
-none_found test n ps e = any_found test n ps ∙ ap isFound e
+none_found test n ps e = any_found test n ps ∙ ap is_found e
 
 -- ---- walks
 
@@ -109,6 +109,6 @@ module _ (w used : ℕ) (t : List ℕ) (at : ℕ) where
     unfolding any_of
     any-on h e = ap (any_of test) (next h) ∙ rw e refl
 
-    pub any-end : used ≤ at → any_of test left ≡ false
+    pub any_end : used ≤ at → any_of test left ≡ false
     unfolding any_of
-    any-end h = ap (any_of test) (none h)
+    any_end h = ap (any_of test) (none h)

@@ -4,7 +4,7 @@
 mod exchange;
 
 ghost use Rattle.std.specs.Prelude.{◌≡◌, ◌+◌, ◌*◌, ◌≤◌, ◌<◌, length, set};
-ghost use Rattle.table.specs.Rows.{rows, bytes_of, Laid, insertAt, removeAt};
+ghost use Rattle.table.specs.Rows.{rows, bytes_of, Laid, insert_at, remove_at};
 
 pub use exchange::{exchange_down, exchange_up};
 
@@ -20,7 +20,7 @@ pub fn insert_row(s: &mut [u8], width: usize, used: usize, at: usize, row: &[u8]
     requires { (at ≤ used) × (length row.now ≡ width) × (width * used + width ≤ length s.old)
         × Laid width used s.old }
     ensures { s.new
-        ≡ bytes_of (length s.old) (insertAt at row.now (rows width used s.old)) }
+        ≡ bytes_of (length s.old) (insert_at at row.now (rows width used s.old)) }
 {
     let from = width * at;
     let end = width * used;
@@ -31,7 +31,7 @@ pub fn insert_row(s: &mut [u8], width: usize, used: usize, at: usize, row: &[u8]
 pub fn remove_row(s: &mut [u8], width: usize, used: usize, at: usize)
     requires { (at < used) × Laid width used s.old }
     ensures { s.new
-        ≡ bytes_of (length s.old) (removeAt at (rows width used s.old)) }
+        ≡ bytes_of (length s.old) (remove_at at (rows width used s.old)) }
 {
     let from = width * at;
     let end = width * used;

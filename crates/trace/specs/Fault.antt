@@ -2,7 +2,7 @@
 -- repeated". Assumes nothing.
 use Rattle.std.specs.Prelude.{ℕ, ◌+◌, Bool, not, ◌&&◌, ◌||◌, List, [], ◌∷◌, ◌++◌, eqb, ltb, length}
 use Rattle.refusal.specs.Table.{Refusal, when, first_of}
-use Rattle.trace.specs.Trace.{length_of, kind_of, body_of, isKind, bodyFits}
+use Rattle.trace.specs.Trace.{length_of, kind_of, body_of, is_kind, body_fits}
 
 -- the first record, number 0, is of kind 4, and no later one is
 abbrev pub misplaced : ℕ → ℕ → List Refusal
@@ -13,12 +13,12 @@ unfoldable pub faults : ℕ → List ℕ → List Refusal
 faults at r =
     when 16 (not (eqb (length r) (2 + length_of r)))
     ∷ when 16 (ltb (length_of r) 2)
-    ∷ when 16 (not (bodyFits (kind_of r) (length (body_of r))))
-    ∷ when 17 (not (isKind (kind_of r)))
+    ∷ when 16 (not (body_fits (kind_of r) (length (body_of r))))
+    ∷ when 17 (not (is_kind (kind_of r)))
     ∷ misplaced at (kind_of r)
 
-abbrev pub isGood : ℕ → List ℕ → Bool
-isGood at r = eqb (first_of (faults at r)) 0
+abbrev pub is_good : ℕ → List ℕ → Bool
+is_good at r = eqb (first_of (faults at r)) 0
 
 -- the replay stops at a bad record, not at a call that is refused
 abbrev pub ends : ℕ → Bool

@@ -1,12 +1,12 @@
 // The ways in which a record can be bad.
 ghost use Rattle.std.specs.Prelude.{◌≡◌};
 ghost use Rattle.refusal.specs.Table.{first_of};
-ghost use Rattle.trace.specs.Trace.{bodyFits, isKind};
+ghost use Rattle.trace.specs.Trace.{body_fits, is_kind};
 ghost use Rattle.trace.specs.Fault.{faults, ends, misplaced as misplacedRows};
 
 // A body has the length of its kind; of an unknown kind any will do.
 fn body_fits(kind: u16, len: usize) -> bool
-    ensures { result ≡ bodyFits kind len }
+    ensures { result ≡ body_fits kind len }
 {
     if kind == 1 {
         return 53 <= len;
@@ -24,7 +24,7 @@ fn body_fits(kind: u16, len: usize) -> bool
 }
 
 fn is_kind(kind: u16) -> bool
-    ensures { result ≡ isKind kind }
+    ensures { result ≡ is_kind kind }
 {
     if kind == 0 {
         return false;

@@ -11,55 +11,55 @@ use borrow.Author.Tests.{eqb-true}
 use Rattle.octet.specs.Part.{part}
 use Rattle.octet.proofs.TestLaws.{both_true}
 use Rattle.key.specs.Number.{key_at}
-use Rattle.record.specs.Record.{key_of, recordForm}
+use Rattle.record.specs.Record.{key_of, record_form}
 use Rattle.own.specs.Own.{Own, IsOwn}
 use Rattle.table.proofs.RowLaws.{rows-length, row_at}
-use Rattle.table.proofs.SeekLaws.{Here, seek_is, found_within, found-passes}
+use Rattle.table.proofs.SeekLaws.{Here, seek_is, found_within, found_passes}
 use Rattle.table.proofs.SeekLaws.Here.{here}
 use Rattle.table.specs.declared.Found.TheVariants.{At}
-use Rattle.waiting.specs.Place.{id_of, kind_of, placeKey}
+use Rattle.waiting.specs.Place.{id_of, kind_of, place_key}
 use Rattle.table.specs.Rows.{any_of}
-use Rattle.waiting.specs.Form.{isInquiry, placeForm, usedOf, places_of, waitingForm}
+use Rattle.waiting.specs.Form.{is_inquiry, place_form, used_of, places_of, waiting_form}
 use Rattle.table.specs.Seek.{seek}
 use Rattle.waiting.specs.Seek.{is_at}
 use Rattle.waiting.specs.Open.{freed}
 use Rattle.waiting.proofs.FormLaws.{Placed, form-placed}
-use Rattle.waiting.proofs.PlaceLaws.{key-at, record-at, inquiry-record, inquiry-key, inquiry-other}
+use Rattle.waiting.proofs.PlaceLaws.{key-at, record_at_lem, inquiry-record, inquiry-key, inquiry-other}
 
 -- a place of a table in form is in form
-pub placed_at : (own : Own) (low i : ℕ) (ps : List (List ℕ)) → Placed own low ps → i < length ps → placeForm own (get_or ps i []) ≡ true
+pub placed_at : (own : Own) (low i : ℕ) (ps : List (List ℕ)) → Placed own low ps → i < length ps → place_form own (get_or ps i []) ≡ true
 placed_at own low i [] h l = absurd (omega arith)
 placed_at own low zero (p ∷ ps) h l = h.0
 placed_at own low (suc i) (p ∷ ps) h l = placed_at own (suc (id_of p)) i ps h.3 (omega arith)
 
 -- an inquiry found in a table in form: its place is used, and its record, where it lies, is in form, of the place's key, which is not ours
-module _ (own : Own) (t : List ℕ) (ok : waitingForm own t ≡ true) (id i : ℕ) (e : seek (is_at id 2) 0 (places_of t) ≡ At i) where
-  pub inquiry-within : i < usedOf t
-  inquiry-within = omega (arith, found_within (is_at id 2) i (places_of t) e, rows-length 140 (usedOf t) t)
+module _ (own : Own) (t : List ℕ) (ok : waiting_form own t ≡ true) (id i : ℕ) (e : seek (is_at id 2) 0 (places_of t) ≡ At i) where
+  pub inquiry-within : i < used_of t
+  inquiry-within = omega (arith, found_within (is_at id 2) i (places_of t) e, rows-length 140 (used_of t) t)
 
   p : List ℕ
   p = part (140 * i) 140 t
 
   is-place : get_or (places_of t) i [] ≡ p
   unfolding p
-  is-place = row_at 140 (usedOf t) t i inquiry-within
+  is-place = row_at 140 (used_of t) t i inquiry-within
 
-  formed : placeForm own p ≡ true
-  formed = sym (ap (placeForm own) is-place) ∙ placed_at own 0 i (places_of t) (form-placed own t ok) (found_within (is_at id 2) i (places_of t) e)
+  formed : place_form own p ≡ true
+  formed = sym (ap (place_form own) is-place) ∙ placed_at own 0 i (places_of t) (form-placed own t ok) (found_within (is_at id 2) i (places_of t) e)
 
   passes : (eqb (id_of p) id ≡ true) × (eqb (kind_of p) 2 ≡ true)
-  passes = both_true (eqb (id_of p) id) (eqb (kind_of p) 2) (sym (ap (is_at id 2) is-place) ∙ found-passes (is_at id 2) i (places_of t) e)
+  passes = both_true (eqb (id_of p) id) (eqb (kind_of p) 2) (sym (ap (is_at id 2) is-place) ∙ found_passes (is_at id 2) i (places_of t) e)
 
   inquires : kind_of p ≡ 2
   inquires = eqb-true (kind_of p) 2 passes.1
 
-  pub found-record : recordForm (part (140 * i + 40) 100 t) ≡ true
+  pub found-record : record_form (part (140 * i + 40) 100 t) ≡ true
   unfolding p
-  found-record = sym (ap recordForm (record-at (140 * i) t)) ∙ inquiry-record own p formed inquires
+  found-record = sym (ap record_form (record_at_lem (140 * i) t)) ∙ inquiry-record own p formed inquires
 
   pub found-key : key_of (part (140 * i + 40) 100 t) ≡ key_at (140 * i + 8) t
   unfolding p
-  found-key = sym (ap key_of (record-at (140 * i) t)) ∙ inquiry-key own p formed inquires ∙ key-at (140 * i) t
+  found-key = sym (ap key_of (record_at_lem (140 * i) t)) ∙ inquiry-key own p formed inquires ∙ key-at (140 * i) t
 
   pub found-other : ¬ IsOwn own (key_at (140 * i + 8) t)
   unfolding p
@@ -73,23 +73,23 @@ ahead test n j ps e = go (seek_is test (n + 1) (n + j) ps e)
     go : Here test (n + 1) (n + j) ps → 0 < j
     go (here k d l t) = omega arith
 
-only-by : (k : ℕ) (own : Own) (low n j : ℕ) (p : List ℕ) (ps : List (List ℕ)) (b : Bool) → isInquiry k p ≡ b → Placed own low (p ∷ ps)
-    → cond b (At n) (seek (isInquiry k) (n + 1) ps) ≡ At (n + j)
-    → ((i : ℕ) → seek (isInquiry k) (n + 1) ps ≡ At ((n + 1) + i) → any_of (isInquiry k) (freed i ps) ≡ false)
-    → any_of (isInquiry k) (freed j (p ∷ ps)) ≡ false
+only_by : (k : ℕ) (own : Own) (low n j : ℕ) (p : List ℕ) (ps : List (List ℕ)) (b : Bool) → is_inquiry k p ≡ b → Placed own low (p ∷ ps)
+    → cond b (At n) (seek (is_inquiry k) (n + 1) ps) ≡ At (n + j)
+    → ((i : ℕ) → seek (is_inquiry k) (n + 1) ps ≡ At ((n + 1) + i) → any_of (is_inquiry k) (freed i ps) ≡ false)
+    → any_of (is_inquiry k) (freed j (p ∷ ps)) ≡ false
 unfolding freed any_of
-only-by k own low n zero p ps true is h e later =
-    let both = both_true (eqb (kind_of p) 2) (eqb (placeKey p) k) is in
-    ap (λ (m : ℕ). any_of (isInquiry m) ps) (sym (eqb-true (placeKey p) k both.1)) ∙ h.2 (eqb-true (kind_of p) 2 both.0)
-only-by k own low n (suc j) p ps true is h e later = let z : n ≡ n + suc j = cc in absurd (omega arith)
-only-by k own low n zero p ps false is h e later = let l = ahead (isInquiry k) n 0 ps e in absurd (omega arith)
-only-by k own low n (suc j) p ps false is h e later =
+only_by k own low n zero p ps true is h e later =
+    let both = both_true (eqb (kind_of p) 2) (eqb (place_key p) k) is in
+    ap (λ (m : ℕ). any_of (is_inquiry m) ps) (sym (eqb-true (place_key p) k both.1)) ∙ h.2 (eqb-true (kind_of p) 2 both.0)
+only_by k own low n (suc j) p ps true is h e later = let z : n ≡ n + suc j = cc in absurd (omega arith)
+only_by k own low n zero p ps false is h e later = let l = ahead (is_inquiry k) n 0 ps e in absurd (omega arith)
+only_by k own low n (suc j) p ps false is h e later =
     let d : n + suc j ≡ (n + 1) + j = omega arith in
     rw is (later j (e ∙ ap At d))
 
-pub freed-only : (k : ℕ) (own : Own) (low n i : ℕ) (ps : List (List ℕ)) → Placed own low ps → seek (isInquiry k) n ps ≡ At (n + i)
-    → any_of (isInquiry k) (freed i ps) ≡ false
+pub freed_only : (k : ℕ) (own : Own) (low n i : ℕ) (ps : List (List ℕ)) → Placed own low ps → seek (is_inquiry k) n ps ≡ At (n + i)
+    → any_of (is_inquiry k) (freed i ps) ≡ false
 unfolding seek
-freed-only k own low n i [] h e = let z : ◌≡◌ {A = ℕ} 0 1 = cc in absurd (omega arith)
-freed-only k own low n i (p ∷ ps) h e =
-    only-by k own low n i p ps (isInquiry k p) refl h e (λ j d. freed-only k own (suc (id_of p)) (n + 1) j ps h.3 d)
+freed_only k own low n i [] h e = let z : ◌≡◌ {A = ℕ} 0 1 = cc in absurd (omega arith)
+freed_only k own low n i (p ∷ ps) h e =
+    only_by k own low n i p ps (is_inquiry k p) refl h e (λ j d. freed_only k own (suc (id_of p)) (n + 1) j ps h.3 d)

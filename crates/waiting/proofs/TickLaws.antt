@@ -9,65 +9,65 @@ use native.Mathlib.Omega.{arith}
 use lib.ListN.{length, take, drop, get_or, set, replicate, length-append, length-drop, length-replicate, replicate-append-replicate, take-append-drop}
 use lib.Seq.{length-take-le, take-add}
 use borrow.Author.Tests.{eq-eqb, ne_eqb}
-use Rattle.octet.specs.Number.{digitsLE}
+use Rattle.octet.specs.Number.{digits_le}
 use Rattle.octet.specs.Part.{part, splice}
-use Rattle.octet.proofs.PartLaws.{length_part, length-splice, take-splice, splice-next, splice-nil}
-use Rattle.octet.proofs.TestLaws.{all-zeros}
-use Rattle.octet.proofs.LittleLaws.{length-digitsLE}
+use Rattle.octet.proofs.PartLaws.{length_part, length-splice, take-splice, splice_next, splice_nil}
+use Rattle.octet.proofs.TestLaws.{all_zeros}
+use Rattle.octet.proofs.LittleLaws.{length-digits_le}
 use Rattle.table.specs.Rows.{rows, joined, bytes_of, Laid}
 use Rattle.table.proofs.RowLaws.{rows-length, rows_drop, rows_next, rows_end}
 use Rattle.table.proofs.PieceLaws.{set-splice, drop-behind}
-use Rattle.waiting.specs.Place.{id_of, triesOf}
-use Rattle.waiting.specs.Tick.{oneLess, idBytes}
+use Rattle.waiting.specs.Place.{id_of, tries_of}
+use Rattle.waiting.specs.Tick.{one_less, id_bytes}
 use Rattle.waiting.specs.Ticking.{spent, ticked, listed}
 use Rattle.waiting.proofs.PlaceLaws.{tries-at, less-length}
 
 -- ---- one place's part
 
 pub is-spent : (from : ℕ) (t : List ℕ) → get_or t (from + 5) 0 ≡ 0 → spent (part from 140 t) ≡ true
-is-spent from t e = eq-eqb (triesOf (part from 140 t)) 0 (tries-at from t ∙ e)
+is-spent from t e = eq-eqb (tries_of (part from 140 t)) 0 (tries-at from t ∙ e)
 
 pub not-spent : (from : ℕ) (t : List ℕ) → (get_or t (from + 5) 0 ≡ 0 → ⊥) → spent (part from 140 t) ≡ false
-not-spent from t e = ne_eqb (triesOf (part from 140 t)) 0 (λ z. e (sym (tries-at from t) ∙ z))
+not-spent from t e = ne_eqb (tries_of (part from 140 t)) 0 (λ z. e (sym (tries-at from t) ∙ z))
 
 -- a part put where it stands
-pub place-stays : (at n : ℕ) (s : List ℕ) → at + n ≤ length s → splice at (part at n s) s ≡ s
+pub place_stays : (at n : ℕ) (s : List ℕ) → at + n ≤ length s → splice at (part at n s) s ≡ s
 unfolding splice
-place-stays at n s h =
+place_stays at n s h =
     ap (λ (k : ℕ). take at s ++ part at n s ++ drop (at + k) s) (length_part at n s h)
     ∙ ap (λ (l : List ℕ). l ++ drop (at + n) s) (sym (take-add at n s))
     ∙ take-append-drop (at + n) s
 
 -- the move, and then the store of one try less
-pub kept-place : (from to : ℕ) (t : List ℕ) → to ≤ from → from + 140 ≤ length t
-    → set (splice to (part from 140 t) t) (to + 5) (get_or t (from + 5) 0 - 1) ≡ splice to (oneLess (part from 140 t)) t
-kept-place from to t h k =
+pub kept_place : (from to : ℕ) (t : List ℕ) → to ≤ from → from + 140 ≤ length t
+    → set (splice to (part from 140 t) t) (to + 5) (get_or t (from + 5) 0 - 1) ≡ splice to (one_less (part from 140 t)) t
+kept_place from to t h k =
     let long = length_part from 140 t k in
     set-splice to (part from 140 t) t 5 (get_or t (from + 5) 0 - 1) (omega arith) (omega arith)
     ∙ ap (λ (x : ℕ). splice to (set (part from 140 t) 5 (x - 1)) t) (sym (tries-at from t))
 
 -- ---- lists
 
-pub ids-length : (ids : List ℕ) → length (idBytes ids) ≡ 4 * length ids
-unfolding idBytes
-ids-length [] = refl
-ids-length (id ∷ ids) = simp (length-append, length-digitsLE) (omega (arith, ids-length ids))
+pub ids_length : (ids : List ℕ) → length (id_bytes ids) ≡ 4 * length ids
+unfolding id_bytes
+ids_length [] = refl
+ids_length (id ∷ ids) = simp (length-append, length-digits_le) (omega (arith, ids_length ids))
 
-few-by : (b : Bool) (p : List ℕ) (ids : List ℕ) (n : ℕ) → length ids ≤ n → length (cond b ids (id_of p ∷ ids)) ≤ suc n
-few-by true p ids n h = omega arith
-few-by false p ids n h = omega arith
+few_by : (b : Bool) (p : List ℕ) (ids : List ℕ) (n : ℕ) → length ids ≤ n → length (cond b ids (id_of p ∷ ids)) ≤ suc n
+few_by true p ids n h = omega arith
+few_by false p ids n h = omega arith
 
-pub listed-few : (ps : List (List ℕ)) → length (listed ps) ≤ length ps
+pub listed_few : (ps : List (List ℕ)) → length (listed ps) ≤ length ps
 unfolding listed
-listed-few [] = omega arith
-listed-few (p ∷ ps) = few-by (spent p) p (listed ps) (length ps) (listed-few ps)
+listed_few [] = omega arith
+listed_few (p ∷ ps) = few_by (spent p) p (listed ps) (length ps) (listed_few ps)
 
 module _ (p : List ℕ) (ps : List (List ℕ)) where
   pub ticked-spent : spent p ≡ true → ticked (p ∷ ps) ≡ ticked ps
   unfolding ticked
   ticked-spent e = rw e refl
 
-  pub ticked-kept : spent p ≡ false → ticked (p ∷ ps) ≡ oneLess p ∷ ticked ps
+  pub ticked-kept : spent p ≡ false → ticked (p ∷ ps) ≡ one_less p ∷ ticked ps
   unfolding ticked
   ticked-kept e = rw e refl
 
@@ -88,7 +88,7 @@ pub record Left (used : ℕ) (t₀ o₀ t o : List ℕ) (at kept : ℕ) : Type 0
   pub room : length o ≡ length o₀
   pub count : length (listed (rows 140 used t₀)) ≡ kept + length (listed (drop at (rows 140 used t)))
   pub table : joined (ticked (rows 140 used t₀)) ≡ take (140 * kept) t ++ joined (ticked (drop at (rows 140 used t)))
-  pub list : splice 0 (idBytes (listed (rows 140 used t₀))) o₀ ≡ splice (4 * kept) (idBytes (listed (drop at (rows 140 used t)))) o
+  pub list : splice 0 (id_bytes (listed (rows 140 used t₀))) o₀ ≡ splice (4 * kept) (id_bytes (listed (drop at (rows 140 used t)))) o
   pub rest : drop (140 * used) t ≡ drop (140 * used) t₀
 
 pub left-start : (used : ℕ) (t o : List ℕ) → Left used t o t o 0 0
@@ -107,10 +107,10 @@ one_more : (n : ℕ) (x : ℕ) (xs : List ℕ) → n + length (x ∷ xs) ≡ (n 
 one_more n x xs = omega arith
 
 -- the row that was put is part of what is done
-joined-more : (t : List ℕ) (at next : ℕ) (q : List ℕ) (qs : List (List ℕ)) → at + length q ≤ length t → at + length q ≡ next
+joined_more : (t : List ℕ) (at next : ℕ) (q : List ℕ) (qs : List (List ℕ)) → at + length q ≤ length t → at + length q ≡ next
     → take at t ++ joined (q ∷ qs) ≡ take next (splice at q t) ++ joined qs
 unfolding joined
-joined-more t at next q qs h e =
+joined_more t at next q qs h e =
     sym (append_assoc (take at t) q (joined qs))
     ∙ ap (λ (b : List ℕ). b ++ joined qs) (sym (take-splice at q t h) ∙ ap (λ (k : ℕ). take k (splice at q t)) e)
 
@@ -139,18 +139,18 @@ module _ (used : ℕ) (t₀ o₀ t o : List ℕ) (at kept : ℕ) (l : Left used 
         room = l.room;
         count = l.count ∙ ap (λ (qs : List ℕ). kept + length qs) ids;
         table = l.table ∙ ap (λ (qs : List (List ℕ)). take (140 * kept) t ++ joined qs) after;
-        list = l.list ∙ ap (λ (qs : List ℕ). splice (4 * kept) (idBytes qs) o) ids;
+        list = l.list ∙ ap (λ (qs : List ℕ). splice (4 * kept) (id_bytes qs) o) ids;
         rest = l.rest;
       }
 
   q : List ℕ
-  q = oneLess p
+  q = one_less p
 
   t' : List ℕ
   t' = splice (140 * kept) q t
 
   four : List ℕ
-  four = digitsLE 256 4 (id_of p)
+  four = digits_le 256 4 (id_of p)
 
   q-length : length q ≡ 140
   unfolding q p
@@ -167,7 +167,7 @@ module _ (used : ℕ) (t₀ o₀ t o : List ℕ) (at kept : ℕ) (l : Left used 
       ∙ sym (rows_drop 140 (at + 1) used (splice (140 * kept) q t) (omega arith))
 
   turn-kept : spent p ≡ false → Left used t₀ o₀ t' (splice (4 * kept) four o) (at + 1) (kept + 1)
-  unfolding t' q four idBytes
+  unfolding t' q four id_bytes
   turn-kept e =
       let rest : List (List ℕ) = drop (at + 1) (rows 140 used t') in
       let after : ticked (drop at (rows 140 used t)) ≡ q ∷ ticked rest =
@@ -178,9 +178,9 @@ module _ (used : ℕ) (t₀ o₀ t o : List ℕ) (at kept : ℕ) (l : Left used 
       l.count ∙ ap (λ (qs : List ℕ). kept + length qs) ids ∙ one_more kept (id_of p) (listed rest) in
       let next : 140 * kept + length q ≡ 140 * (kept + 1) = omega (arith, q-length) in
       let next4 : 4 * kept + 4 ≡ 4 * (kept + 1) = omega arith in
-      let len4 : length four ≡ 4 = length-digitsLE 256 4 (id_of p) in
-      let fits : 4 * kept + 4 + length (idBytes (listed rest)) ≤ length o =
-      omega (arith, ids-length (listed rest), counted, listed-few (rows 140 used t₀), rows-length 140 used t₀, l.room) in
+      let len4 : length four ≡ 4 = length-digits_le 256 4 (id_of p) in
+      let fits : 4 * kept + 4 + length (id_bytes (listed rest)) ≤ length o =
+      omega (arith, ids_length (listed rest), counted, listed_few (rows 140 used t₀), rows-length 140 used t₀, l.room) in
       record {
         low = omega arith;
         few = omega arith;
@@ -189,18 +189,18 @@ module _ (used : ℕ) (t₀ o₀ t o : List ℕ) (at kept : ℕ) (l : Left used 
         count = counted;
         table =
             l.table ∙ ap (λ (qs : List (List ℕ)). take (140 * kept) t ++ joined qs) after
-            ∙ joined-more t (140 * kept) (140 * (kept + 1)) q (ticked rest) (omega (arith, q-length)) next;
+            ∙ joined_more t (140 * kept) (140 * (kept + 1)) q (ticked rest) (omega (arith, q-length)) next;
         list =
-            l.list ∙ ap (λ (qs : List ℕ). splice (4 * kept) (idBytes qs) o) ids
-            ∙ sym (splice-next (4 * kept) 4 four (idBytes (listed rest)) o len4 fits)
-            ∙ ap (λ (k : ℕ). splice k (idBytes (listed rest)) (splice (4 * kept) four o)) next4;
+            l.list ∙ ap (λ (qs : List ℕ). splice (4 * kept) (id_bytes qs) o) ids
+            ∙ sym (splice_next (4 * kept) 4 four (id_bytes (listed rest)) o len4 fits)
+            ∙ ap (λ (k : ℕ). splice k (id_bytes (listed rest)) (splice (4 * kept) four o)) next4;
         rest = drop-behind (140 * kept) q t (140 * used) (omega (arith, q-length)) (omega (arith, q-length)) ∙ l.rest;
       }
 
   pub turn : (b : Bool) → spent (part (140 * at) 140 t) ≡ b
       → Left used t₀ o₀
-      (cond b t (splice (140 * kept) (oneLess (part (140 * at) 140 t)) t))
-      (cond b o (splice (4 * kept) (digitsLE 256 4 (id_of (part (140 * at) 140 t))) o))
+      (cond b t (splice (140 * kept) (one_less (part (140 * at) 140 t)) t))
+      (cond b o (splice (4 * kept) (digits_le 256 4 (id_of (part (140 * at) 140 t))) o))
       (at + 1)
       (cond b kept (kept + 1))
   unfolding p q t' four
@@ -216,9 +216,9 @@ module _ (used : ℕ) (t₀ o₀ t o : List ℕ) (at kept : ℕ) (l : Left used 
   unfolding listed
   end-count = sym (l.count ∙ ap (λ (ps : List (List ℕ)). kept + length (listed ps)) none ∙ add-zero kept)
 
-  pub end_list : o ≡ splice 0 (idBytes (listed (rows 140 used t₀))) o₀
-  unfolding listed idBytes
-  end_list = sym (l.list ∙ ap (λ (ps : List (List ℕ)). splice (4 * kept) (idBytes (listed ps)) o) none ∙ splice-nil (4 * kept) o)
+  pub end_list : o ≡ splice 0 (id_bytes (listed (rows 140 used t₀))) o₀
+  unfolding listed id_bytes
+  end_list = sym (l.list ∙ ap (λ (ps : List (List ℕ)). splice (4 * kept) (id_bytes (listed ps)) o) none ∙ splice_nil (4 * kept) o)
 
   end-table : take (140 * kept) t ≡ joined (ticked (rows 140 used t₀))
   unfolding ticked joined
@@ -234,7 +234,7 @@ module _ (used : ℕ) (t₀ o₀ t o : List ℕ) (at kept : ℕ) (l : Left used 
       let long : length zeros ≡ n = length-replicate {A = ℕ} n 0 in
       let next : 140 * kept + length zeros ≡ 140 * used = omega (arith, long, l.few, l.low, done) in
       let behind : drop (140 * used) t ≡ replicate (2240 - 140 * used) 0 =
-      l.rest ∙ all-zeros (drop (140 * used) t₀) laid.clear
+      l.rest ∙ all_zeros (drop (140 * used) t₀) laid.clear
       ∙ ap (λ (k : ℕ). replicate {A = ℕ} k 0) (length-drop (140 * used) t₀ ∙ ap (λ (k : ℕ). k - 140 * used) size) in
       let whole : n + (2240 - 140 * used) ≡ 2240 - 140 * kept = omega (arith, l.few, l.low, done) in
       let front : 140 * kept ≡ length (joined (ticked (rows 140 used t₀))) =

@@ -6,5 +6,5 @@ use Rattle.waiting.specs.Place.{id_of, kind_of}
 abbrev pub is_at : ℕ → ℕ → List ℕ → Bool
 is_at id kind p = eqb (id_of p) id && eqb (kind_of p) kind
 
-abbrev pub hasId : ℕ → List ℕ → Bool
-hasId id p = eqb (id_of p) id
+abbrev pub has_id : ℕ → List ℕ → Bool
+has_id id p = eqb (id_of p) id

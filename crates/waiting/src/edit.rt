@@ -1,7 +1,7 @@
 // A place opened, and a place freed.
 ghost use Rattle.std.specs.Prelude.{◌≡◌, ◌<◌, length};
 ghost use Rattle.table.specs.Rows.{rows, bytes_of, Laid};
-ghost use Rattle.waiting.specs.Place.{newPlace};
+ghost use Rattle.waiting.specs.Place.{new_place};
 ghost use Rattle.waiting.specs.Open.{opened, freed};
 
 use crate::seek::slot;
@@ -9,7 +9,7 @@ use crate::seek::slot;
 // Writes the fields of a place.
 fn write_place(place: &mut [u8], id: u32, kind: u8, tries: u8, key: &[u8], held: &[u8])
     requires { (length place.old ≡ 140) × (length key.now ≡ 32) × (length held.now ≡ 100) }
-    ensures { place.new ≡ newPlace id kind tries key.now held.now }
+    ensures { place.new ≡ new_place id kind tries key.now held.now }
 {
     let head = [kind, tries, 0, 0];
     octet::write_u32_le(place, 0, id);
@@ -23,7 +23,7 @@ pub fn open(table: &mut [u8], used: usize, id: u32, kind: u8, tries: u8, key: &[
     requires { (used < 16) × (length table.old ≡ 2240) × Laid 140 used table.old
         × (length key.now ≡ 32) × (length held.now ≡ 100) }
     ensures { table.new
-        ≡ bytes_of 2240 (opened (newPlace id kind tries key.now held.now)
+        ≡ bytes_of 2240 (opened (new_place id kind tries key.now held.now)
         (rows 140 used table.old)) }
 {
     let at = slot(table, used, id);

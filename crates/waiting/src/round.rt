@@ -1,10 +1,10 @@
 // The tick's round over the used places.
 ghost use Rattle.std.specs.Prelude.{◌≡◌, cond, ◌+◌, ◌*◌, ◌≤◌, ◌<◌, length};
-ghost use Rattle.octet.specs.Number.{digitsLE};
+ghost use Rattle.octet.specs.Number.{digits_le};
 ghost use Rattle.octet.specs.Part.{part, splice};
 ghost use Rattle.table.specs.Rows.{rows, bytes_of, Laid};
 ghost use Rattle.waiting.specs.Place.{id_of};
-ghost use Rattle.waiting.specs.Tick.{oneLess, idBytes};
+ghost use Rattle.waiting.specs.Tick.{one_less, id_bytes};
 ghost use Rattle.waiting.specs.Ticking.{spent, ticked, listed};
 
 // The place moves down to place number `kept`, where it does not stand there already.
@@ -29,9 +29,9 @@ fn tick_place(table: &mut [u8], at: usize, kept: usize, output: &mut [u8]) -> us
     requires { (kept ≤ at) × (at < 16) × (length table.old ≡ 2240) × (64 ≤ length output.old) }
     ensures { (result ≡ cond (spent (part (140 * at) 140 table.old)) kept (kept + 1))
         × (table.new ≡ cond (spent (part (140 * at) 140 table.old)) table.old
-        (splice (140 * kept) (oneLess (part (140 * at) 140 table.old)) table.old))
+        (splice (140 * kept) (one_less (part (140 * at) 140 table.old)) table.old))
         × (output.new ≡ cond (spent (part (140 * at) 140 table.old)) output.old
-        (splice (4 * kept) (digitsLE 256 4 (id_of (part (140 * at) 140 table.old)))
+        (splice (4 * kept) (digits_le 256 4 (id_of (part (140 * at) 140 table.old)))
         output.old)) }
 {
     let from = crate::PLACE_LEN * at;
@@ -53,7 +53,7 @@ pub fn tick_places(table: &mut [u8], used: usize, output: &mut [u8]) -> usize
     ensures { (result ≡ length (listed (rows 140 used table.old)))
         × (table.new ≡ bytes_of 2240 (ticked (rows 140 used table.old)))
         × (output.new
-        ≡ splice 0 (idBytes (listed (rows 140 used table.old))) output.old) }
+        ≡ splice 0 (id_bytes (listed (rows 140 used table.old))) output.old) }
 {
     let mut at = 0;
     let mut kept = 0;

@@ -4,9 +4,9 @@ ghost use Rattle.octet.specs.Part.{part};
 ghost use Rattle.key.specs.Number.{key_at};
 ghost use Rattle.table.specs.Rows.{rows, any_of};
 ghost use Rattle.table.specs.Seek.{seek};
-ghost use Rattle.waiting.specs.Form.{isInquiry};
-ghost use Rattle.waiting.specs.Seek.{is_at, hasId};
-ghost use Rattle.waiting.specs.Slot.{slotIn};
+ghost use Rattle.waiting.specs.Form.{is_inquiry};
+ghost use Rattle.waiting.specs.Seek.{is_at, has_id};
+ghost use Rattle.waiting.specs.Slot.{slot_in};
 
 use table::Found;
 
@@ -30,7 +30,7 @@ pub fn find(table: &[u8], used: usize, id: u32, kind: u8) -> Found
 // Is the ID waiting, for an answer of either kind?
 pub fn has_id(table: &[u8], used: usize, id: u32) -> bool
     requires { 140 * used ≤ length table.now }
-    ensures { result ≡ any_of (hasId id) (rows 140 used table.now) }
+    ensures { result ≡ any_of (has_id id) (rows 140 used table.now) }
 {
     let mut at = 0;
     while at < used {
@@ -46,7 +46,7 @@ pub fn has_id(table: &[u8], used: usize, id: u32) -> bool
 // Is the place that begins there an inquiry for the key at a place of a slice? Most differ in the first word of the key.
 fn is_inquiry(table: &[u8], from: usize, key: &[u8], place: usize) -> bool
     requires { (from + 140 ≤ length table.now) × (place + 32 ≤ length key.now) }
-    ensures { result ≡ isInquiry (key_at place key.now) (part from 140 table.now) }
+    ensures { result ≡ is_inquiry (key_at place key.now) (part from 140 table.now) }
 {
     if !key::same_at(table, from + 8, key, place) {
         return false;
@@ -58,7 +58,7 @@ fn is_inquiry(table: &[u8], from: usize, key: &[u8], place: usize) -> bool
 pub fn find_inquiry(table: &[u8], start: usize, used: usize, key: &[u8], place: usize) -> Found
     requires { (start ≤ used) × (140 * used ≤ length table.now) × (place + 32 ≤ length key.now) }
     ensures { result
-        ≡ seek (isInquiry (key_at place key.now)) start (drop start (rows 140 used table.now)) }
+        ≡ seek (is_inquiry (key_at place key.now)) start (drop start (rows 140 used table.now)) }
 {
     let mut at = start;
     while at < used {
@@ -73,7 +73,7 @@ pub fn find_inquiry(table: &[u8], start: usize, used: usize, key: &[u8], place: 
 // How many places stand before the first whose ID is not lower.
 pub(crate) fn slot(table: &[u8], used: usize, id: u32) -> usize
     requires { 140 * used ≤ length table.now }
-    ensures { result ≡ slotIn id (rows 140 used table.now) }
+    ensures { result ≡ slot_in id (rows 140 used table.now) }
 {
     let mut at = 0;
     while at < used {

@@ -1,6 +1,6 @@
 // The tick on memory that nobody has tested.
 ghost use Rattle.std.specs.Prelude.{◌≡◌};
-ghost use Rattle.waiting_form.specs.Call.{tickHanded, tickCall};
+ghost use Rattle.waiting_form.specs.Call.{tick_handed, tick_call};
 
 use crate::tested::{Formed, form};
 
@@ -14,8 +14,8 @@ pub struct Answer {
 // The waiting table after one second, and the list of IDs in the first bytes of the output. 1 where the own records or
 // the table are out of form, 15 where the output is shorter than 64 bytes; then nothing changes.
 pub fn tick(own: &[u8], table: &mut [u8], output: &mut [u8]) -> Answer
-    ensures { tickHanded result.number result.count table.new output.new
-        ≡ tickCall own.now table.old output.old }
+    ensures { tick_handed result.number result.count table.new output.new
+        ≡ tick_call own.now table.old output.old }
 {
     if !own::own_form(own) {
         return Answer {

@@ -1,14 +1,14 @@
 // The test of one place.
 ghost use Rattle.std.specs.Prelude.{◌≡◌, ◌&&◌, leb, eqb, length, get_or};
-ghost use Rattle.octet.specs.Part.{allZero};
-ghost use Rattle.own.specs.Own.{ownKeys};
-ghost use Rattle.waiting.specs.Form.{placeForm};
-ghost use Rattle.waiting.specs.Place.{triesOf, placeRecord};
+ghost use Rattle.octet.specs.Part.{all_zero};
+ghost use Rattle.own.specs.Own.{own_keys};
+ghost use Rattle.waiting.specs.Form.{place_form};
+ghost use Rattle.waiting.specs.Place.{tries_of, place_record};
 
 // Is the record of a place all zero?
 pub fn zero_record(place: &[u8]) -> bool
     requires { length place.now ≡ 140 }
-    ensures { result ≡ allZero (placeRecord place.now) }
+    ensures { result ≡ all_zero (place_record place.now) }
 {
     let most = octet::zero_block(place, 40);
     let next = octet::zero_pair(place, 104);
@@ -20,7 +20,7 @@ pub fn zero_record(place: &[u8]) -> bool
 // Has a place at most two tries left, and are the two bytes behind them zero? As one number with the kind below it.
 pub fn is_fresh(place: &[u8]) -> bool
     requires { length place.now ≡ 140 }
-    ensures { result ≡ leb (triesOf place.now) 2 && eqb (get_or place.now 6 0) 0
+    ensures { result ≡ leb (tries_of place.now) 2 && eqb (get_or place.now 6 0) 0
         && eqb (get_or place.now 7 0) 0 }
 {
     octet::read_u32_le(place, 4) / 256 <= 2
@@ -29,7 +29,7 @@ pub fn is_fresh(place: &[u8]) -> bool
 // Is a used place in form?
 pub(crate) fn place_formed(own: &[u8], place: &[u8]) -> bool
     requires { length place.now ≡ 140 }
-    ensures { result ≡ placeForm (ownKeys own.now) place.now }
+    ensures { result ≡ place_form (own_keys own.now) place.now }
 {
     if !is_fresh(place) {
         return false;

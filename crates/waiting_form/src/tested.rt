@@ -1,10 +1,10 @@
 // Is the waiting table in form?
 ghost use Rattle.std.specs.Prelude.{◌≡◌, ◌+◌, ◌*◌, ◌≤◌, ◌<◌, length, drop};
 ghost use Rattle.octet.specs.Part.{part};
-ghost use Rattle.own.specs.Own.{ownKeys};
+ghost use Rattle.own.specs.Own.{own_keys};
 ghost use Rattle.table.specs.Rows.{rows};
-ghost use Rattle.waiting.specs.Form.{again, placesForm, usedOf};
-ghost use Rattle.waiting_form.specs.Formed.{waitingFormed};
+ghost use Rattle.waiting.specs.Form.{again, places_form, used_of};
+ghost use Rattle.waiting_form.specs.Formed.{waiting_formed};
 
 use crate::place::place_formed;
 use table::Found;
@@ -19,7 +19,7 @@ pub enum Formed {
 // How many places stand before the first free one.
 pub fn count_used(table: &[u8]) -> usize
     requires { length table.now ≡ 2240 }
-    ensures { result ≡ usedOf table.now }
+    ensures { result ≡ used_of table.now }
 {
     let mut at = 0;
     while at < 16 {
@@ -50,7 +50,7 @@ pub fn key_again(table: &[u8], used: usize, at: usize) -> bool
 // Are the used places in form, the IDs rising and the inquiries' keys different?
 fn places_formed(own: &[u8], table: &[u8], used: usize) -> bool
     requires { 140 * used ≤ length table.now }
-    ensures { result ≡ placesForm (ownKeys own.now) 0 (rows 140 used table.now) }
+    ensures { result ≡ places_form (own_keys own.now) 0 (rows 140 used table.now) }
 {
     let mut low: u64 = 0;
     let mut at = 0;
@@ -74,7 +74,7 @@ fn places_formed(own: &[u8], table: &[u8], used: usize) -> bool
 
 // Is the table in form, for a gauge with these own records?
 pub fn form(own: &[u8], table: &[u8]) -> Formed
-    ensures { result ≡ waitingFormed (ownKeys own.now) table.now }
+    ensures { result ≡ waiting_formed (own_keys own.now) table.now }
 {
     if table.len() != waiting::WAITING_LEN {
         return Formed::Bad;

@@ -10,17 +10,17 @@ use Rattle.reason.specs.declared.Reason.{Reason}
 use Rattle.reason.specs.declared.Reason.TheVariants.{Only, Target, Tied, Nearest}
 use Rattle.named.specs.declared.Spot.{Spot}
 use Rattle.named.specs.declared.Spot.TheVariants.{Nowhere, Own, Held}
-use Rattle.named.specs.Spots.{recordAt, isNowhere, Inside, Shows}
+use Rattle.named.specs.Spots.{record_at, is_nowhere, Inside, Shows}
 use Rattle.why.specs.Puts.{HasKey}
 
 module _ (own cache : List ℕ) where
-  pub record-long : (x : Spot) → Inside own cache x → isNowhere x ≡ false → length (recordAt own cache x) ≡ 100
-  record-long Nowhere i e = let z : ◌≡◌ {A = ℕ} 0 1 = cc in absurd (omega arith)
-  record-long (Own n) i e = length_part (100 * n) 100 own i
-  record-long (Held n) i e = length_part (100 * n) 100 cache i
+  pub record_long : (x : Spot) → Inside own cache x → is_nowhere x ≡ false → length (record_at own cache x) ≡ 100
+  record_long Nowhere i e = let z : ◌≡◌ {A = ℕ} 0 1 = cc in absurd (omega arith)
+  record_long (Own n) i e = length_part (100 * n) 100 own i
+  record_long (Held n) i e = length_part (100 * n) 100 cache i
 
-  pub has_key : (r : Reason) (x : Spot) → Inside own cache x → Shows r x → HasKey r (recordAt own cache x)
+  pub has_key : (r : Reason) (x : Spot) → Inside own cache x → Shows r x → HasKey r (record_at own cache x)
   has_key Only x i s = tt
   has_key Target x i s = tt
-  has_key Tied x i s = omega (arith, record-long x i s)
-  has_key Nearest x i s = omega (arith, record-long x i s)
+  has_key Tied x i s = omega (arith, record_long x i s)
+  has_key Nearest x i s = omega (arith, record_long x i s)

@@ -2,9 +2,9 @@
 ghost use Rattle.std.specs.Prelude.{◌≡◌, ◌++◌, ◌∷◌, [], ◌+◌, ◌*◌, ◌≤◌, length};
 ghost use Rattle.octet.specs.Part.{part};
 ghost use Rattle.record.specs.Record.{key_of};
-ghost use Rattle.digits.specs.Digits.{hexOf};
-ghost use Rattle.reason.specs.Reason.{becauseOf};
-ghost use Rattle.why.specs.Text.{recordText, reasonText, keyText, numberText};
+ghost use Rattle.digits.specs.Digits.{hex_of};
+ghost use Rattle.reason.specs.Reason.{because_of};
+ghost use Rattle.why.specs.Text.{record_text, reason_text, key_text, number_text};
 ghost use Rattle.why.specs.Puts.{Puts, HasKey};
 
 use reason::Reason;
@@ -23,7 +23,7 @@ fn put(out: &mut [u8], at: usize, text: &[u8]) -> usize
 
 fn put_hex(out: &mut [u8], at: usize, s: &[u8]) -> usize
     requires { at + 2 * length s.now ≤ length out.old }
-    ensures puts { Puts at (hexOf s.now) out.old result out.new }
+    ensures puts { Puts at (hex_of s.now) out.old result out.new }
     ensures value { result ≡ at + 2 * length s.now }
 {
     digits::put_hex(out, at, s)
@@ -32,7 +32,7 @@ fn put_hex(out: &mut [u8], at: usize, s: &[u8]) -> usize
 // A number on a line.
 pub(crate) fn put_number(out: &mut [u8], n: u32) -> usize
     requires { 21 ≤ length out.old }
-    ensures puts { Puts 0 (numberText n) out.old result out.new }
+    ensures puts { Puts 0 (number_text n) out.old result out.new }
     ensures upper_bound { result ≤ 21 }
 {
     let end = digits::put_decimal(out, 0, n as u64);
@@ -42,7 +42,7 @@ pub(crate) fn put_number(out: &mut [u8], n: u32) -> usize
 // The key, the port and the address of a record, on a line.
 pub(crate) fn put_record(out: &mut [u8], record: &[u8]) -> usize
     requires { (126 ≤ length out.old) × (52 ≤ length «record».now) }
-    ensures puts { Puts 0 (recordText «record».now) out.old result out.new }
+    ensures puts { Puts 0 (record_text «record».now) out.old result out.new }
     ensures upper_bound { result ≤ 126 }
 {
     let port = octet::read_u16(record, 32);
@@ -58,7 +58,7 @@ pub(crate) fn put_record(out: &mut [u8], record: &[u8]) -> usize
 // A word and the key that begins a slice, on a line.
 fn put_key(out: &mut [u8], at: usize, word: &[u8], record: &[u8]) -> usize
     requires { (at + length word.now + 65 ≤ length out.old) × (32 ≤ length «record».now) }
-    ensures puts { Puts at (keyText word.now (key_of «record».now)) out.old result out.new }
+    ensures puts { Puts at (key_text word.now (key_of «record».now)) out.old result out.new }
     ensures value { result ≡ at + length word.now + 65 }
 {
     let a = put(out, at, word);
@@ -69,7 +69,7 @@ fn put_key(out: &mut [u8], at: usize, word: &[u8], record: &[u8]) -> usize
 // The reason, with the key of the other candidate where one goes with it.
 pub(crate) fn put_reason(out: &mut [u8], at: usize, reason: Reason, other: &[u8]) -> usize
     requires { (at + 73 ≤ length out.old) × HasKey reason other.now }
-    ensures puts { Puts at (reasonText (becauseOf reason (key_of other.now))) out.old result out.new }
+    ensures puts { Puts at (reason_text (because_of reason (key_of other.now))) out.old result out.new }
     ensures upper_bound { result ≤ at + 73 }
 {
     match reason {

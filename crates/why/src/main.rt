@@ -8,10 +8,10 @@ mod line;
 
 ghost use Rattle.std.specs.Prelude.{◌≡◌, ◌+◌, ◌≤◌, length, get_or, take, drop};
 ghost use Rattle.octet.specs.Part.{part};
-ghost use Rattle.named.specs.Call.{nameCall};
-ghost use Rattle.named.specs.Spots.{choiceTold, Placed};
+ghost use Rattle.named.specs.Call.{name_call};
+ghost use Rattle.named.specs.Spots.{choice_told, Placed};
 ghost use Rattle.why.specs.Text.{text_of};
-ghost use Rattle.why.specs.Input.{first_of, behindOf, toldBehind, whyText};
+ghost use Rattle.why.specs.Input.{first_of, behind_of, told_behind, why_text};
 
 use named::{Choice, Named};
 
@@ -22,7 +22,7 @@ const INPUT: usize = 66876;
 // What is named, and why.
 fn put_choice<'a>(out: &mut [u8], own: &'a [u8], cache: &'a [u8], choice: Choice) -> usize
     requires { (256 ≤ length out.old) × Placed own.now cache.now choice }
-    ensures out_after { take result out.new ≡ text_of (choiceTold own.now cache.now choice) }
+    ensures out_after { take result out.new ≡ text_of (choice_told own.now cache.now choice) }
     ensures upper_bound { result ≤ length out.old }
 {
     let chosen = choice.chosen;
@@ -43,7 +43,7 @@ fn put_named<'a>(
 ) -> usize
     requires { 256 ≤ length out.old }
     ensures out_after { take result out.new
-        ≡ text_of (nameCall own.now cache.now major datagram.now) }
+        ≡ text_of (name_call own.now cache.now major datagram.now) }
     ensures upper_bound { result ≤ length out.old }
 {
     match named::name(own, cache, major, datagram) {
@@ -55,7 +55,7 @@ fn put_named<'a>(
 // Behind a good first record: the cache and the datagram.
 fn put_behind<'a>(out: &mut [u8], first: &'a [u8], rest: &'a [u8]) -> usize
     requires { (256 ≤ length out.old) × (106 ≤ length first.now) }
-    ensures out_after { take result out.new ≡ text_of (toldBehind first.now rest.now) }
+    ensures out_after { take result out.new ≡ text_of (told_behind first.now rest.now) }
     ensures upper_bound { result ≤ length out.old }
 {
     if rest.len() < 2 {
@@ -73,7 +73,7 @@ fn put_behind<'a>(out: &mut [u8], first: &'a [u8], rest: &'a [u8]) -> usize
 fn first_end(input: &[u8]) -> usize
     ensures upper_bound { result ≤ length input.now }
     ensures input_value { take result input.now ≡ first_of input.now }
-    ensures input_value_2 { drop result input.now ≡ behindOf input.now }
+    ensures input_value_2 { drop result input.now ≡ behind_of input.now }
 {
     let len = input.len();
     if len < 2 {
@@ -89,7 +89,7 @@ fn first_end(input: &[u8]) -> usize
 // The text for all that was read, put at the start of a slice. Answers where it ends.
 fn answer(input: &[u8], out: &mut [u8]) -> usize
     requires { 256 ≤ length out.old }
-    ensures out_after { take result out.new ≡ whyText input.now }
+    ensures out_after { take result out.new ≡ why_text input.now }
     ensures upper_bound { result ≤ length out.old }
 {
     if input.len() == 0 {

@@ -11,9 +11,9 @@ use borrow.Author.Tests.{eqb-true}
 use Rattle.octet.specs.Part.{part}
 use Rattle.octet.proofs.PartLaws.{length_part}
 use Rattle.wire_shapes.specs.Field.{number_at, gap}
-use Rattle.wire_shapes.specs.Shapes.{Kind, hasShape}
+use Rattle.wire_shapes.specs.Shapes.{Kind, has_shape}
 use Rattle.wire_fields.specs.Kinds.{may}
-use Rattle.wire_fields.specs.Reading.{places_at, value_of, contentsIn}
+use Rattle.wire_fields.specs.Reading.{places_at, value_of, contents_in}
 use Rattle.wire_fields.specs.declared.Part.{Part}
 use Rattle.wire_fields.specs.declared.Part.TheVariants.{Here, Absent}
 use Rattle.wire_shapes.specs.declared.Shape.{Shape}
@@ -25,7 +25,7 @@ use Rattle.wire_fields.proofs.FieldLaws.{Came, left_out, found, field-came}
 -- shape
 abbrev pub Fact : Kind → List ℕ → ℕ → Part → Type 0
 Fact k d i Absent = k.optional ≡ true
-Fact k d i (Here s l) = (hasShape k.shape (part s l d) ≡ true) × (s + l ≤ length d) × (s ≡ i + 4)
+Fact k d i (Here s l) = (has_shape k.shape (part s l d) ≡ true) × (s + l ≤ length d) × (s ≡ i + 4)
 
 abbrev pub after : Kind → ℕ → Part → ℕ
 after k i Absent = i
@@ -37,10 +37,10 @@ Stand [] d i (p ∷ ps) = ⊥
 Stand (k ∷ ks) d i [] = ⊥
 Stand (k ∷ ks) d i (p ∷ ps) = Fact k d i p × Stand ks d (after k i p) ps
 
-at-end : (d : List ℕ) (i : ℕ) (ps : List Part) (b : Bool) → ◌≡◌ {A = Option (List Part)} (cond b (some []) none) (some ps) → Stand [] d i ps
-at-end d i [] b e = tt
-at-end d i (p ∷ ps) true e = let z : ◌≡◌ {A = ℕ} 0 1 = cc in omega arith
-at-end d i (p ∷ ps) false e = let z : ◌≡◌ {A = ℕ} 0 1 = cc in omega arith
+at_end_lem : (d : List ℕ) (i : ℕ) (ps : List Part) (b : Bool) → ◌≡◌ {A = Option (List Part)} (cond b (some []) none) (some ps) → Stand [] d i ps
+at_end_lem d i [] b e = tt
+at_end_lem d i (p ∷ ps) true e = let z : ◌≡◌ {A = ℕ} 0 1 = cc in omega arith
+at_end_lem d i (p ∷ ps) false e = let z : ◌≡◌ {A = ℕ} 0 1 = cc in omega arith
 
 step : (k : Kind) (ks : List Kind) (d : List ℕ) (i : ℕ) → ((j : ℕ) (qs : List Part) → places_at ks d j ≡ some qs → Stand ks d j qs)
     → (ps : List Part) → Came k ks d i ps → Stand (k ∷ ks) d i ps
@@ -55,7 +55,7 @@ step k ks d i ih ps (found s l c qs e q g r) =
 
 pub stands : (ks : List Kind) (d : List ℕ) (i : ℕ) (ps : List Part) → places_at ks d i ≡ some ps → Stand ks d i ps
 unfolding places_at
-stands [] d i ps e = at-end d i ps (eqb i (length d)) e
+stands [] d i ps e = at_end_lem d i ps (eqb i (length d)) e
 stands (k ∷ ks) d i ps e = step k ks d i (λ j qs q. stands ks d j qs q) ps (field-came k ks d i ps e)
 
 -- ---- taken apart
@@ -65,7 +65,7 @@ pub record Needed (k : Kind) (ks : List Kind) (d : List ℕ) (i : ℕ) (ps : Lis
   pub l : ℕ
   pub rest : List Part
   pub is : ps ≡ Here s l ∷ rest
-  pub shaped : hasShape k.shape (part s l d) ≡ true
+  pub shaped : has_shape k.shape (part s l d) ≡ true
   pub within : s + l ≤ length d
   pub starts : s ≡ i + 4
   pub more : Stand ks d (after k i (Here s l)) rest
@@ -93,11 +93,11 @@ ended d i (p ∷ ps) w = absurd w
 -- ---- contents
 
 -- a field whose bits all count is its bytes
-pub plain-may : (n : ℕ) (o : Bool) (shape : Shape) (d : List ℕ) (p : Part) → value_of (may n o shape []) d p ≡ contentsIn d p
+pub plain-may : (n : ℕ) (o : Bool) (shape : Shape) (d : List ℕ) (p : Part) → value_of (may n o shape []) d p ≡ contents_in d p
 plain-may n o shape d (Here s l) = refl
 plain-may n o shape d Absent = refl
 
 -- a field of a fixed size is so many bytes
-pub sized-length : (n : ℕ) (d : List ℕ) (s l : ℕ) → hasShape (Sized n) (part s l d) ≡ true → s + l ≤ length d → l ≡ n
-unfolding hasShape
+pub sized-length : (n : ℕ) (d : List ℕ) (s l : ℕ) → has_shape (Sized n) (part s l d) ≡ true → s + l ≤ length d → l ≡ n
+unfolding has_shape
 sized-length n d s l e h = sym (length_part s l d h) ∙ eqb-true (length (part s l d)) n e

@@ -1,7 +1,7 @@
 -- Helps the code. What the buffer of an AUTHORITY holds, as flags and as places in what it was read from. Assumes nothing.
 use Rattle.std.specs.Prelude.{ℕ, ◌+◌, ◌/◌, ◌%◌, List, Bool, get_or, eqb}
 use Rattle.std.proofs.Math.Option.{Option, some, none}
-use Rattle.wire_fields.specs.Kinds.{bufferKinds}
+use Rattle.wire_fields.specs.Kinds.{buffer_kinds}
 use Rattle.wire_fields.specs.Reading.{places_at}
 use Rattle.wire_fields.specs.declared.Part.{Part}
 use Rattle.wire_fields.specs.declared.Part.TheVariants.{Here, Absent}
@@ -15,16 +15,16 @@ start_of (Here s l) = s
 start_of Absent = 0
 
 -- the bit of a weight in the byte at an offset from a place
-unfoldable pub flagAt : List ℕ → ℕ → ℕ → ℕ → Bool
-flagAt d start offset weight = eqb (get_or d (start + offset) 0 / weight % 2) 1
+unfoldable pub flag_at : List ℕ → ℕ → ℕ → ℕ → Bool
+flag_at d start offset weight = eqb (get_or d (start + offset) 0 / weight % 2) 1
 
 -- the fields of a buffer; the buffer from a place to the end of any list
-abbrev pub insideShown : List ℕ → List Part → Inside
-insideShown d ps =
+abbrev pub inside_shown : List ℕ → List Part → Inside
+inside_shown d ps =
     record {
-      l = flagAt d (start_of (get_or ps 0 Absent)) 0 2;
-      b = flagAt d (start_of (get_or ps 0 Absent)) 1 8;
-      n = flagAt d (start_of (get_or ps 0 Absent)) 1 1;
+      l = flag_at d (start_of (get_or ps 0 Absent)) 0 2;
+      b = flag_at d (start_of (get_or ps 0 Absent)) 1 8;
+      n = flag_at d (start_of (get_or ps 0 Absent)) 1 1;
       chain = get_or ps 1 Absent;
       token = get_or ps 2 Absent;
       classifier = get_or ps 3 Absent;
@@ -33,9 +33,9 @@ insideShown d ps =
       cpa = get_or ps 6 Absent;
     }
 
-abbrev pub bufferShown : List ℕ → Option (List Part) → Buffer
-bufferShown d none = Malformed
-bufferShown d (some ps) = Holds (insideShown d ps)
+abbrev pub buffer_shown : List ℕ → Option (List Part) → Buffer
+buffer_shown d none = Malformed
+buffer_shown d (some ps) = Holds (inside_shown d ps)
 
-unfoldable pub bufferAt : List ℕ → ℕ → Buffer
-bufferAt d i = bufferShown d (places_at bufferKinds d i)
+unfoldable pub buffer_at : List ℕ → ℕ → Buffer
+buffer_at d i = buffer_shown d (places_at buffer_kinds d i)

@@ -1,7 +1,7 @@
 // The buffer of an AUTHORITY: whether it is whole, its flags, and where its fields are.
 ghost use Rattle.std.specs.Prelude.{◌≡◌, ◌<◌};
-ghost use Rattle.wire_fields.specs.Reading.{wholeIn, FourAt};
-ghost use Rattle.wire_buffer.specs.Buffer.{flagAt, bufferAt};
+ghost use Rattle.wire_fields.specs.Reading.{whole_in, FourAt};
+ghost use Rattle.wire_buffer.specs.Buffer.{flag_at, buffer_at};
 
 use wire_fields::{Cursor, Maybe, Need, Part};
 use wire_shapes::byte;
@@ -29,7 +29,7 @@ pub enum Buffer {
 // Whether split controls follow from the rest: the size is the number of bytes after them and the offset is 0.
 pub fn is_whole(d: &[u8], p: Part) -> bool
     requires { FourAt d.now p }
-    ensures { result ≡ wholeIn d.now p }
+    ensures { result ≡ whole_in d.now p }
 {
     let Part::Here(start, len) = p else {
         return true;
@@ -43,7 +43,7 @@ pub fn is_whole(d: &[u8], p: Part) -> bool
 // The bit of a weight in the byte at a small offset from a place.
 pub fn flag(d: &[u8], start: usize, offset: usize, weight: u8) -> bool
     requires { (offset < 4) × (0 < weight) }
-    ensures { result ≡ flagAt d.now start offset weight }
+    ensures { result ≡ flag_at d.now start offset weight }
 {
     if d.len() <= start {
         return false;
@@ -53,7 +53,7 @@ pub fn flag(d: &[u8], start: usize, offset: usize, weight: u8) -> bool
 
 // The buffer that stands from a position to the end of any slice.
 pub fn read_buffer(d: &[u8], c: Cursor) -> Buffer
-    ensures { result ≡ bufferAt d.now c.at }
+    ensures { result ≡ buffer_at d.now c.at }
 {
     let Need::Field(flags, _, c) = c.fixed(d, wire_numbers::FLAGS, true, 2) else {
         return Buffer::Malformed;

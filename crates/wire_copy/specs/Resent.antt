@@ -5,7 +5,7 @@ use Rattle.wire_fields.specs.declared.Part.{Part}
 use Rattle.wire_fields.specs.declared.Part.TheVariants.{Here, Absent}
 use Rattle.wire_buffer.specs.Buffer.{start_of}
 use Rattle.wire_buffer.specs.declared.Inside.{Inside}
-use Rattle.wire_read.specs.Answers.{isHere}
+use Rattle.wire_read.specs.Answers.{is_here}
 use Rattle.wire_read.specs.Meaning.{bit}
 use Rattle.wire_read.specs.declared.Head.{Head}
 use Rattle.wire_read.specs.declared.Incoming.{Incoming}
@@ -17,8 +17,8 @@ use Rattle.wire_read.specs.declared.messages.Flood.{Flood}
 use Rattle.wire_read.specs.declared.messages.Inquire.{Inquire}
 use Rattle.wire_read.specs.declared.messages.Lookup.{Lookup}
 use Rattle.wire_write.specs.Writing.{Made}
-use Rattle.wire_write.specs.Pieces.{lent_of, madeBy}
-use Rattle.wire_write.specs.Rows.{solicitRows, advertiseRows, requestRows, floodRows, inquireRows, authorityRows, ackRows, lookupRows, spelledPiece, firstPiece, no_piece, spelledBytes, lookupBytes, ackPieces}
+use Rattle.wire_write.specs.Pieces.{lent_of, made_by}
+use Rattle.wire_write.specs.Rows.{solicit_rows, advertise_rows, request_rows, flood_rows, inquire_rows, authority_rows, ack_rows, lookup_rows, spelled_piece, first_piece, no_piece, spelled_bytes, lookup_bytes, ack_pieces}
 use Rattle.wire_write.specs.declared.Row.{Row}
 use Rattle.wire_write.specs.declared.Piece.{Piece}
 use Rattle.wire_write.specs.declared.Source.TheVariants.{Spelled, First}
@@ -30,73 +30,73 @@ len_of Absent = 0
 
 -- a place as a piece of the datagram; a piece of the bytes that the writer spells out that may be absent
 abbrev pub piece_of : Part → Piece
-piece_of p = record { there = isHere p; source = First; start = start_of p; len = len_of p }
+piece_of p = record { there = is_here p; source = First; start = start_of p; len = len_of p }
 
-abbrev pub spelledIf : Bool → ℕ → ℕ → Piece
-spelledIf there start len = record { there = there; source = Spelled; start = start; len = len }
+abbrev pub spelled_if : Bool → ℕ → ℕ → Piece
+spelled_if there start len = record { there = there; source = Spelled; start = start; len = len }
 
 -- no message
-abbrev pub noMessage : Made
-noMessage = record { ok = false; bytes = [] }
+abbrev pub no_message : Made
+no_message = record { ok = false; bytes = [] }
 
 -- the pieces of each message, by the rows of its type
-abbrev pub solicitPieces : Solicit → List Piece
-solicitPieces m = piece_of m.entry ∷ firstPiece m.nonce 20 ∷ no_piece ∷ no_piece ∷ no_piece ∷ no_piece ∷ no_piece ∷ no_piece ∷ no_piece ∷ []
+abbrev pub solicit_pieces : Solicit → List Piece
+solicit_pieces m = piece_of m.entry ∷ first_piece m.nonce 20 ∷ no_piece ∷ no_piece ∷ no_piece ∷ no_piece ∷ no_piece ∷ no_piece ∷ no_piece ∷ []
 
-abbrev pub advertisePieces : Advertise → List Piece
-advertisePieces m =
-    spelledPiece 0 4 ∷ piece_of m.keys ∷ firstPiece m.nonce 20 ∷ no_piece ∷ no_piece ∷ no_piece ∷ no_piece ∷ no_piece ∷ no_piece ∷ []
+abbrev pub advertise_pieces : Advertise → List Piece
+advertise_pieces m =
+    spelled_piece 0 4 ∷ piece_of m.keys ∷ first_piece m.nonce 20 ∷ no_piece ∷ no_piece ∷ no_piece ∷ no_piece ∷ no_piece ∷ no_piece ∷ []
 
-abbrev pub requestPieces : Request → List Piece
-requestPieces m =
-    spelledIf m.flags 8 2 ∷ spelledIf m.split 4 4 ∷ firstPiece m.nonce 16 ∷ piece_of m.keys ∷ piece_of m.credential
+abbrev pub request_pieces : Request → List Piece
+request_pieces m =
+    spelled_if m.flags 8 2 ∷ spelled_if m.split 4 4 ∷ first_piece m.nonce 16 ∷ piece_of m.keys ∷ piece_of m.credential
     ∷ piece_of m.signature ∷ piece_of m.key ∷ no_piece ∷ no_piece ∷ []
 
-abbrev pub floodPieces : Flood → List Piece
-floodPieces m =
-    spelledPiece 8 3 ∷ firstPiece m.validate 32 ∷ piece_of m.token ∷ piece_of m.revoke ∷ piece_of m.entry ∷ piece_of m.reached
+abbrev pub flood_pieces : Flood → List Piece
+flood_pieces m =
+    spelled_piece 8 3 ∷ first_piece m.validate 32 ∷ piece_of m.token ∷ piece_of m.revoke ∷ piece_of m.entry ∷ piece_of m.reached
     ∷ no_piece ∷ no_piece ∷ no_piece ∷ []
 
-abbrev pub inquirePieces : Inquire → List Piece
-inquirePieces m =
-    spelledPiece 8 2 ∷ firstPiece m.validate 32 ∷ piece_of m.nonce ∷ piece_of m.credential ∷ piece_of m.signature ∷ piece_of m.key
+abbrev pub inquire_pieces : Inquire → List Piece
+inquire_pieces m =
+    spelled_piece 8 2 ∷ first_piece m.validate 32 ∷ piece_of m.nonce ∷ piece_of m.credential ∷ piece_of m.signature ∷ piece_of m.key
     ∷ no_piece ∷ no_piece ∷ no_piece ∷ []
 
-abbrev pub authorityPieces : Inside → List Piece
-authorityPieces f =
-    spelledPiece 0 4 ∷ spelledPiece 4 4 ∷ spelledPiece 8 2 ∷ piece_of f.chain ∷ piece_of f.token ∷ piece_of f.classifier ∷ piece_of f.payload
+abbrev pub authority_pieces : Inside → List Piece
+authority_pieces f =
+    spelled_piece 0 4 ∷ spelled_piece 4 4 ∷ spelled_piece 8 2 ∷ piece_of f.chain ∷ piece_of f.token ∷ piece_of f.classifier ∷ piece_of f.payload
     ∷ piece_of f.entry ∷ piece_of f.cpa ∷ []
 
-abbrev pub lookupPieces : Lookup → List Piece
-lookupPieces m =
-    spelledPiece 0 8 ∷ firstPiece m.target 32 ∷ firstPiece m.validate 32 ∷ piece_of m.entry ∷ piece_of m.path ∷ piece_of m.credential
+abbrev pub lookup_pieces : Lookup → List Piece
+lookup_pieces m =
+    spelled_piece 0 8 ∷ first_piece m.target 32 ∷ first_piece m.validate 32 ∷ piece_of m.entry ∷ piece_of m.path ∷ piece_of m.credential
     ∷ piece_of m.signature ∷ piece_of m.key ∷ no_piece ∷ []
 
 -- the bytes that the writer spells out for each
-abbrev pub inquireBits : Inquire → ℕ
-inquireBits m = 16 * bit m.a + (8 * bit m.x + 4 * bit m.c)
+abbrev pub inquire_bits : Inquire → ℕ
+inquire_bits m = 16 * bit m.a + (8 * bit m.x + 4 * bit m.c)
 
-abbrev pub authorityBytes : ℕ → ℕ → Inside → List ℕ
-authorityBytes acked size f = spelledBytes acked size (2 * bit f.l) (8 * bit f.b + bit f.n)
+abbrev pub authority_bytes : ℕ → ℕ → Inside → List ℕ
+authority_bytes acked size f = spelled_bytes acked size (2 * bit f.l) (8 * bit f.b + bit f.n)
 
-abbrev pub controlsBytes : Lookup → List ℕ
-controlsBytes m = lookupBytes (2 * bit m.a) (cond (eqb m.criteria 8) m.precision 0) m.criteria m.reason
+abbrev pub controls_bytes : Lookup → List ℕ
+controls_bytes m = lookup_bytes (2 * bit m.a) (cond (eqb m.criteria 8) m.precision 0) m.criteria m.reason
 
 -- a message of rows and pieces, of bytes spelled out and of the datagram
 abbrev pub copied : ℕ → ℕ → Head → List ℕ → List ℕ → List Row → List Piece → Made
-copied major type h spelled d rows ps = madeBy major h.minor type h.id (lent_of spelled d d) rows ps
+copied major type h spelled d rows ps = made_by major h.minor type h.id (lent_of spelled d d) rows ps
 
 unfoldable pub resent : ℕ → List ℕ → Incoming → Made
-resent major d (M.Refused n) = noMessage
-resent major d (M.Solicit m) = copied major 1 m.head d d solicitRows (solicitPieces m)
-resent major d (M.Advertise m) = copied major 2 m.head (spelledBytes m.acked 0 0 0) d advertiseRows (advertisePieces m)
+resent major d (M.Refused n) = no_message
+resent major d (M.Solicit m) = copied major 1 m.head d d solicit_rows (solicit_pieces m)
+resent major d (M.Advertise m) = copied major 2 m.head (spelled_bytes m.acked 0 0 0) d advertise_rows (advertise_pieces m)
 resent major d (M.Request m) =
-    copied major 3 m.head (spelledBytes 0 (length d - cond m.flags 28 20) 0 0) d requestRows (requestPieces m)
+    copied major 3 m.head (spelled_bytes 0 (length d - cond m.flags 28 20) 0 0) d request_rows (request_pieces m)
 resent major d (M.Flood m) =
-    cond (one_of (isHere m.revoke) (isHere m.entry))
-    (copied major 4 m.head (spelledBytes 0 0 0 (bit m.d)) d floodRows (floodPieces m)) noMessage
-resent major d (M.Inquire m) = copied major 7 m.head (spelledBytes 0 0 0 (inquireBits m)) d inquireRows (inquirePieces m)
+    cond (one_of (is_here m.revoke) (is_here m.entry))
+    (copied major 4 m.head (spelled_bytes 0 0 0 (bit m.d)) d flood_rows (flood_pieces m)) no_message
+resent major d (M.Inquire m) = copied major 7 m.head (spelled_bytes 0 0 0 (inquire_bits m)) d inquire_rows (inquire_pieces m)
 resent major d (M.Authority m) =
-    copied major 8 m.head (authorityBytes m.acked (length d - 28) m.fields) d authorityRows (authorityPieces m.fields)
-resent major d (M.Ack m) = copied major 9 m.head (spelledBytes m.acked 0 0 (bit m.n)) d ackRows (ackPieces m.flags)
-resent major d (M.Lookup m) = copied major 11 m.head (controlsBytes m) d lookupRows (lookupPieces m)
+    copied major 8 m.head (authority_bytes m.acked (length d - 28) m.fields) d authority_rows (authority_pieces m.fields)
+resent major d (M.Ack m) = copied major 9 m.head (spelled_bytes m.acked 0 0 (bit m.n)) d ack_rows (ack_pieces m.flags)
+resent major d (M.Lookup m) = copied major 11 m.head (controls_bytes m) d lookup_rows (lookup_pieces m)

@@ -5,7 +5,7 @@ ghost use Rattle.wire_fields.specs.Kinds.{one_of};
 ghost use Rattle.wire_read.specs.Meaning.{bit};
 ghost use Rattle.wire_read.specs.declared.Incoming.TheVariants as read;
 ghost use Rattle.wire_write.specs.Writing.{Wrote};
-ghost use Rattle.wire_copy.specs.Resent.{piece_of, spelledIf, resent};
+ghost use Rattle.wire_copy.specs.Resent.{piece_of, spelled_if, resent};
 
 use wire_fields::Part;
 use wire_numbers::*;
@@ -39,7 +39,7 @@ pub fn piece_of(p: Part) -> Piece
 }
 
 fn spelled_if(there: bool, start: usize, len: usize) -> Piece
-    ensures { result ≡ spelledIf there start len }
+    ensures { result ≡ spelled_if there start len }
 {
     Piece {
         there,

@@ -7,13 +7,13 @@ use mathlib.Core.Option.{Option, some, none}
 use mathlib.Core.Path.{◌≡◌, refl, sym, ap, ◌∙◌}
 use lib.ListN.{length, take, drop, replicate, length-replicate, length-take, length-drop}
 use lib.Seq.{drop-drop}
-use Rattle.octet.specs.Number.{digitsBE}
+use Rattle.octet.specs.Number.{digits_be}
 use Rattle.octet.specs.Part.{part}
 use mathlib.Core.Bool.{cond}
 use Rattle.wire_shapes.specs.Field.{gap}
-use Rattle.wire_shapes.specs.Shapes.{Kind, hasShape}
-use Rattle.wire_fields.specs.Message.{Segment, ends, fieldLayout}
-use Rattle.wire_fields.specs.Reading.{spanAt, needAt, need_of, maybe_at, maybeOf, places_at, before, afterNeed, afterMaybe}
+use Rattle.wire_shapes.specs.Shapes.{Kind, has_shape}
+use Rattle.wire_fields.specs.Message.{Segment, ends, field_layout}
+use Rattle.wire_fields.specs.Reading.{span_at, need_at, need_of, maybe_at, maybe_of, places_at, before, after_need, after_maybe}
 use Rattle.wire_fields.specs.declared.Cursor.{Cursor}
 use Rattle.wire_fields.specs.declared.Span.{Span}
 use Rattle.wire_fields.specs.declared.Span.TheVariants.{Whole, Other, Cut}
@@ -29,25 +29,25 @@ either true x y z p q = p
 either false x y z p q = q
 
 module _ (k : Kind) (ks : List Kind) (d : List ℕ) (i : ℕ) where
-  pub field-whole : (s l : ℕ) (c : Cursor) → spanAt d i k.number k.padded ≡ Whole s l c → hasShape k.shape (part s l d) ≡ true
+  pub field-whole : (s l : ℕ) (c : Cursor) → span_at d i k.number k.padded ≡ Whole s l c → has_shape k.shape (part s l d) ≡ true
       → places_at (k ∷ ks) d i ≡ before (Here s l) (places_at ks d c.at)
   unfolding places_at
   field-whole s l c q g =
       either k.optional _ _ _
-      (ap (afterMaybe (places_at ks d)) (sym (maybe-good d i k.number k.padded k.shape _ refl s l c q g)))
-      (ap (afterNeed (places_at ks d)) (sym (need-good d i k.number k.padded k.shape _ refl s l c q g)))
+      (ap (after_maybe (places_at ks d)) (sym (maybe-good d i k.number k.padded k.shape _ refl s l c q g)))
+      (ap (after_need (places_at ks d)) (sym (need-good d i k.number k.padded k.shape _ refl s l c q g)))
 
-  pub field-absent : k.optional ≡ true → spanAt d i k.number k.padded ≡ Other
+  pub field-absent : k.optional ≡ true → span_at d i k.number k.padded ≡ Other
       → places_at (k ∷ ks) d i ≡ before Absent (places_at ks d i)
   unfolding places_at
   field-absent o q =
-      rw o (ap (afterMaybe (places_at ks d)) (sym (maybe-other d i k.number k.padded k.shape _ refl q)))
+      rw o (ap (after_maybe (places_at ks d)) (sym (maybe-other d i k.number k.padded k.shape _ refl q)))
 
   -- how the places of a list of kinds came about
   pub data Came (ps : List Part) : Type 0 where
     left_out : (qs : List Part) → ps ≡ Absent ∷ qs → k.optional ≡ true → places_at ks d i ≡ some qs → Came ps
-    found : (s l : ℕ) (c : Cursor) (qs : List Part) → ps ≡ Here s l ∷ qs → spanAt d i k.number k.padded ≡ Whole s l c
-        → hasShape k.shape (part s l d) ≡ true → places_at ks d c.at ≡ some qs → Came ps
+    found : (s l : ℕ) (c : Cursor) (qs : List Part) → ps ≡ Here s l ∷ qs → span_at d i k.number k.padded ≡ Whole s l c
+        → has_shape k.shape (part s l d) ≡ true → places_at ks d c.at ≡ some qs → Came ps
 
   behind : (p : Part) (o : Option (List Part)) (ps : List Part) → before p o ≡ some ps → (qs : List Part) × (o ≡ some qs) × (ps ≡ p ∷ qs)
   behind p none ps e = absurd (let z : ◌≡◌ {A = ℕ} 0 1 = cc in omega arith)
@@ -55,7 +55,7 @@ module _ (k : Kind) (ks : List Kind) (d : List ℕ) (i : ℕ) where
 
   -- r is the span and g whether its contents are good
   module _ (ps : List Part) where
-    whole-came : (s l : ℕ) (c : Cursor) → spanAt d i k.number k.padded ≡ Whole s l c → (g : Bool) → hasShape k.shape (part s l d) ≡ g
+    whole-came : (s l : ℕ) (c : Cursor) → span_at d i k.number k.padded ≡ Whole s l c → (g : Bool) → has_shape k.shape (part s l d) ≡ g
         → cond g (before (Here s l) (places_at ks d c.at)) none ≡ some ps → Came ps
     whole-came s l c q true g e =
         let b = behind (Here s l) (places_at ks d c.at) ps e in
@@ -64,33 +64,33 @@ module _ (k : Kind) (ks : List Kind) (d : List ℕ) (i : ℕ) where
 
     -- the test goes through what follows it
     after-maybe : (g : Bool) (p : Part) (c : Cursor)
-        → afterMaybe (places_at ks d) (cond g (Taken p c) Malformed) ≡ cond g (before p (places_at ks d c.at)) none
+        → after_maybe (places_at ks d) (cond g (Taken p c) Malformed) ≡ cond g (before p (places_at ks d c.at)) none
     after-maybe true p c = refl
     after-maybe false p c = refl
 
     after-need : (g : Bool) (s l : ℕ) (c : Cursor)
-        → afterNeed (places_at ks d) (cond g (Field s l c) Missing) ≡ cond g (before (Here s l) (places_at ks d c.at)) none
+        → after_need (places_at ks d) (cond g (Field s l c) Missing) ≡ cond g (before (Here s l) (places_at ks d c.at)) none
     after-need true s l c = refl
     after-need false s l c = refl
 
-    came-maybe : k.optional ≡ true → (r : Span) → spanAt d i k.number k.padded ≡ r
-        → afterMaybe (places_at ks d) (maybeOf d k.shape i r) ≡ some ps → Came ps
+    came-maybe : k.optional ≡ true → (r : Span) → span_at d i k.number k.padded ≡ r
+        → after_maybe (places_at ks d) (maybe_of d k.shape i r) ≡ some ps → Came ps
     came-maybe o (Whole s l c) q e =
-        whole-came s l c q _ refl (sym (after-maybe (hasShape k.shape (part s l d)) (Here s l) c) ∙ e)
+        whole-came s l c q _ refl (sym (after-maybe (has_shape k.shape (part s l d)) (Here s l) c) ∙ e)
     came-maybe o Other q e =
         let b = behind Absent (places_at ks d i) ps e in
         left_out b.0 b.2 o b.1
     came-maybe o Cut q e = absurd (let z : ◌≡◌ {A = ℕ} 0 1 = cc in omega arith)
 
-    came-need : (r : Span) → spanAt d i k.number k.padded ≡ r → afterNeed (places_at ks d) (need_of d k.shape r) ≡ some ps → Came ps
-    came-need (Whole s l c) q e = whole-came s l c q _ refl (sym (after-need (hasShape k.shape (part s l d)) s l c) ∙ e)
+    came-need : (r : Span) → span_at d i k.number k.padded ≡ r → after_need (places_at ks d) (need_of d k.shape r) ≡ some ps → Came ps
+    came-need (Whole s l c) q e = whole-came s l c q _ refl (sym (after-need (has_shape k.shape (part s l d)) s l c) ∙ e)
     came-need Other q e = absurd (let z : ◌≡◌ {A = ℕ} 0 1 = cc in omega arith)
     came-need Cut q e = absurd (let z : ◌≡◌ {A = ℕ} 0 1 = cc in omega arith)
 
     by-optional : (o : Bool) → k.optional ≡ o
-        → cond o (afterMaybe (places_at ks d) (maybe_at d i k.number k.padded k.shape))
-        (afterNeed (places_at ks d) (needAt d i k.number k.padded k.shape)) ≡ some ps → Came ps
-    unfolding maybe_at needAt
+        → cond o (after_maybe (places_at ks d) (maybe_at d i k.number k.padded k.shape))
+        (after_need (places_at ks d) (need_at d i k.number k.padded k.shape)) ≡ some ps → Came ps
+    unfolding maybe_at need_at
     by-optional true o e = came-maybe o _ refl e
     by-optional false o e = came-need _ refl e
 
@@ -100,7 +100,7 @@ module _ (k : Kind) (ks : List Kind) (d : List ℕ) (i : ℕ) where
 
 -- a datagram agrees with a field that is there, and then with what follows
 pub record Stands (k : Kind) (i : ℕ) (v d : List ℕ) (rest : List Segment) : Type 0 where
-  pub head : take 4 (drop i d) ≡ digitsBE 256 2 k.number ++ digitsBE 256 2 (length v + 4)
+  pub head : take 4 (drop i d) ≡ digits_be 256 2 k.number ++ digits_be 256 2 (length v + 4)
   pub room : ends i k (some v) ≤ length d
   pub body : k.kept (part (i + 4) (length v) d) ≡ v
   pub tail : Agrees rest (drop (ends i k (some v)) d)
@@ -118,8 +118,8 @@ module _ (k : Kind) (i : ℕ) (v d : List ℕ) (rest : List Segment) where
       let e : i + 4 + length v + past k i v ≡ ends i k (some v) = omega arith in
       rw (drop-drop 4 i d, drop-drop (length v) (i + 4) d, drop-drop (past k i v) (i + 4 + length v) d, e)
 
-  pub agrees-stands : Agrees (fieldLayout i k (some v) rest) (drop i d) → Stands k i v d rest
-  unfolding digitsBE
+  pub agrees-stands : Agrees (field_layout i k (some v) rest) (drop i d) → Stands k i v d rest
+  unfolding digits_be
   agrees-stands h =
       let t = h.2.2 in
       let l₁ : 4 ≤ length d - i = rw length-drop at h.0 in
@@ -133,8 +133,8 @@ module _ (k : Kind) (i : ℕ) (v d : List ℕ) (rest : List Segment) where
         tail = rw (zeros (past k i v), where-rest) at t.2;
       }
 
-  pub stands-agrees : Stands k i v d rest → Agrees (fieldLayout i k (some v) rest) (drop i d)
-  unfolding digitsBE
+  pub stands-agrees : Stands k i v d rest → Agrees (field_layout i k (some v) rest) (drop i d)
+  unfolding digits_be
   stands-agrees s =
       let r : i + (length v + 4) + past k i v ≤ length d = s.room in
       let n = past k i v in

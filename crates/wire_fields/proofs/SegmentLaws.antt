@@ -4,7 +4,7 @@ use native.Mathlib.Omega.{arith}
 use mathlib.Core.List.{List, [], ◌∷◌, ◌++◌}
 use mathlib.Core.Path.{◌≡◌, refl, sym, ap, ◌∙◌}
 use lib.ListN.{length, take, drop, length-append, length-take, length-drop}
-use Rattle.wire_fields.specs.Message.{Segment, messageBytes, cleared}
+use Rattle.wire_fields.specs.Message.{Segment, message_bytes, cleared}
 
 -- two lists joined whose first parts are equally long
 pub apart : (a x b y : List ℕ) → length a ≡ length x → a ++ b ≡ x ++ y → (a ≡ x) × (b ≡ y)
@@ -33,16 +33,16 @@ cleared-length (s ∷ ss) h d =
     let r = cleared-length ss h.1 (drop n d) in
     rw (length-append, h.0 (take n d), r, length-take, length-drop) (omega arith)
 
-pub agrees-of : (ss : List Segment) → Lengths ss → (d : List ℕ) → cleared ss d ≡ messageBytes ss → Agrees ss d
-agrees-of [] h d e = e
-agrees-of (s ∷ ss) h d e =
+pub agrees_of : (ss : List Segment) → Lengths ss → (d : List ℕ) → cleared ss d ≡ message_bytes ss → Agrees ss d
+agrees_of [] h d e = e
+agrees_of (s ∷ ss) h d e =
     let n = length s.bytes in
-    let l : length d ≡ length s.bytes + length (messageBytes ss) =
-    sym (cleared-length (s ∷ ss) h d) ∙ ap length e ∙ length-append s.bytes (messageBytes ss) in
+    let l : length d ≡ length s.bytes + length (message_bytes ss) =
+    sym (cleared-length (s ∷ ss) h d) ∙ ap length e ∙ length-append s.bytes (message_bytes ss) in
     let m : length (s.kept (take n d)) ≡ n = h.0 (take n d) ∙ length-take n d ∙ omega arith in
-    let r = apart (s.kept (take n d)) s.bytes (cleared ss (drop n d)) (messageBytes ss) m e in
-    (omega arith, r.0, agrees-of ss h.1 (drop n d) r.1)
+    let r = apart (s.kept (take n d)) s.bytes (cleared ss (drop n d)) (message_bytes ss) m e in
+    (omega arith, r.0, agrees_of ss h.1 (drop n d) r.1)
 
-pub of-agrees : (ss : List Segment) (d : List ℕ) → Agrees ss d → cleared ss d ≡ messageBytes ss
-of-agrees [] d e = e
-of-agrees (s ∷ ss) d h = rw (h.1, of-agrees ss (drop (length s.bytes) d) h.2)
+pub of_agrees : (ss : List Segment) (d : List ℕ) → Agrees ss d → cleared ss d ≡ message_bytes ss
+of_agrees [] d e = e
+of_agrees (s ∷ ss) d h = rw (h.1, of_agrees ss (drop (length s.bytes) d) h.2)

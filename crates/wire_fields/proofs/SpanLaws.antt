@@ -1,4 +1,4 @@
--- The cases of `spanAt`, each from the facts that lead to it. The code's proof and the laws of reading cite these.
+-- The cases of `span_at`, each from the facts that lead to it. The code's proof and the laws of reading cite these.
 use Prim.Native.Nat.{ℕ, ◌+◌, ◌-◌, ◌<◌, ◌≤◌}
 use mathlib.Core.List.{List}
 use mathlib.Core.Path.{◌≡◌, refl, sym, ap}
@@ -11,21 +11,21 @@ use Rattle.octet.specs.Part.{part}
 use mathlib.Core.Bool.{◌&&◌}
 use mathlib.Core.Bool.{cond}
 use Rattle.wire_shapes.specs.Field.{number_at, gap}
-use Rattle.wire_fields.specs.Reading.{spanAt, next_at}
+use Rattle.wire_fields.specs.Reading.{span_at, next_at}
 use Rattle.wire_fields.specs.declared.Cursor.{Cursor}
 use Rattle.wire_fields.specs.declared.Span.TheVariants.{Whole, Other, Cut}
 
 module _ (d : List ℕ) (i n : ℕ) (p : Bool) where
-  pub span-short : length d < i + 4 → spanAt d i n p ≡ Other
-  unfolding spanAt
+  pub span-short : length d < i + 4 → span_at d i n p ≡ Other
+  unfolding span_at
   span-short h = simp (lt-leb (i + 4) (length d) h)
 
-  pub span-other : i + 4 ≤ length d → (number_at i 2 d ≡ n → ⊥) → spanAt d i n p ≡ Other
-  unfolding spanAt
+  pub span-other : i + 4 ≤ length d → (number_at i 2 d ≡ n → ⊥) → span_at d i n p ≡ Other
+  unfolding span_at
   span-other h q = simp (le-leb (i + 4) (length d) h, ne_eqb (number_at i 2 d) n q)
 
-  pub span-low : i + 4 ≤ length d → number_at i 2 d ≡ n → number_at (i + 2) 2 d < 4 → spanAt d i n p ≡ Cut
-  unfolding spanAt
+  pub span-low : i + 4 ≤ length d → number_at i 2 d ≡ n → number_at (i + 2) 2 d < 4 → span_at d i n p ≡ Cut
+  unfolding span_at
   span-low h q l = simp (le-leb (i + 4) (length d) h, eq-eqb (number_at i 2 d) n q, lt-leb 4 (number_at (i + 2) 2 d) l)
 
   -- w is the length read and x the padding, as the code has them
@@ -33,16 +33,16 @@ module _ (d : List ℕ) (i n : ℕ) (p : Bool) where
     next-is : i + w + x ≡ next_at d i p
     next-is = cc
 
-    pub span-past : i + 4 ≤ length d → number_at i 2 d ≡ n → 4 ≤ w → length d < i + w + x → spanAt d i n p ≡ Cut
-    unfolding spanAt
+    pub span-past : i + 4 ≤ length d → number_at i 2 d ≡ n → 4 ≤ w → length d < i + w + x → span_at d i n p ≡ Cut
+    unfolding span_at
     span-past h q l m =
         let l2 : 4 ≤ number_at (i + 2) 2 d = rw ew at l in
         let m2 : length d < next_at d i p = rw next-is at m in
         simp (le-leb (i + 4) (length d) h, eq-eqb (number_at i 2 d) n q, le-leb 4 (number_at (i + 2) 2 d) l2, lt-leb (next_at d i p) (length d) m2)
 
     pub span-whole : i + 4 ≤ length d → number_at i 2 d ≡ n → 4 ≤ w → i + w + x ≤ length d
-        → spanAt d i n p ≡ Whole (i + 4) (w - 4) (record { at = i + w + x })
-    unfolding spanAt
+        → span_at d i n p ≡ Whole (i + 4) (w - 4) (record { at = i + w + x })
+    unfolding span_at
     span-whole h q l m =
         let l2 : 4 ≤ number_at (i + 2) 2 d = rw ew at l in
         let m2 : next_at d i p ≤ length d = rw next-is at m in
@@ -82,12 +82,12 @@ module _ (d : List ℕ) (i n : ℕ) (p : Bool) (s l : ℕ) (c : Cursor) where
   go true q₁ false q₂ b₃ q₃ b₄ q₄ e = absurd (let z : ◌≡◌ {A = ℕ} 0 1 = cc in omega arith)
   go false q₁ b₂ q₂ b₃ q₃ b₄ q₄ e = absurd (let z : ◌≡◌ {A = ℕ} 0 1 = cc in omega arith)
 
-  pub span_fits : spanAt d i n p ≡ Whole s l c → Fits d i n p s l c
-  unfolding spanAt
+  pub span_fits : span_at d i n p ≡ Whole s l c → Fits d i n p s l c
+  unfolding span_at
   span_fits e = go _ refl _ refl _ refl _ refl e
 
   -- its contents are whole
-  pub span-length : spanAt d i n p ≡ Whole s l c → length (part s l d) ≡ l
+  pub span-length : span_at d i n p ≡ Whole s l c → length (part s l d) ≡ l
   span-length e =
       let f = span_fits e in
       simp (length-take, length-drop) (omega arith)

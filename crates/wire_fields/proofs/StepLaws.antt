@@ -9,10 +9,10 @@ use lib.ListN.{length}
 use borrow.Author.Tests.{eq-eqb, eqb-true}
 use Rattle.octet.specs.Number.{Bytes}
 use Rattle.octet.specs.Part.{part}
-use Rattle.octet.proofs.BigLaws.{valueBE-part}
+use Rattle.octet.proofs.BigLaws.{value_be-part}
 use Rattle.wire_shapes.specs.Field.{number_at, gap}
-use Rattle.wire_shapes.specs.Shapes.{hasShape}
-use Rattle.wire_fields.specs.Reading.{spanAt, need_of, needAt, maybeOf, maybe_at}
+use Rattle.wire_shapes.specs.Shapes.{has_shape}
+use Rattle.wire_fields.specs.Reading.{span_at, need_of, need_at, maybe_of, maybe_at}
 use Rattle.wire_shapes.specs.declared.Shape.{Shape}
 use Rattle.wire_shapes.specs.declared.Shape.TheVariants.{Sized}
 use Rattle.wire_fields.specs.declared.Cursor.{Cursor}
@@ -25,19 +25,19 @@ use Rattle.wire_fields.specs.declared.Need.{Need}
 use Rattle.wire_fields.specs.declared.Need.TheVariants.{Field, Missing}
 use Rattle.wire_fields.specs.declared.Maybe.TheVariants.{Taken, Malformed}
 
-module _ (d : List ℕ) (i n : ℕ) (p : Bool) (h : Shape) (r : Span) (e : r ≡ spanAt d i n p) where
-  need-by : (x : Span) → r ≡ x → need_of d h x ≡ needAt d i n p h
-  unfolding needAt
+module _ (d : List ℕ) (i n : ℕ) (p : Bool) (h : Shape) (r : Span) (e : r ≡ span_at d i n p) where
+  need-by : (x : Span) → r ≡ x → need_of d h x ≡ need_at d i n p h
+  unfolding need_at
   need-by x q = ap (need_of d h) (sym q ∙ e)
 
-  maybe-by : (x : Span) → r ≡ x → maybeOf d h i x ≡ maybe_at d i n p h
+  maybe-by : (x : Span) → r ≡ x → maybe_of d h i x ≡ maybe_at d i n p h
   unfolding maybe_at
-  maybe-by x q = ap (maybeOf d h i) (sym q ∙ e)
+  maybe-by x q = ap (maybe_of d h i) (sym q ∙ e)
 
-  pub need-other : r ≡ Other → Missing ≡ needAt d i n p h
+  pub need-other : r ≡ Other → Missing ≡ need_at d i n p h
   need-other q = need-by Other q
 
-  pub need-cut : r ≡ Cut → Missing ≡ needAt d i n p h
+  pub need-cut : r ≡ Cut → Missing ≡ need_at d i n p h
   need-cut q = need-by Cut q
 
   pub maybe-other : r ≡ Other → Taken Absent (record { at = i }) ≡ maybe_at d i n p h
@@ -47,22 +47,22 @@ module _ (d : List ℕ) (i n : ℕ) (p : Bool) (h : Shape) (r : Span) (e : r ≡
   maybe-cut q = maybe-by Cut q
 
   module _ (s l : ℕ) (c : Cursor) (q : r ≡ Whole s l c) where
-    pub need-good : hasShape h (part s l d) ≡ true → Field s l c ≡ needAt d i n p h
+    pub need-good : has_shape h (part s l d) ≡ true → Field s l c ≡ need_at d i n p h
     need-good g = rw g at (need-by (Whole s l c) q)
 
-    pub need-bad : hasShape h (part s l d) ≡ false → Missing ≡ needAt d i n p h
+    pub need-bad : has_shape h (part s l d) ≡ false → Missing ≡ need_at d i n p h
     need-bad g = rw g at (need-by (Whole s l c) q)
 
-    pub maybe-good : hasShape h (part s l d) ≡ true → Taken (Here s l) c ≡ maybe_at d i n p h
+    pub maybe-good : has_shape h (part s l d) ≡ true → Taken (Here s l) c ≡ maybe_at d i n p h
     maybe-good g = rw g at (maybe-by (Whole s l c) q)
 
-    pub maybe-bad : hasShape h (part s l d) ≡ false → Malformed ≡ maybe_at d i n p h
+    pub maybe-bad : has_shape h (part s l d) ≡ false → Malformed ≡ maybe_at d i n p h
     maybe-bad g = rw g at (maybe-by (Whole s l c) q)
 
 -- what is not found is missing
-missing-by : (r : Need) → ((s l : ℕ) (c : Cursor) → r ≡ Field s l c → ⊥) → Missing ≡ r
-missing-by Missing never = refl
-missing-by (Field s l c) never = absurd (never s l c refl)
+missing_by : (r : Need) → ((s l : ℕ) (c : Cursor) → r ≡ Field s l c → ⊥) → Missing ≡ r
+missing_by Missing never = refl
+missing_by (Field s l c) never = absurd (never s l c refl)
 
 by_shape : (b : Bool) (s l : ℕ) (c : Cursor) (s₂ l₂ : ℕ) (c₂ : Cursor) → cond b (Field s l c) Missing ≡ Field s₂ l₂ c₂ → b ≡ true
 by_shape true s l c s₂ l₂ c₂ e = refl
@@ -76,8 +76,8 @@ pub record Sure (d : List ℕ) (i n : ℕ) (p : Bool) (len : ℕ) : Type 0 where
   pub within : i + (len + 4) + gap p (i + (len + 4)) ≤ length d
 
 module _ (d : List ℕ) (i n : ℕ) (p : Bool) (len : ℕ) where
-  sure-by : (r : Span) → spanAt d i n p ≡ r → (s l : ℕ) (c : Cursor) → need_of d (Sized len) r ≡ Field s l c → Sure d i n p len
-  unfolding hasShape
+  sure-by : (r : Span) → span_at d i n p ≡ r → (s l : ℕ) (c : Cursor) → need_of d (Sized len) r ≡ Field s l c → Sure d i n p len
+  unfolding has_shape
   sure-by (Whole s l c) q s₂ l₂ c₂ e =
       let f = span_fits d i n p s l c q in
       let k = eqb-true (length (part s l d)) len (by_shape _ s l c s₂ l₂ c₂ e) in
@@ -87,32 +87,32 @@ module _ (d : List ℕ) (i n : ℕ) (p : Bool) (len : ℕ) where
   sure-by Other q s₂ l₂ c₂ e = absurd (let z : ◌≡◌ {A = ℕ} 0 1 = cc in omega arith)
   sure-by Cut q s₂ l₂ c₂ e = absurd (let z : ◌≡◌ {A = ℕ} 0 1 = cc in omega arith)
 
-  pub fixed-missing : (Sure d i n p len → ⊥) → Missing ≡ needAt d i n p (Sized len)
-  unfolding needAt
-  fixed-missing never = missing-by (needAt d i n p (Sized len)) (λ s l c e. never (sure-by (spanAt d i n p) refl s l c e))
+  pub fixed-missing : (Sure d i n p len → ⊥) → Missing ≡ need_at d i n p (Sized len)
+  unfolding need_at
+  fixed-missing never = missing_by (need_at d i n p (Sized len)) (λ s l c e. never (sure-by (span_at d i n p) refl s l c e))
 
   -- w is the length and x the padding, as the code has them
   module _ (w x : ℕ) (ew : w ≡ len + 4) (ex : x ≡ gap p (i + w)) (bytes : Bytes d) (room : i + 4 ≤ length d) where
-    pub fixed-past : length d < i + w + x → Missing ≡ needAt d i n p (Sized len)
+    pub fixed-past : length d < i + w + x → Missing ≡ need_at d i n p (Sized len)
     fixed-past m =
         let e : i + w + x ≡ i + (len + 4) + gap p (i + (len + 4)) = cc in
         fixed-missing (λ (s : Sure d i n p len). omega (arith, s.within, e, m))
 
     two-numbers : number_at i 4 d ≡ number_at i 2 d * 65536 + number_at (i + 2) 2 d
-    two-numbers = omega (arith, valueBE-part 256 i 2 2 d (omega arith))
+    two-numbers = omega (arith, value_be-part 256 i 2 2 d (omega arith))
 
-    pub fixed-other : (number_at i 4 d ≡ n * 65536 + w → ⊥) → Missing ≡ needAt d i n p (Sized len)
+    pub fixed-other : (number_at i 4 d ≡ n * 65536 + w → ⊥) → Missing ≡ need_at d i n p (Sized len)
     fixed-other never = fixed-missing (λ (s : Sure d i n p len). never (omega (arith, two-numbers, s.number, s.long, ew)))
 
     pub fixed-good : w < 65536 → i + w + x ≤ length d → number_at i 4 d ≡ n * 65536 + w
-        → Field (i + 4) len (record { at = i + w + x }) ≡ needAt d i n p (Sized len)
-    unfolding hasShape
+        → Field (i + 4) len (record { at = i + w + x }) ≡ need_at d i n p (Sized len)
+    unfolding has_shape
     fixed-good small within e =
         let low : number_at (i + 2) 2 d < 65536 = number_small (i + 2) 2 d bytes (omega arith) in
         let number : number_at i 2 d ≡ n = omega (arith, two-numbers, low, e) in
         let long : w ≡ number_at (i + 2) 2 d = omega (arith, two-numbers, low, e) in
         let len_is : w - 4 ≡ len = omega arith in
-        let q : spanAt d i n p ≡ Whole (i + 4) len (record { at = i + w + x }) =
+        let q : span_at d i n p ≡ Whole (i + 4) len (record { at = i + w + x }) =
         rw len_is at (span-whole d i n p w x long ex room number (omega arith) within) in
-        need-good d i n p (Sized len) (spanAt d i n p) refl (i + 4) len (record { at = i + w + x }) q
+        need-good d i n p (Sized len) (span_at d i n p) refl (i + 4) len (record { at = i + w + x }) q
         (eq-eqb (length (part (i + 4) len d)) len (span-length d i n p (i + 4) len (record { at = i + w + x }) q))

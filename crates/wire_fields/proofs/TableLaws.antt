@@ -13,16 +13,16 @@ use Rattle.octet.specs.Number.{Bytes}
 use Rattle.octet.specs.Part.{part}
 use mathlib.Core.Bool.{cond}
 use Rattle.wire_shapes.specs.Field.{number_at, gap}
-use Rattle.wire_shapes.specs.Shapes.{Kind, hasShape}
-use Rattle.wire_fields.specs.Message.{Contents, Held, Formed, ends, layoutFrom, parts_of}
-use Rattle.wire_fields.specs.Reading.{spanAt, places_at, values_of, before}
+use Rattle.wire_shapes.specs.Shapes.{Kind, has_shape}
+use Rattle.wire_fields.specs.Message.{Contents, Held, Formed, ends, layout_from, parts_of}
+use Rattle.wire_fields.specs.Reading.{span_at, places_at, values_of, before}
 use Rattle.wire_fields.specs.declared.Cursor.{Cursor}
 use Rattle.wire_fields.specs.declared.Span.TheVariants.{Whole, Other}
 use Rattle.wire_fields.specs.declared.Part.{Part}
 use Rattle.wire_fields.specs.declared.Part.TheVariants.{Here, Absent}
 use Rattle.wire_fields.proofs.SpanLaws.{span-short, span-other, span-whole, span_fits, span-length}
 use Rattle.octet.proofs.PartLaws.{part-digits}
-use Rattle.wire_fields.proofs.HeadLaws.{number_small, head_bytes, head-number, head-length}
+use Rattle.wire_fields.proofs.HeadLaws.{number_small, head_bytes, head-number, head_length}
 use Rattle.wire_fields.proofs.SegmentLaws.{Agrees}
 use Rattle.wire_fields.proofs.FieldLaws.{Came, left_out, found, field-came, field-whole, field-absent, Stands, agrees-stands, stands-agrees}
 
@@ -31,7 +31,7 @@ pub record Law (k : Kind) : Type 0 where
   pub small : k.number < 65536
   pub long : (v : List ℕ) → length (k.kept v) ≡ length v
   pub once : (v : List ℕ) → k.kept (k.kept v) ≡ k.kept v
-  pub same : (v : List ℕ) → hasShape k.shape (k.kept v) ≡ hasShape k.shape v
+  pub same : (v : List ℕ) → has_shape k.shape (k.kept v) ≡ has_shape k.shape v
   pub bytes : (v : List ℕ) → Bytes v → Bytes (k.kept v)
 
 -- and of a list of them: no number stands twice
@@ -45,12 +45,12 @@ Lawful (k ∷ ks) = Law k × Fresh k.number ks × Lawful ks
 
 -- reading is sound
 abbrev Sound : List Kind → List ℕ → ℕ → List Part → Type 0
-Sound ks d i ps = Formed ks (values_of ks d ps) × Agrees (layoutFrom i ks (values_of ks d ps)) (drop i d)
+Sound ks d i ps = Formed ks (values_of ks d ps) × Agrees (layout_from i ks (values_of ks d ps)) (drop i d)
 
-sound-here : (k : Kind) → Law k → (ks : List Kind) (d : List ℕ) → Bytes d → (i s l : ℕ) (c : Cursor) (qs : List Part)
-    → spanAt d i k.number k.padded ≡ Whole s l c → hasShape k.shape (part s l d) ≡ true → Sound ks d c.at qs
+sound_here : (k : Kind) → Law k → (ks : List Kind) (d : List ℕ) → Bytes d → (i s l : ℕ) (c : Cursor) (qs : List Part)
+    → span_at d i k.number k.padded ≡ Whole s l c → has_shape k.shape (part s l d) ≡ true → Sound ks d c.at qs
     → Sound (k ∷ ks) d i (Here s l ∷ qs)
-sound-here k w ks d b i s l c qs q g ih =
+sound_here k w ks d b i s l c qs q g ih =
     let f = span_fits d i k.number k.padded s l c q in
     let v = k.kept (part s l d) in
     let vs = values_of ks d qs in
@@ -68,7 +68,7 @@ sound-here k w ks d b i s l c qs q g ih =
         },
         ih.0,
       ),
-      stands-agrees k i v d (layoutFrom (ends i k (some v)) ks vs) (record {
+      stands-agrees k i v d (layout_from (ends i k (some v)) ks vs) (record {
         head = head_bytes d b i k.number (length v + 4) f.room f.number tw;
         room = rw (sym e) (rw f.goes f.within);
         body = kv;
@@ -79,34 +79,34 @@ sound-here k w ks d b i s l c qs q g ih =
     ap₂-part : (d : List ℕ) (k : Kind) {s s' l l' : ℕ} → s ≡ s' → l ≡ l' → k.kept (part s l d) ≡ k.kept (part s' l' d)
     ap₂-part d k p q = rw (p, q)
 
-sound-step : (k : Kind) → Law k → (ks : List Kind) (d : List ℕ) → Bytes d → (i : ℕ)
+sound_step : (k : Kind) → Law k → (ks : List Kind) (d : List ℕ) → Bytes d → (i : ℕ)
     → ((j : ℕ) (qs : List Part) → places_at ks d j ≡ some qs → Sound ks d j qs) → (ps : List Part) → Came k ks d i ps → Sound (k ∷ ks) d i ps
-sound-step k w ks d b i ih ps (left_out qs e o q) = let r = ih i qs q in rw e ((o, r.0), r.1)
-sound-step k w ks d b i ih ps (found s l c qs e q g r) = rw e (sound-here k w ks d b i s l c qs q g (ih c.at qs r))
+sound_step k w ks d b i ih ps (left_out qs e o q) = let r = ih i qs q in rw e ((o, r.0), r.1)
+sound_step k w ks d b i ih ps (found s l c qs e q g r) = rw e (sound_here k w ks d b i s l c qs q g (ih c.at qs r))
 
-at-end : (d : List ℕ) (i : ℕ) (ps : List Part) (t : Bool) → eqb i (length d) ≡ t → ◌≡◌ {A = Option (List Part)} (cond t (some []) none) (some ps)
+at_end_lem : (d : List ℕ) (i : ℕ) (ps : List Part) (t : Bool) → eqb i (length d) ≡ t → ◌≡◌ {A = Option (List Part)} (cond t (some []) none) (some ps)
     → drop i d ≡ []
-at-end d i ps true q e = let h : i ≡ length d = eqb-true i (length d) q in drop_of_length-le d {i = i} (omega arith)
-at-end d i ps false q e = absurd (let z : ◌≡◌ {A = ℕ} 0 1 = cc in omega arith)
+at_end_lem d i ps true q e = let h : i ≡ length d = eqb-true i (length d) q in drop_of_length-le d {i = i} (omega arith)
+at_end_lem d i ps false q e = absurd (let z : ◌≡◌ {A = ℕ} 0 1 = cc in omega arith)
 
 pub sound : (ks : List Kind) → Lawful ks → (d : List ℕ) → Bytes d → (i : ℕ) (ps : List Part) → places_at ks d i ≡ some ps → Sound ks d i ps
 unfolding places_at
-sound [] w d b i ps e = (tt, at-end d i ps _ refl e)
+sound [] w d b i ps e = (tt, at_end_lem d i ps _ refl e)
 sound (k ∷ ks) w d b i ps e =
-    sound-step k w.0 ks d b i (λ j qs q. sound ks w.2 d b j qs q) ps (field-came k ks d i ps e)
+    sound_step k w.0 ks d b i (λ j qs q. sound ks w.2 d b j qs q) ps (field-came k ks d i ps e)
 
 none_left : (d : List ℕ) (i : ℕ) → drop i d ≡ [] → length d ≤ i
 none_left d i e = let h : length d - i ≡ 0 = sym (length-drop i d) ∙ ap length e in omega arith
 
 -- where other fields follow, or nothing, the field of a number of its own is absent
 pub absent : (n : ℕ) (p : Bool) (ks : List Kind) → Fresh n ks → Lawful ks → (d : List ℕ) (i : ℕ) (fs : List Contents)
-    → Formed ks fs → Agrees (layoutFrom i ks fs) (drop i d) → spanAt d i n p ≡ Other
+    → Formed ks fs → Agrees (layout_from i ks fs) (drop i d) → span_at d i n p ≡ Other
 absent n p [] u w d i [] f a = span-short d i n p (let h = none_left d i a in omega arith)
 absent n p [] u w d i (x ∷ fs) f a = absurd f
 absent n p (k ∷ ks) u w d i [] f a = absurd f
 absent n p (k ∷ ks) u w d i (none ∷ fs) f a = absent n p ks u.1 w.2 d i fs f.1 a
 absent n p (k ∷ ks) u w d i (some v ∷ fs) f a =
-    let s = agrees-stands k i v d (layoutFrom (ends i k (some v)) ks fs) a in
+    let s = agrees-stands k i v d (layout_from (ends i k (some v)) ks fs) a in
     let e = head-number d i k.number (length v + 4) w.0.small f.0.short s.head in
     span-other d i n p (let r = s.room in omega arith) (λ q. u.0 (sym e ∙ q))
 
@@ -114,24 +114,24 @@ absent n p (k ∷ ks) u w d i (some v ∷ fs) f a =
 abbrev Complete : List Kind → List ℕ → ℕ → List Contents → Type 0
 Complete ks d i fs = (places_at ks d i ≡ some (parts_of i ks fs)) × (values_of ks d (parts_of i ks fs) ≡ fs)
 
-complete-here : (k : Kind) → Law k → (ks : List Kind) (d : List ℕ) (i : ℕ) (v : List ℕ) (fs : List Contents) → Held k v
-    → Stands k i v d (layoutFrom (ends i k (some v)) ks fs) → Complete ks d (ends i k (some v)) fs → Complete (k ∷ ks) d i (some v ∷ fs)
-complete-here k w ks d i v fs h s r =
+complete_here : (k : Kind) → Law k → (ks : List Kind) (d : List ℕ) (i : ℕ) (v : List ℕ) (fs : List Contents) → Held k v
+    → Stands k i v d (layout_from (ends i k (some v)) ks fs) → Complete ks d (ends i k (some v)) fs → Complete (k ∷ ks) d i (some v ∷ fs)
+complete_here k w ks d i v fs h s r =
     let n = length v + 4 in
     let x = gap k.padded (i + n) in
     let m : i + n + x ≤ length d = s.room in
     let e = head-number d i k.number n w.small h.short s.head in
-    let el = head-length d i k.number n w.small h.short s.head in
+    let el = head_length d i k.number n w.small h.short s.head in
     let z : n - 4 ≡ length v = omega arith in
     let q = rw z at (span-whole d i k.number k.padded n x (sym el) refl (omega arith) e (omega arith) m) in
-    let g : hasShape k.shape (part (i + 4) (length v) d) ≡ true =
-    sym (w.same (part (i + 4) (length v) d)) ∙ ap (hasShape k.shape) s.body ∙ h.shaped in (
+    let g : has_shape k.shape (part (i + 4) (length v) d) ≡ true =
+    sym (w.same (part (i + 4) (length v) d)) ∙ ap (has_shape k.shape) s.body ∙ h.shaped in (
       field-whole k ks d i (i + 4) (length v) (record { at = i + n + x }) q g ∙ ap (before (Here (i + 4) (length v))) r.0,
       rw (s.body, r.1),
     )
 
 pub complete : (ks : List Kind) → Lawful ks → (d : List ℕ) (i : ℕ) → i ≤ length d → (fs : List Contents)
-    → Formed ks fs → Agrees (layoutFrom i ks fs) (drop i d) → Complete ks d i fs
+    → Formed ks fs → Agrees (layout_from i ks fs) (drop i d) → Complete ks d i fs
 unfolding places_at
 complete [] w d i h [] f a =
     let e : i ≡ length d = (let l = none_left d i a in omega arith) in
@@ -144,14 +144,14 @@ complete (k ∷ ks) w d i h (none ∷ fs) f a =
       rw r.1,
     )
 complete (k ∷ ks) w d i h (some v ∷ fs) f a =
-    let s = agrees-stands k i v d (layoutFrom (ends i k (some v)) ks fs) a in
-    complete-here k w.0 ks d i v fs f.0 s (complete ks w.2 d (ends i k (some v)) s.room fs f.1 s.tail)
+    let s = agrees-stands k i v d (layout_from (ends i k (some v)) ks fs) a in
+    complete_here k w.0 ks d i v fs f.0 s (complete ks w.2 d (ends i k (some v)) s.room fs f.1 s.tail)
 
 -- the places found are those of the fields found
-places-here : (k : Kind) → Law k → (ks : List Kind) (d : List ℕ) (i s l : ℕ) (c : Cursor) (qs : List Part)
-    → spanAt d i k.number k.padded ≡ Whole s l c → parts_of c.at ks (values_of ks d qs) ≡ qs
+places_here : (k : Kind) → Law k → (ks : List Kind) (d : List ℕ) (i s l : ℕ) (c : Cursor) (qs : List Part)
+    → span_at d i k.number k.padded ≡ Whole s l c → parts_of c.at ks (values_of ks d qs) ≡ qs
     → parts_of i (k ∷ ks) (values_of (k ∷ ks) d (Here s l ∷ qs)) ≡ Here s l ∷ qs
-places-here k w ks d i s l c qs q ih =
+places_here k w ks d i s l c qs q ih =
     let f = span_fits d i k.number k.padded s l c q in
     let v = k.kept (part s l d) in
     let lv : length v ≡ l = w.long (part s l d) ∙ span-length d i k.number k.padded s l c q in
@@ -159,11 +159,11 @@ places-here k w ks d i s l c qs q ih =
     let e : ends i k (some v) ≡ c.at = sym (f.goes ∙ ap (λ (n : ℕ). i + n + gap k.padded (i + n)) tw) in
     rw (e, lv, sym f.starts, ih)
 
-places-step : (k : Kind) → Law k → (ks : List Kind) (d : List ℕ) (i : ℕ)
+places_step : (k : Kind) → Law k → (ks : List Kind) (d : List ℕ) (i : ℕ)
     → ((j : ℕ) (qs : List Part) → places_at ks d j ≡ some qs → parts_of j ks (values_of ks d qs) ≡ qs)
     → (ps : List Part) → Came k ks d i ps → parts_of i (k ∷ ks) (values_of (k ∷ ks) d ps) ≡ ps
-places-step k w ks d i ih ps (left_out qs e o q) = rw (e, ih i qs q)
-places-step k w ks d i ih ps (found s l c qs e q g r) = rw e (places-here k w ks d i s l c qs q (ih c.at qs r))
+places_step k w ks d i ih ps (left_out qs e o q) = rw (e, ih i qs q)
+places_step k w ks d i ih ps (found s l c qs e q g r) = rw e (places_here k w ks d i s l c qs q (ih c.at qs r))
 
 at_last : (ps : List Part) (t : Bool) → ◌≡◌ {A = Option (List Part)} (cond t (some []) none) (some ps) → ◌≡◌ {A = List Part} [] ps
 at_last ps true e = cc
@@ -172,4 +172,4 @@ at_last ps false e = absurd (let z : ◌≡◌ {A = ℕ} 0 1 = cc in omega arith
 pub places : (ks : List Kind) → Lawful ks → (d : List ℕ) (i : ℕ) (ps : List Part) → places_at ks d i ≡ some ps → parts_of i ks (values_of ks d ps) ≡ ps
 unfolding places_at
 places [] w d i ps e = at_last ps (eqb i (length d)) e
-places (k ∷ ks) w d i ps e = places-step k w.0 ks d i (λ j qs q. places ks w.2 d j qs q) ps (field-came k ks d i ps e)
+places (k ∷ ks) w d i ps e = places_step k w.0 ks d i (λ j qs q. places ks w.2 d j qs q) ps (field-came k ks d i ps e)

@@ -2,10 +2,10 @@
 -- of its header and, for each field of its type, the contents or none: presence is part of the message, even where all bits are zero. Assumes nothing.
 use Rattle.std.specs.Prelude.{ℕ, ◌+◌, ◌^◌, ◌<◌, ◌≤◌, List, [], ◌∷◌, ◌++◌, true, ◌≡◌, length, take, drop, replicate, get_or}
 use Rattle.std.proofs.Math.Option.{Option, some, none}
-use Rattle.octet.specs.Number.{Bytes, digitsBE}
+use Rattle.octet.specs.Number.{Bytes, digits_be}
 use Rattle.wire_shapes.specs.Field.{gap}
-use Rattle.wire_shapes.specs.Shapes.{Kind, hasShape}
-use Rattle.wire_fields.specs.Kinds.{kindsOf, joinedFields, sized}
+use Rattle.wire_shapes.specs.Shapes.{Kind, has_shape}
+use Rattle.wire_fields.specs.Kinds.{kinds_of, joined_fields, sized}
 use Rattle.wire_fields.specs.declared.Part.{Part}
 use Rattle.wire_fields.specs.declared.Part.TheVariants.{Here, Absent}
 
@@ -31,17 +31,17 @@ ends i k none = i
 ends i k (some v) = i + (length v + 4) + gap k.padded (i + (length v + 4))
 
 -- number (2), length (2, counting these four), contents, padding; the rest of the layout after it
-abbrev pub fieldLayout : ℕ → Kind → Contents → List Segment → List Segment
-fieldLayout i k none rest = rest
-fieldLayout i k (some v) rest =
-    exact (digitsBE 256 2 k.number ++ digitsBE 256 2 (length v + 4)) ∷ record { bytes = v; kept = k.kept }
+abbrev pub field_layout : ℕ → Kind → Contents → List Segment → List Segment
+field_layout i k none rest = rest
+field_layout i k (some v) rest =
+    exact (digits_be 256 2 k.number ++ digits_be 256 2 (length v + 4)) ∷ record { bytes = v; kept = k.kept }
     ∷ blank (gap k.padded (i + (length v + 4))) ∷ rest
 
 -- the layout of the fields from place i on
-abbrev pub layoutFrom : ℕ → List Kind → List Contents → List Segment
-layoutFrom i [] fs = []
-layoutFrom i (k ∷ ks) [] = []
-layoutFrom i (k ∷ ks) (f ∷ fs) = fieldLayout i k f (layoutFrom (ends i k f) ks fs)
+abbrev pub layout_from : ℕ → List Kind → List Contents → List Segment
+layout_from i [] fs = []
+layout_from i (k ∷ ks) [] = []
+layout_from i (k ∷ ks) (f ∷ fs) = field_layout i k f (layout_from (ends i k f) ks fs)
 
 -- the places of the fields from place i on
 abbrev pub parts_of : ℕ → List Kind → List Contents → List Part
@@ -51,9 +51,9 @@ parts_of i (k ∷ ks) (none ∷ fs) = Absent ∷ parts_of i ks fs
 parts_of i (k ∷ ks) (some v ∷ fs) = Here (i + 4) (length v) ∷ parts_of (ends i k (some v)) ks fs
 
 -- the bytes of a layout, and a datagram with the bits cleared that the layout ignores
-abbrev pub messageBytes : List Segment → List ℕ
-messageBytes [] = []
-messageBytes (s ∷ ss) = s.bytes ++ messageBytes ss
+abbrev pub message_bytes : List Segment → List ℕ
+message_bytes [] = []
+message_bytes (s ∷ ss) = s.bytes ++ message_bytes ss
 
 abbrev pub cleared : List Segment → List ℕ → List ℕ
 cleared [] d = d
@@ -61,7 +61,7 @@ cleared (s ∷ ss) d = s.kept (take (length s.bytes) d) ++ cleared ss (drop (len
 
 -- contents of a kind: the shape is right, the ignored bits are zero, they are bytes, and the length fits its two bytes
 pub record Held (k : Kind) (v : List ℕ) : Type 0 where
-  pub shaped : hasShape k.shape v ≡ true
+  pub shaped : has_shape k.shape v ≡ true
   pub clear : k.kept v ≡ v
   pub whole : Bytes v
   pub short : length v + 4 < 65536
@@ -86,28 +86,28 @@ pub record Message : Type 0 where
 abbrev pub opening : List ℕ
 opening = 0x00 ∷ 0x10 ∷ 0x00 ∷ 0x0C ∷ 0x51 ∷ []
 
-abbrev pub headerOf : Message → List ℕ
-headerOf m = opening ++ (m.major ∷ m.minor ∷ m.type ∷ digitsBE 256 4 m.id)
+abbrev pub header_of : Message → List ℕ
+header_of m = opening ++ (m.major ∷ m.minor ∷ m.type ∷ digits_be 256 4 m.id)
 
 -- the layout of a message whose type has the kinds ks
 abbrev pub layout_of : List Kind → Message → List Segment
-layout_of ks m = exact (headerOf m) ∷ layoutFrom 12 ks m.fields
+layout_of ks m = exact (header_of m) ∷ layout_from 12 ks m.fields
 
 pub record WellFormed (ks : List Kind) (m : Message) : Type 0 where
-  pub known : kindsOf m.type ≡ some ks
+  pub known : kinds_of m.type ≡ some ks
   pub major-byte : m.major < 256
   pub minor-byte : m.minor < 256
   pub type-byte : m.type < 256
   pub id-small : m.id < 2 ^ 32
   pub formed : Formed ks m.fields
-  pub joins : joinedFields m.type m.fields ≡ true
-  pub sizes : sized m.type (length (messageBytes (layout_of ks m))) (parts_of 12 ks m.fields) m.fields ≡ true
-  pub fits : length (messageBytes (layout_of ks m)) ≤ 1232
+  pub joins : joined_fields m.type m.fields ≡ true
+  pub sizes : sized m.type (length (message_bytes (layout_of ks m))) (parts_of 12 ks m.fields) m.fields ≡ true
+  pub fits : length (message_bytes (layout_of ks m)) ≤ 1232
 
 -- a datagram reads as a message: with the ignored bits zero it is the message's bytes
 pub record Reads (ks : List Kind) (d : List ℕ) (m : Message) : Type 0 where
   pub well : WellFormed ks m
-  pub same : cleared (layout_of ks m) d ≡ messageBytes (layout_of ks m)
+  pub same : cleared (layout_of ks m) d ≡ message_bytes (layout_of ks m)
 
 abbrev pub type_of : List ℕ → ℕ
 type_of d = get_or d 7 0

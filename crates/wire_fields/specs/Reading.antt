@@ -4,8 +4,8 @@ use Rattle.std.specs.Prelude.{ℕ, ◌+◌, ◌-◌, ◌≤◌, ◌≡◌, List,
 use Rattle.std.proofs.Math.Option.{Option, some, none}
 use Rattle.octet.specs.Part.{part}
 use Rattle.wire_shapes.specs.Field.{number_at, gap}
-use Rattle.wire_shapes.specs.Shapes.{Kind, hasShape}
-use Rattle.wire_fields.specs.Kinds.{joinedFields, sized, derived}
+use Rattle.wire_shapes.specs.Shapes.{Kind, has_shape}
+use Rattle.wire_fields.specs.Kinds.{joined_fields, sized, derived}
 use Rattle.wire_fields.specs.Message.{Message}
 use Rattle.wire_shapes.specs.declared.Shape.{Shape}
 use Rattle.wire_fields.specs.declared.Span.{Span}
@@ -22,8 +22,8 @@ abbrev pub next_at : List ℕ → ℕ → Bool → ℕ
 next_at d i padded = i + number_at (i + 2) 2 d + gap padded (i + number_at (i + 2) 2 d)
 
 -- a field at place i: Other where its number is not there, Cut where its length is short of its own four bytes or it runs past the end
-unfoldable pub spanAt : List ℕ → ℕ → ℕ → Bool → Span
-spanAt d i number padded =
+unfoldable pub span_at : List ℕ → ℕ → ℕ → Bool → Span
+span_at d i number padded =
     cond (leb (i + 4) (length d) && eqb (number_at i 2 d) number)
     (cond (leb 4 (number_at (i + 2) 2 d) && leb (next_at d i padded) (length d))
     (Whole (i + 4) (number_at (i + 2) 2 d - 4) (record { at = next_at d i padded }))
@@ -32,40 +32,40 @@ spanAt d i number padded =
 
 -- a field that must be there
 abbrev pub need_of : List ℕ → Shape → Span → Need
-need_of d shape (Whole s l n) = cond (hasShape shape (part s l d)) (Field s l n) Missing
+need_of d shape (Whole s l n) = cond (has_shape shape (part s l d)) (Field s l n) Missing
 need_of d shape Other = Missing
 need_of d shape Cut = Missing
 
-unfoldable pub needAt : List ℕ → ℕ → ℕ → Bool → Shape → Need
-needAt d i number padded shape = need_of d shape (spanAt d i number padded)
+unfoldable pub need_at : List ℕ → ℕ → ℕ → Bool → Shape → Need
+need_at d i number padded shape = need_of d shape (span_at d i number padded)
 
 -- a field that may be absent: by the number at its place
-abbrev pub maybeOf : List ℕ → Shape → ℕ → Span → Maybe
-maybeOf d shape i (Whole s l n) = cond (hasShape shape (part s l d)) (Taken (Here s l) n) Malformed
-maybeOf d shape i Other = Taken Absent (record { at = i })
-maybeOf d shape i Cut = Malformed
+abbrev pub maybe_of : List ℕ → Shape → ℕ → Span → Maybe
+maybe_of d shape i (Whole s l n) = cond (has_shape shape (part s l d)) (Taken (Here s l) n) Malformed
+maybe_of d shape i Other = Taken Absent (record { at = i })
+maybe_of d shape i Cut = Malformed
 
 unfoldable pub maybe_at : List ℕ → ℕ → ℕ → Bool → Shape → Maybe
-maybe_at d i number padded shape = maybeOf d shape i (spanAt d i number padded)
+maybe_at d i number padded shape = maybe_of d shape i (span_at d i number padded)
 
 -- the places of the fields of a list of kinds, from place i to the very end; none where they are not all there, or bytes are left over
 abbrev pub before : Part → Option (List Part) → Option (List Part)
 before p none = none
 before p (some ps) = some (p ∷ ps)
 
-abbrev pub afterNeed : (ℕ → Option (List Part)) → Need → Option (List Part)
-afterNeed rest (Field s l n) = before (Here s l) (rest n.at)
-afterNeed rest Missing = none
+abbrev pub after_need : (ℕ → Option (List Part)) → Need → Option (List Part)
+after_need rest (Field s l n) = before (Here s l) (rest n.at)
+after_need rest Missing = none
 
-abbrev pub afterMaybe : (ℕ → Option (List Part)) → Maybe → Option (List Part)
-afterMaybe rest (Taken p n) = before p (rest n.at)
-afterMaybe rest Malformed = none
+abbrev pub after_maybe : (ℕ → Option (List Part)) → Maybe → Option (List Part)
+after_maybe rest (Taken p n) = before p (rest n.at)
+after_maybe rest Malformed = none
 
 abbrev pub field_at : Kind → List ℕ → (ℕ → Option (List Part)) → ℕ → Option (List Part)
 field_at k d rest i =
     cond k.optional
-    (afterMaybe rest (maybe_at d i k.number k.padded k.shape))
-    (afterNeed rest (needAt d i k.number k.padded k.shape))
+    (after_maybe rest (maybe_at d i k.number k.padded k.shape))
+    (after_need rest (need_at d i k.number k.padded k.shape))
 
 unfoldable pub places_at : List Kind → List ℕ → ℕ → Option (List Part)
 places_at [] d i = cond (eqb i (length d)) (some []) none
@@ -84,18 +84,18 @@ values_of (k ∷ ks) d (p ∷ ps) = value_of k d p ∷ values_of ks d ps
 -- the places of a message's fields, where what holds between them holds
 abbrev pub checked : ℕ → List Kind → List ℕ → Option (List Part) → Option (List Part)
 checked t ks d none = none
-checked t ks d (some ps) = cond (joinedFields t (values_of ks d ps) && sized t (length d) ps (values_of ks d ps)) (some ps) none
+checked t ks d (some ps) = cond (joined_fields t (values_of ks d ps) && sized t (length d) ps (values_of ks d ps)) (some ps) none
 
-unfoldable pub fieldsAs : ℕ → List Kind → List ℕ → Option (List Part)
-fieldsAs t ks d = checked t ks d (places_at ks d 12)
+unfoldable pub fields_as : ℕ → List Kind → List ℕ → Option (List Part)
+fields_as t ks d = checked t ks d (places_at ks d 12)
 
 -- split controls at a place follow from the rest
-abbrev pub contentsIn : List ℕ → Part → Option (List ℕ)
-contentsIn d Absent = none
-contentsIn d (Here s l) = some (part s l d)
+abbrev pub contents_in : List ℕ → Part → Option (List ℕ)
+contents_in d Absent = none
+contents_in d (Here s l) = some (part s l d)
 
-unfoldable pub wholeIn : List ℕ → Part → Bool
-wholeIn d p = derived (length d) p (contentsIn d p)
+unfoldable pub whole_in : List ℕ → Part → Bool
+whole_in d p = derived (length d) p (contents_in d p)
 
 -- four bytes stand at a place
 abbrev pub FourAt : List ℕ → Part → Type 0
@@ -103,5 +103,5 @@ FourAt d Absent = Unit {0}
 FourAt d (Here s l) = (l ≡ 4) × (s + l ≤ length d)
 
 -- the message in a datagram of which the places of the fields are known
-abbrev pub messageAt : List Kind → List ℕ → ℕ → List Part → Message
-messageAt ks d t ps = record { major = get_or d 5 0; minor = get_or d 6 0; type = t; id = number_at 8 4 d; fields = values_of ks d ps }
+abbrev pub message_at : List Kind → List ℕ → ℕ → List Part → Message
+message_at ks d t ps = record { major = get_or d 5 0; minor = get_or d 6 0; type = t; id = number_at 8 4 d; fields = values_of ks d ps }

@@ -3,7 +3,7 @@
 ghost use Rattle.std.specs.Prelude.{◌≡◌, true, false, ◌+◌, ◌<◌, ◌≤◌, length};
 ghost use Rattle.wire_shapes.specs.Field.{number_at};
 ghost use Rattle.wire_shapes.specs.declared.Shape.TheVariants.{Sized, Any, Entry, Array, Lookup, Split};
-ghost use Rattle.wire_fields.specs.Reading.{spanAt, needAt, maybe_at};
+ghost use Rattle.wire_fields.specs.Reading.{span_at, need_at, maybe_at};
 
 use crate::{Cursor, Maybe, Need, Part, Span};
 use wire_shapes::{is_array, is_entry, is_lookup, is_split, padding};
@@ -20,7 +20,7 @@ fn two(d: &[u8], at: usize) -> u16
 impl Cursor {
     // The field of a number at this position.
     fn span(self, d: &[u8], number: u16, padded: bool) -> Span
-        ensures { result ≡ spanAt d.now self.at number padded }
+        ensures { result ≡ span_at d.now self.at number padded }
     {
         let at = self.at;
         if d.len() < 4 {
@@ -48,7 +48,7 @@ impl Cursor {
     // A field of so many bytes that must be there: its number and its length are compared as one number.
     pub fn fixed(self, d: &[u8], number: u16, padded: bool, len: u16) -> Need
         requires { len + 4 < 65536 }
-        ensures { result ≡ needAt d.now self.at number padded (Sized len) }
+        ensures { result ≡ need_at d.now self.at number padded (Sized len) }
     {
         let at = self.at;
         if d.len() < 4 {
@@ -125,7 +125,7 @@ impl Cursor {
         least: u16,
         most: u16,
     ) -> Need
-        ensures { result ≡ needAt d.now self.at number false (Array element size least most) }
+        ensures { result ≡ need_at d.now self.at number false (Array element size least most) }
     {
         match self.span(d, number, false) {
             Span::Whole(start, len, next) => {
@@ -168,7 +168,7 @@ impl Cursor {
 
     // LOOKUP's controls.
     pub fn controls(self, d: &[u8]) -> Need
-        ensures { result ≡ needAt d.now self.at 0x45 false Lookup }
+        ensures { result ≡ need_at d.now self.at 0x45 false Lookup }
     {
         match self.span(d, wire_numbers::LOOKUP_CONTROLS, false) {
             Span::Whole(start, len, next) => {
@@ -185,7 +185,7 @@ impl Cursor {
 
     // AUTHORITY's split controls.
     pub fn split(self, d: &[u8]) -> Need
-        ensures { result ≡ needAt d.now self.at 0x98 false Split }
+        ensures { result ≡ need_at d.now self.at 0x98 false Split }
     {
         match self.span(d, wire_numbers::SPLIT, false) {
             Span::Whole(start, len, next) => {

@@ -2,7 +2,7 @@
 // many bytes follow them now.
 ghost use Rattle.std.specs.Prelude.{◌≡◌};
 ghost use Rattle.wire_write.specs.Writing.{Wrote};
-ghost use Rattle.wire_payload.specs.Payload.{carrying, withPayload};
+ghost use Rattle.wire_payload.specs.Payload.{carrying, with_payload};
 
 use wire_copy::{bit_of, busy_and_none, piece_of};
 use wire_read::messages::Authority;
@@ -54,7 +54,7 @@ fn put_carrying(out: &mut [u8], major: u8, m: Authority, d: &[u8], payload: &[u8
 
 // Where it is written, its length tells how many bytes follow the split controls, and these say so.
 pub fn write_payload(out: &mut [u8], major: u8, m: Authority, d: &[u8], payload: &[u8]) -> Written
-    ensures { Wrote (withPayload major d.now m payload.now)
+    ensures { Wrote (with_payload major d.now m payload.now)
         out.old result out.new }
 {
     let done = put_carrying(out, major, m, d, payload);

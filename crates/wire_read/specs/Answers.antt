@@ -5,32 +5,32 @@ use Rattle.std.proofs.Math.Option.{Option, some, none}
 use Rattle.octet.specs.Part.{part, same}
 use Rattle.wire_fields.specs.Message.{opening}
 use Rattle.wire_shapes.specs.Field.{number_at}
-use Rattle.wire_fields.specs.Refusals.{Found, refused, found, foundIn}
+use Rattle.wire_fields.specs.Refusals.{Found, refused, found, found_in}
 use Rattle.wire_fields.specs.declared.Part.{Part}
 use Rattle.wire_fields.specs.declared.Part.TheVariants.{Here, Absent}
-use Rattle.wire_buffer.specs.Buffer.{start_of, flagAt, insideShown}
+use Rattle.wire_buffer.specs.Buffer.{start_of, flag_at, inside_shown}
 use Rattle.wire_read.specs.declared.Head.{Head}
 use Rattle.wire_read.specs.declared.Incoming.{Incoming}
 use Rattle.wire_read.specs.declared.Incoming.TheVariants.{Refused, Solicit, Advertise, Request, Flood, Inquire, Authority, Ack, Lookup}
 
 -- whether a field is there
-abbrev pub isHere : Part → Bool
-isHere (Here s l) = true
-isHere Absent = false
+abbrev pub is_here : Part → Bool
+is_here (Here s l) = true
+is_here Absent = false
 
 -- the bit of a weight in a field, clear where it is absent
-unfoldable pub partFlag : List ℕ → Part → ℕ → ℕ → Bool
-partFlag d (Here s l) offset weight = flagAt d s offset weight
-partFlag d Absent offset weight = false
+unfoldable pub part_flag : List ℕ → Part → ℕ → ℕ → Bool
+part_flag d (Here s l) offset weight = flag_at d s offset weight
+part_flag d Absent offset weight = false
 
 unfoldable pub head_of : List ℕ → Head
 head_of d = record { minor = get_or d 6 0; id = number_at 8 4 d }
 
-abbrev pub solicitShown : List ℕ → List Part → Incoming
-solicitShown d ps = Solicit (record { head = head_of d; entry = get_or ps 0 Absent; nonce = start_of (get_or ps 1 Absent) })
+abbrev pub solicit_shown : List ℕ → List Part → Incoming
+solicit_shown d ps = Solicit (record { head = head_of d; entry = get_or ps 0 Absent; nonce = start_of (get_or ps 1 Absent) })
 
-abbrev pub advertiseShown : List ℕ → List Part → Incoming
-advertiseShown d ps =
+abbrev pub advertise_shown : List ℕ → List Part → Incoming
+advertise_shown d ps =
     Advertise (record {
       head = head_of d;
       acked = number_at (start_of (get_or ps 0 Absent)) 4 d;
@@ -38,12 +38,12 @@ advertiseShown d ps =
       nonce = start_of (get_or ps 2 Absent);
     })
 
-abbrev pub requestShown : List ℕ → List Part → Incoming
-requestShown d ps =
+abbrev pub request_shown : List ℕ → List Part → Incoming
+request_shown d ps =
     Request (record {
       head = head_of d;
-      flags = isHere (get_or ps 0 Absent);
-      split = isHere (get_or ps 1 Absent);
+      flags = is_here (get_or ps 0 Absent);
+      split = is_here (get_or ps 1 Absent);
       nonce = start_of (get_or ps 2 Absent);
       keys = get_or ps 3 Absent;
       credential = get_or ps 4 Absent;
@@ -51,11 +51,11 @@ requestShown d ps =
       key = get_or ps 6 Absent;
     })
 
-abbrev pub floodShown : List ℕ → List Part → Incoming
-floodShown d ps =
+abbrev pub flood_shown : List ℕ → List Part → Incoming
+flood_shown d ps =
     Flood (record {
       head = head_of d;
-      d = flagAt d (start_of (get_or ps 0 Absent)) 1 1;
+      d = flag_at d (start_of (get_or ps 0 Absent)) 1 1;
       validate = start_of (get_or ps 1 Absent);
       token = get_or ps 2 Absent;
       revoke = get_or ps 3 Absent;
@@ -63,13 +63,13 @@ floodShown d ps =
       reached = get_or ps 5 Absent;
     })
 
-abbrev pub inquireShown : List ℕ → List Part → Incoming
-inquireShown d ps =
+abbrev pub inquire_shown : List ℕ → List Part → Incoming
+inquire_shown d ps =
     Inquire (record {
       head = head_of d;
-      a = flagAt d (start_of (get_or ps 0 Absent)) 1 16;
-      x = flagAt d (start_of (get_or ps 0 Absent)) 1 8;
-      c = flagAt d (start_of (get_or ps 0 Absent)) 1 4;
+      a = flag_at d (start_of (get_or ps 0 Absent)) 1 16;
+      x = flag_at d (start_of (get_or ps 0 Absent)) 1 8;
+      c = flag_at d (start_of (get_or ps 0 Absent)) 1 4;
       validate = start_of (get_or ps 1 Absent);
       nonce = get_or ps 2 Absent;
       credential = get_or ps 3 Absent;
@@ -77,29 +77,29 @@ inquireShown d ps =
       key = get_or ps 5 Absent;
     })
 
-abbrev pub authorityShown : List ℕ → List Part → Incoming
-authorityShown d ps =
-    Authority (record { head = head_of d; acked = number_at (start_of (get_or ps 0 Absent)) 4 d; fields = insideShown d (drop 2 ps) })
+abbrev pub authority_shown : List ℕ → List Part → Incoming
+authority_shown d ps =
+    Authority (record { head = head_of d; acked = number_at (start_of (get_or ps 0 Absent)) 4 d; fields = inside_shown d (drop 2 ps) })
 
-abbrev pub ackShown : List ℕ → List Part → Incoming
-ackShown d ps =
+abbrev pub ack_shown : List ℕ → List Part → Incoming
+ack_shown d ps =
     Ack (record {
       head = head_of d;
       acked = number_at (start_of (get_or ps 0 Absent)) 4 d;
-      flags = isHere (get_or ps 1 Absent);
-      n = partFlag d (get_or ps 1 Absent) 1 1;
+      flags = is_here (get_or ps 1 Absent);
+      n = part_flag d (get_or ps 1 Absent) 1 1;
     })
 
 -- the precision counts only where the criteria are 8
-unfoldable pub precisionAt : List ℕ → ℕ → ℕ
-precisionAt d start = cond (eqb (get_or d (start + 4) 0) 8) (get_or d (start + 2) 0 * 256 + get_or d (start + 3) 0) 0
+unfoldable pub precision_at : List ℕ → ℕ → ℕ
+precision_at d start = cond (eqb (get_or d (start + 4) 0) 8) (get_or d (start + 2) 0 * 256 + get_or d (start + 3) 0) 0
 
-abbrev pub lookupShown : List ℕ → List Part → Incoming
-lookupShown d ps =
+abbrev pub lookup_shown : List ℕ → List Part → Incoming
+lookup_shown d ps =
     Lookup (record {
       head = head_of d;
-      a = flagAt d (start_of (get_or ps 0 Absent)) 1 2;
-      precision = precisionAt d (start_of (get_or ps 0 Absent));
+      a = flag_at d (start_of (get_or ps 0 Absent)) 1 2;
+      precision = precision_at d (start_of (get_or ps 0 Absent));
       criteria = get_or d (start_of (get_or ps 0 Absent) + 4) 0;
       reason = get_or d (start_of (get_or ps 0 Absent) + 5) 0;
       target = start_of (get_or ps 1 Absent);
@@ -112,22 +112,22 @@ lookupShown d ps =
     })
 
 -- the same by the places of the first three fields and of those behind them
-abbrev pub lookupBehind : List ℕ → ℕ → ℕ → ℕ → Option (List Part) → Incoming
-lookupBehind d controls target validate none = Refused 6
-lookupBehind d controls target validate (some ps) = lookupShown d (Here controls 8 ∷ Here target 32 ∷ Here validate 32 ∷ ps)
+abbrev pub lookup_behind : List ℕ → ℕ → ℕ → ℕ → Option (List Part) → Incoming
+lookup_behind d controls target validate none = Refused 6
+lookup_behind d controls target validate (some ps) = lookup_shown d (Here controls 8 ∷ Here target 32 ∷ Here validate 32 ∷ ps)
 
 -- the number of the refusal by length and header, 0 for none
-unfoldable pub headNumber : List ℕ → ℕ → ℕ
-headNumber d major =
+unfoldable pub head_number : List ℕ → ℕ → ℕ
+head_number d major =
     cond (leb 12 (length d) && leb (length d) 1232) (cond (same (part 0 5 d) opening) (cond (eqb (get_or d 5 0) major) 0 4) 3) 2
 
 -- what is read of what was found
-unfoldable pub incomingOf : List ℕ → Found → Incoming
-incomingOf d (refused n) = Refused n
-incomingOf d (found t ps) = cond (eqb t 1) (solicitShown d ps) (cond (eqb t 2) (advertiseShown d ps) (cond (eqb t 3) (requestShown d ps)
-    (cond (eqb t 4) (floodShown d ps) (cond (eqb t 7) (inquireShown d ps) (cond (eqb t 8) (authorityShown d ps)
-    (cond (eqb t 9) (ackShown d ps) (lookupShown d ps)))))))
+unfoldable pub incoming_of : List ℕ → Found → Incoming
+incoming_of d (refused n) = Refused n
+incoming_of d (found t ps) = cond (eqb t 1) (solicit_shown d ps) (cond (eqb t 2) (advertise_shown d ps) (cond (eqb t 3) (request_shown d ps)
+    (cond (eqb t 4) (flood_shown d ps) (cond (eqb t 7) (inquire_shown d ps) (cond (eqb t 8) (authority_shown d ps)
+    (cond (eqb t 9) (ack_shown d ps) (lookup_shown d ps)))))))
 
 -- what is read of a datagram
-abbrev pub readIn : List ℕ → ℕ → Incoming
-readIn d major = incomingOf d (foundIn d major)
+abbrev pub read_in : List ℕ → ℕ → Incoming
+read_in d major = incoming_of d (found_in d major)

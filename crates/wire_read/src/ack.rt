@@ -1,9 +1,9 @@
 // ACK: acked ID; flags.
 ghost use Rattle.std.specs.Prelude.{◌≡◌, ◌≤◌, length};
-ghost use Rattle.wire_fields.specs.Kinds.{ackKinds};
-ghost use Rattle.wire_fields.specs.Reading.{fieldsAs};
-ghost use Rattle.wire_fields.specs.Refusals.{foundOf};
-ghost use Rattle.wire_read.specs.Answers.{incomingOf};
+ghost use Rattle.wire_fields.specs.Kinds.{ack_kinds};
+ghost use Rattle.wire_fields.specs.Reading.{fields_as};
+ghost use Rattle.wire_fields.specs.Refusals.{found_of};
+ghost use Rattle.wire_read.specs.Answers.{incoming_of};
 
 use crate::Incoming;
 use crate::messages::Ack;
@@ -12,7 +12,7 @@ use wire_fields::{Cursor, Maybe, Need};
 
 pub fn read_ack(d: &[u8]) -> Incoming
     requires { 12 ≤ length d.now }
-    ensures { result ≡ incomingOf d.now (foundOf 9 (fieldsAs 9 ackKinds d.now)) }
+    ensures { result ≡ incoming_of d.now (found_of 9 (fields_as 9 ack_kinds d.now)) }
 {
     let c = Cursor { at: 12 };
     let Need::Field(acked, _, c) = c.fixed(d, wire_numbers::ACKED, false, 4) else {

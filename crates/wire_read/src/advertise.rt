@@ -1,9 +1,9 @@
 // ADVERTISE: acked ID; keys; hashed nonce.
 ghost use Rattle.std.specs.Prelude.{◌≡◌, ◌≤◌, length};
-ghost use Rattle.wire_fields.specs.Kinds.{advertiseKinds};
-ghost use Rattle.wire_fields.specs.Reading.{fieldsAs};
-ghost use Rattle.wire_fields.specs.Refusals.{foundOf};
-ghost use Rattle.wire_read.specs.Answers.{incomingOf};
+ghost use Rattle.wire_fields.specs.Kinds.{advertise_kinds};
+ghost use Rattle.wire_fields.specs.Reading.{fields_as};
+ghost use Rattle.wire_fields.specs.Refusals.{found_of};
+ghost use Rattle.wire_read.specs.Answers.{incoming_of};
 
 use crate::Incoming;
 use crate::messages::Advertise;
@@ -12,7 +12,7 @@ use wire_fields::{Cursor, Need, Part};
 
 pub fn read_advertise(d: &[u8]) -> Incoming
     requires { 12 ≤ length d.now }
-    ensures { result ≡ incomingOf d.now (foundOf 2 (fieldsAs 2 advertiseKinds d.now)) }
+    ensures { result ≡ incoming_of d.now (found_of 2 (fields_as 2 advertise_kinds d.now)) }
 {
     let c = Cursor { at: 12 };
     let Need::Field(acked, _, c) = c.fixed(d, wire_numbers::ACKED, false, 4) else {

@@ -1,10 +1,10 @@
 // FLOOD: controls; validate key; key token; CPA revoked; route entry; endpoints reached.
 ghost use Rattle.std.specs.Prelude.{◌≡◌, ◌≤◌, length};
-ghost use Rattle.wire_fields.specs.Kinds.{floodKinds};
-ghost use Rattle.wire_fields.specs.Reading.{fieldsAs};
-ghost use Rattle.wire_fields.specs.Refusals.{foundOf};
-ghost use Rattle.wire_buffer.specs.Buffer.{flagAt};
-ghost use Rattle.wire_read.specs.Answers.{incomingOf};
+ghost use Rattle.wire_fields.specs.Kinds.{flood_kinds};
+ghost use Rattle.wire_fields.specs.Reading.{fields_as};
+ghost use Rattle.wire_fields.specs.Refusals.{found_of};
+ghost use Rattle.wire_buffer.specs.Buffer.{flag_at};
+ghost use Rattle.wire_read.specs.Answers.{incoming_of};
 
 use crate::Incoming;
 use crate::messages::Flood;
@@ -14,14 +14,14 @@ use wire_fields::{Cursor, Maybe, Need};
 
 // D, the last bit of the controls' first two bytes.
 fn silent(d: &[u8], controls: usize) -> bool
-    ensures { result ≡ flagAt d.now controls 1 1 }
+    ensures { result ≡ flag_at d.now controls 1 1 }
 {
     flag(d, controls, 1, 1)
 }
 
 pub fn read_flood(d: &[u8]) -> Incoming
     requires { 12 ≤ length d.now }
-    ensures { result ≡ incomingOf d.now (foundOf 4 (fieldsAs 4 floodKinds d.now)) }
+    ensures { result ≡ incoming_of d.now (found_of 4 (fields_as 4 flood_kinds d.now)) }
 {
     let c = Cursor { at: 12 };
     let Need::Field(controls, _, c) = c.fixed(d, wire_numbers::FLOOD_CONTROLS, true, 3) else {

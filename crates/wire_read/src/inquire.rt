@@ -1,9 +1,9 @@
 // INQUIRE: flags; validate key; nonce; credential, signature, key identifier.
 ghost use Rattle.std.specs.Prelude.{◌≡◌, ◌≤◌, length};
-ghost use Rattle.wire_fields.specs.Kinds.{inquireKinds};
-ghost use Rattle.wire_fields.specs.Reading.{fieldsAs};
-ghost use Rattle.wire_fields.specs.Refusals.{foundOf};
-ghost use Rattle.wire_read.specs.Answers.{incomingOf};
+ghost use Rattle.wire_fields.specs.Kinds.{inquire_kinds};
+ghost use Rattle.wire_fields.specs.Reading.{fields_as};
+ghost use Rattle.wire_fields.specs.Refusals.{found_of};
+ghost use Rattle.wire_read.specs.Answers.{incoming_of};
 
 use crate::Incoming;
 use crate::messages::Inquire;
@@ -13,7 +13,7 @@ use wire_fields::{Cursor, Maybe, Need};
 
 pub fn read_inquire(d: &[u8]) -> Incoming
     requires { 12 ≤ length d.now }
-    ensures { result ≡ incomingOf d.now (foundOf 7 (fieldsAs 7 inquireKinds d.now)) }
+    ensures { result ≡ incoming_of d.now (found_of 7 (fields_as 7 inquire_kinds d.now)) }
 {
     let c = Cursor { at: 12 };
     let Need::Field(flags, _, c) = c.fixed(d, wire_numbers::FLAGS, true, 2) else {

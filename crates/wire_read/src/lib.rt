@@ -12,7 +12,7 @@ mod solicit;
 mod values;
 
 ghost use Rattle.std.specs.Prelude.{◌≡◌};
-ghost use Rattle.wire_read.specs.Answers.{headNumber, readIn};
+ghost use Rattle.wire_read.specs.Answers.{head_number, read_in};
 
 pub use ack::read_ack;
 pub use advertise::read_advertise;
@@ -47,7 +47,7 @@ pub enum Incoming {
 
 // The number of a refusal by length or header, 0 where they are right and the type is to be looked at.
 pub fn header(d: &[u8], major: u8) -> u8
-    ensures { result ≡ headNumber d.now major }
+    ensures { result ≡ head_number d.now major }
 {
     if d.len() < 12 {
         return 2;
@@ -66,7 +66,7 @@ pub fn header(d: &[u8], major: u8) -> u8
 
 // The message in a datagram, or the number of its refusal.
 pub fn read(d: &[u8], major: u8) -> Incoming
-    ensures { result ≡ readIn d.now major }
+    ensures { result ≡ read_in d.now major }
 {
     let number = header(d, major);
     if number != 0 {

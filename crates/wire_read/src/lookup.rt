@@ -1,9 +1,9 @@
 // LOOKUP: controls; target key; validate key; route entry; path; credential, signature, key identifier.
 ghost use Rattle.std.specs.Prelude.{◌≡◌, ◌≤◌, drop, length};
-ghost use Rattle.wire_fields.specs.Kinds.{lookupKinds};
-ghost use Rattle.wire_fields.specs.Reading.{places_at, fieldsAs};
-ghost use Rattle.wire_fields.specs.Refusals.{foundOf};
-ghost use Rattle.wire_read.specs.Answers.{incomingOf, lookupBehind};
+ghost use Rattle.wire_fields.specs.Kinds.{lookup_kinds};
+ghost use Rattle.wire_fields.specs.Reading.{places_at, fields_as};
+ghost use Rattle.wire_fields.specs.Refusals.{found_of};
+ghost use Rattle.wire_read.specs.Answers.{incoming_of, lookup_behind};
 
 use crate::Incoming;
 use crate::messages::Lookup;
@@ -13,7 +13,7 @@ use wire_fields::{Cursor, Maybe, Need, Part};
 
 pub fn read_lookup(d: &[u8]) -> Incoming
     requires { 12 ≤ length d.now }
-    ensures { result ≡ incomingOf d.now (foundOf 11 (fieldsAs 11 lookupKinds d.now)) }
+    ensures { result ≡ incoming_of d.now (found_of 11 (fields_as 11 lookup_kinds d.now)) }
 {
     let c = Cursor { at: 12 };
     let Need::Field(controls, _, c) = c.controls(d) else {
@@ -32,8 +32,8 @@ pub fn read_lookup(d: &[u8]) -> Incoming
 // so many fields in one, and the compiler would call the last instead of putting them in their place.)
 fn lookup_behind(d: &[u8], controls: usize, target: usize, validate: usize, c: Cursor) -> Incoming
     requires { 12 ≤ length d.now }
-    ensures { result ≡ lookupBehind d.now controls target validate
-        (places_at (drop 3 lookupKinds) d.now c.at) }
+    ensures { result ≡ lookup_behind d.now controls target validate
+        (places_at (drop 3 lookup_kinds) d.now c.at) }
 {
     let Maybe::Taken(entry, c) = c.entry_or_none(d) else {
         return Incoming::Refused(6);

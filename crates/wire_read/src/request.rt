@@ -1,9 +1,9 @@
 // REQUEST: flags; split controls; nonce; keys; credential, signature, key identifier.
 ghost use Rattle.std.specs.Prelude.{◌≡◌, ◌≤◌, length};
-ghost use Rattle.wire_fields.specs.Kinds.{requestKinds};
-ghost use Rattle.wire_fields.specs.Reading.{fieldsAs};
-ghost use Rattle.wire_fields.specs.Refusals.{foundOf};
-ghost use Rattle.wire_read.specs.Answers.{incomingOf};
+ghost use Rattle.wire_fields.specs.Kinds.{request_kinds};
+ghost use Rattle.wire_fields.specs.Reading.{fields_as};
+ghost use Rattle.wire_fields.specs.Refusals.{found_of};
+ghost use Rattle.wire_read.specs.Answers.{incoming_of};
 
 use crate::Incoming;
 use crate::messages::Request;
@@ -13,7 +13,7 @@ use wire_fields::{Cursor, Maybe, Need, Part};
 
 pub fn read_request(d: &[u8]) -> Incoming
     requires { 12 ≤ length d.now }
-    ensures { result ≡ incomingOf d.now (foundOf 3 (fieldsAs 3 requestKinds d.now)) }
+    ensures { result ≡ incoming_of d.now (found_of 3 (fields_as 3 request_kinds d.now)) }
 {
     let c = Cursor { at: 12 };
     let Maybe::Taken(flags, c) = c.fixed_or_none(

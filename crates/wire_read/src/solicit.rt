@@ -1,9 +1,9 @@
 // SOLICIT: route entry; hashed nonce.
 ghost use Rattle.std.specs.Prelude.{◌≡◌, ◌≤◌, length};
-ghost use Rattle.wire_fields.specs.Kinds.{solicitKinds};
-ghost use Rattle.wire_fields.specs.Reading.{fieldsAs};
-ghost use Rattle.wire_fields.specs.Refusals.{foundOf};
-ghost use Rattle.wire_read.specs.Answers.{incomingOf};
+ghost use Rattle.wire_fields.specs.Kinds.{solicit_kinds};
+ghost use Rattle.wire_fields.specs.Reading.{fields_as};
+ghost use Rattle.wire_fields.specs.Refusals.{found_of};
+ghost use Rattle.wire_read.specs.Answers.{incoming_of};
 
 use crate::Incoming;
 use crate::messages::Solicit;
@@ -12,7 +12,7 @@ use wire_fields::{Cursor, Maybe, Need};
 
 pub fn read_solicit(d: &[u8]) -> Incoming
     requires { 12 ≤ length d.now }
-    ensures { result ≡ incomingOf d.now (foundOf 1 (fieldsAs 1 solicitKinds d.now)) }
+    ensures { result ≡ incoming_of d.now (found_of 1 (fields_as 1 solicit_kinds d.now)) }
 {
     let c = Cursor { at: 12 };
     let Maybe::Taken(entry, c) = c.entry_or_none(d) else {

@@ -1,7 +1,7 @@
 // Flags, numbers and presence at the places of fields.
 ghost use Rattle.std.specs.Prelude.{◌≡◌, ◌+◌, ◌<◌, ◌≤◌, get_or, length};
 ghost use Rattle.wire_fields.specs.Kinds.{one_of};
-ghost use Rattle.wire_read.specs.Answers.{isHere, partFlag, head_of, precisionAt};
+ghost use Rattle.wire_read.specs.Answers.{is_here, part_flag, head_of, precision_at};
 
 use crate::Head;
 use wire_buffer::flag;
@@ -11,7 +11,7 @@ use wire_shapes::byte;
 // The bit of a weight in a field, clear where it is absent.
 pub(crate) fn flag_in(d: &[u8], p: Part, offset: usize, weight: u8) -> bool
     requires { (offset < 4) × (0 < weight) }
-    ensures { result ≡ partFlag d.now p offset weight }
+    ensures { result ≡ part_flag d.now p offset weight }
 {
     let Part::Here(start, _) = p else {
         return false;
@@ -32,7 +32,7 @@ pub(crate) fn byte_from(d: &[u8], start: usize, offset: usize) -> u8
 
 // LOOKUP's precision: 0 unless the criteria are 8.
 pub(crate) fn precision(d: &[u8], start: usize) -> u16
-    ensures { result ≡ precisionAt d.now start }
+    ensures { result ≡ precision_at d.now start }
 {
     if byte_from(d, start, 4) != 8 {
         return 0;
@@ -44,7 +44,7 @@ pub(crate) fn precision(d: &[u8], start: usize) -> u16
 
 // Whether a field is there.
 pub(crate) fn is_here(p: Part) -> bool
-    ensures { result ≡ isHere p }
+    ensures { result ≡ is_here p }
 {
     if let Part::Here(_, _) = p {
         true
@@ -55,7 +55,7 @@ pub(crate) fn is_here(p: Part) -> bool
 
 // Whether just one of two fields is there.
 pub(crate) fn just_one(p: Part, q: Part) -> bool
-    ensures { result ≡ one_of (isHere p) (isHere q) }
+    ensures { result ≡ one_of (is_here p) (is_here q) }
 {
     if let Part::Here(_, _) = p {
         return !is_here(q);

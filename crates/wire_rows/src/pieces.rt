@@ -1,11 +1,11 @@
 // Pieces, as the one writer takes them, and the bytes that it spells out.
 ghost use Rattle.std.specs.Prelude.{◌≡◌};
-ghost use Rattle.wire_write.specs.Rows.{spelledPiece, firstPiece, secondPiece, no_piece, spelledBytes, lookupBytes};
+ghost use Rattle.wire_write.specs.Rows.{spelled_piece, first_piece, second_piece, no_piece, spelled_bytes, lookup_bytes};
 
 use wire_write::{Piece, Source};
 
 pub fn spelled_piece(start: usize, len: usize) -> Piece
-    ensures { result ≡ spelledPiece start len }
+    ensures { result ≡ spelled_piece start len }
 {
     Piece {
         there: true,
@@ -16,7 +16,7 @@ pub fn spelled_piece(start: usize, len: usize) -> Piece
 }
 
 pub fn first_piece(start: usize, len: usize) -> Piece
-    ensures { result ≡ firstPiece start len }
+    ensures { result ≡ first_piece start len }
 {
     Piece {
         there: true,
@@ -27,7 +27,7 @@ pub fn first_piece(start: usize, len: usize) -> Piece
 }
 
 pub fn second_piece(start: usize, len: usize) -> Piece
-    ensures { result ≡ secondPiece start len }
+    ensures { result ≡ second_piece start len }
 {
     Piece {
         there: true,
@@ -50,7 +50,7 @@ pub fn no_piece() -> Piece
 
 // The bytes that the writer spells out: acked ID at 0, split controls at 4, flags at 8 with a byte after them.
 pub fn spelled_bytes(acked: u32, size: usize, high: u8, low: u8) -> [u8; 11]
-    ensures { result ≡ spelledBytes acked size high low }
+    ensures { result ≡ spelled_bytes acked size high low }
 {
     let a = (acked / 16777216 % 256) as u8;
     let b = (acked / 65536 % 256) as u8;
@@ -63,7 +63,7 @@ pub fn spelled_bytes(acked: u32, size: usize, high: u8, low: u8) -> [u8; 11]
 
 // LOOKUP's controls.
 pub fn lookup_bytes(low: u8, precision: u16, criteria: u8, reason: u8) -> [u8; 8]
-    ensures { result ≡ lookupBytes low precision criteria reason }
+    ensures { result ≡ lookup_bytes low precision criteria reason }
 {
     let high = (precision / 256 % 256) as u8;
     let last = (precision % 256) as u8;

@@ -1,6 +1,6 @@
 // The rows of the messages' tables, as the one writer takes them.
 ghost use Rattle.std.specs.Prelude.{◌≡◌};
-ghost use Rattle.wire_write.specs.Rows.{solicitRows, advertiseRows, requestRows, lookupRows, ackRows, floodRows, inquireRows, authorityRows};
+ghost use Rattle.wire_write.specs.Rows.{solicit_rows, advertise_rows, request_rows, lookup_rows, ack_rows, flood_rows, inquire_rows, authority_rows};
 
 use wire_numbers::*;
 use wire_shapes::Shape;
@@ -201,7 +201,7 @@ const NO_ROW: Row = Row {
 };
 
 pub fn solicit_rows() -> [Row; 9]
-    ensures { result ≡ solicitRows }
+    ensures { result ≡ solicit_rows }
 {
     [
         ENTRY_ROW, HASHED_ROW, NO_ROW, NO_ROW, NO_ROW, NO_ROW, NO_ROW, NO_ROW, NO_ROW,
@@ -209,7 +209,7 @@ pub fn solicit_rows() -> [Row; 9]
 }
 
 pub fn advertise_rows() -> [Row; 9]
-    ensures { result ≡ advertiseRows }
+    ensures { result ≡ advertise_rows }
 {
     [
         ACKED_ROW, KEYS_ROW, HASHED_ROW, NO_ROW, NO_ROW, NO_ROW, NO_ROW, NO_ROW, NO_ROW,
@@ -217,7 +217,7 @@ pub fn advertise_rows() -> [Row; 9]
 }
 
 pub fn request_rows() -> [Row; 9]
-    ensures { result ≡ requestRows }
+    ensures { result ≡ request_rows }
 {
     [
         MAY_FLAGS_ROW,
@@ -233,7 +233,7 @@ pub fn request_rows() -> [Row; 9]
 }
 
 pub fn flood_rows() -> [Row; 9]
-    ensures { result ≡ floodRows }
+    ensures { result ≡ flood_rows }
 {
     [
         FLOOD_CONTROLS_ROW,
@@ -249,7 +249,7 @@ pub fn flood_rows() -> [Row; 9]
 }
 
 pub fn inquire_rows() -> [Row; 9]
-    ensures { result ≡ inquireRows }
+    ensures { result ≡ inquire_rows }
 {
     [
         FLAGS_ROW,
@@ -265,7 +265,7 @@ pub fn inquire_rows() -> [Row; 9]
 }
 
 pub fn authority_rows() -> [Row; 9]
-    ensures { result ≡ authorityRows }
+    ensures { result ≡ authority_rows }
 {
     [
         ACKED_ROW,
@@ -281,7 +281,7 @@ pub fn authority_rows() -> [Row; 9]
 }
 
 pub fn ack_rows() -> [Row; 9]
-    ensures { result ≡ ackRows }
+    ensures { result ≡ ack_rows }
 {
     [
         ACKED_ROW,
@@ -297,7 +297,7 @@ pub fn ack_rows() -> [Row; 9]
 }
 
 pub fn lookup_rows() -> [Row; 9]
-    ensures { result ≡ lookupRows }
+    ensures { result ≡ lookup_rows }
 {
     [
         LOOKUP_CONTROLS_ROW,

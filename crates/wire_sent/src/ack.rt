@@ -1,7 +1,7 @@
 // ACK: the ID of the message answered, and the flags only where N is set.
 ghost use Rattle.std.specs.Prelude.{◌≡◌, true, false};
 ghost use Rattle.wire_write.specs.Writing.{Wrote};
-ghost use Rattle.wire_write.specs.Making.{ackMade};
+ghost use Rattle.wire_write.specs.Making.{ack_made};
 
 use crate::NO_ROOM;
 use crate::front::put_acked;
@@ -11,7 +11,7 @@ use wire_write::{Written, put_head};
 const N: u16 = 1;
 
 pub fn write_ack(out: &mut [u8], major: u8, minor: u8, id: u32, acked: u32, n: bool) -> Written
-    ensures { Wrote (ackMade major minor id acked n) out.old result out.new }
+    ensures { Wrote (ack_made major minor id acked n) out.old result out.new }
 {
     if n {
         return write_noted(out, major, minor, id, acked);
@@ -21,7 +21,7 @@ pub fn write_ack(out: &mut [u8], major: u8, minor: u8, id: u32, acked: u32, n: b
 
 // N clear.
 fn write_plain(out: &mut [u8], major: u8, minor: u8, id: u32, acked: u32) -> Written
-    ensures { Wrote (ackMade major minor id acked false) out.old result out.new }
+    ensures { Wrote (ack_made major minor id acked false) out.old result out.new }
 {
     if out.len() < 20 {
         return NO_ROOM;
@@ -35,7 +35,7 @@ fn write_plain(out: &mut [u8], major: u8, minor: u8, id: u32, acked: u32) -> Wri
 
 // N set.
 fn write_noted(out: &mut [u8], major: u8, minor: u8, id: u32, acked: u32) -> Written
-    ensures { Wrote (ackMade major minor id acked true) out.old result out.new }
+    ensures { Wrote (ack_made major minor id acked true) out.old result out.new }
 {
     if out.len() < 26 {
         return NO_ROOM;

@@ -3,8 +3,8 @@
 ghost use Rattle.std.specs.Prelude.{◌≡◌, ◌<◌, ◌≤◌, length};
 ghost use Rattle.octet.specs.Part.{splice};
 ghost use Rattle.wire_write.specs.Writing.{Wrote};
-ghost use Rattle.wire_write.specs.Making.{cpaMade, closestMade};
-ghost use Rattle.wire_sent.specs.Fronts.{answerFront};
+ghost use Rattle.wire_write.specs.Making.{cpa_made, closest_made};
+ghost use Rattle.wire_sent.specs.Fronts.{answer_front};
 
 use crate::front::{entry_len, put_acked, put_entry, put_word};
 use crate::{NO_ROOM, NOT_RIGHT};
@@ -12,7 +12,7 @@ use wire_write::{Written, put_head};
 
 // With a CPA. One that leaves no datagram room for the rest has no room in any output.
 pub fn write_cpa(out: &mut [u8], major: u8, minor: u8, id: u32, acked: u32, cpa: &[u8]) -> Written
-    ensures { Wrote (cpaMade major minor id acked cpa.now) out.old result out.new }
+    ensures { Wrote (cpa_made major minor id acked cpa.now) out.old result out.new }
 {
     if 1192 < cpa.len() {
         return NO_ROOM;
@@ -40,7 +40,7 @@ pub fn write_closest(
     s: &[u8],
     at: usize,
 ) -> Written
-    ensures { Wrote (closestMade major minor id acked s.now at) out.old result out.new }
+    ensures { Wrote (closest_made major minor id acked s.now at) out.old result out.new }
 {
     let entry = entry_len(s, at);
     if entry == 0 {
@@ -61,7 +61,7 @@ pub fn write_closest(
 // Header, acked ID, split controls of so many bytes, flags.
 fn put_answer(out: &mut [u8], major: u8, minor: u8, id: u32, acked: u32, size: usize)
     requires { (36 ≤ length out.old) × (size < 65536) }
-    ensures { out.new ≡ splice 0 (answerFront major minor id acked size) out.old }
+    ensures { out.new ≡ splice 0 (answer_front major minor id acked size) out.old }
 {
     put_acked(out, major, minor, wire_numbers::AUTHORITY, id, acked);
     put_head(out, 20, wire_numbers::SPLIT, wire_numbers::SPLIT_LEN);

@@ -1,7 +1,7 @@
 // FLOOD to the neighbour of a key, of the record at a place: controls with D clear, the key, the record's route entry.
 ghost use Rattle.std.specs.Prelude.{◌≡◌};
 ghost use Rattle.wire_write.specs.Writing.{Wrote};
-ghost use Rattle.wire_write.specs.Making.{floodMade};
+ghost use Rattle.wire_write.specs.Making.{flood_made};
 
 use crate::front::{entry_len, put_entry, put_keyed};
 use crate::{NO_ROOM, NOT_RIGHT};
@@ -16,7 +16,7 @@ pub fn write_flood(
     s: &[u8],
     at: usize,
 ) -> Written
-    ensures { Wrote (floodMade major minor id key.now s.now at) out.old result out.new }
+    ensures { Wrote (flood_made major minor id key.now s.now at) out.old result out.new }
 {
     if key.len() != wire_numbers::KEY_LEN {
         return NOT_RIGHT;

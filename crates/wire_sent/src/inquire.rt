@@ -1,7 +1,7 @@
 // INQUIRE for a key: flags, the key, a nonce.
 ghost use Rattle.std.specs.Prelude.{◌≡◌};
 ghost use Rattle.wire_write.specs.Writing.{Wrote};
-ghost use Rattle.wire_write.specs.Making.{inquireMade};
+ghost use Rattle.wire_write.specs.Making.{inquire_made};
 
 use crate::front::put_keyed;
 use crate::{NO_ROOM, NOT_RIGHT};
@@ -18,7 +18,7 @@ pub fn write_inquire(
     key: &[u8],
     nonce: &[u8],
 ) -> Written
-    ensures { Wrote (inquireMade major minor id key.now nonce.now) out.old result out.new }
+    ensures { Wrote (inquire_made major minor id key.now nonce.now) out.old result out.new }
 {
     if key.len() != wire_numbers::KEY_LEN {
         return NOT_RIGHT;

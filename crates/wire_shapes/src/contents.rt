@@ -1,15 +1,15 @@
 // What a field's contents look like.
 ghost use Rattle.std.specs.Prelude.{◌≡◌, ◌+◌, ◌≤◌, length};
 ghost use Rattle.octet.specs.Part.{part};
-ghost use Rattle.record.specs.Entry.{entryForm};
-ghost use Rattle.wire_shapes.specs.Shapes.{hasShape, arrayForm, lookupForm, splitForm};
+ghost use Rattle.record.specs.Entry.{entry_form};
+ghost use Rattle.wire_shapes.specs.Shapes.{has_shape, array_form, lookup_form, split_form};
 
 use crate::Shape;
 
 // Whether the contents at a place have a shape.
 pub fn has_shape(d: &[u8], start: usize, len: usize, shape: Shape) -> bool
     requires { start + len ≤ length d.now }
-    ensures { result ≡ hasShape shape (part start len d.now) }
+    ensures { result ≡ has_shape shape (part start len d.now) }
 {
     match shape {
         Shape::Sized(n) => len == n,
@@ -32,7 +32,7 @@ fn wide(n: u8) -> usize
 // A route entry of 1 to 4 addresses: one has 54 bytes.
 pub fn is_entry(d: &[u8], start: usize, len: usize) -> bool
     requires { start + len ≤ length d.now }
-    ensures { result ≡ entryForm (part start len d.now) }
+    ensures { result ≡ entry_form (part start len d.now) }
 {
     if len < 54 {
         return false;
@@ -47,7 +47,7 @@ pub fn is_entry(d: &[u8], start: usize, len: usize) -> bool
 // LOOKUP's controls: eight bytes, a reason up to 3 and one of five criteria.
 pub fn is_lookup(d: &[u8], start: usize, len: usize) -> bool
     requires { start + len ≤ length d.now }
-    ensures { result ≡ lookupForm (part start len d.now) }
+    ensures { result ≡ lookup_form (part start len d.now) }
 {
     if len != 8 {
         return false;
@@ -68,7 +68,7 @@ pub fn is_lookup(d: &[u8], start: usize, len: usize) -> bool
 // AUTHORITY's split controls: a size up to 37,348 and an offset that is a multiple of 1,188.
 pub fn is_split(d: &[u8], start: usize, len: usize) -> bool
     requires { start + len ≤ length d.now }
-    ensures { result ≡ splitForm (part start len d.now) }
+    ensures { result ≡ split_form (part start len d.now) }
 {
     if len != 4 {
         return false;
@@ -90,7 +90,7 @@ pub fn is_array(
     most: u16,
 ) -> bool
     requires { start + len ≤ length d.now }
-    ensures { result ≡ arrayForm element size least most (part start len d.now) }
+    ensures { result ≡ array_form element size least most (part start len d.now) }
 {
     if len < 8 {
         return false;

@@ -1,9 +1,9 @@
 // A whole message: where it ends, its header, its fields.
 ghost use Rattle.std.specs.Prelude.{◌≡◌, true, cond, ◌&&◌, ◌+◌, ◌<◌, ◌≤◌, min, leb, length};
 ghost use Rattle.octet.specs.Part.{splice};
-ghost use Rattle.wire_fields.specs.Message.{layoutFrom, messageBytes};
+ghost use Rattle.wire_fields.specs.Message.{layout_from, message_bytes};
 ghost use Rattle.wire_write.specs.Writing.{Wrote, fit};
-ghost use Rattle.wire_write.specs.Pieces.{lent_of, past_of, AllIn, givensOf, contentsOf, kindsOfRows, endRows, madeBy};
+ghost use Rattle.wire_write.specs.Pieces.{lent_of, past_of, AllIn, givens_of, contents_of, kinds_of_rows, end_rows, made_by};
 
 use wire_shapes::padding;
 use wire_write::{Piece, Row, Written, pieces_ok, put_header, put_piece};
@@ -40,7 +40,7 @@ fn piece_past(at: usize, row: Row, p: Piece) -> usize
 // Where the fields end; 1233 for any place past 1232.
 fn pieces_end(rows: [Row; 9], ps: [Piece; 9]) -> usize
     requires { (length rows ≡ 9) × (length ps ≡ 9) }
-    ensures { result ≡ min 1233 (endRows 12 rows ps) }
+    ensures { result ≡ min 1233 (end_rows 12 rows ps) }
 {
     let mut i = 0;
     let mut at = 12;
@@ -64,10 +64,10 @@ fn put_pieces(
 )
     requires rows_len { (length rows ≡ 9) × (length ps ≡ 9) }
     requires all_in { AllIn (lent_of spelled.now first.now second.now) ps }
-    requires ps_in_bounds { endRows 12 rows ps ≤ length out.old }
-    requires ps_bound { endRows 12 rows ps < 65536 }
-    ensures { out.new ≡ splice 12 (messageBytes (layoutFrom 12 (kindsOfRows rows)
-        (contentsOf (givensOf (lent_of spelled.now first.now second.now) ps)))) out.old }
+    requires ps_in_bounds { end_rows 12 rows ps ≤ length out.old }
+    requires ps_bound { end_rows 12 rows ps < 65536 }
+    ensures { out.new ≡ splice 12 (message_bytes (layout_from 12 (kinds_of_rows rows)
+        (contents_of (givens_of (lent_of spelled.now first.now second.now) ps)))) out.old }
 {
     let mut i = 0;
     let mut at = 12;
@@ -105,9 +105,9 @@ fn put_where(
 )
     requires rows_len { (length rows ≡ 9) × (length ps ≡ 9) }
     requires all_in { AllIn (lent_of spelled.now first.now second.now) ps }
-    requires out_value { room ≡ true → fit (madeBy major minor kind id (lent_of spelled.now first.now second.now) rows ps).bytes
+    requires out_value { room ≡ true → fit (made_by major minor kind id (lent_of spelled.now first.now second.now) rows ps).bytes
         out.old ≡ true }
-    ensures { out.new ≡ cond room (splice 0 (madeBy major minor kind id (lent_of spelled.now
+    ensures { out.new ≡ cond room (splice 0 (made_by major minor kind id (lent_of spelled.now
         first.now second.now) rows ps).bytes out.old) out.old }
 {
     if !room {
@@ -147,7 +147,7 @@ pub fn write_rows(
     second: &[u8],
 ) -> Written
     requires { (length rows ≡ 9) × (length ps ≡ 9) }
-    ensures { Wrote (madeBy major minor kind id (lent_of spelled.now first.now second.now) rows ps)
+    ensures { Wrote (made_by major minor kind id (lent_of spelled.now first.now second.now) rows ps)
         out.old result out.new }
 {
     if !pieces_ok(rows, ps, spelled, first, second) {

@@ -2,31 +2,31 @@
 -- (specs/Sent), by definition. Assumes nothing.
 use Rattle.std.specs.Prelude.{ℕ, ◌+◌, List, Bool, true, ◌&&◌, eqb, leb, length}
 use Rattle.octet.specs.Part.{part}
-use Rattle.record.specs.Record.{recordForm}
+use Rattle.record.specs.Record.{record_form}
 use Rattle.wire_shapes.specs.Shapes.{Kind}
-use Rattle.wire_fields.specs.Kinds.{floodKinds, inquireKinds, authorityKinds, ackKinds}
-use Rattle.wire_fields.specs.Message.{Message, messageBytes, layout_of}
+use Rattle.wire_fields.specs.Kinds.{flood_kinds, inquire_kinds, authority_kinds, ack_kinds}
+use Rattle.wire_fields.specs.Message.{Message, message_bytes, layout_of}
 use Rattle.wire_write.specs.Writing.{Made}
-use Rattle.wire_write.specs.Sent.{ackSent, floodSent, inquireSent, cpaSent, closestSent}
+use Rattle.wire_write.specs.Sent.{ack_sent, flood_sent, inquire_sent, cpa_sent, closest_sent}
 
 -- a record in form stands at a place of a slice
-abbrev pub formedAt : ℕ → List ℕ → Bool
-formedAt at s = leb (at + 100) (length s) && recordForm (part at 100 s)
+abbrev pub formed_at : ℕ → List ℕ → Bool
+formed_at at s = leb (at + 100) (length s) && record_form (part at 100 s)
 
-abbrev pub madeAs : Bool → List Kind → Message → Made
-madeAs ok ks m = record { ok = ok; bytes = messageBytes (layout_of ks m) }
+abbrev pub made_as : Bool → List Kind → Message → Made
+made_as ok ks m = record { ok = ok; bytes = message_bytes (layout_of ks m) }
 
-unfoldable pub ackMade : ℕ → ℕ → ℕ → ℕ → Bool → Made
-ackMade major minor id acked n = madeAs true ackKinds (ackSent major minor id acked n)
+unfoldable pub ack_made : ℕ → ℕ → ℕ → ℕ → Bool → Made
+ack_made major minor id acked n = made_as true ack_kinds (ack_sent major minor id acked n)
 
-unfoldable pub floodMade : ℕ → ℕ → ℕ → List ℕ → List ℕ → ℕ → Made
-floodMade major minor id key s at = madeAs (eqb (length key) 32 && formedAt at s) floodKinds (floodSent major minor id key (part at 100 s))
+unfoldable pub flood_made : ℕ → ℕ → ℕ → List ℕ → List ℕ → ℕ → Made
+flood_made major minor id key s at = made_as (eqb (length key) 32 && formed_at at s) flood_kinds (flood_sent major minor id key (part at 100 s))
 
-unfoldable pub inquireMade : ℕ → ℕ → ℕ → List ℕ → List ℕ → Made
-inquireMade major minor id key nonce = madeAs (eqb (length key) 32 && eqb (length nonce) 16) inquireKinds (inquireSent major minor id key nonce)
+unfoldable pub inquire_made : ℕ → ℕ → ℕ → List ℕ → List ℕ → Made
+inquire_made major minor id key nonce = made_as (eqb (length key) 32 && eqb (length nonce) 16) inquire_kinds (inquire_sent major minor id key nonce)
 
-unfoldable pub cpaMade : ℕ → ℕ → ℕ → ℕ → List ℕ → Made
-cpaMade major minor id acked cpa = madeAs true authorityKinds (cpaSent major minor id acked cpa)
+unfoldable pub cpa_made : ℕ → ℕ → ℕ → ℕ → List ℕ → Made
+cpa_made major minor id acked cpa = made_as true authority_kinds (cpa_sent major minor id acked cpa)
 
-unfoldable pub closestMade : ℕ → ℕ → ℕ → ℕ → List ℕ → ℕ → Made
-closestMade major minor id acked s at = madeAs (formedAt at s) authorityKinds (closestSent major minor id acked (part at 100 s))
+unfoldable pub closest_made : ℕ → ℕ → ℕ → ℕ → List ℕ → ℕ → Made
+closest_made major minor id acked s at = made_as (formed_at at s) authority_kinds (closest_sent major minor id acked (part at 100 s))

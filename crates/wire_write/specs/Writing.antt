@@ -14,17 +14,17 @@ unfoldable pub fit : List ℕ → List ℕ → Bool
 fit b old = leb (length b) (length old) && leb (length b) 1232
 
 -- 6 where a field is not right, 15 where there is no room, else 0 and the length
-unfoldable pub writeAs : Made → List ℕ → Written
-writeAs m old =
+unfoldable pub write_as : Made → List ℕ → Written
+write_as m old =
     cond m.ok
     (cond (fit m.bytes old) (record { number = 0; length = length m.bytes }) (record { number = 15; length = 0 }))
     (record { number = 6; length = 0 })
 
 -- the output after it
-unfoldable pub writeIn : Made → List ℕ → List ℕ
-writeIn m old = cond (m.ok && fit m.bytes old) (m.bytes ++ drop (length m.bytes) old) old
+unfoldable pub write_in : Made → List ℕ → List ℕ
+write_in m old = cond (m.ok && fit m.bytes old) (m.bytes ++ drop (length m.bytes) old) old
 
 -- what a call of a writer gives back and leaves
 pub record Wrote (m : Made) (old : List ℕ) (r : Written) (out : List ℕ) : Type 0 where
-  pub answer : r ≡ writeAs m old
-  pub output : out ≡ writeIn m old
+  pub answer : r ≡ write_as m old
+  pub output : out ≡ write_in m old

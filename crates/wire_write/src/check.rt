@@ -1,15 +1,15 @@
 // Whether pieces are right for their rows: each stands within its slice and has the shape, or may be absent.
 ghost use Rattle.std.specs.Prelude.{◌≡◌, ◌&&◌, ◌+◌, leb, length};
 ghost use Rattle.octet.specs.Part.{part};
-ghost use Rattle.wire_shapes.specs.Shapes.{hasShape};
-ghost use Rattle.wire_write.specs.Pieces.{lent_of, pieceOk, rowsOk};
+ghost use Rattle.wire_shapes.specs.Shapes.{has_shape};
+ghost use Rattle.wire_write.specs.Pieces.{lent_of, piece_ok, rows_ok};
 
 use crate::{Piece, Row, Source};
 use wire_shapes::{Shape, has_shape};
 
 // Whether contents stand within a slice and have a shape.
 fn shaped_in(s: &[u8], start: usize, len: usize, shape: Shape) -> bool
-    ensures { result ≡ leb (start + len) (length s.now) && hasShape shape (part start len s.now) }
+    ensures { result ≡ leb (start + len) (length s.now) && has_shape shape (part start len s.now) }
 {
     if s.len() < len {
         return false;
@@ -21,7 +21,7 @@ fn shaped_in(s: &[u8], start: usize, len: usize, shape: Shape) -> bool
 }
 
 fn piece_ok(row: Row, p: Piece, spelled: &[u8], first: &[u8], second: &[u8]) -> bool
-    ensures { result ≡ pieceOk (lent_of spelled.now first.now second.now) row p }
+    ensures { result ≡ piece_ok (lent_of spelled.now first.now second.now) row p }
 {
     if !p.there {
         return row.optional;
@@ -43,7 +43,7 @@ pub fn pieces_ok(
     second: &[u8],
 ) -> bool
     requires { (length rows ≡ 9) × (length ps ≡ 9) }
-    ensures { result ≡ rowsOk (lent_of spelled.now first.now second.now) rows ps }
+    ensures { result ≡ rows_ok (lent_of spelled.now first.now second.now) rows ps }
 {
     let mut i = 0;
     while i < 9 {

@@ -1,9 +1,9 @@
 // One field written at a place of the output.
 ghost use Rattle.std.specs.Prelude.{◌≡◌, true, ◌++◌, ◌+◌, ◌<◌, ◌≤◌, length, replicate};
-ghost use Rattle.octet.specs.Number.{digitsBE};
+ghost use Rattle.octet.specs.Number.{digits_be};
 ghost use Rattle.octet.specs.Part.{part, splice};
 ghost use Rattle.wire_shapes.specs.Field.{gap};
-ghost use Rattle.wire_write.specs.Pieces.{lent_of, fieldBytes, end_of, partBytes, past_of, PieceIn, pieceBytes};
+ghost use Rattle.wire_write.specs.Pieces.{lent_of, field_bytes, end_of, part_bytes, past_of, PieceIn, piece_bytes};
 
 use crate::{Piece, Row, Source};
 use wire_shapes::padding;
@@ -11,7 +11,7 @@ use wire_shapes::padding;
 // A field's number and its length.
 pub fn put_head(out: &mut [u8], at: usize, number: u16, len: usize)
     requires { (at + 4 ≤ length out.old) × (len + 4 < 65536) }
-    ensures { out.new ≡ splice at (digitsBE 256 2 number ++ digitsBE 256 2 (len + 4)) out.old }
+    ensures { out.new ≡ splice at (digits_be 256 2 number ++ digits_be 256 2 (len + 4)) out.old }
 {
     octet::write_u16(out, at, number);
     octet::write_u16(out, at + 2, (len + 4) as u16);
@@ -42,7 +42,7 @@ fn put_bytes(
     requires len_bound { len + 4 < 65536 }
     requires len_in_bounds_2 { end_of at padded len ≤ length out.old }
     ensures value { result ≡ end_of at padded len }
-    ensures out_after { out.new ≡ splice at (fieldBytes at number padded (part start len s.now)) out.old }
+    ensures out_after { out.new ≡ splice at (field_bytes at number padded (part start len s.now)) out.old }
 {
     put_head(out, at, number, len);
     record::copy_piece(out, at + 4, s, start, len);
@@ -63,8 +63,8 @@ pub fn put_piece(
     requires len_in_bounds { past_of at p.there row.padded p.len ≤ length out.old }
     requires len_bound { p.there ≡ true → p.len + 4 < 65536 }
     ensures value { result ≡ past_of at p.there row.padded p.len }
-    ensures out_after { out.new ≡ splice at (partBytes at p.there row.number row.padded
-        (pieceBytes (lent_of spelled.now first.now second.now) p)) out.old }
+    ensures out_after { out.new ≡ splice at (part_bytes at p.there row.number row.padded
+        (piece_bytes (lent_of spelled.now first.now second.now) p)) out.old }
 {
     if !p.there {
         return at;

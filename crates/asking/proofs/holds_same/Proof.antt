@@ -3,12 +3,12 @@ use Rattle.std.proofs.Common.{◌≡◌, ℕ, ◌+◌, ◌-◌, ◌<◌, List, l
 use Rattle.octet.specs.Part.{part}
 use Rattle.key.specs.Number.{key_at}
 use Rattle.record.specs.Record.{key_of}
-use Rattle.record.specs.Entry.{recordOf}
-use Rattle.record.proofs.EntryLaws.{record-key}
+use Rattle.record.specs.Entry.{record_of}
+use Rattle.record.proofs.EntryLaws.{record_key}
 use Rattle.record.proofs.PlaceLaws.{entry_at}
 use Rattle.table.specs.Rows.{rows}
 use Rattle.cache.specs.Form.{keys_of}
-use Rattle.cache.specs.Place.{findKey}
+use Rattle.cache.specs.Place.{find_key}
 use Rattle.cache.proofs.FindLaws.{found-place}
 use Rattle.asking.proofs.SameLaws.{same_here, same-nowhere}
 use Rattle.asking.proofs.holds_same.Statement.{statement}
@@ -19,18 +19,18 @@ start f = f.before.before.before.before
 
 -- the record that the entry names
 abbrev named : tie.Start → List ℕ
-named s = recordOf (part s.args.start s.args.len s.args.d.now)
+named s = record_of (part s.args.start s.args.len s.args.d.now)
 
 -- the key that was looked for is that record's
 found : (f : tie.After-find)
-    → f.find.result ≡ findKey (key_of (named (start f))) (keys_of (rows 100 (start f).args.held (start f).args.cache.now))
+    → f.find.result ≡ find_key (key_of (named (start f))) (keys_of (rows 100 (start f).args.held (start f).args.cache.now))
 found f =
     let s = start f in
     let a = s.args in
     let size : a.start + a.len - a.start ≡ a.len = omega arith in
     f.find.ensures
-    ∙ ap (λ (k : ℕ). findKey k (keys_of (rows 100 a.held a.cache.now)))
-    (ap (λ (n : ℕ). key_at 0 (take n (drop a.start a.d.now))) size ∙ sym (record-key (part a.start a.len a.d.now) s.pre.2))
+    ∙ ap (λ (k : ℕ). find_key k (keys_of (rows 100 a.held a.cache.now)))
+    (ap (λ (n : ℕ). key_at 0 (take n (drop a.start a.d.now))) size ∙ sym (record_key (part a.start a.len a.d.now) s.pre.2))
 
 add-end : tie.Need-overflow-add-end
 add-end c = search rules
@@ -83,8 +83,8 @@ returns c =
     ∙ sym (same_here (named s) a.held a.cache.now s.pre.3 (found f) at.i.given.1
     (found-place (key_of (named s)) a.held a.cache.now (found f) at.i.given.1))
 
-returns-2 : tie.Need-returns-2
-returns-2 c =
+returns_2 : tie.Need-returns-2
+returns_2 c =
     let f = c.before.before in
     let s = start f in
     sym (same-nowhere (named s) s.args.held s.args.cache.now s.pre.3 (found f) c.enum_told.given.1)
@@ -103,4 +103,4 @@ holds-same-spec =
     same-as-entry-requires
     enum_told
     returns
-    returns-2)
+    returns_2)

@@ -48,8 +48,8 @@ enum-told-2 c = search rules
 answer-of-requires-2 : tie.Need-answer-of-requires-2
 answer-of-requires-2 c κs = search rules
 
-returns-2 : tie.Need-returns-2
-returns-2 c =
+returns_2 : tie.Need-returns-2
+returns_2 c =
     let f = c.before.before.before in
     let first = f.before.before in
     let m = first.before.before in
@@ -113,7 +113,7 @@ gauge-changes-spec =
     enum-known-second
     enum-told-2
     answer-of-requires-2
-    returns-2
+    returns_2
     answer-of-requires-3
     returns-3
     list-requires

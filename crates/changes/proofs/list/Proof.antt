@@ -10,7 +10,7 @@ use Rattle.table.proofs.RowLaws.{rows-length}
 use Rattle.changed.specs.Changes.{Change, changes}
 use Rattle.gauge_commit.specs.declared.Answer.{Answer}
 use Rattle.changes.specs.Listed.{listed}
-use Rattle.changed.proofs.SizeLaws.{list-few}
+use Rattle.changed.proofs.SizeLaws.{list_few}
 use Rattle.changes.proofs.LentLaws.{no_room, some-room}
 use Rattle.changes.proofs.list.Statement.{statement}
 use Rattle.changes.proofs.list.Tie as tie
@@ -29,7 +29,7 @@ few n =
     omega (
       arith,
       n.count.ensures,
-      list-few (rows 100 a.used a.«before».now) (rows 100 a.held a.«after».now),
+      list_few (rows 100 a.used a.«before».now) (rows 100 a.held a.«after».now),
       rows-length 100 a.used a.«before».now,
       rows-length 100 a.held a.«after».now,
       s.pre.2,
@@ -63,8 +63,8 @@ answer-of-requires-2 c κs = let h = few c.before.before.before.before.before in
 same_length : tie.Need-same-length
 same_length c = search rules
 
-returns-2 : tie.Need-returns-2
-returns-2 c =
+returns_2 : tie.Need-returns-2
+returns_2 c =
     let w = c.before.before.before in
     let n = w.before.before.before in
     let out = (start n).args.output.now in
@@ -82,4 +82,4 @@ list-spec =
     write-requires
     answer-of-requires-2
     same_length
-    returns-2)
+    returns_2)

@@ -8,7 +8,7 @@ use Rattle.octet.specs.Part.{part}
 use Rattle.key.specs.Number.{number, key_at}
 use Rattle.key.specs.Around.{closer}
 use Rattle.table.specs.Rows.{rows}
-use Rattle.closest_row.specs.Closest.{closestFrom, closestOf, placeFrom, closestPlace}
+use Rattle.closest_row.specs.Closest.{closest_from, closest_of, place_from, closest_place}
 use Rattle.closest_row.proofs.ClosestLaws.{walk-starts, walk-takes, walk-leaves, walk_ends, place-starts, place-takes, place-leaves, place-ends}
 use Rattle.closest_row.proofs.place_of.Statement.{statement}
 use Rattle.closest_row.proofs.place_of.Tie as tie
@@ -17,8 +17,8 @@ abbrev invariant-loop : tie.invariant-loop
 invariant-loop s n target best₀ i₀ best i =
     (best < n)
     × (i ≤ n)
-    × (closestOf (number target) (rows 100 n s) ≡ closestFrom (number target) (part (100 * best) 100 s) (drop i (rows 100 n s)))
-    × (closestPlace (number target) (rows 100 n s) ≡ placeFrom (number target) best (part (100 * best) 100 s) i (drop i (rows 100 n s)))
+    × (closest_of (number target) (rows 100 n s) ≡ closest_from (number target) (part (100 * best) 100 s) (drop i (rows 100 n s)))
+    × (closest_place (number target) (rows 100 n s) ≡ place_from (number target) best (part (100 * best) 100 s) i (drop i (rows 100 n s)))
 
 abbrev decreases-loop : tie.decreases-loop
 decreases-loop s n target best₀ i₀ best i = n - i

@@ -4,9 +4,9 @@ use Prim.Native.Nat.{ℕ, ◌+◌, ◌≤◌}
 use mathlib.Core.Path.{◌≡◌, ap, ◌∙◌}
 use mathlib.Core.List.{List, [], ◌∷◌}
 use lib.ListN.{length}
-use Rattle.cpas.specs.Cpas.{cpaOf}
-use Rattle.cpas.proofs.CpaLaws.{cpa-length}
-use Rattle.wire_write.specs.Making.{cpaMade}
+use Rattle.cpas.specs.Cpas.{cpa_of}
+use Rattle.cpas.proofs.CpaLaws.{cpa_length}
+use Rattle.wire_write.specs.Making.{cpa_made}
 use Rattle.gauge_commit.specs.Sending.{answer, lengths, sending}
 use Rattle.gauge_commit.proofs.SentLaws.{cpa-told, cpa-few, cpa-sent}
 use borrow.Author.Rules.{rules}
@@ -24,7 +24,7 @@ module _ (c : tie.After-cpa-at) where
   few : length cpa ≤ 1024
   few =
       let p = s.pre.0 in
-      omega (arith, ap length c.cpa-at.ensures, (cpa-length p.0 s.args.at s.args.cpas.now p.1 p.2).1)
+      omega (arith, ap length c.cpa-at.ensures, (cpa_length p.0 s.args.at s.args.cpas.now p.1 p.2).1)
 
   fits_in : 40 + length cpa ≤ length s.args.output.now
   fits_in = omega (arith, ap length c.cpa-at.ensures, s.pre.1)
@@ -50,7 +50,7 @@ returns c =
     let w = c.before.before.before in
     let f = w.before.before in
     let a = (s f).args in
-    let made : List ℕ → List (List ℕ) = λ (b : List ℕ). (cpaMade a.major a.minor a.id a.acked b).bytes ∷ [] in (
+    let made : List ℕ → List (List ℕ) = λ (b : List ℕ). (cpa_made a.major a.minor a.id a.acked b).bytes ∷ [] in (
       c.answer-of.ensures
           ∙ ap (λ (l : ℕ). answer 0 l 0) (cpa-told a.major a.minor a.id a.acked (cpa f) (few f) (fits_in f) w.write-cpa.ensures)
           ∙ ap (λ (b : List ℕ). lengths (made b)) f.cpa-at.ensures,

@@ -4,8 +4,8 @@ use mathlib.Core.Path.{refl, ap, ◌∙◌}
 use lib.ListN.{length}
 use Rattle.table.specs.Rows.{rows, bytes_of}
 use Rattle.cache.specs.Form.{keys_of}
-use Rattle.cache.specs.Bytes.{afterRemove}
-use Rattle.firsts.specs.Firsts.{firstsOf}
+use Rattle.cache.specs.Bytes.{after_remove}
+use Rattle.firsts.specs.Firsts.{firsts_of}
 use Rattle.gauge_commit.proofs.PlaceLaws.{key-lent}
 use borrow.Author.Rules.{rules}
 use Rattle.commit_answer.proofs.commit_free.Statement.{statement}
@@ -53,9 +53,9 @@ returns c =
     let m = a.cache.now in
     let n = at-if1.if1.true in
     let e = key-lent a.used a.waiting.now a.at s.requires.5 in (
-      rw n (at-remove.remove.ensures.0 ∙ ap (λ (k : ℕ). bytes_of (length m) (afterRemove k (rows 100 a.held m))) e),
+      rw n (at-remove.remove.ensures.0 ∙ ap (λ (k : ℕ). bytes_of (length m) (after_remove k (rows 100 a.held m))) e),
       (
-        rw n (at-remove.remove.ensures.1 ∙ ap (λ (k : ℕ). firstsOf (keys_of (afterRemove k (rows 100 a.held m)))) e),
+        rw n (at-remove.remove.ensures.1 ∙ ap (λ (k : ℕ). firsts_of (keys_of (after_remove k (rows 100 a.held m)))) e),
         c.before.before.free.ensures,
       ),
     )
@@ -66,8 +66,8 @@ free-requires-2 c κs = search rules
 same-length-4 : tie.Need-same-length-4
 same-length-4 c = search rules
 
-returns-2 : tie.Need-returns-2
-returns-2 c = let n = c.before.before.before.before.if1.false in (rw n refl, (rw n refl, c.before.before.free2.ensures))
+returns_2 : tie.Need-returns-2
+returns_2 c = let n = c.before.before.before.before.if1.false in (rw n refl, (rw n refl, c.before.before.free2.ensures))
 
 pub commit-free-spec : {M : Type 1} → statement M
 commit-free-spec =
@@ -87,4 +87,4 @@ commit-free-spec =
     returns
     free-requires-2
     same-length-4
-    returns-2)
+    returns_2)

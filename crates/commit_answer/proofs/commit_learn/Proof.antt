@@ -4,13 +4,13 @@ use mathlib.Core.Path.{ap, subst, ◌∙◌}
 use mathlib.Core.List.{List}
 use lib.ListN.{length}
 use Prim.Native.Nat.{ℕ}
-use Rattle.record.specs.Record.{key_of, recordForm}
-use Rattle.own.specs.Own.{ownKeys, IsOwn}
+use Rattle.record.specs.Record.{key_of, record_form}
+use Rattle.own.specs.Own.{own_keys, IsOwn}
 use Rattle.table.specs.Rows.{rows, bytes_of}
 use Rattle.cache.specs.Form.{keys_of}
-use Rattle.cache.specs.Bytes.{afterLearn}
-use Rattle.firsts.specs.Firsts.{firstsOf}
-use Rattle.gauge_commit.proofs.PlaceLaws.{record-lent, record-place, record-key}
+use Rattle.cache.specs.Bytes.{after_learn}
+use Rattle.firsts.specs.Firsts.{firsts_of}
+use Rattle.gauge_commit.proofs.PlaceLaws.{record-lent, record-place, record_key}
 use borrow.Author.Rules.{rules}
 use Rattle.commit_answer.proofs.commit_learn.Statement.{statement}
 use Rattle.commit_answer.proofs.commit_learn.Tie as tie
@@ -39,10 +39,10 @@ learn-requires c κs =
     let a = s.args in
     let p = s.requires in
     let lent = record-lent a.used a.waiting.now a.at in (
-      (p.0, ap recordForm lent ∙ p.6),
+      (p.0, ap record_form lent ∙ p.6),
       (
         p.1,
-        (λ o. p.7 (subst (IsOwn (ownKeys a.own.now)) (ap key_of lent ∙ record-key a.used a.waiting.now a.at) o), p.8),
+        (λ o. p.7 (subst (IsOwn (own_keys a.own.now)) (ap key_of lent ∙ record_key a.used a.waiting.now a.at) o), p.8),
       ),
     )
 
@@ -66,10 +66,10 @@ returns c =
     let m = a.cache.now in
     let e = record-lent a.used a.waiting.now a.at ∙ record-place a.used a.waiting.now a.at s.requires.5 in (
       at-learn.learn.ensures.0
-          ∙ ap (λ (r : List ℕ). bytes_of (length m) (afterLearn (ownKeys a.own.now) (length m) (rows 100 a.held m) r)) e,
+          ∙ ap (λ (r : List ℕ). bytes_of (length m) (after_learn (own_keys a.own.now) (length m) (rows 100 a.held m) r)) e,
       (
         at-learn.learn.ensures.1
-            ∙ ap (λ (r : List ℕ). firstsOf (keys_of (afterLearn (ownKeys a.own.now) (length m) (rows 100 a.held m) r))) e,
+            ∙ ap (λ (r : List ℕ). firsts_of (keys_of (after_learn (own_keys a.own.now) (length m) (rows 100 a.held m) r))) e,
         c.before.before.free.ensures,
       ),
     )

@@ -8,17 +8,17 @@ use mathlib.Core.List.{List}
 use borrow.Author.Tests.{not-true, not-false}
 use Rattle.octet.specs.Part.{part}
 use Rattle.key.specs.Number.{key_at}
-use Rattle.record.specs.Record.{count_of, recordForm}
-use Rattle.record.specs.Entry.{recordOf}
-use Rattle.own.specs.Own.{ownKeys}
+use Rattle.record.specs.Record.{count_of, record_form}
+use Rattle.record.specs.Entry.{record_of}
+use Rattle.own.specs.Own.{own_keys}
 use Rattle.table.specs.Rows.{rows}
-use Rattle.neighbours.specs.Closest.{offPath, closestPast}
-use Rattle.neighbours.proofs.ClosestLaws.{closest-formed}
+use Rattle.neighbours.specs.Closest.{off_path, closest_past}
+use Rattle.neighbours.proofs.ClosestLaws.{closest_formed}
 use Rattle.neighbours.proofs.SkipLaws.{off-held}
-use Rattle.wire_write.specs.Making.{closestMade}
-use Rattle.asking.specs.Asking.{inquireRoom}
+use Rattle.wire_write.specs.Making.{closest_made}
+use Rattle.asking.specs.Asking.{inquire_room}
 use Rattle.gauge_commit.specs.Sending.{answer, lengths, sending}
-use Rattle.gauge_commit.proofs.SentLaws.{shown-closest, record-long, none-behind, behind-sent, behind-told}
+use Rattle.gauge_commit.proofs.SentLaws.{shown_closest, record_long, none-behind, behind-sent, behind-told}
 use borrow.Author.Rules.{rules}
 use Rattle.commit_answer.proofs.commit_show.Statement.{statement}
 use Rattle.commit_answer.proofs.commit_show.Tie as tie
@@ -35,26 +35,26 @@ module _ (c : tie.After-send-closest) where
   path = part s.args.path s.args.size s.args.d.now
 
   abbrev nearest : List ℕ
-  nearest = closestPast s.args.own.now recs path (key_at s.args.target s.args.d.now)
+  nearest = closest_past s.args.own.now recs path (key_at s.args.target s.args.d.now)
 
   -- its bytes, and how many they are
   abbrev shown : List ℕ
-  shown = let a = s.args in (closestMade a.major a.minor a.id a.acked nearest 0).bytes
+  shown = let a = s.args in (closest_made a.major a.minor a.id a.acked nearest 0).bytes
 
-  formed : recordForm nearest ≡ true
+  formed : record_form nearest ≡ true
   formed =
       let a = s.args in
-      closest-formed (key_at a.target a.d.now) (ownKeys a.own.now) a.own.now (offPath path recs) s.pre.1.0
-      (off-held path (ownKeys a.own.now) recs s.pre.1.1.held)
+      closest_formed (key_at a.target a.d.now) (own_keys a.own.now) a.own.now (off_path path recs) s.pre.1.0
+      (off-held path (own_keys a.own.now) recs s.pre.1.1.held)
 
   size : length shown ≡ 80 + 16 * count_of nearest
-  size = let a = s.args in shown-closest a.major a.minor a.id a.acked nearest formed
+  size = let a = s.args in shown_closest a.major a.minor a.id a.acked nearest formed
 
   -- what follows it
   abbrev named : List ℕ
-  named = recordOf (part s.args.start s.args.len s.args.d.now)
+  named = record_of (part s.args.start s.args.len s.args.d.now)
 
-  fits_both : length shown + inquireRoom s.args.opens ≤ length s.args.output.now
+  fits_both : length shown + inquire_room s.args.opens ≤ length s.args.output.now
   fits_both = omega (arith, size, s.pre.1.4)
 
 send-closest-requires : tie.Need-send-closest-requires
@@ -89,7 +89,7 @@ ask-requires c κs =
     let p = (s shows).requires.0 in
     let e : a.opens ≡ true = not-false _ i.if1.false in
     let room : length (shown shows) + 76 ≤ length a.output.now =
-    subst (λ (b : Bool). length (shown shows) + inquireRoom b ≤ length a.output.now) e (fits_both shows) in
+    subst (λ (b : Bool). length (shown shows) + inquire_room b ≤ length a.output.now) e (fits_both shows) in
     (p.0 e, p.1, p.2, p.3, p.4, p.5 e, omega (arith, room, shows.send-closest.ensures.0.0))
 
 answer-of-requires-2 : tie.Need-answer-of-requires-2
@@ -101,15 +101,15 @@ same-length-2 c = search rules
 same-length-3 : tie.Need-same-length-3
 same-length-3 c = search rules
 
-returns-2 : tie.Need-returns-2
-returns-2 c =
+returns_2 : tie.Need-returns-2
+returns_2 c =
     let at-ask = c.before.before.before.before.before in
     let i = at-ask.before.before.before in
     let shows = i.before.before.before in
     let a = (s shows).args in
     let p = (s shows).requires.0 in
     let e : a.opens ≡ true = not-false _ i.if1.false in
-    let long = record-long (part a.start a.len a.d.now) (p.5 e) in (
+    let long = record_long (part a.start a.len a.d.now) (p.5 e) in (
       c.answer-of2.ensures
           ∙ behind-told a.major a.minor a.id (shown shows) a.opens a.nonce.now (named shows) long p.3 e shows.send-closest.ensures.0.0,
       (
@@ -133,4 +133,4 @@ commit-show-spec =
     answer-of-requires-2
     same-length-2
     same-length-3
-    returns-2)
+    returns_2)

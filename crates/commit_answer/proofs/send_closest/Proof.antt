@@ -6,15 +6,15 @@ use mathlib.Core.Path.{◌≡◌, ap₂, ◌∙◌}
 use mathlib.Core.List.{List}
 use Rattle.octet.specs.Part.{part}
 use Rattle.key.specs.Number.{key_at}
-use Rattle.record.specs.Record.{recordForm}
-use Rattle.own.specs.Own.{ownKeys}
+use Rattle.record.specs.Record.{record_form}
+use Rattle.own.specs.Own.{own_keys}
 use Rattle.table.specs.Rows.{rows}
-use Rattle.table.proofs.PieceLaws.{part-lent}
-use Rattle.neighbours.specs.Closest.{offPath, closestPast}
-use Rattle.neighbours.proofs.ClosestLaws.{closest-formed}
+use Rattle.table.proofs.PieceLaws.{part_lent}
+use Rattle.neighbours.specs.Closest.{off_path, closest_past}
+use Rattle.neighbours.proofs.ClosestLaws.{closest_formed}
 use Rattle.neighbours.proofs.SkipLaws.{off-held}
-use Rattle.gauge_commit.proofs.SentLaws.{closest-told, closest-few, closest-sent}
-use Rattle.gauge_commit.proofs.PlaceLaws.{target-lent, target-long}
+use Rattle.gauge_commit.proofs.SentLaws.{closest-told, closest_few, closest-sent}
+use Rattle.gauge_commit.proofs.PlaceLaws.{target_lent, target_long}
 use borrow.Author.Rules.{rules}
 use Rattle.commit_answer.proofs.send_closest.Statement.{statement}
 use Rattle.commit_answer.proofs.send_closest.Tie as tie
@@ -32,19 +32,19 @@ module _ (c : tie.After-closest) where
 
   -- the record shown
   abbrev nearest : List ℕ
-  nearest = closestPast s.args.own.now recs path (key_at s.args.target s.args.d.now)
+  nearest = closest_past s.args.own.now recs path (key_at s.args.target s.args.d.now)
 
   is : c.closest.result.now ≡ nearest
   is =
       let a = s.args in
       c.closest.ensures
-      ∙ ap₂ (λ (k : ℕ) (l : List ℕ). closestPast a.own.now recs l k) (target-lent a.target a.d.now) (part-lent a.path a.size a.d.now)
+      ∙ ap₂ (λ (k : ℕ) (l : List ℕ). closest_past a.own.now recs l k) (target_lent a.target a.d.now) (part_lent a.path a.size a.d.now)
 
-  formed : recordForm nearest ≡ true
+  formed : record_form nearest ≡ true
   formed =
       let a = s.args in
-      closest-formed (key_at a.target a.d.now) (ownKeys a.own.now) a.own.now (offPath path recs) s.pre.0
-      (off-held path (ownKeys a.own.now) recs s.pre.1.held)
+      closest_formed (key_at a.target a.d.now) (own_keys a.own.now) a.own.now (off_path path recs) s.pre.0
+      (off-held path (own_keys a.own.now) recs s.pre.1.held)
 
 add-end : tie.Need-overflow-add-end
 add-end c = search rules
@@ -75,7 +75,7 @@ closest-requires c κs =
     let s = c.before.before.before.before.before.before in
     let a = s.args in
     let p = s.requires in
-    ((p.0, omega (arith, target-long a.target a.d.now p.2)), p.1)
+    ((p.0, omega (arith, target_long a.target a.d.now p.2)), p.1)
 
 write-closest-requires : tie.Need-write-closest-requires
 write-closest-requires c κs = search rules
@@ -92,7 +92,7 @@ returns c =
     let fits = (s m).requires.4 in (
       (
         closest-told a.major a.minor a.id a.acked (nearest m) (formed m) fits w,
-        closest-few a.major a.minor a.id a.acked (nearest m) (formed m) fits w,
+        closest_few a.major a.minor a.id a.acked (nearest m) (formed m) fits w,
       ),
       closest-sent a.major a.minor a.id a.acked (nearest m) (formed m) fits w,
     )

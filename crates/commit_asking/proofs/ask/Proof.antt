@@ -3,13 +3,13 @@ use Prim.Native.Nat.{ℕ}
 use mathlib.Core.Path.{◌≡◌, refl, ap₂, ◌∙◌}
 use mathlib.Core.List.{List}
 use Rattle.octet.specs.Part.{part, splice}
-use Rattle.record.specs.Entry.{recordOf}
+use Rattle.record.specs.Entry.{record_of}
 use Rattle.table.specs.Rows.{rows, bytes_of}
 use Rattle.waiting.specs.Open.{opened}
-use Rattle.waiting.specs.Place.{inquiryPlace}
-use Rattle.wire_write.specs.Making.{inquireMade}
-use Rattle.asking.specs.Ids.{idAfter}
-use Rattle.gauge_commit.proofs.SentLaws.{named-is}
+use Rattle.waiting.specs.Place.{inquiry_place}
+use Rattle.wire_write.specs.Making.{inquire_made}
+use Rattle.asking.specs.Ids.{id_after}
+use Rattle.gauge_commit.proofs.SentLaws.{named_is}
 use borrow.Author.Rules.{rules}
 use Rattle.commit_asking.proofs.ask.Statement.{statement}
 use Rattle.commit_asking.proofs.ask.Tie as tie
@@ -49,12 +49,12 @@ returns c =
     let s = at-id-after.before.before.before.before.before in
     let a = s.args in
     let v = part a.start a.len a.d.now in
-    let r : at-put-record.put_record.new.0 ≡ recordOf v = named-is v _ s.requires.5 refl at-put-record.put_record.ensures in
-    let i : at-id-after.id-after.result ≡ idAfter a.id = at-id-after.id-after.ensures in (
+    let r : at-put-record.put_record.new.0 ≡ record_of v = named_is v _ s.requires.5 refl at-put-record.put_record.ensures in
+    let i : at-id-after.id-after.result ≡ id_after a.id = at-id-after.id-after.ensures in (
       at-open-inquiry.open-inquiry.ensures
-          ∙ ap₂ (λ (n : ℕ) (l : List ℕ). bytes_of 2240 (opened (inquiryPlace n l) (rows 140 a.used a.waiting.now))) i r,
+          ∙ ap₂ (λ (n : ℕ) (l : List ℕ). bytes_of 2240 (opened (inquiry_place n l) (rows 140 a.used a.waiting.now))) i r,
       c.before.before.send-inquire.ensures
-          ∙ ap₂ (λ (n : ℕ) (l : List ℕ). splice a.at (inquireMade a.major a.minor n (part 0 32 l) a.nonce.now).bytes
+          ∙ ap₂ (λ (n : ℕ) (l : List ℕ). splice a.at (inquire_made a.major a.minor n (part 0 32 l) a.nonce.now).bytes
           a.output.now) i r,
     )
 

@@ -1,7 +1,7 @@
 -- `commit_revoke` meets its contract: each of the three calls does its part. Assumes nothing.
 use native.Mathlib.Omega.{arith}
 use mathlib.Core.Path.{◌∙◌}
-use Rattle.gauge_commit.proofs.SentLaws.{room-few, acks-told}
+use Rattle.gauge_commit.proofs.SentLaws.{room_few, acks-told}
 use borrow.Author.Rules.{rules}
 use Rattle.commit_flood.proofs.commit_revoke.Statement.{statement}
 use Rattle.commit_flood.proofs.commit_revoke.Tie as tie
@@ -19,7 +19,7 @@ answer-of-requires : tie.Need-answer-of-requires
 answer-of-requires c κs =
     let at-remove = c.before.before.before.before.before.before.before.before.before.before.before.before in
     let s = at-remove.before.before.before.before.before.before.before.before.before in
-    (room-few s.args.silent s.args.n c.before.before.send-ack.ensures.0, omega arith)
+    (room_few s.args.silent s.args.n c.before.before.send-ack.ensures.0, omega arith)
 
 same_length : tie.Need-same-length
 same_length c = search rules

@@ -42,8 +42,8 @@ returns c =
 same-length-2 : tie.Need-same-length-2
 same-length-2 c = search rules
 
-returns-2 : tie.Need-returns-2
-returns-2 c =
+returns_2 : tie.Need-returns-2
+returns_2 c =
     let s = c.before.before.before.before.before.before in
     let a = s.args in
     let p = s.requires in
@@ -60,4 +60,4 @@ free-inquiry-spec =
     same_length
     returns
     same-length-2
-    returns-2)
+    returns_2)

@@ -17,8 +17,8 @@ write-ack-requires c κs = search rules
 same_length : tie.Need-same-length
 same_length c = search rules
 
-returns-2 : tie.Need-returns-2
-returns-2 c =
+returns_2 : tie.Need-returns-2
+returns_2 c =
     let at-if1 = c.before.before.before.before in
     let s = at-if1.before.before in
     let a = s.args in (
@@ -27,4 +27,4 @@ returns-2 c =
     )
 
 pub send-ack-spec : {M : Type 1} → statement M
-send-ack-spec = tie.close (tie.spec returns write-ack-requires same_length returns-2)
+send-ack-spec = tie.close (tie.spec returns write-ack-requires same_length returns_2)

@@ -4,9 +4,9 @@ use mathlib.Core.Path.{◌≡◌, ap, ◌∙◌}
 use mathlib.Core.List.{List, [], ◌∷◌}
 use Prim.Native.Nat.{ℕ, ◌*◌}
 use Rattle.octet.specs.Part.{part}
-use Rattle.record.specs.Record.{recordForm}
-use Rattle.wire_write.specs.Making.{floodMade}
-use Rattle.plan_send.specs.Send.{recordSent, floodRoom}
+use Rattle.record.specs.Record.{record_form}
+use Rattle.wire_write.specs.Making.{flood_made}
+use Rattle.plan_send.specs.Send.{record_sent, flood_room}
 use Rattle.gauge_commit.specs.Sending.{lengths, sending}
 use Rattle.gauge_commit.proofs.SentLaws.{ours-sent, held-sent}
 use borrow.Author.Rules.{rules}
@@ -18,7 +18,7 @@ start o = o.before.before.before.before.before.before.before
 
 -- the record that is sent
 abbrev sent : tie.Start → List ℕ
-sent s = let a = s.args in recordSent a.own.now a.cache.now a.ours a.at
+sent s = let a = s.args in record_sent a.own.now a.cache.now a.ours a.at
 
 ours-is : (c : tie.Then1) → (let s = start c.before.before.before in part (100 * s.args.at) 100 s.args.own.now ≡ sent s)
 ours-is c =
@@ -44,7 +44,7 @@ send-flood-requires : tie.Need-send-flood-requires
 send-flood-requires c κs =
     let i = c.before in
     let p = (start i.before.before.before).requires in
-    (p.3, p.4 i.if1.true, ap recordForm (ours-is i) ∙ p.6, omega (arith, ap floodRoom (ours-is i), p.7))
+    (p.3, p.4 i.if1.true, ap record_form (ours-is i) ∙ p.6, omega (arith, ap flood_room (ours-is i), p.7))
 
 same_length : tie.Need-same-length
 same_length c = search rules
@@ -58,7 +58,7 @@ returns c =
     let i = f.before.before in
     let o = i.before.before.before in
     let a = (start o).args in
-    let made : List ℕ → List (List ℕ) = λ (r : List ℕ). (floodMade a.major a.minor a.id a.neighbour.now r 0).bytes ∷ [] in (
+    let made : List ℕ → List (List ℕ) = λ (r : List ℕ). (flood_made a.major a.minor a.id a.neighbour.now r 0).bytes ∷ [] in (
       f.send-flood.ensures.0 ∙ ap (λ (r : List ℕ). lengths (made r)) (ours-is i),
       (o.open-flood.ensures, f.send-flood.ensures.1 ∙ ap (λ (r : List ℕ). sending (made r) a.output.now) (ours-is i)),
     )
@@ -72,7 +72,7 @@ send-flood-requires-2 : tie.Need-send-flood-requires-2
 send-flood-requires-2 c κs =
     let i = c.before in
     let p = (start i.before.before.before).requires in
-    (p.3, p.5 i.if1.false, ap recordForm (held-is i) ∙ p.6, omega (arith, ap floodRoom (held-is i), p.7))
+    (p.3, p.5 i.if1.false, ap record_form (held-is i) ∙ p.6, omega (arith, ap flood_room (held-is i), p.7))
 
 same-length-3 : tie.Need-same-length-3
 same-length-3 c = search rules
@@ -80,13 +80,13 @@ same-length-3 c = search rules
 same-length-4 : tie.Need-same-length-4
 same-length-4 c = search rules
 
-returns-2 : tie.Need-returns-2
-returns-2 c =
+returns_2 : tie.Need-returns-2
+returns_2 c =
     let f = c.before.before in
     let i = f.before.before in
     let o = i.before.before.before in
     let a = (start o).args in
-    let made : List ℕ → List (List ℕ) = λ (r : List ℕ). (floodMade a.major a.minor a.id a.neighbour.now r 0).bytes ∷ [] in (
+    let made : List ℕ → List (List ℕ) = λ (r : List ℕ). (flood_made a.major a.minor a.id a.neighbour.now r 0).bytes ∷ [] in (
       f.send-flood2.ensures.0 ∙ ap (λ (r : List ℕ). lengths (made r)) (held-is i),
       (o.open-flood.ensures, f.send-flood2.ensures.1 ∙ ap (λ (r : List ℕ). sending (made r) a.output.now) (held-is i)),
     )
@@ -105,4 +105,4 @@ commit-send-spec =
     send-flood-requires-2
     same-length-3
     same-length-4
-    returns-2)
+    returns_2)

@@ -23,8 +23,8 @@ same_length c = search rules
 same-length-2 : tie.Need-same-length-2
 same-length-2 c = search rules
 
-returns-2 : tie.Need-returns-2
-returns-2 c = search rules
+returns_2 : tie.Need-returns-2
+returns_2 c = search rules
 
 pub converted-spec : {M : Type 1} → statement M
 converted-spec =
@@ -36,4 +36,4 @@ converted-spec =
     convert-requires
     same_length
     same-length-2
-    returns-2)
+    returns_2)

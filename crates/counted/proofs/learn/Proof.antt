@@ -9,22 +9,22 @@ use borrow.Author.Tests.{not-true, not-false}
 use Rattle.octet.specs.Number.{Digits}
 use Rattle.key.specs.Number.{number}
 use Rattle.record.specs.Record.{key_of}
-use Rattle.record.proofs.EntryLaws.{form-length}
-use Rattle.own.specs.Own.{ownKeys}
-use Rattle.own.proofs.FormLaws.{own-some}
+use Rattle.record.proofs.EntryLaws.{form_length}
+use Rattle.own.specs.Own.{own_keys}
+use Rattle.own.proofs.FormLaws.{own_some}
 use Rattle.table.specs.Rows.{rows}
 use Rattle.table.proofs.RowLaws.{rows-length}
 use Rattle.kept.specs.Keys.{plain, put, without}
 use Rattle.kept.proofs.ListLaws.{length-put, rising-put}
 use Rattle.cache.specs.Form.{keys_of}
-use Rattle.cache.specs.Bytes.{afterLearn}
-use Rattle.cache.specs.Change.{changesOf}
-use Rattle.cache.proofs.FormLaws.{form-laid}
-use Rattle.firsts.specs.Firsts.{firstsOf}
-use Rattle.firsts.specs.Places.{countAt, withCount}
+use Rattle.cache.specs.Bytes.{after_learn}
+use Rattle.cache.specs.Change.{changes_of}
+use Rattle.cache.proofs.FormLaws.{form_laid}
+use Rattle.firsts.specs.Firsts.{firsts_of}
+use Rattle.firsts.specs.Places.{count_at, with_count}
 use Rattle.firsts.proofs.ByteLaws.{key-begins}
 use Rattle.firsts.proofs.CountLaws.{OneMore, more-put, less-without}
-use Rattle.firsts.proofs.FirstsLaws.{firsts-length, row_room, counted-up, counted-down, some-there}
+use Rattle.firsts.proofs.FirstsLaws.{firsts_length, row_room, counted-up, counted-down, some-there}
 use Rattle.counted.proofs.ChangeLaws.{Learnt, learnt, told-stays, told-joins, told-alone, told-trades}
 use borrow.Author.Rules.{rules}
 use Rattle.counted.proofs.learn.Statement.{statement}
@@ -46,24 +46,24 @@ more s = put plain (newcomer s) (keys s)
 abbrev left : tie.Start → List ℕ
 left s =
     let a = s.args in
-    keys_of (afterLearn (ownKeys a.own.now) (length a.cache.now) (rows 100 a.used a.cache.now) a.«record».now)
+    keys_of (after_learn (own_keys a.own.now) (length a.cache.now) (rows 100 a.used a.cache.now) a.«record».now)
 
 many : (s : tie.Start) → (length (keys s) ≡ s.args.used) × (s.args.used ≤ 256)
 many s =
     let a = s.args in (
       length-map (rows 100 a.used a.cache.now) key_of ∙ rows-length 100 a.used a.cache.now,
-      omega (arith, (form-laid (ownKeys a.own.now) a.used a.cache.now s.requires.1.0).room, s.requires.1.0.places.most),
+      omega (arith, (form_laid (own_keys a.own.now) a.used a.cache.now s.requires.1.0).room, s.requires.1.0.places.most),
     )
 
-told : (c : tie.After-learn) → Learnt (keys (start c)) (newcomer (start c)) (left (start c)) (changesOf c.learn.result)
+told : (c : tie.After-learn) → Learnt (keys (start c)) (newcomer (start c)) (left (start c)) (changes_of c.learn.result)
 told c =
     let s = start c in
     let a = s.args in
-    let own = ownKeys a.own.now in
+    let own = own_keys a.own.now in
     let recs = rows 100 a.used a.cache.now in
-    let laid = form-laid own a.used a.cache.now s.pre.1.0 in
+    let laid = form_laid own a.used a.cache.now s.pre.1.0 in
     subst (Learnt (keys s) (newcomer s) (left s)) (sym c.learn.ensures.1)
-    (learnt own (own-some a.own.now s.pre.0.0) (length a.cache.now) s.pre.1.0.places recs s.pre.1.0.held
+    (learnt own (own_some a.own.now s.pre.0.0) (length a.cache.now) s.pre.1.0.places recs s.pre.1.0.held
     (omega (arith, laid.room, rows-length 100 a.used a.cache.now)) a.«record».now s.pre.1.1.0)
 
 -- the byte that the newcomer begins with
@@ -77,7 +77,7 @@ byte c = get_or (start c).args.«record».now 0 0
 joined : (c : tie.After-learn) → c.learn.result.joined ≡ true → OneMore (byte c) (keys (start c)) (more (start c))
 joined c j =
     let s = start c in
-    let long = form-length s.args.«record».now s.pre.0.1 in
+    let long = form_length s.args.«record».now s.pre.0.1 in
     more-put (newcomer s) (byte c) (key-begins 0 s.args.«record».now (bytes c) (omega (arith, long))) (keys s) (told-joins (told c) j)
 
 abbrev learning : tie.After-count-up → tie.After-learn
@@ -86,11 +86,11 @@ learning c = c.before.before.before.before.before.before.before
 does-join : (c : tie.After-count-up) → (learning c).learn.result.joined ≡ true
 does-join c = not-false (learning c).learn.result.joined c.before.before.before.if1.false
 
-upped : (c : tie.After-count-up) → c.count-up.new.0 ≡ firstsOf (more (start (learning c)))
+upped : (c : tie.After-count-up) → c.count-up.new.0 ≡ firsts_of (more (start (learning c)))
 upped c =
     let at = learning c in
     let s = start at in
-    c.count-up.ensures ∙ ap (λ (f : List ℕ). withCount (byte at) (countAt (byte at) f + 1) f) s.pre.1.1.1
+    c.count-up.ensures ∙ ap (λ (f : List ℕ). with_count (byte at) (count_at (byte at) f + 1) f) s.pre.1.1.1
     ∙ counted-up (byte at) (bytes at 0) (keys s) (more s) (joined at (does-join c)) (omega (arith, many s))
 
 -- another leaves
@@ -122,19 +122,19 @@ same_length c = search rules
 returns : tie.Need-returns
 returns c =
     let at = c.before.before.before.before in
-    (at.learn.ensures.0, (start at).requires.1.1.1 ∙ sym (ap firstsOf (told-stays (told at) (not-true at.learn.result.joined c.if1.true))))
+    (at.learn.ensures.0, (start at).requires.1.1.1 ∙ sym (ap firsts_of (told-stays (told at) (not-true at.learn.result.joined c.if1.true))))
 
 shared-slice-read-count-up : tie.Need-shared-slice-read-count-up
 shared-slice-read-count-up c =
     let s = start c.before.before.before.before.before.before in
-    omega (arith, form-length s.args.«record».now s.pre.0.1)
+    omega (arith, form_length s.args.«record».now s.pre.0.1)
 
 count-up-requires : tie.Need-count-up-requires
 count-up-requires c κs =
     let at = c.before.before.before.before.before.before in
     let s = start at in (
-      ap length s.pre.1.1.1 ∙ firsts-length (keys s),
-      subst (λ (f : List ℕ). countAt (byte at) f < 65535) (sym s.pre.1.1.1)
+      ap length s.pre.1.1.1 ∙ firsts_length (keys s),
+      subst (λ (f : List ℕ). count_at (byte at) f < 65535) (sym s.pre.1.1.1)
           (row_room s.args.used s.args.cache.now (many s).1 (byte at) (bytes at 0)),
     )
 
@@ -144,11 +144,11 @@ same-length-2 c = search rules
 same-length-3 : tie.Need-same-length-3
 same-length-3 c = search rules
 
-returns-2 : tie.Need-returns-2
-returns-2 c =
+returns_2 : tie.Need-returns-2
+returns_2 c =
     let up = c.before.before.before.before in
     let at = learning up in
-    (at.learn.ensures.0, upped up ∙ sym (ap firstsOf (told-alone (told at) (does-join up) (not-true at.learn.result.left c.if2.true))))
+    (at.learn.ensures.0, upped up ∙ sym (ap firsts_of (told-alone (told at) (does-join up) (not-true at.learn.result.left c.if2.true))))
 
 first-byte-requires : tie.Need-first-byte-requires
 first-byte-requires c κs = search rules
@@ -157,8 +157,8 @@ count-down-requires : tie.Need-count-down-requires
 count-down-requires c κs =
     let up = upping c in
     let s = start (learning up) in (
-      ap length (upped up) ∙ firsts-length (more s),
-      subst (λ (f : List ℕ). 0 < countAt c.first_byte.result f) (sym (upped up))
+      ap length (upped up) ∙ firsts_length (more s),
+      subst (λ (f : List ℕ). 0 < count_at c.first_byte.result f) (sym (upped up))
           (some-there c.first_byte.result (omega arith) _ (more s) (less c) (more-few s)),
     )
 
@@ -177,9 +177,9 @@ returns-3 c =
     let at = learning up in
     let s = start at in (
       at.learn.ensures.0,
-      down.count_down.ensures ∙ ap (λ (f : List ℕ). withCount b (countAt b f - 1) f) (upped up)
+      down.count_down.ensures ∙ ap (λ (f : List ℕ). with_count b (count_at b f - 1) f) (upped up)
           ∙ counted-down b (omega arith) _ (more s) (less first) (more-few s)
-          ∙ sym (ap firstsOf (told-trades (told at) (does-join up) (does-leave first)).1),
+          ∙ sym (ap firsts_of (told-trades (told at) (does-join up) (does-leave first)).1),
     )
 
 pub learn-spec : {M : Type 1} → statement M
@@ -193,7 +193,7 @@ learn-spec =
     count-up-requires
     same-length-2
     same-length-3
-    returns-2
+    returns_2
     first-byte-requires
     count-down-requires
     same-length-4

@@ -9,19 +9,19 @@ use borrow.Author.Tests.{not-true, not-false}
 use Rattle.octet.specs.Number.{Digits}
 use Rattle.key.specs.Number.{key_at}
 use Rattle.record.specs.Record.{key_of}
-use Rattle.own.specs.Own.{ownKeys}
+use Rattle.own.specs.Own.{own_keys}
 use Rattle.table.specs.Rows.{rows}
 use Rattle.table.proofs.RowLaws.{rows-length}
 use Rattle.kept.specs.Keys.{without}
 use Rattle.cache.specs.Form.{keys_of}
 use Rattle.cache.specs.Change.{Changes, removed}
-use Rattle.cache.proofs.FormLaws.{form-laid}
-use Rattle.firsts.specs.Firsts.{firstsOf}
-use Rattle.firsts.specs.Places.{countAt, withCount}
+use Rattle.cache.proofs.FormLaws.{form_laid}
+use Rattle.firsts.specs.Firsts.{firsts_of}
+use Rattle.firsts.specs.Places.{count_at, with_count}
 use Rattle.firsts.proofs.ByteLaws.{key-begins}
 use Rattle.firsts.proofs.CountLaws.{OneMore, less-without}
-use Rattle.firsts.proofs.FirstsLaws.{firsts-length, counted-down, some-there}
-use Rattle.counted.proofs.ChangeLaws.{removed-keys, told-left, told-kept}
+use Rattle.firsts.proofs.FirstsLaws.{firsts_length, counted-down, some-there}
+use Rattle.counted.proofs.ChangeLaws.{removed_keys, told-left, told-kept}
 use borrow.Author.Rules.{rules}
 use Rattle.counted.proofs.remove.Statement.{statement}
 use Rattle.counted.proofs.remove.Tie as tie
@@ -43,7 +43,7 @@ few s =
       arith,
       length-map (rows 100 a.used a.cache.now) key_of,
       rows-length 100 a.used a.cache.now,
-      (form-laid (ownKeys a.own.now) a.used a.cache.now s.requires.1.0).room,
+      (form_laid (own_keys a.own.now) a.used a.cache.now s.requires.1.0).room,
       s.requires.1.0.places.most,
     )
 
@@ -74,7 +74,7 @@ returns c =
     let s = start done in
     let e = ap (λ (x : Changes). x.left) (sym done.remove.ensures.1) ∙ not-true _ c.if1.true in (
       done.remove.ensures.0,
-      s.pre.1.1 ∙ sym (ap firstsOf (told-kept (gone s) (rows 100 s.args.used s.args.cache.now) e)),
+      s.pre.1.1 ∙ sym (ap firsts_of (told-kept (gone s) (rows 100 s.args.used s.args.cache.now) e)),
     )
 
 shared-slice-read-count-down : tie.Need-shared-slice-read-count-down
@@ -85,8 +85,8 @@ count-down-requires c κs =
     let else = c.before.before in
     let done = else.before.before.before.before in
     let s = start done in (
-      ap length s.pre.1.1 ∙ firsts-length (keys s),
-      subst (λ (f : List ℕ). 0 < countAt (byte done) f) (sym s.pre.1.1)
+      ap length s.pre.1.1 ∙ firsts_length (keys s),
+      subst (λ (f : List ℕ). 0 < count_at (byte done) f) (sym s.pre.1.1)
           (some-there (byte done) (bytes done 0) _ (keys s) (less done (not-false _ else.if1.false)) (few s)),
     )
 
@@ -96,16 +96,16 @@ same-length-2 c = search rules
 same-length-3 : tie.Need-same-length-3
 same-length-3 c = search rules
 
-returns-2 : tie.Need-returns-2
-returns-2 c =
+returns_2 : tie.Need-returns-2
+returns_2 c =
     let down = c.before.before in
     let else = down.before.before.before in
     let done = else.before.before.before.before in
     let s = start done in (
       done.remove.ensures.0,
-      down.count_down.ensures ∙ ap (λ (f : List ℕ). withCount (byte done) (countAt (byte done) f - 1) f) s.pre.1.1
+      down.count_down.ensures ∙ ap (λ (f : List ℕ). with_count (byte done) (count_at (byte done) f - 1) f) s.pre.1.1
           ∙ counted-down (byte done) (bytes done 0) _ (keys s) (less done (not-false _ else.if1.false)) (few s)
-          ∙ sym (ap firstsOf (removed-keys (gone s) (rows 100 s.args.used s.args.cache.now))),
+          ∙ sym (ap firsts_of (removed_keys (gone s) (rows 100 s.args.used s.args.cache.now))),
     )
 
 pub remove-spec : {M : Type 1} → statement M
@@ -119,4 +119,4 @@ remove-spec =
     count-down-requires
     same-length-2
     same-length-3
-    returns-2)
+    returns_2)

@@ -4,8 +4,8 @@ use Prim.Native.Nat.{ℕ, ◌+◌, ◌-◌, ◌≤◌, ◌<◌}
 use native.Mathlib.Omega.{arith}
 use lib.ListN.{length, drop, length-drop}
 use Rattle.octet.specs.Part.{part}
-use Rattle.cpas.specs.Cpas.{cpaSize}
-use Rattle.cpas.proofs.CpaLaws.{Left, left-front, left-first, left-next, left_here}
+use Rattle.cpas.specs.Cpas.{cpa_size}
+use Rattle.cpas.proofs.CpaLaws.{Left, left_front, left_first, left_next, left_here}
 use Rattle.cpas.proofs.cpa_at.Statement.{statement}
 use Rattle.cpas.proofs.cpa_at.Tie as tie
 
@@ -16,13 +16,13 @@ abbrev decreases-loop : tie.decreases-loop
 decreases-loop cpas place at₀ i₀ at i = place - i
 
 -- the CPA at the place lies within
-room : (cpas : _) (place at i : ℕ) → Left place i at cpas → at + (2 + cpaSize (drop at cpas)) ≤ length cpas
-room cpas place at i l = omega (arith, (left-front place i at cpas l).room, length-drop at cpas)
+room : (cpas : _) (place at i : ℕ) → Left place i at cpas → at + (2 + cpa_size (drop at cpas)) ≤ length cpas
+room cpas place at i l = omega (arith, (left_front place i at cpas l).room, length-drop at cpas)
 
 loop-holds : tie.Need-loop-init invariant-loop decreases-loop
 loop-holds c =
     let s = c.before in
-    (omega arith, left-first s.args.place s.requires.0 s.args.cpas.now s.requires.1 s.requires.2)
+    (omega arith, left_first s.args.place s.requires.0 s.args.cpas.now s.requires.1 s.requires.2)
 
 size-at-requires : tie.Need-size-at-requires invariant-loop decreases-loop
 size-at-requires c κs =
@@ -47,7 +47,7 @@ loop-again c =
     let a = c.before.before.before.before.args in
     let l = c.before.before.loop in (
       omega (arith, room a.cpas.now a.place l.at l.i l.invariant.1, c.size-at.ensures.0),
-      left-next a.place l.i l.at a.cpas.now (omega arith) l.invariant.1 c.size-at.ensures.0,
+      left_next a.place l.i l.at a.cpas.now (omega arith) l.invariant.1 c.size-at.ensures.0,
     )
 
 add_start : tie.Need-overflow-add-start invariant-loop decreases-loop

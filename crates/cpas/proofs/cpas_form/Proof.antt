@@ -5,19 +5,19 @@ use Prim.Native.Nat.{ℕ, ◌+◌, ◌-◌, ◌≤◌, ◌<◌}
 use native.Mathlib.Omega.{arith}
 use lib.ListN.{length, drop, length-drop}
 use borrow.Author.Tests.{not-true, not-false}
-use Rattle.cpas.specs.Cpas.{cpaForm, cpasForm}
-use Rattle.cpas.proofs.CpaLaws.{Whole, whole, form-turn, form-stop, form-done}
+use Rattle.cpas.specs.Cpas.{cpa_form, cpas_form}
+use Rattle.cpas.proofs.CpaLaws.{Whole, whole, form_turn, form_stop, form_done}
 use Rattle.cpas.proofs.cpas_form.Statement.{statement}
 use Rattle.cpas.proofs.cpas_form.Tie as tie
 
 abbrev invariant-loop : tie.invariant-loop
-invariant-loop cpas n at₀ i₀ at i = (at ≤ length cpas) × (cpasForm n cpas ≡ cpasForm (n - i) (drop at cpas))
+invariant-loop cpas n at₀ i₀ at i = (at ≤ length cpas) × (cpas_form n cpas ≡ cpas_form (n - i) (drop at cpas))
 
 abbrev decreases-loop : tie.decreases-loop
 decreases-loop cpas n at₀ i₀ at i = n - i
 
 -- a CPA stands at the place
-stands : (c : tie.Else1 invariant-loop decreases-loop) → cpaForm (drop c.before.before.before.loop.at c.before.before.before.before.before.args.cpas.now) ≡ true
+stands : (c : tie.Else1 invariant-loop decreases-loop) → cpa_form (drop c.before.before.before.loop.at c.before.before.before.before.before.args.cpas.now) ≡ true
 stands c = sym c.before.is-cpa.ensures ∙ not-false _ c.if1.false
 
 inside : (c : tie.Else1 invariant-loop decreases-loop) → Whole (drop c.before.before.before.loop.at c.before.before.before.before.before.args.cpas.now)
@@ -27,7 +27,7 @@ loop-holds : tie.Need-loop-init invariant-loop decreases-loop
 loop-holds c =
     let a = c.before.args in
     let all : a.n ≡ a.n - 0 = omega arith in
-    (omega arith, ap (λ (m : ℕ). cpasForm m a.cpas.now) all)
+    (omega arith, ap (λ (m : ℕ). cpas_form m a.cpas.now) all)
 
 is-cpa-requires : tie.Need-is-cpa-requires invariant-loop decreases-loop
 is-cpa-requires c κs = omega arith
@@ -36,7 +36,7 @@ returns : tie.Need-returns invariant-loop decreases-loop
 returns c =
     let a = c.before.before.before.before.before.args in
     let l = c.before.before.before.loop in
-    sym (l.invariant.1 ∙ form-stop a.n l.i l.at a.cpas.now (omega arith) (sym c.before.is-cpa.ensures ∙ not-true _ c.if1.true))
+    sym (l.invariant.1 ∙ form_stop a.n l.i l.at a.cpas.now (omega arith) (sym c.before.is-cpa.ensures ∙ not-true _ c.if1.true))
 
 size-at-requires : tie.Need-size-at-requires invariant-loop decreases-loop
 size-at-requires c κs =
@@ -61,14 +61,14 @@ loop-again c =
     let a = c.before.before.before.before.before.before.args in
     let l = c.before.before.before.before.loop in (
       omega (arith, (inside c.before).room, c.size-at.ensures.0, length-drop l.at a.cpas.now),
-      l.invariant.1 ∙ form-turn a.n l.i l.at a.cpas.now (omega arith) (stands c.before) c.size-at.ensures.0,
+      l.invariant.1 ∙ form_turn a.n l.i l.at a.cpas.now (omega arith) (stands c.before) c.size-at.ensures.0,
     )
 
-returns-2 : tie.Need-returns-2 invariant-loop decreases-loop
-returns-2 c =
+returns_2 : tie.Need-returns-2 invariant-loop decreases-loop
+returns_2 c =
     let a = c.before.before.before.args in
     let l = c.before.loop in
-    sym (l.invariant.1 ∙ form-done a.n l.i l.at a.cpas.now (omega arith) l.invariant.0)
+    sym (l.invariant.1 ∙ form_done a.n l.i l.at a.cpas.now (omega arith) l.invariant.0)
 
 pub cpas-form-spec : {M : Type 1} → statement M
 cpas-form-spec =
@@ -85,4 +85,4 @@ cpas-form-spec =
     add-i
     loop-less
     loop-again
-    returns-2)
+    returns_2)

@@ -6,13 +6,13 @@ use native.Mathlib.Omega.{arith}
 use lib.ListN.{length}
 use Rattle.octet.specs.Part.{part, splice}
 use Rattle.table.specs.Rows.{Laid}
-use Rattle.cut.specs.Cut.{convertedPlace}
-use Rattle.cut.proofs.CutLaws.{Changed, place-length, changed-none, changed-length, changed-next, changed-all}
+use Rattle.cut.specs.Cut.{converted_place}
+use Rattle.cut.proofs.CutLaws.{Changed, place_length, changed-none, changed-length, changed-next, changed-all}
 use Rattle.cut.proofs.cut_places.Statement.{statement}
 use Rattle.cut.proofs.cut_places.Tie as tie
 
 abbrev invariant-loop : tie.invariant-loop
-invariant-loop table₀ used i₀ table i = (i ≤ used) × (length table ≡ length table₀) × (table ≡ Changed 140 convertedPlace place-length table₀ i)
+invariant-loop table₀ used i₀ table i = (i ≤ used) × (length table ≡ length table₀) × (table ≡ Changed 140 converted_place place_length table₀ i)
 
 abbrev decreases-loop : tie.decreases-loop
 decreases-loop table₀ used i₀ table i = used - i
@@ -22,7 +22,7 @@ room : (s : tie.Start invariant-loop decreases-loop) → 140 * s.args.used ≤ l
 room s = s.requires.room
 
 loop-holds : tie.Need-loop-init invariant-loop decreases-loop
-loop-holds c = (omega arith, omega arith, changed-none 140 convertedPlace place-length c.before.args.table.now)
+loop-holds c = (omega arith, omega arith, changed-none 140 converted_place place_length c.before.args.table.now)
 
 mul-cut-place : tie.Need-overflow-mul-cut-place invariant-loop decreases-loop
 mul-cut-place c = omega (arith, room c.before.before.before.before)
@@ -44,9 +44,9 @@ loop-again c =
     let old = s.args.table.now in
     let fits : 140 * l.i + 140 ≤ length old = omega (arith, room s) in
     let turn = called.cut-place.ensures
-    ∙ ap (λ (t : List ℕ). splice (140 * l.i) (convertedPlace (part (140 * l.i) 140 t)) t) l.invariant.2
-    ∙ changed-next 140 convertedPlace place-length old l.i fits in
-    (omega arith, omega (arith, ap length turn, changed-length 140 convertedPlace place-length old (l.i + 1) (omega arith)), turn)
+    ∙ ap (λ (t : List ℕ). splice (140 * l.i) (converted_place (part (140 * l.i) 140 t)) t) l.invariant.2
+    ∙ changed-next 140 converted_place place_length old l.i fits in
+    (omega arith, omega (arith, ap length turn, changed-length 140 converted_place place_length old (l.i + 1) (omega arith)), turn)
 
 same_length : tie.Need-same-length invariant-loop decreases-loop
 same_length c = c.before.loop.invariant.1
@@ -56,8 +56,8 @@ returns c =
     let l = c.before.loop in
     let s = c.before.before.before in
     let all : l.i ≡ s.args.used = omega arith in
-    l.invariant.2 ∙ ap (Changed 140 convertedPlace place-length s.args.table.now) all
-    ∙ changed-all 140 convertedPlace place-length s.args.table.now s.args.used s.requires
+    l.invariant.2 ∙ ap (Changed 140 converted_place place_length s.args.table.now) all
+    ∙ changed-all 140 converted_place place_length s.args.table.now s.args.used s.requires
 
 pub cut-places-spec : {M : Type 1} → statement M
 cut-places-spec =

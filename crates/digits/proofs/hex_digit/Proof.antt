@@ -14,8 +14,8 @@ returns c = rw (lt-ltb c.before.args.n 10 c.if1.true) refl
 add-result-2 : tie.Need-overflow-add-result-2
 add-result-2 c = search rules
 
-returns-2 : tie.Need-returns-2
-returns-2 c = rw (le-ltb c.before.args.n 10 c.if1.false) refl
+returns_2 : tie.Need-returns-2
+returns_2 c = rw (le-ltb c.before.args.n 10 c.if1.false) refl
 
 pub hex-digit-spec : {M : Type 1} → statement M
-hex-digit-spec = tie.close (tie.spec add-result returns add-result-2 returns-2)
+hex-digit-spec = tie.close (tie.spec add-result returns add-result-2 returns_2)

@@ -6,14 +6,14 @@ use native.Mathlib.Omega.{arith}
 use lib.ListN.{length, take, set, get_or, length-set}
 use lib.Seq.{take_all}
 use Rattle.octet.specs.Part.{splice}
-use Rattle.octet.proofs.PartLaws.{splice-nil}
-use Rattle.digits.specs.Digits.{hexOf}
-use Rattle.digits.proofs.DigitLaws.{hex-turn}
+use Rattle.octet.proofs.PartLaws.{splice_nil}
+use Rattle.digits.specs.Digits.{hex_of}
+use Rattle.digits.proofs.DigitLaws.{hex_turn}
 use Rattle.digits.proofs.put_hex.Statement.{statement}
 use Rattle.digits.proofs.put_hex.Tie as tie
 
 abbrev invariant-loop : tie.invariant-loop
-invariant-loop out₀ at s i₀ out i = (i ≤ length s) × (length out ≡ length out₀) × (out ≡ splice at (hexOf (take i s)) out₀)
+invariant-loop out₀ at s i₀ out i = (i ≤ length s) × (length out ≡ length out₀) × (out ≡ splice at (hex_of (take i s)) out₀)
 
 abbrev decreases-loop : tie.decreases-loop
 decreases-loop out₀ at s i₀ out i = length s - i
@@ -22,8 +22,8 @@ abbrev start : tie.At-loop invariant-loop decreases-loop → tie.Start invariant
 start l = l.before.before.before
 
 loop-holds : tie.Need-loop-init invariant-loop decreases-loop
-unfolding hexOf
-loop-holds c = let a = c.before.before.args in (omega arith, refl, sym (splice-nil a.at a.out.now))
+unfolding hex_of
+loop-holds c = let a = c.before.before.args in (omega arith, refl, sym (splice_nil a.at a.out.now))
 
 shared-slice-read-byte : tie.Need-shared-slice-read-byte invariant-loop decreases-loop
 shared-slice-read-byte c = omega arith
@@ -66,7 +66,7 @@ loop-again c =
       omega arith,
       length-set one (at + 1) c.hex-digit2.result ∙ length-set l.loop.out at c.before.hex-digit.result ∙ l.loop.invariant.1,
       ap (λ (t : List ℕ). set (set t at c.before.hex-digit.result) (at + 1) c.hex-digit2.result) l.loop.invariant.2
-          ∙ hex-turn a.at l.loop.i a.s.now a.out.now (omega arith) (start l).requires c.before.hex-digit.result
+          ∙ hex_turn a.at l.loop.i a.s.now a.out.now (omega arith) (start l).requires c.before.hex-digit.result
           c.hex-digit2.result
           c.before.hex-digit.ensures c.hex-digit2.ensures,
     )
@@ -85,7 +85,7 @@ returns c =
     let l = c.before in
     let a = (start l).args in
     let all = take_all l.loop.i a.s.now (omega arith) in
-    (refl, l.loop.invariant.2 ∙ ap (λ (bs : List ℕ). splice a.at (hexOf bs) a.out.now) all)
+    (refl, l.loop.invariant.2 ∙ ap (λ (bs : List ℕ). splice a.at (hex_of bs) a.out.now) all)
 
 pub put-hex-spec : {M : Type 1} → statement M
 put-hex-spec =

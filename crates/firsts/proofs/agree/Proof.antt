@@ -2,7 +2,7 @@
 use mathlib.Core.Path.{sym, ap, ◌∙◌}
 use borrow.Author.Rules.{rules}
 use Rattle.octet.specs.Part.{same}
-use Rattle.firsts.proofs.FirstsLaws.{firsts-none}
+use Rattle.firsts.proofs.FirstsLaws.{firsts_none}
 use Rattle.firsts.proofs.agree.Statement.{statement}
 use Rattle.firsts.proofs.agree.Tie as tie
 
@@ -10,7 +10,7 @@ slice-aggregate-count-keys : tie.Need-slice-aggregate-count-keys
 slice-aggregate-count-keys c = search rules
 
 count-keys-requires : tie.Need-count-keys-requires
-count-keys-requires c κs = let s = c.before.before.before in (s.requires.0, s.requires.1, sym firsts-none)
+count-keys-requires c κs = let s = c.before.before.before in (s.requires.0, s.requires.1, sym firsts_none)
 
 slice-aggregate-equal : tie.Need-slice-aggregate-equal
 slice-aggregate-equal c = search rules

@@ -2,7 +2,7 @@
 use mathlib.Core.Path.{ap, ◌∙◌}
 use Prim.Native.Nat.{ℕ, ◌-◌}
 use borrow.Author.Rules.{rules}
-use Rattle.firsts.specs.Places.{withCount}
+use Rattle.firsts.specs.Places.{with_count}
 use Rattle.firsts.proofs.count_down.Statement.{statement}
 use Rattle.firsts.proofs.count_down.Tie as tie
 
@@ -25,7 +25,7 @@ returns : tie.Need-returns
 returns c =
     let read = c.before.before.before.before in
     let a = read.before.before.before.args in
-    c.before.before.write-u16-le.ensures ∙ ap (λ (n : ℕ). withCount a.byte (n - 1) a.firsts.now) read.read-u16-le.ensures
+    c.before.before.write-u16-le.ensures ∙ ap (λ (n : ℕ). with_count a.byte (n - 1) a.firsts.now) read.read-u16-le.ensures
 
 pub count-down-spec : {M : Type 1} → statement M
 count-down-spec =

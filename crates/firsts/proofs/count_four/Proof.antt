@@ -5,14 +5,14 @@ use Prim.Native.Nat.{ℕ, ◌+◌}
 use native.Mathlib.Omega.{arith}
 use Rattle.record.specs.Record.{key_of}
 use Rattle.table.specs.Rows.{rows}
-use Rattle.firsts.specs.Firsts.{firstsOf}
+use Rattle.firsts.specs.Firsts.{firsts_of}
 use borrow.Author.Rules.{rules}
 use Rattle.firsts.proofs.count_four.Statement.{statement}
 use Rattle.firsts.proofs.count_four.Tie as tie
 
 -- the counts of the first n records
 abbrev counts : tie.Start → ℕ → List ℕ
-counts s n = firstsOf (map key_of (rows 100 n s.args.cache.now))
+counts s n = firsts_of (map key_of (rows 100 n s.args.cache.now))
 
 count-record-requires : tie.Need-count-record-requires
 count-record-requires c κs = search rules

@@ -6,26 +6,26 @@ use native.Mathlib.Omega.{arith}
 use lib.ListN.{length}
 use Rattle.record.specs.Record.{key_of}
 use Rattle.table.specs.Rows.{rows}
-use Rattle.firsts.specs.Firsts.{firstsOf}
-use Rattle.firsts.proofs.FirstsLaws.{firsts-length}
+use Rattle.firsts.specs.Firsts.{firsts_of}
+use Rattle.firsts.proofs.FirstsLaws.{firsts_length}
 use Rattle.firsts.proofs.count_keys.Statement.{statement}
 use Rattle.firsts.proofs.count_keys.Tie as tie
 
 abbrev invariant-loop : tie.invariant-loop
-invariant-loop cache used fresh₀ fours four₀ fresh four = (four ≤ fours) × (fresh ≡ firstsOf (map key_of (rows 100 (4 * four) cache)))
+invariant-loop cache used fresh₀ fours four₀ fresh four = (four ≤ fours) × (fresh ≡ firsts_of (map key_of (rows 100 (4 * four) cache)))
 
 abbrev decreases-loop : tie.decreases-loop
 decreases-loop cache used fresh₀ fours four₀ fresh four = fours - four
 
 abbrev invariant-loop2 : tie.invariant-loop2
-invariant-loop2 cache used fresh₀ fours four i₀ fresh i = (i ≤ used) × (fresh ≡ firstsOf (map key_of (rows 100 i cache)))
+invariant-loop2 cache used fresh₀ fours four i₀ fresh i = (i ≤ used) × (fresh ≡ firsts_of (map key_of (rows 100 i cache)))
 
 abbrev decreases-loop2 : tie.decreases-loop2
 decreases-loop2 cache used fresh₀ fours four i₀ fresh i = used - i
 
 -- the counts of the first n records
 abbrev counts : tie.Start invariant-loop decreases-loop invariant-loop2 decreases-loop2 → ℕ → List ℕ
-counts s n = firstsOf (map key_of (rows 100 n s.args.cache.now))
+counts s n = firsts_of (map key_of (rows 100 n s.args.cache.now))
 
 loop-holds : tie.Need-loop-init invariant-loop decreases-loop invariant-loop2 decreases-loop2
 unfolding rows
@@ -75,7 +75,7 @@ loop2-again c = (omega arith, c.before.before.count-record.ensures)
 same_length : tie.Need-same-length invariant-loop decreases-loop invariant-loop2 decreases-loop2
 same_length c =
     let s = c.before.before.before.before.before.before in
-    ap length c.before.loop2.invariant.1 ∙ firsts-length _ ∙ sym (ap length s.requires.2 ∙ firsts-length _)
+    ap length c.before.loop2.invariant.1 ∙ firsts_length _ ∙ sym (ap length s.requires.2 ∙ firsts_length _)
 
 returns : tie.Need-returns invariant-loop decreases-loop invariant-loop2 decreases-loop2
 returns c =

@@ -7,8 +7,8 @@ use lib.ListN.{length, get_or}
 use Rattle.octet.specs.Number.{Digits}
 use Rattle.record.specs.Record.{key_of}
 use Rattle.table.specs.Rows.{rows}
-use Rattle.firsts.specs.Places.{countAt, withCount}
-use Rattle.firsts.proofs.FirstsLaws.{firsts-length, row_room, row-counted}
+use Rattle.firsts.specs.Places.{count_at, with_count}
+use Rattle.firsts.proofs.FirstsLaws.{firsts_length, row_room, row-counted}
 use borrow.Author.Rules.{rules}
 use Rattle.firsts.proofs.count_record.Statement.{statement}
 use Rattle.firsts.proofs.count_record.Tie as tie
@@ -31,8 +31,8 @@ count-up-requires c κs =
     let known = c.before.before.before in
     let s = known.before in
     let a = s.args in (
-      ap length s.requires.2 ∙ firsts-length (map key_of (rows 100 a.i a.cache.now)),
-      subst (λ (f : List ℕ). countAt (byte s) f < 65535) (sym s.requires.2) (row_room a.i a.cache.now (omega arith) (byte s) (bytes known (100 * a.i))),
+      ap length s.requires.2 ∙ firsts_length (map key_of (rows 100 a.i a.cache.now)),
+      subst (λ (f : List ℕ). count_at (byte s) f < 65535) (sym s.requires.2) (row_room a.i a.cache.now (omega arith) (byte s) (bytes known (100 * a.i))),
     )
 
 same_length : tie.Need-same-length
@@ -44,7 +44,7 @@ returns c =
     let known = up.before.before.before.before in
     let s = known.before in
     let a = s.args in
-    up.count-up.ensures ∙ ap (λ (f : List ℕ). withCount (byte s) (countAt (byte s) f + 1) f) s.requires.2
+    up.count-up.ensures ∙ ap (λ (f : List ℕ). with_count (byte s) (count_at (byte s) f + 1) f) s.requires.2
     ∙ row-counted a.i a.cache.now (omega arith) (bytes known) s.requires.0 (byte s) (bytes known (100 * a.i)) refl
 
 pub count-record-spec : {M : Type 1} → statement M

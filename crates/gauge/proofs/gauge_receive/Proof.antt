@@ -4,7 +4,7 @@ use borrow.Author.Tests.{not-true}
 use Rattle.gauge_plan.specs.Lent.{memory, receive}
 use Rattle.gauge.specs.Receive.{carried}
 use Rattle.gauge.specs.Ours.{ours}
-use Rattle.gauge.proofs.ReceiveLaws.{call_by, plan-own}
+use Rattle.gauge.proofs.ReceiveLaws.{call_by, plan_own}
 use borrow.Author.Rules.{rules}
 use Rattle.gauge.proofs.gauge_receive.Statement.{statement}
 use Rattle.gauge.proofs.gauge_receive.Tie as tie
@@ -22,7 +22,7 @@ returns c =
     let a = o.before.before.before.before.before.before.before.before.before.before.args in
     let m = memory a.cache.now a.firsts.now a.waiting.now in
     let l = receive a.own.now a.cpas.now a.major a.minor a.id a.nonce.now a.verdict a.key.now a.datagram.now a.output.now in
-    rw c.answer-of.ensures (sym (call_by m l (plan-own m l (sym o.own-form.ensures ∙ not-true _ c.before.if1.true))))
+    rw c.answer-of.ensures (sym (call_by m l (plan_own m l (sym o.own-form.ensures ∙ not-true _ c.before.if1.true))))
 
 plan-and-commit-requires : tie.Need-plan-and-commit-requires
 plan-and-commit-requires c κs = search rules
@@ -39,9 +39,9 @@ same-length-3 c = search rules
 same-length-4 : tie.Need-same-length-4
 same-length-4 c = search rules
 
-returns-2 : tie.Need-returns-2
-returns-2 c = c.before.before.before.before.before.before.before.before.plan-and-commit.ensures
+returns_2 : tie.Need-returns-2
+returns_2 c = c.before.before.before.before.before.before.before.before.plan-and-commit.ensures
 
 pub gauge-receive-spec : {M : Type 1} → statement M
 gauge-receive-spec =
-    tie.close (tie.spec own-form-requires answer-of-requires returns plan-and-commit-requires same_length same-length-2 same-length-3 same-length-4 returns-2)
+    tie.close (tie.spec own-form-requires answer-of-requires returns plan-and-commit-requires same_length same-length-2 same-length-3 same-length-4 returns_2)

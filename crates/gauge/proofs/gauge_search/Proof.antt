@@ -3,7 +3,7 @@ use mathlib.Core.Path.{ap, ◌∙◌}
 use native.Mathlib.Omega.{arith}
 use Rattle.cache.specs.declared.calls.Searched.{Searched}
 use Rattle.cache.proofs.SearchLaws.{search-few}
-use Rattle.gauge.specs.Searching.{searchAnswered}
+use Rattle.gauge.specs.Searching.{search_answered}
 use borrow.Author.Rules.{rules}
 use Rattle.gauge.proofs.gauge_search.Statement.{statement}
 use Rattle.gauge.proofs.gauge_search.Tie as tie
@@ -19,7 +19,7 @@ answer-of-requires c κs =
     (omega (arith, ap (λ (s : Searched). s.place) e, few.0), omega (arith, ap (λ (s : Searched). s.compared) e, few.1))
 
 returns : tie.Need-returns
-returns c = c.answer-of.ensures ∙ ap searchAnswered c.before.search-key.ensures
+returns c = c.answer-of.ensures ∙ ap search_answered c.before.search-key.ensures
 
 pub gauge-search-spec : {M : Type 1} → statement M
 gauge-search-spec = tie.close (tie.spec search-key-requires answer-of-requires returns)

@@ -2,10 +2,10 @@
 use mathlib.Core.Path.{◌≡◌, sym, ◌∙◌}
 use native.Mathlib.Omega.{arith}
 use Rattle.plan_send.specs.declared.SendPlan.{SendPlan}
-use Rattle.gauge_plan.specs.Lent.{Memory, empty, withTables, Send, send}
-use Rattle.gauge.specs.Send.{sendPlan}
+use Rattle.gauge_plan.specs.Lent.{Memory, empty, with_tables, Send, send}
+use Rattle.gauge.specs.Send.{send_plan}
 use Rattle.gauge.specs.Ours.{ours}
-use Rattle.gauge.proofs.SendLaws.{send-needs, send-refused, send-sent}
+use Rattle.gauge.proofs.SendLaws.{send-needs, send_refused, send-sent}
 use borrow.Author.Rules.{rules}
 use Rattle.gauge.proofs.gauge_send.Statement.{statement}
 use Rattle.gauge.proofs.gauge_send.Tie as tie
@@ -15,7 +15,7 @@ start c = c.before.before.before.before.before.before.before.before
 
 -- all that was lent, and any memory besides
 abbrev memory-at : tie.After-plan-send → Memory → Memory
-memory-at c o = withTables (start c).args.cache.now (start c).args.waiting.now o
+memory-at c o = with_tables (start c).args.cache.now (start c).args.waiting.now o
 
 abbrev lent_at : tie.After-plan-send → Send
 lent_at c =
@@ -23,7 +23,7 @@ lent_at c =
     send a.own.now a.major a.minor a.id a.neighbour.now a.key.now a.output.now
 
 -- the plan that was made
-planned : (c : tie.After-plan-send) {p : SendPlan} → c.plan-send.result ≡ p → (o : Memory) → sendPlan (memory-at c o) (lent_at c) ≡ p
+planned : (c : tie.After-plan-send) {p : SendPlan} → c.plan-send.result ≡ p → (o : Memory) → send_plan (memory-at c o) (lent_at c) ≡ p
 planned c e o = sym (c.plan-send.ensures o) ∙ e
 
 plan-send-requires : tie.Need-plan-send-requires
@@ -52,7 +52,7 @@ returns : tie.Need-returns
 returns c o =
     let k = c.before.before in
     let m = k.before.before in
-    send-refused (memory-at m o) (lent_at m) (planned m k.plan.given.1 o) c.answer-of.ensures
+    send_refused (memory-at m o) (lent_at m) (planned m k.plan.given.1 o) c.answer-of.ensures
 
 same-length-2 : tie.Need-same-length-2
 same-length-2 c = search rules
@@ -60,8 +60,8 @@ same-length-2 c = search rules
 same-length-3 : tie.Need-same-length-3
 same-length-3 c = search rules
 
-returns-2 : tie.Need-returns-2
-returns-2 c o =
+returns_2 : tie.Need-returns-2
+returns_2 c o =
     let d = c.before.before.before.before in
     let w = d.commit-send.ensures in
     let k = d.before.before.before.before in
@@ -81,4 +81,4 @@ gauge-send-spec =
     returns
     same-length-2
     same-length-3
-    returns-2)
+    returns_2)

@@ -2,10 +2,10 @@
 use mathlib.Core.Path.{ap, ◌∙◌}
 use native.Mathlib.Omega.{arith}
 use Rattle.waiting_form.specs.Call.{Ticked}
-use Rattle.gauge_plan.specs.Lent.{withWaiting, tick}
-use Rattle.gauge.specs.Counts.{tickAnswered}
+use Rattle.gauge_plan.specs.Lent.{with_waiting, tick}
+use Rattle.gauge.specs.Counts.{tick_answered}
 use Rattle.gauge.specs.Ours.{ours}
-use Rattle.gauge.proofs.CountLaws.{tick-called, tick-few}
+use Rattle.gauge.proofs.CountLaws.{tick-called, tick_few}
 use borrow.Author.Rules.{rules}
 use Rattle.gauge.proofs.gauge_tick.Statement.{statement}
 use Rattle.gauge.proofs.gauge_tick.Tie as tie
@@ -17,7 +17,7 @@ answer-of-requires : tie.Need-answer-of-requires
 answer-of-requires c κs =
     let t = c.before.before.before.before in
     let a = t.before.before.before.before.before.before.args in
-    (omega (arith, ap (λ (d : Ticked). d.count) t.tick.ensures, tick-few a.own.now a.waiting.now a.output.now), omega arith)
+    (omega (arith, ap (λ (d : Ticked). d.count) t.tick.ensures, tick_few a.own.now a.waiting.now a.output.now), omega arith)
 
 same_length : tie.Need-same-length
 same_length c = search rules
@@ -29,8 +29,8 @@ returns : tie.Need-returns
 returns c o =
     let t = c.before.before.before.before.before in
     let a = t.before.before.before.before.before.before.args in
-    let m = withWaiting a.waiting.now o in
-    rw c.answer-of.ensures (ap (tickAnswered m) t.tick.ensures ∙ tick-called m (tick a.own.now a.output.now))
+    let m = with_waiting a.waiting.now o in
+    rw c.answer-of.ensures (ap (tick_answered m) t.tick.ensures ∙ tick-called m (tick a.own.now a.output.now))
 
 pub gauge-tick-spec : {M : Type 1} → statement M
 gauge-tick-spec =

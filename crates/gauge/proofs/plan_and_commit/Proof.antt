@@ -4,8 +4,8 @@ use mathlib.Core.Bool.{true}
 use borrow.Author.Tests.{not-true, not-false}
 use Rattle.gauge_plan.specs.declared.Plan.{Plan}
 use Rattle.gauge_plan.specs.Lent.{Memory, memory, Receive, receive}
-use Rattle.gauge_plan.specs.Memory.{comesFit}
-use Rattle.plan_message.specs.Planned.{receivePlan}
+use Rattle.gauge_plan.specs.Memory.{comes_fit}
+use Rattle.plan_message.specs.Planned.{receive_plan}
 use Rattle.gauge.specs.Receive.{carried}
 use Rattle.gauge.specs.Ours.{ours}
 use Rattle.plan_message.proofs.PlannedLaws.{plan-hands, plan-by, plan-needs, flood-needs, revoke-needs, learn-needs, free-needs, cpa-needs, show-needs}
@@ -27,7 +27,7 @@ lent_of s =
 abbrev tested : tie.Else1 → tie.Start
 tested c = c.before.before.before.before.before.before.before.before.before.before.before
 
-handed-in : (c : tie.Else1) → comesFit (lent_of (tested c)) ≡ true
+handed-in : (c : tie.Else1) → comes_fit (lent_of (tested c)) ≡ true
 handed-in c = sym (c.before.hands-fit.ensures (lent_of (tested c))) ∙ not-false _ c.if1.false
 
 abbrev start : tie.After-plan-receive → tie.Start
@@ -40,7 +40,7 @@ abbrev lent_at : tie.After-plan-receive → Receive
 lent_at c = lent_of (start c)
 
 -- the plan that was made
-planned : (c : tie.After-plan-receive) {p : Plan} → c.plan-receive.result ≡ p → receivePlan (memory-at c) (lent_at c) ≡ p
+planned : (c : tie.After-plan-receive) {p : Plan} → c.plan-receive.result ≡ p → receive_plan (memory-at c) (lent_at c) ≡ p
 planned c e = plan-by (memory-at c) (lent_at c) (handed-in c.before.before.before.before.before) ∙ sym (c.plan-receive.ensures (memory-at c) (lent_at c)) ∙ e
 
 hands-fit-requires : tie.Need-hands-fit-requires
@@ -140,9 +140,9 @@ same-length-3 c = search rules
 same-length-4 : tie.Need-same-length-4
 same-length-4 c = search rules
 
-returns-2 : tie.Need-returns-2
+returns_2 : tie.Need-returns-2
 unfolding carried
-returns-2 c =
+returns_2 c =
     let k = c.before.before in
     let m = k.before.before in
     rw c.answer-of2.ensures (sym (call_by (memory-at m) (lent_at m) (planned m k.plan.given.1)))
@@ -298,7 +298,7 @@ plan-and-commit-spec =
     same-length-2
     same-length-3
     same-length-4
-    returns-2
+    returns_2
     same-length-5
     same-length-6
     same-length-7

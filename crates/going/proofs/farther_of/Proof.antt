@@ -7,7 +7,7 @@ use lib.ListN.{get_or}
 use Rattle.key.specs.Number.{number}
 use Rattle.key.specs.Around.{up}
 use Rattle.record.specs.Record.{key_of}
-use Rattle.table.specs.Rows.{rows, insertAt}
+use Rattle.table.specs.Rows.{rows, insert_at}
 use Rattle.going.proofs.GoingLaws.{under-farther, over-farther, lower-over, lower-under}
 use borrow.Author.Rules.{rules}
 use Rattle.going.proofs.farther_of.Statement.{statement}
@@ -20,7 +20,7 @@ abbrev own : tie.After-minus2 → ℕ
 own c = key_of (start c).args.own.now
 
 abbrev keys : tie.After-minus2 → List ℕ
-keys c = let a = (start c).args in map key_of (insertAt a.at a.«record».now (rows 100 a.used a.cache.now))
+keys c = let a = (start c).args in map key_of (insert_at a.at a.«record».now (rows 100 a.used a.cache.now))
 
 -- the steps up to the one, and down to the other
 ups : (c : tie.After-minus2) → number c.before.before.minus.result ≡ up (own c) (get_or (keys c) (start c).args.x 0)
@@ -37,8 +37,8 @@ key-at-requires c κs = search rules
 key-there-requires : tie.Need-key-there-requires
 key-there-requires c κs = search rules
 
-minus-requires : tie.Need-minus-requires
-minus-requires c κs = search rules
+minus_requires : tie.Need-minus-requires
+minus_requires c κs = search rules
 
 key-there-requires-2 : tie.Need-key-there-requires-2
 key-there-requires-2 c κs = search rules
@@ -59,8 +59,8 @@ returns c =
 is-less-requires-2 : tie.Need-is-less-requires-2
 is-less-requires-2 c κs = search rules
 
-returns-2 : tie.Need-returns-2
-returns-2 c =
+returns_2 : tie.Need-returns-2
+returns_2 c =
     let l = c.before in
     let i1 = l.before in
     let m = i1.before.before in
@@ -96,12 +96,12 @@ farther-of-spec =
     (tie.spec
     key-at-requires
     key-there-requires
-    minus-requires
+    minus_requires
     key-there-requires-2
     minus-requires-2
     is-less-requires
     returns
     is-less-requires-2
-    returns-2
+    returns_2
     returns-3
     returns-4)

@@ -27,8 +27,8 @@ mul-key-at-2 c = search rules
 key-at-requires-2 : tie.Need-key-at-requires-2
 key-at-requires-2 c κs = search rules
 
-returns-2 : tie.Need-returns-2
-returns-2 c =
+returns_2 : tie.Need-returns-2
+returns_2 c =
     let s = c.before.before.before.before.before in
     let a = s.args in
     c.key-at2.ensures ∙ there-after a.used a.at a.cache.now a.«record».now s.requires.2 a.x c.before.if2.true s.requires.3
@@ -54,6 +54,6 @@ key-there-spec =
     sub-key-at
     mul-key-at-2
     key-at-requires-2
-    returns-2
+    returns_2
     key-at-requires-3
     returns-3)

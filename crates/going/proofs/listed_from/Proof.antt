@@ -5,35 +5,35 @@ use Prim.Native.Nat.{ℕ, ◌+◌, ◌-◌, ◌≤◌}
 use native.Mathlib.Omega.{arith}
 use borrow.Author.Tests.{not-true, not-false}
 use Rattle.kept.specs.Turned.{wrapped}
-use Rattle.round.specs.Over.{passOver}
+use Rattle.round.specs.Over.{pass_over}
 use Rattle.round.proofs.OverLaws.{over-on, over-here, over-end}
-use Rattle.listed.specs.Runs.{inRuns}
+use Rattle.listed.specs.Runs.{in_runs}
 use Rattle.going.proofs.listed_from.Statement.{statement}
 use Rattle.going.proofs.listed_from.Tie as tie
 
 abbrev invariant-loop : tie.invariant-loop
 invariant-loop total end most runs i₀ i =
     (i ≤ most)
-    × (passOver (λ (j : ℕ). inRuns total (wrapped total (end + j)) runs) 0 most
-    ≡ passOver (λ (j : ℕ). inRuns total (wrapped total (end + j)) runs) i (most - i))
+    × (pass_over (λ (j : ℕ). in_runs total (wrapped total (end + j)) runs) 0 most
+    ≡ pass_over (λ (j : ℕ). in_runs total (wrapped total (end + j)) runs) i (most - i))
 
 abbrev decreases-loop : tie.decreases-loop
 decreases-loop total end most runs i₀ i = most - i
 
 -- is the place so many steps on in a list?
 abbrev skips : tie.Start invariant-loop decreases-loop → ℕ → Bool
-skips s j = let a = s.args in inRuns a.total (wrapped a.total (a.end + j)) a.runs
+skips s j = let a = s.args in in_runs a.total (wrapped a.total (a.end + j)) a.runs
 
 looked : (c : tie.After-is-listed invariant-loop decreases-loop)
     → (let head = c.before.before.before in skips head.before head.loop.i ≡ c.is-listed.result)
 looked c =
     let a = c.before.before.before.before.args in
-    ap (λ (x : ℕ). inRuns a.total x a.runs) (sym c.before.wrap.ensures.0) ∙ sym c.is-listed.ensures
+    ap (λ (x : ℕ). in_runs a.total x a.runs) (sym c.before.wrap.ensures.0) ∙ sym c.is-listed.ensures
 
 loop-holds : tie.Need-loop-init invariant-loop decreases-loop
 loop-holds c =
     let e : c.args.most ≡ c.args.most - 0 = omega arith in
-    (omega arith, ap (passOver (skips c) 0) e)
+    (omega arith, ap (pass_over (skips c) 0) e)
 
 add-wrap : tie.Need-overflow-add-wrap invariant-loop decreases-loop
 add-wrap c = omega (arith, c.before.before.requires)
@@ -70,8 +70,8 @@ loop-again c =
           (looked e ∙ not-false e.is-listed.result c.if1.false),
     )
 
-returns-2 : tie.Need-returns-2 invariant-loop decreases-loop
-returns-2 c =
+returns_2 : tie.Need-returns-2 invariant-loop decreases-loop
+returns_2 c =
     let head = c.before in
     let s = head.before in
     sym (head.loop.invariant.1 ∙ over-end (skips s) s.args.most head.loop.i c.loop-test.false)
@@ -90,4 +90,4 @@ listed-from-spec =
     add-i
     loop-less
     loop-again
-    returns-2)
+    returns_2)

@@ -8,35 +8,35 @@ use Rattle.octet.specs.Number.{Bytes}
 use Rattle.key.specs.Around.{ring}
 use Rattle.key.proofs.KeyLaws.{key-lt}
 use Rattle.record.specs.Record.{key_of}
-use Rattle.table.specs.Rows.{rows, insertAt}
+use Rattle.table.specs.Rows.{rows, insert_at}
 use Rattle.table.proofs.RowLaws.{rows-length}
 use Rattle.kept.specs.Keys.{◌∈◌}
-use Rattle.kept.specs.Plain.{countBelow}
+use Rattle.kept.specs.Plain.{count_below}
 use Rattle.kept.specs.Turned.{wrapped}
-use Rattle.search.proofs.SeekLaws.{keys-many}
-use Rattle.sides.proofs.SideLaws.{keys-small}
+use Rattle.search.proofs.SeekLaws.{keys_many}
+use Rattle.sides.proofs.SideLaws.{keys_small}
 use Rattle.listed.specs.declared.Runs.{Runs}
-use Rattle.own.specs.Own.{ownKeys}
-use Rattle.listed.specs.Runs.{runsOf, Fits}
-use Rattle.listed.proofs.ListedLaws.{runs-insert, runs_fit, first-is, own_in}
-use Rattle.going.specs.Going.{fartherOf, Goes}
-use Rattle.going.proofs.GoingLaws.{Known, first_of, end_of, upOf, downOf, underOf, overOf, insert-length, every-insert, insert-every}
-use Rattle.going.proofs.GoingLaws.{up-most, up-less, none_over, none-under, farther-goes}
+use Rattle.own.specs.Own.{own_keys}
+use Rattle.listed.specs.Runs.{runs_of, Fits}
+use Rattle.listed.proofs.ListedLaws.{runs_insert, runs_fit, first_is, own_in}
+use Rattle.going.specs.Going.{farther_of, Goes}
+use Rattle.going.proofs.GoingLaws.{Known, first_of, end_of, up_of, down_of, under_of, over_of, insert_length, every_insert, insert_every}
+use Rattle.going.proofs.GoingLaws.{up-most, up-less, none_over, none_under, farther-goes}
 use borrow.Author.Rules.{rules}
 use Rattle.going.proofs.who_goes.Statement.{statement}
 use Rattle.going.proofs.who_goes.Tie as tie
 
 abbrev owns : tie.Start → List ℕ
-owns s = ownKeys s.args.own.now
+owns s = own_keys s.args.own.now
 
 abbrev more : tie.Start → List ℕ
-more s = let a = s.args in map key_of (insertAt a.at a.«record».now (rows 100 a.used a.cache.now))
+more s = let a = s.args in map key_of (insert_at a.at a.«record».now (rows 100 a.used a.cache.now))
 
 many : (s : tie.Start) → s.args.used + 1 ≡ length (more s)
 many s =
     let a = s.args in
-    let l = length-map (insertAt a.at a.«record».now (rows 100 a.used a.cache.now)) key_of in
-    omega (arith, l, insert-length a.at a.«record».now (rows 100 a.used a.cache.now), rows-length 100 a.used a.cache.now)
+    let l = length-map (insert_at a.at a.«record».now (rows 100 a.used a.cache.now)) key_of in
+    omega (arith, l, insert_length a.at a.«record».now (rows 100 a.used a.cache.now), rows-length 100 a.used a.cache.now)
 
 some : (s : tie.Start) → 0 < length s.args.own.now / 100
 some s = omega (arith, s.requires.0)
@@ -48,35 +48,35 @@ known : (c : tie.After-runs-of) → Known (owns (start c)) (more (start c))
 known c =
     let s = start c in
     let a = s.args in
-    let n = keys-many (length a.own.now / 100) a.own.now in
-    let own-bytes : Bytes a.own.now = λ i. omega (arith, c.before.before.before.shared-slice-known.given i) in
+    let n = keys_many (length a.own.now / 100) a.own.now in
+    let own_bytes : Bytes a.own.now = λ i. omega (arith, c.before.before.before.shared-slice-known.given i) in
     let bytes : Bytes a.cache.now = λ i. omega (arith, c.before.before.shared-slice-known2.given i) in
     let new-bytes : Bytes a.«record».now = λ i. omega (arith, c.before.shared-slice-known3.given i) in
     record {
       some = omega (arith, some s);
       few = omega (arith, s.pre.0);
       ours = own_in a.own.now 0 (some s);
-      keyed = keys-small (length a.own.now / 100) a.own.now own-bytes (omega (arith, s.pre.0));
+      keyed = keys_small (length a.own.now / 100) a.own.now own_bytes (omega (arith, s.pre.0));
       rises = s.pre.1.1.1.0;
-      small = every-insert (λ (k : ℕ). k < ring) a.at a.«record».now (rows 100 a.used a.cache.now)
-          (key-lt 0 a.«record».now new-bytes s.pre.1.0.4) (keys-small a.used a.cache.now bytes s.pre.1.0.0);
+      small = every_insert (λ (k : ℕ). k < ring) a.at a.«record».now (rows 100 a.used a.cache.now)
+          (key-lt 0 a.«record».now new-bytes s.pre.1.0.4) (keys_small a.used a.cache.now bytes s.pre.1.0.0);
       others = s.pre.1.1.1.1;
       enough = omega (arith, s.pre.0, s.pre.1.0, many s);
     }
 
-runs : (c : tie.After-runs-of) → c.runs_of.result ≡ runsOf (owns (start c)) (more (start c))
+runs : (c : tie.After-runs-of) → c.runs_of.result ≡ runs_of (owns (start c)) (more (start c))
 runs c =
     let a = (start c).args in
-    c.runs_of.ensures ∙ runs-insert (owns (start c)) a.at a.«record».now (rows 100 a.used a.cache.now)
+    c.runs_of.ensures ∙ runs_insert (owns (start c)) a.at a.«record».now (rows 100 a.used a.cache.now)
 
 fit : (c : tie.After-runs-of) → Fits ((start c).args.used + 1) c.runs_of.result
 fit c =
     let s = start c in
     subst (Fits (s.args.used + 1)) (sym (runs c))
-    (subst (λ (n : ℕ). Fits n (runsOf (owns s) (more s))) (sym (many s)) (runs_fit (owns s) (more s)))
+    (subst (λ (n : ℕ). Fits n (runs_of (owns s) (more s))) (sym (many s)) (runs_fit (owns s) (more s)))
 
 -- how many are below the first of our keys
-below-is : (c : tie.After-runs-of) → c.runs_of.result.a.below ≡ countBelow (first_of (owns (start c))) (more (start c))
+below-is : (c : tie.After-runs-of) → c.runs_of.result.a.below ≡ count_below (first_of (owns (start c))) (more (start c))
 below-is c = ap (λ (r : Runs). r.a.below) (runs c)
 
 abbrev at-runs : tie.After-listed-before → tie.After-runs-of
@@ -84,22 +84,22 @@ at-runs c = c.before.before.before
 
 -- how many are passed over
 ups : (c : tie.After-listed-before) → (let s = start (at-runs c) in
-    c.before.listed-from.result ≡ upOf (length (more s)) (runsOf (owns s) (more s)))
+    c.before.listed-from.result ≡ up_of (length (more s)) (runs_of (owns s) (more s)))
 ups c =
     let r = at-runs c in
-    let e : c.before.listed-from.result ≡ upOf ((start r).args.used + 1) r.runs_of.result = c.before.listed-from.ensures in
-    e ∙ ap₂ upOf (many (start r)) (runs r)
+    let e : c.before.listed-from.result ≡ up_of ((start r).args.used + 1) r.runs_of.result = c.before.listed-from.ensures in
+    e ∙ ap₂ up_of (many (start r)) (runs r)
 
 downs : (c : tie.After-listed-before) → (let s = start (at-runs c) in
-    c.listed-before.result ≡ downOf (length (more s)) (runsOf (owns s) (more s)))
+    c.listed-before.result ≡ down_of (length (more s)) (runs_of (owns s) (more s)))
 downs c =
     let r = at-runs c in
-    let e : c.listed-before.result ≡ downOf ((start r).args.used + 1) r.runs_of.result = c.listed-before.ensures in
-    e ∙ ap₂ downOf (many (start r)) (runs r)
+    let e : c.listed-before.result ≡ down_of ((start r).args.used + 1) r.runs_of.result = c.listed-before.ensures in
+    e ∙ ap₂ down_of (many (start r)) (runs r)
 
 -- what is told of the first of our keys is told of the own record's
 of-own : (s : tie.Start) (i : ℕ) → Goes (first_of (owns s)) (owns s) (more s) i → Goes (key_of s.args.own.now) (owns s) (more s) i
-of-own s i g = subst (λ (k : ℕ). Goes k (owns s) (more s) i) (first-is s.args.own.now (some s)) g
+of-own s i g = subst (λ (k : ℕ). Goes k (owns s) (more s) i) (first_is s.args.own.now (some s)) g
 
 add_total : tie.Need-overflow-add-total
 add_total c = search rules
@@ -110,7 +110,7 @@ runs-of-requires c κs =
     let a = s.args in
     let p = s.requires in (
       (p.0.0, p.0.1, p.1.0.4, p.1.0.0, p.1.0.1),
-      (p.1.1.0, insert-every (λ (k : ℕ). ¬ (k ∈ owns s)) a.at a.«record».now (rows 100 a.used a.cache.now) p.1.1.1.1),
+      (p.1.1.0, insert_every (λ (k : ℕ). ¬ (k ∈ owns s)) a.at a.«record».now (rows 100 a.used a.cache.now) p.1.1.1.1),
     )
 
 sub-above : tie.Need-overflow-sub-above
@@ -162,9 +162,9 @@ returns c =
     let s = start r in
     let total : ℕ = s.args.used + 1 in
     let e = c.wrap.ensures.0 ∙ ap (λ (u : ℕ). wrapped total (end_of total r.runs_of.result + u)) l.before.listed-from.ensures
-    ∙ ap₂ underOf (many s) (runs r) in
+    ∙ ap₂ under_of (many s) (runs r) in
     subst (Goes (key_of s.args.own.now) (owns s) (more s)) (sym e)
-    (of-own s (underOf (length (more s)) (runsOf (owns s) (more s)))
+    (of-own s (under_of (length (more s)) (runs_of (owns s) (more s)))
     (none_over (owns s) (more s) (known r) (omega (arith, i1.if1.true, many s, below-is r, downs l))))
 
 add-wrap-2 : tie.Need-overflow-add-wrap-2
@@ -181,25 +181,25 @@ wrap-requires-2 c κs =
 
 -- the place on the way back
 over-is : (c : tie.After-wrap2) → (let s = start (at-runs c.before.before) in
-    c.wrap2.result ≡ overOf (length (more s)) (runsOf (owns s) (more s)))
+    c.wrap2.result ≡ over_of (length (more s)) (runs_of (owns s) (more s)))
 over-is c =
     let l = c.before.before in
     let r = at-runs l in
     let s = start r in
     c.wrap2.ensures.0
     ∙ ap (λ (d : ℕ). wrapped (s.args.used + 1) (end_of (s.args.used + 1) r.runs_of.result - (d + 1))) l.listed-before.ensures
-    ∙ ap₂ overOf (many s) (runs r)
+    ∙ ap₂ over_of (many s) (runs r)
 
-returns-2 : tie.Need-returns-2
-returns-2 c =
+returns_2 : tie.Need-returns-2
+returns_2 c =
     let w = c.before in
     let i1 = w.before in
     let l = i1.before in
     let r = at-runs l in
     let s = start r in
     subst (Goes (key_of s.args.own.now) (owns s) (more s)) (sym (over-is w))
-    (of-own s (overOf (length (more s)) (runsOf (owns s) (more s)))
-    (none-under (owns s) (more s) (known r) (omega (arith, i1.if1.false, many s, below-is r, downs l))
+    (of-own s (over_of (length (more s)) (runs_of (owns s) (more s)))
+    (none_under (owns s) (more s) (known r) (omega (arith, i1.if1.false, many s, below-is r, downs l))
     (omega (arith, c.if2.true, below-is r, ups l))))
 
 add-wrap-3 : tie.Need-overflow-add-wrap-3
@@ -227,15 +227,15 @@ returns-3 c =
     let r = at-runs l in
     let s = start r in
     let total : ℕ = s.args.used + 1 in
-    let x : ℕ = overOf (length (more s)) (runsOf (owns s) (more s)) in
-    let y : ℕ = underOf (length (more s)) (runsOf (owns s) (more s)) in
+    let x : ℕ = over_of (length (more s)) (runs_of (owns s) (more s)) in
+    let y : ℕ = under_of (length (more s)) (runs_of (owns s) (more s)) in
     let under = w3.wrap3.ensures.0 ∙ ap (λ (u : ℕ). wrapped total (end_of total r.runs_of.result + u)) l.before.listed-from.ensures
-    ∙ ap₂ underOf (many s) (runs r) in
-    let e = c.farther-of.ensures ∙ ap₂ (fartherOf (key_of s.args.own.now) (more s)) (over-is w) under
-    ∙ ap (λ (k : ℕ). fartherOf k (more s) x y)
-    (sym (first-is s.args.own.now (some s))) in
+    ∙ ap₂ under_of (many s) (runs r) in
+    let e = c.farther-of.ensures ∙ ap₂ (farther_of (key_of s.args.own.now) (more s)) (over-is w) under
+    ∙ ap (λ (k : ℕ). farther_of k (more s) x y)
+    (sym (first_is s.args.own.now (some s))) in
     subst (Goes (key_of s.args.own.now) (owns s) (more s)) (sym e)
-    (of-own s (fartherOf (first_of (owns s)) (more s) x y)
+    (of-own s (farther_of (first_of (owns s)) (more s) x y)
     (farther-goes (owns s) (more s) (known r) (omega (arith, i1.if1.false, many s, below-is r, downs l))
     (omega (arith, i2.if2.false, below-is r, ups l))))
 
@@ -255,7 +255,7 @@ who-goes-spec =
     add-wrap-2
     sub-wrap
     wrap-requires-2
-    returns-2
+    returns_2
     add-wrap-3
     wrap-requires-3
     farther-of-requires

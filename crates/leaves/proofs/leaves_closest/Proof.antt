@@ -5,11 +5,11 @@ use Prim.Native.Nat.{ℕ, ◌+◌, ◌-◌, ◌*◌, ◌/◌, ◌≤◌, ◌<◌
 use native.Mathlib.Omega.{arith}
 use lib.ListN.{length, take, drop}
 use borrow.Author.Rules.{rules}
-use Rattle.own.specs.Own.{ownRecords}
+use Rattle.own.specs.Own.{own_records}
 use Rattle.table.proofs.RowLaws.{rows-length}
 use Rattle.neighbours.specs.declared.nearest.Nearest.{Nearest}
-use Rattle.neighbours.specs.Calls.{Shown, shownBy, Inside, closestCall}
-use Rattle.leaves.specs.Leaves.{wordOr0}
+use Rattle.neighbours.specs.Calls.{Shown, shown_by, Inside, closest_call}
+use Rattle.leaves.specs.Leaves.{word_or0}
 use Rattle.leaves.proofs.leaves_closest.Statement.{statement}
 use Rattle.leaves.proofs.leaves_closest.Tie as tie
 
@@ -18,14 +18,14 @@ start c = c.before.before.before.before.before
 
 -- the bytes that an answer shows
 shows : (c : tie.After-closest-record) (n : Nearest) → c.closest-record.result.nearest ≡ n
-    → (shownBy (start c).args.own.now (start c).args.cache.now n).bytes
-    ≡ (closestCall (start c).args.own.now (start c).args.cache.now [] (start c).args.target.now).bytes
+    → (shown_by (start c).args.own.now (start c).args.cache.now n).bytes
+    ≡ (closest_call (start c).args.own.now (start c).args.cache.now [] (start c).args.target.now).bytes
 shows c n e =
     let a = (start c).args in
-    ap (λ (h : Shown). h.bytes) (ap (shownBy a.own.now a.cache.now) (sym e) ∙ c.closest-record.ensures.0)
+    ap (λ (h : Shown). h.bytes) (ap (shown_by a.own.now a.cache.now) (sym e) ∙ c.closest-record.ensures.0)
 
-no_word : wordOr0 24 [] ≡ 0
-unfolding wordOr0
+no_word : word_or0 24 [] ≡ 0
+unfolding word_or0
 no_word = refl
 
 sub-closest-record : tie.Need-overflow-sub-closest-record
@@ -55,7 +55,7 @@ ours : (c : tie.After-known-told)
 ours c =
     let r = c.before.before.before in
     let own = (start r).args.own.now in
-    let w : c.before.nearest.given.0.0 < length (ownRecords own) =
+    let w : c.before.nearest.given.0.0 < length (own_records own) =
     subst (Inside own (start r).args.cache.now) c.before.nearest.given.1 r.closest-record.ensures.1.0 in
     omega (arith, w, rows-length 100 (length own / 100) own)
 
@@ -102,27 +102,27 @@ leaves-u64-requires-2 : tie.Need-leaves-u64-requires-2
 leaves-u64-requires-2 c κs = search rules
 
 returns : tie.Need-returns
-returns c = sym no_word ∙ ap (wordOr0 24) (shows c.before.before _ c.enum_told.given.1)
+returns c = sym no_word ∙ ap (word_or0 24) (shows c.before.before _ c.enum_told.given.1)
 
 -- 100 bytes from a place on
-hundred : (i : ℕ) (s : List ℕ) → wordOr0 24 (take (100 * i + 100 - 100 * i) (drop (100 * i) s)) ≡ wordOr0 24 (take 100 (drop (100 * i) s))
+hundred : (i : ℕ) (s : List ℕ) → word_or0 24 (take (100 * i + 100 - 100 * i) (drop (100 * i) s)) ≡ word_or0 24 (take 100 (drop (100 * i) s))
 hundred i s =
     let n : 100 * i + 100 - 100 * i ≡ 100 = omega arith in
-    ap (λ (k : ℕ). wordOr0 24 (take k (drop (100 * i) s))) n
+    ap (λ (k : ℕ). word_or0 24 (take k (drop (100 * i) s))) n
 
-returns-2 : tie.Need-returns-2
-returns-2 c =
+returns_2 : tie.Need-returns-2
+returns_2 c =
     let place = c.before.before.before in
     let found = place.before.before in
     c.leaves-u64.ensures ∙ hundred place.nearest.given.0.0 (start found).args.own.now
-    ∙ ap (wordOr0 24) (shows found _ place.nearest.given.1)
+    ∙ ap (word_or0 24) (shows found _ place.nearest.given.1)
 
 returns-3 : tie.Need-returns-3
 returns-3 c =
     let place = c.before.before.before in
     let found = place.before.before in
     c.leaves-u642.ensures ∙ hundred place.nearest2.given.0.0 (start found).args.cache.now
-    ∙ ap (wordOr0 24) (shows found _ place.nearest2.given.1)
+    ∙ ap (word_or0 24) (shows found _ place.nearest2.given.1)
 
 pub leaves-closest-spec : {M : Type 1} → statement M
 leaves-closest-spec =
@@ -148,5 +148,5 @@ leaves-closest-spec =
     part-leaves-u64-end-2
     leaves-u64-requires-2
     returns
-    returns-2
+    returns_2
     returns-3)

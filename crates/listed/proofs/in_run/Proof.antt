@@ -38,8 +38,8 @@ sub-result c = search rules
 sub-result-2 : tie.Need-overflow-sub-result-2
 sub-result-2 c = search rules
 
-returns-2 : tie.Need-returns-2
-returns-2 c =
+returns_2 : tie.Need-returns-2
+returns_2 c =
     let w = c.before.before in
     let a = w.before.before.args in
     sym (ap (five a.total a.run.below) (sym w.wrap.ensures.0)
@@ -48,4 +48,4 @@ returns-2 c =
 pub in-run-spec : {M : Type 1} → statement M
 in-run-spec =
     tie.close
-    (tie.spec sub-wrap add-wrap wrap-requires sub-if1 returns sub-result sub-result-2 returns-2)
+    (tie.spec sub-wrap add-wrap wrap-requires sub-if1 returns sub-result sub-result-2 returns_2)

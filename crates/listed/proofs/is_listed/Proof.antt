@@ -13,8 +13,8 @@ returns c =
     let a = r1.before.before.args in
     in-a a.total a.x a.runs (sym r1.in-run.ensures ∙ c.if1.true)
 
-returns-2 : tie.Need-returns-2
-returns-2 c =
+returns_2 : tie.Need-returns-2
+returns_2 c =
     let i1 = c.before.before in
     let r1 = i1.before in
     let a = r1.before.before.args in
@@ -97,7 +97,7 @@ is-listed-spec =
     (tie.spec
     in-run-requires
     returns
-    returns-2
+    returns_2
     in-run-requires-2
     returns-3
     returns-4

@@ -10,8 +10,8 @@ add-result c = search rules
 returns : tie.Need-returns
 returns c = rw c.if1.true (omega arith)
 
-returns-2 : tie.Need-returns-2
-returns-2 c = search rules
+returns_2 : tie.Need-returns-2
+returns_2 c = search rules
 
 pub one-more-spec : {M : Type 1} → statement M
-one-more-spec = tie.close (tie.spec add-result returns returns-2)
+one-more-spec = tie.close (tie.spec add-result returns returns_2)

@@ -7,9 +7,9 @@ use lib.ListN.{length, take, drop, get_or, length-take, length-drop}
 use Rattle.record.specs.Record.{key_of}
 use Rattle.table.specs.Rows.{rows}
 use Rattle.kept.specs.Keys.{Every}
-use Rattle.own.specs.Own.{ownKeys}
+use Rattle.own.specs.Own.{own_keys}
 use Rattle.listed.specs.Runs.{run_of}
-use Rattle.listed.proofs.ListedLaws.{own_key, no_key, own_in, others-one}
+use Rattle.listed.proofs.ListedLaws.{own_key, no_key, own_in, others_one}
 use borrow.Author.Rules.{rules}
 use Rattle.listed.proofs.run_at.Statement.{statement}
 use Rattle.listed.proofs.run_at.Tie as tie
@@ -53,7 +53,7 @@ run-of-requires c κs =
       (
         p.1.0,
         subst (λ (n : ℕ). Every (λ (k : ℕ). ¬ (k ≡ n)) (held s)) (sym (own_key o i h))
-            (others-one (get_or (ownKeys o) i (get_or (ownKeys o) 0 0)) (ownKeys o) (held s) (own_in o i h) p.1.1.0),
+            (others_one (get_or (own_keys o) i (get_or (own_keys o) 0 0)) (own_keys o) (held s) (own_in o i h) p.1.1.0),
       ),
     )
 
@@ -64,8 +64,8 @@ returns c =
     let o = s.args.own.now in
     c.run-of.ensures ∙ ap (λ (n : ℕ). run_of n (more s)) (own_key o s.args.i (omega (arith, s.requires.0.0, i1.if1.true)))
 
-returns-2 : tie.Need-returns-2
-returns-2 c =
+returns_2 : tie.Need-returns-2
+returns_2 c =
     let s = c.before.before.before.before in
     let o = s.args.own.now in
     s.requires.1.1.1 ∙ ap (λ (n : ℕ). run_of n (more s)) (no_key o s.args.i (omega (arith, s.requires.0.0, c.if1.false)))
@@ -81,4 +81,4 @@ run-at-spec =
     part-run-of-end
     run-of-requires
     returns
-    returns-2)
+    returns_2)

@@ -6,10 +6,10 @@ use Prim.Native.Nat.{ℕ, suc, ◌<◌}
 use native.Mathlib.Omega.{arith}
 use Rattle.record.specs.Record.{key_of}
 use Rattle.table.specs.Rows.{rows}
-use Rattle.kept.specs.Plain.{countBelow}
-use Rattle.kept.specs.Turned.{countUnder}
-use Rattle.kept.proofs.TurnLaws.{count-le, under-le}
-use Rattle.search.proofs.SeekLaws.{keys-many}
+use Rattle.kept.specs.Plain.{count_below}
+use Rattle.kept.specs.Turned.{count_under}
+use Rattle.kept.proofs.TurnLaws.{count-le, under_le}
+use Rattle.search.proofs.SeekLaws.{keys_many}
 use Rattle.listed.proofs.ListedLaws.{under_more, below_more}
 use borrow.Author.Rules.{rules}
 use Rattle.listed.proofs.run_of.Statement.{statement}
@@ -22,10 +22,10 @@ abbrev held : tie.Start → List ℕ
 held s = map key_of (rows 100 s.args.used s.args.cache.now)
 
 -- few are held
-few : (s : tie.Start) → (countUnder (own s) (held s) < 1000) × (countBelow (own s) (held s) < 1000)
+few : (s : tie.Start) → (count_under (own s) (held s) < 1000) × (count_below (own s) (held s) < 1000)
 few s =
-    let l = keys-many s.args.used s.args.cache.now in
-    (omega (arith, under-le (own s) (held s), s.pre.0.3), omega (arith, count-le (own s) (held s), s.pre.0.3))
+    let l = keys_many s.args.used s.args.cache.now in
+    (omega (arith, under_le (own s) (held s), s.pre.0.3), omega (arith, count-le (own s) (held s), s.pre.0.3))
 
 abbrev start : tie.After-count-under → tie.Start
 start c = c.before.before.before.before

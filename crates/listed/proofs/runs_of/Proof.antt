@@ -7,10 +7,10 @@ use lib.ListN.{length, get_or, length-take}
 use Rattle.record.specs.Record.{key_of}
 use Rattle.table.specs.Rows.{rows}
 use Rattle.kept.specs.Keys.{Every}
-use Rattle.search.proofs.SeekLaws.{keys-many}
-use Rattle.own.specs.Own.{ownKeys}
-use Rattle.listed.specs.Runs.{run_of, runAt}
-use Rattle.listed.proofs.ListedLaws.{own_key, own_in, others-one}
+use Rattle.search.proofs.SeekLaws.{keys_many}
+use Rattle.own.specs.Own.{own_keys}
+use Rattle.listed.specs.Runs.{run_of, run_at}
+use Rattle.listed.proofs.ListedLaws.{own_key, own_in, others_one}
 use borrow.Author.Rules.{rules}
 use Rattle.listed.proofs.runs_of.Statement.{statement}
 use Rattle.listed.proofs.runs_of.Tie as tie
@@ -27,7 +27,7 @@ start c = c.before.before.before.before.before
 some : (s : tie.Start) → 0 < length s.args.own.now / 100
 some s = omega (arith, s.requires.0)
 
-first_run : (c : tie.After-run-of) → (let s = start c in c.run-of.result ≡ runAt (ownKeys s.args.own.now) (more s) 0)
+first_run : (c : tie.After-run-of) → (let s = start c in c.run-of.result ≡ run_at (own_keys s.args.own.now) (more s) 0)
 first_run c =
     let s = start c in
     c.run-of.ensures ∙ ap (λ (n : ℕ). run_of n (more s)) (own_key s.args.own.now 0 (some s))
@@ -50,7 +50,7 @@ run-of-requires c κs =
       (
         p.1.0,
         subst (λ (n : ℕ). Every (λ (k : ℕ). ¬ (k ≡ n)) (held s)) (sym (own_key o 0 (some s)))
-            (others-one (get_or (ownKeys o) 0 (get_or (ownKeys o) 0 0)) (ownKeys o) (held s) (own_in o 0 (some s)) p.1.1),
+            (others_one (get_or (own_keys o) 0 (get_or (own_keys o) 0 0)) (own_keys o) (held s) (own_in o 0 (some s)) p.1.1),
       ),
     )
 
@@ -72,7 +72,7 @@ returns : tie.Need-returns
 returns c =
     let r = c.before.before.before in
     let s = start r in
-    let n = sym (keys-many (length s.args.own.now / 100) s.args.own.now) in
+    let n = sym (keys_many (length s.args.own.now / 100) s.args.own.now) in
     λ i. record {
       count = n i;
       a = first_run r i;

@@ -2,9 +2,9 @@
 use mathlib.Core.Path.{refl, sym, ap, ap₂, subst, ◌∙◌}
 use mathlib.Core.Bool.{Bool}
 use mathlib.Core.List.{[], ◌∷◌}
-use Rattle.wire_read.specs.Answers.{incomingOf}
+use Rattle.wire_read.specs.Answers.{incoming_of}
 use Rattle.wire_read.specs.declared.Incoming.{Incoming}
-use Rattle.look.specs.Seen.{look_of, briefed, briefOf, Small}
+use Rattle.look.specs.Seen.{look_of, briefed, brief_of, Small}
 use Rattle.look.specs.declared.Look.{Look}
 use Rattle.look.proofs.BriefLaws.{neither}
 use borrow.Author.Rules.{rules}
@@ -24,7 +24,7 @@ refused-requires : tie.Need-refused-requires
 refused-requires c κs = search rules
 
 returns : tie.Need-returns
-unfolding incomingOf
+unfolding incoming_of
 returns c =
     let start = c.before.before.before.before.before in
     absurd (neither start.args.datagram.now _ (0 ∷ 1 ∷ 2 ∷ 3 ∷ 4 ∷ 5 ∷ 7 ∷ 8 ∷ []) (1 ∷ 2 ∷ 3 ∷ 4 ∷ 5 ∷ 6 ∷ 7 ∷ 8 ∷ [])
@@ -34,10 +34,10 @@ returns c =
 refused-requires-2 : tie.Need-refused-requires-2
 refused-requires-2 c κs = search rules
 
-returns-2 : tie.Need-returns-2
-returns-2 c =
+returns_2 : tie.Need-returns-2
+returns_2 c =
     c.refused2.ensures
-    ∙ ap briefOf (sym c.before.before.message2.given.1 ∙ c.before.before.before.before.before.read-authority.ensures)
+    ∙ ap brief_of (sym c.before.before.message2.given.1 ∙ c.before.before.before.before.before.read-authority.ensures)
 
 seen-as-requires : tie.Need-seen-as-requires
 unfolding look_of
@@ -50,10 +50,10 @@ is-here-requires : tie.Need-is-here-requires
 is-here-requires c κs = search rules
 
 returns-3 : tie.Need-returns-3
-unfolding briefOf look_of
+unfolding brief_of look_of
 returns-3 c =
     ap₂ (λ (s : Look) (f : Bool). briefed s 0 f 0 0) c.before.seen_as.ensures c.is-here.ensures
-    ∙ (let read = c.before.before.before.before in ap briefOf (sym read.message.given.1 ∙ read.before.before.read-authority.ensures))
+    ∙ (let read = c.before.before.before.before in ap brief_of (sym read.message.given.1 ∙ read.before.before.read-authority.ensures))
 
 pub brief-authority-spec : {M : Type 1} → statement M
 brief-authority-spec =
@@ -65,7 +65,7 @@ brief-authority-spec =
     refused-requires
     returns
     refused-requires-2
-    returns-2
+    returns_2
     seen-as-requires
     is-here-requires
     returns-3)

@@ -1,11 +1,11 @@
 -- What is told of the message that its reader gives, or of its refusal. Assumes nothing.
 use mathlib.Core.Path.{refl, sym, ap, subst, ◌∙◌}
 use mathlib.Core.List.{[], ◌∷◌}
-use Rattle.wire_fields.specs.Kinds.{requestKinds}
-use Rattle.wire_read.specs.Answers.{incomingOf}
+use Rattle.wire_fields.specs.Kinds.{request_kinds}
+use Rattle.wire_read.specs.Answers.{incoming_of}
 use Rattle.wire_read.specs.declared.Incoming.{Incoming}
-use Rattle.look.specs.Seen.{look_of, briefOf, Small}
-use Rattle.look.proofs.BriefLaws.{else-refused, brief-by}
+use Rattle.look.specs.Seen.{look_of, brief_of, Small}
+use Rattle.look.proofs.BriefLaws.{else-refused, brief_by}
 use borrow.Author.Rules.{rules}
 use Rattle.look.proofs.brief_request.Statement.{statement}
 use Rattle.look.proofs.brief_request.Tie as tie
@@ -20,12 +20,12 @@ refused-requires : tie.Need-refused-requires
 refused-requires c κs = search rules
 
 returns : tie.Need-returns
-unfolding incomingOf
+unfolding incoming_of
 returns c =
     let start = c.before.before.before.before in
     let read = c.before.before.read-request.ensures in
     c.refused.ensures
-    ∙ ap briefOf (sym (else-refused start.args.datagram.now 3 3 (0 ∷ 1 ∷ 2 ∷ 4 ∷ 5 ∷ 6 ∷ 7 ∷ 8 ∷ []) (λ ps. refl) tt _ requestKinds read
+    ∙ ap brief_of (sym (else-refused start.args.datagram.now 3 3 (0 ∷ 1 ∷ 2 ∷ 4 ∷ 5 ∷ 6 ∷ 7 ∷ 8 ∷ []) (λ ps. refl) tt _ request_kinds read
     c.before.match.keys2) ∙ read)
 
 seen-as-requires : tie.Need-seen-as-requires
@@ -34,11 +34,11 @@ seen-as-requires c κs =
     let start = c.before.before.before.before.before in
     subst (λ (a : Incoming). Small (look_of a)) (sym c.before.before.before.read-request.ensures ∙ c.before.message.given.1) start.requires.1
 
-returns-2 : tie.Need-returns-2
-unfolding briefOf look_of
-returns-2 c =
-    brief-by c.seen_as.ensures
-    ∙ ap briefOf (sym c.before.before.message.given.1 ∙ c.before.before.before.before.read-request.ensures)
+returns_2 : tie.Need-returns-2
+unfolding brief_of look_of
+returns_2 c =
+    brief_by c.seen_as.ensures
+    ∙ ap brief_of (sym c.before.before.message.given.1 ∙ c.before.before.before.before.read-request.ensures)
 
 pub brief-request-spec : {M : Type 1} → statement M
 brief-request-spec =
@@ -49,4 +49,4 @@ brief-request-spec =
     refused-requires
     returns
     seen-as-requires
-    returns-2)
+    returns_2)

@@ -1,7 +1,7 @@
 -- `refused` meets its contract. Assumes nothing.
 use mathlib.Core.Path.{ap}
 use mathlib.Core.Bool.{false}
-use Rattle.look.specs.Seen.{briefed, look_of, briefOf}
+use Rattle.look.specs.Seen.{briefed, look_of, brief_of}
 use Rattle.look.specs.declared.Look.{Look}
 use borrow.Author.Rules.{rules}
 use Rattle.look.proofs.refused.Statement.{statement}
@@ -11,7 +11,7 @@ seen-as-requires : tie.Need-seen-as-requires
 seen-as-requires c κs = search rules
 
 returns : tie.Need-returns
-unfolding briefOf look_of
+unfolding brief_of look_of
 returns c =
     ap (λ (s : Look). briefed s 0 false 0 0) c.seen_as.ensures
 

@@ -23,8 +23,8 @@ enum_told c = search rules
 returns : tie.Need-returns
 returns c = search rules
 
-returns-2 : tie.Need-returns-2
-returns-2 c = search rules
+returns_2 : tie.Need-returns-2
+returns_2 c = search rules
 
 pub size-of-spec : {M : Type 1} → statement M
-size-of-spec = tie.close (tie.spec enum-known-p cast-result enum_told returns returns-2)
+size-of-spec = tie.close (tie.spec enum-known-p cast-result enum_told returns returns_2)

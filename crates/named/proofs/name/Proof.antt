@@ -3,17 +3,17 @@ use mathlib.Core.Path.{◌≡◌, sym, ap, subst, ◌∙◌}
 use mathlib.Core.List.{List, []}
 use Prim.Native.Nat.{ℕ}
 use borrow.Author.Rules.{rules}
-use Rattle.own.specs.Own.{ownForm, ownKeys}
+use Rattle.own.specs.Own.{own_form, own_keys}
 use Rattle.refusal.proofs.CallLaws.{no_row}
-use Rattle.cache.specs.Form.{heldIn}
-use Rattle.cache.proofs.FormLaws.{form-used}
+use Rattle.cache.specs.Form.{held_in}
+use Rattle.cache.proofs.FormLaws.{form_used}
 use Rattle.cache.proofs.LentLaws.{memory-own, memory-form, memory-passes, memory-refuses}
-use Rattle.wire_read.specs.Answers.{readIn}
+use Rattle.wire_read.specs.Answers.{read_in}
 use Rattle.named.specs.declared.Named.{Named}
 use Rattle.named.specs.declared.Named.TheVariants.{Refused}
-use Rattle.named.specs.Call.{nameCall}
-use Rattle.named.specs.Spots.{toldBy, Within}
-use Rattle.named.specs.Places.{chosenBy, name_at}
+use Rattle.named.specs.Call.{name_call}
+use Rattle.named.specs.Spots.{told_by, Within}
+use Rattle.named.specs.Places.{chosen_by, name_at}
 use Rattle.named.proofs.NamedLaws.{name-right}
 use Rattle.named.proofs.name.Statement.{statement}
 use Rattle.named.proofs.name.Tie as tie
@@ -29,14 +29,14 @@ module _ (s : tie.Start) where
   d = s.args.datagram.now
 
   abbrev done : Named
-  done = chosenBy own cache (heldIn (ownKeys own) cache) d (readIn d s.args.major)
+  done = chosen_by own cache (held_in (own_keys own) cache) d (read_in d s.args.major)
 
   -- all that is promised, by the places
   promised : {r : Named} → r ≡ name_at own cache s.args.major d
-      → (toldBy own cache r ≡ nameCall own cache s.args.major d) × (Within own cache r × (r ≡ name_at own cache s.args.major d))
+      → (told_by own cache r ≡ name_call own cache s.args.major d) × (Within own cache r × (r ≡ name_at own cache s.args.major d))
   promised e =
       let w = name-right own cache d s.args.major in
-      (ap (toldBy own cache) e ∙ w.0, (subst (Within own cache) (sym e) w.1, e))
+      (ap (told_by own cache) e ∙ w.0, (subst (Within own cache) (sym e) w.1, e))
 
 abbrev start : tie.After-memory → tie.Start
 start m = m.before.before.before.before
@@ -66,18 +66,18 @@ name-in-requires c κs =
       memory-form s.args.own.now s.args.cache.now m.memory.ensures k.found.given.1,
     )
 
-returns-2 : tie.Need-returns-2
+returns_2 : tie.Need-returns-2
 unfolding name_at
-returns-2 c =
+returns_2 c =
     let k = c.before.before in
     let m = k.before.before in
     let s = start m in
     let good = k.found.given.1 in
-    let used = form-used (ownKeys (own s)) k.found.given.0.0 (cache s) (memory-form (own s) (cache s) m.memory.ensures good) in
-    promised s (c.name_in.ensures ∙ ap (λ (n : ℕ). chosenBy (own s) (cache s) n (d s) (readIn (d s) s.args.major)) (sym used)
+    let used = form_used (own_keys (own s)) k.found.given.0.0 (cache s) (memory-form (own s) (cache s) m.memory.ensures good) in
+    promised s (c.name_in.ensures ∙ ap (λ (n : ℕ). chosen_by (own s) (cache s) n (d s) (read_in (d s) s.args.major)) (sym used)
     ∙ sym (memory-passes (own s) (cache s) m.memory.ensures good Refused [] (done s) ∙ no_row Refused (done s)))
 
 pub name-spec : {M : Type 1} → statement M
 name-spec =
     tie.close
-    (tie.spec memory-requires enum-known-found enum_told returns name-in-requires returns-2)
+    (tie.spec memory-requires enum-known-found enum_told returns name-in-requires returns_2)

@@ -10,14 +10,14 @@ use Rattle.octet.specs.Part.{part}
 use Rattle.key.specs.Number.{number}
 use Rattle.wire_read.specs.Answers as R
 use Rattle.wire_read.specs.declared.Incoming as T
-use Rattle.look.specs.Seen.{briefOf}
+use Rattle.look.specs.Seen.{brief_of}
 use Rattle.look.specs.declared.Brief.{Brief}
-use Rattle.plan_message.proofs.AnswerLaws.{known-answer}
+use Rattle.plan_message.proofs.AnswerLaws.{known_answer}
 use Rattle.plan_message.proofs.BriefLaws.{KnownLookup, known-lookup}
 use Rattle.named.specs.declared.Named.{Named}
 use Rattle.named.specs.declared.Named.TheVariants.{Refused, Chosen}
-use Rattle.named.specs.Places.{choiceFor}
-use Rattle.named.proofs.CallLaws.{RefusedBy, refused-by, OtherBy, other-by, LookupBy, lookup-by}
+use Rattle.named.specs.Places.{choice_for}
+use Rattle.named.proofs.CallLaws.{RefusedBy, refused_by, OtherBy, other_by, LookupBy, lookup-by}
 use Rattle.named.proofs.name_in.Statement.{statement}
 use Rattle.named.proofs.name_in.Tie as tie
 
@@ -29,20 +29,20 @@ module _ (m : tie.After-brief-at) where
   d = start.args.datagram.now
 
   abbrev lookup : List ℕ → ℕ → Named
-  lookup path t = Chosen (choiceFor start.args.own.now start.args.cache.now start.args.used path t)
+  lookup path t = Chosen (choice_for start.args.own.now start.args.cache.now start.args.used path t)
 
   abbrev told : Brief
   told = m.brief-at.result
 
   -- what holds of every answer and what is told of it holds here
-  by : (P : T.Incoming → Brief → Type 0) → ((a : T.Incoming) → P a (briefOf a)) → P (R.readIn d start.args.major) told
+  by : (P : T.Incoming → Brief → Type 0) → ((a : T.Incoming) → P a (brief_of a)) → P (R.read_in d start.args.major) told
   by P f =
-      let a = R.readIn d start.args.major in
+      let a = R.read_in d start.args.major in
       subst (P a) (sym m.brief-at.ensures) (f a)
 
   -- the places of a LOOKUP
   known : told.seen.kind ≡ 11 → (told.seen.target + 32 ≤ length d) × (8 ≤ told.size) × (told.path + told.size ≤ length d)
-  known e = let w = by (KnownLookup d) (known-lookup d) (known-answer d start.args.major) e in (w.0, w.1, w.2)
+  known e = let w = by (KnownLookup d) (known-lookup d) (known_answer d start.args.major) e in (w.0, w.1, w.2)
 
 -- behind the tests: it is a LOOKUP
 abbrev looked : tie.Else2 → tie.After-brief-at
@@ -54,13 +54,13 @@ brief-at-requires c κs = search rules
 returns : tie.Need-returns
 returns c =
     let m = c.before.before in
-    sym (by m (RefusedBy Refused (lookup m) (d m)) (refused-by Refused (lookup m) (d m)) c.if1.true)
+    sym (by m (RefusedBy Refused (lookup m) (d m)) (refused_by Refused (lookup m) (d m)) c.if1.true)
 
-returns-2 : tie.Need-returns-2
-returns-2 c =
+returns_2 : tie.Need-returns-2
+returns_2 c =
     let e = c.before.before in
     let m = e.before.before in
-    sym (by m (OtherBy Refused (lookup m) (d m)) (other-by Refused (lookup m) (d m)) e.if1.false c.if2.true)
+    sym (by m (OtherBy Refused (lookup m) (d m)) (other_by Refused (lookup m) (d m)) e.if1.false c.if2.true)
 
 cast-key-at : tie.Need-overflow-cast-key-at
 cast-key-at c = let e = c.before in let m = looked e in omega (arith, (known m e.if2.false).0, (start m).good)
@@ -111,7 +111,7 @@ name-in-spec =
     (tie.spec
     brief-at-requires
     returns
-    returns-2
+    returns_2
     cast-key-at
     key-at-requires
     add_start

@@ -15,10 +15,10 @@ use Rattle.key.specs.Around.{closer}
 use Rattle.record.specs.Record.{key_of}
 use Rattle.record.proofs.EntryLaws.{one_address}
 use Rattle.table.specs.Rows.{rows}
-use Rattle.cache.proofs.FormLaws.{key-of-row}
-use Rattle.neighbours.proofs.ClosestLaws.{in-form}
+use Rattle.cache.proofs.FormLaws.{key_of-row}
+use Rattle.neighbours.proofs.ClosestLaws.{in_form}
 use Rattle.neighbours.proofs.BesideLaws.{row_in}
-use Rattle.next_row.specs.Walk.{wanted, row_at, takesOver}
+use Rattle.next_row.specs.Walk.{wanted, row_at, takes_over}
 use Rattle.next_row.proofs.is_taken.Statement.{statement}
 use Rattle.next_row.proofs.is_taken.Tie as tie
 
@@ -30,7 +30,7 @@ abbrev looked : tie.Start → Bool
 looked s = let a = s.args in wanted a.path.now a.leave (number a.k) (part (100 * a.i) 100 a.s.now)
 
 abbrev over : tie.Start → Bool
-over s = let a = s.args in takesOver (number a.target) (part (100 * a.i) 100 a.s.now) (row_at a.n a.s.now a.best)
+over s = let a = s.args in takes_over (number a.target) (part (100 * a.i) 100 a.s.now) (row_at a.n a.s.now a.best)
 
 mul-start : tie.Need-overflow-mul-start
 mul-start c = search rules
@@ -40,15 +40,15 @@ is-wanted-requires c κs =
     let s = c.before.before in
     let a = s.args in
     let row = part (100 * a.i) 100 a.s.now in
-    let formed = in-form row (rows 100 a.n a.s.now) s.requires.3 (row_in a.n a.i a.s.now s.requires.2) in
+    let formed = in_form row (rows 100 a.n a.s.now) s.requires.3 (row_in a.n a.i a.s.now s.requires.2) in
     let few : get_or row 34 0 ≡ 1 = one_address row formed in
     (omega (arith, s.requires.0, s.requires.2), omega (arith, few, part_at (100 * a.i) 100 34 a.s.now (omega arith)))
 
 returns : tie.Need-returns
 returns c = let s = start c.before in sym (ap (λ (b : Bool). b && over s) (sym c.before.is-wanted.ensures ∙ not-true _ c.if1.true))
 
-returns-2 : tie.Need-returns-2
-returns-2 c =
+returns_2 : tie.Need-returns-2
+returns_2 c =
     let w = c.before.before in
     let s = start w in
     let a = s.args in
@@ -84,9 +84,9 @@ returns-3 c =
     let row = part (100 * a.i) 100 a.s.now in
     let found = part (100 * a.best) 100 a.s.now in
     let at : row_at a.n a.s.now a.best ≡ some found = rw (ne_eqb a.best a.n e.if2.false) refl in
-    let some_one : over s ≡ closer t (key_of row) (key_of found) = ap (takesOver t row) at in
-    let near = ap₂ (closer t) (key-of-row (100 * a.i) a.s.now ∙ sym keys.key-at2.ensures)
-    (key-of-row (100 * a.best) a.s.now ∙ sym keys.before.key-at.ensures) in
+    let some_one : over s ≡ closer t (key_of row) (key_of found) = ap (takes_over t row) at in
+    let near = ap₂ (closer t) (key_of-row (100 * a.i) a.s.now ∙ sym keys.key-at2.ensures)
+    (key_of-row (100 * a.best) a.s.now ∙ sym keys.before.key-at.ensures) in
     let says : c.is-closer.result ≡ closer t (number keys.key-at2.result) (number keys.before.key-at.result) = c.is-closer.ensures in
     sym (ap₂ ◌&&◌ (sym w.is-wanted.ensures ∙ not-false _ e.before.if1.false) (some_one ∙ near ∙ sym says))
 
@@ -97,7 +97,7 @@ is-taken-spec =
     mul-start
     is-wanted-requires
     returns
-    returns-2
+    returns_2
     mul-key-at
     key-at-requires
     key-at-requires-2

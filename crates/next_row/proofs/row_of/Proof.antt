@@ -5,7 +5,7 @@ use mathlib.Core.List.{List}
 use Prim.Native.Nat.{ℕ, ◌-◌, ◌*◌, ◌≤◌, ◌<◌}
 use native.Mathlib.Omega.{arith}
 use Rattle.key.specs.Number.{number}
-use Rattle.next_row.specs.Walk.{wanted, row_at, placeAmong}
+use Rattle.next_row.specs.Walk.{wanted, row_at, place_among}
 use Rattle.next_row.proofs.WalkLaws.{placeAt, place-starts, place-takes, place-leaves, place-ends}
 use Rattle.next_row.proofs.row_of.Statement.{statement}
 use Rattle.next_row.proofs.row_of.Tie as tie
@@ -14,7 +14,7 @@ abbrev invariant-loop : tie.invariant-loop
 invariant-loop s n path target leave k best₀ i₀ best i =
     (best ≤ n)
     × (i ≤ n)
-    × (placeAmong (number target) (wanted path leave (number k)) n s
+    × (place_among (number target) (wanted path leave (number k)) n s
     ≡ placeAt (number target) (wanted path leave (number k)) n s best (row_at n s best) i)
 
 abbrev decreases-loop : tie.decreases-loop

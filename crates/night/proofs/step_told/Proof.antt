@@ -5,9 +5,9 @@ use native.Mathlib.Omega.{arith}
 use lib.ListN.{length}
 use Rattle.refusal.specs.Table.{first_of}
 use Rattle.trace.specs.Fault.{faults}
-use Rattle.night.specs.Step.{nightIn, stateLen}
+use Rattle.night.specs.Step.{night_in, state_len}
 use Rattle.trace.proofs.FaultLaws.{good-record}
-use Rattle.night.proofs.CallLaws.{opening-unfit, opening-fits, opening-back}
+use Rattle.night.proofs.CallLaws.{opening_unfit, opening-fits, opening-back}
 use Rattle.night.proofs.ToldLaws.{zeros-enough, refuses-state, refuses-output, refuses-record, body-fits, opening-length, opens, makes}
 use borrow.Author.Rules.{rules}
 use Rattle.night.proofs.step_told.Statement.{statement}
@@ -17,13 +17,13 @@ use Rattle.night.proofs.step_told.Tie as tie
 abbrev lent : tie.Else3 → tie.Start
 lent c = c.before.before.before.before.before.before.before.before.before.before.before
 
-fit : (c : tie.Else3) → length (lent c).args.state.now ≡ stateLen
+fit : (c : tie.Else3) → length (lent c).args.state.now ≡ state_len
 fit c = c.before.before.before.if1.false
 
 wide : (c : tie.Else3) → length (lent c).args.output.now ≡ 2464
 wide c = c.before.before.if2.false
 
-fits-so : (c : tie.Else3) → length (nightIn (lent c).args.state.now).opening ≡ 102
+fits-so : (c : tie.Else3) → length (night_in (lent c).args.state.now).opening ≡ 102
 fits-so c = opening-fits (lent c).args.state.now (fit c)
 
 clean : (c : tie.Else3) → first_of (faults (lent c).args.at (lent c).args.piece.now) ≡ 0
@@ -45,8 +45,8 @@ returns : tie.Need-returns
 returns c =
     let clear = c.before.before.before.before in
     let a = clear.before.before.before.before.before.args in
-    refuses-state a.output.now _ clear.clear.ensures a.at (nightIn a.state.now) a.piece.now _
-    c.number-alone.ensures (opening-unfit a.state.now c.before.if1.true)
+    refuses-state a.output.now _ clear.clear.ensures a.at (night_in a.state.now) a.piece.now _
+    c.number-alone.ensures (opening_unfit a.state.now c.before.if1.true)
 
 number-alone-requires-2 : tie.Need-number-alone-requires-2
 number-alone-requires-2 c κs = search rules
@@ -54,11 +54,11 @@ number-alone-requires-2 c κs = search rules
 same-length-2 : tie.Need-same-length-2
 same-length-2 c = search rules
 
-returns-2 : tie.Need-returns-2
-returns-2 c =
+returns_2 : tie.Need-returns-2
+returns_2 c =
     let clear = c.before.before.before.before.before in
     let a = clear.before.before.before.before.before.args in
-    refuses-output a.output.now _ clear.clear.ensures a.at (nightIn a.state.now) a.piece.now _
+    refuses-output a.output.now _ clear.clear.ensures a.at (night_in a.state.now) a.piece.now _
     (opening-fits a.state.now c.before.before.if1.false) c.number-alone2.ensures c.before.if2.true
 
 fault-of-requires : tie.Need-fault-of-requires
@@ -74,7 +74,7 @@ returns-3 : tie.Need-returns-3
 returns-3 c =
     let clear = c.before.before.before.before.before.before.before in
     let a = clear.before.before.before.before.before.args in
-    refuses-record a.output.now _ clear.clear.ensures a.at (nightIn a.state.now) a.piece.now _
+    refuses-record a.output.now _ clear.clear.ensures a.at (night_in a.state.now) a.piece.now _
     (opening-fits a.state.now c.before.before.before.before.if1.false) c.before.before.before.if2.false _ c.number-alone3.ensures
     c.before.before.fault-of.ensures c.before.if3.true
 
@@ -113,11 +113,11 @@ returns-4 c =
     let i = then4.before.before in
     let clear = i.before.before.before.before.before.before in
     let a = (lent i).args in
-    let n = nightIn a.state.now in
+    let n = night_in a.state.now in
     let known = then4.before.read-u16-le.ensures in
     opens a.output.now _ clear.clear.ensures a.at n a.piece.now _ (fits-so i) (wide i) (clean i) _ known
     c.number-alone4.ensures then4.if4.true _
-    (ap nightIn c.before.before.before.copy-to.ensures
+    (ap night_in c.before.before.before.copy-to.ensures
     ∙ opening-back a.state.now (fit i) _ (opening-length a.at a.piece.now (clean i) _ known then4.if4.true))
 
 sub-make : tie.Need-overflow-sub-make
@@ -149,7 +149,7 @@ returns-5 c =
     let else4 = make.before.before.before.before in
     let i = else4.before.before in
     let a = (lent i).args in
-    makes a.at (nightIn a.state.now) a.piece.now (length a.output.now) (fits-so i) (wide i) (clean i) _
+    makes a.at (night_in a.state.now) a.piece.now (length a.output.now) (fits-so i) (wide i) (clean i) _
     else4.before.read-u16-le.ensures else4.if4.false _ make.make.ensures
 
 pub step-told-spec : {M : Type 1} → statement M
@@ -162,7 +162,7 @@ step-told-spec =
     returns
     number-alone-requires-2
     same-length-2
-    returns-2
+    returns_2
     fault-of-requires
     number-alone-requires-3
     same-length-3

@@ -9,8 +9,8 @@ use lib.ListN.{length, get_or, drop}
 use borrow.Author.Rules.{rules}
 use Rattle.octet.specs.Part.{part, same}
 use Rattle.octet.proofs.PartLaws.{part_at}
-use Rattle.path.specs.Path.{endpointAddress, on_path}
-use Rattle.path.proofs.OnPathLaws.{leftFrom, addressesFrom, address-lies, endpoint-lies, from_start, none_left, other-port, same-port, address-found, address-passed, addresses-end}
+use Rattle.path.specs.Path.{endpoint_address, on_path}
+use Rattle.path.proofs.OnPathLaws.{leftFrom, addressesFrom, address_lies, endpoint_lies, from_start, none_left, other-port, same-port, address-found, address-passed, addresses-end}
 use Rattle.path.proofs.on_path.Statement.{statement}
 use Rattle.path.proofs.on_path.Tie as tie
 
@@ -43,15 +43,15 @@ within e = let a = (start (shell e).before).args in omega (arith, e.before.loop-
 compared : (e : tie.After-equal-words invariant-loop decreases-loop invariant-path decreases-path)
     → (let a = (start (shell e).before).args in
     same (part (16 * e.before.before.loop.i) 16 (drop 36 (part a.at 100 a.s.now)))
-    (endpointAddress (part (18 * (shell e).path.k) 18 a.path.now)))
+    (endpoint_address (part (18 * (shell e).path.k) 18 a.path.now)))
     ≡ e.equal_words.result
 compared e =
     let a = (start (shell e).before).args in
     let i = e.before.before.loop.i in
     let there : e.equal_words.result ≡ same (part (a.at + 36 + 16 * i) 16 a.s.now) (part (18 * (shell e).path.k + 2) 16 a.path.now) =
     e.equal_words.ensures in
-    ap₂ same (address-lies a.at i a.s.now (omega (arith, e.before.loop-test.true, (start (shell e).before).pre.1)))
-    (endpoint-lies (18 * (shell e).path.k) a.path.now)
+    ap₂ same (address_lies a.at i a.s.now (omega (arith, e.before.loop-test.true, (start (shell e).before).pre.1)))
+    (endpoint_lies (18 * (shell e).path.k) a.path.now)
     ∙ sym there
 
 -- at the first match
@@ -167,8 +167,8 @@ returns c =
     head.path.invariant.0
     ∙ sym (head.path.invariant.2 ∙ none_left (part a.at 100 a.s.now) a.path.now head.path.k c.path-test.false)
 
-returns-2 : tie.Need-returns-2 invariant-loop decreases-loop invariant-path decreases-path
-returns-2 c = (found_here c).0 ∙ sym (found_here c).1
+returns_2 : tie.Need-returns-2 invariant-loop decreases-loop invariant-path decreases-path
+returns_2 c = (found_here c).0 ∙ sym (found_here c).1
 
 pub on-path-spec : {M : Type 1} → statement M
 on-path-spec =
@@ -199,4 +199,4 @@ on-path-spec =
     path-less-2
     path-again-2
     returns
-    returns-2)
+    returns_2)

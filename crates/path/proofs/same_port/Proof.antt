@@ -6,12 +6,12 @@ use native.Mathlib.Omega.{arith}
 use lib.Dec.{eqb}
 use lib.ListN.{length}
 use borrow.Author.Rules.{rules}
-use Rattle.octet.specs.Number.{Digits, valueBE, valueLE}
+use Rattle.octet.specs.Number.{Digits, value_be, value_le}
 use Rattle.octet.specs.Part.{part}
-use Rattle.octet.proofs.LittleLaws.{valueLE-inj}
+use Rattle.octet.proofs.LittleLaws.{value_le_inj}
 use Rattle.octet.proofs.PartLaws.{part-digits, length_part}
 use Rattle.octet.proofs.TestLaws.{same_by}
-use Rattle.key.proofs.PlaceLaws.{same-value}
+use Rattle.key.proofs.PlaceLaws.{same_value}
 use Rattle.record.proofs.PlaceLaws.{part-part}
 use Rattle.table.proofs.PieceLaws.{part-start}
 use Rattle.path.proofs.same_port.Statement.{statement}
@@ -19,8 +19,8 @@ use Rattle.path.proofs.same_port.Tie as tie
 
 -- numbers are the same in one order of bytes where they are in the other
 either_order : (xs ys : List ℕ) → Digits 256 xs → Digits 256 ys → length xs ≡ length ys
-    → eqb (valueLE 256 xs) (valueLE 256 ys) ≡ eqb (valueBE 256 xs) (valueBE 256 ys)
-either_order xs ys d e n = sym (same_by (valueLE 256) xs ys (valueLE-inj 256 xs ys d e n)) ∙ same-value 256 xs ys d e n
+    → eqb (value_le 256 xs) (value_le 256 ys) ≡ eqb (value_be 256 xs) (value_be 256 ys)
+either_order xs ys d e n = sym (same_by (value_le 256) xs ys (value_le_inj 256 xs ys d e n)) ∙ same_value 256 xs ys d e n
 
 add-read-u16-le : tie.Need-overflow-add-read-u16-le
 add-read-u16-le c = search rules
@@ -44,8 +44,8 @@ returns c =
     (part-digits 256 (a.at + 32) 2 a.s.now (omega (arith, l)) (λ i. omega (arith, k.before.shared-slice-known.given i)))
     (length_part a.start 2 a.path.now (omega (arith, m)) ∙ sym (length_part (a.at + 32) 2 a.s.now (omega (arith, l))))
     ∙ ap₂ eqb
-    (ap (valueBE 256) (sym (part-start a.start 18 2 a.path.now (omega arith))))
-    (ap (valueBE 256) (sym (part-part a.at 100 32 2 a.s.now (omega arith))))
+    (ap (value_be 256) (sym (part-start a.start 18 2 a.path.now (omega arith))))
+    (ap (value_be 256) (sym (part-part a.at 100 32 2 a.s.now (omega arith))))
 
 pub same-port-spec : {M : Type 1} → statement M
 same-port-spec = tie.close (tie.spec add-read-u16-le read-u16-le-requires read-u16-le-requires-2 returns)

@@ -21,11 +21,11 @@ returns c =
     sym (ack-none (rows 140 a.used a.waiting.now) a.held a.used a.acked a.n
     (sym c.before.before.find.ensures ∙ c.enum_told.given.1))
 
-returns-2 : tie.Need-returns-2
-returns-2 c =
+returns_2 : tie.Need-returns-2
+returns_2 c =
     let a = c.before.before.before.before.before.args in
     sym (ack-by (rows 140 a.used a.waiting.now) a.held a.used a.acked a.n
     (sym c.before.before.before.find.ensures ∙ c.before.found.given.1))
 
 pub plan-ack-spec : {M : Type 1} → statement M
-plan-ack-spec = tie.close (tie.spec find-requires enum-known-found enum_told returns returns-2)
+plan-ack-spec = tie.close (tie.spec find-requires enum-known-found enum_told returns returns_2)

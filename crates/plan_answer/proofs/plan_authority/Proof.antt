@@ -9,7 +9,7 @@ use Rattle.table.specs.Rows.{rows}
 use Rattle.table.specs.Seek.{seek}
 use Rattle.waiting.specs.Seek.{is_at}
 use Rattle.table.specs.declared.Found.TheVariants.{At}
-use Rattle.plan_answer.proofs.AnsweringLaws.{place-within, place-key, authority-none, authority-bare, authority-bad, authority-other, authority-right}
+use Rattle.plan_answer.proofs.AnsweringLaws.{place_within, place_key_lem, authority-none, authority-bare, authority-bad, authority-other, authority-right}
 use Rattle.plan_answer.proofs.plan_authority.Statement.{statement}
 use Rattle.plan_answer.proofs.plan_authority.Tie as tie
 
@@ -25,7 +25,7 @@ found : (c : tie.After-known-told)
 found c = sym c.before.before.before.find.ensures ∙ c.before.found.given.1
 
 inside : (c : tie.After-known-told) → place c < (start c).args.used
-inside c = let a = (start c).args in place-within (is_at a.acked 2) a.used (place c) a.waiting.now (found c)
+inside c = let a = (start c).args in place_within (is_at a.acked 2) a.used (place c) a.waiting.now (found c)
 
 find-requires : tie.Need-find-requires
 find-requires c κs = search rules
@@ -42,8 +42,8 @@ returns c =
     sym (authority-none (rows 140 a.used a.waiting.now) a.held a.used a.verdict (key_at 0 a.key.now) a.acked a.cpa
     (sym c.before.before.find.ensures ∙ c.enum_told.given.1))
 
-returns-2 : tie.Need-returns-2
-returns-2 c =
+returns_2 : tie.Need-returns-2
+returns_2 c =
     let a = (start c.before).args in
     sym (authority-bare (rows 140 a.used a.waiting.now) a.held a.used a.verdict (key_at 0 a.key.now) a.acked a.cpa
     (found c.before) c.if1.true)
@@ -69,7 +69,7 @@ returns-4 c =
     let a = (start k).args in
     sym (authority-other (rows 140 a.used a.waiting.now) a.held a.used a.verdict (key_at 0 a.key.now) a.acked a.cpa
     (found k) c.before.before.before.if1.false c.before.before.if2.false
-    (place-key (is_at a.acked 2) a.used (place k) a.waiting.now (found k)) (sym c.before.same_at.ensures ∙ not-true _ c.if3.true))
+    (place_key_lem (is_at a.acked 2) a.used (place k) a.waiting.now (found k)) (sym c.before.same_at.ensures ∙ not-true _ c.if3.true))
 
 returns-5 : tie.Need-returns-5
 returns-5 c =
@@ -77,7 +77,7 @@ returns-5 c =
     let a = (start k).args in
     sym (authority-right (rows 140 a.used a.waiting.now) a.held a.used a.verdict (key_at 0 a.key.now) a.acked a.cpa
     (found k) c.before.before.before.if1.false c.before.before.if2.false
-    (place-key (is_at a.acked 2) a.used (place k) a.waiting.now (found k)) (sym c.before.same_at.ensures ∙ not-false _ c.if3.false))
+    (place_key_lem (is_at a.acked 2) a.used (place k) a.waiting.now (found k)) (sym c.before.same_at.ensures ∙ not-false _ c.if3.false))
 
 pub plan-authority-spec : {M : Type 1} → statement M
 plan-authority-spec =
@@ -87,7 +87,7 @@ plan-authority-spec =
     enum-known-found
     enum_told
     returns
-    returns-2
+    returns_2
     returns-3
     mul-same-at
     add-same-at

@@ -9,32 +9,32 @@ use borrow.Author.Rules.{rules}
 use borrow.Author.Tests.{lt-ltb, le-ltb}
 use Rattle.octet.specs.Part.{part}
 use Rattle.record.specs.Record.{key_of}
-use Rattle.record.specs.Entry.{recordOf}
-use Rattle.own.specs.Own.{ownKeys, isOwn}
-use Rattle.refusal.specs.Table.{when, first_of, orRefuse}
-use Rattle.refusal.proofs.CallLaws.{row-applies, row-passes, no_row}
+use Rattle.record.specs.Entry.{record_of}
+use Rattle.own.specs.Own.{own_keys, is_own}
+use Rattle.refusal.specs.Table.{when, first_of, or_refuse}
+use Rattle.refusal.proofs.CallLaws.{row_applies, row_passes, no_row}
 use Rattle.table.specs.Rows.{rows}
-use Rattle.cache.proofs.FormLaws.{form-laid}
+use Rattle.cache.proofs.FormLaws.{form_laid}
 use Rattle.gauge_plan.specs.Opening.{open_rows}
 use Rattle.gauge_plan.specs.declared.Plan.{Plan}
 use Rattle.gauge_plan.specs.declared.Plan.TheVariants.{Refuse, Flood}
-use Rattle.asking.specs.Ids.{idAfter}
-use Rattle.asking.specs.Asking.{inquireRoom}
-use Rattle.asking.proofs.AskingLaws.{inquire-most, entry-room, key_in}
-use Rattle.plan_flood.specs.Flood.{floodPlan}
-use Rattle.plan_flood.specs.Rooms.{ackRoom}
-use Rattle.plan_flood.proofs.FloodLaws.{ack-most, flood-own, flood-barred, flood-by}
+use Rattle.asking.specs.Ids.{id_after}
+use Rattle.asking.specs.Asking.{inquire_room}
+use Rattle.asking.proofs.AskingLaws.{inquire_most, entry-room, key_in_lem}
+use Rattle.plan_flood.specs.Flood.{flood_plan}
+use Rattle.plan_flood.specs.Rooms.{ack_room}
+use Rattle.plan_flood.proofs.FloodLaws.{ack_most, flood-own, flood-barred, flood-by}
 use Rattle.plan_flood.proofs.plan_flood.Statement.{statement}
 use Rattle.plan_flood.proofs.plan_flood.Tie as tie
 
 -- whether the entry names the own key
 own_key : (c : tie.After-is-own)
-    → (let a = c.before.before.before.before.before.args in isOwn (ownKeys a.own.now) (key_of (recordOf (part a.start a.len a.d.now))))
+    → (let a = c.before.before.before.before.before.args in is_own (own_keys a.own.now) (key_of (record_of (part a.start a.len a.d.now))))
     ≡ c.is-own.result
 own_key c =
     let s = c.before.before.before.before.before in
     let a = s.args in
-    ap (isOwn (ownKeys a.own.now)) (key_in a.start a.len a.d.now s.requires.4 s.requires.5) ∙ sym c.is-own.ensures
+    ap (is_own (own_keys a.own.now)) (key_in_lem a.start a.len a.d.now s.requires.4 s.requires.5) ∙ sym c.is-own.ensures
 
 -- what the code asks once it does not: N, whether an inquiry opens, and what stands against its place
 abbrev start : tie.After-open-refusal → tie.Start
@@ -49,16 +49,16 @@ opens c = c.before.before.must-ask.result
 abbrev plan : tie.After-open-refusal → Plan
 plan c =
     let a = (start c).args in
-    floodPlan (ownKeys a.own.now) (rows 100 a.held a.cache.now) (rows 140 a.used a.waiting.now) a.used a.id a.room a.d.now
+    flood_plan (own_keys a.own.now) (rows 100 a.held a.cache.now) (rows 140 a.used a.waiting.now) a.used a.id a.room a.d.now
     a.silent a.acked a.validate a.start a.len
 
 other_key : (c : tie.After-open-refusal)
-    → (let a = (start c).args in isOwn (ownKeys a.own.now) (key_of (recordOf (part a.start a.len a.d.now)))) ≡ false
+    → (let a = (start c).args in is_own (own_keys a.own.now) (key_of (record_of (part a.start a.len a.d.now)))) ≡ false
 other_key c = let e = c.before.before.before.before in own_key e.before ∙ e.if1.false
 
 stands-against : (c : tie.After-open-refusal)
     → (let a = (start c).args in
-    c.open-refusal.result ≡ first_of (open_rows (opens c) (rows 140 a.used a.waiting.now) a.used (idAfter a.id)))
+    c.open-refusal.result ≡ first_of (open_rows (opens c) (rows 140 a.used a.waiting.now) a.used (id_after a.id)))
 stands-against c =
     let a = (start c).args in
     c.open-refusal.ensures
@@ -73,7 +73,7 @@ is-own-requires c κs =
 returns : tie.Need-returns
 returns c =
     let a = c.before.before.before.before.before.before.args in
-    sym (flood-own (ownKeys a.own.now) (rows 100 a.held a.cache.now) (rows 140 a.used a.waiting.now) a.used
+    sym (flood-own (own_keys a.own.now) (rows 100 a.held a.cache.now) (rows 140 a.used a.waiting.now) a.used
     a.id a.room a.d.now a.silent a.acked a.validate a.start a.len (own_key c.before ∙ c.if1.true))
 
 not-ours-requires : tie.Need-not-ours-requires
@@ -84,7 +84,7 @@ must-ask-requires : tie.Need-must-ask-requires
 must-ask-requires c κs =
     let s = c.before.before.before.before.before.before.before in
     let a = s.args in
-    let laid = form-laid (ownKeys a.own.now) a.held a.cache.now s.requires.1 in
+    let laid = form_laid (own_keys a.own.now) a.held a.cache.now s.requires.1 in
     (laid.room, s.requires.2, s.requires.4, s.requires.5, s.requires.1.held.rising)
 
 id-after-requires : tie.Need-id-after-requires
@@ -93,11 +93,11 @@ id-after-requires c κs = search rules
 open-refusal-requires : tie.Need-open-refusal-requires
 open-refusal-requires c κs = search rules
 
-returns-2 : tie.Need-returns-2
-returns-2 c =
+returns_2 : tie.Need-returns-2
+returns_2 c =
     let h = c.before in
     let a = (start h).args in
-    sym (flood-barred (ownKeys a.own.now) (rows 100 a.held a.cache.now) (rows 140 a.used a.waiting.now) a.used a.id a.room
+    sym (flood-barred (own_keys a.own.now) (rows 100 a.held a.cache.now) (rows 140 a.used a.waiting.now) a.used a.id a.room
     a.d.now a.silent a.acked a.validate a.start a.len (other_key h) h.before.before.before.not_ours.ensures
     h.before.before.must-ask.ensures (stands-against h) (omega (arith, c.if2.true)))
 
@@ -110,33 +110,33 @@ inquire-room-requires c κs = search rules
 add-if3 : tie.Need-overflow-add-if3
 add-if3 c =
     let h = c.before.before.before in
-    omega (arith, c.inquire-room.ensures, c.before.ack-room.ensures, ack-most (start h).args.silent (n h), inquire-most (opens h))
+    omega (arith, c.inquire-room.ensures, c.before.ack-room.ensures, ack_most (start h).args.silent (n h), inquire_most (opens h))
 
 -- only room is left to be refused for
 abbrev room_for : tie.After-open-refusal → ℕ
-room_for h = ackRoom (start h).args.silent (n h) + inquireRoom (opens h)
+room_for h = ack_room (start h).args.silent (n h) + inquire_room (opens h)
 
 by-room : (c : tie.After-inquire-room)
     → (let h = c.before.before.before in
     let a = (start h).args in
-    plan h ≡ orRefuse Refuse (when 15 (ltb a.room (room_for h)) ∷ []) (Flood a.used a.silent (n h) a.acked (opens h) a.start a.len))
+    plan h ≡ or_refuse Refuse (when 15 (ltb a.room (room_for h)) ∷ []) (Flood a.used a.silent (n h) a.acked (opens h) a.start a.len))
 by-room c =
     let h = c.before.before.before in
     let a = (start h).args in
-    flood-by (ownKeys a.own.now) (rows 100 a.held a.cache.now) (rows 140 a.used a.waiting.now) a.used a.id a.room
+    flood-by (own_keys a.own.now) (rows 100 a.held a.cache.now) (rows 140 a.used a.waiting.now) a.used a.id a.room
     a.d.now a.silent a.acked a.validate a.start a.len (other_key h) h.before.before.before.not_ours.ensures
     h.before.before.must-ask.ensures (stands-against h) c.before.before.if2.false
 
 returns-3 : tie.Need-returns-3
 returns-3 c =
     let h = c.before.before.before.before in
-    sym (by-room c.before ∙ row-applies Refuse 15 _ _ _ (lt-ltb (start h).args.room (room_for h)
+    sym (by-room c.before ∙ row_applies Refuse 15 _ _ _ (lt-ltb (start h).args.room (room_for h)
     (omega (arith, c.if3.true, c.before.inquire-room.ensures, c.before.before.ack-room.ensures))))
 
 returns-4 : tie.Need-returns-4
 returns-4 c =
     let h = c.before.before.before.before in
-    sym (by-room c.before ∙ row-passes Refuse 15 _ _ _ (le-ltb (start h).args.room (room_for h)
+    sym (by-room c.before ∙ row_passes Refuse 15 _ _ _ (le-ltb (start h).args.room (room_for h)
     (omega (arith, c.if3.false, c.before.inquire-room.ensures, c.before.before.ack-room.ensures))) ∙ no_row Refuse _)
 
 pub plan-flood-spec : {M : Type 1} → statement M
@@ -149,7 +149,7 @@ plan-flood-spec =
     must-ask-requires
     id-after-requires
     open-refusal-requires
-    returns-2
+    returns_2
     ack-room-requires
     inquire-room-requires
     add-if3

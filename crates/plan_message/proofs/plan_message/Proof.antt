@@ -5,14 +5,14 @@ use Prim.Native.Nat.{◌+◌, ◌≤◌, ◌<◌}
 use native.Mathlib.Omega.{arith}
 use lib.ListN.{length}
 use Rattle.octet.specs.Part.{part}
-use Rattle.record.specs.Entry.{entryForm}
+use Rattle.record.specs.Entry.{entry_form}
 use Rattle.wire_read.specs.Answers as R
 use Rattle.wire_read.specs.declared.Incoming as T
-use Rattle.look.specs.Seen.{briefOf}
+use Rattle.look.specs.Seen.{brief_of}
 use Rattle.look.specs.declared.Brief.{Brief}
-use Rattle.gauge_plan.specs.Lent.{Memory, withTables, Receive, planning}
-use Rattle.plan_message.proofs.AnswerLaws.{known-answer}
-use Rattle.plan_message.proofs.BriefLaws.{refused-by, flood-by, revoke-by, inquire-by, authority-by, ack-by, lookup-by, other-by, known-flood, known-entry, known-inquire, known-lookup}
+use Rattle.gauge_plan.specs.Lent.{Memory, with_tables, Receive, planning}
+use Rattle.plan_message.proofs.AnswerLaws.{known_answer}
+use Rattle.plan_message.proofs.BriefLaws.{refused_by, flood-by, revoke-by, inquire-by, authority_by, ack-by, lookup-by, other_by, known-flood, known-entry, known-inquire, known-lookup}
 use Rattle.plan_message.proofs.BriefLaws.{RefusedBy, FloodBy, RevokeBy, InquireBy, AuthorityBy, AckBy, LookupBy, OtherBy, KnownFlood, KnownEntry, KnownInquire, KnownLookup}
 use borrow.Author.Rules.{rules}
 use Rattle.plan_message.proofs.plan_message.Statement.{statement}
@@ -23,7 +23,7 @@ start m = m.before.before.before.before.before.before.before.before
 
 -- all that was lent, with any memory besides and whatever else the datagram comes with
 abbrev memory-at : tie.Start → Memory → Memory
-memory-at s o = withTables s.args.cache.now s.args.waiting.now o
+memory-at s o = with_tables s.args.cache.now s.args.waiting.now o
 
 abbrev lent_at : tie.Start → Receive → Receive
 lent_at s l =
@@ -31,10 +31,10 @@ lent_at s l =
     planning a.own.now a.cpas.now a.major a.id a.verdict a.key.now a.datagram.now a.output.now l
 
 -- what holds of every answer and what is told of it holds here
-by : (m : tie.After-brief-at) (P : T.Incoming → Brief → Type 0) → ((a : T.Incoming) → P a (briefOf a))
-    → P (R.readIn (start m).args.datagram.now (start m).args.major) m.brief-at.result
+by : (m : tie.After-brief-at) (P : T.Incoming → Brief → Type 0) → ((a : T.Incoming) → P a (brief_of a))
+    → P (R.read_in (start m).args.datagram.now (start m).args.major) m.brief-at.result
 by m P f =
-    let a = R.readIn (start m).args.datagram.now (start m).args.major in
+    let a = R.read_in (start m).args.datagram.now (start m).args.major in
     subst (P a) (sym m.brief-at.ensures) (f a)
 
 brief-at-requires : tie.Need-brief-at-requires
@@ -45,14 +45,14 @@ plan-revoke-requires c κs =
     let m = c.before.before.before.before in
     let s = start m in
     let d = s.args.datagram.now in
-    (s.pre.0, omega (arith, s.pre.4), by m (KnownFlood d) (known-flood d) (known-answer d s.args.major) c.before.before.match.keys2)
+    (s.pre.0, omega (arith, s.pre.4), by m (KnownFlood d) (known-flood d) (known_answer d s.args.major) c.before.before.match.keys2)
 
 returns : tie.Need-returns
 returns c o l =
     let m = c.before.before.before.before.before in
     let s = start m in
     c.plan-revoke.ensures
-    ∙ sym (by m (RevokeBy (memory-at s o) (lent_at s l) s.args.held s.args.used) (revoke-by (memory-at s o) (lent_at s l) s.args.held s.args.used) (known-answer s.args.datagram.now s.args.major) c.before.before.before.match.keys2 c.before.if1.true)
+    ∙ sym (by m (RevokeBy (memory-at s o) (lent_at s l) s.args.held s.args.used) (revoke-by (memory-at s o) (lent_at s l) s.args.held s.args.used) (known_answer s.args.datagram.now s.args.major) c.before.before.before.match.keys2 c.before.if1.true)
 
 cast-plan-flood : tie.Need-overflow-cast-plan-flood
 cast-plan-flood c = search rules
@@ -66,15 +66,15 @@ plan-flood-requires c κs =
     let s = start m in
     let d = s.args.datagram.now in
     let k = c.before.before.before.before.match.keys2 in
-    let e = by m (KnownEntry d) (known-entry d) (known-answer d s.args.major) k c.before.before.if1.false in
-    (s.pre.0, s.pre.2, s.pre.3, by m (KnownFlood d) (known-flood d) (known-answer d s.args.major) k, e.0, e.1)
+    let e = by m (KnownEntry d) (known-entry d) (known_answer d s.args.major) k c.before.before.if1.false in
+    (s.pre.0, s.pre.2, s.pre.3, by m (KnownFlood d) (known-flood d) (known_answer d s.args.major) k, e.0, e.1)
 
 plan-inquire-requires : tie.Need-plan-inquire-requires
 plan-inquire-requires c κs =
     let m = c.before.before in
     let s = start m in
     let d = s.args.datagram.now in
-    (s.pre.0, s.pre.1, by m (KnownInquire d) (known-inquire d) (known-answer d s.args.major) c.match.keys3)
+    (s.pre.0, s.pre.1, by m (KnownInquire d) (known-inquire d) (known_answer d s.args.major) c.match.keys3)
 
 plan-authority-requires : tie.Need-plan-authority-requires
 plan-authority-requires c κs = search rules
@@ -91,12 +91,12 @@ told-lookup : (c : tie.At-match-keys6)
     let x = m.brief-at.result in
     let d = (start m).args.datagram.now in
     (x.seen.target + 32 ≤ length d) × (8 ≤ x.size) × (x.path + x.size ≤ length d) × (x.seen.entry + x.seen.entry_length ≤ length d)
-    × (0 < x.seen.entry_length → entryForm (part x.seen.entry x.seen.entry_length d) ≡ true))
+    × (0 < x.seen.entry_length → entry_form (part x.seen.entry x.seen.entry_length d) ≡ true))
 told-lookup c =
     let m = c.before.before in
     let s = start m in
     let d = s.args.datagram.now in
-    by m (KnownLookup d) (known-lookup d) (known-answer d s.args.major) c.match.keys6
+    by m (KnownLookup d) (known-lookup d) (known_answer d s.args.major) c.match.keys6
 
 add-plan-lookup : tie.Need-overflow-add-plan-lookup
 add-plan-lookup c = let p = c.before.before in omega (arith, (told-lookup p).2, (start p.before.before).well-formed)
@@ -117,11 +117,11 @@ plan-lookup-requires c κs =
     let t = told-lookup p in
     (s.pre.0, s.pre.2, s.pre.3, t.0, omega (arith, t.1, t.2), t.3, t.4)
 
-returns-2 : tie.Need-returns-2
-returns-2 c o l =
+returns_2 : tie.Need-returns-2
+returns_2 c o l =
     let m = c.before.before in
     let s = start m in
-    sym (by m (RefusedBy (memory-at s o) (lent_at s l) s.args.held s.args.used) (refused-by (memory-at s o) (lent_at s l) s.args.held s.args.used) c.match.keys1)
+    sym (by m (RefusedBy (memory-at s o) (lent_at s l) s.args.held s.args.used) (refused_by (memory-at s o) (lent_at s l) s.args.held s.args.used) c.match.keys1)
 
 returns-3 : tie.Need-returns-3
 returns-3 c o l =
@@ -142,7 +142,7 @@ returns-5 c o l =
     let m = c.before.before.before in
     let s = start m in
     c.plan-authority.ensures
-    ∙ sym (by m (AuthorityBy (memory-at s o) (lent_at s l) s.args.held s.args.used) (authority-by (memory-at s o) (lent_at s l) s.args.held s.args.used) c.before.match.keys4)
+    ∙ sym (by m (AuthorityBy (memory-at s o) (lent_at s l) s.args.held s.args.used) (authority_by (memory-at s o) (lent_at s l) s.args.held s.args.used) c.before.match.keys4)
 
 returns-6 : tie.Need-returns-6
 returns-6 c o l =
@@ -163,7 +163,7 @@ returns-8 c o l =
     let m = c.before.before in
     let s = start m in
     let r = c.match.rest in
-    sym (by m (OtherBy (memory-at s o) (lent_at s l) s.args.held s.args.used) (other-by (memory-at s o) (lent_at s l) s.args.held s.args.used) r.0.0.0.0.0.1 r.0.0.0.0.1 r.0.0.0.1 r.0.0.1 r.0.1 r.1)
+    sym (by m (OtherBy (memory-at s o) (lent_at s l) s.args.held s.args.used) (other_by (memory-at s o) (lent_at s l) s.args.held s.args.used) r.0.0.0.0.0.1 r.0.0.0.0.1 r.0.0.0.1 r.0.0.1 r.0.1 r.1)
 
 pub plan-message-spec : {M : Type 1} → statement M
 plan-message-spec =
@@ -184,7 +184,7 @@ plan-message-spec =
     cast-plan-lookup-2
     cast-plan-lookup-3
     plan-lookup-requires
-    returns-2
+    returns_2
     returns-3
     returns-4
     returns-5

@@ -38,8 +38,8 @@ shared-slice-read-result-2 c = omega (arith, c.before.before.requires.1 c.before
 cast-result-2 : tie.Need-overflow-cast-result-2
 cast-result-2 c = omega (arith, c.shared-slice-known2.given (100 * c.before.before.args.at + 34))
 
-returns-2 : tie.Need-returns-2
-returns-2 c =
+returns_2 : tie.Need-returns-2
+returns_2 c =
     let a = c.before.before.args in
     let from = 100 * a.at in (
       rw c.before.if1.false (sym (part_at from 100 34 a.cache.now (omega arith))),
@@ -59,4 +59,4 @@ count-sent-spec =
     add-result-2
     shared-slice-read-result-2
     cast-result-2
-    returns-2)
+    returns_2)

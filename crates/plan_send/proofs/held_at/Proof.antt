@@ -23,12 +23,12 @@ returns c =
     let a = s.args in
     sym (held_found (key_at 0 a.key.now) (rows 100 a.held a.cache.now) s.requires.2 f.find.ensures c.before.at.given.1)
 
-returns-2 : tie.Need-returns-2
-returns-2 c =
+returns_2 : tie.Need-returns-2
+returns_2 c =
     let f = c.before.before in
     let s = f.before.before.before in
     let a = s.args in
     sym (held_none (key_at 0 a.key.now) (rows 100 a.held a.cache.now) s.requires.2 f.find.ensures c.enum_told.given.1)
 
 pub held-at-spec : {M : Type 1} → statement M
-held-at-spec = tie.close (tie.spec find-requires enum-known-at enum_told returns returns-2)
+held-at-spec = tie.close (tie.spec find-requires enum-known-at enum_told returns returns_2)

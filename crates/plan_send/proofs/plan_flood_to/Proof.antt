@@ -6,18 +6,18 @@ use Prim.Native.Nat.{ℕ}
 use native.Mathlib.Omega.{arith}
 use borrow.Author.Rules.{rules}
 use Rattle.key.specs.Number.{key_at}
-use Rattle.own.specs.Own.{ownKeys, ownPlace}
+use Rattle.own.specs.Own.{own_keys, own_place}
 use Rattle.table.specs.Rows.{rows, Laid}
-use Rattle.cache.proofs.FormLaws.{form-laid}
-use Rattle.gauge_plan.specs.Found.{isNothing, place_of}
+use Rattle.cache.proofs.FormLaws.{form_laid}
+use Rattle.gauge_plan.specs.Found.{is_nothing, place_of}
 use Rattle.table.specs.declared.Found.{Found}
-use Rattle.plan_send.specs.Send.{heldAt, sentAt}
+use Rattle.plan_send.specs.Send.{held_at, sent_at}
 use Rattle.plan_send.proofs.SendLaws.{other_at, own_room, sent-room, send-nobody, send-missing, send-barred, send-long, send-fits}
 use Rattle.plan_send.proofs.plan_flood_to.Statement.{statement}
 use Rattle.plan_send.proofs.plan_flood_to.Tie as tie
 
 laid : (s : tie.Start) → Laid 100 s.args.held s.args.cache.now
-laid s = form-laid (ownKeys s.args.own.now) s.args.held s.args.cache.now s.requires.1
+laid s = form_laid (own_keys s.args.own.now) s.args.held s.args.cache.now s.requires.1
 
 abbrev recs : tie.Start → List (List ℕ)
 recs s = rows 100 s.args.held s.args.cache.now
@@ -29,15 +29,15 @@ places s = rows 140 s.args.used s.args.waiting.now
 abbrev first : tie.After-is-nothing → tie.Start
 first c = c.before.before.before.before.before.before.before
 
-nobody : (c : tie.After-is-nothing) → isNothing (heldAt (key_at 0 (first c).args.neighbour.now) (recs (first c))) ≡ c.is-nothing.result
-nobody c = sym (c.is-nothing.ensures ∙ ap isNothing c.before.held_at.ensures)
+nobody : (c : tie.After-is-nothing) → is_nothing (held_at (key_at 0 (first c).args.neighbour.now) (recs (first c))) ≡ c.is-nothing.result
+nobody c = sym (c.is-nothing.ensures ∙ ap is_nothing c.before.held_at.ensures)
 
 -- and whether the record is, where it is not ours
 abbrev start : tie.After-is-nothing2 → tie.Start
 start c = first c.before.before.before.before
 
-missing : (c : tie.After-is-nothing2) → c.is-nothing2.result ≡ isNothing (heldAt (key_at 0 (start c).args.key.now) (recs (start c)))
-missing c = c.is-nothing2.ensures ∙ ap isNothing c.before.held-at2.ensures
+missing : (c : tie.After-is-nothing2) → c.is-nothing2.result ≡ is_nothing (held_at (key_at 0 (start c).args.key.now) (recs (start c)))
+missing c = c.is-nothing2.ensures ∙ ap is_nothing c.before.held-at2.ensures
 
 held-at-requires : tie.Need-held-at-requires
 held-at-requires c κs =
@@ -67,8 +67,8 @@ held-at-requires-2 c κs =
 is-nothing-requires-2 : tie.Need-is-nothing-requires-2
 is-nothing-requires-2 c κs = search rules
 
-returns-2 : tie.Need-returns-2
-returns-2 c =
+returns_2 : tie.Need-returns-2
+returns_2 c =
     let n = c.before in
     let e = n.before.before.before in
     let s = start n in
@@ -97,12 +97,12 @@ sent-at-requires c κs =
 
 -- where the record stands
 placed : (c : tie.After-sent-at) → (let n = c.before.before.before.before in
-    c.sent-at.result ≡ sentAt (start n).args.own.now (recs (start n)) (key_at 0 (start n).args.key.now))
+    c.sent-at.result ≡ sent_at (start n).args.own.now (recs (start n)) (key_at 0 (start n).args.key.now))
 placed c =
     let n = c.before.before.before.before in
     let a = (start n).args in
     c.sent-at.ensures
-    ∙ ap₂ (λ (ours : Bool) (f : Found). cond ours (ownPlace (ownKeys a.own.now) (key_at 0 a.key.now)) (place_of f))
+    ∙ ap₂ (λ (ours : Bool) (f : Found). cond ours (own_place (own_keys a.own.now) (key_at 0 a.key.now)) (place_of f))
     n.before.before.is-own.ensures n.before.held-at2.ensures
 
 count-sent-requires : tie.Need-count-sent-requires
@@ -159,7 +159,7 @@ plan-flood-to-spec =
     is-own-requires
     held-at-requires-2
     is-nothing-requires-2
-    returns-2
+    returns_2
     open-refusal-requires
     returns-3
     sent-at-requires

@@ -2,8 +2,8 @@
 use mathlib.Core.Path.{◌≡◌, sym, ◌∙◌}
 use borrow.Author.Rules.{rules}
 use borrow.Author.Tests.{not-true, not-false}
-use Rattle.gauge_plan.specs.Lent.{Memory, empty, withTables}
-use Rattle.gauge_plan.specs.Memory.{memoryOf}
+use Rattle.gauge_plan.specs.Lent.{Memory, empty, with_tables}
+use Rattle.gauge_plan.specs.Memory.{memory_of}
 use Rattle.gauge_plan.specs.declared.memory.Fitness.{Fitness}
 use Rattle.plan_send.proofs.SendLaws.{send-unfit, send-keys, send-planned, send-needs}
 use Rattle.plan_send.proofs.plan_send.Statement.{statement}
@@ -14,7 +14,7 @@ start m = m.before.before.before.before.before.before
 
 -- with any memory besides
 surveyed : (m : tie.After-survey) {r : Fitness} → m.survey.result ≡ r → (o : Memory)
-    → memoryOf (start m).args.own.now (withTables (start m).args.cache.now (start m).args.waiting.now o) ≡ r
+    → memory_of (start m).args.own.now (with_tables (start m).args.cache.now (start m).args.waiting.now o) ≡ r
 surveyed m e o = sym (m.survey.ensures o) ∙ e
 
 survey-requires : tie.Need-survey-requires
@@ -33,8 +33,8 @@ returns c o =
     sym (send-unfit a.own.now _ a.id a.neighbour.now a.key.now a.room
     (surveyed m c.enum_told.given.1 o))
 
-returns-2 : tie.Need-returns-2
-returns-2 c o =
+returns_2 : tie.Need-returns-2
+returns_2 c o =
     let k = c.before.before in
     let m = k.before.before in
     let a = (start m).args in
@@ -66,6 +66,6 @@ plan-send-spec =
     enum-known-memory
     enum_told
     returns
-    returns-2
+    returns_2
     plan-flood-to-requires
     returns-3)

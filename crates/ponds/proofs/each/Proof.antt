@@ -49,8 +49,8 @@ same-length-3 c = search rules
 same-length-4 : tie.Need-same-length-4 invariant-loop decreases-loop
 same-length-4 c = search rules
 
-returns-2 : tie.Need-returns-2 invariant-loop decreases-loop
-returns-2 c = search rules
+returns_2 : tie.Need-returns-2 invariant-loop decreases-loop
+returns_2 c = search rules
 
 pub each_spec : {M : Type 1} → statement M
 each_spec =
@@ -71,4 +71,4 @@ each_spec =
     tell-requires
     same-length-3
     same-length-4
-    returns-2)
+    returns_2)

@@ -16,11 +16,11 @@ says c = sym (c.is-same2.ensures ∙ ap₂ eqb c.before.how-far2.ensures c.befor
 returns : tie.Need-returns
 returns c = rw c.if1.true refl
 
-is-same-requires : tie.Need-is-same-requires
-is-same-requires c κs = search rules
+is-same_requires : tie.Need-is-same-requires
+is-same_requires c κs = search rules
 
-returns-2 : tie.Need-returns-2
-returns-2 c = rw (c.before.before.if1.false, sym c.before.is_same.ensures ∙ c.if2.true) refl
+returns_2 : tie.Need-returns-2
+returns_2 c = rw (c.before.before.if1.false, sym c.before.is_same.ensures ∙ c.if2.true) refl
 
 how-far-requires : tie.Need-how-far-requires
 how-far-requires c κs = search rules
@@ -46,8 +46,8 @@ reason-by-spec =
     tie.close
     (tie.spec
     returns
-    is-same-requires
-    returns-2
+    is-same_requires
+    returns_2
     how-far-requires
     how-far-requires-2
     is-same-requires-2

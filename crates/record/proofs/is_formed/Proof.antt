@@ -6,9 +6,9 @@ use Prim.Native.Nat.{ℕ, ◌+◌, ◌*◌}
 use native.Mathlib.Omega.{arith}
 use lib.ListN.{get_or}
 use borrow.Author.Tests.{not-true, not-false}
-use Rattle.octet.specs.Part.{part, allZero}
-use Rattle.record.specs.Record.{recordForm}
-use Rattle.record.proofs.PlaceLaws.{form-one, form-not, count_word, zero-halves}
+use Rattle.octet.specs.Part.{part, all_zero}
+use Rattle.record.specs.Record.{record_form}
+use Rattle.record.proofs.PlaceLaws.{form_one, form_not, count_word, zero_halves}
 use borrow.Author.Rules.{rules}
 use Rattle.record.proofs.is_formed.Statement.{statement}
 use Rattle.record.proofs.is_formed.Tie as tie
@@ -32,7 +32,7 @@ read-u16-le-requires c κs = search rules
 returns : tie.Need-returns
 returns c =
     let r = c.before in
-    form-not (place r) (bytes r) r.before.before.requires (λ e. c.if1.true (omega (arith, counted r, e)))
+    form_not (place r) (bytes r) r.before.before.requires (λ e. c.if1.true (omega (arith, counted r, e)))
 
 add-zero-three : tie.Need-overflow-add-zero-three
 add-zero-three c = search rules
@@ -42,18 +42,18 @@ zero-three-requires c κs = search rules
 
 -- the number is 1, so the form is that what follows the first address is zero, in two halves
 left_is : (l : tie.After-zero-three) → let r = l.before.before in
-    allZero (part (place r + 52) 24 (bytes r)) && allZero (part (place r + 76) 24 (bytes r)) ≡ recordForm (part (place r) 100 (bytes r))
+    all_zero (part (place r + 52) 24 (bytes r)) && all_zero (part (place r + 76) 24 (bytes r)) ≡ record_form (part (place r) 100 (bytes r))
 left_is l =
     let r = l.before.before in
-    zero-halves (place r) (bytes r)
-    ∙ form-one (place r) (bytes r) r.before.before.requires (omega (arith, counted r, l.before.if1.false))
+    zero_halves (place r) (bytes r)
+    ∙ form_one (place r) (bytes r) r.before.before.requires (omega (arith, counted r, l.before.if1.false))
 
-returns-2 : tie.Need-returns-2
-returns-2 c =
+returns_2 : tie.Need-returns-2
+returns_2 c =
     let l = c.before in
     let r = l.before.before in
-    let z : allZero (part (place r + 52) 24 (bytes r)) ≡ false = sym l.zero-three.ensures ∙ not-true _ c.if2.true in
-    ap (λ (b : Bool). b && allZero (part (place r + 76) 24 (bytes r))) (sym z) ∙ left_is l
+    let z : all_zero (part (place r + 52) 24 (bytes r)) ≡ false = sym l.zero-three.ensures ∙ not-true _ c.if2.true in
+    ap (λ (b : Bool). b && all_zero (part (place r + 76) 24 (bytes r))) (sym z) ∙ left_is l
 
 add-zero-three-2 : tie.Need-overflow-add-zero-three-2
 add-zero-three-2 c = search rules
@@ -65,8 +65,8 @@ returns-3 : tie.Need-returns-3
 returns-3 c =
     let l = c.before.before in
     let r = l.before.before in
-    let z : allZero (part (place r + 52) 24 (bytes r)) ≡ true = sym l.zero-three.ensures ∙ not-false _ c.before.if2.false in
-    c.zero-three2.ensures ∙ ap (λ (b : Bool). b && allZero (part (place r + 76) 24 (bytes r))) (sym z) ∙ left_is l
+    let z : all_zero (part (place r + 52) 24 (bytes r)) ≡ true = sym l.zero-three.ensures ∙ not-false _ c.before.if2.false in
+    c.zero-three2.ensures ∙ ap (λ (b : Bool). b && all_zero (part (place r + 76) 24 (bytes r))) (sym z) ∙ left_is l
 
 pub is-formed-spec : {M : Type 1} → statement M
 is-formed-spec =
@@ -77,7 +77,7 @@ is-formed-spec =
     returns
     add-zero-three
     zero-three-requires
-    returns-2
+    returns_2
     add-zero-three-2
     zero-three-requires-2
     returns-3)

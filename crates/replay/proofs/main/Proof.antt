@@ -5,16 +5,16 @@ use native.Mathlib.Omega.{arith}
 use lib.ListN.{length}
 use lib.Seq.{length-take-le}
 use borrow.Author.Rules.{rules}
-use Rattle.night.specs.Step.{stateLen}
+use Rattle.night.specs.Step.{state_len}
 use Rattle.replay.specs.Room.{Begun}
-use Rattle.replay.proofs.RoomLaws.{begun-at-0, zeros, start-at, roomy-by, line-by, read-text, read_count, read-numbers, reads-closer}
+use Rattle.replay.proofs.RoomLaws.{begun_at_0, zeros, start_at, roomy_by, line_by, read-text, read_count, read-numbers, reads_closer}
 use Rattle.replay.proofs.main.Statement.{statement}
 use Rattle.replay.proofs.main.Tie as tie
 
 abbrev invariant-loop : tie.invariant-loop
 invariant-loop state₀ room₀ piece₀ text₀ held₀ reads₀ state room piece text held reads =
     (held.at ≤ 4096 * reads) × Begun held.begun room
-    × (stateLen ≡ length state)
+    × (state_len ≡ length state)
     × (65537 ≡ length room)
     × (4096 ≡ length piece)
     × (172032 ≡ length text)
@@ -27,8 +27,8 @@ opened-requires c κs = tt
 
 loop-holds : tie.Need-loop-init invariant-loop decreases-loop
 loop-holds c = (
-  start-at _ c.opened.ensures.0,
-  begun-at-0 _ _ c.opened.ensures.1.0 (roomy-by _ (zeros _)),
+  start_at _ c.opened.ensures.0,
+  begun_at_0 _ _ c.opened.ensures.1.0 (roomy_by _ (zeros _)),
   zeros _,
   zeros _,
   zeros _,
@@ -65,7 +65,7 @@ slice-aggregate-close-3 c = c.before.before.before.before.before.before.before.b
 close-requires : tie.Need-close-requires invariant-loop decreases-loop
 close-requires c κs =
     let at-loop = c.before.before.before.before.before.before.before.before.before.before.before in
-    (at-loop.loop.invariant.1.inside, line-by _ at-loop.loop.invariant.5)
+    (at-loop.loop.invariant.1.inside, line_by _ at-loop.loop.invariant.5)
 
 array-share-prefix-text : tie.Need-array-share-prefix-text invariant-loop decreases-loop
 array-share-prefix-text c = search rules
@@ -76,8 +76,8 @@ slice-aggregate-write c = sym (length-take-le _ _ (search rules))
 write-requires : tie.Need-write-requires invariant-loop decreases-loop
 write-requires c κs = tt
 
-returns-2 : tie.Need-returns-2 invariant-loop decreases-loop
-returns-2 c = tt
+returns_2 : tie.Need-returns-2 invariant-loop decreases-loop
+returns_2 c = tt
 
 slice-aggregate-new : tie.Need-slice-aggregate-new invariant-loop decreases-loop
 slice-aggregate-new c = c.before.before.count.ensures.0.1
@@ -127,7 +127,7 @@ add_reads : tie.Need-overflow-add-reads invariant-loop decreases-loop
 add_reads c = omega (arith, c.before.before.before.before.before.before.before.before.before.before.before.before.before.before.before.before.before.before.before.loop-test.true)
 
 loop-less : tie.Need-loop-smaller invariant-loop decreases-loop
-loop-less c = reads-closer _ c.before.before.before.before.before.before.before.before.before.before.before.before.before.before.before.before.before.before.before.loop-test.true
+loop-less c = reads_closer _ c.before.before.before.before.before.before.before.before.before.before.before.before.before.before.before.before.before.before.before.loop-test.true
 
 loop-again : tie.Need-loop-preserved invariant-loop decreases-loop
 loop-again c =
@@ -164,7 +164,7 @@ main_spec =
     array-share-prefix-text
     slice-aggregate-write
     write-requires
-    returns-2
+    returns_2
     array-share-prefix-piece
     slice-aggregate-new
     slice-aggregate-feed

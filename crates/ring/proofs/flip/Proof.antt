@@ -18,11 +18,11 @@ returns c =
     let e : cond (ltb b 128) (b + 128) (b - 128) ≡ b + 128 = rw (lt-ltb b 128 c.if1.true) refl in
     omega (arith, e)
 
-returns-2 : tie.Need-returns-2
-returns-2 c =
+returns_2 : tie.Need-returns-2
+returns_2 c =
     let b : ℕ = c.before.args.byte in
     let e : cond (ltb b 128) (b + 128) (b - 128) ≡ b - 128 = rw (le-ltb b 128 (omega arith)) refl in
     omega (arith, e)
 
 pub flip-spec : {M : Type 1} → statement M
-flip-spec = tie.close (tie.spec add-result returns returns-2)
+flip-spec = tie.close (tie.spec add-result returns returns_2)

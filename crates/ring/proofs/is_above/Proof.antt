@@ -7,7 +7,7 @@ use lib.Dec.{leb}
 use Rattle.key.specs.Number.{number, key_at}
 use Rattle.key.specs.Around.{half, up}
 use Rattle.key.proofs.KeyLaws.{key-lt}
-use Rattle.key.proofs.AroundLaws.{above-steps}
+use Rattle.key.proofs.AroundLaws.{above_steps}
 use borrow.Author.Rules.{rules}
 use Rattle.ring.proofs.is_above.Statement.{statement}
 use Rattle.ring.proofs.is_above.Tie as tie
@@ -18,8 +18,8 @@ key-at-requires c κs = search rules
 key-at-requires-2 : tie.Need-key-at-requires-2
 key-at-requires-2 c κs = search rules
 
-minus-requires : tie.Need-minus-requires
-minus-requires c κs = search rules
+minus_requires : tie.Need-minus-requires
+minus_requires c κs = search rules
 
 is-up-requires : tie.Need-is-up-requires
 is-up-requires c κs = search rules
@@ -35,9 +35,9 @@ returns c =
     let k : ℕ = key_at a.at a.s.now in
     let e : number c.before.minus.result ≡ up o k = c.before.minus.ensures ∙ ap₂ up c.before.before.key-at2.ensures c3.key-at.ensures in
     c.is_up.ensures ∙ ap (λ (n : ℕ). leb 1 n && leb n half) e
-    ∙ sym (above-steps o k (key-lt 0 a.own.now (λ i. omega (arith, known.shared-slice-known.given i)) start.requires.0)
+    ∙ sym (above_steps o k (key-lt 0 a.own.now (λ i. omega (arith, known.shared-slice-known.given i)) start.requires.0)
     (key-lt a.at a.s.now (λ i. omega (arith, known2.shared-slice-known2.given i)) start.requires.1))
 
 pub is-above-spec : {M : Type 1} → statement M
 is-above-spec =
-    tie.close (tie.spec key-at-requires key-at-requires-2 minus-requires is-up-requires returns)
+    tie.close (tie.spec key-at-requires key-at-requires-2 minus_requires is-up-requires returns)

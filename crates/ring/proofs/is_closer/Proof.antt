@@ -5,7 +5,7 @@ use Prim.Native.Nat.{◌≤◌, ◌<◌}
 use borrow.Author.Tests.{ltb-true, ltb-false}
 use Rattle.key.specs.Number.{number}
 use Rattle.key.specs.Around.{apart}
-use Rattle.key.proofs.AroundLaws.{closer-less, closer-same, closer-more}
+use Rattle.key.proofs.AroundLaws.{closer_less, closer-same, closer_more}
 use borrow.Author.Rules.{rules}
 use Rattle.ring.proofs.is_closer.Statement.{statement}
 use Rattle.ring.proofs.is_closer.Tie as tie
@@ -17,16 +17,16 @@ returns : tie.Need-returns
 returns c =
     let a = c.before.before.args in
     let h : number a.d < number a.e = ltb-true (number a.d) (number a.e) (sym c.before.is-less.ensures ∙ c.if1.true) in
-    sym (closer-less (number a.target) (number a.k) (number a.j) (omega arith))
+    sym (closer_less (number a.target) (number a.k) (number a.j) (omega arith))
 
 is-less-requires-2 : tie.Need-is-less-requires-2
 is-less-requires-2 c κs = search rules
 
-returns-2 : tie.Need-returns-2
-returns-2 c =
+returns_2 : tie.Need-returns-2
+returns_2 c =
     let a = c.before.before.before.before.args in
     let h : number a.e < number a.d = ltb-true (number a.e) (number a.d) (sym c.before.is-less2.ensures ∙ c.if2.true) in
-    sym (closer-more (number a.target) (number a.k) (number a.j) (omega arith))
+    sym (closer_more (number a.target) (number a.k) (number a.j) (omega arith))
 
 -- where neither is less, the keys are equally far
 equally : (c : tie.Else2) → let a = c.before.before.before.before.args in
@@ -51,4 +51,4 @@ returns-3 c =
 pub is-closer-spec : {M : Type 1} → statement M
 is-closer-spec =
     tie.close
-    (tie.spec is-less-requires returns is-less-requires-2 returns-2 wins-tie-requires returns-3)
+    (tie.spec is-less-requires returns is-less-requires-2 returns_2 wins-tie-requires returns-3)

@@ -8,7 +8,7 @@ use Rattle.octet.specs.Number.{Digits}
 use Rattle.octet.specs.Part.{part, splice}
 use Rattle.octet.proofs.PartLaws.{length_part}
 use Rattle.key.specs.Number.{key_at}
-use Rattle.ring.proofs.HalfLaws.{bytes-are, opposite-is}
+use Rattle.ring.proofs.HalfLaws.{bytes_are, opposite-is}
 use borrow.Author.Rules.{rules}
 use Rattle.ring.proofs.opposite.Statement.{statement}
 use Rattle.ring.proofs.opposite.Tie as tie
@@ -48,7 +48,7 @@ returns c =
     let z : List ℕ = replicate {A = ℕ} 32 0 in
     ap (λ (l : List ℕ). key_at 0 (set l 0 y)) copied.copy-to.ensures
     ∙ opposite-is s d start.requires (set (splice 1 (part 1 31 s) z) 0 y) y
-    (bytes-are y (part 1 31 s) z (length_part 1 31 s (omega (arith, start.requires))) refl) c.flip.ensures
+    (bytes_are y (part 1 31 s) z (length_part 1 31 s (omega (arith, start.requires))) refl) c.flip.ensures
 
 pub opposite-spec : {M : Type 1} → statement M
 opposite-spec =

@@ -6,7 +6,7 @@ use borrow.Author.Tests.{eqb-true, eqb-false}
 use Rattle.key.specs.Number.{number}
 use Rattle.key.specs.Around.{ring, tie}
 use Rattle.key.proofs.KeyLaws.{number-ring}
-use Rattle.key.proofs.AroundLaws.{tie-self}
+use Rattle.key.proofs.AroundLaws.{tie_self}
 use Rattle.ring.proofs.TieLaws.{tie-word}
 use borrow.Author.Rules.{rules}
 use Rattle.ring.proofs.wins_tie.Statement.{statement}
@@ -15,20 +15,20 @@ use Rattle.ring.proofs.wins_tie.Tie as tie-of
 small : (s : tie-of.Start) → (number s.args.target < ring) × (number s.args.k < ring) × (number s.args.j < ring)
 small s = (number-ring s.args.target (omega arith), number-ring s.args.k (omega arith), number-ring s.args.j (omega arith))
 
-is-same-requires : tie-of.Need-is-same-requires
-is-same-requires c κs = search rules
+is-same_requires : tie-of.Need-is-same-requires
+is-same_requires c κs = search rules
 
 returns : tie-of.Need-returns
 returns c =
     let a = c.before.before.args in
     let e : number a.k ≡ number a.j = eqb-true (number a.k) (number a.j) (sym c.before.is_same.ensures ∙ c.if1.true) in
-    sym (ap (λ (n : ℕ). tie (number a.target) (number a.k) n) (sym e) ∙ tie-self (number a.target) (number a.k))
+    sym (ap (λ (n : ℕ). tie (number a.target) (number a.k) n) (sym e) ∙ tie_self (number a.target) (number a.k))
 
-minus-requires : tie-of.Need-minus-requires
-minus-requires c κs = search rules
+minus_requires : tie-of.Need-minus-requires
+minus_requires c κs = search rules
 
-returns-2 : tie-of.Need-returns-2
-returns-2 c =
+returns_2 : tie-of.Need-returns-2
+returns_2 c =
     let m = c.before in
     let s = m.before.before.before in
     let a = s.args in
@@ -37,4 +37,4 @@ returns-2 c =
     m.minus.result (omega (arith, m.minus.type-inv)) m.minus.ensures
 
 pub wins-tie-spec : {M : Type 1} → statement M
-wins-tie-spec = tie-of.close (tie-of.spec is-same-requires returns minus-requires returns-2)
+wins-tie-spec = tie-of.close (tie-of.spec is-same_requires returns minus_requires returns_2)

@@ -11,9 +11,9 @@ returns : tie.Need-returns
 unfolding wrapped
 returns c = (rw (lt-ltb c.before.args.i c.before.args.n c.if1.true) refl, c.if1.true)
 
-returns-2 : tie.Need-returns-2
+returns_2 : tie.Need-returns-2
 unfolding wrapped
-returns-2 c = (rw (le-ltb c.before.args.i c.before.args.n (omega arith)) refl, omega arith)
+returns_2 c = (rw (le-ltb c.before.args.i c.before.args.n (omega arith)) refl, omega arith)
 
 pub wrap_spec : {M : Type 1} → statement M
-wrap_spec = tie.close (tie.spec returns returns-2)
+wrap_spec = tie.close (tie.spec returns returns_2)

@@ -5,8 +5,8 @@ use native.Mathlib.Omega.{arith}
 use mathlib.Core.List.{List}
 use lib.ListN.{length, set, replicate, length-set}
 use Rattle.octet.specs.Part.{splice}
-use Rattle.octet.proofs.PartLaws.{splice-nil}
-use Rattle.runs.proofs.TurnLaws.{fill-turn}
+use Rattle.octet.proofs.PartLaws.{splice_nil}
+use Rattle.runs.proofs.TurnLaws.{fill_turn}
 use Rattle.runs.proofs.clear.Statement.{statement}
 use Rattle.runs.proofs.clear.Tie as tie
 
@@ -17,7 +17,7 @@ abbrev decreases-loop : tie.decreases-loop
 decreases-loop s₀ at n i₀ s i = n - i
 
 loop-holds : tie.Need-loop-init invariant-loop decreases-loop
-loop-holds c = (omega arith, sym (splice-nil c.args.at c.args.s.now), refl)
+loop-holds c = (omega arith, sym (splice_nil c.args.at c.args.s.now), refl)
 
 add-s : tie.Need-overflow-add-s invariant-loop decreases-loop
 add-s c = omega arith
@@ -37,7 +37,7 @@ loop-again c =
     let at-start = at-loop.before in (
       omega arith,
       ap (λ (l : List ℕ). set l (at-start.args.at + at-loop.loop.i) 0) at-loop.loop.invariant.1
-          ∙ fill-turn at-start.args.at at-loop.loop.i 0 at-start.args.s.now (omega arith),
+          ∙ fill_turn at-start.args.at at-loop.loop.i 0 at-start.args.s.now (omega arith),
       simp length-set at-loop.loop.invariant.2,
     )
 

@@ -5,7 +5,7 @@ use Prim.Native.Nat.{ℕ, ◌+◌, ◌-◌}
 use native.Mathlib.Omega.{arith}
 use lib.ListN.{length, take, drop}
 use Rattle.octet.specs.Part.{part, splice}
-use Rattle.octet.proofs.PartLaws.{length_part, splice-whole}
+use Rattle.octet.proofs.PartLaws.{length_part, splice_whole}
 use borrow.Author.Rules.{rules}
 use Rattle.runs.proofs.copy_16.Statement.{statement}
 use Rattle.runs.proofs.copy_16.Tie as tie
@@ -48,7 +48,7 @@ returns c =
     let is : take (from + 16 - from) (drop from s) ≡ part from 16 s = ap (λ (n : ℕ). take n (drop from s)) width in
     sent.copy-to2.ensures
     ∙ ap (λ (l : List ℕ). splice start.args.at l start.args.dst.now)
-    (got.copy-to.ensures ∙ splice-whole (take (from + 16 - from) (drop from s)) _ (ap length is ∙ length_part from 16 s start.requires.1) ∙ is)
+    (got.copy-to.ensures ∙ splice_whole (take (from + 16 - from) (drop from s)) _ (ap length is ∙ length_part from 16 s start.requires.1) ∙ is)
 
 pub copy-16-spec : {M : Type 1} → statement M
 copy-16-spec =

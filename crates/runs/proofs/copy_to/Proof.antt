@@ -6,8 +6,8 @@ use mathlib.Core.List.{List}
 use lib.ListN.{length, take, get_or, set, length-set}
 use lib.Seq.{take-length}
 use Rattle.octet.specs.Part.{splice}
-use Rattle.octet.proofs.PartLaws.{splice-nil}
-use Rattle.runs.proofs.TurnLaws.{copy-turn}
+use Rattle.octet.proofs.PartLaws.{splice_nil}
+use Rattle.runs.proofs.TurnLaws.{copy_turn}
 use Rattle.runs.proofs.copy_to.Statement.{statement}
 use Rattle.runs.proofs.copy_to.Tie as tie
 
@@ -18,7 +18,7 @@ abbrev decreases-loop : tie.decreases-loop
 decreases-loop dst₀ at src i₀ dst i = length src - i
 
 loop-holds : tie.Need-loop-init invariant-loop decreases-loop
-loop-holds c = (omega arith, sym (splice-nil c.args.at c.args.dst.now), refl)
+loop-holds c = (omega arith, sym (splice_nil c.args.at c.args.dst.now), refl)
 
 shared-slice-read-dst : tie.Need-shared-slice-read-dst invariant-loop decreases-loop
 shared-slice-read-dst c = omega arith
@@ -42,7 +42,7 @@ loop-again c =
       omega arith,
       ap (λ (l : List ℕ). set l (at-start.args.at + at-loop.loop.i) (get_or at-start.args.src.now at-loop.loop.i 0))
           at-loop.loop.invariant.1
-          ∙ copy-turn at-start.args.at at-loop.loop.i at-start.args.src.now at-start.args.dst.now (omega arith) (omega arith),
+          ∙ copy_turn at-start.args.at at-loop.loop.i at-start.args.src.now at-start.args.dst.now (omega arith) (omega arith),
       simp length-set at-loop.loop.invariant.2,
     )
 

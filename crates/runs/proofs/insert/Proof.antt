@@ -5,7 +5,7 @@ use native.Mathlib.Omega.{arith}
 use borrow.Author.Rules.{rules}
 use lib.ListN.{length}
 use Rattle.octet.specs.Part.{part}
-use Rattle.octet.proofs.PartLaws.{length_part, splice-under}
+use Rattle.octet.proofs.PartLaws.{length_part, splice_under}
 use Rattle.runs.proofs.insert.Statement.{statement}
 use Rattle.runs.proofs.insert.Tie as tie
 
@@ -32,7 +32,7 @@ returns c =
     let src = start.args.src.now in
     let count = start.args.end - at in
     let n : length (part at count s) ≡ count = length_part at count s (omega arith) in
-    cc (splice-under at (length src) src (part at count s) s refl (omega arith))
+    cc (splice_under at (length src) src (part at count s) s refl (omega arith))
 
 pub insert-spec : {M : Type 1} → statement M
 insert-spec =

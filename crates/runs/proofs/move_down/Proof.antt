@@ -7,8 +7,8 @@ use native.Mathlib.Omega.{arith}
 use borrow.Author.Rules.{rules}
 use lib.ListN.{length, take, drop, length-set, length-take, length-drop}
 use Rattle.octet.specs.Part.{part, splice}
-use Rattle.octet.proofs.PartLaws.{splice-nil, length_part}
-use Rattle.runs.proofs.LentLaws.{put-mid, part-lent}
+use Rattle.octet.proofs.PartLaws.{splice_nil, length_part}
+use Rattle.runs.proofs.LentLaws.{put_mid, part_lent}
 use Rattle.runs.proofs.TurnLaws.{down_turn}
 use Rattle.runs.proofs.move_down.Statement.{statement}
 use Rattle.runs.proofs.move_down.Tie as tie
@@ -46,14 +46,14 @@ returns c =
     let a = start.args in
     let s = a.s.now in
     let from : a.to + 100 ≡ a.from = omega arith in
-    put-mid a.to 0 (part 100 a.n (take (length s - a.to) (drop a.to s))) s c.before.before.shift-100.new.0
+    put_mid a.to 0 (part 100 a.n (take (length s - a.to) (drop a.to s))) s c.before.before.shift-100.new.0
     (omega (
       arith,
       length_part 100 a.n (take (length s - a.to) (drop a.to s))
           (omega (arith, length-take (length s - a.to) (drop a.to s), length-drop a.to s)),
     )) c.before.before.shift-100.ensures
     ∙ ap₂ (λ (p : ℕ) (l : List ℕ). splice p l s) (add-zero a.to)
-    (part-lent a.to 100 a.n s (omega arith) ∙ ap (λ (p : ℕ). part p a.n s) from)
+    (part_lent a.to 100 a.n s (omega arith) ∙ ap (λ (p : ℕ). part p a.n s) from)
 
 sub-if2 : tie.Need-overflow-sub-if2 invariant-loop decreases-loop
 sub-if2 c = omega arith
@@ -76,23 +76,23 @@ shift-140-requires c κs =
 same-length-2 : tie.Need-same-length-2 invariant-loop decreases-loop
 same-length-2 c = search rules
 
-returns-2 : tie.Need-returns-2 invariant-loop decreases-loop
-returns-2 c =
+returns_2 : tie.Need-returns-2 invariant-loop decreases-loop
+returns_2 c =
     let start = c.before.before.before.before.before.before.before in
     let a = start.args in
     let s = a.s.now in
     let from : a.to + 140 ≡ a.from = omega arith in
-    put-mid a.to 0 (part 140 a.n (take (length s - a.to) (drop a.to s))) s c.before.before.shift-140.new.0
+    put_mid a.to 0 (part 140 a.n (take (length s - a.to) (drop a.to s))) s c.before.before.shift-140.new.0
     (omega (
       arith,
       length_part 140 a.n (take (length s - a.to) (drop a.to s))
           (omega (arith, length-take (length s - a.to) (drop a.to s), length-drop a.to s)),
     )) c.before.before.shift-140.ensures
     ∙ ap₂ (λ (p : ℕ) (l : List ℕ). splice p l s) (add-zero a.to)
-    (part-lent a.to 140 a.n s (omega arith) ∙ ap (λ (p : ℕ). part p a.n s) from)
+    (part_lent a.to 140 a.n s (omega arith) ∙ ap (λ (p : ℕ). part p a.n s) from)
 
 loop-holds : tie.Need-loop-init invariant-loop decreases-loop
-loop-holds c = let a = c.before.before.before.args in (omega arith, sym (splice-nil a.to a.s.now), refl)
+loop-holds c = let a = c.before.before.before.args in (omega arith, sym (splice_nil a.to a.s.now), refl)
 
 add-x : tie.Need-overflow-add-x invariant-loop decreases-loop
 add-x c = omega arith
@@ -151,7 +151,7 @@ move_down_spec =
     part-shift-140-end
     shift-140-requires
     same-length-2
-    returns-2
+    returns_2
     loop-holds
     add-x
     slice-read-x

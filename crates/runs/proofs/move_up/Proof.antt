@@ -7,8 +7,8 @@ use native.Mathlib.Omega.{arith}
 use borrow.Author.Rules.{rules}
 use lib.ListN.{length, take, drop, length-set, length-take, length-drop}
 use Rattle.octet.specs.Part.{part, splice}
-use Rattle.octet.proofs.PartLaws.{splice-nil, length_part}
-use Rattle.runs.proofs.LentLaws.{put-mid, part-lent}
+use Rattle.octet.proofs.PartLaws.{splice_nil, length_part}
+use Rattle.runs.proofs.LentLaws.{put_mid, part_lent}
 use Rattle.runs.proofs.TurnLaws.{up_turn}
 use Rattle.runs.proofs.move_up.Statement.{statement}
 use Rattle.runs.proofs.move_up.Tie as tie
@@ -46,13 +46,13 @@ returns c =
     let a = start.args in
     let s = a.s.now in
     let to : a.from + 100 ≡ a.to = omega arith in
-    put-mid a.from 100 (part 0 a.n (take (length s - a.from) (drop a.from s))) s c.before.before.lift-100.new.0
+    put_mid a.from 100 (part 0 a.n (take (length s - a.from) (drop a.from s))) s c.before.before.lift-100.new.0
     (omega (
       arith,
       length_part 0 a.n (take (length s - a.from) (drop a.from s))
           (omega (arith, length-take (length s - a.from) (drop a.from s), length-drop a.from s)),
     )) c.before.before.lift-100.ensures
-    ∙ ap₂ (λ (p : ℕ) (l : List ℕ). splice p l s) to (part-lent a.from 0 a.n s (omega arith)
+    ∙ ap₂ (λ (p : ℕ) (l : List ℕ). splice p l s) to (part_lent a.from 0 a.n s (omega arith)
     ∙ ap (λ (p : ℕ). part p a.n s) (add-zero a.from))
 
 sub-if2 : tie.Need-overflow-sub-if2 invariant-loop decreases-loop
@@ -76,19 +76,19 @@ lift-140-requires c κs =
 same-length-2 : tie.Need-same-length-2 invariant-loop decreases-loop
 same-length-2 c = search rules
 
-returns-2 : tie.Need-returns-2 invariant-loop decreases-loop
-returns-2 c =
+returns_2 : tie.Need-returns-2 invariant-loop decreases-loop
+returns_2 c =
     let start = c.before.before.before.before.before.before.before in
     let a = start.args in
     let s = a.s.now in
     let to : a.from + 140 ≡ a.to = omega arith in
-    put-mid a.from 140 (part 0 a.n (take (length s - a.from) (drop a.from s))) s c.before.before.lift-140.new.0
+    put_mid a.from 140 (part 0 a.n (take (length s - a.from) (drop a.from s))) s c.before.before.lift-140.new.0
     (omega (
       arith,
       length_part 0 a.n (take (length s - a.from) (drop a.from s))
           (omega (arith, length-take (length s - a.from) (drop a.from s), length-drop a.from s)),
     )) c.before.before.lift-140.ensures
-    ∙ ap₂ (λ (p : ℕ) (l : List ℕ). splice p l s) to (part-lent a.from 0 a.n s (omega arith)
+    ∙ ap₂ (λ (p : ℕ) (l : List ℕ). splice p l s) to (part_lent a.from 0 a.n s (omega arith)
     ∙ ap (λ (p : ℕ). part p a.n s) (add-zero a.from))
 
 loop-holds : tie.Need-loop-init invariant-loop decreases-loop
@@ -97,7 +97,7 @@ loop-holds c =
     let s = a.s.now in
     let end = a.to + a.n in
     let none = ap (λ (k : ℕ). splice end (part (a.from + a.n) k s) s) (sub_self a.n) in
-    (omega arith, sym (none ∙ splice-nil end s), refl)
+    (omega arith, sym (none ∙ splice_nil end s), refl)
 
 sub-i : tie.Need-overflow-sub-i invariant-loop decreases-loop
 sub-i c = omega arith
@@ -158,7 +158,7 @@ move_up_spec =
     part-lift-140-end
     lift-140-requires
     same-length-2
-    returns-2
+    returns_2
     loop-holds
     sub-i
     add-x

@@ -5,7 +5,7 @@ use native.Mathlib.Omega.{arith}
 use borrow.Author.Rules.{rules}
 use lib.ListN.{replicate, length-replicate}
 use Rattle.octet.specs.Part.{part, splice}
-use Rattle.octet.proofs.PartLaws.{length_part, splice-next}
+use Rattle.octet.proofs.PartLaws.{length_part, splice_next}
 use Rattle.runs.proofs.remove.Statement.{statement}
 use Rattle.runs.proofs.remove.Tie as tie
 
@@ -37,7 +37,7 @@ returns c =
     let zeros = replicate {A = ℕ} start.args.n 0 in
     c.before.before.clear.ensures
     ∙ ap (splice (at + count) zeros) c.before.before.before.before.before.before.move_down.ensures
-    ∙ splice-next at count (part from count s) zeros s (length_part from count s (omega arith))
+    ∙ splice_next at count (part from count s) zeros s (length_part from count s (omega arith))
     (omega (arith, length-replicate {A = ℕ} start.args.n 0))
 
 pub remove-spec : {M : Type 1} → statement M

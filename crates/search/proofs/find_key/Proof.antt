@@ -7,11 +7,11 @@ use native.Mathlib.Omega.{arith}
 use lib.ListN.{length, get_or}
 use Rattle.key.specs.Number.{key_at, order_of}
 use Rattle.key.specs.declared.Order.{Order}
-use Rattle.key.proofs.OrderLaws.{less-is, same-is, more-is}
+use Rattle.key.proofs.OrderLaws.{less_is, same-is, more_is}
 use Rattle.record.specs.Record.{key_of}
 use Rattle.table.specs.Rows.{rows}
-use Rattle.search.proofs.HalvingLaws.{halvings-few}
-use Rattle.search.proofs.SeekLaws.{key-among, keys-many, Halved, halved-all, halved-less, halved-more, halved-same, halved-end}
+use Rattle.search.proofs.HalvingLaws.{halvings_few}
+use Rattle.search.proofs.SeekLaws.{key-among, keys_many, Halved, halved-all, halved-less, halved-more, halved-same, halved-end}
 use borrow.Author.Rules.{rules}
 use Rattle.search.proofs.find_key.Statement.{statement}
 use Rattle.search.proofs.find_key.Tie as tie
@@ -44,7 +44,7 @@ told : (r : tie.After-order-of invariant-loop decreases-loop) {o : Order} → r.
 told r e = sym r.order-of.ensures ∙ e
 
 many : (l : tie.At-loop invariant-loop decreases-loop) → length (keys l) ≡ (start l).args.used
-many l = keys-many (start l).args.used (start l).args.cache.now
+many l = keys_many (start l).args.used (start l).args.cache.now
 
 -- the key in the middle, among the keys
 here : (l : tie.At-loop invariant-loop decreases-loop) → l.loop.low < l.loop.high
@@ -59,7 +59,7 @@ loop-holds c =
     let s = c.before.before.before in
     let a = s.args in
     halved-all (key_at 0 a.key.now) (map key_of (rows 100 a.used a.cache.now)) s.requires.1.1 a.used
-    (keys-many a.used a.cache.now)
+    (keys_many a.used a.cache.now)
 
 sub-middle : tie.Need-overflow-sub-middle invariant-loop decreases-loop
 sub-middle c = omega arith
@@ -68,7 +68,7 @@ add-middle : tie.Need-overflow-add-middle invariant-loop decreases-loop
 add-middle c = omega (arith, many c.before)
 
 add-compared : tie.Need-overflow-add-compared invariant-loop decreases-loop
-add-compared c = let l = c.before in omega (arith, l.loop.invariant.counted, halvings-few (keys l) (goal l), many l)
+add-compared c = let l = c.before in omega (arith, l.loop.invariant.counted, halvings_few (keys l) (goal l), many l)
 
 order-of-requires : tie.Need-order-of-requires invariant-loop decreases-loop
 order-of-requires c κs =
@@ -93,7 +93,7 @@ loop-again c =
     let a = (start l).args in
     let some : l.loop.low < l.loop.high = omega arith in
     halved-less (goal l) (keys l) (start l).pre.1.1 l.loop.low l.loop.high l.loop.compared l.loop.inv some
-    (omega (arith, here l some, less-is (key_at (100 * middle l) a.cache.now) (goal l) (told r c.enum_told.given.1)))
+    (omega (arith, here l some, less_is (key_at (100 * middle l) a.cache.now) (goal l) (told r c.enum_told.given.1)))
 
 enum-told-2 : tie.Need-enum-told-2 invariant-loop decreases-loop
 enum-told-2 c = search rules
@@ -121,10 +121,10 @@ loop-again-2 c =
     let a = (start l).args in
     let some : l.loop.low < l.loop.high = omega arith in
     halved-more (goal l) (keys l) (start l).pre.1.1 l.loop.low l.loop.high l.loop.compared l.loop.inv some
-    (omega (arith, here l some, more-is (key_at (100 * middle l) a.cache.now) (goal l) (told r c.enum-told3.given.1)))
+    (omega (arith, here l some, more_is (key_at (100 * middle l) a.cache.now) (goal l) (told r c.enum-told3.given.1)))
 
-returns-2 : tie.Need-returns-2 invariant-loop decreases-loop
-returns-2 c =
+returns_2 : tie.Need-returns-2 invariant-loop decreases-loop
+returns_2 c =
     let l = c.before in
     sym (halved-end (goal l) (keys l) (start l).requires.1.1 l.loop.low l.loop.high l.loop.compared l.loop.invariant (omega arith))
 
@@ -149,4 +149,4 @@ find-key-spec =
     enum-told-3
     loop-less-2
     loop-again-2
-    returns-2)
+    returns_2)

@@ -23,8 +23,8 @@ wanted r = (start r).args.key.now
 abbrev place : tie.After-read-u64 → ℕ
 place r = 100 * (start r).args.i
 
-held_bytes : (r : tie.After-read-u64) → Digits 256 (held r)
-held_bytes r = λ i. omega (arith, r.before.before.shared-slice-known.given i)
+held_bytes_lem : (r : tie.After-read-u64) → Digits 256 (held r)
+held_bytes_lem r = λ i. omega (arith, r.before.before.shared-slice-known.given i)
 
 wanted-bytes : (r : tie.After-read-u64) → Digits 256 (wanted r)
 wanted-bytes r = λ i. omega (arith, r.before.shared-slice-known2.given i)
@@ -41,13 +41,13 @@ read-u64-requires c κs = search rules
 returns : tie.Need-returns
 returns c =
     let r = c.before in
-    sym (first-less (place r) 0 (held r) (wanted r) (held_bytes r) (wanted-bytes r) (room r) (start r).requires.1.0
+    sym (first-less (place r) 0 (held r) (wanted r) (held_bytes_lem r) (wanted-bytes r) (room r) (start r).requires.1.0
     (omega (arith, c.if1.true, r.read_u64.ensures, (start r).requires.1.1)))
 
-returns-2 : tie.Need-returns-2
-returns-2 c =
+returns_2 : tie.Need-returns-2
+returns_2 c =
     let r = c.before.before in
-    sym (first_more (place r) 0 (held r) (wanted r) (held_bytes r) (wanted-bytes r) (room r) (start r).requires.1.0
+    sym (first_more (place r) 0 (held r) (wanted r) (held_bytes_lem r) (wanted-bytes r) (room r) (start r).requires.1.0
     (omega (arith, c.if2.true, r.read_u64.ensures, (start r).requires.1.1)))
 
 order-at-requires : tie.Need-order-at-requires
@@ -57,4 +57,4 @@ returns-3 : tie.Need-returns-3
 returns-3 c = c.order-at.ensures
 
 pub order-of-spec : {M : Type 1} → statement M
-order-of-spec = tie.close (tie.spec mul_at read-u64-requires returns returns-2 order-at-requires returns-3)
+order-of-spec = tie.close (tie.spec mul_at read-u64-requires returns returns_2 order-at-requires returns-3)

@@ -74,8 +74,8 @@ loop-less c = search rules
 loop-again : tie.Need-loop-preserved invariant-loop decreases-loop
 loop-again c = search rules
 
-returns-2 : tie.Need-returns-2 invariant-loop decreases-loop
-returns-2 c = tt
+returns_2 : tie.Need-returns-2 invariant-loop decreases-loop
+returns_2 c = tt
 
 pub main_spec : {M : Type 1} → statement M
 main_spec =
@@ -103,4 +103,4 @@ main_spec =
     add_at
     loop-less
     loop-again
-    returns-2)
+    returns_2)

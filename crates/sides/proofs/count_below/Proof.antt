@@ -12,8 +12,8 @@ use Rattle.ring.proofs.HalfLaws.{byte_low, byte_high}
 use Rattle.record.specs.Record.{key_of}
 use Rattle.table.specs.Rows.{rows}
 use Rattle.kept.specs.Keys.{Rising, plain}
-use Rattle.kept.specs.Plain.{countBelow}
-use Rattle.kept.specs.Turned.{countUpto}
+use Rattle.kept.specs.Plain.{count_below}
+use Rattle.kept.specs.Turned.{count_upto}
 use Rattle.sides.proofs.SideLaws.{first-most, rises-over, rises-under, low_sum, high_sum}
 use borrow.Author.Rules.{rules}
 use Rattle.sides.proofs.count_below.Statement.{statement}
@@ -22,14 +22,14 @@ use Rattle.sides.proofs.count_below.Tie as tie
 abbrev start : tie.After-opposite → tie.Start
 start c = c.before.before.before
 
-own-bytes : (c : tie.After-opposite) → Bytes (start c).args.own.now
-own-bytes c = λ i. omega (arith, c.before.before.shared-slice-known.given i)
+own_bytes : (c : tie.After-opposite) → Bytes (start c).args.own.now
+own_bytes c = λ i. omega (arith, c.before.before.shared-slice-known.given i)
 
 bytes : (c : tie.After-opposite) → Bytes (start c).args.cache.now
 bytes c = λ i. omega (arith, c.before.shared-slice-known2.given i)
 
 small : (c : tie.After-opposite) → key_of (start c).args.own.now < ring
-small c = key-lt 0 (start c).args.own.now (own-bytes c) (start c).requires.0.0
+small c = key-lt 0 (start c).args.own.now (own_bytes c) (start c).requires.0.0
 
 room : (s : tie.Start) → 100 * s.args.used ≤ length s.args.cache.now
 room s = s.requires.0.1
@@ -63,22 +63,22 @@ module _ (c : tie.After-opposite) where
       (start c).requires.1.1.1
 
   low : (n : ℕ) → get_or (start c).args.own.now 0 0 < 128
-      → n ≡ countUpto (key_at 0 c.opposite.result) (over c)
-      → countBelow (own c) (map key_of (rows 100 (start c).args.used (start c).args.cache.now)) + n ≡ (start c).args.used
+      → n ≡ count_upto (key_at 0 c.opposite.result) (over c)
+      → count_below (own c) (map key_of (rows 100 (start c).args.used (start c).args.cache.now)) + n ≡ (start c).args.used
   low n h e =
       let a = (start c).args in
       low_sum (own c) a.used a.first a.cache.now (room (start c)) (start c).requires.1.0 (start c).requires.1.1.0 (small c) (bytes c)
       (start c).requires.1.1.1 (key_at 0 c.opposite.result) n
-      c.opposite.ensures (byte_low a.own.now (own-bytes c) (start c).requires.0.0 h) e
+      c.opposite.ensures (byte_low a.own.now (own_bytes c) (start c).requires.0.0 h) e
 
   high : (n : ℕ) → 128 ≤ get_or (start c).args.own.now 0 0
-      → n ≡ countUpto (key_at 0 c.opposite.result) (map key_of (rows 100 (start c).args.first (start c).args.cache.now))
-      → countBelow (own c) (map key_of (rows 100 (start c).args.used (start c).args.cache.now)) + n ≡ (start c).args.first
+      → n ≡ count_upto (key_at 0 c.opposite.result) (map key_of (rows 100 (start c).args.first (start c).args.cache.now))
+      → count_below (own c) (map key_of (rows 100 (start c).args.used (start c).args.cache.now)) + n ≡ (start c).args.first
   high n h e =
       let a = (start c).args in
       high_sum (own c) a.used a.first a.cache.now (room (start c)) (start c).requires.1.0 (start c).requires.1.1.0 (small c) (bytes c)
       (start c).requires.1.1.1 (key_at 0 c.opposite.result) n
-      c.opposite.ensures (byte_high a.own.now (own-bytes c) (start c).requires.0.0 h) e
+      c.opposite.ensures (byte_high a.own.now (own_bytes c) (start c).requires.0.0 h) e
 
 opposite-requires : tie.Need-opposite-requires
 opposite-requires c κs = search rules
@@ -144,8 +144,8 @@ sub-result-2 c =
     let o = c.before.before.before.before in
     omega (arith, high o c.count-upto2.result (omega (arith, c.before.before.if1.false)) c.count-upto2.ensures)
 
-returns-2 : tie.Need-returns-2
-returns-2 c =
+returns_2 : tie.Need-returns-2
+returns_2 c =
     let o = c.before.before.before.before in
     omega (arith, high o c.count-upto2.result (omega (arith, c.before.before.if1.false)) c.count-upto2.ensures)
 
@@ -167,4 +167,4 @@ count-below-spec =
     slice-aggregate-count-upto-2
     count-upto-requires-2
     sub-result-2
-    returns-2)
+    returns_2)

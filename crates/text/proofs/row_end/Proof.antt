@@ -29,8 +29,8 @@ loop-less c = search rules
 loop-again : tie.Need-loop-preserved invariant-loop decreases-loop
 loop-again c = search rules
 
-returns-2 : tie.Need-returns-2 invariant-loop decreases-loop
-returns-2 c = search rules
+returns_2 : tie.Need-returns-2 invariant-loop decreases-loop
+returns_2 c = search rules
 
 pub row-end-spec : {M : Type 1} → statement M
 row-end-spec =
@@ -44,4 +44,4 @@ row-end-spec =
     add_at
     loop-less
     loop-again
-    returns-2)
+    returns_2)

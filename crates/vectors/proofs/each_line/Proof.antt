@@ -81,8 +81,8 @@ same-length-13 c = search rules
 same-length-14 : tie.Need-same-length-14 invariant-loop decreases-loop
 same-length-14 c = search rules
 
-returns-2 : tie.Need-returns-2 invariant-loop decreases-loop
-returns-2 c = search rules
+returns_2 : tie.Need-returns-2 invariant-loop decreases-loop
+returns_2 c = search rules
 
 pub each-line-spec : {M : Type 1} → statement M
 each-line-spec =
@@ -112,4 +112,4 @@ each-line-spec =
     same-length-12
     same-length-13
     same-length-14
-    returns-2)
+    returns_2)

@@ -8,8 +8,8 @@ use lib.Seq.{take_all, length-take-le}
 use Rattle.refusal.specs.Table.{first_of as firstRow}
 use Rattle.trace.specs.Fault.{faults}
 use Rattle.why.specs.Text.{text_of}
-use Rattle.why.specs.Input.{first_of, toldBehind}
-use Rattle.why.proofs.InputLaws.{first-long, told_none, told-bad, told-good}
+use Rattle.why.specs.Input.{first_of, told_behind}
+use Rattle.why.proofs.InputLaws.{first_long, told_none, told-bad, told-good}
 use borrow.Author.Rules.{rules}
 use Rattle.why.proofs.answer.Statement.{statement}
 use Rattle.why.proofs.answer.Tie as tie
@@ -52,8 +52,8 @@ put-number-requires-2 c κs = search rules
 same-length-2 : tie.Need-same-length-2
 same-length-2 c = search rules
 
-returns-2 : tie.Need-returns-2
-returns-2 c =
+returns_2 : tie.Need-returns-2
+returns_2 c =
     let p = c.before.before in
     let f = p.before.before in
     let g = f.before in
@@ -77,7 +77,7 @@ put-behind-requires c κs =
     let f = c.before.before in
     let g = f.before in
     let s = (start g).before.before.before in
-    (s.pre, omega (arith, first-long _ (sym g.fault-of.ensures ∙ f.if2.false)))
+    (s.pre, omega (arith, first_long _ (sym g.fault-of.ensures ∙ f.if2.false)))
 
 same-length-3 : tie.Need-same-length-3
 same-length-3 c = search rules
@@ -95,7 +95,7 @@ returns-3 c =
     let rest : take (length input - end) (drop end input) ≡ drop end input =
     take_all (length input - end) (drop end input) (omega (arith, length-drop end input)) in (
       p.put-behind.ensures.0
-          ∙ ap text_of (ap₂ toldBehind m.first-end.ensures.1.0 (rest ∙ m.first-end.ensures.1.1)
+          ∙ ap text_of (ap₂ told_behind m.first-end.ensures.1.0 (rest ∙ m.first-end.ensures.1.1)
           ∙ told-good input e.if1.left (sym (tested g) ∙ f.if2.false)),
       p.put-behind.ensures.1,
     )
@@ -112,7 +112,7 @@ answer-spec =
     fault-of-requires
     put-number-requires-2
     same-length-2
-    returns-2
+    returns_2
     sub-put-behind
     part-put-behind-start
     part-put-behind-end

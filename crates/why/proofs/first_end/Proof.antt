@@ -28,8 +28,8 @@ read-u16-le-requires c κs = search rules
 cast-told : tie.Need-overflow-cast-told
 cast-told c = search rules
 
-returns-2 : tie.Need-returns-2
-returns-2 c =
+returns_2 : tie.Need-returns-2
+returns_2 c =
     let d = c.before.before.before.before.args.input.now in
     let more : length d ≤ 2 + length_of d = omega (arith, c.if2.true, c.before.read-u16-le.ensures) in
     (omega arith, (all d (2 + length_of d) more, none d (2 + length_of d) more))
@@ -47,4 +47,4 @@ returns-3 c =
 
 pub first-end-spec : {M : Type 1} → statement M
 first-end-spec =
-    tie.close (tie.spec returns read-u16-le-requires cast-told returns-2 add-result returns-3)
+    tie.close (tie.spec returns read-u16-le-requires cast-told returns_2 add-result returns-3)

@@ -41,8 +41,8 @@ write-all-requires-2 c κs = search rules
 returns : tie.Need-returns
 returns c = search rules
 
-returns-2 : tie.Need-returns-2
-returns-2 c = search rules
+returns_2 : tie.Need-returns-2
+returns_2 c = search rules
 
 pub main_spec : {M : Type 1} → statement M
 main_spec =
@@ -60,4 +60,4 @@ main_spec =
     slice-aggregate-write-all-2
     write-all-requires-2
     returns
-    returns-2)
+    returns_2)

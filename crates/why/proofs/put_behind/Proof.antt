@@ -7,7 +7,7 @@ use lib.ListN.{length, get_or, take, drop, length-drop}
 use lib.Seq.{take_all}
 use Rattle.octet.specs.Part.{part}
 use Rattle.trace.specs.Trace.{length_of}
-use Rattle.named.specs.Call.{nameCall}
+use Rattle.named.specs.Call.{name_call}
 use Rattle.why.specs.Text.{text_of}
 use Rattle.why.proofs.InputLaws.{behind-cut, behind-whole}
 use borrow.Author.Rules.{rules}
@@ -44,8 +44,8 @@ put-number-requires-2 c κs = search rules
 same-length-2 : tie.Need-same-length-2
 same-length-2 c = search rules
 
-returns-2 : tie.Need-returns-2
-returns-2 c =
+returns_2 : tie.Need-returns-2
+returns_2 c =
     let p = c.before.before in
     let f = p.before.before in
     let r = f.before in
@@ -110,7 +110,7 @@ returns-3 c =
     take_all (length rest - (2 + size)) (drop (2 + size) rest) (omega (arith, length-drop (2 + size) rest))
     ∙ ap (λ (k : ℕ). drop (2 + k) rest) is in (
       p.put-named.ensures.0
-          ∙ ap text_of (ap₂ (λ (x y : List ℕ). nameCall (part 6 100 first) x (get_or first 4 0) y) cache datagram
+          ∙ ap text_of (ap₂ (λ (x y : List ℕ). name_call (part 6 100 first) x (get_or first 4 0) y) cache datagram
           ∙ behind-whole first rest (omega (arith, f.if2.false, r.before.if1.false, is))),
       p.put-named.ensures.1,
     )
@@ -127,7 +127,7 @@ put-behind-spec =
     sub-if2
     put-number-requires-2
     same-length-2
-    returns-2
+    returns_2
     add-end
     sub-put-named
     part-put-named-start

@@ -5,12 +5,12 @@ use Prim.Native.Nat.{ℕ, ◌+◌, ◌≤◌}
 use native.Mathlib.Omega.{arith}
 use lib.ListN.{length}
 use Rattle.record.specs.Record.{key_of}
-use Rattle.reason.specs.Reason.{becauseOf}
-use Rattle.named.specs.Spots.{recordAt}
-use Rattle.why.specs.Text.{recordText, reasonText}
+use Rattle.reason.specs.Reason.{because_of}
+use Rattle.named.specs.Spots.{record_at}
+use Rattle.why.specs.Text.{record_text, reason_text}
 use Rattle.why.specs.Puts.{HasKey}
-use Rattle.why.proofs.PutsLaws.{puts-next}
-use Rattle.why.proofs.ChoiceLaws.{record-long, has_key}
+use Rattle.why.proofs.PutsLaws.{puts_next}
+use Rattle.why.proofs.ChoiceLaws.{record_long, has_key}
 use borrow.Author.Rules.{rules}
 use Rattle.why.proofs.put_choice.Statement.{statement}
 use Rattle.why.proofs.put_choice.Tie as tie
@@ -28,7 +28,7 @@ put-record-requires c κs =
     let s = m.before.before.before.before in
     let a = s.args in
     let long = ap length m.record-at.ensures
-    ∙ record-long a.own.now a.cache.now a.choice.chosen s.requires.1.chosen s.requires.1.somewhere in
+    ∙ record_long a.own.now a.cache.now a.choice.chosen s.requires.1.chosen s.requires.1.somewhere in
     (omega (arith, s.requires.0), omega (arith, long))
 
 put-reason-requires : tie.Need-put-reason-requires
@@ -52,8 +52,8 @@ returns c =
     let n = r.before.before in
     let s = n.before.before.before.before.before in
     let a = s.args in (
-      (puts-next r.put_record.ensures.0 e.put-reason.ensures.0).stands
-          ∙ ap₂ (λ (x y : List ℕ). recordText x ++ reasonText (becauseOf a.choice.reason (key_of y))) n.before.record-at.ensures
+      (puts_next r.put_record.ensures.0 e.put-reason.ensures.0).stands
+          ∙ ap₂ (λ (x y : List ℕ). record_text x ++ reason_text (because_of a.choice.reason (key_of y))) n.before.record-at.ensures
           n.record-at2.ensures,
       omega (arith, s.requires.0, r.put_record.ensures.1, e.put-reason.ensures.1),
     )

@@ -2,8 +2,8 @@
 use mathlib.Core.Path.{◌≡◌, sym, ap, subst, ◌∙◌}
 use Prim.Native.Nat.{ℕ, ◌≤◌}
 use native.Mathlib.Omega.{arith}
-use Rattle.named.specs.Call.{nameCall}
-use Rattle.named.specs.Spots.{toldBy, Within}
+use Rattle.named.specs.Call.{name_call}
+use Rattle.named.specs.Spots.{told_by, Within}
 use Rattle.named.specs.declared.Named.{Named}
 use Rattle.why.specs.Text.{text_of}
 use borrow.Author.Rules.{rules}
@@ -14,8 +14,8 @@ abbrev start : tie.After-name → tie.Start
 start m = m.before.before.before.before.before
 
 told : (m : tie.After-name) {r : Named} → m.name.result ≡ r
-    → (let a = (start m).args in toldBy a.own.now a.cache.now r ≡ nameCall a.own.now a.cache.now a.major a.datagram.now)
-told m e = let a = (start m).args in sym (ap (toldBy a.own.now a.cache.now) e) ∙ m.name.ensures.0
+    → (let a = (start m).args in told_by a.own.now a.cache.now r ≡ name_call a.own.now a.cache.now a.major a.datagram.now)
+told m e = let a = (start m).args in sym (ap (told_by a.own.now a.cache.now) e) ∙ m.name.ensures.0
 
 name-requires : tie.Need-name-requires
 name-requires c κs = search rules
@@ -49,8 +49,8 @@ returns c =
 same-length-2 : tie.Need-same-length-2
 same-length-2 c = search rules
 
-returns-2 : tie.Need-returns-2
-returns-2 c =
+returns_2 : tie.Need-returns-2
+returns_2 c =
     let p = c.before.before in
     let k = p.before.before.before in
     let m = k.before.before in
@@ -68,4 +68,4 @@ put-named-spec =
     same_length
     returns
     same-length-2
-    returns-2)
+    returns_2)

@@ -3,7 +3,7 @@
 use borrow.Author.Tests.{eq-eqb, ne_eqb}
 use mathlib.Core.Path.{sym, ◌∙◌}
 use Rattle.wire_fields.specs.Reading.{places_at}
-use Rattle.wire_buffer.specs.Buffer.{bufferAt}
+use Rattle.wire_buffer.specs.Buffer.{buffer_at}
 use borrow.Author.Rules.{rules}
 use Rattle.wire_buffer.proofs.read_buffer.Statement.{statement}
 use Rattle.wire_buffer.proofs.read_buffer.Tie as tie
@@ -18,7 +18,7 @@ enum_told : tie.Need-enum-told
 enum_told c = search rules
 
 returns : tie.Need-returns
-unfolding bufferAt places_at
+unfolding buffer_at places_at
 returns c =
     rw (sym c.before.before.fixed.ensures ∙ c.enum_told.given.1)
 
@@ -31,9 +31,9 @@ enum-known-chain c = search rules
 enum-told-2 : tie.Need-enum-told-2
 enum-told-2 c = search rules
 
-returns-2 : tie.Need-returns-2
-unfolding bufferAt places_at
-returns-2 c =
+returns_2 : tie.Need-returns-2
+unfolding buffer_at places_at
+returns_2 c =
     rw (
       sym c.before.before.before.before.before.before.fixed.ensures ∙ c.before.before.before.before.flags.given.1,
       sym c.before.before.any-or-none.ensures ∙ c.enum-told2.given.1,
@@ -49,7 +49,7 @@ enum-told-3 : tie.Need-enum-told-3
 enum-told-3 c = search rules
 
 returns-3 : tie.Need-returns-3
-unfolding bufferAt places_at
+unfolding buffer_at places_at
 returns-3 c =
     let chain = c.before.before.before.before in
     let flags = chain.before.before.before.before in
@@ -69,7 +69,7 @@ enum-told-4 : tie.Need-enum-told-4
 enum-told-4 c = search rules
 
 returns-4 : tie.Need-returns-4
-unfolding bufferAt places_at
+unfolding buffer_at places_at
 returns-4 c =
     let token = c.before.before.before.before in
     let chain = token.before.before.before.before in
@@ -91,7 +91,7 @@ enum-told-5 : tie.Need-enum-told-5
 enum-told-5 c = search rules
 
 returns-5 : tie.Need-returns-5
-unfolding bufferAt places_at
+unfolding buffer_at places_at
 returns-5 c =
     let classifier = c.before.before.before.before in
     let token = classifier.before.before.before.before in
@@ -115,7 +115,7 @@ enum-told-6 : tie.Need-enum-told-6
 enum-told-6 c = search rules
 
 returns-6 : tie.Need-returns-6
-unfolding bufferAt places_at
+unfolding buffer_at places_at
 returns-6 c =
     let payload = c.before.before.before.before in
     let classifier = payload.before.before.before.before in
@@ -141,7 +141,7 @@ enum-told-7 : tie.Need-enum-told-7
 enum-told-7 c = search rules
 
 returns-7 : tie.Need-returns-7
-unfolding bufferAt places_at
+unfolding buffer_at places_at
 returns-7 c =
     let entry = c.before.before.before.before in
     let payload = entry.before.before.before.before in
@@ -160,7 +160,7 @@ returns-7 c =
     )
 
 returns-8 : tie.Need-returns-8
-unfolding bufferAt places_at
+unfolding buffer_at places_at
 returns-8 c =
     let cpa = c.before.before.before in
     let entry = cpa.before.before.before.before in
@@ -190,7 +190,7 @@ flag-requires-3 : tie.Need-flag-requires-3
 flag-requires-3 c κs = search rules
 
 returns-9 : tie.Need-returns-9
-unfolding bufferAt places_at
+unfolding buffer_at places_at
 returns-9 c =
     let cpa = c.before.before.before.before.before.before in
     let entry = cpa.before.before.before.before in
@@ -224,7 +224,7 @@ read-buffer-spec =
     any-or-none-requires
     enum-known-chain
     enum-told-2
-    returns-2
+    returns_2
     any-or-none-requires-2
     enum-known-token
     enum-told-3

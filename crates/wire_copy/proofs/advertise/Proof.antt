@@ -1,5 +1,5 @@
 -- `wire_copy::advertise` meets its contract: its rows and pieces are the definition's. Assumes nothing.
-use Rattle.octet.specs.Number.{digitsBE}
+use Rattle.octet.specs.Number.{digits_be}
 use mathlib.Core.Path.{refl}
 use Rattle.wire_copy.specs.Resent.{resent}
 use borrow.Author.Rules.{rules}
@@ -25,7 +25,7 @@ no-piece-requires : tie.Need-no-piece-requires
 no-piece-requires c κs = search rules
 
 slice-aggregate-write-rows : tie.Need-slice-aggregate-write-rows
-unfolding digitsBE
+unfolding digits_be
 slice-aggregate-write-rows c = rw c.before.before.before.before.before.before.spelled-bytes.ensures
 
 write-rows-requires : tie.Need-write-rows-requires

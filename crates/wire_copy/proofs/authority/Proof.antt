@@ -1,5 +1,5 @@
 -- `wire_copy::authority` meets its contract: its rows and pieces are the definition's. Assumes nothing.
-use Rattle.octet.specs.Number.{digitsBE}
+use Rattle.octet.specs.Number.{digits_be}
 use mathlib.Core.Path.{refl}
 use Rattle.wire_copy.specs.Resent.{resent}
 use borrow.Author.Rules.{rules}
@@ -52,13 +52,13 @@ piece-of-requires-6 : tie.Need-piece-of-requires-6
 piece-of-requires-6 c κs = search rules
 
 slice-aggregate-write-rows : tie.Need-slice-aggregate-write-rows
-unfolding digitsBE
+unfolding digits_be
 slice-aggregate-write-rows c = rw c.before.before.before.before.before.before.before.before.before.before.before.spelled-bytes.ensures
 
 write-rows-requires : tie.Need-write-rows-requires
 write-rows-requires c κs =
-    let authority-rows = c.before.before.before.before.before.before.before.before.before.before.before.before.before.before.before in
-    (rw authority-rows.authority-rows.ensures, refl)
+    let authority_rows_lem = c.before.before.before.before.before.before.before.before.before.before.before.before.before.before.before in
+    (rw authority_rows_lem.authority-rows.ensures, refl)
 
 same_length : tie.Need-same-length
 same_length c = search rules

@@ -1,12 +1,12 @@
 -- `wire_copy::flood` meets its contract: its rows and pieces are the definition's. Assumes nothing.
-use Rattle.octet.specs.Number.{digitsBE}
+use Rattle.octet.specs.Number.{digits_be}
 use mathlib.Core.Path.{refl, sym, ◌∙◌}
 use Rattle.wire_copy.specs.Resent.{resent}
 use Rattle.wire_write.proofs.WriteLaws.{wrote-6}
 use mathlib.Core.Bool.{not-not, true, false, not}
 use mathlib.Core.Path.{◌≡◌, ap}
 use Rattle.wire_fields.specs.Kinds.{one_of}
-use Rattle.wire_read.specs.Answers.{isHere}
+use Rattle.wire_read.specs.Answers.{is_here}
 use borrow.Author.Rules.{rules}
 use Rattle.wire_copy.proofs.flood.Statement.{statement}
 use Rattle.wire_copy.proofs.flood.Tie as tie
@@ -27,8 +27,8 @@ returns : tie.Need-returns
 unfolding resent
 returns c =
     let start = c.before.before.before.before.before.before.before in
-    let b = not-not (one_of (isHere start.args.m.revoke) (isHere start.args.m.entry)) in
-    let e : one_of (isHere start.args.m.revoke) (isHere start.args.m.entry) ≡ false =
+    let b = not-not (one_of (is_here start.args.m.revoke) (is_here start.args.m.entry)) in
+    let e : one_of (is_here start.args.m.revoke) (is_here start.args.m.entry) ≡ false =
     sym b ∙ ap not (sym (rw (c.before.before.before.piece_of.ensures, c.before.before.piece-of2.ensures) at
     c.before.both-or-neither.ensures) ∙ c.if1.true) in
     rw e (wrote-6 _ _ refl)
@@ -55,7 +55,7 @@ no-piece-requires : tie.Need-no-piece-requires
 no-piece-requires c κs = search rules
 
 slice-aggregate-write-rows : tie.Need-slice-aggregate-write-rows
-unfolding digitsBE
+unfolding digits_be
 slice-aggregate-write-rows c = rw c.before.before.before.before.before.before.before.spelled-bytes.ensures
 
 write-rows-requires : tie.Need-write-rows-requires
@@ -65,24 +65,24 @@ write-rows-requires c κs =
 same_length : tie.Need-same-length
 same_length c = search rules
 
-returns-2 : tie.Need-returns-2
+returns_2 : tie.Need-returns-2
 unfolding resent
-returns-2 c =
-    let no-piece = c.before.before.before.before.before in
-    let spelled-bytes = no-piece.before.before.before.before.before in
+returns_2 c =
+    let no_piece_lem = c.before.before.before.before.before in
+    let spelled-bytes = no_piece_lem.before.before.before.before.before in
     let piece_of = spelled-bytes.before.before.before.before.before in
     let start = piece_of.before.before.before.before in
-    let b = not-not (one_of (isHere start.args.m.revoke) (isHere start.args.m.entry)) in
-    let e : one_of (isHere start.args.m.revoke) (isHere start.args.m.entry) ≡ true =
+    let b = not-not (one_of (is_here start.args.m.revoke) (is_here start.args.m.entry)) in
+    let e : one_of (is_here start.args.m.revoke) (is_here start.args.m.entry) ≡ true =
     sym b ∙ ap not (sym (rw (piece_of.piece_of.ensures, spelled-bytes.before.before.before.before.piece-of2.ensures) at
     spelled-bytes.before.before.before.both-or-neither.ensures) ∙ spelled-bytes.before.before.if1.false) in
     rw e
     (rw (
-      no-piece.no-piece.ensures,
-      no-piece.before.piece-of4.ensures,
-      no-piece.before.before.piece-of3.ensures,
-      no-piece.before.before.before.first_piece.ensures,
-      no-piece.before.before.before.before.spelled-piece.ensures,
+      no_piece_lem.no-piece.ensures,
+      no_piece_lem.before.piece-of4.ensures,
+      no_piece_lem.before.before.piece-of3.ensures,
+      no_piece_lem.before.before.before.first_piece.ensures,
+      no_piece_lem.before.before.before.before.spelled-piece.ensures,
       spelled-bytes.spelled-bytes.ensures,
       spelled-bytes.before.bit-of.ensures.0,
       spelled-bytes.before.before.before.before.piece-of2.ensures,
@@ -109,4 +109,4 @@ flood-spec =
     slice-aggregate-write-rows
     write-rows-requires
     same_length
-    returns-2)
+    returns_2)

@@ -1,5 +1,5 @@
 -- `wire_copy::inquire` meets its contract: its rows and pieces are the definition's. Assumes nothing.
-use Rattle.octet.specs.Number.{digitsBE}
+use Rattle.octet.specs.Number.{digits_be}
 use mathlib.Core.Path.{refl}
 use Rattle.wire_copy.specs.Resent.{resent}
 use borrow.Author.Rules.{rules}
@@ -58,7 +58,7 @@ no-piece-requires : tie.Need-no-piece-requires
 no-piece-requires c κs = search rules
 
 slice-aggregate-write-rows : tie.Need-slice-aggregate-write-rows
-unfolding digitsBE
+unfolding digits_be
 slice-aggregate-write-rows c = rw c.before.before.before.before.before.before.before.before.before.spelled-bytes.ensures
 
 write-rows-requires : tie.Need-write-rows-requires
@@ -71,22 +71,22 @@ same_length c = search rules
 returns : tie.Need-returns
 unfolding resent
 returns c =
-    let no-piece = c.before.before.before.before.before in
-    let first_piece = no-piece.before.before.before.before.before in
-    let bit-of = first_piece.before.before.before.before.before in
+    let no_piece_lem = c.before.before.before.before.before in
+    let first_piece = no_piece_lem.before.before.before.before.before in
+    let bit_of = first_piece.before.before.before.before.before in
     rw (
-      no-piece.no-piece.ensures,
-      no-piece.before.piece-of4.ensures,
-      no-piece.before.before.piece-of3.ensures,
-      no-piece.before.before.before.piece-of2.ensures,
-      no-piece.before.before.before.before.piece_of.ensures,
+      no_piece_lem.no-piece.ensures,
+      no_piece_lem.before.piece-of4.ensures,
+      no_piece_lem.before.before.piece-of3.ensures,
+      no_piece_lem.before.before.before.piece-of2.ensures,
+      no_piece_lem.before.before.before.before.piece_of.ensures,
       first_piece.first_piece.ensures,
       first_piece.before.spelled-piece.ensures,
       first_piece.before.before.spelled-bytes.ensures,
       first_piece.before.before.before.bit-of3.ensures.0,
       first_piece.before.before.before.before.bit-of2.ensures.0,
-      bit-of.bit-of.ensures.0,
-      bit-of.before.inquire-rows.ensures,
+      bit_of.bit-of.ensures.0,
+      bit_of.before.inquire-rows.ensures,
     ) at c.before.before.write-rows.ensures
 
 pub inquire-spec : {M : Type 1} → statement M

@@ -6,8 +6,8 @@ use Rattle.wire_copy.proofs.kept_precision.Tie as tie
 returns : tie.Need-returns
 returns c = rw (eq-eqb c.before.args.criteria 8 c.if1.true)
 
-returns-2 : tie.Need-returns-2
-returns-2 c = rw (ne_eqb c.before.args.criteria 8 c.if1.false)
+returns_2 : tie.Need-returns-2
+returns_2 c = rw (ne_eqb c.before.args.criteria 8 c.if1.false)
 
 pub kept-precision-spec : {M : Type 1} → statement M
-kept-precision-spec = tie.close (tie.spec returns returns-2)
+kept-precision-spec = tie.close (tie.spec returns returns_2)

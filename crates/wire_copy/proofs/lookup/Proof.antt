@@ -1,5 +1,5 @@
 -- `wire_copy::lookup` meets its contract: its rows and pieces are the definition's. Assumes nothing.
-use Rattle.octet.specs.Number.{digitsBE}
+use Rattle.octet.specs.Number.{digits_be}
 use mathlib.Core.Path.{refl}
 use Rattle.wire_copy.specs.Resent.{resent}
 use borrow.Author.Rules.{rules}
@@ -49,13 +49,13 @@ no-piece-requires : tie.Need-no-piece-requires
 no-piece-requires c κs = search rules
 
 slice-aggregate-write-rows : tie.Need-slice-aggregate-write-rows
-unfolding digitsBE
+unfolding digits_be
 slice-aggregate-write-rows c = rw c.before.before.before.before.before.before.before.before.before.before.before.lookup-bytes.ensures
 
 write-rows-requires : tie.Need-write-rows-requires
 write-rows-requires c κs =
-    let lookup-rows = c.before.before.before.before.before.before.before.before.before.before.before.before.before.before in
-    (rw lookup-rows.lookup-rows.ensures, refl)
+    let lookup_rows_lem = c.before.before.before.before.before.before.before.before.before.before.before.before.before.before in
+    (rw lookup_rows_lem.lookup-rows.ensures, refl)
 
 same_length : tie.Need-same-length
 same_length c = search rules
@@ -63,15 +63,15 @@ same_length c = search rules
 returns : tie.Need-returns
 unfolding resent
 returns c =
-    let no-piece = c.before.before.before.before.before in
-    let piece_of = no-piece.before.before.before.before.before in
+    let no_piece_lem = c.before.before.before.before.before in
+    let piece_of = no_piece_lem.before.before.before.before.before in
     let kept-precision = piece_of.before.before.before.before.before in
     rw (
-      no-piece.no-piece.ensures,
-      no-piece.before.piece-of5.ensures,
-      no-piece.before.before.piece-of4.ensures,
-      no-piece.before.before.before.piece-of3.ensures,
-      no-piece.before.before.before.before.piece-of2.ensures,
+      no_piece_lem.no-piece.ensures,
+      no_piece_lem.before.piece-of5.ensures,
+      no_piece_lem.before.before.piece-of4.ensures,
+      no_piece_lem.before.before.before.piece-of3.ensures,
+      no_piece_lem.before.before.before.before.piece-of2.ensures,
       piece_of.piece_of.ensures,
       piece_of.before.first-piece2.ensures,
       piece_of.before.before.first_piece.ensures,

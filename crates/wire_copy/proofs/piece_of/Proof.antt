@@ -12,8 +12,8 @@ returns c = rw c.before.p.given.1
 enum_told : tie.Need-enum-told
 enum_told c = search rules
 
-returns-2 : tie.Need-returns-2
-returns-2 c = rw c.enum_told.given.1
+returns_2 : tie.Need-returns-2
+returns_2 c = rw c.enum_told.given.1
 
 pub piece-of-spec : {M : Type 1} → statement M
-piece-of-spec = tie.close (tie.spec enum-known-p returns enum_told returns-2)
+piece-of-spec = tie.close (tie.spec enum-known-p returns enum_told returns_2)

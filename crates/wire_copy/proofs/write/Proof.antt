@@ -64,8 +64,8 @@ returns c = rw c.enum_told.given.1 (wrote-6 _ _ refl)
 same_length : tie.Need-same-length
 same_length c = search rules
 
-returns-2 : tie.Need-returns-2
-returns-2 c = rw c.before.before.before.before.before.message.given.1 c.before.before.solicit.ensures
+returns_2 : tie.Need-returns-2
+returns_2 c = rw c.before.before.before.before.before.message.given.1 c.before.before.solicit.ensures
 
 same-length-2 : tie.Need-same-length-2
 same-length-2 c = search rules
@@ -132,7 +132,7 @@ write_spec =
     lookup-requires
     returns
     same_length
-    returns-2
+    returns_2
     same-length-2
     returns-3
     same-length-3

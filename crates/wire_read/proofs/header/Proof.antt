@@ -3,20 +3,20 @@ use borrow.Author.Tests.{le-leb, lt-leb, eq-eqb, ne_eqb, not-true, not-false}
 use native.Mathlib.Omega.{arith}
 use mathlib.Core.Path.{sym, ◌∙◌}
 use lib.ListN.{length, get_or}
-use Rattle.wire_read.specs.Answers.{headNumber}
+use Rattle.wire_read.specs.Answers.{head_number}
 use borrow.Author.Rules.{rules}
 use Rattle.wire_read.proofs.header.Statement.{statement}
 use Rattle.wire_read.proofs.header.Tie as tie
 
 returns : tie.Need-returns
-unfolding headNumber
+unfolding head_number
 returns c =
     let a = c.before.before.args in
     rw (lt-leb 12 (length a.d.now) (omega arith))
 
-returns-2 : tie.Need-returns-2
-unfolding headNumber
-returns-2 c =
+returns_2 : tie.Need-returns-2
+unfolding head_number
+returns_2 c =
     let a = c.before.before.before.args in
     let d = a.d.now in
     rw (le-leb 12 (length d) (omega arith), lt-leb (length d) 1232 (omega arith))
@@ -25,7 +25,7 @@ is-opened-requires : tie.Need-is-opened-requires
 is-opened-requires c κs = omega arith
 
 returns-3 : tie.Need-returns-3
-unfolding headNumber
+unfolding head_number
 returns-3 c =
     let a = c.before.before.before.before.before.args in
     let d = a.d.now in
@@ -36,7 +36,7 @@ shared-slice-read-if4 : tie.Need-shared-slice-read-if4
 shared-slice-read-if4 c = search rules
 
 returns-4 : tie.Need-returns-4
-unfolding headNumber
+unfolding head_number
 returns-4 c =
     let a = c.before.before.before.before.before.before.before.args in
     let d = a.d.now in
@@ -45,7 +45,7 @@ returns-4 c =
     rw (le-leb 12 (length d) (omega arith), le-leb (length d) 1232 (omega arith), o, m)
 
 returns-5 : tie.Need-returns-5
-unfolding headNumber
+unfolding head_number
 returns-5 c =
     let a = c.before.before.before.before.before.before.before.args in
     let d = a.d.now in
@@ -58,7 +58,7 @@ header-spec =
     tie.close
     (tie.spec
     returns
-    returns-2
+    returns_2
     is-opened-requires
     returns-3
     shared-slice-read-if4

@@ -4,10 +4,10 @@ use native.Mathlib.Omega.{arith}
 use mathlib.Core.Path.{◌≡◌, sym, ap, ◌∙◌}
 use Prim.Native.Nat.{◌≤◌}
 use lib.ListN.{length, get_or}
-use Rattle.wire_fields.specs.Kinds.{kindsOf}
-use Rattle.wire_fields.specs.Refusals.{foundIn, inPart}
-use Rattle.wire_fields.proofs.RefusalLaws.{byType}
-use Rattle.wire_read.specs.Answers.{incomingOf}
+use Rattle.wire_fields.specs.Kinds.{kinds_of}
+use Rattle.wire_fields.specs.Refusals.{found_in, in_part}
+use Rattle.wire_fields.proofs.RefusalLaws.{by_type}
+use Rattle.wire_read.specs.Answers.{incoming_of}
 use Rattle.wire_read.specs.declared.Incoming.TheVariants.{Refused}
 use Rattle.wire_read.proofs.ReaderLaws.{header-refuses, header-right}
 use borrow.Author.Rules.{rules}
@@ -17,14 +17,14 @@ use Rattle.wire_read.proofs.read.Tie as tie
 -- a header that is right is long enough, and what is found is by the type
 right-at : (c : tie.Else1)
     → (let a = c.before.before.before.args in (12 ≤ length a.d.now)
-    × (foundIn a.d.now a.major ≡ byType (get_or a.d.now 7 0) a.d.now (kindsOf (get_or a.d.now 7 0))))
+    × (found_in a.d.now a.major ≡ by_type (get_or a.d.now 7 0) a.d.now (kinds_of (get_or a.d.now 7 0))))
 right-at c = let a = c.before.before.before.args in header-right a.d.now a.major (sym c.before.header.ensures ∙ c.if1.false)
 
 header-requires : tie.Need-header-requires
 header-requires c κs = search rules
 
 returns : tie.Need-returns
-unfolding incomingOf
+unfolding incoming_of
 returns c =
     let a = c.before.before.before.args in
     rw (header-refuses a.d.now a.major (λ e. c.if1.true (c.before.header.ensures ∙ e))) (ap Refused c.before.header.ensures)
@@ -57,48 +57,48 @@ read-ack-requires c κs = (right-at c.before.before).0
 read-lookup-requires : tie.Need-read-lookup-requires
 read-lookup-requires c κs = (right-at c.before.before).0
 
-returns-2 : tie.Need-returns-2
-unfolding kindsOf inPart
-returns-2 c =
+returns_2 : tie.Need-returns-2
+unfolding kinds_of in_part
+returns_2 c =
     rw ((right-at c.before.before.before).1, c.before.match.keys1) c.read-solicit.ensures
 
 returns-3 : tie.Need-returns-3
-unfolding kindsOf inPart
+unfolding kinds_of in_part
 returns-3 c =
     rw ((right-at c.before.before.before).1, c.before.match.keys2) c.read-advertise.ensures
 
 returns-4 : tie.Need-returns-4
-unfolding kindsOf inPart
+unfolding kinds_of in_part
 returns-4 c =
     rw ((right-at c.before.before.before).1, c.before.match.keys3) c.read-request.ensures
 
 returns-5 : tie.Need-returns-5
-unfolding kindsOf inPart
+unfolding kinds_of in_part
 returns-5 c =
     rw ((right-at c.before.before.before).1, c.before.match.keys4) c.read-flood.ensures
 
 returns-6 : tie.Need-returns-6
-unfolding kindsOf inPart
+unfolding kinds_of in_part
 returns-6 c =
     rw ((right-at c.before.before.before).1, c.before.match.keys5) c.read-inquire.ensures
 
 returns-7 : tie.Need-returns-7
-unfolding kindsOf
+unfolding kinds_of
 returns-7 c =
     rw ((right-at c.before.before.before).1, c.before.match.keys6) c.read-authority.ensures
 
 returns-8 : tie.Need-returns-8
-unfolding kindsOf inPart
+unfolding kinds_of in_part
 returns-8 c =
     rw ((right-at c.before.before.before).1, c.before.match.keys7) c.read-ack.ensures
 
 returns-9 : tie.Need-returns-9
-unfolding kindsOf inPart
+unfolding kinds_of in_part
 returns-9 c =
     rw ((right-at c.before.before.before).1, c.before.match.keys8) c.read-lookup.ensures
 
 returns-10 : tie.Need-returns-10
-unfolding incomingOf kindsOf
+unfolding incoming_of kinds_of
 returns-10 c =
     let d = c.before.before.before.before.before.args.d.now in
     let r = c.match.rest in
@@ -129,7 +129,7 @@ read_spec =
     read-authority-requires
     read-ack-requires
     read-lookup-requires
-    returns-2
+    returns_2
     returns-3
     returns-4
     returns-5

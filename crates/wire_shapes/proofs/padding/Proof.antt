@@ -8,8 +8,8 @@ sub-result c = search rules
 returns : tie.Need-returns
 returns c = rw c.if1.true (search rules)
 
-returns-2 : tie.Need-returns-2
-returns-2 c = search rules
+returns_2 : tie.Need-returns-2
+returns_2 c = search rules
 
 pub padding-spec : {M : Type 1} → statement M
-padding-spec = tie.close (tie.spec sub-result returns returns-2)
+padding-spec = tie.close (tie.spec sub-result returns returns_2)

@@ -6,15 +6,15 @@ use mathlib.Core.List.{List, []}
 use Prim.Native.Nat.{ℕ}
 use lib.ListN.{length}
 use borrow.Author.Tests.{not-true, not-false}
-use Rattle.record.specs.Record.{key_of, recordForm}
-use Rattle.own.specs.Own.{ownKeys, isOwn}
+use Rattle.record.specs.Record.{key_of, record_form}
+use Rattle.own.specs.Own.{own_keys, is_own}
 use Rattle.own.proofs.PlaceLaws.{not_own}
-use Rattle.record.proofs.EntryLaws.{form-length}
+use Rattle.record.proofs.EntryLaws.{form_length}
 use Rattle.table.specs.Rows.{bytes_of}
-use Rattle.cache.specs.Bytes.{afterLearn}
-use Rattle.cache.specs.Calls.{Changed, cacheChanged, learnCall, heldBy}
-use Rattle.refusal.proofs.CallLaws.{row-applies, row-passes, no_row}
-use Rattle.cache.proofs.LentLaws.{not_is, not-isn't, memory-own, memory-form, memory-held, memory-passes, memory-refuses}
+use Rattle.cache.specs.Bytes.{after_learn}
+use Rattle.cache.specs.Calls.{Changed, cache_changed, learn_call, held_by}
+use Rattle.refusal.proofs.CallLaws.{row_applies, row_passes, no_row}
+use Rattle.cache.proofs.LentLaws.{not_is, not_isn't, memory-own, memory-form, memory-held, memory-passes, memory-refuses}
 use native.Mathlib.Omega.{arith}
 use borrow.Author.Rules.{rules}
 use Rattle.cache.proofs.calls.learn_record.Statement.{statement}
@@ -22,12 +22,12 @@ use Rattle.cache.proofs.calls.learn_record.Tie as tie
 
 -- what a refusal hands back, and what is handed back where there is none
 abbrev refuse : tie.Start → ℕ → Changed
-refuse s n = cacheChanged n s.args.cache.now
+refuse s n = cache_changed n s.args.cache.now
 
 abbrev done : tie.Start → Changed
 done s =
     let n = length s.args.cache.now in
-    cacheChanged 0 (bytes_of n (afterLearn (ownKeys s.args.own.now) n (heldBy s.args.own.now s.args.cache.now) s.args.«record».now))
+    cache_changed 0 (bytes_of n (after_learn (own_keys s.args.own.now) n (held_by s.args.own.now s.args.cache.now) s.args.«record».now))
 
 memory-requires : tie.Need-memory-requires
 memory-requires c κs = search rules
@@ -42,7 +42,7 @@ same_length : tie.Need-same-length
 same_length c = search rules
 
 returns : tie.Need-returns
-unfolding learnCall
+unfolding learn_call
 returns c =
     let c7 = c.before.before.before.before.before.before.before in
     let s = c7 in
@@ -54,16 +54,16 @@ is-record-requires c κs = search rules
 same-length-2 : tie.Need-same-length-2
 same-length-2 c = search rules
 
-returns-2 : tie.Need-returns-2
-unfolding learnCall
-returns-2 c =
+returns_2 : tie.Need-returns-2
+unfolding learn_call
+returns_2 c =
     let c3 = c.before.before.before in
     let c5 = c3.before.before in
     let c10 = c5.before.before.before.before.before in
     let s = c10 in
-    let wrong = not-isn't (sym c.before.is-record.ensures ∙ not-true _ c.if1.true) in
+    let wrong = not_isn't (sym c.before.is-record.ensures ∙ not-true _ c.if1.true) in
     sym (memory-passes s.args.own.now s.args.cache.now c5.memory.ensures c3.found.given.1 (refuse s) _ (done s)
-    ∙ row-applies (refuse s) 1 (not (recordForm s.args.«record».now)) _ (done s) wrong)
+    ∙ row_applies (refuse s) 1 (not (record_form s.args.«record».now)) _ (done s) wrong)
 
 is-own-requires : tie.Need-is-own-requires
 is-own-requires c κs =
@@ -71,14 +71,14 @@ is-own-requires c κs =
     let c5 = c3.before.before in
     let c10 = c5.before.before.before.before.before in
     let s = c10 in
-    let long = form-length s.args.«record».now (sym c.before.is-record.ensures ∙ not-false _ c.if1.false) in
+    let long = form_length s.args.«record».now (sym c.before.is-record.ensures ∙ not-false _ c.if1.false) in
     omega (arith, long)
 
 same-length-3 : tie.Need-same-length-3
 same-length-3 c = search rules
 
 returns-3 : tie.Need-returns-3
-unfolding learnCall
+unfolding learn_call
 returns-3 c =
     let c3 = c.before.before.before in
     let c5 = c3.before.before in
@@ -86,9 +86,9 @@ returns-3 c =
     let c12 = c7.before.before.before.before.before in
     let s = c12 in
     sym (memory-passes s.args.own.now s.args.cache.now c7.memory.ensures c5.found.given.1 (refuse s) _ (done s)
-    ∙ row-passes (refuse s) 1 (not (recordForm s.args.«record».now)) _ (done s) (not_is (sym c3.is-record.ensures ∙ not-false _
+    ∙ row_passes (refuse s) 1 (not (record_form s.args.«record».now)) _ (done s) (not_is (sym c3.is-record.ensures ∙ not-false _
     c.before.before.if1.false))
-    ∙ row-applies (refuse s) 1 (isOwn (ownKeys s.args.own.now) (key_of s.args.«record».now)) [] (done s) (sym c.before.is-own.ensures
+    ∙ row_applies (refuse s) 1 (is_own (own_keys s.args.own.now) (key_of s.args.«record».now)) [] (done s) (sym c.before.is-own.ensures
     ∙ c.if2.true))
 
 learn-requires : tie.Need-learn-requires
@@ -106,7 +106,7 @@ learn-requires c κs =
       ),
       (
         memory-form s.args.own.now s.args.cache.now c8.memory.ensures c6.found.given.1,
-        not_own (ownKeys s.args.own.now) (key_of s.args.«record».now)
+        not_own (own_keys s.args.own.now) (key_of s.args.«record».now)
             (sym c.before.before.is-own.ensures ∙ c.before.if2.false),
       ),
     )
@@ -115,7 +115,7 @@ same-length-4 : tie.Need-same-length-4
 same-length-4 c = search rules
 
 returns-4 : tie.Need-returns-4
-unfolding learnCall
+unfolding learn_call
 returns-4 c =
     let c4 = c.before.before.before.before in
     let c5 = c4.before in
@@ -127,12 +127,12 @@ returns-4 c =
     let s = c16 in
     let n = length s.args.cache.now in
     let held = memory-held s.args.own.now s.args.cache.now c11.memory.ensures c9.found.given.1 in
-    ap (cacheChanged 0) (c.before.before.learn.ensures.0 ∙ ap (λ (l : List (List ℕ)). bytes_of n (afterLearn (ownKeys s.args.own.now) n l
+    ap (cache_changed 0) (c.before.before.learn.ensures.0 ∙ ap (λ (l : List (List ℕ)). bytes_of n (after_learn (own_keys s.args.own.now) n l
     s.args.«record».now)) (sym held))
     ∙ sym (memory-passes s.args.own.now s.args.cache.now c11.memory.ensures c9.found.given.1 (refuse s) _ (done s)
-    ∙ row-passes (refuse s) 1 (not (recordForm s.args.«record».now)) _ (done s) (not_is (sym c7.is-record.ensures ∙ not-false _
+    ∙ row_passes (refuse s) 1 (not (record_form s.args.«record».now)) _ (done s) (not_is (sym c7.is-record.ensures ∙ not-false _
     c6.if1.false))
-    ∙ row-passes (refuse s) 1 (isOwn (ownKeys s.args.own.now) (key_of s.args.«record».now)) [] (done s) (sym c5.is-own.ensures
+    ∙ row_passes (refuse s) 1 (is_own (own_keys s.args.own.now) (key_of s.args.«record».now)) [] (done s) (sym c5.is-own.ensures
     ∙ c4.if2.false)
     ∙ no_row (refuse s) (done s))
 
@@ -147,7 +147,7 @@ learn-record-spec =
     returns
     is-record-requires
     same-length-2
-    returns-2
+    returns_2
     is-own-requires
     same-length-3
     returns-3

@@ -14,8 +14,8 @@ returns c = sym (rw (sym c.before.own-form.ensures ∙ not-true _ c.if1.true) re
 form-requires : tie.Need-form-requires
 form-requires c κs = search rules
 
-returns-2 : tie.Need-returns-2
-returns-2 c = c.form.ensures ∙ sym (rw (sym c.before.before.own-form.ensures ∙ not-false _ c.before.if1.false) refl)
+returns_2 : tie.Need-returns-2
+returns_2 c = c.form.ensures ∙ sym (rw (sym c.before.before.own-form.ensures ∙ not-false _ c.before.if1.false) refl)
 
 pub memory-spec : {M : Type 1} → statement M
-memory-spec = tie.close (tie.spec own-form-requires returns form-requires returns-2)
+memory-spec = tie.close (tie.spec own-form-requires returns form-requires returns_2)

@@ -9,10 +9,10 @@ use lib.ListN.{length}
 use borrow.Author.Tests.{eq-eqb, ne_eqb}
 use Rattle.key.specs.Number.{key_at}
 use Rattle.table.specs.Rows.{bytes_of}
-use Rattle.cache.specs.Bytes.{afterRemove}
-use Rattle.cache.specs.Calls.{Changed, cacheChanged, removeCall, heldBy}
-use Rattle.refusal.proofs.CallLaws.{row-applies, row-passes, no_row}
-use Rattle.cache.proofs.LentLaws.{not_is, not-isn't, memory-form, memory-held, memory-passes, memory-refuses}
+use Rattle.cache.specs.Bytes.{after_remove}
+use Rattle.cache.specs.Calls.{Changed, cache_changed, remove_call, held_by}
+use Rattle.refusal.proofs.CallLaws.{row_applies, row_passes, no_row}
+use Rattle.cache.proofs.LentLaws.{not_is, not_isn't, memory-form, memory-held, memory-passes, memory-refuses}
 use native.Mathlib.Omega.{arith}
 use borrow.Author.Rules.{rules}
 use Rattle.cache.proofs.calls.remove_key.Statement.{statement}
@@ -20,12 +20,12 @@ use Rattle.cache.proofs.calls.remove_key.Tie as tie
 
 -- what a refusal hands back, and what is handed back where there is none
 abbrev refuse : tie.Start → ℕ → Changed
-refuse s n = cacheChanged n s.args.cache.now
+refuse s n = cache_changed n s.args.cache.now
 
 abbrev done : tie.Start → Changed
 done s =
-    cacheChanged 0
-    (bytes_of (length s.args.cache.now) (afterRemove (key_at 0 s.args.key.now) (heldBy s.args.own.now s.args.cache.now)))
+    cache_changed 0
+    (bytes_of (length s.args.cache.now) (after_remove (key_at 0 s.args.key.now) (held_by s.args.own.now s.args.cache.now)))
 
 memory-requires : tie.Need-memory-requires
 memory-requires c κs = search rules
@@ -40,7 +40,7 @@ same_length : tie.Need-same-length
 same_length c = search rules
 
 returns : tie.Need-returns
-unfolding removeCall
+unfolding remove_call
 returns c =
     let c7 = c.before.before.before.before.before.before.before in
     let s = c7 in
@@ -49,14 +49,14 @@ returns c =
 same-length-2 : tie.Need-same-length-2
 same-length-2 c = search rules
 
-returns-2 : tie.Need-returns-2
-unfolding removeCall
-returns-2 c =
+returns_2 : tie.Need-returns-2
+unfolding remove_call
+returns_2 c =
     let c4 = c.before.before.before.before in
     let c9 = c4.before.before.before.before.before in
     let s = c9 in
     sym (memory-passes s.args.own.now s.args.cache.now c4.memory.ensures c.before.before.found.given.1 (refuse s) _ (done s)
-    ∙ row-applies (refuse s) 1 (not (eqb (length s.args.key.now) 32)) [] (done s) (not-isn't (ne_eqb (length s.args.key.now) 32
+    ∙ row_applies (refuse s) 1 (not (eqb (length s.args.key.now) 32)) [] (done s) (not_isn't (ne_eqb (length s.args.key.now) 32
     c.if1.true)))
 
 remove-requires : tie.Need-remove-requires
@@ -73,7 +73,7 @@ same-length-3 : tie.Need-same-length-3
 same-length-3 c = search rules
 
 returns-3 : tie.Need-returns-3
-unfolding removeCall
+unfolding remove_call
 returns-3 c =
     let c4 = c.before.before.before.before in
     let c6 = c4.before.before in
@@ -82,10 +82,10 @@ returns-3 c =
     let s = c13 in
     let n = length s.args.cache.now in
     let held = memory-held s.args.own.now s.args.cache.now c8.memory.ensures c6.found.given.1 in
-    ap (cacheChanged 0) (c.before.before.remove.ensures.0 ∙ ap (λ (l : List (List ℕ)). bytes_of n (afterRemove (key_at 0 s.args.key.now) l))
+    ap (cache_changed 0) (c.before.before.remove.ensures.0 ∙ ap (λ (l : List (List ℕ)). bytes_of n (after_remove (key_at 0 s.args.key.now) l))
     (sym held))
     ∙ sym (memory-passes s.args.own.now s.args.cache.now c8.memory.ensures c6.found.given.1 (refuse s) _ (done s)
-    ∙ row-passes (refuse s) 1 (not (eqb (length s.args.key.now) 32)) [] (done s) (not_is (eq-eqb (length s.args.key.now) 32
+    ∙ row_passes (refuse s) 1 (not (eqb (length s.args.key.now) 32)) [] (done s) (not_is (eq-eqb (length s.args.key.now) 32
     c4.if1.false))
     ∙ no_row (refuse s) (done s))
 
@@ -99,7 +99,7 @@ remove-key-spec =
     same_length
     returns
     same-length-2
-    returns-2
+    returns_2
     remove-requires
     same-length-3
     returns-3)

@@ -10,19 +10,19 @@ use lib.ListN.{length}
 use borrow.Author.Tests.{eq-eqb, ne_eqb}
 use borrow.Author.Rules.{rules}
 use Rattle.key.specs.Number.{key_at}
-use Rattle.refusal.proofs.CallLaws.{row-applies, row-passes, no_row}
-use Rattle.own.specs.Own.{ownKeys}
+use Rattle.refusal.proofs.CallLaws.{row_applies, row_passes, no_row}
+use Rattle.own.specs.Own.{own_keys}
 use Rattle.table.specs.Rows.{rows}
 use Rattle.kept.proofs.TurnLaws.{among-le}
 use Rattle.search.specs.Halving.{halvings}
 use Rattle.search.specs.declared.Sought.{Sought}
-use Rattle.search.proofs.SeekLaws.{keys-many}
+use Rattle.search.proofs.SeekLaws.{keys_many}
 use Rattle.cache.specs.declared.calls.Searched.{Searched}
 use Rattle.cache.specs.Form.{keys_of, Form}
-use Rattle.cache.specs.Calls.{heldBy}
-use Rattle.cache.specs.Searching.{searched, placeAmong, searchCall}
-use Rattle.cache.proofs.FormLaws.{form-laid}
-use Rattle.cache.proofs.LentLaws.{not_is, not-isn't, memory-form, memory-held, memory-passes, memory-refuses}
+use Rattle.cache.specs.Calls.{held_by}
+use Rattle.cache.specs.Searching.{searched, place_among, search_call}
+use Rattle.cache.proofs.FormLaws.{form_laid}
+use Rattle.cache.proofs.LentLaws.{not_is, not_isn't, memory-form, memory-held, memory-passes, memory-refuses}
 use Rattle.cache.proofs.SearchLaws.{told-held, told_none}
 use Rattle.cache.proofs.calls.search_key.Statement.{statement}
 use Rattle.cache.proofs.calls.search_key.Tie as tie
@@ -35,10 +35,10 @@ abbrev refuse : ℕ → Searched
 refuse n = searched n 0 0
 
 abbrev told : tie.Start → List (List ℕ) → Searched
-told s held = searched 0 (placeAmong (key_at 0 s.args.key.now) (keys_of held)) (halvings (keys_of held) (key_at 0 s.args.key.now))
+told s held = searched 0 (place_among (key_at 0 s.args.key.now) (keys_of held)) (halvings (keys_of held) (key_at 0 s.args.key.now))
 
 abbrev done : tie.Start → Searched
-done s = told s (heldBy s.args.own.now s.args.cache.now)
+done s = told s (held_by s.args.own.now s.args.cache.now)
 
 memory-requires : tie.Need-memory-requires
 memory-requires c κs = search rules
@@ -50,21 +50,21 @@ enum_told : tie.Need-enum-told
 enum_told c = search rules
 
 returns : tie.Need-returns
-unfolding searchCall
+unfolding search_call
 returns c =
     let m = c.before.before in
     let s = start m in
     sym (memory-refuses s.args.own.now s.args.cache.now m.memory.ensures c.enum_told.given.1 refuse _ (done s))
 
-returns-2 : tie.Need-returns-2
-unfolding searchCall
-returns-2 c =
+returns_2 : tie.Need-returns-2
+unfolding search_call
+returns_2 c =
     let found = c.before.before in
     let m = found.before.before in
     let s = start m in
     let n = length s.args.key.now in
     sym (memory-passes s.args.own.now s.args.cache.now m.memory.ensures found.found.given.1 refuse _ (done s)
-    ∙ row-applies refuse 1 (not (eqb n 32)) [] (done s) (not-isn't (ne_eqb n 32 c.if1.true)))
+    ∙ row_applies refuse 1 (not (eqb n 32)) [] (done s) (not_isn't (ne_eqb n 32 c.if1.true)))
 
 -- behind the tests
 module _ (e : tie.Else1) where
@@ -80,20 +80,20 @@ module _ (e : tie.Else1) where
   abbrev cache : List ℕ
   cache = (start tested).args.cache.now
 
-  form : Form (ownKeys own) cache (rows 100 used cache)
+  form : Form (own_keys own) cache (rows 100 used cache)
   form = memory-form own cache tested.memory.ensures e.before.before.found.given.1
 
   room : 100 * used ≤ length cache
-  room = (form-laid (ownKeys own) used cache form).room
+  room = (form_laid (own_keys own) used cache form).room
 
-  accepted : searchCall own cache (start tested).args.key.now ≡ told (start tested) (rows 100 used cache)
-  unfolding searchCall
+  accepted : search_call own cache (start tested).args.key.now ≡ told (start tested) (rows 100 used cache)
+  unfolding search_call
   accepted =
       let s = start tested in
       let n = length s.args.key.now in
       let good = e.before.before.found.given.1 in
       memory-passes own cache tested.memory.ensures good refuse _ (done s)
-      ∙ row-passes refuse 1 (not (eqb n 32)) [] (done s) (not_is (eq-eqb n 32 e.if1.left))
+      ∙ row_passes refuse 1 (not (eqb n 32)) [] (done s) (not_is (eq-eqb n 32 e.if1.left))
       ∙ no_row refuse (done s)
       ∙ ap (told s) (memory-held own cache tested.memory.ensures good)
 
@@ -109,7 +109,7 @@ add-place c =
       arith,
       ap (λ (q : Sought). q.at) f.find-key.ensures,
       among-le (λ (j : ℕ). ltb j (key_at 0 (start (tested e)).args.key.now)) ks,
-      keys-many (used e) (cache e),
+      keys_many (used e) (cache e),
       room e,
       (form e).places.most,
     )
@@ -136,7 +136,7 @@ search-key-spec =
     enum-known-found
     enum_told
     returns
-    returns-2
+    returns_2
     find-key-requires
     add-place
     returns-3

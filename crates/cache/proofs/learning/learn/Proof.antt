@@ -2,24 +2,24 @@
 use mathlib.Core.Path.{◌≡◌, sym, ap, ◌∙◌}
 use lib.ListN.{length, length-set}
 use Rattle.record.specs.Record.{key_of}
-use Rattle.own.specs.Own.{ownKeys}
+use Rattle.own.specs.Own.{own_keys}
 use Rattle.table.specs.Rows.{rows, bytes_of, Laid}
 use Rattle.table.proofs.RowLaws.{rows-length}
-use Rattle.kept.specs.Records.{putBy}
-use Rattle.record.proofs.EntryLaws.{form-length}
-use Rattle.cache.proofs.FormLaws.{form-laid}
-use Rattle.cache.proofs.FindLaws.{found-place, found-held, found-puts}
-use Rattle.cache.proofs.LearnLaws.{held-room, told-held}
+use Rattle.kept.specs.Records.{put_by}
+use Rattle.record.proofs.EntryLaws.{form_length}
+use Rattle.cache.proofs.FormLaws.{form_laid}
+use Rattle.cache.proofs.FindLaws.{found-place, found-held, found_puts}
+use Rattle.cache.proofs.LearnLaws.{held_room, told-held}
 use native.Mathlib.Omega.{arith}
 use borrow.Author.Rules.{rules}
 use Rattle.cache.proofs.learning.learn.Statement.{statement}
 use Rattle.cache.proofs.learning.learn.Tie as tie
 
 laid : (s : tie.Start) → Laid 100 s.args.used s.args.cache.now
-laid s = form-laid (ownKeys s.args.own.now) s.args.used s.args.cache.now s.requires.1.0
+laid s = form_laid (own_keys s.args.own.now) s.args.used s.args.cache.now s.requires.1.0
 
 long : (s : tie.Start) → length s.args.«record».now ≡ 100
-long s = form-length s.args.«record».now s.requires.0.1
+long s = form_length s.args.«record».now s.requires.0.1
 
 find-requires : tie.Need-find-requires
 find-requires c κs =
@@ -60,13 +60,13 @@ returns c =
     let s = at-find.before.before.before.before.before in
     let a = s.args in
     let rs = rows 100 a.used a.cache.now in
-    let e = found-puts a.«record».now a.used a.cache.now at-find.find.ensures at-found.found.given.1 in
-    let n : length (putBy key_of a.«record».now rs) ≡ a.used = ap length (sym e) ∙ simp length-set (rows-length 100 a.used a.cache.now) in (
+    let e = found_puts a.«record».now a.used a.cache.now at-find.find.ensures at-found.found.given.1 in
+    let n : length (put_by key_of a.«record».now rs) ≡ a.used = ap length (sym e) ∙ simp length-set (rows-length 100 a.used a.cache.now) in (
       c.before.before.before.replace-row.ensures
-          ∙ ap (bytes_of (length a.cache.now)) (e ∙ held-room (ownKeys a.own.now) a.used a.cache.now a.«record».now s.requires.1.0
+          ∙ ap (bytes_of (length a.cache.now)) (e ∙ held_room (own_keys a.own.now) a.used a.cache.now a.«record».now s.requires.1.0
           (omega arith)),
       c.unmoved.ensures
-          ∙ told-held (ownKeys a.own.now) (length a.cache.now) rs a.«record».now
+          ∙ told-held (own_keys a.own.now) (length a.cache.now) rs a.«record».now
           (found-held (key_of a.«record».now) a.used a.cache.now at-find.find.ensures at-found.found.given.1
           s.requires.1.0.held.rising),
     )
@@ -74,8 +74,8 @@ returns c =
 same-length-2 : tie.Need-same-length-2
 same-length-2 c = search rules
 
-returns-2 : tie.Need-returns-2
-returns-2 c = c.before.before.learn-new.ensures
+returns_2 : tie.Need-returns-2
+returns_2 c = c.before.before.learn-new.ensures
 
 pub learn-spec : {M : Type 1} → statement M
 learn-spec =
@@ -90,4 +90,4 @@ learn-spec =
     same_length
     returns
     same-length-2
-    returns-2)
+    returns_2)

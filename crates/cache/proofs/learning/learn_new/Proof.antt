@@ -4,16 +4,16 @@ use mathlib.Core.Path.{◌≡◌, sym, ap, ◌∙◌, subst}
 use mathlib.Core.Bool.{true, false}
 use Prim.Native.Nat.{ℕ, ◌-◌, ◌≤◌, ◌<◌}
 use lib.ListN.{length}
-use Rattle.own.specs.Own.{ownKeys, firstOwn}
-use Rattle.own.proofs.FormLaws.{own-formed, keys-many}
+use Rattle.own.specs.Own.{own_keys, first_own}
+use Rattle.own.proofs.FormLaws.{own_formed, keys_many}
 use Rattle.own.proofs.PlaceLaws.{first_key}
-use Rattle.table.specs.Rows.{rows, bytes_of, insertAt, Laid}
+use Rattle.table.specs.Rows.{rows, bytes_of, insert_at, Laid}
 use Rattle.table.proofs.RowLaws.{laid-bytes}
-use Rattle.record.proofs.EntryLaws.{form-length}
+use Rattle.record.proofs.EntryLaws.{form_length}
 use Rattle.going.specs.Going.{Goes}
 use Rattle.cache.specs.Form.{keys_of}
 use Rattle.cache.specs.Change.{changes}
-use Rattle.cache.proofs.FormLaws.{form-laid}
+use Rattle.cache.proofs.FormLaws.{form_laid}
 use Rattle.cache.proofs.LearnLaws.{
   place-most,
   more-rises,
@@ -34,32 +34,32 @@ use Rattle.cache.proofs.learning.learn_new.Statement.{statement}
 use Rattle.cache.proofs.learning.learn_new.Tie as tie
 
 laid : (s : tie.Start) → Laid 100 s.args.used s.args.cache.now
-laid s = form-laid (ownKeys s.args.own.now) s.args.used s.args.cache.now s.requires.1.0
+laid s = form_laid (own_keys s.args.own.now) s.args.used s.args.cache.now s.requires.1.0
 
 long : (s : tie.Start) → length s.args.«record».now ≡ 100
-long s = form-length s.args.«record».now s.requires.0.1
+long s = form_length s.args.«record».now s.requires.0.1
 
 -- the newcomer's place, and the one that goes
 most : (s : tie.Start) → s.args.at ≤ s.args.used
-most s = let a = s.args in place-most (ownKeys a.own.now) a.used a.at a.cache.now a.«record».now s.requires.1.0 s.requires.1.1.1
+most s = let a = s.args in place-most (own_keys a.own.now) a.used a.at a.cache.now a.«record».now s.requires.1.0 s.requires.1.1.1
 
 abbrev start : tie.After-who-goes → tie.Start
 start c = c.before.before.before.before.before.before
 
 -- the place that goes, by the first of our keys
-goes : (c : tie.After-who-goes) → (let a = (start c).args in Goes (firstOwn (ownKeys a.own.now)) (ownKeys a.own.now)
-    (keys_of (insertAt a.at a.«record».now (rows 100 a.used a.cache.now))) c.who-goes.result)
+goes : (c : tie.After-who-goes) → (let a = (start c).args in Goes (first_own (own_keys a.own.now)) (own_keys a.own.now)
+    (keys_of (insert_at a.at a.«record».now (rows 100 a.used a.cache.now))) c.who-goes.result)
 goes c =
     let s = start c in
     let a = s.args in
-    subst (λ (k : ℕ). Goes k (ownKeys a.own.now) (keys_of (insertAt a.at a.«record».now (rows 100 a.used a.cache.now))) c.who-goes.result)
-    (sym (first_key a.own.now (own-formed a.own.now s.pre.0.0).least)) c.who-goes.ensures
+    subst (λ (k : ℕ). Goes k (own_keys a.own.now) (keys_of (insert_at a.at a.«record».now (rows 100 a.used a.cache.now))) c.who-goes.result)
+    (sym (first_key a.own.now (own_formed a.own.now s.pre.0.0).least)) c.who-goes.ensures
 
 gone-most : (c : tie.After-who-goes) → c.who-goes.result ≤ (start c).args.used
 gone-most c =
     let s = start c in
     let a = s.args in
-    goes-most (ownKeys a.own.now) a.used a.at a.cache.now a.«record».now s.pre.1.0 s.pre.1.1.1
+    goes-most (own_keys a.own.now) a.used a.at a.cache.now a.«record».now s.pre.1.0 s.pre.1.1.1
     s.pre.1.1.0 c.before.before.if1.false c.who-goes.result (goes c)
 
 mul-if1 : tie.Need-overflow-mul-if1
@@ -83,17 +83,17 @@ returns c =
     let a = s.args in (
       c.before.before.before.insert-row.ensures
           ∙ ap (bytes_of (length a.cache.now))
-          (new-room (ownKeys a.own.now) a.used a.at a.cache.now a.«record».now s.requires.1.0 s.requires.1.1.1 at-if.if1.true),
+          (new-room (own_keys a.own.now) a.used a.at a.cache.now a.«record».now s.requires.1.0 s.requires.1.1.1 at-if.if1.true),
       ap (changes true false) c.no_key.ensures
-          ∙ told-room (ownKeys a.own.now) a.used a.at a.cache.now a.«record».now s.requires.1.0 s.requires.1.1.1 at-if.if1.true,
+          ∙ told-room (own_keys a.own.now) a.used a.at a.cache.now a.«record».now s.requires.1.0 s.requires.1.1.1 at-if.if1.true,
     )
 
 who-goes-requires : tie.Need-who-goes-requires
 who-goes-requires c κs =
     let s = c.before.before.before.before.before in
     let a = s.args in
-    let f = own-formed a.own.now s.requires.0.0 in
-    let keys = keys-many a.own.now in
+    let f = own_formed a.own.now s.requires.0.0 in
+    let keys = keys_many a.own.now in
     let full = c.before.if1.false in (
       (omega (arith, f.many), omega (arith, f.many, f.least), omega (arith, f.many, f.most)),
       (
@@ -107,8 +107,8 @@ who-goes-requires c κs =
         (
           s.requires.1.0.held.rising,
           (
-            more-rises (ownKeys a.own.now) a.used a.at a.cache.now a.«record».now s.requires.1.0 s.requires.1.1.1 s.requires.1.1.0,
-            more-others (ownKeys a.own.now) a.used a.at a.cache.now a.«record».now s.requires.1.0 s.requires.1.1.1 s.requires.1.1.0,
+            more-rises (own_keys a.own.now) a.used a.at a.cache.now a.«record».now s.requires.1.0 s.requires.1.1.1 s.requires.1.1.0,
+            more-others (own_keys a.own.now) a.used a.at a.cache.now a.«record».now s.requires.1.0 s.requires.1.1.1 s.requires.1.1.0,
           ),
         ),
       ),
@@ -139,8 +139,8 @@ exchange-up-requires c κs =
 same-length-2 : tie.Need-same-length-2
 same-length-2 c = search rules
 
-returns-2 : tie.Need-returns-2
-returns-2 c =
+returns_2 : tie.Need-returns-2
+returns_2 c =
     let at_key = c.before.before.before.before in
     let at-if = at_key.before.before in
     let w = at-if.before in
@@ -148,10 +148,10 @@ returns-2 c =
     let a = s.args in (
       c.before.before.exchange-up.ensures
           ∙ ap (bytes_of (length a.cache.now))
-          (new-before (ownKeys a.own.now) a.used a.at a.cache.now a.«record».now s.pre.1.0 s.pre.1.1.1 s.pre.1.1.0
+          (new-before (own_keys a.own.now) a.used a.at a.cache.now a.«record».now s.pre.1.0 s.pre.1.1.1 s.pre.1.1.0
           w.before.before.if1.false w.who-goes.result (goes w) at-if.if2.true),
       ap (changes true true) at_key.key-at.ensures
-          ∙ told-before (ownKeys a.own.now) a.used a.at a.cache.now a.«record».now s.pre.1.0 s.pre.1.1.1 s.pre.1.1.0
+          ∙ told-before (own_keys a.own.now) a.used a.at a.cache.now a.«record».now s.pre.1.0 s.pre.1.1.1 s.pre.1.1.0
           w.before.before.if1.false w.who-goes.result (goes w) at-if.if2.true,
     )
 
@@ -194,10 +194,10 @@ returns-3 c =
     let a = s.args in (
       c.before.before.exchange-down.ensures
           ∙ ap (bytes_of (length a.cache.now))
-          (new-after (ownKeys a.own.now) a.used a.at a.cache.now a.«record».now s.pre.1.0 s.pre.1.1.1 s.pre.1.1.0
+          (new-after (own_keys a.own.now) a.used a.at a.cache.now a.«record».now s.pre.1.0 s.pre.1.1.1 s.pre.1.1.0
           w.before.before.if1.false w.who-goes.result (goes w) at-if.if3.true),
       ap (changes true true) at_key.key-at2.ensures
-          ∙ told-after (ownKeys a.own.now) a.used a.at a.cache.now a.«record».now s.pre.1.0 s.pre.1.1.1 s.pre.1.1.0
+          ∙ told-after (own_keys a.own.now) a.used a.at a.cache.now a.«record».now s.pre.1.0 s.pre.1.1.1 s.pre.1.1.0
           w.before.before.if1.false w.who-goes.result (goes w) at-if.if3.true,
     )
 
@@ -215,10 +215,10 @@ returns-4 c =
     let e : a.at ≡ w.who-goes.result = omega (arith, c.before.if3.false, c.before.before.if2.false) in (
       laid-bytes 100 a.used a.cache.now (laid s)
           ∙ ap (bytes_of (length a.cache.now))
-          (new-goes (ownKeys a.own.now) a.used a.at a.cache.now a.«record».now s.pre.1.0 s.pre.1.1.1 s.pre.1.1.0
+          (new-goes (own_keys a.own.now) a.used a.at a.cache.now a.«record».now s.pre.1.0 s.pre.1.1.1 s.pre.1.1.0
           w.before.before.if1.false w.who-goes.result (goes w) e),
       c.unmoved.ensures
-          ∙ told-goes (ownKeys a.own.now) a.used a.at a.cache.now a.«record».now s.pre.1.0 s.pre.1.1.1 s.pre.1.1.0
+          ∙ told-goes (own_keys a.own.now) a.used a.at a.cache.now a.«record».now s.pre.1.0 s.pre.1.1.1 s.pre.1.1.0
           w.before.before.if1.false w.who-goes.result (goes w) e,
     )
 
@@ -237,7 +237,7 @@ learn-new-spec =
     sub-exchange-up
     exchange-up-requires
     same-length-2
-    returns-2
+    returns_2
     sub-key-at
     mul-key-at-2
     key-at-requires-2

@@ -3,11 +3,11 @@ use mathlib.Core.Path.{ap, ◌∙◌}
 use mathlib.Core.Bool.{true, false}
 use lib.ListN.{length}
 use Rattle.key.specs.Number.{key_at}
-use Rattle.own.specs.Own.{ownKeys}
+use Rattle.own.specs.Own.{own_keys}
 use Rattle.table.specs.Rows.{rows, bytes_of, Laid}
 use Rattle.table.proofs.RowLaws.{laid-bytes}
 use Rattle.cache.specs.Change.{changes}
-use Rattle.cache.proofs.FormLaws.{form-laid}
+use Rattle.cache.proofs.FormLaws.{form_laid}
 use Rattle.cache.proofs.FindLaws.{found-place, found-held, found-removes}
 use Rattle.cache.proofs.LearnLaws.{told-removed, told-kept}
 use borrow.Author.Rules.{rules}
@@ -15,7 +15,7 @@ use Rattle.cache.proofs.learning.remove.Statement.{statement}
 use Rattle.cache.proofs.learning.remove.Tie as tie
 
 laid : (s : tie.Start) → Laid 100 s.args.used s.args.cache.now
-laid s = form-laid (ownKeys s.args.own.now) s.args.used s.args.cache.now s.requires.1
+laid s = form_laid (own_keys s.args.own.now) s.args.used s.args.cache.now s.requires.1
 
 find-requires : tie.Need-find-requires
 find-requires c κs =
@@ -62,8 +62,8 @@ key-at-requires c κs = let at-find = c.before.before.before.before.before.befor
 same-length-2 : tie.Need-same-length-2
 same-length-2 c = search rules
 
-returns-2 : tie.Need-returns-2
-returns-2 c =
+returns_2 : tie.Need-returns-2
+returns_2 c =
     let at-found = c.before.before.before.before.before.before in
     let at-find = at-found.before.before in
     let s = at-find.before.before.before.before.before in
@@ -90,4 +90,4 @@ remove-spec =
     remove-row-requires
     key-at-requires
     same-length-2
-    returns-2)
+    returns_2)

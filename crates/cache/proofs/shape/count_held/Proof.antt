@@ -5,12 +5,12 @@ use Prim.Native.Nat.{ℕ, ◌+◌, ◌-◌, ◌*◌, ◌/◌, ◌%◌, ◌≤◌
 use native.Mathlib.Nat.{zero-add}
 use lib.ListN.{length, drop}
 use borrow.Author.Tests.{not-true, not-false}
-use Rattle.octet.specs.Number.{valueBE}
+use Rattle.octet.specs.Number.{value_be}
 use Rattle.octet.specs.Part.{part}
 use Rattle.table.specs.Rows.{rows}
 use Rattle.cache.specs.Place.{ordered, Carried}
-use Rattle.own.specs.Low.{lowAt}
-use Rattle.cache.proofs.ShapeLaws.{carried-next}
+use Rattle.own.specs.Low.{low_at}
+use Rattle.cache.proofs.ShapeLaws.{carried_next}
 use Rattle.cache.proofs.OrderedLaws.{ordered-more, ordered-stop, ordered_end}
 use native.Mathlib.Omega.{arith}
 use Rattle.cache.proofs.shape.count_held.Statement.{statement}
@@ -18,7 +18,7 @@ use Rattle.cache.proofs.shape.count_held.Tie as tie
 
 -- place i and what is counted from it on
 abbrev from : List ℕ → ℕ → ℕ
-from cache i = i + ordered (lowAt cache i) (drop i (rows 100 (length cache / 100) cache))
+from cache i = i + ordered (low_at cache i) (drop i (rows 100 (length cache / 100) cache))
 
 abbrev invariant-loop : tie.invariant-loop
 invariant-loop cache end last₀ at₀ last at =
@@ -35,7 +35,7 @@ mul-end : tie.Need-overflow-mul-end invariant-loop decreases-loop
 mul-end c = omega arith
 
 loop-holds : tie.Need-loop-init invariant-loop decreases-loop
-unfolding lowAt
+unfolding low_at
 loop-holds c =
     let a = c.before.args in (
       omega arith,
@@ -79,11 +79,11 @@ loop-again c =
       l.loop.invariant.3 ∙ ordered-more (length s / 100) s i (omega (arith, l.loop.invariant.2)) (sym tested.before.place-follows.ensures ∙ not-false _ tested.if1.false)
           ∙ ap (from s) e,
       subst (λ (j : ℕ). Carried s j c.read_u64.result) e
-          (carried-next s i c.read_u64.result (c.read_u64.ensures ∙ ap (λ (n : ℕ). valueBE 256 (part n 8 s)) p)),
+          (carried_next s i c.read_u64.result (c.read_u64.ensures ∙ ap (λ (n : ℕ). value_be 256 (part n 8 s)) p)),
     )
 
-returns-2 : tie.Need-returns-2 invariant-loop decreases-loop
-returns-2 c =
+returns_2 : tie.Need-returns-2 invariant-loop decreases-loop
+returns_2 c =
     let l = c.before in
     let a = l.before.before.args in
     let e = ordered_end (length a.cache.now / 100) a.cache.now (l.loop.at / 100) (omega arith) in
@@ -103,4 +103,4 @@ count-held-spec =
     add_at
     loop-less
     loop-again
-    returns-2)
+    returns_2)

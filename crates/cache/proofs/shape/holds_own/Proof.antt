@@ -6,13 +6,13 @@ use native.Mathlib.Omega.{arith}
 use lib.ListN.{length, drop, length-take, length-drop}
 use Rattle.key.specs.Number.{key_at}
 use Rattle.table.specs.Rows.{rows}
-use Rattle.table.proofs.PieceLaws.{part-lent}
+use Rattle.table.proofs.PieceLaws.{part_lent}
 use Rattle.kept.specs.Keys.{has}
 use Rattle.search.specs.declared.Sought.{Sought}
 use Rattle.cache.specs.Form.{keys_of}
-use Rattle.cache.specs.Place.{anyOwn}
-use Rattle.cache.proofs.FormLaws.{key-of-row}
-use Rattle.cache.proofs.OrderedLaws.{any_here, any-on, any-end}
+use Rattle.cache.specs.Place.{any_own}
+use Rattle.cache.proofs.FormLaws.{key_of-row}
+use Rattle.cache.proofs.OrderedLaws.{any_here, any-on, any_end}
 use Rattle.cache.proofs.shape.holds_own.Statement.{statement}
 use Rattle.cache.proofs.shape.holds_own.Tie as tie
 
@@ -20,7 +20,7 @@ abbrev invariant-loop : tie.invariant-loop
 invariant-loop own cache used n i₀ i =
     (n ≡ length own / 100)
     × (i ≤ n)
-    × (anyOwn (keys_of (rows 100 n own)) (keys_of (rows 100 used cache)) ≡ anyOwn (keys_of (drop i (rows 100 n own))) (keys_of (rows 100 used cache)))
+    × (any_own (keys_of (rows 100 n own)) (keys_of (rows 100 used cache)) ≡ any_own (keys_of (drop i (rows 100 n own))) (keys_of (rows 100 used cache)))
 
 abbrev decreases-loop : tie.decreases-loop
 decreases-loop own cache used n i₀ i = n - i
@@ -62,7 +62,7 @@ module _ (c : tie.After-find-key invariant-loop decreases-loop) where
   told : has (key_at (100 * loop.loop.i) own) keys ≡ c.find-key.result.held
   told =
       sym (ap (λ (q : Sought). q.held) c.find-key.ensures
-      ∙ ap (λ (l : List ℕ). has (key_at 0 l) keys) (part-lent (100 * loop.loop.i) 100 own) ∙ ap (λ (k : ℕ). has k keys) (key-of-row (100 * loop.loop.i) own))
+      ∙ ap (λ (l : List ℕ). has (key_at 0 l) keys) (part_lent (100 * loop.loop.i) 100 own) ∙ ap (λ (k : ℕ). has k keys) (key_of-row (100 * loop.loop.i) own))
 
 returns : tie.Need-returns invariant-loop decreases-loop
 returns c =
@@ -82,12 +82,12 @@ loop-again c =
     let l = (loop f).loop in
     (omega arith, omega arith, l.inv.2 ∙ any-on (length (own f) / 100) (own f) l.i (keys f) (omega arith) (told f ∙ c.if1.false))
 
-returns-2 : tie.Need-returns-2 invariant-loop decreases-loop
-returns-2 c =
+returns_2 : tie.Need-returns-2 invariant-loop decreases-loop
+returns_2 c =
     let l = c.before in
     let a = l.before.before.before.args in
     sym (l.loop.invariant.2
-    ∙ any-end (length a.own.now / 100) a.own.now l.loop.i (keys_of (rows 100 a.used a.cache.now)) (omega arith))
+    ∙ any_end (length a.own.now / 100) a.own.now l.loop.i (keys_of (rows 100 a.used a.cache.now)) (omega arith))
 
 pub holds-own-spec : {M : Type 1} → statement M
 holds-own-spec =
@@ -106,4 +106,4 @@ holds-own-spec =
     add-i
     loop-less
     loop-again
-    returns-2)
+    returns_2)

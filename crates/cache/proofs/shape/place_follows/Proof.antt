@@ -5,13 +5,13 @@ use mathlib.Core.List.{List}
 use Prim.Native.Nat.{ℕ, ◌*◌, ◌/◌}
 use lib.Dec.{leb}
 use borrow.Author.Tests.{not-true, not-false}
-use Rattle.octet.specs.Number.{valueBE}
+use Rattle.octet.specs.Number.{value_be}
 use Rattle.octet.specs.Part.{part}
 use Rattle.key.specs.Number.{key_at}
-use Rattle.record.specs.Record.{key_of, recordForm}
+use Rattle.record.specs.Record.{key_of, record_form}
 use Rattle.cache.specs.Place.{rises}
-use Rattle.own.specs.Low.{lowAt}
-use Rattle.cache.proofs.FormLaws.{key-of-row}
+use Rattle.own.specs.Low.{low_at}
+use Rattle.cache.proofs.FormLaws.{key_of-row}
 use native.Mathlib.Omega.{arith}
 use borrow.Author.Rules.{rules}
 use Rattle.cache.proofs.shape.place_follows.Statement.{statement}
@@ -22,17 +22,17 @@ abbrev row : tie.Start → List ℕ
 row s = part (100 * (s.args.at / 100)) 100 s.args.cache.now
 
 abbrev low : tie.Start → ℕ
-low s = lowAt s.args.cache.now (s.args.at / 100)
+low s = low_at s.args.cache.now (s.args.at / 100)
 
 row-key : (s : tie.Start) → key_of (row s) ≡ key_at (100 * (s.args.at / 100)) s.args.cache.now
-row-key s = key-of-row (100 * (s.args.at / 100)) s.args.cache.now
+row-key s = key_of-row (100 * (s.args.at / 100)) s.args.cache.now
 
 -- where it begins
 begins : (s : tie.Start) → s.args.at ≡ 100 * (s.args.at / 100)
 begins s = omega (arith, s.requires.0.1)
 
-is_row : (s : tie.Start) → recordForm (part s.args.at 100 s.args.cache.now) ≡ recordForm (row s)
-is_row s = ap (λ (n : ℕ). recordForm (part n 100 s.args.cache.now)) (begins s)
+is_row : (s : tie.Start) → record_form (part s.args.at 100 s.args.cache.now) ≡ record_form (row s)
+is_row s = ap (λ (n : ℕ). record_form (part n 100 s.args.cache.now)) (begins s)
 
 is-formed-requires : tie.Need-is-formed-requires
 is-formed-requires c κs = search rules
@@ -41,7 +41,7 @@ returns : tie.Need-returns
 unfolding rises
 returns c =
     let s = c.before.before.before in
-    let f : recordForm (row s) ≡ false = sym (c.before.is-formed.ensures ∙ is_row s) ∙ not-true _ c.if1.true in
+    let f : record_form (row s) ≡ false = sym (c.before.is-formed.ensures ∙ is_row s) ∙ not-true _ c.if1.true in
     sym (rw f refl)
 
 read-u64-requires : tie.Need-read-u64-requires
@@ -50,15 +50,15 @@ read-u64-requires c κs = search rules
 above-before-requires : tie.Need-above-before-requires
 above-before-requires c κs =
     let s = c.before.before.before.before in
-    (s.requires.0, (c.read_u64.ensures ∙ ap (λ (n : ℕ). valueBE 256 (part n 8 s.args.cache.now)) (begins s), s.requires.1))
+    (s.requires.0, (c.read_u64.ensures ∙ ap (λ (n : ℕ). value_be 256 (part n 8 s.args.cache.now)) (begins s), s.requires.1))
 
-returns-2 : tie.Need-returns-2
+returns_2 : tie.Need-returns-2
 unfolding rises
-returns-2 c =
+returns_2 c =
     let tested = c.before.before in
     let s = tested.before.before.before in
-    let f : recordForm (row s) ≡ true = sym (tested.before.is-formed.ensures ∙ is_row s) ∙ not-false _ tested.if1.false in
+    let f : record_form (row s) ≡ true = sym (tested.before.is-formed.ensures ∙ is_row s) ∙ not-false _ tested.if1.false in
     c.IsAbove-before.ensures ∙ sym (ap (leb (low s)) (row-key s)) ∙ sym (rw f refl)
 
 pub place-follows-spec : {M : Type 1} → statement M
-place-follows-spec = tie.close (tie.spec is-formed-requires returns read-u64-requires above-before-requires returns-2)
+place-follows-spec = tie.close (tie.spec is-formed-requires returns read-u64-requires above-before-requires returns_2)

@@ -5,9 +5,9 @@ use native.Mathlib.Omega.{arith}
 use lib.ListN.{length}
 use lib.Seq.{length-take-le}
 use borrow.Author.Rules.{rules}
-use Rattle.carried.specs.Carry.{carryHanded}
+use Rattle.carried.specs.Carry.{carry_handed}
 use Rattle.carried.specs.declared.Carry.{Carry}
-use Rattle.carried.proofs.CarryLaws.{not-refused, packed-fits, packed-left, packed-bytes, written-short, carried-as}
+use Rattle.carried.proofs.CarryLaws.{not-refused, packed-fits, packed-left, packed-bytes, written_short, carried-as}
 use Rattle.carried.proofs.payload.put_packed.Statement.{statement}
 use Rattle.carried.proofs.payload.put_packed.Tie as tie
 
@@ -49,7 +49,7 @@ write-payload-requires : tie.Need-write-payload-requires
 write-payload-requires c κs = search rules
 
 told-requires : tie.Need-told-requires
-told-requires c κs = written-short _ _ _ c.before.before.write-payload.ensures.answer
+told-requires c κs = written_short _ _ _ c.before.before.write-payload.ensures.answer
 
 returns : tie.Need-returns
 returns c =
@@ -60,8 +60,8 @@ returns c =
 same_length : tie.Need-same-length
 same_length c = search rules
 
-returns-2 : tie.Need-returns-2
-returns-2 c =
+returns_2 : tie.Need-returns-2
+returns_2 c =
     let packed2 = c.before.before.before.before.before.before.before in
     let known = packed2.before.before.before.before.before.before in
     let start = known.before in
@@ -69,7 +69,7 @@ returns-2 c =
     let e = packed2.before.before.before.pack-allowed.ensures in
     let g = start.requires.1 in
     let out = c.before.before.before.write-payload.new.0 in
-    ap (λ (x : Carry). carryHanded x out) c.told.ensures
+    ap (λ (x : Carry). carry_handed x out) c.told.ensures
     ∙ carried-as _ _ (λ i. omega (arith, known.shared-slice-known.given i)) _ start.requires.0 _ _ _ _ _ (packed-bytes _ _ _ _ g refl e _ q)
     c.before.before.before.write-payload.ensures
 
@@ -88,4 +88,4 @@ put-packed-spec =
     told-requires
     returns
     same_length
-    returns-2)
+    returns_2)

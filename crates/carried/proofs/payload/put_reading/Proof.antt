@@ -33,8 +33,8 @@ returns c =
 same_length : tie.Need-same-length
 same_length c = search rules
 
-returns-2 : tie.Need-returns-2
-returns-2 c =
+returns_2 : tie.Need-returns-2
+returns_2 c =
     let made2 = c.before.before.before.before.before in
     let known = made2.before.before.before.before in
     let start = known.before in
@@ -53,4 +53,4 @@ put-reading-spec =
     put-packed-requires
     returns
     same_length
-    returns-2)
+    returns_2)

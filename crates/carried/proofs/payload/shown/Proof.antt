@@ -1,7 +1,7 @@
 -- `carried::payload::shown` meets its contract. Assumes nothing.
 use mathlib.Core.Path.{ap, sym, ◌∙◌}
 use borrow.Author.Rules.{rules}
-use Rattle.carried.specs.Take.{takenBy}
+use Rattle.carried.specs.Take.{taken_by}
 use Rattle.carried.proofs.payload.shown.Statement.{statement}
 use Rattle.carried.proofs.payload.shown.Tie as tie
 
@@ -21,10 +21,10 @@ measure-allowed-requires : tie.Need-measure-allowed-requires
 measure-allowed-requires c κs = c.before.before.before.before.requires _ c.before.before.reading2.given.1
 
 returns : tie.Need-returns
-returns c = c.nothing.ensures ∙ sym (ap takenBy c.before.before.reading.given.1)
+returns c = c.nothing.ensures ∙ sym (ap taken_by c.before.before.reading.given.1)
 
-returns-2 : tie.Need-returns-2
-returns-2 c = rw (c.measure-allowed.ensures, c.before.kind-of.ensures) (sym (ap takenBy c.before.before.before.reading2.given.1))
+returns_2 : tie.Need-returns-2
+returns_2 c = rw (c.measure-allowed.ensures, c.before.kind-of.ensures) (sym (ap taken_by c.before.before.before.reading2.given.1))
 
 pub shown-spec : {M : Type 1} → statement M
 shown-spec =
@@ -36,4 +36,4 @@ shown-spec =
     kind-of-requires
     measure-allowed-requires
     returns
-    returns-2)
+    returns_2)

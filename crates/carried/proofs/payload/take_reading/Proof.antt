@@ -4,9 +4,9 @@ use Prim.Native.Nat.{ℕ, ◌+◌, ◌-◌}
 use native.Mathlib.Omega.{arith}
 use lib.ListN.{take, drop}
 use borrow.Author.Rules.{rules}
-use Rattle.readings.specs.Unpack.{unpackOf}
-use Rattle.carried.specs.Take.{takenBy}
-use Rattle.carried.proofs.CarryLaws.{unpack-fine, payload-there, none-taken, some-taken}
+use Rattle.readings.specs.Unpack.{unpack_of}
+use Rattle.carried.specs.Take.{taken_by}
+use Rattle.carried.proofs.CarryLaws.{unpack_fine, payload-there, none-taken, some-taken}
 use Rattle.carried.proofs.payload.take_reading.Statement.{statement}
 use Rattle.carried.proofs.payload.take_reading.Tie as tie
 
@@ -42,7 +42,7 @@ unpack-requires : tie.Need-unpack-requires
 unpack-requires c κs = search rules
 
 shown-requires : tie.Need-shown-requires
-shown-requires c κs = λ r e. unpack-fine _ r (sym c.unpack.ensures ∙ e)
+shown-requires c κs = λ r e. unpack_fine _ r (sym c.unpack.ensures ∙ e)
 
 returns : tie.Need-returns
 returns c =
@@ -50,8 +50,8 @@ returns c =
     c.nothing.ensures ∙ none-taken _ _ (λ i. omega (arith, known.shared-slice-known.given i)) _ known.before.requires
     c.before.enum_told.given.1
 
-returns-2 : tie.Need-returns-2
-returns-2 c =
+returns_2 : tie.Need-returns-2
+returns_2 c =
     let payload = c.before.before.before.before in
     let known = payload.before.before.before in
     let start = known.before in
@@ -60,7 +60,7 @@ returns-2 c =
     let s = p.0.0 in
     let l = p.0.1.0 in
     let z : s + l - s ≡ l = omega arith in
-    c.shown.ensures ∙ ap takenBy (c.before.unpack.ensures ∙ ap (λ (n : ℕ). unpackOf (take n (drop s a.d.now))) z)
+    c.shown.ensures ∙ ap taken_by (c.before.unpack.ensures ∙ ap (λ (n : ℕ). unpack_of (take n (drop s a.d.now))) z)
     ∙ some-taken _ _ (λ i. omega (arith, known.shared-slice-known.given i)) _ start.requires s l p.1
 
 pub take-reading-spec : {M : Type 1} → statement M
@@ -77,4 +77,4 @@ take-reading-spec =
     part-unpack-end
     unpack-requires
     shown-requires
-    returns-2)
+    returns_2)

@@ -2,7 +2,7 @@
 use mathlib.Core.Path.{ap, sym, ◌∙◌}
 use borrow.Author.Rules.{rules}
 use Rattle.carried.specs.declared.whole.Whole.TheVariants.{Other}
-use Rattle.carried.specs.Whole.{wholeOf}
+use Rattle.carried.specs.Whole.{whole_of}
 use Rattle.carried.proofs.whole.whole_of.Statement.{statement}
 use Rattle.carried.proofs.whole.whole_of.Tie as tie
 
@@ -37,10 +37,10 @@ enum-told-7 : tie.Need-enum-told-7
 enum-told-7 c = search rules
 
 returns : tie.Need-returns
-returns c = ap Other c.wide.ensures ∙ sym (ap wholeOf c.before.before.message.given.1)
+returns c = ap Other c.wide.ensures ∙ sym (ap whole_of c.before.before.message.given.1)
 
-returns-2 : tie.Need-returns-2
-returns-2 c = sym (ap wholeOf c.before.message2.given.1)
+returns_2 : tie.Need-returns-2
+returns_2 c = sym (ap whole_of c.before.message2.given.1)
 
 returns-3 : tie.Need-returns-3
 returns-3 c = search rules
@@ -78,7 +78,7 @@ whole-of-spec =
     enum-told-6
     enum-told-7
     returns
-    returns-2
+    returns_2
     returns-3
     returns-4
     returns-5

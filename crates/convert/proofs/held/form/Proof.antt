@@ -5,14 +5,14 @@ use mathlib.Core.List.{List}
 use Prim.Native.Nat.{ℕ, ◌-◌, ◌*◌, ◌/◌, ◌≤◌}
 use lib.ListN.{length, take, drop, length-drop}
 use lib.Seq.{take_all}
-use Rattle.octet.specs.Part.{allZero}
-use Rattle.own.specs.Own.{ownKeys}
-use Rattle.own.proofs.FormLaws.{keys-many}
+use Rattle.octet.specs.Part.{all_zero}
+use Rattle.own.specs.Own.{own_keys}
+use Rattle.own.proofs.FormLaws.{keys_many}
 use Rattle.table.proofs.RowLaws.{rows-length}
 use Rattle.cache.specs.declared.shape.Formed.TheVariants.{Bad, Good}
-use Rattle.convert.specs.Old.{oldHeldIn}
-use Rattle.convert.specs.Formed.{oldCacheFormed}
-use Rattle.convert.proofs.HeldLaws.{held-most, not-whole, too_small, too_large, too_few, by-rest}
+use Rattle.convert.specs.Old.{old_held_in}
+use Rattle.convert.specs.Formed.{old_cache_formed}
+use Rattle.convert.proofs.HeldLaws.{held_most, not-whole, too_small, too_large, too_few, by-rest}
 use native.Mathlib.Omega.{arith}
 use borrow.Author.Rules.{rules}
 use Rattle.convert.proofs.held.form.Statement.{statement}
@@ -20,33 +20,33 @@ use Rattle.convert.proofs.held.form.Tie as tie
 
 -- no more are held than there are places
 few : (c : tie.After-count-held) → c.count_held.result ≤ length c.before.before.before.before.before.before.before.before.args.cache.now / 100
-unfolding oldHeldIn
+unfolding old_held_in
 few c =
     let a = c.before.before.before.before.before.before.before.before.args in
-    omega (arith, held-most (ownKeys a.own.now) a.cache.now, c.count_held.ensures)
+    omega (arith, held_most (own_keys a.own.now) a.cache.now, c.count_held.ensures)
 
 -- the part that is lent to the test
 rest : (n : ℕ) (s : List ℕ) → take (length s - n) (drop n s) ≡ drop n s
 rest n s = take_all (length s - n) (drop n s) (simp length-drop (omega arith))
 
 -- how many own keys there are
-keys : (c : tie.After-count) → length (ownKeys c.before.before.before.before.before.before.args.own.now) ≡ c.count.result
+keys : (c : tie.After-count) → length (own_keys c.before.before.before.before.before.before.args.own.now) ≡ c.count.result
 keys c =
     let own = c.before.before.before.before.before.before.args.own.now in
-    keys-many own ∙ sym (rows-length 100 (length own / 100) own) ∙ sym c.count.ensures
+    keys_many own ∙ sym (rows-length 100 (length own / 100) own) ∙ sym c.count.ensures
 
 returns : tie.Need-returns
-returns c = let a = c.before.before.before.args in sym (not-whole (ownKeys a.own.now) a.cache.now c.if1.true)
+returns c = let a = c.before.before.before.args in sym (not-whole (own_keys a.own.now) a.cache.now c.if1.true)
 
-returns-2 : tie.Need-returns-2
-returns-2 c =
+returns_2 : tie.Need-returns-2
+returns_2 c =
     let a = c.before.before.before.before.args in
-    sym (too_small (ownKeys a.own.now) a.cache.now c.before.if1.false c.if2.true)
+    sym (too_small (own_keys a.own.now) a.cache.now c.before.if1.false c.if2.true)
 
 returns-3 : tie.Need-returns-3
 returns-3 c =
     let a = c.before.before.before.before.before.args in
-    sym (too_large (ownKeys a.own.now) a.cache.now c.before.before.if1.false (omega arith) c.if3.true)
+    sym (too_large (own_keys a.own.now) a.cache.now c.before.before.if1.false (omega arith) c.if3.true)
 
 count-requires : tie.Need-count-requires
 count-requires c κs = search rules
@@ -56,7 +56,7 @@ returns-4 c =
     let n = c.before in
     let at-if = n.before.before.before in
     let a = at-if.before.before.before.args in
-    sym (too_few (ownKeys a.own.now) a.cache.now at-if.if1.false (omega arith) (omega arith) (omega (arith, keys n, c.if4.true)))
+    sym (too_few (own_keys a.own.now) a.cache.now at-if.if1.false (omega arith) (omega arith) (omega (arith, keys n, c.if4.true)))
 
 count-held-requires : tie.Need-count-held-requires
 count-held-requires c κs = search rules
@@ -78,15 +78,15 @@ is-zero-requires c κs = search rules
 
 -- what the form's test says, by the test of the rest
 by : (c : tie.After-is-zero) → (let a = c.before.before.before.before.before.before.before.before.before.before.args in
-    oldCacheFormed (ownKeys a.own.now) a.cache.now ≡ cond c.is_zero.result (Good c.before.before.count_held.result) Bad)
+    old_cache_formed (own_keys a.own.now) a.cache.now ≡ cond c.is_zero.result (Good c.before.before.count_held.result) Bad)
 by c =
     let g = c.before.before in
     let n = g.before.before in
     let at-if = n.before.before.before in
     let a = at-if.before.before.before.args in
-    by-rest (ownKeys a.own.now) a.cache.now at-if.if1.false (omega arith) g.count_held.result c.is_zero.result (omega arith)
+    by-rest (own_keys a.own.now) a.cache.now at-if.if1.false (omega arith) g.count_held.result c.is_zero.result (omega arith)
     (omega (arith, keys n, g.before.if4.false)) g.count_held.ensures
-    (c.is_zero.ensures ∙ ap allZero (rest (100 * g.count_held.result) a.cache.now))
+    (c.is_zero.ensures ∙ ap all_zero (rest (100 * g.count_held.result) a.cache.now))
 
 returns-5 : tie.Need-returns-5
 returns-5 c = sym (by c.before ∙ rw c.if5.true refl)
@@ -99,7 +99,7 @@ form-spec =
     tie.close
     (tie.spec
     returns
-    returns-2
+    returns_2
     returns-3
     count-requires
     returns-4

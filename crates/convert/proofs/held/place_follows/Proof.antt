@@ -9,9 +9,9 @@ use Rattle.octet.specs.Part.{part}
 use Rattle.key.specs.Number.{key_at}
 use Rattle.record.specs.Record.{key_of}
 use Rattle.cache.specs.Form.{follows}
-use Rattle.own.specs.Low.{lowAt}
-use Rattle.cache.proofs.FormLaws.{key-of-row}
-use Rattle.convert.specs.Old.{oldRecordForm}
+use Rattle.own.specs.Low.{low_at}
+use Rattle.cache.proofs.FormLaws.{key_of-row}
+use Rattle.convert.specs.Old.{old_record_form}
 use borrow.Author.Rules.{rules}
 use Rattle.convert.proofs.held.place_follows.Statement.{statement}
 use Rattle.convert.proofs.held.place_follows.Tie as tie
@@ -21,10 +21,10 @@ abbrev row : tie.Start → List ℕ
 row s = part (100 * s.args.i) 100 s.args.cache.now
 
 abbrev low : tie.Start → ℕ
-low s = lowAt s.args.cache.now s.args.i
+low s = low_at s.args.cache.now s.args.i
 
 row-key : (s : tie.Start) → key_of (row s) ≡ key_at (100 * s.args.i) s.args.cache.now
-row-key s = key-of-row (100 * s.args.i) s.args.cache.now
+row-key s = key_of-row (100 * s.args.i) s.args.cache.now
 
 mul_at : tie.Need-overflow-mul-at
 mul_at c = search rules
@@ -36,19 +36,19 @@ returns : tie.Need-returns
 unfolding follows
 returns c =
     let s = c.before.before.before.before in
-    let f : oldRecordForm (row s) ≡ false = sym c.before.is-formed.ensures ∙ not-true _ c.if1.true in
+    let f : old_record_form (row s) ≡ false = sym c.before.is-formed.ensures ∙ not-true _ c.if1.true in
     sym (rw f refl)
 
 above-before-requires : tie.Need-above-before-requires
 above-before-requires c κs = search rules
 
 -- the record is in form
-formed : (m : tie.Else1) → oldRecordForm (row m.before.before.before.before) ≡ true
+formed : (m : tie.Else1) → old_record_form (row m.before.before.before.before) ≡ true
 formed m = sym m.before.is-formed.ensures ∙ not-false _ m.if1.false
 
-returns-2 : tie.Need-returns-2
+returns_2 : tie.Need-returns-2
 unfolding follows
-returns-2 c =
+returns_2 c =
     let first = c.before.before in
     let s = first.before.before.before.before in
     let l : leb (low s) (key_of (row s)) ≡ false = ap (leb (low s)) (row-key s) ∙ sym c.before.IsAbove-before.ensures
@@ -70,4 +70,4 @@ returns-3 c =
 
 pub place-follows-spec : {M : Type 1} → statement M
 place-follows-spec =
-    tie.close (tie.spec mul_at is-formed-requires returns above-before-requires returns-2 is-own-requires returns-3)
+    tie.close (tie.spec mul_at is-formed-requires returns above-before-requires returns_2 is-own-requires returns-3)

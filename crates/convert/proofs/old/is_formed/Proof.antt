@@ -6,9 +6,9 @@ use Prim.Native.Nat.{ℕ, ◌+◌, ◌*◌}
 use native.Mathlib.Omega.{arith}
 use borrow.Author.Tests.{lt-leb, not-true, not-false}
 use lib.ListN.{get_or}
-use Rattle.octet.specs.Part.{part, allZero}
+use Rattle.octet.specs.Part.{part, all_zero}
 use Rattle.record.proofs.PlaceLaws.{count_word}
-use Rattle.convert.proofs.OldLaws.{form-at, form-left, form-over, form-spoilt, zero-both, zero-none}
+use Rattle.convert.proofs.OldLaws.{form_at, form_left, form_over, form_spoilt, zero_both, zero-none}
 use borrow.Author.Rules.{rules}
 use Rattle.convert.proofs.old.is_formed.Statement.{statement}
 use Rattle.convert.proofs.old.is_formed.Tie as tie
@@ -24,13 +24,13 @@ counted : (r : tie.After-read-u16-le) → r.read-u16-le.result ≡ get_or (bytes
 counted r = r.read-u16-le.ensures ∙ count_word (place r) (bytes r) (omega (arith, r.before.before.requires))
 
 -- the pairs that have passed, the last first
-last : (c : tie.Else3) → allZero (part (place c.before.before.before.before + 84) 16 (bytes c.before.before.before.before)) ≡ true
+last : (c : tie.Else3) → all_zero (part (place c.before.before.before.before + 84) 16 (bytes c.before.before.before.before)) ≡ true
 last c = sym c.before.zero-pair.ensures ∙ not-false _ c.if3.false
 
-middle : (c : tie.Else5) → let r = c.before.before.before.before.before.before.before in allZero (part (place r + 68) 16 (bytes r)) ≡ true
+middle : (c : tie.Else5) → let r = c.before.before.before.before.before.before.before in all_zero (part (place r + 68) 16 (bytes r)) ≡ true
 middle c = sym c.before.zero-pair2.ensures ∙ not-false _ c.if5.false
 
-first : (c : tie.Else7) → let r = c.before.before.before.before.before.before.before.before.before.before in allZero
+first : (c : tie.Else7) → let r = c.before.before.before.before.before.before.before.before.before.before in all_zero
     (part (place r + 52) 16 (bytes r)) ≡ true
 first c = sym c.before.zero-pair3.ensures ∙ not-false _ c.if7.false
 
@@ -43,13 +43,13 @@ read-u16-le-requires c κs = search rules
 returns : tie.Need-returns
 returns c =
     let r = c.before in
-    form-over (place r) (bytes r) (omega (arith, counted r, c.if1.true))
+    form_over (place r) (bytes r) (omega (arith, counted r, c.if1.true))
 
-returns-2 : tie.Need-returns-2
-returns-2 c =
+returns_2 : tie.Need-returns-2
+returns_2 c =
     let r = c.before.before in
     zero-none (place r + 100) (bytes r)
-    ∙ form-left (place r) (place r + 100) 0 (bytes r) r.before.before.requires (omega (arith, counted r)) (omega (arith, counted r))
+    ∙ form_left (place r) (place r + 100) 0 (bytes r) r.before.before.requires (omega (arith, counted r)) (omega (arith, counted r))
     (omega (arith, counted r))
     (omega (arith, counted r)) (omega (arith, counted r))
 
@@ -62,13 +62,13 @@ zero-pair-requires c κs = search rules
 returns-3 : tie.Need-returns-3
 returns-3 c =
     let r = c.before.before.before.before in
-    form-spoilt (place r) (place r + 84) (bytes r) r.before.before.requires (omega (arith, counted r)) (omega (arith, counted r)) (omega arith)
+    form_spoilt (place r) (place r + 84) (bytes r) r.before.before.requires (omega (arith, counted r)) (omega (arith, counted r)) (omega arith)
     (sym c.before.zero-pair.ensures ∙ not-true _ c.if3.true)
 
 returns-4 : tie.Need-returns-4
 returns-4 c =
     let r = c.before.before.before.before.before in
-    sym (last c.before) ∙ form-left (place r) (place r + 84) 16 (bytes r) r.before.before.requires (omega (arith, counted r))
+    sym (last c.before) ∙ form_left (place r) (place r + 84) 16 (bytes r) r.before.before.requires (omega (arith, counted r))
     (omega (arith, counted r)) (omega (arith, counted r)) (omega (arith, counted r)) (omega (arith, counted r))
 
 add-zero-pair-2 : tie.Need-overflow-add-zero-pair-2
@@ -80,14 +80,14 @@ zero-pair-requires-2 c κs = search rules
 returns-5 : tie.Need-returns-5
 returns-5 c =
     let r = c.before.before.before.before.before.before.before in
-    form-spoilt (place r) (place r + 68) (bytes r) r.before.before.requires (omega (arith, counted r)) (omega (arith, counted r)) (omega arith)
+    form_spoilt (place r) (place r + 68) (bytes r) r.before.before.requires (omega (arith, counted r)) (omega (arith, counted r)) (omega arith)
     (sym c.before.zero-pair2.ensures ∙ not-true _ c.if5.true)
 
 returns-6 : tie.Need-returns-6
 returns-6 c =
     let r = c.before.before.before.before.before.before.before.before in
-    let two = zero-both (place r + 68) (place r + 84) 16 (bytes r) (omega arith) (middle c.before) (last c.before.before.before.before) in
-    sym two ∙ form-left (place r) (place r + 68) 32 (bytes r) r.before.before.requires (omega (arith, counted r)) (omega (arith, counted r))
+    let two = zero_both (place r + 68) (place r + 84) 16 (bytes r) (omega arith) (middle c.before) (last c.before.before.before.before) in
+    sym two ∙ form_left (place r) (place r + 68) 32 (bytes r) r.before.before.requires (omega (arith, counted r)) (omega (arith, counted r))
     (omega (arith, counted r)) (omega (arith, counted r)) (omega (arith, counted r))
 
 add-zero-pair-3 : tie.Need-overflow-add-zero-pair-3
@@ -99,23 +99,23 @@ zero-pair-requires-3 c κs = search rules
 returns-7 : tie.Need-returns-7
 returns-7 c =
     let r = c.before.before.before.before.before.before.before.before.before.before in
-    form-spoilt (place r) (place r + 52) (bytes r) r.before.before.requires (omega (arith, counted r)) (omega (arith, counted r)) (omega arith)
+    form_spoilt (place r) (place r + 52) (bytes r) r.before.before.requires (omega (arith, counted r)) (omega (arith, counted r)) (omega arith)
     (sym c.before.zero-pair3.ensures ∙ not-true _ c.if7.true)
 
 returns-8 : tie.Need-returns-8
 returns-8 c =
     let r = c.before.before.before.before.before.before.before.before.before.before.before in
-    let two = zero-both (place r + 68) (place r + 84) 16 (bytes r) (omega arith) (middle c.before.before.before.before)
+    let two = zero_both (place r + 68) (place r + 84) 16 (bytes r) (omega arith) (middle c.before.before.before.before)
     (last c.before.before.before.before.before.before.before) in
-    let three = zero-both (place r + 52) (place r + 68) 32 (bytes r) (omega arith) (first c.before) two in
-    sym three ∙ form-left (place r) (place r + 52) 48 (bytes r) r.before.before.requires (omega (arith, counted r)) (omega (arith, counted r))
+    let three = zero_both (place r + 52) (place r + 68) 32 (bytes r) (omega arith) (first c.before) two in
+    sym three ∙ form_left (place r) (place r + 52) 48 (bytes r) r.before.before.requires (omega (arith, counted r)) (omega (arith, counted r))
     (omega (arith, counted r)) (omega (arith, counted r)) (omega (arith, counted r))
 
 returns-9 : tie.Need-returns-9
 returns-9 c =
     let r = c.before.before.before.before.before.before.before.before.before.before.before in
     rw (
-      form-at (place r) (bytes r) r.before.before.requires (omega (arith, counted r)),
+      form_at (place r) (bytes r) r.before.before.requires (omega (arith, counted r)),
       lt-leb 1 (get_or (bytes r) (place r + 34) 0)
           (omega (arith, counted r)),
     )
@@ -127,7 +127,7 @@ is-formed-spec =
     add-read-u16-le
     read-u16-le-requires
     returns
-    returns-2
+    returns_2
     add-zero-pair
     zero-pair-requires
     returns-3

@@ -5,9 +5,9 @@ use lib.ListN.{length, drop}
 use borrow.Author.Tests.{not-true, not-false}
 use native.Mathlib.Omega.{arith}
 use Rattle.table.specs.Rows.{rows}
-use Rattle.own.specs.Own.{risingBy}
-use Rattle.own.specs.Low.{lowAt}
-use Rattle.convert.specs.Old.{oldRecordForm, oldOwnForm}
+use Rattle.own.specs.Own.{rising_by}
+use Rattle.own.specs.Low.{low_at}
+use Rattle.convert.specs.Old.{old_record_form, old_own_form}
 use Rattle.own.proofs.FormLaws.{not-whole, too_few, too_many, by-records, rising-more, rising-stop, rising-end}
 use Rattle.convert.proofs.ours.form.Statement.{statement}
 use Rattle.convert.proofs.ours.form.Tie as tie
@@ -16,27 +16,27 @@ abbrev invariant-loop : tie.invariant-loop
 invariant-loop own size n i₀ i =
     (n ≡ length own / 100)
     × (i ≤ n)
-    × (oldOwnForm own ≡ risingBy oldRecordForm (lowAt own i) (drop i (rows 100 n own)))
+    × (old_own_form own ≡ rising_by old_record_form (low_at own i) (drop i (rows 100 n own)))
 
 abbrev decreases-loop : tie.decreases-loop
 decreases-loop own size n i₀ i = n - i
 
 returns : tie.Need-returns invariant-loop decreases-loop
-returns c = sym (not-whole oldRecordForm c.before.before.args.own.now c.if1.true)
+returns c = sym (not-whole old_record_form c.before.before.args.own.now c.if1.true)
 
-returns-2 : tie.Need-returns-2 invariant-loop decreases-loop
-returns-2 c = sym (too_few oldRecordForm c.before.before.before.args.own.now c.before.if1.false c.if2.true)
+returns_2 : tie.Need-returns-2 invariant-loop decreases-loop
+returns_2 c = sym (too_few old_record_form c.before.before.before.args.own.now c.before.if1.false c.if2.true)
 
 returns-3 : tie.Need-returns-3 invariant-loop decreases-loop
 returns-3 c =
     let own = c.before.before.before.before.args.own.now in
-    sym (too_many oldRecordForm own c.before.before.if1.false (omega (arith, c.before.if2.false)) c.if3.true)
+    sym (too_many old_record_form own c.before.before.if1.false (omega (arith, c.before.if2.false)) c.if3.true)
 
 loop-holds : tie.Need-loop-init invariant-loop decreases-loop
-unfolding lowAt
+unfolding low_at
 loop-holds c =
     let own = c.before.before.before.before.args.own.now in
-    (omega arith, omega arith, by-records oldRecordForm own c.before.before.if1.false (omega (arith, c.before.if2.false)) (omega (arith, c.if3.false)))
+    (omega arith, omega arith, by-records old_record_form own c.before.before.if1.false (omega (arith, c.before.if2.false)) (omega (arith, c.if3.false)))
 
 follows-requires : tie.Need-follows-requires invariant-loop decreases-loop
 follows-requires c κs = omega arith
@@ -45,7 +45,7 @@ returns-4 : tie.Need-returns-4 invariant-loop decreases-loop
 returns-4 c =
     let l = c.before.before.before in
     let own = l.before.before.before.before.before.args.own.now in
-    sym (l.loop.invariant.2 ∙ rising-stop oldRecordForm (length own / 100) own l.loop.i (omega arith)
+    sym (l.loop.invariant.2 ∙ rising-stop old_record_form (length own / 100) own l.loop.i (omega arith)
     (sym c.before.follows.ensures ∙ not-true _ c.if4.true))
 
 add-i : tie.Need-overflow-add-i invariant-loop decreases-loop
@@ -60,7 +60,7 @@ loop-again c =
     let own = l.before.before.before.before.before.args.own.now in (
       omega arith,
       omega arith,
-      l.loop.invariant.2 ∙ rising-more oldRecordForm (length own / 100) own l.loop.i (omega arith)
+      l.loop.invariant.2 ∙ rising-more old_record_form (length own / 100) own l.loop.i (omega arith)
           (sym c.before.follows.ensures ∙ not-false _ c.if4.false),
     )
 
@@ -68,7 +68,7 @@ returns-5 : tie.Need-returns-5 invariant-loop decreases-loop
 returns-5 c =
     let l = c.before in
     let own = l.before.before.before.before.before.args.own.now in
-    sym (l.loop.invariant.2 ∙ rising-end oldRecordForm (length own / 100) own l.loop.i (omega arith))
+    sym (l.loop.invariant.2 ∙ rising-end old_record_form (length own / 100) own l.loop.i (omega arith))
 
 pub form-spec : {M : Type 1} → statement M
 form-spec =
@@ -77,7 +77,7 @@ form-spec =
     invariant-loop
     decreases-loop
     returns
-    returns-2
+    returns_2
     returns-3
     loop-holds
     follows-requires

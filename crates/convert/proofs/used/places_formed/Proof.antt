@@ -6,19 +6,19 @@ use Prim.Native.Nat.{ℕ, ◌+◌, ◌*◌, ◌-◌, ◌≤◌}
 use native.Mathlib.Omega.{arith}
 use lib.ListN.{drop, length-take, length-drop}
 use borrow.Author.Tests.{not-true, not-false}
-use Rattle.own.specs.Own.{ownKeys}
+use Rattle.own.specs.Own.{own_keys}
 use Rattle.table.specs.Rows.{rows}
 use Rattle.waiting.specs.Form.{places_by}
 use Rattle.waiting.proofs.PlaceLaws.{id-at}
-use Rattle.waiting.proofs.WalkLaws.{tests, tests-are, form-not, form-on, form-end}
-use Rattle.convert.specs.Old.{oldRecordForm}
+use Rattle.waiting.proofs.WalkLaws.{tests, tests-are, form_not, form-on, form-end}
+use Rattle.convert.specs.Old.{old_record_form}
 use Rattle.convert.proofs.used.places_formed.Statement.{statement}
 use Rattle.convert.proofs.used.places_formed.Tie as tie
 
 abbrev invariant-loop : tie.invariant-loop
 invariant-loop own table used low₀ at₀ low at =
     (at ≤ used) × (low ≤ 4294967296)
-    × (places_by oldRecordForm (ownKeys own) 0 (rows 140 used table) ≡ places_by oldRecordForm (ownKeys own) low (drop at (rows 140 used table)))
+    × (places_by old_record_form (own_keys own) 0 (rows 140 used table) ≡ places_by old_record_form (own_keys own) low (drop at (rows 140 used table)))
 
 abbrev decreases-loop : tie.decreases-loop
 decreases-loop own table used low₀ at₀ low at = used - at
@@ -32,13 +32,13 @@ from c = c.before.before.before.before.before.before.before.before
 
 -- the three tests of a turn are the place's
 turned : (c : tie.After-key-again invariant-loop decreases-loop)
-    → tests (from c).args.used (from c).args.table.now (at-loop c).loop.at oldRecordForm (ownKeys (from c).args.own.now) (at-loop c).loop.low
+    → tests (from c).args.used (from c).args.table.now (at-loop c).loop.at old_record_form (own_keys (from c).args.own.now) (at-loop c).loop.low
     ≡ (c.before.place-formed.result && leb (at-loop c).loop.low c.before.before.before.read-u32-le.result && not c.key-again.result)
 turned c =
     let a = c.before.before.before.before.before.before.before.before.args in
     let l = c.before.before.before.before.before.loop in
     let id = c.before.before.before.read-u32-le.ensures in
-    tests-are a.used a.table.now l.at oldRecordForm (ownKeys a.own.now) l.low c.before.place-formed.ensures id c.key-again.ensures
+    tests-are a.used a.table.now l.at old_record_form (own_keys a.own.now) l.low c.before.place-formed.ensures id c.key-again.ensures
 
 loop-holds : tie.Need-loop-init invariant-loop decreases-loop
 loop-holds c = (omega arith, omega arith, refl)
@@ -75,7 +75,7 @@ returns c =
     let at-loop = c.before.before.before.before.before.before in
     let a = at-loop.before.before.before.args in
     let l = at-loop.loop in
-    sym (l.invariant.2 ∙ form-not a.used a.table.now l.at oldRecordForm (ownKeys a.own.now) l.low (omega arith)
+    sym (l.invariant.2 ∙ form_not a.used a.table.now l.at old_record_form (own_keys a.own.now) l.low (omega arith)
     (turned c.before ∙ not-true _ c.if1.true))
 
 add_low : tie.Need-overflow-add-low invariant-loop decreases-loop
@@ -91,19 +91,19 @@ loop-again : tie.Need-loop-preserved invariant-loop decreases-loop
 loop-again c =
     let a = c.before.before.before.before.before.before.before.before.before.args in
     let l = c.before.before.before.before.before.before.loop in
-    let own = ownKeys a.own.now in
+    let own = own_keys a.own.now in
     let id = id-at (140 * l.at) a.table.now ∙ sym c.before.before.before.before.read-u32-le.ensures in (
       omega arith,
       omega arith,
-      l.invariant.2 ∙ form-on a.used a.table.now l.at oldRecordForm own l.low (omega arith) (turned c.before ∙ not-false _ c.if1.false)
-          ∙ ap (λ (n : ℕ). places_by oldRecordForm own (n + 1) (drop (l.at + 1) (rows 140 a.used a.table.now))) id,
+      l.invariant.2 ∙ form-on a.used a.table.now l.at old_record_form own l.low (omega arith) (turned c.before ∙ not-false _ c.if1.false)
+          ∙ ap (λ (n : ℕ). places_by old_record_form own (n + 1) (drop (l.at + 1) (rows 140 a.used a.table.now))) id,
     )
 
-returns-2 : tie.Need-returns-2 invariant-loop decreases-loop
-returns-2 c =
+returns_2 : tie.Need-returns-2 invariant-loop decreases-loop
+returns_2 c =
     let a = c.before.before.before.before.args in
     let l = c.before.loop in
-    sym (l.invariant.2 ∙ form-end a.used a.table.now l.at oldRecordForm (ownKeys a.own.now) l.low (omega arith))
+    sym (l.invariant.2 ∙ form-end a.used a.table.now l.at old_record_form (own_keys a.own.now) l.low (omega arith))
 
 pub places-formed-spec : {M : Type 1} → statement M
 places-formed-spec =
@@ -126,4 +126,4 @@ places-formed-spec =
     add_at
     loop-less
     loop-again
-    returns-2)
+    returns_2)

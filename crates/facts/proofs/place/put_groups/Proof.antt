@@ -42,8 +42,8 @@ loop-again c = search rules
 same_length : tie.Need-same-length invariant-loop decreases-loop
 same_length c = search rules
 
-returns-2 : tie.Need-returns-2 invariant-loop decreases-loop
-returns-2 c = search rules
+returns_2 : tie.Need-returns-2 invariant-loop decreases-loop
+returns_2 c = search rules
 
 pub put-groups-spec : {M : Type 1} → statement M
 put-groups-spec =
@@ -62,4 +62,4 @@ put-groups-spec =
     loop-less
     loop-again
     same_length
-    returns-2)
+    returns_2)

@@ -5,8 +5,8 @@ use Prim.Native.Nat.{ℕ}
 use lib.Dec.{eqb}
 use lib.ListN.{length}
 use borrow.Author.Rules.{rules}
-use Rattle.cpas.specs.Cpas.{cpasForm}
-use Rattle.gauge_plan.specs.Memory.{comesFit}
+use Rattle.cpas.specs.Cpas.{cpas_form}
+use Rattle.gauge_plan.specs.Memory.{comes_fit}
 use Rattle.gauge_plan.proofs.memory.hands_fit.Statement.{statement}
 use Rattle.gauge_plan.proofs.memory.hands_fit.Tie as tie
 
@@ -17,11 +17,11 @@ cpas-form-requires : tie.Need-cpas-form-requires
 cpas-form-requires c κs = search rules
 
 returns : tie.Need-returns
-unfolding comesFit
+unfolding comes_fit
 returns c l =
     let a = c.before.before.before.before.before.before.args in
     ap (λ (b : Bool). b && eqb (length a.nonce.now) 16 && eqb (length a.key.now) 32)
-    (c.cpas-form.ensures ∙ ap (λ (n : ℕ). cpasForm n a.cpas.now) c.before.count.ensures)
+    (c.cpas-form.ensures ∙ ap (λ (n : ℕ). cpas_form n a.cpas.now) c.before.count.ensures)
 
 pub hands-fit-spec : {M : Type 1} → statement M
 hands-fit-spec = tie.close (tie.spec count-requires cpas-form-requires returns)

@@ -6,12 +6,12 @@ use native.Mathlib.Omega.{arith}
 use lib.ListN.{length}
 use borrow.Author.Tests.{not-true, not-false}
 use borrow.Author.Rules.{rules}
-use Rattle.own.specs.Own.{ownForm}
+use Rattle.own.specs.Own.{own_form}
 use Rattle.gauge_plan.proofs.MemoryLaws.{no_record, no-cache, no_table, all_fit}
 use Rattle.gauge_plan.proofs.memory.survey.Statement.{statement}
 use Rattle.gauge_plan.proofs.memory.survey.Tie as tie
 
-well : (c : tie.Else1) → ownForm c.before.before.before.before.before.args.own.now ≡ true
+well : (c : tie.Else1) → own_form c.before.before.before.before.before.args.own.now ≡ true
 well c = sym c.before.own-form.ensures ∙ not-false _ c.if1.false
 
 own-form-requires : tie.Need-own-form-requires
@@ -31,8 +31,8 @@ enum-known-held c = search rules
 enum_told : tie.Need-enum-told
 enum_told c = search rules
 
-returns-2 : tie.Need-returns-2
-returns-2 c m =
+returns_2 : tie.Need-returns-2
+returns_2 c m =
     let e = c.before.before.before in
     let a = e.before.before.before.before.before.args in
     sym (no-cache a.own.now _ (well e) (sym c.before.before.form.ensures ∙ c.enum_told.given.1))
@@ -74,7 +74,7 @@ survey-spec =
     form-requires
     enum-known-held
     enum_told
-    returns-2
+    returns_2
     form-requires-2
     enum-known-used
     enum-told-2

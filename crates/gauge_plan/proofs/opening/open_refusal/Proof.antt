@@ -15,8 +15,8 @@ returns c =
 has-id-requires : tie.Need-has-id-requires
 has-id-requires c κs = search rules
 
-returns-2 : tie.Need-returns-2
-returns-2 c =
+returns_2 : tie.Need-returns-2
+returns_2 c =
     let e = c.before.before in
     let a = e.before.before.args in
     sym (open-waits (rows 140 a.used a.waiting.now) a.used a.id a.opens (not-false _ e.if1.false) (sym c.before.has-id.ensures ∙ c.if2.true))
@@ -39,4 +39,4 @@ returns-4 c =
 
 pub open-refusal-spec : {M : Type 1} → statement M
 open-refusal-spec =
-    tie.close (tie.spec returns has-id-requires returns-2 returns-3 returns-4)
+    tie.close (tie.spec returns has-id-requires returns_2 returns-3 returns-4)

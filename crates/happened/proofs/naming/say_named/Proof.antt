@@ -23,10 +23,10 @@ say-choice-requires c κs =
 returns : tie.Need-returns
 returns c = search rules
 
-returns-2 : tie.Need-returns-2
-returns-2 c = search rules
+returns_2 : tie.Need-returns-2
+returns_2 c = search rules
 
 pub say-named-spec : {M : Type 1} → statement M
 say-named-spec =
     tie.close
-    (tie.spec name-requires enum_told enum-known-choice say-choice-requires returns returns-2)
+    (tie.spec name-requires enum_told enum-known-choice say-choice-requires returns returns_2)

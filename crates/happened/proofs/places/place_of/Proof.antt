@@ -33,8 +33,8 @@ read-u32-le-requires c κs = search rules
 cast-if3 : tie.Need-overflow-cast-if3 invariant-loop decreases-loop
 cast-if3 c = search rules
 
-returns-2 : tie.Need-returns-2 invariant-loop decreases-loop
-returns-2 c = search rules
+returns_2 : tie.Need-returns-2 invariant-loop decreases-loop
+returns_2 c = search rules
 
 add-i : tie.Need-overflow-add-i invariant-loop decreases-loop
 add-i c = search rules
@@ -62,7 +62,7 @@ place-of-spec =
     mul-read-u32-le
     read-u32-le-requires
     cast-if3
-    returns-2
+    returns_2
     add-i
     loop-less
     loop-again

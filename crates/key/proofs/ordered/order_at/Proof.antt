@@ -1,24 +1,24 @@
 -- `key::order_at` meets its contract. The invariant: the words that are left decide. Assumes nothing.
 use Rattle.std.proofs.Common.{◌≡◌, ℕ, ◌+◌, ◌-◌, ◌*◌, ◌≤◌, sym, refl, ◌∙◌, ap₂, add-zero, arith, rules}
-use Rattle.octet.specs.Number.{valueBE}
+use Rattle.octet.specs.Number.{value_be}
 use Rattle.octet.specs.Part.{part}
 use Rattle.key.specs.Number.{order_of}
 use Rattle.key.proofs.OrderLaws.{then, order_same, then_equal}
-use Rattle.key.proofs.PlaceLaws.{orderFrom, order-words, then_less, then-more}
+use Rattle.key.proofs.PlaceLaws.{order_from, order-words, then_less, then_more}
 use Rattle.key.proofs.ordered.order_at.Statement.{statement}
 use Rattle.key.proofs.ordered.order_at.Tie as tie
 
 abbrev invariant-loop : tie.invariant-loop
-invariant-loop s a t b k₀ k = (k ≤ 4) × (order_of (valueBE 256 (part a 32 s)) (valueBE 256 (part b 32 t)) ≡ orderFrom k a b s t)
+invariant-loop s a t b k₀ k = (k ≤ 4) × (order_of (value_be 256 (part a 32 s)) (value_be 256 (part b 32 t)) ≡ order_from k a b s t)
 
 abbrev decreases-loop : tie.decreases-loop
 decreases-loop s a t b k₀ k = 4 - k
 
 -- what the two words that were read say: they decide, or else the words after them
 turn : (c : tie.After-read-u642 invariant-loop decreases-loop) → let args = c.before.before.before.before.before.before.args in
-    order_of (valueBE 256 (part args.a 32 args.s.now)) (valueBE 256 (part args.b 32 args.t.now))
+    order_of (value_be 256 (part args.a 32 args.s.now)) (value_be 256 (part args.b 32 args.t.now))
     ≡ then (order_of c.before.read_u64.result c.read-u642.result)
-    (orderFrom (c.before.before.before.loop.k + 1) args.a args.b args.s.now args.t.now)
+    (order_from (c.before.before.before.loop.k + 1) args.a args.b args.s.now args.t.now)
 turn c =
     let at-loop = c.before.before.before in
     let known2 = at-loop.before in
@@ -32,7 +32,7 @@ turn c =
     at-loop.loop.invariant.1
     ∙ order-words a b s t (λ i. omega (arith, known.shared-slice-known.given i)) (λ i. omega (arith, known2.shared-slice-known2.given i))
     start.requires.0 start.requires.1 k (omega arith)
-    ∙ ap₂ (λ (x y : ℕ). then (order_of x y) (orderFrom (k + 1) a b s t)) (sym c.before.read_u64.ensures) (sym c.read-u642.ensures)
+    ∙ ap₂ (λ (x y : ℕ). then (order_of x y) (order_from (k + 1) a b s t)) (sym c.before.read_u64.ensures) (sym c.read-u642.ensures)
 
 loop-holds : tie.Need-loop-init invariant-loop decreases-loop
 loop-holds c = (omega arith, simp add-zero)
@@ -58,8 +58,8 @@ read-u64-requires-2 c κs = search rules
 returns : tie.Need-returns invariant-loop decreases-loop
 returns c = sym (turn c.before ∙ then_less _ _ _ c.if1.true)
 
-returns-2 : tie.Need-returns-2 invariant-loop decreases-loop
-returns-2 c = sym (turn c.before.before ∙ then-more _ _ _ c.if2.true)
+returns_2 : tie.Need-returns-2 invariant-loop decreases-loop
+returns_2 c = sym (turn c.before.before ∙ then_more _ _ _ c.if2.true)
 
 add-k : tie.Need-overflow-add-k invariant-loop decreases-loop
 add-k c = search rules
@@ -71,7 +71,7 @@ loop-again : tie.Need-loop-preserved invariant-loop decreases-loop
 loop-again c = (search rules, turn c.before.before ∙ then_equal _ _ _ (omega arith))
 
 returns-3 : tie.Need-returns-3 invariant-loop decreases-loop
-unfolding valueBE
+unfolding value_be
 returns-3 c =
     let e : 32 - 8 * c.before.loop.k ≡ 0 = omega arith in
     sym (c.before.loop.invariant.1 ∙ rw e (order_same {m = 0} {n = 0} refl))
@@ -90,7 +90,7 @@ order-at-spec =
     add-read-u64-2
     read-u64-requires-2
     returns
-    returns-2
+    returns_2
     add-k
     loop-less
     loop-again

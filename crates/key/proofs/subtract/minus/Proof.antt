@@ -2,7 +2,7 @@
 use Rattle.std.proofs.Common.{◌^◌, arith, rules}
 use Rattle.key.specs.Number.{number}
 use Rattle.key.specs.Around.{ring, up}
-use Rattle.key.proofs.DifferenceLaws.{borrowed-wraps}
+use Rattle.key.proofs.DifferenceLaws.{borrowed_wraps}
 use Rattle.key.proofs.DifferenceLaws.Borrowed.{end, digit}
 use Rattle.key.proofs.KeyLaws.{Fit, fit-digits}
 use Rattle.key.proofs.subtract.minus.Statement.{statement}
@@ -31,7 +31,7 @@ returns c =
     let c2 = c3.before in
     let c1 = c2.before in
     let f = fits c1.before in
-    borrowed-wraps (2 ^ 64)
+    borrowed_wraps (2 ^ 64)
     (digit c.sub-word4.ensures.0 (digit c3.sub-word3.ensures.0 (digit c2.sub-word2.ensures.0 (digit c1.sub_word.ensures.0 end))))
     (fit-digits f.0) (fit-digits f.1)
     (fit-digits (omega (arith, c.sub-word4.type-inv, c3.sub-word3.type-inv, c2.sub-word2.type-inv, c1.sub_word.type-inv)))

@@ -12,8 +12,8 @@ wrapping-sub-u64-requires-2 c κs = search rules
 returns : tie.Need-returns
 returns c = (omega arith, omega arith)
 
-returns-2 : tie.Need-returns-2
-returns-2 c = (omega arith, omega arith)
+returns_2 : tie.Need-returns-2
+returns_2 c = (omega arith, omega arith)
 
 returns-3 : tie.Need-returns-3
 returns-3 c = (omega arith, omega arith)
@@ -21,4 +21,4 @@ returns-3 c = (omega arith, omega arith)
 pub sub-word-spec : {M : Type 1} → statement M
 sub-word-spec =
     tie.close
-    (tie.spec wrapping-sub-u64-requires wrapping-sub-u64-requires-2 returns returns-2 returns-3)
+    (tie.spec wrapping-sub-u64-requires wrapping-sub-u64-requires-2 returns returns_2 returns-3)

@@ -10,7 +10,7 @@ use Rattle.key.specs.declared.Order.{Order}
 use Rattle.key.specs.declared.Order.TheVariants.{Less, Same, More}
 use Rattle.table.specs.Rows.{rows}
 use Rattle.merged.specs.Steps.{by_order, step_of}
-use Rattle.merged.proofs.StepLaws.{step-new, step_gone, step_by}
+use Rattle.merged.proofs.StepLaws.{step_new, step_gone, step_by}
 use Rattle.merged.proofs.merge.step.Statement.{statement}
 use Rattle.merged.proofs.merge.step.Tie as tie
 
@@ -26,10 +26,10 @@ by c o e =
 returns : tie.Need-returns
 returns c =
     let a = c.before.before.before.args in
-    step-new a.«before».now a.used a.i _ (omega (arith, c.if1.true))
+    step_new a.«before».now a.used a.i _ (omega (arith, c.if1.true))
 
-returns-2 : tie.Need-returns-2
-returns-2 c =
+returns_2 : tie.Need-returns-2
+returns_2 c =
     let a = c.before.before.before.before.args in
     step_gone a.«before».now a.used a.i a.«after».now a.held a.j (omega (arith, c.before.if1.false)) (omega (arith, c.if2.true))
 
@@ -71,7 +71,7 @@ step_spec =
     tie.close
     (tie.spec
     returns
-    returns-2
+    returns_2
     mul-order-at
     mul-order-at-2
     order-at-requires

@@ -20,8 +20,8 @@ put-gone-requires c κs =
 same_length : tie.Need-same-length
 same_length c = search rules
 
-returns-2 : tie.Need-returns-2
-returns-2 c =
+returns_2 : tie.Need-returns-2
+returns_2 c =
     let called = c.before.before in
     let tested = called.before.before in
     let a = tested.before.before.before.before.before.args in
@@ -50,7 +50,7 @@ put_spec =
     returns
     put-gone-requires
     same_length
-    returns-2
+    returns_2
     put-held-requires
     same-length-2
     returns-3)

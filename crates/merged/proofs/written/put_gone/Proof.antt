@@ -6,7 +6,7 @@ use native.Mathlib.Omega.{arith}
 use lib.ListN.{replicate}
 use borrow.Author.Rules.{rules}
 use Rattle.octet.specs.Part.{part, splice}
-use Rattle.merged.proofs.WriteLaws.{gone-piece}
+use Rattle.merged.proofs.WriteLaws.{gone_piece}
 use Rattle.merged.proofs.written.put_gone.Statement.{statement}
 use Rattle.merged.proofs.written.put_gone.Tie as tie
 
@@ -42,7 +42,7 @@ returns c =
     let a = marked.before.before.before.before.before.args in
     cleared.clear.ensures
     ∙ ap (splice (a.at + 33) (replicate 68 0)) (copied.copy-32.ensures ∙ ap (splice (a.at + 1) (part (100 * a.i) 32 a.«before».now)) marked.copy-to.ensures)
-    ∙ gone-piece a.at a.i a.«before».now a.output.now (omega arith) (omega arith)
+    ∙ gone_piece a.at a.i a.«before».now a.output.now (omega arith) (omega arith)
 
 pub put-gone-spec : {M : Type 1} → statement M
 put-gone-spec =

@@ -5,7 +5,7 @@ use Prim.Native.Nat.{ℕ, ◌+◌, ◌*◌}
 use native.Mathlib.Omega.{arith}
 use borrow.Author.Rules.{rules}
 use Rattle.octet.specs.Part.{part, splice}
-use Rattle.merged.proofs.WriteLaws.{held-piece}
+use Rattle.merged.proofs.WriteLaws.{held_piece}
 use Rattle.merged.proofs.written.put_held.Statement.{statement}
 use Rattle.merged.proofs.written.put_held.Tie as tie
 
@@ -34,7 +34,7 @@ returns c =
     let a = marked.before.before.before.before.before.args in
     copied.copy-piece.ensures
     ∙ ap (splice (a.at + 1) (part (100 * a.j) 100 a.«after».now)) marked.copy-to.ensures
-    ∙ held-piece a.at a.kind a.j a.«after».now a.output.now (omega arith) (omega arith)
+    ∙ held_piece a.at a.kind a.j a.«after».now a.output.now (omega arith) (omega arith)
 
 pub put-held-spec : {M : Type 1} → statement M
 put-held-spec =

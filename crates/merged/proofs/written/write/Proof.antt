@@ -6,19 +6,19 @@ use native.Mathlib.Omega.{arith}
 use lib.ListN.{length}
 use borrow.Author.Rules.{rules}
 use Rattle.octet.specs.Part.{splice}
-use Rattle.octet.proofs.PartLaws.{splice-nil}
+use Rattle.octet.proofs.PartLaws.{splice_nil}
 use Rattle.table.specs.Rows.{rows, joined}
 use Rattle.changed.specs.Changes.{Change, changes}
-use Rattle.changed.specs.Entries.{listBytes}
+use Rattle.changed.specs.Entries.{list_bytes}
 use Rattle.merged.proofs.StepLaws.{Rest, Stepped, stepped, rest_all, rest-none}
-use Rattle.merged.proofs.WriteLaws.{write-turn}
+use Rattle.merged.proofs.WriteLaws.{write_turn}
 use Rattle.merged.proofs.written.write.Statement.{statement}
 use Rattle.merged.proofs.written.write.Tie as tie
 
 abbrev invariant-loop : tie.invariant-loop
 invariant-loop old used new held output₀ at₀ i₀ j₀ output at i j =
     (i ≤ used) × (j ≤ held) × (length output ≡ length output₀) × (at ≤ 101 * (i + j)) × (at + 101 * length (Rest old used new held i j) ≤ length output)
-    × (splice at (listBytes (Rest old used new held i j)) output ≡ splice 0 (listBytes (changes (rows 100 used old) (rows 100 held new))) output₀)
+    × (splice at (list_bytes (Rest old used new held i j)) output ≡ splice 0 (list_bytes (changes (rows 100 used old) (rows 100 held new))) output₀)
 
 abbrev decreases-loop : tie.decreases-loop
 decreases-loop old used new held output₀ at₀ i₀ j₀ output at i j = (used + held) - (i + j)
@@ -84,14 +84,14 @@ loop-again c =
     let a = l.before.before.before.before.args in
     let t = by p in
     let n = p.step.result in
-    let rest = listBytes (Rest a.«before».now a.used a.«after».now a.held (l.loop.i + n.old) (l.loop.j + n.new)) in (
+    let rest = list_bytes (Rest a.«before».now a.used a.«after».now a.held (l.loop.i + n.old) (l.loop.j + n.new)) in (
       t.old-within,
       t.new-within,
       omega arith,
       omega (arith, t.few, t.onward, l.loop.invariant.3),
       omega (arith, t.counted, l.loop.invariant.4),
       ap (splice (l.loop.at + 101 * n.entries) rest) w.put.ensures
-          ∙ write-turn a.«before».now a.used a.«after».now a.held l.loop.i l.loop.j n t (omega arith) l.loop.at l.loop.output l.loop.invariant.4
+          ∙ write_turn a.«before».now a.used a.«after».now a.held l.loop.i l.loop.j n t (omega arith) l.loop.at l.loop.output l.loop.invariant.4
           ∙ l.loop.invariant.5,
     )
 
@@ -104,7 +104,7 @@ returns c =
     let l = c.before in
     let a = l.before.before.before.before.args in
     let none = rest-none a.«before».now a.used a.«after».now a.held l.loop.i l.loop.j (omega arith) (omega arith) in
-    sym (splice-nil l.loop.at l.loop.output) ∙ ap (λ (x : List Change). splice l.loop.at (listBytes x) l.loop.output) (sym none) ∙ l.loop.invariant.5
+    sym (splice_nil l.loop.at l.loop.output) ∙ ap (λ (x : List Change). splice l.loop.at (list_bytes x) l.loop.output) (sym none) ∙ l.loop.invariant.5
 
 pub write_spec : {M : Type 1} → statement M
 write_spec =

@@ -7,14 +7,14 @@ use borrow.Author.Rules.{rules}
 use Rattle.key.specs.Number.{number}
 use Rattle.named.specs.declared.Spot.{Spot}
 use Rattle.named.specs.Spots.{Inside}
-use Rattle.named.specs.Places.{spotFor}
+use Rattle.named.specs.Places.{spot_for}
 use Rattle.named.proofs.SpotLaws.{choice-is, finds-inside}
 use Rattle.named.proofs.choosing.choose.Statement.{statement}
 use Rattle.named.proofs.choosing.choose.Tie as tie
 
 -- a place that the search answers lies within what is lent
 inside : (s : tie.Start) (leave : Bool) (k : ℕ) {x : Spot}
-    → x ≡ spotFor s.args.own.now s.args.cache.now s.args.used s.args.path.now (number s.args.target) leave k
+    → x ≡ spot_for s.args.own.now s.args.cache.now s.args.used s.args.path.now (number s.args.target) leave k
     → Inside s.args.own.now s.args.cache.now x
 inside s leave k e =
     let a = s.args in

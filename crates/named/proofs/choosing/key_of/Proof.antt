@@ -4,12 +4,12 @@ use Prim.Native.Nat.{ℕ, ◌+◌, ◌*◌, ◌≤◌}
 use native.Mathlib.Omega.{arith}
 use lib.ListN.{length}
 use borrow.Author.Rules.{rules}
-use Rattle.octet.specs.Number.{valueBE}
+use Rattle.octet.specs.Number.{value_be}
 use Rattle.key.specs.Number.{number}
 use Rattle.record.specs.Record.{key_of}
-use Rattle.cache.proofs.FormLaws.{key-of-row}
+use Rattle.cache.proofs.FormLaws.{key_of-row}
 use Rattle.named.specs.declared.Spot.{Spot}
-use Rattle.named.specs.Spots.{recordAt, Inside}
+use Rattle.named.specs.Spots.{record_at, Inside}
 use Rattle.named.proofs.choosing.key_of.Statement.{statement}
 use Rattle.named.proofs.choosing.key_of.Tie as tie
 
@@ -17,9 +17,9 @@ use Rattle.named.proofs.choosing.key_of.Tie as tie
 inside : (s : tie.Start) {x : Spot} → s.args.spot ≡ x → Inside s.args.own.now s.args.cache.now x
 inside s e = subst (Inside s.args.own.now s.args.cache.now) e s.requires
 
-key-there : (s : tie.Start) {x : Spot} → s.args.spot ≡ x
-    → key_of (recordAt s.args.own.now s.args.cache.now s.args.spot) ≡ key_of (recordAt s.args.own.now s.args.cache.now x)
-key-there s e = ap (λ (x : Spot). key_of (recordAt s.args.own.now s.args.cache.now x)) e
+key_there : (s : tie.Start) {x : Spot} → s.args.spot ≡ x
+    → key_of (record_at s.args.own.now s.args.cache.now s.args.spot) ≡ key_of (record_at s.args.own.now s.args.cache.now x)
+key_there s e = ap (λ (x : Spot). key_of (record_at s.args.own.now s.args.cache.now x)) e
 
 enum_told : tie.Need-enum-told
 enum_told c = search rules
@@ -43,20 +43,20 @@ key-at-requires-2 : tie.Need-key-at-requires-2
 key-at-requires-2 c κs = let k = c.before in let s = k.before.before.before.before in omega (arith, inside s k.spot2.given.1)
 
 returns : tie.Need-returns
-unfolding number valueBE
-returns c = sym (key-there c.before.before.before.before c.enum_told.given.1)
+unfolding number value_be
+returns c = sym (key_there c.before.before.before.before c.enum_told.given.1)
 
-returns-2 : tie.Need-returns-2
-returns-2 c =
+returns_2 : tie.Need-returns-2
+returns_2 c =
     let k = c.before.before in
     let s = k.before.before.before.before in
-    c.key-at.ensures ∙ sym (key-there s k.spot.given.1 ∙ key-of-row (100 * k.spot.given.0.0) s.args.own.now)
+    c.key-at.ensures ∙ sym (key_there s k.spot.given.1 ∙ key_of-row (100 * k.spot.given.0.0) s.args.own.now)
 
 returns-3 : tie.Need-returns-3
 returns-3 c =
     let k = c.before.before in
     let s = k.before.before.before.before in
-    c.key-at2.ensures ∙ sym (key-there s k.spot2.given.1 ∙ key-of-row (100 * k.spot2.given.0.0) s.args.cache.now)
+    c.key-at2.ensures ∙ sym (key_there s k.spot2.given.1 ∙ key_of-row (100 * k.spot2.given.0.0) s.args.cache.now)
 
 pub key-of-spec : {M : Type 1} → statement M
 key-of-spec =
@@ -70,5 +70,5 @@ key-of-spec =
     mul-key-at-2
     key-at-requires-2
     returns
-    returns-2
+    returns_2
     returns-3)

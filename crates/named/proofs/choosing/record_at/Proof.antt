@@ -5,7 +5,7 @@ use native.Mathlib.Omega.{arith}
 use lib.ListN.{length, take, drop}
 use borrow.Author.Rules.{rules}
 use Rattle.named.specs.declared.Spot.{Spot}
-use Rattle.named.specs.Spots.{recordAt, Inside}
+use Rattle.named.specs.Spots.{record_at, Inside}
 use Rattle.named.proofs.choosing.record_at.Statement.{statement}
 use Rattle.named.proofs.choosing.record_at.Tie as tie
 
@@ -14,8 +14,8 @@ inside : (s : tie.Start) {x : Spot} → s.args.spot ≡ x → Inside s.args.own.
 inside s e = subst (Inside s.args.own.now s.args.cache.now) e s.requires
 
 there : (s : tie.Start) {x : Spot} → s.args.spot ≡ x
-    → recordAt s.args.own.now s.args.cache.now s.args.spot ≡ recordAt s.args.own.now s.args.cache.now x
-there s e = ap (recordAt s.args.own.now s.args.cache.now) e
+    → record_at s.args.own.now s.args.cache.now s.args.spot ≡ record_at s.args.own.now s.args.cache.now x
+there s e = ap (record_at s.args.own.now s.args.cache.now) e
 
 -- so many bytes as from a place to 100 behind it
 hundred : (at : ℕ) → at + 100 - at ≡ 100
@@ -72,8 +72,8 @@ part-result-end-3 c = let k = c.before in let s = k.before.before in omega (arit
 returns : tie.Need-returns
 returns c = search rules
 
-returns-2 : tie.Need-returns-2
-returns-2 c =
+returns_2 : tie.Need-returns-2
+returns_2 c =
     let k = c.before.before in
     let s = k.before.before in
     let at = 100 * k.spot.given.0.0 in
@@ -107,5 +107,5 @@ record-at-spec =
     part-result-start-3
     part-result-end-3
     returns
-    returns-2
+    returns_2
     returns-3)

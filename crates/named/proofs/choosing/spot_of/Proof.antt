@@ -9,19 +9,19 @@ use lib.ListN.{length}
 use borrow.Author.Rules.{rules}
 use Rattle.key.specs.Number.{number, key_at}
 use Rattle.key.specs.Around.{closer}
-use Rattle.own.specs.Own.{ownKeys}
-use Rattle.own.proofs.FormLaws.{own-formed}
-use Rattle.cache.proofs.FormLaws.{form-laid}
+use Rattle.own.specs.Own.{own_keys}
+use Rattle.own.proofs.FormLaws.{own_formed}
+use Rattle.cache.proofs.FormLaws.{form_laid}
 use Rattle.next_row.specs.Walk.{wanted}
 use Rattle.next_row.proofs.WalkLaws.{place_found}
 use Rattle.named.specs.declared.Spot.{Spot}
-use Rattle.named.specs.Places.{closerSpot, spotFor}
+use Rattle.named.specs.Places.{closer_spot, spot_for}
 use Rattle.named.proofs.SpotLaws.{spot-none, spot-held, spot-own, spot-closer, spot-nearer}
 use Rattle.named.proofs.choosing.spot_of.Statement.{statement}
 use Rattle.named.proofs.choosing.spot_of.Tie as tie
 
 room : (s : tie.Start) → 100 * s.args.used ≤ length s.args.cache.now
-room s = (form-laid (ownKeys s.args.own.now) s.args.used s.args.cache.now s.requires.1).room
+room s = (form_laid (own_keys s.args.own.now) s.args.used s.args.cache.now s.requires.1).room
 
 -- behind the two walks
 module _ (c : tie.After-row-of2) where
@@ -47,16 +47,16 @@ module _ (c : tie.After-row-of2) where
   j = c.row-of2.result
 
   -- the places are those that the walks find
-  found : {x : Spot} → x ≡ closerSpot t own ours i cache start.args.used j
-      → x ≡ spotFor own cache start.args.used start.args.path.now t start.args.leave (number start.args.k)
+  found : {x : Spot} → x ≡ closer_spot t own ours i cache start.args.used j
+      → x ≡ spot_for own cache start.args.used start.args.path.now t start.args.leave (number start.args.k)
   found e =
-      e ∙ ap₂ (λ (p q : ℕ). closerSpot t own ours p cache start.args.used q) c.before.row_of.ensures c.row-of2.ensures
+      e ∙ ap₂ (λ (p q : ℕ). closer_spot t own ours p cache start.args.used q) c.before.row_of.ensures c.row-of2.ensures
 
   abbrev looked : List ℕ → List ℕ → Bool
   looked path r = wanted path start.args.leave (number start.args.k) r
 
-  in-own : (i ≡ ours → ⊥) → 100 * i + 100 ≤ length own
-  in-own d = omega (arith, c.before.row_of.ensures, (place_found t (looked []) ours own).0, d)
+  in_own : (i ≡ ours → ⊥) → 100 * i + 100 ≤ length own
+  in_own d = omega (arith, c.before.row_of.ensures, (place_found t (looked []) ours own).0, d)
 
   in-cache : (j ≡ start.args.used → ⊥) → 100 * j + 100 ≤ length cache
   in-cache d = omega (arith, c.row-of2.ensures, (place_found t (looked start.args.path.now) start.args.used cache).0, d, room start)
@@ -71,7 +71,7 @@ part-row-of-end : tie.Need-slice-bounds-row-of-end
 part-row-of-end c = search rules
 
 row-of-requires : tie.Need-row-of-requires
-row-of-requires c κs = let s = c.before.before.before.before in (omega arith, (own-formed s.args.own.now s.requires.0).formed)
+row-of-requires c κs = let s = c.before.before.before.before in (omega arith, (own_formed s.args.own.now s.requires.0).formed)
 
 row-of-requires-2 : tie.Need-row-of-requires-2
 row-of-requires-2 c κs = let s = c.before.before.before.before.before in (room s, s.requires.1.held.formed)
@@ -82,8 +82,8 @@ returns c =
     let a = (start w).args in
     found w (spot-none (t w) (own w) (ours w) (i w) (cache w) a.used (j w) c.before.if1.true c.if2.true)
 
-returns-2 : tie.Need-returns-2
-returns-2 c =
+returns_2 : tie.Need-returns-2
+returns_2 c =
     let w = c.before.before in
     let a = (start w).args in
     found w (spot-held (t w) (own w) (ours w) (i w) (cache w) a.used (j w) c.before.if1.true c.if2.false)
@@ -95,10 +95,10 @@ returns-3 c =
     found w (spot-own (t w) (own w) (ours w) (i w) (cache w) a.used (j w) c.before.if1.false c.if3.true)
 
 mul-key-at : tie.Need-overflow-mul-key-at
-mul-key-at c = let w = c.before.before in omega (arith, in-own w c.before.if1.false, (start w).well-formed)
+mul-key-at c = let w = c.before.before in omega (arith, in_own w c.before.if1.false, (start w).well-formed)
 
 key-at-requires : tie.Need-key-at-requires
-key-at-requires c κs = let w = c.before.before in omega (arith, in-own w c.before.if1.false)
+key-at-requires c κs = let w = c.before.before in omega (arith, in_own w c.before.if1.false)
 
 mul-key-at-2 : tie.Need-overflow-mul-key-at-2
 mul-key-at-2 c = let e = c.before in let w = e.before.before in omega (arith, in-cache w e.if3.false, (start w).well-formed)
@@ -150,7 +150,7 @@ spot-of-spec =
     row-of-requires
     row-of-requires-2
     returns
-    returns-2
+    returns_2
     returns-3
     mul-key-at
     key-at-requires

@@ -7,27 +7,27 @@ use lib.ListN.{length, take, drop}
 use lib.Seq.{take_all}
 use Rattle.octet.specs.Number.{Bytes}
 use Rattle.octet.specs.Part.{part, splice}
-use Rattle.octet.proofs.PartLaws.{splice-nil}
+use Rattle.octet.proofs.PartLaws.{splice_nil}
 use Rattle.table.specs.Rows.{rows}
 use Rattle.kept.specs.Turned.{turned}
 use Rattle.key.specs.Number.{key_at}
 use Rattle.cache.specs.Form.{keys_of}
-use Rattle.neighbours.specs.Listing.{keyBytes}
-use Rattle.neighbours.proofs.ListLaws.{key-digits, write-turn, down-length, down_key}
+use Rattle.neighbours.specs.Listing.{key_bytes}
+use Rattle.neighbours.proofs.ListLaws.{key-digits, write_turn, down-length, down_key}
 use native.Mathlib.Omega.{arith}
 use Rattle.neighbours.proofs.listing.keys_down.Statement.{statement}
 use Rattle.neighbours.proofs.listing.keys_down.Tie as tie
 
 abbrev invariant-loop : tie.invariant-loop
 invariant-loop cache used from n out₀ i₀ out i =
-    (i ≤ n) × (length out ≡ length out₀) × (out ≡ splice 0 (keyBytes (take i (take n (reverse (turned from (keys_of (rows 100 used cache))))))) out₀)
+    (i ≤ n) × (length out ≡ length out₀) × (out ≡ splice 0 (key_bytes (take i (take n (reverse (turned from (keys_of (rows 100 used cache))))))) out₀)
 
 abbrev decreases-loop : tie.decreases-loop
 decreases-loop cache used from n out₀ i₀ out i = n - i
 
 loop-holds : tie.Need-loop-init invariant-loop decreases-loop
-unfolding keyBytes
-loop-holds c = (omega arith, refl, sym (splice-nil 0 c.before.before.args.out.now))
+unfolding key_bytes
+loop-holds c = (omega arith, refl, sym (splice_nil 0 c.before.before.args.out.now))
 
 add-wrap : tie.Need-overflow-add-wrap invariant-loop decreases-loop
 add-wrap c = omega arith
@@ -70,7 +70,7 @@ loop-again c =
       omega arith,
       omega (arith, c.before.before.copy-32.auto.0, l.loop.invariant.1),
       c.before.before.copy-32.ensures ∙ ap (λ (k : ℕ). splice k (part p 32 s) l.loop.out) (sym (zero-add (32 * i)))
-          ∙ write-turn 0 i _ (take a.n (reverse (turned a.from (keys_of (rows 100 a.used a.cache.now))))) _ a.out.now l.loop.out
+          ∙ write_turn 0 i _ (take a.n (reverse (turned a.from (keys_of (rows 100 a.used a.cache.now))))) _ a.out.now l.loop.out
           (omega
           (arith, down-length a.used s a.from a.n (omega arith)))
           (down_key a.used s a.from a.n i (omega arith) (omega arith) (omega arith)
@@ -85,7 +85,7 @@ returns c =
     let l = c.before in
     let a = l.before.before.before.args in
     l.loop.invariant.2
-    ∙ ap (λ (t : List ℕ). splice 0 (keyBytes t) a.out.now)
+    ∙ ap (λ (t : List ℕ). splice 0 (key_bytes t) a.out.now)
     (take_all l.loop.i (take a.n (reverse (turned a.from (keys_of (rows 100 a.used a.cache.now))))) (omega (
       arith,
       down-length a.used a.cache.now a.from a.n (omega arith),

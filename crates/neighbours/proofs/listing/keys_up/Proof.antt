@@ -6,27 +6,27 @@ use lib.ListN.{length, take, drop}
 use lib.Seq.{take_all}
 use Rattle.octet.specs.Number.{Bytes}
 use Rattle.octet.specs.Part.{part, splice}
-use Rattle.octet.proofs.PartLaws.{splice-nil}
+use Rattle.octet.proofs.PartLaws.{splice_nil}
 use Rattle.table.specs.Rows.{rows}
 use Rattle.kept.specs.Turned.{turned}
 use Rattle.key.specs.Number.{key_at}
 use Rattle.cache.specs.Form.{keys_of}
-use Rattle.neighbours.specs.Listing.{keyBytes}
-use Rattle.neighbours.proofs.ListLaws.{key-digits, write-turn, up-length, up_key}
+use Rattle.neighbours.specs.Listing.{key_bytes}
+use Rattle.neighbours.proofs.ListLaws.{key-digits, write_turn, up-length, up_key}
 use native.Mathlib.Omega.{arith}
 use Rattle.neighbours.proofs.listing.keys_up.Statement.{statement}
 use Rattle.neighbours.proofs.listing.keys_up.Tie as tie
 
 abbrev invariant-loop : tie.invariant-loop
 invariant-loop cache used from n out₀ at i₀ out i =
-    (i ≤ n) × (length out ≡ length out₀) × (out ≡ splice at (keyBytes (take i (take n (turned from (keys_of (rows 100 used cache)))))) out₀)
+    (i ≤ n) × (length out ≡ length out₀) × (out ≡ splice at (key_bytes (take i (take n (turned from (keys_of (rows 100 used cache)))))) out₀)
 
 abbrev decreases-loop : tie.decreases-loop
 decreases-loop cache used from n out₀ at i₀ out i = n - i
 
 loop-holds : tie.Need-loop-init invariant-loop decreases-loop
-unfolding keyBytes
-loop-holds c = (omega arith, refl, sym (splice-nil c.before.before.args.at c.before.before.args.out.now))
+unfolding key_bytes
+loop-holds c = (omega arith, refl, sym (splice_nil c.before.before.args.at c.before.before.args.out.now))
 
 add-wrap : tie.Need-overflow-add-wrap invariant-loop decreases-loop
 add-wrap c = omega arith
@@ -66,7 +66,7 @@ loop-again c =
       omega arith,
       omega (arith, c.before.before.copy-32.auto.0, l.loop.invariant.1),
       c.before.before.copy-32.ensures
-          ∙ write-turn a.at i _ (take a.n (turned a.from (keys_of (rows 100 a.used a.cache.now)))) _ a.out.now l.loop.out
+          ∙ write_turn a.at i _ (take a.n (turned a.from (keys_of (rows 100 a.used a.cache.now)))) _ a.out.now l.loop.out
           (omega
           (arith, up-length a.used s a.from a.n (omega arith)))
           (up_key a.used s a.from a.n i (omega arith) (omega arith) (omega arith)
@@ -81,7 +81,7 @@ returns c =
     let l = c.before in
     let a = l.before.before.before.args in
     l.loop.invariant.2
-    ∙ ap (λ (t : List ℕ). splice a.at (keyBytes t) a.out.now)
+    ∙ ap (λ (t : List ℕ). splice a.at (key_bytes t) a.out.now)
     (take_all l.loop.i (take a.n (turned a.from (keys_of (rows 100 a.used a.cache.now)))) (omega (
       arith,
       up-length a.used

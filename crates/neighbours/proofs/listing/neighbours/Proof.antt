@@ -9,7 +9,7 @@ use Rattle.key.proofs.KeyLaws.{key-lt}
 use Rattle.record.specs.Record.{key_of}
 use Rattle.table.specs.Rows.{rows}
 use Rattle.table.proofs.RowLaws.{rows-length}
-use Rattle.kept.proofs.TurnLaws.{count-le, under-le}
+use Rattle.kept.proofs.TurnLaws.{count-le, under_le}
 use Rattle.cache.specs.Form.{keys_of}
 use Rattle.neighbours.proofs.ListLaws.{near-counts, near-out}
 use native.Mathlib.Omega.{arith}
@@ -29,7 +29,7 @@ start m = m.before.before.before.before
 first-most : (m : tie.After-count-under) → m.count_under.result ≤ (start m).args.used
 first-most m =
     let s = start m in
-    omega (arith, m.count_under.ensures, many s, under-le (key_at 0 s.args.key.now) (keys_of (rows 100 s.args.used s.args.cache.now)))
+    omega (arith, m.count_under.ensures, many s, under_le (key_at 0 s.args.key.now) (keys_of (rows 100 s.args.used s.args.cache.now)))
 
 under-most : (m : tie.After-count-below) → m.count-below.result ≤ (start m.before).args.used
 under-most m =
@@ -97,8 +97,8 @@ returns c =
     let a = s.args in
     let known2 = n.before.before in
     let bytes : Bytes a.cache.now = λ i. omega (arith, known2.shared-slice-known2.given i) in
-    let key-bytes : Bytes a.key.now = λ i. omega (arith, known2.before.shared-slice-known.given i) in
-    let o : key_at 0 a.key.now < ring = key-lt 0 a.key.now key-bytes s.pre.0.0 in (
+    let key_bytes_lem : Bytes a.key.now = λ i. omega (arith, known2.before.shared-slice-known.given i) in
+    let o : key_at 0 a.key.now < ring = key-lt 0 a.key.now key_bytes_lem s.pre.0.0 in (
       near-counts (key_at 0 a.key.now) a.used a.cache.now s.pre.1.0 s.pre.1.1 o bytes (room s) n.count_under.result m.count-below.result
           l1.lesser.result l2.lesser2.result n.count_under.ensures m.count-below.ensures l1.lesser.ensures l2.lesser2.ensures,
       near-out (key_at 0 a.key.now) a.used a.cache.now s.pre.1.0 s.pre.1.1 o bytes (room s) n.count_under.result m.count-below.result

@@ -2,11 +2,11 @@
 use mathlib.Core.Path.{◌≡◌, sym, ap, ◌∙◌, subst}
 use Prim.Native.Nat.{ℕ, ◌+◌, ◌-◌, ◌*◌, ◌/◌, ◌≤◌, ◌<◌}
 use lib.ListN.{length, take, drop}
-use Rattle.own.specs.Own.{ownKeys, ownRecords}
-use Rattle.own.proofs.FormLaws.{own-formed}
+use Rattle.own.specs.Own.{own_keys, own_records}
+use Rattle.own.proofs.FormLaws.{own_formed}
 use Rattle.table.proofs.RowLaws.{rows-length}
-use Rattle.neighbours.specs.Where.{recordAt, Within}
-use Rattle.cache.proofs.FormLaws.{form-laid}
+use Rattle.neighbours.specs.Where.{record_at, Within}
+use Rattle.cache.proofs.FormLaws.{form_laid}
 use native.Mathlib.Omega.{arith}
 use borrow.Author.Rules.{rules}
 use Rattle.neighbours.proofs.nearest.closest.Statement.{statement}
@@ -21,22 +21,22 @@ inside c =
     let found = c.before.before.before in
     let s = start found in
     let own = s.args.own.now in
-    let w : c.before.i.given.0.0 < length (ownRecords own) =
-    subst (Within (length (ownRecords own)) s.args.used) c.before.i.given.1 found.place-of-closest.ensures.1 in
-    omega (arith, w, rows-length 100 (length own / 100) own, (own-formed own s.pre.0.0).many)
+    let w : c.before.i.given.0.0 < length (own_records own) =
+    subst (Within (length (own_records own)) s.args.used) c.before.i.given.1 found.place-of-closest.ensures.1 in
+    omega (arith, w, rows-length 100 (length own / 100) own, (own_formed own s.pre.0.0).many)
 
 used : (c : tie.After-known-told2) → 100 * c.before.i2.given.0.0 + 100 ≤ length (start c.before.before.before).args.cache.now
 used c =
     let found = c.before.before.before in
     let s = start found in
     let w : c.before.i2.given.0.0 < s.args.used =
-    subst (Within (length (ownRecords s.args.own.now)) s.args.used) c.before.i2.given.1 found.place-of-closest.ensures.1 in
-    omega (arith, w, (form-laid (ownKeys s.args.own.now) s.args.used s.args.cache.now s.pre.1).room)
+    subst (Within (length (own_records s.args.own.now)) s.args.used) c.before.i2.given.1 found.place-of-closest.ensures.1 in
+    omega (arith, w, (form_laid (own_keys s.args.own.now) s.args.used s.args.cache.now s.pre.1).room)
 
 count-under-requires : tie.Need-count-under-requires
 count-under-requires c κs =
     let s = c.before.before.before.before in
-    (s.requires.0.1, ((form-laid (ownKeys s.args.own.now) s.args.used s.args.cache.now s.requires.1).room, s.requires.1.held.rising))
+    (s.requires.0.1, ((form_laid (own_keys s.args.own.now) s.args.used s.args.cache.now s.requires.1).room, s.requires.1.held.rising))
 
 place-of-closest-requires : tie.Need-place-of-closest-requires
 place-of-closest-requires c κs = search rules
@@ -85,17 +85,17 @@ returns c =
     let i = at_place.i.given.0.0 in
     let n : 100 * i + 100 - 100 * i ≡ 100 = omega arith in
     ap (λ (k : ℕ). take k (drop (100 * i) a.own.now)) n
-    ∙ sym (ap (recordAt a.own.now a.cache.now) at_place.i.given.1) ∙ found.place-of-closest.ensures.0
+    ∙ sym (ap (record_at a.own.now a.cache.now) at_place.i.given.1) ∙ found.place-of-closest.ensures.0
 
-returns-2 : tie.Need-returns-2
-returns-2 c =
+returns_2 : tie.Need-returns-2
+returns_2 c =
     let at_place = c.before.before in
     let found = at_place.before.before in
     let a = (start found).args in
     let i = at_place.i2.given.0.0 in
     let n : 100 * i + 100 - 100 * i ≡ 100 = omega arith in
     ap (λ (k : ℕ). take k (drop (100 * i) a.cache.now)) n
-    ∙ sym (ap (recordAt a.own.now a.cache.now) at_place.i2.given.1) ∙ found.place-of-closest.ensures.0
+    ∙ sym (ap (record_at a.own.now a.cache.now) at_place.i2.given.1) ∙ found.place-of-closest.ensures.0
 
 pub closest-spec : {M : Type 1} → statement M
 closest-spec =
@@ -116,4 +116,4 @@ closest-spec =
     part-result-start-2
     part-result-end-2
     returns
-    returns-2)
+    returns_2)

@@ -6,7 +6,7 @@ use native.Mathlib.Omega.{arith}
 use borrow.Author.Rules.{rules}
 use Rattle.key.specs.Number.{number, key_at}
 use Rattle.key.specs.Around.{closer}
-use Rattle.neighbours.specs.Where.{nearestOf}
+use Rattle.neighbours.specs.Where.{nearest_of}
 use Rattle.neighbours.proofs.nearest.nearest_of.Statement.{statement}
 use Rattle.neighbours.proofs.nearest.nearest_of.Tie as tie
 
@@ -84,22 +84,22 @@ is-closer-requires-2 : tie.Need-is-closer-requires-2
 is-closer-requires-2 c κs = search rules
 
 returns : tie.Need-returns
-unfolding nearestOf
+unfolding nearest_of
 returns c = rw (first c.before.before.before ∙ c.before.before.if1.true, up-or-own c.before ∙ c.if2.true) refl
 
-returns-2 : tie.Need-returns-2
-unfolding nearestOf
-returns-2 c = rw (first c.before.before.before ∙ c.before.before.if1.true, up-or-own c.before ∙ c.if2.false) refl
+returns_2 : tie.Need-returns-2
+unfolding nearest_of
+returns_2 c = rw (first c.before.before.before ∙ c.before.before.if1.true, up-or-own c.before ∙ c.if2.false) refl
 
 is-closer-requires-3 : tie.Need-is-closer-requires-3
 is-closer-requires-3 c κs = search rules
 
 returns-3 : tie.Need-returns-3
-unfolding nearestOf
+unfolding nearest_of
 returns-3 c = rw (first c.before.before.before ∙ c.before.before.if1.false, down-or-own c.before ∙ c.if3.true) refl
 
 returns-4 : tie.Need-returns-4
-unfolding nearestOf
+unfolding nearest_of
 returns-4 c = rw (first c.before.before.before ∙ c.before.before.if1.false, down-or-own c.before ∙ c.if3.false) refl
 
 pub nearest-of-spec : {M : Type 1} → statement M
@@ -118,7 +118,7 @@ nearest-of-spec =
     is-closer-requires
     is-closer-requires-2
     returns
-    returns-2
+    returns_2
     is-closer-requires-3
     returns-3
     returns-4)

@@ -11,18 +11,18 @@ use Rattle.octet.specs.Number.{Bytes}
 use Rattle.key.specs.Number.{key_at}
 use Rattle.key.specs.Around.{ring}
 use Rattle.key.proofs.KeyLaws.{key-lt}
-use Rattle.own.specs.Own.{ownKeys, ownRecords, ownRecord}
-use Rattle.own.proofs.FormLaws.{own-formed}
+use Rattle.own.specs.Own.{own_keys, own_records, own_record}
+use Rattle.own.proofs.FormLaws.{own_formed}
 use Rattle.table.specs.Rows.{rows}
 use Rattle.table.proofs.RowLaws.{rows-length}
 use Rattle.kept.specs.Keys.{Every}
-use Rattle.kept.specs.Turned.{countUnder}
+use Rattle.kept.specs.Turned.{count_under}
 use Rattle.cache.specs.Form.{keys_of}
-use Rattle.cache.proofs.FormLaws.{form-laid, keys-small}
-use Rattle.neighbours.specs.Closest.{candidates, closestOf}
-use Rattle.neighbours.specs.Where.{stepsUp, stepsDown, skipsAt, skippedUp, skippedDown, recordAt, nearestOf}
+use Rattle.cache.proofs.FormLaws.{form_laid, keys_small}
+use Rattle.neighbours.specs.Closest.{candidates, closest_of}
+use Rattle.neighbours.specs.Where.{steps_up, steps_down, skips_at, skipped_up, skipped_down, record_at, nearest_of}
 use Rattle.round.proofs.OverLaws.{over-le}
-use Rattle.neighbours.proofs.BesideLaws.{nearest-within}
+use Rattle.neighbours.proofs.BesideLaws.{nearest_within}
 use Rattle.neighbours.proofs.SidesLaws.{place-most, none_left, under-less, sides-closest}
 use Rattle.neighbours.proofs.nearest.place_of_closest.Statement.{statement}
 use Rattle.neighbours.proofs.nearest.place_of_closest.Tie as tie
@@ -49,16 +49,16 @@ module _ (n : tie.After-shared-slice-known4) where
 
   -- the target's place
   abbrev at : ℕ
-  at = countUnder t (keys_of (rows 100 used cache))
+  at = count_under t (keys_of (rows 100 used cache))
 
   place : s.args.at ≡ at
   place = s.pre.1.1
 
   room : 100 * used ≤ length cache
-  room = (form-laid (ownKeys own) used cache s.pre.1.0).room
+  room = (form_laid (own_keys own) used cache s.pre.1.0).room
 
   small : Every (λ (k : ℕ). k < ring) (keys_of (rows 100 used cache))
-  small = keys-small used cache (λ i. omega (arith, n.before.before.shared-slice-known2.given i)) room
+  small = keys_small used cache (λ i. omega (arith, n.before.before.shared-slice-known2.given i)) room
 
   o : t < ring
   o = key-lt 0 s.args.target.now (λ i. omega (arith, n.shared-slice-known4.given i)) s.pre.0.1
@@ -77,28 +77,28 @@ module _ (p : tie.After-place-of) where
   own-many : p.before.before.count.result ≡ length ours / 100
   own-many = p.before.before.count.ensures ∙ rows-length 100 (length ours / 100) ours
 
-  mine : ownRecord ours p.place_of.result ≡ closestOf (t (searched p)) (ownRecords ours)
-  mine = p.place_of.ensures.0 ∙ ap₂ (λ (k m : ℕ). closestOf k (rows 100 m ours)) p.before.key-at.ensures own-many
+  mine : own_record ours p.place_of.result ≡ closest_of (t (searched p)) (own_records ours)
+  mine = p.place_of.ensures.0 ∙ ap₂ (λ (k m : ℕ). closest_of k (rows 100 m ours)) p.before.key-at.ensures own-many
 
-  inside : p.place_of.result < length (ownRecords ours)
+  inside : p.place_of.result < length (own_records ours)
   inside = omega (arith, p.place_of.ensures.1.0, p.before.before.count.ensures)
 
 -- how many are passed over on each side
-over-is : (c : tie.After-skipped-up) → (let n = searched c.before in c.skipped-up.result ≡ skippedUp (path n) (cache n) (used n) (at n))
-over-is c = let n = searched c.before in c.skipped-up.ensures ∙ ap (skippedUp (path n) (cache n) (used n)) (place n)
+over-is : (c : tie.After-skipped-up) → (let n = searched c.before in c.skipped-up.result ≡ skipped_up (path n) (cache n) (used n) (at n))
+over-is c = let n = searched c.before in c.skipped-up.ensures ∙ ap (skipped_up (path n) (cache n) (used n)) (place n)
 
 abbrev behind : tie.After-skipped-down → tie.After-place-of
 behind c = c.before.before.before
 
 under-is : (c : tie.After-skipped-down)
-    → (let n = searched (behind c) in c.skipped-down.result ≡ skippedDown (path n) (cache n) (used n) (at n))
-under-is c = let n = searched (behind c) in c.skipped-down.ensures ∙ ap (skippedDown (path n) (cache n) (used n)) (place n)
+    → (let n = searched (behind c) in c.skipped-down.result ≡ skipped_down (path n) (cache n) (used n) (at n))
+under-is c = let n = searched (behind c) in c.skipped-down.ensures ∙ ap (skipped_down (path n) (cache n) (used n)) (place n)
 
 -- not all of them
-some : (c : tie.After-skipped-down) → (let n = searched (behind c) in skippedUp (path n) (cache n) (used n) (at n) < used n)
+some : (c : tie.After-skipped-down) → (let n = searched (behind c) in skipped_up (path n) (cache n) (used n) (at n) < used n)
 some c =
     let n = searched (behind c) in
-    let f : ℕ → Bool = λ (i : ℕ). skipsAt (path n) (cache n) (stepsUp (used n) (at n) i) in
+    let f : ℕ → Bool = λ (i : ℕ). skips_at (path n) (cache n) (steps_up (used n) (at n) i) in
     omega (arith, c.before.if1.false, over-is c.before.before, over-le f 0 (used n))
 
 under-most : (c : tie.After-skipped-down) → c.skipped-down.result < used (searched (behind c))
@@ -118,7 +118,7 @@ key-at-requires c κs = search rules
 place-of-requires : tie.Need-place-of-requires
 place-of-requires c κs =
     let n = c.before.before in
-    let f = own-formed (own n) (s n).requires.0.0 in
+    let f = own_formed (own n) (s n).requires.0.0 in
     let m = c.before.count.ensures ∙ rows-length 100 (length (own n) / 100) (own n) in
     (omega (arith, m, f.least), omega (arith, m, f.many))
 
@@ -130,8 +130,8 @@ returns c =
     let p = c.before.before in
     let n = searched p in
     let none = none_left (t n) (own n) (path n) (cache n) (used n) (s n).pre.1.0.held (o n) (small n) (sym (over-is c.before) ∙ c.if1.true) in (
-      mine p ∙ sym (ap (λ (l : List (List ℕ)). closestOf (t n) (candidates (ownRecords (own n)) l)) none
-          ∙ ap (closestOf (t n)) (append-nil (ownRecords (own n)))),
+      mine p ∙ sym (ap (λ (l : List (List ℕ)). closest_of (t n) (candidates (own_records (own n)) l)) none
+          ∙ ap (closest_of (t n)) (append-nil (own_records (own n)))),
       inside p,
     )
 
@@ -165,13 +165,13 @@ nearest-of-requires c κs =
     let up = down.before in
     let p = behind up.before in
     let n = searched p in (
-      omega (arith, p.place_of.ensures.1.0, own-many p, (own-formed (own n) (s n).pre.0.0).many),
+      omega (arith, p.place_of.ensures.1.0, own-many p, (own_formed (own n) (s n).pre.0.0).many),
       omega (arith, room n, up.wrap.ensures.1),
       omega (arith, room n, down.wrap2.ensures.1),
     )
 
-returns-2 : tie.Need-returns-2
-returns-2 c =
+returns_2 : tie.Need-returns-2
+returns_2 c =
     let k = c.before in
     let down = k.before in
     let up = down.before in
@@ -179,16 +179,16 @@ returns-2 c =
     let p = behind stop in
     let n = searched p in
     let i = p.place_of.result in
-    let eu : up.wrap.result ≡ stepsUp (used n) (at n) (skippedUp (path n) (cache n) (used n) (at n)) =
-    up.wrap.ensures.0 ∙ ap₂ (stepsUp (used n)) (place n) (over-is stop.before.before) in
-    let ed : down.wrap2.result ≡ stepsDown (used n) (at n) (skippedDown (path n) (cache n) (used n) (at n)) =
-    down.wrap2.ensures.0 ∙ ap₂ (stepsDown (used n)) (place n) (under-is stop) in
-    let is : c.nearest-of.result ≡ nearestOf (t n) (own n) i (cache n) up.wrap.result down.wrap2.result =
-    c.nearest-of.ensures ∙ ap (λ (m : ℕ). nearestOf m (own n) i (cache n) up.wrap.result down.wrap2.result) k.key-at2.ensures in (
-      ap (recordAt (own n) (cache n)) is
+    let eu : up.wrap.result ≡ steps_up (used n) (at n) (skipped_up (path n) (cache n) (used n) (at n)) =
+    up.wrap.ensures.0 ∙ ap₂ (steps_up (used n)) (place n) (over-is stop.before.before) in
+    let ed : down.wrap2.result ≡ steps_down (used n) (at n) (skipped_down (path n) (cache n) (used n) (at n)) =
+    down.wrap2.ensures.0 ∙ ap₂ (steps_down (used n)) (place n) (under-is stop) in
+    let is : c.nearest-of.result ≡ nearest_of (t n) (own n) i (cache n) up.wrap.result down.wrap2.result =
+    c.nearest-of.ensures ∙ ap (λ (m : ℕ). nearest_of m (own n) i (cache n) up.wrap.result down.wrap2.result) k.key-at2.ensures in (
+      ap (record_at (own n) (cache n)) is
           ∙ sides-closest (t n) (own n) (path n) (cache n) (used n) (s n).pre.1.0.held (o n) (small n) (some stop) i (s n).pre.0.0 (mine p)
           up.wrap.result down.wrap2.result eu ed,
-      rw is (nearest-within (t n) (own n) (cache n) (length (ownRecords (own n))) (used n) i up.wrap.result down.wrap2.result (inside p)
+      rw is (nearest_within (t n) (own n) (cache n) (length (own_records (own n))) (used n) i up.wrap.result down.wrap2.result (inside p)
           up.wrap.ensures.1 down.wrap2.ensures.1),
     )
 
@@ -210,4 +210,4 @@ place-of-closest-spec =
     wrap-requires-2
     key-at-requires-2
     nearest-of-requires
-    returns-2)
+    returns_2)

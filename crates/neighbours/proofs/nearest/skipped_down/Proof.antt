@@ -10,9 +10,9 @@ use Rattle.octet.proofs.PartLaws.{part_at}
 use Rattle.record.proofs.EntryLaws.{one_address}
 use Rattle.path.specs.Path.{on_path}
 use Rattle.table.specs.Rows.{rows}
-use Rattle.round.specs.Over.{passOver}
-use Rattle.neighbours.specs.Where.{stepsDown, skipsAt}
-use Rattle.neighbours.proofs.ClosestLaws.{in-form}
+use Rattle.round.specs.Over.{pass_over}
+use Rattle.neighbours.specs.Where.{steps_down, skips_at}
+use Rattle.neighbours.proofs.ClosestLaws.{in_form}
 use Rattle.round.proofs.OverLaws.{over-on, over-here, over-end}
 use Rattle.neighbours.proofs.BesideLaws.{row_in}
 use Rattle.neighbours.proofs.nearest.skipped_down.Statement.{statement}
@@ -21,8 +21,8 @@ use Rattle.neighbours.proofs.nearest.skipped_down.Tie as tie
 abbrev invariant-loop : tie.invariant-loop
 invariant-loop cache used at path i₀ i =
     (i ≤ used)
-    × (passOver (λ (j : ℕ). skipsAt path cache (stepsDown used at j)) 0 used
-    ≡ passOver (λ (j : ℕ). skipsAt path cache (stepsDown used at j)) i (used - i))
+    × (pass_over (λ (j : ℕ). skips_at path cache (steps_down used at j)) 0 used
+    ≡ pass_over (λ (j : ℕ). skips_at path cache (steps_down used at j)) i (used - i))
 
 abbrev decreases-loop : tie.decreases-loop
 decreases-loop cache used at path i₀ i = used - i
@@ -32,7 +32,7 @@ start c = c.before.before.before
 
 -- is the record so many steps down on the path?
 abbrev skips : tie.Start invariant-loop decreases-loop → ℕ → Bool
-skips s j = skipsAt s.args.path.now s.args.cache.now (stepsDown s.args.used s.args.at j)
+skips s j = skips_at s.args.path.now s.args.cache.now (steps_down s.args.used s.args.at j)
 
 -- what was looked at is that record
 looked : (c : tie.After-on-path invariant-loop decreases-loop)
@@ -46,7 +46,7 @@ loop-holds : tie.Need-loop-init invariant-loop decreases-loop
 loop-holds c =
     let a = c.before.before.args in
     let e : a.used ≡ a.used - 0 = omega arith in
-    (omega arith, ap (passOver (skips c.before.before) 0) e)
+    (omega arith, ap (pass_over (skips c.before.before) 0) e)
 
 add-wrap : tie.Need-overflow-add-wrap invariant-loop decreases-loop
 add-wrap c = omega arith
@@ -68,7 +68,7 @@ on-path-requires c κs =
     let s = start c.before.before in
     let a = s.args in
     let i = c.wrap.result in
-    let formed = in-form (part (100 * i) 100 a.cache.now) (rows 100 a.used a.cache.now) s.pre.2 (row_in a.used i a.cache.now c.wrap.ensures.1) in
+    let formed = in_form (part (100 * i) 100 a.cache.now) (rows 100 a.used a.cache.now) s.pre.2 (row_in a.used i a.cache.now c.wrap.ensures.1) in
     let few : get_or (part (100 * i) 100 a.cache.now) 34 0 ≡ 1 = one_address (part (100 * i) 100 a.cache.now) formed in
     (omega (arith, c.wrap.ensures.1), omega (arith, few, part_at (100 * i) 100 34 a.cache.now (omega arith)))
 
@@ -96,8 +96,8 @@ loop-again c =
           ∙ over-on (skips s) s.args.used head.loop.i e.before.before.loop-test.true (looked e ∙ not-false _ c.if1.false),
     )
 
-returns-2 : tie.Need-returns-2 invariant-loop decreases-loop
-returns-2 c =
+returns_2 : tie.Need-returns-2 invariant-loop decreases-loop
+returns_2 c =
     let head = c.before in
     let s = start head in
     sym (head.loop.invariant.1 ∙ over-end (skips s) s.args.used head.loop.i c.loop-test.false)
@@ -119,4 +119,4 @@ skipped-down-spec =
     add-i
     loop-less
     loop-again
-    returns-2)
+    returns_2)

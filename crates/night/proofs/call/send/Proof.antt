@@ -2,7 +2,7 @@
 use mathlib.Core.Path.{sym, ◌∙◌}
 use native.Mathlib.Omega.{arith}
 use lib.Seq.{length-take-le}
-use Rattle.night.specs.Step.{nightIn}
+use Rattle.night.specs.Step.{night_in}
 use Rattle.night.proofs.CallLaws.{taken_out, own-copied, major-taken, minor-taken, send-called}
 use borrow.Author.Rules.{rules}
 use Rattle.night.proofs.call.send.Statement.{statement}
@@ -107,7 +107,7 @@ returns c =
     (copy-to.copy-to.ensures ∙ own-copied s fit)
     (copy-to2.copy-to2.ensures ∙ taken_out 6912 2240 s (omega (arith, fit))) gauge-send.gauge-send.auto.1.1.0
     start.args.body.now _ _ _ (major-taken s fit) (minor-taken s fit) read.read-u32-le.ensures
-    c.before.before.copy-to3.ensures (gauge-send.gauge-send.ensures (nightIn s).memory)
+    c.before.before.copy-to3.ensures (gauge-send.gauge-send.ensures (night_in s).memory)
 
 pub send-spec : {M : Type 1} → statement M
 send-spec =

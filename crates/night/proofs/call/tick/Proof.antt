@@ -1,7 +1,7 @@
 -- `night::call::tick` meets its contract. Assumes nothing.
 use mathlib.Core.Path.{◌∙◌}
 use native.Mathlib.Omega.{arith}
-use Rattle.night.specs.Step.{nightIn}
+use Rattle.night.specs.Step.{night_in}
 use Rattle.night.proofs.CallLaws.{taken_out, own-taken, tick-called}
 use borrow.Author.Rules.{rules}
 use Rattle.night.proofs.call.tick.Statement.{statement}
@@ -58,7 +58,7 @@ returns c =
     let fit = start.requires.0 in
     tick-called s fit _ _ _ start.requires.1 _ _ _ _ (own-taken s fit)
     (copy-to.copy-to.ensures ∙ taken_out 6912 2240 s (omega (arith, fit))) gauge-tick.gauge-tick.auto.1.0
-    c.before.before.copy-to2.ensures (gauge-tick.gauge-tick.ensures (nightIn s).memory)
+    c.before.before.copy-to2.ensures (gauge-tick.gauge-tick.ensures (night_in s).memory)
 
 pub tick-spec : {M : Type 1} → statement M
 tick-spec =

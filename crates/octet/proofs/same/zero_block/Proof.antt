@@ -1,7 +1,7 @@
 -- `octet::zero_block` meets its contract: four times 16 bytes. Assumes nothing.
 use mathlib.Core.Path.{sym, ap₂, ◌∙◌}
 use mathlib.Core.Bool.{◌&&◌}
-use Rattle.octet.proofs.TestLaws.{zero-four}
+use Rattle.octet.proofs.TestLaws.{zero_four}
 use borrow.Author.Rules.{rules}
 use Rattle.octet.proofs.same.zero_block.Statement.{statement}
 use Rattle.octet.proofs.same.zero_block.Tie as tie
@@ -32,7 +32,7 @@ returns c =
     let start = c.before.before.before.before.before in
     ap₂ ◌&&◌ (ap₂ ◌&&◌ c.before.before.before.zero-pair.ensures c.before.before.zero-pair2.ensures)
     (ap₂ ◌&&◌ c.before.zero-pair3.ensures c.zero-pair4.ensures)
-    ∙ sym (zero-four start.args.at start.args.s.now)
+    ∙ sym (zero_four start.args.at start.args.s.now)
 
 pub zero-block-spec : {M : Type 1} → statement M
 zero-block-spec =

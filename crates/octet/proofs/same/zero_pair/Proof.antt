@@ -3,7 +3,7 @@ use mathlib.Core.Path.{sym, ap₂, ◌∙◌}
 use mathlib.Core.Bool.{◌&&◌}
 use Prim.Native.Nat.{ℕ}
 use lib.Dec.{eqb}
-use Rattle.octet.proofs.TestLaws.{zero-words-two}
+use Rattle.octet.proofs.TestLaws.{zero-words_two}
 use borrow.Author.Rules.{rules}
 use Rattle.octet.proofs.same.zero_pair.Statement.{statement}
 use Rattle.octet.proofs.same.zero_pair.Tie as tie
@@ -21,7 +21,7 @@ returns : tie.Need-returns
 returns c =
     let start = c.before.before.before in
     ap₂ (λ (x y : ℕ). eqb x 0 && eqb y 0) c.before.read-u64-le.ensures c.read-u64-le2.ensures
-    ∙ sym (zero-words-two start.args.at start.args.s.now)
+    ∙ sym (zero-words_two start.args.at start.args.s.now)
 
 pub zero-pair-spec : {M : Type 1} → statement M
 zero-pair-spec =

@@ -6,13 +6,13 @@ use Prim.Native.Nat.{ℕ, ◌+◌, ◌-◌, ◌*◌, ◌/◌, ◌≤◌}
 use native.Mathlib.Omega.{arith}
 use lib.ListN.{length, drop, get_or, drop_of_length-le}
 use borrow.Author.Tests.{eq-eqb, ne_eqb, not-true, not-false}
-use Rattle.octet.specs.Part.{part, allZero}
-use Rattle.octet.proofs.TestLaws.{zero-from, zero_rest}
+use Rattle.octet.specs.Part.{part, all_zero}
+use Rattle.octet.proofs.TestLaws.{zero_from, zero_rest}
 use Rattle.octet.proofs.same.zero_tail.Statement.{statement}
 use Rattle.octet.proofs.same.zero_tail.Tie as tie
 
 abbrev invariant-loop : tie.invariant-loop
-invariant-loop s at words i₀ i = (i ≤ length s) × (allZero (drop at s) ≡ allZero (drop i s))
+invariant-loop s at words i₀ i = (i ≤ length s) × (all_zero (drop at s) ≡ all_zero (drop i s))
 
 abbrev decreases-loop : tie.decreases-loop
 decreases-loop s at words i₀ i = length s - i
@@ -28,7 +28,7 @@ returns c =
     let a = c.before.before.before.args in
     let s = a.s.now in
     let n = 8 * ((length s - a.at) / 8) in
-    sym (zero_rest a.at n s ∙ ap (λ (t : Bool). t && allZero (drop (a.at + n) s))
+    sym (zero_rest a.at n s ∙ ap (λ (t : Bool). t && all_zero (drop (a.at + n) s))
     (sym c.before.zero-words.ensures ∙ not-true _ c.if1.true))
 
 mul-i : tie.Need-overflow-mul-i invariant-loop decreases-loop
@@ -43,19 +43,19 @@ loop-holds c =
     let s = a.s.now in
     let n = 8 * ((length s - a.at) / 8) in (
       omega arith,
-      zero_rest a.at n s ∙ ap (λ (t : Bool). t && allZero (drop (a.at + n) s))
+      zero_rest a.at n s ∙ ap (λ (t : Bool). t && all_zero (drop (a.at + n) s))
           (sym c.before.zero-words.ensures ∙ not-false _ c.if1.false),
     )
 
 shared-slice-read-if2 : tie.Need-shared-slice-read-if2 invariant-loop decreases-loop
 shared-slice-read-if2 c = omega arith
 
-returns-2 : tie.Need-returns-2 invariant-loop decreases-loop
-returns-2 c =
+returns_2 : tie.Need-returns-2 invariant-loop decreases-loop
+returns_2 c =
     let l = c.before.before.before in
     let s = l.before.before.before.before.args.s.now in
     let i = l.loop.i in
-    sym (l.loop.invariant.1 ∙ zero-from i s (omega arith) ∙ ap (λ (t : Bool). t && allZero (drop (i + 1) s)) (ne_eqb (get_or s i 0) 0 c.if2.true))
+    sym (l.loop.invariant.1 ∙ zero_from i s (omega arith) ∙ ap (λ (t : Bool). t && all_zero (drop (i + 1) s)) (ne_eqb (get_or s i 0) 0 c.if2.true))
 
 add-i-2 : tie.Need-overflow-add-i-2 invariant-loop decreases-loop
 add-i-2 c = omega arith
@@ -69,16 +69,16 @@ loop-again c =
     let s = l.before.before.before.before.args.s.now in
     let i = l.loop.i in (
       omega arith,
-      l.loop.invariant.1 ∙ zero-from i s (omega arith)
-          ∙ ap (λ (t : Bool). t && allZero (drop (i + 1) s)) (eq-eqb (get_or s i 0) 0 c.if2.false),
+      l.loop.invariant.1 ∙ zero_from i s (omega arith)
+          ∙ ap (λ (t : Bool). t && all_zero (drop (i + 1) s)) (eq-eqb (get_or s i 0) 0 c.if2.false),
     )
 
 returns-3 : tie.Need-returns-3 invariant-loop decreases-loop
-unfolding allZero
+unfolding all_zero
 returns-3 c =
     let l = c.before in
     let s = l.before.before.before.before.args.s.now in
-    sym (l.loop.invariant.1 ∙ ap allZero (drop_of_length-le s {i = l.loop.i} (omega arith)))
+    sym (l.loop.invariant.1 ∙ ap all_zero (drop_of_length-le s {i = l.loop.i} (omega arith)))
 
 pub zero-tail-spec : {M : Type 1} → statement M
 zero-tail-spec =
@@ -93,7 +93,7 @@ zero-tail-spec =
     add-i
     loop-holds
     shared-slice-read-if2
-    returns-2
+    returns_2
     add-i-2
     loop-less
     loop-again

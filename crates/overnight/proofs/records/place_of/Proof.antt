@@ -21,8 +21,8 @@ mul-same-at c = omega arith
 same-at-requires : tie.Need-same-at-requires invariant-loop decreases-loop
 same-at-requires c κs = (omega arith, omega arith)
 
-returns-2 : tie.Need-returns-2 invariant-loop decreases-loop
-returns-2 c = omega arith
+returns_2 : tie.Need-returns-2 invariant-loop decreases-loop
+returns_2 c = omega arith
 
 add-i : tie.Need-overflow-add-i invariant-loop decreases-loop
 add-i c = omega arith
@@ -46,7 +46,7 @@ place-of-spec =
     loop-holds
     mul-same-at
     same-at-requires
-    returns-2
+    returns_2
     add-i
     loop-less
     loop-again

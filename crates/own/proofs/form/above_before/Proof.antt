@@ -4,19 +4,19 @@ use mathlib.Core.Bool.{Bool}
 use Prim.Native.Nat.{◌-◌, ◌*◌}
 use lib.Dec.{leb, ltb}
 use Rattle.key.specs.Number.{key_at}
-use Rattle.key.proofs.OrderLaws.{test-less, test-same, test-more}
-use Rattle.own.specs.Low.{lowAt}
-use Rattle.own.proofs.LowLaws.{low_first, low-next}
+use Rattle.key.proofs.OrderLaws.{test_less, test_same, test_more}
+use Rattle.own.specs.Low.{low_at}
+use Rattle.own.proofs.LowLaws.{low_first, low_next}
 use borrow.Author.Rules.{rules}
 use Rattle.own.proofs.form.above_before.Statement.{statement}
 use Rattle.own.proofs.form.above_before.Tie as tie
 
 -- behind the first the test is that against the key before
 by : (c : tie.After-order-at) → (b : Bool) → (let a = c.before.before.before.args in
-    ltb (key_at (100 * (a.i - 1)) a.s.now) (key_at (100 * a.i) a.s.now) ≡ b → b ≡ leb (lowAt a.s.now a.i) (key_at (100 * a.i) a.s.now))
+    ltb (key_at (100 * (a.i - 1)) a.s.now) (key_at (100 * a.i) a.s.now) ≡ b → b ≡ leb (low_at a.s.now a.i) (key_at (100 * a.i) a.s.now))
 by c b e =
     let a = c.before.before.before.args in
-    sym (low-next a.s.now a.i (key_at (100 * a.i) a.s.now) c.before.if1.false ∙ e)
+    sym (low_next a.s.now a.i (key_at (100 * a.i) a.s.now) c.before.if1.false ∙ e)
 
 returns : tie.Need-returns
 returns c =
@@ -44,20 +44,20 @@ enum-told-2 c = search rules
 enum-told-3 : tie.Need-enum-told-3
 enum-told-3 c = search rules
 
-returns-2 : tie.Need-returns-2
-returns-2 c =
+returns_2 : tie.Need-returns-2
+returns_2 c =
     let o = c.before.before in
-    by o _ (test-less _ _ (sym o.order-at.ensures ∙ c.enum_told.given.1)).0
+    by o _ (test_less _ _ (sym o.order-at.ensures ∙ c.enum_told.given.1)).0
 
 returns-3 : tie.Need-returns-3
 returns-3 c =
     let o = c.before.before in
-    by o _ (test-same _ _ (sym o.order-at.ensures ∙ c.enum-told2.given.1)).0
+    by o _ (test_same _ _ (sym o.order-at.ensures ∙ c.enum-told2.given.1)).0
 
 returns-4 : tie.Need-returns-4
 returns-4 c =
     let o = c.before.before in
-    by o _ (test-more _ _ (sym o.order-at.ensures ∙ c.enum-told3.given.1)).0
+    by o _ (test_more _ _ (sym o.order-at.ensures ∙ c.enum-told3.given.1)).0
 
 pub above-before-spec : {M : Type 1} → statement M
 above-before-spec =
@@ -71,6 +71,6 @@ above-before-spec =
     enum_told
     enum-told-2
     enum-told-3
-    returns-2
+    returns_2
     returns-3
     returns-4)

@@ -13,8 +13,8 @@ returns c = c.is-record.ensures ∙ sym (one-own-form c.before.before.before.arg
 all-formed-requires : tie.Need-all-formed-requires
 all-formed-requires c κs = tt
 
-returns-2 : tie.Need-returns-2
-returns-2 c = c.all-formed.ensures
+returns_2 : tie.Need-returns-2
+returns_2 c = c.all-formed.ensures
 
 pub own-form-spec : {M : Type 1} → statement M
-own-form-spec = tie.close (tie.spec is-record-requires returns all-formed-requires returns-2)
+own-form-spec = tie.close (tie.spec is-record-requires returns all-formed-requires returns_2)

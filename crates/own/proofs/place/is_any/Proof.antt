@@ -53,12 +53,12 @@ loop-again c =
           (sym c.before.same_at.ensures ∙ c.if1.false),
     )
 
-returns-2 : tie.Need-returns-2 invariant-loop decreases-loop
-returns-2 c =
+returns_2 : tie.Need-returns-2 invariant-loop decreases-loop
+returns_2 c =
     let l = c.before in
     let a = l.before.before.before.args in
     sym (l.loop.invariant.2 ∙ has_end (length a.own.now / 100) a.own.now l.loop.i (key_at a.at a.s.now) (omega arith))
 
 pub is-any-spec : {M : Type 1} → statement M
 is-any-spec =
-    tie.close (tie.spec invariant-loop decreases-loop loop-holds mul-same-at same-at-requires returns add-i loop-less loop-again returns-2)
+    tie.close (tie.spec invariant-loop decreases-loop loop-holds mul-same-at same-at-requires returns add-i loop-less loop-again returns_2)

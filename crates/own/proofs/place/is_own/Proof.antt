@@ -17,8 +17,8 @@ returns c =
 is-any-requires : tie.Need-is-any-requires
 is-any-requires c κs = c.before.before.before.requires
 
-returns-2 : tie.Need-returns-2
-returns-2 c = c.is_any.ensures
+returns_2 : tie.Need-returns-2
+returns_2 c = c.is_any.ensures
 
 pub is-own-spec : {M : Type 1} → statement M
-is-own-spec = tie.close (tie.spec same-at-requires returns is-any-requires returns-2)
+is-own-spec = tie.close (tie.spec same-at-requires returns is-any-requires returns_2)

@@ -10,7 +10,7 @@ use Rattle.record.specs.Record.{key_of}
 use Rattle.table.specs.Rows.{rows}
 use Rattle.table.proofs.RowLaws.{rows-length}
 use Rattle.kept.specs.Keys.{has}
-use Rattle.own.specs.Own.{ownPlace, ownKeys}
+use Rattle.own.specs.Own.{own_place, own_keys}
 use Rattle.own.proofs.PlaceLaws.{has_on, has_end, place_here, place-on, not_own}
 use Rattle.own.proofs.place.place_of.Statement.{statement}
 use Rattle.own.proofs.place.place_of.Tie as tie
@@ -20,7 +20,7 @@ invariant-loop own s at n i₀ i =
     (n ≡ length own / 100)
     × (i ≤ n)
     × (has (key_at at s) (map key_of (rows 100 n own)) ≡ has (key_at at s) (map key_of (drop i (rows 100 n own))))
-    × (ownPlace (map key_of (rows 100 n own)) (key_at at s) ≡ i + ownPlace (map key_of (drop i (rows 100 n own))) (key_at at s))
+    × (own_place (map key_of (rows 100 n own)) (key_at at s) ≡ i + own_place (map key_of (drop i (rows 100 n own))) (key_at at s))
 
 abbrev decreases-loop : tie.decreases-loop
 decreases-loop own s at n i₀ i = n - i
@@ -28,7 +28,7 @@ decreases-loop own s at n i₀ i = n - i
 loop-holds : tie.Need-loop-init invariant-loop decreases-loop
 loop-holds c =
     let a = c.before.before.args in
-    (omega arith, omega arith, refl, sym (zero-add (ownPlace (ownKeys a.own.now) (key_at a.at a.s.now))))
+    (omega arith, omega arith, refl, sym (zero-add (own_place (own_keys a.own.now) (key_at a.at a.s.now))))
 
 mul-same-at : tie.Need-overflow-mul-same-at invariant-loop decreases-loop
 mul-same-at c = omega arith
@@ -64,14 +64,14 @@ loop-again c =
       omega (arith, l.loop.invariant.3, e),
     )
 
-returns-2 : tie.Need-returns-2 invariant-loop decreases-loop
-returns-2 c =
+returns_2 : tie.Need-returns-2 invariant-loop decreases-loop
+returns_2 c =
     let l = c.before in
     let s = l.before.before.before in
     let a = s.args in
-    absurd (not_own (ownKeys a.own.now) (key_at a.at a.s.now)
+    absurd (not_own (own_keys a.own.now) (key_at a.at a.s.now)
     (l.loop.invariant.2 ∙ has_end (length a.own.now / 100) a.own.now l.loop.i (key_at a.at a.s.now) (omega arith)) s.requires.1)
 
 pub place-of-spec : {M : Type 1} → statement M
 place-of-spec =
-    tie.close (tie.spec invariant-loop decreases-loop loop-holds mul-same-at same-at-requires returns add-i loop-less loop-again returns-2)
+    tie.close (tie.spec invariant-loop decreases-loop loop-holds mul-same-at same-at-requires returns add-i loop-less loop-again returns_2)

@@ -27,8 +27,8 @@ returns c =
 same-length-2 : tie.Need-same-length-2
 same-length-2 c = search rules
 
-returns-2 : tie.Need-returns-2
-returns-2 c =
+returns_2 : tie.Need-returns-2
+returns_2 c =
     let which = c.before.before.before.before.before.measured2.given.1 in
     let packed = c.before.before.pack-fault.ensures in
     (rw which packed.0, rw which packed.1)
@@ -44,4 +44,4 @@ pack-spec =
     same_length
     returns
     same-length-2
-    returns-2)
+    returns_2)

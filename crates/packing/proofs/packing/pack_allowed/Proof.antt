@@ -26,8 +26,8 @@ returns c = rw c.before.before.before.before.before.decreases.given.1 c.before.b
 same-length-2 : tie.Need-same-length-2
 same-length-2 c = search rules
 
-returns-2 : tie.Need-returns-2
-returns-2 c = rw c.before.before.before.before.before.measured2.given.1 c.before.before.pack-fault.ensures.0
+returns_2 : tie.Need-returns-2
+returns_2 c = rw c.before.before.before.before.before.measured2.given.1 c.before.before.pack-fault.ensures.0
 
 pub pack-allowed-spec : {M : Type 1} → statement M
 pack-allowed-spec =
@@ -40,4 +40,4 @@ pack-allowed-spec =
     same_length
     returns
     same-length-2
-    returns-2)
+    returns_2)

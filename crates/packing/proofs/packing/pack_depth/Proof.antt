@@ -3,7 +3,7 @@ use mathlib.Core.Path.{sym, ◌∙◌}
 use native.Mathlib.Omega.{arith}
 use borrow.Author.Tests.{not-true, not-false}
 use Rattle.readings.specs.Reading.{depth_of, Typed}
-use Rattle.readings.proofs.PackLaws.{pack-no-room, pack-outside, length-depth}
+use Rattle.readings.proofs.PackLaws.{pack-no-room, pack-outside, length_depth}
 use borrow.Author.Rules.{rules}
 use Rattle.packing.proofs.packing.pack_depth.Statement.{statement}
 use Rattle.packing.proofs.packing.pack_depth.Tie as tie
@@ -17,19 +17,19 @@ returns c =
     let start = c.before.before in
     let a = start.args in (
       pack-no-room (depth_of a.depth a.inflow a.outflow) a.out.now
-          (omega (arith, c.if1.true, length-depth a.depth a.inflow a.outflow)),
+          (omega (arith, c.if1.true, length_depth a.depth a.inflow a.outflow)),
       typed start,
     )
 
 is-allowed-requires : tie.Need-is-allowed-requires
 is-allowed-requires c κs = search rules
 
-returns-2 : tie.Need-returns-2
-returns-2 c =
+returns_2 : tie.Need-returns-2
+returns_2 c =
     let start = c.before.before.before.before in
     let a = start.args in (
       pack-outside (depth_of a.depth a.inflow a.outflow) a.out.now
-          (omega (arith, c.before.before.if1.false, length-depth a.depth a.inflow a.outflow))
+          (omega (arith, c.before.before.if1.false, length_depth a.depth a.inflow a.outflow))
           (sym c.before.is-allowed.ensures ∙ not-true _ c.if2.true),
       typed start,
     )
@@ -51,7 +51,7 @@ pack-depth-spec =
     (tie.spec
     returns
     is-allowed-requires
-    returns-2
+    returns_2
     put-depth-requires
     same_length
     returns-3)

@@ -5,24 +5,24 @@ use Prim.Native.Nat.{ℕ, ◌≤◌}
 use native.Mathlib.Omega.{arith}
 use lib.ListN.{length}
 use Rattle.octet.specs.Part.{splice}
-use Rattle.readings.specs.Reading.{faultOf, image, Typed}
-use Rattle.readings.specs.Pack.{packHanded}
+use Rattle.readings.specs.Reading.{fault_of, image, Typed}
+use Rattle.readings.specs.Pack.{pack_handed}
 use Rattle.readings.specs.declared.Packed.TheVariants.{Written}
-use Rattle.readings.proofs.PackLaws.{pack-no-room, pack-written, image-fault, length-fault, put_three}
+use Rattle.readings.proofs.PackLaws.{pack-no-room, pack-written, image_fault, length_fault, put_three}
 use borrow.Author.Rules.{rules}
 use Rattle.packing.proofs.packing.pack_fault.Statement.{statement}
 use Rattle.packing.proofs.packing.pack_fault.Tie as tie
 
 -- what is handed in are values of their types
-typed : (c : tie.Start) → Typed (faultOf c.args.fault c.args.inflow c.args.outflow)
+typed : (c : tie.Start) → Typed (fault_of c.args.fault c.args.inflow c.args.outflow)
 typed c = (search rules, search rules, search rules)
 
 returns : tie.Need-returns
 returns c =
     let start = c.before.before in
     let a = start.args in (
-      pack-no-room (faultOf a.fault a.inflow a.outflow) a.out.now
-          (omega (arith, c.if1.true, length-fault a.fault a.inflow a.outflow)),
+      pack-no-room (fault_of a.fault a.inflow a.outflow) a.out.now
+          (omega (arith, c.if1.true, length_fault a.fault a.inflow a.outflow)),
       typed start,
     )
 
@@ -38,23 +38,23 @@ put-litres-requires c κs = search rules
 same_length : tie.Need-same-length
 same_length c = search rules
 
-returns-2 : tie.Need-returns-2
-returns-2 c =
+returns_2 : tie.Need-returns-2
+returns_2 c =
     let third = c.before.before in
     let second = third.before.before.before.before in
     let first = second.before.before.before.before in
     let at_test = first.before.before in
     let start = at_test.before.before in
     let a = start.args in
-    let r = faultOf a.fault a.inflow a.outflow in
+    let r = fault_of a.fault a.inflow a.outflow in
     let out = a.out.now in
-    let size = length-fault a.fault a.inflow a.outflow in
+    let size = length_fault a.fault a.inflow a.outflow in
     let room : length (image r) ≤ length out = omega (arith, size, at_test.if1.false) in
     let put =
     put_three 12 2 2 a.fault a.inflow a.outflow out (omega (arith, size, room)) _ _ _
     first.put-head.ensures second.write-u16-le.ensures third.put-litres.ensures
-    ∙ ap (λ (l : List ℕ). splice 0 l out) (image-fault a.fault a.inflow a.outflow) in
-    (ap₂ (λ (n : ℕ) (l : List ℕ). packHanded (Written n) l) (sym size) put ∙ pack-written r out room refl, typed start)
+    ∙ ap (λ (l : List ℕ). splice 0 l out) (image_fault a.fault a.inflow a.outflow) in
+    (ap₂ (λ (n : ℕ) (l : List ℕ). pack_handed (Written n) l) (sym size) put ∙ pack-written r out room refl, typed start)
 
 pub pack-fault-spec : {M : Type 1} → statement M
 pack-fault-spec =
@@ -65,4 +65,4 @@ pack-fault-spec =
     write-u16-le-requires
     put-litres-requires
     same_length
-    returns-2)
+    returns_2)

@@ -1,15 +1,15 @@
--- `packing::unpacking::unpack` meets its contract: the tests that lead to each answer are those of `unpackOf`. Assumes nothing.
+-- `packing::unpacking::unpack` meets its contract: the tests that lead to each answer are those of `unpack_of`. Assumes nothing.
 use mathlib.Core.Path.{◌≡◌, sym, ap, ◌∙◌}
 use Prim.Native.Nat.{ℕ, ◌+◌, ◌≤◌}
 use lib.ListN.{length}
-use Rattle.readings.specs.Unpack.{toldIn}
+use Rattle.readings.specs.Unpack.{told_in}
 use Rattle.readings.proofs.UnpackLaws.{unpack-short, unpack-cut, unpack-depth, unpack-fault, unpack-unknown}
 use borrow.Author.Rules.{rules}
 use Rattle.packing.proofs.unpacking.unpack.Statement.{statement}
 use Rattle.packing.proofs.unpacking.unpack.Tie as tie
 
 -- behind the second test: as long as its length says, and long enough to have a kind
-whole : (c : tie.Else2) → (let s = c.before.before.before.before.args.s.now in (length s ≡ 2 + toldIn s) × (4 ≤ length s))
+whole : (c : tie.Else2) → (let s = c.before.before.before.before.args.s.now in (length s ≡ 2 + told_in s) × (4 ≤ length s))
 whole c = (c.if2.false ∙ ap (λ (n : ℕ). 2 + n) c.before.read-u16-le.ensures, search rules)
 
 returns : tie.Need-returns
@@ -24,8 +24,8 @@ cast-told c = search rules
 add-if2 : tie.Need-overflow-add-if2
 add-if2 c = search rules
 
-returns-2 : tie.Need-returns-2
-returns-2 c = unpack-cut _ c.before.before.if1.false (λ e. c.if2.true (e ∙ ap (λ (n : ℕ). 2 + n) (sym c.before.read-u16-le.ensures)))
+returns_2 : tie.Need-returns-2
+returns_2 c = unpack-cut _ c.before.before.if1.false (λ e. c.if2.true (e ∙ ap (λ (n : ℕ). 2 + n) (sym c.before.read-u16-le.ensures)))
 
 read-u16-le-requires-2 : tie.Need-read-u16-le-requires-2
 read-u16-le-requires-2 c κs = search rules
@@ -60,7 +60,7 @@ unpack-spec =
     read-u16-le-requires
     cast-told
     add-if2
-    returns-2
+    returns_2
     read-u16-le-requires-2
     unpack-depth-requires
     returns-3

@@ -20,8 +20,8 @@ read-u32-le-requires-3 c κs = search rules
 depth-reading-requires : tie.Need-depth-reading-requires
 depth-reading-requires c κs = search rules
 
-returns-2 : tie.Need-returns-2
-returns-2 c = c.depth-reading.ensures
+returns_2 : tie.Need-returns-2
+returns_2 c = c.depth-reading.ensures
     ∙ rw (c.before.before.before.read-u32-le.ensures, c.before.before.read-u32-le2.ensures, c.before.read-u32-le3.ensures)
     (depth-whole _ c.before.before.before.before.if1.false)
 
@@ -34,4 +34,4 @@ unpack-depth-spec =
     read-u32-le-requires-2
     read-u32-le-requires-3
     depth-reading-requires
-    returns-2)
+    returns_2)

@@ -16,12 +16,12 @@ read-u32-le-requires c κs = search rules
 read-u32-le-requires-2 : tie.Need-read-u32-le-requires-2
 read-u32-le-requires-2 c κs = search rules
 
-returns-2 : tie.Need-returns-2
-returns-2 c =
+returns_2 : tie.Need-returns-2
+returns_2 c =
     rw (c.before.before.read-u16-le.ensures, c.before.read-u32-le.ensures, c.read-u32-le2.ensures)
     (fault-whole _ c.before.before.before.if1.false)
 
 pub unpack-fault-spec : {M : Type 1} → statement M
 unpack-fault-spec =
     tie.close
-    (tie.spec returns read-u16-le-requires read-u32-le-requires read-u32-le-requires-2 returns-2)
+    (tie.spec returns read-u16-le-requires read-u32-le-requires read-u32-le-requires-2 returns_2)

@@ -36,8 +36,8 @@ loop-less-2 c = search rules
 loop-again-2 : tie.Need-loop-preserved-2 invariant-loop decreases-loop
 loop-again-2 c = search rules
 
-returns-2 : tie.Need-returns-2 invariant-loop decreases-loop
-returns-2 c = search rules
+returns_2 : tie.Need-returns-2 invariant-loop decreases-loop
+returns_2 c = search rules
 
 pub start-of-spec : {M : Type 1} → statement M
 start-of-spec =
@@ -54,4 +54,4 @@ start-of-spec =
     loop-again
     loop-less-2
     loop-again-2
-    returns-2)
+    returns_2)

@@ -36,8 +36,8 @@ cast-result-2 c = rw (from_zero c) (tt, record { fits = omega (arith, c.before.r
 returns : tie.Need-returns
 returns c = rw (size_is w64 _ _ c.before.ranges.balance (below c)) (add-one _ ∙ sym (ap nat_abs (below c)))
 
-returns-2 : tie.Need-returns-2
-returns-2 c = ap nat_abs (to_z-of_z c.before.ranges.balance)
+returns_2 : tie.Need-returns-2
+returns_2 c = ap nat_abs (to_z-of_z c.before.ranges.balance)
 
 pub magnitude-spec : {M : Type 1} → statement M
-magnitude-spec = tie.close (tie.spec add-result sub-result cast-result add-result-2 cast-result-2 returns returns-2)
+magnitude-spec = tie.close (tie.spec add-result sub-result cast-result add-result-2 cast-result-2 returns returns_2)

@@ -17,9 +17,9 @@ enum_told c = search rules
 returns : tie.Need-returns
 returns c = depth-outside _ _ _ (sym c.before.before.depth-of-bits.ensures ∙ c.enum_told.given.1)
 
-returns-2 : tie.Need-returns-2
-returns-2 c = depth-within _ _ _ _ (sym c.before.before.before.depth-of-bits.ensures ∙ c.before.depth.given.1)
+returns_2 : tie.Need-returns-2
+returns_2 c = depth-within _ _ _ _ (sym c.before.before.before.depth-of-bits.ensures ∙ c.before.depth.given.1)
 
 pub depth-reading-spec : {M : Type 1} → statement M
 depth-reading-spec =
-    tie.close (tie.spec depth-of-bits-requires enum-known-depth enum_told returns returns-2)
+    tie.close (tie.spec depth-of-bits-requires enum-known-depth enum_told returns returns_2)

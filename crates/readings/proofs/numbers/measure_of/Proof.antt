@@ -18,8 +18,8 @@ cast-result c = search rules
 returns : tie.Need-returns
 returns c = rw c.before.before.decreases.given.1 c.bits_of.ensures
 
-returns-2 : tie.Need-returns-2
-returns-2 c = search rules
+returns_2 : tie.Need-returns-2
+returns_2 c = search rules
 
 pub measure-of-spec : {M : Type 1} → statement M
 measure-of-spec =
@@ -30,4 +30,4 @@ measure-of-spec =
     enum-known-measured-2
     cast-result
     returns
-    returns-2)
+    returns_2)

@@ -11,8 +11,8 @@ depth-reading-requires c κs = search rules
 returns : tie.Need-returns
 returns c = c.depth-reading.ensures ∙ number-depth _ _ _ _ c.before.if1.true
 
-returns-2 : tie.Need-returns-2
-returns-2 c = number-unknown _ _ _ _ c.before.if1.false c.if2.true
+returns_2 : tie.Need-returns-2
+returns_2 c = number-unknown _ _ _ _ c.before.if1.false c.if2.true
 
 returns-3 : tie.Need-returns-3
 returns-3 c = number-large _ _ _ _ c.before.if2.false c.if3.true
@@ -25,4 +25,4 @@ returns-4 c = number-fault _ _ _ _ c.before.if2.false c.if3.false
 
 pub reading-of-spec : {M : Type 1} → statement M
 reading-of-spec =
-    tie.close (tie.spec depth-reading-requires returns returns-2 returns-3 cast-t6 returns-4)
+    tie.close (tie.spec depth-reading-requires returns returns_2 returns-3 cast-t6 returns-4)

@@ -5,8 +5,8 @@ use mathlib.Core.List.{List, [], ◌∷◌, ◌++◌}
 use mathlib.Core.Path.{refl, sym, ap}
 use lib.ListN.{get_or, length-append}
 use Rattle.octet.specs.Part.{part, splice}
-use Rattle.octet.proofs.PartLaws.{length_part, splice-next}
-use Rattle.record.proofs.PlaceLaws.{record-at, entry_in, put_four}
+use Rattle.octet.proofs.PartLaws.{length_part, splice_next}
+use Rattle.record.proofs.PlaceLaws.{record_at_lem, entry_in_lem, put_four}
 use borrow.Author.Rules.{rules}
 use Rattle.record.proofs.entry.put_entry.Statement.{statement}
 use Rattle.record.proofs.entry.put_entry.Tie as tie
@@ -29,7 +29,7 @@ abbrev count : tie.Start → ℕ
 count b = get_or b.args.s.now (b.args.start + 34) 0
 
 whole : (b : tie.Start) → (1 ≤ count b) × (count b ≤ 4)
-whole b = record-at b.args.start b.args.s.now b.requires.0 b.requires.1.0
+whole b = record_at_lem b.args.start b.args.s.now b.requires.0 b.requires.1.0
 
 add-count : tie.Need-overflow-add-count
 add-count c = search rules
@@ -120,9 +120,9 @@ returns c =
       versions.copy-to.ensures,
       key.copy-32.ensures,
       put_four at 2 k v p r o lk refl lp refl (omega arith),
-      splice-next at 38 (k ++ v ++ p ++ r) x o (omega arith) (omega arith),
+      splice_next at 38 (k ++ v ++ p ++ r) x o (omega arith) (omega arith),
     )
-    (ap (λ (l : List ℕ). splice at l o) (sym (entry_in b.args.major b.args.minor start s m)))
+    (ap (λ (l : List ℕ). splice at l o) (sym (entry_in_lem b.args.major b.args.minor start s m)))
 
 pub put-entry-spec : {M : Type 1} → statement M
 put-entry-spec =

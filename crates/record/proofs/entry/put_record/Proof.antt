@@ -6,7 +6,7 @@ use mathlib.Core.Path.{refl, sym, ap, ◌∙◌}
 use lib.ListN.{replicate, length-replicate}
 use Rattle.octet.specs.Part.{part, splice}
 use Rattle.octet.proofs.PartLaws.{length_part}
-use Rattle.record.proofs.PlaceLaws.{Entry-at, entry_at, record-in, put-pieces}
+use Rattle.record.proofs.PlaceLaws.{Entry-at, entry_at, record_in, put_pieces}
 use borrow.Author.Rules.{rules}
 use Rattle.record.proofs.entry.put_record.Statement.{statement}
 use Rattle.record.proofs.entry.put_record.Tie as tie
@@ -90,10 +90,10 @@ returns c =
     let l = w.long in
     let z = length-replicate {A = ℕ} 48 0 in
     rw (cleared.clear.ensures, addresses.copy-piece2.ensures, two.copy-to.ensures, port.copy-piece.ensures, key.copy-32.ensures)
-    (put-pieces at (part start 32 d) (part (start + 34) 2 d) (1 ∷ 0 ∷ []) (part (start + 38) 16 d)
+    (put_pieces at (part start 32 d) (part (start + 34) 2 d) (1 ∷ 0 ∷ []) (part (start + 38) 16 d)
     (replicate 48 0) s (length_part start 32 d (omega arith)) (length_part (start + 34) 2 d (omega arith)) refl
     (length_part (start + 38) 16 d (omega arith)) z (omega arith)
-    ∙ ap (λ (r : List ℕ). splice at r s) (sym (record-in start b.args.len d b.pre.1.0 b.pre.1.1)))
+    ∙ ap (λ (r : List ℕ). splice at r s) (sym (record_in start b.args.len d b.pre.1.0 b.pre.1.1)))
 
 pub put-record-spec : {M : Type 1} → statement M
 put-record-spec =

@@ -6,9 +6,9 @@ use mathlib.Core.Bool.{Bool, true, false, ◌&&◌}
 use mathlib.Core.Path.{◌≡◌, sym, ◌∙◌}
 use lib.Dec.{eqb}
 use lib.ListN.{get_or}
-use Rattle.octet.specs.Part.{part, same, allZero}
-use Rattle.record.specs.Entry.{recordOf}
-use Rattle.record.proofs.PlaceLaws.{Entry-at, entry_at, same-pieces}
+use Rattle.octet.specs.Part.{part, same, all_zero}
+use Rattle.record.specs.Entry.{record_of}
+use Rattle.record.proofs.PlaceLaws.{Entry-at, entry_at, same_pieces}
 use borrow.Author.Rules.{rules}
 use Rattle.record.proofs.entry.same_as_entry.Statement.{statement}
 use Rattle.record.proofs.entry.same_as_entry.Tie as tie
@@ -30,14 +30,14 @@ abbrev used : tie.Start → Bool
 used b = same (part (b.args.at + 36) 16 b.args.s.now) (part (b.args.start + 38) 16 b.args.d.now)
 
 abbrev unused : tie.Start → Bool
-unused b = allZero (part (b.args.at + 52) 48 b.args.s.now)
+unused b = all_zero (part (b.args.at + 52) 48 b.args.s.now)
 
 pieces : (b : tie.Start)
-    → same (part b.args.at 100 b.args.s.now) (recordOf (part b.args.start b.args.len b.args.d.now))
+    → same (part b.args.at 100 b.args.s.now) (record_of (part b.args.start b.args.len b.args.d.now))
     ≡ keys b && ports b && (counts b && closed b) && used b && unused b
 pieces b =
     let a = b.args in
-    same-pieces a.at a.start a.len a.s.now a.d.now b.requires.0 b.requires.1.0 b.requires.1.1
+    same_pieces a.at a.start a.len a.s.now a.d.now b.requires.0 b.requires.1.0 b.requires.1.1
 
 -- the entry lies there whole
 whole : (b : tie.Start) → Entry-at b.args.start b.args.len b.args.d.now
@@ -96,8 +96,8 @@ add-same-piece-2 c = search rules
 same-piece-requires : tie.Need-same-piece-requires
 same-piece-requires c κs = let w = whole (first c) in (omega arith, omega (arith, w.most, w.long))
 
-returns-2 : tie.Need-returns-2
-returns-2 c =
+returns_2 : tie.Need-returns-2
+returns_2 c =
     let e = c.before.before in
     let f : ports (first e) ≡ false = sym c.before.same-piece.ensures ∙ not-true _ c.if2.true in
     rw (pieces (first e), same_keys e, f)
@@ -168,7 +168,7 @@ same-as-entry-spec =
     add-same-piece
     add-same-piece-2
     same-piece-requires
-    returns-2
+    returns_2
     add-if3
     shared-slice-read-if3
     returns-3

@@ -16,8 +16,8 @@ put-line-requires c κs = search rules
 same_length : tie.Need-same-length
 same_length c = search rules
 
-returns-2 : tie.Need-returns-2
-returns-2 c =
+returns_2 : tie.Need-returns-2
+returns_2 c =
     let m = c.before.before in
     let i = m.before.before in
     let a = i.before.before.before.args in (
@@ -48,7 +48,7 @@ put_spec =
     returns
     put-line-requires
     same_length
-    returns-2
+    returns_2
     put-line-requires-2
     same-length-2
     returns-3)

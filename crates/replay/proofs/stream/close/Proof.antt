@@ -3,7 +3,7 @@ use mathlib.Core.Path.{sym}
 use native.Mathlib.Omega.{arith}
 use lib.ListN.{take}
 use lib.Seq.{length-take-le}
-use Rattle.night.specs.Step.{nightIn}
+use Rattle.night.specs.Step.{night_in}
 use Rattle.replay.proofs.RoomLaws.{close-over, close-none, close-some}
 use Rattle.replay.proofs.stream.close.Statement.{statement}
 use Rattle.replay.proofs.stream.close.Tie as tie
@@ -11,7 +11,7 @@ use Rattle.replay.proofs.stream.close.Tie as tie
 returns : tie.Need-returns
 returns c =
     let a = c.before.before.before.before.args in
-    (close-over a.from.at (nightIn a.state.now) a.from.over _ c.if1.true, omega arith)
+    (close-over a.from.at (night_in a.state.now) a.from.over _ c.if1.true, omega arith)
 
 put-end-requires : tie.Need-put-end-requires
 put-end-requires c κs = c.before.before.before.before.before.before.requires.1
@@ -19,13 +19,13 @@ put-end-requires c κs = c.before.before.before.before.before.before.requires.1
 same_length : tie.Need-same-length
 same_length c = c.before.before.put-end.auto.0
 
-returns-2 : tie.Need-returns-2
-returns-2 c =
+returns_2 : tie.Need-returns-2
+returns_2 c =
     let u = c.before.before in
     let i = u.before.before in
     let start = i.before.before.before.before.before in
     let a = start.args in (
-      close-none a.from.at (nightIn a.state.now) a.from.over a.room.now a.from.begun
+      close-none a.from.at (night_in a.state.now) a.from.over a.room.now a.from.begun
           start.requires.0 i.before.if1.false _ i.if2.true u.put-end.ensures.1,
       u.put-end.ensures.0,
     )
@@ -52,9 +52,9 @@ returns-3 c =
     let i = s.before.before.before in
     let start = i.before.before.before.before.before in
     let a = start.args in (
-      close-some a.from.at (nightIn a.state.now) a.from.over a.room.now a.from.begun
+      close-some a.from.at (night_in a.state.now) a.from.over a.room.now a.from.begun
           start.requires.0 i.before.if1.false (take u.put.result u.put.new.0)
-          s.step.result (nightIn s.step.new.1.0) i.if2.false s.step.ensures u.put.ensures.1,
+          s.step.result (night_in s.step.new.1.0) i.if2.false s.step.ensures u.put.ensures.1,
       u.put.ensures.0,
     )
 
@@ -65,7 +65,7 @@ close_spec =
     returns
     put-end-requires
     same_length
-    returns-2
+    returns_2
     slice-aggregate-step
     step-requires
     put-requires

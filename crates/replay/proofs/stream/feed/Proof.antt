@@ -3,17 +3,17 @@ use mathlib.Core.Path.{◌≡◌, refl, ◌∙◌}
 use Prim.Native.Nat.{◌+◌, ◌-◌, ◌*◌, ◌≤◌}
 use native.Mathlib.Omega.{arith}
 use lib.ListN.{length, take, drop}
-use Rattle.night.specs.Step.{nightIn}
+use Rattle.night.specs.Step.{night_in}
 use Rattle.replay.specs.Stream.{stream, after, fed}
 use Rattle.replay.specs.Room.{Begun}
-use Rattle.replay.proofs.RoomLaws.{piece-turn, piece-over, piece-end, Run, run-of, run-asks, run-closer, run-lines, run-numbers, length_run, up_to, up-to-end, at-piece-end}
+use Rattle.replay.proofs.RoomLaws.{piece-turn, piece-over, piece-end, Run, run_of_lem, run-asks, run-closer, run-lines, run-numbers, length_run, up_to, up_to_end, at_piece_end}
 use Rattle.replay.proofs.stream.feed.Statement.{statement}
 use Rattle.replay.proofs.stream.feed.Tie as tie
 
 abbrev invariant-loop : tie.invariant-loop
 invariant-loop state₀ room₀ piece text₀ h₀ i₀ state room text h i =
-    (fed (stream h₀.at (nightIn state₀) (take h₀.begun room₀) h₀.over) piece
-    ≡ after (take h.end text) (fed (stream h.at (nightIn state) (take h.begun room) h.over) (drop i piece)))
+    (fed (stream h₀.at (night_in state₀) (take h₀.begun room₀) h₀.over) piece
+    ≡ after (take h.end text) (fed (stream h.at (night_in state) (take h.begun room) h.over) (drop i piece)))
     × (i ≤ length piece)
     × (h.end ≤ 42 * i)
     × (h.at ≤ h₀.at + i)
@@ -32,7 +32,7 @@ fit : (g : tie.After-least invariant-loop decreases-loop)
     Run l.i g.least.result (length a.piece.now) l.h.begun g.before.wanted-of.result)
 fit g =
     let l = g.before.before.before.before.before.loop in
-    run-of _ _ _ _ _ _ g.before.before.before.before.loop-test.true g.least.ensures.0 g.least.ensures.1.0
+    run_of_lem _ _ _ _ _ _ g.before.before.before.before.loop-test.true g.least.ensures.0 g.least.ensures.1.0
     g.before.wanted-of.ensures.0 l.invariant.4.partly g.least.ensures.1.1
 
 loop-holds : tie.Need-loop-init invariant-loop decreases-loop
@@ -52,9 +52,9 @@ returns c =
     let st = c.before.before.before.before.before.before.before in
     let l = c.before.before.loop in
     let n = length st.args.piece.now in (
-      piece-over st.args.piece.now l.i _ (take l.h.end l.text) l.h.at (nightIn l.state)
+      piece-over st.args.piece.now l.i _ (take l.h.end l.text) l.h.at (night_in l.state)
           (take l.h.begun l.room) l.h.over l.invariant.0 c.if1.true,
-      (up-to-end _ _ l.i n l.invariant.1 l.invariant.3, (at-piece-end l.i n _ _ _ l.invariant.1 l.invariant.2 st.requires.1.0 l.invariant.7, l.invariant.4)),
+      (up_to_end _ _ l.i n l.invariant.1 l.invariant.3, (at_piece_end l.i n _ _ _ l.invariant.1 l.invariant.2 st.requires.1.0 l.invariant.7, l.invariant.4)),
     )
 
 wanted-of-requires : tie.Need-wanted-of-requires invariant-loop decreases-loop
@@ -104,10 +104,10 @@ loop-again c =
     let st = g.before.before.before.before.before.before.before.before.before.before in
     let e = t.ensures in (
       piece-turn st.args.piece.now l.i (l.i + k) (up_to l.i k) _ (take l.h.end l.text) l.h.at
-          (nightIn l.state)
+          (night_in l.state)
           (take l.h.begun l.room) l.h.over l.invariant.0 g.before.before.before.if1.false
           (take t.result.end t.new.1.1.1.1.1.1.0)
-          (stream t.result.at (nightIn t.new.1.1.1.0) (take t.result.begun t.new.1.1.1.1.0) t.result.over)
+          (stream t.result.at (night_in t.new.1.1.1.0) (take t.result.begun t.new.1.1.1.1.0) t.result.over)
           e.0,
       (fit g).rest,
       run-lines (fit g) _ _ l.invariant.2 e.1.1.0,
@@ -127,14 +127,14 @@ same-length-5 c = c.before.loop.invariant.6
 same-length-6 : tie.Need-same-length-6 invariant-loop decreases-loop
 same-length-6 c = c.before.loop.invariant.7
 
-returns-2 : tie.Need-returns-2 invariant-loop decreases-loop
-returns-2 c =
+returns_2 : tie.Need-returns-2 invariant-loop decreases-loop
+returns_2 c =
     let st = c.before.before.before.before.before.before in
     let l = c.before.loop in
     let n = length st.args.piece.now in (
-      piece-end st.args.piece.now l.i _ (take l.h.end l.text) l.h.at (nightIn l.state)
+      piece-end st.args.piece.now l.i _ (take l.h.end l.text) l.h.at (night_in l.state)
           (take l.h.begun l.room) l.h.over l.invariant.0 (omega arith),
-      (up-to-end _ _ l.i n l.invariant.1 l.invariant.3, (at-piece-end l.i n _ _ _ l.invariant.1 l.invariant.2 st.requires.1.0 l.invariant.7, l.invariant.4)),
+      (up_to_end _ _ l.i n l.invariant.1 l.invariant.3, (at_piece_end l.i n _ _ _ l.invariant.1 l.invariant.2 st.requires.1.0 l.invariant.7, l.invariant.4)),
     )
 
 pub feed-spec : {M : Type 1} → statement M
@@ -162,4 +162,4 @@ feed-spec =
     same-length-4
     same-length-5
     same-length-6
-    returns-2)
+    returns_2)

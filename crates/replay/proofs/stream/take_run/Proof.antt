@@ -3,8 +3,8 @@ use mathlib.Core.Path.{sym}
 use native.Mathlib.Omega.{arith}
 use lib.ListN.{take}
 use lib.Seq.{length-take-le}
-use Rattle.night.specs.Step.{nightIn}
-use Rattle.replay.proofs.RoomLaws.{run-part, run-begun, run-whole, none-begun, in-room, in-new-room, still-roomy, up_to, le_refl}
+use Rattle.night.specs.Step.{night_in}
+use Rattle.replay.proofs.RoomLaws.{run-part, run-begun, run-whole, none_begun, in-room, in-new-room, still_roomy, up_to, le_refl}
 use Rattle.replay.proofs.stream.take_run.Statement.{statement}
 use Rattle.replay.proofs.stream.take_run.Tie as tie
 
@@ -29,13 +29,13 @@ returns c =
     let m = c.before.before.before.before.before in
     let a = m.before.before.before.before.before.before.args in
     let p = m.before.before.before.before.before.before.requires in (
-      run-part a.at (nightIn a.state.now) a.room.now a.run.now a.begun (take a.end a.text.now)
+      run-part a.at (night_in a.state.now) a.room.now a.run.now a.begun (take a.end a.text.now)
           p.1.0 (in-room _ _ _ p.0 p.1.1.0) p.1.1.1.0 _ m.copy-to.ensures _ c.before.wanted-of.ensures.0 c.if1.true,
       (
         up_to _ 1,
         (
           up_to _ 42,
-          run-begun a.at (nightIn a.state.now) a.room.now a.run.now a.begun (take a.end a.text.now)
+          run-begun a.at (night_in a.state.now) a.room.now a.run.now a.begun (take a.end a.text.now)
               p.1.0 (in-room _ _ _ p.0 p.1.1.0) p.1.1.1.0 _ m.copy-to.ensures _ c.before.wanted-of.ensures.0
               c.if1.true p.0,
         ),
@@ -75,19 +75,19 @@ same-length-3 c = c.before.before.before.before.before.before.before.before.befo
 same-length-4 : tie.Need-same-length-4
 same-length-4 c = c.before.before.before.put.auto.0
 
-returns-2 : tie.Need-returns-2
-returns-2 c =
+returns_2 : tie.Need-returns-2
+returns_2 c =
     let u = c.before.before.before in
     let s = u.before.before.before.before in
     let i = s.before.before.before in
     let m = i.before.before.before.before.before in
     let a = m.before.before.before.before.before.before.args in
     let p = m.before.before.before.before.before.before.requires in (
-      run-whole a.at (nightIn a.state.now) a.room.now a.run.now a.begun (take a.end a.text.now)
+      run-whole a.at (night_in a.state.now) a.room.now a.run.now a.begun (take a.end a.text.now)
           p.1.0 (in-room _ _ _ p.0 p.1.1.0) p.1.1.1.0 _ m.copy-to.ensures _ i.before.wanted-of.ensures.0 i.if1.false
-          s.step.result (nightIn s.step.new.1.0) c.is-end.result
+          s.step.result (night_in s.step.new.1.0) c.is-end.result
           (take u.put.result u.put.new.0) s.step.ensures u.put.ensures.1 c.is-end.ensures,
-      (le_refl _, (u.put.ensures.0, none-begun _ (still-roomy _ _ p.0 m.copy-to.auto.0))),
+      (le_refl _, (u.put.ensures.0, none_begun _ (still_roomy _ _ p.0 m.copy-to.auto.0))),
     )
 
 pub take-run-spec : {M : Type 1} → statement M
@@ -108,4 +108,4 @@ take-run-spec =
     same-length-2
     same-length-3
     same-length-4
-    returns-2)
+    returns_2)

@@ -19,8 +19,8 @@ wide-requires c κs = tt
 add-result : tie.Need-overflow-add-result
 add-result c = search rules
 
-returns-2 : tie.Need-returns-2
-returns-2 c =
+returns_2 : tie.Need-returns-2
+returns_2 c =
     let i = c.before.before in (
       ap (λ (k : ℕ). 2 + k) (c.wide.ensures ∙ c.before.read-u16-le.ensures)
           ∙ room-told _ _ i.before.before.requires (omega (arith, i.if1.false)),
@@ -28,4 +28,4 @@ returns-2 c =
     )
 
 pub wanted-of-spec : {M : Type 1} → statement M
-wanted-of-spec = tie.close (tie.spec returns read-u16-le-requires wide-requires add-result returns-2)
+wanted-of-spec = tie.close (tie.spec returns read-u16-le-requires wide-requires add-result returns_2)

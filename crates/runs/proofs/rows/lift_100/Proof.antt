@@ -6,7 +6,7 @@ use native.Mathlib.Nat.{add-zero, zero-add, sub_self, sub-zero}
 use native.Mathlib.Omega.{arith}
 use lib.ListN.{length, get_or, set, length-set}
 use Rattle.octet.specs.Part.{part, splice}
-use Rattle.octet.proofs.PartLaws.{splice-nil}
+use Rattle.octet.proofs.PartLaws.{splice_nil}
 use Rattle.runs.proofs.TurnLaws.{up_turn}
 use Rattle.runs.proofs.rows.lift_100.Statement.{statement}
 use Rattle.runs.proofs.rows.lift_100.Tie as tie
@@ -22,7 +22,7 @@ loop-holds c =
     let s = c.args.s.now in
     let end = 100 + c.args.n in
     let none = ap (λ (j : ℕ). splice end (part (0 + c.args.n) j s) s) (sub_self c.args.n) in
-    (omega arith, sym (none ∙ splice-nil end s), refl)
+    (omega arith, sym (none ∙ splice_nil end s), refl)
 
 sub-i : tie.Need-overflow-sub-i invariant-loop decreases-loop
 sub-i c = omega arith

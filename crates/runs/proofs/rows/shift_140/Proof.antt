@@ -6,7 +6,7 @@ use native.Mathlib.Nat.{zero-add}
 use native.Mathlib.Omega.{arith}
 use lib.ListN.{length, get_or, set, length-set}
 use Rattle.octet.specs.Part.{part, splice}
-use Rattle.octet.proofs.PartLaws.{splice-nil}
+use Rattle.octet.proofs.PartLaws.{splice_nil}
 use Rattle.runs.proofs.TurnLaws.{down_turn}
 use Rattle.runs.proofs.rows.shift_140.Statement.{statement}
 use Rattle.runs.proofs.rows.shift_140.Tie as tie
@@ -18,7 +18,7 @@ abbrev decreases-loop : tie.decreases-loop
 decreases-loop s₀ n i₀ s i = n - i
 
 loop-holds : tie.Need-loop-init invariant-loop decreases-loop
-loop-holds c = (omega arith, sym (splice-nil 0 c.args.s.now), refl)
+loop-holds c = (omega arith, sym (splice_nil 0 c.args.s.now), refl)
 
 add-x : tie.Need-overflow-add-x invariant-loop decreases-loop
 add-x c = omega arith

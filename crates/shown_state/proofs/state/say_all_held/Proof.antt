@@ -36,8 +36,8 @@ loop-holds c = search rules
 same-length-2 : tie.Need-same-length-2 invariant-loop decreases-loop
 same-length-2 c = search rules
 
-returns-2 : tie.Need-returns-2 invariant-loop decreases-loop
-returns-2 c = search rules
+returns_2 : tie.Need-returns-2 invariant-loop decreases-loop
+returns_2 c = search rules
 
 mul-part : tie.Need-overflow-mul-part invariant-loop decreases-loop
 mul-part c = search rules
@@ -84,7 +84,7 @@ say-all-held-spec =
     tell-requires
     loop-holds
     same-length-2
-    returns-2
+    returns_2
     mul-part
     mul-part-2
     add-part

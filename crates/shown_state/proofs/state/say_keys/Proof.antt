@@ -51,8 +51,8 @@ loop-again c = search rules
 same-length-2 : tie.Need-same-length-2 invariant-loop decreases-loop
 same-length-2 c = search rules
 
-returns-2 : tie.Need-returns-2 invariant-loop decreases-loop
-returns-2 c = search rules
+returns_2 : tie.Need-returns-2 invariant-loop decreases-loop
+returns_2 c = search rules
 
 pub say-keys-spec : {M : Type 1} → statement M
 say-keys-spec =
@@ -74,4 +74,4 @@ say-keys-spec =
     loop-less
     loop-again
     same-length-2
-    returns-2)
+    returns_2)

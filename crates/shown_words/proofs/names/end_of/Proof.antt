@@ -23,8 +23,8 @@ returns c = search rules
 shared-slice-read-if2 : tie.Need-shared-slice-read-if2 invariant-loop decreases-loop
 shared-slice-read-if2 c = search rules
 
-returns-2 : tie.Need-returns-2 invariant-loop decreases-loop
-returns-2 c = search rules
+returns_2 : tie.Need-returns-2 invariant-loop decreases-loop
+returns_2 c = search rules
 
 shared-slice-read-if3 : tie.Need-shared-slice-read-if3 invariant-loop decreases-loop
 shared-slice-read-if3 c = search rules
@@ -57,7 +57,7 @@ end-of-spec =
     shared-slice-read-if1
     returns
     shared-slice-read-if2
-    returns-2
+    returns_2
     shared-slice-read-if3
     sub-if4
     returns-3

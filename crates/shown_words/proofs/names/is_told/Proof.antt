@@ -13,8 +13,8 @@ decreases-loop names at key i₀ i = 32 - i
 returns : tie.Need-returns invariant-loop decreases-loop
 returns c = search rules
 
-returns-2 : tie.Need-returns-2 invariant-loop decreases-loop
-returns-2 c = search rules
+returns_2 : tie.Need-returns-2 invariant-loop decreases-loop
+returns_2 c = search rules
 
 sub-if3 : tie.Need-overflow-sub-if3 invariant-loop decreases-loop
 sub-if3 c = search rules
@@ -89,7 +89,7 @@ is-told-spec =
     invariant-loop
     decreases-loop
     returns
-    returns-2
+    returns_2
     sub-if3
     returns-3
     loop-holds

@@ -1,24 +1,24 @@
 -- `trace::fault::body_fits` meets its contract. Assumes nothing.
 use mathlib.Core.Path.{refl}
 use borrow.Author.Tests.{eq-eqb, ne_eqb}
-use Rattle.trace.specs.Trace.{bodyFits}
+use Rattle.trace.specs.Trace.{body_fits}
 use Rattle.trace.proofs.fault.body_fits.Statement.{statement}
 use Rattle.trace.proofs.fault.body_fits.Tie as tie
 
 returns : tie.Need-returns
-unfolding bodyFits
+unfolding body_fits
 returns c = simp (eq-eqb _ _ c.if1.true) refl
 
-returns-2 : tie.Need-returns-2
-unfolding bodyFits
-returns-2 c = simp (ne_eqb _ _ c.before.if1.false, eq-eqb _ _ c.if2.true) refl
+returns_2 : tie.Need-returns-2
+unfolding body_fits
+returns_2 c = simp (ne_eqb _ _ c.before.if1.false, eq-eqb _ _ c.if2.true) refl
 
 returns-3 : tie.Need-returns-3
-unfolding bodyFits
+unfolding body_fits
 returns-3 c = simp (ne_eqb _ _ c.before.before.if1.false, ne_eqb _ _ c.before.if2.false, eq-eqb _ _ c.if3.true) refl
 
 returns-4 : tie.Need-returns-4
-unfolding bodyFits
+unfolding body_fits
 returns-4 c =
     simp (
       ne_eqb _ _ c.before.before.before.if1.false,
@@ -28,7 +28,7 @@ returns-4 c =
     ) refl
 
 returns-5 : tie.Need-returns-5
-unfolding bodyFits
+unfolding body_fits
 returns-5 c =
     simp (
       ne_eqb _ _ c.before.before.before.if1.false,
@@ -38,4 +38,4 @@ returns-5 c =
     ) refl
 
 pub body-fits-spec : {M : Type 1} → statement M
-body-fits-spec = tie.close (tie.spec returns returns-2 returns-3 returns-4 returns-5)
+body-fits-spec = tie.close (tie.spec returns returns_2 returns-3 returns-4 returns-5)

@@ -6,7 +6,7 @@ use borrow.Author.Tests.{not-true, not-false}
 use borrow.Author.Rules.{rules}
 use Rattle.refusal.specs.Table.{first_of}
 use Rattle.trace.specs.Fault.{misplaced}
-use Rattle.trace.specs.Trace.{length_of, kind_of, bodyFits, isKind}
+use Rattle.trace.specs.Trace.{length_of, kind_of, body_fits, is_kind}
 use Rattle.trace.proofs.FaultLaws.{fault-short, fault-cut, fault-body, fault-kind, fault-placed}
 use Rattle.trace.proofs.fault.fault_of.Statement.{statement}
 use Rattle.trace.proofs.fault.fault_of.Tie as tie
@@ -16,14 +16,14 @@ whole : (c : tie.Else2) → (let r = c.before.before.before.before.args.piece.no
 whole c = (c.if2.false ∙ ap (λ (n : ℕ). 2 + n) c.before.read-u16-le.ensures, search rules)
 
 fitted : (c : tie.After-body-fits)
-    → (let r = c.before.before.before.before.before.before.args.piece.now in c.body-fits.result ≡ bodyFits (kind_of r) (length r - 4))
+    → (let r = c.before.before.before.before.before.before.args.piece.now in c.body-fits.result ≡ body_fits (kind_of r) (length r - 4))
 fitted c =
     let start = c.before.before.before.before.before.before in
-    c.body-fits.ensures ∙ ap (λ (k : ℕ). bodyFits k (length start.args.piece.now - 4)) c.before.read-u16-le2.ensures
+    c.body-fits.ensures ∙ ap (λ (k : ℕ). body_fits k (length start.args.piece.now - 4)) c.before.read-u16-le2.ensures
 
 known : (c : tie.After-is-kind)
-    → c.is-kind.result ≡ isKind (kind_of c.before.before.before.before.before.before.before.before.args.piece.now)
-known c = c.is-kind.ensures ∙ ap isKind c.before.before.before.read-u16-le2.ensures
+    → c.is-kind.result ≡ is_kind (kind_of c.before.before.before.before.before.before.before.before.args.piece.now)
+known c = c.is-kind.ensures ∙ ap is_kind c.before.before.before.read-u16-le2.ensures
 
 returns : tie.Need-returns
 returns c = fault-short _ _ c.if1.true
@@ -37,8 +37,8 @@ cast-told c = search rules
 add-if2 : tie.Need-overflow-add-if2
 add-if2 c = search rules
 
-returns-2 : tie.Need-returns-2
-returns-2 c = fault-cut _ _ (λ e. c.if2.true (e ∙ ap (λ (n : ℕ). 2 + n) (sym c.before.read-u16-le.ensures)))
+returns_2 : tie.Need-returns-2
+returns_2 c = fault-cut _ _ (λ e. c.if2.true (e ∙ ap (λ (n : ℕ). 2 + n) (sym c.before.read-u16-le.ensures)))
 
 read-u16-le-requires-2 : tie.Need-read-u16-le-requires-2
 read-u16-le-requires-2 c κs = search rules
@@ -80,7 +80,7 @@ fault-of-spec =
     read-u16-le-requires
     cast-told
     add-if2
-    returns-2
+    returns_2
     read-u16-le-requires-2
     body-fits-requires
     returns-3

@@ -10,9 +10,9 @@ returns : tie.Need-returns
 unfolding first_of
 returns c = simp (c.before.if1.true, ne_eqb _ _ c.if2.true) refl
 
-returns-2 : tie.Need-returns-2
+returns_2 : tie.Need-returns-2
 unfolding first_of
-returns-2 c = simp (c.before.if1.true, eq-eqb _ _ c.if2.false) refl
+returns_2 c = simp (c.before.if1.true, eq-eqb _ _ c.if2.false) refl
 
 returns-3 : tie.Need-returns-3
 unfolding first_of
@@ -23,4 +23,4 @@ unfolding first_of
 returns-4 c = simp (ne_eqb _ _ c.before.if1.false, lt-ltb 0 c.before.before.args.at (omega arith), ne_eqb _ _ c.if3.false) refl
 
 pub misplaced-spec : {M : Type 1} → statement M
-misplaced-spec = tie.close (tie.spec returns returns-2 returns-3 returns-4)
+misplaced-spec = tie.close (tie.spec returns returns_2 returns-3 returns-4)

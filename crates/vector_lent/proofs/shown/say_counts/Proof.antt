@@ -34,8 +34,8 @@ slice-aggregate-text c = search rules
 text-requires : tie.Need-text-requires invariant-loop decreases-loop
 text-requires c κs = search rules
 
-returns-2 : tie.Need-returns-2 invariant-loop decreases-loop
-returns-2 c = search rules
+returns_2 : tie.Need-returns-2 invariant-loop decreases-loop
+returns_2 c = search rules
 
 pub say-counts-spec : {M : Type 1} → statement M
 say-counts-spec =
@@ -51,4 +51,4 @@ say-counts-spec =
     returns
     slice-aggregate-text
     text-requires
-    returns-2)
+    returns_2)

@@ -32,8 +32,8 @@ returns c = search rules
 shared-slice-read-if2 : tie.Need-shared-slice-read-if2 invariant-loop decreases-loop
 shared-slice-read-if2 c = omega arith
 
-returns-2 : tie.Need-returns-2 invariant-loop decreases-loop
-returns-2 c = search rules
+returns_2 : tie.Need-returns-2 invariant-loop decreases-loop
+returns_2 c = search rules
 
 slice-aggregate-text : tie.Need-slice-aggregate-text invariant-loop decreases-loop
 slice-aggregate-text c = search rules
@@ -72,7 +72,7 @@ searches-spec =
     part-requires
     returns
     shared-slice-read-if2
-    returns-2
+    returns_2
     slice-aggregate-text
     text-requires
     part-requires-2

@@ -22,8 +22,8 @@ returns c = search rules
 loop-holds : tie.Need-loop-init invariant-loop decreases-loop
 loop-holds c = search rules
 
-returns-2 : tie.Need-returns-2 invariant-loop decreases-loop
-returns-2 c = search rules
+returns_2 : tie.Need-returns-2 invariant-loop decreases-loop
+returns_2 c = search rules
 
 slice-aggregate-text-2 : tie.Need-slice-aggregate-text-2 invariant-loop decreases-loop
 slice-aggregate-text-2 c = search rules
@@ -59,7 +59,7 @@ say-ids-spec =
     text-requires
     returns
     loop-holds
-    returns-2
+    returns_2
     slice-aggregate-text-2
     text-requires-2
     mul-say-id

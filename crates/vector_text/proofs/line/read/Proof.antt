@@ -33,8 +33,8 @@ array-read-if2 c = search rules
 same-length-2 : tie.Need-same-length-2 invariant-loop decreases-loop
 same-length-2 c = search rules
 
-returns-2 : tie.Need-returns-2 invariant-loop decreases-loop
-returns-2 c = search rules
+returns_2 : tie.Need-returns-2 invariant-loop decreases-loop
+returns_2 c = search rules
 
 array-read-room : tie.Need-array-read-room invariant-loop decreases-loop
 array-read-room c = search rules
@@ -70,7 +70,7 @@ read_spec =
     returns
     array-read-if2
     same-length-2
-    returns-2
+    returns_2
     array-read-room
     slice-write-room
     add-len

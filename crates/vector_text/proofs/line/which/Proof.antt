@@ -22,8 +22,8 @@ returns c = search rules
 is-named-requires : tie.Need-is-named-requires invariant-loop decreases-loop
 is-named-requires c κs = search rules
 
-returns-2 : tie.Need-returns-2 invariant-loop decreases-loop
-returns-2 c = search rules
+returns_2 : tie.Need-returns-2 invariant-loop decreases-loop
+returns_2 c = search rules
 
 add-i : tie.Need-overflow-add-i invariant-loop decreases-loop
 add-i c = search rules
@@ -47,7 +47,7 @@ which-spec =
     word-requires
     returns
     is-named-requires
-    returns-2
+    returns_2
     add-i
     loop-less
     loop-again

@@ -45,8 +45,8 @@ end-of-requires-2 c κs = search rules
 part-requires : tie.Need-part-requires invariant-loop decreases-loop
 part-requires c κs = search rules
 
-returns-2 : tie.Need-returns-2 invariant-loop decreases-loop
-returns-2 c = search rules
+returns_2 : tie.Need-returns-2 invariant-loop decreases-loop
+returns_2 c = search rules
 
 pub word-spec : {M : Type 1} → statement M
 word-spec =
@@ -66,4 +66,4 @@ word-spec =
     loop-again
     end-of-requires-2
     part-requires
-    returns-2)
+    returns_2)

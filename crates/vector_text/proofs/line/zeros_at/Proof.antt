@@ -19,8 +19,8 @@ returns c = search rules
 sub-if2 : tie.Need-overflow-sub-if2 invariant-loop decreases-loop
 sub-if2 c = search rules
 
-returns-2 : tie.Need-returns-2 invariant-loop decreases-loop
-returns-2 c = search rules
+returns_2 : tie.Need-returns-2 invariant-loop decreases-loop
+returns_2 c = search rules
 
 mul-n : tie.Need-overflow-mul-n invariant-loop decreases-loop
 mul-n c = search rules
@@ -61,7 +61,7 @@ zeros-at-spec =
     loop-holds
     returns
     sub-if2
-    returns-2
+    returns_2
     mul-n
     add-digit
     shared-slice-read-digit

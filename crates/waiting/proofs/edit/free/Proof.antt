@@ -1,7 +1,7 @@
 -- `waiting::edit::free` meets its contract: a place freed is a row removed. Assumes nothing.
 use mathlib.Core.Path.{ap₂, ◌∙◌}
 use Rattle.table.specs.Rows.{rows, bytes_of}
-use Rattle.waiting.proofs.EditLaws.{freed-remove}
+use Rattle.waiting.proofs.EditLaws.{freed_remove}
 use borrow.Author.Rules.{rules}
 use Rattle.waiting.proofs.edit.free.Statement.{statement}
 use Rattle.waiting.proofs.edit.free.Tie as tie
@@ -16,7 +16,7 @@ returns : tie.Need-returns
 returns c =
     let start = c.before.before.before.before.before in
     let a = start.args in
-    c.before.before.remove-row.ensures ∙ ap₂ bytes_of start.requires.1 (freed-remove a.at (rows 140 a.used a.table.now))
+    c.before.before.remove-row.ensures ∙ ap₂ bytes_of start.requires.1 (freed_remove a.at (rows 140 a.used a.table.now))
 
 pub free_spec : {M : Type 1} → statement M
 free_spec = tie.close (tie.spec remove-row-requires same_length returns)

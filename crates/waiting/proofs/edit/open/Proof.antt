@@ -4,9 +4,9 @@ use native.Mathlib.Omega.{arith}
 use lib.ListN.{length}
 use Rattle.table.specs.Rows.{rows, bytes_of}
 use Rattle.table.proofs.RowLaws.{rows-length}
-use Rattle.waiting.specs.Place.{newPlace}
+use Rattle.waiting.specs.Place.{new_place}
 use Rattle.waiting.proofs.NewLaws.{new-length, new-id}
-use Rattle.waiting.proofs.EditLaws.{opened-at, slot-few}
+use Rattle.waiting.proofs.EditLaws.{opened_at, slot_few}
 use borrow.Author.Rules.{rules}
 use Rattle.waiting.proofs.edit.open.Statement.{statement}
 use Rattle.waiting.proofs.edit.open.Tie as tie
@@ -27,7 +27,7 @@ insert-row-requires : tie.Need-insert-row-requires
 insert-row-requires c κs =
     let start = c.before.before.before.before.before.before.before.before.before.before in
     let a = start.args in
-    let few = slot-few a.id (rows 140 a.used a.table.now) in
+    let few = slot_few a.id (rows 140 a.used a.table.now) in
     let long = new-length a.id a.kind a.tries a.key.now a.held.now start.requires.3 start.requires.4 in (
       omega (arith, c.before.before.before.before.before.slot.ensures, few, rows-length 140 a.used a.table.now),
       ap length c.before.before.before.write-place.ensures ∙ long,
@@ -48,8 +48,8 @@ returns c =
     let id = new-id a.id a.kind a.tries a.key.now a.held.now start.requires.3 start.requires.4 (omega arith) in
     c.before.before.insert-row.ensures
     ∙ ap₂ bytes_of start.requires.1
-    (opened-at a.id slotted.slot.result written.write-place.new.0
-    (newPlace a.id a.kind a.tries a.key.now a.held.now) ps slotted.slot.ensures id written.write-place.ensures)
+    (opened_at a.id slotted.slot.result written.write-place.new.0
+    (new_place a.id a.kind a.tries a.key.now a.held.now) ps slotted.slot.ensures id written.write-place.ensures)
 
 pub open_spec : {M : Type 1} → statement M
 open_spec =

@@ -4,10 +4,10 @@ use mathlib.Core.List.{List}
 use Prim.Native.Nat.{ℕ, ◌+◌, ◌*◌, ◌-◌}
 use native.Mathlib.Omega.{arith}
 use lib.ListN.{get_or, set}
-use Rattle.octet.specs.Number.{digitsLE}
+use Rattle.octet.specs.Number.{digits_le}
 use Rattle.octet.specs.Part.{splice}
 use Rattle.waiting.proofs.PlaceLaws.{id-at}
-use Rattle.waiting.proofs.TickLaws.{is-spent, not-spent, kept-place}
+use Rattle.waiting.proofs.TickLaws.{is-spent, not-spent, kept_place}
 use borrow.Author.Rules.{rules}
 use Rattle.waiting.proofs.round.tick_place.Statement.{statement}
 use Rattle.waiting.proofs.round.tick_place.Tie as tie
@@ -60,8 +60,8 @@ same_length c = search rules
 same-length-2 : tie.Need-same-length-2
 same-length-2 c = search rules
 
-returns-2 : tie.Need-returns-2
-returns-2 c =
+returns_2 : tie.Need-returns-2
+returns_2 c =
     let listed = c.before.before.before.before.before.before in
     let read = listed.before.before in
     let kept = read.before.before in
@@ -73,8 +73,8 @@ returns-2 c =
     let same = read.read-u32-le.ensures ∙ sym (id-at from t) in
     let moved = ap (λ (l : List ℕ). set l (to + 5) (get_or t (from + 5) 0 - 1)) c.before.before.move-place.ensures in (
       rw stays refl,
-      rw stays (moved ∙ kept-place from to t (omega arith) (omega arith)),
-      rw stays (listed.write-u32-le.ensures ∙ ap (λ (n : ℕ). splice (4 * a.kept) (digitsLE 256 4 n) a.output.now) same),
+      rw stays (moved ∙ kept_place from to t (omega arith) (omega arith)),
+      rw stays (listed.write-u32-le.ensures ∙ ap (λ (n : ℕ). splice (4 * a.kept) (digits_le 256 4 n) a.output.now) same),
     )
 
 pub tick-place-spec : {M : Type 1} → statement M
@@ -96,4 +96,4 @@ tick-place-spec =
     add-result
     same_length
     same-length-2
-    returns-2)
+    returns_2)

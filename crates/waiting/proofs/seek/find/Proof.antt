@@ -7,7 +7,7 @@ use Rattle.table.specs.Rows.{rows}
 use Rattle.table.specs.Seek.{seek}
 use Rattle.waiting.specs.Seek.{is_at}
 use Rattle.table.proofs.SeekLaws.{seek-here, seek-on, seek-end}
-use Rattle.waiting.proofs.WalkLaws.{at-is}
+use Rattle.waiting.proofs.WalkLaws.{at_is}
 use Rattle.waiting.proofs.seek.find.Statement.{statement}
 use Rattle.waiting.proofs.seek.find.Tie as tie
 
@@ -38,7 +38,7 @@ returns c =
     let a = c.before.before.before.before.before.before.args in
     let l = c.before.before.before.before.loop in
     sym (l.invariant.1 ∙ seek-here 140 a.used a.table.now l.at (is_at a.id a.kind) (omega arith)
-    (at-is a.id a.kind (140 * l.at) a.table.now c.before.before.read-u32-le.ensures ∙ c.if1.true))
+    (at_is a.id a.kind (140 * l.at) a.table.now c.before.before.read-u32-le.ensures ∙ c.if1.true))
 
 add_at : tie.Need-overflow-add-at invariant-loop decreases-loop
 add_at c = omega arith
@@ -52,11 +52,11 @@ loop-again c =
     let l = c.before.before.before.before.loop in (
       omega arith,
       l.invariant.1 ∙ seek-on 140 a.used a.table.now l.at (is_at a.id a.kind) (omega arith)
-          (at-is a.id a.kind (140 * l.at) a.table.now c.before.before.read-u32-le.ensures ∙ c.if1.false),
+          (at_is a.id a.kind (140 * l.at) a.table.now c.before.before.read-u32-le.ensures ∙ c.if1.false),
     )
 
-returns-2 : tie.Need-returns-2 invariant-loop decreases-loop
-returns-2 c =
+returns_2 : tie.Need-returns-2 invariant-loop decreases-loop
+returns_2 c =
     let a = c.before.before.before.args in
     let l = c.before.loop in
     sym (l.invariant.1 ∙ seek-end 140 a.used a.table.now l.at (is_at a.id a.kind) (omega arith))
@@ -76,4 +76,4 @@ find_spec =
     add_at
     loop-less
     loop-again
-    returns-2)
+    returns_2)

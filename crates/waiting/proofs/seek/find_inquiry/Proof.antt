@@ -5,7 +5,7 @@ use native.Mathlib.Omega.{arith}
 use lib.ListN.{drop}
 use Rattle.key.specs.Number.{key_at}
 use Rattle.table.specs.Rows.{rows}
-use Rattle.waiting.specs.Form.{isInquiry}
+use Rattle.waiting.specs.Form.{is_inquiry}
 use Rattle.table.specs.Seek.{seek}
 use Rattle.table.proofs.SeekLaws.{seek-here, seek-on, seek-end}
 use Rattle.waiting.proofs.seek.find_inquiry.Statement.{statement}
@@ -14,8 +14,8 @@ use Rattle.waiting.proofs.seek.find_inquiry.Tie as tie
 abbrev invariant-loop : tie.invariant-loop
 invariant-loop table start used key place at₀ at =
     (at ≤ used)
-    × (seek (isInquiry (key_at place key)) start (drop start (rows 140 used table))
-    ≡ seek (isInquiry (key_at place key)) at (drop at (rows 140 used table)))
+    × (seek (is_inquiry (key_at place key)) start (drop start (rows 140 used table))
+    ≡ seek (is_inquiry (key_at place key)) at (drop at (rows 140 used table)))
 
 abbrev decreases-loop : tie.decreases-loop
 decreases-loop table start used key place at₀ at = used - at
@@ -34,7 +34,7 @@ returns c =
     let l = c.before.before.before in
     let a = l.before.before.before.args in
     let k = key_at a.place a.key.now in
-    sym (l.loop.invariant.1 ∙ seek-here 140 a.used a.table.now l.loop.at (isInquiry k) (omega arith)
+    sym (l.loop.invariant.1 ∙ seek-here 140 a.used a.table.now l.loop.at (is_inquiry k) (omega arith)
     (sym c.before.is-inquiry.ensures ∙ c.if1.true))
 
 add_at : tie.Need-overflow-add-at invariant-loop decreases-loop
@@ -49,15 +49,15 @@ loop-again c =
     let a = l.before.before.before.args in
     let k = key_at a.place a.key.now in (
       omega arith,
-      l.loop.invariant.1 ∙ seek-on 140 a.used a.table.now l.loop.at (isInquiry k) (omega arith)
+      l.loop.invariant.1 ∙ seek-on 140 a.used a.table.now l.loop.at (is_inquiry k) (omega arith)
           (sym c.before.is-inquiry.ensures ∙ c.if1.false),
     )
 
-returns-2 : tie.Need-returns-2 invariant-loop decreases-loop
-returns-2 c =
+returns_2 : tie.Need-returns-2 invariant-loop decreases-loop
+returns_2 c =
     let a = c.before.before.before.before.args in
     let l = c.before.loop in
-    sym (l.invariant.1 ∙ seek-end 140 a.used a.table.now l.at (isInquiry (key_at a.place a.key.now)) (omega arith))
+    sym (l.invariant.1 ∙ seek-end 140 a.used a.table.now l.at (is_inquiry (key_at a.place a.key.now)) (omega arith))
 
 pub find-inquiry-spec : {M : Type 1} → statement M
 find-inquiry-spec =
@@ -72,4 +72,4 @@ find-inquiry-spec =
     add_at
     loop-less
     loop-again
-    returns-2)
+    returns_2)

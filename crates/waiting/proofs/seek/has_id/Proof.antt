@@ -7,14 +7,14 @@ use borrow.Author.Tests.{eq-eqb, ne_eqb}
 use Rattle.octet.specs.Part.{part}
 use Rattle.table.specs.Rows.{rows, any_of}
 use Rattle.waiting.specs.Place.{id_of}
-use Rattle.waiting.specs.Seek.{hasId}
+use Rattle.waiting.specs.Seek.{has_id}
 use Rattle.waiting.proofs.PlaceLaws.{id-at}
-use Rattle.table.proofs.SeekLaws.{any_here, any-on, any-end}
+use Rattle.table.proofs.SeekLaws.{any_here, any-on, any_end}
 use Rattle.waiting.proofs.seek.has_id.Statement.{statement}
 use Rattle.waiting.proofs.seek.has_id.Tie as tie
 
 abbrev invariant-loop : tie.invariant-loop
-invariant-loop table used id at₀ at = (at ≤ used) × (any_of (hasId id) (rows 140 used table) ≡ any_of (hasId id) (drop at (rows 140 used table)))
+invariant-loop table used id at₀ at = (at ≤ used) × (any_of (has_id id) (rows 140 used table) ≡ any_of (has_id id) (drop at (rows 140 used table)))
 
 abbrev decreases-loop : tie.decreases-loop
 decreases-loop table used id at₀ at = used - at
@@ -33,7 +33,7 @@ returns c =
     let a = c.before.before.before.before.before.args in
     let l = c.before.before.before.loop in
     let is = id-at (140 * l.at) a.table.now ∙ sym c.before.read-u32-le.ensures in
-    sym (l.invariant.1 ∙ any_here 140 a.used a.table.now l.at (hasId a.id) (omega arith)
+    sym (l.invariant.1 ∙ any_here 140 a.used a.table.now l.at (has_id a.id) (omega arith)
     (eq-eqb (id_of (part (140 * l.at) 140 a.table.now)) a.id (is ∙ c.if1.true)))
 
 add_at : tie.Need-overflow-add-at invariant-loop decreases-loop
@@ -48,15 +48,15 @@ loop-again c =
     let l = c.before.before.before.loop in
     let is = id-at (140 * l.at) a.table.now ∙ sym c.before.read-u32-le.ensures in (
       omega arith,
-      l.invariant.1 ∙ any-on 140 a.used a.table.now l.at (hasId a.id) (omega arith)
+      l.invariant.1 ∙ any-on 140 a.used a.table.now l.at (has_id a.id) (omega arith)
           (ne_eqb (id_of (part (140 * l.at) 140 a.table.now)) a.id (λ e. c.if1.false (sym is ∙ e))),
     )
 
-returns-2 : tie.Need-returns-2 invariant-loop decreases-loop
-returns-2 c =
+returns_2 : tie.Need-returns-2 invariant-loop decreases-loop
+returns_2 c =
     let a = c.before.before.before.args in
     let l = c.before.loop in
-    sym (l.invariant.1 ∙ any-end 140 a.used a.table.now l.at (hasId a.id) (omega arith))
+    sym (l.invariant.1 ∙ any_end 140 a.used a.table.now l.at (has_id a.id) (omega arith))
 
 pub has-id-spec : {M : Type 1} → statement M
 has-id-spec =
@@ -71,4 +71,4 @@ has-id-spec =
     add_at
     loop-less
     loop-again
-    returns-2)
+    returns_2)

@@ -5,14 +5,14 @@ use native.Mathlib.Nat.{zero-add}
 use native.Mathlib.Omega.{arith}
 use lib.ListN.{drop}
 use Rattle.table.specs.Rows.{rows}
-use Rattle.waiting.specs.Slot.{slotIn}
+use Rattle.waiting.specs.Slot.{slot_in}
 use Rattle.waiting.proofs.PlaceLaws.{id-at}
 use Rattle.waiting.proofs.WalkLaws.{slot-here, slot-on, slot-end}
 use Rattle.waiting.proofs.seek.slot.Statement.{statement}
 use Rattle.waiting.proofs.seek.slot.Tie as tie
 
 abbrev invariant-loop : tie.invariant-loop
-invariant-loop table used id at₀ at = (at ≤ used) × (slotIn id (rows 140 used table) ≡ at + slotIn id (drop at (rows 140 used table)))
+invariant-loop table used id at₀ at = (at ≤ used) × (slot_in id (rows 140 used table) ≡ at + slot_in id (drop at (rows 140 used table)))
 
 abbrev decreases-loop : tie.decreases-loop
 decreases-loop table used id at₀ at = used - at
@@ -20,7 +20,7 @@ decreases-loop table used id at₀ at = used - at
 loop-holds : tie.Need-loop-init invariant-loop decreases-loop
 loop-holds c =
     let a = c.before.args in
-    (omega arith, sym (zero-add (slotIn a.id (rows 140 a.used a.table.now))))
+    (omega arith, sym (zero-add (slot_in a.id (rows 140 a.used a.table.now))))
 
 mul-read-u32-le : tie.Need-overflow-mul-read-u32-le invariant-loop decreases-loop
 mul-read-u32-le c = omega arith
@@ -48,8 +48,8 @@ loop-again c =
     let is = id-at (140 * l.at) a.table.now ∙ sym c.before.read-u32-le.ensures in
     (omega arith, l.invariant.1 ∙ slot-on a.used a.table.now l.at a.id (omega arith) (omega (arith, is)))
 
-returns-2 : tie.Need-returns-2 invariant-loop decreases-loop
-returns-2 c =
+returns_2 : tie.Need-returns-2 invariant-loop decreases-loop
+returns_2 c =
     let a = c.before.before.before.args in
     let l = c.before.loop in
     omega (arith, l.invariant.1, slot-end a.used a.table.now l.at a.id (omega arith))
@@ -67,4 +67,4 @@ slot-spec =
     add_at
     loop-less
     loop-again
-    returns-2)
+    returns_2)

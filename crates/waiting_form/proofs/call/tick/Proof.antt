@@ -1,15 +1,15 @@
 -- `waiting_form::call::tick` meets its contract: each return follows from the tests before it, by a law of CallLaws. Assumes nothing.
-use Rattle.waiting.specs.Form.{waitingForm, usedOf}
+use Rattle.waiting.specs.Form.{waiting_form, used_of}
 use mathlib.Core.Path.{◌≡◌, sym, subst, ◌∙◌}
 use Prim.Native.Nat.{ℕ}
 use Rattle.table.specs.Rows.{Laid}
 use mathlib.Core.Bool.{true}
 use native.Mathlib.Omega.{arith}
 use borrow.Author.Tests.{not-true, not-false}
-use Rattle.own.specs.Own.{ownKeys, ownForm}
-use Rattle.waiting_form.specs.Call.{tickDone}
-use Rattle.waiting.proofs.FormLaws.{form-size, form-laid, used-few}
-use Rattle.waiting_form.proofs.FormedLaws.{bad-form, good-form}
+use Rattle.own.specs.Own.{own_keys, own_form}
+use Rattle.waiting_form.specs.Call.{tick_done}
+use Rattle.waiting.proofs.FormLaws.{form-size, form_laid, used_few}
+use Rattle.waiting_form.proofs.FormedLaws.{bad_form, good_form}
 use Rattle.waiting_form.proofs.CallLaws.{own-bad, table-bad, no_room, ticks}
 use borrow.Author.Rules.{rules}
 use Rattle.waiting_form.proofs.call.tick.Statement.{statement}
@@ -21,14 +21,14 @@ from c = c.before.before.before.before.before.before.before.before.before.before
 
 -- the table is in form where the form test said so, and its count is the table's
 counted : (c : tie.After-known-told)
-    → (waitingForm (ownKeys (from c).args.own.now) (from c).args.table.now ≡ true)
-    × (c.before.answer.given.0.0 ≡ usedOf (from c).args.table.now)
+    → (waiting_form (own_keys (from c).args.own.now) (from c).args.table.now ≡ true)
+    × (c.before.answer.given.0.0 ≡ used_of (from c).args.table.now)
 counted c =
     let a = c.before.before.before.before.before.before.before.before.before.before.args in
-    good-form (ownKeys a.own.now) a.table.now (sym c.before.before.before.form.ensures ∙ c.before.answer.given.1)
+    good_form (own_keys a.own.now) a.table.now (sym c.before.before.before.form.ensures ∙ c.before.answer.given.1)
 
 -- the own record is in form where the test let it pass
-whole : (c : tie.Else1) → ownForm c.before.before.before.before.before.args.own.now ≡ true
+whole : (c : tie.Else1) → own_form c.before.before.before.before.before.args.own.now ≡ true
 whole c = sym c.before.own-form.ensures ∙ not-false _ c.if1.false
 
 own-form-requires : tie.Need-own-form-requires
@@ -51,11 +51,11 @@ enum_told c = search rules
 same_length : tie.Need-same-length
 same_length c = search rules
 
-returns-2 : tie.Need-returns-2
-returns-2 c =
+returns_2 : tie.Need-returns-2
+returns_2 c =
     let a = c.before.before.before.before.before.before.before.before.before.args in
     sym (table-bad a.own.now a.table.now a.output.now (whole c.before.before.before.before)
-    (bad-form (ownKeys a.own.now) a.table.now (sym c.before.before.form.ensures ∙ c.enum_told.given.1)))
+    (bad_form (own_keys a.own.now) a.table.now (sym c.before.before.form.ensures ∙ c.enum_told.given.1)))
 
 same-length-2 : tie.Need-same-length-2
 same-length-2 c = search rules
@@ -71,10 +71,10 @@ tick-places-requires : tie.Need-tick-places-requires
 tick-places-requires c κs =
     let a = c.before.before.before.before.before.before.before.before.before.before.before.before.before.args in
     let good = counted c.before.before.before in (
-      omega (arith, good.1, used-few a.table.now),
-      form-size (ownKeys a.own.now) a.table.now good.0,
+      omega (arith, good.1, used_few a.table.now),
+      form-size (own_keys a.own.now) a.table.now good.0,
       omega arith,
-      subst (λ (n : ℕ). Laid 140 n a.table.now) (sym good.1) (form-laid (ownKeys a.own.now) a.table.now good.0),
+      subst (λ (n : ℕ). Laid 140 n a.table.now) (sym good.1) (form_laid (own_keys a.own.now) a.table.now good.0),
     )
 
 same-length-3 : tie.Need-same-length-3
@@ -84,7 +84,7 @@ same-length-4 : tie.Need-same-length-4
 same-length-4 c = search rules
 
 returns-4 : tie.Need-returns-4
-unfolding tickDone
+unfolding tick_done
 returns-4 c = let done = c.before.before.before.before in
     let known = done.before.before.before.before in
     let a = known.before.before.before.before.before.before.before.before.before.before.args in
@@ -102,7 +102,7 @@ tick-spec =
     enum-known-answer
     enum_told
     same_length
-    returns-2
+    returns_2
     same-length-2
     returns-3
     tick-places-requires

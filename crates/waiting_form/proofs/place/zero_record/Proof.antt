@@ -4,8 +4,8 @@ use mathlib.Core.Bool.{Bool, ◌&&◌}
 use Prim.Native.Nat.{ℕ}
 use native.Mathlib.Omega.{arith}
 use lib.Dec.{eqb}
-use Rattle.octet.specs.Part.{part, allZero}
-use Rattle.octet.proofs.TestLaws.{zero-two, zero-value}
+use Rattle.octet.specs.Part.{part, all_zero}
+use Rattle.octet.proofs.TestLaws.{zero_two, zero_value}
 use borrow.Author.Rules.{rules}
 use Rattle.waiting_form.proofs.place.zero_record.Statement.{statement}
 use Rattle.waiting_form.proofs.place.zero_record.Tie as tie
@@ -25,11 +25,11 @@ read-u32-le-requires c κs = search rules
 returns : tie.Need-returns
 returns c =
     let s = c.before.before.before.before.before.args.place.now in
-    let rest = ap (λ (n : ℕ). eqb n 0) c.read-u32-le.ensures ∙ zero-value 256 (part 136 4 s) (omega arith) in
+    let rest = ap (λ (n : ℕ). eqb n 0) c.read-u32-le.ensures ∙ zero_value 256 (part 136 4 s) (omega arith) in
     ap₂ ◌&&◌ c.before.before.before.zero-block.ensures
-    (ap₂ ◌&&◌ c.before.before.zero-pair.ensures (ap₂ ◌&&◌ c.before.zero-pair2.ensures rest ∙ sym (zero-two 120 16 4 s))
-    ∙ sym (zero-two 104 16 20 s))
-    ∙ sym (zero-two 40 64 36 s)
+    (ap₂ ◌&&◌ c.before.before.zero-pair.ensures (ap₂ ◌&&◌ c.before.zero-pair2.ensures rest ∙ sym (zero_two 120 16 4 s))
+    ∙ sym (zero_two 104 16 20 s))
+    ∙ sym (zero_two 40 64 36 s)
 
 pub zero-record-spec : {M : Type 1} → statement M
 zero-record-spec =

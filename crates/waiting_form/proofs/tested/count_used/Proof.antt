@@ -5,20 +5,20 @@ use native.Mathlib.Nat.{zero-add}
 use native.Mathlib.Omega.{arith}
 use lib.ListN.{drop}
 use Rattle.table.specs.Rows.{rows}
-use Rattle.waiting.specs.Form.{usedIn, usedOf}
+use Rattle.waiting.specs.Form.{used_in, used_of}
 use Rattle.waiting.proofs.WalkLaws.{used-here, used-on, used-end}
 use Rattle.waiting_form.proofs.tested.count_used.Statement.{statement}
 use Rattle.waiting_form.proofs.tested.count_used.Tie as tie
 
 abbrev invariant-loop : tie.invariant-loop
-invariant-loop table at₀ at = (at ≤ 16) × (usedOf table ≡ at + usedIn (drop at (rows 140 16 table)))
+invariant-loop table at₀ at = (at ≤ 16) × (used_of table ≡ at + used_in (drop at (rows 140 16 table)))
 
 abbrev decreases-loop : tie.decreases-loop
 decreases-loop table at₀ at = 16 - at
 
 loop-holds : tie.Need-loop-init invariant-loop decreases-loop
-unfolding usedOf
-loop-holds c = (omega arith, sym (zero-add (usedIn (rows 140 16 c.args.table.now))))
+unfolding used_of
+loop-holds c = (omega arith, sym (zero-add (used_in (rows 140 16 c.args.table.now))))
 
 mul-if1 : tie.Need-overflow-mul-if1 invariant-loop decreases-loop
 mul-if1 c = omega arith
@@ -47,8 +47,8 @@ loop-again c =
     let l = c.before.before.before.loop in
     (omega arith, l.invariant.1 ∙ used-on 16 t l.at (omega arith) c.if1.false)
 
-returns-2 : tie.Need-returns-2 invariant-loop decreases-loop
-returns-2 c =
+returns_2 : tie.Need-returns-2 invariant-loop decreases-loop
+returns_2 c =
     let t = c.before.before.args.table.now in
     let l = c.before.loop in
     omega (arith, l.invariant.1, used-end 16 t l.at (omega arith))
@@ -67,4 +67,4 @@ count-used-spec =
     add_at
     loop-less
     loop-again
-    returns-2)
+    returns_2)

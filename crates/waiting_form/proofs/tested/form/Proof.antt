@@ -2,19 +2,19 @@
 use Prim.Native.Nat.{◌*◌, ◌≤◌}
 use mathlib.Core.Path.{sym}
 use native.Mathlib.Omega.{arith}
-use Rattle.own.specs.Own.{ownKeys}
-use Rattle.waiting.proofs.FormLaws.{used-few}
-use Rattle.waiting_form.proofs.FormedLaws.{not-long, is-good, is-bad}
+use Rattle.own.specs.Own.{own_keys}
+use Rattle.waiting.proofs.FormLaws.{used_few}
+use Rattle.waiting_form.proofs.FormedLaws.{not_long, is-good, is-bad}
 use borrow.Author.Rules.{rules}
 use Rattle.waiting_form.proofs.tested.form.Statement.{statement}
 use Rattle.waiting_form.proofs.tested.form.Tie as tie
 
 -- the used places lie within the table
 within : (c : tie.After-count-used) → 140 * c.count-used.result ≤ 2240
-within c = omega (arith, c.count-used.ensures, used-few c.before.before.before.before.args.table.now)
+within c = omega (arith, c.count-used.ensures, used_few c.before.before.before.before.args.table.now)
 
 returns : tie.Need-returns
-returns c = sym (not-long (ownKeys c.before.before.before.args.own.now) c.before.before.before.args.table.now c.if1.true)
+returns c = sym (not_long (own_keys c.before.before.before.args.own.now) c.before.before.before.args.table.now c.if1.true)
 
 count-used-requires : tie.Need-count-used-requires
 count-used-requires c κs = search rules
@@ -37,18 +37,18 @@ is-zero-requires c κs = search rules
 places-formed-requires : tie.Need-places-formed-requires
 places-formed-requires c κs = omega (arith, within c.before.before)
 
-returns-2 : tie.Need-returns-2
-returns-2 c =
+returns_2 : tie.Need-returns-2
+returns_2 c =
     let counted = c.before.before.before.before in
     let a = counted.before.before.before.before.args in
-    sym (is-good (ownKeys a.own.now) a.table.now (omega arith) counted.count-used.ensures c.before.before.is_zero.ensures
+    sym (is-good (own_keys a.own.now) a.table.now (omega arith) counted.count-used.ensures c.before.before.is_zero.ensures
     c.before.places-formed.ensures c.if2.true)
 
 returns-3 : tie.Need-returns-3
 returns-3 c =
     let counted = c.before.before.before.before in
     let a = counted.before.before.before.before.args in
-    sym (is-bad (ownKeys a.own.now) a.table.now (omega arith) counted.count-used.ensures c.before.before.is_zero.ensures
+    sym (is-bad (own_keys a.own.now) a.table.now (omega arith) counted.count-used.ensures c.before.before.is_zero.ensures
     c.before.places-formed.ensures c.if2.false)
 
 pub form-spec : {M : Type 1} → statement M
@@ -63,5 +63,5 @@ form-spec =
     part-is-zero-end
     is-zero-requires
     places-formed-requires
-    returns-2
+    returns_2
     returns-3)

@@ -5,7 +5,7 @@ use Rattle.octet.specs.Part.{part}
 use Rattle.table.specs.Rows.{rows}
 use Rattle.waiting.specs.Form.{again}
 use mathlib.Core.Path.{◌≡◌, sym, ap, ◌∙◌}
-use Rattle.table.proofs.SeekLaws.{isFound}
+use Rattle.table.proofs.SeekLaws.{is_found}
 use Rattle.waiting.proofs.WalkLaws.{again-not, again-found}
 use borrow.Author.Rules.{rules}
 use Rattle.waiting_form.proofs.tested.key_again.Statement.{statement}
@@ -19,7 +19,7 @@ from c = c.before.before.before.before
 walked : (c : tie.After-find-inquiry)
     → again (part (140 * (from c).args.at) 140 (from c).args.table.now)
     (drop ((from c).args.at + 1) (rows 140 (from c).args.used (from c).args.table.now))
-    ≡ isFound c.find-inquiry.result
+    ≡ is_found c.find-inquiry.result
 walked c =
     let a = c.before.before.before.before.args in
     again-found a.used a.table.now a.at c.before.if1.false c.find-inquiry.ensures
@@ -53,11 +53,11 @@ enum_told c = search rules
 enum-told-2 : tie.Need-enum-told-2
 enum-told-2 c = search rules
 
-returns-2 : tie.Need-returns-2
-returns-2 c = sym (walked c.before.before ∙ ap isFound c.enum_told.given.1)
+returns_2 : tie.Need-returns-2
+returns_2 c = sym (walked c.before.before ∙ ap is_found c.enum_told.given.1)
 
 returns-3 : tie.Need-returns-3
-returns-3 c = sym (walked c.before.before ∙ ap isFound c.enum-told2.given.1)
+returns-3 c = sym (walked c.before.before ∙ ap is_found c.enum-told2.given.1)
 
 pub key-again-spec : {M : Type 1} → statement M
 key-again-spec =
@@ -72,5 +72,5 @@ key-again-spec =
     find-inquiry-requires
     enum_told
     enum-told-2
-    returns-2
+    returns_2
     returns-3)

@@ -7,20 +7,20 @@ use Prim.Native.Nat.{ℕ, ◌+◌, ◌*◌, ◌-◌, ◌≤◌}
 use native.Mathlib.Omega.{arith}
 use lib.ListN.{take, drop, length-take, length-drop}
 use borrow.Author.Tests.{not-true, not-false, le-leb, lt-leb}
-use Rattle.record.specs.Record.{recordForm}
-use Rattle.own.specs.Own.{Own, ownKeys}
+use Rattle.record.specs.Record.{record_form}
+use Rattle.own.specs.Own.{Own, own_keys}
 use Rattle.table.specs.Rows.{rows}
-use Rattle.waiting.specs.Form.{again, placeForm, placesForm}
+use Rattle.waiting.specs.Form.{again, place_form, places_form}
 use Rattle.waiting.proofs.PlaceLaws.{id-at}
-use Rattle.waiting.proofs.WalkLaws.{place, later, tests, tests-are, form-not, form-on, form-end}
-use Rattle.waiting_form.proofs.HeadLaws.{and-false}
+use Rattle.waiting.proofs.WalkLaws.{place, later, tests, tests-are, form_not, form-on, form-end}
+use Rattle.waiting_form.proofs.HeadLaws.{and_false}
 use Rattle.waiting_form.proofs.tested.places_formed.Statement.{statement}
 use Rattle.waiting_form.proofs.tested.places_formed.Tie as tie
 
 abbrev invariant-loop : tie.invariant-loop
 invariant-loop own table used low₀ at₀ low at =
     (at ≤ used) × (low ≤ 4294967296)
-    × (placesForm (ownKeys own) 0 (rows 140 used table) ≡ placesForm (ownKeys own) low (drop at (rows 140 used table)))
+    × (places_form (own_keys own) 0 (rows 140 used table) ≡ places_form (own_keys own) low (drop at (rows 140 used table)))
 
 abbrev decreases-loop : tie.decreases-loop
 decreases-loop own table used low₀ at₀ low at = used - at
@@ -40,25 +40,25 @@ module _ (c : tie.After-read-u32-le invariant-loop decreases-loop) where
   table = from.args.table.now
 
   abbrev own : Own
-  own = ownKeys from.args.own.now
+  own = own_keys from.args.own.now
 
   abbrev turn : Bool
-  turn = tests used table at-loop.loop.at recordForm own at-loop.loop.low
+  turn = tests used table at-loop.loop.at record_form own at-loop.loop.low
 
   abbrev comesAgain : Bool
   comesAgain = again (place used table at-loop.loop.at) (later used table at-loop.loop.at)
 
   abbrev isFormed : Bool
-  isFormed = placeForm own (take ((140 * at-loop.loop.at + 140) - 140 * at-loop.loop.at) (drop (140 * at-loop.loop.at) table))
+  isFormed = place_form own (take ((140 * at-loop.loop.at + 140) - 140 * at-loop.loop.at) (drop (140 * at-loop.loop.at) table))
 
   turned : (f a : Bool) → f ≡ isFormed → a ≡ comesAgain → turn ≡ (f && leb at-loop.loop.low c.read-u32-le.result && not a)
-  turned f a e g = tests-are used table at-loop.loop.at recordForm own at-loop.loop.low e c.read-u32-le.ensures g
+  turned f a e g = tests-are used table at-loop.loop.at record_form own at-loop.loop.low e c.read-u32-le.ensures g
 
   -- a turn whose tests fail
-  fails : turn ≡ false → false ≡ placesForm own 0 (rows 140 used table)
+  fails : turn ≡ false → false ≡ places_form own 0 (rows 140 used table)
   fails e =
       let l = at-loop.loop in
-      sym (l.inv.2 ∙ form-not used table l.at recordForm own l.low (omega arith) e)
+      sym (l.inv.2 ∙ form_not used table l.at record_form own l.low (omega arith) e)
 
 loop-holds : tie.Need-loop-init invariant-loop decreases-loop
 loop-holds c = (omega arith, omega arith, refl)
@@ -77,7 +77,7 @@ returns c =
     let p = c.before in
     fails p
     (turned p (isFormed p) (comesAgain p) refl refl ∙ ap (λ (t : Bool). isFormed p && t && not (comesAgain p)) (lt-leb _ _ c.if1.true)
-    ∙ ap (λ (t : Bool). t && not (comesAgain p)) (and-false (isFormed p)))
+    ∙ ap (λ (t : Bool). t && not (comesAgain p)) (and_false (isFormed p)))
 
 add-place-formed : tie.Need-overflow-add-place-formed invariant-loop decreases-loop
 add-place-formed c = omega arith
@@ -94,8 +94,8 @@ part-place-formed-end c = omega arith
 place-formed-requires : tie.Need-place-formed-requires invariant-loop decreases-loop
 place-formed-requires c κs = simp (length-take, length-drop) (omega arith)
 
-returns-2 : tie.Need-returns-2 invariant-loop decreases-loop
-returns-2 c =
+returns_2 : tie.Need-returns-2 invariant-loop decreases-loop
+returns_2 c =
     let p = c.before.before.before.before in
     fails p (turned p false _ (sym (not-true c.before.place-formed.result c.if2.true) ∙ c.before.place-formed.ensures) refl)
 
@@ -127,22 +127,22 @@ loop-again c =
     let p = low.before in
     let a = p.before.before.before.before.before.args in
     let l = p.before.before.loop in
-    let own = ownKeys a.own.now in
+    let own = own_keys a.own.now in
     let id = id-at (140 * l.at) a.table.now ∙ sym p.read-u32-le.ensures in
     let place = sym (not-false formed.before.place-formed.result formed.if2.false) ∙ formed.before.place-formed.ensures in
     let passes =
     turned p true false place (sym c.if3.false ∙ c.before.key-again.ensures) ∙ ap (λ (t : Bool). t && true) (le-leb _ _ low.if1.false) in (
       omega arith,
       omega arith,
-      l.invariant.2 ∙ form-on a.used a.table.now l.at recordForm own l.low (omega arith) passes
-          ∙ ap (λ (n : ℕ). placesForm own (n + 1) (drop (l.at + 1) (rows 140 a.used a.table.now))) id,
+      l.invariant.2 ∙ form-on a.used a.table.now l.at record_form own l.low (omega arith) passes
+          ∙ ap (λ (n : ℕ). places_form own (n + 1) (drop (l.at + 1) (rows 140 a.used a.table.now))) id,
     )
 
 returns-4 : tie.Need-returns-4 invariant-loop decreases-loop
 returns-4 c =
     let a = c.before.before.before.before.args in
     let l = c.before.loop in
-    sym (l.invariant.2 ∙ form-end a.used a.table.now l.at recordForm (ownKeys a.own.now) l.low (omega arith))
+    sym (l.invariant.2 ∙ form-end a.used a.table.now l.at record_form (own_keys a.own.now) l.low (omega arith))
 
 pub places-formed-spec : {M : Type 1} → statement M
 places-formed-spec =
@@ -160,7 +160,7 @@ places-formed-spec =
     part-place-formed-start
     part-place-formed-end
     place-formed-requires
-    returns-2
+    returns_2
     key-again-requires
     returns-3
     add_low

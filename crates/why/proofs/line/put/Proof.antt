@@ -1,7 +1,7 @@
 -- `why::line::put` meets its contract. Assumes nothing.
 use mathlib.Core.Path.{refl}
 use borrow.Author.Rules.{rules}
-use Rattle.why.proofs.PutsLaws.{puts-splice}
+use Rattle.why.proofs.PutsLaws.{puts_splice}
 use Rattle.why.proofs.line.put.Statement.{statement}
 use Rattle.why.proofs.line.put.Tie as tie
 
@@ -18,7 +18,7 @@ returns : tie.Need-returns
 returns c =
     let m = c.before.before in
     let s = m.before.before.before.before in
-    puts-splice s.args.at s.args.text.now s.args.out.now _ _ s.requires refl m.copy-to.ensures
+    puts_splice s.args.at s.args.text.now s.args.out.now _ _ s.requires refl m.copy-to.ensures
 
 pub put_spec : {M : Type 1} → statement M
 put_spec = tie.close (tie.spec copy-to-requires add-result same_length returns)

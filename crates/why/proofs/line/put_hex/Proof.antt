@@ -4,9 +4,9 @@ use Prim.Native.Nat.{ℕ, ◌+◌, ◌*◌, ◌≤◌}
 use native.Mathlib.Omega.{arith}
 use lib.ListN.{length}
 use borrow.Author.Rules.{rules}
-use Rattle.digits.specs.Digits.{hexOf}
-use Rattle.digits.proofs.DigitLaws.{length-hex}
-use Rattle.why.proofs.PutsLaws.{puts-splice}
+use Rattle.digits.specs.Digits.{hex_of}
+use Rattle.digits.proofs.DigitLaws.{length_hex}
+use Rattle.why.proofs.PutsLaws.{puts_splice}
 use Rattle.why.proofs.line.put_hex.Statement.{statement}
 use Rattle.why.proofs.line.put_hex.Tie as tie
 
@@ -20,8 +20,8 @@ returns : tie.Need-returns
 returns c =
     let m = c.before.before in
     let s = m.before.before.before.before in
-    let l = length-hex s.args.s.now in (
-      puts-splice s.args.at (hexOf s.args.s.now) s.args.out.now _ _ (omega (arith, l, s.requires))
+    let l = length_hex s.args.s.now in (
+      puts_splice s.args.at (hex_of s.args.s.now) s.args.out.now _ _ (omega (arith, l, s.requires))
           (omega (arith, l, m.put-hex.ensures.0)) m.put-hex.ensures.1,
       m.put-hex.ensures.0,
     )

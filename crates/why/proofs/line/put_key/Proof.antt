@@ -6,9 +6,9 @@ use native.Mathlib.Omega.{arith}
 use lib.ListN.{length}
 use borrow.Author.Rules.{rules}
 use Rattle.octet.proofs.PartLaws.{length_part}
-use Rattle.digits.specs.Digits.{hexOf}
+use Rattle.digits.specs.Digits.{hex_of}
 use Rattle.why.specs.Puts.{Puts}
-use Rattle.why.proofs.PutsLaws.{puts-next, key-bytes}
+use Rattle.why.proofs.PutsLaws.{puts_next, key_bytes_lem}
 use Rattle.why.proofs.line.put_key.Statement.{statement}
 use Rattle.why.proofs.line.put_key.Tie as tie
 
@@ -61,10 +61,10 @@ returns c =
     let s = start h in
     let r = s.args.«record».now in
     let last : p.put2.result ≡ h.put-hex.result + 1 = p.put2.ensures.ends in
-    let key = key-bytes r (λ i. omega (arith, (word h).before.before.shared-slice-known2.given i)) (omega (arith, s.pre.1)) in (
-      subst (λ (bs : List ℕ). Puts s.args.at (s.args.word.now ++ hexOf bs ++ (10 ∷ [])) s.args.out.now p.put2.result
+    let key = key_bytes_lem r (λ i. omega (arith, (word h).before.before.shared-slice-known2.given i)) (omega (arith, s.pre.1)) in (
+      subst (λ (bs : List ℕ). Puts s.args.at (s.args.word.now ++ hex_of bs ++ (10 ∷ [])) s.args.out.now p.put2.result
           p.put2.new.0) key
-          (puts-next (puts-next (word h).put.ensures h.put-hex.ensures.0) p.put2.ensures),
+          (puts_next (puts_next (word h).put.ensures h.put-hex.ensures.0) p.put2.ensures),
       omega (arith, last, ends h),
     )
 

@@ -6,7 +6,7 @@ use lib.ListN.{length}
 use borrow.Author.Rules.{rules}
 use Rattle.digits.specs.Digits.{decimal}
 use Rattle.digits.proofs.DigitLaws.{length-decimal}
-use Rattle.why.proofs.PutsLaws.{puts-splice, puts-next}
+use Rattle.why.proofs.PutsLaws.{puts_splice, puts_next}
 use Rattle.why.proofs.line.put_number.Statement.{statement}
 use Rattle.why.proofs.line.put_number.Tie as tie
 
@@ -32,8 +32,8 @@ returns c =
     let s = m.before.before.before in
     let n = s.args.n in
     let last : p.put.result ≡ m.put-decimal.result + 1 = p.put.ensures.ends in (
-      puts-next
-          (puts-splice 0 (decimal n) s.args.out.now _ _ (omega (arith, s.requires, length-decimal n)) m.put-decimal.ensures.0
+      puts_next
+          (puts_splice 0 (decimal n) s.args.out.now _ _ (omega (arith, s.requires, length-decimal n)) m.put-decimal.ensures.0
           m.put-decimal.ensures.1.1)
           p.put.ensures,
       omega (arith, last, m.put-decimal.ensures.1.0),

@@ -5,8 +5,8 @@ use native.Mathlib.Omega.{arith}
 use lib.ListN.{length}
 use Rattle.record.specs.Record.{key_of}
 use Rattle.reason.specs.declared.Reason.{Reason}
-use Rattle.reason.specs.Reason.{becauseOf}
-use Rattle.why.specs.Text.{reasonText}
+use Rattle.reason.specs.Reason.{because_of}
+use Rattle.why.specs.Text.{reason_text}
 use Rattle.why.specs.Puts.{Puts, HasKey}
 use borrow.Author.Rules.{rules}
 use Rattle.why.proofs.line.put_reason.Statement.{statement}
@@ -63,7 +63,7 @@ returns c =
     let t = p.before.before.before in
     let s = t.before.before.before.before in
     let last : p.put.result ≡ s.args.at + 5 = p.put.ensures.ends in (
-      subst (λ (x : Reason). Puts s.args.at (reasonText (becauseOf x (key_of s.args.other.now))) s.args.out.now p.put.result
+      subst (λ (x : Reason). Puts s.args.at (reason_text (because_of x (key_of s.args.other.now))) s.args.out.now p.put.result
           p.put.new.0)
           (sym t.enum_told.given.1) p.put.ensures,
       omega (arith, last),
@@ -72,13 +72,13 @@ returns c =
 same-length-2 : tie.Need-same-length-2
 same-length-2 c = search rules
 
-returns-2 : tie.Need-returns-2
-returns-2 c =
+returns_2 : tie.Need-returns-2
+returns_2 c =
     let p = c.before.before in
     let t = p.before.before.before in
     let s = t.before.before.before.before in
     let last : p.put2.result ≡ s.args.at + 7 = p.put2.ensures.ends in (
-      subst (λ (x : Reason). Puts s.args.at (reasonText (becauseOf x (key_of s.args.other.now))) s.args.out.now p.put2.result
+      subst (λ (x : Reason). Puts s.args.at (reason_text (because_of x (key_of s.args.other.now))) s.args.out.now p.put2.result
           p.put2.new.0)
           (sym t.enum-told2.given.1) p.put2.ensures,
       omega (arith, last),
@@ -93,7 +93,7 @@ returns-3 c =
     let t = p.before.before.before in
     let s = t.before.before.before.before in
     let last : p.put-key.result ≡ s.args.at + 5 + 65 = p.put-key.ensures.1 in (
-      subst (λ (x : Reason). Puts s.args.at (reasonText (becauseOf x (key_of s.args.other.now))) s.args.out.now
+      subst (λ (x : Reason). Puts s.args.at (reason_text (because_of x (key_of s.args.other.now))) s.args.out.now
           p.put-key.result p.put-key.new.0)
           (sym t.enum-told3.given.1) p.put-key.ensures.0,
       omega (arith, last),
@@ -108,7 +108,7 @@ returns-4 c =
     let t = p.before.before.before in
     let s = t.before.before.before.before in
     let last : p.put-key2.result ≡ s.args.at + 8 + 65 = p.put-key2.ensures.1 in (
-      subst (λ (x : Reason). Puts s.args.at (reasonText (becauseOf x (key_of s.args.other.now))) s.args.out.now
+      subst (λ (x : Reason). Puts s.args.at (reason_text (because_of x (key_of s.args.other.now))) s.args.out.now
           p.put-key2.result p.put-key2.new.0)
           (sym t.enum-told4.given.1) p.put-key2.ensures.0,
       omega (arith, last),
@@ -133,7 +133,7 @@ put-reason-spec =
     same_length
     returns
     same-length-2
-    returns-2
+    returns_2
     same-length-3
     returns-3
     same-length-4

@@ -7,11 +7,11 @@ use lib.ListN.{length}
 use borrow.Author.Rules.{rules}
 use Rattle.octet.specs.Part.{part}
 use Rattle.octet.proofs.PartLaws.{length_part}
-use Rattle.record.specs.Record.{portOf}
-use Rattle.digits.specs.Digits.{decimal, hexOf}
+use Rattle.record.specs.Record.{port_of}
+use Rattle.digits.specs.Digits.{decimal, hex_of}
 use Rattle.digits.proofs.DigitLaws.{length-decimal}
 use Rattle.why.specs.Puts.{Puts}
-use Rattle.why.proofs.PutsLaws.{puts-splice, puts-next}
+use Rattle.why.proofs.PutsLaws.{puts_splice, puts_next}
 use Rattle.why.proofs.line.put_record.Statement.{statement}
 use Rattle.why.proofs.line.put_record.Tie as tie
 
@@ -164,14 +164,14 @@ returns c =
     let k = key s in
     let w = word k in
     let number = w.before.before.before.read-u16.result in
-    let digits = puts-splice s.put2.result (decimal number) s.put2.last.0 p.put-decimal.result p.put-decimal.last.0
+    let digits = puts_splice s.put2.result (decimal number) s.put2.last.0 p.put-decimal.result p.put-decimal.last.0
     (omega (arith, space-ends s, space-long s, (start w).pre.0, length-decimal number)) p.put-decimal.ensures.0
     p.put-decimal.ensures.1.1 in
-    let read : number ≡ portOf (start w).args.«record».now = w.before.before.before.read-u16.ensures in
+    let read : number ≡ port_of (start w).args.«record».now = w.before.before.before.read-u16.ensures in
     let named = subst (λ (n : ℕ). Puts s.put2.result (decimal n) s.put2.last.0 p.put-decimal.result p.put-decimal.last.0) read
     digits in
     let last : e.put4.result ≡ a.put-hex2.result + 1 = e.put4.ensures.ends in (
-      puts-next (puts-next (puts-next (puts-next (puts-next (puts-next w.put.ensures k.put-hex.ensures.0) s.put2.ensures) named)
+      puts_next (puts_next (puts_next (puts_next (puts_next (puts_next w.put.ensures k.put-hex.ensures.0) s.put2.ensures) named)
           g.put3.ensures)
           a.put-hex2.ensures.0) e.put4.ensures,
       omega (arith, last, address-ends a),

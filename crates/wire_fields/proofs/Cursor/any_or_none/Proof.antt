@@ -1,5 +1,5 @@
 use mathlib.Core.Path.{refl}
-use Rattle.wire_shapes.specs.Shapes.{hasShape}
+use Rattle.wire_shapes.specs.Shapes.{has_shape}
 use Rattle.wire_shapes.specs.declared.Shape.TheVariants.{Any}
 use Rattle.wire_fields.proofs.StepLaws.{maybe-good, maybe-other, maybe-cut}
 use borrow.Author.Rules.{rules}
@@ -19,14 +19,14 @@ enum-told-2 : tie.Need-enum-told-2
 enum-told-2 c = search rules
 
 returns : tie.Need-returns
-unfolding hasShape
+unfolding has_shape
 returns c =
     let start = c.before in
     let a = start.before.before.before.before.args in
     maybe-good a.d.now a.self.at a.number a.padded Any _ start.before.before.span.ensures _ _ _ start.start.given.1 refl
 
-returns-2 : tie.Need-returns-2
-returns-2 c =
+returns_2 : tie.Need-returns-2
+returns_2 c =
     let a = c.before.before.before.before.args in
     maybe-other a.d.now a.self.at a.number a.padded Any _ c.before.before.span.ensures c.enum_told.given.1
 
@@ -38,4 +38,4 @@ returns-3 c =
 pub any-or-none-spec : {M : Type 1} → statement M
 any-or-none-spec =
     tie.close
-    (tie.spec span-requires enum-known-start enum_told enum-told-2 returns returns-2 returns-3)
+    (tie.spec span-requires enum-known-start enum_told enum-told-2 returns returns_2 returns-3)

@@ -1,6 +1,6 @@
 use native.Mathlib.Omega.{arith}
 use mathlib.Core.Path.{sym, ◌∙◌}
-use Rattle.wire_shapes.specs.Shapes.{hasShape}
+use Rattle.wire_shapes.specs.Shapes.{has_shape}
 use Rattle.wire_shapes.specs.declared.Shape.TheVariants.{Array}
 use Rattle.wire_fields.proofs.SpanLaws.{span_fits}
 use Rattle.wire_fields.proofs.StepLaws.{maybe-good, maybe-bad, maybe-other, maybe-cut}
@@ -29,7 +29,7 @@ enum-told-2 : tie.Need-enum-told-2
 enum-told-2 c = search rules
 
 returns : tie.Need-returns
-unfolding hasShape
+unfolding has_shape
 returns c =
     let start = c.before.before.before in
     let a = start.before.before.before.before.args in
@@ -37,9 +37,9 @@ returns c =
     start.before.before.span.ensures _ _ _ start.start.given.1
     (sym c.before.is-array.ensures ∙ c.if1.true)
 
-returns-2 : tie.Need-returns-2
-unfolding hasShape
-returns-2 c =
+returns_2 : tie.Need-returns-2
+unfolding has_shape
+returns_2 c =
     let start = c.before.before.before in
     let a = start.before.before.before.before.args in
     maybe-bad a.d.now a.self.at a.number a.padded (Array a.element a.size a.least a.most) _
@@ -68,6 +68,6 @@ array-or-none-spec =
     enum_told
     enum-told-2
     returns
-    returns-2
+    returns_2
     returns-3
     returns-4)

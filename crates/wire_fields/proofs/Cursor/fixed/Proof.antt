@@ -15,8 +15,8 @@ returns c =
 sub-if2 : tie.Need-overflow-sub-if2
 sub-if2 c = search rules
 
-returns-2 : tie.Need-returns-2
-returns-2 c =
+returns_2 : tie.Need-returns-2
+returns_2 c =
     let a = c.before.before.before.args in
     fixed-missing a.d.now a.self.at a.number a.padded a.len (λ s. omega (arith, s.room))
 
@@ -76,7 +76,7 @@ fixed-spec =
     (tie.spec
     returns
     sub-if2
-    returns-2
+    returns_2
     add-whole
     add-past
     padding-requires

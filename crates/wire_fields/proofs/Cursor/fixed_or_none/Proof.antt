@@ -1,6 +1,6 @@
 use borrow.Author.Tests.{eq-eqb, ne_eqb}
 use mathlib.Core.Path.{sym, ◌∙◌}
-use Rattle.wire_shapes.specs.Shapes.{hasShape}
+use Rattle.wire_shapes.specs.Shapes.{has_shape}
 use Rattle.wire_shapes.specs.declared.Shape.TheVariants.{Sized}
 use Rattle.wire_fields.proofs.SpanLaws.{span-length}
 use Rattle.wire_fields.proofs.StepLaws.{maybe-good, maybe-bad, maybe-other, maybe-cut}
@@ -21,7 +21,7 @@ enum-told-2 : tie.Need-enum-told-2
 enum-told-2 c = search rules
 
 returns : tie.Need-returns
-unfolding hasShape
+unfolding has_shape
 returns c =
     let start = c.before.before in
     let a = start.before.before.before.before.args in
@@ -30,9 +30,9 @@ returns c =
     maybe-good a.d.now a.self.at a.number a.padded (Sized a.wanted) _ start.before.before.span.ensures _ _ _
     start.start.given.1 (eq-eqb _ _ (m ∙ c.if1.true))
 
-returns-2 : tie.Need-returns-2
-unfolding hasShape
-returns-2 c =
+returns_2 : tie.Need-returns-2
+unfolding has_shape
+returns_2 c =
     let start = c.before.before in
     let a = start.before.before.before.before.args in
     let q = sym start.before.before.span.ensures ∙ start.start.given.1 in
@@ -60,6 +60,6 @@ fixed-or-none-spec =
     enum_told
     enum-told-2
     returns
-    returns-2
+    returns_2
     returns-3
     returns-4)

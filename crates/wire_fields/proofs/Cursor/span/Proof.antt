@@ -11,8 +11,8 @@ returns c = let a = c.before.before.args in sym (span-short a.d.now a.self.at a.
 sub-if2 : tie.Need-overflow-sub-if2
 sub-if2 c = search rules
 
-returns-2 : tie.Need-returns-2
-returns-2 c = let a = c.before.before.before.args in sym (span-short a.d.now a.self.at a.number a.padded (omega arith))
+returns_2 : tie.Need-returns-2
+returns_2 c = let a = c.before.before.before.args in sym (span-short a.d.now a.self.at a.number a.padded (omega arith))
 
 two-requires : tie.Need-two-requires
 two-requires c κs = search rules
@@ -64,7 +64,7 @@ span-spec =
     (tie.spec
     returns
     sub-if2
-    returns-2
+    returns_2
     two-requires
     returns-3
     add-two

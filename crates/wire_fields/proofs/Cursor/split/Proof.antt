@@ -1,7 +1,7 @@
 use native.Mathlib.Omega.{arith}
 use mathlib.Core.Path.{sym, ◌∙◌}
 use mathlib.Core.Bool.{true, false}
-use Rattle.wire_shapes.specs.Shapes.{hasShape}
+use Rattle.wire_shapes.specs.Shapes.{has_shape}
 use Rattle.wire_shapes.specs.declared.Shape.TheVariants.{Split}
 use Rattle.wire_fields.proofs.SpanLaws.{span_fits}
 use Rattle.wire_fields.proofs.StepLaws.{need-good, need-bad, need-other, need-cut}
@@ -30,16 +30,16 @@ enum-told-2 : tie.Need-enum-told-2
 enum-told-2 c = search rules
 
 returns : tie.Need-returns
-unfolding hasShape
+unfolding has_shape
 returns c =
     let start = c.before.before.before in
     let a = start.before.before.before.before.args in
     need-good a.d.now a.self.at 0x98 false Split _ start.before.before.span.ensures _ _ _ start.start.given.1
     (sym c.before.is-split.ensures ∙ c.if1.true)
 
-returns-2 : tie.Need-returns-2
-unfolding hasShape
-returns-2 c =
+returns_2 : tie.Need-returns-2
+unfolding has_shape
+returns_2 c =
     let start = c.before.before.before in
     let a = start.before.before.before.before.args in
     need-bad a.d.now a.self.at 0x98 false Split _ start.before.before.span.ensures _ _ _ start.start.given.1
@@ -65,6 +65,6 @@ split-spec =
     enum_told
     enum-told-2
     returns
-    returns-2
+    returns_2
     returns-3
     returns-4)

@@ -12,13 +12,13 @@ use borrow.Author.Rules.{rules}
 use Rattle.wire_fields.proofs.opening.is_opened.Statement.{statement}
 use Rattle.wire_fields.proofs.opening.is_opened.Tie as tie
 
-opening-bytes : Bytes opening
-opening-bytes zero = omega arith
-opening-bytes (suc zero) = omega arith
-opening-bytes (suc (suc zero)) = omega arith
-opening-bytes (suc (suc (suc zero))) = omega arith
-opening-bytes (suc (suc (suc (suc zero)))) = omega arith
-opening-bytes (suc (suc (suc (suc (suc i))))) = omega arith
+opening_bytes : Bytes opening
+opening_bytes zero = omega arith
+opening_bytes (suc zero) = omega arith
+opening_bytes (suc (suc zero)) = omega arith
+opening_bytes (suc (suc (suc zero))) = omega arith
+opening_bytes (suc (suc (suc (suc zero)))) = omega arith
+opening_bytes (suc (suc (suc (suc (suc i))))) = omega arith
 
 slice-aggregate-read-u32 : tie.Need-slice-aggregate-read-u32
 slice-aggregate-read-u32 c = search rules
@@ -35,7 +35,7 @@ returns c =
     let d = k.before.args.d.now in
     let first = c.before.read-u322.ensures in
     let other = ne_eqb (number_at 0 4 d) (number_at 0 4 opening) (λ e. c.if1.true (first ∙ e ∙ sym c.before.before.read_u32.ensures)) in
-    rw (five-same d opening (λ i. omega (arith, k.shared-slice-known.given i)) opening-bytes (search rules) (omega arith), other)
+    rw (five-same d opening (λ i. omega (arith, k.shared-slice-known.given i)) opening_bytes (search rules) (omega arith), other)
 
 shared-slice-read-result : tie.Need-shared-slice-read-result
 shared-slice-read-result c = search rules
@@ -43,13 +43,13 @@ shared-slice-read-result c = search rules
 array-read-result : tie.Need-array-read-result
 array-read-result c = search rules
 
-returns-2 : tie.Need-returns-2
-returns-2 c =
+returns_2 : tie.Need-returns-2
+returns_2 c =
     let k = c.before.before.before.before.before in
     let d = k.before.args.d.now in
     let first = c.before.before.read-u322.ensures in
     let equal = eq-eqb (number_at 0 4 d) (number_at 0 4 opening) (sym first ∙ c.before.if1.false ∙ c.before.before.before.read_u32.ensures) in
-    rw (five-same d opening (λ i. omega (arith, k.shared-slice-known.given i)) opening-bytes (search rules) (omega arith), equal)
+    rw (five-same d opening (λ i. omega (arith, k.shared-slice-known.given i)) opening_bytes (search rules) (omega arith), equal)
 
 pub is-opened-spec : {M : Type 1} → statement M
 is-opened-spec =
@@ -61,4 +61,4 @@ is-opened-spec =
     returns
     shared-slice-read-result
     array-read-result
-    returns-2)
+    returns_2)

@@ -1,6 +1,6 @@
 -- `wire_payload::payload::put_carrying` meets its contract. Assumes nothing.
 use Rattle.wire_payload.specs.Payload.{carrying}
-use Rattle.octet.specs.Number.{digitsBE}
+use Rattle.octet.specs.Number.{digits_be}
 use mathlib.Core.Path.{refl}
 use borrow.Author.Rules.{rules}
 use Rattle.wire_payload.proofs.payload.put_carrying.Statement.{statement}
@@ -59,13 +59,13 @@ piece-of-requires-5 : tie.Need-piece-of-requires-5
 piece-of-requires-5 c κs = search rules
 
 slice-aggregate-write-rows : tie.Need-slice-aggregate-write-rows
-unfolding digitsBE
+unfolding digits_be
 slice-aggregate-write-rows c = rw c.before.before.before.before.before.before.before.before.before.before.before.spelled-bytes.ensures
 
 write-rows-requires : tie.Need-write-rows-requires
 write-rows-requires c κs =
-    let authority-rows = c.before.before.before.before.before.before.before.before.before.before.before.before.before.before in
-    (rw authority-rows.authority-rows.ensures, refl)
+    let authority_rows_lem = c.before.before.before.before.before.before.before.before.before.before.before.before.before.before in
+    (rw authority_rows_lem.authority-rows.ensures, refl)
 
 same_length : tie.Need-same-length
 same_length c = search rules

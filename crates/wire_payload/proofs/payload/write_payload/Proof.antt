@@ -1,7 +1,7 @@
 -- `wire_payload::payload::write_payload` meets its contract: the size in the split controls is all that differs, and is written last.
 -- Assumes nothing.
 use native.Mathlib.Omega.{arith}
-use Rattle.wire_payload.proofs.PayloadLaws.{payload-refused, payload-long, payload-written}
+use Rattle.wire_payload.proofs.PayloadLaws.{payload-refused, payload-long, payload_written}
 use borrow.Author.Rules.{rules}
 use Rattle.wire_payload.proofs.payload.write_payload.Statement.{statement}
 use Rattle.wire_payload.proofs.payload.write_payload.Tie as tie
@@ -32,11 +32,11 @@ write-u16-requires c κs =
 same-length-2 : tie.Need-same-length-2
 same-length-2 c = search rules
 
-returns-2 : tie.Need-returns-2
-returns-2 c =
+returns_2 : tie.Need-returns-2
+returns_2 c =
     let write = c.before.before in
     let accepted = write.before.before.before in
-    payload-written _ _ _ _ _ _ _ accepted.before.before.before.before.put-carrying.ensures accepted.if1.false write.write-u16.ensures
+    payload_written _ _ _ _ _ _ _ accepted.before.before.before.before.put-carrying.ensures accepted.if1.false write.write-u16.ensures
 
 pub write-payload-spec : {M : Type 1} → statement M
 write-payload-spec =
@@ -49,4 +49,4 @@ write-payload-spec =
     cast-write-u16
     write-u16-requires
     same-length-2
-    returns-2)
+    returns_2)

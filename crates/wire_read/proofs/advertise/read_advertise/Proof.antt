@@ -3,11 +3,11 @@
 use borrow.Author.Tests.{eq-eqb, ne_eqb}
 use native.Mathlib.Omega.{arith}
 use mathlib.Core.Path.{sym, ◌∙◌}
-use Rattle.wire_fields.specs.Kinds.{joinedFields, sized}
-use Rattle.wire_fields.specs.Reading.{places_at, fieldsAs}
+use Rattle.wire_fields.specs.Kinds.{joined_fields, sized}
+use Rattle.wire_fields.specs.Reading.{places_at, fields_as}
 use Rattle.wire_shapes.specs.declared.Shape.TheVariants.{Sized}
-use Rattle.wire_fields.proofs.RefusalLaws.{need-four, sized-four}
-use Rattle.wire_read.specs.Answers.{incomingOf}
+use Rattle.wire_fields.proofs.RefusalLaws.{need-four, sized_four}
+use Rattle.wire_read.specs.Answers.{incoming_of}
 use borrow.Author.Rules.{rules}
 use Rattle.wire_read.proofs.advertise.read_advertise.Statement.{statement}
 use Rattle.wire_read.proofs.advertise.read_advertise.Tie as tie
@@ -22,7 +22,7 @@ enum_told : tie.Need-enum-told
 enum_told c = search rules
 
 returns : tie.Need-returns
-unfolding incomingOf fieldsAs joinedFields sized places_at
+unfolding incoming_of fields_as joined_fields sized places_at
 returns c =
     rw (sym c.before.before.fixed.ensures ∙ c.enum_told.given.1)
 
@@ -35,9 +35,9 @@ enum-known-keys c = search rules
 enum-told-2 : tie.Need-enum-told-2
 enum-told-2 c = search rules
 
-returns-2 : tie.Need-returns-2
-unfolding incomingOf fieldsAs joinedFields sized places_at
-returns-2 c =
+returns_2 : tie.Need-returns-2
+unfolding incoming_of fields_as joined_fields sized places_at
+returns_2 c =
     rw (
       sym c.before.before.before.before.before.before.fixed.ensures ∙ c.before.before.before.before.acked.given.1,
       sym c.before.before.array.ensures ∙ c.enum-told2.given.1,
@@ -53,7 +53,7 @@ enum-told-3 : tie.Need-enum-told-3
 enum-told-3 c = search rules
 
 returns-3 : tie.Need-returns-3
-unfolding incomingOf fieldsAs joinedFields sized places_at
+unfolding incoming_of fields_as joined_fields sized places_at
 returns-3 c =
     let keys = c.before.before.before.before in
     let acked = keys.before.before.before.before in
@@ -64,7 +64,7 @@ returns-3 c =
     )
 
 returns-4 : tie.Need-returns-4
-unfolding incomingOf fieldsAs joinedFields sized places_at
+unfolding incoming_of fields_as joined_fields sized places_at
 returns-4 c =
     let nonce = c.before.before.before in
     let keys = nonce.before.before.before.before in
@@ -83,12 +83,12 @@ read-u32-requires : tie.Need-read-u32-requires
 read-u32-requires c κs =
     let acked = c.before.before.before.before.before.before.before.before.before.before.before.before in
     let start = acked.before.before.before.before in
-    let q = need-four start.args.d.now _ _ _ (Sized 4) sized-four _ _ _
+    let q = need-four start.args.d.now _ _ _ (Sized 4) sized_four _ _ _
     (sym acked.before.before.fixed.ensures ∙ acked.acked.given.1) in
     omega (arith, q.0, q.1)
 
 returns-5 : tie.Need-returns-5
-unfolding incomingOf fieldsAs joinedFields sized places_at
+unfolding incoming_of fields_as joined_fields sized places_at
 returns-5 c =
     let nonce = c.before.before.before.before.before in
     let keys = nonce.before.before.before.before in
@@ -113,7 +113,7 @@ read-advertise-spec =
     array-requires
     enum-known-keys
     enum-told-2
-    returns-2
+    returns_2
     fixed-requires-2
     enum-known-nonce
     enum-told-3

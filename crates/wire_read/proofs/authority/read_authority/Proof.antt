@@ -3,11 +3,11 @@
 use borrow.Author.Tests.{not-true, not-false}
 use native.Mathlib.Omega.{arith}
 use mathlib.Core.Path.{sym, ◌∙◌}
-use Rattle.wire_fields.specs.Refusals.{inPart}
-use Rattle.wire_fields.specs.Reading.{fieldsAs, places_at}
+use Rattle.wire_fields.specs.Refusals.{in_part}
+use Rattle.wire_fields.specs.Reading.{fields_as, places_at}
 use Rattle.wire_shapes.specs.declared.Shape.TheVariants.{Sized, Split}
-use Rattle.wire_fields.proofs.RefusalLaws.{need-four, sized-four, split-four}
-use Rattle.wire_read.specs.Answers.{incomingOf}
+use Rattle.wire_fields.proofs.RefusalLaws.{need-four, sized_four, split_four}
+use Rattle.wire_read.specs.Answers.{incoming_of}
 use Rattle.wire_read.proofs.ReaderLaws.{authority-bad, authority-good}
 use borrow.Author.Rules.{rules}
 use Rattle.wire_read.proofs.authority.read_authority.Statement.{statement}
@@ -23,7 +23,7 @@ enum_told : tie.Need-enum-told
 enum_told c = search rules
 
 returns : tie.Need-returns
-unfolding incomingOf inPart fieldsAs places_at
+unfolding incoming_of in_part fields_as places_at
 returns c = rw (sym c.before.before.fixed.ensures ∙ c.enum_told.given.1)
 
 split-requires : tie.Need-split-requires
@@ -35,19 +35,19 @@ enum-known-start c = search rules
 enum-told-2 : tie.Need-enum-told-2
 enum-told-2 c = search rules
 
-returns-2 : tie.Need-returns-2
-unfolding incomingOf inPart fieldsAs places_at
-returns-2 c =
+returns_2 : tie.Need-returns-2
+unfolding incoming_of in_part fields_as places_at
+returns_2 c =
     let acked = c.before.before.before.before in
     rw (sym acked.before.before.fixed.ensures ∙ acked.acked.given.1, sym c.before.before.split.ensures ∙ c.enum-told2.given.1)
 
 is-whole-requires : tie.Need-is-whole-requires
 is-whole-requires c κs =
     let start = c.before.before.before.before.before.before.before.before.before in
-    need-four start.args.d.now _ _ _ Split split-four _ _ _ (sym c.before.before.before.split.ensures ∙ c.before.start.given.1)
+    need-four start.args.d.now _ _ _ Split split_four _ _ _ (sym c.before.before.before.split.ensures ∙ c.before.start.given.1)
 
 returns-3 : tie.Need-returns-3
-unfolding incomingOf inPart
+unfolding incoming_of in_part
 returns-3 c =
     let split = c.before.before.before in
     let acked = split.before.before.before.before in
@@ -84,7 +84,7 @@ read-u32-requires : tie.Need-read-u32-requires
 read-u32-requires c κs =
     let acked = c.before.before.before.before.before.before.before.before.before.before.before.before in
     let start = acked.before.before.before.before in
-    let q = need-four start.args.d.now _ _ _ (Sized 4) sized-four _ _ _
+    let q = need-four start.args.d.now _ _ _ (Sized 4) sized_four _ _ _
     (sym acked.before.before.fixed.ensures ∙ acked.acked.given.1) in
     omega (arith, q.0, q.1)
 
@@ -112,7 +112,7 @@ read-authority-spec =
     split-requires
     enum-known-start
     enum-told-2
-    returns-2
+    returns_2
     is-whole-requires
     returns-3
     read-buffer-requires

@@ -2,10 +2,10 @@
 -- Assumes nothing.
 use borrow.Author.Tests.{eq-eqb, ne_eqb, not-true, not-false}
 use mathlib.Core.Path.{sym, ◌∙◌}
-use Rattle.wire_fields.specs.Kinds.{joinedFields, sized}
-use Rattle.wire_fields.specs.Reading.{places_at, fieldsAs}
-use Rattle.wire_read.specs.Answers.{incomingOf}
-use Rattle.wire_read.proofs.ReaderLaws.{present-value}
+use Rattle.wire_fields.specs.Kinds.{joined_fields, sized}
+use Rattle.wire_fields.specs.Reading.{places_at, fields_as}
+use Rattle.wire_read.specs.Answers.{incoming_of}
+use Rattle.wire_read.proofs.ReaderLaws.{present_value}
 use borrow.Author.Rules.{rules}
 use Rattle.wire_read.proofs.flood.read_flood.Statement.{statement}
 use Rattle.wire_read.proofs.flood.read_flood.Tie as tie
@@ -20,7 +20,7 @@ enum_told : tie.Need-enum-told
 enum_told c = search rules
 
 returns : tie.Need-returns
-unfolding incomingOf fieldsAs joinedFields sized places_at
+unfolding incoming_of fields_as joined_fields sized places_at
 returns c =
     rw (sym c.before.before.fixed.ensures ∙ c.enum_told.given.1)
 
@@ -33,9 +33,9 @@ enum-known-validate c = search rules
 enum-told-2 : tie.Need-enum-told-2
 enum-told-2 c = search rules
 
-returns-2 : tie.Need-returns-2
-unfolding incomingOf fieldsAs joinedFields sized places_at
-returns-2 c =
+returns_2 : tie.Need-returns-2
+unfolding incoming_of fields_as joined_fields sized places_at
+returns_2 c =
     rw (
       sym c.before.before.before.before.before.before.fixed.ensures ∙ c.before.before.before.before.controls.given.1,
       sym c.before.before.fixed2.ensures ∙ c.enum-told2.given.1,
@@ -51,7 +51,7 @@ enum-told-3 : tie.Need-enum-told-3
 enum-told-3 c = search rules
 
 returns-3 : tie.Need-returns-3
-unfolding incomingOf fieldsAs joinedFields sized places_at
+unfolding incoming_of fields_as joined_fields sized places_at
 returns-3 c =
     let validate = c.before.before.before.before in
     let controls = validate.before.before.before.before in
@@ -71,7 +71,7 @@ enum-told-4 : tie.Need-enum-told-4
 enum-told-4 c = search rules
 
 returns-4 : tie.Need-returns-4
-unfolding incomingOf fieldsAs joinedFields sized places_at
+unfolding incoming_of fields_as joined_fields sized places_at
 returns-4 c =
     let token = c.before.before.before.before in
     let validate = token.before.before.before.before in
@@ -93,7 +93,7 @@ enum-told-5 : tie.Need-enum-told-5
 enum-told-5 c = search rules
 
 returns-5 : tie.Need-returns-5
-unfolding incomingOf fieldsAs joinedFields sized places_at
+unfolding incoming_of fields_as joined_fields sized places_at
 returns-5 c =
     let revoke = c.before.before.before.before in
     let token = revoke.before.before.before.before in
@@ -117,7 +117,7 @@ enum-told-6 : tie.Need-enum-told-6
 enum-told-6 c = search rules
 
 returns-6 : tie.Need-returns-6
-unfolding incomingOf fieldsAs joinedFields sized places_at
+unfolding incoming_of fields_as joined_fields sized places_at
 returns-6 c =
     let entry = c.before.before.before.before in
     let revoke = entry.before.before.before.before in
@@ -134,7 +134,7 @@ returns-6 c =
     )
 
 returns-7 : tie.Need-returns-7
-unfolding incomingOf fieldsAs joinedFields sized places_at
+unfolding incoming_of fields_as joined_fields sized places_at
 returns-7 c =
     let reached = c.before.before.before in
     let entry = reached.before.before.before.before in
@@ -156,7 +156,7 @@ just-one-requires : tie.Need-just-one-requires
 just-one-requires c κs = search rules
 
 returns-8 : tie.Need-returns-8
-unfolding incomingOf fieldsAs joinedFields sized places_at
+unfolding incoming_of fields_as joined_fields sized places_at
 returns-8 c =
     let reached = c.before.before.before.before.before in
     let entry = reached.before.before.before.before in
@@ -172,8 +172,8 @@ returns-8 c =
       sym entry.before.before.entry-or-none.ensures ∙ entry.entry.given.1,
       sym reached.before.before.array-or-none.ensures ∙ reached.reached.given.1,
       eq-eqb _ _ c.before.before.if1.false,
-      present-value,
-      present-value,
+      present_value,
+      present_value,
       sym c.before.just-one.ensures ∙ not-true _ c.if2.true,
     )
 
@@ -188,7 +188,7 @@ silent-requires : tie.Need-silent-requires
 silent-requires c κs = search rules
 
 returns-9 : tie.Need-returns-9
-unfolding incomingOf fieldsAs joinedFields sized places_at
+unfolding incoming_of fields_as joined_fields sized places_at
 returns-9 c =
     let reached = c.before.before.before.before.before.before.before in
     let entry = reached.before.before.before.before in
@@ -204,8 +204,8 @@ returns-9 c =
       sym entry.before.before.entry-or-none.ensures ∙ entry.entry.given.1,
       sym reached.before.before.array-or-none.ensures ∙ reached.reached.given.1,
       eq-eqb _ _ c.before.before.before.before.if1.false,
-      present-value,
-      present-value,
+      present_value,
+      present_value,
       sym c.before.before.before.just-one.ensures ∙ not-false _ c.before.before.if2.false,
       c.before.head.ensures,
       c.silent.ensures,
@@ -222,7 +222,7 @@ read-flood-spec =
     fixed-requires-2
     enum-known-validate
     enum-told-2
-    returns-2
+    returns_2
     any-or-none-requires
     enum-known-token
     enum-told-3

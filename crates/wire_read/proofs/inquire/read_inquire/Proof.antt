@@ -2,9 +2,9 @@
 -- Assumes nothing.
 use borrow.Author.Tests.{eq-eqb, ne_eqb}
 use mathlib.Core.Path.{sym, ◌∙◌}
-use Rattle.wire_fields.specs.Kinds.{joinedFields, sized}
-use Rattle.wire_fields.specs.Reading.{places_at, fieldsAs}
-use Rattle.wire_read.specs.Answers.{incomingOf}
+use Rattle.wire_fields.specs.Kinds.{joined_fields, sized}
+use Rattle.wire_fields.specs.Reading.{places_at, fields_as}
+use Rattle.wire_read.specs.Answers.{incoming_of}
 use borrow.Author.Rules.{rules}
 use Rattle.wire_read.proofs.inquire.read_inquire.Statement.{statement}
 use Rattle.wire_read.proofs.inquire.read_inquire.Tie as tie
@@ -19,7 +19,7 @@ enum_told : tie.Need-enum-told
 enum_told c = search rules
 
 returns : tie.Need-returns
-unfolding incomingOf fieldsAs joinedFields sized places_at
+unfolding incoming_of fields_as joined_fields sized places_at
 returns c =
     rw (sym c.before.before.fixed.ensures ∙ c.enum_told.given.1)
 
@@ -32,9 +32,9 @@ enum-known-validate c = search rules
 enum-told-2 : tie.Need-enum-told-2
 enum-told-2 c = search rules
 
-returns-2 : tie.Need-returns-2
-unfolding incomingOf fieldsAs joinedFields sized places_at
-returns-2 c =
+returns_2 : tie.Need-returns-2
+unfolding incoming_of fields_as joined_fields sized places_at
+returns_2 c =
     rw (
       sym c.before.before.before.before.before.before.fixed.ensures ∙ c.before.before.before.before.flags.given.1,
       sym c.before.before.fixed2.ensures ∙ c.enum-told2.given.1,
@@ -50,7 +50,7 @@ enum-told-3 : tie.Need-enum-told-3
 enum-told-3 c = search rules
 
 returns-3 : tie.Need-returns-3
-unfolding incomingOf fieldsAs joinedFields sized places_at
+unfolding incoming_of fields_as joined_fields sized places_at
 returns-3 c =
     let validate = c.before.before.before.before in
     let flags = validate.before.before.before.before in
@@ -70,7 +70,7 @@ enum-told-4 : tie.Need-enum-told-4
 enum-told-4 c = search rules
 
 returns-4 : tie.Need-returns-4
-unfolding incomingOf fieldsAs joinedFields sized places_at
+unfolding incoming_of fields_as joined_fields sized places_at
 returns-4 c =
     let nonce = c.before.before.before.before in
     let validate = nonce.before.before.before.before in
@@ -92,7 +92,7 @@ enum-told-5 : tie.Need-enum-told-5
 enum-told-5 c = search rules
 
 returns-5 : tie.Need-returns-5
-unfolding incomingOf fieldsAs joinedFields sized places_at
+unfolding incoming_of fields_as joined_fields sized places_at
 returns-5 c =
     let credential = c.before.before.before.before in
     let nonce = credential.before.before.before.before in
@@ -116,7 +116,7 @@ enum-told-6 : tie.Need-enum-told-6
 enum-told-6 c = search rules
 
 returns-6 : tie.Need-returns-6
-unfolding incomingOf fieldsAs joinedFields sized places_at
+unfolding incoming_of fields_as joined_fields sized places_at
 returns-6 c =
     let signature = c.before.before.before.before in
     let credential = signature.before.before.before.before in
@@ -133,7 +133,7 @@ returns-6 c =
     )
 
 returns-7 : tie.Need-returns-7
-unfolding incomingOf fieldsAs joinedFields sized places_at
+unfolding incoming_of fields_as joined_fields sized places_at
 returns-7 c =
     let key = c.before.before.before in
     let signature = key.before.before.before.before in
@@ -168,7 +168,7 @@ flag-requires-3 : tie.Need-flag-requires-3
 flag-requires-3 c κs = search rules
 
 returns-8 : tie.Need-returns-8
-unfolding incomingOf fieldsAs joinedFields sized places_at
+unfolding incoming_of fields_as joined_fields sized places_at
 returns-8 c =
     let key = c.before.before.before.before.before.before.before in
     let signature = key.before.before.before.before in
@@ -201,7 +201,7 @@ read-inquire-spec =
     fixed-requires-2
     enum-known-validate
     enum-told-2
-    returns-2
+    returns_2
     fixed-or-none-requires
     enum-known-nonce
     enum-told-3

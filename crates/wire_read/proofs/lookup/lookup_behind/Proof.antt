@@ -30,9 +30,9 @@ enum-known-path c = search rules
 enum-told-2 : tie.Need-enum-told-2
 enum-told-2 c = search rules
 
-returns-2 : tie.Need-returns-2
+returns_2 : tie.Need-returns-2
 unfolding places_at
-returns-2 c =
+returns_2 c =
     let entry = c.before.before.before.before in
     rw (
       sym entry.before.before.entry-or-none.ensures ∙ entry.entry.given.1,
@@ -174,7 +174,7 @@ lookup-behind-spec =
     array-requires
     enum-known-path
     enum-told-2
-    returns-2
+    returns_2
     any-or-none-requires
     enum-known-credential
     enum-told-3

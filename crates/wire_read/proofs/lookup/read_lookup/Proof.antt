@@ -1,9 +1,9 @@
 -- `wire_read::lookup::read_lookup` meets its contract: each field that is found, and the first that is not, is the definition's own step.
 -- Assumes nothing.
 use mathlib.Core.Path.{sym, ◌∙◌}
-use Rattle.wire_fields.specs.Kinds.{joinedFields, sized}
-use Rattle.wire_fields.specs.Reading.{places_at, fieldsAs}
-use Rattle.wire_read.specs.Answers.{incomingOf}
+use Rattle.wire_fields.specs.Kinds.{joined_fields, sized}
+use Rattle.wire_fields.specs.Reading.{places_at, fields_as}
+use Rattle.wire_read.specs.Answers.{incoming_of}
 use Rattle.wire_read.proofs.ReaderLaws.{lookup-front}
 use borrow.Author.Rules.{rules}
 use Rattle.wire_read.proofs.lookup.read_lookup.Statement.{statement}
@@ -19,7 +19,7 @@ enum_told : tie.Need-enum-told
 enum_told c = search rules
 
 returns : tie.Need-returns
-unfolding incomingOf fieldsAs joinedFields sized places_at
+unfolding incoming_of fields_as joined_fields sized places_at
 returns c =
     rw (sym c.before.before.controls.ensures ∙ c.enum_told.given.1)
 
@@ -32,9 +32,9 @@ enum-known-target c = search rules
 enum-told-2 : tie.Need-enum-told-2
 enum-told-2 c = search rules
 
-returns-2 : tie.Need-returns-2
-unfolding incomingOf fieldsAs joinedFields sized places_at
-returns-2 c =
+returns_2 : tie.Need-returns-2
+unfolding incoming_of fields_as joined_fields sized places_at
+returns_2 c =
     rw (
       sym c.before.before.before.before.before.before.controls.ensures ∙ c.before.before.before.before.controls2.given.1,
       sym c.before.before.fixed.ensures ∙ c.enum-told2.given.1,
@@ -50,7 +50,7 @@ enum-told-3 : tie.Need-enum-told-3
 enum-told-3 c = search rules
 
 returns-3 : tie.Need-returns-3
-unfolding incomingOf fieldsAs joinedFields sized places_at
+unfolding incoming_of fields_as joined_fields sized places_at
 returns-3 c =
     let target = c.before.before.before.before in
     let controls = target.before.before.before.before in
@@ -84,7 +84,7 @@ read-lookup-spec =
     fixed-requires
     enum-known-target
     enum-told-2
-    returns-2
+    returns_2
     fixed-requires-2
     enum-known-validate
     enum-told-3

@@ -2,11 +2,11 @@
 -- Assumes nothing.
 use borrow.Author.Tests.{eq-eqb, ne_eqb, not-true, not-false}
 use mathlib.Core.Path.{sym, ◌∙◌}
-use Rattle.wire_fields.specs.Kinds.{joinedFields, sized}
-use Rattle.wire_fields.specs.Reading.{places_at, fieldsAs}
+use Rattle.wire_fields.specs.Kinds.{joined_fields, sized}
+use Rattle.wire_fields.specs.Reading.{places_at, fields_as}
 use Rattle.wire_shapes.specs.declared.Shape.TheVariants.{Sized}
-use Rattle.wire_fields.proofs.RefusalLaws.{split-value, maybe-four, sized-four}
-use Rattle.wire_read.specs.Answers.{incomingOf}
+use Rattle.wire_fields.proofs.RefusalLaws.{split_value, maybe-four, sized_four}
+use Rattle.wire_read.specs.Answers.{incoming_of}
 use borrow.Author.Rules.{rules}
 use Rattle.wire_read.proofs.request.read_request.Statement.{statement}
 use Rattle.wire_read.proofs.request.read_request.Tie as tie
@@ -21,7 +21,7 @@ enum_told : tie.Need-enum-told
 enum_told c = search rules
 
 returns : tie.Need-returns
-unfolding incomingOf fieldsAs joinedFields sized places_at
+unfolding incoming_of fields_as joined_fields sized places_at
 returns c =
     rw (sym c.before.before.fixed-or-none.ensures ∙ c.enum_told.given.1)
 
@@ -34,9 +34,9 @@ enum-known-split c = search rules
 enum-told-2 : tie.Need-enum-told-2
 enum-told-2 c = search rules
 
-returns-2 : tie.Need-returns-2
-unfolding incomingOf fieldsAs joinedFields sized places_at
-returns-2 c =
+returns_2 : tie.Need-returns-2
+unfolding incoming_of fields_as joined_fields sized places_at
+returns_2 c =
     rw (
       sym c.before.before.before.before.before.before.fixed-or-none.ensures ∙ c.before.before.before.before.flags.given.1,
       sym c.before.before.fixed-or-none2.ensures ∙ c.enum-told2.given.1,
@@ -52,7 +52,7 @@ enum-told-3 : tie.Need-enum-told-3
 enum-told-3 c = search rules
 
 returns-3 : tie.Need-returns-3
-unfolding incomingOf fieldsAs joinedFields sized places_at
+unfolding incoming_of fields_as joined_fields sized places_at
 returns-3 c =
     let split = c.before.before.before.before in
     let flags = split.before.before.before.before in
@@ -72,7 +72,7 @@ enum-told-4 : tie.Need-enum-told-4
 enum-told-4 c = search rules
 
 returns-4 : tie.Need-returns-4
-unfolding incomingOf fieldsAs joinedFields sized places_at
+unfolding incoming_of fields_as joined_fields sized places_at
 returns-4 c =
     let nonce = c.before.before.before.before in
     let split = nonce.before.before.before.before in
@@ -94,7 +94,7 @@ enum-told-5 : tie.Need-enum-told-5
 enum-told-5 c = search rules
 
 returns-5 : tie.Need-returns-5
-unfolding incomingOf fieldsAs joinedFields sized places_at
+unfolding incoming_of fields_as joined_fields sized places_at
 returns-5 c =
     let keys = c.before.before.before.before in
     let nonce = keys.before.before.before.before in
@@ -118,7 +118,7 @@ enum-told-6 : tie.Need-enum-told-6
 enum-told-6 c = search rules
 
 returns-6 : tie.Need-returns-6
-unfolding incomingOf fieldsAs joinedFields sized places_at
+unfolding incoming_of fields_as joined_fields sized places_at
 returns-6 c =
     let credential = c.before.before.before.before in
     let keys = credential.before.before.before.before in
@@ -144,7 +144,7 @@ enum-told-7 : tie.Need-enum-told-7
 enum-told-7 c = search rules
 
 returns-7 : tie.Need-returns-7
-unfolding incomingOf fieldsAs joinedFields sized places_at
+unfolding incoming_of fields_as joined_fields sized places_at
 returns-7 c =
     let signature = c.before.before.before.before in
     let credential = signature.before.before.before.before in
@@ -163,7 +163,7 @@ returns-7 c =
     )
 
 returns-8 : tie.Need-returns-8
-unfolding incomingOf fieldsAs joinedFields sized places_at
+unfolding incoming_of fields_as joined_fields sized places_at
 returns-8 c =
     let key = c.before.before.before in
     let signature = key.before.before.before.before in
@@ -188,10 +188,10 @@ is-whole-requires c κs =
     let credential = c.before.before.before.before.before.before.before.before.before.before.before in
     let split = credential.before.before.before.before.before.before.before.before.before.before.before.before in
     let start = split.before.before.before.before.before.before.before.before in
-    maybe-four start.args.d.now _ _ _ (Sized 4) sized-four _ _ (sym split.before.before.fixed-or-none2.ensures ∙ split.split.given.1)
+    maybe-four start.args.d.now _ _ _ (Sized 4) sized_four _ _ (sym split.before.before.fixed-or-none2.ensures ∙ split.split.given.1)
 
 returns-9 : tie.Need-returns-9
-unfolding incomingOf fieldsAs joinedFields sized places_at
+unfolding incoming_of fields_as joined_fields sized places_at
 returns-9 c =
     let key = c.before.before.before.before.before in
     let signature = key.before.before.before.before in
@@ -209,7 +209,7 @@ returns-9 c =
       sym signature.before.before.any-or-none2.ensures ∙ signature.signature.given.1,
       sym key.before.before.any-or-none3.ensures ∙ key.key.given.1,
       eq-eqb _ _ c.before.before.if1.false,
-      split-value,
+      split_value,
       sym c.before.is_whole.ensures ∙ not-true _ c.if2.true,
     )
 
@@ -227,7 +227,7 @@ head-requires c κs =
     start.requires
 
 returns-10 : tie.Need-returns-10
-unfolding incomingOf fieldsAs joinedFields sized places_at
+unfolding incoming_of fields_as joined_fields sized places_at
 returns-10 c =
     let passed = c.before.before.before.before.before in
     let key = passed.before.before.before in
@@ -246,7 +246,7 @@ returns-10 c =
       sym signature.before.before.any-or-none2.ensures ∙ signature.signature.given.1,
       sym key.before.before.any-or-none3.ensures ∙ key.key.given.1,
       eq-eqb _ _ passed.if1.false,
-      split-value,
+      split_value,
       sym c.before.before.before.before.is_whole.ensures ∙ not-false _ c.before.before.before.if2.false,
       c.before.before.is-here.ensures,
       c.before.is-here2.ensures,
@@ -264,7 +264,7 @@ read-request-spec =
     fixed-or-none-requires-2
     enum-known-split
     enum-told-2
-    returns-2
+    returns_2
     fixed-requires
     enum-known-nonce
     enum-told-3

@@ -2,9 +2,9 @@
 -- Assumes nothing.
 use borrow.Author.Tests.{eq-eqb, ne_eqb}
 use mathlib.Core.Path.{sym, ◌∙◌}
-use Rattle.wire_fields.specs.Kinds.{joinedFields, sized}
-use Rattle.wire_fields.specs.Reading.{places_at, fieldsAs}
-use Rattle.wire_read.specs.Answers.{incomingOf}
+use Rattle.wire_fields.specs.Kinds.{joined_fields, sized}
+use Rattle.wire_fields.specs.Reading.{places_at, fields_as}
+use Rattle.wire_read.specs.Answers.{incoming_of}
 use borrow.Author.Rules.{rules}
 use Rattle.wire_read.proofs.solicit.read_solicit.Statement.{statement}
 use Rattle.wire_read.proofs.solicit.read_solicit.Tie as tie
@@ -19,7 +19,7 @@ enum_told : tie.Need-enum-told
 enum_told c = search rules
 
 returns : tie.Need-returns
-unfolding incomingOf fieldsAs joinedFields sized places_at
+unfolding incoming_of fields_as joined_fields sized places_at
 returns c =
     rw (sym c.before.before.entry-or-none.ensures ∙ c.enum_told.given.1)
 
@@ -32,16 +32,16 @@ enum-known-nonce c = search rules
 enum-told-2 : tie.Need-enum-told-2
 enum-told-2 c = search rules
 
-returns-2 : tie.Need-returns-2
-unfolding incomingOf fieldsAs joinedFields sized places_at
-returns-2 c =
+returns_2 : tie.Need-returns-2
+unfolding incoming_of fields_as joined_fields sized places_at
+returns_2 c =
     rw (
       sym c.before.before.before.before.before.before.entry-or-none.ensures ∙ c.before.before.before.before.entry.given.1,
       sym c.before.before.fixed.ensures ∙ c.enum-told2.given.1,
     )
 
 returns-3 : tie.Need-returns-3
-unfolding incomingOf fieldsAs joinedFields sized places_at
+unfolding incoming_of fields_as joined_fields sized places_at
 returns-3 c =
     let nonce = c.before.before.before in
     let entry = nonce.before.before.before.before in
@@ -55,7 +55,7 @@ head-requires : tie.Need-head-requires
 head-requires c κs = search rules
 
 returns-4 : tie.Need-returns-4
-unfolding incomingOf fieldsAs joinedFields sized places_at
+unfolding incoming_of fields_as joined_fields sized places_at
 returns-4 c =
     let nonce = c.before.before.before.before in
     let entry = nonce.before.before.before.before in
@@ -77,7 +77,7 @@ read-solicit-spec =
     fixed-requires
     enum-known-nonce
     enum-told-2
-    returns-2
+    returns_2
     returns-3
     head-requires
     returns-4)

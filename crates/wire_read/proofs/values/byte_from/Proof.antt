@@ -16,8 +16,8 @@ add-byte c = search rules
 byte-requires : tie.Need-byte-requires
 byte-requires c κs = search rules
 
-returns-2 : tie.Need-returns-2
-returns-2 c = search rules
+returns_2 : tie.Need-returns-2
+returns_2 c = search rules
 
 pub byte-from-spec : {M : Type 1} → statement M
-byte-from-spec = tie.close (tie.spec returns add-byte byte-requires returns-2)
+byte-from-spec = tie.close (tie.spec returns add-byte byte-requires returns_2)

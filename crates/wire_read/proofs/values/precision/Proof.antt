@@ -3,7 +3,7 @@ use Prim.Native.Nat.{◌+◌}
 use borrow.Author.Tests.{eq-eqb, ne_eqb}
 use mathlib.Core.Path.{sym, ◌∙◌}
 use lib.ListN.{get_or}
-use Rattle.wire_read.specs.Answers.{precisionAt}
+use Rattle.wire_read.specs.Answers.{precision_at}
 use borrow.Author.Rules.{rules}
 use Rattle.wire_read.proofs.values.precision.Statement.{statement}
 use Rattle.wire_read.proofs.values.precision.Tie as tie
@@ -12,7 +12,7 @@ byte-from-requires : tie.Need-byte-from-requires
 byte-from-requires c κs = search rules
 
 returns : tie.Need-returns
-unfolding precisionAt
+unfolding precision_at
 returns c =
     let a = c.before.before.before.args in
     rw (ne_eqb (get_or a.d.now (a.start + 4) 0) 8 (λ q. c.if1.true (c.before.byte-from.ensures ∙ q)))
@@ -35,9 +35,9 @@ mul-result c = search rules
 add-result : tie.Need-overflow-add-result
 add-result c = search rules
 
-returns-2 : tie.Need-returns-2
-unfolding precisionAt
-returns-2 c =
+returns_2 : tie.Need-returns-2
+unfolding precision_at
+returns_2 c =
     let a = c.before.before.before.before.before.args in
     let e = sym c.before.before.before.byte-from.ensures ∙ c.before.before.if1.false in
     rw (eq-eqb (get_or a.d.now (a.start + 4) 0) 8 e, sym c.before.byte-from2.ensures, sym c.byte-from3.ensures)
@@ -54,4 +54,4 @@ precision-spec =
     cast-low
     mul-result
     add-result
-    returns-2)
+    returns_2)

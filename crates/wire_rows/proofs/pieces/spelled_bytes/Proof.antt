@@ -1,6 +1,6 @@
 -- `wire_rows::pieces::spelled_bytes` meets its contract: the digits of the two numbers. Assumes nothing.
 use native.Mathlib.Nat.{div-one}
-use Rattle.octet.specs.Number.{digitsBE}
+use Rattle.octet.specs.Number.{digits_be}
 use borrow.Author.Rules.{rules}
 use Rattle.wire_rows.proofs.pieces.spelled_bytes.Statement.{statement}
 use Rattle.wire_rows.proofs.pieces.spelled_bytes.Tie as tie
@@ -24,7 +24,7 @@ cast_f : tie.Need-overflow-cast-f
 cast_f c = search rules
 
 returns : tie.Need-returns
-unfolding digitsBE
+unfolding digits_be
 returns c = rw (div-one c.args.acked, div-one c.args.size)
 
 pub spelled-bytes-spec : {M : Type 1} → statement M

@@ -20,8 +20,8 @@ write-plain-requires c κs = search rules
 same-length-2 : tie.Need-same-length-2
 same-length-2 c = search rules
 
-returns-2 : tie.Need-returns-2
-returns-2 c =
+returns_2 : tie.Need-returns-2
+returns_2 c =
     let plain = c.before.before in
     rw plain.before.before.if1.false plain.write-plain.ensures
 
@@ -34,4 +34,4 @@ write-ack-spec =
     returns
     write-plain-requires
     same-length-2
-    returns-2)
+    returns_2)

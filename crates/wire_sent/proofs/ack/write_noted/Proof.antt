@@ -22,8 +22,8 @@ write-u16-requires c κs = search rules
 same_length : tie.Need-same-length
 same_length c = search rules
 
-returns-2 : tie.Need-returns-2
-returns-2 c =
+returns_2 : tie.Need-returns-2
+returns_2 c =
     let flags = c.before.before in
     let head = flags.before.before.before.before in
     let put = head.before.before.before.before in
@@ -42,4 +42,4 @@ write-noted-spec =
     put-head-requires
     write-u16-requires
     same_length
-    returns-2)
+    returns_2)

@@ -16,8 +16,8 @@ put-acked-requires c κs = search rules
 same_length : tie.Need-same-length
 same_length c = search rules
 
-returns-2 : tie.Need-returns-2
-returns-2 c =
+returns_2 : tie.Need-returns-2
+returns_2 c =
     let put = c.before.before in
     let room = put.before.before in
     let a = room.before.before.args in
@@ -25,4 +25,4 @@ returns-2 c =
     put.put-acked.ensures
 
 pub write-plain-spec : {M : Type 1} → statement M
-write-plain-spec = tie.close (tie.spec returns put-acked-requires same_length returns-2)
+write-plain-spec = tie.close (tie.spec returns put-acked-requires same_length returns_2)

@@ -2,10 +2,10 @@
 use Prim.Native.Nat.{◌+◌}
 use native.Mathlib.Omega.{arith}
 use Rattle.octet.specs.Part.{part}
-use Rattle.wire_write.specs.Making.{closestMade}
+use Rattle.wire_write.specs.Making.{closest_made}
 use Rattle.wire_write.proofs.WriteLaws.{wrote-6}
-use Rattle.wire_sent.specs.Fronts.{answerFront, entryField}
-use Rattle.wire_sent.proofs.FrontLaws.{EntryAt, no-entry, entry-there, entry-most, field-long, answer-long, closest-known}
+use Rattle.wire_sent.specs.Fronts.{answer_front, entry_field}
+use Rattle.wire_sent.proofs.FrontLaws.{EntryAt, no-entry, entry-there, entry-most, field-long, answer_long, closest-known}
 use Rattle.wire_sent.proofs.FrontLaws.{next, wrote-short, wrote_right}
 use borrow.Author.Rules.{rules}
 use Rattle.wire_sent.proofs.authority.write_closest.Statement.{statement}
@@ -19,16 +19,16 @@ entry-len-requires : tie.Need-entry-len-requires
 entry-len-requires c κs = search rules
 
 returns : tie.Need-returns
-unfolding closestMade
+unfolding closest_made
 returns c = let a = c.before.before.before.before.args in
-    wrote-6 (closestMade a.major a.minor a.id a.acked a.s.now a.at) a.out.now
+    wrote-6 (closest_made a.major a.minor a.id a.acked a.s.now a.at) a.out.now
     (no-entry a.at _ a.s.now c.before.entry-len.ensures c.if1.true)
 
 add-size : tie.Need-overflow-add-size
 add-size c = omega (arith, entry-most (there c))
 
-returns-2 : tie.Need-returns-2
-returns-2 c =
+returns_2 : tie.Need-returns-2
+returns_2 c =
     let a = c.before.before.before.before.before.args in
     wrote-short (closest-known (there c.before) a.major a.minor a.id a.acked) a.out.now (omega (arith, c.if2.true))
 
@@ -56,11 +56,11 @@ returns-3 c =
     let w = there room.before in
     let a = room.before.before.before.before.before.args in
     let n = room.before.before.entry-len.result in
-    let x = answerFront a.major a.minor a.id a.acked (8 + n) in
-    let y = entryField a.major a.minor (part a.at 100 a.s.now) in
+    let x = answer_front a.major a.minor a.id a.acked (8 + n) in
+    let y = entry_field a.major a.minor (part a.at 100 a.s.now) in
     wrote_right (closest-known w a.major a.minor a.id a.acked) a.out.now (omega (arith, room.if2.false))
     (omega (arith, entry-most w))
-    (next a.out.now 36 x y answer.put-answer.ensures (answer-long a.major a.minor a.id a.acked (8 + n))
+    (next a.out.now 36 x y answer.put-answer.ensures (answer_long a.major a.minor a.id a.acked (8 + n))
     (omega (arith, room.if2.false, field-long w a.major a.minor)) entry.put-entry.ensures)
 
 pub write-closest-spec : {M : Type 1} → statement M
@@ -70,7 +70,7 @@ write-closest-spec =
     entry-len-requires
     returns
     add-size
-    returns-2
+    returns_2
     add-put-answer
     put-answer-requires
     put-entry-requires

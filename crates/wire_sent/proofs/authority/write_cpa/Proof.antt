@@ -13,8 +13,8 @@ returns c =
 add-size : tie.Need-overflow-add-size
 add-size c = search rules
 
-returns-2 : tie.Need-returns-2
-returns-2 c =
+returns_2 : tie.Need-returns-2
+returns_2 c =
     let a = c.before.before.before.before.args in
     wrote-short (cpa-known a.major a.minor a.id a.acked a.cpa.now) a.out.now (omega (arith, c.if2.true))
 
@@ -52,7 +52,7 @@ write-cpa-spec =
     (tie.spec
     returns
     add-size
-    returns-2
+    returns_2
     add-put-answer
     put-answer-requires
     put-head-requires

@@ -6,11 +6,11 @@ use lib.Dec.{eqb}
 use lib.ListN.{length}
 use borrow.Author.Tests.{ne_eqb}
 use Rattle.octet.specs.Part.{part}
-use Rattle.wire_shapes.proofs.ShapeLaws.{and-false}
-use Rattle.wire_write.specs.Making.{floodMade}
+use Rattle.wire_shapes.proofs.ShapeLaws.{and_false}
+use Rattle.wire_write.specs.Making.{flood_made}
 use Rattle.wire_write.proofs.WriteLaws.{wrote-6}
-use Rattle.wire_sent.specs.Fronts.{keyFront, entryField}
-use Rattle.wire_sent.proofs.FrontLaws.{EntryAt, no-entry, entry-there, entry-most, field-long, key-long, flood-known}
+use Rattle.wire_sent.specs.Fronts.{key_front, entry_field}
+use Rattle.wire_sent.proofs.FrontLaws.{EntryAt, no-entry, entry-there, entry-most, field-long, key-long, flood_known}
 use Rattle.wire_sent.proofs.FrontLaws.{next, wrote-short, wrote_right}
 use borrow.Author.Rules.{rules}
 use Rattle.wire_sent.proofs.flood.write_flood.Statement.{statement}
@@ -25,19 +25,19 @@ keyed : (m : tie.Else2) → length m.before.before.before.before.before.before.a
 keyed m = omega (arith, m.before.before.if1.false)
 
 returns : tie.Need-returns
-unfolding floodMade
+unfolding flood_made
 returns c = let a = c.before.before.before.before.args in
-    wrote-6 (floodMade a.major a.minor a.id a.key.now a.s.now a.at) a.out.now
+    wrote-6 (flood_made a.major a.minor a.id a.key.now a.s.now a.at) a.out.now
     (rw (ne_eqb (length a.key.now) 32 c.if1.true) refl)
 
 entry-len-requires : tie.Need-entry-len-requires
 entry-len-requires c κs = search rules
 
-returns-2 : tie.Need-returns-2
-unfolding floodMade
-returns-2 c = let a = c.before.before.before.before.before.before.args in
-    wrote-6 (floodMade a.major a.minor a.id a.key.now a.s.now a.at) a.out.now
-    (rw (no-entry a.at _ a.s.now c.before.entry-len.ensures c.if2.true) (and-false (eqb (length a.key.now) 32)))
+returns_2 : tie.Need-returns-2
+unfolding flood_made
+returns_2 c = let a = c.before.before.before.before.before.before.args in
+    wrote-6 (flood_made a.major a.minor a.id a.key.now a.s.now a.at) a.out.now
+    (rw (no-entry a.at _ a.s.now c.before.entry-len.ensures c.if2.true) (and_false (eqb (length a.key.now) 32)))
 
 add-size : tie.Need-overflow-add-size
 add-size c = omega (arith, entry-most (there c))
@@ -45,7 +45,7 @@ add-size c = omega (arith, entry-most (there c))
 returns-3 : tie.Need-returns-3
 returns-3 c =
     let a = c.before.before.before.before.before.before.before.args in
-    wrote-short (flood-known (there c.before) a.major a.minor a.id a.key.now (keyed c.before)) a.out.now
+    wrote-short (flood_known (there c.before) a.major a.minor a.id a.key.now (keyed c.before)) a.out.now
     (omega (arith, c.if3.true))
 
 put-keyed-requires : tie.Need-put-keyed-requires
@@ -69,9 +69,9 @@ returns-4 c =
     let w = there room.before in
     let k = keyed room.before in
     let a = room.before.before.before.before.before.before.before.args in
-    let x = keyFront a.major a.minor 4 a.id 0x43 3 0 a.key.now in
-    let y = entryField a.major a.minor (part a.at 100 a.s.now) in
-    wrote_right (flood-known w a.major a.minor a.id a.key.now k) a.out.now (omega (arith, room.if3.false))
+    let x = key_front a.major a.minor 4 a.id 0x43 3 0 a.key.now in
+    let y = entry_field a.major a.minor (part a.at 100 a.s.now) in
+    wrote_right (flood_known w a.major a.minor a.id a.key.now k) a.out.now (omega (arith, room.if3.false))
     (omega (arith, entry-most w))
     (next a.out.now 56 x y front.put-keyed.ensures (key-long a.major a.minor 4 a.id 0x43 3 0 a.key.now k)
     (omega (arith, room.if3.false, field-long w a.major a.minor)) entry.put-entry.ensures)
@@ -82,7 +82,7 @@ write-flood-spec =
     (tie.spec
     returns
     entry-len-requires
-    returns-2
+    returns_2
     add-size
     returns-3
     put-keyed-requires

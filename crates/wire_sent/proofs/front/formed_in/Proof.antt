@@ -13,8 +13,8 @@ returns c = let a = c.before.before.args in rw (lt-leb (a.start + 100) (length a
 sub-if2 : tie.Need-overflow-sub-if2
 sub-if2 c = search rules
 
-returns-2 : tie.Need-returns-2
-returns-2 c = let a = c.before.before.before.args in rw (lt-leb (a.start + 100) (length a.s.now) (omega arith))
+returns_2 : tie.Need-returns-2
+returns_2 c = let a = c.before.before.before.args in rw (lt-leb (a.start + 100) (length a.s.now) (omega arith))
 
 is-formed-requires : tie.Need-is-formed-requires
 is-formed-requires c κs = search rules
@@ -25,4 +25,4 @@ returns-3 c =
     rw (le-leb (a.start + 100) (length a.s.now) (omega arith)) c.is-formed.ensures
 
 pub formed-in-spec : {M : Type 1} → statement M
-formed-in-spec = tie.close (tie.spec returns sub-if2 returns-2 is-formed-requires returns-3)
+formed-in-spec = tie.close (tie.spec returns sub-if2 returns_2 is-formed-requires returns-3)

@@ -2,10 +2,10 @@
 use Prim.Native.Nat.{◌+◌}
 use native.Mathlib.Omega.{arith}
 use mathlib.Core.Path.{ap, ◌∙◌}
-use Rattle.octet.specs.Number.{digitsBE}
+use Rattle.octet.specs.Number.{digits_be}
 use Rattle.octet.specs.Part.{splice}
-use Rattle.octet.proofs.BigLaws.{length-digitsBE}
-use Rattle.wire_write.proofs.PutLaws.{put-put, head-length}
+use Rattle.octet.proofs.BigLaws.{length-digits_be}
+use Rattle.wire_write.proofs.PutLaws.{put-put, head_length}
 use Rattle.wire_sent.specs.Fronts.{mark}
 use borrow.Author.Rules.{rules}
 use Rattle.wire_sent.proofs.front.put_word.Statement.{statement}
@@ -29,10 +29,10 @@ returns c =
     let head = sent.before.before.before.before in
     let start = head.before.before.before in
     let a = start.args in
-    let long = head-length a.number (a.len + 4) in
-    let four = length-digitsBE 256 4 a.word in
-    sent.write-u32.ensures ∙ ap (splice (a.at + 4) (digitsBE 256 4 a.word)) head.put-head.ensures
-    ∙ put-put a.out.now a.at (mark a.number a.len) (omega (arith, start.requires.0)) (a.at + 4) (digitsBE 256 4 a.word) (omega arith)
+    let long = head_length a.number (a.len + 4) in
+    let four = length-digits_be 256 4 a.word in
+    sent.write-u32.ensures ∙ ap (splice (a.at + 4) (digits_be 256 4 a.word)) head.put-head.ensures
+    ∙ put-put a.out.now a.at (mark a.number a.len) (omega (arith, start.requires.0)) (a.at + 4) (digits_be 256 4 a.word) (omega arith)
     (omega (arith, start.requires.0))
 
 pub put-word-spec : {M : Type 1} → statement M

@@ -4,32 +4,32 @@ use mathlib.Core.Path.{◌≡◌, refl}
 use lib.Dec.{eqb}
 use lib.ListN.{length}
 use borrow.Author.Tests.{ne_eqb}
-use Rattle.wire_shapes.proofs.ShapeLaws.{and-false}
-use Rattle.wire_write.specs.Making.{inquireMade}
+use Rattle.wire_shapes.proofs.ShapeLaws.{and_false}
+use Rattle.wire_write.specs.Making.{inquire_made}
 use Rattle.wire_write.proofs.WriteLaws.{wrote-6}
-use Rattle.wire_sent.proofs.FrontLaws.{inquire-known, inquire-put, wrote-short, wrote_right}
+use Rattle.wire_sent.proofs.FrontLaws.{inquire_known, inquire-put, wrote-short, wrote_right}
 use borrow.Author.Rules.{rules}
 use Rattle.wire_sent.proofs.inquire.write_inquire.Statement.{statement}
 use Rattle.wire_sent.proofs.inquire.write_inquire.Tie as tie
 
 returns : tie.Need-returns
-unfolding inquireMade
+unfolding inquire_made
 returns c = let a = c.before.before.before.before.args in
-    wrote-6 (inquireMade a.major a.minor a.id a.key.now a.nonce.now) a.out.now
+    wrote-6 (inquire_made a.major a.minor a.id a.key.now a.nonce.now) a.out.now
     (rw (ne_eqb (length a.key.now) 32 c.if1.true) refl)
 
-returns-2 : tie.Need-returns-2
-unfolding inquireMade
-returns-2 c = let a = c.before.before.before.before.before.args in
-    wrote-6 (inquireMade a.major a.minor a.id a.key.now a.nonce.now) a.out.now
-    (rw (ne_eqb (length a.nonce.now) 16 c.if2.true) (and-false (eqb (length a.key.now) 32)))
+returns_2 : tie.Need-returns-2
+unfolding inquire_made
+returns_2 c = let a = c.before.before.before.before.before.args in
+    wrote-6 (inquire_made a.major a.minor a.id a.key.now a.nonce.now) a.out.now
+    (rw (ne_eqb (length a.nonce.now) 16 c.if2.true) (and_false (eqb (length a.key.now) 32)))
 
 returns-3 : tie.Need-returns-3
 returns-3 c =
     let a = c.before.before.before.before.before.before.args in
     let k : length a.key.now ≡ 32 = omega (arith, c.before.before.if1.false) in
     let n : length a.nonce.now ≡ 16 = omega (arith, c.before.if2.false) in
-    wrote-short (inquire-known a.major a.minor a.id a.key.now a.nonce.now k n) a.out.now (omega (arith, c.if3.true))
+    wrote-short (inquire_known a.major a.minor a.id a.key.now a.nonce.now k n) a.out.now (omega (arith, c.if3.true))
 
 put-keyed-requires : tie.Need-put-keyed-requires
 put-keyed-requires c κs = search rules
@@ -52,7 +52,7 @@ returns-4 c =
     let a = room.before.before.before.before.before.before.args in
     let k : length a.key.now ≡ 32 = omega (arith, room.before.before.if1.false) in
     let n : length a.nonce.now ≡ 16 = omega (arith, room.before.if2.false) in
-    wrote_right (inquire-known a.major a.minor a.id a.key.now a.nonce.now k n) a.out.now (omega (arith, room.if3.false))
+    wrote_right (inquire_known a.major a.minor a.id a.key.now a.nonce.now k n) a.out.now (omega (arith, room.if3.false))
     (omega arith)
     (inquire-put a.major a.minor a.id a.key.now a.nonce.now a.out.now k n (omega (arith, room.if3.false))
     front.put-keyed.ensures head.put-head.ensures copy.copy-16.ensures)
@@ -62,7 +62,7 @@ write-inquire-spec =
     tie.close
     (tie.spec
     returns
-    returns-2
+    returns_2
     returns-3
     put-keyed-requires
     put-head-requires

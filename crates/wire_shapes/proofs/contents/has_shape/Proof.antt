@@ -1,7 +1,7 @@
 use mathlib.Core.Path.{sym, ap}
 use Prim.Native.Nat.{ℕ}
 use lib.Dec.{eqb}
-use Rattle.wire_shapes.specs.Shapes.{hasShape}
+use Rattle.wire_shapes.specs.Shapes.{has_shape}
 use Rattle.octet.proofs.PartLaws.{length_part}
 use borrow.Author.Rules.{rules}
 use Rattle.wire_shapes.proofs.contents.has_shape.Statement.{statement}
@@ -38,31 +38,31 @@ is-array-requires : tie.Need-is-array-requires
 is-array-requires c κs = search rules
 
 returns : tie.Need-returns
-unfolding hasShape
+unfolding has_shape
 returns c =
     let start = c.before.before.before.before in
     let a = start.args in
     rw c.before.shape.given.1
     (ap (λ (k : ℕ). eqb k c.before.shape.given.0.0) (sym (length_part a.start a.len a.d.now start.requires)))
 
-returns-2 : tie.Need-returns-2
-unfolding hasShape
-returns-2 c = rw c.enum_told.given.1
+returns_2 : tie.Need-returns-2
+unfolding has_shape
+returns_2 c = rw c.enum_told.given.1
 
 returns-3 : tie.Need-returns-3
-unfolding hasShape
+unfolding has_shape
 returns-3 c = rw c.before.enum-told2.given.1 c.is-entry.ensures
 
 returns-4 : tie.Need-returns-4
-unfolding hasShape
+unfolding has_shape
 returns-4 c = rw c.before.enum-told3.given.1 c.is-lookup.ensures
 
 returns-5 : tie.Need-returns-5
-unfolding hasShape
+unfolding has_shape
 returns-5 c = rw c.before.enum-told4.given.1 c.is-split.ensures
 
 returns-6 : tie.Need-returns-6
-unfolding hasShape
+unfolding has_shape
 returns-6 c = rw c.before.before.shape2.given.1 c.is-array.ensures
 
 pub has-shape-spec : {M : Type 1} → statement M
@@ -80,7 +80,7 @@ has-shape-spec =
     enum-known-shape-2
     is-array-requires
     returns
-    returns-2
+    returns_2
     returns-3
     returns-4
     returns-5

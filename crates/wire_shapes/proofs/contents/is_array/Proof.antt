@@ -6,7 +6,7 @@ use mathlib.Core.Path.{sym, ap, ◌∙◌}
 use Prim.Native.Nat.{ℕ, ◌+◌, ◌*◌, ◌≤◌}
 use lib.Dec.{eqb}
 use Rattle.wire_shapes.specs.Field.{number_at}
-use Rattle.wire_shapes.proofs.ShapeLaws.{array-short, array-in}
+use Rattle.wire_shapes.proofs.ShapeLaws.{array-short, array_in}
 use Rattle.wire_shapes.proofs.contents.is_array.Statement.{statement}
 use Rattle.wire_shapes.proofs.contents.is_array.Tie as tie
 
@@ -18,11 +18,11 @@ returns c =
 read-u16-requires : tie.Need-read-u16-requires
 read-u16-requires c κs = search rules
 
-returns-2 : tie.Need-returns-2
-returns-2 c =
+returns_2 : tie.Need-returns-2
+returns_2 c =
     let a = c.before.before.before.before.args in
     rw (
-      array-in a.d.now a.start a.len (search rules) a.element a.size a.least a.most (omega arith),
+      array_in a.d.now a.start a.len (search rules) a.element a.size a.least a.most (omega arith),
       lt-leb a.least (number_at a.start 2 a.d.now) (omega arith),
     )
 
@@ -30,7 +30,7 @@ returns-3 : tie.Need-returns-3
 returns-3 c =
     let a = c.before.before.before.before.before.args in
     rw (
-      array-in a.d.now a.start a.len (search rules) a.element a.size a.least a.most (omega arith),
+      array_in a.d.now a.start a.len (search rules) a.element a.size a.least a.most (omega arith),
       le-leb a.least (number_at a.start 2 a.d.now) (omega arith),
       lt-leb (number_at a.start 2 a.d.now) a.most (omega arith),
     )
@@ -64,7 +64,7 @@ returns-4 c =
     let a = c.before.before.before.before.before.before.before.args in
     let w = ap (λ (n : ℕ). 8 + n * a.size) c.before.before.before.before.read-u16.ensures in
     rw (
-      array-in a.d.now a.start a.len (search rules) a.element a.size a.least a.most (omega arith),
+      array_in a.d.now a.start a.len (search rules) a.element a.size a.least a.most (omega arith),
       le-leb a.least (number_at a.start 2 a.d.now) (omega arith),
       le-leb (number_at a.start 2 a.d.now) a.most (omega arith),
       ne_eqb (number_at (a.start + 2) 2 a.d.now) (8 + (number_at a.start 2 a.d.now) * a.size)
@@ -83,7 +83,7 @@ returns-5 c =
     let a = read-u16.before.before.before.args in
     let w = ap (λ (n : ℕ). 8 + n * a.size) read-u16.read-u16.ensures in
     rw (
-      array-in a.d.now a.start a.len (search rules) a.element a.size a.least a.most (omega arith),
+      array_in a.d.now a.start a.len (search rules) a.element a.size a.least a.most (omega arith),
       le-leb a.least (number_at a.start 2 a.d.now) (omega arith),
       le-leb (number_at a.start 2 a.d.now) a.most (omega arith),
       eq-eqb (number_at (a.start + 2) 2 a.d.now) (8 + (number_at a.start 2 a.d.now) * a.size)
@@ -103,7 +103,7 @@ returns-6 c =
     let a = read-u162.before.before.before.before.before.before.args in
     let w = ap (λ (n : ℕ). 8 + n * a.size) read-u162.before.before.before.read-u16.ensures in
     rw (
-      array-in a.d.now a.start a.len (search rules) a.element a.size a.least a.most (omega arith),
+      array_in a.d.now a.start a.len (search rules) a.element a.size a.least a.most (omega arith),
       le-leb a.least (number_at a.start 2 a.d.now) (omega arith),
       le-leb (number_at a.start 2 a.d.now) a.most (omega arith),
       eq-eqb (number_at (a.start + 2) 2 a.d.now) (8 + (number_at a.start 2 a.d.now) * a.size)
@@ -118,7 +118,7 @@ returns-7 c =
     let a = read-u162.before.before.before.before.before.before.args in
     let w = ap (λ (n : ℕ). 8 + n * a.size) read-u162.before.before.before.read-u16.ensures in
     rw (
-      array-in a.d.now a.start a.len (search rules) a.element a.size a.least a.most (omega arith),
+      array_in a.d.now a.start a.len (search rules) a.element a.size a.least a.most (omega arith),
       le-leb a.least (number_at a.start 2 a.d.now) (omega arith),
       le-leb (number_at a.start 2 a.d.now) a.most (omega arith),
       eq-eqb (number_at (a.start + 2) 2 a.d.now) (8 + (number_at a.start 2 a.d.now) * a.size)
@@ -133,7 +133,7 @@ is-array-spec =
     (tie.spec
     returns
     read-u16-requires
-    returns-2
+    returns_2
     returns-3
     cast-whole
     mul-whole

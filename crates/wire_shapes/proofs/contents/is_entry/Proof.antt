@@ -4,7 +4,7 @@ use mathlib.Core.Path.{sym, ap, ◌∙◌}
 use Prim.Native.Nat.{ℕ, ◌+◌, ◌*◌}
 use lib.Dec.{leb, eqb}
 use lib.ListN.{get_or}
-use Rattle.wire_shapes.proofs.ShapeLaws.{entry-few, entry_in, entry-many, and-false}
+use Rattle.wire_shapes.proofs.ShapeLaws.{entry-few, entry_in_lem, entry-many, and_false}
 use borrow.Author.Rules.{rules}
 use Rattle.wire_shapes.proofs.contents.is_entry.Statement.{statement}
 use Rattle.wire_shapes.proofs.contents.is_entry.Tie as tie
@@ -21,14 +21,14 @@ shared-slice-read-wide c = search rules
 wide-requires : tie.Need-wide-requires
 wide-requires c κs = search rules
 
-returns-2 : tie.Need-returns-2
-returns-2 c =
+returns_2 : tie.Need-returns-2
+returns_2 c =
     let a = c.before.before.before.before.before.args in
     let n = get_or a.d.now (a.start + 37) 0 in
     rw (
-      entry_in a.d.now a.start a.len (search rules) (omega arith),
+      entry_in_lem a.d.now a.start a.len (search rules) (omega arith),
       lt-leb n 4 (omega arith),
-      and-false (leb 1 n),
+      and_false (leb 1 n),
     )
 
 mul-result : tie.Need-overflow-mul-result
@@ -51,7 +51,7 @@ is-entry-spec =
     add_wide
     shared-slice-read-wide
     wide-requires
-    returns-2
+    returns_2
     mul-result
     add-result
     returns-3)

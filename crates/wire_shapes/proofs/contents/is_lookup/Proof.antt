@@ -17,8 +17,8 @@ add-if2 c = search rules
 shared-slice-read-if2 : tie.Need-shared-slice-read-if2
 shared-slice-read-if2 c = search rules
 
-returns-2 : tie.Need-returns-2
-returns-2 c =
+returns_2 : tie.Need-returns-2
+returns_2 c =
     let a = c.before.before.before.args in
     rw (lookup-in a.d.now a.start a.len (search rules) (omega arith), lt-leb (get_or a.d.now (a.start + 5) 0) 3 (omega arith))
 
@@ -64,7 +64,7 @@ is-lookup-spec =
     returns
     add-if2
     shared-slice-read-if2
-    returns-2
+    returns_2
     add-criteria
     shared-slice-read-criteria
     returns-3

@@ -15,8 +15,8 @@ returns c = let a = c.before.before.args in sym (split-other a.d.now a.start a.l
 read-u16-requires : tie.Need-read-u16-requires
 read-u16-requires c κs = search rules
 
-returns-2 : tie.Need-returns-2
-returns-2 c =
+returns_2 : tie.Need-returns-2
+returns_2 c =
     let a = c.before.before.before.before.args in
     rw (split-in a.d.now a.start a.len (search rules) (omega arith), lt-leb (number_at a.start 2 a.d.now) 0x91E4 (omega arith))
 
@@ -34,4 +34,4 @@ returns-3 c =
 
 pub is-split-spec : {M : Type 1} → statement M
 is-split-spec =
-    tie.close (tie.spec returns read-u16-requires returns-2 add-read-u16 read-u16-requires-2 returns-3)
+    tie.close (tie.spec returns read-u16-requires returns_2 add-read-u16 read-u16-requires-2 returns-3)

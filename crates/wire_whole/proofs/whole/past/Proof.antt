@@ -10,9 +10,9 @@ use Rattle.wire_whole.proofs.whole.past.Tie as tie
 returns : tie.Need-returns
 returns c = let a = c.before.args in omega (arith, past_more a.at true a.padded a.len)
 
-returns-2 : tie.Need-returns-2
+returns_2 : tie.Need-returns-2
 unfolding past_of
-returns-2 c = omega arith
+returns_2 c = omega arith
 
 add-end : tie.Need-overflow-add-end
 add-end c = search rules
@@ -37,4 +37,4 @@ returns-4 c = omega (arith, c.before.padding.ensures.0)
 pub past-spec : {M : Type 1} → statement M
 past-spec =
     tie.close
-    (tie.spec returns returns-2 add-end add-end-2 padding-requires add-next returns-3 returns-4)
+    (tie.spec returns returns_2 add-end add-end-2 padding-requires add-next returns-3 returns-4)

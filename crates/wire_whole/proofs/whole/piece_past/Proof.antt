@@ -13,8 +13,8 @@ returns c = rw (not-true c.before.before.args.p.there c.if1.true) (omega (arith,
 past-requires : tie.Need-past-requires
 past-requires c κs = search rules
 
-returns-2 : tie.Need-returns-2
-returns-2 c = rw (not-false c.before.before.before.args.p.there c.before.if1.false) c.past.ensures
+returns_2 : tie.Need-returns-2
+returns_2 c = rw (not-false c.before.before.before.args.p.there c.before.if1.false) c.past.ensures
 
 pub piece-past-spec : {M : Type 1} → statement M
-piece-past-spec = tie.close (tie.spec returns past-requires returns-2)
+piece-past-spec = tie.close (tie.spec returns past-requires returns_2)

@@ -4,13 +4,13 @@ use native.Mathlib.Omega.{arith}
 use mathlib.Core.List.{[]}
 use mathlib.Core.Path.{◌≡◌, refl, ◌∙◌}
 use lib.ListN.{length, drop, drop_of_length-le}
-use Rattle.wire_write.specs.Pieces.{endRows}
-use Rattle.wire_write.proofs.PieceLaws.{no_row, no-piece, step-cap}
+use Rattle.wire_write.specs.Pieces.{end_rows}
+use Rattle.wire_write.proofs.PieceLaws.{no_row, no_piece_lem, step-cap}
 use Rattle.wire_whole.proofs.whole.pieces_end.Statement.{statement}
 use Rattle.wire_whole.proofs.whole.pieces_end.Tie as tie
 
 abbrev invariant-loop : tie.invariant-loop
-invariant-loop rows ps i₀ at₀ i at = (min 1233 (endRows at (drop i rows) (drop i ps)) ≡ min 1233 (endRows 12 rows ps)) × (i ≤ 9) × (at ≤ 1233)
+invariant-loop rows ps i₀ at₀ i at = (min 1233 (end_rows at (drop i rows) (drop i ps)) ≡ min 1233 (end_rows 12 rows ps)) × (i ≤ 9) × (at ≤ 1233)
 
 abbrev decreases-loop : tie.decreases-loop
 decreases-loop rows ps i₀ at₀ i at = 9 - i
@@ -47,7 +47,7 @@ loop-again c =
     let i = at-loop.loop.i in
     let hr : i < length a.t1 = omega (arith, start.requires.0) in
     let hp : i < length a.t2 = omega (arith, start.requires.1) in (
-      step-cap a.t1 a.t2 i no_row no-piece hr hp at-loop.loop.at _ c.piece-past.ensures ∙ at-loop.loop.invariant.0,
+      step-cap a.t1 a.t2 i no_row no_piece_lem hr hp at-loop.loop.at _ c.piece-past.ensures ∙ at-loop.loop.invariant.0,
       omega arith,
       omega (arith, c.piece-past.ensures),
     )
@@ -59,7 +59,7 @@ returns c =
     let v = c.before.loop.invariant in
     let i = c.before.loop.i in
     let d : drop i a.t1 ≡ [] = drop_of_length-le a.t1 {i = i} (omega (arith, start.requires.0, v.1)) in
-    let e : min 1233 c.before.loop.at ≡ min 1233 (endRows 12 a.t1 a.t2) = rw d at v.0 in
+    let e : min 1233 c.before.loop.at ≡ min 1233 (end_rows 12 a.t1 a.t2) = rw d at v.0 in
     omega (arith, v.2)
 
 pub pieces-end-spec : {M : Type 1} → statement M

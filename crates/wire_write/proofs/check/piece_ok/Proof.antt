@@ -25,8 +25,8 @@ enum-told-3 c = search rules
 shaped-in-requires-3 : tie.Need-shaped-in-requires-3
 shaped-in-requires-3 c κs = search rules
 
-returns-2 : tie.Need-returns-2
-returns-2 c =
+returns_2 : tie.Need-returns-2
+returns_2 c =
     let start = c.before.before.before.before.before.before.before.before in
     rw (not-false start.args.p.there c.before.before.before.if1.false, c.before.enum_told.given.1) c.IsShaped-in.ensures
 
@@ -51,6 +51,6 @@ piece-ok-spec =
     shaped-in-requires-2
     enum-told-3
     shaped-in-requires-3
-    returns-2
+    returns_2
     returns-3
     returns-4)

@@ -5,14 +5,14 @@ use borrow.Author.Tests.{not-true, not-false}
 use mathlib.Core.List.{[]}
 use mathlib.Core.Path.{◌≡◌, refl, sym, ◌∙◌}
 use lib.ListN.{length, drop, drop_of_length-le}
-use Rattle.wire_write.specs.Pieces.{lent_of, rowsOk}
-use Rattle.wire_write.proofs.PieceLaws.{no_row, no-piece, step_ok}
+use Rattle.wire_write.specs.Pieces.{lent_of, rows_ok}
+use Rattle.wire_write.proofs.PieceLaws.{no_row, no_piece_lem, step_ok}
 use Rattle.wire_write.proofs.check.pieces_ok.Statement.{statement}
 use Rattle.wire_write.proofs.check.pieces_ok.Tie as tie
 
 abbrev invariant-loop : tie.invariant-loop
 invariant-loop spelled first second rows ps i₀ i =
-    (rowsOk (lent_of spelled first second) (drop i rows) (drop i ps) ≡ rowsOk (lent_of spelled first second) rows ps) × (i ≤ 9)
+    (rows_ok (lent_of spelled first second) (drop i rows) (drop i ps) ≡ rows_ok (lent_of spelled first second) rows ps) × (i ≤ 9)
 
 abbrev decreases-loop : tie.decreases-loop
 decreases-loop spelled first second rows ps i₀ i = 9 - i
@@ -43,7 +43,7 @@ returns c =
     let l = lent_of a.spelled.now a.first.now a.second.now in
     let hr : i < length a.t1 = (let z = c.before.before.before.before.before.before.before.before.before.requires.0 in omega arith) in
     let hp : i < length a.t2 = (let z = c.before.before.before.before.before.before.before.before.before.requires.1 in omega arith) in
-    rw (sym v.0, step_ok a.t1 a.t2 i no_row no-piece hr hp l, sym c.before.piece-ok.ensures ∙ not-true _ c.if1.true)
+    rw (sym v.0, step_ok a.t1 a.t2 i no_row no_piece_lem hr hp l, sym c.before.piece-ok.ensures ∙ not-true _ c.if1.true)
 
 add-i : tie.Need-overflow-add-i invariant-loop decreases-loop
 add-i c = omega arith
@@ -59,12 +59,12 @@ loop-again c =
     let l = lent_of a.spelled.now a.first.now a.second.now in
     let hr : i < length a.t1 = (let z = c.before.before.before.before.before.before.before.before.before.requires.0 in omega arith) in
     let hp : i < length a.t2 = (let z = c.before.before.before.before.before.before.before.before.before.requires.1 in omega arith) in
-    let e = step_ok a.t1 a.t2 i no_row no-piece hr hp l in
+    let e = step_ok a.t1 a.t2 i no_row no_piece_lem hr hp l in
     let f = sym c.before.piece-ok.ensures ∙ not-false _ c.if1.false in
     (rw f at (sym e) ∙ v.0, omega arith)
 
-returns-2 : tie.Need-returns-2 invariant-loop decreases-loop
-returns-2 c =
+returns_2 : tie.Need-returns-2 invariant-loop decreases-loop
+returns_2 c =
     let a = c.before.before.before.before.before.args in
     let v = c.before.loop.invariant in
     let i = c.before.loop.i in
@@ -88,4 +88,4 @@ pieces-ok-spec =
     add-i
     loop-less
     loop-again
-    returns-2)
+    returns_2)

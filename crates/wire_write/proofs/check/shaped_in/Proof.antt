@@ -13,8 +13,8 @@ returns c = let a = c.before.before.args in rw (lt-leb (a.start + a.len) (length
 sub-if2 : tie.Need-overflow-sub-if2
 sub-if2 c = search rules
 
-returns-2 : tie.Need-returns-2
-returns-2 c = let a = c.before.before.before.args in rw (lt-leb (a.start + a.len) (length a.s.now) (omega arith))
+returns_2 : tie.Need-returns-2
+returns_2 c = let a = c.before.before.before.args in rw (lt-leb (a.start + a.len) (length a.s.now) (omega arith))
 
 has-shape-requires : tie.Need-has-shape-requires
 has-shape-requires c κs = search rules
@@ -25,4 +25,4 @@ returns-3 c =
     rw (le-leb (a.start + a.len) (length a.s.now) (omega arith)) c.has-shape.ensures
 
 pub shaped-in-spec : {M : Type 1} → statement M
-shaped-in-spec = tie.close (tie.spec returns sub-if2 returns-2 has-shape-requires returns-3)
+shaped-in-spec = tie.close (tie.spec returns sub-if2 returns_2 has-shape-requires returns-3)

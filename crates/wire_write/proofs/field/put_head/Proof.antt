@@ -1,9 +1,9 @@
 -- `wire_write::field::put_head` meets its contract: two numbers, one after the other. Assumes nothing.
 use Prim.Native.Nat.{◌+◌}
 use native.Mathlib.Omega.{arith}
-use Rattle.octet.specs.Number.{digitsBE}
-use Rattle.octet.proofs.PartLaws.{splice-next}
-use Rattle.octet.proofs.BigLaws.{length-digitsBE}
+use Rattle.octet.specs.Number.{digits_be}
+use Rattle.octet.proofs.PartLaws.{splice_next}
+use Rattle.octet.proofs.BigLaws.{length-digits_be}
 use borrow.Author.Rules.{rules}
 use Rattle.wire_write.proofs.field.put_head.Statement.{statement}
 use Rattle.wire_write.proofs.field.put_head.Tie as tie
@@ -31,8 +31,8 @@ returns c =
     let a = c.before.before.before.before.before.before.before.before.before.args in
     let h = c.before.before.before.before.before.before.before.before.before.requires.0 in
     rw (c.before.before.write-u162.ensures, c.before.before.before.before.before.before.write-u16.ensures)
-    (splice-next a.at 2 (digitsBE 256 2 a.number) (digitsBE 256 2 (a.len + 4)) a.out.now (length-digitsBE 256 2 a.number)
-    (omega (arith, length-digitsBE 256 2 (a.len + 4))))
+    (splice_next a.at 2 (digits_be 256 2 a.number) (digits_be 256 2 (a.len + 4)) a.out.now (length-digits_be 256 2 a.number)
+    (omega (arith, length-digits_be 256 2 (a.len + 4))))
 
 pub put-head-spec : {M : Type 1} → statement M
 put-head-spec =

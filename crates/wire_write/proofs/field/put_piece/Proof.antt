@@ -1,17 +1,17 @@
 -- `wire_write::field::put_piece` meets its contract, by the slice that the piece is in. Assumes nothing.
 use borrow.Author.Tests.{not-true, not-false}
 use mathlib.Core.Path.{refl, sym}
-use Rattle.octet.proofs.PartLaws.{splice-nil}
-use Rattle.wire_write.specs.Pieces.{partBytes, past_of}
+use Rattle.octet.proofs.PartLaws.{splice_nil}
+use Rattle.wire_write.specs.Pieces.{part_bytes, past_of}
 use borrow.Author.Rules.{rules}
 use Rattle.wire_write.proofs.field.put_piece.Statement.{statement}
 use Rattle.wire_write.proofs.field.put_piece.Tie as tie
 
 returns : tie.Need-returns
-unfolding partBytes past_of
+unfolding part_bytes past_of
 returns c =
     let a = c.before.before.before.before.before.before.args in
-    rw (not-true a.p.there c.if1.true) (refl, sym (splice-nil a.at a.out.now))
+    rw (not-true a.p.there c.if1.true) (refl, sym (splice_nil a.at a.out.now))
 
 enum_told : tie.Need-enum-told
 enum_told c = search rules
@@ -52,9 +52,9 @@ put-bytes-requires-3 c κs =
 same_length : tie.Need-same-length
 same_length c = search rules
 
-returns-2 : tie.Need-returns-2
-unfolding partBytes past_of
-returns-2 c =
+returns_2 : tie.Need-returns-2
+unfolding part_bytes past_of
+returns_2 c =
     let told = c.before.before.before.before in
     let start = told.before.before.before.before.before.before.before.before in
     rw (not-false start.args.p.there told.before.before.if1.false, told.enum_told.given.1) c.before.before.put-bytes.ensures
@@ -63,7 +63,7 @@ same-length-2 : tie.Need-same-length-2
 same-length-2 c = search rules
 
 returns-3 : tie.Need-returns-3
-unfolding partBytes past_of
+unfolding part_bytes past_of
 returns-3 c =
     let told = c.before.before.before.before in
     let start = told.before.before.before.before.before.before.before.before in
@@ -73,7 +73,7 @@ same-length-3 : tie.Need-same-length-3
 same-length-3 c = search rules
 
 returns-4 : tie.Need-returns-4
-unfolding partBytes past_of
+unfolding part_bytes past_of
 returns-4 c =
     let told = c.before.before.before.before in
     let start = told.before.before.before.before.before.before.before.before in
@@ -91,7 +91,7 @@ put-piece-spec =
     enum-told-3
     put-bytes-requires-3
     same_length
-    returns-2
+    returns_2
     same-length-2
     returns-3
     same-length-3

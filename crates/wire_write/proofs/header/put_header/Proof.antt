@@ -3,8 +3,8 @@ use Prim.Native.Nat.{ℕ}
 use native.Mathlib.Omega.{arith}
 use mathlib.Core.List.{List, [], ◌∷◌, ◌++◌}
 use mathlib.Core.Path.{refl}
-use Rattle.octet.specs.Number.{digitsBE}
-use Rattle.octet.proofs.BigLaws.{length-digitsBE}
+use Rattle.octet.specs.Number.{digits_be}
+use Rattle.octet.proofs.BigLaws.{length-digits_be}
 use Rattle.wire_fields.specs.Message.{opening}
 use Rattle.wire_write.proofs.PutLaws.{put-put}
 use borrow.Author.Rules.{rules}
@@ -32,13 +32,13 @@ returns c =
     let o = s.args.out.now in
     let t : List ℕ = s.args.major ∷ s.args.minor ∷ s.args.kind ∷ [] in
     let h = s.requires in
-    let l = length-digitsBE 256 4 s.args.id in
+    let l = length-digits_be 256 4 s.args.id in
     rw (
       c.before.before.write-u32.ensures,
       c.before.before.before.before.before.before.copy-to.ensures,
       c.before.before.before.before.before.before.before.before.before.before.before.put-opening.ensures,
       put-put o 0 opening (omega arith) 5 t refl (omega arith),
-      put-put o 0 (opening ++ t) (omega arith) 8 (digitsBE 256 4 s.args.id) refl (omega arith),
+      put-put o 0 (opening ++ t) (omega arith) 8 (digits_be 256 4 s.args.id) refl (omega arith),
     )
 
 pub put-header-spec : {M : Type 1} → statement M

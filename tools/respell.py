@@ -123,7 +123,7 @@ def respelled(text, table, of_members, antt):
             if not (stem and stem.group(1)[:1].isupper()):
                 return of_members.get(old, old)
             return table.get(old, of_members.get(old, old))
-        if old in keep or (not antt and "-" in old and not clause(before)):
+        if old in keep or (not antt and not re.search("[a-z][A-Z]", old) and not clause(before)):
             return old
         return table.get(old, of_members.get(old, old))
 

@@ -11,7 +11,7 @@ use crate::shape::{Formed, form};
 
 // The number that a search is answered with; 0 where the key is not held, else one more than its place; how many keys were
 // compared.
-#[derive(Drop)]
+#[derive(Clone, Copy)]
 pub struct Searched {
     pub number: u32,
     pub place: usize,

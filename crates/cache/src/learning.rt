@@ -15,7 +15,7 @@ use crate::place::{Found, find};
 use key::Key;
 
 // What a change did to the keys held: did one join them, did one leave, and which? The key is 0 where none left.
-#[derive(Drop)]
+#[derive(Clone, Copy)]
 pub struct Change {
     pub joined: bool,
     pub left: bool,

@@ -7,7 +7,7 @@ ghost use Rattle.cache.specs.Form.{keys_of};
 ghost use Rattle.cache.specs.Place.{find_key};
 
 // The place of a key, or that before which it would stand.
-#[derive(Drop)]
+#[derive(Clone, Copy)]
 pub enum Found {
     At(usize),
     Before(usize),

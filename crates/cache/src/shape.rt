@@ -11,7 +11,7 @@ ghost use Rattle.cache.specs.Form.{keys_of};
 ghost use Rattle.cache.specs.Place.{cache_formed, rises, ordered, any_own, Carried};
 
 // Whether the cache is in form, and then how many records it holds.
-#[derive(Drop)]
+#[derive(Clone, Copy)]
 pub enum Formed {
     Bad,
     Good(usize),

@@ -13,7 +13,7 @@ use whole::Whole;
 
 // What writing a reading into an AUTHORITY answers: 01's number, how many bytes were written, 02's number.
 #[repr(C)]
-#[derive(Drop)]
+#[derive(Clone, Copy)]
 pub struct Carry {
     pub number: u32,
     pub length: u32,
@@ -22,7 +22,7 @@ pub struct Carry {
 
 // What taking one out answers: 01's number, 02's; the kind, 0 where none is carried; the depth's bits or the fault; litres.
 #[repr(C)]
-#[derive(Drop)]
+#[derive(Clone, Copy)]
 pub struct Taken {
     pub number: u32,
     pub reading: u32,

@@ -6,7 +6,7 @@ use wire_read::Incoming;
 use wire_read::messages::Authority;
 
 // The AUTHORITY, or the number of its refusal, 5 for another message.
-#[derive(Drop)]
+#[derive(Clone, Copy)]
 pub(crate) enum Whole {
     Authority(Authority),
     Other(u32),

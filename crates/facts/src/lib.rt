@@ -10,7 +10,7 @@ mod mark;
 mod place;
 
 // The numbers of a fact; 0 for one that it does not have.
-#[derive(Drop)]
+#[derive(Clone, Copy)]
 pub struct Numbers {
     pub a: u64,
     pub b: u64,

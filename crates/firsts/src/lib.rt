@@ -36,7 +36,7 @@ pub fn count_down(firsts: &mut [u8], byte: u8)
 }
 
 // The byte that a key in hand begins with.
-pub fn first_byte_lem(key: Key) -> u8
+pub fn first_byte(key: Key) -> u8
     ensures { result ≡ first_byte (number key) }
 {
     (key.a / 72057594037927936) as u8

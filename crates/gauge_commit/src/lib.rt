@@ -5,7 +5,7 @@ ghost use Rattle.gauge_commit.specs.Sending.{answer, lengths};
 
 // What the first four calls answer: document 01's number, and two lengths or counts.
 #[repr(C)]
-#[derive(Drop)]
+#[derive(Clone, Copy)]
 pub struct Answer {
     pub number: u32,
     pub first: u32,

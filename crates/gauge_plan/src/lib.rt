@@ -7,7 +7,7 @@ pub use memory::{Fitness, hands_fit, survey};
 pub use opening::open_refusal;
 
 // What is to be done with a datagram received: numbers and places, never a part of a slice.
-#[derive(Drop)]
+#[derive(Clone, Copy)]
 pub enum Plan {
     // Refused with the number.
     Refuse(u32),

@@ -4,7 +4,7 @@ ghost use Rattle.gauge_plan.specs.Lent.{Memory, with_tables, Receive, handing};
 ghost use Rattle.gauge_plan.specs.Memory.{memory_of, comes_fit};
 
 // How many records are held and how many places are used, where memory is in form.
-#[derive(Drop)]
+#[derive(Clone, Copy)]
 pub enum Fitness {
     Unfit,
     Fit { held: usize, used: usize },

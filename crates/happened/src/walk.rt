@@ -8,7 +8,7 @@ use std::num::wrapping_add_u64;
 
 // How many good rows there were, and whether one is there for this record. Behind the last, or behind what is no good row, none is
 // read.
-#[derive(Drop)]
+#[derive(Clone, Copy)]
 pub struct Rows {
     pub count: u64,
     pub here: bool,
@@ -18,7 +18,7 @@ pub struct Rows {
 
 // The bytes of the record that has come, 0 where the trace has ended; its answer, 17 then; how many ticks were accepted so far, and
 // how many calls; whether the answer is the one given that night, and how many so far were not.
-#[derive(Drop)]
+#[derive(Clone, Copy)]
 pub struct Walked {
     pub len: usize,
     pub answer: Answer,
@@ -158,7 +158,7 @@ fn behind(
 }
 
 // The bytes of a record, and what its call has answered.
-#[derive(Drop)]
+#[derive(Clone, Copy)]
 struct Called {
     len: usize,
     answer: Answer,

@@ -10,7 +10,7 @@ pub use ordered::{compare, is_less, is_same, less_at, order_at, same_at};
 pub use subtract::{difference, minus};
 
 // The words of a key, or of a difference of two keys, most significant first.
-#[derive(Drop)]
+#[derive(Clone, Copy)]
 pub struct Key {
     pub a: u64,
     pub b: u64,
@@ -19,7 +19,7 @@ pub struct Key {
 }
 
 // How one number stands to another.
-#[derive(Drop)]
+#[derive(Clone, Copy)]
 pub enum Order {
     Less,
     Same,

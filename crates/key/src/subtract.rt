@@ -7,7 +7,7 @@ use crate::Key;
 use crate::ordered::is_less;
 
 // A word of a difference, and what was borrowed for it, 0 or 1.
-#[derive(Drop)]
+#[derive(Clone, Copy)]
 struct Step {
     word: u64,
     borrow: u64,

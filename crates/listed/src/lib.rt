@@ -9,14 +9,14 @@ ghost use Rattle.listed.specs.Runs.{run_of, run_at, runs_of, in_one, in_runs, Fi
 use key::Order;
 
 // An own key among those in plain order: so many keys are smaller numbers, and so many are below it.
-#[derive(Drop)]
+#[derive(Clone, Copy)]
 pub struct Run {
     pub first: usize,
     pub below: usize,
 }
 
 // Those of one to four own keys, the first's where there are fewer.
-#[derive(Drop)]
+#[derive(Clone, Copy)]
 pub struct Runs {
     pub count: usize,
     pub a: Run,

@@ -13,7 +13,7 @@ use wire_read::Incoming;
 // Document 01's number of reading; type, message ID and acked ID; place and length of the CPA or revoke CPA, of the
 // nonce, of the route entry and of the target key, 0 and 0 for one not there.
 #[repr(C)]
-#[derive(Drop)]
+#[derive(Clone, Copy)]
 pub struct Look {
     pub number: u32,
     pub kind: u32,
@@ -84,7 +84,7 @@ fn seen_as(
 
 // What calls want of a message besides: where the validate key of a FLOOD or INQUIRE stands; one flag: a FLOOD's D, an ACK's
 // N, whether an AUTHORITY has a CPA; place and length of a LOOKUP's path.
-#[derive(Drop)]
+#[derive(Clone, Copy)]
 pub struct Brief {
     pub seen: Look,
     pub validate: usize,

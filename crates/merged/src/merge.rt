@@ -18,7 +18,7 @@ const OTHER: u8 = 3;
 
 // What stands next, by its kind; how many records of each cache are passed, and how
 // many entries there are, 0 or 1.
-#[derive(Drop)]
+#[derive(Clone, Copy)]
 pub struct Next {
     pub kind: u8,
     pub old: usize,
@@ -27,7 +27,7 @@ pub struct Next {
 }
 
 // Two records with one key: nothing, or another record.
-fn one_key_lem(before: &[u8], i: usize, after: &[u8], j: usize) -> Next
+fn one_key(before: &[u8], i: usize, after: &[u8], j: usize) -> Next
     requires i_in_bounds { 100 * i + 100 ≤ length «before».now }
     requires j_in_bounds { 100 * j + 100 ≤ length «after».now }
     ensures { result ≡ one_key (part (100 * i) 100 «before».now) (part (100 * j) 100 «after».now) }
@@ -92,7 +92,7 @@ pub(crate) fn step(
             new: 0,
             entries: 1,
         },
-        Order::Same => one_key_lem(before, i, after, j),
+        Order::Same => one_key(before, i, after, j),
         Order::More => Next {
             kind: NEW,
             old: 0,

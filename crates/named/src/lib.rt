@@ -16,7 +16,7 @@ pub use choosing::record_at;
 use reason::Reason;
 
 // Where a record stands: it is one of ours, or that of a place of the cache; or there is none.
-#[derive(Drop)]
+#[derive(Clone, Copy)]
 pub enum Spot {
     Nowhere,
     Own(usize),
@@ -24,7 +24,7 @@ pub enum Spot {
 }
 
 // The record that is named, the reason, and the closest of the other candidates, whose key goes with the last two reasons.
-#[derive(Drop)]
+#[derive(Clone, Copy)]
 pub struct Choice {
     pub chosen: Spot,
     pub reason: Reason,
@@ -32,7 +32,7 @@ pub struct Choice {
 }
 
 // The number that the call is refused with, or what is named.
-#[derive(Drop)]
+#[derive(Clone, Copy)]
 pub enum Named {
     Refused(u32),
     Chosen(Choice),

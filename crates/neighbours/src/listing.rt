@@ -12,14 +12,14 @@ ghost use Rattle.neighbours.specs.Calls.{list_written, list_call};
 use cache::Formed;
 
 // How many keys of each side are listed.
-#[derive(Drop)]
+#[derive(Clone, Copy)]
 pub struct Counts {
     pub below: usize,
     pub above: usize,
 }
 
 // The number that a neighbour list is answered with, and how many keys of each side are listed.
-#[derive(Drop)]
+#[derive(Clone, Copy)]
 pub struct Listed {
     pub number: u32,
     pub below: usize,

@@ -15,7 +15,7 @@ use cache::Formed;
 use key::Key;
 
 // Where a record stands: it is one of our own, or that of a place of the cache.
-#[derive(Drop)]
+#[derive(Clone, Copy)]
 pub(crate) enum Where {
     Own(usize),
     Held(usize),
@@ -23,7 +23,7 @@ pub(crate) enum Where {
 
 // The number that a call for the closest record is refused with, or the record: one of our own, or that of a place of the
 // cache.
-#[derive(Drop)]
+#[derive(Clone, Copy)]
 pub enum Nearest {
     Refused(u32),
     Own(usize),
@@ -31,7 +31,7 @@ pub enum Nearest {
 }
 
 // The closest record, and how many of the keys held were compared to find the target's place: those on the path too.
-#[derive(Drop)]
+#[derive(Clone, Copy)]
 pub struct Sighted {
     pub nearest: Nearest,
     pub compared: usize,

@@ -15,7 +15,7 @@ ghost use Rattle.plan_send.specs.declared.SendPlan.TheVariants as P;
 use gauge_plan::Fitness;
 
 // What is to be done with a FLOOD to send.
-#[derive(Drop)]
+#[derive(Clone, Copy)]
 pub enum SendPlan {
     // Refused with the number.
     Refuse(u32),

@@ -6,7 +6,7 @@ pub(crate) const READING: usize = 65537;
 
 // How many bytes of a reading came, 0 where the input has ended, and whether another may follow: none does behind one
 // that is cut short.
-#[derive(Drop)]
+#[derive(Clone, Copy)]
 pub(crate) struct Next {
     pub len: usize,
     pub more: bool,

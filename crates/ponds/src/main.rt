@@ -19,7 +19,7 @@ const NAMES: usize = 65536;
 const MOST: u64 = 0x1_0000_0000;
 
 // The sums so far, and whether to go on.
-#[derive(Drop)]
+#[derive(Clone, Copy)]
 struct Turn {
     sums: Sums,
     more: bool,

@@ -8,7 +8,7 @@ const LABEL: usize = 20;
 
 const SUM: usize = 22;
 
-#[derive(Drop)]
+#[derive(Clone, Copy)]
 pub(crate) struct Sums {
     taken: u64,
     wrong_length: u64,

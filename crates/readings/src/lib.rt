@@ -8,14 +8,14 @@ pub use litres::{balance, magnitude};
 pub use numbers::{depth_reading, kind_of, measure_allowed, measure_of, reading_of};
 
 // A depth in metres, or the number of a fault.
-#[derive(Drop)]
+#[derive(Clone, Copy)]
 pub enum Measured {
     Depth(f32),
     Fault(u16),
 }
 
 // What a pond's gauge has measured, and the litres that went in and out beside it.
-#[derive(Drop)]
+#[derive(Clone, Copy)]
 pub struct Reading {
     pub measured: Measured,
     pub inflow: u32,
@@ -23,21 +23,21 @@ pub struct Reading {
 }
 
 // A reading, or the number of the refusal.
-#[derive(Drop)]
+#[derive(Clone, Copy)]
 pub enum Unpacked {
     Read(Reading),
     Refused(u32),
 }
 
 // How many bytes were written, or the number of the refusal.
-#[derive(Drop)]
+#[derive(Clone, Copy)]
 pub enum Packed {
     Written(usize),
     Refused(u32),
 }
 
 // What 32 bits are as a depth.
-#[derive(Drop)]
+#[derive(Clone, Copy)]
 pub enum Metres {
     Within(f32),
     Outside,

@@ -6,7 +6,7 @@ ghost use Rattle.reason.specs.Reason.{given_by};
 use key::Key;
 
 // Document 02's reasons, in its order.
-#[derive(Drop)]
+#[derive(Clone, Copy)]
 pub enum Reason {
     Only,
     Target,

@@ -8,7 +8,7 @@ use crate::line;
 
 // The number of the record that comes next; how many of its bytes stand in the room; whether the replay has ended; how
 // many bytes of text were put.
-#[derive(Drop)]
+#[derive(Clone, Copy)]
 pub(crate) struct Held {
     pub(crate) at: u64,
     pub(crate) begun: usize,

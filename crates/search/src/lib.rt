@@ -11,7 +11,7 @@ ghost use Rattle.search.specs.Sought.{sought_in};
 use key::Order;
 
 // Whether a key is held; its place, or that before which it would stand; how many keys it was compared with.
-#[derive(Drop)]
+#[derive(Clone, Copy)]
 pub struct Sought {
     pub held: bool,
     pub at: usize,

@@ -9,7 +9,7 @@ ghost use Rattle.table.specs.Rows.{rows, bytes_of, Laid, insert_at, remove_at};
 pub use exchange::{exchange_down, exchange_up};
 
 // Which row was found.
-#[derive(Drop)]
+#[derive(Clone, Copy)]
 pub enum Found {
     At(usize),
     Nothing,

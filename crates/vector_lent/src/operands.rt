@@ -5,7 +5,7 @@ use vector_text::line;
 // The numbers of a call; where each part ends that it is lent for reading; how long its output is. In a send the neighbour's
 // key stands in the nonce's place, and so does a list's key; of the closest record the path stands there, and the target
 // in the key's.
-#[derive(Drop)]
+#[derive(Clone, Copy)]
 pub struct Given {
     pub call: usize,
     pub own: usize,

@@ -5,7 +5,7 @@ ghost use Rattle.waiting_form.specs.Call.{tick_handed, tick_call};
 use crate::tested::{Formed, form};
 
 // A number of document 01, and how many IDs are listed.
-#[derive(Drop)]
+#[derive(Clone, Copy)]
 pub struct Answer {
     pub number: u32,
     pub count: usize,

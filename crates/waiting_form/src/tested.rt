@@ -10,7 +10,7 @@ use crate::place::place_formed;
 use table::Found;
 
 // What the form test finds: how many places are used, where the table is in form.
-#[derive(Drop)]
+#[derive(Clone, Copy)]
 pub enum Formed {
     Bad,
     Good(usize),

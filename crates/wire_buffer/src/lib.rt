@@ -7,7 +7,7 @@ use wire_fields::{Cursor, Maybe, Need, Part};
 use wire_shapes::byte;
 
 // What the buffer of an AUTHORITY holds: flags, and where its fields are.
-#[derive(Drop)]
+#[derive(Clone, Copy)]
 pub struct Inside {
     pub l: bool,
     pub b: bool,
@@ -20,7 +20,7 @@ pub struct Inside {
     pub cpa: Part,
 }
 
-#[derive(Drop)]
+#[derive(Clone, Copy)]
 pub enum Buffer {
     Holds(Inside),
     Malformed,

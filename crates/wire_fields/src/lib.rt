@@ -7,13 +7,13 @@ mod position;
 pub use opening::{is_opened, put_opening};
 
 // A reading position: a place in the datagram.
-#[derive(Drop)]
+#[derive(Clone, Copy)]
 pub struct Cursor {
     pub at: usize,
 }
 
 // A field's number and length read at a position, its contents not looked at.
-#[derive(Drop)]
+#[derive(Clone, Copy)]
 pub enum Span {
     // Where the contents start, how many bytes they are, and the position past them and their padding.
     Whole(usize, usize, Cursor),
@@ -24,7 +24,7 @@ pub enum Span {
 }
 
 // Where an optional field's contents start and how many bytes they are, if it is there.
-#[derive(Drop)]
+#[derive(Clone, Copy)]
 pub enum Part {
     Here(usize, usize),
     Absent,
@@ -33,14 +33,14 @@ pub enum Part {
 // The answer of a field that must be there: where its contents start, their length, the next position. What fails stands
 // first, here and in `Maybe`: the compiler takes the first for the rarer, and puts the reading of the next field in its
 // place only where it takes that to be no rare thing.
-#[derive(Drop)]
+#[derive(Clone, Copy)]
 pub enum Need {
     Missing,
     Field(usize, usize, Cursor),
 }
 
 // The answer of a field that may be absent.
-#[derive(Drop)]
+#[derive(Clone, Copy)]
 pub enum Maybe {
     Malformed,
     Taken(Part, Cursor),

@@ -25,14 +25,14 @@ pub use solicit::read_solicit;
 use wire_fields::is_opened;
 
 // What a header has besides its fixed bytes, the major version and the type.
-#[derive(Drop)]
+#[derive(Clone, Copy)]
 pub struct Head {
     pub minor: u8,
     pub id: u32,
 }
 
 // A refusal's number, or a message.
-#[derive(Drop)]
+#[derive(Clone, Copy)]
 pub enum Incoming {
     Refused(u8),
     Solicit(messages::Solicit),

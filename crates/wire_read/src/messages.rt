@@ -4,14 +4,14 @@ use crate::Head;
 use wire_buffer::Inside;
 use wire_fields::Part;
 
-#[derive(Drop)]
+#[derive(Clone, Copy)]
 pub struct Solicit {
     pub head: Head,
     pub entry: Part,
     pub nonce: usize,
 }
 
-#[derive(Drop)]
+#[derive(Clone, Copy)]
 pub struct Advertise {
     pub head: Head,
     pub acked: u32,
@@ -19,7 +19,7 @@ pub struct Advertise {
     pub nonce: usize,
 }
 
-#[derive(Drop)]
+#[derive(Clone, Copy)]
 pub struct Request {
     pub head: Head,
     pub flags: bool,
@@ -31,7 +31,7 @@ pub struct Request {
     pub key: Part,
 }
 
-#[derive(Drop)]
+#[derive(Clone, Copy)]
 pub struct Flood {
     pub head: Head,
     pub d: bool,
@@ -42,7 +42,7 @@ pub struct Flood {
     pub reached: Part,
 }
 
-#[derive(Drop)]
+#[derive(Clone, Copy)]
 pub struct Inquire {
     pub head: Head,
     pub a: bool,
@@ -55,14 +55,14 @@ pub struct Inquire {
     pub key: Part,
 }
 
-#[derive(Drop)]
+#[derive(Clone, Copy)]
 pub struct Authority {
     pub head: Head,
     pub acked: u32,
     pub fields: Inside,
 }
 
-#[derive(Drop)]
+#[derive(Clone, Copy)]
 pub struct Ack {
     pub head: Head,
     pub acked: u32,
@@ -70,7 +70,7 @@ pub struct Ack {
     pub n: bool,
 }
 
-#[derive(Drop)]
+#[derive(Clone, Copy)]
 pub struct Lookup {
     pub head: Head,
     pub a: bool,

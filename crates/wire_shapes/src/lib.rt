@@ -7,7 +7,7 @@ ghost use Rattle.wire_shapes.specs.Field.{gap};
 pub use contents::{has_shape, is_array, is_entry, is_lookup, is_split};
 
 // What a field's contents must look like.
-#[derive(Drop)]
+#[derive(Clone, Copy)]
 pub enum Shape {
     // Just so many bytes.
     Sized(usize),

@@ -9,7 +9,7 @@ pub use field::{put_head, put_piece};
 pub use header::put_header;
 
 // What the code knows of a kind of field.
-#[derive(Drop)]
+#[derive(Clone, Copy)]
 pub struct Row {
     pub number: u16,
     pub optional: bool,
@@ -18,7 +18,7 @@ pub struct Row {
 }
 
 // Which slice a piece is taken from: the bytes that the writer spells out, or one of two that are lent.
-#[derive(Drop)]
+#[derive(Clone, Copy)]
 pub enum Source {
     Spelled,
     First,
@@ -26,7 +26,7 @@ pub enum Source {
 }
 
 // A field of a message: whether it is there, and where its contents stand.
-#[derive(Drop)]
+#[derive(Clone, Copy)]
 pub struct Piece {
     pub there: bool,
     pub source: Source,
@@ -35,7 +35,7 @@ pub struct Piece {
 }
 
 // What writing gives: 0, 6 or 15, and how many bytes were written.
-#[derive(Drop)]
+#[derive(Clone, Copy)]
 pub struct Written {
     pub number: u8,
     pub length: usize,

@@ -1,4 +1,6 @@
 // Whether the record of a route entry must be inquired about, whatever message the entry stands in.
+#![tactic(auto)]
+
 ghost use Rattle.std.specs.Prelude.{◌≡◌, ℕ, ◌+◌, ◌*◌, ◌<◌, ◌≤◌, true, List, length};
 ghost use Rattle.octet.specs.Part.{part, same};
 ghost use Rattle.record.specs.Entry.{entry_form, record_of};

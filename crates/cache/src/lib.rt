@@ -1,5 +1,7 @@
 // The cache: C records of 100 bytes in lent memory, changed in place. Each call tests what is lent and refuses it with
 // a number of document 01; the functions that crates above use on memory already tested ask for its form.
+#![tactic(auto)]
+
 mod calls;
 mod learning;
 mod place;

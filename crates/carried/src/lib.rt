@@ -1,5 +1,7 @@
 // Readings carried in the answers: an AUTHORITY with a reading as its extended payload, and the reading that one carries. Two
 // numbers are given, and never mixed: document 01's for the message, document 02's for the reading.
+#![tactic(auto)]
+
 mod payload;
 mod whole;
 

@@ -1,1 +1,2 @@
 // What the gauge does with an AUTHORITY that carries a reading. No code.
+#![tactic(auto)]

@@ -1,4 +1,6 @@
 // What changed overnight (document 02, request 10): two saved caches of one gauge are compared, and what changed is listed.
+#![tactic(auto)]
+
 ghost use Rattle.std.specs.Prelude.{◌≡◌, ◌*◌, ◌≤◌, length};
 ghost use Rattle.table.specs.Rows.{rows};
 ghost use Rattle.changed.specs.Changes.{changes};

@@ -1,4 +1,6 @@
 // What was planned for an AUTHORITY, an ACK, an INQUIRE or a LOOKUP is done. Nothing here can refuse.
+#![tactic(auto)]
+
 ghost use Rattle.std.specs.Prelude.{◌≡◌, true, cond, [], ◌∷◌, ℕ, ◌+◌, ◌*◌, ◌≤◌, ◌<◌, length, get_or};
 ghost use Rattle.octet.specs.Part.{part};
 ghost use Rattle.key.specs.Number.{key_at};

@@ -1,4 +1,6 @@
 // The record of a route entry is inquired about, whatever message the entry stands in: the INQUIRE and its place.
+#![tactic(auto)]
+
 ghost use Rattle.std.specs.Prelude.{◌≡◌, true, ◌+◌, ◌≤◌, ◌<◌, length};
 ghost use Rattle.octet.specs.Part.{part, splice};
 ghost use Rattle.record.specs.Entry.{entry_form, record_of};

@@ -1,4 +1,6 @@
 // What was planned for a FLOOD received is done: the ACK, and the INQUIRE; the key revoked. Nothing here can refuse.
+#![tactic(auto)]
+
 ghost use Rattle.std.specs.Prelude.{◌≡◌, true, cond, ◌++◌, ◌+◌, ◌≤◌, ◌<◌, length};
 ghost use Rattle.octet.specs.Part.{part};
 ghost use Rattle.key.specs.Number.{key_at};

@@ -1,4 +1,6 @@
 // What was planned for a FLOOD to send is done. Nothing here can refuse.
+#![tactic(auto)]
+
 ghost use Rattle.std.specs.Prelude.{◌≡◌, true, false, [], ◌∷◌, ◌+◌, ◌*◌, ◌≤◌, ◌<◌, length};
 ghost use Rattle.octet.specs.Part.{part};
 ghost use Rattle.record.specs.Record.{record_form};

@@ -4,6 +4,8 @@
 // written.
 //
 // What the old form is and what becomes of it is said by crate `convert`.
+#![tactic(auto)]
+
 mod counts;
 
 // Room for a line that is written.

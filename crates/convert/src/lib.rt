@@ -1,4 +1,6 @@
 // Memory of the time when a record could have four addresses, turned into the form of today (document 02, request 13).
+#![tactic(auto)]
+
 mod held;
 mod old;
 mod ours;

@@ -1,4 +1,6 @@
 // Learning and removing with the counts by first byte following: what stands beside the cache is changed with it.
+#![tactic(auto)]
+
 ghost use Rattle.std.specs.Prelude.{◌≡◌, true, ◌≤◌, length};
 ghost use Rattle.key.specs.Number.{key_at};
 ghost use Rattle.record.specs.Record.{key_of, record_form};

@@ -1,4 +1,6 @@
 // Our CPAs as they are lent, one for each own record: whether they are in form, and the one of a place.
+#![tactic(auto)]
+
 ghost use Rattle.std.specs.Prelude.{◌≡◌, true, ℕ, ◌+◌, ◌≤◌, ◌<◌, length, drop};
 ghost use Rattle.cpas.specs.Cpas.{cpa_size, cpa_form, cpas_form, cpa_of};
 

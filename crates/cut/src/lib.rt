@@ -1,4 +1,6 @@
 // Records cut to their first address, where they lie (document 02, request 13).
+#![tactic(auto)]
+
 ghost use Rattle.std.specs.Prelude.{◌≡◌, map, ◌+◌, ◌≤◌, length};
 ghost use Rattle.octet.specs.Part.{part, splice};
 ghost use Rattle.table.specs.Rows.{rows, bytes_of, Laid};

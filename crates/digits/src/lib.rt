@@ -1,4 +1,6 @@
 // Numbers in decimal and bytes in hexadecimal, put at a place of a slice: each digit is promised.
+#![tactic(auto)]
+
 ghost use Rattle.std.specs.Prelude.{◌≡◌, ◌+◌, ◌*◌, ◌≤◌, ◌<◌, length};
 ghost use Rattle.octet.specs.Part.{splice};
 ghost use Rattle.digits.specs.Digits.{decimal, hex_digit, hex_of};

@@ -5,6 +5,8 @@
 //   $T  the first number, as a message's type      $D  the first four, as one of 64 hexadecimal digits      $K  each key of x, behind a space
 //   $H  the first number, as date and hour         $E  x as an endpoint                                     $n  the end of a line
 //   $M  the first number, as the bits of a depth   $B  the balance of the second and the third
+#![tactic(auto)]
+
 mod hour;
 mod mark;
 mod place;

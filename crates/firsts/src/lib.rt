@@ -1,5 +1,7 @@
 // How many held keys begin with each byte: 256 counts of 16 bits beside the cache, each raised and lowered by itself, and
 // compared with the keys held.
+#![tactic(auto)]
+
 ghost use Rattle.std.specs.Prelude.{◌≡◌, [], map, ◌+◌, ◌-◌, ◌*◌, ◌≤◌, ◌<◌, length};
 ghost use Rattle.octet.specs.Part.{same};
 ghost use Rattle.key.specs.Number.{number};

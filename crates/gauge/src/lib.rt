@@ -1,4 +1,6 @@
 // The gauge as the radio program calls it.
+#![tactic(auto)]
+
 ghost use Rattle.std.specs.Prelude.{◌≡◌};
 ghost use Rattle.wire_read.specs.Answers.{read_in};
 ghost use Rattle.look.specs.Seen.{look_of};

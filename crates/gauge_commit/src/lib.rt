@@ -1,5 +1,7 @@
 // What a call answers. What was planned for a datagram received, or for a FLOOD to send, is done in the crates
 // commit_flood, commit_answer and commit_send; nothing there can refuse.
+#![tactic(auto)]
+
 ghost use Rattle.std.specs.Prelude.{◌≡◌, ◌<◌};
 ghost use Rattle.gauge_commit.specs.Sending.{answer, lengths};
 

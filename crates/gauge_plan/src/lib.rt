@@ -1,5 +1,7 @@
 // What all planning shares: whether what is lent is in form, and what a plan is. The plans of each message stand in the
 // crates plan_flood, plan_answer, plan_send and plan_message; lent everything for reading, they decide every refusal.
+#![tactic(auto)]
+
 mod memory;
 mod opening;
 

@@ -1,5 +1,7 @@
 // Of more keys than there is room for, the one that goes: of those in no neighbour list of our own keys the farthest round
 // the ring from the first of them.
+#![tactic(auto)]
+
 ghost use Rattle.std.specs.Prelude.{◌≡◌, map, ℕ, ◌+◌, ◌*◌, ◌/◌, ◌%◌, ◌≤◌, ◌<◌, length, get_or};
 ghost use Rattle.key.specs.Number.{number};
 ghost use Rattle.record.specs.Record.{key_of};

@@ -1,5 +1,7 @@
 // What happened at each record of a night, as facts (crate `facts`): what it was, and what its call has done. The programs `told` and
 // `shown` have a table each of how facts are written; its rows are those of kinds.rt.
+#![tactic(auto)]
+
 mod held;
 mod kinds;
 mod memory;

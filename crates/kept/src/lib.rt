@@ -1,2 +1,3 @@
 // Lists of keys: learning, dropping, removing, the five nearest, and what a history of these leaves.
 // No code: definitions, laws.
+#![tactic(auto)]

@@ -1,5 +1,7 @@
 // Keys: 256-bit numbers, 32 bytes most significant first. In hand a key is four words by value, and so is a difference. How
 // keys stand around our own and around a target is in the crate ring.
+#![tactic(auto)]
+
 mod ordered;
 mod subtract;
 

@@ -1,5 +1,7 @@
 // Inner functions as C can call them, so that tests run them, look at the code that the compiler makes of them and count
 // its instructions. No part of the gauge.
+#![tactic(auto)]
+
 ghost use Rattle.std.specs.Prelude.{◌≡◌};
 ghost use Rattle.octet.specs.Part.{same, all_zero};
 ghost use Rattle.leaves.specs.Leaves.{word_or0, closer_or2, held_or257, closest_word};

@@ -1,4 +1,6 @@
 // Where the neighbour lists of our own keys stand among the keys held and a newcomer's: runs of places, counted round.
+#![tactic(auto)]
+
 ghost use Rattle.std.specs.Prelude.{◌≡◌, cond, ◌∷◌, map, ℕ, suc, ◌*◌, ◌/◌, ◌%◌, ◌≤◌, ◌<◌, ltb, length, get_or};
 ghost use Rattle.record.specs.Record.{key_of};
 ghost use Rattle.table.specs.Rows.{rows};

@@ -1,5 +1,7 @@
 // A message read without acting on it, as the radio program sees it: its numbers, and where in the datagram those
 // fields stand that the program must judge or sign.
+#![tactic(auto)]
+
 ghost use Rattle.std.specs.Prelude.{◌≡◌, ◌+◌, ◌≤◌, length};
 ghost use Rattle.wire_fields.specs.Kinds.{solicit_kinds, advertise_kinds, request_kinds, flood_kinds, inquire_kinds, ack_kinds, lookup_kinds};
 ghost use Rattle.wire_buffer.specs.Buffer.{start_of};

@@ -1,4 +1,6 @@
 // Two caches in form, walked side by side in key order: what changed from one to the other (document 02, request 10) is counted, and written.
+#![tactic(auto)]
+
 mod merge;
 mod written;
 

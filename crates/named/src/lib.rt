@@ -1,5 +1,7 @@
 // Why a record is named for a LOOKUP (document 02, request 5): the closest of our own records and those held that are not
 // on its path, and one reason, the first that holds. The message is looked at, and nothing is done.
+#![tactic(auto)]
+
 mod choosing;
 
 ghost use Rattle.std.specs.Prelude.{◌≡◌, true, ◌*◌, ◌≤◌};

@@ -1,4 +1,6 @@
 // Rows of records, one after the other: the closest of those that are looked for.
+#![tactic(auto)]
+
 ghost use Rattle.std.specs.Prelude.{◌≡◌, true, ◌&&◌, List, ℕ, ◌+◌, ◌*◌, ◌≤◌, ◌<◌, length, get_or};
 ghost use Rattle.octet.specs.Part.{part};
 ghost use Rattle.key.specs.Number.{number};

@@ -1,4 +1,6 @@
 // A recorded night, made again: each record of its trace opens the night or is one call of the gauge.
+#![tactic(auto)]
+
 mod call;
 
 ghost use Rattle.std.specs.Prelude.{◌≡◌, length};

@@ -4,6 +4,8 @@
 // which need not be open.
 //
 // What is compared, and what is refused, is said by crate `changes`.
+#![tactic(auto)]
+
 mod input;
 mod line;
 mod records;

@@ -1,4 +1,6 @@
 // Which keys are ours: those of one to four own records, which are lent one after the other.
+#![tactic(auto)]
+
 mod form;
 mod place;
 

@@ -1,4 +1,6 @@
 // Pond readings packed into bytes, and read from them.
+#![tactic(auto)]
+
 mod packing;
 mod unpacking;
 

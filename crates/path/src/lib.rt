@@ -1,4 +1,6 @@
 // Does a record stand on the path of a LOOKUP? A path is endpoints as on the wire, 18 bytes each: port 2, address 16.
+#![tactic(auto)]
+
 ghost use Rattle.std.specs.Prelude.{◌≡◌, ◌+◌, ◌≤◌, eqb, length, get_or};
 ghost use Rattle.octet.specs.Part.{part, same};
 ghost use Rattle.record.specs.Record.{port_of};

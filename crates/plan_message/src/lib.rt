@@ -1,4 +1,6 @@
 // What is planned for a datagram received. Lent everything for reading.
+#![tactic(auto)]
+
 ghost use Rattle.std.specs.Prelude.{◌≡◌, true, ◌*◌, ◌≤◌, length};
 ghost use Rattle.own.specs.Own.{own_form, own_keys, own_records};
 ghost use Rattle.table.specs.Rows.{rows};

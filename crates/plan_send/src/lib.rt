@@ -1,4 +1,6 @@
 // What is planned for a FLOOD to send: every refusal is decided here.
+#![tactic(auto)]
+
 ghost use Rattle.std.specs.Prelude.{◌≡◌, true, false, cond, ◌+◌, ◌*◌, ◌≤◌, ◌<◌, length};
 ghost use Rattle.key.specs.Number.{key_at};
 ghost use Rattle.record.specs.Record.{count_of};

@@ -3,6 +3,8 @@
 // descriptor 3 (names.rt), which need not be open.
 //
 // What a reading is, which are refused and what a balance is, is said by crate `readings`.
+#![tactic(auto)]
+
 mod input;
 mod line;
 mod names;

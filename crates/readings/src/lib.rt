@@ -1,4 +1,6 @@
 // Pond readings, for the extended payload: what one is, in numbers too, and the balance of the litres.
+#![tactic(auto)]
+
 mod depth;
 mod litres;
 mod numbers;

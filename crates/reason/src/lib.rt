@@ -1,4 +1,6 @@
 // Why a record is named for a target (document 02, request 5), by its key and the next.
+#![tactic(auto)]
+
 ghost use Rattle.std.specs.Prelude.{◌≡◌};
 ghost use Rattle.key.specs.Number.{number};
 ghost use Rattle.reason.specs.Reason.{given_by};

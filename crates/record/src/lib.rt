@@ -1,5 +1,7 @@
 // The record of document 01, 100 bytes: key 32, port 2, address count 1, one zero byte, four addresses of 16, of which all
 // but the first are zero (document 02, request 13); and the route entry that names it on the wire, with one to four. A place is one that its caller has tested to lie within.
+#![tactic(auto)]
+
 mod entry;
 mod piece;
 

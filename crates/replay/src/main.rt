@@ -3,6 +3,8 @@
 //
 // That a piece is what stands in standard input, and that text went out, is not proved, nor can it be. What is between
 // them is: `feed` and `close` of stream.rt, and that fed any pieces the text is that of the pieces joined (Streams).
+#![tactic(auto)]
+
 mod line;
 mod stream;
 

@@ -1,5 +1,7 @@
 // Keys go round: how they stand around our own and how close they are to a target, by specs/Around.antt of the crate key.
 // What a change of that order changes is here.
+#![tactic(auto)]
+
 ghost use Rattle.std.specs.Prelude.{◌≡◌, cond, ◌&&◌, ◌+◌, ◌-◌, ◌≤◌, leb, ltb, length};
 ghost use Rattle.key.specs.Number.{number, key_at};
 ghost use Rattle.key.specs.Around.{half, is_above, apart, tie, closer};

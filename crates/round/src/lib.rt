@@ -1,4 +1,6 @@
 // Places of a list counted on round, from the last to the first, and what a walk over them passes over.
+#![tactic(auto)]
+
 ghost use Rattle.std.specs.Prelude.{◌≡◌, ◌+◌, ◌<◌};
 ghost use Rattle.kept.specs.Turned.{wrapped};
 

@@ -3,6 +3,8 @@
 //
 // Each function asks that its places lie within the slice, which its callers have tested, and gives the whole slice at
 // exit, by `splice` and `part` of the crate octet.
+#![tactic(auto)]
+
 ghost use Rattle.std.specs.Prelude.{◌≡◌, ◌+◌, ◌-◌, ◌≤◌, ◌++◌, length, replicate};
 ghost use Rattle.octet.specs.Part.{part, splice};
 

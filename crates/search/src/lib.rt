@@ -1,4 +1,6 @@
 // The search for a key among records whose keys rise, by halving; how many keys it compares is counted.
+#![tactic(auto)]
+
 ghost use Rattle.std.specs.Prelude.{◌≡◌, map, ◌+◌, ◌*◌, ◌≤◌, length};
 ghost use Rattle.octet.specs.Number.{value_be};
 ghost use Rattle.octet.specs.Part.{part};

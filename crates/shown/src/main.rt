@@ -4,6 +4,8 @@
 // The trace, in the form of document 02's request 1, is standard input. Pond names are text at file descriptor 3
 // (names.rt of `shown_words`), and a second file with hours, senders and the answers of that night is at descriptor 4 (walk.rt of
 // `happened`); neither need be open. The calls are made there, and nothing here changes the gauge's memory.
+#![tactic(auto)]
+
 mod call;
 
 use happened::Walked;

@@ -1,4 +1,6 @@
 // How many of the keys of records, which rise, are smaller numbers than a key, and how many are below it round the ring.
+#![tactic(auto)]
+
 ghost use Rattle.std.specs.Prelude.{◌≡◌, map, ℕ, ◌*◌, ◌≤◌, length};
 ghost use Rattle.key.specs.Number.{key_at};
 ghost use Rattle.record.specs.Record.{key_of};

@@ -1,6 +1,8 @@
 // Rows of one width in a slice, the used ones first and zeros after them: a row inserted, removed and replaced, or, in a full
 // table, exchanged for another. What a search among rows answers.
 // The cache has rows of 100 bytes, the waiting table rows of 140.
+#![tactic(auto)]
+
 mod exchange;
 
 ghost use Rattle.std.specs.Prelude.{◌≡◌, ◌+◌, ◌*◌, ◌≤◌, ◌<◌, length, set};

@@ -1,5 +1,6 @@
 // A line of text, put together in a slice and written at once. Each function that puts something answers where it
 // ends; what finds no room is left out. Used by the programs `shown`, `told` and `ponds`.
+#![tactic(auto)]
 
 // The part of a slice, empty where it does not lie within.
 pub fn part(s: &[u8], start: usize, end: usize) -> &[u8] {

@@ -3,6 +3,7 @@
 //
 // The trace, in the form of document 02's request 1, is standard input. Beside it, at file descriptor 4, which need not be open,
 // a second file has a row for each record: the hour, the sender or receiver, and the answer that was given.
+#![tactic(auto)]
 
 use happened::Walked;
 

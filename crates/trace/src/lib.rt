@@ -1,4 +1,6 @@
 // A recorded night as bytes: its records are read one by one, and each is good or bad.
+#![tactic(auto)]
+
 mod fault;
 mod input;
 

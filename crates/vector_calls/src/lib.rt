@@ -1,5 +1,7 @@
 // Vectors of the calls, each made through the function that the radio program calls: those that act on the memory that the lines
 // before left, which `vector_lent` lays out and shows, and the look at a datagram. Used by the program `vectors` alone.
+#![tactic(auto)]
+
 mod called;
 mod looked;
 

@@ -1,5 +1,7 @@
 // Vectors of what changed between two caches, each made through the function that the host calls, with an output filled with
 // EE. Used by the program `vectors` alone.
+#![tactic(auto)]
+
 use gauge_commit::Answer;
 use vector_text::{line, say};
 

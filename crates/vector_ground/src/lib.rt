@@ -1,4 +1,6 @@
 // Vectors of the ground: bytes, runs of bytes, keys. Used by the program `vectors` alone.
+#![tactic(auto)]
+
 mod bytes;
 mod keys;
 mod written;

@@ -2,6 +2,8 @@
 // behind the other, in `lent`; the cache; the counts by first byte; the waiting table; and seven numbers, `sizes`: where own
 // record and CPA end, how long cache, counts and waiting table are, major and minor version. Of a line that is a call, `operands`
 // reads what it hands over. Used by the program `vectors` alone.
+#![tactic(auto)]
+
 pub mod operands;
 mod set;
 mod shown;

@@ -1,5 +1,7 @@
 // Vectors of lent memory: forms, learning, removing, the neighbour list, the closest record, the tick. Used by the program
 // `vectors` alone.
+#![tactic(auto)]
+
 mod cached;
 mod searched;
 mod waits;

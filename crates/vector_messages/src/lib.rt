@@ -1,4 +1,6 @@
 // Vectors of messages: datagrams read, each prefix of them too, and written again. Used by the program `vectors` alone.
+#![tactic(auto)]
+
 use vector_text::{line, say};
 use wire_read::{Head, Incoming};
 

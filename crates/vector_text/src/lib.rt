@@ -1,3 +1,5 @@
 // The lines of vectors: a name and operands in hexadecimal are read, answers are written. Used by the program `vectors` alone.
+#![tactic(auto)]
+
 pub mod line;
 pub mod say;

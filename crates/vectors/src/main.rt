@@ -2,6 +2,8 @@
 //
 // A line of the input is a name and operands in hexadecimal, one space before each; an operand of no bytes is `-`. A line
 // that begins with `#` is a heading. What is to be written is the file `stdout`, made from the documents by tests/vectors/vectors.py.
+#![tactic(auto)]
+
 use vector_text::{line, say};
 
 // Room for a line, and for the bytes of its operands: those that may be written, and those that are only read.

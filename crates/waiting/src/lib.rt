@@ -1,5 +1,7 @@
 // The waiting table: 16 places of 140 bytes, the used ones first, in the order of their IDs. Searched, opened, freed and
 // ticked in place; each function asks for what its callers have tested, by the crate waiting_form.
+#![tactic(auto)]
+
 mod edit;
 mod round;
 mod seek;

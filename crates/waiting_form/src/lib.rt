@@ -1,4 +1,6 @@
 // The waiting table tested: its form, and the tick on memory that nobody has tested.
+#![tactic(auto)]
+
 mod call;
 mod place;
 mod tested;

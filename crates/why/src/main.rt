@@ -4,6 +4,8 @@
 //
 // That the bytes are those of standard input, and that the text went out, is not proved, nor can it be. What is between them
 // is: the text is that of the bytes (specs/Input.antt, Text.antt).
+#![tactic(auto)]
+
 mod line;
 
 ghost use Rattle.std.specs.Prelude.{◌≡◌, ◌+◌, ◌≤◌, length, get_or, take, drop};

@@ -1,4 +1,6 @@
 // The buffer of an AUTHORITY: whether it is whole, its flags, and where its fields are.
+#![tactic(auto)]
+
 ghost use Rattle.std.specs.Prelude.{◌≡◌, ◌<◌};
 ghost use Rattle.wire_fields.specs.Reading.{whole_in, FourAt};
 ghost use Rattle.wire_buffer.specs.Buffer.{flag_at, buffer_at};

@@ -1,5 +1,7 @@
 // A message of any of the eight types that was read from a datagram, written again from where it was read, by the one
 // writer of `wire_whole`.
+#![tactic(auto)]
+
 ghost use Rattle.std.specs.Prelude.{◌≡◌, cond, not, ◌+◌, ◌*◌, ◌-◌, ◌<◌, eqb, length};
 ghost use Rattle.wire_fields.specs.Kinds.{one_of};
 ghost use Rattle.wire_read.specs.Meaning.{bit};

@@ -1,5 +1,6 @@
 // The fields of a datagram: number, length, contents, padding. A reading position is a value; each field read hands
 // back the place of the next.
+#![tactic(auto)]
 
 mod opening;
 mod position;

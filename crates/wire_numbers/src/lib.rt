@@ -1,6 +1,7 @@
 // The numbers by which document 000 names messages and fields, how long the fields are that have one length, and of how many
 // elements of what length a list is: once for whatever reads or writes. The definitions have theirs in the table of fields
 // (wire_fields, Kinds), and the contracts of readers and writers, which speak of that table alone, hold the two together.
+#![tactic(auto)]
 
 // ---- Messages, by their types (000, section 2.2.2).
 

@@ -1,5 +1,7 @@
 // Reading a datagram: the message that it holds as numbers and as places in it, or document 01's number for why it is
 // refused. Nothing is copied, and every byte is looked at once.
+#![tactic(auto)]
+
 mod ack;
 mod advertise;
 mod authority;

@@ -1,4 +1,6 @@
 // What the one writer of `wire_whole` is handed: the rows of the messages' tables, and pieces.
+#![tactic(auto)]
+
 mod pieces;
 mod rows;
 

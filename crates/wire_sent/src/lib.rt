@@ -1,5 +1,7 @@
 // The datagrams that the calls send: a writer for each, straight, field by field from the start of the output. What is wrong or
 // has no room is known before the first byte is written.
+#![tactic(auto)]
+
 mod ack;
 mod authority;
 mod flood;

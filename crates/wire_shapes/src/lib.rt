@@ -1,4 +1,6 @@
 // What a field of a datagram is made of, wherever it stands: its bytes, its padding, and whether its contents have the shape they must.
+#![tactic(auto)]
+
 mod contents;
 
 ghost use Rattle.std.specs.Prelude.{◌≡◌, ◌<◌, get_or};

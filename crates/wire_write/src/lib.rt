@@ -1,5 +1,7 @@
 // Writing a message, field by field: the one writer (`wire_whole`) goes over the rows of a message's table and the pieces of
 // its fields. A field's contents stay where they are lent until they are written.
+#![tactic(auto)]
+
 mod check;
 mod field;
 mod header;

@@ -1,0 +1,69 @@
+-- `cache::calls::remove_key` meets its contract: each test that fails is the first row that applies; where none does, the key is removed.
+-- Assumes nothing.
+use mathlib.Core.Path.{sym, ap, ◌∙◌}
+use mathlib.Core.Bool.{not}
+use mathlib.Core.List.{List, []}
+use Prim.Native.Nat.{ℕ}
+use lib.Dec.{eqb}
+use lib.ListN.{length}
+use borrow.Author.Tests.{eq-eqb, ne_eqb}
+use Rattle.key.specs.Number.{key_at}
+use Rattle.table.specs.Rows.{bytes_of}
+use Rattle.cache.specs.Bytes.{after_remove}
+use Rattle.cache.specs.Calls.{Changed, cache_changed, remove_call, held_by}
+use Rattle.refusal.proofs.CallLaws.{row_applies, row_passes, no_row}
+use Rattle.cache.proofs.LentLaws.{not_is, not_isn't, memory-form, memory-held, memory-passes, memory-refuses}
+use native.Mathlib.Omega.{arith}
+use borrow.Author.Rules.{rules}
+use Rattle.cache.proofs.calls.remove_key.Goals.{Start}
+use Rattle.cache.proofs.calls.remove_key.Goals as goal
+
+-- what a refusal hands back, and what is handed back where there is none
+abbrev refuse : Start → ℕ → Changed
+refuse s n = cache_changed n s.args.cache.now
+
+abbrev done : Start → Changed
+done s =
+    cache_changed 0
+    (bytes_of (length s.args.cache.now) (after_remove (key_at 0 s.args.key.now) (held_by s.args.own.now s.args.cache.now)))
+
+pub returns-in_default : goal.returns-in_default
+unfolding remove_call
+returns-in_default c =
+    let c7 = c.before.before.before.before.before.before.before in
+    let s = c7 in
+    sym (memory-refuses s.args.own.now s.args.cache.now c.memory-found.ensures c.in_default.is (refuse s) _ (done s))
+
+pub returns-then-key-ne32 : goal.returns-then-key-ne32
+unfolding remove_call
+returns-then-key-ne32 c =
+    let c4 = c in
+    let c9 = c4.before.before.before.before.before in
+    let s = c9 in
+    sym (memory-passes s.args.own.now s.args.cache.now c4.memory-found.ensures c.in-Good.is (refuse s) _ (done s)
+    ∙ row_applies (refuse s) 1 (not (eqb (length s.args.key.now) 32)) [] (done s) (not_isn't (ne_eqb (length s.args.key.now) 32
+    c.if-key-ne32.true)))
+
+pub remove-requires : goal.remove-requires
+remove-requires c =
+    let c3 = c in
+    let c5 = c in
+    let c10 = c5.before.before.before.before.before in
+    let s = c10 in record { in_bounds = omega (arith, c.if-key-ne32.false); form = memory-form s.args.own.now s.args.cache.now c5.memory-found.ensures c3.in-Good.is }
+
+pub returns : goal.returns
+unfolding remove_call
+returns c =
+    let c4 = c in
+    let c6 = c in
+    let c8 = c in
+    let c13 = c8.before.before.before.before.before in
+    let s = c13 in
+    let n = length s.args.cache.now in
+    let held = memory-held s.args.own.now s.args.cache.now c8.memory-found.ensures c6.in-Good.is in
+    ap (cache_changed 0) (c.remove.ensures.cache_after ∙ ap (λ (l : List (List ℕ)). bytes_of n (after_remove (key_at 0 s.args.key.now) l))
+    (sym held))
+    ∙ sym (memory-passes s.args.own.now s.args.cache.now c8.memory-found.ensures c6.in-Good.is (refuse s) _ (done s)
+    ∙ row_passes (refuse s) 1 (not (eqb (length s.args.key.now) 32)) [] (done s) (not_is (eq-eqb (length s.args.key.now) 32
+    c4.if-key-ne32.false))
+    ∙ no_row (refuse s) (done s))

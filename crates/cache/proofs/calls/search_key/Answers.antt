@@ -1,0 +1,120 @@
+-- `cache::calls::search_key` meets its contract: each test that fails is the first row that applies; where none does, what the search tells.
+-- Assumes nothing.
+use mathlib.Core.Path.{◌≡◌, sym, ap, ◌∙◌}
+use mathlib.Core.Bool.{not}
+use mathlib.Core.List.{List, []}
+use Prim.Native.Nat.{ℕ, ◌+◌, ◌*◌, ◌≤◌}
+use native.Mathlib.Omega.{arith}
+use lib.Dec.{ltb, eqb}
+use lib.ListN.{length}
+use borrow.Author.Tests.{eq-eqb, ne_eqb}
+use borrow.Author.Rules.{rules}
+use Rattle.key.specs.Number.{key_at}
+use Rattle.refusal.proofs.CallLaws.{row_applies, row_passes, no_row}
+use Rattle.own.specs.Own.{own_keys}
+use Rattle.table.specs.Rows.{rows}
+use Rattle.kept.proofs.TurnLaws.{among-le}
+use Rattle.search.specs.Halving.{halvings}
+use Rattle.search.specs.declared.Sought.{Sought}
+use Rattle.search.proofs.SeekLaws.{keys_many}
+use Rattle.cache.specs.declared.calls.Searched.{Searched}
+use Rattle.cache.specs.Form.{keys_of, Form}
+use Rattle.cache.specs.Calls.{held_by}
+use Rattle.cache.specs.Searching.{searched, place_among, search_call}
+use Rattle.cache.proofs.FormLaws.{form_laid}
+use Rattle.cache.proofs.LentLaws.{not_is, not_isn't, memory-form, memory-held, memory-passes, memory-refuses}
+use Rattle.cache.proofs.SearchLaws.{told-held, told_none}
+use Rattle.cache.proofs.calls.search_key.Goals.{After-find_key-sought, After-memory-found, Else-key-ne32, Start}
+use Rattle.cache.proofs.calls.search_key.Goals as goal
+
+abbrev start : After-memory-found → Start
+start m = (goal.at.After-memory-found m).Start
+
+-- what a refusal hands back, and what is handed back where there is none, of the records held
+abbrev refuse : ℕ → Searched
+refuse n = searched n 0 0
+
+abbrev told : Start → List (List ℕ) → Searched
+told s held = searched 0 (place_among (key_at 0 s.args.key.now) (keys_of held)) (halvings (keys_of held) (key_at 0 s.args.key.now))
+
+abbrev done : Start → Searched
+done s = told s (held_by s.args.own.now s.args.cache.now)
+
+pub returns-in_default : goal.returns-in_default
+unfolding search_call
+returns-in_default c =
+    let m = (goal.at.returns-in_default (goal.at.returns-in_default c).In_default).After-memory-found in
+    let s = start m in
+    sym (memory-refuses s.args.own.now s.args.cache.now m.memory-found.ensures c.in_default.is refuse _ (done s))
+
+pub returns-then-key-ne32 : goal.returns-then-key-ne32
+unfolding search_call
+returns-then-key-ne32 c =
+    let found = c in
+    let m = (goal.at.returns-then-key-ne32 (goal.at.returns-then-key-ne32 c).Then-key-ne32).After-memory-found in
+    let s = start m in
+    let n = length s.args.key.now in
+    sym (memory-passes s.args.own.now s.args.cache.now m.memory-found.ensures found.in-Good.is refuse _ (done s)
+    ∙ row_applies refuse 1 (not (eqb n 32)) [] (done s) (not_isn't (ne_eqb n 32 c.if-key-ne32.true)))
+
+-- behind the tests
+module _ (e : Else-key-ne32) where
+  abbrev tested : After-memory-found
+  tested = (goal.at.Else-key-ne32 e).After-memory-found
+
+  abbrev used : ℕ
+  used = e.in-Good.used
+
+  abbrev own : List ℕ
+  own = (start tested).args.own.now
+
+  abbrev cache : List ℕ
+  cache = (start tested).args.cache.now
+
+  form : Form (own_keys own) cache (rows 100 used cache)
+  form = memory-form own cache tested.memory-found.ensures e.in-Good.is
+
+  room : 100 * used ≤ length cache
+  room = (form_laid (own_keys own) used cache form).room
+
+  accepted : search_call own cache (start tested).args.key.now ≡ told (start tested) (rows 100 used cache)
+  unfolding search_call
+  accepted =
+      let s = start tested in
+      let n = length s.args.key.now in
+      let good = e.in-Good.is in
+      memory-passes own cache tested.memory-found.ensures good refuse _ (done s)
+      ∙ row_passes refuse 1 (not (eqb n 32)) [] (done s) (not_is (eq-eqb n 32 e.if-key-ne32.left))
+      ∙ no_row refuse (done s)
+      ∙ ap (told s) (memory-held own cache tested.memory-found.ensures good)
+
+pub find_key-sought-requires : goal.find_key-sought-requires
+find_key-sought-requires c = record { used_in_bounds = room (goal.at.find_key-sought-requires c).Else-key-ne32; in_bounds = omega (arith, c.if-key-ne32.false); rising = (form (goal.at.find_key-sought-requires c).Else-key-ne32).held.rising }
+
+pub overflow_add-place : goal.overflow_add-place
+overflow_add-place c =
+    let f = c in
+    let e = (goal.at.overflow_add-place (goal.at.overflow_add-place c).After-struct_known-1).Else-key-ne32 in
+    let ks = keys_of (rows 100 (used e) (cache e)) in
+    omega (
+      arith,
+      ap (λ (q : Sought). q.at) f.find_key-sought.ensures,
+      among-le (λ (j : ℕ). ltb j (key_at 0 (start (tested e)).args.key.now)) ks,
+      keys_many (used e) (cache e),
+      room e,
+      (form e).places.most,
+    )
+
+pub returns-then-sought : goal.returns-then-sought
+returns-then-sought c =
+    let f = c in
+    let s = start (tested (goal.at.After-find_key-sought f).Else-key-ne32) in
+    told-held (key_at 0 s.args.key.now) (keys_of (rows 100 (used (goal.at.After-find_key-sought f).Else-key-ne32) s.args.cache.now)) f.find_key-sought.ensures c.if-sought.true
+    ∙ sym (accepted (goal.at.After-find_key-sought f).Else-key-ne32)
+
+pub returns : goal.returns
+returns c =
+    let f = c in
+    let s = start (tested (goal.at.After-find_key-sought f).Else-key-ne32) in
+    told_none (key_at 0 s.args.key.now) (keys_of (rows 100 (used (goal.at.After-find_key-sought f).Else-key-ne32) s.args.cache.now)) f.find_key-sought.ensures c.if-sought.false
+    ∙ sym (accepted (goal.at.After-find_key-sought f).Else-key-ne32)

@@ -1,0 +1,21 @@
+-- `carried::gauge_carried` meets its contract. Assumes nothing.
+use mathlib.Core.Path.{◌≡◌, ap, sym, ◌∙◌}
+use borrow.Author.Rules.{rules}
+use Rattle.wire_read.specs.Answers.{read_in}
+use Rattle.carried.specs.Whole.{whole_of}
+use Rattle.carried.proofs.CarryLaws.{whole_authority, take-other, take-authority}
+use Rattle.carried.proofs.gauge_carried.Goals.{After-whole_of-found}
+use Rattle.carried.proofs.gauge_carried.Goals as goal
+
+-- what was found is what was read
+wanted : (c : After-whole_of-found) → (let a = c.args in whole_of (read_in a.datagram.now a.major) ≡ c.whole_of-found.result)
+wanted c = sym (c.whole_of-found.ensures ∙ ap whole_of c.read-message.ensures)
+
+pub take_reading-requires : goal.take_reading-requires
+take_reading-requires c = whole_authority _ _ (wanted (goal.at.take_reading-requires c).After-whole_of-found ∙ c.in-Authority.is)
+
+pub returns-in-Other : goal.returns-in-Other
+returns-in-Other c = c.nothing.ensures ∙ take-other _ _ _ (wanted (goal.at.returns-in-Other c).After-whole_of-found ∙ c.in-Other.is)
+
+pub returns-in-Authority : goal.returns-in-Authority
+returns-in-Authority c = c.take_reading.ensures ∙ take-authority _ _ _ (wanted (goal.at.returns-in-Authority c).After-whole_of-found ∙ c.in-Authority.is)

@@ -1,0 +1,8 @@
+-- `carried::payload::told` meets its contract. Assumes nothing.
+use mathlib.Core.Path.{ap}
+use Prim.Native.Nat.{ℕ}
+use borrow.Author.Rules.{rules}
+use Rattle.carried.proofs.payload.told.Goals as goal
+
+pub returns : goal.returns
+returns c = ap (λ (n : ℕ). record { number = n; length = c.args.done.length; reading = 0 }) c.wide.ensures

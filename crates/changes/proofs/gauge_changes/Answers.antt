@@ -1,0 +1,71 @@
+-- `changes::gauge_changes` meets its contract: each test that fails is the first row that applies; where none does, the list. Assumes nothing.
+use mathlib.Core.Path.{◌≡◌, sym, ap, ◌∙◌}
+use mathlib.Core.List.{List}
+use Prim.Native.Nat.{ℕ}
+use borrow.Author.Rules.{rules}
+use Rattle.gauge_commit.specs.declared.Answer.{Answer}
+use Rattle.changes.specs.Listed.{Listed, listed}
+use Rattle.changes.proofs.LentLaws.{first-wrong, second-wrong, lengths-wrong, all_right, within}
+use Rattle.changes.proofs.gauge_changes.Goals.{After-memory-first, Start}
+use Rattle.changes.proofs.gauge_changes.Goals as goal
+
+abbrev start : After-memory-first → Start
+start m = (goal.at.After-memory-first m).Start
+
+-- a refusal, with the output as it was lent
+abbrev answered : Start → Answer → Listed
+answered s r = listed r s.args.output.now
+
+pub returns-in_default : goal.returns-in_default
+returns-in_default c =
+    let m = (goal.at.returns-in_default (goal.at.returns-in_default c).After-answer_of).After-memory-first in
+    let s = start m in
+    let a = s.args in
+    ap (answered s) c.answer_of.ensures
+    ∙ first-wrong a.own.now a.«before».now a.«after».now a.output.now m.memory-first.ensures c.in_default.is
+
+pub returns-in_default-second : goal.returns-in_default-second
+returns-in_default-second c =
+    let f = c in
+    let first = c in
+    let m = (goal.at.returns-in_default-second (goal.at.returns-in_default-second c).After-answer_of-in_default-second).After-memory-first in
+    let s = start m in
+    let a = s.args in
+    ap (answered s) c.answer_of-in_default-second.ensures
+    ∙ second-wrong a.own.now a.«before».now a.«after».now a.output.now m.memory-first.ensures first.in-Good.is f.form-second.ensures
+    c.in_default-second.is
+
+pub returns-then-before-after : goal.returns-then-before-after
+returns-then-before-after c =
+    let second = c in
+    let f = c in
+    let first = c in
+    let m = (goal.at.returns-then-before-after (goal.at.returns-then-before-after c).After-answer_of-then-before-after).After-memory-first in
+    let s = start m in
+    let a = s.args in
+    ap (answered s) c.answer_of-then-before-after.ensures
+    ∙ lengths-wrong a.own.now a.«before».now a.«after».now a.output.now m.memory-first.ensures first.in-Good.is f.form-second.ensures
+    second.in-Good-second.is c.if-before-after.true
+
+pub list-requires : goal.list-requires
+list-requires c =
+    let second = c in
+    let f = c in
+    let first = c in
+    let m = (goal.at.list-requires (goal.at.list-requires c).After-list-arg-1).After-memory-first in
+    let a = (start m).args in
+    within a.own.now a.«before».now a.«after».now a.output.now m.memory-first.ensures first.in-Good.is f.form-second.ensures
+    second.in-Good-second.is
+
+pub returns : goal.returns
+returns c =
+    let called = c in
+    let tested = c in
+    let second = c in
+    let f = c in
+    let first = c in
+    let m = (goal.at.returns (goal.at.returns c).After-slice_known-2-1).After-memory-first in
+    let a = (start m).args in
+    called.list.ensures
+    ∙ all_right a.own.now a.«before».now a.«after».now a.output.now m.memory-first.ensures first.in-Good.is f.form-second.ensures
+    second.in-Good-second.is tested.if-before-after.false

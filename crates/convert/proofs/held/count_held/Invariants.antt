@@ -1,0 +1,23 @@
+-- `convert::held::count_held` meets its contract: what is counted of all is i and what is counted from place i on. Assumes nothing.
+use mathlib.Core.Path.{◌≡◌, sym, ◌∙◌}
+use Prim.Native.Nat.{◌+◌, ◌-◌, ◌/◌, ◌≤◌}
+use native.Mathlib.Nat.{zero-add}
+use lib.ListN.{length, drop}
+use borrow.Author.Tests.{not-true, not-false}
+use Rattle.own.specs.Own.{own_keys}
+use Rattle.table.specs.Rows.{rows}
+use Rattle.cache.specs.Form.{leading}
+use Rattle.own.specs.Low.{low_at}
+use Rattle.cache.proofs.ShapeLaws.{count-more, count-stop, count-end}
+use Rattle.convert.specs.Old.{old_record_form}
+use native.Mathlib.Omega.{arith}
+use Rattle.convert.proofs.held.count_held.Given as goal
+
+abbrev pub invariant-loop-i : goal.invariant-loop-i
+invariant-loop-i l =
+    (l.n ≡ length l.cache / 100)
+    × (l.i ≤ l.n)
+    × (leading old_record_form (own_keys l.own) 0 (rows 100 l.n l.cache) ≡ l.i + leading old_record_form (own_keys l.own) (low_at l.cache l.i) (drop l.i (rows 100 l.n l.cache)))
+
+abbrev pub decreases-loop-i : goal.decreases-loop-i
+decreases-loop-i l = l.n - l.i

@@ -1,0 +1,23 @@
+-- `convert::used::places_formed` meets its contract: the form of the places is always that of those left, from the ID passed on. Assumes nothing.
+use lib.Dec.{leb}
+use mathlib.Core.Path.{◌≡◌, refl, sym, ap, ◌∙◌}
+use mathlib.Core.Bool.{◌&&◌, not}
+use Prim.Native.Nat.{ℕ, ◌+◌, ◌*◌, ◌-◌, ◌≤◌}
+use native.Mathlib.Omega.{arith}
+use lib.ListN.{drop, length-take, length-drop}
+use borrow.Author.Tests.{not-true, not-false}
+use Rattle.own.specs.Own.{own_keys}
+use Rattle.table.specs.Rows.{rows}
+use Rattle.waiting.specs.Form.{places_by}
+use Rattle.waiting.proofs.PlaceLaws.{id-at}
+use Rattle.waiting.proofs.WalkLaws.{tests, tests-are, form_not, form-on, form-end}
+use Rattle.convert.specs.Old.{old_record_form}
+use Rattle.convert.proofs.used.places_formed.Given as goal
+
+abbrev pub invariant-loop-at : goal.invariant-loop-at
+invariant-loop-at l =
+    (l.at ≤ l.used) × (l.low ≤ 4294967296)
+    × (places_by old_record_form (own_keys l.own) 0 (rows 140 l.used l.table) ≡ places_by old_record_form (own_keys l.own) l.low (drop l.at (rows 140 l.used l.table)))
+
+abbrev pub decreases-loop-at : goal.decreases-loop-at
+decreases-loop-at l = l.used - l.at

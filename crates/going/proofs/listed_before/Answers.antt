@@ -1,0 +1,67 @@
+use mathlib.Core.Path.{◌≡◌, sym, ap, ◌∙◌}
+use mathlib.Core.Bool.{Bool}
+use Prim.Native.Nat.{ℕ, ◌+◌, ◌-◌, ◌≤◌}
+use native.Mathlib.Omega.{arith}
+use borrow.Author.Tests.{not-true, not-false}
+use Rattle.kept.specs.Turned.{wrapped}
+use Rattle.round.specs.Over.{pass_over}
+use Rattle.round.proofs.OverLaws.{over-on, over-here, over-end}
+use Rattle.listed.specs.Runs.{in_runs}
+use Rattle.going.proofs.listed_before.Goals.{After-is_listed, At-loop-i, Start}
+use Rattle.going.proofs.listed_before.Goals as goal
+
+-- is the place so many steps on in a list?
+abbrev skips : Start → ℕ → Bool
+skips s j = let a = s.args in in_runs a.total (wrapped a.total (a.end - (j + 1))) a.runs
+
+looked : (c : After-is_listed)
+    → (let head = c in skips (goal.at.At-loop-i head).Start head.loop-i.i ≡ c.is_listed.result)
+looked c =
+    let a = c.args in
+    ap (λ (x : ℕ). in_runs a.total x a.runs) (sym c.wrap.ensures.0) ∙ sym c.is_listed.ensures
+
+pub loop-i-init : goal.loop-i-init
+loop-i-init c =
+    let e : c.args.most ≡ c.args.most - 0 = omega arith in
+    (omega arith, ap (pass_over (skips (goal.at.loop-i-init c).Start) 0) e)
+
+pub overflow_add-i : goal.overflow_add-i
+overflow_add-i c = omega (arith, c.requires)
+
+pub overflow_sub-end : goal.overflow_sub-end
+overflow_sub-end c = omega (arith, c.requires)
+
+pub wrap-requires : goal.wrap-requires
+wrap-requires c = omega (arith, c.requires)
+
+pub is_listed-requires : goal.is_listed-requires
+is_listed-requires c = let p = c.requires in (c.wrap.ensures.1, p.2, p.3)
+
+pub returns-then-not-is_listed : goal.returns-then-not-is_listed
+returns-then-not-is_listed c =
+    let e = (goal.at.returns-then-not-is_listed (goal.at.returns-then-not-is_listed c).Then-not-is_listed).After-is_listed in
+    let head = c in
+    let s = (goal.at.returns-then-not-is_listed (goal.at.returns-then-not-is_listed c).Then-not-is_listed).Start in
+    sym (head.loop-i.invariant.1
+    ∙ over-here (skips s) s.args.most head.loop-i.i e.loop-i-test.true
+    (looked e ∙ c.if-not-is_listed.true))
+
+pub overflow_add-i-in-loop-i : goal.overflow_add-i-in-loop-i
+overflow_add-i-in-loop-i c = omega (arith, c.requires)
+
+pub loop-i-preserved : goal.loop-i-preserved
+loop-i-preserved c =
+    let e = (goal.at.loop-i-preserved (goal.at.loop-i-preserved c).Else-not-is_listed).After-is_listed in
+    let head = c in
+    let s = (goal.at.loop-i-preserved (goal.at.loop-i-preserved c).Else-not-is_listed).Start in (
+      omega arith,
+      head.loop-i.invariant.1
+          ∙ over-on (skips s) s.args.most head.loop-i.i e.loop-i-test.true
+          (looked e ∙ c.if-not-is_listed.false),
+    )
+
+pub returns : goal.returns
+returns c =
+    let head = c in
+    let s = (goal.at.returns (goal.at.returns c).After-loop-i).Start in
+    sym (head.loop-i.invariant.1 ∙ over-end (skips s) s.args.most head.loop-i.i c.loop-i-test.false)

@@ -1,0 +1,20 @@
+-- `going::listed_before` meets its contract: what the whole walk answers is what the walk from number i on answers. Assumes nothing.
+use mathlib.Core.Path.{◌≡◌, sym, ap, ◌∙◌}
+use mathlib.Core.Bool.{Bool}
+use Prim.Native.Nat.{ℕ, ◌+◌, ◌-◌, ◌≤◌}
+use native.Mathlib.Omega.{arith}
+use borrow.Author.Tests.{not-true, not-false}
+use Rattle.kept.specs.Turned.{wrapped}
+use Rattle.round.specs.Over.{pass_over}
+use Rattle.round.proofs.OverLaws.{over-on, over-here, over-end}
+use Rattle.listed.specs.Runs.{in_runs}
+use Rattle.going.proofs.listed_before.Given as goal
+
+abbrev pub invariant-loop-i : goal.invariant-loop-i
+invariant-loop-i l =
+    (l.i ≤ l.most)
+    × (pass_over (λ (j : ℕ). in_runs l.total (wrapped l.total (l.end - (j + 1))) l.runs) 0 l.most
+    ≡ pass_over (λ (j : ℕ). in_runs l.total (wrapped l.total (l.end - (j + 1))) l.runs) l.i (l.most - l.i))
+
+abbrev pub decreases-loop-i : goal.decreases-loop-i
+decreases-loop-i l = l.most - l.i

@@ -1,0 +1,11 @@
+-- `happened::naming::say_named`: what is named stands among the own records or those held, as `name` ensures. Assumes nothing.
+use Rattle.std.proofs.Common.{subst, rules}
+use Rattle.named.specs.Spots.{Within}
+use Rattle.happened.proofs.naming.say_named.Goals as goal
+
+pub say_choice-requires : goal.say_choice-requires
+say_choice-requires c =
+    let k = c in
+    let m = c in
+    let s = c in
+    subst (Within s.args.own.now s.args.cache.now) k.in-Chosen.is m.name.ensures.within

@@ -1,0 +1,54 @@
+-- `named::choosing::record_at` meets its contract: the part of the slice that the place names. Assumes nothing.
+use mathlib.Core.Path.{◌≡◌, refl, sym, ap, subst, ◌∙◌}
+use Prim.Native.Nat.{ℕ, ◌+◌, ◌-◌, ◌*◌, ◌≤◌}
+use native.Mathlib.Omega.{arith}
+use lib.ListN.{length, take, drop}
+use borrow.Author.Rules.{rules}
+use Rattle.named.specs.declared.Spot.{Spot}
+use Rattle.named.specs.Spots.{record_at, Inside}
+use Rattle.named.proofs.choosing.record_at.Goals.{Start}
+use Rattle.named.proofs.choosing.record_at.Goals as goal
+
+-- what is known of the place, and its record
+inside : (s : Start) {x : Spot} → s.args.spot ≡ x → Inside s.args.own.now s.args.cache.now x
+inside s e = subst (Inside s.args.own.now s.args.cache.now) e s.requires
+
+there : (s : Start) {x : Spot} → s.args.spot ≡ x
+    → record_at s.args.own.now s.args.cache.now s.args.spot ≡ record_at s.args.own.now s.args.cache.now x
+there s e = ap (record_at s.args.own.now s.args.cache.now) e
+
+-- so many bytes as from a place to 100 behind it
+hundred : (at : ℕ) → at + 100 - at ≡ 100
+hundred at = omega arith
+
+pub overflow_mul-at : goal.overflow_mul-at
+overflow_mul-at c = let k = c in let s = (goal.at.overflow_mul-at (goal.at.overflow_mul-at c).In-Own).Start in omega (arith, inside s k.in-Own.is, s.well-formed)
+
+pub overflow_add-result : goal.overflow_add-result
+overflow_add-result c = let k = c in let s = (goal.at.overflow_add-result (goal.at.overflow_add-result c).In-Own).Start in omega (arith, inside s k.in-Own.is, s.well-formed)
+
+pub slice_bounds-result-end-in-Own : goal.slice_bounds-result-end-in-Own
+slice_bounds-result-end-in-Own c = let k = c in let s = (goal.at.slice_bounds-result-end-in-Own (goal.at.slice_bounds-result-end-in-Own c).In-Own).Start in omega (arith, inside s k.in-Own.is)
+
+pub overflow_mul-at-in-Held : goal.overflow_mul-at-in-Held
+overflow_mul-at-in-Held c = let k = c in let s = (goal.at.overflow_mul-at-in-Held (goal.at.overflow_mul-at-in-Held c).In-Held).Start in omega (arith, inside s k.in-Held.is, s.well-formed)
+
+pub overflow_add-result-in-Held : goal.overflow_add-result-in-Held
+overflow_add-result-in-Held c = let k = c in let s = (goal.at.overflow_add-result-in-Held (goal.at.overflow_add-result-in-Held c).In-Held).Start in omega (arith, inside s k.in-Held.is, s.well-formed)
+
+pub slice_bounds-result-end-in-Held : goal.slice_bounds-result-end-in-Held
+slice_bounds-result-end-in-Held c = let k = c in let s = (goal.at.slice_bounds-result-end-in-Held (goal.at.slice_bounds-result-end-in-Held c).In-Held).Start in omega (arith, inside s k.in-Held.is)
+
+pub returns-in-Own : goal.returns-in-Own
+returns-in-Own c =
+    let k = c in
+    let s = (goal.at.returns-in-Own (goal.at.returns-in-Own c).After-result-in-Own-1).Start in
+    let at = 100 * k.in-Own.i in
+    ap (λ (n : ℕ). take n (drop at s.args.own.now)) (hundred at) ∙ sym (there s k.in-Own.is)
+
+pub returns-in-Held : goal.returns-in-Held
+returns-in-Held c =
+    let k = c in
+    let s = (goal.at.returns-in-Held (goal.at.returns-in-Held c).After-result-in-Held-1).Start in
+    let at = 100 * k.in-Held.i in
+    ap (λ (n : ℕ). take n (drop at s.args.cache.now)) (hundred at) ∙ sym (there s k.in-Held.is)

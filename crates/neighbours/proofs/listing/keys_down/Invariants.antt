@@ -1,0 +1,25 @@
+-- `neighbours::listing::keys_down` meets its contract: after i turns i keys are written. Assumes nothing.
+use mathlib.Core.Path.{◌≡◌, refl, sym, ap, ◌∙◌}
+use mathlib.Core.List.{List, reverse}
+use Prim.Native.Nat.{ℕ, ◌+◌, ◌-◌, ◌*◌, ◌≤◌}
+use native.Mathlib.Nat.{zero-add}
+use lib.ListN.{length, take, drop}
+use lib.Seq.{take_all}
+use Rattle.octet.specs.Number.{Bytes}
+use Rattle.octet.specs.Part.{part, splice}
+use Rattle.octet.proofs.PartLaws.{splice_nil}
+use Rattle.table.specs.Rows.{rows}
+use Rattle.kept.specs.Turned.{turned}
+use Rattle.key.specs.Number.{key_at}
+use Rattle.cache.specs.Form.{keys_of}
+use Rattle.neighbours.specs.Listing.{key_bytes}
+use Rattle.neighbours.proofs.ListLaws.{key-digits, write_turn, down-length, down_key}
+use native.Mathlib.Omega.{arith}
+use Rattle.neighbours.proofs.listing.keys_down.Given as goal
+
+abbrev pub invariant-loop-i : goal.invariant-loop-i
+invariant-loop-i l =
+    (l.i ≤ l.n) × (length l.out ≡ length l.initial.out) × (l.out ≡ splice 0 (key_bytes (take l.i (take l.n (reverse (turned l.from (keys_of (rows 100 l.used l.cache))))))) l.initial.out)
+
+abbrev pub decreases-loop-i : goal.decreases-loop-i
+decreases-loop-i l = l.n - l.i

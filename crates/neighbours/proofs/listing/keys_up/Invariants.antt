@@ -1,0 +1,24 @@
+-- `neighbours::listing::keys_up` meets its contract: after i turns i keys are written. Assumes nothing.
+use mathlib.Core.Path.{◌≡◌, refl, sym, ap, ◌∙◌}
+use mathlib.Core.List.{List}
+use Prim.Native.Nat.{ℕ, ◌+◌, ◌-◌, ◌*◌, ◌≤◌}
+use lib.ListN.{length, take, drop}
+use lib.Seq.{take_all}
+use Rattle.octet.specs.Number.{Bytes}
+use Rattle.octet.specs.Part.{part, splice}
+use Rattle.octet.proofs.PartLaws.{splice_nil}
+use Rattle.table.specs.Rows.{rows}
+use Rattle.kept.specs.Turned.{turned}
+use Rattle.key.specs.Number.{key_at}
+use Rattle.cache.specs.Form.{keys_of}
+use Rattle.neighbours.specs.Listing.{key_bytes}
+use Rattle.neighbours.proofs.ListLaws.{key-digits, write_turn, up-length, up_key}
+use native.Mathlib.Omega.{arith}
+use Rattle.neighbours.proofs.listing.keys_up.Given as goal
+
+abbrev pub invariant-loop-i : goal.invariant-loop-i
+invariant-loop-i l =
+    (l.i ≤ l.n) × (length l.out ≡ length l.initial.out) × (l.out ≡ splice l.at (key_bytes (take l.i (take l.n (turned l.from (keys_of (rows 100 l.used l.cache)))))) l.initial.out)
+
+abbrev pub decreases-loop-i : goal.decreases-loop-i
+decreases-loop-i l = l.n - l.i

@@ -1,0 +1,27 @@
+-- `neighbours::nearest::skipped_down` meets its contract: what the whole walk answers is what the walk from number i on answers. Assumes nothing.
+use mathlib.Core.Path.{◌≡◌, refl, sym, ap, ◌∙◌}
+use mathlib.Core.Bool.{Bool}
+use Prim.Native.Nat.{ℕ, ◌+◌, ◌-◌, ◌*◌, ◌≤◌, ◌<◌}
+use native.Mathlib.Omega.{arith}
+use lib.ListN.{length, get_or}
+use borrow.Author.Tests.{not-true, not-false}
+use Rattle.octet.specs.Part.{part}
+use Rattle.octet.proofs.PartLaws.{part_at}
+use Rattle.record.proofs.EntryLaws.{one_address}
+use Rattle.path.specs.Path.{on_path}
+use Rattle.table.specs.Rows.{rows}
+use Rattle.round.specs.Over.{pass_over}
+use Rattle.neighbours.specs.Where.{steps_down, skips_at}
+use Rattle.neighbours.proofs.ClosestLaws.{in_form}
+use Rattle.round.proofs.OverLaws.{over-on, over-here, over-end}
+use Rattle.neighbours.proofs.BesideLaws.{row_in}
+use Rattle.neighbours.proofs.nearest.skipped_down.Given as goal
+
+abbrev pub invariant-loop-i : goal.invariant-loop-i
+invariant-loop-i l =
+    (l.i ≤ l.used)
+    × (pass_over (λ (j : ℕ). skips_at l.path l.cache (steps_down l.used l.at j)) 0 l.used
+    ≡ pass_over (λ (j : ℕ). skips_at l.path l.cache (steps_down l.used l.at j)) l.i (l.used - l.i))
+
+abbrev pub decreases-loop-i : goal.decreases-loop-i
+decreases-loop-i l = l.used - l.i

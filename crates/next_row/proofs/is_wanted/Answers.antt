@@ -1,0 +1,35 @@
+-- `next_row::is_wanted` meets its contract: the record's place on the path first, then its key. Assumes nothing.
+use mathlib.Core.Path.{◌≡◌, refl, sym, ap, ◌∙◌}
+use mathlib.Core.Bool.{Bool, true, false, not, ◌&&◌, ◌||◌}
+use Prim.Native.Nat.{ℕ}
+use lib.Dec.{eqb}
+use borrow.Author.Tests.{not-true, not-false}
+use borrow.Author.Rules.{rules}
+use Rattle.octet.specs.Part.{part}
+use Rattle.key.specs.Number.{number, key_at}
+use Rattle.record.specs.Record.{key_of}
+use Rattle.path.specs.Path.{on_path}
+use Rattle.next_row.specs.Walk.{kept, wanted}
+use Rattle.cache.proofs.FormLaws.{key_of-row}
+use Rattle.next_row.proofs.is_wanted.Goals as goal
+
+pub returns-then-on_path : goal.returns-then-on_path
+unfolding wanted
+returns-then-on_path c = rw (sym c.on_path.ensures ∙ c.if-on_path.true) refl
+
+pub returns-then-not-leave : goal.returns-then-not-leave
+unfolding wanted
+returns-then-not-leave c =
+    let s = c in
+    rw (sym c.on_path.ensures ∙ c.if-on_path.false, c.if-not-leave.true) refl
+
+pub returns : goal.returns
+unfolding wanted
+returns c =
+    let e = c in
+    let s = c in
+    let off = sym e.on_path.ensures ∙ e.if-on_path.false in
+    let is : eqb (key_of (part s.args.at 100 s.args.s.now)) (number s.args.k) ≡ c.is_same.result =
+    ap (λ (n : ℕ). eqb n (number s.args.k)) (key_of-row s.args.at s.args.s.now ∙ sym c.key_at.ensures)
+    ∙ sym c.is_same.ensures in
+    rw (off, e.if-not-leave.false, is) refl

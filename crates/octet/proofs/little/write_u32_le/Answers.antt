@@ -1,0 +1,18 @@
+-- `octet::write_u32_le` meets its contract, by the law that writes a number as two of half its width. Assumes nothing.
+use mathlib.Core.Path.{ap, ◌∙◌}
+use mathlib.Core.List.{List}
+use Prim.Native.Nat.{ℕ, ◌+◌, ◌/◌, ◌%◌}
+use native.Mathlib.Omega.{arith}
+use Rattle.octet.specs.Number.{digits_le}
+use Rattle.octet.specs.Part.{splice}
+use borrow.Author.Rules.{rules}
+use Rattle.octet.proofs.LittleLaws.{splice_halves_le}
+use Rattle.octet.proofs.little.write_u32_le.Goals as goal
+
+pub returns : goal.returns
+returns c =
+    let second = c in
+    let first = c in
+    let a = first.args in
+    second.write_u16_le-2.ensures ∙ ap (λ (t : List ℕ). splice (a.at + 2) (digits_le 256 2 (a.n / 65536 % 65536)) t) first.write_u16_le.ensures
+    ∙ splice_halves_le 256 a.at 2 2 a.n a.s.now (omega arith) (omega arith)

@@ -1,0 +1,17 @@
+-- `octet::equal_words` meets its contract. The invariant: the words that are left decide. Assumes nothing.
+use mathlib.Core.Path.{◌≡◌, sym, ap, ap₂, ◌∙◌}
+use mathlib.Core.Bool.{Bool, ◌&&◌}
+use Prim.Native.Nat.{ℕ, ◌+◌, ◌-◌, ◌*◌, ◌≤◌}
+use native.Mathlib.Omega.{arith}
+use borrow.Author.Rules.{rules}
+use borrow.Author.Tests.{eq-eqb, ne_eqb}
+use lib.Dec.{eqb}
+use Rattle.octet.specs.Part.{part, same}
+use Rattle.octet.proofs.TestLaws.{same_from_lem, same_turn}
+use Rattle.octet.proofs.same.equal_words.Given as goal
+
+abbrev pub invariant-loop-word : goal.invariant-loop-word
+invariant-loop-word l = (l.word ≤ l.n) × (same (part l.a (8 * l.n) l.s) (part l.b (8 * l.n) l.t) ≡ same_from_lem l.word l.n l.a l.b l.s l.t)
+
+abbrev pub decreases-loop-word : goal.decreases-loop-word
+decreases-loop-word l = l.n - l.word

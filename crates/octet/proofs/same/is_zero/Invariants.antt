@@ -1,0 +1,16 @@
+-- `octet::is_zero` meets its contract. The invariant: the blocks that are left decide. Assumes nothing.
+use mathlib.Core.Path.{◌≡◌, refl, sym, ap, ◌∙◌}
+use mathlib.Core.Bool.{Bool, ◌&&◌}
+use Prim.Native.Nat.{ℕ, ◌+◌, ◌-◌, ◌*◌, ◌/◌, ◌≤◌}
+use native.Mathlib.Omega.{arith}
+use lib.ListN.{length, drop}
+use borrow.Author.Tests.{not-true, not-false}
+use Rattle.octet.specs.Part.{part, all_zero}
+use Rattle.octet.proofs.TestLaws.{zero_rest}
+use Rattle.octet.proofs.same.is_zero.Given as goal
+
+abbrev pub invariant-loop-block : goal.invariant-loop-block
+invariant-loop-block l = (l.blocks ≡ length l.s / 64) × (l.block ≤ l.blocks) × (all_zero l.s ≡ all_zero (drop (64 * l.block) l.s))
+
+abbrev pub decreases-loop-block : goal.decreases-loop-block
+decreases-loop-block l = l.blocks - l.block

@@ -1,0 +1,51 @@
+use mathlib.Core.Path.{◌≡◌, refl, sym, ◌∙◌}
+use Prim.Native.Nat.{◌-◌, ◌/◌, ◌%◌, ◌≤◌}
+use lib.ListN.{length, drop}
+use borrow.Author.Tests.{not-true, not-false}
+use native.Mathlib.Omega.{arith}
+use Rattle.record.specs.Record.{record_form}
+use Rattle.table.specs.Rows.{rows}
+use Rattle.own.specs.Own.{rising_by, own_form}
+use Rattle.own.specs.Low.{low_at}
+use Rattle.own.proofs.FormLaws.{not-whole, too_few, too_many, by-records, rising-more, rising-stop, rising-end}
+use Rattle.own.proofs.form.all_formed.Goals as goal
+
+pub returns-then-size-ne0 : goal.returns-then-size-ne0
+returns-then-size-ne0 c = sym (not-whole record_form c.args.own.now c.if-size-ne0.true)
+
+pub returns-then-size-lt-RECORD_LEN : goal.returns-then-size-lt-RECORD_LEN
+returns-then-size-lt-RECORD_LEN c = sym (too_few record_form c.args.own.now c.if-size-ne0.false c.if-size-lt-RECORD_LEN.true)
+
+pub returns-then-size-gt400 : goal.returns-then-size-gt400
+returns-then-size-gt400 c =
+    let own = c.args.own.now in
+    sym (too_many record_form own c.if-size-ne0.false (omega (arith, c.if-size-lt-RECORD_LEN.false)) c.if-size-gt400.true)
+
+pub loop-i-init : goal.loop-i-init
+unfolding low_at
+loop-i-init c =
+    let own = c.args.own.now in
+    (omega arith, omega arith, by-records record_form own c.if-size-ne0.false (omega (arith, c.if-size-lt-RECORD_LEN.false)) (omega (arith, c.if-size-gt400.false)))
+
+pub returns-then-not-follows : goal.returns-then-not-follows
+returns-then-not-follows c =
+    let l = c in
+    let own = l.args.own.now in
+    sym (l.loop-i.invariant.2 ∙ rising-stop record_form (length own / 100) own l.loop-i.i (omega arith)
+    (sym c.follows.ensures ∙ c.if-not-follows.true))
+
+pub loop-i-preserved : goal.loop-i-preserved
+loop-i-preserved c =
+    let l = c in
+    let own = l.args.own.now in (
+      omega arith,
+      omega arith,
+      l.loop-i.invariant.2 ∙ rising-more record_form (length own / 100) own l.loop-i.i (omega arith)
+          (sym c.follows.ensures ∙ c.if-not-follows.false),
+    )
+
+pub returns : goal.returns
+returns c =
+    let l = c in
+    let own = l.args.own.now in
+    sym (l.loop-i.invariant.2 ∙ rising-end record_form (length own / 100) own l.loop-i.i (omega arith))

@@ -1,0 +1,90 @@
+use mathlib.Core.Path.{◌≡◌, sym, ◌∙◌}
+use Prim.Native.Nat.{◌-◌, ◌*◌, ◌≤◌}
+use native.Mathlib.Omega.{arith}
+use lib.ListN.{length}
+use lib.Seq.{length-take-le}
+use borrow.Author.Rules.{rules}
+use Rattle.night.specs.Step.{state_len}
+use Rattle.replay.specs.Room.{Begun}
+use Rattle.replay.proofs.RoomLaws.{begun_at_0, zeros, start_at, roomy_by, line_by, read-text, read_count, read-numbers, reads_closer}
+use Rattle.replay.proofs.main.Goals as goal
+
+pub loop-reads-init : goal.loop-reads-init
+loop-reads-init c = (
+  start_at _ c.opened-held.ensures.at_value,
+  begun_at_0 _ _ c.opened-held.ensures.begun_value (roomy_by _ (zeros _)),
+  zeros _,
+  zeros _,
+  zeros _,
+  zeros _,
+)
+
+pub slice_bounds-read-end : goal.slice_bounds-read-end
+slice_bounds-read-end c = c.loop-reads.invariant.4
+
+pub slice_bounds-count-end : goal.slice_bounds-count-end
+slice_bounds-count-end c = c.loop-reads.invariant.4 ∙ sym c.read-got.auto.1.0
+
+pub slice_bounds-close-end : goal.slice_bounds-close-end
+slice_bounds-close-end c = c.loop-reads.invariant.2
+
+pub slice_bounds-close-end-then-n-eq0 : goal.slice_bounds-close-end-then-n-eq0
+slice_bounds-close-end-then-n-eq0 c = c.loop-reads.invariant.3
+
+pub slice_bounds-close-end-then-n-eq0-2 : goal.slice_bounds-close-end-then-n-eq0-2
+slice_bounds-close-end-then-n-eq0-2 c = c.loop-reads.invariant.5
+
+pub close-end-requires : goal.close-end-requires
+close-end-requires c =
+    let at-loop = c in
+    record { begun_in_bounds = at-loop.loop-reads.invariant.1.inside; in_bounds = line_by _ at-loop.loop-reads.invariant.5 }
+
+pub slice_bounds-write-end : goal.slice_bounds-write-end
+slice_bounds-write-end c = sym (length-take-le _ _ (search rules))
+
+pub slice_bounds-new-end : goal.slice_bounds-new-end
+slice_bounds-new-end c = c.count-n.ensures.in_bounds.1
+
+pub slice_bounds-feed-end : goal.slice_bounds-feed-end
+slice_bounds-feed-end c = c.loop-reads.invariant.2
+
+pub slice_bounds-feed-end-in-loop-reads : goal.slice_bounds-feed-end-in-loop-reads
+slice_bounds-feed-end-in-loop-reads c = c.loop-reads.invariant.3
+
+pub slice_bounds-feed-end-in-loop-reads-2 : goal.slice_bounds-feed-end-in-loop-reads-2
+slice_bounds-feed-end-in-loop-reads-2 c = c.loop-reads.invariant.5
+
+pub feed-held-requires : goal.feed-held-requires
+feed-held-requires c =
+    let count = c in
+    let l = count.loop-reads in
+    let few = count.count-n.ensures.in_bounds in
+    let same = count.read-got.auto.1.0 in record {
+      begun = l.invariant.1;
+      piece_in_bounds = read-text _ _ _ _ few.0 few.1 same l.invariant.4 _ l.invariant.5;
+      piece_bound = read_count _ _ _ _ few.0 few.1 same l.invariant.4 _ _
+          l.invariant.0 count.loop-reads-test.true;
+    }
+
+pub slice_bounds-write-end-in-loop-reads : goal.slice_bounds-write-end-in-loop-reads
+slice_bounds-write-end-in-loop-reads c = sym (length-take-le _ _ c.feed-held.ensures.end_in_bounds)
+
+pub overflow_add-reads : goal.overflow_add-reads
+overflow_add-reads c = omega (arith, c.loop-reads-test.true)
+
+pub loop-reads-smaller : goal.loop-reads-smaller
+loop-reads-smaller c = reads_closer _ c.loop-reads-test.true
+
+pub loop-reads-preserved : goal.loop-reads-preserved
+loop-reads-preserved c =
+    let f = c.feed-held in
+    let n = c.count-n in
+    let g = c.read-got in
+    let l = c.loop-reads in (
+      read-numbers _ _ _ _ n.ensures.0.0 n.ensures.0.1 g.auto.1.0 l.invariant.4 _ _ l.invariant.0 _ f.ensures.1.0,
+      f.ensures.1.1.1,
+      l.invariant.2 ∙ sym f.auto.1.0,
+      l.invariant.3 ∙ sym f.auto.1.1.0,
+      l.invariant.4 ∙ sym g.auto.1.0,
+      l.invariant.5 ∙ sym f.auto.1.1.1.1.0,
+    )

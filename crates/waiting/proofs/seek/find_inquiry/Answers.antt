@@ -1,0 +1,40 @@
+use mathlib.Core.Path.{◌≡◌, refl, sym, ◌∙◌}
+use Prim.Native.Nat.{◌-◌, ◌≤◌}
+use native.Mathlib.Omega.{arith}
+use lib.ListN.{drop}
+use Rattle.key.specs.Number.{key_at}
+use Rattle.table.specs.Rows.{rows}
+use Rattle.waiting.specs.Form.{is_inquiry}
+use Rattle.table.specs.Seek.{seek}
+use Rattle.table.proofs.SeekLaws.{seek-here, seek-on, seek-end}
+use Rattle.waiting.proofs.seek.find_inquiry.Goals as goal
+
+pub loop-at-init : goal.loop-at-init
+loop-at-init c = (omega arith, refl)
+
+pub is_inquiry-requires : goal.is_inquiry-requires
+is_inquiry-requires c = (omega arith, omega arith)
+
+pub returns-then-is_inquiry : goal.returns-then-is_inquiry
+returns-then-is_inquiry c =
+    let l = c in
+    let a = l.args in
+    let k = key_at a.place a.key.now in
+    sym (l.loop-at.invariant.1 ∙ seek-here 140 a.used a.table.now l.loop-at.at (is_inquiry k) (omega arith)
+    (sym c.is_inquiry.ensures ∙ c.if-is_inquiry.true))
+
+pub loop-at-preserved : goal.loop-at-preserved
+loop-at-preserved c =
+    let l = c in
+    let a = l.args in
+    let k = key_at a.place a.key.now in (
+      omega arith,
+      l.loop-at.invariant.1 ∙ seek-on 140 a.used a.table.now l.loop-at.at (is_inquiry k) (omega arith)
+          (sym c.is_inquiry.ensures ∙ c.if-is_inquiry.false),
+    )
+
+pub returns : goal.returns
+returns c =
+    let a = c.args in
+    let l = c.loop-at in
+    sym (l.invariant.1 ∙ seek-end 140 a.used a.table.now l.at (is_inquiry (key_at a.place a.key.now)) (omega arith))

@@ -1,0 +1,70 @@
+-- `waiting_form::call::tick` meets its contract: each return follows from the tests before it, by a law of CallLaws. Assumes nothing.
+use Rattle.waiting.specs.Form.{waiting_form, used_of}
+use mathlib.Core.Path.{◌≡◌, sym, subst, ◌∙◌}
+use Prim.Native.Nat.{ℕ}
+use Rattle.table.specs.Rows.{Laid}
+use mathlib.Core.Bool.{true}
+use native.Mathlib.Omega.{arith}
+use borrow.Author.Tests.{not-true, not-false}
+use Rattle.own.specs.Own.{own_keys, own_form}
+use Rattle.waiting_form.specs.Call.{tick_done}
+use Rattle.waiting.proofs.FormLaws.{form-size, form_laid, used_few}
+use Rattle.waiting_form.proofs.FormedLaws.{bad_form, good_form}
+use Rattle.waiting_form.proofs.CallLaws.{own-bad, table-bad, no_room, ticks}
+use borrow.Author.Rules.{rules}
+use Rattle.waiting_form.proofs.call.tick.Goals.{Else-not-own_form, In-Good, Start}
+use Rattle.waiting_form.proofs.call.tick.Goals as goal
+
+-- where the function began
+abbrev from : In-Good → Start
+from c = c.before.before.before.before.before.before.before.before.before.before
+
+-- the table is in form where the form test said so, and its count is the table's
+counted : (c : In-Good)
+    → (waiting_form (own_keys (from c).args.own.now) (from c).args.table.now ≡ true)
+    × (c.in-Good.used ≡ used_of (from c).args.table.now)
+counted c =
+    let a = c.args in
+    good_form (own_keys a.own.now) a.table.now (sym c.form-answer.ensures ∙ c.in-Good.is)
+
+-- the own record is in form where the test let it pass
+whole : (c : Else-not-own_form) → own_form c.args.own.now ≡ true
+whole c = sym c.own_form.ensures ∙ c.if-not-own_form.false
+
+pub returns-then-not-own_form : goal.returns-then-not-own_form
+returns-then-not-own_form c =
+    let a = c.args in
+    sym (own-bad a.own.now a.table.now a.output.now (sym c.own_form.ensures ∙ c.if-not-own_form.true))
+
+pub returns-in_default : goal.returns-in_default
+returns-in_default c =
+    let a = c.args in
+    sym (table-bad a.own.now a.table.now a.output.now (whole (goal.at.returns-in_default c).After-own_form)
+    (bad_form (own_keys a.own.now) a.table.now (sym c.form-answer.ensures ∙ c.in_default.is)))
+
+pub returns-then-output-lt64 : goal.returns-then-output-lt64
+returns-then-output-lt64 c =
+    let known = (goal.at.returns-then-output-lt64 (goal.at.returns-then-output-lt64 c).Then-output-lt64).In-Good in
+    let a = (from known).args in
+    let good = whole known.before.before.before.before.before in
+    sym (no_room a.own.now a.table.now a.output.now good (counted known).0 (omega arith))
+
+pub tick_places-count-requires : goal.tick_places-count-requires
+tick_places-count-requires c =
+    let a = c.args in
+    let good = counted c.before.before.before in (
+      omega (arith, good.1, used_few a.table.now),
+      form-size (own_keys a.own.now) a.table.now good.0,
+      omega arith,
+      subst (λ (n : ℕ). Laid 140 n a.table.now) (sym good.1) (form_laid (own_keys a.own.now) a.table.now good.0),
+    )
+
+pub returns : goal.returns
+unfolding tick_done
+returns c =
+    let done = c in
+    let known = (goal.at.returns (goal.at.returns c).After-slice_known-4-1).In-Good in
+    let a = known.args in
+    let good = counted known in
+    rw (done.tick_places-count.ensures.0, done.tick_places-count.ensures.1, done.tick_places-count.ensures.2, good.1)
+    (sym (ticks a.own.now a.table.now a.output.now (whole (goal.at.In-Good known).After-own_form) good.0 (omega arith)))

@@ -1,0 +1,68 @@
+-- `why::answer` meets its contract: the first record is tested, then what stands behind it is told. Assumes nothing.
+use mathlib.Core.Path.{◌≡◌, sym, ap, ap₂, subst, ◌∙◌}
+use mathlib.Core.List.{List}
+use Prim.Native.Nat.{ℕ, ◌+◌, ◌-◌, ◌≤◌}
+use native.Mathlib.Omega.{arith}
+use lib.ListN.{length, take, drop, length-drop}
+use lib.Seq.{take_all, length-take-le}
+use Rattle.refusal.specs.Table.{first_of as firstRow}
+use Rattle.trace.specs.Fault.{faults}
+use Rattle.why.specs.Text.{text_of}
+use Rattle.why.specs.Input.{first_of, told_behind}
+use Rattle.why.proofs.InputLaws.{first_long, told_none, told-bad, told-good}
+use borrow.Author.Rules.{rules}
+use Rattle.why.proofs.answer.Goals.{After-fault_of-number, After-slice_known-1, Else-input-eq0}
+use Rattle.why.proofs.answer.Goals as goal
+
+abbrev start : After-fault_of-number → Else-input-eq0
+start g = (goal.at.After-fault_of-number g).After-slice_known-1
+
+-- the number is that of the first record
+tested : (g : After-fault_of-number) → g.fault_of-number.result ≡ firstRow (faults 0 (first_of (start g).args.input.now))
+tested g = g.fault_of-number.ensures ∙ ap (λ (r : List ℕ). firstRow (faults 0 r)) g.first_end-end.ensures.input_value
+
+pub returns-then-input-eq0 : goal.returns-then-input-eq0
+returns-then-input-eq0 c =
+    let p = c in
+    let e = c in
+    let s = c in record {
+      out_after = p.put_number.ensures.puts.stands
+          ∙ ap text_of (told_none s.args.input.now e.if-input-eq0.true);
+      upper_bound = omega (arith, s.requires, p.put_number.ensures.upper_bound);
+    }
+
+pub slice_bounds-first-end : goal.slice_bounds-first-end
+slice_bounds-first-end c = sym (length-take-le _ _ (search rules))
+
+pub returns-then-number-ne0 : goal.returns-then-number-ne0
+returns-then-number-ne0 c =
+    let p = c in
+    let f = c in
+    let g = (goal.at.returns-then-number-ne0 (goal.at.returns-then-number-ne0 c).After-slice_known-then-number-ne0-1).After-fault_of-number in
+    let e = start g in
+    let s = c in record { out_after = p.put_number-then-number-ne0.ensures.puts.stands ∙ ap text_of (told-bad s.args.input.now e.if-input-eq0.left g.fault_of-number.result (tested g) f.if-number-ne0.true); upper_bound = omega (arith, s.requires, p.put_number-then-number-ne0.ensures.upper_bound) }
+
+pub put_behind-requires : goal.put_behind-requires
+put_behind-requires c =
+    let f = c in
+    let g = (goal.at.put_behind-requires (goal.at.put_behind-requires c).After-put_behind-arg-2-1).After-fault_of-number in
+    let s = (start g).before.before.before in
+    (s.pre, omega (arith, first_long _ (sym g.fault_of-number.ensures ∙ f.if-number-ne0.false)))
+
+pub returns : goal.returns
+returns c =
+    let p = c in
+    let f = c in
+    let g = (goal.at.returns (goal.at.returns c).After-slice_known-2-1).After-fault_of-number in
+    let e = start g in
+    let s = c in
+    let input = s.args.input.now in
+    let m = c in
+    let end = m.first_end-end.result in
+    let rest : take (length input - end) (drop end input) ≡ drop end input =
+    take_all (length input - end) (drop end input) (omega (arith, length-drop end input)) in record {
+      out_after = p.put_behind.ensures.out_after
+          ∙ ap text_of (ap₂ told_behind m.first_end-end.ensures.input_value (rest ∙ m.first_end-end.ensures.input_value_2)
+          ∙ told-good input e.if-input-eq0.left (sym (tested g) ∙ f.if-number-ne0.false));
+      upper_bound = p.put_behind.ensures.upper_bound;
+    }

@@ -1,0 +1,39 @@
+-- `why::put_named` meets its contract: the text of what the call tells. Assumes nothing.
+use mathlib.Core.Path.{◌≡◌, sym, ap, subst, ◌∙◌}
+use Prim.Native.Nat.{ℕ, ◌≤◌}
+use native.Mathlib.Omega.{arith}
+use Rattle.named.specs.Call.{name_call}
+use Rattle.named.specs.Spots.{told_by, Within}
+use Rattle.named.specs.declared.Named.{Named}
+use Rattle.why.specs.Text.{text_of}
+use borrow.Author.Rules.{rules}
+use Rattle.why.proofs.put_named.Goals.{After-name, Start}
+use Rattle.why.proofs.put_named.Goals as goal
+
+abbrev start : After-name → Start
+start m = (goal.at.After-name m).Start
+
+told : (m : After-name) {r : Named} → m.name.result ≡ r
+    → (let a = (start m).args in told_by a.own.now a.cache.now r ≡ name_call a.own.now a.cache.now a.major a.datagram.now)
+told m e = let a = (start m).args in sym (ap (told_by a.own.now a.cache.now) e) ∙ m.name.ensures.result_value
+
+pub put_choice-requires : goal.put_choice-requires
+put_choice-requires c =
+    let k = c in
+    let m = (goal.at.put_choice-requires (goal.at.put_choice-requires c).After-put_choice-arg-1).After-name in
+    let s = start m in
+    (s.requires, subst (Within s.args.own.now s.args.cache.now) k.in-Chosen.is m.name.ensures.within)
+
+pub returns-in-Refused : goal.returns-in-Refused
+returns-in-Refused c =
+    let p = c in
+    let k = c in
+    let m = (goal.at.returns-in-Refused (goal.at.returns-in-Refused c).After-slice_known-in-Refused-1).After-name in
+    record { out_after = p.put_number.ensures.puts.stands ∙ ap text_of (told m k.in-Refused.is); upper_bound = omega (arith, (start m).requires, p.put_number.ensures.upper_bound) }
+
+pub returns-in-Chosen : goal.returns-in-Chosen
+returns-in-Chosen c =
+    let p = c in
+    let k = c in
+    let m = (goal.at.returns-in-Chosen (goal.at.returns-in-Chosen c).After-slice_known-in-Chosen-1).After-name in
+    record { out_after = p.put_choice.ensures.out_after ∙ ap text_of (told m k.in-Chosen.is); upper_bound = p.put_choice.ensures.upper_bound }

@@ -1,0 +1,39 @@
+use borrow.Author.Tests.{eq-eqb, ne_eqb}
+use mathlib.Core.Path.{sym, ◌∙◌}
+use Rattle.wire_shapes.specs.Shapes.{has_shape}
+use Rattle.wire_shapes.specs.declared.Shape.TheVariants.{Sized}
+use Rattle.wire_fields.proofs.SpanLaws.{span-length}
+use Rattle.wire_fields.proofs.StepLaws.{maybe-good, maybe-bad, maybe-other, maybe-cut}
+use borrow.Author.Rules.{rules}
+use Rattle.wire_fields.proofs.Cursor.fixed_or_none.Goals as goal
+
+pub returns-then-len-wanted : goal.returns-then-len-wanted
+unfolding has_shape
+returns-then-len-wanted c =
+    let start = c in
+    let a = start.args in
+    let q = sym start.span.ensures ∙ start.in-Whole.is in
+    let m = span-length a.d.now a.self.at a.number a.padded _ _ _ q in
+    maybe-good a.d.now a.self.at a.number a.padded (Sized a.wanted) _ start.span.ensures _ _ _
+    start.in-Whole.is (eq-eqb _ _ (m ∙ c.if-len-wanted.true))
+
+pub returns-else-len-wanted : goal.returns-else-len-wanted
+unfolding has_shape
+returns-else-len-wanted c =
+    let start = c in
+    let a = start.args in
+    let q = sym start.span.ensures ∙ start.in-Whole.is in
+    let m = span-length a.d.now a.self.at a.number a.padded _ _ _ q in
+    maybe-bad a.d.now a.self.at a.number a.padded (Sized a.wanted) _ start.span.ensures _ _ _
+    start.in-Whole.is
+    (ne_eqb _ _ (λ e. c.if-len-wanted.false (sym m ∙ e)))
+
+pub returns-in-Other : goal.returns-in-Other
+returns-in-Other c =
+    let a = c.args in
+    maybe-other a.d.now a.self.at a.number a.padded (Sized a.wanted) _ c.span.ensures c.in-Other.is
+
+pub returns-in-Cut : goal.returns-in-Cut
+returns-in-Cut c =
+    let a = c.args in
+    maybe-cut a.d.now a.self.at a.number a.padded (Sized a.wanted) _ c.span.ensures c.in-Cut.is

@@ -1,0 +1,58 @@
+-- `wire_read::ack::read_ack` meets its contract: each field that is found, and the first that is not, is the definition's own step. Assumes nothing.
+use borrow.Author.Tests.{eq-eqb, ne_eqb}
+use native.Mathlib.Omega.{arith}
+use mathlib.Core.Path.{sym, ◌∙◌}
+use Rattle.wire_fields.specs.Kinds.{joined_fields, sized}
+use Rattle.wire_fields.specs.Reading.{places_at, fields_as}
+use Rattle.wire_shapes.specs.declared.Shape.TheVariants.{Sized}
+use Rattle.wire_fields.proofs.RefusalLaws.{need-four, sized_four}
+use Rattle.wire_read.specs.Answers.{incoming_of}
+use borrow.Author.Rules.{rules}
+use Rattle.wire_read.proofs.ack.read_ack.Goals as goal
+
+pub returns-in_default : goal.returns-in_default
+unfolding incoming_of fields_as joined_fields sized places_at
+returns-in_default c =
+    rw (sym c.fixed.ensures ∙ c.in_default.is)
+
+pub returns-in_default-fixed_or_none : goal.returns-in_default-fixed_or_none
+unfolding incoming_of fields_as joined_fields sized places_at
+returns-in_default-fixed_or_none c =
+    rw (
+      sym c.fixed.ensures ∙ c.in-Field.is,
+      sym c.fixed_or_none.ensures ∙ c.in_default-fixed_or_none.is,
+    )
+
+pub returns-then-c-d : goal.returns-then-c-d
+unfolding incoming_of fields_as joined_fields sized places_at
+returns-then-c-d c =
+    let flags = c in
+    let acked = c in
+    rw (
+      sym acked.fixed.ensures ∙ acked.in-Field.is,
+      sym flags.fixed_or_none.ensures ∙ flags.in-Taken.is,
+      ne_eqb _ _ c.if-c-d.true,
+    )
+
+pub read_u32-requires : goal.read_u32-requires
+read_u32-requires c =
+    let acked = c in
+    let start = c in
+    let q = need-four start.args.d.now _ _ _ (Sized 4) sized_four _ _ _
+    (sym acked.fixed.ensures ∙ acked.in-Field.is) in
+    omega (arith, q.0, q.1)
+
+pub returns : goal.returns
+unfolding incoming_of fields_as joined_fields sized places_at
+returns c =
+    let flags = c in
+    let acked = c in
+    rw (
+      sym acked.fixed.ensures ∙ acked.in-Field.is,
+      sym flags.fixed_or_none.ensures ∙ flags.in-Taken.is,
+      eq-eqb _ _ c.if-c-d.false,
+      c.head.ensures,
+      c.read_u32.ensures,
+      c.is_here.ensures,
+      c.flag_in.ensures,
+    )

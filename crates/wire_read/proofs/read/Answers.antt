@@ -1,0 +1,112 @@
+-- `wire_read::read` meets its contract: where the header is right, each type's reader gives what its fields give. Assumes nothing.
+use borrow.Author.Tests.{ne_eqb}
+use native.Mathlib.Omega.{arith}
+use mathlib.Core.Path.{◌≡◌, sym, ap, ◌∙◌}
+use Prim.Native.Nat.{◌≤◌}
+use lib.ListN.{length, get_or}
+use Rattle.wire_fields.specs.Kinds.{kinds_of}
+use Rattle.wire_fields.specs.Refusals.{found_in, in_part}
+use Rattle.wire_fields.proofs.RefusalLaws.{by_type}
+use Rattle.wire_read.specs.Answers.{incoming_of}
+use Rattle.wire_read.specs.declared.Incoming.TheVariants.{Refused}
+use Rattle.wire_read.proofs.ReaderLaws.{header-refuses, header-right}
+use borrow.Author.Rules.{rules}
+use Rattle.wire_read.proofs.read.Goals.{Else-number-ne0}
+use Rattle.wire_read.proofs.read.Goals as goal
+
+-- a header that is right is long enough, and what is found is by the type
+right-at : (c : Else-number-ne0)
+    → (let a = c.args in (12 ≤ length a.d.now)
+    × (found_in a.d.now a.major ≡ by_type (get_or a.d.now 7 0) a.d.now (kinds_of (get_or a.d.now 7 0))))
+right-at c = let a = c.args in header-right a.d.now a.major (sym c.header-number.ensures ∙ c.if-number-ne0.false)
+
+pub returns-then-number-ne0 : goal.returns-then-number-ne0
+unfolding incoming_of
+returns-then-number-ne0 c =
+    let a = c.args in
+    rw (header-refuses a.d.now a.major (λ e. c.if-number-ne0.true (c.header-number.ensures ∙ e))) (ap Refused c.header-number.ensures)
+
+pub bounds-d-7 : goal.bounds-d-7
+bounds-d-7 c =
+    omega (arith, (right-at (goal.at.bounds-d-7 c).Else-number-ne0).0)
+
+pub read_solicit-requires : goal.read_solicit-requires
+read_solicit-requires c = (right-at (goal.at.read_solicit-requires c).Else-number-ne0).0
+
+pub read_advertise-requires : goal.read_advertise-requires
+read_advertise-requires c = (right-at (goal.at.read_advertise-requires c).Else-number-ne0).0
+
+pub read_request-requires : goal.read_request-requires
+read_request-requires c = (right-at (goal.at.read_request-requires c).Else-number-ne0).0
+
+pub read_flood-requires : goal.read_flood-requires
+read_flood-requires c = (right-at (goal.at.read_flood-requires c).Else-number-ne0).0
+
+pub read_inquire-requires : goal.read_inquire-requires
+read_inquire-requires c = (right-at (goal.at.read_inquire-requires c).Else-number-ne0).0
+
+pub read_authority-requires : goal.read_authority-requires
+read_authority-requires c = (right-at (goal.at.read_authority-requires c).Else-number-ne0).0
+
+pub read_ack-requires : goal.read_ack-requires
+read_ack-requires c = (right-at (goal.at.read_ack-requires c).Else-number-ne0).0
+
+pub read_lookup-requires : goal.read_lookup-requires
+read_lookup-requires c = (right-at (goal.at.read_lookup-requires c).Else-number-ne0).0
+
+pub returns-in-1 : goal.returns-in-1
+unfolding kinds_of in_part
+returns-in-1 c =
+    rw ((right-at (goal.at.returns-in-1 c).Else-number-ne0).1, c.in-1.is) c.read_solicit.ensures
+
+pub returns-in-2 : goal.returns-in-2
+unfolding kinds_of in_part
+returns-in-2 c =
+    rw ((right-at (goal.at.returns-in-2 c).Else-number-ne0).1, c.in-2.is) c.read_advertise.ensures
+
+pub returns-in-3 : goal.returns-in-3
+unfolding kinds_of in_part
+returns-in-3 c =
+    rw ((right-at (goal.at.returns-in-3 c).Else-number-ne0).1, c.in-3.is) c.read_request.ensures
+
+pub returns-in-4 : goal.returns-in-4
+unfolding kinds_of in_part
+returns-in-4 c =
+    rw ((right-at (goal.at.returns-in-4 c).Else-number-ne0).1, c.in-4.is) c.read_flood.ensures
+
+pub returns-in-7 : goal.returns-in-7
+unfolding kinds_of in_part
+returns-in-7 c =
+    rw ((right-at (goal.at.returns-in-7 c).Else-number-ne0).1, c.in-7.is) c.read_inquire.ensures
+
+pub returns-in-8 : goal.returns-in-8
+unfolding kinds_of
+returns-in-8 c =
+    rw ((right-at (goal.at.returns-in-8 c).Else-number-ne0).1, c.in-8.is) c.read_authority.ensures
+
+pub returns-in-9 : goal.returns-in-9
+unfolding kinds_of in_part
+returns-in-9 c =
+    rw ((right-at (goal.at.returns-in-9 c).Else-number-ne0).1, c.in-9.is) c.read_ack.ensures
+
+pub returns-in-11 : goal.returns-in-11
+unfolding kinds_of in_part
+returns-in-11 c =
+    rw ((right-at (goal.at.returns-in-11 c).Else-number-ne0).1, c.in-11.is) c.read_lookup.ensures
+
+pub returns-in_default : goal.returns-in_default
+unfolding incoming_of kinds_of
+returns-in_default c =
+    let d = c.args.d.now in
+    let r = c.in-1.rest in
+    rw (
+      (right-at (goal.at.returns-in_default c).Else-number-ne0).1,
+      ne_eqb (get_or d 7 0) 1 r.0.0.0.0.0.0.0.1,
+      ne_eqb (get_or d 7 0) 2 r.0.0.0.0.0.0.1,
+      ne_eqb (get_or d 7 0) 3 r.0.0.0.0.0.1,
+      ne_eqb (get_or d 7 0) 4 r.0.0.0.0.1,
+      ne_eqb (get_or d 7 0) 7 r.0.0.0.1,
+      ne_eqb (get_or d 7 0) 8 r.0.0.1,
+      ne_eqb (get_or d 7 0) 9 r.0.1,
+      ne_eqb (get_or d 7 0) 11 r.1,
+    )

@@ -1,0 +1,28 @@
+-- `wire_sent::authority::write_cpa` meets its contract: its three runs are the message. Assumes nothing.
+use native.Mathlib.Omega.{arith}
+use Rattle.wire_sent.proofs.FrontLaws.{cpa-known, cpa-put, wrote-long, wrote-short, wrote_right}
+use borrow.Author.Rules.{rules}
+use Rattle.wire_sent.proofs.authority.write_cpa.Goals as goal
+
+pub returns-then-cpa-gt1192 : goal.returns-then-cpa-gt1192
+returns-then-cpa-gt1192 c =
+    let a = c.args in
+    wrote-long (cpa-known a.major a.minor a.id a.acked a.cpa.now) a.out.now (omega (arith, c.if-cpa-gt1192.true))
+
+pub returns-then-out-size : goal.returns-then-out-size
+returns-then-out-size c =
+    let a = c.args in
+    wrote-short (cpa-known a.major a.minor a.id a.acked a.cpa.now) a.out.now (omega (arith, c.if-out-size.true))
+
+pub returns : goal.returns
+returns c =
+    let copy = c in
+    let head = c in
+    let answer = c in
+    let room = c in
+    let short = c in
+    let a = short.args in
+    wrote_right (cpa-known a.major a.minor a.id a.acked a.cpa.now) a.out.now (omega (arith, room.if-out-size.false))
+    (omega (arith, short.if-cpa-gt1192.false))
+    (cpa-put a.major a.minor a.id a.acked a.cpa.now a.out.now (omega (arith, room.if-out-size.false)) answer.put_answer.ensures
+    head.put_head.ensures copy.copy_to.ensures)

@@ -1,0 +1,24 @@
+-- `wire_whole::whole::put_pieces` meets its contract: what is left to put, put, gives what is to be put. Assumes nothing.
+use Prim.Native.Nat.{ℕ, ◌≤◌, ◌<◌, ◌-◌}
+use native.Mathlib.Omega.{arith}
+use mathlib.Core.List.{List, []}
+use mathlib.Core.Path.{◌≡◌, refl, sym, ap, ◌∙◌}
+use lib.ListN.{length, drop, drop_of_length-le}
+use Rattle.wire_write.specs.Pieces.{Lent, lent_of, AllIn, givens_of, kinds_of_rows, end_rows}
+use Rattle.wire_write.specs.declared.Row.{Row}
+use Rattle.wire_write.specs.declared.Piece.{Piece}
+use Rattle.wire_write.proofs.PieceLaws.{no_row, no_piece_lem, step_in, step_room, step-short, step-put, step_end, step_same, end_rows_lem}
+use Rattle.wire_write.proofs.WriteLaws.{put_all, put_all_lem}
+record Left (out₀ : List ℕ) (l : Lent) (rows : List Row) (ps : List Piece) (out : List ℕ) (i at : ℕ) : Type 0 where
+  puts : put_all out at (kinds_of_rows (drop i rows)) (givens_of l (drop i ps)) ≡ put_all out₀ 12 (kinds_of_rows rows) (givens_of l ps)
+  ends : end_rows at (drop i rows) (drop i ps) ≡ end_rows 12 rows ps
+  inside : AllIn l (drop i ps)
+  some : i ≤ 9
+  same : length out ≡ length out₀
+use Rattle.wire_whole.proofs.whole.put_pieces.Given as goal
+
+abbrev pub invariant-loop-i : goal.invariant-loop-i
+invariant-loop-i l = Left l.initial.out (lent_of l.spelled l.first l.second) l.rows l.ps l.out l.i l.at
+
+abbrev pub decreases-loop-i : goal.decreases-loop-i
+decreases-loop-i l = 9 - l.i

@@ -2,7 +2,6 @@
 use mathlib.Core.Path.{ap, ◌∙◌}
 use native.Mathlib.Omega.{arith}
 use Rattle.octet.proofs.LittleLaws.{swapped_of, swap_part}
-use borrow.Author.Rules.{rules}
 use Rattle.octet.proofs.big.read_u32.Goals as goal
 
 pub returns : goal.returns

@@ -1,12 +1,11 @@
 -- `octet::read_u64` meets its contract: each half the other way round. Assumes nothing.
 use mathlib.Core.Path.{◌≡◌, ap, ◌∙◌}
-use Prim.Native.Nat.{ℕ, ◌+◌, ◌*◌, ◌/◌, ◌%◌}
+use Prim.Native.Nat.{ℕ, ◌+◌, ◌/◌, ◌%◌}
 use native.Mathlib.Omega.{arith}
 use Rattle.octet.specs.Number.{Digits, value_be}
 use Rattle.octet.specs.Part.{part}
 use Rattle.octet.proofs.BigLaws.{value_be-part}
 use Rattle.octet.proofs.LittleLaws.{swapped_of, swap_part, halves_of}
-use borrow.Author.Rules.{rules}
 use Rattle.octet.proofs.big.read_u64.Goals as goal
 
 pub returns : goal.returns

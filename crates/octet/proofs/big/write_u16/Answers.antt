@@ -1,8 +1,7 @@
 -- `octet::write_u16` meets its contract: the two stores are one replaced part. Assumes nothing.
 use mathlib.Core.Path.{sym, ap, ◌∙◌}
-use Prim.Native.Nat.{ℕ, ◌-◌, ◌%◌, ◌/◌}
+use Prim.Native.Nat.{ℕ, ◌%◌, ◌/◌}
 use native.Mathlib.Omega.{arith}
-use borrow.Author.Rules.{rules}
 use mathlib.Core.List.{[], ◌∷◌}
 use native.Mathlib.Nat.{div-one}
 use lib.ListN.{length-set}

@@ -5,7 +5,6 @@ use Prim.Native.Nat.{ℕ, ◌+◌, ◌%◌}
 use native.Mathlib.Omega.{arith}
 use Rattle.octet.specs.Number.{digits_be}
 use Rattle.octet.specs.Part.{splice}
-use borrow.Author.Rules.{rules}
 use Rattle.octet.proofs.BigLaws.{splice_halves_be}
 use Rattle.octet.proofs.big.write_u32.Goals as goal
 

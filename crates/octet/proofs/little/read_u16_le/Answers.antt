@@ -1,7 +1,6 @@
 -- `octet::read_u16_le` meets its contract: two bytes fit, and the part at the place is those two. Assumes nothing.
-use Prim.Native.Nat.{◌+◌, ◌-◌}
+use Prim.Native.Nat.{◌+◌}
 use native.Mathlib.Omega.{arith}
-use borrow.Author.Rules.{rules}
 use Rattle.octet.specs.Number.{value_le}
 use Rattle.octet.proofs.PartLaws.{part_two}
 use Rattle.octet.proofs.little.read_u16_le.Goals as goal
@@ -17,7 +16,7 @@ overflow_mul-result c = omega (arith, c.type_inv.s (c.args.at + 1))
 
 pub overflow_add-result : goal.overflow_add-result
 overflow_add-result c =
-    omega (arith, c.shared_slice_known-1.given c.args.at, c.type_inv.s (c.args.at + 1))
+    omega (arith, c.type_inv.s c.args.at, c.type_inv.s (c.args.at + 1))
 
 pub returns : goal.returns
 unfolding value_le

@@ -2,7 +2,6 @@
 use Prim.Native.Nat.{◌+◌}
 use native.Mathlib.Omega.{arith}
 use Rattle.octet.proofs.LittleLaws.{four_bytes_lem}
-use borrow.Author.Rules.{rules}
 use Rattle.octet.proofs.little.read_u32_le.Goals as goal
 
 pub overflow_cast-a : goal.overflow_cast-a
@@ -21,9 +20,9 @@ pub overflow_mul-result : goal.overflow_mul-result
 overflow_mul-result c =
     omega (
       arith,
-      c.shared_slice_known-1.given c.args.at,
-      c.shared_slice_known-2-1.given (c.args.at + 1),
-      c.shared_slice_known-3-1.given (c.args.at + 2),
+      c.type_inv.s c.args.at,
+      c.type_inv.s (c.args.at + 1),
+      c.type_inv.s (c.args.at + 2),
       c.type_inv.s (c.args.at + 3),
     )
 
@@ -31,9 +30,9 @@ pub overflow_add-result : goal.overflow_add-result
 overflow_add-result c =
     omega (
       arith,
-      c.shared_slice_known-1.given c.args.at,
-      c.shared_slice_known-2-1.given (c.args.at + 1),
-      c.shared_slice_known-3-1.given (c.args.at + 2),
+      c.type_inv.s c.args.at,
+      c.type_inv.s (c.args.at + 1),
+      c.type_inv.s (c.args.at + 2),
       c.type_inv.s (c.args.at + 3),
     )
 
@@ -41,9 +40,9 @@ pub overflow_mul-result-2 : goal.overflow_mul-result-2
 overflow_mul-result-2 c =
     omega (
       arith,
-      c.shared_slice_known-1.given c.args.at,
-      c.shared_slice_known-2-1.given (c.args.at + 1),
-      c.shared_slice_known-3-1.given (c.args.at + 2),
+      c.type_inv.s c.args.at,
+      c.type_inv.s (c.args.at + 1),
+      c.type_inv.s (c.args.at + 2),
       c.type_inv.s (c.args.at + 3),
     )
 
@@ -51,9 +50,9 @@ pub overflow_add-result-2 : goal.overflow_add-result-2
 overflow_add-result-2 c =
     omega (
       arith,
-      c.shared_slice_known-1.given c.args.at,
-      c.shared_slice_known-2-1.given (c.args.at + 1),
-      c.shared_slice_known-3-1.given (c.args.at + 2),
+      c.type_inv.s c.args.at,
+      c.type_inv.s (c.args.at + 1),
+      c.type_inv.s (c.args.at + 2),
       c.type_inv.s (c.args.at + 3),
     )
 
@@ -61,9 +60,9 @@ pub overflow_mul-result-3 : goal.overflow_mul-result-3
 overflow_mul-result-3 c =
     omega (
       arith,
-      c.shared_slice_known-1.given c.args.at,
-      c.shared_slice_known-2-1.given (c.args.at + 1),
-      c.shared_slice_known-3-1.given (c.args.at + 2),
+      c.type_inv.s c.args.at,
+      c.type_inv.s (c.args.at + 1),
+      c.type_inv.s (c.args.at + 2),
       c.type_inv.s (c.args.at + 3),
     )
 
@@ -71,9 +70,9 @@ pub overflow_add-result-3 : goal.overflow_add-result-3
 overflow_add-result-3 c =
     omega (
       arith,
-      c.shared_slice_known-1.given c.args.at,
-      c.shared_slice_known-2-1.given (c.args.at + 1),
-      c.shared_slice_known-3-1.given (c.args.at + 2),
+      c.type_inv.s c.args.at,
+      c.type_inv.s (c.args.at + 1),
+      c.type_inv.s (c.args.at + 2),
       c.type_inv.s (c.args.at + 3),
     )
 

@@ -7,7 +7,6 @@ use Rattle.octet.specs.Number.{value_le}
 use Rattle.octet.specs.Part.{part}
 use Rattle.octet.proofs.PartLaws.{length_part}
 use Rattle.octet.proofs.LittleLaws.{two_halves}
-use borrow.Author.Rules.{rules}
 use Rattle.octet.proofs.little.read_u64_le.Goals as goal
 
 pub returns : goal.returns

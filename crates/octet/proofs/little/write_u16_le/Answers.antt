@@ -1,8 +1,7 @@
 -- `octet::write_u16_le` meets its contract: the two stores are one replaced part. Assumes nothing.
 use mathlib.Core.Path.{sym}
-use Prim.Native.Nat.{◌-◌, ◌%◌, ◌/◌}
+use Prim.Native.Nat.{◌%◌, ◌/◌}
 use native.Mathlib.Omega.{arith}
-use borrow.Author.Rules.{rules}
 use lib.ListN.{length-set}
 use Rattle.octet.specs.Number.{digits_le}
 use Rattle.octet.proofs.PartLaws.{splice_two}

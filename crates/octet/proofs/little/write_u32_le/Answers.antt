@@ -5,7 +5,6 @@ use Prim.Native.Nat.{ℕ, ◌+◌, ◌/◌, ◌%◌}
 use native.Mathlib.Omega.{arith}
 use Rattle.octet.specs.Number.{digits_le}
 use Rattle.octet.specs.Part.{splice}
-use borrow.Author.Rules.{rules}
 use Rattle.octet.proofs.LittleLaws.{splice_halves_le}
 use Rattle.octet.proofs.little.write_u32_le.Goals as goal
 

@@ -1,14 +1,14 @@
-use mathlib.Core.Path.{◌≡◌, refl, sym, ap, ap₂, ◌∙◌}
-use Prim.Native.Nat.{ℕ, ◌+◌, ◌-◌, ◌≤◌}
+use mathlib.Core.Path.{refl, sym, ap, ap₂, ◌∙◌}
+use Prim.Native.Nat.{ℕ, ◌+◌}
 use native.Mathlib.Omega.{arith}
 use mathlib.Core.Bool.{Bool, ◌&&◌}
-use mathlib.Core.Logic.{⊎_elim}
 use mathlib.Core.List.{List}
-use lib.ListN.{length, drop, get_or, drop_of_length-le}
+use lib.ListN.{drop, get_or, drop_of_length-le}
 use borrow.Author.Tests.{eq-eqb, ne_eqb}
 use Rattle.octet.specs.Part.{same}
 use Rattle.octet.proofs.TestLaws.{same-lengths, same_from, and_true, flag_falls, flag_stays}
 use Rattle.octet.proofs.same.equal.Goals as goal
+use Rattle.octet.proofs.same.equal.Goals.{then-a-i, else-a-i}
 
 pub returns-then-a-b : goal.returns-then-a-b
 returns-then-a-b c = sym (same-lengths c.args.a.now c.args.b.now c.if-a-b.true)
@@ -25,9 +25,10 @@ loop-i-preserved c =
     let flag = at-loop.loop-i.same in
     let rest = same (drop (i + 1) a) (drop (i + 1) b) in
     let turn = at-loop.loop-i.invariant.1 ∙ ap (λ (t : Bool). flag && t) (same_from i a b (omega arith) (omega arith)) in
-    ⊎_elim (λ w. (omega arith, flag_falls flag rest turn (ne_eqb (get_or a i 0) (get_or b i 0) w.0.true) w.1))
-    (λ w. (omega arith, flag_stays flag rest turn (eq-eqb (get_or a i 0) (get_or b i 0) w.0.left) w.1))
-    c.if-a-i.branch
+    elim c.if-a-i.branch [
+      | then-a-i w ↦ (omega arith, flag_falls flag rest turn (ne_eqb (get_or a i 0) (get_or b i 0) w.if-a-i.true) w.same-is)
+      | else-a-i w ↦ (omega arith, flag_stays flag rest turn (eq-eqb (get_or a i 0) (get_or b i 0) w.if-a-i.false) w.same-is)
+    ]
 
 pub returns : goal.returns
 unfolding same

@@ -1,12 +1,8 @@
 -- `octet::is_zero` meets its contract. The invariant: the blocks that are left decide. Assumes nothing.
-use mathlib.Core.Path.{◌≡◌, refl, sym, ap, ◌∙◌}
-use mathlib.Core.Bool.{Bool, ◌&&◌}
-use Prim.Native.Nat.{ℕ, ◌+◌, ◌-◌, ◌*◌, ◌/◌, ◌≤◌}
-use native.Mathlib.Omega.{arith}
+use mathlib.Core.Path.{◌≡◌}
+use Prim.Native.Nat.{◌-◌, ◌*◌, ◌/◌, ◌≤◌}
 use lib.ListN.{length, drop}
-use borrow.Author.Tests.{not-true, not-false}
-use Rattle.octet.specs.Part.{part, all_zero}
-use Rattle.octet.proofs.TestLaws.{zero_rest}
+use Rattle.octet.specs.Part.{all_zero}
 use Rattle.octet.proofs.same.is_zero.Given as goal
 
 abbrev pub invariant-loop-block : goal.invariant-loop-block

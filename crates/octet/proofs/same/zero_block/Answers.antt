@@ -2,7 +2,6 @@
 use mathlib.Core.Path.{sym, ap₂, ◌∙◌}
 use mathlib.Core.Bool.{◌&&◌}
 use Rattle.octet.proofs.TestLaws.{zero_four}
-use borrow.Author.Rules.{rules}
 use Rattle.octet.proofs.same.zero_block.Goals as goal
 
 pub returns : goal.returns

@@ -4,7 +4,6 @@ use mathlib.Core.Bool.{◌&&◌}
 use Prim.Native.Nat.{ℕ}
 use lib.Dec.{eqb}
 use Rattle.octet.proofs.TestLaws.{zero-words_two}
-use borrow.Author.Rules.{rules}
 use Rattle.octet.proofs.same.zero_pair.Goals as goal
 
 pub returns : goal.returns

@@ -1,13 +1,8 @@
 -- `octet::zero_tail` meets its contract. The invariant: what is left decides. Assumes nothing.
-use mathlib.Core.Path.{◌≡◌, refl, sym, ap, ◌∙◌}
-use mathlib.Core.Bool.{Bool, ◌&&◌}
-use mathlib.Core.List.{List}
-use Prim.Native.Nat.{ℕ, ◌+◌, ◌-◌, ◌*◌, ◌/◌, ◌≤◌}
-use native.Mathlib.Omega.{arith}
-use lib.ListN.{length, drop, get_or, drop_of_length-le}
-use borrow.Author.Tests.{eq-eqb, ne_eqb, not-true, not-false}
-use Rattle.octet.specs.Part.{part, all_zero}
-use Rattle.octet.proofs.TestLaws.{zero_from, zero_rest}
+use mathlib.Core.Path.{◌≡◌}
+use Prim.Native.Nat.{◌-◌, ◌≤◌}
+use lib.ListN.{length, drop}
+use Rattle.octet.specs.Part.{all_zero}
 use Rattle.octet.proofs.same.zero_tail.Given as goal
 
 abbrev pub invariant-loop-i : goal.invariant-loop-i

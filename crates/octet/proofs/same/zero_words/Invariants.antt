@@ -1,13 +1,7 @@
 -- `octet::zero_words` meets its contract. The invariant: the words that are left decide. Assumes nothing.
-use mathlib.Core.Path.{◌≡◌, sym, ap, ap₂, ◌∙◌}
-use mathlib.Core.Bool.{Bool, ◌&&◌}
-use Prim.Native.Nat.{ℕ, ◌+◌, ◌-◌, ◌*◌, ◌≤◌}
-use native.Mathlib.Omega.{arith}
-use borrow.Author.Rules.{rules}
-use borrow.Author.Tests.{eq-eqb, ne_eqb}
-use lib.Dec.{eqb}
+use mathlib.Core.Path.{◌≡◌}
+use Prim.Native.Nat.{◌+◌, ◌-◌, ◌*◌, ◌≤◌}
 use Rattle.octet.specs.Part.{part, all_zero}
-use Rattle.octet.proofs.TestLaws.{zero_turn}
 use Rattle.octet.proofs.same.zero_words.Given as goal
 
 abbrev pub invariant-loop-k : goal.invariant-loop-k

@@ -35,8 +35,7 @@ pub struct Taken {
 }
 
 // The same AUTHORITY with this reading as its payload, at the start of the output.
-#[unsafe(no_mangle)]
-pub extern "C" fn gauge_carry(
+pub fn gauge_carry(
     major: u8,
     authority: &[u8],
     kind: u32,
@@ -63,8 +62,7 @@ pub extern "C" fn gauge_carry(
 }
 
 // The reading that an AUTHORITY carries.
-#[unsafe(no_mangle)]
-pub extern "C" fn gauge_carried(major: u8, datagram: &[u8]) -> Taken
+pub fn gauge_carried(major: u8, datagram: &[u8]) -> Taken
     ensures { result ≡ take_call major datagram.now }
 {
     let message = wire_read::read(datagram, major);
@@ -76,8 +74,7 @@ pub extern "C" fn gauge_carried(major: u8, datagram: &[u8]) -> Taken
 }
 
 // Litres in minus litres out.
-#[unsafe(no_mangle)]
-pub extern "C" fn gauge_balance(litres_in: u32, litres_out: u32) -> i64
+pub fn gauge_balance(litres_in: u32, litres_out: u32) -> i64
     ensures { result ≡ balance_of litres_in litres_out }
 {
     readings::balance(litres_in, litres_out)

@@ -32,8 +32,7 @@ fn list(
 
 // The changes from one cache to another of the same own records and the same length, in key order: how many, and how many
 // bytes they take at the start of the output, 101 each.
-#[unsafe(no_mangle)]
-pub extern "C" fn gauge_changes(
+pub fn gauge_changes(
     own: &[u8],
     before: &[u8],
     after: &[u8],

@@ -111,8 +111,7 @@ fn plan_and_commit(
 }
 
 // A datagram received. Own records out of form are refused before the rest of what is lent is touched; the plan tests them again.
-#[unsafe(no_mangle)]
-pub extern "C" fn gauge_receive(
+pub fn gauge_receive(
     own: &[u8],
     cpas: &[u8],
     cache: &mut [u8],
@@ -142,8 +141,7 @@ pub extern "C" fn gauge_receive(
 
 // A FLOOD sent to a held neighbour, of a record of our own or of one held: everything is planned before a byte is written.
 // Memory that is not lent may be any.
-#[unsafe(no_mangle)]
-pub extern "C" fn gauge_send(
+pub fn gauge_send(
     own: &[u8],
     cache: &[u8],
     waiting: &mut [u8],
@@ -171,12 +169,7 @@ pub extern "C" fn gauge_send(
 
 // One second has passed: how many IDs are listed in the output, each 4 bytes, least significant first. Memory that is
 // not lent may be any.
-#[unsafe(no_mangle)]
-pub extern "C" fn gauge_tick(
-    own: &[u8],
-    waiting: &mut [u8],
-    output: &mut [u8],
-) -> gauge_commit::Answer
+pub fn gauge_tick(own: &[u8], waiting: &mut [u8], output: &mut [u8]) -> gauge_commit::Answer
     ensures { (m : Memory) → handed result (with_waiting waiting.new m) output.new
         ≡ ours (with_waiting waiting.old m) (ticks (tick own.now output.old)) }
 {
@@ -186,8 +179,7 @@ pub extern "C" fn gauge_tick(
 
 // The neighbour list of one of our keys: how many keys below it, then how many above, stand in the output, nearest first.
 // Memory that is not lent may be any.
-#[unsafe(no_mangle)]
-pub extern "C" fn gauge_neighbours(
+pub fn gauge_neighbours(
     own: &[u8],
     cache: &[u8],
     key: &[u8],
@@ -203,13 +195,7 @@ pub extern "C" fn gauge_neighbours(
 
 // The record closest to a target, those held that are on the path skipped: its place for one of our own, 4 more than that for one of
 // the cache; and how many keys were compared to find the target's place. The path is endpoints as on the wire.
-#[unsafe(no_mangle)]
-pub extern "C" fn gauge_closest(
-    own: &[u8],
-    cache: &[u8],
-    path: &[u8],
-    target: &[u8],
-) -> gauge_commit::Answer
+pub fn gauge_closest(own: &[u8], cache: &[u8], path: &[u8], target: &[u8]) -> gauge_commit::Answer
     ensures { result ≡ gauge_closest own.now cache.now path.now target.now }
 {
     let sighted = neighbours::closest_record(own, cache, path, target);
@@ -222,8 +208,7 @@ pub extern "C" fn gauge_closest(
 }
 
 // Whether a key is held: 0 where it is not, one more than its place where it is; and how many keys were compared.
-#[unsafe(no_mangle)]
-pub extern "C" fn gauge_search(own: &[u8], cache: &[u8], key: &[u8]) -> gauge_commit::Answer
+pub fn gauge_search(own: &[u8], cache: &[u8], key: &[u8]) -> gauge_commit::Answer
     ensures { result ≡ gauge_search own.now cache.now key.now }
 {
     let done = cache::search_key(own, cache, key);
@@ -232,20 +217,14 @@ pub extern "C" fn gauge_search(own: &[u8], cache: &[u8], key: &[u8]) -> gauge_co
 
 // A datagram read without acting on it: the numbers of its message, and where the fields stand that must be judged or
 // signed.
-#[unsafe(no_mangle)]
-pub extern "C" fn gauge_look(major: u8, datagram: &[u8]) -> look::Look
+pub fn gauge_look(major: u8, datagram: &[u8]) -> look::Look
     ensures { result ≡ look_of (read_in datagram.now major) }
 {
     look::look_at(major, datagram)
 }
 
 // Memory of the time when a record could have four addresses, turned into the form of today: each record keeps its first.
-#[unsafe(no_mangle)]
-pub extern "C" fn gauge_convert(
-    own: &[u8],
-    cache: &mut [u8],
-    waiting: &mut [u8],
-) -> gauge_commit::Answer
+pub fn gauge_convert(own: &[u8], cache: &mut [u8], waiting: &mut [u8]) -> gauge_commit::Answer
     ensures { conversion result cache.new waiting.new
         ≡ conversion_of own.now cache.old waiting.old }
 {

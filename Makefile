@@ -71,8 +71,9 @@ browser: page
 	@tools/install browser
 	@tests/outside/browser.py target/hill.html target/hill.trace
 
+# Lays out the Rattle sources, crate by crate; `rt ci` refuses one that is not.
 fmt:
-	@rt fmt
+	@for crate in crates/*/; do (cd "$$crate" && rt fmt) || exit 1; done
 
 # How many lines of definitions there are to believe.
 definitions:

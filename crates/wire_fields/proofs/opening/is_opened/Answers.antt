@@ -19,24 +19,16 @@ opening_bytes (suc (suc (suc zero))) = omega arith
 opening_bytes (suc (suc (suc (suc zero)))) = omega arith
 opening_bytes (suc (suc (suc (suc (suc i))))) = omega arith
 
-slice-aggregate-read-u32 : tie.Need-slice-aggregate-read-u32
-slice-aggregate-read-u32 c = search rules
-
 pub returns-then-read_u32-first : goal.returns-then-read_u32-first
 returns-then-read_u32-first c =
-    let k = c in
-    let d = k.args.d.now in
+    let d = c.args.d.now in
     let first = c.read_u32.ensures in
     let other = ne_eqb (number_at 0 4 d) (number_at 0 4 opening) (λ e. c.if-read_u32-first.true (first ∙ e ∙ sym c.read_u32-first.ensures)) in
-    rw (five-same d opening (λ i. omega (arith, k.type_inv.d i)) opening_bytes (search rules) (omega arith), other)
-
-array-read-result : tie.Need-array-read-result
-array-read-result c = search rules
+    rw (five-same d opening (λ i. omega (arith, c.type_inv.d i)) opening_bytes (search rules) (omega arith), other)
 
 pub returns : goal.returns
 returns c =
-    let k = c in
-    let d = k.args.d.now in
+    let d = c.args.d.now in
     let first = c.read_u32.ensures in
     let equal = eq-eqb (number_at 0 4 d) (number_at 0 4 opening) (sym first ∙ c.if-read_u32-first.false ∙ c.read_u32-first.ensures) in
-    rw (five-same d opening (λ i. omega (arith, k.shared_slice_known-1.given i)) opening_bytes (search rules) (omega arith), equal)
+    rw (five-same d opening (λ i. omega (arith, c.type_inv.d i)) opening_bytes (search rules) (omega arith), equal)

@@ -8,10 +8,10 @@ use lib.Seq.{take_all, take-add, drop-drop}
 use borrow.Rule.Slice.PartMut.{put_mid}
 use Rattle.octet.specs.Part.{part, splice}
 
-pub put_mid : (at j : ℕ) (b old new : List ℕ) → at + j + length b ≤ length old → new ≡ splice j b (take (length old - at) (drop at old))
+pub put_lent : (at j : ℕ) (b old new : List ℕ) → at + j + length b ≤ length old → new ≡ splice j b (take (length old - at) (drop at old))
     → put_mid at (length old - at) old new ≡ splice (at + j) b old
 unfolding splice
-put_mid at j b old new h e =
+put_lent at j b old new h e =
     let rest : List ℕ = drop at old in
     let all : take (length old - at) rest ≡ rest = take_all (length old - at) rest (omega (arith, length-drop at old)) in
     let none : drop (length old - at) rest ≡ [] = drop_of_length-le rest {i = length old - at} (omega (arith, length-drop at old)) in

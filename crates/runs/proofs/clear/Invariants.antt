@@ -1,12 +1,8 @@
 -- `runs::clear` meets its contract. The invariant: the first i bytes from the place are cleared, and no more. Assumes nothing.
-use mathlib.Core.Path.{◌≡◌, refl, sym, ap, ◌∙◌}
-use Prim.Native.Nat.{ℕ, ◌+◌, ◌-◌, ◌≤◌}
-use native.Mathlib.Omega.{arith}
-use mathlib.Core.List.{List}
-use lib.ListN.{length, set, replicate, length-set}
+use mathlib.Core.Path.{◌≡◌}
+use Prim.Native.Nat.{◌-◌, ◌≤◌}
+use lib.ListN.{length, replicate}
 use Rattle.octet.specs.Part.{splice}
-use Rattle.octet.proofs.PartLaws.{splice_nil}
-use Rattle.runs.proofs.TurnLaws.{fill_turn}
 use Rattle.runs.proofs.clear.Given as goal
 
 abbrev pub invariant-loop-i : goal.invariant-loop-i

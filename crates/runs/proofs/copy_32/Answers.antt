@@ -6,7 +6,6 @@ use native.Mathlib.Omega.{arith}
 use lib.ListN.{length, take, drop}
 use Rattle.octet.specs.Part.{part, splice}
 use Rattle.octet.proofs.PartLaws.{length_part, splice_whole}
-use borrow.Author.Rules.{rules}
 use Rattle.runs.proofs.copy_32.Goals as goal
 
 pub returns : goal.returns

@@ -1,13 +1,12 @@
 use mathlib.Core.Path.{◌≡◌, refl, sym, ap, ap₂, ◌∙◌}
 use mathlib.Core.List.{List}
-use Prim.Native.Nat.{ℕ, ◌+◌, ◌-◌, ◌≤◌}
-use native.Mathlib.Nat.{add-zero, sub_self, sub-zero}
+use Prim.Native.Nat.{ℕ, ◌+◌, ◌-◌}
+use native.Mathlib.Nat.{add-zero}
 use native.Mathlib.Omega.{arith}
-use borrow.Author.Rules.{rules}
 use lib.ListN.{length, take, drop, length-set, length-take, length-drop}
 use Rattle.octet.specs.Part.{part, splice}
 use Rattle.octet.proofs.PartLaws.{splice_nil, length_part}
-use Rattle.runs.proofs.LentLaws.{put_mid, part_lent}
+use Rattle.runs.proofs.LentLaws.{put_lent, part_lent}
 use Rattle.runs.proofs.TurnLaws.{down_turn}
 use Rattle.runs.proofs.move_down.Goals as goal
 
@@ -23,7 +22,7 @@ returns-then-from-to-eq100 c =
     let a = start.args in
     let s = a.s.now in
     let from : a.to + 100 ≡ a.from = omega arith in
-    put_mid a.to 0 (part 100 a.n (take (length s - a.to) (drop a.to s))) s c.shift_100.new.s
+    put_lent a.to 0 (part 100 a.n (take (length s - a.to) (drop a.to s))) s c.shift_100.new.s
     (omega (
       arith,
       length_part 100 a.n (take (length s - a.to) (drop a.to s))
@@ -44,7 +43,7 @@ returns-then-from-to-eq140 c =
     let a = start.args in
     let s = a.s.now in
     let from : a.to + 140 ≡ a.from = omega arith in
-    put_mid a.to 0 (part 140 a.n (take (length s - a.to) (drop a.to s))) s c.shift_140.new.s
+    put_lent a.to 0 (part 140 a.n (take (length s - a.to) (drop a.to s))) s c.shift_140.new.s
     (omega (
       arith,
       length_part 140 a.n (take (length s - a.to) (drop a.to s))

@@ -1,13 +1,12 @@
 use mathlib.Core.Path.{◌≡◌, refl, sym, ap, ap₂, ◌∙◌}
 use mathlib.Core.List.{List}
-use Prim.Native.Nat.{ℕ, ◌+◌, ◌-◌, ◌≤◌}
+use Prim.Native.Nat.{ℕ, ◌+◌, ◌-◌}
 use native.Mathlib.Nat.{add-zero, sub_self, sub-zero}
 use native.Mathlib.Omega.{arith}
-use borrow.Author.Rules.{rules}
 use lib.ListN.{length, take, drop, length-set, length-take, length-drop}
 use Rattle.octet.specs.Part.{part, splice}
 use Rattle.octet.proofs.PartLaws.{splice_nil, length_part}
-use Rattle.runs.proofs.LentLaws.{put_mid, part_lent}
+use Rattle.runs.proofs.LentLaws.{put_lent, part_lent}
 use Rattle.runs.proofs.TurnLaws.{up_turn}
 use Rattle.runs.proofs.move_up.Goals as goal
 
@@ -23,7 +22,7 @@ returns-then-to-from-eq100 c =
     let a = start.args in
     let s = a.s.now in
     let to : a.from + 100 ≡ a.to = omega arith in
-    put_mid a.from 100 (part 0 a.n (take (length s - a.from) (drop a.from s))) s c.lift_100.new.s
+    put_lent a.from 100 (part 0 a.n (take (length s - a.from) (drop a.from s))) s c.lift_100.new.s
     (omega (
       arith,
       length_part 0 a.n (take (length s - a.from) (drop a.from s))
@@ -44,7 +43,7 @@ returns-then-to-from-eq140 c =
     let a = start.args in
     let s = a.s.now in
     let to : a.from + 140 ≡ a.to = omega arith in
-    put_mid a.from 140 (part 0 a.n (take (length s - a.from) (drop a.from s))) s c.lift_140.new.s
+    put_lent a.from 140 (part 0 a.n (take (length s - a.from) (drop a.from s))) s c.lift_140.new.s
     (omega (
       arith,
       length_part 0 a.n (take (length s - a.from) (drop a.from s))

@@ -1,13 +1,8 @@
 -- `runs::lift_140` meets its contract. The invariant: the bytes from index i on are moved, and no more. Assumes nothing.
-use mathlib.Core.Path.{◌≡◌, refl, sym, ap, ap₂, ◌∙◌}
-use mathlib.Core.List.{List}
-use Prim.Native.Nat.{ℕ, ◌+◌, ◌-◌, ◌≤◌}
-use native.Mathlib.Nat.{add-zero, zero-add, sub_self, sub-zero}
-use native.Mathlib.Omega.{arith}
-use lib.ListN.{length, get_or, set, length-set}
+use mathlib.Core.Path.{◌≡◌}
+use Prim.Native.Nat.{◌+◌, ◌-◌, ◌≤◌}
+use lib.ListN.{length}
 use Rattle.octet.specs.Part.{part, splice}
-use Rattle.octet.proofs.PartLaws.{splice_nil}
-use Rattle.runs.proofs.TurnLaws.{up_turn}
 use Rattle.runs.proofs.rows.lift_140.Given as goal
 
 abbrev pub invariant-loop-i : goal.invariant-loop-i

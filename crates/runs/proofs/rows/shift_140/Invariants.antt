@@ -1,13 +1,8 @@
 -- `runs::shift_140` meets its contract. The invariant: the first i bytes are moved, and no more. Assumes nothing.
-use mathlib.Core.Path.{◌≡◌, refl, sym, ap, ◌∙◌}
-use mathlib.Core.List.{List}
-use Prim.Native.Nat.{ℕ, ◌+◌, ◌-◌, ◌≤◌}
-use native.Mathlib.Nat.{zero-add}
-use native.Mathlib.Omega.{arith}
-use lib.ListN.{length, get_or, set, length-set}
+use mathlib.Core.Path.{◌≡◌}
+use Prim.Native.Nat.{◌-◌, ◌≤◌}
+use lib.ListN.{length}
 use Rattle.octet.specs.Part.{part, splice}
-use Rattle.octet.proofs.PartLaws.{splice_nil}
-use Rattle.runs.proofs.TurnLaws.{down_turn}
 use Rattle.runs.proofs.rows.shift_140.Given as goal
 
 abbrev pub invariant-loop-i : goal.invariant-loop-i

@@ -1,5 +1,5 @@
 -- `key::key_at` meets its contract: the four words are the groups of eight bytes. Assumes nothing.
-use Rattle.std.proofs.Common.{◌≡◌, ℕ, ◌+◌, ◌-◌, ◌^◌, [], ◌∷◌, ap, ◌∙◌, add_assoc, arith, rules}
+use Rattle.std.proofs.Common.{◌≡◌, ℕ, ◌+◌, ◌^◌, [], ◌∷◌, ap, ◌∙◌, add_assoc, arith}
 use Rattle.octet.specs.Number.{value_be}
 use Rattle.octet.specs.Part.{part}
 use Rattle.octet.proofs.BigLaws.{groups_be, value_be_groups}

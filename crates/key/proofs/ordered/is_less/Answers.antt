@@ -1,5 +1,5 @@
 -- `key::is_less` meets its contract: of the three answers one says that it is. Assumes nothing.
-use Rattle.std.proofs.Common.{sym, ◌∙◌, rules}
+use Rattle.std.proofs.Common.{sym, ◌∙◌}
 use Rattle.key.specs.Number.{number}
 use Rattle.key.proofs.OrderLaws.{test_less, test_same, test_more}
 use Rattle.key.proofs.ordered.is_less.Goals as goal

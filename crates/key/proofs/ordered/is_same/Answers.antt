@@ -1,5 +1,5 @@
 -- `key::is_same` meets its contract: of the three answers one says that they are. Assumes nothing.
-use Rattle.std.proofs.Common.{sym, ◌∙◌, rules}
+use Rattle.std.proofs.Common.{sym, ◌∙◌}
 use Rattle.key.specs.Number.{number}
 use Rattle.key.proofs.OrderLaws.{test_less, test_same, test_more}
 use Rattle.key.proofs.ordered.is_same.Goals as goal

@@ -1,4 +1,4 @@
-use Rattle.std.proofs.Common.{◌≡◌, ℕ, ◌+◌, ◌-◌, ◌*◌, ◌≤◌, sym, refl, ◌∙◌, ap₂, add-zero, arith, rules}
+use Rattle.std.proofs.Common.{◌≡◌, ℕ, ◌+◌, ◌-◌, ◌*◌, sym, refl, ◌∙◌, ap₂, add-zero, arith, rules}
 use Rattle.octet.specs.Number.{value_be}
 use Rattle.key.specs.Number.{key_at, order_of}
 use Rattle.key.proofs.OrderLaws.{then, order_same, test_same, less_alike, then_differ, then_equal}

@@ -1,9 +1,7 @@
 -- `key::less_at` meets its contract. The invariant: the words that are left decide. Assumes nothing.
-use Rattle.std.proofs.Common.{◌≡◌, ℕ, ◌+◌, ◌-◌, ◌*◌, ◌≤◌, sym, refl, ◌∙◌, ap₂, add-zero, arith, rules}
-use Rattle.octet.specs.Number.{value_be}
+use Rattle.std.proofs.Common.{◌≡◌, ◌-◌, ◌≤◌}
 use Rattle.key.specs.Number.{key_at, order_of}
-use Rattle.key.proofs.OrderLaws.{then, order_same, test_same, less_alike, then_differ, then_equal}
-use Rattle.key.proofs.PlaceLaws.{order_from, order-words}
+use Rattle.key.proofs.PlaceLaws.{order_from}
 use Rattle.key.proofs.ordered.less_at.Given as goal
 
 abbrev pub invariant-loop-word : goal.invariant-loop-word

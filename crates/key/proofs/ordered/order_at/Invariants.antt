@@ -1,10 +1,9 @@
 -- `key::order_at` meets its contract. The invariant: the words that are left decide. Assumes nothing.
-use Rattle.std.proofs.Common.{◌≡◌, ℕ, ◌+◌, ◌-◌, ◌*◌, ◌≤◌, sym, refl, ◌∙◌, ap₂, add-zero, arith, rules}
+use Rattle.std.proofs.Common.{◌≡◌, ◌-◌, ◌≤◌}
 use Rattle.octet.specs.Number.{value_be}
 use Rattle.octet.specs.Part.{part}
 use Rattle.key.specs.Number.{order_of}
-use Rattle.key.proofs.OrderLaws.{then, order_same, then_equal}
-use Rattle.key.proofs.PlaceLaws.{order_from, order-words, then_less, then_more}
+use Rattle.key.proofs.PlaceLaws.{order_from}
 use Rattle.key.proofs.ordered.order_at.Given as goal
 
 abbrev pub invariant-loop-k : goal.invariant-loop-k

@@ -1,5 +1,5 @@
 -- `key::order_of_words` meets its contract. Assumes nothing.
-use Rattle.std.proofs.Common.{◌-◌, sym, arith}
+use Rattle.std.proofs.Common.{sym, arith}
 use Rattle.key.proofs.OrderLaws.{order_less, order_more, order_same}
 use Rattle.key.proofs.ordered.order_of_words.Goals as goal
 

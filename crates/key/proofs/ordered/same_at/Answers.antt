@@ -1,5 +1,5 @@
 -- `key::same_at` meets its contract: lists of bytes of one length are the same where their numbers are. Assumes nothing.
-use Rattle.std.proofs.Common.{sym, ◌∙◌, arith, rules}
+use Rattle.std.proofs.Common.{sym, ◌∙◌, arith}
 use Rattle.octet.specs.Number.{Digits}
 use Rattle.octet.specs.Part.{part}
 use Rattle.octet.proofs.PartLaws.{part-digits, length_part}

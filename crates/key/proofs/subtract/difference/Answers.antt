@@ -1,5 +1,5 @@
 -- `key::difference` meets its contract: the smaller is taken from the larger, and nothing wraps. Assumes nothing.
-use Rattle.std.proofs.Common.{◌≡◌, sym, ◌∙◌, le_of_lt, arith, rules, ltb-false, ltb-true}
+use Rattle.std.proofs.Common.{sym, ◌∙◌, le_of_lt, arith, ltb-false, ltb-true}
 use Rattle.key.specs.Number.{number}
 use Rattle.key.proofs.DifferenceLaws.{distance_above, distance_below}
 use Rattle.key.proofs.KeyLaws.{Fit, number-ring}
@@ -12,7 +12,7 @@ words-fit s = (omega arith, omega arith)
 
 pub returns-then-is_less : goal.returns-then-is_less
 returns-then-is_less c =
-    let s = (goal.at.returns-then-is_less (goal.at.returns-then-is_less c).After-minus).Start in
+    let s = (goal.at.returns-then-is_less c).Start in
     let x = number s.args.x in
     let y = number s.args.y in
     let h = le_of_lt (ltb-true x y (sym c.is_less.ensures ∙ c.if-is_less.true)) in
@@ -20,7 +20,7 @@ returns-then-is_less c =
 
 pub returns : goal.returns
 returns c =
-    let s = (goal.at.returns (goal.at.returns c).After-minus-2).Start in
+    let s = (goal.at.returns c).Start in
     let x = number s.args.x in
     let y = number s.args.y in
     let h = ltb-false x y (sym c.is_less.ensures ∙ c.if-is_less.false) in

@@ -1,5 +1,5 @@
 -- `key::minus` meets its contract: each step is one digit of the law, and what is borrowed in the end wraps. Assumes nothing.
-use Rattle.std.proofs.Common.{◌^◌, arith, rules}
+use Rattle.std.proofs.Common.{◌^◌, arith}
 use Rattle.key.specs.Number.{number}
 use Rattle.key.specs.Around.{ring, up}
 use Rattle.key.proofs.DifferenceLaws.{borrowed_wraps}
@@ -15,11 +15,8 @@ fits s = (omega arith, omega arith)
 pub returns : goal.returns
 unfolding number up ring
 returns c =
-    let c3 = c in
-    let c2 = c in
-    let c1 = c in
-    let f = fits c1.before in
+    let f = fits (goal.at.returns c).Start in
     borrowed_wraps (2 ^ 64)
-    (digit c.sub_word-a.ensures.0 (digit c3.sub_word-b.ensures.0 (digit c2.sub_word-c.ensures.0 (digit c1.sub_word-d.ensures.0 end))))
+    (digit c.sub_word-a.ensures.0 (digit c.sub_word-b.ensures.0 (digit c.sub_word-c.ensures.0 (digit c.sub_word-d.ensures.0 end))))
     (fit-digits f.0) (fit-digits f.1)
-    (fit-digits (omega (arith, c.sub_word-a.type-inv, c3.sub_word-b.type-inv, c2.sub_word-c.type-inv, c1.sub_word-d.type-inv)))
+    (fit-digits (omega (arith, c.sub_word-a.type_inv, c.sub_word-b.type_inv, c.sub_word-c.type_inv, c.sub_word-d.type_inv)))

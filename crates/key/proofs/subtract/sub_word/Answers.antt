@@ -1,5 +1,5 @@
 -- `key::sub_word` meets its contract: where a wrapping difference wraps, one was borrowed. Assumes nothing.
-use Rattle.std.proofs.Common.{arith, rules}
+use Rattle.std.proofs.Common.{arith}
 use Rattle.key.proofs.subtract.sub_word.Goals as goal
 
 pub returns-then-x-y : goal.returns-then-x-y

@@ -1,6 +1,6 @@
 -- `ring::is_above` meets its contract: by the steps up from our own key. Assumes nothing.
 use mathlib.Core.Path.{◌≡◌, sym, ap, ap₂, ◌∙◌}
-use mathlib.Core.Bool.{Bool, ◌&&◌}
+use mathlib.Core.Bool.{◌&&◌}
 use Prim.Native.Nat.{ℕ}
 use native.Mathlib.Omega.{arith}
 use lib.Dec.{leb}
@@ -8,7 +8,6 @@ use Rattle.key.specs.Number.{number, key_at}
 use Rattle.key.specs.Around.{half, up}
 use Rattle.key.proofs.KeyLaws.{key-lt}
 use Rattle.key.proofs.AroundLaws.{above_steps}
-use borrow.Author.Rules.{rules}
 use Rattle.ring.proofs.is_above.Goals as goal
 
 pub returns : goal.returns

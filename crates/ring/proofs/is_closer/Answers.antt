@@ -6,7 +6,6 @@ use borrow.Author.Tests.{ltb-true, ltb-false}
 use Rattle.key.specs.Number.{number}
 use Rattle.key.specs.Around.{apart}
 use Rattle.key.proofs.AroundLaws.{closer_less, closer-same, closer_more}
-use borrow.Author.Rules.{rules}
 use Rattle.ring.proofs.is_closer.Goals.{Else-is_less-2}
 use Rattle.ring.proofs.is_closer.Goals as goal
 

@@ -4,7 +4,6 @@ use mathlib.Core.Bool.{true, false}
 use Prim.Native.Nat.{ℕ}
 use lib.Dec.{ltb}
 use borrow.Author.Tests.{ltb-true, ltb-false}
-use borrow.Author.Rules.{rules}
 use Rattle.key.specs.Number.{number}
 use Rattle.key.specs.Around.{half}
 use Rattle.key.proofs.AroundLaws.{steps_many, steps_few}

@@ -57,7 +57,7 @@ is_closer-closer-requires c = record { d_value = c.how_far-away.ensures; e_value
 
 pub loop-i-preserved-then-closer : goal.loop-i-preserved-then-closer
 loop-i-preserved-then-closer c =
-    let m = (goal.at.loop-i-preserved-then-closer (goal.at.loop-i-preserved-then-closer c).Then-closer).After-is_closer-closer in
+    let m = (goal.at.loop-i-preserved-then-closer c).After-is_closer-closer in
     let l = (loop m).loop-i in
     let n = (start m).args.n in (
       omega arith,
@@ -68,7 +68,7 @@ loop-i-preserved-then-closer c =
 
 pub loop-i-preserved : goal.loop-i-preserved
 loop-i-preserved c =
-    let m = (goal.at.loop-i-preserved (goal.at.loop-i-preserved c).Else-closer).After-is_closer-closer in
+    let m = (goal.at.loop-i-preserved c).After-is_closer-closer in
     let l = (loop m).loop-i in
     let n = (start m).args.n in (
       omega arith,

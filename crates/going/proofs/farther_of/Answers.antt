@@ -34,7 +34,7 @@ downs c = c.minus-down.ensures ∙ ap₂ up c.key_there-2.ensures c.key_at-first
 pub returns-then-is_less : goal.returns-then-is_less
 returns-then-is_less c =
     let l = c in
-    let m = (goal.at.returns-then-is_less (goal.at.returns-then-is_less c).Then-is_less).After-minus-down in
+    let m = (goal.at.returns-then-is_less c).After-minus-down in
     let a = (start m).args in
     under-farther (own m) (keys m) a.x a.y (ups m) (downs m) (sym l.is_less.ensures ∙ c.if-is_less.true)
 
@@ -42,7 +42,7 @@ pub returns-then-is_less-2 : goal.returns-then-is_less-2
 returns-then-is_less-2 c =
     let l = c in
     let i1 = c in
-    let m = (goal.at.returns-then-is_less-2 (goal.at.returns-then-is_less-2 c).Then-is_less-2).After-minus-down in
+    let m = (goal.at.returns-then-is_less-2 c).After-minus-down in
     let a = (start m).args in
     over-farther (own m) (keys m) a.x a.y (ups m) (downs m) (sym i1.is_less.ensures ∙ i1.if-is_less.false)
     (sym l.is_less-2.ensures ∙ c.if-is_less-2.true)
@@ -52,7 +52,7 @@ returns-then-x-y c =
     let i2 = c in
     let l = c in
     let i1 = c in
-    let m = (goal.at.returns-then-x-y (goal.at.returns-then-x-y c).Then-x-y).After-minus-down in
+    let m = (goal.at.returns-then-x-y c).After-minus-down in
     let a = (start m).args in
     lower-over (own m) (keys m) a.x a.y (ups m) (downs m) (sym i1.is_less.ensures ∙ i1.if-is_less.false)
     (sym l.is_less-2.ensures ∙ i2.if-is_less-2.false)
@@ -63,7 +63,7 @@ returns c =
     let i2 = c in
     let l = c in
     let i1 = c in
-    let m = (goal.at.returns (goal.at.returns c).Else-x-y).After-minus-down in
+    let m = (goal.at.returns c).After-minus-down in
     let a = (start m).args in
     lower-under (own m) (keys m) a.x a.y (ups m) (downs m) (sym i1.is_less.ensures ∙ i1.if-is_less.false)
     (sym l.is_less-2.ensures ∙ i2.if-is_less-2.false)

@@ -39,9 +39,9 @@ is_listed-requires c = let p = c.requires in (c.wrap.ensures.1, p.2, p.3)
 
 pub returns-then-not-is_listed : goal.returns-then-not-is_listed
 returns-then-not-is_listed c =
-    let e = (goal.at.returns-then-not-is_listed (goal.at.returns-then-not-is_listed c).Then-not-is_listed).After-is_listed in
+    let e = (goal.at.returns-then-not-is_listed c).After-is_listed in
     let head = c in
-    let s = (goal.at.returns-then-not-is_listed (goal.at.returns-then-not-is_listed c).Then-not-is_listed).Start in
+    let s = (goal.at.returns-then-not-is_listed c).Start in
     sym (head.loop-i.invariant.1
     ∙ over-here (skips s) s.args.most head.loop-i.i e.loop-i-test.true
     (looked e ∙ c.if-not-is_listed.true))
@@ -51,9 +51,9 @@ overflow_add-i-in-loop-i c = omega (arith, c.requires)
 
 pub loop-i-preserved : goal.loop-i-preserved
 loop-i-preserved c =
-    let e = (goal.at.loop-i-preserved (goal.at.loop-i-preserved c).Else-not-is_listed).After-is_listed in
+    let e = (goal.at.loop-i-preserved c).After-is_listed in
     let head = c in
-    let s = (goal.at.loop-i-preserved (goal.at.loop-i-preserved c).Else-not-is_listed).Start in (
+    let s = (goal.at.loop-i-preserved c).Start in (
       omega arith,
       head.loop-i.invariant.1
           ∙ over-on (skips s) s.args.most head.loop-i.i e.loop-i-test.true
@@ -63,5 +63,5 @@ loop-i-preserved c =
 pub returns : goal.returns
 returns c =
     let head = c in
-    let s = (goal.at.returns (goal.at.returns c).After-loop-i).Start in
+    let s = (goal.at.returns c).Start in
     sym (head.loop-i.invariant.1 ∙ over-end (skips s) s.args.most head.loop-i.i c.loop-i-test.false)

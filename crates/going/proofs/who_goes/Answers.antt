@@ -103,7 +103,7 @@ of-own s i g = subst (λ (k : ℕ). Goes k (owns s) (more s) i) (first_is s.args
 
 pub runs_of-runs-requires : goal.runs_of-runs-requires
 runs_of-runs-requires c =
-    let s = (goal.at.runs_of-runs-requires (goal.at.runs_of-runs-requires c).After-shared_slice_known-3-1).Start in
+    let s = (goal.at.runs_of-runs-requires c).Start in
     let a = s.args in
     let p = s.requires in record { own_len = (p.0.0, p.0.1, p.1.0.4, p.1.0.0, p.1.0.1); rising = p.1.1.0; every = insert_every (λ (k : ℕ). ¬ (k ∈ owns s)) a.at a.«record».now (rows 100 a.used a.cache.now) p.1.1.1.1 }
 
@@ -138,20 +138,20 @@ up-fewer c h =
 
 pub overflow_add-end-then-above-down : goal.overflow_add-end-then-above-down
 overflow_add-end-then-above-down c =
-    let l = (goal.at.overflow_add-end-then-above-down (goal.at.overflow_add-end-then-above-down c).Then-above-down).After-listed_before-down in
+    let l = (goal.at.overflow_add-end-then-above-down c).After-listed_before-down in
     let f = fit (at-runs l) in
     omega (arith, up-few l, (start (at-runs l)).requires.used_in_bounds.1)
 
 pub wrap-requires : goal.wrap-requires
 wrap-requires c =
-    let l = (goal.at.wrap-requires (goal.at.wrap-requires c).Then-above-down).After-listed_before-down in
+    let l = (goal.at.wrap-requires c).After-listed_before-down in
     let f = fit (at-runs l) in
     omega (arith, up-fewer l c.if-above-down.true)
 
 pub returns-then-above-down : goal.returns-then-above-down
 returns-then-above-down c =
     let i1 = c in
-    let l = (goal.at.returns-then-above-down (goal.at.returns-then-above-down c).After-wrap).After-listed_before-down in
+    let l = (goal.at.returns-then-above-down c).After-listed_before-down in
     let r = at-runs l in
     let s = start r in
     let total : ℕ = s.args.used + 1 in
@@ -163,7 +163,7 @@ returns-then-above-down c =
 
 pub wrap-x-requires : goal.wrap-x-requires
 wrap-x-requires c =
-    let l = (goal.at.wrap-x-requires (goal.at.wrap-x-requires c).Else-above-down).After-listed_before-down in
+    let l = (goal.at.wrap-x-requires c).After-listed_before-down in
     let f = fit (at-runs l) in
     omega (arith, c.if-above-down.false)
 
@@ -180,9 +180,9 @@ over-is c =
 
 pub returns-then-below-up : goal.returns-then-below-up
 returns-then-below-up c =
-    let w = (goal.at.returns-then-below-up (goal.at.returns-then-below-up c).Then-below-up).After-wrap-x in
+    let w = (goal.at.returns-then-below-up c).After-wrap-x in
     let i1 = c in
-    let l = (goal.at.returns-then-below-up (goal.at.returns-then-below-up c).Then-below-up).After-listed_before-down in
+    let l = (goal.at.returns-then-below-up c).After-listed_before-down in
     let r = at-runs l in
     let s = start r in
     subst (Goes (key_of s.args.own.now) (owns s) (more s)) (sym (over-is w))
@@ -192,13 +192,13 @@ returns-then-below-up c =
 
 pub overflow_add-end-2 : goal.overflow_add-end-2
 overflow_add-end-2 c =
-    let l = (goal.at.overflow_add-end-2 (goal.at.overflow_add-end-2 c).Else-below-up).After-listed_before-down in
+    let l = (goal.at.overflow_add-end-2 c).After-listed_before-down in
     let f = fit (at-runs l) in
     omega (arith, up-few l, (start (at-runs l)).requires.used_in_bounds.1)
 
 pub wrap-y-requires : goal.wrap-y-requires
 wrap-y-requires c =
-    let l = (goal.at.wrap-y-requires (goal.at.wrap-y-requires c).Else-below-up).After-listed_before-down in
+    let l = (goal.at.wrap-y-requires c).After-listed_before-down in
     let f = fit (at-runs l) in
     omega (arith, c.if-below-up.false)
 
@@ -206,9 +206,9 @@ pub returns : goal.returns
 returns c =
     let w3 = c in
     let i2 = c in
-    let w = (goal.at.returns (goal.at.returns c).After-farther_of).After-wrap-x in
+    let w = (goal.at.returns c).After-wrap-x in
     let i1 = c in
-    let l = (goal.at.returns (goal.at.returns c).After-farther_of).After-listed_before-down in
+    let l = (goal.at.returns c).After-listed_before-down in
     let r = at-runs l in
     let s = start r in
     let total : ℕ = s.args.used + 1 in

@@ -30,7 +30,7 @@ slice_bounds-run_of-end c = omega (arith, c.requires.own_len.0, c.if-start-own.t
 pub run_of-requires : goal.run_of-requires
 run_of-requires c =
     let i1 = c in
-    let s = (goal.at.run_of-requires (goal.at.run_of-requires c).After-run_of-arg-1).Start in
+    let s = (goal.at.run_of-requires c).Start in
     let o = s.args.own.now in
     let i = s.args.i in
     let p = s.requires in
@@ -46,12 +46,12 @@ run_of-requires c =
 pub returns-then-start-own : goal.returns-then-start-own
 returns-then-start-own c =
     let i1 = c in
-    let s = (goal.at.returns-then-start-own (goal.at.returns-then-start-own c).After-run_of).Start in
+    let s = (goal.at.returns-then-start-own c).Start in
     let o = s.args.own.now in
     c.run_of.ensures ∙ ap (λ (n : ℕ). run_of n (more s)) (own_key o s.args.i (omega (arith, s.requires.own_len.0, i1.if-start-own.true)))
 
 pub returns : goal.returns
 returns c =
-    let s = (goal.at.returns (goal.at.returns c).Else-start-own).Start in
+    let s = (goal.at.returns c).Start in
     let o = s.args.own.now in
     s.requires.a_value ∙ ap (λ (n : ℕ). run_of n (more s)) (no_key o s.args.i (omega (arith, s.requires.own_len.0, c.if-start-own.false)))

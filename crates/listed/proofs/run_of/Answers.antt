@@ -37,7 +37,7 @@ pub count_below-held-requires : goal.count_below-held-requires
 count_below-held-requires c = let p = (start (goal.at.count_below-held-requires c).After-count_under-under).requires in record { in_bounds = (p.0.0, p.0.2); rising = p.1.0; every = p.1.1; first_value = c.count_under-under.ensures }
 
 pub one_more-first-requires : goal.one_more-first-requires
-one_more-first-requires c = let u = (goal.at.one_more-first-requires (goal.at.one_more-first-requires c).After-is_smaller).After-count_under-under in omega (arith, (few (start u)).0, u.count_under-under.ensures)
+one_more-first-requires c = let u = (goal.at.one_more-first-requires c).After-count_under-under in omega (arith, (few (start u)).0, u.count_under-under.ensures)
 
 pub one_more-below-requires : goal.one_more-below-requires
 one_more-below-requires c = let b = c in omega (arith, (few (start (goal.at.After-count_below-held b).After-count_under-under)).1, b.count_below-held.ensures)
@@ -46,7 +46,7 @@ pub returns : goal.returns
 returns c =
     let m = c in
     let b = c in
-    let u = (goal.at.returns (goal.at.returns c).After-one_more-below).After-count_under-under in
+    let u = (goal.at.returns c).After-count_under-under in
     let s = start u in
     let k : ℕ = key_of s.args.«record».now in
     let p =

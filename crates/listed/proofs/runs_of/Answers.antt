@@ -34,7 +34,7 @@ first_run c =
 
 pub run_of-a-requires : goal.run_of-a-requires
 run_of-a-requires c =
-    let s = (goal.at.run_of-a-requires (goal.at.run_of-a-requires c).After-run_of-arg-1).Start in
+    let s = (goal.at.run_of-a-requires c).Start in
     let o = s.args.own.now in
     let p = s.requires in record {
       in_bounds = (omega (arith, p.0, length-take 100 o), p.0.2, p.0.3, p.0.4);
@@ -48,17 +48,17 @@ run_at-b-requires c = let p = (start (goal.at.run_at-b-requires c).After-run_of-
 
 pub run_at-c-requires : goal.run_at-c-requires
 run_at-c-requires c =
-    let r = (goal.at.run_at-c-requires (goal.at.run_at-c-requires c).After-run_at-b).After-run_of-a in
+    let r = (goal.at.run_at-c-requires c).After-run_of-a in
     let p = (start r).requires in record { own_len = (p.0.0, omega arith, p.0.2, p.0.3, p.0.4); rising = p.1.0; every = p.1.1; a_value = first_run r }
 
 pub run_at-d-requires : goal.run_at-d-requires
 run_at-d-requires c =
-    let r = (goal.at.run_at-d-requires (goal.at.run_at-d-requires c).After-run_at-c).After-run_of-a in
+    let r = (goal.at.run_at-d-requires c).After-run_of-a in
     let p = (start r).requires in record { own_len = (p.0.0, omega arith, p.0.2, p.0.3, p.0.4); rising = p.1.0; every = p.1.1; a_value = first_run r }
 
 pub returns : goal.returns
 returns c =
-    let r = (goal.at.returns (goal.at.returns c).After-run_at-d).After-run_of-a in
+    let r = (goal.at.returns c).After-run_of-a in
     let s = start r in
     let n = sym (keys_many (length s.args.own.now / 100) s.args.own.now) in
     λ i. record {

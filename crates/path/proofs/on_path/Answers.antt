@@ -81,7 +81,7 @@ equal_words-found-requires c = record { n_in_bounds = omega arith; n_in_bounds_2
 
 pub loop-i-preserved : goal.loop-i-preserved
 loop-i-preserved c =
-    let e = (goal.at.loop-i-preserved (goal.at.loop-i-preserved c).Else-found).After-equal_words-found in
+    let e = (goal.at.loop-i-preserved c).After-equal_words-found in
     let a = (start (shell e).before).args in (
       c.if-found.false,
       omega arith,

@@ -25,27 +25,27 @@ counted r = r.read_u16_le-count.ensures ∙ count_word (place r) (bytes r) (omeg
 
 pub returns-then-count-ne1 : goal.returns-then-count-ne1
 returns-then-count-ne1 c =
-    let r = (goal.at.returns-then-count-ne1 (goal.at.returns-then-count-ne1 c).Then-count-ne1).After-read_u16_le-count in
+    let r = (goal.at.returns-then-count-ne1 c).After-read_u16_le-count in
     form_not (place r) (bytes r) r.requires (λ e. c.if-count-ne1.true (omega (arith, counted r, e)))
 
 -- the number is 1, so the form is that what follows the first address is zero, in two halves
-left_is : (l : After-zero_three) → let r = l.before.before in
+left_is : (l : After-zero_three) → let r = (goal.at.After-zero_three l).After-read_u16_le-count in
     all_zero (part (place r + 52) 24 (bytes r)) && all_zero (part (place r + 76) 24 (bytes r)) ≡ record_form (part (place r) 100 (bytes r))
 left_is l =
-    let r = l.before.before in
+    let r = (goal.at.After-zero_three l).After-read_u16_le-count in
     zero_halves (place r) (bytes r)
     ∙ form_one (place r) (bytes r) r.requires (omega (arith, counted r, l.if-count-ne1.false))
 
 pub returns-then-not-zero_three : goal.returns-then-not-zero_three
 returns-then-not-zero_three c =
-    let l = (goal.at.returns-then-not-zero_three (goal.at.returns-then-not-zero_three c).Then-not-zero_three).After-zero_three in
-    let r = (goal.at.returns-then-not-zero_three (goal.at.returns-then-not-zero_three c).Then-not-zero_three).After-read_u16_le-count in
+    let l = (goal.at.returns-then-not-zero_three c).After-zero_three in
+    let r = (goal.at.returns-then-not-zero_three c).After-read_u16_le-count in
     let z : all_zero (part (place r + 52) 24 (bytes r)) ≡ false = sym l.zero_three.ensures ∙ c.if-not-zero_three.true in
     ap (λ (b : Bool). b && all_zero (part (place r + 76) 24 (bytes r))) (sym z) ∙ left_is l
 
 pub returns : goal.returns
 returns c =
-    let l = (goal.at.returns (goal.at.returns c).After-zero_three-2).After-zero_three in
-    let r = (goal.at.returns (goal.at.returns c).After-zero_three-2).After-read_u16_le-count in
+    let l = (goal.at.returns c).After-zero_three in
+    let r = (goal.at.returns c).After-read_u16_le-count in
     let z : all_zero (part (place r + 52) 24 (bytes r)) ≡ true = sym l.zero_three.ensures ∙ c.if-not-zero_three.false in
     c.zero_three-2.ensures ∙ ap (λ (b : Bool). b && all_zero (part (place r + 76) 24 (bytes r))) (sym z) ∙ left_is l

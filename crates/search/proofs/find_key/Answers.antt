@@ -54,11 +54,11 @@ pub overflow_add-middle : goal.overflow_add-middle
 overflow_add-middle c = omega (arith, many (goal.at.overflow_add-middle c).At-loop-low)
 
 pub overflow_add-compared : goal.overflow_add-compared
-overflow_add-compared c = let l = (goal.at.overflow_add-compared (goal.at.overflow_add-compared c).In-loop-low).At-loop-low in omega (arith, l.loop-low.invariant.counted, halvings_few (keys l) (goal l), many l)
+overflow_add-compared c = let l = (goal.at.overflow_add-compared c).At-loop-low in omega (arith, l.loop-low.invariant.counted, halvings_few (keys l) (goal l), many l)
 
 pub order_of-requires : goal.order_of-requires
 order_of-requires c =
-    let l = (goal.at.order_of-requires (goal.at.order_of-requires c).In-loop-low).At-loop-low in
+    let l = (goal.at.order_of-requires c).At-loop-low in
     let s = start l in
     record { i_in_bounds = omega (arith, s.requires.used_in_bounds, l.loop-low.invariant.within, many l); in_bounds = omega (arith, s.requires.in_bounds); first_value = l.read_u64-first.ensures }
 
@@ -68,7 +68,7 @@ overflow_add-low c = omega (arith, many (turn (goal.at.overflow_add-low c).After
 -- below the key: so are all before it
 pub loop-low-preserved-in-Less : goal.loop-low-preserved-in-Less
 loop-low-preserved-in-Less c =
-    let r = (goal.at.loop-low-preserved-in-Less (goal.at.loop-low-preserved-in-Less c).In-Less).After-order_of in
+    let r = (goal.at.loop-low-preserved-in-Less c).After-order_of in
     let l = turn r in
     let a = (start l).args in
     let some : l.loop-low.low < l.loop-low.high = omega arith in
@@ -77,7 +77,7 @@ loop-low-preserved-in-Less c =
 
 pub returns-in-Same : goal.returns-in-Same
 returns-in-Same c =
-    let r = (goal.at.returns-in-Same (goal.at.returns-in-Same c).In-Same).After-order_of in
+    let r = (goal.at.returns-in-Same c).After-order_of in
     let l = turn r in
     let a = (start l).args in
     let some : l.loop-low.low < l.loop-low.high = omega arith in
@@ -87,7 +87,7 @@ returns-in-Same c =
 -- above the key: so are all after it
 pub loop-low-preserved : goal.loop-low-preserved
 loop-low-preserved c =
-    let r = (goal.at.loop-low-preserved (goal.at.loop-low-preserved c).In-More).After-order_of in
+    let r = (goal.at.loop-low-preserved c).After-order_of in
     let l = turn r in
     let a = (start l).args in
     let some : l.loop-low.low < l.loop-low.high = omega arith in
@@ -96,5 +96,5 @@ loop-low-preserved c =
 
 pub returns : goal.returns
 returns c =
-    let l = (goal.at.returns (goal.at.returns c).After-loop-low).At-loop-low in
+    let l = (goal.at.returns c).At-loop-low in
     sym (halved-end (goal l) (keys l) (start l).requires.rising l.loop-low.low l.loop-low.high l.loop-low.compared l.loop-low.invariant (omega arith))

@@ -34,13 +34,13 @@ room r = (start r).requires.i_in_bounds
 
 pub returns-then-word-first : goal.returns-then-word-first
 returns-then-word-first c =
-    let r = (goal.at.returns-then-word-first (goal.at.returns-then-word-first c).Then-word-first).After-read_u64-word in
+    let r = (goal.at.returns-then-word-first c).After-read_u64-word in
     sym (first-less (place r) 0 (held r) (wanted r) (held_bytes_lem r) (wanted-bytes r) (room r) (start r).requires.in_bounds
     (omega (arith, c.if-word-first.true, r.read_u64-word.ensures, (start r).requires.first_value)))
 
 pub returns-then-first-word : goal.returns-then-first-word
 returns-then-first-word c =
-    let r = (goal.at.returns-then-first-word (goal.at.returns-then-first-word c).Then-first-word).After-read_u64-word in
+    let r = (goal.at.returns-then-first-word c).After-read_u64-word in
     sym (first_more (place r) 0 (held r) (wanted r) (held_bytes_lem r) (wanted-bytes r) (room r) (start r).requires.in_bounds
     (omega (arith, c.if-first-word.true, r.read_u64-word.ensures, (start r).requires.first_value)))
 

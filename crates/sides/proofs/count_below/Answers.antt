@@ -96,7 +96,7 @@ overflow_sub-used c = most (goal.at.overflow_sub-used c).After-opposite-opposite
 
 pub count_upto-requires : goal.count_upto-requires
 count_upto-requires c =
-    let o = (goal.at.count_upto-requires (goal.at.count_upto-requires c).After-opposite-1).After-opposite-opposite in
+    let o = (goal.at.count_upto-requires c).After-opposite-opposite in
     let s = start o in record {
       used_in_bounds = omega (
         arith,
@@ -111,26 +111,26 @@ count_upto-requires c =
 
 pub overflow_sub-result : goal.overflow_sub-result
 overflow_sub-result c =
-    let o = (goal.at.overflow_sub-result (goal.at.overflow_sub-result c).After-count_upto).After-opposite-opposite in
+    let o = (goal.at.overflow_sub-result c).After-opposite-opposite in
     omega (arith, low o c.count_upto.result c.if-own-lt128.true c.count_upto.ensures)
 
 pub returns-then-own-lt128 : goal.returns-then-own-lt128
 returns-then-own-lt128 c =
-    let o = (goal.at.returns-then-own-lt128 (goal.at.returns-then-own-lt128 c).After-count_upto).After-opposite-opposite in
+    let o = (goal.at.returns-then-own-lt128 c).After-opposite-opposite in
     omega (arith, low o c.count_upto.result c.if-own-lt128.true c.count_upto.ensures)
 
 pub count_upto-requires-2 : goal.count_upto-requires-2
 count_upto-requires-2 c =
-    let o = (goal.at.count_upto-requires-2 (goal.at.count_upto-requires-2 c).After-opposite-2-1).After-opposite-opposite in
+    let o = (goal.at.count_upto-requires-2 c).After-opposite-opposite in
     let s = start o in
     record { used_in_bounds = omega (arith, most o, room s); in_bounds = search rules; rising = ask-under o }
 
 pub overflow_sub-result-2 : goal.overflow_sub-result-2
 overflow_sub-result-2 c =
-    let o = (goal.at.overflow_sub-result-2 (goal.at.overflow_sub-result-2 c).After-count_upto-2).After-opposite-opposite in
+    let o = (goal.at.overflow_sub-result-2 c).After-opposite-opposite in
     omega (arith, high o c.count_upto-2.result (omega (arith, c.if-own-lt128.false)) c.count_upto-2.ensures)
 
 pub returns : goal.returns
 returns c =
-    let o = (goal.at.returns (goal.at.returns c).After-count_upto-2).After-opposite-opposite in
+    let o = (goal.at.returns c).After-opposite-opposite in
     omega (arith, high o c.count_upto-2.result (omega (arith, c.if-own-lt128.false)) c.count_upto-2.ensures)

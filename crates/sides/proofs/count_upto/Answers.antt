@@ -35,12 +35,12 @@ many f b e =
 
 pub overflow_add-result : goal.overflow_add-result
 overflow_add-result c =
-    let f = (goal.at.overflow_add-result (goal.at.overflow_add-result c).After-struct_known-1).After-find_key-sought in
+    let f = (goal.at.overflow_add-result c).After-find_key-sought in
     let s = c in
     omega (arith, smaller f, under_le (goal f) (keys f), keys_many s.args.used s.args.cache.now, s.requires.used_in_bounds)
 
 pub returns-then-sought : goal.returns-then-sought
-returns-then-sought c = let f = (goal.at.returns-then-sought (goal.at.returns-then-sought c).After-struct_known-1).After-find_key-sought in omega (arith, smaller f, many f _ c.if-sought.true)
+returns-then-sought c = let f = (goal.at.returns-then-sought c).After-find_key-sought in omega (arith, smaller f, many f _ c.if-sought.true)
 
 pub returns : goal.returns
-returns c = let f = (goal.at.returns (goal.at.returns c).Else-sought).After-find_key-sought in omega (arith, smaller f, many f _ c.if-sought.false)
+returns c = let f = (goal.at.returns c).After-find_key-sought in omega (arith, smaller f, many f _ c.if-sought.false)

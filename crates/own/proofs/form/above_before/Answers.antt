@@ -25,15 +25,15 @@ returns-then-i-eq0 c =
 
 pub returns-in-Less : goal.returns-in-Less
 returns-in-Less c =
-    let o = (goal.at.returns-in-Less (goal.at.returns-in-Less c).In-Less).After-order_at in
+    let o = (goal.at.returns-in-Less c).After-order_at in
     by o _ (test_less _ _ (sym o.order_at.ensures ∙ c.in-Less.is)).0
 
 pub returns-in-Same : goal.returns-in-Same
 returns-in-Same c =
-    let o = (goal.at.returns-in-Same (goal.at.returns-in-Same c).In-Same).After-order_at in
+    let o = (goal.at.returns-in-Same c).After-order_at in
     by o _ (test_same _ _ (sym o.order_at.ensures ∙ c.in-Same.is)).0
 
 pub returns-in-More : goal.returns-in-More
 returns-in-More c =
-    let o = (goal.at.returns-in-More (goal.at.returns-in-More c).In-More).After-order_at in
+    let o = (goal.at.returns-in-More c).After-order_at in
     by o _ (test_more _ _ (sym o.order_at.ensures ∙ c.in-More.is)).0

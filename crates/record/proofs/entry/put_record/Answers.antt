@@ -30,7 +30,7 @@ whole b = entry_at b.args.start b.args.len b.args.d.now b.requires.len_in_bounds
 
 pub copy_32-requires : goal.copy_32-requires
 copy_32-requires c =
-    let w = whole c.before.before.before in
+    let w = whole (goal.at.copy_32-requires c).Start in
     record { at_in_bounds = omega arith; from_in_bounds = omega (arith, w.long) }
 
 pub copy_piece-requires : goal.copy_piece-requires
@@ -49,7 +49,7 @@ returns c =
     let addresses = c in
     let two = c in
     let port = c in
-    let key = (goal.at.returns (goal.at.returns c).After-slice_known-6-1).After-copy_32 in
+    let key = (goal.at.returns c).After-copy_32 in
     let b = first key in
     let s = b.args.dst.now in
     let d = b.args.d.now in

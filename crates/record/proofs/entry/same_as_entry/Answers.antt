@@ -79,11 +79,11 @@ same-used : (c : Else-not-equal_words-2) → used (fifth c) ≡ true
 same-used c = sym c.equal_words-2.ensures ∙ c.if-not-equal_words-2.false
 
 pub equal_words-requires : goal.equal_words-requires
-equal_words-requires c = let w = whole c.before.before in record { n_in_bounds = omega arith; n_in_bounds_2 = omega (arith, w.most, w.long) }
+equal_words-requires c = let w = whole (goal.at.equal_words-requires c).Start in record { n_in_bounds = omega arith; n_in_bounds_2 = omega (arith, w.most, w.long) }
 
 pub returns-then-not-equal_words : goal.returns-then-not-equal_words
 returns-then-not-equal_words c =
-    let e = (goal.at.returns-then-not-equal_words (goal.at.returns-then-not-equal_words c).Then-not-equal_words).After-equal_words in
+    let e = (goal.at.returns-then-not-equal_words c).After-equal_words in
     let f : keys (start e) ≡ false = sym e.equal_words.ensures ∙ c.if-not-equal_words.true in
     rw (pieces (start e), f)
 
@@ -92,20 +92,20 @@ same_piece-requires c = let w = whole (first (goal.at.same_piece-requires c).Els
 
 pub returns-then-not-same_piece : goal.returns-then-not-same_piece
 returns-then-not-same_piece c =
-    let e = (goal.at.returns-then-not-same_piece (goal.at.returns-then-not-same_piece c).Then-not-same_piece).Else-not-equal_words in
+    let e = (goal.at.returns-then-not-same_piece c).Else-not-equal_words in
     let f : ports (first e) ≡ false = sym c.same_piece.ensures ∙ c.if-not-same_piece.true in
     rw (pieces (first e), same_keys e, f)
 
 pub returns-then-s-at-ne1 : goal.returns-then-s-at-ne1
 returns-then-s-at-ne1 c =
-    let e = (goal.at.returns-then-s-at-ne1 (goal.at.returns-then-s-at-ne1 c).Then-s-at-ne1).Else-not-same_piece in
+    let e = (goal.at.returns-then-s-at-ne1 c).Else-not-same_piece in
     let f : counts (second e) ≡ false = ne_eqb _ _ c.if-s-at-ne1.true in
     rw (pieces (second e), same_keys (goal.at.Else-not-same_piece e).Else-not-equal_words, same-ports e, f)
 
 pub returns-then-s-at-ne0 : goal.returns-then-s-at-ne0
 returns-then-s-at-ne0 c =
-    let e₃ = (goal.at.returns-then-s-at-ne0 (goal.at.returns-then-s-at-ne0 c).Then-s-at-ne0).Else-s-at-ne1 in
-    let e₂ = (goal.at.returns-then-s-at-ne0 (goal.at.returns-then-s-at-ne0 c).Then-s-at-ne0).Else-not-same_piece in
+    let e₃ = (goal.at.returns-then-s-at-ne0 c).Else-s-at-ne1 in
+    let e₂ = (goal.at.returns-then-s-at-ne0 c).Else-not-same_piece in
     let f : closed (third e₃) ≡ false = ne_eqb _ _ c.if-s-at-ne0.true in
     rw (pieces (third e₃), same_keys (goal.at.Else-not-same_piece e₂).Else-not-equal_words, same-ports e₂, same-counts e₃, f)
 
@@ -117,17 +117,17 @@ equal_words-requires-2 c = let w = whole (fourth (goal.at.equal_words-requires-2
 
 pub returns-then-not-equal_words-2 : goal.returns-then-not-equal_words-2
 returns-then-not-equal_words-2 c =
-    let e₄ = (goal.at.returns-then-not-equal_words-2 (goal.at.returns-then-not-equal_words-2 c).Then-not-equal_words-2).Else-s-at-ne0 in
-    let e₃ = (goal.at.returns-then-not-equal_words-2 (goal.at.returns-then-not-equal_words-2 c).Then-not-equal_words-2).Else-s-at-ne1 in
-    let e₂ = (goal.at.returns-then-not-equal_words-2 (goal.at.returns-then-not-equal_words-2 c).Then-not-equal_words-2).Else-not-same_piece in
+    let e₄ = (goal.at.returns-then-not-equal_words-2 c).Else-s-at-ne0 in
+    let e₃ = (goal.at.returns-then-not-equal_words-2 c).Else-s-at-ne1 in
+    let e₂ = (goal.at.returns-then-not-equal_words-2 c).Else-not-same_piece in
     let f : used (fourth e₄) ≡ false = sym c.equal_words-2.ensures ∙ c.if-not-equal_words-2.true in
     rw (pieces (fourth e₄), same_keys (goal.at.Else-not-same_piece e₂).Else-not-equal_words, same-ports e₂, same-counts e₃, is-closed e₄, f)
 
 pub returns : goal.returns
 returns c =
-    let e₅ = (goal.at.returns (goal.at.returns c).After-zero_words).Else-not-equal_words-2 in
-    let e₄ = (goal.at.returns (goal.at.returns c).After-zero_words).Else-s-at-ne0 in
-    let e₃ = (goal.at.returns (goal.at.returns c).After-zero_words).Else-s-at-ne1 in
-    let e₂ = (goal.at.returns (goal.at.returns c).After-zero_words).Else-not-same_piece in
+    let e₅ = (goal.at.returns c).Else-not-equal_words-2 in
+    let e₄ = (goal.at.returns c).Else-s-at-ne0 in
+    let e₃ = (goal.at.returns c).Else-s-at-ne1 in
+    let e₂ = (goal.at.returns c).Else-not-same_piece in
     rw (pieces (fifth e₅), same_keys (goal.at.Else-not-same_piece e₂).Else-not-equal_words, same-ports e₂, same-counts e₃, is-closed e₄, same-used e₅)
     c.zero_words.ensures

@@ -5,11 +5,9 @@ use mathlib.Core.List.{List}
 use Prim.Native.Nat.{ℕ, ◌+◌, ◌*◌}
 use native.Mathlib.Omega.{arith}
 use lib.ListN.{get_or}
-use borrow.Author.Tests.{not-true, not-false}
 use Rattle.octet.specs.Part.{part, all_zero}
 use Rattle.record.specs.Record.{record_form}
 use Rattle.record.proofs.PlaceLaws.{form_one, form_not, count_word, zero_halves}
-use borrow.Author.Rules.{rules}
 use Rattle.record.proofs.is_formed.Goals.{After-read_u16_le-count, After-zero_three}
 use Rattle.record.proofs.is_formed.Goals as goal
 

@@ -5,7 +5,6 @@ use lib.Seq.{take_all}
 use borrow.Author.Tests.{ne_eqb}
 use Rattle.record.specs.Record.{record_form}
 use native.Mathlib.Omega.{arith}
-use borrow.Author.Rules.{rules}
 use Rattle.record.proofs.is_record.Goals as goal
 
 pub returns-then-r-ne-RECORD_LEN : goal.returns-then-r-ne-RECORD_LEN

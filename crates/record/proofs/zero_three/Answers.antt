@@ -4,7 +4,6 @@ use mathlib.Core.Bool.{Bool, ◌&&◌}
 use Prim.Native.Nat.{ℕ}
 use lib.Dec.{eqb}
 use Rattle.record.proofs.PlaceLaws.{zero-words-three}
-use borrow.Author.Rules.{rules}
 use Rattle.record.proofs.zero_three.Goals as goal
 
 pub returns : goal.returns

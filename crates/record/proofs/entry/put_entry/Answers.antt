@@ -7,7 +7,6 @@ use lib.ListN.{get_or, length-append}
 use Rattle.octet.specs.Part.{part, splice}
 use Rattle.octet.proofs.PartLaws.{length_part, splice_next}
 use Rattle.record.proofs.PlaceLaws.{record_at_lem, entry_in_lem, put_four}
-use borrow.Author.Rules.{rules}
 use Rattle.record.proofs.entry.put_entry.Goals.{After-copy_32, After-copy_piece, After-copy_to, After-copy_to-2, Start}
 use Rattle.record.proofs.entry.put_entry.Goals as goal
 

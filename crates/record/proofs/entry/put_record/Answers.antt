@@ -7,7 +7,6 @@ use lib.ListN.{replicate, length-replicate}
 use Rattle.octet.specs.Part.{part, splice}
 use Rattle.octet.proofs.PartLaws.{length_part}
 use Rattle.record.proofs.PlaceLaws.{Entry-at, entry_at, record_in, put_pieces}
-use borrow.Author.Rules.{rules}
 use Rattle.record.proofs.entry.put_record.Goals.{After-copy_32, After-copy_piece, After-copy_piece-2, After-copy_to, Start}
 use Rattle.record.proofs.entry.put_record.Goals as goal
 

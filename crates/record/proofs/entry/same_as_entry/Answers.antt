@@ -1,7 +1,7 @@
 -- `record::entry::same_as_entry` meets its contract: the test goes by its pieces (same-pieces). Assumes nothing.
 use Prim.Native.Nat.{◌+◌}
 use native.Mathlib.Omega.{arith}
-use borrow.Author.Tests.{eq-eqb, ne_eqb, not-true, not-false}
+use borrow.Author.Tests.{eq-eqb, ne_eqb}
 use mathlib.Core.Bool.{Bool, true, false, ◌&&◌}
 use mathlib.Core.Path.{◌≡◌, sym, ◌∙◌}
 use lib.Dec.{eqb}
@@ -9,7 +9,6 @@ use lib.ListN.{get_or}
 use Rattle.octet.specs.Part.{part, same, all_zero}
 use Rattle.record.specs.Entry.{record_of}
 use Rattle.record.proofs.PlaceLaws.{Entry-at, entry_at, same_pieces}
-use borrow.Author.Rules.{rules}
 use Rattle.record.proofs.entry.same_as_entry.Goals.{After-equal_words, Else-not-equal_words, Else-not-equal_words-2, Else-not-same_piece, Else-s-at-ne0, Else-s-at-ne1, Start}
 use Rattle.record.proofs.entry.same_as_entry.Goals as goal
 

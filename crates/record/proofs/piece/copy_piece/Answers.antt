@@ -3,7 +3,6 @@ use Prim.Native.Nat.{ℕ, ◌+◌, ◌-◌}
 use native.Mathlib.Omega.{arith}
 use mathlib.Core.Path.{◌≡◌, ap, ◌∙◌}
 use Rattle.octet.specs.Part.{part, splice}
-use borrow.Author.Rules.{rules}
 use Rattle.record.proofs.piece.copy_piece.Goals as goal
 
 pub returns : goal.returns

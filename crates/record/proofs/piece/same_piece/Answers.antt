@@ -3,7 +3,6 @@ use Prim.Native.Nat.{ℕ, ◌+◌, ◌-◌}
 use native.Mathlib.Omega.{arith}
 use mathlib.Core.Path.{◌≡◌, ap₂, ◌∙◌}
 use Rattle.octet.specs.Part.{part, same}
-use borrow.Author.Rules.{rules}
 use Rattle.record.proofs.piece.same_piece.Goals as goal
 
 pub returns : goal.returns

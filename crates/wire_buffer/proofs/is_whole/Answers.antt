@@ -3,58 +3,54 @@ use Prim.Native.Nat.{ℕ, ◌+◌, ◌-◌}
 use borrow.Author.Tests.{eq-eqb, ne_eqb}
 use native.Mathlib.Omega.{arith}
 use mathlib.Core.List.{List}
-use mathlib.Core.Path.{sym, ap, subst, ◌∙◌}
+use mathlib.Core.Path.{◌≡◌, sym, ap, subst, ◌∙◌}
 use lib.Dec.{eqb}
 use lib.ListN.{length}
 use Rattle.wire_shapes.specs.Field.{number_at}
 use Rattle.wire_fields.specs.Reading.{whole_in, FourAt}
+use Rattle.wire_fields.specs.declared.Part.{Part}
 use Rattle.wire_fields.specs.declared.Part.TheVariants.{Here}
 use Rattle.wire_fields.proofs.RefusalLaws.{whole_in_lem}
-use borrow.Author.Rules.{rules}
-use Rattle.wire_buffer.proofs.is_whole.Goals.{In-Here-2}
 use Rattle.wire_buffer.proofs.is_whole.Goals as goal
 
 pub returns-in_default : goal.returns-in_default
 unfolding whole_in
 returns-in_default c = rw c.in_default.is
 
--- the part that was lent, and the four bytes at its place
-abbrev d : In-Here-2 → List ℕ
-d c = c.args.d.now
-
-four : (c : In-Here-2) → FourAt (d c) (Here c.in-Here.start c.p-1.given.0.1.0)
-four c = subst (FourAt (d c)) c.in-Here.is c.requires
+-- the part that was lent is at a place, and the four bytes are there
+four : (d : List ℕ) (p : Part) (s l : ℕ) → p ≡ Here s l → FourAt d p → FourAt d (Here s l)
+four d p s l e h = subst (FourAt d) e h
 
 pub read_u16-requires : goal.read_u16-requires
-read_u16-requires c = let f = four c.before in omega (arith, f.0, f.1)
+read_u16-requires c = let f = four c.args.d.now _ _ _ c.in-Here.is c.requires in omega (arith, f.0, f.1)
 
 pub overflow_add-start : goal.overflow_add-start
-overflow_add-start c = let f = four c.before.before in omega (arith, f.1)
+overflow_add-start c = let f = four c.args.d.now _ _ _ c.in-Here.is c.requires in omega (arith, f.1)
 
 pub overflow_sub-d : goal.overflow_sub-d
-overflow_sub-d c = let f = four c.before.before in omega (arith, f.1)
+overflow_sub-d c = let f = four c.args.d.now _ _ _ c.in-Here.is c.requires in omega (arith, f.1)
 
 pub returns-then-read_u16-d : goal.returns-then-read_u16-d
 returns-then-read_u16-d c =
-    let k = (goal.at.returns-then-read_u16-d (goal.at.returns-then-read_u16-d c).Then-read_u16-d).In-Here-2 in
-    let f = four k in
-    let s = k.in-Here.start in
-    let l = k.p-1.given.0.1.0 in
-    let n = ne_eqb (number_at s 2 (d k)) (length (d k) - (s + l)) (λ q. c.if-read_u16-d.true (c.read_u16.ensures ∙ q)) in
-    rw (k.in-Here.is, whole_in_lem (d k) s l f.1 f.0, n)
+    let d = c.args.d.now in
+    let f = four d _ _ _ c.in-Here.is c.requires in
+    let s = c.in-Here.start in
+    let l = c.in-Here.len in
+    let n = ne_eqb (number_at s 2 d) (length d - (s + l)) (λ q. c.if-read_u16-d.true (c.read_u16.ensures ∙ q)) in
+    rw (c.in-Here.is, whole_in_lem d s l f.1 f.0, n)
 
 pub overflow_add-start-2 : goal.overflow_add-start-2
-overflow_add-start-2 c = let f = four c.before.before.before in omega (arith, f.0, f.1)
+overflow_add-start-2 c = let f = four c.args.d.now _ _ _ c.in-Here.is c.requires in omega (arith, f.0, f.1)
 
 pub read_u16-requires-2 : goal.read_u16-requires-2
-read_u16-requires-2 c = let f = four c.before.before.before in omega (arith, f.0, f.1)
+read_u16-requires-2 c = let f = four c.args.d.now _ _ _ c.in-Here.is c.requires in omega (arith, f.0, f.1)
 
 pub returns : goal.returns
 returns c =
-    let k = (goal.at.returns (goal.at.returns c).After-read_u16-2).In-Here-2 in
-    let f = four k in
-    let s = k.in-Here.start in
-    let l = k.p-1.given.0.1.0 in
-    let e = eq-eqb (number_at s 2 (d k)) (length (d k) - (s + l)) (sym c.read_u16.ensures ∙ c.if-read_u16-d.false) in
-    rw (k.in-Here.is, whole_in_lem (d k) s l f.1 f.0, e)
+    let d = c.args.d.now in
+    let f = four d _ _ _ c.in-Here.is c.requires in
+    let s = c.in-Here.start in
+    let l = c.in-Here.len in
+    let e = eq-eqb (number_at s 2 d) (length d - (s + l)) (sym c.read_u16.ensures ∙ c.if-read_u16-d.false) in
+    rw (c.in-Here.is, whole_in_lem d s l f.1 f.0, e)
     (ap (λ (n : ℕ). eqb n 0) c.read_u16-2.ensures)

@@ -97,16 +97,15 @@ returns-in-11 c =
 pub returns-in_default : goal.returns-in_default
 unfolding incoming_of kinds_of
 returns-in_default c =
-    let d = c.args.d.now in
-    let r = c.in-1.rest in
+    let k = get_or c.args.d.now 7 0 in
     rw (
       (right-at (goal.at.returns-in_default c).Else-number-ne0).1,
-      ne_eqb (get_or d 7 0) 1 r.0.0.0.0.0.0.0.1,
-      ne_eqb (get_or d 7 0) 2 r.0.0.0.0.0.0.1,
-      ne_eqb (get_or d 7 0) 3 r.0.0.0.0.0.1,
-      ne_eqb (get_or d 7 0) 4 r.0.0.0.0.1,
-      ne_eqb (get_or d 7 0) 7 r.0.0.0.1,
-      ne_eqb (get_or d 7 0) 8 r.0.0.1,
-      ne_eqb (get_or d 7 0) 9 r.0.1,
-      ne_eqb (get_or d 7 0) 11 r.1,
+      ne_eqb k 1 (λ e. absurd (omega (arith, e))),
+      ne_eqb k 2 (λ e. absurd (omega (arith, e))),
+      ne_eqb k 3 (λ e. absurd (omega (arith, e))),
+      ne_eqb k 4 (λ e. absurd (omega (arith, e))),
+      ne_eqb k 7 (λ e. absurd (omega (arith, e))),
+      ne_eqb k 8 (λ e. absurd (omega (arith, e))),
+      ne_eqb k 9 (λ e. absurd (omega (arith, e))),
+      ne_eqb k 11 (λ e. absurd (omega (arith, e))),
     )

@@ -23,9 +23,9 @@ returns-then-not-piece_ok c =
     let i = c.loop-i.i in
     let v = c.loop-i.invariant in
     let l = lent_of a.spelled.now a.first.now a.second.now in
-    let hr : i < length a.t1 = (let z = c.requires.0 in omega arith) in
-    let hp : i < length a.t2 = (let z = c.requires.1 in omega arith) in
-    rw (sym v.0, step_ok a.t1 a.t2 i no_row no_piece_lem hr hp l, sym c.piece_ok.ensures ∙ c.if-not-piece_ok.true)
+    let hr : i < length a.rows = (let z = c.requires.0 in omega arith) in
+    let hp : i < length a.ps = (let z = c.requires.1 in omega arith) in
+    rw (sym v.0, step_ok a.rows a.ps i no_row no_piece_lem hr hp l, sym c.piece_ok.ensures ∙ c.if-not-piece_ok.true)
 
 pub loop-i-preserved : goal.loop-i-preserved
 loop-i-preserved c =
@@ -33,9 +33,9 @@ loop-i-preserved c =
     let i = c.loop-i.i in
     let v = c.loop-i.invariant in
     let l = lent_of a.spelled.now a.first.now a.second.now in
-    let hr : i < length a.t1 = (let z = c.requires.0 in omega arith) in
-    let hp : i < length a.t2 = (let z = c.requires.1 in omega arith) in
-    let e = step_ok a.t1 a.t2 i no_row no_piece_lem hr hp l in
+    let hr : i < length a.rows = (let z = c.requires.0 in omega arith) in
+    let hp : i < length a.ps = (let z = c.requires.1 in omega arith) in
+    let e = step_ok a.rows a.ps i no_row no_piece_lem hr hp l in
     let f = sym c.piece_ok.ensures ∙ c.if-not-piece_ok.false in
     (rw f at (sym e) ∙ v.0, omega arith)
 
@@ -45,5 +45,5 @@ returns c =
     let v = c.loop-i.invariant in
     let i = c.loop-i.i in
     let n = v.1 in
-    let d : drop i a.t1 ≡ [] = drop_of_length-le a.t1 {i = i} (let z = c.requires.0 in omega arith) in
+    let d : drop i a.rows ≡ [] = drop_of_length-le a.rows {i = i} (let z = c.requires.0 in omega arith) in
     rw d at v.0

@@ -9,53 +9,42 @@ use Rattle.wire_write.proofs.field.put_piece.Goals as goal
 pub returns-then-not-p : goal.returns-then-not-p
 unfolding part_bytes past_of
 returns-then-not-p c =
-    let all = let a = c.args in
-    rw (c.if-not-p.true) (refl, sym (splice_nil a.at a.out.now)) in record { value = all.0; out_after = all.1 }
+    let a = c.args in
+    let t = not-true a.p.there c.if-not-p.true in
+    record { value = rw t; out_after = rw t (sym (splice_nil a.at a.out.now)) }
 
 pub put_bytes-requires : goal.put_bytes-requires
 unfolding past_of
 put_bytes-requires c =
-    let start = c in
-    let a = start.args in
-    let t = c.if-not-p.false in
-    let e = c.in-Spelled.is in
-    record { len_in_bounds = rw e at (start.requires.piece_in t); len_bound = start.requires.len_bound t; len_in_bounds_2 = rw t at start.requires.len_in_bounds }
+    let t = not-false c.args.p.there c.if-not-p.false in
+    record { len_in_bounds = rw c.in-Spelled.is at (c.requires.piece_in t); len_bound = c.requires.len_bound t; len_in_bounds_2 = rw t at c.requires.len_in_bounds }
 
 pub put_bytes-requires-in-First : goal.put_bytes-requires-in-First
 unfolding past_of
 put_bytes-requires-in-First c =
-    let start = c in
-    let a = start.args in
-    let t = c.if-not-p.false in
-    let e = c.in-First.is in
-    record { len_in_bounds = rw e at (start.requires.piece_in t); len_bound = start.requires.len_bound t; len_in_bounds_2 = rw t at start.requires.len_in_bounds }
+    let t = not-false c.args.p.there c.if-not-p.false in
+    record { len_in_bounds = rw c.in-First.is at (c.requires.piece_in t); len_bound = c.requires.len_bound t; len_in_bounds_2 = rw t at c.requires.len_in_bounds }
 
 pub put_bytes-requires-in-Second : goal.put_bytes-requires-in-Second
 unfolding past_of
 put_bytes-requires-in-Second c =
-    let start = c in
-    let a = start.args in
-    let t = c.if-not-p.false in
-    let e = c.in-Second.is in
-    record { len_in_bounds = rw e at (start.requires.piece_in t); len_bound = start.requires.len_bound t; len_in_bounds_2 = rw t at start.requires.len_in_bounds }
+    let t = not-false c.args.p.there c.if-not-p.false in
+    record { len_in_bounds = rw c.in-Second.is at (c.requires.piece_in t); len_bound = c.requires.len_bound t; len_in_bounds_2 = rw t at c.requires.len_in_bounds }
 
 pub returns-in-Spelled : goal.returns-in-Spelled
 unfolding part_bytes past_of
 returns-in-Spelled c =
-    let all = let told = c in
-    let start = c in
-    rw (told.if-not-p.false, told.in-Spelled.is) c.put_bytes.ensures in record { value = all.0; out_after = all.1 }
+    let t = not-false c.args.p.there c.if-not-p.false in
+    record { value = rw t c.put_bytes.ensures.value; out_after = rw (t, c.in-Spelled.is) c.put_bytes.ensures.out_after }
 
 pub returns-in-First : goal.returns-in-First
 unfolding part_bytes past_of
 returns-in-First c =
-    let all = let told = c in
-    let start = c in
-    rw (told.if-not-p.false, told.in-First.is) c.put_bytes-in-First.ensures in record { value = all.0; out_after = all.1 }
+    let t = not-false c.args.p.there c.if-not-p.false in
+    record { value = rw t c.put_bytes-in-First.ensures.value; out_after = rw (t, c.in-First.is) c.put_bytes-in-First.ensures.out_after }
 
 pub returns-in-Second : goal.returns-in-Second
 unfolding part_bytes past_of
 returns-in-Second c =
-    let all = let told = c in
-    let start = c in
-    rw (told.if-not-p.false, told.in-Second.is) c.put_bytes-in-Second.ensures in record { value = all.0; out_after = all.1 }
+    let t = not-false c.args.p.there c.if-not-p.false in
+    record { value = rw t c.put_bytes-in-Second.ensures.value; out_after = rw (t, c.in-Second.is) c.put_bytes-in-Second.ensures.out_after }

@@ -54,7 +54,7 @@ returns-then-not-form c =
 pub returns-in_default : goal.returns-in_default
 returns-in_default c =
     let tested = c in
-    let left = (goal.at.returns-in_default (goal.at.returns-in_default c).In_default).After-form in
+    let left = (goal.at.returns-in_default c).After-form in
     let a = (first left).args in
     sym (cache-bad a.own.now a.cache.now a.waiting.now (whole left)
     (bad-is (own_keys a.own.now) a.cache.now (sym tested.form-records.ensures ∙ c.in_default.is)))
@@ -62,7 +62,7 @@ returns-in_default c =
 pub returns-in_default-places : goal.returns-in_default-places
 returns-in_default-places c =
     let tested = c in
-    let k = (goal.at.returns-in_default-places (goal.at.returns-in_default-places c).In_default-places).In-Good-2 in
+    let k = (goal.at.returns-in_default-places c).In-Good-2 in
     let a = (second k).args in
     sym (table-bad a.own.now a.cache.now a.waiting.now (whole (goal.at.In-Good-2 k).After-slice_known-2-1) (holding k).0
     (bad_form (own_keys a.own.now) a.waiting.now (sym tested.form-places.ensures ∙ c.in_default-places.is)))
@@ -75,7 +75,7 @@ cut_records-requires c =
 
 pub cut_places-requires : goal.cut_places-requires
 cut_places-requires c =
-    let k = (goal.at.cut_places-requires (goal.at.cut_places-requires c).After-cut_places-arg-1).In-Good-places in
+    let k = (goal.at.cut_places-requires c).In-Good-places in
     let a = (second (third k)).args in
     subst (λ (n : ℕ). Laid 140 n a.waiting.now) (sym (waits k).1) (table-laid (own_keys a.own.now) a.waiting.now (waits k).0)
 
@@ -84,7 +84,7 @@ unfolding convert_done
 returns c =
     let places = c in
     let records = c in
-    let used = (goal.at.returns (goal.at.returns c).After-slice_known-4-1).In-Good-places in
+    let used = (goal.at.returns c).In-Good-places in
     let held = third used in
     let a = (second held).args in
     ap₂ (convert_handed 0)

@@ -115,7 +115,7 @@ more-few s = omega (arith, length-put plain (newcomer s) (keys s), many s)
 
 pub returns-then-not-change : goal.returns-then-not-change
 returns-then-not-change c =
-    let at = (goal.at.returns-then-not-change (goal.at.returns-then-not-change c).Then-not-change).After-learn-change in
+    let at = (goal.at.returns-then-not-change c).After-learn-change in
     record { cache_after = at.learn-change.ensures.cache_after; firsts_after = (start at).requires.firsts_value ∙ sym (ap firsts_of (told-stays (told at) (c.if-not-change.true))) }
 
 pub bounds-record-0 : goal.bounds-record-0
@@ -125,7 +125,7 @@ bounds-record-0 c =
 
 pub count_up-requires : goal.count_up-requires
 count_up-requires c =
-    let at = (goal.at.count_up-requires (goal.at.count_up-requires c).After-shared_slice_known-3-1).After-learn-change in
+    let at = (goal.at.count_up-requires c).After-learn-change in
     let s = start at in (
       ap length s.requires.firsts_value ∙ firsts_length (keys s),
       subst (λ (f : List ℕ). count_at (byte at) f < 65535) (sym s.requires.firsts_value)
@@ -134,7 +134,7 @@ count_up-requires c =
 
 pub returns-then-not-change-2 : goal.returns-then-not-change-2
 returns-then-not-change-2 c =
-    let up = (goal.at.returns-then-not-change-2 (goal.at.returns-then-not-change-2 c).Then-not-change-2).After-count_up in
+    let up = (goal.at.returns-then-not-change-2 c).After-count_up in
     let at = learning up in
     record { cache_after = at.learn-change.ensures.cache_after; firsts_after = upped up ∙ sym (ap firsts_of (told-alone (told at) (does-join up) (c.if-not-change-2.true))) }
 
@@ -150,7 +150,7 @@ count_down-requires c =
 pub returns : goal.returns
 returns c =
     let down = c in
-    let first = (goal.at.returns (goal.at.returns c).After-slice_known-5-1).After-first_byte in
+    let first = (goal.at.returns c).After-first_byte in
     let b = first.first_byte.result in
     let up = upping first in
     let at = learning up in

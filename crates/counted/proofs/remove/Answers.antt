@@ -64,14 +64,14 @@ less c left =
 
 pub returns-then-not-change : goal.returns-then-not-change
 returns-then-not-change c =
-    let done = (goal.at.returns-then-not-change (goal.at.returns-then-not-change c).Then-not-change).After-remove-change in
+    let done = (goal.at.returns-then-not-change c).After-remove-change in
     let s = start done in
     let e = ap (λ (x : Changes). x.left) (sym done.remove-change.ensures.result_value) ∙ c.if-not-change.true in record { cache_after = done.remove-change.ensures.cache_after; firsts_after = s.requires.firsts_value ∙ sym (ap firsts_of (told-kept (gone s) (rows 100 s.args.used s.args.cache.now) e)) }
 
 pub count_down-requires : goal.count_down-requires
 count_down-requires c =
     let else = c in
-    let done = (goal.at.count_down-requires (goal.at.count_down-requires c).After-shared_slice_known-3-1).After-remove-change in
+    let done = (goal.at.count_down-requires c).After-remove-change in
     let s = start done in (
       ap length s.requires.firsts_value ∙ firsts_length (keys s),
       subst (λ (f : List ℕ). 0 < count_at (byte done) f) (sym s.requires.firsts_value)
@@ -82,7 +82,7 @@ pub returns : goal.returns
 returns c =
     let down = c in
     let else = c in
-    let done = (goal.at.returns (goal.at.returns c).After-slice_known-4-1).After-remove-change in
+    let done = (goal.at.returns c).After-remove-change in
     let s = start done in record {
       cache_after = done.remove-change.ensures.cache_after;
       firsts_after = down.count_down.ensures ∙ ap (λ (f : List ℕ). with_count (byte done) (count_at (byte done) f - 1) f) s.requires.firsts_value

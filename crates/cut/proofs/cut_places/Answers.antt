@@ -27,7 +27,7 @@ pub loop-i-preserved : goal.loop-i-preserved
 loop-i-preserved c =
     let called = c in
     let l = called.loop-i in
-    let s = (goal.at.loop-i-preserved (goal.at.loop-i-preserved c).After-slice_known-in-loop-i-1).Start in
+    let s = (goal.at.loop-i-preserved c).Start in
     let old = s.args.table.now in
     let fits : 140 * l.i + 140 ≤ length old = omega (arith, room s) in
     let turn = called.cut_place.ensures

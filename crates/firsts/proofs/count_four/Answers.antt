@@ -16,18 +16,18 @@ counts s n = firsts_of (map key_of (rows 100 n s.args.cache.now))
 
 pub count_record-requires-3 : goal.count_record-requires-3
 count_record-requires-3 c =
-    let s = (goal.at.count_record-requires-3 (goal.at.count_record-requires-3 c).After-count_record-arg-3-1).Start in
+    let s = (goal.at.count_record-requires-3 c).Start in
     let e : s.args.i + 1 + 1 ≡ s.args.i + 2 = omega arith in
     (omega arith, omega arith, c.count_record-2.ensures ∙ ap (counts s) e)
 
 pub count_record-requires-4 : goal.count_record-requires-4
 count_record-requires-4 c =
-    let s = (goal.at.count_record-requires-4 (goal.at.count_record-requires-4 c).After-count_record-arg-4-1).Start in
+    let s = (goal.at.count_record-requires-4 c).Start in
     let e : s.args.i + 2 + 1 ≡ s.args.i + 3 = omega arith in
     (omega arith, omega arith, c.count_record-3.ensures ∙ ap (counts s) e)
 
 pub returns : goal.returns
 returns c =
-    let s = (goal.at.returns (goal.at.returns c).After-slice_known-5-1).Start in
+    let s = (goal.at.returns c).Start in
     let e : s.args.i + 3 + 1 ≡ s.args.i + 4 = omega arith in
     c.count_record-4.ensures ∙ ap (counts s) e

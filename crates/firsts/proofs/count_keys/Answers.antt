@@ -31,7 +31,7 @@ loop-four-preserved c =
 pub loop-i-init : goal.loop-i-init
 loop-i-init c =
     let l = c in
-    let s = (goal.at.loop-i-init (goal.at.loop-i-init c).After-loop-four).Start in
+    let s = (goal.at.loop-i-init c).Start in
     let e : 4 * l.loop-four.four ≡ 4 * (s.args.used / 4) = omega arith in
     (omega arith, l.loop-four.invariant.1 ∙ ap (counts s) e)
 
@@ -48,7 +48,7 @@ shape_of-fresh c =
 
 pub returns : goal.returns
 returns c =
-    let s = (goal.at.returns (goal.at.returns c).After-loop-i).Start in
+    let s = (goal.at.returns c).Start in
     let l = c.loop-i in
     let e : l.i ≡ s.args.used = omega arith in
     l.invariant.1 ∙ ap (counts s) e

@@ -22,8 +22,8 @@ byte s = get_or s.args.cache.now (100 * s.args.i) 0
 
 pub count_up-requires : goal.count_up-requires
 count_up-requires c =
-    let known = (goal.at.count_up-requires (goal.at.count_up-requires c).After-shared_slice_known-2-1).After-shared_slice_known-1 in
-    let s = (goal.at.count_up-requires (goal.at.count_up-requires c).After-shared_slice_known-2-1).Start in
+    let known = (goal.at.count_up-requires c).After-shared_slice_known-1 in
+    let s = (goal.at.count_up-requires c).Start in
     let a = s.args in (
       ap length s.requires.2 ∙ firsts_length (map key_of (rows 100 a.i a.cache.now)),
       subst (λ (f : List ℕ). count_at (byte s) f < 65535) (sym s.requires.2) (row_room a.i a.cache.now (omega arith) (byte s) (bytes known (100 * a.i))),
@@ -32,8 +32,8 @@ count_up-requires c =
 pub returns : goal.returns
 returns c =
     let up = c in
-    let known = (goal.at.returns (goal.at.returns c).After-slice_known-2-1).After-shared_slice_known-1 in
-    let s = (goal.at.returns (goal.at.returns c).After-slice_known-2-1).Start in
+    let known = (goal.at.returns c).After-shared_slice_known-1 in
+    let s = (goal.at.returns c).Start in
     let a = s.args in
     up.count_up.ensures ∙ ap (λ (f : List ℕ). with_count (byte s) (count_at (byte s) f + 1) f) s.requires.2
     ∙ row-counted a.i a.cache.now (omega arith) (bytes known) s.requires.0 (byte s) (bytes known (100 * a.i)) refl

@@ -32,58 +32,41 @@ done s =
 pub returns-in_default : goal.returns-in_default
 unfolding learn_call
 returns-in_default c =
-    let c7 = c.before.before.before.before.before.before.before in
-    let s = c7 in
+    let s = (goal.at.returns-in_default c).Start in
     sym (memory-refuses s.args.own.now s.args.cache.now c.memory-found.ensures c.in_default.is (refuse s) _ (done s))
 
 pub returns-then-not-is_record : goal.returns-then-not-is_record
 unfolding learn_call
 returns-then-not-is_record c =
-    let c3 = c in
-    let c5 = c in
-    let c10 = c5.before.before.before.before.before in
-    let s = c10 in
+    let s = (goal.at.returns-then-not-is_record c).Start in
     let wrong = not_isn't (sym c.is_record.ensures ∙ c.if-not-is_record.true) in
-    sym (memory-passes s.args.own.now s.args.cache.now c5.memory-found.ensures c3.in-Good.is (refuse s) _ (done s)
+    sym (memory-passes s.args.own.now s.args.cache.now c.memory-found.ensures c.in-Good.is (refuse s) _ (done s)
     ∙ row_applies (refuse s) 1 (not (record_form s.args.«record».now)) _ (done s) wrong)
 
 pub is_own-requires : goal.is_own-requires
 is_own-requires c =
-    let c3 = c in
-    let c5 = c in
-    let c10 = c5.before.before.before.before.before in
-    let s = c10 in
+    let s = (goal.at.is_own-requires c).Start in
     let long = form_length s.args.«record».now (sym c.is_record.ensures ∙ c.if-not-is_record.false) in
     omega (arith, long)
 
 pub returns-then-is_own : goal.returns-then-is_own
 unfolding learn_call
 returns-then-is_own c =
-    let c3 = c in
-    let c5 = c in
-    let c7 = c in
-    let c12 = c7.before.before.before.before.before in
-    let s = c12 in
-    sym (memory-passes s.args.own.now s.args.cache.now c7.memory-found.ensures c5.in-Good.is (refuse s) _ (done s)
-    ∙ row_passes (refuse s) 1 (not (record_form s.args.«record».now)) _ (done s) (not_is (sym c3.is_record.ensures ∙ not-false _
-    c.if-not-is_record.false))
+    let s = (goal.at.returns-then-is_own c).Start in
+    sym (memory-passes s.args.own.now s.args.cache.now c.memory-found.ensures c.in-Good.is (refuse s) _ (done s)
+    ∙ row_passes (refuse s) 1 (not (record_form s.args.«record».now)) _ (done s) (not_is (sym c.is_record.ensures ∙ c.if-not-is_record.false))
     ∙ row_applies (refuse s) 1 (is_own (own_keys s.args.own.now) (key_of s.args.«record».now)) [] (done s) (sym c.is_own.ensures
     ∙ c.if-is_own.true))
 
 pub learn-requires : goal.learn-requires
 learn-requires c =
-    let c3 = c in
-    let c4 = c in
-    let c6 = c in
-    let c8 = c in
-    let c13 = c8.before.before.before.before.before in
-    let s = c13 in record {
+    let s = (goal.at.learn-requires c).Start in record {
       own_value = (
-        memory-own s.args.own.now s.args.cache.now c8.memory-found.ensures c6.in-Good.is,
-        sym c4.is_record.ensures
-            ∙ c3.if-not-is_record.false,
+        memory-own s.args.own.now s.args.cache.now c.memory-found.ensures c.in-Good.is,
+        sym c.is_record.ensures
+            ∙ c.if-not-is_record.false,
       );
-      form = memory-form s.args.own.now s.args.cache.now c8.memory-found.ensures c6.in-Good.is;
+      form = memory-form s.args.own.now s.args.cache.now c.memory-found.ensures c.in-Good.is;
       not_own = not_own (own_keys s.args.own.now) (key_of s.args.«record».now)
           (sym c.is_own.ensures ∙ c.if-is_own.false);
     }
@@ -91,21 +74,13 @@ learn-requires c =
 pub returns : goal.returns
 unfolding learn_call
 returns c =
-    let c4 = c in
-    let c5 = c in
-    let c6 = c in
-    let c7 = c in
-    let c9 = c in
-    let c11 = c in
-    let c16 = c11.before.before.before.before.before in
-    let s = c16 in
+    let s = (goal.at.returns c).Start in
     let n = length s.args.cache.now in
-    let held = memory-held s.args.own.now s.args.cache.now c11.memory-found.ensures c9.in-Good.is in
+    let held = memory-held s.args.own.now s.args.cache.now c.memory-found.ensures c.in-Good.is in
     ap (cache_changed 0) (c.learn.ensures.cache_after ∙ ap (λ (l : List (List ℕ)). bytes_of n (after_learn (own_keys s.args.own.now) n l
     s.args.«record».now)) (sym held))
-    ∙ sym (memory-passes s.args.own.now s.args.cache.now c11.memory-found.ensures c9.in-Good.is (refuse s) _ (done s)
-    ∙ row_passes (refuse s) 1 (not (record_form s.args.«record».now)) _ (done s) (not_is (sym c7.is_record.ensures ∙ not-false _
-    c6.if-not-is_record.false))
-    ∙ row_passes (refuse s) 1 (is_own (own_keys s.args.own.now) (key_of s.args.«record».now)) [] (done s) (sym c5.is_own.ensures
-    ∙ c4.if-is_own.false)
+    ∙ sym (memory-passes s.args.own.now s.args.cache.now c.memory-found.ensures c.in-Good.is (refuse s) _ (done s)
+    ∙ row_passes (refuse s) 1 (not (record_form s.args.«record».now)) _ (done s) (not_is (sym c.is_record.ensures ∙ c.if-not-is_record.false))
+    ∙ row_passes (refuse s) 1 (is_own (own_keys s.args.own.now) (key_of s.args.«record».now)) [] (done s) (sym c.is_own.ensures
+    ∙ c.if-is_own.false)
     ∙ no_row (refuse s) (done s))

@@ -24,7 +24,7 @@ use Rattle.cache.specs.Searching.{searched, place_among, search_call}
 use Rattle.cache.proofs.FormLaws.{form_laid}
 use Rattle.cache.proofs.LentLaws.{not_is, not_isn't, memory-form, memory-held, memory-passes, memory-refuses}
 use Rattle.cache.proofs.SearchLaws.{told-held, told_none}
-use Rattle.cache.proofs.calls.search_key.Goals.{After-find_key-sought, After-memory-found, Else-key-ne32, Start}
+use Rattle.cache.proofs.calls.search_key.Goals.{After-memory-found, Else-key-ne32, Start}
 use Rattle.cache.proofs.calls.search_key.Goals as goal
 
 abbrev start : After-memory-found → Start
@@ -43,7 +43,7 @@ done s = told s (held_by s.args.own.now s.args.cache.now)
 pub returns-in_default : goal.returns-in_default
 unfolding search_call
 returns-in_default c =
-    let m = (goal.at.returns-in_default (goal.at.returns-in_default c).In_default).After-memory-found in
+    let m = (goal.at.returns-in_default c).After-memory-found in
     let s = start m in
     sym (memory-refuses s.args.own.now s.args.cache.now m.memory-found.ensures c.in_default.is refuse _ (done s))
 
@@ -51,7 +51,7 @@ pub returns-then-key-ne32 : goal.returns-then-key-ne32
 unfolding search_call
 returns-then-key-ne32 c =
     let found = c in
-    let m = (goal.at.returns-then-key-ne32 (goal.at.returns-then-key-ne32 c).Then-key-ne32).After-memory-found in
+    let m = (goal.at.returns-then-key-ne32 c).After-memory-found in
     let s = start m in
     let n = length s.args.key.now in
     sym (memory-passes s.args.own.now s.args.cache.now m.memory-found.ensures found.in-Good.is refuse _ (done s)
@@ -84,7 +84,7 @@ module _ (e : Else-key-ne32) where
       let n = length s.args.key.now in
       let good = e.in-Good.is in
       memory-passes own cache tested.memory-found.ensures good refuse _ (done s)
-      ∙ row_passes refuse 1 (not (eqb n 32)) [] (done s) (not_is (eq-eqb n 32 e.if-key-ne32.left))
+      ∙ row_passes refuse 1 (not (eqb n 32)) [] (done s) (not_is (eq-eqb n 32 e.if-key-ne32.false))
       ∙ no_row refuse (done s)
       ∙ ap (told s) (memory-held own cache tested.memory-found.ensures good)
 
@@ -94,7 +94,7 @@ find_key-sought-requires c = record { used_in_bounds = room (goal.at.find_key-so
 pub overflow_add-place : goal.overflow_add-place
 overflow_add-place c =
     let f = c in
-    let e = (goal.at.overflow_add-place (goal.at.overflow_add-place c).After-struct_known-1).Else-key-ne32 in
+    let e = (goal.at.overflow_add-place c).Else-key-ne32 in
     let ks = keys_of (rows 100 (used e) (cache e)) in
     omega (
       arith,
@@ -107,14 +107,10 @@ overflow_add-place c =
 
 pub returns-then-sought : goal.returns-then-sought
 returns-then-sought c =
-    let f = c in
-    let s = start (tested (goal.at.After-find_key-sought f).Else-key-ne32) in
-    told-held (key_at 0 s.args.key.now) (keys_of (rows 100 (used (goal.at.After-find_key-sought f).Else-key-ne32) s.args.cache.now)) f.find_key-sought.ensures c.if-sought.true
-    ∙ sym (accepted (goal.at.After-find_key-sought f).Else-key-ne32)
+    let e = (goal.at.returns-then-sought c).Else-key-ne32 in
+    told-held (key_at 0 c.args.key.now) (keys_of (rows 100 (used e) c.args.cache.now)) c.find_key-sought.ensures c.if-sought.true ∙ sym (accepted e)
 
 pub returns : goal.returns
 returns c =
-    let f = c in
-    let s = start (tested (goal.at.After-find_key-sought f).Else-key-ne32) in
-    told_none (key_at 0 s.args.key.now) (keys_of (rows 100 (used (goal.at.After-find_key-sought f).Else-key-ne32) s.args.cache.now)) f.find_key-sought.ensures c.if-sought.false
-    ∙ sym (accepted (goal.at.After-find_key-sought f).Else-key-ne32)
+    let e = (goal.at.returns c).Else-key-ne32 in
+    told_none (key_at 0 c.args.key.now) (keys_of (rows 100 (used e) c.args.cache.now)) c.find_key-sought.ensures c.if-sought.false ∙ sym (accepted e)

@@ -44,7 +44,7 @@ most : (s : Start) → s.args.at ≤ s.args.used
 most s = let a = s.args in place-most (own_keys a.own.now) a.used a.at a.cache.now a.«record».now s.requires.form s.requires.cache_value
 
 abbrev start : After-who_goes-goes → Start
-start c = c.before.before.before.before.before.before
+start c = (goal.at.After-who_goes-goes c).Start
 
 -- the place that goes, by the first of our keys
 goes : (c : After-who_goes-goes) → (let a = (start c).args in Goes (first_own (own_keys a.own.now)) (own_keys a.own.now)
@@ -67,24 +67,22 @@ overflow_mul-used c = omega (arith, (laid (goal.at.overflow_mul-used c).Start).r
 
 pub insert_row-requires : goal.insert_row-requires
 insert_row-requires c =
-    let s = (goal.at.insert_row-requires (goal.at.insert_row-requires c).After-insert_row-arg-1).Start in
+    let s = (goal.at.insert_row-requires c).Start in
     (most s, long s, omega (arith, c.if-used-cache.true, s.requires.form.places.whole), laid s)
 
 pub returns-then-used-cache : goal.returns-then-used-cache
 returns-then-used-cache c =
-    let at-if = c in
-    let s = c in
-    let a = s.args in record {
+    let a = c.args in record {
       cache_after = c.insert_row.ensures
           ∙ ap (bytes_of (length a.cache.now))
-          (new-room (own_keys a.own.now) a.used a.at a.cache.now a.«record».now s.requires.form s.requires.cache_value at-if.if-used-cache.true);
+          (new-room (own_keys a.own.now) a.used a.at a.cache.now a.«record».now c.requires.form c.requires.cache_value c.if-used-cache.true);
       result_value = ap (changes true false) c.no_key.ensures
-          ∙ told-room (own_keys a.own.now) a.used a.at a.cache.now a.«record».now s.requires.form s.requires.cache_value at-if.if-used-cache.true;
+          ∙ told-room (own_keys a.own.now) a.used a.at a.cache.now a.«record».now c.requires.form c.requires.cache_value c.if-used-cache.true;
     }
 
 pub who_goes-goes-requires : goal.who_goes-goes-requires
 who_goes-goes-requires c =
-    let s = c.before.before.before.before.before in
+    let s = (goal.at.who_goes-goes-requires c).Start in
     let a = s.args in
     let f = own_formed a.own.now s.requires.own_value.0 in
     let keys = keys_many a.own.now in
@@ -104,79 +102,73 @@ who_goes-goes-requires c =
 
 pub overflow_mul-goes : goal.overflow_mul-goes
 overflow_mul-goes c =
-    let s = start c.before.before in
+    let s = (goal.at.overflow_mul-goes c).Start in
     omega (arith, most s, (laid s).room, c.if-goes-at.true)
 
 pub key_at-gone-requires : goal.key_at-gone-requires
 key_at-gone-requires c =
-    let s = start c.before.before in
+    let s = (goal.at.key_at-gone-requires c).Start in
     omega (arith, most s, (laid s).room, c.if-goes-at.true)
 
 pub exchange_up-requires : goal.exchange_up-requires
 exchange_up-requires c =
-    let at-if = c in
-    let w = (goal.at.exchange_up-requires (goal.at.exchange_up-requires c).After-exchange_up-arg-1).Else-used-cache in
+    let w = (goal.at.exchange_up-requires c).After-who_goes-goes in
     let s = start w in
-    let h = at-if.if-goes-at.true in
+    let h = c.if-goes-at.true in
     let p = most s in
     (omega (arith, p, h), omega (arith, p, h), long s, omega (arith, (laid s).room, w.if-used-cache.false))
 
 pub returns-then-goes-at : goal.returns-then-goes-at
 returns-then-goes-at c =
-    let at_key = c in
-    let at-if = c in
-    let w = (goal.at.returns-then-goes-at (goal.at.returns-then-goes-at c).After-slice_known-then-goes-at-1).Else-used-cache in
+    let w = (goal.at.returns-then-goes-at c).After-who_goes-goes in
     let s = start w in
     let a = s.args in record {
       cache_after = c.exchange_up.ensures
           ∙ ap (bytes_of (length a.cache.now))
           (new-before (own_keys a.own.now) a.used a.at a.cache.now a.«record».now s.requires.form s.requires.cache_value s.requires.not_own
-          w.if-used-cache.false w.who_goes-goes.result (goes w) at-if.if-goes-at.true);
-      result_value = ap (changes true true) at_key.key_at-gone.ensures
+          w.if-used-cache.false w.who_goes-goes.result (goes w) c.if-goes-at.true);
+      result_value = ap (changes true true) c.key_at-gone.ensures
           ∙ told-before (own_keys a.own.now) a.used a.at a.cache.now a.«record».now s.requires.form s.requires.cache_value s.requires.not_own
-          w.if-used-cache.false w.who_goes-goes.result (goes w) at-if.if-goes-at.true;
+          w.if-used-cache.false w.who_goes-goes.result (goes w) c.if-goes-at.true;
     }
 
 pub overflow_mul-goes-then-at-goes : goal.overflow_mul-goes-then-at-goes
 overflow_mul-goes-then-at-goes c =
-    let w = (goal.at.overflow_mul-goes-then-at-goes (goal.at.overflow_mul-goes-then-at-goes c).Then-at-goes).Else-used-cache in
+    let w = (goal.at.overflow_mul-goes-then-at-goes c).After-who_goes-goes in
     let s = start w in
     omega (arith, gone-most w, (laid s).room, c.if-at-goes.true)
 
 pub key_at-gone-requires-then-at-goes : goal.key_at-gone-requires-then-at-goes
 key_at-gone-requires-then-at-goes c =
-    let w = (goal.at.key_at-gone-requires-then-at-goes (goal.at.key_at-gone-requires-then-at-goes c).Then-at-goes).Else-used-cache in
+    let w = (goal.at.key_at-gone-requires-then-at-goes c).After-who_goes-goes in
     let s = start w in
     omega (arith, gone-most w, (laid s).room, c.if-at-goes.true)
 
 pub exchange_down-requires : goal.exchange_down-requires
 exchange_down-requires c =
-    let at-if = c in
-    let w = (goal.at.exchange_down-requires (goal.at.exchange_down-requires c).After-exchange_down-arg-1).Else-used-cache in
+    let w = (goal.at.exchange_down-requires c).After-who_goes-goes in
     let s = start w in
-    let h = at-if.if-at-goes.true in
+    let h = c.if-at-goes.true in
     let g = gone-most w in
     (omega (arith, g, h), omega (arith, g, h), long s, omega (arith, (laid s).room, w.if-used-cache.false))
 
 pub returns-then-at-goes : goal.returns-then-at-goes
 returns-then-at-goes c =
-    let at_key = c in
-    let at-if = c in
-    let w = (goal.at.returns-then-at-goes (goal.at.returns-then-at-goes c).After-slice_known-then-at-goes-1).Else-used-cache in
+    let w = (goal.at.returns-then-at-goes c).After-who_goes-goes in
     let s = start w in
     let a = s.args in record {
       cache_after = c.exchange_down.ensures
           ∙ ap (bytes_of (length a.cache.now))
           (new-after (own_keys a.own.now) a.used a.at a.cache.now a.«record».now s.requires.form s.requires.cache_value s.requires.not_own
-          w.if-used-cache.false w.who_goes-goes.result (goes w) at-if.if-at-goes.true);
-      result_value = ap (changes true true) at_key.key_at-gone-then-at-goes.ensures
+          w.if-used-cache.false w.who_goes-goes.result (goes w) c.if-at-goes.true);
+      result_value = ap (changes true true) c.key_at-gone-then-at-goes.ensures
           ∙ told-after (own_keys a.own.now) a.used a.at a.cache.now a.«record».now s.requires.form s.requires.cache_value s.requires.not_own
-          w.if-used-cache.false w.who_goes-goes.result (goes w) at-if.if-at-goes.true;
+          w.if-used-cache.false w.who_goes-goes.result (goes w) c.if-at-goes.true;
     }
 
 pub returns : goal.returns
 returns c =
-    let w = (goal.at.returns (goal.at.returns c).After-unmoved).After-who_goes-goes in
+    let w = (goal.at.returns c).After-who_goes-goes in
     let s = start w in
     let a = s.args in
     let e : a.at ≡ w.who_goes-goes.result = omega (arith, c.if-at-goes.false, c.if-goes-at.false) in record {

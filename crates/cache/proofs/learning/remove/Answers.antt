@@ -19,45 +19,35 @@ laid s = form_laid (own_keys s.args.own.now) s.args.used s.args.cache.now s.requ
 
 pub find-found-requires : goal.find-found-requires
 find-found-requires c =
-    let c4 = c.before.before.before.before in
-    let s = c4 in record { used_in_bounds = (laid s).room; in_bounds = s.requires.0; rising = s.requires.1.held.rising }
+    let s = (goal.at.find-found-requires c).Start in record { used_in_bounds = (laid s).room; in_bounds = s.requires.in_bounds; rising = s.requires.form.held.rising }
 
 pub returns-in_default : goal.returns-in_default
 returns-in_default c =
-    let at-find = c in
-    let s = at-find.before.before.before.before.before in
+    let s = (goal.at.returns-in_default c).Start in
     let a = s.args in
     let k = key_at 0 a.key.now in record {
       cache_after = laid-bytes 100 a.used a.cache.now (laid s)
           ∙ ap (bytes_of (length a.cache.now))
-          (found-removes k a.used a.cache.now at-find.find-found.ensures c.in_default.is s.requires.form.held.rising);
+          (found-removes k a.used a.cache.now c.find-found.ensures c.in_default.is s.requires.form.held.rising);
       result_value = c.unmoved.ensures
           ∙ told-kept k (rows 100 a.used a.cache.now)
-          (found-held k a.used a.cache.now at-find.find-found.ensures c.in_default.is s.requires.form.held.rising);
+          (found-held k a.used a.cache.now c.find-found.ensures c.in_default.is s.requires.form.held.rising);
     }
 
 pub remove_row-requires : goal.remove_row-requires
 remove_row-requires c =
-    let c4 = c in
-    let c9 = c4.before.before.before.before.before in
-    let s = c9 in
+    let s = (goal.at.remove_row-requires c).Start in
     let a = s.args in
-    (found-place (key_at 0 a.key.now) a.used a.cache.now c4.find-found.ensures c.in-At.is, laid s)
-
-pub key_at-requires : goal.key_at-requires
-key_at-requires c = let at-find = c in at-find.requires.in_bounds
+    (found-place (key_at 0 a.key.now) a.used a.cache.now c.find-found.ensures c.in-At.is, laid s)
 
 pub returns : goal.returns
 returns c =
-    let at-found = c in
-    let at-find = c in
-    let s = c in
-    let a = s.args in
+    let a = c.args in
     let k = key_at 0 a.key.now in record {
       cache_after = c.remove_row.ensures
           ∙ ap (bytes_of (length a.cache.now))
-          (found-removes k a.used a.cache.now at-find.find-found.ensures at-found.in-At.is s.requires.form.held.rising);
+          (found-removes k a.used a.cache.now c.find-found.ensures c.in-At.is c.requires.form.held.rising);
       result_value = ap (changes false true) c.key_at.ensures
           ∙ told-removed k (rows 100 a.used a.cache.now)
-          (found-held k a.used a.cache.now at-find.find-found.ensures at-found.in-At.is s.requires.form.held.rising);
+          (found-held k a.used a.cache.now c.find-found.ensures c.in-At.is c.requires.form.held.rising);
     }

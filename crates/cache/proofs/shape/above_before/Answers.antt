@@ -42,7 +42,7 @@ returns-then-at-eq0 c =
 pub returns-then-word-last : goal.returns-then-word-last
 returns-then-word-last c =
     let known = c in
-    let start = (goal.at.returns-then-word-last (goal.at.returns-then-word-last c).Then-word-last).Start in
+    let start = (goal.at.returns-then-word-last c).Start in
     let a = start.args in
     let s = a.cache.now in
     let room = start.requires.at_in_bounds in
@@ -56,7 +56,7 @@ returns-then-word-last c =
 
 pub rest_above-requires : goal.rest_above-requires
 rest_above-requires c =
-    let start = (goal.at.rest_above-requires (goal.at.rest_above-requires c).Else-word-last).Start in
+    let start = (goal.at.rest_above-requires c).Start in
     let a = start.args in
     let n = later start c.if-at-eq0.false in
     let last = carried_at a.cache.now (a.at / 100) a.last start.requires.carried n in
@@ -64,7 +64,7 @@ rest_above-requires c =
 
 pub returns : goal.returns
 returns c =
-    let start = (goal.at.returns (goal.at.returns c).After-rest_above).Start in
+    let start = (goal.at.returns c).Start in
     let a = start.args in
     c.rest_above.ensures
     ∙ sym (low_next a.cache.now (a.at / 100) (key_at (100 * (a.at / 100)) a.cache.now) (later start c.if-at-eq0.false))

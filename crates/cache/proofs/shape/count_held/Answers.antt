@@ -12,11 +12,8 @@ use Rattle.own.specs.Low.{low_at}
 use Rattle.cache.proofs.ShapeLaws.{carried_next}
 use Rattle.cache.proofs.OrderedLaws.{ordered-more, ordered-stop, ordered_end}
 use native.Mathlib.Omega.{arith}
+use Rattle.cache.proofs.shape.count_held.Invariants.{from}
 use Rattle.cache.proofs.shape.count_held.Goals as goal
-
--- place i and what is counted from it on
-abbrev from : List ℕ → ℕ → ℕ
-from cache i = i + ordered (low_at cache i) (drop i (rows 100 (length cache / 100) cache))
 
 pub loop-at-init : goal.loop-at-init
 unfolding low_at

@@ -15,6 +15,10 @@ use Rattle.cache.proofs.OrderedLaws.{ordered-more, ordered-stop, ordered_end}
 use native.Mathlib.Omega.{arith}
 use Rattle.cache.proofs.shape.count_held.Given as goal
 
+-- place i and what is counted from it on
+abbrev pub from : List ℕ → ℕ → ℕ
+from cache i = i + ordered (low_at cache i) (drop i (rows 100 (length cache / 100) cache))
+
 abbrev pub invariant-loop-at : goal.invariant-loop-at
 invariant-loop-at l =
     (l.end ≡ 100 * (length l.cache / 100))

@@ -51,7 +51,7 @@ returns-then-size-gt25600 c =
 
 pub returns-then-size-count : goal.returns-then-size-count
 returns-then-size-count c =
-    let n = (goal.at.returns-then-size-count (goal.at.returns-then-size-count c).Then-size-count).After-count in
+    let n = (goal.at.returns-then-size-count c).After-count in
     let at-if = c in
     let a = at-if.args in
     sym (too_few (own_keys a.own.now) a.cache.now at-if.if-size-ne0.false (omega arith) (omega arith) (omega (arith, keys n, c.if-size-count.true)))
@@ -64,14 +64,14 @@ rest_clear-requires c = omega (arith, few (goal.at.rest_clear-requires c).After-
 
 pub returns-then-not-rest_clear : goal.returns-then-not-rest_clear
 returns-then-not-rest_clear c =
-    let g = (goal.at.returns-then-not-rest_clear (goal.at.returns-then-not-rest_clear c).Then-not-rest_clear).After-count_held-used in
+    let g = (goal.at.returns-then-not-rest_clear c).After-count_held-used in
     let a = (start g).args in
     sym (rest-bad (own_keys a.own.now) a.cache.now g.if-size-ne0.false (omega arith) (omega arith) (enough g)
     g.count_held-used.result g.count_held-used.ensures (sym c.rest_clear.ensures ∙ c.if-not-rest_clear.true))
 
 pub holds_own-requires : goal.holds_own-requires
 holds_own-requires c =
-    let g = (goal.at.holds_own-requires (goal.at.holds_own-requires c).Else-not-rest_clear).After-count_held-used in
+    let g = (goal.at.holds_own-requires c).After-count_held-used in
     let a = (start g).args in record {
       used_in_bounds = omega (arith, few g);
       rising = used-rising (own_keys a.own.now) a.cache.now g.if-size-ne0.false (omega arith) (omega arith) (enough g)
@@ -80,7 +80,7 @@ holds_own-requires c =
 
 pub returns-then-holds_own : goal.returns-then-holds_own
 returns-then-holds_own c =
-    let g = (goal.at.returns-then-holds_own (goal.at.returns-then-holds_own c).Then-holds_own).After-count_held-used in
+    let g = (goal.at.returns-then-holds_own c).After-count_held-used in
     let a = (start g).args in
     sym (own-bad (own_keys a.own.now) a.cache.now g.if-size-ne0.false (omega arith) (omega arith) (enough g)
     g.count_held-used.result g.count_held-used.ensures (sym c.holds_own.ensures ∙ c.if-holds_own.true))
@@ -88,7 +88,7 @@ returns-then-holds_own c =
 pub returns : goal.returns
 returns c =
     let tested = c in
-    let g = (goal.at.returns (goal.at.returns c).Else-holds_own).After-count_held-used in
+    let g = (goal.at.returns c).After-count_held-used in
     let a = (start g).args in
     sym (free-by (own_keys a.own.now) a.cache.now g.if-size-ne0.false (omega arith) (omega arith) (enough g)
     g.count_held-used.result g.count_held-used.ensures (sym c.holds_own.ensures ∙ c.if-holds_own.false)

@@ -41,15 +41,15 @@ module _ (c : After-find_key-sought) where
 
 pub returns-then-sought : goal.returns-then-sought
 returns-then-sought c =
-    let f = (goal.at.returns-then-sought (goal.at.returns-then-sought c).Then-sought).After-find_key-sought in
+    let f = (goal.at.returns-then-sought c).After-find_key-sought in
     let l = (loop f).loop-i in
-    sym (l.inv.2 ∙ any_here (length (own f) / 100) (own f) l.i (keys f) (omega arith) (told f ∙ c.if-sought.true))
+    sym (l.invariant.2 ∙ any_here (length (own f) / 100) (own f) l.i (keys f) (omega arith) (told f ∙ c.if-sought.true))
 
 pub loop-i-preserved : goal.loop-i-preserved
 loop-i-preserved c =
-    let f = (goal.at.loop-i-preserved (goal.at.loop-i-preserved c).Else-sought).After-find_key-sought in
+    let f = (goal.at.loop-i-preserved c).After-find_key-sought in
     let l = (loop f).loop-i in
-    (omega arith, omega arith, l.inv.2 ∙ any-on (length (own f) / 100) (own f) l.i (keys f) (omega arith) (told f ∙ c.if-sought.false))
+    (omega arith, omega arith, l.invariant.2 ∙ any-on (length (own f) / 100) (own f) l.i (keys f) (omega arith) (told f ∙ c.if-sought.false))
 
 pub returns : goal.returns
 returns c =

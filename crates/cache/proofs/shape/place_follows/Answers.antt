@@ -37,19 +37,19 @@ is_row s = ap (λ (n : ℕ). record_form (part n 100 s.args.cache.now)) (begins 
 pub returns-then-not-is_formed : goal.returns-then-not-is_formed
 unfolding rises
 returns-then-not-is_formed c =
-    let s = (goal.at.returns-then-not-is_formed (goal.at.returns-then-not-is_formed c).Then-not-is_formed).Start in
+    let s = (goal.at.returns-then-not-is_formed c).Start in
     let f : record_form (row s) ≡ false = sym (c.is_formed.ensures ∙ is_row s) ∙ c.if-not-is_formed.true in
     sym (rw f refl)
 
 pub above_before-requires : goal.above_before-requires
 above_before-requires c =
-    let s = (goal.at.above_before-requires (goal.at.above_before-requires c).After-read_u64-word).Start in
+    let s = (goal.at.above_before-requires c).Start in
     record { at_in_bounds = s.requires.at_in_bounds; word_value = c.read_u64-word.ensures ∙ ap (λ (n : ℕ). value_be 256 (part n 8 s.args.cache.now)) (begins s); carried = s.requires.carried }
 
 pub returns : goal.returns
 unfolding rises
 returns c =
     let tested = c in
-    let s = (goal.at.returns (goal.at.returns c).After-above_before).Start in
+    let s = (goal.at.returns c).Start in
     let f : record_form (row s) ≡ true = sym (tested.is_formed.ensures ∙ is_row s) ∙ tested.if-not-is_formed.false in
-    c.IsAbove-before.ensures ∙ sym (ap (leb (low s)) (row-key s)) ∙ sym (rw f refl)
+    c.above_before.ensures ∙ sym (ap (leb (low s)) (row-key s)) ∙ sym (rw f refl)

@@ -50,7 +50,7 @@ returns-then-size-gt25600 c =
 
 pub returns-then-size-count : goal.returns-then-size-count
 returns-then-size-count c =
-    let n = (goal.at.returns-then-size-count (goal.at.returns-then-size-count c).Then-size-count).After-count in
+    let n = (goal.at.returns-then-size-count c).After-count in
     let at-if = c in
     let a = at-if.args in
     sym (too_few (own_keys a.own.now) a.cache.now at-if.if-size-ne0.false (omega arith) (omega arith) (omega (arith, keys n, c.if-size-count.true)))

@@ -29,7 +29,7 @@ row-key s = key_of-row (100 * s.args.i) s.args.cache.now
 pub returns-then-not-is_formed : goal.returns-then-not-is_formed
 unfolding follows
 returns-then-not-is_formed c =
-    let s = (goal.at.returns-then-not-is_formed (goal.at.returns-then-not-is_formed c).Then-not-is_formed).Start in
+    let s = (goal.at.returns-then-not-is_formed c).Start in
     let f : old_record_form (row s) ≡ false = sym c.is_formed.ensures ∙ c.if-not-is_formed.true in
     sym (rw f refl)
 
@@ -40,8 +40,8 @@ formed m = sym m.is_formed.ensures ∙ m.if-not-is_formed.false
 pub returns-then-not-above_before : goal.returns-then-not-above_before
 unfolding follows
 returns-then-not-above_before c =
-    let first = (goal.at.returns-then-not-above_before (goal.at.returns-then-not-above_before c).Then-not-above_before).Else-not-is_formed in
-    let s = (goal.at.returns-then-not-above_before (goal.at.returns-then-not-above_before c).Then-not-above_before).Start in
+    let first = (goal.at.returns-then-not-above_before c).Else-not-is_formed in
+    let s = (goal.at.returns-then-not-above_before c).Start in
     let l : leb (low s) (key_of (row s)) ≡ false = ap (leb (low s)) (row-key s) ∙ sym c.IsAbove-before.ensures
     ∙ c.if-not-above_before.true in
     sym (rw (formed first, l) refl)
@@ -50,8 +50,8 @@ pub returns : goal.returns
 unfolding follows
 returns c =
     let tested = c in
-    let first = (goal.at.returns (goal.at.returns c).After-is_own).Else-not-is_formed in
-    let s = (goal.at.returns (goal.at.returns c).After-is_own).Start in
+    let first = (goal.at.returns c).Else-not-is_formed in
+    let s = (goal.at.returns c).Start in
     let l : leb (low s) (key_of (row s)) ≡ true = ap (leb (low s)) (row-key s) ∙ sym tested.IsAbove-before.ensures
     ∙ c.if-not-above_before.false in
     ap not c.is_own.ensures ∙ sym (rw (formed first, l, row-key s) refl)

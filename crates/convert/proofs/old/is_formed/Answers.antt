@@ -36,12 +36,12 @@ first c = sym c.zero_pair-3.ensures ∙ c.if-not-zero_pair-3.false
 
 pub returns-then-count-gt4 : goal.returns-then-count-gt4
 returns-then-count-gt4 c =
-    let r = (goal.at.returns-then-count-gt4 (goal.at.returns-then-count-gt4 c).Then-count-gt4).After-read_u16_le-count in
+    let r = (goal.at.returns-then-count-gt4 c).After-read_u16_le-count in
     form_over (place r) (bytes r) (omega (arith, counted r, c.if-count-gt4.true))
 
 pub returns-then-count-eq4 : goal.returns-then-count-eq4
 returns-then-count-eq4 c =
-    let r = (goal.at.returns-then-count-eq4 (goal.at.returns-then-count-eq4 c).Then-count-eq4).After-read_u16_le-count in
+    let r = (goal.at.returns-then-count-eq4 c).After-read_u16_le-count in
     zero-none (place r + 100) (bytes r)
     ∙ form_left (place r) (place r + 100) 0 (bytes r) r.requires (omega (arith, counted r)) (omega (arith, counted r))
     (omega (arith, counted r))
@@ -49,38 +49,38 @@ returns-then-count-eq4 c =
 
 pub returns-then-not-zero_pair : goal.returns-then-not-zero_pair
 returns-then-not-zero_pair c =
-    let r = (goal.at.returns-then-not-zero_pair (goal.at.returns-then-not-zero_pair c).Then-not-zero_pair).After-read_u16_le-count in
+    let r = (goal.at.returns-then-not-zero_pair c).After-read_u16_le-count in
     form_spoilt (place r) (place r + 84) (bytes r) r.requires (omega (arith, counted r)) (omega (arith, counted r)) (omega arith)
     (sym c.zero_pair.ensures ∙ c.if-not-zero_pair.true)
 
 pub returns-then-count-eq3 : goal.returns-then-count-eq3
 returns-then-count-eq3 c =
-    let r = (goal.at.returns-then-count-eq3 (goal.at.returns-then-count-eq3 c).Then-count-eq3).After-read_u16_le-count in
+    let r = (goal.at.returns-then-count-eq3 c).After-read_u16_le-count in
     sym (last (goal.at.returns-then-count-eq3 c).Else-not-zero_pair) ∙ form_left (place r) (place r + 84) 16 (bytes r) r.requires (omega (arith, counted r))
     (omega (arith, counted r)) (omega (arith, counted r)) (omega (arith, counted r)) (omega (arith, counted r))
 
 pub returns-then-not-zero_pair-2 : goal.returns-then-not-zero_pair-2
 returns-then-not-zero_pair-2 c =
-    let r = (goal.at.returns-then-not-zero_pair-2 (goal.at.returns-then-not-zero_pair-2 c).Then-not-zero_pair-2).After-read_u16_le-count in
+    let r = (goal.at.returns-then-not-zero_pair-2 c).After-read_u16_le-count in
     form_spoilt (place r) (place r + 68) (bytes r) r.requires (omega (arith, counted r)) (omega (arith, counted r)) (omega arith)
     (sym c.zero_pair-2.ensures ∙ c.if-not-zero_pair-2.true)
 
 pub returns-then-count-eq2 : goal.returns-then-count-eq2
 returns-then-count-eq2 c =
-    let r = (goal.at.returns-then-count-eq2 (goal.at.returns-then-count-eq2 c).Then-count-eq2).After-read_u16_le-count in
+    let r = (goal.at.returns-then-count-eq2 c).After-read_u16_le-count in
     let two = zero_both (place r + 68) (place r + 84) 16 (bytes r) (omega arith) (middle (goal.at.returns-then-count-eq2 c).Else-not-zero_pair-2) (last (goal.at.returns-then-count-eq2 c).Else-not-zero_pair) in
     sym two ∙ form_left (place r) (place r + 68) 32 (bytes r) r.requires (omega (arith, counted r)) (omega (arith, counted r))
     (omega (arith, counted r)) (omega (arith, counted r)) (omega (arith, counted r))
 
 pub returns-then-not-zero_pair-3 : goal.returns-then-not-zero_pair-3
 returns-then-not-zero_pair-3 c =
-    let r = (goal.at.returns-then-not-zero_pair-3 (goal.at.returns-then-not-zero_pair-3 c).Then-not-zero_pair-3).After-read_u16_le-count in
+    let r = (goal.at.returns-then-not-zero_pair-3 c).After-read_u16_le-count in
     form_spoilt (place r) (place r + 52) (bytes r) r.requires (omega (arith, counted r)) (omega (arith, counted r)) (omega arith)
     (sym c.zero_pair-3.ensures ∙ c.if-not-zero_pair-3.true)
 
 pub returns-then-count-eq1 : goal.returns-then-count-eq1
 returns-then-count-eq1 c =
-    let r = (goal.at.returns-then-count-eq1 (goal.at.returns-then-count-eq1 c).Then-count-eq1).After-read_u16_le-count in
+    let r = (goal.at.returns-then-count-eq1 c).After-read_u16_le-count in
     let two = zero_both (place r + 68) (place r + 84) 16 (bytes r) (omega arith) (middle (goal.at.returns-then-count-eq1 c).Else-not-zero_pair-2)
     (last (goal.at.returns-then-count-eq1 c).Else-not-zero_pair) in
     let three = zero_both (place r + 52) (place r + 68) 32 (bytes r) (omega arith) (first (goal.at.returns-then-count-eq1 c).Else-not-zero_pair-3) two in
@@ -89,7 +89,7 @@ returns-then-count-eq1 c =
 
 pub returns : goal.returns
 returns c =
-    let r = (goal.at.returns (goal.at.returns c).Else-count-eq1).After-read_u16_le-count in
+    let r = (goal.at.returns c).After-read_u16_le-count in
     rw (
       form_at (place r) (bytes r) r.requires (omega (arith, counted r)),
       lt-leb 1 (get_or (bytes r) (place r + 34) 0)

@@ -15,7 +15,7 @@ start h = (goal.at.After-is_fresh-head h).Start
 
 pub returns-then-place-eq1 : goal.returns-then-place-eq1
 returns-then-place-eq1 c =
-    let h = (goal.at.returns-then-place-eq1 (goal.at.returns-then-place-eq1 c).After-zero_record).After-is_fresh-head in
+    let h = (goal.at.returns-then-place-eq1 c).After-is_fresh-head in
     let a = (start h).args in
     ap (λ (t : Bool). t && c.zero_record.result) h.is_fresh-head.ensures
     ∙ flood-is old_record_form (own_keys a.own.now) a.place.now _ c.if-place-eq1.true c.zero_record.ensures
@@ -29,7 +29,7 @@ returns-then-place-ne2 c =
 pub returns : goal.returns
 returns c =
     let kind = c in
-    let h = (goal.at.returns (goal.at.returns c).After-is_own-ours).After-is_fresh-head in
+    let h = (goal.at.returns c).After-is_fresh-head in
     let a = (start h).args in
     ap (λ (t : Bool). t && (c.is_formed-formed.result && c.same_at-keyed.result && not c.is_own-ours.result)) h.is_fresh-head.ensures
     ∙ inquiry-is old_record_form (own_keys a.own.now) a.place.now kind.if-place-ne2.false c.is_formed-formed.ensures c.same_at-keyed.ensures

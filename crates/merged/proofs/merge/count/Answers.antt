@@ -40,7 +40,7 @@ loop-i-smaller c = let t = by c.before.before.before in omega (arith, t.onward, 
 
 pub loop-i-preserved : goal.loop-i-preserved
 loop-i-preserved c =
-    let p = (goal.at.loop-i-preserved (goal.at.loop-i-preserved c).After-struct_known-in-loop-i-2-1).After-step-next in
+    let p = (goal.at.loop-i-preserved c).After-step-next in
     let t = by p in
     (t.old-within, t.new-within, omega (arith, t.few, t.onward, p.loop-i.invariant.2), omega (arith, t.counted, p.loop-i.invariant.3))
 

@@ -32,7 +32,7 @@ by p =
 
 pub put-requires : goal.put-requires
 put-requires c =
-    let p = (goal.at.put-requires (goal.at.put-requires c).After-put-arg-1).After-step-next in
+    let p = (goal.at.put-requires c).After-step-next in
     let t = by p in (
       λ e. omega (arith, t.old-read e),
       λ e. omega (arith, t.new-read e),
@@ -50,7 +50,7 @@ overflow_mul-at c = omega (arith, (by (goal.at.overflow_mul-at c).After-step-nex
 
 pub overflow_add-at : goal.overflow_add-at
 overflow_add-at c =
-    let p = (goal.at.overflow_add-at (goal.at.overflow_add-at c).After-struct_known-in-loop-i-2-1).After-step-next in
+    let p = (goal.at.overflow_add-at c).After-step-next in
     let l = c in
     let s = c in
     omega (arith, (by p).few, l.loop-i.invariant.3, l.loop-i.invariant.0, l.loop-i.invariant.1, s.requires.2, s.requires.3)
@@ -61,7 +61,7 @@ loop-i-smaller c = let t = by c.before.before.before.before.before.before.before
 pub loop-i-preserved : goal.loop-i-preserved
 loop-i-preserved c =
     let w = c in
-    let p = (goal.at.loop-i-preserved (goal.at.loop-i-preserved c).After-struct_known-in-loop-i-2-1).After-step-next in
+    let p = (goal.at.loop-i-preserved c).After-step-next in
     let l = c in
     let a = l.args in
     let t = by p in

@@ -41,7 +41,7 @@ done s =
 pub returns-in_default : goal.returns-in_default
 unfolding list_call
 returns-in_default c =
-    let m = (goal.at.returns-in_default (goal.at.returns-in_default c).In_default).After-memory-found in
+    let m = (goal.at.returns-in_default c).After-memory-found in
     let s = start m in
     sym (memory-refuses s.args.own.now s.args.cache.now m.memory-found.ensures c.in_default.is (refuse s) _ (done s))
 
@@ -84,12 +84,12 @@ module _ (k : In-Good) where
 
 pub returns-then-key-ne32 : goal.returns-then-key-ne32
 returns-then-key-ne32 c =
-    let k = (goal.at.returns-then-key-ne32 (goal.at.returns-then-key-ne32 c).Then-key-ne32).In-Good in
+    let k = (goal.at.returns-then-key-ne32 c).In-Good in
     sym (in_form k ∙ row_applies (refuse (s k)) 1 (not (eqb (length (key k)) 32)) _ (done (s k)) (not_isn't (ne_eqb (length (key k)) 32 c.if-key-ne32.true)))
 
 pub returns-then-not-is_own : goal.returns-then-not-is_own
 returns-then-not-is_own c =
-    let k = (goal.at.returns-then-not-is_own (goal.at.returns-then-not-is_own c).Then-not-is_own).In-Good in
+    let k = (goal.at.returns-then-not-is_own c).In-Good in
     sym (keyed k c.if-key-ne32.false
     ∙ row_applies (refuse (s k)) 12 (not (is_own (own_keys (own k)) (key_at 0 (key k)))) _ (done (s k))
     (not_isn't (sym c.is_own.ensures ∙ c.if-not-is_own.true)))
@@ -100,15 +100,15 @@ own_key c = sym c.is_own.ensures ∙ c.if-not-is_own.false
 
 pub returns-then-out-lt320 : goal.returns-then-out-lt320
 returns-then-out-lt320 c =
-    let e = (goal.at.returns-then-out-lt320 (goal.at.returns-then-out-lt320 c).Then-out-lt320).Else-not-is_own in
-    let k = (goal.at.returns-then-out-lt320 (goal.at.returns-then-out-lt320 c).Then-out-lt320).In-Good in
+    let e = (goal.at.returns-then-out-lt320 c).Else-not-is_own in
+    let k = (goal.at.returns-then-out-lt320 c).In-Good in
     sym (ours k e.if-key-ne32.false (own_key e)
     ∙ row_applies (refuse (s k)) 15 (ltb (length (out k)) 320) [] (done (s k)) (lt-ltb (length (out k)) 320 c.if-out-lt320.true))
 
 pub neighbours-counts-requires : goal.neighbours-counts-requires
 neighbours-counts-requires c =
-    let e = (goal.at.neighbours-counts-requires (goal.at.neighbours-counts-requires c).After-neighbours-arg-1).Else-not-is_own in
-    let k = (goal.at.neighbours-counts-requires (goal.at.neighbours-counts-requires c).After-neighbours-arg-1).In-Good in
+    let e = (goal.at.neighbours-counts-requires c).Else-not-is_own in
+    let k = (goal.at.neighbours-counts-requires c).In-Good in
     let f = memory-form (own k) (cache k) (tested k).memory-found.ensures k.in-Good.is in record {
       in_bounds = (omega (arith, e.if-key-ne32.false), c.if-out-lt320.false, (form_laid (own_keys (own k)) (used k) (cache k) f).room);
       rising = f.held.rising;
@@ -120,8 +120,8 @@ pub returns : goal.returns
 returns c =
     let n = c in
     let at_room = c in
-    let e = (goal.at.returns (goal.at.returns c).After-slice_known-2-1).Else-not-is_own in
-    let k = (goal.at.returns (goal.at.returns c).After-slice_known-2-1).In-Good in
+    let e = (goal.at.returns c).Else-not-is_own in
+    let k = (goal.at.returns c).In-Good in
     let held = memory-held (own k) (cache k) (tested k).memory-found.ensures k.in-Good.is in
     ap₂ (λ (m : Counts) (l : List ℕ). list_written (record { number = 0; below = m.below; above = m.above }) l)
     (n.neighbours-counts.ensures.value ∙ ap (counts_of (key_at 0 (key k))) (sym held))

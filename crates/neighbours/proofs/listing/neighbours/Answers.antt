@@ -38,7 +38,7 @@ under-most m =
 
 pub count_under-first-requires : goal.count_under-first-requires
 count_under-first-requires c =
-    let s = (goal.at.count_under-first-requires (goal.at.count_under-first-requires c).After-slice_known-1).Start in
+    let s = (goal.at.count_under-first-requires c).Start in
     record { in_bounds = s.requires.in_bounds.0; used_in_bounds = room s; rising = s.requires.rising }
 
 pub count_below-under-requires : goal.count_below-under-requires
@@ -52,7 +52,7 @@ overflow_sub-used c = under-most (goal.at.overflow_sub-used c).After-count_below
 pub keys_down-requires : goal.keys_down-requires
 keys_down-requires c =
     let l1 = c in
-    let m = (goal.at.keys_down-requires (goal.at.keys_down-requires c).After-keys_down-arg-1).After-count_below-under in
+    let m = (goal.at.keys_down-requires c).After-count_below-under in
     let s = start m.before in
     let w = under-most m in
     (room s, first-most (goal.at.After-count_below-under m).After-count_under-first, omega (arith, l1.lesser-below.ensures), omega (arith, l1.lesser-below.ensures, s.requires.in_bounds.1))
@@ -67,7 +67,7 @@ keys_up-requires c =
     let kd = c in
     let l2 = c in
     let l1 = c in
-    let m = (goal.at.keys_up-requires (goal.at.keys_up-requires c).After-keys_up-arg-1).After-count_below-under in
+    let m = (goal.at.keys_up-requires c).After-count_below-under in
     let s = start m.before in
     let w = under-most m in (
       room s,
@@ -83,7 +83,7 @@ returns c =
     let l2 = c in
     let l1 = c in
     let m = c in
-    let n = (goal.at.returns (goal.at.returns c).After-slice_known-3-1).After-count_under-first in
+    let n = (goal.at.returns c).After-count_under-first in
     let s = start n in
     let a = s.args in
     let known2 = c in

@@ -59,7 +59,7 @@ slice_bounds-result-end-in-Held c = omega (arith, used (goal.at.slice_bounds-res
 pub returns-in-Own : goal.returns-in-Own
 returns-in-Own c =
     let at_place = c in
-    let found = (goal.at.returns-in-Own (goal.at.returns-in-Own c).After-result-1).After-place_of_closest in
+    let found = (goal.at.returns-in-Own c).After-place_of_closest in
     let a = (start found).args in
     let i = at_place.in-Own.i in
     let n : 100 * i + 100 - 100 * i ≡ 100 = omega arith in
@@ -69,7 +69,7 @@ returns-in-Own c =
 pub returns-in-Held : goal.returns-in-Held
 returns-in-Held c =
     let at_place = c in
-    let found = (goal.at.returns-in-Held (goal.at.returns-in-Held c).After-result-in-Held-1).After-place_of_closest in
+    let found = (goal.at.returns-in-Held c).After-place_of_closest in
     let a = (start found).args in
     let i = at_place.in-Held.i in
     let n : 100 * i + 100 - 100 * i ≡ 100 = omega arith in

@@ -49,7 +49,7 @@ counted s = let a = s.args in halvings (keys_of (held_by a.own.now a.cache.now))
 pub returns-in_default : goal.returns-in_default
 unfolding closest_call closest_compared
 returns-in_default c =
-    let m = (goal.at.returns-in_default (goal.at.returns-in_default c).In_default).After-memory-found in
+    let m = (goal.at.returns-in_default c).After-memory-found in
     let s = start m in
     let own = s.args.own.now in
     let cache = s.args.cache.now in record { nearest_value = sym (memory-refuses own cache m.memory-found.ensures c.in_default.is refuse _ (done s)); inside = tt; compared_value = sym (memory-refuses own cache m.memory-found.ensures c.in_default.is uncounted _ (counted s)) }
@@ -93,7 +93,7 @@ returns-then-not-is_path c =
 pub returns-then-target-ne32 : goal.returns-then-target-ne32
 unfolding closest_call closest_compared
 returns-then-target-ne32 c =
-    let e = (goal.at.returns-then-target-ne32 (goal.at.returns-then-target-ne32 c).Then-target-ne32).Else-not-is_path in
+    let e = (goal.at.returns-then-target-ne32 c).Else-not-is_path in
     let s = start e.before.before.before.before.before in
     let n = length s.args.target.now in
     let wrong = not_isn't (ne_eqb n 32 c.if-target-ne32.true) in record { nearest_value = sym (whole-path e refuse (done s) ∙ row_applies refuse 1 (not (eqb n 32)) [] (done s) wrong); inside = tt; compared_value = sym (whole-path e uncounted (counted s) ∙ row_applies uncounted 1 (not (eqb n 32)) [] (counted s) wrong) }
@@ -160,7 +160,7 @@ module _ (f : After-find_key-sought) where
 
 pub place_of_closest-requires : goal.place_of_closest-requires
 place_of_closest-requires c =
-    let e = (goal.at.place_of_closest-requires (goal.at.place_of_closest-requires c).After-find_key-sought).Else-target-ne32 in
+    let e = (goal.at.place_of_closest-requires c).Else-target-ne32 in
     let good = memory-own (own e) (cache e) (tested e).memory-found.ensures e.in-Good.is in
     record { own_value = (good, omega (arith, e.if-target-ne32.false)); form = form e; at_value = place (goal.at.place_of_closest-requires c).After-find_key-sought }
 
@@ -168,12 +168,12 @@ pub returns-in-Own : goal.returns-in-Own
 returns-in-Own c =
     let place = c in
     let p = c in
-    let e = (goal.at.returns-in-Own (goal.at.returns-in-Own c).In-Own).Else-target-ne32 in record { nearest_value = sym (accepted e ∙ ap (shown 0) (sym p.place_of_closest.ensures.result_value ∙ ap (record_at (own e) (cache e)) place.in-Own.is)); inside = subst (Within (length (own_records (own e))) (used e)) place.in-Own.is p.place_of_closest.ensures.within; compared_value = counted-all (goal.at.After-place_of_closest p).After-find_key-sought ∙ sym (count e) }
+    let e = (goal.at.returns-in-Own c).Else-target-ne32 in record { nearest_value = sym (accepted e ∙ ap (shown 0) (sym p.place_of_closest.ensures.result_value ∙ ap (record_at (own e) (cache e)) place.in-Own.is)); inside = subst (Within (length (own_records (own e))) (used e)) place.in-Own.is p.place_of_closest.ensures.within; compared_value = counted-all (goal.at.After-place_of_closest p).After-find_key-sought ∙ sym (count e) }
 
 pub returns-in-Held : goal.returns-in-Held
 returns-in-Held c =
     let place = c in
     let p = c in
-    let e = (goal.at.returns-in-Held (goal.at.returns-in-Held c).In-Held).Else-target-ne32 in
+    let e = (goal.at.returns-in-Held c).Else-target-ne32 in
     let inside : place.in-Held.i < used e =
     subst (Within (length (own_records (own e))) (used e)) place.in-Held.is p.place_of_closest.ensures.within in record { nearest_value = sym (accepted e ∙ ap (shown 0) (sym p.place_of_closest.ensures.result_value ∙ ap (record_at (own e) (cache e)) place.in-Held.is)); inside = (omega (arith, inside, ap length (held e), rows-length 100 (used e) (cache e)), omega (arith, inside, room e)); compared_value = counted-all (goal.at.After-place_of_closest p).After-find_key-sought ∙ sym (count e) }

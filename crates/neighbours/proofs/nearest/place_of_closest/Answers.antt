@@ -111,7 +111,7 @@ over-most c = omega (arith, some c, over-is (goal.at.After-skipped_down-under c)
 
 pub place_of-ours-requires : goal.place_of-ours-requires
 place_of-ours-requires c =
-    let n = (goal.at.place_of-ours-requires (goal.at.place_of-ours-requires c).After-key_at).After-shared_slice_known-4-1 in
+    let n = (goal.at.place_of-ours-requires c).After-shared_slice_known-4-1 in
     let f = own_formed (own n) (s n).requires.own_value.0 in
     let m = c.count.ensures ∙ rows-length 100 (length (own n) / 100) (own n) in
     (omega (arith, m, f.least), omega (arith, m, f.many))
@@ -121,7 +121,7 @@ skipped_up-over-requires c = let n = searched c in (room n, at_most n, (s n).req
 
 pub returns-then-over-used : goal.returns-then-over-used
 returns-then-over-used c =
-    let p = (goal.at.returns-then-over-used (goal.at.returns-then-over-used c).Then-over-used).After-place_of-ours in
+    let p = (goal.at.returns-then-over-used c).After-place_of-ours in
     let n = searched p in
     let none = none_left (t n) (own n) (path n) (cache n) (used n) (s n).requires.form.held (o n) (small n) (sym (over-is (goal.at.returns-then-over-used c).After-skipped_up-over) ∙ c.if-over-used.true) in record {
       result_value = mine p ∙ sym (ap (λ (l : List (List ℕ)). closest_of (t n) (candidates (own_records (own n)) l)) none
@@ -166,7 +166,7 @@ returns c =
     let k = c in
     let down = c in
     let up = c in
-    let stop = (goal.at.returns (goal.at.returns c).After-nearest_of).After-skipped_down-under in
+    let stop = (goal.at.returns c).After-skipped_down-under in
     let p = behind stop in
     let n = searched p in
     let i = p.place_of-ours.result in

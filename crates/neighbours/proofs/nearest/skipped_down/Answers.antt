@@ -52,16 +52,16 @@ on_path-requires c =
 
 pub returns-then-not-on_path : goal.returns-then-not-on_path
 returns-then-not-on_path c =
-    let e = (goal.at.returns-then-not-on_path (goal.at.returns-then-not-on_path c).Then-not-on_path).After-on_path in
-    let head = (goal.at.returns-then-not-on_path (goal.at.returns-then-not-on_path c).Then-not-on_path).At-loop-i in
+    let e = (goal.at.returns-then-not-on_path c).After-on_path in
+    let head = (goal.at.returns-then-not-on_path c).At-loop-i in
     let s = start head in
     sym (head.loop-i.invariant.1
     ∙ over-here (skips s) s.args.used head.loop-i.i e.loop-i-test.true (looked e ∙ c.if-not-on_path.true))
 
 pub loop-i-preserved : goal.loop-i-preserved
 loop-i-preserved c =
-    let e = (goal.at.loop-i-preserved (goal.at.loop-i-preserved c).Else-not-on_path).After-on_path in
-    let head = (goal.at.loop-i-preserved (goal.at.loop-i-preserved c).Else-not-on_path).At-loop-i in
+    let e = (goal.at.loop-i-preserved c).After-on_path in
+    let head = (goal.at.loop-i-preserved c).At-loop-i in
     let s = start head in (
       omega arith,
       head.loop-i.invariant.1
@@ -70,6 +70,6 @@ loop-i-preserved c =
 
 pub returns : goal.returns
 returns c =
-    let head = (goal.at.returns (goal.at.returns c).After-loop-i).At-loop-i in
+    let head = (goal.at.returns c).At-loop-i in
     let s = start head in
     sym (head.loop-i.invariant.1 ∙ over-end (skips s) s.args.used head.loop-i.i c.loop-i-test.false)

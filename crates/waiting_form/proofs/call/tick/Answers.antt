@@ -44,7 +44,7 @@ returns-in_default c =
 
 pub returns-then-output-lt64 : goal.returns-then-output-lt64
 returns-then-output-lt64 c =
-    let known = (goal.at.returns-then-output-lt64 (goal.at.returns-then-output-lt64 c).Then-output-lt64).In-Good in
+    let known = (goal.at.returns-then-output-lt64 c).In-Good in
     let a = (from known).args in
     let good = whole known.before.before.before.before.before in
     sym (no_room a.own.now a.table.now a.output.now good (counted known).0 (omega arith))
@@ -63,7 +63,7 @@ pub returns : goal.returns
 unfolding tick_done
 returns c =
     let done = c in
-    let known = (goal.at.returns (goal.at.returns c).After-slice_known-4-1).In-Good in
+    let known = (goal.at.returns c).In-Good in
     let a = known.args in
     let good = counted known in
     rw (done.tick_places-count.ensures.0, done.tick_places-count.ensures.1, done.tick_places-count.ensures.2, good.1)

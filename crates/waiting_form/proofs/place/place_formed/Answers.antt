@@ -25,7 +25,7 @@ returns-then-not-is_fresh c =
 
 pub returns-then-place-eq1 : goal.returns-then-place-eq1
 returns-then-place-eq1 c =
-    let h = (goal.at.returns-then-place-eq1 (goal.at.returns-then-place-eq1 c).After-zero_record).Else-not-is_fresh in
+    let h = (goal.at.returns-then-place-eq1 c).Else-not-is_fresh in
     let a = (start (goal.at.Else-not-is_fresh h).After-is_fresh).args in
     ap (λ (t : Bool). t && c.zero_record.result) (fresh h)
     ∙ flood-is record_form (own_keys a.own.now) a.place.now _ c.if-place-eq1.true c.zero_record.ensures
@@ -39,7 +39,7 @@ returns-then-place-ne2 c =
 pub returns-then-not-is_formed : goal.returns-then-not-is_formed
 returns-then-not-is_formed c =
     let kind = c in
-    let h = (goal.at.returns-then-not-is_formed (goal.at.returns-then-not-is_formed c).Then-not-is_formed).Else-not-is_fresh in
+    let h = (goal.at.returns-then-not-is_formed c).Else-not-is_fresh in
     let a = (start (goal.at.Else-not-is_fresh h).After-is_fresh).args in
     let formed = sym (c.if-not-is_formed.true) ∙ c.is_formed.ensures in
     ap (λ (t : Bool). t && false) (fresh h)
@@ -49,7 +49,7 @@ pub returns-then-not-same_at : goal.returns-then-not-same_at
 returns-then-not-same_at c =
     let tested = c in
     let kind = c in
-    let h = (goal.at.returns-then-not-same_at (goal.at.returns-then-not-same_at c).Then-not-same_at).Else-not-is_fresh in
+    let h = (goal.at.returns-then-not-same_at c).Else-not-is_fresh in
     let a = (start (goal.at.Else-not-is_fresh h).After-is_fresh).args in
     let formed = sym (tested.if-not-is_formed.false) ∙ tested.is_formed.ensures in
     let keyed = sym (c.if-not-same_at.true) ∙ c.same_at.ensures in
@@ -61,7 +61,7 @@ returns c =
     let same = c in
     let tested = c in
     let kind = c in
-    let h = (goal.at.returns (goal.at.returns c).After-is_own-ours).Else-not-is_fresh in
+    let h = (goal.at.returns c).Else-not-is_fresh in
     let a = (start (goal.at.Else-not-is_fresh h).After-is_fresh).args in
     let formed = sym (tested.if-not-is_formed.false) ∙ tested.is_formed.ensures in
     let keyed = sym (same.if-not-same_at.false) ∙ same.same_at.ensures in

@@ -56,7 +56,7 @@ loop-at-init c = (omega arith, omega arith, refl)
 
 pub returns-then-id-low : goal.returns-then-id-low
 returns-then-id-low c =
-    let p = (goal.at.returns-then-id-low (goal.at.returns-then-id-low c).Then-id-low).After-read_u32_le-id in
+    let p = (goal.at.returns-then-id-low c).After-read_u32_le-id in
     fails p
     (turned p (isFormed p) (comesAgain p) refl refl ∙ ap (λ (t : Bool). isFormed p && t && not (comesAgain p)) (lt-leb _ _ c.if-id-low.true)
     ∙ ap (λ (t : Bool). t && not (comesAgain p)) (and_false (isFormed p)))
@@ -66,7 +66,7 @@ place_formed-requires c = simp (length-take, length-drop) (omega arith)
 
 pub returns-then-not-place_formed : goal.returns-then-not-place_formed
 returns-then-not-place_formed c =
-    let p = (goal.at.returns-then-not-place_formed (goal.at.returns-then-not-place_formed c).Then-not-place_formed).After-read_u32_le-id in
+    let p = (goal.at.returns-then-not-place_formed c).After-read_u32_le-id in
     fails p (turned p false _ (sym (c.if-not-place_formed.true) ∙ c.place_formed.ensures) refl)
 
 pub key_again-requires : goal.key_again-requires
@@ -85,7 +85,7 @@ pub loop-at-preserved : goal.loop-at-preserved
 loop-at-preserved c =
     let formed = c in
     let low = c in
-    let p = (goal.at.loop-at-preserved (goal.at.loop-at-preserved c).Else-key_again).After-read_u32_le-id in
+    let p = (goal.at.loop-at-preserved c).After-read_u32_le-id in
     let a = p.args in
     let l = p.loop-at in
     let own = own_keys a.own.now in

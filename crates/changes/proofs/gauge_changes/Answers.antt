@@ -18,7 +18,7 @@ answered s r = listed r s.args.output.now
 
 pub returns-in_default : goal.returns-in_default
 returns-in_default c =
-    let m = (goal.at.returns-in_default (goal.at.returns-in_default c).After-answer_of).After-memory-first in
+    let m = (goal.at.returns-in_default c).After-memory-first in
     let s = start m in
     let a = s.args in
     ap (answered s) c.answer_of.ensures
@@ -28,7 +28,7 @@ pub returns-in_default-second : goal.returns-in_default-second
 returns-in_default-second c =
     let f = c in
     let first = c in
-    let m = (goal.at.returns-in_default-second (goal.at.returns-in_default-second c).After-answer_of-in_default-second).After-memory-first in
+    let m = (goal.at.returns-in_default-second c).After-memory-first in
     let s = start m in
     let a = s.args in
     ap (answered s) c.answer_of-in_default-second.ensures
@@ -40,7 +40,7 @@ returns-then-before-after c =
     let second = c in
     let f = c in
     let first = c in
-    let m = (goal.at.returns-then-before-after (goal.at.returns-then-before-after c).After-answer_of-then-before-after).After-memory-first in
+    let m = (goal.at.returns-then-before-after c).After-memory-first in
     let s = start m in
     let a = s.args in
     ap (answered s) c.answer_of-then-before-after.ensures
@@ -52,7 +52,7 @@ list-requires c =
     let second = c in
     let f = c in
     let first = c in
-    let m = (goal.at.list-requires (goal.at.list-requires c).After-list-arg-1).After-memory-first in
+    let m = (goal.at.list-requires c).After-memory-first in
     let a = (start m).args in
     within a.own.now a.«before».now a.«after».now a.output.now m.memory-first.ensures first.in-Good.is f.form-second.ensures
     second.in-Good-second.is
@@ -64,7 +64,7 @@ returns c =
     let second = c in
     let f = c in
     let first = c in
-    let m = (goal.at.returns (goal.at.returns c).After-slice_known-2-1).After-memory-first in
+    let m = (goal.at.returns c).After-memory-first in
     let a = (start m).args in
     called.list.ensures
     ∙ all_right a.own.now a.«before».now a.«after».now a.output.now m.memory-first.ensures first.in-Good.is f.form-second.ensures

@@ -41,13 +41,13 @@ overflow_mul-size c = omega (arith, few (goal.at.overflow_mul-size c).After-coun
 
 pub returns-then-output-size : goal.returns-then-output-size
 returns-then-output-size c =
-    let n = (goal.at.returns-then-output-size (goal.at.returns-then-output-size c).After-answer_of).After-count-entries in
+    let n = (goal.at.returns-then-output-size c).After-count-entries in
     let out = (start n).args.output.now in
     ap (λ (r : Answer). listed r out) c.answer_of.ensures ∙ no_room (whole n) out n.count-entries.result n.count-entries.ensures c.if-output-size.true
 
 pub write-requires : goal.write-requires
 write-requires c =
-    let n = (goal.at.write-requires (goal.at.write-requires c).After-write-arg-1).After-count-entries in
+    let n = (goal.at.write-requires c).After-count-entries in
     let s = start n in
     (s.requires.0, s.requires.1, s.requires.2, s.requires.3, omega (arith, n.count-entries.ensures, c.if-output-size.false))
 
@@ -57,7 +57,7 @@ answer_of-requires-2 c = let h = few c.before.before.before.before.before in (om
 pub returns : goal.returns
 returns c =
     let w = c in
-    let n = (goal.at.returns (goal.at.returns c).After-answer_of-2).After-count-entries in
+    let n = (goal.at.returns c).After-count-entries in
     let out = (start n).args.output.now in
     ap₂ listed c.answer_of-2.ensures w.write.ensures
     ∙ some-room (whole n) out n.count-entries.result n.count-entries.ensures (omega (arith, w.if-output-size.false))

@@ -38,14 +38,14 @@ write_cpa-wrote-requires c = let f = few c.before in let r = fits_in c.before in
 pub answer_of-requires : goal.answer_of-requires
 answer_of-requires c =
     let w = c in
-    let f = (goal.at.answer_of-requires (goal.at.answer_of-requires c).After-slice_known-2-1).After-cpa_at-cpa in
+    let f = (goal.at.answer_of-requires c).After-cpa_at-cpa in
     let a = (s f).args in
     (cpa-few a.major a.minor a.id a.acked (cpa f) (few f) (fits_in f) w.write_cpa-wrote.ensures, omega arith)
 
 pub returns : goal.returns
 returns c =
     let w = c in
-    let f = (goal.at.returns (goal.at.returns c).After-answer_of).After-cpa_at-cpa in
+    let f = (goal.at.returns c).After-cpa_at-cpa in
     let a = (s f).args in
     let made : List ℕ → List (List ℕ) = λ (b : List ℕ). (cpa_made a.major a.minor a.id a.acked b).bytes ∷ [] in record {
       value = c.answer_of.ensures

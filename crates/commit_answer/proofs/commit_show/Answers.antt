@@ -64,7 +64,7 @@ send_closest-first-requires c =
 
 pub returns-then-not-opens : goal.returns-then-not-opens
 returns-then-not-opens c =
-    let shows = (goal.at.returns-then-not-opens (goal.at.returns-then-not-opens c).After-answer_of).After-send_closest-first in
+    let shows = (goal.at.returns-then-not-opens c).After-send_closest-first in
     let a = (s shows).args in
     let e : a.opens ≡ false = c.if-not-opens.true in
     let none = none-behind a.major a.minor a.id (shown shows) a.opens a.nonce.now (named shows) e in record { value = c.answer_of.ensures ∙ ap (λ (l : ℕ). answer 0 l 0) shows.send_closest-first.ensures.value.0 ∙ ap lengths (sym none); waiting_after = rw e refl; output_after = shows.send_closest-first.ensures.output_after ∙ ap (λ (ds : List (List ℕ)). sending ds a.output.now) (sym none) }
@@ -72,7 +72,7 @@ returns-then-not-opens c =
 pub ask-requires : goal.ask-requires
 ask-requires c =
     let i = c in
-    let shows = (goal.at.ask-requires (goal.at.ask-requires c).After-ask-arg-2-1).After-send_closest-first in
+    let shows = (goal.at.ask-requires c).After-send_closest-first in
     let a = (s shows).args in
     let p = (s shows).requires.used_bound in
     let e : a.opens ≡ true = i.if-not-opens.false in
@@ -84,7 +84,7 @@ pub returns : goal.returns
 returns c =
     let at-ask = c in
     let i = c in
-    let shows = (goal.at.returns (goal.at.returns c).After-answer_of-2).After-send_closest-first in
+    let shows = (goal.at.returns c).After-send_closest-first in
     let a = (s shows).args in
     let p = (s shows).requires.used_bound in
     let e : a.opens ≡ true = i.if-not-opens.false in

@@ -56,7 +56,7 @@ closest-shown-requires c =
 pub returns : goal.returns
 returns c =
     let wrote = c in
-    let m = (goal.at.returns (goal.at.returns c).After-slice_known-2-1).After-closest-shown in
+    let m = (goal.at.returns c).After-closest-shown in
     let a = (s m).args in
     let w = rw (is m) at wrote.write_closest-wrote.ensures in
     let fits = (s m).requires.4 in record {

@@ -39,15 +39,15 @@ overflow_mul-at c =
 
 pub send_flood-requires : goal.send_flood-requires
 send_flood-requires c =
-    let i = (goal.at.send_flood-requires (goal.at.send_flood-requires c).After-send_flood-arg-1).Then-ours in
+    let i = (goal.at.send_flood-requires c).Then-ours in
     let p = (start (goal.at.Then-ours i).After-open_flood).requires in
     (p.3, p.4 i.if-ours.true, ap record_form (ours-is i) ∙ p.6, omega (arith, ap flood_room (ours-is i), p.7))
 
 pub returns-then-ours : goal.returns-then-ours
 returns-then-ours c =
     let f = c in
-    let i = (goal.at.returns-then-ours (goal.at.returns-then-ours c).After-slice_known-then-ours-1).Then-ours in
-    let o = (goal.at.returns-then-ours (goal.at.returns-then-ours c).After-slice_known-then-ours-1).After-open_flood in
+    let i = (goal.at.returns-then-ours c).Then-ours in
+    let o = (goal.at.returns-then-ours c).After-open_flood in
     let a = (start o).args in
     let made : List ℕ → List (List ℕ) = λ (r : List ℕ). (flood_made a.major a.minor a.id a.neighbour.now r 0).bytes ∷ [] in record { value = f.send_flood.ensures.value ∙ ap (λ (r : List ℕ). lengths (made r)) (ours-is i); waiting_after = o.open_flood.ensures; output_after = f.send_flood.ensures.output_after ∙ ap (λ (r : List ℕ). sending (made r) a.output.now) (ours-is i) }
 
@@ -58,14 +58,14 @@ overflow_mul-at-2 c =
 
 pub send_flood-requires-2 : goal.send_flood-requires-2
 send_flood-requires-2 c =
-    let i = (goal.at.send_flood-requires-2 (goal.at.send_flood-requires-2 c).After-send_flood-arg-2-1).Else-ours in
+    let i = (goal.at.send_flood-requires-2 c).Else-ours in
     let p = (start (goal.at.Else-ours i).After-open_flood).requires in
     (p.3, p.5 i.if-ours.false, ap record_form (held-is i) ∙ p.6, omega (arith, ap flood_room (held-is i), p.7))
 
 pub returns : goal.returns
 returns c =
     let f = c in
-    let i = (goal.at.returns (goal.at.returns c).After-slice_known-4-1).Else-ours in
-    let o = (goal.at.returns (goal.at.returns c).After-slice_known-4-1).After-open_flood in
+    let i = (goal.at.returns c).Else-ours in
+    let o = (goal.at.returns c).After-open_flood in
     let a = (start o).args in
     let made : List ℕ → List (List ℕ) = λ (r : List ℕ). (flood_made a.major a.minor a.id a.neighbour.now r 0).bytes ∷ [] in record { value = f.send_flood-2.ensures.value ∙ ap (λ (r : List ℕ). lengths (made r)) (held-is i); waiting_after = o.open_flood.ensures; output_after = f.send_flood-2.ensures.output_after ∙ ap (λ (r : List ℕ). sending (made r) a.output.now) (held-is i) }

@@ -29,14 +29,14 @@ planned c e o = sym (c.plan_send-plan.ensures o) ∙ e
 pub commit_send-requires : goal.commit_send-requires
 commit_send-requires c =
     let k = c in
-    let m = (goal.at.commit_send-requires (goal.at.commit_send-requires c).After-commit_send-arg-in-Flood-1).After-plan_send-plan in
+    let m = (goal.at.commit_send-requires c).After-plan_send-plan in
     let w = send-needs (memory-at m (empty 0)) (lent_at m) (planned m k.in-Flood.is (empty 0)) in
     (w.0, w.1, w.2, omega (arith, w.3, w.8), w.4, w.5, w.6, w.7)
 
 pub returns-in-Refuse : goal.returns-in-Refuse
 returns-in-Refuse c o =
     let k = c in
-    let m = (goal.at.returns-in-Refuse (goal.at.returns-in-Refuse c).After-answer_of).After-plan_send-plan in
+    let m = (goal.at.returns-in-Refuse c).After-plan_send-plan in
     send_refused (memory-at m o) (lent_at m) (planned m k.in-Refuse.is o) c.answer_of.ensures
 
 pub returns-in-Flood : goal.returns-in-Flood
@@ -44,5 +44,5 @@ returns-in-Flood c o =
     let d = c in
     let w = d.commit_send.ensures in
     let k = c in
-    let m = (goal.at.returns-in-Flood (goal.at.returns-in-Flood c).After-slice_known-in-Flood-2-1).After-plan_send-plan in
+    let m = (goal.at.returns-in-Flood c).After-plan_send-plan in
     send-sent (memory-at m o) (lent_at m) (planned m k.in-Flood.is o) w.0 w.1.0 w.1.1

@@ -46,57 +46,57 @@ planned c e = plan-by (memory-at c) (lent_at c) (handed-in (goal.at.After-plan_r
 pub returns-then-not-hands_fit : goal.returns-then-not-hands_fit
 unfolding carried
 returns-then-not-hands_fit c =
-    let s = (goal.at.returns-then-not-hands_fit (goal.at.returns-then-not-hands_fit c).After-answer_of).Start in
+    let s = (goal.at.returns-then-not-hands_fit c).Start in
     rw c.answer_of.ensures (sym (call_by (memory-of s) (lent_of s) (plan-hands (memory-of s) (lent_of s)
     (sym (c.hands_fit.ensures (lent_of s)) ∙ c.if-not-hands_fit.true))))
 
 pub plan_receive-plan-requires : goal.plan_receive-plan-requires
 plan_receive-plan-requires c =
-    let e = (goal.at.plan_receive-plan-requires (goal.at.plan_receive-plan-requires c).Else-not-hands_fit).After-shared_slice_known-4-1 in
+    let e = (goal.at.plan_receive-plan-requires c).After-shared_slice_known-4-1 in
     plan-needs (memory-of (tested e)) (lent_of (tested e)) (handed-in e)
 
 pub commit_flood-requires : goal.commit_flood-requires
 commit_flood-requires c =
     let k = c in
-    let m = (goal.at.commit_flood-requires (goal.at.commit_flood-requires c).After-commit_flood-arg-in-Flood-1).After-plan_receive-plan in
+    let m = (goal.at.commit_flood-requires c).After-plan_receive-plan in
     flood-needs (memory-at m) (lent_at m) (planned m k.in-Flood.is)
 
 pub commit_revoke-requires : goal.commit_revoke-requires
 commit_revoke-requires c =
     let k = c in
-    let m = (goal.at.commit_revoke-requires (goal.at.commit_revoke-requires c).After-commit_revoke-arg-in-Revoke-3-1).After-plan_receive-plan in
+    let m = (goal.at.commit_revoke-requires c).After-plan_receive-plan in
     revoke-needs (memory-at m) (lent_at m) (planned m k.in-Revoke.is)
 
 pub commit_learn-requires : goal.commit_learn-requires
 commit_learn-requires c =
     let k = c in
-    let m = (goal.at.commit_learn-requires (goal.at.commit_learn-requires c).After-commit_learn-arg-in-Learn-2-1).After-plan_receive-plan in
+    let m = (goal.at.commit_learn-requires c).After-plan_receive-plan in
     learn-needs (memory-at m) (lent_at m) (planned m k.in-Learn.is)
 
 pub commit_free-requires : goal.commit_free-requires
 commit_free-requires c =
     let k = c in
-    let m = (goal.at.commit_free-requires (goal.at.commit_free-requires c).After-commit_free-arg-in-Free-2-1).After-plan_receive-plan in
+    let m = (goal.at.commit_free-requires c).After-plan_receive-plan in
     free-needs (memory-at m) (lent_at m) (planned m k.in-Free.is)
 
 pub commit_cpa-requires : goal.commit_cpa-requires
 commit_cpa-requires c =
     let all = let k = c in
-    let m = (goal.at.commit_cpa-requires (goal.at.commit_cpa-requires c).After-commit_cpa-arg-1).After-plan_receive-plan in
+    let m = (goal.at.commit_cpa-requires c).After-plan_receive-plan in
     let p = planned m k.in-Certify.is in
     cpa-needs (memory-at m) (lent_at m) p in record { by_index = all.0; cpas_in_bounds = all.1 }
 
 pub commit_show-requires : goal.commit_show-requires
 commit_show-requires c =
     let all = let k = c in
-    let m = (goal.at.commit_show-requires (goal.at.commit_show-requires c).After-commit_show-arg-in-Show-1).Else-not-hands_fit in
+    let m = (goal.at.commit_show-requires c).Else-not-hands_fit in
     show-needs (memory-at m) (lent_at m) (planned m k.in-Show.is) in record { used_bound = all.0; own_value = all.1 }
 
 pub returns-in-Refuse : goal.returns-in-Refuse
 unfolding carried
 returns-in-Refuse c =
     let k = c in
-    let m = (goal.at.returns-in-Refuse (goal.at.returns-in-Refuse c).After-answer_of-in-Refuse).After-plan_receive-plan in
+    let m = (goal.at.returns-in-Refuse c).After-plan_receive-plan in
     rw c.answer_of-in-Refuse.ensures (sym (call_by (memory-at m) (lent_at m) (planned m k.in-Refuse.is)))
 
 pub returns-in-Flood : goal.returns-in-Flood
@@ -104,7 +104,7 @@ unfolding carried
 returns-in-Flood c =
     let w = c.commit_flood.ensures in
     let k = c in
-    let m = (goal.at.returns-in-Flood (goal.at.returns-in-Flood c).After-slice_known-in-Flood-2-1).After-plan_receive-plan in
+    let m = (goal.at.returns-in-Flood c).After-plan_receive-plan in
     rw (w.0, w.1.0, w.1.1) (sym (call_by (memory-at m) (lent_at m) (planned m k.in-Flood.is)))
 
 pub returns-in-Revoke : goal.returns-in-Revoke
@@ -112,7 +112,7 @@ unfolding carried
 returns-in-Revoke c =
     let w = c.commit_revoke.ensures in
     let k = c in
-    let m = (goal.at.returns-in-Revoke (goal.at.returns-in-Revoke c).After-slice_known-in-Revoke-4-1).After-plan_receive-plan in
+    let m = (goal.at.returns-in-Revoke c).After-plan_receive-plan in
     rw (w.0, w.1.0, w.1.1.0, w.1.1.1.0, w.1.1.1.1) (sym (call_by (memory-at m) (lent_at m) (planned m k.in-Revoke.is)))
 
 pub returns-in-Learn : goal.returns-in-Learn
@@ -120,7 +120,7 @@ unfolding carried
 returns-in-Learn c =
     let d = c in
     let k = c in
-    let m = (goal.at.returns-in-Learn (goal.at.returns-in-Learn c).After-answer_of-in-Learn).After-plan_receive-plan in
+    let m = (goal.at.returns-in-Learn c).After-plan_receive-plan in
     let w = d.commit_learn.ensures in
     rw (c.answer_of-in-Learn.ensures, w.0, w.1.0, w.1.1) (sym (call_by (memory-at m) (lent_at m) (planned m k.in-Learn.is)))
 
@@ -129,7 +129,7 @@ unfolding carried
 returns-in-Free c =
     let d = c in
     let k = c in
-    let m = (goal.at.returns-in-Free (goal.at.returns-in-Free c).After-answer_of-in-Free).After-plan_receive-plan in
+    let m = (goal.at.returns-in-Free c).After-plan_receive-plan in
     let w = d.commit_free.ensures in
     rw (c.answer_of-in-Free.ensures, w.0, w.1.0, w.1.1) (sym (call_by (memory-at m) (lent_at m) (planned m k.in-Free.is)))
 
@@ -138,7 +138,7 @@ unfolding carried
 returns-in-Certify c =
     let d = c in
     let k = c in
-    let m = (goal.at.returns-in-Certify (goal.at.returns-in-Certify c).After-slice_known-in-Certify-1).After-plan_receive-plan in
+    let m = (goal.at.returns-in-Certify c).After-plan_receive-plan in
     rw (d.commit_cpa.ensures.value, d.commit_cpa.ensures.output_after) (sym (call_by (memory-at m) (lent_at m) (planned m k.in-Certify.is)))
 
 pub returns-in-Show : goal.returns-in-Show
@@ -147,5 +147,5 @@ returns-in-Show c =
     let d = c in
     let w = d.commit_show.ensures in
     let k = c in
-    let m = (goal.at.returns-in-Show (goal.at.returns-in-Show c).After-slice_known-in-Show-2-1).Else-not-hands_fit in
+    let m = (goal.at.returns-in-Show c).Else-not-hands_fit in
     rw (w.0, w.1.0, w.1.1) (sym (call_by (memory-at m) (lent_at m) (planned m k.in-Show.is)))

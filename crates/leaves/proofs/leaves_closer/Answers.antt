@@ -36,13 +36,13 @@ returns-then-j-ne32 c = simp (eq-eqb _ _ c.if-target-ne32.false, eq-eqb _ _ c.if
 pub returns-then-is_closer : goal.returns-then-is_closer
 unfolding closer_or2
 returns-then-is_closer c =
-    let if3 = (goal.at.returns-then-is_closer (goal.at.returns-then-is_closer c).Then-is_closer).Else-j-ne32 in
+    let if3 = (goal.at.returns-then-is_closer c).Else-j-ne32 in
     let told : closer (key_at 0 (target if3)) (key_at 0 (nearer if3)) (key_at 0 (farther if3)) ≡ true = cc in
     simp (eq-eqb _ _ if3.if-target-ne32.false, eq-eqb _ _ if3.if-k-ne32.false, eq-eqb _ _ if3.if-j-ne32.false, told)
 
 pub returns-else-is_closer : goal.returns-else-is_closer
 unfolding closer_or2
 returns-else-is_closer c =
-    let if3 = (goal.at.returns-else-is_closer (goal.at.returns-else-is_closer c).Else-is_closer).Else-j-ne32 in
+    let if3 = (goal.at.returns-else-is_closer c).Else-j-ne32 in
     let told : closer (key_at 0 (target if3)) (key_at 0 (nearer if3)) (key_at 0 (farther if3)) ≡ false = cc in
     simp (eq-eqb _ _ if3.if-target-ne32.false, eq-eqb _ _ if3.if-k-ne32.false, eq-eqb _ _ if3.if-j-ne32.false, told)

@@ -74,13 +74,13 @@ hundred i s =
 pub returns-in-Own : goal.returns-in-Own
 returns-in-Own c =
     let place = c in
-    let found = (goal.at.returns-in-Own (goal.at.returns-in-Own c).After-leaves_u64).After-closest_record-sighted in
+    let found = (goal.at.returns-in-Own c).After-closest_record-sighted in
     c.leaves_u64.ensures ∙ hundred place.in-Own.i (start found).args.own.now
     ∙ ap (word_or0 24) (shows found _ place.in-Own.is)
 
 pub returns-in-Held : goal.returns-in-Held
 returns-in-Held c =
     let place = c in
-    let found = (goal.at.returns-in-Held (goal.at.returns-in-Held c).After-leaves_u64-in-Held).After-closest_record-sighted in
+    let found = (goal.at.returns-in-Held c).After-closest_record-sighted in
     c.leaves_u64-in-Held.ensures ∙ hundred place.in-Held.i (start found).args.cache.now
     ∙ ap (word_or0 24) (shows found _ place.in-Held.is)

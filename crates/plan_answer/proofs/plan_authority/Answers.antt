@@ -1,5 +1,6 @@
 -- `plan_answer::plan_authority` meets its contract: by the place that is found, then by each test. Assumes nothing.
-use mathlib.Core.Path.{◌≡◌, sym, ◌∙◌}
+use mathlib.Core.Path.{◌≡◌, sym, ap, ◌∙◌}
+use mathlib.Core.Bool.{not}
 use Prim.Native.Nat.{ℕ, ◌<◌}
 use native.Mathlib.Omega.{arith}
 use borrow.Author.Rules.{rules}
@@ -37,13 +38,13 @@ pub returns-then-not-cpa : goal.returns-then-not-cpa
 returns-then-not-cpa c =
     let a = (start (goal.at.returns-then-not-cpa c).In-At).args in
     sym (authority-bare (rows 140 a.used a.waiting.now) a.held a.used a.verdict (key_at 0 a.key.now) a.acked a.cpa
-    (found (goal.at.returns-then-not-cpa c).In-At) c.if-not-cpa.true)
+    (found (goal.at.returns-then-not-cpa c).In-At) (ap not c.if-not-cpa.true))
 
 pub returns-then-verdict-ne1 : goal.returns-then-verdict-ne1
 returns-then-verdict-ne1 c =
     let a = (start (goal.at.returns-then-verdict-ne1 c).In-At).args in
     sym (authority-bad (rows 140 a.used a.waiting.now) a.held a.used a.verdict (key_at 0 a.key.now) a.acked a.cpa
-    (found (goal.at.returns-then-verdict-ne1 c).In-At) c.if-not-cpa.false c.if-verdict-ne1.true)
+    (found (goal.at.returns-then-verdict-ne1 c).In-At) (ap not c.if-not-cpa.false) c.if-verdict-ne1.true)
 
 pub overflow_mul-at : goal.overflow_mul-at
 overflow_mul-at c = omega (arith, inside (goal.at.overflow_mul-at c).In-At)
@@ -56,16 +57,16 @@ same_at-requires c = record { a_in_bounds = omega arith; b_in_bounds = omega (ar
 
 pub returns-then-not-same_at : goal.returns-then-not-same_at
 returns-then-not-same_at c =
-    let k = (goal.at.returns-then-not-same_at (goal.at.returns-then-not-same_at c).Then-not-same_at).In-At in
+    let k = (goal.at.returns-then-not-same_at c).In-At in
     let a = (start k).args in
     sym (authority-other (rows 140 a.used a.waiting.now) a.held a.used a.verdict (key_at 0 a.key.now) a.acked a.cpa
-    (found k) c.if-not-cpa.false c.if-verdict-ne1.false
+    (found k) (ap not c.if-not-cpa.false) c.if-verdict-ne1.false
     (place_key_lem (is_at a.acked 2) a.used (place k) a.waiting.now (found k)) (sym c.same_at.ensures ∙ c.if-not-same_at.true))
 
 pub returns : goal.returns
 returns c =
-    let k = (goal.at.returns (goal.at.returns c).Else-not-same_at).In-At in
+    let k = (goal.at.returns c).In-At in
     let a = (start k).args in
     sym (authority-right (rows 140 a.used a.waiting.now) a.held a.used a.verdict (key_at 0 a.key.now) a.acked a.cpa
-    (found k) c.if-not-cpa.false c.if-verdict-ne1.false
+    (found k) (ap not c.if-not-cpa.false) c.if-verdict-ne1.false
     (place_key_lem (is_at a.acked 2) a.used (place k) a.waiting.now (found k)) (sym c.same_at.ensures ∙ c.if-not-same_at.false))

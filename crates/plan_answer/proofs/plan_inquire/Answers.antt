@@ -66,14 +66,14 @@ overflow_add-cpa c = omega (arith, few (goal.at.overflow_add-cpa c).After-cpa_at
 pub returns-then-room-cpa : goal.returns-then-room-cpa
 unfolding inquire_plan or_refuse
 returns-then-room-cpa c =
-    let p = (goal.at.returns-then-room-cpa (goal.at.returns-then-room-cpa c).Then-room-cpa).After-cpa_at-cpa in
+    let p = (goal.at.returns-then-room-cpa c).After-cpa_at-cpa in
     let a = (start p).args in
     rw (is_ours (goal.at.After-cpa_at-cpa p).Else-not-is_own, lt-ltb a.room (40 + length (ours p)) (omega (arith, c.if-room-cpa.true, found p))) refl
 
 pub returns : goal.returns
 unfolding inquire_plan or_refuse
 returns c =
-    let p = (goal.at.returns (goal.at.returns c).Else-room-cpa).After-cpa_at-cpa in
+    let p = (goal.at.returns c).After-cpa_at-cpa in
     let a = (start p).args in
     ap (Certify a.acked) p.place_of-at.ensures.value
     ∙ rw (is_ours (goal.at.After-cpa_at-cpa p).Else-not-is_own, le-ltb a.room (40 + length (ours p)) (omega (arith, c.if-room-cpa.false, found p))) refl

@@ -98,7 +98,7 @@ asks_for-opens-requires c =
 
 pub returns-then-barred-ne0 : goal.returns-then-barred-ne0
 returns-then-barred-ne0 c =
-    let h = (goal.at.returns-then-barred-ne0 (goal.at.returns-then-barred-ne0 c).Then-barred-ne0).After-open_refusal-barred in
+    let h = (goal.at.returns-then-barred-ne0 c).After-open_refusal-barred in
     let a = (s h).args in
     sym (lookup-barred a.own.now (recs h) (ps h) a.held a.used a.id a.room a.d.now a.acked a.target a.path a.size a.start a.len
     h.asks_for-opens.ensures (stands-against h) (omega (arith, c.if-barred-ne0.true)))
@@ -108,11 +108,11 @@ overflow_add-asked c = omega (arith, asked (goal.at.overflow_add-asked c).After-
 
 pub returns-then-room-asked : goal.returns-then-room-asked
 returns-then-room-asked c =
-    let m = (goal.at.returns-then-room-asked (goal.at.returns-then-room-asked c).Then-room-asked).After-inquire_room-asked in
+    let m = (goal.at.returns-then-room-asked c).After-inquire_room-asked in
     sym (by-room m ∙ row_applies Refuse 15 _ [] _ (lt-ltb (s (at_open m)).args.room (room_for m) (omega (arith, c.if-room-asked.true, m.inquire_room-asked.ensures))))
 
 pub returns : goal.returns
 returns c =
-    let m = (goal.at.returns (goal.at.returns c).Else-room-asked).After-inquire_room-asked in
+    let m = (goal.at.returns c).After-inquire_room-asked in
     sym (by-room m ∙ row_passes Refuse 15 _ [] _ (le-ltb (s (at_open m)).args.room (room_for m) (omega (arith, c.if-room-asked.false, m.inquire_room-asked.ensures)))
     ∙ no_row Refuse _)

@@ -54,7 +54,7 @@ plan c =
 
 other_key : (c : After-open_refusal-barred)
     → (let a = (start c).args in is_own (own_keys a.own.now) (key_of (record_of (part a.start a.len a.d.now)))) ≡ false
-other_key c = let e = c in own_key (goal.at.Else-is_own e).After-is_own ∙ e.if-is_own.false
+other_key c = let e = c in own_key (goal.at.After-open_refusal-barred e).After-is_own ∙ e.if-is_own.false
 
 stands-against : (c : After-open_refusal-barred)
     → (let a = (start c).args in
@@ -86,7 +86,7 @@ must_ask-opens-requires c =
 
 pub returns-then-barred-ne0 : goal.returns-then-barred-ne0
 returns-then-barred-ne0 c =
-    let h = (goal.at.returns-then-barred-ne0 (goal.at.returns-then-barred-ne0 c).Then-barred-ne0).After-open_refusal-barred in
+    let h = (goal.at.returns-then-barred-ne0 c).After-open_refusal-barred in
     let a = (start h).args in
     sym (flood-barred (own_keys a.own.now) (rows 100 a.held a.cache.now) (rows 140 a.used a.waiting.now) a.used a.id a.room
     a.d.now a.silent a.acked a.validate a.start a.len (other_key h) h.not_ours-n.ensures
@@ -94,7 +94,7 @@ returns-then-barred-ne0 c =
 
 pub overflow_add-ack_room : goal.overflow_add-ack_room
 overflow_add-ack_room c =
-    let h = (goal.at.overflow_add-ack_room (goal.at.overflow_add-ack_room c).After-inquire_room).After-open_refusal-barred in
+    let h = (goal.at.overflow_add-ack_room c).After-open_refusal-barred in
     omega (arith, c.inquire_room.ensures, c.ack_room.ensures, ack_most (start h).args.silent (n h), inquire_most (opens h))
 
 -- only room is left to be refused for
@@ -102,11 +102,11 @@ abbrev room_for : After-open_refusal-barred → ℕ
 room_for h = ack_room (start h).args.silent (n h) + inquire_room (opens h)
 
 by-room : (c : After-inquire_room)
-    → (let h = c.before.before.before in
+    → (let h = (goal.at.After-inquire_room c).After-open_refusal-barred in
     let a = (start h).args in
     plan h ≡ or_refuse Refuse (when 15 (ltb a.room (room_for h)) ∷ []) (Flood a.used a.silent (n h) a.acked (opens h) a.start a.len))
 by-room c =
-    let h = c.before.before.before in
+    let h = (goal.at.After-inquire_room c).After-open_refusal-barred in
     let a = (start h).args in
     flood-by (own_keys a.own.now) (rows 100 a.held a.cache.now) (rows 140 a.used a.waiting.now) a.used a.id a.room
     a.d.now a.silent a.acked a.validate a.start a.len (other_key h) h.not_ours-n.ensures
@@ -114,12 +114,12 @@ by-room c =
 
 pub returns-then-room-ack_room : goal.returns-then-room-ack_room
 returns-then-room-ack_room c =
-    let h = (goal.at.returns-then-room-ack_room (goal.at.returns-then-room-ack_room c).Then-room-ack_room).After-open_refusal-barred in
+    let h = (goal.at.returns-then-room-ack_room c).After-open_refusal-barred in
     sym (by-room (goal.at.returns-then-room-ack_room c).After-inquire_room ∙ row_applies Refuse 15 _ _ _ (lt-ltb (start h).args.room (room_for h)
     (omega (arith, c.if-room-ack_room.true, c.inquire_room.ensures, c.ack_room.ensures))))
 
 pub returns : goal.returns
 returns c =
-    let h = (goal.at.returns (goal.at.returns c).Else-room-ack_room).After-open_refusal-barred in
+    let h = (goal.at.returns c).After-open_refusal-barred in
     sym (by-room (goal.at.returns c).After-inquire_room ∙ row_passes Refuse 15 _ _ _ (le-ltb (start h).args.room (room_for h)
     (omega (arith, c.if-room-ack_room.false, c.inquire_room.ensures, c.ack_room.ensures))) ∙ no_row Refuse _)

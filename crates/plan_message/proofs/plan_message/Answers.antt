@@ -39,21 +39,21 @@ by m P f =
 
 pub plan_revoke-requires : goal.plan_revoke-requires
 plan_revoke-requires c =
-    let m = (goal.at.plan_revoke-requires (goal.at.plan_revoke-requires c).Then-seen-eq0).After-brief_at-told in
+    let m = (goal.at.plan_revoke-requires c).After-brief_at-told in
     let s = start m in
     let d = s.args.datagram.now in
     (s.requires.0, omega (arith, s.requires.4), by m (KnownFlood d) (known-flood d) (known_answer d s.args.major) c.in-4.is)
 
 pub returns-then-seen-eq0 : goal.returns-then-seen-eq0
 returns-then-seen-eq0 c o l =
-    let m = (goal.at.returns-then-seen-eq0 (goal.at.returns-then-seen-eq0 c).After-plan_revoke).After-brief_at-told in
+    let m = (goal.at.returns-then-seen-eq0 c).After-brief_at-told in
     let s = start m in
     c.plan_revoke.ensures
     ∙ sym (by m (RevokeBy (memory-at s o) (lent_at s l) s.args.held s.args.used) (revoke-by (memory-at s o) (lent_at s l) s.args.held s.args.used) (known_answer s.args.datagram.now s.args.major) c.in-4.is c.if-seen-eq0.true)
 
 pub plan_flood-requires : goal.plan_flood-requires
 plan_flood-requires c =
-    let m = (goal.at.plan_flood-requires (goal.at.plan_flood-requires c).After-struct_known-in-4-2-1).After-brief_at-told in
+    let m = (goal.at.plan_flood-requires c).After-brief_at-told in
     let s = start m in
     let d = s.args.datagram.now in
     let k = c.in-4.is in
@@ -62,7 +62,7 @@ plan_flood-requires c =
 
 pub plan_inquire-requires : goal.plan_inquire-requires
 plan_inquire-requires c =
-    let m = (goal.at.plan_inquire-requires (goal.at.plan_inquire-requires c).In-7).After-brief_at-told in
+    let m = (goal.at.plan_inquire-requires c).After-brief_at-told in
     let s = start m in
     let d = s.args.datagram.now in
     (s.requires.0, s.requires.1, by m (KnownInquire d) (known-inquire d) (known_answer d s.args.major) c.in-7.is)
@@ -81,65 +81,65 @@ told-lookup c =
     by m (KnownLookup d) (known-lookup d) (known_answer d s.args.major) c.in-11.is
 
 pub overflow_add-told : goal.overflow_add-told
-overflow_add-told c = let p = (goal.at.overflow_add-told (goal.at.overflow_add-told c).After-struct_known-in-11-2-1).In-11 in omega (arith, (told-lookup p).2, (start (goal.at.In-11 p).After-brief_at-told).well-formed)
+overflow_add-told c = let p = (goal.at.overflow_add-told c).In-11 in omega (arith, (told-lookup p).2, (start (goal.at.In-11 p).After-brief_at-told).well-formed)
 
 pub overflow_sub-told : goal.overflow_sub-told
 overflow_sub-told c = omega (arith, (told-lookup (goal.at.overflow_sub-told c).In-11).1)
 
 pub overflow_cast-seen-in-11-3 : goal.overflow_cast-seen-in-11-3
-overflow_cast-seen-in-11-3 c = let p = (goal.at.overflow_cast-seen-in-11-3 (goal.at.overflow_cast-seen-in-11-3 c).After-struct_known-in-11-5-1).In-11 in omega (arith, (told-lookup p).3, (start (goal.at.In-11 p).After-brief_at-told).well-formed)
+overflow_cast-seen-in-11-3 c = let p = (goal.at.overflow_cast-seen-in-11-3 c).In-11 in omega (arith, (told-lookup p).3, (start (goal.at.In-11 p).After-brief_at-told).well-formed)
 
 pub plan_lookup-requires : goal.plan_lookup-requires
 plan_lookup-requires c =
-    let p = (goal.at.plan_lookup-requires (goal.at.plan_lookup-requires c).After-struct_known-in-11-5-1).In-11 in
+    let p = (goal.at.plan_lookup-requires c).In-11 in
     let s = start p.before.before in
     let t = told-lookup p in
     (s.requires.0, s.requires.2, s.requires.3, t.0, omega (arith, t.1, t.2), t.3, t.4)
 
 pub returns-in-0 : goal.returns-in-0
 returns-in-0 c o l =
-    let m = (goal.at.returns-in-0 (goal.at.returns-in-0 c).In-0).After-brief_at-told in
+    let m = (goal.at.returns-in-0 c).After-brief_at-told in
     let s = start m in
     sym (by m (RefusedBy (memory-at s o) (lent_at s l) s.args.held s.args.used) (refused_by (memory-at s o) (lent_at s l) s.args.held s.args.used) c.in-0.is)
 
 pub returns-else-seen-eq0 : goal.returns-else-seen-eq0
 returns-else-seen-eq0 c o l =
-    let m = (goal.at.returns-else-seen-eq0 (goal.at.returns-else-seen-eq0 c).After-plan_flood).After-brief_at-told in
+    let m = (goal.at.returns-else-seen-eq0 c).After-brief_at-told in
     let s = start m in
     c.plan_flood.ensures
     ∙ sym (by m (FloodBy (memory-at s o) (lent_at s l) s.args.held s.args.used) (flood-by (memory-at s o) (lent_at s l) s.args.held s.args.used) c.in-4.is c.if-seen-eq0.false)
 
 pub returns-in-7 : goal.returns-in-7
 returns-in-7 c o l =
-    let m = (goal.at.returns-in-7 (goal.at.returns-in-7 c).After-plan_inquire).After-brief_at-told in
+    let m = (goal.at.returns-in-7 c).After-brief_at-told in
     let s = start m in
     c.plan_inquire.ensures
     ∙ sym (by m (InquireBy (memory-at s o) (lent_at s l) s.args.held s.args.used) (inquire-by (memory-at s o) (lent_at s l) s.args.held s.args.used) c.in-7.is)
 
 pub returns-in-8 : goal.returns-in-8
 returns-in-8 c o l =
-    let m = (goal.at.returns-in-8 (goal.at.returns-in-8 c).After-plan_authority).After-brief_at-told in
+    let m = (goal.at.returns-in-8 c).After-brief_at-told in
     let s = start m in
     c.plan_authority.ensures
     ∙ sym (by m (AuthorityBy (memory-at s o) (lent_at s l) s.args.held s.args.used) (authority_by (memory-at s o) (lent_at s l) s.args.held s.args.used) c.in-8.is)
 
 pub returns-in-9 : goal.returns-in-9
 returns-in-9 c o l =
-    let m = (goal.at.returns-in-9 (goal.at.returns-in-9 c).After-plan_ack).After-brief_at-told in
+    let m = (goal.at.returns-in-9 c).After-brief_at-told in
     let s = start m in
     c.plan_ack.ensures
     ∙ sym (by m (AckBy (memory-at s o) (lent_at s l) s.args.held s.args.used) (ack-by (memory-at s o) (lent_at s l) s.args.held s.args.used) c.in-9.is)
 
 pub returns-in-11 : goal.returns-in-11
 returns-in-11 c o l =
-    let m = (goal.at.returns-in-11 (goal.at.returns-in-11 c).After-plan_lookup).After-brief_at-told in
+    let m = (goal.at.returns-in-11 c).After-brief_at-told in
     let s = start m in
     c.plan_lookup.ensures
     ∙ sym (by m (LookupBy (memory-at s o) (lent_at s l) s.args.held s.args.used) (lookup-by (memory-at s o) (lent_at s l) s.args.held s.args.used) c.in-11.is)
 
 pub returns-in_default : goal.returns-in_default
 returns-in_default c o l =
-    let m = (goal.at.returns-in_default (goal.at.returns-in_default c).In_default).After-brief_at-told in
+    let m = (goal.at.returns-in_default c).After-brief_at-told in
     let s = start m in
     let r = c.in-0.rest in
     sym (by m (OtherBy (memory-at s o) (lent_at s l) s.args.held s.args.used) (other_by (memory-at s o) (lent_at s l) s.args.held s.args.used) r.0.0.0.0.0.1 r.0.0.0.0.1 r.0.0.0.1 r.0.0.1 r.0.1 r.1)

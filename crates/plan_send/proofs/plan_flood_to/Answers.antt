@@ -41,7 +41,7 @@ missing c = c.is_nothing-missing.ensures ∙ ap is_nothing c.held_at-found.ensur
 
 pub held_at-to-requires : goal.held_at-to-requires
 held_at-to-requires c =
-    let s = (goal.at.held_at-to-requires (goal.at.held_at-to-requires c).After-shared_slice_known-5-1).Start in
+    let s = (goal.at.held_at-to-requires c).Start in
     ((laid s).room, omega (arith, s.requires.3), s.requires.1.held.rising)
 
 pub returns-then-is_nothing : goal.returns-then-is_nothing
@@ -63,7 +63,7 @@ held_at-found-requires c =
 
 pub returns-then-ours-missing : goal.returns-then-ours-missing
 returns-then-ours-missing c =
-    let n = (goal.at.returns-then-ours-missing (goal.at.returns-then-ours-missing c).Then-ours-missing).After-is_nothing-missing in
+    let n = (goal.at.returns-then-ours-missing c).After-is_nothing-missing in
     let e = c in
     let s = start n in
     let a = s.args in
@@ -73,7 +73,7 @@ returns-then-ours-missing c =
 pub returns-then-barred-ne0 : goal.returns-then-barred-ne0
 returns-then-barred-ne0 c =
     let i = c in
-    let n = (goal.at.returns-then-barred-ne0 (goal.at.returns-then-barred-ne0 c).Then-barred-ne0).After-is_nothing-missing in
+    let n = (goal.at.returns-then-barred-ne0 c).After-is_nothing-missing in
     let e = c in
     let s = start n in
     let a = s.args in
@@ -83,7 +83,7 @@ returns-then-barred-ne0 c =
 
 pub sent_at-at-requires : goal.sent_at-at-requires
 sent_at-at-requires c =
-    let n = (goal.at.sent_at-at-requires (goal.at.sent_at-at-requires c).Else-barred-ne0).After-is_nothing-missing in
+    let n = (goal.at.sent_at-at-requires c).After-is_nothing-missing in
     (omega (arith, (start n).requires.4), n.is_own-ours.ensures)
 
 -- where the record stands
@@ -99,7 +99,7 @@ placed c =
 pub count_sent-count-requires : goal.count_sent-count-requires
 count_sent-count-requires c =
     let i = c in
-    let n = (goal.at.count_sent-count-requires (goal.at.count_sent-count-requires c).After-sent_at-at).After-is_nothing-missing in
+    let n = (goal.at.count_sent-count-requires c).After-is_nothing-missing in
     let s = start n in
     let a = s.args in
     let k = key_at 0 a.key.now in
@@ -110,10 +110,10 @@ count_sent-count-requires c =
 
 pub returns-then-room-count : goal.returns-then-room-count
 returns-then-room-count c =
-    let p = (goal.at.returns-then-room-count (goal.at.returns-then-room-count c).Then-room-count).After-sent_at-at in
+    let p = (goal.at.returns-then-room-count c).After-sent_at-at in
     let f = c in
     let i = c in
-    let n = (goal.at.returns-then-room-count (goal.at.returns-then-room-count c).Then-room-count).After-is_nothing-missing in
+    let n = (goal.at.returns-then-room-count c).After-is_nothing-missing in
     let e = c in
     let s = start n in
     let a = s.args in
@@ -123,10 +123,10 @@ returns-then-room-count c =
 
 pub returns : goal.returns
 returns c =
-    let p = (goal.at.returns (goal.at.returns c).Else-room-count).After-sent_at-at in
+    let p = (goal.at.returns c).After-sent_at-at in
     let f = c in
     let i = c in
-    let n = (goal.at.returns (goal.at.returns c).Else-room-count).After-is_nothing-missing in
+    let n = (goal.at.returns c).After-is_nothing-missing in
     let e = c in
     let s = start n in
     let a = s.args in

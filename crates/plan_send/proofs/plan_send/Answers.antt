@@ -19,7 +19,7 @@ surveyed m e o = sym (m.survey-memory.ensures o) ∙ e
 
 pub returns-in_default : goal.returns-in_default
 returns-in_default c o =
-    let m = (goal.at.returns-in_default (goal.at.returns-in_default c).In_default).After-survey-memory in
+    let m = (goal.at.returns-in_default c).After-survey-memory in
     let a = (start m).args in
     sym (send-unfit a.own.now _ a.id a.neighbour.now a.key.now a.room
     (surveyed m c.in_default.is o))
@@ -27,7 +27,7 @@ returns-in_default c o =
 pub returns-then-not-neighbour-key : goal.returns-then-not-neighbour-key
 returns-then-not-neighbour-key c o =
     let k = c in
-    let m = (goal.at.returns-then-not-neighbour-key (goal.at.returns-then-not-neighbour-key c).Then-not-neighbour-key).After-survey-memory in
+    let m = (goal.at.returns-then-not-neighbour-key c).After-survey-memory in
     let a = (start m).args in
     sym (send-keys a.own.now _ a.id a.neighbour.now a.key.now a.room
     (surveyed m k.in-Fit.is o) (c.if-not-neighbour-key.true))
@@ -35,7 +35,7 @@ returns-then-not-neighbour-key c o =
 pub plan_flood_to-requires : goal.plan_flood_to-requires
 plan_flood_to-requires c =
     let k = c in
-    let m = (goal.at.plan_flood_to-requires (goal.at.plan_flood_to-requires c).Else-not-neighbour-key).After-survey-memory in
+    let m = (goal.at.plan_flood_to-requires c).After-survey-memory in
     let a = (start m).args in
     send-needs a.own.now _ a.id a.neighbour.now a.key.now a.room
     (surveyed m k.in-Fit.is (empty 0)) (c.if-not-neighbour-key.false)
@@ -43,7 +43,7 @@ plan_flood_to-requires c =
 pub returns : goal.returns
 returns c o =
     let k = c in
-    let m = (goal.at.returns (goal.at.returns c).After-plan_flood_to).After-survey-memory in
+    let m = (goal.at.returns c).After-survey-memory in
     let a = (start m).args in
     c.plan_flood_to.ensures
     ∙ sym (send-planned a.own.now _ a.id a.neighbour.now a.key.now a.room

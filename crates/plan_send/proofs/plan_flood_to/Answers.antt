@@ -46,19 +46,19 @@ held_at-to-requires c =
 
 pub returns-then-is_nothing : goal.returns-then-is_nothing
 returns-then-is_nothing c =
-    let s = first c.before in
+    let s = (goal.at.returns-then-is_nothing c).Start in
     let a = s.args in
     sym (send-nobody a.own.now a.cache.now (recs s) (places s) a.used a.id a.room (key_at 0 a.neighbour.now)
     (key_at 0 a.key.now) (nobody (goal.at.returns-then-is_nothing c).After-is_nothing ∙ c.if-is_nothing.true))
 
 pub is_own-ours-requires : goal.is_own-ours-requires
 is_own-ours-requires c =
-    let s = first c.before in
+    let s = (goal.at.is_own-ours-requires c).Start in
     omega (arith, s.requires.4)
 
 pub held_at-found-requires : goal.held_at-found-requires
 held_at-found-requires c =
-    let s = first c.before.before in
+    let s = (goal.at.held_at-found-requires c).Start in
     ((laid s).room, omega (arith, s.requires.4), s.requires.1.held.rising)
 
 pub returns-then-ours-missing : goal.returns-then-ours-missing
@@ -68,7 +68,7 @@ returns-then-ours-missing c =
     let s = start n in
     let a = s.args in
     sym (send-missing a.own.now a.cache.now (recs s) (places s) a.used a.id a.room (key_at 0 a.neighbour.now)
-    (key_at 0 a.key.now) (nobody (goal.at.Else-is_nothing e).After-is_nothing ∙ e.if-is_nothing.false) n.is_own-ours.ensures (missing n) c.if-ours-missing.true)
+    (key_at 0 a.key.now) (nobody (goal.at.returns-then-ours-missing c).After-is_nothing ∙ e.if-is_nothing.false) n.is_own-ours.ensures (missing n) c.if-ours-missing.true)
 
 pub returns-then-barred-ne0 : goal.returns-then-barred-ne0
 returns-then-barred-ne0 c =
@@ -78,7 +78,7 @@ returns-then-barred-ne0 c =
     let s = start n in
     let a = s.args in
     sym (send-barred a.own.now a.cache.now (recs s) (places s) a.used a.id a.room (key_at 0 a.neighbour.now)
-    (key_at 0 a.key.now) (nobody (goal.at.Else-is_nothing e).After-is_nothing ∙ e.if-is_nothing.false) n.is_own-ours.ensures (missing n) i.if-ours-missing.false
+    (key_at 0 a.key.now) (nobody (goal.at.returns-then-barred-ne0 c).After-is_nothing ∙ e.if-is_nothing.false) n.is_own-ours.ensures (missing n) i.if-ours-missing.false
     c.open_refusal-barred.ensures (omega (arith, c.if-barred-ne0.true)))
 
 pub sent_at-at-requires : goal.sent_at-at-requires
@@ -87,10 +87,10 @@ sent_at-at-requires c =
     (omega (arith, (start n).requires.4), n.is_own-ours.ensures)
 
 -- where the record stands
-placed : (c : After-sent_at-at) → (let n = c.before.before.before.before in
+placed : (c : After-sent_at-at) → (let n = (goal.at.After-sent_at-at c).After-is_nothing-missing in
     c.sent_at-at.result ≡ sent_at (start n).args.own.now (recs (start n)) (key_at 0 (start n).args.key.now))
 placed c =
-    let n = c.before.before.before.before in
+    let n = (goal.at.After-sent_at-at c).After-is_nothing-missing in
     let a = (start n).args in
     c.sent_at-at.ensures
     ∙ ap₂ (λ (ours : Bool) (f : Found). cond ours (own_place (own_keys a.own.now) (key_at 0 a.key.now)) (place_of f))
@@ -118,7 +118,7 @@ returns-then-room-count c =
     let s = start n in
     let a = s.args in
     sym (send-long a.own.now a.cache.now (recs s) (places s) a.used a.id a.room (key_at 0 a.neighbour.now) (key_at 0 a.key.now)
-    (nobody (goal.at.Else-is_nothing e).After-is_nothing ∙ e.if-is_nothing.false) n.is_own-ours.ensures (missing n) i.if-ours-missing.false f.open_refusal-barred.ensures
+    (nobody (goal.at.returns-then-room-count c).After-is_nothing ∙ e.if-is_nothing.false) n.is_own-ours.ensures (missing n) i.if-ours-missing.false f.open_refusal-barred.ensures
     f.if-barred-ne0.false (placed p) c.count_sent-count.ensures.0 c.if-room-count.true)
 
 pub returns : goal.returns
@@ -131,5 +131,5 @@ returns c =
     let s = start n in
     let a = s.args in
     sym (send-fits a.own.now a.cache.now (recs s) (places s) a.used a.id a.room (key_at 0 a.neighbour.now) (key_at 0 a.key.now)
-    (nobody (goal.at.Else-is_nothing e).After-is_nothing ∙ e.if-is_nothing.false) n.is_own-ours.ensures (missing n) i.if-ours-missing.false f.open_refusal-barred.ensures
+    (nobody (goal.at.returns c).After-is_nothing ∙ e.if-is_nothing.false) n.is_own-ours.ensures (missing n) i.if-ours-missing.false f.open_refusal-barred.ensures
     f.if-barred-ne0.false (placed p) c.count_sent-count.ensures.0 c.if-room-count.false)

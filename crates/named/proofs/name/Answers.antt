@@ -44,26 +44,24 @@ start m = (goal.at.After-memory-found m).Start
 pub returns-in_default : goal.returns-in_default
 unfolding name_at
 returns-in_default c =
-    let all = let m = (goal.at.returns-in_default (goal.at.returns-in_default c).In_default).After-memory-found in
+    let all = let m = (goal.at.returns-in_default c).After-memory-found in
     let s = start m in
     promised s (sym (memory-refuses (own s) (cache s) m.memory-found.ensures c.in_default.is Refused [] (done s))) in record { result_value = all.0; within = all.1.0; value = all.1.1 }
 
 pub name_in-requires : goal.name_in-requires
 name_in-requires c =
-    let k = c in
-    let m = (goal.at.name_in-requires (goal.at.name_in-requires c).In-Good).After-memory-found in
+    let m = (goal.at.name_in-requires c).After-memory-found in
     let s = start m in (
-      memory-own s.args.own.now s.args.cache.now m.memory-found.ensures k.in-Good.is,
-      memory-form s.args.own.now s.args.cache.now m.memory-found.ensures k.in-Good.is,
+      memory-own s.args.own.now s.args.cache.now m.memory-found.ensures c.in-Good.is,
+      memory-form s.args.own.now s.args.cache.now m.memory-found.ensures c.in-Good.is,
     )
 
 pub returns : goal.returns
 unfolding name_at
 returns c =
-    let all = let k = c in
-    let m = (goal.at.returns (goal.at.returns c).After-name_in).After-memory-found in
+    let all = let m = (goal.at.returns c).After-memory-found in
     let s = start m in
-    let good = k.in-Good.is in
-    let used = form_used (own_keys (own s)) k.in-Good.used (cache s) (memory-form (own s) (cache s) m.memory-found.ensures good) in
+    let good = c.in-Good.is in
+    let used = form_used (own_keys (own s)) c.in-Good.used (cache s) (memory-form (own s) (cache s) m.memory-found.ensures good) in
     promised s (c.name_in.ensures ∙ ap (λ (n : ℕ). chosen_by (own s) (cache s) n (d s) (read_in (d s) s.args.major)) (sym used)
     ∙ sym (memory-passes (own s) (cache s) m.memory-found.ensures good Refused [] (done s) ∙ no_row Refused (done s))) in record { result_value = all.0; within = all.1.0; value = all.1.1 }

@@ -50,54 +50,49 @@ looked e = (goal.at.Else-told-ne11 e).After-brief_at-told
 
 pub returns-then-told-eq0 : goal.returns-then-told-eq0
 returns-then-told-eq0 c =
-    let m = (goal.at.returns-then-told-eq0 (goal.at.returns-then-told-eq0 c).Then-told-eq0).After-brief_at-told in
+    let m = (goal.at.returns-then-told-eq0 c).After-brief_at-told in
     sym (by m (RefusedBy Refused (lookup m) (d m)) (refused_by Refused (lookup m) (d m)) c.if-told-eq0.true)
 
 pub returns-then-told-ne11 : goal.returns-then-told-ne11
 returns-then-told-ne11 c =
-    let e = c in
-    let m = (goal.at.returns-then-told-ne11 (goal.at.returns-then-told-ne11 c).Then-told-ne11).After-brief_at-told in
-    sym (by m (OtherBy Refused (lookup m) (d m)) (other_by Refused (lookup m) (d m)) e.if-told-eq0.false c.if-told-ne11.true)
+    let m = (goal.at.returns-then-told-ne11 c).After-brief_at-told in
+    sym (by m (OtherBy Refused (lookup m) (d m)) (other_by Refused (lookup m) (d m)) c.if-told-eq0.false c.if-told-ne11.true)
 
 pub overflow_cast-told : goal.overflow_cast-told
-overflow_cast-told c = let e = (goal.at.overflow_cast-told (goal.at.overflow_cast-told c).After-struct_known-3-1).Else-told-ne11 in let m = looked e in omega (arith, (known m e.if-told-ne11.false).0, (start m).good)
+overflow_cast-told c = let e = (goal.at.overflow_cast-told c).Else-told-ne11 in let m = looked e in omega (arith, (known m e.if-told-ne11.false).0, (start m).well_formed)
 
 pub key_at-target-requires : goal.key_at-target-requires
-key_at-target-requires c = let e = (goal.at.key_at-target-requires (goal.at.key_at-target-requires c).After-struct_known-3-1).Else-told-ne11 in omega (arith, (known (looked e) e.if-told-ne11.false).0)
+key_at-target-requires c = let e = (goal.at.key_at-target-requires c).Else-told-ne11 in omega (arith, (known (looked e) e.if-told-ne11.false).0)
 
 pub overflow_add-start : goal.overflow_add-start
 overflow_add-start c =
-    let e = (goal.at.overflow_add-start (goal.at.overflow_add-start c).After-struct_known-4-1).Else-told-ne11 in
+    let e = (goal.at.overflow_add-start c).Else-told-ne11 in
     let m = looked e in
     let w = known m e.if-told-ne11.false in
-    omega (arith, w.1, w.2, (start m).good)
+    omega (arith, w.1, w.2, (start m).well_formed)
 
 pub overflow_add-end : goal.overflow_add-end
 overflow_add-end c =
-    let e = (goal.at.overflow_add-end (goal.at.overflow_add-end c).After-struct_known-5-1).Else-told-ne11 in
+    let e = (goal.at.overflow_add-end c).Else-told-ne11 in
     let m = looked e in
-    omega (arith, (known m e.if-told-ne11.false).2, (start m).good)
+    omega (arith, (known m e.if-told-ne11.false).2, (start m).well_formed)
 
 pub slice_bounds-choose-count : goal.slice_bounds-choose-count
-slice_bounds-choose-count c = let e = (goal.at.slice_bounds-choose-count (goal.at.slice_bounds-choose-count c).After-struct_known-5-1).Else-told-ne11 in omega (arith, (known (looked e) e.if-told-ne11.false).1)
+slice_bounds-choose-count c = let e = (goal.at.slice_bounds-choose-count c).Else-told-ne11 in omega (arith, (known (looked e) e.if-told-ne11.false).1)
 
 pub slice_bounds-choose-start : goal.slice_bounds-choose-start
-slice_bounds-choose-start c = let e = (goal.at.slice_bounds-choose-start (goal.at.slice_bounds-choose-start c).After-struct_known-5-1).Else-told-ne11 in omega (arith, (known (looked e) e.if-told-ne11.false).1)
+slice_bounds-choose-start c = let e = (goal.at.slice_bounds-choose-start c).Else-told-ne11 in omega (arith, (known (looked e) e.if-told-ne11.false).1)
 
 pub slice_bounds-choose-end : goal.slice_bounds-choose-end
-slice_bounds-choose-end c = let e = (goal.at.slice_bounds-choose-end (goal.at.slice_bounds-choose-end c).After-struct_known-5-1).Else-told-ne11 in omega (arith, (known (looked e) e.if-told-ne11.false).2)
-
-pub choose-requires : goal.choose-requires
-choose-requires c = let m = looked c.before.before.before.before.before in (start m).requires
+slice_bounds-choose-end c = let e = (goal.at.slice_bounds-choose-end c).Else-told-ne11 in omega (arith, (known (looked e) e.if-told-ne11.false).2)
 
 pub returns : goal.returns
 returns c =
-    let k = c in
-    let e = (goal.at.returns (goal.at.returns c).After-choose).Else-told-ne11 in
+    let e = (goal.at.returns c).Else-told-ne11 in
     let m = looked e in
     let x = told m in
     let size : x.path + x.size - (x.path + 8) ≡ x.size - 8 = omega (arith, (known m e.if-told-ne11.false).1) in
     let path : take (x.path + x.size - (x.path + 8)) (drop (x.path + 8) (d m)) ≡ part (x.path + 8) (x.size - 8) (d m) =
     ap (λ (n : ℕ). take n (drop (x.path + 8) (d m))) size in
-    ap Chosen c.choose.ensures ∙ ap₂ (lookup m) path k.key_at-target.ensures
+    ap Chosen c.choose.ensures ∙ ap₂ (lookup m) path c.key_at-target.ensures
     ∙ sym (by m (LookupBy Refused (lookup m) (d m)) (lookup-by Refused (lookup m) (d m)) e.if-told-ne11.false)

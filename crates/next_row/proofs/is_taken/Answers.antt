@@ -34,19 +34,18 @@ over s = let a = s.args in takes_over (number a.target) (part (100 * a.i) 100 a.
 
 pub is_wanted-requires : goal.is_wanted-requires
 is_wanted-requires c =
-    let s = c in
-    let a = s.args in
+    let a = c.args in
     let row = part (100 * a.i) 100 a.s.now in
-    let formed = in_form row (rows 100 a.n a.s.now) s.requires.3 (row_in a.n a.i a.s.now s.requires.2) in
+    let formed = in_form row (rows 100 a.n a.s.now) c.requires.3 (row_in a.n a.i a.s.now c.requires.2) in
     let few : get_or row 34 0 ≡ 1 = one_address row formed in
-    (omega (arith, s.requires.0, s.requires.2), omega (arith, few, part_at (100 * a.i) 100 34 a.s.now (omega arith)))
+    (omega (arith, c.requires.0, c.requires.2), omega (arith, few, part_at (100 * a.i) 100 34 a.s.now (omega arith)))
 
 pub returns-then-not-is_wanted : goal.returns-then-not-is_wanted
-returns-then-not-is_wanted c = let s = start c.before in sym (ap (λ (b : Bool). b && over s) (sym c.is_wanted.ensures ∙ c.if-not-is_wanted.true))
+returns-then-not-is_wanted c = let s = (goal.at.returns-then-not-is_wanted c).Start in sym (ap (λ (b : Bool). b && over s) (sym c.is_wanted.ensures ∙ c.if-not-is_wanted.true))
 
 pub returns-then-best-n : goal.returns-then-best-n
 returns-then-best-n c =
-    let w = (goal.at.returns-then-best-n (goal.at.returns-then-best-n c).Then-best-n).After-is_wanted in
+    let w = (goal.at.returns-then-best-n c).After-is_wanted in
     let s = start w in
     let a = s.args in
     let none : over s ≡ true = rw (eq-eqb a.best a.n c.if-best-n.true) refl in
@@ -54,17 +53,15 @@ returns-then-best-n c =
 
 pub returns : goal.returns
 returns c =
-    let keys = c in
-    let e = c in
-    let w = (goal.at.returns (goal.at.returns c).After-is_closer).After-is_wanted in
+    let w = (goal.at.returns c).After-is_wanted in
     let s = start w in
     let a = s.args in
     let t = number a.target in
     let row = part (100 * a.i) 100 a.s.now in
     let found = part (100 * a.best) 100 a.s.now in
-    let at : row_at a.n a.s.now a.best ≡ some found = rw (ne_eqb a.best a.n e.if-best-n.false) refl in
+    let at : row_at a.n a.s.now a.best ≡ some found = rw (ne_eqb a.best a.n c.if-best-n.false) refl in
     let some_one : over s ≡ closer t (key_of row) (key_of found) = ap (takes_over t row) at in
-    let near = ap₂ (closer t) (key_of-row (100 * a.i) a.s.now ∙ sym keys.key_at-other.ensures)
-    (key_of-row (100 * a.best) a.s.now ∙ sym keys.key_at-near.ensures) in
-    let says : c.is_closer.result ≡ closer t (number keys.key_at-other.result) (number keys.key_at-near.result) = c.is_closer.ensures in
-    sym (ap₂ ◌&&◌ (sym w.is_wanted.ensures ∙ e.if-not-is_wanted.false) (some_one ∙ near ∙ sym says))
+    let near = ap₂ (closer t) (key_of-row (100 * a.i) a.s.now ∙ sym c.key_at-other.ensures)
+    (key_of-row (100 * a.best) a.s.now ∙ sym c.key_at-near.ensures) in
+    let says : c.is_closer.result ≡ closer t (number c.key_at-other.result) (number c.key_at-near.result) = c.is_closer.ensures in
+    sym (ap₂ ◌&&◌ (sym w.is_wanted.ensures ∙ c.if-not-is_wanted.false) (some_one ∙ near ∙ sym says))

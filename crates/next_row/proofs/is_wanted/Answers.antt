@@ -20,16 +20,13 @@ returns-then-on_path c = rw (sym c.on_path.ensures ∙ c.if-on_path.true) refl
 pub returns-then-not-leave : goal.returns-then-not-leave
 unfolding wanted
 returns-then-not-leave c =
-    let s = c in
     rw (sym c.on_path.ensures ∙ c.if-on_path.false, c.if-not-leave.true) refl
 
 pub returns : goal.returns
 unfolding wanted
 returns c =
-    let e = c in
-    let s = c in
-    let off = sym e.on_path.ensures ∙ e.if-on_path.false in
-    let is : eqb (key_of (part s.args.at 100 s.args.s.now)) (number s.args.k) ≡ c.is_same.result =
-    ap (λ (n : ℕ). eqb n (number s.args.k)) (key_of-row s.args.at s.args.s.now ∙ sym c.key_at.ensures)
+    let off = sym c.on_path.ensures ∙ c.if-on_path.false in
+    let is : eqb (key_of (part c.args.at 100 c.args.s.now)) (number c.args.k) ≡ c.is_same.result =
+    ap (λ (n : ℕ). eqb n (number c.args.k)) (key_of-row c.args.at c.args.s.now ∙ sym c.key_at.ensures)
     ∙ sym c.is_same.ensures in
-    rw (off, e.if-not-leave.false, is) refl
+    rw (off, c.if-not-leave.false, is) refl

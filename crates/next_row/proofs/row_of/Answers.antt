@@ -18,45 +18,43 @@ test s = wanted s.args.path.now s.args.leave (number s.args.k)
 
 pub loop-i-init : goal.loop-i-init
 loop-i-init c =
-    let s = (goal.at.loop-i-init (goal.at.loop-i-init c).After-shared_slice_known-2-1).Start in
+    let s = (goal.at.loop-i-init c).Start in
     let a = s.args in
     (omega arith, omega arith, place-starts (number a.target) (test s) a.n a.s.now)
 
 pub is_taken-taken-requires : goal.is_taken-taken-requires
 is_taken-taken-requires c =
-    let l = (goal.at.is_taken-taken-requires (goal.at.is_taken-taken-requires c).In-loop-i).At-loop-i in
+    let l = (goal.at.is_taken-taken-requires c).At-loop-i in
     let s = start l in
     (s.requires.0, l.loop-i.invariant.0, c.loop-i-test.true, s.requires.1)
 
 pub loop-i-preserved-then-taken : goal.loop-i-preserved-then-taken
 loop-i-preserved-then-taken c =
-    let m = c in
-    let l = (goal.at.loop-i-preserved-then-taken (goal.at.loop-i-preserved-then-taken c).Then-taken).At-loop-i in
+    let l = (goal.at.loop-i-preserved-then-taken c).At-loop-i in
     let s = start l in
     let a = s.args in (
       omega arith,
       omega arith,
       l.loop-i.invariant.2
-          ∙ place-takes (number a.target) (test s) a.n a.s.now l.loop-i.best l.loop-i.i m.loop-i-test.true
-          (sym m.is_taken-taken.ensures ∙ c.if-taken.true),
+          ∙ place-takes (number a.target) (test s) a.n a.s.now l.loop-i.best l.loop-i.i c.loop-i-test.true
+          (sym c.is_taken-taken.ensures ∙ c.if-taken.true),
     )
 
 pub loop-i-preserved : goal.loop-i-preserved
 loop-i-preserved c =
-    let m = c in
-    let l = (goal.at.loop-i-preserved (goal.at.loop-i-preserved c).Else-taken).At-loop-i in
+    let l = (goal.at.loop-i-preserved c).At-loop-i in
     let s = start l in
     let a = s.args in (
       omega arith,
       omega arith,
       l.loop-i.invariant.2
-          ∙ place-leaves (number a.target) (test s) a.n a.s.now l.loop-i.best l.loop-i.i m.loop-i-test.true
-          (sym m.is_taken-taken.ensures ∙ c.if-taken.false),
+          ∙ place-leaves (number a.target) (test s) a.n a.s.now l.loop-i.best l.loop-i.i c.loop-i-test.true
+          (sym c.is_taken-taken.ensures ∙ c.if-taken.false),
     )
 
 pub returns : goal.returns
 returns c =
-    let l = (goal.at.returns (goal.at.returns c).After-loop-i).At-loop-i in
+    let l = (goal.at.returns c).At-loop-i in
     let s = start l in
     let a = s.args in
     sym (l.loop-i.invariant.2

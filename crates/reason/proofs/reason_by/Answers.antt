@@ -21,10 +21,8 @@ returns-then-is_same c = rw (c.if-alone.false, sym c.is_same.ensures ∙ c.if-is
 
 pub returns-then-is_same-2 : goal.returns-then-is_same-2
 returns-then-is_same-2 c =
-    let e = c in
-    rw (e.if-alone.false, sym e.is_same.ensures ∙ e.if-is_same.false, says (goal.at.returns-then-is_same-2 c).After-is_same-2 ∙ c.if-is_same-2.true) refl
+    rw (c.if-alone.false, sym c.is_same.ensures ∙ c.if-is_same.false, says (goal.at.returns-then-is_same-2 c).After-is_same-2 ∙ c.if-is_same-2.true) refl
 
 pub returns : goal.returns
 returns c =
-    let e = c in
-    rw (e.if-alone.false, sym e.is_same.ensures ∙ e.if-is_same.false, says (goal.at.returns c).After-is_same-2 ∙ c.if-is_same-2.false) refl
+    rw (c.if-alone.false, sym c.is_same.ensures ∙ c.if-is_same.false, says (goal.at.returns c).After-is_same-2 ∙ c.if-is_same-2.false) refl

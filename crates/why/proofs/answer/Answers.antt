@@ -23,12 +23,10 @@ tested g = g.fault_of-number.ensures ∙ ap (λ (r : List ℕ). firstRow (faults
 
 pub returns-then-input-eq0 : goal.returns-then-input-eq0
 returns-then-input-eq0 c =
-    let p = c in
-    let e = c in
-    let s = c in record {
-      out_after = p.put_number.ensures.puts.stands
-          ∙ ap text_of (told_none s.args.input.now e.if-input-eq0.true);
-      upper_bound = omega (arith, s.requires, p.put_number.ensures.upper_bound);
+    record {
+      out_after = c.put_number.ensures.puts.stands
+          ∙ ap text_of (told_none c.args.input.now c.if-input-eq0.true);
+      upper_bound = omega (arith, c.requires, c.put_number.ensures.upper_bound);
     }
 
 pub slice_bounds-first-end : goal.slice_bounds-first-end
@@ -36,33 +34,26 @@ slice_bounds-first-end c = sym (length-take-le _ _ (search rules))
 
 pub returns-then-number-ne0 : goal.returns-then-number-ne0
 returns-then-number-ne0 c =
-    let p = c in
-    let f = c in
-    let g = (goal.at.returns-then-number-ne0 (goal.at.returns-then-number-ne0 c).After-slice_known-then-number-ne0-1).After-fault_of-number in
+    let g = (goal.at.returns-then-number-ne0 c).After-fault_of-number in
     let e = start g in
-    let s = c in record { out_after = p.put_number-then-number-ne0.ensures.puts.stands ∙ ap text_of (told-bad s.args.input.now e.if-input-eq0.left g.fault_of-number.result (tested g) f.if-number-ne0.true); upper_bound = omega (arith, s.requires, p.put_number-then-number-ne0.ensures.upper_bound) }
+    record { out_after = c.put_number-then-number-ne0.ensures.puts.stands ∙ ap text_of (told-bad c.args.input.now e.if-input-eq0.left g.fault_of-number.result (tested g) c.if-number-ne0.true); upper_bound = omega (arith, c.requires, c.put_number-then-number-ne0.ensures.upper_bound) }
 
 pub put_behind-requires : goal.put_behind-requires
 put_behind-requires c =
-    let f = c in
-    let g = (goal.at.put_behind-requires (goal.at.put_behind-requires c).After-put_behind-arg-2-1).After-fault_of-number in
+    let g = (goal.at.put_behind-requires c).After-fault_of-number in
     let s = (start g).before.before.before in
-    (s.pre, omega (arith, first_long _ (sym g.fault_of-number.ensures ∙ f.if-number-ne0.false)))
+    (s.pre, omega (arith, first_long _ (sym g.fault_of-number.ensures ∙ c.if-number-ne0.false)))
 
 pub returns : goal.returns
 returns c =
-    let p = c in
-    let f = c in
-    let g = (goal.at.returns (goal.at.returns c).After-slice_known-2-1).After-fault_of-number in
+    let g = (goal.at.returns c).After-fault_of-number in
     let e = start g in
-    let s = c in
-    let input = s.args.input.now in
-    let m = c in
-    let end = m.first_end-end.result in
+    let input = c.args.input.now in
+    let end = c.first_end-end.result in
     let rest : take (length input - end) (drop end input) ≡ drop end input =
     take_all (length input - end) (drop end input) (omega (arith, length-drop end input)) in record {
-      out_after = p.put_behind.ensures.out_after
-          ∙ ap text_of (ap₂ told_behind m.first_end-end.ensures.input_value (rest ∙ m.first_end-end.ensures.input_value_2)
-          ∙ told-good input e.if-input-eq0.left (sym (tested g) ∙ f.if-number-ne0.false));
-      upper_bound = p.put_behind.ensures.upper_bound;
+      out_after = c.put_behind.ensures.out_after
+          ∙ ap text_of (ap₂ told_behind c.first_end-end.ensures.input_value (rest ∙ c.first_end-end.ensures.input_value_2)
+          ∙ told-good input e.if-input-eq0.left (sym (tested g) ∙ c.if-number-ne0.false));
+      upper_bound = c.put_behind.ensures.upper_bound;
     }

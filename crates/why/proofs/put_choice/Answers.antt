@@ -16,34 +16,24 @@ use Rattle.why.proofs.put_choice.Goals as goal
 
 pub put_record-at-requires : goal.put_record-at-requires
 put_record-at-requires c =
-    let n = c in
-    let m = c in
-    let s = c in
-    let a = s.args in
-    let long = ap length m.record_at-record.ensures
-    ∙ record_long a.own.now a.cache.now a.choice.chosen s.requires.1.chosen s.requires.1.somewhere in
-    (omega (arith, s.requires.0), omega (arith, long))
+    let a = c.args in
+    let long = ap length c.record_at-record.ensures
+    ∙ record_long a.own.now a.cache.now a.choice.chosen c.requires.1.chosen c.requires.1.somewhere in
+    (omega (arith, c.requires.0), omega (arith, long))
 
 pub put_reason-requires : goal.put_reason-requires
 put_reason-requires c =
-    let r = c in
-    let n = c in
-    let s = c in
-    let a = s.args in (
-      omega (arith, s.requires.0, r.put_record-at.ensures.upper_bound, r.put_record-at.auto.0),
-      subst (HasKey a.choice.reason) (sym n.record_at-next.ensures)
-          (has_key a.own.now a.cache.now a.choice.reason a.choice.other s.requires.1.other s.requires.1.shows),
+    let a = c.args in (
+      omega (arith, c.requires.0, c.put_record-at.ensures.upper_bound, c.put_record-at.auto.0),
+      subst (HasKey a.choice.reason) (sym c.record_at-next.ensures)
+          (has_key a.own.now a.cache.now a.choice.reason a.choice.other c.requires.1.other c.requires.1.shows),
     )
 
 pub returns : goal.returns
 returns c =
-    let e = c in
-    let r = c in
-    let n = c in
-    let s = c in
-    let a = s.args in record {
-      out_after = (puts_next r.put_record-at.ensures.puts e.put_reason.ensures.puts).stands
-          ∙ ap₂ (λ (x y : List ℕ). record_text x ++ reason_text (because_of a.choice.reason (key_of y))) n.record_at-record.ensures
-          n.record_at-next.ensures;
-      upper_bound = omega (arith, s.requires.0, r.put_record-at.ensures.upper_bound, e.put_reason.ensures.upper_bound);
+    let a = c.args in record {
+      out_after = (puts_next c.put_record-at.ensures.puts c.put_reason.ensures.puts).stands
+          ∙ ap₂ (λ (x y : List ℕ). record_text x ++ reason_text (because_of a.choice.reason (key_of y))) c.record_at-record.ensures
+          c.record_at-next.ensures;
+      upper_bound = omega (arith, c.requires.0, c.put_record-at.ensures.upper_bound, c.put_reason.ensures.upper_bound);
     }

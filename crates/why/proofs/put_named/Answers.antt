@@ -19,21 +19,16 @@ told m e = let a = (start m).args in sym (ap (told_by a.own.now a.cache.now) e) 
 
 pub put_choice-requires : goal.put_choice-requires
 put_choice-requires c =
-    let k = c in
-    let m = (goal.at.put_choice-requires (goal.at.put_choice-requires c).After-put_choice-arg-1).After-name in
+    let m = (goal.at.put_choice-requires c).After-name in
     let s = start m in
-    (s.requires, subst (Within s.args.own.now s.args.cache.now) k.in-Chosen.is m.name.ensures.within)
+    (s.requires, subst (Within s.args.own.now s.args.cache.now) c.in-Chosen.is m.name.ensures.within)
 
 pub returns-in-Refused : goal.returns-in-Refused
 returns-in-Refused c =
-    let p = c in
-    let k = c in
-    let m = (goal.at.returns-in-Refused (goal.at.returns-in-Refused c).After-slice_known-in-Refused-1).After-name in
-    record { out_after = p.put_number.ensures.puts.stands ∙ ap text_of (told m k.in-Refused.is); upper_bound = omega (arith, (start m).requires, p.put_number.ensures.upper_bound) }
+    let m = (goal.at.returns-in-Refused c).After-name in
+    record { out_after = c.put_number.ensures.puts.stands ∙ ap text_of (told m c.in-Refused.is); upper_bound = omega (arith, (start m).requires, c.put_number.ensures.upper_bound) }
 
 pub returns-in-Chosen : goal.returns-in-Chosen
 returns-in-Chosen c =
-    let p = c in
-    let k = c in
-    let m = (goal.at.returns-in-Chosen (goal.at.returns-in-Chosen c).After-slice_known-in-Chosen-1).After-name in
-    record { out_after = p.put_choice.ensures.out_after ∙ ap text_of (told m k.in-Chosen.is); upper_bound = p.put_choice.ensures.upper_bound }
+    let m = (goal.at.returns-in-Chosen c).After-name in
+    record { out_after = c.put_choice.ensures.out_after ∙ ap text_of (told m c.in-Chosen.is); upper_bound = c.put_choice.ensures.upper_bound }

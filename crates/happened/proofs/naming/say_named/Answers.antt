@@ -5,7 +5,4 @@ use Rattle.happened.proofs.naming.say_named.Goals as goal
 
 pub say_choice-requires : goal.say_choice-requires
 say_choice-requires c =
-    let k = c in
-    let m = c in
-    let s = c in
-    subst (Within s.args.own.now s.args.cache.now) k.in-Chosen.is m.name.ensures.within
+    subst (Within c.args.own.now c.args.cache.now) c.in-Chosen.is c.name.ensures.within

@@ -22,15 +22,14 @@ inside s leave k e =
     (finds-inside a.own.now a.cache.now a.used a.path.now (number a.target) s.requires.0 s.requires.1 leave k)
 
 pub key_of-k-requires : goal.key_of-k-requires
-key_of-k-requires c = let s = (goal.at.key_of-k-requires (goal.at.key_of-k-requires c).After-spot_of-chosen).Start in inside s false (number s.args.target) c.spot_of_lem.ensures
+key_of-k-requires c = let s = (goal.at.key_of-k-requires c).Start in inside s false (number s.args.target) c.spot_of-chosen.ensures
 
 pub key_of-next-requires : goal.key_of-next-requires
 key_of-next-requires c = inside (goal.at.key_of-next-requires c).Start true (number c.key_of-k.result) c.spot_of-other.ensures
 
 pub returns : goal.returns
 returns c =
-    let w = c in
-    let a = w.args in
-    choice-is a.own.now a.cache.now a.used a.path.now (number a.target) w.spot_of_lem.ensures
-    w.key_of-k.ensures w.spot_of-other.ensures c.key_of-next.ensures c.is_nowhere.ensures
+    let a = c.args in
+    choice-is a.own.now a.cache.now a.used a.path.now (number a.target) c.spot_of-chosen.ensures
+    c.key_of-k.ensures c.spot_of-other.ensures c.key_of-next.ensures c.is_nowhere.ensures
     c.reason_by-reason.ensures

@@ -22,16 +22,16 @@ key_there : (s : Start) {x : Spot} → s.args.spot ≡ x
 key_there s e = ap (λ (x : Spot). key_of (record_at s.args.own.now s.args.cache.now x)) e
 
 pub overflow_mul-i : goal.overflow_mul-i
-overflow_mul-i c = let k = c in let s = (goal.at.overflow_mul-i (goal.at.overflow_mul-i c).In-Own).Start in omega (arith, inside s k.in-Own.is, s.well-formed)
+overflow_mul-i c = let s = (goal.at.overflow_mul-i c).Start in omega (arith, inside s c.in-Own.is, s.well_formed)
 
 pub key_at-requires : goal.key_at-requires
-key_at-requires c = let k = c in let s = (goal.at.key_at-requires (goal.at.key_at-requires c).In-Own).Start in omega (arith, inside s k.in-Own.is)
+key_at-requires c = let s = (goal.at.key_at-requires c).Start in omega (arith, inside s c.in-Own.is)
 
 pub overflow_mul-i-in-Held : goal.overflow_mul-i-in-Held
-overflow_mul-i-in-Held c = let k = c in let s = (goal.at.overflow_mul-i-in-Held (goal.at.overflow_mul-i-in-Held c).In-Held).Start in omega (arith, inside s k.in-Held.is, s.well-formed)
+overflow_mul-i-in-Held c = let s = (goal.at.overflow_mul-i-in-Held c).Start in omega (arith, inside s c.in-Held.is, s.well_formed)
 
 pub key_at-requires-in-Held : goal.key_at-requires-in-Held
-key_at-requires-in-Held c = let k = c in let s = (goal.at.key_at-requires-in-Held (goal.at.key_at-requires-in-Held c).In-Held).Start in omega (arith, inside s k.in-Held.is)
+key_at-requires-in-Held c = let s = (goal.at.key_at-requires-in-Held c).Start in omega (arith, inside s c.in-Held.is)
 
 pub returns-in-Nowhere : goal.returns-in-Nowhere
 unfolding number value_be
@@ -39,12 +39,10 @@ returns-in-Nowhere c = sym (key_there (goal.at.returns-in-Nowhere c).Start c.in-
 
 pub returns-in-Own : goal.returns-in-Own
 returns-in-Own c =
-    let k = c in
-    let s = (goal.at.returns-in-Own (goal.at.returns-in-Own c).After-key_at).Start in
-    c.key_at.ensures ∙ sym (key_there s k.in-Own.is ∙ key_of-row (100 * k.in-Own.i) s.args.own.now)
+    let s = (goal.at.returns-in-Own c).Start in
+    c.key_at.ensures ∙ sym (key_there s c.in-Own.is ∙ key_of-row (100 * c.in-Own.i) s.args.own.now)
 
 pub returns-in-Held : goal.returns-in-Held
 returns-in-Held c =
-    let k = c in
-    let s = (goal.at.returns-in-Held (goal.at.returns-in-Held c).After-key_at-in-Held).Start in
-    c.key_at-in-Held.ensures ∙ sym (key_there s k.in-Held.is ∙ key_of-row (100 * k.in-Held.i) s.args.cache.now)
+    let s = (goal.at.returns-in-Held c).Start in
+    c.key_at-in-Held.ensures ∙ sym (key_there s c.in-Held.is ∙ key_of-row (100 * c.in-Held.i) s.args.cache.now)

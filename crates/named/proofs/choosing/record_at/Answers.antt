@@ -22,33 +22,31 @@ hundred : (at : ℕ) → at + 100 - at ≡ 100
 hundred at = omega arith
 
 pub overflow_mul-at : goal.overflow_mul-at
-overflow_mul-at c = let k = c in let s = (goal.at.overflow_mul-at (goal.at.overflow_mul-at c).In-Own).Start in omega (arith, inside s k.in-Own.is, s.well-formed)
+overflow_mul-at c = let s = (goal.at.overflow_mul-at c).Start in omega (arith, inside s c.in-Own.is, s.well_formed)
 
 pub overflow_add-result : goal.overflow_add-result
-overflow_add-result c = let k = c in let s = (goal.at.overflow_add-result (goal.at.overflow_add-result c).In-Own).Start in omega (arith, inside s k.in-Own.is, s.well-formed)
+overflow_add-result c = let s = (goal.at.overflow_add-result c).Start in omega (arith, inside s c.in-Own.is, s.well_formed)
 
 pub slice_bounds-result-end-in-Own : goal.slice_bounds-result-end-in-Own
-slice_bounds-result-end-in-Own c = let k = c in let s = (goal.at.slice_bounds-result-end-in-Own (goal.at.slice_bounds-result-end-in-Own c).In-Own).Start in omega (arith, inside s k.in-Own.is)
+slice_bounds-result-end-in-Own c = let s = (goal.at.slice_bounds-result-end-in-Own c).Start in omega (arith, inside s c.in-Own.is)
 
 pub overflow_mul-at-in-Held : goal.overflow_mul-at-in-Held
-overflow_mul-at-in-Held c = let k = c in let s = (goal.at.overflow_mul-at-in-Held (goal.at.overflow_mul-at-in-Held c).In-Held).Start in omega (arith, inside s k.in-Held.is, s.well-formed)
+overflow_mul-at-in-Held c = let s = (goal.at.overflow_mul-at-in-Held c).Start in omega (arith, inside s c.in-Held.is, s.well_formed)
 
 pub overflow_add-result-in-Held : goal.overflow_add-result-in-Held
-overflow_add-result-in-Held c = let k = c in let s = (goal.at.overflow_add-result-in-Held (goal.at.overflow_add-result-in-Held c).In-Held).Start in omega (arith, inside s k.in-Held.is, s.well-formed)
+overflow_add-result-in-Held c = let s = (goal.at.overflow_add-result-in-Held c).Start in omega (arith, inside s c.in-Held.is, s.well_formed)
 
 pub slice_bounds-result-end-in-Held : goal.slice_bounds-result-end-in-Held
-slice_bounds-result-end-in-Held c = let k = c in let s = (goal.at.slice_bounds-result-end-in-Held (goal.at.slice_bounds-result-end-in-Held c).In-Held).Start in omega (arith, inside s k.in-Held.is)
+slice_bounds-result-end-in-Held c = let s = (goal.at.slice_bounds-result-end-in-Held c).Start in omega (arith, inside s c.in-Held.is)
 
 pub returns-in-Own : goal.returns-in-Own
 returns-in-Own c =
-    let k = c in
-    let s = (goal.at.returns-in-Own (goal.at.returns-in-Own c).After-result-in-Own-1).Start in
-    let at = 100 * k.in-Own.i in
-    ap (λ (n : ℕ). take n (drop at s.args.own.now)) (hundred at) ∙ sym (there s k.in-Own.is)
+    let s = (goal.at.returns-in-Own c).Start in
+    let at = 100 * c.in-Own.i in
+    ap (λ (n : ℕ). take n (drop at s.args.own.now)) (hundred at) ∙ sym (there s c.in-Own.is)
 
 pub returns-in-Held : goal.returns-in-Held
 returns-in-Held c =
-    let k = c in
-    let s = (goal.at.returns-in-Held (goal.at.returns-in-Held c).After-result-in-Held-1).Start in
-    let at = 100 * k.in-Held.i in
-    ap (λ (n : ℕ). take n (drop at s.args.cache.now)) (hundred at) ∙ sym (there s k.in-Held.is)
+    let s = (goal.at.returns-in-Held c).Start in
+    let at = 100 * c.in-Held.i in
+    ap (λ (n : ℕ). take n (drop at s.args.cache.now)) (hundred at) ∙ sym (there s c.in-Held.is)

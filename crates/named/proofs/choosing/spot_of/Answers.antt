@@ -62,62 +62,59 @@ module _ (c : After-row_of-j) where
   in-cache d = omega (arith, c.row_of-j.ensures, (place_found t (looked start.args.path.now) start.args.used cache).0, d, room start)
 
 pub row_of-i-requires : goal.row_of-i-requires
-row_of-i-requires c = let s = c in (omega arith, (own_formed s.args.own.now s.requires.0).formed)
+row_of-i-requires c = (omega arith, (own_formed c.args.own.now c.requires.0).formed)
 
 pub row_of-j-requires : goal.row_of-j-requires
-row_of-j-requires c = let s = (goal.at.row_of-j-requires (goal.at.row_of-j-requires c).After-row_of-i).Start in (room s, s.requires.1.held.formed)
+row_of-j-requires c = let s = (goal.at.row_of-j-requires c).Start in (room s, s.requires.1.held.formed)
 
 pub returns-then-j-used : goal.returns-then-j-used
 returns-then-j-used c =
-    let w = (goal.at.returns-then-j-used (goal.at.returns-then-j-used c).Then-j-used).After-row_of-j in
+    let w = (goal.at.returns-then-j-used c).After-row_of-j in
     let a = (start w).args in
     found w (spot-none (t w) (own w) (ours w) (i w) (cache w) a.used (j w) c.if-i-ours.true c.if-j-used.true)
 
 pub returns-then-i-ours : goal.returns-then-i-ours
 returns-then-i-ours c =
-    let w = (goal.at.returns-then-i-ours (goal.at.returns-then-i-ours c).Else-j-used).After-row_of-j in
+    let w = (goal.at.returns-then-i-ours c).After-row_of-j in
     let a = (start w).args in
     found w (spot-held (t w) (own w) (ours w) (i w) (cache w) a.used (j w) c.if-i-ours.true c.if-j-used.false)
 
 pub returns-then-j-used-2 : goal.returns-then-j-used-2
 returns-then-j-used-2 c =
-    let w = (goal.at.returns-then-j-used-2 (goal.at.returns-then-j-used-2 c).Then-j-used-2).After-row_of-j in
+    let w = (goal.at.returns-then-j-used-2 c).After-row_of-j in
     let a = (start w).args in
     found w (spot-own (t w) (own w) (ours w) (i w) (cache w) a.used (j w) c.if-i-ours.false c.if-j-used-2.true)
 
 pub overflow_mul-i : goal.overflow_mul-i
-overflow_mul-i c = let w = (goal.at.overflow_mul-i (goal.at.overflow_mul-i c).Else-j-used-2).After-row_of-j in omega (arith, in_own w c.if-i-ours.false, (start w).well-formed)
+overflow_mul-i c = let w = (goal.at.overflow_mul-i c).After-row_of-j in omega (arith, in_own w c.if-i-ours.false, (start w).well_formed)
 
 pub key_at-near-requires : goal.key_at-near-requires
-key_at-near-requires c = let w = (goal.at.key_at-near-requires (goal.at.key_at-near-requires c).Else-j-used-2).After-row_of-j in omega (arith, in_own w c.if-i-ours.false)
+key_at-near-requires c = let w = (goal.at.key_at-near-requires c).After-row_of-j in omega (arith, in_own w c.if-i-ours.false)
 
 pub overflow_mul-j : goal.overflow_mul-j
-overflow_mul-j c = let e = c in let w = (goal.at.overflow_mul-j (goal.at.overflow_mul-j c).After-key_at-near).After-row_of-j in omega (arith, in-cache w e.if-j-used-2.false, (start w).well-formed)
+overflow_mul-j c = let w = (goal.at.overflow_mul-j c).After-row_of-j in omega (arith, in-cache w c.if-j-used-2.false, (start w).well_formed)
 
 pub key_at-other-requires : goal.key_at-other-requires
-key_at-other-requires c = let e = c in let w = (goal.at.key_at-other-requires (goal.at.key_at-other-requires c).After-key_at-near).After-row_of-j in omega (arith, in-cache w e.if-j-used-2.false)
+key_at-other-requires c = let w = (goal.at.key_at-other-requires c).After-row_of-j in omega (arith, in-cache w c.if-j-used-2.false)
 
 -- what the comparison says, of the keys where they lie
 says : (c : After-is_closer)
-    → (let w = c.before.before.before.before.before.before.before in
+    → (let w = (goal.at.After-is_closer c).After-row_of-j in
     closer (t w) (key_at (100 * j w) (cache w)) (key_at (100 * i w) (own w)) ≡ c.is_closer.result)
 says c =
-    let keys = c in
-    let w = keys.before.before.before.before in
-    sym (c.is_closer.ensures ∙ ap₂ (closer (t w)) keys.key_at-other.ensures keys.key_at-near.ensures)
+    let w = (goal.at.After-is_closer c).After-row_of-j in
+    sym (c.is_closer.ensures ∙ ap₂ (closer (t w)) c.key_at-other.ensures c.key_at-near.ensures)
 
 pub returns-then-is_closer : goal.returns-then-is_closer
 returns-then-is_closer c =
-    let m = (goal.at.returns-then-is_closer (goal.at.returns-then-is_closer c).Then-is_closer).After-is_closer in
-    let e = c in
-    let w = (goal.at.returns-then-is_closer (goal.at.returns-then-is_closer c).Then-is_closer).After-row_of-j in
+    let m = (goal.at.returns-then-is_closer c).After-is_closer in
+    let w = (goal.at.returns-then-is_closer c).After-row_of-j in
     let a = (start w).args in
-    found w (spot-closer (t w) (own w) (ours w) (i w) (cache w) a.used (j w) e.if-i-ours.false e.if-j-used-2.false (says m ∙ c.if-is_closer.true))
+    found w (spot-closer (t w) (own w) (ours w) (i w) (cache w) a.used (j w) c.if-i-ours.false c.if-j-used-2.false (says m ∙ c.if-is_closer.true))
 
 pub returns : goal.returns
 returns c =
-    let m = (goal.at.returns (goal.at.returns c).Else-is_closer).After-is_closer in
-    let e = c in
-    let w = (goal.at.returns (goal.at.returns c).Else-is_closer).After-row_of-j in
+    let m = (goal.at.returns c).After-is_closer in
+    let w = (goal.at.returns c).After-row_of-j in
     let a = (start w).args in
-    found w (spot-nearer (t w) (own w) (ours w) (i w) (cache w) a.used (j w) e.if-i-ours.false e.if-j-used-2.false (says m ∙ c.if-is_closer.false))
+    found w (spot-nearer (t w) (own w) (ours w) (i w) (cache w) a.used (j w) c.if-i-ours.false c.if-j-used-2.false (says m ∙ c.if-is_closer.false))

@@ -6,6 +6,4 @@ use Rattle.why.proofs.line.put.Goals as goal
 
 pub returns : goal.returns
 returns c =
-    let m = c in
-    let s = c in
-    puts_splice s.args.at s.args.text.now s.args.out.now _ _ s.requires refl m.copy_to.ensures
+    puts_splice c.args.at c.args.text.now c.args.out.now _ _ c.requires refl c.copy_to.ensures

@@ -11,10 +11,8 @@ use Rattle.why.proofs.line.put_hex.Goals as goal
 
 pub returns : goal.returns
 returns c =
-    let m = c in
-    let s = c in
-    let l = length_hex s.args.s.now in record {
-      puts = puts_splice s.args.at (hex_of s.args.s.now) s.args.out.now _ _ (omega (arith, l, s.requires))
-          (omega (arith, l, m.put_hex.ensures.value)) m.put_hex.ensures.out_after;
-      value = m.put_hex.ensures.value;
+    let l = length_hex c.args.s.now in record {
+      puts = puts_splice c.args.at (hex_of c.args.s.now) c.args.out.now _ _ (omega (arith, l, c.requires))
+          (omega (arith, l, c.put_hex.ensures.value)) c.put_hex.ensures.out_after;
+      value = c.put_hex.ensures.value;
     }

@@ -28,27 +28,23 @@ module _ (c : After-put_hex-b) where
   long : length c.put_hex-b.new.out ≡ length start.args.out.now
   long = c.put_hex-b.auto.0 ∙ word.put-a.kept.0
 
-slice-aggregate-put : tie.Need-slice-aggregate-put
-slice-aggregate-put c = search rules
-
 pub put-requires : goal.put-requires
 put-requires c =
-    let h = (goal.at.put-requires (goal.at.put-requires c).After-put-arg-4-1).After-out-2-1 in
+    let h = (goal.at.put-requires c).After-out-2-1 in
     omega (arith, ends h, long h, (start h).requires.0)
 
 pub shape_of-out : goal.shape_of-out
-shape_of-out c = let p = c in p.put.auto.0 ∙ long (goal.at.After-put p).After-out-2-1
+shape_of-out c = c.put.auto.0 ∙ long (goal.at.After-put p).After-out-2-1
 
 pub returns : goal.returns
 returns c =
-    let p = c in
-    let h = (goal.at.returns (goal.at.returns c).After-slice_known-4-1).After-out-2-1 in
+    let h = (goal.at.returns c).After-out-2-1 in
     let s = start h in
     let r = s.args.«record».now in
-    let last : p.put.result ≡ h.put_hex-b.result + 1 = p.put.ensures.ends in
+    let last : c.put.result ≡ h.put_hex-b.result + 1 = c.put.ensures.ends in
     let key = key_bytes_lem r (λ i. omega (arith, (word h).type_inv.record i)) (omega (arith, s.requires.1)) in record {
-      puts = subst (λ (bs : List ℕ). Puts s.args.at (s.args.word.now ++ hex_of bs ++ (10 ∷ [])) s.args.out.now p.put.result
-          p.put.new.out) key
-          (puts_next (puts_next (word h).put-a.ensures h.put_hex-b.ensures.puts) p.put.ensures);
+      puts = subst (λ (bs : List ℕ). Puts s.args.at (s.args.word.now ++ hex_of bs ++ (10 ∷ [])) s.args.out.now c.put.result
+          c.put.new.out) key
+          (puts_next (puts_next (word h).put-a.ensures h.put_hex-b.ensures.puts) c.put.ensures);
       value = omega (arith, last, ends h);
     }

@@ -11,74 +11,46 @@ use Rattle.why.specs.Puts.{Puts, HasKey}
 use borrow.Author.Rules.{rules}
 use Rattle.why.proofs.line.put_reason.Goals as goal
 
-slice-aggregate-put : tie.Need-slice-aggregate-put
-slice-aggregate-put c = search rules
-
-slice-aggregate-put-2 : tie.Need-slice-aggregate-put-2
-slice-aggregate-put-2 c = search rules
-
-slice-aggregate-put-key : tie.Need-slice-aggregate-put-key
-slice-aggregate-put-key c = search rules
-
 pub put_key-requires : goal.put_key-requires
 put_key-requires c =
-    let t = c in
-    let s = c in
-    (omega (arith, s.requires.0), subst (λ (x : Reason). HasKey x s.args.other.now) t.in-Tied.is s.requires.1)
-
-slice-aggregate-put-key-2 : tie.Need-slice-aggregate-put-key-2
-slice-aggregate-put-key-2 c = search rules
+    (omega (arith, c.requires.0), subst (λ (x : Reason). HasKey x c.args.other.now) c.in-Tied.is c.requires.1)
 
 pub put_key-requires-in-Nearest : goal.put_key-requires-in-Nearest
 put_key-requires-in-Nearest c =
-    let t = c in
-    let s = c in
-    (omega (arith, s.requires.0), subst (λ (x : Reason). HasKey x s.args.other.now) t.in-Nearest.is s.requires.1)
+    (omega (arith, c.requires.0), subst (λ (x : Reason). HasKey x c.args.other.now) c.in-Nearest.is c.requires.1)
 
 pub returns-in-Only : goal.returns-in-Only
 returns-in-Only c =
-    let p = c in
-    let t = c in
-    let s = c in
-    let last : p.put.result ≡ s.args.at + 5 = p.put.ensures.ends in record {
-      puts = subst (λ (x : Reason). Puts s.args.at (reason_text (because_of x (key_of s.args.other.now))) s.args.out.now p.put.result
-          p.put.new.out)
-          (sym t.in-Only.is) p.put.ensures;
+    let last : c.put.result ≡ c.args.at + 5 = c.put.ensures.ends in record {
+      puts = subst (λ (x : Reason). Puts c.args.at (reason_text (because_of x (key_of c.args.other.now))) c.args.out.now c.put.result
+          c.put.new.out)
+          (sym c.in-Only.is) c.put.ensures;
       upper_bound = omega (arith, last);
     }
 
 pub returns-in-Target : goal.returns-in-Target
 returns-in-Target c =
-    let p = c in
-    let t = c in
-    let s = c in
-    let last : p.put-in-Target.result ≡ s.args.at + 7 = p.put-in-Target.ensures.ends in record {
-      puts = subst (λ (x : Reason). Puts s.args.at (reason_text (because_of x (key_of s.args.other.now))) s.args.out.now p.put-in-Target.result
-          p.put-in-Target.new.out)
-          (sym t.in-Target.is) p.put-in-Target.ensures;
+    let last : c.put-in-Target.result ≡ c.args.at + 7 = c.put-in-Target.ensures.ends in record {
+      puts = subst (λ (x : Reason). Puts c.args.at (reason_text (because_of x (key_of c.args.other.now))) c.args.out.now c.put-in-Target.result
+          c.put-in-Target.new.out)
+          (sym c.in-Target.is) c.put-in-Target.ensures;
       upper_bound = omega (arith, last);
     }
 
 pub returns-in-Tied : goal.returns-in-Tied
 returns-in-Tied c =
-    let p = c in
-    let t = c in
-    let s = c in
-    let last : p.put_key.result ≡ s.args.at + 5 + 65 = p.put_key.ensures.value in record {
-      puts = subst (λ (x : Reason). Puts s.args.at (reason_text (because_of x (key_of s.args.other.now))) s.args.out.now
-          p.put_key.result p.put_key.new.out)
-          (sym t.in-Tied.is) p.put_key.ensures.puts;
+    let last : c.put_key.result ≡ c.args.at + 5 + 65 = c.put_key.ensures.value in record {
+      puts = subst (λ (x : Reason). Puts c.args.at (reason_text (because_of x (key_of c.args.other.now))) c.args.out.now
+          c.put_key.result c.put_key.new.out)
+          (sym c.in-Tied.is) c.put_key.ensures.puts;
       upper_bound = omega (arith, last);
     }
 
 pub returns-in-Nearest : goal.returns-in-Nearest
 returns-in-Nearest c =
-    let p = c in
-    let t = c in
-    let s = c in
-    let last : p.put_key-in-Nearest.result ≡ s.args.at + 8 + 65 = p.put_key-in-Nearest.ensures.value in record {
-      puts = subst (λ (x : Reason). Puts s.args.at (reason_text (because_of x (key_of s.args.other.now))) s.args.out.now
-          p.put_key-in-Nearest.result p.put_key-in-Nearest.new.out)
-          (sym t.in-Nearest.is) p.put_key-in-Nearest.ensures.puts;
+    let last : c.put_key-in-Nearest.result ≡ c.args.at + 8 + 65 = c.put_key-in-Nearest.ensures.value in record {
+      puts = subst (λ (x : Reason). Puts c.args.at (reason_text (because_of x (key_of c.args.other.now))) c.args.out.now
+          c.put_key-in-Nearest.result c.put_key-in-Nearest.new.out)
+          (sym c.in-Nearest.is) c.put_key-in-Nearest.ensures.puts;
       upper_bound = omega (arith, last);
     }

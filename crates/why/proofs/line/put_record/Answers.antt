@@ -89,45 +89,32 @@ module _ (c : After-put_hex-f) where
   address-long : length c.put_hex-f.new.out ≡ length (room first)
   address-long = c.put_hex-f.auto.0 ∙ gap-long gap
 
-slice-aggregate-put : tie.Need-slice-aggregate-put
-slice-aggregate-put c = search rules
-
-slice-aggregate-put-2 : tie.Need-slice-aggregate-put-2
-slice-aggregate-put-2 c = search rules
-
 pub put-c-requires : goal.put-c-requires
-put-c-requires c = let k = (goal.at.put-c-requires (goal.at.put-c-requires c).After-put-arg-6-1).After-out-2-1 in omega (arith, key-ends k, key-long k, (start (word k)).requires.0)
+put-c-requires c = let k = (goal.at.put-c-requires c).After-out-2-1 in omega (arith, key-ends k, key-long k, (start (word k)).requires.0)
 
 pub put_decimal-d-requires : goal.put_decimal-d-requires
-put_decimal-d-requires c = let s = (goal.at.put_decimal-d-requires (goal.at.put_decimal-d-requires c).After-put_decimal-arg-1).After-put-c in omega (arith, space-ends s, space-long s, (start (word (key s))).pre.0)
-
-slice-aggregate-put-3 : tie.Need-slice-aggregate-put-3
-slice-aggregate-put-3 c = search rules
+put_decimal-d-requires c = let s = (goal.at.put_decimal-d-requires c).After-put-c in omega (arith, space-ends s, space-long s, (start (word (key s))).pre.0)
 
 pub put-e-requires : goal.put-e-requires
 put-e-requires c =
-    let p = (goal.at.put-e-requires (goal.at.put-e-requires c).After-put-arg-9-1).After-out-4-1 in
+    let p = (goal.at.put-e-requires c).After-out-4-1 in
     omega (arith, port-ends p, port-long p, (start (word (key (space p)))).pre.0)
 
 pub put_hex-f-requires : goal.put_hex-f-requires
 put_hex-f-requires c =
-    let g = (goal.at.put_hex-f-requires (goal.at.put_hex-f-requires c).After-put_hex-arg-4-1).After-put-e in
+    let g = (goal.at.put_hex-f-requires c).After-put-e in
     let s = start (word (key (space (port g)))) in
     omega (arith, gap_ends g, gap-long g, s.pre.0, length_part 36 16 s.args.«record».now (omega (arith, s.pre.1)))
 
-slice-aggregate-put-4 : tie.Need-slice-aggregate-put-4
-slice-aggregate-put-4 c = search rules
-
 pub put-requires : goal.put-requires
-put-requires c = let a = (goal.at.put-requires (goal.at.put-requires c).After-put-arg-12-1).After-out-6-1 in omega (arith, address-ends a, address-long a, (start (first a)).requires.0)
+put-requires c = let a = (goal.at.put-requires c).After-out-6-1 in omega (arith, address-ends a, address-long a, (start (first a)).requires.0)
 
 pub shape_of-out : goal.shape_of-out
-shape_of-out c = let e = c in e.put.auto.0 ∙ address-long (goal.at.After-put e).After-out-6-1
+shape_of-out c = c.put.auto.0 ∙ address-long (goal.at.After-put e).After-out-6-1
 
 pub returns : goal.returns
 returns c =
-    let e = c in
-    let a = (goal.at.returns (goal.at.returns c).After-slice_known-8-1).After-out-6-1 in
+    let a = (goal.at.returns c).After-out-6-1 in
     let g = gap a in
     let p = port g in
     let s = space p in
@@ -140,9 +127,9 @@ returns c =
     let read : number ≡ port_of (start w).args.«record».now = w.read_u16-port.ensures in
     let named = subst (λ (n : ℕ). Puts s.put-c.result (decimal n) s.put-c.last.0 p.put_decimal-d.result p.put_decimal-d.last.0) read
     digits in
-    let last : e.put.result ≡ a.put_hex-f.result + 1 = e.put.ensures.ends in record {
+    let last : c.put.result ≡ a.put_hex-f.result + 1 = c.put.ensures.ends in record {
       puts = puts_next (puts_next (puts_next (puts_next (puts_next (puts_next w.put-a.ensures k.put_hex-b.ensures.puts) s.put-c.ensures) named)
-          g.put-e.ensures)
-          a.put_hex-f.ensures.puts) e.put.ensures;
+          g.put-c.ensures)
+          a.put_hex-f.ensures.puts) c.put.ensures;
       upper_bound = omega (arith, last, address-ends a);
     }

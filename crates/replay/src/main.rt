@@ -9,6 +9,7 @@ mod line;
 mod stream;
 
 use crate::stream::{close, feed};
+use std::io::Read;
 
 // The most bytes that are read at once, and room for a line for each.
 const PIECE: usize = 4096;
@@ -38,7 +39,8 @@ fn say_unread() {
     );
 }
 
-fn main() {
+fn main(rt: HostRuntime) {
+    let mut input = rt.stdin();
     let mut state = [0u8; night::STATE];
     let mut room = [0u8; trace::RECORD];
     let mut piece = [0u8; PIECE];
@@ -46,11 +48,9 @@ fn main() {
     let mut held = stream::opened();
     let mut reads: u64 = 0;
     while reads < READS {
-        let got = libc::read(0, &mut piece);
-        if got < 0 {
+        let Ok(n) = input.read(&mut piece) else {
             return say_unread();
-        }
-        let n = io::count(got, &piece);
+        };
         if n == 0 {
             let end = close(held, &mut state, &room, &mut text);
             write(&text[..end]);

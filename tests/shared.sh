@@ -24,10 +24,10 @@ run_alone() { # PROGRAM SEED
 # A program of the repository is proved and built, and writes what its file `stdout` has. Descriptors 3 and 4, at which `shown` reads names and hours,
 # are closed.
 proved() { # NAME
+    tools/prove "$1" || fault "$1 is not proved"
     mkdir -p target/tests
-    rt check "$1" 3<&- 4<&- >"target/tests/$1.log" 2>&1 && return
-    tail -n 20 "target/tests/$1.log"
-    fault "$1 is not proved, or wrote something else than crates/$1/stdout"
+    tools/run "target/bin/$1" <"crates/$1/stdin" >"target/tests/$1.wrote" 3<&- 4<&- || fault "the run of $1 stopped"
+    cmp -s "target/tests/$1.wrote" "crates/$1/stdout" || fault "$1 wrote something else than crates/$1/stdout: target/tests/$1.wrote"
 }
 
 same() { # WROTE WANTED WHAT

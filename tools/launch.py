@@ -17,7 +17,6 @@ It goes by the lines that the program writes (WATCHERS) and by what comes on des
 saved memory changes files, which tools/conversion.py does. Nights are joined by tools/nights.py, without a program. What the nights of several gauges have
 of one pond is put together by tools/asked.py. A page of a night is made by tools/page of the lines of bin/shown --plain.
 """
-import hashlib
 import os
 import re
 import shutil
@@ -268,30 +267,14 @@ WATCHERS = {"replay": Replay, "shown": Shown, "told": Told, "ponds": Ponds, "why
 
 # --- The program -------------------------------------------------------------------------------------------------------------
 
-def sums_of(name):
-    """What a program was made of and is, as one sum: the sources of its crates, and itself."""
-    whole = hashlib.sha256()
-    files = [os.path.join(at, file) for crate in layers.below([name]) for part in ("src", "specs", "proofs") for at, _, found in os.walk("crates/%s/%s" % (crate, part))
-             for file in found]
-    for path in sorted(files) + ["target/bin/" + name]:
-        whole.update(path.encode() + b"\0" + open(path, "rb").read())
-    return whole.hexdigest()
-
-
 def build(name):
     """Proves and builds the program where that is needed."""
-    stamp = "target/launch-%s.stamp" % name
-    if os.path.exists("target/bin/" + name) and os.path.exists(stamp) and open(stamp, encoding="utf-8").read() == sums_of(name):
+    if layers.is_made(name):
         return
     if not shutil.which("rt"):
         raise Fault("the Rattle kit is missing: its command rt must be on the PATH")
     if subprocess.run(["tools/prove", name], stdin=subprocess.DEVNULL).returncode != 0:
         raise Fault("not proved, so it is not run")
-    try:
-        with open(stamp, "w", encoding="utf-8") as file:
-            file.write(sums_of(name))
-    except OSError:  # a keeper who may only read: rt looks each time, which is quick
-        pass
 
 
 def opened(path, what):

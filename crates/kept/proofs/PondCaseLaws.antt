@@ -1,7 +1,7 @@
 -- The drop rule of several own keys on worked cases, computed: cases 3, 4 and 5 of document 01, and two more. Assumes nothing.
 use mathlib.Core.Path.{◌≡◌, refl}
-use mathlib.Core.List.{List, [], ◌∷◌}
-use Prim.Native.Nat.{ℕ, ◌-◌, ◌^◌}
+use mathlib.Core.List.{[], ◌∷◌}
+use Prim.Native.Nat.{◌-◌, ◌^◌}
 use Rattle.key.specs.Number.{distance}
 use Rattle.key.specs.Around.{ring, half, are_keys, up, is_above, nearness, apart}
 use Rattle.kept.specs.Keys.{has, put, among, in_order}

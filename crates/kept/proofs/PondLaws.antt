@@ -1,8 +1,8 @@
 -- Which keys are in a neighbour list, by their places round the ring; and the farthest of a list.
 -- In this order: lists whose places differ; the neighbour list of one own key, by places; the farthest of a list. Assumes nothing.
-use mathlib.Core.Path.{◌≡◌, refl, sym, ap, ap₂, ◌∙◌, subst}
+use mathlib.Core.Path.{◌≡◌, refl, sym, ap, ap₂, ◌∙◌}
 use mathlib.Core.Logic.{◌⊎◌, inl, inr}
-use mathlib.Core.Bool.{Bool, true, false, not, cond, ◌||◌}
+use mathlib.Core.Bool.{Bool, true, false, cond, ◌||◌}
 use mathlib.Core.List.{List, [], ◌∷◌, ◌++◌, reverse}
 use Prim.Native.Nat.{ℕ, zero, suc, ◌+◌, ◌-◌, ◌≤◌, ◌<◌, min}
 use native.Mathlib.Omega.{arith}
@@ -11,9 +11,9 @@ use lib.Dec.{eqb, ltb}
 use lib.ListN.{length, take, get_or, length-reverse}
 use borrow.Author.Tests.{lt-ltb, le-ltb, ltb-true, ltb-false, eq-eqb, ne_eqb}
 use Rattle.key.specs.Around.{below, above, ring, up, apart}
-use Rattle.kept.specs.Keys.{◌∈◌, has, Every, Rising, plain, among}
+use Rattle.kept.specs.Keys.{◌∈◌, has, Every, Rising, plain}
 use Rattle.kept.specs.Plain.{count_below, neighbours, neighbour_list}
-use Rattle.kept.specs.Turned.{NotKey, turned, wrapped, count_under, going_up, in_run}
+use Rattle.kept.specs.Turned.{NotKey, wrapped, count_under, going_up, in_run}
 use Rattle.kept.specs.Ponds.{farthest_from}
 use Rattle.kept.proofs.PutLaws.{Tri, less, same, more, tri}
 use Rattle.kept.proofs.ListLaws.{Test, pass, fail, test, in_get_d, rising-at}

@@ -1,13 +1,13 @@
 -- Which place goes under several own keys. Those farthest from the first of them stand beside the point opposite it: it is the first that is in
 -- no list on one of the two ways out from there. In this order: lists by place; how far the keys are; the key that goes; its place. Assumes nothing.
-use mathlib.Core.Path.{◌≡◌, refl, sym, ap, ◌∙◌, subst}
+use mathlib.Core.Path.{◌≡◌, refl, sym, ap, ◌∙◌}
 use mathlib.Core.Logic.{◌⊎◌, inl, inr}
 use mathlib.Core.Bool.{Bool, true, false, not}
 use mathlib.Core.List.{List, [], ◌∷◌}
 use Prim.Native.Nat.{ℕ, zero, suc, ◌+◌, ◌-◌, ◌*◌, ◌≤◌, ◌<◌}
 use native.Mathlib.Omega.{arith}
 use lib.ListN.{length, get_or}
-use Rattle.key.specs.Around.{ring, up, is_above, nearness, apart}
+use Rattle.key.specs.Around.{ring, up, apart}
 use Rattle.key.proofs.RingLaws.{up_back}
 use Rattle.key.proofs.AroundLaws.{near_up, near_down, near_apart}
 use Rattle.kept.specs.Keys.{◌∈◌, Every, Rising, plain, among}

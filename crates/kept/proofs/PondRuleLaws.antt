@@ -3,11 +3,11 @@
 use mathlib.Core.Path.{◌≡◌, refl, sym, ap, ◌∙◌}
 use mathlib.Core.Logic.{◌⊎◌, inl, inr}
 use mathlib.Core.Bool.{Bool, true, false, not, cond, ◌||◌}
-use mathlib.Core.List.{List, [], ◌∷◌, ◌++◌}
+use mathlib.Core.List.{List, [], ◌∷◌}
 use Prim.Native.Nat.{ℕ, suc, ◌+◌, ◌*◌, ◌≤◌, ◌<◌}
 use native.Mathlib.Omega.{arith}
 use lib.Dec.{eqb}
-use lib.ListN.{length, take, length-append, length-take}
+use lib.ListN.{length, length-append, length-take}
 use borrow.Author.Tests.{eqb-true, ne_eqb}
 use Rattle.key.specs.Around.{Side, below, above, ring, side_of, nearness, apart}
 use Rattle.key.specs.Number.{distance}
@@ -18,7 +18,7 @@ use Rattle.key.proofs.AroundLaws.{apart_round}
 use Rattle.kept.specs.Keys.{◌∈◌, has, Every, Rising, plain, among}
 use Rattle.kept.specs.Neighbours.{nearest_first}
 use Rattle.kept.specs.Plain.{NotOwn, first_of, neighbours, neighbour_list, drops}
-use Rattle.kept.specs.Rules.{Order, DropRule}
+use Rattle.kept.specs.Rules.{DropRule}
 use Rattle.kept.specs.Demand3.{PlainDemand3, PlainSameKeysSameNeighbours}
 use Rattle.kept.specs.Ponds.{is_listed, spare, farthest_from, drops_of}
 use Rattle.kept.proofs.ListLaws.{Test, pass, fail, test, every_at, every_of, rising-at, has_in, mem-among, among-pass, among-fail}

@@ -19,7 +19,6 @@ use Rattle.kept.specs.Turned.{NotKey, turned, count_under, count_upto, going_up}
 use Rattle.key.proofs.RingLaws.{up_straight, up_over, up_back}
 use Rattle.key.specs.Across.{across}
 use Rattle.key.proofs.AroundLaws.{above_half, near_up, near_down, low_over, low_under, high_over, high_under}
-use Rattle.kept.proofs.PutLaws.{Tri, less, same, more, tri}
 use Rattle.kept.proofs.RankedLaws.{ranked, mem-inOrder, mem-ranked, ranked-mem, ranked-rises}
 use Rattle.kept.proofs.HistoryLaws.{is_side, on, apart}
 use Rattle.kept.proofs.Demand3Laws.{plain-order}

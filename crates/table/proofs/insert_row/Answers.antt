@@ -3,7 +3,6 @@ use mathlib.Core.Path.{◌∙◌}
 use native.Mathlib.Nat.{mul-le-mul_left}
 use native.Mathlib.Omega.{arith}
 use Rattle.table.proofs.EditLaws.{insert-laid}
-use borrow.Author.Rules.{rules}
 use Rattle.table.proofs.insert_row.Goals as goal
 
 pub overflow_mul-from : goal.overflow_mul-from

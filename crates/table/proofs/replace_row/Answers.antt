@@ -4,7 +4,6 @@ use Prim.Native.Nat.{◌+◌, ◌*◌, ◌≤◌}
 use native.Mathlib.Nat.{mul-le-mul_left, mul-suc}
 use native.Mathlib.Omega.{arith}
 use Rattle.table.proofs.EditLaws.{replace-laid}
-use borrow.Author.Rules.{rules}
 use Rattle.table.proofs.replace_row.Goals.{Start}
 use Rattle.table.proofs.replace_row.Goals as goal
 

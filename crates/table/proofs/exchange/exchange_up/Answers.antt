@@ -4,7 +4,6 @@ use mathlib.Core.List.{List}
 use Prim.Native.Nat.{ℕ, ◌*◌}
 use Rattle.octet.specs.Part.{splice}
 use Rattle.table.proofs.ExchangeLaws.{exchanged-up}
-use borrow.Author.Rules.{rules}
 use Rattle.table.proofs.exchange.exchange_up.Goals as goal
 
 pub returns : goal.returns

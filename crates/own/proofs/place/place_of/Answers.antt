@@ -45,8 +45,7 @@ loop-i-preserved c =
 
 pub returns : goal.returns
 returns c =
-    let all = let l = c in
-    let s = c in
-    let a = s.args in
-    absurd (not_own (own_keys a.own.now) (key_at a.at a.s.now)
-    (l.loop-i.invariant.2 ∙ has_end (length a.own.now / 100) a.own.now l.loop-i.i (key_at a.at a.s.now) (omega arith)) s.requires.own) in record { value = all.0; upper_bound = all.1 }
+    let a = c.args in
+    let none : ⊥ = not_own (own_keys a.own.now) (key_at a.at a.s.now)
+    (c.loop-i.invariant.2 ∙ has_end (length a.own.now / 100) a.own.now c.loop-i.i (key_at a.at a.s.now) (omega arith)) c.requires.own in
+    record { value = absurd none; upper_bound = absurd none }

@@ -38,7 +38,7 @@ put_entry-requires c =
     let answer = c in
     let room = c in
     let w = there room.before in
-    (w.within, w.formed, omega (arith, w.long, room.if-out-size.false, answer.put_answer.auto.0))
+    (w.within, w.formed, omega (arith, w.long, room.if-out-size.false, answer.put_answer.auto.out))
 
 pub returns : goal.returns
 returns c =

@@ -52,7 +52,7 @@ put_entry-requires c =
     let front = c in
     let room = c in
     let w = there room.before in
-    (w.within, w.formed, omega (arith, w.long, room.if-out-size.false, front.put_keyed.auto.0))
+    (w.within, w.formed, omega (arith, w.long, room.if-out-size.false, front.put_keyed.auto.out))
 
 pub returns : goal.returns
 returns c =

@@ -2,12 +2,11 @@
 use native.Mathlib.Omega.{arith}
 use borrow.Author.Tests.{not-true, not-false}
 use Rattle.wire_write.specs.Pieces.{past_of}
-use borrow.Author.Rules.{rules}
 use Rattle.wire_whole.proofs.whole.piece_past.Goals as goal
 
 pub returns-then-not-p : goal.returns-then-not-p
 unfolding past_of
-returns-then-not-p c = rw (c.if-not-p.true) (omega (arith, c.requires))
+returns-then-not-p c = rw (not-true c.args.p.there c.if-not-p.true) (omega (arith, c.requires))
 
 pub returns : goal.returns
-returns c = rw (c.if-not-p.false) c.past.ensures
+returns c = rw (not-false c.args.p.there c.if-not-p.false) c.past.ensures

@@ -25,9 +25,9 @@ loop-i-preserved c =
     let start = c in
     let a = start.args in
     let i = at-loop.loop-i.i in
-    let hr : i < length a.t1 = omega (arith, start.requires.0) in
-    let hp : i < length a.t2 = omega (arith, start.requires.1) in (
-      step-cap a.t1 a.t2 i no_row no_piece_lem hr hp at-loop.loop-i.at _ c.piece_past-at.ensures ∙ at-loop.loop-i.invariant.0,
+    let hr : i < length a.rows = omega (arith, start.requires.0) in
+    let hp : i < length a.ps = omega (arith, start.requires.1) in (
+      step-cap a.rows a.ps i no_row no_piece_lem hr hp at-loop.loop-i.at _ c.piece_past-at.ensures ∙ at-loop.loop-i.invariant.0,
       omega arith,
       omega (arith, c.piece_past-at.ensures),
     )
@@ -38,6 +38,6 @@ returns c =
     let a = start.args in
     let v = c.loop-i.invariant in
     let i = c.loop-i.i in
-    let d : drop i a.t1 ≡ [] = drop_of_length-le a.t1 {i = i} (omega (arith, start.requires.0, v.1)) in
-    let e : min 1233 c.loop-i.at ≡ min 1233 (end_rows 12 a.t1 a.t2) = rw d at v.0 in
+    let d : drop i a.rows ≡ [] = drop_of_length-le a.rows {i = i} (omega (arith, start.requires.0, v.1)) in
+    let e : min 1233 c.loop-i.at ≡ min 1233 (end_rows 12 a.rows a.ps) = rw d at v.0 in
     omega (arith, v.2)

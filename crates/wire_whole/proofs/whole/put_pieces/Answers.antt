@@ -8,12 +8,6 @@ use Rattle.wire_write.specs.declared.Row.{Row}
 use Rattle.wire_write.specs.declared.Piece.{Piece}
 use Rattle.wire_write.proofs.PieceLaws.{no_row, no_piece_lem, step_in, step_room, step-short, step-put, step_end, step_same, end_rows_lem}
 use Rattle.wire_write.proofs.WriteLaws.{put_all, put_all_lem}
-record Left (out₀ : List ℕ) (l : Lent) (rows : List Row) (ps : List Piece) (out : List ℕ) (i at : ℕ) : Type 0 where
-  puts : put_all out at (kinds_of_rows (drop i rows)) (givens_of l (drop i ps)) ≡ put_all out₀ 12 (kinds_of_rows rows) (givens_of l ps)
-  ends : end_rows at (drop i rows) (drop i ps) ≡ end_rows 12 rows ps
-  inside : AllIn l (drop i ps)
-  some : i ≤ 9
-  same : length out ≡ length out₀
 use Rattle.wire_whole.proofs.whole.put_pieces.Goals as goal
 
 pub loop-i-init : goal.loop-i-init
@@ -34,10 +28,14 @@ put_piece-at-requires c =
     let at = at-loop.loop-i.at in
     let v = at-loop.loop-i.invariant in
     let l = lent_of a.spelled.now a.first.now a.second.now in
-    let hr : i < length a.t2 = omega (arith, start.requires.rows_len.0) in
-    let hp : i < length a.t3 = omega (arith, start.requires.rows_len.1) in
-    let e : end_rows at (drop i a.t2) (drop i a.t3) ≤ length at-loop.loop-i.out = omega (arith, v.ends, v.same, start.requires.ps_in_bounds) in record { piece_in = (step_in a.t2 a.t3 i no_row no_piece_lem hr hp l v.inside).0; len_in_bounds = step_room a.t2 a.t3 i no_row no_piece_lem hr hp at _ e; len_bound = step-short a.t2 a.t3 i no_row no_piece_lem hr hp at (end_rows at (drop i a.t2) (drop i a.t3)) (omega arith)
-            (omega (arith, v.ends, start.requires.ps_bound)) }
+    let hr : i < length a.rows = omega (arith, start.requires.rows_len.0) in
+    let hp : i < length a.ps = omega (arith, start.requires.rows_len.1) in
+    let e : end_rows at (drop i a.rows) (drop i a.ps) ≤ length at-loop.loop-i.out = omega (arith, v.ends, v.same, start.requires.ps_in_bounds) in record {
+      piece_in = (step_in a.rows a.ps i no_row no_piece_lem hr hp l v.inside).0;
+      len_in_bounds = step_room a.rows a.ps i no_row no_piece_lem hr hp at _ e;
+      len_bound = step-short a.rows a.ps i no_row no_piece_lem hr hp at (end_rows at (drop i a.rows) (drop i a.ps)) (omega arith)
+          (omega (arith, v.ends, start.requires.ps_bound));
+    }
 
 pub loop-i-preserved : goal.loop-i-preserved
 loop-i-preserved c =
@@ -48,17 +46,17 @@ loop-i-preserved c =
     let at = at-loop.loop-i.at in
     let v = at-loop.loop-i.invariant in
     let l = lent_of a.spelled.now a.first.now a.second.now in
-    let hr : i < length a.t2 = omega (arith, start.requires.rows_len.0) in
-    let hp : i < length a.t3 = omega (arith, start.requires.rows_len.1) in
-    let e : end_rows at (drop i a.t2) (drop i a.t3) ≤ length at-loop.loop-i.out = omega (arith, v.ends, v.same, start.requires.ps_in_bounds) in
-    let q = step_in a.t2 a.t3 i no_row no_piece_lem hr hp l v.inside in
+    let hr : i < length a.rows = omega (arith, start.requires.rows_len.0) in
+    let hp : i < length a.ps = omega (arith, start.requires.rows_len.1) in
+    let e : end_rows at (drop i a.rows) (drop i a.ps) ≤ length at-loop.loop-i.out = omega (arith, v.ends, v.same, start.requires.ps_in_bounds) in
+    let q = step_in a.rows a.ps i no_row no_piece_lem hr hp l v.inside in
     let r = c.put_piece-at.ensures in
     record {
-      puts = rw (r.0, r.1) (sym (step-put a.t2 a.t3 i no_row no_piece_lem hr hp l q.0 _ at) ∙ v.puts);
-      ends = rw r.0 (sym (step_end a.t2 a.t3 i no_row no_piece_lem hr hp at) ∙ v.ends);
+      puts = rw (r.value, r.out_after) (sym (step-put a.rows a.ps i no_row no_piece_lem hr hp l q.0 _ at) ∙ v.puts);
+      ends = rw r.value (sym (step_end a.rows a.ps i no_row no_piece_lem hr hp at) ∙ v.ends);
       inside = q.1;
       some = omega arith;
-      same = ap length r.1 ∙ step_same a.t2 a.t3 i no_row no_piece_lem hr hp l q.0 _ at e ∙ v.same;
+      same = ap length r.out_after ∙ step_same a.rows a.ps i no_row no_piece_lem hr hp l q.0 _ at e ∙ v.same;
     }
 
 pub shape_of-out : goal.shape_of-out
@@ -71,7 +69,7 @@ returns c =
     let v = c.loop-i.invariant in
     let i = c.loop-i.i in
     let l = lent_of a.spelled.now a.first.now a.second.now in
-    let gs = givens_of l a.t3 in
-    let d : drop i a.t2 ≡ [] = drop_of_length-le a.t2 {i = i} (omega (arith, v.some, start.requires.rows_len.0)) in
-    let e : c.loop-i.out ≡ put_all a.out.now 12 (kinds_of_rows a.t2) gs = rw d at v.puts in
-    e ∙ put_all_lem (kinds_of_rows a.t2) a.out.now 12 gs (omega (arith, end_rows_lem l a.t2 12 a.t3 start.requires.all_in, start.requires.ps_in_bounds))
+    let gs = givens_of l a.ps in
+    let d : drop i a.rows ≡ [] = drop_of_length-le a.rows {i = i} (omega (arith, v.some, start.requires.rows_len.0)) in
+    let e : c.loop-i.out ≡ put_all a.out.now 12 (kinds_of_rows a.rows) gs = rw d at v.puts in
+    e ∙ put_all_lem (kinds_of_rows a.rows) a.out.now 12 gs (omega (arith, end_rows_lem l a.rows 12 a.ps start.requires.all_in, start.requires.ps_in_bounds))

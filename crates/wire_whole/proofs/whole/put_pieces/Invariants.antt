@@ -9,13 +9,14 @@ use Rattle.wire_write.specs.declared.Row.{Row}
 use Rattle.wire_write.specs.declared.Piece.{Piece}
 use Rattle.wire_write.proofs.PieceLaws.{no_row, no_piece_lem, step_in, step_room, step-short, step-put, step_end, step_same, end_rows_lem}
 use Rattle.wire_write.proofs.WriteLaws.{put_all, put_all_lem}
-record Left (out₀ : List ℕ) (l : Lent) (rows : List Row) (ps : List Piece) (out : List ℕ) (i at : ℕ) : Type 0 where
-  puts : put_all out at (kinds_of_rows (drop i rows)) (givens_of l (drop i ps)) ≡ put_all out₀ 12 (kinds_of_rows rows) (givens_of l ps)
-  ends : end_rows at (drop i rows) (drop i ps) ≡ end_rows 12 rows ps
-  inside : AllIn l (drop i ps)
-  some : i ≤ 9
-  same : length out ≡ length out₀
 use Rattle.wire_whole.proofs.whole.put_pieces.Given as goal
+
+pub record Left (out₀ : List ℕ) (l : Lent) (rows : List Row) (ps : List Piece) (out : List ℕ) (i at : ℕ) : Type 0 where
+  pub puts : put_all out at (kinds_of_rows (drop i rows)) (givens_of l (drop i ps)) ≡ put_all out₀ 12 (kinds_of_rows rows) (givens_of l ps)
+  pub ends : end_rows at (drop i rows) (drop i ps) ≡ end_rows 12 rows ps
+  pub inside : AllIn l (drop i ps)
+  pub some : i ≤ 9
+  pub same : length out ≡ length out₀
 
 abbrev pub invariant-loop-i : goal.invariant-loop-i
 invariant-loop-i l = Left l.initial.out (lent_of l.spelled l.first l.second) l.rows l.ps l.out l.i l.at

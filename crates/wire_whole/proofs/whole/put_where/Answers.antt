@@ -31,7 +31,7 @@ put_pieces-requires c =
     let f = s.requires.out_value (c.if-not-room.false) in
     let w = ends-within K a.major a.minor a.kind a.id gs a.out.now f in
     let y = end_rows_lem (lent_of a.spelled.now a.first.now a.second.now) a.rows 12 a.ps s.requires.all_in in
-    record { rows_len = s.requires.rows_len; all_in = s.requires.all_in; ps_in_bounds = omega (arith, c.put_header.auto.0); ps_bound = omega arith }
+    record { rows_len = s.requires.rows_len; all_in = s.requires.all_in; ps_in_bounds = omega (arith, c.put_header.auto.out); ps_bound = omega arith }
 
 pub returns : goal.returns
 unfolding made_by

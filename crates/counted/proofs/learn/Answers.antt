@@ -27,7 +27,7 @@ use Rattle.firsts.proofs.CountLaws.{OneMore, more-put, less-without}
 use Rattle.firsts.proofs.FirstsLaws.{firsts_length, row_room, counted-up, counted-down, some-there}
 use Rattle.counted.proofs.ChangeLaws.{Learnt, learnt, told-stays, told-joins, told-alone, told-trades}
 use borrow.Author.Rules.{rules}
-use Rattle.counted.proofs.learn.Goals.{After-count_up, After-first_byte, After-firsts-1, After-learn-change, Start}
+use Rattle.counted.proofs.learn.Goals.{After-count_up, After-first_byte, After-learn-change, Start}
 use Rattle.counted.proofs.learn.Goals as goal
 
 abbrev start : After-learn-change → Start
@@ -95,7 +95,7 @@ upped c =
 
 -- another leaves
 abbrev upping : After-first_byte → After-count_up
-upping c = (goal.at.After-first_byte c).After-firsts-1
+upping c = (goal.at.After-first_byte c).After-count_up
 
 does-leave : (c : After-first_byte) → (learning (upping c)).learn-change.result.left ≡ true
 does-leave c = not-false (learning (upping c)).learn-change.result.left c.if-not-change-2.false
@@ -116,11 +116,11 @@ more-few s = omega (arith, length-put plain (newcomer s) (keys s), many s)
 pub returns-then-not-change : goal.returns-then-not-change
 returns-then-not-change c =
     let at = (goal.at.returns-then-not-change c).After-learn-change in
-    record { cache_after = at.learn-change.ensures.cache_after; firsts_after = (start at).requires.firsts_value ∙ sym (ap firsts_of (told-stays (told at) (c.if-not-change.true))) }
+    record { cache_after = at.learn-change.ensures.cache_after; firsts_after = (start at).requires.firsts_value ∙ sym (ap firsts_of (told-stays (told at) (not-true _ c.if-not-change.true))) }
 
 pub bounds-record-0 : goal.bounds-record-0
 bounds-record-0 c =
-    let s = start c.before.before.before.before.before.before in
+    let s = (goal.at.bounds-record-0 c).Start in
     omega (arith, form_length s.args.«record».now s.requires.own_value.1)
 
 pub count_up-requires : goal.count_up-requires
@@ -136,7 +136,7 @@ pub returns-then-not-change-2 : goal.returns-then-not-change-2
 returns-then-not-change-2 c =
     let up = (goal.at.returns-then-not-change-2 c).After-count_up in
     let at = learning up in
-    record { cache_after = at.learn-change.ensures.cache_after; firsts_after = upped up ∙ sym (ap firsts_of (told-alone (told at) (does-join up) (c.if-not-change-2.true))) }
+    record { cache_after = at.learn-change.ensures.cache_after; firsts_after = upped up ∙ sym (ap firsts_of (told-alone (told at) (does-join up) (not-true _ c.if-not-change-2.true))) }
 
 pub count_down-requires : goal.count_down-requires
 count_down-requires c =

@@ -66,26 +66,23 @@ pub returns-then-not-change : goal.returns-then-not-change
 returns-then-not-change c =
     let done = (goal.at.returns-then-not-change c).After-remove-change in
     let s = start done in
-    let e = ap (λ (x : Changes). x.left) (sym done.remove-change.ensures.result_value) ∙ c.if-not-change.true in record { cache_after = done.remove-change.ensures.cache_after; firsts_after = s.requires.firsts_value ∙ sym (ap firsts_of (told-kept (gone s) (rows 100 s.args.used s.args.cache.now) e)) }
+    let e = ap (λ (x : Changes). x.left) (sym done.remove-change.ensures.result_value) ∙ not-true _ c.if-not-change.true in record { cache_after = done.remove-change.ensures.cache_after; firsts_after = s.requires.firsts_value ∙ sym (ap firsts_of (told-kept (gone s) (rows 100 s.args.used s.args.cache.now) e)) }
 
 pub count_down-requires : goal.count_down-requires
 count_down-requires c =
-    let else = c in
     let done = (goal.at.count_down-requires c).After-remove-change in
     let s = start done in (
       ap length s.requires.firsts_value ∙ firsts_length (keys s),
       subst (λ (f : List ℕ). 0 < count_at (byte done) f) (sym s.requires.firsts_value)
-          (some-there (byte done) (bytes done 0) _ (keys s) (less done (else.if-not-change.false)) (few s)),
+          (some-there (byte done) (bytes done 0) _ (keys s) (less done (not-false _ c.if-not-change.false)) (few s)),
     )
 
 pub returns : goal.returns
 returns c =
-    let down = c in
-    let else = c in
     let done = (goal.at.returns c).After-remove-change in
     let s = start done in record {
       cache_after = done.remove-change.ensures.cache_after;
-      firsts_after = down.count_down.ensures ∙ ap (λ (f : List ℕ). with_count (byte done) (count_at (byte done) f - 1) f) s.requires.firsts_value
-          ∙ counted-down (byte done) (bytes done 0) _ (keys s) (less done (else.if-not-change.false)) (few s)
+      firsts_after = c.count_down.ensures ∙ ap (λ (f : List ℕ). with_count (byte done) (count_at (byte done) f - 1) f) s.requires.firsts_value
+          ∙ counted-down (byte done) (bytes done 0) _ (keys s) (less done (not-false _ c.if-not-change.false)) (few s)
           ∙ sym (ap firsts_of (removed_keys (gone s) (rows 100 s.args.used s.args.cache.now)));
     }

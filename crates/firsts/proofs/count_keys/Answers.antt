@@ -7,7 +7,7 @@ use Rattle.record.specs.Record.{key_of}
 use Rattle.table.specs.Rows.{rows}
 use Rattle.firsts.specs.Firsts.{firsts_of}
 use Rattle.firsts.proofs.FirstsLaws.{firsts_length}
-use Rattle.firsts.proofs.count_keys.Goals.{At-loop-four, Start}
+use Rattle.firsts.proofs.count_keys.Goals.{Start}
 use Rattle.firsts.proofs.count_keys.Goals as goal
 
 -- the counts of the first n records
@@ -23,17 +23,14 @@ count_four-requires c = (omega arith, omega arith, c.loop-four.invariant.1)
 
 pub loop-four-preserved : goal.loop-four-preserved
 loop-four-preserved c =
-    let turn = c in
-    let l = c in
-    let e : 4 * l.loop-four.four + 4 ≡ 4 * (l.loop-four.four + 1) = omega arith in
-    (omega arith, turn.count_four.ensures ∙ ap (counts (goal.at.At-loop-four l).Start) e)
+    let e : 4 * c.loop-four.four + 4 ≡ 4 * (c.loop-four.four + 1) = omega arith in
+    (omega arith, c.count_four.ensures ∙ ap (counts (goal.at.loop-four-preserved c).Start) e)
 
 pub loop-i-init : goal.loop-i-init
 loop-i-init c =
-    let l = c in
     let s = (goal.at.loop-i-init c).Start in
-    let e : 4 * l.loop-four.four ≡ 4 * (s.args.used / 4) = omega arith in
-    (omega arith, l.loop-four.invariant.1 ∙ ap (counts s) e)
+    let e : 4 * c.loop-four.four ≡ 4 * (s.args.used / 4) = omega arith in
+    (omega arith, c.loop-four.invariant.1 ∙ ap (counts s) e)
 
 pub count_record-requires : goal.count_record-requires
 count_record-requires c = (omega arith, omega arith, c.loop-i.invariant.1)
@@ -43,8 +40,7 @@ loop-i-preserved c = (omega arith, c.count_record.ensures)
 
 pub shape_of-fresh : goal.shape_of-fresh
 shape_of-fresh c =
-    let s = c in
-    ap length c.loop-i.invariant.1 ∙ firsts_length _ ∙ sym (ap length s.requires.2 ∙ firsts_length _)
+    ap length c.loop-i.invariant.1 ∙ firsts_length _ ∙ sym (ap length c.requires.2 ∙ firsts_length _)
 
 pub returns : goal.returns
 returns c =

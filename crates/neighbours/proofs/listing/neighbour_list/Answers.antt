@@ -95,7 +95,7 @@ returns-then-not-is_own c =
     (not_isn't (sym c.is_own.ensures ∙ c.if-not-is_own.true)))
 
 -- the key is ours
-own_key : (c : Else-not-is_own) → is_own (own_keys (own c.before.before.before)) (key_at 0 (key c.before.before.before)) ≡ true
+own_key : (c : Else-not-is_own) → is_own (own_keys c.args.own.now) (key_at 0 c.args.key.now) ≡ true
 own_key c = sym c.is_own.ensures ∙ c.if-not-is_own.false
 
 pub returns-then-out-lt320 : goal.returns-then-out-lt320

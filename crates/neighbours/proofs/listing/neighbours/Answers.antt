@@ -31,9 +31,9 @@ first-most m =
     let s = start m in
     omega (arith, m.count_under-first.ensures, many s, under_le (key_at 0 s.args.key.now) (keys_of (rows 100 s.args.used s.args.cache.now)))
 
-under-most : (m : After-count_below-under) → m.count_below-under.result ≤ (start m.before).args.used
+under-most : (m : After-count_below-under) → m.count_below-under.result ≤ m.args.used
 under-most m =
-    let s = start m.before in
+    let s = (goal.at.After-count_below-under m).Start in
     omega (arith, m.count_below-under.ensures, many s, count-le (key_at 0 s.args.key.now) (keys_of (rows 100 s.args.used s.args.cache.now)))
 
 pub count_under-first-requires : goal.count_under-first-requires
@@ -43,7 +43,7 @@ count_under-first-requires c =
 
 pub count_below-under-requires : goal.count_below-under-requires
 count_below-under-requires c =
-    let s = start c in
+    let s = (goal.at.count_below-under-requires c).Start in
     record { in_bounds = (s.requires.in_bounds.0, room s); rising = s.requires.rising; every = s.requires.every; first_value = c.count_under-first.ensures }
 
 pub overflow_sub-used : goal.overflow_sub-used
@@ -51,49 +51,40 @@ overflow_sub-used c = under-most (goal.at.overflow_sub-used c).After-count_below
 
 pub keys_down-requires : goal.keys_down-requires
 keys_down-requires c =
-    let l1 = c in
-    let m = (goal.at.keys_down-requires c).After-count_below-under in
-    let s = start m.before in
-    let w = under-most m in
-    (room s, first-most (goal.at.After-count_below-under m).After-count_under-first, omega (arith, l1.lesser-below.ensures), omega (arith, l1.lesser-below.ensures, s.requires.in_bounds.1))
+    let s = (goal.at.keys_down-requires c).Start in
+    let w = under-most (goal.at.keys_down-requires c).After-count_below-under in
+    (
+      room s,
+      first-most (goal.at.keys_down-requires c).After-count_under-first,
+      omega (arith, c.lesser-below.ensures),
+      omega (arith, c.lesser-below.ensures, s.requires.in_bounds.1),
+    )
 
 pub overflow_mul-below : goal.overflow_mul-below
 overflow_mul-below c =
-    let l1 = c in
-    omega (arith, l1.lesser-below.ensures)
+    omega (arith, c.lesser-below.ensures)
 
 pub keys_up-requires : goal.keys_up-requires
 keys_up-requires c =
-    let kd = c in
-    let l2 = c in
-    let l1 = c in
-    let m = (goal.at.keys_up-requires c).After-count_below-under in
-    let s = start m.before in
-    let w = under-most m in (
+    let s = (goal.at.keys_up-requires c).Start in
+    let w = under-most (goal.at.keys_up-requires c).After-count_below-under in (
       room s,
-      first-most (goal.at.After-count_below-under m).After-count_under-first,
-      omega (arith, l2.lesser-above.ensures),
-      omega (arith, l1.lesser-below.ensures, l2.lesser-above.ensures, kd.keys_down.auto.1.1.1.1.0, s.requires.in_bounds.1),
+      first-most (goal.at.keys_up-requires c).After-count_under-first,
+      omega (arith, c.lesser-above.ensures),
+      omega (arith, c.lesser-below.ensures, c.lesser-above.ensures, c.keys_down.auto.out, s.requires.in_bounds.1),
     )
 
 pub returns : goal.returns
 returns c =
-    let ku = c in
-    let kd = c in
-    let l2 = c in
-    let l1 = c in
-    let m = c in
-    let n = (goal.at.returns c).After-count_under-first in
-    let s = start n in
+    let s = (goal.at.returns c).Start in
     let a = s.args in
-    let known2 = c in
-    let bytes : Bytes a.cache.now = λ i. omega (arith, known2.type_inv.cache i) in
-    let key_bytes_lem : Bytes a.key.now = λ i. omega (arith, known2.type_inv.key i) in
+    let bytes : Bytes a.cache.now = λ i. omega (arith, c.type_inv.cache i) in
+    let key_bytes_lem : Bytes a.key.now = λ i. omega (arith, c.type_inv.key i) in
     let o : key_at 0 a.key.now < ring = key-lt 0 a.key.now key_bytes_lem s.requires.in_bounds.0 in record {
-      value = near-counts (key_at 0 a.key.now) a.used a.cache.now s.requires.rising s.requires.every o bytes (room s) n.count_under-first.result m.count_below-under.result
-          l1.lesser-below.result l2.lesser-above.result n.count_under-first.ensures m.count_below-under.ensures l1.lesser-below.ensures l2.lesser-above.ensures;
-      out_after = near-out (key_at 0 a.key.now) a.used a.cache.now s.requires.rising s.requires.every o bytes (room s) n.count_under-first.result m.count_below-under.result
-          l1.lesser-below.result l2.lesser-above.result n.count_under-first.ensures m.count_below-under.ensures l1.lesser-below.ensures l2.lesser-above.ensures
-          a.out.now kd.keys_down.new.out ku.keys_up.new.out s.requires.in_bounds.1 kd.keys_down.ensures
-          ku.keys_up.ensures;
+      value = near-counts (key_at 0 a.key.now) a.used a.cache.now s.requires.rising s.requires.every o bytes (room s) c.count_under-first.result c.count_below-under.result
+          c.lesser-below.result c.lesser-above.result c.count_under-first.ensures c.count_below-under.ensures c.lesser-below.ensures c.lesser-above.ensures;
+      out_after = near-out (key_at 0 a.key.now) a.used a.cache.now s.requires.rising s.requires.every o bytes (room s) c.count_under-first.result c.count_below-under.result
+          c.lesser-below.result c.lesser-above.result c.count_under-first.ensures c.count_below-under.ensures c.lesser-below.ensures c.lesser-above.ensures
+          a.out.now c.keys_down.new.out c.keys_up.new.out s.requires.in_bounds.1 c.keys_down.ensures
+          c.keys_up.ensures;
     }

@@ -16,18 +16,18 @@ abbrev start : After-place_of_closest → Start
 start c = (goal.at.After-place_of_closest c).Start
 
 -- the place found is that of one of our records, or a used one
-inside : (c : In-Own) → 100 * c.in-Own.i + 100 ≤ length (start c.before.before.before).args.own.now
+inside : (c : In-Own) → 100 * c.in-Own.i + 100 ≤ length c.args.own.now
 inside c =
-    let found = c.before.before.before in
+    let found = (goal.at.In-Own c).After-place_of_closest in
     let s = start found in
     let own = s.args.own.now in
     let w : c.in-Own.i < length (own_records own) =
     subst (Within (length (own_records own)) s.args.used) c.in-Own.is found.place_of_closest.ensures.within in
     omega (arith, w, rows-length 100 (length own / 100) own, (own_formed own s.requires.own_value.0).many)
 
-used : (c : In-Held) → 100 * c.in-Held.i + 100 ≤ length (start c.before.before.before).args.cache.now
+used : (c : In-Held) → 100 * c.in-Held.i + 100 ≤ length c.args.cache.now
 used c =
-    let found = c.before.before.before in
+    let found = (goal.at.In-Held c).After-place_of_closest in
     let s = start found in
     let w : c.in-Held.i < s.args.used =
     subst (Within (length (own_records s.args.own.now)) s.args.used) c.in-Held.is found.place_of_closest.ensures.within in
@@ -58,20 +58,18 @@ slice_bounds-result-end-in-Held c = omega (arith, used (goal.at.slice_bounds-res
 
 pub returns-in-Own : goal.returns-in-Own
 returns-in-Own c =
-    let at_place = c in
     let found = (goal.at.returns-in-Own c).After-place_of_closest in
     let a = (start found).args in
-    let i = at_place.in-Own.i in
+    let i = c.in-Own.i in
     let n : 100 * i + 100 - 100 * i ≡ 100 = omega arith in
     ap (λ (k : ℕ). take k (drop (100 * i) a.own.now)) n
-    ∙ sym (ap (record_at a.own.now a.cache.now) at_place.in-Own.is) ∙ found.place_of_closest.ensures.result_value
+    ∙ sym (ap (record_at a.own.now a.cache.now) c.in-Own.is) ∙ found.place_of_closest.ensures.result_value
 
 pub returns-in-Held : goal.returns-in-Held
 returns-in-Held c =
-    let at_place = c in
     let found = (goal.at.returns-in-Held c).After-place_of_closest in
     let a = (start found).args in
-    let i = at_place.in-Held.i in
+    let i = c.in-Held.i in
     let n : 100 * i + 100 - 100 * i ≡ 100 = omega arith in
     ap (λ (k : ℕ). take k (drop (100 * i) a.cache.now)) n
-    ∙ sym (ap (record_at a.own.now a.cache.now) at_place.in-Held.is) ∙ found.place_of_closest.ensures.result_value
+    ∙ sym (ap (record_at a.own.now a.cache.now) c.in-Held.is) ∙ found.place_of_closest.ensures.result_value

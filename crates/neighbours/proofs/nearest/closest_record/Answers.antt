@@ -56,45 +56,34 @@ returns-in_default c =
 
 -- behind the test of memory
 passes : (k : In-Good) {A : Type 0} (refuse : ℕ → A) (done : A) (more : List Refusal)
-    → (let s = start k.before.before.before in
-    or_refuse refuse (memory_wrong s.args.own.now s.args.cache.now more) done ≡ or_refuse refuse more done)
-passes k refuse done more =
-    let found = c in
-    let m = found.before.before in
-    let s = start m in
-    memory-passes s.args.own.now s.args.cache.now m.memory-found.ensures found.in-Good.is refuse more done
+    → or_refuse refuse (memory_wrong k.args.own.now k.args.cache.now more) done ≡ or_refuse refuse more done
+passes k refuse done more = memory-passes k.args.own.now k.args.cache.now k.memory-found.ensures k.in-Good.is refuse more done
 
 -- the path is not whole, and it is
 wrong-path : (c : Then-not-is_path) {A : Type 0} (refuse : ℕ → A) (done : A)
-    → (let s = start c.before.before.before.before.before in let a = s.args in
-    or_refuse refuse (closest_wrong a.own.now a.cache.now a.path.now a.target.now) done ≡ refuse 1)
+    → (let a = c.args in or_refuse refuse (closest_wrong a.own.now a.cache.now a.path.now a.target.now) done ≡ refuse 1)
 wrong-path c refuse done =
-    let p = c in
-    let s = start p.before.before.before.before in
-    passes (goal.at.After-is_path p).In-Good refuse done _
-    ∙ row_applies refuse 1 (not (path_form s.args.path.now)) _ done (not_isn't (sym p.is_path.ensures ∙ c.if-not-is_path.true))
+    passes (goal.at.Then-not-is_path c).In-Good refuse done _
+    ∙ row_applies refuse 1 (not (path_form c.args.path.now)) _ done (not_isn't (sym c.is_path.ensures ∙ c.if-not-is_path.true))
 
 whole-path : (e : Else-not-is_path) {A : Type 0} (refuse : ℕ → A) (done : A)
-    → (let s = start e.before.before.before.before.before in let a = s.args in
-    or_refuse refuse (closest_wrong a.own.now a.cache.now a.path.now a.target.now) done
+    → (let a = e.args in or_refuse refuse (closest_wrong a.own.now a.cache.now a.path.now a.target.now) done
     ≡ or_refuse refuse (key_wrong a.target.now ∷ []) done)
 whole-path e refuse done =
-    let p = c in
-    let s = start p.before.before.before.before in
-    passes (goal.at.After-is_path p).In-Good refuse done _
-    ∙ row_passes refuse 1 (not (path_form s.args.path.now)) _ done (not_is (sym p.is_path.ensures ∙ e.if-not-is_path.false))
+    passes (goal.at.Else-not-is_path e).In-Good refuse done _
+    ∙ row_passes refuse 1 (not (path_form e.args.path.now)) _ done (not_is (sym e.is_path.ensures ∙ e.if-not-is_path.false))
 
 pub returns-then-not-is_path : goal.returns-then-not-is_path
 unfolding closest_call closest_compared
 returns-then-not-is_path c =
-    let s = start c.before.before.before.before.before in
+    let s = (goal.at.returns-then-not-is_path c).Start in
     record { nearest_value = sym (wrong-path (goal.at.returns-then-not-is_path c).Then-not-is_path refuse (done s)); inside = tt; compared_value = sym (wrong-path (goal.at.returns-then-not-is_path c).Then-not-is_path uncounted (counted s)) }
 
 pub returns-then-target-ne32 : goal.returns-then-target-ne32
 unfolding closest_call closest_compared
 returns-then-target-ne32 c =
     let e = (goal.at.returns-then-target-ne32 c).Else-not-is_path in
-    let s = start e.before.before.before.before.before in
+    let s = (goal.at.returns-then-target-ne32 c).Start in
     let n = length s.args.target.now in
     let wrong = not_isn't (ne_eqb n 32 c.if-target-ne32.true) in record { nearest_value = sym (whole-path e refuse (done s) ∙ row_applies refuse 1 (not (eqb n 32)) [] (done s) wrong); inside = tt; compared_value = sym (whole-path e uncounted (counted s) ∙ row_applies uncounted 1 (not (eqb n 32)) [] (counted s) wrong) }
 
@@ -131,7 +120,7 @@ module _ (e : Else-target-ne32) where
   no_rows : {A : Type 0} (refuse : ℕ → A) (done : A) → or_refuse refuse (closest_wrong own cache path target) done ≡ done
   no_rows refuse done =
       whole-path (goal.at.Else-target-ne32 e).Else-not-is_path refuse done
-      ∙ row_passes refuse 1 (not (eqb (length target) 32)) [] done (not_is (eq-eqb (length target) 32 e.if-target-ne32.left))
+      ∙ row_passes refuse 1 (not (eqb (length target) 32)) [] done (not_is (eq-eqb (length target) 32 e.if-target-ne32.false))
       ∙ no_row refuse done
 
   accepted : closest_call own cache path target ≡ shown 0 (closest_of (key_at 0 target) (candidates (own_records own) (off_path path (rows 100 used cache))))
@@ -150,12 +139,12 @@ find_key-sought-requires c = record { used_in_bounds = room (goal.at.find_key-so
 -- what the search told
 module _ (f : After-find_key-sought) where
   abbrev keys : List ℕ
-  keys = keys_of (rows 100 (used (goal.at.After-find_key-sought f).Else-target-ne32) (cache (goal.at.After-find_key-sought f).Else-target-ne32))
+  keys = keys_of (rows 100 f.in-Good.used f.args.cache.now)
 
-  place : f.find_key-sought.result.at ≡ count_under (key_at 0 (target f.before)) keys
+  place : f.find_key-sought.result.at ≡ count_under (key_at 0 f.args.target.now) keys
   place = ap (λ (q : Sought). q.at) f.find_key-sought.ensures
 
-  counted-all : f.find_key-sought.result.compared ≡ halvings keys (key_at 0 (target f.before))
+  counted-all : f.find_key-sought.result.compared ≡ halvings keys (key_at 0 f.args.target.now)
   counted-all = ap (λ (q : Sought). q.compared) f.find_key-sought.ensures
 
 pub place_of_closest-requires : goal.place_of_closest-requires
@@ -166,14 +155,10 @@ place_of_closest-requires c =
 
 pub returns-in-Own : goal.returns-in-Own
 returns-in-Own c =
-    let place = c in
-    let p = c in
-    let e = (goal.at.returns-in-Own c).Else-target-ne32 in record { nearest_value = sym (accepted e ∙ ap (shown 0) (sym p.place_of_closest.ensures.result_value ∙ ap (record_at (own e) (cache e)) place.in-Own.is)); inside = subst (Within (length (own_records (own e))) (used e)) place.in-Own.is p.place_of_closest.ensures.within; compared_value = counted-all (goal.at.After-place_of_closest p).After-find_key-sought ∙ sym (count e) }
+    let e = (goal.at.returns-in-Own c).Else-target-ne32 in record { nearest_value = sym (accepted e ∙ ap (shown 0) (sym c.place_of_closest.ensures.result_value ∙ ap (record_at (own e) (cache e)) c.in-Own.is)); inside = subst (Within (length (own_records (own e))) (used e)) c.in-Own.is c.place_of_closest.ensures.within; compared_value = counted-all (goal.at.returns-in-Own c).After-find_key-sought ∙ sym (count e) }
 
 pub returns-in-Held : goal.returns-in-Held
 returns-in-Held c =
-    let place = c in
-    let p = c in
     let e = (goal.at.returns-in-Held c).Else-target-ne32 in
-    let inside : place.in-Held.i < used e =
-    subst (Within (length (own_records (own e))) (used e)) place.in-Held.is p.place_of_closest.ensures.within in record { nearest_value = sym (accepted e ∙ ap (shown 0) (sym p.place_of_closest.ensures.result_value ∙ ap (record_at (own e) (cache e)) place.in-Held.is)); inside = (omega (arith, inside, ap length (held e), rows-length 100 (used e) (cache e)), omega (arith, inside, room e)); compared_value = counted-all (goal.at.After-place_of_closest p).After-find_key-sought ∙ sym (count e) }
+    let inside : c.in-Held.i < used e =
+    subst (Within (length (own_records (own e))) (used e)) c.in-Held.is c.place_of_closest.ensures.within in record { nearest_value = sym (accepted e ∙ ap (shown 0) (sym c.place_of_closest.ensures.result_value ∙ ap (record_at (own e) (cache e)) c.in-Held.is)); inside = (omega (arith, inside, ap length (held e), rows-length 100 (used e) (cache e)), omega (arith, inside, room e)); compared_value = counted-all (goal.at.returns-in-Held c).After-find_key-sought ∙ sym (count e) }

@@ -43,12 +43,14 @@ module _ (c : After-is_closer) where
   first = sym (c.is_closer.ensures ∙ ap₂ (closer t) read-over read_under)
 
 up-or-own : (c : After-is_closer-then-is_closer)
-    → closer (t (goal.at.After-is_closer-then-is_closer c).After-is_closer) (over (goal.at.After-is_closer-then-is_closer c).After-is_closer) (ours (goal.at.After-is_closer-then-is_closer c).After-is_closer) ≡ c.is_closer-then-is_closer.result
-up-or-own c = let m = c.before.before in sym (c.is_closer-then-is_closer.ensures ∙ ap₂ (closer (t m)) (read-over m) (read-ours m))
+    → (let m = (goal.at.After-is_closer-then-is_closer c).After-is_closer in closer (t m) (over m) (ours m) ≡ c.is_closer-then-is_closer.result)
+up-or-own c =
+    let m = (goal.at.After-is_closer-then-is_closer c).After-is_closer in sym (c.is_closer-then-is_closer.ensures ∙ ap₂ (closer (t m)) (read-over m) (read-ours m))
 
 down-or-own : (c : After-is_closer-2)
-    → closer (t (goal.at.After-is_closer-2 c).After-is_closer) (under (goal.at.After-is_closer-2 c).After-is_closer) (ours (goal.at.After-is_closer-2 c).After-is_closer) ≡ c.is_closer-2.result
-down-or-own c = let m = c.before.before in sym (c.is_closer-2.ensures ∙ ap₂ (closer (t m)) (read_under m) (read-ours m))
+    → (let m = (goal.at.After-is_closer-2 c).After-is_closer in closer (t m) (under m) (ours m) ≡ c.is_closer-2.result)
+down-or-own c =
+    let m = (goal.at.After-is_closer-2 c).After-is_closer in sym (c.is_closer-2.ensures ∙ ap₂ (closer (t m)) (read_under m) (read-ours m))
 
 pub returns-then-is_closer-2 : goal.returns-then-is_closer-2
 unfolding nearest_of

@@ -25,11 +25,9 @@ abbrev skips : Start → ℕ → Bool
 skips s j = skips_at s.args.path.now s.args.cache.now (steps_up s.args.used s.args.at j)
 
 -- what was looked at is that record
-looked : (c : After-on_path)
-    → (let head = c.before.before.before in skips (start head) head.loop-i.i ≡ c.on_path.result)
+looked : (c : After-on_path) → skips (goal.at.After-on_path c).Start c.loop-i.i ≡ c.on_path.result
 looked c =
-    let head = c.before.before.before in
-    let a = (start head).args in
+    let a = c.args in
     ap (λ (n : ℕ). on_path (part (100 * n) 100 a.cache.now) a.path.now) (sym c.wrap-start.ensures.0) ∙ sym c.on_path.ensures
 
 pub loop-i-init : goal.loop-i-init
@@ -43,10 +41,9 @@ overflow_mul-start c = omega (arith, c.wrap-start.ensures.1)
 
 pub on_path-requires : goal.on_path-requires
 on_path-requires c =
-    let s = start c.before.before in
-    let a = s.args in
+    let a = c.args in
     let i = c.wrap-start.result in
-    let formed = in_form (part (100 * i) 100 a.cache.now) (rows 100 a.used a.cache.now) s.requires.2 (row_in a.used i a.cache.now c.wrap-start.ensures.1) in
+    let formed = in_form (part (100 * i) 100 a.cache.now) (rows 100 a.used a.cache.now) c.requires.2 (row_in a.used i a.cache.now c.wrap-start.ensures.1) in
     let few : get_or (part (100 * i) 100 a.cache.now) 34 0 ≡ 1 = one_address (part (100 * i) 100 a.cache.now) formed in
     (omega (arith, c.wrap-start.ensures.1), omega (arith, few, part_at (100 * i) 100 34 a.cache.now (omega arith)))
 

@@ -56,8 +56,8 @@ place_some k ks r i e = by (has k ks) refl e
   where
     by : (b : Bool) → has k ks ≡ b → cond b (suc (count_under k ks)) 0 ≡ suc i → get_or ks i 0 ≡ k
     by true h n =
-        let at : find_key k ks ≡ At (count_under k ks) = found.found-sought k 0 ks r h in
-        subst (λ (j : ℕ). get_or ks j 0 ≡ k) (suc_inj n) (subst (found.Tells k ks) at (found.found-tells k 0 ks r))
+        let at : find_key k ks ≡ At (count_under k ks) = found.found_sought k 0 ks r h in
+        subst (λ (j : ℕ). get_or ks j 0 ≡ k) (suc_inj n) (subst (found.Tells k ks) at (found.found_tells k 0 ks r))
     by false h n = absurd (omega arith)
 
 -- ---- refused, or done

@@ -56,7 +56,7 @@ key_in_lem d s l e h = let n = sized-length 32 d s l e h in omega arith
 
 flood_known : (d : List ℕ) (ps : List Part) → Stand flood_kinds d 12 ps → KnownAnswer d (flood_shown d ps)
 flood_known d ps w =
-    let n₀ = needed (must 0x43 true (Sized 3) last_of_two_and_one) (drop 1 flood_kinds) d _ ps refl w in
+    let n₀ = needed (must 0x43 true (Sized 3) last_of_two_and_one) (drop 1 flood_kinds) d 12 ps refl w in
     let n₁ = needed (must 0x39 false (Sized 32) []) (drop 2 flood_kinds) d _ n₀.rest refl n₀.more in
     let n₂ = maybed (may 0x9F true Any []) (drop 3 flood_kinds) d _ n₁.rest n₁.more in
     let n₃ = maybed (may 0x9C true Any []) (drop 4 flood_kinds) d _ n₂.rest n₂.more in
@@ -69,7 +69,7 @@ flood_known d ps w =
 
 inquire_known : (d : List ℕ) (ps : List Part) → Stand inquire_kinds d 12 ps → KnownAnswer d (inquire_shown d ps)
 inquire_known d ps w =
-    let n₀ = needed (must 0x40 true (Sized 2) flags_axc) (drop 1 inquire_kinds) d _ ps refl w in
+    let n₀ = needed (must 0x40 true (Sized 2) flags_axc) (drop 1 inquire_kinds) d 12 ps refl w in
     let n₁ = needed (must 0x39 false (Sized 32) []) (drop 2 inquire_kinds) d _ n₀.rest refl n₀.more in
     let all = n₀.is ∙ ap (λ (r : List Part). Here n₀.s n₀.l ∷ r) n₁.is in
     subst (λ (q : List Part). KnownAnswer d (inquire_shown d q)) (sym all) (key_in_lem d n₁.s n₁.l n₁.shaped n₁.within)
@@ -89,7 +89,7 @@ array_in d s l e h = (omega (arith, leb-true 8 (length (part s l d)) (first _ _ 
 
 lookup_known : (d : List ℕ) (ps : List Part) → Stand lookup_kinds d 12 ps → KnownAnswer d (lookup_shown d ps)
 lookup_known d ps w =
-    let n₀ = needed controls (drop 1 lookup_kinds) d _ ps refl w in
+    let n₀ = needed controls (drop 1 lookup_kinds) d 12 ps refl w in
     let n₁ = needed (must 0x38 false (Sized 32) []) (drop 2 lookup_kinds) d _ n₀.rest refl n₀.more in
     let n₂ = needed (must 0x39 false (Sized 32) []) (drop 3 lookup_kinds) d _ n₁.rest refl n₁.more in
     let n₃ = maybed (may 0x9A true Entry []) (drop 4 lookup_kinds) d _ n₂.rest n₂.more in

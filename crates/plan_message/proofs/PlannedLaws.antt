@@ -97,18 +97,18 @@ module _ (m : Memory) (l : Receive) where
 pub message_needs : (own : List ℕ) (m : Memory) {h u : ℕ} → memory_of own m ≡ Fit h u
     → (own_form own ≡ true) × Form (own_keys own) m.cache (rows 100 h m.cache) × (140 * u ≤ length m.waiting)
 message_needs own m fit =
-    let r = subst (memory.KnownMemory own m) fit (memory.known-memory own m) in
+    let r = subst (memory.KnownMemory own m) fit (memory.known_memory own m) in
     (r.owned, r.form, r.laid.room)
 
 -- and what the test of the counts requires, and gives
 pub counts_need : (own : List ℕ) (m : Memory) {h u : ℕ} → memory_of own m ≡ Fit h u → (100 * h ≤ length m.cache) × (h ≤ 256)
 counts_need own m fit =
-    let r = subst (memory.KnownMemory own m) fit (memory.known-memory own m) in
+    let r = subst (memory.KnownMemory own m) fit (memory.known_memory own m) in
     (r.room, omega (arith, r.room, r.form.places.most))
 
 pub counts_by : (own : List ℕ) (m : Memory) {h u : ℕ} → memory_of own m ≡ Fit h u
     → counts_fit own m ≡ same m.firsts (firsts_of (keys_of (rows 100 h m.cache)))
-counts_by own m {h} {u} fit = memory.counts-held own m h u (subst (memory.KnownMemory own m) fit (memory.known-memory own m))
+counts_by own m {h} {u} fit = memory.counts_held own m h u (subst (memory.KnownMemory own m) fit (memory.known_memory own m))
 
 -- ---- what is known of a plan
 
@@ -300,19 +300,19 @@ memory_known m l (Fit h u) w =
     let fit = hands_fit m l in
     or_known (Known m l) Refuse (when 1 (not fit) ∷ []) (plan_for m l h u (R.read_in l.datagram l.major))
     (λ i. tt)
-    (λ f. message-known m l h u w (memory.known-hands m l (not-false fit f.0))
-    (memory.counted-held l.own m h u w (memory.known-counts m l (not-false fit f.0)))
+    (λ f. message-known m l h u w (memory.known_hands m l (not-false fit f.0))
+    (memory.counted_held l.own m h u w (memory.known_counts m l (not-false fit f.0)))
     (R.read_in l.datagram l.major) (known_answer l.datagram l.major))
 
 pub known : (m : Memory) (l : Receive) → Known m l (receive_plan m l)
 unfolding receive_plan
-known m l = memory_known m l (memory_of l.own m) (memory.known-memory l.own m)
+known m l = memory_known m l (memory_of l.own m) (memory.known_memory l.own m)
 
 -- ---- what the commits require
 
 module _ (m : Memory) (l : Receive) where
   pub plan-needs : comes_fit l ≡ true → (cpas_form (length (own_records l.own)) l.cpas ≡ true) × (length l.key ≡ 32)
-  plan-needs e = let w = memory.known-comes l e in (w.certified, w.keyed)
+  plan-needs e = let w = memory.known_comes l e in (w.certified, w.keyed)
 
   pub known_by : {p : Plan} → receive_plan m l ≡ p → Known m l p
   known_by e = subst (Known m l) e (known m l)

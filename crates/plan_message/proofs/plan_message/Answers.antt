@@ -69,13 +69,13 @@ plan_inquire-requires c =
 
 -- the places of a LOOKUP
 told-lookup : (c : In-11)
-    → (let m = c.before.before in
+    → (let m = (goal.at.In-11 c).After-brief_at-told in
     let x = m.brief_at-told.result in
     let d = (start m).args.datagram.now in
     (x.seen.target + 32 ≤ length d) × (8 ≤ x.size) × (x.path + x.size ≤ length d) × (x.seen.entry + x.seen.entry_length ≤ length d)
     × (0 < x.seen.entry_length → entry_form (part x.seen.entry x.seen.entry_length d) ≡ true))
 told-lookup c =
-    let m = c.before.before in
+    let m = (goal.at.In-11 c).After-brief_at-told in
     let s = start m in
     let d = s.args.datagram.now in
     by m (KnownLookup d) (known-lookup d) (known_answer d s.args.major) c.in-11.is
@@ -92,7 +92,7 @@ overflow_cast-seen-in-11-3 c = let p = (goal.at.overflow_cast-seen-in-11-3 c).In
 pub plan_lookup-requires : goal.plan_lookup-requires
 plan_lookup-requires c =
     let p = (goal.at.plan_lookup-requires c).In-11 in
-    let s = start p.before.before in
+    let s = (goal.at.plan_lookup-requires c).Start in
     let t = told-lookup p in
     (s.requires.0, s.requires.2, s.requires.3, t.0, omega (arith, t.1, t.2), t.3, t.4)
 

@@ -89,7 +89,7 @@ module _ (major minor id : ℕ) (h : Numbers major minor id) where
     ack_sent major minor id acked n,
     refl,
     written_back ack_kinds (ack_sent major minor id acked n)
-        (formed.ack-formed major minor id acked n h),
+        (formed.ack_formed major minor id acked n h),
   )
 
   inquire-back : (key nonce : List ℕ) → length key ≡ 32 → length nonce ≡ 16 → Bytes key → Bytes nonce
@@ -97,7 +97,7 @@ module _ (major minor id : ℕ) (h : Numbers major minor id) where
   unfolding inquire_made
   inquire-back key nonce lk ln bk bn =
       let msg = inquire_sent major minor id key nonce in
-      let ok = formed.inquire-formed major minor id key nonce h bk bn (rw (eq-eqb (length key) 32 lk, eq-eqb (length nonce) 16 ln) refl) in
+      let ok = formed.inquire_formed major minor id key nonce h bk bn (rw (eq-eqb (length key) 32 lk, eq-eqb (length nonce) 16 ln) refl) in
       (inquire_kinds, msg, refl, written_back inquire_kinds msg ok)
 
   cpa-back : (acked : ℕ) (cpa : List ℕ) → length cpa ≤ 1024 → Bytes cpa → ReadsBack (S.written authority_kinds (cpa_sent major minor id acked cpa))
@@ -107,7 +107,7 @@ module _ (major minor id : ℕ) (h : Numbers major minor id) where
       let d = (cpa_made major minor id acked cpa).bytes in
       let long = cpa_length major minor id acked cpa in
       let ok =
-      formed.cpa-formed major minor id acked cpa d h b (rw (le-leb (length d) (length d) (omega arith), le-leb (length d) 1232 (omega arith)) refl) in
+      formed.cpa_formed major minor id acked cpa d h b (rw (le-leb (length d) (length d) (omega arith), le-leb (length d) 1232 (omega arith)) refl) in
       (authority_kinds, msg, refl, written_back authority_kinds msg ok)
 
   closest-back : (acked : ℕ) (r : List ℕ) → record_form r ≡ true → Bytes r → ReadsBack (S.written authority_kinds (closest_sent major minor id acked r))
@@ -121,7 +121,7 @@ module _ (major minor id : ℕ) (h : Numbers major minor id) where
         closest_sent major minor id acked (part 0 100 r),
         refl,
         written_back authority_kinds (closest_sent major minor id acked (part 0 100 r))
-            (formed.closest-formed major minor id acked r 0 h b (rw (le-leb 100 (length r) (omega arith), ok') refl)),
+            (formed.closest_formed major minor id acked r 0 h b (rw (le-leb 100 (length r) (omega arith), ok') refl)),
       )
 
   flood-back : (key r : List ℕ) → length key ≡ 32 → Bytes key → record_form r ≡ true → Bytes r
@@ -140,7 +140,7 @@ module _ (major minor id : ℕ) (h : Numbers major minor id) where
         flood_sent major minor id key (part 0 100 r),
         refl,
         written_back flood_kinds (flood_sent major minor id key (part 0 100 r))
-            (formed.flood-formed major minor id key r 0 d h bk b (rw (eq-eqb (length key) 32 lk, le-leb 100 (length r) (omega arith), ok') refl)
+            (formed.flood_formed major minor id key r 0 d h bk b (rw (eq-eqb (length key) 32 lk, le-leb 100 (length r) (omega arith), ok') refl)
             (rw (le-leb (length d) (length d) (omega arith), le-leb (length d) 1232 (omega arith)) refl)),
       )
 

@@ -49,7 +49,7 @@ unfolding value_be value_le digits_be digits_le splice same all_zero distance ri
     put without among in_order last_or has is_listed farthest_from drops_of rising_by own_by own_place trimmed learn_with happen after put_by without_by learn_by rows joined bytes_of
     follows leading held_in held_of cache_form first_byte count counts_from firsts_of key_bytes stands_in on_path off_path closest_from closest_of list_call
     new_place place_by any_of places_by used_in used_of waiting_form seek opened freed ticked listed id_bytes tick_done
-    array_form lookup_form split_form has_shape kinds.kindsOf kinds.joinedFields kinds.sized span_at need_at maybe_at places_at fields_as whole_in in_part found_in
+    array_form lookup_form split_form has_shape kinds.kinds_of kinds.joined_fields kinds.sized span_at need_at maybe_at places_at fields_as whole_in in_part found_in
     cpa_form cpas_form cpa_of flag_at head_of precision_at incoming_of ack_made flood_made inquire_made cpa_made closest_made
     tables_fit memory_of comes_fit counts_fit hands_fit tick_fit must_ask asks_for flood_plan revoke_plan authority_plan inquire_plan lookup_plan plan_for receive_plan carried receive_call gauge_tick gauge_list
 computed = tt

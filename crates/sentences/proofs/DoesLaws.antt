@@ -85,7 +85,7 @@ module _ (m : Memory) (l : Tick) (z : (gauge_tick m l).answer.number ≡ 0) wher
       let f = form_of k t tick-lent.waiting in
       subst (S.Ticks k m l.output) (sym tick_is) (record {
         ids = listed ps;
-        rising = rises_as 0 (listed ps) (round.listed-rising k 0 ps (form-placed k t tick-lent.waiting));
+        rising = rises_as 0 (listed ps) (round.listed_rising k 0 ps (form-placed k t tick-lent.waiting));
         listed = λ i. (λ n. let w = (listed_in i ps).0 n in (w.0, w.1, w.2, sym w.3), λ w. (listed_in i ps).1 (w.0, w.1, w.2, sym w.3));
         counts = refl;
         bytes = start_one (id_bytes (listed ps)) l.output;

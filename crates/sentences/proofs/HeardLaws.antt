@@ -88,13 +88,13 @@ flag_absent d Absent e = refl
 module _ (d : List ℕ) (b : Bytes d) where
   authority-acked : (ps : List Part) → Stand authority_kinds d 12 ps → Acked (R.authority_shown d ps)
   authority-acked ps w =
-      let n = needed (must 0x18 false (Sized 4) []) (drop 1 authority_kinds) d _ ps refl w in
+      let n = needed (must 0x18 false (Sized 4) []) (drop 1 authority_kinds) d 12 ps refl w in
       subst (λ (q : List Part). Acked (R.authority_shown d q)) (sym n.is)
       (number_small n.s 4 d b (let e = sized-length 4 d n.s n.l n.shaped n.within in omega (arith, n.within)))
 
   ack-acked : (ps : List Part) → Stand ack_kinds d 12 ps → Acked (R.ack_shown d ps)
   ack-acked ps w =
-      let n = needed (must 0x18 false (Sized 4) []) (drop 1 ack_kinds) d _ ps refl w in (
+      let n = needed (must 0x18 false (Sized 4) []) (drop 1 ack_kinds) d 12 ps refl w in (
         subst (λ (q : List Part). number_at (start_of (get_or q 0 Absent)) 4 d < 256 ^ 4) (sym n.is)
             (number_small n.s 4 d b (let e = sized-length 4 d n.s n.l n.shaped n.within in omega (arith, n.within))),
         flag_absent d (get_or ps 1 Absent),

@@ -49,7 +49,7 @@ row_place n s r m =
     (w.0, few, w.2 ∙ row_at 100 n s w.0 few)
 
 pub own_formed : (own : List ℕ) → own_form own ≡ true → (r : List ℕ) → r ∈ own_records own → record_form r ≡ true
-own_formed own e r m = formed_in (own_records own) (form.own-formed own e).formed r m
+own_formed own e r m = formed_in (own_records own) (form.own_formed own e).formed r m
 
 rows_bytes : (n : ℕ) (s : List ℕ) → Bytes s → (r : List ℕ) → r ∈ rows 100 n s → Bytes r
 rows_bytes n s b r m =

@@ -73,8 +73,8 @@ module _ (m : Memory) (l : Receive) where
         plan-message m l (rw fit refl) (not-false _ (none_applies m (receives l) z).1.0)
 
     -- it read a message
-    reads-it : fields.foundIn l.datagram l.major ≡ fields.found (type_of l.datagram) (fields.spansOf (fields.fieldsIn l.datagram))
-    unfolding fields.foundIn
+    reads-it : fields.found_in l.datagram l.major ≡ fields.found (type_of l.datagram) (fields.spans_of (fields.fields_in l.datagram))
+    unfolding fields.found_in
     reads-it =
         let behind = message_rows m l (R.read_in l.datagram l.major) in
         all_pass fields.refused (fields.refusals l.datagram l.major) _

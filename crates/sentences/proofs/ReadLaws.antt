@@ -67,12 +67,12 @@ module _ (m : Memory) (l : Receive) where
 
   -- the number of reading is that of its rows
   read_number : number_of a ≡ first_of rs
-  unfolding fields.foundIn R.incoming_of
+  unfolding fields.found_in R.incoming_of
   read_number =
       number_is (λ (f : fields.Found). number_of (R.incoming_of d f)) fields.refused (λ m. refl)
-      (fields.found (type_of d) (fields.spansOf (fields_in d)))
-      (message-zero (R.incoming_of d (fields.found (type_of d) (fields.spansOf (fields_in d))))
-      (shown-message d (type_of d) (fields.spansOf (fields_in d)))) rs
+      (fields.found (type_of d) (fields.spans_of (fields_in d)))
+      (message-zero (R.incoming_of d (fields.found (type_of d) (fields.spans_of (fields_in d))))
+      (shown-message d (type_of d) (fields.spans_of (fields_in d)))) rs
 
   fails-first : (ts : List Refusal) → AllFail ts → first_of ts ≡ 0
   unfolding first_of
@@ -86,11 +86,11 @@ module _ (m : Memory) (l : Receive) where
   fails-zero f = read_number ∙ fails-first rs f
 
   pub fails-message : AllFail rs → IsMessage a
-  unfolding fields.foundIn
+  unfolding fields.found_in
   fails-message f =
       subst (λ (y : fields.Found). IsMessage (R.incoming_of d y))
-      (sym (all_pass fields.refused rs (fields.found (type_of d) (fields.spansOf (fields_in d))) f))
-      (shown-message d (type_of d) (fields.spansOf (fields_in d)))
+      (sym (all_pass fields.refused rs (fields.found (type_of d) (fields.spans_of (fields_in d))) f))
+      (shown-message d (type_of d) (fields.spans_of (fields_in d)))
 
   pub rows-message : (n : ℕ) (y : T.Incoming) → Row n (message_rows m l y) → IsMessage y
   rows-message n (M.Refused m) w = w

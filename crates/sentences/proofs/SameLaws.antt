@@ -44,12 +44,12 @@ use Rattle.sentences.proofs.PartLaws.{part-from}
 
 module _ (l : Receive) where
   read_number : number_of (R.read_in l.datagram l.major) ≡ first_of (refusals l.datagram l.major)
-  unfolding fields.foundIn R.incoming_of
+  unfolding fields.found_in R.incoming_of
   read_number =
       let d = l.datagram in
-      let found = fields.found (type_of d) (fields.spansOf (fields_in d)) in
+      let found = fields.found (type_of d) (fields.spans_of (fields_in d)) in
       number_is (λ (f : fields.Found). number_of (R.incoming_of d f)) fields.refused (λ m. refl) found
-      (message-zero (R.incoming_of d found) (shown-message d (type_of d) (fields.spansOf (fields_in d)))) (refusals d l.major)
+      (message-zero (R.incoming_of d found) (shown-message d (type_of d) (fields.spans_of (fields_in d)))) (refusals d l.major)
 
   zero-fails : number_of (R.read_in l.datagram l.major) ≡ 0 → AllFail (refusals l.datagram l.major)
   zero-fails z = all_fail by_number (refusals l.datagram l.major) 1 (omega arith) (sym read_number ∙ z)

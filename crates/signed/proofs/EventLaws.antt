@@ -66,8 +66,8 @@ module _ (m : Memory) (l : Receive) where
       → Told m l (M.Flood (with_entry x p))
       (by_entry m l (held_in (own_keys l.own) m.cache) (used_of m.waiting) x.head x.d x.validate p)
   unfolding flood_plan revoke_plan held_of
-  told-flood x (Here start len) f = behind m l _ _ _ f (λ es. refl)
-  told-flood x Absent f = behind m l _ _ _ f (λ es. refl)
+  told-flood x (Here start len) f = behind m l (M.Flood (with_entry x (Here start len))) _ _ f (λ es. refl)
+  told-flood x Absent f = behind m l (M.Flood (with_entry x Absent)) _ _ f (λ es. refl)
 
   told-message : (a : T.Incoming) → IsMessage a → AllFail (message_rows m l a)
       → Told m l a (plan_for m l (held_in (own_keys l.own) m.cache) (used_of m.waiting) a)
@@ -77,20 +77,20 @@ module _ (m : Memory) (l : Receive) where
   told-message (M.Advertise x) w f = both refl f.0
   told-message (M.Request x) w f = both refl f.0
   told-message (M.Flood x) w f = told-flood x x.entry f
-  told-message (M.Inquire x) w f = behind m l _ _ _ f (λ es. refl)
-  told-message (M.Authority x) w f = behind m l _ _ _ f (λ es. refl)
+  told-message (M.Inquire x) w f = behind m l (M.Inquire x) _ _ f (λ es. refl)
+  told-message (M.Authority x) w f = behind m l (M.Authority x) _ _ f (λ es. refl)
   told-message (M.Ack x) w f =
       let ps = places_of m.waiting in
       let found = seek (is_at x.acked 1) 0 ps in
       behind m l (M.Ack x) (ack_refusals ps x.acked) (Free (held_in (own_keys l.own) m.cache) (used_of m.waiting) (place_of found) x.n) f
       (record { acked = x.acked; waiting = waits x.acked 1 (place_of found) ps (some_found found f.0); told = λ es. refl })
-  told-message (M.Lookup x) w f = behind m l _ _ _ f (λ es. refl)
+  told-message (M.Lookup x) w f = behind m l (M.Lookup x) _ _ f (λ es. refl)
 
   -- a datagram that no row of reading refuses holds a message
   is-message : AllFail (fields.refusals l.datagram l.major) → IsMessage (R.read_in l.datagram l.major)
-  unfolding fields.foundIn
+  unfolding fields.found_in
   is-message f =
-      let done = fields.found (type_of l.datagram) (fields.spansOf (fields.fieldsIn l.datagram)) in
+      let done = fields.found (type_of l.datagram) (fields.spans_of (fields.fields_in l.datagram)) in
       subst (λ (x : fields.Found). IsMessage (R.incoming_of l.datagram x))
       (sym (all_pass fields.refused (fields.refusals l.datagram l.major) done f))
       (shown-message l.datagram _ _)

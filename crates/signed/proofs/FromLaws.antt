@@ -201,9 +201,9 @@ enough g p = record {
   };
   demand2 = record {
     one-message = meets_demand2.one-message;
-    written_reads = meets_demand2.written-reads;
-    read_written = meets_demand2.read-written;
-    sent_reads = meets_demand2.sent-reads;
+    written_reads = meets_demand2.written_reads;
+    read_written = meets_demand2.read_written;
+    sent_reads = meets_demand2.sent_reads;
     sentences = p;
   };
   demand3 = from_empty g (restarts g p);

@@ -59,7 +59,7 @@ authority = (cpa_made 6 101 5 8 (0 ∷ [])).bytes
 -- a FLOOD with a revocation, D clear, to another's validate key
 abbrev pub revocation : List ℕ
 revocation =
-    message.messageBytes (message.layout_of flood_kinds (record {
+    message.message_bytes (message.layout_of flood_kinds (record {
       major = 6;
       minor = 101;
       type = 4;
@@ -78,7 +78,7 @@ record_on k port address = key k ++ digits_be 256 2 port ++ (1 ∷ 0 ∷ []) ++ 
 abbrev pub lookup_by : message.Contents → List (List ℕ) → ℕ → List ℕ
 lookup_by entry path target =
     let array = digits_be 256 2 (length path) ++ digits_be 256 2 (8 + 18 * length path) ++ (0x00 ∷ 0x9D ∷ 0x00 ∷ 0x12 ∷ []) ++ joined path in
-    message.messageBytes (message.layout_of lookup_kinds (record {
+    message.message_bytes (message.layout_of lookup_kinds (record {
       major = 6;
       minor = 101;
       type = 11;

@@ -13,9 +13,9 @@ run: tools
 test:
 	@tests/gate
 
-# While working: prove what changed, and run the programs. Not the gate.
+# While working: prove what changed. Not the gate.
 check:
-	@rt check
+	@rt all check
 
 # What a C program links and includes: target/libgauge.a, target/gauge.h, for a host target/gauge_host.h, to record calls target/gauge_trace.h.
 lib:
@@ -125,5 +125,6 @@ bench: tools
 tools:
 	@tools/install
 
+# With what rt keeps of its proofs in each crate.
 clean:
-	@rm -rf target
+	@rm -rf target crates/*/out

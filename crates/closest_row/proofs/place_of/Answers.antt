@@ -62,8 +62,8 @@ loop-i-preserved-then-closer c =
     let n = (start m).args.n in (
       omega arith,
       omega arith,
-      l.inv.2 ∙ walk-takes (t m) n (s m) l.best l.i (omega arith) (says m ∙ c.if-closer.true),
-      l.inv.3 ∙ place-takes (t m) n (s m) l.best l.i (omega arith) (says m ∙ c.if-closer.true),
+      l.invariant.2 ∙ walk-takes (t m) n (s m) l.best l.i (omega arith) (says m ∙ c.if-closer.true),
+      l.invariant.3 ∙ place-takes (t m) n (s m) l.best l.i (omega arith) (says m ∙ c.if-closer.true),
     )
 
 pub loop-i-preserved : goal.loop-i-preserved
@@ -73,8 +73,8 @@ loop-i-preserved c =
     let n = (start m).args.n in (
       omega arith,
       omega arith,
-      l.inv.2 ∙ walk-leaves (t m) n (s m) l.best l.i (omega arith) (says m ∙ c.if-closer.false),
-      l.inv.3 ∙ place-leaves (t m) n (s m) l.best l.i (omega arith) (says m ∙ c.if-closer.false),
+      l.invariant.2 ∙ walk-leaves (t m) n (s m) l.best l.i (omega arith) (says m ∙ c.if-closer.false),
+      l.invariant.3 ∙ place-leaves (t m) n (s m) l.best l.i (omega arith) (says m ∙ c.if-closer.false),
     )
 
 pub returns : goal.returns

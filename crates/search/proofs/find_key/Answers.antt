@@ -72,7 +72,7 @@ loop-low-preserved-in-Less c =
     let l = turn r in
     let a = (start l).args in
     let some : l.loop-low.low < l.loop-low.high = omega arith in
-    halved-less (goal l) (keys l) (start l).requires.rising l.loop-low.low l.loop-low.high l.loop-low.compared l.loop-low.inv some
+    halved-less (goal l) (keys l) (start l).requires.rising l.loop-low.low l.loop-low.high l.loop-low.compared l.loop-low.invariant some
     (omega (arith, here l some, less_is (key_at (100 * middle l) a.cache.now) (goal l) (told r c.in-Less.is)))
 
 pub returns-in-Same : goal.returns-in-Same
@@ -81,7 +81,7 @@ returns-in-Same c =
     let l = turn r in
     let a = (start l).args in
     let some : l.loop-low.low < l.loop-low.high = omega arith in
-    sym (halved-same (goal l) (keys l) (start l).requires.rising l.loop-low.low l.loop-low.high l.loop-low.compared l.loop-low.inv some
+    sym (halved-same (goal l) (keys l) (start l).requires.rising l.loop-low.low l.loop-low.high l.loop-low.compared l.loop-low.invariant some
     (here l some ∙ same-is (key_at (100 * middle l) a.cache.now) (goal l) (told r c.in-Same.is)))
 
 -- above the key: so are all after it
@@ -91,7 +91,7 @@ loop-low-preserved c =
     let l = turn r in
     let a = (start l).args in
     let some : l.loop-low.low < l.loop-low.high = omega arith in
-    halved-more (goal l) (keys l) (start l).requires.rising l.loop-low.low l.loop-low.high l.loop-low.compared l.loop-low.inv some
+    halved-more (goal l) (keys l) (start l).requires.rising l.loop-low.low l.loop-low.high l.loop-low.compared l.loop-low.invariant some
     (omega (arith, here l some, more_is (key_at (100 * middle l) a.cache.now) (goal l) (told r c.in-More.is)))
 
 pub returns : goal.returns

@@ -21,8 +21,8 @@ turn r = (goal.at.After-order_of r).At-loop-low
 abbrev start : At-loop-low → Start
 start l = (goal.at.At-loop-low l).Start
 
-abbrev goal : At-loop-low → ℕ
-goal l = key_at 0 (start l).args.key.now
+abbrev wanted : At-loop-low → ℕ
+wanted l = key_at 0 (start l).args.key.now
 
 abbrev keys : At-loop-low → List ℕ
 keys l = map key_of (rows 100 (start l).args.used (start l).args.cache.now)
@@ -32,7 +32,7 @@ middle l = l.loop-low.low + (l.loop-low.high - l.loop-low.low) / 2
 
 -- how the key in the middle stands to the one that is looked for
 told : (r : After-order_of) {o : Order} → r.order_of.result ≡ o
-    → order_of (key_at (100 * middle (turn r)) (start (turn r)).args.cache.now) (goal (turn r)) ≡ o
+    → order_of (key_at (100 * middle (turn r)) (start (turn r)).args.cache.now) (wanted (turn r)) ≡ o
 told r e = sym r.order_of.ensures ∙ e
 
 many : (l : At-loop-low) → length (keys l) ≡ (start l).args.used
@@ -54,7 +54,7 @@ pub overflow_add-middle : goal.overflow_add-middle
 overflow_add-middle c = omega (arith, many (goal.at.overflow_add-middle c).At-loop-low)
 
 pub overflow_add-compared : goal.overflow_add-compared
-overflow_add-compared c = let l = (goal.at.overflow_add-compared c).At-loop-low in omega (arith, l.loop-low.invariant.counted, halvings_few (keys l) (goal l), many l)
+overflow_add-compared c = let l = (goal.at.overflow_add-compared c).At-loop-low in omega (arith, l.loop-low.invariant.counted, halvings_few (keys l) (wanted l), many l)
 
 pub order_of-requires : goal.order_of-requires
 order_of-requires c =
@@ -72,8 +72,8 @@ loop-low-preserved-in-Less c =
     let l = turn r in
     let a = (start l).args in
     let some : l.loop-low.low < l.loop-low.high = omega arith in
-    halved-less (goal l) (keys l) (start l).requires.rising l.loop-low.low l.loop-low.high l.loop-low.compared l.loop-low.invariant some
-    (omega (arith, here l some, less_is (key_at (100 * middle l) a.cache.now) (goal l) (told r c.in-Less.is)))
+    halved-less (wanted l) (keys l) (start l).requires.rising l.loop-low.low l.loop-low.high l.loop-low.compared l.loop-low.invariant some
+    (omega (arith, here l some, less_is (key_at (100 * middle l) a.cache.now) (wanted l) (told r c.in-Less.is)))
 
 pub returns-in-Same : goal.returns-in-Same
 returns-in-Same c =
@@ -81,8 +81,8 @@ returns-in-Same c =
     let l = turn r in
     let a = (start l).args in
     let some : l.loop-low.low < l.loop-low.high = omega arith in
-    sym (halved-same (goal l) (keys l) (start l).requires.rising l.loop-low.low l.loop-low.high l.loop-low.compared l.loop-low.invariant some
-    (here l some ∙ same-is (key_at (100 * middle l) a.cache.now) (goal l) (told r c.in-Same.is)))
+    sym (halved-same (wanted l) (keys l) (start l).requires.rising l.loop-low.low l.loop-low.high l.loop-low.compared l.loop-low.invariant some
+    (here l some ∙ same-is (key_at (100 * middle l) a.cache.now) (wanted l) (told r c.in-Same.is)))
 
 -- above the key: so are all after it
 pub loop-low-preserved : goal.loop-low-preserved
@@ -91,10 +91,10 @@ loop-low-preserved c =
     let l = turn r in
     let a = (start l).args in
     let some : l.loop-low.low < l.loop-low.high = omega arith in
-    halved-more (goal l) (keys l) (start l).requires.rising l.loop-low.low l.loop-low.high l.loop-low.compared l.loop-low.invariant some
-    (omega (arith, here l some, more_is (key_at (100 * middle l) a.cache.now) (goal l) (told r c.in-More.is)))
+    halved-more (wanted l) (keys l) (start l).requires.rising l.loop-low.low l.loop-low.high l.loop-low.compared l.loop-low.invariant some
+    (omega (arith, here l some, more_is (key_at (100 * middle l) a.cache.now) (wanted l) (told r c.in-More.is)))
 
 pub returns : goal.returns
 returns c =
     let l = (goal.at.returns c).At-loop-low in
-    sym (halved-end (goal l) (keys l) (start l).requires.rising l.loop-low.low l.loop-low.high l.loop-low.compared l.loop-low.invariant (omega arith))
+    sym (halved-end (wanted l) (keys l) (start l).requires.rising l.loop-low.low l.loop-low.high l.loop-low.compared l.loop-low.invariant (omega arith))

@@ -87,6 +87,6 @@ $(OUT)/recipes.alone: $(OUT)/recipes.c $(HEADERS) tests/build.mk
 	@$(call in_all,$<) && $(call with_clang,$<,$(WHOEVER))
 	@touch $@
 
-# tools/lib leaves the archive alone where nothing that it is made of is newer
+# tools/lib leaves the archive alone where nothing that it is made of has changed
 target/libgauge.a: always
 	@tools/lib

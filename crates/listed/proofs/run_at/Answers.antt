@@ -34,13 +34,13 @@ run_of-requires c =
     let o = s.args.own.now in
     let i = s.args.i in
     let p = s.requires in
-    let h : i < length o / 100 = omega (arith, p.0.0, i1.if-start-own.true) in
+    let h : i < length o / 100 = omega (arith, p.own_len.0, i1.if-start-own.true) in
     let long : 32 ≤ length (lent s) =
-    omega (arith, p.0.0, i1.if-start-own.true, length-take ((100 * i + 100) - 100 * i) (drop (100 * i) o), length-drop (100 * i) o) in record {
-      in_bounds = (long, p.0.2, p.0.3, p.0.4);
-      rising = p.1.0;
+    omega (arith, p.own_len.0, i1.if-start-own.true, length-take ((100 * i + 100) - 100 * i) (drop (100 * i) o), length-drop (100 * i) o) in record {
+      in_bounds = (long, p.own_len.2, p.own_len.3, p.own_len.4);
+      rising = p.rising;
       every = subst (λ (n : ℕ). Every (λ (k : ℕ). ¬ (k ≡ n)) (held s)) (sym (own_key o i h))
-          (others_one (get_or (own_keys o) i (get_or (own_keys o) 0 0)) (own_keys o) (held s) (own_in o i h) p.1.1.0);
+          (others_one (get_or (own_keys o) i (get_or (own_keys o) 0 0)) (own_keys o) (held s) (own_in o i h) p.every);
     }
 
 pub returns-then-start-own : goal.returns-then-start-own

@@ -31,10 +31,10 @@ abbrev start : After-count_under-under → Start
 start c = (goal.at.After-count_under-under c).Start
 
 pub count_under-under-requires : goal.count_under-under-requires
-count_under-under-requires c = let p = c.requires in record { in_bounds = p.0.0; used_in_bounds = p.0.2; rising = p.1.0 }
+count_under-under-requires c = let p = c.requires in record { in_bounds = p.in_bounds.0; used_in_bounds = p.in_bounds.2; rising = p.rising }
 
 pub count_below-held-requires : goal.count_below-held-requires
-count_below-held-requires c = let p = (start (goal.at.count_below-held-requires c).After-count_under-under).requires in record { in_bounds = (p.0.0, p.0.2); rising = p.1.0; every = p.1.1; first_value = c.count_under-under.ensures }
+count_below-held-requires c = let p = (start (goal.at.count_below-held-requires c).After-count_under-under).requires in record { in_bounds = (p.in_bounds.0, p.in_bounds.2); rising = p.rising; every = p.every; first_value = c.count_under-under.ensures }
 
 pub one_more-first-requires : goal.one_more-first-requires
 one_more-first-requires c = let u = (goal.at.one_more-first-requires c).After-count_under-under in omega (arith, (few (start u)).0, u.count_under-under.ensures)

@@ -37,24 +37,24 @@ run_of-a-requires c =
     let s = (goal.at.run_of-a-requires c).Start in
     let o = s.args.own.now in
     let p = s.requires in record {
-      in_bounds = (omega (arith, p.0, length-take 100 o), p.0.2, p.0.3, p.0.4);
-      rising = p.1.0;
+      in_bounds = (omega (arith, p.own_len, length-take 100 o), p.own_len.2, p.own_len.3, p.own_len.4);
+      rising = p.rising;
       every = subst (λ (n : ℕ). Every (λ (k : ℕ). ¬ (k ≡ n)) (held s)) (sym (own_key o 0 (some s)))
-          (others_one (get_or (own_keys o) 0 (get_or (own_keys o) 0 0)) (own_keys o) (held s) (own_in o 0 (some s)) p.1.1);
+          (others_one (get_or (own_keys o) 0 (get_or (own_keys o) 0 0)) (own_keys o) (held s) (own_in o 0 (some s)) p.every);
     }
 
 pub run_at-b-requires : goal.run_at-b-requires
-run_at-b-requires c = let p = (start (goal.at.run_at-b-requires c).After-run_of-a).requires in record { own_len = (p.0.0, omega arith, p.0.2, p.0.3, p.0.4); rising = p.1.0; every = p.1.1; a_value = first_run (goal.at.run_at-b-requires c).After-run_of-a }
+run_at-b-requires c = let p = (start (goal.at.run_at-b-requires c).After-run_of-a).requires in record { own_len = (p.own_len.0, omega arith, p.own_len.2, p.own_len.3, p.own_len.4); rising = p.rising; every = p.every; a_value = first_run (goal.at.run_at-b-requires c).After-run_of-a }
 
 pub run_at-c-requires : goal.run_at-c-requires
 run_at-c-requires c =
     let r = (goal.at.run_at-c-requires c).After-run_of-a in
-    let p = (start r).requires in record { own_len = (p.0.0, omega arith, p.0.2, p.0.3, p.0.4); rising = p.1.0; every = p.1.1; a_value = first_run r }
+    let p = (start r).requires in record { own_len = (p.own_len.0, omega arith, p.own_len.2, p.own_len.3, p.own_len.4); rising = p.rising; every = p.every; a_value = first_run r }
 
 pub run_at-d-requires : goal.run_at-d-requires
 run_at-d-requires c =
     let r = (goal.at.run_at-d-requires c).After-run_of-a in
-    let p = (start r).requires in record { own_len = (p.0.0, omega arith, p.0.2, p.0.3, p.0.4); rising = p.1.0; every = p.1.1; a_value = first_run r }
+    let p = (start r).requires in record { own_len = (p.own_len.0, omega arith, p.own_len.2, p.own_len.3, p.own_len.4); rising = p.rising; every = p.every; a_value = first_run r }
 
 pub returns : goal.returns
 returns c =

@@ -82,14 +82,14 @@ module _ (c : After-opposite-opposite) where
 
 pub overflow_mul-start : goal.overflow_mul-start
 overflow_mul-start c =
-    let m = most c.before.before in omega (arith, room (start (goal.at.overflow_mul-start c).After-opposite-opposite))
+    let m = most (goal.at.overflow_mul-start c).After-opposite-opposite in omega (arith, room (start (goal.at.overflow_mul-start c).After-opposite-opposite))
 
 pub slice_bounds-count_upto-count : goal.slice_bounds-count_upto-count
 slice_bounds-count_upto-count c =
-    let m = most c.before.before in omega (arith, room (start (goal.at.slice_bounds-count_upto-count c).After-opposite-opposite))
+    let m = most (goal.at.slice_bounds-count_upto-count c).After-opposite-opposite in omega (arith, room (start (goal.at.slice_bounds-count_upto-count c).After-opposite-opposite))
 
 pub slice_bounds-count_upto-start : goal.slice_bounds-count_upto-start
-slice_bounds-count_upto-start c = let m = most c.before.before in omega (arith, room (start (goal.at.slice_bounds-count_upto-start c).After-opposite-opposite))
+slice_bounds-count_upto-start c = let m = most (goal.at.slice_bounds-count_upto-start c).After-opposite-opposite in omega (arith, room (start (goal.at.slice_bounds-count_upto-start c).After-opposite-opposite))
 
 pub overflow_sub-used : goal.overflow_sub-used
 overflow_sub-used c = most (goal.at.overflow_sub-used c).After-opposite-opposite

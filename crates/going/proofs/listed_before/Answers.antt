@@ -7,7 +7,7 @@ use Rattle.kept.specs.Turned.{wrapped}
 use Rattle.round.specs.Over.{pass_over}
 use Rattle.round.proofs.OverLaws.{over-on, over-here, over-end}
 use Rattle.listed.specs.Runs.{in_runs}
-use Rattle.going.proofs.listed_before.Goals.{After-is_listed, At-loop-i, Start}
+use Rattle.going.proofs.listed_before.Goals.{After-is_listed, Start}
 use Rattle.going.proofs.listed_before.Goals as goal
 
 -- is the place so many steps on in a list?
@@ -15,7 +15,7 @@ abbrev skips : Start → ℕ → Bool
 skips s j = let a = s.args in in_runs a.total (wrapped a.total (a.end - (j + 1))) a.runs
 
 looked : (c : After-is_listed)
-    → (let head = c in skips (goal.at.At-loop-i head).Start head.loop-i.i ≡ c.is_listed.result)
+    → (skips (goal.at.After-is_listed c).Start c.loop-i.i ≡ c.is_listed.result)
 looked c =
     let a = c.args in
     ap (λ (x : ℕ). in_runs a.total x a.runs) (sym c.wrap.ensures.0) ∙ sym c.is_listed.ensures

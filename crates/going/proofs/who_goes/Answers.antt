@@ -105,23 +105,23 @@ pub runs_of-runs-requires : goal.runs_of-runs-requires
 runs_of-runs-requires c =
     let s = (goal.at.runs_of-runs-requires c).Start in
     let a = s.args in
-    let p = s.requires in record { own_len = (p.0.0, p.0.1, p.1.0.4, p.1.0.0, p.1.0.1); rising = p.1.1.0; every = insert_every (λ (k : ℕ). ¬ (k ∈ owns s)) a.at a.«record».now (rows 100 a.used a.cache.now) p.1.1.1.1 }
+    let p = s.requires in record { own_len = (p.own_len.0, p.own_len.1, p.used_in_bounds.4, p.used_in_bounds.0, p.used_in_bounds.1); rising = p.rising; every = insert_every (λ (k : ℕ). ¬ (k ∈ owns s)) a.at a.«record».now (rows 100 a.used a.cache.now) p.every }
 
 pub overflow_sub-above : goal.overflow_sub-above
 overflow_sub-above c = omega (arith, fit (goal.at.overflow_sub-above c).After-runs_of-runs)
 
 pub overflow_add-end : goal.overflow_add-end
-overflow_add-end c = let f = fit c.before in omega (arith, (start (goal.at.overflow_add-end c).After-runs_of-runs).requires.used_in_bounds)
+overflow_add-end c = let f = fit (goal.at.overflow_add-end c).After-runs_of-runs in omega (arith, (start (goal.at.overflow_add-end c).After-runs_of-runs).requires.used_in_bounds)
 
 pub listed_from-up-requires : goal.listed_from-up-requires
 listed_from-up-requires c =
-    let f = fit c.before in
+    let f = fit (goal.at.listed_from-up-requires c).After-runs_of-runs in
     let u = (start (goal.at.listed_from-up-requires c).After-runs_of-runs).requires.used_in_bounds.1 in
     (omega arith, omega arith, fit (goal.at.listed_from-up-requires c).After-runs_of-runs)
 
 pub listed_before-down-requires : goal.listed_before-down-requires
 listed_before-down-requires c =
-    let f = fit c.before.before in
+    let f = fit (goal.at.listed_before-down-requires c).After-runs_of-runs in
     let u = (start (goal.at.listed_before-down-requires c).After-runs_of-runs).requires.used_in_bounds.1 in
     (omega arith, omega arith, omega arith, fit (goal.at.listed_before-down-requires c).After-runs_of-runs)
 
@@ -168,10 +168,10 @@ wrap-x-requires c =
     omega (arith, c.if-above-down.false)
 
 -- the place on the way back
-over-is : (c : After-wrap-x) → (let s = start (at-runs c.before.before) in
+over-is : (c : After-wrap-x) → (let s = start (at-runs (goal.at.After-wrap-x c).After-listed_before-down) in
     c.wrap-x.result ≡ over_of (length (more s)) (runs_of (owns s) (more s)))
 over-is c =
-    let l = c.before.before in
+    let l = (goal.at.After-wrap-x c).After-listed_before-down in
     let r = at-runs l in
     let s = start r in
     c.wrap-x.ensures.0

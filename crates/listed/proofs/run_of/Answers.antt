@@ -12,7 +12,7 @@ use Rattle.kept.proofs.TurnLaws.{count-le, under_le}
 use Rattle.search.proofs.SeekLaws.{keys_many}
 use Rattle.listed.proofs.ListedLaws.{under_more, below_more}
 use borrow.Author.Rules.{rules}
-use Rattle.listed.proofs.run_of.Goals.{After-count_below-held, After-count_under-under, Start}
+use Rattle.listed.proofs.run_of.Goals.{After-count_under-under, Start}
 use Rattle.listed.proofs.run_of.Goals as goal
 
 abbrev own : Start → ℕ
@@ -40,7 +40,7 @@ pub one_more-first-requires : goal.one_more-first-requires
 one_more-first-requires c = let u = (goal.at.one_more-first-requires c).After-count_under-under in omega (arith, (few (start u)).0, u.count_under-under.ensures)
 
 pub one_more-below-requires : goal.one_more-below-requires
-one_more-below-requires c = let b = c in omega (arith, (few (start (goal.at.After-count_below-held b).After-count_under-under)).1, b.count_below-held.ensures)
+one_more-below-requires c = omega (arith, (few (goal.at.one_more-below-requires c).Start).1, c.count_below-held.ensures)
 
 pub returns : goal.returns
 returns c =

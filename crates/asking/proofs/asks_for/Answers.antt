@@ -36,7 +36,7 @@ own_key c =
 
 pub returns-then-len-eq0 : goal.returns-then-len-eq0
 returns-then-len-eq0 c =
-    let s = (goal.at.returns-then-len-eq0 (goal.at.returns-then-len-eq0 c).Then-len-eq0).Start in
+    let s = (goal.at.returns-then-len-eq0 c).Start in
     let a = s.args in
     sym (asks_none (own_keys a.own.now) (rows 100 a.held a.cache.now) (rows 140 a.used a.waiting.now) (entry s) (long s ∙ c.if-len-eq0.true))
 
@@ -45,18 +45,18 @@ is_own-requires c = let a = (s (goal.at.is_own-requires c).Else-len-eq0).args in
 
 pub returns-then-is_own : goal.returns-then-is_own
 returns-then-is_own c =
-    let e = (goal.at.returns-then-is_own (goal.at.returns-then-is_own c).Then-is_own).Else-len-eq0 in
+    let e = (goal.at.returns-then-is_own c).Else-len-eq0 in
     let a = (s e).args in
     sym (asks-own (own_keys a.own.now) (rows 100 a.held a.cache.now) (rows 140 a.used a.waiting.now) (entry (s e)) (there e)
     (own_key (goal.at.returns-then-is_own c).After-is_own ∙ c.if-is_own.true))
 
 pub must_ask-requires : goal.must_ask-requires
-must_ask-requires c = let e = (goal.at.must_ask-requires (goal.at.must_ask-requires c).Else-is_own).Else-len-eq0 in ((s e).requires.1, (s e).requires.2, (s e).requires.3, formed e, (s e).requires.5)
+must_ask-requires c = let e = (goal.at.must_ask-requires c).Else-len-eq0 in ((s e).requires.1, (s e).requires.2, (s e).requires.3, formed e, (s e).requires.5)
 
 pub returns : goal.returns
 returns c =
     let o = c in
-    let e = (goal.at.returns (goal.at.returns c).After-must_ask).Else-len-eq0 in
+    let e = (goal.at.returns c).Else-len-eq0 in
     let a = (s e).args in
     c.must_ask.ensures
     ∙ sym (asks-other (own_keys a.own.now) (rows 100 a.held a.cache.now) (rows 140 a.used a.waiting.now) (entry (s e)) (there e)

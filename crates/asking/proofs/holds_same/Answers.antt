@@ -42,14 +42,14 @@ find-requires c =
 
 pub overflow_mul-i : goal.overflow_mul-i
 overflow_mul-i c =
-    let f = (goal.at.overflow_mul-i (goal.at.overflow_mul-i c).In-At).After-find in
+    let f = (goal.at.overflow_mul-i c).After-find in
     let s = start f in
     let a = s.args in
     omega (arith, found-place (key_of (named s)) a.held a.cache.now (found f) c.in-At.is, s.requires.0)
 
 pub same_as_entry-requires : goal.same_as_entry-requires
 same_as_entry-requires c =
-    let f = (goal.at.same_as_entry-requires (goal.at.same_as_entry-requires c).In-At).After-find in
+    let f = (goal.at.same_as_entry-requires c).After-find in
     let s = start f in
     let a = s.args in
     let inside = found-place (key_of (named s)) a.held a.cache.now (found f) c.in-At.is in
@@ -58,7 +58,7 @@ same_as_entry-requires c =
 pub returns-in-At : goal.returns-in-At
 returns-in-At c =
     let at = c in
-    let f = (goal.at.returns-in-At (goal.at.returns-in-At c).After-same_as_entry).After-find in
+    let f = (goal.at.returns-in-At c).After-find in
     let s = start f in
     let a = s.args in
     c.same_as_entry.ensures
@@ -67,6 +67,6 @@ returns-in-At c =
 
 pub returns-in-Before : goal.returns-in-Before
 returns-in-Before c =
-    let f = (goal.at.returns-in-Before (goal.at.returns-in-Before c).In-Before).After-find in
+    let f = (goal.at.returns-in-Before c).After-find in
     let s = start f in
     sym (same-nowhere (named s) s.args.held s.args.cache.now s.requires.3 (found f) c.in-Before.is)

@@ -109,7 +109,7 @@ returns-in-7 c =
 
 pub brief_authority-requires : goal.brief_authority-requires
 brief_authority-requires c =
-    let at = (goal.at.brief_authority-requires (goal.at.brief_authority-requires c).In-8).Else-number-ne0 in
+    let at = (goal.at.brief_authority-requires c).Else-number-ne0 in
     ((right-at at).0, subst (λ (a : Incoming). Small (look_of a)) (authority_at at c.in-8.is) (look_small _ _))
 
 pub returns-in-8 : goal.returns-in-8

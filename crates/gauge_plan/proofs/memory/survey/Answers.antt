@@ -21,7 +21,7 @@ returns-then-not-own_form c m =
 
 pub returns-in_default : goal.returns-in_default
 returns-in_default c m =
-    let e = (goal.at.returns-in_default (goal.at.returns-in_default c).In_default).Else-not-own_form in
+    let e = (goal.at.returns-in_default c).Else-not-own_form in
     let a = e.args in
     sym (no-cache a.own.now _ (well e) (sym c.form-held.ensures ∙ c.in_default.is))
 
@@ -29,7 +29,7 @@ pub returns-in_default-used : goal.returns-in_default-used
 returns-in_default-used c m =
     let h = c in
     let f = c in
-    let e = (goal.at.returns-in_default-used (goal.at.returns-in_default-used c).In_default-used).Else-not-own_form in
+    let e = (goal.at.returns-in_default-used c).Else-not-own_form in
     let a = e.args in
     sym (no_table a.own.now _ (well e) (sym f.form-held.ensures ∙ h.in-Good.is)
     (sym c.form-used.ensures ∙ c.in_default-used.is))
@@ -39,7 +39,7 @@ returns c m =
     let g = c in
     let h = c in
     let f = c in
-    let e = (goal.at.returns (goal.at.returns c).In-Good-used).Else-not-own_form in
+    let e = (goal.at.returns c).Else-not-own_form in
     let a = e.args in
     sym (all_fit a.own.now _ (well e) (sym f.form-held.ensures ∙ h.in-Good.is)
     (sym g.form-used.ensures ∙ c.in-Good-used.is))

@@ -35,22 +35,17 @@ put_answer-requires c = (omega (arith, c.if-out-size.false), omega (arith, entry
 
 pub put_entry-requires : goal.put_entry-requires
 put_entry-requires c =
-    let answer = c in
-    let room = c in
-    let w = there room.before in
-    (w.within, w.formed, omega (arith, w.long, room.if-out-size.false, answer.put_answer.auto.out))
+    let w = there (goal.at.put_entry-requires c).Else-entry-eq0 in
+    (w.within, w.formed, omega (arith, w.long, c.if-out-size.false, c.put_answer.auto.out))
 
 pub returns : goal.returns
 returns c =
-    let entry = c in
-    let answer = c in
-    let room = c in
-    let w = there room.before in
-    let a = room.args in
-    let n = room.entry_len-entry.result in
+    let w = there (goal.at.returns c).Else-entry-eq0 in
+    let a = c.args in
+    let n = c.entry_len-entry.result in
     let x = answer_front a.major a.minor a.id a.acked (8 + n) in
     let y = entry_field a.major a.minor (part a.at 100 a.s.now) in
-    wrote_right (closest-known w a.major a.minor a.id a.acked) a.out.now (omega (arith, room.if-out-size.false))
+    wrote_right (closest-known w a.major a.minor a.id a.acked) a.out.now (omega (arith, c.if-out-size.false))
     (omega (arith, entry-most w))
-    (next a.out.now 36 x y answer.put_answer.ensures (answer_long a.major a.minor a.id a.acked (8 + n))
-    (omega (arith, room.if-out-size.false, field-long w a.major a.minor)) entry.put_entry.ensures)
+    (next a.out.now 36 x y c.put_answer.ensures (answer_long a.major a.minor a.id a.acked (8 + n))
+    (omega (arith, c.if-out-size.false, field-long w a.major a.minor)) c.put_entry.ensures)

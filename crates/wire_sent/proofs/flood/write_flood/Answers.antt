@@ -49,22 +49,17 @@ returns-then-out-size c =
 
 pub put_entry-requires : goal.put_entry-requires
 put_entry-requires c =
-    let front = c in
-    let room = c in
-    let w = there room.before in
-    (w.within, w.formed, omega (arith, w.long, room.if-out-size.false, front.put_keyed.auto.out))
+    let w = there (goal.at.put_entry-requires c).Else-entry-eq0 in
+    (w.within, w.formed, omega (arith, w.long, c.if-out-size.false, c.put_keyed.auto.out))
 
 pub returns : goal.returns
 returns c =
-    let entry = c in
-    let front = c in
-    let room = c in
-    let w = there room.before in
-    let k = keyed room.before in
-    let a = room.args in
+    let w = there (goal.at.returns c).Else-entry-eq0 in
+    let k = keyed (goal.at.returns c).Else-entry-eq0 in
+    let a = c.args in
     let x = key_front a.major a.minor 4 a.id 0x43 3 0 a.key.now in
     let y = entry_field a.major a.minor (part a.at 100 a.s.now) in
-    wrote_right (flood_known w a.major a.minor a.id a.key.now k) a.out.now (omega (arith, room.if-out-size.false))
+    wrote_right (flood_known w a.major a.minor a.id a.key.now k) a.out.now (omega (arith, c.if-out-size.false))
     (omega (arith, entry-most w))
-    (next a.out.now 56 x y front.put_keyed.ensures (key-long a.major a.minor 4 a.id 0x43 3 0 a.key.now k)
-    (omega (arith, room.if-out-size.false, field-long w a.major a.minor)) entry.put_entry.ensures)
+    (next a.out.now 56 x y c.put_keyed.ensures (key-long a.major a.minor 4 a.id 0x43 3 0 a.key.now k)
+    (omega (arith, c.if-out-size.false, field-long w a.major a.minor)) c.put_entry.ensures)

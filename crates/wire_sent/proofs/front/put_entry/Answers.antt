@@ -13,21 +13,15 @@ there s = record { within = s.requires.0; formed = s.requires.1; long = refl }
 
 pub put_head-requires : goal.put_head-requires
 put_head-requires c =
-    let start = (goal.at.put_head-requires (goal.at.put_head-requires c).After-put_head-arg-1).Start in
+    let start = (goal.at.put_head-requires c).Start in
     (omega (arith, start.requires.2), omega (arith, entry-most (there start)))
 
 pub put_entry-requires : goal.put_entry-requires
 put_entry-requires c =
-    let head = c in
-    let start = c in
-    record { start_in_bounds = start.requires.0; s_value = start.requires.1; start_in_bounds_2 = omega (arith, start.requires.2, head.put_head.auto.0) }
+    record { start_in_bounds = c.requires.0; s_value = c.requires.1; start_in_bounds_2 = omega (arith, c.requires.2, c.put_head.auto.out) }
 
 pub returns : goal.returns
 returns c =
-    let pad = c in
-    let entry = c in
-    let head = c in
-    let start = (goal.at.returns (goal.at.returns c).After-slice_known-4-1).Start in
+    let start = (goal.at.returns c).Start in
     let a = start.args in
-    entry-put (there start) a.major a.minor a.to a.out.now (omega (arith, start.requires.2)) head.put_head.ensures
-    entry.put_entry.ensures pad.write_u16.ensures
+    entry-put (there start) a.major a.minor a.to a.out.now (omega (arith, start.requires.2)) c.put_head.ensures c.put_entry.ensures c.write_u16.ensures

@@ -141,7 +141,7 @@ module _ (major minor id : ℕ) (key nonce : List ℕ) where
 
 pub answer_long : (major minor id acked size : ℕ) → length (answer_front major minor id acked size) ≡ 36
 unfolding digits_be
-answer_long major minor id acked size = refl
+answer_long major minor id acked _ = refl
 
 module _ (major minor id acked : ℕ) (cpa : List ℕ) where
   abbrev pub cpaBytes : List ℕ

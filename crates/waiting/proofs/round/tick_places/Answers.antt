@@ -14,11 +14,10 @@ tick_place-kept-requires c = (omega arith, omega arith, omega arith, omega arith
 
 pub loop-at-preserved : goal.loop-at-preserved
 loop-at-preserved c =
-    let called = c in
     let l = c.loop-at in
     let a = c.args in
-    rw (called.tick_place-kept.ensures.0, called.tick_place-kept.ensures.1, called.tick_place-kept.ensures.2)
-    (turn a.used a.table.now a.output.now l.table l.output l.at l.auto l.invariant
+    rw (c.tick_place-kept.ensures.0, c.tick_place-kept.ensures.1, c.tick_place-kept.ensures.2)
+    (turn a.used a.table.now a.output.now l.table l.output l.at l.kept l.invariant
     (omega arith) (omega arith) (omega arith) (omega arith) (spent (part (140 * l.at) 140 l.table)) refl)
 
 pub shape_of-output : goal.shape_of-output
@@ -26,12 +25,11 @@ shape_of-output c = c.loop-at.invariant.room
 
 pub returns : goal.returns
 returns c =
-    let at-loop = c in
-    let l = at-loop.loop-at in
-    let a = at-loop.args in (
-      end-count a.used a.table.now a.output.now l.table l.output l.at l.auto l.invariant (omega arith),
+    let l = c.loop-at in
+    let a = c.args in (
+      end-count a.used a.table.now a.output.now l.table l.output l.at l.kept l.invariant (omega arith),
       c.clear.ensures
-          ∙ end-cleared a.used a.table.now a.output.now l.table l.output l.at l.auto l.invariant (omega arith) at-loop.requires.3
+          ∙ end-cleared a.used a.table.now a.output.now l.table l.output l.at l.kept l.invariant (omega arith) c.requires.3
           (omega arith) (omega arith),
-      end_list a.used a.table.now a.output.now l.table l.output l.at l.auto l.invariant (omega arith),
+      end_list a.used a.table.now a.output.now l.table l.output l.at l.kept l.invariant (omega arith),
     )

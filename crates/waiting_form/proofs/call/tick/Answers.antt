@@ -12,17 +12,13 @@ use Rattle.waiting.proofs.FormLaws.{form-size, form_laid, used_few}
 use Rattle.waiting_form.proofs.FormedLaws.{bad_form, good_form}
 use Rattle.waiting_form.proofs.CallLaws.{own-bad, table-bad, no_room, ticks}
 use borrow.Author.Rules.{rules}
-use Rattle.waiting_form.proofs.call.tick.Goals.{Else-not-own_form, In-Good, Start}
+use Rattle.waiting_form.proofs.call.tick.Goals.{Else-not-own_form, In-Good}
 use Rattle.waiting_form.proofs.call.tick.Goals as goal
-
--- where the function began
-abbrev from : In-Good → Start
-from c = c.before.before.before.before.before.before.before.before.before.before
 
 -- the table is in form where the form test said so, and its count is the table's
 counted : (c : In-Good)
-    → (waiting_form (own_keys (from c).args.own.now) (from c).args.table.now ≡ true)
-    × (c.in-Good.used ≡ used_of (from c).args.table.now)
+    → (waiting_form (own_keys c.args.own.now) c.args.table.now ≡ true)
+    × (c.in-Good.used ≡ used_of c.args.table.now)
 counted c =
     let a = c.args in
     good_form (own_keys a.own.now) a.table.now (sym c.form-answer.ensures ∙ c.in-Good.is)
@@ -39,20 +35,20 @@ returns-then-not-own_form c =
 pub returns-in_default : goal.returns-in_default
 returns-in_default c =
     let a = c.args in
-    sym (table-bad a.own.now a.table.now a.output.now (whole (goal.at.returns-in_default c).After-own_form)
+    sym (table-bad a.own.now a.table.now a.output.now (whole (goal.at.returns-in_default c).Else-not-own_form)
     (bad_form (own_keys a.own.now) a.table.now (sym c.form-answer.ensures ∙ c.in_default.is)))
 
 pub returns-then-output-lt64 : goal.returns-then-output-lt64
 returns-then-output-lt64 c =
     let known = (goal.at.returns-then-output-lt64 c).In-Good in
-    let a = (from known).args in
-    let good = whole known.before.before.before.before.before in
+    let a = c.args in
+    let good = whole (goal.at.returns-then-output-lt64 c).Else-not-own_form in
     sym (no_room a.own.now a.table.now a.output.now good (counted known).0 (omega arith))
 
 pub tick_places-count-requires : goal.tick_places-count-requires
 tick_places-count-requires c =
     let a = c.args in
-    let good = counted c.before.before.before in (
+    let good = counted (goal.at.tick_places-count-requires c).In-Good in (
       omega (arith, good.1, used_few a.table.now),
       form-size (own_keys a.own.now) a.table.now good.0,
       omega arith,
@@ -62,9 +58,7 @@ tick_places-count-requires c =
 pub returns : goal.returns
 unfolding tick_done
 returns c =
-    let done = c in
-    let known = (goal.at.returns c).In-Good in
-    let a = known.args in
-    let good = counted known in
-    rw (done.tick_places-count.ensures.0, done.tick_places-count.ensures.1, done.tick_places-count.ensures.2, good.1)
-    (sym (ticks a.own.now a.table.now a.output.now (whole (goal.at.In-Good known).After-own_form) good.0 (omega arith)))
+    let a = c.args in
+    let good = counted (goal.at.returns c).In-Good in
+    rw (c.tick_places-count.ensures.0, c.tick_places-count.ensures.1, c.tick_places-count.ensures.2, good.1)
+    (sym (ticks a.own.now a.table.now a.output.now (whole (goal.at.returns c).Else-not-own_form) good.0 (omega arith)))

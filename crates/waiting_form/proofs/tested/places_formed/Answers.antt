@@ -49,7 +49,7 @@ module _ (c : After-read_u32_le-id) where
   fails : turn ≡ false → false ≡ places_form own 0 (rows 140 used table)
   fails e =
       let l = at-loop.loop-at in
-      sym (l.inv.2 ∙ form_not used table l.at record_form own l.low (omega arith) e)
+      sym (l.invariant.2 ∙ form_not used table l.at record_form own l.low (omega arith) e)
 
 pub loop-at-init : goal.loop-at-init
 loop-at-init c = (omega arith, omega arith, refl)
@@ -74,25 +74,22 @@ key_again-requires c = (omega arith, omega arith)
 
 pub returns-then-key_again : goal.returns-then-key_again
 returns-then-key_again c =
-    let formed = c in
-    let low = c in
-    let place = sym (formed.if-not-place_formed.false) ∙ formed.place_formed.ensures in
-    fails (goal.at.Else-id-low low).After-read_u32_le-id
-    (turned (goal.at.Else-id-low low).After-read_u32_le-id true true place (sym c.if-key_again.true ∙ c.key_again.ensures)
-    ∙ ap (λ (t : Bool). t && false) (le-leb _ _ low.if-id-low.false))
+    let p = (goal.at.returns-then-key_again c).After-read_u32_le-id in
+    let place = sym c.if-not-place_formed.false ∙ c.place_formed.ensures in
+    fails p
+    (turned p true true place (sym c.if-key_again.true ∙ c.key_again.ensures)
+    ∙ ap (λ (t : Bool). t && false) (le-leb _ _ c.if-id-low.false))
 
 pub loop-at-preserved : goal.loop-at-preserved
 loop-at-preserved c =
-    let formed = c in
-    let low = c in
     let p = (goal.at.loop-at-preserved c).After-read_u32_le-id in
     let a = p.args in
     let l = p.loop-at in
     let own = own_keys a.own.now in
     let id = id-at (140 * l.at) a.table.now ∙ sym p.read_u32_le-id.ensures in
-    let place = sym (formed.if-not-place_formed.false) ∙ formed.place_formed.ensures in
+    let place = sym (c.if-not-place_formed.false) ∙ c.place_formed.ensures in
     let passes =
-    turned p true false place (sym c.if-key_again.false ∙ c.key_again.ensures) ∙ ap (λ (t : Bool). t && true) (le-leb _ _ low.if-id-low.false) in (
+    turned p true false place (sym c.if-key_again.false ∙ c.key_again.ensures) ∙ ap (λ (t : Bool). t && true) (le-leb _ _ c.if-id-low.false) in (
       omega arith,
       omega arith,
       l.invariant.2 ∙ form-on a.used a.table.now l.at record_form own l.low (omega arith) passes

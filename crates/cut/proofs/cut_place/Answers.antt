@@ -13,4 +13,4 @@ pub returns : goal.returns
 returns c =
     let left = c in
     let s = c in
-    c.Cut-record.ensures ∙ place_at s.args.at s.args.table.now s.requires left.if-table-at-ne2.false
+    c.cut_record.ensures ∙ place_at s.args.at s.args.table.now s.requires left.if-table-at-ne2.false

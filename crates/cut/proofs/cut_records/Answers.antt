@@ -30,7 +30,7 @@ loop-i-preserved c =
     let s = (goal.at.loop-i-preserved c).Start in
     let old = s.args.cache.now in
     let fits : 100 * l.i + 100 ≤ length old = omega (arith, room s) in
-    let turn = called.Cut-record.ensures
+    let turn = called.cut_record.ensures
     ∙ ap (λ (t : List ℕ). splice (100 * l.i) (converted (part (100 * l.i) 100 t)) t) l.invariant.2
     ∙ changed-next 100 converted converted-length old l.i fits in
     (omega arith, omega (arith, ap length turn, changed-length 100 converted converted-length old (l.i + 1) (omega arith)), turn)

@@ -1,4 +1,4 @@
--- `convert::held::form` meets its contract: each test of the size refuses; then so many places are counted and the rest is zero or not. Assumes nothing.
+-- `convert::held::form` meets its contract: each test of the size refuses; then so many places are counted and the rest is zero or not. Assumes nothinc.
 use mathlib.Core.Path.{◌≡◌, refl, sym, ap, ◌∙◌}
 use mathlib.Core.Bool.{cond}
 use mathlib.Core.List.{List}
@@ -51,9 +51,8 @@ returns-then-size-gt25600 c =
 pub returns-then-size-count : goal.returns-then-size-count
 returns-then-size-count c =
     let n = (goal.at.returns-then-size-count c).After-count in
-    let at-if = c in
-    let a = at-if.args in
-    sym (too_few (own_keys a.own.now) a.cache.now at-if.if-size-ne0.false (omega arith) (omega arith) (omega (arith, keys n, c.if-size-count.true)))
+    let a = c.args in
+    sym (too_few (own_keys a.own.now) a.cache.now c.if-size-ne0.false (omega arith) (omega arith) (omega (arith, keys n, c.if-size-count.true)))
 
 pub overflow_mul-end : goal.overflow_mul-end
 overflow_mul-end c = omega (arith, few (goal.at.overflow_mul-end c).After-count_held-used)
@@ -68,13 +67,11 @@ slice_bounds-is_zero-start c = omega (arith, few (goal.at.slice_bounds-is_zero-s
 by : (c : After-is_zero) → (let a = c.args in
     old_cache_formed (own_keys a.own.now) a.cache.now ≡ cond c.is_zero.result (Good c.count_held-used.result) Bad)
 by c =
-    let g = c in
-    let n = g.before.before in
-    let at-if = c in
-    let a = at-if.args in
-    by-rest (own_keys a.own.now) a.cache.now at-if.if-size-ne0.false (omega arith) g.count_held-used.result c.is_zero.result (omega arith)
-    (omega (arith, keys n, g.if-size-count.false)) g.count_held-used.ensures
-    (c.is_zero.ensures ∙ ap all_zero (rest (100 * g.count_held-used.result) a.cache.now))
+    let n = (goal.at.After-is_zero c).After-count in
+    let a = c.args in
+    by-rest (own_keys a.own.now) a.cache.now c.if-size-ne0.false (omega arith) c.count_held-used.result c.is_zero.result (omega arith)
+    (omega (arith, keys n, c.if-size-count.false)) c.count_held-used.ensures
+    (c.is_zero.ensures ∙ ap all_zero (rest (100 * c.count_held-used.result) a.cache.now))
 
 pub returns-then-is_zero : goal.returns-then-is_zero
 returns-then-is_zero c = sym (by (goal.at.returns-then-is_zero c).After-is_zero ∙ rw c.if-is_zero.true refl)

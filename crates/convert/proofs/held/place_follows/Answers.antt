@@ -34,7 +34,7 @@ returns-then-not-is_formed c =
     sym (rw f refl)
 
 -- the record is in form
-formed : (m : Else-not-is_formed) → old_record_form (row m.before.before.before.before) ≡ true
+formed : (m : Else-not-is_formed) → old_record_form (part (100 * m.args.i) 100 m.args.cache.now) ≡ true
 formed m = sym m.is_formed.ensures ∙ m.if-not-is_formed.false
 
 pub returns-then-not-above_before : goal.returns-then-not-above_before
@@ -42,7 +42,7 @@ unfolding follows
 returns-then-not-above_before c =
     let first = (goal.at.returns-then-not-above_before c).Else-not-is_formed in
     let s = (goal.at.returns-then-not-above_before c).Start in
-    let l : leb (low s) (key_of (row s)) ≡ false = ap (leb (low s)) (row-key s) ∙ sym c.IsAbove-before.ensures
+    let l : leb (low s) (key_of (row s)) ≡ false = ap (leb (low s)) (row-key s) ∙ sym c.above_before.ensures
     ∙ c.if-not-above_before.true in
     sym (rw (formed first, l) refl)
 
@@ -52,6 +52,6 @@ returns c =
     let tested = c in
     let first = (goal.at.returns c).Else-not-is_formed in
     let s = (goal.at.returns c).Start in
-    let l : leb (low s) (key_of (row s)) ≡ true = ap (leb (low s)) (row-key s) ∙ sym tested.IsAbove-before.ensures
+    let l : leb (low s) (key_of (row s)) ≡ true = ap (leb (low s)) (row-key s) ∙ sym tested.above_before.ensures
     ∙ c.if-not-above_before.false in
     ap not c.is_own.ensures ∙ sym (rw (formed first, l, row-key s) refl)

@@ -24,14 +24,13 @@ counted : (r : After-read_u16_le-count) → r.read_u16_le-count.result ≡ get_o
 counted r = r.read_u16_le-count.ensures ∙ count_word (place r) (bytes r) (omega (arith, r.requires))
 
 -- the pairs that have passed, the last first
-last : (c : Else-not-zero_pair) → all_zero (part (place c.before.before.before.before + 84) 16 (bytes c.before.before.before.before)) ≡ true
+last : (c : Else-not-zero_pair) → all_zero (part (c.args.at + 84) 16 c.args.s.now) ≡ true
 last c = sym c.zero_pair.ensures ∙ c.if-not-zero_pair.false
 
-middle : (c : Else-not-zero_pair-2) → let r = c.before.before.before.before.before.before.before in all_zero (part (place r + 68) 16 (bytes r)) ≡ true
+middle : (c : Else-not-zero_pair-2) → all_zero (part (c.args.at + 68) 16 c.args.s.now) ≡ true
 middle c = sym c.zero_pair-2.ensures ∙ c.if-not-zero_pair-2.false
 
-first : (c : Else-not-zero_pair-3) → let r = c.before.before.before.before.before.before.before.before.before.before in all_zero
-    (part (place r + 52) 16 (bytes r)) ≡ true
+first : (c : Else-not-zero_pair-3) → all_zero (part (c.args.at + 52) 16 c.args.s.now) ≡ true
 first c = sym c.zero_pair-3.ensures ∙ c.if-not-zero_pair-3.false
 
 pub returns-then-count-gt4 : goal.returns-then-count-gt4

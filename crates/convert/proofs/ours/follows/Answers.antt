@@ -21,4 +21,4 @@ pub returns : goal.returns
 returns c =
     let a = c.args in
     let f : old_record_form (part (100 * a.i) 100 a.own.now) ≡ true = sym c.is_formed.ensures ∙ c.if-not-is_formed.false in
-    c.IsAbove-before.ensures ∙ sym (rw f (ap (leb (low_at a.own.now a.i)) (row-key (100 * a.i) a.own.now)))
+    c.above_before.ensures ∙ sym (rw f (ap (leb (low_at a.own.now a.i)) (row-key (100 * a.i) a.own.now)))

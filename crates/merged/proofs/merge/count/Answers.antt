@@ -18,13 +18,12 @@ loop-i-init c =
     (omega arith, omega arith, omega arith, omega (arith, all))
 
 -- a step that was made
-by : (p : After-step-next) → (let l = p.before.before in let a = l.args in
-    Stepped a.«before».now a.used a.«after».now a.held l.loop-i.i l.loop-i.j p.step-next.result)
+by : (p : After-step-next)
+    → (let a = p.args in Stepped a.«before».now a.used a.«after».now a.held p.loop-i.i p.loop-i.j p.step-next.result)
 by p =
-    let l = c in
-    let a = l.args in
-    stepped a.«before».now a.used a.«after».now a.held (λ k. omega (arith, l.type_inv.before k)) (omega arith) (omega arith)
-    l.loop-i.i l.loop-i.j p.step-next.result p.step-next.ensures (omega arith) (omega arith) (omega arith)
+    let a = p.args in
+    stepped a.«before».now a.used a.«after».now a.held (λ k. omega (arith, p.type_inv.before k)) (omega arith) (omega arith)
+    p.loop-i.i p.loop-i.j p.step-next.result p.step-next.ensures (omega arith) (omega arith) (omega arith)
 
 pub overflow_add-i-in-loop-i : goal.overflow_add-i-in-loop-i
 overflow_add-i-in-loop-i c = omega (arith, (by (goal.at.overflow_add-i-in-loop-i c).After-step-next).old-within)
@@ -33,10 +32,10 @@ pub overflow_add-j : goal.overflow_add-j
 overflow_add-j c = omega (arith, (by (goal.at.overflow_add-j c).After-step-next).new-within)
 
 pub overflow_add-n : goal.overflow_add-n
-overflow_add-n c = let t = by c.before.before.before in omega (arith, t.few, t.onward, t.old-within, t.new-within)
+overflow_add-n c = let t = by (goal.at.overflow_add-n c).After-step-next in omega (arith, t.few, t.onward, t.old-within, t.new-within)
 
 pub loop-i-smaller : goal.loop-i-smaller
-loop-i-smaller c = let t = by c.before.before.before in omega (arith, t.onward, t.old-within, t.new-within)
+loop-i-smaller c = let t = by (goal.at.loop-i-smaller c).After-step-next in omega (arith, t.onward, t.old-within, t.new-within)
 
 pub loop-i-preserved : goal.loop-i-preserved
 loop-i-preserved c =

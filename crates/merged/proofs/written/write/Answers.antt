@@ -22,13 +22,12 @@ loop-i-init c =
     (omega arith, omega arith, refl, omega arith, omega (arith, all, s.requires.4), refl)
 
 -- a step that was made
-by : (p : After-step-next) → (let l = p.before.before in let a = l.args in
-    Stepped a.«before».now a.used a.«after».now a.held l.loop-i.i l.loop-i.j p.step-next.result)
+by : (p : After-step-next)
+    → (let a = p.args in Stepped a.«before».now a.used a.«after».now a.held p.loop-i.i p.loop-i.j p.step-next.result)
 by p =
-    let l = c in
-    let a = l.args in
-    stepped a.«before».now a.used a.«after».now a.held (λ k. omega (arith, l.type_inv.before k)) (omega arith) (omega arith)
-    l.loop-i.i l.loop-i.j p.step-next.result p.step-next.ensures (omega arith) (omega arith) (omega arith)
+    let a = p.args in
+    stepped a.«before».now a.used a.«after».now a.held (λ k. omega (arith, p.type_inv.before k)) (omega arith) (omega arith)
+    p.loop-i.i p.loop-i.j p.step-next.result p.step-next.ensures (omega arith) (omega arith) (omega arith)
 
 pub put-requires : goal.put-requires
 put-requires c =
@@ -56,7 +55,7 @@ overflow_add-at c =
     omega (arith, (by p).few, l.loop-i.invariant.3, l.loop-i.invariant.0, l.loop-i.invariant.1, s.requires.2, s.requires.3)
 
 pub loop-i-smaller : goal.loop-i-smaller
-loop-i-smaller c = let t = by c.before.before.before.before.before.before.before in omega (arith, t.onward, t.old-within, t.new-within)
+loop-i-smaller c = let t = by (goal.at.loop-i-smaller c).After-step-next in omega (arith, t.onward, t.old-within, t.new-within)
 
 pub loop-i-preserved : goal.loop-i-preserved
 loop-i-preserved c =

@@ -11,11 +11,11 @@ use Rattle.why.specs.Text.{text_of}
 use Rattle.why.specs.Input.{first_of, told_behind}
 use Rattle.why.proofs.InputLaws.{first_long, told_none, told-bad, told-good}
 use borrow.Author.Rules.{rules}
-use Rattle.why.proofs.answer.Goals.{After-fault_of-number, After-slice_known-1, Else-input-eq0}
+use Rattle.why.proofs.answer.Goals.{After-fault_of-number, Start}
 use Rattle.why.proofs.answer.Goals as goal
 
-abbrev start : After-fault_of-number → Else-input-eq0
-start g = (goal.at.After-fault_of-number g).After-slice_known-1
+abbrev start : After-fault_of-number → Start
+start g = (goal.at.After-fault_of-number g).Start
 
 -- the number is that of the first record
 tested : (g : After-fault_of-number) → g.fault_of-number.result ≡ firstRow (faults 0 (first_of (start g).args.input.now))
@@ -35,25 +35,22 @@ slice_bounds-first-end c = sym (length-take-le _ _ (search rules))
 pub returns-then-number-ne0 : goal.returns-then-number-ne0
 returns-then-number-ne0 c =
     let g = (goal.at.returns-then-number-ne0 c).After-fault_of-number in
-    let e = start g in
-    record { out_after = c.put_number-then-number-ne0.ensures.puts.stands ∙ ap text_of (told-bad c.args.input.now e.if-input-eq0.left g.fault_of-number.result (tested g) c.if-number-ne0.true); upper_bound = omega (arith, c.requires, c.put_number-then-number-ne0.ensures.upper_bound) }
+    record { out_after = c.put_number-then-number-ne0.ensures.puts.stands ∙ ap text_of (told-bad c.args.input.now c.if-input-eq0.false g.fault_of-number.result (tested g) c.if-number-ne0.true); upper_bound = omega (arith, c.requires, c.put_number-then-number-ne0.ensures.upper_bound) }
 
 pub put_behind-requires : goal.put_behind-requires
 put_behind-requires c =
     let g = (goal.at.put_behind-requires c).After-fault_of-number in
-    let s = (start g).before.before.before in
-    (s.pre, omega (arith, first_long _ (sym g.fault_of-number.ensures ∙ c.if-number-ne0.false)))
+    (c.requires, omega (arith, first_long _ (sym g.fault_of-number.ensures ∙ c.if-number-ne0.false)))
 
 pub returns : goal.returns
 returns c =
     let g = (goal.at.returns c).After-fault_of-number in
-    let e = start g in
     let input = c.args.input.now in
     let end = c.first_end-end.result in
     let rest : take (length input - end) (drop end input) ≡ drop end input =
     take_all (length input - end) (drop end input) (omega (arith, length-drop end input)) in record {
       out_after = c.put_behind.ensures.out_after
           ∙ ap text_of (ap₂ told_behind c.first_end-end.ensures.input_value (rest ∙ c.first_end-end.ensures.input_value_2)
-          ∙ told-good input e.if-input-eq0.left (sym (tested g) ∙ c.if-number-ne0.false));
+          ∙ told-good input c.if-input-eq0.false (sym (tested g) ∙ c.if-number-ne0.false));
       upper_bound = c.put_behind.ensures.upper_bound;
     }

@@ -24,7 +24,7 @@ put_record-at-requires c =
 pub put_reason-requires : goal.put_reason-requires
 put_reason-requires c =
     let a = c.args in (
-      omega (arith, c.requires.0, c.put_record-at.ensures.upper_bound, c.put_record-at.auto.0),
+      omega (arith, c.requires.0, c.put_record-at.ensures.upper_bound, c.put_record-at.auto.out),
       subst (HasKey a.choice.reason) (sym c.record_at-next.ensures)
           (has_key a.own.now a.cache.now a.choice.reason a.choice.other c.requires.1.other c.requires.1.shows),
     )

@@ -11,7 +11,7 @@ use Rattle.why.proofs.line.put_number.Goals as goal
 
 pub put-requires : goal.put-requires
 put-requires c =
-    omega (arith, c.put_decimal-end.ensures.upper_bound, c.put_decimal-end.auto.0, c.requires)
+    omega (arith, c.put_decimal-end.ensures.upper_bound, c.put_decimal-end.auto.out, c.requires)
 
 pub returns : goal.returns
 returns c =

@@ -19,28 +19,28 @@ unfolding hex_of
 loop-i-init c = let a = c.args in (omega arith, refl, sym (splice_nil a.at a.out.now))
 
 pub overflow_mul-place : goal.overflow_mul-place
-overflow_mul-place c = omega (arith, (start (goal.at.overflow_mul-place c).At-loop-i).requires, (start (goal.at.overflow_mul-place c).At-loop-i).good)
+overflow_mul-place c = omega (arith, (start (goal.at.overflow_mul-place c).At-loop-i).requires, (start (goal.at.overflow_mul-place c).At-loop-i).well_formed)
 
 pub overflow_add-place : goal.overflow_add-place
-overflow_add-place c = omega (arith, (start (goal.at.overflow_add-place c).At-loop-i).requires, (start (goal.at.overflow_add-place c).At-loop-i).good)
+overflow_add-place c = omega (arith, (start (goal.at.overflow_add-place c).At-loop-i).requires, (start (goal.at.overflow_add-place c).At-loop-i).well_formed)
 
 pub hex_digit-requires : goal.hex_digit-requires
 hex_digit-requires c = omega (arith, c.type_inv.s c.loop-i.i)
 
 pub bounds-out-place : goal.bounds-out-place
-bounds-out-place c = let l = (goal.at.bounds-out-place (goal.at.bounds-out-place c).After-hex_digit).At-loop-i in omega (arith, (start l).requires, l.loop-i.invariant.1)
+bounds-out-place c = let l = (goal.at.bounds-out-place c).At-loop-i in omega (arith, (start l).requires, l.loop-i.invariant.1)
 
 pub overflow_add-out : goal.overflow_add-out
-overflow_add-out c = let l = (goal.at.overflow_add-out (goal.at.overflow_add-out c).After-hex_digit-in-loop-i).At-loop-i in omega (arith, (start l).requires, (start l).well-formed)
+overflow_add-out c = let l = (goal.at.overflow_add-out c).At-loop-i in omega (arith, (start l).requires, (start l).well_formed)
 
 pub bounds-out-place-in-loop-i : goal.bounds-out-place-in-loop-i
 bounds-out-place-in-loop-i c =
-    let l = (goal.at.bounds-out-place-in-loop-i (goal.at.bounds-out-place-in-loop-i c).After-hex_digit-in-loop-i).At-loop-i in
+    let l = (goal.at.bounds-out-place-in-loop-i c).At-loop-i in
     omega (arith, (start l).requires, l.loop-i.invariant.1, length-set l.loop-i.out ((start l).args.at + 2 * l.loop-i.i) c.hex_digit.result)
 
 pub loop-i-preserved : goal.loop-i-preserved
 loop-i-preserved c =
-    let l = (goal.at.loop-i-preserved (goal.at.loop-i-preserved c).After-hex_digit-in-loop-i).At-loop-i in
+    let l = (goal.at.loop-i-preserved c).At-loop-i in
     let a = (start l).args in
     let at = a.at + 2 * l.loop-i.i in
     let one = set l.loop-i.out at c.hex_digit.result in (
@@ -53,17 +53,17 @@ loop-i-preserved c =
     )
 
 pub overflow_mul-result : goal.overflow_mul-result
-overflow_mul-result c = omega (arith, (start (goal.at.overflow_mul-result c).At-loop-i).requires, (start (goal.at.overflow_mul-result c).At-loop-i).good)
+overflow_mul-result c = omega (arith, (start (goal.at.overflow_mul-result c).At-loop-i).requires, (start (goal.at.overflow_mul-result c).At-loop-i).well_formed)
 
 pub overflow_add-result : goal.overflow_add-result
-overflow_add-result c = omega (arith, (start (goal.at.overflow_add-result c).At-loop-i).requires, (start (goal.at.overflow_add-result c).At-loop-i).good)
+overflow_add-result c = omega (arith, (start (goal.at.overflow_add-result c).At-loop-i).requires, (start (goal.at.overflow_add-result c).At-loop-i).well_formed)
 
 pub shape_of-out : goal.shape_of-out
 shape_of-out c = c.loop-i.invariant.1
 
 pub returns : goal.returns
 returns c =
-    let l = (goal.at.returns (goal.at.returns c).After-loop-i).At-loop-i in
+    let l = (goal.at.returns c).At-loop-i in
     let a = (start l).args in
     let all = take_all l.loop-i.i a.s.now (omega arith) in
     record { value = refl; out_after = l.loop-i.invariant.2 ∙ ap (λ (bs : List ℕ). splice a.at (hex_of bs) a.out.now) all }

@@ -381,7 +381,7 @@ module _ (m : Memory) (l : Receive) where
   cpa-needs {a} {at} e =
       let k : Certified m l a at = known_by e in
       let n = length (own_records l.own) in
-      ((n, omega (arith, k.plans.at-is, place_within l.own (key_at k.validate l.datagram) k.plans.ours), k.hands.certified), k.plans.fits_in)
+      ((n, omega (arith, k.plans.at_is, place_within l.own (key_at k.validate l.datagram) k.plans.ours), k.hands.certified), k.plans.fits_in)
 
   -- of the INQUIRE, and of the AUTHORITY
   pub show-needs : {h u a target path size : ℕ} {opens : Bool} {start len : ℕ} → receive_plan m l ≡ Show h u a target path size opens start len

@@ -81,13 +81,13 @@ told-lookup c =
     by m (KnownLookup d) (known-lookup d) (known_answer d s.args.major) c.in-11.is
 
 pub overflow_add-told : goal.overflow_add-told
-overflow_add-told c = let p = (goal.at.overflow_add-told c).In-11 in omega (arith, (told-lookup p).2, (start (goal.at.In-11 p).After-brief_at-told).well-formed)
+overflow_add-told c = omega (arith, (told-lookup (goal.at.overflow_add-told c).In-11).2)
 
 pub overflow_sub-told : goal.overflow_sub-told
 overflow_sub-told c = omega (arith, (told-lookup (goal.at.overflow_sub-told c).In-11).1)
 
 pub overflow_cast-seen-in-11-3 : goal.overflow_cast-seen-in-11-3
-overflow_cast-seen-in-11-3 c = let p = (goal.at.overflow_cast-seen-in-11-3 c).In-11 in omega (arith, (told-lookup p).3, (start (goal.at.In-11 p).After-brief_at-told).well-formed)
+overflow_cast-seen-in-11-3 c = omega (arith, (told-lookup (goal.at.overflow_cast-seen-in-11-3 c).In-11).3)
 
 pub plan_lookup-requires : goal.plan_lookup-requires
 plan_lookup-requires c =
@@ -141,5 +141,5 @@ pub returns-in_default : goal.returns-in_default
 returns-in_default c o l =
     let m = (goal.at.returns-in_default c).After-brief_at-told in
     let s = start m in
-    let r = c.in-0.rest in
-    sym (by m (OtherBy (memory-at s o) (lent_at s l) s.args.held s.args.used) (other_by (memory-at s o) (lent_at s l) s.args.held s.args.used) r.0.0.0.0.0.1 r.0.0.0.0.1 r.0.0.0.1 r.0.0.1 r.0.1 r.1)
+    sym (by m (OtherBy (memory-at s o) (lent_at s l) s.args.held s.args.used) (other_by (memory-at s o) (lent_at s l) s.args.held s.args.used)
+    (λ e. omega arith) (λ e. omega arith) (λ e. omega arith) (λ e. omega arith) (λ e. omega arith) (λ e. omega arith))

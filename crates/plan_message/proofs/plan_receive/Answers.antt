@@ -38,33 +38,33 @@ agreed c e o =
 
 pub returns-in_default : goal.returns-in_default
 returns-in_default c o l =
-    let s = start c.before.before in
+    let s = (goal.at.returns-in_default c).Start in
     sym (ap (plan_by (memory-at s o) (lent_at s l)) (surveyed (goal.at.returns-in_default c).After-survey-memory c.in_default.is o))
 
 pub agree-requires : goal.agree-requires
 agree-requires c =
     let k = c in
-    let s = start k.before.before in
-    counts_need s.args.own.now (memory-at s (empty 0)) (surveyed (goal.at.In-Fit-2 k).After-survey-memory k.in-Fit.is (empty 0))
+    let s = (goal.at.agree-requires c).Start in
+    counts_need s.args.own.now (memory-at s (empty 0)) (surveyed (goal.at.agree-requires c).After-survey-memory k.in-Fit.is (empty 0))
 
 pub returns-then-not-agree : goal.returns-then-not-agree
 returns-then-not-agree c o l =
     let k = c in
-    let s = start k.before.before in
-    sym (ap (plan_by (memory-at s o) (lent_at s l)) (surveyed (goal.at.In-Fit-2 k).After-survey-memory k.in-Fit.is o)
+    let s = (goal.at.returns-then-not-agree c).Start in
+    sym (ap (plan_by (memory-at s o) (lent_at s l)) (surveyed (goal.at.returns-then-not-agree c).After-survey-memory k.in-Fit.is o)
     ∙ plan-uncounted (memory-at s o) (lent_at s l) _ _ (agreed (goal.at.returns-then-not-agree c).After-agree (c.if-not-agree.true) o))
 
 pub plan_message-requires : goal.plan_message-requires
 plan_message-requires c =
     let k = c in
-    let s = start k.before.before in
-    let w = message_needs s.args.own.now (memory-at s (empty 0)) (surveyed (goal.at.In-Fit-2 k).After-survey-memory k.in-Fit.is (empty 0)) in
+    let s = (goal.at.plan_message-requires c).Start in
+    let w = message_needs s.args.own.now (memory-at s (empty 0)) (surveyed (goal.at.plan_message-requires c).After-survey-memory k.in-Fit.is (empty 0)) in
     (w.0, s.requires.0, w.1, w.2, s.requires.1)
 
 pub returns : goal.returns
 returns c o l =
     let k = c in
-    let s = start k.before.before in
+    let s = (goal.at.returns c).Start in
     c.plan_message.ensures (with_firsts s.args.firsts.now o) l
-    ∙ sym (ap (plan_by (memory-at s o) (lent_at s l)) (surveyed (goal.at.In-Fit-2 k).After-survey-memory k.in-Fit.is o)
+    ∙ sym (ap (plan_by (memory-at s o) (lent_at s l)) (surveyed (goal.at.returns c).After-survey-memory k.in-Fit.is o)
     ∙ plan-counted (memory-at s o) (lent_at s l) _ _ (agreed (goal.at.returns c).After-agree (c.if-not-agree.false) o))

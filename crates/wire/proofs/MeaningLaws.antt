@@ -24,7 +24,7 @@ use Rattle.wire_shapes.proofs.ShapeLaws.{number-first, number_in}
 use Rattle.wire_fields.proofs.RefusalLaws.{split_four}
 use Rattle.wire_read.specs.Answers.{is_here, part_flag, head_of, solicit_shown, advertise_shown, request_shown, flood_shown, inquire_shown, authority_shown, ack_shown, lookup_shown}
 use Rattle.wire_read.specs.Meaning.{message_of, held, bit}
-use Rattle.wire.proofs.StandLaws.{Fact, after, Stand, needed, maybed, ended, plain-may, sized-length}
+use Rattle.wire.proofs.StandLaws.{Fact, after, Stand, needed, maybed, last_needed, last_maybed, plain-may, sized-length}
 use Rattle.wire.proofs.ValueLaws.{none_kept, last-kept, controls-kept, axc-kept, lbn-kept, split-bytes, lookup-kept}
 
 -- LOOKUP's controls
@@ -93,9 +93,9 @@ solicit_at major d b m p₀ s₁ l₁ g₁ h₁ =
 pub solicit_means : (major : ℕ) (d : List ℕ) → Bytes d → major ≡ get_or d 5 0 → (ps : List Part) → Stand solicit_kinds d 12 ps
     → message_of major d (solicit_shown d ps) ≡ some (message_at solicit_kinds d 1 ps)
 solicit_means major d b m ps w =
-    let n₀ = maybed (may 0x9A true Entry []) (drop 1 solicit_kinds) d _ ps w in
+    let n₀ = maybed (may 0x9A true Entry []) (drop 1 solicit_kinds) d 12 ps w in
     let n₁ = needed (must 0x92 false (Sized 20) []) (drop 2 solicit_kinds) d _ n₀.rest refl n₀.more in
-    let last = ended d _ n₁.rest n₁.more in
+    let last = last_needed n₁ in
     let all = n₀.is ∙ ap (λ (r : List Part). n₀.p ∷ r) (n₁.is ∙ ap (λ (r : List Part). Here n₁.s n₁.l ∷ r) (last)) in
     subst (λ (q : List Part). message_of major d (solicit_shown d q) ≡ some (message_at solicit_kinds d 1 q)) (sym (all))
     (solicit_at major d b m n₀.p n₁.s n₁.l n₁.shaped n₁.within)
@@ -116,10 +116,10 @@ advertise_at major d b m s₀ l₀ g₀ h₀ s₁ l₁ g₁ h₁ s₂ l₂ g₂ 
 pub advertise_means : (major : ℕ) (d : List ℕ) → Bytes d → major ≡ get_or d 5 0 → (ps : List Part) → Stand advertise_kinds d 12 ps
     → message_of major d (advertise_shown d ps) ≡ some (message_at advertise_kinds d 2 ps)
 advertise_means major d b m ps w =
-    let n₀ = needed (acked_kind) (drop 1 advertise_kinds) d _ ps refl w in
+    let n₀ = needed (acked_kind) (drop 1 advertise_kinds) d 12 ps refl w in
     let n₁ = needed (must 0x60 false key_list []) (drop 2 advertise_kinds) d _ n₀.rest refl n₀.more in
     let n₂ = needed (must 0x92 false (Sized 20) []) (drop 3 advertise_kinds) d _ n₁.rest refl n₁.more in
-    let last = ended d _ n₂.rest n₂.more in
+    let last = last_needed n₂ in
     let all = n₀.is ∙ ap (λ (r : List Part). Here n₀.s n₀.l ∷ r) (n₁.is ∙ ap (λ (r : List Part). Here n₁.s n₁.l ∷ r)
     (n₂.is ∙ ap (λ (r : List Part). Here n₂.s n₂.l ∷ r) (last))) in
     subst (λ (q : List Part). message_of major d (advertise_shown d q) ≡ some (message_at advertise_kinds d 2 q)) (sym (all))
@@ -152,14 +152,14 @@ pub request_means : (major : ℕ) (d : List ℕ) → Bytes d → major ≡ get_o
     → message_of major d (request_shown d ps) ≡ some (message_at request_kinds d 3 ps)
 unfolding sized
 request_means major d b m ps w z =
-    let n₀ = maybed (may 0x40 true (Sized 2) none_of_two) (drop 1 request_kinds) d _ ps w in
+    let n₀ = maybed (may 0x40 true (Sized 2) none_of_two) (drop 1 request_kinds) d 12 ps w in
     let n₁ = maybed (may 0x98 false (Sized 4) []) (drop 2 request_kinds) d _ n₀.rest n₀.more in
     let n₂ = needed (must 0x93 false (Sized 16) []) (drop 3 request_kinds) d _ n₁.rest refl n₁.more in
     let n₃ = needed (must 0x60 false key_list []) (drop 4 request_kinds) d _ n₂.rest refl n₂.more in
     let n₄ = maybed (may 0x80 false Any []) (drop 5 request_kinds) d _ n₃.rest n₃.more in
     let n₅ = maybed (may 0xA5 false Any []) (drop 6 request_kinds) d _ n₄.rest n₄.more in
     let n₆ = maybed (may 0xA6 false Any []) (drop 7 request_kinds) d _ n₅.rest n₅.more in
-    let last = ended d _ n₆.rest n₆.more in
+    let last = last_maybed n₆ in
     let y : derived (length d) n₁.p (value_of (may 0x98 false (Sized 4) []) d n₁.p) ≡ true = rw (n₀.is, n₁.is) at z in
     let all = n₀.is ∙ ap (λ (r : List Part). n₀.p ∷ r) (n₁.is ∙ ap (λ (r : List Part). n₁.p ∷ r)
     (n₂.is ∙ ap (λ (r : List Part). Here n₂.s n₂.l ∷ r) (n₃.is ∙ ap (λ (r : List Part). Here n₃.s n₃.l ∷ r)
@@ -193,13 +193,13 @@ flood_at major d b m s₀ l₀ g₀ h₀ s₁ l₁ g₁ h₁ p₂ p₃ p₄ p₅
 pub flood_means : (major : ℕ) (d : List ℕ) → Bytes d → major ≡ get_or d 5 0 → (ps : List Part) → Stand flood_kinds d 12 ps
     → message_of major d (flood_shown d ps) ≡ some (message_at flood_kinds d 4 ps)
 flood_means major d b m ps w =
-    let n₀ = needed (must 0x43 true (Sized 3) last_of_two_and_one) (drop 1 flood_kinds) d _ ps refl w in
+    let n₀ = needed (must 0x43 true (Sized 3) last_of_two_and_one) (drop 1 flood_kinds) d 12 ps refl w in
     let n₁ = needed (must 0x39 false (Sized 32) []) (drop 2 flood_kinds) d _ n₀.rest refl n₀.more in
     let n₂ = maybed (may 0x9F true Any []) (drop 3 flood_kinds) d _ n₁.rest n₁.more in
     let n₃ = maybed (may 0x9C true Any []) (drop 4 flood_kinds) d _ n₂.rest n₂.more in
     let n₄ = maybed (may 0x9A true Entry []) (drop 5 flood_kinds) d _ n₃.rest n₃.more in
     let n₅ = maybed (may 0x9E false endpoints []) (drop 6 flood_kinds) d _ n₄.rest n₄.more in
-    let last = ended d _ n₅.rest n₅.more in
+    let last = last_maybed n₅ in
     let all = n₀.is ∙ ap (λ (r : List Part). Here n₀.s n₀.l ∷ r) (n₁.is ∙ ap (λ (r : List Part). Here n₁.s n₁.l ∷ r)
     (n₂.is ∙ ap (λ (r : List Part). n₂.p ∷ r) (n₃.is ∙ ap (λ (r : List Part). n₃.p ∷ r)
     (n₄.is ∙ ap (λ (r : List Part). n₄.p ∷ r) (n₅.is ∙ ap (λ (r : List Part). n₅.p ∷ r) (last)))))) in
@@ -230,13 +230,13 @@ inquire_at major d b m s₀ l₀ g₀ h₀ s₁ l₁ g₁ h₁ p₂ p₃ p₄ p�
 pub inquire_means : (major : ℕ) (d : List ℕ) → Bytes d → major ≡ get_or d 5 0 → (ps : List Part) → Stand inquire_kinds d 12 ps
     → message_of major d (inquire_shown d ps) ≡ some (message_at inquire_kinds d 7 ps)
 inquire_means major d b m ps w =
-    let n₀ = needed (must 0x40 true (Sized 2) flags_axc) (drop 1 inquire_kinds) d _ ps refl w in
+    let n₀ = needed (must 0x40 true (Sized 2) flags_axc) (drop 1 inquire_kinds) d 12 ps refl w in
     let n₁ = needed (must 0x39 false (Sized 32) []) (drop 2 inquire_kinds) d _ n₀.rest refl n₀.more in
     let n₂ = maybed (may 0x93 false (Sized 16) []) (drop 3 inquire_kinds) d _ n₁.rest n₁.more in
     let n₃ = maybed (may 0x80 false Any []) (drop 4 inquire_kinds) d _ n₂.rest n₂.more in
     let n₄ = maybed (may 0xA5 false Any []) (drop 5 inquire_kinds) d _ n₃.rest n₃.more in
     let n₅ = maybed (may 0xA6 false Any []) (drop 6 inquire_kinds) d _ n₄.rest n₄.more in
-    let last = ended d _ n₅.rest n₅.more in
+    let last = last_maybed n₅ in
     let all = n₀.is ∙ ap (λ (r : List Part). Here n₀.s n₀.l ∷ r) (n₁.is ∙ ap (λ (r : List Part). Here n₁.s n₁.l ∷ r)
     (n₂.is ∙ ap (λ (r : List Part). n₂.p ∷ r) (n₃.is ∙ ap (λ (r : List Part). n₃.p ∷ r)
     (n₄.is ∙ ap (λ (r : List Part). n₄.p ∷ r) (n₅.is ∙ ap (λ (r : List Part). n₅.p ∷ r) (last)))))) in
@@ -278,7 +278,7 @@ pub authority_means : (major : ℕ) (d : List ℕ) → Bytes d → major ≡ get
     → message_of major d (authority_shown d ps) ≡ some (message_at authority_kinds d 8 ps)
 unfolding sized
 authority_means major d b m ps w z =
-    let n₀ = needed (acked_kind) (drop 1 authority_kinds) d _ ps refl w in
+    let n₀ = needed (acked_kind) (drop 1 authority_kinds) d 12 ps refl w in
     let n₁ = needed (split_kind) (drop 2 authority_kinds) d _ n₀.rest refl n₀.more in
     let n₂ = needed (must 0x40 true (Sized 2) flags_lbn) (drop 3 authority_kinds) d _ n₁.rest refl n₁.more in
     let n₃ = maybed (may 0x80 true Any []) (drop 4 authority_kinds) d _ n₂.rest n₂.more in
@@ -287,7 +287,7 @@ authority_means major d b m ps w z =
     let n₆ = maybed (may 0x5A true Any []) (drop 7 authority_kinds) d _ n₅.rest n₅.more in
     let n₇ = maybed (may 0x9A true Entry []) (drop 8 authority_kinds) d _ n₆.rest n₆.more in
     let n₈ = maybed (may 0x9B false Any []) (drop 9 authority_kinds) d _ n₇.rest n₇.more in
-    let last = ended d _ n₈.rest n₈.more in
+    let last = last_maybed n₈ in
     let e₀ = sized-length 4 d n₀.s n₀.l n₀.shaped n₀.within in
     let o : n₁.s ≡ 24 = n₁.starts ∙ rw e₀ in
     let y : derived (length d) (Here n₁.s n₁.l) (some (part n₁.s n₁.l d)) ≡ true = rw (n₀.is, n₁.is) at z in
@@ -313,9 +313,9 @@ ack_at major d b m s₀ l₀ g₀ h₀ p₁ f₁ =
 pub ack_means : (major : ℕ) (d : List ℕ) → Bytes d → major ≡ get_or d 5 0 → (ps : List Part) → Stand ack_kinds d 12 ps
     → message_of major d (ack_shown d ps) ≡ some (message_at ack_kinds d 9 ps)
 ack_means major d b m ps w =
-    let n₀ = needed (acked_kind) (drop 1 ack_kinds) d _ ps refl w in
+    let n₀ = needed (acked_kind) (drop 1 ack_kinds) d 12 ps refl w in
     let n₁ = maybed (may 0x40 false (Sized 2) last_of_two) (drop 2 ack_kinds) d _ n₀.rest n₀.more in
-    let last = ended d _ n₁.rest n₁.more in
+    let last = last_maybed n₁ in
     let at₁ : after acked_kind 12 (Here n₀.s n₀.l) ≡ 20 = (let e = sized-length 4 d n₀.s n₀.l n₀.shaped n₀.within in rw e) in
     let all = n₀.is ∙ ap (λ (r : List Part). Here n₀.s n₀.l ∷ r) (n₁.is ∙ ap (λ (r : List Part). n₁.p ∷ r) (last)) in
     subst (λ (q : List Part). message_of major d (ack_shown d q) ≡ some (message_at ack_kinds d 9 q)) (sym (all))
@@ -349,7 +349,7 @@ lookup_at major d b m s₀ l₀ g₀ h₀ s₁ l₁ g₁ h₁ s₂ l₂ g₂ h�
 pub lookup_means : (major : ℕ) (d : List ℕ) → Bytes d → major ≡ get_or d 5 0 → (ps : List Part) → Stand lookup_kinds d 12 ps
     → message_of major d (lookup_shown d ps) ≡ some (message_at lookup_kinds d 11 ps)
 lookup_means major d b m ps w =
-    let n₀ = needed (lookup_kind) (drop 1 lookup_kinds) d _ ps refl w in
+    let n₀ = needed (lookup_kind) (drop 1 lookup_kinds) d 12 ps refl w in
     let n₁ = needed (must 0x38 false (Sized 32) []) (drop 2 lookup_kinds) d _ n₀.rest refl n₀.more in
     let n₂ = needed (must 0x39 false (Sized 32) []) (drop 3 lookup_kinds) d _ n₁.rest refl n₁.more in
     let n₃ = maybed (may 0x9A true Entry []) (drop 4 lookup_kinds) d _ n₂.rest n₂.more in
@@ -357,7 +357,7 @@ lookup_means major d b m ps w =
     let n₅ = maybed (may 0x80 false Any []) (drop 6 lookup_kinds) d _ n₄.rest n₄.more in
     let n₆ = maybed (may 0xA5 false Any []) (drop 7 lookup_kinds) d _ n₅.rest n₅.more in
     let n₇ = maybed (may 0xA6 false Any []) (drop 8 lookup_kinds) d _ n₆.rest n₆.more in
-    let last = ended d _ n₇.rest n₇.more in
+    let last = last_maybed n₇ in
     let all = n₀.is ∙ ap (λ (r : List Part). Here n₀.s n₀.l ∷ r) (n₁.is ∙ ap (λ (r : List Part). Here n₁.s n₁.l ∷ r)
     (n₂.is ∙ ap (λ (r : List Part). Here n₂.s n₂.l ∷ r) (n₃.is ∙ ap (λ (r : List Part). n₃.p ∷ r)
     (n₄.is ∙ ap (λ (r : List Part). Here n₄.s n₄.l ∷ r) (n₅.is ∙ ap (λ (r : List Part). n₅.p ∷ r)

@@ -90,6 +90,12 @@ pub ended : (d : List ℕ) (i : ℕ) (ps : List Part) → Stand [] d i ps → ps
 ended d i [] w = refl
 ended d i (p ∷ ps) w = absurd w
 
+pub last_needed : {k : Kind} {d : List ℕ} {i : ℕ} {ps : List Part} → (n : Needed k [] d i ps) → n.rest ≡ []
+last_needed {k} {d} {i} n = ended d (after k i (Here n.s n.l)) n.rest n.more
+
+pub last_maybed : {k : Kind} {d : List ℕ} {i : ℕ} {ps : List Part} → (n : Maybed k [] d i ps) → n.rest ≡ []
+last_maybed {k} {d} {i} n = ended d (after k i n.p) n.rest n.more
+
 -- ---- contents
 
 -- a field whose bits all count is its bytes

@@ -221,8 +221,8 @@ module _ (m : Memory) (l : Receive) where
       go (yes h) = subst (Numbered m l) (sym (or_refuses fields.refused rs done h)) (p h)
       go (no h) = let a = all_fail (place_in order) rs 0 o (omega arith) in subst (Numbered m l) (sym (all_pass fields.refused rs done a)) (q a)
 
-  read_number : Numbered m l (fields.foundIn l.datagram l.major)
-  unfolding fields.foundIn place_in
+  read_number : Numbered m l (fields.found_in l.datagram l.major)
+  unfolding fields.found_in place_in
   read_number =
       let rs = fields.refusals l.datagram l.major in
       read_by rs _ refl (rises-order 0 rs refl) refused-number (found_number _ _)

@@ -23,19 +23,19 @@ use Rattle.readings.proofs.RoundLaws as round
 -- ---- there and back
 
 pub reads_back : ReadingReadsBack
-reads_back = round.reads-back
+reads_back = round.reads_back
 
 pub writes_back : WritesBack
-writes_back = round.writes-back
+writes_back = round.writes_back
 
 pub packed_reads : PackedReads
-packed_reads = round.packed-reads
+packed_reads = round.packed_reads
 
 pub unpacked_writes : UnpackedWrites
-unpacked_writes = round.unpacked-writes
+unpacked_writes = round.unpacked_writes
 
 pub numbers_back : NumbersBack
-numbers_back = numbers.numbers-back
+numbers_back = numbers.numbers_back
 
 -- ---- two results
 
@@ -88,7 +88,7 @@ pub depths : Depths
 depths = patterns
 
 pub negative_zero : NegativeZero
-negative_zero = edge.negative-zero
+negative_zero = edge.negative_zero
 
 pub edges : Edges
 edges = edge.edges

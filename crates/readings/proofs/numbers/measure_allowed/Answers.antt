@@ -1,12 +1,8 @@
 -- `readings::numbers::measure_allowed` meets its contract: an allowed depth is a number, and has bits. Assumes nothing.
 use mathlib.Core.Path.{sym, ap, ◌∙◌}
-use Rattle.readings.specs.Reading.{fine, measure_of}
+use Rattle.readings.specs.Reading.{fine}
 use Rattle.readings.proofs.DepthLaws.{allowed_no_nan}
-use borrow.Author.Rules.{rules}
 use Rattle.readings.proofs.numbers.measure_allowed.Goals as goal
 
 pub float_to_bits-result : goal.float_to_bits-result
-float_to_bits-result c = allowed_no_nan _ (sym (ap fine c.decreases.given.1) ∙ c.requires)
-
-pub returns-in-Depth : goal.returns-in-Depth
-returns-in-Depth c = sym (ap measure_of c.decreases.given.1)
+float_to_bits-result c = allowed_no_nan _ (sym (ap fine c.in-Depth.is) ∙ c.requires)

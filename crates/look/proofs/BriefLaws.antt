@@ -23,29 +23,26 @@ use Rattle.wire_read.specs.contracts.Incoming.{the_type}
 use Rattle.look.specs.Seen.{look_of, briefed, brief_of, read_as, authority_read}
 use Rattle.look.specs.declared.Look.{Look}
 
--- an answer's variant is none of the keys, if it is a message of the type
-module _ (d : List ℕ) (t k : ℕ) (keys : List ℕ) (tagged : (ps : List Part) → tag_of the_type (incoming_of d (found t ps)) ≡ k)
-    (other : T (not (has_key keys k))) (a : Incoming) where
-  else-by : (o : Option (List Part)) → a ≡ incoming_of d (found_of t o) → OneOf keys (tag_of the_type a) → a ≡ M.Refused 6
+-- an answer that is no message of the type is a refusal
+module _ (d : List ℕ) (t : ℕ) (a : Incoming) (other : (ps : List Part) → a ≡ incoming_of d (found t ps) → ⊥) where
+  else-by : (o : Option (List Part)) → a ≡ incoming_of d (found_of t o) → a ≡ M.Refused 6
   unfolding incoming_of
-  else-by none e h = e
-  else-by (some ps) e h = absurd (miss keys k other (subst (OneOf keys) (ap (tag_of the_type) e ∙ tagged ps) h))
+  else-by none e = e
+  else-by (some ps) e = absurd (other ps e)
 
-  pub else-refused : (ks : List Kind) → a ≡ read_as t ks d → OneOf keys (tag_of the_type a) → a ≡ M.Refused 6
-  else-refused ks e h = else-by (fields_as t ks d) e h
+  pub else-refused : (ks : List Kind) → a ≡ read_as t ks d → a ≡ M.Refused 6
+  else-refused ks e = else-by (fields_as t ks d) e
 
 -- an AUTHORITY's answer is a refusal or an AUTHORITY
-module _ (d : List ℕ) (a : Incoming) (keys others : List ℕ) (tagged : (ps : List Part) → tag_of the_type (incoming_of d (found 8 ps)) ≡ 6)
-    (refuses : (n : ℕ) → tag_of the_type (M.Refused n) ≡ 0) (no-message : T (not (has_key keys 6))) (no-refusal : T (not (has_key others 0))) where
-  neither-by : (b : Bool) (o : Option (List Part)) → a ≡ incoming_of d (cond b (refused 7) (found_of 8 o)) → OneOf keys (tag_of the_type a)
-      → OneOf others (tag_of the_type a) → ⊥
+module _ (d : List ℕ) (a : Incoming) (no-message : (ps : List Part) → a ≡ incoming_of d (found 8 ps) → ⊥) (no-refusal : (n : ℕ) → a ≡ M.Refused n → ⊥) where
+  neither-by : (b : Bool) (o : Option (List Part)) → a ≡ incoming_of d (cond b (refused 7) (found_of 8 o)) → ⊥
   unfolding incoming_of
-  neither-by true o e h g = miss others 0 no-refusal (subst (OneOf others) (ap (tag_of the_type) e ∙ refuses 7) g)
-  neither-by false none e h g = miss others 0 no-refusal (subst (OneOf others) (ap (tag_of the_type) e ∙ refuses 6) g)
-  neither-by false (some ps) e h g = miss keys 6 no-message (subst (OneOf keys) (ap (tag_of the_type) e ∙ tagged ps) h)
+  neither-by true o e = no-refusal 7 e
+  neither-by false none e = no-refusal 6 e
+  neither-by false (some ps) e = no-message ps e
 
-  pub neither : a ≡ authority_read d → OneOf keys (tag_of the_type a) → OneOf others (tag_of the_type a) → ⊥
-  neither e h g = neither-by (in_part 8 d) (fields_as 8 authority_kinds d) e h g
+  pub neither : a ≡ authority_read d → ⊥
+  neither e = neither-by (in_part 8 d) (fields_as 8 authority_kinds d) e
 
 -- where the header is right, what is read is what the reader of the type gives
 module _ (d : List ℕ) (major t : ℕ) (ks : List Kind) (e : found_in d major ≡ by_type (get_or d 7 0) d (kinds_of (get_or d 7 0))) (q : get_or d 7 0 ≡ t)
@@ -53,8 +50,8 @@ module _ (d : List ℕ) (major t : ℕ) (ks : List Kind) (e : found_in d major �
   typed : found_in d major ≡ gated t d (found_of t (fields_as t ks d))
   typed = e ∙ ap (λ (n : ℕ). by_type n d (kinds_of n)) q ∙ ap (by_type t d) k
 
-  pub read_as : in_part t d ≡ false → read_in d major ≡ read_as t ks d
-  read_as n = ap (incoming_of d) (typed ∙ ap (λ (b : Bool). cond b (refused 7) (found_of t (fields_as t ks d))) n)
+  pub read_as_lem : in_part t d ≡ false → read_in d major ≡ read_as t ks d
+  read_as_lem n = ap (incoming_of d) (typed ∙ ap (λ (b : Bool). cond b (refused 7) (found_of t (fields_as t ks d))) n)
 
 pub read_authority : (d : List ℕ) (major : ℕ) → found_in d major ≡ by_type (get_or d 7 0) d (kinds_of (get_or d 7 0)) → get_or d 7 0 ≡ 8
     → read_in d major ≡ authority_read d

@@ -11,11 +11,9 @@ use Rattle.look.proofs.brief_ack.Goals as goal
 pub returns-in_default : goal.returns-in_default
 unfolding incoming_of
 returns-in_default c =
-    let start = c in
     let read = c.read_ack-message.ensures in
     c.refused.ensures
-    ∙ ap brief_of (sym (else-refused start.args.datagram.now 9 7 (0 ∷ 1 ∷ 2 ∷ 3 ∷ 4 ∷ 5 ∷ 6 ∷ 8 ∷ []) (λ ps. refl) tt _ ack_kinds read
-    c.in-Ack.keys2) ∙ read)
+    ∙ ap brief_of (sym (else-refused c.args.datagram.now 9 _ (λ ps e. c.in_default.not-Ack _ e) ack_kinds read) ∙ read)
 
 pub returns : goal.returns
 unfolding brief_of look_of

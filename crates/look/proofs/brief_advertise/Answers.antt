@@ -12,11 +12,9 @@ use Rattle.look.proofs.brief_advertise.Goals as goal
 pub returns-in_default : goal.returns-in_default
 unfolding incoming_of
 returns-in_default c =
-    let start = c in
     let read = c.read_advertise-message.ensures in
     c.refused.ensures
-    ∙ ap brief_of (sym (else-refused start.args.datagram.now 2 2 (0 ∷ 1 ∷ 3 ∷ 4 ∷ 5 ∷ 6 ∷ 7 ∷ 8 ∷ []) (λ ps. refl) tt _ advertise_kinds read
-    c.in-Advertise.keys2) ∙ read)
+    ∙ ap brief_of (sym (else-refused c.args.datagram.now 2 _ (λ ps e. c.in_default.not-Advertise _ e) advertise_kinds read) ∙ read)
 
 pub seen_as-seen-requires : goal.seen_as-seen-requires
 unfolding look_of

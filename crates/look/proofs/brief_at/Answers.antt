@@ -17,7 +17,7 @@ use Rattle.wire_read.specs.declared.Incoming.TheVariants.{Refused}
 use Rattle.wire_read.proofs.ReaderLaws.{header-refuses, header-right}
 use Rattle.look.specs.Seen.{look_of, brief_of, read_as, authority_read, Small}
 use Rattle.look.proofs.SeenLaws.{look_small}
-use Rattle.look.proofs.BriefLaws.{read_as, read_authority}
+use Rattle.look.proofs.BriefLaws.{read_as_lem, read_authority}
 use borrow.Author.Rules.{rules}
 use Rattle.look.proofs.brief_at.Goals.{Else-number-ne0}
 use Rattle.look.proofs.brief_at.Goals as goal
@@ -34,7 +34,7 @@ right-at c = header-right (datagram-at c) c.args.major (sym c.header-number.ensu
 -- what is read is what the reader of its type gives, and the fields that are told stand within the datagram
 read_at : (c : Else-number-ne0) (t : ℕ) (ks : List Kind) → get_or (datagram-at c) 7 0 ≡ t → kinds_of t ≡ some ks → in_part t (datagram-at c) ≡ false
     → read_in (datagram-at c) c.args.major ≡ read_as t ks (datagram-at c)
-read_at c t ks q k n = read_as (datagram-at c) c.args.major t ks (right-at c).1 q k n
+read_at c t ks q k n = read_as_lem (datagram-at c) c.args.major t ks (right-at c).1 q k n
 
 small_at : (c : Else-number-ne0) (t : ℕ) (ks : List Kind) → get_or (datagram-at c) 7 0 ≡ t → kinds_of t ≡ some ks → in_part t (datagram-at c) ≡ false
     → (12 ≤ length (datagram-at c)) × Small (look_of (read_as t ks (datagram-at c)))
@@ -139,18 +139,18 @@ returns-in-11 c =
 pub returns-in_default : goal.returns-in_default
 unfolding incoming_of kinds_of
 returns-in_default c =
-    let d = datagram-at c.before.before.before in
-    let r = c.in-1.rest in
+    let d = datagram-at (goal.at.returns-in_default c).Else-number-ne0 in
+    let k = get_or d 7 0 in
     let five : found_in d c.args.major ≡ refused 5 =
     rw (
       (right-at (goal.at.returns-in_default c).Else-number-ne0).1,
-      ne_eqb (get_or d 7 0) 1 r.0.0.0.0.0.0.0.1,
-      ne_eqb (get_or d 7 0) 2 r.0.0.0.0.0.0.1,
-      ne_eqb (get_or d 7 0) 3 r.0.0.0.0.0.1,
-      ne_eqb (get_or d 7 0) 4 r.0.0.0.0.1,
-      ne_eqb (get_or d 7 0) 7 r.0.0.0.1,
-      ne_eqb (get_or d 7 0) 8 r.0.0.1,
-      ne_eqb (get_or d 7 0) 9 r.0.1,
-      ne_eqb (get_or d 7 0) 11 r.1,
+      ne_eqb k 1 (λ e. absurd (omega (arith, e))),
+      ne_eqb k 2 (λ e. absurd (omega (arith, e))),
+      ne_eqb k 3 (λ e. absurd (omega (arith, e))),
+      ne_eqb k 4 (λ e. absurd (omega (arith, e))),
+      ne_eqb k 7 (λ e. absurd (omega (arith, e))),
+      ne_eqb k 8 (λ e. absurd (omega (arith, e))),
+      ne_eqb k 9 (λ e. absurd (omega (arith, e))),
+      ne_eqb k 11 (λ e. absurd (omega (arith, e))),
     ) in
     c.refused-in_default.ensures ∙ ap brief_of (sym (ap (incoming_of d) five))

@@ -13,10 +13,8 @@ use Rattle.look.proofs.brief_authority.Goals as goal
 pub returns-in_default-message : goal.returns-in_default-message
 unfolding incoming_of
 returns-in_default-message c =
-    let start = c in
-    absurd (neither start.args.datagram.now _ (0 ∷ 1 ∷ 2 ∷ 3 ∷ 4 ∷ 5 ∷ 7 ∷ 8 ∷ []) (1 ∷ 2 ∷ 3 ∷ 4 ∷ 5 ∷ 6 ∷ 7 ∷ 8 ∷ [])
-    (λ ps. refl) (λ n. refl) tt tt c.read_authority-message.ensures
-    c.in-Authority.keys2 c.in-Refused.keys2)
+    absurd (neither c.args.datagram.now _ (λ ps e. c.in_default.not-Authority _ e) (λ n e. c.in_default-message.not-Refused n e)
+    c.read_authority-message.ensures)
 
 pub returns-in_default : goal.returns-in_default
 returns-in_default c =

@@ -12,11 +12,9 @@ use Rattle.look.proofs.brief_inquire.Goals as goal
 pub returns-in_default : goal.returns-in_default
 unfolding incoming_of
 returns-in_default c =
-    let start = c in
     let read = c.read_inquire-message.ensures in
     c.refused.ensures
-    ∙ ap brief_of (sym (else-refused start.args.datagram.now 7 5 (0 ∷ 1 ∷ 2 ∷ 3 ∷ 4 ∷ 6 ∷ 7 ∷ 8 ∷ []) (λ ps. refl) tt _ inquire_kinds read
-    c.in-Inquire.keys2) ∙ read)
+    ∙ ap brief_of (sym (else-refused c.args.datagram.now 7 _ (λ ps e. c.in_default.not-Inquire _ e) inquire_kinds read) ∙ read)
 
 pub seen_as-seen-requires : goal.seen_as-seen-requires
 unfolding look_of

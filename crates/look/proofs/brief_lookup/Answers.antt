@@ -14,11 +14,9 @@ use Rattle.look.proofs.brief_lookup.Goals as goal
 pub returns-in_default : goal.returns-in_default
 unfolding incoming_of
 returns-in_default c =
-    let start = c in
     let read = c.read_lookup-message.ensures in
     c.refused.ensures
-    ∙ ap brief_of (sym (else-refused start.args.datagram.now 11 8 (0 ∷ 1 ∷ 2 ∷ 3 ∷ 4 ∷ 5 ∷ 6 ∷ 7 ∷ []) (λ ps. refl) tt _ lookup_kinds read
-    c.in-Lookup.keys2) ∙ read)
+    ∙ ap brief_of (sym (else-refused c.args.datagram.now 11 _ (λ ps e. c.in_default.not-Lookup _ e) lookup_kinds read) ∙ read)
 
 pub seen_as-seen-requires : goal.seen_as-seen-requires
 unfolding look_of

@@ -12,11 +12,9 @@ use Rattle.look.proofs.brief_request.Goals as goal
 pub returns-in_default : goal.returns-in_default
 unfolding incoming_of
 returns-in_default c =
-    let start = c in
     let read = c.read_request-message.ensures in
     c.refused.ensures
-    ∙ ap brief_of (sym (else-refused start.args.datagram.now 3 3 (0 ∷ 1 ∷ 2 ∷ 4 ∷ 5 ∷ 6 ∷ 7 ∷ 8 ∷ []) (λ ps. refl) tt _ request_kinds read
-    c.in-Request.keys2) ∙ read)
+    ∙ ap brief_of (sym (else-refused c.args.datagram.now 3 _ (λ ps e. c.in_default.not-Request _ e) request_kinds read) ∙ read)
 
 pub seen_as-seen-requires : goal.seen_as-seen-requires
 unfolding look_of

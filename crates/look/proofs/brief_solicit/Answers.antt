@@ -12,11 +12,9 @@ use Rattle.look.proofs.brief_solicit.Goals as goal
 pub returns-in_default : goal.returns-in_default
 unfolding incoming_of
 returns-in_default c =
-    let start = c in
     let read = c.read_solicit-message.ensures in
     c.refused.ensures
-    ∙ ap brief_of (sym (else-refused start.args.datagram.now 1 1 (0 ∷ 2 ∷ 3 ∷ 4 ∷ 5 ∷ 6 ∷ 7 ∷ 8 ∷ []) (λ ps. refl) tt _ solicit_kinds read
-    c.in-Solicit.keys2) ∙ read)
+    ∙ ap brief_of (sym (else-refused c.args.datagram.now 1 _ (λ ps e. c.in_default.not-Solicit _ e) solicit_kinds read) ∙ read)
 
 pub seen_as-seen-requires : goal.seen_as-seen-requires
 unfolding look_of

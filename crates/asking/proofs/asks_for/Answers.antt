@@ -28,9 +28,9 @@ module _ (c : Else-len-eq0) where
   there : ¬ (length (entry s) ≡ 0)
   there e = c.if-len-eq0.false (sym (long s) ∙ e)
 
-own_key : (c : After-is_own) → is_own (own_keys (s c.before).args.own.now) (key_of (record_of (entry (s c.before)))) ≡ c.is_own.result
+own_key : (c : After-is_own) → (let e = (goal.at.After-is_own c).Else-len-eq0 in is_own (own_keys (s e).args.own.now) (key_of (record_of (entry (s e)))) ≡ c.is_own.result)
 own_key c =
-    let e = c.before in
+    let e = (goal.at.After-is_own c).Else-len-eq0 in
     let a = (s e).args in
     ap (is_own (own_keys a.own.now)) (key_in_lem a.start a.len a.d.now (s e).requires.3 (formed e)) ∙ sym c.is_own.ensures
 
@@ -55,9 +55,8 @@ must_ask-requires c = let e = (goal.at.must_ask-requires c).Else-len-eq0 in ((s 
 
 pub returns : goal.returns
 returns c =
-    let o = c in
     let e = (goal.at.returns c).Else-len-eq0 in
     let a = (s e).args in
     c.must_ask.ensures
     ∙ sym (asks-other (own_keys a.own.now) (rows 100 a.held a.cache.now) (rows 140 a.used a.waiting.now) (entry (s e)) (there e)
-    (own_key (goal.at.Else-is_own o).After-is_own ∙ o.if-is_own.false))
+    (own_key (goal.at.returns c).After-is_own ∙ c.if-is_own.false))

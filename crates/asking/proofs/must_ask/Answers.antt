@@ -20,7 +20,7 @@ pub returns-then-holds_same : goal.returns-then-holds_same
 returns-then-holds_same c =
     let a = c.args in
     sym (ask-held (rows 100 a.held a.cache.now) (rows 140 a.used a.waiting.now) (record_of (part a.start a.len a.d.now))
-    (sym c.Holds-same.ensures ∙ c.if-holds_same.true))
+    (sym c.holds_same.ensures ∙ c.if-holds_same.true))
 
 pub find_inquiry-requires : goal.find_inquiry-requires
 find_inquiry-requires c =
@@ -35,7 +35,7 @@ by_found c is =
     let s = c in
     let a = s.args in
     ask-found (rows 100 a.held a.cache.now) (rows 140 a.used a.waiting.now) (record_of (part a.start a.len a.d.now))
-    (sym c.Holds-same.ensures ∙ c.if-holds_same.false)
+    (sym c.holds_same.ensures ∙ c.if-holds_same.false)
     (key_in_lem a.start a.len a.d.now s.requires.2 s.requires.3) (sym is ∙ c.find_inquiry.ensures)
 
 pub returns-in-At : goal.returns-in-At

@@ -76,7 +76,7 @@ module _ (own cache path target : List ℕ) where
         let n = rows-length 100 (length own / 100) own in
         let m = length-map (own_records own) key_of in
         rise_one 0 (own_keys own) k l (own_formed own own-good).rising (omega (arith, v, m)) (omega (arith, w, m))
-        (sym (own-laws.key-of-place own k (omega (arith, v, n))) ∙ ap key_of d ∙ own-laws.key-of-place own l (omega (arith, w, n)))
+        (sym (own-laws.key_of_place own k (omega (arith, v, n))) ∙ ap key_of d ∙ own-laws.key_of_place own l (omega (arith, w, n)))
 
     -- and they have bytes
     own_some : (k : ℕ) → k < length (own_records own) → own_record own k ≡ [] → ⊥

@@ -2,7 +2,6 @@
 use mathlib.Core.Path.{ap₂, ◌∙◌}
 use Rattle.table.specs.Rows.{rows, bytes_of}
 use Rattle.waiting.proofs.EditLaws.{freed_remove}
-use borrow.Author.Rules.{rules}
 use Rattle.waiting.proofs.edit.free.Goals as goal
 
 pub returns : goal.returns

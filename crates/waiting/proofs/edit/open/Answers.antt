@@ -7,7 +7,6 @@ use Rattle.table.proofs.RowLaws.{rows-length}
 use Rattle.waiting.specs.Place.{new_place}
 use Rattle.waiting.proofs.NewLaws.{new-length, new-id}
 use Rattle.waiting.proofs.EditLaws.{opened_at, slot_few}
-use borrow.Author.Rules.{rules}
 use Rattle.waiting.proofs.edit.open.Goals as goal
 
 pub insert_row-requires : goal.insert_row-requires

@@ -3,7 +3,6 @@ use mathlib.Core.Path.{ap, ◌∙◌}
 use mathlib.Core.List.{[], ◌∷◌}
 use Rattle.octet.specs.Part.{splice}
 use Rattle.waiting.proofs.NewLaws.{written}
-use borrow.Author.Rules.{rules}
 use Rattle.waiting.proofs.edit.write_place.Goals as goal
 
 pub returns : goal.returns

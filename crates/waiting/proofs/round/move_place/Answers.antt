@@ -4,7 +4,6 @@ use Prim.Native.Nat.{ℕ, ◌*◌}
 use native.Mathlib.Omega.{arith}
 use Rattle.octet.specs.Part.{part, splice}
 use Rattle.waiting.proofs.TickLaws.{place_stays}
-use borrow.Author.Rules.{rules}
 use Rattle.waiting.proofs.round.move_place.Goals as goal
 
 pub returns-then-kept-at : goal.returns-then-kept-at

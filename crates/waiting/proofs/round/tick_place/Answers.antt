@@ -8,7 +8,6 @@ use Rattle.octet.specs.Number.{digits_le}
 use Rattle.octet.specs.Part.{splice}
 use Rattle.waiting.proofs.PlaceLaws.{id-at}
 use Rattle.waiting.proofs.TickLaws.{is-spent, not-spent, kept_place}
-use borrow.Author.Rules.{rules}
 use Rattle.waiting.proofs.round.tick_place.Goals as goal
 
 pub returns-then-tries-eq0 : goal.returns-then-tries-eq0

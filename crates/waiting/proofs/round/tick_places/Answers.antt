@@ -1,9 +1,9 @@
 use mathlib.Core.Path.{refl, ◌∙◌}
-use Prim.Native.Nat.{◌*◌, ◌-◌}
+use Prim.Native.Nat.{◌*◌}
 use native.Mathlib.Omega.{arith}
 use Rattle.octet.specs.Part.{part}
 use Rattle.waiting.specs.Ticking.{spent}
-use Rattle.waiting.proofs.TickLaws.{Left, left-start, turn, end-count, end_list, end-cleared}
+use Rattle.waiting.proofs.TickLaws.{left-start, turn, end-count, end_list, end-cleared}
 use Rattle.waiting.proofs.round.tick_places.Goals as goal
 
 pub loop-at-init : goal.loop-at-init

@@ -1,9 +1,6 @@
-use mathlib.Core.Path.{◌≡◌, refl, sym, ◌∙◌}
-use Prim.Native.Nat.{◌*◌, ◌-◌, ◌≤◌}
+use mathlib.Core.Path.{refl, sym, ◌∙◌}
+use Prim.Native.Nat.{◌*◌}
 use native.Mathlib.Omega.{arith}
-use lib.ListN.{drop}
-use Rattle.table.specs.Rows.{rows}
-use Rattle.table.specs.Seek.{seek}
 use Rattle.waiting.specs.Seek.{is_at}
 use Rattle.table.proofs.SeekLaws.{seek-here, seek-on, seek-end}
 use Rattle.waiting.proofs.WalkLaws.{at_is}

@@ -1,13 +1,10 @@
 -- `waiting::seek::find` meets its contract: the answer is always the answer for what is left. Assumes nothing.
-use mathlib.Core.Path.{◌≡◌, refl, sym, ◌∙◌}
-use Prim.Native.Nat.{◌*◌, ◌-◌, ◌≤◌}
-use native.Mathlib.Omega.{arith}
+use mathlib.Core.Path.{◌≡◌}
+use Prim.Native.Nat.{◌-◌, ◌≤◌}
 use lib.ListN.{drop}
 use Rattle.table.specs.Rows.{rows}
 use Rattle.table.specs.Seek.{seek}
 use Rattle.waiting.specs.Seek.{is_at}
-use Rattle.table.proofs.SeekLaws.{seek-here, seek-on, seek-end}
-use Rattle.waiting.proofs.WalkLaws.{at_is}
 use Rattle.waiting.proofs.seek.find.Given as goal
 
 abbrev pub invariant-loop-at : goal.invariant-loop-at

@@ -1,11 +1,7 @@
-use mathlib.Core.Path.{◌≡◌, refl, sym, ◌∙◌}
-use Prim.Native.Nat.{◌-◌, ◌≤◌}
+use mathlib.Core.Path.{refl, sym, ◌∙◌}
 use native.Mathlib.Omega.{arith}
-use lib.ListN.{drop}
 use Rattle.key.specs.Number.{key_at}
-use Rattle.table.specs.Rows.{rows}
 use Rattle.waiting.specs.Form.{is_inquiry}
-use Rattle.table.specs.Seek.{seek}
 use Rattle.table.proofs.SeekLaws.{seek-here, seek-on, seek-end}
 use Rattle.waiting.proofs.seek.find_inquiry.Goals as goal
 

@@ -1,13 +1,11 @@
 -- `waiting::seek::find_inquiry` meets its contract: the answer is always the answer for what is left. Assumes nothing.
-use mathlib.Core.Path.{◌≡◌, refl, sym, ◌∙◌}
+use mathlib.Core.Path.{◌≡◌}
 use Prim.Native.Nat.{◌-◌, ◌≤◌}
-use native.Mathlib.Omega.{arith}
 use lib.ListN.{drop}
 use Rattle.key.specs.Number.{key_at}
 use Rattle.table.specs.Rows.{rows}
 use Rattle.waiting.specs.Form.{is_inquiry}
 use Rattle.table.specs.Seek.{seek}
-use Rattle.table.proofs.SeekLaws.{seek-here, seek-on, seek-end}
 use Rattle.waiting.proofs.seek.find_inquiry.Given as goal
 
 abbrev pub invariant-loop-at : goal.invariant-loop-at

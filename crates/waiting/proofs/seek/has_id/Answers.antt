@@ -1,10 +1,8 @@
-use mathlib.Core.Path.{◌≡◌, refl, sym, ◌∙◌}
-use Prim.Native.Nat.{◌*◌, ◌-◌, ◌≤◌}
+use mathlib.Core.Path.{refl, sym, ◌∙◌}
+use Prim.Native.Nat.{◌*◌}
 use native.Mathlib.Omega.{arith}
-use lib.ListN.{drop}
 use borrow.Author.Tests.{eq-eqb, ne_eqb}
 use Rattle.octet.specs.Part.{part}
-use Rattle.table.specs.Rows.{rows, any_of}
 use Rattle.waiting.specs.Place.{id_of}
 use Rattle.waiting.specs.Seek.{has_id}
 use Rattle.waiting.proofs.PlaceLaws.{id-at}

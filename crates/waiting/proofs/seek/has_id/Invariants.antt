@@ -1,15 +1,9 @@
 -- `waiting::seek::has_id` meets its contract: the answer is always the answer for what is left. Assumes nothing.
-use mathlib.Core.Path.{◌≡◌, refl, sym, ◌∙◌}
-use Prim.Native.Nat.{◌*◌, ◌-◌, ◌≤◌}
-use native.Mathlib.Omega.{arith}
+use mathlib.Core.Path.{◌≡◌}
+use Prim.Native.Nat.{◌-◌, ◌≤◌}
 use lib.ListN.{drop}
-use borrow.Author.Tests.{eq-eqb, ne_eqb}
-use Rattle.octet.specs.Part.{part}
 use Rattle.table.specs.Rows.{rows, any_of}
-use Rattle.waiting.specs.Place.{id_of}
 use Rattle.waiting.specs.Seek.{has_id}
-use Rattle.waiting.proofs.PlaceLaws.{id-at}
-use Rattle.table.proofs.SeekLaws.{any_here, any-on, any_end}
 use Rattle.waiting.proofs.seek.has_id.Given as goal
 
 abbrev pub invariant-loop-at : goal.invariant-loop-at

@@ -4,11 +4,9 @@ use mathlib.Core.Bool.{Bool, true, false, ◌&&◌}
 use Prim.Native.Nat.{◌+◌}
 use lib.Dec.{eqb}
 use lib.ListN.{get_or}
-use borrow.Author.Tests.{not-true, not-false}
 use Rattle.octet.proofs.TestLaws.{and_true}
 use Rattle.key.specs.Number.{key_at}
 use Rattle.waiting.proofs.WalkLaws.{inquiry-is}
-use borrow.Author.Rules.{rules}
 use Rattle.waiting.proofs.seek.is_inquiry.Goals as goal
 
 and_false : (b : Bool) → false ≡ b && false

@@ -1,13 +1,9 @@
 -- `waiting::seek::slot` meets its contract: the places passed and the slot among those left are the slot. Assumes nothing.
-use mathlib.Core.Path.{◌≡◌, sym, ◌∙◌}
-use Prim.Native.Nat.{◌+◌, ◌*◌, ◌-◌, ◌≤◌}
-use native.Mathlib.Nat.{zero-add}
-use native.Mathlib.Omega.{arith}
+use mathlib.Core.Path.{◌≡◌}
+use Prim.Native.Nat.{◌+◌, ◌-◌, ◌≤◌}
 use lib.ListN.{drop}
 use Rattle.table.specs.Rows.{rows}
 use Rattle.waiting.specs.Slot.{slot_in}
-use Rattle.waiting.proofs.PlaceLaws.{id-at}
-use Rattle.waiting.proofs.WalkLaws.{slot-here, slot-on, slot-end}
 use Rattle.waiting.proofs.seek.slot.Given as goal
 
 abbrev pub invariant-loop-at : goal.invariant-loop-at

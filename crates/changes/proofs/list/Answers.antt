@@ -52,7 +52,7 @@ write-requires c =
     (s.requires.0, s.requires.1, s.requires.2, s.requires.3, omega (arith, n.count-entries.ensures, c.if-output-size.false))
 
 pub answer_of-requires-2 : goal.answer_of-requires-2
-answer_of-requires-2 c = let h = few c.before.before.before.before.before in (omega (arith, h), omega (arith, h))
+answer_of-requires-2 c = let h = few (goal.at.answer_of-requires-2 c).After-count-entries in (omega (arith, h), omega (arith, h))
 
 pub returns : goal.returns
 returns c =

@@ -4,7 +4,6 @@ use lib.Dec.{T}
 use lib.Ieee.{binary32, to_bits}
 use lib.Ieee.Compare.{differs_from_itself}
 use Rattle.readings.proofs.DepthLaws.{same_no_nan}
-use borrow.Author.Rules.{rules}
 use Rattle.readings.proofs.depth.bits_of.Goals as goal
 
 pub returns-then-depth : goal.returns-then-depth

@@ -2,10 +2,8 @@
 use mathlib.Core.Path.{◌≡◌, sym, ◌∙◌}
 use mathlib.Core.Bool.{true}
 use lib.Ieee.{binary32, of_bits}
-use borrow.Author.Tests.{not-true, not-false}
 use Rattle.readings.specs.Depth.{allowed}
 use Rattle.readings.proofs.DepthLaws.{allowed-bits, bits_within, bits_outside}
-use borrow.Author.Rules.{rules}
 use Rattle.readings.proofs.depth.depth_of_bits.Goals.{Else-not-bits_allowed}
 use Rattle.readings.proofs.depth.depth_of_bits.Goals as goal
 

@@ -1,7 +1,6 @@
 -- `readings::numbers::depth_reading` meets its contract: by what the bits are as a depth. Assumes nothing.
 use mathlib.Core.Path.{sym, ◌∙◌}
 use Rattle.readings.proofs.NumberLaws.{depth-outside, depth-within}
-use borrow.Author.Rules.{rules}
 use Rattle.readings.proofs.numbers.depth_reading.Goals as goal
 
 pub returns-in_default : goal.returns-in_default

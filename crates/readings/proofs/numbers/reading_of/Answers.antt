@@ -1,7 +1,6 @@
 -- `readings::numbers::reading_of` meets its contract: by the kind. Assumes nothing.
 use mathlib.Core.Path.{◌∙◌}
 use Rattle.readings.proofs.NumberLaws.{number-depth, number-unknown, number-large, number-fault}
-use borrow.Author.Rules.{rules}
 use Rattle.readings.proofs.numbers.reading_of.Goals as goal
 
 pub returns-then-kind-eq1 : goal.returns-then-kind-eq1

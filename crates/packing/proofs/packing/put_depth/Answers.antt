@@ -11,7 +11,6 @@ use Rattle.readings.specs.Pack.{pack_handed}
 use Rattle.readings.specs.declared.Packed.TheVariants.{Written}
 use Rattle.readings.proofs.DepthLaws.{allowed_no_nan}
 use Rattle.readings.proofs.PackLaws.{pack-no-room, pack-written, image_depth, length_depth, put_three}
-use borrow.Author.Rules.{rules}
 use Rattle.packing.proofs.packing.put_depth.Goals as goal
 
 pub returns-then-out-lt16 : goal.returns-then-out-lt16
@@ -25,18 +24,13 @@ float_to_bits-depth c = allowed_no_nan _ c.requires
 
 pub returns : goal.returns
 returns c =
-    let third = c in
-    let second = c in
-    let first = c in
-    let at_test = c in
-    let start = c in
-    let a = start.args in
+    let a = c.args in
     let r = depth_of a.depth a.inflow a.outflow in
     let out = a.out.now in
     let size = length_depth a.depth a.inflow a.outflow in
-    let room : length (image r) ≤ length out = omega (arith, size, at_test.if-out-lt16.false) in
+    let room : length (image r) ≤ length out = omega (arith, size, c.if-out-lt16.false) in
     let put =
     put_three 14 1 4 (to_bits binary32 a.depth) a.inflow a.outflow out (omega (arith, size, room)) _ _ _
-    first.put_head.ensures second.write_u32_le.ensures third.put_litres.ensures
+    c.put_head.ensures c.write_u32_le.ensures c.put_litres.ensures
     ∙ ap (λ (l : List ℕ). splice 0 l out) (image_depth a.depth a.inflow a.outflow) in
-    ap₂ (λ (n : ℕ) (l : List ℕ). pack_handed (Written n) l) (sym size) put ∙ pack-written r out room start.requires
+    ap₂ (λ (n : ℕ) (l : List ℕ). pack_handed (Written n) l) (sym size) put ∙ pack-written r out room c.requires

@@ -20,16 +20,16 @@ returns-then-s-told c = unpack-cut _ c.if-s-lt4.false (λ e. c.if-s-told.true (e
 
 pub returns-then-kind-eq1 : goal.returns-then-kind-eq1
 returns-then-kind-eq1 c =
-    let w = whole c.before.before.before in
+    let w = whole (goal.at.returns-then-kind-eq1 c).Else-s-told in
     c.unpack_depth.ensures ∙ unpack-depth _ w.1 w.0 (sym c.read_u16_le-kind.ensures ∙ c.if-kind-eq1.true)
 
 pub returns-then-kind-eq2 : goal.returns-then-kind-eq2
 returns-then-kind-eq2 c =
-    let w = whole c.before.before.before.before in
+    let w = whole (goal.at.returns-then-kind-eq2 c).Else-s-told in
     c.unpack_fault.ensures ∙ unpack-fault _ w.1 w.0 (sym c.read_u16_le-kind.ensures ∙ c.if-kind-eq2.true)
 
 pub returns : goal.returns
 returns c =
-    let w = whole c.before.before.before in
+    let w = whole (goal.at.returns c).Else-s-told in
     let kind = c.read_u16_le-kind.ensures in
     unpack-unknown _ w.1 w.0 (λ e. c.if-kind-eq1.false (kind ∙ e)) (λ e. c.if-kind-eq2.false (kind ∙ e))

@@ -1,7 +1,6 @@
 -- `packing::unpacking::unpack_depth` meets its contract: the numbers at their places. Assumes nothing.
 use mathlib.Core.Path.{◌∙◌}
 use Rattle.readings.proofs.UnpackLaws.{depth-length, depth-whole}
-use borrow.Author.Rules.{rules}
 use Rattle.packing.proofs.unpacking.unpack_depth.Goals as goal
 
 pub returns-then-s-ne16 : goal.returns-then-s-ne16

@@ -1,6 +1,5 @@
 -- `packing::unpacking::unpack_fault` meets its contract: the numbers at their places. Assumes nothing.
 use Rattle.readings.proofs.UnpackLaws.{fault-length, fault-whole}
-use borrow.Author.Rules.{rules}
 use Rattle.packing.proofs.unpacking.unpack_fault.Goals as goal
 
 pub returns-then-s-ne14 : goal.returns-then-s-ne14

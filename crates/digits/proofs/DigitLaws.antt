@@ -8,7 +8,7 @@ use native.Mathlib.Omega.{arith}
 use lib.Dec.{ltb}
 use lib.ListN.{length, take, set, get_or, length-append, length-take}
 use borrow.Author.Tests.{lt-ltb, le-ltb}
-use Rattle.octet.specs.Part.{part, splice}
+use Rattle.octet.specs.Part.{splice}
 use Rattle.octet.proofs.PartLaws.{part_snoc, splice_more}
 use Rattle.io.specs.Digits.{last_digits, IsDigitCount, hex_digit_ascii}
 use Rattle.digits.specs.Digits.{decimal_up_to, decimal, hex_digit, hex_of}

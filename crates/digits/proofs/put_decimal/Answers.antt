@@ -4,7 +4,6 @@ use mathlib.Core.List.{List}
 use Prim.Native.Nat.{ℕ, ◌+◌, ◌≤◌}
 use native.Mathlib.Omega.{arith}
 use lib.ListN.{length, take}
-use borrow.Author.Rules.{rules}
 use Rattle.octet.specs.Part.{splice}
 use Rattle.digits.specs.Digits.{decimal}
 use Rattle.digits.proofs.DigitLaws.{decimal-is, length-decimal}

@@ -1,14 +1,9 @@
 -- `digits::put_hex` meets its contract: what stands there is the digits of the first i bytes. Assumes nothing.
-use mathlib.Core.Path.{◌≡◌, refl, sym, ap, ap₂, ◌∙◌}
-use mathlib.Core.List.{List, []}
-use Prim.Native.Nat.{ℕ, ◌+◌, ◌-◌, ◌*◌, ◌/◌, ◌%◌, ◌≤◌}
-use native.Mathlib.Omega.{arith}
-use lib.ListN.{length, take, set, get_or, length-set}
-use lib.Seq.{take_all}
+use mathlib.Core.Path.{◌≡◌}
+use Prim.Native.Nat.{◌-◌, ◌≤◌}
+use lib.ListN.{length, take}
 use Rattle.octet.specs.Part.{splice}
-use Rattle.octet.proofs.PartLaws.{splice_nil}
 use Rattle.digits.specs.Digits.{hex_of}
-use Rattle.digits.proofs.DigitLaws.{hex_turn}
 use Rattle.digits.proofs.put_hex.Given as goal
 
 abbrev pub invariant-loop-i : goal.invariant-loop-i

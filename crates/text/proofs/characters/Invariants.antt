@@ -1,5 +1,4 @@
 -- `text::characters` ends: what is left of the slice falls; no more is counted than there are bytes. Assumes nothing.
-use borrow.Author.Rules.{rules}
 use lib.ListN.{length}
 use Prim.Native.Nat.{◌≤◌, ◌-◌}
 use Rattle.text.proofs.characters.Given as goal

@@ -1,5 +1,4 @@
 -- `text::row_end` ends: what is left of the text falls. Assumes nothing.
-use borrow.Author.Rules.{rules}
 use lib.ListN.{length}
 use Prim.Native.Nat.{◌-◌}
 use Rattle.text.proofs.row_end.Given as goal

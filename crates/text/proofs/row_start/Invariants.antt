@@ -1,5 +1,4 @@
 -- `text::row_start` ends: what is left of the table falls. Assumes nothing.
-use borrow.Author.Rules.{rules}
 use lib.ListN.{length}
 use Prim.Native.Nat.{◌-◌}
 use Rattle.text.proofs.row_start.Given as goal

@@ -1,5 +1,4 @@
 -- `vector_text::line::end_of` ends: what is left of the slice falls. Assumes nothing.
-use borrow.Author.Rules.{rules}
 use lib.ListN.{length}
 use Prim.Native.Nat.{◌-◌}
 use Rattle.vector_text.proofs.line.end_of.Given as goal

@@ -1,5 +1,4 @@
 -- `vector_text::line::number` ends, and its sum does not wrap: only the last 16 digits are kept. Assumes nothing.
-use borrow.Author.Rules.{rules}
 use lib.ListN.{length}
 use Prim.Native.Nat.{◌-◌}
 use Rattle.vector_text.proofs.line.number.Given as goal

@@ -1,5 +1,4 @@
 -- `vector_text::line::read` ends: what is left of the room falls. The room keeps its length. Assumes nothing.
-use borrow.Author.Rules.{rules}
 use lib.ListN.{length}
 use mathlib.Core.Path.{◌≡◌}
 use Prim.Native.Nat.{◌-◌}

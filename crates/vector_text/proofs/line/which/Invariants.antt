@@ -1,5 +1,4 @@
 -- `vector_text::line::which` ends: the names that there may be fall. Assumes nothing.
-use borrow.Author.Rules.{rules}
 use Prim.Native.Nat.{◌≤◌, ◌-◌}
 use Rattle.vector_text.proofs.line.which.Given as goal
 

@@ -1,5 +1,4 @@
 -- `vector_text::line::word` ends: the words left to pass fall. Assumes nothing.
-use borrow.Author.Rules.{rules}
 use Rattle.vector_text.proofs.line.word.Given as goal
 
 abbrev pub invariant-loop-left : goal.invariant-loop-left

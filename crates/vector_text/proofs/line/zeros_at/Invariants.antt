@@ -1,5 +1,4 @@
 -- `vector_text::line::zeros_at` ends after four digits. Assumes nothing.
-use borrow.Author.Rules.{rules}
 use Prim.Native.Nat.{◌≤◌, ◌-◌, ◌<◌}
 use Rattle.vector_text.proofs.line.zeros_at.Given as goal
 

@@ -1,5 +1,4 @@
 -- `vector_text::say::bytes` ends: what is left of the slice falls. Assumes nothing.
-use borrow.Author.Rules.{rules}
 use lib.ListN.{length}
 use Prim.Native.Nat.{◌-◌}
 use Rattle.vector_text.proofs.say.bytes.Given as goal

@@ -1,5 +1,4 @@
 -- `vector_text::say::keys` ends: the keys left to show fall. Assumes nothing.
-use borrow.Author.Rules.{rules}
 use Prim.Native.Nat.{◌-◌}
 use Rattle.vector_text.proofs.say.keys.Given as goal
 

@@ -35,20 +35,20 @@ module _ (own : List ℕ) (m : Memory) where
   no_record e = rw e refl
 
   module _ (well : own_form own ≡ true) where
-    pub no-cache : cached.cacheFormed (own_keys own) m.cache ≡ held-is.Bad → memory_of own m ≡ Unfit
+    pub no-cache : cached.cache_formed (own_keys own) m.cache ≡ held-is.Bad → memory_of own m ≡ Unfit
     unfolding memory_of tables_fit
     no-cache e = rw (well, shape.bad-is (own_keys own) m.cache e) refl
 
-    module _ {h : ℕ} (held : cached.cacheFormed (own_keys own) m.cache ≡ held-is.Good h) where
-      pub no_table : waited.waitingFormed (own_keys own) m.waiting ≡ used-is.Bad → memory_of own m ≡ Unfit
+    module _ {h : ℕ} (held : cached.cache_formed (own_keys own) m.cache ≡ held-is.Good h) where
+      pub no_table : waited.waiting_formed (own_keys own) m.waiting ≡ used-is.Bad → memory_of own m ≡ Unfit
       unfolding memory_of tables_fit
-      no_table e = rw (well, (shape.good-is (own_keys own) m.cache held).0, tested.bad-form (own_keys own) m.waiting e) refl
+      no_table e = rw (well, (shape.good-is (own_keys own) m.cache held).0, tested.bad_form (own_keys own) m.waiting e) refl
 
-      pub all_fit : {u : ℕ} → waited.waitingFormed (own_keys own) m.waiting ≡ used-is.Good u → memory_of own m ≡ Fit h u
+      pub all_fit : {u : ℕ} → waited.waiting_formed (own_keys own) m.waiting ≡ used-is.Good u → memory_of own m ≡ Fit h u
       unfolding memory_of tables_fit
       all_fit e =
           let a = shape.good-is (own_keys own) m.cache held in
-          let b = tested.good-form (own_keys own) m.waiting e in
+          let b = tested.good_form (own_keys own) m.waiting e in
           rw (well, a.0, b.0, a.1, sym b.1) refl
 
 -- ---- what is known of it
@@ -83,10 +83,10 @@ ready own m e =
       form = form;
       room = (form_laid (own_keys own) (held_in (own_keys own) m.cache) m.cache form).room;
       used = refl;
-      few = waits.used-few m.waiting;
+      few = waits.used_few m.waiting;
       tabled = front.1;
       size = waits.form-size (own_keys own) m.waiting front.1;
-      laid = waits.form-laid (own_keys own) m.waiting front.1;
+      laid = waits.form_laid (own_keys own) m.waiting front.1;
     }
 
 known_by : (own : List ℕ) (m : Memory) (b : Bool) → tables_fit own m ≡ b

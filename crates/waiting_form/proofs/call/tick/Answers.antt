@@ -5,13 +5,11 @@ use Prim.Native.Nat.{ℕ}
 use Rattle.table.specs.Rows.{Laid}
 use mathlib.Core.Bool.{true}
 use native.Mathlib.Omega.{arith}
-use borrow.Author.Tests.{not-true, not-false}
 use Rattle.own.specs.Own.{own_keys, own_form}
 use Rattle.waiting_form.specs.Call.{tick_done}
 use Rattle.waiting.proofs.FormLaws.{form-size, form_laid, used_few}
 use Rattle.waiting_form.proofs.FormedLaws.{bad_form, good_form}
 use Rattle.waiting_form.proofs.CallLaws.{own-bad, table-bad, no_room, ticks}
-use borrow.Author.Rules.{rules}
 use Rattle.waiting_form.proofs.call.tick.Goals.{Else-not-own_form, In-Good}
 use Rattle.waiting_form.proofs.call.tick.Goals as goal
 

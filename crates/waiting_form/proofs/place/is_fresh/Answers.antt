@@ -4,7 +4,6 @@ use Prim.Native.Nat.{ℕ, ◌/◌}
 use native.Mathlib.Omega.{arith}
 use lib.Dec.{leb}
 use Rattle.waiting_form.proofs.HeadLaws.{head_word}
-use borrow.Author.Rules.{rules}
 use Rattle.waiting_form.proofs.place.is_fresh.Goals as goal
 
 pub returns : goal.returns

@@ -1,13 +1,12 @@
 -- `waiting_form::place::place_formed` meets its contract: its tests are those of its kind, and the first that fails decides. Assumes nothing.
 use mathlib.Core.Path.{◌≡◌, refl, sym, ap, ◌∙◌}
 use mathlib.Core.Bool.{Bool, true, false, not, ◌&&◌}
-use borrow.Author.Tests.{ne_eqb, not-true, not-false}
+use borrow.Author.Tests.{ne_eqb}
 use Rattle.record.specs.Record.{record_form}
 use Rattle.own.specs.Own.{own_keys}
 use Rattle.waiting.specs.Place.{kind_of}
 use Rattle.waiting.proofs.PlaceLaws.{flood-is, inquiry-is, neither_is}
 use Rattle.waiting_form.proofs.HeadLaws.{is_fresh, stale_is}
-use borrow.Author.Rules.{rules}
 use Rattle.waiting_form.proofs.place.place_formed.Goals.{Else-not-is_fresh}
 use Rattle.waiting_form.proofs.place.place_formed.Goals as goal
 

@@ -1,12 +1,11 @@
 -- `waiting_form::place::zero_record` meets its contract: 64 bytes, twice 16, and four. Assumes nothing.
 use mathlib.Core.Path.{sym, ap, ap₂, ◌∙◌}
-use mathlib.Core.Bool.{Bool, ◌&&◌}
+use mathlib.Core.Bool.{◌&&◌}
 use Prim.Native.Nat.{ℕ}
 use native.Mathlib.Omega.{arith}
 use lib.Dec.{eqb}
-use Rattle.octet.specs.Part.{part, all_zero}
+use Rattle.octet.specs.Part.{part}
 use Rattle.octet.proofs.TestLaws.{zero_two, zero_value}
-use borrow.Author.Rules.{rules}
 use Rattle.waiting_form.proofs.place.zero_record.Goals as goal
 
 pub returns : goal.returns

@@ -1,8 +1,6 @@
-use mathlib.Core.Path.{◌≡◌, sym, ◌∙◌}
-use Prim.Native.Nat.{◌+◌, ◌-◌, ◌≤◌}
+use mathlib.Core.Path.{sym, ◌∙◌}
 use native.Mathlib.Nat.{zero-add}
 use native.Mathlib.Omega.{arith}
-use lib.ListN.{drop}
 use Rattle.table.specs.Rows.{rows}
 use Rattle.waiting.specs.Form.{used_in, used_of}
 use Rattle.waiting.proofs.WalkLaws.{used-here, used-on, used-end}

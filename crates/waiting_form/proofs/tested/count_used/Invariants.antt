@@ -1,12 +1,9 @@
 -- `waiting_form::tested::count_used` meets its contract: the places passed and the used ones among those left are the used ones. Assumes nothing.
-use mathlib.Core.Path.{◌≡◌, sym, ◌∙◌}
+use mathlib.Core.Path.{◌≡◌}
 use Prim.Native.Nat.{◌+◌, ◌-◌, ◌≤◌}
-use native.Mathlib.Nat.{zero-add}
-use native.Mathlib.Omega.{arith}
 use lib.ListN.{drop}
 use Rattle.table.specs.Rows.{rows}
 use Rattle.waiting.specs.Form.{used_in, used_of}
-use Rattle.waiting.proofs.WalkLaws.{used-here, used-on, used-end}
 use Rattle.waiting_form.proofs.tested.count_used.Given as goal
 
 abbrev pub invariant-loop-at : goal.invariant-loop-at

@@ -5,7 +5,6 @@ use native.Mathlib.Omega.{arith}
 use Rattle.own.specs.Own.{own_keys}
 use Rattle.waiting.proofs.FormLaws.{used_few}
 use Rattle.waiting_form.proofs.FormedLaws.{not_long, is-good, is-bad}
-use borrow.Author.Rules.{rules}
 use Rattle.waiting_form.proofs.tested.form.Goals.{After-count_used-used}
 use Rattle.waiting_form.proofs.tested.form.Goals as goal
 

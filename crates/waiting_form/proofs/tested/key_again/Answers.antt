@@ -7,7 +7,6 @@ use Rattle.waiting.specs.Form.{again}
 use mathlib.Core.Path.{◌≡◌, sym, ap, ◌∙◌}
 use Rattle.table.proofs.SeekLaws.{is_found}
 use Rattle.waiting.proofs.WalkLaws.{again-not, again-found}
-use borrow.Author.Rules.{rules}
 use Rattle.waiting_form.proofs.tested.key_again.Goals.{After-find_inquiry, Start}
 use Rattle.waiting_form.proofs.tested.key_again.Goals as goal
 

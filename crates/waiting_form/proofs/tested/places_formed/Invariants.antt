@@ -1,19 +1,10 @@
 -- `waiting_form::tested::places_formed` meets its contract: the form of the places is always that of those left, from the ID passed on. Assumes nothing.
-use lib.Dec.{leb}
-use mathlib.Core.Path.{◌≡◌, refl, sym, ap, ◌∙◌}
-use mathlib.Core.Bool.{Bool, true, false, ◌&&◌, not}
-use mathlib.Core.List.{List}
-use Prim.Native.Nat.{ℕ, ◌+◌, ◌*◌, ◌-◌, ◌≤◌}
-use native.Mathlib.Omega.{arith}
-use lib.ListN.{take, drop, length-take, length-drop}
-use borrow.Author.Tests.{not-true, not-false, le-leb, lt-leb}
-use Rattle.record.specs.Record.{record_form}
-use Rattle.own.specs.Own.{Own, own_keys}
+use mathlib.Core.Path.{◌≡◌}
+use Prim.Native.Nat.{◌-◌, ◌≤◌}
+use lib.ListN.{drop}
+use Rattle.own.specs.Own.{own_keys}
 use Rattle.table.specs.Rows.{rows}
-use Rattle.waiting.specs.Form.{again, place_form, places_form}
-use Rattle.waiting.proofs.PlaceLaws.{id-at}
-use Rattle.waiting.proofs.WalkLaws.{place, later, tests, tests-are, form_not, form-on, form-end}
-use Rattle.waiting_form.proofs.HeadLaws.{and_false}
+use Rattle.waiting.specs.Form.{places_form}
 use Rattle.waiting_form.proofs.tested.places_formed.Given as goal
 
 abbrev pub invariant-loop-at : goal.invariant-loop-at

@@ -2,15 +2,15 @@
 use mathlib.Core.Path.{◌≡◌, refl, sym, ap, ap₂, ◌∙◌}
 use mathlib.Core.Bool.{Bool, true, false, cond}
 use mathlib.Core.List.{List, [], ◌∷◌, ◌++◌, map, append_assoc, append-nil}
-use Prim.Native.Nat.{ℕ, zero, suc, ◌+◌, ◌-◌, ◌*◌, ◌≤◌, ◌<◌}
-use native.Mathlib.Nat.{zero-add, mul-zero, add_assoc}
+use Prim.Native.Nat.{ℕ, ◌+◌, ◌-◌, ◌*◌, ◌≤◌}
+use native.Mathlib.Nat.{zero-add, add_assoc}
 use native.Mathlib.Omega.{arith}
 use lib.Dec.{eqb}
-use lib.ListN.{length, take, drop, get_or, set, replicate, length-append, length-map, length-drop, length-replicate, take-append-drop}
+use lib.ListN.{length, take, drop, get_or, set, replicate, length-map, length-drop, length-replicate, take-append-drop}
 use lib.Seq.{take-add, take_at, drop_at, take-take, drop-drop, length-take-le}
 use borrow.Author.Tests.{eq-eqb, ne_eqb}
-use Rattle.octet.specs.Part.{part, splice, all_zero}
-use Rattle.octet.proofs.PartLaws.{length_part, part_at, splice_nil, splice_one, splice_next, length-splice, take-splice, drop-splice, part-splice}
+use Rattle.octet.specs.Part.{part, splice}
+use Rattle.octet.proofs.PartLaws.{length_part, part_at, splice_nil, splice_one, splice_next, length-splice, take-splice, drop-splice}
 use Rattle.octet.proofs.TestLaws.{all_zeros}
 use Rattle.record.proofs.PlaceLaws.{part-part}
 use Rattle.table.specs.Rows.{rows, joined, bytes_of, Sized, Laid}

@@ -1,7 +1,6 @@
 -- `cut::cut_place` meets its contract: the place of an inquiry has its record cut (place_at), another stays (place-stays). Assumes nothing.
 use mathlib.Core.Path.{◌∙◌}
 use Rattle.cut.proofs.CutLaws.{place_at, place_stays}
-use borrow.Author.Rules.{rules}
 use Rattle.cut.proofs.cut_place.Goals as goal
 
 pub returns-then-table-at-ne2 : goal.returns-then-table-at-ne2

@@ -1,10 +1,9 @@
 use mathlib.Core.Path.{◌≡◌, ap, ◌∙◌}
-use mathlib.Core.List.{List, map}
-use Prim.Native.Nat.{ℕ, ◌+◌, ◌-◌, ◌*◌, ◌≤◌}
+use mathlib.Core.List.{List}
+use Prim.Native.Nat.{ℕ, ◌+◌, ◌*◌, ◌≤◌}
 use native.Mathlib.Omega.{arith}
 use lib.ListN.{length}
 use Rattle.octet.specs.Part.{part, splice}
-use Rattle.table.specs.Rows.{Laid}
 use Rattle.cut.specs.Cut.{converted_place}
 use Rattle.cut.proofs.CutLaws.{Changed, place_length, changed-none, changed-length, changed-next, changed-all}
 use Rattle.cut.proofs.cut_places.Goals.{Start}

@@ -4,7 +4,6 @@ use mathlib.Core.List.{List}
 use Prim.Native.Nat.{ℕ, ◌+◌}
 use lib.ListN.{set}
 use Rattle.cut.proofs.CutLaws.{cut_at}
-use borrow.Author.Rules.{rules}
 use Rattle.cut.proofs.cut_record.Goals as goal
 
 pub returns : goal.returns

@@ -1,13 +1,9 @@
 -- `cut::cut_records` meets its contract: the first i records are changed, and the next is as it was (changed-next). Assumes nothing.
-use mathlib.Core.Path.{◌≡◌, ap, ◌∙◌}
-use mathlib.Core.List.{List, map}
-use Prim.Native.Nat.{ℕ, ◌+◌, ◌-◌, ◌*◌, ◌≤◌}
-use native.Mathlib.Omega.{arith}
+use mathlib.Core.Path.{◌≡◌}
+use Prim.Native.Nat.{◌-◌, ◌≤◌}
 use lib.ListN.{length}
-use Rattle.octet.specs.Part.{part, splice}
-use Rattle.table.specs.Rows.{Laid}
 use Rattle.cut.specs.Cut.{converted}
-use Rattle.cut.proofs.CutLaws.{Changed, converted-length, changed-none, changed-length, changed-next, changed-all}
+use Rattle.cut.proofs.CutLaws.{Changed, converted-length}
 use Rattle.cut.proofs.cut_records.Given as goal
 
 abbrev pub invariant-loop-i : goal.invariant-loop-i

@@ -33,7 +33,7 @@ pub cpa_at-cpa-requires : goal.cpa_at-cpa-requires
 cpa_at-cpa-requires c = c.requires.by_index
 
 pub write_cpa-wrote-requires : goal.write_cpa-wrote-requires
-write_cpa-wrote-requires c = let f = few c.before in let r = fits_in c.before in search rules
+write_cpa-wrote-requires c = let k = (goal.at.write_cpa-wrote-requires c).After-cpa_at-cpa in let f = few k in let r = fits_in k in search rules
 
 pub answer_of-requires : goal.answer_of-requires
 answer_of-requires c =

@@ -20,22 +20,22 @@ start o = (goal.at.After-open_flood o).Start
 abbrev sent : Start → List ℕ
 sent s = let a = s.args in record_sent a.own.now a.cache.now a.ours a.at
 
-ours-is : (c : Then-ours) → (let s = start c.before.before.before in part (100 * s.args.at) 100 s.args.own.now ≡ sent s)
+ours-is : (c : Then-ours) → (let s = start (goal.at.Then-ours c).After-open_flood in part (100 * s.args.at) 100 s.args.own.now ≡ sent s)
 ours-is c =
-    let s = start c.before.before.before in
+    let s = start (goal.at.Then-ours c).After-open_flood in
     let a = s.args in
     ours-sent a.own.now a.cache.now a.ours a.at c.if-ours.true
 
-held-is : (c : Else-ours) → (let s = start c.before.before.before in part (100 * s.args.at) 100 s.args.cache.now ≡ sent s)
+held-is : (c : Else-ours) → (let s = start (goal.at.Else-ours c).After-open_flood in part (100 * s.args.at) 100 s.args.cache.now ≡ sent s)
 held-is c =
-    let s = start c.before.before.before in
+    let s = start (goal.at.Else-ours c).After-open_flood in
     let a = s.args in
     held-sent a.own.now a.cache.now a.ours a.at c.if-ours.false
 
 pub overflow_mul-at : goal.overflow_mul-at
 overflow_mul-at c =
     let i = c in
-    omega (arith, (start (goal.at.Then-ours i).After-open_flood).requires.4 i.if-ours.true)
+    omega (arith, (start (goal.at.overflow_mul-at c).After-open_flood).requires.4 i.if-ours.true)
 
 pub send_flood-requires : goal.send_flood-requires
 send_flood-requires c =
@@ -54,7 +54,7 @@ returns-then-ours c =
 pub overflow_mul-at-2 : goal.overflow_mul-at-2
 overflow_mul-at-2 c =
     let i = c in
-    omega (arith, (start (goal.at.Else-ours i).After-open_flood).requires.5 i.if-ours.false)
+    omega (arith, (start (goal.at.overflow_mul-at-2 c).After-open_flood).requires.5 i.if-ours.false)
 
 pub send_flood-requires-2 : goal.send_flood-requires-2
 send_flood-requires-2 c =

@@ -1,6 +1,5 @@
 use mathlib.Core.Path.{sym}
 use lib.ListN.{get_or-eq_default}
-use borrow.Author.Rules.{rules}
 use Rattle.wire_shapes.proofs.byte.Goals as goal
 
 pub returns-else-at-d : goal.returns-else-at-d

@@ -3,7 +3,6 @@ use Prim.Native.Nat.{ℕ}
 use lib.Dec.{eqb}
 use Rattle.wire_shapes.specs.Shapes.{has_shape}
 use Rattle.octet.proofs.PartLaws.{length_part}
-use borrow.Author.Rules.{rules}
 use Rattle.wire_shapes.proofs.contents.has_shape.Goals as goal
 
 pub returns-in-Sized : goal.returns-in-Sized

@@ -2,10 +2,10 @@
 -- them as one number. Assumes nothing.
 use Prim.Native.Nat.{ℕ, ◌+◌, ◌^◌, ◌≤◌, ◌<◌}
 use native.Mathlib.Omega.{arith}
-use mathlib.Core.List.{List, [], ◌∷◌, ◌++◌}
-use mathlib.Core.Bool.{true, ◌&&◌}
+use mathlib.Core.List.{List, ◌++◌}
+use mathlib.Core.Bool.{◌&&◌}
 use lib.Dec.{eqb}
-use mathlib.Core.Path.{◌≡◌, refl, sym, ap, ap₂, ◌∙◌}
+use mathlib.Core.Path.{◌≡◌, sym, ap, ap₂, ◌∙◌}
 use lib.ListN.{length, get_or, take, drop}
 use lib.Seq.{take_at, drop_at, take_all}
 use Rattle.octet.specs.Number.{Bytes, value_be, digits_be}
@@ -13,7 +13,6 @@ use Rattle.octet.specs.Part.{part, same}
 use Rattle.octet.proofs.PartLaws.{part_add, part_one, part-digits, length_part}
 use Rattle.octet.proofs.BigLaws.{length-digits_be, value_be-lt, value_be-digits_be, digits_be-value_be, value_be_inj}
 use Rattle.octet.proofs.TestLaws.{and_true, same_by, same_append}
-use Rattle.wire_fields.specs.Message.{opening}
 use Rattle.wire_shapes.specs.Field.{number_at}
 use Rattle.record.proofs.PlaceLaws.{part-part}
 

@@ -2,7 +2,6 @@ use mathlib.Core.Path.{refl}
 use Rattle.wire_shapes.specs.Shapes.{has_shape}
 use Rattle.wire_shapes.specs.declared.Shape.TheVariants.{Any}
 use Rattle.wire_fields.proofs.StepLaws.{maybe-good, maybe-other, maybe-cut}
-use borrow.Author.Rules.{rules}
 use Rattle.wire_fields.proofs.Cursor.any_or_none.Goals as goal
 
 pub returns-in-Whole : goal.returns-in-Whole

@@ -4,7 +4,6 @@ use Rattle.wire_shapes.specs.Shapes.{has_shape}
 use Rattle.wire_shapes.specs.declared.Shape.TheVariants.{Array}
 use Rattle.wire_fields.proofs.SpanLaws.{span_fits}
 use Rattle.wire_fields.proofs.StepLaws.{maybe-good, maybe-bad, maybe-other, maybe-cut}
-use borrow.Author.Rules.{rules}
 use Rattle.wire_fields.proofs.Cursor.array_or_none.Goals as goal
 
 pub is_array-requires : goal.is_array-requires

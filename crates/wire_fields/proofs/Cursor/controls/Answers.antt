@@ -1,11 +1,10 @@
 use native.Mathlib.Omega.{arith}
 use mathlib.Core.Path.{sym, ◌∙◌}
-use mathlib.Core.Bool.{true, false}
+use mathlib.Core.Bool.{false}
 use Rattle.wire_shapes.specs.Shapes.{has_shape}
 use Rattle.wire_shapes.specs.declared.Shape.TheVariants.{Lookup}
 use Rattle.wire_fields.proofs.SpanLaws.{span_fits}
 use Rattle.wire_fields.proofs.StepLaws.{need-good, need-bad, need-other, need-cut}
-use borrow.Author.Rules.{rules}
 use Rattle.wire_fields.proofs.Cursor.controls.Goals as goal
 
 pub is_lookup-requires : goal.is_lookup-requires

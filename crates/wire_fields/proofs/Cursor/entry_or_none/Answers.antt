@@ -1,11 +1,10 @@
 use native.Mathlib.Omega.{arith}
 use mathlib.Core.Path.{sym, ◌∙◌}
-use mathlib.Core.Bool.{true, false}
+use mathlib.Core.Bool.{true}
 use Rattle.wire_shapes.specs.Shapes.{has_shape}
 use Rattle.wire_shapes.specs.declared.Shape.TheVariants.{Entry}
 use Rattle.wire_fields.proofs.SpanLaws.{span_fits}
 use Rattle.wire_fields.proofs.StepLaws.{maybe-good, maybe-bad, maybe-other, maybe-cut}
-use borrow.Author.Rules.{rules}
 use Rattle.wire_fields.proofs.Cursor.entry_or_none.Goals as goal
 
 pub is_entry-requires : goal.is_entry-requires

@@ -4,7 +4,6 @@ use Rattle.wire_shapes.specs.Shapes.{has_shape}
 use Rattle.wire_shapes.specs.declared.Shape.TheVariants.{Sized}
 use Rattle.wire_fields.proofs.SpanLaws.{span-length}
 use Rattle.wire_fields.proofs.StepLaws.{maybe-good, maybe-bad, maybe-other, maybe-cut}
-use borrow.Author.Rules.{rules}
 use Rattle.wire_fields.proofs.Cursor.fixed_or_none.Goals as goal
 
 pub returns-then-len-wanted : goal.returns-then-len-wanted

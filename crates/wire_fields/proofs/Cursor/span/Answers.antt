@@ -1,7 +1,6 @@
 use native.Mathlib.Omega.{arith}
 use mathlib.Core.Path.{sym}
 use Rattle.wire_fields.proofs.SpanLaws.{span-short, span-other, span-low, span-past, span-whole}
-use borrow.Author.Rules.{rules}
 use Rattle.wire_fields.proofs.Cursor.span.Goals as goal
 
 pub returns-then-d-lt4 : goal.returns-then-d-lt4

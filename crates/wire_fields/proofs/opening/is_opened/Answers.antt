@@ -2,8 +2,7 @@
 use borrow.Author.Tests.{eq-eqb, ne_eqb}
 use native.Mathlib.Omega.{arith}
 use mathlib.Core.Path.{sym, ◌∙◌}
-use Prim.Native.Nat.{ℕ, zero, suc}
-use lib.ListN.{get_or}
+use Prim.Native.Nat.{zero, suc}
 use Rattle.octet.specs.Number.{Bytes}
 use Rattle.wire_shapes.specs.Field.{number_at}
 use Rattle.wire_fields.specs.Message.{opening}

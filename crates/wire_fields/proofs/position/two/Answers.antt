@@ -1,7 +1,7 @@
 -- `wire_fields::position::two` meets its contract: the two bytes change places. Assumes nothing.
 use native.Mathlib.Omega.{arith}
 use mathlib.Core.Path.{◌≡◌}
-use Prim.Native.Nat.{ℕ, ◌+◌, ◌*◌}
+use Prim.Native.Nat.{◌+◌, ◌*◌}
 use lib.ListN.{get_or}
 use Rattle.octet.specs.Number.{value_be, value_le}
 use Rattle.octet.specs.Part.{part}

@@ -6,7 +6,6 @@ use mathlib.Core.Path.{ap}
 use lib.Dec.{eqb}
 use lib.ListN.{get_or-eq_default}
 use Rattle.wire_buffer.specs.Buffer.{flag_at}
-use borrow.Author.Rules.{rules}
 use Rattle.wire_buffer.proofs.flag.Goals as goal
 
 pub returns-then-d-start : goal.returns-then-d-start

@@ -4,7 +4,6 @@ use borrow.Author.Tests.{eq-eqb, ne_eqb}
 use mathlib.Core.Path.{sym, ◌∙◌}
 use Rattle.wire_fields.specs.Reading.{places_at}
 use Rattle.wire_buffer.specs.Buffer.{buffer_at}
-use borrow.Author.Rules.{rules}
 use Rattle.wire_buffer.proofs.read_buffer.Goals as goal
 
 pub returns-in_default : goal.returns-in_default

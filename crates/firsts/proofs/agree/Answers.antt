@@ -1,6 +1,5 @@
 -- `firsts::agree` meets its contract: the keys are counted afresh, and the two compared. Assumes nothing.
 use mathlib.Core.Path.{sym, ap, ◌∙◌}
-use borrow.Author.Rules.{rules}
 use Rattle.octet.specs.Part.{same}
 use Rattle.firsts.proofs.FirstsLaws.{firsts_none}
 use Rattle.firsts.proofs.agree.Goals as goal

@@ -6,7 +6,6 @@ use native.Mathlib.Omega.{arith}
 use Rattle.record.specs.Record.{key_of}
 use Rattle.table.specs.Rows.{rows}
 use Rattle.firsts.specs.Firsts.{firsts_of}
-use borrow.Author.Rules.{rules}
 use Rattle.firsts.proofs.count_four.Goals.{Start}
 use Rattle.firsts.proofs.count_four.Goals as goal
 

@@ -1,13 +1,10 @@
 -- `firsts::count_keys` meets its contract: what is counted is always the count of the first records. Assumes nothing.
-use mathlib.Core.Path.{◌≡◌, sym, ap, ◌∙◌}
-use mathlib.Core.List.{List, map}
-use Prim.Native.Nat.{ℕ, ◌+◌, ◌-◌, ◌*◌, ◌/◌, ◌≤◌}
-use native.Mathlib.Omega.{arith}
-use lib.ListN.{length}
+use mathlib.Core.Path.{◌≡◌}
+use mathlib.Core.List.{map}
+use Prim.Native.Nat.{◌-◌, ◌*◌, ◌≤◌}
 use Rattle.record.specs.Record.{key_of}
 use Rattle.table.specs.Rows.{rows}
 use Rattle.firsts.specs.Firsts.{firsts_of}
-use Rattle.firsts.proofs.FirstsLaws.{firsts_length}
 use Rattle.firsts.proofs.count_keys.Given as goal
 
 abbrev pub invariant-loop-four : goal.invariant-loop-four

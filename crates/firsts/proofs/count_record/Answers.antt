@@ -1,5 +1,5 @@
 -- `firsts::count_record` meets its contract: the record's key begins with the byte that is counted. Assumes nothing.
-use mathlib.Core.Path.{◌≡◌, refl, sym, ap, subst, ◌∙◌}
+use mathlib.Core.Path.{refl, sym, ap, subst, ◌∙◌}
 use mathlib.Core.List.{List, map}
 use Prim.Native.Nat.{ℕ, ◌+◌, ◌*◌, ◌<◌}
 use native.Mathlib.Omega.{arith}
@@ -9,7 +9,6 @@ use Rattle.record.specs.Record.{key_of}
 use Rattle.table.specs.Rows.{rows}
 use Rattle.firsts.specs.Places.{count_at, with_count}
 use Rattle.firsts.proofs.FirstsLaws.{firsts_length, row_room, row-counted}
-use borrow.Author.Rules.{rules}
 use Rattle.firsts.proofs.count_record.Goals.{After-shared_slice_known-1, Start}
 use Rattle.firsts.proofs.count_record.Goals as goal
 

@@ -1,7 +1,6 @@
 -- `firsts::count_up` meets its contract: the byte's count is read, and written again. Assumes nothing.
 use mathlib.Core.Path.{ap, ◌∙◌}
 use Prim.Native.Nat.{ℕ, ◌+◌}
-use borrow.Author.Rules.{rules}
 use Rattle.firsts.specs.Places.{with_count}
 use Rattle.firsts.proofs.count_up.Goals as goal
 

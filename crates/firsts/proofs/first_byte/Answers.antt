@@ -1,6 +1,5 @@
 -- `firsts::first_byte` meets its contract: the key's first word begins with it. Assumes nothing.
 use native.Mathlib.Omega.{arith}
-use borrow.Author.Rules.{rules}
 use Rattle.firsts.proofs.ByteLaws.{word_begins}
 use Rattle.firsts.proofs.first_byte.Goals as goal
 

@@ -1,8 +1,6 @@
 -- Helps the code. Which places are in the neighbour list of one of our own keys, by runs of places. Tied to the lists by `listed-runs` (ListedLaws).
 -- Assumes nothing.
-use Rattle.std.specs.Prelude.{ℕ, ◌/◌, ◌≤◌, Bool, ◌&&◌, ◌||◌, List, map, ltb, length, get_or}
-use Rattle.record.specs.Record.{key_of}
-use Rattle.table.specs.Rows.{rows}
+use Rattle.std.specs.Prelude.{ℕ, ◌≤◌, Bool, ◌&&◌, ◌||◌, List, ltb, length, get_or}
 use Rattle.kept.specs.Plain.{count_below}
 use Rattle.kept.specs.Turned.{count_under, in_run}
 use Rattle.listed.specs.declared.Run.{Run}

@@ -1,7 +1,7 @@
 -- Laws of a record on a path: with no path; where its address and an endpoint lie; a turn of each of the two loops. Assumes nothing.
-use mathlib.Core.Path.{◌≡◌, refl, sym, ap, ◌∙◌}
-use mathlib.Core.Bool.{Bool, true, false, ◌&&◌, ◌||◌}
-use mathlib.Core.List.{List, [], ◌∷◌}
+use mathlib.Core.Path.{◌≡◌, refl, ap, ◌∙◌}
+use mathlib.Core.Bool.{Bool, true, false, ◌||◌}
+use mathlib.Core.List.{List, []}
 use Prim.Native.Nat.{ℕ, ◌+◌, ◌*◌, ◌/◌, ◌≤◌, ◌<◌}
 use native.Mathlib.Omega.{arith}
 use lib.Dec.{eqb}
@@ -11,7 +11,7 @@ use Rattle.octet.specs.Part.{part, same}
 use Rattle.record.specs.Record.{port_of, count_of}
 use Rattle.record.proofs.PlaceLaws.{part-part}
 use Rattle.table.specs.Rows.{rows, any_of}
-use Rattle.table.proofs.RowLaws.{rows_next, rows_end}
+use Rattle.table.proofs.RowLaws.{rows_next}
 use Rattle.table.proofs.SeekLaws.{any_here, any-on, any_end}
 use Rattle.path.specs.Path.{endpoints_of, endpoint_port, endpoint_address, address_rows, stands_in, on_path}
 

@@ -23,7 +23,6 @@ use Rattle.kept.specs.Keys.{Rising, plain, has, among}
 use Rattle.kept.specs.Turned.{count_under}
 use Rattle.search.specs.Halving.{halvings}
 use Rattle.search.specs.Sought.{sought_in}
-use Rattle.search.specs.declared.Sought.{Sought}
 use Rattle.search.proofs.HalvingLaws.{halvings-none, halvings-same, halvings-front, halvings-back}
 
 -- ---- first words

@@ -1,13 +1,9 @@
 use mathlib.Core.Path.{◌≡◌, sym, ap₂, ◌∙◌}
 use mathlib.Core.List.{List}
-use Prim.Native.Nat.{ℕ, ◌-◌, ◌*◌, ◌≤◌, ◌<◌}
+use Prim.Native.Nat.{ℕ, ◌*◌}
 use native.Mathlib.Omega.{arith}
-use lib.ListN.{drop}
-use Rattle.octet.specs.Part.{part}
 use Rattle.key.specs.Number.{number, key_at}
 use Rattle.key.specs.Around.{closer}
-use Rattle.table.specs.Rows.{rows}
-use Rattle.closest_row.specs.Closest.{closest_from, closest_of, place_from, closest_place}
 use Rattle.closest_row.proofs.ClosestLaws.{walk-starts, walk-takes, walk-leaves, walk_ends, place-starts, place-takes, place-leaves, place-ends}
 use Rattle.closest_row.proofs.place_of.Goals.{After-is_closer-closer, At-loop-i, Start}
 use Rattle.closest_row.proofs.place_of.Goals as goal

@@ -1,15 +1,11 @@
 -- `closest_row::place_of` meets its contract: the closest of all is the closest of the best so far and those from place i on. Assumes nothing.
-use mathlib.Core.Path.{◌≡◌, sym, ap₂, ◌∙◌}
-use mathlib.Core.List.{List}
-use Prim.Native.Nat.{ℕ, ◌-◌, ◌*◌, ◌≤◌, ◌<◌}
-use native.Mathlib.Omega.{arith}
+use mathlib.Core.Path.{◌≡◌}
+use Prim.Native.Nat.{◌-◌, ◌*◌, ◌≤◌, ◌<◌}
 use lib.ListN.{drop}
 use Rattle.octet.specs.Part.{part}
-use Rattle.key.specs.Number.{number, key_at}
-use Rattle.key.specs.Around.{closer}
+use Rattle.key.specs.Number.{number}
 use Rattle.table.specs.Rows.{rows}
 use Rattle.closest_row.specs.Closest.{closest_from, closest_of, place_from, closest_place}
-use Rattle.closest_row.proofs.ClosestLaws.{walk-starts, walk-takes, walk-leaves, walk_ends, place-starts, place-takes, place-leaves, place-ends}
 use Rattle.closest_row.proofs.place_of.Given as goal
 
 abbrev pub invariant-loop-i : goal.invariant-loop-i

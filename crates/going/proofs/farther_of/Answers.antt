@@ -9,7 +9,6 @@ use Rattle.key.specs.Around.{up}
 use Rattle.record.specs.Record.{key_of}
 use Rattle.table.specs.Rows.{rows, insert_at}
 use Rattle.going.proofs.GoingLaws.{under-farther, over-farther, lower-over, lower-under}
-use borrow.Author.Rules.{rules}
 use Rattle.going.proofs.farther_of.Goals.{After-minus-down, Start}
 use Rattle.going.proofs.farther_of.Goals as goal
 

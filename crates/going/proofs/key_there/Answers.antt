@@ -2,7 +2,6 @@
 use mathlib.Core.Path.{◌∙◌}
 use native.Mathlib.Omega.{arith}
 use Rattle.going.proofs.GoingLaws.{there-before, there-after, there-at}
-use borrow.Author.Rules.{rules}
 use Rattle.going.proofs.key_there.Goals as goal
 
 pub returns-then-x-at : goal.returns-then-x-at

@@ -1,12 +1,8 @@
 -- `going::listed_before` meets its contract: what the whole walk answers is what the walk from number i on answers. Assumes nothing.
-use mathlib.Core.Path.{◌≡◌, sym, ap, ◌∙◌}
-use mathlib.Core.Bool.{Bool}
+use mathlib.Core.Path.{◌≡◌}
 use Prim.Native.Nat.{ℕ, ◌+◌, ◌-◌, ◌≤◌}
-use native.Mathlib.Omega.{arith}
-use borrow.Author.Tests.{not-true, not-false}
 use Rattle.kept.specs.Turned.{wrapped}
 use Rattle.round.specs.Over.{pass_over}
-use Rattle.round.proofs.OverLaws.{over-on, over-here, over-end}
 use Rattle.listed.specs.Runs.{in_runs}
 use Rattle.going.proofs.listed_before.Given as goal
 

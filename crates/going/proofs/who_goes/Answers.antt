@@ -22,7 +22,6 @@ use Rattle.listed.proofs.ListedLaws.{runs_insert, runs_fit, first_is, own_in}
 use Rattle.going.specs.Going.{farther_of, Goes}
 use Rattle.going.proofs.GoingLaws.{Known, first_of, end_of, up_of, down_of, under_of, over_of, insert_length, every_insert, insert_every}
 use Rattle.going.proofs.GoingLaws.{up-most, up-less, none_over, none_under, farther-goes}
-use borrow.Author.Rules.{rules}
 use Rattle.going.proofs.who_goes.Goals.{After-listed_before-down, After-runs_of-runs, After-wrap-x, Start}
 use Rattle.going.proofs.who_goes.Goals as goal
 

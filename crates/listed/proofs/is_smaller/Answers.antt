@@ -1,6 +1,5 @@
 -- `listed::is_smaller` meets its contract. Assumes nothing.
 use mathlib.Core.Path.{sym, ◌∙◌}
-use borrow.Author.Rules.{rules}
 use Rattle.record.specs.Record.{key_of}
 use Rattle.key.proofs.OrderLaws.{test_less, test_same, test_more}
 use Rattle.listed.proofs.is_smaller.Goals as goal

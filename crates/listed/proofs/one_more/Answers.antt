@@ -1,6 +1,5 @@
 -- `listed::one_more` meets its contract. Assumes nothing.
 use native.Mathlib.Omega.{arith}
-use borrow.Author.Rules.{rules}
 use Rattle.listed.proofs.one_more.Goals as goal
 
 pub returns-then-more : goal.returns-then-more

@@ -10,7 +10,6 @@ use Rattle.kept.specs.Keys.{Every}
 use Rattle.own.specs.Own.{own_keys}
 use Rattle.listed.specs.Runs.{run_of}
 use Rattle.listed.proofs.ListedLaws.{own_key, no_key, own_in, others_one}
-use borrow.Author.Rules.{rules}
 use Rattle.listed.proofs.run_at.Goals.{Start}
 use Rattle.listed.proofs.run_at.Goals as goal
 

@@ -11,7 +11,6 @@ use Rattle.kept.specs.Turned.{count_under}
 use Rattle.kept.proofs.TurnLaws.{count-le, under_le}
 use Rattle.search.proofs.SeekLaws.{keys_many}
 use Rattle.listed.proofs.ListedLaws.{under_more, below_more}
-use borrow.Author.Rules.{rules}
 use Rattle.listed.proofs.run_of.Goals.{After-count_under-under, Start}
 use Rattle.listed.proofs.run_of.Goals as goal
 

@@ -1,7 +1,7 @@
 -- `listed::runs_of` meets its contract: the first run, and one for each place of the others. Assumes nothing.
 use mathlib.Core.Path.{◌≡◌, sym, ap, ◌∙◌, subst}
 use mathlib.Core.List.{List, ◌∷◌, map}
-use Prim.Native.Nat.{ℕ, ◌-◌, ◌/◌, ◌<◌}
+use Prim.Native.Nat.{ℕ, ◌/◌, ◌<◌}
 use native.Mathlib.Omega.{arith}
 use lib.ListN.{length, get_or, length-take}
 use Rattle.record.specs.Record.{key_of}
@@ -11,7 +11,6 @@ use Rattle.search.proofs.SeekLaws.{keys_many}
 use Rattle.own.specs.Own.{own_keys}
 use Rattle.listed.specs.Runs.{run_of, run_at}
 use Rattle.listed.proofs.ListedLaws.{own_key, own_in, others_one}
-use borrow.Author.Rules.{rules}
 use Rattle.listed.proofs.runs_of.Goals.{After-run_of-a, Start}
 use Rattle.listed.proofs.runs_of.Goals as goal
 

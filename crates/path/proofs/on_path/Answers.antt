@@ -1,14 +1,12 @@
-use mathlib.Core.Path.{◌≡◌, refl, sym, ap, ap₂, ◌∙◌}
-use mathlib.Core.Bool.{true, false, ◌||◌}
-use mathlib.Core.List.{List}
-use Prim.Native.Nat.{ℕ, ◌+◌, ◌*◌, ◌/◌, ◌-◌, ◌≤◌, ◌<◌}
+use mathlib.Core.Path.{◌≡◌, refl, sym, ap₂, ◌∙◌}
+use mathlib.Core.Bool.{true}
+use Prim.Native.Nat.{◌+◌, ◌*◌, ◌<◌}
 use native.Mathlib.Omega.{arith}
-use lib.ListN.{length, get_or, drop}
-use borrow.Author.Rules.{rules}
+use lib.ListN.{get_or, drop}
 use Rattle.octet.specs.Part.{part, same}
 use Rattle.octet.proofs.PartLaws.{part_at}
 use Rattle.path.specs.Path.{endpoint_address, on_path}
-use Rattle.path.proofs.OnPathLaws.{leftFrom, addressesFrom, address_lies, endpoint_lies, from_start, none_left, other-port, same-port, address-found, address-passed, addresses-end}
+use Rattle.path.proofs.OnPathLaws.{address_lies, endpoint_lies, from_start, none_left, other-port, same-port, address-found, address-passed, addresses-end}
 use Rattle.path.proofs.on_path.Goals.{After-equal_words-found, Then-found}
 use Rattle.path.proofs.on_path.Goals as goal
 

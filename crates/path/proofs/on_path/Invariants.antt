@@ -1,16 +1,11 @@
 -- `path::on_path` meets its contract. Invariants: nothing is found yet, and what the whole path answers is what the endpoints from number k on answer; within an
 -- endpoint, what its addresses from number i on or the endpoints behind it answer. Assumes nothing.
-use mathlib.Core.Path.{◌≡◌, refl, sym, ap, ap₂, ◌∙◌}
-use mathlib.Core.Bool.{true, false, ◌||◌}
-use mathlib.Core.List.{List}
-use Prim.Native.Nat.{ℕ, ◌+◌, ◌*◌, ◌/◌, ◌-◌, ◌≤◌, ◌<◌}
-use native.Mathlib.Omega.{arith}
-use lib.ListN.{length, get_or, drop}
-use borrow.Author.Rules.{rules}
-use Rattle.octet.specs.Part.{part, same}
-use Rattle.octet.proofs.PartLaws.{part_at}
-use Rattle.path.specs.Path.{endpoint_address, on_path}
-use Rattle.path.proofs.OnPathLaws.{leftFrom, addressesFrom, address_lies, endpoint_lies, from_start, none_left, other-port, same-port, address-found, address-passed, addresses-end}
+use mathlib.Core.Path.{◌≡◌}
+use mathlib.Core.Bool.{false, ◌||◌}
+use Prim.Native.Nat.{◌-◌, ◌≤◌}
+use Rattle.octet.specs.Part.{part}
+use Rattle.path.specs.Path.{on_path}
+use Rattle.path.proofs.OnPathLaws.{leftFrom, addressesFrom}
 use Rattle.path.proofs.on_path.Given as goal
 
 abbrev pub invariant-loop-i : goal.invariant-loop-i

@@ -5,7 +5,6 @@ use Prim.Native.Nat.{ℕ, ◌+◌, ◌≤◌}
 use native.Mathlib.Omega.{arith}
 use lib.Dec.{eqb}
 use lib.ListN.{length}
-use borrow.Author.Rules.{rules}
 use Rattle.octet.specs.Number.{Digits, value_be, value_le}
 use Rattle.octet.specs.Part.{part}
 use Rattle.octet.proofs.LittleLaws.{value_le_inj}

@@ -9,8 +9,7 @@ use Rattle.key.proofs.OrderLaws.{less_is, same-is, more_is}
 use Rattle.record.specs.Record.{key_of}
 use Rattle.table.specs.Rows.{rows}
 use Rattle.search.proofs.HalvingLaws.{halvings_few}
-use Rattle.search.proofs.SeekLaws.{key-among, keys_many, Halved, halved-all, halved-less, halved-more, halved-same, halved-end}
-use borrow.Author.Rules.{rules}
+use Rattle.search.proofs.SeekLaws.{key-among, keys_many, halved-all, halved-less, halved-more, halved-same, halved-end}
 use Rattle.search.proofs.find_key.Goals.{After-order_of, At-loop-low, Start}
 use Rattle.search.proofs.find_key.Goals as goal
 

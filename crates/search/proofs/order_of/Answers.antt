@@ -6,7 +6,6 @@ use lib.ListN.{length}
 use mathlib.Core.Path.{sym}
 use Rattle.octet.specs.Number.{Digits}
 use Rattle.search.proofs.SeekLaws.{first-less, first_more}
-use borrow.Author.Rules.{rules}
 use Rattle.search.proofs.order_of.Goals.{After-read_u64-word, Start}
 use Rattle.search.proofs.order_of.Goals as goal
 

@@ -1,7 +1,6 @@
 -- `sides::count_under` meets its contract: the search tells it. Assumes nothing.
 use mathlib.Core.Path.{ap}
 use Rattle.search.specs.declared.Sought.{Sought}
-use borrow.Author.Rules.{rules}
 use Rattle.sides.proofs.count_under.Goals as goal
 
 pub returns : goal.returns

@@ -12,7 +12,6 @@ use Rattle.kept.proofs.TurnLaws.{under_le}
 use Rattle.search.specs.declared.Sought.{Sought}
 use Rattle.search.proofs.SeekLaws.{keys_many}
 use Rattle.sides.proofs.SideLaws.{upto_is}
-use borrow.Author.Rules.{rules}
 use Rattle.sides.proofs.count_upto.Goals.{After-find_key-sought}
 use Rattle.sides.proofs.count_upto.Goals as goal
 

@@ -7,7 +7,6 @@ use Rattle.key.specs.Number.{key_at}
 use Rattle.key.proofs.OrderLaws.{test_less, test_same, test_more}
 use Rattle.own.specs.Low.{low_at}
 use Rattle.own.proofs.LowLaws.{low_first, low_next}
-use borrow.Author.Rules.{rules}
 use Rattle.own.proofs.form.above_before.Goals.{After-order_at}
 use Rattle.own.proofs.form.above_before.Goals as goal
 

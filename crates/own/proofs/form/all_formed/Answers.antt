@@ -1,11 +1,8 @@
-use mathlib.Core.Path.{◌≡◌, refl, sym, ◌∙◌}
-use Prim.Native.Nat.{◌-◌, ◌/◌, ◌%◌, ◌≤◌}
-use lib.ListN.{length, drop}
-use borrow.Author.Tests.{not-true, not-false}
+use mathlib.Core.Path.{sym, ◌∙◌}
+use Prim.Native.Nat.{◌/◌}
+use lib.ListN.{length}
 use native.Mathlib.Omega.{arith}
 use Rattle.record.specs.Record.{record_form}
-use Rattle.table.specs.Rows.{rows}
-use Rattle.own.specs.Own.{rising_by, own_form}
 use Rattle.own.specs.Low.{low_at}
 use Rattle.own.proofs.FormLaws.{not-whole, too_few, too_many, by-records, rising-more, rising-stop, rising-end}
 use Rattle.own.proofs.form.all_formed.Goals as goal

@@ -1,12 +1,8 @@
-use mathlib.Core.Path.{◌≡◌, refl, sym, ◌∙◌}
-use mathlib.Core.List.{map}
-use Prim.Native.Nat.{◌-◌, ◌/◌, ◌≤◌}
-use lib.ListN.{length, drop}
+use mathlib.Core.Path.{refl, sym, ◌∙◌}
+use Prim.Native.Nat.{◌/◌}
+use lib.ListN.{length}
 use native.Mathlib.Omega.{arith}
 use Rattle.key.specs.Number.{key_at}
-use Rattle.record.specs.Record.{key_of}
-use Rattle.table.specs.Rows.{rows}
-use Rattle.kept.specs.Keys.{has}
 use Rattle.own.proofs.PlaceLaws.{has_here, has_on, has_end}
 use Rattle.own.proofs.place.is_any.Goals as goal
 

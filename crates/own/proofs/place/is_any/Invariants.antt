@@ -1,14 +1,12 @@
 -- `own::place::is_any` meets its contract: whether the key is one of all is whether it is one of those from place i on. Assumes nothing.
-use mathlib.Core.Path.{◌≡◌, refl, sym, ◌∙◌}
+use mathlib.Core.Path.{◌≡◌}
 use mathlib.Core.List.{map}
 use Prim.Native.Nat.{◌-◌, ◌/◌, ◌≤◌}
 use lib.ListN.{length, drop}
-use native.Mathlib.Omega.{arith}
 use Rattle.key.specs.Number.{key_at}
 use Rattle.record.specs.Record.{key_of}
 use Rattle.table.specs.Rows.{rows}
 use Rattle.kept.specs.Keys.{has}
-use Rattle.own.proofs.PlaceLaws.{has_here, has_on, has_end}
 use Rattle.own.proofs.place.is_any.Given as goal
 
 abbrev pub invariant-loop-i : goal.invariant-loop-i

@@ -1,14 +1,10 @@
-use mathlib.Core.Path.{◌≡◌, refl, sym, ◌∙◌}
-use mathlib.Core.List.{map}
-use Prim.Native.Nat.{◌+◌, ◌-◌, ◌/◌, ◌≤◌}
+use mathlib.Core.Path.{refl, sym, ◌∙◌}
+use Prim.Native.Nat.{◌/◌}
 use native.Mathlib.Nat.{zero-add}
-use lib.ListN.{length, drop}
+use lib.ListN.{length}
 use native.Mathlib.Omega.{arith}
 use Rattle.key.specs.Number.{key_at}
-use Rattle.record.specs.Record.{key_of}
-use Rattle.table.specs.Rows.{rows}
 use Rattle.table.proofs.RowLaws.{rows-length}
-use Rattle.kept.specs.Keys.{has}
 use Rattle.own.specs.Own.{own_place, own_keys}
 use Rattle.own.proofs.PlaceLaws.{has_on, has_end, place_here, place-on, not_own}
 use Rattle.own.proofs.place.place_of.Goals as goal

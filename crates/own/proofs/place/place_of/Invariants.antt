@@ -1,17 +1,13 @@
 -- `own::place::place_of` meets its contract: the key's place among all is i and its place among those from place i on. Assumes nothing.
-use mathlib.Core.Path.{◌≡◌, refl, sym, ◌∙◌}
+use mathlib.Core.Path.{◌≡◌}
 use mathlib.Core.List.{map}
 use Prim.Native.Nat.{◌+◌, ◌-◌, ◌/◌, ◌≤◌}
-use native.Mathlib.Nat.{zero-add}
 use lib.ListN.{length, drop}
-use native.Mathlib.Omega.{arith}
 use Rattle.key.specs.Number.{key_at}
 use Rattle.record.specs.Record.{key_of}
 use Rattle.table.specs.Rows.{rows}
-use Rattle.table.proofs.RowLaws.{rows-length}
 use Rattle.kept.specs.Keys.{has}
-use Rattle.own.specs.Own.{own_place, own_keys}
-use Rattle.own.proofs.PlaceLaws.{has_on, has_end, place_here, place-on, not_own}
+use Rattle.own.specs.Own.{own_place}
 use Rattle.own.proofs.place.place_of.Given as goal
 
 abbrev pub invariant-loop-i : goal.invariant-loop-i

@@ -1,10 +1,9 @@
 -- `wire_read::header` meets its contract: the first tests of document 01's table, in its order. Assumes nothing.
-use borrow.Author.Tests.{le-leb, lt-leb, eq-eqb, ne_eqb, not-true, not-false}
+use borrow.Author.Tests.{le-leb, lt-leb, eq-eqb, ne_eqb}
 use native.Mathlib.Omega.{arith}
 use mathlib.Core.Path.{sym, ◌∙◌}
 use lib.ListN.{length, get_or}
 use Rattle.wire_read.specs.Answers.{head_number}
-use borrow.Author.Rules.{rules}
 use Rattle.wire_read.proofs.header.Goals as goal
 
 pub returns-then-d-lt12 : goal.returns-then-d-lt12

@@ -10,7 +10,6 @@ use Rattle.wire_fields.proofs.RefusalLaws.{by_type}
 use Rattle.wire_read.specs.Answers.{incoming_of}
 use Rattle.wire_read.specs.declared.Incoming.TheVariants.{Refused}
 use Rattle.wire_read.proofs.ReaderLaws.{header-refuses, header-right}
-use borrow.Author.Rules.{rules}
 use Rattle.wire_read.proofs.read.Goals.{Else-number-ne0}
 use Rattle.wire_read.proofs.read.Goals as goal
 

@@ -8,7 +8,6 @@ use Rattle.wire_fields.specs.Reading.{places_at, fields_as}
 use Rattle.wire_shapes.specs.declared.Shape.TheVariants.{Sized}
 use Rattle.wire_fields.proofs.RefusalLaws.{need-four, sized_four}
 use Rattle.wire_read.specs.Answers.{incoming_of}
-use borrow.Author.Rules.{rules}
 use Rattle.wire_read.proofs.advertise.read_advertise.Goals as goal
 
 pub returns-in_default : goal.returns-in_default

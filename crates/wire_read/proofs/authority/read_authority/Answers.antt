@@ -1,6 +1,5 @@
 -- `wire_read::authority::read_authority` meets its contract: the two fields before the buffer by their own steps, the rest by the buffer's.
 -- Assumes nothing.
-use borrow.Author.Tests.{not-true, not-false}
 use native.Mathlib.Omega.{arith}
 use mathlib.Core.Path.{sym, ◌∙◌}
 use Rattle.wire_fields.specs.Refusals.{in_part}
@@ -9,7 +8,6 @@ use Rattle.wire_shapes.specs.declared.Shape.TheVariants.{Sized, Split}
 use Rattle.wire_fields.proofs.RefusalLaws.{need-four, sized_four, split_four}
 use Rattle.wire_read.specs.Answers.{incoming_of}
 use Rattle.wire_read.proofs.ReaderLaws.{authority-bad, authority-good}
-use borrow.Author.Rules.{rules}
 use Rattle.wire_read.proofs.authority.read_authority.Goals as goal
 
 pub returns-in_default : goal.returns-in_default

@@ -1,12 +1,11 @@
 -- `wire_read::flood::read_flood` meets its contract: each field that is found, and the first that is not, is the definition's own step.
 -- Assumes nothing.
-use borrow.Author.Tests.{eq-eqb, ne_eqb, not-true, not-false}
+use borrow.Author.Tests.{eq-eqb, ne_eqb}
 use mathlib.Core.Path.{sym, ◌∙◌}
 use Rattle.wire_fields.specs.Kinds.{joined_fields, sized}
 use Rattle.wire_fields.specs.Reading.{places_at, fields_as}
 use Rattle.wire_read.specs.Answers.{incoming_of}
 use Rattle.wire_read.proofs.ReaderLaws.{present_value}
-use borrow.Author.Rules.{rules}
 use Rattle.wire_read.proofs.flood.read_flood.Goals as goal
 
 pub returns-in_default : goal.returns-in_default

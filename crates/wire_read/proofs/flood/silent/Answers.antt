@@ -1,5 +1,4 @@
 -- `wire_read::flood::silent` meets its contract: the bit of weight 1. Assumes nothing.
-use borrow.Author.Rules.{rules}
 use Rattle.wire_read.proofs.flood.silent.Goals as goal
 
 pub returns : goal.returns

@@ -5,7 +5,6 @@ use mathlib.Core.Path.{sym, ◌∙◌}
 use Rattle.wire_fields.specs.Kinds.{joined_fields, sized}
 use Rattle.wire_fields.specs.Reading.{places_at, fields_as}
 use Rattle.wire_read.specs.Answers.{incoming_of}
-use borrow.Author.Rules.{rules}
 use Rattle.wire_read.proofs.inquire.read_inquire.Goals as goal
 
 pub returns-in_default : goal.returns-in_default

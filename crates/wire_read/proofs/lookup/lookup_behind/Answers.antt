@@ -3,7 +3,6 @@
 use borrow.Author.Tests.{eq-eqb, ne_eqb}
 use mathlib.Core.Path.{sym, ◌∙◌}
 use Rattle.wire_fields.specs.Reading.{places_at}
-use borrow.Author.Rules.{rules}
 use Rattle.wire_read.proofs.lookup.lookup_behind.Goals as goal
 
 pub returns-in_default : goal.returns-in_default

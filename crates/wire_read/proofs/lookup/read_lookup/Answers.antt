@@ -5,7 +5,6 @@ use Rattle.wire_fields.specs.Kinds.{joined_fields, sized}
 use Rattle.wire_fields.specs.Reading.{places_at, fields_as}
 use Rattle.wire_read.specs.Answers.{incoming_of}
 use Rattle.wire_read.proofs.ReaderLaws.{lookup-front}
-use borrow.Author.Rules.{rules}
 use Rattle.wire_read.proofs.lookup.read_lookup.Goals as goal
 
 pub returns-in_default : goal.returns-in_default

@@ -1,13 +1,12 @@
 -- `wire_read::request::read_request` meets its contract: each field that is found, and the first that is not, is the definition's own step.
 -- Assumes nothing.
-use borrow.Author.Tests.{eq-eqb, ne_eqb, not-true, not-false}
+use borrow.Author.Tests.{eq-eqb, ne_eqb}
 use mathlib.Core.Path.{sym, ◌∙◌}
 use Rattle.wire_fields.specs.Kinds.{joined_fields, sized}
 use Rattle.wire_fields.specs.Reading.{places_at, fields_as}
 use Rattle.wire_shapes.specs.declared.Shape.TheVariants.{Sized}
 use Rattle.wire_fields.proofs.RefusalLaws.{split_value, maybe-four, sized_four}
 use Rattle.wire_read.specs.Answers.{incoming_of}
-use borrow.Author.Rules.{rules}
 use Rattle.wire_read.proofs.request.read_request.Goals as goal
 
 pub returns-in_default : goal.returns-in_default

@@ -1,6 +1,5 @@
 -- `wire_read::values::flag_in` meets its contract, by the two cases of the place. Assumes nothing.
 use Rattle.wire_read.specs.Answers.{part_flag}
-use borrow.Author.Rules.{rules}
 use Rattle.wire_read.proofs.values.flag_in.Goals as goal
 
 pub returns-in_default : goal.returns-in_default

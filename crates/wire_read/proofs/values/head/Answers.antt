@@ -1,6 +1,5 @@
 -- `wire_read::values::head` meets its contract: a byte and a number at their places. Assumes nothing.
 use Rattle.wire_read.specs.Answers.{head_of}
-use borrow.Author.Rules.{rules}
 use Rattle.wire_read.proofs.values.head.Goals as goal
 
 pub returns : goal.returns

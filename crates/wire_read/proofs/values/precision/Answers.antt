@@ -4,7 +4,6 @@ use borrow.Author.Tests.{eq-eqb, ne_eqb}
 use mathlib.Core.Path.{sym, ◌∙◌}
 use lib.ListN.{get_or}
 use Rattle.wire_read.specs.Answers.{precision_at}
-use borrow.Author.Rules.{rules}
 use Rattle.wire_read.proofs.values.precision.Goals as goal
 
 pub returns-then-byte_from-ne8 : goal.returns-then-byte_from-ne8

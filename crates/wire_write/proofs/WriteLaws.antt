@@ -1,6 +1,6 @@
 -- Laws of a whole message written: its header, then its fields one after another, is its bytes at the start of the output; what writing gives.
 -- Assumes nothing.
-use Prim.Native.Nat.{ℕ, ◌+◌, ◌≤◌, ◌<◌, min}
+use Prim.Native.Nat.{ℕ, ◌+◌, ◌≤◌, min}
 use native.Mathlib.Decide.{dec_le}
 use native.Mathlib.Omega.{arith}
 use native.Mathlib.Nat.{zero-add}

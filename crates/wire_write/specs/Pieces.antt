@@ -1,6 +1,6 @@
 -- Helps the code. A message as rows of its table and pieces of lent slices, in which the one writer has it: shown to be the bytes of the message that they make
 -- (Message) by the laws of this crate. Row, Piece and Source are the code's. Assumes nothing.
-use Rattle.std.specs.Prelude.{ℕ, ◌+◌, ◌≤◌, List, [], ◌∷◌, ◌++◌, Bool, true, false, cond, ◌&&◌, ◌≡◌, leb, length, replicate}
+use Rattle.std.specs.Prelude.{ℕ, ◌+◌, ◌≤◌, List, [], ◌∷◌, ◌++◌, Bool, true, cond, ◌&&◌, ◌≡◌, leb, length, replicate}
 use Rattle.octet.specs.Number.{digits_be}
 use Rattle.octet.specs.Part.{part}
 use Rattle.wire_shapes.specs.Field.{gap}

@@ -1,10 +1,9 @@
-use Prim.Native.Nat.{◌≤◌, ◌<◌, ◌-◌}
+use Prim.Native.Nat.{◌<◌}
 use native.Mathlib.Omega.{arith}
-use borrow.Author.Tests.{not-true, not-false}
 use mathlib.Core.List.{[]}
 use mathlib.Core.Path.{◌≡◌, refl, sym, ◌∙◌}
 use lib.ListN.{length, drop, drop_of_length-le}
-use Rattle.wire_write.specs.Pieces.{lent_of, rows_ok}
+use Rattle.wire_write.specs.Pieces.{lent_of}
 use Rattle.wire_write.proofs.PieceLaws.{no_row, no_piece_lem, step_ok}
 use Rattle.wire_write.proofs.check.pieces_ok.Goals as goal
 

@@ -1,12 +1,8 @@
 -- `wire_write::check::pieces_ok` meets its contract: what is left to test is the test of the whole. Assumes nothing.
-use Prim.Native.Nat.{◌≤◌, ◌<◌, ◌-◌}
-use native.Mathlib.Omega.{arith}
-use borrow.Author.Tests.{not-true, not-false}
-use mathlib.Core.List.{[]}
-use mathlib.Core.Path.{◌≡◌, refl, sym, ◌∙◌}
-use lib.ListN.{length, drop, drop_of_length-le}
+use Prim.Native.Nat.{◌≤◌, ◌-◌}
+use mathlib.Core.Path.{◌≡◌}
+use lib.ListN.{drop}
 use Rattle.wire_write.specs.Pieces.{lent_of, rows_ok}
-use Rattle.wire_write.proofs.PieceLaws.{no_row, no_piece_lem, step_ok}
 use Rattle.wire_write.proofs.check.pieces_ok.Given as goal
 
 abbrev pub invariant-loop-i : goal.invariant-loop-i

@@ -6,7 +6,6 @@ use Rattle.octet.specs.Part.{part}
 use Rattle.octet.proofs.PartLaws.{length_part}
 use Rattle.wire_write.specs.Pieces.{end_of}
 use Rattle.wire_write.proofs.PutLaws.{put-field}
-use borrow.Author.Rules.{rules}
 use Rattle.wire_write.proofs.field.put_bytes.Goals as goal
 
 pub returns : goal.returns

@@ -3,7 +3,6 @@ use Prim.Native.Nat.{ℕ, ◌+◌}
 use mathlib.Core.Path.{ap, ◌∙◌}
 use lib.ListN.{replicate}
 use Rattle.octet.specs.Part.{splice}
-use borrow.Author.Rules.{rules}
 use Rattle.wire_write.proofs.field.put_gap.Goals as goal
 
 pub returns : goal.returns

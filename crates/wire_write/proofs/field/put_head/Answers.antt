@@ -4,7 +4,6 @@ use native.Mathlib.Omega.{arith}
 use Rattle.octet.specs.Number.{digits_be}
 use Rattle.octet.proofs.PartLaws.{splice_next}
 use Rattle.octet.proofs.BigLaws.{length-digits_be}
-use borrow.Author.Rules.{rules}
 use Rattle.wire_write.proofs.field.put_head.Goals as goal
 
 pub returns : goal.returns

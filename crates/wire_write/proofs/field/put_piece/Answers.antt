@@ -1,9 +1,8 @@
 -- `wire_write::field::put_piece` meets its contract, by the slice that the piece is in. Assumes nothing.
 use borrow.Author.Tests.{not-true, not-false}
-use mathlib.Core.Path.{refl, sym}
+use mathlib.Core.Path.{sym}
 use Rattle.octet.proofs.PartLaws.{splice_nil}
 use Rattle.wire_write.specs.Pieces.{part_bytes, past_of}
-use borrow.Author.Rules.{rules}
 use Rattle.wire_write.proofs.field.put_piece.Goals as goal
 
 pub returns-then-not-p : goal.returns-then-not-p

@@ -7,7 +7,6 @@ use Rattle.octet.specs.Number.{digits_be}
 use Rattle.octet.proofs.BigLaws.{length-digits_be}
 use Rattle.wire_fields.specs.Message.{opening}
 use Rattle.wire_write.proofs.PutLaws.{put-put}
-use borrow.Author.Rules.{rules}
 use Rattle.wire_write.proofs.header.put_header.Goals as goal
 
 pub returns : goal.returns

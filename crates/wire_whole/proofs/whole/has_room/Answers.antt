@@ -1,5 +1,4 @@
 -- `wire_whole::whole::has_room` meets its contract: two tests. Assumes nothing.
-use native.Mathlib.Omega.{arith}
 use borrow.Author.Tests.{le-leb, lt-leb}
 use Rattle.wire_whole.proofs.whole.has_room.Goals as goal
 

@@ -3,7 +3,6 @@ use native.Mathlib.Omega.{arith}
 use mathlib.Core.Bool.{true}
 use Rattle.wire_write.specs.Pieces.{past_of}
 use Rattle.wire_write.proofs.WriteLaws.{past_more}
-use borrow.Author.Rules.{rules}
 use Rattle.wire_whole.proofs.whole.past.Goals as goal
 
 pub returns-then-at-gt1232 : goal.returns-then-at-gt1232

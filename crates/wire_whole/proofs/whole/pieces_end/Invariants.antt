@@ -1,11 +1,8 @@
 -- `wire_whole::whole::pieces_end` meets its contract: the end of what is left, counted only up to 1233, is the end of the whole. Assumes nothing.
-use Prim.Native.Nat.{◌≤◌, ◌<◌, ◌-◌, min}
-use native.Mathlib.Omega.{arith}
-use mathlib.Core.List.{[]}
-use mathlib.Core.Path.{◌≡◌, refl, ◌∙◌}
-use lib.ListN.{length, drop, drop_of_length-le}
+use Prim.Native.Nat.{◌≤◌, ◌-◌, min}
+use mathlib.Core.Path.{◌≡◌}
+use lib.ListN.{drop}
 use Rattle.wire_write.specs.Pieces.{end_rows}
-use Rattle.wire_write.proofs.PieceLaws.{no_row, no_piece_lem, step-cap}
 use Rattle.wire_whole.proofs.whole.pieces_end.Given as goal
 
 abbrev pub invariant-loop-i : goal.invariant-loop-i

@@ -1,11 +1,9 @@
-use Prim.Native.Nat.{ℕ, ◌≤◌, ◌<◌, ◌-◌}
+use Prim.Native.Nat.{◌≤◌, ◌<◌}
 use native.Mathlib.Omega.{arith}
-use mathlib.Core.List.{List, []}
+use mathlib.Core.List.{[]}
 use mathlib.Core.Path.{◌≡◌, refl, sym, ap, ◌∙◌}
 use lib.ListN.{length, drop, drop_of_length-le}
-use Rattle.wire_write.specs.Pieces.{Lent, lent_of, AllIn, givens_of, kinds_of_rows, end_rows}
-use Rattle.wire_write.specs.declared.Row.{Row}
-use Rattle.wire_write.specs.declared.Piece.{Piece}
+use Rattle.wire_write.specs.Pieces.{lent_of, givens_of, kinds_of_rows, end_rows}
 use Rattle.wire_write.proofs.PieceLaws.{no_row, no_piece_lem, step_in, step_room, step-short, step-put, step_end, step_same, end_rows_lem}
 use Rattle.wire_write.proofs.WriteLaws.{put_all, put_all_lem}
 use Rattle.wire_whole.proofs.whole.put_pieces.Goals as goal

@@ -1,14 +1,12 @@
 -- `wire_whole::whole::put_pieces` meets its contract: what is left to put, put, gives what is to be put. Assumes nothing.
-use Prim.Native.Nat.{ℕ, ◌≤◌, ◌<◌, ◌-◌}
-use native.Mathlib.Omega.{arith}
-use mathlib.Core.List.{List, []}
-use mathlib.Core.Path.{◌≡◌, refl, sym, ap, ◌∙◌}
-use lib.ListN.{length, drop, drop_of_length-le}
+use Prim.Native.Nat.{ℕ, ◌≤◌, ◌-◌}
+use mathlib.Core.List.{List}
+use mathlib.Core.Path.{◌≡◌}
+use lib.ListN.{length, drop}
 use Rattle.wire_write.specs.Pieces.{Lent, lent_of, AllIn, givens_of, kinds_of_rows, end_rows}
 use Rattle.wire_write.specs.declared.Row.{Row}
 use Rattle.wire_write.specs.declared.Piece.{Piece}
-use Rattle.wire_write.proofs.PieceLaws.{no_row, no_piece_lem, step_in, step_room, step-short, step-put, step_end, step_same, end_rows_lem}
-use Rattle.wire_write.proofs.WriteLaws.{put_all, put_all_lem}
+use Rattle.wire_write.proofs.WriteLaws.{put_all}
 use Rattle.wire_whole.proofs.whole.put_pieces.Given as goal
 
 pub record Left (out₀ : List ℕ) (l : Lent) (rows : List Row) (ps : List Piece) (out : List ℕ) (i at : ℕ) : Type 0 where

@@ -1,11 +1,8 @@
 -- `wire_whole::whole::put_where` meets its contract: where there is room, the header and the fields are the message (whole-put). Assumes nothing.
 use native.Mathlib.Omega.{arith}
-use borrow.Author.Tests.{not-true, not-false}
-use mathlib.Core.Path.{sym, ap, ◌∙◌}
 use Rattle.wire_write.specs.Pieces.{lent_of, givens_of, kinds_of_rows, made_by}
 use Rattle.wire_write.proofs.PieceLaws.{end_rows_lem}
 use Rattle.wire_write.proofs.WriteLaws.{end_least, ends-within, whole-put}
-use borrow.Author.Rules.{rules}
 use Rattle.wire_whole.proofs.whole.put_where.Goals as goal
 
 pub returns-then-not-room : goal.returns-then-not-room

@@ -1,12 +1,10 @@
 -- `wire_whole::whole::write_rows` meets its contract: the tests in their order, then what was written by whether there was room (wrote_by).
 -- Assumes nothing.
 use Prim.Native.Nat.{min}
-use borrow.Author.Tests.{not-true, not-false}
-use mathlib.Core.Path.{◌≡◌, sym, ap, ◌∙◌}
+use mathlib.Core.Path.{sym, ap, ◌∙◌}
 use Rattle.wire_write.specs.Pieces.{lent_of, givens_of, kinds_of_rows, made_by}
 use Rattle.wire_write.proofs.PieceLaws.{rows_in, end_rows_lem}
 use Rattle.wire_write.proofs.WriteLaws.{wrote-6, wrote_by, room-is, exact-end}
-use borrow.Author.Rules.{rules}
 use Rattle.wire_whole.proofs.whole.write_rows.Goals as goal
 
 pub returns-then-not-pieces_ok : goal.returns-then-not-pieces_ok

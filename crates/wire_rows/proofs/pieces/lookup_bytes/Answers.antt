@@ -2,7 +2,6 @@
 use mathlib.Core.Path.{refl}
 use native.Mathlib.Nat.{div-one}
 use Rattle.octet.specs.Number.{digits_be}
-use borrow.Author.Rules.{rules}
 use Rattle.wire_rows.proofs.pieces.lookup_bytes.Goals as goal
 
 pub returns : goal.returns

@@ -1,7 +1,6 @@
 -- `wire_rows::pieces::spelled_bytes` meets its contract: the digits of the two numbers. Assumes nothing.
 use native.Mathlib.Nat.{div-one}
 use Rattle.octet.specs.Number.{digits_be}
-use borrow.Author.Rules.{rules}
 use Rattle.wire_rows.proofs.pieces.spelled_bytes.Goals as goal
 
 pub returns : goal.returns

@@ -1,5 +1,4 @@
 -- `wire_sent::ack::write_ack` meets its contract: with N, and without. Assumes nothing.
-use borrow.Author.Rules.{rules}
 use Rattle.wire_sent.proofs.ack.write_ack.Goals as goal
 
 pub returns-then-n : goal.returns-then-n

@@ -1,7 +1,6 @@
 -- `wire_sent::ack::write_noted` meets its contract: its three runs are the ACK with N. Assumes nothing.
 use native.Mathlib.Omega.{arith}
 use Rattle.wire_sent.proofs.FrontLaws.{ack-noted, noted-put, wrote-short, wrote_right}
-use borrow.Author.Rules.{rules}
 use Rattle.wire_sent.proofs.ack.write_noted.Goals as goal
 
 pub returns-then-out-lt26 : goal.returns-then-out-lt26

@@ -1,7 +1,6 @@
 -- `wire_sent::ack::write_plain` meets its contract: header and acked ID are the ACK. Assumes nothing.
 use native.Mathlib.Omega.{arith}
 use Rattle.wire_sent.proofs.FrontLaws.{ack-plain, wrote-short, wrote_right}
-use borrow.Author.Rules.{rules}
 use Rattle.wire_sent.proofs.ack.write_plain.Goals as goal
 
 pub returns-then-out-lt20 : goal.returns-then-out-lt20

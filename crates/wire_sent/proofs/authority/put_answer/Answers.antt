@@ -1,6 +1,5 @@
 -- `wire_sent::authority::put_answer` meets its contract: five runs, one after the other. Assumes nothing.
 use Rattle.wire_sent.proofs.FrontLaws.{answer-put}
-use borrow.Author.Rules.{rules}
 use Rattle.wire_sent.proofs.authority.put_answer.Goals as goal
 
 pub returns : goal.returns

@@ -7,7 +7,6 @@ use Rattle.wire_write.proofs.WriteLaws.{wrote-6}
 use Rattle.wire_sent.specs.Fronts.{answer_front, entry_field}
 use Rattle.wire_sent.proofs.FrontLaws.{EntryAt, no-entry, entry-there, entry-most, field-long, answer_long, closest-known}
 use Rattle.wire_sent.proofs.FrontLaws.{next, wrote-short, wrote_right}
-use borrow.Author.Rules.{rules}
 use Rattle.wire_sent.proofs.authority.write_closest.Goals.{Else-entry-eq0}
 use Rattle.wire_sent.proofs.authority.write_closest.Goals as goal
 

@@ -1,7 +1,6 @@
 -- `wire_sent::authority::write_cpa` meets its contract: its three runs are the message. Assumes nothing.
 use native.Mathlib.Omega.{arith}
 use Rattle.wire_sent.proofs.FrontLaws.{cpa-known, cpa-put, wrote-long, wrote-short, wrote_right}
-use borrow.Author.Rules.{rules}
 use Rattle.wire_sent.proofs.authority.write_cpa.Goals as goal
 
 pub returns-then-cpa-gt1192 : goal.returns-then-cpa-gt1192

@@ -1,5 +1,4 @@
 -- `wire_sent::flood::write_flood` meets its contract: its two runs are the message. Assumes nothing.
-use Prim.Native.Nat.{◌+◌}
 use native.Mathlib.Omega.{arith}
 use mathlib.Core.Path.{◌≡◌, refl}
 use lib.Dec.{eqb}
@@ -12,7 +11,6 @@ use Rattle.wire_write.proofs.WriteLaws.{wrote-6}
 use Rattle.wire_sent.specs.Fronts.{key_front, entry_field}
 use Rattle.wire_sent.proofs.FrontLaws.{EntryAt, no-entry, entry-there, entry-most, field-long, key-long, flood_known}
 use Rattle.wire_sent.proofs.FrontLaws.{next, wrote-short, wrote_right}
-use borrow.Author.Rules.{rules}
 use Rattle.wire_sent.proofs.flood.write_flood.Goals.{Else-entry-eq0}
 use Rattle.wire_sent.proofs.flood.write_flood.Goals as goal
 

@@ -4,10 +4,8 @@ use native.Mathlib.Omega.{arith}
 use mathlib.Core.Bool.{true, false}
 use mathlib.Core.Path.{◌≡◌, refl, sym, ◌∙◌}
 use lib.ListN.{get_or}
-use borrow.Author.Tests.{not-true, not-false}
 use Rattle.wire_write.specs.Making.{formed_at}
 use Rattle.wire_sent.proofs.FrontLaws.{EntryAt, entry_formed, entry-most}
-use borrow.Author.Rules.{rules}
 use Rattle.wire_sent.proofs.front.entry_len.Goals.{Else-not-formed_in}
 use Rattle.wire_sent.proofs.front.entry_len.Goals as goal
 

@@ -3,7 +3,6 @@ use Prim.Native.Nat.{◌+◌}
 use native.Mathlib.Omega.{arith}
 use borrow.Author.Tests.{le-leb, lt-leb}
 use lib.ListN.{length}
-use borrow.Author.Rules.{rules}
 use Rattle.wire_sent.proofs.front.formed_in.Goals as goal
 
 pub returns-then-s-lt100 : goal.returns-then-s-lt100

@@ -1,6 +1,5 @@
 -- `wire_sent::front::put_acked` meets its contract: two runs, one after the other. Assumes nothing.
 use Rattle.wire_sent.proofs.FrontLaws.{acked-put}
-use borrow.Author.Rules.{rules}
 use Rattle.wire_sent.proofs.front.put_acked.Goals as goal
 
 pub returns : goal.returns

@@ -4,7 +4,6 @@ use native.Mathlib.Omega.{arith}
 use mathlib.Core.Path.{refl}
 use lib.ListN.{get_or}
 use Rattle.wire_sent.proofs.FrontLaws.{EntryAt, entry-most, entry-put}
-use borrow.Author.Rules.{rules}
 use Rattle.wire_sent.proofs.front.put_entry.Goals.{Start}
 use Rattle.wire_sent.proofs.front.put_entry.Goals as goal
 

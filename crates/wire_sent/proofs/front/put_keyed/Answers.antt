@@ -1,6 +1,5 @@
 -- `wire_sent::front::put_keyed` meets its contract: four runs, one after the other. Assumes nothing.
 use Rattle.wire_sent.proofs.FrontLaws.{key-put}
-use borrow.Author.Rules.{rules}
 use Rattle.wire_sent.proofs.front.put_keyed.Goals as goal
 
 pub returns : goal.returns

@@ -7,7 +7,6 @@ use Rattle.octet.specs.Part.{splice}
 use Rattle.octet.proofs.BigLaws.{length-digits_be}
 use Rattle.wire_write.proofs.PutLaws.{put-put, head_length}
 use Rattle.wire_sent.specs.Fronts.{mark}
-use borrow.Author.Rules.{rules}
 use Rattle.wire_sent.proofs.front.put_word.Goals as goal
 
 pub returns : goal.returns

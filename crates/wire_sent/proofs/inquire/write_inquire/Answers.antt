@@ -8,7 +8,6 @@ use Rattle.wire_shapes.proofs.ShapeLaws.{and_false}
 use Rattle.wire_write.specs.Making.{inquire_made}
 use Rattle.wire_write.proofs.WriteLaws.{wrote-6}
 use Rattle.wire_sent.proofs.FrontLaws.{inquire_known, inquire-put, wrote-short, wrote_right}
-use borrow.Author.Rules.{rules}
 use Rattle.wire_sent.proofs.inquire.write_inquire.Goals as goal
 
 pub returns-then-key-ne-KEY_LEN : goal.returns-then-key-ne-KEY_LEN

@@ -111,13 +111,13 @@ module _ (own cache path target : List ℕ) where
     unfolding nearest_call
     nearest-done = all_pass Refused rows-wrong (standing at found) a
 
-  by_number : (n : ℕ) → first_of rows-wrong ≡ n
+  by_number_lem : (n : ℕ) → first_of rows-wrong ≡ n
       → (shown_by own cache (nearest_call own cache path target) ≡ closest_call own cache path target) × Inside own cache (nearest_call own cache path target)
-  by_number zero e =
+  by_number_lem zero e =
       let a = all_fail by_number rows-wrong 0 (omega arith, omega arith, (omega arith, omega arith, (omega arith, omega arith, (omega arith, omega arith, tt)))) e in
       let s = shown-at a found refl in
       (ap (shown_by own cache) (nearest-done a) ∙ s.0 ∙ sym (closest-does own cache path target a), rw (nearest-done a) s.1)
-  by_number (suc n) e =
+  by_number_lem (suc n) e =
       let is : nearest_call own cache path target ≡ Refused (first_of rows-wrong) = unfold nearest_call in or_refuses Refused rows-wrong _ (omega (arith, e)) in
       let does : closest_call own cache path target ≡ shown (first_of rows-wrong) [] =
       unfold closest_call in or_refuses (λ (k : ℕ). shown k []) rows-wrong _ (omega (arith, e)) in
@@ -125,8 +125,8 @@ module _ (own cache path target : List ℕ) where
 
   -- what is answered is the record that is shown
   pub nearest-shows : shown_by own cache (nearest_call own cache path target) ≡ closest_call own cache path target
-  nearest-shows = (by_number (first_of rows-wrong) refl).0
+  nearest-shows = (by_number_lem (first_of rows-wrong) refl).0
 
   -- and what the search answers is that
   pub nearest-is : (r : Nearest) → shown_by own cache r ≡ closest_call own cache path target → Inside own cache r → r ≡ nearest_call own cache path target
-  nearest-is r e i = nearest-one own cache path target r (nearest_call own cache path target) e i nearest-shows (by_number (first_of rows-wrong) refl).1
+  nearest-is r e i = nearest-one own cache path target r (nearest_call own cache path target) e i nearest-shows (by_number_lem (first_of rows-wrong) refl).1

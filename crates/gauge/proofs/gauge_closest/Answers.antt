@@ -42,7 +42,7 @@ counted c =
 -- a place of our own is one of four
 few-own : (c : In-Own) → c.in-Own.i < 4
 few-own c =
-    let r = c.before.before.before in
+    let r = (goal.at.In-Own c).After-closest_record-sighted in
     let a = (start r).args in
     let e = c.in-Own.is in
     let inside = subst (Inside a.own.now a.cache.now) e r.closest_record-sighted.ensures.inside in
@@ -54,7 +54,7 @@ few-own c =
 -- a place of the cache is one of 256
 few : (c : In-Held) → c.in-Held.i < 256
 few c =
-    let r = c.before.before.before in
+    let r = (goal.at.In-Held c).After-closest_record-sighted in
     let a = (start r).args in
     let e = c.in-Held.is in
     let inside = subst (Inside a.own.now a.cache.now) e r.closest_record-sighted.ensures.inside in

@@ -11,7 +11,7 @@ use Rattle.gauge.proofs.gauge_send.Goals.{After-plan_send-plan, Start}
 use Rattle.gauge.proofs.gauge_send.Goals as goal
 
 abbrev start : After-plan_send-plan → Start
-start c = c.before.before.before.before.before.before.before.before
+start c = (goal.at.After-plan_send-plan c).Start
 
 -- all that was lent, and any memory besides
 abbrev memory-at : After-plan_send-plan → Memory → Memory
@@ -45,4 +45,4 @@ returns-in-Flood c o =
     let w = d.commit_send.ensures in
     let k = c in
     let m = (goal.at.returns-in-Flood c).After-plan_send-plan in
-    send-sent (memory-at m o) (lent_at m) (planned m k.in-Flood.is o) w.0 w.1.0 w.1.1
+    send-sent (memory-at m o) (lent_at m) (planned m k.in-Flood.is o) w.value w.waiting_after w.output_after

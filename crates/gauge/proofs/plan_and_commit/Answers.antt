@@ -11,7 +11,7 @@ use Rattle.gauge.specs.Ours.{ours}
 use Rattle.plan_message.proofs.PlannedLaws.{plan-hands, plan-by, plan-needs, flood-needs, revoke-needs, learn-needs, free-needs, cpa-needs, show-needs}
 use Rattle.gauge.proofs.ReceiveLaws.{call_by}
 use borrow.Author.Rules.{rules}
-use Rattle.gauge.proofs.plan_and_commit.Goals.{After-plan_receive-plan, After-shared_slice_known-4-1, Else-not-hands_fit, Start}
+use Rattle.gauge.proofs.plan_and_commit.Goals.{After-plan_receive-plan, Else-not-hands_fit, Start}
 use Rattle.gauge.proofs.plan_and_commit.Goals as goal
 
 -- all that was lent
@@ -31,7 +31,7 @@ handed-in : (c : Else-not-hands_fit) → comes_fit (lent_of (tested c)) ≡ true
 handed-in c = sym (c.hands_fit.ensures (lent_of (tested c))) ∙ c.if-not-hands_fit.false
 
 abbrev start : After-plan_receive-plan → Start
-start c = tested (goal.at.After-plan_receive-plan c).After-shared_slice_known-4-1
+start c = (goal.at.After-plan_receive-plan c).Start
 
 abbrev memory-at : After-plan_receive-plan → Memory
 memory-at c = memory-of (start c)
@@ -41,7 +41,7 @@ lent_at c = lent_of (start c)
 
 -- the plan that was made
 planned : (c : After-plan_receive-plan) {p : Plan} → c.plan_receive-plan.result ≡ p → receive_plan (memory-at c) (lent_at c) ≡ p
-planned c e = plan-by (memory-at c) (lent_at c) (handed-in (goal.at.After-plan_receive-plan c).After-shared_slice_known-4-1) ∙ sym (c.plan_receive-plan.ensures (memory-at c) (lent_at c)) ∙ e
+planned c e = plan-by (memory-at c) (lent_at c) (handed-in (goal.at.After-plan_receive-plan c).Else-not-hands_fit) ∙ sym (c.plan_receive-plan.ensures (memory-at c) (lent_at c)) ∙ e
 
 pub returns-then-not-hands_fit : goal.returns-then-not-hands_fit
 unfolding carried
@@ -52,100 +52,83 @@ returns-then-not-hands_fit c =
 
 pub plan_receive-plan-requires : goal.plan_receive-plan-requires
 plan_receive-plan-requires c =
-    let e = (goal.at.plan_receive-plan-requires c).After-shared_slice_known-4-1 in
+    let e = (goal.at.plan_receive-plan-requires c).Else-not-hands_fit in
     plan-needs (memory-of (tested e)) (lent_of (tested e)) (handed-in e)
 
 pub commit_flood-requires : goal.commit_flood-requires
 commit_flood-requires c =
-    let k = c in
     let m = (goal.at.commit_flood-requires c).After-plan_receive-plan in
-    flood-needs (memory-at m) (lent_at m) (planned m k.in-Flood.is)
+    flood-needs (memory-at m) (lent_at m) (planned m c.in-Flood.is)
 
 pub commit_revoke-requires : goal.commit_revoke-requires
 commit_revoke-requires c =
-    let k = c in
     let m = (goal.at.commit_revoke-requires c).After-plan_receive-plan in
-    revoke-needs (memory-at m) (lent_at m) (planned m k.in-Revoke.is)
+    revoke-needs (memory-at m) (lent_at m) (planned m c.in-Revoke.is)
 
 pub commit_learn-requires : goal.commit_learn-requires
 commit_learn-requires c =
-    let k = c in
     let m = (goal.at.commit_learn-requires c).After-plan_receive-plan in
-    learn-needs (memory-at m) (lent_at m) (planned m k.in-Learn.is)
+    learn-needs (memory-at m) (lent_at m) (planned m c.in-Learn.is)
 
 pub commit_free-requires : goal.commit_free-requires
 commit_free-requires c =
-    let k = c in
     let m = (goal.at.commit_free-requires c).After-plan_receive-plan in
-    free-needs (memory-at m) (lent_at m) (planned m k.in-Free.is)
+    free-needs (memory-at m) (lent_at m) (planned m c.in-Free.is)
 
 pub commit_cpa-requires : goal.commit_cpa-requires
 commit_cpa-requires c =
-    let all = let k = c in
     let m = (goal.at.commit_cpa-requires c).After-plan_receive-plan in
-    let p = planned m k.in-Certify.is in
-    cpa-needs (memory-at m) (lent_at m) p in record { by_index = all.0; cpas_in_bounds = all.1 }
+    let p = planned m c.in-Certify.is in
+    let all = cpa-needs (memory-at m) (lent_at m) p in record { by_index = all.0; cpas_in_bounds = all.1 }
 
 pub commit_show-requires : goal.commit_show-requires
 commit_show-requires c =
-    let all = let k = c in
-    let m = (goal.at.commit_show-requires c).Else-not-hands_fit in
-    show-needs (memory-at m) (lent_at m) (planned m k.in-Show.is) in record { used_bound = all.0; own_value = all.1 }
+    let m = (goal.at.commit_show-requires c).After-plan_receive-plan in
+    let all = show-needs (memory-at m) (lent_at m) (planned m c.in-Show.is) in record { used_bound = all.0; own_value = all.1 }
 
 pub returns-in-Refuse : goal.returns-in-Refuse
 unfolding carried
 returns-in-Refuse c =
-    let k = c in
     let m = (goal.at.returns-in-Refuse c).After-plan_receive-plan in
-    rw c.answer_of-in-Refuse.ensures (sym (call_by (memory-at m) (lent_at m) (planned m k.in-Refuse.is)))
+    rw c.answer_of-in-Refuse.ensures (sym (call_by (memory-at m) (lent_at m) (planned m c.in-Refuse.is)))
 
 pub returns-in-Flood : goal.returns-in-Flood
 unfolding carried
 returns-in-Flood c =
     let w = c.commit_flood.ensures in
-    let k = c in
     let m = (goal.at.returns-in-Flood c).After-plan_receive-plan in
-    rw (w.0, w.1.0, w.1.1) (sym (call_by (memory-at m) (lent_at m) (planned m k.in-Flood.is)))
+    rw (w.value, w.waiting_after, w.output_after) (sym (call_by (memory-at m) (lent_at m) (planned m c.in-Flood.is)))
 
 pub returns-in-Revoke : goal.returns-in-Revoke
 unfolding carried
 returns-in-Revoke c =
     let w = c.commit_revoke.ensures in
-    let k = c in
     let m = (goal.at.returns-in-Revoke c).After-plan_receive-plan in
-    rw (w.0, w.1.0, w.1.1.0, w.1.1.1.0, w.1.1.1.1) (sym (call_by (memory-at m) (lent_at m) (planned m k.in-Revoke.is)))
+    rw (w.value, w.cache_after, w.firsts_after, w.waiting_after, w.output_after) (sym (call_by (memory-at m) (lent_at m) (planned m c.in-Revoke.is)))
 
 pub returns-in-Learn : goal.returns-in-Learn
 unfolding carried
 returns-in-Learn c =
-    let d = c in
-    let k = c in
     let m = (goal.at.returns-in-Learn c).After-plan_receive-plan in
-    let w = d.commit_learn.ensures in
-    rw (c.answer_of-in-Learn.ensures, w.0, w.1.0, w.1.1) (sym (call_by (memory-at m) (lent_at m) (planned m k.in-Learn.is)))
+    let w = c.commit_learn.ensures in
+    rw (c.answer_of-in-Learn.ensures, w.cache_after, w.firsts_after, w.waiting_after) (sym (call_by (memory-at m) (lent_at m) (planned m c.in-Learn.is)))
 
 pub returns-in-Free : goal.returns-in-Free
 unfolding carried
 returns-in-Free c =
-    let d = c in
-    let k = c in
     let m = (goal.at.returns-in-Free c).After-plan_receive-plan in
-    let w = d.commit_free.ensures in
-    rw (c.answer_of-in-Free.ensures, w.0, w.1.0, w.1.1) (sym (call_by (memory-at m) (lent_at m) (planned m k.in-Free.is)))
+    let w = c.commit_free.ensures in
+    rw (c.answer_of-in-Free.ensures, w.cache_after, w.firsts_after, w.waiting_after) (sym (call_by (memory-at m) (lent_at m) (planned m c.in-Free.is)))
 
 pub returns-in-Certify : goal.returns-in-Certify
 unfolding carried
 returns-in-Certify c =
-    let d = c in
-    let k = c in
     let m = (goal.at.returns-in-Certify c).After-plan_receive-plan in
-    rw (d.commit_cpa.ensures.value, d.commit_cpa.ensures.output_after) (sym (call_by (memory-at m) (lent_at m) (planned m k.in-Certify.is)))
+    rw (c.commit_cpa.ensures.value, c.commit_cpa.ensures.output_after) (sym (call_by (memory-at m) (lent_at m) (planned m c.in-Certify.is)))
 
 pub returns-in-Show : goal.returns-in-Show
 unfolding carried
 returns-in-Show c =
-    let d = c in
-    let w = d.commit_show.ensures in
-    let k = c in
-    let m = (goal.at.returns-in-Show c).Else-not-hands_fit in
-    rw (w.0, w.1.0, w.1.1) (sym (call_by (memory-at m) (lent_at m) (planned m k.in-Show.is)))
+    let w = c.commit_show.ensures in
+    let m = (goal.at.returns-in-Show c).After-plan_receive-plan in
+    rw (w.value, w.waiting_after, w.output_after) (sym (call_by (memory-at m) (lent_at m) (planned m c.in-Show.is)))

@@ -32,7 +32,7 @@ no_word = refl
 ours : (c : In-Own)
     → 100 * c.in-Own.i + 100 ≤ length (start (goal.at.In-Own c).After-closest_record-sighted).args.own.now
 ours c =
-    let r = c.before.before.before in
+    let r = (goal.at.In-Own c).After-closest_record-sighted in
     let own = (start r).args.own.now in
     let w : c.in-Own.i < length (own_records own) =
     subst (Inside own (start r).args.cache.now) c.in-Own.is r.closest_record-sighted.ensures.inside in
@@ -41,7 +41,7 @@ ours c =
 inside : (c : In-Held)
     → 100 * c.in-Held.i + 100 ≤ length (start (goal.at.In-Held c).After-closest_record-sighted).args.cache.now
 inside c =
-    let r = c.before.before.before in
+    let r = (goal.at.In-Held c).After-closest_record-sighted in
     (subst (Inside (start r).args.own.now (start r).args.cache.now) c.in-Held.is r.closest_record-sighted.ensures.inside).1
 
 pub overflow_mul-at : goal.overflow_mul-at

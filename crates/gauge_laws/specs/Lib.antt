@@ -1,3 +1,3 @@
-pub mod Contracts
+pub mod Coincide
 pub mod Table
 pub mod Touched

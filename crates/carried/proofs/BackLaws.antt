@@ -2,18 +2,18 @@
 -- the calls. Assumes nothing.
 use mathlib.Core.Path.{◌≡◌, refl, sym, ap, ap₂, subst, ◌∙◌}
 use mathlib.Core.Bool.{Bool, true, false, not, cond, ◌&&◌, ◌||◌}
-use mathlib.Core.List.{List, [], ◌∷◌, ◌++◌}
+use mathlib.Core.List.{List, []}
 use mathlib.Core.Option.{some}
-use Prim.Native.Nat.{ℕ, ◌+◌, ◌≤◌, ◌<◌}
+use Prim.Native.Nat.{ℕ, ◌≤◌, ◌<◌}
 use native.Mathlib.Omega.{arith}
 use lib.Dec.{eqb, leb, ltb}
-use lib.Ieee.{Float, binary32, of_bits, to_bits}
+use lib.Ieee.{binary32, of_bits}
 use lib.Ieee.Bits.{to_bits-of_bits, of_bits-fits}
-use lib.ListN.{length, take, drop, get_or}
+use lib.ListN.{length, take, drop}
 use lib.Seq.{take_at}
 use borrow.Author.Tests.{eqb-true, leb-true, ltb-false, not-false}
 use Rattle.octet.specs.Number.{Bytes}
-use Rattle.octet.proofs.TestLaws.{both_true, and_true}
+use Rattle.octet.proofs.TestLaws.{both_true}
 use Rattle.refusal.specs.Table.{or_refuse}
 use Rattle.refusal.proofs.TableLaws.{both}
 use Rattle.wire_shapes.specs.Shapes.{Kind}
@@ -31,7 +31,7 @@ use Rattle.wire_read.specs.declared.Incoming.{Incoming}
 use Rattle.wire_read.specs.declared.Incoming.TheVariants as M
 use Rattle.wire_read.specs.declared.messages.Authority as T
 use Rattle.readings.specs.Depth.{allowed}
-use Rattle.readings.specs.Reading.{reading, kind_of, measure_of, is_kind, measured_as, image, fine, MeasuredFits, Typed}
+use Rattle.readings.specs.Reading.{reading, kind_of, measure_of, is_kind, measured_as, image, fine, MeasuredFits}
 use Rattle.readings.specs.Numbers.{number_refusals, reading_of}
 use Rattle.readings.specs.Unpack.{unpack_of}
 use Rattle.readings.proofs.Theorems.{reads_back}
@@ -41,7 +41,7 @@ use Rattle.readings.specs.declared.Reading.{Reading}
 use Rattle.readings.specs.declared.Unpacked.{Unpacked}
 use Rattle.readings.specs.declared.Unpacked.TheVariants.{Read, Refused}
 use Rattle.readings.proofs.DepthLaws.{allowed_no_nan}
-use Rattle.carried.specs.Carry.{carry, carry_handed, put, with_reading, carry_in, carry_as, carry_by, carry_call}
+use Rattle.carried.specs.Carry.{put, with_reading, carry_by, carry_call}
 use Rattle.carried.specs.declared.whole.Whole.{Whole}
 use Rattle.carried.specs.declared.whole.Whole.TheVariants.{Authority, Other}
 use Rattle.carried.specs.Statements.{Words, TakenBack}

@@ -8,8 +8,8 @@ use Prim.Native.Nat.{ℕ, ◌+◌, ◌≤◌}
 use native.Mathlib.Omega.{arith}
 use lib.Dec.{eqb, leb, ltb}
 use lib.Ieee.{Float, binary32, of_bits}
-use lib.ListN.{length, take, get_or}
-use borrow.Author.Tests.{eqb-true, leb-true}
+use lib.ListN.{length, take}
+use borrow.Author.Tests.{leb-true}
 use Rattle.octet.specs.Number.{Bytes, digits_le}
 use Rattle.octet.proofs.LittleLaws.{digits_le-lt}
 use Rattle.octet.proofs.TestLaws.{both_true}

@@ -9,16 +9,16 @@ taken_back = carried_back
 -- ---- which number is given when, and what is written
 
 pub carry_exactly : CarryExactly
-carry_exactly = exact.carry-exactly
+carry_exactly = exact.carry_exactly
 
 pub carry_keeps : CarryKeeps
-carry_keeps = exact.carry-keeps
+carry_keeps = exact.carry_keeps
 
 pub carry_writes : CarryWrites
-carry_writes = exact.carry-writes
+carry_writes = exact.carry_writes
 
 pub carry_first : CarryFirst
-carry_first = exact.carry-first
+carry_first = exact.carry_first
 
 pub take_exactly : TakeExactly
-take_exactly = exact.take-exactly
+take_exactly = exact.take_exactly

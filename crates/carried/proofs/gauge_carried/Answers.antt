@@ -1,6 +1,5 @@
 -- `carried::gauge_carried` meets its contract. Assumes nothing.
 use mathlib.Core.Path.{◌≡◌, ap, sym, ◌∙◌}
-use borrow.Author.Rules.{rules}
 use Rattle.wire_read.specs.Answers.{read_in}
 use Rattle.carried.specs.Whole.{whole_of}
 use Rattle.carried.proofs.CarryLaws.{whole_authority, take-other, take-authority}

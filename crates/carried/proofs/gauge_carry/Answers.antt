@@ -1,10 +1,9 @@
 -- `carried::gauge_carry` meets its contract. Assumes nothing.
 use mathlib.Core.Path.{◌≡◌, ap, sym, ◌∙◌}
-use borrow.Author.Rules.{rules}
 use Rattle.wire_read.specs.Answers.{read_in}
 use Rattle.carried.specs.Whole.{whole_of}
 use Rattle.carried.proofs.CarryLaws.{whole_authority, carry-other, carry-authority}
-use Rattle.carried.proofs.gauge_carry.Goals.{After-whole_of-found, In-Authority-2}
+use Rattle.carried.proofs.gauge_carry.Goals.{After-whole_of-found}
 use Rattle.carried.proofs.gauge_carry.Goals as goal
 
 -- what was found is what was read
@@ -20,5 +19,4 @@ returns-in-Other c = carry-other _ _ _ _ _ (wanted (goal.at.returns-in-Other c).
 
 pub returns-in-Authority : goal.returns-in-Authority
 returns-in-Authority c =
-    let found2 = c in
-    c.put_reading.ensures ∙ carry-authority _ _ _ _ _ (wanted (goal.at.In-Authority-2 found2).After-whole_of-found ∙ found2.in-Authority.is)
+    c.put_reading.ensures ∙ carry-authority _ _ _ _ _ (wanted (goal.at.returns-in-Authority c).After-whole_of-found ∙ c.in-Authority.is)

@@ -4,7 +4,6 @@ use Prim.Native.Nat.{◌≤◌}
 use native.Mathlib.Omega.{arith}
 use lib.ListN.{length}
 use lib.Seq.{length-take-le}
-use borrow.Author.Rules.{rules}
 use Rattle.carried.specs.Carry.{carry_handed}
 use Rattle.carried.specs.declared.Carry.{Carry}
 use Rattle.carried.proofs.CarryLaws.{not-refused, packed-fits, packed-left, packed-bytes, written_short, carried-as}
@@ -15,12 +14,10 @@ pack_allowed-packed-requires c = c.requires.measured_value
 
 pub slice_bounds-image-end : goal.slice_bounds-image-end
 slice_bounds-image-end c =
-    let pack-allowed = c in
-    let start = c in
     let q = c.in-Written.is in
-    let e = pack-allowed.pack_allowed-packed.ensures in
-    let g = start.requires.measured_value in
-    let left = pack-allowed.pack_allowed-packed.new.out in
+    let e = c.pack_allowed-packed.ensures in
+    let g = c.requires.measured_value in
+    let left = c.pack_allowed-packed.new.out in
     let short : c.in-Written.n ≤ length left =
     omega (arith, packed-fits _ _ _ _ g refl e _ q, packed-left _ _ _ _ g refl e) in
     short
@@ -37,19 +34,14 @@ told-requires c = written_short _ _ _ c.write_payload-done.ensures.answer
 
 pub returns-in-Refused : goal.returns-in-Refused
 returns-in-Refused c =
-    let pack-allowed = c in
-    let start = c in
-    not-refused _ _ _ _ start.requires.measured_value refl pack-allowed.pack_allowed-packed.ensures _ c.in-Refused.is
+    not-refused _ _ _ _ c.requires.measured_value refl c.pack_allowed-packed.ensures _ c.in-Refused.is
 
 pub returns-in-Written : goal.returns-in-Written
 returns-in-Written c =
-    let packed2 = c in
-    let known = c in
-    let start = c in
-    let q = packed2.in-Written.is in
-    let e = packed2.pack_allowed-packed.ensures in
-    let g = start.requires.measured_value in
+    let q = c.in-Written.is in
+    let e = c.pack_allowed-packed.ensures in
+    let g = c.requires.measured_value in
     let out = c.write_payload-done.new.out in
     ap (λ (x : Carry). carry_handed x out) c.told.ensures
-    ∙ carried-as _ _ (λ i. omega (arith, known.type_inv.d i)) _ start.requires.major_value _ _ _ _ _ (packed-bytes _ _ _ _ g refl e _ q)
+    ∙ carried-as _ _ (λ i. omega (arith, c.type_inv.d i)) _ c.requires.major_value _ _ _ _ _ (packed-bytes _ _ _ _ g refl e _ q)
     c.write_payload-done.ensures

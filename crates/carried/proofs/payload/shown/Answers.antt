@@ -1,6 +1,5 @@
 -- `carried::payload::shown` meets its contract. Assumes nothing.
 use mathlib.Core.Path.{ap, sym, ◌∙◌}
-use borrow.Author.Rules.{rules}
 use Rattle.carried.specs.Take.{taken_by}
 use Rattle.carried.proofs.payload.shown.Goals as goal
 

@@ -1,7 +1,6 @@
 -- `carried::payload::told` meets its contract. Assumes nothing.
 use mathlib.Core.Path.{ap}
 use Prim.Native.Nat.{ℕ}
-use borrow.Author.Rules.{rules}
 use Rattle.carried.proofs.payload.told.Goals as goal
 
 pub returns : goal.returns

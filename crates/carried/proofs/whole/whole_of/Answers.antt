@@ -1,6 +1,5 @@
 -- `carried::whole::whole_of` meets its contract. Assumes nothing.
 use mathlib.Core.Path.{ap, sym, ◌∙◌}
-use borrow.Author.Rules.{rules}
 use Rattle.carried.specs.declared.whole.Whole.TheVariants.{Other}
 use Rattle.carried.specs.Whole.{whole_of}
 use Rattle.carried.proofs.whole.whole_of.Goals as goal

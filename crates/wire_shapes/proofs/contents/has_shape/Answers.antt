@@ -8,10 +8,9 @@ use Rattle.wire_shapes.proofs.contents.has_shape.Goals as goal
 pub returns-in-Sized : goal.returns-in-Sized
 unfolding has_shape
 returns-in-Sized c =
-    let start = c in
-    let a = start.args in
+    let a = c.args in
     rw c.in-Sized.is
-    (ap (λ (k : ℕ). eqb k c.in-Sized.n) (sym (length_part a.start a.len a.d.now start.requires)))
+    (ap (λ (k : ℕ). eqb k c.in-Sized.n) (sym (length_part a.start a.len a.d.now c.requires)))
 
 pub returns-in-Any : goal.returns-in-Any
 unfolding has_shape

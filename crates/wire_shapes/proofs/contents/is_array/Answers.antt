@@ -57,9 +57,8 @@ returns-then-read_u16-whole c =
 
 pub returns-then-read_u16-element : goal.returns-then-read_u16-element
 returns-then-read_u16-element c =
-    let read-u16 = c in
-    let a = read-u16.args in
-    let w = ap (λ (n : ℕ). 8 + n * a.size) read-u16.read_u16-count.ensures in
+    let a = c.args in
+    let w = ap (λ (n : ℕ). 8 + n * a.size) c.read_u16-count.ensures in
     rw (
       array_in a.d.now a.start a.len (search rules) a.element a.size a.least a.most (omega arith),
       le-leb a.least (number_at a.start 2 a.d.now) (omega arith),
@@ -71,30 +70,28 @@ returns-then-read_u16-element c =
 
 pub returns-then-read_u16-size : goal.returns-then-read_u16-size
 returns-then-read_u16-size c =
-    let read-u162 = c in
-    let a = read-u162.args in
-    let w = ap (λ (n : ℕ). 8 + n * a.size) read-u162.read_u16-count.ensures in
+    let a = c.args in
+    let w = ap (λ (n : ℕ). 8 + n * a.size) c.read_u16-count.ensures in
     rw (
       array_in a.d.now a.start a.len (search rules) a.element a.size a.least a.most (omega arith),
       le-leb a.least (number_at a.start 2 a.d.now) (omega arith),
       le-leb (number_at a.start 2 a.d.now) a.most (omega arith),
       eq-eqb (number_at (a.start + 2) 2 a.d.now) (8 + (number_at a.start 2 a.d.now) * a.size)
-          (sym read-u162.read_u16.ensures ∙ c.if-read_u16-whole.false ∙ w),
+          (sym c.read_u16.ensures ∙ c.if-read_u16-whole.false ∙ w),
       eq-eqb (number_at (a.start + 4) 2 a.d.now) a.element (omega arith),
       ne_eqb (number_at (a.start + 6) 2 a.d.now) a.size (λ q. c.if-read_u16-size.true (c.read_u16-3.ensures ∙ q)),
     )
 
 pub returns : goal.returns
 returns c =
-    let read-u162 = c in
-    let a = read-u162.args in
-    let w = ap (λ (n : ℕ). 8 + n * a.size) read-u162.read_u16-count.ensures in
+    let a = c.args in
+    let w = ap (λ (n : ℕ). 8 + n * a.size) c.read_u16-count.ensures in
     rw (
       array_in a.d.now a.start a.len (search rules) a.element a.size a.least a.most (omega arith),
       le-leb a.least (number_at a.start 2 a.d.now) (omega arith),
       le-leb (number_at a.start 2 a.d.now) a.most (omega arith),
       eq-eqb (number_at (a.start + 2) 2 a.d.now) (8 + (number_at a.start 2 a.d.now) * a.size)
-          (sym read-u162.read_u16.ensures ∙ c.if-read_u16-whole.false ∙ w),
+          (sym c.read_u16.ensures ∙ c.if-read_u16-whole.false ∙ w),
       eq-eqb (number_at (a.start + 4) 2 a.d.now) a.element (omega arith),
       eq-eqb (number_at (a.start + 6) 2 a.d.now) a.size (omega arith),
     ) (ap (eqb a.len) w)

@@ -7,9 +7,8 @@ use Rattle.wire_fields.proofs.Cursor.any_or_none.Goals as goal
 pub returns-in-Whole : goal.returns-in-Whole
 unfolding has_shape
 returns-in-Whole c =
-    let start = c in
-    let a = start.args in
-    maybe-good a.d.now a.self.at a.number a.padded Any _ start.span.ensures _ _ _ start.in-Whole.is refl
+    let a = c.args in
+    maybe-good a.d.now a.self.at a.number a.padded Any _ c.span.ensures _ _ _ c.in-Whole.is refl
 
 pub returns-in-Other : goal.returns-in-Other
 returns-in-Other c =

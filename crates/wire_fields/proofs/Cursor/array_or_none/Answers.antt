@@ -17,19 +17,17 @@ is_array-requires c =
 pub returns-then-is_array : goal.returns-then-is_array
 unfolding has_shape
 returns-then-is_array c =
-    let start = c in
-    let a = start.args in
+    let a = c.args in
     maybe-good a.d.now a.self.at a.number a.padded (Array a.element a.size a.least a.most) _
-    start.span.ensures _ _ _ start.in-Whole.is
+    c.span.ensures _ _ _ c.in-Whole.is
     (sym c.is_array.ensures ∙ c.if-is_array.true)
 
 pub returns-else-is_array : goal.returns-else-is_array
 unfolding has_shape
 returns-else-is_array c =
-    let start = c in
-    let a = start.args in
+    let a = c.args in
     maybe-bad a.d.now a.self.at a.number a.padded (Array a.element a.size a.least a.most) _
-    start.span.ensures _ _ _ start.in-Whole.is
+    c.span.ensures _ _ _ c.in-Whole.is
     (sym c.is_array.ensures ∙ c.if-is_array.false)
 
 pub returns-in-Other : goal.returns-in-Other

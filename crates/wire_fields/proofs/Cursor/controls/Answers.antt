@@ -18,17 +18,15 @@ is_lookup-requires c =
 pub returns-then-is_lookup : goal.returns-then-is_lookup
 unfolding has_shape
 returns-then-is_lookup c =
-    let start = c in
-    let a = start.args in
-    need-good a.d.now a.self.at 0x45 false Lookup _ start.span.ensures _ _ _ start.in-Whole.is
+    let a = c.args in
+    need-good a.d.now a.self.at 0x45 false Lookup _ c.span.ensures _ _ _ c.in-Whole.is
     (sym c.is_lookup.ensures ∙ c.if-is_lookup.true)
 
 pub returns-else-is_lookup : goal.returns-else-is_lookup
 unfolding has_shape
 returns-else-is_lookup c =
-    let start = c in
-    let a = start.args in
-    need-bad a.d.now a.self.at 0x45 false Lookup _ start.span.ensures _ _ _ start.in-Whole.is
+    let a = c.args in
+    need-bad a.d.now a.self.at 0x45 false Lookup _ c.span.ensures _ _ _ c.in-Whole.is
     (sym c.is_lookup.ensures ∙ c.if-is_lookup.false)
 
 pub returns-in-Other : goal.returns-in-Other

@@ -18,17 +18,15 @@ is_entry-requires c =
 pub returns-then-is_entry : goal.returns-then-is_entry
 unfolding has_shape
 returns-then-is_entry c =
-    let start = c in
-    let a = start.args in
-    maybe-good a.d.now a.self.at 0x9A true Entry _ start.span.ensures _ _ _ start.in-Whole.is
+    let a = c.args in
+    maybe-good a.d.now a.self.at 0x9A true Entry _ c.span.ensures _ _ _ c.in-Whole.is
     (sym c.is_entry.ensures ∙ c.if-is_entry.true)
 
 pub returns-else-is_entry : goal.returns-else-is_entry
 unfolding has_shape
 returns-else-is_entry c =
-    let start = c in
-    let a = start.args in
-    maybe-bad a.d.now a.self.at 0x9A true Entry _ start.span.ensures _ _ _ start.in-Whole.is
+    let a = c.args in
+    maybe-bad a.d.now a.self.at 0x9A true Entry _ c.span.ensures _ _ _ c.in-Whole.is
     (sym c.is_entry.ensures ∙ c.if-is_entry.false)
 
 pub returns-in-Other : goal.returns-in-Other

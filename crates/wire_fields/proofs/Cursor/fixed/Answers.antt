@@ -18,23 +18,20 @@ returns-then-d-at c =
 
 pub returns-then-d-next : goal.returns-then-d-next
 returns-then-d-next c =
-    let start = c in
-    let a = start.args in
+    let a = c.args in
     fixed-past a.d.now a.self.at a.number a.padded a.len _ _ refl c.padding.ensures.value
-    (λ i. omega (arith, start.type_inv.d i)) (omega arith) (omega arith)
+    (λ i. omega (arith, c.type_inv.d i)) (omega arith) (omega arith)
 
 pub returns-then-read_u32-head : goal.returns-then-read_u32-head
 returns-then-read_u32-head c =
-    let start = c in
-    let a = start.args in
+    let a = c.args in
     fixed-other a.d.now a.self.at a.number a.padded a.len (a.len + 4) _ refl c.padding.ensures.value
-    (λ i. omega (arith, start.type_inv.d i)) (omega arith)
+    (λ i. omega (arith, c.type_inv.d i)) (omega arith)
     (λ e. c.if-read_u32-head.true (c.read_u32.ensures ∙ e))
 
 pub returns : goal.returns
 returns c =
-    let start = c in
-    let a = start.args in
+    let a = c.args in
     fixed-good a.d.now a.self.at a.number a.padded a.len (a.len + 4) _ refl c.padding.ensures.value
-    (λ i. omega (arith, start.type_inv.d i)) (omega arith) (search rules) (omega arith)
+    (λ i. omega (arith, c.type_inv.d i)) (omega arith) (search rules) (omega arith)
     (sym c.read_u32.ensures ∙ c.if-read_u32-head.false)

@@ -9,22 +9,20 @@ use Rattle.wire_fields.proofs.Cursor.fixed_or_none.Goals as goal
 pub returns-then-len-wanted : goal.returns-then-len-wanted
 unfolding has_shape
 returns-then-len-wanted c =
-    let start = c in
-    let a = start.args in
-    let q = sym start.span.ensures ∙ start.in-Whole.is in
+    let a = c.args in
+    let q = sym c.span.ensures ∙ c.in-Whole.is in
     let m = span-length a.d.now a.self.at a.number a.padded _ _ _ q in
-    maybe-good a.d.now a.self.at a.number a.padded (Sized a.wanted) _ start.span.ensures _ _ _
-    start.in-Whole.is (eq-eqb _ _ (m ∙ c.if-len-wanted.true))
+    maybe-good a.d.now a.self.at a.number a.padded (Sized a.wanted) _ c.span.ensures _ _ _
+    c.in-Whole.is (eq-eqb _ _ (m ∙ c.if-len-wanted.true))
 
 pub returns-else-len-wanted : goal.returns-else-len-wanted
 unfolding has_shape
 returns-else-len-wanted c =
-    let start = c in
-    let a = start.args in
-    let q = sym start.span.ensures ∙ start.in-Whole.is in
+    let a = c.args in
+    let q = sym c.span.ensures ∙ c.in-Whole.is in
     let m = span-length a.d.now a.self.at a.number a.padded _ _ _ q in
-    maybe-bad a.d.now a.self.at a.number a.padded (Sized a.wanted) _ start.span.ensures _ _ _
-    start.in-Whole.is
+    maybe-bad a.d.now a.self.at a.number a.padded (Sized a.wanted) _ c.span.ensures _ _ _
+    c.in-Whole.is
     (ne_eqb _ _ (λ e. c.if-len-wanted.false (sym m ∙ e)))
 
 pub returns-in-Other : goal.returns-in-Other

@@ -18,17 +18,15 @@ is_split-requires c =
 pub returns-then-is_split : goal.returns-then-is_split
 unfolding has_shape
 returns-then-is_split c =
-    let start = c in
-    let a = start.args in
-    need-good a.d.now a.self.at 0x98 false Split _ start.span.ensures _ _ _ start.in-Whole.is
+    let a = c.args in
+    need-good a.d.now a.self.at 0x98 false Split _ c.span.ensures _ _ _ c.in-Whole.is
     (sym c.is_split.ensures ∙ c.if-is_split.true)
 
 pub returns-else-is_split : goal.returns-else-is_split
 unfolding has_shape
 returns-else-is_split c =
-    let start = c in
-    let a = start.args in
-    need-bad a.d.now a.self.at 0x98 false Split _ start.span.ensures _ _ _ start.in-Whole.is
+    let a = c.args in
+    need-bad a.d.now a.self.at 0x98 false Split _ c.span.ensures _ _ _ c.in-Whole.is
     (sym c.is_split.ensures ∙ c.if-is_split.false)
 
 pub returns-in-Other : goal.returns-in-Other

@@ -25,30 +25,24 @@ returns-in_default-fixed_or_none c =
 pub returns-then-c-d : goal.returns-then-c-d
 unfolding incoming_of fields_as joined_fields sized places_at
 returns-then-c-d c =
-    let flags = c in
-    let acked = c in
     rw (
-      sym acked.fixed.ensures ∙ acked.in-Field.is,
-      sym flags.fixed_or_none.ensures ∙ flags.in-Taken.is,
+      sym c.fixed.ensures ∙ c.in-Field.is,
+      sym c.fixed_or_none.ensures ∙ c.in-Taken.is,
       ne_eqb _ _ c.if-c-d.true,
     )
 
 pub read_u32-requires : goal.read_u32-requires
 read_u32-requires c =
-    let acked = c in
-    let start = c in
-    let q = need-four start.args.d.now _ _ _ (Sized 4) sized_four _ _ _
-    (sym acked.fixed.ensures ∙ acked.in-Field.is) in
+    let q = need-four c.args.d.now _ _ _ (Sized 4) sized_four _ _ _
+    (sym c.fixed.ensures ∙ c.in-Field.is) in
     omega (arith, q.0, q.1)
 
 pub returns : goal.returns
 unfolding incoming_of fields_as joined_fields sized places_at
 returns c =
-    let flags = c in
-    let acked = c in
     rw (
-      sym acked.fixed.ensures ∙ acked.in-Field.is,
-      sym flags.fixed_or_none.ensures ∙ flags.in-Taken.is,
+      sym c.fixed.ensures ∙ c.in-Field.is,
+      sym c.fixed_or_none.ensures ∙ c.in-Taken.is,
       eq-eqb _ _ c.if-c-d.false,
       c.head.ensures,
       c.read_u32.ensures,

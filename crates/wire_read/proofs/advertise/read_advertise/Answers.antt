@@ -26,45 +26,35 @@ returns-in_default-array c =
 pub returns-in_default-fixed : goal.returns-in_default-fixed
 unfolding incoming_of fields_as joined_fields sized places_at
 returns-in_default-fixed c =
-    let keys = c in
-    let acked = c in
     rw (
-      sym acked.fixed.ensures ∙ acked.in-Field.is,
-      sym keys.array.ensures ∙ keys.in-Field-array.is,
+      sym c.fixed.ensures ∙ c.in-Field.is,
+      sym c.array.ensures ∙ c.in-Field-array.is,
       sym c.fixed-2.ensures ∙ c.in_default-fixed.is,
     )
 
 pub returns-then-c-d : goal.returns-then-c-d
 unfolding incoming_of fields_as joined_fields sized places_at
 returns-then-c-d c =
-    let nonce = c in
-    let keys = c in
-    let acked = c in
     rw (
-      sym acked.fixed.ensures ∙ acked.in-Field.is,
-      sym keys.array.ensures ∙ keys.in-Field-array.is,
-      sym nonce.fixed-2.ensures ∙ nonce.in-Field-fixed.is,
+      sym c.fixed.ensures ∙ c.in-Field.is,
+      sym c.array.ensures ∙ c.in-Field-array.is,
+      sym c.fixed-2.ensures ∙ c.in-Field-fixed.is,
       ne_eqb _ _ c.if-c-d.true,
     )
 
 pub read_u32-requires : goal.read_u32-requires
 read_u32-requires c =
-    let acked = c in
-    let start = c in
-    let q = need-four start.args.d.now _ _ _ (Sized 4) sized_four _ _ _
-    (sym acked.fixed.ensures ∙ acked.in-Field.is) in
+    let q = need-four c.args.d.now _ _ _ (Sized 4) sized_four _ _ _
+    (sym c.fixed.ensures ∙ c.in-Field.is) in
     omega (arith, q.0, q.1)
 
 pub returns : goal.returns
 unfolding incoming_of fields_as joined_fields sized places_at
 returns c =
-    let nonce = c in
-    let keys = c in
-    let acked = c in
     rw (
-      sym acked.fixed.ensures ∙ acked.in-Field.is,
-      sym keys.array.ensures ∙ keys.in-Field-array.is,
-      sym nonce.fixed-2.ensures ∙ nonce.in-Field-fixed.is,
+      sym c.fixed.ensures ∙ c.in-Field.is,
+      sym c.array.ensures ∙ c.in-Field-array.is,
+      sym c.fixed-2.ensures ∙ c.in-Field-fixed.is,
       eq-eqb _ _ c.if-c-d.false,
       c.head.ensures,
       c.read_u32.ensures,

@@ -24,94 +24,68 @@ returns-in_default-fixed c =
 pub returns-in_default-any_or_none : goal.returns-in_default-any_or_none
 unfolding incoming_of fields_as joined_fields sized places_at
 returns-in_default-any_or_none c =
-    let validate = c in
-    let controls = c in
     rw (
-      sym controls.fixed.ensures ∙ controls.in-Field.is,
-      sym validate.fixed-2.ensures ∙ validate.in-Field-fixed.is,
+      sym c.fixed.ensures ∙ c.in-Field.is,
+      sym c.fixed-2.ensures ∙ c.in-Field-fixed.is,
       sym c.any_or_none.ensures ∙ c.in_default-any_or_none.is,
     )
 
 pub returns-in_default-any_or_none-2 : goal.returns-in_default-any_or_none-2
 unfolding incoming_of fields_as joined_fields sized places_at
 returns-in_default-any_or_none-2 c =
-    let token = c in
-    let validate = c in
-    let controls = c in
     rw (
-      sym controls.fixed.ensures ∙ controls.in-Field.is,
-      sym validate.fixed-2.ensures ∙ validate.in-Field-fixed.is,
-      sym token.any_or_none.ensures ∙ token.in-Taken.is,
+      sym c.fixed.ensures ∙ c.in-Field.is,
+      sym c.fixed-2.ensures ∙ c.in-Field-fixed.is,
+      sym c.any_or_none.ensures ∙ c.in-Taken.is,
       sym c.any_or_none-2.ensures ∙ c.in_default-any_or_none-2.is,
     )
 
 pub returns-in_default-entry_or_none : goal.returns-in_default-entry_or_none
 unfolding incoming_of fields_as joined_fields sized places_at
 returns-in_default-entry_or_none c =
-    let revoke = c in
-    let token = c in
-    let validate = c in
-    let controls = c in
     rw (
-      sym controls.fixed.ensures ∙ controls.in-Field.is,
-      sym validate.fixed-2.ensures ∙ validate.in-Field-fixed.is,
-      sym token.any_or_none.ensures ∙ token.in-Taken.is,
-      sym revoke.any_or_none-2.ensures ∙ revoke.in-Taken-any_or_none.is,
+      sym c.fixed.ensures ∙ c.in-Field.is,
+      sym c.fixed-2.ensures ∙ c.in-Field-fixed.is,
+      sym c.any_or_none.ensures ∙ c.in-Taken.is,
+      sym c.any_or_none-2.ensures ∙ c.in-Taken-any_or_none.is,
       sym c.entry_or_none.ensures ∙ c.in_default-entry_or_none.is,
     )
 
 pub returns-in_default-array_or_none : goal.returns-in_default-array_or_none
 unfolding incoming_of fields_as joined_fields sized places_at
 returns-in_default-array_or_none c =
-    let entry = c in
-    let revoke = c in
-    let token = c in
-    let validate = c in
-    let controls = c in
     rw (
-      sym controls.fixed.ensures ∙ controls.in-Field.is,
-      sym validate.fixed-2.ensures ∙ validate.in-Field-fixed.is,
-      sym token.any_or_none.ensures ∙ token.in-Taken.is,
-      sym revoke.any_or_none-2.ensures ∙ revoke.in-Taken-any_or_none.is,
-      sym entry.entry_or_none.ensures ∙ entry.in-Taken-entry_or_none.is,
+      sym c.fixed.ensures ∙ c.in-Field.is,
+      sym c.fixed-2.ensures ∙ c.in-Field-fixed.is,
+      sym c.any_or_none.ensures ∙ c.in-Taken.is,
+      sym c.any_or_none-2.ensures ∙ c.in-Taken-any_or_none.is,
+      sym c.entry_or_none.ensures ∙ c.in-Taken-entry_or_none.is,
       sym c.array_or_none.ensures ∙ c.in_default-array_or_none.is,
     )
 
 pub returns-then-c-d : goal.returns-then-c-d
 unfolding incoming_of fields_as joined_fields sized places_at
 returns-then-c-d c =
-    let reached = c in
-    let entry = c in
-    let revoke = c in
-    let token = c in
-    let validate = c in
-    let controls = c in
     rw (
-      sym controls.fixed.ensures ∙ controls.in-Field.is,
-      sym validate.fixed-2.ensures ∙ validate.in-Field-fixed.is,
-      sym token.any_or_none.ensures ∙ token.in-Taken.is,
-      sym revoke.any_or_none-2.ensures ∙ revoke.in-Taken-any_or_none.is,
-      sym entry.entry_or_none.ensures ∙ entry.in-Taken-entry_or_none.is,
-      sym reached.array_or_none.ensures ∙ reached.in-Taken-array_or_none.is,
+      sym c.fixed.ensures ∙ c.in-Field.is,
+      sym c.fixed-2.ensures ∙ c.in-Field-fixed.is,
+      sym c.any_or_none.ensures ∙ c.in-Taken.is,
+      sym c.any_or_none-2.ensures ∙ c.in-Taken-any_or_none.is,
+      sym c.entry_or_none.ensures ∙ c.in-Taken-entry_or_none.is,
+      sym c.array_or_none.ensures ∙ c.in-Taken-array_or_none.is,
       ne_eqb _ _ c.if-c-d.true,
     )
 
 pub returns-then-not-just_one : goal.returns-then-not-just_one
 unfolding incoming_of fields_as joined_fields sized places_at
 returns-then-not-just_one c =
-    let reached = c in
-    let entry = c in
-    let revoke = c in
-    let token = c in
-    let validate = c in
-    let controls = c in
     rw (
-      sym controls.fixed.ensures ∙ controls.in-Field.is,
-      sym validate.fixed-2.ensures ∙ validate.in-Field-fixed.is,
-      sym token.any_or_none.ensures ∙ token.in-Taken.is,
-      sym revoke.any_or_none-2.ensures ∙ revoke.in-Taken-any_or_none.is,
-      sym entry.entry_or_none.ensures ∙ entry.in-Taken-entry_or_none.is,
-      sym reached.array_or_none.ensures ∙ reached.in-Taken-array_or_none.is,
+      sym c.fixed.ensures ∙ c.in-Field.is,
+      sym c.fixed-2.ensures ∙ c.in-Field-fixed.is,
+      sym c.any_or_none.ensures ∙ c.in-Taken.is,
+      sym c.any_or_none-2.ensures ∙ c.in-Taken-any_or_none.is,
+      sym c.entry_or_none.ensures ∙ c.in-Taken-entry_or_none.is,
+      sym c.array_or_none.ensures ∙ c.in-Taken-array_or_none.is,
       eq-eqb _ _ c.if-c-d.false,
       present_value,
       present_value,
@@ -120,27 +94,18 @@ returns-then-not-just_one c =
 
 pub head-requires : goal.head-requires
 head-requires c =
-    let revoke = c in
-    let controls = c in
-    let start = c in
-    start.requires
+    c.requires
 
 pub returns : goal.returns
 unfolding incoming_of fields_as joined_fields sized places_at
 returns c =
-    let reached = c in
-    let entry = c in
-    let revoke = c in
-    let token = c in
-    let validate = c in
-    let controls = c in
     rw (
-      sym controls.fixed.ensures ∙ controls.in-Field.is,
-      sym validate.fixed-2.ensures ∙ validate.in-Field-fixed.is,
-      sym token.any_or_none.ensures ∙ token.in-Taken.is,
-      sym revoke.any_or_none-2.ensures ∙ revoke.in-Taken-any_or_none.is,
-      sym entry.entry_or_none.ensures ∙ entry.in-Taken-entry_or_none.is,
-      sym reached.array_or_none.ensures ∙ reached.in-Taken-array_or_none.is,
+      sym c.fixed.ensures ∙ c.in-Field.is,
+      sym c.fixed-2.ensures ∙ c.in-Field-fixed.is,
+      sym c.any_or_none.ensures ∙ c.in-Taken.is,
+      sym c.any_or_none-2.ensures ∙ c.in-Taken-any_or_none.is,
+      sym c.entry_or_none.ensures ∙ c.in-Taken-entry_or_none.is,
+      sym c.array_or_none.ensures ∙ c.in-Taken-array_or_none.is,
       eq-eqb _ _ c.if-c-d.false,
       present_value,
       present_value,

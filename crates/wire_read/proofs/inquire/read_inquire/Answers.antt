@@ -23,101 +23,72 @@ returns-in_default-fixed c =
 pub returns-in_default-fixed_or_none : goal.returns-in_default-fixed_or_none
 unfolding incoming_of fields_as joined_fields sized places_at
 returns-in_default-fixed_or_none c =
-    let validate = c in
-    let flags = c in
     rw (
-      sym flags.fixed.ensures ∙ flags.in-Field.is,
-      sym validate.fixed-2.ensures ∙ validate.in-Field-fixed.is,
+      sym c.fixed.ensures ∙ c.in-Field.is,
+      sym c.fixed-2.ensures ∙ c.in-Field-fixed.is,
       sym c.fixed_or_none.ensures ∙ c.in_default-fixed_or_none.is,
     )
 
 pub returns-in_default-any_or_none : goal.returns-in_default-any_or_none
 unfolding incoming_of fields_as joined_fields sized places_at
 returns-in_default-any_or_none c =
-    let nonce = c in
-    let validate = c in
-    let flags = c in
     rw (
-      sym flags.fixed.ensures ∙ flags.in-Field.is,
-      sym validate.fixed-2.ensures ∙ validate.in-Field-fixed.is,
-      sym nonce.fixed_or_none.ensures ∙ nonce.in-Taken.is,
+      sym c.fixed.ensures ∙ c.in-Field.is,
+      sym c.fixed-2.ensures ∙ c.in-Field-fixed.is,
+      sym c.fixed_or_none.ensures ∙ c.in-Taken.is,
       sym c.any_or_none.ensures ∙ c.in_default-any_or_none.is,
     )
 
 pub returns-in_default-any_or_none-2 : goal.returns-in_default-any_or_none-2
 unfolding incoming_of fields_as joined_fields sized places_at
 returns-in_default-any_or_none-2 c =
-    let credential = c in
-    let nonce = c in
-    let validate = c in
-    let flags = c in
     rw (
-      sym flags.fixed.ensures ∙ flags.in-Field.is,
-      sym validate.fixed-2.ensures ∙ validate.in-Field-fixed.is,
-      sym nonce.fixed_or_none.ensures ∙ nonce.in-Taken.is,
-      sym credential.any_or_none.ensures ∙ credential.in-Taken-any_or_none.is,
+      sym c.fixed.ensures ∙ c.in-Field.is,
+      sym c.fixed-2.ensures ∙ c.in-Field-fixed.is,
+      sym c.fixed_or_none.ensures ∙ c.in-Taken.is,
+      sym c.any_or_none.ensures ∙ c.in-Taken-any_or_none.is,
       sym c.any_or_none-2.ensures ∙ c.in_default-any_or_none-2.is,
     )
 
 pub returns-in_default-any_or_none-3 : goal.returns-in_default-any_or_none-3
 unfolding incoming_of fields_as joined_fields sized places_at
 returns-in_default-any_or_none-3 c =
-    let signature = c in
-    let credential = c in
-    let nonce = c in
-    let validate = c in
-    let flags = c in
     rw (
-      sym flags.fixed.ensures ∙ flags.in-Field.is,
-      sym validate.fixed-2.ensures ∙ validate.in-Field-fixed.is,
-      sym nonce.fixed_or_none.ensures ∙ nonce.in-Taken.is,
-      sym credential.any_or_none.ensures ∙ credential.in-Taken-any_or_none.is,
-      sym signature.any_or_none-2.ensures ∙ signature.in-Taken-any_or_none-2.is,
+      sym c.fixed.ensures ∙ c.in-Field.is,
+      sym c.fixed-2.ensures ∙ c.in-Field-fixed.is,
+      sym c.fixed_or_none.ensures ∙ c.in-Taken.is,
+      sym c.any_or_none.ensures ∙ c.in-Taken-any_or_none.is,
+      sym c.any_or_none-2.ensures ∙ c.in-Taken-any_or_none-2.is,
       sym c.any_or_none-3.ensures ∙ c.in_default-any_or_none-3.is,
     )
 
 pub returns-then-c-d : goal.returns-then-c-d
 unfolding incoming_of fields_as joined_fields sized places_at
 returns-then-c-d c =
-    let key = c in
-    let signature = c in
-    let credential = c in
-    let nonce = c in
-    let validate = c in
-    let flags = c in
     rw (
-      sym flags.fixed.ensures ∙ flags.in-Field.is,
-      sym validate.fixed-2.ensures ∙ validate.in-Field-fixed.is,
-      sym nonce.fixed_or_none.ensures ∙ nonce.in-Taken.is,
-      sym credential.any_or_none.ensures ∙ credential.in-Taken-any_or_none.is,
-      sym signature.any_or_none-2.ensures ∙ signature.in-Taken-any_or_none-2.is,
-      sym key.any_or_none-3.ensures ∙ key.in-Taken-any_or_none-3.is,
+      sym c.fixed.ensures ∙ c.in-Field.is,
+      sym c.fixed-2.ensures ∙ c.in-Field-fixed.is,
+      sym c.fixed_or_none.ensures ∙ c.in-Taken.is,
+      sym c.any_or_none.ensures ∙ c.in-Taken-any_or_none.is,
+      sym c.any_or_none-2.ensures ∙ c.in-Taken-any_or_none-2.is,
+      sym c.any_or_none-3.ensures ∙ c.in-Taken-any_or_none-3.is,
       ne_eqb _ _ c.if-c-d.true,
     )
 
 pub head-requires : goal.head-requires
 head-requires c =
-    let credential = c in
-    let flags = c in
-    let start = c in
-    start.requires
+    c.requires
 
 pub returns : goal.returns
 unfolding incoming_of fields_as joined_fields sized places_at
 returns c =
-    let key = c in
-    let signature = c in
-    let credential = c in
-    let nonce = c in
-    let validate = c in
-    let flags = c in
     rw (
-      sym flags.fixed.ensures ∙ flags.in-Field.is,
-      sym validate.fixed-2.ensures ∙ validate.in-Field-fixed.is,
-      sym nonce.fixed_or_none.ensures ∙ nonce.in-Taken.is,
-      sym credential.any_or_none.ensures ∙ credential.in-Taken-any_or_none.is,
-      sym signature.any_or_none-2.ensures ∙ signature.in-Taken-any_or_none-2.is,
-      sym key.any_or_none-3.ensures ∙ key.in-Taken-any_or_none-3.is,
+      sym c.fixed.ensures ∙ c.in-Field.is,
+      sym c.fixed-2.ensures ∙ c.in-Field-fixed.is,
+      sym c.fixed_or_none.ensures ∙ c.in-Taken.is,
+      sym c.any_or_none.ensures ∙ c.in-Taken-any_or_none.is,
+      sym c.any_or_none-2.ensures ∙ c.in-Taken-any_or_none-2.is,
+      sym c.any_or_none-3.ensures ∙ c.in-Taken-any_or_none-3.is,
       eq-eqb _ _ c.if-c-d.false,
       c.head.ensures,
       c.flag.ensures,

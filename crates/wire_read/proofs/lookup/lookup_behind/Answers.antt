@@ -13,90 +13,67 @@ returns-in_default c =
 pub returns-in_default-array : goal.returns-in_default-array
 unfolding places_at
 returns-in_default-array c =
-    let entry = c in
     rw (
-      sym entry.entry_or_none.ensures ∙ entry.in-Taken.is,
+      sym c.entry_or_none.ensures ∙ c.in-Taken.is,
       sym c.array.ensures ∙ c.in_default-array.is,
     )
 
 pub returns-in_default-any_or_none : goal.returns-in_default-any_or_none
 unfolding places_at
 returns-in_default-any_or_none c =
-    let path = c in
-    let entry = c in
     rw (
-      sym entry.entry_or_none.ensures ∙ entry.in-Taken.is,
-      sym path.array.ensures ∙ path.in-Field.is,
+      sym c.entry_or_none.ensures ∙ c.in-Taken.is,
+      sym c.array.ensures ∙ c.in-Field.is,
       sym c.any_or_none.ensures ∙ c.in_default-any_or_none.is,
     )
 
 pub returns-in_default-any_or_none-2 : goal.returns-in_default-any_or_none-2
 unfolding places_at
 returns-in_default-any_or_none-2 c =
-    let credential = c in
-    let path = c in
-    let entry = c in
     rw (
-      sym entry.entry_or_none.ensures ∙ entry.in-Taken.is,
-      sym path.array.ensures ∙ path.in-Field.is,
-      sym credential.any_or_none.ensures ∙ credential.in-Taken-any_or_none.is,
+      sym c.entry_or_none.ensures ∙ c.in-Taken.is,
+      sym c.array.ensures ∙ c.in-Field.is,
+      sym c.any_or_none.ensures ∙ c.in-Taken-any_or_none.is,
       sym c.any_or_none-2.ensures ∙ c.in_default-any_or_none-2.is,
     )
 
 pub returns-in_default-any_or_none-3 : goal.returns-in_default-any_or_none-3
 unfolding places_at
 returns-in_default-any_or_none-3 c =
-    let signature = c in
-    let credential = c in
-    let path = c in
-    let entry = c in
     rw (
-      sym entry.entry_or_none.ensures ∙ entry.in-Taken.is,
-      sym path.array.ensures ∙ path.in-Field.is,
-      sym credential.any_or_none.ensures ∙ credential.in-Taken-any_or_none.is,
-      sym signature.any_or_none-2.ensures ∙ signature.in-Taken-any_or_none-2.is,
+      sym c.entry_or_none.ensures ∙ c.in-Taken.is,
+      sym c.array.ensures ∙ c.in-Field.is,
+      sym c.any_or_none.ensures ∙ c.in-Taken-any_or_none.is,
+      sym c.any_or_none-2.ensures ∙ c.in-Taken-any_or_none-2.is,
       sym c.any_or_none-3.ensures ∙ c.in_default-any_or_none-3.is,
     )
 
 pub returns-then-c-d : goal.returns-then-c-d
 unfolding places_at
 returns-then-c-d c =
-    let key = c in
-    let signature = c in
-    let credential = c in
-    let path = c in
-    let entry = c in
     rw (
-      sym entry.entry_or_none.ensures ∙ entry.in-Taken.is,
-      sym path.array.ensures ∙ path.in-Field.is,
-      sym credential.any_or_none.ensures ∙ credential.in-Taken-any_or_none.is,
-      sym signature.any_or_none-2.ensures ∙ signature.in-Taken-any_or_none-2.is,
-      sym key.any_or_none-3.ensures ∙ key.in-Taken-any_or_none-3.is,
+      sym c.entry_or_none.ensures ∙ c.in-Taken.is,
+      sym c.array.ensures ∙ c.in-Field.is,
+      sym c.any_or_none.ensures ∙ c.in-Taken-any_or_none.is,
+      sym c.any_or_none-2.ensures ∙ c.in-Taken-any_or_none-2.is,
+      sym c.any_or_none-3.ensures ∙ c.in-Taken-any_or_none-3.is,
       ne_eqb _ _ c.if-c-d.true,
     )
 
 pub head-requires : goal.head-requires
 head-requires c =
-    let credential = c in
-    let start = c in
-    start.requires
+    c.requires
 
 pub returns : goal.returns
 unfolding places_at
 returns c =
-    let passed = c in
-    let key = c in
-    let signature = c in
-    let credential = c in
-    let path = c in
-    let entry = c in
     rw (
-      sym entry.entry_or_none.ensures ∙ entry.in-Taken.is,
-      sym path.array.ensures ∙ path.in-Field.is,
-      sym credential.any_or_none.ensures ∙ credential.in-Taken-any_or_none.is,
-      sym signature.any_or_none-2.ensures ∙ signature.in-Taken-any_or_none-2.is,
-      sym key.any_or_none-3.ensures ∙ key.in-Taken-any_or_none-3.is,
-      eq-eqb _ _ passed.if-c-d.false,
+      sym c.entry_or_none.ensures ∙ c.in-Taken.is,
+      sym c.array.ensures ∙ c.in-Field.is,
+      sym c.any_or_none.ensures ∙ c.in-Taken-any_or_none.is,
+      sym c.any_or_none-2.ensures ∙ c.in-Taken-any_or_none-2.is,
+      sym c.any_or_none-3.ensures ∙ c.in-Taken-any_or_none-3.is,
+      eq-eqb _ _ c.if-c-d.false,
       c.head.ensures,
       c.flag.ensures,
       c.precision.ensures,

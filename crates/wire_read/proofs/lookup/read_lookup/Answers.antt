@@ -23,11 +23,9 @@ returns-in_default-fixed c =
 pub returns-in_default-fixed-2 : goal.returns-in_default-fixed-2
 unfolding incoming_of fields_as joined_fields sized places_at
 returns-in_default-fixed-2 c =
-    let target = c in
-    let controls = c in
     rw (
-      sym controls.controls.ensures ∙ controls.in-Field.is,
-      sym target.fixed.ensures ∙ target.in-Field-fixed.is,
+      sym c.controls.ensures ∙ c.in-Field.is,
+      sym c.fixed.ensures ∙ c.in-Field-fixed.is,
       sym c.fixed-2.ensures ∙ c.in_default-fixed-2.is,
     )
 
@@ -36,10 +34,7 @@ lookup_behind-requires c = c.requires
 
 pub returns : goal.returns
 returns c =
-    let validate = c in
-    let target = c in
-    let controls = c in
     c.lookup_behind.ensures
-    ∙ lookup-front _ _ _ _ _ _ _ _ _ _ (sym controls.controls.ensures ∙ controls.in-Field.is)
-    (sym target.fixed.ensures ∙ target.in-Field-fixed.is)
-    (sym validate.fixed-2.ensures ∙ validate.in-Field-fixed-2.is)
+    ∙ lookup-front _ _ _ _ _ _ _ _ _ _ (sym c.controls.ensures ∙ c.in-Field.is)
+    (sym c.fixed.ensures ∙ c.in-Field-fixed.is)
+    (sym c.fixed-2.ensures ∙ c.in-Field-fixed-2.is)

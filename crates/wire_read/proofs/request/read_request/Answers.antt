@@ -25,124 +25,87 @@ returns-in_default-fixed_or_none c =
 pub returns-in_default-fixed : goal.returns-in_default-fixed
 unfolding incoming_of fields_as joined_fields sized places_at
 returns-in_default-fixed c =
-    let split = c in
-    let flags = c in
     rw (
-      sym flags.fixed_or_none.ensures ∙ flags.in-Taken.is,
-      sym split.fixed_or_none-2.ensures ∙ split.in-Taken-fixed_or_none.is,
+      sym c.fixed_or_none.ensures ∙ c.in-Taken.is,
+      sym c.fixed_or_none-2.ensures ∙ c.in-Taken-fixed_or_none.is,
       sym c.fixed.ensures ∙ c.in_default-fixed.is,
     )
 
 pub returns-in_default-array : goal.returns-in_default-array
 unfolding incoming_of fields_as joined_fields sized places_at
 returns-in_default-array c =
-    let nonce = c in
-    let split = c in
-    let flags = c in
     rw (
-      sym flags.fixed_or_none.ensures ∙ flags.in-Taken.is,
-      sym split.fixed_or_none-2.ensures ∙ split.in-Taken-fixed_or_none.is,
-      sym nonce.fixed.ensures ∙ nonce.in-Field.is,
+      sym c.fixed_or_none.ensures ∙ c.in-Taken.is,
+      sym c.fixed_or_none-2.ensures ∙ c.in-Taken-fixed_or_none.is,
+      sym c.fixed.ensures ∙ c.in-Field.is,
       sym c.array.ensures ∙ c.in_default-array.is,
     )
 
 pub returns-in_default-any_or_none : goal.returns-in_default-any_or_none
 unfolding incoming_of fields_as joined_fields sized places_at
 returns-in_default-any_or_none c =
-    let keys = c in
-    let nonce = c in
-    let split = c in
-    let flags = c in
     rw (
-      sym flags.fixed_or_none.ensures ∙ flags.in-Taken.is,
-      sym split.fixed_or_none-2.ensures ∙ split.in-Taken-fixed_or_none.is,
-      sym nonce.fixed.ensures ∙ nonce.in-Field.is,
-      sym keys.array.ensures ∙ keys.in-Field-array.is,
+      sym c.fixed_or_none.ensures ∙ c.in-Taken.is,
+      sym c.fixed_or_none-2.ensures ∙ c.in-Taken-fixed_or_none.is,
+      sym c.fixed.ensures ∙ c.in-Field.is,
+      sym c.array.ensures ∙ c.in-Field-array.is,
       sym c.any_or_none.ensures ∙ c.in_default-any_or_none.is,
     )
 
 pub returns-in_default-any_or_none-2 : goal.returns-in_default-any_or_none-2
 unfolding incoming_of fields_as joined_fields sized places_at
 returns-in_default-any_or_none-2 c =
-    let credential = c in
-    let keys = c in
-    let nonce = c in
-    let split = c in
-    let flags = c in
     rw (
-      sym flags.fixed_or_none.ensures ∙ flags.in-Taken.is,
-      sym split.fixed_or_none-2.ensures ∙ split.in-Taken-fixed_or_none.is,
-      sym nonce.fixed.ensures ∙ nonce.in-Field.is,
-      sym keys.array.ensures ∙ keys.in-Field-array.is,
-      sym credential.any_or_none.ensures ∙ credential.in-Taken-any_or_none.is,
+      sym c.fixed_or_none.ensures ∙ c.in-Taken.is,
+      sym c.fixed_or_none-2.ensures ∙ c.in-Taken-fixed_or_none.is,
+      sym c.fixed.ensures ∙ c.in-Field.is,
+      sym c.array.ensures ∙ c.in-Field-array.is,
+      sym c.any_or_none.ensures ∙ c.in-Taken-any_or_none.is,
       sym c.any_or_none-2.ensures ∙ c.in_default-any_or_none-2.is,
     )
 
 pub returns-in_default-any_or_none-3 : goal.returns-in_default-any_or_none-3
 unfolding incoming_of fields_as joined_fields sized places_at
 returns-in_default-any_or_none-3 c =
-    let signature = c in
-    let credential = c in
-    let keys = c in
-    let nonce = c in
-    let split = c in
-    let flags = c in
     rw (
-      sym flags.fixed_or_none.ensures ∙ flags.in-Taken.is,
-      sym split.fixed_or_none-2.ensures ∙ split.in-Taken-fixed_or_none.is,
-      sym nonce.fixed.ensures ∙ nonce.in-Field.is,
-      sym keys.array.ensures ∙ keys.in-Field-array.is,
-      sym credential.any_or_none.ensures ∙ credential.in-Taken-any_or_none.is,
-      sym signature.any_or_none-2.ensures ∙ signature.in-Taken-any_or_none-2.is,
+      sym c.fixed_or_none.ensures ∙ c.in-Taken.is,
+      sym c.fixed_or_none-2.ensures ∙ c.in-Taken-fixed_or_none.is,
+      sym c.fixed.ensures ∙ c.in-Field.is,
+      sym c.array.ensures ∙ c.in-Field-array.is,
+      sym c.any_or_none.ensures ∙ c.in-Taken-any_or_none.is,
+      sym c.any_or_none-2.ensures ∙ c.in-Taken-any_or_none-2.is,
       sym c.any_or_none-3.ensures ∙ c.in_default-any_or_none-3.is,
     )
 
 pub returns-then-c-d : goal.returns-then-c-d
 unfolding incoming_of fields_as joined_fields sized places_at
 returns-then-c-d c =
-    let key = c in
-    let signature = c in
-    let credential = c in
-    let keys = c in
-    let nonce = c in
-    let split = c in
-    let flags = c in
     rw (
-      sym flags.fixed_or_none.ensures ∙ flags.in-Taken.is,
-      sym split.fixed_or_none-2.ensures ∙ split.in-Taken-fixed_or_none.is,
-      sym nonce.fixed.ensures ∙ nonce.in-Field.is,
-      sym keys.array.ensures ∙ keys.in-Field-array.is,
-      sym credential.any_or_none.ensures ∙ credential.in-Taken-any_or_none.is,
-      sym signature.any_or_none-2.ensures ∙ signature.in-Taken-any_or_none-2.is,
-      sym key.any_or_none-3.ensures ∙ key.in-Taken-any_or_none-3.is,
+      sym c.fixed_or_none.ensures ∙ c.in-Taken.is,
+      sym c.fixed_or_none-2.ensures ∙ c.in-Taken-fixed_or_none.is,
+      sym c.fixed.ensures ∙ c.in-Field.is,
+      sym c.array.ensures ∙ c.in-Field-array.is,
+      sym c.any_or_none.ensures ∙ c.in-Taken-any_or_none.is,
+      sym c.any_or_none-2.ensures ∙ c.in-Taken-any_or_none-2.is,
+      sym c.any_or_none-3.ensures ∙ c.in-Taken-any_or_none-3.is,
       ne_eqb _ _ c.if-c-d.true,
     )
 
 pub is_whole-requires : goal.is_whole-requires
 is_whole-requires c =
-    let credential = c in
-    let split = c in
-    let start = c in
-    maybe-four start.args.d.now _ _ _ (Sized 4) sized_four _ _ (sym split.fixed_or_none-2.ensures ∙ split.in-Taken-fixed_or_none.is)
+    maybe-four c.args.d.now _ _ _ (Sized 4) sized_four _ _ (sym c.fixed_or_none-2.ensures ∙ c.in-Taken-fixed_or_none.is)
 
 pub returns-then-not-is_whole : goal.returns-then-not-is_whole
 unfolding incoming_of fields_as joined_fields sized places_at
 returns-then-not-is_whole c =
-    let key = c in
-    let signature = c in
-    let credential = c in
-    let keys = c in
-    let nonce = c in
-    let split = c in
-    let flags = c in
     rw (
-      sym flags.fixed_or_none.ensures ∙ flags.in-Taken.is,
-      sym split.fixed_or_none-2.ensures ∙ split.in-Taken-fixed_or_none.is,
-      sym nonce.fixed.ensures ∙ nonce.in-Field.is,
-      sym keys.array.ensures ∙ keys.in-Field-array.is,
-      sym credential.any_or_none.ensures ∙ credential.in-Taken-any_or_none.is,
-      sym signature.any_or_none-2.ensures ∙ signature.in-Taken-any_or_none-2.is,
-      sym key.any_or_none-3.ensures ∙ key.in-Taken-any_or_none-3.is,
+      sym c.fixed_or_none.ensures ∙ c.in-Taken.is,
+      sym c.fixed_or_none-2.ensures ∙ c.in-Taken-fixed_or_none.is,
+      sym c.fixed.ensures ∙ c.in-Field.is,
+      sym c.array.ensures ∙ c.in-Field-array.is,
+      sym c.any_or_none.ensures ∙ c.in-Taken-any_or_none.is,
+      sym c.any_or_none-2.ensures ∙ c.in-Taken-any_or_none-2.is,
+      sym c.any_or_none-3.ensures ∙ c.in-Taken-any_or_none-3.is,
       eq-eqb _ _ c.if-c-d.false,
       split_value,
       sym c.is_whole.ensures ∙ c.if-not-is_whole.true,
@@ -150,31 +113,20 @@ returns-then-not-is_whole c =
 
 pub head-requires : goal.head-requires
 head-requires c =
-    let signature = c in
-    let nonce = c in
-    let start = c in
-    start.requires
+    c.requires
 
 pub returns : goal.returns
 unfolding incoming_of fields_as joined_fields sized places_at
 returns c =
-    let passed = c in
-    let key = c in
-    let signature = c in
-    let credential = c in
-    let keys = c in
-    let nonce = c in
-    let split = c in
-    let flags = c in
     rw (
-      sym flags.fixed_or_none.ensures ∙ flags.in-Taken.is,
-      sym split.fixed_or_none-2.ensures ∙ split.in-Taken-fixed_or_none.is,
-      sym nonce.fixed.ensures ∙ nonce.in-Field.is,
-      sym keys.array.ensures ∙ keys.in-Field-array.is,
-      sym credential.any_or_none.ensures ∙ credential.in-Taken-any_or_none.is,
-      sym signature.any_or_none-2.ensures ∙ signature.in-Taken-any_or_none-2.is,
-      sym key.any_or_none-3.ensures ∙ key.in-Taken-any_or_none-3.is,
-      eq-eqb _ _ passed.if-c-d.false,
+      sym c.fixed_or_none.ensures ∙ c.in-Taken.is,
+      sym c.fixed_or_none-2.ensures ∙ c.in-Taken-fixed_or_none.is,
+      sym c.fixed.ensures ∙ c.in-Field.is,
+      sym c.array.ensures ∙ c.in-Field-array.is,
+      sym c.any_or_none.ensures ∙ c.in-Taken-any_or_none.is,
+      sym c.any_or_none-2.ensures ∙ c.in-Taken-any_or_none-2.is,
+      sym c.any_or_none-3.ensures ∙ c.in-Taken-any_or_none-3.is,
+      eq-eqb _ _ c.if-c-d.false,
       split_value,
       sym c.is_whole.ensures ∙ c.if-not-is_whole.false,
       c.is_here-flags.ensures,

@@ -23,22 +23,18 @@ returns-in_default-fixed c =
 pub returns-then-c-d : goal.returns-then-c-d
 unfolding incoming_of fields_as joined_fields sized places_at
 returns-then-c-d c =
-    let nonce = c in
-    let entry = c in
     rw (
-      sym entry.entry_or_none.ensures ∙ entry.in-Taken.is,
-      sym nonce.fixed.ensures ∙ nonce.in-Field.is,
+      sym c.entry_or_none.ensures ∙ c.in-Taken.is,
+      sym c.fixed.ensures ∙ c.in-Field.is,
       ne_eqb _ _ c.if-c-d.true,
     )
 
 pub returns : goal.returns
 unfolding incoming_of fields_as joined_fields sized places_at
 returns c =
-    let nonce = c in
-    let entry = c in
     rw (
-      sym entry.entry_or_none.ensures ∙ entry.in-Taken.is,
-      sym nonce.fixed.ensures ∙ nonce.in-Field.is,
+      sym c.entry_or_none.ensures ∙ c.in-Taken.is,
+      sym c.fixed.ensures ∙ c.in-Field.is,
       eq-eqb _ _ c.if-c-d.false,
       c.head.ensures,
     )

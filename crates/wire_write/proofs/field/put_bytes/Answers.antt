@@ -10,13 +10,11 @@ use Rattle.wire_write.proofs.field.put_bytes.Goals as goal
 
 pub returns : goal.returns
 returns c =
-    let copy-piece = c in
-    let start = c in
-    let a = start.args in
+    let a = c.args in
     let v = part a.start a.len a.s.now in
-    let l : a.len ≡ length v = sym (length_part a.start a.len a.s.now start.requires.len_in_bounds) in
-    let h : end_of a.at a.padded (length v) ≤ length a.out.now = rw l at start.requires.len_in_bounds_2 in record {
+    let l : a.len ≡ length v = sym (length_part a.start a.len a.s.now c.requires.len_in_bounds) in
+    let h : end_of a.at a.padded (length v) ≤ length a.out.now = rw l at c.requires.len_in_bounds_2 in record {
       value = c.put_gap.ensures.value;
-      out_after = rw (c.put_gap.ensures.out_after, copy-piece.copy_piece.ensures, copy-piece.put_head.ensures)
+      out_after = rw (c.put_gap.ensures.out_after, c.copy_piece.ensures, c.put_head.ensures)
           (put-field a.out.now a.at a.number a.padded v h a.len l);
     }

@@ -11,15 +11,14 @@ use Rattle.wire_write.proofs.header.put_header.Goals as goal
 
 pub returns : goal.returns
 returns c =
-    let s = c in
-    let o = s.args.out.now in
-    let t : List ℕ = s.args.major ∷ s.args.minor ∷ s.args.kind ∷ [] in
-    let h = s.requires in
-    let l = length-digits_be 256 4 s.args.id in
+    let o = c.args.out.now in
+    let t : List ℕ = c.args.major ∷ c.args.minor ∷ c.args.kind ∷ [] in
+    let h = c.requires in
+    let l = length-digits_be 256 4 c.args.id in
     rw (
       c.write_u32.ensures,
       c.copy_to.ensures,
       c.put_opening.ensures,
       put-put o 0 opening (omega arith) 5 t refl (omega arith),
-      put-put o 0 (opening ++ t) (omega arith) 8 (digits_be 256 4 s.args.id) refl (omega arith),
+      put-put o 0 (opening ++ t) (omega arith) 8 (digits_be 256 4 c.args.id) refl (omega arith),
     )

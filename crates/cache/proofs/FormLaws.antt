@@ -10,7 +10,7 @@ use native.Mathlib.Omega.{arith}
 use lib.Dec.{leb, eqb}
 use lib.ListN.{length, take, drop, get_or, replicate, length-append, length-drop, length-replicate}
 use lib.Seq.{take-take, get_or-drop}
-use borrow.Author.Tests.{eq-eqb, ne_eqb, le-leb, leb-true, eqb-true, eqb-false, not-true}
+use borrow.Author.Tests.{eq-eqb, ne_eqb, le-leb, leb-true, eqb-true, not-true}
 use Rattle.octet.specs.Number.{Bytes, value_be}
 use Rattle.octet.specs.Part.{part, all_zero}
 use Rattle.octet.proofs.TestLaws.{both_true, zeros_all}

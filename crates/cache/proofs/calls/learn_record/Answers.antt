@@ -5,7 +5,6 @@ use mathlib.Core.Bool.{not}
 use mathlib.Core.List.{List, []}
 use Prim.Native.Nat.{ℕ}
 use lib.ListN.{length}
-use borrow.Author.Tests.{not-true, not-false}
 use Rattle.record.specs.Record.{key_of, record_form}
 use Rattle.own.specs.Own.{own_keys, is_own}
 use Rattle.own.proofs.PlaceLaws.{not_own}
@@ -16,7 +15,6 @@ use Rattle.cache.specs.Calls.{Changed, cache_changed, learn_call, held_by}
 use Rattle.refusal.proofs.CallLaws.{row_applies, row_passes, no_row}
 use Rattle.cache.proofs.LentLaws.{not_is, not_isn't, memory-own, memory-form, memory-held, memory-passes, memory-refuses}
 use native.Mathlib.Omega.{arith}
-use borrow.Author.Rules.{rules}
 use Rattle.cache.proofs.calls.learn_record.Goals.{Start}
 use Rattle.cache.proofs.calls.learn_record.Goals as goal
 

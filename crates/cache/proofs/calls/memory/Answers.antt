@@ -1,7 +1,5 @@
 -- `cache::calls::memory` meets its contract: the own records first, then the cache. Assumes nothing.
 use mathlib.Core.Path.{refl, sym, ◌∙◌}
-use borrow.Author.Tests.{not-true, not-false}
-use borrow.Author.Rules.{rules}
 use Rattle.cache.proofs.calls.memory.Goals as goal
 
 pub returns-then-not-own_form : goal.returns-then-not-own_form

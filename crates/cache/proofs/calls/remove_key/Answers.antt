@@ -14,7 +14,6 @@ use Rattle.cache.specs.Calls.{Changed, cache_changed, remove_call, held_by}
 use Rattle.refusal.proofs.CallLaws.{row_applies, row_passes, no_row}
 use Rattle.cache.proofs.LentLaws.{not_is, not_isn't, memory-form, memory-held, memory-passes, memory-refuses}
 use native.Mathlib.Omega.{arith}
-use borrow.Author.Rules.{rules}
 use Rattle.cache.proofs.calls.remove_key.Goals.{Start}
 use Rattle.cache.proofs.calls.remove_key.Goals as goal
 

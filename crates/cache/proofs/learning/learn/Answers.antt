@@ -11,7 +11,6 @@ use Rattle.cache.proofs.FormLaws.{form_laid}
 use Rattle.cache.proofs.FindLaws.{found-place, found-held, found_puts}
 use Rattle.cache.proofs.LearnLaws.{held_room, told-held}
 use native.Mathlib.Omega.{arith}
-use borrow.Author.Rules.{rules}
 use Rattle.cache.proofs.learning.learn.Goals.{Start}
 use Rattle.cache.proofs.learning.learn.Goals as goal
 

@@ -2,7 +2,7 @@
 -- Assumes nothing.
 use mathlib.Core.Path.{◌≡◌, sym, ap, ◌∙◌, subst}
 use mathlib.Core.Bool.{true, false}
-use Prim.Native.Nat.{ℕ, ◌-◌, ◌≤◌, ◌<◌}
+use Prim.Native.Nat.{ℕ, ◌≤◌}
 use lib.ListN.{length}
 use Rattle.own.specs.Own.{own_keys, first_own}
 use Rattle.own.proofs.FormLaws.{own_formed, keys_many}
@@ -29,7 +29,6 @@ use Rattle.cache.proofs.LearnLaws.{
   told-goes,
 }
 use native.Mathlib.Omega.{arith}
-use borrow.Author.Rules.{rules}
 use Rattle.cache.proofs.learning.learn_new.Goals.{After-who_goes-goes, Start}
 use Rattle.cache.proofs.learning.learn_new.Goals as goal
 

@@ -10,7 +10,6 @@ use Rattle.cache.specs.Change.{changes}
 use Rattle.cache.proofs.FormLaws.{form_laid}
 use Rattle.cache.proofs.FindLaws.{found-place, found-held, found-removes}
 use Rattle.cache.proofs.LearnLaws.{told-removed, told-kept}
-use borrow.Author.Rules.{rules}
 use Rattle.cache.proofs.learning.remove.Goals.{Start}
 use Rattle.cache.proofs.learning.remove.Goals as goal
 

@@ -1,7 +1,6 @@
 -- `cache::learning::unmoved` meets its contract. Assumes nothing.
 use mathlib.Core.Path.{ap}
 use mathlib.Core.Bool.{false}
-use borrow.Author.Rules.{rules}
 use Rattle.cache.specs.Change.{changes}
 use Rattle.cache.proofs.learning.unmoved.Goals as goal
 

@@ -6,7 +6,6 @@ use Rattle.search.specs.declared.Sought.{Sought}
 use Rattle.cache.specs.declared.place.Found.TheVariants.{At, Before}
 use Rattle.cache.specs.Form.{keys_of}
 use Rattle.cache.proofs.FindLaws.{found_sought}
-use borrow.Author.Rules.{rules}
 use Rattle.cache.proofs.place.find.Goals as goal
 
 pub returns-then-sought : goal.returns-then-sought

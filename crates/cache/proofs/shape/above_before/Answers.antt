@@ -11,7 +11,6 @@ use Rattle.cache.specs.Place.{Carried}
 use Rattle.search.proofs.SeekLaws.{first_more}
 use Rattle.own.proofs.LowLaws.{low_first, low_next}
 use Rattle.cache.proofs.ShapeLaws.{low_words}
-use borrow.Author.Rules.{rules}
 use Rattle.cache.proofs.shape.above_before.Goals.{Start}
 use Rattle.cache.proofs.shape.above_before.Goals as goal
 

@@ -1,18 +1,11 @@
 -- `cache::shape::count_held` meets its contract: what is counted of all is i and what is counted from place i on. Assumes nothing.
-use mathlib.Core.Path.{◌≡◌, sym, ap, subst, ◌∙◌}
+use mathlib.Core.Path.{◌≡◌}
 use mathlib.Core.List.{List}
 use Prim.Native.Nat.{ℕ, ◌+◌, ◌-◌, ◌*◌, ◌/◌, ◌%◌, ◌≤◌}
-use native.Mathlib.Nat.{zero-add}
 use lib.ListN.{length, drop}
-use borrow.Author.Tests.{not-true, not-false}
-use Rattle.octet.specs.Number.{value_be}
-use Rattle.octet.specs.Part.{part}
 use Rattle.table.specs.Rows.{rows}
 use Rattle.cache.specs.Place.{ordered, Carried}
 use Rattle.own.specs.Low.{low_at}
-use Rattle.cache.proofs.ShapeLaws.{carried_next}
-use Rattle.cache.proofs.OrderedLaws.{ordered-more, ordered-stop, ordered_end}
-use native.Mathlib.Omega.{arith}
 use Rattle.cache.proofs.shape.count_held.Given as goal
 
 -- place i and what is counted from it on

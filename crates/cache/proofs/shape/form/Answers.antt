@@ -7,12 +7,10 @@ use lib.ListN.{length}
 use Rattle.own.specs.Own.{own_keys}
 use Rattle.own.proofs.FormLaws.{keys_many}
 use Rattle.table.proofs.RowLaws.{rows-length}
-use borrow.Author.Tests.{not-true, not-false}
 use Rattle.cache.specs.declared.shape.Formed.TheVariants.{Bad, Good}
 use Rattle.cache.proofs.ShapeLaws.{not-whole, too_small, too_large, too_few}
 use Rattle.cache.proofs.OrderedLaws.{used-most, used-rising, own-bad, free-by, rest-bad}
 use native.Mathlib.Omega.{arith}
-use borrow.Author.Rules.{rules}
 use Rattle.cache.proofs.shape.form.Goals.{After-count, After-count_held-used, Start}
 use Rattle.cache.proofs.shape.form.Goals as goal
 

@@ -1,15 +1,14 @@
 use mathlib.Core.Path.{◌≡◌, refl, sym, ap, ◌∙◌}
 use mathlib.Core.List.{List}
-use Prim.Native.Nat.{ℕ, ◌-◌, ◌*◌, ◌/◌, ◌≤◌}
+use Prim.Native.Nat.{ℕ, ◌*◌, ◌/◌}
 use native.Mathlib.Omega.{arith}
-use lib.ListN.{length, drop, length-take, length-drop}
+use lib.ListN.{length, length-take, length-drop}
 use Rattle.key.specs.Number.{key_at}
 use Rattle.table.specs.Rows.{rows}
 use Rattle.table.proofs.PieceLaws.{part_lent}
 use Rattle.kept.specs.Keys.{has}
 use Rattle.search.specs.declared.Sought.{Sought}
 use Rattle.cache.specs.Form.{keys_of}
-use Rattle.cache.specs.Place.{any_own}
 use Rattle.cache.proofs.FormLaws.{key_of-row}
 use Rattle.cache.proofs.OrderedLaws.{any_here, any-on, any_end}
 use Rattle.cache.proofs.shape.holds_own.Goals.{After-find_key-sought, At-loop-i}

@@ -1,18 +1,10 @@
 -- `cache::shape::holds_own` meets its contract: whether one of all our keys is held is whether one of those from place i on is. Assumes nothing.
-use mathlib.Core.Path.{◌≡◌, refl, sym, ap, ◌∙◌}
-use mathlib.Core.List.{List}
-use Prim.Native.Nat.{ℕ, ◌-◌, ◌*◌, ◌/◌, ◌≤◌}
-use native.Mathlib.Omega.{arith}
-use lib.ListN.{length, drop, length-take, length-drop}
-use Rattle.key.specs.Number.{key_at}
+use mathlib.Core.Path.{◌≡◌}
+use Prim.Native.Nat.{◌-◌, ◌/◌, ◌≤◌}
+use lib.ListN.{length, drop}
 use Rattle.table.specs.Rows.{rows}
-use Rattle.table.proofs.PieceLaws.{part_lent}
-use Rattle.kept.specs.Keys.{has}
-use Rattle.search.specs.declared.Sought.{Sought}
 use Rattle.cache.specs.Form.{keys_of}
 use Rattle.cache.specs.Place.{any_own}
-use Rattle.cache.proofs.FormLaws.{key_of-row}
-use Rattle.cache.proofs.OrderedLaws.{any_here, any-on, any_end}
 use Rattle.cache.proofs.shape.holds_own.Given as goal
 
 abbrev pub invariant-loop-i : goal.invariant-loop-i

@@ -4,7 +4,6 @@ use mathlib.Core.Bool.{true, false}
 use mathlib.Core.List.{List}
 use Prim.Native.Nat.{ℕ, ◌*◌, ◌/◌}
 use lib.Dec.{leb}
-use borrow.Author.Tests.{not-true, not-false}
 use Rattle.octet.specs.Number.{value_be}
 use Rattle.octet.specs.Part.{part}
 use Rattle.key.specs.Number.{key_at}
@@ -13,7 +12,6 @@ use Rattle.cache.specs.Place.{rises}
 use Rattle.own.specs.Low.{low_at}
 use Rattle.cache.proofs.FormLaws.{key_of-row}
 use native.Mathlib.Omega.{arith}
-use borrow.Author.Rules.{rules}
 use Rattle.cache.proofs.shape.place_follows.Goals.{Start}
 use Rattle.cache.proofs.shape.place_follows.Goals as goal
 

@@ -1,13 +1,8 @@
 -- `cache::shape::rest_above` meets its contract. The invariant: the words that are left decide. Assumes nothing.
-use mathlib.Core.Path.{◌≡◌, refl, sym, ap₂, ◌∙◌}
-use Prim.Native.Nat.{ℕ, ◌+◌, ◌-◌, ◌*◌, ◌≤◌}
-use native.Mathlib.Nat.{add-zero}
-use native.Mathlib.Omega.{arith}
-use Rattle.octet.specs.Number.{value_be}
-use Rattle.octet.specs.Part.{part}
+use mathlib.Core.Path.{◌≡◌}
+use Prim.Native.Nat.{◌-◌, ◌≤◌}
 use Rattle.key.specs.Number.{key_at, order_of}
-use Rattle.key.proofs.OrderLaws.{then, order_same, test_same, less_alike, then_differ, then_equal}
-use Rattle.key.proofs.PlaceLaws.{order_from, order-words}
+use Rattle.key.proofs.PlaceLaws.{order_from}
 use Rattle.cache.proofs.shape.rest_above.Given as goal
 
 abbrev pub invariant-loop-word : goal.invariant-loop-word

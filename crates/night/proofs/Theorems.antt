@@ -21,7 +21,7 @@ pub told_same : ToldSame
 told_same = whole-told.told_same
 
 pub reads_back : TraceReadsBack
-reads_back = trace.reads-back
+reads_back = trace.reads_back
 
 pub whole : Whole
 whole = trace.whole

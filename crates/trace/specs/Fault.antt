@@ -1,6 +1,6 @@
 -- To believe. The ways in which a record can be bad: "Refusals: 16 for a record cut short or of wrong length, 17 for an unknown kind or a kind 4 missing or
 -- repeated". Assumes nothing.
-use Rattle.std.specs.Prelude.{ℕ, ◌+◌, Bool, not, ◌&&◌, ◌||◌, List, [], ◌∷◌, ◌++◌, eqb, ltb, length}
+use Rattle.std.specs.Prelude.{ℕ, ◌+◌, Bool, not, ◌&&◌, ◌||◌, List, [], ◌∷◌, eqb, ltb, length}
 use Rattle.refusal.specs.Table.{Refusal, when, first_of}
 use Rattle.trace.specs.Trace.{length_of, kind_of, body_of, is_kind, body_fits}
 

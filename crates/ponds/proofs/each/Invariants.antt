@@ -1,5 +1,5 @@
 -- `ponds::each` ends: the readings that can still be taken fall. What is lent keeps its length. Assumes nothing.
-use Rattle.std.proofs.Common.{◌≡◌, ◌-◌, length, rules}
+use Rattle.std.proofs.Common.{◌≡◌, ◌-◌, length}
 use Rattle.ponds.proofs.each.Given as goal
 
 abbrev pub invariant-loop-taken : goal.invariant-loop-taken

@@ -1,5 +1,5 @@
 -- `ponds::names::start_of` ends: what is left of the text falls. Assumes nothing.
-use Rattle.std.proofs.Common.{◌-◌, length, rules}
+use Rattle.std.proofs.Common.{◌-◌, length}
 use Rattle.ponds.proofs.names.start_of.Given as goal
 
 abbrev pub invariant-loop-at : goal.invariant-loop-at

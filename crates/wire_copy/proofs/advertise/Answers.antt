@@ -2,7 +2,6 @@
 use Rattle.octet.specs.Number.{digits_be}
 use mathlib.Core.Path.{refl}
 use Rattle.wire_copy.specs.Resent.{resent}
-use borrow.Author.Rules.{rules}
 use Rattle.wire_copy.proofs.advertise.Goals as goal
 
 pub slice_bounds-write_rows-end : goal.slice_bounds-write_rows-end

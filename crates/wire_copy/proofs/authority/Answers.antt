@@ -2,7 +2,6 @@
 use Rattle.octet.specs.Number.{digits_be}
 use mathlib.Core.Path.{refl}
 use Rattle.wire_copy.specs.Resent.{resent}
-use borrow.Author.Rules.{rules}
 use Rattle.wire_copy.proofs.authority.Goals as goal
 
 pub slice_bounds-write_rows-end : goal.slice_bounds-write_rows-end
@@ -11,28 +10,24 @@ slice_bounds-write_rows-end c = rw c.spelled_bytes-spelled.ensures
 
 pub write_rows-requires : goal.write_rows-requires
 write_rows-requires c =
-    let authority_rows_lem = c in
-    (rw authority_rows_lem.authority_rows-rows.ensures, refl)
+    (rw c.authority_rows-rows.ensures, refl)
 
 pub returns : goal.returns
 unfolding resent
 returns c =
-    let piece-of6 = c in
-    let piece_of = c in
-    let busy-and-none = c in
     rw (
-      piece-of6.piece_of-cpa.ensures,
-      piece-of6.piece_of-entry.ensures,
-      piece-of6.piece_of-payload.ensures,
-      piece-of6.piece_of-classifier.ensures,
-      piece-of6.piece_of-token.ensures,
-      piece_of.piece_of-chain.ensures,
-      piece_of.spelled_piece-flags.ensures,
-      piece_of.spelled_piece-split.ensures,
-      piece_of.spelled_piece-id_piece.ensures,
-      piece_of.spelled_bytes-spelled.ensures,
-      busy-and-none.busy_and_none-low.ensures,
-      busy-and-none.bit_of-l.ensures.value,
-      busy-and-none.behind-size.ensures,
-      busy-and-none.authority_rows-rows.ensures,
+      c.piece_of-cpa.ensures,
+      c.piece_of-entry.ensures,
+      c.piece_of-payload.ensures,
+      c.piece_of-classifier.ensures,
+      c.piece_of-token.ensures,
+      c.piece_of-chain.ensures,
+      c.spelled_piece-flags.ensures,
+      c.spelled_piece-split.ensures,
+      c.spelled_piece-id_piece.ensures,
+      c.spelled_bytes-spelled.ensures,
+      c.busy_and_none-low.ensures,
+      c.bit_of-l.ensures.value,
+      c.behind-size.ensures,
+      c.authority_rows-rows.ensures,
     ) at c.write_rows.ensures

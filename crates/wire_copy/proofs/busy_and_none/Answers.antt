@@ -1,6 +1,5 @@
 -- `wire_copy::busy_and_none` meets its contract: two bits with their weights. Assumes nothing.
 use native.Mathlib.Omega.{arith}
-use borrow.Author.Rules.{rules}
 use Rattle.wire_copy.proofs.busy_and_none.Goals as goal
 
 pub returns : goal.returns

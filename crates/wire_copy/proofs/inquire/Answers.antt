@@ -2,7 +2,6 @@
 use Rattle.octet.specs.Number.{digits_be}
 use mathlib.Core.Path.{refl}
 use Rattle.wire_copy.specs.Resent.{resent}
-use borrow.Author.Rules.{rules}
 use Rattle.wire_copy.proofs.inquire.Goals as goal
 
 pub slice_bounds-write_rows-end : goal.slice_bounds-write_rows-end
@@ -16,20 +15,17 @@ write_rows-requires c =
 pub returns : goal.returns
 unfolding resent
 returns c =
-    let no_piece_lem = c in
-    let first_piece = c in
-    let bit_of = c in
     rw (
-      no_piece_lem.no_piece-none.ensures,
-      no_piece_lem.piece_of-key.ensures,
-      no_piece_lem.piece_of-signature.ensures,
-      no_piece_lem.piece_of-credential.ensures,
-      no_piece_lem.piece_of-nonce.ensures,
-      first_piece.first_piece-validate.ensures,
-      first_piece.spelled_piece-flags.ensures,
-      first_piece.spelled_bytes-spelled.ensures,
-      first_piece.bit_of-third.ensures.value,
-      first_piece.bit_of-second.ensures.value,
-      bit_of.bit_of-first.ensures.value,
-      bit_of.inquire_rows-rows.ensures,
+      c.no_piece-none.ensures,
+      c.piece_of-key.ensures,
+      c.piece_of-signature.ensures,
+      c.piece_of-credential.ensures,
+      c.piece_of-nonce.ensures,
+      c.first_piece-validate.ensures,
+      c.spelled_piece-flags.ensures,
+      c.spelled_bytes-spelled.ensures,
+      c.bit_of-third.ensures.value,
+      c.bit_of-second.ensures.value,
+      c.bit_of-first.ensures.value,
+      c.inquire_rows-rows.ensures,
     ) at c.write_rows.ensures

@@ -1,5 +1,4 @@
 -- `wire_copy::piece_of` meets its contract, by the two cases of the place. Assumes nothing.
-use borrow.Author.Rules.{rules}
 use Rattle.wire_copy.proofs.piece_of.Goals as goal
 
 pub returns-in-Here : goal.returns-in-Here

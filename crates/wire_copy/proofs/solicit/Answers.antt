@@ -1,7 +1,6 @@
 -- `wire_copy::solicit` meets its contract: its rows and pieces are the definition's. Assumes nothing.
 use mathlib.Core.Path.{refl}
 use Rattle.wire_copy.specs.Resent.{resent}
-use borrow.Author.Rules.{rules}
 use Rattle.wire_copy.proofs.solicit.Goals as goal
 
 pub write_rows-requires : goal.write_rows-requires

@@ -2,7 +2,6 @@
 use mathlib.Core.Path.{refl}
 use Rattle.wire_copy.specs.Resent.{resent}
 use Rattle.wire_write.proofs.WriteLaws.{wrote-6}
-use borrow.Author.Rules.{rules}
 use Rattle.wire_copy.proofs.write.Goals as goal
 
 pub returns-in-Refused : goal.returns-in-Refused

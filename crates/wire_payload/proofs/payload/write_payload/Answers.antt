@@ -2,7 +2,6 @@
 -- Assumes nothing.
 use native.Mathlib.Omega.{arith}
 use Rattle.wire_payload.proofs.PayloadLaws.{payload-refused, payload-long, payload_written}
-use borrow.Author.Rules.{rules}
 use Rattle.wire_payload.proofs.payload.write_payload.Goals as goal
 
 pub returns-then-done-ne0 : goal.returns-then-done-ne0
@@ -13,17 +12,13 @@ overflow_sub-size c = (payload-long _ _ _ _ _ _ _ c.put_carrying-done.ensures c.
 
 pub overflow_cast-size : goal.overflow_cast-size
 overflow_cast-size c =
-    let accepted = c in
-    omega (arith, (payload-long _ _ _ _ _ _ _ accepted.put_carrying-done.ensures accepted.if-done-ne0.false).1)
+    omega (arith, (payload-long _ _ _ _ _ _ _ c.put_carrying-done.ensures c.if-done-ne0.false).1)
 
 pub write_u16-requires : goal.write_u16-requires
 write_u16-requires c =
-    let accepted = c in
-    let long = payload-long _ _ _ _ _ _ _ accepted.put_carrying-done.ensures accepted.if-done-ne0.false in
+    let long = payload-long _ _ _ _ _ _ _ c.put_carrying-done.ensures c.if-done-ne0.false in
     omega (arith, long.0, long.2)
 
 pub returns : goal.returns
 returns c =
-    let write = c in
-    let accepted = c in
-    payload_written _ _ _ _ _ _ _ accepted.put_carrying-done.ensures accepted.if-done-ne0.false write.write_u16.ensures
+    payload_written _ _ _ _ _ _ _ c.put_carrying-done.ensures c.if-done-ne0.false c.write_u16.ensures

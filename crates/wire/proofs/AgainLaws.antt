@@ -1,6 +1,6 @@
 -- Laws of a message written again: for any table, rows that agree with the kinds and fields that are the message's make the message's bytes; and
 -- so for an answer of each of the eight types, whatever made it. Assumes nothing.
-use Prim.Native.Nat.{ℕ, ◌+◌, ◌-◌, ◌*◌}
+use Prim.Native.Nat.{ℕ, ◌*◌}
 use native.Mathlib.Omega.{arith}
 use mathlib.Core.List.{List, [], ◌∷◌, ◌++◌}
 use mathlib.Core.Bool.{Bool, true, false, cond}

@@ -1,39 +1,36 @@
 -- Laws of an AUTHORITY written again with another payload: what is made is the message with that field changed. In this order: it is right; what
 -- follows the split controls; the whole. Assumes nothing.
-use Prim.Native.Nat.{ℕ, ◌+◌, ◌-◌, ◌*◌, ◌≤◌, ◌<◌}
+use Prim.Native.Nat.{ℕ, ◌+◌, ◌-◌, ◌*◌, ◌≤◌}
 use native.Mathlib.Omega.{arith}
 use mathlib.Core.List.{List, [], ◌∷◌, ◌++◌}
-use mathlib.Core.Bool.{Bool, true, false, cond, ◌&&◌}
-use mathlib.Core.Option.{Option, some, none}
+use mathlib.Core.Bool.{Bool, true, false, ◌&&◌}
+use mathlib.Core.Option.{some}
 use mathlib.Core.Path.{◌≡◌, refl, sym, ap, ap₂, subst, ◌∙◌}
 use lib.Dec.{leb}
-use lib.ListN.{length, take, drop}
+use lib.ListN.{length, drop}
 use lib.Seq.{take-length}
 use borrow.Author.Tests.{le-leb, leb-true}
-use Rattle.octet.specs.Number.{digits_be, Bytes}
-use Rattle.octet.specs.Part.{part}
+use Rattle.octet.specs.Number.{digits_be}
 use Rattle.octet.proofs.TestLaws.{and_true}
 use Rattle.wire_shapes.specs.Shapes.{has_shape}
 use Rattle.wire_fields.specs.declared.Part.{Part}
 use Rattle.wire_fields.specs.declared.Part.TheVariants.{Here}
 use Rattle.wire_shapes.specs.declared.Shape.TheVariants.{Any, Entry}
-use Rattle.wire_fields.specs.Kinds.{may, codes, buffer_kinds, authority_kinds, kinds_of, split_bytes}
-use Rattle.wire_fields.specs.Message.{Contents, Message, Held, Formed, WellFormed, layout_from, layout_of, message_bytes, header_of}
+use Rattle.wire_fields.specs.Kinds.{may, codes, buffer_kinds, authority_kinds, split_bytes}
+use Rattle.wire_fields.specs.Message.{Contents, Message, Held, Formed, layout_from, layout_of, message_bytes, header_of}
 use Rattle.wire_fields.specs.Reading.{contents_in}
-use Rattle.wire_read.specs.Meaning.{message_of, held, bit, authority_fields}
+use Rattle.wire_read.specs.Meaning.{bit, authority_fields}
 use Rattle.wire_buffer.specs.declared.Inside.{Inside}
 use Rattle.wire_read.specs.declared.Incoming.TheVariants as M
 use Rattle.wire_read.specs.declared.messages.Authority.{Authority}
-use Rattle.wire_write.specs.Writing.{Made}
 use Rattle.wire_write.specs.Pieces.{Lent, piece_ok, lent_of, kinds_of_rows, contents_of, givens_of, made_by}
 use Rattle.wire_write.specs.Rows.{may_row, authority_rows}
 use Rattle.wire_write.specs.declared.Row.{Row}
 use Rattle.wire_copy.specs.Resent.{piece_of, authority_bytes, resent}
 use Rattle.wire_payload.specs.Payload.{carrying_pieces, carrying, with_payload}
-use Rattle.wire_payload.proofs.PayloadLaws.{same_ok}
-use Rattle.wire.specs.Statements.{changed_at, changed}
+use Rattle.wire.specs.Statements.{changed}
 use Rattle.wire.proofs.ChangedLaws.{formed_at_lem}
-use Rattle.wire.proofs.AgainLaws.{RowsFor, Same, rows_bytes, table_bytes, authority_rows_lem, piece_is}
+use Rattle.wire.proofs.AgainLaws.{Same, rows_bytes, authority_rows_lem, piece_is}
 
 -- ---- it is right
 

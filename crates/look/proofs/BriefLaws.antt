@@ -1,25 +1,20 @@
 -- Laws of the ways from a datagram to what is told of it: an answer of a type's reader that is no message of the type is a refusal; what is read is
 -- what the type's reader gives; and what is told is part of the brief. Assumes nothing.
 use Prim.Native.Nat.{ℕ}
-use mathlib.Core.Path.{◌≡◌, refl, ap, subst, ◌∙◌}
-use mathlib.Core.Bool.{Bool, true, false, not, cond}
-use lib.Dec.{T}
-use mathlib.Core.List.{List, [], ◌∷◌}
+use mathlib.Core.Path.{◌≡◌, refl, ap, ◌∙◌}
+use mathlib.Core.Bool.{Bool, true, false, cond}
+use mathlib.Core.List.{List}
 use mathlib.Core.Option.{Option, some, none}
 use lib.ListN.{get_or}
-use types.Run.{OneOf, miss}
-use mir.Val.{has_key}
-use denote.Enum.Declared.{tag_of}
 use Rattle.wire_shapes.specs.Shapes.{Kind}
 use Rattle.wire_fields.specs.Kinds.{kinds_of, authority_kinds}
 use Rattle.wire_fields.specs.Reading.{fields_as}
-use Rattle.wire_fields.specs.Refusals.{Found, refused, found, found_of, found_in, in_part}
+use Rattle.wire_fields.specs.Refusals.{refused, found, found_of, found_in, in_part}
 use Rattle.wire_fields.proofs.RefusalLaws.{gated, by_type}
 use Rattle.wire_fields.specs.declared.Part.{Part}
 use Rattle.wire_read.specs.Answers.{read_in, incoming_of}
 use Rattle.wire_read.specs.declared.Incoming.{Incoming}
 use Rattle.wire_read.specs.declared.Incoming.TheVariants as M
-use Rattle.wire_read.specs.contracts.Incoming.{the_type}
 use Rattle.look.specs.Seen.{look_of, briefed, brief_of, read_as, authority_read}
 use Rattle.look.specs.declared.Look.{Look}
 

@@ -1,11 +1,9 @@
 -- What is told of the message that its reader gives, or of its refusal. Assumes nothing.
-use mathlib.Core.Path.{refl, sym, ap, subst, ◌∙◌}
-use mathlib.Core.List.{[], ◌∷◌}
+use mathlib.Core.Path.{sym, ap, ◌∙◌}
 use Rattle.wire_fields.specs.Kinds.{ack_kinds}
 use Rattle.wire_read.specs.Answers.{incoming_of}
-use Rattle.look.specs.Seen.{look_of, brief_of, Small}
+use Rattle.look.specs.Seen.{look_of, brief_of}
 use Rattle.look.proofs.BriefLaws.{else-refused, brief_by}
-use borrow.Author.Rules.{rules}
 use Rattle.look.proofs.brief_ack.Goals as goal
 
 pub returns-in_default : goal.returns-in_default

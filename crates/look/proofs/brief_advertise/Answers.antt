@@ -1,12 +1,10 @@
 -- What is told of the message that its reader gives, or of its refusal. Assumes nothing.
-use mathlib.Core.Path.{refl, sym, ap, subst, ◌∙◌}
-use mathlib.Core.List.{[], ◌∷◌}
+use mathlib.Core.Path.{sym, ap, subst, ◌∙◌}
 use Rattle.wire_fields.specs.Kinds.{advertise_kinds}
 use Rattle.wire_read.specs.Answers.{incoming_of}
 use Rattle.wire_read.specs.declared.Incoming.{Incoming}
 use Rattle.look.specs.Seen.{look_of, brief_of, Small}
 use Rattle.look.proofs.BriefLaws.{else-refused, brief_by}
-use borrow.Author.Rules.{rules}
 use Rattle.look.proofs.brief_advertise.Goals as goal
 
 pub returns-in_default : goal.returns-in_default
@@ -19,9 +17,8 @@ returns-in_default c =
 pub seen_as-seen-requires : goal.seen_as-seen-requires
 unfolding look_of
 seen_as-seen-requires c =
-    let start = c in
     subst (λ (a : Incoming). Small (look_of a)) (sym c.read_advertise-message.ensures ∙ c.in-Advertise.is)
-    start.requires.1
+    c.requires.1
 
 pub returns : goal.returns
 unfolding brief_of look_of

@@ -18,7 +18,6 @@ use Rattle.wire_read.proofs.ReaderLaws.{header-refuses, header-right}
 use Rattle.look.specs.Seen.{look_of, brief_of, read_as, authority_read, Small}
 use Rattle.look.proofs.SeenLaws.{look_small}
 use Rattle.look.proofs.BriefLaws.{read_as_lem, read_authority}
-use borrow.Author.Rules.{rules}
 use Rattle.look.proofs.brief_at.Goals.{Else-number-ne0}
 use Rattle.look.proofs.brief_at.Goals as goal
 

@@ -1,13 +1,11 @@
 -- What is told of an AUTHORITY, or of its refusal: 6, or 7 where it is in part. Assumes nothing.
-use mathlib.Core.Path.{refl, sym, ap, ap₂, subst, ◌∙◌}
+use mathlib.Core.Path.{sym, ap, ap₂, subst, ◌∙◌}
 use mathlib.Core.Bool.{Bool}
-use mathlib.Core.List.{[], ◌∷◌}
 use Rattle.wire_read.specs.Answers.{incoming_of}
 use Rattle.wire_read.specs.declared.Incoming.{Incoming}
 use Rattle.look.specs.Seen.{look_of, briefed, brief_of, Small}
 use Rattle.look.specs.declared.Look.{Look}
 use Rattle.look.proofs.BriefLaws.{neither}
-use borrow.Author.Rules.{rules}
 use Rattle.look.proofs.brief_authority.Goals as goal
 
 pub returns-in_default-message : goal.returns-in_default-message
@@ -24,12 +22,10 @@ returns-in_default c =
 pub seen_as-seen-requires : goal.seen_as-seen-requires
 unfolding look_of
 seen_as-seen-requires c =
-    let read = c in
-    let start = c in
-    subst (λ (a : Incoming). Small (look_of a)) (sym read.read_authority-message.ensures ∙ read.in-Authority.is) start.requires.1
+    subst (λ (a : Incoming). Small (look_of a)) (sym c.read_authority-message.ensures ∙ c.in-Authority.is) c.requires.1
 
 pub returns : goal.returns
 unfolding brief_of look_of
 returns c =
     ap₂ (λ (s : Look) (f : Bool). briefed s 0 f 0 0) c.seen_as-seen.ensures c.is_here.ensures
-    ∙ (let read = c in ap brief_of (sym read.in-Authority.is ∙ read.read_authority-message.ensures))
+    ∙ ap brief_of (sym c.in-Authority.is ∙ c.read_authority-message.ensures)

@@ -1,14 +1,12 @@
 -- What is told of the message that its reader gives, or of its refusal. Assumes nothing.
-use mathlib.Core.Path.{refl, sym, ap, ap₂, subst, ◌∙◌}
+use mathlib.Core.Path.{sym, ap, ap₂, subst, ◌∙◌}
 use Prim.Native.Nat.{ℕ}
 use mathlib.Core.Bool.{false}
-use mathlib.Core.List.{[], ◌∷◌}
 use Rattle.wire_fields.specs.Kinds.{lookup_kinds}
 use Rattle.wire_read.specs.Answers.{incoming_of}
 use Rattle.wire_read.specs.declared.Incoming.{Incoming}
 use Rattle.look.specs.Seen.{look_of, briefed, brief_of, Small}
 use Rattle.look.proofs.BriefLaws.{else-refused, brief_by}
-use borrow.Author.Rules.{rules}
 use Rattle.look.proofs.brief_lookup.Goals as goal
 
 pub returns-in_default : goal.returns-in_default
@@ -21,13 +19,10 @@ returns-in_default c =
 pub seen_as-seen-requires : goal.seen_as-seen-requires
 unfolding look_of
 seen_as-seen-requires c =
-    let start = c in
-    subst (λ (a : Incoming). Small (look_of a)) (sym c.read_lookup-message.ensures ∙ c.in-Lookup.is) start.requires.1
+    subst (λ (a : Incoming). Small (look_of a)) (sym c.read_lookup-message.ensures ∙ c.in-Lookup.is) c.requires.1
 
 pub returns : goal.returns
 unfolding brief_of look_of
 returns c =
-    let told = c in
-    let found = c in
-    ap₂ (λ (p n : ℕ). briefed told.seen_as-seen.result 0 false p n) c.place_of.ensures c.bytes_of.ensures
-    ∙ brief_by told.seen_as-seen.ensures ∙ ap brief_of (sym found.in-Lookup.is ∙ found.read_lookup-message.ensures)
+    ap₂ (λ (p n : ℕ). briefed c.seen_as-seen.result 0 false p n) c.place_of.ensures c.bytes_of.ensures
+    ∙ brief_by c.seen_as-seen.ensures ∙ ap brief_of (sym c.in-Lookup.is ∙ c.read_lookup-message.ensures)

@@ -2,7 +2,6 @@
 use mathlib.Core.Path.{ap, ◌∙◌}
 use Rattle.look.specs.declared.Brief.{Brief}
 use Rattle.look.proofs.BriefLaws.{brief_seen}
-use borrow.Author.Rules.{rules}
 use Rattle.look.proofs.look_at.Goals as goal
 
 pub returns : goal.returns

@@ -3,7 +3,6 @@ use mathlib.Core.Path.{ap}
 use mathlib.Core.Bool.{false}
 use Rattle.look.specs.Seen.{briefed, look_of, brief_of}
 use Rattle.look.specs.declared.Look.{Look}
-use borrow.Author.Rules.{rules}
 use Rattle.look.proofs.refused.Goals as goal
 
 pub returns : goal.returns

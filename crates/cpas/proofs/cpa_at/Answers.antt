@@ -1,5 +1,5 @@
 use mathlib.Core.Path.{◌≡◌, sym, ap, ◌∙◌}
-use Prim.Native.Nat.{ℕ, ◌+◌, ◌-◌, ◌≤◌, ◌<◌}
+use Prim.Native.Nat.{ℕ, ◌+◌, ◌-◌, ◌≤◌}
 use native.Mathlib.Omega.{arith}
 use lib.ListN.{length, drop, length-drop}
 use Rattle.octet.specs.Part.{part}
@@ -13,8 +13,7 @@ room cpas place at i l = omega (arith, (left_front place i at cpas l).room, leng
 
 pub loop-i-init : goal.loop-i-init
 loop-i-init c =
-    let s = c in
-    (omega arith, left_first s.args.place s.requires.0 s.args.cpas.now s.requires.1 s.requires.2)
+    (omega arith, left_first c.args.place c.requires.0 c.args.cpas.now c.requires.1 c.requires.2)
 
 pub size_at-requires : goal.size_at-requires
 size_at-requires c =
@@ -50,9 +49,8 @@ slice_bounds-result-end c =
 
 pub returns : goal.returns
 returns c =
-    let s = c in
-    let a = s.args in
-    let l = s.loop-i in
-    let n : l.at + 2 + s.size_at-2.result - (l.at + 2) ≡ s.size_at-2.result = omega arith in
+    let a = c.args in
+    let l = c.loop-i in
+    let n : l.at + 2 + c.size_at-2.result - (l.at + 2) ≡ c.size_at-2.result = omega arith in
     ap (λ (k : ℕ). part (l.at + 2) k a.cpas.now) n
-    ∙ sym (left_here a.place l.i l.at a.cpas.now (omega arith) l.invariant.1 s.size_at-2.ensures.0)
+    ∙ sym (left_here a.place l.i l.at a.cpas.now (omega arith) l.invariant.1 c.size_at-2.ensures.0)

@@ -1,12 +1,8 @@
 -- `cpas::cpas_form` meets its contract: the answer is always the answer for what is left. Assumes nothing.
-use mathlib.Core.Path.{◌≡◌, refl, sym, ap, ◌∙◌}
-use mathlib.Core.Bool.{true}
-use Prim.Native.Nat.{ℕ, ◌+◌, ◌-◌, ◌≤◌, ◌<◌}
-use native.Mathlib.Omega.{arith}
-use lib.ListN.{length, drop, length-drop}
-use borrow.Author.Tests.{not-true, not-false}
-use Rattle.cpas.specs.Cpas.{cpa_form, cpas_form}
-use Rattle.cpas.proofs.CpaLaws.{Whole, whole, form_turn, form_stop, form_done}
+use mathlib.Core.Path.{◌≡◌}
+use Prim.Native.Nat.{◌-◌, ◌≤◌}
+use lib.ListN.{length, drop}
+use Rattle.cpas.specs.Cpas.{cpas_form}
 use Rattle.cpas.proofs.cpas_form.Given as goal
 
 abbrev pub invariant-loop-i : goal.invariant-loop-i

@@ -2,7 +2,6 @@
 use mathlib.Core.Path.{refl, sym}
 use native.Mathlib.Omega.{arith}
 use lib.ListN.{drop, length-drop}
-use borrow.Author.Rules.{rules}
 use Rattle.cpas.proofs.CpaLaws.{cpa_short, cpa_tests}
 use Rattle.cpas.proofs.is_cpa.Goals as goal
 

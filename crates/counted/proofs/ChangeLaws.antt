@@ -1,16 +1,16 @@
 -- What learning and removing do to the keys held, case by case as the answer tells. Assumes nothing.
 use mathlib.Core.Path.{◌≡◌, refl, sym, ap, ap₂, subst, ◌∙◌}
-use mathlib.Core.Logic.{◌⊎◌, inl, inr}
+use mathlib.Core.Logic.{inl, inr}
 use mathlib.Core.Bool.{Bool, true, false, cond}
 use mathlib.Core.List.{List, [], ◌∷◌}
-use Prim.Native.Nat.{ℕ, suc, zero-le, ◌*◌, ◌≤◌, ◌<◌}
+use Prim.Native.Nat.{ℕ, zero-le, ◌*◌, ◌≤◌, ◌<◌}
 use native.Mathlib.Omega.{arith}
 use lib.Dec.{ltb, eqb}
 use lib.ListN.{length, length-map}
-use borrow.Author.Tests.{ltb-true, ltb-false, eqb-true, eq-eqb, ne_eqb, lt-ltb, le-ltb}
+use borrow.Author.Tests.{ltb-true, ltb-false, eqb-true}
 use Rattle.record.specs.Record.{key_of}
 use Rattle.own.specs.Own.{Own}
-use Rattle.kept.specs.Keys.{◌∈◌, has, Every, Rising, plain, put, without}
+use Rattle.kept.specs.Keys.{◌∈◌, has, plain, put, without}
 use Rattle.kept.specs.History.{learn_with}
 use Rattle.kept.specs.Records.{put_by}
 use Rattle.kept.specs.Plain.{NotOwn, first_of, drops}

@@ -1,6 +1,6 @@
 -- `counted::learn` meets its contract: a key that joins is one more for its byte, then one that leaves is one less for its own. Assumes nothing.
 use mathlib.Core.Path.{◌≡◌, sym, ap, subst, ◌∙◌}
-use mathlib.Core.Bool.{true, false}
+use mathlib.Core.Bool.{true}
 use mathlib.Core.List.{List}
 use Prim.Native.Nat.{ℕ, ◌+◌, ◌-◌, ◌≤◌, ◌<◌, zero-le}
 use native.Mathlib.Omega.{arith}
@@ -26,7 +26,6 @@ use Rattle.firsts.proofs.ByteLaws.{key-begins}
 use Rattle.firsts.proofs.CountLaws.{OneMore, more-put, less-without}
 use Rattle.firsts.proofs.FirstsLaws.{firsts_length, row_room, counted-up, counted-down, some-there}
 use Rattle.counted.proofs.ChangeLaws.{Learnt, learnt, told-stays, told-joins, told-alone, told-trades}
-use borrow.Author.Rules.{rules}
 use Rattle.counted.proofs.learn.Goals.{After-count_up, After-first_byte, After-learn-change, Start}
 use Rattle.counted.proofs.learn.Goals as goal
 

@@ -1,8 +1,8 @@
 -- `counted::remove` meets its contract: a key that leaves is one less for its byte. Assumes nothing.
 use mathlib.Core.Path.{◌≡◌, sym, ap, subst, ◌∙◌}
-use mathlib.Core.Bool.{true, false}
+use mathlib.Core.Bool.{true}
 use mathlib.Core.List.{List}
-use Prim.Native.Nat.{ℕ, ◌+◌, ◌-◌, ◌≤◌, ◌<◌}
+use Prim.Native.Nat.{ℕ, ◌-◌, ◌≤◌, ◌<◌}
 use native.Mathlib.Omega.{arith}
 use lib.ListN.{length, get_or, length-map}
 use borrow.Author.Tests.{not-true, not-false}
@@ -14,7 +14,7 @@ use Rattle.table.specs.Rows.{rows}
 use Rattle.table.proofs.RowLaws.{rows-length}
 use Rattle.kept.specs.Keys.{without}
 use Rattle.cache.specs.Form.{keys_of}
-use Rattle.cache.specs.Change.{Changes, removed}
+use Rattle.cache.specs.Change.{Changes}
 use Rattle.cache.proofs.FormLaws.{form_laid}
 use Rattle.firsts.specs.Firsts.{firsts_of}
 use Rattle.firsts.specs.Places.{count_at, with_count}
@@ -22,7 +22,6 @@ use Rattle.firsts.proofs.ByteLaws.{key-begins}
 use Rattle.firsts.proofs.CountLaws.{OneMore, less-without}
 use Rattle.firsts.proofs.FirstsLaws.{firsts_length, counted-down, some-there}
 use Rattle.counted.proofs.ChangeLaws.{removed_keys, told-left, told-kept}
-use borrow.Author.Rules.{rules}
 use Rattle.counted.proofs.remove.Goals.{After-remove-change, Start}
 use Rattle.counted.proofs.remove.Goals as goal
 

@@ -1,14 +1,13 @@
 -- What the list makes of the first records are the second: an entry behind the first record leaves that where it is. Assumes nothing.
-use mathlib.Core.Path.{◌≡◌, refl, sym, ◌∙◌, ap}
+use mathlib.Core.Path.{◌≡◌, refl, ◌∙◌, ap}
 use mathlib.Core.List.{List, [], ◌∷◌, map}
 use Prim.Native.Nat.{ℕ, suc, ◌<◌}
 use native.Mathlib.Omega.{arith}
 use borrow.Author.Tests.{lt-ltb, le-ltb}
 use Rattle.record.specs.Record.{key_of}
 use Rattle.kept.specs.Keys.{Rising, plain}
-use Rattle.kept.specs.Records.{put_by, without_by}
+use Rattle.kept.specs.Records.{put_by}
 use Rattle.kept.proofs.ListLaws.{rising-from}
-use Rattle.cache.specs.Form.{keys_of}
 use Rattle.cache.proofs.FindLaws.{without_low, without_skip, without_this}
 use Rattle.changed.specs.Changes.{Change, gone, new, other, key_in, changed_by, apply}
 use Rattle.changed.proofs.StepLaws.{Above}

@@ -2,11 +2,11 @@
 -- Assumes nothing.
 use mathlib.Core.Path.{◌≡◌, refl, sym, ◌∙◌, ap, subst}
 use mathlib.Core.Logic.{◌⊎◌, inl, inr, ◌↔◌}
-use mathlib.Core.List.{List, [], ◌∷◌, map}
-use Prim.Native.Nat.{ℕ, suc, ◌<◌}
+use mathlib.Core.List.{List, [], ◌∷◌}
+use Prim.Native.Nat.{ℕ, suc}
 use native.Mathlib.Omega.{arith}
 use Rattle.record.specs.Record.{key_of}
-use Rattle.kept.specs.Keys.{◌∈◌, Rising, plain}
+use Rattle.kept.specs.Keys.{◌∈◌, plain}
 use Rattle.kept.proofs.ListLaws.{rising-at}
 use Rattle.cache.specs.Form.{keys_of}
 use Rattle.changed.specs.Changes.{Change, gone, new, other}

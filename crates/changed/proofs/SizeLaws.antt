@@ -1,10 +1,9 @@
 -- A list has at most an entry for each record of either cache, and 101 bytes for each entry where the second cache's records have 100. Assumes nothing.
 use mathlib.Core.Path.{◌≡◌, refl, ap}
-use mathlib.Core.List.{List, [], ◌∷◌, ◌++◌, map}
+use mathlib.Core.List.{List, [], ◌∷◌}
 use Prim.Native.Nat.{ℕ, suc, ◌+◌, ◌*◌, ◌≤◌}
 use native.Mathlib.Omega.{arith}
-use lib.ListN.{length, length-append, length-replicate, replicate}
-use Rattle.octet.specs.Number.{digits_be}
+use lib.ListN.{length, length-append, length-replicate}
 use Rattle.octet.specs.Part as bytes
 use Rattle.octet.proofs.BigLaws.{length-digits_be}
 use Rattle.record.specs.Record.{key_of}

@@ -1,15 +1,12 @@
 -- The theorems of specs/Statements.antt, under the same names. Assumes nothing.
-use mathlib.Core.Path.{◌≡◌, refl, sym, ◌∙◌, ap, ap₂, subst}
-use mathlib.Core.Logic.{◌⊎◌, inl, inr, ◌↔◌}
-use mathlib.Core.List.{List, [], ◌∷◌, map}
-use Prim.Native.Nat.{ℕ, suc, ◌≤◌}
-use native.Mathlib.Omega.{arith}
+use mathlib.Core.Path.{◌≡◌, refl, sym, ◌∙◌, ap, subst}
+use mathlib.Core.Logic.{inl}
+use mathlib.Core.List.{List, [], ◌∷◌}
+use Prim.Native.Nat.{ℕ, suc}
 use Rattle.record.specs.Record.{key_of}
-use Rattle.kept.specs.Keys.{◌∈◌, Rising, plain}
-use Rattle.kept.proofs.ListLaws.{rising-from}
-use Rattle.cache.specs.Form.{keys_of}
+use Rattle.kept.specs.Keys.{◌∈◌}
 use Rattle.changed.specs.Changes.{Change, gone, new, other, key_in, changes, apply}
-use Rattle.changed.specs.Statements.{Differs, Lists, InOrder, ChangesLists, ListsOne, AppliesBack, EmptySame}
+use Rattle.changed.specs.Statements.{Differs, InOrder, ChangesLists, ListsOne, AppliesBack, EmptySame}
 use Rattle.changed.proofs.StepLaws.{Above, by_order}
 use Rattle.changed.proofs.OrderLaws.{Rises, rises_gone, rises_new, rises-same, rises_other, rise-ext}
 use Rattle.changed.proofs.MembersLaws.{key_in_lem, Exactly, exactly-gone, exactly-new, exactly-same, exactly-other}

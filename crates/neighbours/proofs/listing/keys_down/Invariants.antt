@@ -1,20 +1,13 @@
 -- `neighbours::listing::keys_down` meets its contract: after i turns i keys are written. Assumes nothing.
-use mathlib.Core.Path.{◌≡◌, refl, sym, ap, ◌∙◌}
-use mathlib.Core.List.{List, reverse}
-use Prim.Native.Nat.{ℕ, ◌+◌, ◌-◌, ◌*◌, ◌≤◌}
-use native.Mathlib.Nat.{zero-add}
-use lib.ListN.{length, take, drop}
-use lib.Seq.{take_all}
-use Rattle.octet.specs.Number.{Bytes}
-use Rattle.octet.specs.Part.{part, splice}
-use Rattle.octet.proofs.PartLaws.{splice_nil}
+use mathlib.Core.Path.{◌≡◌}
+use mathlib.Core.List.{reverse}
+use Prim.Native.Nat.{◌-◌, ◌≤◌}
+use lib.ListN.{length, take}
+use Rattle.octet.specs.Part.{splice}
 use Rattle.table.specs.Rows.{rows}
 use Rattle.kept.specs.Turned.{turned}
-use Rattle.key.specs.Number.{key_at}
 use Rattle.cache.specs.Form.{keys_of}
 use Rattle.neighbours.specs.Listing.{key_bytes}
-use Rattle.neighbours.proofs.ListLaws.{key-digits, write_turn, down-length, down_key}
-use native.Mathlib.Omega.{arith}
 use Rattle.neighbours.proofs.listing.keys_down.Given as goal
 
 abbrev pub invariant-loop-i : goal.invariant-loop-i

@@ -1,10 +1,10 @@
-use mathlib.Core.Path.{◌≡◌, refl, sym, ap, ◌∙◌}
+use mathlib.Core.Path.{refl, sym, ap, ◌∙◌}
 use mathlib.Core.List.{List}
-use Prim.Native.Nat.{ℕ, ◌+◌, ◌-◌, ◌*◌, ◌≤◌}
-use lib.ListN.{length, take, drop}
+use Prim.Native.Nat.{ℕ, ◌+◌, ◌*◌, ◌≤◌}
+use lib.ListN.{length, take}
 use lib.Seq.{take_all}
 use Rattle.octet.specs.Number.{Bytes}
-use Rattle.octet.specs.Part.{part, splice}
+use Rattle.octet.specs.Part.{splice}
 use Rattle.octet.proofs.PartLaws.{splice_nil}
 use Rattle.table.specs.Rows.{rows}
 use Rattle.kept.specs.Turned.{turned}

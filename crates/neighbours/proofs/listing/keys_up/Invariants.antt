@@ -1,19 +1,12 @@
 -- `neighbours::listing::keys_up` meets its contract: after i turns i keys are written. Assumes nothing.
-use mathlib.Core.Path.{◌≡◌, refl, sym, ap, ◌∙◌}
-use mathlib.Core.List.{List}
-use Prim.Native.Nat.{ℕ, ◌+◌, ◌-◌, ◌*◌, ◌≤◌}
-use lib.ListN.{length, take, drop}
-use lib.Seq.{take_all}
-use Rattle.octet.specs.Number.{Bytes}
-use Rattle.octet.specs.Part.{part, splice}
-use Rattle.octet.proofs.PartLaws.{splice_nil}
+use mathlib.Core.Path.{◌≡◌}
+use Prim.Native.Nat.{◌-◌, ◌≤◌}
+use lib.ListN.{length, take}
+use Rattle.octet.specs.Part.{splice}
 use Rattle.table.specs.Rows.{rows}
 use Rattle.kept.specs.Turned.{turned}
-use Rattle.key.specs.Number.{key_at}
 use Rattle.cache.specs.Form.{keys_of}
 use Rattle.neighbours.specs.Listing.{key_bytes}
-use Rattle.neighbours.proofs.ListLaws.{key-digits, write_turn, up-length, up_key}
-use native.Mathlib.Omega.{arith}
 use Rattle.neighbours.proofs.listing.keys_up.Given as goal
 
 abbrev pub invariant-loop-i : goal.invariant-loop-i

@@ -1,12 +1,12 @@
 -- `neighbours::listing::neighbour_list` meets its contract: each test that fails is the first row that applies; where none does, the list is written.
 -- Assumes nothing.
 use mathlib.Core.Path.{◌≡◌, sym, ap, ap₂, ◌∙◌}
-use mathlib.Core.Bool.{true, false, not}
+use mathlib.Core.Bool.{true, not}
 use mathlib.Core.List.{List, [], ◌∷◌}
 use Prim.Native.Nat.{ℕ}
 use lib.Dec.{eqb, ltb}
 use lib.ListN.{length}
-use borrow.Author.Tests.{eq-eqb, ne_eqb, lt-ltb, le-ltb, not-true, not-false}
+use borrow.Author.Tests.{eq-eqb, ne_eqb, lt-ltb, le-ltb}
 use Rattle.refusal.specs.Table.{when, or_refuse}
 use Rattle.refusal.proofs.CallLaws.{row_applies, row_passes, no_row}
 use Rattle.key.specs.Number.{key_at}
@@ -18,10 +18,9 @@ use Rattle.cache.specs.Calls.{held_by}
 use Rattle.cache.proofs.FormLaws.{form_laid}
 use Rattle.cache.proofs.LentLaws.{not_is, not_isn't, memory-form, memory-held, memory-passes, memory-refuses}
 use Rattle.neighbours.specs.Listing.{after_list, counts_of}
-use Rattle.neighbours.specs.Calls.{Written, list_written, list_wrong, list_call}
+use Rattle.neighbours.specs.Calls.{Written, list_written, list_call}
 use Rattle.neighbours.specs.declared.listing.Counts.{Counts}
 use native.Mathlib.Omega.{arith}
-use borrow.Author.Rules.{rules}
 use Rattle.neighbours.proofs.listing.neighbour_list.Goals.{After-memory-found, Else-not-is_own, In-Good, Start}
 use Rattle.neighbours.proofs.listing.neighbour_list.Goals as goal
 

@@ -1,6 +1,6 @@
 -- `neighbours::listing::neighbours` meets its contract: the keys round the ring, from the key down, and from it up. Assumes nothing.
 use mathlib.Core.Path.{◌≡◌, ◌∙◌}
-use Prim.Native.Nat.{ℕ, ◌*◌, ◌≤◌, ◌<◌}
+use Prim.Native.Nat.{◌*◌, ◌≤◌, ◌<◌}
 use lib.ListN.{length, length-map}
 use Rattle.octet.specs.Number.{Bytes}
 use Rattle.key.specs.Number.{key_at}
@@ -13,7 +13,6 @@ use Rattle.kept.proofs.TurnLaws.{count-le, under_le}
 use Rattle.cache.specs.Form.{keys_of}
 use Rattle.neighbours.proofs.ListLaws.{near-counts, near-out}
 use native.Mathlib.Omega.{arith}
-use borrow.Author.Rules.{rules}
 use Rattle.neighbours.proofs.listing.neighbours.Goals.{After-count_below-under, After-count_under-first, Start}
 use Rattle.neighbours.proofs.listing.neighbours.Goals as goal
 
@@ -52,8 +51,7 @@ overflow_sub-used c = under-most (goal.at.overflow_sub-used c).After-count_below
 pub keys_down-requires : goal.keys_down-requires
 keys_down-requires c =
     let s = (goal.at.keys_down-requires c).Start in
-    let w = under-most (goal.at.keys_down-requires c).After-count_below-under in
-    (
+    let w = under-most (goal.at.keys_down-requires c).After-count_below-under in (
       room s,
       first-most (goal.at.keys_down-requires c).After-count_under-first,
       omega (arith, c.lesser-below.ensures),

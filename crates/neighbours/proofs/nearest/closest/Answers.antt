@@ -8,7 +8,6 @@ use Rattle.table.proofs.RowLaws.{rows-length}
 use Rattle.neighbours.specs.Where.{record_at, Within}
 use Rattle.cache.proofs.FormLaws.{form_laid}
 use native.Mathlib.Omega.{arith}
-use borrow.Author.Rules.{rules}
 use Rattle.neighbours.proofs.nearest.closest.Goals.{After-place_of_closest, In-Held, In-Own, Start}
 use Rattle.neighbours.proofs.nearest.closest.Goals as goal
 

@@ -1,9 +1,6 @@
 -- `neighbours::nearest::nearest_of` meets its contract: the three comparisons are the definition's. Assumes nothing.
 use mathlib.Core.Path.{◌≡◌, refl, sym, ap₂, ◌∙◌}
-use mathlib.Core.Bool.{Bool}
 use Prim.Native.Nat.{ℕ, ◌*◌}
-use native.Mathlib.Omega.{arith}
-use borrow.Author.Rules.{rules}
 use Rattle.key.specs.Number.{number, key_at}
 use Rattle.key.specs.Around.{closer}
 use Rattle.neighbours.specs.Where.{nearest_of}

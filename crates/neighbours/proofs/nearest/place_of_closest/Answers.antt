@@ -1,13 +1,11 @@
 -- `neighbours::nearest::place_of_closest` meets its contract: of the records held, one of the first two on the sides of the target's place that are not on the path.
 -- Assumes nothing.
-use mathlib.Core.Path.{◌≡◌, refl, sym, ap, ap₂, ◌∙◌}
+use mathlib.Core.Path.{◌≡◌, sym, ap, ap₂, ◌∙◌}
 use mathlib.Core.Bool.{Bool}
 use mathlib.Core.List.{List, append-nil}
-use Prim.Native.Nat.{ℕ, ◌+◌, ◌-◌, ◌*◌, ◌/◌, ◌≤◌, ◌<◌}
+use Prim.Native.Nat.{ℕ, ◌*◌, ◌/◌, ◌≤◌, ◌<◌}
 use native.Mathlib.Omega.{arith}
 use lib.ListN.{length}
-use borrow.Author.Rules.{rules}
-use Rattle.octet.specs.Number.{Bytes}
 use Rattle.key.specs.Number.{key_at}
 use Rattle.key.specs.Around.{ring}
 use Rattle.key.proofs.KeyLaws.{key-lt}

@@ -1,20 +1,8 @@
 -- `neighbours::nearest::skipped_up` meets its contract: what the whole walk answers is what the walk from number i on answers. Assumes nothing.
-use mathlib.Core.Path.{◌≡◌, refl, sym, ap, ◌∙◌}
-use mathlib.Core.Bool.{Bool}
-use Prim.Native.Nat.{ℕ, ◌+◌, ◌-◌, ◌*◌, ◌≤◌, ◌<◌}
-use native.Mathlib.Omega.{arith}
-use lib.ListN.{length, get_or}
-use borrow.Author.Tests.{not-true, not-false}
-use Rattle.octet.specs.Part.{part}
-use Rattle.octet.proofs.PartLaws.{part_at}
-use Rattle.record.proofs.EntryLaws.{one_address}
-use Rattle.path.specs.Path.{on_path}
-use Rattle.table.specs.Rows.{rows}
+use mathlib.Core.Path.{◌≡◌}
+use Prim.Native.Nat.{ℕ, ◌-◌, ◌≤◌}
 use Rattle.round.specs.Over.{pass_over}
 use Rattle.neighbours.specs.Where.{steps_up, skips_at}
-use Rattle.neighbours.proofs.ClosestLaws.{in_form}
-use Rattle.round.proofs.OverLaws.{over-on, over-here, over-end}
-use Rattle.neighbours.proofs.BesideLaws.{row_in}
 use Rattle.neighbours.proofs.nearest.skipped_up.Given as goal
 
 abbrev pub invariant-loop-i : goal.invariant-loop-i

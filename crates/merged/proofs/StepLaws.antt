@@ -2,9 +2,9 @@
 -- Assumes nothing.
 use mathlib.Core.Path.{◌≡◌, refl, sym, ap, ap₂, ◌∙◌, subst}
 use mathlib.Core.Logic.{◌⊎◌, inl, inr}
-use mathlib.Core.Bool.{Bool, true, false}
-use mathlib.Core.List.{List, [], ◌∷◌, ◌++◌, map}
-use Prim.Native.Nat.{ℕ, zero, suc, ◌+◌, ◌*◌, ◌≤◌, ◌<◌}
+use mathlib.Core.Bool.{true, false}
+use mathlib.Core.List.{List, [], ◌∷◌, ◌++◌}
+use Prim.Native.Nat.{ℕ, suc, ◌+◌, ◌*◌, ◌≤◌, ◌<◌}
 use native.Mathlib.Nat.{eq-or-lt_of_le}
 use native.Mathlib.Omega.{arith}
 use lib.ListN.{length, drop, length-append, length-replicate, replicate}
@@ -25,7 +25,7 @@ use Rattle.kept.proofs.ListLaws.{Test, pass, fail, test}
 use Rattle.changed.specs.Changes.{Change, gone, new, other, changes}
 use Rattle.changed.proofs.StepLaws.{first-gone, first-new, first_same, first-other}
 use Rattle.merged.specs.declared.merge.Next.{Next}
-use Rattle.changed.specs.Entries.{entry_bytes, list_bytes}
+use Rattle.changed.specs.Entries.{list_bytes}
 use Rattle.merged.specs.Steps.{step, one_key, by_order, step_of, step_bytes}
 
 module _ (s : List ℕ) (used : ℕ) (t : List ℕ) (held : ℕ) where

@@ -1,6 +1,6 @@
 -- Helps the code. One step through the records of two caches: what stands next, and what it writes. Tied to the list by `step-list` (proofs/StepLaws).
 -- Assumes nothing.
-use Rattle.std.specs.Prelude.{ℕ, zero, suc, ◌*◌, cond, List, [], ◌∷◌, ◌++◌, ltb, replicate}
+use Rattle.std.specs.Prelude.{ℕ, zero, suc, ◌*◌, cond, List, [], ◌∷◌, ◌++◌, replicate}
 use Rattle.octet.specs.Part.{part, same}
 use Rattle.key.specs.Number.{order_of}
 use Rattle.key.specs.declared.Order.{Order}

@@ -1,11 +1,8 @@
 use mathlib.Core.Path.{◌≡◌, ap}
-use Prim.Native.Nat.{ℕ, ◌+◌, ◌-◌, ◌*◌, ◌≤◌}
-use mathlib.Core.List.{List}
 use lib.ListN.{length}
 use native.Mathlib.Omega.{arith}
-use borrow.Author.Rules.{rules}
 use Rattle.table.specs.Rows.{rows}
-use Rattle.changed.specs.Changes.{Change, changes}
+use Rattle.changed.specs.Changes.{changes}
 use Rattle.merged.proofs.StepLaws.{Rest, Stepped, stepped, rest_all, rest-none}
 use Rattle.merged.proofs.merge.count.Goals.{After-step-next}
 use Rattle.merged.proofs.merge.count.Goals as goal

@@ -1,13 +1,10 @@
 -- `merged::merge::count` meets its contract. The invariant: what is counted and what is listed from here on is the whole. Assumes nothing.
-use mathlib.Core.Path.{◌≡◌, ap}
-use Prim.Native.Nat.{ℕ, ◌+◌, ◌-◌, ◌*◌, ◌≤◌}
-use mathlib.Core.List.{List}
+use mathlib.Core.Path.{◌≡◌}
+use Prim.Native.Nat.{◌+◌, ◌-◌, ◌≤◌}
 use lib.ListN.{length}
-use native.Mathlib.Omega.{arith}
-use borrow.Author.Rules.{rules}
 use Rattle.table.specs.Rows.{rows}
-use Rattle.changed.specs.Changes.{Change, changes}
-use Rattle.merged.proofs.StepLaws.{Rest, Stepped, stepped, rest_all, rest-none}
+use Rattle.changed.specs.Changes.{changes}
+use Rattle.merged.proofs.StepLaws.{Rest}
 use Rattle.merged.proofs.merge.count.Given as goal
 
 abbrev pub invariant-loop-i : goal.invariant-loop-i

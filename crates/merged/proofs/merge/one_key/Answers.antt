@@ -1,6 +1,5 @@
 -- `merged::merge::one_key` meets its contract. Assumes nothing.
 use mathlib.Core.Path.{sym, ◌∙◌}
-use borrow.Author.Rules.{rules}
 use Rattle.merged.proofs.StepLaws.{one_same, one_other}
 use Rattle.merged.proofs.merge.one_key.Goals as goal
 

@@ -1,10 +1,8 @@
 -- `merged::merge::step` meets its contract: an end, or the order of the two keys. Assumes nothing.
-use mathlib.Core.Path.{◌≡◌, sym, ap, ◌∙◌}
-use Prim.Native.Nat.{ℕ, ◌*◌}
-use mathlib.Core.List.{List}
+use mathlib.Core.Path.{◌≡◌, sym, ◌∙◌}
+use Prim.Native.Nat.{◌*◌}
 use lib.ListN.{drop}
 use native.Mathlib.Omega.{arith}
-use borrow.Author.Rules.{rules}
 use Rattle.octet.specs.Part.{part}
 use Rattle.key.specs.declared.Order.{Order}
 use Rattle.key.specs.declared.Order.TheVariants.{Less, Same, More}

@@ -1,7 +1,6 @@
 -- `merged::written::put` meets its contract, by the kind. Assumes nothing.
 use mathlib.Core.Path.{◌∙◌}
 use native.Mathlib.Omega.{arith}
-use borrow.Author.Rules.{rules}
 use Rattle.merged.proofs.WriteLaws.{kind-none, kind-gone, kind-held}
 use Rattle.merged.proofs.written.put.Goals as goal
 

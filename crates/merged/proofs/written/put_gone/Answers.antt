@@ -1,10 +1,8 @@
 -- `merged::written::put_gone` meets its contract: three pieces, one behind the other. Assumes nothing.
 use mathlib.Core.Path.{ap, ◌∙◌}
-use mathlib.Core.List.{List}
-use Prim.Native.Nat.{ℕ, ◌+◌, ◌*◌}
+use Prim.Native.Nat.{◌+◌, ◌*◌}
 use native.Mathlib.Omega.{arith}
 use lib.ListN.{replicate}
-use borrow.Author.Rules.{rules}
 use Rattle.octet.specs.Part.{part, splice}
 use Rattle.merged.proofs.WriteLaws.{gone_piece}
 use Rattle.merged.proofs.written.put_gone.Goals as goal

@@ -1,9 +1,7 @@
 -- `merged::written::put_held` meets its contract: two pieces, one behind the other. Assumes nothing.
 use mathlib.Core.Path.{ap, ◌∙◌}
-use mathlib.Core.List.{List}
-use Prim.Native.Nat.{ℕ, ◌+◌, ◌*◌}
+use Prim.Native.Nat.{◌+◌, ◌*◌}
 use native.Mathlib.Omega.{arith}
-use borrow.Author.Rules.{rules}
 use Rattle.octet.specs.Part.{part, splice}
 use Rattle.merged.proofs.WriteLaws.{held_piece}
 use Rattle.merged.proofs.written.put_held.Goals as goal

@@ -1,13 +1,12 @@
-use mathlib.Core.Path.{◌≡◌, refl, sym, ap, ◌∙◌}
+use mathlib.Core.Path.{refl, sym, ap, ◌∙◌}
 use mathlib.Core.List.{List}
-use Prim.Native.Nat.{ℕ, ◌+◌, ◌-◌, ◌*◌, ◌≤◌}
+use Prim.Native.Nat.{◌+◌, ◌*◌}
 use native.Mathlib.Omega.{arith}
 use lib.ListN.{length}
-use borrow.Author.Rules.{rules}
 use Rattle.octet.specs.Part.{splice}
 use Rattle.octet.proofs.PartLaws.{splice_nil}
-use Rattle.table.specs.Rows.{rows, joined}
-use Rattle.changed.specs.Changes.{Change, changes}
+use Rattle.table.specs.Rows.{joined}
+use Rattle.changed.specs.Changes.{Change}
 use Rattle.changed.specs.Entries.{list_bytes}
 use Rattle.merged.proofs.StepLaws.{Rest, Stepped, stepped, rest_all, rest-none}
 use Rattle.merged.proofs.WriteLaws.{write_turn}

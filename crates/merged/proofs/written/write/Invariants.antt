@@ -1,17 +1,12 @@
 -- `merged::written::write` meets its contract. The invariant: with what is left written from here on, the whole list stands there. Assumes nothing.
-use mathlib.Core.Path.{◌≡◌, refl, sym, ap, ◌∙◌}
-use mathlib.Core.List.{List}
-use Prim.Native.Nat.{ℕ, ◌+◌, ◌-◌, ◌*◌, ◌≤◌}
-use native.Mathlib.Omega.{arith}
+use mathlib.Core.Path.{◌≡◌}
+use Prim.Native.Nat.{◌+◌, ◌-◌, ◌*◌, ◌≤◌}
 use lib.ListN.{length}
-use borrow.Author.Rules.{rules}
 use Rattle.octet.specs.Part.{splice}
-use Rattle.octet.proofs.PartLaws.{splice_nil}
-use Rattle.table.specs.Rows.{rows, joined}
-use Rattle.changed.specs.Changes.{Change, changes}
+use Rattle.table.specs.Rows.{rows}
+use Rattle.changed.specs.Changes.{changes}
 use Rattle.changed.specs.Entries.{list_bytes}
-use Rattle.merged.proofs.StepLaws.{Rest, Stepped, stepped, rest_all, rest-none}
-use Rattle.merged.proofs.WriteLaws.{write_turn}
+use Rattle.merged.proofs.StepLaws.{Rest}
 use Rattle.merged.proofs.written.write.Given as goal
 
 abbrev pub invariant-loop-i : goal.invariant-loop-i

@@ -49,7 +49,7 @@ use Rattle.gauge_laws.proofs.TickLaws.{tick_done_lem}
 send_by : (m : Memory) (l : Send) (p : SendPlan) → (send_carried m l p).memory ≡ with_waiting (send_carried m l p).memory.waiting m
 unfolding send_carried
 send_by m l (S.Refuse n) = refl
-send_by m l (S.Flood u ours at) = refl
+send_by m l (S.Flood u _ at) = refl
 
 pub send_rest : (m : Memory) (l : Send) → (send_call m l).memory ≡ with_waiting (send_call m l).memory.waiting m
 unfolding send_call

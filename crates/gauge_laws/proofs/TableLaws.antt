@@ -100,7 +100,7 @@ number_of (Show h u a t p z o at size) = 0
 
 abbrev send_number : SendPlan → ℕ
 send_number (S.Refuse n) = n
-send_number (S.Flood u ours at) = 0
+send_number (S.Flood u _ at) = 0
 
 carried-number : (m : Memory) (l : Receive) (p : Plan) → (carried m l p).answer.number ≡ number_of p
 unfolding carried
@@ -119,7 +119,7 @@ by_table rs done e = number_is number_of Refuse (λ n. refl) done e rs
 sent-number : (m : Memory) (l : Send) (p : SendPlan) → (send_carried m l p).answer.number ≡ send_number p
 unfolding send_carried
 sent-number m l (S.Refuse n) = refl
-sent-number m l (S.Flood u ours at) = refl
+sent-number m l (S.Flood u _ at) = refl
 
 send-number : (m : Memory) (l : Send) → (send_call m l).answer.number ≡ first_of (table_of m (sends l))
 unfolding send_call sending_plan
@@ -208,8 +208,8 @@ module _ (m : Memory) (l : Receive) where
   unfolding plan_for R.incoming_of
   refused-number p = sym (first_before (fields.refusals l.datagram l.major) _ p)
 
-  found_number : (t : ℕ) (ps : List Part) → AllFail (fields.refusals l.datagram l.major) → Numbered m l (fields.found t ps)
-  found_number t ps a =
+  found_number_lem : (t : ℕ) (ps : List Part) → AllFail (fields.refusals l.datagram l.major) → Numbered m l (fields.found t ps)
+  found_number_lem t ps a =
       message-number m l (R.incoming_of l.datagram (fields.found t ps)) (shown-message l.datagram t ps)
       ∙ sym (first_behind (fields.refusals l.datagram l.major) _ a)
 
@@ -225,7 +225,7 @@ module _ (m : Memory) (l : Receive) where
   unfolding fields.found_in place_in
   read_number =
       let rs = fields.refusals l.datagram l.major in
-      read_by rs _ refl (rises-order 0 rs refl) refused-number (found_number _ _)
+      read_by rs _ refl (rises-order 0 rs refl) refused-number (found_number_lem _ _)
 
   -- ---- memory and what is handed in, then the datagram
 

@@ -10,11 +10,7 @@ returns-then-out-lt26 c =
 
 pub returns : goal.returns
 returns c =
-    let flags = c in
-    let head = c in
-    let put = c in
-    let room = c in
-    let a = room.args in
-    wrote_right (ack-noted a.major a.minor a.id a.acked) a.out.now (omega (arith, room.if-out-lt26.false)) (omega arith)
-    (noted-put a.major a.minor a.id a.acked a.out.now (omega (arith, room.if-out-lt26.false)) put.put_acked.ensures
-    head.put_head.ensures flags.write_u16.ensures)
+    let a = c.args in
+    wrote_right (ack-noted a.major a.minor a.id a.acked) a.out.now (omega (arith, c.if-out-lt26.false)) (omega arith)
+    (noted-put a.major a.minor a.id a.acked a.out.now (omega (arith, c.if-out-lt26.false)) c.put_acked.ensures
+    c.put_head.ensures c.write_u16.ensures)

@@ -10,8 +10,6 @@ returns-then-out-lt20 c =
 
 pub returns : goal.returns
 returns c =
-    let put = c in
-    let room = c in
-    let a = room.args in
-    wrote_right (ack-plain a.major a.minor a.id a.acked) a.out.now (omega (arith, room.if-out-lt20.false)) (omega arith)
-    put.put_acked.ensures
+    let a = c.args in
+    wrote_right (ack-plain a.major a.minor a.id a.acked) a.out.now (omega (arith, c.if-out-lt20.false)) (omega arith)
+    c.put_acked.ensures

@@ -4,12 +4,6 @@ use Rattle.wire_sent.proofs.authority.put_answer.Goals as goal
 
 pub returns : goal.returns
 returns c =
-    let flags = c in
-    let offset = c in
-    let size = c in
-    let head = c in
-    let acked = c in
-    let start = c in
-    let a = start.args in
-    answer-put a.major a.minor a.id a.acked a.size a.out.now start.requires.0 acked.put_acked.ensures head.put_head.ensures
-    size.write_u16.ensures offset.write_u16-2.ensures flags.put_word.ensures
+    let a = c.args in
+    answer-put a.major a.minor a.id a.acked a.size a.out.now c.requires.0 c.put_acked.ensures c.put_head.ensures
+    c.write_u16.ensures c.write_u16-2.ensures c.put_word.ensures

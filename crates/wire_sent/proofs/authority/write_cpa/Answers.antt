@@ -15,13 +15,8 @@ returns-then-out-size c =
 
 pub returns : goal.returns
 returns c =
-    let copy = c in
-    let head = c in
-    let answer = c in
-    let room = c in
-    let short = c in
-    let a = short.args in
-    wrote_right (cpa-known a.major a.minor a.id a.acked a.cpa.now) a.out.now (omega (arith, room.if-out-size.false))
-    (omega (arith, short.if-cpa-gt1192.false))
-    (cpa-put a.major a.minor a.id a.acked a.cpa.now a.out.now (omega (arith, room.if-out-size.false)) answer.put_answer.ensures
-    head.put_head.ensures copy.copy_to.ensures)
+    let a = c.args in
+    wrote_right (cpa-known a.major a.minor a.id a.acked a.cpa.now) a.out.now (omega (arith, c.if-out-size.false))
+    (omega (arith, c.if-cpa-gt1192.false))
+    (cpa-put a.major a.minor a.id a.acked a.cpa.now a.out.now (omega (arith, c.if-out-size.false)) c.put_answer.ensures
+    c.put_head.ensures c.copy_to.ensures)

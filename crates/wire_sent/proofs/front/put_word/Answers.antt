@@ -11,12 +11,9 @@ use Rattle.wire_sent.proofs.front.put_word.Goals as goal
 
 pub returns : goal.returns
 returns c =
-    let sent = c in
-    let head = c in
-    let start = c in
-    let a = start.args in
+    let a = c.args in
     let long = head_length a.number (a.len + 4) in
     let four = length-digits_be 256 4 a.word in
-    sent.write_u32.ensures ∙ ap (splice (a.at + 4) (digits_be 256 4 a.word)) head.put_head.ensures
-    ∙ put-put a.out.now a.at (mark a.number a.len) (omega (arith, start.requires.0)) (a.at + 4) (digits_be 256 4 a.word) (omega arith)
-    (omega (arith, start.requires.0))
+    c.write_u32.ensures ∙ ap (splice (a.at + 4) (digits_be 256 4 a.word)) c.put_head.ensures
+    ∙ put-put a.out.now a.at (mark a.number a.len) (omega (arith, c.requires.0)) (a.at + 4) (digits_be 256 4 a.word) (omega arith)
+    (omega (arith, c.requires.0))

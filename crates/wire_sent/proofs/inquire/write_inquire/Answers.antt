@@ -33,14 +33,10 @@ returns-then-out-lt76 c =
 
 pub returns : goal.returns
 returns c =
-    let copy = c in
-    let head = c in
-    let front = c in
-    let room = c in
-    let a = room.args in
-    let k : length a.key.now ≡ 32 = omega (arith, room.if-key-ne-KEY_LEN.false) in
-    let n : length a.nonce.now ≡ 16 = omega (arith, room.if-nonce-ne-NONCE_LEN.false) in
-    wrote_right (inquire_known a.major a.minor a.id a.key.now a.nonce.now k n) a.out.now (omega (arith, room.if-out-lt76.false))
+    let a = c.args in
+    let k : length a.key.now ≡ 32 = omega (arith, c.if-key-ne-KEY_LEN.false) in
+    let n : length a.nonce.now ≡ 16 = omega (arith, c.if-nonce-ne-NONCE_LEN.false) in
+    wrote_right (inquire_known a.major a.minor a.id a.key.now a.nonce.now k n) a.out.now (omega (arith, c.if-out-lt76.false))
     (omega arith)
-    (inquire-put a.major a.minor a.id a.key.now a.nonce.now a.out.now k n (omega (arith, room.if-out-lt76.false))
-    front.put_keyed.ensures head.put_head.ensures copy.copy_16.ensures)
+    (inquire-put a.major a.minor a.id a.key.now a.nonce.now a.out.now k n (omega (arith, c.if-out-lt76.false))
+    c.put_keyed.ensures c.put_head.ensures c.copy_16.ensures)

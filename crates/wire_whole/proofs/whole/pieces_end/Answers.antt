@@ -21,23 +21,20 @@ piece_past-at-requires c = c.loop-i.invariant.2
 
 pub loop-i-preserved : goal.loop-i-preserved
 loop-i-preserved c =
-    let at-loop = c in
-    let start = c in
-    let a = start.args in
-    let i = at-loop.loop-i.i in
-    let hr : i < length a.rows = omega (arith, start.requires.0) in
-    let hp : i < length a.ps = omega (arith, start.requires.1) in (
-      step-cap a.rows a.ps i no_row no_piece_lem hr hp at-loop.loop-i.at _ c.piece_past-at.ensures ∙ at-loop.loop-i.invariant.0,
+    let a = c.args in
+    let i = c.loop-i.i in
+    let hr : i < length a.rows = omega (arith, c.requires.0) in
+    let hp : i < length a.ps = omega (arith, c.requires.1) in (
+      step-cap a.rows a.ps i no_row no_piece_lem hr hp c.loop-i.at _ c.piece_past-at.ensures ∙ c.loop-i.invariant.0,
       omega arith,
       omega (arith, c.piece_past-at.ensures),
     )
 
 pub returns : goal.returns
 returns c =
-    let start = c in
-    let a = start.args in
+    let a = c.args in
     let v = c.loop-i.invariant in
     let i = c.loop-i.i in
-    let d : drop i a.rows ≡ [] = drop_of_length-le a.rows {i = i} (omega (arith, start.requires.0, v.1)) in
+    let d : drop i a.rows ≡ [] = drop_of_length-le a.rows {i = i} (omega (arith, c.requires.0, v.1)) in
     let e : min 1233 c.loop-i.at ≡ min 1233 (end_rows 12 a.rows a.ps) = rw d at v.0 in
     omega (arith, v.2)

@@ -19,34 +19,30 @@ bounds-ps-i c = c.loop-i-test.true
 
 pub put_piece-at-requires : goal.put_piece-at-requires
 put_piece-at-requires c =
-    let at-loop = c in
-    let start = c in
-    let a = start.args in
-    let i = at-loop.loop-i.i in
-    let at = at-loop.loop-i.at in
-    let v = at-loop.loop-i.invariant in
+    let a = c.args in
+    let i = c.loop-i.i in
+    let at = c.loop-i.at in
+    let v = c.loop-i.invariant in
     let l = lent_of a.spelled.now a.first.now a.second.now in
-    let hr : i < length a.rows = omega (arith, start.requires.rows_len.0) in
-    let hp : i < length a.ps = omega (arith, start.requires.rows_len.1) in
-    let e : end_rows at (drop i a.rows) (drop i a.ps) ≤ length at-loop.loop-i.out = omega (arith, v.ends, v.same, start.requires.ps_in_bounds) in record {
+    let hr : i < length a.rows = omega (arith, c.requires.rows_len.0) in
+    let hp : i < length a.ps = omega (arith, c.requires.rows_len.1) in
+    let e : end_rows at (drop i a.rows) (drop i a.ps) ≤ length c.loop-i.out = omega (arith, v.ends, v.same, c.requires.ps_in_bounds) in record {
       piece_in = (step_in a.rows a.ps i no_row no_piece_lem hr hp l v.inside).0;
       len_in_bounds = step_room a.rows a.ps i no_row no_piece_lem hr hp at _ e;
       len_bound = step-short a.rows a.ps i no_row no_piece_lem hr hp at (end_rows at (drop i a.rows) (drop i a.ps)) (omega arith)
-          (omega (arith, v.ends, start.requires.ps_bound));
+          (omega (arith, v.ends, c.requires.ps_bound));
     }
 
 pub loop-i-preserved : goal.loop-i-preserved
 loop-i-preserved c =
-    let at-loop = c in
-    let start = c in
-    let a = start.args in
-    let i = at-loop.loop-i.i in
-    let at = at-loop.loop-i.at in
-    let v = at-loop.loop-i.invariant in
+    let a = c.args in
+    let i = c.loop-i.i in
+    let at = c.loop-i.at in
+    let v = c.loop-i.invariant in
     let l = lent_of a.spelled.now a.first.now a.second.now in
-    let hr : i < length a.rows = omega (arith, start.requires.rows_len.0) in
-    let hp : i < length a.ps = omega (arith, start.requires.rows_len.1) in
-    let e : end_rows at (drop i a.rows) (drop i a.ps) ≤ length at-loop.loop-i.out = omega (arith, v.ends, v.same, start.requires.ps_in_bounds) in
+    let hr : i < length a.rows = omega (arith, c.requires.rows_len.0) in
+    let hp : i < length a.ps = omega (arith, c.requires.rows_len.1) in
+    let e : end_rows at (drop i a.rows) (drop i a.ps) ≤ length c.loop-i.out = omega (arith, v.ends, v.same, c.requires.ps_in_bounds) in
     let q = step_in a.rows a.ps i no_row no_piece_lem hr hp l v.inside in
     let r = c.put_piece-at.ensures in
     record {
@@ -62,12 +58,11 @@ shape_of-out c = c.loop-i.invariant.same
 
 pub returns : goal.returns
 returns c =
-    let start = c in
-    let a = start.args in
+    let a = c.args in
     let v = c.loop-i.invariant in
     let i = c.loop-i.i in
     let l = lent_of a.spelled.now a.first.now a.second.now in
     let gs = givens_of l a.ps in
-    let d : drop i a.rows ≡ [] = drop_of_length-le a.rows {i = i} (omega (arith, v.some, start.requires.rows_len.0)) in
+    let d : drop i a.rows ≡ [] = drop_of_length-le a.rows {i = i} (omega (arith, v.some, c.requires.rows_len.0)) in
     let e : c.loop-i.out ≡ put_all a.out.now 12 (kinds_of_rows a.rows) gs = rw d at v.puts in
-    e ∙ put_all_lem (kinds_of_rows a.rows) a.out.now 12 gs (omega (arith, end_rows_lem l a.rows 12 a.ps start.requires.all_in, start.requires.ps_in_bounds))
+    e ∙ put_all_lem (kinds_of_rows a.rows) a.out.now 12 gs (omega (arith, end_rows_lem l a.rows 12 a.ps c.requires.all_in, c.requires.ps_in_bounds))

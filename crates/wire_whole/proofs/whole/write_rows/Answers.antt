@@ -15,33 +15,28 @@ returns-then-not-pieces_ok c =
 pub put_where-requires : goal.put_where-requires
 unfolding made_by
 put_where-requires c =
-    let q = c in
-    let s = c in
-    let a = s.args in
+    let a = c.args in
     let l = lent_of a.spelled.now a.first.now a.second.now in
     let gs = givens_of l a.ps in
-    let k = sym q.pieces_ok.ensures ∙ q.if-not-pieces_ok.false in
-    let inside = rows_in l a.rows a.ps (s.requires.0 ∙ sym s.requires.1) k in
-    let n = q.pieces_end-size.ensures ∙ ap (min 1233) (end_rows_lem l a.rows 12 a.ps inside) in
-    let room = room-is (kinds_of_rows a.rows) a.major a.minor a.kind a.id gs a.out.now q.pieces_end-size.result n in
-    record { rows_len = s.requires; all_in = inside; out_value = λ h. sym room ∙ sym c.has_room-room.ensures ∙ h }
+    let k = sym c.pieces_ok.ensures ∙ c.if-not-pieces_ok.false in
+    let inside = rows_in l a.rows a.ps (c.requires.0 ∙ sym c.requires.1) k in
+    let n = c.pieces_end-size.ensures ∙ ap (min 1233) (end_rows_lem l a.rows 12 a.ps inside) in
+    let room = room-is (kinds_of_rows a.rows) a.major a.minor a.kind a.id gs a.out.now c.pieces_end-size.result n in
+    record { rows_len = c.requires; all_in = inside; out_value = λ h. sym room ∙ sym c.has_room-room.ensures ∙ h }
 
 pub returns : goal.returns
 unfolding made_by
 returns c =
-    let has_room = c in
-    let q = c in
-    let s = c in
-    let a = s.args in
+    let a = c.args in
     let l = lent_of a.spelled.now a.first.now a.second.now in
     let gs = givens_of l a.ps in
     let K = kinds_of_rows a.rows in
-    let k = sym q.pieces_ok.ensures ∙ q.if-not-pieces_ok.false in
-    let n = q.pieces_end-size.ensures ∙ ap (min 1233) (end_rows_lem l a.rows 12 a.ps (rows_in l a.rows a.ps (s.requires.0 ∙ sym s.requires.1) k)) in
-    let room = has_room.has_room-room.ensures ∙ room-is K a.major a.minor a.kind a.id gs a.out.now q.pieces_end-size.result n in
+    let k = sym c.pieces_ok.ensures ∙ c.if-not-pieces_ok.false in
+    let n = c.pieces_end-size.ensures ∙ ap (min 1233) (end_rows_lem l a.rows 12 a.ps (rows_in l a.rows a.ps (c.requires.0 ∙ sym c.requires.1) k)) in
+    let room = c.has_room-room.ensures ∙ room-is K a.major a.minor a.kind a.id gs a.out.now c.pieces_end-size.result n in
     rw c.written.ensures
-    (wrote_by _ a.out.now _ q.pieces_end-size.result _
+    (wrote_by _ a.out.now _ c.pieces_end-size.result _
     k
     room
-    (λ h. exact-end K a.major a.minor a.kind a.id gs a.out.now (sym room ∙ h) q.pieces_end-size.result n)
+    (λ h. exact-end K a.major a.minor a.kind a.id gs a.out.now (sym room ∙ h) c.pieces_end-size.result n)
     c.put_where.ensures)

@@ -4,7 +4,6 @@ use mathlib.Core.Bool.{Bool, ◌&&◌}
 use Prim.Native.Nat.{ℕ}
 use lib.Dec.{eqb}
 use lib.ListN.{length}
-use borrow.Author.Rules.{rules}
 use Rattle.cpas.specs.Cpas.{cpas_form}
 use Rattle.gauge_plan.specs.Memory.{comes_fit}
 use Rattle.gauge_plan.proofs.memory.hands_fit.Goals as goal

@@ -1,11 +1,6 @@
 -- `gauge_plan::memory::survey` meets its contract: own record, cache and waiting table, each by its own test. Assumes nothing.
 use mathlib.Core.Path.{◌≡◌, sym, ◌∙◌}
 use mathlib.Core.Bool.{true}
-use Prim.Native.Nat.{◌≤◌}
-use native.Mathlib.Omega.{arith}
-use lib.ListN.{length}
-use borrow.Author.Tests.{not-true, not-false}
-use borrow.Author.Rules.{rules}
 use Rattle.own.specs.Own.{own_form}
 use Rattle.gauge_plan.proofs.MemoryLaws.{no_record, no-cache, no_table, all_fit}
 use Rattle.gauge_plan.proofs.memory.survey.Goals.{Else-not-own_form}
@@ -27,19 +22,14 @@ returns-in_default c m =
 
 pub returns-in_default-used : goal.returns-in_default-used
 returns-in_default-used c m =
-    let h = c in
-    let f = c in
     let e = (goal.at.returns-in_default-used c).Else-not-own_form in
     let a = e.args in
-    sym (no_table a.own.now _ (well e) (sym f.form-held.ensures ∙ h.in-Good.is)
+    sym (no_table a.own.now _ (well e) (sym c.form-held.ensures ∙ c.in-Good.is)
     (sym c.form-used.ensures ∙ c.in_default-used.is))
 
 pub returns : goal.returns
 returns c m =
-    let g = c in
-    let h = c in
-    let f = c in
     let e = (goal.at.returns c).Else-not-own_form in
     let a = e.args in
-    sym (all_fit a.own.now _ (well e) (sym f.form-held.ensures ∙ h.in-Good.is)
-    (sym g.form-used.ensures ∙ c.in-Good-used.is))
+    sym (all_fit a.own.now _ (well e) (sym c.form-held.ensures ∙ c.in-Good.is)
+    (sym c.form-used.ensures ∙ c.in-Good-used.is))

@@ -1,7 +1,7 @@
 -- Laws of a record that must be inquired about: how many bytes; the key of the record that an entry names; whether the record must be inquired about; of an entry
 -- that may be none.
 -- Elsewhere: the very same record among those held, in SameLaws. Assumes nothing.
-use Rattle.std.proofs.Common.{◌≡◌, ℕ, ◌+◌, ◌*◌, ◌<◌, ◌≤◌, Bool, true, false, not, ◌&&◌, eqb, List, length, drop, sym, refl, ap, ◌∙◌, arith, eq-eqb, ne_eqb}
+use Rattle.std.proofs.Common.{◌≡◌, ℕ, ◌+◌, ◌≤◌, Bool, true, false, not, ◌&&◌, eqb, List, length, sym, refl, ap, ◌∙◌, arith, eq-eqb, ne_eqb}
 use borrow.Author.Tests.{eqb-false}
 use Rattle.octet.specs.Number.{value_be}
 use Rattle.octet.specs.Part.{part, same}

@@ -1,5 +1,5 @@
 -- `asking::asks_for` meets its contract: no entry, our own key, or the question that every entry is asked. Assumes nothing.
-use Rattle.std.proofs.Common.{◌≡◌, ℕ, ◌<◌, true, List, length, sym, ap, ◌∙◌, arith}
+use Rattle.std.proofs.Common.{◌≡◌, ℕ, true, List, length, sym, ap, ◌∙◌, arith}
 use Rattle.octet.specs.Part.{part}
 use Rattle.octet.proofs.PartLaws.{length_part}
 use Rattle.record.specs.Record.{key_of}

@@ -1,5 +1,5 @@
 -- `asking::holds_same` meets its contract: the place found for the entry's key decides. Assumes nothing.
-use Rattle.std.proofs.Common.{◌≡◌, ℕ, ◌+◌, ◌-◌, ◌<◌, List, length, take, drop, sym, ap, ◌∙◌, arith, length-drop, length-take, rules}
+use Rattle.std.proofs.Common.{◌≡◌, ℕ, ◌+◌, ◌-◌, List, take, drop, sym, ap, ◌∙◌, arith, length-drop, length-take}
 use Rattle.octet.specs.Part.{part}
 use Rattle.key.specs.Number.{key_at}
 use Rattle.record.specs.Record.{key_of}
@@ -34,11 +34,10 @@ found f =
 
 pub find-requires : goal.find-requires
 find-requires c =
-    let s = c in
-    let a = s.args in
-    let long = (entry_at a.start a.len a.d.now s.requires.1 s.requires.2).long in
+    let a = c.args in
+    let long = (entry_at a.start a.len a.d.now c.requires.1 c.requires.2).long in
     let cut = length-take (a.start + a.len - a.start) (drop a.start a.d.now) in
-    record { used_in_bounds = s.requires.0; in_bounds = omega (arith, long, cut, length-drop a.start a.d.now, s.requires.1); rising = s.requires.3 }
+    record { used_in_bounds = c.requires.0; in_bounds = omega (arith, long, cut, length-drop a.start a.d.now, c.requires.1); rising = c.requires.3 }
 
 pub overflow_mul-i : goal.overflow_mul-i
 overflow_mul-i c =
@@ -57,13 +56,12 @@ same_as_entry-requires c =
 
 pub returns-in-At : goal.returns-in-At
 returns-in-At c =
-    let at = c in
     let f = (goal.at.returns-in-At c).After-find in
     let s = start f in
     let a = s.args in
     c.same_as_entry.ensures
-    ∙ sym (same_here (named s) a.held a.cache.now s.requires.3 (found f) at.in-At.is
-    (found-place (key_of (named s)) a.held a.cache.now (found f) at.in-At.is))
+    ∙ sym (same_here (named s) a.held a.cache.now s.requires.3 (found f) c.in-At.is
+    (found-place (key_of (named s)) a.held a.cache.now (found f) c.in-At.is))
 
 pub returns-in-Before : goal.returns-in-Before
 returns-in-Before c =

@@ -1,5 +1,5 @@
 -- `asking::must_ask` meets its contract: the records held first, then the inquiries that wait for the entry's key. Assumes nothing.
-use Rattle.std.proofs.Common.{◌≡◌, Bool, not, sym, ◌∙◌, arith, rules}
+use Rattle.std.proofs.Common.{◌≡◌, Bool, not, sym, ◌∙◌, arith}
 use Rattle.octet.specs.Part.{part}
 use Rattle.record.specs.Entry.{record_of}
 use Rattle.table.specs.Rows.{rows}
@@ -24,19 +24,17 @@ returns-then-holds_same c =
 
 pub find_inquiry-requires : goal.find_inquiry-requires
 find_inquiry-requires c =
-    let s = c in
-    let a = s.args in
-    (omega arith, s.requires.1, entry-room a.start a.len a.d.now s.requires.2 s.requires.3)
+    let a = c.args in
+    (omega arith, c.requires.1, entry-room a.start a.len a.d.now c.requires.2 c.requires.3)
 
 -- by what was found
 by_found : (c : After-find_inquiry) {g : Found} → c.find_inquiry.result ≡ g
     → asked (goal.at.After-find_inquiry c).Start ≡ not (is_found g)
 by_found c is =
-    let s = c in
-    let a = s.args in
+    let a = c.args in
     ask-found (rows 100 a.held a.cache.now) (rows 140 a.used a.waiting.now) (record_of (part a.start a.len a.d.now))
     (sym c.holds_same.ensures ∙ c.if-holds_same.false)
-    (key_in_lem a.start a.len a.d.now s.requires.2 s.requires.3) (sym is ∙ c.find_inquiry.ensures)
+    (key_in_lem a.start a.len a.d.now c.requires.2 c.requires.3) (sym is ∙ c.find_inquiry.ensures)
 
 pub returns-in-At : goal.returns-in-At
 returns-in-At c = sym (by_found (goal.at.returns-in-At c).After-find_inquiry c.in-At.is)

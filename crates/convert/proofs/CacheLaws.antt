@@ -2,17 +2,16 @@
 -- the old form, with the same records. Assumes nothing.
 use mathlib.Core.Path.{◌≡◌, refl, sym, ap, ap₂, ◌∙◌, subst}
 use mathlib.Core.Bool.{Bool, true, false, ◌&&◌}
-use mathlib.Core.List.{List, [], ◌∷◌, ◌++◌, map}
+use mathlib.Core.List.{List, [], ◌∷◌, map}
 use Prim.Native.Nat.{ℕ, zero, suc, ◌+◌, ◌-◌, ◌*◌, ◌%◌, ◌≤◌}
 use native.Mathlib.Omega.{arith}
-use lib.Dec.{eqb, leb}
-use lib.ListN.{length, take, drop, get_or, replicate, length-map}
+use lib.Dec.{eqb}
+use lib.ListN.{length, take, replicate, length-map}
 use borrow.Author.Tests.{lt-leb, eq-eqb, le-leb}
-use Rattle.octet.specs.Part.{all_zero}
 use Rattle.record.specs.Record.{count_of, record_form}
 use Rattle.own.specs.Own.{Own}
-use Rattle.table.specs.Rows.{rows, joined, bytes_of, Sized, Laid}
-use Rattle.table.proofs.RowLaws.{rows-length, rows_take, rows_append, rows-sized, bytes-length}
+use Rattle.table.specs.Rows.{rows, joined, bytes_of}
+use Rattle.table.proofs.RowLaws.{rows-length, rows_take, rows_append, bytes-length}
 use Rattle.kept.specs.Keys.{Every, Rising, plain}
 use Rattle.kept.specs.Plain.{NotOwn}
 use Rattle.cache.specs.Form.{keys_of, places_in, Places, Form, leading, held_of, cache_form}
@@ -21,7 +20,6 @@ use Rattle.convert.specs.Old.{old_record_form, old_held_in, old_held_of, old_cac
 use Rattle.cut.specs.Cut.{converted}
 use Rattle.convert.proofs.OldLaws.{old_length, new_old}
 use Rattle.convert.proofs.HeldLaws.{held_most}
-use Rattle.cut.proofs.CutLaws.{converted-length, map-sized}
 use Rattle.convert.proofs.RecordLaws.{converted-key, converted_form, converted_stays}
 use Rattle.convert.proofs.CallLaws.{cache-places, cache-laid}
 

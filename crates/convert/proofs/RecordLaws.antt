@@ -1,15 +1,14 @@
 -- What the conversion makes of one record: it is in the new form, with the key it had, and one that is in the new form already stays. Assumes nothing.
 use mathlib.Core.Path.{◌≡◌, refl, sym, ap, ◌∙◌}
-use mathlib.Core.Bool.{true, false, ◌&&◌}
+use mathlib.Core.Bool.{true}
 use mathlib.Core.List.{List, [], ◌∷◌, ◌++◌}
 use Prim.Native.Nat.{ℕ, ◌+◌, ◌≤◌}
 use native.Mathlib.Omega.{arith}
-use lib.Dec.{eqb}
 use lib.ListN.{length, take, drop, get_or, replicate, length-drop}
 use lib.Seq.{take-take, take_at, take_all, length-take-le, get_or-set_same}
 use borrow.Author.Tests.{eq-eqb}
 use Rattle.octet.specs.Number.{value_be}
-use Rattle.octet.specs.Part.{part, splice, all_zero}
+use Rattle.octet.specs.Part.{part, splice}
 use Rattle.octet.proofs.PartLaws.{length-splice, take-splice, part-splice, splice-above, splice-below, splice_one, part_one}
 use Rattle.octet.proofs.TestLaws.{zeros_all, all_zeros}
 use Rattle.record.specs.Record.{key_of, count_of, record_form}

@@ -1,14 +1,14 @@
 -- What the conversion makes of a waiting table in the old form: a table of today, whose places are the old ones converted, in their order, with the IDs,
 -- kinds, tries and keys they had. And a table of today is in the old form, and stays. Assumes nothing.
 use mathlib.Core.Path.{◌≡◌, refl, sym, ap, ap₂, ◌∙◌}
-use mathlib.Core.Bool.{Bool, true, false, not, ◌&&◌, ◌||◌, cond}
+use mathlib.Core.Bool.{Bool, true, false, not, ◌&&◌, ◌||◌}
 use mathlib.Core.List.{List, [], ◌∷◌, map}
 use Prim.Native.Nat.{ℕ, suc, ◌+◌, ◌*◌, ◌≤◌}
 use native.Mathlib.Omega.{arith}
 use lib.Dec.{eqb, leb}
 use lib.ListN.{length, take, drop, get_or, length-map}
 use lib.Seq.{get_or-take, take-take}
-use borrow.Author.Tests.{eq-eqb, eqb-true}
+use borrow.Author.Tests.{eqb-true}
 use Rattle.octet.specs.Number.{value_be, value_le}
 use Rattle.octet.specs.Part.{part, splice, all_zero}
 use Rattle.octet.proofs.PartLaws.{length_part, part-splice}
@@ -16,12 +16,12 @@ use Rattle.octet.proofs.TestLaws.{both_true}
 use Rattle.record.specs.Record.{key_of, record_form}
 use Rattle.record.proofs.PlaceLaws.{part-part}
 use Rattle.own.specs.Own.{is_own, Own}
-use Rattle.table.specs.Rows.{bytes_of, Sized, any_of, rows}
+use Rattle.table.specs.Rows.{bytes_of, Sized, any_of}
 use Rattle.table.proofs.RowLaws.{rows-sized, rows-length}
 use Rattle.waiting.specs.Place.{id_of, kind_of, tries_of, place_key, place_record}
 use Rattle.waiting.specs.Form.{place_by, places_by, place_form, places_form, is_inquiry, again, used_of, places_of, waiting_form, PlacesForm}
 use Rattle.waiting.proofs.PlaceLaws.{inquiry-is, record_key}
-use Rattle.waiting.proofs.FormLaws.{form_of, form_test, form_unique, used_few, form-size}
+use Rattle.waiting.proofs.FormLaws.{form_of, used_few, form-size}
 use Rattle.convert.specs.Old.{old_record_form, old_waiting_form}
 use Rattle.cut.specs.Cut.{converted, converted_place}
 use Rattle.convert.proofs.OldLaws.{new_old, old_length}

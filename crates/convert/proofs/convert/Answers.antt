@@ -1,10 +1,9 @@
 -- `convert::convert` meets its contract: each return follows from the tests before it, by a law of CallLaws. Assumes nothing.
 use mathlib.Core.Path.{◌≡◌, sym, ap, ap₂, subst, ◌∙◌}
 use mathlib.Core.Bool.{true}
-use mathlib.Core.List.{List, map}
+use mathlib.Core.List.{map}
 use Prim.Native.Nat.{ℕ}
 use lib.ListN.{length}
-use borrow.Author.Tests.{not-true, not-false}
 use Rattle.own.specs.Own.{own_keys}
 use Rattle.table.specs.Rows.{rows, bytes_of, Laid}
 use Rattle.waiting.specs.Form.{used_of}
@@ -14,7 +13,6 @@ use Rattle.convert.specs.Convert.{convert_handed, convert_done}
 use Rattle.convert.proofs.HeldLaws.{good-is, bad-is}
 use Rattle.convert.proofs.UsedLaws.{good_form, bad_form}
 use Rattle.convert.proofs.CallLaws.{own-bad, cache-bad, table-bad, converts, cache-laid, table-laid}
-use borrow.Author.Rules.{rules}
 use Rattle.convert.proofs.convert.Goals.{Else-not-form, In-Good, In-Good-places}
 use Rattle.convert.proofs.convert.Goals as goal
 

@@ -1,16 +1,12 @@
 -- `convert::held::count_held` meets its contract: what is counted of all is i and what is counted from place i on. Assumes nothing.
-use mathlib.Core.Path.{◌≡◌, sym, ◌∙◌}
+use mathlib.Core.Path.{◌≡◌}
 use Prim.Native.Nat.{◌+◌, ◌-◌, ◌/◌, ◌≤◌}
-use native.Mathlib.Nat.{zero-add}
 use lib.ListN.{length, drop}
-use borrow.Author.Tests.{not-true, not-false}
 use Rattle.own.specs.Own.{own_keys}
 use Rattle.table.specs.Rows.{rows}
 use Rattle.cache.specs.Form.{leading}
 use Rattle.own.specs.Low.{low_at}
-use Rattle.cache.proofs.ShapeLaws.{count-more, count-stop, count-end}
 use Rattle.convert.specs.Old.{old_record_form}
-use native.Mathlib.Omega.{arith}
 use Rattle.convert.proofs.held.count_held.Given as goal
 
 abbrev pub invariant-loop-i : goal.invariant-loop-i

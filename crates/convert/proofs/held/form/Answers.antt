@@ -14,7 +14,6 @@ use Rattle.convert.specs.Old.{old_held_in}
 use Rattle.convert.specs.Formed.{old_cache_formed}
 use Rattle.convert.proofs.HeldLaws.{held_most, not-whole, too_small, too_large, too_few, by-rest}
 use native.Mathlib.Omega.{arith}
-use borrow.Author.Rules.{rules}
 use Rattle.convert.proofs.held.form.Goals.{After-count, After-count_held-used, After-is_zero}
 use Rattle.convert.proofs.held.form.Goals as goal
 

@@ -4,7 +4,6 @@ use mathlib.Core.Bool.{true, false, not}
 use mathlib.Core.List.{List}
 use Prim.Native.Nat.{ℕ, ◌*◌}
 use lib.Dec.{leb}
-use borrow.Author.Tests.{not-true, not-false}
 use Rattle.octet.specs.Part.{part}
 use Rattle.key.specs.Number.{key_at}
 use Rattle.record.specs.Record.{key_of}
@@ -12,7 +11,6 @@ use Rattle.cache.specs.Form.{follows}
 use Rattle.own.specs.Low.{low_at}
 use Rattle.cache.proofs.FormLaws.{key_of-row}
 use Rattle.convert.specs.Old.{old_record_form}
-use borrow.Author.Rules.{rules}
 use Rattle.convert.proofs.held.place_follows.Goals.{Else-not-is_formed, Start}
 use Rattle.convert.proofs.held.place_follows.Goals as goal
 

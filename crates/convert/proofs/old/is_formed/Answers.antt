@@ -4,12 +4,11 @@ use mathlib.Core.Bool.{true}
 use mathlib.Core.List.{List}
 use Prim.Native.Nat.{ℕ, ◌+◌, ◌*◌}
 use native.Mathlib.Omega.{arith}
-use borrow.Author.Tests.{lt-leb, not-true, not-false}
+use borrow.Author.Tests.{lt-leb}
 use lib.ListN.{get_or}
 use Rattle.octet.specs.Part.{part, all_zero}
 use Rattle.record.proofs.PlaceLaws.{count_word}
 use Rattle.convert.proofs.OldLaws.{form_at, form_left, form_over, form_spoilt, zero_both, zero-none}
-use borrow.Author.Rules.{rules}
 use Rattle.convert.proofs.old.is_formed.Goals.{After-read_u16_le-count, Else-not-zero_pair, Else-not-zero_pair-2, Else-not-zero_pair-3}
 use Rattle.convert.proofs.old.is_formed.Goals as goal
 

@@ -3,12 +3,10 @@ use mathlib.Core.Path.{◌≡◌, refl, sym, ap, ◌∙◌}
 use mathlib.Core.Bool.{true, false}
 use Prim.Native.Nat.{◌*◌}
 use lib.Dec.{leb}
-use borrow.Author.Tests.{not-true, not-false}
 use Rattle.octet.specs.Part.{part}
 use Rattle.own.specs.Low.{low_at}
 use Rattle.own.proofs.FormLaws.{row-key}
 use Rattle.convert.specs.Old.{old_record_form}
-use borrow.Author.Rules.{rules}
 use Rattle.convert.proofs.ours.follows.Goals as goal
 
 pub returns-then-not-is_formed : goal.returns-then-not-is_formed

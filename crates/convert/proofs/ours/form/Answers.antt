@@ -1,12 +1,9 @@
-use mathlib.Core.Path.{◌≡◌, refl, sym, ◌∙◌}
-use Prim.Native.Nat.{◌-◌, ◌/◌, ◌%◌, ◌≤◌}
-use lib.ListN.{length, drop}
-use borrow.Author.Tests.{not-true, not-false}
+use mathlib.Core.Path.{sym, ◌∙◌}
+use Prim.Native.Nat.{◌/◌}
+use lib.ListN.{length}
 use native.Mathlib.Omega.{arith}
-use Rattle.table.specs.Rows.{rows}
-use Rattle.own.specs.Own.{rising_by}
 use Rattle.own.specs.Low.{low_at}
-use Rattle.convert.specs.Old.{old_record_form, old_own_form}
+use Rattle.convert.specs.Old.{old_record_form}
 use Rattle.own.proofs.FormLaws.{not-whole, too_few, too_many, by-records, rising-more, rising-stop, rising-end}
 use Rattle.convert.proofs.ours.form.Goals as goal
 

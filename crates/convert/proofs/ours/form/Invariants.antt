@@ -1,14 +1,11 @@
 -- `convert::ours::form` meets its contract: each test of the size refuses; then the answer for all records is that for those from place i on. Assumes nothing.
-use mathlib.Core.Path.{◌≡◌, refl, sym, ◌∙◌}
-use Prim.Native.Nat.{◌-◌, ◌/◌, ◌%◌, ◌≤◌}
+use mathlib.Core.Path.{◌≡◌}
+use Prim.Native.Nat.{◌-◌, ◌/◌, ◌≤◌}
 use lib.ListN.{length, drop}
-use borrow.Author.Tests.{not-true, not-false}
-use native.Mathlib.Omega.{arith}
 use Rattle.table.specs.Rows.{rows}
 use Rattle.own.specs.Own.{rising_by}
 use Rattle.own.specs.Low.{low_at}
 use Rattle.convert.specs.Old.{old_record_form, old_own_form}
-use Rattle.own.proofs.FormLaws.{not-whole, too_few, too_many, by-records, rising-more, rising-stop, rising-end}
 use Rattle.convert.proofs.ours.form.Given as goal
 
 abbrev pub invariant-loop-i : goal.invariant-loop-i

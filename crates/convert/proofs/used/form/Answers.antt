@@ -5,7 +5,6 @@ use native.Mathlib.Omega.{arith}
 use Rattle.own.specs.Own.{own_keys}
 use Rattle.waiting.proofs.FormLaws.{used_few}
 use Rattle.convert.proofs.UsedLaws.{not_long, is-good, is-bad}
-use borrow.Author.Rules.{rules}
 use Rattle.convert.proofs.used.form.Goals.{After-count_used-used}
 use Rattle.convert.proofs.used.form.Goals as goal
 

@@ -6,7 +6,6 @@ use Rattle.own.specs.Own.{own_keys}
 use Rattle.waiting.specs.Place.{kind_of}
 use Rattle.waiting.proofs.PlaceLaws.{flood-is, inquiry-is, neither_is}
 use Rattle.convert.specs.Old.{old_record_form}
-use borrow.Author.Rules.{rules}
 use Rattle.convert.proofs.used.place_formed.Goals.{After-is_fresh-head, Start}
 use Rattle.convert.proofs.used.place_formed.Goals as goal
 

@@ -1,10 +1,9 @@
 use lib.Dec.{leb}
 use mathlib.Core.Path.{◌≡◌, refl, sym, ap, ◌∙◌}
 use mathlib.Core.Bool.{◌&&◌, not}
-use Prim.Native.Nat.{ℕ, ◌+◌, ◌*◌, ◌-◌, ◌≤◌}
+use Prim.Native.Nat.{ℕ, ◌+◌, ◌*◌}
 use native.Mathlib.Omega.{arith}
 use lib.ListN.{drop, length-take, length-drop}
-use borrow.Author.Tests.{not-true, not-false}
 use Rattle.own.specs.Own.{own_keys}
 use Rattle.table.specs.Rows.{rows}
 use Rattle.waiting.specs.Form.{places_by}

@@ -1,16 +1,10 @@
 -- `convert::used::places_formed` meets its contract: the form of the places is always that of those left, from the ID passed on. Assumes nothing.
-use lib.Dec.{leb}
-use mathlib.Core.Path.{◌≡◌, refl, sym, ap, ◌∙◌}
-use mathlib.Core.Bool.{◌&&◌, not}
-use Prim.Native.Nat.{ℕ, ◌+◌, ◌*◌, ◌-◌, ◌≤◌}
-use native.Mathlib.Omega.{arith}
-use lib.ListN.{drop, length-take, length-drop}
-use borrow.Author.Tests.{not-true, not-false}
+use mathlib.Core.Path.{◌≡◌}
+use Prim.Native.Nat.{◌-◌, ◌≤◌}
+use lib.ListN.{drop}
 use Rattle.own.specs.Own.{own_keys}
 use Rattle.table.specs.Rows.{rows}
 use Rattle.waiting.specs.Form.{places_by}
-use Rattle.waiting.proofs.PlaceLaws.{id-at}
-use Rattle.waiting.proofs.WalkLaws.{tests, tests-are, form_not, form-on, form-end}
 use Rattle.convert.specs.Old.{old_record_form}
 use Rattle.convert.proofs.used.places_formed.Given as goal
 

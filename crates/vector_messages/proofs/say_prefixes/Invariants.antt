@@ -1,5 +1,4 @@
 -- `vector_messages::say_prefixes` ends: what is left of the datagram falls. Assumes nothing.
-use borrow.Author.Rules.{rules}
 use lib.ListN.{length}
 use Prim.Native.Nat.{◌≤◌, ◌-◌}
 use Rattle.vector_messages.proofs.say_prefixes.Given as goal

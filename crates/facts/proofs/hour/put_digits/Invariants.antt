@@ -1,5 +1,5 @@
 -- `facts::hour::put_digits` ends: what is left of the pattern falls. The line keeps its length. Assumes nothing.
-use Rattle.std.proofs.Common.{◌≡◌, ◌-◌, ◌≤◌, length, rules}
+use Rattle.std.proofs.Common.{◌≡◌, ◌-◌, ◌≤◌, length}
 use Rattle.facts.proofs.hour.put_digits.Given as goal
 
 abbrev pub invariant-loop-i : goal.invariant-loop-i

@@ -1,5 +1,5 @@
 -- `facts::mark::put_keys` ends: at most five keys are put. The line keeps its length. Assumes nothing.
-use Rattle.std.proofs.Common.{◌≡◌, ◌-◌, ◌≤◌, length, rules}
+use Rattle.std.proofs.Common.{◌≡◌, ◌-◌, ◌≤◌, length}
 use Rattle.facts.proofs.mark.put_keys.Given as goal
 
 abbrev pub invariant-loop-i : goal.invariant-loop-i

@@ -1,5 +1,5 @@
 -- `facts::place::put_groups` ends: eight groups are put. The line keeps its length. Assumes nothing.
-use Rattle.std.proofs.Common.{◌≡◌, ◌-◌, ◌≤◌, length, rules}
+use Rattle.std.proofs.Common.{◌≡◌, ◌-◌, ◌≤◌, length}
 use Rattle.facts.proofs.place.put_groups.Given as goal
 
 abbrev pub invariant-loop-i : goal.invariant-loop-i

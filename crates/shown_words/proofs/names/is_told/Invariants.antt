@@ -1,5 +1,4 @@
 -- `shown_words::names::is_told` ends after 32 bytes of a key, and stays within the line. Assumes nothing.
-use borrow.Author.Rules.{rules}
 use Prim.Native.Nat.{◌≤◌, ◌-◌}
 use Rattle.shown_words.proofs.names.is_told.Given as goal
 

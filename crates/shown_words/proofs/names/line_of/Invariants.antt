@@ -1,5 +1,4 @@
 -- `shown_words::names::line_of` ends: what is left of the text falls. Assumes nothing.
-use borrow.Author.Rules.{rules}
 use lib.ListN.{length}
 use Prim.Native.Nat.{◌-◌}
 use Rattle.shown_words.proofs.names.line_of.Given as goal

@@ -9,40 +9,29 @@ use Rattle.night.proofs.call.make.Goals as goal
 
 pub receive-requires : goal.receive-requires
 receive-requires c =
-    let i = c in
-    let start = c in
-    record { state_len = start.requires.state_len; in_bounds = fits_1 _ _ i.if-kind-eq1.true start.requires.body_value; output_value = start.requires.output_value }
+    record { state_len = c.requires.state_len; in_bounds = fits_1 _ _ c.if-kind-eq1.true c.requires.body_value; output_value = c.requires.output_value }
 
 pub returns-then-kind-eq1 : goal.returns-then-kind-eq1
 returns-then-kind-eq1 c =
-    let m = c in
-    let i = c in
-    let a = i.args in
-    m.receive.ensures ∙ ap (called_told _) (call-1 (night_in a.state.now).opening a.kind a.body.now i.if-kind-eq1.true)
+    let a = c.args in
+    c.receive.ensures ∙ ap (called_told _) (call-1 (night_in a.state.now).opening a.kind a.body.now c.if-kind-eq1.true)
 
 pub send-requires : goal.send-requires
 send-requires c =
-    let i = c in
-    let start = c in
-    record { state_len = start.requires.state_len; body_len = fits_2 _ _ i.if-kind-eq2.true start.requires.body_value; output_value = start.requires.output_value }
+    record { state_len = c.requires.state_len; body_len = fits_2 _ _ c.if-kind-eq2.true c.requires.body_value; output_value = c.requires.output_value }
 
 pub returns-then-kind-eq2 : goal.returns-then-kind-eq2
 returns-then-kind-eq2 c =
-    let m = c in
-    let i = c in
-    let a = i.args in
-    m.send.ensures
-    ∙ ap (called_told _) (call-2 (night_in a.state.now).opening a.kind a.body.now i.if-kind-eq1.false i.if-kind-eq2.true)
+    let a = c.args in
+    c.send.ensures
+    ∙ ap (called_told _) (call-2 (night_in a.state.now).opening a.kind a.body.now c.if-kind-eq1.false c.if-kind-eq2.true)
 
 pub tick-requires : goal.tick-requires
 tick-requires c =
-    let start = c in
-    record { state_len = start.requires.state_len; output_value = start.requires.output_value }
+    record { state_len = c.requires.state_len; output_value = c.requires.output_value }
 
 pub returns : goal.returns
 returns c =
-    let m = c in
-    let i = c in
-    let a = i.args in
-    m.tick.ensures
-    ∙ ap (called_told _) (call-3 (night_in a.state.now).opening a.kind a.body.now i.if-kind-eq1.false i.if-kind-eq2.false)
+    let a = c.args in
+    c.tick.ensures
+    ∙ ap (called_told _) (call-3 (night_in a.state.now).opening a.kind a.body.now c.if-kind-eq1.false c.if-kind-eq2.false)

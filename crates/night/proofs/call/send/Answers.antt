@@ -9,20 +9,14 @@ use Rattle.night.proofs.call.send.Goals as goal
 
 pub slice_bounds-gauge_send-end-3 : goal.slice_bounds-gauge_send-end-3
 slice_bounds-gauge_send-end-3 c =
-    let start = c in
-    sym (length-take-le 6400 start.args.state.now (omega (arith, start.requires.state_len)))
+    sym (length-take-le 6400 c.args.state.now (omega (arith, c.requires.state_len)))
 
 pub returns : goal.returns
 returns c =
-    let gauge-send = c in
-    let read = c in
-    let copy-to2 = c in
-    let copy-to = c in
-    let start = c in
-    let s = start.args.state.now in
-    let fit = start.requires.state_len in
-    send-called s fit _ _ _ start.requires.output_value _ _ _ _
-    (copy-to.copy_to.ensures ∙ own-copied s fit)
-    (copy-to2.copy_to-2.ensures ∙ taken_out 6912 2240 s (omega (arith, fit))) gauge-send.gauge_send-answer.auto.1.1.0
-    start.args.body.now _ _ _ (major-taken s fit) (minor-taken s fit) read.read_u32_le-id.ensures
-    c.copy_to-3.ensures (gauge-send.gauge_send-answer.ensures (night_in s).memory)
+    let s = c.args.state.now in
+    let fit = c.requires.state_len in
+    send-called s fit _ _ _ c.requires.output_value _ _ _ _
+    (c.copy_to.ensures ∙ own-copied s fit)
+    (c.copy_to-2.ensures ∙ taken_out 6912 2240 s (omega (arith, fit))) c.gauge_send-answer.auto.waiting
+    c.args.body.now _ _ _ (major-taken s fit) (minor-taken s fit) c.read_u32_le-id.ensures
+    c.copy_to-3.ensures (c.gauge_send-answer.ensures (night_in s).memory)

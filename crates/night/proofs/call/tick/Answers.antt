@@ -8,11 +8,8 @@ use Rattle.night.proofs.call.tick.Goals as goal
 
 pub returns : goal.returns
 returns c =
-    let gauge-tick = c in
-    let copy-to = c in
-    let start = c in
-    let s = start.args.state.now in
-    let fit = start.requires.state_len in
-    tick-called s fit _ _ _ start.requires.output_value _ _ _ _ (own-taken s fit)
-    (copy-to.copy_to.ensures ∙ taken_out 6912 2240 s (omega (arith, fit))) gauge-tick.gauge_tick-answer.auto.1.0
-    c.copy_to-2.ensures (gauge-tick.gauge_tick-answer.ensures (night_in s).memory)
+    let s = c.args.state.now in
+    let fit = c.requires.state_len in
+    tick-called s fit _ _ _ c.requires.output_value _ _ _ _ (own-taken s fit)
+    (c.copy_to.ensures ∙ taken_out 6912 2240 s (omega (arith, fit))) c.gauge_tick-answer.auto.waiting
+    c.copy_to-2.ensures (c.gauge_tick-answer.ensures (night_in s).memory)

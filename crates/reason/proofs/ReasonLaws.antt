@@ -3,20 +3,19 @@
 use mathlib.Core.Path.{◌≡◌, refl, sym, ap, subst, ◌∙◌}
 use mathlib.Core.Logic.{inl, inr}
 use mathlib.Core.Bool.{Bool, true, false, not, cond, ◌&&◌}
-use mathlib.Core.List.{List, [], ◌∷◌, map}
-use mathlib.Core.Option.{Option, some, none}
+use mathlib.Core.List.{List, [], ◌∷◌}
 use Prim.Native.Nat.{ℕ, ◌≤◌, ◌<◌}
 use native.Mathlib.Omega.{arith}
 use native.Mathlib.Decide.{dec_le}
 use lib.Dec.{eqb}
 use lib.ListN.{length}
-use borrow.Author.Tests.{ne_eqb, eqb-true, eqb-false, not-true, not-false}
+use borrow.Author.Tests.{ne_eqb, eqb-true, eqb-false, not-true}
 use Rattle.key.specs.Around.{apart, is_down, tie, closer}
 use Rattle.key.proofs.AroundLaws.{closer_less, closer-same, closer_both, down_far}
 use Rattle.record.specs.Record.{key_of}
 use Rattle.kept.specs.Keys.{◌∈◌}
 use Rattle.closest_row.specs.Closest.{closest_from, closest_of}
-use Rattle.reason.specs.Because.{Because, only, target, tied, nearest, rank, named_key, Another, AnotherWith, Holds, First, Once, Candidates}
+use Rattle.reason.specs.Because.{Because, only, target, tied, nearest, rank, named_key, Another, AnotherWith, Holds, First, Candidates}
 use Rattle.reason.specs.Reason.{passing, differs, closest_in, because_by, reason_by, reason_of, given_by, because_of}
 use Rattle.reason.specs.declared.Reason.TheVariants.{Only, Target, Tied, Nearest}
 use Rattle.closest_row.proofs.ClosestLaws.{closest_in_lem, none-closer}

@@ -1,10 +1,10 @@
 -- Helps the code. The reason, computed: by the record that is named and the closest of the others, if there are any. Tied to what is believed by
 -- `one-reason` (Theorems). Assumes nothing.
-use Rattle.std.specs.Prelude.{ℕ, Bool, not, cond, ◌&&◌, ◌||◌, List, [], ◌∷◌, eqb}
+use Rattle.std.specs.Prelude.{ℕ, Bool, not, cond, List, [], ◌∷◌, eqb}
 use Rattle.std.proofs.Math.Option.{Option, some, none}
-use Rattle.key.specs.Around.{apart, closer}
+use Rattle.key.specs.Around.{apart}
 use Rattle.record.specs.Record.{key_of}
-use Rattle.closest_row.specs.Closest.{closest_from, closest_of}
+use Rattle.closest_row.specs.Closest.{closest_from}
 use Rattle.reason.specs.Because.{Because, only, target, tied, nearest, named_key}
 use Rattle.reason.specs.declared.Reason.{Reason}
 use Rattle.reason.specs.declared.Reason.TheVariants.{Only, Target, Tied, Nearest}

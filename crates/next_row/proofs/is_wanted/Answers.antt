@@ -1,15 +1,11 @@
 -- `next_row::is_wanted` meets its contract: the record's place on the path first, then its key. Assumes nothing.
 use mathlib.Core.Path.{◌≡◌, refl, sym, ap, ◌∙◌}
-use mathlib.Core.Bool.{Bool, true, false, not, ◌&&◌, ◌||◌}
 use Prim.Native.Nat.{ℕ}
 use lib.Dec.{eqb}
-use borrow.Author.Tests.{not-true, not-false}
-use borrow.Author.Rules.{rules}
 use Rattle.octet.specs.Part.{part}
-use Rattle.key.specs.Number.{number, key_at}
+use Rattle.key.specs.Number.{number}
 use Rattle.record.specs.Record.{key_of}
-use Rattle.path.specs.Path.{on_path}
-use Rattle.next_row.specs.Walk.{kept, wanted}
+use Rattle.next_row.specs.Walk.{wanted}
 use Rattle.cache.proofs.FormLaws.{key_of-row}
 use Rattle.next_row.proofs.is_wanted.Goals as goal
 

@@ -1,11 +1,11 @@
-use mathlib.Core.Path.{◌≡◌, sym, ◌∙◌}
+use mathlib.Core.Path.{sym, ◌∙◌}
 use mathlib.Core.Bool.{Bool}
 use mathlib.Core.List.{List}
-use Prim.Native.Nat.{ℕ, ◌-◌, ◌*◌, ◌≤◌, ◌<◌}
+use Prim.Native.Nat.{ℕ}
 use native.Mathlib.Omega.{arith}
 use Rattle.key.specs.Number.{number}
-use Rattle.next_row.specs.Walk.{wanted, row_at, place_among}
-use Rattle.next_row.proofs.WalkLaws.{placeAt, place-starts, place-takes, place-leaves, place-ends}
+use Rattle.next_row.specs.Walk.{wanted, row_at}
+use Rattle.next_row.proofs.WalkLaws.{place-starts, place-takes, place-leaves, place-ends}
 use Rattle.next_row.proofs.row_of.Goals.{At-loop-i, Start}
 use Rattle.next_row.proofs.row_of.Goals as goal
 

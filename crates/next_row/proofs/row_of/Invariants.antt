@@ -1,12 +1,9 @@
 -- `next_row::row_of` meets its contract: the place among all rows is that of the best so far and the rows from i on. Assumes nothing.
-use mathlib.Core.Path.{◌≡◌, sym, ◌∙◌}
-use mathlib.Core.Bool.{Bool}
-use mathlib.Core.List.{List}
-use Prim.Native.Nat.{ℕ, ◌-◌, ◌*◌, ◌≤◌, ◌<◌}
-use native.Mathlib.Omega.{arith}
+use mathlib.Core.Path.{◌≡◌}
+use Prim.Native.Nat.{◌-◌, ◌≤◌}
 use Rattle.key.specs.Number.{number}
 use Rattle.next_row.specs.Walk.{wanted, row_at, place_among}
-use Rattle.next_row.proofs.WalkLaws.{placeAt, place-starts, place-takes, place-leaves, place-ends}
+use Rattle.next_row.proofs.WalkLaws.{placeAt}
 use Rattle.next_row.proofs.row_of.Given as goal
 
 abbrev pub invariant-loop-i : goal.invariant-loop-i

@@ -1,7 +1,6 @@
 -- `reason::reason_by` meets its contract: each answer is its clause. Assumes nothing.
 use mathlib.Core.Path.{◌≡◌, refl, sym, ap₂, ◌∙◌}
 use lib.Dec.{eqb}
-use borrow.Author.Rules.{rules}
 use Rattle.key.specs.Number.{number}
 use Rattle.key.specs.Around.{apart}
 use Rattle.reason.proofs.reason_by.Goals.{After-is_same-2}

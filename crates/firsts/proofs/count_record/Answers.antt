@@ -9,11 +9,8 @@ use Rattle.record.specs.Record.{key_of}
 use Rattle.table.specs.Rows.{rows}
 use Rattle.firsts.specs.Places.{count_at, with_count}
 use Rattle.firsts.proofs.FirstsLaws.{firsts_length, row_room, row-counted}
-use Rattle.firsts.proofs.count_record.Goals.{After-shared_slice_known-1, Start}
+use Rattle.firsts.proofs.count_record.Goals.{Start}
 use Rattle.firsts.proofs.count_record.Goals as goal
-
-bytes : (c : After-shared_slice_known-1) → Digits 256 c.args.cache.now
-bytes c i = omega (arith, c.type_inv.cache i)
 
 -- the byte that is counted
 abbrev byte : Start → ℕ
@@ -21,18 +18,17 @@ byte s = get_or s.args.cache.now (100 * s.args.i) 0
 
 pub count_up-requires : goal.count_up-requires
 count_up-requires c =
-    let known = (goal.at.count_up-requires c).After-shared_slice_known-1 in
+    let bytes : Digits 256 c.args.cache.now = λ i. omega (arith, c.type_inv.cache i) in
     let s = (goal.at.count_up-requires c).Start in
     let a = s.args in (
       ap length s.requires.2 ∙ firsts_length (map key_of (rows 100 a.i a.cache.now)),
-      subst (λ (f : List ℕ). count_at (byte s) f < 65535) (sym s.requires.2) (row_room a.i a.cache.now (omega arith) (byte s) (bytes known (100 * a.i))),
+      subst (λ (f : List ℕ). count_at (byte s) f < 65535) (sym s.requires.2) (row_room a.i a.cache.now (omega arith) (byte s) (bytes (100 * a.i))),
     )
 
 pub returns : goal.returns
 returns c =
-    let up = c in
-    let known = (goal.at.returns c).After-shared_slice_known-1 in
+    let bytes : Digits 256 c.args.cache.now = λ i. omega (arith, c.type_inv.cache i) in
     let s = (goal.at.returns c).Start in
     let a = s.args in
-    up.count_up.ensures ∙ ap (λ (f : List ℕ). with_count (byte s) (count_at (byte s) f + 1) f) s.requires.2
-    ∙ row-counted a.i a.cache.now (omega arith) (bytes known) s.requires.0 (byte s) (bytes known (100 * a.i)) refl
+    c.count_up.ensures ∙ ap (λ (f : List ℕ). with_count (byte s) (count_at (byte s) f + 1) f) s.requires.2
+    ∙ row-counted a.i a.cache.now (omega arith) bytes s.requires.0 (byte s) (bytes (100 * a.i)) refl

@@ -36,8 +36,7 @@ slice_bounds-close-end-then-n-eq0-2 c = c.loop-reads.invariant.5
 
 pub close-end-requires : goal.close-end-requires
 close-end-requires c =
-    let at-loop = c in
-    record { begun_in_bounds = at-loop.loop-reads.invariant.1.inside; in_bounds = line_by _ at-loop.loop-reads.invariant.5 }
+    record { begun_in_bounds = c.loop-reads.invariant.1.inside; in_bounds = line_by _ c.loop-reads.invariant.5 }
 
 pub slice_bounds-write-end : goal.slice_bounds-write-end
 slice_bounds-write-end c = sym (length-take-le _ _ (search rules))
@@ -56,14 +55,13 @@ slice_bounds-feed-end-in-loop-reads-2 c = c.loop-reads.invariant.5
 
 pub feed-held-requires : goal.feed-held-requires
 feed-held-requires c =
-    let count = c in
-    let l = count.loop-reads in
-    let few = count.count-n.ensures.in_bounds in
-    let same = count.read-got.auto.1.0 in record {
+    let l = c.loop-reads in
+    let few = c.count-n.ensures.in_bounds in
+    let same = c.read-got.auto.1.0 in record {
       begun = l.invariant.1;
       piece_in_bounds = read-text _ _ _ _ few.0 few.1 same l.invariant.4 _ l.invariant.5;
       piece_bound = read_count _ _ _ _ few.0 few.1 same l.invariant.4 _ _
-          l.invariant.0 count.loop-reads-test.true;
+          l.invariant.0 c.loop-reads-test.true;
     }
 
 pub slice_bounds-write-end-in-loop-reads : goal.slice_bounds-write-end-in-loop-reads

@@ -11,19 +11,16 @@ returns-then-answer-eq0 c = record { upper_bound = omega arith; out_after = no_l
 
 pub returns-then-at-eq0 : goal.returns-then-at-eq0
 returns-then-at-eq0 c =
-    let m = c in
-    let i = c in
-    let a = i.args in record {
-      upper_bound = m.put_line.ensures.upper_bound;
-      out_after = m.put_line.ensures.out_after
-          ∙ bad-first a.at a.answer (take a.from a.out.now) i.if-at-eq0.true i.if-answer-eq0.false;
+    let a = c.args in record {
+      upper_bound = c.put_line.ensures.upper_bound;
+      out_after = c.put_line.ensures.out_after
+          ∙ bad-first a.at a.answer (take a.from a.out.now) c.if-at-eq0.true c.if-answer-eq0.false;
     }
 
 pub returns : goal.returns
 returns c =
-    let m = c in
-    let a = m.args in record {
-      upper_bound = m.put_line-2.ensures.upper_bound;
-      out_after = m.put_line-2.ensures.out_after
-          ∙ later-line a.at a.answer (take a.from a.out.now) m.if-at-eq0.false;
+    let a = c.args in record {
+      upper_bound = c.put_line-2.ensures.upper_bound;
+      out_after = c.put_line-2.ensures.out_after
+          ∙ later-line a.at a.answer (take a.from a.out.now) c.if-at-eq0.false;
     }

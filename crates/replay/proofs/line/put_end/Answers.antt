@@ -7,8 +7,7 @@ use Rattle.replay.proofs.line.put_end.Goals as goal
 
 pub returns-then-at-eq0 : goal.returns-then-at-eq0
 returns-then-at-eq0 c =
-    let m = c in
-    record { upper_bound = m.put_line.ensures.upper_bound; out_after = m.put_line.ensures.out_after ∙ empty_trace _ m.if-at-eq0.true }
+    record { upper_bound = c.put_line.ensures.upper_bound; out_after = c.put_line.ensures.out_after ∙ empty_trace _ c.if-at-eq0.true }
 
 pub returns : goal.returns
 returns c = record { upper_bound = omega arith; out_after = ended _ c.if-at-eq0.false }

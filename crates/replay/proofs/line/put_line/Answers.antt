@@ -14,23 +14,20 @@ use Rattle.replay.proofs.line.put_line.Goals as goal
 as_long : (c : After-put_decimal-end)
     → length c.put_decimal-end.new.out ≡ length c.args.out.now
 as_long c =
-    let m = c in
-    c.put_decimal-end.auto.0 ∙ length-set m.put_decimal-space.new.out m.put_decimal-space.result 32 ∙ m.put_decimal-space.auto.0
+    c.put_decimal-end.auto.out ∙ length-set c.put_decimal-space.new.out c.put_decimal-space.result 32 ∙ c.put_decimal-space.auto.out
 
-laid : (c : After-put_decimal-end) → (let m = c.before.before.before.before in let a = m.args in
+laid : (c : After-put_decimal-end) → (let a = c.args in
     (c.put_decimal-end.result + 1 ≤ a.from + 42)
     × (take (c.put_decimal-end.result + 1) (set c.put_decimal-end.new.out c.put_decimal-end.result 10)
     ≡ take a.from a.out.now ++ text_of (line a.at a.answer)))
 laid c =
-    let m = c in
-    let a = m.args in
-    line-put a.out.now a.from m.requires (line a.at a.answer) _ _ _ _ m.put_decimal-space.ensures.value
-    m.put_decimal-space.ensures.out_after c.put_decimal-end.ensures.value c.put_decimal-end.ensures.out_after
+    let a = c.args in
+    line-put a.out.now a.from c.requires (line a.at a.answer) _ _ _ _ c.put_decimal-space.ensures.value
+    c.put_decimal-space.ensures.out_after c.put_decimal-end.ensures.value c.put_decimal-end.ensures.out_after
 
 pub put_decimal-end-requires : goal.put_decimal-end-requires
 put_decimal-end-requires c =
-    let m = c in
-    omega (arith, length-set m.put_decimal-space.new.out m.put_decimal-space.result 32, m.put_decimal-space.auto.0, m.put_decimal-space.ensures.upper_bound)
+    omega (arith, length-set c.put_decimal-space.new.out c.put_decimal-space.result 32, c.put_decimal-space.auto.out, c.put_decimal-space.ensures.upper_bound)
 
 pub bounds-out-end : goal.bounds-out-end
 bounds-out-end c = omega (arith, (laid (goal.at.bounds-out-end c).After-put_decimal-end).0, as_long (goal.at.bounds-out-end c).After-put_decimal-end)

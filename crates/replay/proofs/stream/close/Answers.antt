@@ -16,17 +16,14 @@ pub put_end-requires : goal.put_end-requires
 put_end-requires c = c.requires.in_bounds
 
 pub shape_of-text-then-begun-eq0 : goal.shape_of-text-then-begun-eq0
-shape_of-text-then-begun-eq0 c = c.put_end.auto.0
+shape_of-text-then-begun-eq0 c = c.put_end.auto.out
 
 pub returns-then-begun-eq0 : goal.returns-then-begun-eq0
 returns-then-begun-eq0 c =
-    let u = c in
-    let i = c in
-    let start = c in
-    let a = start.args in record {
+    let a = c.args in record {
       state_after = close-none a.from.at (night_in a.state.now) a.from.over a.room.now a.from.begun
-          start.requires.begun_in_bounds i.if-from.false _ i.if-begun-eq0.true u.put_end.ensures.out_after;
-      upper_bound = u.put_end.ensures.upper_bound;
+          c.requires.begun_in_bounds c.if-from.false _ c.if-begun-eq0.true c.put_end.ensures.out_after;
+      upper_bound = c.put_end.ensures.upper_bound;
     }
 
 pub slice_bounds-step-end : goal.slice_bounds-step-end
@@ -36,20 +33,16 @@ pub put-requires : goal.put-requires
 put-requires c = c.requires.in_bounds
 
 pub shape_of-state : goal.shape_of-state
-shape_of-state c = c.step-answer.auto.1.0
+shape_of-state c = c.step-answer.auto.state
 
 pub shape_of-text : goal.shape_of-text
-shape_of-text c = c.put.auto.0
+shape_of-text c = c.put.auto.out
 
 pub returns : goal.returns
 returns c =
-    let u = c in
-    let s = c in
-    let i = c in
-    let start = c in
-    let a = start.args in record {
+    let a = c.args in record {
       state_after = close-some a.from.at (night_in a.state.now) a.from.over a.room.now a.from.begun
-          start.requires.begun_in_bounds i.if-from.false (take u.put.result u.put.new.out)
-          s.step-answer.result (night_in s.step-answer.new.state) i.if-begun-eq0.false s.step-answer.ensures u.put.ensures.out_after;
-      upper_bound = u.put.ensures.upper_bound;
+          c.requires.begun_in_bounds c.if-from.false (take c.put.result c.put.new.out)
+          c.step-answer.result (night_in c.step-answer.new.state) c.if-begun-eq0.false c.step-answer.ensures c.put.ensures.out_after;
+      upper_bound = c.put.ensures.upper_bound;
     }

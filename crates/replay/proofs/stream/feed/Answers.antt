@@ -1,3 +1,4 @@
+-- `replay::stream::feed` meets its contract. Assumes nothing.
 use mathlib.Core.Path.{◌≡◌, refl, ◌∙◌}
 use Prim.Native.Nat.{◌+◌, ◌-◌, ◌*◌, ◌≤◌}
 use native.Mathlib.Omega.{arith}
@@ -33,13 +34,12 @@ shape_of-text-then-h c = c.loop-i.invariant.7
 
 pub returns-then-h : goal.returns-then-h
 returns-then-h c =
-    let st = c in
     let l = c.loop-i in
-    let n = length st.args.piece.now in record {
-      over_after = piece-over st.args.piece.now l.i _ (take l.h.end l.text) l.h.at (night_in l.state)
+    let n = length c.args.piece.now in record {
+      over_after = piece-over c.args.piece.now l.i _ (take l.h.end l.text) l.h.at (night_in l.state)
           (take l.h.begun l.room) l.h.over l.invariant.0 c.if-h.true;
       at_bound = up_to_end _ _ l.i n l.invariant.1 l.invariant.3;
-      end_in_bounds = at_piece_end l.i n _ _ _ l.invariant.1 l.invariant.2 st.requires.piece_in_bounds l.invariant.7;
+      end_in_bounds = at_piece_end l.i n _ _ _ l.invariant.1 l.invariant.2 c.requires.piece_in_bounds l.invariant.7;
       begun_2 = l.invariant.4;
     }
 
@@ -66,12 +66,20 @@ slice_bounds-run-end c = (fit (goal.at.slice_bounds-run-end c).After-least).rest
 
 pub take_run-h-requires : goal.take_run-h-requires
 take_run-h-requires c =
-    let g = (goal.at.take_run-h-requires (goal.at.take_run-h-requires c).After-take_run-arg-in-loop-i-2-1).After-least in
+    let g = (goal.at.take_run-h-requires c).After-least in
     let l = g.loop-i in
-    let st = c in
     let w = g.wanted_of-want.ensures in
-    let long = length_run st.args.piece.now l.i g.least.result (fit g).rest in
-    record { in_bounds = l.invariant.4.roomy; run_nonzero = (run-asks (fit g) _ _ _ _ _ _ _ long w.0 w.1 l.invariant.2 l.invariant.7 st.requires.piece_in_bounds l.invariant.3 st.requires.piece_bound).0; run_bound = (run-asks (fit g) _ _ _ _ _ _ _ long w.0 w.1 l.invariant.2 l.invariant.7 st.requires.piece_in_bounds l.invariant.3 st.requires.piece_bound).1.0; run_bound_2 = (run-asks (fit g) _ _ _ _ _ _ _ long w.0 w.1 l.invariant.2 l.invariant.7 st.requires.piece_in_bounds l.invariant.3 st.requires.piece_bound).1.1.0; end_in_bounds = (run-asks (fit g) _ _ _ _ _ _ _ long w.0 w.1 l.invariant.2 l.invariant.7 st.requires.piece_in_bounds l.invariant.3 st.requires.piece_bound).1.1.1.0; at_bound = (run-asks (fit g) _ _ _ _ _ _ _ long w.0 w.1 l.invariant.2 l.invariant.7 st.requires.piece_in_bounds l.invariant.3 st.requires.piece_bound).1.1.1.1 }
+    let long = length_run c.args.piece.now l.i g.least.result (fit g).rest in
+    let asks =
+    run-asks (fit g) _ _ _ _ _ _ _ long w.value w.upper_bound l.invariant.2 l.invariant.7 c.requires.piece_in_bounds
+    l.invariant.3 c.requires.piece_bound in record {
+      in_bounds = l.invariant.4.roomy;
+      run_nonzero = asks.0;
+      run_bound = asks.1.0;
+      run_bound_2 = asks.1.1.0;
+      end_in_bounds = asks.1.1.1.0;
+      at_bound = asks.1.1.1.1;
+    }
 
 pub loop-i-smaller : goal.loop-i-smaller
 loop-i-smaller c =
@@ -79,26 +87,24 @@ loop-i-smaller c =
 
 pub loop-i-preserved : goal.loop-i-preserved
 loop-i-preserved c =
-    let take-run = c in
-    let g = (goal.at.loop-i-preserved (goal.at.loop-i-preserved c).After-slice_known-in-loop-i-3-1).After-least in
-    let t = take-run.take_run-h in
+    let g = (goal.at.loop-i-preserved c).After-least in
+    let t = c.take_run-h in
     let l = g.loop-i in
     let k = g.least.result in
-    let st = c in
     let e = t.ensures in (
-      piece-turn st.args.piece.now l.i (l.i + k) (up_to l.i k) _ (take l.h.end l.text) l.h.at
+      piece-turn c.args.piece.now l.i (l.i + k) (up_to l.i k) _ (take l.h.end l.text) l.h.at
           (night_in l.state)
           (take l.h.begun l.room) l.h.over l.invariant.0 g.if-h.false
-          (take t.result.end t.new.1.1.1.1.1.1.0)
-          (stream t.result.at (night_in t.new.1.1.1.0) (take t.result.begun t.new.1.1.1.1.0) t.result.over)
-          e.0,
+          (take t.result.end t.new.text)
+          (stream t.result.at (night_in t.new.state) (take t.result.begun t.new.room) t.result.over)
+          e.over_after,
       (fit g).rest,
-      run-lines (fit g) _ _ l.invariant.2 e.1.1.0,
-      run-numbers (fit g) _ _ _ l.invariant.3 e.1.0,
-      e.1.1.1,
-      t.auto.1.1.1.0 ∙ l.invariant.5,
-      t.auto.1.1.1.1.0 ∙ l.invariant.6,
-      t.auto.1.1.1.1.1.1.0 ∙ l.invariant.7,
+      run-lines (fit g) _ _ l.invariant.2 e.end_bound,
+      run-numbers (fit g) _ _ _ l.invariant.3 e.at_bound_2,
+      e.begun,
+      t.auto.state ∙ l.invariant.5,
+      t.auto.room ∙ l.invariant.6,
+      t.auto.text ∙ l.invariant.7,
     )
 
 pub shape_of-state : goal.shape_of-state
@@ -112,12 +118,11 @@ shape_of-text c = c.loop-i.invariant.7
 
 pub returns : goal.returns
 returns c =
-    let st = c in
     let l = c.loop-i in
-    let n = length st.args.piece.now in record {
-      over_after = piece-end st.args.piece.now l.i _ (take l.h.end l.text) l.h.at (night_in l.state)
+    let n = length c.args.piece.now in record {
+      over_after = piece-end c.args.piece.now l.i _ (take l.h.end l.text) l.h.at (night_in l.state)
           (take l.h.begun l.room) l.h.over l.invariant.0 (omega arith);
       at_bound = up_to_end _ _ l.i n l.invariant.1 l.invariant.3;
-      end_in_bounds = at_piece_end l.i n _ _ _ l.invariant.1 l.invariant.2 st.requires.piece_in_bounds l.invariant.7;
+      end_in_bounds = at_piece_end l.i n _ _ _ l.invariant.1 l.invariant.2 c.requires.piece_in_bounds l.invariant.7;
       begun_2 = l.invariant.4;
     }

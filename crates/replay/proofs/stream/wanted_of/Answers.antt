@@ -11,8 +11,8 @@ returns-then-begun-lt2 c = record { value = room-two _ _ c.requires c.if-begun-l
 
 pub returns : goal.returns
 returns c =
-    let i = c in record {
+    record {
       value = ap (λ (k : ℕ). 2 + k) (c.wide.ensures ∙ c.read_u16_le.ensures)
-          ∙ room-told _ _ i.requires (omega (arith, i.if-begun-lt2.false));
+          ∙ room-told _ _ c.requires (omega (arith, c.if-begun-lt2.false));
       upper_bound = omega arith;
     }

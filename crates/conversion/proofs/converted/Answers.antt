@@ -1,5 +1,5 @@
 -- `conversion::converted` stays within what it is lent: a prefix is as long as it says. Assumes nothing.
-use Rattle.std.proofs.Common.{sym, arith, length-take-le, rules}
+use Rattle.std.proofs.Common.{sym, arith, length-take-le}
 use Rattle.conversion.proofs.converted.Goals as goal
 
 pub slice_bounds-convert-end-2 : goal.slice_bounds-convert-end-2

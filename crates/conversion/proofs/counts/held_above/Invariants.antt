@@ -1,5 +1,5 @@
 -- `conversion::counts::held_above` ends: the rows that are left get fewer. Assumes nothing.
-use Rattle.std.proofs.Common.{◌≡◌, ◌-◌, ◌/◌, length, arith}
+use Rattle.std.proofs.Common.{◌≡◌, ◌-◌, ◌/◌, length}
 use Rattle.conversion.proofs.counts.held_above.Given as goal
 
 abbrev pub invariant-loop-i : goal.invariant-loop-i

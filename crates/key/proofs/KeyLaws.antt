@@ -1,7 +1,7 @@
 -- Laws of keys in hand: four words below 2 ^ 64. Assumes nothing.
 use Rattle.std.proofs.Common.{◌≡◌, ℕ, zero, suc, ◌+◌, ◌^◌, ◌<◌, ◌≤◌, ◌↔◌, List, length, sym, refl, ap, ap₂, ◌∙◌, Bool, ◌&&◌, eqb, arith}
 use Rattle.std.specs.Ordering.{nat_cmp, ordering_then}
-use Rattle.octet.specs.Number.{Digits}
+use Rattle.octet.specs.Number.{Digits, value_be}
 use Rattle.octet.specs.Part.{same}
 use Rattle.octet.proofs.TestLaws.{and_true}
 use Rattle.octet.proofs.BigLaws.{value_be-lt, value_be_inj}
@@ -11,6 +11,11 @@ use Rattle.key.specs.Around.{ring}
 use Rattle.key.proofs.PlaceLaws.{part-lt, same_value}
 use Rattle.key.proofs.OrderLaws.{order_by, order_of_lists, order_lists, then_end}
 use Rattle.key.proofs.DifferenceLaws.{distance_self, distance-zero}
+
+-- four words of 0 are the number 0
+pub number_zero : number (record { a = 0; b = 0; c = 0; d = 0 }) ≡ 0
+unfolding number value_be
+number_zero = refl
 
 -- each word is a word: what owning a key tells
 pub record Fit (k : Key) : Type 0 where

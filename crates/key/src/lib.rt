@@ -20,6 +20,16 @@ pub struct Key {
     pub d: u64,
 }
 
+impl Key {
+    // The number 0: no key, and no step.
+    pub const ZERO: Key = Key {
+        a: 0,
+        b: 0,
+        c: 0,
+        d: 0,
+    };
+}
+
 // The key whose 32 bytes stand at a place.
 pub fn key_at(s: &[u8], at: usize) -> Key
     requires { at + 32 ≤ length s.now }

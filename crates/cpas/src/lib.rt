@@ -30,13 +30,11 @@ pub fn cpas_form(cpas: &[u8], n: usize) -> bool
     ensures { result ≡ cpas_form n cpas.now }
 {
     let mut at = 0;
-    let mut i = 0;
-    while i < n {
+    for _i in 0..n {
         if !is_cpa(cpas, at) {
             return false;
         }
-        at = at + (2 + size_at(cpas, at));
-        i += 1;
+        at += 2 + size_at(cpas, at);
     }
     at == cpas.len()
 }
@@ -47,10 +45,8 @@ pub fn cpa_at<'a>(cpas: &'a [u8], place: usize) -> &'a [u8]
     ensures { result.now ≡ cpa_of place cpas.now }
 {
     let mut at = 0;
-    let mut i = 0;
-    while i < place {
-        at = at + (2 + size_at(cpas, at));
-        i += 1;
+    for _i in 0..place {
+        at += 2 + size_at(cpas, at);
     }
     let start = at + 2;
     let end = start + size_at(cpas, at);

@@ -34,13 +34,11 @@ pub fn put_hex(out: &mut [u8], at: usize, s: &[u8]) -> usize
     ensures value { result ≡ at + 2 * length s.now }
     ensures out_after { out.new ≡ splice at (hex_of s.now) out.old }
 {
-    let mut i = 0;
-    while i < s.len() {
+    for i in 0..s.len() {
         let byte = s[i];
         let place = at + 2 * i;
         out[place] = hex_digit(byte / 16);
         out[place + 1] = hex_digit(byte % 16);
-        i += 1;
     }
     at + 2 * s.len()
 }

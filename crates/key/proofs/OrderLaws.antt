@@ -1,13 +1,14 @@
 -- Laws of the order of numbers, and of lists of digits, at any base and any width.
 -- In this order: the order of two numbers; one order after another; lists of digits, whose order is that of their numbers. Assumes nothing.
 use Rattle.std.proofs.Common.{◌≡◌, ℕ, suc, ◌+◌, ◌*◌, ◌^◌, ◌<◌, true, false, eqb, ltb, List, [], ◌∷◌, length, sym, refl, ap, ◌∙◌, arith, le-ltb, lt-ltb, eq-eqb, ne_eqb}
+use Rattle.std.specs.Ordering.{is_lt, nat_cmp, ordering_then}
 use native.Mathlib.Decide.{dec_lt}
 use native.Mathlib.Nat.{suc_inj}
 use lib.Arith.{digits_lt}
 use Rattle.octet.specs.Number.{Digits, value_be}
 use Rattle.octet.proofs.BigLaws.{value_be-lt}
-use Rattle.key.specs.declared.Order.{Order}
-use Rattle.key.specs.declared.Order.TheVariants.{Less, Same, More}
+use Rattle.std.specs.declared.cmp.Ordering.{Ordering}
+use Rattle.std.specs.declared.cmp.Ordering.TheVariants.{Less, Equal, Greater}
 use Rattle.key.specs.Number.{order_of}
 
 -- ---- the order of two numbers
@@ -16,11 +17,11 @@ pub order_less : {m n : ℕ} → m < n → order_of m n ≡ Less
 unfolding order_of
 order_less {m} {n} h = rw (lt-ltb m n h)
 
-pub order_more : {m n : ℕ} → n < m → order_of m n ≡ More
+pub order_more : {m n : ℕ} → n < m → order_of m n ≡ Greater
 unfolding order_of
 order_more {m} {n} h = rw (le-ltb m n (omega arith), lt-ltb n m h)
 
-pub order_same : {m n : ℕ} → m ≡ n → order_of m n ≡ Same
+pub order_same : {m n : ℕ} → m ≡ n → order_of m n ≡ Equal
 unfolding order_of
 order_same {m} {n} e = rw (le-ltb m n (omega arith), le-ltb n m (omega arith))
 
@@ -44,34 +45,51 @@ less_is m n e = by-case (stand m n)
   where
     by-case : Stand m n → m < n
     by-case (below h) = h
-    by-case (equal h) = let s : order_of m n ≡ Same = order_same h in let z : ◌≡◌ {A = ℕ} 0 1 = cc in omega arith
-    by-case (above h) = let s : order_of m n ≡ More = order_more h in let z : ◌≡◌ {A = ℕ} 0 1 = cc in omega arith
+    by-case (equal h) = let s : order_of m n ≡ Equal = order_same h in let z : ◌≡◌ {A = ℕ} 0 1 = cc in omega arith
+    by-case (above h) = let s : order_of m n ≡ Greater = order_more h in let z : ◌≡◌ {A = ℕ} 0 1 = cc in omega arith
 
-pub same-is : (m n : ℕ) → order_of m n ≡ Same → m ≡ n
+pub same-is : (m n : ℕ) → order_of m n ≡ Equal → m ≡ n
 same-is m n e = by-case (stand m n)
   where
     by-case : Stand m n → m ≡ n
     by-case (below h) = let s : order_of m n ≡ Less = order_less h in let z : ◌≡◌ {A = ℕ} 0 1 = cc in omega arith
     by-case (equal h) = h
-    by-case (above h) = let s : order_of m n ≡ More = order_more h in let z : ◌≡◌ {A = ℕ} 0 1 = cc in omega arith
+    by-case (above h) = let s : order_of m n ≡ Greater = order_more h in let z : ◌≡◌ {A = ℕ} 0 1 = cc in omega arith
 
-pub more_is : (m n : ℕ) → order_of m n ≡ More → n < m
+pub more_is : (m n : ℕ) → order_of m n ≡ Greater → n < m
 more_is m n e = by-case (stand m n)
   where
     by-case : Stand m n → n < m
     by-case (below h) = let s : order_of m n ≡ Less = order_less h in let z : ◌≡◌ {A = ℕ} 0 1 = cc in omega arith
-    by-case (equal h) = let s : order_of m n ≡ Same = order_same h in let z : ◌≡◌ {A = ℕ} 0 1 = cc in omega arith
+    by-case (equal h) = let s : order_of m n ≡ Equal = order_same h in let z : ◌≡◌ {A = ℕ} 0 1 = cc in omega arith
     by-case (above h) = h
 
 -- the two tests that code makes of the answer: is the first less, are they the same?
 pub test_less : (m n : ℕ) → order_of m n ≡ Less → (ltb m n ≡ true) × (eqb m n ≡ false)
 test_less m n e = let h = less_is m n e in (lt-ltb m n h, ne_eqb m n (λ q. omega arith))
 
-pub test_same : (m n : ℕ) → order_of m n ≡ Same → (ltb m n ≡ false) × (eqb m n ≡ true)
+pub test_same : (m n : ℕ) → order_of m n ≡ Equal → (ltb m n ≡ false) × (eqb m n ≡ true)
 test_same m n e = let h = same-is m n e in (le-ltb m n (omega arith), eq-eqb m n h)
 
-pub test_more : (m n : ℕ) → order_of m n ≡ More → (ltb m n ≡ false) × (eqb m n ≡ false)
+pub test_more : (m n : ℕ) → order_of m n ≡ Greater → (ltb m n ≡ false) × (eqb m n ≡ false)
 test_more m n e = let h = more_is m n e in (le-ltb m n (omega arith), ne_eqb m n (λ q. omega arith))
+
+-- what std's comparison of two numbers answers, and its test of less
+pub order_by : (m n : ℕ) → nat_cmp m n ≡ order_of m n
+order_by m n = by-case (stand m n)
+  where
+    by-case : Stand m n → nat_cmp m n ≡ order_of m n
+    by-case (below h) = rw (lt-ltb m n h) (sym (order_less h))
+    by-case (equal h) = rw (le-ltb m n (omega arith), eq-eqb m n h) (sym (order_same h))
+    by-case (above h) = rw (le-ltb m n (omega arith), ne_eqb m n (λ q. omega arith)) (sym (order_more h))
+
+pub less_by : (m n : ℕ) → is_lt (order_of m n) ≡ ltb m n
+less_by m n = by-case (stand m n)
+  where
+    by-case : Stand m n → is_lt (order_of m n) ≡ ltb m n
+    by-case (below h) = ap is_lt (order_less h) ∙ sym (lt-ltb m n h)
+    by-case (equal h) = ap is_lt (order_same h) ∙ sym (le-ltb m n (omega arith))
+    by-case (above h) = ap is_lt (order_more h) ∙ sym (le-ltb m n (omega arith))
 
 -- numbers that stand alike are less alike
 pub less_alike : (m n j k : ℕ) → order_of m n ≡ order_of j k → ltb m n ≡ ltb j k
@@ -93,33 +111,27 @@ order_add k m n = by-case (stand m n)
 
 -- ---- one order after another
 
--- o, or p where o is Same
-abbrev pub then : Order → Order → Order
-then Less p = Less
-then Same p = p
-then More p = More
-
-pub then_end : (o : Order) → then o Same ≡ o
+pub then_end : (o : Ordering) → ordering_then o Equal ≡ o
 then_end Less = refl
-then_end Same = refl
-then_end More = refl
+then_end Equal = refl
+then_end Greater = refl
 
-pub then_differ : (m n : ℕ) (o : Order) → (m ≡ n → ⊥) → then (order_of m n) o ≡ order_of m n
+pub then_differ : (m n : ℕ) (o : Ordering) → (m ≡ n → ⊥) → ordering_then (order_of m n) o ≡ order_of m n
 then_differ m n o h = by-case (stand m n)
   where
-    by-case : Stand m n → then (order_of m n) o ≡ order_of m n
+    by-case : Stand m n → ordering_then (order_of m n) o ≡ order_of m n
     by-case (below l) = rw (order_less l)
     by-case (equal e) = absurd (h e)
     by-case (above l) = rw (order_more l)
 
-pub then_equal : (m n : ℕ) (o : Order) → m ≡ n → then (order_of m n) o ≡ o
+pub then_equal : (m n : ℕ) (o : Ordering) → m ≡ n → ordering_then (order_of m n) o ≡ o
 then_equal m n o e = rw (order_same e)
 
 -- numbers by a high part and a low part below P: the high parts decide, and the low ones where those are equal
-pub heads : (P x y : ℕ) {X Y : ℕ} (o : Order) → X < P → Y < P → o ≡ order_of X Y → then (order_of x y) o ≡ order_of (x * P + X) (y * P + Y)
+pub heads : (P x y : ℕ) {X Y : ℕ} (o : Ordering) → X < P → Y < P → o ≡ order_of X Y → ordering_then (order_of x y) o ≡ order_of (x * P + X) (y * P + Y)
 heads P x y {X} {Y} o p q r = by-case (stand x y)
   where
-    by-case : Stand x y → then (order_of x y) o ≡ order_of (x * P + X) (y * P + Y)
+    by-case : Stand x y → ordering_then (order_of x y) o ≡ order_of (x * P + X) (y * P + Y)
     by-case (below s) = rw (order_less s) (sym (order_less {m = x * P + X} {n = y * P + Y} (omega (arith, digits_lt {c = P} s p))))
     by-case (equal e) = rw (order_same e) (r ∙ sym (order_add (x * P) X Y) ∙ ap (λ (z : ℕ). order_of (x * P + X) (z * P + Y)) e)
     by-case (above s) = rw (order_more s) (sym (order_more {m = x * P + X} {n = y * P + Y} (omega (arith, digits_lt {c = P} s q))))
@@ -127,11 +139,11 @@ heads P x y {X} {Y} o p q r = by-case (stand x y)
 -- ---- lists of digits
 
 -- how one list stands to another, by the first elements that differ
-unfoldable pub order_of_lists : List ℕ → List ℕ → Order
-order_of_lists [] [] = Same
+unfoldable pub order_of_lists : List ℕ → List ℕ → Ordering
+order_of_lists [] [] = Equal
 order_of_lists [] (y ∷ ys) = Less
-order_of_lists (x ∷ xs) [] = More
-order_of_lists (x ∷ xs) (y ∷ ys) = then (order_of x y) (order_of_lists xs ys)
+order_of_lists (x ∷ xs) [] = Greater
+order_of_lists (x ∷ xs) (y ∷ ys) = ordering_then (order_of x y) (order_of_lists xs ys)
 
 -- byte order is number order, at any equal width
 pub order_lists : (b : ℕ) (xs ys : List ℕ) → Digits b xs → Digits b ys → length xs ≡ length ys → order_of_lists xs ys ≡ order_of (value_be b xs) (value_be b ys)

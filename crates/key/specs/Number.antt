@@ -3,8 +3,8 @@ use Rattle.std.specs.Prelude.{ℕ, ◌-◌, ◌^◌, min, max, cond, List, [], �
 use Rattle.octet.specs.Number.{value_be}
 use Rattle.octet.specs.Part.{part}
 use Rattle.key.specs.declared.Key.{Key}
-use Rattle.key.specs.declared.Order.{Order}
-use Rattle.key.specs.declared.Order.TheVariants.{Less, Same, More}
+use Rattle.std.specs.declared.cmp.Ordering.{Ordering}
+use Rattle.std.specs.declared.cmp.Ordering.TheVariants.{Less, Equal, Greater}
 
 -- the key whose 32 bytes stand at a place, most significant first
 abbrev pub key_at : ℕ → List ℕ → ℕ
@@ -19,8 +19,8 @@ unfoldable pub number : Key → ℕ
 number k = value_be (2 ^ 64) (words k)
 
 -- how the number m stands to the number n
-unfoldable pub order_of : ℕ → ℕ → Order
-order_of m n = cond (nat_lt m n) Less (cond (nat_lt n m) More Same)
+unfoldable pub order_of : ℕ → ℕ → Ordering
+order_of m n = cond (nat_lt m n) Less (cond (nat_lt n m) Greater Equal)
 
 -- the larger of two numbers less the smaller
 unfoldable pub distance : ℕ → ℕ → ℕ

@@ -11,8 +11,8 @@ ghost use Rattle.key.specs.Number.{number, key_at};
 pub use ordered::{compare, is_less, is_same, less_at, order_at, same_at};
 pub use subtract::{difference, minus};
 
-// The words of a key, or of a difference of two keys, most significant first.
-#[derive(Clone, Copy)]
+// The words of a key, or of a difference of two keys, most significant first: so keys stand to each other as their words do.
+#[derive(Clone, Copy, PartialEq, Eq, PartialOrd, Ord)]
 pub struct Key {
     pub a: u64,
     pub b: u64,
@@ -20,12 +20,14 @@ pub struct Key {
     pub d: u64,
 }
 
-// How one number stands to another.
-#[derive(Clone, Copy)]
-pub enum Order {
-    Less,
-    Same,
-    More,
+impl Key {
+    // The number 0: no key, and no step.
+    pub const ZERO: Key = Key {
+        a: 0,
+        b: 0,
+        c: 0,
+        d: 0,
+    };
 }
 
 // The key whose 32 bytes stand at a place.

@@ -18,8 +18,8 @@ fn sub_word(x: u64, y: u64, borrow: u64) -> Step
     requires { borrow ≤ 1 }
     ensures { (result.word + y + borrow ≡ x + result.borrow * 2 ^ 64) × (result.borrow ≤ 1) }
 {
-    let part = std::num::wrapping_sub_u64(x, y);
-    let word = std::num::wrapping_sub_u64(part, borrow);
+    let part = x.wrapping_sub(y);
+    let word = part.wrapping_sub(borrow);
     if x < y {
         return Step { word, borrow: 1 };
     }

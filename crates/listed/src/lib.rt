@@ -8,8 +8,6 @@ ghost use Rattle.kept.specs.Keys.{◌∈◌, Every, Rising, plain};
 ghost use Rattle.own.specs.Own.{own_keys};
 ghost use Rattle.listed.specs.Runs.{run_of, run_at, runs_of, in_one, in_runs, Fits};
 
-use key::Order;
-
 // An own key among those in plain order: so many keys are smaller numbers, and so many are below it.
 #[derive(Clone, Copy)]
 pub struct Run {
@@ -43,11 +41,7 @@ fn is_smaller(own: &[u8], record: &[u8]) -> bool
     requires { (32 ≤ length own.now) × (32 ≤ length «record».now) }
     ensures { result ≡ ltb (key_of «record».now) (key_of own.now) }
 {
-    match key::order_at(record, 0, own, 0) {
-        Order::Less => true,
-        Order::Same => false,
-        Order::More => false,
-    }
+    key::order_at(record, 0, own, 0).is_lt()
 }
 
 // The run of the own key that begins the slice, the newcomer counted.

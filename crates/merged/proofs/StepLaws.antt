@@ -14,7 +14,7 @@ use Rattle.octet.specs.Part as bytes
 use Rattle.octet.proofs.PartLaws.{length_part, part-digits}
 use Rattle.octet.proofs.BigLaws.{digits_be-value_be}
 use Rattle.key.specs.Number.{key_at, order_of}
-use Rattle.key.specs.declared.Order.{Order}
+use Rattle.std.specs.declared.cmp.Ordering.{Ordering}
 use Rattle.key.proofs.OrderLaws.{order_less, order_same, order_more}
 use Rattle.record.specs.Record.{key_of}
 use Rattle.table.specs.Rows.{rows, joined}
@@ -228,7 +228,7 @@ pub step_gone : (s : List ℕ) (used i : ℕ) (t : List ℕ) (held j : ℕ) → 
     → step 1 1 0 1 ≡ step_of (drop i (rows 100 used s)) (drop j (rows 100 held t))
 step_gone s used i t held j h k = sym (ap₂ step_of (rows_next 100 used s i h) (rows_end 100 held t j k))
 
-pub step_by : (s : List ℕ) (used i : ℕ) (t : List ℕ) (held j : ℕ) → i < used → j < held → (o : Order) → order_of (key_at (100 * i) s) (key_at (100 * j) t) ≡ o
+pub step_by : (s : List ℕ) (used i : ℕ) (t : List ℕ) (held j : ℕ) → i < used → j < held → (o : Ordering) → order_of (key_at (100 * i) s) (key_at (100 * j) t) ≡ o
     → by_order o (part (100 * i) 100 s) (part (100 * j) 100 t) ≡ step_of (drop i (rows 100 used s)) (drop j (rows 100 held t))
 step_by s used i t held j h k o e =
     let p = part (100 * i) 100 s in
@@ -236,4 +236,4 @@ step_by s used i t held j h k o e =
     let keys : order_of (key_of p) (key_of q) ≡ o =
     ap₂ (λ (x : List ℕ) (y : List ℕ). order_of (value_be 256 x) (value_be 256 y)) (part-start (100 * i) 100 32 s (omega arith))
     (part-start (100 * j) 100 32 t (omega arith)) ∙ e in
-    ap (λ (x : Order). by_order x p q) (sym keys) ∙ sym (ap₂ step_of (rows_next 100 used s i h) (rows_next 100 held t j k))
+    ap (λ (x : Ordering). by_order x p q) (sym keys) ∙ sym (ap₂ step_of (rows_next 100 used s i h) (rows_next 100 held t j k))

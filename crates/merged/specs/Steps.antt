@@ -3,8 +3,8 @@
 use Rattle.std.specs.Prelude.{ℕ, zero, suc, ◌*◌, cond, List, [], ◌∷◌, ◌++◌, replicate}
 use Rattle.octet.specs.Part.{part, same}
 use Rattle.key.specs.Number.{order_of}
-use Rattle.key.specs.declared.Order.{Order}
-use Rattle.key.specs.declared.Order.TheVariants.{Less, Same, More}
+use Rattle.std.specs.declared.cmp.Ordering.{Ordering}
+use Rattle.std.specs.declared.cmp.Ordering.TheVariants.{Less, Equal, Greater}
 use Rattle.record.specs.Record.{key_of}
 use Rattle.merged.specs.declared.merge.Next.{Next}
 
@@ -14,10 +14,10 @@ step kind old new entries = record { kind = kind; old = old; new = new; entries 
 abbrev pub one_key : List ℕ → List ℕ → Next
 one_key p q = cond (same p q) (step 0 1 1 0) (step 3 1 1 1)
 
-abbrev pub by_order : Order → List ℕ → List ℕ → Next
+abbrev pub by_order : Ordering → List ℕ → List ℕ → Next
 by_order Less p q = step 1 1 0 1
-by_order Same p q = one_key p q
-by_order More p q = step 2 0 1 1
+by_order Equal p q = one_key p q
+by_order Greater p q = step 2 0 1 1
 
 abbrev pub step_of : List (List ℕ) → List (List ℕ) → Next
 step_of [] b = step 2 0 1 1

@@ -5,7 +5,7 @@ ghost use Rattle.table.specs.Rows.{rows};
 ghost use Rattle.changed.specs.Changes.{changes};
 ghost use Rattle.merged.specs.Steps.{step_of, one_key};
 
-use key::Order;
+use std::cmp::Ordering;
 
 // The kinds of entries, and what is none: the very record in both.
 const EQUAL: u8 = 0;
@@ -86,14 +86,14 @@ pub(crate) fn step(
         after,
         record::RECORD_LEN * j,
     ) {
-        Order::Less => Next {
+        Ordering::Less => Next {
             kind: GONE,
             old: 1,
             new: 0,
             entries: 1,
         },
-        Order::Same => one_key(before, i, after, j),
-        Order::More => Next {
+        Ordering::Equal => one_key(before, i, after, j),
+        Ordering::Greater => Next {
             kind: NEW,
             old: 0,
             new: 1,

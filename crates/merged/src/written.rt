@@ -19,7 +19,7 @@ fn put_gone(before: &[u8], i: usize, output: &mut [u8], at: usize)
 {
     let kind = [1];
     runs::copy_to(output, at, &kind);
-    runs::copy_32(output, at + 1, before, record::RECORD_LEN * i);
+    runs::copy_block::<32>(output, at + 1, before, record::RECORD_LEN * i);
     runs::clear(output, at + 33, 68);
 }
 

@@ -41,7 +41,7 @@ fn keys_down(cache: &[u8], used: usize, from: usize, n: usize, out: &mut [u8])
     let mut i = 0;
     while i < n {
         let start = record::RECORD_LEN * round::wrap(used, from + (used - (i + 1)));
-        runs::copy_32(out, 32 * i, cache, start);
+        runs::copy_block::<32>(out, 32 * i, cache, start);
         i += 1;
     }
 }
@@ -55,7 +55,7 @@ fn keys_up(cache: &[u8], used: usize, from: usize, n: usize, out: &mut [u8], at:
     let mut i = 0;
     while i < n {
         let start = record::RECORD_LEN * round::wrap(used, from + i);
-        runs::copy_32(out, at + 32 * i, cache, start);
+        runs::copy_block::<32>(out, at + 32 * i, cache, start);
         i += 1;
     }
 }

@@ -6,8 +6,6 @@ ghost use Rattle.record.specs.Record.{key_of, record_form};
 ghost use Rattle.own.specs.Own.{own_form};
 ghost use Rattle.own.specs.Low.{low_at};
 
-use key::Order;
-
 // Is the key at place i of records above the one before it?
 pub fn above_before(s: &[u8], i: usize) -> bool
     requires { 100 * i + 100 ≤ length s.now }
@@ -17,11 +15,7 @@ pub fn above_before(s: &[u8], i: usize) -> bool
         return true;
     }
     let before = record::RECORD_LEN * (i - 1);
-    match key::order_at(s, before, s, record::RECORD_LEN * i) {
-        Order::Less => true,
-        Order::Same => false,
-        Order::More => false,
-    }
+    key::order_at(s, before, s, record::RECORD_LEN * i).is_lt()
 }
 
 // Has place i a record in form with a key above the one before it?
@@ -51,12 +45,10 @@ fn all_formed(own: &[u8]) -> bool
         return false;
     }
     let n = size / record::RECORD_LEN;
-    let mut i = 0;
-    while i < n {
+    for i in 0..n {
         if !follows(own, i) {
             return false;
         }
-        i += 1;
     }
     true
 }

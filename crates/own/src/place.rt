@@ -16,12 +16,10 @@ fn is_any(own: &[u8], s: &[u8], at: usize) -> bool
     ensures { result ≡ is_own (own_keys own.now) (key_at at s.now) }
 {
     let n = own.len() / record::RECORD_LEN;
-    let mut i = 0;
-    while i < n {
+    for i in 0..n {
         if key::same_at(s, at, own, record::RECORD_LEN * i) {
             return true;
         }
-        i += 1;
     }
     false
 }
@@ -45,12 +43,10 @@ pub fn place_of(own: &[u8], s: &[u8], at: usize) -> usize
     ensures upper_bound { result < length (own_records own.now) }
 {
     let n = own.len() / record::RECORD_LEN;
-    let mut i = 0;
-    while i < n {
+    for i in 0..n {
         if key::same_at(s, at, own, record::RECORD_LEN * i) {
             return i;
         }
-        i += 1;
     }
     0
 }

@@ -39,7 +39,7 @@ pub fn put_record(dst: &mut [u8], at: usize, d: &[u8], start: usize, len: usize)
     requires d_value { entry_form (part start len d.now) ≡ true }
     ensures { dst.new ≡ splice at (record_of (part start len d.now)) dst.old }
 {
-    runs::copy_32(dst, at, d, start);
+    runs::copy_block::<32>(dst, at, d, start);
     copy_piece(dst, at + 32, d, start + 34, 2);
     let two = [1, 0];
     runs::copy_to(dst, at + 34, &two);
@@ -55,7 +55,7 @@ pub fn put_entry(dst: &mut [u8], at: usize, major: u8, minor: u8, s: &[u8], star
     ensures { dst.new ≡ splice at (entry_of major minor (part start 100 s.now)) dst.old }
 {
     let count = s[start + 34];
-    runs::copy_32(dst, at, s, start);
+    runs::copy_block::<32>(dst, at, s, start);
     let versions = [major, minor];
     runs::copy_to(dst, at + 32, &versions);
     copy_piece(dst, at + 34, s, start + 32, 2);

@@ -41,6 +41,10 @@ first_more b h x y xs e = omega (arith, ap (λ (t : ℕ). t * b ^ length xs) e)
 
 -- ---- a key in hand, by its first word
 
+pub number_half : number (record { a = 2 ^ 63; b = 0; c = 0; d = 0 }) ≡ half
+unfolding number value_be half
+number_half = refl
+
 pub word_low : (k : Key) → Fit k → k.a < 2 ^ 63 → number k < half
 unfolding number half
 word_low k f h = first_low (2 ^ 64) (2 ^ 63) k.a (k.b ∷ k.c ∷ k.d ∷ []) (λ i. fit-digits f (suc i)) h

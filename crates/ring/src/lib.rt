@@ -20,37 +20,21 @@ pub fn is_above(own: &[u8], s: &[u8], at: usize) -> bool
 }
 
 // Half the ring.
-fn half_round() -> Key
-    ensures { number result ≡ half }
-{
-    Key {
-        a: 9223372036854775808,
-        b: 0,
-        c: 0,
-        d: 0,
-    }
-}
-
-// No step.
-fn none() -> Key
-    ensures { number result ≡ 0 }
-{
-    Key {
-        a: 0,
-        b: 0,
-        c: 0,
-        d: 0,
-    }
-}
+const HALF_ROUND: Key = Key {
+    a: 9223372036854775808,
+    b: 0,
+    c: 0,
+    d: 0,
+};
 
 // Are so many steps from 1 to half the ring?
 fn is_up(up: Key) -> bool
     ensures { result ≡ (leb 1 (number up) && leb (number up) half) }
 {
-    if key::is_less(half_round(), up) {
+    if key::is_less(HALF_ROUND, up) {
         return false;
     }
-    key::is_less(none(), up)
+    key::is_less(Key::ZERO, up)
 }
 
 // How far two keys are apart: the shorter way round. The first word of the steps up says whether they are less than
@@ -62,7 +46,7 @@ pub fn how_far(x: Key, y: Key) -> Key
     if up.a < 9223372036854775808 {
         return up;
     }
-    key::minus(none(), up)
+    key::minus(Key::ZERO, up)
 }
 
 // Is the key k, d from the target, taken before the key j, e from it, as the closest? A search carries d and e along.

@@ -10,40 +10,27 @@ ghost use Rattle.octet.specs.Part.{part, splice};
 
 mod rows;
 
-use rows::{lift_100, lift_140, shift_100, shift_140};
+use rows::{lift, shift};
 
 // Copies the whole of `src` into `dst`, from a place on.
 pub fn copy_to(dst: &mut [u8], at: usize, src: &[u8])
     requires { at + length src.now ≤ length dst.old }
     ensures { dst.new ≡ splice at src.now dst.old }
 {
-    let mut i = 0;
-    while i < src.len() {
+    for i in 0..src.len() {
         dst[at + i] = src[i];
-        i += 1;
     }
 }
 
-// Copies 32 bytes from a place of one slice to a place of another: by way of bytes of its own, so that the compiler need
+// Copies N bytes from a place of one slice to a place of another: by way of bytes of its own, so that the compiler need
 // not ask whether the two overlap.
-pub fn copy_32(dst: &mut [u8], at: usize, src: &[u8], from: usize)
-    requires at_in_bounds { at + 32 ≤ length dst.old }
-    requires from_in_bounds { from + 32 ≤ length src.now }
-    ensures { dst.new ≡ splice at (part from 32 src.now) dst.old }
+pub fn copy_block<const N: usize>(dst: &mut [u8], at: usize, src: &[u8], from: usize)
+    requires at_in_bounds { at + N ≤ length dst.old }
+    requires from_in_bounds { from + N ≤ length src.now }
+    ensures { dst.new ≡ splice at (part from N src.now) dst.old }
 {
-    let mut held = [0u8; 32];
-    copy_to(&mut held, 0, &src[from..from + 32]);
-    copy_to(dst, at, &held);
-}
-
-// The same of 16 bytes.
-pub fn copy_16(dst: &mut [u8], at: usize, src: &[u8], from: usize)
-    requires at_in_bounds { at + 16 ≤ length dst.old }
-    requires from_in_bounds { from + 16 ≤ length src.now }
-    ensures { dst.new ≡ splice at (part from 16 src.now) dst.old }
-{
-    let mut held = [0u8; 16];
-    copy_to(&mut held, 0, &src[from..from + 16]);
+    let mut held = [0u8; N];
+    copy_to(&mut held, 0, &src[from..from + N]);
     copy_to(dst, at, &held);
 }
 
@@ -52,10 +39,8 @@ pub fn clear(s: &mut [u8], at: usize, n: usize)
     requires { at + n ≤ length s.old }
     ensures { s.new ≡ splice at (replicate n 0) s.old }
 {
-    let mut i = 0;
-    while i < n {
+    for i in 0..n {
         s[at + i] = 0;
-        i += 1;
     }
 }
 
@@ -66,18 +51,15 @@ pub fn move_down(s: &mut [u8], from: usize, to: usize, n: usize)
     ensures { s.new ≡ splice to (part from n s.old) s.old }
 {
     if from - to == 100 {
-        shift_100(&mut s[to..], n);
+        shift::<100>(&mut s[to..], n);
         return;
     }
     if from - to == 140 {
-        shift_140(&mut s[to..], n);
+        shift::<140>(&mut s[to..], n);
         return;
     }
-    let mut i = 0;
-    while i < n {
-        let x = s[from + i];
-        s[to + i] = x;
-        i += 1;
+    for i in 0..n {
+        s[to + i] = s[from + i];
     }
 }
 
@@ -88,18 +70,15 @@ pub fn move_up(s: &mut [u8], from: usize, to: usize, n: usize)
     ensures { s.new ≡ splice to (part from n s.old) s.old }
 {
     if to - from == 100 {
-        lift_100(&mut s[from..], n);
+        lift::<100>(&mut s[from..], n);
         return;
     }
     if to - from == 140 {
-        lift_140(&mut s[from..], n);
+        lift::<140>(&mut s[from..], n);
         return;
     }
-    let mut i = n;
-    while 0 < i {
-        i -= 1;
-        let x = s[from + i];
-        s[to + i] = x;
+    for i in (0..n).rev() {
+        s[to + i] = s[from + i];
     }
 }
 

@@ -13,7 +13,7 @@ use borrow.Author.Tests.{lt-ltb, le-ltb, eq-eqb, ne_eqb}
 use Rattle.octet.specs.Number.{Digits, value_be}
 use Rattle.octet.specs.Part.{part}
 use Rattle.octet.proofs.PartLaws.{part_add, length_part, part_at}
-use Rattle.key.specs.declared.Order.TheVariants.{Less, More}
+use Rattle.std.specs.declared.cmp.Ordering.TheVariants.{Less, Greater}
 use Rattle.key.specs.Number.{key_at, order_of}
 use Rattle.key.proofs.PlaceLaws.{order-part, then_less, then_more}
 use Rattle.record.specs.Record.{key_of}
@@ -35,7 +35,7 @@ module _ (i j : ℕ) (s t : List ℕ) (d : Digits 256 s) (e : Digits 256 t) (h :
       ∙ then_less (value_be 256 (part i 8 s)) (value_be 256 (part j 8 t))
       (order_of (value_be 256 (part (i + 8) 24 s)) (value_be 256 (part (j + 8) 24 t))) l
 
-  pub first_more : value_be 256 (part j 8 t) < value_be 256 (part i 8 s) → order_of (key_at i s) (key_at j t) ≡ More
+  pub first_more : value_be 256 (part j 8 t) < value_be 256 (part i 8 s) → order_of (key_at i s) (key_at j t) ≡ Greater
   first_more l =
       order-part 256 8 24 i j s t (omega arith) d e (omega arith) (omega arith)
       ∙ then_more (value_be 256 (part i 8 s)) (value_be 256 (part j 8 t))

@@ -10,7 +10,7 @@ ghost use Rattle.table.specs.Rows.{rows};
 ghost use Rattle.kept.specs.Keys.{Rising, plain};
 ghost use Rattle.search.specs.Sought.{sought_in};
 
-use key::Order;
+use std::cmp::Ordering;
 
 // Whether a key is held; its place, or that before which it would stand; how many keys it was compared with.
 #[derive(Clone, Copy)]
@@ -21,7 +21,7 @@ pub struct Sought {
 }
 
 // How the key of place i stands to the key that begins the slice, and that with its first word. Mostly the words say it.
-fn order_of(cache: &[u8], i: usize, key: &[u8], first: u64) -> Order
+fn order_of(cache: &[u8], i: usize, key: &[u8], first: u64) -> Ordering
     requires i_in_bounds { 100 * i + 32 ≤ length cache.now }
     requires in_bounds { 32 ≤ length key.now }
     requires first_value { first ≡ value_be 256 (part 0 8 key.now) }
@@ -30,10 +30,10 @@ fn order_of(cache: &[u8], i: usize, key: &[u8], first: u64) -> Order
     let at = record::RECORD_LEN * i;
     let word = octet::read_u64(cache, at);
     if word < first {
-        return Order::Less;
+        return Ordering::Less;
     }
     if first < word {
-        return Order::More;
+        return Ordering::Greater;
     }
     key::order_at(cache, at, key, 0)
 }
@@ -54,17 +54,17 @@ pub fn find_key(cache: &[u8], used: usize, key: &[u8]) -> Sought
         let middle = low + (high - low) / 2;
         compared += 1;
         match order_of(cache, middle, key, first) {
-            Order::Less => {
+            Ordering::Less => {
                 low = middle + 1;
             }
-            Order::Same => {
+            Ordering::Equal => {
                 return Sought {
                     held: true,
                     at: middle,
                     compared,
                 };
             }
-            Order::More => {
+            Ordering::Greater => {
                 high = middle;
             }
         }

@@ -43,7 +43,7 @@ pub(crate) fn put_keyed(
     put_header(out, major, minor, kind, id);
     put_word(out, 12, number, len, word);
     put_head(out, 20, wire_numbers::VALIDATE, wire_numbers::KEY_LEN);
-    runs::copy_32(out, 24, key, 0);
+    runs::copy_block::<32>(out, 24, key, 0);
 }
 
 // Whether a record in form stands within a slice.

@@ -41,7 +41,7 @@ pub fn write_inquire(
         key,
     );
     put_head(out, 56, wire_numbers::NONCE, wire_numbers::NONCE_LEN);
-    runs::copy_16(out, 60, nonce, 0);
+    runs::copy_block::<16>(out, 60, nonce, 0);
     Written {
         number: 0,
         length: 76,

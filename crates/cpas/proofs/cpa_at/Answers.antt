@@ -19,33 +19,33 @@ pub size_at-requires : goal.size_at-requires
 size_at-requires c =
     let a = c.args in
     let l = c.loop-i in
-    omega (arith, room a.cpas.now a.place l.at l.i l.invariant.1)
+    omega (arith, room a.cpas.now a.place l.at l._i l.invariant.1)
 
 pub loop-i-preserved : goal.loop-i-preserved
 loop-i-preserved c =
     let a = c.args in
     let l = c.loop-i in (
-      omega (arith, room a.cpas.now a.place l.at l.i l.invariant.1, c.size_at.ensures.0),
-      left_next a.place l.i l.at a.cpas.now (omega arith) l.invariant.1 c.size_at.ensures.0,
+      omega (arith, room a.cpas.now a.place l.at l._i l.invariant.1, c.size_at.ensures.0),
+      left_next a.place l._i l.at a.cpas.now (omega arith) l.invariant.1 c.size_at.ensures.0,
     )
 
 pub overflow_add-start : goal.overflow_add-start
 overflow_add-start c =
     let a = c.args in
     let l = c.loop-i in
-    omega (arith, room a.cpas.now a.place l.at l.i l.invariant.1)
+    omega (arith, room a.cpas.now a.place l.at l._i l.invariant.1)
 
 pub size_at-requires-2 : goal.size_at-requires-2
 size_at-requires-2 c =
     let a = c.args in
     let l = c.loop-i in
-    omega (arith, room a.cpas.now a.place l.at l.i l.invariant.1)
+    omega (arith, room a.cpas.now a.place l.at l._i l.invariant.1)
 
 pub slice_bounds-result-end : goal.slice_bounds-result-end
 slice_bounds-result-end c =
     let a = c.args in
     let l = c.loop-i in
-    omega (arith, room a.cpas.now a.place l.at l.i l.invariant.1, c.size_at-2.ensures.0)
+    omega (arith, room a.cpas.now a.place l.at l._i l.invariant.1, c.size_at-2.ensures.0)
 
 pub returns : goal.returns
 returns c =
@@ -53,4 +53,4 @@ returns c =
     let l = c.loop-i in
     let n : l.at + 2 + c.size_at-2.result - (l.at + 2) ≡ c.size_at-2.result = omega arith in
     ap (λ (k : ℕ). part (l.at + 2) k a.cpas.now) n
-    ∙ sym (left_here a.place l.i l.at a.cpas.now (omega arith) l.invariant.1 c.size_at-2.ensures.0)
+    ∙ sym (left_here a.place l._i l.at a.cpas.now (omega arith) l.invariant.1 c.size_at-2.ensures.0)

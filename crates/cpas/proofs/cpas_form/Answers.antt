@@ -25,7 +25,7 @@ pub returns-then-not-is_cpa : goal.returns-then-not-is_cpa
 returns-then-not-is_cpa c =
     let a = c.args in
     let l = c.loop-i in
-    sym (l.invariant.1 ∙ form_stop a.n l.i l.at a.cpas.now (omega arith) (sym c.is_cpa.ensures ∙ c.if-not-is_cpa.true))
+    sym (l.invariant.1 ∙ form_stop a.n l._i l.at a.cpas.now (omega arith) (sym c.is_cpa.ensures ∙ c.if-not-is_cpa.true))
 
 pub size_at-requires : goal.size_at-requires
 size_at-requires c =
@@ -38,11 +38,11 @@ loop-i-preserved c =
     let a = c.args in
     let l = c.loop-i in (
       omega (arith, (inside (goal.at.loop-i-preserved c).Else-not-is_cpa).room, c.size_at.ensures.0, length-drop l.at a.cpas.now),
-      l.invariant.1 ∙ form_turn a.n l.i l.at a.cpas.now (omega arith) (stands (goal.at.loop-i-preserved c).Else-not-is_cpa) c.size_at.ensures.0,
+      l.invariant.1 ∙ form_turn a.n l._i l.at a.cpas.now (omega arith) (stands (goal.at.loop-i-preserved c).Else-not-is_cpa) c.size_at.ensures.0,
     )
 
 pub returns : goal.returns
 returns c =
     let a = c.args in
     let l = c.loop-i in
-    sym (l.invariant.1 ∙ form_done a.n l.i l.at a.cpas.now (omega arith) l.invariant.0)
+    sym (l.invariant.1 ∙ form_done a.n l._i l.at a.cpas.now (omega arith) l.invariant.0)

@@ -6,7 +6,4 @@ use Rattle.cpas.specs.Cpas.{cpas_form}
 use Rattle.cpas.proofs.cpas_form.Given as goal
 
 abbrev pub invariant-loop-i : goal.invariant-loop-i
-invariant-loop-i l = (l.at ≤ length l.cpas) × (cpas_form l.n l.cpas ≡ cpas_form (l.n - l.i) (drop l.at l.cpas))
-
-abbrev pub decreases-loop-i : goal.decreases-loop-i
-decreases-loop-i l = l.n - l.i
+invariant-loop-i l = (l.at ≤ length l.cpas) × (cpas_form l.n l.cpas ≡ cpas_form (l.n - l._i) (drop l.at l.cpas))

@@ -1,20 +1,11 @@
 -- `listed::is_smaller` meets its contract. Assumes nothing.
-use mathlib.Core.Path.{sym, ◌∙◌}
+use mathlib.Core.Path.{ap, ◌∙◌}
+use Rattle.std.specs.Ordering.{is_lt}
 use Rattle.record.specs.Record.{key_of}
-use Rattle.key.proofs.OrderLaws.{test_less, test_same, test_more}
+use Rattle.key.proofs.OrderLaws.{less_by}
 use Rattle.listed.proofs.is_smaller.Goals as goal
 
-pub returns-in-Less : goal.returns-in-Less
-returns-in-Less c =
+pub returns : goal.returns
+returns c =
     let a = c.args in
-    sym (test_less (key_of a.«record».now) (key_of a.own.now) (sym c.order_at.ensures ∙ c.in-Less.is)).0
-
-pub returns-in-Same : goal.returns-in-Same
-returns-in-Same c =
-    let a = c.args in
-    sym (test_same (key_of a.«record».now) (key_of a.own.now) (sym c.order_at.ensures ∙ c.in-Same.is)).0
-
-pub returns-in-More : goal.returns-in-More
-returns-in-More c =
-    let a = c.args in
-    sym (test_more (key_of a.«record».now) (key_of a.own.now) (sym c.order_at.ensures ∙ c.in-More.is)).0
+    c.is_lt.ensures ∙ ap is_lt c.order_at.ensures ∙ less_by (key_of a.«record».now) (key_of a.own.now)

@@ -4,7 +4,7 @@ use Prim.Native.Nat.{◌≤◌, ◌<◌}
 use native.Mathlib.Omega.{arith}
 use Rattle.key.specs.Number.{number}
 use Rattle.key.specs.Around.{ring, half, up}
-use Rattle.key.proofs.KeyLaws.{number-ring}
+use Rattle.key.proofs.KeyLaws.{number_zero, number-ring}
 use Rattle.key.proofs.RingLaws.{half-some, up_rest}
 use Rattle.ring.proofs.HalfLaws.{word_low, word_high}
 use Rattle.key.proofs.AroundLaws.{apart-up, apart_down}
@@ -29,6 +29,6 @@ returns c =
     let o = small (goal.at.returns c).Start in
     let n : number m.minus-up.result ≡ up (number a.x) (number a.y) = m.minus-up.ensures in
     let h : half ≤ number m.minus-up.result = word_high m.minus-up.result (omega (arith, c.if-up-lt9223372036854775808.false)) in
-    c.minus.ensures ∙ ap₂ up n c.none.ensures
+    c.minus.ensures ∙ ap₂ up n number_zero
     ∙ up_rest (number a.x) (number a.y) o.0 o.1 (omega (arith, n, h, half-some))
     ∙ sym (apart_down (number a.x) (number a.y) o.0 o.1 (omega (arith, n, h)))

@@ -4,7 +4,7 @@ use Prim.Native.Nat.{ℕ, ◌+◌, ◌-◌, ◌*◌, ◌/◌, ◌<◌}
 use native.Mathlib.Omega.{arith}
 use lib.ListN.{length, get_or}
 use Rattle.key.specs.Number.{key_at, order_of}
-use Rattle.key.specs.declared.Order.{Order}
+use Rattle.std.specs.declared.cmp.Ordering.{Ordering}
 use Rattle.key.proofs.OrderLaws.{less_is, same-is, more_is}
 use Rattle.record.specs.Record.{key_of}
 use Rattle.table.specs.Rows.{rows}
@@ -30,7 +30,7 @@ abbrev middle : At-loop-low → ℕ
 middle l = l.loop-low.low + (l.loop-low.high - l.loop-low.low) / 2
 
 -- how the key in the middle stands to the one that is looked for
-told : (r : After-order_of) {o : Order} → r.order_of.result ≡ o
+told : (r : After-order_of) {o : Ordering} → r.order_of.result ≡ o
     → order_of (key_at (100 * middle (turn r)) (start (turn r)).args.cache.now) (wanted (turn r)) ≡ o
 told r e = sym r.order_of.ensures ∙ e
 
@@ -74,14 +74,14 @@ loop-low-preserved-in-Less c =
     halved-less (wanted l) (keys l) (start l).requires.rising l.loop-low.low l.loop-low.high l.loop-low.compared l.loop-low.invariant some
     (omega (arith, here l some, less_is (key_at (100 * middle l) a.cache.now) (wanted l) (told r c.in-Less.is)))
 
-pub returns-in-Same : goal.returns-in-Same
-returns-in-Same c =
-    let r = (goal.at.returns-in-Same c).After-order_of in
+pub returns-in-Equal : goal.returns-in-Equal
+returns-in-Equal c =
+    let r = (goal.at.returns-in-Equal c).After-order_of in
     let l = turn r in
     let a = (start l).args in
     let some : l.loop-low.low < l.loop-low.high = omega arith in
     sym (halved-same (wanted l) (keys l) (start l).requires.rising l.loop-low.low l.loop-low.high l.loop-low.compared l.loop-low.invariant some
-    (here l some ∙ same-is (key_at (100 * middle l) a.cache.now) (wanted l) (told r c.in-Same.is)))
+    (here l some ∙ same-is (key_at (100 * middle l) a.cache.now) (wanted l) (told r c.in-Equal.is)))
 
 -- above the key: so are all after it
 pub loop-low-preserved : goal.loop-low-preserved
@@ -91,7 +91,7 @@ loop-low-preserved c =
     let a = (start l).args in
     let some : l.loop-low.low < l.loop-low.high = omega arith in
     halved-more (wanted l) (keys l) (start l).requires.rising l.loop-low.low l.loop-low.high l.loop-low.compared l.loop-low.invariant some
-    (omega (arith, here l some, more_is (key_at (100 * middle l) a.cache.now) (wanted l) (told r c.in-More.is)))
+    (omega (arith, here l some, more_is (key_at (100 * middle l) a.cache.now) (wanted l) (told r c.in-Greater.is)))
 
 pub returns : goal.returns
 returns c =

@@ -2,10 +2,11 @@ use mathlib.Core.Path.{◌≡◌, refl, sym, ap₂, ◌∙◌}
 use Prim.Native.Nat.{ℕ, ◌+◌, ◌-◌, ◌*◌}
 use native.Mathlib.Nat.{add-zero}
 use native.Mathlib.Omega.{arith}
+use Rattle.std.specs.Ordering.{ordering_then}
 use Rattle.octet.specs.Number.{value_be}
 use Rattle.octet.specs.Part.{part}
 use Rattle.key.specs.Number.{key_at, order_of}
-use Rattle.key.proofs.OrderLaws.{then, order_same, test_same, less_alike, then_differ, then_equal}
+use Rattle.key.proofs.OrderLaws.{order_same, test_same, less_alike, then_differ, then_equal}
 use Rattle.key.proofs.PlaceLaws.{order_from, order-words}
 use Rattle.cache.proofs.shape.rest_above.Goals.{After-read_u64-y}
 use Rattle.cache.proofs.shape.rest_above.Goals as goal
@@ -30,7 +31,7 @@ loop-word-init c =
 -- what the two words that were read say: they decide, or else the words after them
 turn : (c : After-read_u64-y) → let args = c.args in
     order_of (key_at (100 * (args.i - 1)) args.cache.now) (key_at (100 * args.i) args.cache.now)
-    ≡ then (order_of c.read_u64-x.result c.read_u64-y.result)
+    ≡ ordering_then (order_of c.read_u64-x.result c.read_u64-y.result)
     (order_from (c.loop-word.word + 1) (100 * (args.i - 1)) (100 * args.i) args.cache.now args.cache.now)
 turn c =
     let at-loop = c in
@@ -44,7 +45,7 @@ turn c =
     at-loop.loop-word.invariant.1
     ∙ order-words b a s s (λ i. omega (arith, known.type_inv.cache i)) (λ i. omega (arith, known.type_inv.cache i))
     (omega (arith, room)) (omega (arith, room)) k (omega arith)
-    ∙ ap₂ (λ (x y : ℕ). then (order_of x y) (order_from (k + 1) b a s s))
+    ∙ ap₂ (λ (x y : ℕ). ordering_then (order_of x y) (order_from (k + 1) b a s s))
     (sym c.read_u64-x.ensures) (sym c.read_u64-y.ensures)
 
 -- words that differ stand as the keys do

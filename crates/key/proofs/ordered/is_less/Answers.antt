@@ -1,20 +1,15 @@
 -- `key::is_less` meets its contract: of the three answers one says that it is. Assumes nothing.
-use Rattle.std.proofs.Common.{sym, ◌∙◌}
+use Rattle.std.proofs.Common.{◌∙◌, ap, arith}
+use Rattle.std.specs.Ordering.{is_lt, is_some_and}
 use Rattle.key.specs.Number.{number}
-use Rattle.key.proofs.OrderLaws.{test_less, test_same, test_more}
+use Rattle.key.proofs.OrderLaws.{less_by}
+use Rattle.key.proofs.KeyLaws.{by_fields}
+use Rattle.key.specs.contracts.KeyOrd.TheImpl.Laws.{matches_partial_cmp-law}
 use Rattle.key.proofs.ordered.is_less.Goals as goal
 
-pub returns-in-Less : goal.returns-in-Less
-returns-in-Less c =
-    let args = c.args in
-    sym (test_less (number args.x) (number args.y) (sym c.compare.ensures ∙ c.in-Less.is)).0
-
-pub returns-in-Same : goal.returns-in-Same
-returns-in-Same c =
-    let args = c.args in
-    sym (test_same (number args.x) (number args.y) (sym c.compare.ensures ∙ c.in-Same.is)).0
-
-pub returns-in-More : goal.returns-in-More
-returns-in-More c =
-    let args = c.args in
-    sym (test_more (number args.x) (number args.y) (sym c.compare.ensures ∙ c.in-More.is)).0
+pub returns : goal.returns
+returns c =
+    let x = c.args.x in
+    let y = c.args.y in
+    c.lt.ensures ∙ ap (is_some_and is_lt) (matches_partial_cmp-law x y) ∙ ap is_lt (by_fields x y (omega arith) (omega arith))
+    ∙ less_by (number x) (number y)

@@ -1,7 +1,8 @@
-use Rattle.std.proofs.Common.{◌≡◌, ℕ, ◌+◌, ◌-◌, ◌*◌, sym, refl, ◌∙◌, ap₂, add-zero, arith, rules}
+use Rattle.std.proofs.Common.{◌≡◌, ℕ, ◌+◌, ◌-◌, ◌*◌, sym, refl, ◌∙◌, ap₂, add-zero, arith}
+use Rattle.std.specs.Ordering.{ordering_then}
 use Rattle.octet.specs.Number.{value_be}
 use Rattle.key.specs.Number.{key_at, order_of}
-use Rattle.key.proofs.OrderLaws.{then, order_same, test_same, less_alike, then_differ, then_equal}
+use Rattle.key.proofs.OrderLaws.{order_same, test_same, less_alike, then_differ, then_equal}
 use Rattle.key.proofs.PlaceLaws.{order_from, order-words}
 use Rattle.key.proofs.ordered.less_at.Goals.{After-read_u64-y}
 use Rattle.key.proofs.ordered.less_at.Goals as goal
@@ -9,7 +10,7 @@ use Rattle.key.proofs.ordered.less_at.Goals as goal
 -- what the two words that were read say: they decide, or else the words after them
 turn : (c : After-read_u64-y) → let args = c.args in
     order_of (key_at args.a args.s.now) (key_at args.b args.t.now)
-    ≡ then (order_of c.read_u64-x.result c.read_u64-y.result)
+    ≡ ordering_then (order_of c.read_u64-x.result c.read_u64-y.result)
     (order_from (c.loop-word.word + 1) args.a args.b args.s.now args.t.now)
 turn c =
     let at-loop = c in
@@ -21,13 +22,13 @@ turn c =
     let s = start.args.s.now in
     let t = start.args.t.now in
     let k = at-loop.loop-word.word in
-    at-loop.loop-word.invariant.1
+    at-loop.loop-word.invariant
     ∙ order-words a b s t (λ i. omega (arith, known.type_inv.s i)) (λ i. omega (arith, known2.type_inv.t i))
     start.requires.a_in_bounds start.requires.b_in_bounds k (omega arith)
-    ∙ ap₂ (λ (x y : ℕ). then (order_of x y) (order_from (k + 1) a b s t)) (sym c.read_u64-x.ensures) (sym c.read_u64-y.ensures)
+    ∙ ap₂ (λ (x y : ℕ). ordering_then (order_of x y) (order_from (k + 1) a b s t)) (sym c.read_u64-x.ensures) (sym c.read_u64-y.ensures)
 
 pub loop-word-init : goal.loop-word-init
-loop-word-init c = (omega arith, simp add-zero)
+loop-word-init c = simp add-zero
 
 -- words that differ stand as the keys do
 pub returns-then-x-y : goal.returns-then-x-y
@@ -39,7 +40,7 @@ returns-then-x-y c =
     (turn (goal.at.returns-then-x-y c).After-read_u64-y ∙ then_differ x y _ c.if-x-y.true))
 
 pub loop-word-preserved : goal.loop-word-preserved
-loop-word-preserved c = (search rules, turn (goal.at.loop-word-preserved c).After-read_u64-y ∙ then_equal _ _ _ (omega arith))
+loop-word-preserved c = turn (goal.at.loop-word-preserved c).After-read_u64-y ∙ then_equal _ _ _ (omega arith)
 
 -- no word differs: they are the same
 pub returns : goal.returns
@@ -48,4 +49,4 @@ returns c =
     let args = c.args in
     let e : 32 - 8 * c.loop-word.word ≡ 0 = omega arith in
     sym (test_same (key_at args.a args.s.now) (key_at args.b args.t.now)
-    (c.loop-word.invariant.1 ∙ rw e (order_same {m = 0} {n = 0} refl))).0
+    (c.loop-word.invariant ∙ rw e (order_same {m = 0} {n = 0} refl))).0

@@ -4,8 +4,8 @@ use Prim.Native.Nat.{◌*◌}
 use lib.ListN.{drop}
 use native.Mathlib.Omega.{arith}
 use Rattle.octet.specs.Part.{part}
-use Rattle.key.specs.declared.Order.{Order}
-use Rattle.key.specs.declared.Order.TheVariants.{Less, Same, More}
+use Rattle.std.specs.declared.cmp.Ordering.{Ordering}
+use Rattle.std.specs.declared.cmp.Ordering.TheVariants.{Less, Equal, Greater}
 use Rattle.table.specs.Rows.{rows}
 use Rattle.merged.specs.Steps.{by_order, step_of}
 use Rattle.merged.proofs.StepLaws.{step_new, step_gone, step_by}
@@ -13,7 +13,7 @@ use Rattle.merged.proofs.merge.step.Goals.{After-order_at}
 use Rattle.merged.proofs.merge.step.Goals as goal
 
 -- where both have a record, by the order of their keys
-by : (c : After-order_at) (o : Order) → c.order_at.result ≡ o → (let a = c.args in
+by : (c : After-order_at) (o : Ordering) → c.order_at.result ≡ o → (let a = c.args in
     by_order o (part (100 * a.i) 100 a.«before».now) (part (100 * a.j) 100 a.«after».now)
     ≡ step_of (drop a.i (rows 100 a.used a.«before».now)) (drop a.j (rows 100 a.held a.«after».now)))
 by c o e =
@@ -35,10 +35,10 @@ pub returns-in-Less : goal.returns-in-Less
 returns-in-Less c =
     by (goal.at.returns-in-Less c).After-order_at Less c.in-Less.is
 
-pub returns-in-Same : goal.returns-in-Same
-returns-in-Same c =
-    c.one_key.ensures ∙ by (goal.at.returns-in-Same c).After-order_at Same c.in-Same.is
+pub returns-in-Equal : goal.returns-in-Equal
+returns-in-Equal c =
+    c.one_key.ensures ∙ by (goal.at.returns-in-Equal c).After-order_at Equal c.in-Equal.is
 
-pub returns-in-More : goal.returns-in-More
-returns-in-More c =
-    by (goal.at.returns-in-More c).After-order_at More c.in-More.is
+pub returns-in-Greater : goal.returns-in-Greater
+returns-in-Greater c =
+    by (goal.at.returns-in-Greater c).After-order_at Greater c.in-Greater.is

@@ -14,5 +14,5 @@ returns c =
     let marked = c in
     let a = marked.args in
     cleared.clear.ensures
-    ∙ ap (splice (a.at + 33) (replicate 68 0)) (copied.copy_32.ensures ∙ ap (splice (a.at + 1) (part (100 * a.i) 32 a.«before».now)) marked.copy_to.ensures)
+    ∙ ap (splice (a.at + 33) (replicate 68 0)) (copied.copy_block.ensures ∙ ap (splice (a.at + 1) (part (100 * a.i) 32 a.«before».now)) marked.copy_to.ensures)
     ∙ gone_piece a.at a.i a.«before».now a.output.now (omega arith) (omega arith)

@@ -32,8 +32,8 @@ loop-i-preserved c =
     let bytes : Bytes s = λ j. omega (arith, l.type_inv.cache j) in
     let row = key-digits p s bytes inside in (
       omega arith,
-      omega (arith, c.copy_32.auto.dst, l.loop-i.invariant.1),
-      c.copy_32.ensures ∙ ap (λ (k : ℕ). splice k (part p 32 s) l.loop-i.out) (sym (zero-add (32 * i)))
+      omega (arith, c.copy_block.auto.dst, l.loop-i.invariant.1),
+      c.copy_block.ensures ∙ ap (λ (k : ℕ). splice k (part p 32 s) l.loop-i.out) (sym (zero-add (32 * i)))
           ∙ write_turn 0 i _ (take a.n (reverse (turned a.from (keys_of (rows 100 a.used a.cache.now))))) _ a.out.now l.loop-i.out
           (omega
           (arith, down-length a.used s a.from a.n (omega arith)))

@@ -31,8 +31,8 @@ loop-i-preserved c =
     let bytes : Bytes s = λ j. omega (arith, l.type_inv.cache j) in
     let row = key-digits p s bytes inside in (
       omega arith,
-      omega (arith, c.copy_32.auto.dst, l.loop-i.invariant.1),
-      c.copy_32.ensures
+      omega (arith, c.copy_block.auto.dst, l.loop-i.invariant.1),
+      c.copy_block.ensures
           ∙ write_turn a.at i _ (take a.n (turned a.from (keys_of (rows 100 a.used a.cache.now)))) _ a.out.now l.loop-i.out
           (omega
           (arith, up-length a.used s a.from a.n (omega arith)))

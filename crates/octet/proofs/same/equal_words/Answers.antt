@@ -25,7 +25,7 @@ turn c =
     let known = c in
     let start = c in
     let args = start.args in
-    at-loop.loop-word.invariant.1
+    at-loop.loop-word.invariant
     ∙ same_turn args.a args.b args.n args.s.now args.t.now
     (λ i. omega (arith, known.type_inv.s i)) (λ i. omega (arith, known2.type_inv.t i))
     start.requires.n_in_bounds start.requires.n_in_bounds_2 at-loop.loop-word.word (omega arith)
@@ -36,17 +36,15 @@ loop-word-init c =
     let args = c.args in
     let a : args.a ≡ args.a + 8 * 0 = omega arith in
     let b : args.b ≡ args.b + 8 * 0 = omega arith in
-    let width : 8 * args.n ≡ 8 * args.n - 8 * 0 = omega arith in (
-      omega arith,
-      ap₂ (λ (p q : ℕ). same (part p (8 * args.n) args.s.now) (part q (8 * args.n) args.t.now)) a b
-          ∙ ap (λ (w : ℕ). same (part (args.a + 8 * 0) w args.s.now) (part (args.b + 8 * 0) w args.t.now)) width,
-    )
+    let width : 8 * args.n ≡ 8 * args.n - 8 * 0 = omega arith in
+    ap₂ (λ (p q : ℕ). same (part p (8 * args.n) args.s.now) (part q (8 * args.n) args.t.now)) a b
+    ∙ ap (λ (w : ℕ). same (part (args.a + 8 * 0) w args.s.now) (part (args.b + 8 * 0) w args.t.now)) width
 
 pub returns-then-x-y : goal.returns-then-x-y
 returns-then-x-y c = sym (turn (goal.at.returns-then-x-y c).After-read_u64_le-y ∙ ap (λ (t : Bool). t && rest (goal.at.returns-then-x-y c).After-read_u64_le-y) (ne_eqb _ _ c.if-x-y.true))
 
 pub loop-word-preserved : goal.loop-word-preserved
-loop-word-preserved c = (omega arith, turn (goal.at.loop-word-preserved c).After-read_u64_le-y ∙ ap (λ (t : Bool). t && rest (goal.at.loop-word-preserved c).After-read_u64_le-y) (eq-eqb _ _ c.if-x-y.false))
+loop-word-preserved c = (turn (goal.at.loop-word-preserved c).After-read_u64_le-y ∙ ap (λ (t : Bool). t && rest (goal.at.loop-word-preserved c).After-read_u64_le-y) (eq-eqb _ _ c.if-x-y.false))
 
 pub returns : goal.returns
 unfolding same
@@ -55,4 +53,4 @@ returns c =
     let args = at-loop.args in
     let word = at-loop.loop-word.word in
     let e : 8 * args.n - 8 * word ≡ 0 = omega arith in
-    sym (at-loop.loop-word.invariant.1 ∙ ap (λ (w : ℕ). same (part (args.a + 8 * word) w args.s.now) (part (args.b + 8 * word) w args.t.now)) e)
+    sym (at-loop.loop-word.invariant ∙ ap (λ (w : ℕ). same (part (args.a + 8 * word) w args.s.now) (part (args.b + 8 * word) w args.t.now)) e)

@@ -22,7 +22,7 @@ turn : (c : After-read_u64_le) → let args = c.args in
 turn c =
     let at-loop = c in
     let args = at-loop.args in
-    at-loop.loop-k.invariant.1 ∙ zero_turn args.at args.n at-loop.loop-k.k args.s.now (omega arith)
+    at-loop.loop-k.invariant ∙ zero_turn args.at args.n at-loop.loop-k.k args.s.now (omega arith)
     ∙ ap (λ (x : ℕ). eqb x 0 && rest c) (sym c.read_u64_le.ensures)
 
 pub loop-k-init : goal.loop-k-init
@@ -31,17 +31,17 @@ loop-k-init c =
     let n = c.args.n in
     let place : at ≡ at + 8 * 0 = omega arith in
     let width : 8 * n ≡ 8 * n - 8 * 0 = omega arith in
-    (omega arith, ap₂ (λ (p w : ℕ). all_zero (part p w c.args.s.now)) place width)
+    (ap₂ (λ (p w : ℕ). all_zero (part p w c.args.s.now)) place width)
 
 pub returns-then-read_u64_le-ne0 : goal.returns-then-read_u64_le-ne0
 returns-then-read_u64_le-ne0 c = sym (turn (goal.at.returns-then-read_u64_le-ne0 c).After-read_u64_le ∙ ap (λ (t : Bool). t && rest (goal.at.returns-then-read_u64_le-ne0 c).After-read_u64_le) (ne_eqb _ 0 c.if-read_u64_le-ne0.true))
 
 pub loop-k-preserved : goal.loop-k-preserved
-loop-k-preserved c = (omega arith, turn (goal.at.loop-k-preserved c).After-read_u64_le ∙ ap (λ (t : Bool). t && rest (goal.at.loop-k-preserved c).After-read_u64_le) (eq-eqb _ 0 c.if-read_u64_le-ne0.false))
+loop-k-preserved c = (turn (goal.at.loop-k-preserved c).After-read_u64_le ∙ ap (λ (t : Bool). t && rest (goal.at.loop-k-preserved c).After-read_u64_le) (eq-eqb _ 0 c.if-read_u64_le-ne0.false))
 
 pub returns : goal.returns
 unfolding all_zero
 returns c =
     let args = c.args in
     let e : 8 * args.n - 8 * c.loop-k.k ≡ 0 = omega arith in
-    sym (c.loop-k.invariant.1 ∙ ap (λ (w : ℕ). all_zero (part (args.at + 8 * c.loop-k.k) w args.s.now)) e)
+    sym (c.loop-k.invariant ∙ ap (λ (w : ℕ). all_zero (part (args.at + 8 * c.loop-k.k) w args.s.now)) e)

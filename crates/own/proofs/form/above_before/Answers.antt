@@ -1,10 +1,11 @@
 -- `own::form::above_before` meets its contract: by the key before. Assumes nothing.
-use mathlib.Core.Path.{◌≡◌, sym, ◌∙◌}
+use mathlib.Core.Path.{◌≡◌, sym, ap, ◌∙◌}
 use mathlib.Core.Bool.{Bool}
 use Prim.Native.Nat.{◌-◌, ◌*◌}
 use lib.Dec.{leb, ltb}
+use Rattle.std.specs.Ordering.{is_lt}
 use Rattle.key.specs.Number.{key_at}
-use Rattle.key.proofs.OrderLaws.{test_less, test_same, test_more}
+use Rattle.key.proofs.OrderLaws.{less_by}
 use Rattle.own.specs.Low.{low_at}
 use Rattle.own.proofs.LowLaws.{low_first, low_next}
 use Rattle.own.proofs.form.above_before.Goals.{After-order_at}
@@ -22,17 +23,6 @@ returns-then-i-eq0 c =
     let a = c.args in
     sym (low_first a.s.now a.i (key_at (100 * a.i) a.s.now) c.if-i-eq0.true)
 
-pub returns-in-Less : goal.returns-in-Less
-returns-in-Less c =
-    let o = (goal.at.returns-in-Less c).After-order_at in
-    by o _ (test_less _ _ (sym o.order_at.ensures ∙ c.in-Less.is)).0
-
-pub returns-in-Same : goal.returns-in-Same
-returns-in-Same c =
-    let o = (goal.at.returns-in-Same c).After-order_at in
-    by o _ (test_same _ _ (sym o.order_at.ensures ∙ c.in-Same.is)).0
-
-pub returns-in-More : goal.returns-in-More
-returns-in-More c =
-    let o = (goal.at.returns-in-More c).After-order_at in
-    by o _ (test_more _ _ (sym o.order_at.ensures ∙ c.in-More.is)).0
+pub returns : goal.returns
+returns c =
+    by (goal.at.returns c).After-order_at c.is_lt.result (sym (c.is_lt.ensures ∙ ap is_lt c.order_at.ensures ∙ less_by _ _))

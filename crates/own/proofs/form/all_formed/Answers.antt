@@ -22,27 +22,24 @@ pub loop-i-init : goal.loop-i-init
 unfolding low_at
 loop-i-init c =
     let own = c.args.own.now in
-    (omega arith, omega arith, by-records record_form own c.if-size-ne0.false (omega (arith, c.if-size-lt-RECORD_LEN.false)) (omega (arith, c.if-size-gt400.false)))
+    by-records record_form own c.if-size-ne0.false (omega (arith, c.if-size-lt-RECORD_LEN.false)) (omega (arith, c.if-size-gt400.false))
 
 pub returns-then-not-follows : goal.returns-then-not-follows
 returns-then-not-follows c =
     let l = c in
     let own = l.args.own.now in
-    sym (l.loop-i.invariant.2 ∙ rising-stop record_form (length own / 100) own l.loop-i.i (omega arith)
+    sym (l.loop-i.invariant ∙ rising-stop record_form (length own / 100) own l.loop-i.i (omega arith)
     (sym c.follows.ensures ∙ c.if-not-follows.true))
 
 pub loop-i-preserved : goal.loop-i-preserved
 loop-i-preserved c =
     let l = c in
-    let own = l.args.own.now in (
-      omega arith,
-      omega arith,
-      l.loop-i.invariant.2 ∙ rising-more record_form (length own / 100) own l.loop-i.i (omega arith)
-          (sym c.follows.ensures ∙ c.if-not-follows.false),
-    )
+    let own = l.args.own.now in
+    l.loop-i.invariant ∙ rising-more record_form (length own / 100) own l.loop-i.i (omega arith)
+    (sym c.follows.ensures ∙ c.if-not-follows.false)
 
 pub returns : goal.returns
 returns c =
     let l = c in
     let own = l.args.own.now in
-    sym (l.loop-i.invariant.2 ∙ rising-end record_form (length own / 100) own l.loop-i.i (omega arith))
+    sym (l.loop-i.invariant ∙ rising-end record_form (length own / 100) own l.loop-i.i (omega arith))

@@ -7,15 +7,15 @@ use lib.ListN.{get_or, length-append}
 use Rattle.octet.specs.Part.{part, splice}
 use Rattle.octet.proofs.PartLaws.{length_part, splice_next}
 use Rattle.record.proofs.PlaceLaws.{record_at_lem, entry_in_lem, put_four}
-use Rattle.record.proofs.entry.put_entry.Goals.{After-copy_32, After-copy_piece, After-copy_to, After-copy_to-2, Start}
+use Rattle.record.proofs.entry.put_entry.Goals.{After-copy_block, After-copy_piece, After-copy_to, After-copy_to-2, Start}
 use Rattle.record.proofs.entry.put_entry.Goals as goal
 
 -- the first place, from behind each piece
-abbrev first : After-copy_32 → Start
-first c = (goal.at.After-copy_32 c).Start
+abbrev first : After-copy_block → Start
+first c = (goal.at.After-copy_block c).Start
 
 abbrev second : After-copy_to → Start
-second c = first (goal.at.After-copy_to c).After-copy_32
+second c = first (goal.at.After-copy_to c).After-copy_block
 
 abbrev third : After-copy_piece → Start
 third c = second (goal.at.After-copy_piece c).After-copy_to
@@ -41,7 +41,7 @@ returns c =
     let two = c in
     let port = c in
     let versions = c in
-    let key = (goal.at.returns c).After-copy_32 in
+    let key = (goal.at.returns c).After-copy_block in
     let b = first key in
     let o = b.args.dst.now in
     let s = b.args.s.now in
@@ -66,7 +66,7 @@ returns c =
       two.copy_to-2.ensures,
       port.copy_piece.ensures,
       versions.copy_to.ensures,
-      key.copy_32.ensures,
+      key.copy_block.ensures,
       put_four at 2 k v p r o lk refl lp refl (omega arith),
       splice_next at 38 (k ++ v ++ p ++ r) x o (omega arith) (omega arith),
     )

@@ -7,15 +7,15 @@ use lib.ListN.{replicate, length-replicate}
 use Rattle.octet.specs.Part.{part, splice}
 use Rattle.octet.proofs.PartLaws.{length_part}
 use Rattle.record.proofs.PlaceLaws.{Entry-at, entry_at, record_in, put_pieces}
-use Rattle.record.proofs.entry.put_record.Goals.{After-copy_32, After-copy_piece, After-copy_piece-2, After-copy_to, Start}
+use Rattle.record.proofs.entry.put_record.Goals.{After-copy_block, After-copy_piece, After-copy_piece-2, After-copy_to, Start}
 use Rattle.record.proofs.entry.put_record.Goals as goal
 
 -- the first place, from behind each piece
-abbrev first : After-copy_32 → Start
-first c = (goal.at.After-copy_32 c).Start
+abbrev first : After-copy_block → Start
+first c = (goal.at.After-copy_block c).Start
 
 abbrev second : After-copy_piece → Start
-second c = first (goal.at.After-copy_piece c).After-copy_32
+second c = first (goal.at.After-copy_piece c).After-copy_block
 
 abbrev third : After-copy_to → Start
 third c = second (goal.at.After-copy_to c).After-copy_piece
@@ -27,14 +27,14 @@ fourth c = third (goal.at.After-copy_piece-2 c).After-copy_to
 whole : (b : Start) → Entry-at b.args.start b.args.len b.args.d.now
 whole b = entry_at b.args.start b.args.len b.args.d.now b.requires.len_in_bounds b.requires.d_value
 
-pub copy_32-requires : goal.copy_32-requires
-copy_32-requires c =
-    let w = whole (goal.at.copy_32-requires c).Start in
+pub copy_block-requires : goal.copy_block-requires
+copy_block-requires c =
+    let w = whole (goal.at.copy_block-requires c).Start in
     record { at_in_bounds = omega arith; from_in_bounds = omega (arith, w.long) }
 
 pub copy_piece-requires : goal.copy_piece-requires
 copy_piece-requires c =
-    let w = whole (first (goal.at.copy_piece-requires c).After-copy_32) in
+    let w = whole (first (goal.at.copy_piece-requires c).After-copy_block) in
     record { n_in_bounds = omega arith; n_in_bounds_2 = omega (arith, w.least, w.long) }
 
 pub copy_piece-requires-2 : goal.copy_piece-requires-2
@@ -48,7 +48,7 @@ returns c =
     let addresses = c in
     let two = c in
     let port = c in
-    let key = (goal.at.returns c).After-copy_32 in
+    let key = (goal.at.returns c).After-copy_block in
     let b = first key in
     let s = b.args.dst.now in
     let d = b.args.d.now in
@@ -58,7 +58,7 @@ returns c =
     let f = w.least in
     let l = w.long in
     let z = length-replicate {A = ℕ} 48 0 in
-    rw (cleared.clear.ensures, addresses.copy_piece-2.ensures, two.copy_to.ensures, port.copy_piece.ensures, key.copy_32.ensures)
+    rw (cleared.clear.ensures, addresses.copy_piece-2.ensures, two.copy_to.ensures, port.copy_piece.ensures, key.copy_block.ensures)
     (put_pieces at (part start 32 d) (part (start + 34) 2 d) (1 ∷ 0 ∷ []) (part (start + 38) 16 d)
     (replicate 48 0) s (length_part start 32 d (omega arith)) (length_part (start + 34) 2 d (omega arith)) refl
     (length_part (start + 38) 16 d (omega arith)) z (omega arith)

@@ -39,4 +39,4 @@ returns c =
     wrote_right (inquire_known a.major a.minor a.id a.key.now a.nonce.now k n) a.out.now (omega (arith, c.if-out-lt76.false))
     (omega arith)
     (inquire-put a.major a.minor a.id a.key.now a.nonce.now a.out.now k n (omega (arith, c.if-out-lt76.false))
-    c.put_keyed.ensures c.put_head.ensures c.copy_16.ensures)
+    c.put_keyed.ensures c.put_head.ensures c.copy_block.ensures)

@@ -10,6 +10,7 @@ use lib.Dec.{eqb}
 use lib.ListN.{length, take, drop, get_or, length-map}
 use lib.Seq.{drop-drop, drop_at, take-take, take-length}
 use borrow.Author.Tests.{lt-ltb, le-ltb, eq-eqb, ne_eqb}
+use Rattle.std.specs.Prelude.{Ok, Err}
 use Rattle.octet.specs.Number.{Digits, value_be}
 use Rattle.octet.specs.Part.{part}
 use Rattle.octet.proofs.PartLaws.{part_add, length_part, part_at}
@@ -22,7 +23,7 @@ use Rattle.table.proofs.RowLaws.{rows-length}
 use Rattle.kept.specs.Keys.{Rising, plain, has, among}
 use Rattle.kept.specs.Turned.{count_under}
 use Rattle.search.specs.Halving.{halvings}
-use Rattle.search.specs.Sought.{sought_in}
+use Rattle.search.specs.Sought.{stands, sought_in}
 use Rattle.search.proofs.HalvingLaws.{halvings-none, halvings-same, halvings-front, halvings-back}
 
 -- ---- first words
@@ -111,7 +112,7 @@ pub record Halved (k : ℕ) (ks : List ℕ) (low high compared : ℕ) : Type 0 w
   pub counted : compared + halvings (between ks low high) k ≡ halvings ks k
 
 told : (k : ℕ) (ks : List ℕ) {b : Bool} {i n : ℕ} → has k ks ≡ b → count_under k ks ≡ i → halvings ks k ≡ n
-    → sought_in k ks ≡ record { held = b; at = i; compared = n }
+    → sought_in k ks ≡ record { found = stands b i; compared = n }
 told k ks e f g = rw (e, f, g) refl
 
 module _ (k : ℕ) (ks : List ℕ) (rising : Rising plain 0 ks) where
@@ -197,7 +198,7 @@ module _ (k : ℕ) (ks : List ℕ) (rising : Rising plain 0 ks) where
 
     -- ---- what it tells
 
-    pub halved-same : get_or ks middle 0 ≡ k → sought_in k ks ≡ record { held = true; at = middle; compared = compared + 1 }
+    pub halved-same : get_or ks middle 0 ≡ k → sought_in k ks ≡ record { found = Ok middle; compared = compared + 1 }
     halved-same t =
         told k ks (has_at k ks middle (omega (arith, h.within)) t)
         (under_at k ks middle (omega (arith, h.within)) (λ j b. go j b) (λ j a b. from j (dec_lt middle j) a b))
@@ -211,7 +212,7 @@ module _ (k : ℕ) (ks : List ℕ) (rising : Rising plain 0 ks) where
         from j (no a) c b = let e : j ≡ middle = omega arith in omega (arith, t, ap (λ (n : ℕ). get_or ks n 0) e)
 
   pub halved-end : (low high compared : ℕ) → Halved k ks low high compared → high ≤ low
-      → sought_in k ks ≡ record { held = false; at = low; compared = compared }
+      → sought_in k ks ≡ record { found = Err low; compared = compared }
   halved-end low high compared h e =
       told k ks (has-none k ks (λ j l. other j (dec_lt j low) l))
       (under_at k ks low (omega (arith, h.within, h.lower)) h.below (λ j a b. omega (arith, h.above j (omega arith) b)))

@@ -10,7 +10,7 @@ use lib.Dec.{eqb}
 use lib.ListN.{length, take, drop, get_or, length-map}
 use lib.Seq.{drop-drop, drop_at, take-take, take-length}
 use borrow.Author.Tests.{lt-ltb, le-ltb, eq-eqb, ne_eqb}
-use Rattle.std.specs.Prelude.{Ok, Err}
+use Rattle.std.specs.Prelude.{Ok, Err, is_ok}
 use Rattle.octet.specs.Number.{Digits, value_be}
 use Rattle.octet.specs.Part.{part}
 use Rattle.octet.proofs.PartLaws.{part_add, length_part, part_at}
@@ -224,3 +224,19 @@ module _ (k : ℕ) (ks : List ℕ) (rising : Rising plain 0 ks) where
       other : (j : ℕ) → Dec (j < low) → j < length ks → ¬ (get_or ks j 0 ≡ k)
       other j (yes b) l = λ q. omega (arith, q, h.below j b)
       other j (no b) l = λ q. omega (arith, q, h.above j (omega arith) l)
+
+-- ---- what was found
+
+-- a place that was found holds the key, and so many keys are smaller; so they are where it was not, and it is none of them
+pub stands-ok : (b : Bool) (i : ℕ) {at : ℕ} → stands b i ≡ Ok at → (b ≡ true) × (at ≡ i)
+stands-ok true i e = (refl, cc)
+stands-ok false i e = let z : ◌≡◌ {A = ℕ} 0 1 = cc in absurd (omega arith)
+
+pub stands-err : (b : Bool) (i : ℕ) {at : ℕ} → stands b i ≡ Err at → (b ≡ false) × (at ≡ i)
+stands-err true i e = let z : ◌≡◌ {A = ℕ} 0 1 = cc in absurd (omega arith)
+stands-err false i e = (refl, cc)
+
+-- whether it is one of them is whether a place was found
+pub is_ok-stands : (b : Bool) (i : ℕ) → is_ok (stands b i) ≡ b
+is_ok-stands true i = refl
+is_ok-stands false i = refl

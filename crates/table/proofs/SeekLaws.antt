@@ -7,7 +7,7 @@ use Prim.Native.Nat.{ℕ, suc, ◌+◌, ◌*◌, ◌≤◌, ◌<◌}
 use native.Mathlib.Omega.{arith}
 use lib.ListN.{length, drop, get_or}
 use Rattle.octet.specs.Part.{part}
-use Rattle.std.specs.Prelude.{Option, Some, None}
+use Rattle.std.specs.Prelude.{Option, Some, None, is_some}
 use Rattle.table.specs.Rows.{rows, any_of}
 use Rattle.table.specs.Seek.{seek}
 use Rattle.table.proofs.RowLaws.{rows_next, rows_end}
@@ -47,22 +47,18 @@ found_passes test i ps e = (from_start test i ps (seek_is test 0 i ps e)).1
 -- ---- whether one does
 
 -- whether one passes a test is whether it is found
-abbrev pub is_found : Option ℕ → Bool
-is_found (Some n) = true
-is_found None = false
+some_by : (b : Bool) (n : ℕ) (f : Option ℕ) (r : Bool) → r ≡ is_some f → (b || r) ≡ is_some (cond b (Some n) f)
+some_by true n f r e = refl
+some_by false n f r e = e
 
-is_found_by : (b : Bool) (n : ℕ) (f : Option ℕ) (r : Bool) → r ≡ is_found f → (b || r) ≡ is_found (cond b (Some n) f)
-is_found_by true n f r e = refl
-is_found_by false n f r e = e
-
-pub any_found : (test : List ℕ → Bool) (n : ℕ) (ps : List (List ℕ)) → any_of test ps ≡ is_found (seek test n ps)
+pub any_found : (test : List ℕ → Bool) (n : ℕ) (ps : List (List ℕ)) → any_of test ps ≡ is_some (seek test n ps)
 unfolding any_of seek
 any_found test n [] = refl
-any_found test n (p ∷ ps) = is_found_by (test p) n (seek test (n + 1) ps) (any_of test ps) (any_found test (n + 1) ps)
+any_found test n (p ∷ ps) = some_by (test p) n (seek test (n + 1) ps) (any_of test ps) (any_found test (n + 1) ps)
 
 -- where none is found, none passes
 pub none_found : (test : List ℕ → Bool) (n : ℕ) (ps : List (List ℕ)) → seek test n ps ≡ None → any_of test ps ≡ false
-none_found test n ps e = any_found test n ps ∙ ap is_found e
+none_found test n ps e = any_found test n ps ∙ ap is_some e
 
 -- ---- walks
 

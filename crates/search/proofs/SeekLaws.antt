@@ -1,6 +1,7 @@
 -- The search for a key by halving: all before one place are below it, all from another on above, and the keys compared with those that the rest
 -- will take are those that the whole takes. In this order: first words; rising keys by their places; the loop; what it tells. Assumes nothing.
 use mathlib.Core.Path.{◌≡◌, refl, sym, ap, ◌∙◌}
+use mathlib.Core.Logic.{◌⊎◌, inl, inr}
 use mathlib.Core.Bool.{Bool, true, false, ◌||◌}
 use mathlib.Core.List.{List, [], ◌∷◌, map}
 use Prim.Native.Nat.{ℕ, zero, suc, ◌+◌, ◌-◌, ◌*◌, ◌/◌, ◌≤◌, ◌<◌}
@@ -22,6 +23,7 @@ use Rattle.table.specs.Rows.{rows}
 use Rattle.table.proofs.RowLaws.{rows-length}
 use Rattle.kept.specs.Keys.{Rising, plain, has, among}
 use Rattle.kept.specs.Turned.{count_under}
+use Rattle.search.specs.declared.Sought.{Sought}
 use Rattle.search.specs.Halving.{halvings}
 use Rattle.search.specs.Sought.{stands, sought_in}
 use Rattle.search.proofs.HalvingLaws.{halvings-none, halvings-same, halvings-front, halvings-back}
@@ -227,16 +229,27 @@ module _ (k : ℕ) (ks : List ℕ) (rising : Rising plain 0 ks) where
 
 -- ---- what was found
 
--- a place that was found holds the key, and so many keys are smaller; so they are where it was not, and it is none of them
-pub stands-ok : (b : Bool) (i : ℕ) {at : ℕ} → stands b i ≡ Ok at → (b ≡ true) × (at ≡ i)
-stands-ok true i e = (refl, cc)
-stands-ok false i e = let z : ◌≡◌ {A = ℕ} 0 1 = cc in absurd (omega arith)
-
-pub stands-err : (b : Bool) (i : ℕ) {at : ℕ} → stands b i ≡ Err at → (b ≡ false) × (at ≡ i)
-stands-err true i e = let z : ◌≡◌ {A = ℕ} 0 1 = cc in absurd (omega arith)
-stands-err false i e = (refl, cc)
-
 -- whether it is one of them is whether a place was found
 pub is_ok-stands : (b : Bool) (i : ℕ) → is_ok (stands b i) ≡ b
 is_ok-stands true i = refl
 is_ok-stands false i = refl
+
+ok-stands : (b : Bool) (i : ℕ) {at : ℕ} → stands b i ≡ Ok at → (b ≡ true) × (at ≡ i)
+ok-stands true i e = (refl, cc)
+ok-stands false i e = let z : ◌≡◌ {A = ℕ} 0 1 = cc in absurd (omega arith)
+
+err-stands : (b : Bool) (i : ℕ) {at : ℕ} → stands b i ≡ Err at → (b ≡ false) × (at ≡ i)
+err-stands true i e = let z : ◌≡◌ {A = ℕ} 0 1 = cc in absurd (omega arith)
+err-stands false i e = (refl, cc)
+
+-- where a place was found the key is one of them, and where it was not it is none; so many are smaller
+module _ (k : ℕ) (ks : List ℕ) {q : Sought} (is : q ≡ sought_in k ks) {at : ℕ} where
+  pub sought-held : q.found ≡ Ok at → (has k ks ≡ true) × (at ≡ count_under k ks)
+  sought-held h = ok-stands (has k ks) (count_under k ks) (sym (ap (λ (s : Sought). s.found) is) ∙ h)
+
+  pub sought-none : q.found ≡ Err at → (has k ks ≡ false) × (at ≡ count_under k ks)
+  sought-none h = err-stands (has k ks) (count_under k ks) (sym (ap (λ (s : Sought). s.found) is) ∙ h)
+
+  pub sought-under : (q.found ≡ Ok at) ⊎ (q.found ≡ Err at) → at ≡ count_under k ks
+  sought-under (inl h) = (sought-held h).1
+  sought-under (inr h) = (sought-none h).1

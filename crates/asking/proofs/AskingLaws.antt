@@ -16,8 +16,8 @@ use Rattle.table.specs.Rows.{any_of}
 use Rattle.table.proofs.PieceLaws.{part-start}
 use Rattle.waiting.specs.Form.{is_inquiry}
 use Rattle.table.specs.Seek.{seek}
-use Rattle.table.specs.declared.Found.{Found}
-use Rattle.table.proofs.SeekLaws.{is_found, any_found}
+use Rattle.std.specs.Prelude.{Option, is_some}
+use Rattle.table.proofs.SeekLaws.{any_found}
 use Rattle.asking.specs.Asking.{must_ask, asks_for, inquire_room}
 
 -- ---- how many bytes
@@ -44,11 +44,21 @@ module _ (recs ps : List (List ℕ)) (r : List ℕ) where
   unfolding must_ask
   ask-held e = rw e refl
 
-  pub ask-found : any_of (λ (q : List ℕ). same q r) recs ≡ false → {k : ℕ} → key_of r ≡ k → {f : Found} → f ≡ seek (is_inquiry k) 0 ps
-      → must_ask recs ps r ≡ not (is_found f)
+  pub ask-found : any_of (λ (q : List ℕ). same q r) recs ≡ false → {k : ℕ} → key_of r ≡ k → {f : Option ℕ} → f ≡ seek (is_inquiry k) 0 ps
+      → must_ask recs ps r ≡ not (is_some f)
   unfolding must_ask
   ask-found e {k} is {f} found =
-      rw e (ap not (ap (λ (j : ℕ). any_of (is_inquiry j) ps) is ∙ any_found (is_inquiry k) 0 ps ∙ ap is_found (sym found)))
+      rw e (ap not (ap (λ (j : ℕ). any_of (is_inquiry j) ps) is ∙ any_found (is_inquiry k) 0 ps ∙ ap is_some (sym found)))
+
+-- what is not some is none
+pub not_so : {a b : Bool} → a ≡ not b → not a ≡ b
+not_so {a} {b} e = go a b e
+  where
+    go : (a b : Bool) → a ≡ not b → not a ≡ b
+    go true true e = let z : ◌≡◌ {A = ℕ} 0 1 = cc in absurd (omega arith)
+    go true false e = refl
+    go false true e = refl
+    go false false e = let z : ◌≡◌ {A = ℕ} 0 1 = cc in absurd (omega arith)
 
 both_not : (a b : Bool) → not a && not b ≡ true → (a ≡ false) × (b ≡ false)
 both_not false false e = (refl, refl)

@@ -8,8 +8,7 @@ use Rattle.record.specs.Record.{key_of}
 use Rattle.table.specs.Rows.{rows, any_of}
 use Rattle.table.proofs.RowLaws.{row_at}
 use Rattle.kept.specs.Keys.{Rising, plain}
-use Rattle.cache.specs.declared.place.Found.{Found}
-use Rattle.cache.specs.declared.place.Found.TheVariants.{At, Before}
+use Rattle.std.specs.Prelude.{Result, Ok, Err}
 use Rattle.cache.specs.Form.{keys_of}
 use Rattle.cache.specs.Place.{further, find_key}
 
@@ -34,13 +33,13 @@ none_above r low (x ∷ xs) h rise =
     (none_above r (suc (key_of x)) xs (omega (arith, rise.0)) rise.1)
 
 -- what a place found says of it
-abbrev same_at : Found → List ℕ → List (List ℕ) → Bool
-same_at (At i) r recs = same (get_or recs i []) r
-same_at (Before i) r recs = false
+abbrev same_at : Result ℕ ℕ → List ℕ → List (List ℕ) → Bool
+same_at (Ok i) r recs = same (get_or recs i []) r
+same_at (Err i) r recs = false
 
-further_same : (f : Found) (r x : List ℕ) (xs : List (List ℕ)) → same_at (further f) r (x ∷ xs) ≡ same_at f r xs
-further_same (At i) r x xs = refl
-further_same (Before i) r x xs = refl
+further_same : (f : Result ℕ ℕ) (r x : List ℕ) (xs : List (List ℕ)) → same_at (further f) r (x ∷ xs) ≡ same_at f r xs
+further_same (Ok i) r x xs = refl
+further_same (Err i) r x xs = refl
 
 same_found : (r : List ℕ) (low : ℕ) (recs : List (List ℕ)) → Rising plain low (keys_of recs)
     → any_of (λ (q : List ℕ). same q r) recs ≡ same_at (find_key (key_of r) (keys_of recs)) r recs
@@ -67,11 +66,11 @@ same_found r low (x ∷ xs) rise = go (stand (key_of x) (key_of r)) (same_found 
 
 -- of the records in a cache, by what was found
 module _ (r : List ℕ) (held : ℕ) (s : List ℕ) (rise : Rising plain 0 (keys_of (rows 100 held s)))
-    {f : Found} (is : f ≡ find_key (key_of r) (keys_of (rows 100 held s))) {i : ℕ} where
-  pub same_here : f ≡ At i → i < held → any_of (λ (q : List ℕ). same q r) (rows 100 held s) ≡ same (part (100 * i) 100 s) r
+    {f : Result ℕ ℕ} (is : f ≡ find_key (key_of r) (keys_of (rows 100 held s))) {i : ℕ} where
+  pub same_here : f ≡ Ok i → i < held → any_of (λ (q : List ℕ). same q r) (rows 100 held s) ≡ same (part (100 * i) 100 s) r
   same_here e h =
-      same_found r 0 (rows 100 held s) rise ∙ ap (λ (g : Found). same_at g r (rows 100 held s)) (sym is ∙ e)
+      same_found r 0 (rows 100 held s) rise ∙ ap (λ (g : Result ℕ ℕ). same_at g r (rows 100 held s)) (sym is ∙ e)
       ∙ ap (λ (q : List ℕ). same q r) (row_at 100 held s i h)
 
-  pub same-nowhere : f ≡ Before i → any_of (λ (q : List ℕ). same q r) (rows 100 held s) ≡ false
-  same-nowhere e = same_found r 0 (rows 100 held s) rise ∙ ap (λ (g : Found). same_at g r (rows 100 held s)) (sym is ∙ e)
+  pub same-nowhere : f ≡ Err i → any_of (λ (q : List ℕ). same q r) (rows 100 held s) ≡ false
+  same-nowhere e = same_found r 0 (rows 100 held s) rise ∙ ap (λ (g : Result ℕ ℕ). same_at g r (rows 100 held s)) (sym is ∙ e)

@@ -37,8 +37,8 @@ fn holds_same(cache: &[u8], held: usize, d: &[u8], start: usize, len: usize) -> 
 {
     let end = start + len;
     match cache::find(cache, held, &d[start..end]) {
-        cache::Found::At(i) => record::same_as_entry(cache, record::RECORD_LEN * i, d, start, len),
-        cache::Found::Before(_) => false,
+        Ok(i) => record::same_as_entry(cache, record::RECORD_LEN * i, d, start, len),
+        Err(_) => false,
     }
 }
 
@@ -61,10 +61,7 @@ pub fn must_ask(
     if holds_same(cache, held, d, start, len) {
         return false;
     }
-    match waiting::find_inquiry(waiting, 0, used, d, start) {
-        table::Found::At(_) => false,
-        table::Found::Nothing => true,
-    }
+    waiting::find_inquiry(waiting, 0, used, d, start).is_none()
 }
 
 // Must the record be inquired about that the entry at a place names, of a message that may have none? None has no bytes; our

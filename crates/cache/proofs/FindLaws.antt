@@ -17,49 +17,48 @@ use Rattle.kept.specs.Keys.{◌∈◌, has, Rising, plain, among}
 use Rattle.kept.specs.Turned.{count_under, count_upto}
 use Rattle.kept.specs.Records.{put_by, without_by}
 use Rattle.kept.proofs.ListLaws.{has_out, rising-at}
-use Rattle.cache.specs.declared.place.Found.{Found}
-use Rattle.cache.specs.declared.place.Found.TheVariants.{At, Before}
+use Rattle.std.specs.Prelude.{Result, Ok, Err, is_ok}
 use Rattle.cache.specs.Form.{keys_of}
-use Rattle.cache.specs.Place.{further, find_key, is_found}
+use Rattle.cache.specs.Place.{further, find_key}
 
 -- ---- what a place found says of the records
 
-abbrev pub put_at : Found → List ℕ → List (List ℕ) → List (List ℕ)
-put_at (At i) r rs = set rs i r
-put_at (Before i) r rs = insert_at i r rs
+abbrev pub put_at : Result ℕ ℕ → List ℕ → List (List ℕ) → List (List ℕ)
+put_at (Ok i) r rs = set rs i r
+put_at (Err i) r rs = insert_at i r rs
 
-abbrev pub taken_out_lem : Found → List (List ℕ) → List (List ℕ)
-taken_out_lem (At i) rs = remove_at i rs
-taken_out_lem (Before i) rs = rs
+abbrev pub taken_out_lem : Result ℕ ℕ → List (List ℕ) → List (List ℕ)
+taken_out_lem (Ok i) rs = remove_at i rs
+taken_out_lem (Err i) rs = rs
 
-abbrev pub Inside : Found → ℕ → Type 0
-Inside (At i) n = i < n
-Inside (Before i) n = i ≤ n
+abbrev pub Inside : Result ℕ ℕ → ℕ → Type 0
+Inside (Ok i) n = i < n
+Inside (Err i) n = i ≤ n
 
-abbrev pub place_of : Found → ℕ
-place_of (At i) = i
-place_of (Before i) = i
+abbrev pub place_of : Result ℕ ℕ → ℕ
+place_of (Ok i) = i
+place_of (Err i) = i
 
 -- how many places there are up to k's own
-abbrev pub past_of : Found → ℕ
-past_of (At i) = suc i
-past_of (Before i) = i
+abbrev pub past_of : Result ℕ ℕ → ℕ
+past_of (Ok i) = suc i
+past_of (Err i) = i
 
-put-further : (f : Found) (r x : List ℕ) (xs : List (List ℕ)) → put_at (further f) r (x ∷ xs) ≡ x ∷ put_at f r xs
-put-further (At i) r x xs = refl
-put-further (Before i) r x xs = refl
+put-further : (f : Result ℕ ℕ) (r x : List ℕ) (xs : List (List ℕ)) → put_at (further f) r (x ∷ xs) ≡ x ∷ put_at f r xs
+put-further (Ok i) r x xs = refl
+put-further (Err i) r x xs = refl
 
-out_further : (f : Found) (x : List ℕ) (xs : List (List ℕ)) → taken_out_lem (further f) (x ∷ xs) ≡ x ∷ taken_out_lem f xs
-out_further (At i) x xs = refl
-out_further (Before i) x xs = refl
+out_further : (f : Result ℕ ℕ) (x : List ℕ) (xs : List (List ℕ)) → taken_out_lem (further f) (x ∷ xs) ≡ x ∷ taken_out_lem f xs
+out_further (Ok i) x xs = refl
+out_further (Err i) x xs = refl
 
-inside-further : (f : Found) (n : ℕ) → Inside f n → Inside (further f) (suc n)
-inside-further (At i) n h = omega arith
-inside-further (Before i) n h = omega arith
+inside-further : (f : Result ℕ ℕ) (n : ℕ) → Inside f n → Inside (further f) (suc n)
+inside-further (Ok i) n h = omega arith
+inside-further (Err i) n h = omega arith
 
-place_further : (f : Found) → place_of (further f) ≡ suc (place_of f)
-place_further (At i) = refl
-place_further (Before i) = refl
+place_further : (f : Result ℕ ℕ) → place_of (further f) ≡ suc (place_of f)
+place_further (Ok i) = refl
+place_further (Err i) = refl
 
 -- a record joins there, or takes the place of the one there
 pub put_found : (r : List ℕ) (recs : List (List ℕ)) → put_by key_of r recs ≡ put_at (find_key (key_of r) (keys_of recs)) r recs
@@ -120,17 +119,17 @@ found_inside k (j ∷ ks) = go (stand j k) (found_inside k ks)
     go (above h) ih = rw (le-ltb j k (omega arith), ne_eqb j k (omega arith)) (omega arith)
 
 -- where it is one of theirs the key there is k, where it is before one k is not among them
-abbrev pub Tells : ℕ → List ℕ → Found → Type 0
-Tells k ks (At i) = get_or ks i 0 ≡ k
-Tells k ks (Before i) = ¬ (k ∈ ks)
+abbrev pub Tells : ℕ → List ℕ → Result ℕ ℕ → Type 0
+Tells k ks (Ok i) = get_or ks i 0 ≡ k
+Tells k ks (Err i) = ¬ (k ∈ ks)
 
 not_first : (k j : ℕ) (ks : List ℕ) → j < k → ¬ (k ∈ ks) → ¬ (k ∈ (j ∷ ks))
 not_first k j ks h out (inl e) = absurd (omega arith)
 not_first k j ks h out (inr m) = out m
 
-tells_further : (f : Found) (k j : ℕ) (ks : List ℕ) → j < k → Tells k ks f → Tells k (j ∷ ks) (further f)
-tells_further (At i) k j ks h t = t
-tells_further (Before i) k j ks h t = not_first k j ks h t
+tells_further : (f : Result ℕ ℕ) (k j : ℕ) (ks : List ℕ) → j < k → Tells k ks f → Tells k (j ∷ ks) (further f)
+tells_further (Ok i) k j ks h t = t
+tells_further (Err i) k j ks h t = not_first k j ks h t
 
 pub found_tells : (k low : ℕ) (ks : List ℕ) → Rising plain low ks → Tells k ks (find_key k ks)
 unfolding find_key
@@ -143,11 +142,11 @@ found_tells k low (j ∷ ks) r = go (stand j k) (found_tells k (suc j) ks r.1)
     go (above h) ih = rw (le-ltb j k (omega arith), ne_eqb j k (omega arith))
         (λ m. absurd (omega (arith, rising-at plain j k (j ∷ ks) (omega arith, r.1) m)))
 
-at_further : (f : Found) → is_found (further f) ≡ is_found f
-at_further (At i) = refl
-at_further (Before i) = refl
+at_further : (f : Result ℕ ℕ) → is_ok (further f) ≡ is_ok f
+at_further (Ok i) = refl
+at_further (Err i) = refl
 
-pub found_has : (k low : ℕ) (ks : List ℕ) → Rising plain low ks → has k ks ≡ is_found (find_key k ks)
+pub found_has : (k low : ℕ) (ks : List ℕ) → Rising plain low ks → has k ks ≡ is_ok (find_key k ks)
 unfolding find_key has
 found_has k low [] r = refl
 found_has k low (j ∷ ks) r = go (stand j k) (found_has k (suc j) ks r.1)
@@ -156,7 +155,7 @@ found_has k low (j ∷ ks) r = go (stand j k) (found_has k (suc j) ks r.1)
     later (inl h) = rw (ne_eqb k j (omega arith)) refl
     later (inr h) = rw (ne_eqb k j (omega arith)) refl
 
-    go : Stand j k → has k ks ≡ is_found (find_key k ks) → has k (j ∷ ks) ≡ is_found (find_key k (j ∷ ks))
+    go : Stand j k → has k ks ≡ is_ok (find_key k ks) → has k (j ∷ ks) ≡ is_ok (find_key k (j ∷ ks))
     go (below h) ih = rw (lt-ltb j k h) (later (inl h) ∙ ih ∙ sym (at_further (find_key k ks)))
     go (equal h) ih = rw (le-ltb j k (omega arith), eq-eqb j k h, eq-eqb k j (sym h)) refl
     go (above h) ih =
@@ -181,17 +180,17 @@ place_under own low (j ∷ ks) r = go (stand j own) (place_under own (suc j) ks 
 
 -- it is what the search tells: whether k is there, and how many are smaller
 pub found_sought : (k low : ℕ) (ks : List ℕ) → Rising plain low ks → {b : Bool} → has k ks ≡ b
-    → find_key k ks ≡ cond b (At (count_under k ks)) (Before (count_under k ks))
+    → find_key k ks ≡ cond b (Ok (count_under k ks)) (Err (count_under k ks))
 found_sought k low ks r {b} e = go (find_key k ks) (sym (found_has k low ks r) ∙ e) (place_under k low ks r)
   where
-    go : (f : Found) → is_found f ≡ b → place_of f ≡ count_under k ks → f ≡ cond b (At (count_under k ks)) (Before (count_under k ks))
-    go (At i) h p = rw (sym h) (ap At p)
-    go (Before i) h p = rw (sym h) (ap Before p)
+    go : (f : Result ℕ ℕ) → is_ok f ≡ b → place_of f ≡ count_under k ks → f ≡ cond b (Ok (count_under k ks)) (Err (count_under k ks))
+    go (Ok i) h p = rw (sym h) (ap Ok p)
+    go (Err i) h p = rw (sym h) (ap Err p)
 
 -- so many are at most k
-past_further : (f : Found) → past_of (further f) ≡ suc (past_of f)
-past_further (At i) = refl
-past_further (Before i) = refl
+past_further : (f : Result ℕ ℕ) → past_of (further f) ≡ suc (past_of f)
+past_further (Ok i) = refl
+past_further (Err i) = refl
 
 none_upto : (k low : ℕ) (ks : List ℕ) → k < low → Rising plain low ks → count_upto k ks ≡ 0
 unfolding among
@@ -212,21 +211,21 @@ place_upto k low (j ∷ ks) r = go (stand j k) (place_upto k (suc j) ks r.1)
 
 -- ---- of the records in a cache
 
-module _ (k used : ℕ) (s : List ℕ) {f g : Found} (e : f ≡ find_key k (keys_of (rows 100 used s))) (t : f ≡ g) where
+module _ (k used : ℕ) (s : List ℕ) {f g : Result ℕ ℕ} (e : f ≡ find_key k (keys_of (rows 100 used s))) (t : f ≡ g) where
   pub found-place : Inside g used
   found-place =
       subst (λ (n : ℕ). Inside g n) (length-map (rows 100 used s) key_of ∙ rows-length 100 used s)
-      (subst (λ (h : Found). Inside h (length (keys_of (rows 100 used s)))) (sym e ∙ t) (found_inside k (keys_of (rows 100 used s))))
+      (subst (λ (h : Result ℕ ℕ). Inside h (length (keys_of (rows 100 used s)))) (sym e ∙ t) (found_inside k (keys_of (rows 100 used s))))
 
   -- the key there is k, or k is not held
   pub found-is : Rising plain 0 (keys_of (rows 100 used s)) → Tells k (keys_of (rows 100 used s)) g
-  found-is rises = subst (λ (h : Found). Tells k (keys_of (rows 100 used s)) h) (sym e ∙ t) (found_tells k 0 (keys_of (rows 100 used s)) rises)
+  found-is rises = subst (λ (h : Result ℕ ℕ). Tells k (keys_of (rows 100 used s)) h) (sym e ∙ t) (found_tells k 0 (keys_of (rows 100 used s)) rises)
 
-  pub found-held : Rising plain 0 (keys_of (rows 100 used s)) → has k (keys_of (rows 100 used s)) ≡ is_found g
-  found-held rises = found_has k 0 (keys_of (rows 100 used s)) rises ∙ ap is_found (sym e ∙ t)
+  pub found-held : Rising plain 0 (keys_of (rows 100 used s)) → has k (keys_of (rows 100 used s)) ≡ is_ok g
+  found-held rises = found_has k 0 (keys_of (rows 100 used s)) rises ∙ ap is_ok (sym e ∙ t)
 
   pub found-removes : Rising plain 0 (keys_of (rows 100 used s)) → taken_out_lem g (rows 100 used s) ≡ without_by key_of k (rows 100 used s)
-  found-removes rises = ap (λ (h : Found). taken_out_lem h (rows 100 used s)) (sym t ∙ e) ∙ sym (remove_found k 0 (rows 100 used s) rises)
+  found-removes rises = ap (λ (h : Result ℕ ℕ). taken_out_lem h (rows 100 used s)) (sym t ∙ e) ∙ sym (remove_found k 0 (rows 100 used s) rises)
 
   pub found-under : Rising plain 0 (keys_of (rows 100 used s)) → place_of g ≡ count_under k (keys_of (rows 100 used s))
   found-under rises = ap place_of (sym t ∙ e) ∙ place_under k 0 (keys_of (rows 100 used s)) rises
@@ -234,6 +233,6 @@ module _ (k used : ℕ) (s : List ℕ) {f g : Found} (e : f ≡ find_key k (keys
   pub found-upto : Rising plain 0 (keys_of (rows 100 used s)) → past_of g ≡ count_upto k (keys_of (rows 100 used s))
   found-upto rises = ap past_of (sym t ∙ e) ∙ place_upto k 0 (keys_of (rows 100 used s)) rises
 
-pub found_puts : (r : List ℕ) (used : ℕ) (s : List ℕ) {f g : Found} → f ≡ find_key (key_of r) (keys_of (rows 100 used s)) → f ≡ g
+pub found_puts : (r : List ℕ) (used : ℕ) (s : List ℕ) {f g : Result ℕ ℕ} → f ≡ find_key (key_of r) (keys_of (rows 100 used s)) → f ≡ g
     → put_at g r (rows 100 used s) ≡ put_by key_of r (rows 100 used s)
-found_puts r used s e t = ap (λ (h : Found). put_at h r (rows 100 used s)) (sym t ∙ e) ∙ sym (put_found r (rows 100 used s))
+found_puts r used s e t = ap (λ (h : Result ℕ ℕ). put_at h r (rows 100 used s)) (sym t ∙ e) ∙ sym (put_found r (rows 100 used s))

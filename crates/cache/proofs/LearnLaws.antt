@@ -20,7 +20,7 @@ use Rattle.kept.specs.Records.{put_by, without_by, learn_by}
 use Rattle.kept.proofs.ListLaws.{rising-put, every-put}
 use Rattle.kept.proofs.RecordLaws.{keys-put}
 use Rattle.going.specs.Going.{Goes}
-use Rattle.cache.specs.declared.place.Found.TheVariants.{Before}
+use Rattle.std.specs.Prelude.{Err}
 use Rattle.cache.specs.Form.{keys_of, places_in, Form}
 use Rattle.cache.specs.Place.{find_key}
 use Rattle.cache.specs.Bytes.{after_learn}
@@ -119,7 +119,7 @@ out_after (suc i) (suc (suc g)) r (x ∷ xs) h l =
 
 -- ---- a record whose key is not held is learned
 
-module _ (own : Own) (used at : ℕ) (s r : List ℕ) (f : Form own s (rows 100 used s)) (found : find_key (key_of r) (keys_of (rows 100 used s)) ≡ Before at) where
+module _ (own : Own) (used at : ℕ) (s r : List ℕ) (f : Form own s (rows 100 used s)) (found : find_key (key_of r) (keys_of (rows 100 used s)) ≡ Err at) where
   recs : List (List ℕ)
   recs = rows 100 used s
 

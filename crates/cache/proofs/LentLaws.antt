@@ -8,8 +8,7 @@ use Rattle.refusal.specs.Table.{Refusal, or_refuse}
 use Rattle.refusal.proofs.CallLaws.{row_applies, row_passes}
 use Rattle.own.specs.Own.{own_form, own_keys}
 use Rattle.table.specs.Rows.{rows}
-use Rattle.cache.specs.declared.shape.Formed.{Formed}
-use Rattle.cache.specs.declared.shape.Formed.TheVariants.{Bad, Good}
+use Rattle.std.specs.Prelude.{Option, Some, None}
 use Rattle.cache.specs.Form.{Form, cache_form}
 use Rattle.cache.specs.Place.{cache_formed}
 use Rattle.cache.specs.Calls.{memory_wrong, held_by}
@@ -24,14 +23,14 @@ not_isn't {b} e = rw e refl
 -- what the test of memory tells where it is good
 record Good-memory (own cache : List ℕ) (used : ℕ) : Type 0 where
   pub formed : own_form own ≡ true
-  pub form : cache_formed (own_keys own) cache ≡ Good used
+  pub form : cache_formed (own_keys own) cache ≡ Some used
 
-tells : (own cache : List ℕ) (used : ℕ) (b : Bool) → own_form own ≡ b → cond b (cache_formed (own_keys own) cache) Bad ≡ Good used → Good-memory own cache used
+tells : (own cache : List ℕ) (used : ℕ) (b : Bool) → own_form own ≡ b → cond b (cache_formed (own_keys own) cache) None ≡ Some used → Good-memory own cache used
 tells own cache used true e g = record { formed = e; form = g }
 tells own cache used false e g = let z : ◌≡◌ {A = ℕ} 0 1 = cc in absurd (omega arith)
 
-module _ (own cache : List ℕ) {m : Formed} (is : m ≡ cond (own_form own) (cache_formed (own_keys own) cache) Bad) where
-  module _ {used : ℕ} (good : m ≡ Good used) where
+module _ (own cache : List ℕ) {m : Option ℕ} (is : m ≡ cond (own_form own) (cache_formed (own_keys own) cache) None) where
+  module _ {used : ℕ} (good : m ≡ Some used) where
     both : Good-memory own cache used
     both = tells own cache used (own_form own) refl (sym is ∙ good)
 
@@ -50,7 +49,7 @@ module _ (own cache : List ℕ) {m : Formed} (is : m ≡ cond (own_form own) (ca
         row_passes refuse 1 (not (own_form own)) _ done (not_is both.formed)
         ∙ row_passes refuse 1 (not (cache_form (own_keys own) cache)) more done (not_is (good-is (own_keys own) cache both.form).0)
 
-  pub memory-refuses : m ≡ Bad → {A : Type 0} (refuse : ℕ → A) (more : List Refusal) (done : A) → or_refuse refuse (memory_wrong own cache more) done ≡ refuse 1
+  pub memory-refuses : m ≡ None → {A : Type 0} (refuse : ℕ → A) (more : List Refusal) (done : A) → or_refuse refuse (memory_wrong own cache more) done ≡ refuse 1
   memory-refuses bad refuse more done = by-case (own_form own) refl
     where
       later : own_form own ≡ true → cache_form (own_keys own) cache ≡ false

@@ -19,7 +19,7 @@ use Rattle.record.proofs.PlaceLaws.{form_at}
 use Rattle.table.specs.Rows.{rows}
 use Rattle.table.proofs.RowLaws.{row_at, rows-length, rows_next, rows_end, rows_take}
 use Rattle.kept.specs.Keys.{Rising, plain, has}
-use Rattle.cache.specs.declared.shape.Formed.TheVariants.{Bad, Good}
+use Rattle.std.specs.Prelude.{Some, None}
 use Rattle.cache.specs.Form.{keys_of, places_in, follows, leading}
 use Rattle.cache.specs.Place.{cache_formed, rises, ordered, any_own}
 use Rattle.cache.proofs.FormLaws.{key_of-row}
@@ -197,7 +197,7 @@ module _ (own : Own) (s : List ℕ) (whole : length s % 100 ≡ 0) (least : 1000
   used-rising = subst (λ (l : List (List ℕ)). Rising plain 0 (keys_of l)) those (ordered_rising 0 (rows 100 (places_in (length s)) s))
 
   -- one of our keys is held
-  pub own-bad : any_own own (keys_of (rows 100 used s)) ≡ true → cache_formed own s ≡ Bad
+  pub own-bad : any_own own (keys_of (rows 100 used s)) ≡ true → cache_formed own s ≡ None
   own-bad h =
       let rs : List (List ℕ) = rows 100 (places_in (length s)) s in
       let l : ℕ = leading record_form own 0 rs in
@@ -208,16 +208,16 @@ module _ (own : Own) (s : List ℕ) (whole : length s % 100 ≡ 0) (least : 1000
       by-rest own s whole least l false most enough refl (sym (record_not-zero (100 * l) s (omega (arith, inside, whole)) formed))
 
   -- none is, and the rest decides
-  pub free-by : any_own own (keys_of (rows 100 used s)) ≡ false → cache_formed own s ≡ cond (all_zero (drop (100 * used) s)) (Good used) Bad
+  pub free-by : any_own own (keys_of (rows 100 used s)) ≡ false → cache_formed own s ≡ cond (all_zero (drop (100 * used) s)) (Some used) None
   free-by h =
       let rs : List (List ℕ) = rows 100 (places_in (length s)) s in
       by-rest own s whole least used (all_zero (drop (100 * used) s)) most enough
       (is ∙ sym (all_lead own 0 rs (ap (λ (x : List (List ℕ)). any_own own (keys_of x)) those ∙ h))) refl
 
   -- so where the rest is not zero it is bad in any case
-  pub rest-bad : all_zero (drop (100 * used) s) ≡ false → cache_formed own s ≡ Bad
+  pub rest-bad : all_zero (drop (100 * used) s) ≡ false → cache_formed own s ≡ None
   rest-bad z = go (any_own own (keys_of (rows 100 used s))) refl
     where
-      go : (b : Bool) → any_own own (keys_of (rows 100 used s)) ≡ b → cache_formed own s ≡ Bad
+      go : (b : Bool) → any_own own (keys_of (rows 100 used s)) ≡ b → cache_formed own s ≡ None
       go true e = own-bad e
-      go false e = free-by e ∙ ap (λ (b : Bool). cond b (Good used) Bad) z
+      go false e = free-by e ∙ ap (λ (b : Bool). cond b (Some used) None) z

@@ -7,6 +7,7 @@ use native.Mathlib.Omega.{arith}
 use lib.Dec.{ltb}
 use lib.ListN.{length, length-map}
 use borrow.Author.Tests.{not-false}
+use Rattle.std.specs.Prelude.{Ok, Err}
 use Rattle.key.specs.Number.{key_at}
 use Rattle.record.specs.Record.{key_of}
 use Rattle.refusal.proofs.CallLaws.{or_known}
@@ -17,6 +18,7 @@ use Rattle.kept.specs.Keys.{has}
 use Rattle.kept.proofs.TurnLaws.{among-le}
 use Rattle.search.specs.Halving.{halvings, digits}
 use Rattle.search.specs.Sought.{sought_in}
+use Rattle.search.proofs.SeekLaws.{sought-held, sought-none}
 use Rattle.search.specs.declared.Sought.{Sought}
 use Rattle.search.proofs.HalvingLaws.{at_most_digits, digits_le_lem, digits_256}
 use Rattle.cache.specs.declared.calls.Searched.{Searched}
@@ -27,19 +29,17 @@ use Rattle.cache.proofs.FormLaws.{true_form, form_laid}
 
 -- ---- by what the search tells
 
-module _ (k : ℕ) (ks : List ℕ) {q : Sought} (is : q ≡ sought_in k ks) where
-  pub told-held : q.held ≡ true → searched 0 (q.at + 1) q.compared ≡ searched 0 (place_among k ks) (halvings ks k)
+module _ (k : ℕ) (ks : List ℕ) {q : Sought} (is : q ≡ sought_in k ks) {at : ℕ} where
+  pub told-held : q.found ≡ Ok at → searched 0 (at + 1) q.compared ≡ searched 0 (place_among k ks) (halvings ks k)
   unfolding place_among
   told-held h =
-      let there : has k ks ≡ true = sym (ap (λ (s : Sought). s.held) is) ∙ h in
-      let next : q.at + 1 ≡ suc (count_under k ks) = omega (arith, ap (λ (s : Sought). s.at) is) in
-      rw there (ap₂ (searched 0) next (ap (λ (s : Sought). s.compared) is))
+      let there = sought-held k ks is h in
+      let next : at + 1 ≡ suc (count_under k ks) = omega (arith, there.1) in
+      rw there.0 (ap₂ (searched 0) next (ap (λ (s : Sought). s.compared) is))
 
-  pub told_none : q.held ≡ false → searched 0 0 q.compared ≡ searched 0 (place_among k ks) (halvings ks k)
+  pub told_none : q.found ≡ Err at → searched 0 0 q.compared ≡ searched 0 (place_among k ks) (halvings ks k)
   unfolding place_among
-  told_none h =
-      let out : has k ks ≡ false = sym (ap (λ (s : Sought). s.held) is) ∙ h in
-      rw out (ap (searched 0 0) (ap (λ (s : Sought). s.compared) is))
+  told_none h = let out = sought-none k ks is h in rw out.0 (ap (searched 0 0) (ap (λ (s : Sought). s.compared) is))
 
 -- ---- how few
 

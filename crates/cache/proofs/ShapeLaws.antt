@@ -21,7 +21,7 @@ use Rattle.own.proofs.LowLaws.{low_first, low_next}
 use Rattle.table.specs.Rows.{rows}
 use Rattle.table.proofs.RowLaws.{rows_next, rows_end}
 use Rattle.search.proofs.SeekLaws.{first-less}
-use Rattle.cache.specs.declared.shape.Formed.TheVariants.{Bad, Good}
+use Rattle.std.specs.Prelude.{Some, None}
 use Rattle.cache.specs.Form.{Form, follows, leading, held_in, held_of, cache_form, places_in}
 use Rattle.cache.specs.Place.{cache_formed, Carried}
 use Rattle.cache.proofs.FormLaws.{key_of-row, true_form}
@@ -77,27 +77,27 @@ module _ (good : List ℕ → Bool) (own : Own) (n : ℕ) (s : List ℕ) (i : �
 -- ---- the answer
 
 module _ (own : Own) (s : List ℕ) where
-  pub not-whole : (length s % 100 ≡ 0 → ⊥) → cache_formed own s ≡ Bad
+  pub not-whole : (length s % 100 ≡ 0 → ⊥) → cache_formed own s ≡ None
   unfolding cache_formed cache_form
   not-whole d = rw (ne_eqb (length s % 100) 0 d) refl
 
   module _ (whole : length s % 100 ≡ 0) where
-    pub too_small : length s < 1000 → cache_formed own s ≡ Bad
+    pub too_small : length s < 1000 → cache_formed own s ≡ None
     unfolding cache_formed cache_form
     too_small h = rw (eq-eqb (length s % 100) 0 whole, lt-leb 1000 (length s) h) refl
 
     module _ (least : 1000 ≤ length s) where
-      pub too_large : 25600 < length s → cache_formed own s ≡ Bad
+      pub too_large : 25600 < length s → cache_formed own s ≡ None
       unfolding cache_formed cache_form
       too_large h = rw (eq-eqb (length s % 100) 0 whole, le-leb 1000 (length s) least, lt-leb (length s) 25600 h) refl
 
-      pub too_few : length s ≤ 25600 → length s < 1000 * length own → cache_formed own s ≡ Bad
+      pub too_few : length s ≤ 25600 → length s < 1000 * length own → cache_formed own s ≡ None
       unfolding cache_formed cache_form
       too_few m h =
           rw (eq-eqb (length s % 100) 0 whole, le-leb 1000 (length s) least, le-leb (length s) 25600 m, lt-leb (1000 * length own) (length s) h) refl
 
       pub by-rest : (used : ℕ) (b : Bool) → length s ≤ 25600 → 1000 * length own ≤ length s → used ≡ leading record_form own 0 (rows 100 (places_in (length s)) s)
-          → b ≡ all_zero (drop (100 * used) s) → cache_formed own s ≡ cond b (Good used) Bad
+          → b ≡ all_zero (drop (100 * used) s) → cache_formed own s ≡ cond b (Some used) None
       unfolding cache_formed cache_form held_in
       by-rest used b most enough is z =
           rw (
@@ -109,26 +109,26 @@ module _ (own : Own) (s : List ℕ) where
             is,
           ) refl
 
-  tells : (b : Bool) (n m : ℕ) → cond b (Good n) Bad ≡ Good m → (b ≡ true) × (n ≡ m)
+  tells : (b : Bool) (n m : ℕ) → cond b (Some n) None ≡ Some m → (b ≡ true) × (n ≡ m)
   tells true n m e = (refl, cc)
   tells false n m e = let z : ◌≡◌ {A = ℕ} 0 1 = cc in absurd (omega arith)
 
-  tells-bad : (b : Bool) (n : ℕ) → cond b (Good n) Bad ≡ Bad → b ≡ false
+  tells-bad : (b : Bool) (n : ℕ) → cond b (Some n) None ≡ None → b ≡ false
   tells-bad true n e = let z : ◌≡◌ {A = ℕ} 0 1 = cc in absurd (omega arith)
   tells-bad false n e = refl
 
   -- what it tells
-  pub good-is : {used : ℕ} → cache_formed own s ≡ Good used → (cache_form own s ≡ true) × (held_in own s ≡ used)
+  pub good-is : {used : ℕ} → cache_formed own s ≡ Some used → (cache_form own s ≡ true) × (held_in own s ≡ used)
   unfolding cache_formed
   good-is {used} e = tells (cache_form own s) (held_in own s) used e
 
-  pub bad-is : cache_formed own s ≡ Bad → cache_form own s ≡ false
+  pub bad-is : cache_formed own s ≡ None → cache_form own s ≡ false
   unfolding cache_formed
   bad-is e = tells-bad (cache_form own s) (held_in own s) e
 
-  pub good-held : {used : ℕ} → cache_formed own s ≡ Good used → held_of own s ≡ rows 100 used s
+  pub good-held : {used : ℕ} → cache_formed own s ≡ Some used → held_of own s ≡ rows 100 used s
   unfolding held_of
   good-held e = ap (λ (n : ℕ). rows 100 n s) (good-is e).1
 
-  pub good_form : {used : ℕ} → cache_formed own s ≡ Good used → Form own s (rows 100 used s)
+  pub good_form : {used : ℕ} → cache_formed own s ≡ Some used → Form own s (rows 100 used s)
   good_form e = rw (good-held e) at (true_form own s (good-is e).0)

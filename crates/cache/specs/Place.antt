@@ -1,18 +1,14 @@
--- Helps the code. Where a key stands among rising keys, or would; and the answers of the searches, by enum. Assumes nothing.
-use Rattle.std.specs.Prelude.{ℕ, zero, suc, ◌*◌, ◌≡◌, Bool, true, false, cond, ◌&&◌, ◌||◌, List, [], ◌∷◌, leb, ltb, eqb}
+-- Helps the code. Where a key stands among rising keys, or would; and the answers of the searches. Assumes nothing.
+use Rattle.std.specs.Prelude.{ℕ, zero, suc, ◌*◌, ◌≡◌, Bool, true, false, cond, ◌&&◌, ◌||◌, List, [], ◌∷◌, leb, ltb, eqb, Option, Some, None, Result, Ok, Err}
 use Rattle.octet.specs.Number.{value_be}
 use Rattle.octet.specs.Part.{part}
 use Rattle.record.specs.Record.{key_of, record_form}
 use Rattle.own.specs.Own.{Own, is_own}
 use Rattle.cache.specs.Form.{held_in, cache_form}
-use Rattle.cache.specs.declared.shape.Formed.{Formed}
-use Rattle.cache.specs.declared.shape.Formed.TheVariants.{Bad, Good}
-use Rattle.cache.specs.declared.place.Found.{Found}
-use Rattle.cache.specs.declared.place.Found.TheVariants.{At, Before}
 
 -- the test of the form, with how many records are held
-unfoldable pub cache_formed : Own → List ℕ → Formed
-cache_formed own cache = cond (cache_form own cache) (Good (held_in own cache)) Bad
+unfoldable pub cache_formed : Own → List ℕ → Option ℕ
+cache_formed own cache = cond (cache_form own cache) (Some (held_in own cache)) None
 
 -- is the row r a record whose key is at least low, whosever it is?
 unfoldable pub rises : ℕ → List ℕ → Bool
@@ -34,16 +30,11 @@ Carried cache zero last = Unit {0}
 Carried cache (suc i) last = last ≡ value_be 256 (part (100 * i) 8 cache)
 
 -- one place further
-abbrev pub further : Found → Found
-further (At i) = At (suc i)
-further (Before i) = Before (suc i)
+abbrev pub further : Result ℕ ℕ → Result ℕ ℕ
+further (Ok i) = Ok (suc i)
+further (Err i) = Err (suc i)
 
 -- at the place of k, or before that of the first key above it
-unfoldable pub find_key : ℕ → List ℕ → Found
-find_key k [] = Before 0
-find_key k (j ∷ ks) = cond (ltb j k) (further (find_key k ks)) (cond (eqb j k) (At 0) (Before 0))
-
--- does it stand there?
-abbrev pub is_found : Found → Bool
-is_found (At i) = true
-is_found (Before i) = false
+unfoldable pub find_key : ℕ → List ℕ → Result ℕ ℕ
+find_key k [] = Err 0
+find_key k (j ∷ ks) = cond (ltb j k) (further (find_key k ks)) (cond (eqb j k) (Ok 0) (Err 0))

@@ -4,10 +4,9 @@ ghost use Rattle.own.specs.Own.{own_form, own_keys};
 ghost use Rattle.cache.specs.Place.{cache_formed};
 ghost use Rattle.cache.specs.Calls.{cache_changed, learn_call, remove_call};
 ghost use Rattle.cache.specs.Searching.{search_call};
-ghost use Rattle.cache.specs.declared.shape.Formed.TheVariants.{Bad};
 
 use crate::learning::{learn, remove};
-use crate::shape::{Formed, form};
+use crate::shape::form;
 
 // The number that a search is answered with; 0 where the key is not held, else one more than its place; how many keys were
 // compared.
@@ -18,13 +17,13 @@ pub struct Searched {
     pub compared: usize,
 }
 
-// Are our own records and the cache in form, and how many records are held?
-pub fn memory(own: &[u8], cache: &[u8]) -> Formed
+// How many records are held, where our own records and the cache are in form.
+pub fn memory(own: &[u8], cache: &[u8]) -> Option<usize>
     ensures { result
-        ≡ cond (own_form own.now) (cache_formed (own_keys own.now) cache.now) Bad }
+        ≡ cond (own_form own.now) (cache_formed (own_keys own.now) cache.now) None }
 {
     if !own::own_form(own) {
-        return Formed::Bad;
+        return None;
     }
     form(own, cache)
 }
@@ -34,8 +33,7 @@ pub fn learn_record(own: &[u8], cache: &mut [u8], record: &[u8]) -> u32
     ensures { cache_changed result cache.new
         ≡ learn_call own.now cache.old «record».now }
 {
-    let found = memory(own, cache);
-    let Formed::Good(used) = found else {
+    let Some(used) = memory(own, cache) else {
         return refusal::MEMORY;
     };
     if !record::is_record(record) {
@@ -53,8 +51,7 @@ pub fn remove_key(own: &[u8], cache: &mut [u8], key: &[u8]) -> u32
     ensures { cache_changed result cache.new
         ≡ remove_call own.now cache.old key.now }
 {
-    let found = memory(own, cache);
-    let Formed::Good(used) = found else {
+    let Some(used) = memory(own, cache) else {
         return refusal::MEMORY;
     };
     if key.len() != 32 {
@@ -68,8 +65,7 @@ pub fn remove_key(own: &[u8], cache: &mut [u8], key: &[u8]) -> u32
 pub fn search_key(own: &[u8], cache: &[u8], key: &[u8]) -> Searched
     ensures { result ≡ search_call own.now cache.now key.now }
 {
-    let found = memory(own, cache);
-    let Formed::Good(used) = found else {
+    let Some(used) = memory(own, cache) else {
         return Searched {
             number: refusal::MEMORY,
             place: 0,
@@ -84,17 +80,13 @@ pub fn search_key(own: &[u8], cache: &[u8], key: &[u8]) -> Searched
         };
     }
     let sought = search::find_key(cache, used, key);
-    if sought.held {
-        let place = sought.at + 1;
-        return Searched {
-            number: 0,
-            place,
-            compared: sought.compared,
-        };
-    }
+    let place = match sought.found {
+        Ok(at) => at + 1,
+        Err(_) => 0,
+    };
     Searched {
         number: 0,
-        place: 0,
+        place,
         compared: sought.compared,
     }
 }

@@ -9,9 +9,8 @@ ghost use Rattle.cache.specs.Form.{keys_of, Form};
 ghost use Rattle.cache.specs.Place.{find_key};
 ghost use Rattle.cache.specs.Bytes.{after_learn, after_remove};
 ghost use Rattle.cache.specs.Change.{changes, changes_of, learned, removed};
-ghost use Rattle.cache.specs.declared.place.Found.TheVariants.{Before};
 
-use crate::place::{Found, find};
+use crate::place::find;
 use key::Key;
 
 // What a change did to the keys held: did one join them, did one leave, and which? The key is 0 where none left.
@@ -51,7 +50,7 @@ fn learn_new(own: &[u8], cache: &mut [u8], used: usize, at: usize, record: &[u8]
     requires own_value { (own_form own.now ≡ true) × (record_form «record».now ≡ true) }
     requires form { Form (own_keys own.now) cache.old (rows 100 used cache.old) }
     requires not_own { NotOwn (own_keys own.now) (key_of «record».now) }
-    requires cache_value { find_key (key_of «record».now) (keys_of (rows 100 used cache.old)) ≡ Before at }
+    requires cache_value { find_key (key_of «record».now) (keys_of (rows 100 used cache.old)) ≡ Err at }
     ensures cache_after { cache.new ≡ bytes_of (length cache.old)
         (after_learn (own_keys own.now) (length cache.old)
         (rows 100 used cache.old) «record».now) }
@@ -99,13 +98,12 @@ pub fn learn(own: &[u8], cache: &mut [u8], used: usize, record: &[u8]) -> Change
     ensures result_value { changes_of result ≡ learned (own_keys own.now) (length cache.old)
         (rows 100 used cache.old) «record».now }
 {
-    let found = find(cache, used, record);
-    match found {
-        Found::At(i) => {
+    match find(cache, used, record) {
+        Ok(i) => {
             table::replace_row(cache, record::RECORD_LEN, used, i, record);
             unmoved()
         }
-        Found::Before(i) => learn_new(own, cache, used, i, record),
+        Err(i) => learn_new(own, cache, used, i, record),
     }
 }
 
@@ -117,8 +115,7 @@ pub fn remove(own: &[u8], cache: &mut [u8], used: usize, key: &[u8]) -> Change
         (after_remove (key_at 0 key.now) (rows 100 used cache.old)) }
     ensures result_value { changes_of result ≡ removed (key_at 0 key.now) (rows 100 used cache.old) }
 {
-    let found = find(cache, used, key);
-    let Found::At(i) = found else {
+    let Ok(i) = find(cache, used, key) else {
         return unmoved();
     };
     table::remove_row(cache, record::RECORD_LEN, used, i);

@@ -9,5 +9,5 @@ mod shape;
 
 pub use calls::{Searched, learn_record, memory, remove_key, search_key};
 pub use learning::{Change, learn, remove};
-pub use place::{Found, find};
-pub use shape::{Formed, form};
+pub use place::find;
+pub use shape::form;

@@ -6,23 +6,12 @@ ghost use Rattle.kept.specs.Keys.{Rising, plain};
 ghost use Rattle.cache.specs.Form.{keys_of};
 ghost use Rattle.cache.specs.Place.{find_key};
 
-// The place of a key, or that before which it would stand.
-#[derive(Clone, Copy)]
-pub enum Found {
-    At(usize),
-    Before(usize),
-}
-
-// Where the key, whose 32 bytes begin the slice, stands among the records held, or would.
-pub fn find(cache: &[u8], used: usize, key: &[u8]) -> Found
+// Where the key, whose 32 bytes begin the slice, stands among the records held, or before which place it would.
+pub fn find(cache: &[u8], used: usize, key: &[u8]) -> Result<usize, usize>
     requires used_in_bounds { 100 * used ≤ length cache.now }
     requires in_bounds { 32 ≤ length key.now }
     requires rising { Rising plain 0 (keys_of (rows 100 used cache.now)) }
     ensures { result ≡ find_key (key_at 0 key.now) (keys_of (rows 100 used cache.now)) }
 {
-    let sought = search::find_key(cache, used, key);
-    if sought.held {
-        return Found::At(sought.at);
-    }
-    Found::Before(sought.at)
+    search::find_key(cache, used, key).found
 }

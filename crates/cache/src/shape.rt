@@ -10,13 +10,6 @@ ghost use Rattle.kept.specs.Keys.{Rising, plain};
 ghost use Rattle.cache.specs.Form.{keys_of};
 ghost use Rattle.cache.specs.Place.{cache_formed, rises, ordered, any_own, Carried};
 
-// Whether the cache is in form, and then how many records it holds.
-#[derive(Clone, Copy)]
-pub enum Formed {
-    Bad,
-    Good(usize),
-}
-
 // Is the key at place i above the one before it, which begins with the same word? The other words say it.
 fn rest_above(cache: &[u8], i: usize) -> bool
     requires i_nonzero { (0 < i) × (100 * i + 100 ≤ length cache.now) }
@@ -25,14 +18,12 @@ fn rest_above(cache: &[u8], i: usize) -> bool
 {
     let before = record::RECORD_LEN * (i - 1);
     let at = record::RECORD_LEN * i;
-    let mut word = 1;
-    while word < 4 {
+    for word in 1..4 {
         let x = octet::read_u64(cache, before + 8 * word);
         let y = octet::read_u64(cache, at + 8 * word);
         if x != y {
             return x < y;
         }
-        word += 1;
     }
     false
 }
@@ -97,14 +88,12 @@ fn holds_own(own: &[u8], cache: &[u8], used: usize) -> bool
     ensures { result ≡ any_own (own_keys own.now) (keys_of (rows 100 used cache.now)) }
 {
     let n = own.len() / record::RECORD_LEN;
-    let mut i = 0;
-    while i < n {
+    for i in 0..n {
         let at = record::RECORD_LEN * i;
         let sought = search::find_key(cache, used, &own[at..at + record::RECORD_LEN]);
-        if sought.held {
+        if sought.found.is_ok() {
             return true;
         }
-        i += 1;
     }
     false
 }
@@ -120,30 +109,30 @@ fn rest_clear(cache: &[u8], end: usize) -> bool
     octet::is_zero(&cache[end..])
 }
 
-// The test of the form, under our own keys. C is at least ten times their number.
-pub fn form(own: &[u8], cache: &[u8]) -> Formed
+// How many records are held, where the cache is in form under our own keys. C is at least ten times their number.
+pub fn form(own: &[u8], cache: &[u8]) -> Option<usize>
     ensures { result ≡ cache_formed (own_keys own.now) cache.now }
 {
     let size = cache.len();
     if size % record::RECORD_LEN != 0 {
-        return Formed::Bad;
+        return None;
     }
     if size < 1000 {
-        return Formed::Bad;
+        return None;
     }
     if 25600 < size {
-        return Formed::Bad;
+        return None;
     }
     if size / 1000 < own::count(own) {
-        return Formed::Bad;
+        return None;
     }
     let used = count_held(cache);
     let end = record::RECORD_LEN * used;
     if !rest_clear(cache, end) {
-        return Formed::Bad;
+        return None;
     }
     if holds_own(own, cache, used) {
-        return Formed::Bad;
+        return None;
     }
-    Formed::Good(used)
+    Some(used)
 }

@@ -16,17 +16,14 @@ pub fn place_of(s: &[u8], n: usize, target: Key) -> usize
     ensures upper_bound { (result < n) × (result ≡ closest_place (number target) (rows 100 n s.now)) }
 {
     let mut best = 0;
-    let mut i = 1;
-    while i < n {
+    for i in 1..n {
         let near = key::key_at(s, record::RECORD_LEN * best);
         let other = key::key_at(s, record::RECORD_LEN * i);
         let far = ring::how_far(target, near);
         let away = ring::how_far(target, other);
         let closer = ring::is_closer(target, other, away, near, far);
-        let this = i;
-        i += 1;
         if closer {
-            best = this;
+            best = i;
         }
     }
     best

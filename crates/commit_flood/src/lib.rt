@@ -91,8 +91,7 @@ fn free_inquiry(waiting: &mut [u8], used: usize, key: &[u8])
     ensures { waiting.new ≡ bytes_of 2240 (freed_at (seek (is_inquiry (key_at 0 key.now)) 0
         (rows 140 used waiting.old)) (rows 140 used waiting.old)) }
 {
-    let found = waiting::find_inquiry(waiting, 0, used, key, 0);
-    if let table::Found::At(at) = found {
+    if let Some(at) = waiting::find_inquiry(waiting, 0, used, key, 0) {
         waiting::free(waiting, used, at);
     }
 }

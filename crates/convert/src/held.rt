@@ -9,7 +9,6 @@ ghost use Rattle.convert.specs.Old.{old_record_form};
 ghost use Rattle.convert.specs.Formed.{old_cache_formed};
 
 use crate::old::is_formed;
-use cache::Formed;
 
 // Has place i an old record that may stand after those before it?
 fn place_follows(own: &[u8], cache: &[u8], i: usize) -> bool
@@ -33,37 +32,32 @@ fn count_held(own: &[u8], cache: &[u8]) -> usize
         (rows 100 (length cache.now / 100) cache.now) }
 {
     let n = cache.len() / record::RECORD_LEN;
-    let mut i = 0;
-    while i < n {
+    for i in 0..n {
         if !place_follows(own, cache, i) {
             return i;
         }
-        i += 1;
     }
     n
 }
 
-// The test of the old form, under our own keys. C is at least ten times their number.
-pub(crate) fn form(own: &[u8], cache: &[u8]) -> Formed
+// How many records are held, where the cache is in the old form under our own keys. C is at least ten times their number.
+pub(crate) fn form(own: &[u8], cache: &[u8]) -> Option<usize>
     ensures { result ≡ old_cache_formed (own_keys own.now) cache.now }
 {
     let size = cache.len();
     if size % record::RECORD_LEN != 0 {
-        return Formed::Bad;
+        return None;
     }
     if size < 1000 {
-        return Formed::Bad;
+        return None;
     }
     if 25600 < size {
-        return Formed::Bad;
+        return None;
     }
     if size / 1000 < own::count(own) {
-        return Formed::Bad;
+        return None;
     }
     let used = count_held(own, cache);
     let end = record::RECORD_LEN * used;
-    if octet::is_zero(&cache[end..]) {
-        return Formed::Good(used);
-    }
-    Formed::Bad
+    octet::is_zero(&cache[end..]).then_some(used)
 }

@@ -18,12 +18,10 @@ pub fn convert(own: &[u8], cache: &mut [u8], waiting: &mut [u8]) -> u32
     if !ours::form(own) {
         return refusal::MEMORY;
     }
-    let records = held::form(own, cache);
-    let cache::Formed::Good(held) = records else {
+    let Some(held) = held::form(own, cache) else {
         return refusal::MEMORY;
     };
-    let places = used::form(own, waiting);
-    let waiting_form::Formed::Good(used) = places else {
+    let Some(used) = used::form(own, waiting) else {
         return refusal::MEMORY;
     };
     cut::cut_records(cache, held);

@@ -34,12 +34,10 @@ pub(crate) fn form(own: &[u8]) -> bool
         return false;
     }
     let n = size / record::RECORD_LEN;
-    let mut i = 0;
-    while i < n {
+    for i in 0..n {
         if !follows(own, i) {
             return false;
         }
-        i += 1;
     }
     true
 }

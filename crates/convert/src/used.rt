@@ -7,7 +7,6 @@ ghost use Rattle.convert.specs.Old.{old_record_form};
 ghost use Rattle.convert.specs.Formed.{old_waiting_formed};
 
 use crate::old::is_formed;
-use waiting_form::Formed;
 
 // Is a used place in the old form?
 fn place_formed(own: &[u8], place: &[u8]) -> bool
@@ -34,8 +33,7 @@ fn places_formed(own: &[u8], table: &[u8], used: usize) -> bool
         ≡ places_by old_record_form (own_keys own.now) 0 (rows 140 used table.now) }
 {
     let mut low: u64 = 0;
-    let mut at = 0;
-    while at < used {
+    for at in 0..used {
         let from = waiting::PLACE_LEN * at;
         let id = octet::read_u32_le(table, from) as u64;
         let formed = place_formed(own, &table[from..from + waiting::PLACE_LEN]);
@@ -44,23 +42,19 @@ fn places_formed(own: &[u8], table: &[u8], used: usize) -> bool
             return false;
         }
         low = id + 1;
-        at += 1;
     }
     true
 }
 
-// Is the table in the old form, for a gauge with these own records?
-pub(crate) fn form(own: &[u8], table: &[u8]) -> Formed
+// How many places are used, where the table is in the old form for a gauge with these own records.
+pub(crate) fn form(own: &[u8], table: &[u8]) -> Option<usize>
     ensures { result ≡ old_waiting_formed (own_keys own.now) table.now }
 {
     if table.len() != waiting::WAITING_LEN {
-        return Formed::Bad;
+        return None;
     }
     let used = waiting_form::count_used(table);
     let clear = octet::is_zero(&table[waiting::PLACE_LEN * used..waiting::WAITING_LEN]);
     let formed = places_formed(own, table, used);
-    if clear & formed {
-        return Formed::Good(used);
-    }
-    Formed::Bad
+    (clear & formed).then_some(used)
 }

@@ -33,10 +33,8 @@ pub fn cut_records(cache: &mut [u8], held: usize)
     ensures { cache.new
         ≡ bytes_of (length cache.old) (map converted (rows 100 held cache.old)) }
 {
-    let mut i = 0;
-    while i < held {
+    for i in 0..held {
         cut_record(cache, record::RECORD_LEN * i);
-        i += 1;
     }
 }
 
@@ -46,9 +44,7 @@ pub fn cut_places(table: &mut [u8], used: usize)
     ensures { table.new
         ≡ bytes_of (length table.old) (map converted_place (rows 140 used table.old)) }
 {
-    let mut i = 0;
-    while i < used {
+    for i in 0..used {
         cut_place(table, waiting::PLACE_LEN * i);
-        i += 1;
     }
 }

@@ -69,15 +69,11 @@ fn count_keys(cache: &[u8], used: usize, fresh: &mut [u8])
     ensures { fresh.new ≡ firsts_of (map key_of (rows 100 used cache.now)) }
 {
     let fours = used / 4;
-    let mut four = 0;
-    while four < fours {
+    for four in 0..fours {
         count_four(cache, 4 * four, fresh);
-        four += 1;
     }
-    let mut i = 4 * fours;
-    while i < used {
+    for i in 4 * fours..used {
         count_record(cache, i, fresh);
-        i += 1;
     }
 }
 

@@ -12,39 +12,37 @@ use Rattle.own.specs.Own.{Own, own_form, own_keys, own_records}
 use Rattle.table.specs.Rows.{rows, Laid}
 use Rattle.cache.specs.Form.{Form, keys_of, cache_form, held_in, held_of}
 use Rattle.cache.specs.Place as cached
-use Rattle.cache.specs.declared.shape.Formed.TheVariants as held-is
+use Rattle.std.specs.Prelude.{Option, Some, None}
 use Rattle.cache.proofs.ShapeLaws as shape
 use Rattle.cache.proofs.FormLaws.{true_form, form_laid}
 use Rattle.firsts.specs.Firsts.{firsts_of}
 use Rattle.waiting.specs.Form.{waiting_form, used_of}
 use Rattle.cpas.specs.Cpas.{cpas_form}
 use Rattle.waiting_form.specs.Formed as waited
-use Rattle.waiting_form.specs.declared.tested.Formed.TheVariants as used-is
 use Rattle.waiting.proofs.FormLaws as waits
 use Rattle.waiting_form.proofs.FormedLaws as tested
 use Rattle.gauge_plan.specs.Lent.{Memory, with_firsts, with_tables, Counted, InForm, Receive, hearing, Tick, ReceiveLent, TickLent}
-use Rattle.gauge_plan.specs.Memory.{tables_fit, memory_of, comes_fit, counts_fit, hands_fit, tick_fit}
-use Rattle.gauge_plan.specs.declared.memory.Fitness.{Fitness}
-use Rattle.gauge_plan.specs.declared.memory.Fitness.TheVariants.{Unfit, Fit}
+use Rattle.gauge_plan.specs.Memory.{tables_fit, fitness, memory_of, comes_fit, counts_fit, hands_fit, tick_fit}
+use Rattle.gauge_plan.specs.declared.memory.Fit.{Fit}
 
 -- ---- what the tests make of it
 
 module _ (own : List ℕ) (m : Memory) where
-  pub no_record : own_form own ≡ false → memory_of own m ≡ Unfit
+  pub no_record : own_form own ≡ false → memory_of own m ≡ None
   unfolding memory_of tables_fit
   no_record e = rw e refl
 
   module _ (well : own_form own ≡ true) where
-    pub no-cache : cached.cache_formed (own_keys own) m.cache ≡ held-is.Bad → memory_of own m ≡ Unfit
+    pub no-cache : cached.cache_formed (own_keys own) m.cache ≡ None → memory_of own m ≡ None
     unfolding memory_of tables_fit
     no-cache e = rw (well, shape.bad-is (own_keys own) m.cache e) refl
 
-    module _ {h : ℕ} (held : cached.cache_formed (own_keys own) m.cache ≡ held-is.Good h) where
-      pub no_table : waited.waiting_formed (own_keys own) m.waiting ≡ used-is.Bad → memory_of own m ≡ Unfit
+    module _ {h : ℕ} (held : cached.cache_formed (own_keys own) m.cache ≡ Some h) where
+      pub no_table : waited.waiting_formed (own_keys own) m.waiting ≡ None → memory_of own m ≡ None
       unfolding memory_of tables_fit
       no_table e = rw (well, (shape.good-is (own_keys own) m.cache held).0, tested.bad_form (own_keys own) m.waiting e) refl
 
-      pub all_fit : {u : ℕ} → waited.waiting_formed (own_keys own) m.waiting ≡ used-is.Good u → memory_of own m ≡ Fit h u
+      pub all_fit : {u : ℕ} → waited.waiting_formed (own_keys own) m.waiting ≡ Some u → memory_of own m ≡ fitness h u
       unfolding memory_of tables_fit
       all_fit e =
           let a = shape.good-is (own_keys own) m.cache held in
@@ -66,9 +64,9 @@ pub record Ready (own : List ℕ) (m : Memory) (h u : ℕ) : Type 0 where
   pub size : length m.waiting ≡ 2240
   pub laid : Laid 140 u m.waiting
 
-abbrev pub KnownMemory : List ℕ → Memory → Fitness → Type 0
-KnownMemory own m Unfit = tables_fit own m ≡ false
-KnownMemory own m (Fit h u) = Ready own m h u
+abbrev pub KnownMemory : List ℕ → Memory → Option Fit → Type 0
+KnownMemory own m None = tables_fit own m ≡ false
+KnownMemory own m (Some f) = Ready own m f.held f.used
 
 pub ready : (own : List ℕ) (m : Memory) → tables_fit own m ≡ true → Ready own m (held_in (own_keys own) m.cache) (used_of m.waiting)
 unfolding tables_fit held_of
@@ -90,7 +88,7 @@ ready own m e =
     }
 
 known_by : (own : List ℕ) (m : Memory) (b : Bool) → tables_fit own m ≡ b
-    → KnownMemory own m (cond b (Fit (held_in (own_keys own) m.cache) (used_of m.waiting)) Unfit)
+    → KnownMemory own m (cond b (fitness (held_in (own_keys own) m.cache) (used_of m.waiting)) None)
 known_by own m true e = ready own m e
 known_by own m false e = e
 

@@ -1,6 +1,6 @@
 -- Helps the code. Whether lent memory is as document 01 has it: "1: lent memory is not as above". It is tested whole, whatever the message needs. Tied to
 -- document 01 by `ours-meets` (sentences/Theorems). Assumes nothing.
-use Rattle.std.specs.Prelude.{ℕ, Bool, ◌&&◌, cond, List, eqb, length}
+use Rattle.std.specs.Prelude.{ℕ, Bool, ◌&&◌, cond, List, eqb, length, Option, Some, None}
 use Rattle.own.specs.Own.{own_form, own_keys, own_records}
 use Rattle.octet.specs.Part.{same}
 use Rattle.cache.specs.Form.{keys_of, cache_form, held_in, held_of}
@@ -8,16 +8,19 @@ use Rattle.firsts.specs.Firsts.{firsts_of}
 use Rattle.waiting.specs.Form.{waiting_form, used_of}
 use Rattle.cpas.specs.Cpas.{cpas_form}
 use Rattle.gauge_plan.specs.Lent.{Memory, Receive}
-use Rattle.gauge_plan.specs.declared.memory.Fitness.{Fitness}
-use Rattle.gauge_plan.specs.declared.memory.Fitness.TheVariants.{Unfit, Fit}
+use Rattle.gauge_plan.specs.declared.memory.Fit.{Fit}
 
 -- own records, cache and waiting table in form
 unfoldable pub tables_fit : List ℕ → Memory → Bool
 tables_fit own m = own_form own && cache_form (own_keys own) m.cache && waiting_form (own_keys own) m.waiting
 
+-- memory in form, in which so many records are held and so many places used
+abbrev pub fitness : ℕ → ℕ → Option Fit
+fitness held used = Some (record { held = held; used = used })
+
 -- and with it how many records are held and how many places are used
-unfoldable pub memory_of : List ℕ → Memory → Fitness
-memory_of own m = cond (tables_fit own m) (Fit (held_in (own_keys own) m.cache) (used_of m.waiting)) Unfit
+unfoldable pub memory_of : List ℕ → Memory → Option Fit
+memory_of own m = cond (tables_fit own m) (fitness (held_in (own_keys own) m.cache) (used_of m.waiting)) None
 
 -- what comes with a datagram: a CPA for each own record (02, Wish 11); "a 16-byte nonce .. (other lengths give 1)"; "A key handed in has 32 bytes, else 1"
 unfoldable pub comes_fit : Receive → Bool

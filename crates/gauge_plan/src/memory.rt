@@ -3,30 +3,24 @@ ghost use Rattle.std.specs.Prelude.{◌≡◌};
 ghost use Rattle.gauge_plan.specs.Lent.{Memory, with_tables, Receive, handing};
 ghost use Rattle.gauge_plan.specs.Memory.{memory_of, comes_fit};
 
-// How many records are held and how many places are used, where memory is in form.
+// What memory in form holds: so many records, and so many used places.
 #[derive(Clone, Copy)]
-pub enum Fitness {
-    Unfit,
-    Fit { held: usize, used: usize },
+pub struct Fit {
+    pub held: usize,
+    pub used: usize,
 }
 
-// Are own records, cache and waiting table in form? Memory that is not lent may be any.
-pub fn survey(own: &[u8], cache: &[u8], waiting: &[u8]) -> Fitness
+// What is held, where own records, cache and waiting table are in form. Memory that is not lent may be any.
+pub fn survey(own: &[u8], cache: &[u8], waiting: &[u8]) -> Option<Fit>
     ensures { (m : Memory) → result
         ≡ memory_of own.now (with_tables cache.now waiting.now m) }
 {
     if !own::own_form(own) {
-        return Fitness::Unfit;
+        return None;
     }
-    let held = cache::form(own, cache);
-    let cache::Formed::Good(held) = held else {
-        return Fitness::Unfit;
-    };
-    let used = waiting_form::form(own, waiting);
-    let waiting_form::Formed::Good(used) = used else {
-        return Fitness::Unfit;
-    };
-    Fitness::Fit { held, used }
+    let held = cache::form(own, cache)?;
+    let used = waiting_form::form(own, waiting)?;
+    Some(Fit { held, used })
 }
 
 // Is there a CPA for each own record, and have nonce and key the lengths that document 01 gives them? All else that a

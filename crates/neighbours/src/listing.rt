@@ -9,8 +9,6 @@ ghost use Rattle.cache.specs.Form.{keys_of};
 ghost use Rattle.neighbours.specs.Listing.{key_bytes, after_list, counts_of};
 ghost use Rattle.neighbours.specs.Calls.{list_written, list_call};
 
-use cache::Formed;
-
 // How many keys of each side are listed.
 #[derive(Clone, Copy)]
 pub struct Counts {
@@ -38,11 +36,9 @@ fn keys_down(cache: &[u8], used: usize, from: usize, n: usize, out: &mut [u8])
     ensures { out.new ≡ splice 0
         (key_bytes (take n (reverse (turned from (keys_of (rows 100 used cache.now)))))) out.old }
 {
-    let mut i = 0;
-    while i < n {
+    for i in 0..n {
         let start = record::RECORD_LEN * round::wrap(used, from + (used - (i + 1)));
         runs::copy_block::<32>(out, 32 * i, cache, start);
-        i += 1;
     }
 }
 
@@ -52,11 +48,9 @@ fn keys_up(cache: &[u8], used: usize, from: usize, n: usize, out: &mut [u8], at:
     ensures { out.new ≡ splice at
         (key_bytes (take n (turned from (keys_of (rows 100 used cache.now))))) out.old }
 {
-    let mut i = 0;
-    while i < n {
+    for i in 0..n {
         let start = record::RECORD_LEN * round::wrap(used, from + i);
         runs::copy_block::<32>(out, at + 32 * i, cache, start);
-        i += 1;
     }
 }
 
@@ -85,8 +79,7 @@ pub fn neighbour_list(own: &[u8], cache: &[u8], key: &[u8], out: &mut [u8]) -> L
     ensures { list_written result out.new
         ≡ list_call own.now cache.now key.now out.old }
 {
-    let found = cache::memory(own, cache);
-    let Formed::Good(used) = found else {
+    let Some(used) = cache::memory(own, cache) else {
         return Listed {
             number: refusal::MEMORY,
             below: 0,

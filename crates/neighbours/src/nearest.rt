@@ -11,7 +11,6 @@ ghost use Rattle.neighbours.specs.Closest.{candidates, off_path, closest_of};
 ghost use Rattle.neighbours.specs.Where.{skipped_up, skipped_down, record_at, nearest_of, Within};
 ghost use Rattle.neighbours.specs.Calls.{Inside, shown_by, closest_call, closest_compared};
 
-use cache::Formed;
 use key::Key;
 
 // Where a record stands: it is one of our own, or that of a place of the cache.
@@ -67,15 +66,13 @@ fn skipped_up(cache: &[u8], used: usize, at: usize, path: &[u8]) -> usize
         × Every (λ (q : List ℕ). record_form q ≡ true) (rows 100 used cache.now) }
     ensures { result ≡ skipped_up path.now cache.now used at }
 {
-    let mut i = 0;
-    while i < used {
+    for i in 0..used {
         let start = record::RECORD_LEN * round::wrap(used, at + i);
         if !path::on_path(cache, start, path) {
             return i;
         }
-        i += 1;
     }
-    i
+    used
 }
 
 // The same from before the place down.
@@ -84,15 +81,13 @@ fn skipped_down(cache: &[u8], used: usize, at: usize, path: &[u8]) -> usize
         × Every (λ (q : List ℕ). record_form q ≡ true) (rows 100 used cache.now) }
     ensures { result ≡ skipped_down path.now cache.now used at }
 {
-    let mut i = 0;
-    while i < used {
+    for i in 0..used {
         let start = record::RECORD_LEN * round::wrap(used, at + (used - (i + 1)));
         if !path::on_path(cache, start, path) {
             return i;
         }
-        i += 1;
     }
-    i
+    used
 }
 
 // Where the closest record stands, those on the path left out. `at` is the target's place among all that are held. Of our
@@ -161,8 +156,7 @@ pub fn closest_record(own: &[u8], cache: &[u8], path: &[u8], target: &[u8]) -> S
     ensures compared_value { result.compared
         ≡ closest_compared own.now cache.now path.now target.now }
 {
-    let found = cache::memory(own, cache);
-    let Formed::Good(used) = found else {
+    let Some(used) = cache::memory(own, cache) else {
         return Sighted {
             nearest: Nearest::Refused(refusal::MEMORY),
             compared: 0,
@@ -181,7 +175,10 @@ pub fn closest_record(own: &[u8], cache: &[u8], path: &[u8], target: &[u8]) -> S
         };
     }
     let sought = search::find_key(cache, used, target);
-    match place_of_closest(own, cache, used, sought.at, path, target) {
+    let at = match sought.found {
+        Ok(at) | Err(at) => at,
+    };
+    match place_of_closest(own, cache, used, at, path, target) {
         Where::Own(i) => Sighted {
             nearest: Nearest::Own(i),
             compared: sought.compared,

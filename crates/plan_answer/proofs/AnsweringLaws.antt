@@ -24,8 +24,7 @@ use Rattle.neighbours.specs.Closest.{candidates, off_path, closest_of}
 use Rattle.waiting.specs.Place.{id_of, kind_of, place_key}
 use Rattle.table.specs.Seek.{seek}
 use Rattle.waiting.specs.Seek.{is_at, has_id}
-use Rattle.table.specs.declared.Found.{Found}
-use Rattle.table.specs.declared.Found.TheVariants.{At, Nothing}
+use Rattle.std.specs.Prelude.{Option, Some, None}
 use Rattle.waiting.proofs.PlaceLaws.{key-at}
 use Rattle.table.proofs.SeekLaws.{found_within, found_passes}
 use Rattle.gauge_plan.specs.Found.{is_nothing, place_of}
@@ -40,7 +39,7 @@ use Rattle.gauge_plan.specs.declared.Plan.TheVariants.{Refuse, Flood, Revoke, Le
 
 -- ---- the place found
 
-module _ (test : List ℕ → Bool) (used i : ℕ) (t : List ℕ) (e : seek test 0 (rows 140 used t) ≡ At i) where
+module _ (test : List ℕ → Bool) (used i : ℕ) (t : List ℕ) (e : seek test 0 (rows 140 used t) ≡ Some i) where
   pub place_within : i < used
   place_within = omega (arith, found_within test i (rows 140 used t) e, rows-length 140 used t)
 
@@ -50,11 +49,11 @@ module _ (test : List ℕ → Bool) (used i : ℕ) (t : List ℕ) (e : seek test
 -- ---- each plan by the tests that the code makes
 
 module _ (ps : List (List ℕ)) (held used verdict k acked : ℕ) (cpa : Bool) where
-  pub authority-none : seek (is_at acked 2) 0 ps ≡ Nothing → authority_plan ps held used verdict k acked cpa ≡ Refuse 8
+  pub authority-none : seek (is_at acked 2) 0 ps ≡ None → authority_plan ps held used verdict k acked cpa ≡ Refuse 8
   unfolding authority_plan or_refuse
   authority-none e = rw e refl
 
-  module _ {i : ℕ} (e : seek (is_at acked 2) 0 ps ≡ At i) where
+  module _ {i : ℕ} (e : seek (is_at acked 2) 0 ps ≡ Some i) where
     pub authority-bare : not cpa ≡ true → authority_plan ps held used verdict k acked cpa ≡ Refuse 9
     unfolding authority_plan or_refuse
     authority-bare b = rw (e, b) refl
@@ -74,11 +73,11 @@ module _ (ps : List (List ℕ)) (held used verdict k acked : ℕ) (cpa : Bool) w
         authority-right d = rw (e, has, eq-eqb verdict 1 good, is, d) refl
 
 module _ (ps : List (List ℕ)) (held used acked : ℕ) (n : Bool) where
-  pub ack-none : seek (is_at acked 1) 0 ps ≡ Nothing → ack_plan ps held used acked n ≡ Refuse 8
+  pub ack-none : seek (is_at acked 1) 0 ps ≡ None → ack_plan ps held used acked n ≡ Refuse 8
   unfolding ack_plan or_refuse
   ack-none e = rw e refl
 
-  pub ack-by : {i : ℕ} → seek (is_at acked 1) 0 ps ≡ At i → ack_plan ps held used acked n ≡ Free held used i n
+  pub ack-by : {i : ℕ} → seek (is_at acked 1) 0 ps ≡ Some i → ack_plan ps held used acked n ≡ Free held used i n
   unfolding ack_plan or_refuse
   ack-by e = rw e refl
 
@@ -121,12 +120,12 @@ neither false good e = let z : ◌≡◌ {A = ℕ} 0 1 = cc in absurd (omega ari
 
 -- the place with the acked ID and the kind
 pub record Waits (id kind at : ℕ) (ps : List (List ℕ)) : Type 0 where
-  pub found : seek (is_at id kind) 0 ps ≡ At at
+  pub found : seek (is_at id kind) 0 ps ≡ Some at
   pub within : at < length ps
   pub id-is : id_of (get_or ps at []) ≡ id
   pub kind-is : kind_of (get_or ps at []) ≡ kind
 
-pub waits : (id kind at : ℕ) (ps : List (List ℕ)) → seek (is_at id kind) 0 ps ≡ At at → Waits id kind at ps
+pub waits : (id kind at : ℕ) (ps : List (List ℕ)) → seek (is_at id kind) 0 ps ≡ Some at → Waits id kind at ps
 waits id kind at ps e =
     let p = get_or ps at [] in
     let b = both_true (eqb (id_of p) id) (eqb (kind_of p) kind) (found_passes (is_at id kind) at ps e) in

@@ -30,8 +30,7 @@ pub fn plan_authority(
     ensures { result ≡ authority_plan (rows 140 used waiting.now) held used verdict
         (key_at 0 key.now) acked cpa }
 {
-    let found = waiting::find(waiting, used, acked, waiting::INQUIRY);
-    let table::Found::At(at) = found else {
+    let Some(at) = waiting::find(waiting, used, acked, waiting::INQUIRY) else {
         return Plan::Refuse(refusal::STRAY);
     };
     if !cpa {
@@ -51,8 +50,7 @@ pub fn plan_ack(waiting: &[u8], held: usize, used: usize, acked: u32, n: bool) -
     requires { 140 * used ≤ length waiting.now }
     ensures { result ≡ ack_plan (rows 140 used waiting.now) held used acked n }
 {
-    let found = waiting::find(waiting, used, acked, waiting::FLOOD);
-    let table::Found::At(at) = found else {
+    let Some(at) = waiting::find(waiting, used, acked, waiting::FLOOD) else {
         return Plan::Refuse(refusal::STRAY);
     };
     Plan::Free { held, used, at, n }

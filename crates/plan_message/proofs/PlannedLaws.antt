@@ -24,7 +24,7 @@ use Rattle.firsts.specs.Firsts.{firsts_of}
 use Rattle.neighbours.specs.Closest.{closest_past}
 use Rattle.table.specs.Seek.{seek}
 use Rattle.waiting.specs.Seek.{is_at}
-use Rattle.table.specs.declared.Found.TheVariants.{At}
+use Rattle.std.specs.Prelude.{Option, Some, None}
 use Rattle.waiting.proofs.SeekLaws.{found-record, found-key, found-other}
 use Rattle.wire_fields.specs.declared.Part.{Part}
 use Rattle.wire_fields.specs.declared.Part.TheVariants.{Here, Absent}
@@ -35,7 +35,7 @@ use Rattle.wire_read.specs.declared.Incoming as T
 use Rattle.wire_read.specs.declared.Incoming.TheVariants as M
 use Rattle.look.specs.Seen.{size_of}
 use Rattle.gauge_plan.specs.Lent.{Memory, Receive}
-use Rattle.gauge_plan.specs.Memory.{memory_of, comes_fit, counts_fit, hands_fit}
+use Rattle.gauge_plan.specs.Memory.{fitness, memory_of, comes_fit, counts_fit, hands_fit}
 use Rattle.plan_flood.specs.Rooms.{ack_room}
 use Rattle.asking.specs.Asking.{inquire_room, must_ask, asks_for}
 use Rattle.asking.proofs.AskingLaws.{asks-tells}
@@ -45,8 +45,7 @@ use Rattle.gauge_plan.specs.Found.{place_of}
 use Rattle.plan_answer.specs.Answering.{authority_plan, ack_plan, inquire_plan, lookup_plan, authority_refusals, ack_refusals, inquire_refusals, lookup_refusals}
 use Rattle.gauge_plan.specs.declared.Plan.{Plan}
 use Rattle.gauge_plan.specs.declared.Plan.TheVariants.{Refuse, Flood, Revoke, Learn, Free, Certify, Show}
-use Rattle.gauge_plan.specs.declared.memory.Fitness.{Fitness}
-use Rattle.gauge_plan.specs.declared.memory.Fitness.TheVariants.{Unfit, Fit}
+use Rattle.gauge_plan.specs.declared.memory.Fit.{Fit}
 use Rattle.cpas.specs.Cpas.{cpas_form, cpa_of}
 use Rattle.gauge_plan.proofs.OwnLaws.{place_within}
 use Rattle.gauge_plan.proofs.MemoryLaws as memory
@@ -60,53 +59,53 @@ use Rattle.plan_message.proofs.BriefLaws.{entry-told, path-told}
 
 module _ (m : Memory) (l : Receive) where
   -- what is handed in is tested whatever the tables are
-  no-hands : comes_fit l ≡ false → (f : Fitness) → plan_in m l f ≡ Refuse 1
+  no-hands : comes_fit l ≡ false → (f : Option Fit) → plan_in m l f ≡ Refuse 1
   unfolding or_refuse hands_fit
-  no-hands e Unfit = refl
-  no-hands e (Fit h u) = rw e refl
+  no-hands e None = refl
+  no-hands e (Some f) = rw e refl
 
   pub plan-hands : comes_fit l ≡ false → receive_plan m l ≡ Refuse 1
   unfolding receive_plan
   plan-hands e = no-hands e (memory_of l.own m)
 
-  hands : comes_fit l ≡ true → (f : Fitness) → plan_in m l f ≡ plan_by m l f
+  hands : comes_fit l ≡ true → (f : Option Fit) → plan_in m l f ≡ plan_by m l f
   unfolding or_refuse hands_fit
-  hands e Unfit = refl
-  hands e (Fit h u) = rw e refl
+  hands e None = refl
+  hands e (Some f) = rw e refl
 
   pub plan-by : comes_fit l ≡ true → receive_plan m l ≡ plan_by m l (memory_of l.own m)
   unfolding receive_plan
   plan-by e = hands e (memory_of l.own m)
 
-  module _ {h u : ℕ} (fit : memory_of l.own m ≡ Fit h u) where
+  module _ {h u : ℕ} (fit : memory_of l.own m ≡ fitness h u) where
     pub plan-message : hands_fit m l ≡ true → receive_plan m l ≡ plan_for m l h u (R.read_in l.datagram l.major)
     unfolding receive_plan or_refuse
     plan-message e = rw (fit, e) refl
 
   -- the counts by first byte are tested where the tables are in form
   module _ (h u : ℕ) where
-    pub plan-uncounted : counts_fit l.own m ≡ false → plan_by m l (Fit h u) ≡ Refuse 1
+    pub plan-uncounted : counts_fit l.own m ≡ false → plan_by m l (fitness h u) ≡ Refuse 1
     unfolding or_refuse
     plan-uncounted e = rw e refl
 
-    pub plan-counted : counts_fit l.own m ≡ true → plan_by m l (Fit h u) ≡ plan_for m l h u (R.read_in l.datagram l.major)
+    pub plan-counted : counts_fit l.own m ≡ true → plan_by m l (fitness h u) ≡ plan_for m l h u (R.read_in l.datagram l.major)
     unfolding or_refuse
     plan-counted e = rw e refl
 
 -- what the plan of a message requires of memory
-pub message_needs : (own : List ℕ) (m : Memory) {h u : ℕ} → memory_of own m ≡ Fit h u
+pub message_needs : (own : List ℕ) (m : Memory) {h u : ℕ} → memory_of own m ≡ fitness h u
     → (own_form own ≡ true) × Form (own_keys own) m.cache (rows 100 h m.cache) × (140 * u ≤ length m.waiting)
 message_needs own m fit =
     let r = subst (memory.KnownMemory own m) fit (memory.known_memory own m) in
     (r.owned, r.form, r.laid.room)
 
 -- and what the test of the counts requires, and gives
-pub counts_need : (own : List ℕ) (m : Memory) {h u : ℕ} → memory_of own m ≡ Fit h u → (100 * h ≤ length m.cache) × (h ≤ 256)
+pub counts_need : (own : List ℕ) (m : Memory) {h u : ℕ} → memory_of own m ≡ fitness h u → (100 * h ≤ length m.cache) × (h ≤ 256)
 counts_need own m fit =
     let r = subst (memory.KnownMemory own m) fit (memory.known_memory own m) in
     (r.room, omega (arith, r.room, r.form.places.most))
 
-pub counts_by : (own : List ℕ) (m : Memory) {h u : ℕ} → memory_of own m ≡ Fit h u
+pub counts_by : (own : List ℕ) (m : Memory) {h u : ℕ} → memory_of own m ≡ fitness h u
     → counts_fit own m ≡ same m.firsts (firsts_of (keys_of (rows 100 h m.cache)))
 counts_by own m {h} {u} fit = memory.counts_held own m h u (subst (memory.KnownMemory own m) fit (memory.known_memory own m))
 
@@ -294,9 +293,11 @@ module _ (m : Memory) (l : Receive) (h u : ℕ) (ready : memory.Ready l.own m h 
       lookup_known x.head.id x.target (start_of x.path + 8) (size_of x.path - 8) (start_of x.entry) (size_of x.entry) w.0
       (omega (arith, path.0, path.1)) told.0 told.1
 
-memory_known : (m : Memory) (l : Receive) (f : Fitness) → memory.KnownMemory l.own m f → Known m l (plan_in m l f)
-memory_known m l Unfit w = tt
-memory_known m l (Fit h u) w =
+memory_known : (m : Memory) (l : Receive) (f : Option Fit) → memory.KnownMemory l.own m f → Known m l (plan_in m l f)
+memory_known m l None w = tt
+memory_known m l (Some found) w =
+    let h = found.held in
+    let u = found.used in
     let fit = hands_fit m l in
     or_known (Known m l) Refuse (when 1 (not fit) ∷ []) (plan_for m l h u (R.read_in l.datagram l.major))
     (λ i. tt)
@@ -347,7 +348,7 @@ module _ (m : Memory) (l : Receive) where
       let k : Learned m l h u at = known_by e in
       let t = m.waiting in
       let own = own_keys l.own in
-      let found = subst (λ (v : ℕ). seek (is_at k.acked 2) 0 (rows 140 v t) ≡ At at) k.ready.used k.plans.waiting.found in
+      let found = subst (λ (v : ℕ). seek (is_at k.acked 2) 0 (rows 140 v t) ≡ Some at) k.ready.used k.plans.waiting.found in
       let key : key_at (140 * at + 40) t ≡ key_at (140 * at + 8) t =
       sym (ap (value_be 256) (part-start (140 * at + 40) 100 32 t (omega arith))) ∙ found-key own t k.ready.tabled k.acked at found in (
         k.ready.owned,

@@ -1,6 +1,6 @@
 -- Helps the code. What is planned for a datagram received: memory and what is handed in are tested, then the message that it holds is planned. Nothing is done
 -- before the last refusal is decided. Tied to document 01 by `ours-meets` (sentences/Theorems). Assumes nothing.
-use Rattle.std.specs.Prelude.{ℕ, ◌+◌, ◌-◌, Bool, not, [], ◌∷◌, length}
+use Rattle.std.specs.Prelude.{ℕ, ◌+◌, ◌-◌, Bool, not, [], ◌∷◌, length, Option, Some, None}
 use Rattle.key.specs.Number.{key_at}
 use Rattle.own.specs.Own.{own_keys}
 use Rattle.refusal.specs.Table.{when, or_refuse}
@@ -16,8 +16,7 @@ use Rattle.look.specs.Seen.{size_of}
 use Rattle.gauge_plan.specs.declared.Plan.{Plan}
 use Rattle.gauge_plan.specs.declared.Plan.TheVariants.{Refuse}
 use Rattle.gauge_plan.specs.Lent.{Memory, Receive}
-use Rattle.gauge_plan.specs.declared.memory.Fitness.{Fitness}
-use Rattle.gauge_plan.specs.declared.memory.Fitness.TheVariants.{Unfit, Fit}
+use Rattle.gauge_plan.specs.declared.memory.Fit.{Fit}
 use Rattle.gauge_plan.specs.Memory.{memory_of, counts_fit, hands_fit}
 use Rattle.plan_flood.specs.Flood.{flood_plan, revoke_plan}
 use Rattle.plan_answer.specs.Answering.{authority_plan, ack_plan, inquire_plan, lookup_plan}
@@ -46,13 +45,13 @@ plan_for m l held used (M.Lookup x) =
     (start_of x.path + 8) (size_of x.path - 8) (start_of x.entry) (size_of x.entry)
 
 -- where what comes with it is as it should be: the counts by first byte are tested once it is known how many records are held
-abbrev pub plan_by : Memory → Receive → Fitness → Plan
-plan_by m l Unfit = Refuse 1
-plan_by m l (Fit held used) = or_refuse Refuse (when 1 (not (counts_fit l.own m)) ∷ []) (plan_for m l held used (R.read_in l.datagram l.major))
+abbrev pub plan_by : Memory → Receive → Option Fit → Plan
+plan_by m l None = Refuse 1
+plan_by m l (Some f) = or_refuse Refuse (when 1 (not (counts_fit l.own m)) ∷ []) (plan_for m l f.held f.used (R.read_in l.datagram l.major))
 
-abbrev pub plan_in : Memory → Receive → Fitness → Plan
-plan_in m l Unfit = Refuse 1
-plan_in m l (Fit held used) = or_refuse Refuse (when 1 (not (hands_fit m l)) ∷ []) (plan_for m l held used (R.read_in l.datagram l.major))
+abbrev pub plan_in : Memory → Receive → Option Fit → Plan
+plan_in m l None = Refuse 1
+plan_in m l (Some f) = or_refuse Refuse (when 1 (not (hands_fit m l)) ∷ []) (plan_for m l f.held f.used (R.read_in l.datagram l.major))
 
 unfoldable pub receive_plan : Memory → Receive → Plan
 receive_plan m l = plan_in m l (memory_of l.own m)

@@ -11,7 +11,7 @@ ghost use Rattle.gauge_plan.specs.Lent.{Memory, with_firsts, with_tables, Receiv
 ghost use Rattle.gauge_plan.specs.Memory.{memory_of};
 ghost use Rattle.plan_message.specs.Planned.{plan_for, plan_by};
 
-use gauge_plan::{Fitness, Plan};
+use gauge_plan::{Fit, Plan};
 
 // The plan for the message that the datagram holds, where memory is in form. Nothing else that it comes with counts, nor
 // memory that is not lent.
@@ -120,8 +120,7 @@ pub fn plan_receive<'a>(
         (memory_of own.now
         (with_tables cache.now waiting.now (with_firsts firsts.now m))) }
 {
-    let memory = gauge_plan::survey(own, cache, waiting);
-    let Fitness::Fit { held, used } = memory else {
+    let Some(Fit { held, used }) = gauge_plan::survey(own, cache, waiting) else {
         return Plan::Refuse(refusal::MEMORY);
     };
     if !firsts::agree(cache, held, firsts) {

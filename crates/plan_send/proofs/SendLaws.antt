@@ -24,24 +24,21 @@ use Rattle.table.proofs.RowLaws.{rows-length, row_at}
 use Rattle.kept.specs.Keys.{Every, Rising, plain}
 use Rattle.cache.specs.Form.{Form, keys_of, held_in, held_of}
 use Rattle.cache.specs.Place.{further, find_key}
-use Rattle.cache.specs.declared.place.Found as C
-use Rattle.cache.specs.declared.place.Found.TheVariants.{At, Before}
+use Rattle.std.specs.Result.{result_ok}
+use Rattle.std.specs.Prelude.{Option, Some, None, Result, Ok, Err}
 use Rattle.cache.proofs.LentLaws.{not_is, not_isn't}
 use Rattle.waiting.specs.Form.{used_of}
 use Rattle.waiting.specs.Seek.{has_id}
 use Rattle.table.specs.Seek.{seek}
-use Rattle.table.specs.declared.Found.{Found}
-use Rattle.table.specs.declared.Found.TheVariants as W
 use Rattle.table.proofs.SeekLaws.{found_within, found_passes}
 use Rattle.gauge_plan.specs.Lent.{Memory}
-use Rattle.gauge_plan.specs.Memory.{tables_fit, memory_of}
+use Rattle.gauge_plan.specs.Memory.{fitness, tables_fit, memory_of}
 use Rattle.gauge_plan.specs.Found.{is_nothing, place_of}
 use Rattle.gauge_plan.specs.Opening.{open_rows}
 use Rattle.gauge_plan.proofs.OwnLaws.{place_within, record-room, record-formed}
 use Rattle.plan_send.specs.Send.{sent_at, keys_fit, held_at, record_sent, flood_room, send_table, send_done, send_refusals, sending_plan}
 use Rattle.plan_send.specs.declared.SendPlan.{SendPlan}
 use Rattle.plan_send.specs.declared.SendPlan.TheVariants.{Refuse, Flood}
-use Rattle.gauge_plan.specs.declared.memory.Fitness.TheVariants.{Unfit, Fit}
 use Rattle.gauge_plan.proofs.MemoryLaws.{Ready, KnownMemory, known_memory, ready}
 use Rattle.gauge_plan.proofs.FoundLaws.{some_found}
 use Rattle.gauge_plan.proofs.OpeningLaws.{open-refuses, open-passes}
@@ -52,16 +49,16 @@ abbrev has_key : ℕ → List ℕ → Bool
 has_key k r = eqb (key_of r) k
 
 -- the place found, in a list whose first is number n
-abbrev told : ℕ → C.Found → Found
-told n (At i) = W.At (n + i)
-told n (Before i) = W.Nothing
+abbrev told : ℕ → Result ℕ ℕ → Option ℕ
+told n (Ok i) = Some (n + i)
+told n (Err i) = None
 
-told-further : (n : ℕ) (f : C.Found) → told (n + 1) f ≡ told n (further f)
-told-further n (At i) = let e : n + 1 + i ≡ n + suc i = omega arith in ap W.At e
-told-further n (Before i) = refl
+told-further : (n : ℕ) (f : Result ℕ ℕ) → told (n + 1) f ≡ told n (further f)
+told-further n (Ok i) = let e : n + 1 + i ≡ n + suc i = omega arith in ap Some e
+told-further n (Err i) = refl
 
 -- a key below all of them
-find_low : (k low : ℕ) (ks : List ℕ) → k < low → Rising plain low ks → find_key k ks ≡ Before 0
+find_low : (k low : ℕ) (ks : List ℕ) → k < low → Rising plain low ks → find_key k ks ≡ Err 0
 unfolding find_key
 find_low k low [] h r = refl
 find_low k low (j ∷ ks) h r = rw (le-ltb j k (omega (arith, r.0)), ne_eqb j k (omega (arith, r.0))) refl
@@ -74,20 +71,21 @@ seek_find k low n (x ∷ xs) r = go (stand (key_of x) k) (seek_find k (suc (key_
     go : Stand (key_of x) k → seek (has_key k) (n + 1) xs ≡ told (n + 1) (find_key k (keys_of xs))
         → seek (has_key k) n (x ∷ xs) ≡ told n (find_key k (keys_of (x ∷ xs)))
     go (below h) ih = rw (ne_eqb (key_of x) k (omega arith), lt-ltb (key_of x) k h) (ih ∙ told-further n (find_key k (keys_of xs)))
-    go (equal h) ih = rw (le-ltb (key_of x) k (omega arith), eq-eqb (key_of x) k h) (ap W.At (sym (add-zero n)))
+    go (equal h) ih = rw (le-ltb (key_of x) k (omega arith), eq-eqb (key_of x) k h) (ap Some (sym (add-zero n)))
     go (above h) ih =
         rw (ne_eqb (key_of x) k (omega arith), le-ltb (key_of x) k (omega arith))
         (ih ∙ ap (told (n + 1)) (find_low k (suc (key_of x)) (keys_of xs) (omega arith) r.1))
 
-module _ (k : ℕ) (recs : List (List ℕ)) (rises : Rising plain 0 (keys_of recs)) {f : C.Found} (is : f ≡ find_key k (keys_of recs)) where
-  found-told : {g : C.Found} → f ≡ g → held_at k recs ≡ told 0 g
+ok-told : (f : Result ℕ ℕ) → result_ok f ≡ told 0 f
+ok-told (Ok i) = ap Some (sym (zero-add i))
+ok-told (Err i) = refl
+
+module _ (k : ℕ) (recs : List (List ℕ)) (rises : Rising plain 0 (keys_of recs)) {f : Result ℕ ℕ} (is : f ≡ find_key k (keys_of recs)) where
+  found-told : {g : Result ℕ ℕ} → f ≡ g → held_at k recs ≡ told 0 g
   found-told e = seek_find k 0 0 recs rises ∙ ap (told 0) (sym is ∙ e)
 
-  pub held_found : {i : ℕ} → f ≡ At i → held_at k recs ≡ W.At i
-  held_found {i} e = found-told e ∙ ap W.At (zero-add i)
-
-  pub held_none : {i : ℕ} → f ≡ Before i → held_at k recs ≡ W.Nothing
-  held_none e = found-told e
+  pub held-ok : result_ok f ≡ held_at k recs
+  held-ok = ok-told f ∙ sym (found-told refl)
 
 -- ---- the record sent
 
@@ -98,7 +96,7 @@ one_fails true b e h = let z : ◌≡◌ {A = ℕ} 0 1 = cc in absurd (omega ari
 -- where it is not ours it is held
 module _ (k held : ℕ) (cache : List ℕ) {ours missing : Bool} (m : missing ≡ is_nothing (held_at k (rows 100 held cache)))
     (some : not ours && missing ≡ false) (other : ours ≡ false) where
-  pub sent-held : held_at k (rows 100 held cache) ≡ W.At (place_of (held_at k (rows 100 held cache)))
+  pub sent-held : held_at k (rows 100 held cache) ≡ Some (place_of (held_at k (rows 100 held cache)))
   sent-held = some_found (held_at k (rows 100 held cache)) (sym m ∙ one_fails ours missing some other)
 
   pub sent-within : place_of (held_at k (rows 100 held cache)) < held
@@ -145,11 +143,11 @@ module _ (own cache : List ℕ) (recs ps : List (List ℕ)) (used id room neighb
         send-fits e = send-room ∙ row_passes Refuse 15 _ _ _ (le-ltb room (100 + 16 * count) e) ∙ no_row Refuse _
 
 module _ (own : List ℕ) (m : Memory) (id : ℕ) (neighbour key : List ℕ) (room : ℕ) where
-  pub send-unfit : memory_of own m ≡ Unfit → sending_plan own m id neighbour key room ≡ Refuse 1
+  pub send-unfit : memory_of own m ≡ None → sending_plan own m id neighbour key room ≡ Refuse 1
   unfolding sending_plan
   send-unfit e = row_applies Refuse 1 _ _ _ (not_isn't (subst (KnownMemory own m) e (known_memory own m)))
 
-  module _ {h u : ℕ} (fit : memory_of own m ≡ Fit h u) where
+  module _ {h u : ℕ} (fit : memory_of own m ≡ fitness h u) where
     pub send-ready : Ready own m h u
     send-ready = subst (KnownMemory own m) fit (known_memory own m)
 
@@ -219,7 +217,7 @@ own_room own recs k owned o =
 -- the record sent is in form and has the key
 module _ (own cache : List ℕ) (k held : ℕ) (owned : own_form own ≡ true) (form : Form (own_keys own) cache (rows 100 held cache)) where
   sent-formed : (ours : Bool) (at : ℕ) → ours ≡ is_own (own_keys own) k → (ours ≡ true → at ≡ own_place (own_keys own) k)
-      → (ours ≡ false → held_at k (rows 100 held cache) ≡ W.At at) → (record_form (record_sent own cache ours at) ≡ true) × (key_of (record_sent own cache ours at) ≡ k)
+      → (ours ≡ false → held_at k (rows 100 held cache) ≡ Some at) → (record_form (record_sent own cache ours at) ≡ true) × (key_of (record_sent own cache ours at) ≡ k)
   sent-formed true at is place found =
       let o = own_in (own_keys own) k (sym is) in
       let e : own_record own (own_place (own_keys own) k) ≡ own_record own at = ap (own_record own) (sym (place refl)) in
@@ -253,7 +251,7 @@ module _ (own : List ℕ) (m : Memory) (id : ℕ) (neighbour key : List ℕ) (ro
       let keys = both_true (eqb (length neighbour) 32) (eqb (length key) 32) (not-false (keys_fit neighbour key) f.1.0) in
       let rest = f.1.1.1 in
       let sent = sent-formed own m.cache k held fit.owned fit.form ours at refl (own_at own recs k)
-      (λ o. sent-held k held m.cache refl rest.0 o ∙ ap W.At (sym (other_at own recs k o))) in
+      (λ o. sent-held k held m.cache refl rest.0 o ∙ ap Some (sym (other_at own recs k o))) in
       record {
         ready = fit;
         addressed = eqb-true (length neighbour) 32 keys.0;

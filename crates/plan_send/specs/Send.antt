@@ -1,7 +1,7 @@
 -- Helps the code. A FLOOD to send: "12: .. a FLOOD to send whose neighbour is not held, or whose record is neither ours nor held"; "13: a place must be opened
 -- and its ID is waiting already"; "14: .. all 16 are used"; "15: output needs more bytes than lent". What is refused, and what is planned. Tied to document 01
 -- by `ours-meets` (sentences/Theorems). Assumes nothing.
-use Rattle.std.specs.Prelude.{ℕ, ◌+◌, ◌*◌, Bool, true, not, cond, ◌&&◌, List, [], ◌∷◌, ◌++◌, eqb, ltb, length}
+use Rattle.std.specs.Prelude.{ℕ, ◌+◌, ◌*◌, Bool, true, not, cond, ◌&&◌, List, [], ◌∷◌, ◌++◌, eqb, ltb, length, Option}
 use Rattle.octet.specs.Part.{part}
 use Rattle.key.specs.Number.{key_at}
 use Rattle.record.specs.Record.{key_of, count_of}
@@ -10,7 +10,6 @@ use Rattle.refusal.specs.Table.{Refusal, when, or_refuse}
 use Rattle.cache.specs.Form.{held_of}
 use Rattle.waiting.specs.Form.{used_of, places_of}
 use Rattle.table.specs.Seek.{seek}
-use Rattle.table.specs.declared.Found.{Found}
 use Rattle.gauge_plan.specs.Lent.{Memory}
 use Rattle.gauge_plan.specs.Memory.{tables_fit}
 use Rattle.gauge_plan.specs.Found.{is_nothing, place_of}
@@ -23,7 +22,7 @@ abbrev pub keys_fit : List ℕ → List ℕ → Bool
 keys_fit neighbour key = eqb (length neighbour) 32 && eqb (length key) 32
 
 -- where the record with a key stands among those held
-abbrev pub held_at : ℕ → List (List ℕ) → Found
+abbrev pub held_at : ℕ → List (List ℕ) → Option ℕ
 held_at k recs = seek (λ (r : List ℕ). eqb (key_of r) k) 0 recs
 
 -- where the record with a key stands: among our own, or among those held

@@ -10,11 +10,11 @@ ghost use Rattle.table.specs.Rows.{rows};
 ghost use Rattle.kept.specs.Keys.{Rising, plain};
 ghost use Rattle.cache.specs.Form.{Form, keys_of};
 ghost use Rattle.gauge_plan.specs.Lent.{Memory, with_tables};
-ghost use Rattle.gauge_plan.specs.Found.{is_nothing, place_of};
+ghost use Rattle.gauge_plan.specs.Found.{place_of};
 ghost use Rattle.plan_send.specs.Send.{held_at, record_sent, send_table, send_done, sending_plan};
 ghost use Rattle.plan_send.specs.declared.SendPlan.TheVariants as P;
 
-use gauge_plan::Fitness;
+use gauge_plan::Fit;
 
 // What is to be done with a FLOOD to send.
 #[derive(Clone, Copy)]
@@ -26,46 +26,23 @@ pub enum SendPlan {
 }
 
 // Where the record with a key stands among those held.
-fn held_at(cache: &[u8], held: usize, key: &[u8]) -> table::Found
+fn held_at(cache: &[u8], held: usize, key: &[u8]) -> Option<usize>
     requires { (100 * held ≤ length cache.now) × (32 ≤ length key.now)
         × Rising plain 0 (keys_of (rows 100 held cache.now)) }
     ensures { result ≡ held_at (key_at 0 key.now) (rows 100 held cache.now) }
 {
-    match cache::find(cache, held, key) {
-        cache::Found::At(at) => table::Found::At(at),
-        cache::Found::Before(_) => table::Found::Nothing,
-    }
-}
-
-// Is there no such record?
-fn is_nothing(found: table::Found) -> bool
-    ensures { result ≡ is_nothing found }
-{
-    match found {
-        table::Found::At(_) => false,
-        table::Found::Nothing => true,
-    }
-}
-
-// Its place; 0 where there is none.
-fn place_of(found: table::Found) -> usize
-    ensures { result ≡ place_of found }
-{
-    match found {
-        table::Found::At(at) => at,
-        table::Found::Nothing => 0,
-    }
+    cache::find(cache, held, key).ok()
 }
 
 // Where the record sent stands: that with our key, or the one found among those held.
-fn sent_at(own: &[u8], key: &[u8], ours: bool, found: table::Found) -> usize
+fn sent_at(own: &[u8], key: &[u8], ours: bool, found: Option<usize>) -> usize
     requires { (32 ≤ length key.now) × (ours ≡ is_own (own_keys own.now) (key_at 0 key.now)) }
     ensures { result ≡ cond ours (own_place (own_keys own.now) (key_at 0 key.now)) (place_of found) }
 {
     if ours {
         return own::place_of(own, key, 0);
     }
-    place_of(found)
+    found.unwrap_or(0)
 }
 
 // How many addresses the record sent has.
@@ -99,12 +76,12 @@ fn plan_flood_to(
         (send_done own.now (rows 100 held cache.now) used (key_at 0 key.now)) }
 {
     let to = held_at(cache, held, neighbour);
-    if is_nothing(to) {
+    if to.is_none() {
         return SendPlan::Refuse(refusal::NOT_OURS);
     }
     let ours = own::is_own(own, key, 0);
     let found = held_at(cache, held, key);
-    let missing = is_nothing(found);
+    let missing = found.is_none();
     if !ours & missing {
         return SendPlan::Refuse(refusal::NOT_OURS);
     }
@@ -135,8 +112,7 @@ pub fn plan_send(
         ≡ sending_plan own.now (with_tables cache.now waiting.now m) id
         neighbour.now key.now room }
 {
-    let memory = gauge_plan::survey(own, cache, waiting);
-    let Fitness::Fit { held, used } = memory else {
+    let Some(Fit { held, used }) = gauge_plan::survey(own, cache, waiting) else {
         return SendPlan::Refuse(refusal::MEMORY);
     };
     if !((neighbour.len() == 32) & (key.len() == 32)) {

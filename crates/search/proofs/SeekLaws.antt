@@ -1,6 +1,7 @@
 -- The search for a key by halving: all before one place are below it, all from another on above, and the keys compared with those that the rest
 -- will take are those that the whole takes. In this order: first words; rising keys by their places; the loop; what it tells. Assumes nothing.
 use mathlib.Core.Path.{◌≡◌, refl, sym, ap, ◌∙◌}
+use mathlib.Core.Logic.{◌⊎◌, inl, inr}
 use mathlib.Core.Bool.{Bool, true, false, ◌||◌}
 use mathlib.Core.List.{List, [], ◌∷◌, map}
 use Prim.Native.Nat.{ℕ, zero, suc, ◌+◌, ◌-◌, ◌*◌, ◌/◌, ◌≤◌, ◌<◌}
@@ -10,6 +11,7 @@ use lib.Dec.{eqb}
 use lib.ListN.{length, take, drop, get_or, length-map}
 use lib.Seq.{drop-drop, drop_at, take-take, take-length}
 use borrow.Author.Tests.{lt-ltb, le-ltb, eq-eqb, ne_eqb}
+use Rattle.std.specs.Prelude.{Ok, Err, is_ok}
 use Rattle.octet.specs.Number.{Digits, value_be}
 use Rattle.octet.specs.Part.{part}
 use Rattle.octet.proofs.PartLaws.{part_add, length_part, part_at}
@@ -21,8 +23,9 @@ use Rattle.table.specs.Rows.{rows}
 use Rattle.table.proofs.RowLaws.{rows-length}
 use Rattle.kept.specs.Keys.{Rising, plain, has, among}
 use Rattle.kept.specs.Turned.{count_under}
+use Rattle.search.specs.declared.Sought.{Sought}
 use Rattle.search.specs.Halving.{halvings}
-use Rattle.search.specs.Sought.{sought_in}
+use Rattle.search.specs.Sought.{stands, sought_in}
 use Rattle.search.proofs.HalvingLaws.{halvings-none, halvings-same, halvings-front, halvings-back}
 
 -- ---- first words
@@ -111,7 +114,7 @@ pub record Halved (k : ℕ) (ks : List ℕ) (low high compared : ℕ) : Type 0 w
   pub counted : compared + halvings (between ks low high) k ≡ halvings ks k
 
 told : (k : ℕ) (ks : List ℕ) {b : Bool} {i n : ℕ} → has k ks ≡ b → count_under k ks ≡ i → halvings ks k ≡ n
-    → sought_in k ks ≡ record { held = b; at = i; compared = n }
+    → sought_in k ks ≡ record { found = stands b i; compared = n }
 told k ks e f g = rw (e, f, g) refl
 
 module _ (k : ℕ) (ks : List ℕ) (rising : Rising plain 0 ks) where
@@ -197,7 +200,7 @@ module _ (k : ℕ) (ks : List ℕ) (rising : Rising plain 0 ks) where
 
     -- ---- what it tells
 
-    pub halved-same : get_or ks middle 0 ≡ k → sought_in k ks ≡ record { held = true; at = middle; compared = compared + 1 }
+    pub halved-same : get_or ks middle 0 ≡ k → sought_in k ks ≡ record { found = Ok middle; compared = compared + 1 }
     halved-same t =
         told k ks (has_at k ks middle (omega (arith, h.within)) t)
         (under_at k ks middle (omega (arith, h.within)) (λ j b. go j b) (λ j a b. from j (dec_lt middle j) a b))
@@ -211,7 +214,7 @@ module _ (k : ℕ) (ks : List ℕ) (rising : Rising plain 0 ks) where
         from j (no a) c b = let e : j ≡ middle = omega arith in omega (arith, t, ap (λ (n : ℕ). get_or ks n 0) e)
 
   pub halved-end : (low high compared : ℕ) → Halved k ks low high compared → high ≤ low
-      → sought_in k ks ≡ record { held = false; at = low; compared = compared }
+      → sought_in k ks ≡ record { found = Err low; compared = compared }
   halved-end low high compared h e =
       told k ks (has-none k ks (λ j l. other j (dec_lt j low) l))
       (under_at k ks low (omega (arith, h.within, h.lower)) h.below (λ j a b. omega (arith, h.above j (omega arith) b)))
@@ -223,3 +226,30 @@ module _ (k : ℕ) (ks : List ℕ) (rising : Rising plain 0 ks) where
       other : (j : ℕ) → Dec (j < low) → j < length ks → ¬ (get_or ks j 0 ≡ k)
       other j (yes b) l = λ q. omega (arith, q, h.below j b)
       other j (no b) l = λ q. omega (arith, q, h.above j (omega arith) l)
+
+-- ---- what was found
+
+-- whether it is one of them is whether a place was found
+pub is_ok-stands : (b : Bool) (i : ℕ) → is_ok (stands b i) ≡ b
+is_ok-stands true i = refl
+is_ok-stands false i = refl
+
+ok-stands : (b : Bool) (i : ℕ) {at : ℕ} → stands b i ≡ Ok at → (b ≡ true) × (at ≡ i)
+ok-stands true i e = (refl, cc)
+ok-stands false i e = let z : ◌≡◌ {A = ℕ} 0 1 = cc in absurd (omega arith)
+
+err-stands : (b : Bool) (i : ℕ) {at : ℕ} → stands b i ≡ Err at → (b ≡ false) × (at ≡ i)
+err-stands true i e = let z : ◌≡◌ {A = ℕ} 0 1 = cc in absurd (omega arith)
+err-stands false i e = (refl, cc)
+
+-- where a place was found the key is one of them, and where it was not it is none; so many are smaller
+module _ (k : ℕ) (ks : List ℕ) {q : Sought} (is : q ≡ sought_in k ks) {at : ℕ} where
+  pub sought-held : q.found ≡ Ok at → (has k ks ≡ true) × (at ≡ count_under k ks)
+  sought-held h = ok-stands (has k ks) (count_under k ks) (sym (ap (λ (s : Sought). s.found) is) ∙ h)
+
+  pub sought-none : q.found ≡ Err at → (has k ks ≡ false) × (at ≡ count_under k ks)
+  sought-none h = err-stands (has k ks) (count_under k ks) (sym (ap (λ (s : Sought). s.found) is) ∙ h)
+
+  pub sought-under : (q.found ≡ Ok at) ⊎ (q.found ≡ Err at) → at ≡ count_under k ks
+  sought-under (inl h) = (sought-held h).1
+  sought-under (inr h) = (sought-none h).1

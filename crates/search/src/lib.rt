@@ -12,11 +12,10 @@ ghost use Rattle.search.specs.Sought.{sought_in};
 
 use std::cmp::Ordering;
 
-// Whether a key is held; its place, or that before which it would stand; how many keys it was compared with.
+// The place of a key that is held, or that before which it would stand; how many keys it was compared with.
 #[derive(Clone, Copy)]
 pub struct Sought {
-    pub held: bool,
-    pub at: usize,
+    pub found: Result<usize, usize>,
     pub compared: usize,
 }
 
@@ -59,8 +58,7 @@ pub fn find_key(cache: &[u8], used: usize, key: &[u8]) -> Sought
             }
             Ordering::Equal => {
                 return Sought {
-                    held: true,
-                    at: middle,
+                    found: Ok(middle),
                     compared,
                 };
             }
@@ -70,8 +68,7 @@ pub fn find_key(cache: &[u8], used: usize, key: &[u8]) -> Sought
         }
     }
     Sought {
-        held: false,
-        at: low,
+        found: Err(low),
         compared,
     }
 }

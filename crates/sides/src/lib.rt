@@ -16,8 +16,9 @@ pub fn count_under(own: &[u8], cache: &[u8], used: usize) -> usize
     requires rising { Rising plain 0 (map key_of (rows 100 used cache.now)) }
     ensures { result ≡ count_under (key_of own.now) (map key_of (rows 100 used cache.now)) }
 {
-    let sought = search::find_key(cache, used, own);
-    sought.at
+    match search::find_key(cache, used, own).found {
+        Ok(under) | Err(under) => under,
+    }
 }
 
 // How many of the keys held are at most the key, whose 32 bytes begin the slice.
@@ -27,11 +28,10 @@ fn count_upto(cache: &[u8], used: usize, key: &[u8]) -> usize
     requires rising { Rising plain 0 (map key_of (rows 100 used cache.now)) }
     ensures { result ≡ count_upto (key_at 0 key.now) (map key_of (rows 100 used cache.now)) }
 {
-    let sought = search::find_key(cache, used, key);
-    if sought.held {
-        return sought.at + 1;
+    match search::find_key(cache, used, key).found {
+        Ok(under) => under + 1,
+        Err(under) => under,
     }
-    sought.at
 }
 
 // How many of the keys held are below our own, round the ring; `first` of them are smaller numbers. Those above our own

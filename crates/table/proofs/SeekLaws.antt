@@ -7,8 +7,7 @@ use Prim.Native.Nat.{ℕ, suc, ◌+◌, ◌*◌, ◌≤◌, ◌<◌}
 use native.Mathlib.Omega.{arith}
 use lib.ListN.{length, drop, get_or}
 use Rattle.octet.specs.Part.{part}
-use Rattle.table.specs.declared.Found.{Found}
-use Rattle.table.specs.declared.Found.TheVariants.{At, Nothing}
+use Rattle.std.specs.Prelude.{Option, Some, None, is_some}
 use Rattle.table.specs.Rows.{rows, any_of}
 use Rattle.table.specs.Seek.{seek}
 use Rattle.table.proofs.RowLaws.{rows_next, rows_end}
@@ -24,12 +23,12 @@ further : (test : List ℕ → Bool) (n i : ℕ) (p : List ℕ) (ps : List (List
 further test n i p ps (here j e l t) = here (suc j) (omega arith) (omega arith) t
 
 found_by : (test : List ℕ → Bool) (n i : ℕ) (p : List ℕ) (ps : List (List ℕ)) (b : Bool) → test p ≡ b
-    → (seek test (n + 1) ps ≡ At i → Here test (n + 1) i ps) → cond b (At n) (seek test (n + 1) ps) ≡ At i → Here test n i (p ∷ ps)
+    → (seek test (n + 1) ps ≡ Some i → Here test (n + 1) i ps) → cond b (Some n) (seek test (n + 1) ps) ≡ Some i → Here test n i (p ∷ ps)
 found_by test n i p ps true t later e = let is : n ≡ i = cc in here 0 (omega arith) (omega arith) t
 found_by test n i p ps false t later e = further test n i p ps (later e)
 
 -- where the found row is, and that it passes the test
-pub seek_is : (test : List ℕ → Bool) (n i : ℕ) (ps : List (List ℕ)) → seek test n ps ≡ At i → Here test n i ps
+pub seek_is : (test : List ℕ → Bool) (n i : ℕ) (ps : List (List ℕ)) → seek test n ps ≡ Some i → Here test n i ps
 unfolding seek
 seek_is test n i [] e = let z : ◌≡◌ {A = ℕ} 0 1 = cc in absurd (omega arith)
 seek_is test n i (p ∷ ps) e = found_by test n i p ps (test p) refl (seek_is test (n + 1) i ps) e
@@ -39,31 +38,27 @@ from_start test i ps (here j e l t) =
     let is : i ≡ j = omega arith in
     (omega arith, ap (λ (k : ℕ). test (get_or ps k [])) is ∙ t)
 
-pub found_within : (test : List ℕ → Bool) (i : ℕ) (ps : List (List ℕ)) → seek test 0 ps ≡ At i → i < length ps
+pub found_within : (test : List ℕ → Bool) (i : ℕ) (ps : List (List ℕ)) → seek test 0 ps ≡ Some i → i < length ps
 found_within test i ps e = (from_start test i ps (seek_is test 0 i ps e)).0
 
-pub found_passes : (test : List ℕ → Bool) (i : ℕ) (ps : List (List ℕ)) → seek test 0 ps ≡ At i → test (get_or ps i []) ≡ true
+pub found_passes : (test : List ℕ → Bool) (i : ℕ) (ps : List (List ℕ)) → seek test 0 ps ≡ Some i → test (get_or ps i []) ≡ true
 found_passes test i ps e = (from_start test i ps (seek_is test 0 i ps e)).1
 
 -- ---- whether one does
 
 -- whether one passes a test is whether it is found
-abbrev pub is_found : Found → Bool
-is_found (At n) = true
-is_found Nothing = false
+some_by : (b : Bool) (n : ℕ) (f : Option ℕ) (r : Bool) → r ≡ is_some f → (b || r) ≡ is_some (cond b (Some n) f)
+some_by true n f r e = refl
+some_by false n f r e = e
 
-is_found_by : (b : Bool) (n : ℕ) (f : Found) (r : Bool) → r ≡ is_found f → (b || r) ≡ is_found (cond b (At n) f)
-is_found_by true n f r e = refl
-is_found_by false n f r e = e
-
-pub any_found : (test : List ℕ → Bool) (n : ℕ) (ps : List (List ℕ)) → any_of test ps ≡ is_found (seek test n ps)
+pub any_found : (test : List ℕ → Bool) (n : ℕ) (ps : List (List ℕ)) → any_of test ps ≡ is_some (seek test n ps)
 unfolding any_of seek
 any_found test n [] = refl
-any_found test n (p ∷ ps) = is_found_by (test p) n (seek test (n + 1) ps) (any_of test ps) (any_found test (n + 1) ps)
+any_found test n (p ∷ ps) = some_by (test p) n (seek test (n + 1) ps) (any_of test ps) (any_found test (n + 1) ps)
 
 -- where none is found, none passes
-pub none_found : (test : List ℕ → Bool) (n : ℕ) (ps : List (List ℕ)) → seek test n ps ≡ Nothing → any_of test ps ≡ false
-none_found test n ps e = any_found test n ps ∙ ap is_found e
+pub none_found : (test : List ℕ → Bool) (n : ℕ) (ps : List (List ℕ)) → seek test n ps ≡ None → any_of test ps ≡ false
+none_found test n ps e = any_found test n ps ∙ ap is_some e
 
 -- ---- walks
 
@@ -87,7 +82,7 @@ module _ (w used : ℕ) (t : List ℕ) (at : ℕ) where
   module _ (test : List ℕ → Bool) where
     -- ---- the first that passes a test
 
-    pub seek-here : at < used → test row ≡ true → seek test at left ≡ At at
+    pub seek-here : at < used → test row ≡ true → seek test at left ≡ Some at
     unfolding seek
     seek-here h e = ap (seek test at) (next h) ∙ rw e refl
 
@@ -95,7 +90,7 @@ module _ (w used : ℕ) (t : List ℕ) (at : ℕ) where
     unfolding seek
     seek-on h e = ap (seek test at) (next h) ∙ rw e refl
 
-    pub seek-end : used ≤ at → seek test at left ≡ Nothing
+    pub seek-end : used ≤ at → seek test at left ≡ None
     unfolding seek
     seek-end h = ap (seek test at) (none h)
 

@@ -1,6 +1,5 @@
 // Rows of one width in a slice, the used ones first and zeros after them: a row inserted, removed and replaced, or, in a full
-// table, exchanged for another. What a search among rows answers.
-// The cache has rows of 100 bytes, the waiting table rows of 140.
+// table, exchanged for another. The cache has rows of 100 bytes, the waiting table rows of 140.
 #![tactic(auto)]
 
 mod exchange;
@@ -9,13 +8,6 @@ ghost use Rattle.std.specs.Prelude.{◌≡◌, ◌+◌, ◌*◌, ◌≤◌, ◌<
 ghost use Rattle.table.specs.Rows.{rows, bytes_of, Laid, insert_at, remove_at};
 
 pub use exchange::{exchange_down, exchange_up};
-
-// Which row was found.
-#[derive(Clone, Copy)]
-pub enum Found {
-    At(usize),
-    Nothing,
-}
 
 // The row comes to stand at a place, and those from there on move up.
 pub fn insert_row(s: &mut [u8], width: usize, used: usize, at: usize, row: &[u8])

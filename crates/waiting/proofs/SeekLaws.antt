@@ -16,7 +16,7 @@ use Rattle.own.specs.Own.{Own, IsOwn}
 use Rattle.table.proofs.RowLaws.{rows-length, row_at}
 use Rattle.table.proofs.SeekLaws.{Here, seek_is, found_within, found_passes}
 use Rattle.table.proofs.SeekLaws.Here.{here}
-use Rattle.table.specs.declared.Found.TheVariants.{At}
+use Rattle.std.specs.Prelude.{Some}
 use Rattle.waiting.specs.Place.{id_of, kind_of, place_key}
 use Rattle.table.specs.Rows.{any_of}
 use Rattle.waiting.specs.Form.{is_inquiry, place_form, used_of, places_of, waiting_form}
@@ -33,7 +33,7 @@ placed_at own low zero (p ∷ ps) h l = h.0
 placed_at own low (suc i) (p ∷ ps) h l = placed_at own (suc (id_of p)) i ps h.3 (omega arith)
 
 -- an inquiry found in a table in form: its place is used, and its record, where it lies, is in form, of the place's key, which is not ours
-module _ (own : Own) (t : List ℕ) (ok : waiting_form own t ≡ true) (id i : ℕ) (e : seek (is_at id 2) 0 (places_of t) ≡ At i) where
+module _ (own : Own) (t : List ℕ) (ok : waiting_form own t ≡ true) (id i : ℕ) (e : seek (is_at id 2) 0 (places_of t) ≡ Some i) where
   pub inquiry-within : i < used_of t
   inquiry-within = omega (arith, found_within (is_at id 2) i (places_of t) e, rows-length 140 (used_of t) t)
 
@@ -67,15 +67,15 @@ module _ (own : Own) (t : List ℕ) (ok : waiting_form own t ≡ true) (id i : �
 
 -- ---- the only inquiry for a key: freed, it leaves none
 
-ahead : (test : List ℕ → Bool) (n j : ℕ) (ps : List (List ℕ)) → seek test (n + 1) ps ≡ At (n + j) → 0 < j
+ahead : (test : List ℕ → Bool) (n j : ℕ) (ps : List (List ℕ)) → seek test (n + 1) ps ≡ Some (n + j) → 0 < j
 ahead test n j ps e = go (seek_is test (n + 1) (n + j) ps e)
   where
     go : Here test (n + 1) (n + j) ps → 0 < j
     go (here k d l t) = omega arith
 
 only_by : (k : ℕ) (own : Own) (low n j : ℕ) (p : List ℕ) (ps : List (List ℕ)) (b : Bool) → is_inquiry k p ≡ b → Placed own low (p ∷ ps)
-    → cond b (At n) (seek (is_inquiry k) (n + 1) ps) ≡ At (n + j)
-    → ((i : ℕ) → seek (is_inquiry k) (n + 1) ps ≡ At ((n + 1) + i) → any_of (is_inquiry k) (freed i ps) ≡ false)
+    → cond b (Some n) (seek (is_inquiry k) (n + 1) ps) ≡ Some (n + j)
+    → ((i : ℕ) → seek (is_inquiry k) (n + 1) ps ≡ Some ((n + 1) + i) → any_of (is_inquiry k) (freed i ps) ≡ false)
     → any_of (is_inquiry k) (freed j (p ∷ ps)) ≡ false
 unfolding freed any_of
 only_by k own low n zero p ps true is h e later =
@@ -85,9 +85,9 @@ only_by k own low n (suc j) p ps true is h e later = let z : n ≡ n + suc j = c
 only_by k own low n zero p ps false is h e later = let l = ahead (is_inquiry k) n 0 ps e in absurd (omega arith)
 only_by k own low n (suc j) p ps false is h e later =
     let d : n + suc j ≡ (n + 1) + j = omega arith in
-    rw is (later j (e ∙ ap At d))
+    rw is (later j (e ∙ ap Some d))
 
-pub freed_only : (k : ℕ) (own : Own) (low n i : ℕ) (ps : List (List ℕ)) → Placed own low ps → seek (is_inquiry k) n ps ≡ At (n + i)
+pub freed_only : (k : ℕ) (own : Own) (low n i : ℕ) (ps : List (List ℕ)) → Placed own low ps → seek (is_inquiry k) n ps ≡ Some (n + i)
     → any_of (is_inquiry k) (freed i ps) ≡ false
 unfolding seek
 freed_only k own low n i [] h e = let z : ◌≡◌ {A = ℕ} 0 1 = cc in absurd (omega arith)

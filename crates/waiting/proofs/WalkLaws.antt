@@ -17,8 +17,8 @@ use Rattle.own.specs.Own.{Own}
 use Rattle.table.specs.Rows.{rows, any_of}
 use Rattle.table.proofs.RowLaws.{rows_next, rows_end}
 use Rattle.table.proofs.PieceLaws.{part_lent}
-use Rattle.table.proofs.SeekLaws.{is_found, any_found}
-use Rattle.table.specs.declared.Found.{Found}
+use Rattle.table.proofs.SeekLaws.{any_found}
+use Rattle.std.specs.Prelude.{Option, is_some}
 use Rattle.waiting.specs.Place.{id_of, kind_of}
 use Rattle.waiting.specs.Form.{is_inquiry, again, place_by, places_by, used_in}
 use Rattle.table.specs.Seek.{seek}
@@ -91,12 +91,12 @@ module _ (used : ℕ) (t : List ℕ) (at : ℕ) where
   pub again-not : (get_or t (140 * at + 4) 0 ≡ 2 → ⊥) → again place later ≡ false
   again-not h = rw (ne_eqb (kind_of place) 2 (λ e. h (sym (kind_at (140 * at) t) ∙ e))) refl
 
-  pub again-found : get_or t (140 * at + 4) 0 ≡ 2 → {f : Found} → f ≡ seek (is_inquiry (key_at (140 * at + 8) t)) (at + 1) later
-      → again place later ≡ is_found f
+  pub again-found : get_or t (140 * at + 4) 0 ≡ 2 → {f : Option ℕ} → f ≡ seek (is_inquiry (key_at (140 * at + 8) t)) (at + 1) later
+      → again place later ≡ is_some f
   again-found e d =
       ap₂ ◌&&◌ (eq-eqb (kind_of place) 2 (kind_at (140 * at) t ∙ e))
       (ap (λ (k : ℕ). any_of (is_inquiry k) later) (key-at (140 * at) t) ∙ any_found (is_inquiry (key_at (140 * at + 8) t)) (at + 1) later
-      ∙ ap is_found (sym d))
+      ∙ ap is_some (sym d))
 
   module _ (good : List ℕ → Bool) (own : Own) (low : ℕ) where
     -- the three tests of a place

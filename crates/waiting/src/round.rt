@@ -55,11 +55,9 @@ pub fn tick_places(table: &mut [u8], used: usize, output: &mut [u8]) -> usize
         × (output.new
         ≡ splice 0 (id_bytes (listed (rows 140 used table.old))) output.old) }
 {
-    let mut at = 0;
     let mut kept = 0;
-    while at < used {
+    for at in 0..used {
         kept = tick_place(table, at, kept, output);
-        at += 1;
     }
     let free = crate::PLACE_LEN * kept;
     runs::clear(table, free, crate::PLACE_LEN * used - free);

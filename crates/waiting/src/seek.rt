@@ -8,23 +8,19 @@ ghost use Rattle.waiting.specs.Form.{is_inquiry};
 ghost use Rattle.waiting.specs.Seek.{is_at, has_id};
 ghost use Rattle.waiting.specs.Slot.{slot_in};
 
-use table::Found;
-
 // The place with the ID and the kind.
-pub fn find(table: &[u8], used: usize, id: u32, kind: u8) -> Found
+pub fn find(table: &[u8], used: usize, id: u32, kind: u8) -> Option<usize>
     requires { 140 * used ≤ length table.now }
     ensures { result ≡ seek (is_at id kind) 0 (rows 140 used table.now) }
 {
-    let mut at = 0;
-    while at < used {
+    for at in 0..used {
         let from = crate::PLACE_LEN * at;
         let this = octet::read_u32_le(table, from);
         if (this == id) & (table[from + 4] == kind) {
-            return Found::At(at);
+            return Some(at);
         }
-        at += 1;
     }
-    Found::Nothing
+    None
 }
 
 // Is the ID waiting, for an answer of either kind?
@@ -32,13 +28,11 @@ pub fn has_id(table: &[u8], used: usize, id: u32) -> bool
     requires { 140 * used ≤ length table.now }
     ensures { result ≡ any_of (has_id id) (rows 140 used table.now) }
 {
-    let mut at = 0;
-    while at < used {
+    for at in 0..used {
         let this = octet::read_u32_le(table, crate::PLACE_LEN * at);
         if this == id {
             return true;
         }
-        at += 1;
     }
     false
 }
@@ -55,19 +49,23 @@ fn is_inquiry(table: &[u8], from: usize, key: &[u8], place: usize) -> bool
 }
 
 // From place number `start` on, the inquiry for the key at a place of a slice.
-pub fn find_inquiry(table: &[u8], start: usize, used: usize, key: &[u8], place: usize) -> Found
+pub fn find_inquiry(
+    table: &[u8],
+    start: usize,
+    used: usize,
+    key: &[u8],
+    place: usize,
+) -> Option<usize>
     requires { (start ≤ used) × (140 * used ≤ length table.now) × (place + 32 ≤ length key.now) }
     ensures { result
         ≡ seek (is_inquiry (key_at place key.now)) start (drop start (rows 140 used table.now)) }
 {
-    let mut at = start;
-    while at < used {
+    for at in start..used {
         if is_inquiry(table, crate::PLACE_LEN * at, key, place) {
-            return Found::At(at);
+            return Some(at);
         }
-        at += 1;
     }
-    Found::Nothing
+    None
 }
 
 // How many places stand before the first whose ID is not lower.
@@ -75,13 +73,11 @@ pub(crate) fn slot(table: &[u8], used: usize, id: u32) -> usize
     requires { 140 * used ≤ length table.now }
     ensures { result ≡ slot_in id (rows 140 used table.now) }
 {
-    let mut at = 0;
-    while at < used {
+    for at in 0..used {
         let this = octet::read_u32_le(table, crate::PLACE_LEN * at);
         if id <= this {
             return at;
         }
-        at += 1;
     }
     used
 }

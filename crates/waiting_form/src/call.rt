@@ -2,7 +2,7 @@
 ghost use Rattle.std.specs.Prelude.{◌≡◌};
 ghost use Rattle.waiting_form.specs.Call.{tick_handed, tick_call};
 
-use crate::tested::{Formed, form};
+use crate::tested::form;
 
 // A number of document 01, and how many IDs are listed.
 #[derive(Clone, Copy)]
@@ -23,8 +23,7 @@ pub fn tick(own: &[u8], table: &mut [u8], output: &mut [u8]) -> Answer
             count: 0,
         };
     }
-    let answer = form(own, table);
-    let Formed::Good(used) = answer else {
+    let Some(used) = form(own, table) else {
         return Answer {
             number: refusal::MEMORY,
             count: 0,

@@ -7,4 +7,4 @@ mod tested;
 
 pub use call::{Answer, tick};
 pub use place::{is_fresh, zero_record};
-pub use tested::{Formed, count_used, form, key_again};
+pub use tested::{count_used, form, key_again};

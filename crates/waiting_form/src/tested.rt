@@ -7,26 +7,15 @@ ghost use Rattle.waiting.specs.Form.{again, places_form, used_of};
 ghost use Rattle.waiting_form.specs.Formed.{waiting_formed};
 
 use crate::place::place_formed;
-use table::Found;
-
-// What the form test finds: how many places are used, where the table is in form.
-#[derive(Clone, Copy)]
-pub enum Formed {
-    Bad,
-    Good(usize),
-}
-
 // How many places stand before the first free one.
 pub fn count_used(table: &[u8]) -> usize
     requires { length table.now ≡ 2240 }
     ensures { result ≡ used_of table.now }
 {
-    let mut at = 0;
-    while at < 16 {
+    for at in 0..16 {
         if table[waiting::PLACE_LEN * at + 4] == 0 {
             return at;
         }
-        at += 1;
     }
     16
 }
@@ -41,10 +30,7 @@ pub fn key_again(table: &[u8], used: usize, at: usize) -> bool
     if table[from + 4] != 2 {
         return false;
     }
-    match waiting::find_inquiry(table, at + 1, used, table, from + 8) {
-        Found::At(_) => true,
-        Found::Nothing => false,
-    }
+    waiting::find_inquiry(table, at + 1, used, table, from + 8).is_some()
 }
 
 // Are the used places in form, the IDs rising and the inquiries' keys different?
@@ -53,8 +39,7 @@ fn places_formed(own: &[u8], table: &[u8], used: usize) -> bool
     ensures { result ≡ places_form (own_keys own.now) 0 (rows 140 used table.now) }
 {
     let mut low: u64 = 0;
-    let mut at = 0;
-    while at < used {
+    for at in 0..used {
         let from = waiting::PLACE_LEN * at;
         let id = octet::read_u32_le(table, from) as u64;
         if id < low {
@@ -67,23 +52,19 @@ fn places_formed(own: &[u8], table: &[u8], used: usize) -> bool
             return false;
         }
         low = id + 1;
-        at += 1;
     }
     true
 }
 
-// Is the table in form, for a gauge with these own records?
-pub fn form(own: &[u8], table: &[u8]) -> Formed
+// How many places are used, where the table is in form for a gauge with these own records.
+pub fn form(own: &[u8], table: &[u8]) -> Option<usize>
     ensures { result ≡ waiting_formed (own_keys own.now) table.now }
 {
     if table.len() != waiting::WAITING_LEN {
-        return Formed::Bad;
+        return None;
     }
     let used = count_used(table);
     let clear = octet::is_zero(&table[waiting::PLACE_LEN * used..waiting::WAITING_LEN]);
     let formed = places_formed(own, table, used);
-    if clear & formed {
-        return Formed::Good(used);
-    }
-    Formed::Bad
+    (clear & formed).then_some(used)
 }

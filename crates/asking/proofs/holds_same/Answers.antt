@@ -44,27 +44,27 @@ overflow_mul-i c =
     let f = (goal.at.overflow_mul-i c).After-find in
     let s = start f in
     let a = s.args in
-    omega (arith, found-place (key_of (named s)) a.held a.cache.now (found f) c.in-At.is, s.requires.0)
+    omega (arith, found-place (key_of (named s)) a.held a.cache.now (found f) c.in-Ok.is, s.requires.0)
 
 pub same_as_entry-requires : goal.same_as_entry-requires
 same_as_entry-requires c =
     let f = (goal.at.same_as_entry-requires c).After-find in
     let s = start f in
     let a = s.args in
-    let inside = found-place (key_of (named s)) a.held a.cache.now (found f) c.in-At.is in
+    let inside = found-place (key_of (named s)) a.held a.cache.now (found f) c.in-Ok.is in
     record { at_in_bounds = omega (arith, inside, s.requires.0); len_in_bounds = s.requires.1; d_value = s.requires.2 }
 
-pub returns-in-At : goal.returns-in-At
-returns-in-At c =
-    let f = (goal.at.returns-in-At c).After-find in
+pub returns-in-Ok : goal.returns-in-Ok
+returns-in-Ok c =
+    let f = (goal.at.returns-in-Ok c).After-find in
     let s = start f in
     let a = s.args in
     c.same_as_entry.ensures
-    ∙ sym (same_here (named s) a.held a.cache.now s.requires.3 (found f) c.in-At.is
-    (found-place (key_of (named s)) a.held a.cache.now (found f) c.in-At.is))
+    ∙ sym (same_here (named s) a.held a.cache.now s.requires.3 (found f) c.in-Ok.is
+    (found-place (key_of (named s)) a.held a.cache.now (found f) c.in-Ok.is))
 
-pub returns-in-Before : goal.returns-in-Before
-returns-in-Before c =
-    let f = (goal.at.returns-in-Before c).After-find in
+pub returns-in-Err : goal.returns-in-Err
+returns-in-Err c =
+    let f = (goal.at.returns-in-Err c).After-find in
     let s = start f in
-    sym (same-nowhere (named s) s.args.held s.args.cache.now s.requires.3 (found f) c.in-Before.is)
+    sym (same-nowhere (named s) s.args.held s.args.cache.now s.requires.3 (found f) c.in-Err.is)

@@ -12,18 +12,18 @@ free-requires c =
     let s = c in
     let a = s.args in
     let p = s.requires in (
-      found-used (key_at 0 a.key.now) a.used a.waiting.now at-find-inquiry.find_inquiry-found.ensures c.in-At.is,
+      found-used (key_at 0 a.key.now) a.used a.waiting.now at-find-inquiry.find_inquiry.ensures c.in-Some.is,
       p.0,
       p.1,
     )
 
-pub returns-in-At : goal.returns-in-At
-returns-in-At c =
+pub returns-in-Some : goal.returns-in-Some
+returns-in-Some c =
     let at-found = c in
     let at-find-inquiry = c in
     let s = c in
     let a = s.args in
-    let e = found-freed (key_at 0 a.key.now) a.used a.waiting.now at-find-inquiry.find_inquiry-found.ensures at-found.in-At.is in
+    let e = found-freed (key_at 0 a.key.now) a.used a.waiting.now at-find-inquiry.find_inquiry.ensures at-found.in-Some.is in
     c.free.ensures ∙ ap (bytes_of 2240) (sym e)
 
 pub returns-in_default : goal.returns-in_default
@@ -31,4 +31,4 @@ returns-in_default c =
     let s = c in
     let a = s.args in
     let p = s.requires in
-    none-freed (key_at 0 a.key.now) a.used a.waiting.now c.find_inquiry-found.ensures c.in_default.is p.0 p.1
+    none-freed (key_at 0 a.key.now) a.used a.waiting.now c.find_inquiry.ensures c.in_default.is p.0 p.1

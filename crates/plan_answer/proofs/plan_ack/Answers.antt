@@ -9,10 +9,10 @@ pub returns-in_default : goal.returns-in_default
 returns-in_default c =
     let a = c.args in
     sym (ack-none (rows 140 a.used a.waiting.now) a.held a.used a.acked a.n
-    (sym c.find-found.ensures ∙ c.in_default.is))
+    (sym c.find.ensures ∙ c.in_default.is))
 
 pub returns : goal.returns
 returns c =
     let a = c.args in
     sym (ack-by (rows 140 a.used a.waiting.now) a.held a.used a.acked a.n
-    (sym c.find-found.ensures ∙ c.in-At.is))
+    (sym c.find.ensures ∙ c.in-Some.is))

@@ -14,7 +14,6 @@ use Rattle.gauge_plan.specs.Lent.{Memory, with_tables, Receive, planning}
 use Rattle.plan_message.proofs.AnswerLaws.{known_answer}
 use Rattle.plan_message.proofs.BriefLaws.{refused_by, flood-by, revoke-by, inquire-by, authority_by, ack-by, lookup-by, other_by, known-flood, known-entry, known-inquire, known-lookup}
 use Rattle.plan_message.proofs.BriefLaws.{RefusedBy, FloodBy, RevokeBy, InquireBy, AuthorityBy, AckBy, LookupBy, OtherBy, KnownFlood, KnownEntry, KnownInquire, KnownLookup}
-use borrow.Author.Rules.{rules}
 use Rattle.plan_message.proofs.plan_message.Goals.{After-brief_at-told, In-11, Start}
 use Rattle.plan_message.proofs.plan_message.Goals as goal
 

@@ -4,16 +4,16 @@ use mathlib.Core.Bool.{Bool, cond}
 use mathlib.Core.List.{List}
 use Prim.Native.Nat.{ℕ}
 use native.Mathlib.Omega.{arith}
-use borrow.Author.Rules.{rules}
 use Rattle.key.specs.Number.{key_at}
 use Rattle.own.specs.Own.{own_keys, own_place}
 use Rattle.table.specs.Rows.{rows, Laid}
 use Rattle.cache.proofs.FormLaws.{form_laid}
 use Rattle.gauge_plan.specs.Found.{is_nothing, place_of}
-use Rattle.table.specs.declared.Found.{Found}
+use Rattle.std.specs.Prelude.{Option}
+use Rattle.gauge_plan.proofs.FoundLaws.{none_is}
 use Rattle.plan_send.specs.Send.{held_at, sent_at}
 use Rattle.plan_send.proofs.SendLaws.{other_at, own_room, sent-room, send-nobody, send-missing, send-barred, send-long, send-fits}
-use Rattle.plan_send.proofs.plan_flood_to.Goals.{After-is_nothing, After-is_nothing-missing, After-sent_at-at, Else-is_nothing, Start}
+use Rattle.plan_send.proofs.plan_flood_to.Goals.{After-is_none, After-is_none-missing, After-sent_at-at, Else-is_none, Start}
 use Rattle.plan_send.proofs.plan_flood_to.Goals as goal
 
 laid : (s : Start) → Laid 100 s.args.held s.args.cache.now
@@ -26,30 +26,30 @@ abbrev places : Start → List (List ℕ)
 places s = rows 140 s.args.used s.args.waiting.now
 
 -- whether the neighbour is held
-abbrev first : After-is_nothing → Start
-first c = (goal.at.After-is_nothing c).Start
+abbrev first : After-is_none → Start
+first c = (goal.at.After-is_none c).Start
 
-nobody : (c : After-is_nothing) → is_nothing (held_at (key_at 0 (first c).args.neighbour.now) (recs (first c))) ≡ c.is_nothing.result
-nobody c = sym (c.is_nothing.ensures ∙ ap is_nothing c.held_at-to.ensures)
+nobody : (c : After-is_none) → is_nothing (held_at (key_at 0 (first c).args.neighbour.now) (recs (first c))) ≡ c.is_none.result
+nobody c = sym (none_is _ c.is_none.ensures ∙ ap is_nothing c.held_at-to.ensures)
 
 -- and whether the record is, where it is not ours
-abbrev start : After-is_nothing-missing → Start
-start c = first (goal.at.After-is_nothing-missing c).After-is_nothing
+abbrev start : After-is_none-missing → Start
+start c = first (goal.at.After-is_none-missing c).After-is_none
 
-missing : (c : After-is_nothing-missing) → c.is_nothing-missing.result ≡ is_nothing (held_at (key_at 0 (start c).args.key.now) (recs (start c)))
-missing c = c.is_nothing-missing.ensures ∙ ap is_nothing c.held_at-found.ensures
+missing : (c : After-is_none-missing) → c.is_none-missing.result ≡ is_nothing (held_at (key_at 0 (start c).args.key.now) (recs (start c)))
+missing c = none_is _ c.is_none-missing.ensures ∙ ap is_nothing c.held_at-found.ensures
 
 pub held_at-to-requires : goal.held_at-to-requires
 held_at-to-requires c =
     let s = (goal.at.held_at-to-requires c).Start in
     ((laid s).room, omega (arith, s.requires.3), s.requires.1.held.rising)
 
-pub returns-then-is_nothing : goal.returns-then-is_nothing
-returns-then-is_nothing c =
-    let s = (goal.at.returns-then-is_nothing c).Start in
+pub returns-then-is_none : goal.returns-then-is_none
+returns-then-is_none c =
+    let s = (goal.at.returns-then-is_none c).Start in
     let a = s.args in
     sym (send-nobody a.own.now a.cache.now (recs s) (places s) a.used a.id a.room (key_at 0 a.neighbour.now)
-    (key_at 0 a.key.now) (nobody (goal.at.returns-then-is_nothing c).After-is_nothing ∙ c.if-is_nothing.true))
+    (key_at 0 a.key.now) (nobody (goal.at.returns-then-is_none c).After-is_none ∙ c.if-is_none.true))
 
 pub is_own-ours-requires : goal.is_own-ours-requires
 is_own-ours-requires c =
@@ -63,43 +63,43 @@ held_at-found-requires c =
 
 pub returns-then-ours-missing : goal.returns-then-ours-missing
 returns-then-ours-missing c =
-    let n = (goal.at.returns-then-ours-missing c).After-is_nothing-missing in
+    let n = (goal.at.returns-then-ours-missing c).After-is_none-missing in
     let e = c in
     let s = start n in
     let a = s.args in
     sym (send-missing a.own.now a.cache.now (recs s) (places s) a.used a.id a.room (key_at 0 a.neighbour.now)
-    (key_at 0 a.key.now) (nobody (goal.at.returns-then-ours-missing c).After-is_nothing ∙ e.if-is_nothing.false) n.is_own-ours.ensures (missing n) c.if-ours-missing.true)
+    (key_at 0 a.key.now) (nobody (goal.at.returns-then-ours-missing c).After-is_none ∙ e.if-is_none.false) n.is_own-ours.ensures (missing n) c.if-ours-missing.true)
 
 pub returns-then-barred-ne0 : goal.returns-then-barred-ne0
 returns-then-barred-ne0 c =
     let i = c in
-    let n = (goal.at.returns-then-barred-ne0 c).After-is_nothing-missing in
+    let n = (goal.at.returns-then-barred-ne0 c).After-is_none-missing in
     let e = c in
     let s = start n in
     let a = s.args in
     sym (send-barred a.own.now a.cache.now (recs s) (places s) a.used a.id a.room (key_at 0 a.neighbour.now)
-    (key_at 0 a.key.now) (nobody (goal.at.returns-then-barred-ne0 c).After-is_nothing ∙ e.if-is_nothing.false) n.is_own-ours.ensures (missing n) i.if-ours-missing.false
+    (key_at 0 a.key.now) (nobody (goal.at.returns-then-barred-ne0 c).After-is_none ∙ e.if-is_none.false) n.is_own-ours.ensures (missing n) i.if-ours-missing.false
     c.open_refusal-barred.ensures (omega (arith, c.if-barred-ne0.true)))
 
 pub sent_at-at-requires : goal.sent_at-at-requires
 sent_at-at-requires c =
-    let n = (goal.at.sent_at-at-requires c).After-is_nothing-missing in
+    let n = (goal.at.sent_at-at-requires c).After-is_none-missing in
     (omega (arith, (start n).requires.4), n.is_own-ours.ensures)
 
 -- where the record stands
-placed : (c : After-sent_at-at) → (let n = (goal.at.After-sent_at-at c).After-is_nothing-missing in
+placed : (c : After-sent_at-at) → (let n = (goal.at.After-sent_at-at c).After-is_none-missing in
     c.sent_at-at.result ≡ sent_at (start n).args.own.now (recs (start n)) (key_at 0 (start n).args.key.now))
 placed c =
-    let n = (goal.at.After-sent_at-at c).After-is_nothing-missing in
+    let n = (goal.at.After-sent_at-at c).After-is_none-missing in
     let a = (start n).args in
     c.sent_at-at.ensures
-    ∙ ap₂ (λ (ours : Bool) (f : Found). cond ours (own_place (own_keys a.own.now) (key_at 0 a.key.now)) (place_of f))
+    ∙ ap₂ (λ (ours : Bool) (f : Option ℕ). cond ours (own_place (own_keys a.own.now) (key_at 0 a.key.now)) (place_of f))
     n.is_own-ours.ensures n.held_at-found.ensures
 
 pub count_sent-count-requires : goal.count_sent-count-requires
 count_sent-count-requires c =
     let i = c in
-    let n = (goal.at.count_sent-count-requires c).After-is_nothing-missing in
+    let n = (goal.at.count_sent-count-requires c).After-is_none-missing in
     let s = start n in
     let a = s.args in
     let k = key_at 0 a.key.now in
@@ -113,12 +113,12 @@ returns-then-room-count c =
     let p = (goal.at.returns-then-room-count c).After-sent_at-at in
     let f = c in
     let i = c in
-    let n = (goal.at.returns-then-room-count c).After-is_nothing-missing in
+    let n = (goal.at.returns-then-room-count c).After-is_none-missing in
     let e = c in
     let s = start n in
     let a = s.args in
     sym (send-long a.own.now a.cache.now (recs s) (places s) a.used a.id a.room (key_at 0 a.neighbour.now) (key_at 0 a.key.now)
-    (nobody (goal.at.returns-then-room-count c).After-is_nothing ∙ e.if-is_nothing.false) n.is_own-ours.ensures (missing n) i.if-ours-missing.false f.open_refusal-barred.ensures
+    (nobody (goal.at.returns-then-room-count c).After-is_none ∙ e.if-is_none.false) n.is_own-ours.ensures (missing n) i.if-ours-missing.false f.open_refusal-barred.ensures
     f.if-barred-ne0.false (placed p) c.count_sent-count.ensures.0 c.if-room-count.true)
 
 pub returns : goal.returns
@@ -126,10 +126,10 @@ returns c =
     let p = (goal.at.returns c).After-sent_at-at in
     let f = c in
     let i = c in
-    let n = (goal.at.returns c).After-is_nothing-missing in
+    let n = (goal.at.returns c).After-is_none-missing in
     let e = c in
     let s = start n in
     let a = s.args in
     sym (send-fits a.own.now a.cache.now (recs s) (places s) a.used a.id a.room (key_at 0 a.neighbour.now) (key_at 0 a.key.now)
-    (nobody (goal.at.returns c).After-is_nothing ∙ e.if-is_nothing.false) n.is_own-ours.ensures (missing n) i.if-ours-missing.false f.open_refusal-barred.ensures
+    (nobody (goal.at.returns c).After-is_none ∙ e.if-is_none.false) n.is_own-ours.ensures (missing n) i.if-ours-missing.false f.open_refusal-barred.ensures
     f.if-barred-ne0.false (placed p) c.count_sent-count.ensures.0 c.if-room-count.false)

@@ -1,10 +1,10 @@
 -- `plan_send::sent_at` meets its contract: the place of our key, or the one found. Assumes nothing.
 use mathlib.Core.Path.{refl, sym, ◌∙◌}
 use native.Mathlib.Omega.{arith}
-use borrow.Author.Rules.{rules}
 use Rattle.key.specs.Number.{key_at}
 use Rattle.own.specs.Own.{own_keys}
 use Rattle.own.proofs.PlaceLaws.{own_in}
+use Rattle.gauge_plan.proofs.FoundLaws.{place_is}
 use Rattle.plan_send.proofs.sent_at.Goals as goal
 
 pub place_of-requires : goal.place_of-requires
@@ -16,4 +16,4 @@ pub returns-then-ours : goal.returns-then-ours
 returns-then-ours c = c.place_of.ensures.value ∙ rw c.if-ours.true refl
 
 pub returns : goal.returns
-returns c = c.place_of-2.ensures ∙ rw c.if-ours.false refl
+returns c = c.unwrap_or.ensures ∙ place_is c.args.found ∙ rw c.if-ours.false refl

@@ -31,14 +31,14 @@ pub returns-in_default : goal.returns-in_default
 unfolding learn_call
 returns-in_default c =
     let s = (goal.at.returns-in_default c).Start in
-    sym (memory-refuses s.args.own.now s.args.cache.now c.memory-found.ensures c.in_default.is (refuse s) _ (done s))
+    sym (memory-refuses s.args.own.now s.args.cache.now c.memory.ensures c.in_default.is (refuse s) _ (done s))
 
 pub returns-then-not-is_record : goal.returns-then-not-is_record
 unfolding learn_call
 returns-then-not-is_record c =
     let s = (goal.at.returns-then-not-is_record c).Start in
     let wrong = not_isn't (sym c.is_record.ensures ∙ c.if-not-is_record.true) in
-    sym (memory-passes s.args.own.now s.args.cache.now c.memory-found.ensures c.in-Good.is (refuse s) _ (done s)
+    sym (memory-passes s.args.own.now s.args.cache.now c.memory.ensures c.in-Some.is (refuse s) _ (done s)
     ∙ row_applies (refuse s) 1 (not (record_form s.args.«record».now)) _ (done s) wrong)
 
 pub is_own-requires : goal.is_own-requires
@@ -51,7 +51,7 @@ pub returns-then-is_own : goal.returns-then-is_own
 unfolding learn_call
 returns-then-is_own c =
     let s = (goal.at.returns-then-is_own c).Start in
-    sym (memory-passes s.args.own.now s.args.cache.now c.memory-found.ensures c.in-Good.is (refuse s) _ (done s)
+    sym (memory-passes s.args.own.now s.args.cache.now c.memory.ensures c.in-Some.is (refuse s) _ (done s)
     ∙ row_passes (refuse s) 1 (not (record_form s.args.«record».now)) _ (done s) (not_is (sym c.is_record.ensures ∙ c.if-not-is_record.false))
     ∙ row_applies (refuse s) 1 (is_own (own_keys s.args.own.now) (key_of s.args.«record».now)) [] (done s) (sym c.is_own.ensures
     ∙ c.if-is_own.true))
@@ -60,11 +60,11 @@ pub learn-requires : goal.learn-requires
 learn-requires c =
     let s = (goal.at.learn-requires c).Start in record {
       own_value = (
-        memory-own s.args.own.now s.args.cache.now c.memory-found.ensures c.in-Good.is,
+        memory-own s.args.own.now s.args.cache.now c.memory.ensures c.in-Some.is,
         sym c.is_record.ensures
             ∙ c.if-not-is_record.false,
       );
-      form = memory-form s.args.own.now s.args.cache.now c.memory-found.ensures c.in-Good.is;
+      form = memory-form s.args.own.now s.args.cache.now c.memory.ensures c.in-Some.is;
       not_own = not_own (own_keys s.args.own.now) (key_of s.args.«record».now)
           (sym c.is_own.ensures ∙ c.if-is_own.false);
     }
@@ -74,10 +74,10 @@ unfolding learn_call
 returns c =
     let s = (goal.at.returns c).Start in
     let n = length s.args.cache.now in
-    let held = memory-held s.args.own.now s.args.cache.now c.memory-found.ensures c.in-Good.is in
+    let held = memory-held s.args.own.now s.args.cache.now c.memory.ensures c.in-Some.is in
     ap (cache_changed 0) (c.learn.ensures.cache_after ∙ ap (λ (l : List (List ℕ)). bytes_of n (after_learn (own_keys s.args.own.now) n l
     s.args.«record».now)) (sym held))
-    ∙ sym (memory-passes s.args.own.now s.args.cache.now c.memory-found.ensures c.in-Good.is (refuse s) _ (done s)
+    ∙ sym (memory-passes s.args.own.now s.args.cache.now c.memory.ensures c.in-Some.is (refuse s) _ (done s)
     ∙ row_passes (refuse s) 1 (not (record_form s.args.«record».now)) _ (done s) (not_is (sym c.is_record.ensures ∙ c.if-not-is_record.false))
     ∙ row_passes (refuse s) 1 (is_own (own_keys s.args.own.now) (key_of s.args.«record».now)) [] (done s) (sym c.is_own.ensures
     ∙ c.if-is_own.false)

@@ -30,29 +30,29 @@ pub returns-in_default : goal.returns-in_default
 unfolding remove_call
 returns-in_default c =
     let s = (goal.at.returns-in_default c).Start in
-    sym (memory-refuses s.args.own.now s.args.cache.now c.memory-found.ensures c.in_default.is (refuse s) _ (done s))
+    sym (memory-refuses s.args.own.now s.args.cache.now c.memory.ensures c.in_default.is (refuse s) _ (done s))
 
 pub returns-then-key-ne32 : goal.returns-then-key-ne32
 unfolding remove_call
 returns-then-key-ne32 c =
     let s = (goal.at.returns-then-key-ne32 c).Start in
-    sym (memory-passes s.args.own.now s.args.cache.now c.memory-found.ensures c.in-Good.is (refuse s) _ (done s)
+    sym (memory-passes s.args.own.now s.args.cache.now c.memory.ensures c.in-Some.is (refuse s) _ (done s)
     ∙ row_applies (refuse s) 1 (not (eqb (length s.args.key.now) 32)) [] (done s) (not_isn't (ne_eqb (length s.args.key.now) 32
     c.if-key-ne32.true)))
 
 pub remove-requires : goal.remove-requires
 remove-requires c =
-    let s = (goal.at.remove-requires c).Start in record { in_bounds = omega (arith, c.if-key-ne32.false); form = memory-form s.args.own.now s.args.cache.now c.memory-found.ensures c.in-Good.is }
+    let s = (goal.at.remove-requires c).Start in record { in_bounds = omega (arith, c.if-key-ne32.false); form = memory-form s.args.own.now s.args.cache.now c.memory.ensures c.in-Some.is }
 
 pub returns : goal.returns
 unfolding remove_call
 returns c =
     let s = (goal.at.returns c).Start in
     let n = length s.args.cache.now in
-    let held = memory-held s.args.own.now s.args.cache.now c.memory-found.ensures c.in-Good.is in
+    let held = memory-held s.args.own.now s.args.cache.now c.memory.ensures c.in-Some.is in
     ap (cache_changed 0) (c.remove.ensures.cache_after ∙ ap (λ (l : List (List ℕ)). bytes_of n (after_remove (key_at 0 s.args.key.now) l))
     (sym held))
-    ∙ sym (memory-passes s.args.own.now s.args.cache.now c.memory-found.ensures c.in-Good.is (refuse s) _ (done s)
+    ∙ sym (memory-passes s.args.own.now s.args.cache.now c.memory.ensures c.in-Some.is (refuse s) _ (done s)
     ∙ row_passes (refuse s) 1 (not (eqb (length s.args.key.now) 32)) [] (done s) (not_is (eq-eqb (length s.args.key.now) 32
     c.if-key-ne32.false))
     ∙ no_row (refuse s) (done s))

@@ -16,9 +16,9 @@ use Rattle.cache.proofs.learning.remove.Goals as goal
 laid : (s : Start) → Laid 100 s.args.used s.args.cache.now
 laid s = form_laid (own_keys s.args.own.now) s.args.used s.args.cache.now s.requires.form
 
-pub find-found-requires : goal.find-found-requires
-find-found-requires c =
-    let s = (goal.at.find-found-requires c).Start in record { used_in_bounds = (laid s).room; in_bounds = s.requires.in_bounds; rising = s.requires.form.held.rising }
+pub find-requires : goal.find-requires
+find-requires c =
+    let s = (goal.at.find-requires c).Start in record { used_in_bounds = (laid s).room; in_bounds = s.requires.in_bounds; rising = s.requires.form.held.rising }
 
 pub returns-in_default : goal.returns-in_default
 returns-in_default c =
@@ -27,17 +27,17 @@ returns-in_default c =
     let k = key_at 0 a.key.now in record {
       cache_after = laid-bytes 100 a.used a.cache.now (laid s)
           ∙ ap (bytes_of (length a.cache.now))
-          (found-removes k a.used a.cache.now c.find-found.ensures c.in_default.is s.requires.form.held.rising);
+          (found-removes k a.used a.cache.now c.find.ensures c.in_default.is s.requires.form.held.rising);
       result_value = c.unmoved.ensures
           ∙ told-kept k (rows 100 a.used a.cache.now)
-          (found-held k a.used a.cache.now c.find-found.ensures c.in_default.is s.requires.form.held.rising);
+          (found-held k a.used a.cache.now c.find.ensures c.in_default.is s.requires.form.held.rising);
     }
 
 pub remove_row-requires : goal.remove_row-requires
 remove_row-requires c =
     let s = (goal.at.remove_row-requires c).Start in
     let a = s.args in
-    (found-place (key_at 0 a.key.now) a.used a.cache.now c.find-found.ensures c.in-At.is, laid s)
+    (found-place (key_at 0 a.key.now) a.used a.cache.now c.find.ensures c.in-Ok.is, laid s)
 
 pub returns : goal.returns
 returns c =
@@ -45,8 +45,8 @@ returns c =
     let k = key_at 0 a.key.now in record {
       cache_after = c.remove_row.ensures
           ∙ ap (bytes_of (length a.cache.now))
-          (found-removes k a.used a.cache.now c.find-found.ensures c.in-At.is c.requires.form.held.rising);
+          (found-removes k a.used a.cache.now c.find.ensures c.in-Ok.is c.requires.form.held.rising);
       result_value = ap (changes false true) c.key_at.ensures
           ∙ told-removed k (rows 100 a.used a.cache.now)
-          (found-held k a.used a.cache.now c.find-found.ensures c.in-At.is c.requires.form.held.rising);
+          (found-held k a.used a.cache.now c.find.ensures c.in-Ok.is c.requires.form.held.rising);
     }

@@ -7,7 +7,7 @@ use lib.ListN.{length}
 use Rattle.own.specs.Own.{own_keys}
 use Rattle.own.proofs.FormLaws.{keys_many}
 use Rattle.table.proofs.RowLaws.{rows-length}
-use Rattle.cache.specs.declared.shape.Formed.TheVariants.{Bad, Good}
+use Rattle.std.specs.Prelude.{Some, None}
 use Rattle.cache.proofs.ShapeLaws.{not-whole, too_small, too_large, too_few}
 use Rattle.cache.proofs.OrderedLaws.{used-most, used-rising, own-bad, free-by, rest-bad}
 use native.Mathlib.Omega.{arith}
@@ -90,4 +90,4 @@ returns c =
     let a = (start g).args in
     sym (free-by (own_keys a.own.now) a.cache.now g.if-size-ne0.false (omega arith) (omega arith) (enough g)
     g.count_held-used.result g.count_held-used.ensures (sym c.holds_own.ensures ∙ c.if-holds_own.false)
-    ∙ ap (λ (b : Bool). cond b (Good g.count_held-used.result) Bad) (sym tested.rest_clear.ensures ∙ tested.if-not-rest_clear.false))
+    ∙ ap (λ (b : Bool). cond b (Some g.count_held-used.result) None) (sym tested.rest_clear.ensures ∙ tested.if-not-rest_clear.false))

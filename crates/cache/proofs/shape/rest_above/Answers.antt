@@ -20,13 +20,11 @@ loop-word-init c =
     let a = 100 * start.args.i in
     let room = start.requires.i_nonzero.1 in
     let all : order_of (key_at b s) (key_at a s) ≡ order_from 0 b a s s = simp add-zero in
-    let first : value_be 256 (part (b + 8 * 0) 8 s) ≡ value_be 256 (part (a + 8 * 0) 8 s) = simp add-zero start.requires.cache_value in (
-      omega arith,
-      all
-          ∙ order-words b a s s (λ i. omega (arith, c.type_inv.cache i)) (λ i. omega (arith, c.type_inv.cache i))
-          (omega (arith, room)) (omega (arith, room)) 0 (omega arith)
-          ∙ then_equal _ _ _ first,
-    )
+    let first : value_be 256 (part (b + 8 * 0) 8 s) ≡ value_be 256 (part (a + 8 * 0) 8 s) = simp add-zero start.requires.cache_value in
+    all
+    ∙ order-words b a s s (λ i. omega (arith, c.type_inv.cache i)) (λ i. omega (arith, c.type_inv.cache i))
+    (omega (arith, room)) (omega (arith, room)) 0 (omega arith)
+    ∙ then_equal _ _ _ first
 
 -- what the two words that were read say: they decide, or else the words after them
 turn : (c : After-read_u64-y) → let args = c.args in
@@ -42,7 +40,7 @@ turn c =
     let a = 100 * start.args.i in
     let k = at-loop.loop-word.word in
     let room = start.requires.i_nonzero.1 in
-    at-loop.loop-word.invariant.1
+    at-loop.loop-word.invariant
     ∙ order-words b a s s (λ i. omega (arith, known.type_inv.cache i)) (λ i. omega (arith, known.type_inv.cache i))
     (omega (arith, room)) (omega (arith, room)) k (omega arith)
     ∙ ap₂ (λ (x y : ℕ). ordering_then (order_of x y) (order_from (k + 1) b a s s))
@@ -59,7 +57,7 @@ returns-then-x-y c =
 
 pub loop-word-preserved : goal.loop-word-preserved
 loop-word-preserved c =
-    (omega arith, turn (goal.at.loop-word-preserved c).After-read_u64-y ∙ then_equal _ _ _ (omega arith))
+    turn (goal.at.loop-word-preserved c).After-read_u64-y ∙ then_equal _ _ _ (omega arith)
 
 -- no word differs: they are the same
 pub returns : goal.returns
@@ -68,4 +66,4 @@ returns c =
     let args = c.args in
     let e : 32 - 8 * c.loop-word.word ≡ 0 = omega arith in
     sym (test_same (key_at (100 * (args.i - 1)) args.cache.now) (key_at (100 * args.i) args.cache.now)
-    (c.loop-word.invariant.1 ∙ rw e (order_same {m = 0} {n = 0} refl))).0
+    (c.loop-word.invariant ∙ rw e (order_same {m = 0} {n = 0} refl))).0

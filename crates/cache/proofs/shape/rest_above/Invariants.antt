@@ -1,13 +1,9 @@
 -- `cache::shape::rest_above` meets its contract. The invariant: the words that are left decide. Assumes nothing.
 use mathlib.Core.Path.{◌≡◌}
-use Prim.Native.Nat.{◌-◌, ◌≤◌}
 use Rattle.key.specs.Number.{key_at, order_of}
 use Rattle.key.proofs.PlaceLaws.{order_from}
 use Rattle.cache.proofs.shape.rest_above.Given as goal
 
 abbrev pub invariant-loop-word : goal.invariant-loop-word
 invariant-loop-word l =
-    (l.word ≤ 4) × (order_of (key_at l.before l.cache) (key_at l.at l.cache) ≡ order_from l.word l.before l.at l.cache l.cache)
-
-abbrev pub decreases-loop-word : goal.decreases-loop-word
-decreases-loop-word l = 4 - l.word
+    order_of (key_at l.before l.cache) (key_at l.at l.cache) ≡ order_from l.word l.before l.at l.cache l.cache

@@ -16,7 +16,6 @@ unfolding low_at
 loop-i-init c =
     let a = c.args in (
       omega arith,
-      omega arith,
       sym (zero-add (leading old_record_form (own_keys a.own.now) 0 (rows 100 (length a.cache.now / 100) a.cache.now))),
     )
 
@@ -24,7 +23,7 @@ pub returns-then-not-place_follows : goal.returns-then-not-place_follows
 returns-then-not-place_follows c =
     let l = c in
     let a = l.args in
-    sym (l.loop-i.invariant.2 ∙ count-stop old_record_form (own_keys a.own.now) (length a.cache.now / 100) a.cache.now l.loop-i.i (omega arith)
+    sym (l.loop-i.invariant.1 ∙ count-stop old_record_form (own_keys a.own.now) (length a.cache.now / 100) a.cache.now l.loop-i.i (omega arith)
     (sym c.place_follows.ensures ∙ c.if-not-place_follows.true))
 
 pub loop-i-preserved : goal.loop-i-preserved
@@ -32,8 +31,7 @@ loop-i-preserved c =
     let l = c in
     let a = l.args in (
       omega arith,
-      omega arith,
-      l.loop-i.invariant.2 ∙ count-more old_record_form (own_keys a.own.now) (length a.cache.now / 100) a.cache.now l.loop-i.i (omega arith)
+      l.loop-i.invariant.1 ∙ count-more old_record_form (own_keys a.own.now) (length a.cache.now / 100) a.cache.now l.loop-i.i (omega arith)
           (sym c.place_follows.ensures ∙ c.if-not-place_follows.false),
     )
 
@@ -42,4 +40,4 @@ returns c =
     let l = c in
     let a = l.args in
     let e = count-end old_record_form (own_keys a.own.now) (length a.cache.now / 100) a.cache.now l.loop-i.i (omega arith) in
-    omega (arith, e, l.loop-i.invariant.2)
+    omega (arith, e, l.loop-i.invariant.1)

@@ -1,6 +1,6 @@
--- `convert::held::form` meets its contract: each test of the size refuses; then so many places are counted and the rest is zero or not. Assumes nothinc.
+-- `convert::held::form` meets its contract: each test of the size refuses; then so many places are counted and the rest is zero or not. Assumes nothing.
 use mathlib.Core.Path.{◌≡◌, refl, sym, ap, ◌∙◌}
-use mathlib.Core.Bool.{cond}
+use mathlib.Core.Bool.{Bool, true, false, cond}
 use mathlib.Core.List.{List}
 use Prim.Native.Nat.{ℕ, ◌-◌, ◌*◌, ◌/◌, ◌≤◌}
 use lib.ListN.{length, take, drop, length-drop}
@@ -9,12 +9,12 @@ use Rattle.octet.specs.Part.{all_zero}
 use Rattle.own.specs.Own.{own_keys}
 use Rattle.own.proofs.FormLaws.{keys_many}
 use Rattle.table.proofs.RowLaws.{rows-length}
-use Rattle.cache.specs.declared.shape.Formed.TheVariants.{Bad, Good}
+use Rattle.std.specs.Prelude.{Some, None}
+use Rattle.std.specs.Bool.{then_some}
 use Rattle.convert.specs.Old.{old_held_in}
-use Rattle.convert.specs.Formed.{old_cache_formed}
 use Rattle.convert.proofs.HeldLaws.{held_most, not-whole, too_small, too_large, too_few, by-rest}
 use native.Mathlib.Omega.{arith}
-use Rattle.convert.proofs.held.form.Goals.{After-count, After-count_held-used, After-is_zero}
+use Rattle.convert.proofs.held.form.Goals.{After-count, After-count_held-used}
 use Rattle.convert.proofs.held.form.Goals as goal
 
 -- no more are held than there are places
@@ -62,18 +62,16 @@ slice_bounds-is_zero-count c = omega (arith, few (goal.at.slice_bounds-is_zero-c
 pub slice_bounds-is_zero-start : goal.slice_bounds-is_zero-start
 slice_bounds-is_zero-start c = omega (arith, few (goal.at.slice_bounds-is_zero-start c).After-count_held-used)
 
--- what the form's test says, by the test of the rest
-by : (c : After-is_zero) → (let a = c.args in
-    old_cache_formed (own_keys a.own.now) a.cache.now ≡ cond c.is_zero.result (Good c.count_held-used.result) Bad)
-by c =
-    let n = (goal.at.After-is_zero c).After-count in
-    let a = c.args in
-    by-rest (own_keys a.own.now) a.cache.now c.if-size-ne0.false (omega arith) c.count_held-used.result c.is_zero.result (omega arith)
-    (omega (arith, keys n, c.if-size-count.false)) c.count_held-used.ensures
-    (c.is_zero.ensures ∙ ap all_zero (rest (100 * c.count_held-used.result) a.cache.now))
-
-pub returns-then-is_zero : goal.returns-then-is_zero
-returns-then-is_zero c = sym (by (goal.at.returns-then-is_zero c).After-is_zero ∙ rw c.if-is_zero.true refl)
-
+-- by the test of the rest
 pub returns : goal.returns
-returns c = sym (by (goal.at.returns c).After-is_zero ∙ rw c.if-is_zero.false refl)
+returns c =
+    let n = (goal.at.returns c).After-count in
+    let a = c.args in
+    c.then_some.ensures ∙ some_by c.is_zero.result c.count_held-used.result
+    ∙ sym (by-rest (own_keys a.own.now) a.cache.now c.if-size-ne0.false (omega arith) c.count_held-used.result c.is_zero.result (omega arith)
+    (omega (arith, keys n, c.if-size-count.false)) c.count_held-used.ensures
+    (c.is_zero.ensures ∙ ap all_zero (rest (100 * c.count_held-used.result) a.cache.now)))
+  where
+    some_by : (b : Bool) (n : ℕ) → then_some b n ≡ cond b (Some n) None
+    some_by true n = refl
+    some_by false n = refl

@@ -22,13 +22,13 @@ pub loop-i-init : goal.loop-i-init
 unfolding low_at
 loop-i-init c =
     let own = c.args.own.now in
-    (omega arith, omega arith, by-records old_record_form own c.if-size-ne0.false (omega (arith, c.if-size-lt-RECORD_LEN.false)) (omega (arith, c.if-size-gt400.false)))
+    (omega arith, by-records old_record_form own c.if-size-ne0.false (omega (arith, c.if-size-lt-RECORD_LEN.false)) (omega (arith, c.if-size-gt400.false)))
 
 pub returns-then-not-follows : goal.returns-then-not-follows
 returns-then-not-follows c =
     let l = c in
     let own = l.args.own.now in
-    sym (l.loop-i.invariant.2 ∙ rising-stop old_record_form (length own / 100) own l.loop-i.i (omega arith)
+    sym (l.loop-i.invariant.1 ∙ rising-stop old_record_form (length own / 100) own l.loop-i.i (omega arith)
     (sym c.follows.ensures ∙ c.if-not-follows.true))
 
 pub loop-i-preserved : goal.loop-i-preserved
@@ -36,8 +36,7 @@ loop-i-preserved c =
     let l = c in
     let own = l.args.own.now in (
       omega arith,
-      omega arith,
-      l.loop-i.invariant.2 ∙ rising-more old_record_form (length own / 100) own l.loop-i.i (omega arith)
+      l.loop-i.invariant.1 ∙ rising-more old_record_form (length own / 100) own l.loop-i.i (omega arith)
           (sym c.follows.ensures ∙ c.if-not-follows.false),
     )
 
@@ -45,4 +44,4 @@ pub returns : goal.returns
 returns c =
     let l = c in
     let own = l.args.own.now in
-    sym (l.loop-i.invariant.2 ∙ rising-end old_record_form (length own / 100) own l.loop-i.i (omega arith))
+    sym (l.loop-i.invariant.1 ∙ rising-end old_record_form (length own / 100) own l.loop-i.i (omega arith))

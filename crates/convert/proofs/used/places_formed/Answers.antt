@@ -31,7 +31,7 @@ turned c =
     tests-are a.used a.table.now l.at old_record_form (own_keys a.own.now) l.low c.place_formed-formed.ensures id c.key_again-again.ensures
 
 pub loop-at-init : goal.loop-at-init
-loop-at-init c = (omega arith, omega arith, refl)
+loop-at-init c = (omega arith, refl)
 
 pub place_formed-formed-requires : goal.place_formed-formed-requires
 place_formed-formed-requires c = simp (length-take, length-drop) (omega arith)
@@ -44,7 +44,7 @@ returns-then-not-formed-low c =
     let at-loop = c in
     let a = at-loop.args in
     let l = at-loop.loop-at in
-    sym (l.invariant.2 ∙ form_not a.used a.table.now l.at old_record_form (own_keys a.own.now) l.low (omega arith)
+    sym (l.invariant.1 ∙ form_not a.used a.table.now l.at old_record_form (own_keys a.own.now) l.low (omega arith)
     (turned (goal.at.returns-then-not-formed-low c).After-key_again-again ∙ c.if-not-formed-low.true))
 
 pub loop-at-preserved : goal.loop-at-preserved
@@ -54,8 +54,7 @@ loop-at-preserved c =
     let own = own_keys a.own.now in
     let id = id-at (140 * l.at) a.table.now ∙ sym c.read_u32_le-id.ensures in (
       omega arith,
-      omega arith,
-      l.invariant.2 ∙ form-on a.used a.table.now l.at old_record_form own l.low (omega arith) (turned (goal.at.loop-at-preserved c).After-key_again-again ∙ c.if-not-formed-low.false)
+      l.invariant.1 ∙ form-on a.used a.table.now l.at old_record_form own l.low (omega arith) (turned (goal.at.loop-at-preserved c).After-key_again-again ∙ c.if-not-formed-low.false)
           ∙ ap (λ (n : ℕ). places_by old_record_form own (n + 1) (drop (l.at + 1) (rows 140 a.used a.table.now))) id,
     )
 
@@ -63,4 +62,4 @@ pub returns : goal.returns
 returns c =
     let a = c.args in
     let l = c.loop-at in
-    sym (l.invariant.2 ∙ form-end a.used a.table.now l.at old_record_form (own_keys a.own.now) l.low (omega arith))
+    sym (l.invariant.1 ∙ form-end a.used a.table.now l.at old_record_form (own_keys a.own.now) l.low (omega arith))

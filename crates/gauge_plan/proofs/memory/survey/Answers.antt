@@ -14,22 +14,18 @@ returns-then-not-own_form c m =
     let a = c.args in
     sym (no_record a.own.now _ (sym c.own_form.ensures ∙ c.if-not-own_form.true))
 
-pub returns-in_default : goal.returns-in_default
-returns-in_default c m =
-    let e = (goal.at.returns-in_default c).Else-not-own_form in
-    let a = e.args in
-    sym (no-cache a.own.now _ (well e) (sym c.form-held.ensures ∙ c.in_default.is))
+pub returns-in_err-held : goal.returns-in_err-held
+returns-in_err-held c m =
+    let e = (goal.at.returns-in_err-held c).Else-not-own_form in
+    c.from_residual.ensures ∙ sym (no-cache c.args.own.now _ (well e) (sym c.form.ensures ∙ c.in_err-held.was))
 
-pub returns-in_default-used : goal.returns-in_default-used
-returns-in_default-used c m =
-    let e = (goal.at.returns-in_default-used c).Else-not-own_form in
-    let a = e.args in
-    sym (no_table a.own.now _ (well e) (sym c.form-held.ensures ∙ c.in-Good.is)
-    (sym c.form-used.ensures ∙ c.in_default-used.is))
+pub returns-in_err-used : goal.returns-in_err-used
+returns-in_err-used c m =
+    let e = (goal.at.returns-in_err-used c).Else-not-own_form in
+    c.from_residual-in_err-used.ensures
+    ∙ sym (no_table c.args.own.now _ (well e) (sym c.form.ensures ∙ c.in_ok-held.was) (sym c.form-2.ensures ∙ c.in_err-used.was))
 
 pub returns : goal.returns
 returns c m =
     let e = (goal.at.returns c).Else-not-own_form in
-    let a = e.args in
-    sym (all_fit a.own.now _ (well e) (sym c.form-held.ensures ∙ c.in-Good.is)
-    (sym c.form-used.ensures ∙ c.in-Good-used.is))
+    sym (all_fit c.args.own.now _ (well e) (sym c.form.ensures ∙ c.in_ok-held.was) (sym c.form-2.ensures ∙ c.in_ok-used.was))

@@ -1,6 +1,5 @@
 -- `neighbours::listing::keys_up` meets its contract: after i turns i keys are written. Assumes nothing.
 use mathlib.Core.Path.{◌≡◌}
-use Prim.Native.Nat.{◌-◌, ◌≤◌}
 use lib.ListN.{length, take}
 use Rattle.octet.specs.Part.{splice}
 use Rattle.table.specs.Rows.{rows}
@@ -11,7 +10,4 @@ use Rattle.neighbours.proofs.listing.keys_up.Given as goal
 
 abbrev pub invariant-loop-i : goal.invariant-loop-i
 invariant-loop-i l =
-    (l.i ≤ l.n) × (length l.out ≡ length l.initial.out) × (l.out ≡ splice l.at (key_bytes (take l.i (take l.n (turned l.from (keys_of (rows 100 l.used l.cache)))))) l.initial.out)
-
-abbrev pub decreases-loop-i : goal.decreases-loop-i
-decreases-loop-i l = l.n - l.i
+    (length l.out ≡ length l.initial.out) × (l.out ≡ splice l.at (key_bytes (take l.i (take l.n (turned l.from (keys_of (rows 100 l.used l.cache)))))) l.initial.out)

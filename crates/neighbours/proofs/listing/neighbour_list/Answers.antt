@@ -21,11 +21,11 @@ use Rattle.neighbours.specs.Listing.{after_list, counts_of}
 use Rattle.neighbours.specs.Calls.{Written, list_written, list_call}
 use Rattle.neighbours.specs.declared.listing.Counts.{Counts}
 use native.Mathlib.Omega.{arith}
-use Rattle.neighbours.proofs.listing.neighbour_list.Goals.{After-memory-found, Else-not-is_own, In-Good, Start}
+use Rattle.neighbours.proofs.listing.neighbour_list.Goals.{After-memory, Else-not-is_own, In-Some, Start}
 use Rattle.neighbours.proofs.listing.neighbour_list.Goals as goal
 
-abbrev start : After-memory-found → Start
-start m = (goal.at.After-memory-found m).Start
+abbrev start : After-memory → Start
+start m = (goal.at.After-memory m).Start
 
 -- what a refusal hands back, and what is handed back where there is none
 abbrev refuse : Start → ℕ → Written
@@ -40,14 +40,14 @@ done s =
 pub returns-in_default : goal.returns-in_default
 unfolding list_call
 returns-in_default c =
-    let m = (goal.at.returns-in_default c).After-memory-found in
+    let m = (goal.at.returns-in_default c).After-memory in
     let s = start m in
-    sym (memory-refuses s.args.own.now s.args.cache.now m.memory-found.ensures c.in_default.is (refuse s) _ (done s))
+    sym (memory-refuses s.args.own.now s.args.cache.now m.memory.ensures c.in_default.is (refuse s) _ (done s))
 
 -- memory is in form: the key's rows are left
-module _ (k : In-Good) where
-  abbrev tested : After-memory-found
-  tested = (goal.at.In-Good k).After-memory-found
+module _ (k : In-Some) where
+  abbrev tested : After-memory
+  tested = (goal.at.In-Some k).After-memory
 
   abbrev s : Start
   s = start tested
@@ -65,13 +65,13 @@ module _ (k : In-Good) where
   cache = s.args.cache.now
 
   abbrev used : ℕ
-  used = k.in-Good.used
+  used = k.in-Some.used
 
   in_form : list_call own cache key out
       ≡ or_refuse (refuse s)
       (when 1 (not (eqb (length key) 32)) ∷ when 12 (not (is_own (own_keys own) (key_at 0 key))) ∷ when 15 (ltb (length out) 320) ∷ []) (done s)
   unfolding list_call
-  in_form = memory-passes own cache tested.memory-found.ensures k.in-Good.is (refuse s) _ (done s)
+  in_form = memory-passes own cache tested.memory.ensures k.in-Some.is (refuse s) _ (done s)
 
   module _ (long : length key ≡ 32) where
     keyed : list_call own cache key out
@@ -83,12 +83,12 @@ module _ (k : In-Good) where
 
 pub returns-then-key-ne32 : goal.returns-then-key-ne32
 returns-then-key-ne32 c =
-    let k = (goal.at.returns-then-key-ne32 c).In-Good in
+    let k = (goal.at.returns-then-key-ne32 c).In-Some in
     sym (in_form k ∙ row_applies (refuse (s k)) 1 (not (eqb (length (key k)) 32)) _ (done (s k)) (not_isn't (ne_eqb (length (key k)) 32 c.if-key-ne32.true)))
 
 pub returns-then-not-is_own : goal.returns-then-not-is_own
 returns-then-not-is_own c =
-    let k = (goal.at.returns-then-not-is_own c).In-Good in
+    let k = (goal.at.returns-then-not-is_own c).In-Some in
     sym (keyed k c.if-key-ne32.false
     ∙ row_applies (refuse (s k)) 12 (not (is_own (own_keys (own k)) (key_at 0 (key k)))) _ (done (s k))
     (not_isn't (sym c.is_own.ensures ∙ c.if-not-is_own.true)))
@@ -100,15 +100,15 @@ own_key c = sym c.is_own.ensures ∙ c.if-not-is_own.false
 pub returns-then-out-lt320 : goal.returns-then-out-lt320
 returns-then-out-lt320 c =
     let e = (goal.at.returns-then-out-lt320 c).Else-not-is_own in
-    let k = (goal.at.returns-then-out-lt320 c).In-Good in
+    let k = (goal.at.returns-then-out-lt320 c).In-Some in
     sym (ours k e.if-key-ne32.false (own_key e)
     ∙ row_applies (refuse (s k)) 15 (ltb (length (out k)) 320) [] (done (s k)) (lt-ltb (length (out k)) 320 c.if-out-lt320.true))
 
 pub neighbours-counts-requires : goal.neighbours-counts-requires
 neighbours-counts-requires c =
     let e = (goal.at.neighbours-counts-requires c).Else-not-is_own in
-    let k = (goal.at.neighbours-counts-requires c).In-Good in
-    let f = memory-form (own k) (cache k) (tested k).memory-found.ensures k.in-Good.is in record {
+    let k = (goal.at.neighbours-counts-requires c).In-Some in
+    let f = memory-form (own k) (cache k) (tested k).memory.ensures k.in-Some.is in record {
       in_bounds = (omega (arith, e.if-key-ne32.false), c.if-out-lt320.false, (form_laid (own_keys (own k)) (used k) (cache k) f).room);
       rising = f.held.rising;
       every = not_this (own_keys (own k)) (key_at 0 (key k)) (keys_of (rows 100 (used k) (cache k))) (own_in (own_keys (own k)) (key_at 0 (key k)) (own_key e))
@@ -120,8 +120,8 @@ returns c =
     let n = c in
     let at_room = c in
     let e = (goal.at.returns c).Else-not-is_own in
-    let k = (goal.at.returns c).In-Good in
-    let held = memory-held (own k) (cache k) (tested k).memory-found.ensures k.in-Good.is in
+    let k = (goal.at.returns c).In-Some in
+    let held = memory-held (own k) (cache k) (tested k).memory.ensures k.in-Some.is in
     ap₂ (λ (m : Counts) (l : List ℕ). list_written (record { number = 0; below = m.below; above = m.above }) l)
     (n.neighbours-counts.ensures.value ∙ ap (counts_of (key_at 0 (key k))) (sym held))
     (n.neighbours-counts.ensures.out_after ∙ ap (λ (l : List (List ℕ)). after_list (key_at 0 (key k)) l (out k)) (sym held))

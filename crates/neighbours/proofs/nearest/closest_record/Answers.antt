@@ -17,6 +17,9 @@ use Rattle.table.proofs.RowLaws.{rows-length}
 use Rattle.kept.specs.Turned.{count_under}
 use Rattle.search.specs.Halving.{halvings}
 use Rattle.search.specs.declared.Sought.{Sought}
+use Rattle.search.proofs.SeekLaws.{sought-under}
+use Rattle.std.specs.Prelude.{Ok, Err}
+use mathlib.Core.Logic.{◌⊎◌}
 use Rattle.cache.specs.Form.{keys_of, Form}
 use Rattle.cache.specs.Calls.{memory_wrong, key_wrong, held_by}
 use Rattle.cache.proofs.FormLaws.{form_laid}
@@ -24,11 +27,11 @@ use Rattle.cache.proofs.LentLaws.{not_is, not_isn't, memory-own, memory-form, me
 use Rattle.neighbours.specs.Closest.{candidates, off_path, closest_of}
 use Rattle.neighbours.specs.Where.{record_at, Within}
 use Rattle.neighbours.specs.Calls.{Shown, shown, closest_wrong, closest_call, closest_compared}
-use Rattle.neighbours.proofs.nearest.closest_record.Goals.{After-find_key-sought, After-is_path, After-memory-found, After-place_of_closest, Else-not-is_path, Else-target-ne32, In-Good, Start, Then-not-is_path}
+use Rattle.neighbours.proofs.nearest.closest_record.Goals.{in-Ok, in-Ok-2, After-find_key-sought, After-is_path, After-memory, After-place_of_closest, Else-not-is_path, Else-target-ne32, In-Some, Start, Then-not-is_path}
 use Rattle.neighbours.proofs.nearest.closest_record.Goals as goal
 
-abbrev start : After-memory-found → Start
-start m = (goal.at.After-memory-found m).Start
+abbrev start : After-memory → Start
+start m = (goal.at.After-memory m).Start
 
 -- what a refusal hands back, and what is handed back where there is none: the record, and the count
 abbrev refuse : ℕ → Shown
@@ -48,28 +51,28 @@ counted s = let a = s.args in halvings (keys_of (held_by a.own.now a.cache.now))
 pub returns-in_default : goal.returns-in_default
 unfolding closest_call closest_compared
 returns-in_default c =
-    let m = (goal.at.returns-in_default c).After-memory-found in
+    let m = (goal.at.returns-in_default c).After-memory in
     let s = start m in
     let own = s.args.own.now in
-    let cache = s.args.cache.now in record { nearest_value = sym (memory-refuses own cache m.memory-found.ensures c.in_default.is refuse _ (done s)); inside = tt; compared_value = sym (memory-refuses own cache m.memory-found.ensures c.in_default.is uncounted _ (counted s)) }
+    let cache = s.args.cache.now in record { nearest_value = sym (memory-refuses own cache m.memory.ensures c.in_default.is refuse _ (done s)); inside = tt; compared_value = sym (memory-refuses own cache m.memory.ensures c.in_default.is uncounted _ (counted s)) }
 
 -- behind the test of memory
-passes : (k : In-Good) {A : Type 0} (refuse : ℕ → A) (done : A) (more : List Refusal)
+passes : (k : In-Some) {A : Type 0} (refuse : ℕ → A) (done : A) (more : List Refusal)
     → or_refuse refuse (memory_wrong k.args.own.now k.args.cache.now more) done ≡ or_refuse refuse more done
-passes k refuse done more = memory-passes k.args.own.now k.args.cache.now k.memory-found.ensures k.in-Good.is refuse more done
+passes k refuse done more = memory-passes k.args.own.now k.args.cache.now k.memory.ensures k.in-Some.is refuse more done
 
 -- the path is not whole, and it is
 wrong-path : (c : Then-not-is_path) {A : Type 0} (refuse : ℕ → A) (done : A)
     → (let a = c.args in or_refuse refuse (closest_wrong a.own.now a.cache.now a.path.now a.target.now) done ≡ refuse 1)
 wrong-path c refuse done =
-    passes (goal.at.Then-not-is_path c).In-Good refuse done _
+    passes (goal.at.Then-not-is_path c).In-Some refuse done _
     ∙ row_applies refuse 1 (not (path_form c.args.path.now)) _ done (not_isn't (sym c.is_path.ensures ∙ c.if-not-is_path.true))
 
 whole-path : (e : Else-not-is_path) {A : Type 0} (refuse : ℕ → A) (done : A)
     → (let a = e.args in or_refuse refuse (closest_wrong a.own.now a.cache.now a.path.now a.target.now) done
     ≡ or_refuse refuse (key_wrong a.target.now ∷ []) done)
 whole-path e refuse done =
-    passes (goal.at.Else-not-is_path e).In-Good refuse done _
+    passes (goal.at.Else-not-is_path e).In-Some refuse done _
     ∙ row_passes refuse 1 (not (path_form e.args.path.now)) _ done (not_is (sym e.is_path.ensures ∙ e.if-not-is_path.false))
 
 pub returns-then-not-is_path : goal.returns-then-not-is_path
@@ -88,8 +91,8 @@ returns-then-target-ne32 c =
 
 -- behind the tests
 module _ (e : Else-target-ne32) where
-  abbrev tested : After-memory-found
-  tested = (goal.at.Else-target-ne32 e).After-memory-found
+  abbrev tested : After-memory
+  tested = (goal.at.Else-target-ne32 e).After-memory
 
   abbrev own : List ℕ
   own = (start tested).args.own.now
@@ -104,13 +107,13 @@ module _ (e : Else-target-ne32) where
   target = (start tested).args.target.now
 
   abbrev used : ℕ
-  used = e.in-Good.used
+  used = e.in-Some.used
 
   held : held_by own cache ≡ rows 100 used cache
-  held = memory-held own cache tested.memory-found.ensures e.in-Good.is
+  held = memory-held own cache tested.memory.ensures e.in-Some.is
 
   form : Form (own_keys own) cache (rows 100 used cache)
-  form = memory-form own cache tested.memory-found.ensures e.in-Good.is
+  form = memory-form own cache tested.memory.ensures e.in-Some.is
 
   room : 100 * used ≤ length cache
   room = (form_laid (own_keys own) used cache form).room
@@ -138,10 +141,11 @@ find_key-sought-requires c = record { used_in_bounds = room (goal.at.find_key-so
 -- what the search told
 module _ (f : After-find_key-sought) where
   abbrev keys : List ℕ
-  keys = keys_of (rows 100 f.in-Good.used f.args.cache.now)
+  keys = keys_of (rows 100 f.in-Some.used f.args.cache.now)
 
-  place : f.find_key-sought.result.at ≡ count_under (key_at 0 f.args.target.now) keys
-  place = ap (λ (q : Sought). q.at) f.find_key-sought.ensures
+  place : {at : ℕ} → (f.find_key-sought.result.found ≡ Ok at) ⊎ (f.find_key-sought.result.found ≡ Err at)
+      → at ≡ count_under (key_at 0 f.args.target.now) keys
+  place = sought-under (key_at 0 f.args.target.now) keys f.find_key-sought.ensures
 
   counted-all : f.find_key-sought.result.compared ≡ halvings keys (key_at 0 f.args.target.now)
   counted-all = ap (λ (q : Sought). q.compared) f.find_key-sought.ensures
@@ -149,8 +153,9 @@ module _ (f : After-find_key-sought) where
 pub place_of_closest-requires : goal.place_of_closest-requires
 place_of_closest-requires c =
     let e = (goal.at.place_of_closest-requires c).Else-target-ne32 in
-    let good = memory-own (own e) (cache e) (tested e).memory-found.ensures e.in-Good.is in
-    record { own_value = (good, omega (arith, e.if-target-ne32.false)); form = form e; at_value = place (goal.at.place_of_closest-requires c).After-find_key-sought }
+    let f = (goal.at.place_of_closest-requires c).After-find_key-sought in
+    let good = memory-own (own e) (cache e) (tested e).memory.ensures e.in-Some.is in
+    record { own_value = (good, omega (arith, e.if-target-ne32.false)); form = form e; at_value = elim c.match-sought.branch [ in-Ok w ↦ w.at-is ∙ place f w.in-Ok.is | in-Ok-2 w ↦ w.at-is ∙ place f w.in-Ok.is ] }
 
 pub returns-in-Own : goal.returns-in-Own
 returns-in-Own c =

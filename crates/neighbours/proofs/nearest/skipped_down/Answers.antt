@@ -33,7 +33,7 @@ pub loop-i-init : goal.loop-i-init
 loop-i-init c =
     let a = c.args in
     let e : a.used ≡ a.used - 0 = omega arith in
-    (omega arith, ap (pass_over (skips (goal.at.loop-i-init c).Start) 0) e)
+    ap (pass_over (skips (goal.at.loop-i-init c).Start) 0) e
 
 pub overflow_mul-start : goal.overflow_mul-start
 overflow_mul-start c = omega (arith, c.wrap-start.ensures.1)
@@ -51,21 +51,20 @@ returns-then-not-on_path c =
     let e = (goal.at.returns-then-not-on_path c).After-on_path in
     let head = (goal.at.returns-then-not-on_path c).At-loop-i in
     let s = start head in
-    sym (head.loop-i.invariant.1
-    ∙ over-here (skips s) s.args.used head.loop-i.i e.loop-i-test.true (looked e ∙ c.if-not-on_path.true))
+    sym (head.loop-i.invariant
+    ∙ over-here (skips s) s.args.used head.loop-i.i (omega arith) (looked e ∙ c.if-not-on_path.true))
 
 pub loop-i-preserved : goal.loop-i-preserved
 loop-i-preserved c =
     let e = (goal.at.loop-i-preserved c).After-on_path in
     let head = (goal.at.loop-i-preserved c).At-loop-i in
-    let s = start head in (
-      omega arith,
-      head.loop-i.invariant.1
-          ∙ over-on (skips s) s.args.used head.loop-i.i e.loop-i-test.true (looked e ∙ c.if-not-on_path.false),
-    )
+    let s = start head in
+    head.loop-i.invariant
+    ∙ over-on (skips s) s.args.used head.loop-i.i (omega arith) (looked e ∙ c.if-not-on_path.false)
 
 pub returns : goal.returns
 returns c =
     let head = (goal.at.returns c).At-loop-i in
     let s = start head in
-    sym (head.loop-i.invariant.1 ∙ over-end (skips s) s.args.used head.loop-i.i c.loop-i-test.false)
+    let all : s.args.used ≡ head.loop-i.i = omega arith in
+    all ∙ sym (head.loop-i.invariant ∙ over-end (skips s) s.args.used head.loop-i.i (omega arith))

@@ -1,6 +1,5 @@
 -- `waiting::seek::find` meets its contract: the answer is always the answer for what is left. Assumes nothing.
 use mathlib.Core.Path.{◌≡◌}
-use Prim.Native.Nat.{◌-◌, ◌≤◌}
 use lib.ListN.{drop}
 use Rattle.table.specs.Rows.{rows}
 use Rattle.table.specs.Seek.{seek}
@@ -9,7 +8,4 @@ use Rattle.waiting.proofs.seek.find.Given as goal
 
 abbrev pub invariant-loop-at : goal.invariant-loop-at
 invariant-loop-at l =
-    (l.at ≤ l.used) × (seek (is_at l.id l.kind) 0 (rows 140 l.used l.table) ≡ seek (is_at l.id l.kind) l.at (drop l.at (rows 140 l.used l.table)))
-
-abbrev pub decreases-loop-at : goal.decreases-loop-at
-decreases-loop-at l = l.used - l.at
+    seek (is_at l.id l.kind) 0 (rows 140 l.used l.table) ≡ seek (is_at l.id l.kind) l.at (drop l.at (rows 140 l.used l.table))

@@ -6,7 +6,7 @@ use Rattle.table.proofs.SeekLaws.{seek-here, seek-on, seek-end}
 use Rattle.waiting.proofs.seek.find_inquiry.Goals as goal
 
 pub loop-at-init : goal.loop-at-init
-loop-at-init c = (omega arith, refl)
+loop-at-init c = refl
 
 pub is_inquiry-requires : goal.is_inquiry-requires
 is_inquiry-requires c = (omega arith, omega arith)
@@ -16,21 +16,19 @@ returns-then-is_inquiry c =
     let l = c in
     let a = l.args in
     let k = key_at a.place a.key.now in
-    sym (l.loop-at.invariant.1 ∙ seek-here 140 a.used a.table.now l.loop-at.at (is_inquiry k) (omega arith)
+    sym (l.loop-at.invariant ∙ seek-here 140 a.used a.table.now l.loop-at.at (is_inquiry k) (omega arith)
     (sym c.is_inquiry.ensures ∙ c.if-is_inquiry.true))
 
 pub loop-at-preserved : goal.loop-at-preserved
 loop-at-preserved c =
     let l = c in
     let a = l.args in
-    let k = key_at a.place a.key.now in (
-      omega arith,
-      l.loop-at.invariant.1 ∙ seek-on 140 a.used a.table.now l.loop-at.at (is_inquiry k) (omega arith)
-          (sym c.is_inquiry.ensures ∙ c.if-is_inquiry.false),
-    )
+    let k = key_at a.place a.key.now in
+    l.loop-at.invariant ∙ seek-on 140 a.used a.table.now l.loop-at.at (is_inquiry k) (omega arith)
+    (sym c.is_inquiry.ensures ∙ c.if-is_inquiry.false)
 
 pub returns : goal.returns
 returns c =
     let a = c.args in
     let l = c.loop-at in
-    sym (l.invariant.1 ∙ seek-end 140 a.used a.table.now l.at (is_inquiry (key_at a.place a.key.now)) (omega arith))
+    sym (l.invariant ∙ seek-end 140 a.used a.table.now l.at (is_inquiry (key_at a.place a.key.now)) (omega arith))

@@ -11,24 +11,24 @@ use Rattle.waiting.proofs.seek.slot.Goals as goal
 pub loop-at-init : goal.loop-at-init
 loop-at-init c =
     let a = c.args in
-    (omega arith, sym (zero-add (slot_in a.id (rows 140 a.used a.table.now))))
+    sym (zero-add (slot_in a.id (rows 140 a.used a.table.now)))
 
 pub returns-then-id-this : goal.returns-then-id-this
 returns-then-id-this c =
     let a = c.args in
     let l = c.loop-at in
     let is = id-at (140 * l.at) a.table.now ∙ sym c.read_u32_le-this.ensures in
-    sym (l.invariant.1 ∙ slot-here a.used a.table.now l.at a.id (omega arith) (omega (arith, is)))
+    sym (l.invariant ∙ slot-here a.used a.table.now l.at a.id (omega arith) (omega (arith, is)))
 
 pub loop-at-preserved : goal.loop-at-preserved
 loop-at-preserved c =
     let a = c.args in
     let l = c.loop-at in
     let is = id-at (140 * l.at) a.table.now ∙ sym c.read_u32_le-this.ensures in
-    (omega arith, l.invariant.1 ∙ slot-on a.used a.table.now l.at a.id (omega arith) (omega (arith, is)))
+    l.invariant ∙ slot-on a.used a.table.now l.at a.id (omega arith) (omega (arith, is))
 
 pub returns : goal.returns
 returns c =
     let a = c.args in
     let l = c.loop-at in
-    omega (arith, l.invariant.1, slot-end a.used a.table.now l.at a.id (omega arith))
+    omega (arith, l.invariant, slot-end a.used a.table.now l.at a.id (omega arith))

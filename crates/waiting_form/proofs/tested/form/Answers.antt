@@ -1,10 +1,10 @@
 -- `waiting_form::tested::form` meets its contract: its tests are those of the definition. Assumes nothing.
 use Prim.Native.Nat.{◌*◌, ◌≤◌}
-use mathlib.Core.Path.{sym}
+use mathlib.Core.Path.{sym, ◌∙◌}
 use native.Mathlib.Omega.{arith}
 use Rattle.own.specs.Own.{own_keys}
 use Rattle.waiting.proofs.FormLaws.{used_few}
-use Rattle.waiting_form.proofs.FormedLaws.{not_long, is-good, is-bad}
+use Rattle.waiting_form.proofs.FormedLaws.{not_long, formed-is}
 use Rattle.waiting_form.proofs.tested.form.Goals.{After-count_used-used}
 use Rattle.waiting_form.proofs.tested.form.Goals as goal
 
@@ -27,16 +27,8 @@ slice_bounds-is_zero-start c = omega (arith, within (goal.at.slice_bounds-is_zer
 pub places_formed-formed-requires : goal.places_formed-formed-requires
 places_formed-formed-requires c = omega (arith, within (goal.at.places_formed-formed-requires c).After-count_used-used)
 
-pub returns-then-clear-formed : goal.returns-then-clear-formed
-returns-then-clear-formed c =
-    let counted = c in
-    let a = counted.args in
-    sym (is-good (own_keys a.own.now) a.table.now (omega arith) counted.count_used-used.ensures c.is_zero-clear.ensures
-    c.places_formed-formed.ensures c.if-clear-formed.true)
-
 pub returns : goal.returns
 returns c =
-    let counted = c in
-    let a = counted.args in
-    sym (is-bad (own_keys a.own.now) a.table.now (omega arith) counted.count_used-used.ensures c.is_zero-clear.ensures
-    c.places_formed-formed.ensures c.if-clear-formed.false)
+    let a = c.args in
+    c.then_some.ensures
+    ∙ sym (formed-is (own_keys a.own.now) a.table.now (omega arith) c.count_used-used.ensures c.is_zero-clear.ensures c.places_formed-formed.ensures)

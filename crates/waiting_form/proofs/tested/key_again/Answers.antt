@@ -1,11 +1,11 @@
 -- `waiting_form::tested::key_again` meets its contract: an inquiry's key is that of a later one where the walk finds one. Assumes nothing.
 use Prim.Native.Nat.{◌+◌, ◌*◌}
 use lib.ListN.{drop}
+use Rattle.std.specs.Prelude.{is_some}
 use Rattle.octet.specs.Part.{part}
 use Rattle.table.specs.Rows.{rows}
 use Rattle.waiting.specs.Form.{again}
-use mathlib.Core.Path.{◌≡◌, sym, ap, ◌∙◌}
-use Rattle.table.proofs.SeekLaws.{is_found}
+use mathlib.Core.Path.{◌≡◌, sym, ◌∙◌}
 use Rattle.waiting.proofs.WalkLaws.{again-not, again-found}
 use Rattle.waiting_form.proofs.tested.key_again.Goals.{After-find_inquiry, Start}
 use Rattle.waiting_form.proofs.tested.key_again.Goals as goal
@@ -18,7 +18,7 @@ from c = (goal.at.After-find_inquiry c).Start
 walked : (c : After-find_inquiry)
     → again (part (140 * (from c).args.at) 140 (from c).args.table.now)
     (drop ((from c).args.at + 1) (rows 140 (from c).args.used (from c).args.table.now))
-    ≡ is_found c.find_inquiry.result
+    ≡ is_some c.find_inquiry.result
 walked c =
     let a = c.args in
     again-found a.used a.table.now a.at c.if-table-from-ne2.false c.find_inquiry.ensures
@@ -28,8 +28,5 @@ returns-then-table-from-ne2 c =
     let a = c.args in
     sym (again-not a.used a.table.now a.at c.if-table-from-ne2.true)
 
-pub returns-in-At : goal.returns-in-At
-returns-in-At c = sym (walked (goal.at.returns-in-At c).After-find_inquiry ∙ ap is_found c.in-At.is)
-
-pub returns-in-Nothing : goal.returns-in-Nothing
-returns-in-Nothing c = sym (walked (goal.at.returns-in-Nothing c).After-find_inquiry ∙ ap is_found c.in-Nothing.is)
+pub returns : goal.returns
+returns c = c.is_some.ensures ∙ sym (walked (goal.at.returns c).After-find_inquiry)

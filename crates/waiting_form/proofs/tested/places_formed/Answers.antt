@@ -49,10 +49,10 @@ module _ (c : After-read_u32_le-id) where
   fails : turn ≡ false → false ≡ places_form own 0 (rows 140 used table)
   fails e =
       let l = at-loop.loop-at in
-      sym (l.invariant.2 ∙ form_not used table l.at record_form own l.low (omega arith) e)
+      sym (l.invariant.1 ∙ form_not used table l.at record_form own l.low (omega arith) e)
 
 pub loop-at-init : goal.loop-at-init
-loop-at-init c = (omega arith, omega arith, refl)
+loop-at-init c = (omega arith, refl)
 
 pub returns-then-id-low : goal.returns-then-id-low
 returns-then-id-low c =
@@ -91,8 +91,7 @@ loop-at-preserved c =
     let passes =
     turned p true false place (sym c.if-key_again.false ∙ c.key_again.ensures) ∙ ap (λ (t : Bool). t && true) (le-leb _ _ c.if-id-low.false) in (
       omega arith,
-      omega arith,
-      l.invariant.2 ∙ form-on a.used a.table.now l.at record_form own l.low (omega arith) passes
+      l.invariant.1 ∙ form-on a.used a.table.now l.at record_form own l.low (omega arith) passes
           ∙ ap (λ (n : ℕ). places_form own (n + 1) (drop (l.at + 1) (rows 140 a.used a.table.now))) id,
     )
 
@@ -100,4 +99,4 @@ pub returns : goal.returns
 returns c =
     let a = c.args in
     let l = c.loop-at in
-    sym (l.invariant.2 ∙ form-end a.used a.table.now l.at record_form (own_keys a.own.now) l.low (omega arith))
+    sym (l.invariant.1 ∙ form-end a.used a.table.now l.at record_form (own_keys a.own.now) l.low (omega arith))

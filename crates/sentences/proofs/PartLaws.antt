@@ -22,9 +22,7 @@ use Rattle.wire_shapes.specs.declared.Shape.TheVariants.{Sized, Split}
 use Rattle.wire_fields.specs.declared.Span.{Span}
 use Rattle.wire_fields.specs.declared.Span.TheVariants.{Whole, Other, Cut}
 use Rattle.wire_fields.specs.declared.Cursor.{Cursor}
-use Rattle.wire_fields.specs.declared.Part.TheVariants.{Here}
-use Rattle.wire_fields.specs.declared.Need.{Need}
-use Rattle.wire_fields.specs.declared.Need.TheVariants.{Field, Missing}
+use Rattle.wire_fields.specs.Places.{here, Need}
 use Rattle.wire_fields.proofs.SpanLaws.{span-whole, span_fits, span-length}
 use Rattle.wire_fields.proofs.RefusalLaws.{split_four, sized_four}
 use Rattle.sentences.specs.Numbers.{InPart}
@@ -91,18 +89,18 @@ module _ (d : List ℕ) where
   abbrev Whole-buffer : Type 0
   Whole-buffer = (number_at 0 2 (part 24 4 d) ≡ length d - 28) × (number_at 2 2 (part 24 4 d) ≡ 0)
 
-  whole-at : Whole-buffer → whole_in d (Here 24 4) ≡ true
+  whole-at : Whole-buffer → whole_in d (here 24 4) ≡ true
   unfolding whole_in
   whole-at y = rw (eq-eqb (number_at 0 2 (part 24 4 d)) (length d - 28) y.0, eq-eqb (number_at 2 2 (part 24 4 d)) 0 y.1) refl
 
-  at-whole : whole_in d (Here 24 4) ≡ true → Whole-buffer
+  at-whole : whole_in d (here 24 4) ≡ true → Whole-buffer
   unfolding whole_in
   at-whole e =
       let w = both_true (eqb (number_at 0 2 (part 24 4 d)) (length d - 28)) (eqb (number_at 2 2 (part 24 4 d)) 0) e in
       (eqb-true (number_at 0 2 (part 24 4 d)) (length d - 28) w.0, eqb-true (number_at 2 2 (part 24 4 d)) 0 w.1)
 
-  whole_is : (s l : ℕ) → s ≡ 24 → l ≡ 4 → Whole-buffer → whole_in d (Here s l) ≡ true
-  whole_is s l es el y = ap₂ (λ (x z : ℕ). whole_in d (Here x z)) es el ∙ whole-at y
+  whole_is : (s l : ℕ) → s ≡ 24 → l ≡ 4 → Whole-buffer → whole_in d (here s l) ≡ true
+  whole_is s l es el y = ap₂ (λ (x z : ℕ). whole_in d (here x z)) es el ∙ whole-at y
 
   pub part-to : in_part (type_of d) d ≡ true → InPart d
   unfolding in_part
@@ -121,7 +119,7 @@ module _ (d : List ℕ) where
             acked = (f.number, f.length-is);
             split = (v.number, v.length-is);
             allowed = sym (split_shape (part 24 4 d)) ∙ ap₂ (λ (x y : ℕ). has_shape Split (part x y d)) (sym v.starts) (sym v.long) ∙ g.shaped;
-            not-whole = λ y. both (whole_is (s') (l') v.starts v.long y) (not-true (whole_in d (Here s' l')) h);
+            not-whole = λ y. both (whole_is (s') (l') v.starts v.long y) (not-true (whole_in d (here s' l')) h);
           }
       split s l c f Missing q h = both h refl
 
@@ -135,10 +133,10 @@ module _ (d : List ℕ) where
   unfolding has_shape
   four-sized h = eq-eqb (length (part 16 4 d)) 4 (length_part 16 4 d (omega arith))
 
-  not-whole : ¬ Whole-buffer → not (whole_in d (Here 24 4)) ≡ true
-  not-whole h = go (whole_in d (Here 24 4)) refl
+  not-whole : ¬ Whole-buffer → not (whole_in d (here 24 4)) ≡ true
+  not-whole h = go (whole_in d (here 24 4)) refl
     where
-      go : (b : Bool) → whole_in d (Here 24 4) ≡ b → not (whole_in d (Here 24 4)) ≡ true
+      go : (b : Bool) → whole_in d (here 24 4) ≡ b → not (whole_in d (here 24 4)) ≡ true
       go true e = absurd (h (at-whole e))
       go false e = ap not e
 

@@ -2,11 +2,11 @@
 use mathlib.Core.Path.{subst}
 use Prim.Native.Nat.{◌≤◌}
 use native.Mathlib.Omega.{arith}
-use Rattle.wire_fields.specs.declared.Part.{Part}
+use Rattle.wire_fields.specs.Places.{Part, here}
 use Rattle.wire_buffer.specs.Buffer.{start_of}
 use Rattle.look.proofs.start_of.Goals as goal
 
 pub overflow_cast-result : goal.overflow_cast-result
 overflow_cast-result c =
-    let h = subst (λ (q : Part). start_of q ≤ 1232) c.in-Here.is c.requires in
+    let h = subst (λ (q : Part). start_of q ≤ 1232) c.in-here.is c.requires in
     omega arith

@@ -45,12 +45,12 @@ at_end_lem d i (p ∷ ps) false e = let z : ◌≡◌ {A = ℕ} 0 1 = cc in omeg
 step : (k : Kind) (ks : List Kind) (d : List ℕ) (i : ℕ) → ((j : ℕ) (qs : List Part) → places_at ks d j ≡ some qs → Stand ks d j qs)
     → (ps : List Part) → Came k ks d i ps → Stand (k ∷ ks) d i ps
 step k ks d i ih ps (left_out qs e o q) = rw e (o, ih i qs q)
-step k ks d i ih ps (found s l c qs e q g r) =
-    let f = span_fits d i k.number k.padded s l c q in
+step k ks d i ih ps (found p c qs e q g r) =
+    let f = span_fits d i k.number k.padded p c q in
     let a = f.within in
-    let b : number_at (i + 2) 2 d ≡ l + 4 = sym f.long in
+    let b : number_at (i + 2) 2 d ≡ p.len + 4 = sym f.long in
     let o = f.starts in
-    let n : c.at ≡ after k i (here s l) = f.goes ∙ ap (λ (w : ℕ). i + w + gap k.padded (i + w)) b in
+    let n : c.at ≡ after k i (Some p) = f.goes ∙ ap (λ (w : ℕ). i + w + gap k.padded (i + w)) b in
     rw e ((g, omega arith, o), subst (λ (j : ℕ). Stand ks d j qs) n (ih c.at qs r))
 
 pub stands : (ks : List Kind) (d : List ℕ) (i : ℕ) (ps : List Part) → places_at ks d i ≡ some ps → Stand ks d i ps

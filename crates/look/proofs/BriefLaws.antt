@@ -1,20 +1,43 @@
--- Laws of the ways from a datagram to what is told of it: what is read is what the type's reader gives; and what is told is part of the brief. Assumes nothing.
+-- Laws of the ways from a datagram to what is told of it: an answer of a type's reader that is no message of the type is a refusal; what is read is
+-- what the type's reader gives; and what is told is part of the brief. Assumes nothing.
 use Prim.Native.Nat.{ℕ}
 use mathlib.Core.Path.{◌≡◌, refl, ap, ◌∙◌}
-use mathlib.Core.Bool.{Bool, false, cond}
+use mathlib.Core.Bool.{Bool, true, false, cond}
 use mathlib.Core.List.{List}
-use mathlib.Core.Option.{some}
+use mathlib.Core.Option.{Option, some, none}
 use lib.ListN.{get_or}
 use Rattle.wire_shapes.specs.Shapes.{Kind}
 use Rattle.wire_fields.specs.Kinds.{kinds_of, authority_kinds}
 use Rattle.wire_fields.specs.Reading.{fields_as}
-use Rattle.wire_fields.specs.Refusals.{refused, found_of, found_in, in_part}
+use Rattle.wire_fields.specs.Refusals.{refused, found, found_of, found_in, in_part}
 use Rattle.wire_fields.proofs.RefusalLaws.{gated, by_type}
+use Rattle.wire_fields.specs.Places.{Part}
 use Rattle.wire_read.specs.Answers.{read_in, incoming_of}
 use Rattle.wire_read.specs.declared.Incoming.{Incoming}
 use Rattle.wire_read.specs.declared.Incoming.TheVariants as M
 use Rattle.look.specs.Seen.{look_of, briefed, brief_of, read_as, authority_read}
 use Rattle.look.specs.declared.Look.{Look}
+
+-- an answer that is no message of the type is a refusal
+module _ (d : List ℕ) (t : ℕ) (a : Incoming) (other : (ps : List Part) → a ≡ incoming_of d (found t ps) → ⊥) where
+  else-by : (o : Option (List Part)) → a ≡ incoming_of d (found_of t o) → a ≡ M.Refused 6
+  unfolding incoming_of
+  else-by none e = e
+  else-by (some ps) e = absurd (other ps e)
+
+  pub else-refused : (ks : List Kind) → a ≡ read_as t ks d → a ≡ M.Refused 6
+  else-refused ks e = else-by (fields_as t ks d) e
+
+-- an AUTHORITY's answer is a refusal or an AUTHORITY
+module _ (d : List ℕ) (a : Incoming) (no-message : (ps : List Part) → a ≡ incoming_of d (found 8 ps) → ⊥) (no-refusal : (n : ℕ) → a ≡ M.Refused n → ⊥) where
+  neither-by : (b : Bool) (o : Option (List Part)) → a ≡ incoming_of d (cond b (refused 7) (found_of 8 o)) → ⊥
+  unfolding incoming_of
+  neither-by true o e = no-refusal 7 e
+  neither-by false none e = no-refusal 6 e
+  neither-by false (some ps) e = no-message ps e
+
+  pub neither : a ≡ authority_read d → ⊥
+  neither e = neither-by (in_part 8 d) (fields_as 8 authority_kinds d) e
 
 -- where the header is right, what is read is what the reader of the type gives
 module _ (d : List ℕ) (major t : ℕ) (ks : List Kind) (e : found_in d major ≡ by_type (get_or d 7 0) d (kinds_of (get_or d 7 0))) (q : get_or d 7 0 ≡ t)

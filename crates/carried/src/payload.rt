@@ -11,7 +11,6 @@ ghost use Rattle.carried.specs.Take.{taken, taken_as, taken_by, nothing as nothi
 
 use crate::{Carry, Taken};
 use readings::{Packed, Reading, Unpacked};
-use wire_fields::Part;
 use wire_read::messages::Authority;
 use wire_write::Written;
 
@@ -120,10 +119,8 @@ pub(crate) fn take_reading(major: u8, d: &[u8], m: Authority) -> Taken
     requires { read_in d.now major ≡ TheAuthority m }
     ensures { result ≡ taken_as (message_of major d.now (TheAuthority m)) }
 {
-    let fields = m.fields;
-    let payload = fields.payload;
-    let Part::Here(start, len) = payload else {
+    let Some(place) = m.fields.payload else {
         return nothing(0, 0);
     };
-    shown(packing::unpack(&d[start..start + len]))
+    shown(packing::unpack(&d[place.start..place.start + place.len]))
 }

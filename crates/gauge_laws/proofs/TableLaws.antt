@@ -25,8 +25,8 @@ use Rattle.cache.specs.Calls.{held_by}
 use Rattle.waiting.specs.Form.{used_of}
 use Rattle.waiting_form.specs.Call as W
 use Rattle.wire_fields.specs.Refusals as fields
-use Rattle.wire_fields.specs.declared.Part.{Part}
-use Rattle.wire_fields.specs.declared.Part.TheVariants.{Here, Absent}
+use Rattle.std.specs.Prelude.{Some, None}
+use Rattle.wire_fields.specs.Places.{Part}
 use Rattle.wire_read.specs.Answers as R
 use Rattle.wire_read.specs.declared.Head.{Head}
 use Rattle.wire_read.specs.declared.Incoming as T
@@ -175,8 +175,8 @@ held m l = held_in (own_keys l.own) m.cache
 entry-number : (m : Memory) (l : Receive) (head : Head) (s : Bool) (validate : ℕ) (entry : Part)
     → number_of (by_entry m l (held m l) (used m) head s validate entry) ≡ first_of (flood_table m l s validate entry)
 unfolding flood_plan revoke_plan held_of
-entry-number m l head s validate (Here start len) = by_table _ _ refl
-entry-number m l head s validate Absent = by_table _ _ refl
+entry-number m l head s validate (Some p) = by_table _ _ refl
+entry-number m l head s validate None = by_table _ _ refl
 
 message-number : (m : Memory) (l : Receive) (a : T.Incoming) → IsMessage a → number_of (plan_for m l (held m l) (used m) a) ≡ first_of (message_rows m l a)
 unfolding plan_for inquire_plan authority_plan ack_plan lookup_plan held_of first_of
@@ -250,8 +250,8 @@ module _ (m : Memory) (l : Receive) where
 
   entry-rises : (s : Bool) (validate : ℕ) (entry : Part) → rises 6 (flood_table m l s validate entry) ≡ true
   unfolding place_in
-  entry-rises s validate (Here start len) = refl
-  entry-rises s validate Absent = refl
+  entry-rises s validate (Some p) = refl
+  entry-rises s validate None = refl
 
   -- behind reading, whose last number is 7
   message-rises : (a : T.Incoming) → rises 6 (message_rows m l a) ≡ true

@@ -1,6 +1,6 @@
 -- Helps the code. The table of refusals of each call, 1 to 15 in document 01's order. Of a datagram received: memory, what is handed in, reading, and the rows
 -- of the message that was read. Tied to document 01 by `ours-meets` (sentences/Theorems). Assumes nothing.
-use Rattle.std.specs.Prelude.{ℕ, ◌+◌, ◌-◌, Bool, true, not, List, [], ◌∷◌, ◌++◌, length}
+use Rattle.std.specs.Prelude.{ℕ, ◌+◌, ◌-◌, Bool, true, not, List, [], ◌∷◌, ◌++◌, length, Some, None}
 use Rattle.octet.specs.Part.{part}
 use Rattle.key.specs.Number.{key_at}
 use Rattle.record.specs.Entry.{record_of}
@@ -11,8 +11,7 @@ use Rattle.neighbours.specs.Closest.{closest_past}
 use Rattle.neighbours.specs.Calls.{list_wrong}
 use Rattle.waiting.specs.Form.{used_of, places_of}
 use Rattle.wire_fields.specs.Refusals.{refusals}
-use Rattle.wire_fields.specs.declared.Part.{Part}
-use Rattle.wire_fields.specs.declared.Part.TheVariants.{Here, Absent}
+use Rattle.wire_fields.specs.Places.{Part}
 use Rattle.wire_buffer.specs.Buffer.{start_of}
 use Rattle.wire_read.specs.Answers as R
 use Rattle.wire_read.specs.declared.Incoming as T
@@ -29,11 +28,11 @@ use Rattle.gauge.specs.Counts.{tick_table}
 
 -- a FLOOD with a route entry, or with a revocation
 abbrev pub flood_table : Memory → Receive → Bool → ℕ → Part → List Refusal
-flood_table m l silent validate (Here start len) =
-    let r = record_of (part start len l.datagram) in
+flood_table m l silent validate (Some p) =
+    let r = record_of (part p.start p.len l.datagram) in
     flood_refusals (own_keys l.own) (places_of m.waiting) (used_of m.waiting) l.id (length l.output) silent
     (not_ours (own_keys l.own) validate l.datagram) (must_ask (held_of (own_keys l.own) m.cache) (places_of m.waiting) r) r
-flood_table m l silent validate Absent =
+flood_table m l silent validate None =
     revoke_refusals (own_keys l.own) l.verdict (key_at 0 l.key) (length l.output) silent (not_ours (own_keys l.own) validate l.datagram)
 
 -- a LOOKUP

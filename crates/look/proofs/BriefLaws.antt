@@ -11,7 +11,7 @@ use Rattle.wire_fields.specs.Kinds.{kinds_of, authority_kinds}
 use Rattle.wire_fields.specs.Reading.{fields_as}
 use Rattle.wire_fields.specs.Refusals.{refused, found, found_of, found_in, in_part}
 use Rattle.wire_fields.proofs.RefusalLaws.{gated, by_type}
-use Rattle.wire_fields.specs.declared.Part.{Part}
+use Rattle.wire_fields.specs.Places.{Part}
 use Rattle.wire_read.specs.Answers.{read_in, incoming_of}
 use Rattle.wire_read.specs.declared.Incoming.{Incoming}
 use Rattle.wire_read.specs.declared.Incoming.TheVariants as M

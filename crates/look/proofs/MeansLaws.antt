@@ -18,8 +18,8 @@ use Rattle.wire_fields.specs.Kinds.{kinds_of}
 use Rattle.wire_fields.specs.Message.{Contents, Message, Formed, ends, parts_of}
 use Rattle.wire_fields.specs.Reading.{values_of}
 use Rattle.wire_fields.specs.Refusals.{found}
-use Rattle.wire_fields.specs.declared.Part.{Part}
-use Rattle.wire_fields.specs.declared.Part.TheVariants.{Absent}
+use Rattle.std.specs.Prelude.{None}
+use Rattle.wire_fields.specs.Places.{Part}
 use Rattle.wire_shapes.specs.declared.Shape.{Shape}
 use Rattle.wire_shapes.specs.declared.Shape.TheVariants.{Sized}
 use Rattle.wire_fields.proofs.WholeLaws.{reads_found}
@@ -55,8 +55,8 @@ Fixed (k ∷ ks) zero n = (k.optional ≡ false) × (k.shape ≡ Sized n)
 Fixed (k ∷ ks) (suc i) n = Fixed ks i n
 
 told_at : (d : List ℕ) (ks : List Kind) (j : ℕ) (fs : List Contents) → Formed ks fs → values_of ks d (parts_of j ks fs) ≡ fs → (i : ℕ) → Plain ks i
-    → LookTells d (get_or fs i none) (get_or (parts_of j ks fs) i Absent) (start_of (get_or (parts_of j ks fs) i Absent))
-    (size_of (get_or (parts_of j ks fs) i Absent))
+    → LookTells d (get_or fs i none) (get_or (parts_of j ks fs) i None) (start_of (get_or (parts_of j ks fs) i None))
+    (size_of (get_or (parts_of j ks fs) i None))
 told_at d [] j [] f e i p = absurd p
 told_at d [] j (x ∷ fs) f e i p = absurd f
 told_at d (k ∷ ks) j [] f e i p = absurd f
@@ -69,7 +69,7 @@ fixed_size : (v : List ℕ) (s : Shape) (n : ℕ) → s ≡ Sized n → has_shap
 unfolding has_shape
 fixed_size v s n e h = eqb-true (length v) n (sym (ap (λ (x : Shape). has_shape x v) e) ∙ h)
 
-fixed_at : (ks : List Kind) (j : ℕ) (fs : List Contents) → Formed ks fs → (i n : ℕ) → Fixed ks i n → size_of (get_or (parts_of j ks fs) i Absent) ≡ n
+fixed_at : (ks : List Kind) (j : ℕ) (fs : List Contents) → Formed ks fs → (i n : ℕ) → Fixed ks i n → size_of (get_or (parts_of j ks fs) i None) ≡ n
 fixed_at [] j fs f i n x = absurd x
 fixed_at (k ∷ ks) j [] f i n x = absurd f
 fixed_at (k ∷ ks) j (none ∷ fs) f zero n x = let y = f.0 in let w = x.0 in let z : ◌≡◌ {A = ℕ} 0 1 = cc in absurd (omega arith)
@@ -85,22 +85,22 @@ module _ (d : List ℕ) (ks : List Kind) (fs : List Contents) (formed : Formed k
   abbrev ps : List Part
   ps = parts_of 12 ks fs
 
-  at_place : (i : ℕ) → Plain ks i → LookTells d (get_or fs i none) (get_or ps i Absent) (start_of (get_or ps i Absent)) (size_of (get_or ps i Absent))
+  at_place : (i : ℕ) → Plain ks i → LookTells d (get_or fs i none) (get_or ps i None) (start_of (get_or ps i None)) (size_of (get_or ps i None))
   at_place i p = told_at d ks 12 fs formed values i p
 
-  at-fixed : (i n : ℕ) → Plain ks i → Fixed ks i n → LookTells d (get_or fs i none) (get_or ps i Absent) (start_of (get_or ps i Absent)) n
+  at-fixed : (i n : ℕ) → Plain ks i → Fixed ks i n → LookTells d (get_or fs i none) (get_or ps i None) (start_of (get_or ps i None)) n
   at-fixed i n p x =
-      subst (λ (l : ℕ). LookTells d (get_or fs i none) (get_or ps i Absent) (start_of (get_or ps i Absent)) l) (fixed_at ks 12 fs formed i n x)
+      subst (λ (l : ℕ). LookTells d (get_or fs i none) (get_or ps i None) (start_of (get_or ps i None)) l) (fixed_at ks 12 fs formed i n x)
       (at_place i p)
 
-  at-number : (i : ℕ) → Plain ks i → Fixed ks i 4 → number_at (start_of (get_or ps i Absent)) 4 d ≡ number_shown (get_or fs i none)
-  at-number i p x = number_of_lem d (get_or fs i none) (get_or ps i Absent) (start_of (get_or ps i Absent)) (at-fixed i 4 p x)
+  at-number : (i : ℕ) → Plain ks i → Fixed ks i 4 → number_at (start_of (get_or ps i None)) 4 d ≡ number_shown (get_or fs i none)
+  at-number i p x = number_of_lem d (get_or fs i none) (get_or ps i None) (start_of (get_or ps i None)) (at-fixed i 4 p x)
 
   -- behind the first two
   at_behind : (i : ℕ) → Plain ks (2 + i)
-      → LookTells d (get_or fs (2 + i) none) (get_or ps (2 + i) Absent) (start_of (get_or (drop 2 ps) i Absent)) (size_of (get_or (drop 2 ps) i Absent))
+      → LookTells d (get_or fs (2 + i) none) (get_or ps (2 + i) None) (start_of (get_or (drop 2 ps) i None)) (size_of (get_or (drop 2 ps) i None))
   at_behind i p =
-      subst (λ (q : Part). LookTells d (get_or fs (2 + i) none) (get_or ps (2 + i) Absent) (start_of q) (size_of q)) (sym (get_or-drop 2 ps i Absent))
+      subst (λ (q : Part). LookTells d (get_or fs (2 + i) none) (get_or ps (2 + i) None) (start_of q) (size_of q)) (sym (get_or-drop 2 ps i None))
       (at_place (2 + i) p)
 
 -- ---- type by type
@@ -251,7 +251,7 @@ look_number (M.Authority m) = refl
 look_number (M.Ack m) = refl
 look_number (M.Lookup m) = refl
 
-look_refused : (a : Incoming) → ¬ ((look_of a).number ≡ 0) → look_of a ≡ seen_as (look_of a).number 0 0 0 Absent Absent Absent Absent
+look_refused : (a : Incoming) → ¬ ((look_of a).number ≡ 0) → look_of a ≡ seen_as (look_of a).number 0 0 0 None None None None
 unfolding look_of
 look_refused (M.Refused n) h = refl
 look_refused (M.Solicit m) h = absurd (h refl)

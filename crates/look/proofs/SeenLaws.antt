@@ -10,8 +10,8 @@ use lib.Seq.{get_or-drop}
 use Rattle.wire_shapes.specs.Shapes.{Kind}
 use Rattle.wire_fields.specs.Kinds as K
 use Rattle.wire_fields.specs.Kinds.{must}
-use Rattle.wire_fields.specs.declared.Part.{Part}
-use Rattle.wire_fields.specs.declared.Part.TheVariants.{Here, Absent}
+use Rattle.std.specs.Prelude.{Some, None}
+use Rattle.wire_fields.specs.Places.{Part}
 use Rattle.wire_shapes.specs.declared.Shape.TheVariants.{Sized}
 use Rattle.wire_read.specs.Answers as R
 use Rattle.wire_buffer.specs.Buffer.{start_of}
@@ -26,7 +26,7 @@ use Rattle.look.specs.declared.Look.{Look}
 
 -- the place of field number j
 fact_at : (j : ℕ) (k₀ : Kind) (ks : List Kind) (d : List ℕ) (i : ℕ) (ps : List Part) → j < length ks → Stand ks d i ps
-    → (m : ℕ) × Fact (get_or ks j k₀) d m (get_or ps j Absent)
+    → (m : ℕ) × Fact (get_or ks j k₀) d m (get_or ps j None)
 fact_at j k₀ [] d i ps h w = absurd (omega arith)
 fact_at j k₀ (k ∷ ks) d i [] h w = absurd w
 fact_at zero k₀ (k ∷ ks) d i (p ∷ ps) h w = (i, w.0)
@@ -37,18 +37,18 @@ module _ (d : List ℕ) where
   Inside p = start_of p + size_of p ≤ length d
 
   fact-inside : (k : Kind) (m : ℕ) (p : Part) → Fact k d m p → Inside p
-  fact-inside k m (Here s l) f = f.1
-  fact-inside k m Absent f = omega arith
+  fact-inside k m (Some p) f = f.1
+  fact-inside k m None f = omega arith
 
-  inside-at : (j : ℕ) (ks : List Kind) (ps : List Part) → j < length ks → Stand ks d 12 ps → Inside (get_or ps j Absent)
+  inside-at : (j : ℕ) (ks : List Kind) (ps : List Part) → j < length ks → Stand ks d 12 ps → Inside (get_or ps j None)
   inside-at j ks ps h w =
       let (m, f) = fact_at j K.acked_kind ks d 12 ps h w in
-      fact-inside (get_or ks j K.acked_kind) m (get_or ps j Absent) f
+      fact-inside (get_or ks j K.acked_kind) m (get_or ps j None) f
 
   -- a field of a fixed size, that must be there
   sized_inside : (n : ℕ) (padded : Bool) (size m : ℕ) (p : Part) → Fact (must n padded (Sized size) []) d m p → start_of p + size ≤ length d
-  sized_inside n padded size m (Here s l) f = let e = sized-length size d s l f.0 f.1 in let h = f.1 in omega arith
-  sized_inside n padded size m Absent f = absurd (let z : ◌≡◌ {A = ℕ} 0 1 = cc in omega arith)
+  sized_inside n padded size m (Some p) f = let e = sized-length size d p.start p.len f.0 f.1 in let h = f.1 in omega arith
+  sized_inside n padded size m None f = absurd (let z : ◌≡◌ {A = ℕ} 0 1 = cc in omega arith)
 
 -- ---- of what is told
 
@@ -67,21 +67,21 @@ module _ (d : List ℕ) (n : ℕ) (within : length d ≤ 1232 → length d ≤ n
     solicit-told ps w =
         let a = inside-at d 0 K.solicit_kinds ps (omega arith) w in
         let (m, f) = fact_at 1 K.acked_kind K.solicit_kinds d 12 ps (omega arith) w in
-        let b = sized_inside d 0x92 false 20 m (get_or ps 1 Absent) f in
+        let b = sized_inside d 0x92 false 20 m (get_or ps 1 None) f in
         (omega arith, omega arith, omega arith, omega arith)
 
     advertise-told : (ps : List Part) → Stand K.advertise_kinds d 12 ps → Tells (R.advertise_shown d ps)
     unfolding look_of
     advertise-told ps w =
         let (m, f) = fact_at 2 K.acked_kind K.advertise_kinds d 12 ps (omega arith) w in
-        let b = sized_inside d 0x92 false 20 m (get_or ps 2 Absent) f in
+        let b = sized_inside d 0x92 false 20 m (get_or ps 2 None) f in
         (omega arith, omega arith, omega arith, omega arith)
 
     request-told : (ps : List Part) → Stand K.request_kinds d 12 ps → Tells (R.request_shown d ps)
     unfolding look_of
     request-told ps w =
         let (m, f) = fact_at 2 K.acked_kind K.request_kinds d 12 ps (omega arith) w in
-        let b = sized_inside d 0x93 false 16 m (get_or ps 2 Absent) f in
+        let b = sized_inside d 0x93 false 16 m (get_or ps 2 None) f in
         (omega arith, omega arith, omega arith, omega arith)
 
     flood-told : (ps : List Part) → Stand K.flood_kinds d 12 ps → Tells (R.flood_shown d ps)
@@ -100,8 +100,8 @@ module _ (d : List ℕ) (n : ℕ) (within : length d ≤ 1232 → length d ≤ n
     authority-told : (ps : List Part) → Stand K.authority_kinds d 12 ps → Tells (R.authority_shown d ps)
     unfolding look_of
     authority-told ps w =
-        let a = subst (Inside d) (sym (get_or-drop 2 ps 5 Absent)) (inside-at d 7 K.authority_kinds ps (omega arith) w) in
-        let b = subst (Inside d) (sym (get_or-drop 2 ps 6 Absent)) (inside-at d 8 K.authority_kinds ps (omega arith) w) in
+        let a = subst (Inside d) (sym (get_or-drop 2 ps 5 None)) (inside-at d 7 K.authority_kinds ps (omega arith) w) in
+        let b = subst (Inside d) (sym (get_or-drop 2 ps 6 None)) (inside-at d 8 K.authority_kinds ps (omega arith) w) in
         (omega arith, omega arith, omega arith, omega arith)
 
     lookup-told : (ps : List Part) → Stand K.lookup_kinds d 12 ps → Tells (R.lookup_shown d ps)
@@ -109,10 +109,10 @@ module _ (d : List ℕ) (n : ℕ) (within : length d ≤ 1232 → length d ≤ n
     lookup-told ps w =
         let a = inside-at d 3 K.lookup_kinds ps (omega arith) w in
         let (m, f) = fact_at 1 K.acked_kind K.lookup_kinds d 12 ps (omega arith) w in
-        let b = sized_inside d 0x38 false 32 m (get_or ps 1 Absent) f in
+        let b = sized_inside d 0x38 false 32 m (get_or ps 1 None) f in
         (omega arith, omega arith, omega arith, omega arith)
 
-  zeros : (m : ℕ) → Told n (seen_as m 0 0 0 Absent Absent Absent Absent)
+  zeros : (m : ℕ) → Told n (seen_as m 0 0 0 None None None None)
   zeros m = (omega arith, omega arith, omega arith, omega arith)
 
   told : (major : ℕ) → Tells (read_in d major)

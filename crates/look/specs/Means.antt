@@ -1,14 +1,13 @@
 -- Beside the demands. What the answer of a look means, in terms of the message that the datagram reads as and not of the reader's own answer: "place and length in
 -- the datagram of the CPA or revoke CPA, of the nonce, of the route entry and of the target key, 0 and 0 for one not there" (D23). The radio program judges a
 -- CPA by them. A theorem `look-means` stands in proofs/MeansLaws.antt. Assumes nothing.
-use Rattle.std.specs.Prelude.{ℕ, ◌<◌, cond, List, ◌↔◌, ◌≡◌, eqb, length, get_or}
+use Rattle.std.specs.Prelude.{ℕ, ◌<◌, cond, List, ◌↔◌, ◌≡◌, eqb, length, get_or, None}
 use Rattle.std.proofs.Math.Option.{Option, some, none}
 use Rattle.octet.specs.Number.{Bytes, value_be}
 use Rattle.octet.specs.Part.{part}
 use Rattle.wire_shapes.specs.Shapes.{Kind}
 use Rattle.wire_fields.specs.Message.{Contents, Message, Reads, parts_of}
-use Rattle.wire_fields.specs.declared.Part.{Part}
-use Rattle.wire_fields.specs.declared.Part.TheVariants.{Here, Absent}
+use Rattle.wire_fields.specs.Places.{Part, here}
 use Rattle.wire_read.specs.Answers.{read_in}
 use Rattle.look.specs.declared.Look.{Look}
 use Rattle.look.specs.Seen.{seen_as, look_of}
@@ -42,8 +41,8 @@ contents_shown msg none = none
 contents_shown msg (some i) = get_or msg.fields i none
 
 abbrev pub stands_at : List Kind → Message → Option ℕ → Part
-stands_at ks msg none = Absent
-stands_at ks msg (some i) = get_or (parts_of 12 ks msg.fields) i Absent
+stands_at ks msg none = None
+stands_at ks msg (some i) = get_or (parts_of 12 ks msg.fields) i None
 
 -- the number that contents are, 0 where there are none
 abbrev pub number_shown : Contents → ℕ
@@ -54,7 +53,7 @@ number_shown (some v) = value_be 256 v
 -- stands at place 0; 0 and 0 are for none
 abbrev pub LookTells : List ℕ → Contents → Part → ℕ → ℕ → Type 0
 LookTells d none p at len = (at ≡ 0) × (len ≡ 0)
-LookTells d (some v) p at len = (0 < at) × (len ≡ length v) × (part at len d ≡ v) × (p ≡ Here at len)
+LookTells d (some v) p at len = (0 < at) × (len ≡ length v) × (part at len d ≡ v) × (p ≡ here at len)
 
 abbrev pub TellsField : List ℕ → List Kind → Message → Option ℕ → ℕ → ℕ → Type 0
 TellsField d ks msg i at len = LookTells d (contents_shown msg i) (stands_at ks msg i) at len
@@ -74,7 +73,7 @@ pub record Means (d : List ℕ) (major : ℕ) (l : Look) : Type 0 where
   pub reads : (l.number ≡ 0) ↔ ((ks : List Kind) × (msg : Message) × Reads ks d msg × (msg.major ≡ major))
   pub says : (ks : List Kind) (msg : Message) → Reads ks d msg → msg.major ≡ major → LookSays d ks msg l
   -- "with any number but 0 all else is 0"
-  pub refused : ¬ (l.number ≡ 0) → l ≡ seen_as l.number 0 0 0 Absent Absent Absent Absent
+  pub refused : ¬ (l.number ≡ 0) → l ≡ seen_as l.number 0 0 0 None None None None
 
 abbrev pub LookMeans : Type 0
 LookMeans = (d : List ℕ) → Bytes d → (major : ℕ) → Means d major (look_of (read_in d major))

@@ -1,9 +1,8 @@
 -- Helps the code. What the radio program is told of a message: "Reading a message without acting on it gives 0 to 6, and 7 only for an AUTHORITY in part".
 -- With 0: the type, the message ID and the acked ID, and where in the datagram those fields stand that the program must judge or sign. Tied to the message
 -- read by `look-means` (look/MeansLaws). Assumes nothing.
-use Rattle.std.specs.Prelude.{ℕ, ◌+◌, ◌≤◌, List, Bool, false}
-use Rattle.wire_fields.specs.declared.Part.{Part}
-use Rattle.wire_fields.specs.declared.Part.TheVariants.{Here, Absent}
+use Rattle.std.specs.Prelude.{ℕ, ◌+◌, ◌≤◌, List, Bool, false, Some, None}
+use Rattle.wire_fields.specs.Places.{Part, here}
 use Rattle.wire_buffer.specs.Buffer.{start_of}
 use Rattle.wire_read.specs.declared.Incoming.{Incoming}
 use Rattle.wire_read.specs.declared.Incoming.TheVariants as M
@@ -18,8 +17,8 @@ use Rattle.look.specs.declared.Brief.{Brief}
 
 -- how many bytes a field's contents are, 0 where it is not there; `start_of` is their place
 abbrev pub size_of : Part → ℕ
-size_of (Here s l) = l
-size_of Absent = 0
+size_of (Some p) = p.len
+size_of None = 0
 
 -- number; type, message ID, acked ID; place and length of the CPA or revoke CPA, of the nonce, of the route entry, of the target key
 abbrev pub seen_as : (number kind id acked : ℕ) (cpa nonce entry target : Part) → Look
@@ -41,15 +40,15 @@ seen_as number kind id acked cpa nonce entry target =
 
 -- a hashed nonce has 20 bytes, a REQUEST's nonce 16, a key 32
 unfoldable pub look_of : Incoming → Look
-look_of (M.Refused n) = seen_as n 0 0 0 Absent Absent Absent Absent
-look_of (M.Solicit m) = seen_as 0 1 m.head.id 0 Absent (Here m.nonce 20) m.entry Absent
-look_of (M.Advertise m) = seen_as 0 2 m.head.id m.acked Absent (Here m.nonce 20) Absent Absent
-look_of (M.Request m) = seen_as 0 3 m.head.id 0 Absent (Here m.nonce 16) Absent Absent
-look_of (M.Flood m) = seen_as 0 4 m.head.id 0 m.revoke Absent m.entry Absent
-look_of (M.Inquire m) = seen_as 0 7 m.head.id 0 Absent m.nonce Absent Absent
-look_of (M.Authority m) = seen_as 0 8 m.head.id m.acked m.fields.cpa Absent m.fields.entry Absent
-look_of (M.Ack m) = seen_as 0 9 m.head.id m.acked Absent Absent Absent Absent
-look_of (M.Lookup m) = seen_as 0 11 m.head.id 0 Absent Absent m.entry (Here m.target 32)
+look_of (M.Refused n) = seen_as n 0 0 0 None None None None
+look_of (M.Solicit m) = seen_as 0 1 m.head.id 0 None (here m.nonce 20) m.entry None
+look_of (M.Advertise m) = seen_as 0 2 m.head.id m.acked None (here m.nonce 20) None None
+look_of (M.Request m) = seen_as 0 3 m.head.id 0 None (here m.nonce 16) None None
+look_of (M.Flood m) = seen_as 0 4 m.head.id 0 m.revoke None m.entry None
+look_of (M.Inquire m) = seen_as 0 7 m.head.id 0 None m.nonce None None
+look_of (M.Authority m) = seen_as 0 8 m.head.id m.acked m.fields.cpa None m.fields.entry None
+look_of (M.Ack m) = seen_as 0 9 m.head.id m.acked None None None None
+look_of (M.Lookup m) = seen_as 0 11 m.head.id 0 None None m.entry (here m.target 32)
 
 -- what calls want of a message besides: a validate key's place, a flag, place and length of a path
 abbrev pub briefed : Look → ℕ → Bool → ℕ → ℕ → Brief

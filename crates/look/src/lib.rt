@@ -2,15 +2,14 @@
 // fields stand that the program must judge or sign.
 #![tactic(auto)]
 
-ghost use Rattle.std.specs.Prelude.{◌≡◌, ◌+◌, ◌≤◌, length};
+ghost use Rattle.std.specs.Prelude.{◌≡◌, ◌+◌, ◌≤◌, false, length};
 ghost use Rattle.wire_fields.specs.Kinds.{solicit_kinds, advertise_kinds, request_kinds, flood_kinds, inquire_kinds, ack_kinds, lookup_kinds};
 ghost use Rattle.wire_buffer.specs.Buffer.{start_of};
-ghost use Rattle.wire_read.specs.Answers.{is_here, read_in};
+ghost use Rattle.wire_read.specs.Answers.{read_in};
 ghost use Rattle.wire_read.specs.declared.Incoming.TheVariants.{Refused};
-ghost use Rattle.look.specs.Seen.{size_of, seen_as, look_of, brief_of, read_as, authority_read, Small};
+ghost use Rattle.look.specs.Seen.{size_of, seen_as, look_of, briefed, brief_of, read_as, authority_read, Small};
 
-use wire_fields::Part;
-use wire_read::Incoming;
+use wire_fields::Place;
 
 // Document 01's number of reading; type, message ID and acked ID; place and length of the CPA or revoke CPA, of the
 // nonce, of the route entry and of the target key, 0 and 0 for one not there.
@@ -31,26 +30,12 @@ pub struct Look {
     pub target_length: u32,
 }
 
-// Where a field's contents start; 0 for one not there.
-fn start_of(p: Part) -> u32
-    requires { start_of p ≤ 1232 }
-    ensures { result ≡ start_of p }
+// Where a field's contents are; 0 and 0 for one not there.
+fn place_of(p: Option<Place>) -> Place
+    ensures start { result.start ≡ start_of p }
+    ensures len { result.len ≡ size_of p }
 {
-    match p {
-        Part::Here(start, _) => start as u32,
-        Part::Absent => 0,
-    }
-}
-
-// How many bytes they are; 0 for one not there.
-fn size_of(p: Part) -> u32
-    requires { size_of p ≤ 1232 }
-    ensures { result ≡ size_of p }
-{
-    match p {
-        Part::Here(_, len) => len as u32,
-        Part::Absent => 0,
-    }
+    p.unwrap_or(Place { start: 0, len: 0 })
 }
 
 // What is told of a message with these fields, or of a refusal, which has none.
@@ -59,28 +44,32 @@ fn seen_as(
     kind: u32,
     id: u32,
     acked: u32,
-    cpa: Part,
-    nonce: Part,
-    entry: Part,
-    target: Part,
+    cpa: Option<Place>,
+    nonce: Option<Place>,
+    entry: Option<Place>,
+    target: Option<Place>,
 ) -> Look
     requires { (start_of cpa + size_of cpa ≤ 1232) × (start_of nonce + size_of nonce ≤ 1232)
         × (start_of entry + size_of entry ≤ 1232) × (start_of target + size_of target ≤ 1232) }
     ensures { result ≡ seen_as number kind id acked cpa nonce entry target }
 {
+    let cpa = place_of(cpa);
+    let nonce = place_of(nonce);
+    let entry = place_of(entry);
+    let target = place_of(target);
     Look {
         number,
         kind,
         id,
         acked,
-        cpa: start_of(cpa),
-        cpa_length: size_of(cpa),
-        nonce: start_of(nonce),
-        nonce_length: size_of(nonce),
-        entry: start_of(entry),
-        entry_length: size_of(entry),
-        target: start_of(target),
-        target_length: size_of(target),
+        cpa: cpa.start as u32,
+        cpa_length: cpa.len as u32,
+        nonce: nonce.start as u32,
+        nonce_length: nonce.len as u32,
+        entry: entry.start as u32,
+        entry_length: entry.len as u32,
+        target: target.start as u32,
+        target_length: target.len as u32,
     }
 }
 
@@ -95,31 +84,10 @@ pub struct Brief {
     pub size: usize,
 }
 
-// Where a field's contents start, and how many bytes they are; 0 for one not there.
-fn place_of(p: Part) -> usize
-    ensures { result ≡ start_of p }
+// What is told, and nothing besides.
+fn alone(seen: Look) -> Brief
+    ensures { result ≡ briefed seen 0 false 0 0 }
 {
-    let Part::Here(start, _) = p else {
-        return 0;
-    };
-    start
-}
-
-fn bytes_of(p: Part) -> usize
-    ensures { result ≡ size_of p }
-{
-    let Part::Here(_, len) = p else {
-        return 0;
-    };
-    len
-}
-
-// What is told of a refusal.
-fn refused(number: u8) -> Brief
-    ensures { result ≡ brief_of (Refused number) }
-{
-    let none = Part::Absent;
-    let seen = seen_as(number as u32, 0, 0, 0, none, none, none, none);
     Brief {
         seen,
         validate: 0,
@@ -129,15 +97,11 @@ fn refused(number: u8) -> Brief
     }
 }
 
-// Whether a field is there.
-fn is_here(p: Part) -> bool
-    ensures { result ≡ is_here p }
+// What is told of a refusal.
+fn refused(number: u8) -> Brief
+    ensures { result ≡ brief_of (Refused number) }
 {
-    if let Part::Here(_, _) = p {
-        true
-    } else {
-        false
-    }
+    alone(seen_as(number as u32, 0, 0, 0, None, None, None, None))
 }
 
 // Of each message, where its fields are told within the datagram.
@@ -145,105 +109,59 @@ fn brief_solicit(datagram: &[u8]) -> Brief
     requires { (12 ≤ length datagram.now) × Small (look_of (read_as 1 solicit_kinds datagram.now)) }
     ensures { result ≡ brief_of (read_as 1 solicit_kinds datagram.now) }
 {
-    let none = Part::Absent;
-    let message = wire_read::read_solicit(datagram);
-    let Incoming::Solicit(m) = message else {
+    let Some(m) = wire_read::read_solicit(datagram) else {
         return refused(6);
     };
-    let entry = m.entry;
-    let seen = seen_as(
-        0,
-        1,
-        m.head.id,
-        0,
-        none,
-        Part::Here(m.nonce, 20),
-        entry,
-        none,
-    );
-    Brief {
-        seen,
-        validate: 0,
-        flag: false,
-        path: 0,
-        size: 0,
-    }
+    let nonce = Some(Place {
+        start: m.nonce,
+        len: 20,
+    });
+    let seen = seen_as(0, 1, m.head.id, 0, None, nonce, m.entry, None);
+    alone(seen)
 }
 
 fn brief_advertise(datagram: &[u8]) -> Brief
     requires { (12 ≤ length datagram.now) × Small (look_of (read_as 2 advertise_kinds datagram.now)) }
     ensures { result ≡ brief_of (read_as 2 advertise_kinds datagram.now) }
 {
-    let none = Part::Absent;
-    let message = wire_read::read_advertise(datagram);
-    let Incoming::Advertise(m) = message else {
+    let Some(m) = wire_read::read_advertise(datagram) else {
         return refused(6);
     };
-    let seen = seen_as(
-        0,
-        2,
-        m.head.id,
-        m.acked,
-        none,
-        Part::Here(m.nonce, 20),
-        none,
-        none,
-    );
-    Brief {
-        seen,
-        validate: 0,
-        flag: false,
-        path: 0,
-        size: 0,
-    }
+    let nonce = Some(Place {
+        start: m.nonce,
+        len: 20,
+    });
+    let seen = seen_as(0, 2, m.head.id, m.acked, None, nonce, None, None);
+    alone(seen)
 }
 
 fn brief_request(datagram: &[u8]) -> Brief
     requires { (12 ≤ length datagram.now) × Small (look_of (read_as 3 request_kinds datagram.now)) }
     ensures { result ≡ brief_of (read_as 3 request_kinds datagram.now) }
 {
-    let none = Part::Absent;
-    let message = wire_read::read_request(datagram);
-    let Incoming::Request(m) = message else {
+    let Some(m) = wire_read::read_request(datagram) else {
         return refused(6);
     };
-    let seen = seen_as(
-        0,
-        3,
-        m.head.id,
-        0,
-        none,
-        Part::Here(m.nonce, 16),
-        none,
-        none,
-    );
-    Brief {
-        seen,
-        validate: 0,
-        flag: false,
-        path: 0,
-        size: 0,
-    }
+    let nonce = Some(Place {
+        start: m.nonce,
+        len: 16,
+    });
+    let seen = seen_as(0, 3, m.head.id, 0, None, nonce, None, None);
+    alone(seen)
 }
 
 fn brief_flood(datagram: &[u8]) -> Brief
     requires { (12 ≤ length datagram.now) × Small (look_of (read_as 4 flood_kinds datagram.now)) }
     ensures { result ≡ brief_of (read_as 4 flood_kinds datagram.now) }
 {
-    let none = Part::Absent;
-    let message = wire_read::read_flood(datagram);
-    let Incoming::Flood(m) = message else {
+    let Some(m) = wire_read::read_flood(datagram) else {
         return refused(6);
     };
-    let revoke = m.revoke;
-    let entry = m.entry;
-    let seen = seen_as(0, 4, m.head.id, 0, revoke, none, entry, none);
+    let seen = seen_as(0, 4, m.head.id, 0, m.revoke, None, m.entry, None);
     Brief {
-        seen,
         validate: m.validate,
         flag: m.d,
-        path: 0,
-        size: 0,
+        ..alone(seen)
     }
 }
 
@@ -251,19 +169,13 @@ fn brief_inquire(datagram: &[u8]) -> Brief
     requires { (12 ≤ length datagram.now) × Small (look_of (read_as 7 inquire_kinds datagram.now)) }
     ensures { result ≡ brief_of (read_as 7 inquire_kinds datagram.now) }
 {
-    let none = Part::Absent;
-    let message = wire_read::read_inquire(datagram);
-    let Incoming::Inquire(m) = message else {
+    let Some(m) = wire_read::read_inquire(datagram) else {
         return refused(6);
     };
-    let nonce = m.nonce;
-    let seen = seen_as(0, 7, m.head.id, 0, none, nonce, none, none);
+    let seen = seen_as(0, 7, m.head.id, 0, None, m.nonce, None, None);
     Brief {
-        seen,
         validate: m.validate,
-        flag: false,
-        path: 0,
-        size: 0,
+        ..alone(seen)
     }
 }
 
@@ -271,24 +183,16 @@ fn brief_authority(datagram: &[u8]) -> Brief
     requires { (12 ≤ length datagram.now) × Small (look_of (authority_read datagram.now)) }
     ensures { result ≡ brief_of (authority_read datagram.now) }
 {
-    let none = Part::Absent;
-    let message = wire_read::read_authority(datagram);
-    let Incoming::Authority(m) = message else {
-        let Incoming::Refused(number) = message else {
-            return refused(6);
-        };
-        return refused(number);
+    let m = match wire_read::read_authority(datagram) {
+        Ok(m) => m,
+        Err(number) => return refused(number),
     };
-    let fields = m.fields;
-    let cpa = fields.cpa;
-    let entry = fields.entry;
-    let seen = seen_as(0, 8, m.head.id, m.acked, cpa, none, entry, none);
+    let cpa = m.fields.cpa;
+    let entry = m.fields.entry;
+    let seen = seen_as(0, 8, m.head.id, m.acked, cpa, None, entry, None);
     Brief {
-        seen,
-        validate: 0,
-        flag: is_here(cpa),
-        path: 0,
-        size: 0,
+        flag: cpa.is_some(),
+        ..alone(seen)
     }
 }
 
@@ -296,18 +200,13 @@ fn brief_ack(datagram: &[u8]) -> Brief
     requires { (12 ≤ length datagram.now) × Small (look_of (read_as 9 ack_kinds datagram.now)) }
     ensures { result ≡ brief_of (read_as 9 ack_kinds datagram.now) }
 {
-    let none = Part::Absent;
-    let message = wire_read::read_ack(datagram);
-    let Incoming::Ack(m) = message else {
+    let Some(m) = wire_read::read_ack(datagram) else {
         return refused(6);
     };
-    let seen = seen_as(0, 9, m.head.id, m.acked, none, none, none, none);
+    let seen = seen_as(0, 9, m.head.id, m.acked, None, None, None, None);
     Brief {
-        seen,
-        validate: 0,
         flag: m.n,
-        path: 0,
-        size: 0,
+        ..alone(seen)
     }
 }
 
@@ -315,29 +214,19 @@ fn brief_lookup(datagram: &[u8]) -> Brief
     requires { (12 ≤ length datagram.now) × Small (look_of (read_as 11 lookup_kinds datagram.now)) }
     ensures { result ≡ brief_of (read_as 11 lookup_kinds datagram.now) }
 {
-    let none = Part::Absent;
-    let message = wire_read::read_lookup(datagram);
-    let Incoming::Lookup(m) = message else {
+    let Some(m) = wire_read::read_lookup(datagram) else {
         return refused(6);
     };
-    let entry = m.entry;
-    let path = m.path;
-    let seen = seen_as(
-        0,
-        11,
-        m.head.id,
-        0,
-        none,
-        none,
-        entry,
-        Part::Here(m.target, 32),
-    );
+    let target = Some(Place {
+        start: m.target,
+        len: 32,
+    });
+    let path = place_of(m.path);
+    let seen = seen_as(0, 11, m.head.id, 0, None, None, m.entry, target);
     Brief {
-        seen,
-        validate: 0,
-        flag: false,
-        path: place_of(path),
-        size: bytes_of(path),
+        path: path.start,
+        size: path.len,
+        ..alone(seen)
     }
 }
 

@@ -12,8 +12,8 @@ use Rattle.octet.proofs.TestLaws.{both_true}
 use Rattle.record.specs.Entry.{entry_form}
 use Rattle.wire_shapes.specs.Shapes.{Kind, has_shape, array_form}
 use Rattle.wire_fields.specs.Kinds.{must, may, last_of_two_and_one, flags_axc, keep_lookup, endpoints, flood_kinds, inquire_kinds, lookup_kinds}
-use Rattle.wire_fields.specs.declared.Part.{Part}
-use Rattle.wire_fields.specs.declared.Part.TheVariants.{Here, Absent}
+use Rattle.std.specs.Prelude.{Some, None}
+use Rattle.wire_fields.specs.Places.{Part, here}
 use Rattle.wire_shapes.specs.declared.Shape.TheVariants.{Sized, Any, Entry, Lookup}
 use Rattle.wire_read.specs.Answers.{read_in, flood_shown, inquire_shown, lookup_shown}
 use Rattle.wire_read.specs.declared.Incoming as T
@@ -24,13 +24,13 @@ use Rattle.wire.proofs.ShownLaws.{of-each}
 -- ---- what is known of an answer
 
 abbrev pub EntryIn : List ℕ → Part → Type 0
-EntryIn d (Here s l) = (s + l ≤ length d) × (entry_form (part s l d) ≡ true)
-EntryIn d Absent = Unit {0}
+EntryIn d (Some p) = (p.start + p.len ≤ length d) × (entry_form (part p.start p.len d) ≡ true)
+EntryIn d None = Unit {0}
 
 -- an array of endpoints has a header of 8 bytes
 abbrev pub PathIn : List ℕ → Part → Type 0
-PathIn d (Here s l) = (8 ≤ l) × (s + l ≤ length d)
-PathIn d Absent = ⊥
+PathIn d (Some p) = (8 ≤ p.len) × (p.start + p.len ≤ length d)
+PathIn d None = ⊥
 
 abbrev pub KnownAnswer : List ℕ → T.Incoming → Type 0
 KnownAnswer d (M.Refused n) = Unit {0}
@@ -47,8 +47,8 @@ KnownAnswer d (M.Lookup x) = (x.target + 32 ≤ length d) × EntryIn d x.entry �
 
 entry_in_lem : (d : List ℕ) (i : ℕ) (p : Part) → Fact (may 0x9A true Entry []) d i p → EntryIn d p
 unfolding has_shape
-entry_in_lem d i (Here s l) f = (f.1, f.0)
-entry_in_lem d i Absent f = tt
+entry_in_lem d i (Some p) f = (f.1, f.0)
+entry_in_lem d i None f = tt
 
 -- a key of 32 bytes
 key_in_lem : (d : List ℕ) (s l : ℕ) → has_shape (Sized 32) (part s l d) ≡ true → s + l ≤ length d → s + 32 ≤ length d
@@ -61,9 +61,9 @@ flood_known d ps w =
     let n₂ = maybed (may 0x9F true Any []) (drop 3 flood_kinds) d _ n₁.rest n₁.more in
     let n₃ = maybed (may 0x9C true Any []) (drop 4 flood_kinds) d _ n₂.rest n₂.more in
     let n₄ = maybed (may 0x9A true Entry []) (drop 5 flood_kinds) d _ n₃.rest n₃.more in
-    let tail = n₁.is ∙ ap (λ (r : List Part). Here n₁.s n₁.l ∷ r) (n₂.is ∙ ap (λ (r : List Part). n₂.p ∷ r)
+    let tail = n₁.is ∙ ap (λ (r : List Part). here n₁.s n₁.l ∷ r) (n₂.is ∙ ap (λ (r : List Part). n₂.p ∷ r)
     (n₃.is ∙ ap (λ (r : List Part). n₃.p ∷ r) n₄.is)) in
-    let all = n₀.is ∙ ap (λ (r : List Part). Here n₀.s n₀.l ∷ r) tail in
+    let all = n₀.is ∙ ap (λ (r : List Part). here n₀.s n₀.l ∷ r) tail in
     subst (λ (q : List Part). KnownAnswer d (flood_shown d q)) (sym all)
     (key_in_lem d n₁.s n₁.l n₁.shaped n₁.within, entry_in_lem d _ n₄.p n₄.fact)
 
@@ -71,14 +71,14 @@ inquire_known : (d : List ℕ) (ps : List Part) → Stand inquire_kinds d 12 ps 
 inquire_known d ps w =
     let n₀ = needed (must 0x40 true (Sized 2) flags_axc) (drop 1 inquire_kinds) d 12 ps refl w in
     let n₁ = needed (must 0x39 false (Sized 32) []) (drop 2 inquire_kinds) d _ n₀.rest refl n₀.more in
-    let all = n₀.is ∙ ap (λ (r : List Part). Here n₀.s n₀.l ∷ r) n₁.is in
+    let all = n₀.is ∙ ap (λ (r : List Part). here n₀.s n₀.l ∷ r) n₁.is in
     subst (λ (q : List Part). KnownAnswer d (inquire_shown d q)) (sym all) (key_in_lem d n₁.s n₁.l n₁.shaped n₁.within)
 
 abbrev controls : Kind
 controls = record { number = 0x45; optional = false; padded = false; shape = Lookup; kept = keep_lookup }
 
 -- endpoints in an array
-array_in : (d : List ℕ) (s l : ℕ) → has_shape endpoints (part s l d) ≡ true → s + l ≤ length d → PathIn d (Here s l)
+array_in : (d : List ℕ) (s l : ℕ) → has_shape endpoints (part s l d) ≡ true → s + l ≤ length d → PathIn d (here s l)
 unfolding has_shape array_form
 array_in d s l e h = (omega (arith, leb-true 8 (length (part s l d)) (first _ _ _ _ _ _ _ e), length_part s l d h), h)
   where
@@ -94,9 +94,9 @@ lookup_known d ps w =
     let n₂ = needed (must 0x39 false (Sized 32) []) (drop 3 lookup_kinds) d _ n₁.rest refl n₁.more in
     let n₃ = maybed (may 0x9A true Entry []) (drop 4 lookup_kinds) d _ n₂.rest n₂.more in
     let n₄ = needed (must 0x9E false endpoints []) (drop 5 lookup_kinds) d _ n₃.rest refl n₃.more in
-    let tail = n₁.is ∙ ap (λ (r : List Part). Here n₁.s n₁.l ∷ r) (n₂.is ∙ ap (λ (r : List Part). Here n₂.s n₂.l ∷ r)
+    let tail = n₁.is ∙ ap (λ (r : List Part). here n₁.s n₁.l ∷ r) (n₂.is ∙ ap (λ (r : List Part). here n₂.s n₂.l ∷ r)
     (n₃.is ∙ ap (λ (r : List Part). n₃.p ∷ r) n₄.is)) in
-    let all = n₀.is ∙ ap (λ (r : List Part). Here n₀.s n₀.l ∷ r) tail in
+    let all = n₀.is ∙ ap (λ (r : List Part). here n₀.s n₀.l ∷ r) tail in
     subst (λ (q : List Part). KnownAnswer d (lookup_shown d q)) (sym all)
     (key_in_lem d n₁.s n₁.l n₁.shaped n₁.within, entry_in_lem d _ n₃.p n₃.fact, array_in d n₄.s n₄.l n₄.shaped n₄.within)
 

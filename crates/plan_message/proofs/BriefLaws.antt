@@ -12,8 +12,8 @@ use Rattle.own.specs.Own.{own_keys}
 use Rattle.record.specs.Entry.{entry_form}
 use Rattle.table.specs.Rows.{rows}
 use Rattle.wire_shapes.proofs.ShapeLaws.{entry-short}
-use Rattle.wire_fields.specs.declared.Part.{Part}
-use Rattle.wire_fields.specs.declared.Part.TheVariants.{Here, Absent}
+use Rattle.std.specs.Prelude.{Some, None}
+use Rattle.wire_fields.specs.Places.{Part}
 use Rattle.wire_buffer.specs.Buffer.{start_of}
 use Rattle.wire_read.specs.declared.Incoming as T
 use Rattle.wire_read.specs.declared.Incoming.TheVariants as M
@@ -60,8 +60,8 @@ module _ (m : Memory) (l : Receive) (held used : ℕ) where
 
   flood-entry : (x : F.Flood) (p : Part) → FloodBy (M.Flood (with_entry x p)) (brief_of (M.Flood (with_entry x p)))
   unfolding plan_for brief_of look_of
-  flood-entry x (Here s n) e f = refl
-  flood-entry x Absent e f = absurd (f refl)
+  flood-entry x (Some p) e f = refl
+  flood-entry x None e f = absurd (f refl)
 
   pub flood-by : (a : T.Incoming) → FloodBy a (brief_of a)
   unfolding plan_for brief_of look_of
@@ -83,8 +83,8 @@ module _ (m : Memory) (l : Receive) (held used : ℕ) where
 
   revoke-entry : (x : F.Flood) (p : Part) → RevokeBy (M.Flood (with_entry x p)) (brief_of (M.Flood (with_entry x p)))
   unfolding plan_for brief_of look_of
-  revoke-entry x (Here s n) w e f = absurd (not-empty l.datagram s n w.1.0 w.1.1 f)
-  revoke-entry x Absent w e f = refl
+  revoke-entry x (Some p) w e f = absurd (not-empty l.datagram p.start p.len w.1.0 w.1.1 f)
+  revoke-entry x None w e f = refl
 
   pub revoke-by : (a : T.Incoming) → RevokeBy a (brief_of a)
   unfolding plan_for brief_of look_of
@@ -210,8 +210,8 @@ module _ (d : List ℕ) where
 
   entry_known : (x : F.Flood) (p : Part) → KnownEntry (M.Flood (with_entry x p)) (brief_of (M.Flood (with_entry x p)))
   unfolding brief_of look_of
-  entry_known x (Here s n) w e f = w.1
-  entry_known x Absent w e f = absurd (f refl)
+  entry_known x (Some p) w e f = w.1
+  entry_known x None w e f = absurd (f refl)
 
   pub known-entry : (a : T.Incoming) → KnownEntry a (brief_of a)
   unfolding brief_of look_of
@@ -250,12 +250,12 @@ module _ (d : List ℕ) where
   -- an entry, and a path, by place and length
   pub entry-told : (p : Part) → EntryIn d p
       → (start_of p + size_of p ≤ length d) × (0 < size_of p → entry_form (part (start_of p) (size_of p) d) ≡ true)
-  entry-told (Here s n) w = (w.0, λ h. w.1)
-  entry-told Absent w = (omega arith, λ h. absurd (omega arith))
+  entry-told (Some p) w = (w.0, λ h. w.1)
+  entry-told None w = (omega arith, λ h. absurd (omega arith))
 
   pub path-told : (p : Part) → PathIn d p → (8 ≤ size_of p) × (start_of p + size_of p ≤ length d)
-  path-told (Here s n) w = w
-  path-told Absent w = absurd w
+  path-told (Some p) w = w
+  path-told None w = absurd w
 
   pub known-lookup : (a : T.Incoming) → KnownLookup a (brief_of a)
   unfolding brief_of look_of

@@ -26,8 +26,8 @@ use Rattle.table.specs.Seek.{seek}
 use Rattle.waiting.specs.Seek.{is_at}
 use Rattle.std.specs.Prelude.{Option, Some, None}
 use Rattle.waiting.proofs.SeekLaws.{found-record, found-key, found-other}
-use Rattle.wire_fields.specs.declared.Part.{Part}
-use Rattle.wire_fields.specs.declared.Part.TheVariants.{Here, Absent}
+use Rattle.std.specs.Prelude.{Some, None}
+use Rattle.wire_fields.specs.Places.{Part}
 use Rattle.wire_buffer.specs.Buffer.{start_of}
 use Rattle.wire_read.specs.Answers as R
 use Rattle.wire_read.specs.declared.Head.{Head}
@@ -274,8 +274,8 @@ module _ (m : Memory) (l : Receive) (h u : ℕ) (ready : memory.Ready l.own m h 
       (answering.known-lookup l.own recs ps h u l.id room l.datagram a target path size start len)
 
   entry_known : (head : Head) (s : Bool) (validate : ℕ) (entry : Part) → EntryIn l.datagram entry → Known m l (by_entry m l h u head s validate entry)
-  entry_known head s validate (Here start len) w = flood_known s head.id validate start len w.0 w.1
-  entry_known head s validate Absent w = revoke-known s head.id validate
+  entry_known head s validate (Some p) w = flood_known s head.id validate p.start p.len w.0 w.1
+  entry_known head s validate None w = revoke-known s head.id validate
 
   message-known : (a : T.Incoming) → KnownAnswer l.datagram a → Known m l (plan_for m l h u a)
   unfolding plan_for

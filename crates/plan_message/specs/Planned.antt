@@ -5,8 +5,7 @@ use Rattle.key.specs.Number.{key_at}
 use Rattle.own.specs.Own.{own_keys}
 use Rattle.refusal.specs.Table.{when, or_refuse}
 use Rattle.table.specs.Rows.{rows}
-use Rattle.wire_fields.specs.declared.Part.{Part}
-use Rattle.wire_fields.specs.declared.Part.TheVariants.{Here, Absent}
+use Rattle.wire_fields.specs.Places.{Part}
 use Rattle.wire_buffer.specs.Buffer.{start_of}
 use Rattle.wire_read.specs.Answers as R
 use Rattle.wire_read.specs.declared.Head.{Head}
@@ -23,10 +22,10 @@ use Rattle.plan_answer.specs.Answering.{authority_plan, ack_plan, inquire_plan, 
 
 -- a FLOOD carries either a route entry or a revocation
 abbrev pub by_entry : (m : Memory) (l : Receive) (held used : ℕ) (head : Head) (d : Bool) (validate : ℕ) (entry : Part) → Plan
-by_entry m l held used head d validate (Here start len) =
+by_entry m l held used head d validate (Some p) =
     flood_plan (own_keys l.own) (rows 100 held m.cache) (rows 140 used m.waiting) used l.id (length l.output) l.datagram d head.id
-    validate start len
-by_entry m l held used head d validate Absent =
+    validate p.start p.len
+by_entry m l held used head d validate None =
     revoke_plan (own_keys l.own) held used l.verdict (key_at 0 l.key) (length l.output) l.datagram d head.id validate
 
 -- a LOOKUP's endpoints stand behind the 8 bytes of the array's header; no route entry has no bytes

@@ -26,8 +26,8 @@ use Rattle.waiting.specs.Seek.{has_id}
 use Rattle.waiting.specs.Open.{opened}
 use Rattle.waiting.proofs.KeptLaws.{open-inquiry}
 use Rattle.wire_fields.specs.Reading.{contents_in}
-use Rattle.wire_fields.specs.declared.Part.{Part}
-use Rattle.wire_fields.specs.declared.Part.TheVariants.{Here, Absent}
+use Rattle.std.specs.Prelude.{Some, None}
+use Rattle.wire_fields.specs.Places.{Part, here}
 use Rattle.wire_buffer.specs.Buffer.{start_of}
 use Rattle.wire_write.specs.Making.{inquire_made}
 use Rattle.look.specs.Seen.{size_of}
@@ -64,30 +64,30 @@ module _ (m : Memory) (l : Receive) where
   opening route = asks_for k recs ps (routed route)
 
   -- an entry in form has bytes
-  has-bytes : (s n : ℕ) → EntryIn l.datagram (Here s n) → ¬ (length (part s n l.datagram) ≡ 0)
+  has-bytes : (s n : ℕ) → EntryIn l.datagram (here s n) → ¬ (length (part s n l.datagram) ≡ 0)
   has-bytes s n w e =
       let long = (entry_at s n l.datagram w.0 w.1).long in
       omega (arith, long, e, length_part s n l.datagram w.0)
 
   -- no entry is never asked for
-  pub none-opens : opening Absent ≡ false
+  pub none-opens : opening None ≡ false
   none-opens = asks_none k recs ps [] refl
 
   pub asks-iff : (route : Part) → EntryIn l.datagram route → (opening route ≡ true) ↔ S.EntryAsks k m (entry_in (contents_in l.datagram route))
-  asks-iff (Here s n) w =
-      let v = part s n l.datagram in (
+  asks-iff (Some p) w =
+      let v = part p.start p.len l.datagram in (
         λ e. (let t = asks-tells k recs ps v e in (t.1, (must_iff k m (record_of v)).0 t.2)),
-        λ a. asks-other k recs ps v (has-bytes s n w) (own_not k (key_of (record_of v)) a.0) ∙ (must_iff k m (record_of v)).1 a.1,
+        λ a. asks-other k recs ps v (has-bytes p.start p.len w) (own_not k (key_of (record_of v)) a.0) ∙ (must_iff k m (record_of v)).1 a.1,
       )
-  asks-iff Absent w = (λ e. both e none-opens, λ a. absurd a)
+  asks-iff None w = (λ e. both e none-opens, λ a. absurd a)
 
   -- the INQUIRE as it is written, and how long it is
   pub asks-written : (route : Part)
       → inquire_written l.major l.minor l.id (opening route) l.nonce (record_of (routed route))
       ≡ S.asks l (opening route) (S.entry_record (entry_in (contents_in l.datagram route)))
   unfolding inquire_made
-  asks-written (Here s n) = refl
-  asks-written Absent = rw none-opens refl
+  asks-written (Some p) = refl
+  asks-written None = rw none-opens refl
 
   asked-long : (r : List ℕ) → length r ≡ 100 → length l.nonce ≡ 16 → (b : Bool) → length (joined (S.asks l b r)) ≡ inquire_room b
   unfolding joined inquire_made
@@ -99,22 +99,22 @@ module _ (m : Memory) (l : Receive) where
   pub asks-long : (route : Part) → EntryIn l.datagram route → length l.nonce ≡ 16
       → length (joined (S.asks l (opening route) (S.entry_record (entry_in (contents_in l.datagram route))))) ≡ inquire_room (opening route)
   unfolding joined
-  asks-long (Here s n) w fresh =
-      asked-long (record_of (part s n l.datagram)) (record_long (part s n l.datagram) w.1) fresh (opening (Here s n))
-  asks-long Absent w fresh = rw none-opens refl
+  asks-long (Some p) w fresh =
+      asked-long (record_of (part p.start p.len l.datagram)) (record_long (part p.start p.len l.datagram) w.1) fresh (opening (Some p))
+  asks-long None w fresh = rw none-opens refl
 
   -- the place that opens, where none of the rows stands against it
   module _ (ok : Fine m l) where
-    entry-table : (s n : ℕ) → EntryIn l.datagram (Here s n)
-        → (opening (Here s n) ≡ true → any_of (has_id (id_after l.id)) ps ≡ false) → (opening (Here s n) ≡ true → ¬ (used m l ≡ 16))
-        → (b : Bool) → opening (Here s n) ≡ b
+    entry-table : (s n : ℕ) → EntryIn l.datagram (here s n)
+        → (opening (here s n) ≡ true → any_of (has_id (id_after l.id)) ps ≡ false) → (opening (here s n) ≡ true → ¬ (used m l ≡ 16))
+        → (b : Bool) → opening (here s n) ≡ b
         → (let r = record_of (part s n l.datagram) in
         S.WaitsExactly k (cond b (bytes_of 2240 (opened (inquiry_place (id_after l.id) r) ps)) m.waiting)
         (λ (p : List ℕ). S.Waits m p ⊎ (((¬ IsOwn k (key_of r)) × S.MustAsk k m r) × (p ≡ inquiry_place (id_after l.id) r))))
     entry-table s n w new free true e =
         let v = part s n l.datagram in
         let r = record_of v in
-        let asks = (asks-iff (Here s n) w).0 e in
+        let asks = (asks-iff (here s n) w).0 e in
         let good = record_form_lem v w.1 in
         let g = open-inquiry k m.waiting ps (table-form m l ok) (id_after l.id) r
         (omega (arith, rows-length 140 (used m l) m.waiting, ok.ready.few, free e))
@@ -125,13 +125,13 @@ module _ (m : Memory) (l : Receive) where
           λ i. (opened_in (inquiry_place (id_after l.id) r) q ps).1 (elim i [ inl x ↦ inl x | inr x ↦ inr x.1 ]),
         ))
     entry-table s n w new free false e = table_by k m.waiting ps _ (table-form m l ok)
-        (λ q. (λ i. inl i, λ i. elim i [ inl x ↦ x | inr x ↦ both ((asks-iff (Here s n) w).1 x.0) e ]))
+        (λ q. (λ i. inl i, λ i. elim i [ inl x ↦ x | inr x ↦ both ((asks-iff (here s n) w).1 x.0) e ]))
 
     pub route-table : (route : Part) → EntryIn l.datagram route
         → (opening route ≡ true → any_of (has_id (id_after l.id)) ps ≡ false) → (opening route ≡ true → ¬ (used m l ≡ 16))
         → (let e = entry_in (contents_in l.datagram route) in
         S.WaitsExactly k (cond (opening route) (bytes_of 2240 (opened (inquiry_place (id_after l.id) (record_of (routed route))) ps)) m.waiting)
         (λ (p : List ℕ). S.Waits m p ⊎ (S.EntryAsks k m e × (p ≡ inquiry_place (id_after l.id) (S.entry_record e)))))
-    route-table (Here s n) w new free = entry-table s n w new free (opening (Here s n)) refl
-    route-table Absent w new free = rw none-opens (table_by k m.waiting ps _ (table-form m l ok)
+    route-table (Some p) w new free = entry-table p.start p.len w new free (opening (Some p)) refl
+    route-table None w new free = rw none-opens (table_by k m.waiting ps _ (table-form m l ok)
         (λ q. (λ i. inl i, λ i. elim i [ inl x ↦ x | inr x ↦ absurd x.0 ])))

@@ -27,8 +27,8 @@ use Rattle.table.specs.declared.Found.TheVariants.{At, Nothing}
 use Rattle.waiting.proofs.FormLaws.{form-placed}
 use Rattle.waiting.proofs.KeptLaws.{free-kept, open-inquiry}
 use Rattle.waiting.specs.Form as W
-use Rattle.wire_fields.specs.declared.Part.{Part}
-use Rattle.wire_fields.specs.declared.Part.TheVariants.{Here, Absent}
+use Rattle.std.specs.Prelude.{Some, None}
+use Rattle.wire_fields.specs.Places.{Part, here}
 use Rattle.wire_read.specs.declared.Head.{Head}
 use Rattle.wire_write.specs.Making.{ack_made, inquire_made}
 use Rattle.asking.specs.Ids.{id_after}
@@ -65,7 +65,7 @@ module _ (m : Memory) (l : Receive) (ok : Fine m l) where
 
   -- FLOOD with a route entry
   module _ (id : ℕ) (s : Bool) (validate start len : ℕ) (formed : entry_form (part start len l.datagram) ≡ true)
-      (bars : AllFail (flood_table m l s validate (Here start len))) where
+      (bars : AllFail (flood_table m l s validate (here start len))) where
     abbrev r : List ℕ
     r = record_of (part start len l.datagram)
 
@@ -142,5 +142,5 @@ module _ (m : Memory) (l : Receive) (ok : Fine m l) where
   pub flood-does : (head : Head) (s : Bool) (validate : ℕ) (route : Part) → EntryIn l.datagram route → AllFail (flood_table m l s validate route)
       → Does m l (said_by l.datagram head.id s validate route) (by_entry m l (held m l) (used m l) head s validate route)
   unfolding flood_plan revoke_plan held_of
-  flood-does head s validate (Here start len) w bars = passed m l _ _ _ bars (entry-does head.id s validate start len w.1 bars)
-  flood-does head s validate Absent w bars = passed m l _ _ _ bars (revoke-does head.id s validate)
+  flood-does head s validate (Some p) w bars = passed m l _ _ _ bars (entry-does head.id s validate p.start p.len w.1 bars)
+  flood-does head s validate None w bars = passed m l _ _ _ bars (revoke-does head.id s validate)

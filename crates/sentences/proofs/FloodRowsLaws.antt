@@ -25,8 +25,8 @@ use Rattle.cache.specs.Form.{held_of}
 use Rattle.waiting.specs.Place.{id_of}
 use Rattle.waiting.specs.Form.{used_of, places_of}
 use Rattle.waiting.specs.Seek.{has_id}
-use Rattle.wire_fields.specs.declared.Part.{Part}
-use Rattle.wire_fields.specs.declared.Part.TheVariants.{Here, Absent}
+use Rattle.std.specs.Prelude.{Some, None}
+use Rattle.wire_fields.specs.Places.{Part, here}
 use Rattle.wire_write.specs.Making.{ack_made, inquire_made}
 use Rattle.plan_flood.specs.Rooms.{ack_room}
 use Rattle.asking.specs.Asking.{inquire_room, must_ask}
@@ -93,13 +93,13 @@ module _ (m : Memory) (l : Receive) (n : ℕ) (low : First m l n) where
         ap length (joined_append (S.acks l id s b) (S.asks l o r)) ∙ length-append (joined (S.acks l id s b)) (joined (S.asks l o r))
         ∙ ap₂ ◌+◌ (acks-room l.major l.minor l.id id b s) (asks-room fresh o)
 
-    entry-both : Both m l n x (flood_table m l s validate (Here start len))
+    entry-both : Both m l n x (flood_table m l s validate (here start len))
     entry-both = (to, from)
       where
         full_is : length ps ≡ used_of m.waiting
         full_is = rows-length 140 (used_of m.waiting) m.waiting
 
-        to : Said m l x n → Row n (flood_table m l s validate (Here start len))
+        to : Said m l x n → Row n (flood_table m l s validate (here start len))
         to (inl (inl w)) = inl (w.0, in_own k (key_of r) w.1)
         to (inl (inr (inl w))) =
             let there = any-in (has_id (id_after l.id)) w.2 ps w.3 (eq-eqb (id_of w.2) (id_after l.id) w.4) in
@@ -111,7 +111,7 @@ module _ (m : Memory) (l : Receive) (n : ℕ) (low : First m l n) where
             inr (inr (inr (inl (short-from m l x ds n _ g entry-reply (entry-room g.nonce)
             (omega (arith, ack_most s b, inquire_most o)) w))))
 
-        from : Row n (flood_table m l s validate (Here start len)) → Said m l x n
+        from : Row n (flood_table m l s validate (here start len)) → Said m l x n
         from (inl w) = inl (inl (w.0, own_in k (key_of r) w.1))
         from (inr (inl w)) =
             let v = both_true o (any_of (has_id (id_after l.id)) ps) w.1 in
@@ -138,20 +138,20 @@ module _ (m : Memory) (l : Receive) (n : ℕ) (low : First m l n) where
     unfolding ack_made
     revoke-room = acks-room l.major l.minor l.id id rb s
 
-    revoke-both : Num.Says l rx → Both m l n rx (flood_table m l s validate Absent)
+    revoke-both : Num.Says l rx → Both m l n rx (flood_table m l s validate None)
     revoke-both says = (to, from)
       where
         is-good : Before 9 n → l.verdict ≡ 1
         is-good h = elim (eq_or l.verdict 1) [ inl e ↦ e | inr d ↦ absurd (low 9 h (Num.bad-revocation refl id s (key_at validate l.datagram) says d)) ]
 
-        to : Said m l rx n → Row n (flood_table m l s validate Absent)
+        to : Said m l rx n → Row n (flood_table m l s validate None)
         to (inl (inl w)) = inl (w.0, (not_iff l.verdict 1).1 w.1)
         to (inl (inr w)) = inr (inl (w.0, in_own k (key_at 0 l.key) w.2))
         to (inr w) =
             let g = good m l n low (sooner 1 15 (unfold place_in in refl) w.0) in
             inr (inr (inl (short-from m l rx (S.acks l id s rb) n _ g revoke-reply revoke-room (omega (arith, ack_most s rb)) w)))
 
-        from : Row n (flood_table m l s validate Absent) → Said m l rx n
+        from : Row n (flood_table m l s validate None) → Said m l rx n
         from (inl w) = inl (inl (w.0, (not_iff l.verdict 1).0 w.1))
         from (inr (inl w)) = inl (inr (w.0, is-good (sooner 9 11 (unfold place_in in refl) w.0), own_in k (key_at 0 l.key) w.1))
         from (inr (inr (inl w))) = inr (short-to m l rx (S.acks l id s rb) n _ revoke-reply revoke-room w)
@@ -160,5 +160,5 @@ module _ (m : Memory) (l : Receive) (n : ℕ) (low : First m l n) where
   -- any FLOOD
   pub flood-both : (id : ℕ) (s : Bool) (validate : ℕ) (route : Part) → EntryIn l.datagram route
       → Num.Says l (said_by l.datagram id s validate route) → Both m l n (said_by l.datagram id s validate route) (flood_table m l s validate route)
-  flood-both id s validate (Here start len) w says = entry-both id s validate start len w.1
-  flood-both id s validate Absent w says = revoke-both id s validate says
+  flood-both id s validate (Some p) w says = entry-both id s validate p.start p.len w.1
+  flood-both id s validate None w says = revoke-both id s validate says

@@ -18,8 +18,8 @@ use Rattle.wire_shapes.specs.Field.{number_at}
 use Rattle.wire_fields.specs.Kinds.{must, ack_kinds, authority_kinds, present}
 use Rattle.wire_fields.specs.Message.{Message}
 use Rattle.wire_fields.specs.Reading.{contents_in}
-use Rattle.wire_fields.specs.declared.Part.{Part}
-use Rattle.wire_fields.specs.declared.Part.TheVariants.{Here, Absent}
+use Rattle.std.specs.Prelude.{Some, None}
+use Rattle.wire_fields.specs.Places.{Part}
 use Rattle.wire_shapes.specs.declared.Shape.TheVariants.{Sized}
 use Rattle.wire_fields.proofs.HeadLaws.{number_small}
 use Rattle.wire_buffer.specs.Buffer.{start_of}
@@ -41,8 +41,8 @@ use Rattle.sentences.proofs.OneLaws.{hears_one}
 -- ---- what the code's reading says
 
 abbrev pub said_by : List ℕ → ℕ → Bool → ℕ → Part → Heard
-said_by d id s validate (Here start len) = entry id s (key_at validate d) (record_of (part start len d))
-said_by d id s validate Absent = revoke id s (key_at validate d)
+said_by d id s validate (Some p) = entry id s (key_at validate d) (record_of (part p.start p.len d))
+said_by d id s validate None = revoke id s (key_at validate d)
 
 abbrev pub heard_by : List ℕ → T.Incoming → Heard
 heard_by d (M.Refused n) = other
@@ -58,8 +58,8 @@ heard_by d (M.Lookup x) =
 
 -- a LOOKUP's path, where its endpoints stand
 path_stands : (d : List ℕ) (p : Part) → PathIn d p → drop 8 (contents (contents_in d p)) ≡ part (start_of p + 8) (size_of p - 8) d
-path_stands d (Here s l) w = drop-part s l 8 d w.0
-path_stands d Absent w = absurd w
+path_stands d (Some p) w = drop-part p.start p.len 8 d w.0
+path_stands d None w = absurd w
 
 pub lookup_heard : (d : List ℕ) (x : K.Lookup) → KnownAnswer d (M.Lookup x)
     → heard_by d (M.Lookup x)
@@ -82,8 +82,8 @@ Acked (M.Lookup x) = Unit {0}
 
 flag_absent : (d : List ℕ) (p : Part) → R.is_here p ≡ false → R.part_flag d p 1 1 ≡ false
 unfolding R.part_flag
-flag_absent d (Here s l) e = let z : ◌≡◌ {A = ℕ} 0 1 = cc in absurd (omega arith)
-flag_absent d Absent e = refl
+flag_absent d (Some p) e = let z : ◌≡◌ {A = ℕ} 0 1 = cc in absurd (omega arith)
+flag_absent d None e = refl
 
 module _ (d : List ℕ) (b : Bytes d) where
   authority-acked : (ps : List Part) → Stand authority_kinds d 12 ps → Acked (R.authority_shown d ps)
@@ -95,9 +95,9 @@ module _ (d : List ℕ) (b : Bytes d) where
   ack-acked : (ps : List Part) → Stand ack_kinds d 12 ps → Acked (R.ack_shown d ps)
   ack-acked ps w =
       let n = needed (must 0x18 false (Sized 4) []) (drop 1 ack_kinds) d 12 ps refl w in (
-        subst (λ (q : List Part). number_at (start_of (get_or q 0 Absent)) 4 d < 256 ^ 4) (sym n.is)
+        subst (λ (q : List Part). number_at (start_of (get_or q 0 None)) 4 d < 256 ^ 4) (sym n.is)
             (number_small n.s 4 d b (let e = sized-length 4 d n.s n.l n.shaped n.within in omega (arith, n.within))),
-        flag_absent d (get_or ps 1 Absent),
+        flag_absent d (get_or ps 1 None),
       )
 
   answer-acked : (major : ℕ) → Acked (R.read_in d major)
@@ -125,15 +125,15 @@ flag_of true = refl
 flag_of false = refl
 
 here_present : (d : List ℕ) (p : Part) → present (contents_in d p) ≡ R.is_here p
-here_present d (Here s l) = refl
-here_present d Absent = refl
+here_present d (Some p) = refl
+here_present d None = refl
 
 module _ (major : ℕ) (d : List ℕ) (msg : Message) where
   heard-flood : (x : F.Flood) (p : Part) → message_of major d (M.Flood (with_entry x p)) ≡ some msg → heard msg ≡ heard_by d (M.Flood (with_entry x p))
   unfolding message_of heard
-  heard-flood x (Here start len) e =
-      sym (ap heard (inj e)) ∙ ap (λ (b : Bool). entry x.head.id b (key_at x.validate d) (record_of (part start len d))) (flag_of x.d)
-  heard-flood x Absent e = sym (ap heard (inj e)) ∙ ap (λ (b : Bool). revoke x.head.id b (key_at x.validate d)) (flag_of x.d)
+  heard-flood x (Some p) e =
+      sym (ap heard (inj e)) ∙ ap (λ (b : Bool). entry x.head.id b (key_at x.validate d) (record_of (part p.start p.len d))) (flag_of x.d)
+  heard-flood x None e = sym (ap heard (inj e)) ∙ ap (λ (b : Bool). revoke x.head.id b (key_at x.validate d)) (flag_of x.d)
 
   abbrev with_flags : A.Ack → Bool → A.Ack
   with_flags x flags = record { head = x.head; acked = x.acked; flags = flags; n = x.n }
@@ -188,10 +188,10 @@ pub record EntryHeard (d r : List ℕ) : Type 0 where
 
 flood-entry : (d : List ℕ) (i : ℕ) (s : Bool) (v : ℕ) (r : List ℕ) (x : F.Flood) (p : Part) → KnownAnswer d (M.Flood (with_entry x p))
     → entry i s v r ≡ heard_by d (M.Flood (with_entry x p)) → EntryHeard d r
-flood-entry d i s v r x (Here start len) k e =
-    let is : r ≡ record_of (part start len d) = cc in
-    record { start = start; len = len; is = is; formed = k.1.1 }
-flood-entry d i s v r x Absent k e = let z : ◌≡◌ {A = ℕ} 0 1 = cc in absurd (omega arith)
+flood-entry d i s v r x (Some p) k e =
+    let is : r ≡ record_of (part p.start p.len d) = cc in
+    record { start = p.start; len = p.len; is = is; formed = k.1.1 }
+flood-entry d i s v r x None k e = let z : ◌≡◌ {A = ℕ} 0 1 = cc in absurd (omega arith)
 
 entry_of : (d : List ℕ) (i : ℕ) (s : Bool) (v : ℕ) (r : List ℕ) (a : T.Incoming) → KnownAnswer d a → entry i s v r ≡ heard_by d a → EntryHeard d r
 entry_of d i s v r (M.Refused n) k e = let z : ◌≡◌ {A = ℕ} 0 1 = cc in absurd (omega arith)
@@ -211,8 +211,8 @@ entry-heard d b major i s v r h =
 -- ---- and so is that of a LOOKUP
 
 some-entry : (d r : List ℕ) (p : Part) → EntryIn d p → some r ≡ entry_in (contents_in d p) → EntryHeard d r
-some-entry d r (Here start len) k e = record { start = start; len = len; is = inj e; formed = k.1 }
-some-entry d r Absent k e = let z : ◌≡◌ {A = ℕ} 0 1 = cc in absurd (omega arith)
+some-entry d r (Some p) k e = record { start = p.start; len = p.len; is = inj e; formed = k.1 }
+some-entry d r None k e = let z : ◌≡◌ {A = ℕ} 0 1 = cc in absurd (omega arith)
 
 lookup_of_lem : (d : List ℕ) (i t : ℕ) (q r : List ℕ) (a : T.Incoming) → KnownAnswer d a → lookup i t q (some r) ≡ heard_by d a → EntryHeard d r
 lookup_of_lem d i t q r (M.Refused n) k e = let z : ◌≡◌ {A = ℕ} 0 1 = cc in absurd (omega arith)
@@ -222,8 +222,8 @@ lookup_of_lem d i t q r (M.Request x) k e = let z : ◌≡◌ {A = ℕ} 0 1 = cc
 lookup_of_lem d i t q r (M.Flood x) k e = flood-not x.entry e
   where
     flood-not : (p : Part) → lookup i t q (some r) ≡ said_by d x.head.id x.d x.validate p → EntryHeard d r
-    flood-not (Here start len) e = let z : ◌≡◌ {A = ℕ} 0 1 = cc in absurd (omega arith)
-    flood-not Absent e = let z : ◌≡◌ {A = ℕ} 0 1 = cc in absurd (omega arith)
+    flood-not (Some p) e = let z : ◌≡◌ {A = ℕ} 0 1 = cc in absurd (omega arith)
+    flood-not None e = let z : ◌≡◌ {A = ℕ} 0 1 = cc in absurd (omega arith)
 lookup_of_lem d i t q r (M.Inquire x) k e = let z : ◌≡◌ {A = ℕ} 0 1 = cc in absurd (omega arith)
 lookup_of_lem d i t q r (M.Authority x) k e = let z : ◌≡◌ {A = ℕ} 0 1 = cc in absurd (omega arith)
 lookup_of_lem d i t q r (M.Ack x) k e = let z : ◌≡◌ {A = ℕ} 0 1 = cc in absurd (omega arith)

@@ -30,7 +30,7 @@ use Rattle.table.proofs.SeekLaws.{found_within}
 use Rattle.waiting.proofs.PlaceLaws.{inquiry-record, inquiry-key, inquiry-other}
 use Rattle.wire_fields.specs.Kinds.{authority_kinds}
 use Rattle.wire_fields.specs.Reading.{contents_in}
-use Rattle.wire_fields.specs.declared.Part.{Part}
+use Rattle.wire_fields.specs.Places.{Part}
 use Rattle.wire_buffer.specs.Buffer.{start_of}
 use Rattle.look.specs.Seen.{size_of}
 use Rattle.asking.specs.Ids.{id_after}

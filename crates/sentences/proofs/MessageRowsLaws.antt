@@ -29,7 +29,7 @@ use Rattle.table.specs.Seek.{seek}
 use Rattle.waiting.specs.Seek.{is_at, has_id}
 use Rattle.wire_fields.specs.Kinds.{authority_kinds}
 use Rattle.wire_fields.specs.Reading.{contents_in}
-use Rattle.wire_fields.specs.declared.Part.{Part}
+use Rattle.wire_fields.specs.Places.{Part}
 use Rattle.wire_buffer.specs.Buffer.{start_of}
 use Rattle.look.specs.Seen.{size_of}
 use Rattle.asking.specs.Asking.{inquire_room}

@@ -22,50 +22,51 @@ use Rattle.wire_shapes.specs.declared.Shape.TheVariants.{Sized, Split}
 use Rattle.wire_fields.specs.declared.Span.{Span}
 use Rattle.wire_fields.specs.declared.Span.TheVariants.{Whole, Other, Cut}
 use Rattle.wire_fields.specs.declared.Cursor.{Cursor}
-use Rattle.wire_fields.specs.declared.Part.TheVariants.{Here}
-use Rattle.wire_fields.specs.declared.Need.{Need}
-use Rattle.wire_fields.specs.declared.Need.TheVariants.{Field, Missing}
+use Rattle.std.specs.Prelude.{Some, None}
+use Rattle.wire_fields.specs.declared.Place.{Place}
+use Rattle.wire_fields.specs.Places.{here, Need}
 use Rattle.wire_fields.proofs.SpanLaws.{span-whole, span_fits, span-length}
 use Rattle.wire_fields.proofs.RefusalLaws.{split_four, sized_four}
 use Rattle.sentences.specs.Numbers.{InPart}
 
 -- a field that must be there, found
-record Found (d : List ℕ) (i n : ℕ) (shape : Shape) (s l : ℕ) (c : Cursor) : Type 0 where
-  span : span_at d i n false ≡ Whole s l c
-  shaped : has_shape shape (part s l d) ≡ true
+record Found (d : List ℕ) (i n : ℕ) (shape : Shape) (o : Place) (c : Cursor) : Type 0 where
+  span : span_at d i n false ≡ Whole o c
+  shaped : has_shape shape (part o.start o.len d) ≡ true
 
-need_found : (d : List ℕ) (i n : ℕ) (shape : Shape) (s l : ℕ) (c : Cursor) → need_at d i n false shape ≡ Field s l c → Found d i n shape s l c
+need_found : (d : List ℕ) (i n : ℕ) (shape : Shape) (o : Place) (c : Cursor) → need_at d i n false shape ≡ Some (o, c) → Found d i n shape o c
 unfolding need_at
-need_found d i n shape s l c e = go (span_at d i n false) refl e
+need_found d i n shape o c e = go (span_at d i n false) refl e
   where
-    by : (b : Bool) (s' l' : ℕ) (c' : Cursor) → has_shape shape (part s' l' d) ≡ b → span_at d i n false ≡ Whole s' l' c'
-        → cond b (Field s' l' c') Missing ≡ Field s l c
-        → Found d i n shape s l c
-    by true s' l' c' h w q =
-        let es : s' ≡ s = cc in
-        let el : l' ≡ l = cc in
-        record { span = cc; shaped = ap₂ (λ (x y : ℕ). has_shape shape (part x y d)) (sym es) (sym el) ∙ h }
-    by false s' l' c' h w q = let z : ◌≡◌ {A = ℕ} 0 1 = cc in absurd (omega arith)
+    by : (b : Bool) (o' : Place) (c' : Cursor) → has_shape shape (part o'.start o'.len d) ≡ b → span_at d i n false ≡ Whole o' c'
+        → cond {A = Need} b (Some (o', c')) None ≡ Some (o, c)
+        → Found d i n shape o c
+    by true o' c' h w q =
+        let both : ◌≡◌ {A = Place × Cursor} (o', c') (o, c) = cc in
+        let eo : o' ≡ o = ap (λ (x : Place × Cursor). x.0) both in
+        let ec : c' ≡ c = ap (λ (x : Place × Cursor). x.1) both in
+        record { span = w ∙ ap₂ Whole eo ec; shaped = ap (λ (x : Place). has_shape shape (part x.start x.len d)) (sym eo) ∙ h }
+    by false o' c' h w q = let z : ◌≡◌ {A = ℕ} 0 1 = cc in absurd (omega arith)
 
-    go : (x : Span) → span_at d i n false ≡ x → need_of d shape x ≡ Field s l c → Found d i n shape s l c
-    go (Whole s' l' c') w q = by (has_shape shape (part s' l' d)) s' l' c' refl w q
+    go : (x : Span) → span_at d i n false ≡ x → need_of d shape x ≡ Some (o, c) → Found d i n shape o c
+    go (Whole o' c') w q = by (has_shape shape (part o'.start o'.len d)) o' c' refl w q
     go Other w q = let z : ◌≡◌ {A = ℕ} 0 1 = cc in absurd (omega arith)
     go Cut w q = let z : ◌≡◌ {A = ℕ} 0 1 = cc in absurd (omega arith)
 
 -- one of four bytes
-record Four (d : List ℕ) (i n s l : ℕ) (c : Cursor) : Type 0 where
+record Four (d : List ℕ) (i n : ℕ) (o : Place) (c : Cursor) : Type 0 where
   room : i + 8 ≤ length d
   number : number_at i 2 d ≡ n
   length-is : number_at (i + 2) 2 d ≡ 8
-  starts : s ≡ i + 4
-  long : l ≡ 4
+  starts : o.start ≡ i + 4
+  long : o.len ≡ 4
   goes : c.at ≡ i + 8
 
-found_four : (d : List ℕ) (i n : ℕ) (shape : Shape) (s l : ℕ) (c : Cursor) → ((v : List ℕ) → has_shape shape v ≡ true → length v ≡ 4)
-    → Found d i n shape s l c → Four d i n s l c
-found_four d i n shape s l c four f =
-    let w = span_fits d i n false s l c f.span in
-    let e : l ≡ 4 = sym (span-length d i n false s l c f.span) ∙ four (part s l d) f.shaped in
+found_four : (d : List ℕ) (i n : ℕ) (shape : Shape) (o : Place) (c : Cursor) → ((v : List ℕ) → has_shape shape v ≡ true → length v ≡ 4)
+    → Found d i n shape o c → Four d i n o c
+found_four d i n shape o c four f =
+    let w = span_fits d i n false o c f.span in
+    let e : o.len ≡ 4 = sym (span-length d i n false o c f.span) ∙ four (part o.start o.len d) f.shaped in
     let g : number_at (i + 2) 2 d ≡ 8 = omega (arith, w.long) in
     record {
       room = omega (arith, w.within);
@@ -78,7 +79,7 @@ found_four d i n shape s l c four f =
 
 -- and made
 four_need : (d : List ℕ) (i n : ℕ) (shape : Shape) → i + 8 ≤ length d → number_at i 2 d ≡ n → number_at (i + 2) 2 d ≡ 8
-    → has_shape shape (part (i + 4) 4 d) ≡ true → need_at d i n false shape ≡ Field (i + 4) 4 (record { at = i + 8 + 0 })
+    → has_shape shape (part (i + 4) 4 d) ≡ true → need_at d i n false shape ≡ Some (record { start = i + 4; len = 4 }, record { at = i + 8 + 0 })
 unfolding need_at
 four_need d i n shape room e g h =
     ap (need_of d shape) (span-whole d i n false 8 0 (sym g) refl (omega arith) e (omega arith) (omega arith)) ∙ rw h refl
@@ -91,18 +92,18 @@ module _ (d : List ℕ) where
   abbrev Whole-buffer : Type 0
   Whole-buffer = (number_at 0 2 (part 24 4 d) ≡ length d - 28) × (number_at 2 2 (part 24 4 d) ≡ 0)
 
-  whole-at : Whole-buffer → whole_in d (Here 24 4) ≡ true
+  whole-at : Whole-buffer → whole_in d (here 24 4) ≡ true
   unfolding whole_in
   whole-at y = rw (eq-eqb (number_at 0 2 (part 24 4 d)) (length d - 28) y.0, eq-eqb (number_at 2 2 (part 24 4 d)) 0 y.1) refl
 
-  at-whole : whole_in d (Here 24 4) ≡ true → Whole-buffer
+  at-whole : whole_in d (here 24 4) ≡ true → Whole-buffer
   unfolding whole_in
   at-whole e =
       let w = both_true (eqb (number_at 0 2 (part 24 4 d)) (length d - 28)) (eqb (number_at 2 2 (part 24 4 d)) 0) e in
       (eqb-true (number_at 0 2 (part 24 4 d)) (length d - 28) w.0, eqb-true (number_at 2 2 (part 24 4 d)) 0 w.1)
 
-  whole_is : (s l : ℕ) → s ≡ 24 → l ≡ 4 → Whole-buffer → whole_in d (Here s l) ≡ true
-  whole_is s l es el y = ap₂ (λ (x z : ℕ). whole_in d (Here x z)) es el ∙ whole-at y
+  whole_is : (s l : ℕ) → s ≡ 24 → l ≡ 4 → Whole-buffer → whole_in d (here s l) ≡ true
+  whole_is s l es el y = ap₂ (λ (x z : ℕ). whole_in d (here x z)) es el ∙ whole-at y
 
   pub part-to : in_part (type_of d) d ≡ true → InPart d
   unfolding in_part
@@ -111,34 +112,34 @@ module _ (d : List ℕ) where
       w : (eqb (type_of d) 8 ≡ true) × (part_by_acked d (need_at d 12 0x18 false (Sized 4)) ≡ true)
       w = both_true (eqb (type_of d) 8) (part_by_acked d (need_at d 12 0x18 false (Sized 4))) e
 
-      split : (s l : ℕ) (c : Cursor) → Four d 12 0x18 s l c → (x : Need) → need_at d 20 0x98 false Split ≡ x → part_by_split d x ≡ true → InPart d
-      split s l c f (Field s' l' c') q h =
-          let g = need_found d 20 0x98 Split s' l' c' q in
-          let v = found_four d 20 0x98 Split s' l' c' split_four g in
+      split : (o : Place) (c : Cursor) → Four d 12 0x18 o c → (x : Need) → need_at d 20 0x98 false Split ≡ x → part_by_split d x ≡ true → InPart d
+      split o c f (Some (o', c')) q h =
+          let g = need_found d 20 0x98 Split o' c' q in
+          let v = found_four d 20 0x98 Split o' c' split_four g in
           record {
             type = eqb-true (type_of d) 8 w.0;
             long = v.room;
             acked = (f.number, f.length-is);
             split = (v.number, v.length-is);
             allowed = sym (split_shape (part 24 4 d)) ∙ ap₂ (λ (x y : ℕ). has_shape Split (part x y d)) (sym v.starts) (sym v.long) ∙ g.shaped;
-            not-whole = λ y. both (whole_is (s') (l') v.starts v.long y) (not-true (whole_in d (Here s' l')) h);
+            not-whole = λ y. both (whole_is o'.start o'.len v.starts v.long y) (not-true (whole_in d (Some o')) h);
           }
-      split s l c f Missing q h = both h refl
+      split o c f None q h = both h refl
 
       acked : (x : Need) → need_at d 12 0x18 false (Sized 4) ≡ x → part_by_acked d x ≡ true → InPart d
-      acked (Field s l c) q h =
-          let v = found_four d 12 0x18 (Sized 4) s l c sized_four (need_found d 12 0x18 (Sized 4) s l c q) in
-          split s l c v (need_at d 20 0x98 false Split) refl (subst (λ (n : ℕ). part_by_split d (need_at d n 0x98 false Split) ≡ true) v.goes h)
-      acked Missing q h = both h refl
+      acked (Some (o, c)) q h =
+          let v = found_four d 12 0x18 (Sized 4) o c sized_four (need_found d 12 0x18 (Sized 4) o c q) in
+          split o c v (need_at d 20 0x98 false Split) refl (subst (λ (n : ℕ). part_by_split d (need_at d n 0x98 false Split) ≡ true) v.goes h)
+      acked None q h = both h refl
 
   four-sized : 28 ≤ length d → has_shape (Sized 4) (part 16 4 d) ≡ true
   unfolding has_shape
   four-sized h = eq-eqb (length (part 16 4 d)) 4 (length_part 16 4 d (omega arith))
 
-  not-whole : ¬ Whole-buffer → not (whole_in d (Here 24 4)) ≡ true
-  not-whole h = go (whole_in d (Here 24 4)) refl
+  not-whole : ¬ Whole-buffer → not (whole_in d (here 24 4)) ≡ true
+  not-whole h = go (whole_in d (here 24 4)) refl
     where
-      go : (b : Bool) → whole_in d (Here 24 4) ≡ b → not (whole_in d (Here 24 4)) ≡ true
+      go : (b : Bool) → whole_in d (here 24 4) ≡ b → not (whole_in d (here 24 4)) ≡ true
       go true e = absurd (h (at-whole e))
       go false e = ap not e
 

@@ -17,8 +17,8 @@ use Rattle.table.specs.Seek.{seek}
 use Rattle.waiting.specs.Seek.{is_at}
 use Rattle.wire_fields.specs.Message.{type_of}
 use Rattle.wire_fields.specs.Refusals as fields
-use Rattle.wire_fields.specs.declared.Part.{Part}
-use Rattle.wire_fields.specs.declared.Part.TheVariants.{Here, Absent}
+use Rattle.std.specs.Prelude.{Some, None}
+use Rattle.wire_fields.specs.Places.{Part}
 use Rattle.wire_read.specs.Answers as R
 use Rattle.wire_read.specs.declared.Incoming as T
 use Rattle.wire_read.specs.declared.Incoming.TheVariants as M
@@ -66,8 +66,8 @@ module _ (m : Memory) (l : Receive) where
       → Told m l (M.Flood (with_entry x p))
       (by_entry m l (held_in (own_keys l.own) m.cache) (used_of m.waiting) x.head x.d x.validate p)
   unfolding flood_plan revoke_plan held_of
-  told-flood x (Here start len) f = behind m l (M.Flood (with_entry x (Here start len))) _ _ f (λ es. refl)
-  told-flood x Absent f = behind m l (M.Flood (with_entry x Absent)) _ _ f (λ es. refl)
+  told-flood x (Some p) f = behind m l (M.Flood (with_entry x (Some p))) _ _ f (λ es. refl)
+  told-flood x None f = behind m l (M.Flood (with_entry x None)) _ _ f (λ es. refl)
 
   told-message : (a : T.Incoming) → IsMessage a → AllFail (message_rows m l a)
       → Told m l a (plan_for m l (held_in (own_keys l.own) m.cache) (used_of m.waiting) a)

@@ -21,8 +21,8 @@ use Rattle.cache.specs.Form.{held_in}
 use Rattle.waiting.specs.Form.{used_of}
 use Rattle.table.specs.Seek.{seek}
 use Rattle.waiting.specs.Seek.{is_at}
-use Rattle.wire_fields.specs.declared.Part.{Part}
-use Rattle.wire_fields.specs.declared.Part.TheVariants.{Here, Absent}
+use Rattle.std.specs.Prelude.{Some, None}
+use Rattle.wire_fields.specs.Places.{Part}
 use Rattle.wire_buffer.specs.Buffer.{start_of}
 use Rattle.wire_read.specs.Answers as R
 use Rattle.wire_read.specs.declared.Incoming as T
@@ -98,8 +98,8 @@ module _ (m : Memory) (l : Receive) where
       → event.Told m l (M.Flood (with_entry x p)) (by_entry m l h u x.head x.d x.validate p)
       → Heard m l (M.Flood (with_entry x p)) (by_entry m l h u x.head x.d x.validate p)
   unfolding flood_plan revoke_plan
-  heard-flood h u x (Here start len) = behind _ _ _ (λ f. record { asked = λ earlier. refl; answers = λ es. refl })
-  heard-flood h u x Absent = behind _ _ _ (λ f. record { asked = λ earlier. refl; answers = λ es. refl })
+  heard-flood h u x (Some p) = behind _ _ _ (λ f. record { asked = λ earlier. refl; answers = λ es. refl })
+  heard-flood h u x None = behind _ _ _ (λ f. record { asked = λ earlier. refl; answers = λ es. refl })
 
   heard-message : (h u : ℕ) (a : T.Incoming) → event.Told m l a (plan_for m l h u a) → Heard m l a (plan_for m l h u a)
   unfolding plan_for authority_plan ack_plan inquire_plan lookup_plan
@@ -125,8 +125,8 @@ module _ (m : Memory) (l : Receive) where
       entry-asked : (p : Part)
           → asks_for (own_keys l.own) (rows 100 h m.cache) (rows 140 u m.waiting) (part (start_of p) (size_of p) l.datagram) ≡ true
           → (earlier : Option (List ℕ)) → entry_or l.datagram p earlier ≡ some (record_of (part (start_of p) (size_of p) l.datagram))
-      entry-asked (Here start len) e earlier = refl
-      entry-asked Absent e earlier = both e (asks_none (own_keys l.own) (rows 100 h m.cache) (rows 140 u m.waiting) [] refl)
+      entry-asked (Some p) e earlier = refl
+      entry-asked None e earlier = both e (asks_none (own_keys l.own) (rows 100 h m.cache) (rows 140 u m.waiting) [] refl)
 
   pub heard : (receive_call m l).answer.number ≡ 0 → Heard m l (R.read_in l.datagram l.major) (receive_plan m l)
   unfolding memory_of

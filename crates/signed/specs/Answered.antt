@@ -1,7 +1,7 @@
 -- Beside the demands. "The inquiry's record is learned"; "A held key has its record replaced": the record held for a kept key is that of the inquiry last answered for it,
 -- told by the calls with their answers and never by memory. Demand 3 speaks of keys alone; a key kept with another's addresses is shut out here. A theorem of
 -- the name stands in proofs/AnsweredLaws.antt. Assumes nothing.
-use Rattle.std.specs.Prelude.{ℕ, ◌*◌, ◌≤◌, ◌≡◌, Bool, cond, ◌&&◌, ◌||◌, List, [], ◌∷◌, ◌++◌, map, eqb, length}
+use Rattle.std.specs.Prelude.{ℕ, ◌*◌, ◌≤◌, ◌≡◌, Bool, cond, ◌&&◌, ◌||◌, List, [], ◌∷◌, ◌++◌, map, eqb, length, Some, None}
 use Rattle.std.proofs.Math.Option.{Option, some, none}
 use Rattle.octet.specs.Part.{part}
 use Rattle.record.specs.Record.{key_of}
@@ -12,8 +12,7 @@ use Rattle.kept.specs.Keys.{Every}
 use Rattle.kept.specs.History.{Event}
 use Rattle.kept.specs.Plain.{kept}
 use Rattle.cache.specs.Form.{keys_of, held_of}
-use Rattle.wire_fields.specs.declared.Part.{Part}
-use Rattle.wire_fields.specs.declared.Part.TheVariants.{Here, Absent}
+use Rattle.wire_fields.specs.Places.{Part, here}
 use Rattle.wire_read.specs.Answers as R
 use Rattle.wire_read.specs.declared.Incoming as T
 use Rattle.wire_read.specs.declared.Incoming.TheVariants as M
@@ -44,8 +43,8 @@ inquires a = eqb a.number 0 && (eqb a.first 76 || eqb a.second 76)
 
 -- the record of a FLOOD's or a LOOKUP's route entry; else what is known from before
 abbrev pub entry_or : List ℕ → Part → Option (List ℕ) → Option (List ℕ)
-entry_or d (Here start len) earlier = some (record_of (part start len d))
-entry_or d Absent earlier = earlier
+entry_or d (Some p) earlier = some (record_of (part p.start p.len d))
+entry_or d None earlier = earlier
 
 abbrev pub named_or : List ℕ → T.Incoming → Option (List ℕ) → Option (List ℕ)
 named_or d (M.Refused n) earlier = earlier

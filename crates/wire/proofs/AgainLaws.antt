@@ -14,8 +14,8 @@ use Rattle.wire_shapes.specs.Shapes.{Kind}
 use Rattle.wire_fields.specs.Kinds.{kinds_of, joined_fields, present, one_of, solicit_kinds, advertise_kinds, request_kinds, flood_kinds, inquire_kinds, authority_kinds, ack_kinds, lookup_kinds}
 use Rattle.wire_fields.specs.Message.{Contents, Message, Formed, ends, layout_from, layout_of, message_bytes, header_of}
 use Rattle.wire_fields.specs.Reading.{contents_in}
-use Rattle.wire_fields.specs.declared.Part.{Part}
-use Rattle.wire_fields.specs.declared.Part.TheVariants.{Here, Absent}
+use Rattle.std.specs.Prelude.{Some, None}
+use Rattle.wire_fields.specs.Places.{Part}
 use Rattle.wire_buffer.specs.Buffer.{start_of}
 use Rattle.wire_read.specs.Answers.{is_here}
 use Rattle.wire_read.specs.Meaning.{message_of, held, bit}
@@ -59,8 +59,8 @@ rows_bytes (k ∷ ks) (r ∷ rs) i (some v ∷ fs) (c ∷ cs) w f h =
 
 -- a piece of the datagram is the contents at its place
 pub piece_is : (d : List ℕ) (p : Part) → held (is_here p) (part (start_of p) (len_of p) d) ≡ contents_in d p
-piece_is d (Here s l) = refl
-piece_is d Absent = refl
+piece_is d (Some p) = refl
+piece_is d None = refl
 
 -- a message of the rows of a table
 pub table_bytes : (ks : List Kind) (rs : List Row) (m : Message) (l : Lent) (ps : List Piece) → RowsFor ks rs → Formed ks m.fields
@@ -97,8 +97,8 @@ lookup_rows_lem = (refl, refl, (refl, refl, (refl, refl, (refl, refl, (refl, ref
 
 -- FLOOD carries one of two fields by its places as by its contents; LOOKUP's precision is zero where it does not count
 here_is : (d : List ℕ) (p : Part) → present (contents_in d p) ≡ is_here p
-here_is d (Here s l) = refl
-here_is d Absent = refl
+here_is d (Some p) = refl
+here_is d None = refl
 
 precise : (t : Bool) (p : ℕ) → cond t (get_or (digits_be 256 2 p) 0 0) 0 ≡ get_or (digits_be 256 2 p) 0 0
     → cond t (get_or (digits_be 256 2 p) 1 0) 0 ≡ get_or (digits_be 256 2 p) 1 0 → digits_be 256 2 (cond t p 0) ≡ digits_be 256 2 p

@@ -14,7 +14,8 @@ use Rattle.wire_shapes.specs.Field.{gap}
 use Rattle.wire_shapes.specs.Shapes.{Kind, has_shape}
 use Rattle.wire_fields.specs.Kinds.{may, none_of_two, acked_kind, split_kind, kinds_of, request_kinds, buffer_kinds, authority_kinds, joined_fields, sized, derived, split_bytes}
 use Rattle.wire_fields.specs.Message.{Contents, Message, Held, Formed, WellFormed, ends, layout_from, layout_of, message_bytes, header_of, parts_of}
-use Rattle.wire_fields.specs.declared.Part.TheVariants.{Here, Absent}
+use Rattle.std.specs.Prelude.{None}
+use Rattle.wire_fields.specs.Places.{here}
 use Rattle.wire_shapes.specs.declared.Shape.TheVariants.{Sized}
 use Rattle.wire_fields.proofs.RefusalLaws.{split_four}
 use Rattle.wire_fields.proofs.WholeLaws.{length_header}
@@ -47,11 +48,11 @@ ends_rest i k (some v) ks fs =
     omega arith
 
 second_place : (k j : Kind) (js : List Kind) (f : Contents) (v : List ℕ) (fs : List Contents)
-    → get_or (parts_of 12 (k ∷ j ∷ js) (f ∷ some v ∷ fs)) 1 Absent ≡ Here (ends 12 k f + 4) (length v)
+    → get_or (parts_of 12 (k ∷ j ∷ js) (f ∷ some v ∷ fs)) 1 None ≡ here (ends 12 k f + 4) (length v)
 second_place k j js none v fs = refl
 second_place k j js (some w) v fs = refl
 
-second_absent : (k j : Kind) (js : List Kind) (f : Contents) (fs : List Contents) → get_or (parts_of 12 (k ∷ j ∷ js) (f ∷ none ∷ fs)) 1 Absent ≡ Absent
+second_absent : (k j : Kind) (js : List Kind) (f : Contents) (fs : List Contents) → get_or (parts_of 12 (k ∷ j ∷ js) (f ∷ none ∷ fs)) 1 None ≡ None
 second_absent k j js none fs = refl
 second_absent k j js (some w) fs = refl
 
@@ -74,7 +75,7 @@ module _ (k j : Kind) (js : List Kind) (p : j.padded ≡ false) (held : (size : 
   abbrev Anew : List Contents → Type 0
   Anew gs =
       Formed (k ∷ j ∷ js) gs
-      × (derived (12 + length (message_bytes (layout_from 12 (k ∷ j ∷ js) gs))) (get_or (parts_of 12 (k ∷ j ∷ js) gs) 1 Absent) (get_or gs 1 none) ≡ true)
+      × (derived (12 + length (message_bytes (layout_from 12 (k ∷ j ∷ js) gs))) (get_or (parts_of 12 (k ∷ j ∷ js) gs) 1 None) (get_or gs 1 none) ≡ true)
 
   anew : (f : Contents) (v : List ℕ) (fs : List Contents) (size : ℕ) → size ≡ length (message_bytes (layout_from (ends (ends 12 k f) j (some v)) js fs))
       → Formed (k ∷ j ∷ js) (f ∷ some v ∷ fs) → 12 + length (message_bytes (layout_from 12 (k ∷ j ∷ js) (f ∷ some (split_bytes size) ∷ fs))) ≤ 1232

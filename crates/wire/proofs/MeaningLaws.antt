@@ -16,8 +16,8 @@ use Rattle.wire_shapes.specs.Field.{number_at}
 use Rattle.wire_shapes.specs.Shapes.{Kind, has_shape, lookup_form}
 use Rattle.wire_fields.specs.Kinds.{must, may, acked_kind, split_kind, endpoints, key_list, codes, none_of_two, last_of_two, last_of_two_and_one, flags_axc, flags_lbn, keep_lookup, sized, derived, solicit_kinds, advertise_kinds, request_kinds, flood_kinds, inquire_kinds, authority_kinds, ack_kinds, lookup_kinds, split_bytes}
 use Rattle.wire_fields.specs.Reading.{value_of, values_of, message_at}
-use Rattle.wire_fields.specs.declared.Part.{Part}
-use Rattle.wire_fields.specs.declared.Part.TheVariants.{Here, Absent}
+use Rattle.std.specs.Prelude.{Some, None}
+use Rattle.wire_fields.specs.Places.{Part, here}
 use Rattle.wire_shapes.specs.declared.Shape.TheVariants.{Sized, Any, Entry, Lookup, Split}
 use Rattle.wire_fields.proofs.HeadLaws.{digits_at}
 use Rattle.wire_shapes.proofs.ShapeLaws.{number-first, number_in}
@@ -42,22 +42,22 @@ split_length d s l e h = sym (length_part s l d h) ∙ split_four (part s l d) e
 ack_flags : (d : List ℕ) (i : ℕ) (p : Part) → Fact (may 0x40 false (Sized 2) last_of_two) d i p
     → held (is_here p) (0 ∷ bit (part_flag d p 1 1) ∷ []) ≡ value_of (may 0x40 false (Sized 2) last_of_two) d p
 unfolding part_flag
-ack_flags d i Absent f = refl
-ack_flags d i (Here s l) f =
-    let e = sized-length 2 d s l f.0 f.1 in
+ack_flags d i None f = refl
+ack_flags d i (Some p) f =
+    let e = sized-length 2 d p.start p.len f.0 f.1 in
     let h = f.1 in
-    rw (e, last-kept d s (omega arith))
+    rw (e, last-kept d p.start (omega arith))
 
 request_flags : (d : List ℕ) (i : ℕ) (p : Part) → Fact (may 0x40 true (Sized 2) none_of_two) d i p
     → held (is_here p) (0 ∷ 0 ∷ []) ≡ value_of (may 0x40 true (Sized 2) none_of_two) d p
-request_flags d i Absent f = refl
-request_flags d i (Here s l) f =
-    let e = sized-length 2 d s l f.0 f.1 in
+request_flags d i None f = refl
+request_flags d i (Some p) f =
+    let e = sized-length 2 d p.start p.len f.0 f.1 in
     let h = f.1 in
-    rw (e, none_kept d s (omega arith))
+    rw (e, none_kept d p.start (omega arith))
 
 -- split controls that follow from the rest: their two numbers
-split_numbers : (d : List ℕ) (s l n : ℕ) → s + l ≤ length d → l ≡ 4 → s + l ≡ n → derived (length d) (Here s l) (some (part s l d)) ≡ true
+split_numbers : (d : List ℕ) (s l n : ℕ) → s + l ≤ length d → l ≡ 4 → s + l ≡ n → derived (length d) (here s l) (some (part s l d)) ≡ true
     → Bytes d → part s 4 d ≡ split_bytes (length d - n)
 split_numbers d s l n h e m f b =
     let w = both_true (eqb (number_at 0 2 (part s l d)) (length d - (s + l))) (eqb (number_at 2 2 (part s l d)) 0) f in
@@ -70,21 +70,21 @@ request_split : (d : List ℕ) → Bytes d → (p q : Part) → Fact (may 0x40 t
     → Fact (may 0x98 false (Sized 4) []) d (after (may 0x40 true (Sized 2) none_of_two) 12 p) q
     → derived (length d) q (value_of (may 0x98 false (Sized 4) []) d q) ≡ true
     → held (is_here q) (split_bytes (length d - cond (is_here p) 28 20)) ≡ value_of (may 0x98 false (Sized 4) []) d q
-request_split d b p Absent f g e = refl
-request_split d b Absent (Here s l) f g e =
-    let n = sized-length 4 d s l g.0 g.1 in
+request_split d b p None f g e = refl
+request_split d b None (Some p) f g e =
+    let n = sized-length 4 d p.start p.len g.0 g.1 in
     let o = g.2 in
-    rw (sym (split_numbers d s l 20 g.1 n (omega arith) e b), n)
-request_split d b (Here s₀ l₀) (Here s l) f g e =
-    let n₀ = sized-length 2 d s₀ l₀ f.0 f.1 in
-    let n = sized-length 4 d s l g.0 g.1 in
-    let o : s ≡ 24 = g.2 ∙ rw n₀ in
-    rw (sym (split_numbers d s l 28 g.1 n (omega arith) e b), n)
+    rw (sym (split_numbers d p.start p.len 20 g.1 n (omega arith) e b), n)
+request_split d b (Some p) (Some place) f g e =
+    let n₀ = sized-length 2 d p.start p.len f.0 f.1 in
+    let n = sized-length 4 d place.start place.len g.0 g.1 in
+    let o : place.start ≡ 24 = g.2 ∙ rw n₀ in
+    rw (sym (split_numbers d place.start place.len 28 g.1 n (omega arith) e b), n)
 
 -- SOLICIT
 solicit_at : (major : ℕ) (d : List ℕ) → Bytes d → major ≡ get_or d 5 0 → (p₀ : Part) → (s₁ l₁ : ℕ)
     → has_shape (must 0x92 false (Sized 20) []).shape (part s₁ l₁ d) ≡ true → s₁ + l₁ ≤ length d
-    → message_of major d (solicit_shown d (p₀ ∷ Here s₁ l₁ ∷ [])) ≡ some (message_at solicit_kinds d 1 (p₀ ∷ Here s₁ l₁ ∷ []))
+    → message_of major d (solicit_shown d (p₀ ∷ here s₁ l₁ ∷ [])) ≡ some (message_at solicit_kinds d 1 (p₀ ∷ here s₁ l₁ ∷ []))
 unfolding message_of head_of
 solicit_at major d b m p₀ s₁ l₁ g₁ h₁ =
     let e₁ = sized-length 20 d s₁ l₁ g₁ h₁ in
@@ -96,7 +96,7 @@ solicit_means major d b m ps w =
     let n₀ = maybed (may 0x9A true Entry []) (drop 1 solicit_kinds) d 12 ps w in
     let n₁ = needed (must 0x92 false (Sized 20) []) (drop 2 solicit_kinds) d _ n₀.rest refl n₀.more in
     let last = last_needed n₁ in
-    let all = n₀.is ∙ ap (λ (r : List Part). n₀.p ∷ r) (n₁.is ∙ ap (λ (r : List Part). Here n₁.s n₁.l ∷ r) (last)) in
+    let all = n₀.is ∙ ap (λ (r : List Part). n₀.p ∷ r) (n₁.is ∙ ap (λ (r : List Part). here n₁.s n₁.l ∷ r) (last)) in
     subst (λ (q : List Part). message_of major d (solicit_shown d q) ≡ some (message_at solicit_kinds d 1 q)) (sym (all))
     (solicit_at major d b m n₀.p n₁.s n₁.l n₁.shaped n₁.within)
 
@@ -104,8 +104,8 @@ solicit_means major d b m ps w =
 advertise_at : (major : ℕ) (d : List ℕ) → Bytes d → major ≡ get_or d 5 0 → (s₀ l₀ : ℕ) → has_shape (acked_kind).shape (part s₀ l₀ d) ≡ true
     → s₀ + l₀ ≤ length d → (s₁ l₁ : ℕ) → has_shape (must 0x60 false key_list []).shape (part s₁ l₁ d) ≡ true → s₁ + l₁ ≤ length d → (s₂ l₂ : ℕ)
     → has_shape (must 0x92 false (Sized 20) []).shape (part s₂ l₂ d) ≡ true → s₂ + l₂ ≤ length d
-    → message_of major d (advertise_shown d (Here s₀ l₀ ∷ Here s₁ l₁ ∷ Here s₂ l₂ ∷ []))
-    ≡ some (message_at advertise_kinds d 2 (Here s₀ l₀ ∷ Here s₁ l₁ ∷ Here s₂ l₂ ∷ []))
+    → message_of major d (advertise_shown d (here s₀ l₀ ∷ here s₁ l₁ ∷ here s₂ l₂ ∷ []))
+    ≡ some (message_at advertise_kinds d 2 (here s₀ l₀ ∷ here s₁ l₁ ∷ here s₂ l₂ ∷ []))
 unfolding message_of head_of
 advertise_at major d b m s₀ l₀ g₀ h₀ s₁ l₁ g₁ h₁ s₂ l₂ g₂ h₂ =
     let e₀ = sized-length 4 d s₀ l₀ g₀ h₀ in
@@ -120,8 +120,8 @@ advertise_means major d b m ps w =
     let n₁ = needed (must 0x60 false key_list []) (drop 2 advertise_kinds) d _ n₀.rest refl n₀.more in
     let n₂ = needed (must 0x92 false (Sized 20) []) (drop 3 advertise_kinds) d _ n₁.rest refl n₁.more in
     let last = last_needed n₂ in
-    let all = n₀.is ∙ ap (λ (r : List Part). Here n₀.s n₀.l ∷ r) (n₁.is ∙ ap (λ (r : List Part). Here n₁.s n₁.l ∷ r)
-    (n₂.is ∙ ap (λ (r : List Part). Here n₂.s n₂.l ∷ r) (last))) in
+    let all = n₀.is ∙ ap (λ (r : List Part). here n₀.s n₀.l ∷ r) (n₁.is ∙ ap (λ (r : List Part). here n₁.s n₁.l ∷ r)
+    (n₂.is ∙ ap (λ (r : List Part). here n₂.s n₂.l ∷ r) (last))) in
     subst (λ (q : List Part). message_of major d (advertise_shown d q) ≡ some (message_at advertise_kinds d 2 q)) (sym (all))
     (advertise_at major d b m n₀.s n₀.l n₀.shaped n₀.within n₁.s n₁.l n₁.shaped n₁.within n₂.s n₂.l n₂.shaped
     n₂.within)
@@ -132,8 +132,8 @@ request_at : (major : ℕ) (d : List ℕ) → Bytes d → major ≡ get_or d 5 0
     → derived (length d) p₁ (value_of (may 0x98 false (Sized 4) []) d p₁) ≡ true → (s₂ l₂ : ℕ)
     → has_shape (must 0x93 false (Sized 16) []).shape (part s₂ l₂ d) ≡ true → s₂ + l₂ ≤ length d → (s₃ l₃ : ℕ)
     → has_shape (must 0x60 false key_list []).shape (part s₃ l₃ d) ≡ true → s₃ + l₃ ≤ length d → (p₄ : Part) → (p₅ : Part) → (p₆ : Part)
-    → message_of major d (request_shown d (p₀ ∷ p₁ ∷ Here s₂ l₂ ∷ Here s₃ l₃ ∷ p₄ ∷ p₅ ∷ p₆ ∷ []))
-    ≡ some (message_at request_kinds d 3 (p₀ ∷ p₁ ∷ Here s₂ l₂ ∷ Here s₃ l₃ ∷ p₄ ∷ p₅ ∷ p₆ ∷ []))
+    → message_of major d (request_shown d (p₀ ∷ p₁ ∷ here s₂ l₂ ∷ here s₃ l₃ ∷ p₄ ∷ p₅ ∷ p₆ ∷ []))
+    ≡ some (message_at request_kinds d 3 (p₀ ∷ p₁ ∷ here s₂ l₂ ∷ here s₃ l₃ ∷ p₄ ∷ p₅ ∷ p₆ ∷ []))
 unfolding message_of head_of
 request_at major d b m p₀ f₀ p₁ f₁ z s₂ l₂ g₂ h₂ s₃ l₃ g₃ h₃ p₄ p₅ p₆ =
     let e₂ = sized-length 16 d s₂ l₂ g₂ h₂ in
@@ -162,7 +162,7 @@ request_means major d b m ps w z =
     let last = last_maybed n₆ in
     let y : derived (length d) n₁.p (value_of (may 0x98 false (Sized 4) []) d n₁.p) ≡ true = rw (n₀.is, n₁.is) at z in
     let all = n₀.is ∙ ap (λ (r : List Part). n₀.p ∷ r) (n₁.is ∙ ap (λ (r : List Part). n₁.p ∷ r)
-    (n₂.is ∙ ap (λ (r : List Part). Here n₂.s n₂.l ∷ r) (n₃.is ∙ ap (λ (r : List Part). Here n₃.s n₃.l ∷ r)
+    (n₂.is ∙ ap (λ (r : List Part). here n₂.s n₂.l ∷ r) (n₃.is ∙ ap (λ (r : List Part). here n₃.s n₃.l ∷ r)
     (n₄.is ∙ ap (λ (r : List Part). n₄.p ∷ r)
     (n₅.is ∙ ap (λ (r : List Part). n₅.p ∷ r) (n₆.is ∙ ap (λ (r : List Part). n₆.p ∷ r) (last))))))) in
     subst (λ (q : List Part). message_of major d (request_shown d q) ≡ some (message_at request_kinds d 3 q)) (sym (all))
@@ -173,8 +173,8 @@ request_means major d b m ps w z =
 flood_at : (major : ℕ) (d : List ℕ) → Bytes d → major ≡ get_or d 5 0 → (s₀ l₀ : ℕ) → has_shape (must 0x43 true (Sized 3) last_of_two_and_one).shape
     (part s₀ l₀ d) ≡ true → s₀ + l₀ ≤ length d → (s₁ l₁ : ℕ) → has_shape (must 0x39 false (Sized 32) []).shape (part s₁ l₁ d) ≡ true
     → s₁ + l₁ ≤ length d → (p₂ : Part) → (p₃ : Part) → (p₄ : Part) → (p₅ : Part)
-    → message_of major d (flood_shown d (Here s₀ l₀ ∷ Here s₁ l₁ ∷ p₂ ∷ p₃ ∷ p₄ ∷ p₅ ∷ []))
-    ≡ some (message_at flood_kinds d 4 (Here s₀ l₀ ∷ Here s₁ l₁ ∷ p₂ ∷ p₃ ∷ p₄ ∷ p₅ ∷ []))
+    → message_of major d (flood_shown d (here s₀ l₀ ∷ here s₁ l₁ ∷ p₂ ∷ p₃ ∷ p₄ ∷ p₅ ∷ []))
+    ≡ some (message_at flood_kinds d 4 (here s₀ l₀ ∷ here s₁ l₁ ∷ p₂ ∷ p₃ ∷ p₄ ∷ p₅ ∷ []))
 unfolding message_of head_of
 flood_at major d b m s₀ l₀ g₀ h₀ s₁ l₁ g₁ h₁ p₂ p₃ p₄ p₅ =
     let e₀ = sized-length 3 d s₀ l₀ g₀ h₀ in
@@ -200,7 +200,7 @@ flood_means major d b m ps w =
     let n₄ = maybed (may 0x9A true Entry []) (drop 5 flood_kinds) d _ n₃.rest n₃.more in
     let n₅ = maybed (may 0x9E false endpoints []) (drop 6 flood_kinds) d _ n₄.rest n₄.more in
     let last = last_maybed n₅ in
-    let all = n₀.is ∙ ap (λ (r : List Part). Here n₀.s n₀.l ∷ r) (n₁.is ∙ ap (λ (r : List Part). Here n₁.s n₁.l ∷ r)
+    let all = n₀.is ∙ ap (λ (r : List Part). here n₀.s n₀.l ∷ r) (n₁.is ∙ ap (λ (r : List Part). here n₁.s n₁.l ∷ r)
     (n₂.is ∙ ap (λ (r : List Part). n₂.p ∷ r) (n₃.is ∙ ap (λ (r : List Part). n₃.p ∷ r)
     (n₄.is ∙ ap (λ (r : List Part). n₄.p ∷ r) (n₅.is ∙ ap (λ (r : List Part). n₅.p ∷ r) (last)))))) in
     subst (λ (q : List Part). message_of major d (flood_shown d q) ≡ some (message_at flood_kinds d 4 q)) (sym (all))
@@ -210,8 +210,8 @@ flood_means major d b m ps w =
 inquire_at : (major : ℕ) (d : List ℕ) → Bytes d → major ≡ get_or d 5 0 → (s₀ l₀ : ℕ)
     → has_shape (must 0x40 true (Sized 2) flags_axc).shape (part s₀ l₀ d) ≡ true → s₀ + l₀ ≤ length d → (s₁ l₁ : ℕ)
     → has_shape (must 0x39 false (Sized 32) []).shape (part s₁ l₁ d) ≡ true → s₁ + l₁ ≤ length d
-    → (p₂ : Part) → (p₃ : Part) → (p₄ : Part) → (p₅ : Part) → message_of major d (inquire_shown d (Here s₀ l₀ ∷ Here s₁ l₁ ∷ p₂ ∷ p₃ ∷ p₄ ∷ p₅ ∷ []))
-    ≡ some (message_at inquire_kinds d 7 (Here s₀ l₀ ∷ Here s₁ l₁ ∷ p₂ ∷ p₃ ∷ p₄ ∷ p₅ ∷ []))
+    → (p₂ : Part) → (p₃ : Part) → (p₄ : Part) → (p₅ : Part) → message_of major d (inquire_shown d (here s₀ l₀ ∷ here s₁ l₁ ∷ p₂ ∷ p₃ ∷ p₄ ∷ p₅ ∷ []))
+    ≡ some (message_at inquire_kinds d 7 (here s₀ l₀ ∷ here s₁ l₁ ∷ p₂ ∷ p₃ ∷ p₄ ∷ p₅ ∷ []))
 unfolding message_of head_of
 inquire_at major d b m s₀ l₀ g₀ h₀ s₁ l₁ g₁ h₁ p₂ p₃ p₄ p₅ =
     let e₀ = sized-length 2 d s₀ l₀ g₀ h₀ in
@@ -237,7 +237,7 @@ inquire_means major d b m ps w =
     let n₄ = maybed (may 0xA5 false Any []) (drop 5 inquire_kinds) d _ n₃.rest n₃.more in
     let n₅ = maybed (may 0xA6 false Any []) (drop 6 inquire_kinds) d _ n₄.rest n₄.more in
     let last = last_maybed n₅ in
-    let all = n₀.is ∙ ap (λ (r : List Part). Here n₀.s n₀.l ∷ r) (n₁.is ∙ ap (λ (r : List Part). Here n₁.s n₁.l ∷ r)
+    let all = n₀.is ∙ ap (λ (r : List Part). here n₀.s n₀.l ∷ r) (n₁.is ∙ ap (λ (r : List Part). here n₁.s n₁.l ∷ r)
     (n₂.is ∙ ap (λ (r : List Part). n₂.p ∷ r) (n₃.is ∙ ap (λ (r : List Part). n₃.p ∷ r)
     (n₄.is ∙ ap (λ (r : List Part). n₄.p ∷ r) (n₅.is ∙ ap (λ (r : List Part). n₅.p ∷ r) (last)))))) in
     subst (λ (q : List Part). message_of major d (inquire_shown d q) ≡ some (message_at inquire_kinds d 7 q)) (sym (all))
@@ -246,11 +246,11 @@ inquire_means major d b m ps w =
 -- AUTHORITY
 authority_at : (major : ℕ) (d : List ℕ) → Bytes d → major ≡ get_or d 5 0 → (s₀ l₀ : ℕ) → has_shape (acked_kind).shape (part s₀ l₀ d) ≡ true
     → s₀ + l₀ ≤ length d → (s₁ l₁ : ℕ) → has_shape (split_kind).shape (part s₁ l₁ d) ≡ true → s₁ + l₁ ≤ length d → s₁ ≡ 24
-    → derived (length d) (Here s₁ l₁) (some (part s₁ l₁ d)) ≡ true → (s₂ l₂ : ℕ)
+    → derived (length d) (here s₁ l₁) (some (part s₁ l₁ d)) ≡ true → (s₂ l₂ : ℕ)
     → has_shape (must 0x40 true (Sized 2) flags_lbn).shape (part s₂ l₂ d) ≡ true
     → s₂ + l₂ ≤ length d → (p₃ : Part) → (p₄ : Part) → (p₅ : Part) → (p₆ : Part) → (p₇ : Part) → (p₈ : Part)
-    → message_of major d (authority_shown d (Here s₀ l₀ ∷ Here s₁ l₁ ∷ Here s₂ l₂ ∷ p₃ ∷ p₄ ∷ p₅ ∷ p₆ ∷ p₇ ∷ p₈ ∷ []))
-    ≡ some (message_at authority_kinds d 8 (Here s₀ l₀ ∷ Here s₁ l₁ ∷ Here s₂ l₂ ∷ p₃ ∷ p₄ ∷ p₅ ∷ p₆ ∷ p₇ ∷ p₈ ∷ []))
+    → message_of major d (authority_shown d (here s₀ l₀ ∷ here s₁ l₁ ∷ here s₂ l₂ ∷ p₃ ∷ p₄ ∷ p₅ ∷ p₆ ∷ p₇ ∷ p₈ ∷ []))
+    ≡ some (message_at authority_kinds d 8 (here s₀ l₀ ∷ here s₁ l₁ ∷ here s₂ l₂ ∷ p₃ ∷ p₄ ∷ p₅ ∷ p₆ ∷ p₇ ∷ p₈ ∷ []))
 unfolding message_of head_of
 authority_at major d b m s₀ l₀ g₀ h₀ s₁ l₁ g₁ h₁ o z s₂ l₂ g₂ h₂ p₃ p₄ p₅ p₆ p₇ p₈ =
     let e₀ = sized-length 4 d s₀ l₀ g₀ h₀ in
@@ -290,9 +290,9 @@ authority_means major d b m ps w z =
     let last = last_maybed n₈ in
     let e₀ = sized-length 4 d n₀.s n₀.l n₀.shaped n₀.within in
     let o : n₁.s ≡ 24 = n₁.starts ∙ rw e₀ in
-    let y : derived (length d) (Here n₁.s n₁.l) (some (part n₁.s n₁.l d)) ≡ true = rw (n₀.is, n₁.is) at z in
-    let all = n₀.is ∙ ap (λ (r : List Part). Here n₀.s n₀.l ∷ r) (n₁.is ∙ ap (λ (r : List Part). Here n₁.s n₁.l ∷ r)
-    (n₂.is ∙ ap (λ (r : List Part). Here n₂.s n₂.l ∷ r) (n₃.is ∙ ap (λ (r : List Part). n₃.p ∷ r)
+    let y : derived (length d) (here n₁.s n₁.l) (some (part n₁.s n₁.l d)) ≡ true = rw (n₀.is, n₁.is) at z in
+    let all = n₀.is ∙ ap (λ (r : List Part). here n₀.s n₀.l ∷ r) (n₁.is ∙ ap (λ (r : List Part). here n₁.s n₁.l ∷ r)
+    (n₂.is ∙ ap (λ (r : List Part). here n₂.s n₂.l ∷ r) (n₃.is ∙ ap (λ (r : List Part). n₃.p ∷ r)
     (n₄.is ∙ ap (λ (r : List Part). n₄.p ∷ r) (n₅.is ∙ ap (λ (r : List Part). n₅.p ∷ r)
     (n₆.is ∙ ap (λ (r : List Part). n₆.p ∷ r)
     (n₇.is ∙ ap (λ (r : List Part). n₇.p ∷ r) (n₈.is ∙ ap (λ (r : List Part). n₈.p ∷ r) (last))))))))) in
@@ -302,8 +302,8 @@ authority_means major d b m ps w z =
 
 -- ACK
 ack_at : (major : ℕ) (d : List ℕ) → Bytes d → major ≡ get_or d 5 0 → (s₀ l₀ : ℕ) → has_shape (acked_kind).shape (part s₀ l₀ d) ≡ true
-    → s₀ + l₀ ≤ length d → (p₁ : Part) → Fact (may 0x40 false (Sized 2) last_of_two) d 20 p₁ → message_of major d (ack_shown d (Here s₀ l₀ ∷ p₁ ∷ []))
-    ≡ some (message_at ack_kinds d 9 (Here s₀ l₀ ∷ p₁ ∷ []))
+    → s₀ + l₀ ≤ length d → (p₁ : Part) → Fact (may 0x40 false (Sized 2) last_of_two) d 20 p₁ → message_of major d (ack_shown d (here s₀ l₀ ∷ p₁ ∷ []))
+    ≡ some (message_at ack_kinds d 9 (here s₀ l₀ ∷ p₁ ∷ []))
 unfolding message_of head_of
 ack_at major d b m s₀ l₀ g₀ h₀ p₁ f₁ =
     let e₀ = sized-length 4 d s₀ l₀ g₀ h₀ in
@@ -316,8 +316,8 @@ ack_means major d b m ps w =
     let n₀ = needed (acked_kind) (drop 1 ack_kinds) d 12 ps refl w in
     let n₁ = maybed (may 0x40 false (Sized 2) last_of_two) (drop 2 ack_kinds) d _ n₀.rest n₀.more in
     let last = last_maybed n₁ in
-    let at₁ : after acked_kind 12 (Here n₀.s n₀.l) ≡ 20 = (let e = sized-length 4 d n₀.s n₀.l n₀.shaped n₀.within in rw e) in
-    let all = n₀.is ∙ ap (λ (r : List Part). Here n₀.s n₀.l ∷ r) (n₁.is ∙ ap (λ (r : List Part). n₁.p ∷ r) (last)) in
+    let at₁ : after acked_kind 12 (here n₀.s n₀.l) ≡ 20 = (let e = sized-length 4 d n₀.s n₀.l n₀.shaped n₀.within in rw e) in
+    let all = n₀.is ∙ ap (λ (r : List Part). here n₀.s n₀.l ∷ r) (n₁.is ∙ ap (λ (r : List Part). n₁.p ∷ r) (last)) in
     subst (λ (q : List Part). message_of major d (ack_shown d q) ≡ some (message_at ack_kinds d 9 q)) (sym (all))
     (ack_at major d b m n₀.s n₀.l n₀.shaped n₀.within n₁.p
     (subst (λ (i : ℕ). Fact (may 0x40 false (Sized 2) last_of_two) d i n₁.p) at₁ n₁.fact))
@@ -327,8 +327,8 @@ lookup_at : (major : ℕ) (d : List ℕ) → Bytes d → major ≡ get_or d 5 0 
     → s₀ + l₀ ≤ length d → (s₁ l₁ : ℕ) → has_shape (must 0x38 false (Sized 32) []).shape (part s₁ l₁ d) ≡ true → s₁ + l₁ ≤ length d → (s₂ l₂ : ℕ)
     → has_shape (must 0x39 false (Sized 32) []).shape (part s₂ l₂ d) ≡ true → s₂ + l₂ ≤ length d → (p₃ : Part) → (s₄ l₄ : ℕ)
     → has_shape (must 0x9E false endpoints []).shape (part s₄ l₄ d) ≡ true → s₄ + l₄ ≤ length d → (p₅ : Part) → (p₆ : Part) → (p₇ : Part)
-    → message_of major d (lookup_shown d (Here s₀ l₀ ∷ Here s₁ l₁ ∷ Here s₂ l₂ ∷ p₃ ∷ Here s₄ l₄ ∷ p₅ ∷ p₆ ∷ p₇ ∷ []))
-    ≡ some (message_at lookup_kinds d 11 (Here s₀ l₀ ∷ Here s₁ l₁ ∷ Here s₂ l₂ ∷ p₃ ∷ Here s₄ l₄ ∷ p₅ ∷ p₆ ∷ p₇ ∷ []))
+    → message_of major d (lookup_shown d (here s₀ l₀ ∷ here s₁ l₁ ∷ here s₂ l₂ ∷ p₃ ∷ here s₄ l₄ ∷ p₅ ∷ p₆ ∷ p₇ ∷ []))
+    ≡ some (message_at lookup_kinds d 11 (here s₀ l₀ ∷ here s₁ l₁ ∷ here s₂ l₂ ∷ p₃ ∷ here s₄ l₄ ∷ p₅ ∷ p₆ ∷ p₇ ∷ []))
 unfolding message_of head_of
 lookup_at major d b m s₀ l₀ g₀ h₀ s₁ l₁ g₁ h₁ s₂ l₂ g₂ h₂ p₃ s₄ l₄ g₄ h₄ p₅ p₆ p₇ =
     let e₀ = lookup_length d s₀ l₀ g₀ h₀ in
@@ -358,9 +358,9 @@ lookup_means major d b m ps w =
     let n₆ = maybed (may 0xA5 false Any []) (drop 7 lookup_kinds) d _ n₅.rest n₅.more in
     let n₇ = maybed (may 0xA6 false Any []) (drop 8 lookup_kinds) d _ n₆.rest n₆.more in
     let last = last_maybed n₇ in
-    let all = n₀.is ∙ ap (λ (r : List Part). Here n₀.s n₀.l ∷ r) (n₁.is ∙ ap (λ (r : List Part). Here n₁.s n₁.l ∷ r)
-    (n₂.is ∙ ap (λ (r : List Part). Here n₂.s n₂.l ∷ r) (n₃.is ∙ ap (λ (r : List Part). n₃.p ∷ r)
-    (n₄.is ∙ ap (λ (r : List Part). Here n₄.s n₄.l ∷ r) (n₅.is ∙ ap (λ (r : List Part). n₅.p ∷ r)
+    let all = n₀.is ∙ ap (λ (r : List Part). here n₀.s n₀.l ∷ r) (n₁.is ∙ ap (λ (r : List Part). here n₁.s n₁.l ∷ r)
+    (n₂.is ∙ ap (λ (r : List Part). here n₂.s n₂.l ∷ r) (n₃.is ∙ ap (λ (r : List Part). n₃.p ∷ r)
+    (n₄.is ∙ ap (λ (r : List Part). here n₄.s n₄.l ∷ r) (n₅.is ∙ ap (λ (r : List Part). n₅.p ∷ r)
     (n₆.is ∙ ap (λ (r : List Part). n₆.p ∷ r) (n₇.is ∙ ap (λ (r : List Part). n₇.p ∷ r) (last)))))))) in
     subst (λ (q : List Part). message_of major d (lookup_shown d q) ≡ some (message_at lookup_kinds d 11 q)) (sym (all))
     (lookup_at major d b m n₀.s n₀.l n₀.shaped n₀.within n₁.s n₁.l n₁.shaped n₁.within n₂.s n₂.l n₂.shaped

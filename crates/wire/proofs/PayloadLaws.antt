@@ -13,8 +13,7 @@ use borrow.Author.Tests.{le-leb, leb-true}
 use Rattle.octet.specs.Number.{digits_be}
 use Rattle.octet.proofs.TestLaws.{and_true}
 use Rattle.wire_shapes.specs.Shapes.{has_shape}
-use Rattle.wire_fields.specs.declared.Part.{Part}
-use Rattle.wire_fields.specs.declared.Part.TheVariants.{Here}
+use Rattle.wire_fields.specs.Places.{Part, here}
 use Rattle.wire_shapes.specs.declared.Shape.TheVariants.{Any, Entry}
 use Rattle.wire_fields.specs.Kinds.{may, codes, buffer_kinds, authority_kinds, split_bytes}
 use Rattle.wire_fields.specs.Message.{Contents, Message, Held, Formed, layout_from, layout_of, message_bytes, header_of}
@@ -64,11 +63,11 @@ module _ (major : ℕ) (d : List ℕ) (m : Authority) (v : List ℕ) where
   within_by true false c p x e = absurd (let z : ◌≡◌ {A = Bool} false true = e in let y : ◌≡◌ {A = ℕ} 0 1 = cc in omega arith)
   within_by false b c p x e = absurd (let z : ◌≡◌ {A = Bool} false true = e in let y : ◌≡◌ {A = ℕ} 0 1 = cc in omega arith)
 
-  stands-within : (s l : ℕ) → stands (may_row 0x5A true Any) (Here s l) ≡ true → s + l ≤ length d
+  stands-within : (s l : ℕ) → stands (may_row 0x5A true Any) (here s l) ≡ true → s + l ≤ length d
   unfolding has_shape
   stands-within s l e = leb-true (s + l) (length d) (sym (and_true (leb (s + l) (length d))) ∙ e)
 
-  pub payload-within : (s l : ℕ) → (resent major d (M.Authority m)).ok ≡ true → f.payload ≡ Here s l → s + l ≤ length d
+  pub payload-within : (s l : ℕ) → (resent major d (M.Authority m)).ok ≡ true → f.payload ≡ here s l → s + l ≤ length d
   unfolding resent made_by digits_be has_shape
   payload-within s l e q =
       stands-within s l (subst (λ (p : Part). stands (may_row 0x5A true Any) p ≡ true) q

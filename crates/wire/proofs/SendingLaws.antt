@@ -21,7 +21,7 @@ use Rattle.record.proofs.EntryLaws.{entry_form_lem}
 use Rattle.record.proofs.PlaceLaws.{record_at_lem, entry_length, entry_in_lem}
 use Rattle.wire_shapes.specs.Field.{number_at, gap}
 use Rattle.wire_shapes.specs.Shapes.{has_shape, split_form}
-use Rattle.wire_fields.specs.declared.Part.TheVariants.{Here}
+use Rattle.wire_fields.specs.Places.{here}
 use Rattle.wire_fields.specs.Kinds.{must, may, acked_kind, split_kind, flags_lbn, kinds_of, joined_fields, sized, derived, flood_kinds, authority_kinds, split_bytes}
 use Rattle.wire_fields.specs.Message.{Held, layout_of, message_bytes}
 use Rattle.wire_shapes.specs.declared.Shape.TheVariants.{Sized, Entry}
@@ -191,7 +191,7 @@ split_held size h =
       short = omega arith;
     }
 
-pub follows : (total s l size : ℕ) → size ≤ 1232 → total - (s + l) ≡ size → derived total (Here s l) (some (split_bytes size)) ≡ true
+pub follows : (total s l size : ℕ) → size ≤ 1232 → total - (s + l) ≡ size → derived total (here s l) (some (split_bytes size)) ≡ true
 follows total s l size h e =
     rw (
       eq-eqb (number_at 0 2 (split_bytes size)) (total - (s + l)) (split_size size h ∙ sym e),

@@ -13,7 +13,7 @@ use Rattle.wire_shapes.specs.Shapes.{Kind}
 use Rattle.wire_fields.specs.Kinds as K
 use Rattle.wire_fields.specs.Kinds.{kinds_of}
 use Rattle.wire_fields.specs.Refusals.{Found, refused, found, found_in}
-use Rattle.wire_fields.specs.declared.Part.{Part}
+use Rattle.wire_fields.specs.Places.{Part}
 use Rattle.wire_fields.proofs.WholeLaws.{way}
 use Rattle.wire_read.specs.Answers as R
 use Rattle.wire_read.specs.Answers.{read_in, incoming_of}

@@ -19,7 +19,7 @@ use Rattle.wire_fields.specs.Reading.{message_at, values_of, places_at, fields_a
 use Rattle.octet.specs.Part.{same}
 use Rattle.wire_fields.proofs.RefusalLaws.{by_type, in_steps, found_steps}
 use Rattle.wire_fields.specs.Refusals.{Found, refused, found, found_of, in_part, spans_of, fields_in, refusals, found_in}
-use Rattle.wire_fields.specs.declared.Part.{Part}
+use Rattle.wire_fields.specs.Places.{Part}
 use Rattle.wire_fields.proofs.WholeLaws.{way, lengths, found_reads, reads_found, reads_once, written_reads, read_written}
 use Rattle.wire_read.specs.Answers.{read_in, incoming_of, solicit_shown, advertise_shown, request_shown, flood_shown, inquire_shown, authority_shown, ack_shown, lookup_shown}
 use Rattle.wire_read.specs.Meaning.{number_of, message_of}

@@ -5,7 +5,7 @@ ghost use Rattle.std.specs.Prelude.{◌≡◌, ◌<◌};
 ghost use Rattle.wire_fields.specs.Reading.{whole_in, FourAt};
 ghost use Rattle.wire_buffer.specs.Buffer.{flag_at, buffer_at};
 
-use wire_fields::{Cursor, Maybe, Need, Part};
+use wire_fields::{Cursor, Place};
 use wire_shapes::byte;
 
 // What the buffer of an AUTHORITY holds: flags, and where its fields are.
@@ -14,32 +14,26 @@ pub struct Inside {
     pub l: bool,
     pub b: bool,
     pub n: bool,
-    pub chain: Part,
-    pub token: Part,
-    pub classifier: Part,
-    pub payload: Part,
-    pub entry: Part,
-    pub cpa: Part,
-}
-
-#[derive(Clone, Copy)]
-pub enum Buffer {
-    Holds(Inside),
-    Malformed,
+    pub chain: Option<Place>,
+    pub token: Option<Place>,
+    pub classifier: Option<Place>,
+    pub payload: Option<Place>,
+    pub entry: Option<Place>,
+    pub cpa: Option<Place>,
 }
 
 // Whether split controls follow from the rest: the size is the number of bytes after them and the offset is 0.
-pub fn is_whole(d: &[u8], p: Part) -> bool
+pub fn is_whole(d: &[u8], p: Option<Place>) -> bool
     requires { FourAt d.now p }
     ensures { result ≡ whole_in d.now p }
 {
-    let Part::Here(start, len) = p else {
+    let Some(place) = p else {
         return true;
     };
-    if octet::read_u16(d, start) as usize != d.len() - (start + len) {
+    if octet::read_u16(d, place.start) as usize != d.len() - (place.start + place.len) {
         return false;
     }
-    octet::read_u16(d, start + 2) == 0
+    octet::read_u16(d, place.start + 2) == 0
 }
 
 // The bit of a weight in the byte at a small offset from a place.
@@ -53,20 +47,14 @@ pub fn flag(d: &[u8], start: usize, offset: usize, weight: u8) -> bool
     byte(d, start + offset) / weight % 2 == 1
 }
 
-// The buffer that stands from a position to the end of any slice.
-pub fn read_buffer(d: &[u8], c: Cursor) -> Buffer
+// The buffer that stands from a position to the end of any slice, unless it is malformed.
+pub fn read_buffer(d: &[u8], c: Cursor) -> Option<Inside>
     ensures { result ≡ buffer_at d.now c.at }
 {
-    let Need::Field(flags, _, c) = c.fixed(d, wire_numbers::FLAGS, true, 2) else {
-        return Buffer::Malformed;
-    };
-    let Maybe::Taken(chain, c) = c.any_or_none(d, wire_numbers::CREDENTIAL, true) else {
-        return Buffer::Malformed;
-    };
-    let Maybe::Taken(token, c) = c.any_or_none(d, wire_numbers::TOKEN, true) else {
-        return Buffer::Malformed;
-    };
-    let Maybe::Taken(classifier, c) = c.array_or_none(
+    let (flags, c) = c.fixed(d, wire_numbers::FLAGS, true, 2)?;
+    let (chain, c) = c.any_or_none(d, wire_numbers::CREDENTIAL, true)?;
+    let (token, c) = c.any_or_none(d, wire_numbers::TOKEN, true)?;
+    let (classifier, c) = c.array_or_none(
         d,
         wire_numbers::CODES,
         true,
@@ -74,28 +62,17 @@ pub fn read_buffer(d: &[u8], c: Cursor) -> Buffer
         wire_numbers::CODES_EACH,
         0,
         wire_numbers::CODES_MOST,
-    ) else {
-        return Buffer::Malformed;
-    };
-    let Maybe::Taken(payload, c) = c.any_or_none(d, wire_numbers::PAYLOAD, true) else {
-        return Buffer::Malformed;
-    };
-    let Maybe::Taken(entry, c) = c.entry_or_none(d) else {
-        return Buffer::Malformed;
-    };
-    let Maybe::Taken(cpa, c) = c.any_or_none(d, wire_numbers::CPA, false) else {
-        return Buffer::Malformed;
-    };
+    )?;
+    let (payload, c) = c.any_or_none(d, wire_numbers::PAYLOAD, true)?;
+    let (entry, c) = c.entry_or_none(d)?;
+    let (cpa, c) = c.any_or_none(d, wire_numbers::CPA, false)?;
     if c.at != d.len() {
-        return Buffer::Malformed;
+        return None;
     }
-    let l = flag(d, flags, 0, 2);
-    let b = flag(d, flags, 1, 8);
-    let n = flag(d, flags, 1, 1);
-    Buffer::Holds(Inside {
-        l,
-        b,
-        n,
+    Some(Inside {
+        l: flag(d, flags.start, 0, 2),
+        b: flag(d, flags.start, 1, 8),
+        n: flag(d, flags.start, 1, 1),
         chain,
         token,
         classifier,

@@ -1,8 +1,7 @@
 -- Helps the code. What writing a message again makes, from the answer that `read` gave and the datagram d that it gave it of: rows and pieces. Assumes nothing.
-use Rattle.std.specs.Prelude.{ℕ, ◌+◌, ◌-◌, ◌*◌, List, [], ◌∷◌, Bool, false, cond, eqb, length}
+use Rattle.std.specs.Prelude.{ℕ, ◌+◌, ◌-◌, ◌*◌, List, [], ◌∷◌, Bool, false, cond, eqb, length, Some, None}
 use Rattle.wire_fields.specs.Kinds.{one_of}
-use Rattle.wire_fields.specs.declared.Part.{Part}
-use Rattle.wire_fields.specs.declared.Part.TheVariants.{Here, Absent}
+use Rattle.wire_fields.specs.Places.{Part}
 use Rattle.wire_buffer.specs.Buffer.{start_of}
 use Rattle.wire_buffer.specs.declared.Inside.{Inside}
 use Rattle.wire_read.specs.Answers.{is_here}
@@ -25,8 +24,8 @@ use Rattle.wire_write.specs.declared.Source.TheVariants.{Spelled, First}
 
 -- how long a field is
 abbrev pub len_of : Part → ℕ
-len_of (Here s l) = l
-len_of Absent = 0
+len_of (Some p) = p.len
+len_of None = 0
 
 -- a place as a piece of the datagram; a piece of the bytes that the writer spells out that may be absent
 abbrev pub piece_of : Part → Piece

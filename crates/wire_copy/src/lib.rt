@@ -9,7 +9,7 @@ ghost use Rattle.wire_read.specs.declared.Incoming.TheVariants as read;
 ghost use Rattle.wire_write.specs.Writing.{Wrote};
 ghost use Rattle.wire_copy.specs.Resent.{piece_of, spelled_if, resent};
 
-use wire_fields::Part;
+use wire_fields::Place;
 use wire_numbers::*;
 use wire_read::Incoming;
 use wire_read::messages::{Ack, Advertise, Authority, Flood, Inquire, Lookup, Request, Solicit};
@@ -21,22 +21,15 @@ use wire_whole::write_rows;
 use wire_write::{Piece, Source, Written};
 
 // A place as a piece of the datagram.
-pub fn piece_of(p: Part) -> Piece
+pub fn piece_of(p: Option<Place>) -> Piece
     ensures { result ≡ piece_of p }
 {
-    if let Part::Here(start, len) = p {
-        return Piece {
-            there: true,
-            source: Source::First,
-            start,
-            len,
-        };
-    }
+    let place = p.unwrap_or(Place { start: 0, len: 0 });
     Piece {
-        there: false,
+        there: p.is_some(),
         source: Source::First,
-        start: 0,
-        len: 0,
+        start: place.start,
+        len: place.len,
     }
 }
 
@@ -71,10 +64,7 @@ pub fn busy_and_none(b: bool, n: bool) -> u8
 fn behind(d: &[u8], place: usize) -> usize
     ensures { result ≡ length d.now - place }
 {
-    if d.len() < place {
-        return 0;
-    }
-    d.len() - place
+    d.len().saturating_sub(place)
 }
 
 // Where the split controls of a REQUEST end.

@@ -13,7 +13,7 @@ use Rattle.wire_shapes.specs.Shapes.{Kind}
 use Rattle.wire_fields.specs.Kinds.{buffer_kinds}
 use Rattle.wire_fields.specs.Message.{Contents, Formed, layout_from, message_bytes, cleared, parts_of}
 use Rattle.wire_fields.specs.Reading.{places_at, values_of}
-use Rattle.wire_fields.specs.declared.Part.{Part}
+use Rattle.wire_fields.specs.Places.{Part}
 use Rattle.wire_fields.proofs.SegmentLaws.{agrees_of, of_agrees}
 use Rattle.wire_fields.proofs.TableLaws.{sound, complete}
 use Rattle.wire_fields.proofs.KindLaws.{buffer_lawful}

@@ -17,10 +17,9 @@ use Rattle.wire_fields.specs.Reading.{span_at, need_at, need_of, maybe_at, maybe
 use Rattle.wire_fields.specs.declared.Cursor.{Cursor}
 use Rattle.wire_fields.specs.declared.Span.{Span}
 use Rattle.wire_fields.specs.declared.Span.TheVariants.{Whole, Other, Cut}
-use Rattle.wire_fields.specs.declared.Part.{Part}
-use Rattle.wire_fields.specs.declared.Part.TheVariants.{Here, Absent}
-use Rattle.wire_fields.specs.declared.Need.TheVariants.{Field, Missing}
-use Rattle.wire_fields.specs.declared.Maybe.TheVariants.{Taken, Malformed}
+use Rattle.std.specs.Prelude.{Some, None}
+use Rattle.wire_fields.specs.declared.Place.{Place}
+use Rattle.wire_fields.specs.Places.{Part, Need, Maybe}
 use Rattle.wire_fields.proofs.StepLaws.{need-good, maybe-good, maybe-other}
 use Rattle.wire_fields.proofs.SegmentLaws.{Agrees}
 
@@ -29,25 +28,25 @@ either true x y z p q = p
 either false x y z p q = q
 
 module _ (k : Kind) (ks : List Kind) (d : List ℕ) (i : ℕ) where
-  pub field-whole : (s l : ℕ) (c : Cursor) → span_at d i k.number k.padded ≡ Whole s l c → has_shape k.shape (part s l d) ≡ true
-      → places_at (k ∷ ks) d i ≡ before (Here s l) (places_at ks d c.at)
+  pub field-whole : (o : Place) (c : Cursor) → span_at d i k.number k.padded ≡ Whole o c → has_shape k.shape (part o.start o.len d) ≡ true
+      → places_at (k ∷ ks) d i ≡ before (Some o) (places_at ks d c.at)
   unfolding places_at
-  field-whole s l c q g =
+  field-whole o c q g =
       either k.optional _ _ _
-      (ap (after_maybe (places_at ks d)) (sym (maybe-good d i k.number k.padded k.shape _ refl s l c q g)))
-      (ap (after_need (places_at ks d)) (sym (need-good d i k.number k.padded k.shape _ refl s l c q g)))
+      (ap (after_maybe (places_at ks d)) (sym (maybe-good d i k.number k.padded k.shape _ refl o c q g)))
+      (ap (after_need (places_at ks d)) (sym (need-good d i k.number k.padded k.shape _ refl o c q g)))
 
   pub field-absent : k.optional ≡ true → span_at d i k.number k.padded ≡ Other
-      → places_at (k ∷ ks) d i ≡ before Absent (places_at ks d i)
+      → places_at (k ∷ ks) d i ≡ before None (places_at ks d i)
   unfolding places_at
   field-absent o q =
       rw o (ap (after_maybe (places_at ks d)) (sym (maybe-other d i k.number k.padded k.shape _ refl q)))
 
   -- how the places of a list of kinds came about
   pub data Came (ps : List Part) : Type 0 where
-    left_out : (qs : List Part) → ps ≡ Absent ∷ qs → k.optional ≡ true → places_at ks d i ≡ some qs → Came ps
-    found : (s l : ℕ) (c : Cursor) (qs : List Part) → ps ≡ Here s l ∷ qs → span_at d i k.number k.padded ≡ Whole s l c
-        → has_shape k.shape (part s l d) ≡ true → places_at ks d c.at ≡ some qs → Came ps
+    left_out : (qs : List Part) → ps ≡ None ∷ qs → k.optional ≡ true → places_at ks d i ≡ some qs → Came ps
+    found : (o : Place) (c : Cursor) (qs : List Part) → ps ≡ Some o ∷ qs → span_at d i k.number k.padded ≡ Whole o c
+        → has_shape k.shape (part o.start o.len d) ≡ true → places_at ks d c.at ≡ some qs → Came ps
 
   behind : (p : Part) (o : Option (List Part)) (ps : List Part) → before p o ≡ some ps → (qs : List Part) × (o ≡ some qs) × (ps ≡ p ∷ qs)
   behind p none ps e = absurd (let z : ◌≡◌ {A = ℕ} 0 1 = cc in omega arith)
@@ -55,35 +54,35 @@ module _ (k : Kind) (ks : List Kind) (d : List ℕ) (i : ℕ) where
 
   -- r is the span and g whether its contents are good
   module _ (ps : List Part) where
-    whole-came : (s l : ℕ) (c : Cursor) → span_at d i k.number k.padded ≡ Whole s l c → (g : Bool) → has_shape k.shape (part s l d) ≡ g
-        → cond g (before (Here s l) (places_at ks d c.at)) none ≡ some ps → Came ps
-    whole-came s l c q true g e =
-        let b = behind (Here s l) (places_at ks d c.at) ps e in
-        found s l c b.0 b.2 q g b.1
-    whole-came s l c q false g e = absurd (let z : ◌≡◌ {A = ℕ} 0 1 = cc in omega arith)
+    whole-came : (o : Place) (c : Cursor) → span_at d i k.number k.padded ≡ Whole o c → (g : Bool) → has_shape k.shape (part o.start o.len d) ≡ g
+        → cond g (before (Some o) (places_at ks d c.at)) none ≡ some ps → Came ps
+    whole-came o c q true g e =
+        let b = behind (Some o) (places_at ks d c.at) ps e in
+        found o c b.0 b.2 q g b.1
+    whole-came o c q false g e = absurd (let z : ◌≡◌ {A = ℕ} 0 1 = cc in omega arith)
 
     -- the test goes through what follows it
     after-maybe : (g : Bool) (p : Part) (c : Cursor)
-        → after_maybe (places_at ks d) (cond g (Taken p c) Malformed) ≡ cond g (before p (places_at ks d c.at)) none
+        → after_maybe (places_at ks d) (cond {A = Maybe} g (Some (p, c)) None) ≡ cond g (before p (places_at ks d c.at)) none
     after-maybe true p c = refl
     after-maybe false p c = refl
 
-    after-need : (g : Bool) (s l : ℕ) (c : Cursor)
-        → after_need (places_at ks d) (cond g (Field s l c) Missing) ≡ cond g (before (Here s l) (places_at ks d c.at)) none
-    after-need true s l c = refl
-    after-need false s l c = refl
+    after-need : (g : Bool) (o : Place) (c : Cursor)
+        → after_need (places_at ks d) (cond {A = Need} g (Some (o, c)) None) ≡ cond g (before (Some o) (places_at ks d c.at)) none
+    after-need true o c = refl
+    after-need false o c = refl
 
     came-maybe : k.optional ≡ true → (r : Span) → span_at d i k.number k.padded ≡ r
         → after_maybe (places_at ks d) (maybe_of d k.shape i r) ≡ some ps → Came ps
-    came-maybe o (Whole s l c) q e =
-        whole-came s l c q _ refl (sym (after-maybe (has_shape k.shape (part s l d)) (Here s l) c) ∙ e)
-    came-maybe o Other q e =
-        let b = behind Absent (places_at ks d i) ps e in
-        left_out b.0 b.2 o b.1
-    came-maybe o Cut q e = absurd (let z : ◌≡◌ {A = ℕ} 0 1 = cc in omega arith)
+    came-maybe a (Whole o c) q e =
+        whole-came o c q _ refl (sym (after-maybe (has_shape k.shape (part o.start o.len d)) (Some o) c) ∙ e)
+    came-maybe a Other q e =
+        let b = behind None (places_at ks d i) ps e in
+        left_out b.0 b.2 a b.1
+    came-maybe a Cut q e = absurd (let z : ◌≡◌ {A = ℕ} 0 1 = cc in omega arith)
 
     came-need : (r : Span) → span_at d i k.number k.padded ≡ r → after_need (places_at ks d) (need_of d k.shape r) ≡ some ps → Came ps
-    came-need (Whole s l c) q e = whole-came s l c q _ refl (sym (after-need (has_shape k.shape (part s l d)) s l c) ∙ e)
+    came-need (Whole o c) q e = whole-came o c q _ refl (sym (after-need (has_shape k.shape (part o.start o.len d)) o c) ∙ e)
     came-need Other q e = absurd (let z : ◌≡◌ {A = ℕ} 0 1 = cc in omega arith)
     came-need Cut q e = absurd (let z : ◌≡◌ {A = ℕ} 0 1 = cc in omega arith)
 

@@ -22,11 +22,9 @@ use Rattle.wire_fields.specs.Refusals.{Found, refused, found, found_of, spans_of
 use Rattle.wire_fields.specs.declared.Cursor.{Cursor}
 use Rattle.wire_fields.specs.declared.Span.{Span}
 use Rattle.wire_fields.specs.declared.Span.TheVariants.{Whole, Other, Cut}
-use Rattle.wire_fields.specs.declared.Part.{Part}
-use Rattle.wire_fields.specs.declared.Part.TheVariants.{Here, Absent}
-use Rattle.wire_fields.specs.declared.Need.{Need}
-use Rattle.wire_fields.specs.declared.Need.TheVariants.{Field, Missing}
-use Rattle.wire_fields.specs.declared.Maybe.TheVariants.{Taken, Malformed}
+use Rattle.std.specs.Prelude.{Some, None}
+use Rattle.wire_fields.specs.declared.Place.{Place}
+use Rattle.wire_fields.specs.Places.{Part, Need, Maybe}
 use Rattle.wire_shapes.specs.declared.Shape.{Shape}
 use Rattle.wire_shapes.specs.declared.Shape.TheVariants.{Sized, Split}
 use Rattle.wire_fields.proofs.SpanLaws.{span_fits, span-length}
@@ -94,30 +92,30 @@ gated_found d x u ps t e = by (in_part t d) e
     by false e = e
 
 -- by the two fields before the buffer
-module _ (d : List ℕ) (s l : ℕ) (c : Cursor) (q : need_at d 12 0x18 false (Sized 4) ≡ Field s l c) where
+module _ (d : List ℕ) (o : Place) (c : Cursor) (q : need_at d 12 0x18 false (Sized 4) ≡ Some (o, c)) where
   pub part-split : (n : Need) → need_at d c.at 0x98 false Split ≡ n → in_part 8 d ≡ part_by_split d n
   unfolding in_part
   part-split n e = rw (q, e)
 
-pub part_missing : (d : List ℕ) → need_at d 12 0x18 false (Sized 4) ≡ Missing → in_part 8 d ≡ false
+pub part_missing : (d : List ℕ) → need_at d 12 0x18 false (Sized 4) ≡ None → in_part 8 d ≡ false
 unfolding in_part
 part_missing d q = rw q
 
-second : (ks : List Kind) (d : List ℕ) (s l : ℕ) (c : Cursor) (ps qs : List Part) → ps ≡ Here s l ∷ qs
-    → need_at d 12 0x18 false (Sized 4) ≡ Field s l c → Came split_kind ks d c.at qs
+second : (ks : List Kind) (d : List ℕ) (o : Place) (c : Cursor) (ps qs : List Part) → ps ≡ Some o ∷ qs
+    → need_at d 12 0x18 false (Sized 4) ≡ Some (o, c) → Came split_kind ks d c.at qs
     → sized 8 (length d) ps (values_of (acked_kind ∷ split_kind ∷ ks) d ps) ≡ true → in_part 8 d ≡ false
 unfolding sized whole_in
-second ks d s l c ps qs e q (left_out rs e₂ o r) h = absurd (let z : ◌≡◌ {A = ℕ} 0 1 = cc in omega arith)
-second ks d s l c ps qs e q (came s₂ l₂ c₂ rs e₂ q₂ g r) h =
-    let n = sym (need-good d c.at 0x98 false Split _ refl s₂ l₂ c₂ q₂ g) in
-    let w : whole_in d (Here s₂ l₂) ≡ true = rw (e, e₂) at h in
-    part-split d s l c q (Field s₂ l₂ c₂) n ∙ ap not w
+second ks d o c ps qs e q (left_out rs e₂ a r) h = absurd (let z : ◌≡◌ {A = ℕ} 0 1 = cc in omega arith)
+second ks d o c ps qs e q (came o₂ c₂ rs e₂ q₂ g r) h =
+    let n = sym (need-good d c.at 0x98 false Split _ refl o₂ c₂ q₂ g) in
+    let w : whole_in d (Some o₂) ≡ true = rw (e, e₂) at h in
+    part-split d o c q (Some (o₂, c₂)) n ∙ ap not w
 
 first : (ks : List Kind) (d : List ℕ) (ps : List Part) → Came acked_kind (split_kind ∷ ks) d 12 ps
     → sized 8 (length d) ps (values_of (acked_kind ∷ split_kind ∷ ks) d ps) ≡ true → in_part 8 d ≡ false
-first ks d ps (left_out qs e o r) h = absurd (let z : ◌≡◌ {A = ℕ} 0 1 = cc in omega arith)
-first ks d ps (came s l c qs e q g r) h =
-    second ks d s l c ps qs e (sym (need-good d 12 0x18 false (Sized 4) _ refl s l c q g)) (field-came split_kind ks d c.at qs r) h
+first ks d ps (left_out qs e a r) h = absurd (let z : ◌≡◌ {A = ℕ} 0 1 = cc in omega arith)
+first ks d ps (came o c qs e q g r) h =
+    second ks d o c ps qs e (sym (need-good d 12 0x18 false (Sized 4) _ refl o c q g)) (field-came split_kind ks d c.at qs r) h
 
 whole_eight : (ks : List Kind) (d : List ℕ) (ps : List Part) → places_at (acked_kind ∷ split_kind ∷ ks) d 12 ≡ some ps
     → sized 8 (length d) ps (values_of (acked_kind ∷ split_kind ∷ ks) d ps) ≡ true → in_part 8 d ≡ false
@@ -159,57 +157,60 @@ unfolding has_shape
 sized_four v e = eqb-true (length v) 4 e
 
 module _ (d : List ℕ) (i n : ℕ) (p : Bool) (h : Shape) (four : (v : List ℕ) → has_shape h v ≡ true → length v ≡ 4) where
-  whole_four : (s l : ℕ) (c : Cursor) → span_at d i n p ≡ Whole s l c → has_shape h (part s l d) ≡ true → FourAt d (Here s l)
-  whole_four s l c q g =
-      let f = span_fits d i n p s l c q in
-      let e = four (part s l d) g in
-      let z = span-length d i n p s l c q in
+  whole_four : (o : Place) (c : Cursor) → span_at d i n p ≡ Whole o c → has_shape h (part o.start o.len d) ≡ true → FourAt d (Some o)
+  whole_four o c q g =
+      let f = span_fits d i n p o c q in
+      let e = four (part o.start o.len d) g in
+      let z = span-length d i n p o c q in
       let a = f.within in
       let b = f.long in
       let o = f.starts in
       (sym z ∙ e, omega arith)
 
-  need-by : (s l : ℕ) (c : Cursor) (s₂ l₂ : ℕ) (c₂ : Cursor) → span_at d i n p ≡ Whole s₂ l₂ c₂ → (g : Bool) → has_shape h (part s₂ l₂ d) ≡ g
-      → cond g (Field s₂ l₂ c₂) Missing ≡ Field s l c → FourAt d (Here s l)
-  need-by s l c s₂ l₂ c₂ q true g e =
-      let a : s₂ ≡ s = cc in
-      let b : l₂ ≡ l = cc in
-      rw (a, b) at (whole_four s₂ l₂ c₂ q g)
-  need-by s l c s₂ l₂ c₂ q false g e = absurd (let z : ◌≡◌ {A = ℕ} 0 1 = cc in omega arith)
+  need-by : (o : Place) (c : Cursor) (o₂ : Place) (c₂ : Cursor) → span_at d i n p ≡ Whole o₂ c₂ → (g : Bool) → has_shape h (part o₂.start o₂.len d) ≡ g
+      → cond {A = Need} g (Some (o₂, c₂)) None ≡ Some (o, c) → FourAt d (Some o)
+  need-by o c o₂ c₂ q true g e =
+      let both : ◌≡◌ {A = Place × Cursor} (o₂, c₂) (o, c) = cc in
+      let a : o₂ ≡ o = ap (λ (x : Place × Cursor). x.0) both in
+      rw a at (whole_four o₂ c₂ q g)
+  need-by o c o₂ c₂ q false g e = absurd (let z : ◌≡◌ {A = ℕ} 0 1 = cc in omega arith)
 
-  need-of : (s l : ℕ) (c : Cursor) (r : Span) → span_at d i n p ≡ r → need_of d h r ≡ Field s l c → FourAt d (Here s l)
-  need-of s l c (Whole s₂ l₂ c₂) q e = need-by s l c s₂ l₂ c₂ q _ refl e
-  need-of s l c Other q e = absurd (let z : ◌≡◌ {A = ℕ} 0 1 = cc in omega arith)
-  need-of s l c Cut q e = absurd (let z : ◌≡◌ {A = ℕ} 0 1 = cc in omega arith)
+  need-of : (o : Place) (c : Cursor) (r : Span) → span_at d i n p ≡ r → need_of d h r ≡ Some (o, c) → FourAt d (Some o)
+  need-of o c (Whole o₂ c₂) q e = need-by o c o₂ c₂ q _ refl e
+  need-of o c Other q e = absurd (let z : ◌≡◌ {A = ℕ} 0 1 = cc in omega arith)
+  need-of o c Cut q e = absurd (let z : ◌≡◌ {A = ℕ} 0 1 = cc in omega arith)
 
-  pub need-four : (s l : ℕ) (c : Cursor) → need_at d i n p h ≡ Field s l c → FourAt d (Here s l)
+  pub need-four : (o : Place) (c : Cursor) → need_at d i n p h ≡ Some (o, c) → FourAt d (Some o)
   unfolding need_at
-  need-four s l c e = need-of s l c _ refl e
+  need-four o c e = need-of o c _ refl e
 
-  maybe-by : (o : Part) (c : Cursor) (s l : ℕ) (c₂ : Cursor) → span_at d i n p ≡ Whole s l c₂ → (g : Bool) → has_shape h (part s l d) ≡ g
-      → cond g (Taken (Here s l) c₂) Malformed ≡ Taken o c → FourAt d o
-  maybe-by o c s l c₂ q true g e =
-      let a : Here s l ≡ o = cc in
-      subst (FourAt d) a (whole_four s l c₂ q g)
-  maybe-by o c s l c₂ q false g e = absurd (let z : ◌≡◌ {A = ℕ} 0 1 = cc in omega arith)
+  maybe-by : (r : Part) (c : Cursor) (o : Place) (c₂ : Cursor) → span_at d i n p ≡ Whole o c₂ → (g : Bool) → has_shape h (part o.start o.len d) ≡ g
+      → cond {A = Maybe} g (Some (Some o, c₂)) None ≡ Some (r, c) → FourAt d r
+  maybe-by r c o c₂ q true g e =
+      let both : ◌≡◌ {A = Part × Cursor} (Some o, c₂) (r, c) = cc in
+      let a : Some o ≡ r = ap (λ (x : Part × Cursor). x.0) both in
+      subst (FourAt d) a (whole_four o c₂ q g)
+  maybe-by r c o c₂ q false g e = absurd (let z : ◌≡◌ {A = ℕ} 0 1 = cc in omega arith)
 
-  maybe-of : (o : Part) (c : Cursor) (r : Span) → span_at d i n p ≡ r → maybe_of d h i r ≡ Taken o c → FourAt d o
-  maybe-of o c (Whole s l c₂) q e = maybe-by o c s l c₂ q _ refl e
-  maybe-of o c Other q e = let a : Absent ≡ o = cc in subst (FourAt d) a tt
-  maybe-of o c Cut q e = absurd (let z : ◌≡◌ {A = ℕ} 0 1 = cc in omega arith)
+  maybe-of : (r : Part) (c : Cursor) (s : Span) → span_at d i n p ≡ s → maybe_of d h i s ≡ Some (r, c) → FourAt d r
+  maybe-of r c (Whole o c₂) q e = maybe-by r c o c₂ q _ refl e
+  maybe-of r c Other q e =
+      let both : ◌≡◌ {A = Part × Cursor} (None, record { at = i }) (r, c) = cc in
+      subst (FourAt d) (ap (λ (x : Part × Cursor). x.0) both) tt
+  maybe-of r c Cut q e = absurd (let z : ◌≡◌ {A = ℕ} 0 1 = cc in omega arith)
 
-  pub maybe-four : (o : Part) (c : Cursor) → maybe_at d i n p h ≡ Taken o c → FourAt d o
+  pub maybe-four : (r : Part) (c : Cursor) → maybe_at d i n p h ≡ Some (r, c) → FourAt d r
   unfolding maybe_at
-  maybe-four o c e = maybe-of o c _ refl e
+  maybe-four r c e = maybe-of r c _ refl e
 
 -- REQUEST's split controls, as the reader tests them
 pub split_value : (d : List ℕ) (p : Part) → derived (length d) p (value_of (may 0x98 false (Sized 4) []) d p) ≡ whole_in d p
 unfolding whole_in
-split_value d (Here s l) = refl
-split_value d Absent = refl
+split_value d (Some o) = refl
+split_value d None = refl
 
 -- split controls, by the datagram's own bytes
-pub whole_in_lem : (d : List ℕ) (s l : ℕ) → s + l ≤ length d → l ≡ 4
-    → whole_in d (Here s l) ≡ eqb (number_at s 2 d) (length d - (s + l)) && eqb (number_at (s + 2) 2 d) 0
+pub whole_in_lem : (d : List ℕ) (o : Place) → o.start + o.len ≤ length d → o.len ≡ 4
+    → whole_in d (Some o) ≡ eqb (number_at o.start 2 d) (length d - (o.start + o.len)) && eqb (number_at (o.start + 2) 2 d) 0
 unfolding whole_in
-whole_in_lem d s l h m = rw (number-first d s l h 2 (omega arith), number_in d s l h 2 2 (omega arith))
+whole_in_lem d o h m = rw (number-first d o.start o.len h 2 (omega arith), number_in d o.start o.len h 2 2 (omega arith))

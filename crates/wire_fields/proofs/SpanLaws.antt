@@ -13,6 +13,7 @@ use mathlib.Core.Bool.{cond}
 use Rattle.wire_shapes.specs.Field.{number_at, gap}
 use Rattle.wire_fields.specs.Reading.{span_at, next_at}
 use Rattle.wire_fields.specs.declared.Cursor.{Cursor}
+use Rattle.wire_fields.specs.declared.Place.{Place}
 use Rattle.wire_fields.specs.declared.Span.TheVariants.{Whole, Other, Cut}
 
 module _ (d : List ℕ) (i n : ℕ) (p : Bool) where
@@ -41,7 +42,7 @@ module _ (d : List ℕ) (i n : ℕ) (p : Bool) where
         simp (le-leb (i + 4) (length d) h, eq-eqb (number_at i 2 d) n q, le-leb 4 (number_at (i + 2) 2 d) l2, lt-leb (next_at d i p) (length d) m2)
 
     pub span-whole : i + 4 ≤ length d → number_at i 2 d ≡ n → 4 ≤ w → i + w + x ≤ length d
-        → span_at d i n p ≡ Whole (i + 4) (w - 4) (record { at = i + w + x })
+        → span_at d i n p ≡ Whole (record { start = i + 4; len = w - 4 }) (record { at = i + w + x })
     unfolding span_at
     span-whole h q l m =
         let l2 : 4 ≤ number_at (i + 2) 2 d = rw ew at l in
@@ -50,30 +51,31 @@ module _ (d : List ℕ) (i n : ℕ) (p : Bool) where
         (cc (sym ew, sym next-is))
 
 -- what a whole span tells
-pub record Fits (d : List ℕ) (i n : ℕ) (p : Bool) (s l : ℕ) (c : Cursor) : Type 0 where
+pub record Fits (d : List ℕ) (i n : ℕ) (p : Bool) (o : Place) (c : Cursor) : Type 0 where
   pub room : i + 4 ≤ length d
   pub number : number_at i 2 d ≡ n
   pub least : 4 ≤ number_at (i + 2) 2 d
   pub within : next_at d i p ≤ length d
-  pub starts : s ≡ i + 4
-  pub long : l + 4 ≡ number_at (i + 2) 2 d
+  pub starts : o.start ≡ i + 4
+  pub long : o.len + 4 ≡ number_at (i + 2) 2 d
   pub goes : c.at ≡ next_at d i p
 
-module _ (d : List ℕ) (i n : ℕ) (p : Bool) (s l : ℕ) (c : Cursor) where
+module _ (d : List ℕ) (i n : ℕ) (p : Bool) (o : Place) (c : Cursor) where
   go : (b₁ : Bool) → leb (i + 4) (length d) ≡ b₁ → (b₂ : Bool) → eqb (number_at i 2 d) n ≡ b₂
       → (b₃ : Bool) → leb 4 (number_at (i + 2) 2 d) ≡ b₃ → (b₄ : Bool) → leb (next_at d i p) (length d) ≡ b₄
-      → cond (b₁ && b₂) (cond (b₃ && b₄) (Whole (i + 4) (number_at (i + 2) 2 d - 4) (record { at = next_at d i p })) Cut) Other ≡ Whole s l c
-      → Fits d i n p s l c
+      → cond (b₁ && b₂) (cond (b₃ && b₄) (Whole (record { start = i + 4; len = number_at (i + 2) 2 d - 4 }) (record { at = next_at d i p })) Cut) Other ≡ Whole o c
+      → Fits d i n p o c
   go true q₁ true q₂ true q₃ true q₄ e =
       let h₃ : 4 ≤ number_at (i + 2) 2 d = leb-true _ _ q₃ in
-      let el : number_at (i + 2) 2 d - 4 ≡ l = cc in
+      let eo : ◌≡◌ {A = Place} (record { start = i + 4; len = number_at (i + 2) 2 d - 4 }) o = cc in
+      let el : number_at (i + 2) 2 d - 4 ≡ o.len = ap (λ (x : Place). x.len) eo in
       let ec : ◌≡◌ {A = Cursor} (record { at = next_at d i p }) c = cc in
       record {
         room = leb-true _ _ q₁;
         number = eqb-true _ _ q₂;
         least = h₃;
         within = leb-true _ _ q₄;
-        starts = cc;
+        starts = sym (ap (λ (x : Place). x.start) eo);
         long = omega arith;
         goes = sym (ap (λ (x : Cursor). x.at) ec);
       }
@@ -82,12 +84,12 @@ module _ (d : List ℕ) (i n : ℕ) (p : Bool) (s l : ℕ) (c : Cursor) where
   go true q₁ false q₂ b₃ q₃ b₄ q₄ e = absurd (let z : ◌≡◌ {A = ℕ} 0 1 = cc in omega arith)
   go false q₁ b₂ q₂ b₃ q₃ b₄ q₄ e = absurd (let z : ◌≡◌ {A = ℕ} 0 1 = cc in omega arith)
 
-  pub span_fits : span_at d i n p ≡ Whole s l c → Fits d i n p s l c
+  pub span_fits : span_at d i n p ≡ Whole o c → Fits d i n p o c
   unfolding span_at
   span_fits e = go _ refl _ refl _ refl _ refl e
 
   -- its contents are whole
-  pub span-length : span_at d i n p ≡ Whole s l c → length (part s l d) ≡ l
+  pub span-length : span_at d i n p ≡ Whole o c → length (part o.start o.len d) ≡ o.len
   span-length e =
       let f = span_fits e in
       simp (length-take, length-drop) (omega arith)

@@ -18,8 +18,9 @@ use Rattle.wire_fields.specs.Message.{Contents, Held, Formed, ends, layout_from,
 use Rattle.wire_fields.specs.Reading.{span_at, places_at, values_of, before}
 use Rattle.wire_fields.specs.declared.Cursor.{Cursor}
 use Rattle.wire_fields.specs.declared.Span.TheVariants.{Whole, Other}
-use Rattle.wire_fields.specs.declared.Part.{Part}
-use Rattle.wire_fields.specs.declared.Part.TheVariants.{Here, Absent}
+use Rattle.std.specs.Prelude.{Some, None}
+use Rattle.wire_fields.specs.declared.Place.{Place}
+use Rattle.wire_fields.specs.Places.{Part, here}
 use Rattle.wire_fields.proofs.SpanLaws.{span-short, span-other, span-whole, span_fits, span-length}
 use Rattle.octet.proofs.PartLaws.{part-digits}
 use Rattle.wire_fields.proofs.HeadLaws.{number_small, head_bytes, head-number, head_length}
@@ -47,23 +48,23 @@ Lawful (k ∷ ks) = Law k × Fresh k.number ks × Lawful ks
 abbrev Sound : List Kind → List ℕ → ℕ → List Part → Type 0
 Sound ks d i ps = Formed ks (values_of ks d ps) × Agrees (layout_from i ks (values_of ks d ps)) (drop i d)
 
-sound_here : (k : Kind) → Law k → (ks : List Kind) (d : List ℕ) → Bytes d → (i s l : ℕ) (c : Cursor) (qs : List Part)
-    → span_at d i k.number k.padded ≡ Whole s l c → has_shape k.shape (part s l d) ≡ true → Sound ks d c.at qs
-    → Sound (k ∷ ks) d i (Here s l ∷ qs)
-sound_here k w ks d b i s l c qs q g ih =
-    let f = span_fits d i k.number k.padded s l c q in
-    let v = k.kept (part s l d) in
+sound_here : (k : Kind) → Law k → (ks : List Kind) (d : List ℕ) → Bytes d → (i : ℕ) (o : Place) (c : Cursor) (qs : List Part)
+    → span_at d i k.number k.padded ≡ Whole o c → has_shape k.shape (part o.start o.len d) ≡ true → Sound ks d c.at qs
+    → Sound (k ∷ ks) d i (Some o ∷ qs)
+sound_here k w ks d b i o c qs q g ih =
+    let f = span_fits d i k.number k.padded o c q in
+    let v = k.kept (part o.start o.len d) in
     let vs = values_of ks d qs in
-    let lv : length v ≡ l = w.long (part s l d) ∙ span-length d i k.number k.padded s l c q in
+    let lv : length v ≡ o.len = w.long (part o.start o.len d) ∙ span-length d i k.number k.padded o c q in
     let small : number_at (i + 2) 2 d < 65536 = number_small (i + 2) 2 d b (let r = f.room in omega arith) in
     let tw : number_at (i + 2) 2 d ≡ length v + 4 = omega arith in
     let e : c.at ≡ ends i k (some v) = f.goes ∙ ap (λ (n : ℕ). i + n + gap k.padded (i + n)) tw in
     let kv : k.kept (part (i + 4) (length v) d) ≡ v = ap₂-part d k (sym f.starts) lv in (
       (
         record {
-          shaped = w.same (part s l d) ∙ g;
-          clear = w.once (part s l d);
-          whole = w.bytes (part s l d) (part-digits 256 s l d (omega arith) b);
+          shaped = w.same (part o.start o.len d) ∙ g;
+          clear = w.once (part o.start o.len d);
+          whole = w.bytes (part o.start o.len d) (part-digits 256 o.start o.len d (omega arith) b);
           short = omega arith;
         },
         ih.0,
@@ -82,7 +83,7 @@ sound_here k w ks d b i s l c qs q g ih =
 sound_step : (k : Kind) → Law k → (ks : List Kind) (d : List ℕ) → Bytes d → (i : ℕ)
     → ((j : ℕ) (qs : List Part) → places_at ks d j ≡ some qs → Sound ks d j qs) → (ps : List Part) → Came k ks d i ps → Sound (k ∷ ks) d i ps
 sound_step k w ks d b i ih ps (left_out qs e o q) = let r = ih i qs q in rw e ((o, r.0), r.1)
-sound_step k w ks d b i ih ps (found s l c qs e q g r) = rw e (sound_here k w ks d b i s l c qs q g (ih c.at qs r))
+sound_step k w ks d b i ih ps (found o c qs e q g r) = rw e (sound_here k w ks d b i o c qs q g (ih c.at qs r))
 
 at_end_lem : (d : List ℕ) (i : ℕ) (ps : List Part) (t : Bool) → eqb i (length d) ≡ t → ◌≡◌ {A = Option (List Part)} (cond t (some []) none) (some ps)
     → drop i d ≡ []
@@ -126,7 +127,7 @@ complete_here k w ks d i v fs h s r =
     let q = rw z at (span-whole d i k.number k.padded n x (sym el) refl (omega arith) e (omega arith) m) in
     let g : has_shape k.shape (part (i + 4) (length v) d) ≡ true =
     sym (w.same (part (i + 4) (length v) d)) ∙ ap (has_shape k.shape) s.body ∙ h.shaped in (
-      field-whole k ks d i (i + 4) (length v) (record { at = i + n + x }) q g ∙ ap (before (Here (i + 4) (length v))) r.0,
+      field-whole k ks d i (record { start = i + 4; len = length v }) (record { at = i + n + x }) q g ∙ ap (before (here (i + 4) (length v))) r.0,
       rw (s.body, r.1),
     )
 
@@ -140,7 +141,7 @@ complete [] w d i h (x ∷ fs) f a = absurd f
 complete (k ∷ ks) w d i h [] f a = absurd f
 complete (k ∷ ks) w d i h (none ∷ fs) f a =
     let r = complete ks w.2 d i h fs f.1 a in (
-      field-absent k ks d i f.0 (absent k.number k.padded ks w.1 w.2 d i fs f.1 a) ∙ ap (before Absent) r.0,
+      field-absent k ks d i f.0 (absent k.number k.padded ks w.1 w.2 d i fs f.1 a) ∙ ap (before None) r.0,
       rw r.1,
     )
 complete (k ∷ ks) w d i h (some v ∷ fs) f a =
@@ -148,13 +149,13 @@ complete (k ∷ ks) w d i h (some v ∷ fs) f a =
     complete_here k w.0 ks d i v fs f.0 s (complete ks w.2 d (ends i k (some v)) s.room fs f.1 s.tail)
 
 -- the places found are those of the fields found
-places_here : (k : Kind) → Law k → (ks : List Kind) (d : List ℕ) (i s l : ℕ) (c : Cursor) (qs : List Part)
-    → span_at d i k.number k.padded ≡ Whole s l c → parts_of c.at ks (values_of ks d qs) ≡ qs
-    → parts_of i (k ∷ ks) (values_of (k ∷ ks) d (Here s l ∷ qs)) ≡ Here s l ∷ qs
-places_here k w ks d i s l c qs q ih =
-    let f = span_fits d i k.number k.padded s l c q in
-    let v = k.kept (part s l d) in
-    let lv : length v ≡ l = w.long (part s l d) ∙ span-length d i k.number k.padded s l c q in
+places_here : (k : Kind) → Law k → (ks : List Kind) (d : List ℕ) (i : ℕ) (o : Place) (c : Cursor) (qs : List Part)
+    → span_at d i k.number k.padded ≡ Whole o c → parts_of c.at ks (values_of ks d qs) ≡ qs
+    → parts_of i (k ∷ ks) (values_of (k ∷ ks) d (Some o ∷ qs)) ≡ Some o ∷ qs
+places_here k w ks d i o c qs q ih =
+    let f = span_fits d i k.number k.padded o c q in
+    let v = k.kept (part o.start o.len d) in
+    let lv : length v ≡ o.len = w.long (part o.start o.len d) ∙ span-length d i k.number k.padded o c q in
     let tw : number_at (i + 2) 2 d ≡ length v + 4 = omega arith in
     let e : ends i k (some v) ≡ c.at = sym (f.goes ∙ ap (λ (n : ℕ). i + n + gap k.padded (i + n)) tw) in
     rw (e, lv, sym f.starts, ih)
@@ -163,7 +164,7 @@ places_step : (k : Kind) → Law k → (ks : List Kind) (d : List ℕ) (i : ℕ)
     → ((j : ℕ) (qs : List Part) → places_at ks d j ≡ some qs → parts_of j ks (values_of ks d qs) ≡ qs)
     → (ps : List Part) → Came k ks d i ps → parts_of i (k ∷ ks) (values_of (k ∷ ks) d ps) ≡ ps
 places_step k w ks d i ih ps (left_out qs e o q) = rw (e, ih i qs q)
-places_step k w ks d i ih ps (found s l c qs e q g r) = rw e (places_here k w ks d i s l c qs q (ih c.at qs r))
+places_step k w ks d i ih ps (found o c qs e q g r) = rw e (places_here k w ks d i o c qs q (ih c.at qs r))
 
 at_last : (ps : List Part) (t : Bool) → ◌≡◌ {A = Option (List Part)} (cond t (some []) none) (some ps) → ◌≡◌ {A = List Part} [] ps
 at_last ps true e = cc

@@ -23,7 +23,7 @@ use Rattle.octet.proofs.TestLaws.{same-eq, same_refl, both_true}
 use Rattle.octet.proofs.BigLaws.{length-digits_be}
 use Rattle.wire_fields.specs.Reading.{checked, fields_as, places_at, values_of, message_at}
 use Rattle.wire_fields.specs.Refusals.{Found, refused, found, found_of, found_in}
-use Rattle.wire_fields.specs.declared.Part.{Part}
+use Rattle.wire_fields.specs.Places.{Part}
 use Rattle.record.proofs.PlaceLaws.{part-part}
 use Rattle.wire_fields.proofs.HeadLaws.{digits_at, number_at_lem, number_small}
 use Rattle.wire_fields.proofs.SegmentLaws.{Agrees, Lengths, agrees_of, of_agrees, cleared-length}

@@ -1,13 +1,12 @@
 -- To believe. The fields of each message in their order, as document 000 lists them (section 2.2.2).
 -- "An optional field is present or absent by the number found at its place"; "flag bits that it doesn't name are reserved". Assumes nothing.
-use Rattle.std.specs.Prelude.{ℕ, ◌+◌, ◌-◌, List, [], ◌∷◌, ◌++◌, Bool, true, false, not, cond, ◌&&◌, ◌||◌, length, get_or, eqb}
+use Rattle.std.specs.Prelude.{ℕ, ◌+◌, ◌-◌, List, [], ◌∷◌, ◌++◌, Bool, true, false, not, cond, ◌&&◌, ◌||◌, length, get_or, eqb, Some, None}
 use Rattle.std.proofs.Math.Option.{Option, some, none}
 use Rattle.wire_shapes.specs.Field.{number_at, bits, keep}
 use Rattle.wire_shapes.specs.Shapes.{Kind}
 use Rattle.wire_shapes.specs.declared.Shape.{Shape}
 use Rattle.wire_shapes.specs.declared.Shape.TheVariants.{Sized, Any, Entry, Array, Lookup, Split}
-use Rattle.wire_fields.specs.declared.Part.{Part}
-use Rattle.wire_fields.specs.declared.Part.TheVariants.{Here, Absent}
+use Rattle.wire_fields.specs.Places.{Part}
 use Rattle.octet.specs.Number.{digits_be}
 
 -- a field that must be there, and one that may be absent; the bits kept of each byte stand in a table, none where all are
@@ -125,13 +124,13 @@ joined_fields t fs = cond (eqb t 4) (one_of (present (get_or fs 3 none)) (presen
 
 -- split controls that follow from the rest: the size is the number of bytes after them, of total in all, and the offset is 0
 abbrev pub derived : ℕ → Part → Option (List ℕ) → Bool
-derived total (Here s l) (some v) = eqb (number_at 0 2 v) (total - (s + l)) && eqb (number_at 2 2 v) 0
-derived total (Here s l) none = true
-derived total Absent f = true
+derived total (Some p) (some v) = eqb (number_at 0 2 v) (total - (p.start + p.len)) && eqb (number_at 2 2 v) 0
+derived total (Some p) none = true
+derived total None f = true
 
 -- what the places and the length say of the fields: REQUEST's and AUTHORITY's split controls follow from the rest
 unfoldable pub sized : ℕ → ℕ → List Part → List (Option (List ℕ)) → Bool
-sized t total ps fs = cond (eqb t 3 || eqb t 8) (derived total (get_or ps 1 Absent) (get_or fs 1 none)) true
+sized t total ps fs = cond (eqb t 3 || eqb t 8) (derived total (get_or ps 1 None) (get_or fs 1 none)) true
 
 -- split controls of a whole message: so many bytes follow, offset 0
 abbrev pub split_bytes : ℕ → List ℕ

@@ -1,4 +1,5 @@
 pub mod Kinds
 pub mod Message
+pub mod Places
 pub mod Reading
 pub mod Refusals

@@ -1,13 +1,12 @@
 -- To believe. A message, its layout, its bytes, and what it is for a datagram to read as one (document 01 "Datagram layout"). A message is the numbers
 -- of its header and, for each field of its type, the contents or none: presence is part of the message, even where all bits are zero. Assumes nothing.
-use Rattle.std.specs.Prelude.{ℕ, ◌+◌, ◌^◌, ◌<◌, ◌≤◌, List, [], ◌∷◌, ◌++◌, true, ◌≡◌, length, take, drop, replicate, get_or}
+use Rattle.std.specs.Prelude.{ℕ, ◌+◌, ◌^◌, ◌<◌, ◌≤◌, List, [], ◌∷◌, ◌++◌, true, ◌≡◌, length, take, drop, replicate, get_or, None}
 use Rattle.std.proofs.Math.Option.{Option, some, none}
 use Rattle.octet.specs.Number.{Bytes, digits_be}
 use Rattle.wire_shapes.specs.Field.{gap}
 use Rattle.wire_shapes.specs.Shapes.{Kind, has_shape}
 use Rattle.wire_fields.specs.Kinds.{kinds_of, joined_fields, sized}
-use Rattle.wire_fields.specs.declared.Part.{Part}
-use Rattle.wire_fields.specs.declared.Part.TheVariants.{Here, Absent}
+use Rattle.wire_fields.specs.Places.{Part, here}
 
 -- the contents of a field, or none where it is absent
 abbrev pub Contents : Type 0
@@ -47,8 +46,8 @@ layout_from i (k ∷ ks) (f ∷ fs) = field_layout i k f (layout_from (ends i k 
 abbrev pub parts_of : ℕ → List Kind → List Contents → List Part
 parts_of i [] fs = []
 parts_of i (k ∷ ks) [] = []
-parts_of i (k ∷ ks) (none ∷ fs) = Absent ∷ parts_of i ks fs
-parts_of i (k ∷ ks) (some v ∷ fs) = Here (i + 4) (length v) ∷ parts_of (ends i k (some v)) ks fs
+parts_of i (k ∷ ks) (none ∷ fs) = None ∷ parts_of i ks fs
+parts_of i (k ∷ ks) (some v ∷ fs) = here (i + 4) (length v) ∷ parts_of (ends i k (some v)) ks fs
 
 -- the bytes of a layout, and a datagram with the bits cleared that the layout ignores
 abbrev pub message_bytes : List Segment → List ℕ

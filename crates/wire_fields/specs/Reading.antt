@@ -1,6 +1,6 @@
 -- Helps the code. What reading at a place finds, as places in the datagram: shown equal to "the datagram reads as a message" (Message) by the laws
--- found-reads and reads-found. The types Span, Part, Need and Maybe are the code's. Assumes nothing.
-use Rattle.std.specs.Prelude.{ℕ, ◌+◌, ◌-◌, ◌≤◌, ◌≡◌, List, [], ◌∷◌, Bool, cond, ◌&&◌, length, get_or, leb, eqb}
+-- found-reads and reads-found. The types Span and Place are the code's. Assumes nothing.
+use Rattle.std.specs.Prelude.{ℕ, ◌+◌, ◌-◌, ◌≤◌, ◌≡◌, List, [], ◌∷◌, Bool, cond, ◌&&◌, length, get_or, leb, eqb, Some, None}
 use Rattle.std.proofs.Math.Option.{Option, some, none}
 use Rattle.octet.specs.Part.{part}
 use Rattle.wire_shapes.specs.Field.{number_at, gap}
@@ -10,12 +10,7 @@ use Rattle.wire_fields.specs.Message.{Message}
 use Rattle.wire_shapes.specs.declared.Shape.{Shape}
 use Rattle.wire_fields.specs.declared.Span.{Span}
 use Rattle.wire_fields.specs.declared.Span.TheVariants.{Whole, Other, Cut}
-use Rattle.wire_fields.specs.declared.Part.{Part}
-use Rattle.wire_fields.specs.declared.Part.TheVariants.{Here, Absent}
-use Rattle.wire_fields.specs.declared.Need.{Need}
-use Rattle.wire_fields.specs.declared.Need.TheVariants.{Field, Missing}
-use Rattle.wire_fields.specs.declared.Maybe.{Maybe}
-use Rattle.wire_fields.specs.declared.Maybe.TheVariants.{Taken, Malformed}
+use Rattle.wire_fields.specs.Places.{Part, Need, Maybe}
 
 -- where a field ends, its padding with it
 abbrev pub next_at : List ℕ → ℕ → Bool → ℕ
@@ -26,24 +21,24 @@ unfoldable pub span_at : List ℕ → ℕ → ℕ → Bool → Span
 span_at d i number padded =
     cond (leb (i + 4) (length d) && eqb (number_at i 2 d) number)
     (cond (leb 4 (number_at (i + 2) 2 d) && leb (next_at d i padded) (length d))
-    (Whole (i + 4) (number_at (i + 2) 2 d - 4) (record { at = next_at d i padded }))
+    (Whole (record { start = i + 4; len = number_at (i + 2) 2 d - 4 }) (record { at = next_at d i padded }))
     Cut)
     Other
 
 -- a field that must be there
 abbrev pub need_of : List ℕ → Shape → Span → Need
-need_of d shape (Whole s l n) = cond (has_shape shape (part s l d)) (Field s l n) Missing
-need_of d shape Other = Missing
-need_of d shape Cut = Missing
+need_of d shape (Whole p n) = cond (has_shape shape (part p.start p.len d)) (Some (p, n)) None
+need_of d shape Other = None
+need_of d shape Cut = None
 
 unfoldable pub need_at : List ℕ → ℕ → ℕ → Bool → Shape → Need
 need_at d i number padded shape = need_of d shape (span_at d i number padded)
 
 -- a field that may be absent: by the number at its place
 abbrev pub maybe_of : List ℕ → Shape → ℕ → Span → Maybe
-maybe_of d shape i (Whole s l n) = cond (has_shape shape (part s l d)) (Taken (Here s l) n) Malformed
-maybe_of d shape i Other = Taken Absent (record { at = i })
-maybe_of d shape i Cut = Malformed
+maybe_of d shape i (Whole p n) = cond (has_shape shape (part p.start p.len d)) (Some (Some p, n)) None
+maybe_of d shape i Other = Some (None, record { at = i })
+maybe_of d shape i Cut = None
 
 unfoldable pub maybe_at : List ℕ → ℕ → ℕ → Bool → Shape → Maybe
 maybe_at d i number padded shape = maybe_of d shape i (span_at d i number padded)
@@ -54,12 +49,12 @@ before p none = none
 before p (some ps) = some (p ∷ ps)
 
 abbrev pub after_need : (ℕ → Option (List Part)) → Need → Option (List Part)
-after_need rest (Field s l n) = before (Here s l) (rest n.at)
-after_need rest Missing = none
+after_need rest (Some (p, n)) = before (Some p) (rest n.at)
+after_need rest None = none
 
 abbrev pub after_maybe : (ℕ → Option (List Part)) → Maybe → Option (List Part)
-after_maybe rest (Taken p n) = before p (rest n.at)
-after_maybe rest Malformed = none
+after_maybe rest (Some (p, n)) = before p (rest n.at)
+after_maybe rest None = none
 
 abbrev pub field_at : Kind → List ℕ → (ℕ → Option (List Part)) → ℕ → Option (List Part)
 field_at k d rest i =
@@ -73,8 +68,8 @@ places_at (k ∷ ks) d i = field_at k d (places_at ks d) i
 
 -- the contents at the places found, the ignored bits cleared
 abbrev pub value_of : Kind → List ℕ → Part → Option (List ℕ)
-value_of k d Absent = none
-value_of k d (Here s l) = some (k.kept (part s l d))
+value_of k d None = none
+value_of k d (Some p) = some (k.kept (part p.start p.len d))
 
 abbrev pub values_of : List Kind → List ℕ → List Part → List (Option (List ℕ))
 values_of [] d ps = []
@@ -91,16 +86,16 @@ fields_as t ks d = checked t ks d (places_at ks d 12)
 
 -- split controls at a place follow from the rest
 abbrev pub contents_in : List ℕ → Part → Option (List ℕ)
-contents_in d Absent = none
-contents_in d (Here s l) = some (part s l d)
+contents_in d None = none
+contents_in d (Some p) = some (part p.start p.len d)
 
 unfoldable pub whole_in : List ℕ → Part → Bool
 whole_in d p = derived (length d) p (contents_in d p)
 
 -- four bytes stand at a place
 abbrev pub FourAt : List ℕ → Part → Type 0
-FourAt d Absent = Unit {0}
-FourAt d (Here s l) = (l ≡ 4) × (s + l ≤ length d)
+FourAt d None = Unit {0}
+FourAt d (Some p) = (p.len ≡ 4) × (p.start + p.len ≤ length d)
 
 -- the message in a datagram of which the places of the fields are known
 abbrev pub message_at : List Kind → List ℕ → ℕ → List Part → Message

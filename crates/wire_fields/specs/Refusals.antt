@@ -1,18 +1,15 @@
 -- Helps the code. What reading a datagram gives, by document 01's table "What comes back": 2 to 7 in their order, or the type of the message and the places of
 -- its fields. 6 and 7 go by places (Reading); that a message is found exactly where the datagram reads as one are the laws found-reads and reads-found.
 -- Assumes nothing.
-use Rattle.std.specs.Prelude.{ℕ, List, [], ◌∷◌, Bool, false, not, ◌&&◌, length, get_or, leb, eqb}
+use Rattle.std.specs.Prelude.{ℕ, List, [], ◌∷◌, Bool, false, not, ◌&&◌, length, get_or, leb, eqb, Some, None}
 use Rattle.std.proofs.Math.Option.{Option, some, none}
 use Rattle.octet.specs.Part.{part, same}
 use Rattle.refusal.specs.Table.{Refusal, when, or_refuse}
 use Rattle.wire_shapes.specs.Shapes.{Kind}
 use Rattle.wire_fields.specs.Kinds.{kinds_of, present}
 use Rattle.wire_fields.specs.Message.{opening, type_of}
+use Rattle.wire_fields.specs.Places.{Part, Need}
 use Rattle.wire_fields.specs.Reading.{need_at, fields_as, whole_in}
-use Rattle.wire_fields.specs.declared.Part.{Part}
-use Rattle.wire_fields.specs.declared.Part.TheVariants.{Here}
-use Rattle.wire_fields.specs.declared.Need.{Need}
-use Rattle.wire_fields.specs.declared.Need.TheVariants.{Field, Missing}
 use Rattle.wire_shapes.specs.declared.Shape.TheVariants.{Sized, Split}
 
 -- what a datagram holds: the number of a refusal, or the type of a message and the places of its fields
@@ -39,12 +36,12 @@ fields_in d = fields_by (type_of d) d (kinds_of (type_of d))
 
 -- an AUTHORITY in part: acked ID and split controls, the fields before the buffer's bytes, are right, and the buffer is not whole
 abbrev pub part_by_split : List ℕ → Need → Bool
-part_by_split d (Field s l n) = not (whole_in d (Here s l))
-part_by_split d Missing = false
+part_by_split d (Some (p, n)) = not (whole_in d (Some p))
+part_by_split d None = false
 
 abbrev pub part_by_acked : List ℕ → Need → Bool
-part_by_acked d (Field s l n) = part_by_split d (need_at d n.at 0x98 false Split)
-part_by_acked d Missing = false
+part_by_acked d (Some (p, n)) = part_by_split d (need_at d n.at 0x98 false Split)
+part_by_acked d None = false
 
 unfoldable pub in_part : ℕ → List ℕ → Bool
 in_part t d = eqb t 8 && part_by_acked d (need_at d 12 0x18 false (Sized 4))

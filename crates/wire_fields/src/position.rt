@@ -5,7 +5,7 @@ ghost use Rattle.wire_shapes.specs.Field.{number_at};
 ghost use Rattle.wire_shapes.specs.declared.Shape.TheVariants.{Sized, Any, Entry, Array, Lookup, Split};
 ghost use Rattle.wire_fields.specs.Reading.{span_at, need_at, maybe_at};
 
-use crate::{Cursor, Maybe, Need, Part, Span};
+use crate::{Cursor, Place, Span};
 use wire_shapes::{is_array, is_entry, is_lookup, is_split, padding};
 
 // The number of two bytes, as a load and a swap, which the compiler compares with a number in one step.
@@ -41,77 +41,90 @@ impl Cursor {
         if d.len() < next {
             return Span::Cut;
         }
-        let start = at + 4;
-        Span::Whole(start, whole - 4, Cursor { at: next })
+        let place = Place {
+            start: at + 4,
+            len: whole - 4,
+        };
+        Span::Whole(place, Cursor { at: next })
     }
 
     // A field of so many bytes that must be there: its number and its length are compared as one number.
-    pub fn fixed(self, d: &[u8], number: u16, padded: bool, len: u16) -> Need
+    pub fn fixed(self, d: &[u8], number: u16, padded: bool, len: u16) -> Option<(Place, Cursor)>
         requires { len + 4 < 65536 }
         ensures { result ≡ need_at d.now self.at number padded (Sized len) }
     {
         let at = self.at;
         if d.len() < 4 {
-            return Need::Missing;
+            return None;
         }
         if d.len() - 4 < at {
-            return Need::Missing;
+            return None;
         }
         let whole = (len as usize) + 4;
         let past = at + whole;
         let next = past + padding(past, padded);
         if d.len() < next {
-            return Need::Missing;
+            return None;
         }
         let head = (number as u32) * 65536 + (whole as u32);
         if octet::read_u32(d, at) != head {
-            return Need::Missing;
+            return None;
         }
-        Need::Field(at + 4, len as usize, Cursor { at: next })
+        let place = Place {
+            start: at + 4,
+            len: len as usize,
+        };
+        Some((place, Cursor { at: next }))
     }
 
     // A field of so many bytes that may be absent.
-    pub fn fixed_or_none(self, d: &[u8], number: u16, padded: bool, wanted: usize) -> Maybe
+    pub fn fixed_or_none(
+        self,
+        d: &[u8],
+        number: u16,
+        padded: bool,
+        wanted: usize,
+    ) -> Option<(Option<Place>, Cursor)>
         ensures { result ≡ maybe_at d.now self.at number padded (Sized wanted) }
     {
         match self.span(d, number, padded) {
-            Span::Whole(start, len, next) => {
-                if len == wanted {
-                    Maybe::Taken(Part::Here(start, len), next)
+            Span::Whole(place, next) => {
+                if place.len == wanted {
+                    Some((Some(place), next))
                 } else {
-                    Maybe::Malformed
+                    None
                 }
             }
-            Span::Other => Maybe::Taken(Part::Absent, self),
-            Span::Cut => Maybe::Malformed,
+            Span::Other => Some((None, self)),
+            Span::Cut => None,
         }
     }
 
     // Any bytes, which may be absent.
-    pub fn any_or_none(self, d: &[u8], number: u16, padded: bool) -> Maybe
+    pub fn any_or_none(self, d: &[u8], number: u16, padded: bool) -> Option<(Option<Place>, Cursor)>
         ensures { result ≡ maybe_at d.now self.at number padded Any }
     {
         match self.span(d, number, padded) {
-            Span::Whole(start, len, next) => Maybe::Taken(Part::Here(start, len), next),
-            Span::Other => Maybe::Taken(Part::Absent, self),
-            Span::Cut => Maybe::Malformed,
+            Span::Whole(place, next) => Some((Some(place), next)),
+            Span::Other => Some((None, self)),
+            Span::Cut => None,
         }
     }
 
     // A route entry, which may be absent.
-    pub fn entry_or_none(self, d: &[u8]) -> Maybe
+    pub fn entry_or_none(self, d: &[u8]) -> Option<(Option<Place>, Cursor)>
         ensures { result ≡ maybe_at d.now self.at 0x9A true Entry }
     {
         match self.span(d, wire_numbers::ENTRY, true) {
-            Span::Whole(start, len, next) => {
-                if is_entry(d, start, len) {
-                    Maybe::Taken(Part::Here(start, len), next)
+            Span::Whole(place, next) => {
+                if is_entry(d, place.start, place.len) {
+                    Some((Some(place), next))
                 } else {
-                    Maybe::Malformed
+                    None
                 }
             }
-            Span::Other => Maybe::Taken(Part::Absent, self),
-            Span::Cut => Maybe::Malformed,
+            Span::Other => Some((None, self)),
+            Span::Cut => None,
         }
     }
 
@@ -124,19 +137,19 @@ impl Cursor {
         size: u16,
         least: u16,
         most: u16,
-    ) -> Need
+    ) -> Option<(Place, Cursor)>
         ensures { result ≡ need_at d.now self.at number false (Array element size least most) }
     {
         match self.span(d, number, false) {
-            Span::Whole(start, len, next) => {
-                if is_array(d, start, len, element, size, least, most) {
-                    Need::Field(start, len, next)
+            Span::Whole(place, next) => {
+                if is_array(d, place.start, place.len, element, size, least, most) {
+                    Some((place, next))
                 } else {
-                    Need::Missing
+                    None
                 }
             }
-            Span::Other => Need::Missing,
-            Span::Cut => Need::Missing,
+            Span::Other => None,
+            Span::Cut => None,
         }
     }
 
@@ -150,53 +163,53 @@ impl Cursor {
         size: u16,
         least: u16,
         most: u16,
-    ) -> Maybe
+    ) -> Option<(Option<Place>, Cursor)>
         ensures { result ≡ maybe_at d.now self.at number padded (Array element size least most) }
     {
         match self.span(d, number, padded) {
-            Span::Whole(start, len, next) => {
-                if is_array(d, start, len, element, size, least, most) {
-                    Maybe::Taken(Part::Here(start, len), next)
+            Span::Whole(place, next) => {
+                if is_array(d, place.start, place.len, element, size, least, most) {
+                    Some((Some(place), next))
                 } else {
-                    Maybe::Malformed
+                    None
                 }
             }
-            Span::Other => Maybe::Taken(Part::Absent, self),
-            Span::Cut => Maybe::Malformed,
+            Span::Other => Some((None, self)),
+            Span::Cut => None,
         }
     }
 
     // LOOKUP's controls.
-    pub fn controls(self, d: &[u8]) -> Need
+    pub fn controls(self, d: &[u8]) -> Option<(Place, Cursor)>
         ensures { result ≡ need_at d.now self.at 0x45 false Lookup }
     {
         match self.span(d, wire_numbers::LOOKUP_CONTROLS, false) {
-            Span::Whole(start, len, next) => {
-                if is_lookup(d, start, len) {
-                    Need::Field(start, len, next)
+            Span::Whole(place, next) => {
+                if is_lookup(d, place.start, place.len) {
+                    Some((place, next))
                 } else {
-                    Need::Missing
+                    None
                 }
             }
-            Span::Other => Need::Missing,
-            Span::Cut => Need::Missing,
+            Span::Other => None,
+            Span::Cut => None,
         }
     }
 
     // AUTHORITY's split controls.
-    pub fn split(self, d: &[u8]) -> Need
+    pub fn split(self, d: &[u8]) -> Option<(Place, Cursor)>
         ensures { result ≡ need_at d.now self.at 0x98 false Split }
     {
         match self.span(d, wire_numbers::SPLIT, false) {
-            Span::Whole(start, len, next) => {
-                if is_split(d, start, len) {
-                    Need::Field(start, len, next)
+            Span::Whole(place, next) => {
+                if is_split(d, place.start, place.len) {
+                    Some((place, next))
                 } else {
-                    Need::Missing
+                    None
                 }
             }
-            Span::Other => Need::Missing,
-            Span::Cut => Need::Missing,
+            Span::Other => None,
+            Span::Cut => None,
         }
     }
 }

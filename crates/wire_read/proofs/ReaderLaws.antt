@@ -17,82 +17,94 @@ use Rattle.wire_fields.specs.Message.{opening}
 use Rattle.wire_fields.specs.Reading.{need_at, before as ahead, places_at, value_of, checked, whole_in, fields_as}
 use Rattle.wire_fields.specs.Refusals.{Found, refused, found, found_of, found_in, in_part}
 use Rattle.wire_fields.specs.declared.Cursor.{Cursor}
-use Rattle.wire_fields.specs.declared.Part.{Part}
-use Rattle.wire_fields.specs.declared.Part.TheVariants.{Here, Absent}
-use Rattle.wire_fields.specs.declared.Need.TheVariants.{Field}
+use Rattle.std.specs.Prelude.{Option as Option₁, Some, None, Result, Ok, Err, MatchOption, MatchResult}
+use Rattle.wire_fields.specs.declared.Place.{Place}
+use Rattle.wire_fields.specs.Places.{Part}
 use Rattle.wire_shapes.specs.declared.Shape.TheVariants.{Sized, Lookup, Split}
 use Rattle.wire_fields.proofs.RefusalLaws.{gated, by_type, in_steps, found_steps}
 use Rattle.wire_buffer.specs.Buffer.{buffer_shown, inside_shown, buffer_at}
+use Rattle.wire_read.specs.Readers.{or_six, or_number}
+use Rattle.wire_read.specs.declared.Incoming.{Incoming}
 use Rattle.wire_read.specs.Answers.{is_here, incoming_of, head_of, head_number, lookup_behind}
 use Rattle.wire_buffer.specs.declared.Inside.{Inside}
-use Rattle.wire_buffer.specs.declared.Buffer.TheVariants.{Holds, Malformed}
 use Rattle.wire_read.specs.declared.Incoming.TheVariants.{Refused, Authority}
 
 -- a field's contents are there where its place is
 pub present_value : (k : Kind) (d : List ℕ) (p : Part) → present (value_of k d p) ≡ is_here p
-present_value k d (Here s l) = refl
-present_value k d Absent = refl
+present_value k d (Some p) = refl
+present_value k d None = refl
 
-buffer_none : (d : List ℕ) (o : Option (List Part)) → buffer_shown d o ≡ Malformed → o ≡ none
+buffer_none : (d : List ℕ) (o : Option (List Part)) → buffer_shown d o ≡ None → o ≡ none
 buffer_none d none e = refl
 buffer_none d (some qs) e = absurd (let z : ◌≡◌ {A = ℕ} 0 1 = cc in omega arith)
 
-buffer_some : (d : List ℕ) (o : Option (List Part)) (f : Inside) → buffer_shown d o ≡ Holds f
+buffer_some : (d : List ℕ) (o : Option (List Part)) (f : Inside) → buffer_shown d o ≡ Some f
     → (qs : List Part) × (o ≡ some qs) × (inside_shown d qs ≡ f)
 buffer_some d none f e = absurd (let z : ◌≡◌ {A = ℕ} 0 1 = cc in omega arith)
 buffer_some d (some qs) f e = (qs, refl, cc)
 
-module _ (ks : List Kind) (d : List ℕ) (s l s₂ l₂ : ℕ) (c c₂ : Cursor) (q : need_at d 12 0x18 false (Sized 4) ≡ Field s l c)
-    (q₂ : need_at d c.at 0x98 false Split ≡ Field s₂ l₂ c₂) (w : whole_in d (Here s₂ l₂) ≡ true) where
+module _ (ks : List Kind) (d : List ℕ) (o o₂ : Place) (c c₂ : Cursor) (q : need_at d 12 0x18 false (Sized 4) ≡ Some (o, c))
+    (q₂ : need_at d c.at 0x98 false Split ≡ Some (o₂, c₂)) (w : whole_in d (Some o₂) ≡ true) where
   authority-not : places_at ks d c₂.at ≡ none → gated 8 d (found_of 8 (fields_as 8 (acked_kind ∷ split_kind ∷ ks) d)) ≡ refused 6
   unfolding in_part fields_as places_at joined_fields sized whole_in
   authority-not e = rw (q, q₂, w, e)
 
   authority-in : (qs : List Part) → places_at ks d c₂.at ≡ some qs
-      → gated 8 d (found_of 8 (fields_as 8 (acked_kind ∷ split_kind ∷ ks) d)) ≡ found 8 (Here s l ∷ Here s₂ l₂ ∷ qs)
+      → gated 8 d (found_of 8 (fields_as 8 (acked_kind ∷ split_kind ∷ ks) d)) ≡ found 8 (Some o ∷ Some o₂ ∷ qs)
   unfolding in_part fields_as places_at joined_fields sized whole_in
   authority-in qs e = rw (q, q₂, w, e, w)
 
-module _ (d : List ℕ) (s l s₂ l₂ : ℕ) (c c₂ : Cursor) (q : need_at d 12 0x18 false (Sized 4) ≡ Field s l c)
-    (q₂ : need_at d c.at 0x98 false Split ≡ Field s₂ l₂ c₂) (w : whole_in d (Here s₂ l₂) ≡ true) where
-  pub authority-bad : buffer_at d c₂.at ≡ Malformed → incoming_of d (gated 8 d (found_of 8 (fields_as 8 authority_kinds d))) ≡ Refused 6
+module _ (d : List ℕ) (o o₂ : Place) (c c₂ : Cursor) (q : need_at d 12 0x18 false (Sized 4) ≡ Some (o, c))
+    (q₂ : need_at d c.at 0x98 false Split ≡ Some (o₂, c₂)) (w : whole_in d (Some o₂) ≡ true) where
+  pub authority-bad : buffer_at d c₂.at ≡ None → incoming_of d (gated 8 d (found_of 8 (fields_as 8 authority_kinds d))) ≡ Refused 6
   unfolding buffer_at incoming_of
-  authority-bad e = ap (incoming_of d) (authority-not buffer_kinds d s l s₂ l₂ c c₂ q q₂ w (buffer_none d (places_at buffer_kinds d c₂.at) e))
+  authority-bad e = ap (incoming_of d) (authority-not buffer_kinds d o o₂ c c₂ q q₂ w (buffer_none d (places_at buffer_kinds d c₂.at) e))
 
-  pub authority-good : (f : Inside) → buffer_at d c₂.at ≡ Holds f
+  pub authority-good : (f : Inside) → buffer_at d c₂.at ≡ Some f
       → incoming_of d (gated 8 d (found_of 8 (fields_as 8 authority_kinds d)))
-      ≡ Authority (record { head = head_of d; acked = number_at s 4 d; fields = f })
+      ≡ Authority (record { head = head_of d; acked = number_at o.start 4 d; fields = f })
   unfolding buffer_at incoming_of
   authority-good f e =
       let (qs, r, i) = buffer_some d (places_at buffer_kinds d c₂.at) f e in
-      ap (incoming_of d) (authority-in buffer_kinds d s l s₂ l₂ c c₂ q q₂ w qs r)
-      ∙ ap (λ (x : Inside). Authority (record { head = head_of d; acked = number_at s 4 d; fields = x })) i
+      ap (incoming_of d) (authority-in buffer_kinds d o o₂ c c₂ q q₂ w qs r)
+      ∙ ap (λ (x : Inside). Authority (record { head = head_of d; acked = number_at o.start 4 d; fields = x })) i
 
 -- ---- a LOOKUP by its first three fields
 
 abbrev controls_kind : Kind
 controls_kind = record { number = 0x45; optional = false; padded = false; shape = Lookup; kept = keep_lookup }
 
-module _ (d : List ℕ) (s₁ l₁ s₂ l₂ s₃ l₃ : ℕ) (c₁ c₂ c₃ : Cursor) where
+module _ (d : List ℕ) (o₁ o₂ o₃ : Place) (c₁ c₂ c₃ : Cursor) where
   behind : (o : Option (List Part))
-      → incoming_of d (found_of 11 (checked 11 lookup_kinds d (ahead (Here s₁ l₁) (ahead (Here s₂ l₂) (ahead (Here s₃ l₃) o)))))
-      ≡ lookup_behind d s₁ s₂ s₃ o
+      → incoming_of d (found_of 11 (checked 11 lookup_kinds d (ahead (Some o₁) (ahead (Some o₂) (ahead (Some o₃) o)))))
+      ≡ lookup_behind d o₁.start o₂.start o₃.start o
   unfolding incoming_of joined_fields sized
   behind none = refl
   behind (some ps) = refl
 
-  module _ (q₁ : need_at d 12 0x45 false Lookup ≡ Field s₁ l₁ c₁) (q₂ : need_at d c₁.at 0x38 false (Sized 32) ≡ Field s₂ l₂ c₂)
-      (q₃ : need_at d c₂.at 0x39 false (Sized 32) ≡ Field s₃ l₃ c₃) where
+  module _ (q₁ : need_at d 12 0x45 false Lookup ≡ Some (o₁, c₁)) (q₂ : need_at d c₁.at 0x38 false (Sized 32) ≡ Some (o₂, c₂))
+      (q₃ : need_at d c₂.at 0x39 false (Sized 32) ≡ Some (o₃, c₃)) where
     three : (ks : List Kind) → places_at (controls_kind ∷ must 0x38 false (Sized 32) [] ∷ must 0x39 false (Sized 32) [] ∷ ks) d 12
-        ≡ ahead (Here s₁ l₁) (ahead (Here s₂ l₂) (ahead (Here s₃ l₃) (places_at ks d c₃.at)))
+        ≡ ahead (Some o₁) (ahead (Some o₂) (ahead (Some o₃) (places_at ks d c₃.at)))
     unfolding places_at
     three ks = rw (q₁, q₂, q₃)
 
-    pub lookup-front : lookup_behind d s₁ s₂ s₃ (places_at (drop 3 lookup_kinds) d c₃.at) ≡ incoming_of d (found_of 11 (fields_as 11 lookup_kinds d))
+    pub lookup-front : lookup_behind d o₁.start o₂.start o₃.start (places_at (drop 3 lookup_kinds) d c₃.at) ≡ incoming_of d (found_of 11 (fields_as 11 lookup_kinds d))
     unfolding fields_as
     lookup-front =
         sym (ap (λ (o : Option (List Part)). incoming_of d (found_of 11 (checked 11 lookup_kinds d o))) (three (drop 3 lookup_kinds))
         ∙ behind (places_at (drop 3 lookup_kinds) d c₃.at))
+
+-- ---- a message that was read, or its refusal
+
+module _ {M : Type 0} (make : M → Incoming) (r : Incoming) where
+  pub read-or_six : (o : Option₁ M) → MatchOption o (r ≡ Refused 6) (λ (m : M). r ≡ make m) → r ≡ or_six make o
+  read-or_six (Some m) e = e
+  read-or_six None e = e
+
+  pub read-or_number : (o : Result M ℕ) → MatchResult o (λ (m : M). r ≡ make m) (λ (n : ℕ). r ≡ Refused n) → r ≡ or_number make o
+  read-or_number (Ok m) e = e
+  read-or_number (Err n) e = e
 
 -- ---- length and header
 

@@ -1,13 +1,12 @@
 -- Helps the code. What the code answers, from what a datagram holds (Refusals): the message as numbers and as places in the datagram. That it is the
 -- message that the datagram reads as is a theorem of `wire`. Assumes nothing.
-use Rattle.std.specs.Prelude.{ℕ, ◌+◌, ◌*◌, List, ◌∷◌, Bool, true, false, cond, ◌&&◌, length, get_or, drop, leb, eqb}
+use Rattle.std.specs.Prelude.{ℕ, ◌+◌, ◌*◌, List, ◌∷◌, Bool, false, cond, ◌&&◌, length, get_or, drop, leb, eqb, is_some, Some, None}
 use Rattle.std.proofs.Math.Option.{Option, some, none}
 use Rattle.octet.specs.Part.{part, same}
 use Rattle.wire_fields.specs.Message.{opening}
 use Rattle.wire_shapes.specs.Field.{number_at}
 use Rattle.wire_fields.specs.Refusals.{Found, refused, found, found_in}
-use Rattle.wire_fields.specs.declared.Part.{Part}
-use Rattle.wire_fields.specs.declared.Part.TheVariants.{Here, Absent}
+use Rattle.wire_fields.specs.Places.{Part, here}
 use Rattle.wire_buffer.specs.Buffer.{start_of, flag_at, inside_shown}
 use Rattle.wire_read.specs.declared.Head.{Head}
 use Rattle.wire_read.specs.declared.Incoming.{Incoming}
@@ -15,79 +14,78 @@ use Rattle.wire_read.specs.declared.Incoming.TheVariants.{Refused, Solicit, Adve
 
 -- whether a field is there
 abbrev pub is_here : Part → Bool
-is_here (Here s l) = true
-is_here Absent = false
+is_here p = is_some p
 
 -- the bit of a weight in a field, clear where it is absent
 unfoldable pub part_flag : List ℕ → Part → ℕ → ℕ → Bool
-part_flag d (Here s l) offset weight = flag_at d s offset weight
-part_flag d Absent offset weight = false
+part_flag d (Some p) offset weight = flag_at d p.start offset weight
+part_flag d None offset weight = false
 
 unfoldable pub head_of : List ℕ → Head
 head_of d = record { minor = get_or d 6 0; id = number_at 8 4 d }
 
 abbrev pub solicit_shown : List ℕ → List Part → Incoming
-solicit_shown d ps = Solicit (record { head = head_of d; entry = get_or ps 0 Absent; nonce = start_of (get_or ps 1 Absent) })
+solicit_shown d ps = Solicit (record { head = head_of d; entry = get_or ps 0 None; nonce = start_of (get_or ps 1 None) })
 
 abbrev pub advertise_shown : List ℕ → List Part → Incoming
 advertise_shown d ps =
     Advertise (record {
       head = head_of d;
-      acked = number_at (start_of (get_or ps 0 Absent)) 4 d;
-      keys = get_or ps 1 Absent;
-      nonce = start_of (get_or ps 2 Absent);
+      acked = number_at (start_of (get_or ps 0 None)) 4 d;
+      keys = get_or ps 1 None;
+      nonce = start_of (get_or ps 2 None);
     })
 
 abbrev pub request_shown : List ℕ → List Part → Incoming
 request_shown d ps =
     Request (record {
       head = head_of d;
-      flags = is_here (get_or ps 0 Absent);
-      split = is_here (get_or ps 1 Absent);
-      nonce = start_of (get_or ps 2 Absent);
-      keys = get_or ps 3 Absent;
-      credential = get_or ps 4 Absent;
-      signature = get_or ps 5 Absent;
-      key = get_or ps 6 Absent;
+      flags = is_here (get_or ps 0 None);
+      split = is_here (get_or ps 1 None);
+      nonce = start_of (get_or ps 2 None);
+      keys = get_or ps 3 None;
+      credential = get_or ps 4 None;
+      signature = get_or ps 5 None;
+      key = get_or ps 6 None;
     })
 
 abbrev pub flood_shown : List ℕ → List Part → Incoming
 flood_shown d ps =
     Flood (record {
       head = head_of d;
-      d = flag_at d (start_of (get_or ps 0 Absent)) 1 1;
-      validate = start_of (get_or ps 1 Absent);
-      token = get_or ps 2 Absent;
-      revoke = get_or ps 3 Absent;
-      entry = get_or ps 4 Absent;
-      reached = get_or ps 5 Absent;
+      d = flag_at d (start_of (get_or ps 0 None)) 1 1;
+      validate = start_of (get_or ps 1 None);
+      token = get_or ps 2 None;
+      revoke = get_or ps 3 None;
+      entry = get_or ps 4 None;
+      reached = get_or ps 5 None;
     })
 
 abbrev pub inquire_shown : List ℕ → List Part → Incoming
 inquire_shown d ps =
     Inquire (record {
       head = head_of d;
-      a = flag_at d (start_of (get_or ps 0 Absent)) 1 16;
-      x = flag_at d (start_of (get_or ps 0 Absent)) 1 8;
-      c = flag_at d (start_of (get_or ps 0 Absent)) 1 4;
-      validate = start_of (get_or ps 1 Absent);
-      nonce = get_or ps 2 Absent;
-      credential = get_or ps 3 Absent;
-      signature = get_or ps 4 Absent;
-      key = get_or ps 5 Absent;
+      a = flag_at d (start_of (get_or ps 0 None)) 1 16;
+      x = flag_at d (start_of (get_or ps 0 None)) 1 8;
+      c = flag_at d (start_of (get_or ps 0 None)) 1 4;
+      validate = start_of (get_or ps 1 None);
+      nonce = get_or ps 2 None;
+      credential = get_or ps 3 None;
+      signature = get_or ps 4 None;
+      key = get_or ps 5 None;
     })
 
 abbrev pub authority_shown : List ℕ → List Part → Incoming
 authority_shown d ps =
-    Authority (record { head = head_of d; acked = number_at (start_of (get_or ps 0 Absent)) 4 d; fields = inside_shown d (drop 2 ps) })
+    Authority (record { head = head_of d; acked = number_at (start_of (get_or ps 0 None)) 4 d; fields = inside_shown d (drop 2 ps) })
 
 abbrev pub ack_shown : List ℕ → List Part → Incoming
 ack_shown d ps =
     Ack (record {
       head = head_of d;
-      acked = number_at (start_of (get_or ps 0 Absent)) 4 d;
-      flags = is_here (get_or ps 1 Absent);
-      n = part_flag d (get_or ps 1 Absent) 1 1;
+      acked = number_at (start_of (get_or ps 0 None)) 4 d;
+      flags = is_here (get_or ps 1 None);
+      n = part_flag d (get_or ps 1 None) 1 1;
     })
 
 -- the precision counts only where the criteria are 8
@@ -98,23 +96,23 @@ abbrev pub lookup_shown : List ℕ → List Part → Incoming
 lookup_shown d ps =
     Lookup (record {
       head = head_of d;
-      a = flag_at d (start_of (get_or ps 0 Absent)) 1 2;
-      precision = precision_at d (start_of (get_or ps 0 Absent));
-      criteria = get_or d (start_of (get_or ps 0 Absent) + 4) 0;
-      reason = get_or d (start_of (get_or ps 0 Absent) + 5) 0;
-      target = start_of (get_or ps 1 Absent);
-      validate = start_of (get_or ps 2 Absent);
-      entry = get_or ps 3 Absent;
-      path = get_or ps 4 Absent;
-      credential = get_or ps 5 Absent;
-      signature = get_or ps 6 Absent;
-      key = get_or ps 7 Absent;
+      a = flag_at d (start_of (get_or ps 0 None)) 1 2;
+      precision = precision_at d (start_of (get_or ps 0 None));
+      criteria = get_or d (start_of (get_or ps 0 None) + 4) 0;
+      reason = get_or d (start_of (get_or ps 0 None) + 5) 0;
+      target = start_of (get_or ps 1 None);
+      validate = start_of (get_or ps 2 None);
+      entry = get_or ps 3 None;
+      path = get_or ps 4 None;
+      credential = get_or ps 5 None;
+      signature = get_or ps 6 None;
+      key = get_or ps 7 None;
     })
 
 -- the same by the places of the first three fields and of those behind them
 abbrev pub lookup_behind : List ℕ → ℕ → ℕ → ℕ → Option (List Part) → Incoming
 lookup_behind d controls target validate none = Refused 6
-lookup_behind d controls target validate (some ps) = lookup_shown d (Here controls 8 ∷ Here target 32 ∷ Here validate 32 ∷ ps)
+lookup_behind d controls target validate (some ps) = lookup_shown d (here controls 8 ∷ here target 32 ∷ here validate 32 ∷ ps)
 
 -- the number of the refusal by length and header, 0 for none
 unfoldable pub head_number : List ℕ → ℕ → ℕ

@@ -4,13 +4,14 @@ ghost use Rattle.wire_fields.specs.Kinds.{flood_kinds};
 ghost use Rattle.wire_fields.specs.Reading.{fields_as};
 ghost use Rattle.wire_fields.specs.Refusals.{found_of};
 ghost use Rattle.wire_buffer.specs.Buffer.{flag_at};
+ghost use Rattle.wire_read.specs.declared.Incoming.TheVariants as M;
+ghost use Rattle.wire_read.specs.Readers.{or_six};
 ghost use Rattle.wire_read.specs.Answers.{incoming_of};
 
-use crate::Incoming;
 use crate::messages::Flood;
 use crate::values::{head, just_one};
 use wire_buffer::flag;
-use wire_fields::{Cursor, Maybe, Need};
+use wire_fields::Cursor;
 
 // D, the last bit of the controls' first two bytes.
 fn silent(d: &[u8], controls: usize) -> bool
@@ -19,27 +20,17 @@ fn silent(d: &[u8], controls: usize) -> bool
     flag(d, controls, 1, 1)
 }
 
-pub fn read_flood(d: &[u8]) -> Incoming
+pub fn read_flood(d: &[u8]) -> Option<Flood>
     requires { 12 ≤ length d.now }
-    ensures { result ≡ incoming_of d.now (found_of 4 (fields_as 4 flood_kinds d.now)) }
+    ensures { or_six M.Flood result ≡ incoming_of d.now (found_of 4 (fields_as 4 flood_kinds d.now)) }
 {
     let c = Cursor { at: 12 };
-    let Need::Field(controls, _, c) = c.fixed(d, wire_numbers::FLOOD_CONTROLS, true, 3) else {
-        return Incoming::Refused(6);
-    };
-    let Need::Field(validate, _, c) = c.fixed(d, wire_numbers::VALIDATE, false, 32) else {
-        return Incoming::Refused(6);
-    };
-    let Maybe::Taken(token, c) = c.any_or_none(d, wire_numbers::TOKEN, true) else {
-        return Incoming::Refused(6);
-    };
-    let Maybe::Taken(revoke, c) = c.any_or_none(d, wire_numbers::REVOKED, true) else {
-        return Incoming::Refused(6);
-    };
-    let Maybe::Taken(entry, c) = c.entry_or_none(d) else {
-        return Incoming::Refused(6);
-    };
-    let Maybe::Taken(reached, c) = c.array_or_none(
+    let (controls, c) = c.fixed(d, wire_numbers::FLOOD_CONTROLS, true, 3)?;
+    let (validate, c) = c.fixed(d, wire_numbers::VALIDATE, false, 32)?;
+    let (token, c) = c.any_or_none(d, wire_numbers::TOKEN, true)?;
+    let (revoke, c) = c.any_or_none(d, wire_numbers::REVOKED, true)?;
+    let (entry, c) = c.entry_or_none(d)?;
+    let (reached, c) = c.array_or_none(
         d,
         wire_numbers::ENDPOINTS,
         false,
@@ -47,19 +38,17 @@ pub fn read_flood(d: &[u8]) -> Incoming
         wire_numbers::ENDPOINTS_EACH,
         wire_numbers::ENDPOINTS_LEAST,
         wire_numbers::ENDPOINTS_MOST,
-    ) else {
-        return Incoming::Refused(6);
-    };
+    )?;
     if c.at != d.len() {
-        return Incoming::Refused(6);
+        return None;
     }
     if !just_one(revoke, entry) {
-        return Incoming::Refused(6);
+        return None;
     }
-    Incoming::Flood(Flood {
+    Some(Flood {
         head: head(d),
-        d: silent(d, controls),
-        validate,
+        d: silent(d, controls.start),
+        validate: validate.start,
         token,
         revoke,
         entry,

@@ -76,14 +76,14 @@ pub fn read(d: &[u8], major: u8) -> Incoming
     }
     let kind = d[7];
     match kind {
-        1 => read_solicit(d),
-        2 => read_advertise(d),
-        3 => read_request(d),
-        4 => read_flood(d),
-        7 => read_inquire(d),
-        8 => read_authority(d),
-        9 => read_ack(d),
-        11 => read_lookup(d),
+        1 => read_solicit(d).map_or(Incoming::Refused(6), Incoming::Solicit),
+        2 => read_advertise(d).map_or(Incoming::Refused(6), Incoming::Advertise),
+        3 => read_request(d).map_or(Incoming::Refused(6), Incoming::Request),
+        4 => read_flood(d).map_or(Incoming::Refused(6), Incoming::Flood),
+        7 => read_inquire(d).map_or(Incoming::Refused(6), Incoming::Inquire),
+        8 => read_authority(d).map_or_else(Incoming::Refused, Incoming::Authority),
+        9 => read_ack(d).map_or(Incoming::Refused(6), Incoming::Ack),
+        11 => read_lookup(d).map_or(Incoming::Refused(6), Incoming::Lookup),
         _ => Incoming::Refused(5),
     }
 }

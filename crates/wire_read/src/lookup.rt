@@ -3,65 +3,55 @@ ghost use Rattle.std.specs.Prelude.{◌≡◌, ◌≤◌, drop, length};
 ghost use Rattle.wire_fields.specs.Kinds.{lookup_kinds};
 ghost use Rattle.wire_fields.specs.Reading.{places_at, fields_as};
 ghost use Rattle.wire_fields.specs.Refusals.{found_of};
+ghost use Rattle.wire_read.specs.declared.Incoming.TheVariants as M;
+ghost use Rattle.wire_read.specs.Readers.{or_six};
 ghost use Rattle.wire_read.specs.Answers.{incoming_of, lookup_behind};
 
-use crate::Incoming;
 use crate::messages::Lookup;
 use crate::values::{byte_from, head, precision};
 use wire_buffer::flag;
-use wire_fields::{Cursor, Maybe, Need, Part};
+use wire_fields::Cursor;
 
-pub fn read_lookup(d: &[u8]) -> Incoming
+pub fn read_lookup(d: &[u8]) -> Option<Lookup>
     requires { 12 ≤ length d.now }
-    ensures { result ≡ incoming_of d.now (found_of 11 (fields_as 11 lookup_kinds d.now)) }
+    ensures { or_six M.Lookup result ≡ incoming_of d.now (found_of 11 (fields_as 11 lookup_kinds d.now)) }
 {
     let c = Cursor { at: 12 };
-    let Need::Field(controls, _, c) = c.controls(d) else {
-        return Incoming::Refused(6);
-    };
-    let Need::Field(target, _, c) = c.fixed(d, wire_numbers::TARGET, false, 32) else {
-        return Incoming::Refused(6);
-    };
-    let Need::Field(validate, _, c) = c.fixed(d, wire_numbers::VALIDATE, false, 32) else {
-        return Incoming::Refused(6);
-    };
-    lookup_behind(d, controls, target, validate, c)
+    let (controls, c) = c.controls(d)?;
+    let (target, c) = c.fixed(d, wire_numbers::TARGET, false, 32)?;
+    let (validate, c) = c.fixed(d, wire_numbers::VALIDATE, false, 32)?;
+    lookup_behind(d, controls.start, target.start, validate.start, c)
 }
 
 // The fields behind the first three, of which these are the places, from a position to the end. (A function of its own:
 // so many fields in one, and the compiler would call the last instead of putting them in their place.)
-fn lookup_behind(d: &[u8], controls: usize, target: usize, validate: usize, c: Cursor) -> Incoming
+fn lookup_behind(
+    d: &[u8],
+    controls: usize,
+    target: usize,
+    validate: usize,
+    c: Cursor,
+) -> Option<Lookup>
     requires { 12 ≤ length d.now }
-    ensures { result ≡ lookup_behind d.now controls target validate
+    ensures { or_six M.Lookup result ≡ lookup_behind d.now controls target validate
         (places_at (drop 3 lookup_kinds) d.now c.at) }
 {
-    let Maybe::Taken(entry, c) = c.entry_or_none(d) else {
-        return Incoming::Refused(6);
-    };
-    let Need::Field(path, path_len, c) = c.array(
+    let (entry, c) = c.entry_or_none(d)?;
+    let (path, c) = c.array(
         d,
         wire_numbers::ENDPOINTS,
         wire_numbers::ENDPOINT,
         wire_numbers::ENDPOINTS_EACH,
         wire_numbers::ENDPOINTS_LEAST,
         wire_numbers::ENDPOINTS_MOST,
-    ) else {
-        return Incoming::Refused(6);
-    };
-    let Maybe::Taken(credential, c) = c.any_or_none(d, wire_numbers::CREDENTIAL, false) else {
-        return Incoming::Refused(6);
-    };
-    let Maybe::Taken(signature, c) = c.any_or_none(d, wire_numbers::SIGNATURE, false) else {
-        return Incoming::Refused(6);
-    };
-    let Maybe::Taken(key, c) = c.any_or_none(d, wire_numbers::KEY_ID, false) else {
-        return Incoming::Refused(6);
-    };
+    )?;
+    let (credential, c) = c.any_or_none(d, wire_numbers::CREDENTIAL, false)?;
+    let (signature, c) = c.any_or_none(d, wire_numbers::SIGNATURE, false)?;
+    let (key, c) = c.any_or_none(d, wire_numbers::KEY_ID, false)?;
     if c.at != d.len() {
-        return Incoming::Refused(6);
+        return None;
     }
-    let path = Part::Here(path, path_len);
-    Incoming::Lookup(Lookup {
+    Some(Lookup {
         head: head(d),
         a: flag(d, controls, 1, 2),
         precision: precision(d, controls),
@@ -70,7 +60,7 @@ fn lookup_behind(d: &[u8], controls: usize, target: usize, validate: usize, c: C
         target,
         validate,
         entry,
-        path,
+        path: Some(path),
         credential,
         signature,
         key,

@@ -1,13 +1,13 @@
-// The eight messages as they are read: a field of fixed length is the place where its contents start, one of any length or
-// one that may be absent a `Part`; flags and numbers are themselves.
+// The eight messages as they are read: a field of fixed length is the place where its contents start, one of any length
+// a `Place`, and one that may be absent an `Option` of it; flags and numbers are themselves.
 use crate::Head;
 use wire_buffer::Inside;
-use wire_fields::Part;
+use wire_fields::Place;
 
 #[derive(Clone, Copy)]
 pub struct Solicit {
     pub head: Head,
-    pub entry: Part,
+    pub entry: Option<Place>,
     pub nonce: usize,
 }
 
@@ -15,7 +15,7 @@ pub struct Solicit {
 pub struct Advertise {
     pub head: Head,
     pub acked: u32,
-    pub keys: Part,
+    pub keys: Option<Place>,
     pub nonce: usize,
 }
 
@@ -25,10 +25,10 @@ pub struct Request {
     pub flags: bool,
     pub split: bool,
     pub nonce: usize,
-    pub keys: Part,
-    pub credential: Part,
-    pub signature: Part,
-    pub key: Part,
+    pub keys: Option<Place>,
+    pub credential: Option<Place>,
+    pub signature: Option<Place>,
+    pub key: Option<Place>,
 }
 
 #[derive(Clone, Copy)]
@@ -36,10 +36,10 @@ pub struct Flood {
     pub head: Head,
     pub d: bool,
     pub validate: usize,
-    pub token: Part,
-    pub revoke: Part,
-    pub entry: Part,
-    pub reached: Part,
+    pub token: Option<Place>,
+    pub revoke: Option<Place>,
+    pub entry: Option<Place>,
+    pub reached: Option<Place>,
 }
 
 #[derive(Clone, Copy)]
@@ -49,10 +49,10 @@ pub struct Inquire {
     pub x: bool,
     pub c: bool,
     pub validate: usize,
-    pub nonce: Part,
-    pub credential: Part,
-    pub signature: Part,
-    pub key: Part,
+    pub nonce: Option<Place>,
+    pub credential: Option<Place>,
+    pub signature: Option<Place>,
+    pub key: Option<Place>,
 }
 
 #[derive(Clone, Copy)]
@@ -79,9 +79,9 @@ pub struct Lookup {
     pub reason: u8,
     pub target: usize,
     pub validate: usize,
-    pub entry: Part,
-    pub path: Part,
-    pub credential: Part,
-    pub signature: Part,
-    pub key: Part,
+    pub entry: Option<Place>,
+    pub path: Option<Place>,
+    pub credential: Option<Place>,
+    pub signature: Option<Place>,
+    pub key: Option<Place>,
 }

@@ -5,18 +5,18 @@ ghost use Rattle.wire_read.specs.Answers.{is_here, part_flag, head_of, precision
 
 use crate::Head;
 use wire_buffer::flag;
-use wire_fields::Part;
+use wire_fields::Place;
 use wire_shapes::byte;
 
 // The bit of a weight in a field, clear where it is absent.
-pub(crate) fn flag_in(d: &[u8], p: Part, offset: usize, weight: u8) -> bool
+pub(crate) fn flag_in(d: &[u8], p: Option<Place>, offset: usize, weight: u8) -> bool
     requires { (offset < 4) × (0 < weight) }
     ensures { result ≡ part_flag d.now p offset weight }
 {
-    let Part::Here(start, _) = p else {
+    let Some(place) = p else {
         return false;
     };
-    flag(d, start, offset, weight)
+    flag(d, place.start, offset, weight)
 }
 
 // The byte at a small offset from a place.
@@ -42,25 +42,11 @@ pub(crate) fn precision(d: &[u8], start: usize) -> u16
     high * 256 + low
 }
 
-// Whether a field is there.
-pub(crate) fn is_here(p: Part) -> bool
-    ensures { result ≡ is_here p }
-{
-    if let Part::Here(_, _) = p {
-        true
-    } else {
-        false
-    }
-}
-
 // Whether just one of two fields is there.
-pub(crate) fn just_one(p: Part, q: Part) -> bool
+pub(crate) fn just_one(p: Option<Place>, q: Option<Place>) -> bool
     ensures { result ≡ one_of (is_here p) (is_here q) }
 {
-    if let Part::Here(_, _) = p {
-        return !is_here(q);
-    }
-    is_here(q)
+    p.is_some() != q.is_some()
 }
 
 // The minor version and the message ID.

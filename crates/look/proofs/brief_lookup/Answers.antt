@@ -1,28 +1,28 @@
 -- What is told of the message that its reader gives, or of its refusal. Assumes nothing.
 use mathlib.Core.Path.{sym, ap, ap₂, subst, ◌∙◌}
+use Rattle.wire_read.specs.Readers.{or_six}
+use Rattle.wire_read.specs.declared.Incoming.{Incoming}
+use Rattle.wire_read.specs.declared.Incoming.TheVariants as M
+use Rattle.look.specs.Seen.{look_of, briefed, brief_of, Small}
 use Prim.Native.Nat.{ℕ}
 use mathlib.Core.Bool.{false}
-use Rattle.wire_fields.specs.Kinds.{lookup_kinds}
-use Rattle.wire_read.specs.Answers.{incoming_of}
-use Rattle.wire_read.specs.declared.Incoming.{Incoming}
-use Rattle.look.specs.Seen.{look_of, briefed, brief_of, Small}
-use Rattle.look.proofs.BriefLaws.{else-refused, brief_by}
+use Rattle.look.specs.declared.Brief.{Brief}
+use Rattle.look.proofs.BriefLaws.{brief_by}
 use Rattle.look.proofs.brief_lookup.Goals as goal
 
 pub returns-in_default : goal.returns-in_default
-unfolding incoming_of
 returns-in_default c =
-    let read = c.read_lookup-message.ensures in
     c.refused.ensures
-    ∙ ap brief_of (sym (else-refused c.args.datagram.now 11 _ (λ ps e. c.in_default.not-Lookup _ e) lookup_kinds read) ∙ read)
+    ∙ ap brief_of (sym (ap (or_six M.Lookup) c.in_default.is) ∙ c.read_lookup.ensures)
 
 pub seen_as-seen-requires : goal.seen_as-seen-requires
 unfolding look_of
 seen_as-seen-requires c =
-    subst (λ (a : Incoming). Small (look_of a)) (sym c.read_lookup-message.ensures ∙ c.in-Lookup.is) c.requires.1
+    subst (λ (a : Incoming). Small (look_of a)) (sym c.in-Some.ensures) c.requires.1
 
 pub returns : goal.returns
 unfolding brief_of look_of
 returns c =
-    ap₂ (λ (p n : ℕ). briefed c.seen_as-seen.result 0 false p n) c.place_of.ensures c.bytes_of.ensures
-    ∙ brief_by c.seen_as-seen.ensures ∙ ap brief_of (sym c.in-Lookup.is ∙ c.read_lookup-message.ensures)
+    ap (λ (b : Brief). record b { path = c.place_of-path.result.start; size = c.place_of-path.result.len }) c.alone.ensures
+    ∙ ap₂ (λ (p n : ℕ). briefed c.seen_as-seen.result 0 false p n) c.place_of-path.ensures.start c.place_of-path.ensures.len
+    ∙ brief_by c.seen_as-seen.ensures ∙ ap brief_of c.in-Some.ensures

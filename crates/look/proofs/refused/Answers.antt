@@ -1,5 +1,5 @@
 -- `refused` meets its contract. Assumes nothing.
-use mathlib.Core.Path.{ap}
+use mathlib.Core.Path.{ap, ◌∙◌}
 use mathlib.Core.Bool.{false}
 use Rattle.look.specs.Seen.{briefed, look_of, brief_of}
 use Rattle.look.specs.declared.Look.{Look}
@@ -8,4 +8,4 @@ use Rattle.look.proofs.refused.Goals as goal
 pub returns : goal.returns
 unfolding brief_of look_of
 returns c =
-    ap (λ (s : Look). briefed s 0 false 0 0) c.seen_as-seen.ensures
+    c.alone.ensures ∙ ap (λ (s : Look). briefed s 0 false 0 0) c.seen_as.ensures

@@ -8,8 +8,8 @@ use Rattle.wire_fields.specs.Kinds.{kinds_of}
 use Rattle.wire_fields.specs.Refusals.{found_in, in_part}
 use Rattle.wire_fields.proofs.RefusalLaws.{by_type}
 use Rattle.wire_read.specs.Answers.{incoming_of}
-use Rattle.wire_read.specs.declared.Incoming.TheVariants.{Refused}
-use Rattle.wire_read.proofs.ReaderLaws.{header-refuses, header-right}
+use Rattle.wire_read.specs.declared.Incoming.TheVariants as M
+use Rattle.wire_read.proofs.ReaderLaws.{read-or_six, read-or_number, header-refuses, header-right}
 use Rattle.wire_read.proofs.read.Goals.{Else-number-ne0}
 use Rattle.wire_read.proofs.read.Goals as goal
 
@@ -23,7 +23,7 @@ pub returns-then-number-ne0 : goal.returns-then-number-ne0
 unfolding incoming_of
 returns-then-number-ne0 c =
     let a = c.args in
-    rw (header-refuses a.d.now a.major (λ e. c.if-number-ne0.true (c.header-number.ensures ∙ e))) (ap Refused c.header-number.ensures)
+    rw (header-refuses a.d.now a.major (λ e. c.if-number-ne0.true (c.header-number.ensures ∙ e))) (ap M.Refused c.header-number.ensures)
 
 pub bounds-d-7 : goal.bounds-d-7
 bounds-d-7 c =
@@ -56,42 +56,50 @@ read_lookup-requires c = (right-at (goal.at.read_lookup-requires c).Else-number-
 pub returns-in-1 : goal.returns-in-1
 unfolding kinds_of in_part
 returns-in-1 c =
-    rw ((right-at (goal.at.returns-in-1 c).Else-number-ne0).1, c.in-1.is) c.read_solicit.ensures
+    rw ((right-at (goal.at.returns-in-1 c).Else-number-ne0).1, c.in-1.is)
+    (read-or_six M.Solicit _ _ c.map_or.ensures ∙ c.read_solicit.ensures)
 
 pub returns-in-2 : goal.returns-in-2
 unfolding kinds_of in_part
 returns-in-2 c =
-    rw ((right-at (goal.at.returns-in-2 c).Else-number-ne0).1, c.in-2.is) c.read_advertise.ensures
+    rw ((right-at (goal.at.returns-in-2 c).Else-number-ne0).1, c.in-2.is)
+    (read-or_six M.Advertise _ _ c.map_or-in-2.ensures ∙ c.read_advertise.ensures)
 
 pub returns-in-3 : goal.returns-in-3
 unfolding kinds_of in_part
 returns-in-3 c =
-    rw ((right-at (goal.at.returns-in-3 c).Else-number-ne0).1, c.in-3.is) c.read_request.ensures
+    rw ((right-at (goal.at.returns-in-3 c).Else-number-ne0).1, c.in-3.is)
+    (read-or_six M.Request _ _ c.map_or-in-3.ensures ∙ c.read_request.ensures)
 
 pub returns-in-4 : goal.returns-in-4
 unfolding kinds_of in_part
 returns-in-4 c =
-    rw ((right-at (goal.at.returns-in-4 c).Else-number-ne0).1, c.in-4.is) c.read_flood.ensures
+    rw ((right-at (goal.at.returns-in-4 c).Else-number-ne0).1, c.in-4.is)
+    (read-or_six M.Flood _ _ c.map_or-in-4.ensures ∙ c.read_flood.ensures)
 
 pub returns-in-7 : goal.returns-in-7
 unfolding kinds_of in_part
 returns-in-7 c =
-    rw ((right-at (goal.at.returns-in-7 c).Else-number-ne0).1, c.in-7.is) c.read_inquire.ensures
+    rw ((right-at (goal.at.returns-in-7 c).Else-number-ne0).1, c.in-7.is)
+    (read-or_six M.Inquire _ _ c.map_or-in-7.ensures ∙ c.read_inquire.ensures)
 
 pub returns-in-8 : goal.returns-in-8
 unfolding kinds_of
 returns-in-8 c =
-    rw ((right-at (goal.at.returns-in-8 c).Else-number-ne0).1, c.in-8.is) c.read_authority.ensures
+    rw ((right-at (goal.at.returns-in-8 c).Else-number-ne0).1, c.in-8.is)
+    (read-or_number M.Authority _ _ c.map_or_else.ensures ∙ c.read_authority.ensures)
 
 pub returns-in-9 : goal.returns-in-9
 unfolding kinds_of in_part
 returns-in-9 c =
-    rw ((right-at (goal.at.returns-in-9 c).Else-number-ne0).1, c.in-9.is) c.read_ack.ensures
+    rw ((right-at (goal.at.returns-in-9 c).Else-number-ne0).1, c.in-9.is)
+    (read-or_six M.Ack _ _ c.map_or-in-9.ensures ∙ c.read_ack.ensures)
 
 pub returns-in-11 : goal.returns-in-11
 unfolding kinds_of in_part
 returns-in-11 c =
-    rw ((right-at (goal.at.returns-in-11 c).Else-number-ne0).1, c.in-11.is) c.read_lookup.ensures
+    rw ((right-at (goal.at.returns-in-11 c).Else-number-ne0).1, c.in-11.is)
+    (read-or_six M.Lookup _ _ c.map_or-in-11.ensures ∙ c.read_lookup.ensures)
 
 pub returns-in_default : goal.returns-in_default
 unfolding incoming_of kinds_of

@@ -8,11 +8,11 @@ use Rattle.carried.specs.Take.{taken_by}
 use Rattle.carried.proofs.CarryLaws.{unpack_fine, payload-there, none-taken, some-taken}
 use Rattle.carried.proofs.payload.take_reading.Goals as goal
 
-pub overflow_add-start : goal.overflow_add-start
-overflow_add-start c = omega (arith, payload-there _ _ (λ i. omega (arith, c.type_inv.d i)) _ c.requires _ _ c.in-Here.is)
+pub overflow_add-place : goal.overflow_add-place
+overflow_add-place c = omega (arith, payload-there _ _ (λ i. omega (arith, c.type_inv.d i)) _ c.requires _ _ c.in-Some.is)
 
 pub slice_bounds-unpack-end : goal.slice_bounds-unpack-end
-slice_bounds-unpack-end c = payload-there _ _ (λ i. omega (arith, c.type_inv.d i)) _ c.requires _ _ c.in-Here.is
+slice_bounds-unpack-end c = payload-there _ _ (λ i. omega (arith, c.type_inv.d i)) _ c.requires _ _ c.in-Some.is
 
 pub shown-requires : goal.shown-requires
 shown-requires c = λ r e. unpack_fine _ r (sym c.unpack.ensures ∙ e)
@@ -22,8 +22,8 @@ returns-in_default c = c.nothing.ensures ∙ none-taken _ _ (λ i. omega (arith,
 
 pub returns : goal.returns
 returns c =
-    let s = c.in-Here.start in
-    let l = c.in-Here.len in
+    let s = c.in-Some.place.start in
+    let l = c.in-Some.place.len in
     let z : s + l - s ≡ l = omega arith in
     c.shown.ensures ∙ ap taken_by (c.unpack.ensures ∙ ap (λ (n : ℕ). unpack_of (take n (drop s c.args.d.now))) z)
-    ∙ some-taken _ _ (λ i. omega (arith, c.type_inv.d i)) _ c.requires s l c.in-Here.is
+    ∙ some-taken _ _ (λ i. omega (arith, c.type_inv.d i)) _ c.requires s l c.in-Some.is

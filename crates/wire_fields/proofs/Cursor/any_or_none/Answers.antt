@@ -8,7 +8,7 @@ pub returns-in-Whole : goal.returns-in-Whole
 unfolding has_shape
 returns-in-Whole c =
     let a = c.args in
-    maybe-good a.d.now a.self.at a.number a.padded Any _ c.span.ensures _ _ _ c.in-Whole.is refl
+    maybe-good a.d.now a.self.at a.number a.padded Any _ c.span.ensures _ _ c.in-Whole.is refl
 
 pub returns-in-Other : goal.returns-in-Other
 returns-in-Other c =

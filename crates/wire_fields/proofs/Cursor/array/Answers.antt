@@ -11,7 +11,7 @@ pub is_array-requires : goal.is_array-requires
 is_array-requires c =
     let a = c.args in
     let f =
-    span_fits a.d.now a.self.at a.number false _ _ _
+    span_fits a.d.now a.self.at a.number false _ _
     (sym c.span.ensures ∙ c.in-Whole.is) in
     omega arith
 
@@ -20,7 +20,7 @@ unfolding has_shape
 returns-then-is_array c =
     let a = c.args in
     need-good a.d.now a.self.at a.number false (Array a.element a.size a.least a.most) _
-    c.span.ensures _ _ _ c.in-Whole.is
+    c.span.ensures _ _ c.in-Whole.is
     (sym c.is_array.ensures ∙ c.if-is_array.true)
 
 pub returns-else-is_array : goal.returns-else-is_array
@@ -28,7 +28,7 @@ unfolding has_shape
 returns-else-is_array c =
     let a = c.args in
     need-bad a.d.now a.self.at a.number false (Array a.element a.size a.least a.most) _ c.span.ensures
-    _ _ _ c.in-Whole.is
+    _ _ c.in-Whole.is
     (sym c.is_array.ensures ∙ c.if-is_array.false)
 
 pub returns-in-Other : goal.returns-in-Other

@@ -11,7 +11,7 @@ pub is_lookup-requires : goal.is_lookup-requires
 is_lookup-requires c =
     let a = c.args in
     let f =
-    span_fits a.d.now a.self.at 0x45 false _ _ _
+    span_fits a.d.now a.self.at 0x45 false _ _
     (sym c.span.ensures ∙ c.in-Whole.is) in
     omega arith
 
@@ -19,14 +19,14 @@ pub returns-then-is_lookup : goal.returns-then-is_lookup
 unfolding has_shape
 returns-then-is_lookup c =
     let a = c.args in
-    need-good a.d.now a.self.at 0x45 false Lookup _ c.span.ensures _ _ _ c.in-Whole.is
+    need-good a.d.now a.self.at 0x45 false Lookup _ c.span.ensures _ _ c.in-Whole.is
     (sym c.is_lookup.ensures ∙ c.if-is_lookup.true)
 
 pub returns-else-is_lookup : goal.returns-else-is_lookup
 unfolding has_shape
 returns-else-is_lookup c =
     let a = c.args in
-    need-bad a.d.now a.self.at 0x45 false Lookup _ c.span.ensures _ _ _ c.in-Whole.is
+    need-bad a.d.now a.self.at 0x45 false Lookup _ c.span.ensures _ _ c.in-Whole.is
     (sym c.is_lookup.ensures ∙ c.if-is_lookup.false)
 
 pub returns-in-Other : goal.returns-in-Other

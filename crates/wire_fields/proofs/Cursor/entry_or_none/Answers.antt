@@ -11,7 +11,7 @@ pub is_entry-requires : goal.is_entry-requires
 is_entry-requires c =
     let a = c.args in
     let f =
-    span_fits a.d.now a.self.at 0x9A true _ _ _
+    span_fits a.d.now a.self.at 0x9A true _ _
     (sym c.span.ensures ∙ c.in-Whole.is) in
     omega arith
 
@@ -19,14 +19,14 @@ pub returns-then-is_entry : goal.returns-then-is_entry
 unfolding has_shape
 returns-then-is_entry c =
     let a = c.args in
-    maybe-good a.d.now a.self.at 0x9A true Entry _ c.span.ensures _ _ _ c.in-Whole.is
+    maybe-good a.d.now a.self.at 0x9A true Entry _ c.span.ensures _ _ c.in-Whole.is
     (sym c.is_entry.ensures ∙ c.if-is_entry.true)
 
 pub returns-else-is_entry : goal.returns-else-is_entry
 unfolding has_shape
 returns-else-is_entry c =
     let a = c.args in
-    maybe-bad a.d.now a.self.at 0x9A true Entry _ c.span.ensures _ _ _ c.in-Whole.is
+    maybe-bad a.d.now a.self.at 0x9A true Entry _ c.span.ensures _ _ c.in-Whole.is
     (sym c.is_entry.ensures ∙ c.if-is_entry.false)
 
 pub returns-in-Other : goal.returns-in-Other

@@ -11,7 +11,7 @@ pub is_split-requires : goal.is_split-requires
 is_split-requires c =
     let a = c.args in
     let f =
-    span_fits a.d.now a.self.at 0x98 false _ _ _
+    span_fits a.d.now a.self.at 0x98 false _ _
     (sym c.span.ensures ∙ c.in-Whole.is) in
     omega arith
 
@@ -19,14 +19,14 @@ pub returns-then-is_split : goal.returns-then-is_split
 unfolding has_shape
 returns-then-is_split c =
     let a = c.args in
-    need-good a.d.now a.self.at 0x98 false Split _ c.span.ensures _ _ _ c.in-Whole.is
+    need-good a.d.now a.self.at 0x98 false Split _ c.span.ensures _ _ c.in-Whole.is
     (sym c.is_split.ensures ∙ c.if-is_split.true)
 
 pub returns-else-is_split : goal.returns-else-is_split
 unfolding has_shape
 returns-else-is_split c =
     let a = c.args in
-    need-bad a.d.now a.self.at 0x98 false Split _ c.span.ensures _ _ _ c.in-Whole.is
+    need-bad a.d.now a.self.at 0x98 false Split _ c.span.ensures _ _ c.in-Whole.is
     (sym c.is_split.ensures ∙ c.if-is_split.false)
 
 pub returns-in-Other : goal.returns-in-Other

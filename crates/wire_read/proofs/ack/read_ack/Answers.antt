@@ -9,43 +9,47 @@ use Rattle.wire_fields.proofs.RefusalLaws.{need-four, sized_four}
 use Rattle.wire_read.specs.Answers.{incoming_of}
 use Rattle.wire_read.proofs.ack.read_ack.Goals as goal
 
-pub returns-in_default : goal.returns-in_default
+pub returns-in_err-acked : goal.returns-in_err-acked
 unfolding incoming_of fields_as joined_fields sized places_at
-returns-in_default c =
-    rw (sym c.fixed.ensures ∙ c.in_default.is)
-
-pub returns-in_default-fixed_or_none : goal.returns-in_default-fixed_or_none
-unfolding incoming_of fields_as joined_fields sized places_at
-returns-in_default-fixed_or_none c =
+returns-in_err-acked c =
     rw (
-      sym c.fixed.ensures ∙ c.in-Field.is,
-      sym c.fixed_or_none.ensures ∙ c.in_default-fixed_or_none.is,
+      c.from_residual.ensures,
+      sym c.fixed.ensures ∙ c.in_err-acked.was,
+    )
+
+pub returns-in_err-flags : goal.returns-in_err-flags
+unfolding incoming_of fields_as joined_fields sized places_at
+returns-in_err-flags c =
+    rw (
+      c.from_residual-in_err-flags.ensures,
+      sym c.fixed.ensures ∙ c.in_ok-acked.was,
+      sym c.fixed_or_none.ensures ∙ c.in_err-flags.was,
     )
 
 pub returns-then-c-d : goal.returns-then-c-d
 unfolding incoming_of fields_as joined_fields sized places_at
 returns-then-c-d c =
     rw (
-      sym c.fixed.ensures ∙ c.in-Field.is,
-      sym c.fixed_or_none.ensures ∙ c.in-Taken.is,
+      sym c.fixed.ensures ∙ c.in_ok-acked.was,
+      sym c.fixed_or_none.ensures ∙ c.in_ok-flags.was,
       ne_eqb _ _ c.if-c-d.true,
     )
 
 pub read_u32-requires : goal.read_u32-requires
 read_u32-requires c =
-    let q = need-four c.args.d.now _ _ _ (Sized 4) sized_four _ _ _
-    (sym c.fixed.ensures ∙ c.in-Field.is) in
+    let q = need-four c.args.d.now _ _ _ (Sized 4) sized_four _ _
+    (sym c.fixed.ensures ∙ c.in_ok-acked.was) in
     omega (arith, q.0, q.1)
 
 pub returns : goal.returns
 unfolding incoming_of fields_as joined_fields sized places_at
 returns c =
     rw (
-      sym c.fixed.ensures ∙ c.in-Field.is,
-      sym c.fixed_or_none.ensures ∙ c.in-Taken.is,
+      sym c.fixed.ensures ∙ c.in_ok-acked.was,
+      sym c.fixed_or_none.ensures ∙ c.in_ok-flags.was,
       eq-eqb _ _ c.if-c-d.false,
       c.head.ensures,
       c.read_u32.ensures,
-      c.is_here.ensures,
+      c.is_some.ensures,
       c.flag_in.ensures,
     )

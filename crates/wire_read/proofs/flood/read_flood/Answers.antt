@@ -8,71 +8,79 @@ use Rattle.wire_read.specs.Answers.{incoming_of}
 use Rattle.wire_read.proofs.ReaderLaws.{present_value}
 use Rattle.wire_read.proofs.flood.read_flood.Goals as goal
 
-pub returns-in_default : goal.returns-in_default
+pub returns-in_err-controls : goal.returns-in_err-controls
 unfolding incoming_of fields_as joined_fields sized places_at
-returns-in_default c =
-    rw (sym c.fixed.ensures ∙ c.in_default.is)
-
-pub returns-in_default-fixed : goal.returns-in_default-fixed
-unfolding incoming_of fields_as joined_fields sized places_at
-returns-in_default-fixed c =
+returns-in_err-controls c =
     rw (
-      sym c.fixed.ensures ∙ c.in-Field.is,
-      sym c.fixed-2.ensures ∙ c.in_default-fixed.is,
+      c.from_residual.ensures,
+      sym c.fixed.ensures ∙ c.in_err-controls.was,
     )
 
-pub returns-in_default-any_or_none : goal.returns-in_default-any_or_none
+pub returns-in_err-validate : goal.returns-in_err-validate
 unfolding incoming_of fields_as joined_fields sized places_at
-returns-in_default-any_or_none c =
+returns-in_err-validate c =
     rw (
-      sym c.fixed.ensures ∙ c.in-Field.is,
-      sym c.fixed-2.ensures ∙ c.in-Field-fixed.is,
-      sym c.any_or_none.ensures ∙ c.in_default-any_or_none.is,
+      c.from_residual-in_err-validate.ensures,
+      sym c.fixed.ensures ∙ c.in_ok-controls.was,
+      sym c.fixed-2.ensures ∙ c.in_err-validate.was,
     )
 
-pub returns-in_default-any_or_none-2 : goal.returns-in_default-any_or_none-2
+pub returns-in_err-token : goal.returns-in_err-token
 unfolding incoming_of fields_as joined_fields sized places_at
-returns-in_default-any_or_none-2 c =
+returns-in_err-token c =
     rw (
-      sym c.fixed.ensures ∙ c.in-Field.is,
-      sym c.fixed-2.ensures ∙ c.in-Field-fixed.is,
-      sym c.any_or_none.ensures ∙ c.in-Taken.is,
-      sym c.any_or_none-2.ensures ∙ c.in_default-any_or_none-2.is,
+      c.from_residual-in_err-token.ensures,
+      sym c.fixed.ensures ∙ c.in_ok-controls.was,
+      sym c.fixed-2.ensures ∙ c.in_ok-validate.was,
+      sym c.any_or_none.ensures ∙ c.in_err-token.was,
     )
 
-pub returns-in_default-entry_or_none : goal.returns-in_default-entry_or_none
+pub returns-in_err-revoke : goal.returns-in_err-revoke
 unfolding incoming_of fields_as joined_fields sized places_at
-returns-in_default-entry_or_none c =
+returns-in_err-revoke c =
     rw (
-      sym c.fixed.ensures ∙ c.in-Field.is,
-      sym c.fixed-2.ensures ∙ c.in-Field-fixed.is,
-      sym c.any_or_none.ensures ∙ c.in-Taken.is,
-      sym c.any_or_none-2.ensures ∙ c.in-Taken-any_or_none.is,
-      sym c.entry_or_none.ensures ∙ c.in_default-entry_or_none.is,
+      c.from_residual-in_err-revoke.ensures,
+      sym c.fixed.ensures ∙ c.in_ok-controls.was,
+      sym c.fixed-2.ensures ∙ c.in_ok-validate.was,
+      sym c.any_or_none.ensures ∙ c.in_ok-token.was,
+      sym c.any_or_none-2.ensures ∙ c.in_err-revoke.was,
     )
 
-pub returns-in_default-array_or_none : goal.returns-in_default-array_or_none
+pub returns-in_err-entry : goal.returns-in_err-entry
 unfolding incoming_of fields_as joined_fields sized places_at
-returns-in_default-array_or_none c =
+returns-in_err-entry c =
     rw (
-      sym c.fixed.ensures ∙ c.in-Field.is,
-      sym c.fixed-2.ensures ∙ c.in-Field-fixed.is,
-      sym c.any_or_none.ensures ∙ c.in-Taken.is,
-      sym c.any_or_none-2.ensures ∙ c.in-Taken-any_or_none.is,
-      sym c.entry_or_none.ensures ∙ c.in-Taken-entry_or_none.is,
-      sym c.array_or_none.ensures ∙ c.in_default-array_or_none.is,
+      c.from_residual-in_err-entry.ensures,
+      sym c.fixed.ensures ∙ c.in_ok-controls.was,
+      sym c.fixed-2.ensures ∙ c.in_ok-validate.was,
+      sym c.any_or_none.ensures ∙ c.in_ok-token.was,
+      sym c.any_or_none-2.ensures ∙ c.in_ok-revoke.was,
+      sym c.entry_or_none.ensures ∙ c.in_err-entry.was,
+    )
+
+pub returns-in_err-reached : goal.returns-in_err-reached
+unfolding incoming_of fields_as joined_fields sized places_at
+returns-in_err-reached c =
+    rw (
+      c.from_residual-in_err-reached.ensures,
+      sym c.fixed.ensures ∙ c.in_ok-controls.was,
+      sym c.fixed-2.ensures ∙ c.in_ok-validate.was,
+      sym c.any_or_none.ensures ∙ c.in_ok-token.was,
+      sym c.any_or_none-2.ensures ∙ c.in_ok-revoke.was,
+      sym c.entry_or_none.ensures ∙ c.in_ok-entry.was,
+      sym c.array_or_none.ensures ∙ c.in_err-reached.was,
     )
 
 pub returns-then-c-d : goal.returns-then-c-d
 unfolding incoming_of fields_as joined_fields sized places_at
 returns-then-c-d c =
     rw (
-      sym c.fixed.ensures ∙ c.in-Field.is,
-      sym c.fixed-2.ensures ∙ c.in-Field-fixed.is,
-      sym c.any_or_none.ensures ∙ c.in-Taken.is,
-      sym c.any_or_none-2.ensures ∙ c.in-Taken-any_or_none.is,
-      sym c.entry_or_none.ensures ∙ c.in-Taken-entry_or_none.is,
-      sym c.array_or_none.ensures ∙ c.in-Taken-array_or_none.is,
+      sym c.fixed.ensures ∙ c.in_ok-controls.was,
+      sym c.fixed-2.ensures ∙ c.in_ok-validate.was,
+      sym c.any_or_none.ensures ∙ c.in_ok-token.was,
+      sym c.any_or_none-2.ensures ∙ c.in_ok-revoke.was,
+      sym c.entry_or_none.ensures ∙ c.in_ok-entry.was,
+      sym c.array_or_none.ensures ∙ c.in_ok-reached.was,
       ne_eqb _ _ c.if-c-d.true,
     )
 
@@ -80,12 +88,12 @@ pub returns-then-not-just_one : goal.returns-then-not-just_one
 unfolding incoming_of fields_as joined_fields sized places_at
 returns-then-not-just_one c =
     rw (
-      sym c.fixed.ensures ∙ c.in-Field.is,
-      sym c.fixed-2.ensures ∙ c.in-Field-fixed.is,
-      sym c.any_or_none.ensures ∙ c.in-Taken.is,
-      sym c.any_or_none-2.ensures ∙ c.in-Taken-any_or_none.is,
-      sym c.entry_or_none.ensures ∙ c.in-Taken-entry_or_none.is,
-      sym c.array_or_none.ensures ∙ c.in-Taken-array_or_none.is,
+      sym c.fixed.ensures ∙ c.in_ok-controls.was,
+      sym c.fixed-2.ensures ∙ c.in_ok-validate.was,
+      sym c.any_or_none.ensures ∙ c.in_ok-token.was,
+      sym c.any_or_none-2.ensures ∙ c.in_ok-revoke.was,
+      sym c.entry_or_none.ensures ∙ c.in_ok-entry.was,
+      sym c.array_or_none.ensures ∙ c.in_ok-reached.was,
       eq-eqb _ _ c.if-c-d.false,
       present_value,
       present_value,
@@ -100,12 +108,12 @@ pub returns : goal.returns
 unfolding incoming_of fields_as joined_fields sized places_at
 returns c =
     rw (
-      sym c.fixed.ensures ∙ c.in-Field.is,
-      sym c.fixed-2.ensures ∙ c.in-Field-fixed.is,
-      sym c.any_or_none.ensures ∙ c.in-Taken.is,
-      sym c.any_or_none-2.ensures ∙ c.in-Taken-any_or_none.is,
-      sym c.entry_or_none.ensures ∙ c.in-Taken-entry_or_none.is,
-      sym c.array_or_none.ensures ∙ c.in-Taken-array_or_none.is,
+      sym c.fixed.ensures ∙ c.in_ok-controls.was,
+      sym c.fixed-2.ensures ∙ c.in_ok-validate.was,
+      sym c.any_or_none.ensures ∙ c.in_ok-token.was,
+      sym c.any_or_none-2.ensures ∙ c.in_ok-revoke.was,
+      sym c.entry_or_none.ensures ∙ c.in_ok-entry.was,
+      sym c.array_or_none.ensures ∙ c.in_ok-reached.was,
       eq-eqb _ _ c.if-c-d.false,
       present_value,
       present_value,

@@ -8,4 +8,4 @@ returns-in_default c = rw c.in_default.is
 
 pub returns : goal.returns
 unfolding part_flag
-returns c = rw c.in-Here.is c.flag.ensures
+returns c = rw c.in-Some.is c.flag.ensures

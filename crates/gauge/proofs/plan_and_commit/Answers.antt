@@ -21,7 +21,7 @@ memory-of s = memory s.args.cache.now s.args.firsts.now s.args.waiting.now
 abbrev lent_of : Start → Receive
 lent_of s =
     let a = s.args in
-    receive a.own.now a.cpas.now a.major a.minor a.id a.nonce.now a.verdict a.key.now a.datagram.now a.output.now
+    receive a.own.now a.cpas.now a.head.major a.head.minor a.head.id a.nonce.now a.verdict a.key.now a.datagram.now a.output.now
 
 -- behind the test of what is handed in
 abbrev tested : Else-not-hands_fit → Start
@@ -58,7 +58,9 @@ plan_receive-plan-requires c =
 pub commit_flood-requires : goal.commit_flood-requires
 commit_flood-requires c =
     let m = (goal.at.commit_flood-requires c).After-plan_receive-plan in
-    flood-needs (memory-at m) (lent_at m) (planned m c.in-Flood.is)
+    let p = flood-needs (memory-at m) (lent_at m) (planned m c.in-Flood.is) in
+    let entry = part_lent c.in-Flood.start c.in-Flood.len (lent_at m).datagram in
+    (p.0, p.1, p.2, p.3, ap entry_form entry ∙ p.5, p.6)
 
 pub commit_revoke-requires : goal.commit_revoke-requires
 commit_revoke-requires c =
@@ -84,7 +86,20 @@ commit_cpa-requires c =
 pub commit_show-requires : goal.commit_show-requires
 commit_show-requires c =
     let m = (goal.at.commit_show-requires c).After-plan_receive-plan in
-    let all = show-needs (memory-at m) (lent_at m) (planned m c.in-Show.is) in record { used_bound = all.0; own_value = all.1 }
+    let all = show-needs (memory-at m) (lent_at m) (planned m c.in-Show.is) in
+    let d = (lent_at m).datagram in
+    let entry = part_lent c.in-Show.start c.in-Show.len d in
+    let u = all.0 in
+    let o = all.1 in
+    record {
+      used_bound = (u.0, u.1, u.2, u.3, λ opens. ap entry_form entry ∙ u.5 opens);
+      own_value = (
+        o.0,
+        o.1,
+        omega (arith, target_long c.in-Show.target d o.2),
+        ap₂ (λ (p : List ℕ) (k : ℕ). 80 + 16 * count_of (closest_past (lent_at m).own (rows 100 c.in-Show.held (memory-at m).cache) p k) + inquire_room c.in-Show.opens) (part_lent c.in-Show.path c.in-Show.size d) (target_lent c.in-Show.target d) at o.4,
+      );
+    }
 
 pub returns-in-Refuse : goal.returns-in-Refuse
 unfolding carried

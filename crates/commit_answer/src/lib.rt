@@ -91,13 +91,7 @@ pub fn commit_free(
 }
 
 // An INQUIRE: the AUTHORITY with the CPA of a place.
-pub fn commit_cpa(
-    head: Heading,
-    acked: u32,
-    cpas: &[u8],
-    at: usize,
-    output: &mut [u8],
-) -> Answer
+pub fn commit_cpa(head: Heading, acked: u32, cpas: &[u8], at: usize, output: &mut [u8]) -> Answer
     requires by_index { (n : ℕ) × (at < n) × (cpas_form n cpas.now ≡ true) }
     requires cpas_in_bounds { 40 + length (cpa_of at cpas.now) ≤ length output.old }
     ensures value { result ≡ lengths ((cpa_made head.major head.minor head.id acked (cpa_of at cpas.now)).bytes ∷ []) }

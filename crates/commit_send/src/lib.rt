@@ -33,13 +33,7 @@ fn open_flood(waiting: &mut [u8], used: usize, id: u32, key: &[u8])
 }
 
 // The FLOOD to the neighbour of a key, of the record at a place, at the output's start.
-fn send_flood(
-    output: &mut [u8],
-    head: Heading,
-    key: &[u8],
-    s: &[u8],
-    at: usize,
-) -> Answer
+fn send_flood(output: &mut [u8], head: Heading, key: &[u8], s: &[u8], at: usize) -> Answer
     requires { (length key.now ≡ 32) × (at + 100 ≤ length s.now) × (record_form (part at 100 s.now) ≡ true)
         × (flood_room (part at 100 s.now) ≤ length output.old) }
     ensures value { result
@@ -78,19 +72,7 @@ pub fn commit_send(
 {
     open_flood(waiting, used, head.id, neighbour);
     if ours {
-        return send_flood(
-            output,
-            head,
-            neighbour,
-            own,
-            record::RECORD_LEN * at,
-        );
+        return send_flood(output, head, neighbour, own, record::RECORD_LEN * at);
     }
-    send_flood(
-        output,
-        head,
-        neighbour,
-        cache,
-        record::RECORD_LEN * at,
-    )
+    send_flood(output, head, neighbour, cache, record::RECORD_LEN * at)
 }

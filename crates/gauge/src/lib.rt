@@ -52,7 +52,15 @@ fn plan_and_commit(
             start,
             len,
         } => commit_flood::commit_flood(
-            waiting, used, head, nonce, &datagram[start..start + len], silent, n, acked, opens,
+            waiting,
+            used,
+            head,
+            nonce,
+            &datagram[start..start + len],
+            silent,
+            n,
+            acked,
+            opens,
             output,
         ),
         Plan::Revoke {
@@ -62,8 +70,7 @@ fn plan_and_commit(
             n,
             acked,
         } => commit_flood::commit_revoke(
-            own, cache, firsts, held, waiting, used, key, head, silent, n, acked,
-            output,
+            own, cache, firsts, held, waiting, used, key, head, silent, n, acked, output,
         ),
         Plan::Learn { held, used, at } => {
             commit_answer::commit_learn(own, cache, firsts, held, waiting, used, at);
@@ -73,9 +80,7 @@ fn plan_and_commit(
             commit_answer::commit_free(own, cache, firsts, held, waiting, used, at, n);
             gauge_commit::answer_of(0, 0, 0)
         }
-        Plan::Certify { acked, at } => {
-            commit_answer::commit_cpa(head, acked, cpas, at, output)
-        }
+        Plan::Certify { acked, at } => { commit_answer::commit_cpa(head, acked, cpas, at, output) }
         Plan::Show {
             held,
             used,
@@ -152,12 +157,13 @@ pub fn gauge_send(
         ≡ ours (with_tables cache.now waiting.old m) (sends (send own.now major minor id
         neighbour.now key.now output.old)) }
 {
+    let head = Heading { major, minor, id };
     let room = output.len();
     let plan = plan_send::plan_send(own, cache, waiting, id, neighbour, key, room);
     match plan {
         SendPlan::Refuse(number) => gauge_commit::answer_of(number, 0, 0),
         SendPlan::Flood { used, ours, at } => commit_send::commit_send(
-            own, cache, waiting, used, Heading { major, minor, id }, neighbour, ours, at, output,
+            own, cache, waiting, used, head, neighbour, ours, at, output,
         ),
     }
 }

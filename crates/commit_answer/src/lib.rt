@@ -23,6 +23,7 @@ ghost use Rattle.gauge_commit.specs.Sending.{lengths, sending};
 ghost use Rattle.gauge_commit.specs.Replies.{inquire_written};
 
 use gauge_commit::Answer;
+use wire_sent::Heading;
 
 // An AUTHORITY: the inquiry's record goes from its place into the cache, and the place is freed.
 pub fn commit_learn(
@@ -90,23 +91,15 @@ pub fn commit_free(
 }
 
 // An INQUIRE: the AUTHORITY with the CPA of a place.
-pub fn commit_cpa(
-    major: u8,
-    minor: u8,
-    id: u32,
-    acked: u32,
-    cpas: &[u8],
-    at: usize,
-    output: &mut [u8],
-) -> Answer
+pub fn commit_cpa(head: Heading, acked: u32, cpas: &[u8], at: usize, output: &mut [u8]) -> Answer
     requires by_index { (n : ℕ) × (at < n) × (cpas_form n cpas.now ≡ true) }
     requires cpas_in_bounds { 40 + length (cpa_of at cpas.now) ≤ length output.old }
-    ensures value { result ≡ lengths ((cpa_made major minor id acked (cpa_of at cpas.now)).bytes ∷ []) }
+    ensures value { result ≡ lengths ((cpa_made head.major head.minor head.id acked (cpa_of at cpas.now)).bytes ∷ []) }
     ensures output_after { output.new
-        ≡ sending ((cpa_made major minor id acked (cpa_of at cpas.now)).bytes ∷ []) output.old }
+        ≡ sending ((cpa_made head.major head.minor head.id acked (cpa_of at cpas.now)).bytes ∷ []) output.old }
 {
     let cpa = cpas::cpa_at(cpas, at);
-    let wrote = wire_sent::write_cpa(output, major, minor, id, acked, cpa);
+    let wrote = wire_sent::write_cpa(output, head, acked, cpa);
     gauge_commit::answer_of(0, wrote.length, 0)
 }
 
@@ -115,30 +108,25 @@ fn send_closest<'a>(
     own: &'a [u8],
     cache: &'a [u8],
     held: usize,
-    major: u8,
-    minor: u8,
-    id: u32,
+    head: Heading,
     acked: u32,
-    d: &[u8],
-    target: usize,
-    path: usize,
-    size: usize,
+    target: &[u8],
+    path: &[u8],
     output: &mut [u8],
 ) -> usize
     requires { (own_form own.now ≡ true) × Form (own_keys own.now) cache.now (rows 100 held cache.now)
-        × (target + 32 ≤ length d.now) × (path + size ≤ length d.now)
-        × (80 + 16 * count_of (closest_past own.now (rows 100 held cache.now) (part path size d.now) (key_at target d.now))
+        × (32 ≤ length target.now)
+        × (80 + 16 * count_of (closest_past own.now (rows 100 held cache.now) path.now (key_at 0 target.now))
         ≤ length output.old) }
-    ensures value { (result ≡ length (closest_made major minor id acked (closest_past own.now
-        (rows 100 held cache.now) (part path size d.now) (key_at target d.now)) 0).bytes)
+    ensures value { (result ≡ length (closest_made head.major head.minor head.id acked (closest_past own.now
+        (rows 100 held cache.now) path.now (key_at 0 target.now)) 0).bytes)
         × (result < 65536) }
     ensures output_after { output.new
-        ≡ sending ((closest_made major minor id acked (closest_past own.now (rows 100 held cache.now)
-        (part path size d.now) (key_at target d.now)) 0).bytes ∷ []) output.old }
+        ≡ sending ((closest_made head.major head.minor head.id acked (closest_past own.now (rows 100 held cache.now)
+        path.now (key_at 0 target.now)) 0).bytes ∷ []) output.old }
 {
-    let end = path + size;
-    let shown = neighbours::closest(own, cache, held, &d[path..end], &d[target..target + 32]);
-    let wrote = wire_sent::write_closest(output, major, minor, id, acked, shown, 0);
+    let shown = neighbours::closest(own, cache, held, path, target);
+    let wrote = wire_sent::write_closest(output, head, acked, shown, 0);
     wrote.length
 }
 
@@ -149,47 +137,37 @@ pub fn commit_show<'a>(
     held: usize,
     waiting: &mut [u8],
     used: usize,
-    major: u8,
-    minor: u8,
-    id: u32,
+    head: Heading,
     nonce: &[u8],
     acked: u32,
-    d: &[u8],
-    target: usize,
-    path: usize,
-    size: usize,
+    target: &[u8],
+    path: &[u8],
     opens: bool,
-    start: usize,
-    len: usize,
+    entry: &[u8],
     output: &mut [u8],
 ) -> Answer
     requires used_bound { (opens ≡ true → used < 16) × (length waiting.old ≡ 2240) × Laid 140 used waiting.old
-        × (length nonce.now ≡ 16) × (start + len ≤ length d.now)
-        × (opens ≡ true → entry_form (part start len d.now) ≡ true) }
+        × (length nonce.now ≡ 16) × (opens ≡ true → entry_form entry.now ≡ true) }
     requires own_value { (own_form own.now ≡ true) × Form (own_keys own.now) cache.now (rows 100 held cache.now)
-        × (target + 32 ≤ length d.now) × (path + size ≤ length d.now)
-        × (80 + 16 * count_of (closest_past own.now (rows 100 held cache.now) (part path size d.now) (key_at target d.now))
+        × (32 ≤ length target.now)
+        × (80 + 16 * count_of (closest_past own.now (rows 100 held cache.now) path.now (key_at 0 target.now))
         + inquire_room opens ≤ length output.old) }
-    ensures value { result ≡ lengths ((closest_made major minor id acked (closest_past own.now
-        (rows 100 held cache.now) (part path size d.now) (key_at target d.now)) 0).bytes
-        ∷ inquire_written major minor id opens nonce.now (record_of (part start len d.now))) }
-    ensures waiting_after { waiting.new ≡ cond opens (bytes_of 2240 (opened (inquiry_place (id_after id)
-        (record_of (part start len d.now))) (rows 140 used waiting.old)))
+    ensures value { result ≡ lengths ((closest_made head.major head.minor head.id acked (closest_past own.now
+        (rows 100 held cache.now) path.now (key_at 0 target.now)) 0).bytes
+        ∷ inquire_written head.major head.minor head.id opens nonce.now (record_of entry.now)) }
+    ensures waiting_after { waiting.new ≡ cond opens (bytes_of 2240 (opened (inquiry_place (id_after head.id)
+        (record_of entry.now)) (rows 140 used waiting.old)))
         waiting.old }
     ensures output_after { output.new
-        ≡ sending ((closest_made major minor id acked (closest_past own.now (rows 100 held cache.now)
-        (part path size d.now) (key_at target d.now)) 0).bytes
-        ∷ inquire_written major minor id opens nonce.now (record_of (part start len d.now)))
+        ≡ sending ((closest_made head.major head.minor head.id acked (closest_past own.now (rows 100 held cache.now)
+        path.now (key_at 0 target.now)) 0).bytes
+        ∷ inquire_written head.major head.minor head.id opens nonce.now (record_of entry.now))
         output.old }
 {
-    let first = send_closest(
-        own, cache, held, major, minor, id, acked, d, target, path, size, output,
-    );
+    let first = send_closest(own, cache, held, head, acked, target, path, output);
     if !opens {
         return gauge_commit::answer_of(0, first, 0);
     }
-    commit_asking::ask(
-        waiting, used, major, minor, id, nonce, d, start, len, output, first,
-    );
+    commit_asking::ask(waiting, used, head, nonce, entry, output, first);
     gauge_commit::answer_of(0, first, asking::INQUIRE_LEN)
 }

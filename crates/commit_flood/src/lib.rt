@@ -21,25 +21,18 @@ ghost use Rattle.gauge_commit.specs.Sending.{lengths, sending};
 ghost use Rattle.gauge_commit.specs.Replies.{ack_written, inquire_written, freed_at};
 
 use gauge_commit::Answer;
+use wire_sent::Heading;
 
 // The ACK, where D is clear, at the output's start. Answers how long it is.
-fn send_ack(
-    output: &mut [u8],
-    major: u8,
-    minor: u8,
-    id: u32,
-    silent: bool,
-    acked: u32,
-    n: bool,
-) -> usize
+fn send_ack(output: &mut [u8], head: Heading, silent: bool, acked: u32, n: bool) -> usize
     requires { ack_room silent n ≤ length output.old }
     ensures value { result ≡ ack_room silent n }
-    ensures output_after { output.new ≡ sending (ack_written major minor id silent acked n) output.old }
+    ensures output_after { output.new ≡ sending (ack_written head.major head.minor head.id silent acked n) output.old }
 {
     if silent {
         return 0;
     }
-    let wrote = wire_sent::write_ack(output, major, minor, id, acked, n);
+    let wrote = wire_sent::write_ack(output, head, acked, n);
     wrote.length
 }
 
@@ -47,13 +40,9 @@ fn send_ack(
 pub fn commit_flood(
     waiting: &mut [u8],
     used: usize,
-    major: u8,
-    minor: u8,
-    id: u32,
+    head: Heading,
     nonce: &[u8],
-    d: &[u8],
-    start: usize,
-    len: usize,
+    entry: &[u8],
     silent: bool,
     n: bool,
     acked: u32,
@@ -61,24 +50,22 @@ pub fn commit_flood(
     output: &mut [u8],
 ) -> Answer
     requires { (opens ≡ true → used < 16) × (length waiting.old ≡ 2240) × Laid 140 used waiting.old
-        × (length nonce.now ≡ 16) × (start + len ≤ length d.now) × (entry_form (part start len d.now) ≡ true)
+        × (length nonce.now ≡ 16) × (entry_form entry.now ≡ true)
         × (ack_room silent n + inquire_room opens ≤ length output.old) }
-    ensures value { result ≡ lengths (ack_written major minor id silent acked n
-        ++ inquire_written major minor id opens nonce.now (record_of (part start len d.now))) }
-    ensures waiting_after { waiting.new ≡ cond opens (bytes_of 2240 (opened (inquiry_place (id_after id)
-        (record_of (part start len d.now))) (rows 140 used waiting.old)))
+    ensures value { result ≡ lengths (ack_written head.major head.minor head.id silent acked n
+        ++ inquire_written head.major head.minor head.id opens nonce.now (record_of entry.now)) }
+    ensures waiting_after { waiting.new ≡ cond opens (bytes_of 2240 (opened (inquiry_place (id_after head.id)
+        (record_of entry.now)) (rows 140 used waiting.old)))
         waiting.old }
-    ensures output_after { output.new ≡ sending (ack_written major minor id silent acked n
-        ++ inquire_written major minor id opens nonce.now (record_of (part start len d.now)))
+    ensures output_after { output.new ≡ sending (ack_written head.major head.minor head.id silent acked n
+        ++ inquire_written head.major head.minor head.id opens nonce.now (record_of entry.now))
         output.old }
 {
-    let first = send_ack(output, major, minor, id, silent, acked, n);
+    let first = send_ack(output, head, silent, acked, n);
     if !opens {
         return gauge_commit::answer_of(0, first, 0);
     }
-    commit_asking::ask(
-        waiting, used, major, minor, id, nonce, d, start, len, output, first,
-    );
+    commit_asking::ask(waiting, used, head, nonce, entry, output, first);
     if silent {
         return gauge_commit::answer_of(0, asking::INQUIRE_LEN, 0);
     }
@@ -105,9 +92,7 @@ pub fn commit_revoke(
     waiting: &mut [u8],
     used: usize,
     key: &[u8],
-    major: u8,
-    minor: u8,
-    id: u32,
+    head: Heading,
     silent: bool,
     n: bool,
     acked: u32,
@@ -117,17 +102,17 @@ pub fn commit_revoke(
         × Form (own_keys own.now) cache.old (rows 100 held cache.old) × (length waiting.old ≡ 2240)
         × Laid 140 used waiting.old × (used ≤ 16) × (ack_room silent n ≤ length output.old)
         × (firsts.old ≡ firsts_of (keys_of (rows 100 held cache.old))) }
-    ensures value { result ≡ lengths (ack_written major minor id silent acked n) }
+    ensures value { result ≡ lengths (ack_written head.major head.minor head.id silent acked n) }
     ensures cache_after { cache.new ≡ bytes_of (length cache.old)
         (after_remove (key_at 0 key.now) (rows 100 held cache.old)) }
     ensures firsts_after { firsts.new ≡ firsts_of (keys_of
         (after_remove (key_at 0 key.now) (rows 100 held cache.old))) }
     ensures waiting_after { waiting.new ≡ bytes_of 2240 (freed_at (seek (is_inquiry (key_at 0 key.now)) 0
         (rows 140 used waiting.old)) (rows 140 used waiting.old)) }
-    ensures output_after { output.new ≡ sending (ack_written major minor id silent acked n) output.old }
+    ensures output_after { output.new ≡ sending (ack_written head.major head.minor head.id silent acked n) output.old }
 {
     counted::remove(own, cache, firsts, held, key);
     free_inquiry(waiting, used, key);
-    let first = send_ack(output, major, minor, id, silent, acked, n);
+    let first = send_ack(output, head, silent, acked, n);
     gauge_commit::answer_of(0, first, 0)
 }

@@ -12,6 +12,7 @@ ghost use Rattle.plan_send.specs.Send.{record_sent, flood_room};
 ghost use Rattle.gauge_commit.specs.Sending.{lengths, sending};
 
 use gauge_commit::Answer;
+use wire_sent::Heading;
 
 // A place that waits for a neighbour's ACK opens.
 fn open_flood(waiting: &mut [u8], used: usize, id: u32, key: &[u8])
@@ -32,24 +33,16 @@ fn open_flood(waiting: &mut [u8], used: usize, id: u32, key: &[u8])
 }
 
 // The FLOOD to the neighbour of a key, of the record at a place, at the output's start.
-fn send_flood(
-    output: &mut [u8],
-    major: u8,
-    minor: u8,
-    id: u32,
-    key: &[u8],
-    s: &[u8],
-    at: usize,
-) -> Answer
+fn send_flood(output: &mut [u8], head: Heading, key: &[u8], s: &[u8], at: usize) -> Answer
     requires { (length key.now ≡ 32) × (at + 100 ≤ length s.now) × (record_form (part at 100 s.now) ≡ true)
         × (flood_room (part at 100 s.now) ≤ length output.old) }
     ensures value { result
-        ≡ lengths ((flood_made major minor id key.now (part at 100 s.now) 0).bytes ∷ []) }
+        ≡ lengths ((flood_made head.major head.minor head.id key.now (part at 100 s.now) 0).bytes ∷ []) }
     ensures output_after { output.new
-        ≡ sending ((flood_made major minor id key.now (part at 100 s.now) 0).bytes ∷ [])
+        ≡ sending ((flood_made head.major head.minor head.id key.now (part at 100 s.now) 0).bytes ∷ [])
         output.old }
 {
-    let wrote = wire_sent::write_flood(output, major, minor, id, key, s, at);
+    let wrote = wire_sent::write_flood(output, head, key, s, at);
     gauge_commit::answer_of(0, wrote.length, 0)
 }
 
@@ -59,9 +52,7 @@ pub fn commit_send(
     cache: &[u8],
     waiting: &mut [u8],
     used: usize,
-    major: u8,
-    minor: u8,
-    id: u32,
+    head: Heading,
     neighbour: &[u8],
     ours: bool,
     at: usize,
@@ -72,32 +63,16 @@ pub fn commit_send(
         × (ours ≡ false → 100 * at + 100 ≤ length cache.now)
         × (record_form (record_sent own.now cache.now ours at) ≡ true)
         × (flood_room (record_sent own.now cache.now ours at) ≤ length output.old) }
-    ensures value { result ≡ lengths ((flood_made major minor id neighbour.now
+    ensures value { result ≡ lengths ((flood_made head.major head.minor head.id neighbour.now
         (record_sent own.now cache.now ours at) 0).bytes ∷ []) }
     ensures waiting_after { waiting.new
-        ≡ bytes_of 2240 (opened (flood_place id neighbour.now) (rows 140 used waiting.old)) }
-    ensures output_after { output.new ≡ sending ((flood_made major minor id neighbour.now
+        ≡ bytes_of 2240 (opened (flood_place head.id neighbour.now) (rows 140 used waiting.old)) }
+    ensures output_after { output.new ≡ sending ((flood_made head.major head.minor head.id neighbour.now
         (record_sent own.now cache.now ours at) 0).bytes ∷ []) output.old }
 {
-    open_flood(waiting, used, id, neighbour);
+    open_flood(waiting, used, head.id, neighbour);
     if ours {
-        return send_flood(
-            output,
-            major,
-            minor,
-            id,
-            neighbour,
-            own,
-            record::RECORD_LEN * at,
-        );
+        return send_flood(output, head, neighbour, own, record::RECORD_LEN * at);
     }
-    send_flood(
-        output,
-        major,
-        minor,
-        id,
-        neighbour,
-        cache,
-        record::RECORD_LEN * at,
-    )
+    send_flood(output, head, neighbour, cache, record::RECORD_LEN * at)
 }

@@ -14,6 +14,7 @@ ghost use Rattle.gauge.specs.Converting.{conversion, conversion_of};
 use gauge_plan::Plan;
 use neighbours::Nearest;
 use plan_send::SendPlan;
+use wire_sent::Heading;
 
 // What is done with a datagram received: everything is planned before a byte is written.
 fn plan_and_commit(
@@ -22,9 +23,7 @@ fn plan_and_commit(
     cache: &mut [u8],
     firsts: &mut [u8],
     waiting: &mut [u8],
-    major: u8,
-    minor: u8,
-    id: u32,
+    head: Heading,
     nonce: &[u8],
     verdict: u32,
     key: &[u8],
@@ -33,14 +32,14 @@ fn plan_and_commit(
 ) -> gauge_commit::Answer
     ensures { handed result (memory cache.new firsts.new waiting.new) output.new
         ≡ ours (memory cache.old firsts.old waiting.old) (receives (receive
-        own.now cpas.now major minor id nonce.now verdict key.now
+        own.now cpas.now head.major head.minor head.id nonce.now verdict key.now
         datagram.now output.old)) }
 {
     if !gauge_plan::hands_fit(own, cpas, nonce, key) {
         return gauge_commit::answer_of(refusal::MEMORY, 0, 0);
     }
     let plan = plan_message::plan_receive(
-        own, cpas, cache, firsts, waiting, major, id, verdict, key, datagram, output,
+        own, cpas, cache, firsts, waiting, head.major, head.id, verdict, key, datagram, output,
     );
     match plan {
         Plan::Refuse(number) => gauge_commit::answer_of(number, 0, 0),
@@ -53,7 +52,15 @@ fn plan_and_commit(
             start,
             len,
         } => commit_flood::commit_flood(
-            waiting, used, major, minor, id, nonce, datagram, start, len, silent, n, acked, opens,
+            waiting,
+            used,
+            head,
+            nonce,
+            &datagram[start..start + len],
+            silent,
+            n,
+            acked,
+            opens,
             output,
         ),
         Plan::Revoke {
@@ -63,8 +70,7 @@ fn plan_and_commit(
             n,
             acked,
         } => commit_flood::commit_revoke(
-            own, cache, firsts, held, waiting, used, key, major, minor, id, silent, n, acked,
-            output,
+            own, cache, firsts, held, waiting, used, key, head, silent, n, acked, output,
         ),
         Plan::Learn { held, used, at } => {
             commit_answer::commit_learn(own, cache, firsts, held, waiting, used, at);
@@ -74,9 +80,7 @@ fn plan_and_commit(
             commit_answer::commit_free(own, cache, firsts, held, waiting, used, at, n);
             gauge_commit::answer_of(0, 0, 0)
         }
-        Plan::Certify { acked, at } => {
-            commit_answer::commit_cpa(major, minor, id, acked, cpas, at, output)
-        }
+        Plan::Certify { acked, at } => { commit_answer::commit_cpa(head, acked, cpas, at, output) }
         Plan::Show {
             held,
             used,
@@ -93,18 +97,13 @@ fn plan_and_commit(
             held,
             waiting,
             used,
-            major,
-            minor,
-            id,
+            head,
             nonce,
             acked,
-            datagram,
-            target,
-            path,
-            size,
+            &datagram[target..target + 32],
+            &datagram[path..path + size],
             opens,
-            start,
-            len,
+            &datagram[start..start + len],
             output,
         ),
     }
@@ -134,8 +133,9 @@ pub fn gauge_receive(
     if !own::own_form(own) {
         return gauge_commit::answer_of(refusal::MEMORY, 0, 0);
     }
+    let head = Heading { major, minor, id };
     plan_and_commit(
-        own, cpas, cache, firsts, waiting, major, minor, id, nonce, verdict, key, datagram, output,
+        own, cpas, cache, firsts, waiting, head, nonce, verdict, key, datagram, output,
     )
 }
 
@@ -157,12 +157,13 @@ pub fn gauge_send(
         ≡ ours (with_tables cache.now waiting.old m) (sends (send own.now major minor id
         neighbour.now key.now output.old)) }
 {
+    let head = Heading { major, minor, id };
     let room = output.len();
     let plan = plan_send::plan_send(own, cache, waiting, id, neighbour, key, room);
     match plan {
         SendPlan::Refuse(number) => gauge_commit::answer_of(number, 0, 0),
         SendPlan::Flood { used, ours, at } => commit_send::commit_send(
-            own, cache, waiting, used, major, minor, id, neighbour, ours, at, output,
+            own, cache, waiting, used, head, neighbour, ours, at, output,
         ),
     }
 }

@@ -4,19 +4,11 @@ ghost use Rattle.wire_write.specs.Writing.{Wrote};
 ghost use Rattle.wire_write.specs.Making.{flood_made};
 
 use crate::front::{entry_len, put_entry, put_keyed};
-use crate::{NO_ROOM, NOT_RIGHT};
+use crate::{Heading, NO_ROOM, NOT_RIGHT};
 use wire_write::Written;
 
-pub fn write_flood(
-    out: &mut [u8],
-    major: u8,
-    minor: u8,
-    id: u32,
-    key: &[u8],
-    s: &[u8],
-    at: usize,
-) -> Written
-    ensures { Wrote (flood_made major minor id key.now s.now at) out.old result out.new }
+pub fn write_flood(out: &mut [u8], head: Heading, key: &[u8], s: &[u8], at: usize) -> Written
+    ensures { Wrote (flood_made head.major head.minor head.id key.now s.now at) out.old result out.new }
 {
     if key.len() != wire_numbers::KEY_LEN {
         return NOT_RIGHT;
@@ -31,16 +23,14 @@ pub fn write_flood(
     }
     put_keyed(
         out,
-        major,
-        minor,
+        head,
         wire_numbers::FLOOD,
-        id,
         wire_numbers::FLOOD_CONTROLS,
         wire_numbers::FLOOD_CONTROLS_LEN,
         0,
         key,
     );
-    put_entry(out, 56, major, minor, s, at);
+    put_entry(out, 56, head.major, head.minor, s, at);
     Written {
         number: 0,
         length: size,

@@ -5,6 +5,7 @@ ghost use Rattle.record.specs.Record.{record_form};
 ghost use Rattle.wire_write.specs.Making.{formed_at};
 ghost use Rattle.wire_sent.specs.Fronts.{word_field, acked_front, key_front, entry_field, entry_len};
 
+use crate::Heading;
 use wire_write::{put_head, put_header};
 
 // A field of up to four bytes with its padding: a word behind its number and length.
@@ -17,30 +18,28 @@ pub(crate) fn put_word(out: &mut [u8], at: usize, number: u16, len: usize, word:
 }
 
 // ACK and AUTHORITY: header and acked ID.
-pub(crate) fn put_acked(out: &mut [u8], major: u8, minor: u8, kind: u8, id: u32, acked: u32)
+pub(crate) fn put_acked(out: &mut [u8], head: Heading, kind: u8, acked: u32)
     requires { 20 ≤ length out.old }
-    ensures { out.new ≡ splice 0 (acked_front major minor kind id acked) out.old }
+    ensures { out.new ≡ splice 0 (acked_front head.major head.minor kind head.id acked) out.old }
 {
-    put_header(out, major, minor, kind, id);
+    put_header(out, head.major, head.minor, kind, head.id);
     put_word(out, 12, wire_numbers::ACKED, wire_numbers::ACKED_LEN, acked);
 }
 
 // FLOOD and INQUIRE: header, controls or flags, validate key.
 pub(crate) fn put_keyed(
     out: &mut [u8],
-    major: u8,
-    minor: u8,
+    head: Heading,
     kind: u8,
-    id: u32,
     number: u16,
     len: usize,
     word: u32,
     key: &[u8],
 )
     requires { (56 ≤ length out.old) × (len + 4 < 65536) × (length key.now ≡ 32) }
-    ensures { out.new ≡ splice 0 (key_front major minor kind id number len word key.now) out.old }
+    ensures { out.new ≡ splice 0 (key_front head.major head.minor kind head.id number len word key.now) out.old }
 {
-    put_header(out, major, minor, kind, id);
+    put_header(out, head.major, head.minor, kind, head.id);
     put_word(out, 12, number, len, word);
     put_head(out, 20, wire_numbers::VALIDATE, wire_numbers::KEY_LEN);
     runs::copy_block::<32>(out, 24, key, 0);

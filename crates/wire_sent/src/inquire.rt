@@ -4,21 +4,14 @@ ghost use Rattle.wire_write.specs.Writing.{Wrote};
 ghost use Rattle.wire_write.specs.Making.{inquire_made};
 
 use crate::front::put_keyed;
-use crate::{NO_ROOM, NOT_RIGHT};
+use crate::{Heading, NO_ROOM, NOT_RIGHT};
 use wire_write::{Written, put_head};
 
 // The flags, with their padding: A alone is set, by which an INQUIRE asks for a CPA.
 const ASKS_CPA: u32 = 0x0010_0000;
 
-pub fn write_inquire(
-    out: &mut [u8],
-    major: u8,
-    minor: u8,
-    id: u32,
-    key: &[u8],
-    nonce: &[u8],
-) -> Written
-    ensures { Wrote (inquire_made major minor id key.now nonce.now) out.old result out.new }
+pub fn write_inquire(out: &mut [u8], head: Heading, key: &[u8], nonce: &[u8]) -> Written
+    ensures { Wrote (inquire_made head.major head.minor head.id key.now nonce.now) out.old result out.new }
 {
     if key.len() != wire_numbers::KEY_LEN {
         return NOT_RIGHT;
@@ -31,10 +24,8 @@ pub fn write_inquire(
     }
     put_keyed(
         out,
-        major,
-        minor,
+        head,
         wire_numbers::INQUIRE,
-        id,
         wire_numbers::FLAGS,
         wire_numbers::FLAGS_LEN,
         ASKS_CPA,

@@ -40,17 +40,17 @@ answer_of-requires c =
     let w = c in
     let f = (goal.at.answer_of-requires c).After-cpa_at-cpa in
     let a = (s f).args in
-    (cpa-few a.major a.minor a.id a.acked (cpa f) (few f) (fits_in f) w.write_cpa-wrote.ensures, omega arith)
+    (cpa-few a.head.major a.head.minor a.head.id a.acked (cpa f) (few f) (fits_in f) w.write_cpa-wrote.ensures, omega arith)
 
 pub returns : goal.returns
 returns c =
     let w = c in
     let f = (goal.at.returns c).After-cpa_at-cpa in
     let a = (s f).args in
-    let made : List ℕ → List (List ℕ) = λ (b : List ℕ). (cpa_made a.major a.minor a.id a.acked b).bytes ∷ [] in record {
+    let made : List ℕ → List (List ℕ) = λ (b : List ℕ). (cpa_made a.head.major a.head.minor a.head.id a.acked b).bytes ∷ [] in record {
       value = c.answer_of.ensures
-          ∙ ap (λ (l : ℕ). answer 0 l 0) (cpa-told a.major a.minor a.id a.acked (cpa f) (few f) (fits_in f) w.write_cpa-wrote.ensures)
+          ∙ ap (λ (l : ℕ). answer 0 l 0) (cpa-told a.head.major a.head.minor a.head.id a.acked (cpa f) (few f) (fits_in f) w.write_cpa-wrote.ensures)
           ∙ ap (λ (b : List ℕ). lengths (made b)) f.cpa_at-cpa.ensures;
-      output_after = cpa-sent a.major a.minor a.id a.acked (cpa f) (few f) (fits_in f) w.write_cpa-wrote.ensures
+      output_after = cpa-sent a.head.major a.head.minor a.head.id a.acked (cpa f) (few f) (fits_in f) w.write_cpa-wrote.ensures
           ∙ ap (λ (b : List ℕ). sending (made b) a.output.now) f.cpa_at-cpa.ensures;
     }

@@ -28,22 +28,19 @@ module _ (c : After-closest-shown) where
   recs = rows 100 s.args.held s.args.cache.now
 
   abbrev path : List ℕ
-  path = part s.args.path s.args.size s.args.d.now
+  path = s.args.path.now
 
   -- the record shown
   abbrev nearest : List ℕ
-  nearest = closest_past s.args.own.now recs path (key_at s.args.target s.args.d.now)
+  nearest = closest_past s.args.own.now recs path (key_at 0 s.args.target.now)
 
   is : c.closest-shown.result.now ≡ nearest
-  is =
-      let a = s.args in
-      c.closest-shown.ensures
-      ∙ ap₂ (λ (k : ℕ) (l : List ℕ). closest_past a.own.now recs l k) (target_lent a.target a.d.now) (part_lent a.path a.size a.d.now)
+  is = c.closest-shown.ensures
 
   formed : record_form nearest ≡ true
   formed =
       let a = s.args in
-      closest_formed (key_at a.target a.d.now) (own_keys a.own.now) a.own.now (off_path path recs) s.requires.0
+      closest_formed (key_at 0 a.target.now) (own_keys a.own.now) a.own.now (off_path path recs) s.requires.0
       (off-held path (own_keys a.own.now) recs s.requires.1.held)
 
 pub closest-shown-requires : goal.closest-shown-requires
@@ -51,7 +48,7 @@ closest-shown-requires c =
     let s = c in
     let a = s.args in
     let p = s.requires in
-    record { own_value = (p.0, omega (arith, target_long a.target a.d.now p.2)); form = p.1 }
+    record { own_value = (p.0, p.2); form = p.1 }
 
 pub returns : goal.returns
 returns c =
@@ -59,10 +56,10 @@ returns c =
     let m = (goal.at.returns c).After-closest-shown in
     let a = (s m).args in
     let w = rw (is m) at wrote.write_closest-wrote.ensures in
-    let fits = (s m).requires.4 in record {
+    let fits = (s m).requires.3 in record {
       value = (
-        closest-told a.major a.minor a.id a.acked (nearest m) (formed m) fits w,
-        closest_few a.major a.minor a.id a.acked (nearest m) (formed m) fits w,
+        closest-told a.head.major a.head.minor a.head.id a.acked (nearest m) (formed m) fits w,
+        closest_few a.head.major a.head.minor a.head.id a.acked (nearest m) (formed m) fits w,
       );
-      output_after = closest-sent a.major a.minor a.id a.acked (nearest m) (formed m) fits w;
+      output_after = closest-sent a.head.major a.head.minor a.head.id a.acked (nearest m) (formed m) fits w;
     }

@@ -8,5 +8,5 @@ returns c =
     let s = c in
     let a = s.args in
     let p = s.requires in
-    inquire-sent a.major a.minor a.id a.at a.r.now a.nonce.now a.output.now p.0 p.1 p.2
+    inquire-sent a.head.major a.head.minor a.head.id a.at a.r.now a.nonce.now a.output.now p.0 p.1 p.2
     c.write_inquire.ensures

@@ -25,10 +25,10 @@ returns-then-not-opens c =
     let s = c in
     let a = s.args in
     let p = s.requires in
-    let v = part a.start a.len a.d.now in
+    let v = a.entry.now in
     let e : a.opens ≡ false = c.if-not-opens.true in
-    let none = none-follows a.major a.minor a.id a.acked a.n a.silent a.opens a.nonce.now (record_of v) e in record {
-      value = c.answer_of.ensures ∙ acks-told a.major a.minor a.id a.acked a.n a.silent at-send-ack.send_ack-first.ensures.value
+    let none = none-follows a.head.major a.head.minor a.head.id a.acked a.n a.silent a.opens a.nonce.now (record_of v) e in record {
+      value = c.answer_of.ensures ∙ acks-told a.head.major a.head.minor a.head.id a.acked a.n a.silent at-send-ack.send_ack-first.ensures.value
           ∙ ap lengths (sym none);
       waiting_after = rw e refl;
       output_after = at-send-ack.send_ack-first.ensures.output_after ∙ ap (λ (ds : List (List ℕ)). sending ds a.output.now) (sym none);
@@ -41,8 +41,8 @@ ask-requires c =
     let a = s.args in
     let p = s.requires in
     let e : a.opens ≡ true = c.if-not-opens.false in
-    let room : ack_room a.silent a.n + 76 ≤ length a.output.now = rw e at p.6 in
-    (p.0 e, p.1, p.2, p.3, p.4, p.5, omega (arith, at-send-ack.send_ack-first.ensures.value))
+    let room : ack_room a.silent a.n + 76 ≤ length a.output.now = rw e at p.5 in
+    (p.0 e, p.1, p.2, p.3, p.4, omega (arith, at-send-ack.send_ack-first.ensures.value))
 
 pub returns-then-silent : goal.returns-then-silent
 returns-then-silent c =
@@ -52,16 +52,16 @@ returns-then-silent c =
     let s = c in
     let a = s.args in
     let p = s.requires in
-    let v = part a.start a.len a.d.now in
+    let v = a.entry.now in
     let e : a.opens ≡ true = at-if1.if-not-opens.false in
-    let long = record_long v p.5 in record {
+    let long = record_long v p.4 in record {
       value = c.answer_of-then-silent.ensures
-          ∙ alone-told a.major a.minor a.id a.acked a.n a.silent a.opens a.nonce.now (record_of v) long p.3 e
+          ∙ alone-told a.head.major a.head.minor a.head.id a.acked a.n a.silent a.opens a.nonce.now (record_of v) long p.3 e
           c.if-silent.true;
       waiting_after = rw e at-ask.ask.ensures.waiting_after;
       output_after = at-ask.ask.ensures.output_after
-          ∙ follows-sent a.major a.minor a.id a.acked a.n a.silent a.opens a.nonce.now (record_of v) long p.3 e
-          at-send-ack.send_ack-first.result a.output.now at-send-ack.send_ack-first.new.output p.6
+          ∙ follows-sent a.head.major a.head.minor a.head.id a.acked a.n a.silent a.opens a.nonce.now (record_of v) long p.3 e
+          at-send-ack.send_ack-first.result a.output.now at-send-ack.send_ack-first.new.output p.5
           at-send-ack.send_ack-first.ensures.value at-send-ack.send_ack-first.ensures.output_after;
     }
 
@@ -79,15 +79,15 @@ returns c =
     let s = c in
     let a = s.args in
     let p = s.requires in
-    let v = part a.start a.len a.d.now in
+    let v = a.entry.now in
     let e : a.opens ≡ true = at-if1.if-not-opens.false in
-    let long = record_long v p.5 in record {
+    let long = record_long v p.4 in record {
       value = c.answer_of-2.ensures
-          ∙ follows-told a.major a.minor a.id a.acked a.n a.silent a.opens a.nonce.now (record_of v) long p.3 e
+          ∙ follows-told a.head.major a.head.minor a.head.id a.acked a.n a.silent a.opens a.nonce.now (record_of v) long p.3 e
           at-send-ack.send_ack-first.ensures.value c.if-silent.false;
       waiting_after = rw e at-ask.ask.ensures.waiting_after;
       output_after = at-ask.ask.ensures.output_after
-          ∙ follows-sent a.major a.minor a.id a.acked a.n a.silent a.opens a.nonce.now (record_of v) long p.3 e
-          at-send-ack.send_ack-first.result a.output.now at-send-ack.send_ack-first.new.output p.6
+          ∙ follows-sent a.head.major a.head.minor a.head.id a.acked a.n a.silent a.opens a.nonce.now (record_of v) long p.3 e
+          at-send-ack.send_ack-first.result a.output.now at-send-ack.send_ack-first.new.output p.5
           at-send-ack.send_ack-first.ensures.value at-send-ack.send_ack-first.ensures.output_after;
     }

@@ -16,4 +16,4 @@ returns c =
     let at-free-inquiry = c in
     let at-remove = c in
     let s = c in
-    let a = s.args in record { value = c.answer_of.ensures ∙ acks-told a.major a.minor a.id a.acked a.n a.silent c.send_ack-first.ensures.value; cache_after = at-remove.remove.ensures.cache_after; firsts_after = at-remove.remove.ensures.firsts_after; waiting_after = at-free-inquiry.free_inquiry.ensures; output_after = c.send_ack-first.ensures.output_after }
+    let a = s.args in record { value = c.answer_of.ensures ∙ acks-told a.head.major a.head.minor a.head.id a.acked a.n a.silent c.send_ack-first.ensures.value; cache_after = at-remove.remove.ensures.cache_after; firsts_after = at-remove.remove.ensures.firsts_after; waiting_after = at-free-inquiry.free_inquiry.ensures; output_after = c.send_ack-first.ensures.output_after }

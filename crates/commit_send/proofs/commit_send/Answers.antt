@@ -49,7 +49,7 @@ returns-then-ours c =
     let i = (goal.at.returns-then-ours c).Then-ours in
     let o = (goal.at.returns-then-ours c).After-open_flood in
     let a = (start o).args in
-    let made : List ℕ → List (List ℕ) = λ (r : List ℕ). (flood_made a.major a.minor a.id a.neighbour.now r 0).bytes ∷ [] in record { value = f.send_flood.ensures.value ∙ ap (λ (r : List ℕ). lengths (made r)) (ours-is i); waiting_after = o.open_flood.ensures; output_after = f.send_flood.ensures.output_after ∙ ap (λ (r : List ℕ). sending (made r) a.output.now) (ours-is i) }
+    let made : List ℕ → List (List ℕ) = λ (r : List ℕ). (flood_made a.head.major a.head.minor a.head.id a.neighbour.now r 0).bytes ∷ [] in record { value = f.send_flood.ensures.value ∙ ap (λ (r : List ℕ). lengths (made r)) (ours-is i); waiting_after = o.open_flood.ensures; output_after = f.send_flood.ensures.output_after ∙ ap (λ (r : List ℕ). sending (made r) a.output.now) (ours-is i) }
 
 pub overflow_mul-at-2 : goal.overflow_mul-at-2
 overflow_mul-at-2 c =
@@ -68,4 +68,4 @@ returns c =
     let i = (goal.at.returns c).Else-ours in
     let o = (goal.at.returns c).After-open_flood in
     let a = (start o).args in
-    let made : List ℕ → List (List ℕ) = λ (r : List ℕ). (flood_made a.major a.minor a.id a.neighbour.now r 0).bytes ∷ [] in record { value = f.send_flood-2.ensures.value ∙ ap (λ (r : List ℕ). lengths (made r)) (held-is i); waiting_after = o.open_flood.ensures; output_after = f.send_flood-2.ensures.output_after ∙ ap (λ (r : List ℕ). sending (made r) a.output.now) (held-is i) }
+    let made : List ℕ → List (List ℕ) = λ (r : List ℕ). (flood_made a.head.major a.head.minor a.head.id a.neighbour.now r 0).bytes ∷ [] in record { value = f.send_flood-2.ensures.value ∙ ap (λ (r : List ℕ). lengths (made r)) (held-is i); waiting_after = o.open_flood.ensures; output_after = f.send_flood-2.ensures.output_after ∙ ap (λ (r : List ℕ). sending (made r) a.output.now) (held-is i) }

@@ -13,7 +13,7 @@ answer_of-requires c =
     let s = c in
     let a = s.args in
     let p = s.requires in (
-      flood-few a.major a.minor a.id a.key.now a.s.now a.at p.0 p.1 p.2 p.3 w.write_flood-wrote.ensures,
+      flood-few a.head.major a.head.minor a.head.id a.key.now a.s.now a.at p.0 p.1 p.2 p.3 w.write_flood-wrote.ensures,
       omega arith,
     )
 
@@ -24,7 +24,7 @@ returns c =
     let a = s.args in
     let p = s.requires in record {
       value = c.answer_of.ensures
-          ∙ ap (λ (l : ℕ). answer 0 l 0) (flood-told a.major a.minor a.id a.key.now a.s.now a.at p.0 p.1 p.2 p.3
+          ∙ ap (λ (l : ℕ). answer 0 l 0) (flood-told a.head.major a.head.minor a.head.id a.key.now a.s.now a.at p.0 p.1 p.2 p.3
           w.write_flood-wrote.ensures);
-      output_after = flood-sent a.major a.minor a.id a.key.now a.s.now a.at p.0 p.1 p.2 p.3 w.write_flood-wrote.ensures;
+      output_after = flood-sent a.head.major a.head.minor a.head.id a.key.now a.s.now a.at p.0 p.1 p.2 p.3 w.write_flood-wrote.ensures;
     }

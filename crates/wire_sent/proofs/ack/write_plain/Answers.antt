@@ -6,10 +6,10 @@ use Rattle.wire_sent.proofs.ack.write_plain.Goals as goal
 pub returns-then-out-lt20 : goal.returns-then-out-lt20
 returns-then-out-lt20 c =
     let a = c.args in
-    wrote-short (ack-plain a.major a.minor a.id a.acked) a.out.now (omega (arith, c.if-out-lt20.true))
+    wrote-short (ack-plain a.head.major a.head.minor a.head.id a.acked) a.out.now (omega (arith, c.if-out-lt20.true))
 
 pub returns : goal.returns
 returns c =
     let a = c.args in
-    wrote_right (ack-plain a.major a.minor a.id a.acked) a.out.now (omega (arith, c.if-out-lt20.false)) (omega arith)
+    wrote_right (ack-plain a.head.major a.head.minor a.head.id a.acked) a.out.now (omega (arith, c.if-out-lt20.false)) (omega arith)
     c.put_acked.ensures

@@ -5,5 +5,5 @@ use Rattle.wire_sent.proofs.authority.put_answer.Goals as goal
 pub returns : goal.returns
 returns c =
     let a = c.args in
-    answer-put a.major a.minor a.id a.acked a.size a.out.now c.requires.0 c.put_acked.ensures c.put_head.ensures
+    answer-put a.head.major a.head.minor a.head.id a.acked a.size a.out.now c.requires.0 c.put_acked.ensures c.put_head.ensures
     c.write_u16.ensures c.write_u16-2.ensures c.put_word.ensures

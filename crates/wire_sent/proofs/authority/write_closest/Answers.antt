@@ -18,7 +18,7 @@ pub returns-then-entry-eq0 : goal.returns-then-entry-eq0
 unfolding closest_made
 returns-then-entry-eq0 c =
     let a = c.args in
-    wrote-6 (closest_made a.major a.minor a.id a.acked a.s.now a.at) a.out.now
+    wrote-6 (closest_made a.head.major a.head.minor a.head.id a.acked a.s.now a.at) a.out.now
     (no-entry a.at _ a.s.now c.entry_len-entry.ensures c.if-entry-eq0.true)
 
 pub overflow_add-size : goal.overflow_add-size
@@ -27,7 +27,7 @@ overflow_add-size c = omega (arith, entry-most (there (goal.at.overflow_add-size
 pub returns-then-out-size : goal.returns-then-out-size
 returns-then-out-size c =
     let a = c.args in
-    wrote-short (closest-known (there (goal.at.returns-then-out-size c).Else-entry-eq0) a.major a.minor a.id a.acked) a.out.now (omega (arith, c.if-out-size.true))
+    wrote-short (closest-known (there (goal.at.returns-then-out-size c).Else-entry-eq0) a.head.major a.head.minor a.head.id a.acked) a.out.now (omega (arith, c.if-out-size.true))
 
 pub put_answer-requires : goal.put_answer-requires
 put_answer-requires c = (omega (arith, c.if-out-size.false), omega (arith, entry-most (there (goal.at.put_answer-requires c).Else-entry-eq0)))
@@ -42,9 +42,9 @@ returns c =
     let w = there (goal.at.returns c).Else-entry-eq0 in
     let a = c.args in
     let n = c.entry_len-entry.result in
-    let x = answer_front a.major a.minor a.id a.acked (8 + n) in
-    let y = entry_field a.major a.minor (part a.at 100 a.s.now) in
-    wrote_right (closest-known w a.major a.minor a.id a.acked) a.out.now (omega (arith, c.if-out-size.false))
+    let x = answer_front a.head.major a.head.minor a.head.id a.acked (8 + n) in
+    let y = entry_field a.head.major a.head.minor (part a.at 100 a.s.now) in
+    wrote_right (closest-known w a.head.major a.head.minor a.head.id a.acked) a.out.now (omega (arith, c.if-out-size.false))
     (omega (arith, entry-most w))
-    (next a.out.now 36 x y c.put_answer.ensures (answer_long a.major a.minor a.id a.acked (8 + n))
-    (omega (arith, c.if-out-size.false, field-long w a.major a.minor)) c.put_entry.ensures)
+    (next a.out.now 36 x y c.put_answer.ensures (answer_long a.head.major a.head.minor a.head.id a.acked (8 + n))
+    (omega (arith, c.if-out-size.false, field-long w a.head.major a.head.minor)) c.put_entry.ensures)

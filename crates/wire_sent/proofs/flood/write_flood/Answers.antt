@@ -26,14 +26,14 @@ pub returns-then-key-ne-KEY_LEN : goal.returns-then-key-ne-KEY_LEN
 unfolding flood_made
 returns-then-key-ne-KEY_LEN c =
     let a = c.args in
-    wrote-6 (flood_made a.major a.minor a.id a.key.now a.s.now a.at) a.out.now
+    wrote-6 (flood_made a.head.major a.head.minor a.head.id a.key.now a.s.now a.at) a.out.now
     (rw (ne_eqb (length a.key.now) 32 c.if-key-ne-KEY_LEN.true) refl)
 
 pub returns-then-entry-eq0 : goal.returns-then-entry-eq0
 unfolding flood_made
 returns-then-entry-eq0 c =
     let a = c.args in
-    wrote-6 (flood_made a.major a.minor a.id a.key.now a.s.now a.at) a.out.now
+    wrote-6 (flood_made a.head.major a.head.minor a.head.id a.key.now a.s.now a.at) a.out.now
     (rw (no-entry a.at _ a.s.now c.entry_len-entry.ensures c.if-entry-eq0.true) (and_false (eqb (length a.key.now) 32)))
 
 pub overflow_add-size : goal.overflow_add-size
@@ -42,7 +42,7 @@ overflow_add-size c = omega (arith, entry-most (there (goal.at.overflow_add-size
 pub returns-then-out-size : goal.returns-then-out-size
 returns-then-out-size c =
     let a = c.args in
-    wrote-short (flood_known (there (goal.at.returns-then-out-size c).Else-entry-eq0) a.major a.minor a.id a.key.now (keyed (goal.at.returns-then-out-size c).Else-entry-eq0)) a.out.now
+    wrote-short (flood_known (there (goal.at.returns-then-out-size c).Else-entry-eq0) a.head.major a.head.minor a.head.id a.key.now (keyed (goal.at.returns-then-out-size c).Else-entry-eq0)) a.out.now
     (omega (arith, c.if-out-size.true))
 
 pub put_entry-requires : goal.put_entry-requires
@@ -55,9 +55,9 @@ returns c =
     let w = there (goal.at.returns c).Else-entry-eq0 in
     let k = keyed (goal.at.returns c).Else-entry-eq0 in
     let a = c.args in
-    let x = key_front a.major a.minor 4 a.id 0x43 3 0 a.key.now in
-    let y = entry_field a.major a.minor (part a.at 100 a.s.now) in
-    wrote_right (flood_known w a.major a.minor a.id a.key.now k) a.out.now (omega (arith, c.if-out-size.false))
+    let x = key_front a.head.major a.head.minor 4 a.head.id 0x43 3 0 a.key.now in
+    let y = entry_field a.head.major a.head.minor (part a.at 100 a.s.now) in
+    wrote_right (flood_known w a.head.major a.head.minor a.head.id a.key.now k) a.out.now (omega (arith, c.if-out-size.false))
     (omega (arith, entry-most w))
-    (next a.out.now 56 x y c.put_keyed.ensures (key-long a.major a.minor 4 a.id 0x43 3 0 a.key.now k)
-    (omega (arith, c.if-out-size.false, field-long w a.major a.minor)) c.put_entry.ensures)
+    (next a.out.now 56 x y c.put_keyed.ensures (key-long a.head.major a.head.minor 4 a.head.id 0x43 3 0 a.key.now k)
+    (omega (arith, c.if-out-size.false, field-long w a.head.major a.head.minor)) c.put_entry.ensures)

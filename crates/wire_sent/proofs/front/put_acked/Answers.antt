@@ -5,4 +5,4 @@ use Rattle.wire_sent.proofs.front.put_acked.Goals as goal
 pub returns : goal.returns
 returns c =
     let a = c.args in
-    acked-put a.major a.minor a.kind a.id a.out.now c.put_header.ensures a.acked c.requires c.put_word.ensures
+    acked-put a.head.major a.head.minor a.kind a.head.id a.out.now c.put_header.ensures a.acked c.requires c.put_word.ensures

@@ -5,5 +5,5 @@ use Rattle.wire_sent.proofs.front.put_keyed.Goals as goal
 pub returns : goal.returns
 returns c =
     let a = c.args in
-    key-put a.major a.minor a.kind a.id a.out.now c.put_header.ensures a.number a.len a.word a.key.now
+    key-put a.head.major a.head.minor a.kind a.head.id a.out.now c.put_header.ensures a.number a.len a.word a.key.now
     c.requires.2 c.requires.0 c.put_word.ensures c.put_head.ensures c.copy_block.ensures

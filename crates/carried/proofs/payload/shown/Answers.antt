@@ -4,10 +4,10 @@ use Rattle.carried.specs.Take.{taken_by}
 use Rattle.carried.proofs.payload.shown.Goals as goal
 
 pub measure_allowed-requires : goal.measure_allowed-requires
-measure_allowed-requires c = c.requires _ c.in-Read.is
+measure_allowed-requires c = c.requires _ c.in-Ok.is
 
-pub returns-in-Refused : goal.returns-in-Refused
-returns-in-Refused c = c.nothing.ensures ∙ sym (ap taken_by c.in-Refused.is)
+pub returns-in-Err : goal.returns-in-Err
+returns-in-Err c = c.nothing.ensures ∙ sym (ap taken_by c.in-Err.is)
 
-pub returns-in-Read : goal.returns-in-Read
-returns-in-Read c = rw (c.measure_allowed.ensures, c.kind_of.ensures) (sym (ap taken_by c.in-Read.is))
+pub returns-in-Ok : goal.returns-in-Ok
+returns-in-Ok c = rw (c.measure_allowed.ensures, c.kind_of.ensures) (sym (ap taken_by c.in-Ok.is))

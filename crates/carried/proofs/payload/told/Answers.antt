@@ -4,4 +4,4 @@ use Prim.Native.Nat.{ℕ}
 use Rattle.carried.proofs.payload.told.Goals as goal
 
 pub returns : goal.returns
-returns c = ap (λ (n : ℕ). record { number = n; length = c.args.done.length; reading = 0 }) c.wide.ensures
+returns c = ap (λ (n : ℕ). record { number = n; length = c.args.done.length; reading = 0 }) c.from.ensures

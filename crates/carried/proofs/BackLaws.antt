@@ -12,6 +12,7 @@ use lib.Ieee.Bits.{to_bits-of_bits, of_bits-fits}
 use lib.ListN.{length, take, drop}
 use lib.Seq.{take_at}
 use borrow.Author.Tests.{eqb-true, leb-true, ltb-false, not-false}
+use Rattle.std.specs.Prelude.{Result, Ok, Err}
 use Rattle.octet.specs.Number.{Bytes}
 use Rattle.octet.proofs.TestLaws.{both_true}
 use Rattle.refusal.specs.Table.{or_refuse}
@@ -38,12 +39,8 @@ use Rattle.readings.proofs.Theorems.{reads_back}
 use Rattle.readings.specs.declared.Measured.{Measured}
 use Rattle.readings.specs.declared.Measured.TheVariants.{Depth, Fault}
 use Rattle.readings.specs.declared.Reading.{Reading}
-use Rattle.readings.specs.declared.Unpacked.{Unpacked}
-use Rattle.readings.specs.declared.Unpacked.TheVariants.{Read, Refused}
 use Rattle.readings.proofs.DepthLaws.{allowed_no_nan}
 use Rattle.carried.specs.Carry.{put, with_reading, carry_by, carry_call}
-use Rattle.carried.specs.declared.whole.Whole.{Whole}
-use Rattle.carried.specs.declared.whole.Whole.TheVariants.{Authority, Other}
 use Rattle.carried.specs.Statements.{Words, TakenBack}
 use Rattle.carried.proofs.CarryLaws.{typed, Wanted, is-refused, is-wanted, is-another, wanted_as, whole_authority, image_short, image_bytes}
 use Rattle.carried.specs.Take.{taken, taken_as, taken_by, take_by, take_call}
@@ -52,14 +49,15 @@ use Rattle.carried.specs.Whole.{whole_of}
 -- ---- a reading from numbers
 
 -- what is refused has a number
-refused_by : (a b c : Bool) (x : Reading) (n : ℕ) → cond a (Refused 1) (cond b (Refused 2) (cond c (Refused 3) (Read x))) ≡ Refused n → 0 < n
+refused_by : (a b c : Bool) (x : Reading) (n : ℕ)
+    → ◌≡◌ {A = Result Reading ℕ} (cond a (Err 1) (cond b (Err 2) (cond c (Err 3) (Ok x)))) (Err n) → 0 < n
 refused_by true b c x n e = let z : 1 ≡ n = cc in omega (arith, z)
 refused_by false true c x n e = let z : 2 ≡ n = cc in omega (arith, z)
 refused_by false false true x n e = let z : 3 ≡ n = cc in omega (arith, z)
 refused_by false false false x n e = absurd (let z : ◌≡◌ {A = ℕ} 0 1 = cc in omega arith)
 
 read_by : (a b c : Bool) (x r : Reading)
-    → cond a (Refused 1) (cond b (Refused 2) (cond c (Refused 3) (Read x))) ≡ Read r → (a ≡ false) × (b ≡ false) × (c ≡ false) × (x ≡ r)
+    → ◌≡◌ {A = Result Reading ℕ} (cond a (Err 1) (cond b (Err 2) (cond c (Err 3) (Ok x)))) (Ok r) → (a ≡ false) × (b ≡ false) × (c ≡ false) × (x ≡ r)
 read_by true b c x r e = absurd (let z : ◌≡◌ {A = ℕ} 0 1 = cc in omega arith)
 read_by false true c x r e = absurd (let z : ◌≡◌ {A = ℕ} 0 1 = cc in omega arith)
 read_by false false true x r e = absurd (let z : ◌≡◌ {A = ℕ} 0 1 = cc in omega arith)
@@ -85,7 +83,7 @@ module _ (kind measure : ℕ) (w : measure < 4294967296) where
   by_kind false true t false p q r s a b c = a-fault (eqb-true kind 2 q) (omega (arith, ltb-false 65535 measure s))
   by_kind false false t large p q r s a b c = both b refl
 
-  numbers-kept : (i o : ℕ) (r : Reading) → reading_of kind measure i o ≡ Read r
+  numbers-kept : (i o : ℕ) (r : Reading) → reading_of kind measure i o ≡ Ok r
       → (r ≡ reading (measured_as kind measure) i o) × Kept kind measure (measured_as kind measure)
   unfolding reading_of number_refusals or_refuse
   numbers-kept i o r e =
@@ -97,14 +95,14 @@ module _ (kind measure : ℕ) (w : measure < 4294967296) where
             (not-false (is_kind kind) x.1) x.2,
       )
 
-  number-refused : (i o n : ℕ) → reading_of kind measure i o ≡ Refused n → 0 < n
+  number-refused : (i o n : ℕ) → reading_of kind measure i o ≡ Err n → 0 < n
   unfolding reading_of number_refusals or_refuse
   number-refused i o n e =
       refused_by (eqb kind 2 && ltb 65535 measure) (not (is_kind kind)) (eqb kind 1 && not (allowed (of_bits binary32 measure)))
       (reading (measured_as kind measure) i o) n e
 
   -- its bytes are read as it, and it is shown by its numbers
-  taken_back : (i o : ℕ) (r : Reading) → i < 4294967296 → o < 4294967296 → reading_of kind measure i o ≡ Read r
+  taken_back : (i o : ℕ) (r : Reading) → i < 4294967296 → o < 4294967296 → reading_of kind measure i o ≡ Ok r
       → taken_by (unpack_of (image r)) ≡ taken 0 0 kind measure i o
   taken_back i o r hi ho e =
       let (same, k) = numbers-kept i o r e in
@@ -177,11 +175,11 @@ put_there m old k z =
 some_number : (n : ℕ) → (n ≡ 0 → ⊥) → 0 < n
 some_number n u = omega (arith, u)
 
-other_by : (major : ℕ) (d : List ℕ) (a : Incoming) (n : ℕ) → whole_of a ≡ Other n
+other_by : (major : ℕ) (d : List ℕ) (a : Incoming) (n : ℕ) → whole_of a ≡ Err n
     → (number_of a ≡ 0 → (m : Message) × (message_of major d a ≡ some m)) → Wanted a → 0 < n
 unfolding message_of
 other_by major d a n e acc (is-refused k q) =
-    let o : Other k ≡ Other n = sym (ap whole_of q) ∙ e in
+    let o : Err k ≡ Err n = sym (ap whole_of q) ∙ e in
     let p : k ≡ n = cc in
     some_number n (λ z.
     let (m, x) = acc (ap number_of q ∙ p ∙ z) in
@@ -192,14 +190,14 @@ other_by major d a n e acc (is-wanted m q) = absurd (let o = sym (ap whole_of q)
 other_by major d a n e acc (is-another w z t) = let o = sym w ∙ e in let p : 5 ≡ n = cc in omega (arith, p)
 
 module _ (major : ℕ) (d : List ℕ) (b : Bytes d) (kind measure i o : ℕ) (w : Words measure i o) (old : List ℕ) where
-  by_whole : (x : Whole) → whole_of (read_in d major) ≡ x → (u : Unpacked) → reading_of kind measure i o ≡ u
+  by_whole : (x : Result T.Authority ℕ) → whole_of (read_in d major) ≡ x → (u : Result Reading ℕ) → reading_of kind measure i o ≡ u
       → (carry_by major d x u old).given.number ≡ 0 → (carry_by major d x u old).given.reading ≡ 0
       → take_call major (take (carry_by major d x u old).given.length (carry_by major d x u old).output) ≡ taken 0 0 kind measure i o
   unfolding message_of
-  by_whole (Other n) e u v z q =
+  by_whole (Err n) e u v z q =
       absurd (omega (arith, z, other_by major d (read_in d major) n e (read_accepts d b major).0 (wanted_as (read_in d major))))
-  by_whole (Authority m) e (Refused n) v z q = absurd (omega (arith, q, number-refused kind measure w.0 i o n v))
-  by_whole (Authority m) e (Read r) v z q =
+  by_whole (Ok m) e (Err n) v z q = absurd (omega (arith, q, number-refused kind measure w.0 i o n v))
+  by_whole (Ok m) e (Ok r) v z q =
       let a = whole_authority (read_in d major) m e in
       let (first, short) = put_there (with_reading (was major d b m a r) r) old refl z in
       ap (take_call major) first ∙ written-taken major d b m a r short ∙ taken_back kind measure w.0 i o r w.1 w.2 v

@@ -10,6 +10,7 @@ use lib.Dec.{eqb, leb, ltb}
 use lib.Ieee.{Float, binary32, of_bits}
 use lib.ListN.{length, take}
 use borrow.Author.Tests.{leb-true}
+use Rattle.std.specs.Prelude.{Result, Ok, Err}
 use Rattle.octet.specs.Number.{Bytes, digits_le}
 use Rattle.octet.proofs.LittleLaws.{digits_le-lt}
 use Rattle.octet.proofs.TestLaws.{both_true}
@@ -40,22 +41,16 @@ use Rattle.readings.specs.Pack.{pack_of}
 use Rattle.readings.specs.Pack as P
 use Rattle.readings.specs.declared.Measured.{Measured}
 use Rattle.readings.specs.declared.Measured.TheVariants.{Depth, Fault}
-use Rattle.readings.specs.declared.Packed.{Packed}
-use Rattle.readings.specs.declared.Packed.TheVariants.{Written, Refused as Refuse}
 use Rattle.readings.proofs.PackLaws.{pack-written, length_depth, length_fault}
 use Rattle.readings.specs.declared.Reading.{Reading}
-use Rattle.readings.specs.declared.Unpacked.{Unpacked}
-use Rattle.readings.specs.declared.Unpacked.TheVariants.{Read, Refused}
 use Rattle.carried.specs.declared.Carry.{Carry}
-use Rattle.carried.specs.declared.whole.Whole.{Whole}
-use Rattle.carried.specs.declared.whole.Whole.TheVariants.{Authority, Other}
 use Rattle.carried.specs.Whole.{whole_of}
 use Rattle.carried.specs.Carry.{carry, CarryHanded, carry_handed, with_reading, carry_as, carry_by, carry_call}
 use Rattle.carried.specs.Take.{nothing, taken_by, taken_from, taken_as, take_by, take_call}
 
 -- ---- the AUTHORITY that is wanted
 
-other : {n : ℕ} {m : T.Authority} {A : Type 0} → Other n ≡ Authority m → A
+other : {n : ℕ} {m : T.Authority} {A : Type 0} → Err n ≡ Ok m → A
 other e = absurd (let z : ◌≡◌ {A = ℕ} 0 1 = cc in omega arith)
 
 -- the type of a message, 0 where there is none
@@ -67,7 +62,7 @@ typed (some m) = m.type
 pub data Wanted (a : Incoming) : Type 0 where
   is-refused : (n : ℕ) → a ≡ M.Refused n → Wanted a
   is-wanted : (m : T.Authority) → a ≡ M.Authority m → Wanted a
-  is-another : whole_of a ≡ Other 5 → number_of a ≡ 0 → ((major : ℕ) (d : List ℕ) → ¬ (typed (message_of major d a) ≡ 8)) → Wanted a
+  is-another : whole_of a ≡ Err 5 → number_of a ≡ 0 → ((major : ℕ) (d : List ℕ) → ¬ (typed (message_of major d a) ≡ 8)) → Wanted a
 
 pub wanted_as : (a : Incoming) → Wanted a
 unfolding message_of
@@ -81,31 +76,31 @@ wanted_as (M.Inquire m) = is-another refl refl (λ major d e. omega (arith, e))
 wanted_as (M.Ack m) = is-another refl refl (λ major d e. omega (arith, e))
 wanted_as (M.Lookup m) = is-another refl refl (λ major d e. omega (arith, e))
 
-pub whole_authority : (a : Incoming) (m : T.Authority) → whole_of a ≡ Authority m → a ≡ M.Authority m
+pub whole_authority : (a : Incoming) (m : T.Authority) → whole_of a ≡ Ok m → a ≡ M.Authority m
 whole_authority a m e = by (wanted_as a)
   where
     by : Wanted a → a ≡ M.Authority m
     by (is-refused n q) = other (sym (ap whole_of q) ∙ e)
-    by (is-wanted x q) = q ∙ ap M.Authority (let z : Authority x ≡ Authority m = sym (ap whole_of q) ∙ e in cc)
+    by (is-wanted x q) = q ∙ ap M.Authority (let z : Ok x ≡ Ok m = sym (ap whole_of q) ∙ e in cc)
     by (is-another w z t) = other (sym w ∙ e)
 
 -- ---- the calls, by what was read
 
 module _ (major : ℕ) (d : List ℕ) where
-  pub carry-other : (n : ℕ) (u : Unpacked) (old : List ℕ) → whole_of (read_in d major) ≡ Other n → carry_handed (carry n 0 0) old ≡ carry_call major d u old
+  pub carry-other : (n : ℕ) (u : Result Reading ℕ) (old : List ℕ) → whole_of (read_in d major) ≡ Err n → carry_handed (carry n 0 0) old ≡ carry_call major d u old
   unfolding carry_call
-  carry-other n u old e = sym (ap (λ (w : Whole). carry_by major d w u old) e)
+  carry-other n u old e = sym (ap (λ (w : Result T.Authority ℕ). carry_by major d w u old) e)
 
-  pub carry-authority : (m : T.Authority) (u : Unpacked) (old : List ℕ) → whole_of (read_in d major) ≡ Authority m
+  pub carry-authority : (m : T.Authority) (u : Result Reading ℕ) (old : List ℕ) → whole_of (read_in d major) ≡ Ok m
       → carry_as (message_of major d (M.Authority m)) u old ≡ carry_call major d u old
   unfolding carry_call
-  carry-authority m u old e = sym (ap (λ (w : Whole). carry_by major d w u old) e)
+  carry-authority m u old e = sym (ap (λ (w : Result T.Authority ℕ). carry_by major d w u old) e)
 
-  pub take-other : (n : ℕ) → whole_of (read_in d major) ≡ Other n → nothing n 0 ≡ take_call major d
+  pub take-other : (n : ℕ) → whole_of (read_in d major) ≡ Err n → nothing n 0 ≡ take_call major d
   unfolding take_call
   take-other n e = sym (ap (take_by major d) e)
 
-  pub take-authority : (m : T.Authority) → whole_of (read_in d major) ≡ Authority m
+  pub take-authority : (m : T.Authority) → whole_of (read_in d major) ≡ Ok m
       → taken_as (message_of major d (M.Authority m)) ≡ take_call major d
   unfolding take_call
   take-authority m e = sym (ap (take_by major d) e)
@@ -113,7 +108,7 @@ module _ (major : ℕ) (d : List ℕ) where
 -- ---- a reading that may be written
 
 fine_by : (a b c : Bool) (x r : Reading)
-    → cond a (Refused 1) (cond b (Refused 2) (cond c (Refused 3) (Read x))) ≡ Read r → (c ≡ false) × (x ≡ r)
+    → ◌≡◌ {A = Result Reading ℕ} (cond a (Err 1) (cond b (Err 2) (cond c (Err 3) (Ok x)))) (Ok r) → (c ≡ false) × (x ≡ r)
 fine_by true b c x r e = absurd (let z : ◌≡◌ {A = ℕ} 0 1 = cc in omega arith)
 fine_by false true c x r e = absurd (let z : ◌≡◌ {A = ℕ} 0 1 = cc in omega arith)
 fine_by false false true x r e = absurd (let z : ◌≡◌ {A = ℕ} 0 1 = cc in omega arith)
@@ -124,7 +119,7 @@ measured_fine true true d n e h = sym e
 measured_fine true false d n e h = absurd (let z : ◌≡◌ {A = Bool} true false = h in let y : ◌≡◌ {A = ℕ} 0 1 = cc in omega arith)
 measured_fine false t d n e h = refl
 
-pub reading-fine : (kind measure i o : ℕ) (r : Reading) → reading_of kind measure i o ≡ Read r → fine r.measured ≡ true
+pub reading-fine : (kind measure i o : ℕ) (r : Reading) → reading_of kind measure i o ≡ Ok r → fine r.measured ≡ true
 unfolding reading_of number_refusals or_refuse
 reading-fine kind measure i o r e =
     let d = of_bits binary32 measure in
@@ -133,11 +128,11 @@ reading-fine kind measure i o r e =
     subst (λ (x : Reading). fine x.measured ≡ true) w.1 (measured_fine (eqb kind 1) (allowed d) d measure refl w.0)
 
 -- and so may one that was read
-pub unpack_fine : (s : List ℕ) (r : Reading) → unpack_of s ≡ Read r → fine r.measured ≡ true
+pub unpack_fine : (s : List ℕ) (r : Reading) → unpack_of s ≡ Ok r → fine r.measured ≡ true
 unfolding unpack_of unpack_refusals reading_in
 unpack_fine s =
     let d = of_bits binary32 (measure_in s) in
-    or_known (λ (u : Unpacked). (r : Reading) → u ≡ Read r → fine r.measured ≡ true) Refused (unpack_refusals s) (Read (reading_in s))
+    or_known (λ (u : Result Reading ℕ). (r : Reading) → u ≡ Ok r → fine r.measured ≡ true) Err (unpack_refusals s) (Ok (reading_in s))
     (λ n r e. absurd (let z : ◌≡◌ {A = ℕ} 0 1 = cc in omega arith))
     (λ all r e.
     let same : reading_in s ≡ r = cc in
@@ -151,8 +146,8 @@ image_short (Depth d) i o = omega (arith, length_depth d i o)
 image_short (Fault n) i o = omega (arith, length_fault n i o)
 
 -- with room for 16 bytes it is written
-pub packed_sure : (r : Reading) (out left : List ℕ) (a : Packed) → fine r.measured ≡ true → length out ≡ 16 → P.pack_handed a left ≡ pack_of r out
-    → (a ≡ Written (length (image r))) × (left ≡ splice 0 (image r) out)
+pub packed_sure : (r : Reading) (out left : List ℕ) (a : Result ℕ ℕ) → fine r.measured ≡ true → length out ≡ 16 → P.pack_handed a left ≡ pack_of r out
+    → (a ≡ Ok (length (image r))) × (left ≡ splice 0 (image r) out)
 packed_sure r out left a g l e =
     let p = e ∙ sym (pack-written r out (omega (arith, l, image_short r.measured r.inflow r.outflow)) g) in
     (ap (λ (h : P.PackHanded). h.answer) p, ap (λ (h : P.PackHanded). h.out) p)
@@ -197,7 +192,7 @@ written_short m old r e =
 -- the AUTHORITY that was read, with the reading
 module _ (major : ℕ) (d : List ℕ) (b : Bytes d) (m : T.Authority) (a : read_in d major ≡ M.Authority m) where
   pub carried-as : (r : Reading) (old : List ℕ) (w : W.Written) (out v : List ℕ) → v ≡ image r → Wrote (with_payload major d m v) old w out
-      → carry_handed (carry w.number w.length 0) out ≡ carry_as (message_of major d (M.Authority m)) (Read r) old
+      → carry_handed (carry w.number w.length 0) out ≡ carry_as (message_of major d (M.Authority m)) (Ok r) old
   unfolding message_of
   carried-as r old w out v e x =
       let s = seen major d m [] in
@@ -223,27 +218,27 @@ module _ (major : ℕ) (d : List ℕ) (b : Bytes d) (m : T.Authority) (a : read_
 
   -- ---- as the code has it
 
-  pub carried-refused : (u : Unpacked) (n : ℕ) (old : List ℕ) (g : Carry) → u ≡ Refused n → g ≡ carry 0 0 n
+  pub carried-refused : (u : Result Reading ℕ) (n : ℕ) (old : List ℕ) (g : Carry) → u ≡ Err n → g ≡ carry 0 0 n
       → carry_handed g old ≡ carry_as (message_of major d (M.Authority m)) u old
   unfolding message_of
   carried-refused u n old g e q =
-      ap (λ (x : Carry). carry_handed x old) q ∙ sym (ap (λ (x : Unpacked). carry_as (message_of major d (M.Authority m)) x old) e)
+      ap (λ (x : Carry). carry_handed x old) q ∙ sym (ap (λ (x : Result Reading ℕ). carry_as (message_of major d (M.Authority m)) x old) e)
 
-  pub carried-read : (u : Unpacked) (r : Reading) (old : List ℕ) (x : CarryHanded) → u ≡ Read r
-      → x ≡ carry_as (message_of major d (M.Authority m)) (Read r) old
+  pub carried-read : (u : Result Reading ℕ) (r : Reading) (old : List ℕ) (x : CarryHanded) → u ≡ Ok r
+      → x ≡ carry_as (message_of major d (M.Authority m)) (Ok r) old
       → x ≡ carry_as (message_of major d (M.Authority m)) u old
-  carried-read u r old x e q = q ∙ sym (ap (λ (y : Unpacked). carry_as (message_of major d (M.Authority m)) y old) e)
+  carried-read u r old x e q = q ∙ sym (ap (λ (y : Result Reading ℕ). carry_as (message_of major d (M.Authority m)) y old) e)
 
 -- a reading that may be written is packed into 16 bytes
-module _ (r : Reading) (out left : List ℕ) (a : Packed) (g : fine r.measured ≡ true) (l : length out ≡ 16)
+module _ (r : Reading) (out left : List ℕ) (a : Result ℕ ℕ) (g : fine r.measured ≡ true) (l : length out ≡ 16)
     (e : P.pack_handed a left ≡ pack_of r out) where
-  pub not-refused : {A : Type 0} (n : ℕ) → a ≡ Refuse n → A
+  pub not-refused : {A : Type 0} (n : ℕ) → a ≡ Err n → A
   not-refused n q = absurd (let z = sym (packed_sure r out left a g l e).0 ∙ q in let y : ◌≡◌ {A = ℕ} 0 1 = cc in omega arith)
 
-  pub packed-length : (n : ℕ) → a ≡ Written n → n ≡ length (image r)
+  pub packed-length : (n : ℕ) → a ≡ Ok n → n ≡ length (image r)
   packed-length n q = let z = sym q ∙ (packed_sure r out left a g l e).0 in cc
 
-  pub packed-fits : (n : ℕ) → a ≡ Written n → n ≤ 16
+  pub packed-fits : (n : ℕ) → a ≡ Ok n → n ≤ 16
   packed-fits n q = omega (arith, packed-length n q, image_short r.measured r.inflow r.outflow)
 
   pub packed-left : length left ≡ 16
@@ -251,6 +246,6 @@ module _ (r : Reading) (out left : List ℕ) (a : Packed) (g : fine r.measured �
       ap length (packed_sure r out left a g l e).1
       ∙ length-splice 0 (image r) out (omega (arith, l, image_short r.measured r.inflow r.outflow)) ∙ l
 
-  pub packed-bytes : (n : ℕ) → a ≡ Written n → take n left ≡ image r
+  pub packed-bytes : (n : ℕ) → a ≡ Ok n → take n left ≡ image r
   packed-bytes n q =
       ap (λ (k : ℕ). take k left) (packed-length n q) ∙ packed_image r out left l (packed_sure r out left a g l e).1

@@ -12,6 +12,7 @@ use lib.Ieee.{binary32, of_bits}
 use lib.ListN.{length, length-append, length-drop, drop, get_or}
 use lib.Seq.{drop-append_seam}
 use borrow.Author.Tests.{eqb-true, eqb-false, ltb-true, leb-true, leb-false}
+use Rattle.std.specs.Prelude.{Result, Ok, Err}
 use Rattle.octet.specs.Number.{Bytes}
 use Rattle.refusal.specs.Table.{or_refuse}
 use Rattle.wire_fields.specs.Message.{Contents, Message}
@@ -27,10 +28,7 @@ use Rattle.readings.specs.Unpack.{unpack_of}
 use Rattle.readings.proofs.DepthLaws.{bits_outside}
 use Rattle.readings.proofs.NumberLaws.{number-depth, number-unknown, number-large, depth-outside}
 use Rattle.readings.specs.declared.Reading.{Reading}
-use Rattle.readings.specs.declared.Unpacked.{Unpacked}
-use Rattle.readings.specs.declared.Unpacked.TheVariants.{Read, Refused}
 use Rattle.carried.specs.declared.Taken.{Taken}
-use Rattle.carried.specs.declared.whole.Whole.TheVariants.{Other}
 use Rattle.carried.specs.Whole.{whole_of}
 use Rattle.carried.specs.Carry.{carry, CarryHanded, carry_handed, put, with_reading, carry_in, carry_as, carry_by, carry_call}
 use Rattle.carried.specs.Take.{nothing, taken_by, taken_from, take_call}
@@ -58,24 +56,24 @@ sees major d b = go (number_of (read_in d major)) refl
     go (suc n) e = unread (suc n) (omega arith) e
 
 -- what is found of it
-refused_whole : (a : Incoming) (n : ℕ) → 0 < n → number_of a ≡ n → whole_of a ≡ Other n
+refused_whole : (a : Incoming) (n : ℕ) → 0 < n → number_of a ≡ n → whole_of a ≡ Err n
 refused_whole a n p e = by (wanted_as a)
   where
-    by : Wanted a → whole_of a ≡ Other n
-    by (is-refused k q) = ap whole_of q ∙ ap Other (sym (ap number_of q) ∙ e)
+    by : Wanted a → whole_of a ≡ Err n
+    by (is-refused k q) = ap whole_of q ∙ ap Err (sym (ap number_of q) ∙ e)
     by (is-wanted m q) = absurd (omega (arith, ap number_of q, e, p))
     by (is-another w z t) = absurd (omega (arith, z, e, p))
 
-another_by : (major : ℕ) (d : List ℕ) (a : Incoming) (m : Message) → message_of major d a ≡ some m → ¬ (m.type ≡ 8) → Wanted a → whole_of a ≡ Other 5
+another_by : (major : ℕ) (d : List ℕ) (a : Incoming) (m : Message) → message_of major d a ≡ some m → ¬ (m.type ≡ 8) → Wanted a → whole_of a ≡ Err 5
 unfolding message_of
 another_by major d a m e t (is-refused n q) = absurd (let o = sym (ap (message_of major d) q) ∙ e in let z : ◌≡◌ {A = ℕ} 0 1 = cc in omega arith)
 another_by major d a m e t (is-wanted x q) = absurd (t (sym (ap typed (sym (ap (message_of major d) q) ∙ e))))
 another_by major d a m e t (is-another w z u) = w
 
-another_whole : (major : ℕ) (d : List ℕ) (a : Incoming) (m : Message) → message_of major d a ≡ some m → ¬ (m.type ≡ 8) → whole_of a ≡ Other 5
+another_whole : (major : ℕ) (d : List ℕ) (a : Incoming) (m : Message) → message_of major d a ≡ some m → ¬ (m.type ≡ 8) → whole_of a ≡ Err 5
 another_whole major d a m e t = another_by major d a m e t (wanted_as a)
 
-authority_by : (major : ℕ) (d : List ℕ) (a : Incoming) (m : Message) (u : Unpacked) (old : List ℕ) → message_of major d a ≡ some m → m.type ≡ 8
+authority_by : (major : ℕ) (d : List ℕ) (a : Incoming) (m : Message) (u : Result Reading ℕ) (old : List ℕ) → message_of major d a ≡ some m → m.type ≡ 8
     → Wanted a → carry_by major d (whole_of a) u old ≡ carry_in m u old
 unfolding message_of
 authority_by major d a m u old e t (is-refused n q) = absurd (omega (arith, ap typed (sym (ap (message_of major d) q) ∙ e), t))
@@ -88,7 +86,7 @@ authority_by major d a m u old e t (is-another w z v) = absurd (v major d (ap ty
 module _ (kind measure i o : ℕ) where
   applies-by : (one two large good : Bool) → eqb kind 1 ≡ one → eqb kind 2 ≡ two → ltb 65535 measure ≡ large
       → allowed (of_bits binary32 measure) ≡ good → (x : Reading) (n : ℕ)
-      → cond (two && large) (Refused 1) (cond (not (one || two)) (Refused 2) (cond (one && not good) (Refused 3) (Read x))) ≡ Refused n
+      → ◌≡◌ {A = Result Reading ℕ} (cond (two && large) (Err 1) (cond (not (one || two)) (Err 2) (cond (one && not good) (Err 3) (Ok x)))) (Err n)
       → ReadingApplies kind measure n
   applies-by one true true good p q r s x n e = let z : n ≡ 1 = cc in too_large z (eqb-true kind 2 q) (ltb-true 65535 measure r)
   applies-by true true false true p q r s x n e = absurd (let z : ◌≡◌ {A = ℕ} 0 1 = cc in omega arith)
@@ -98,7 +96,7 @@ module _ (kind measure i o : ℕ) where
   applies-by true false large false p q r s x n e = let z : n ≡ 3 = cc in outside z (eqb-true kind 1 p) s
   applies-by false false large good p q r s x n e = let z : n ≡ 2 = cc in unknown-kind z (eqb-false kind 1 p) (eqb-false kind 2 q)
 
-  reading-applies : (n : ℕ) → reading_of kind measure i o ≡ Refused n → ReadingApplies kind measure n
+  reading-applies : (n : ℕ) → reading_of kind measure i o ≡ Err n → ReadingApplies kind measure n
   unfolding reading_of number_refusals or_refuse
   reading-applies n e =
       applies-by (eqb kind 1) (eqb kind 2) (ltb 65535 measure) (allowed (of_bits binary32 measure)) refl refl refl refl
@@ -109,11 +107,11 @@ module _ (kind measure i o : ℕ) where
   applies-some n (unknown-kind z a b) = omega (arith, z)
   applies-some n (outside z k g) = omega (arith, z)
 
-  reading-refused : (n : ℕ) → ReadingApplies kind measure n → reading_of kind measure i o ≡ Refused n
-  reading-refused n (too_large z k h) = sym (number-large kind measure i o k h) ∙ ap Refused (sym z)
-  reading-refused n (unknown-kind z a b) = sym (number-unknown kind measure i o a b) ∙ ap Refused (sym z)
+  reading-refused : (n : ℕ) → ReadingApplies kind measure n → reading_of kind measure i o ≡ Err n
+  reading-refused n (too_large z k h) = sym (number-large kind measure i o k h) ∙ ap Err (sym z)
+  reading-refused n (unknown-kind z a b) = sym (number-unknown kind measure i o a b) ∙ ap Err (sym z)
   reading-refused n (outside z k g) =
-      sym (depth-outside measure i o (sym (bits_outside measure g)) ∙ number-depth kind measure i o k) ∙ ap Refused (sym z)
+      sym (depth-outside measure i o (sym (bits_outside measure g)) ∙ number-depth kind measure i o k) ∙ ap Err (sym z)
 
 -- ---- what is put
 
@@ -151,19 +149,19 @@ not-fit b old t = go t (fit_is b old)
 -- ---- a call to carry
 
 -- how it ends
-data Ends (major : ℕ) (d : List ℕ) (u : Unpacked) (old : List ℕ) (h : CarryHanded) : Type 0 where
+data Ends (major : ℕ) (d : List ℕ) (u : Result Reading ℕ) (old : List ℕ) (h : CarryHanded) : Type 0 where
   not-read : (n : ℕ) → 0 < n → Unread major d n → h ≡ carry_handed (carry n 0 0) old → Ends major d u old h
   not-authority : (m : Message) → ReadsAs major d m → ¬ (m.type ≡ 8) → h ≡ carry_handed (carry 5 0 0) old → Ends major d u old h
-  not-reading : (m : Message) → IsAuthority major d m → (n : ℕ) → u ≡ Refused n → h ≡ carry_handed (carry 0 0 n) old → Ends major d u old h
-  no_room : (m : Message) → IsAuthority major d m → (r : Reading) → u ≡ Read r → TooLong old m r → h ≡ carry_handed (carry 15 0 0) old
+  not-reading : (m : Message) → IsAuthority major d m → (n : ℕ) → u ≡ Err n → h ≡ carry_handed (carry 0 0 n) old → Ends major d u old h
+  no_room : (m : Message) → IsAuthority major d m → (r : Reading) → u ≡ Ok r → TooLong old m r → h ≡ carry_handed (carry 15 0 0) old
       → Ends major d u old h
-  done : (m : Message) → IsAuthority major d m → (r : Reading) → u ≡ Read r → length (with_reading m r).bytes ≤ length old
+  done : (m : Message) → IsAuthority major d m → (r : Reading) → u ≡ Ok r → length (with_reading m r).bytes ≤ length old
       → length (with_reading m r).bytes ≤ 1232
       → h ≡ carry_handed (carry 0 (length (with_reading m r).bytes) 0) ((with_reading m r).bytes ++ drop (length (with_reading m r).bytes) old)
       → Ends major d u old h
 
 module _ (major : ℕ) (d : List ℕ) (b : Bytes d) where
-  module _ (u : Unpacked) (old : List ℕ) where
+  module _ (u : Result Reading ℕ) (old : List ℕ) where
     unread-is : (n : ℕ) → 0 < n → number_of (read_in d major) ≡ n → carry_call major d u old ≡ carry_handed (carry n 0 0) old
     unread-is n p e = sym (carry-other major d n u old (refused_whole (read_in d major) n p e))
 
@@ -175,13 +173,13 @@ module _ (major : ℕ) (d : List ℕ) (b : Bytes d) where
     authority-is m e t = authority_by major d (read_in d major) m u old e t (wanted_as (read_in d major))
 
     -- an AUTHORITY, with a reading or with none
-    put-ends : (m : Message) → IsAuthority major d m → carry_call major d u old ≡ carry_in m u old → (x : Unpacked) → u ≡ x
+    put-ends : (m : Message) → IsAuthority major d m → carry_call major d u old ≡ carry_in m u old → (x : Result Reading ℕ) → u ≡ x
         → Ends major d u old (carry_call major d u old)
-    put-ends m a e (Refused n) q = not-reading m a n q (e ∙ ap (λ (y : Unpacked). carry_in m y old) q)
-    put-ends m a e (Read r) q = go (fit_is (with_reading m r).bytes old)
+    put-ends m a e (Err n) q = not-reading m a n q (e ∙ ap (λ (y : Result Reading ℕ). carry_in m y old) q)
+    put-ends m a e (Ok r) q = go (fit_is (with_reading m r).bytes old)
       where
         is : carry_call major d u old ≡ put (with_reading m r) old
-        is = e ∙ ap (λ (y : Unpacked). carry_in m y old) q
+        is = e ∙ ap (λ (y : Result Reading ℕ). carry_in m y old) q
 
         go : ((fit (with_reading m r).bytes old ≡ true) × (length (with_reading m r).bytes ≤ length old) × (length (with_reading m r).bytes ≤ 1232))
             ⊎ ((fit (with_reading m r).bytes old ≡ false) × TooLong old m r) → Ends major d u old (carry_call major d u old)
@@ -204,7 +202,7 @@ abbrev answered : CarryHanded → ℕ
 answered h = h.given.reading
 
 module _ (major : ℕ) (d : List ℕ) (b : Bytes d) (kind measure i o : ℕ) (old : List ℕ) where
-  abbrev u : Unpacked
+  abbrev u : Result Reading ℕ
   u = reading_of kind measure i o
 
   abbrev h : CarryHanded
@@ -222,7 +220,7 @@ module _ (major : ℕ) (d : List ℕ) (b : Bytes d) (kind measure i o : ℕ) (ol
   number-to n p (inr (inl (z, (m, w, t)))) = ap numbered (another-is major d b u old m ((read_gives d b major m).1 w) t) ∙ sym z
   number-to n p (inr (inr (z, (m, r, a, q, t)))) =
       ap numbered
-      (authority-is major d b u old m ((read_gives d b major m).1 a.0) a.1 ∙ ap (λ (y : Unpacked). carry_in m y old) q
+      (authority-is major d b u old m ((read_gives d b major m).1 a.0) a.1 ∙ ap (λ (y : Result Reading ℕ). carry_in m y old) q
       ∙ put_full (with_reading m r) old refl (not-fit (with_reading m r).bytes old t))
       ∙ sym z
 
@@ -230,7 +228,7 @@ module _ (major : ℕ) (d : List ℕ) (b : Bytes d) (kind measure i o : ℕ) (ol
       → ((m : Message) × IsAuthority major d m) × ReadingApplies kind measure n
   reading-from n p (not-read k q w e) z = absurd (omega (arith, ap answered e, z))
   reading-from n p (not-authority m w t e) z = absurd (omega (arith, ap answered e, z))
-  reading-from n p (not-reading m a k q e) z = ((m, a), reading-applies kind measure i o n (q ∙ ap Refused (sym (ap answered e) ∙ z)))
+  reading-from n p (not-reading m a k q e) z = ((m, a), reading-applies kind measure i o n (q ∙ ap Err (sym (ap answered e) ∙ z)))
   reading-from n p (no_room m a r q t e) z = absurd (omega (arith, ap answered e, z))
   reading-from n p (done m a r q f g e) z = absurd (omega (arith, ap answered e, z))
 
@@ -238,7 +236,7 @@ module _ (major : ℕ) (d : List ℕ) (b : Bytes d) (kind measure i o : ℕ) (ol
   reading-to n ((m, a), w) =
       ap answered
       (authority-is major d b u old m ((read_gives d b major m).1 a.0) a.1
-      ∙ ap (λ (y : Unpacked). carry_in m y old) (reading-refused kind measure i o n w))
+      ∙ ap (λ (y : Result Reading ℕ). carry_in m y old) (reading-refused kind measure i o n w))
 
   one-by : Ends major d u old h → (h.given.number ≡ 0) ⊎ (h.given.reading ≡ 0)
   one-by (not-read k q w e) = inr (ap answered e)
@@ -266,7 +264,7 @@ module _ (major : ℕ) (d : List ℕ) (b : Bytes d) (kind measure i o : ℕ) (ol
   keeps-by (done m a r q f g e) = (λ p. absurd (omega (arith, ap numbered e, p)), λ p. absurd (omega (arith, ap answered e, p)))
 
   writes-by : Ends major d u old h → h.given.number ≡ 0 → h.given.reading ≡ 0
-      → (m : Message) × (r : Reading) × IsAuthority major d m × (u ≡ Read r) × (length (with_reading m r).bytes ≤ 1232)
+      → (m : Message) × (r : Reading) × IsAuthority major d m × (u ≡ Ok r) × (length (with_reading m r).bytes ≤ 1232)
       × (h ≡ carry_handed (carry 0 (length (with_reading m r).bytes) 0) ((with_reading m r).bytes ++ drop (length (with_reading m r).bytes) old))
   writes-by (not-read k p w e) z y = absurd (omega (arith, ap numbered e, z))
   writes-by (not-authority m w t e) z y = absurd (omega (arith, ap numbered e, z))
@@ -329,16 +327,16 @@ module _ (major : ℕ) (d : List ℕ) (b : Bytes d) where
     not-read : (n : ℕ) → 0 < n → Unread major d n → t ≡ nothing n 0 → Takes t
     not-authority : (m : Message) → ReadsAs major d m → ¬ (m.type ≡ 8) → t ≡ nothing 5 0 → Takes t
     none-there : t ≡ nothing 0 0 → Takes t
-    no-reading : (v : List ℕ) → Carries major d v → (n : ℕ) → unpack_of v ≡ Refused n → t ≡ nothing 0 n → Takes t
-    some-there : (v : List ℕ) → Carries major d v → (r : Reading) → unpack_of v ≡ Read r → t ≡ taken_by (Read r) → Takes t
+    no-reading : (v : List ℕ) → Carries major d v → (n : ℕ) → unpack_of v ≡ Err n → t ≡ nothing 0 n → Takes t
+    some-there : (v : List ℕ) → Carries major d v → (r : Reading) → unpack_of v ≡ Ok r → t ≡ taken_by (Ok r) → Takes t
 
   payload-takes : (m : Message) → IsAuthority major d m → (c : Contents) → get_or m.fields 6 none ≡ c → Takes (take_call major d)
   payload-takes m a none e = none-there (authority-taken m a none e)
   payload-takes m a (some v) e = go (unpack_of v) refl
     where
-      go : (x : Unpacked) → unpack_of v ≡ x → Takes (take_call major d)
-      go (Refused n) q = no-reading v (m, a, e) n q (authority-taken m a (some v) e ∙ ap taken_by q)
-      go (Read r) q = some-there v (m, a, e) r q (authority-taken m a (some v) e ∙ ap taken_by q)
+      go : (x : Result Reading ℕ) → unpack_of v ≡ x → Takes (take_call major d)
+      go (Err n) q = no-reading v (m, a, e) n q (authority-taken m a (some v) e ∙ ap taken_by q)
+      go (Ok r) q = some-there v (m, a, e) r q (authority-taken m a (some v) e ∙ ap taken_by q)
 
   takes : Takes (take_call major d)
   takes = go (sees major d b)
@@ -366,14 +364,14 @@ module _ (major : ℕ) (d : List ℕ) (b : Bytes d) where
   take-number-to n p (inr (z, (m, w, t))) = ap number_in (another-taken m ((read_gives d b major m).1 w) t) ∙ sym z
 
   take-reading-from : (n : ℕ) → 0 < n → Takes (take_call major d) → (take_call major d).reading ≡ n
-      → (v : List ℕ) × Carries major d v × (unpack_of v ≡ Refused n)
+      → (v : List ℕ) × Carries major d v × (unpack_of v ≡ Err n)
   take-reading-from n p (not-read k q w e) z = absurd (omega (arith, ap reading_in e, z))
   take-reading-from n p (not-authority m w t e) z = absurd (omega (arith, ap reading_in e, z))
   take-reading-from n p (none-there e) z = absurd (omega (arith, ap reading_in e, z))
-  take-reading-from n p (no-reading v c k q e) z = (v, c, q ∙ ap Refused (sym (ap reading_in e) ∙ z))
+  take-reading-from n p (no-reading v c k q e) z = (v, c, q ∙ ap Err (sym (ap reading_in e) ∙ z))
   take-reading-from n p (some-there v c r q e) z = absurd (omega (arith, ap reading_in e, z))
 
-  carried-is : (v : List ℕ) (x : Unpacked) → Carries major d v → unpack_of v ≡ x → take_call major d ≡ taken_by x
+  carried-is : (v : List ℕ) (x : Result Reading ℕ) → Carries major d v → unpack_of v ≡ x → take_call major d ≡ taken_by x
   carried-is v x (m, a, e) q = authority-taken m a (some v) e ∙ ap taken_by q
 
   take-refused-by : Takes (take_call major d) → 0 < (take_call major d).number → take_call major d ≡ nothing (take_call major d).number 0
@@ -395,10 +393,10 @@ take_exactly major d b = record {
   number = λ n p. (take-number-from major d b n p (takes major d b), take-number-to major d b n p);
   reading = λ n p. (
     take-reading-from major d b n p (takes major d b),
-    λ w. ap (λ (t : Taken). t.reading) (carried-is major d b w.0 (Refused n) w.1 w.2),
+    λ w. ap (λ (t : Taken). t.reading) (carried-is major d b w.0 (Err n) w.1 w.2),
   );
   refused = take-refused-by major d b (takes major d b);
   no-reading = take-none-by major d b (takes major d b);
   carries-none = λ m a e. authority-taken major d b m a none e;
-  carries-one = λ v r c q. carried-is major d b v (Read r) c q;
+  carries-one = λ v r c q. carried-is major d b v (Ok r) c q;
 }

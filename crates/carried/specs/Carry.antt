@@ -1,21 +1,18 @@
 -- To believe. An AUTHORITY with a reading as its extended payload: "a second layer above .. packs the extended payload". Document 01's number and document 02's
 -- are never mixed; where either is not 0 nothing is written and the rest is 0. Assumes nothing.
-use Rattle.std.specs.Prelude.{ℕ, List, true}
+use Rattle.std.specs.Prelude.{ℕ, List, true, Result, Ok, Err}
 use Rattle.std.proofs.Math.Option.{Option, some, none}
 use Rattle.wire_fields.specs.Kinds.{authority_kinds}
 use Rattle.wire_fields.specs.Message.{Message, layout_of, message_bytes}
 use Rattle.wire_read.specs.Answers.{read_in}
 use Rattle.wire_read.specs.Meaning.{message_of}
 use Rattle.wire_read.specs.declared.Incoming.TheVariants as M
+use Rattle.wire_read.specs.declared.messages.Authority.{Authority}
 use Rattle.wire_write.specs.Writing.{Made, write_as, write_in}
 use Rattle.wire.specs.Statements.{changed}
 use Rattle.readings.specs.Reading.{image}
 use Rattle.readings.specs.declared.Reading.{Reading}
-use Rattle.readings.specs.declared.Unpacked.{Unpacked}
-use Rattle.readings.specs.declared.Unpacked.TheVariants.{Read, Refused}
 use Rattle.carried.specs.declared.Carry.{Carry}
-use Rattle.carried.specs.declared.whole.Whole.{Whole}
-use Rattle.carried.specs.declared.whole.Whole.TheVariants.{Authority, Other}
 use Rattle.carried.specs.Whole.{whole_of}
 
 abbrev pub carry : ℕ → ℕ → ℕ → Carry
@@ -38,19 +35,19 @@ abbrev pub put : Made → List ℕ → CarryHanded
 put m old = carry_handed (carry (write_as m old).number (write_as m old).length 0) (write_in m old)
 
 -- a reading that is refused is not written
-abbrev pub carry_in : Message → Unpacked → List ℕ → CarryHanded
-carry_in m (Read r) old = put (with_reading m r) old
-carry_in m (Refused n) old = carry_handed (carry 0 0 n) old
+abbrev pub carry_in : Message → Result Reading ℕ → List ℕ → CarryHanded
+carry_in m (Ok r) old = put (with_reading m r) old
+carry_in m (Err n) old = carry_handed (carry 0 0 n) old
 
 -- into a message; an AUTHORITY that was read is one
-abbrev pub carry_as : Option Message → Unpacked → List ℕ → CarryHanded
+abbrev pub carry_as : Option Message → Result Reading ℕ → List ℕ → CarryHanded
 carry_as (some m) u old = carry_in m u old
 carry_as none u old = carry_handed (carry 5 0 0) old
 
-abbrev pub carry_by : ℕ → List ℕ → Whole → Unpacked → List ℕ → CarryHanded
-carry_by major d (Other n) u old = carry_handed (carry n 0 0) old
-carry_by major d (Authority m) u old = carry_as (message_of major d (M.Authority m)) u old
+abbrev pub carry_by : ℕ → List ℕ → Result Authority ℕ → Result Reading ℕ → List ℕ → CarryHanded
+carry_by major d (Err n) u old = carry_handed (carry n 0 0) old
+carry_by major d (Ok m) u old = carry_as (message_of major d (M.Authority m)) u old
 
 -- the whole call: the datagram's refusals first, then the reading's, then the room's
-unfoldable pub carry_call : ℕ → List ℕ → Unpacked → List ℕ → CarryHanded
+unfoldable pub carry_call : ℕ → List ℕ → Result Reading ℕ → List ℕ → CarryHanded
 carry_call major d u old = carry_by major d (whole_of (read_in d major)) u old

@@ -1,6 +1,6 @@
 -- Beside the demands. What is proved of readings carried; the theorems stand in proofs/Theorems.antt. `handed r output ≡ carry_call ..` is the contract of
 -- `gauge_carry`, `r ≡ take_call ..` that of `gauge_carried`. Assumes nothing.
-use Rattle.std.specs.Prelude.{ℕ, ◌≤◌, ◌<◌, true, false, List, ◌++◌, ◌⊎◌, ◌↔◌, ◌≡◌, length, take, drop, get_or}
+use Rattle.std.specs.Prelude.{ℕ, ◌≤◌, ◌<◌, true, false, List, ◌++◌, ◌⊎◌, ◌↔◌, ◌≡◌, length, take, drop, get_or, Result, Ok, Err}
 use Rattle.std.proofs.Math.Option.{some, none}
 use Rattle.std.specs.Float.{binary32}
 use Rattle.std.specs.Float.Ieee.{of_bits}
@@ -14,8 +14,6 @@ use Rattle.readings.specs.Reading.{kind_of, measure_of}
 use Rattle.readings.specs.Numbers.{reading_of}
 use Rattle.readings.specs.Unpack.{unpack_of}
 use Rattle.readings.specs.declared.Reading.{Reading}
-use Rattle.readings.specs.declared.Unpacked.{Unpacked}
-use Rattle.readings.specs.declared.Unpacked.TheVariants.{Read, Refused}
 use Rattle.carried.specs.Carry.{carry, carry_handed, with_reading, carry_call}
 use Rattle.carried.specs.Take.{taken, nothing, take_call}
 
@@ -52,8 +50,8 @@ Another major d n = (n ≡ 5) × ((m : Message) × ReadsAs major d m × (¬ (m.t
 abbrev pub TooLong : List ℕ → Message → Reading → Type 0
 TooLong old m r = (length old < length (with_reading m r).bytes) ⊎ (1232 < length (with_reading m r).bytes)
 
-abbrev pub CarryNoRoom : ℕ → List ℕ → Unpacked → List ℕ → ℕ → Type 0
-CarryNoRoom major d u old n = (n ≡ 15) × ((m : Message) × (r : Reading) × IsAuthority major d m × (u ≡ Read r) × TooLong old m r)
+abbrev pub CarryNoRoom : ℕ → List ℕ → Result Reading ℕ → List ℕ → ℕ → Type 0
+CarryNoRoom major d u old n = (n ≡ 15) × ((m : Message) × (r : Reading) × IsAuthority major d m × (u ≡ Ok r) × TooLong old m r)
 
 -- document 02's number of a reading handed in
 pub data ReadingApplies (kind measure n : ℕ) : Type 0 where
@@ -94,7 +92,7 @@ CarryWrites =
     (major : ℕ) (d : List ℕ) → Bytes d → (kind measure litresIn litresOut : ℕ) (old : List ℕ)
     → (let h = carry_call major d (reading_of kind measure litresIn litresOut) old in
     h.given.number ≡ 0 → h.given.reading ≡ 0
-    → (m : Message) × (r : Reading) × IsAuthority major d m × (reading_of kind measure litresIn litresOut ≡ Read r) × (length (with_reading m r).bytes ≤ 1232)
+    → (m : Message) × (r : Reading) × IsAuthority major d m × (reading_of kind measure litresIn litresOut ≡ Ok r) × (length (with_reading m r).bytes ≤ 1232)
     × (h ≡ carry_handed (carry 0 (length (with_reading m r).bytes) 0) ((with_reading m r).bytes ++ drop (length (with_reading m r).bytes) old)))
 
 -- "On acceptance the output changes only in its first bytes, as many as returned." So it is with a refusal, which returns none
@@ -113,13 +111,13 @@ Carries major d v = (m : Message) × IsAuthority major d m × (get_or m.fields 6
 pub record TakeNumbers (major : ℕ) (d : List ℕ) : Type 0 where
   pub number : (n : ℕ) → 0 < n → ((take_call major d).number ≡ n) ↔ (Unread major d n ⊎ Another major d n)
   -- what stands there is no reading, for the number that unpacking gives
-  pub reading : (n : ℕ) → 0 < n → ((take_call major d).reading ≡ n) ↔ ((v : List ℕ) × Carries major d v × (unpack_of v ≡ Refused n))
+  pub reading : (n : ℕ) → 0 < n → ((take_call major d).reading ≡ n) ↔ ((v : List ℕ) × Carries major d v × (unpack_of v ≡ Err n))
   -- with either the rest is 0
   pub refused : 0 < (take_call major d).number → take_call major d ≡ nothing (take_call major d).number 0
   pub no-reading : 0 < (take_call major d).reading → take_call major d ≡ nothing 0 (take_call major d).reading
   -- no payload; a payload that is a reading
   pub carries-none : (m : Message) → IsAuthority major d m → get_or m.fields 6 none ≡ none → take_call major d ≡ nothing 0 0
-  pub carries-one : (v : List ℕ) (r : Reading) → Carries major d v → unpack_of v ≡ Read r
+  pub carries-one : (v : List ℕ) (r : Reading) → Carries major d v → unpack_of v ≡ Ok r
       → take_call major d ≡ taken 0 0 (kind_of r.measured) (measure_of r.measured) r.inflow r.outflow
 
 abbrev pub TakeExactly : Type 0

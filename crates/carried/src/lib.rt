@@ -11,8 +11,6 @@ ghost use Rattle.readings.specs.Balance.{balance_of};
 ghost use Rattle.carried.specs.Carry.{carry_handed, carry_call};
 ghost use Rattle.carried.specs.Take.{take_call};
 
-use whole::Whole;
-
 // What writing a reading into an AUTHORITY answers: 01's number, how many bytes were written, 02's number.
 #[repr(C)]
 #[derive(Clone, Copy)]
@@ -50,12 +48,12 @@ pub fn gauge_carry(
     let message = wire_read::read(authority, major);
     let found = whole::whole_of(message);
     match found {
-        Whole::Other(number) => Carry {
+        Err(number) => Carry {
             number,
             length: 0,
             reading: 0,
         },
-        Whole::Authority(m) => payload::put_reading(
+        Ok(m) => payload::put_reading(
             major, authority, m, kind, measure, litres_in, litres_out, output,
         ),
     }
@@ -68,8 +66,8 @@ pub fn gauge_carried(major: u8, datagram: &[u8]) -> Taken
     let message = wire_read::read(datagram, major);
     let found = whole::whole_of(message);
     match found {
-        Whole::Other(number) => payload::nothing(number, 0),
-        Whole::Authority(m) => payload::take_reading(major, datagram, m),
+        Err(number) => payload::nothing(number, 0),
+        Ok(m) => payload::take_reading(major, datagram, m),
     }
 }
 

@@ -5,20 +5,13 @@ ghost use Rattle.wire_read.specs.Meaning.{message_of};
 ghost use Rattle.wire_read.specs.declared.Incoming.TheVariants.{Authority as TheAuthority};
 ghost use Rattle.readings.specs.Reading.{fine};
 ghost use Rattle.readings.specs.Numbers.{reading_of};
-ghost use Rattle.readings.specs.declared.Unpacked.TheVariants.{Read};
 ghost use Rattle.carried.specs.Carry.{carry, carry_handed, carry_as};
 ghost use Rattle.carried.specs.Take.{taken, taken_as, taken_by, nothing as nothingTaken};
 
 use crate::{Carry, Taken};
-use readings::{Packed, Reading, Unpacked};
+use readings::Reading;
 use wire_read::messages::Authority;
 use wire_write::Written;
-
-fn wide(n: u8) -> u32
-    ensures { result ≡ n }
-{
-    n as u32
-}
 
 // What writing gave, as C sees it: no datagram is longer than 1,232 bytes.
 fn told(done: Written) -> Carry
@@ -26,7 +19,7 @@ fn told(done: Written) -> Carry
     ensures { result ≡ carry done.number done.length 0 }
 {
     Carry {
-        number: wide(done.number),
+        number: u32::from(done.number),
         length: done.length as u32,
         reading: 0,
     }
@@ -59,8 +52,8 @@ pub(crate) fn put_reading(
 {
     let made = readings::reading_of(kind, measure, inflow, outflow);
     match made {
-        Unpacked::Refused(number) => refused(number),
-        Unpacked::Read(reading) => put_packed(major, d, m, reading, output),
+        Err(number) => refused(number),
+        Ok(reading) => put_packed(major, d, m, reading, output),
     }
 }
 
@@ -69,13 +62,13 @@ fn put_packed(major: u8, d: &[u8], m: Authority, reading: Reading, output: &mut 
     requires major_value { read_in d.now major ≡ TheAuthority m }
     requires measured_value { fine reading.measured ≡ true }
     ensures { carry_handed result output.new ≡ carry_as (message_of major d.now (TheAuthority m))
-        (Read reading) output.old }
+        (Ok reading) output.old }
 {
     let mut image = [0u8; 16];
     let packed = packing::pack_allowed(reading, &mut image);
     match packed {
-        Packed::Refused(number) => refused(number),
-        Packed::Written(n) => {
+        Err(number) => refused(number),
+        Ok(n) => {
             let done = wire_payload::write_payload(output, major, m, d, &image[..n]);
             told(done)
         }
@@ -97,13 +90,13 @@ pub(crate) fn nothing(number: u32, reading: u32) -> Taken
 }
 
 // A reading as C sees it. One that was read is one that may be written.
-fn shown(reading: Unpacked) -> Taken
-    requires { (r : Reading) → reading ≡ Read r → fine r.measured ≡ true }
+fn shown(reading: Result<Reading, u32>) -> Taken
+    requires { (r : Reading) → reading ≡ Ok r → fine r.measured ≡ true }
     ensures { result ≡ taken_by reading }
 {
     match reading {
-        Unpacked::Refused(number) => nothing(0, number),
-        Unpacked::Read(found) => Taken {
+        Err(number) => nothing(0, number),
+        Ok(found) => Taken {
             number: 0,
             reading: 0,
             kind: readings::kind_of(found),

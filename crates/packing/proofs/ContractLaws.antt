@@ -6,13 +6,12 @@ use lib.ListN.{length, take}
 use contract.Lifetimes.{Lfts}
 use borrow.Fn.World.{ArgsD, ResD}
 use denote.Triple.Clauses.{AtExit}
+use Rattle.std.specs.Prelude.{Ok}
 use Rattle.octet.specs.Number.{Bytes}
 use Rattle.octet.specs.Part.{splice}
 use Rattle.readings.specs.Unpack.{unpack_of}
 use Rattle.readings.specs.Pack.{pack_handed, pack_of}
 use Rattle.readings.specs.declared.Reading.{Reading}
-use Rattle.readings.specs.declared.Unpacked.TheVariants.{Read}
-use Rattle.readings.specs.declared.Packed.TheVariants.{Written}
 use Rattle.readings.proofs.Theorems.{packed_reads, unpacked_writes}
 use Rattle.packing.specs.contracts.packing.pack as packing
 use Rattle.packing.proofs.packing.pack.Reads as packed
@@ -33,16 +32,16 @@ pub balance_coincides : (κs : Lfts 0) (a : ArgsD balancing.signature κs) (r r'
     → balanced.Post κs a r s → balanced.Post κs a r' s' → r ≡ r'
 balance_coincides κs a r r' s s' p q = p ∙ sym q
 
-pub packed_unpacks : (κs : Lfts 1) (a : ArgsD packing.signature κs) (n : ℕ) (s : AtExit packing.ended κs) → packed.Post κs a (Written n) s
+pub packed_unpacks : (κs : Lfts 1) (a : ArgsD packing.signature κs) (n : ℕ) (s : AtExit packing.ended κs) → packed.Post κs a (Ok n) s
     → (κs' : Lfts 1) (b : ArgsD unpacking.signature κs') (u : ResD unpacking.signature κs') (t : AtExit unpacking.ended κs')
-    → b.0.now ≡ take n s.1.0.now → unpacked.Post κs' b u t → u ≡ Read a.0
+    → b.0.now ≡ take n s.1.0.now → unpacked.Post κs' b u t → u ≡ Ok a.0
 packed_unpacks κs a n s p κs' b u t e q =
     packed_reads a.0 p.1 a.1.0.now s.1.0.now n p.0 u (q ∙ ap unpack_of e)
 
-pub unpacked_packs : (κs : Lfts 1) (a : ArgsD unpacking.signature κs) (r : Reading) (s : AtExit unpacking.ended κs) → unpacked.Post κs a (Read r) s
+pub unpacked_packs : (κs : Lfts 1) (a : ArgsD unpacking.signature κs) (r : Reading) (s : AtExit unpacking.ended κs) → unpacked.Post κs a (Ok r) s
     → Bytes a.0.now → (κs' : Lfts 1) (b : ArgsD packing.signature κs') (w : ResD packing.signature κs') (t : AtExit packing.ended κs')
     → b.0 ≡ r → length a.0.now ≤ length b.1.0.now → packed.Post κs' b w t
-    → pack_handed w t.1.0.now ≡ pack_handed (Written (length a.0.now)) (splice 0 a.0.now b.1.0.now)
+    → pack_handed w t.1.0.now ≡ pack_handed (Ok (length a.0.now)) (splice 0 a.0.now b.1.0.now)
 unpacked_packs κs a r s p bytes κs' b w t e room q =
     let out = b.1.0.now in
     let all = unpacked_writes a.0.now bytes r p out t.1.0.now w room (q.0 ∙ ap (λ (x : Reading). pack_of x out) e) in

@@ -1,5 +1,5 @@
 // Readings from standard input.
-use readings::Unpacked;
+use readings::Reading;
 
 // A reading has so many bytes at most: two of its length, and as many as they can say.
 pub(crate) const READING: usize = 65537;
@@ -46,10 +46,10 @@ pub(crate) fn next_reading(room: &mut [u8]) -> Next {
 }
 
 // Of a reading of so many bytes: how many stand behind a length that is wrong, and were not looked at.
-pub(crate) fn unseen(len: usize, found: Unpacked) -> u64 {
+pub(crate) fn unseen(len: usize, found: Result<Reading, u32>) -> u64 {
     match found {
-        Unpacked::Read(_) => 0,
-        Unpacked::Refused(number) => behind_length(len, number),
+        Ok(_) => 0,
+        Err(number) => behind_length(len, number),
     }
 }
 

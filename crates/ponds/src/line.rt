@@ -1,7 +1,7 @@
 // The line of a reading.
 use crate::names;
 use amounts::{balance, depth};
-use readings::{Measured, Reading, Unpacked};
+use readings::{Measured, Reading};
 
 // The column of names is there where some bytes of names are.
 pub(crate) fn say_heading(named: usize) {
@@ -74,9 +74,15 @@ fn say_refused(line: &mut [u8], name: &[u8], at: u64, number: u32, unseen: u64) 
 }
 
 // What was found at a place, counted from 1, the name of that pond, and how many bytes were not looked at.
-pub(crate) fn say_found(line: &mut [u8], name: &[u8], at: u64, found: Unpacked, unseen: u64) {
+pub(crate) fn say_found(
+    line: &mut [u8],
+    name: &[u8],
+    at: u64,
+    found: Result<Reading, u32>,
+    unseen: u64,
+) {
     match found {
-        Unpacked::Read(reading) => say_reading(line, name, at, reading),
-        Unpacked::Refused(number) => say_refused(line, name, at, number, unseen),
+        Ok(reading) => say_reading(line, name, at, reading),
+        Err(number) => say_refused(line, name, at, number, unseen),
     }
 }

@@ -1,7 +1,7 @@
 // What the readings add up to.
 use crate::line;
 use amounts::balance;
-use readings::{Reading, Unpacked};
+use readings::Reading;
 
 // The columns of what is added up, and of its sum.
 const LABEL: usize = 20;
@@ -70,10 +70,10 @@ fn with_refused(sums: Sums, number: u32, unseen: u64) -> Sums {
 }
 
 // With what was found, and the bytes that were not looked at.
-pub(crate) fn with(sums: Sums, found: Unpacked, unseen: u64) -> Sums {
+pub(crate) fn with(sums: Sums, found: Result<Reading, u32>, unseen: u64) -> Sums {
     match found {
-        Unpacked::Read(reading) => with_reading(sums, reading),
-        Unpacked::Refused(number) => with_refused(sums, number, unseen),
+        Ok(reading) => with_reading(sums, reading),
+        Err(number) => with_refused(sums, number, unseen),
     }
 }
 

@@ -7,8 +7,8 @@ use lib.Dec.{T}
 use lib.Ieee.{Float, nan, inf, fin, binary32, fits, is_nan, nan_bits, of_bits, to_bits, of_int, le, lt, eq, ne}
 use lib.Ieee.Bits.{nan_bits_is, of_bits-to_bits}
 use lib.Ieee.Compare.{differs_from_itself}
+use Rattle.std.specs.Prelude.{Some, None}
 use Rattle.readings.specs.Depth.{allowed, metres_of}
-use Rattle.readings.specs.declared.Metres.TheVariants.{Within, Outside}
 
 pub nan_refused : (x : Float) → is_nan x ≡ true → allowed x ≡ false
 unfolding allowed le lt eq is_nan of_int
@@ -43,10 +43,10 @@ same_no_nan (fin s m k) e = tt
 
 -- ---- what 32 bits are as a depth
 
-pub bits_within : (bits : ℕ) → allowed (of_bits binary32 bits) ≡ true → Within (of_bits binary32 bits) ≡ metres_of bits
+pub bits_within : (bits : ℕ) → allowed (of_bits binary32 bits) ≡ true → Some (of_bits binary32 bits) ≡ metres_of bits
 unfolding metres_of
 bits_within bits e = rw e refl
 
-pub bits_outside : (bits : ℕ) → allowed (of_bits binary32 bits) ≡ false → Outside ≡ metres_of bits
+pub bits_outside : (bits : ℕ) → allowed (of_bits binary32 bits) ≡ false → None ≡ metres_of bits
 unfolding metres_of
 bits_outside bits e = rw e refl

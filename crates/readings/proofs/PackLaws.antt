@@ -9,6 +9,7 @@ use native.Mathlib.Omega.{arith}
 use lib.ListN.{length, length-append}
 use lib.Ieee.{Float, binary32, to_bits}
 use borrow.Author.Tests.{lt-ltb, le-ltb}
+use Rattle.std.specs.Prelude.{Ok, Err}
 use Rattle.octet.specs.Number.{digits_le}
 use Rattle.octet.specs.Part.{splice}
 use Rattle.octet.proofs.PartLaws.{splice_next}
@@ -17,19 +18,18 @@ use Rattle.refusal.specs.Table.{or_refuse}
 use Rattle.readings.specs.Reading.{depth_of, fault_of, reading_contents, image, fine}
 use Rattle.readings.specs.Pack.{pack_handed, pack_refusals, pack_of}
 use Rattle.readings.specs.declared.Reading.{Reading}
-use Rattle.readings.specs.declared.Packed.TheVariants.{Written, Refused}
 
 module _ (r : Reading) (out : List ℕ) where
-  pub pack-no-room : length out < length (image r) → pack_handed (Refused 1) out ≡ pack_of r out
+  pub pack-no-room : length out < length (image r) → pack_handed (Err 1) out ≡ pack_of r out
   unfolding pack_of pack_refusals or_refuse
   pack-no-room h = simp (lt-ltb _ _ h) refl
 
-  pub pack-outside : length (image r) ≤ length out → fine r.measured ≡ false → pack_handed (Refused 3) out ≡ pack_of r out
+  pub pack-outside : length (image r) ≤ length out → fine r.measured ≡ false → pack_handed (Err 3) out ≡ pack_of r out
   unfolding pack_of pack_refusals or_refuse
   pack-outside h f = simp (le-ltb _ _ h, f) refl
 
   pub pack-written : length (image r) ≤ length out → fine r.measured ≡ true
-      → pack_handed (Written (length (image r))) (splice 0 (image r) out) ≡ pack_of r out
+      → pack_handed (Ok (length (image r))) (splice 0 (image r) out) ≡ pack_of r out
   unfolding pack_of pack_refusals or_refuse
   pack-written h f = simp (le-ltb _ _ h, f) refl
 

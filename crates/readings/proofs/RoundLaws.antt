@@ -10,6 +10,7 @@ use lib.Seq.{drop-drop}
 use lib.Ieee.{Float, binary32, of_bits, to_bits}
 use lib.Ieee.Bits.{of_bits-to_bits, to_bits-of_bits, to_bits-lt, of_bits-fits}
 use borrow.Author.Tests.{eq-eqb, eqb-true, ltb-false, not-false}
+use Rattle.std.specs.Prelude.{Result, Ok, Err}
 use Rattle.octet.specs.Number.{Bytes, value_le, digits_le}
 use Rattle.octet.specs.Part.{part, splice}
 use Rattle.octet.proofs.PartLaws.{length_part, part-digits, part-splice}
@@ -26,9 +27,6 @@ use Rattle.readings.specs.Statements.{ReadingReadsBack, WritesBack, PackedReads,
 use Rattle.readings.specs.declared.Measured.{Measured}
 use Rattle.readings.specs.declared.Measured.TheVariants.{Depth, Fault}
 use Rattle.readings.specs.declared.Reading.{Reading}
-use Rattle.readings.specs.declared.Unpacked.{Unpacked}
-use Rattle.readings.specs.declared.Unpacked.TheVariants.{Read, Refused}
-use Rattle.readings.specs.declared.Packed.TheVariants.{Written, Refused as Kept}
 use Rattle.readings.proofs.DepthLaws.{allowed_no_nan}
 use Rattle.readings.proofs.UnpackLaws.{unpack-depth, unpack-fault, depth-whole, fault-whole}
 use Rattle.readings.proofs.PackLaws.{pack-written}
@@ -37,18 +35,18 @@ use Rattle.readings.proofs.PackLaws.{pack-written}
 
 -- bytes whose numbers are those of a reading
 depth_read : (s : List ℕ) (d : Float) (i o : ℕ) → length s ≡ 16 → told_in s ≡ 14 → kind_in s ≡ 1 → of_bits binary32 (number_at 4 4 s) ≡ d
-    → number_at 8 4 s ≡ i → number_at 12 4 s ≡ o → allowed d ≡ true → unpack_of s ≡ Read (depth_of d i o)
+    → number_at 8 4 s ≡ i → number_at 12 4 s ≡ o → allowed d ≡ true → unpack_of s ≡ Ok (depth_of d i o)
 unfolding depth_reading or_refuse
 depth_read s d i o l told kind bits in_is out-is good =
     sym (unpack-depth s (omega arith) (omega arith) kind) ∙ sym (depth-whole s l) ∙ simp (bits, in_is, out-is, good) refl
 
 fault_read : (s : List ℕ) (n i o : ℕ) → length s ≡ 14 → told_in s ≡ 12 → kind_in s ≡ 2 → number_at 4 2 s ≡ n
-    → number_at 6 4 s ≡ i → number_at 10 4 s ≡ o → unpack_of s ≡ Read (fault_of n i o)
+    → number_at 6 4 s ≡ i → number_at 10 4 s ≡ o → unpack_of s ≡ Ok (fault_of n i o)
 fault_read s n i o l told kind fault in_is out-is =
     sym (unpack-fault s (omega arith) (omega arith) kind) ∙ sym (fault-whole s l) ∙ simp (fault, in_is, out-is) refl
 
 module _ (i o : ℕ) (hi : i < 4294967296) (ho : o < 4294967296) where
-  back : (m : Measured) → MeasuredFits m → fine m ≡ true → unpack_of (image (reading m i o)) ≡ Read (reading m i o)
+  back : (m : Measured) → MeasuredFits m → fine m ≡ true → unpack_of (image (reading m i o)) ≡ Ok (reading m i o)
   unfolding image reading_contents digits_le
   back (Depth d) t good =
       let bits = to_bits binary32 d in
@@ -117,10 +115,10 @@ module _ (s : List ℕ) (b : Bytes s) where
       rw (told, kind) at whole
 
 -- what was accepted: each test failed, and it is what stands behind the table
-accepted : (s : List ℕ) (r : Reading) → unpack_of s ≡ Read r → AllFail (unpack_refusals s) × (reading_in s ≡ r)
+accepted : (s : List ℕ) (r : Reading) → unpack_of s ≡ Ok r → AllFail (unpack_refusals s) × (reading_in s ≡ r)
 unfolding unpack_of
 accepted s r e =
-    or_known (λ (u : Unpacked). u ≡ Read r → AllFail (unpack_refusals s) × (reading_in s ≡ r)) Refused (unpack_refusals s) (Read (reading_in s))
+    or_known (λ (u : Result Reading ℕ). u ≡ Ok r → AllFail (unpack_refusals s) × (reading_in s ≡ r)) Err (unpack_refusals s) (Ok (reading_in s))
     (λ n f. let z : ◌≡◌ {A = ℕ} 0 1 = cc in absurd (omega arith)) (λ fails f. (fails, cc)) e
 
 -- a reading whose bytes they are, with values of their types and an allowed depth
@@ -180,17 +178,17 @@ writes_back s b r e =
 -- ---- through the contracts
 
 -- what was written: there was room, the depth is allowed, and the answer and the bytes are those of the reading
-written : (r : Reading) (out left : List ℕ) (n : ℕ) → pack_handed (Written n) left ≡ pack_of r out
+written : (r : Reading) (out left : List ℕ) (n : ℕ) → pack_handed (Ok n) left ≡ pack_of r out
     → (length (image r) ≤ length out) × (fine r.measured ≡ true) × (n ≡ length (image r)) × (left ≡ splice 0 (image r) out)
 unfolding pack_of pack_refusals
 written r out left n e =
     or_known
-    (λ (h : PackHanded). pack_handed (Written n) left ≡ h
+    (λ (h : PackHanded). pack_handed (Ok n) left ≡ h
     → (length (image r) ≤ length out) × (fine r.measured ≡ true) × (n ≡ length (image r)) × (left ≡ splice 0 (image r) out))
-    (λ (k : ℕ). pack_handed (Kept k) out) (pack_refusals r out) (pack_handed (Written (length (image r))) (splice 0 (image r) out))
-    (λ k f. let a : Written n ≡ Kept k = ap (λ (h : PackHanded). h.answer) f in let z : ◌≡◌ {A = ℕ} 0 1 = cc in absurd (omega arith))
+    (λ (k : ℕ). pack_handed (Err k) out) (pack_refusals r out) (pack_handed (Ok (length (image r))) (splice 0 (image r) out))
+    (λ k f. let a : Ok n ≡ Err k = ap (λ (h : PackHanded). h.answer) f in let z : ◌≡◌ {A = ℕ} 0 1 = cc in absurd (omega arith))
     (λ fails f.
-    let a : Written n ≡ Written (length (image r)) = ap (λ (h : PackHanded). h.answer) f in
+    let a : Ok n ≡ Ok (length (image r)) = ap (λ (h : PackHanded). h.answer) f in
     (ltb-false _ _ fails.0, not-false _ fails.1.0, cc, ap (λ (h : PackHanded). h.out) f))
     e
 
@@ -205,6 +203,6 @@ unpacked_writes s b r is out left a room e =
     let o = writes_back s b r (sym is) in
     let enough : length (image r) ≤ length out = rw o.0 room in
     let all = e ∙ sym (pack-written r out enough o.2) in (
-      ap (λ (h : PackHanded). h.answer) all ∙ ap (λ (l : List ℕ). Written (length l)) o.0,
+      ap (λ (h : PackHanded). h.answer) all ∙ ap (λ (l : List ℕ). Ok (length l)) o.0,
       ap (λ (h : PackHanded). h.out) all ∙ ap (λ (l : List ℕ). splice 0 l out) o.0,
     )

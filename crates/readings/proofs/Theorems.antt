@@ -5,6 +5,7 @@ use native.Mathlib.Omega.{arith}
 use mathlib.Core.List.{List}
 use lib.IntN.{pos, -ℤ-+ℤ_cancel}
 use lib.ListN.{length}
+use Rattle.std.specs.Prelude.{Ok, Err}
 use Rattle.octet.specs.Part.{splice}
 use Rattle.refusal.specs.Table.{InOrder, by_number}
 use Rattle.refusal.proofs.CallLaws.{refusal-keeps, call-exactly}
@@ -13,8 +14,6 @@ use Rattle.readings.specs.Unpack.{unpack_refusals, reading_in, unpack_of, unpack
 use Rattle.readings.specs.Pack.{PackHanded, pack_handed, pack_refusals, pack_of, pack_number}
 use Rattle.readings.specs.Statements.{ReadingReadsBack, WritesBack, PackedReads, UnpackedWrites, NumbersBack, UnpackOne, PackOne, BalanceOne, UnpackExactly, PackExactly, RefusedKeeps, Depths, NegativeZero, Edges, Balanced, Balances}
 use Rattle.readings.specs.declared.Reading.{Reading}
-use Rattle.readings.specs.declared.Unpacked.TheVariants.{Read, Refused}
-use Rattle.readings.specs.declared.Packed.TheVariants.{Written, Refused as Kept}
 use Rattle.readings.proofs.EdgeLaws as edge
 use Rattle.readings.proofs.NumberLaws as numbers
 use Rattle.readings.proofs.PatternLaws.{patterns}
@@ -57,7 +56,7 @@ unpack_order s =
 
 pub unpack_exactly : UnpackExactly
 unfolding unpack_of
-unpack_exactly s n p = call-exactly unpack_number Refused (λ k. refl) (Read (reading_in s)) refl (unpack_refusals s) 1 (unpack_order s) n p
+unpack_exactly s n p = call-exactly unpack_number Err (λ k. refl) (Ok (reading_in s)) refl (unpack_refusals s) 1 (unpack_order s) n p
 
 module _ (r : Reading) (out : List ℕ) where
   pack-order : InOrder by_number 1 (pack_refusals r out)
@@ -68,18 +67,18 @@ module _ (r : Reading) (out : List ℕ) where
   number h = pack_number h.answer
 
   abbrev refused : ℕ → PackHanded
-  refused k = pack_handed (Kept k) out
+  refused k = pack_handed (Err k) out
 
 pub pack_exactly : PackExactly
 unfolding pack_of
 pack_exactly r out n p =
-    call-exactly (number r out) (refused r out) (λ k. refl) (pack_handed (Written (length (image r))) (splice 0 (image r) out)) refl (pack_refusals r out) 1
+    call-exactly (number r out) (refused r out) (λ k. refl) (pack_handed (Ok (length (image r))) (splice 0 (image r) out)) refl (pack_refusals r out) 1
     (pack-order r out) n p
 
 pub refused_keeps : RefusedKeeps
 unfolding pack_of
 refused_keeps r out p =
-    refusal-keeps (number r out) (refused r out) (λ k. refl) (pack_handed (Written (length (image r))) (splice 0 (image r) out)) refl
+    refusal-keeps (number r out) (refused r out) (λ k. refl) (pack_handed (Ok (length (image r))) (splice 0 (image r) out)) refl
     (λ (h : PackHanded). h.out) out (λ k. refl) (pack_refusals r out) p
 
 -- ---- depths

@@ -1,6 +1,6 @@
 -- Beside the demands. What is proved of readings; the theorems stand in proofs/Theorems.antt. `handed r out ≡ pack_of ..` is the contract of `pack`, `r ≡ unpack_of ..`
 -- that of `unpack`, `r ≡ balance_of ..` that of `balance`. Assumes nothing.
-use Rattle.std.specs.Prelude.{ℕ, ◌≤◌, ◌<◌, true, false, ◌||◌, List, [], ◌∷◌, ◌↔◌, ◌≡◌, eqb, leb, ℤ, pos, neg_ℤ, nat_abs, ◌+ℤ◌, length, take}
+use Rattle.std.specs.Prelude.{ℕ, ◌≤◌, ◌<◌, true, false, ◌||◌, List, [], ◌∷◌, ◌↔◌, ◌≡◌, eqb, leb, ℤ, pos, neg_ℤ, nat_abs, ◌+ℤ◌, length, take, Result, Ok}
 use Rattle.std.specs.Float.{binary32}
 use Rattle.std.specs.Float.Ieee.{of_bits, to_bits}
 use Rattle.octet.specs.Number.{Bytes}
@@ -13,46 +13,42 @@ use Rattle.readings.specs.Unpack.{unpack_refusals, unpack_of, unpack_number}
 use Rattle.readings.specs.Pack.{pack_handed, pack_refusals, pack_of, pack_number}
 use Rattle.readings.specs.Numbers.{reading_of}
 use Rattle.readings.specs.declared.Reading.{Reading}
-use Rattle.readings.specs.declared.Unpacked.{Unpacked}
-use Rattle.readings.specs.declared.Unpacked.TheVariants.{Read}
-use Rattle.readings.specs.declared.Packed.{Packed}
-use Rattle.readings.specs.declared.Packed.TheVariants.{Written}
 
 -- ---- there and back
 
 -- "Readings written read back the same"
 abbrev pub ReadingReadsBack : Type 0
-ReadingReadsBack = (r : Reading) → Typed r → fine r.measured ≡ true → unpack_of (image r) ≡ Read r
+ReadingReadsBack = (r : Reading) → Typed r → fine r.measured ≡ true → unpack_of (image r) ≡ Ok r
 
 -- "bytes accepted are written back the same", and are those of a reading that may be written
 abbrev pub WritesBack : Type 0
-WritesBack = (s : List ℕ) → Bytes s → (r : Reading) → unpack_of s ≡ Read r → (image r ≡ s) × Typed r × (fine r.measured ≡ true)
+WritesBack = (s : List ℕ) → Bytes s → (r : Reading) → unpack_of s ≡ Ok r → (image r ≡ s) × Typed r × (fine r.measured ≡ true)
 
 -- and through the contracts: what `pack` leaves at the start, as many bytes as it says, `unpack` reads as the reading
 abbrev pub PackedReads : Type 0
 PackedReads =
-    (r : Reading) → Typed r → (out left : List ℕ) (n : ℕ) → pack_handed (Written n) left ≡ pack_of r out
-    → (u : Unpacked) → u ≡ unpack_of (take n left) → u ≡ Read r
+    (r : Reading) → Typed r → (out left : List ℕ) (n : ℕ) → pack_handed (Ok n) left ≡ pack_of r out
+    → (u : Result Reading ℕ) → u ≡ unpack_of (take n left) → u ≡ Ok r
 
 -- what `unpack` reads, `pack` writes as the bytes it was read from, wherever there is room for them
 abbrev pub UnpackedWrites : Type 0
 UnpackedWrites =
-    (s : List ℕ) → Bytes s → (r : Reading) → Read r ≡ unpack_of s
-    → (out left : List ℕ) (a : Packed) → length s ≤ length out → pack_handed a left ≡ pack_of r out → (a ≡ Written (length s)) × (left ≡ splice 0 s out)
+    (s : List ℕ) → Bytes s → (r : Reading) → Ok r ≡ unpack_of s
+    → (out left : List ℕ) (a : Result ℕ ℕ) → length s ≤ length out → pack_handed a left ≡ pack_of r out → (a ≡ Ok (length s)) × (left ≡ splice 0 s out)
 
 -- a reading taken apart into the numbers that C sees is made of them again
 abbrev pub NumbersBack : Type 0
 NumbersBack =
-    (r : Reading) → Typed r → fine r.measured ≡ true → reading_of (kind_of r.measured) (measure_of r.measured) r.inflow r.outflow ≡ Read r
+    (r : Reading) → Typed r → fine r.measured ≡ true → reading_of (kind_of r.measured) (measure_of r.measured) r.inflow r.outflow ≡ Ok r
 
 -- ---- "any two results allowed by it coincide"
 
 abbrev pub UnpackOne : Type 0
-UnpackOne = (s : List ℕ) (r r' : Unpacked) → r ≡ unpack_of s → r' ≡ unpack_of s → r ≡ r'
+UnpackOne = (s : List ℕ) (r r' : Result Reading ℕ) → r ≡ unpack_of s → r' ≡ unpack_of s → r ≡ r'
 
 abbrev pub PackOne : Type 0
 PackOne =
-    (r : Reading) (out left left' : List ℕ) (a a' : Packed) → pack_handed a left ≡ pack_of r out → pack_handed a' left' ≡ pack_of r out → (a ≡ a') × (left ≡ left')
+    (r : Reading) (out left left' : List ℕ) (a a' : Result ℕ ℕ) → pack_handed a left ≡ pack_of r out → pack_handed a' left' ≡ pack_of r out → (a ≡ a') × (left ≡ left')
 
 abbrev pub BalanceOne : Type 0
 BalanceOne = (i o : ℕ) (b b' : ℤ) → b ≡ balance_of i o → b' ≡ balance_of i o → b ≡ b'
@@ -85,7 +81,7 @@ abbrev pub NegativeZero : Type 0
 NegativeZero =
     let zero = of_bits binary32 0x8000_0000 in
     (allowed zero ≡ true)
-    × (unpack_of (14 ∷ 0 ∷ 1 ∷ 0 ∷ 0 ∷ 0 ∷ 0 ∷ 128 ∷ 3 ∷ 0 ∷ 0 ∷ 0 ∷ 4 ∷ 0 ∷ 0 ∷ 0 ∷ []) ≡ Read (depth_of zero 3 4))
+    × (unpack_of (14 ∷ 0 ∷ 1 ∷ 0 ∷ 0 ∷ 0 ∷ 0 ∷ 128 ∷ 3 ∷ 0 ∷ 0 ∷ 0 ∷ 4 ∷ 0 ∷ 0 ∷ 0 ∷ []) ≡ Ok (depth_of zero 3 4))
     × (to_bits binary32 zero ≡ 0x8000_0000)
     × (to_bits binary32 (of_bits binary32 0) ≡ 0)
 

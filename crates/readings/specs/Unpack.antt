@@ -1,6 +1,6 @@
 -- To believe. The reading that bytes are: "Refusals of this layer: 1 wrong length or no room to write, 2 unknown kind, 3 depth outside", the lowest that
 -- applies. Assumes nothing.
-use Rattle.std.specs.Prelude.{ℕ, ◌+◌, Bool, true, not, ◌&&◌, cond, List, [], ◌∷◌, eqb, ltb, length}
+use Rattle.std.specs.Prelude.{ℕ, ◌+◌, Bool, true, not, ◌&&◌, cond, List, [], ◌∷◌, eqb, ltb, length, Result, Ok, Err}
 use Rattle.std.specs.Float.{binary32}
 use Rattle.std.specs.Float.Ieee.{of_bits}
 use Rattle.octet.specs.Number.{value_le}
@@ -9,8 +9,6 @@ use Rattle.refusal.specs.Table.{Refusal, when, or_refuse}
 use Rattle.readings.specs.Depth.{allowed}
 use Rattle.readings.specs.Reading.{reading, is_kind, measured_as, width_of}
 use Rattle.readings.specs.declared.Reading.{Reading}
-use Rattle.readings.specs.declared.Unpacked.{Unpacked}
-use Rattle.readings.specs.declared.Unpacked.TheVariants.{Read, Refused}
 
 -- the number of so many bytes at a place
 abbrev pub number_at : ℕ → ℕ → List ℕ → ℕ
@@ -45,10 +43,10 @@ reading_in s =
     let w = width_of (kind_in s) in
     reading (measured_as (kind_in s) (measure_in s)) (number_at (4 + w) 4 s) (number_at (8 + w) 4 s)
 
-unfoldable pub unpack_of : List ℕ → Unpacked
-unpack_of s = or_refuse Refused (unpack_refusals s) (Read (reading_in s))
+unfoldable pub unpack_of : List ℕ → Result Reading ℕ
+unpack_of s = or_refuse Err (unpack_refusals s) (Ok (reading_in s))
 
 -- the paper's number of an answer
-abbrev pub unpack_number : Unpacked → ℕ
-unpack_number (Read r) = 0
-unpack_number (Refused n) = n
+abbrev pub unpack_number : Result Reading ℕ → ℕ
+unpack_number (Ok r) = 0
+unpack_number (Err n) = n

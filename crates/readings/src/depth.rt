@@ -4,8 +4,6 @@ ghost use Rattle.std.specs.Float.{binary32};
 ghost use Rattle.std.specs.Float.Ieee.{of_bits, to_bits};
 ghost use Rattle.readings.specs.Depth.{allowed, metres_of};
 
-use crate::Metres;
-
 // Are these bits those of an allowed depth? Whole numbers are compared and no floats: a host may have set the processor
 // to take the smallest floats for 0 (flush to zero, denormals are zero), and then the greatest below 0, 0x80000001, would
 // pass. The bits of 20 are 0x41A00000, and those of all from 0 up to it stand below; negative zero has the sign alone.
@@ -30,13 +28,13 @@ pub fn is_allowed(depth: f32) -> bool
 }
 
 // The depth of any 32 bits, where it is allowed.
-pub fn depth_of_bits(bits: u32) -> Metres
+pub fn depth_of_bits(bits: u32) -> Option<f32>
     ensures { result ≡ metres_of bits }
 {
     if !bits_allowed(bits) {
-        return Metres::Outside;
+        return None;
     }
-    Metres::Within(f32::from_bits(bits))
+    Some(f32::from_bits(bits))
 }
 
 // The bits of a depth. What is not a number has those that the definition gives it, whatever its own were.

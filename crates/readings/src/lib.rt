@@ -10,37 +10,16 @@ pub use litres::{balance, magnitude};
 pub use numbers::{depth_reading, kind_of, measure_allowed, measure_of, reading_of};
 
 // A depth in metres, or the number of a fault.
-#[derive(Clone, Copy)]
+#[derive(Clone, Copy, Debug, PartialEq)]
 pub enum Measured {
     Depth(f32),
     Fault(u16),
 }
 
 // What a pond's gauge has measured, and the litres that went in and out beside it.
-#[derive(Clone, Copy)]
+#[derive(Clone, Copy, Debug, PartialEq)]
 pub struct Reading {
     pub measured: Measured,
     pub inflow: u32,
     pub outflow: u32,
-}
-
-// A reading, or the number of the refusal.
-#[derive(Clone, Copy)]
-pub enum Unpacked {
-    Read(Reading),
-    Refused(u32),
-}
-
-// How many bytes were written, or the number of the refusal.
-#[derive(Clone, Copy)]
-pub enum Packed {
-    Written(usize),
-    Refused(u32),
-}
-
-// What 32 bits are as a depth.
-#[derive(Clone, Copy)]
-pub enum Metres {
-    Within(f32),
-    Outside,
 }

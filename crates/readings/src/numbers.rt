@@ -5,16 +5,16 @@ ghost use Rattle.readings.specs.Reading.{kind_of, measure_of, fine};
 ghost use Rattle.readings.specs.Numbers.{depth_reading, reading_of};
 
 use crate::depth::{bits_of, depth_of_bits};
-use crate::{Measured, Metres, Reading, Unpacked};
+use crate::{Measured, Reading};
 
 // A reading of kind 1, or 3 where the depth is outside.
-pub fn depth_reading(bits: u32, inflow: u32, outflow: u32) -> Unpacked
+pub fn depth_reading(bits: u32, inflow: u32, outflow: u32) -> Result<Reading, u32>
     ensures { result ≡ depth_reading bits inflow outflow }
 {
-    let Metres::Within(depth) = depth_of_bits(bits) else {
-        return Unpacked::Refused(3);
+    let Some(depth) = depth_of_bits(bits) else {
+        return Err(3);
     };
-    Unpacked::Read(Reading {
+    Ok(Reading {
         measured: Measured::Depth(depth),
         inflow,
         outflow,
@@ -23,19 +23,19 @@ pub fn depth_reading(bits: u32, inflow: u32, outflow: u32) -> Unpacked
 
 // The reading of these numbers; 1 where a fault number does not fit its two bytes, 2 for an unknown kind, 3 where the depth
 // is outside.
-pub fn reading_of(kind: u32, measure: u32, inflow: u32, outflow: u32) -> Unpacked
+pub fn reading_of(kind: u32, measure: u32, inflow: u32, outflow: u32) -> Result<Reading, u32>
     ensures { result ≡ reading_of kind measure inflow outflow }
 {
     if kind == 1 {
         return depth_reading(measure, inflow, outflow);
     }
     if kind != 2 {
-        return Unpacked::Refused(2);
+        return Err(2);
     }
     if 65535 < measure {
-        return Unpacked::Refused(1);
+        return Err(1);
     }
-    Unpacked::Read(Reading {
+    Ok(Reading {
         measured: Measured::Fault(measure as u16),
         inflow,
         outflow,
@@ -45,8 +45,7 @@ pub fn reading_of(kind: u32, measure: u32, inflow: u32, outflow: u32) -> Unpacke
 pub fn kind_of(reading: Reading) -> u32
     ensures { result ≡ kind_of reading.measured }
 {
-    let measured = reading.measured;
-    match measured {
+    match reading.measured {
         Measured::Depth(_) => 1,
         Measured::Fault(_) => 2,
     }
@@ -55,10 +54,9 @@ pub fn kind_of(reading: Reading) -> u32
 pub fn measure_of(reading: Reading) -> u32
     ensures { result ≡ measure_of reading.measured }
 {
-    let measured = reading.measured;
-    match measured {
+    match reading.measured {
         Measured::Depth(depth) => bits_of(depth),
-        Measured::Fault(fault) => fault as u32,
+        Measured::Fault(fault) => u32::from(fault),
     }
 }
 
@@ -67,9 +65,8 @@ pub fn measure_allowed(reading: Reading) -> u32
     requires { fine reading.measured ≡ true }
     ensures { result ≡ measure_of reading.measured }
 {
-    let measured = reading.measured;
-    match measured {
+    match reading.measured {
         Measured::Depth(depth) => f32::to_bits(depth),
-        Measured::Fault(fault) => fault as u32,
+        Measured::Fault(fault) => u32::from(fault),
     }
 }

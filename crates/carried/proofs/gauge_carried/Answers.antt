@@ -11,10 +11,10 @@ wanted : (c : After-whole_of-found) → (let a = c.args in whole_of (read_in a.d
 wanted c = sym (c.whole_of-found.ensures ∙ ap whole_of c.read-message.ensures)
 
 pub take_reading-requires : goal.take_reading-requires
-take_reading-requires c = whole_authority _ _ (wanted (goal.at.take_reading-requires c).After-whole_of-found ∙ c.in-Authority.is)
+take_reading-requires c = whole_authority _ _ (wanted (goal.at.take_reading-requires c).After-whole_of-found ∙ c.in-Ok.is)
 
-pub returns-in-Other : goal.returns-in-Other
-returns-in-Other c = c.nothing.ensures ∙ take-other _ _ _ (wanted (goal.at.returns-in-Other c).After-whole_of-found ∙ c.in-Other.is)
+pub returns-in-Err : goal.returns-in-Err
+returns-in-Err c = c.nothing.ensures ∙ take-other _ _ _ (wanted (goal.at.returns-in-Err c).After-whole_of-found ∙ c.in-Err.is)
 
-pub returns-in-Authority : goal.returns-in-Authority
-returns-in-Authority c = c.take_reading.ensures ∙ take-authority _ _ _ (wanted (goal.at.returns-in-Authority c).After-whole_of-found ∙ c.in-Authority.is)
+pub returns-in-Ok : goal.returns-in-Ok
+returns-in-Ok c = c.take_reading.ensures ∙ take-authority _ _ _ (wanted (goal.at.returns-in-Ok c).After-whole_of-found ∙ c.in-Ok.is)

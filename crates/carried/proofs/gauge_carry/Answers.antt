@@ -12,11 +12,11 @@ wanted : (c : After-whole_of-found)
 wanted c = sym (c.whole_of-found.ensures ∙ ap whole_of c.read-message.ensures)
 
 pub put_reading-requires : goal.put_reading-requires
-put_reading-requires c = whole_authority _ _ (wanted (goal.at.put_reading-requires c).After-whole_of-found ∙ c.in-Authority.is)
+put_reading-requires c = whole_authority _ _ (wanted (goal.at.put_reading-requires c).After-whole_of-found ∙ c.in-Ok.is)
 
-pub returns-in-Other : goal.returns-in-Other
-returns-in-Other c = carry-other _ _ _ _ _ (wanted (goal.at.returns-in-Other c).After-whole_of-found ∙ c.in-Other.is)
+pub returns-in-Err : goal.returns-in-Err
+returns-in-Err c = carry-other _ _ _ _ _ (wanted (goal.at.returns-in-Err c).After-whole_of-found ∙ c.in-Err.is)
 
-pub returns-in-Authority : goal.returns-in-Authority
-returns-in-Authority c =
-    c.put_reading.ensures ∙ carry-authority _ _ _ _ _ (wanted (goal.at.returns-in-Authority c).After-whole_of-found ∙ c.in-Authority.is)
+pub returns-in-Ok : goal.returns-in-Ok
+returns-in-Ok c =
+    c.put_reading.ensures ∙ carry-authority _ _ _ _ _ (wanted (goal.at.returns-in-Ok c).After-whole_of-found ∙ c.in-Ok.is)

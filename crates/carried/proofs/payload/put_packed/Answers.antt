@@ -14,17 +14,17 @@ pack_allowed-packed-requires c = c.requires.measured_value
 
 pub slice_bounds-image-end : goal.slice_bounds-image-end
 slice_bounds-image-end c =
-    let q = c.in-Written.is in
+    let q = c.in-Ok.is in
     let e = c.pack_allowed-packed.ensures in
     let g = c.requires.measured_value in
     let left = c.pack_allowed-packed.new.out in
-    let short : c.in-Written.n ≤ length left =
+    let short : c.in-Ok.n ≤ length left =
     omega (arith, packed-fits _ _ _ _ g refl e _ q, packed-left _ _ _ _ g refl e) in
     short
 
 pub slice_bounds-write_payload-end : goal.slice_bounds-write_payload-end
 slice_bounds-write_payload-end c =
-    let q = c.in-Written.is in
+    let q = c.in-Ok.is in
     let e = c.pack_allowed-packed.ensures in
     let g = c.requires.measured_value in
     sym (length-take-le _ _ (omega (arith, packed-fits _ _ _ _ g refl e _ q, packed-left _ _ _ _ g refl e)))
@@ -32,13 +32,13 @@ slice_bounds-write_payload-end c =
 pub told-requires : goal.told-requires
 told-requires c = written_short _ _ _ c.write_payload-done.ensures.answer
 
-pub returns-in-Refused : goal.returns-in-Refused
-returns-in-Refused c =
-    not-refused _ _ _ _ c.requires.measured_value refl c.pack_allowed-packed.ensures _ c.in-Refused.is
+pub returns-in-Err : goal.returns-in-Err
+returns-in-Err c =
+    not-refused _ _ _ _ c.requires.measured_value refl c.pack_allowed-packed.ensures _ c.in-Err.is
 
-pub returns-in-Written : goal.returns-in-Written
-returns-in-Written c =
-    let q = c.in-Written.is in
+pub returns-in-Ok : goal.returns-in-Ok
+returns-in-Ok c =
+    let q = c.in-Ok.is in
     let e = c.pack_allowed-packed.ensures in
     let g = c.requires.measured_value in
     let out = c.write_payload-done.new.out in

@@ -6,15 +6,15 @@ use Rattle.carried.proofs.payload.put_reading.Goals as goal
 
 pub put_packed-requires : goal.put_packed-requires
 put_packed-requires c =
-    record { major_value = c.requires; measured_value = reading-fine _ _ _ _ _ (sym c.reading_of-made.ensures ∙ c.in-Read.is) }
+    record { major_value = c.requires; measured_value = reading-fine _ _ _ _ _ (sym c.reading_of-made.ensures ∙ c.in-Ok.is) }
 
-pub returns-in-Refused : goal.returns-in-Refused
-returns-in-Refused c =
+pub returns-in-Err : goal.returns-in-Err
+returns-in-Err c =
     carried-refused _ _ (λ i. omega (arith, c.type_inv.d i)) _ c.requires _ _ _ _
-    (sym c.reading_of-made.ensures ∙ c.in-Refused.is) c.refused.ensures
+    (sym c.reading_of-made.ensures ∙ c.in-Err.is) c.refused.ensures
 
-pub returns-in-Read : goal.returns-in-Read
-returns-in-Read c =
+pub returns-in-Ok : goal.returns-in-Ok
+returns-in-Ok c =
     carried-read _ _ (λ i. omega (arith, c.type_inv.d i)) _ c.requires _ _ _ _
-    (sym c.reading_of-made.ensures ∙ c.in-Read.is)
+    (sym c.reading_of-made.ensures ∙ c.in-Ok.is)
     c.put_packed.ensures

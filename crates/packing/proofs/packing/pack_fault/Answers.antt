@@ -4,10 +4,10 @@ use mathlib.Core.List.{List}
 use Prim.Native.Nat.{ℕ, ◌≤◌}
 use native.Mathlib.Omega.{arith}
 use lib.ListN.{length}
+use Rattle.std.specs.Prelude.{Ok}
 use Rattle.octet.specs.Part.{splice}
 use Rattle.readings.specs.Reading.{fault_of, image}
 use Rattle.readings.specs.Pack.{pack_handed}
-use Rattle.readings.specs.declared.Packed.TheVariants.{Written}
 use Rattle.readings.proofs.PackLaws.{pack-no-room, pack-written, image_fault, length_fault, put_three}
 use Rattle.packing.proofs.packing.pack_fault.Goals as goal
 
@@ -28,4 +28,4 @@ returns-clause-out_after c =
     put_three 12 2 2 a.fault a.inflow a.outflow out (omega (arith, size, room)) _ _ _
     c.put_head.ensures c.write_u16_le.ensures c.put_litres.ensures
     ∙ ap (λ (l : List ℕ). splice 0 l out) (image_fault a.fault a.inflow a.outflow) in
-    ap₂ (λ (n : ℕ) (l : List ℕ). pack_handed (Written n) l) (sym size) put ∙ pack-written r out room refl
+    ap₂ (λ (n : ℕ) (l : List ℕ). pack_handed (Ok n) l) (sym size) put ∙ pack-written r out room refl

@@ -5,10 +5,10 @@ use Prim.Native.Nat.{ℕ, ◌≤◌}
 use native.Mathlib.Omega.{arith}
 use lib.ListN.{length}
 use lib.Ieee.{binary32, to_bits}
+use Rattle.std.specs.Prelude.{Ok}
 use Rattle.octet.specs.Part.{splice}
 use Rattle.readings.specs.Reading.{depth_of, image}
 use Rattle.readings.specs.Pack.{pack_handed}
-use Rattle.readings.specs.declared.Packed.TheVariants.{Written}
 use Rattle.readings.proofs.DepthLaws.{allowed_no_nan}
 use Rattle.readings.proofs.PackLaws.{pack-no-room, pack-written, image_depth, length_depth, put_three}
 use Rattle.packing.proofs.packing.put_depth.Goals as goal
@@ -33,4 +33,4 @@ returns c =
     put_three 14 1 4 (to_bits binary32 a.depth) a.inflow a.outflow out (omega (arith, size, room)) _ _ _
     c.put_head.ensures c.write_u32_le.ensures c.put_litres.ensures
     ∙ ap (λ (l : List ℕ). splice 0 l out) (image_depth a.depth a.inflow a.outflow) in
-    ap₂ (λ (n : ℕ) (l : List ℕ). pack_handed (Written n) l) (sym size) put ∙ pack-written r out room c.requires
+    ap₂ (λ (n : ℕ) (l : List ℕ). pack_handed (Ok n) l) (sym size) put ∙ pack-written r out room c.requires

@@ -10,13 +10,13 @@ use Rattle.packing.proofs.unpacking.unpack.Goals as goal
 
 -- behind the second test: as long as its length says, and long enough to have a kind
 whole : (c : Else-s-told) → (let s = c.args.s.now in (length s ≡ 2 + told_in s) × (4 ≤ length s))
-whole c = (c.if-s-told.false ∙ ap (λ (n : ℕ). 2 + n) c.read_u16_le-told.ensures, search rules)
+whole c = (c.if-s-told.false ∙ ap (λ (n : ℕ). 2 + n) (c.from-told.ensures ∙ c.read_u16_le.ensures), search rules)
 
 pub returns-then-s-lt4 : goal.returns-then-s-lt4
 returns-then-s-lt4 c = unpack-short _ c.if-s-lt4.true
 
 pub returns-then-s-told : goal.returns-then-s-told
-returns-then-s-told c = unpack-cut _ c.if-s-lt4.false (λ e. c.if-s-told.true (e ∙ ap (λ (n : ℕ). 2 + n) (sym c.read_u16_le-told.ensures)))
+returns-then-s-told c = unpack-cut _ c.if-s-lt4.false (λ e. c.if-s-told.true (e ∙ ap (λ (n : ℕ). 2 + n) (sym (c.from-told.ensures ∙ c.read_u16_le.ensures))))
 
 pub returns-then-kind-eq1 : goal.returns-then-kind-eq1
 returns-then-kind-eq1 c =

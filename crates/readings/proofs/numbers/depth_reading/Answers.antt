@@ -7,4 +7,4 @@ pub returns-in_default : goal.returns-in_default
 returns-in_default c = depth-outside _ _ _ (sym c.depth_of_bits.ensures ∙ c.in_default.is)
 
 pub returns : goal.returns
-returns c = depth-within _ _ _ _ (sym c.depth_of_bits.ensures ∙ c.in-Within.is)
+returns c = depth-within _ _ _ _ (sym c.depth_of_bits.ensures ∙ c.in-Some.is)

@@ -69,12 +69,13 @@ pub(crate) fn write_entry<W: Write>(
     before: &[u8],
     entry: Entry<'_>,
 ) -> io::Result<()> {
-    let kind = match entry.kind {
+    let Entry { kind, record } = entry;
+    let kind = match kind {
         Kind::Gone => "gone",
         Kind::New => "new",
         Kind::Changed => "changed",
     };
-    let key = &entry.record[..32];
+    let key = &record[..32];
     write!(out, "{kind:<9}")?;
     names.write_whose(out, key)?;
     write_what(out, entry, records::of_key(before, key))?;

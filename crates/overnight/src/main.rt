@@ -6,14 +6,17 @@
 // What is compared, and what is refused, is said by crate `changes`.
 #![tactic(auto)]
 
+mod entry;
 mod input;
 mod line;
 mod records;
 mod sums;
 
-// Room for a line that is written, and for the names; of a longer text the rest is not read.
-const LINE: usize = 512;
+use shown_words::names::Names;
+use std::io::{Result, Write};
+use text::Roomy;
 
+// Room for the names; of a longer text the rest is not read.
 const NAMES: usize = 65536;
 
 // Two lengths, four own records and two full caches; one byte more that came is seen by the second cache's length.
@@ -22,49 +25,32 @@ const INPUT: usize = 51605;
 // The longest list: each key of a full cache gone, and as many new.
 const LIST: usize = 51712;
 
-// Each entry of the list.
-fn say_entries(line: &mut [u8], names: &[u8], before: &[u8], list: &[u8]) {
-    let entries = list.len() / line::ENTRY;
-    let mut i = 0;
-    while i < entries {
-        let at = line::ENTRY * i;
-        line::say_entry(line, names, before, text::part(list, at, at + line::ENTRY));
-        i += 1;
-    }
-}
-
-// What changed, and the sums.
-fn say_changes(line: &mut [u8], names: &[u8], before: &[u8], after: &[u8], list: &[u8]) {
-    say_entries(line, names, before, list);
-    sums::say_sums(line, before, after, list);
-}
-
-// The two caches of an input compared, with room for the longest list.
-fn compare(line: &mut [u8], names: &[u8], input: &[u8], room: &mut [u8]) {
-    let caches = input::behind(input);
-    let before = input::first(caches);
-    let after = input::behind(caches);
-    let answer = changes::gauge_changes(input::first(input), before, after, room);
+// The two caches of an input compared: what changed, and the sums.
+fn compare<W: Write>(out: &mut W, names: Names<'_>, input: &[u8]) -> Result<()> {
+    let mut room = [0u8; LIST];
+    let (own, caches) = input::split_first(input);
+    let (before, after) = input::split_first(caches);
+    let answer = changes::gauge_changes(own, before, after, &mut room);
     if answer.number != 0 {
-        return text::tell(
-            b"refused: 1 the own records or a cache are not in form, or the caches differ in length\n",
+        return writeln!(
+            out,
+            "refused: 1 the own records or a cache are not in form, or the caches differ in length"
         );
     }
-    let list = text::part(room, 0, input::wide(answer.second));
-    say_changes(line, names, before, after, list)
+    let list = room.get(..answer.second as usize).unwrap_or(&[]);
+    for entry in list.chunks_exact(entry::ENTRY).filter_map(entry::entry_of) {
+        line::write_entry(out, names, before, entry)?;
+    }
+    sums::write_sums(out, before, after, list)
 }
 
-fn main() {
-    let mut line = [0u8; LINE];
+// Output that can't be written is seen by who reads it: the launcher.
+fn main(rt: HostRuntime) {
     let mut input = [0u8; INPUT];
-    let mut list = [0u8; LIST];
     let mut names = [0u8; NAMES];
-    let came = io::read_full(0, &mut input);
+    let came = text::read_full(&mut rt.stdin(), &mut input);
     let named = io::read_full(3, &mut names);
-    compare(
-        &mut line,
-        text::part(&names, 0, named),
-        text::part(&input, 0, came),
-        &mut list,
-    );
+    let mut out = Roomy::new(rt.stdout());
+    let _ = compare(&mut out, Names::of(&names[..named]), &input[..came]);
+    let _ = out.flush();
 }

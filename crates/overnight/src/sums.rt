@@ -1,40 +1,41 @@
 // How many keys were held, and how many changed.
-use crate::{line, records};
+use crate::entry::{self, Kind};
+use crate::records;
+use std::io::{self, Write};
 
 // How many entries of the list are of a kind.
-fn of_kind(list: &[u8], kind: u8) -> u64 {
-    let entries = list.len() / line::ENTRY;
-    let mut n = 0u64;
-    let mut i = 0;
-    while i < entries {
-        n = records::plus(n, list[line::ENTRY * i] == kind);
-        i += 1;
-    }
-    n
+fn of_kind(list: &[u8], kind: Kind) -> usize {
+    list.chunks_exact(entry::ENTRY)
+        .filter_map(entry::entry_of)
+        .filter(|entry| entry.kind == kind)
+        .count()
 }
 
-fn say_sum(line: &mut [u8], what: &[u8], n: u64) {
-    let a = text::left(line, 0, what, 16);
-    let b = text::column(line, a, n, 4);
-    text::say(line, b);
+fn write_sum<W: Write>(out: &mut W, what: &str, sum: usize) -> io::Result<()> {
+    writeln!(out, "{what:<16}{sum:>4}")
 }
 
-// What both caches hold in the same way: of the keys held before, those neither gone nor changed.
-fn unchanged(held: u64, gone: u64, changed: u64) -> u64 {
-    std::num::wrapping_sub_u64(std::num::wrapping_sub_u64(held, gone), changed)
-}
-
-pub(crate) fn say_sums(line: &mut [u8], before: &[u8], after: &[u8], list: &[u8]) {
+pub(crate) fn write_sums<W: Write>(
+    out: &mut W,
+    before: &[u8],
+    after: &[u8],
+    list: &[u8],
+) -> io::Result<()> {
     let held = records::count(before);
-    let gone = of_kind(list, 1);
-    let changed = of_kind(list, 3);
-    if list.len() != 0 {
-        text::tell(b"\n");
+    let gone = of_kind(list, Kind::Gone);
+    let changed = of_kind(list, Kind::Changed);
+    if !list.is_empty() {
+        writeln!(out)?;
     }
-    say_sum(line, b"Held before", held);
-    say_sum(line, b"Held after", records::count(after));
-    say_sum(line, b"Gone", gone);
-    say_sum(line, b"New", of_kind(list, 2));
-    say_sum(line, b"Changed", changed);
-    say_sum(line, b"Unchanged", unchanged(held, gone, changed));
+    write_sum(out, "Held before", held)?;
+    write_sum(out, "Held after", records::count(after))?;
+    write_sum(out, "Gone", gone)?;
+    write_sum(out, "New", of_kind(list, Kind::New))?;
+    write_sum(out, "Changed", changed)?;
+    // What both caches hold in the same way: of the keys held before, those neither gone nor changed.
+    write_sum(
+        out,
+        "Unchanged",
+        held.wrapping_sub(gone).wrapping_sub(changed),
+    )
 }

@@ -1,65 +1,34 @@
 // Readings from standard input.
 use readings::Reading;
+use std::io::Read;
 
 // A reading has so many bytes at most: two of its length, and as many as they can say.
 pub(crate) const READING: usize = 65537;
 
-// How many bytes of a reading came, 0 where the input has ended, and whether another may follow: none does behind one
-// that is cut short.
-#[derive(Clone, Copy)]
-pub(crate) struct Next {
-    pub len: usize,
-    pub more: bool,
+// The next reading: its length, and as many bytes as that says, if so many come. It is empty where the input has ended.
+pub(crate) fn next_reading<'a, R: Read>(input: &mut R, room: &'a mut [u8; READING]) -> &'a [u8] {
+    let mut length = [0u8; 2];
+    let mut came = text::read_full(input, &mut length);
+    room[..2].copy_from_slice(&length);
+    if came == 2 {
+        let told = usize::from(u16::from_le_bytes(length));
+        came += text::read_full(input, &mut room[2..2 + told]);
+    }
+    &room[..came]
 }
 
-fn wide(n: u16) -> usize {
-    n as usize
-}
-
-// Reads the next reading to the start of `room`, which has READING bytes: its length, and as many as that says.
-pub(crate) fn next_reading(room: &mut [u8]) -> Next {
-    if room.len() < 2 {
-        return Next {
-            len: 0,
-            more: false,
-        };
-    }
-    let got = io::read_full(0, &mut room[0..2]);
-    if got < 2 {
-        return Next {
-            len: got,
-            more: false,
-        };
-    }
-    let told = wide(octet::read_u16_le(room, 0));
-    if room.len() - 2 < told {
-        return Next {
-            len: 2,
-            more: false,
-        };
-    }
-    let came = io::read_full(0, &mut room[2..2 + told]);
-    Next {
-        len: 2 + came,
-        more: came == told,
+// Is it all there? Behind one that is cut short no other follows.
+pub(crate) fn is_whole(packed: &[u8]) -> bool {
+    match packed {
+        [low, high, body @ ..] => body.len() == usize::from(u16::from_le_bytes([*low, *high])),
+        _ => false,
     }
 }
 
-// Of a reading of so many bytes: how many stand behind a length that is wrong, and were not looked at.
-pub(crate) fn unseen(len: usize, found: Result<Reading, u32>) -> u64 {
+// How many bytes of a reading stand behind a length that is wrong, and were not looked at. Number 1 is document 02's for that.
+pub(crate) fn unseen(packed: &[u8], found: Result<Reading, u32>) -> usize {
     match found {
-        Ok(_) => 0,
-        Err(number) => behind_length(len, number),
+        Err(1) => packed.len().saturating_sub(2),
+        _ => 0,
     }
-}
-
-// Number 1 is document 02's for a wrong length.
-fn behind_length(len: usize, number: u32) -> u64 {
-    if number != 1 {
-        return 0;
-    }
-    if len < 2 {
-        return 0;
-    }
-    (len - 2) as u64
 }

@@ -1,88 +1,97 @@
 // The line of a reading.
-use crate::names;
 use amounts::{balance, depth};
 use readings::{Measured, Reading};
+use std::io::{self, Write};
+use text::Columns;
 
-// The column of names is there where some bytes of names are.
-pub(crate) fn say_heading(named: usize) {
-    if named == 0 {
-        return text::tell(b"Reading  Depth, m      Litres in  Litres out      Balance\n");
+// The column behind which names stand, and the most bytes that a line has with one.
+const NAMED: usize = 66;
+
+const MOST: usize = 160;
+
+// The column of names is there where there are names.
+pub(crate) fn write_heading<W: Write>(out: &mut W, names: &[u8]) -> io::Result<()> {
+    write!(
+        out,
+        "Reading  Depth, m      Litres in  Litres out      Balance"
+    )?;
+    if names.is_empty() {
+        writeln!(out)
+    } else {
+        writeln!(out, "           Pond")
     }
-    text::tell(b"Reading  Depth, m      Litres in  Litres out      Balance           Pond\n")
 }
 
 // A depth in metres, or a fault with its number, in a column.
-fn put_measured(line: &mut [u8], at: usize, measured: Measured) -> usize {
-    let mut cell = [0u8; 11];
-    let end = put_cell(&mut cell, measured);
-    text::left(line, at, text::part(&cell, 0, end), 11)
-}
-
-fn put_cell(cell: &mut [u8], measured: Measured) -> usize {
+fn write_measured<W: Write>(out: &mut Columns<'_, W>, measured: Measured) -> io::Result<()> {
     match measured {
-        Measured::Depth(depth) => depth::put(cell, 0, readings::bits_of(depth), 2),
-        Measured::Fault(fault) => text::put_number(cell, 0, b"fault ", fault as u64),
+        Measured::Depth(depth) => depth::write(out, readings::bits_of(depth), 2)?,
+        Measured::Fault(fault) => write!(out, "fault {fault}")?,
+    }
+    out.fill_to(20)
+}
+
+fn write_reading<W: Write>(out: &mut Columns<'_, W>, reading: Reading) -> io::Result<()> {
+    let Reading {
+        measured,
+        inflow,
+        outflow,
+    } = reading;
+    write_measured(out, measured)?;
+    write!(out, "{inflow:>12}{outflow:>12}")?;
+    balance::write(out, inflow, outflow, 13)
+}
+
+// What the numbers of document 02, request 7, mean for a reading that is not taken.
+pub(crate) fn meaning_of(number: u32) -> &'static str {
+    match number {
+        1 => "of wrong length, or cut short",
+        2 => "of an unknown kind",
+        _ => "its depth is not from 0 to 20 metres",
     }
 }
 
-fn put_reading(line: &mut [u8], at: usize, reading: Reading) -> usize {
-    let measured = reading.measured;
-    let a = put_measured(line, at, measured);
-    let b = text::column(line, a, reading.inflow as u64, 12);
-    let c = text::column(line, b, reading.outflow as u64, 12);
-    balance::put(line, c, reading.inflow, reading.outflow, 13)
-}
-
-// A word, a number, and what those of document 02, request 7, mean for a reading that is not taken.
-pub(crate) fn put_refusal(line: &mut [u8], at: usize, word: &[u8], number: u32) -> usize {
-    let a = text::put_number(line, at, word, number as u64);
-    text::put_row(
-        line,
-        a,
-        b"\n of wrong length, or cut short\n of an unknown kind\n its depth is not from 0 to 20 metres",
-        number as u64,
-    )
-}
-
-// Its number among the readings, in a column.
-fn put_place(line: &mut [u8], at: u64) -> usize {
-    let a = text::column(line, 0, at, 7);
-    text::put(line, a, b"  ")
-}
-
-fn say_reading(line: &mut [u8], name: &[u8], at: u64, reading: Reading) {
-    let a = put_place(line, at);
-    let b = put_reading(line, a, reading);
-    let c = names::put(line, b, name);
-    text::say(line, c);
-}
-
-// How many bytes behind a wrong length were not looked at, if some were.
-fn put_unseen(line: &mut [u8], at: usize, unseen: u64) -> usize {
+// Its number, and how many bytes behind a wrong length were not looked at, if some were.
+fn write_refused<W: Write>(out: &mut W, number: u32, unseen: usize) -> io::Result<()> {
+    let meaning = meaning_of(number);
+    write!(out, "refused: {number} {meaning}")?;
     if unseen == 0 {
-        return at;
+        return Ok(());
     }
-    text::put_number(line, at, b"; bytes not looked at: ", unseen)
+    write!(out, "; bytes not looked at: {unseen}")
 }
 
-fn say_refused(line: &mut [u8], name: &[u8], at: u64, number: u32, unseen: u64) {
-    let a = put_place(line, at);
-    let b = put_refusal(line, a, b"refused: ", number);
-    let c = put_unseen(line, b, unseen);
-    let d = names::put(line, c, name);
-    text::say(line, d);
+// The name behind what a line has, under the others, and the line's end. For a name that is too long the line has no room, and
+// behind one that fills it no end.
+fn write_name<W: Write>(out: &mut Columns<'_, W>, name: &[u8]) -> io::Result<()> {
+    if name.is_empty() {
+        return writeln!(out);
+    }
+    out.fill_to(NAMED)?;
+    write!(out, "  ")?;
+    let room = MOST.saturating_sub(out.taken());
+    if name.len() <= room {
+        out.write_all(name)?;
+    }
+    if name.len() == room {
+        return Ok(());
+    }
+    writeln!(out)
 }
 
 // What was found at a place, counted from 1, the name of that pond, and how many bytes were not looked at.
-pub(crate) fn say_found(
-    line: &mut [u8],
+pub(crate) fn write_found<W: Write>(
+    out: &mut W,
     name: &[u8],
     at: u64,
     found: Result<Reading, u32>,
-    unseen: u64,
-) {
+    unseen: usize,
+) -> io::Result<()> {
+    let mut line = Columns::of(out);
+    write!(line, "{at:>7}  ")?;
     match found {
-        Ok(reading) => say_reading(line, name, at, reading),
-        Err(number) => say_refused(line, name, at, number, unseen),
+        Ok(reading) => write_reading(&mut line, reading)?,
+        Err(number) => write_refused(&mut line, number, unseen)?,
     }
+    write_name(&mut line, name)
 }

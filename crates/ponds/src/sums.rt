@@ -2,13 +2,13 @@
 use crate::line;
 use amounts::balance;
 use readings::Reading;
+use std::io::{self, Write};
 
-// The columns of what is added up, and of its sum.
-const LABEL: usize = 20;
-
+// The columns of the sum of what is added up, behind 20 of what it is.
 const SUM: usize = 22;
 
-#[derive(Clone, Copy)]
+// No sum goes round: main takes no more readings than can be added up.
+#[derive(Clone, Copy, Default)]
 pub(crate) struct Sums {
     taken: u64,
     wrong_length: u64,
@@ -20,117 +20,77 @@ pub(crate) struct Sums {
     unseen: u64,
 }
 
-pub(crate) fn none() -> Sums {
-    Sums {
-        taken: 0,
-        wrong_length: 0,
-        unknown_kind: 0,
-        outside: 0,
-        inflow: 0,
-        outflow: 0,
-        deficits: 0,
-        unseen: 0,
-    }
-}
-
-// No sum goes round: main takes no more readings than can be added up.
-fn plus(sum: u64, n: u64) -> u64 {
-    std::num::wrapping_add_u64(sum, n)
-}
-
-fn one_if(counted: bool) -> u64 {
-    if counted { 1 } else { 0 }
-}
-
-fn with_reading(sums: Sums, reading: Reading) -> Sums {
-    let deficit = balance::is_deficit(reading.inflow, reading.outflow);
-    Sums {
-        taken: plus(sums.taken, 1),
-        wrong_length: sums.wrong_length,
-        unknown_kind: sums.unknown_kind,
-        outside: sums.outside,
-        inflow: plus(sums.inflow, reading.inflow as u64),
-        outflow: plus(sums.outflow, reading.outflow as u64),
-        deficits: plus(sums.deficits, one_if(deficit)),
-        unseen: sums.unseen,
-    }
-}
-
-fn with_refused(sums: Sums, number: u32, unseen: u64) -> Sums {
-    Sums {
-        taken: sums.taken,
-        wrong_length: plus(sums.wrong_length, one_if(number == 1)),
-        unknown_kind: plus(sums.unknown_kind, one_if(number == 2)),
-        outside: plus(sums.outside, one_if(number == 3)),
-        inflow: sums.inflow,
-        outflow: sums.outflow,
-        deficits: sums.deficits,
-        unseen: plus(sums.unseen, unseen),
-    }
-}
-
-// With what was found, and the bytes that were not looked at.
-pub(crate) fn with(sums: Sums, found: Result<Reading, u32>, unseen: u64) -> Sums {
-    match found {
-        Ok(reading) => with_reading(sums, reading),
-        Err(number) => with_refused(sums, number, unseen),
-    }
-}
-
-fn say_sum(line: &mut [u8], what: &[u8], n: u64) {
-    let a = text::left(line, 0, what, LABEL);
-    let b = text::column(line, a, n, SUM);
-    text::say(line, b);
-}
-
-fn say_unseen(line: &mut [u8], unseen: u64) {
-    if unseen == 0 {
-        return;
-    }
-    say_sum(line, b"Bytes not looked at", unseen)
+fn write_sum<W: Write>(out: &mut W, what: &str, sum: u64) -> io::Result<()> {
+    writeln!(out, "{what:<20}{sum:>SUM$}")
 }
 
 // Of one number, if it was given.
-fn say_refusal(line: &mut [u8], number: u32, n: u64) {
-    if n == 0 {
-        return;
+fn write_refusals<W: Write>(out: &mut W, number: u32, count: u64) -> io::Result<()> {
+    if count == 0 {
+        return Ok(());
     }
-    let a = text::column(line, 0, n, LABEL + SUM);
-    let b = line::put_refusal(line, a, b"  ", number);
-    text::say(line, b);
+    let meaning = line::meaning_of(number);
+    writeln!(out, "{count:>42}  {number} {meaning}")
 }
 
-fn say_refusals(line: &mut [u8], sums: Sums) {
-    say_refusal(line, 1, sums.wrong_length);
-    say_refusal(line, 2, sums.unknown_kind);
-    say_refusal(line, 3, sums.outside);
-}
+impl Sums {
+    fn add_reading(&mut self, reading: Reading) {
+        self.taken = self.taken.wrapping_add(1);
+        self.inflow = self.inflow.wrapping_add(u64::from(reading.inflow));
+        self.outflow = self.outflow.wrapping_add(u64::from(reading.outflow));
+        if reading.inflow < reading.outflow {
+            self.deficits = self.deficits.wrapping_add(1);
+        }
+    }
 
-fn say_counts(line: &mut [u8], sums: Sums) {
-    let refused = plus(plus(sums.wrong_length, sums.unknown_kind), sums.outside);
-    say_sum(line, b"Readings", plus(sums.taken, refused));
-    say_sum(line, b"Taken", sums.taken);
-    say_sum(line, b"Refused", refused);
-    say_refusals(line, sums);
-    say_unseen(line, sums.unseen);
-}
+    fn add_refused(&mut self, number: u32, unseen: usize) {
+        let count = match number {
+            1 => &mut self.wrong_length,
+            2 => &mut self.unknown_kind,
+            _ => &mut self.outside,
+        };
+        *count = count.wrapping_add(1);
+        self.unseen = self.unseen.wrapping_add(unseen as u64);
+    }
 
-fn say_balance(line: &mut [u8], inflow: u64, outflow: u64) {
-    let a = text::left(line, 0, b"Balance", LABEL);
-    let b = balance::put_all(line, a, inflow, outflow, SUM);
-    text::say(line, b);
-}
+    // What was found, and the bytes that were not looked at.
+    pub(crate) fn add(&mut self, found: Result<Reading, u32>, unseen: usize) {
+        match found {
+            Ok(reading) => self.add_reading(reading),
+            Err(number) => self.add_refused(number, unseen),
+        }
+    }
 
-fn say_litres(line: &mut [u8], sums: Sums) {
-    say_sum(line, b"Litres in", sums.inflow);
-    say_sum(line, b"Litres out", sums.outflow);
-    say_balance(line, sums.inflow, sums.outflow);
-}
+    fn write_counts<W: Write>(&self, out: &mut W) -> io::Result<()> {
+        let refused = self
+            .wrong_length
+            .wrapping_add(self.unknown_kind)
+            .wrapping_add(self.outside);
+        write_sum(out, "Readings", self.taken.wrapping_add(refused))?;
+        write_sum(out, "Taken", self.taken)?;
+        write_sum(out, "Refused", refused)?;
+        write_refusals(out, 1, self.wrong_length)?;
+        write_refusals(out, 2, self.unknown_kind)?;
+        write_refusals(out, 3, self.outside)?;
+        if self.unseen == 0 {
+            return Ok(());
+        }
+        write_sum(out, "Bytes not looked at", self.unseen)
+    }
 
-// A reading does not say whose it is, and a pond may have several: what is counted are readings.
-pub(crate) fn say_sums(line: &mut [u8], sums: Sums) {
-    text::tell(b"\n");
-    say_counts(line, sums);
-    say_litres(line, sums);
-    say_sum(line, b"Readings in deficit", sums.deficits);
+    fn write_litres<W: Write>(&self, out: &mut W) -> io::Result<()> {
+        write_sum(out, "Litres in", self.inflow)?;
+        write_sum(out, "Litres out", self.outflow)?;
+        write!(out, "{:<20}", "Balance")?;
+        balance::write_all(out, self.inflow, self.outflow, SUM)?;
+        writeln!(out)
+    }
+
+    // A reading does not say whose it is, and a pond may have several: what is counted are readings.
+    pub(crate) fn write<W: Write>(&self, out: &mut W) -> io::Result<()> {
+        writeln!(out)?;
+        self.write_counts(out)?;
+        self.write_litres(out)?;
+        write_sum(out, "Readings in deficit", self.deficits)
+    }
 }

@@ -1,9 +1,0 @@
--- `ponds::names::end_of` ends: what is left of the text falls. Assumes nothing.
-use Rattle.std.proofs.Common.{◌-◌, length}
-use Rattle.ponds.proofs.names.end_of.Given as goal
-
-abbrev pub invariant-loop-at : goal.invariant-loop-at
-invariant-loop-at l = Unit {0}
-
-abbrev pub decreases-loop-at : goal.decreases-loop-at
-decreases-loop-at l = length l.names - l.at

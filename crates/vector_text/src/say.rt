@@ -1,5 +1,6 @@
 // What is written to standard output.
-use key::{Key, Order};
+use key::Key;
+use std::cmp::Ordering;
 
 pub fn text(s: &[u8]) {
     io::write_all(1, s);
@@ -43,11 +44,11 @@ pub fn key(k: Key) {
     io::print_hex(1, k.d, 16);
 }
 
-pub fn order(o: Order) {
+pub fn order(o: Ordering) {
     match o {
-        Order::Less => text(b"less"),
-        Order::Same => text(b"same"),
-        Order::More => text(b"more"),
+        Ordering::Less => text(b"less"),
+        Ordering::Equal => text(b"same"),
+        Ordering::Greater => text(b"more"),
     }
 }
 

@@ -4,11 +4,11 @@ use mathlib.Core.Path.{◌≡◌, refl, sym, ap, ◌∙◌}
 use mathlib.Core.Logic.{◌⊎◌, inl, inr}
 use mathlib.Core.Bool.{Bool, true, false, ◌||◌}
 use mathlib.Core.List.{List, [], ◌∷◌, ◌++◌}
-use Prim.Native.Nat.{ℕ, zero, suc, ◌+◌, ◌*◌, ◌≤◌, ◌<◌}
+use Prim.Native.Nat.{ℕ, zero, suc, ◌*◌, ◌≤◌, ◌<◌}
 use native.Mathlib.Omega.{arith}
 use lib.ListN.{length, get_or}
 use borrow.Author.Tests.{not-false}
-use Rattle.octet.specs.Part.{part, same}
+use Rattle.octet.specs.Part.{same}
 use Rattle.octet.proofs.TestLaws.{same_refl, same-eq}
 use Rattle.key.specs.Number.{key_at}
 use Rattle.record.specs.Record.{key_of}
@@ -16,13 +16,12 @@ use Rattle.own.specs.Own.{own_form, own_keys, own_records, own_record, own_place
 use Rattle.own.proofs.FormLaws.{own_formed}
 use Rattle.own.proofs.PlaceLaws.{place_key_lem}
 use Rattle.gauge_plan.proofs.OwnLaws.{place_within, record_in}
-use Rattle.refusal.specs.Table.{Refusal, first_of, or_refuse, by_number}
+use Rattle.refusal.specs.Table.{Refusal, first_of, by_number}
 use Rattle.refusal.proofs.TableLaws.{AllFail, all_fail}
 use Rattle.refusal.proofs.CallLaws.{or_refuses, all_pass}
 use Rattle.table.specs.Rows.{any_of}
 use Rattle.table.specs.Seek.{seek}
-use Rattle.table.specs.declared.Found.{Found}
-use Rattle.table.specs.declared.Found.TheVariants.{At, Nothing}
+use Rattle.std.specs.Prelude.{Option, Some, None}
 use Rattle.table.proofs.RowLaws.{row_at, rows-length}
 use Rattle.table.proofs.SeekLaws.{found_within, found_passes, none_found}
 use Rattle.kept.specs.Keys.{◌∈◌}
@@ -30,9 +29,9 @@ use Rattle.cache.specs.Form.{held_in, held_of}
 use Rattle.cache.specs.Calls.{held_by}
 use Rattle.cache.proofs.FormLaws.{true_form, form_laid}
 use Rattle.neighbours.specs.Closest.{off_path, closest_past}
-use Rattle.neighbours.specs.Calls.{Shown, shown, shown_by, Inside, closest_wrong, closest_call}
+use Rattle.neighbours.specs.Calls.{shown, shown_by, Inside, closest_wrong, closest_call}
 use Rattle.neighbours.specs.declared.nearest.Nearest.{Nearest}
-use Rattle.neighbours.specs.declared.nearest.Nearest.TheVariants.{Refused, Own, Held}
+use Rattle.neighbours.specs.declared.nearest.Nearest.TheVariants.{Refused}
 use Rattle.neighbours.proofs.ClosestLaws.{held-key, one_held, closest-among}
 use Rattle.neighbours.proofs.SkipLaws.{has-off}
 use Rattle.neighbours.proofs.CallLaws.{closest-does}
@@ -61,7 +60,7 @@ module _ (own cache path target : List ℕ) where
   abbrev nearest : List ℕ
   nearest = closest_past own (held_by own cache) path (key_at 0 target)
 
-  abbrev found : Found
+  abbrev found : Option ℕ
   found = seek (λ (q : List ℕ). same q nearest) 0 (held_by own cache)
 
   -- where it stands if it is one of our own
@@ -85,14 +84,14 @@ module _ (own cache path target : List ℕ) where
     unfolding held_of
     room = (form_laid (own_keys own) (held_in (own_keys own) cache) cache (true_form (own_keys own) cache (not-false _ a.1.0))).room
 
-    shown-at : (f : Found) → found ≡ f → (shown_by own cache (standing at f) ≡ shown 0 nearest) × Inside own cache (standing at f)
+    shown-at : (f : Option ℕ) → found ≡ f → (shown_by own cache (standing at f) ≡ shown 0 nearest) × Inside own cache (standing at f)
     unfolding held_of
-    shown-at (At j) e =
+    shown-at (Some j) e =
         let within = found_within (λ (q : List ℕ). same q nearest) j (held_by own cache) e in
         let is = same-eq (get_or (held_by own cache) j []) nearest (found_passes (λ (q : List ℕ). same q nearest) j (held_by own cache) e) in
         let few : j < held_in (own_keys own) cache = omega (arith, within, rows-length 100 (held_in (own_keys own) cache) cache) in
         (ap (shown 0) (sym (row_at 100 (held_in (own_keys own) cache) cache j few) ∙ is), (within, omega (arith, few, room)))
-    shown-at Nothing e = (ap (shown 0) (own-record owned nearest mine), place_within own (key_of nearest) (key-own nearest mine))
+    shown-at None e = (ap (shown 0) (own-record owned nearest mine), place_within own (key_of nearest) (key-own nearest mine))
       where
         owned : own_form own ≡ true
         owned = not-false (own_form own) a.0

@@ -4,7 +4,7 @@ use mathlib.Core.Path.{◌≡◌, refl, sym, ap, ◌∙◌, subst}
 use mathlib.Core.Logic.{◌↔◌}
 use mathlib.Core.Bool.{Bool, true, false, cond}
 use mathlib.Core.List.{List}
-use Prim.Native.Nat.{ℕ, suc, ◌≤◌, ◌<◌}
+use Prim.Native.Nat.{ℕ, suc, ◌<◌}
 use native.Mathlib.Nat.{suc_inj}
 use native.Mathlib.Omega.{arith}
 use lib.ListN.{get_or}
@@ -14,17 +14,17 @@ use Rattle.refusal.specs.Table.{applies_in, InOrder, by_number}
 use Rattle.refusal.proofs.TableLaws.{AllFail, all_fail}
 use Rattle.refusal.proofs.CallLaws.{all_pass, number_is, refusal-keeps, call-exactly, or_known}
 use Rattle.own.specs.Own.{own_keys, IsOwn}
-use Rattle.kept.specs.Keys.{◌∈◌, has, Rising, plain}
+use Rattle.kept.specs.Keys.{has, Rising, plain}
 use Rattle.kept.specs.Turned.{count_under}
 use Rattle.kept.specs.Plain.{NotOwn}
-use Rattle.kept.proofs.ListLaws.{has_in, has_out, in_has, every_at}
+use Rattle.kept.proofs.ListLaws.{has_in, has_out, every_at}
 use Rattle.search.specs.Halving.{halvings}
 use Rattle.cache.specs.Form.{keys_of}
 use Rattle.cache.specs.Calls.{held_by}
 use Rattle.cache.specs.Place.{find_key}
 use Rattle.cache.specs.Searching.{searched, place_among, search_wrong, search_call}
 use Rattle.cache.specs.declared.calls.Searched.{Searched}
-use Rattle.cache.specs.declared.place.Found.TheVariants.{At}
+use Rattle.std.specs.Prelude.{Ok}
 use Rattle.cache.proofs.FormLaws.{true_form}
 use Rattle.cache.proofs.FindLaws as found
 use Rattle.cache.proofs.SearchLaws.{keys_bound, keys_few, search-bound, search-few}
@@ -33,7 +33,7 @@ use Rattle.neighbours.specs.declared.nearest.Nearest.{Nearest}
 use Rattle.neighbours.specs.declared.nearest.Nearest.TheVariants.{Refused, Own, Held}
 use Rattle.gauge_commit.specs.Sending.{answer}
 use Rattle.gauge.specs.Nearest.{closest_answered, nearest_call}
-use Rattle.gauge.specs.Searching.{search_answered, gauge_search, Tells, SearchTells, Few, SearchComparesFew, ClosestComparesFew}
+use Rattle.gauge.specs.Searching.{search_answered, gauge_search, SearchTells, Few, SearchComparesFew, ClosestComparesFew}
 
 -- ---- places
 
@@ -56,7 +56,7 @@ place_some k ks r i e = by (has k ks) refl e
   where
     by : (b : Bool) → has k ks ≡ b → cond b (suc (count_under k ks)) 0 ≡ suc i → get_or ks i 0 ≡ k
     by true h n =
-        let at : find_key k ks ≡ At (count_under k ks) = found.found_sought k 0 ks r h in
+        let at : find_key k ks ≡ Ok (count_under k ks) = found.found_sought k 0 ks r h in
         subst (λ (j : ℕ). get_or ks j 0 ≡ k) (suc_inj n) (subst (found.Tells k ks) at (found.found_tells k 0 ks r))
     by false h n = absurd (omega arith)
 

@@ -1,14 +1,12 @@
 -- Helps the code. The closest record as the radio program is told of it: which one it is, and no copy. Tied to what is believed of it by `nearest-shows` and
 -- `closest-fixed` (neighbours/CallLaws). Assumes nothing.
-use Rattle.std.specs.Prelude.{ℕ, ◌+◌, List}
+use Rattle.std.specs.Prelude.{ℕ, ◌+◌, List, Option, Some, None}
 use Rattle.octet.specs.Part.{same}
 use Rattle.key.specs.Number.{key_at}
 use Rattle.record.specs.Record.{key_of}
 use Rattle.own.specs.Own.{own_keys, own_place}
 use Rattle.refusal.specs.Table.{or_refuse}
 use Rattle.table.specs.Seek.{seek}
-use Rattle.table.specs.declared.Found.{Found}
-use Rattle.table.specs.declared.Found.TheVariants.{At, Nothing}
 use Rattle.cache.specs.Calls.{held_by}
 use Rattle.neighbours.specs.Closest.{closest_past}
 use Rattle.neighbours.specs.Calls.{closest_wrong, closest_compared}
@@ -18,9 +16,9 @@ use Rattle.gauge_commit.specs.declared.Answer.{Answer}
 use Rattle.gauge_commit.specs.Sending.{answer}
 
 -- the place of the cache whose record it is, or the place i of our own where it is none of them
-abbrev pub standing : ℕ → Found → Nearest
-standing i (At j) = Held j
-standing i Nothing = Own i
+abbrev pub standing : ℕ → Option ℕ → Nearest
+standing i (Some j) = Held j
+standing i None = Own i
 
 unfoldable pub nearest_call : (own cache path target : List ℕ) → Nearest
 nearest_call own cache path target =

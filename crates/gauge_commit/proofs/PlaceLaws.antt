@@ -18,8 +18,7 @@ use Rattle.kept.specs.Keys.{Every, ◌∈◌}
 use Rattle.cache.specs.Form.{Form}
 use Rattle.neighbours.specs.Closest.{candidates, closest_of}
 use Rattle.neighbours.proofs.ClosestLaws.{closest-among}
-use Rattle.table.specs.declared.Found.{Found}
-use Rattle.table.specs.declared.Found.TheVariants.{At, Nothing}
+use Rattle.std.specs.Prelude.{Option, Some, None}
 use Rattle.waiting.specs.Place.{place_key, place_record}
 use Rattle.waiting.specs.Form.{is_inquiry}
 use Rattle.waiting.specs.Open.{freed}
@@ -54,15 +53,15 @@ target_long at d h = ap length (part_lent at 32 d) ∙ length_part at 32 d h
 
 -- ---- an inquiry found, and none
 
-module _ (k used : ℕ) (t : List ℕ) {found : Found} (is : found ≡ seek (is_inquiry k) 0 (drop 0 (rows 140 used t))) where
-  pub found-used : {at : ℕ} → found ≡ At at → at < used
+module _ (k used : ℕ) (t : List ℕ) {found : Option ℕ} (is : found ≡ seek (is_inquiry k) 0 (drop 0 (rows 140 used t))) where
+  pub found-used : {at : ℕ} → found ≡ Some at → at < used
   found-used {at} e = omega (arith, found_within (is_inquiry k) at (rows 140 used t) (sym is ∙ e), rows-length 140 used t)
 
-  pub found-freed : {at : ℕ} → found ≡ At at → freed_at (seek (is_inquiry k) 0 (rows 140 used t)) (rows 140 used t) ≡ freed at (rows 140 used t)
-  found-freed e = ap (λ (f : Found). freed_at f (rows 140 used t)) (sym is ∙ e)
+  pub found-freed : {at : ℕ} → found ≡ Some at → freed_at (seek (is_inquiry k) 0 (rows 140 used t)) (rows 140 used t) ≡ freed at (rows 140 used t)
+  found-freed e = ap (λ (f : Option ℕ). freed_at f (rows 140 used t)) (sym is ∙ e)
 
-  pub none-freed : found ≡ Nothing → length t ≡ 2240 → Laid 140 used t
+  pub none-freed : found ≡ None → length t ≡ 2240 → Laid 140 used t
       → t ≡ bytes_of 2240 (freed_at (seek (is_inquiry k) 0 (rows 140 used t)) (rows 140 used t))
   none-freed e long laid =
       laid-bytes 140 used t laid ∙ ap (λ (n : ℕ). bytes_of n (rows 140 used t)) long
-      ∙ ap (λ (f : Found). bytes_of 2240 (freed_at f (rows 140 used t))) (sym (sym is ∙ e))
+      ∙ ap (λ (f : Option ℕ). bytes_of 2240 (freed_at f (rows 140 used t))) (sym (sym is ∙ e))

@@ -1,10 +1,8 @@
 -- Helps the code. The ACK of a FLOOD and the INQUIRE that follows it, and the places without the one found, as the code makes them. Tied to document 01 by
 -- `ours-meets` (sentences/Theorems). Assumes nothing.
-use Rattle.std.specs.Prelude.{ℕ, Bool, cond, List, [], ◌∷◌}
+use Rattle.std.specs.Prelude.{ℕ, Bool, cond, List, [], ◌∷◌, Option, Some, None}
 use Rattle.octet.specs.Part.{part}
 use Rattle.waiting.specs.Open.{freed}
-use Rattle.table.specs.declared.Found.{Found}
-use Rattle.table.specs.declared.Found.TheVariants.{At, Nothing}
 use Rattle.wire_write.specs.Making.{ack_made, inquire_made}
 use Rattle.asking.specs.Ids.{id_after}
 
@@ -16,6 +14,6 @@ abbrev pub inquire_written : ℕ → ℕ → ℕ → Bool → List ℕ → List 
 inquire_written major minor id opens nonce r = cond opens ((inquire_made major minor (id_after id) (part 0 32 r) nonce).bytes ∷ []) []
 
 -- the places without the one found
-abbrev pub freed_at : Found → List (List ℕ) → List (List ℕ)
-freed_at (At i) ps = freed i ps
-freed_at Nothing ps = ps
+abbrev pub freed_at : Option ℕ → List (List ℕ) → List (List ℕ)
+freed_at (Some i) ps = freed i ps
+freed_at None ps = ps

@@ -1,72 +1,49 @@
 // How many records had each answer.
 use shown_words::words;
+use std::io::{self, Write};
 
 // The answers are 0 to 25: those above 17 are for later versions.
-pub fn count(counts: &mut [u64; 26], answer: u32) {
-    let i = answer as usize;
-    if 25 < i {
-        return;
-    }
-    if counts[i] < u64::MAX {
-        counts[i] += 1;
-    }
+#[derive(Clone, Copy)]
+pub struct Totals {
+    counts: [u64; 26],
 }
 
-// Has a bad record ended the replay?
-pub fn is_stopped(counts: &[u64; 26]) -> bool {
-    if counts[16] != 0 {
-        return true;
+fn sum(counts: &[u64]) -> u64 {
+    counts.iter().fold(0, |all: u64, n| all.wrapping_add(*n))
+}
+
+impl Totals {
+    pub fn none() -> Totals {
+        Totals { counts: [0; 26] }
     }
-    counts[17] != 0
-}
 
-fn sum(counts: &[u64; 26], from: usize) -> u64 {
-    let mut all = 0u64;
-    let mut i = from;
-    while i < 26 {
-        all = std::num::wrapping_add_u64(all, counts[i]);
-        i += 1;
+    pub fn add(&mut self, answer: u32) {
+        if let Some(count) = self.counts.get_mut(answer as usize) {
+            *count = count.saturating_add(1);
+        }
     }
-    all
-}
 
-// Were there calls, and none that was accepted?
-pub fn is_refused(counts: &[u64; 26]) -> bool {
-    if counts[0] != 0 {
-        return false;
+    // Has a bad record ended the replay?
+    pub fn is_stopped(&self) -> bool {
+        self.counts[16] != 0 || self.counts[17] != 0
     }
-    sum(counts, 1) != 0
-}
 
-fn say_sum(line: &mut [u8], what: &[u8], n: u64) {
-    let a = text::put(line, 0, what);
-    let b = text::column(line, a, n, 8);
-    text::say(line, b);
-}
-
-// Of one number, if it was given.
-fn say_number(line: &mut [u8], number: u64, n: u64) {
-    if n == 0 {
-        return;
+    // Were there calls, and none that was accepted?
+    pub fn is_refused(&self) -> bool {
+        self.counts[0] == 0 && self.counts.iter().any(|n| *n != 0)
     }
-    let a = text::column(line, 0, n, 18);
-    let b = text::put(line, a, b"  ");
-    let c = words::put_answer(line, b, number);
-    text::say(line, c);
-}
 
-fn say_refusals(line: &mut [u8], counts: &[u64; 26]) {
-    let mut i = 1;
-    while i < 26 {
-        say_number(line, i as u64, counts[i]);
-        i += 1;
+    pub fn write<W: Write>(&self, out: &mut W) -> io::Result<()> {
+        writeln!(out, "\nRecords   {:>8}", sum(&self.counts))?;
+        writeln!(out, "Accepted  {:>8}", self.counts[0])?;
+        writeln!(out, "Refused   {:>8}", sum(&self.counts[1..]))?;
+        for (number, n) in (0..26).zip(&self.counts) {
+            if number != 0 && *n != 0 {
+                write!(out, "{n:>18}  ")?;
+                words::write_answer(out, number)?;
+                writeln!(out)?;
+            }
+        }
+        Ok(())
     }
-}
-
-pub fn say_totals(line: &mut [u8], counts: &[u64; 26]) {
-    text::tell(b"\n");
-    say_sum(line, b"Records   ", sum(counts, 0));
-    say_sum(line, b"Accepted  ", counts[0]);
-    say_sum(line, b"Refused   ", sum(counts, 1));
-    say_refusals(line, counts);
 }

@@ -14,8 +14,7 @@ use Rattle.own.specs.Own.{own_form, own_keys}
 use Rattle.table.specs.Rows.{rows}
 use Rattle.cache.specs.Form.{cache_form, Form}
 use Rattle.cache.specs.Place.{cache_formed}
-use Rattle.cache.specs.declared.shape.Formed.{Formed}
-use Rattle.cache.specs.declared.shape.Formed.TheVariants.{Bad, Good}
+use Rattle.std.specs.Prelude.{Option, Some, None}
 use Rattle.cache.proofs.FormLaws.{form_laid}
 use Rattle.cache.proofs.ShapeLaws.{good-is, good-held, good_form, bad-is}
 use Rattle.cache.proofs.LentLaws.{not_is, not_isn't, memory-form, memory-held, memory-passes, memory-refuses}
@@ -44,20 +43,20 @@ module _ (own a b out : List ℕ) where
   abbrev done : Listed
   done = list_done (changes_of own a b) out
 
-  module _ {m : Formed} (is : m ≡ cond (own_form own) (cache_formed (own_keys own) a) Bad) where
-    pub first-wrong : m ≡ Bad → refused_with out 1 ≡ list_call own a b out
+  module _ {m : Option ℕ} (is : m ≡ cond (own_form own) (cache_formed (own_keys own) a) None) where
+    pub first-wrong : m ≡ None → refused_with out 1 ≡ list_call own a b out
     unfolding list_call
     first-wrong bad = sym (memory-refuses own a is bad (refused_with out) _ done)
 
-    module _ {used : ℕ} (right : m ≡ Good used) {n : Formed} (also : n ≡ cache_formed (own_keys own) b) where
-      pub second-wrong : n ≡ Bad → refused_with out 1 ≡ list_call own a b out
+    module _ {used : ℕ} (right : m ≡ Some used) {n : Option ℕ} (also : n ≡ cache_formed (own_keys own) b) where
+      pub second-wrong : n ≡ None → refused_with out 1 ≡ list_call own a b out
       unfolding list_call
       second-wrong bad =
           sym (memory-passes own a is right (refused_with out) _ done
           ∙ row_applies (refused_with out) 1 (not (cache_form (own_keys own) b)) _ done (not_isn't (bad-is (own_keys own) b (sym also ∙ bad))))
 
-      module _ {held : ℕ} (well : n ≡ Good held) where
-        formed : cache_formed (own_keys own) b ≡ Good held
+      module _ {held : ℕ} (well : n ≡ Some held) where
+        formed : cache_formed (own_keys own) b ≡ Some held
         formed = sym also ∙ well
 
         abbrev later : List Refusal

@@ -6,7 +6,6 @@ ghost use Rattle.table.specs.Rows.{rows};
 ghost use Rattle.changed.specs.Changes.{changes};
 ghost use Rattle.changes.specs.Listed.{listed, list_or_room, list_call};
 
-use cache::Formed;
 
 // The list of what changed between so many records of two caches in form, where the output has room for it. It is counted
 // before a byte is written.
@@ -41,12 +40,10 @@ pub fn gauge_changes(
     ensures { listed result output.new
         ≡ list_call own.now «before».now «after».now output.old }
 {
-    let first = cache::memory(own, before);
-    let Formed::Good(used) = first else {
+    let Some(used) = cache::memory(own, before) else {
         return gauge_commit::answer_of(refusal::MEMORY, 0, 0);
     };
-    let second = cache::form(own, after);
-    let Formed::Good(held) = second else {
+    let Some(held) = cache::form(own, after) else {
         return gauge_commit::answer_of(refusal::MEMORY, 0, 0);
     };
     if before.len() != after.len() {

@@ -68,8 +68,7 @@ pub extern "C" fn leaves_form(own: &[u8], cache: &[u8]) -> usize
     if own.len() < 32 {
         return 257;
     }
-    let formed = cache::form(own, cache);
-    if let cache::Formed::Good(used) = formed {
+    if let Some(used) = cache::form(own, cache) {
         return used;
     }
     257

@@ -11,12 +11,12 @@ pub returns-then-own-lt32 : goal.returns-then-own-lt32
 unfolding held_or257
 returns-then-own-lt32 c = simp (lt-leb _ _ c.if-own-lt32.true)
 
-pub returns-in-Good : goal.returns-in-Good
+pub returns-in-Some : goal.returns-in-Some
 unfolding held_or257
-returns-in-Good c =
+returns-in-Some c =
     let if1 = c in
     let args = if1.args in
-    let told = good-is (own_keys args.own.now) args.cache.now (sym c.form-formed.ensures ∙ c.in-Good.is) in
+    let told = good-is (own_keys args.own.now) args.cache.now (sym c.form.ensures ∙ c.in-Some.is) in
     simp (le-leb _ _ if1.if-own-lt32.false, told.0) (sym told.1)
 
 pub returns : goal.returns
@@ -24,5 +24,5 @@ unfolding held_or257
 returns c =
     let if1 = c in
     let args = if1.args in
-    let told = bad-is (own_keys args.own.now) args.cache.now (sym c.form-formed.ensures ∙ c.in_default.is) in
+    let told = bad-is (own_keys args.own.now) args.cache.now (sym c.form.ensures ∙ c.in_default.is) in
     simp (le-leb _ _ if1.if-own-lt32.false, told)

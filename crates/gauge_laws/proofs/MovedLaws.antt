@@ -26,8 +26,7 @@ use Rattle.waiting.specs.Form.{PlacesForm, is_inquiry, used_of, places_of}
 use Rattle.table.specs.Seek.{seek}
 use Rattle.waiting.specs.Seek.{has_id}
 use Rattle.waiting.specs.Open.{opened, freed}
-use Rattle.table.specs.declared.Found.{Found}
-use Rattle.table.specs.declared.Found.TheVariants.{At, Nothing}
+use Rattle.std.specs.Prelude.{Option, Some, None}
 use Rattle.waiting.proofs.NewLaws.{new-id, new-kind}
 use Rattle.waiting.proofs.FormLaws.{form_of, form_unique}
 use Rattle.waiting.proofs.KeptLaws.{free-kept, open-inquiry, open-flood}
@@ -85,9 +84,9 @@ module _ (New : List ℕ → Type 0) (own : Own) (t : List ℕ) (f : PlacesForm 
   left-freed : (i : ℕ) → Left New own t (bytes_of 2240 (freed i (places_of t)))
   left-freed i = record { entered = f; places = freed i (places_of t); form = free-kept own t (places_of t) f i; moved = frees i refl }
 
-  left-found : (found : Found) → Left New own t (bytes_of 2240 (freed_at found (places_of t)))
-  left-found (At i) = left-freed i
-  left-found Nothing = subst (Left New own t) f.bytes left-same
+  left-found : (found : Option ℕ) → Left New own t (bytes_of 2240 (freed_at found (places_of t)))
+  left-found (Some i) = left-freed i
+  left-found None = subst (Left New own t) f.bytes left-same
 
 -- the places that the plan counts are those of the table
 module _ (own : List ℕ) (m : Memory) {h u : ℕ} (ready : Ready own m h u) where
@@ -146,7 +145,7 @@ module _ (m : Memory) (l : Receive) where
   same_left : {h u : ℕ} → Ready l.own m h u → ReceiveLeft m l m.waiting
   same_left r = left-same Opening (own_keys l.own) m.waiting (ready-form l.own m r)
 
-  found_left : {h u : ℕ} → Ready l.own m h u → (found : Found)
+  found_left : {h u : ℕ} → Ready l.own m h u → (found : Option ℕ)
       → ReceiveLeft m l (bytes_of 2240 (freed_at found (rows 140 u m.waiting)))
   found_left r found =
       subst (λ (ps : List (List ℕ)). ReceiveLeft m l (bytes_of 2240 (freed_at found ps))) (ready-places l.own m r)
@@ -159,8 +158,8 @@ module _ (m : Memory) (l : Receive) where
       entry-opens m l k.ready start len k.entry (k.plans.free refl) (k.plans.new refl) k.plans.other (sym k.plans.opens-is)
   plan-left r (Flood u s n a false start len) k = same_left r
   plan-left r (Revoke h u s n a) k = found_left k.ready (seek (is_inquiry (key_at 0 l.key)) 0 (rows 140 u m.waiting))
-  plan-left r (Learn h u at) k = found_left k.ready (At at)
-  plan-left r (Free h u at n) k = found_left k.ready (At at)
+  plan-left r (Learn h u at) k = found_left k.ready (Some at)
+  plan-left r (Free h u at n) k = found_left k.ready (Some at)
   plan-left r (Certify a i) k = same_left r
   plan-left r (Show h u a target path size true start len) k =
       let v = part start len l.datagram in

@@ -31,12 +31,12 @@ use Rattle.wire_read.specs.Answers as R
 use Rattle.wire_read.specs.declared.Head.{Head}
 use Rattle.wire_read.specs.declared.Incoming as T
 use Rattle.wire_read.specs.declared.Incoming.TheVariants as M
-use Rattle.gauge_plan.specs.Memory.{tables_fit, memory_of, hands_fit}
+use Rattle.gauge_plan.specs.Memory.{fitness, tables_fit, memory_of, hands_fit}
 use Rattle.plan_flood.specs.Flood.{flood_plan, revoke_plan}
 use Rattle.plan_answer.specs.Answering.{authority_plan, ack_plan, inquire_plan, lookup_plan}
 use Rattle.gauge_plan.specs.declared.Plan.{Plan}
 use Rattle.gauge_plan.specs.declared.Plan.TheVariants.{Refuse, Flood, Revoke, Learn, Free, Certify, Show}
-use Rattle.gauge_plan.specs.declared.memory.Fitness.TheVariants.{Unfit, Fit}
+use Rattle.std.specs.Prelude.{None}
 use Rattle.plan_send.specs.Send.{sending_plan}
 use Rattle.plan_send.specs.declared.SendPlan.{SendPlan}
 use Rattle.plan_send.specs.declared.SendPlan.TheVariants as S
@@ -235,7 +235,7 @@ module _ (m : Memory) (l : Receive) where
   hands-number true = read_number
   hands-number false = refl
 
-  memory-number : (b : Bool) → number_of (plan_in m l (cond b (Fit (held m l) (used m)) Unfit))
+  memory-number : (b : Bool) → number_of (plan_in m l (cond b (fitness (held m l) (used m)) None))
       ≡ first_of (when 1 (not b) ∷ when 1 (not (hands_fit m l))
       ∷ (fields.refusals l.datagram l.major ++ message_rows m l (R.read_in l.datagram l.major)))
   unfolding first_of

@@ -22,8 +22,7 @@ use Rattle.waiting.specs.Form.{is_inquiry, places_of}
 use Rattle.table.specs.Seek.{seek}
 use Rattle.waiting.specs.Seek.{has_id}
 use Rattle.waiting.specs.Open.{opened}
-use Rattle.table.specs.declared.Found.{Found}
-use Rattle.table.specs.declared.Found.TheVariants.{At, Nothing}
+use Rattle.std.specs.Prelude.{Option, Some, None}
 use Rattle.waiting.proofs.FormLaws.{form-placed}
 use Rattle.waiting.proofs.KeptLaws.{free-kept, open-inquiry}
 use Rattle.waiting.specs.Form as W
@@ -134,9 +133,9 @@ module _ (m : Memory) (l : Receive) (ok : Fine m l) where
         rest = beside;
       }
     where
-      freed-form : (found : Found) → W.PlacesForm (own_keys l.own) (bytes_of 2240 (freed_at found ps)) (freed_at found ps)
-      freed-form (At i) = free-kept (own_keys l.own) m.waiting ps (table-form m l ok) i
-      freed-form Nothing = subst (λ (t : List ℕ). W.PlacesForm (own_keys l.own) t ps) (table-form m l ok).bytes (table-form m l ok)
+      freed-form : (found : Option ℕ) → W.PlacesForm (own_keys l.own) (bytes_of 2240 (freed_at found ps)) (freed_at found ps)
+      freed-form (Some i) = free-kept (own_keys l.own) m.waiting ps (table-form m l ok) i
+      freed-form None = subst (λ (t : List ℕ). W.PlacesForm (own_keys l.own) t ps) (table-form m l ok).bytes (table-form m l ok)
 
   -- any FLOOD
   pub flood-does : (head : Head) (s : Bool) (validate : ℕ) (route : Part) → EntryIn l.datagram route → AllFail (flood_table m l s validate route)

@@ -24,7 +24,7 @@ use Rattle.waiting.specs.Form.{places_of}
 use Rattle.table.specs.Seek.{seek}
 use Rattle.waiting.specs.Seek.{is_at, has_id}
 use Rattle.waiting.specs.Open.{freed}
-use Rattle.table.specs.declared.Found.TheVariants.{At}
+use Rattle.std.specs.Prelude.{Some}
 use Rattle.waiting.proofs.KeptLaws.{free-kept}
 use Rattle.table.proofs.SeekLaws.{found_within}
 use Rattle.waiting.proofs.PlaceLaws.{inquiry-record, inquiry-key, inquiry-other}
@@ -65,7 +65,7 @@ module _ (m : Memory) (l : Receive) (ok : Fine m l) where
     abbrev at : ℕ
     at = place_of (seek (is_at acked kind) 0 ps)
 
-    found : seek (is_at acked kind) 0 ps ≡ At at
+    found : seek (is_at acked kind) 0 ps ≡ Some at
     found = seek-some (is_at acked kind) ps bars
 
     freed-table : S.WaitsExactly (own_keys l.own) (bytes_of 2240 (freed at ps)) (λ (q : List ℕ). S.Waits m q × (¬ (q ≡ get_or ps at [])))

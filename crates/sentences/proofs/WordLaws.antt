@@ -19,7 +19,7 @@ use Rattle.table.specs.Rows.{any_of}
 use Rattle.waiting.specs.Form.{is_inquiry, places_of}
 use Rattle.table.specs.Seek.{seek}
 use Rattle.waiting.specs.Seek.{is_at}
-use Rattle.table.specs.declared.Found.{Found}
+use Rattle.std.specs.Prelude.{Option}
 use Rattle.wire_read.specs.Meaning.{number_of}
 use Rattle.wire_read.specs.declared.Incoming as T
 use Rattle.wire_read.specs.declared.Incoming.TheVariants as M
@@ -71,7 +71,7 @@ module _ (m : Memory) (kind acked : ℕ) where
   abbrev ps : List (List ℕ)
   ps = places_of m.waiting
 
-  abbrev found : Found
+  abbrev found : Option ℕ
   found = seek (is_at acked kind) 0 (places_of m.waiting)
 
   pub found-waits : is_nothing found ≡ false → S.WaitsAs m kind acked (get_or ps (place_of found) [])

@@ -36,8 +36,7 @@ use Rattle.table.specs.Seek.{seek}
 use Rattle.waiting.specs.Seek.{has_id}
 use Rattle.waiting.specs.Open.{opened, freed}
 use Rattle.waiting.specs.Tick.{one_less}
-use Rattle.table.specs.declared.Found.{Found}
-use Rattle.table.specs.declared.Found.TheVariants.{At, Nothing}
+use Rattle.std.specs.Prelude.{Option, Some, None}
 use Rattle.waiting.proofs.PlaceLaws.{less-id, less-kind, less-record}
 use Rattle.waiting.proofs.NewLaws.{new-id, new-record}
 use Rattle.waiting.proofs.FormLaws.{form_unique}
@@ -126,9 +125,9 @@ module _ (own : Own) (cache : List ℕ) (recs : List (List ℕ)) (f : Form own c
 
 -- what holds of the places holds of those without one
 module _ (own : Own) (t : List ℕ) (ps : List (List ℕ)) (f : W.PlacesForm own t ps) (P : List ℕ → Type 0) (a : All P ps) where
-  all_found : (found : Found) → All P (places_of (bytes_of 2240 (freed_at found ps)))
-  all_found (At i) = subst (All P) (form_unique own (bytes_of 2240 (freed i ps)) (freed i ps) (free-kept own t ps f i)) (all-freed P i ps a)
-  all_found Nothing = subst (λ (s : List ℕ). All P (places_of s)) f.bytes (subst (All P) (form_unique own t ps f) a)
+  all_found : (found : Option ℕ) → All P (places_of (bytes_of 2240 (freed_at found ps)))
+  all_found (Some i) = subst (All P) (form_unique own (bytes_of 2240 (freed i ps)) (freed i ps) (free-kept own t ps f i)) (all-freed P i ps a)
+  all_found None = subst (λ (s : List ℕ). All P (places_of s)) f.bytes (subst (All P) (form_unique own t ps f) a)
 
 -- ---- an accepted datagram
 
@@ -254,7 +253,7 @@ module _ (m : Memory) (l : Receive) (es : List AnswerTold) (b : Holds (own_keys 
     asked-rows : All (Asked es) (rows 140 u m.waiting)
     asked-rows = subst (All (Asked es)) (ready-places l.own m ready) b.asked
 
-    asked-found : (found : Found) → All (Asked es) (places_of (bytes_of 2240 (freed_at found (rows 140 u m.waiting))))
+    asked-found : (found : Option ℕ) → All (Asked es) (places_of (bytes_of 2240 (freed_at found (rows 140 u m.waiting))))
     asked-found =
         let ps = rows 140 u m.waiting in
         all_found OwnKey m.waiting ps
@@ -288,14 +287,14 @@ module _ (m : Memory) (l : Receive) (es : List AnswerTold) (b : Holds (own_keys 
       let now = answered-one m l g es r (q.answers es ∙ ap that_of was) refl in
       record {
         asked = asked_later es (answer_told (receives l) g ∷ es) (asked-still m l g es q.asked) (places_of (carried m l (Learn h u at)).memory.waiting)
-            (asked-found k.ready (At at));
+            (asked-found k.ready (Some at));
         last = subst (λ (rs : List (List ℕ)). Every (Last rs) (held_of OwnKey (carried m l (Learn h u at)).memory.cache)) (sym now)
             (last-learnt OwnKey m.cache (rows 100 h m.cache) k.ready.form (answered es) (last-rows k.ready) r (own_some l.own k.ready.owned)
             (sym (ap record_form is) ∙ needs.6) (λ o. needs.7 (subst (IsOwn OwnKey) (sym (sym (record_key u m.waiting at) ∙ ap key_of is)) o)));
       }
   plan-holds (Free h u at true) e k q =
-      quiet-holds _ _ q (asked-found k.ready (At at)) (last-without k.ready (place_key (get_or (rows 140 u m.waiting) at [])))
-  plan-holds (Free h u at false) e k q = quiet-holds _ _ q (asked-found k.ready (At at)) b.last
+      quiet-holds _ _ q (asked-found k.ready (Some at)) (last-without k.ready (place_key (get_or (rows 140 u m.waiting) at [])))
+  plan-holds (Free h u at false) e k q = quiet-holds _ _ q (asked-found k.ready (Some at)) b.last
   plan-holds (Certify a i) e k q = quiet-holds _ _ q b.asked b.last
   plan-holds (Show h u a target path size opens start len) e k q = record {
     asked = show-asked m l es h u a target path size start len opens k q b.asked;

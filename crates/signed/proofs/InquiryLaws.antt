@@ -34,13 +34,12 @@ use Rattle.look.specs.Seen.{size_of}
 use Rattle.asking.specs.Asking.{asks_for}
 use Rattle.asking.specs.Ids.{id_after}
 use Rattle.asking.proofs.AskingLaws.{asks_none}
-use Rattle.gauge_plan.specs.Memory.{tables_fit, memory_of, hands_fit}
+use Rattle.gauge_plan.specs.Memory.{fitness, tables_fit, memory_of, hands_fit}
 use Rattle.plan_flood.specs.Flood.{flood_plan, revoke_plan}
 use Rattle.gauge_plan.specs.Found.{place_of}
 use Rattle.plan_answer.specs.Answering.{authority_refusals, authority_plan, ack_plan, inquire_plan, lookup_plan}
 use Rattle.gauge_plan.specs.declared.Plan.{Plan}
 use Rattle.gauge_plan.specs.declared.Plan.TheVariants.{Refuse, Flood, Revoke, Learn, Free, Certify, Show}
-use Rattle.gauge_plan.specs.declared.memory.Fitness.TheVariants.{Fit}
 use Rattle.gauge_plan.proofs.FoundLaws.{some_found}
 use Rattle.plan_answer.proofs.AnsweringLaws.{Waits, waits}
 use Rattle.gauge_commit.specs.Sending.{lengths}
@@ -135,7 +134,7 @@ module _ (m : Memory) (l : Receive) where
       let f = none_applies m (receives l) z in
       let h = held_in (own_keys l.own) m.cache in
       let u = used_of m.waiting in
-      let fit : memory_of l.own m ≡ Fit h u = rw (not-false (tables_fit l.own m) f.0) refl in
+      let fit : memory_of l.own m ≡ fitness h u = rw (not-false (tables_fit l.own m) f.0) refl in
       let is = plan-message m l fit (not-false (hands_fit m l) f.1.0) in
       subst (Heard m l a) (sym is) (heard-message h u a (subst (event.Told m l a) is (event.told m l z)))
 

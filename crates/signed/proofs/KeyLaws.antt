@@ -24,7 +24,7 @@ use Rattle.waiting.specs.Place.{id_of, kind_of, place_key, place_record}
 use Rattle.waiting.specs.Form.{places_of, used_of}
 use Rattle.table.specs.Seek.{seek}
 use Rattle.waiting.specs.Seek.{is_at}
-use Rattle.table.specs.declared.Found.TheVariants.{At}
+use Rattle.std.specs.Prelude.{Some}
 use Rattle.waiting.proofs.RoundLaws.{All, all_at}
 use Rattle.waiting.proofs.PlaceLaws.{key-at}
 use Rattle.waiting.proofs.SeekLaws.{found-key}
@@ -96,7 +96,7 @@ module _ (m : Memory) (l : Receive) (C : ℕ) (es : List Entry) (keys : List ℕ
   learnt-key {h} {u} {at} e k =
       let t = m.waiting in
       let within = (learn-needs m l e).5 in
-      let found = subst (λ (v : ℕ). seek (is_at k.acked 2) 0 (rows 140 v t) ≡ At at) k.ready.used k.plans.waiting.found in
+      let found = subst (λ (v : ℕ). seek (is_at k.acked 2) 0 (rows 140 v t) ≡ Some at) k.ready.used k.plans.waiting.found in
       sym (ap key_of (record-place u t at within)) ∙ found-key (own_keys l.own) t k.ready.tabled k.acked at found
       ∙ sym (ap place_key (row_at 140 u t at within) ∙ key-at (140 * at) t) ∙ sym k.plans.key-is
 

@@ -17,8 +17,9 @@ use Rattle.octet.proofs.TestLaws.{both_true}
 use Rattle.octet.specs.Part.{part, splice}
 use Rattle.wire_fields.specs.Message.{Message}
 use Rattle.wire_fields.specs.Reading.{contents_in}
-use Rattle.std.specs.Prelude.{None}
-use Rattle.wire_fields.specs.Places.{Part, here}
+use Rattle.std.specs.Prelude.{Some, None}
+use Rattle.wire_fields.specs.declared.Place.{Place}
+use Rattle.wire_fields.specs.Places.{Part}
 use Rattle.wire_write.specs.Writing.{Made, fit, write_as, write_in, Wrote}
 use Rattle.wire_write.specs.declared.Written as W
 use Rattle.wire_payload.specs.Payload.{with_payload}
@@ -205,16 +206,16 @@ module _ (major : ℕ) (d : List ℕ) (b : Bytes d) (m : T.Authority) (a : read_
 
   -- ---- what is taken
 
-  pub payload-there : (s l : ℕ) → m.fields.payload ≡ here s l → s + l ≤ length d
-  payload-there s l q = payload-within major d m [] s l (authority-again d b major m a) q
+  pub payload-there : (p : Place) → m.fields.payload ≡ Some p → p.start + p.len ≤ length d
+  payload-there p q = payload-within major d m [] p.start p.len (authority-again d b major m a) q
 
   pub none-taken : m.fields.payload ≡ None → nothing 0 0 ≡ taken_as (message_of major d (M.Authority m))
   unfolding message_of
   none-taken q = sym (ap (λ (p : Part). taken_from (contents_in d p)) q)
 
-  pub some-taken : (s l : ℕ) → m.fields.payload ≡ here s l → taken_by (unpack_of (part s l d)) ≡ taken_as (message_of major d (M.Authority m))
+  pub some-taken : (p : Place) → m.fields.payload ≡ Some p → taken_by (unpack_of (part p.start p.len d)) ≡ taken_as (message_of major d (M.Authority m))
   unfolding message_of
-  some-taken s l q = sym (ap (λ (p : Part). taken_from (contents_in d p)) q)
+  some-taken p q = sym (ap (λ (p : Part). taken_from (contents_in d p)) q)
 
   -- ---- as the code has it
 

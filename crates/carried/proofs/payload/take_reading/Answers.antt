@@ -9,10 +9,10 @@ use Rattle.carried.proofs.CarryLaws.{unpack_fine, payload-there, none-taken, som
 use Rattle.carried.proofs.payload.take_reading.Goals as goal
 
 pub overflow_add-place : goal.overflow_add-place
-overflow_add-place c = omega (arith, payload-there _ _ (λ i. omega (arith, c.type_inv.d i)) _ c.requires _ _ c.in-Some.is)
+overflow_add-place c = omega (arith, payload-there _ _ (λ i. omega (arith, c.type_inv.d i)) _ c.requires _ c.in-Some.is)
 
 pub slice_bounds-unpack-end : goal.slice_bounds-unpack-end
-slice_bounds-unpack-end c = payload-there _ _ (λ i. omega (arith, c.type_inv.d i)) _ c.requires _ _ c.in-Some.is
+slice_bounds-unpack-end c = payload-there _ _ (λ i. omega (arith, c.type_inv.d i)) _ c.requires _ c.in-Some.is
 
 pub shown-requires : goal.shown-requires
 shown-requires c = λ r e. unpack_fine _ r (sym c.unpack.ensures ∙ e)
@@ -26,4 +26,4 @@ returns c =
     let l = c.in-Some.place.len in
     let z : s + l - s ≡ l = omega arith in
     c.shown.ensures ∙ ap taken_by (c.unpack.ensures ∙ ap (λ (n : ℕ). unpack_of (take n (drop s c.args.d.now))) z)
-    ∙ some-taken _ _ (λ i. omega (arith, c.type_inv.d i)) _ c.requires s l c.in-Some.is
+    ∙ some-taken _ _ (λ i. omega (arith, c.type_inv.d i)) _ c.requires c.in-Some.place c.in-Some.is

@@ -21,7 +21,7 @@ use Rattle.refusal.proofs.TableLaws.{AllFail, all_fail}
 use Rattle.refusal.proofs.CallLaws.{or_refuses, all_pass}
 use Rattle.table.specs.Rows.{any_of}
 use Rattle.table.specs.Seek.{seek}
-use Rattle.std.specs.Prelude.{Option, Some, None}
+use Rattle.std.specs.Prelude.{Option, Some, None, Result, Ok, Err}
 use Rattle.table.proofs.RowLaws.{row_at, rows-length}
 use Rattle.table.proofs.SeekLaws.{found_within, found_passes, none_found}
 use Rattle.kept.specs.Keys.{◌∈◌}
@@ -30,8 +30,8 @@ use Rattle.cache.specs.Calls.{held_by}
 use Rattle.cache.proofs.FormLaws.{true_form, form_laid}
 use Rattle.neighbours.specs.Closest.{off_path, closest_past}
 use Rattle.neighbours.specs.Calls.{shown, shown_by, Inside, closest_wrong, closest_call}
-use Rattle.neighbours.specs.declared.nearest.Nearest.{Nearest}
-use Rattle.neighbours.specs.declared.nearest.Nearest.TheVariants.{Refused}
+use Rattle.neighbours.specs.declared.nearest.Spot.{Spot}
+use Rattle.neighbours.specs.declared.nearest.Spot.TheVariants.{Own, Held}
 use Rattle.neighbours.proofs.ClosestLaws.{held-key, one_held, closest-among}
 use Rattle.neighbours.proofs.SkipLaws.{has-off}
 use Rattle.neighbours.proofs.CallLaws.{closest-does}
@@ -84,7 +84,7 @@ module _ (own cache path target : List ℕ) where
     unfolding held_of
     room = (form_laid (own_keys own) (held_in (own_keys own) cache) cache (true_form (own_keys own) cache (not-false _ a.1.0))).room
 
-    shown-at : (f : Option ℕ) → found ≡ f → (shown_by own cache (standing at f) ≡ shown 0 nearest) × Inside own cache (standing at f)
+    shown-at : (f : Option ℕ) → found ≡ f → (shown_by own cache (Ok (standing at f)) ≡ shown 0 nearest) × Inside own cache (Ok (standing at f))
     unfolding held_of
     shown-at (Some j) e =
         let within = found_within (λ (q : List ℕ). same q nearest) j (held_by own cache) e in
@@ -106,9 +106,9 @@ module _ (own cache path target : List ℕ) where
         mine : nearest ∈ own_records own
         mine = by (in_either nearest (own_records own) (off_path path (held_by own cache)) (closest-among (key_at 0 target) own (off_path path (held_by own cache)) owned))
 
-    pub nearest-done : nearest_call own cache path target ≡ standing at found
+    pub nearest-done : nearest_call own cache path target ≡ Ok (standing at found)
     unfolding nearest_call
-    nearest-done = all_pass Refused rows-wrong (standing at found) a
+    nearest-done = all_pass Err rows-wrong (Ok (standing at found)) a
 
   by_number_lem : (n : ℕ) → first_of rows-wrong ≡ n
       → (shown_by own cache (nearest_call own cache path target) ≡ closest_call own cache path target) × Inside own cache (nearest_call own cache path target)
@@ -117,7 +117,7 @@ module _ (own cache path target : List ℕ) where
       let s = shown-at a found refl in
       (ap (shown_by own cache) (nearest-done a) ∙ s.0 ∙ sym (closest-does own cache path target a), rw (nearest-done a) s.1)
   by_number_lem (suc n) e =
-      let is : nearest_call own cache path target ≡ Refused (first_of rows-wrong) = unfold nearest_call in or_refuses Refused rows-wrong _ (omega (arith, e)) in
+      let is : nearest_call own cache path target ≡ Err (first_of rows-wrong) = unfold nearest_call in or_refuses Err rows-wrong _ (omega (arith, e)) in
       let does : closest_call own cache path target ≡ shown (first_of rows-wrong) [] =
       unfold closest_call in or_refuses (λ (k : ℕ). shown k []) rows-wrong _ (omega (arith, e)) in
       (ap (shown_by own cache) is ∙ sym does, rw is tt)
@@ -127,5 +127,5 @@ module _ (own cache path target : List ℕ) where
   nearest-shows = (by_number_lem (first_of rows-wrong) refl).0
 
   -- and what the search answers is that
-  pub nearest-is : (r : Nearest) → shown_by own cache r ≡ closest_call own cache path target → Inside own cache r → r ≡ nearest_call own cache path target
+  pub nearest-is : (r : Result Spot ℕ) → shown_by own cache r ≡ closest_call own cache path target → Inside own cache r → r ≡ nearest_call own cache path target
   nearest-is r e i = nearest-one own cache path target r (nearest_call own cache path target) e i nearest-shows (by_number_lem (first_of rows-wrong) refl).1

@@ -9,6 +9,7 @@ use native.Mathlib.Nat.{suc_inj}
 use native.Mathlib.Omega.{arith}
 use lib.ListN.{get_or}
 use borrow.Author.Tests.{not-false}
+use Rattle.std.specs.Prelude.{Result, Ok, Err}
 use Rattle.key.specs.Number.{key_at}
 use Rattle.refusal.specs.Table.{applies_in, InOrder, by_number}
 use Rattle.refusal.proofs.TableLaws.{AllFail, all_fail}
@@ -29,8 +30,8 @@ use Rattle.cache.proofs.FormLaws.{true_form}
 use Rattle.cache.proofs.FindLaws as found
 use Rattle.cache.proofs.SearchLaws.{keys_bound, keys_few, search-bound, search-few}
 use Rattle.neighbours.specs.Calls.{closest_wrong, closest_compared}
-use Rattle.neighbours.specs.declared.nearest.Nearest.{Nearest}
-use Rattle.neighbours.specs.declared.nearest.Nearest.TheVariants.{Refused, Own, Held}
+use Rattle.neighbours.specs.declared.nearest.Spot.{Spot}
+use Rattle.neighbours.specs.declared.nearest.Spot.TheVariants.{Own, Held}
 use Rattle.gauge_commit.specs.Sending.{answer}
 use Rattle.gauge.specs.Nearest.{closest_answered, nearest_call}
 use Rattle.gauge.specs.Searching.{search_answered, gauge_search, SearchTells, Few, SearchComparesFew, ClosestComparesFew}
@@ -151,8 +152,8 @@ closest_few own cache path target =
 pub closest_compares_few : ClosestComparesFew
 closest_compares_few own cache path target = by (nearest_call own cache path target) (closest_few own cache path target)
   where
-    by : (r : Nearest) → Few own cache (closest_compared own cache path target)
+    by : (r : Result Spot ℕ) → Few own cache (closest_compared own cache path target)
         → Few own cache (closest_answered (closest_compared own cache path target) r).second
-    by (Refused n) f = (omega arith, omega arith)
-    by (Own i) f = f
-    by (Held j) f = f
+    by (Err n) f = (omega arith, omega arith)
+    by (Ok (Own i)) f = f
+    by (Ok (Held j)) f = f

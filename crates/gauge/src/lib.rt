@@ -12,7 +12,7 @@ ghost use Rattle.gauge.specs.Searching.{gauge_search};
 ghost use Rattle.gauge.specs.Converting.{conversion, conversion_of};
 
 use gauge_plan::Plan;
-use neighbours::Nearest;
+use neighbours::Spot;
 use plan_send::SendPlan;
 use wire_sent::Heading;
 
@@ -200,11 +200,10 @@ pub fn gauge_closest(own: &[u8], cache: &[u8], path: &[u8], target: &[u8]) -> ga
     ensures { result ≡ gauge_closest own.now cache.now path.now target.now }
 {
     let sighted = neighbours::closest_record(own, cache, path, target);
-    let nearest = sighted.nearest;
-    match nearest {
-        Nearest::Refused(number) => gauge_commit::answer_of(number, 0, 0),
-        Nearest::Own(i) => gauge_commit::answer_of(0, i, sighted.compared),
-        Nearest::Held(i) => gauge_commit::answer_of(0, 4 + i, sighted.compared),
+    match sighted.nearest {
+        Err(number) => gauge_commit::answer_of(number, 0, 0),
+        Ok(Spot::Own(i)) => gauge_commit::answer_of(0, i, sighted.compared),
+        Ok(Spot::Held(i)) => gauge_commit::answer_of(0, 4 + i, sighted.compared),
     }
 }
 

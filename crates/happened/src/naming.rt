@@ -6,7 +6,7 @@ use crate::{kinds, memory};
 use facts::{Numbers, say_key, say_numbers};
 use key::Key;
 use look::Look;
-use named::{Choice, Named};
+use named::Choice;
 use reason::Reason;
 
 fn row_of(reason: Reason) -> u64 {
@@ -87,8 +87,8 @@ fn say_named<'a>(
     target: Key,
 ) {
     match named::name(own, cache, major, datagram) {
-        Named::Refused(_) => {}
-        Named::Chosen(choice) => say_choice(table, names, own, cache, choice, target),
+        Err(_) => {}
+        Ok(choice) => say_choice(table, names, own, cache, choice, target),
     }
 }
 

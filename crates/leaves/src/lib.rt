@@ -6,7 +6,7 @@ ghost use Rattle.std.specs.Prelude.{◌≡◌};
 ghost use Rattle.octet.specs.Part.{same, all_zero};
 ghost use Rattle.leaves.specs.Leaves.{word_or0, closer_or2, held_or257, closest_word};
 
-use neighbours::Nearest;
+use neighbours::Spot;
 
 // The number of the eight bytes at a place, most significant first; 0 where they do not lie within.
 #[unsafe(no_mangle)]
@@ -82,14 +82,13 @@ pub extern "C" fn leaves_closest(own: &[u8], cache: &[u8], target: &[u8]) -> u64
     ensures { result ≡ closest_word own.now cache.now target.now }
 {
     let sighted = neighbours::closest_record(own, cache, &target[0..0], target);
-    let nearest = sighted.nearest;
-    match nearest {
-        Nearest::Refused(_) => 0,
-        Nearest::Own(i) => {
+    match sighted.nearest {
+        Err(_) => 0,
+        Ok(Spot::Own(i)) => {
             let at = 100 * i;
             leaves_u64(&own[at..at + 100], 24)
         }
-        Nearest::Held(i) => {
+        Ok(Spot::Held(i)) => {
             let at = 100 * i;
             leaves_u64(&cache[at..at + 100], 24)
         }

@@ -3,12 +3,14 @@
 use mathlib.Core.Path.{◌≡◌, refl, sym, ap, ap₂, ◌∙◌}
 use mathlib.Core.Bool.{Bool, true, false, not, cond, ◌||◌}
 use mathlib.Core.List.{List, [], ◌∷◌}
-use mathlib.Core.Option.{Option, some, none}
+use mathlib.Core.Option.{some, none}
+use mathlib.Core.Option as O
 use Prim.Native.Nat.{ℕ, ◌+◌, ◌*◌, ◌/◌, ◌≤◌, ◌<◌}
 use native.Mathlib.Omega.{arith}
 use lib.Dec.{eqb}
 use lib.ListN.{length}
 use borrow.Author.Tests.{eq-eqb, ne_eqb, eqb-false}
+use Rattle.std.specs.Prelude.{Option, Some, None}
 use Rattle.octet.specs.Part.{part}
 use Rattle.key.specs.Number.{key_at}
 use Rattle.key.specs.Around.{closer}
@@ -19,8 +21,8 @@ use Rattle.table.specs.Rows.{rows}
 use Rattle.cache.specs.Form.{Form}
 use Rattle.cache.proofs.FormLaws.{key_of-row, form_laid}
 use Rattle.neighbours.specs.Closest.{candidates, off_path, closest_of}
-use Rattle.named.specs.declared.Spot.{Spot}
-use Rattle.named.specs.declared.Spot.TheVariants.{Nowhere, Own, Held}
+use Rattle.neighbours.specs.declared.nearest.Spot.{Spot}
+use Rattle.neighbours.specs.declared.nearest.Spot.TheVariants.{Own, Held}
 use Rattle.named.specs.declared.Choice.{Choice}
 use Rattle.reason.specs.Because.{Because, only, target, tied, nearest, named_key}
 use Rattle.reason.specs.Reason.{passing, closest_in, next_of, because_by, given_by, because_of, reason_by, reason_of}
@@ -36,62 +38,58 @@ use Rattle.named.proofs.OwnedLaws.{candidates_are}
 
 -- ---- a place and the record there
 
-there : Option (List ℕ) → List ℕ
+there : O.Option (List ℕ) → List ℕ
 there none = []
 there (some r) = r
 
-is_found : Option (List ℕ) → ℕ
+is_found : O.Option (List ℕ) → ℕ
 is_found none = 0
 is_found (some r) = 1
 
 module _ (own cache : List ℕ) where
-  spot-record : (x : Spot) → record_at own cache x ≡ there (spotted own cache x)
+  spot-record : (x : Option Spot) → record_at own cache x ≡ there (spotted own cache x)
   unfolding there
-  spot-record Nowhere = refl
-  spot-record (Own i) = refl
-  spot-record (Held i) = refl
+  spot-record None = refl
+  spot-record (Some x) = refl
 
-  some-where : (x : Spot) → is_nowhere x ≡ false → spotted own cache x ≡ some (record_at own cache x)
-  some-where Nowhere e = let z : ◌≡◌ {A = ℕ} 0 1 = cc in absurd (omega arith)
-  some-where (Own i) e = refl
-  some-where (Held i) e = refl
+  some-where : (x : Option Spot) → is_nowhere x ≡ false → spotted own cache x ≡ some (record_at own cache x)
+  some-where None e = let z : ◌≡◌ {A = ℕ} 0 1 = cc in absurd (omega arith)
+  some-where (Some x) e = refl
 
-  no-where : (x : Spot) → is_nowhere x ≡ true → spotted own cache x ≡ none
-  no-where Nowhere e = refl
-  no-where (Own i) e = let z : ◌≡◌ {A = ℕ} 0 1 = cc in absurd (omega arith)
-  no-where (Held i) e = let z : ◌≡◌ {A = ℕ} 0 1 = cc in absurd (omega arith)
+  no-where : (x : Option Spot) → is_nowhere x ≡ true → spotted own cache x ≡ none
+  no-where None e = refl
+  no-where (Some x) e = let z : ◌≡◌ {A = ℕ} 0 1 = cc in absurd (omega arith)
 
   -- something was found: it stands somewhere
-  found-where : (x : Spot) {r : List ℕ} → spotted own cache x ≡ some r → is_nowhere x ≡ false
+  found-where : (x : Option Spot) {r : List ℕ} → spotted own cache x ≡ some r → is_nowhere x ≡ false
   unfolding is_found
-  found-where Nowhere e = let z : ◌≡◌ {A = ℕ} 0 1 = ap is_found e in absurd (omega arith)
-  found-where (Own i) e = refl
-  found-where (Held i) e = refl
+  found-where None e = let z : ◌≡◌ {A = ℕ} 0 1 = ap is_found e in absurd (omega arith)
+  found-where (Some x) e = refl
 
 -- ---- the closer of two places
 
 module _ (t : ℕ) (own : List ℕ) (m i : ℕ) (cache : List ℕ) (n j : ℕ) where
-  abbrev Is : Spot → Type 0
+  abbrev Is : Option Spot → Type 0
   Is x = x ≡ closer_spot t own m i cache n j
 
-  pub spot-none : i ≡ m → j ≡ n → Is Nowhere
+  pub spot-none : i ≡ m → j ≡ n → Is None
   unfolding closer_spot
   spot-none p q = rw (eq-eqb i m p, eq-eqb j n q) refl
 
-  pub spot-held : i ≡ m → (j ≡ n → ⊥) → Is (Held j)
+  pub spot-held : i ≡ m → (j ≡ n → ⊥) → Is (Some (Held j))
   unfolding closer_spot
   spot-held p q = rw (eq-eqb i m p, ne_eqb j n q) refl
 
-  pub spot-own : (i ≡ m → ⊥) → j ≡ n → Is (Own i)
+  pub spot-own : (i ≡ m → ⊥) → j ≡ n → Is (Some (Own i))
   unfolding closer_spot
   spot-own p q = rw (ne_eqb i m p, eq-eqb j n q) refl
 
   module _ (p : i ≡ m → ⊥) (q : j ≡ n → ⊥) where
-    pub spot-closer : closer t (key_at (100 * j) cache) (key_at (100 * i) own) ≡ true → Is (Held j)
+    pub spot-closer : closer t (key_at (100 * j) cache) (key_at (100 * i) own) ≡ true → Is (Some (Held j))
     unfolding closer_spot
     spot-closer e = rw (ne_eqb i m p, ne_eqb j n q, e) refl
 
-    pub spot-nearer : closer t (key_at (100 * j) cache) (key_at (100 * i) own) ≡ false → Is (Own i)
+    pub spot-nearer : closer t (key_at (100 * j) cache) (key_at (100 * i) own) ≡ false → Is (Some (Own i))
     unfolding closer_spot
     spot-nearer e = rw (ne_eqb i m p, ne_eqb j n q, e) refl
 
@@ -100,13 +98,13 @@ module _ (t : ℕ) (own : List ℕ) (m i : ℕ) (cache : List ℕ) (n j : ℕ) w
   unfolding closer_spot
   spot-joins = go (eqb i m) (eqb j n)
     where
-      of_two : (c : Bool) → spotted own cache (cond c (Held j) (Own i)) ≡ some (cond c (part (100 * j) 100 cache) (part (100 * i) 100 own))
+      of_two : (c : Bool) → spotted own cache (cond c (Some (Held j)) (Some (Own i))) ≡ some (cond c (part (100 * j) 100 cache) (part (100 * i) 100 own))
       of_two true = refl
       of_two false = refl
 
       go : (a b : Bool)
-          → spotted own cache (cond a (cond b Nowhere (Held j))
-          (cond b (Own i) (cond (closer t (key_at (100 * j) cache) (key_at (100 * i) own)) (Held j) (Own i))))
+          → spotted own cache (cond a (cond b None (Some (Held j)))
+          (cond b (Some (Own i)) (cond (closer t (key_at (100 * j) cache) (key_at (100 * i) own)) (Some (Held j)) (Some (Own i)))))
           ≡ closer_of t (cond a none (some (part (100 * i) 100 own))) (cond b none (some (part (100 * j) 100 cache)))
       go true true = refl
       go true false = refl
@@ -127,7 +125,7 @@ module _ (t : ℕ) (own : List ℕ) (m i : ℕ) (cache : List ℕ) (n j : ℕ) w
       in-cache p = omega (arith, eqb-false j n p)
 
       go : (a b c : Bool) → eqb i m ≡ a → eqb j n ≡ b
-          → Inside own cache (cond a (cond b Nowhere (Held j)) (cond b (Own i) (cond c (Held j) (Own i))))
+          → Inside own cache (cond a (cond b None (Some (Held j))) (cond b (Some (Own i)) (cond c (Some (Held j)) (Some (Own i)))))
       go true true c p q = tt
       go true false c p q = in-cache q
       go false true c p q = in_own p
@@ -141,7 +139,7 @@ unfolding closest_of
 some_closest t [] p = absurd (omega arith)
 some_closest t (r ∷ rs) p = refl
 
-module _ (own cache : List ℕ) (t j : ℕ) (cands : List (List ℕ)) (p : 0 < length cands) (c : Spot)
+module _ (own cache : List ℕ) (t j : ℕ) (cands : List (List ℕ)) (p : 0 < length cands) (c : Option Spot)
     (ec : spotted own cache c ≡ closest_in t (passing (kept false j) cands)) where
   chosen_is : record_at own cache c ≡ closest_of t cands
   unfolding there
@@ -150,7 +148,7 @@ module _ (own cache : List ℕ) (t j : ℕ) (cands : List (List ℕ)) (p : 0 < l
   chosen-where : is_nowhere c ≡ false
   chosen-where = found-where own cache c (ec ∙ ap (closest_in t) (pass_all (kept false j) cands (λ r. refl)) ∙ some_closest t cands p)
 
-  module _ (o : Spot) (k : ℕ) (ek : k ≡ key_of (record_at own cache c)) (eo : spotted own cache o ≡ closest_in t (passing (kept true k) cands)) where
+  module _ (o : Option Spot) (k : ℕ) (ek : k ≡ key_of (record_at own cache c)) (eo : spotted own cache o ≡ closest_in t (passing (kept true k) cands)) where
     next-is : spotted own cache o ≡ next_of t cands
     next-is = eo ∙ ap (λ (n : ℕ). closest_in t (passing (kept true n) cands)) (ek ∙ ap key_of chosen_is)
 
@@ -177,7 +175,7 @@ given target = 1
 given (tied k) = 2
 given (nearest k) = 3
 
-shows_other : (r : Reason) (o : Spot) (b : Bool) (n t k : ℕ) → is_nowhere o ≡ b → because_of r n ≡ cond b only (because_by t k n) → Shows r o
+shows_other : (r : Reason) (o : Option Spot) (b : Bool) (n t k : ℕ) → is_nowhere o ≡ b → because_of r n ≡ cond b only (because_by t k n) → Shows r o
 unfolding given
 shows_other Only o b n t k p e = tt
 shows_other Target o b n t k p e = tt
@@ -189,20 +187,20 @@ shows_other Nearest o true n t k p e = absurd (let z : ◌≡◌ {A = ℕ} 3 0 =
 -- ---- the places that the walks find
 
 module _ (own cache : List ℕ) (used : ℕ) (path : List ℕ) (t : ℕ) where
-  abbrev findsFor : Bool → ℕ → Spot
+  abbrev findsFor : Bool → ℕ → Option Spot
   findsFor leave k = spot_for own cache used path t leave k
 
-  abbrev choice_of : Spot → Reason → Spot → Choice
+  abbrev choice_of : Option Spot → Reason → Option Spot → Choice
   choice_of x r y = record { chosen = x; reason = r; other = y }
 
   -- made of what the two searches answer and of their keys
-  pub choice-is : {x y : Spot} {k next : ℕ} {b : Bool} {r : Reason} → x ≡ findsFor false t → k ≡ key_of (record_at own cache x) → y ≡ findsFor true k
+  pub choice-is : {x y : Option Spot} {k next : ℕ} {b : Bool} {r : Reason} → x ≡ findsFor false t → k ≡ key_of (record_at own cache x) → y ≡ findsFor true k
       → next ≡ key_of (record_at own cache y) → b ≡ is_nowhere y → r ≡ given_by b t k next
       → choice_of x r y ≡ choice_for own cache used path t
   choice-is {x} {y} {k} {next} {b} {r} ex ek ey en eb er =
       ap (λ (z : Reason). choice_of x z y) (er ∙ ap (λ (c : Bool). given_by c t k next) eb ∙ ap₂ (given_by (is_nowhere y) t) ek en)
       ∙ ap (choice_by own cache t x) (ey ∙ ap (findsFor true) ek)
-      ∙ ap (λ (z : Spot). choice_by own cache t z (findsFor true (key_of (record_at own cache z)))) ex
+      ∙ ap (λ (z : Option Spot). choice_by own cache t z (findsFor true (key_of (record_at own cache z)))) ex
 
   module _ (formed : own_form own ≡ true) (form : Form (own_keys own) cache (rows 100 used cache)) where
     abbrev ours : ℕ

@@ -17,7 +17,7 @@ use Rattle.table.specs.Rows.{rows}
 use Rattle.table.proofs.RowLaws.{rows-length, row_at}
 use Rattle.kept.specs.Keys.{◌∈◌, Every}
 use Rattle.kept.proofs.ListLaws.{every_at}
-use Rattle.neighbours.specs.declared.nearest.Where.TheVariants.{Own, Held}
+use Rattle.neighbours.specs.declared.nearest.Spot.TheVariants.{Own, Held}
 use Rattle.cache.specs.Form as F
 use Rattle.cache.specs.Form.{keys_of}
 use Rattle.neighbours.specs.Closest.{candidates, closest_of}

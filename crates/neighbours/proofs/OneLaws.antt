@@ -7,6 +7,7 @@ use Prim.Native.Nat.{ℕ, zero, suc, ◌+◌, ◌*◌, ◌/◌, ◌≤◌, ◌<�
 use native.Mathlib.Omega.{arith}
 use lib.ListN.{length, get_or, length-map}
 use borrow.Author.Tests.{not-false}
+use Rattle.std.specs.Prelude.{Result, Ok, Err}
 use Rattle.octet.specs.Part.{part}
 use Rattle.octet.proofs.PartLaws.{length_part}
 use Rattle.refusal.proofs.TableLaws.{AllFail}
@@ -18,8 +19,8 @@ use Rattle.table.proofs.RowLaws.{rows-length}
 use Rattle.kept.specs.Keys.{◌∈◌, Rising, plain}
 use Rattle.kept.specs.Plain.{NotOwn}
 use Rattle.kept.proofs.ListLaws.{every_at, rising-at}
-use Rattle.neighbours.specs.declared.nearest.Nearest.{Nearest}
-use Rattle.neighbours.specs.declared.nearest.Nearest.TheVariants.{Refused, Own, Held}
+use Rattle.neighbours.specs.declared.nearest.Spot.{Spot}
+use Rattle.neighbours.specs.declared.nearest.Spot.TheVariants.{Own, Held}
 use Rattle.cache.specs.Form.{keys_of, Form, held_in, held_of}
 use Rattle.cache.specs.Calls.{held_by}
 use Rattle.neighbours.specs.Calls.{Shown, shown, shown_by, Inside, closest_wrong, closest_call}
@@ -98,14 +99,14 @@ module _ (own cache path target : List ℕ) where
   some : (i : ℕ) → 100 * i + 100 ≤ length cache → part (100 * i) 100 cache ≡ [] → ⊥
   some i l e = let n : ◌≡◌ {A = ℕ} 0 100 = sym (ap length e) ∙ length_part (100 * i) 100 cache l in omega (arith, n)
 
-  pub nearest-one : (a b : Nearest) → shown_by own cache a ≡ closest_call own cache path target → Inside own cache a
+  pub nearest-one : (a b : Result Spot ℕ) → shown_by own cache a ≡ closest_call own cache path target → Inside own cache a
       → shown_by own cache b ≡ closest_call own cache path target → Inside own cache b → a ≡ b
-  nearest-one (Refused m) (Refused n) p f q g = ap Refused (ap (λ (h : Shown). h.number) (p ∙ sym q))
-  nearest-one (Refused m) (Own j) p f q g = absurd (own_some (own_record own j) q j g (bytes_of q p))
-  nearest-one (Refused m) (Held i) p f q g = absurd (some i g.1 (bytes_of q p))
-  nearest-one (Own k) (Refused n) p f q g = absurd (own_some (own_record own k) p k f (bytes_of p q))
-  nearest-one (Own k) (Own j) p f q g = ap Own (own-place (own_record own k) p k j f g (bytes_of p q))
-  nearest-one (Own k) (Held i) p f q g = absurd (not-held (own_record own k) p k i f g.0 (bytes_of p q))
-  nearest-one (Held i) (Refused n) p f q g = absurd (some i f.1 (bytes_of p q))
-  nearest-one (Held i) (Own k) p f q g = absurd (not-held (own_record own k) q k i g f.0 (bytes_of q p))
-  nearest-one (Held i) (Held j) p f q g = ap Held (one_place (part (100 * i) 100 cache) p i j f.0 g.0 (bytes_of p q))
+  nearest-one (Err m) (Err n) p f q g = ap Err (ap (λ (h : Shown). h.number) (p ∙ sym q))
+  nearest-one (Err m) (Ok (Own j)) p f q g = absurd (own_some (own_record own j) q j g (bytes_of q p))
+  nearest-one (Err m) (Ok (Held i)) p f q g = absurd (some i g.1 (bytes_of q p))
+  nearest-one (Ok (Own k)) (Err n) p f q g = absurd (own_some (own_record own k) p k f (bytes_of p q))
+  nearest-one (Ok (Own k)) (Ok (Own j)) p f q g = ap (λ (n : ℕ). Ok (Own n)) (own-place (own_record own k) p k j f g (bytes_of p q))
+  nearest-one (Ok (Own k)) (Ok (Held i)) p f q g = absurd (not-held (own_record own k) p k i f g.0 (bytes_of p q))
+  nearest-one (Ok (Held i)) (Err n) p f q g = absurd (some i f.1 (bytes_of p q))
+  nearest-one (Ok (Held i)) (Ok (Own k)) p f q g = absurd (not-held (own_record own k) q k i g f.0 (bytes_of q p))
+  nearest-one (Ok (Held i)) (Ok (Held j)) p f q g = ap (λ (n : ℕ). Ok (Held n)) (one_place (part (100 * i) 100 cache) p i j f.0 g.0 (bytes_of p q))

@@ -1,20 +1,21 @@
 -- Helps the code. The two calls on lent memory that nobody has tested: refused with 1 where "lent memory is not as above" (a target is such memory too, and
 -- a path, "1 if not whole ones", and the key whose list is asked for), with 12 where that key is not ours (02, Wish 11), with 15 where the output is "shorter than
 -- 320 bytes"; then nothing changes, counts are 0 and no record is shown. Tied to document 01 by `ours-meets` (sentences/Theorems). Assumes nothing.
-use Rattle.std.specs.Prelude.{ℕ, ◌+◌, ◌*◌, ◌≤◌, ◌<◌, not, List, [], ◌∷◌, ltb, length}
+use Rattle.std.specs.Prelude.{ℕ, ◌+◌, ◌*◌, ◌≤◌, ◌<◌, not, List, [], ◌∷◌, ltb, length, Result, Ok, Err}
 use Rattle.octet.specs.Part.{part}
 use Rattle.refusal.specs.Table.{Refusal, when, or_refuse}
 use Rattle.key.specs.Number.{key_at}
-use Rattle.own.specs.Own.{own_keys, own_records, own_record, is_own}
+use Rattle.own.specs.Own.{own_keys, own_records, is_own}
 use Rattle.path.specs.Path.{path_form}
 use Rattle.search.specs.Halving.{halvings}
 use Rattle.cache.specs.Form.{keys_of}
 use Rattle.cache.specs.Calls.{memory_wrong, key_wrong, held_by}
 use Rattle.neighbours.specs.Listing.{after_list, counts_of}
 use Rattle.neighbours.specs.Closest.{candidates, off_path, closest_of}
+use Rattle.neighbours.specs.Where.{record_at}
 use Rattle.neighbours.specs.declared.listing.Listed.{Listed}
-use Rattle.neighbours.specs.declared.nearest.Nearest.{Nearest}
-use Rattle.neighbours.specs.declared.nearest.Nearest.TheVariants.{Refused, Own, Held}
+use Rattle.neighbours.specs.declared.nearest.Spot.{Spot}
+use Rattle.neighbours.specs.declared.nearest.Spot.TheVariants.{Own, Held}
 
 -- what the neighbour list hands back: the number and the counts, and the output
 pub record Written : Type 0 where
@@ -43,16 +44,15 @@ abbrev pub shown : ℕ → List ℕ → Shown
 shown n r = record { number = n; bytes = r }
 
 -- an answer, with the bytes of the record that it names
-abbrev pub shown_by : List ℕ → List ℕ → Nearest → Shown
-shown_by own cache (Refused n) = shown n []
-shown_by own cache (Own i) = shown 0 (own_record own i)
-shown_by own cache (Held i) = shown 0 (part (100 * i) 100 cache)
+abbrev pub shown_by : List ℕ → List ℕ → Result Spot ℕ → Shown
+shown_by own cache (Err n) = shown n []
+shown_by own cache (Ok x) = shown 0 (record_at own cache x)
 
 -- a place that it names is one of our records, or a used one, which lies within the cache
-abbrev pub Inside : List ℕ → List ℕ → Nearest → Type 0
-Inside own cache (Refused n) = Unit {0}
-Inside own cache (Own i) = i < length (own_records own)
-Inside own cache (Held i) = (i < length (held_by own cache)) × (100 * i + 100 ≤ length cache)
+abbrev pub Inside : List ℕ → List ℕ → Result Spot ℕ → Type 0
+Inside own cache (Err n) = Unit {0}
+Inside own cache (Ok (Own i)) = i < length (own_records own)
+Inside own cache (Ok (Held i)) = (i < length (held_by own cache)) × (100 * i + 100 ≤ length cache)
 
 -- a path that is handed in
 abbrev pub path_wrong : List ℕ → Refusal

@@ -7,4 +7,4 @@ mod listing;
 mod nearest;
 
 pub use listing::{Counts, Listed, neighbour_list, neighbours};
-pub use nearest::{Nearest, Sighted, closest, closest_record};
+pub use nearest::{Sighted, Spot, closest, closest_record, record_at};

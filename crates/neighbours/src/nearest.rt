@@ -8,36 +8,45 @@ ghost use Rattle.kept.specs.Keys.{Every};
 ghost use Rattle.kept.specs.Turned.{count_under};
 ghost use Rattle.cache.specs.Form.{keys_of, Form};
 ghost use Rattle.neighbours.specs.Closest.{candidates, off_path, closest_of};
-ghost use Rattle.neighbours.specs.Where.{skipped_up, skipped_down, record_at, nearest_of, Within};
+ghost use Rattle.neighbours.specs.Where.{skipped_up, skipped_down, record_at, nearest_of, Within, Lies};
 ghost use Rattle.neighbours.specs.Calls.{Inside, shown_by, closest_call, closest_compared};
 
 use key::Key;
 
 // Where a record stands: it is one of our own, or that of a place of the cache.
-#[derive(Clone, Copy)]
-pub(crate) enum Where {
+#[derive(Clone, Copy, Debug, PartialEq, Eq)]
+pub enum Spot {
     Own(usize),
     Held(usize),
 }
 
-// The number that a call for the closest record is refused with, or the record: one of our own, or that of a place of the
-// cache.
-#[derive(Clone, Copy)]
-pub enum Nearest {
-    Refused(u32),
-    Own(usize),
-    Held(usize),
-}
-
-// The closest record, and how many of the keys held were compared to find the target's place: those on the path too.
+// The closest record, or the number that the call for it is refused with; and how many of the keys held were compared to
+// find the target's place: those on the path too.
 #[derive(Clone, Copy)]
 pub struct Sighted {
-    pub nearest: Nearest,
+    pub nearest: Result<Spot, u32>,
     pub compared: usize,
 }
 
+// The record that stands there.
+pub fn record_at<'a>(own: &'a [u8], cache: &'a [u8], spot: Spot) -> &'a [u8]
+    requires { Lies own.now cache.now spot }
+    ensures { result.now ≡ record_at own.now cache.now spot }
+{
+    match spot {
+        Spot::Own(i) => {
+            let at = record::RECORD_LEN * i;
+            &own[at..at + record::RECORD_LEN]
+        }
+        Spot::Held(i) => {
+            let at = record::RECORD_LEN * i;
+            &cache[at..at + record::RECORD_LEN]
+        }
+    }
+}
+
 // Which of our own record of place i and those of two places is the closest to the target?
-fn nearest_of(own: &[u8], i: usize, cache: &[u8], up: usize, down: usize, target: Key) -> Where
+fn nearest_of(own: &[u8], i: usize, cache: &[u8], up: usize, down: usize, target: Key) -> Spot
     requires { (100 * i + 32 ≤ length own.now) × (100 * up + 32 ≤ length cache.now) × (100 * down + 32 ≤ length cache.now) }
     ensures { result ≡ nearest_of (number target) own.now i cache.now up down }
 {
@@ -49,14 +58,14 @@ fn nearest_of(own: &[u8], i: usize, cache: &[u8], up: usize, down: usize, target
     let far_down = ring::how_far(target, under);
     if ring::is_closer(target, over, far_up, under, far_down) {
         if ring::is_closer(target, over, far_up, ours, far) {
-            return Where::Held(up);
+            return Spot::Held(up);
         }
-        return Where::Own(i);
+        return Spot::Own(i);
     }
     if ring::is_closer(target, under, far_down, ours, far) {
-        return Where::Held(down);
+        return Spot::Held(down);
     }
-    Where::Own(i)
+    Spot::Own(i)
 }
 
 // How many records are on the path, from a place up and counted round, before the first that is not; all of them where
@@ -100,7 +109,7 @@ fn place_of_closest(
     at: usize,
     path: &[u8],
     target: &[u8],
-) -> Where
+) -> Spot
     requires own_value { (own_form own.now ≡ true) × (32 ≤ length target.now) }
     requires form { Form (own_keys own.now) cache.now (rows 100 used cache.now) }
     requires at_value { at ≡ count_under (key_at 0 target.now) (keys_of (rows 100 used cache.now)) }
@@ -112,7 +121,7 @@ fn place_of_closest(
     let ours = closest_row::place_of(own, own::count(own), key::key_at(target, 0));
     let over = skipped_up(cache, used, at, path);
     if over == used {
-        return Where::Own(ours);
+        return Spot::Own(ours);
     }
     let under = skipped_down(cache, used, at, path);
     let up = round::wrap(used, at + over);
@@ -135,16 +144,8 @@ pub fn closest<'a>(
         (off_path path.now (rows 100 used cache.now))) }
 {
     let place = sides::count_under(target, cache, used);
-    match place_of_closest(own, cache, used, place, path, target) {
-        Where::Own(i) => {
-            let at = record::RECORD_LEN * i;
-            &own[at..at + record::RECORD_LEN]
-        }
-        Where::Held(i) => {
-            let at = record::RECORD_LEN * i;
-            &cache[at..at + record::RECORD_LEN]
-        }
-    }
+    let spot = place_of_closest(own, cache, used, place, path, target);
+    record_at(own, cache, spot)
 }
 
 // Which record is the closest to the target, on memory that nobody has tested: refused with 1 where it is not in form, the
@@ -158,19 +159,19 @@ pub fn closest_record(own: &[u8], cache: &[u8], path: &[u8], target: &[u8]) -> S
 {
     let Some(used) = cache::memory(own, cache) else {
         return Sighted {
-            nearest: Nearest::Refused(refusal::MEMORY),
+            nearest: Err(refusal::MEMORY),
             compared: 0,
         };
     };
     if !path::is_path(path) {
         return Sighted {
-            nearest: Nearest::Refused(refusal::MEMORY),
+            nearest: Err(refusal::MEMORY),
             compared: 0,
         };
     }
     if target.len() != 32 {
         return Sighted {
-            nearest: Nearest::Refused(refusal::MEMORY),
+            nearest: Err(refusal::MEMORY),
             compared: 0,
         };
     }
@@ -178,14 +179,8 @@ pub fn closest_record(own: &[u8], cache: &[u8], path: &[u8], target: &[u8]) -> S
     let at = match sought.found {
         Ok(at) | Err(at) => at,
     };
-    match place_of_closest(own, cache, used, at, path, target) {
-        Where::Own(i) => Sighted {
-            nearest: Nearest::Own(i),
-            compared: sought.compared,
-        },
-        Where::Held(i) => Sighted {
-            nearest: Nearest::Held(i),
-            compared: sought.compared,
-        },
+    Sighted {
+        nearest: Ok(place_of_closest(own, cache, used, at, path, target)),
+        compared: sought.compared,
     }
 }

@@ -1,7 +1,7 @@
 // Vectors of the cache.
 use crate::searched::searches;
 use cache::Formed;
-use neighbours::Nearest;
+use neighbours::Spot;
 use vector_text::{line, say};
 
 // How many records the cache holds, where it is in form.
@@ -66,16 +66,15 @@ fn say_record(record: &[u8], compared: usize) {
 
 fn closest(own: &[u8], cache: &[u8], path: &[u8], target: &[u8]) {
     let sighted = neighbours::closest_record(own, cache, path, target);
-    let nearest = sighted.nearest;
-    match nearest {
-        Nearest::Refused(number) => say::number(number as u64),
-        Nearest::Own(i) => {
+    match sighted.nearest {
+        Err(number) => say::number(number as u64),
+        Ok(Spot::Own(i)) => {
             let at = 100 * (i % 4);
             if at + 100 <= own.len() {
                 say_record(&own[at..at + 100], sighted.compared);
             }
         }
-        Nearest::Held(i) => {
+        Ok(Spot::Held(i)) => {
             let at = 100 * (i % 256);
             if at + 100 <= cache.len() {
                 say_record(&cache[at..at + 100], sighted.compared);

@@ -1,15 +1,14 @@
 // Vectors of every search in a cache: each key held, and keys of the gaps on both sides of it.
-use neighbours::Nearest;
+use neighbours::Spot;
 use vector_text::{line, say};
 
 // Where the record closest to a target stands, with no path: its place, or `own`.
 fn say_place(own: &[u8], cache: &[u8], target: &[u8]) {
     let sighted = neighbours::closest_record(own, cache, &target[0..0], target);
-    let nearest = sighted.nearest;
-    match nearest {
-        Nearest::Refused(_) => say::text(b"-"),
-        Nearest::Own(_) => say::text(b"own"),
-        Nearest::Held(i) => say::number(i as u64),
+    match sighted.nearest {
+        Err(_) => say::text(b"-"),
+        Ok(Spot::Own(_)) => say::text(b"own"),
+        Ok(Spot::Held(i)) => say::number(i as u64),
     }
 }
 

@@ -15,7 +15,7 @@ ghost use Rattle.named.specs.Spots.{choice_told, Placed};
 ghost use Rattle.why.specs.Text.{text_of};
 ghost use Rattle.why.specs.Input.{first_of, behind_of, told_behind, why_text};
 
-use named::{Choice, Named};
+use named::Choice;
 
 // The first record, the longest cache that its length can say, and a datagram of one byte more than a good one may have:
 // what stands behind that is not read, and changes no answer.
@@ -49,8 +49,8 @@ fn put_named<'a>(
     ensures upper_bound { result ≤ length out.old }
 {
     match named::name(own, cache, major, datagram) {
-        Named::Refused(number) => line::put_number(out, number),
-        Named::Chosen(choice) => put_choice(out, own, cache, choice),
+        Err(number) => line::put_number(out, number),
+        Ok(choice) => put_choice(out, own, cache, choice),
     }
 }
 

@@ -6,6 +6,7 @@ use Prim.Native.Nat.{ℕ, ◌+◌, ◌-◌, ◌≤◌}
 use native.Mathlib.Omega.{arith}
 use lib.ListN.{length, take, drop}
 use borrow.Author.Rules.{rules}
+use Rattle.std.specs.Prelude.{Result, Ok, Err}
 use Rattle.octet.specs.Part.{part}
 use Rattle.key.specs.Number.{number}
 use Rattle.wire_read.specs.Answers as R
@@ -14,8 +15,7 @@ use Rattle.look.specs.Seen.{brief_of}
 use Rattle.look.specs.declared.Brief.{Brief}
 use Rattle.plan_message.proofs.AnswerLaws.{known_answer}
 use Rattle.plan_message.proofs.BriefLaws.{KnownLookup, known-lookup}
-use Rattle.named.specs.declared.Named.{Named}
-use Rattle.named.specs.declared.Named.TheVariants.{Refused, Chosen}
+use Rattle.named.specs.declared.Choice.{Choice}
 use Rattle.named.specs.Places.{choice_for}
 use Rattle.named.proofs.CallLaws.{RefusedBy, refused_by, OtherBy, other_by, LookupBy, lookup-by}
 use Rattle.named.proofs.name_in.Goals.{After-brief_at-told, Else-told-ne11, Start}
@@ -28,8 +28,8 @@ module _ (m : After-brief_at-told) where
   abbrev d : List ℕ
   d = start.args.datagram.now
 
-  abbrev lookup : List ℕ → ℕ → Named
-  lookup path t = Chosen (choice_for start.args.own.now start.args.cache.now start.args.used path t)
+  abbrev lookup : List ℕ → ℕ → Result Choice ℕ
+  lookup path t = Ok (choice_for start.args.own.now start.args.cache.now start.args.used path t)
 
   abbrev told : Brief
   told = m.brief_at-told.result
@@ -51,12 +51,12 @@ looked e = (goal.at.Else-told-ne11 e).After-brief_at-told
 pub returns-then-told-eq0 : goal.returns-then-told-eq0
 returns-then-told-eq0 c =
     let m = (goal.at.returns-then-told-eq0 c).After-brief_at-told in
-    sym (by m (RefusedBy Refused (lookup m) (d m)) (refused_by Refused (lookup m) (d m)) c.if-told-eq0.true)
+    sym (by m (RefusedBy Err (lookup m) (d m)) (refused_by Err (lookup m) (d m)) c.if-told-eq0.true)
 
 pub returns-then-told-ne11 : goal.returns-then-told-ne11
 returns-then-told-ne11 c =
     let m = (goal.at.returns-then-told-ne11 c).After-brief_at-told in
-    sym (by m (OtherBy Refused (lookup m) (d m)) (other_by Refused (lookup m) (d m)) c.if-told-eq0.false c.if-told-ne11.true)
+    sym (by m (OtherBy Err (lookup m) (d m)) (other_by Err (lookup m) (d m)) c.if-told-eq0.false c.if-told-ne11.true)
 
 pub overflow_cast-told : goal.overflow_cast-told
 overflow_cast-told c = let e = (goal.at.overflow_cast-told c).Else-told-ne11 in let m = looked e in omega (arith, (known m e.if-told-ne11.false).0, (start m).well_formed)
@@ -94,5 +94,5 @@ returns c =
     let size : x.path + x.size - (x.path + 8) ≡ x.size - 8 = omega (arith, (known m e.if-told-ne11.false).1) in
     let path : take (x.path + x.size - (x.path + 8)) (drop (x.path + 8) (d m)) ≡ part (x.path + 8) (x.size - 8) (d m) =
     ap (λ (n : ℕ). take n (drop (x.path + 8) (d m))) size in
-    ap Chosen c.choose.ensures ∙ ap₂ (lookup m) path c.key_at-target.ensures
-    ∙ sym (by m (LookupBy Refused (lookup m) (d m)) (lookup-by Refused (lookup m) (d m)) e.if-told-ne11.false)
+    ap Ok c.choose.ensures ∙ ap₂ (lookup m) path c.key_at-target.ensures
+    ∙ sym (by m (LookupBy Err (lookup m) (d m)) (lookup-by Err (lookup m) (d m)) e.if-told-ne11.false)

@@ -1,48 +1,46 @@
 -- `named::choosing::key_of` meets its contract: the key of the record at each place. Assumes nothing.
-use mathlib.Core.Path.{◌≡◌, refl, sym, ap, subst, ◌∙◌}
+use mathlib.Core.Path.{◌≡◌, sym, ap, subst, ◌∙◌}
 use Prim.Native.Nat.{ℕ, ◌+◌, ◌*◌, ◌≤◌}
 use native.Mathlib.Omega.{arith}
 use lib.ListN.{length}
-use borrow.Author.Rules.{rules}
+use Rattle.std.specs.Prelude.{Option}
 use Rattle.octet.specs.Number.{value_be}
+use Rattle.octet.proofs.PartLaws.{length_part}
 use Rattle.key.specs.Number.{number}
 use Rattle.record.specs.Record.{key_of}
-use Rattle.cache.proofs.FormLaws.{key_of-row}
-use Rattle.named.specs.declared.Spot.{Spot}
+use Rattle.neighbours.specs.Where as W
+use Rattle.neighbours.specs.declared.nearest.Spot.{Spot}
+use Rattle.neighbours.specs.declared.nearest.Spot.TheVariants.{Own, Held}
 use Rattle.named.specs.Spots.{record_at, Inside}
 use Rattle.named.proofs.choosing.key_of.Goals.{Start}
 use Rattle.named.proofs.choosing.key_of.Goals as goal
 
 -- what is known of the place, and its record's key
-inside : (s : Start) {x : Spot} → s.args.spot ≡ x → Inside s.args.own.now s.args.cache.now x
+inside : (s : Start) {x : Option Spot} → s.args.spot ≡ x → Inside s.args.own.now s.args.cache.now x
 inside s e = subst (Inside s.args.own.now s.args.cache.now) e s.requires
 
-key_there : (s : Start) {x : Spot} → s.args.spot ≡ x
+key_there : (s : Start) {x : Option Spot} → s.args.spot ≡ x
     → key_of (record_at s.args.own.now s.args.cache.now s.args.spot) ≡ key_of (record_at s.args.own.now s.args.cache.now x)
-key_there s e = ap (λ (x : Spot). key_of (record_at s.args.own.now s.args.cache.now x)) e
+key_there s e = ap (λ (x : Option Spot). key_of (record_at s.args.own.now s.args.cache.now x)) e
 
-pub overflow_mul-i : goal.overflow_mul-i
-overflow_mul-i c = let s = (goal.at.overflow_mul-i c).Start in omega (arith, inside s c.in-Own.is, s.well_formed)
+-- a record that lies there has its length
+whole : (own cache : _) (x : Spot) → W.Lies own cache x → length (W.record_at own cache x) ≡ 100
+whole own cache (Own i) w = length_part (100 * i) 100 own w
+whole own cache (Held i) w = length_part (100 * i) 100 cache w
+
+pub record_at-requires : goal.record_at-requires
+record_at-requires c = inside (goal.at.record_at-requires c).Start c.in-Some.is
 
 pub key_at-requires : goal.key_at-requires
-key_at-requires c = let s = (goal.at.key_at-requires c).Start in omega (arith, inside s c.in-Own.is)
+key_at-requires c =
+    let s = (goal.at.key_at-requires c).Start in
+    omega (arith, whole s.args.own.now s.args.cache.now c.in-Some.spot (inside s c.in-Some.is), ap length c.record_at.ensures)
 
-pub overflow_mul-i-in-Held : goal.overflow_mul-i-in-Held
-overflow_mul-i-in-Held c = let s = (goal.at.overflow_mul-i-in-Held c).Start in omega (arith, inside s c.in-Held.is, s.well_formed)
-
-pub key_at-requires-in-Held : goal.key_at-requires-in-Held
-key_at-requires-in-Held c = let s = (goal.at.key_at-requires-in-Held c).Start in omega (arith, inside s c.in-Held.is)
-
-pub returns-in-Nowhere : goal.returns-in-Nowhere
+pub returns-in-None : goal.returns-in-None
 unfolding number value_be
-returns-in-Nowhere c = sym (key_there (goal.at.returns-in-Nowhere c).Start c.in-Nowhere.is)
+returns-in-None c = sym (key_there (goal.at.returns-in-None c).Start c.in-None.is)
 
-pub returns-in-Own : goal.returns-in-Own
-returns-in-Own c =
-    let s = (goal.at.returns-in-Own c).Start in
-    c.key_at.ensures ∙ sym (key_there s c.in-Own.is ∙ key_of-row (100 * c.in-Own.i) s.args.own.now)
-
-pub returns-in-Held : goal.returns-in-Held
-returns-in-Held c =
-    let s = (goal.at.returns-in-Held c).Start in
-    c.key_at-in-Held.ensures ∙ sym (key_there s c.in-Held.is ∙ key_of-row (100 * c.in-Held.i) s.args.cache.now)
+pub returns-in-Some : goal.returns-in-Some
+returns-in-Some c =
+    let s = (goal.at.returns-in-Some c).Start in
+    c.key_at.ensures ∙ ap key_of c.record_at.ensures ∙ sym (key_there s c.in-Some.is)

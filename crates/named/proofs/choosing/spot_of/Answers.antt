@@ -7,6 +7,7 @@ use Prim.Native.Nat.{ℕ, ◌+◌, ◌*◌, ◌/◌, ◌≤◌, ◌<◌}
 use native.Mathlib.Omega.{arith}
 use lib.ListN.{length}
 use borrow.Author.Rules.{rules}
+use Rattle.std.specs.Prelude.{Option}
 use Rattle.key.specs.Number.{number, key_at}
 use Rattle.key.specs.Around.{closer}
 use Rattle.own.specs.Own.{own_keys}
@@ -14,7 +15,7 @@ use Rattle.own.proofs.FormLaws.{own_formed}
 use Rattle.cache.proofs.FormLaws.{form_laid}
 use Rattle.next_row.specs.Walk.{wanted}
 use Rattle.next_row.proofs.WalkLaws.{place_found}
-use Rattle.named.specs.declared.Spot.{Spot}
+use Rattle.neighbours.specs.declared.nearest.Spot.{Spot}
 use Rattle.named.specs.Places.{closer_spot, spot_for}
 use Rattle.named.proofs.SpotLaws.{spot-none, spot-held, spot-own, spot-closer, spot-nearer}
 use Rattle.named.proofs.choosing.spot_of.Goals.{After-is_closer, After-row_of-j, Start}
@@ -47,7 +48,7 @@ module _ (c : After-row_of-j) where
   j = c.row_of-j.result
 
   -- the places are those that the walks find
-  found : {x : Spot} → x ≡ closer_spot t own ours i cache start.args.used j
+  found : {x : Option Spot} → x ≡ closer_spot t own ours i cache start.args.used j
       → x ≡ spot_for own cache start.args.used start.args.path.now t start.args.leave (number start.args.k)
   found e =
       e ∙ ap₂ (λ (p q : ℕ). closer_spot t own ours p cache start.args.used q) c.row_of-i.ensures c.row_of-j.ensures

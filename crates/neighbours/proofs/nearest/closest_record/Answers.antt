@@ -7,6 +7,7 @@ use native.Mathlib.Omega.{arith}
 use lib.Dec.{eqb}
 use lib.ListN.{length}
 use borrow.Author.Tests.{eq-eqb, ne_eqb}
+use Rattle.std.specs.Prelude.{Ok}
 use Rattle.key.specs.Number.{key_at}
 use Rattle.own.specs.Own.{own_keys, own_records}
 use Rattle.path.specs.Path.{path_form}
@@ -25,8 +26,10 @@ use Rattle.cache.specs.Calls.{memory_wrong, key_wrong, held_by}
 use Rattle.cache.proofs.FormLaws.{form_laid}
 use Rattle.cache.proofs.LentLaws.{not_is, not_isn't, memory-own, memory-form, memory-held, memory-passes, memory-refuses}
 use Rattle.neighbours.specs.Closest.{candidates, off_path, closest_of}
-use Rattle.neighbours.specs.Where.{record_at, Within}
-use Rattle.neighbours.specs.Calls.{Shown, shown, closest_wrong, closest_call, closest_compared}
+use Rattle.neighbours.specs.Where.{Within}
+use Rattle.neighbours.specs.Calls.{Shown, shown, Inside, closest_wrong, closest_call, closest_compared}
+use Rattle.neighbours.specs.declared.nearest.Spot.{Spot}
+use Rattle.neighbours.specs.declared.nearest.Spot.TheVariants.{Own, Held}
 use Rattle.neighbours.proofs.nearest.closest_record.Goals.{in-Ok, in-Ok-2, After-find_key-sought, After-is_path, After-memory, After-place_of_closest, Else-not-is_path, Else-target-ne32, In-Some, Start, Then-not-is_path}
 use Rattle.neighbours.proofs.nearest.closest_record.Goals as goal
 
@@ -157,12 +160,15 @@ place_of_closest-requires c =
     let good = memory-own (own e) (cache e) (tested e).memory.ensures e.in-Some.is in
     record { own_value = (good, omega (arith, e.if-target-ne32.false)); form = form e; at_value = elim c.match-sought.branch [ in-Ok w ↦ w.at-is ∙ place f w.in-Ok.is | in-Ok-2 w ↦ w.at-is ∙ place f w.in-Ok.is ] }
 
-pub returns-in-Own : goal.returns-in-Own
-returns-in-Own c =
-    let e = (goal.at.returns-in-Own c).Else-target-ne32 in record { nearest_value = sym (accepted e ∙ ap (shown 0) (sym c.place_of_closest.ensures.result_value ∙ ap (record_at (own e) (cache e)) c.in-Own.is)); inside = subst (Within (length (own_records (own e))) (used e)) c.in-Own.is c.place_of_closest.ensures.within; compared_value = counted-all (goal.at.returns-in-Own c).After-find_key-sought ∙ sym (count e) }
+-- where it is found to be lies among our own records or those held
+found-inside : (e : Else-target-ne32) (x : Spot) → Within (length (own_records (own e))) (used e) x → Inside (own e) (cache e) (Ok x)
+found-inside e (Own i) w = w
+found-inside e (Held i) w = (omega (arith, w, ap length (held e), rows-length 100 (used e) (cache e)), omega (arith, w, room e))
 
-pub returns-in-Held : goal.returns-in-Held
-returns-in-Held c =
-    let e = (goal.at.returns-in-Held c).Else-target-ne32 in
-    let inside : c.in-Held.i < used e =
-    subst (Within (length (own_records (own e))) (used e)) c.in-Held.is c.place_of_closest.ensures.within in record { nearest_value = sym (accepted e ∙ ap (shown 0) (sym c.place_of_closest.ensures.result_value ∙ ap (record_at (own e) (cache e)) c.in-Held.is)); inside = (omega (arith, inside, ap length (held e), rows-length 100 (used e) (cache e)), omega (arith, inside, room e)); compared_value = counted-all (goal.at.returns-in-Held c).After-find_key-sought ∙ sym (count e) }
+pub returns : goal.returns
+returns c =
+    let e = (goal.at.returns c).Else-target-ne32 in record {
+      nearest_value = sym (accepted e ∙ ap (shown 0) (sym c.place_of_closest.ensures.result_value));
+      inside = found-inside e c.place_of_closest.result c.place_of_closest.ensures.within;
+      compared_value = counted-all (goal.at.returns c).After-find_key-sought ∙ sym (count e);
+    }

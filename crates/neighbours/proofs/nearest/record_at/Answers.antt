@@ -1,17 +1,17 @@
--- `named::choosing::record_at` meets its contract: the part of the slice that the place names. Assumes nothing.
+-- `neighbours::nearest::record_at` meets its contract: the part of the slice that the place names. Assumes nothing.
 use mathlib.Core.Path.{◌≡◌, refl, sym, ap, subst, ◌∙◌}
 use Prim.Native.Nat.{ℕ, ◌+◌, ◌-◌, ◌*◌, ◌≤◌}
 use native.Mathlib.Omega.{arith}
 use lib.ListN.{length, take, drop}
 use borrow.Author.Rules.{rules}
-use Rattle.named.specs.declared.Spot.{Spot}
-use Rattle.named.specs.Spots.{record_at, Inside}
-use Rattle.named.proofs.choosing.record_at.Goals.{Start}
-use Rattle.named.proofs.choosing.record_at.Goals as goal
+use Rattle.neighbours.specs.declared.nearest.Spot.{Spot}
+use Rattle.neighbours.specs.Where.{record_at, Lies}
+use Rattle.neighbours.proofs.nearest.record_at.Goals.{Start}
+use Rattle.neighbours.proofs.nearest.record_at.Goals as goal
 
 -- what is known of the place, and its record
-inside : (s : Start) {x : Spot} → s.args.spot ≡ x → Inside s.args.own.now s.args.cache.now x
-inside s e = subst (Inside s.args.own.now s.args.cache.now) e s.requires
+inside : (s : Start) {x : Spot} → s.args.spot ≡ x → Lies s.args.own.now s.args.cache.now x
+inside s e = subst (Lies s.args.own.now s.args.cache.now) e s.requires
 
 there : (s : Start) {x : Spot} → s.args.spot ≡ x
     → record_at s.args.own.now s.args.cache.now s.args.spot ≡ record_at s.args.own.now s.args.cache.now x
@@ -27,8 +27,8 @@ overflow_mul-at c = let s = (goal.at.overflow_mul-at c).Start in omega (arith, i
 pub overflow_add-result : goal.overflow_add-result
 overflow_add-result c = let s = (goal.at.overflow_add-result c).Start in omega (arith, inside s c.in-Own.is, s.well_formed)
 
-pub slice_bounds-result-end-in-Own : goal.slice_bounds-result-end-in-Own
-slice_bounds-result-end-in-Own c = let s = (goal.at.slice_bounds-result-end-in-Own c).Start in omega (arith, inside s c.in-Own.is)
+pub slice_bounds-result-end : goal.slice_bounds-result-end
+slice_bounds-result-end c = let s = (goal.at.slice_bounds-result-end c).Start in omega (arith, inside s c.in-Own.is)
 
 pub overflow_mul-at-in-Held : goal.overflow_mul-at-in-Held
 overflow_mul-at-in-Held c = let s = (goal.at.overflow_mul-at-in-Held c).Start in omega (arith, inside s c.in-Held.is, s.well_formed)

@@ -1,6 +1,6 @@
 // A depth as text: metres with millimetres, made of the bits by whole numbers, so that what is rounded is exact.
 use std::cmp::Ordering;
-use std::io::Write;
+use std::io::{self, Write};
 
 // The parts of a millimetre in which depths are counted here.
 const PARTS: u64 = 0x4_0000_0000;
@@ -30,7 +30,7 @@ fn nearest(parts: u64) -> u64 {
 
 // The depth of these bits, which are those of an allowed one, with the whole metres at the right end of a column. Negative
 // zero is 0.000.
-pub fn write<W: Write>(out: &mut W, bits: u32, width: usize) -> std::io::Result<()> {
+pub fn write<W: Write>(out: &mut W, bits: u32, width: usize) -> io::Result<()> {
     let millimetres = nearest(parts(bits));
     write!(
         out,
@@ -38,20 +38,4 @@ pub fn write<W: Write>(out: &mut W, bits: u32, width: usize) -> std::io::Result<
         millimetres / 1000,
         millimetres % 1000
     )
-}
-
-// The last three digits, with zeros in front: those behind the 1 of a number from 1000 to 1999.
-fn put_three(line: &mut [u8], at: usize, n: u64) -> usize {
-    let mut digits = [0u8; 20];
-    let count = io::decimal(1000 + n % 1000, &mut digits);
-    text::put(line, at, text::part(&digits[..count], 1, 4))
-}
-
-// The depth of these bits, which are those of an allowed one, with the whole metres at the right end of a column. Negative zero
-// is 0.000.
-pub fn put(line: &mut [u8], at: usize, bits: u32, width: usize) -> usize {
-    let millimetres = nearest(parts(bits));
-    let a = text::column(line, at, millimetres / 1000, width);
-    let b = text::put(line, a, b".");
-    put_three(line, b, millimetres)
 }

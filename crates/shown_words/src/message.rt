@@ -1,8 +1,11 @@
 // What a datagram received was: a message, as far as it can be read, and how many bytes.
 use crate::names::Names;
-use crate::{names, words};
+use crate::words;
 use look::Look;
 use std::io::{self, Write};
+
+// Where the datagram stands in the record of one received: behind message ID, verdict, key and nonce.
+const DATAGRAM: usize = 57;
 
 // A record of a datagram received, with what is seen of its message, and the names.
 #[derive(Clone, Copy)]
@@ -77,94 +80,4 @@ pub fn write_received<W: Write>(
     write!(out, "received ")?;
     Received { names, call, seen }.write_message(out)?;
     write!(out, ", {} bytes", datagram.len())
-}
-
-fn wide(n: u32) -> usize {
-    n as usize
-}
-
-// 0 where there is none.
-pub fn byte(s: &[u8], at: usize) -> u8 {
-    if s.len() <= at {
-        return 0;
-    }
-    s[at]
-}
-
-// Where the datagram stands in the record of one received: behind message ID, verdict, key and nonce.
-const DATAGRAM: usize = 57;
-
-// " about" or " for" whom: the key that stands at a place of the datagram, if there is one.
-fn put_key_at(
-    line: &mut [u8],
-    at: usize,
-    word: &[u8],
-    names: &[u8],
-    call: &[u8],
-    place: u32,
-) -> usize {
-    if place == 0 {
-        return at;
-    }
-    let start = DATAGRAM + wide(place) % 65536;
-    let behind = text::put(line, at, word);
-    names::put_whose(line, behind, names, text::part(call, start, start + 32))
-}
-
-// The message that an ADVERTISE, AUTHORITY or ACK answers.
-fn put_answered(line: &mut [u8], at: usize, l: Look) -> usize {
-    let kind = l.kind;
-    match kind {
-        2 | 8 | 9 => text::put_number(line, at, b" in answer to ", l.acked as u64),
-        _ => at,
-    }
-}
-
-// A FLOOD without a route entry revokes the key that the verdict names. A verdict that is not good names none.
-fn put_revoked(line: &mut [u8], at: usize, names: &[u8], call: &[u8], l: Look) -> usize {
-    if l.kind != 4 {
-        return at;
-    }
-    if l.entry != 0 {
-        return at;
-    }
-    if byte(call, 8) != 1 {
-        return text::put(line, at, b" revoking some key");
-    }
-    let a = text::put(line, at, b" revoking ");
-    names::put_whose(line, a, names, text::part(call, 9, 41))
-}
-
-fn put_head(line: &mut [u8], at: usize, l: Look) -> usize {
-    let a = words::put_type(line, at, l.kind);
-    let b = text::put_number(line, a, b" ", l.id as u64);
-    put_answered(line, b, l)
-}
-
-// Of a datagram without a message: what it is.
-fn put_unread(line: &mut [u8], at: usize, number: u32) -> usize {
-    if number == 7 {
-        return text::put(line, at, b"a part of an AUTHORITY");
-    }
-    text::put(line, at, b"what cannot be read")
-}
-
-// The message that the datagram holds, as far as it can be read.
-fn put_message(line: &mut [u8], at: usize, names: &[u8], call: &[u8], l: Look) -> usize {
-    if l.number != 0 {
-        return put_unread(line, at, l.number);
-    }
-    let a = put_head(line, at, l);
-    let b = put_revoked(line, a, names, call, l);
-    let c = put_key_at(line, b, b" about ", names, call, l.entry);
-    put_key_at(line, c, b" for ", names, call, l.target)
-}
-
-// A record of a datagram received.
-pub fn put_received(line: &mut [u8], at: usize, names: &[u8], major: u8, call: &[u8]) -> usize {
-    let datagram = text::part(call, DATAGRAM, call.len());
-    let a = text::put(line, at, b"received ");
-    let b = put_message(line, a, names, call, look::look_at(major, datagram));
-    let c = text::put_number(line, b, b", ", datagram.len() as u64);
-    text::put(line, c, b" bytes")
 }

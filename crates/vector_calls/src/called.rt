@@ -1,204 +1,176 @@
 // Lines that are calls: made through the functions that the radio program calls, with an output filled with EE, and compared
 // with what was there before.
 use gauge_commit::Answer;
-use vector_lent::operands::Given;
-use vector_text::{line, say};
+use std::io::{self, Write};
+use vector_lent::Lent;
+use vector_text::line::{Kept, Line};
+use vector_text::say;
 
-// The largest of each that a line has.
-const CACHE: usize = 25700;
-
-const FIRSTS: usize = 1024;
-
-const WAITING: usize = 2400;
-
+// The longest output that a line has.
 const OUTPUT: usize = 4096;
 
-fn receive(
-    given: Given,
-    lent: &[u8],
-    cache: &mut [u8],
-    firsts: &mut [u8],
-    waiting: &mut [u8],
-    output: &mut [u8],
-) -> Answer {
-    gauge::gauge_receive(
-        line::part(lent, 0, given.own),
-        line::part(lent, given.own, given.cpas),
-        cache,
-        firsts,
-        waiting,
-        given.major,
-        given.minor,
-        given.id,
-        line::part(lent, given.cpas, given.nonce),
-        given.verdict,
-        line::part(lent, given.nonce, given.key),
-        line::part(lent, given.key, given.datagram),
-        output,
-    )
+#[derive(Clone, Copy)]
+enum Call {
+    Receive,
+    Send,
+    Tick,
+    List,
+    Nearest,
+    Convert,
+    Find,
 }
 
-fn send(given: Given, lent: &[u8], cache: &[u8], waiting: &mut [u8], output: &mut [u8]) -> Answer {
-    gauge::gauge_send(
-        line::part(lent, 0, given.own),
-        cache,
-        waiting,
-        given.major,
-        given.minor,
-        given.id,
-        line::part(lent, given.cpas, given.nonce),
-        line::part(lent, given.nonce, given.key),
-        output,
-    )
-}
+const NAMES: [(&str, Call); 7] = [
+    ("receive", Call::Receive),
+    ("send", Call::Send),
+    ("tick", Call::Tick),
+    ("list", Call::List),
+    ("nearest", Call::Nearest),
+    ("convert", Call::Convert),
+    ("find", Call::Find),
+];
 
-fn list(given: Given, lent: &[u8], cache: &[u8], output: &mut [u8]) -> Answer {
-    gauge::gauge_neighbours(
-        line::part(lent, 0, given.own),
-        cache,
-        line::part(lent, given.cpas, given.nonce),
-        output,
-    )
-}
-
-fn nearest(given: Given, lent: &[u8], cache: &[u8]) -> Answer {
-    gauge::gauge_closest(
-        line::part(lent, 0, given.own),
-        cache,
-        line::part(lent, given.cpas, given.nonce),
-        line::part(lent, given.nonce, given.key),
-    )
-}
-
-fn search(given: Given, lent: &[u8], cache: &[u8]) -> Answer {
-    gauge::gauge_search(
-        line::part(lent, 0, given.own),
-        cache,
-        line::part(lent, given.nonce, given.key),
-    )
-}
-
-fn call(
-    given: Given,
-    lent: &[u8],
-    cache: &mut [u8],
-    firsts: &mut [u8],
-    waiting: &mut [u8],
-    output: &mut [u8],
-) -> Answer {
-    let kind = given.call;
-    match kind {
-        0 => receive(given, lent, cache, firsts, waiting, output),
-        1 => send(given, lent, cache, waiting, output),
-        2 => gauge::gauge_tick(line::part(lent, 0, given.own), waiting, output),
-        3 => list(given, lent, cache, output),
-        4 => nearest(given, lent, cache),
-        6 => search(given, lent, cache),
-        _ => gauge::gauge_convert(line::part(lent, 0, given.own), cache, waiting),
+// The length of the output is a line's last operand, where it has one.
+fn room_of(call: Call, line: &Line<'_>) -> usize {
+    match call {
+        Call::Receive => line.place(6),
+        Call::Send => line.place(4),
+        Call::Tick => line.place(1),
+        Call::List => line.place(2),
+        Call::Nearest | Call::Convert | Call::Find => 0,
     }
 }
 
-fn wide(n: u32) -> usize {
-    n as usize
+// `receive ID NONCE VERDICT KEY DATAGRAM ROOM`
+fn receive(line: &Line<'_>, lent: &mut Lent, output: &mut [u8]) -> Answer {
+    let mut given = lent.records.give(line.text);
+    let nonce = given.line.bytes(2);
+    let key = given.line.bytes(4);
+    let datagram = given.line.bytes(5);
+    gauge::gauge_receive(
+        given.own,
+        given.cpas,
+        lent.cache.bytes_mut(),
+        lent.firsts.bytes_mut(),
+        lent.waiting.bytes_mut(),
+        lent.major,
+        lent.minor,
+        line.word(1),
+        nonce,
+        line.word(3),
+        key,
+        datagram,
+        output,
+    )
+}
+
+// `send ID NEIGHBOUR KEY ROOM`
+fn send(line: &Line<'_>, lent: &mut Lent, output: &mut [u8]) -> Answer {
+    let mut given = lent.records.give(line.text);
+    let neighbour = given.line.bytes(2);
+    let key = given.line.bytes(3);
+    gauge::gauge_send(
+        given.own,
+        lent.cache.bytes(),
+        lent.waiting.bytes_mut(),
+        lent.major,
+        lent.minor,
+        line.word(1),
+        neighbour,
+        key,
+        output,
+    )
+}
+
+// `list KEY ROOM`
+fn list(line: &Line<'_>, lent: &mut Lent, output: &mut [u8]) -> Answer {
+    let mut given = lent.records.give(line.text);
+    gauge::gauge_neighbours(given.own, lent.cache.bytes(), given.line.bytes(1), output)
+}
+
+// `nearest PATH TARGET`
+fn nearest(line: &Line<'_>, lent: &mut Lent) -> Answer {
+    let mut given = lent.records.give(line.text);
+    let path = given.line.bytes(1);
+    let target = given.line.bytes(2);
+    gauge::gauge_closest(given.own, lent.cache.bytes(), path, target)
+}
+
+// `find KEY`
+fn find(line: &Line<'_>, lent: &mut Lent) -> Answer {
+    let mut given = lent.records.give(line.text);
+    gauge::gauge_search(given.own, lent.cache.bytes(), given.line.bytes(1))
+}
+
+// `tick ROOM` and `convert` have no operands that are bytes.
+fn make(call: Call, line: &Line<'_>, lent: &mut Lent, output: &mut [u8]) -> Answer {
+    match call {
+        Call::Receive => receive(line, lent, output),
+        Call::Send => send(line, lent, output),
+        Call::Tick => gauge::gauge_tick(lent.records.own(), lent.waiting.bytes_mut(), output),
+        Call::List => list(line, lent, output),
+        Call::Nearest => nearest(line, lent),
+        Call::Convert => gauge::gauge_convert(
+            lent.records.own(),
+            lent.cache.bytes_mut(),
+            lent.waiting.bytes_mut(),
+        ),
+        Call::Find => find(line, lent),
+    }
 }
 
 // How many bytes of the output a call that gave this has written: datagrams, IDs of 4, keys of 32. The closest
 // record, a search and a conversion write nothing there.
-fn written(call: usize, answer: Answer) -> usize {
-    let first = wide(answer.first) % 65536;
-    let second = wide(answer.second) % 65536;
+fn written(call: Call, answer: Answer) -> usize {
+    let first = answer.first as usize;
+    let second = answer.second as usize;
     match call {
-        2 => 4 * first,
-        3 => 32 * (first + second),
-        4 => 0,
-        5 => 0,
-        6 => 0,
-        _ => first + second,
+        Call::Receive | Call::Send => first + second,
+        Call::Tick => 4 * first,
+        Call::List => 32 * (first + second),
+        Call::Nearest | Call::Convert | Call::Find => 0,
     }
 }
 
-fn say_same(was: &[u8], is: &[u8]) {
-    if octet::equal(was, is) {
-        return say::text(b" same");
+fn compared<const N: usize>(was: &Kept<N>, is: &Kept<N>) -> &'static str {
+    if was.bytes() == is.bytes() {
+        "same"
+    } else {
+        "changed"
     }
-    say::text(b" changed");
 }
 
-// Number and counts, and the bytes that were written.
-fn say_answer(answer: Answer, output: &[u8], end: usize) {
-    say::field(answer.number as u64);
-    say::field(answer.first as u64);
-    say::field(answer.second as u64);
-    say::bytes(line::part(output, 0, end));
-}
-
-// The rest of the output is as it was, or not.
-fn say_rest(output: &[u8], end: usize) {
-    let fresh = [0xEEu8; OUTPUT];
-    let len = output.len();
-    if octet::equal(line::part(output, end, len), line::part(&fresh, end, len)) {
-        return say::text(b" clean");
-    }
-    say::text(b" dirty");
-}
-
-// What the call answers and has written, and what has changed.
-fn say_call(
-    given: Given,
-    lent: &[u8],
-    cache: &mut [u8],
-    firsts: &mut [u8],
-    waiting: &mut [u8],
-    held: &[u8],
-    counts: &[u8],
-    waits: &[u8],
+// What the call answers, the bytes that were written, and what has changed: the rest of the output too.
+fn told<W: Write>(
+    of: Call,
+    line: &Line<'_>,
+    lent: &mut Lent,
     output: &mut [u8],
-) {
-    let answer = call(given, lent, cache, firsts, waiting, output);
-    let end = written(given.call, answer);
-    say_answer(answer, output, end);
-    say_same(line::part(held, 0, cache.len()), cache);
-    say_same(line::part(counts, 0, firsts.len()), firsts);
-    say_same(line::part(waits, 0, waiting.len()), waiting);
-    say_rest(output, end);
+    out: &mut W,
+) -> io::Result<()> {
+    let (cache, firsts, waiting) = (lent.cache, lent.firsts, lent.waiting);
+    let answer = make(of, line, lent, output);
+    let Answer {
+        number,
+        first,
+        second,
+    } = answer;
+    let (written, rest) = say::written(output, written(of, answer));
+    write!(out, "{number} {first} {second} {written}")?;
+    let cache = compared(&cache, &lent.cache);
+    let firsts = compared(&firsts, &lent.firsts);
+    let waiting = compared(&waiting, &lent.waiting);
+    write!(out, " {cache} {firsts} {waiting} {rest}")
 }
 
-// A copy of what a call may write, where there is room for it.
-fn keep(copy: &mut [u8], of: &[u8]) {
-    if copy.len() < of.len() {
-        return;
+pub(crate) fn answer<W: Write>(line: &Line<'_>, lent: &mut Lent, out: &mut W) -> io::Result<bool> {
+    let Some(call) = line.named(&NAMES) else {
+        return Ok(false);
+    };
+    let mut room = [0xEEu8; OUTPUT];
+    match room.get_mut(..room_of(call, line)) {
+        Some(output) => told(call, line, lent, output, out)?,
+        None => say::outside(out)?,
     }
-    runs::copy_to(copy, 0, of);
-}
-
-// The call, with copies kept of what it may write.
-pub(crate) fn run(
-    given: Given,
-    lent: &[u8],
-    cache: &mut [u8],
-    firsts: &mut [u8],
-    waiting: &mut [u8],
-) {
-    let room = given.room;
-    if OUTPUT < room {
-        return say::outside();
-    }
-    let mut held = [0u8; CACHE];
-    let mut counts = [0u8; FIRSTS];
-    let mut waits = [0u8; WAITING];
-    let mut output = [0xEEu8; OUTPUT];
-    keep(&mut held, cache);
-    keep(&mut counts, firsts);
-    keep(&mut waits, waiting);
-    say_call(
-        given,
-        lent,
-        cache,
-        firsts,
-        waiting,
-        &held,
-        &counts,
-        &waits,
-        &mut output[0..room],
-    );
+    Ok(true)
 }

@@ -1,31 +1,34 @@
-// Lines that look at a datagram: `look MAJOR DATAGRAM`. Its operands are put behind what is kept in the slice.
-use vector_text::{line, say};
+// Lines that look at a datagram: `look MAJOR DATAGRAM`.
+use std::io::{self, Write};
+use vector_lent::Lent;
+use vector_text::line::Line;
 
-fn say_pair(a: u32, b: u32) {
-    say::text(b" ");
-    say::number(a as u64);
-    say::text(b" ");
-    say::number(b as u64);
-}
+const NAMES: [(&str, ()); 1] = [("look", ())];
 
 // All twelve numbers.
-fn say_look(l: look::Look) {
-    say::number(l.number as u64);
-    say::text(b" ");
-    say::number(l.kind as u64);
-    say_pair(l.id, l.acked);
-    say_pair(l.cpa, l.cpa_length);
-    say_pair(l.nonce, l.nonce_length);
-    say_pair(l.entry, l.entry_length);
-    say_pair(l.target, l.target_length);
-}
-
-pub(crate) fn answer(text: &[u8], lent: &mut [u8], kept: usize) -> bool {
-    if line::is_named(text, b"look") {
-        let end = line::bytes(text, 2, lent, kept);
-        let major = (line::number(text, 1) % 256) as u8;
-        say_look(gauge::gauge_look(major, line::part(lent, kept, end)));
-        return true;
+pub(crate) fn answer<W: Write>(line: &Line<'_>, lent: &mut Lent, out: &mut W) -> io::Result<bool> {
+    if line.named(&NAMES).is_none() {
+        return Ok(false);
     }
-    false
+    let mut given = lent.records.give(line.text);
+    let look = gauge::gauge_look(line.byte(1), given.line.bytes(2));
+    let number = look.number;
+    write!(out, "{number}")?;
+    let rest = [
+        look.kind,
+        look.id,
+        look.acked,
+        look.cpa,
+        look.cpa_length,
+        look.nonce,
+        look.nonce_length,
+        look.entry,
+        look.entry_length,
+        look.target,
+        look.target_length,
+    ];
+    for number in rest {
+        write!(out, " {number}")?;
+    }
+    Ok(true)
 }

@@ -1,108 +1,79 @@
 // Vectors of numbers at a place, read in both byte orders, and of tests on slices.
-use vector_text::{line, say};
+use std::io::{self, Write};
+use vector_text::line::Line;
+use vector_text::say;
 
-// `u16 PLACE BYTES` and its like: the number of so many bytes at the place, least significant byte first or last.
-fn u16_at(s: &[u8], at: usize, little: bool) {
-    if s.len() < 2 {
-        return say::outside();
-    }
-    if s.len() - 2 < at {
-        return say::outside();
-    }
-    if little {
-        return say::number(octet::read_u16_le(s, at) as u64);
-    }
-    say::number(octet::read_u16(s, at) as u64);
+#[derive(Clone, Copy)]
+enum Asked {
+    U16,
+    U32,
+    U64,
+    U16Le,
+    U32Le,
+    U64Le,
+    ZeroWords,
+    Equal,
+    Zero,
 }
 
-fn u32_at(s: &[u8], at: usize, little: bool) {
-    if s.len() < 4 {
-        return say::outside();
+const NAMES: [(&str, Asked); 9] = [
+    ("u16", Asked::U16),
+    ("u32", Asked::U32),
+    ("u64", Asked::U64),
+    ("u16-le", Asked::U16Le),
+    ("u32-le", Asked::U32Le),
+    ("u64-le", Asked::U64Le),
+    ("zero-words", Asked::ZeroWords),
+    ("equal", Asked::Equal),
+    ("zero", Asked::Zero),
+];
+
+// `u16 PLACE BYTES` and its like: the number of so many bytes at the place, least significant byte first or last. None where
+// they do not lie within.
+fn number_at(asked: Asked, s: &[u8], at: usize) -> Option<u64> {
+    let behind = s.len().checked_sub(at)?;
+    match asked {
+        Asked::U16 if 2 <= behind => Some(octet::read_u16(s, at).into()),
+        Asked::U32 if 4 <= behind => Some(octet::read_u32(s, at).into()),
+        Asked::U64 if 8 <= behind => Some(octet::read_u64(s, at)),
+        Asked::U16Le if 2 <= behind => Some(octet::read_u16_le(s, at).into()),
+        Asked::U32Le if 4 <= behind => Some(octet::read_u32_le(s, at).into()),
+        Asked::U64Le if 8 <= behind => Some(octet::read_u64_le(s, at)),
+        _ => None,
     }
-    if s.len() - 4 < at {
-        return say::outside();
-    }
-    if little {
-        return say::number(octet::read_u32_le(s, at) as u64);
-    }
-    say::number(octet::read_u32(s, at) as u64);
 }
 
-fn u64_at(s: &[u8], at: usize, little: bool) {
-    if s.len() < 8 {
-        return say::outside();
+fn number<W: Write>(asked: Asked, line: &mut Line<'_>, out: &mut W) -> io::Result<()> {
+    match number_at(asked, line.bytes(2), line.place(1)) {
+        Some(number) => write!(out, "{number}"),
+        None => say::outside(out),
     }
-    if s.len() - 8 < at {
-        return say::outside();
-    }
-    if little {
-        return say::number(octet::read_u64_le(s, at));
-    }
-    say::number(octet::read_u64(s, at));
-}
-
-fn answer_number(text: &[u8], s: &[u8], at: usize) -> bool {
-    match line::which(text, b"u16 u32 u64 u16-le u32-le u64-le") {
-        0 => u16_at(s, at, false),
-        1 => u32_at(s, at, false),
-        2 => u64_at(s, at, false),
-        3 => u16_at(s, at, true),
-        4 => u32_at(s, at, true),
-        5 => u64_at(s, at, true),
-        _ => {
-            return false;
-        }
-    }
-    true
 }
 
 // `zero-words PLACE COUNT BYTES`: are so many words of eight bytes from the place on all zero?
-fn zero_words(s: &[u8], at: usize, n: usize) {
-    if 8192 < n {
-        return say::outside();
+fn zero_words(s: &[u8], at: usize, n: usize) -> Option<bool> {
+    if s.len().checked_sub(at)? / 8 < n {
+        return None;
     }
-    if s.len() < 8 * n {
-        return say::outside();
-    }
-    if s.len() - 8 * n < at {
-        return say::outside();
-    }
-    say::yes(octet::zero_words(s, at, n));
+    Some(octet::zero_words(s, at, n))
 }
 
-// `equal BYTES BYTES`, `zero BYTES`: the tests on whole slices, of what the first two operands are.
-fn answer_test(text: &[u8], a: &[u8], b: &[u8]) -> bool {
-    match line::which(text, b"equal zero") {
-        0 => say::yes(octet::equal(a, b)),
-        1 => say::yes(octet::is_zero(a)),
-        _ => {
-            return false;
+// `equal BYTES BYTES`, `zero BYTES`: the tests on whole slices.
+pub(crate) fn answer<W: Write>(line: &mut Line<'_>, out: &mut W) -> io::Result<bool> {
+    let Some(asked) = line.named(&NAMES) else {
+        return Ok(false);
+    };
+    match asked {
+        Asked::Equal => {
+            let equal = octet::equal(line.bytes(1), line.aside(2));
+            say::yes(equal, out)?;
         }
+        Asked::Zero => say::yes(octet::is_zero(line.bytes(1)), out)?,
+        Asked::ZeroWords => match zero_words(line.bytes(3), line.place(1), line.place(2)) {
+            Some(zero) => say::yes(zero, out)?,
+            None => say::outside(out)?,
+        },
+        _ => number(asked, line, out)?,
     }
-    true
-}
-
-fn answer_words(text: &[u8], room: &mut [u8]) -> bool {
-    if line::is_named(text, b"zero-words") {
-        let end = line::bytes(text, 3, room, 0);
-        zero_words(
-            line::part(room, 0, end),
-            line::place(text, 1),
-            line::place(text, 2),
-        );
-        return true;
-    }
-    false
-}
-
-pub fn answer(text: &[u8], room: &mut [u8], side: &mut [u8]) -> bool {
-    if answer_words(text, room) {
-        return true;
-    }
-    let a = line::bytes(text, 1, room, 0);
-    let b = line::bytes(text, 2, side, 0);
-    if answer_test(text, line::part(room, 0, a), line::part(side, 0, b)) {
-        return true;
-    }
-    answer_number(text, line::part(side, 0, b), line::place(text, 1))
+    Ok(true)
 }

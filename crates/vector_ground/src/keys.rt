@@ -1,80 +1,103 @@
 // Vectors of keys, each an operand of 32 bytes: order, difference on the line and round the ring, and how they stand
 // around our own and around a target.
 use key::Key;
-use vector_text::{line, say};
+use std::cmp::Ordering;
+use std::io::{self, Write};
+use vector_text::line::Line;
+use vector_text::say::{self, Wide};
 
-// The key of an operand; 0 where it has not 32 bytes.
-fn operand(text: &[u8], i: usize, room: &mut [u8]) -> Key {
-    let end = line::bytes(text, i, room, 0);
-    if end == 32 {
-        if 32 <= room.len() {
-            return key::key_at(room, 0);
+#[derive(Clone, Copy)]
+enum Asked {
+    Order,
+    Differ,
+    Minus,
+    Far,
+    Same,
+    Above,
+    Closer,
+}
+
+const NAMES: [(&str, Asked); 7] = [
+    ("order", Asked::Order),
+    ("differ", Asked::Differ),
+    ("minus", Asked::Minus),
+    ("far", Asked::Far),
+    ("same", Asked::Same),
+    ("above", Asked::Above),
+    ("closer", Asked::Closer),
+];
+
+// An operand as it lies in 32 bytes, 0 behind it where it has fewer, and as a key; 0 where it has not 32 bytes.
+#[derive(Clone, Copy)]
+struct Operand {
+    bytes: [u8; 32],
+    key: Key,
+}
+
+impl Operand {
+    fn of(line: &mut Line<'_>, i: usize) -> Operand {
+        let given = line.peek(i);
+        let mut bytes = [0; 32];
+        for (byte, as_given) in bytes.iter_mut().zip(given.iter()) {
+            *byte = *as_given;
         }
+        let key = if given.len() == 32 {
+            key::key_at(given, 0)
+        } else {
+            Key {
+                a: 0,
+                b: 0,
+                c: 0,
+                d: 0,
+            }
+        };
+        Operand { bytes, key }
     }
-    Key {
-        a: 0,
-        b: 0,
-        c: 0,
-        d: 0,
+}
+
+fn word_of(order: Ordering) -> &'static str {
+    match order {
+        Ordering::Less => "less",
+        Ordering::Equal => "same",
+        Ordering::Greater => "more",
     }
 }
 
 // `order KEY KEY`: of the two in hand, and of the two where they lie.
-fn order(x: Key, y: Key, first: &[u8], second: &[u8]) {
-    say::order(key::compare(x, y));
-    say::text(b" ");
-    if first.len() < 32 {
-        return say::outside();
-    }
-    if second.len() < 32 {
-        return say::outside();
-    }
-    say::order(key::order_at(first, 0, second, 0));
-}
-
-// `above OWN KEY`: is the key above our own?
-fn above(own: &[u8], other: &[u8]) {
-    if own.len() < 32 {
-        return say::outside();
-    }
-    if other.len() < 32 {
-        return say::outside();
-    }
-    say::yes(ring::is_above(own, other, 0));
+fn order<W: Write>(x: &Operand, y: &Operand, out: &mut W) -> io::Result<()> {
+    let in_hand = word_of(key::compare(x.key, y.key));
+    let as_they_lie = word_of(key::order_at(&x.bytes, 0, &y.bytes, 0));
+    write!(out, "{in_hand} {as_they_lie}")
 }
 
 // `closer TARGET KEY KEY`: is the first key taken before the second?
-fn closer(target: Key, k: Key, j: Key) {
+fn closer(target: Key, k: Key, j: Key) -> bool {
     let d = ring::how_far(target, k);
     let e = ring::how_far(target, j);
-    say::yes(ring::is_closer(target, k, d, j, e));
+    ring::is_closer(target, k, d, j, e)
 }
 
-// Of two keys: their order, their differences, whether they are the same, and how they lie.
-fn answer_two(text: &[u8], x: Key, y: Key, first: &[u8], second: &[u8]) -> bool {
-    match line::which(text, b"order differ minus far same above") {
-        0 => order(x, y, first, second),
-        1 => say::key(key::difference(x, y)),
-        2 => say::key(key::minus(x, y)),
-        3 => say::key(ring::how_far(x, y)),
-        4 => say::yes(key::is_same(x, y)),
-        5 => above(first, second),
-        _ => {
-            return false;
-        }
-    }
-    true
+fn say_key<W: Write>(key: Key, out: &mut W) -> io::Result<()> {
+    let key = Wide(key);
+    write!(out, "{key}")
 }
 
-pub fn answer(text: &[u8], room: &mut [u8], side: &mut [u8]) -> bool {
-    let x = operand(text, 1, room);
-    let y = operand(text, 2, side);
-    if answer_two(text, x, y, room, side) {
-        return true;
+// Of two keys: their order, their differences, whether they are the same, and how they lie. `above OWN KEY`: is the key
+// above our own?
+pub(crate) fn answer<W: Write>(line: &mut Line<'_>, out: &mut W) -> io::Result<bool> {
+    let Some(asked) = line.named(&NAMES) else {
+        return Ok(false);
+    };
+    let x = Operand::of(line, 1);
+    let y = Operand::of(line, 2);
+    match asked {
+        Asked::Order => order(&x, &y, out)?,
+        Asked::Differ => say_key(key::difference(x.key, y.key), out)?,
+        Asked::Minus => say_key(key::minus(x.key, y.key), out)?,
+        Asked::Far => say_key(ring::how_far(x.key, y.key), out)?,
+        Asked::Same => say::yes(key::is_same(x.key, y.key), out)?,
+        Asked::Above => say::yes(ring::is_above(&x.bytes, &y.bytes, 0), out)?,
+        Asked::Closer => say::yes(closer(x.key, y.key, Operand::of(line, 3).key), out)?,
     }
-    if line::is_named(text, b"closer") {
-        closer(x, y, operand(text, 3, room));
-        return true;
-    }
-    false
+    Ok(true)
 }

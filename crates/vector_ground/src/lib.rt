@@ -5,13 +5,10 @@ mod bytes;
 mod keys;
 mod written;
 
+use std::io::{self, Write};
+use vector_text::line::Line;
+
 // The group of vectors that has the line's name answers; false where none has.
-pub fn answer(text: &[u8], room: &mut [u8], side: &mut [u8]) -> bool {
-    if bytes::answer(text, room, side) {
-        return true;
-    }
-    if written::answer(text, room, side) {
-        return true;
-    }
-    keys::answer(text, room, side)
+pub fn answer<W: Write>(line: &mut Line<'_>, out: &mut W) -> io::Result<bool> {
+    Ok(bytes::answer(line, out)? || written::answer(line, out)? || keys::answer(line, out)?)
 }

@@ -1,141 +1,119 @@
 // Vectors of what is written: numbers at a place, and runs copied, cleared, moved, inserted, removed. Each shows the bytes that are left.
 // One whose bytes do not lie within is no vector.
-use vector_text::{line, say};
+use std::io::{self, Write};
+use vector_text::line::Line;
+use vector_text::say::Hex;
 
-// `put16 PLACE NUMBER BYTES` and its like, least significant byte first or last.
-fn put16(s: &mut [u8], at: usize, n: usize, little: bool) -> bool {
-    if s.len() < 2 {
-        return false;
-    }
-    if s.len() - 2 < at {
-        return false;
-    }
-    if little {
-        octet::write_u16_le(s, at, (n % 65536) as u16);
-        return true;
-    }
-    octet::write_u16(s, at, (n % 65536) as u16);
-    true
+#[derive(Clone, Copy)]
+enum Asked {
+    Put16,
+    Put32,
+    Put16Le,
+    Put32Le,
+    Copied,
+    Clear,
+    Insert,
+    Move,
+    Remove,
 }
 
-fn put32(s: &mut [u8], at: usize, n: usize, little: bool) -> bool {
-    if s.len() < 4 {
-        return false;
+const NAMES: [(&str, Asked); 9] = [
+    ("put16", Asked::Put16),
+    ("put32", Asked::Put32),
+    ("put16-le", Asked::Put16Le),
+    ("put32-le", Asked::Put32Le),
+    ("copy", Asked::Copied),
+    ("clear", Asked::Clear),
+    ("insert", Asked::Insert),
+    ("move", Asked::Move),
+    ("remove", Asked::Remove),
+];
+
+// `put16 PLACE NUMBER BYTES` and its like, least significant byte first or last.
+fn put(asked: Asked, s: &mut [u8], at: usize, n: u64) -> Option<()> {
+    let behind = s.len().checked_sub(at)?;
+    match asked {
+        Asked::Put16 if 2 <= behind => octet::write_u16(s, at, (n % 65536) as u16),
+        Asked::Put32 if 4 <= behind => octet::write_u32(s, at, (n % 4294967296) as u32),
+        Asked::Put16Le if 2 <= behind => octet::write_u16_le(s, at, (n % 65536) as u16),
+        Asked::Put32Le if 4 <= behind => octet::write_u32_le(s, at, (n % 4294967296) as u32),
+        _ => return None,
     }
-    if s.len() - 4 < at {
-        return false;
-    }
-    if little {
-        octet::write_u32_le(s, at, (n % 4294967296) as u32);
-        return true;
-    }
-    octet::write_u32(s, at, (n % 4294967296) as u32);
-    true
+    Some(())
 }
 
 // `copy PLACE - BYTES SOURCE`: the source copied in from the place on.
-fn copy(s: &mut [u8], at: usize, src: &[u8]) -> bool {
-    if s.len() < src.len() {
-        return false;
-    }
-    if s.len() - src.len() < at {
-        return false;
+fn copy(s: &mut [u8], at: usize, src: &[u8]) -> Option<()> {
+    if s.len().checked_sub(at)? < src.len() {
+        return None;
     }
     runs::copy_to(s, at, src);
-    true
+    Some(())
 }
 
 // `clear PLACE COUNT BYTES`.
-fn clear(s: &mut [u8], at: usize, n: usize) -> bool {
-    if s.len() < n {
-        return false;
-    }
-    if s.len() - n < at {
-        return false;
+fn clear(s: &mut [u8], at: usize, n: usize) -> Option<()> {
+    if s.len().checked_sub(at)? < n {
+        return None;
     }
     runs::clear(s, at, n);
-    true
+    Some(())
 }
 
 // `move FROM TO BYTES COUNT`: down where TO is the lower place, else up.
-fn shift(s: &mut [u8], from: usize, to: usize, n: usize) -> bool {
-    if s.len() < n {
-        return false;
-    }
-    if s.len() - n < from {
-        return false;
-    }
-    if s.len() - n < to {
-        return false;
+fn shift(s: &mut [u8], from: usize, to: usize, n: usize) -> Option<()> {
+    if s.len().checked_sub(from.max(to))? < n {
+        return None;
     }
     if to <= from {
         runs::move_down(s, from, to, n);
-        return true;
+        return Some(());
     }
     runs::move_up(s, from, to, n);
-    true
+    Some(())
 }
 
 // `insert PLACE END BYTES SOURCE`: what stands from the place up to the end moves up behind the source.
-fn insert(s: &mut [u8], at: usize, end: usize, src: &[u8]) -> bool {
-    if s.len() < src.len() {
-        return false;
-    }
-    if s.len() - src.len() < end {
-        return false;
-    }
-    if end < at {
-        return false;
+fn insert(s: &mut [u8], at: usize, end: usize, src: &[u8]) -> Option<()> {
+    if s.len().checked_sub(end)? < src.len() || end < at {
+        return None;
     }
     runs::insert(s, at, end, src);
-    true
+    Some(())
 }
 
 // `remove PLACE COUNT BYTES END`: what stands behind, up to the end, moves down.
-fn remove(s: &mut [u8], at: usize, n: usize, end: usize) -> bool {
-    if s.len() < end {
-        return false;
-    }
-    if end < n {
-        return false;
-    }
-    if end - n < at {
-        return false;
+fn remove(s: &mut [u8], at: usize, n: usize, end: usize) -> Option<()> {
+    if s.len() < end || end.checked_sub(n)? < at {
+        return None;
     }
     runs::remove(s, at, n, end);
-    true
+    Some(())
 }
 
-// The operands of each: a place, a number, the bytes, and one more, which is a number in the last two.
-fn answer_on(text: &[u8], s: &mut [u8], src: &[u8]) -> bool {
-    let at = line::place(text, 1);
-    let second = line::place(text, 2);
-    match line::which(
-        text,
-        b"put16 put32 put16-le put32-le copy clear insert move remove",
-    ) {
-        0 => put16(s, at, second, false),
-        1 => put32(s, at, second, false),
-        2 => put16(s, at, second, true),
-        3 => put32(s, at, second, true),
-        4 => copy(s, at, src),
-        5 => clear(s, at, second),
-        6 => insert(s, at, second, src),
-        7 => shift(s, at, second, line::place(text, 4)),
-        8 => remove(s, at, second, line::place(text, 4)),
-        _ => false,
+// The operands of each: a place, a number, the bytes `s`, and one more, which is bytes or a number.
+fn act(asked: Asked, line: &mut Line<'_>, s: &mut [u8]) -> Option<()> {
+    let at = line.place(1);
+    let second = line.place(2);
+    match asked {
+        Asked::Copied => copy(s, at, line.aside(4)),
+        Asked::Clear => clear(s, at, second),
+        Asked::Insert => insert(s, at, second, line.aside(4)),
+        Asked::Move => shift(s, at, second, line.place(4)),
+        Asked::Remove => remove(s, at, second, line.place(4)),
+        _ => put(asked, s, at, line.number(2)),
     }
 }
 
-pub fn answer(text: &[u8], room: &mut [u8], side: &mut [u8]) -> bool {
-    let end = line::bytes(text, 3, room, 0);
-    let src = line::bytes(text, 4, side, 0);
-    if room.len() < end {
-        return false;
+pub(crate) fn answer<W: Write>(line: &mut Line<'_>, out: &mut W) -> io::Result<bool> {
+    let Some(asked) = line.named(&NAMES) else {
+        return Ok(false);
+    };
+    let s = line.bytes(3);
+    if act(asked, line, s).is_none() {
+        return Ok(false);
     }
-    if answer_on(text, &mut room[0..end], line::part(side, 0, src)) {
-        say::bytes(line::part(room, 0, end));
-        return true;
-    }
-    false
+    let left = Hex(s);
+    write!(out, "{left}")?;
+    Ok(true)
 }

@@ -1,122 +1,101 @@
 // Lines that show the memory: the keys held, how many of them begin with each byte, the places used.
-use vector_text::{line, say};
+use crate::memory::Lent;
+use std::io::{self, Write};
+use vector_text::line::Line;
+use vector_text::say::{self, Keys};
 
-// The keys held, apart by commas.
-fn held(own: &[u8], cache: &[u8]) {
-    if own.len() < 32 {
-        return say::text(b"bad");
-    }
-    let formed = cache::form(own, cache);
-    if let cache::Formed::Good(used) = formed {
-        return say::keys(cache, used, 100);
-    }
-    say::text(b"bad");
+#[derive(Clone, Copy)]
+enum Asked {
+    Held,
+    Firsts,
+    Waits,
 }
 
-fn wide(x: u8) -> u64 {
-    x as u64
+const NAMES: [(&str, Asked); 3] = [
+    ("held", Asked::Held),
+    ("firsts", Asked::Firsts),
+    ("waits", Asked::Waits),
+];
+
+// The keys held, apart by commas; None where the cache is not in form.
+fn held<'a>(own: &[u8], cache: &'a [u8]) -> Option<Keys<'a>> {
+    own.get(..32)?;
+    let count = cache::form(own, cache)?;
+    Some(Keys {
+        rows: cache,
+        count,
+        step: 100,
+    })
 }
 
-// How many keys begin with a byte, as the counts have it; 0 where they have another length.
-fn count_at(firsts: &[u8], byte: usize) -> u64 {
-    if firsts.len() != 512 {
-        return 0;
-    }
-    if 255 < byte {
-        return 0;
-    }
-    octet::read_u16_le(firsts, 2 * byte) as u64
-}
-
-// A count as byte:number, apart by a comma from one that was said before; one that is 0 is left out. Whether one has been said.
-fn say_count(firsts: &[u8], byte: usize, said: bool) -> bool {
-    let n = count_at(firsts, byte);
-    if n == 0 {
-        return said;
-    }
-    if said {
-        say::text(b",");
-    }
-    say::digits(byte as u64, 1);
-    say::text(b":");
-    say::number(n);
-    true
-}
-
-fn say_counts(firsts: &[u8]) {
+// The counts that are not 0, as byte:number, apart by commas; `-` for none.
+fn counts<W: Write>(firsts: &[u8], out: &mut W) -> io::Result<()> {
     let mut said = false;
-    let mut i = 0;
-    while i < 256 {
-        said = say_count(firsts, i, said);
-        i += 1;
+    if firsts.len() == 512 {
+        for byte in 0..256 {
+            let count = octet::read_u16_le(firsts, 2 * byte);
+            if count != 0 {
+                if said {
+                    out.write_all(b",")?;
+                }
+                write!(out, "{byte:x}:{count}")?;
+                said = true;
+            }
+        }
     }
-    if said {
-        return;
-    }
-    say::text(b"-");
+    if said { Ok(()) } else { out.write_all(b"-") }
+}
+
+// How many places are used; None where the waiting table is not in form.
+fn used(own: &[u8], waiting: &[u8]) -> Option<usize> {
+    own.get(..32)?;
+    waiting_form::form(own, waiting)
 }
 
 // A place as ID:kind:tries:key.
-fn say_place(waiting: &[u8], at: usize) {
-    if waiting.len() < 140 {
-        return;
+fn place<W: Write>(place: &[u8], out: &mut W) -> io::Result<()> {
+    if place.len() < 40 {
+        return Ok(());
     }
-    if waiting.len() - 140 < at {
-        return;
-    }
-    say::number(octet::read_u32_le(waiting, at) as u64);
-    say::text(b":");
-    say::number(wide(waiting[at + 4]));
-    say::text(b":");
-    say::number(wide(waiting[at + 5]));
-    say::text(b":");
-    say::keys(&waiting[at + 8..at + 40], 1, 32);
+    let id = octet::read_u32_le(place, 0);
+    let (kind, tries) = (place[4], place[5]);
+    let key = Keys {
+        rows: &place[8..40],
+        count: 1,
+        step: 32,
+    };
+    write!(out, "{id}:{kind}:{tries}:{key}")
 }
 
-fn say_places(waiting: &[u8], used: usize) {
+// So many places, apart by commas; `-` for none.
+fn places<W: Write>(waiting: &[u8], used: usize, out: &mut W) -> io::Result<()> {
     if used == 0 {
-        return say::text(b"-");
+        return out.write_all(b"-");
     }
-    let mut i = 0;
-    while i < 16 {
-        if used <= i {
-            return;
-        }
+    for (i, waits) in waiting.chunks_exact(140).take(used).enumerate() {
         if 0 < i {
-            say::text(b",");
+            out.write_all(b",")?;
         }
-        say_place(waiting, 140 * i);
-        i += 1;
+        place(waits, out)?;
     }
+    Ok(())
 }
 
-fn waits(own: &[u8], waiting: &[u8]) {
-    if own.len() < 32 {
-        return say::text(b"bad");
+pub(crate) fn answer<W: Write>(line: &Line<'_>, lent: &Lent, out: &mut W) -> io::Result<bool> {
+    let Some(asked) = line.named(&NAMES) else {
+        return Ok(false);
+    };
+    let own = lent.records.own();
+    match asked {
+        Asked::Held => match held(own, lent.cache.bytes()) {
+            Some(keys) => write!(out, "{keys}")?,
+            None => say::bad(out)?,
+        },
+        Asked::Firsts => counts(lent.firsts.bytes(), out)?,
+        Asked::Waits => match used(own, lent.waiting.bytes()) {
+            Some(used) => places(lent.waiting.bytes(), used, out)?,
+            None => say::bad(out)?,
+        },
     }
-    let formed = waiting_form::form(own, waiting);
-    if let waiting_form::Formed::Good(used) = formed {
-        return say_places(waiting, used);
-    }
-    say::text(b"bad");
-}
-
-pub(crate) fn answer(
-    text: &[u8],
-    lent: &[u8],
-    cache: &[u8],
-    firsts: &[u8],
-    waiting: &[u8],
-    sizes: &[usize; 7],
-) -> bool {
-    let own = line::part(lent, 0, sizes[0]);
-    match line::which(text, b"held firsts waits") {
-        0 => held(own, line::part(cache, 0, sizes[2])),
-        1 => say_counts(line::part(firsts, 0, sizes[3])),
-        2 => waits(own, line::part(waiting, 0, sizes[4])),
-        _ => {
-            return false;
-        }
-    }
-    true
+    Ok(true)
 }

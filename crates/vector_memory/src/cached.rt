@@ -1,151 +1,127 @@
 // Vectors of the cache.
 use crate::searched::searches;
-use cache::Formed;
 use neighbours::Spot;
-use vector_text::{line, say};
+use std::io::{self, Write};
+use vector_text::line::Line;
+use vector_text::say::{self, Hex, Keys};
 
-// How many records the cache holds, where it is in form.
-fn say_form(own: &[u8], cache: &[u8]) {
-    if own.len() < 32 {
-        return say::text(b"bad");
-    }
-    let formed = cache::form(own, cache);
-    if let Formed::Good(used) = formed {
-        return say::number(used as u64);
-    }
-    say::text(b"bad");
+#[derive(Clone, Copy)]
+enum Asked {
+    Form,
+    Learn,
+    Remove,
+    Neighbours,
+    Closest,
+    Searches,
+    Search,
+}
+
+const NAMES: [(&str, Asked); 7] = [
+    ("cache-form", Asked::Form),
+    ("learn", Asked::Learn),
+    ("remove-key", Asked::Remove),
+    ("neighbours", Asked::Neighbours),
+    ("closest", Asked::Closest),
+    ("searches", Asked::Searches),
+    ("search", Asked::Search),
+];
+
+// How many records the cache holds; None where it is not in form.
+fn held(own: &[u8], cache: &[u8]) -> Option<usize> {
+    own.get(..32)?;
+    cache::form(own, cache)
 }
 
 // The number, and with 0 the keys held.
-fn say_held(number: u32, own: &[u8], cache: &[u8]) {
-    say::number(number as u64);
-    if number != 0 {
-        return;
+fn changed<W: Write>(number: u32, own: &[u8], cache: &[u8], out: &mut W) -> io::Result<()> {
+    write!(out, "{number}")?;
+    match held(own, cache) {
+        Some(count) if number == 0 => {
+            let keys = Keys {
+                rows: cache,
+                count,
+                step: 100,
+            };
+            write!(out, " {keys}")
+        }
+        _ => Ok(()),
     }
-    if own.len() < 32 {
-        return;
-    }
-    let formed = cache::form(own, cache);
-    if let Formed::Good(used) = formed {
-        say::text(b" ");
-        say::keys(cache, used, 100);
-    }
-}
-
-fn learn(own: &[u8], cache: &mut [u8], new: &[u8]) {
-    let number = cache::learn_record(own, cache, new);
-    say_held(number, own, cache);
-}
-
-fn remove(own: &[u8], cache: &mut [u8], key: &[u8]) {
-    let number = cache::remove_key(own, cache, key);
-    say_held(number, own, cache);
 }
 
 // The number, and with 0 the two counts and the keys.
-fn neighbours(own: &[u8], cache: &[u8], key: &[u8]) {
-    let mut out = [0u8; 320];
-    let listed = neighbours::neighbour_list(own, cache, key, &mut out);
-    say::number(listed.number as u64);
-    if listed.number != 0 {
-        return;
+fn neighbours<W: Write>(own: &[u8], cache: &[u8], key: &[u8], out: &mut W) -> io::Result<()> {
+    let mut room = [0u8; 320];
+    let listed = neighbours::neighbour_list(own, cache, key, &mut room);
+    let (number, below, above) = (listed.number, listed.below, listed.above);
+    if number != 0 {
+        return write!(out, "{number}");
     }
-    say::text(b" ");
-    say::field(listed.below as u64);
-    say::field(listed.above as u64);
-    say::keys(&out, listed.below % 16 + listed.above % 16, 32);
+    let keys = Keys {
+        rows: &room,
+        count: below.saturating_add(above),
+        step: 32,
+    };
+    write!(out, "{number} {below} {above} {keys}")
 }
 
 // The number, and with 0 the record and how many keys were compared.
-fn say_record(record: &[u8], compared: usize) {
-    say::field(0);
-    say::bytes(record);
-    say::text(b" ");
-    say::number(compared as u64);
-}
-
-fn closest(own: &[u8], cache: &[u8], path: &[u8], target: &[u8]) {
+fn closest<W: Write>(
+    own: &[u8],
+    cache: &[u8],
+    path: &[u8],
+    target: &[u8],
+    out: &mut W,
+) -> io::Result<()> {
     let sighted = neighbours::closest_record(own, cache, path, target);
-    match sighted.nearest {
-        Err(number) => say::number(number as u64),
-        Ok(Spot::Own(i)) => {
-            let at = 100 * (i % 4);
-            if at + 100 <= own.len() {
-                say_record(&own[at..at + 100], sighted.compared);
-            }
+    let (nearest, compared) = (sighted.nearest, sighted.compared);
+    let record = match nearest {
+        Err(number) => return write!(out, "{number}"),
+        Ok(Spot::Own(i)) => own.chunks_exact(100).nth(i),
+        Ok(Spot::Held(i)) => cache.chunks_exact(100).nth(i),
+    };
+    match record {
+        Some(record) => {
+            let record = Hex(record);
+            write!(out, "0 {record} {compared}")
         }
-        Ok(Spot::Held(i)) => {
-            let at = 100 * (i % 256);
-            if at + 100 <= cache.len() {
-                say_record(&cache[at..at + 100], sighted.compared);
-            }
-        }
+        None => Ok(()),
     }
 }
 
 // The number, and with 0 the place, from 1 and 0 where it is not held, and how many keys were compared.
-fn search(own: &[u8], cache: &[u8], key: &[u8]) {
+fn search<W: Write>(own: &[u8], cache: &[u8], key: &[u8], out: &mut W) -> io::Result<()> {
     let searched = cache::search_key(own, cache, key);
-    say::number(searched.number as u64);
-    if searched.number != 0 {
-        return;
+    let (number, place, compared) = (searched.number, searched.place, searched.compared);
+    if number != 0 {
+        return write!(out, "{number}");
     }
-    say::text(b" ");
-    say::field(searched.place as u64);
-    say::number(searched.compared as u64);
+    write!(out, "{number} {place} {compared}")
 }
 
-// Vectors that change the cache.
-fn answer_change(text: &[u8], own: &[u8], cache: &mut [u8], third: &[u8]) -> bool {
-    match line::which(text, b"learn remove-key") {
-        0 => {
-            learn(own, cache, third);
-            true
+pub(crate) fn answer<W: Write>(line: &mut Line<'_>, out: &mut W) -> io::Result<bool> {
+    let Some(asked) = line.named(&NAMES) else {
+        return Ok(false);
+    };
+    let own: &[u8] = line.bytes(1);
+    let cache = line.aside(2);
+    let third: &[u8] = line.bytes(3);
+    match asked {
+        Asked::Form => match held(own, cache) {
+            Some(count) => write!(out, "{count}")?,
+            None => say::bad(out)?,
+        },
+        Asked::Learn => {
+            let number = cache::learn_record(own, cache, third);
+            changed(number, own, cache, out)?;
         }
-        1 => {
-            remove(own, cache, third);
-            true
+        Asked::Remove => {
+            let number = cache::remove_key(own, cache, third);
+            changed(number, own, cache, out)?;
         }
-        _ => false,
+        Asked::Neighbours => neighbours(own, cache, third, out)?,
+        Asked::Closest => closest(own, cache, third, line.bytes(4), out)?,
+        Asked::Searches => searches(own, cache, out)?,
+        Asked::Search => search(own, cache, third, out)?,
     }
-}
-
-// Vectors that read it.
-fn answer_read(text: &[u8], own: &[u8], cache: &[u8], third: &[u8], fourth: &[u8]) -> bool {
-    match line::which(text, b"cache-form neighbours closest searches search") {
-        0 => say_form(own, cache),
-        1 => neighbours(own, cache, third),
-        2 => closest(own, cache, third, fourth),
-        3 => searches(own, cache),
-        4 => search(own, cache, third),
-        _ => {
-            return false;
-        }
-    }
-    true
-}
-
-// The cache is the second operand.
-fn answer_on(text: &[u8], own: &[u8], third: &[u8], fourth: &[u8], side: &mut [u8]) -> bool {
-    let end = line::bytes(text, 2, side, 0);
-    if side.len() < end {
-        return false;
-    }
-    if answer_read(text, own, line::part(side, 0, end), third, fourth) {
-        return true;
-    }
-    answer_change(text, own, &mut side[0..end], third)
-}
-
-pub(crate) fn answer(text: &[u8], room: &mut [u8], side: &mut [u8]) -> bool {
-    let first = line::bytes(text, 1, room, 0);
-    let third = line::bytes(text, 3, room, first);
-    let fourth = line::bytes(text, 4, room, third);
-    answer_on(
-        text,
-        line::part(room, 0, first),
-        line::part(room, first, third),
-        line::part(room, third, fourth),
-        side,
-    )
+    Ok(true)
 }

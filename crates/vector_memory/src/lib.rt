@@ -6,10 +6,10 @@ mod cached;
 mod searched;
 mod waits;
 
+use std::io::{self, Write};
+use vector_text::line::Line;
+
 // The group of vectors that has the line's name answers; false where none has.
-pub fn answer(text: &[u8], room: &mut [u8], side: &mut [u8]) -> bool {
-    if cached::answer(text, room, side) {
-        return true;
-    }
-    waits::answer(text, room, side)
+pub fn answer<W: Write>(line: &mut Line<'_>, out: &mut W) -> io::Result<bool> {
+    Ok(cached::answer(line, out)? || waits::answer(line, out)?)
 }

@@ -1,52 +1,42 @@
 // Vectors of every search in a cache: each key held, and keys of the gaps on both sides of it.
 use neighbours::Spot;
-use vector_text::{line, say};
+use std::io::{self, Write};
 
 // Where the record closest to a target stands, with no path: its place, or `own`.
-fn say_place(own: &[u8], cache: &[u8], target: &[u8]) {
-    let sighted = neighbours::closest_record(own, cache, &target[0..0], target);
-    match sighted.nearest {
-        Err(_) => say::text(b"-"),
-        Ok(Spot::Own(_)) => say::text(b"own"),
-        Ok(Spot::Held(i)) => say::number(i as u64),
+fn place<W: Write>(own: &[u8], cache: &[u8], target: &[u8], out: &mut W) -> io::Result<()> {
+    let nearest = neighbours::closest_record(own, cache, &[], target).nearest;
+    match nearest {
+        Err(_) => out.write_all(b"-"),
+        Ok(Spot::Own(_)) => out.write_all(b"own"),
+        Ok(Spot::Held(i)) => write!(out, "{i}"),
     }
-}
-
-// The same for a key with another last byte.
-fn say_beside(own: &[u8], cache: &[u8], key: &[u8], last: u8) {
-    if key.len() != 32 {
-        return;
-    }
-    let mut target = [0u8; 32];
-    runs::copy_to(&mut target, 0, key);
-    target[31] = last;
-    say_place(own, cache, &target);
 }
 
 // For a key with 0 as its last byte, for the key itself, and for it with 255.
-fn say_three(own: &[u8], cache: &[u8], key: &[u8]) {
-    say_beside(own, cache, key, 0);
-    say::text(b",");
-    say_place(own, cache, key);
-    say::text(b",");
-    say_beside(own, cache, key, 255);
+fn three<W: Write>(own: &[u8], cache: &[u8], key: [u8; 32], out: &mut W) -> io::Result<()> {
+    let mut target = key;
+    target[31] = 0;
+    place(own, cache, &target, out)?;
+    out.write_all(b",")?;
+    place(own, cache, &key, out)?;
+    out.write_all(b",")?;
+    target[31] = 255;
+    place(own, cache, &target, out)
 }
 
 // For each record held, up to the first place that is free.
-pub(crate) fn searches(own: &[u8], cache: &[u8]) {
-    let mut i = 0;
-    while i < 256 {
-        let held = line::part(cache, 100 * i, 100 * i + 100);
-        if held.len() != 100 {
-            return;
-        }
-        if held[34] == 0 {
-            return;
+pub(crate) fn searches<W: Write>(own: &[u8], cache: &[u8], out: &mut W) -> io::Result<()> {
+    for (i, held) in cache.chunks_exact(100).take(256).enumerate() {
+        let Some(key) = held.first_chunk::<32>() else {
+            return Ok(());
+        };
+        if held.get(34).is_none_or(|kind| *kind == 0) {
+            return Ok(());
         }
         if 0 < i {
-            say::text(b" ");
+            out.write_all(b" ")?;
         }
-        say_three(own, cache, line::part(held, 0, 32));
-        i += 1;
+        three(own, cache, *key, out)?;
     }
+    Ok(())
 }

@@ -1,83 +1,70 @@
 // Vectors of the waiting table.
-use vector_text::{line, say};
-use waiting_form::Formed;
+use std::io::{self, Write};
+use vector_text::line::Line;
+use vector_text::say;
 
-// How many places are used, where the table is in form.
-fn say_form(own: &[u8], table: &[u8]) {
-    if own.len() < 32 {
-        return say::text(b"bad");
+#[derive(Clone, Copy)]
+enum Asked {
+    Form,
+    Ticks,
+}
+
+const NAMES: [(&str, Asked); 2] = [("waiting-form", Asked::Form), ("ticks", Asked::Ticks)];
+
+// How many places are used; None where the table is not in form.
+fn used(own: &[u8], table: &[u8]) -> Option<usize> {
+    own.get(..32)?;
+    waiting_form::form(own, table)
+}
+
+fn form<W: Write>(own: &[u8], table: &[u8], out: &mut W) -> io::Result<()> {
+    match used(own, table) {
+        Some(count) => write!(out, "{count}"),
+        None => say::bad(out),
     }
-    let formed = waiting_form::form(own, table);
-    if let Formed::Good(used) = formed {
-        return say::number(used as u64);
-    }
-    say::text(b"bad");
 }
 
 // So many IDs of 32 bits, least significant byte first, apart by commas; `-` for none.
-fn say_ids(s: &[u8], count: usize) {
+fn ids<W: Write>(s: &[u8], count: usize, out: &mut W) -> io::Result<()> {
     if count == 0 {
-        return say::text(b"-");
+        return out.write_all(b"-");
     }
-    let mut i = 0;
-    while i < 16 {
-        if count <= i {
-            return;
-        }
+    for (i, id) in s.chunks_exact(4).take(count).enumerate() {
         if 0 < i {
-            say::text(b",");
+            out.write_all(b",")?;
         }
-        say_id(s, 4 * i);
-        i += 1;
+        if 4 <= id.len() {
+            let id = octet::read_u32_le(id, 0);
+            write!(out, "{id}")?;
+        }
     }
-}
-
-fn say_id(s: &[u8], at: usize) {
-    if s.len() < 4 {
-        return;
-    }
-    if s.len() - 4 < at {
-        return;
-    }
-    say::number(octet::read_u32_le(s, at) as u64);
+    Ok(())
 }
 
 // One tick: its number and the IDs it lists.
-fn one_tick(own: &[u8], table: &mut [u8]) {
-    let mut out = [0u8; 64];
-    let answer = waiting_form::tick(own, table, &mut out);
-    say::number(answer.number as u64);
-    say::text(b":");
-    say_ids(&out, answer.count);
-    say::text(b" ");
+fn tick<W: Write>(own: &[u8], table: &mut [u8], out: &mut W) -> io::Result<()> {
+    let mut room = [0u8; 64];
+    let answer = waiting_form::tick(own, table, &mut room);
+    let number = answer.number;
+    write!(out, "{number}:")?;
+    ids(&room, answer.count, out)?;
+    out.write_all(b" ")
 }
 
-fn ticks(own: &[u8], table: &mut [u8], rounds: u64) {
-    let mut left = rounds % 256;
-    while 0 < left {
-        one_tick(own, table);
-        left -= 1;
+pub(crate) fn answer<W: Write>(line: &mut Line<'_>, out: &mut W) -> io::Result<bool> {
+    let Some(asked) = line.named(&NAMES) else {
+        return Ok(false);
+    };
+    let own: &[u8] = line.bytes(1);
+    let table = line.aside(2);
+    match asked {
+        Asked::Form => form(own, table, out)?,
+        Asked::Ticks => {
+            for _ in 0..line.byte(3) {
+                tick(own, table, out)?;
+            }
+            form(own, table, out)?;
+        }
     }
-    say_form(own, table);
-}
-
-pub(crate) fn answer(text: &[u8], room: &mut [u8], side: &mut [u8]) -> bool {
-    let first = line::bytes(text, 1, room, 0);
-    let end = line::bytes(text, 2, side, 0);
-    if side.len() < end {
-        return false;
-    }
-    if line::is_named(text, b"waiting-form") {
-        say_form(line::part(room, 0, first), line::part(side, 0, end));
-        return true;
-    }
-    if line::is_named(text, b"ticks") {
-        ticks(
-            line::part(room, 0, first),
-            &mut side[0..end],
-            line::number(text, 3),
-        );
-        return true;
-    }
-    false
+    Ok(true)
 }

@@ -1,168 +1,158 @@
 // A line of vectors: a name, and operands in hexadecimal. All of it is total: what is not there is empty, or 0.
 
-ghost use Rattle.std.specs.Prelude.{◌≤◌};
+ghost use Rattle.std.specs.Prelude.{◌≡◌, ◌≤◌, length};
+ghost use Rattle.std.specs.Iterator.{at_most};
 
-// How many bytes of a line were read, and whether the input ended with it.
+use std::mem;
+
+// A line's text, without its end, and two rooms for the bytes of its operands, each with one behind the other.
+#[derive(Drop)]
+pub struct Line<'a> {
+    pub text: &'a [u8],
+    pub room: &'a mut [u8],
+    pub side: &'a mut [u8],
+}
+
+impl<'a> Line<'a> {
+    // Neither empty nor a heading.
+    pub fn is_vector(&self) -> bool {
+        self.text.first().is_some_and(|b| *b != b'#')
+    }
+
+    // The words of a line are apart by a space: word 0 is the name, and the others are the operands.
+    fn operand(&self, i: usize) -> &'a [u8] {
+        self.text.split(|b| *b == b' ').nth(i).unwrap_or_default()
+    }
+
+    // What a table of names has for the line's. A table is far cheaper to prove than a match with an arm for each name.
+    pub fn named<T: Copy>(&self, names: &[(&str, T)]) -> Option<T> {
+        let name = self.operand(0);
+        for (known, what) in names {
+            if known.as_bytes() == name {
+                return Some(*what);
+            }
+        }
+        None
+    }
+
+    // An operand as a number, in its last 16 digits.
+    pub fn number(&self, i: usize) -> u64 {
+        number_of(self.operand(i))
+    }
+
+    // An operand as a place or a count.
+    pub fn place(&self, i: usize) -> usize {
+        self.number(i) as usize
+    }
+
+    // An operand in its last two digits.
+    pub fn byte(&self, i: usize) -> u8 {
+        (self.number(i) % 256) as u8
+    }
+
+    // An operand in its last eight digits.
+    pub fn word(&self, i: usize) -> u32 {
+        (self.number(i) % 4294967296) as u32
+    }
+
+    // The bytes of an operand from the start of a room on, as far as there is room for them. How many they are.
+    pub fn put(&self, i: usize, room: &mut [u8]) -> usize
+        ensures bound { result ≤ length room.old }
+        ensures same_length { length room.new ≡ length room.old }
+    {
+        put(self.operand(i), room)
+    }
+
+    // The bytes of an operand, in the room behind those of the last one.
+    pub fn bytes(&mut self, i: usize) -> &'a mut [u8] {
+        let (bytes, rest) = put_in(self.operand(i), mem::take(&mut self.room));
+        self.room = rest;
+        bytes
+    }
+
+    // The same in the room at the side.
+    pub fn aside(&mut self, i: usize) -> &'a mut [u8] {
+        let (bytes, rest) = put_in(self.operand(i), mem::take(&mut self.side));
+        self.side = rest;
+        bytes
+    }
+
+    // The bytes of an operand, kept from this line on.
+    pub fn keep<const N: usize>(&self, i: usize, kept: &mut Kept<N>) {
+        kept.len = put(self.operand(i), &mut kept.room);
+    }
+
+    // The bytes of an operand, where those of the next one will stand too.
+    pub fn peek(&mut self, i: usize) -> &[u8] {
+        let room = mem::take(&mut self.room);
+        let len = put(self.operand(i), room);
+        self.room = room;
+        &self.room[..len]
+    }
+}
+
+// Bytes that are kept from line to line, N at most.
 #[derive(Clone, Copy)]
-pub struct Line {
-    pub len: usize,
-    pub last: bool,
+pub struct Kept<const N: usize> {
+    room: [u8; N],
+    len: usize,
+    ghost within: { len ≤ N },
 }
 
-// Reads standard input up to the end of a line, which is not kept. A line longer than `room` is cut there.
-pub fn read(room: &mut [u8]) -> Line {
-    let mut len = 0;
-    while len < room.len() {
-        let mut one = [0u8; 1];
-        if io::read_full(0, &mut one) == 0 {
-            return Line { len, last: true };
+impl<const N: usize> Kept<N> {
+    pub fn new() -> Kept<N> {
+        Kept {
+            room: [0; N],
+            len: 0,
         }
-        if one[0] == b'\n' {
-            return Line { len, last: false };
-        }
-        room[len] = one[0];
-        len += 1;
     }
-    Line { len, last: false }
+
+    // So many zero bytes, where there is room for them; else nothing changes.
+    pub fn clear(&mut self, len: usize) -> Option<()> {
+        self.room.get_mut(..len)?.fill(0);
+        self.len = len;
+        Some(())
+    }
+
+    pub fn bytes(&self) -> &[u8] {
+        &self.room[..self.len]
+    }
+
+    pub fn bytes_mut(&mut self) -> &mut [u8] {
+        let len = self.len;
+        let room = &mut self.room;
+        &mut room[..len]
+    }
 }
 
-// The part of a slice, empty where it does not lie within.
-pub fn part(s: &[u8], start: usize, end: usize) -> &[u8] {
-    if s.len() < end {
-        return &s[0..0];
-    }
-    if end < start {
-        return &s[0..0];
-    }
-    &s[start..end]
-}
-
-// Where the next byte b stands from a place on, or the end.
-pub fn end_of(s: &[u8], at: usize, b: u8) -> usize {
-    let mut i = at;
-    while i < s.len() {
-        if s[i] == b {
-            return i;
-        }
-        i += 1;
-    }
-    s.len()
-}
-
-// A line that is neither empty nor a heading.
-pub fn is_vector(text: &[u8]) -> bool {
-    if text.len() == 0 {
-        return false;
-    }
-    text[0] != b'#'
-}
-
-// The words of a line are apart by a space; word 0 is the name.
-fn word(text: &[u8], i: usize) -> &[u8] {
-    let mut left = i;
-    let mut at = 0;
-    while 0 < left {
-        let space = end_of(text, at, b' ');
-        if text.len() <= space {
-            return &text[0..0];
-        }
-        at = space + 1;
-        left -= 1;
-    }
-    part(text, at, end_of(text, at, b' '))
-}
-
-pub fn is_named(text: &[u8], name: &[u8]) -> bool {
-    octet::equal(word(text, 0), name)
-}
-
-// Which of some names, apart by a space, the line has: counted from 0, and how many there are where it has none of them.
-// There are 16 at most. One list of names is far cheaper to prove than a test for each of them.
-pub fn which(text: &[u8], names: &[u8]) -> usize {
-    let mut i = 0;
-    while i < 16 {
-        let name = word(names, i);
-        if name.len() == 0 {
-            return i;
-        }
-        if is_named(text, name) {
-            return i;
-        }
-        i += 1;
-    }
-    i
-}
-
-// The value of a hexadecimal digit; 16 for any other byte.
+// The value of a hexadecimal digit; 0 for any other byte.
 fn digit(b: u8) -> u8 {
     match b {
         b'0'..=b'9' => b - b'0',
         b'A'..=b'F' => b - b'A' + 10,
-        _ => 16,
+        _ => 0,
     }
 }
 
-fn wide(x: u8) -> u64 {
-    x as u64
+fn number_of(digits: &[u8]) -> u64 {
+    digits.iter().fold(0, |n, b| n << 4 | u64::from(digit(*b)))
 }
 
-// An operand as a number, in its last 16 digits.
-pub fn number(text: &[u8], i: usize) -> u64 {
-    let digits = word(text, i);
-    let mut n = 0u64;
-    let mut k = 0;
-    while k < digits.len() {
-        n = n % 1152921504606846976 * 16 + wide(digit(digits[k])) % 16;
-        k += 1;
-    }
-    n
-}
+// The pieces of an operand: two digits for a byte, or `Z` with four digits for so many zero bytes.
+#[derive(Drop)]
+struct Pieces<'a>(&'a [u8]);
 
-// How many zero bytes the run whose four digits stand behind a place has.
-fn zeros_at(digits: &[u8], k: usize) -> usize {
-    let mut n = 0usize;
-    let mut i = 1;
-    while i < 5 {
-        if digits.len() <= k {
-            return n;
-        }
-        if digits.len() - k <= i {
-            return n;
-        }
-        n = n % 4096 * 16 + (digit(digits[k + i]) % 16) as usize;
-        i += 1;
-    }
-    n
-}
+impl<'a> Iterator for Pieces<'a> {
+    type Item = &'a [u8];
 
-// So many zero bytes, as far as there is room. Answers where they end.
-fn put_zeros(room: &mut [u8], at: usize, n: usize) -> usize {
-    if room.len() < n {
-        return at;
-    }
-    if room.len() - n < at {
-        return at;
-    }
-    runs::clear(room, at, n);
-    at + n
-}
+    ghost remaining = { λ p. at_most (length p.0.now) };
 
-// The byte of two digits, or the run of zeros that `Z` begins. Answers where it ends.
-fn put_one(digits: &[u8], k: usize, room: &mut [u8], at: usize) -> usize {
-    if digits.len() <= k {
-        return at;
+    fn next(&mut self) -> Option<&'a [u8]> {
+        let first = self.0.first()?;
+        let (piece, rest) = self.0.split_at(step_over(*first).min(self.0.len()));
+        self.0 = rest;
+        Some(piece)
     }
-    if digits.len() - k < 2 {
-        return at;
-    }
-    if digits[k] == b'Z' {
-        return put_zeros(room, at, zeros_at(digits, k));
-    }
-    if room.len() <= at {
-        return at;
-    }
-    room[at] = digit(digits[k]) % 16 * 16 + digit(digits[k + 1]) % 16;
-    at + 1
 }
 
 // How many digits a byte or a run of zeros takes.
@@ -172,24 +162,51 @@ fn step_over(b: u8) -> usize
     if b == b'Z' { 5 } else { 2 }
 }
 
-// An operand as bytes, put in `room` from a place on: two digits to a byte, and `Z` with four digits for so many zero
-// bytes. Answers where they end.
-pub fn bytes(text: &[u8], i: usize, room: &mut [u8], to: usize) -> usize {
-    let digits = word(text, i);
-    let mut at = to;
-    let mut k = 0;
-    while k < digits.len() {
-        let step = step_over(digits[k]);
-        at = put_one(digits, k, room, at);
-        if digits.len() - k < step {
-            return at;
-        }
-        k += step;
+// The bytes of a piece, where there is room for all of them. How many they are.
+fn put_piece(piece: &[u8], room: &mut [u8]) -> usize
+    ensures bound { result ≤ length room.old }
+    ensures same_length { length room.new ≡ length room.old }
+{
+    match piece {
+        [b'Z', digits @ ..] => put_zeros(number_of(digits) as usize, room),
+        [high, low] => match room.first_mut() {
+            Some(byte) => {
+                *byte = digit(*high) << 4 | digit(*low);
+                1
+            }
+            None => 0,
+        },
+        _ => 0,
     }
-    at
 }
 
-// An operand as a place or a count.
-pub fn place(text: &[u8], i: usize) -> usize {
-    number(text, i) as usize
+fn put_zeros(n: usize, room: &mut [u8]) -> usize
+    ensures bound { result ≤ length room.old }
+    ensures same_length { length room.new ≡ length room.old }
+{
+    match room.get_mut(..n) {
+        Some(run) => {
+            run.fill(0);
+            n
+        }
+        None => 0,
+    }
+}
+
+// The bytes of an operand from the start of a room on: a piece for which there is no room is left out. How many they are.
+fn put(digits: &[u8], room: &mut [u8]) -> usize
+    ensures bound { result ≤ length room.old }
+    ensures same_length { length room.new ≡ length room.old }
+{
+    let mut len = 0;
+    for piece in Pieces(digits) {
+        len += put_piece(piece, &mut room[len..]);
+    }
+    len
+}
+
+// The bytes of an operand, and what is left of the room.
+fn put_in<'a>(digits: &[u8], room: &'a mut [u8]) -> (&'a mut [u8], &'a mut [u8]) {
+    let len = put(digits, room);
+    room.split_at_mut(len)
 }

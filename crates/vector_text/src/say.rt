@@ -1,114 +1,99 @@
-// What is written to standard output.
+// How answers are written.
 use key::Key;
-use std::cmp::Ordering;
-
-pub fn text(s: &[u8]) {
-    io::write_all(1, s);
-}
-
-pub fn number(n: u64) {
-    io::print_decimal(1, n);
-}
-
-// A number with a space behind it.
-pub fn field(n: u64) {
-    number(n);
-    text(b" ");
-}
+use std::fmt;
+use std::io::{self, Write};
 
 // Bytes in hexadecimal; `-` where there is none.
-pub fn bytes(s: &[u8]) {
-    if s.len() == 0 {
-        text(b"-");
-    }
-    let mut i = 0;
-    while i < s.len() {
-        io::print_hex(1, wide(s[i]), 2);
-        i += 1;
-    }
-}
+#[derive(Drop)]
+pub struct Hex<'a>(pub &'a [u8]);
 
-pub fn yes(b: bool) {
-    if b {
-        text(b"yes");
-    } else {
-        text(b"no");
+impl fmt::Display for Hex<'_> {
+    fn fmt<W: fmt::Write>(&self, f: &mut fmt::Formatter<W>) -> fmt::Result {
+        if self.0.is_empty() {
+            return f.write_str("-");
+        }
+        for byte in self.0 {
+            write!(f, "{byte:02x}")?;
+        }
+        Ok(())
     }
 }
 
 // A key, or a difference of two, in all its 64 digits.
-pub fn key(k: Key) {
-    io::print_hex(1, k.a, 16);
-    io::print_hex(1, k.b, 16);
-    io::print_hex(1, k.c, 16);
-    io::print_hex(1, k.d, 16);
+#[derive(Drop)]
+pub struct Wide(pub Key);
+
+impl fmt::Display for Wide {
+    fn fmt<W: fmt::Write>(&self, f: &mut fmt::Formatter<W>) -> fmt::Result {
+        let Key { a, b, c, d } = self.0;
+        write!(f, "{a:016x}{b:016x}{c:016x}{d:016x}")
+    }
 }
 
-pub fn order(o: Ordering) {
-    match o {
-        Ordering::Less => text(b"less"),
-        Ordering::Equal => text(b"same"),
-        Ordering::Greater => text(b"more"),
+// A key without leading zeros.
+#[derive(Drop)]
+struct Short(Key);
+
+impl fmt::Display for Short {
+    fn fmt<W: fmt::Write>(&self, f: &mut fmt::Formatter<W>) -> fmt::Result {
+        match self.0 {
+            Key {
+                a: 0,
+                b: 0,
+                c: 0,
+                d,
+            } => write!(f, "{d:x}"),
+            Key { a: 0, b: 0, c, d } => write!(f, "{c:x}{d:016x}"),
+            Key { a: 0, b, c, d } => write!(f, "{b:x}{c:016x}{d:016x}"),
+            Key { a, b, c, d } => write!(f, "{a:x}{b:016x}{c:016x}{d:016x}"),
+        }
     }
+}
+
+// The keys that begin the first `count` rows of so many bytes, apart by commas; `-` for none.
+#[derive(Drop)]
+pub struct Keys<'a> {
+    pub rows: &'a [u8],
+    pub count: usize,
+    pub step: usize,
+}
+
+impl fmt::Display for Keys<'_> {
+    fn fmt<W: fmt::Write>(&self, f: &mut fmt::Formatter<W>) -> fmt::Result {
+        if self.count == 0 {
+            return f.write_str("-");
+        }
+        let rows = self.rows.chunks(self.step.max(1)).take(self.count);
+        for (i, row) in rows.enumerate() {
+            if 0 < i {
+                f.write_str(",")?;
+            }
+            if 32 <= row.len() {
+                let key = Short(key::key_at(row, 0));
+                write!(f, "{key}")?;
+            }
+        }
+        Ok(())
+    }
+}
+
+pub fn yes<W: Write>(b: bool, out: &mut W) -> io::Result<()> {
+    out.write_all(if b { b"yes" } else { b"no" })
 }
 
 // The place that a vector names does not lie within its bytes.
-pub fn outside() {
-    text(b"outside");
+pub fn outside<W: Write>(out: &mut W) -> io::Result<()> {
+    out.write_all(b"outside")
 }
 
-fn wide(x: u8) -> u64 {
-    x as u64
+// Memory that is not in form.
+pub fn bad<W: Write>(out: &mut W) -> io::Result<()> {
+    out.write_all(b"bad")
 }
 
-// A number in so many hexadecimal digits.
-pub fn digits(n: u64, width: usize) {
-    io::print_hex(1, n, width);
-}
-
-// A key in hexadecimal without leading zeros.
-fn short_key(k: Key) {
-    if k.a != 0 {
-        digits(k.a, 1);
-        digits(k.b, 16);
-        digits(k.c, 16);
-        return digits(k.d, 16);
-    }
-    if k.b != 0 {
-        digits(k.b, 1);
-        digits(k.c, 16);
-        return digits(k.d, 16);
-    }
-    if k.c != 0 {
-        digits(k.c, 1);
-        return digits(k.d, 16);
-    }
-    digits(k.d, 1);
-}
-
-// The key at a place, where 32 bytes stand there.
-fn key_at(s: &[u8], at: usize) {
-    if s.len() < 32 {
-        return;
-    }
-    if s.len() - 32 < at {
-        return;
-    }
-    short_key(key::key_at(s, at));
-}
-
-// So many keys, each so many bytes after the one before it, apart by commas; `-` for none.
-pub fn keys(s: &[u8], count: usize, step: usize) {
-    if count == 0 {
-        return text(b"-");
-    }
-    key_at(s, 0);
-    let mut i = 1;
-    let mut at = step % 4096;
-    while i < count {
-        text(b",");
-        key_at(s, at);
-        at = at % 1000000 + step % 4096;
-        i += 1;
-    }
+// The first `end` bytes of an output that was filled with EE before, and whether the rest of it is as it was.
+pub fn written(output: &[u8], end: usize) -> (Hex<'_>, &'static str) {
+    let (written, rest) = output.split_at_checked(end).unwrap_or((&[], &[]));
+    let clean = rest.iter().all(|b| *b == 0xEE);
+    (Hex(written), if clean { "clean" } else { "dirty" })
 }

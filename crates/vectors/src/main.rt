@@ -4,141 +4,79 @@
 // that begins with `#` is a heading. What is to be written is the file `stdout`, made from the documents by tests/vectors/vectors.py.
 #![tactic(auto)]
 
-use vector_text::{line, say};
+ghost use Rattle.std.specs.Prelude.{◌≤◌, length};
 
-// Room for a line, and for the bytes of its operands: those that may be written, and those that are only read.
+use std::io::{self, Read, Write};
+use text::Roomy;
+use vector_lent::Lent;
+use vector_text::line::Line;
+
+// Room for a line, and for the bytes of its operands.
 const TEXT: usize = 131072;
 
 const ROOM: usize = 65536;
 
-// Room for the memory that the calls are lent, which the lines act on one after the other: own record and CPA, cache, counts
-// by first byte, waiting table.
-const LENT: usize = 8192;
-
-const CACHE: usize = 25700;
-
-const FIRSTS: usize = 1024;
-
-const WAITING: usize = 2400;
-
-// The lines of the input, one after the other. A proved loop has to end, and nothing says that the input does: so the
-// lines are counted, from a number that no input uses up.
-fn each_line(
-    text: &mut [u8],
-    room: &mut [u8],
-    side: &mut [u8],
-    lent: &mut [u8],
-    cache: &mut [u8],
-    firsts: &mut [u8],
-    waiting: &mut [u8],
-    sizes: &mut [usize; 7],
-) {
-    let mut left = u64::MAX;
-    while 0 < left {
-        let read = line::read(text);
-        let len = read.len;
-        if read.last {
-            return;
+// The next line of the input, without its end; one that is longer than the room is cut there. None where the input ends
+// within it.
+fn next_line<'a, R: Read>(input: &mut R, room: &'a mut [u8]) -> Option<&'a [u8]> {
+    for at in 0..room.len() {
+        let mut byte = [0u8];
+        let Ok(1) = input.read(&mut byte) else {
+            return None;
+        };
+        if byte[0] == b'\n' {
+            return Some(&room[..at]);
         }
-        one_line(
-            line::part(text, 0, len),
-            room,
-            side,
-            lent,
-            cache,
-            firsts,
-            waiting,
-            sizes,
-        );
-        left -= 1;
+        room[at] = byte[0];
     }
+    Some(room)
+}
+
+// A layer that has a vector of the name answers: these stand each by itself, and the last two act on what the lines before
+// them left.
+fn answer<W: Write>(line: &mut Line<'_>, lent: &mut Lent, out: &mut W) -> io::Result<()> {
+    let answered = vector_ground::answer(line, out)?
+        || vector_messages::answer(line, out)?
+        || vector_memory::answer(line, out)?
+        || vector_changes::answer(line, out)?
+        || vector_lent::answer(line, lent, out)?
+        || vector_calls::answer(line, lent, out)?;
+    if answered {
+        return Ok(());
+    }
+    out.write_all(b"no such vector")
 }
 
 // A heading is repeated; a vector is repeated and answered.
-fn one_line(
-    text: &[u8],
-    room: &mut [u8],
-    side: &mut [u8],
-    lent: &mut [u8],
-    cache: &mut [u8],
-    firsts: &mut [u8],
-    waiting: &mut [u8],
-    sizes: &mut [usize; 7],
-) {
-    say::text(text);
-    if line::is_vector(text) {
-        say::text(b" = ");
-        answer(text, room, side, lent, cache, firsts, waiting, sizes);
-        return say::text(b"\n");
+fn one_line<W: Write>(mut line: Line<'_>, lent: &mut Lent, out: &mut W) -> io::Result<()> {
+    out.write_all(line.text)?;
+    if line.is_vector() {
+        out.write_all(b" = ")?;
+        answer(&mut line, lent, out)?;
     }
-    say::text(b"\n");
+    out.write_all(b"\n")
 }
 
-// A layer that has a vector of the name answers. These stand each by itself ..
-fn answer_alone(text: &[u8], room: &mut [u8], side: &mut [u8]) -> bool {
-    if vector_ground::answer(text, room, side) {
-        return true;
-    }
-    if vector_messages::answer(text, room) {
-        return true;
-    }
-    if vector_memory::answer(text, room, side) {
-        return true;
-    }
-    vector_changes::answer(text, room)
-}
-
-// .. and these act on what the lines before them left.
-fn answer_call(
-    text: &[u8],
-    lent: &mut [u8],
-    cache: &mut [u8],
-    firsts: &mut [u8],
-    waiting: &mut [u8],
-    sizes: &mut [usize; 7],
-) -> bool {
-    if vector_lent::answer(text, lent, cache, firsts, waiting, sizes) {
-        return true;
-    }
-    vector_calls::answer(text, lent, cache, firsts, waiting, sizes)
-}
-
-fn answer(
-    text: &[u8],
-    room: &mut [u8],
-    side: &mut [u8],
-    lent: &mut [u8],
-    cache: &mut [u8],
-    firsts: &mut [u8],
-    waiting: &mut [u8],
-    sizes: &mut [usize; 7],
-) {
-    if answer_alone(text, room, side) {
-        return;
-    }
-    if answer_call(text, lent, cache, firsts, waiting, sizes) {
-        return;
-    }
-    say::text(b"no such vector");
-}
-
-fn main() {
+// The lines of the input, one after the other. A proved loop has to end, and nothing says that the input does: so the
+// lines are counted, up to a number that no input uses up.
+fn main(rt: HostRuntime) -> io::Result<()> {
+    let mut input = rt.stdin();
+    let mut out = Roomy::new(rt.stdout());
     let mut text = [0u8; TEXT];
     let mut room = [0u8; ROOM];
     let mut side = [0u8; ROOM];
-    let mut lent = [0u8; LENT];
-    let mut cache = [0u8; CACHE];
-    let mut firsts = [0u8; FIRSTS];
-    let mut waiting = [0u8; WAITING];
-    let mut sizes = [0usize; 7];
-    each_line(
-        &mut text,
-        &mut room,
-        &mut side,
-        &mut lent,
-        &mut cache,
-        &mut firsts,
-        &mut waiting,
-        &mut sizes,
-    );
+    let mut lent = Lent::new();
+    for _ in 0..u64::MAX {
+        let Some(text) = next_line(&mut input, &mut text) else {
+            break;
+        };
+        let line = Line {
+            text,
+            room: &mut room,
+            side: &mut side,
+        };
+        one_line(line, &mut lent, &mut out)?;
+        out.flush()?;
+    }
+    Ok(())
 }

@@ -89,18 +89,12 @@ fn write_places<W: Write>(
 
 // How many records are held. A call leaves the cache in form.
 fn held(own: &[u8], cache: &[u8]) -> usize {
-    match cache::form(own, cache) {
-        cache::Formed::Good(used) => used,
-        cache::Formed::Bad => 0,
-    }
+    cache::form(own, cache).unwrap_or(0)
 }
 
 // How many places are used. A call leaves the waiting table in form.
 fn waits(own: &[u8], waiting: &[u8]) -> usize {
-    match waiting_form::form(own, waiting) {
-        waiting_form::Formed::Good(used) => used,
-        waiting_form::Formed::Bad => 0,
-    }
+    waiting_form::form(own, waiting).unwrap_or(0)
 }
 
 pub fn write_state<W: Write>(

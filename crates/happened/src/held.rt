@@ -11,7 +11,7 @@ fn is_held(own: &[u8], cache: &[u8], key: &[u8]) -> bool {
 // How many are held: a call leaves the cache in form.
 fn count(own: &[u8], cache: &[u8]) -> usize {
     let formed = cache::memory(own, cache);
-    if let cache::Formed::Good(used) = formed {
+    if let Some(used) = formed {
         return used;
     }
     0

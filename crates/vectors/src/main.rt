@@ -59,7 +59,7 @@ fn one_line<W: Write>(mut line: Line<'_>, lent: &mut Lent, out: &mut W) -> io::R
 
 // The lines of the input, one after the other. A proved loop has to end, and nothing says that the input does: so the
 // lines are counted, up to a number that no input uses up.
-fn main(rt: HostRuntime) -> io::Result<()> {
+fn main(rt: HostRuntime) {
     let mut input = rt.stdin();
     let mut out = Roomy::new(rt.stdout());
     let mut text = [0u8; TEXT];
@@ -68,15 +68,15 @@ fn main(rt: HostRuntime) -> io::Result<()> {
     let mut lent = Lent::new();
     for _ in 0..u64::MAX {
         let Some(text) = next_line(&mut input, &mut text) else {
-            break;
+            return;
         };
         let line = Line {
             text,
             room: &mut room,
             side: &mut side,
         };
-        one_line(line, &mut lent, &mut out)?;
-        out.flush()?;
+        if one_line(line, &mut lent, &mut out).is_err() || out.flush().is_err() {
+            return;
+        }
     }
-    Ok(())
 }

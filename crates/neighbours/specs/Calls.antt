@@ -2,7 +2,6 @@
 -- a path, "1 if not whole ones", and the key whose list is asked for), with 12 where that key is not ours (02, Wish 11), with 15 where the output is "shorter than
 -- 320 bytes"; then nothing changes, counts are 0 and no record is shown. Tied to document 01 by `ours-meets` (sentences/Theorems). Assumes nothing.
 use Rattle.std.specs.Prelude.{ℕ, ◌+◌, ◌*◌, ◌≤◌, ◌<◌, not, List, [], ◌∷◌, ltb, length, Result, Ok, Err}
-use Rattle.octet.specs.Part.{part}
 use Rattle.refusal.specs.Table.{Refusal, when, or_refuse}
 use Rattle.key.specs.Number.{key_at}
 use Rattle.own.specs.Own.{own_keys, own_records, is_own}

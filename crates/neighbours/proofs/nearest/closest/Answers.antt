@@ -1,6 +1,6 @@
 -- `neighbours::nearest::closest` meets its contract: the record at the place found, which is that of one of our records, or a used one. Assumes nothing.
 use mathlib.Core.Path.{◌∙◌}
-use Prim.Native.Nat.{ℕ, ◌/◌}
+use Prim.Native.Nat.{◌/◌}
 use lib.ListN.{length}
 use Rattle.own.specs.Own.{own_keys, own_records}
 use Rattle.own.proofs.FormLaws.{own_formed}

@@ -1,9 +1,8 @@
 -- `neighbours::nearest::record_at` meets its contract: the part of the slice that the place names. Assumes nothing.
-use mathlib.Core.Path.{◌≡◌, refl, sym, ap, subst, ◌∙◌}
-use Prim.Native.Nat.{ℕ, ◌+◌, ◌-◌, ◌*◌, ◌≤◌}
+use mathlib.Core.Path.{◌≡◌, sym, ap, subst, ◌∙◌}
+use Prim.Native.Nat.{ℕ, ◌+◌, ◌-◌, ◌*◌}
 use native.Mathlib.Omega.{arith}
-use lib.ListN.{length, take, drop}
-use borrow.Author.Rules.{rules}
+use lib.ListN.{take, drop}
 use Rattle.neighbours.specs.declared.nearest.Spot.{Spot}
 use Rattle.neighbours.specs.Where.{record_at, Lies}
 use Rattle.neighbours.proofs.nearest.record_at.Goals.{Start}

@@ -13,7 +13,6 @@ ghost use Rattle.named.specs.Call.{name_call};
 ghost use Rattle.named.specs.Spots.{told_by, Within};
 ghost use Rattle.named.specs.Places.{chosen_by, name_at};
 
-use cache::Formed;
 pub use choosing::record_at;
 use reason::Reason;
 
@@ -67,8 +66,7 @@ pub fn name(own: &[u8], cache: &[u8], major: u8, datagram: &[u8]) -> Named
     ensures within { Within own.now cache.now result }
     ensures value { result ≡ name_at own.now cache.now major datagram.now }
 {
-    let found = cache::memory(own, cache);
-    let Formed::Good(used) = found else {
+    let Some(used) = cache::memory(own, cache) else {
         return Named::Refused(refusal::MEMORY);
     };
     name_in(own, cache, used, major, datagram)

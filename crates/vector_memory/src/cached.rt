@@ -1,6 +1,5 @@
 // Vectors of the cache.
 use crate::searched::searches;
-use cache::Formed;
 use neighbours::Nearest;
 use vector_text::{line, say};
 
@@ -9,8 +8,7 @@ fn say_form(own: &[u8], cache: &[u8]) {
     if own.len() < 32 {
         return say::text(b"bad");
     }
-    let formed = cache::form(own, cache);
-    if let Formed::Good(used) = formed {
+    if let Some(used) = cache::form(own, cache) {
         return say::number(used as u64);
     }
     say::text(b"bad");
@@ -25,8 +23,7 @@ fn say_held(number: u32, own: &[u8], cache: &[u8]) {
     if own.len() < 32 {
         return;
     }
-    let formed = cache::form(own, cache);
-    if let Formed::Good(used) = formed {
+    if let Some(used) = cache::form(own, cache) {
         say::text(b" ");
         say::keys(cache, used, 100);
     }

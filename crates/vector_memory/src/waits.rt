@@ -1,14 +1,12 @@
 // Vectors of the waiting table.
 use vector_text::{line, say};
-use waiting_form::Formed;
 
 // How many places are used, where the table is in form.
 fn say_form(own: &[u8], table: &[u8]) {
     if own.len() < 32 {
         return say::text(b"bad");
     }
-    let formed = waiting_form::form(own, table);
-    if let Formed::Good(used) = formed {
+    if let Some(used) = waiting_form::form(own, table) {
         return say::number(used as u64);
     }
     say::text(b"bad");

@@ -15,7 +15,7 @@ use Rattle.named.specs.Call.{name_call}
 use Rattle.named.specs.Spots.{told_by, Within}
 use Rattle.named.specs.Places.{chosen_by, name_at}
 use Rattle.named.proofs.NamedLaws.{name-right}
-use Rattle.named.proofs.name.Goals.{After-memory-found, Start}
+use Rattle.named.proofs.name.Goals.{After-memory, Start}
 use Rattle.named.proofs.name.Goals as goal
 
 module _ (s : Start) where
@@ -38,30 +38,30 @@ module _ (s : Start) where
       let w = name-right own cache d s.args.major in
       (ap (told_by own cache) e ∙ w.0, (subst (Within own cache) (sym e) w.1, e))
 
-abbrev start : After-memory-found → Start
-start m = (goal.at.After-memory-found m).Start
+abbrev start : After-memory → Start
+start m = (goal.at.After-memory m).Start
 
 pub returns-in_default : goal.returns-in_default
 unfolding name_at
 returns-in_default c =
-    let all = let m = (goal.at.returns-in_default c).After-memory-found in
+    let all = let m = (goal.at.returns-in_default c).After-memory in
     let s = start m in
-    promised s (sym (memory-refuses (own s) (cache s) m.memory-found.ensures c.in_default.is Refused [] (done s))) in record { result_value = all.0; within = all.1.0; value = all.1.1 }
+    promised s (sym (memory-refuses (own s) (cache s) m.memory.ensures c.in_default.is Refused [] (done s))) in record { result_value = all.0; within = all.1.0; value = all.1.1 }
 
 pub name_in-requires : goal.name_in-requires
 name_in-requires c =
-    let m = (goal.at.name_in-requires c).After-memory-found in
+    let m = (goal.at.name_in-requires c).After-memory in
     let s = start m in (
-      memory-own s.args.own.now s.args.cache.now m.memory-found.ensures c.in-Good.is,
-      memory-form s.args.own.now s.args.cache.now m.memory-found.ensures c.in-Good.is,
+      memory-own s.args.own.now s.args.cache.now m.memory.ensures c.in-Some.is,
+      memory-form s.args.own.now s.args.cache.now m.memory.ensures c.in-Some.is,
     )
 
 pub returns : goal.returns
 unfolding name_at
 returns c =
-    let all = let m = (goal.at.returns c).After-memory-found in
+    let all = let m = (goal.at.returns c).After-memory in
     let s = start m in
-    let good = c.in-Good.is in
-    let used = form_used (own_keys (own s)) c.in-Good.used (cache s) (memory-form (own s) (cache s) m.memory-found.ensures good) in
+    let good = c.in-Some.is in
+    let used = form_used (own_keys (own s)) c.in-Some.used (cache s) (memory-form (own s) (cache s) m.memory.ensures good) in
     promised s (c.name_in.ensures ∙ ap (λ (n : ℕ). chosen_by (own s) (cache s) n (d s) (read_in (d s) s.args.major)) (sym used)
-    ∙ sym (memory-passes (own s) (cache s) m.memory-found.ensures good Refused [] (done s) ∙ no_row Refused (done s))) in record { result_value = all.0; within = all.1.0; value = all.1.1 }
+    ∙ sym (memory-passes (own s) (cache s) m.memory.ensures good Refused [] (done s) ∙ no_row Refused (done s))) in record { result_value = all.0; within = all.1.0; value = all.1.1 }

@@ -6,8 +6,7 @@ fn held(own: &[u8], cache: &[u8]) {
     if own.len() < 32 {
         return say::text(b"bad");
     }
-    let formed = cache::form(own, cache);
-    if let cache::Formed::Good(used) = formed {
+    if let Some(used) = cache::form(own, cache) {
         return say::keys(cache, used, 100);
     }
     say::text(b"bad");
@@ -94,8 +93,7 @@ fn waits(own: &[u8], waiting: &[u8]) {
     if own.len() < 32 {
         return say::text(b"bad");
     }
-    let formed = waiting_form::form(own, waiting);
-    if let waiting_form::Formed::Good(used) = formed {
+    if let Some(used) = waiting_form::form(own, waiting) {
         return say_places(waiting, used);
     }
     say::text(b"bad");

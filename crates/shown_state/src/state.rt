@@ -129,11 +129,7 @@ fn held(own: &[u8], cache: &[u8]) -> usize {
     if own.len() < 32 {
         return 0;
     }
-    let formed = cache::form(own, cache);
-    if let cache::Formed::Good(used) = formed {
-        return used;
-    }
-    0
+    cache::form(own, cache).unwrap_or(0)
 }
 
 // How many places are used. A call leaves the waiting table in form.
@@ -141,11 +137,7 @@ fn waits(own: &[u8], waiting: &[u8]) -> usize {
     if own.len() < 32 {
         return 0;
     }
-    let formed = waiting_form::form(own, waiting);
-    if let waiting_form::Formed::Good(used) = formed {
-        return used;
-    }
-    0
+    waiting_form::form(own, waiting).unwrap_or(0)
 }
 
 pub fn say_state(line: &mut [u8], names: &[u8], opening: &[u8], cache: &[u8], waiting: &[u8]) {

@@ -1,4 +1,6 @@
 // A depth as text: metres with millimetres, made of the bits by whole numbers, so that what is rounded is exact.
+use std::cmp::Ordering;
+use std::io::Write;
 
 // The parts of a millimetre in which depths are counted here.
 const PARTS: u64 = 0x4_0000_0000;
@@ -7,28 +9,35 @@ const PARTS: u64 = 0x4_0000_0000;
 // (2 ^ 23 + f) * 2 ^ (e - 150) metres: at 116 that is 1000 * (2 ^ 23 + f) parts, and each step above doubles it. The
 // exponent of 20 metres is 131. What is below 116 is less than half a millimetre, and counts as none.
 fn parts(bits: u32) -> u64 {
-    let exponent = bits / 0x80_0000 % 256;
-    if exponent < 116 {
-        return 0;
+    match bits / 0x80_0000 % 256 {
+        exponent @ 116..=131 => {
+            let digits = u64::from(0x80_0000 + bits % 0x80_0000);
+            (digits * 1000) << (exponent - 116)
+        }
+        _ => 0,
     }
-    if 131 < exponent {
-        return 0;
-    }
-    let digits = (0x80_0000 + bits % 0x80_0000) as u64;
-    (digits * 1000) << (exponent - 116)
 }
 
 // The nearest whole number of millimetres; of two equally near, the even one.
 fn nearest(parts: u64) -> u64 {
     let whole = parts / PARTS;
-    let rest = parts % PARTS;
-    if rest < PARTS / 2 {
-        return whole;
+    match (parts % PARTS).cmp(&(PARTS / 2)) {
+        Ordering::Less => whole,
+        Ordering::Equal => whole + whole % 2,
+        Ordering::Greater => whole + 1,
     }
-    if PARTS / 2 < rest {
-        return whole + 1;
-    }
-    whole + whole % 2
+}
+
+// The depth of these bits, which are those of an allowed one, with the whole metres at the right end of a column. Negative
+// zero is 0.000.
+pub fn write<W: Write>(out: &mut W, bits: u32, width: usize) -> std::io::Result<()> {
+    let millimetres = nearest(parts(bits));
+    write!(
+        out,
+        "{:>width$}.{:03}",
+        millimetres / 1000,
+        millimetres % 1000
+    )
 }
 
 // The last three digits, with zeros in front: those behind the 1 of a number from 1000 to 1999.

@@ -2,6 +2,14 @@
 // ends; what finds no room is left out. Used by the programs `shown`, `told` and `ponds`.
 #![tactic(auto)]
 
+mod columns;
+mod input;
+mod roomy;
+
+pub use columns::Columns;
+pub use input::read_full;
+pub use roomy::Roomy;
+
 // The part of a slice, empty where it does not lie within.
 pub fn part(s: &[u8], start: usize, end: usize) -> &[u8] {
     if s.len() < end {

@@ -1,0 +1,37 @@
+// A line that is written, with how much of it there is.
+use std::io::{self, Write};
+
+// Hands on what is written, and counts its characters: of a character's bytes in UTF-8 only the first counts.
+pub struct Columns<'a, W> {
+    out: &'a mut W,
+    taken: usize,
+}
+
+impl<'a, W: Write> Columns<'a, W> {
+    pub fn of(out: &'a mut W) -> Columns<'a, W> {
+        Columns { out, taken: 0 }
+    }
+
+    pub fn taken(&self) -> usize {
+        self.taken
+    }
+
+    // Blanks up to a column, if it is not reached.
+    pub fn fill_to(&mut self, column: usize) -> io::Result<()> {
+        let width = column.saturating_sub(self.taken);
+        write!(self, "{:width$}", "")
+    }
+}
+
+impl<W: Write> Write for Columns<'_, W> {
+    fn write(&mut self, bytes: &[u8]) -> io::Result<usize> {
+        let written = self.out.write(bytes)?;
+        let characters = bytes.iter().take(written).filter(|b| **b / 64 != 2).count();
+        self.taken = self.taken.saturating_add(characters);
+        Ok(written)
+    }
+
+    fn flush(&mut self) -> io::Result<()> {
+        self.out.flush()
+    }
+}

@@ -2,6 +2,7 @@
 use std::io::{self, Write};
 
 // Hands on what is written, and counts its characters: of a character's bytes in UTF-8 only the first counts.
+#[derive(Drop)]
 pub struct Columns<'a, W> {
     out: &'a mut W,
     taken: usize,

@@ -5,6 +5,7 @@ use std::io::{self, Write};
 
 const ROOM: usize = 4096;
 
+#[derive(Drop)]
 pub struct Roomy<W> {
     out: W,
     room: [u8; ROOM],

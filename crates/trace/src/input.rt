@@ -2,20 +2,7 @@
 ghost use Rattle.std.specs.Prelude.{◌≤◌, length};
 
 use std::io::Read;
-
-// Reads until the room is full, the input ends or can't be read. Answers how many bytes there are.
-fn fill<R: Read>(input: &mut R, room: &mut [u8]) -> usize
-    ensures { result ≤ length room.old }
-{
-    let mut got = 0;
-    while got < room.len() {
-        match input.read(&mut room[got..]) {
-            Ok(0) | Err(_) => return got,
-            Ok(n) => got += n,
-        }
-    }
-    got
-}
+use text::read_full;
 
 // Reads the next record to the start of `room`: its length, and as many bytes as that says. Answers how many there are: fewer
 // where the input ends first, 0 where it has ended. `room` has RECORD bytes: what doesn't fit in less is not read.
@@ -25,7 +12,7 @@ pub fn next_record<R: Read>(input: &mut R, room: &mut [u8]) -> usize
     if room.len() < 2 {
         return 0;
     }
-    let got = fill(input, &mut room[..2]);
+    let got = read_full(input, &mut room[..2]);
     if got < 2 {
         return got;
     }
@@ -33,5 +20,5 @@ pub fn next_record<R: Read>(input: &mut R, room: &mut [u8]) -> usize
     if room.len() - 2 < told {
         return 2;
     }
-    2 + fill(input, &mut room[2..2 + told])
+    2 + read_full(input, &mut room[2..2 + told])
 }

@@ -1,245 +1,169 @@
 // What happened at each record of a night, as facts (crate `facts`): what it was, and what its call has done. The programs `told` and
-// `shown` have a table each of how facts are written; its rows are those of kinds.rt.
+// `shown` tell them, each in its own way.
 #![tactic(auto)]
 
 mod held;
-mod kinds;
-mod memory;
+mod known;
 mod message;
 mod naming;
 mod origin;
 mod places;
+mod rows;
 mod walk;
 
-use facts::{Numbers, say_key, say_numbers};
-use gauge_commit::Answer;
-use look::Look;
-pub use memory::SIZE;
-use memory::byte;
-pub use walk::{Rows, Walked, begun, is_last, next, say_end};
-
-// The record that opens the night: versions and own record.
-fn say_opened(table: &[u8], names: &[u8], m: &[u8]) {
-    let own = memory::own(m);
-    if own.len() != 100 {
-        return;
-    }
-    let n = Numbers {
-        a: memory::major(m) as u64,
-        b: byte(m, memory::NOW + night::OPENING + 1) as u64,
-        c: octet::read_u16(own, 32) as u64,
-        d: 0,
-        e: 0,
-    };
-    facts::say(table, kinds::OPENED, names, n, &own[0..32], &own[36..52])
-}
-
-// By its type.
-fn row_of(kind: u32) -> u64 {
-    if kind == 4 {
-        return kinds::SENT_FLOOD;
-    }
-    kinds::SENT_ABOUT
-}
+use crate::known::{Known, key_at};
+use crate::origin::Origins;
+use facts::{Fact, Message, Reading, Tell, Waiting};
+use std::io::{self, Read};
+pub use walk::Walk;
 
 // A datagram that a call hands out; behind an INQUIRE the key that it asks about, behind a FLOOD the neighbour's.
-fn say_sent(table: &[u8], names: &[u8], major: u8, datagram: &[u8]) {
+fn say_sent<T: Tell>(to: &mut T, major: u8, datagram: &[u8]) -> io::Result<()> {
     let told = look::brief_at(major, datagram);
     let seen = told.seen;
     if seen.kind == 0 {
-        return;
+        return Ok(());
     }
-    if told.validate == 0 {
-        return say_numbers(
-            table,
-            kinds::SENT,
-            seen.kind as u64,
-            seen.id as u64,
-            0,
-            0,
-            0,
-        );
-    }
-    let n = Numbers {
-        a: seen.kind as u64,
-        b: seen.id as u64,
-        c: 0,
-        d: 0,
-        e: 0,
-    };
-    let start = told.validate % 65536;
-    let key = text::part(datagram, start, start + 32);
-    facts::say(table, row_of(seen.kind), names, n, key, b"")
+    to.tell(Fact::Sent {
+        message: Message::from(seen.kind),
+        id: seen.id,
+        key: if told.validate == 0 {
+            None
+        } else {
+            Some(key_at(datagram, told.validate))
+        },
+    })
 }
 
-fn say_both_sent(table: &[u8], names: &[u8], m: &[u8], answer: Answer) {
-    let major = memory::major(m);
-    say_sent(table, names, major, memory::written(m, 0, answer.first));
-    say_sent(
-        table,
-        names,
-        major,
-        memory::written(m, answer.first, answer.second),
-    )
+// Of the two datagrams that a call has written the second begins behind the first.
+fn say_both_sent<T: Tell>(to: &mut T, known: &Known<'_>) -> io::Result<()> {
+    let written = known.output;
+    let answer = known.answer;
+    let (first, behind) = written
+        .split_at_checked(answer.first as usize)
+        .unwrap_or((&[], &[]));
+    let second = behind.get(..answer.second as usize).unwrap_or(&[]);
+    say_sent(to, known.major, first)?;
+    say_sent(to, known.major, second)
 }
 
 // The reading that an AUTHORITY carries.
-fn say_reading(table: &[u8], major: u8, datagram: &[u8]) {
+fn reading_of(major: u8, datagram: &[u8]) -> Option<Reading> {
     let taken = carried::gauge_carried(major, datagram);
+    let litres_in = taken.litres_in;
+    let litres_out = taken.litres_out;
     if taken.reading != 0 {
-        return say_numbers(
-            table,
-            kinds::REFUSALS + taken.reading as u64 % 4,
-            taken.reading as u64,
-            0,
-            0,
-            0,
-            0,
-        );
+        return Some(Reading::Refused(taken.reading));
     }
-    if taken.kind == 0 {
-        return;
+    match taken.kind {
+        1 => Some(Reading::Depth {
+            bits: taken.measure,
+            litres_in,
+            litres_out,
+        }),
+        2 => Some(Reading::Fault {
+            fault: taken.measure,
+            litres_in,
+            litres_out,
+        }),
+        _ => None,
     }
-    say_numbers(
-        table,
-        kinds::READINGS + taken.kind as u64 % 4,
-        taken.measure as u64,
-        taken.litres_in as u64,
-        taken.litres_out as u64,
-        0,
-        0,
-    )
 }
 
 // An AUTHORITY that was accepted: whom it answered for, where its inquiry came from, and what it carries.
-fn say_authority(
-    table: &[u8],
-    names: &[u8],
-    m: &[u8],
-    len: usize,
-    origins: &[u64; 64],
-    acked: u32,
-) {
-    let waiting = memory::waiting(m, 0);
-    let start = 140 * (places::place_of(waiting, acked as u64) % 17) + 8;
-    let n = Numbers {
-        a: acked as u64,
-        b: 0,
-        c: 0,
-        d: 0,
-        e: 0,
-    };
-    facts::say(
-        table,
-        kinds::ANSWERED,
-        names,
-        n,
-        text::part(waiting, start, start + 32),
-        b"",
-    );
-    origin::say_origin(table, origins, acked);
-    say_numbers(table, kinds::READINGS, 0, 0, 0, 0, 0);
-    say_reading(table, memory::major(m), memory::datagram(m, len))
+fn say_authority<T: Tell>(to: &mut T, known: &Known<'_>, origins: &Origins) -> io::Result<()> {
+    let id = known.look.acked;
+    to.tell(Fact::Answered {
+        key: match places::find(known.before.waiting, id) {
+            Some(there) => there.key,
+            None => &[],
+        },
+        id,
+        origin: origins.of(id),
+    })?;
+    match reading_of(known.major, known.datagram()) {
+        Some(reading) => to.tell(Fact::Carried(reading)),
+        None => Ok(()),
+    }
 }
 
 // What a datagram that was accepted has done. What an AUTHORITY has freed, is told with it.
-fn say_taken(table: &[u8], names: &[u8], m: &[u8], w: Walked, origins: &[u64; 64], l: Look) {
-    let answer = w.answer;
-    let kind = l.kind;
+fn say_taken<T: Tell>(to: &mut T, known: &Known<'_>, origins: &Origins) -> io::Result<()> {
+    let kind = known.look.kind;
     if kind == 11 {
-        naming::say_lookup(table, names, m, w.len, l);
+        naming::say(to, known)?;
     }
     if kind == 8 {
-        say_authority(table, names, m, w.len, origins, l.acked);
+        say_authority(to, known, origins)?;
     }
-    say_both_sent(table, names, m, answer);
+    say_both_sent(to, known)?;
     if kind != 8 {
-        places::say_places(table, kinds::FREED, names, m, false);
+        places::say(to, known, Waiting::Freed, false)?;
     }
-    held::say_changes(table, names, m)
+    held::say_changes(to, known)
 }
 
 // What a call that was accepted has done.
-fn say_done(
-    table: &[u8],
-    names: &[u8],
-    m: &[u8],
-    kind: u8,
-    w: Walked,
-    origins: &[u64; 64],
-    l: Look,
-) {
-    let answer = w.answer;
+fn say_done<T: Tell>(to: &mut T, kind: u8, known: &Known<'_>, origins: &Origins) -> io::Result<()> {
     match kind {
-        1 => say_taken(table, names, m, w, origins, l),
-        2 => say_both_sent(table, names, m, answer),
+        1 => say_taken(to, known, origins),
+        2 => say_both_sent(to, known),
         _ => {
-            places::say_places(table, kinds::AGAIN, names, m, true);
-            places::say_places(table, kinds::GIVEN_UP, names, m, false);
+            places::say(to, known, Waiting::ListedAgain, true)?;
+            places::say(to, known, Waiting::GivenUp, false)
         }
     }
 }
 
-// The row of the second file, where there is one.
-fn say_row(table: &[u8], m: &[u8], kind: u8, known: u64, w: Walked) {
-    let file = w.rows;
-    if file.here {
-        message::say_hour(table, memory::row(m), kind, known, w.same);
-    }
-}
-
-// A record behind the opening one, or a bad one.
-fn say_record(table: &[u8], names: &[u8], m: &[u8], at: u64, w: Walked, origins: &mut [u64; 64]) {
-    let answer = w.answer;
-    let kind = message::kind_of(m, answer.number);
-    let l = message::look_at(m, kind, w.len);
-    say_numbers(
-        table,
-        kinds::RECORD,
-        at,
-        w.seconds,
-        answer.number as u64,
-        answer.first as u64,
-        answer.second as u64,
-    );
-    message::say_what(table, names, m, kind, w.len, l);
-    say_row(table, m, kind, kinds::HOUR, w);
-    message::say_message(table, names, m, w.len, l);
-    if answer.number != 0 {
-        return;
-    }
-    origin::note(origins, m, memory::record(m, w.len), at, l);
-    say_done(table, names, m, kind, w, origins, l)
-}
-
-// What happened at record number `at`, if there is one. Where the trace has none at all, the opening one is missing.
-pub fn say(table: &[u8], names: &[u8], m: &[u8], at: u64, w: Walked, origins: &mut [u64; 64]) {
-    let answer = w.answer;
-    if at == 0 {
-        if answer.number == 0 {
-            say_opened(table, names, m);
-            return say_row(table, m, 0, kinds::BEGAN, w);
+impl<R: Read> Walk<R> {
+    // The record that opens the night.
+    fn say_opened<T: Tell>(&self, to: &mut T) -> io::Result<()> {
+        let opening = self.opening();
+        to.tell(Fact::Opened {
+            major: opening[0],
+            minor: opening[1],
+            key: &opening[2..34],
+            port: octet::read_u16(opening, 34),
+            address: &opening[38..54],
+        })?;
+        match self.row() {
+            Some(row) => to.tell(Fact::Began(row)),
+            None => Ok(()),
         }
-        return say_record(table, names, m, at, w, origins);
     }
-    if w.len != 0 {
-        say_record(table, names, m, at, w, origins);
+
+    // A record behind the opening one, or a bad one.
+    fn say_record<T: Tell>(&self, to: &mut T, at: u64) -> io::Result<()> {
+        let known = self.known();
+        let kind = self.kind();
+        to.tell(Fact::Record {
+            at,
+            second: self.seconds(),
+            answer: known.answer,
+            call: message::call_of(kind, &known),
+        })?;
+        if let Some(row) = self.row() {
+            to.tell(Fact::Then {
+                row,
+                way: message::way_of(kind, row),
+                same: self.is_same(row),
+            })?;
+        }
+        message::say(to, &known)?;
+        if known.answer.number != 0 {
+            return Ok(());
+        }
+        say_done(to, kind, &known, self.origins())
     }
-}
 
-// For whoever tells more: the record, of so many bytes, versions and own record, and the tables as they are now.
-pub fn record(m: &[u8], len: usize) -> &[u8] {
-    memory::record(m, len)
-}
-
-pub fn opening(m: &[u8]) -> &[u8] {
-    text::part(m, memory::NOW + night::OPENING, memory::NOW + night::STATE)
-}
-
-pub fn cache(m: &[u8]) -> &[u8] {
-    memory::cache(m, memory::NOW)
-}
-
-pub fn waiting(m: &[u8]) -> &[u8] {
-    memory::waiting(m, memory::NOW)
+    // What happened at record number `at`, if there is one. Where the trace has none at all, the opening one is missing.
+    pub fn say<T: Tell>(&self, to: &mut T, at: u64) -> io::Result<()> {
+        if at == 0 && self.answer().number == 0 {
+            return self.say_opened(to);
+        }
+        if at != 0 && self.record().is_empty() {
+            return Ok(());
+        }
+        self.say_record(to, at)
+    }
 }

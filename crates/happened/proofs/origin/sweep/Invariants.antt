@@ -1,9 +1,0 @@
--- `happened::origin::sweep` ends: the slots left to look at fall. Assumes nothing.
-use Rattle.std.proofs.Common.{◌-◌, rules}
-use Rattle.happened.proofs.origin.sweep.Given as goal
-
-abbrev pub invariant-loop-i : goal.invariant-loop-i
-invariant-loop-i l = Unit {0}
-
-abbrev pub decreases-loop-i : goal.decreases-loop-i
-decreases-loop-i l = 16 - l.i

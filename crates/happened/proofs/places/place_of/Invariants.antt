@@ -1,9 +1,0 @@
--- `happened::places::place_of` ends: the places left to look at fall. Assumes nothing.
-use Rattle.std.proofs.Common.{◌-◌, rules}
-use Rattle.happened.proofs.places.place_of.Given as goal
-
-abbrev pub invariant-loop-i : goal.invariant-loop-i
-invariant-loop-i l = Unit {0}
-
-abbrev pub decreases-loop-i : goal.decreases-loop-i
-decreases-loop-i l = 16 - l.i
